@@ -1,0 +1,7 @@
+pub use Rattle.deku_bits.specs.Bits
+pub use Rattle.deku_bits.specs.Streams
+pub use Rattle.deku_bits.specs.Pieces
+pub use Rattle.deku_bits.specs.Writers
+pub use Rattle.deku_bits.specs.Symmetry
+pub use Rattle.deku_num.specs.Numbers
+pub use Rattle.deku_num.specs.NumberLaws

@@ -1,0 +1,11 @@
+pub mod Binary
+pub mod Groups
+pub mod Shown
+pub mod Cuts
+pub mod Writing
+pub mod Appends
+pub mod Reading
+pub mod Taking
+pub mod Rewriting
+pub mod Lengths
+pub mod Packing

@@ -1,0 +1,5 @@
+use Rattle.deku_bits.proofs.Appends.{count_law}
+use Rattle.deku_bits.proofs.laws.count_law.Goals as goal
+
+pub returns : goal.returns
+returns c = count_law

@@ -1,0 +1,5 @@
+use Rattle.deku_bits.proofs.Packing.{join_law}
+use Rattle.deku_bits.proofs.laws.join_law.Goals as goal
+
+pub returns : goal.returns
+returns c = join_law

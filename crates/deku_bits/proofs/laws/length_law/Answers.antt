@@ -1,0 +1,5 @@
+use Rattle.deku_bits.proofs.Lengths.{length_law}
+use Rattle.deku_bits.proofs.laws.length_law.Goals as goal
+
+pub returns : goal.returns
+returns c = length_law

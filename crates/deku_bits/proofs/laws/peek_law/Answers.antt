@@ -1,0 +1,5 @@
+use Rattle.deku_bits.proofs.Taking.{peek_law}
+use Rattle.deku_bits.proofs.laws.peek_law.Goals as goal
+
+pub returns : goal.returns
+returns c = peek_law

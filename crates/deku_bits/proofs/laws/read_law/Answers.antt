@@ -1,0 +1,5 @@
+use Rattle.deku_bits.proofs.Reading.{read_law}
+use Rattle.deku_bits.proofs.laws.read_law.Goals as goal
+
+pub returns : goal.returns
+returns c = read_law

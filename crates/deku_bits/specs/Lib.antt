@@ -1,0 +1,5 @@
+pub mod Bits
+pub mod Streams
+pub mod Pieces
+pub mod Writers
+pub mod Symmetry

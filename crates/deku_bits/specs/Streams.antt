@@ -1,0 +1,63 @@
+-- Streams: a window of unread bits before the bytes that are still to come.
+use Rattle.std.specs.Prelude.{ℕ, ◌+◌, ◌*◌, ◌-◌, ◌/◌, ◌%◌, ◌<◌, ◌≤◌, ◌≡◌, min, Bool, cond, eqb, List, [], ◌∷◌, ◌++◌, length, take, drop, flat_map}
+use Rattle.deku_bits.specs.declared.ctx.Order.{Order}
+use Rattle.deku_bits.specs.Bits.{bin, byte_bits, facing, groups}
+
+-- the unread bits of one byte, high bit first and at most eight, and the bytes behind it
+pub record Stream : Type 0 where
+  pub window : List Bool
+  pub bytes : List ℕ
+
+-- bytes of which nothing is read
+abbrev pub fresh : List ℕ → Stream
+fresh bs = record { window = []; bytes = bs }
+
+-- a window of eight is put back as the first byte to come
+unfoldable pub normal : Stream → Stream
+normal S = cond (eqb (length S.window) 8) (fresh (bin S.window ∷ S.bytes)) S
+
+-- the bits to come, as an order meets them: the window, then the bits of each byte
+abbrev pub seen : Order → Stream → List Bool
+seen o S = facing o S.window ++ flat_map (λ b. facing o (byte_bits b)) S.bytes
+
+-- there are n bits to take
+abbrev pub Has : ℕ → Stream → Type 0
+Has n S = n ≤ length S.window + 8 * length S.bytes
+
+-- what is taken: the first n bits that the order meets
+unfoldable pub taken : Order → ℕ → Stream → List Bool
+taken o n S = take n (seen o S)
+
+-- how many bytes behind the window n bits touch
+abbrev pub touched : ℕ → Stream → ℕ
+touched n S = groups (n - length S.window)
+
+-- what is left: the unused part of the window, or of the last byte touched, then the untouched bytes
+unfoldable pub left : Order → ℕ → Stream → Stream
+left o n S = record {
+  window = facing o (drop n (seen o (record S { bytes = take (touched n S) S.bytes })));
+  bytes = drop (touched n S) S.bytes;
+}
+
+-- a skip: what the window has of the n bits, whole bytes, and the remaining bits
+unfoldable pub skipped : Order → ℕ → Stream → Stream
+skipped o n S =
+    let c : ℕ = min n (length S.window) in
+    let T : Stream = left o c S in
+    left o ((n - c) % 8) (record T { bytes = drop ((n - c) / 8) T.bytes })
+
+-- A read of a stream is a read of its normal form: the same is taken, and the same stream is left.
+abbrev pub PeekLaw : Type 0
+PeekLaw = (o : Order) (n : ℕ) (S : Stream) → length S.window ≤ 8 → Has n S
+    → (taken o n S ≡ taken o n (normal S)) × (normal (left o n S) ≡ left o n (normal S))
+
+-- Two reads in one order are one read.
+abbrev pub CutLaw : Type 0
+CutLaw = (o : Order) (m n : ℕ) (S : Stream) → length S.window < 8 → Has (m + n) S
+    → (taken o (m + n) S ≡ taken o m S ++ taken o n (left o m S))
+    × (left o (m + n) S ≡ left o n (left o m S))
+    × (length (left o m S).window < 8) × Has n (left o m S)
+
+-- A skip of no more bits than there are leaves what a read of as many leaves.
+abbrev pub SkipLaw : Type 0
+SkipLaw = (o : Order) (n : ℕ) (S : Stream) → length S.window ≤ 8 → Has n S → skipped o n S ≡ left o n S

@@ -1,0 +1,67 @@
+//! Laws of the definitions that contracts speak of: each is what an empty function ensures.
+
+ghost use Rattle.deku_bits.specs.Bits.{JoinLaw, PackLaw};
+ghost use Rattle.deku_bits.specs.Streams.{PeekLaw, CutLaw, SkipLaw};
+ghost use Rattle.deku_bits.specs.Pieces.{LengthLaw};
+ghost use Rattle.deku_bits.specs.Writers.{AppendLaw, CountLaw};
+ghost use Rattle.deku_bits.specs.Symmetry.{WriteLaw, ReadLaw, RewriteLaw, CallsLaw};
+
+/// A read of a stream is a read of its normal form, where a peeked byte is put back.
+pub fn peek_law()
+    ensures { PeekLaw }
+{}
+
+/// Two reads in one order are one read.
+pub fn cut_law()
+    ensures { CutLaw }
+{}
+
+/// A skip leaves what a read of as many bits leaves.
+pub fn skip_law()
+    ensures { SkipLaw }
+{}
+
+/// Two writes in one order are one write.
+pub fn append_law()
+    ensures { AppendLaw }
+{}
+
+/// A write loses no bit, and padding makes one byte of at most seven pending bits.
+pub fn count_law()
+    ensures { CountLaw }
+{}
+
+/// Pieces may be written in several calls.
+pub fn calls_law()
+    ensures { CallsLaw }
+{}
+
+/// Aligned pieces, written one after the other and padded once, are the bytes that they lay out.
+pub fn write_law()
+    ensures { WriteLaw }
+{}
+
+/// From bytes that begin with what aligned pieces lay out, the pieces are taken and the bytes behind are left.
+pub fn read_law()
+    ensures { ReadLaw }
+{}
+
+/// What aligned pieces taken from bytes lay out is the bytes taken, unread bits zero.
+pub fn rewrite_law()
+    ensures { RewriteLaw }
+{}
+
+/// Aligned pieces lay out their width divided by eight, rounded up.
+pub fn length_law()
+    ensures { LengthLaw }
+{}
+
+/// The number of a group from the numbers of two parts of it.
+pub fn join_law()
+    ensures { JoinLaw }
+{}
+
+/// The first bits of a byte and those behind, as numbers.
+pub fn pack_law()
+    ensures { PackLaw }
+{}

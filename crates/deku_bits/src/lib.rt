@@ -1,0 +1,5 @@
+//! Bits, streams of bits and the writing of bits: the base of a codec library.
+#![tactic(auto)]
+
+pub mod ctx;
+pub mod laws;

@@ -1,0 +1,4 @@
+pub mod Chunked
+pub mod Values
+pub mod Ranges
+pub mod Places

@@ -1,0 +1,340 @@
+-- Each bit of a field stands at its place in the number.
+use Rattle.std.proofs.Common.{ℕ, zero, suc, ◌+◌, ◌*◌, ◌-◌, ◌/◌, ◌%◌, ◌^◌, ◌<◌, ◌≤◌, ◌≡◌, Bool, true, false, cond, List, [], ◌∷◌, ◌++◌, reverse, length, take, drop, replicate, refl, ap, ap₂, sym, ◌∙◌, ⊎_elim, arith, append_assoc, append-nil, length-append, take-append-drop, length-drop, length-take-le, get_or, take_all}
+use Rattle.std.proofs.lemmas.Nat.{pow-add, div-mul-add, shr-shr, field_of}
+use Rattle.std.proofs.lemmas.List.{length-reverse, reverse-append, take_more, drop_more, length-replicate, replicate-append-replicate}
+use Rattle.std.proofs.lemmas.Bool.{cases_lt}
+use native.Mathlib.Nat.{pow-succ', add-mul-mod_self_left}
+use Rattle.deku_bits.specs.declared.ctx.Order.{Order}
+use Rattle.deku_bits.specs.declared.ctx.Order.TheVariants.{Msb0, Lsb0}
+use Rattle.deku_num.specs.declared.ctx.Endian.{Endian}
+use Rattle.deku_num.specs.declared.ctx.Endian.TheVariants.{Little, Big}
+use Rattle.deku_bits.specs.Bits.{bin, group_number}
+use Rattle.deku_bits.specs.Bits.{groups}
+use Rattle.deku_num.specs.NumberLaws.{place, BitLaw}
+use Rattle.deku_num.specs.Numbers.{number}
+use Rattle.deku_bits.proofs.Binary.{bin-lt, bin-append}
+use Rattle.deku_bits.proofs.Groups.{by_groups, by_eights}
+use Rattle.deku_num.proofs.Chunked.{within, number_short, weight, little-full, big-full, number_one, big_below, group_below}
+use Rattle.deku_num.proofs.Values.{eights}
+use Rattle.deku_num.proofs.Ranges.{below_type}
+
+bit : Bool → ℕ
+unfolding number
+bit b = cond b 1 0
+
+bit_low : (b : Bool) → cond b 1 0 < 2
+unfolding number
+bit_low true = omega arith
+bit_low false = omega arith
+
+-- ---- in a binary number
+bin_bit : (x y : List Bool) (b : Bool) → bin (x ++ b ∷ y) ≡ (bin x * 2 + cond b 1 0) * 2 ^ length y + bin y
+unfolding number
+bin_bit x y b = bin-append x (b ∷ y) ∙ rw (pow-succ' 2 (length y)) (omega arith)
+
+bin_get : (x y : List Bool) (b : Bool) → bin (x ++ b ∷ y) / 2 ^ length y % 2 ≡ cond b 1 0
+unfolding number
+bin_get x y b =
+    let l : cond b 1 0 < 2 = bit_low b in
+    rw (bin_bit x y b, div-mul-add (bin x * 2 + cond b 1 0) (2 ^ length y) (bin y) (bin-lt y)) (omega arith)
+
+-- ---- in a group
+abbrev group_place : Order → ℕ → ℕ → ℕ
+group_place Msb0 n i = n - 1 - i
+group_place Lsb0 n i = i
+
+turned : (p q : List Bool) (b : Bool) → reverse (p ++ b ∷ q) ≡ reverse q ++ b ∷ reverse p
+unfolding number
+turned p q b = reverse-append p (b ∷ q) ∙ ap (λ x. x ++ reverse p) (reverse-append (b ∷ []) q) ∙ append_assoc (reverse q) (b ∷ []) (reverse p)
+
+group_set : (o : Order) (p q : List Bool) → group_number o (p ++ true ∷ q) ≡ group_number o (p ++ false ∷ q) + 2 ^ group_place o (length p + suc (length q)) (length p)
+unfolding number
+group_set Msb0 p q =
+    let e : length p + suc (length q) - 1 - length p ≡ length q = omega arith in
+    rw (e, bin_bit p q true, bin_bit p q false) (omega arith)
+group_set Lsb0 p q =
+    rw (turned p q true, turned p q false, bin_bit (reverse q) (reverse p) true, bin_bit (reverse q) (reverse p) false, length-reverse p) (omega arith)
+
+group_get : (o : Order) (p q : List Bool) (b : Bool) → group_number o (p ++ b ∷ q) / 2 ^ group_place o (length p + suc (length q)) (length p) % 2 ≡ cond b 1 0
+unfolding number
+group_get Msb0 p q b =
+    let e : length p + suc (length q) - 1 - length p ≡ length q = omega arith in
+    rw e (bin_get p q b)
+group_get Lsb0 p q b = rw (turned p q b, ← length-reverse p) (bin_get (reverse q) (reverse p) b)
+
+-- what stands above does not show below
+low_get : (a u j k : ℕ) → j < k → (a + u * 2 ^ k) / 2 ^ j % 2 ≡ a / 2 ^ j % 2
+unfolding number
+low_get a u j k h =
+    let m : ℕ = k - (1 + j) in
+    let e : k ≡ (1 + j) + m = omega arith in
+    let same : a + u * 2 ^ k ≡ a + 2 ^ (1 + j) * (2 ^ m * u) =
+    ap (λ x. a + u * 2 ^ x) e ∙ ap (λ x. a + u * x) (pow-add 2 (1 + j) m) ∙ omega arith in
+    sym (field_of (a + u * 2 ^ k) 1 j)
+    ∙ ap (λ x. x / 2 ^ j) (ap (λ x. x % 2 ^ (1 + j)) same ∙ add-mul-mod_self_left a (2 ^ (1 + j)) (2 ^ m * u))
+    ∙ field_of a 1 j
+
+-- ---- in a field
+abbrev Bit : Endian → Order → List Bool → List Bool → Type 0
+Bit e o p q =
+    (number e o (p ++ true ∷ q) ≡ number e o (p ++ false ∷ q) + 2 ^ place e o (length p + suc (length q)) (length p))
+    × ((b : Bool) → number e o (p ++ b ∷ q) / 2 ^ place e o (length p + suc (length q)) (length p) % 2 ≡ cond b 1 0)
+
+-- the first group, with bits behind it
+record Split (p q : List Bool) : Type 0 where
+  first : List Bool
+  behind : List Bool
+  is : q ≡ first ++ behind
+  eight : length p + suc (length first) ≡ 8
+
+split : (p q : List Bool) → length p < 8 → 8 < length p + suc (length q) → Split p q
+unfolding number
+split p q l k = record {
+  first = take (7 - length p) q;
+  behind = drop (7 - length p) q;
+  is = sym (take-append-drop (7 - length p) q);
+  eight = omega (arith, length-take-le (7 - length p) q (omega arith));
+}
+
+-- one group alone
+alone : (e : Endian) (o : Order) (p q : List Bool) → length p + suc (length q) ≤ 8 → place e o (length p + suc (length q)) (length p) ≡ group_place o (length p + suc (length q)) (length p) → Bit e o p q
+unfolding number
+alone e o p q l h =
+    let one : (b : Bool) → number e o (p ++ b ∷ q) ≡ group_number o (p ++ b ∷ q) =
+    λ b. number_one e o (p ++ b ∷ q) (omega (arith, length-append p (b ∷ q))) (omega (arith, length-append p (b ∷ q))) in
+    rw h (
+      one true ∙ group_set o p q ∙ ap (λ x. x + 2 ^ group_place o (length p + suc (length q)) (length p)) (sym (one false)),
+      λ b. ap (λ x. x / 2 ^ group_place o (length p + suc (length q)) (length p) % 2) (one b) ∙ group_get o p q b,
+    )
+
+-- the place in the first group of more, and in a group further on
+little_place_first : (o : Order) (n i : ℕ) → i < 8 → 8 ≤ n → place Little o n i ≡ group_place o 8 i
+unfolding number
+little_place_first Msb0 n i h k = omega arith
+little_place_first Lsb0 n i h k = refl
+
+little_place_alone : (o : Order) (n i : ℕ) → i < n → n ≤ 8 → place Little o n i ≡ group_place o n i
+unfolding number
+little_place_alone Msb0 n i h k = omega arith
+little_place_alone Lsb0 n i h k = refl
+
+little_place_more : (o : Order) (n i : ℕ) → place Little o (8 + n) (8 + i) ≡ 8 + place Little o n i
+unfolding number
+little_place_more Msb0 n i = omega arith
+little_place_more Lsb0 n i = refl
+
+little_first : (o : Order) (p q : List Bool) → length p < 8 → 8 < length p + suc (length q) → Bit Little o p q
+unfolding number
+little_first o p q l k =
+    let s = split p q l k in
+    let U : ℕ = number Little o s.behind in
+    let j : ℕ = group_place o 8 (length p) in
+    let here : place Little o (length p + suc (length q)) (length p) ≡ j = little_place_first o (length p + suc (length q)) (length p) l (omega arith) in
+    let g : (b : Bool) → List Bool = λ b. p ++ b ∷ s.first in
+    let lg : (b : Bool) → length (g b) ≡ 8 = λ b. length-append p (b ∷ s.first) ∙ s.eight in
+    let is : (b : Bool) → number Little o (p ++ b ∷ q) ≡ group_number o (g b) + U * 2 ^ 8 = λ b.
+    ap (λ x. number Little o (p ++ b ∷ x)) s.is ∙ ap (number Little o) (sym (append_assoc p (b ∷ s.first) s.behind))
+    ∙ little-full o (g b) s.behind (lg b) ∙ omega arith in
+    let set : group_number o (g true) ≡ group_number o (g false) + 2 ^ j =
+    group_set o p s.first ∙ ap (λ n. group_number o (g false) + 2 ^ group_place o n (length p)) s.eight in
+    let get : (b : Bool) → group_number o (g b) / 2 ^ j % 2 ≡ cond b 1 0 = λ b.
+    ap (λ n. group_number o (g b) / 2 ^ group_place o n (length p) % 2) (sym s.eight) ∙ group_get o p s.first b in
+    rw here (
+      omega (arith, is true, is false, set),
+      λ b. ap (λ x. x / 2 ^ j % 2) (is b) ∙ low_get (group_number o (g b)) U j 8 (small o (length p) l) ∙ get b,
+    )
+  where
+    small : (o : Order) (i : ℕ) → i < 8 → group_place o 8 i < 8
+    small Msb0 i h = omega arith
+    small Lsb0 i h = h
+
+little_more : (o : Order) (h p q : List Bool) → length h ≡ 8 → Bit Little o p q → Bit Little o (h ++ p) q
+unfolding number
+little_more o h p q l r =
+    let n : ℕ = length p + suc (length q) in
+    let j : ℕ = place Little o n (length p) in
+    let lp : length (h ++ p) ≡ 8 + length p = omega (arith, length-append h p) in
+    let ln : length (h ++ p) + suc (length q) ≡ 8 + n = omega arith in
+    let here : place Little o (length (h ++ p) + suc (length q)) (length (h ++ p)) ≡ 8 + j =
+    ap₂ (place Little o) ln lp ∙ little_place_more o n (length p) in
+    let is : (b : Bool) → number Little o ((h ++ p) ++ b ∷ q) ≡ group_number o h + 256 * number Little o (p ++ b ∷ q) = λ b.
+    ap (number Little o) (append_assoc h p (b ∷ q)) ∙ little-full o h (p ++ b ∷ q) l in
+    let small : group_number o h < 256 = group_below o h (omega arith) in
+    rw (here) (
+      is true ∙ rw (r.0, pow-add 2 8 j, is false) (omega arith),
+      λ b. ap (λ x. x / 2 ^ (8 + j) % 2) (is b)
+          ∙ ap (λ x. x % 2) (sym (shr-shr (group_number o h + 256 * number Little o (p ++ b ∷ q)) 8 j) ∙ ap (λ x. x / 2 ^ j) (top (group_number o h) (number Little o (p ++ b ∷ q)) small))
+          ∙ r.1 b,
+    )
+  where
+    top : (g u : ℕ) → g < 256 → (g + 256 * u) / 2 ^ 8 ≡ u
+    top g u s = omega arith
+
+little_bit : (o : Order) (p q : List Bool) → Bit Little o p q
+unfolding number
+little_bit o p q = by_groups (λ p. Bit Little o p q) (base [] (omega arith)) (λ s k l. base s l) (λ h p l r. little_more o h p q l r) p
+  where
+    base : (p : List Bool) → length p < 8 → Bit Little o p q
+    base p l = ⊎_elim (λ (k : 8 < length p + suc (length q)). little_first o p q l k)
+        (λ (k : length p + suc (length q) ≤ 8). alone Little o p q k (little_place_alone o (length p + suc (length q)) (length p) (omega arith) k))
+        (cases_lt 8 (length p + suc (length q)))
+
+big_msb : (p q : List Bool) → Bit Big Msb0 p q
+unfolding number
+big_msb p q = (group_set Msb0 p q, group_get Msb0 p q)
+
+big_first : (p q : List Bool) → length p < 8 → 8 < length p + suc (length q) → Bit Big Lsb0 p q
+unfolding number
+big_first p q l k =
+    let s = split p q l k in
+    let U : ℕ = number Big Lsb0 s.behind in
+    let i : ℕ = length p in
+    let m : ℕ = groups (length s.behind) in
+    let W : ℕ = 2 ^ (8 * m) in
+    let lq : length q ≡ length s.first + length s.behind = ap length s.is ∙ length-append s.first s.behind in
+    let se : i + suc (length s.first) ≡ 8 = s.eight in
+    let here : place Big Lsb0 (i + suc (length q)) i ≡ 8 * m + i = first_place i (length q) (length s.first) (length s.behind) l lq se in
+    let g : (b : Bool) → List Bool = λ b. p ++ b ∷ s.first in
+    let lg : (b : Bool) → length (g b) ≡ 8 = λ b. length-append p (b ∷ s.first) ∙ s.eight in
+    let small : U < W = rw (eights m) (big_below Lsb0 s.behind) in
+    let is : (b : Bool) → number Big Lsb0 (p ++ b ∷ q) ≡ group_number Lsb0 (g b) * W + U = λ b.
+    ap (λ x. number Big Lsb0 (p ++ b ∷ x)) s.is ∙ ap (number Big Lsb0) (sym (append_assoc p (b ∷ s.first) s.behind))
+    ∙ big-full Lsb0 (g b) s.behind (lg b) ∙ ap (λ w. group_number Lsb0 (g b) * w + U) (sym (eights m)) in
+    let set : group_number Lsb0 (g true) ≡ group_number Lsb0 (g false) + 2 ^ i = group_set Lsb0 p s.first in
+    rw here (
+      is true ∙ rw (set, pow-add 2 (8 * m) i, is false) (omega arith),
+      λ b. ap (λ x. x / 2 ^ (8 * m + i) % 2) (is b)
+          ∙ ap (λ x. x % 2) (sym (shr-shr (group_number Lsb0 (g b) * W + U) (8 * m) i) ∙ ap (λ x. x / 2 ^ i) (div-mul-add (group_number Lsb0 (g b)) W U small))
+          ∙ group_get Lsb0 p s.first b,
+    )
+  where
+    first_place : (i n a b : ℕ) → i < 8 → n ≡ a + b → i + suc a ≡ 8 → place Big Lsb0 (i + suc n) i ≡ 8 * groups b + i
+    first_place i n a b l e h = omega arith
+
+big_more : (h p q : List Bool) → length h ≡ 8 → Bit Big Lsb0 p q → Bit Big Lsb0 (h ++ p) q
+unfolding number
+big_more h p q l r =
+    let n : ℕ = length p + suc (length q) in
+    let j : ℕ = place Big Lsb0 n (length p) in
+    let k : ℕ = groups n in
+    let lp : length (h ++ p) ≡ 8 + length p = omega (arith, length-append h p) in
+    let ln : length (h ++ p) + suc (length q) ≡ 8 + n = omega arith in
+    let here : place Big Lsb0 (length (h ++ p) + suc (length q)) (length (h ++ p)) ≡ j = ap₂ (place Big Lsb0) ln lp ∙ same n (length p) in
+    let is : (b : Bool) → number Big Lsb0 ((h ++ p) ++ b ∷ q) ≡ number Big Lsb0 (p ++ b ∷ q) + group_number Lsb0 h * 2 ^ (8 * k) = λ b.
+    ap (number Big Lsb0) (append_assoc h p (b ∷ q)) ∙ big-full Lsb0 h (p ++ b ∷ q) l
+    ∙ ap (λ x. group_number Lsb0 h * x + number Big Lsb0 (p ++ b ∷ q)) (ap (λ x. 256 ^ groups x) (length-append p (b ∷ q)) ∙ sym (eights k)) ∙ omega arith in
+    rw (here) (
+      is true ∙ rw (r.0, is false) (omega arith),
+      λ b. ap (λ x. x / 2 ^ j % 2) (is b) ∙ low_get (number Big Lsb0 (p ++ b ∷ q)) (group_number Lsb0 h) j (8 * k) (low n (length p) (omega arith)) ∙ r.1 b,
+    )
+  where
+    same : (n i : ℕ) → place Big Lsb0 (8 + n) (8 + i) ≡ place Big Lsb0 n i
+    same n i = omega arith
+
+    low : (n i : ℕ) → i < n → place Big Lsb0 n i < 8 * groups n
+    low n i h = omega arith
+
+big_lsb : (p q : List Bool) → Bit Big Lsb0 p q
+unfolding number
+big_lsb p q = by_groups (λ p. Bit Big Lsb0 p q) (base [] (omega arith)) (λ s k l. base s l) (λ h p l r. big_more h p q l r) p
+  where
+    alone_place : (n i : ℕ) → i < n → n ≤ 8 → place Big Lsb0 n i ≡ i
+    alone_place n i h k = omega arith
+
+    base : (p : List Bool) → length p < 8 → Bit Big Lsb0 p q
+    base p l = ⊎_elim (λ (k : 8 < length p + suc (length q)). big_first p q l k)
+        (λ (k : length p + suc (length q) ≤ 8). alone Big Lsb0 p q k (alone_place (length p + suc (length q)) (length p) (omega arith) k))
+        (cases_lt 8 (length p + suc (length q)))
+
+pub bit_law : BitLaw
+unfolding number
+bit_law Little o p q = little_bit o p q
+bit_law Big Msb0 p q = big_msb p q
+bit_law Big Lsb0 p q = big_lsb p q
+
+-- ---- for a loop over the bits: those so far, and zeros in place of the others
+group_zeros : (o : Order) (n : ℕ) → group_number o (replicate n false) ≡ 0
+unfolding number
+group_zeros Msb0 zero = refl
+group_zeros Lsb0 zero = refl
+group_zeros Msb0 (suc n) = let h = group_zeros Msb0 n in omega arith
+group_zeros Lsb0 (suc n) =
+    ap bin (reverse-append (false ∷ []) (replicate n false)) ∙ bin-append (reverse (replicate n false)) (false ∷ [])
+    ∙ ap (λ x. x * 2 ^ 1 + 0) (group_zeros Lsb0 n)
+
+zeros : (e : Endian) (o : Order) (n : ℕ) → number e o (replicate n false) ≡ 0
+unfolding number
+zeros e o n = by_eights (λ n. number e o (replicate n false) ≡ 0) (nothing e o)
+    (λ n p l. number_short e o (replicate n false) (omega (arith, length-replicate n false)) (omega (arith, length-replicate n false)) ∙ group_zeros o n)
+    (λ n h. ap (number e o) (sym (replicate-append-replicate 8 n false)) ∙ more e o n h)
+    n
+  where
+    nothing : (e : Endian) (o : Order) → number e o [] ≡ 0
+    nothing Little o = refl
+    nothing Big Msb0 = refl
+    nothing Big Lsb0 = refl
+
+    more : (e : Endian) (o : Order) (n : ℕ) → number e o (replicate n false) ≡ 0 → number e o (replicate 8 false ++ replicate n false) ≡ 0
+    more Little o n h = little-full o (replicate 8 false) (replicate n false) refl ∙ omega (arith, group_zeros o 8)
+    more Big o n h = big-full o (replicate 8 false) (replicate n false) refl
+        ∙ ap₂ (λ x y. x * weight o (length (replicate n false)) + y) (group_zeros o 8) h ∙ omega arith
+
+-- the first i bits of s, and zeros in place of the others
+abbrev pub so_far : List Bool → ℕ → List Bool
+so_far s i = take i s ++ replicate (length s - i) false
+
+pub so_far_none : (e : Endian) (o : Order) (s : List Bool) → number e o (so_far s 0) ≡ 0
+unfolding number
+so_far_none e o s =
+    let z : length s - 0 ≡ length s = omega arith in
+    rw z (zeros e o (length s))
+
+pub so_far_all : (s : List Bool) (i : ℕ) → length s ≤ i → so_far s i ≡ s
+unfolding number
+so_far_all s i h =
+    let z : length s - i ≡ 0 = omega arith in
+    rw z (append-nil (take i s) ∙ take_all i s h)
+
+pub length-so_far : (s : List Bool) (i : ℕ) → i ≤ length s → length (so_far s i) ≡ length s
+unfolding number
+length-so_far s i h = length-append (take i s) (replicate (length s - i) false) ∙ omega (arith, length-take-le i s h, length-replicate (length s - i) false)
+
+-- one bit more
+pub so_far_more : (e : Endian) (o : Order) (s : List Bool) (i : ℕ) (d : Bool) → i < length s
+    → number e o (so_far s (i + 1)) ≡ number e o (so_far s i) + cond (get_or s i d) 1 0 * 2 ^ place e o (length s) i
+unfolding number
+so_far_more e o s i d h =
+    let m : ℕ = length s - (i + 1) in
+    let q : List Bool = replicate m false in
+    let lp : length (take i s) ≡ i = length-take-le i s (omega arith) in
+    let lq : length q ≡ m = length-replicate m false in
+    let r : length s - i ≡ suc m = omega arith in
+    let w : length (take i s) + suc (length q) ≡ length s = omega arith in
+    let one : (b : Bool) → number e o (take i s ++ b ∷ q) ≡ number e o (take i s ++ false ∷ q) + cond b 1 0 * 2 ^ place e o (length s) i =
+    elim [ true ↦ (bit_law e o (take i s) q).0 ∙ ap (λ x. number e o (take i s ++ false ∷ q) + x) (ap₂ (λ x y. 2 ^ place e o x y) w lp ∙ omega arith) | false ↦ omega arith ] in
+    ap (number e o) (ap (λ x. x ++ q) (take_more s i d h) ∙ append_assoc (take i s) (get_or s i d ∷ []) q)
+    ∙ one (get_or s i d)
+    ∙ ap (λ x. number e o (take i s ++ x) + cond (get_or s i d) 1 0 * 2 ^ place e o (length s) i) (ap (λ x. replicate x false) (sym r))
+
+-- a number of at most 128 bits
+pub below_128 : (e : Endian) (o : Order) (s : List Bool) → length s ≤ 128 → number e o s < 2 ^ 128
+unfolding number
+below_128 e o s h = below_type e o (length s) 128 (number e o s) refl h (within e o s)
+
+pub place_below : (e : Endian) (o : Order) (n i : ℕ) → i < n → n ≤ 128 → place e o n i < 128
+unfolding number
+place_below Little Msb0 n i h k = omega arith
+place_below Little Lsb0 n i h k = omega arith
+place_below Big Msb0 n i h k = omega arith
+place_below Big Lsb0 n i h k = omega arith
+
+-- bit i of a list, by its number
+pub bit_at : (e : Endian) (o : Order) (s : List Bool) (i : ℕ) (d : Bool) → i < length s → number e o s / 2 ^ place e o (length s) i % 2 ≡ cond (get_or s i d) 1 0
+unfolding number
+bit_at e o s i d h =
+    let p : List Bool = take i s in
+    let q : List Bool = drop (i + 1) s in
+    let lp : length p ≡ i = length-take-le i s (omega arith) in
+    let w : length p + suc (length q) ≡ length s = omega (arith, length-drop (i + 1) s) in
+    let is : s ≡ p ++ get_or s i d ∷ q = sym (take-append-drop i s) ∙ ap (λ x. p ++ x) (drop_more s i d h) in
+    ap₂ (λ x y. x / 2 ^ y % 2) (ap (number e o) is) (ap₂ (place e o) (sym w) (sym lp)) ∙ (bit_law e o p q).1 (get_or s i d)

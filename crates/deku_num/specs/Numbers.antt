@@ -1,0 +1,82 @@
+-- Whole numbers as lists of bits: widths, refused layouts, and what a list is worth.
+use Rattle.std.specs.Prelude.{ℕ, zero, suc, ◌+◌, ◌*◌, ◌-◌, ◌%◌, ◌^◌, ◌≤◌, Bool, true, false, cond, leb, List, [], ◌∷◌, ◌≡◌, ◌⊎◌, map, length, ℤ, pos, ◌-ℤ◌}
+use Rattle.deku_bits.specs.declared.ctx.Order.{Order}
+use Rattle.deku_bits.specs.declared.ctx.Order.TheVariants.{Msb0, Lsb0}
+use Rattle.deku_bits.specs.Bits.{bin, chunks, group_number}
+use Rattle.deku_num.specs.declared.ctx.Endian.{Endian}
+use Rattle.deku_num.specs.declared.ctx.Endian.TheVariants.{Little, Big}
+use Rattle.deku_num.specs.declared.ctx.Size.{Size}
+use Rattle.deku_num.specs.declared.ctx.Size.TheVariants.{Whole, Bits, Bytes}
+use Rattle.deku_num.specs.declared.ctx.Layout.{Layout}
+
+-- a type of whole numbers: its bits, whether it has a sign, and whether any byte size means one byte, as for `u8` alone
+pub record NumberType : Type 0 where
+  pub bits : ℕ
+  pub signed : Bool
+  pub one_byte : Bool
+
+-- an unsigned type wider than a byte
+abbrev pub unsigned : ℕ → NumberType
+unsigned n = record { bits = n; signed = false; one_byte = false }
+
+-- a signed type
+abbrev pub signed : ℕ → NumberType
+signed n = record { bits = n; signed = true; one_byte = false }
+
+-- the type `u8`
+abbrev pub byte : NumberType
+byte = record { bits = 8; signed = false; one_byte = true }
+
+-- the bits of the type, the bit size, or eight times the byte size
+abbrev pub sized_width : NumberType → Size → ℕ
+sized_width t Whole = t.bits
+sized_width t (Bits n) = n
+sized_width t (Bytes n) = cond t.one_byte 8 (8 * n)
+
+-- how many bits a number of the type takes
+abbrev pub width : NumberType → Layout → ℕ
+width t l = sized_width t l.size
+
+-- signed, big and `Lsb0`: a width above 8 has to be a multiple of 8
+abbrev pub IsEvenWhere : Bool → Endian → Order → ℕ → Type 0
+IsEvenWhere true Big Lsb0 n = (n ≤ 8) ⊎ (n % 8 ≡ 0)
+IsEvenWhere _ _ _ n = n ≡ n
+
+-- a layout that is not refused for the type
+pub record IsAllowed (t : NumberType) (l : Layout) : Type 0 where
+  pub within : width t l ≤ t.bits
+  pub even : IsEvenWhere t.signed l.endian l.order (width t l)
+
+-- the first number counts once, each further one 256 times as much
+abbrev pub little : List ℕ → ℕ
+little [] = 0
+little (c ∷ cs) = c + 256 * little cs
+
+-- the last number counts once, each earlier one 256 times as much
+abbrev pub big : List ℕ → ℕ
+big [] = 0
+big (c ∷ cs) = c * 256 ^ length cs + big cs
+
+-- the number of a list of bits
+unfoldable pub number : Endian → Order → List Bool → ℕ
+number Little o s = little (map (group_number o) (chunks s))
+number Big Msb0 s = bin s
+number Big Lsb0 s = big (map (group_number Lsb0) (chunks s))
+
+-- a number of n bits in two's complement, where there is a sign
+abbrev pub with_sign : Bool → ℕ → ℕ → ℤ
+with_sign true (suc n) m = cond (leb (2 ^ n) m) (pos m -ℤ pos (2 ^ suc n)) (pos m)
+with_sign _ _ m = pos m
+
+-- what a list of bits is worth
+unfoldable pub value : NumberType → Layout → List Bool → ℤ
+value t l s = with_sign t.signed (length s) (number l.endian l.order s)
+
+-- a list of the width of the field that is worth v
+pub record IsFieldOf (t : NumberType) (l : Layout) (v : ℤ) (s : List Bool) : Type 0 where
+  pub wide : length s ≡ width t l
+  pub worth : value t l s ≡ v
+
+-- v fits: some list of the width is worth it
+abbrev pub Fits : NumberType → Layout → ℤ → Type 0
+Fits t l v = (s : List Bool) × IsFieldOf t l v s

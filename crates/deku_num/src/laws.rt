@@ -1,0 +1,33 @@
+//! Laws of the numbers that fields hold: each is what an empty function ensures.
+
+ghost use Rattle.deku_num.specs.NumberLaws.{FieldLaw, TypeLaw, ByteLaw, SplitLaw, GroupLaw, BitLaw};
+
+/// The values that fit a field are those in range, and each has one list of bits alone.
+pub fn field_law()
+    ensures { FieldLaw }
+{}
+
+/// What a field reads is a value of its type.
+pub fn type_law()
+    ensures { TypeLaw }
+{}
+
+/// In whole bytes, each number below two to the width has one list of bits.
+pub fn byte_law()
+    ensures { ByteLaw }
+{}
+
+/// The number of whole groups of eight and of the bits behind them.
+pub fn split_law()
+    ensures { SplitLaw }
+{}
+
+/// One group alone has its own number.
+pub fn group_law()
+    ensures { GroupLaw }
+{}
+
+/// Each bit stands at its place in the number.
+pub fn bit_law()
+    ensures { BitLaw }
+{}

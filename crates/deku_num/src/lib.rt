@@ -1,0 +1,5 @@
+//! Whole numbers as fields of bits: their layouts, and what a list of bits is worth.
+#![tactic(auto)]
+
+pub mod ctx;
+pub mod laws;
