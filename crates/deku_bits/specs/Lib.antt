@@ -3,3 +3,8 @@ pub mod Streams
 pub mod Pieces
 pub mod Writers
 pub mod Symmetry
+pub mod Devices
+pub mod Standings
+pub mod Outcomes
+pub mod Faults
+pub mod Cursors

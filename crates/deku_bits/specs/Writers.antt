@@ -69,6 +69,10 @@ unfoldable pub padded : Pending → List ℕ
 padded Nothing = []
 padded (Held o s) = group_number o (filled (facing o s)) ∷ []
 
+-- the padding: its byte is given out, and nothing is pending
+abbrev pub finalized : Pending → Written
+finalized P = record { bytes = padded P; pending = Nothing }
+
 -- nothing is pending, or bits of the order
 abbrev pub Meets : Order → Pending → Type 0
 Meets o Nothing = o ≡ o

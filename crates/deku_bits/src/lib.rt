@@ -2,4 +2,6 @@
 #![tactic(auto)]
 
 pub mod ctx;
+pub mod device;
+pub mod error;
 pub mod laws;

@@ -1,0 +1,89 @@
+-- What sources and sinks tell of themselves, and what a transfer does to it.
+use Rattle.std.specs.Prelude.{◌≡◌, ◌⊎◌, ℕ, ◌+◌, ◌<◌, ◌≤◌, List, length, drop, take, Option, None, Some, ⊤, nat_le, if◌then◌else◌}
+use Rattle.std.specs.Borrow.{GName}
+use Rattle.std.specs.Io.KnownBytes.{Appends}
+use Rattle.std.specs.declared.io.ErrorKind.{ErrorKind}
+use Rattle.std.specs.declared.io.ErrorKind.TheVariants.{WriteZero, OutOfMemory}
+
+-- how many calls failed, where that is told, and the names of the references on the way to the device
+pub record Health : Type 0 where
+  pub failures : Option ℕ
+  pub lenders : List GName
+
+-- what a source tells: the bytes to come, where they are known
+pub record SourceTold : Type 0 where
+  pub coming : Option (List ℕ)
+  pub health : Health
+
+-- what a sink tells: the bytes that it took and the room that it has left, where they are known
+pub record SinkTold : Type 0 where
+  pub taken : Option (List ℕ)
+  pub room : Option ℕ
+  pub health : Health
+
+-- a count that is told stays told and does not fall
+abbrev pub NotFewer : Option ℕ → Option ℕ → Type 0
+NotFewer None new = ⊤
+NotFewer (Some m) None = ⊥
+NotFewer (Some m) (Some n) = m ≤ n
+
+-- a count that is told stays told and rises
+abbrev pub More : Option ℕ → Option ℕ → Type 0
+More None new = ⊤
+More (Some m) None = ⊥
+More (Some m) (Some n) = m < n
+
+-- no failure is forgotten, and the references stay
+pub record NoFewerFailures (old new : Health) : Type 0 where
+  pub failures : NotFewer old.failures new.failures
+  pub lenders : new.lenders ≡ old.lenders
+
+-- a call failed, and the references stay
+pub record MoreFailures (old new : Health) : Type 0 where
+  pub failures : More old.failures new.failures
+  pub lenders : new.lenders ≡ old.lenders
+
+-- ---- sources
+-- bytes that are told are fewer than n
+abbrev pub FewerThan : ℕ → Option (List ℕ) → Type 0
+FewerThan n None = ⊤
+FewerThan n (Some bs) = length bs < n
+
+-- bytes that are told lose n of them, or all
+abbrev pub Passes : ℕ → Option (List ℕ) → Option (List ℕ) → Type 0
+Passes n None new = ⊤
+Passes n (Some bs) None = ⊥
+Passes n (Some bs) (Some cs) = cs ≡ drop n bs
+
+-- where no byte was to come, none is
+abbrev pub StaysEmpty : Option (List ℕ) → Option (List ℕ) → Type 0
+StaysEmpty None new = ⊤
+StaysEmpty (Some bs) new = length bs ≡ 0 → new ≡ Some bs
+
+-- ---- sinks
+-- the bytes before a place, where the place is not past the end
+abbrev pub bytes_before : ℕ → List ℕ → Option (List ℕ)
+bytes_before place bytes = if nat_le place (length bytes) then Some (take place bytes) else None
+
+-- a room that is told shrinks by n, and one that is not told stays untold
+abbrev pub Shrinks : Option ℕ → Option ℕ → ℕ → Type 0
+Shrinks None None n = ⊤
+Shrinks None (Some s) n = ⊥
+Shrinks (Some r) None n = ⊥
+Shrinks (Some r) (Some s) n = s + n ≡ r
+
+-- the room is too small for n bytes, or no memory is found where no room is told
+abbrev pub LacksRoom : Option ℕ → ℕ → ErrorKind → Type 0
+LacksRoom None n kind = kind ≡ OutOfMemory
+LacksRoom (Some r) n kind = (kind ≡ WriteZero) × (r < n)
+
+-- the sink took these bytes
+pub record Gave (old new : SinkTold) (bytes : List ℕ) : Type 0 where
+  pub taken : Appends old.taken new.taken bytes
+  pub room : Shrinks old.room new.room (length bytes)
+  pub health : NoFewerFailures old.health new.health
+
+-- the sink did not take all of n bytes: a call failed, or it lacks the room
+pub record Declined (old new : SinkTold) (n : ℕ) (kind : ErrorKind) : Type 0 where
+  pub cause : MoreFailures old.health new.health ⊎ LacksRoom old.room n kind
+  pub health : NoFewerFailures old.health new.health
