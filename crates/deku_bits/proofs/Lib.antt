@@ -10,3 +10,6 @@ pub mod Rewriting
 pub mod Lengths
 pub mod Packing
 pub mod Parts
+pub mod BitPlaces
+pub mod Overlays
+pub mod Holding
