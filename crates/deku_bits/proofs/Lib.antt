@@ -9,3 +9,4 @@ pub mod Taking
 pub mod Rewriting
 pub mod Lengths
 pub mod Packing
+pub mod WorkedRows

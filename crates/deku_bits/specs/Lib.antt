@@ -3,3 +3,4 @@ pub mod Streams
 pub mod Pieces
 pub mod Writers
 pub mod Symmetry
+pub mod Rows
