@@ -18,7 +18,7 @@ use Rattle.deku_num.specs.Rows.{Places, AreAllowed, widths, values_read, stream_
 use Rattle.deku_num.proofs.Values.{field_law}
 
 -- no wider than the type, and with a sign only in `Msb0`
-abbrev plain : Places → Bool
+abbrev pub plain : Places → Bool
 plain [] = true
 plain (f ∷ fs) = leb (width f.0 f.1) (f.0.bits) && ((not f.0.signed || same_order f.1.order Msb0) && plain fs)
 
@@ -35,7 +35,7 @@ even true Big Msb0 n h = refl
 even true Big Lsb0 n h = absurd (cc h)
 
 -- such layouts are not refused
-allowed_all : (places : Places) → plain places ≡ true → AreAllowed places
+pub allowed_all : (places : Places) → plain places ≡ true → AreAllowed places
 allowed_all [] h = tt
 allowed_all (f ∷ fs) h =
     let first = both (leb (width f.0 f.1) (f.0.bits)) ((not f.0.signed || same_order f.1.order Msb0) && plain fs) h in
