@@ -13,3 +13,4 @@ pub mod Parts
 pub mod BitPlaces
 pub mod Overlays
 pub mod Holding
+pub mod WorkedRows

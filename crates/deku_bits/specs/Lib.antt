@@ -8,3 +8,4 @@ pub mod Standings
 pub mod Outcomes
 pub mod Faults
 pub mod Cursors
+pub mod Rows

@@ -1,1 +1,2 @@
 pub mod FieldLists
+pub mod WorkedRows

@@ -1,2 +1,3 @@
 pub mod Items
 pub mod Headline
+pub mod Rows

@@ -2,3 +2,4 @@ pub mod Chunked
 pub mod Values
 pub mod Ranges
 pub mod Places
+pub mod WorkedRows

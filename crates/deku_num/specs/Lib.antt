@@ -5,3 +5,4 @@ pub use Rattle.deku_bits.specs.Writers
 pub use Rattle.deku_bits.specs.Symmetry
 pub mod Numbers
 pub mod NumberLaws
+pub mod Rows
