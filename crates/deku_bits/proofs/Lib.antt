@@ -10,3 +10,5 @@ pub mod Rewriting
 pub mod Lengths
 pub mod Packing
 pub mod Parts
+pub mod Handing
+pub mod Moving

@@ -8,3 +8,6 @@ pub mod Standings
 pub mod Outcomes
 pub mod Faults
 pub mod Cursors
+pub mod Kept
+pub mod Moving
+pub mod ReaderCalls
