@@ -1,6 +1,7 @@
 -- Outcomes that are handed on from one call to the next.
-use Rattle.std.proofs.Common.{◌≡◌, ℕ, ◌+◌, ◌<◌, ◌≤◌, Bool, true, false, List, Option, Some, None, Result, Ok, Err, IsErrAnd, refl, ◌∙◌, inl, inr, arith}
+use Rattle.std.proofs.Common.{◌≡◌, ℕ, ◌+◌, ◌<◌, ◌≤◌, Bool, true, false, List, ◌∷◌, Option, Some, None, Result, Ok, Err, IsErrAnd, refl, ◌∙◌, inl, inr, arith}
 use Rattle.std.proofs.lemmas.Result.{err_from_is_err_and}
+use Rattle.std.specs.Borrow.{GName}
 use Rattle.std.specs.declared.io.ErrorKind.TheVariants.{OutOfMemory}
 use Rattle.deku_bits.specs.declared.error.DekuError.{DekuError}
 use Rattle.deku_bits.specs.declared.error.DekuError.TheVariants.{Io}
@@ -87,6 +88,28 @@ pub unbroken : {A V : Type 0} {m : Meaning A V} {s : Standing A} {f : Health} {r
     → f.failures ≡ Some 0 → g.failures ≡ Some 0 → Outcome m s f r u g → m false s r u
 unbroken p q (Quiet m k) = m
 unbroken p q (Broken a m k) = let h = rw (p, q) at k.failures in absurd (omega (arith, h))
+
+-- ---- through a reference
+heads : (a b : GName) (xs ys : List GName) → a ∷ xs ≡ b ∷ ys → a ≡ b
+heads a b xs ys e = cc
+
+tails : (a b : GName) (xs ys : List GName) → a ∷ xs ≡ b ∷ ys → xs ≡ ys
+tails a b xs ys e = cc
+
+-- what a reference tells of what is behind it
+abbrev pub by_name : GName → Health → Health
+by_name n f = record f { lenders = n ∷ f.lenders }
+
+-- the reference is the same afterwards
+pub name_stays : {A V : Type 0} {m : Meaning A V} {s : Standing A} {r : Result V DekuError} {u : Standing A} (f g : Health) (n k : GName)
+    → Outcome m s (by_name n f) r u (by_name k g) → k ≡ n
+name_stays f g n k o = heads k n g.lenders f.lenders (lenders_stay o)
+
+-- what holds through a reference holds of what is behind it
+pub behind : {A V : Type 0} {m : Meaning A V} {s : Standing A} {r : Result V DekuError} {u : Standing A} (f g : Health) (n k : GName)
+    → Outcome m s (by_name n f) r u (by_name k g) → Outcome m s f r u g
+behind f g n k (Quiet p q) = Quiet p (record { failures = q.failures; lenders = tails k n g.lenders f.lenders q.lenders })
+behind f g n k (Broken a p q) = Broken a p (record { failures = q.failures; lenders = tails k n g.lenders f.lenders q.lenders })
 
 -- ---- what is refused before anything moves
 -- a kept fault, or a count without room

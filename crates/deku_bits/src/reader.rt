@@ -60,6 +60,19 @@ impl<R: Source> Reader<R> {
         self.state.bits_read()
     }
 
+    /// The unread bits of the byte that was fetched last, high bit first: at most eight, and none after a fault.
+    ///
+    /// It is refused with `Io(OutOfMemory)`, for memory alone.
+    pub fn rest(&self) -> Result<Vec<bool>, DekuError>
+        ensures ok { IfOk result (λ v. v.items ≡ window_of self.now.state) }
+        ensures err { IfErr result (λ e. e ≡ DekuError.Io ErrorKind.OutOfMemory) }
+    {
+        match self.state.unread().to_vec(self.alloc) {
+            Ok(bits) => Ok(bits),
+            Err(_) => Err(DekuError::Io(ErrorKind::OutOfMemory)),
+        }
+    }
+
     /// Takes as many bits as the buffer is long, as the order meets them.
     pub(crate) fn take_bits(&mut self, dst: &mut [bool], order: Order) -> Result<(), DekuError>
         ensures { Reads R.told (Takes order (length dst.old)) self.old (filling result dst.new) self.new }
@@ -120,3 +133,6 @@ fn reverse_group(bits: &mut [bool], at: usize)
 {
     bits[at..at + 8].reverse();
 }
+
+#[cfg(test)]
+mod tests;

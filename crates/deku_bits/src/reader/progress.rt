@@ -7,7 +7,7 @@ ghost use Rattle.deku_bits.specs.declared.ctx.Order.{Order as BitOrder};
 ghost use Rattle.deku_bits.specs.Devices.{NoFewerFailures, MoreFailures, FewerThan, StaysEmpty};
 ghost use Rattle.deku_bits.specs.Kept.{Admits};
 ghost use Rattle.deku_bits.specs.Moving.{Moves, FewerBits};
-ghost use Rattle.deku_bits.specs.ReaderCalls.{ReadsAt, Takes, filling};
+ghost use Rattle.deku_bits.specs.ReaderCalls.{ReadsAt, Takes, filling, window_of};
 ghost use Rattle.deku_bits.specs.Standings.{Going, count_of};
 
 use super::window::Window;
@@ -55,6 +55,17 @@ impl Progress {
         ensures { result ≡ count_of self.now }
     {
         self.bits_read
+    }
+
+    // The unread bits, high bit first; none where the reader has stopped.
+    pub fn unread(&self) -> &[bool]
+        ensures value { result.now ≡ window_of self.now }
+        ensures bound { length result.now ≤ 8 }
+    {
+        match self.fault {
+            None => self.window.as_slice(),
+            Some(_) => &[],
+        }
     }
 
     // Refuses what a reader refuses before it moves anything: by its kept fault, or since the count has no room.

@@ -44,6 +44,14 @@ impl Window {
         self.end - self.start
     }
 
+    // The unread bits, high bit first.
+    pub fn as_slice(&self) -> &[bool]
+        ensures value { result.now ≡ self.now }
+        ensures bound { length result.now ≤ 8 }
+    {
+        &self.bits[self.start..self.end]
+    }
+
     // The eight bits of a byte.
     #[tactic(auto, unfolding(crate::specs::Bits::byte_bits, crate::specs::Bits::bits_of))]
     pub fn of_byte(byte: u8) -> Window
