@@ -4,8 +4,8 @@ use Rattle.std.proofs.lemmas.List.{length-reverse, length-map, length-take}
 use Rattle.deku_bits.specs.declared.ctx.Order.{Order}
 use Rattle.deku_bits.specs.declared.ctx.Order.TheVariants.{Msb0, Lsb0}
 use Rattle.deku_bits.specs.Bits.{bin, chunks, facing, group_number, shown}
-use Rattle.deku_bits.specs.Pieces.{Piece, same_order}
-use Rattle.deku_bits.specs.Writers.{Pending, Nothing, Held, held, pending_bits, Written, remainder, whole_groups, cut, same_append, cross_append, append, padded, Meets, AppendLaw, CountLaw}
+use Rattle.deku_bits.specs.Pieces.{same_order}
+use Rattle.deku_bits.specs.Writers.{Pending, Nothing, Held, held, pending_bits, Written, remainder, cut, same_append, cross_append, append, padded, AppendLaw, CountLaw}
 use Rattle.deku_bits.specs.Symmetry.{appended, followed, CallsLaw}
 use Rattle.deku_bits.proofs.Binary.{length-facing, facing-facing}
 use Rattle.deku_bits.proofs.Groups.{by_groups, length-chunks}

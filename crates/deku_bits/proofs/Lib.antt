@@ -12,3 +12,6 @@ pub mod Packing
 pub mod Parts
 pub mod Handing
 pub mod Moving
+pub mod BitPlaces
+pub mod Overlays
+pub mod Holding

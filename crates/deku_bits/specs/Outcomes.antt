@@ -4,7 +4,7 @@ use Rattle.std.specs.Borrow.{Bor}
 use Rattle.std.specs.declared.io.ErrorKind.{ErrorKind}
 use Rattle.std.specs.declared.io.ErrorKind.TheVariants.{OutOfMemory}
 use Rattle.deku_bits.specs.declared.error.DekuError.{DekuError}
-use Rattle.deku_bits.specs.declared.error.DekuError.TheVariants.{Incomplete, InvalidParam, Io}
+use Rattle.deku_bits.specs.declared.error.DekuError.TheVariants.{InvalidParam, Io}
 use Rattle.deku_bits.specs.Devices.{Health, NoFewerFailures, MoreFailures}
 use Rattle.deku_bits.specs.Standings.{Standing, Going, Stopped}
 

@@ -6,7 +6,9 @@ use Rattle.deku_bits.specs.declared.error.NeedSize.{NeedSize}
 use Rattle.deku_bits.specs.declared.error.DekuError.{DekuError}
 use Rattle.deku_bits.specs.declared.error.DekuError.TheVariants.{Incomplete}
 use Rattle.deku_bits.specs.declared.reader.Reader.{Reader}
-use Rattle.deku_bits.specs.Bits.{shown}
+use Rattle.deku_bits.specs.declared.reader.Leftover.{Leftover}
+use Rattle.deku_bits.specs.declared.reader.Leftover.TheVariants.{Byte, Bits}
+use Rattle.deku_bits.specs.Bits.{byte_bits, shown}
 use Rattle.deku_bits.specs.Streams.{Stream, Has, taken, left}
 use Rattle.deku_bits.specs.Devices.{SourceTold}
 use Rattle.deku_bits.specs.Standings.{Standing, Going, Stopped, reader_state}
@@ -55,3 +57,9 @@ window_of (Stopped e c) = []
 abbrev pub items_of : Result (Vec Bool) DekuError → Result (List Bool) DekuError
 items_of (Ok v) = Ok v.items
 items_of (Err e) = Err e
+
+-- the leftover that shows a window: none, one whole byte, or fewer than eight bits
+abbrev pub IsLeftover : List Bool → Option Leftover → Type 0
+IsLeftover w None = w ≡ []
+IsLeftover w (Some (Byte b)) = w ≡ byte_bits b
+IsLeftover w (Some (Bits v)) = (v ≡ w) × (0 < length w) × (length w < 8)

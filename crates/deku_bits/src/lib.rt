@@ -1,6 +1,7 @@
 //! Bits, streams of bits and the writing of bits: the base of a codec library.
 #![tactic(auto)]
 
+pub mod bounded;
 pub mod ctx;
 pub mod device;
 pub mod error;

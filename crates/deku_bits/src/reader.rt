@@ -3,17 +3,27 @@
 ghost use Rattle.std.specs.Prelude.{◌≡◌, ◌+◌, ◌*◌, ◌≤◌, ◌++◌, [], length, take, drop, reverse, IfOk, IfErr};
 ghost use Rattle.deku_bits.specs.Bits.{shown};
 ghost use Rattle.deku_bits.specs.Standings.{Going, count_of};
-ghost use Rattle.deku_bits.specs.ReaderCalls.{Reads, Takes, ReadsBits, ReadsVec, filling, items_of, window_of};
+ghost use Rattle.deku_bits.specs.ReaderCalls.{Reads, Takes, ReadsBits, ReadsVec, IsLeftover, filling, items_of, window_of};
 
 mod progress;
 mod window;
 
+use crate::bounded::BoundedBitVec;
 use crate::ctx::Order;
 use crate::device::Source;
 use crate::error::DekuError;
 use crate::reader::progress::Progress;
 use std::alloc::Global;
 use std::io::ErrorKind;
+
+/// The unread bits of the byte that a reader fetched last.
+#[derive(Debug, Clone, Drop)]
+pub enum Leftover {
+    /// All eight of them.
+    Byte(u8),
+    /// One to seven of them, high bit first.
+    Bits(BoundedBitVec<1>),
+}
 
 /// Reads bits from a source of bytes.
 ///
@@ -30,6 +40,7 @@ impl<R: Source> Reader<R> {
     /// A reader that stands where the source stands. What it allocates comes from `alloc`.
     pub fn new(alloc: Global, inner: R) -> Reader<R>
         ensures source { result.source ≡ inner }
+        ensures alloc { result.alloc ≡ alloc }
         ensures state { result.state ≡ Going [] 0 }
     {
         Reader {
@@ -51,6 +62,21 @@ impl<R: Source> Reader<R> {
         ensures { result ≡ self.source }
     {
         self.source
+    }
+
+    /// The unread bits of the byte that was fetched last, where there are any; none after a fault.
+    pub fn leftover(&self) -> Option<Leftover>
+        ensures { IsLeftover (window_of self.now.state) result }
+    {
+        let unread = self.state.unread();
+        if unread.is_empty() {
+            return None;
+        }
+        let bits: BoundedBitVec<1> = BoundedBitVec::from_bits(unread);
+        if bits.is_full() {
+            return Some(Leftover::Byte(bits.as_raw_slice()[0]));
+        }
+        Some(Leftover::Bits(bits))
     }
 
     /// How many bits were read.

@@ -15,7 +15,7 @@ use Rattle.deku_fields.specs.declared.list.Field.{Field}
 use Rattle.deku_fields.specs.declared.list.Item.{Item}
 use Rattle.deku_fields.specs.declared.list.Number.{Number}
 use Rattle.deku_fields.specs.declared.list.Number.TheVariants.{Unsigned, Signed}
-use Rattle.deku_fields.specs.Items.{IsNumber, number_type, field_width, field_shape, AlignedFields, IsWorth, IsPieceOf, ArePieces, IsFitting, LaysOut, Reads, fields_of, values_of}
+use Rattle.deku_fields.specs.Items.{IsNumber, number_type, field_width, field_shape, AlignedFields, IsWorth, IsPieceOf, ArePieces, IsFitting, Reads, fields_of, values_of}
 use Rattle.deku_fields.specs.Headline.{PieceLaw, LayoutLaw, ThereLaw, BackLaw, CallsLaw}
 
 -- one whole number has one number of a kind

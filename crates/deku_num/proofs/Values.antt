@@ -10,7 +10,7 @@ use Rattle.deku_num.specs.declared.ctx.Endian.{Endian}
 use Rattle.deku_num.specs.declared.ctx.Endian.TheVariants.{Little, Big}
 use Rattle.deku_bits.specs.Bits.{groups}
 use Rattle.deku_num.specs.NumberLaws.{Within, InRange, FieldLaw}
-use Rattle.deku_num.specs.Numbers.{number, with_sign, width, NumberType, IsEvenWhere, value}
+use Rattle.deku_num.specs.Numbers.{number, with_sign, width, IsEvenWhere, value}
 use Rattle.deku_num.proofs.Chunked.{number-inj, within, listed}
 
 -- ---- two's complement, with H for 2 ^ (n - 1)
