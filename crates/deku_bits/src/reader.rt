@@ -27,8 +27,29 @@ pub enum Leftover {
 
 /// Reads bits from a source of bytes.
 ///
-/// It fetches one byte at a time, and none behind the last bit that was wanted. The bits of that byte that are not read yet are
-/// its window. After a failed transfer it has stopped: it answers the same fault to each further read.
+/// It fetches one byte at a time, and none behind the last bit that was wanted. It keeps the bits of that byte that are not read
+/// yet. In `Msb0` the next bit is the highest of them, in `Lsb0` the lowest; the order may change at any bit.
+///
+/// Each read is refused, in this order,
+///
+/// - with the fault that stopped the reader, if one did;
+/// - with `InvalidParam("count past usize")` where the bits read would be more than a `usize` counts; nothing changes;
+/// - with `Io(OutOfMemory)` where it needs memory and finds none; nothing changes;
+/// - with `Incomplete` of the bits that were asked for, where the input ends before the last of them;
+/// - with `Io` of the fault's kind, where the source fails.
+///
+/// The last two stop the reader: it answers the same to each further read, also to one of no bits, it has no bits left over, and
+/// the count of bits read stays what it was before the read that failed.
+///
+/// ```text
+/// let mut reader = Reader::new(alloc, Cursor::new(bytes)); // 6D BE EF
+/// reader.read_bits(4, Order::Msb0)?;                       // 0, 1, 1, 0
+/// reader.read_bits(2, Order::Msb0)?;                       // 1, 1
+/// reader.rest()?;                                          // 0, 1
+/// reader.bits_read();                                      // 6
+/// reader.read_bits(19, Order::Msb0);                       // Incomplete of 19 bits
+/// reader.read_bits(0, Order::Msb0);                        // the same
+/// ```
 #[derive(Drop)]
 pub struct Reader<R: Source> {
     source: R,
@@ -37,7 +58,7 @@ pub struct Reader<R: Source> {
 }
 
 impl<R: Source> Reader<R> {
-    /// A reader that stands where the source stands. What it allocates comes from `alloc`.
+    /// A reader that begins at the source's next byte, with no bits read. The vectors that it answers are made by `alloc`.
     pub fn new(alloc: Global, inner: R) -> Reader<R>
         ensures source { result.source ≡ inner }
         ensures alloc { result.alloc ≡ alloc }
@@ -57,7 +78,7 @@ impl<R: Source> Reader<R> {
         self.alloc
     }
 
-    /// The source. Bits of its last byte that were not read yet are lost.
+    /// The source, behind the last byte that was fetched. Bits of that byte that were not read yet are lost.
     pub fn into_inner(self) -> R
         ensures { result ≡ self.source }
     {
@@ -79,7 +100,7 @@ impl<R: Source> Reader<R> {
         Some(Leftover::Bits(bits))
     }
 
-    /// How many bits were read.
+    /// How many bits were read, by reads that succeeded.
     pub fn bits_read(&self) -> usize
         ensures { result ≡ count_of self.now.state }
     {
@@ -88,7 +109,12 @@ impl<R: Source> Reader<R> {
 
     /// The unread bits of the byte that was fetched last, high bit first: at most eight, and none after a fault.
     ///
-    /// It is refused with `Io(OutOfMemory)`, for memory alone.
+    /// It is refused with `Io(OutOfMemory)` where no memory is found, and with nothing else. Nothing changes.
+    ///
+    /// ```text
+    /// reader.read_bits(13, Order::Lsb0)?; // from 10 81
+    /// reader.rest()?;                     // 1, 0, 0
+    /// ```
     pub fn rest(&self) -> Result<Vec<bool>, DekuError>
         ensures ok { IfOk result (λ v. v.items ≡ window_of self.now.state) }
         ensures err { IfErr result (λ e. e ≡ DekuError.Io ErrorKind.OutOfMemory) }
@@ -106,7 +132,16 @@ impl<R: Source> Reader<R> {
         self.state.take_bits(&mut self.source, dst, order)
     }
 
-    /// Reads as many bits as the buffer is long.
+    /// Fills the buffer with the next bits, as many as it is long.
+    ///
+    /// In `Msb0` they stand in the order in which they are met. In `Lsb0` they are turned, so that the highest stands first: whole
+    /// bytes each by itself, and any other number of bits as one. What is refused, and what is left then, is said at `Reader`.
+    /// After a refusal the content of the buffer is open.
+    ///
+    /// ```text
+    /// let mut bits = [false; 5];
+    /// reader.read_bits_into(&mut bits, Order::Lsb0)?; // from A1: 0, 0, 0, 0, 1
+    /// ```
     pub fn read_bits_into(&mut self, dst: &mut [bool], order: Order) -> Result<(), DekuError>
         ensures { Reads R.told (ReadsBits order (length dst.old)) self.old (filling result dst.new) self.new }
     {
@@ -115,7 +150,15 @@ impl<R: Source> Reader<R> {
         Ok(())
     }
 
-    /// Reads `amt` bits into a new vector.
+    /// The next `amt` bits, in a new vector, as `read_bits_into` shows them.
+    ///
+    /// Its memory is found before a bit is taken. What is refused, and what is left then, is said at `Reader`.
+    ///
+    /// ```text
+    /// reader.read_bits(4, Order::Lsb0)?; // from AB CD: 1, 0, 1, 1
+    /// reader.read_bits(4, Order::Lsb0)?; // 1, 0, 1, 0
+    /// reader.read_bits(4, Order::Msb0)?; // 1, 1, 0, 0
+    /// ```
     pub fn read_bits(&mut self, amt: usize, order: Order) -> Result<Vec<bool>, DekuError>
         ensures { Reads R.told (ReadsVec order amt) self.old (items_of result) self.new }
     {

@@ -4,7 +4,7 @@ ghost use Rattle.std.specs.Prelude.{[], length, List, Bool};
 ghost use Rattle.deku_bits.specs.ReaderCalls.{ReadsAt, ReadsBits, filling};
 ghost use Rattle.deku_bits.specs.Standings.{Standing, Going};
 
-use super::Reader;
+use super::{Leftover, Reader};
 use crate::ctx::Order;
 use crate::ctx::Order::{Lsb0, Msb0};
 use crate::device::Source;
@@ -167,9 +167,36 @@ fn fetches_no_byte_too_early(rt: HostRuntime) -> Result<(), Fail> {
         assert_eq!(rt; reader.bits_read(), count);
     }
     assert_eq!(rt; reader.into_inner().position(), 3);
+    for (reads, place) in [(1, 1), (2, 3), (3, 3)] {
+        let mut reader = Reader::new(rt.alloc(), Cursor::new(bytes));
+        for width in [5, 16, 3].iter().take(reads) {
+            reader.read_bits(*width, Lsb0)?;
+        }
+        assert_eq!(rt;
+            reader.into_inner().position(),
+            place,
+            "after {reads} reads"
+        );
+    }
+    Ok(())
+}
+
+#[test]
+fn has_bits_left_over(rt: HostRuntime) -> Result<(), Fail> {
+    let bytes: &[u8] = &[0x10, 0x81];
     let mut reader = Reader::new(rt.alloc(), Cursor::new(bytes));
-    reader.read_bits(5, Lsb0)?;
-    assert_eq!(rt; reader.into_inner().position(), 1);
+    assert!(rt; reader.leftover().is_none());
+    reader.read_bits(13, Lsb0)?;
+    assert!(rt; matches!(reader.leftover(), Some(Leftover::Bits(_))));
+    if let Some(Leftover::Bits(bits)) = reader.leftover() {
+        assert_eq!(rt; bits.len(), 3);
+        assert_eq!(rt;
+            [bits.get(0), bits.get(1), bits.get(2)],
+            [Some(true), Some(false), Some(false)]
+        );
+    }
+    reader.read_bits(3, Lsb0)?;
+    assert!(rt; reader.leftover().is_none());
     Ok(())
 }
 
