@@ -10,6 +10,8 @@ pub mod Rewriting
 pub mod Lengths
 pub mod Packing
 pub mod Parts
+pub mod Handing
+pub mod Moving
 pub mod BitPlaces
 pub mod Overlays
 pub mod Holding
