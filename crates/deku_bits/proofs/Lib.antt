@@ -10,3 +10,7 @@ pub mod Rewriting
 pub mod Lengths
 pub mod Packing
 pub mod Parts
+pub mod Gives
+pub mod Pushes
+pub mod Onto
+pub mod Emits

@@ -8,3 +8,5 @@ pub mod Standings
 pub mod Outcomes
 pub mod Faults
 pub mod Cursors
+pub mod Pushing
+pub mod WriterCalls

@@ -5,3 +5,4 @@ pub mod ctx;
 pub mod device;
 pub mod error;
 pub mod laws;
+pub mod writer;
