@@ -46,7 +46,7 @@ module _ (write : Pending → Written) (t : SinkTold) (P : Pending) (c : ℕ) wh
 
 -- ---- a write
 -- the bytes that the code counts
-counted : (from to : Order) (h bits : List Bool) → length h < 8 → length (append to bits (waiting from h)).bytes ≡ (length h + length bits) / 8
+pub counted : (from to : Order) (h bits : List Bool) → length h < 8 → length (append to bits (waiting from h)).bytes ≡ (length h + length bits) / 8
 counted from to h bits l =
     let n : length (pending_bits (waiting from h)) ≡ length h = ap length (pending_bits-held from (facing from h)) ∙ length-facing from h in
     let k = count_law.0 to bits (waiting from h) (omega arith) in

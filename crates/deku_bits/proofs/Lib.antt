@@ -14,3 +14,4 @@ pub mod Gives
 pub mod Pushes
 pub mod Onto
 pub mod Emits
+pub mod Lent

@@ -17,9 +17,22 @@ use self::pushing::push_onto;
 use crate::ctx::Order;
 use crate::device::Sink;
 use crate::error::{DekuError, Fault};
+use std::alloc::Global;
+use std::io::ErrorKind;
 use std::marker::Model;
 
-/// Gives bytes to a sink, and keeps the bits that do not fill one.
+/// Gives whole bytes to a sink, and keeps the bits that do not fill one: at most seven, of one order.
+///
+/// Bits in `Msb0` fill a byte from its highest bit down, and bits in `Lsb0` from its lowest bit up. A fault of the sink stops the
+/// writer: it is kept, nothing is pending, and each later write answers the fault again. What the sink took of the failed call is not known.
+///
+/// ```text
+/// let mut writer = Writer::new(Cursor::new(Vec::new(alloc)));
+/// writer.write_bits(&[true, false, true])?;          // 1, 0, 1 are pending
+/// writer.finalize()?;                                // the byte 0xA0 is given to the sink
+/// writer.bits_written()                              // 8
+/// writer.into_inner().into_inner()                   // [0xA0]
+/// ```
 #[derive(Drop)]
 pub struct Writer<W> {
     pub(crate) sink: W,
@@ -50,7 +63,7 @@ impl Model for Progress {
 }
 
 impl<W: Sink> Writer<W> {
-    /// A writer with nothing pending.
+    /// A writer onto this sink, with nothing pending and no bit written. Nothing is given to the sink.
     pub fn new(inner: W) -> Writer<W>
         ensures sink { result.sink ≡ inner }
         ensures state { result.state ≡ Going Nothing 0 }
@@ -61,35 +74,68 @@ impl<W: Sink> Writer<W> {
         }
     }
 
-    /// The sink. What is pending is lost.
+    /// The sink, with the bytes that it was given. Pending bits are lost: call `finalize` first.
     pub fn into_inner(self) -> W
         ensures { result ≡ self.sink }
     {
         self.sink
     }
 
-    /// How many bits were given to the sink.
+    /// How many bits were given to the sink: eight for each byte. Pending bits are not counted, nor are those of a write that failed.
     pub fn bits_written(&self) -> usize
         ensures { result ≡ count_of self.now.state }
     {
         self.state.bits_written()
     }
 
-    /// Writes the bits in this order.
+    /// The pending bits, highest first: at most seven, and none where the writer has stopped.
+    ///
+    /// Fails with `Io(OutOfMemory)` where no memory is found for them.
+    ///
+    /// ```text
+    /// writer.write_bits_order(&[true, true, false], Order::Lsb0)?;
+    /// writer.rest(alloc)?                                // [true, true, false]
+    /// ```
+    pub fn rest(&self, alloc: Global) -> Result<Vec<bool>, DekuError>
+        ensures bits { IfOk result (λ v. v.items ≡ pending_bits (pending_of self.now.state)) }
+        ensures memory { IfErr result (λ e. e ≡ Io OutOfMemory) }
+    {
+        let pending = self.state.pending();
+        match Vec::from_slice(alloc, pending.as_slice()) {
+            Ok(bits) => Ok(bits),
+            Err(_) => Err(DekuError::Io(ErrorKind::OutOfMemory)),
+        }
+    }
+
+    /// Writes bits, highest first, in an order. Each byte that is filled is given to the sink, and counts eight bits.
+    ///
+    /// In `Msb0` they follow the pending bits. In `Lsb0` they go above them, the last bit first, or, where the list is whole bytes, byte by
+    /// byte, the last bit of each first. `Lsb0` bits go into pending `Msb0` bits, and `Msb0` bits above pending `Lsb0` bits. No bits change nothing.
+    ///
+    /// Fails, in this order: with the fault that stopped the writer; with `InvalidParam` where the count would pass `usize`, and nothing changes;
+    /// with `Io` of the sink's fault, as `WriteZero` where it lacks room. The fault is kept, nothing is pending then, and the count stays.
+    ///
+    /// ```text
+    /// writer.write_bits_order(&[true, false, true], Order::Lsb0)?;
+    /// writer.finalize()?;                                // the byte 0x05
+    /// ```
     pub fn write_bits_order(&mut self, bits: &[bool], order: Order) -> Result<(), DekuError>
         ensures { Writes W.told (WritesBits order bits.now) self.old result self.new }
     {
         self.state.write(&mut self.sink, bits, order)
     }
 
-    /// Writes the bits, high bit first.
+    /// Writes bits in `Msb0`, as `write_bits_order` does.
     pub fn write_bits(&mut self, bits: &[bool]) -> Result<(), DekuError>
         ensures { Writes W.told (WritesBits Msb0 bits.now) self.old result self.new }
     {
         self.write_bits_order(bits, Order::Msb0)
     }
 
-    /// Fills the pending bits with zeros to a byte.
+    /// Fills pending bits with zeros to a byte, behind `Msb0` bits and above `Lsb0` bits, and gives it to the sink. It counts eight bits. Where
+    /// nothing is pending it changes nothing.
+    ///
+    /// Fails as `write_bits_order` does, and leaves the same.
     pub fn finalize(&mut self) -> Result<(), DekuError>
         ensures { Writes W.told Finalizes self.old result self.new }
     {
@@ -113,6 +159,31 @@ impl Progress {
         ensures { result ≡ count_of self.now }
     {
         self.bits_written
+    }
+
+    // The pending bits, highest first.
+    fn pending(&self) -> Held
+        ensures { result ≡ pending_bits (pending_of self.now) }
+    {
+        if self.fault.is_some() {
+            return Held::new();
+        }
+        let mut pending = self.held.copy();
+        match self.order {
+            Order::Msb0 => {}
+            Order::Lsb0 => pending.turn(),
+        }
+        pending
+    }
+
+    // The order of the pending bits.
+    fn pending_order(&self) -> Order
+        ensures { result ≡ order_of (pending_of self.now) }
+    {
+        if self.fault.is_some() || self.held.len() == 0 {
+            return Order::Msb0;
+        }
+        self.order
     }
 
     // Writes the bits to this sink.
@@ -161,3 +232,6 @@ fn whole_bytes(held: usize, more: usize) -> usize
 {
     more / 8 + (held + more % 8) / 8
 }
+
+#[cfg(test)]
+mod tests;

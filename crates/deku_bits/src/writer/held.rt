@@ -44,6 +44,16 @@ impl Held {
         self.len
     }
 
+    /// The same bits again.
+    pub fn copy(&self) -> Held
+        ensures { result ≡ self.now }
+    {
+        Held {
+            bits: self.bits,
+            len: self.len,
+        }
+    }
+
     /// One more bit, at the end.
     pub fn push(&mut self, bit: bool)
         requires { length self.old < 8 }
