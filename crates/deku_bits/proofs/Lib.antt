@@ -16,3 +16,8 @@ pub mod BitPlaces
 pub mod Overlays
 pub mod Holding
 pub mod WorkedRows
+pub mod Gives
+pub mod Pushes
+pub mod Onto
+pub mod Emits
+pub mod Lent

@@ -12,3 +12,5 @@ pub mod Rows
 pub mod Kept
 pub mod Moving
 pub mod ReaderCalls
+pub mod Pushing
+pub mod WriterCalls

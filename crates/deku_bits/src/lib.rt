@@ -7,3 +7,4 @@ pub mod device;
 pub mod error;
 pub mod laws;
 pub mod reader;
+pub mod writer;
