@@ -3,11 +3,14 @@
 ghost use Rattle.std.specs.Prelude.{Option};
 ghost use Rattle.deku_bits.specs.Streams.{Stream};
 ghost use Rattle.deku_bits.specs.Outcomes.{Meaning};
+ghost use Rattle.deku_bits.specs.Standings.{Output};
 ghost use Rattle.deku_bits.specs.ReaderCalls.{Reads};
+ghost use Rattle.deku_bits.specs.WriterCalls.{Writes};
 
-use deku_bits::device::Source;
+use deku_bits::device::{Sink, Source};
 use deku_bits::error::DekuError;
 use deku_bits::reader::Reader;
+use deku_bits::writer::Writer;
 
 /// A type that is read from bits, under a context.
 ///
@@ -27,4 +30,21 @@ pub trait DekuReader<Ctx>: Drop {
         Self: Sized,
         requires { accepts ctx }
         ensures { Reads R.told (meaning ctx) reader.old result reader.new };
+}
+
+/// A type that is written as bits, under a context.
+///
+/// An implementation says what writing a value means, as a relation between the state of the writer before, the answer and the
+/// state after. Its law is that of `DekuReader`.
+pub trait DekuWriter<Ctx> {
+    // The contexts under which it may be written.
+    ghost accepts: { Ctx → Type 0 };
+
+    // What writing a value answers and leaves; at `true` where the device fails in it.
+    ghost meaning: { Self → Ctx → Meaning Output (Unit {0}) };
+
+    /// Writes the value. What is refused is stated by the type; what it moved before a refusal stays moved.
+    fn to_writer<W: Sink>(&self, writer: &mut Writer<W>, ctx: Ctx) -> Result<(), DekuError>
+        requires { accepts ctx }
+        ensures { Writes W.told (meaning self.now ctx) writer.old result writer.new };
 }
