@@ -4,6 +4,7 @@
 pub mod laws;
 mod list;
 mod program;
+mod words;
 
 pub use list::{Field, Item, Kind, Number};
 pub use program::run;

@@ -1,5 +1,8 @@
 //! Fields of whole numbers, and items: fields with their values.
 
+ghost use Rattle.std.specs.Prelude.{◌≡◌};
+ghost use Rattle.deku_fields.specs.Items.{number_type};
+
 use deku::ctx::Layout;
 
 /// The type of a whole number.
@@ -17,6 +20,18 @@ pub enum Kind {
     I64,
     I128,
     Isize,
+}
+
+impl Kind {
+    /// Whether its numbers have a sign.
+    pub fn is_signed(self) -> bool
+        ensures { result ≡ (number_type self).signed }
+    {
+        match self {
+            Kind::U8 | Kind::U16 | Kind::U32 | Kind::U64 | Kind::U128 | Kind::Usize => false,
+            Kind::I8 | Kind::I16 | Kind::I32 | Kind::I64 | Kind::I128 | Kind::Isize => true,
+        }
+    }
 }
 
 /// A whole number: of an unsigned kind, or of a signed one.
