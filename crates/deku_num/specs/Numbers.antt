@@ -8,12 +8,7 @@ use Rattle.deku_num.specs.declared.ctx.Endian.TheVariants.{Little, Big}
 use Rattle.deku_num.specs.declared.ctx.Size.{Size}
 use Rattle.deku_num.specs.declared.ctx.Size.TheVariants.{Whole, Bits, Bytes}
 use Rattle.deku_num.specs.declared.ctx.Layout.{Layout}
-
--- a type of whole numbers: its bits, whether it has a sign, and whether any byte size means one byte, as for `u8` alone
-pub record NumberType : Type 0 where
-  pub bits : ℕ
-  pub signed : Bool
-  pub one_byte : Bool
+pub use Rattle.deku_num.specs.declared.kind.NumberType.{NumberType}
 
 -- an unsigned type wider than a byte
 abbrev pub unsigned : ℕ → NumberType

@@ -2,4 +2,5 @@
 #![tactic(auto)]
 
 pub mod ctx;
+pub mod kind;
 pub mod laws;
