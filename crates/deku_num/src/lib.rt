@@ -4,3 +4,4 @@
 pub mod ctx;
 pub mod kind;
 pub mod laws;
+pub mod size;
