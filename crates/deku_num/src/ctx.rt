@@ -3,11 +3,9 @@
 ghost use Rattle.std.specs.Prelude.{◌≡◌, ◌↔◌, IsTrue, option_map};
 ghost use Rattle.deku_num.specs.Sizes.{fitting};
 
-use std::str::FromStr;
-
 use crate::size::DekuSize;
-
 pub use deku_bits::ctx::Order;
+use std::str::FromStr;
 
 /// The order of a number's groups of eight bits.
 #[derive(Debug, Clone, Copy, PartialEq, Eq)]

@@ -25,8 +25,11 @@ pub trait DekuSize {
 /// A type whose size is a constant.
 pub trait DekuSizeConst: DekuSize {
     ghost SIZE_BITS: { ℕ };
+
     ghost SIZE_BYTES: { Option ℕ };
+
     ghost bits_known: { fitting Self.bits ≡ Some SIZE_BITS };
+
     ghost bytes_known: { eighth (fitting Self.bits) ≡ SIZE_BYTES };
 
     /// The bits that each value takes.
@@ -46,11 +49,15 @@ impl DekuSize for u8 {
 
 impl DekuSizeConst for u8 {
     ghost SIZE_BITS = { 8 };
+
     ghost SIZE_BYTES = { Some 1 };
+
     ghost bits_known = { refl };
+
     ghost bytes_known = { refl };
 
     const SIZE_BITS: usize = 8;
+
     const SIZE_BYTES: Option<usize> = Some(1);
 }
 
@@ -64,11 +71,15 @@ impl DekuSize for u16 {
 
 impl DekuSizeConst for u16 {
     ghost SIZE_BITS = { 16 };
+
     ghost SIZE_BYTES = { Some 2 };
+
     ghost bits_known = { refl };
+
     ghost bytes_known = { refl };
 
     const SIZE_BITS: usize = 16;
+
     const SIZE_BYTES: Option<usize> = Some(2);
 }
 
@@ -82,11 +93,15 @@ impl DekuSize for u32 {
 
 impl DekuSizeConst for u32 {
     ghost SIZE_BITS = { 32 };
+
     ghost SIZE_BYTES = { Some 4 };
+
     ghost bits_known = { refl };
+
     ghost bytes_known = { refl };
 
     const SIZE_BITS: usize = 32;
+
     const SIZE_BYTES: Option<usize> = Some(4);
 }
 
@@ -100,11 +115,15 @@ impl DekuSize for u64 {
 
 impl DekuSizeConst for u64 {
     ghost SIZE_BITS = { 64 };
+
     ghost SIZE_BYTES = { Some 8 };
+
     ghost bits_known = { refl };
+
     ghost bytes_known = { refl };
 
     const SIZE_BITS: usize = 64;
+
     const SIZE_BYTES: Option<usize> = Some(8);
 }
 
@@ -118,11 +137,15 @@ impl DekuSize for u128 {
 
 impl DekuSizeConst for u128 {
     ghost SIZE_BITS = { 128 };
+
     ghost SIZE_BYTES = { Some 16 };
+
     ghost bits_known = { refl };
+
     ghost bytes_known = { refl };
 
     const SIZE_BITS: usize = 128;
+
     const SIZE_BYTES: Option<usize> = Some(16);
 }
 
@@ -136,11 +159,15 @@ impl DekuSize for usize {
 
 impl DekuSizeConst for usize {
     ghost SIZE_BITS = { 64 };
+
     ghost SIZE_BYTES = { Some 8 };
+
     ghost bits_known = { refl };
+
     ghost bytes_known = { refl };
 
     const SIZE_BITS: usize = 64;
+
     const SIZE_BYTES: Option<usize> = Some(8);
 }
 
@@ -154,11 +181,15 @@ impl DekuSize for i8 {
 
 impl DekuSizeConst for i8 {
     ghost SIZE_BITS = { 8 };
+
     ghost SIZE_BYTES = { Some 1 };
+
     ghost bits_known = { refl };
+
     ghost bytes_known = { refl };
 
     const SIZE_BITS: usize = 8;
+
     const SIZE_BYTES: Option<usize> = Some(1);
 }
 
@@ -172,11 +203,15 @@ impl DekuSize for i16 {
 
 impl DekuSizeConst for i16 {
     ghost SIZE_BITS = { 16 };
+
     ghost SIZE_BYTES = { Some 2 };
+
     ghost bits_known = { refl };
+
     ghost bytes_known = { refl };
 
     const SIZE_BITS: usize = 16;
+
     const SIZE_BYTES: Option<usize> = Some(2);
 }
 
@@ -190,11 +225,15 @@ impl DekuSize for i32 {
 
 impl DekuSizeConst for i32 {
     ghost SIZE_BITS = { 32 };
+
     ghost SIZE_BYTES = { Some 4 };
+
     ghost bits_known = { refl };
+
     ghost bytes_known = { refl };
 
     const SIZE_BITS: usize = 32;
+
     const SIZE_BYTES: Option<usize> = Some(4);
 }
 
@@ -208,11 +247,15 @@ impl DekuSize for i64 {
 
 impl DekuSizeConst for i64 {
     ghost SIZE_BITS = { 64 };
+
     ghost SIZE_BYTES = { Some 8 };
+
     ghost bits_known = { refl };
+
     ghost bytes_known = { refl };
 
     const SIZE_BITS: usize = 64;
+
     const SIZE_BYTES: Option<usize> = Some(8);
 }
 
@@ -226,11 +269,15 @@ impl DekuSize for i128 {
 
 impl DekuSizeConst for i128 {
     ghost SIZE_BITS = { 128 };
+
     ghost SIZE_BYTES = { Some 16 };
+
     ghost bits_known = { refl };
+
     ghost bytes_known = { refl };
 
     const SIZE_BITS: usize = 128;
+
     const SIZE_BYTES: Option<usize> = Some(16);
 }
 
@@ -244,10 +291,14 @@ impl DekuSize for isize {
 
 impl DekuSizeConst for isize {
     ghost SIZE_BITS = { 64 };
+
     ghost SIZE_BYTES = { Some 8 };
+
     ghost bits_known = { refl };
+
     ghost bytes_known = { refl };
 
     const SIZE_BITS: usize = 64;
+
     const SIZE_BYTES: Option<usize> = Some(8);
 }
