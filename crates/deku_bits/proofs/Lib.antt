@@ -10,7 +10,14 @@ pub mod Rewriting
 pub mod Lengths
 pub mod Packing
 pub mod Parts
+pub mod Handing
+pub mod Moving
 pub mod BitPlaces
 pub mod Overlays
 pub mod Holding
 pub mod WorkedRows
+pub mod Gives
+pub mod Pushes
+pub mod Onto
+pub mod Emits
+pub mod Lent

@@ -9,3 +9,8 @@ pub mod Outcomes
 pub mod Faults
 pub mod Cursors
 pub mod Rows
+pub mod Kept
+pub mod Moving
+pub mod ReaderCalls
+pub mod Pushing
+pub mod WriterCalls

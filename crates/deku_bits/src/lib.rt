@@ -6,3 +6,5 @@ pub mod ctx;
 pub mod device;
 pub mod error;
 pub mod laws;
+pub mod reader;
+pub mod writer;

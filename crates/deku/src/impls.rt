@@ -1,0 +1,3 @@
+//! What can be read and written.
+
+mod tuple;

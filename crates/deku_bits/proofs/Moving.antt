@@ -1,0 +1,163 @@
+-- Bits that go from a window and the bytes to come, against what is taken from a stream and left.
+use Rattle.std.proofs.Common.{◌≡◌, ◌≢◌, ◌⊎◌, ℕ, suc, ◌+◌, ◌*◌, ◌-◌, ◌/◌, ◌^◌, ◌<◌, ◌≤◌, Bool, false, List, [], ◌∷◌, ◌++◌, length, take, drop, Option, Some, None, Result, Ok, Err, arith, refl, sym, ap, ap₂, ◌∙◌, subst, inl, inr, ⊎_elim, length-append, append_assoc, eq-eqb, ne_eqb}
+use Rattle.std.proofs.lemmas.Bool.{cases_eq, cases_lt}
+use Rattle.std.proofs.lemmas.List.{take_at, drop_at, take-append-drop}
+use Rattle.std.proofs.lemmas.List.Concat.{flat_map-append}
+use Rattle.std.specs.Io.KnownBytes.{Consumes}
+use Rattle.std.specs.declared.io.ErrorKind.{ErrorKind}
+use Rattle.std.specs.declared.io.ErrorKind.TheVariants.{UnexpectedEof}
+use Rattle.deku_bits.specs.declared.ctx.Order.{Order}
+use Rattle.deku_bits.specs.declared.error.DekuError.{DekuError}
+use Rattle.deku_bits.specs.declared.error.DekuError.TheVariants as error
+use Rattle.deku_bits.specs.declared.error.Fault.{Fault}
+use Rattle.deku_bits.specs.declared.error.Fault.TheVariants as fault
+use Rattle.deku_bits.specs.Bits.{byte_bits, facing}
+use Rattle.deku_bits.specs.Streams.{Stream, Has, seen, taken, left, normal, touched}
+use Rattle.deku_bits.specs.Devices.{Health, FewerThan, NoFewerFailures, MoreFailures}
+use Rattle.deku_bits.specs.Standings.{Standing, Going, Stopped, stream_of, reader_state}
+use Rattle.deku_bits.specs.Outcomes.{Breaks, Outcome, Quiet, Broken}
+use Rattle.deku_bits.specs.Faults.{error_of}
+use Rattle.deku_bits.specs.Kept.{Admits, standing_of}
+use Rattle.deku_bits.specs.Moving.{Moves, FewerBits}
+use Rattle.deku_bits.specs.ReaderCalls.{Takes}
+use Rattle.deku_bits.proofs.Binary.{length-facing, facing-facing}
+use Rattle.deku_bits.proofs.Cuts.{flow, length-flow}
+use Rattle.deku_bits.proofs.Reading.{facing_nil, left_none}
+use Rattle.deku_bits.proofs.Taking.{peek_law}
+
+abbrev at : List Bool → List ℕ → Stream
+at window bytes = record { window = window; bytes = bytes }
+
+-- how many bits are seen
+pub length-seen : (o : Order) (w : List Bool) (bs : List ℕ) → length (seen o (at w bs)) ≡ length w + 8 * length bs
+length-seen o w bs = omega (arith, length-append (facing o w) (flow o bs), length-facing o w, length-flow o bs)
+
+flow-append : (o : Order) (xs ys : List ℕ) → flow o (xs ++ ys) ≡ flow o xs ++ flow o ys
+flow-append o xs ys = flat_map-append (λ b. facing o (byte_bits b)) xs ys
+
+-- ---- moves, one after the other
+-- one bit more
+pub moves_more : (o : Order) (w : List Bool) (t : Option (List ℕ)) (bs : List Bool) (v : List Bool) (u : Option (List ℕ)) (b : Bool) (x : List Bool) (k : Option (List ℕ))
+    → Moves o w t bs v u → Moves o v u (b ∷ []) x k → Moves o w t (bs ++ b ∷ []) x k
+moves_more o w None bs v u b x k p q = tt
+moves_more o w (Some xs) bs v None b x k p q = absurd p
+moves_more o w (Some xs) bs v (Some ys) b x None p q = absurd q
+moves_more o w (Some xs) bs v (Some ys) b x (Some zs) p q = (
+  p.0 ∙ ap (λ s. bs ++ s) q.0 ∙ sym (append_assoc bs (b ∷ []) (seen o (at x zs))),
+  (p.1.0 ++ q.1.0, p.1.1 ∙ ap (λ s. p.1.0 ++ s) q.1.1 ∙ sym (append_assoc p.1.0 q.1.0 zs)),
+)
+
+-- fewer than n bits were given, and none is left
+pub too_few : (o : Order) (w : List Bool) (t : Option (List ℕ)) (bs : List Bool) (v : List Bool) (u : Option (List ℕ)) (n : ℕ)
+    → Moves o w t bs v u → v ≡ [] → FewerThan 1 u → length bs < n → FewerBits n w t
+too_few o w None bs v u n p e f h = tt
+too_few o w (Some xs) bs v None n p e f h = absurd p
+too_few o w (Some xs) bs v (Some ys) n p e f h =
+    let none : length v ≡ 0 = ap length e in
+    let all : length (seen o (at w xs)) ≡ length (bs ++ seen o (at v ys)) = ap length p.0 in
+    omega (arith, length-seen o w xs, length-seen o v ys, length-append bs (seen o (at v ys)))
+
+-- a byte comes into an empty window
+pub supplied : (w : List Bool) (t : Option (List ℕ)) (b : ℕ) (u : Option (List ℕ)) (o : Order) → w ≡ [] → Consumes t u (b ∷ []) → Moves o w t [] (byte_bits b) u
+supplied w None b u o e p = tt
+supplied w (Some xs) b None o e p = absurd p
+supplied w (Some xs) b (Some ys) o e p = (rw (e, p, facing_nil o) refl, (b ∷ [], p))
+
+-- ---- what is taken and left
+-- bits that were given, and a window below eight: the stream that is left
+left_is : (o : Order) (w : List Bool) (xs : List ℕ) (bs v : List Bool) (ys run : List ℕ) → length w ≤ 8 → length v < 8
+    → seen o (at w xs) ≡ bs ++ seen o (at v ys) → xs ≡ run ++ ys → left o (length bs) (at w xs) ≡ at v ys
+unfolding left
+left_is o w xs bs v ys run lw lv e s =
+    let n : ℕ = length bs in
+    let all : length (seen o (at w xs)) ≡ length (bs ++ seen o (at v ys)) = ap length e in
+    let parts : length xs ≡ length run + length ys = ap length s ∙ length-append run ys in
+    let count : length w + 8 * length run ≡ n + length v = omega (arith, length-seen o w xs, length-seen o v ys, length-append bs (seen o (at v ys))) in
+    let touch : touched n (at w xs) ≡ length run = omega arith in
+    let front : take (touched n (at w xs)) xs ≡ run = ap₂ (λ k l. take k l) touch s ∙ take_at run ys (length run) refl in
+    let behind : drop (touched n (at w xs)) xs ≡ ys = ap₂ (λ k l. drop k l) touch s ∙ drop_at run ys (length run) refl in
+    let k : ℕ = n + length v in
+    let here : length (facing o w ++ flow o run) ≡ k = omega (arith, length-append (facing o w) (flow o run), length-facing o w, length-flow o run) in
+    let there : length (bs ++ facing o v) ≡ k = omega (arith, length-append bs (facing o v), length-facing o v) in
+    let same : (facing o w ++ flow o run) ++ flow o ys ≡ (bs ++ facing o v) ++ flow o ys =
+    append_assoc (facing o w) (flow o run) (flow o ys) ∙ ap (λ l. facing o w ++ l) (sym (flow-append o run ys) ∙ ap (flow o) (sym s)) ∙ e ∙ sym (append_assoc bs (facing o v) (flow o ys)) in
+    let cut : facing o w ++ flow o run ≡ bs ++ facing o v =
+    sym (take_at (facing o w ++ flow o run) (flow o ys) k here) ∙ ap (take k) same ∙ take_at (bs ++ facing o v) (flow o ys) k there in
+    ap₂ (λ l r. at (facing o (drop n (facing o w ++ flow o l))) r) front behind
+    ∙ ap (λ l. at (facing o (drop n l)) ys) cut
+    ∙ ap (λ l. at (facing o l) ys) (drop_at bs (facing o v) n refl)
+    ∙ ap (λ l. at l ys) (facing-facing o v)
+
+-- a window of eight that is put back is as many bits
+normal-count : (S : Stream) → length (normal S).window + 8 * length (normal S).bytes ≡ length S.window + 8 * length S.bytes
+unfolding normal
+normal-count S = ⊎_elim
+    (λ (e : length S.window ≡ 8). rw (eq-eqb (length S.window) 8 e) (omega arith))
+    (λ (e : length S.window ≡ 8 → ⊥). rw (ne_eqb (length S.window) 8 e) refl)
+    (cases_eq (length S.window) 8)
+
+-- bits that are seen first are taken
+first_bits : (o : Order) (S : Stream) (a b : List Bool) → seen o S ≡ a ++ b → taken o (length a) S ≡ a
+unfolding taken
+first_bits o S a b e = ap (take (length a)) e ∙ take_at a b (length a) refl
+
+-- ---- what a read answers
+-- bits were taken
+pub takes_ok : (o : Order) (w : List Bool) (t : Option (List ℕ)) (c n : ℕ) (bs v : List Bool) (u : Option (List ℕ))
+    → length bs ≡ n → length w ≤ 8 → c + n < 2 ^ 64 → Moves o w t bs v u → (0 < length bs → length v < 8) → (length bs ≡ 0 → (v ≡ w) × (u ≡ t))
+    → Takes o n false (Going (stream_of w t) c) (Ok bs) (Going (stream_of v u) (c + length bs))
+takes_ok o w None c n bs v u len l room moved short none = inr (room, inl (bs, stream_of v u, len, refl, ap (λ k. Going (stream_of v u) (c + k)) len))
+takes_ok o w (Some xs) c n bs v None len l room moved short none = absurd moved
+takes_ok o w (Some xs) c n bs v (Some ys) len l room moved short none =
+    let S : Stream = at w xs in
+    let m : ℕ = length bs in
+    let all : length (seen o S) ≡ length (bs ++ seen o (at v ys)) = ap length moved.0 in
+    let enough : m ≤ length w + 8 * length xs = omega (arith, length-seen o w xs, length-append bs (seen o (at v ys))) in
+    let rest : left o m S ≡ at v ys = ⊎_elim
+    (λ (p : m < 1).
+    let z : m ≡ 0 = omega arith in
+    let e = none z in
+    let same : ys ≡ xs = some_same ys xs e.1 in
+    ap (λ k. left o k S) z ∙ left_none o S ∙ ap₂ (λ a b. at a b) (sym e.0) (sym same))
+    (λ (p : 1 ≤ m). left_is o w xs bs v ys moved.1.0 l (short p) moved.0 moved.1.1)
+    (cases_lt m 1) in
+    let first : taken o m S ≡ bs = first_bits o S bs (seen o (at v ys)) moved.0 in
+    let peek = peek_law o m S l enough in
+    let has : Has m (normal S) = omega (arith, normal-count S) in
+    let values : bs ≡ taken o m (normal S) = sym first ∙ peek.0 in
+    let streams : normal (at v ys) ≡ left o m (normal S) = ap normal (sym rest) ∙ peek.1 in
+    rw (← len) (inr (rw len room, inl (has, ap Ok values, ap (λ T. Going (Some T) (c + m)) streams)))
+  where
+    some_same : (a b : List ℕ) → Some a ≡ Some b → a ≡ b
+    some_same a b e = cc
+
+-- a transfer failed
+pub takes_err : (o : Order) (w : List Bool) (t : Option (List ℕ)) (c n : ℕ) (f g : Health) (kind : ErrorKind) (stop : Fault)
+    → ((kind ≡ UnexpectedEof) × (stop ≡ fault.Incomplete (record { bits = n }))) ⊎ ((kind ≢ UnexpectedEof) × (stop ≡ fault.Io kind))
+    → c + n < 2 ^ 64 → (kind ≡ UnexpectedEof → FewerBits n w t) → (kind ≢ UnexpectedEof → MoreFailures f g) → NoFewerFailures f g
+    → Outcome (Takes o n) (Going (stream_of w t) c) f (Err (error_of stop)) (Stopped (error_of stop) c) g
+takes_err o w t c n f g kind stop (inr p) room ended failed kept =
+    let e : error_of stop ≡ error.Io kind = ap error_of p.1 in
+    let answered = ap Err e in
+    let stays = ap (λ x. Stopped x c) e in
+    Broken (record { kind = kind; count = c; answered = answered; kept = stays }) (kind, answered, stays) (failed p.0)
+takes_err o w None c n f g kind stop (inl p) room ended failed kept =
+    let e : error_of stop ≡ error.Incomplete (record { bits = n }) = ap error_of p.1 in
+    Quiet (inr (room, inr (ap Err e, ap (λ x. Stopped x c) e))) kept
+takes_err o w (Some xs) c n f g kind stop (inl p) room ended failed kept =
+    let e : error_of stop ≡ error.Incomplete (record { bits = n }) = ap error_of p.1 in
+    let S : Stream = at w xs in
+    let few : length (normal S).window + 8 * length (normal S).bytes < n = omega (arith, normal-count S, ended p.0) in
+    Quiet (inr (room, inr (few, (ap Err e, ap (λ x. Stopped x c) e)))) kept
+
+-- ---- what is admitted
+-- a reader's standing admits what the state does that it is seen as
+pub reader_admits : (t : Option (List ℕ)) (s : Standing (List Bool)) (n : ℕ) (r : Result (Unit {0}) DekuError) → Admits n s r → Admits n (reader_state t s) r
+reader_admits t (Going w c) n r p = p
+reader_admits t (Stopped e c) n r p = p
+
+-- what goes on has no kept fault, and room for the count
+pub admitted : {A : Type 0} (a : A) (f : Option Fault) (c n : ℕ) → Admits n (standing_of a f c) (Ok tt) → (f ≡ None) × (c + n < 2 ^ 64)
+admitted a None c n (inl p) = let h = p.1.2 in absurd (cc)
+admitted a None c n (inr p) = (refl, p.0)
+admitted a (Some f) c n p = absurd (cc)

@@ -1,0 +1,65 @@
+-- What the calls of a reader do.
+use Rattle.std.specs.Prelude.{◌≡◌, ◌⊎◌, ℕ, ◌+◌, ◌*◌, ◌<◌, ◌≤◌, Bool, List, [], length, Option, None, Some, Result, Ok, Err}
+use Rattle.std.specs.Global.{Vec}
+use Rattle.deku_bits.specs.declared.ctx.Order.{Order}
+use Rattle.deku_bits.specs.declared.error.NeedSize.{NeedSize}
+use Rattle.deku_bits.specs.declared.error.DekuError.{DekuError}
+use Rattle.deku_bits.specs.declared.error.DekuError.TheVariants.{Incomplete}
+use Rattle.deku_bits.specs.declared.reader.Reader.{Reader}
+use Rattle.deku_bits.specs.declared.reader.Leftover.{Leftover}
+use Rattle.deku_bits.specs.declared.reader.Leftover.TheVariants.{Byte, Bits}
+use Rattle.deku_bits.specs.Bits.{byte_bits, shown}
+use Rattle.deku_bits.specs.Streams.{Stream, Has, taken, left}
+use Rattle.deku_bits.specs.Devices.{SourceTold}
+use Rattle.deku_bits.specs.Standings.{Standing, Going, Stopped, reader_state}
+use Rattle.deku_bits.specs.Outcomes.{Meaning, Outcome, UnlessStopped, Counted, Reserving, Mapped}
+
+-- a call on a source and what a reader keeps beside it
+abbrev pub ReadsAt : {V : Type 0} → Meaning (Option Stream) V → SourceTold → Standing (List Bool) → Result V DekuError → SourceTold → Standing (List Bool) → Type 0
+ReadsAt m told s r told_after u = Outcome m (reader_state told.coming s) told.health r (reader_state told_after.coming u) told_after.health
+
+-- a call on a reader
+abbrev pub Reads : {R V : Type 0} → (R → SourceTold) → Meaning (Option Stream) V → Reader R → Result V DekuError → Reader R → Type 0
+Reads told m old r new = ReadsAt m (told old.source) old.state r (told new.source) new.state
+
+-- the end of input, which is kept, where n bits were asked
+abbrev pub Ends : {V : Type 0} → ℕ → ℕ → Result V DekuError → Standing (Option Stream) → Type 0
+Ends n c r u = (r ≡ Err (Incomplete (record { bits = n }))) × (u ≡ Stopped (Incomplete (record { bits = n })) c)
+
+-- n bits are taken from a stream: from one that is told exactly those, or the end of input where it has too few
+abbrev pub Transfers : Order → ℕ → Option Stream → ℕ → Result (List Bool) DekuError → Standing (Option Stream) → Type 0
+Transfers o n (Some S) c r u = (Has n S × (r ≡ Ok (taken o n S)) × (u ≡ Going (Some (left o n S)) (c + n))) ⊎ ((length S.window + 8 * length S.bytes < n) × Ends n c r u)
+Transfers o n None c r u = ((bits : List Bool) × (after : Option Stream) × (length bits ≡ n) × (r ≡ Ok bits) × (u ≡ Going after (c + n))) ⊎ Ends n c r u
+
+-- n bits are taken in an order
+abbrev pub Takes : Order → ℕ → Meaning (Option Stream) (List Bool)
+Takes o n = UnlessStopped (Counted n (Transfers o n))
+
+-- n bits are taken in an order and shown
+abbrev pub ReadsBits : Order → ℕ → Meaning (Option Stream) (List Bool)
+ReadsBits o n = Mapped (shown o) (Takes o n)
+
+-- n bits are taken in an order and shown, in memory that is found first
+abbrev pub ReadsVec : Order → ℕ → Meaning (Option Stream) (List Bool)
+ReadsVec o n = Mapped (shown o) (UnlessStopped (Counted n (Reserving (Transfers o n))))
+
+-- what was put into a buffer, where the call succeeds
+abbrev pub filling : {V : Type 0} → Result V DekuError → List Bool → Result (List Bool) DekuError
+filling (Ok v) bits = Ok bits
+filling (Err e) bits = Err e
+
+-- the unread bits of a byte; none where the reader has stopped
+abbrev pub window_of : Standing (List Bool) → List Bool
+window_of (Going window c) = window
+window_of (Stopped e c) = []
+
+-- what was read, where the call succeeds
+abbrev pub items_of : Result (Vec Bool) DekuError → Result (List Bool) DekuError
+items_of (Ok v) = Ok v.items
+items_of (Err e) = Err e
+
+-- the leftover that shows a window: none, one whole byte, or fewer than eight bits
+abbrev pub IsLeftover : List Bool → Option Leftover → Type 0
+IsLeftover w None = w ≡ []
+IsLeftover w (Some (Byte b)) = w ≡ byte_bits b
+IsLeftover w (Some (Bits v)) = (v ≡ w) × (0 < length w) × (length w < 8)

@@ -1,0 +1,207 @@
+//! Reading bits.
+
+ghost use Rattle.std.specs.Prelude.{◌≡◌, ◌+◌, ◌*◌, ◌≤◌, ◌++◌, [], length, take, drop, reverse, IfOk, IfErr};
+ghost use Rattle.deku_bits.specs.Bits.{shown};
+ghost use Rattle.deku_bits.specs.Standings.{Going, count_of};
+ghost use Rattle.deku_bits.specs.ReaderCalls.{Reads, Takes, ReadsBits, ReadsVec, IsLeftover, filling, items_of, window_of};
+
+mod progress;
+mod window;
+
+use crate::bounded::BoundedBitVec;
+use crate::ctx::Order;
+use crate::device::Source;
+use crate::error::DekuError;
+use crate::reader::progress::Progress;
+use std::alloc::Global;
+use std::io::ErrorKind;
+
+/// The unread bits of the byte that a reader fetched last.
+#[derive(Debug, Clone, Drop)]
+pub enum Leftover {
+    /// All eight of them.
+    Byte(u8),
+    /// One to seven of them, high bit first.
+    Bits(BoundedBitVec<1>),
+}
+
+/// Reads bits from a source of bytes.
+///
+/// It fetches one byte at a time, and none behind the last bit that was wanted. It keeps the bits of that byte that are not read
+/// yet. In `Msb0` the next bit is the highest of them, in `Lsb0` the lowest; the order may change at any bit.
+///
+/// Each read is refused, in this order,
+///
+/// - with the fault that stopped the reader, if one did;
+/// - with `InvalidParam("count past usize")` where the bits read would be more than a `usize` counts; nothing changes;
+/// - with `Io(OutOfMemory)` where it needs memory and finds none; nothing changes;
+/// - with `Incomplete` of the bits that were asked for, where the input ends before the last of them;
+/// - with `Io` of the fault's kind, where the source fails.
+///
+/// The last two stop the reader: it answers the same to each further read, also to one of no bits, it has no bits left over, and
+/// the count of bits read stays what it was before the read that failed.
+///
+/// ```text
+/// let mut reader = Reader::new(alloc, Cursor::new(bytes)); // 6D BE EF
+/// reader.read_bits(4, Order::Msb0)?;                       // 0, 1, 1, 0
+/// reader.read_bits(2, Order::Msb0)?;                       // 1, 1
+/// reader.rest()?;                                          // 0, 1
+/// reader.bits_read();                                      // 6
+/// reader.read_bits(19, Order::Msb0);                       // Incomplete of 19 bits
+/// reader.read_bits(0, Order::Msb0);                        // the same
+/// ```
+#[derive(Drop)]
+pub struct Reader<R: Source> {
+    source: R,
+    state: Progress,
+    alloc: Global,
+}
+
+impl<R: Source> Reader<R> {
+    /// A reader that begins at the source's next byte, with no bits read. The vectors that it answers are made by `alloc`.
+    pub fn new(alloc: Global, inner: R) -> Reader<R>
+        ensures source { result.source ≡ inner }
+        ensures alloc { result.alloc ≡ alloc }
+        ensures state { result.state ≡ Going [] 0 }
+    {
+        Reader {
+            source: inner,
+            state: Progress::start(),
+            alloc,
+        }
+    }
+
+    /// The allocator that it was given.
+    pub fn alloc(&self) -> Global
+        ensures { result ≡ self.now.alloc }
+    {
+        self.alloc
+    }
+
+    /// The source, behind the last byte that was fetched. Bits of that byte that were not read yet are lost.
+    pub fn into_inner(self) -> R
+        ensures { result ≡ self.source }
+    {
+        self.source
+    }
+
+    /// The unread bits of the byte that was fetched last, where there are any; none after a fault.
+    pub fn leftover(&self) -> Option<Leftover>
+        ensures { IsLeftover (window_of self.now.state) result }
+    {
+        let unread = self.state.unread();
+        if unread.is_empty() {
+            return None;
+        }
+        let bits: BoundedBitVec<1> = BoundedBitVec::from_bits(unread);
+        if bits.is_full() {
+            return Some(Leftover::Byte(bits.as_raw_slice()[0]));
+        }
+        Some(Leftover::Bits(bits))
+    }
+
+    /// How many bits were read, by reads that succeeded.
+    pub fn bits_read(&self) -> usize
+        ensures { result ≡ count_of self.now.state }
+    {
+        self.state.bits_read()
+    }
+
+    /// The unread bits of the byte that was fetched last, high bit first: at most eight, and none after a fault.
+    ///
+    /// It is refused with `Io(OutOfMemory)` where no memory is found, and with nothing else. Nothing changes.
+    ///
+    /// ```text
+    /// reader.read_bits(13, Order::Lsb0)?; // from 10 81
+    /// reader.rest()?;                     // 1, 0, 0
+    /// ```
+    pub fn rest(&self) -> Result<Vec<bool>, DekuError>
+        ensures ok { IfOk result (λ v. v.items ≡ window_of self.now.state) }
+        ensures err { IfErr result (λ e. e ≡ DekuError.Io ErrorKind.OutOfMemory) }
+    {
+        match self.state.unread().to_vec(self.alloc) {
+            Ok(bits) => Ok(bits),
+            Err(_) => Err(DekuError::Io(ErrorKind::OutOfMemory)),
+        }
+    }
+
+    /// Takes as many bits as the buffer is long, as the order meets them.
+    pub(crate) fn take_bits(&mut self, dst: &mut [bool], order: Order) -> Result<(), DekuError>
+        ensures { Reads R.told (Takes order (length dst.old)) self.old (filling result dst.new) self.new }
+    {
+        self.state.take_bits(&mut self.source, dst, order)
+    }
+
+    /// Fills the buffer with the next bits, as many as it is long.
+    ///
+    /// In `Msb0` they stand in the order in which they are met. In `Lsb0` they are turned, so that the highest stands first: whole
+    /// bytes each by itself, and any other number of bits as one. What is refused, and what is left then, is said at `Reader`.
+    /// After a refusal the content of the buffer is open.
+    ///
+    /// ```text
+    /// let mut bits = [false; 5];
+    /// reader.read_bits_into(&mut bits, Order::Lsb0)?; // from A1: 0, 0, 0, 0, 1
+    /// ```
+    pub fn read_bits_into(&mut self, dst: &mut [bool], order: Order) -> Result<(), DekuError>
+        ensures { Reads R.told (ReadsBits order (length dst.old)) self.old (filling result dst.new) self.new }
+    {
+        self.take_bits(dst, order)?;
+        show(dst, order);
+        Ok(())
+    }
+
+    /// The next `amt` bits, in a new vector, as `read_bits_into` shows them.
+    ///
+    /// Its memory is found before a bit is taken. What is refused, and what is left then, is said at `Reader`.
+    ///
+    /// ```text
+    /// reader.read_bits(4, Order::Lsb0)?; // from AB CD: 1, 0, 1, 1
+    /// reader.read_bits(4, Order::Lsb0)?; // 1, 0, 1, 0
+    /// reader.read_bits(4, Order::Msb0)?; // 1, 1, 0, 0
+    /// ```
+    pub fn read_bits(&mut self, amt: usize, order: Order) -> Result<Vec<bool>, DekuError>
+        ensures { Reads R.told (ReadsVec order amt) self.old (items_of result) self.new }
+    {
+        self.state.admits(amt)?;
+        let Ok(mut bits) = vec![in self.alloc; false; amt] else {
+            return Err(DekuError::Io(ErrorKind::OutOfMemory));
+        };
+        self.read_bits_into(bits.as_mut_slice(), order)?;
+        Ok(bits)
+    }
+}
+
+// Shows bits that were taken in this order.
+#[tactic(auto, using(crate::proofs::Shown::shown_high))]
+fn show(bits: &mut [bool], order: Order)
+    ensures { bits.new ≡ shown order bits.old }
+{
+    match order {
+        Order::Msb0 => {}
+        Order::Lsb0 => turn(bits),
+    }
+}
+
+// Shows bits that were taken in `Lsb0`: whole bytes byte by byte, and others as one number.
+fn turn(bits: &mut [bool])
+    ensures { bits.new ≡ shown Order.Lsb0 bits.old }
+{
+    if bits.len() % 8 != 0 {
+        bits.reverse();
+        return;
+    }
+    for group in 0..bits.len() / 8 {
+        reverse_group(bits, 8 * group);
+    }
+}
+
+// Reverses the eight bits from this place on.
+fn reverse_group(bits: &mut [bool], at: usize)
+    requires { at + 8 ≤ length bits.old }
+    ensures { bits.new ≡ take at bits.old ++ (reverse (take 8 (drop at bits.old)) ++ drop (at + 8) bits.old) }
+{
+    bits[at..at + 8].reverse();
+}
+
+#[cfg(test)]
+mod tests;

@@ -1,0 +1,186 @@
+//! What a reader keeps beside its source, and how it takes bits.
+
+ghost use Rattle.std.specs.Prelude.{◌≡◌, ◌≢◌, ℕ, ◌<◌, ◌≤◌, ◌⊎◌, [], ◌∷◌, length, IfOk, OnOk, IfErr};
+ghost use Rattle.std.specs.Io.KnownBytes.{Consumes};
+ghost use Rattle.std.specs.IoError.{error_kind};
+ghost use Rattle.deku_bits.specs.declared.ctx.Order.{Order as BitOrder};
+ghost use Rattle.deku_bits.specs.Devices.{NoFewerFailures, MoreFailures, FewerThan, StaysEmpty};
+ghost use Rattle.deku_bits.specs.Kept.{Admits};
+ghost use Rattle.deku_bits.specs.Moving.{Moves, FewerBits};
+ghost use Rattle.deku_bits.specs.ReaderCalls.{ReadsAt, Takes, filling, window_of};
+ghost use Rattle.deku_bits.specs.Standings.{Going, count_of};
+
+use super::window::Window;
+use crate::ctx::Order;
+use crate::device::Source;
+use crate::error::{DekuError, Fault, NeedSize};
+use std::io;
+use std::io::ErrorKind;
+use std::marker::Model;
+
+// The unread bits of a byte, the fault that stopped the reader, if any, and how many bits were read.
+#[derive(Drop)]
+pub struct Progress {
+    window: Window,
+    fault: Option<Fault>,
+    bits_read: usize,
+}
+
+impl Model for Progress {
+    ghost use Rattle.std.specs.Prelude.{◌≤◌, Bool, List, length};
+    ghost use Rattle.deku_bits.specs.Standings.{Standing};
+    ghost use Rattle.deku_bits.specs.Kept.{standing_of};
+
+    ghost Value = { Standing (List Bool) };
+
+    ghost view = { λ p. standing_of p.window p.fault p.bits_read };
+
+    ghost invariant = { λ p. length p.window ≤ 8 };
+}
+
+impl Progress {
+    // Nothing is read.
+    pub fn start() -> Progress
+        ensures { result ≡ Going [] 0 }
+    {
+        Progress {
+            window: Window::empty(),
+            fault: None,
+            bits_read: 0,
+        }
+    }
+
+    // How many bits were read.
+    pub fn bits_read(&self) -> usize
+        ensures { result ≡ count_of self.now }
+    {
+        self.bits_read
+    }
+
+    // The unread bits, high bit first; none where the reader has stopped.
+    pub fn unread(&self) -> &[bool]
+        ensures value { result.now ≡ window_of self.now }
+        ensures bound { length result.now ≤ 8 }
+    {
+        match self.fault {
+            None => self.window.as_slice(),
+            Some(_) => &[],
+        }
+    }
+
+    // Refuses what a reader refuses before it moves anything: by its kept fault, or since the count has no room.
+    pub fn admits(&self, amt: usize) -> Result<(), DekuError>
+        ensures { Admits amt self.now result }
+    {
+        if let Some(fault) = self.fault {
+            return Err(fault.error());
+        }
+        if self.bits_read > usize::MAX - amt {
+            return Err(DekuError::InvalidParam("count past usize"));
+        }
+        Ok(())
+    }
+
+    // Takes bits in this order, one after the other, and stops where that fails.
+    pub fn take_bits<R: Source>(
+        &mut self,
+        source: &mut R,
+        dst: &mut [bool],
+        order: Order,
+    ) -> Result<(), DekuError>
+        ensures { ReadsAt (Takes order (length dst.old)) (R.told source.old) self.old (filling result dst.new) (R.told source.new) self.new }
+    {
+        self.admits(dst.len())?;
+        match take_into(source, &mut self.window, dst, order) {
+            Ok(()) => {
+                self.bits_read += dst.len();
+                Ok(())
+            }
+            Err(error) => {
+                let fault = fault_of(&error, dst.len());
+                self.window = Window::empty();
+                self.fault = Some(fault);
+                Err(fault.error())
+            }
+        }
+    }
+}
+
+// Fetches one byte.
+fn fetch_byte<R: Source>(source: &mut R) -> io::Result<u8>
+    ensures bytes { IfOk result (λ b. Consumes (R.told source.old).coming (R.told source.new).coming (b ∷ [])) }
+    ensures short { IfErr result (λ e. error_kind e ≡ ErrorKind.UnexpectedEof → FewerThan 1 (R.told source.old).coming) }
+    ensures ended { IfErr result (λ e. error_kind e ≡ ErrorKind.UnexpectedEof → StaysEmpty (R.told source.old).coming (R.told source.new).coming) }
+    ensures failed { IfErr result (λ e. error_kind e ≢ ErrorKind.UnexpectedEof → MoreFailures (R.told source.old).health (R.told source.new).health) }
+    ensures kept { NoFewerFailures (R.told source.old).health (R.told source.new).health }
+{
+    let mut buf = [0u8; 1];
+    source.fetch(&mut buf)?;
+    Ok(buf[0])
+}
+
+// Sees to it that the window has a bit: by the next byte, where it has none.
+fn supply<R: Source>(source: &mut R, window: &mut Window) -> io::Result<()>
+    requires { length window.old ≤ 8 }
+    ensures some { OnOk result (0 < length window.new) }
+    ensures bound { OnOk result (length window.new ≤ 8) }
+    ensures moved { OnOk result ((order : BitOrder) → Moves order window.old (R.told source.old).coming [] window.new (R.told source.new).coming) }
+    ensures ended { IfErr result (λ e. error_kind e ≡ ErrorKind.UnexpectedEof → (window.old ≡ []) × FewerThan 1 (R.told source.old).coming) }
+    ensures failed { IfErr result (λ e. error_kind e ≢ ErrorKind.UnexpectedEof → MoreFailures (R.told source.old).health (R.told source.new).health) }
+    ensures kept { NoFewerFailures (R.told source.old).health (R.told source.new).health }
+{
+    if window.len() > 0 {
+        return Ok(());
+    }
+    let byte = fetch_byte(source)?;
+    *window = Window::of_byte(byte);
+    Ok(())
+}
+
+// Takes the next bit in this order.
+fn next_bit<R: Source>(source: &mut R, window: &mut Window, order: Order) -> io::Result<bool>
+    requires { length window.old ≤ 8 }
+    ensures bound { OnOk result (length window.new < 8) }
+    ensures moved { IfOk result (λ b. Moves order window.old (R.told source.old).coming (b ∷ []) window.new (R.told source.new).coming) }
+    ensures ended { IfErr result (λ e. error_kind e ≡ ErrorKind.UnexpectedEof → (window.old ≡ []) × FewerThan 1 (R.told source.old).coming) }
+    ensures failed { IfErr result (λ e. error_kind e ≢ ErrorKind.UnexpectedEof → MoreFailures (R.told source.old).health (R.told source.new).health) }
+    ensures kept { NoFewerFailures (R.told source.old).health (R.told source.new).health }
+{
+    supply(source, window)?;
+    Ok(window.pop(order))
+}
+
+// Fills the buffer with the next bits in this order.
+fn take_into<R: Source>(
+    source: &mut R,
+    window: &mut Window,
+    dst: &mut [bool],
+    order: Order,
+) -> io::Result<()>
+    requires { length window.old ≤ 8 }
+    ensures bound { OnOk result (length window.new ≤ 8) }
+    ensures short { OnOk result (0 < length dst.new → length window.new < 8) }
+    ensures none { OnOk result (length dst.new ≡ 0 → (window.new ≡ window.old) × ((R.told source.new).coming ≡ (R.told source.old).coming)) }
+    ensures moved { OnOk result (Moves order window.old (R.told source.old).coming dst.new window.new (R.told source.new).coming) }
+    ensures ended { IfErr result (λ e. error_kind e ≡ ErrorKind.UnexpectedEof → FewerBits (length dst.old) window.old (R.told source.old).coming) }
+    ensures failed { IfErr result (λ e. error_kind e ≢ ErrorKind.UnexpectedEof → MoreFailures (R.told source.old).health (R.told source.new).health) }
+    ensures kept { NoFewerFailures (R.told source.old).health (R.told source.new).health }
+{
+    for bit in dst.iter_mut() {
+        *bit = next_bit(source, window, order)?;
+    }
+    Ok(())
+}
+
+// What stops a reader that wanted this many bits: the end of input, or the kind of the fault.
+fn fault_of(error: &io::Error, bits: usize) -> Fault
+    ensures { ((error_kind error.now ≡ ErrorKind.UnexpectedEof) × (result ≡ Fault.Incomplete (record { bits = bits })))
+        ⊎ ((error_kind error.now ≢ ErrorKind.UnexpectedEof) × (result ≡ Fault.Io (error_kind error.now))) }
+{
+    let kind = error.kind();
+    if kind == ErrorKind::UnexpectedEof {
+        Fault::Incomplete(NeedSize::new(bits))
+    } else {
+        Fault::Io(kind)
+    }
+}

@@ -1,0 +1,209 @@
+//! What reads show, against worked examples.
+
+ghost use Rattle.std.specs.Prelude.{[], length, List, Bool};
+ghost use Rattle.deku_bits.specs.ReaderCalls.{ReadsAt, ReadsBits, filling};
+ghost use Rattle.deku_bits.specs.Standings.{Standing, Going};
+
+use super::{Leftover, Reader};
+use crate::ctx::Order;
+use crate::ctx::Order::{Lsb0, Msb0};
+use crate::device::Source;
+use crate::error::{DekuError, NeedSize};
+use std::alloc::{AllocError, Global};
+use std::io::Cursor;
+use std::process::Abort;
+use std::test::Fail;
+
+// The bits as digits.
+fn digits(alloc: Global, bits: &[bool]) -> Result<String, AllocError> {
+    let mut text = String::new(alloc);
+    for bit in bits {
+        text.push(if *bit { '1' } else { '0' })?;
+    }
+    Ok(text)
+}
+
+// Reads of these widths show these bits, one after the other, and leave these in the last byte.
+fn expect_reads(
+    rt: &impl Abort,
+    alloc: Global,
+    bytes: &[u8],
+    reads: &[(usize, Order, &str)],
+    rest: &str,
+) -> Result<(), Fail> {
+    let mut reader = Reader::new(alloc, Cursor::new(bytes));
+    for (width, order, want) in reads {
+        let bits = reader.read_bits(*width, *order)?;
+        assert_eq!(rt;
+            digits(alloc, &bits)?.as_str(),
+            *want,
+            "{width} bits of {bytes:?}"
+        );
+    }
+    assert_eq!(rt;
+        digits(alloc, &reader.rest()?)?.as_str(),
+        rest,
+        "the rest of {bytes:?}"
+    );
+    Ok(())
+}
+
+#[test]
+fn shows_what_each_order_meets(rt: HostRuntime) -> Result<(), Fail> {
+    let alloc = rt.alloc();
+    let three: &[u8] = &[0xA1, 0x34, 0x12];
+    expect_reads(
+        &rt,
+        alloc,
+        three,
+        &[
+            (5, Lsb0, "00001"),
+            (16, Lsb0, "1010010110010001"),
+            (3, Lsb0, "000"),
+        ],
+        "",
+    )?;
+    let mid: &[u8] = &[0x02, 0x64, 0x20];
+    expect_reads(
+        &rt,
+        alloc,
+        mid,
+        &[(6, Msb0, "000000"), (17, Lsb0, "01000000110010010")],
+        "0",
+    )?;
+    expect_reads(
+        &rt,
+        alloc,
+        mid,
+        &[(6, Msb0, "000000"), (17, Msb0, "10011001000010000")],
+        "0",
+    )?;
+    expect_reads(
+        &rt,
+        alloc,
+        &[0x6D, 0xBE, 0xEF],
+        &[(4, Msb0, "0110"), (2, Msb0, "11")],
+        "01",
+    )?;
+    expect_reads(
+        &rt,
+        alloc,
+        &[0xAB],
+        &[(1, Lsb0, "1"), (3, Msb0, "101"), (4, Msb0, "0101")],
+        "",
+    )?;
+    expect_reads(
+        &rt,
+        alloc,
+        &[0xAB, 0xCD],
+        &[
+            (4, Lsb0, "1011"),
+            (4, Lsb0, "1010"),
+            (4, Msb0, "1100"),
+            (4, Msb0, "1101"),
+        ],
+        "",
+    )?;
+    Ok(())
+}
+
+// Reads of these widths succeed but for the last one, which meets the end of input: that is kept, and nothing else changes.
+fn expect_end(
+    rt: &impl Abort,
+    alloc: Global,
+    bytes: &[u8],
+    widths: &[usize],
+    last: usize,
+    count: usize,
+) -> Result<(), Fail> {
+    let mut reader = Reader::new(alloc, Cursor::new(bytes));
+    for width in widths {
+        let bits = reader.read_bits(*width, Msb0)?;
+        assert_eq!(rt; bits.len(), *width, "of {bytes:?}");
+    }
+    let ended = DekuError::Incomplete(NeedSize::new(last));
+    assert_eq!(rt;
+        reader.read_bits(last, Msb0).err(),
+        Some(ended),
+        "{last} bits of {bytes:?}"
+    );
+    assert_eq!(rt;
+        reader.read_bits(0, Msb0).err(),
+        Some(ended),
+        "0 bits after the end of {bytes:?}"
+    );
+    let mut none: [bool; 0] = [];
+    assert_eq!(rt;
+        reader.read_bits_into(&mut none, Lsb0).err(),
+        Some(ended),
+        "into no bits after the end of {bytes:?}"
+    );
+    assert_eq!(rt;
+        reader.rest()?.len(),
+        0,
+        "the rest after the end of {bytes:?}"
+    );
+    assert_eq!(rt; reader.bits_read(), count, "bits read of {bytes:?}");
+    Ok(())
+}
+
+#[test]
+fn keeps_the_end_of_input(rt: HostRuntime) -> Result<(), Fail> {
+    let alloc = rt.alloc();
+    expect_end(&rt, alloc, &[], &[], 4, 0)?;
+    expect_end(&rt, alloc, &[0x69], &[4, 4], 16, 8)?;
+    expect_end(&rt, alloc, &[0x69, 0xBE], &[4, 4], 16, 8)?;
+    expect_end(&rt, alloc, &[0x10, 0x81, 0xAB], &[13, 3, 8], 1, 24)?;
+    Ok(())
+}
+
+// Bits that fill a whole number of bytes leave nothing, and the source stands behind the last byte touched.
+#[test]
+fn fetches_no_byte_too_early(rt: HostRuntime) -> Result<(), Fail> {
+    let bytes: &[u8] = &[0xA1, 0x34, 0x12];
+    let mut reader = Reader::new(rt.alloc(), Cursor::new(bytes));
+    for (width, count) in [(5, 5), (16, 21), (3, 24)] {
+        reader.read_bits(width, Lsb0)?;
+        assert_eq!(rt; reader.bits_read(), count);
+    }
+    assert_eq!(rt; reader.into_inner().position(), 3);
+    for (reads, place) in [(1, 1), (2, 3), (3, 3)] {
+        let mut reader = Reader::new(rt.alloc(), Cursor::new(bytes));
+        for width in [5, 16, 3].iter().take(reads) {
+            reader.read_bits(*width, Lsb0)?;
+        }
+        assert_eq!(rt;
+            reader.into_inner().position(),
+            place,
+            "after {reads} reads"
+        );
+    }
+    Ok(())
+}
+
+#[test]
+fn has_bits_left_over(rt: HostRuntime) -> Result<(), Fail> {
+    let bytes: &[u8] = &[0x10, 0x81];
+    let mut reader = Reader::new(rt.alloc(), Cursor::new(bytes));
+    assert!(rt; reader.leftover().is_none());
+    reader.read_bits(13, Lsb0)?;
+    assert!(rt; matches!(reader.leftover(), Some(Leftover::Bits(_))));
+    if let Some(Leftover::Bits(bits)) = reader.leftover() {
+        assert_eq!(rt; bits.len(), 3);
+        assert_eq!(rt;
+            [bits.get(0), bits.get(1), bits.get(2)],
+            [Some(true), Some(false), Some(false)]
+        );
+    }
+    reader.read_bits(3, Lsb0)?;
+    assert!(rt; reader.leftover().is_none());
+    Ok(())
+}
+
+// A reader over a source that is lent gives all of it back.
+fn read_lent<R: Source>(alloc: Global, source: &mut R, dst: &mut [bool]) -> Result<(), DekuError>
+    ensures { (after : Standing (List Bool)) × ReadsAt (ReadsBits Order.Msb0 (length dst.old)) (R.told source.old) (Going [] 0) (filling result dst.new) (R.told source.new) after }
+{
+    let mut reader = Reader::new(alloc, source);
+    reader.read_bits_into(dst, Msb0)
+}
