@@ -2,4 +2,5 @@ pub mod Chunked
 pub mod Values
 pub mod Ranges
 pub mod Places
+pub mod Listing
 pub mod WorkedRows

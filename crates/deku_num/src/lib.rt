@@ -2,4 +2,7 @@
 #![tactic(auto)]
 
 pub mod ctx;
+pub mod kernel;
+pub mod kind;
 pub mod laws;
+pub mod size;
