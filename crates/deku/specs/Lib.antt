@@ -11,3 +11,4 @@ pub use Rattle.deku_bits.specs.WriterCalls
 pub use Rattle.deku_num.specs.Numbers
 pub use Rattle.deku_num.specs.NumberLaws
 pub mod Composing
+pub mod Giving

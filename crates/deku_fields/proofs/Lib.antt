@@ -1,2 +1,3 @@
 pub mod FieldLists
 pub mod WorkedRows
+pub mod ReadingLists

@@ -8,3 +8,4 @@ pub mod Sizes
 pub mod Numbers
 pub mod NumberLaws
 pub mod Rows
+pub mod NumberCalls
