@@ -45,13 +45,14 @@ abbrev pub integer_of : Number → ℤ
 integer_of (Unsigned n) = pos n
 integer_of (Signed z) = z
 
+-- whether a number is one of a signed kind
+abbrev pub has_sign : Number → Bool
+has_sign (Unsigned n) = false
+has_sign (Signed z) = true
+
 -- a number is of a kind: it has a sign or not as the kind has, and it is in its range
 abbrev pub IsOfKind : Kind → Number → Type 0
-IsOfKind k n = (is_signed n ≡ (number_type k).signed) × InType (number_type k).signed (number_type k).bits (integer_of n)
-  where
-    is_signed : Number → Bool
-    is_signed (Unsigned n) = false
-    is_signed (Signed z) = true
+IsOfKind k n = (has_sign n ≡ (number_type k).signed) × InType (number_type k).signed (number_type k).bits (integer_of n)
 
 -- an item is written: its value is looked at, and it is written as a number
 abbrev pub WritesItem : Item → Meaning Output (Unit {0})

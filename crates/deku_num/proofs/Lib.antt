@@ -4,3 +4,4 @@ pub mod Ranges
 pub mod Places
 pub mod Listing
 pub mod WorkedRows
+pub mod FieldBits
