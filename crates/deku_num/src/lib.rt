@@ -1,6 +1,7 @@
 //! Whole numbers as fields of bits: their layouts, and what a list of bits is worth.
 #![tactic(auto)]
 
+pub mod calls;
 pub mod ctx;
 pub mod kernel;
 pub mod kind;
