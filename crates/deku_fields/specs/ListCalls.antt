@@ -1,8 +1,9 @@
 -- What the calls on lists of fields do.
-use Rattle.std.specs.Prelude.{◌≡◌, ℕ, ◌<◌, ◌≤◌, ◌^◌, ◌-◌, Bool, true, false, List, [], ◌∷◌, ◌++◌, Option, None, Some, Result, Ok, Err, codes, ℤ, pos, negsuc}
+use Rattle.std.specs.Prelude.{◌≡◌, ◌⊎◌, ℕ, ◌<◌, ◌≤◌, ◌^◌, ◌-◌, Bool, true, false, List, [], ◌∷◌, ◌++◌, Option, None, Some, Result, Ok, Err, codes, ℤ, pos, negsuc}
 use Rattle.std.specs.Global.{Vec}
 use Rattle.deku_bits.specs.declared.error.DekuError.{DekuError}
-use Rattle.deku_bits.specs.declared.error.DekuError.TheVariants.{InvalidParam}
+use Rattle.deku_bits.specs.declared.error.DekuError.TheVariants.{InvalidParam, Io}
+use Rattle.std.specs.declared.io.ErrorKind.TheVariants.{OutOfMemory}
 use Rattle.deku_bits.specs.Streams.{Stream}
 use Rattle.deku_bits.specs.Writers.{Nothing}
 use Rattle.deku_bits.specs.Standings.{Standing, Going, Output}
@@ -72,3 +73,12 @@ in_memory = record { taken = Some []; room = None; pending = Nothing }
 abbrev pub WritesWhole : Meaning Output (Unit {0}) → Result (Vec ℕ) DekuError → Type 0
 WritesWhole m (Ok v) = (out : Output) × (c : ℕ) × m false (Going in_memory 0) (Ok tt) (Going out c) × (out.taken ≡ Some v.items)
 WritesWhole m (Err e) = (u : Standing Output) × m false (Going in_memory 0) (Err e) u
+
+-- fields are read into memory that is found first, or it is refused and nothing changed
+abbrev pub ReadsVec : List Field → Meaning (Option Stream) (List Number)
+ReadsVec fs b s r u = ((b ≡ false) × (r ≡ Err (Io OutOfMemory)) × (u ≡ s)) ⊎ ReadsFields fs b s r u
+
+-- what was read, where the call succeeds
+abbrev pub items_of : Result (Vec Number) DekuError → Result (List Number) DekuError
+items_of (Ok v) = Ok v.items
+items_of (Err e) = Err e
