@@ -3,4 +3,5 @@ pub mod Values
 pub mod Ranges
 pub mod Places
 pub mod Listing
+pub mod Carrying
 pub mod WorkedRows
