@@ -9,7 +9,9 @@ ghost use Rattle.deku_num.specs.Numbers.{width, IsAllowed};
 ghost use Rattle.deku_num.specs.NumberCalls.{ReadsNumber, WritesNumber, IsLayoutRefusal, beyond, integers};
 
 use crate::ctx::{Layout, Order, Size};
-use crate::kernel::{Misfit, allowed_width, fill_signed, fill_unsigned, signed_value, unsigned_value};
+use crate::kernel::{
+    Misfit, allowed_width, fill_signed, fill_unsigned, signed_value, unsigned_value,
+};
 use crate::kind::NumberType;
 use deku_bits::device::{Sink, Source};
 use deku_bits::error::DekuError;
@@ -78,11 +80,7 @@ fn readable_width(number_type: NumberType, layout: Layout) -> Result<usize, Deku
 }
 
 // Takes as many bits as the slice is long, as the order meets them.
-fn take<R: Source>(
-    reader: &mut Reader<R>,
-    bits: &mut [bool],
-    order: Order,
-) -> Result<(), DekuError>
+fn take<R: Source>(reader: &mut Reader<R>, bits: &mut [bool], order: Order) -> Result<(), DekuError>
     ensures { Reads R.told (Takes order (length bits.old)) reader.old (filling result bits.new) reader.new }
 {
     reader.read_bits_into(bits, order)?;
@@ -112,9 +110,7 @@ pub fn write_unsigned<W: Sink>(
     let mut field = [false; 128];
     let bits = &mut field[..width];
     if !fill_unsigned(bits, value, number_type, layout) {
-        return Err(DekuError::InvalidParam(
-            "bit size of input is larger than requested size",
-        ));
+        return Err(DekuError::InvalidParam("bit size of input is larger than requested size"));
     }
     show(bits, layout.order);
     writer.write_bits_order(bits, layout.order)
@@ -145,9 +141,7 @@ pub fn write_signed<W: Sink>(
     let mut field = [false; 128];
     let bits = &mut field[..width];
     if !fill_signed(bits, value, number_type, layout) {
-        return Err(DekuError::InvalidParam(
-            "bit size of input is larger than requested size",
-        ));
+        return Err(DekuError::InvalidParam("bit size of input is larger than requested size"));
     }
     show(bits, layout.order);
     writer.write_bits_order(bits, layout.order)
