@@ -3,5 +3,13 @@ pub use Rattle.deku_bits.specs.Streams
 pub use Rattle.deku_bits.specs.Pieces
 pub use Rattle.deku_bits.specs.Writers
 pub use Rattle.deku_bits.specs.Symmetry
+pub use Rattle.deku_bits.specs.Devices
+pub use Rattle.deku_bits.specs.Standings
+pub use Rattle.deku_bits.specs.Outcomes
+pub use Rattle.deku_bits.specs.ReaderCalls
+pub use Rattle.deku_bits.specs.WriterCalls
 pub use Rattle.deku_num.specs.Numbers
 pub use Rattle.deku_num.specs.NumberLaws
+pub use Rattle.deku_num.specs.NumberCalls
+pub mod Composing
+pub mod Giving

@@ -14,20 +14,20 @@ use Rattle.deku_bits.proofs.Shown.{length-shown}
 use Rattle.deku_bits.proofs.Writing.{append_is, pending_bits-held, meets_held}
 
 -- ---- cutting in two
-emitted-append : (o : Order) (u t : List Bool) → emitted o (u ++ t) ≡ emitted o u ++ emitted o (remainder u ++ t)
+pub emitted-append : (o : Order) (u t : List Bool) → emitted o (u ++ t) ≡ emitted o u ++ emitted o (remainder u ++ t)
 emitted-append o u t = by_groups (λ u. emitted o (u ++ t) ≡ emitted o u ++ emitted o (remainder u ++ t)) refl
     (λ s p l. rw (emitted-short o s l, remainder-short s l) refl)
     (λ g s l h. ap (emitted o) (append_assoc g s t) ∙ emitted-full o g (s ++ t) l ∙ ap (λ x. group_number o g ∷ x) h
     ∙ ap₂ (λ x y. x ++ emitted o (y ++ t)) (sym (emitted-full o g s l)) (sym (remainder-full g s l)))
     u
 
-remainder-append : (u t : List Bool) → remainder (u ++ t) ≡ remainder (remainder u ++ t)
+pub remainder-append : (u t : List Bool) → remainder (u ++ t) ≡ remainder (remainder u ++ t)
 remainder-append u t = by_groups (λ u. remainder (u ++ t) ≡ remainder (remainder u ++ t)) refl
     (λ s p l. ap (λ x. remainder (x ++ t)) (sym (remainder-short s l)))
     (λ g s l h. ap remainder (append_assoc g s t) ∙ remainder-full g (s ++ t) l ∙ h ∙ ap (λ y. remainder (y ++ t)) (sym (remainder-full g s l)))
     u
 
-cut-append : (o : Order) (u t : List Bool) → cut o (u ++ t) ≡ followed (cut o u) (λ _. cut o (remainder u ++ t))
+pub cut-append : (o : Order) (u t : List Bool) → cut o (u ++ t) ≡ followed (cut o u) (λ _. cut o (remainder u ++ t))
 cut-append o u t = ap₂ (λ x y. record { bytes = x; pending = held o (facing o y) }) (emitted-append o u t) (remainder-append u t)
 
 append_none : (o : Order) (P : Pending) → append o (shown o []) P ≡ record { bytes = []; pending = P }

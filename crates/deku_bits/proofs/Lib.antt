@@ -15,3 +15,9 @@ pub mod Moving
 pub mod BitPlaces
 pub mod Overlays
 pub mod Holding
+pub mod WorkedRows
+pub mod Gives
+pub mod Pushes
+pub mod Onto
+pub mod Emits
+pub mod Lent

@@ -9,38 +9,33 @@ use Rattle.deku_bits.proofs.Groups.{chunks-full, chunks-short, by_groups}
 use Rattle.deku_bits.proofs.Parts.{cut_part}
 
 -- whole bytes, reversed byte by byte
-turned : List Bool → List Bool
-unfolding shown
+abbrev pub turned : List Bool → List Bool
 turned s = flat_map reverse (chunks s)
 
-turned-full : (g t : List Bool) → length g ≡ 8 → turned (g ++ t) ≡ reverse g ++ turned t
-unfolding turned shown
+pub turned-full : (g t : List Bool) → length g ≡ 8 → turned (g ++ t) ≡ reverse g ++ turned t
 turned-full g t l = rw (chunks-full g t l) refl
 
-turned-short : (s : List Bool) → length s < 8 → turned s ≡ reverse s
-unfolding turned shown
+pub turned-short : (s : List Bool) → length s < 8 → turned s ≡ reverse s
 turned-short [] l = refl
 turned-short (b ∷ s) l = rw (chunks-short (b ∷ s) (omega arith) l) (append-nil (reverse (b ∷ s)))
 
-length-turned : (s : List Bool) → length (turned s) ≡ length s
-unfolding shown
+pub length-turned : (s : List Bool) → length (turned s) ≡ length s
 length-turned s = by_groups (λ s. length (turned s) ≡ length s) (ap length (turned-short [] (omega arith)))
     (λ s p l. rw (turned-short s l) (length-reverse s))
     (λ g t l h. rw (turned-full g t l, length-append (reverse g) (turned t), length-reverse g, length-append g t, h) refl)
     s
 
 turned-turned : (s : List Bool) → turned (turned s) ≡ s
-unfolding shown
 turned-turned s = by_groups (λ s. turned (turned s) ≡ s) (ap turned (turned-short [] (omega arith)) ∙ turned-short [] (omega arith))
     (λ s p l. rw (turned-short s l) (turned-short (reverse s) (omega (arith, length-reverse s)) ∙ reverse-reverse s))
     (λ g t l h. rw (turned-full g t l) (turned-full (reverse g) (turned t) (length-reverse g ∙ l) ∙ ap₂ (λ x y. x ++ y) (reverse-reverse g) h))
     s
 
-shown_even : (s : List Bool) → length s % 8 ≡ 0 → shown Lsb0 s ≡ turned s
-unfolding turned shown
+pub shown_even : (s : List Bool) → length s % 8 ≡ 0 → shown Lsb0 s ≡ turned s
+unfolding shown
 shown_even s h = rw (eq-eqb (length s % 8) 0 h) refl
 
-shown_odd : (s : List Bool) → (length s % 8 ≡ 0 → ⊥) → shown Lsb0 s ≡ reverse s
+pub shown_odd : (s : List Bool) → (length s % 8 ≡ 0 → ⊥) → shown Lsb0 s ≡ reverse s
 unfolding shown
 shown_odd s h = rw (ne_eqb (length s % 8) 0 h) refl
 

@@ -11,7 +11,7 @@ use Rattle.deku_bits.proofs.Cuts.{emitted, length-remainder, laid_out-join, laid
 use Rattle.deku_bits.proofs.Shown.{length-shown, shown-shown}
 
 -- ---- one append
-append_some : (o : Order) (bits : List Bool) (P : Pending) → 0 < length bits → Meets o P → append o bits P ≡ same_append o bits (pending_bits P)
+pub append_some : (o : Order) (bits : List Bool) (P : Pending) → 0 < length bits → Meets o P → append o bits P ≡ same_append o bits (pending_bits P)
 unfolding append
 append_some o [] P p h = absurd (omega arith)
 append_some Msb0 (b ∷ s) Nothing p h = refl

@@ -8,6 +8,9 @@ pub mod Standings
 pub mod Outcomes
 pub mod Faults
 pub mod Cursors
+pub mod Rows
 pub mod Kept
 pub mod Moving
 pub mod ReaderCalls
+pub mod Pushing
+pub mod WriterCalls

@@ -5,6 +5,7 @@ ghost use Rattle.deku_bits.specs.Streams.{PeekLaw, CutLaw, SkipLaw};
 ghost use Rattle.deku_bits.specs.Pieces.{LengthLaw};
 ghost use Rattle.deku_bits.specs.Writers.{AppendLaw, CountLaw};
 ghost use Rattle.deku_bits.specs.Symmetry.{WriteLaw, ReadLaw, RewriteLaw, CallsLaw};
+ghost use Rattle.deku_bits.specs.Rows.{ReadRows, SkipRows, ShortRows, WriteRows};
 
 /// A read of a stream is a read of its normal form, where a peeked byte is put back.
 pub fn peek_law()
@@ -64,4 +65,24 @@ pub fn join_law()
 /// The first bits of a byte and those behind, as numbers.
 pub fn pack_law()
     ensures { PackLaw }
+{}
+
+/// Worked examples of reading bits.
+pub fn read_rows()
+    ensures { ReadRows }
+{}
+
+/// Worked examples of peeks and skips.
+pub fn skip_rows()
+    ensures { SkipRows }
+{}
+
+/// Worked examples of reads that find too few bits.
+pub fn short_rows()
+    ensures { ShortRows }
+{}
+
+/// Worked examples of writing bits.
+pub fn write_rows()
+    ensures { WriteRows }
 {}

@@ -7,3 +7,5 @@ pub mod device;
 pub mod error;
 pub mod laws;
 pub mod reader;
+pub mod turning;
+pub mod writer;

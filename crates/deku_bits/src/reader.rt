@@ -1,7 +1,6 @@
 //! Reading bits.
 
-ghost use Rattle.std.specs.Prelude.{◌≡◌, ◌+◌, ◌*◌, ◌≤◌, ◌++◌, [], length, take, drop, reverse, IfOk, IfErr};
-ghost use Rattle.deku_bits.specs.Bits.{shown};
+ghost use Rattle.std.specs.Prelude.{◌≡◌, ◌≤◌, [], length, IfOk, IfErr};
 ghost use Rattle.deku_bits.specs.Standings.{Going, count_of};
 ghost use Rattle.deku_bits.specs.ReaderCalls.{Reads, Takes, ReadsBits, ReadsVec, IsLeftover, filling, items_of, window_of};
 
@@ -13,6 +12,7 @@ use crate::ctx::Order;
 use crate::device::Source;
 use crate::error::DekuError;
 use crate::reader::progress::Progress;
+use crate::turning::show;
 use std::alloc::Global;
 use std::io::ErrorKind;
 
@@ -169,38 +169,6 @@ impl<R: Source> Reader<R> {
         self.read_bits_into(bits.as_mut_slice(), order)?;
         Ok(bits)
     }
-}
-
-// Shows bits that were taken in this order.
-#[tactic(auto, using(crate::proofs::Shown::shown_high))]
-fn show(bits: &mut [bool], order: Order)
-    ensures { bits.new ≡ shown order bits.old }
-{
-    match order {
-        Order::Msb0 => {}
-        Order::Lsb0 => turn(bits),
-    }
-}
-
-// Shows bits that were taken in `Lsb0`: whole bytes byte by byte, and others as one number.
-fn turn(bits: &mut [bool])
-    ensures { bits.new ≡ shown Order.Lsb0 bits.old }
-{
-    if bits.len() % 8 != 0 {
-        bits.reverse();
-        return;
-    }
-    for group in 0..bits.len() / 8 {
-        reverse_group(bits, 8 * group);
-    }
-}
-
-// Reverses the eight bits from this place on.
-fn reverse_group(bits: &mut [bool], at: usize)
-    requires { at + 8 ≤ length bits.old }
-    ensures { bits.new ≡ take at bits.old ++ (reverse (take 8 (drop at bits.old)) ++ drop (at + 8) bits.old) }
-{
-    bits[at..at + 8].reverse();
 }
 
 #[cfg(test)]

@@ -1,1 +1,4 @@
 pub mod FieldLists
+pub mod WorkedRows
+pub mod ReadingLists
+pub mod WritingLists

@@ -1,6 +1,7 @@
 //! Laws of lists of fields: each is what an empty function ensures.
 
 ghost use Rattle.deku_fields.specs.Headline.{PieceLaw, LayoutLaw, ThereLaw, BackLaw, CallsLaw};
+ghost use Rattle.deku_fields.specs.Rows.{ListRows, TurnedRows, MisfitRows};
 
 /// Fitting items have pieces, and these pieces alone.
 pub fn piece_law()
@@ -25,4 +26,19 @@ pub fn back_law()
 /// Fields may be read in several calls.
 pub fn calls_law()
     ensures { CallsLaw }
+{}
+
+/// Worked examples of lists of fields, read and written.
+pub fn list_rows()
+    ensures { ListRows }
+{}
+
+/// A worked example of a list whose order changes inside a byte.
+pub fn turned_rows()
+    ensures { TurnedRows }
+{}
+
+/// Worked examples of items that do not fit.
+pub fn misfit_rows()
+    ensures { MisfitRows }
 {}

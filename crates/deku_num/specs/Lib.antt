@@ -3,5 +3,14 @@ pub use Rattle.deku_bits.specs.Streams
 pub use Rattle.deku_bits.specs.Pieces
 pub use Rattle.deku_bits.specs.Writers
 pub use Rattle.deku_bits.specs.Symmetry
+pub use Rattle.deku_bits.specs.Devices
+pub use Rattle.deku_bits.specs.Standings
+pub use Rattle.deku_bits.specs.Outcomes
+pub use Rattle.deku_bits.specs.ReaderCalls
+pub use Rattle.deku_bits.specs.WriterCalls
+pub mod Contexts
+pub mod Sizes
 pub mod Numbers
 pub mod NumberLaws
+pub mod NumberCalls
+pub mod Rows

@@ -1,6 +1,11 @@
 //! How a whole number lies in a stream: its byte order, its bit order and its size.
 
+ghost use Rattle.std.specs.Prelude.{◌≡◌, ◌↔◌, IsTrue, option_map};
+ghost use Rattle.deku_num.specs.Sizes.{fitting};
+
+use crate::size::DekuSize;
 pub use deku_bits::ctx::Order;
+use std::str::FromStr;
 
 /// The order of a number's groups of eight bits.
 #[derive(Debug, Clone, Copy, PartialEq, Eq)]
@@ -9,6 +14,61 @@ pub enum Endian {
     Little,
     /// The first group has the highest bits.
     Big,
+}
+
+impl Endian {
+    /// Little, the order where none is given.
+    pub fn new() -> Endian
+        ensures { result ≡ Endian.Little }
+    {
+        Endian::Little
+    }
+
+    /// Whether the first group has the lowest bits.
+    pub fn is_le(self) -> bool
+        ensures { IsTrue result ↔ (self ≡ Endian.Little) }
+    {
+        matches!(self, Endian::Little)
+    }
+
+    /// Whether the first group has the highest bits.
+    pub fn is_be(self) -> bool
+        ensures { IsTrue result ↔ (self ≡ Endian.Big) }
+    {
+        matches!(self, Endian::Big)
+    }
+}
+
+/// Little.
+impl Default for Endian {
+    ghost use Rattle.deku_num.specs.declared.ctx.Endian.TheVariants.{Little};
+
+    ghost is_default = { λ endian. endian ≡ Little };
+
+    fn default() -> Endian {
+        Endian::new()
+    }
+}
+
+/// The text is neither `little` nor `big`.
+#[derive(Debug, Clone, Copy, PartialEq, Eq)]
+pub struct ParseEndianError {}
+
+/// From `little` or `big`; any other text is refused.
+impl FromStr for Endian {
+    type Err = ParseEndianError;
+
+    ghost use Rattle.deku_num.specs.Contexts.{IsEndianNamed};
+
+    ghost from_str_gives = { IsEndianNamed };
+
+    fn from_str(text: &str) -> Result<Endian, ParseEndianError> {
+        match text {
+            "little" => Ok(Endian::Little),
+            "big" => Ok(Endian::Big),
+            _ => Err(ParseEndianError {}),
+        }
+    }
 }
 
 /// How many bits a number takes.
@@ -31,4 +91,234 @@ pub struct Layout {
     pub order: Order,
     /// How many bits it takes.
     pub size: Size,
+}
+
+/// A number takes so many bytes, as the size of a context.
+#[derive(Debug, Clone, Copy, PartialEq, Eq, PartialOrd, Ord)]
+pub struct ByteSize(pub usize);
+
+/// A number takes so many bits, as the size of a context.
+#[derive(Debug, Clone, Copy, PartialEq, Eq, PartialOrd, Ord)]
+pub struct BitSize(pub usize);
+
+impl BitSize {
+    /// The bits that each value of the type takes; none where they are not known or do not fit `usize`.
+    pub fn of<T: DekuSize>() -> Option<BitSize>
+        ensures { result ≡ option_map (λ n. record { 0 = n }) (fitting T.bits) }
+    {
+        T::size_bits().map(BitSize)
+    }
+}
+
+/// What a number is read or written under: any of its byte order, its bit order and its size. Without a byte order it is little,
+/// without a bit order `Msb0`, and without a size it takes all bits of its type.
+pub trait NumberCtx: Copy {
+    ghost use Rattle.deku_num.specs.declared.ctx.Layout.{Layout};
+
+    ghost parts_of: { Self → Layout };
+
+    /// The layout that the context stands for.
+    fn parts(self) -> Layout
+        ensures { result ≡ parts_of self };
+}
+
+/// The layout itself.
+impl NumberCtx for Layout {
+    ghost parts_of = { λ c. c };
+
+    fn parts(self) -> Layout {
+        self
+    }
+}
+
+/// Little, `Msb0`, all bits.
+impl NumberCtx for () {
+    ghost use Rattle.deku_num.specs.declared.ctx.Endian.TheVariants.{Little};
+    ghost use Rattle.deku_bits.specs.declared.ctx.Order.TheVariants.{Msb0};
+    ghost use Rattle.deku_num.specs.declared.ctx.Size.TheVariants.{Whole};
+
+    ghost parts_of = { λ _. record { endian = Little; order = Msb0; size = Whole } };
+
+    fn parts(self) -> Layout {
+        Layout {
+            endian: Endian::Little,
+            order: Order::Msb0,
+            size: Size::Whole,
+        }
+    }
+}
+
+/// `Msb0`, all bits.
+impl NumberCtx for Endian {
+    ghost use Rattle.deku_bits.specs.declared.ctx.Order.TheVariants.{Msb0};
+    ghost use Rattle.deku_num.specs.declared.ctx.Size.TheVariants.{Whole};
+
+    ghost parts_of = { λ c. record { endian = c; order = Msb0; size = Whole } };
+
+    fn parts(self) -> Layout {
+        Layout {
+            endian: self,
+            order: Order::Msb0,
+            size: Size::Whole,
+        }
+    }
+}
+
+/// Little, all bits.
+impl NumberCtx for Order {
+    ghost use Rattle.deku_num.specs.declared.ctx.Endian.TheVariants.{Little};
+    ghost use Rattle.deku_num.specs.declared.ctx.Size.TheVariants.{Whole};
+
+    ghost parts_of = { λ c. record { endian = Little; order = c; size = Whole } };
+
+    fn parts(self) -> Layout {
+        Layout {
+            endian: Endian::Little,
+            order: self,
+            size: Size::Whole,
+        }
+    }
+}
+
+/// Little, `Msb0`.
+impl NumberCtx for Size {
+    ghost use Rattle.deku_num.specs.declared.ctx.Endian.TheVariants.{Little};
+    ghost use Rattle.deku_bits.specs.declared.ctx.Order.TheVariants.{Msb0};
+
+    ghost parts_of = { λ c. record { endian = Little; order = Msb0; size = c } };
+
+    fn parts(self) -> Layout {
+        Layout {
+            endian: Endian::Little,
+            order: Order::Msb0,
+            size: self,
+        }
+    }
+}
+
+/// Little, `Msb0`, so many bytes.
+impl NumberCtx for ByteSize {
+    ghost use Rattle.deku_num.specs.declared.ctx.Endian.TheVariants.{Little};
+    ghost use Rattle.deku_bits.specs.declared.ctx.Order.TheVariants.{Msb0};
+    ghost use Rattle.deku_num.specs.declared.ctx.Size.TheVariants.{Bytes};
+
+    ghost parts_of = { λ c. record { endian = Little; order = Msb0; size = Bytes c.0 } };
+
+    fn parts(self) -> Layout {
+        Layout {
+            endian: Endian::Little,
+            order: Order::Msb0,
+            size: Size::Bytes(self.0),
+        }
+    }
+}
+
+/// Little, `Msb0`, so many bits.
+impl NumberCtx for BitSize {
+    ghost use Rattle.deku_num.specs.declared.ctx.Endian.TheVariants.{Little};
+    ghost use Rattle.deku_bits.specs.declared.ctx.Order.TheVariants.{Msb0};
+    ghost use Rattle.deku_num.specs.declared.ctx.Size.TheVariants.{Bits};
+
+    ghost parts_of = { λ c. record { endian = Little; order = Msb0; size = Bits c.0 } };
+
+    fn parts(self) -> Layout {
+        Layout {
+            endian: Endian::Little,
+            order: Order::Msb0,
+            size: Size::Bits(self.0),
+        }
+    }
+}
+
+/// All bits.
+impl NumberCtx for (Endian, Order) {
+    ghost use Rattle.deku_num.specs.declared.ctx.Size.TheVariants.{Whole};
+
+    ghost parts_of = { λ c. record { endian = c.0; order = c.1; size = Whole } };
+
+    fn parts(self) -> Layout {
+        Layout {
+            endian: self.0,
+            order: self.1,
+            size: Size::Whole,
+        }
+    }
+}
+
+/// `Msb0`, so many bytes.
+impl NumberCtx for (Endian, ByteSize) {
+    ghost use Rattle.deku_bits.specs.declared.ctx.Order.TheVariants.{Msb0};
+    ghost use Rattle.deku_num.specs.declared.ctx.Size.TheVariants.{Bytes};
+
+    ghost parts_of = { λ c. record { endian = c.0; order = Msb0; size = Bytes c.1.0 } };
+
+    fn parts(self) -> Layout {
+        Layout {
+            endian: self.0,
+            order: Order::Msb0,
+            size: Size::Bytes(self.1.0),
+        }
+    }
+}
+
+/// `Msb0`, so many bits.
+impl NumberCtx for (Endian, BitSize) {
+    ghost use Rattle.deku_bits.specs.declared.ctx.Order.TheVariants.{Msb0};
+    ghost use Rattle.deku_num.specs.declared.ctx.Size.TheVariants.{Bits};
+
+    ghost parts_of = { λ c. record { endian = c.0; order = Msb0; size = Bits c.1.0 } };
+
+    fn parts(self) -> Layout {
+        Layout {
+            endian: self.0,
+            order: Order::Msb0,
+            size: Size::Bits(self.1.0),
+        }
+    }
+}
+
+/// Little, so many bits.
+impl NumberCtx for (BitSize, Order) {
+    ghost use Rattle.deku_num.specs.declared.ctx.Endian.TheVariants.{Little};
+    ghost use Rattle.deku_num.specs.declared.ctx.Size.TheVariants.{Bits};
+
+    ghost parts_of = { λ c. record { endian = Little; order = c.1; size = Bits c.0.0 } };
+
+    fn parts(self) -> Layout {
+        Layout {
+            endian: Endian::Little,
+            order: self.1,
+            size: Size::Bits(self.0.0),
+        }
+    }
+}
+
+/// So many bits.
+impl NumberCtx for (Endian, BitSize, Order) {
+    ghost use Rattle.deku_num.specs.declared.ctx.Size.TheVariants.{Bits};
+
+    ghost parts_of = { λ c. record { endian = c.0; order = c.2; size = Bits c.1.0 } };
+
+    fn parts(self) -> Layout {
+        Layout {
+            endian: self.0,
+            order: self.2,
+            size: Size::Bits(self.1.0),
+        }
+    }
+}
+
+/// So many bytes.
+impl NumberCtx for (Endian, ByteSize, Order) {
+    ghost use Rattle.deku_num.specs.declared.ctx.Size.TheVariants.{Bytes};
+
+    ghost parts_of = { λ c. record { endian = c.0; order = c.2; size = Bytes c.1.0 } };
+
+    fn parts(self) -> Layout {
+        Layout {
+            endian: self.0,
+            order: self.2,
+            size: Size::Bytes(self.1.0),
+        }
+    }
 }

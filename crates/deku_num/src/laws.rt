@@ -1,6 +1,7 @@
 //! Laws of the numbers that fields hold: each is what an empty function ensures.
 
 ghost use Rattle.deku_num.specs.NumberLaws.{FieldLaw, TypeLaw, ByteLaw, SplitLaw, GroupLaw, BitLaw};
+ghost use Rattle.deku_num.specs.Rows.{RecordRows, NumberRows, PartRows, FitRows};
 
 /// The values that fit a field are those in range, and each has one list of bits alone.
 pub fn field_law()
@@ -30,4 +31,24 @@ pub fn group_law()
 /// Each bit stands at its place in the number.
 pub fn bit_law()
     ensures { BitLaw }
+{}
+
+/// Worked examples of records of several numbers, read and written.
+pub fn record_rows()
+    ensures { RecordRows }
+{}
+
+/// Worked examples of single numbers, read and written.
+pub fn number_rows()
+    ensures { NumberRows }
+{}
+
+/// Worked examples of numbers that leave bits behind, and of an order that changes inside a byte.
+pub fn part_rows()
+    ensures { PartRows }
+{}
+
+/// Worked examples of layouts that are refused, and of values that do not fit.
+pub fn fit_rows()
+    ensures { FitRows }
 {}

@@ -2,7 +2,7 @@ use Rattle.std.proofs.Common.{◌≡◌, ◌+◌, ◌*◌, ◌%◌, ◌≤◌, �
 use Rattle.std.proofs.lemmas.List.{take_all, drop_all}
 use Rattle.deku_bits.specs.Bits.{chunks}
 use Rattle.deku_bits.proofs.Shown.{shown_whole, shown_other, turned_more}
-use Rattle.deku_bits.proofs.reader.turn.Goals as goal
+use Rattle.deku_bits.proofs.turning.turn.Goals as goal
 
 pub returns-then-bits-ne0 : goal.returns-then-bits-ne0
 returns-then-bits-ne0 c =

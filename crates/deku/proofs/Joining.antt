@@ -1,0 +1,24 @@
+-- Outcomes of one item after the other.
+use Rattle.std.proofs.Common.{◌≡◌, Bool, true, false, Result, Ok, Err, refl}
+use Rattle.deku_bits.specs.declared.error.DekuError.{DekuError}
+use Rattle.deku_bits.specs.Devices.{Health}
+use Rattle.deku_bits.specs.Standings.{Standing}
+use Rattle.deku_bits.specs.Outcomes.{Meaning, Outcome, Quiet, Broken}
+use Rattle.deku_bits.proofs.Handing.{no_ok, broken_at, meant, no_fewer_on, more_on, no_fewer_same}
+use Rattle.deku.specs.Composing.{Answer, Answered, Then, Second, First}
+
+-- the first part is refused
+pub first_refused : {A V W : Type 0} {m : Meaning A V} {k : V → Meaning A W} {s : Standing A} {f : Health} {e : DekuError} {u : Standing A} {g : Health}
+    → Outcome m s f (Err e) u g → Outcome (Then m k) s f (Err e) u g
+first_refused {e} (Quiet p q) = Quiet (First e p refl) q
+first_refused {e} (Broken a p q) = Broken (broken_at a) (First e p refl) q
+
+-- the first part answers a value, and then the second answers
+pub then_on : {A V W : Type 0} {m : Meaning A V} {k : V → Meaning A W} {s : Standing A} {f : Health} {v : V} {t : Standing A} {g : Health} {r : Result W DekuError} {u : Standing A} {h : Health}
+    → Outcome m s f (Ok v) t g → Outcome (k v) t g r u h → Outcome (Then m k) s f r u h
+then_on {f} {v} {t} {g} {h} a (Quiet p q) = let d = meant a in Quiet (Second v t d.0 p) (no_fewer_on f g h d.1 q)
+then_on {f} {v} {t} {g} {h} a (Broken z p q) = let d = meant a in Broken z (Second v t d.0 p) (more_on f g h d.1 q)
+
+-- nothing is done
+pub answered : {A V : Type 0} {v : V} {s : Standing A} {f : Health} → Outcome (Answer v) s f (Ok v) s f
+answered {f} = Quiet Answered (no_fewer_same f)

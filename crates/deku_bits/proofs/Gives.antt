@@ -1,0 +1,89 @@
+-- What a sink took over several calls, and what it declined after them.
+use Rattle.std.proofs.Common.{ℕ, ◌+◌, ◌≤◌, List, [], ◌++◌, length, refl, ◌∙◌, arith, length-append, Option, Some, None, inl, inr}
+use Rattle.std.proofs.KnownBytes.{Appends-nil, Appends-trans}
+use Rattle.std.specs.declared.io.ErrorKind.{ErrorKind}
+use Rattle.deku_bits.specs.Devices.{Health, SinkTold, NotFewer, More, NoFewerFailures, MoreFailures, Shrinks, LacksRoom, Gave}
+use Rattle.deku_bits.specs.Pushing.{GaveUp}
+
+-- ---- counts of failures
+NotFewer-same : (a : Option ℕ) → NotFewer a a
+NotFewer-same None = tt
+NotFewer-same (Some x) = omega arith
+
+NotFewer-trans : (a b c : Option ℕ) → NotFewer a b → NotFewer b c → NotFewer a c
+NotFewer-trans None b c p q = tt
+NotFewer-trans (Some x) None c p q = absurd p
+NotFewer-trans (Some x) (Some y) None p q = absurd q
+NotFewer-trans (Some x) (Some y) (Some z) p q = omega arith
+
+More-after : (a b c : Option ℕ) → NotFewer a b → More b c → More a c
+More-after None b c p q = tt
+More-after (Some x) None c p q = absurd p
+More-after (Some x) (Some y) None p q = absurd q
+More-after (Some x) (Some y) (Some z) p q = omega arith
+
+pub none_fewer : (a : Health) → NoFewerFailures a a
+none_fewer a = record { failures = NotFewer-same a.failures; lenders = refl }
+
+none_fewer-trans : (a b c : Health) → NoFewerFailures a b → NoFewerFailures b c → NoFewerFailures a c
+none_fewer-trans a b c p q = record { failures = NotFewer-trans a.failures b.failures c.failures p.failures q.failures; lenders = q.lenders ∙ p.lenders }
+
+more_after : (a b c : Health) → NoFewerFailures a b → MoreFailures b c → MoreFailures a c
+more_after a b c p q = record { failures = More-after a.failures b.failures c.failures p.failures q.failures; lenders = q.lenders ∙ p.lenders }
+
+-- ---- room
+pub Shrinks-none : (a : Option ℕ) → Shrinks a a 0
+Shrinks-none None = tt
+Shrinks-none (Some x) = omega arith
+
+pub Shrinks-trans : (a b c : Option ℕ) (m n : ℕ) → Shrinks a b m → Shrinks b c n → Shrinks a c (m + n)
+Shrinks-trans None None None m n p q = tt
+Shrinks-trans None None (Some z) m n p q = absurd q
+Shrinks-trans None (Some y) c m n p q = absurd p
+Shrinks-trans (Some x) None c m n p q = absurd p
+Shrinks-trans (Some x) (Some y) None m n p q = absurd q
+Shrinks-trans (Some x) (Some y) (Some z) m n p q = omega arith
+
+pub LacksRoom-after : (a b : Option ℕ) (m n : ℕ) (k : ErrorKind) → Shrinks a b m → LacksRoom b n k → LacksRoom a (m + n) k
+LacksRoom-after None None m n k p q = q
+LacksRoom-after None (Some y) m n k p q = absurd p
+LacksRoom-after (Some x) None m n k p q = absurd p
+LacksRoom-after (Some x) (Some y) m n k p q = (q.0, omega (arith, q.1))
+
+pub LacksRoom-more : (a : Option ℕ) (m n : ℕ) (k : ErrorKind) → m ≤ n → LacksRoom a m k → LacksRoom a n k
+LacksRoom-more None m n k l p = p
+LacksRoom-more (Some x) m n k l p = (p.0, omega (arith, p.1))
+
+-- ---- transfers
+pub Gave-nil : (a : SinkTold) → Gave a a []
+Gave-nil a = record { taken = Appends-nil a.taken; room = Shrinks-none a.room; health = none_fewer a.health }
+
+pub Gave-trans : (a b c : SinkTold) (xs ys : List ℕ) → Gave a b xs → Gave b c ys → Gave a c (xs ++ ys)
+Gave-trans a b c xs ys p q = record {
+  taken = Appends-trans a.taken b.taken c.taken xs ys p.taken q.taken;
+  room = rw length-append (Shrinks-trans a.room b.room c.room (length xs) (length ys) p.room q.room);
+  health = none_fewer-trans a.health b.health c.health p.health q.health;
+}
+
+-- bytes were taken, and then not all of n bytes
+pub gave_up-after : (a b c : SinkTold) (xs : List ℕ) (n : ℕ) (k : ErrorKind) → Gave a b xs → GaveUp b c n k → GaveUp a c (length xs + n) k
+gave_up-after a b c xs n k p q = record {
+  some = omega (arith, q.some);
+  declined = record {
+    cause = elim q.declined.cause [
+      | inl r ↦ inl (more_after a.health b.health c.health p.health r)
+      | inr r ↦ inr (LacksRoom-after a.room b.room (length xs) n k p.room r)
+    ];
+    health = none_fewer-trans a.health b.health c.health p.health q.declined.health;
+  };
+}
+
+-- where more bytes were to be taken
+pub gave_up-more : (a b : SinkTold) (m n : ℕ) (k : ErrorKind) → m ≤ n → GaveUp a b m k → GaveUp a b n k
+gave_up-more a b m n k l q = record {
+  some = omega (arith, q.some);
+  declined = record {
+    cause = elim q.declined.cause [ inl r ↦ inl r | inr r ↦ inr (LacksRoom-more a.room m n k l r) ];
+    health = q.declined.health;
+  };
+}

@@ -1,0 +1,255 @@
+//! Bits written to a sink, one call at a time.
+
+ghost use Rattle.std.specs.Prelude.{◌≡◌, ◌+◌, ◌/◌, ◌≤◌, length, IfOk, IfErr};
+ghost use Rattle.std.specs.declared.io.ErrorKind.TheVariants.{OutOfMemory};
+ghost use Rattle.deku_bits.specs.declared.ctx.Order.TheVariants.{Msb0};
+ghost use Rattle.deku_bits.specs.declared.error.DekuError.TheVariants.{Io};
+ghost use Rattle.deku_bits.specs.Writers.{Nothing, pending_bits};
+ghost use Rattle.deku_bits.specs.Standings.{Going, count_of};
+ghost use Rattle.deku_bits.specs.WriterCalls.{Writes, WritesAt, WritesBits, Finalizes, pending_of, order_of};
+
+mod held;
+mod pushing;
+mod way;
+
+use self::held::Held;
+use self::pushing::push_onto;
+use crate::bounded::BoundedBitVec;
+use crate::ctx::Order;
+use crate::device::Sink;
+use crate::error::{DekuError, Fault};
+use std::alloc::Global;
+use std::io::ErrorKind;
+use std::marker::Model;
+
+/// Gives whole bytes to a sink, and keeps the bits that do not fill one: at most seven, of one order.
+///
+/// Bits in `Msb0` fill a byte from its highest bit down, and bits in `Lsb0` from its lowest bit up. A fault of the sink stops the
+/// writer: it is kept, nothing is pending, and each later write answers the fault again. What the sink took of the failed call is not known.
+///
+/// ```text
+/// let mut writer = Writer::new(Cursor::new(Vec::new(alloc)));
+/// writer.write_bits(&[true, false, true])?;          // 1, 0, 1 are pending
+/// writer.finalize()?;                                // the byte 0xA0 is given to the sink
+/// writer.bits_written()                              // 8
+/// writer.into_inner().into_inner()                   // [0xA0]
+/// ```
+#[derive(Drop)]
+pub struct Writer<W> {
+    pub(crate) sink: W,
+    pub(crate) state: Progress,
+}
+
+/// How far a writer has come.
+#[derive(Drop)]
+pub struct Progress {
+    // The pending bits, in the order in which they go out.
+    held: Held,
+    order: Order,
+    bits_written: usize,
+    fault: Option<Fault>,
+}
+
+impl Model for Progress {
+    ghost use Rattle.std.specs.Prelude.{◌<◌, length};
+    ghost use Rattle.deku_bits.specs.Writers.{Pending};
+    ghost use Rattle.deku_bits.specs.Standings.{Standing};
+    ghost use Rattle.deku_bits.specs.Pushing.{standing_of};
+
+    ghost Value = { Standing Pending };
+
+    ghost view = { λ a. standing_of a.order a.held a.bits_written a.fault };
+
+    ghost invariant = { λ a. length a.held < 8 };
+}
+
+impl<W: Sink> Writer<W> {
+    /// A writer onto this sink, with nothing pending and no bit written. Nothing is given to the sink.
+    pub fn new(inner: W) -> Writer<W>
+        ensures sink { result.sink ≡ inner }
+        ensures state { result.state ≡ Going Nothing 0 }
+    {
+        Writer {
+            sink: inner,
+            state: Progress::new(),
+        }
+    }
+
+    /// The sink, with the bytes that it was given. Pending bits are lost: call `finalize` first.
+    pub fn into_inner(self) -> W
+        ensures { result ≡ self.sink }
+    {
+        self.sink
+    }
+
+    /// How many bits were given to the sink: eight for each byte. Pending bits are not counted, nor are those of a write that failed.
+    pub fn bits_written(&self) -> usize
+        ensures { result ≡ count_of self.now.state }
+    {
+        self.state.bits_written()
+    }
+
+    /// The pending bits, highest first, and their order: at most seven, and none in `Msb0` where nothing is pending or the writer has stopped.
+    ///
+    /// ```text
+    /// writer.write_bits_order(&[true, true, false], Order::Lsb0)?;
+    /// writer.leftover()                                  // 1, 1, 0 in `Lsb0`
+    /// ```
+    pub fn leftover(&self) -> (BoundedBitVec<1>, Order)
+        ensures bits { result.0 ≡ pending_bits (pending_of self.now.state) }
+        ensures order { result.1 ≡ order_of (pending_of self.now.state) }
+    {
+        let bits = self.state.pending();
+        (
+            BoundedBitVec::from_bits(bits.as_slice()),
+            self.state.pending_order(),
+        )
+    }
+
+    /// The pending bits, highest first: at most seven, and none where the writer has stopped.
+    ///
+    /// Fails with `Io(OutOfMemory)` where no memory is found for them.
+    ///
+    /// ```text
+    /// writer.write_bits_order(&[true, true, false], Order::Lsb0)?;
+    /// writer.rest(alloc)?                                // [true, true, false]
+    /// ```
+    pub fn rest(&self, alloc: Global) -> Result<Vec<bool>, DekuError>
+        ensures bits { IfOk result (λ v. v.items ≡ pending_bits (pending_of self.now.state)) }
+        ensures memory { IfErr result (λ e. e ≡ Io OutOfMemory) }
+    {
+        let pending = self.state.pending();
+        match Vec::from_slice(alloc, pending.as_slice()) {
+            Ok(bits) => Ok(bits),
+            Err(_) => Err(DekuError::Io(ErrorKind::OutOfMemory)),
+        }
+    }
+
+    /// Writes bits, highest first, in an order. Each byte that is filled is given to the sink, and counts eight bits.
+    ///
+    /// In `Msb0` they follow the pending bits. In `Lsb0` they go above them, the last bit first, or, where the list is whole bytes, byte by
+    /// byte, the last bit of each first. `Lsb0` bits go into pending `Msb0` bits, and `Msb0` bits above pending `Lsb0` bits. No bits change nothing.
+    ///
+    /// Fails, in this order: with the fault that stopped the writer; with `InvalidParam` where the count would pass `usize`, and nothing changes;
+    /// with `Io` of the sink's fault, as `WriteZero` where it lacks room. The fault is kept, nothing is pending then, and the count stays.
+    ///
+    /// ```text
+    /// writer.write_bits_order(&[true, false, true], Order::Lsb0)?;
+    /// writer.finalize()?;                                // the byte 0x05
+    /// ```
+    pub fn write_bits_order(&mut self, bits: &[bool], order: Order) -> Result<(), DekuError>
+        ensures { Writes W.told (WritesBits order bits.now) self.old result self.new }
+    {
+        self.state.write(&mut self.sink, bits, order)
+    }
+
+    /// Writes bits in `Msb0`, as `write_bits_order` does.
+    pub fn write_bits(&mut self, bits: &[bool]) -> Result<(), DekuError>
+        ensures { Writes W.told (WritesBits Msb0 bits.now) self.old result self.new }
+    {
+        self.write_bits_order(bits, Order::Msb0)
+    }
+
+    /// Fills pending bits with zeros to a byte, behind `Msb0` bits and above `Lsb0` bits, and gives it to the sink. It counts eight bits. Where
+    /// nothing is pending it changes nothing.
+    ///
+    /// Fails as `write_bits_order` does, and leaves the same.
+    pub fn finalize(&mut self) -> Result<(), DekuError>
+        ensures { Writes W.told Finalizes self.old result self.new }
+    {
+        self.state.finalize(&mut self.sink)
+    }
+}
+
+impl Progress {
+    pub(crate) fn new() -> Progress
+        ensures { result ≡ Going Nothing 0 }
+    {
+        Progress {
+            held: Held::new(),
+            order: Order::Msb0,
+            bits_written: 0,
+            fault: None,
+        }
+    }
+
+    fn bits_written(&self) -> usize
+        ensures { result ≡ count_of self.now }
+    {
+        self.bits_written
+    }
+
+    // The pending bits, highest first.
+    fn pending(&self) -> Held
+        ensures { result ≡ pending_bits (pending_of self.now) }
+    {
+        if self.fault.is_some() {
+            return Held::new();
+        }
+        let mut pending = self.held.copy();
+        match self.order {
+            Order::Msb0 => {}
+            Order::Lsb0 => pending.turn(),
+        }
+        pending
+    }
+
+    // The order of the pending bits.
+    fn pending_order(&self) -> Order
+        ensures { result ≡ order_of (pending_of self.now) }
+    {
+        if self.fault.is_some() || self.held.len() == 0 {
+            return Order::Msb0;
+        }
+        self.order
+    }
+
+    // Writes the bits to this sink.
+    fn write<W: Sink>(&mut self, sink: &mut W, bits: &[bool], order: Order) -> Result<(), DekuError>
+        ensures { WritesAt (WritesBits order bits.now) (W.told sink.old) self.old result (W.told sink.new) self.new }
+    {
+        if let Some(fault) = self.fault {
+            return Err(fault.error());
+        }
+        if bits.is_empty() {
+            return Ok(());
+        }
+        let bytes = whole_bytes(self.held.len(), bits.len());
+        if bytes > (usize::MAX - self.bits_written) / 8 {
+            return Err(DekuError::InvalidParam("count past usize"));
+        }
+        match push_onto(sink, &mut self.held, self.order, order, bits) {
+            Ok(()) => {
+                self.order = order;
+                self.bits_written += 8 * bytes;
+                Ok(())
+            }
+            Err(kind) => {
+                self.held.clear();
+                self.fault = Some(Fault::Io(kind));
+                Err(DekuError::Io(kind))
+            }
+        }
+    }
+
+    // Writes as many zeros as the pending bits lack to a byte.
+    fn finalize<W: Sink>(&mut self, sink: &mut W) -> Result<(), DekuError>
+        ensures { WritesAt Finalizes (W.told sink.old) self.old result (W.told sink.new) self.new }
+    {
+        let zeros = [false; 8];
+        let lacking = (8 - self.held.len()) % 8;
+        let order = self.order;
+        self.write(sink, &zeros[..lacking], order)
+    }
+}
+
+// How many whole bytes so many held bits and bits more make.
+fn whole_bytes(held: usize, more: usize) -> usize
+    requires { held ≤ 8 }
+    ensures { result ≡ (held + more) / 8 }
+{
+    more / 8 + (held + more % 8) / 8
+}
+
+#[cfg(test)]
+mod tests;

@@ -1,0 +1,116 @@
+-- Worked examples of lists of fields, as theorems that compute.
+use Rattle.std.specs.Prelude.{ℕ, ◌≡◌, List, [], ◌∷◌, pos, neg_ℤ, All}
+use Rattle.deku_bits.specs.Bits.{bits_of}
+use Rattle.deku_bits.specs.Streams.{Stream, fresh}
+use Rattle.deku_bits.specs.Pieces.{Piece}
+use Rattle.deku_bits.specs.Symmetry.{packed}
+use Rattle.deku_bits.specs.Rows.{stream}
+use Rattle.deku_num.specs.declared.ctx.Size.TheVariants.{Whole, Bits, Bytes}
+use Rattle.deku_num.specs.declared.ctx.Layout.{Layout}
+use Rattle.deku_num.specs.Rows.{big_msb, big_lsb, little_msb, little_lsb}
+use Rattle.deku_fields.specs.declared.list.Kind.{Kind}
+use Rattle.deku_fields.specs.declared.list.Kind.TheVariants.{U8, U16, U32, U128, I8, I16, I32}
+use Rattle.deku_fields.specs.declared.list.Number.{Number}
+use Rattle.deku_fields.specs.declared.list.Number.TheVariants.{Unsigned, Signed}
+use Rattle.deku_fields.specs.declared.list.Item.{Item}
+use Rattle.deku_fields.specs.Items.{IsFitting, ArePieces, LaysOut, AlignedFields, Reads, fields_of, values_of}
+
+-- a field with its value
+abbrev pub item : Kind → Layout → Number → Item
+item kind layout value = record { field = record { kind = kind; layout = layout }; value = value }
+
+-- the pieces of items, written one after the other and padded once, are bytes
+pub record WrittenAs (items : List Item) (bytes : List ℕ) : Type 0 where
+  pub pieces : List Piece
+  pub are : ArePieces items pieces
+  pub is : bytes ≡ packed pieces
+
+-- Aligned fitting items lay out the bytes and are written as them. The fields read the values from the bytes, and touch each byte.
+pub record BothWays (items : List Item) (bytes : List ℕ) : Type 0 where
+  pub fitting : All IsFitting items
+  pub aligned : AlignedFields (fields_of items)
+  pub laid : LaysOut items bytes
+  pub written : WrittenAs items bytes
+  pub rest : Stream
+  pub read : Reads (fields_of items) (fresh bytes) (values_of items) rest
+  pub touched : rest.bytes ≡ []
+
+-- three bits in `Msb0`, then nine in `Lsb0`: the order changes inside a byte
+abbrev pub turned_items : List Item
+turned_items = item U8 (big_msb (Bits 3)) (Unsigned 5) ∷ item U16 (little_lsb (Bits 9)) (Unsigned 257) ∷ []
+
+-- Lists of items, both ways.
+pub record ListRows : Type 0 where
+  -- no items
+  pub nothing : BothWays [] []
+  -- three bits
+  pub three_bits : BothWays (item U8 (big_msb (Bits 3)) (Unsigned 5) ∷ []) (0xA0 ∷ [])
+  -- three bits with a sign
+  pub three_signed : BothWays (item I8 (little_msb (Bits 3)) (Signed (neg_ℤ (pos 3))) ∷ []) (0xA0 ∷ [])
+  -- twelve bits with a sign, low group first
+  pub twelve_signed : BothWays (item I16 (little_msb (Bits 12)) (Signed (neg_ℤ (pos 2))) ∷ []) (0xFE ∷ 0xF0 ∷ [])
+  -- two bytes with a sign
+  pub minus_two : BothWays (item I32 (big_msb (Bytes 2)) (Signed (neg_ℤ (pos 2))) ∷ []) (0xFF ∷ 0xFE ∷ [])
+  -- thirteen bits in `Lsb0`, high group first
+  pub thirteen_bits : BothWays (item U16 (big_lsb (Bits 13)) (Unsigned 0x1001) ∷ []) (0x10 ∷ 0x01 ∷ [])
+  -- the greatest such number
+  pub thirteen_greatest : BothWays (item U16 (big_lsb (Bits 13)) (Unsigned 0xFF1F) ∷ []) (0xFF ∷ 0x1F ∷ [])
+  -- two halves of a byte and two bytes
+  pub halves_and_word : BothWays
+      (item U8 (big_msb (Bits 4)) (Unsigned 6) ∷ item U8 (big_msb (Bits 4)) (Unsigned 9) ∷ item U16 (big_msb Whole) (Unsigned 49406) ∷ [])
+      (0x69 ∷ 0xC0 ∷ 0xFE ∷ [])
+  -- thirteen and three bits in `Lsb0`, high group first
+  pub thirteen_and_three : BothWays
+      (item U16 (big_lsb (Bits 13)) (Unsigned 65311) ∷ item U8 (big_lsb (Bits 3)) (Unsigned 7) ∷ [])
+      (0xFF ∷ 0xFF ∷ [])
+  -- two bytes between five bits and three
+  pub word_inside : BothWays
+      (item U8 (little_lsb (Bits 5)) (Unsigned 1) ∷ item U16 (little_lsb Whole) (Unsigned 37285) ∷ item U8 (little_lsb (Bits 3)) (Unsigned 0) ∷ [])
+      (0xA1 ∷ 0x34 ∷ 0x12 ∷ [])
+  -- sixteen bytes behind three bits
+  pub wide_inside : BothWays
+      (item U8 (little_lsb (Bits 3)) (Unsigned 5) ∷ item U128 (little_lsb Whole) (Unsigned 170141183460469231731687303715884105729) ∷ [])
+      (0x0D ∷ 0x00 ∷ 0x00 ∷ 0x00 ∷ 0x00 ∷ 0x00 ∷ 0x00 ∷ 0x00 ∷ 0x00 ∷ 0x00 ∷ 0x00 ∷ 0x00 ∷ 0x00 ∷ 0x00 ∷ 0x00 ∷ 0x00 ∷ 0x04 ∷ [])
+  -- an order that changes after two bytes
+  pub two_orders : BothWays
+      (item U16 (big_lsb (Bits 13)) (Unsigned 0x1001) ∷ item U8 (big_lsb (Bits 3)) (Unsigned 4) ∷ item U8 (big_msb Whole) (Unsigned 0xAB)
+      ∷ item U8 (big_msb (Bits 1)) (Unsigned 1) ∷ item U8 (big_msb (Bits 1)) (Unsigned 0) ∷ item U8 (big_msb (Bits 1)) (Unsigned 0)
+      ∷ item U8 (big_msb (Bits 5)) (Unsigned 22) ∷ [])
+      (0x10 ∷ 0x81 ∷ 0xAB ∷ 0x96 ∷ [])
+  -- a frame with a token
+  pub token_frame : BothWays
+      (item U8 (big_msb (Bits 4)) (Unsigned 1) ∷ item U8 (big_msb (Bits 4)) (Unsigned 1) ∷ item U16 (big_msb Whole) (Unsigned 0xBEEF) ∷ [])
+      (0x11 ∷ 0xBE ∷ 0xEF ∷ [])
+  -- a frame with five and eleven bits
+  pub pair_frame : BothWays
+      (item U8 (big_msb (Bits 4)) (Unsigned 3) ∷ item U8 (big_msb (Bits 4)) (Unsigned 1)
+      ∷ item U8 (big_msb (Bits 5)) (Unsigned 5) ∷ item U16 (big_msb (Bits 11)) (Unsigned 0x2A7) ∷ [])
+      (0x31 ∷ 0x2A ∷ 0xA7 ∷ [])
+
+-- A list whose order changes inside a byte has no round trip.
+pub record TurnedRows : Type 0 where
+  -- it is not aligned
+  pub unaligned : AlignedFields (fields_of turned_items) → ⊥
+  -- it is written
+  pub written : WrittenAs turned_items (0xB0 ∷ 0x01 ∷ [])
+  -- other numbers are read from the bytes
+  pub read : Reads (fields_of turned_items) (fresh (0xB0 ∷ 0x01 ∷ [])) (Unsigned 5 ∷ Unsigned 48 ∷ []) (stream (bits_of 4 0b0000) [])
+
+-- Items that do not fit.
+pub record MisfitRows : Type 0 where
+  -- 16 in four bits
+  pub four_bits : IsFitting (item U8 (big_msb (Bits 4)) (Unsigned 16)) → ⊥
+  -- 300 in a byte
+  pub one_byte : IsFitting (item U8 (big_msb Whole) (Unsigned 300)) → ⊥
+  -- 4 in three bits with a sign
+  pub three_signed : IsFitting (item I8 (little_msb (Bits 3)) (Signed (pos 4))) → ⊥
+  -- 0x1020 in thirteen bits: the last group has five, and 0x20 needs six
+  pub thirteen_bits : IsFitting (item U16 (big_lsb (Bits 13)) (Unsigned 0x1020)) → ⊥
+  -- a number of four bytes in two bytes
+  pub two_bytes : IsFitting (item U32 (big_msb (Bytes 2)) (Unsigned 16909060)) → ⊥
+  -- a number with a sign for a kind without
+  pub other_number : IsFitting (item U8 (little_msb Whole) (Signed (pos 5))) → ⊥
+  -- nine bits of a byte
+  pub nine_bits : IsFitting (item U8 (little_msb (Bits 9)) (Unsigned 0)) → ⊥
+  -- thirteen bits in `Lsb0` with a sign, high group first
+  pub signed_thirteen : IsFitting (item I16 (big_lsb (Bits 13)) (Signed (pos 0))) → ⊥

@@ -1,0 +1,58 @@
+-- What a transfer of a field's bits says of its number.
+use Rattle.std.proofs.Common.{◌≡◌, ℕ, ◌%◌, ◌^◌, ◌<◌, Bool, true, false, List, length, Option, Result, Ok, Err, ℤ, pos, sym, ◌∙◌, ap, subst}
+use Rattle.deku_bits.specs.declared.ctx.Order.{Order}
+use Rattle.deku_bits.specs.declared.error.DekuError.{DekuError}
+use Rattle.deku_bits.specs.Bits.{shown}
+use Rattle.deku_bits.specs.Streams.{Stream}
+use Rattle.deku_bits.specs.Devices.{Health}
+use Rattle.deku_bits.specs.Standings.{Standing, Output}
+use Rattle.deku_bits.specs.Outcomes.{Outcome, Quiet, Broken, Mapped, Value, Refusal}
+use Rattle.deku_bits.specs.ReaderCalls.{Takes, ReadsBits}
+use Rattle.deku_bits.specs.WriterCalls.{WritesBits}
+use Rattle.deku_bits.proofs.Shown.{shown-shown}
+use Rattle.deku_bits.proofs.Handing.{no_ok, mapped_ok, mapped_err, weaker}
+use Rattle.deku_num.specs.declared.ctx.Layout.{Layout}
+use Rattle.deku_num.specs.NumberLaws.{InType}
+use Rattle.deku_num.specs.Numbers.{NumberType, width, value, IsAllowed, IsListFor}
+use Rattle.deku_num.specs.NumberCalls.{Passed, ReadsNumber, WritesNumber}
+use Rattle.deku_num.proofs.Ranges.{type_law}
+
+-- bits that are shown, turned back
+pub turned_back : (o : Order) (n : ℕ) {s : Standing (Option Stream)} {f : Health} {bits : List Bool} {u : Standing (Option Stream)} {g : Health}
+    → Outcome (ReadsBits o n) s f (Ok bits) u g → Outcome (Takes o n) s f (Ok (shown o bits)) u g
+turned_back o n {s} {f} {bits} {u} {g} (Quiet (Value v p e) q) =
+    let same : bits ≡ shown o v = cc in
+    Quiet (subst (λ x. Takes o n false s (Ok x) u) (sym (ap (shown o) same ∙ shown-shown o v)) p) q
+turned_back o n (Quiet (Refusal d p e) q) = absurd (cc)
+turned_back o n (Broken a p q) = absurd (no_ok a)
+
+-- the bits of a field were taken
+pub number_read : (t : NumberType) (l : Layout) (n : ℕ) {s : Standing (Option Stream)} {f : Health} {bits : List Bool} {u : Standing (Option Stream)} {g : Health}
+    → IsAllowed t l → Outcome (Takes l.order n) s f (Ok bits) u g → n ≡ width t l → Outcome (ReadsNumber t l) s f (Ok (value t l bits)) u g
+number_read t l n {s} {f} {bits} {u} {g} ok o w =
+    weaker (Mapped (value t l) (Takes l.order (width t l))) (ReadsNumber t l) s f (Ok (value t l bits)) u g (λ b m. Passed (ok, m))
+    (mapped_ok (value t l) (subst (λ k. Outcome (Takes l.order k) s f (Ok bits) u g) w o))
+
+-- they were refused
+pub number_refused : (t : NumberType) (l : Layout) (n : ℕ) {s : Standing (Option Stream)} {f : Health} {e : DekuError} {u : Standing (Option Stream)} {g : Health}
+    → IsAllowed t l → Outcome (Takes l.order n) s f (Err e) u g → n ≡ width t l → Outcome (ReadsNumber t l) s f (Err e) u g
+number_refused t l n {s} {f} {e} {u} {g} ok o w =
+    weaker (Mapped (value t l) (Takes l.order (width t l))) (ReadsNumber t l) s f (Err e) u g (λ b m. Passed (ok, m))
+    (mapped_err (value t l) (subst (λ k. Outcome (Takes l.order k) s f (Err e) u g) w o))
+
+-- the list of a value was written
+pub number_written : (t : NumberType) (l : Layout) (v : ℤ) (bits shows : List Bool) {s : Standing Output} {f : Health} {r : Result (Unit {0}) DekuError} {u : Standing Output} {g : Health}
+    → IsAllowed t l → IsListFor t l v bits → shows ≡ shown l.order bits → Outcome (WritesBits l.order shows) s f r u g → Outcome (WritesNumber t l v) s f r u g
+number_written t l v bits shows {s} {f} {r} {u} {g} ok list e o =
+    weaker (WritesBits l.order (shown l.order bits)) (WritesNumber t l v) s f r u g (λ b m. Passed (Passed (ok, (bits, list, m))))
+    (subst (λ x. Outcome (WritesBits l.order x) s f r u g) e o)
+
+-- ---- what is read is of the type
+pub signed_in_type : (t : NumberType) (l : Layout) (s : List Bool) (v : ℤ) → t.signed ≡ true → IsAllowed t l → length s ≡ width t l → v ≡ value t l s → t.bits % 8 ≡ 0 → InType true t.bits v
+signed_in_type t l s v g ok w e d = subst (λ x. InType true t.bits x) (sym e) (subst (λ b. InType b t.bits (value t l s)) g (type_law t l d ok s w))
+
+pub unsigned_in_type : (t : NumberType) (l : Layout) (s : List Bool) (v : ℕ) → t.signed ≡ false → IsAllowed t l → length s ≡ width t l → pos v ≡ value t l s → t.bits % 8 ≡ 0 → v < 2 ^ t.bits
+unsigned_in_type t l s v g ok w e d =
+    let r = subst (λ x. InType false t.bits x) (sym e) (subst (λ b. InType b t.bits (value t l s)) g (type_law t l d ok s w)) in
+    let same : v ≡ r.0 = cc (r.1) in
+    rw same r.2

@@ -1,0 +1,117 @@
+-- The list that is written for a value: its number, and where there is one.
+use Rattle.std.proofs.Common.{pos, negsuc, ℕ, zero, suc, ◌+◌, ◌*◌, ◌-◌, ◌%◌, ◌^◌, ◌<◌, ◌≤◌, ◌≡◌, Bool, true, false, cond, List, length, ℤ, refl, ap, ap₂, sym, ◌∙◌, arith, subst, pow-suc, ◌-ℤ◌, ⊎_elim, mod-eq_of_lt, mod-lt}
+use Rattle.std.proofs.lemmas.Nat.{pow_pos, pow-add}
+use Rattle.std.proofs.lemmas.Int.{ints}
+use Rattle.std.proofs.lemmas.Bool.{cases_lt}
+use native.Mathlib.Nat.{add-mul-mod_self_left}
+use Rattle.deku_num.specs.declared.ctx.Layout.{Layout}
+use Rattle.deku_num.specs.declared.ctx.Size.{Size}
+use Rattle.deku_num.specs.declared.ctx.Size.TheVariants.{Whole, Bits, Bytes}
+use Rattle.deku_num.specs.Numbers.{NumberType, number, with_sign, sized_width, width, value, IsAllowed, IsListWhere, IsListFor, residue, cuts}
+use Rattle.deku_num.proofs.Values.{signed_low, signed_high, with_sign-signed}
+use Rattle.deku_num.proofs.Ranges.{signed_below, byte_law}
+
+-- the n lowest bits, all set
+pub ones : (n : ℕ) → n ≤ 128 → (2 ^ 128 - 1) % 2 ^ n ≡ 2 ^ n - 1
+ones n h =
+    let M : ℕ = 2 ^ n in
+    let K : ℕ = 2 ^ (128 - n) in
+    let e : n + (128 - n) ≡ 128 = omega arith in
+    let all : 2 ^ 128 ≡ M * K = ap (λ x. 2 ^ x) (sym e) ∙ pow-add 2 n (128 - n) in
+    let p : 0 < M = pow_pos n in
+    let q : 0 < K = pow_pos (128 - n) in
+    ap (λ x. x % M) (ap (λ x. x - 1) all ∙ parts M K p q) ∙ add-mul-mod_self_left (M - 1) M (K - 1) ∙ mod-eq_of_lt (let l : M - 1 < M = omega arith in l)
+  where
+    more : (M k : ℕ) → 0 < M → M * suc k - 1 ≡ (M - 1) + M * k
+    more M k p = omega arith
+
+    parts : (M K : ℕ) → 0 < M → 0 < K → M * K - 1 ≡ (M - 1) + M * (K - 1)
+    parts M zero p q = absurd (omega arith)
+    parts M (suc k) p q =
+        let e : suc k - 1 ≡ k = omega arith in
+        rw e (more M k p)
+
+-- ---- a value modulo two to the power of n
+pub residue-lt : (v : ℤ) (n : ℕ) → residue v n < 2 ^ n
+residue-lt (pos m) n = mod-lt m (pow_pos n)
+residue-lt (negsuc m) n = let p : 0 < 2 ^ n = pow_pos n in omega arith
+
+below_zero : (m T : ℕ) → m < T → pos m -ℤ pos T ≡ negsuc (T - 1 - m)
+below_zero m T h = omega (arith, ints)
+
+-- of a number of n bits in two's complement it is the number
+pub residue-with_sign : (n m : ℕ) → m < 2 ^ n → residue (with_sign true n m) n ≡ m
+residue-with_sign zero m h = mod-eq_of_lt h
+residue-with_sign (suc k) m h = ⊎_elim
+    (λ (l : m < 2 ^ k). ap (λ v. residue v (suc k)) (with_sign-signed k m ∙ signed_low (2 ^ k) m l) ∙ mod-eq_of_lt h)
+    (λ (l : 2 ^ k ≤ m).
+    let T : ℕ = 2 ^ suc k in
+    let w : 2 ^ k * 2 ≡ T = sym (pow-suc 2 k) in
+    let low : T - 1 - m < T = omega arith in
+    let e : with_sign true (suc k) m ≡ negsuc (T - 1 - m) =
+    with_sign-signed k m ∙ signed_high (2 ^ k) m l ∙ ap (λ x. pos m -ℤ pos x) w ∙ below_zero m T h in
+    let r : (T - 1 - m) % T ≡ T - 1 - m = mod-eq_of_lt low in
+    ap (λ v. residue v (suc k)) e ∙ ap (λ x. T - 1 - x) r ∙ omega arith)
+    (cases_lt m (2 ^ k))
+
+-- ---- the list of a value
+-- a byte size is whole bytes
+pub cut_width : (t : NumberType) (z : Size) → cuts z ≡ true → sized_width t z % 8 ≡ 0
+cut_width t Whole e = cc
+cut_width t (Bits n) e = cc
+cut_width t (Bytes n) e = either t.one_byte
+  where
+    either : (b : Bool) → cond b 8 (8 * n) % 8 ≡ 0
+    either true = refl
+    either false = omega arith
+
+-- what a list has to be where values are cut, and where they are not
+pub where_cut : (b c : Bool) (t : NumberType) (l : Layout) (v : ℤ) (s : List Bool) → b ≡ c → IsListWhere b t l v s → IsListWhere c t l v s
+where_cut b c t l v s e = subst (λ x. IsListWhere x t l v s) e
+
+-- the number of a list that is written for a signed value
+signed_number : (b : Bool) (t : NumberType) (l : Layout) (v : ℤ) (s : List Bool) → IsAllowed t l → t.signed ≡ true → IsListWhere b t l v s
+    → (length s ≡ width t l) × (number l.endian l.order s ≡ residue v (width t l))
+unfolding value
+signed_number true t l v s ok g h = (h.wide, h.worth)
+signed_number false t l v s ok g h =
+    let n : ℕ = length s in
+    let m : ℕ = number l.endian l.order s in
+    let e : with_sign true n m ≡ v = ap (λ x. with_sign x n m) (sym g) ∙ h.worth in (
+      h.wide,
+      sym (residue-with_sign n m (signed_below t l s ok h.wide g)) ∙ ap₂ (λ x k. residue x k) e h.wide,
+    )
+
+pub signed_listed : (t : NumberType) (l : Layout) (v : ℤ) (s : List Bool) → IsAllowed t l → t.signed ≡ true → IsListFor t l v s
+    → (length s ≡ width t l) × (number l.endian l.order s ≡ residue v (width t l))
+signed_listed t l v s = signed_number (cuts l.size) t l v s
+
+-- the number of the list that is written for an unsigned value
+abbrev pub number_for : Bool → ℕ → ℕ → ℕ
+number_for b v n = cond b (v % 2 ^ n) v
+
+unsigned_worth : (b : Bool) (n m : ℕ) → b ≡ false → with_sign b n m ≡ pos m
+unsigned_worth b n m e = ap (λ x. with_sign x n m) e
+
+pub unsigned_listed : (b : Bool) (t : NumberType) (l : Layout) (v : ℕ) (s : List Bool) → t.signed ≡ false → IsListWhere b t l (pos v) s
+    → (length s ≡ width t l) × (number l.endian l.order s ≡ number_for b v (width t l))
+unfolding value
+unsigned_listed true t l v s g h = (h.wide, h.worth)
+unsigned_listed false t l v s g h =
+    let e : pos (number l.endian l.order s) ≡ pos v = sym (unsigned_worth t.signed (length s) (number l.endian l.order s) g) ∙ h.worth in
+    (h.wide, cc)
+
+pub unsigned_list : (b : Bool) (t : NumberType) (l : Layout) (v : ℕ) (s : List Bool) → t.signed ≡ false → length s ≡ width t l
+    → number l.endian l.order s ≡ number_for b v (width t l) → IsListWhere b t l (pos v) s
+unfolding value
+unsigned_list true t l v s g w e = record { wide = w; worth = e }
+unsigned_list false t l v s g w e = record {
+  wide = w;
+  worth = unsigned_worth t.signed (length s) (number l.endian l.order s) g ∙ ap pos e;
+}
+
+-- where values are cut, there is a list
+pub cut_listed : (t : NumberType) (l : Layout) (v : ℤ) → cuts l.size ≡ true → (s : List Bool) × (length s ≡ width t l) × (number l.endian l.order s ≡ residue v (width t l))
+cut_listed t l v e =
+    let r = byte_law l.endian l.order (width t l) (residue v (width t l)) (cut_width t l.size e) (residue-lt v (width t l)) in
+    (r.0, r.1, r.2)

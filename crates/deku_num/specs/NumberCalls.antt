@@ -1,0 +1,63 @@
+-- What a call does that reads or writes a number.
+use Rattle.std.specs.Prelude.{◌≡◌, ◌⊎◌, ℕ, ◌<◌, ◌≤◌, Bool, false, List, Option, Result, Ok, Err, codes, ℤ, pos}
+use Rattle.std.specs.Borrow.{Bor}
+use Rattle.deku_bits.specs.declared.error.DekuError.{DekuError}
+use Rattle.deku_bits.specs.declared.error.DekuError.TheVariants.{Parse, InvalidParam}
+use Rattle.deku_bits.specs.Bits.{shown}
+use Rattle.deku_bits.specs.Streams.{Stream}
+use Rattle.deku_bits.specs.Standings.{Standing, Output}
+use Rattle.deku_bits.specs.Outcomes.{Meaning, Refuses, Mapped}
+use Rattle.deku_bits.specs.ReaderCalls.{Takes}
+use Rattle.deku_bits.specs.WriterCalls.{WritesBits}
+use Rattle.deku_num.specs.declared.ctx.Size.{Size}
+use Rattle.deku_num.specs.declared.ctx.Size.TheVariants.{Bytes}
+use Rattle.deku_num.specs.declared.ctx.Layout.{Layout}
+use Rattle.deku_num.specs.Numbers.{NumberType, width, IsEvenWhere, IsAllowed, value, IsListFor}
+
+-- a check comes first: where it refuses, nothing changes; else m follows
+pub data Checked {A V : Type 0} (refuses : Standing A → Result V DekuError → Standing A → Type 0) (m : Meaning A V) (b : Bool) (s : Standing A) (r : Result V DekuError) (u : Standing A) : Type 0 where
+  Refused : b ≡ false → refuses s r u → Checked refuses m b s r u
+  Passed : m b s r u → Checked refuses m b s r u
+
+-- the size is beyond the type, refused as told; or the field is signed, big, `Lsb0`, wider than 8 and no multiple of 8
+abbrev pub RefusesLayout : {A V : Type 0} → (Bor (List ℕ) → DekuError) → List ℕ → NumberType → Layout → Standing A → Result V DekuError → Standing A → Type 0
+RefusesLayout refusal text t l s r u = ((t.bits < width t l) × Refuses refusal text s r u)
+    ⊎ ((width t l ≤ t.bits) × (IsEvenWhere t.signed l.endian l.order (width t l) → ⊥) × Refuses InvalidParam (codes "signed big Lsb0 field of this width") s r u)
+
+-- a number is read: its layout is looked at, so many bits are taken, and it is what they are worth
+abbrev pub ReadsNumber : NumberType → Layout → Meaning (Option Stream) ℤ
+ReadsNumber t l = Checked (RefusesLayout Parse (codes "too much data") t l) (λ b s r u. IsAllowed t l × Mapped (value t l) (Takes l.order (width t l)) b s r u)
+
+-- the text for a size beyond the type, where a number is written
+abbrev pub beyond : Size → List ℕ
+beyond (Bytes n) = codes "byte size is larger than input"
+beyond _ = codes "bit size is larger than input"
+
+-- no list is written for v
+abbrev pub RefusesValue : {A V : Type 0} → NumberType → Layout → ℤ → Standing A → Result V DekuError → Standing A → Type 0
+RefusesValue t l v s r u = ((bits : List Bool) → IsListFor t l v bits → ⊥) × IsAllowed t l × Refuses InvalidParam (codes "bit size of input is larger than requested size") s r u
+
+-- a number is written: its layout is looked at, then whether it fits, and its list is written
+abbrev pub WritesNumber : NumberType → Layout → ℤ → Meaning Output (Unit {0})
+WritesNumber t l v = Checked (RefusesLayout InvalidParam (beyond l.size) t l)
+    (Checked (RefusesValue t l v) (λ b s r u. IsAllowed t l × ((bits : List Bool) × IsListFor t l v bits × WritesBits l.order (shown l.order bits) b s r u)))
+
+-- a number without a sign, as an integer
+abbrev pub integers : Result ℕ DekuError → Result ℤ DekuError
+integers (Ok n) = Ok (pos n)
+integers (Err e) = Err e
+
+-- the refusal has this text
+pub record Tells (refusal : Bor (List ℕ) → DekuError) (text : List ℕ) (e : DekuError) : Type 0 where
+  pub words : Bor (List ℕ)
+  pub told : words.now ≡ text
+  pub is : e ≡ refusal words
+
+-- the refusal of a layout, as told for a size beyond the type
+abbrev pub IsLayoutRefusal : (Bor (List ℕ) → DekuError) → List ℕ → NumberType → Layout → DekuError → Type 0
+IsLayoutRefusal refusal text t l e = ((t.bits < width t l) × Tells refusal text e)
+    ⊎ ((width t l ≤ t.bits) × (IsEvenWhere t.signed l.endian l.order (width t l) → ⊥) × Tells InvalidParam (codes "signed big Lsb0 field of this width") e)
+
+-- a number without a sign is read
+abbrev pub ReadsUnsigned : NumberType → Layout → Meaning (Option Stream) ℕ
+ReadsUnsigned t l b s r u = ReadsNumber t l b s (integers r) u

@@ -1,0 +1,170 @@
+//! Numbers that are read from a reader and written to a writer.
+
+ghost use Rattle.std.specs.Prelude.{◌≡◌, ◌<◌, ◌≤◌, ◌%◌, ◌^◌, true, false, length, codes, pos, IfOk, IfErr};
+ghost use Rattle.deku_bits.specs.declared.error.DekuError.TheVariants.{Parse, InvalidParam};
+ghost use Rattle.deku_bits.specs.ReaderCalls.{Reads, Takes, filling};
+ghost use Rattle.deku_bits.specs.WriterCalls.{Writes};
+ghost use Rattle.deku_num.specs.NumberLaws.{InType};
+ghost use Rattle.deku_num.specs.Numbers.{width, IsAllowed};
+ghost use Rattle.deku_num.specs.NumberCalls.{ReadsNumber, WritesNumber, IsLayoutRefusal, beyond, integers};
+
+use crate::ctx::{Layout, Order, Size};
+use crate::kernel::{
+    Misfit, allowed_width, fill_signed, fill_unsigned, signed_value, unsigned_value,
+};
+use crate::kind::NumberType;
+use deku_bits::device::{Sink, Source};
+use deku_bits::error::DekuError;
+use deku_bits::reader::Reader;
+use deku_bits::turning::show;
+use deku_bits::writer::Writer;
+
+/// Reads a number of an unsigned type of at most 128 bits.
+///
+/// It is refused, in this order,
+///
+/// - with `Parse("too much data")` where the size is beyond the type; nothing changes, also where the reader has stopped;
+/// - as `Reader::read_bits_into` refuses to read the bits of the field, and what is left then is said there.
+pub fn read_unsigned<R: Source>(
+    reader: &mut Reader<R>,
+    number_type: NumberType,
+    layout: Layout,
+) -> Result<u128, DekuError>
+    requires unsigned { number_type.signed ≡ false }
+    requires within { number_type.bits ≤ 128 }
+    ensures reads { Reads R.told (ReadsNumber number_type layout) reader.old (integers result) reader.new }
+    ensures in_type { IfOk result (λ v. number_type.bits % 8 ≡ 0 → v < 2 ^ number_type.bits) }
+{
+    let width = readable_width(number_type, layout)?;
+    let mut field = [false; 128];
+    let bits = &mut field[..width];
+    take(reader, bits, layout.order)?;
+    Ok(unsigned_value(bits, number_type, layout))
+}
+
+/// Reads a number of a signed type of at most 128 bits.
+///
+/// It is refused, in this order,
+///
+/// - with `Parse("too much data")` where the size is beyond the type; nothing changes, also where the reader has stopped;
+/// - with `InvalidParam("signed big Lsb0 field of this width")` where the field is big and `Lsb0`, of more than eight bits and no whole
+///   bytes; nothing changes;
+/// - as `Reader::read_bits_into` refuses to read the bits of the field, and what is left then is said there.
+pub fn read_signed<R: Source>(
+    reader: &mut Reader<R>,
+    number_type: NumberType,
+    layout: Layout,
+) -> Result<i128, DekuError>
+    requires signed { number_type.signed ≡ true }
+    requires within { number_type.bits ≤ 128 }
+    ensures reads { Reads R.told (ReadsNumber number_type layout) reader.old result reader.new }
+    ensures in_type { IfOk result (λ v. number_type.bits % 8 ≡ 0 → InType true number_type.bits v) }
+{
+    let width = readable_width(number_type, layout)?;
+    let mut field = [false; 128];
+    let bits = &mut field[..width];
+    take(reader, bits, layout.order)?;
+    Ok(signed_value(bits, number_type, layout))
+}
+
+// The bits of a field that is read.
+fn readable_width(number_type: NumberType, layout: Layout) -> Result<usize, DekuError>
+    ensures ok { IfOk result (λ n. (n ≡ width number_type layout) × IsAllowed number_type layout) }
+    ensures err { IfErr result (λ e. IsLayoutRefusal Parse (codes "too much data") number_type layout e) }
+{
+    match allowed_width(number_type, layout) {
+        Ok(width) => Ok(width),
+        Err(Misfit::TooWide) => Err(DekuError::Parse("too much data")),
+        Err(Misfit::Uneven) => Err(DekuError::InvalidParam("signed big Lsb0 field of this width")),
+    }
+}
+
+// Takes as many bits as the slice is long, as the order meets them.
+fn take<R: Source>(reader: &mut Reader<R>, bits: &mut [bool], order: Order) -> Result<(), DekuError>
+    ensures { Reads R.told (Takes order (length bits.old)) reader.old (filling result bits.new) reader.new }
+{
+    reader.read_bits_into(bits, order)?;
+    show(bits, order);
+    Ok(())
+}
+
+/// Writes a number of an unsigned type of at most 128 bits: the list of bits that is worth it, or under a byte size its lowest bits.
+///
+/// It is refused, in this order,
+///
+/// - with `InvalidParam("bit size is larger than input")`, or `"byte size .."`, where the size is beyond the type; nothing changes, also where
+///   the writer has stopped;
+/// - with `InvalidParam("bit size of input is larger than requested size")` where the number does not fit the bits; nothing changes;
+/// - as `Writer::write_bits_order` refuses to write the bits of the field, and what is left then is said there.
+pub fn write_unsigned<W: Sink>(
+    writer: &mut Writer<W>,
+    value: u128,
+    number_type: NumberType,
+    layout: Layout,
+) -> Result<(), DekuError>
+    requires unsigned { number_type.signed ≡ false }
+    requires within { number_type.bits ≤ 128 }
+    ensures { Writes W.told (WritesNumber number_type layout (pos value)) writer.old result writer.new }
+{
+    let width = writable_width(number_type, layout)?;
+    let mut field = [false; 128];
+    let bits = &mut field[..width];
+    if !fill_unsigned(bits, value, number_type, layout) {
+        return Err(DekuError::InvalidParam("bit size of input is larger than requested size"));
+    }
+    show(bits, layout.order);
+    writer.write_bits_order(bits, layout.order)
+}
+
+/// Writes a number of a signed type of at most 128 bits: the list of bits that is worth it, or under a byte size its lowest bits in two's
+/// complement.
+///
+/// It is refused, in this order,
+///
+/// - with `InvalidParam("bit size is larger than input")`, or `"byte size .."`, where the size is beyond the type; nothing changes, also where
+///   the writer has stopped;
+/// - with `InvalidParam("signed big Lsb0 field of this width")` where the field is big and `Lsb0`, of more than eight bits and no whole
+///   bytes; nothing changes;
+/// - with `InvalidParam("bit size of input is larger than requested size")` where the number does not fit the bits; nothing changes;
+/// - as `Writer::write_bits_order` refuses to write the bits of the field, and what is left then is said there.
+pub fn write_signed<W: Sink>(
+    writer: &mut Writer<W>,
+    value: i128,
+    number_type: NumberType,
+    layout: Layout,
+) -> Result<(), DekuError>
+    requires signed { number_type.signed ≡ true }
+    requires within { number_type.bits ≤ 128 }
+    ensures { Writes W.told (WritesNumber number_type layout value) writer.old result writer.new }
+{
+    let width = writable_width(number_type, layout)?;
+    let mut field = [false; 128];
+    let bits = &mut field[..width];
+    if !fill_signed(bits, value, number_type, layout) {
+        return Err(DekuError::InvalidParam("bit size of input is larger than requested size"));
+    }
+    show(bits, layout.order);
+    writer.write_bits_order(bits, layout.order)
+}
+
+// The bits of a field that is written.
+fn writable_width(number_type: NumberType, layout: Layout) -> Result<usize, DekuError>
+    ensures ok { IfOk result (λ n. (n ≡ width number_type layout) × IsAllowed number_type layout) }
+    ensures err { IfErr result (λ e. IsLayoutRefusal InvalidParam (beyond layout.size) number_type layout e) }
+{
+    match allowed_width(number_type, layout) {
+        Ok(width) => Ok(width),
+        Err(Misfit::TooWide) => Err(DekuError::InvalidParam(size_beyond(layout.size))),
+        Err(Misfit::Uneven) => Err(DekuError::InvalidParam("signed big Lsb0 field of this width")),
+    }
+}
+
+// The text for a size beyond the type, where a number is written.
+fn size_beyond(size: Size) -> &'static str
+    ensures { result.now ≡ beyond size }
+{
+    match size {
+        Size::Bytes(_) => "byte size is larger than input",
+        _ => "bit size is larger than input",
+    }
+}

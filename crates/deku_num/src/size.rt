@@ -1,0 +1,304 @@
+//! Types whose values all take the same bits.
+
+ghost use Rattle.std.specs.Prelude.{◌≡◌, ℕ, Option, Some, refl};
+ghost use Rattle.deku_num.specs.Sizes.{fitting, eighth};
+
+/// A type whose values all take the same bits, where these are known.
+pub trait DekuSize {
+    ghost bits: { Option ℕ };
+
+    /// The bits that each value takes; none where they are not known or do not fit `usize`.
+    fn size_bits() -> Option<usize>
+        ensures { result ≡ fitting bits };
+
+    /// The bytes that each value takes; none where the bits are not known, do not fit `usize` or make no whole bytes.
+    final fn size_bytes() -> Option<usize>
+        ensures { result ≡ eighth (fitting bits) }
+    {
+        match Self::size_bits() {
+            Some(bits) if bits % 8 == 0 => Some(bits / 8),
+            _ => None,
+        }
+    }
+}
+
+/// A type whose size is a constant.
+pub trait DekuSizeConst: DekuSize {
+    ghost SIZE_BITS: { ℕ };
+
+    ghost SIZE_BYTES: { Option ℕ };
+
+    ghost bits_known: { fitting Self.bits ≡ Some SIZE_BITS };
+
+    ghost bytes_known: { eighth (fitting Self.bits) ≡ SIZE_BYTES };
+
+    /// The bits that each value takes.
+    const SIZE_BITS: usize;
+
+    /// The bytes that each value takes; none where the bits make no whole bytes.
+    const SIZE_BYTES: Option<usize>;
+}
+
+impl DekuSize for u8 {
+    ghost bits = { Some 8 };
+
+    fn size_bits() -> Option<usize> {
+        Some(8)
+    }
+}
+
+impl DekuSizeConst for u8 {
+    ghost SIZE_BITS = { 8 };
+
+    ghost SIZE_BYTES = { Some 1 };
+
+    ghost bits_known = { refl };
+
+    ghost bytes_known = { refl };
+
+    const SIZE_BITS: usize = 8;
+
+    const SIZE_BYTES: Option<usize> = Some(1);
+}
+
+impl DekuSize for u16 {
+    ghost bits = { Some 16 };
+
+    fn size_bits() -> Option<usize> {
+        Some(16)
+    }
+}
+
+impl DekuSizeConst for u16 {
+    ghost SIZE_BITS = { 16 };
+
+    ghost SIZE_BYTES = { Some 2 };
+
+    ghost bits_known = { refl };
+
+    ghost bytes_known = { refl };
+
+    const SIZE_BITS: usize = 16;
+
+    const SIZE_BYTES: Option<usize> = Some(2);
+}
+
+impl DekuSize for u32 {
+    ghost bits = { Some 32 };
+
+    fn size_bits() -> Option<usize> {
+        Some(32)
+    }
+}
+
+impl DekuSizeConst for u32 {
+    ghost SIZE_BITS = { 32 };
+
+    ghost SIZE_BYTES = { Some 4 };
+
+    ghost bits_known = { refl };
+
+    ghost bytes_known = { refl };
+
+    const SIZE_BITS: usize = 32;
+
+    const SIZE_BYTES: Option<usize> = Some(4);
+}
+
+impl DekuSize for u64 {
+    ghost bits = { Some 64 };
+
+    fn size_bits() -> Option<usize> {
+        Some(64)
+    }
+}
+
+impl DekuSizeConst for u64 {
+    ghost SIZE_BITS = { 64 };
+
+    ghost SIZE_BYTES = { Some 8 };
+
+    ghost bits_known = { refl };
+
+    ghost bytes_known = { refl };
+
+    const SIZE_BITS: usize = 64;
+
+    const SIZE_BYTES: Option<usize> = Some(8);
+}
+
+impl DekuSize for u128 {
+    ghost bits = { Some 128 };
+
+    fn size_bits() -> Option<usize> {
+        Some(128)
+    }
+}
+
+impl DekuSizeConst for u128 {
+    ghost SIZE_BITS = { 128 };
+
+    ghost SIZE_BYTES = { Some 16 };
+
+    ghost bits_known = { refl };
+
+    ghost bytes_known = { refl };
+
+    const SIZE_BITS: usize = 128;
+
+    const SIZE_BYTES: Option<usize> = Some(16);
+}
+
+impl DekuSize for usize {
+    ghost bits = { Some 64 };
+
+    fn size_bits() -> Option<usize> {
+        Some(64)
+    }
+}
+
+impl DekuSizeConst for usize {
+    ghost SIZE_BITS = { 64 };
+
+    ghost SIZE_BYTES = { Some 8 };
+
+    ghost bits_known = { refl };
+
+    ghost bytes_known = { refl };
+
+    const SIZE_BITS: usize = 64;
+
+    const SIZE_BYTES: Option<usize> = Some(8);
+}
+
+impl DekuSize for i8 {
+    ghost bits = { Some 8 };
+
+    fn size_bits() -> Option<usize> {
+        Some(8)
+    }
+}
+
+impl DekuSizeConst for i8 {
+    ghost SIZE_BITS = { 8 };
+
+    ghost SIZE_BYTES = { Some 1 };
+
+    ghost bits_known = { refl };
+
+    ghost bytes_known = { refl };
+
+    const SIZE_BITS: usize = 8;
+
+    const SIZE_BYTES: Option<usize> = Some(1);
+}
+
+impl DekuSize for i16 {
+    ghost bits = { Some 16 };
+
+    fn size_bits() -> Option<usize> {
+        Some(16)
+    }
+}
+
+impl DekuSizeConst for i16 {
+    ghost SIZE_BITS = { 16 };
+
+    ghost SIZE_BYTES = { Some 2 };
+
+    ghost bits_known = { refl };
+
+    ghost bytes_known = { refl };
+
+    const SIZE_BITS: usize = 16;
+
+    const SIZE_BYTES: Option<usize> = Some(2);
+}
+
+impl DekuSize for i32 {
+    ghost bits = { Some 32 };
+
+    fn size_bits() -> Option<usize> {
+        Some(32)
+    }
+}
+
+impl DekuSizeConst for i32 {
+    ghost SIZE_BITS = { 32 };
+
+    ghost SIZE_BYTES = { Some 4 };
+
+    ghost bits_known = { refl };
+
+    ghost bytes_known = { refl };
+
+    const SIZE_BITS: usize = 32;
+
+    const SIZE_BYTES: Option<usize> = Some(4);
+}
+
+impl DekuSize for i64 {
+    ghost bits = { Some 64 };
+
+    fn size_bits() -> Option<usize> {
+        Some(64)
+    }
+}
+
+impl DekuSizeConst for i64 {
+    ghost SIZE_BITS = { 64 };
+
+    ghost SIZE_BYTES = { Some 8 };
+
+    ghost bits_known = { refl };
+
+    ghost bytes_known = { refl };
+
+    const SIZE_BITS: usize = 64;
+
+    const SIZE_BYTES: Option<usize> = Some(8);
+}
+
+impl DekuSize for i128 {
+    ghost bits = { Some 128 };
+
+    fn size_bits() -> Option<usize> {
+        Some(128)
+    }
+}
+
+impl DekuSizeConst for i128 {
+    ghost SIZE_BITS = { 128 };
+
+    ghost SIZE_BYTES = { Some 16 };
+
+    ghost bits_known = { refl };
+
+    ghost bytes_known = { refl };
+
+    const SIZE_BITS: usize = 128;
+
+    const SIZE_BYTES: Option<usize> = Some(16);
+}
+
+impl DekuSize for isize {
+    ghost bits = { Some 64 };
+
+    fn size_bits() -> Option<usize> {
+        Some(64)
+    }
+}
+
+impl DekuSizeConst for isize {
+    ghost SIZE_BITS = { 64 };
+
+    ghost SIZE_BYTES = { Some 8 };
+
+    ghost bits_known = { refl };
+
+    ghost bytes_known = { refl };
+
+    const SIZE_BITS: usize = 64;
+
+    const SIZE_BYTES: Option<usize> = Some(8);
+}
