@@ -2,3 +2,4 @@ pub mod FieldLists
 pub mod WorkedRows
 pub mod ReadingLists
 pub mod WritingLists
+pub mod Stepping

@@ -78,11 +78,11 @@ fn is_within(value: i128, bits: usize) -> bool
     requires within { bits ≤ 128 }
     ensures { IsTrue result ↔ ((neg_ℤ (pos (2 ^ (bits - 1))) ≤ℤ value) × (value <ℤ pos (2 ^ (bits - 1)))) }
 {
-    if bits == 128 {
-        return true;
+    if value >= 0 {
+        is_below(value as u128, bits - 1)
+    } else {
+        is_below((-(value + 1)) as u128, bits - 1)
     }
-    let half: i128 = 1 << (bits - 1);
-    -half <= value && value < half
 }
 
 /// A whole number: of an unsigned kind, or of a signed one.
