@@ -3,3 +3,4 @@ pub mod WorkedRows
 pub mod ReadingLists
 pub mod WritingLists
 pub mod Stepping
+pub mod Whole

@@ -1,12 +1,12 @@
 -- What the calls on lists of fields do.
-use Rattle.std.specs.Prelude.{◌≡◌, ◌⊎◌, ℕ, ◌<◌, ◌≤◌, ◌^◌, ◌-◌, Bool, true, false, List, [], ◌∷◌, ◌++◌, Option, None, Some, Result, Ok, Err, codes, ℤ, pos, negsuc}
+use Rattle.std.specs.Prelude.{◌≡◌, ◌⊎◌, ℕ, ◌<◌, ◌*◌, ◌^◌, length, Bool, true, false, List, [], ◌∷◌, ◌++◌, Option, None, Some, Result, Ok, Err, codes, ℤ, pos, negsuc}
 use Rattle.std.specs.Global.{Vec}
 use Rattle.deku_bits.specs.declared.error.DekuError.{DekuError}
 use Rattle.deku_bits.specs.declared.error.DekuError.TheVariants.{InvalidParam, Io}
 use Rattle.std.specs.declared.io.ErrorKind.TheVariants.{OutOfMemory}
-use Rattle.deku_bits.specs.Streams.{Stream}
+use Rattle.deku_bits.specs.Streams.{Stream, fresh}
 use Rattle.deku_bits.specs.Writers.{Nothing}
-use Rattle.deku_bits.specs.Standings.{Standing, Going, Output}
+use Rattle.deku_bits.specs.Standings.{Standing, Going, Output, count_of}
 use Rattle.deku_bits.specs.Outcomes.{Meaning, Refuses, Mapped}
 use Rattle.deku_bits.specs.WriterCalls.{Finalizes}
 use Rattle.deku_num.specs.NumberLaws.{InType}
@@ -17,7 +17,7 @@ use Rattle.deku_fields.specs.declared.list.Number.TheVariants.{Unsigned, Signed}
 use Rattle.deku_fields.specs.declared.list.Kind.{Kind}
 use Rattle.deku_fields.specs.declared.list.Field.{Field}
 use Rattle.deku_fields.specs.declared.list.Item.{Item}
-use Rattle.deku_fields.specs.Items.{number_type}
+use Rattle.deku_fields.specs.Items.{number_type, LaysOut}
 
 -- ---- reading
 -- an integer as a number of a kind without a sign, or with one
@@ -74,9 +74,18 @@ abbrev pub WritesWhole : Meaning Output (Unit {0}) → Result (Vec ℕ) DekuErro
 WritesWhole m (Ok v) = (out : Output) × (c : ℕ) × m false (Going in_memory 0) (Ok tt) (Going out c) × (out.taken ≡ Some v.items)
 WritesWhole m (Err e) = (u : Standing Output) × m false (Going in_memory 0) (Err e) u
 
+-- the bits of the bytes that items lay out can be counted
+abbrev pub IsCountable : List Item → Type 0
+IsCountable items = (bytes : List ℕ) → LaysOut items bytes → 8 * length bytes < 2 ^ 64
+
 -- fields are read into memory that is found first, or it is refused and nothing changed
 abbrev pub ReadsVec : List Field → Meaning (Option Stream) (List Number)
 ReadsVec fs b s r u = ((b ≡ false) × (r ≡ Err (Io OutOfMemory)) × (u ≡ s)) ⊎ ReadsFields fs b s r u
+
+-- how many bits fields read from bytes, and their values, in memory that is found first
+abbrev pub ListFrom : List Field → List ℕ → Result (ℕ × Vec Number) DekuError → Type 0
+ListFrom fs bytes (Ok v) = (u : Standing (Option Stream)) × ReadsVec fs false (Going (Some (fresh bytes)) 0) (Ok v.1.items) u × (v.0 ≡ count_of u)
+ListFrom fs bytes (Err e) = (u : Standing (Option Stream)) × ReadsVec fs false (Going (Some (fresh bytes)) 0) (Err e) u
 
 -- what was read, where the call succeeds
 abbrev pub items_of : Result (Vec Number) DekuError → Result (List Number) DekuError

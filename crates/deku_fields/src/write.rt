@@ -1,12 +1,13 @@
 //! Writing lists of items.
 
 ghost use Rattle.std.specs.Prelude.{◌≡◌, ◌+◌, ◌*◌, ◌<◌, ◌≤◌, ◌^◌, ◌-◌, List, length, map, take, All, IfOk, IfErr, MatchResult};
+ghost use Rattle.std.specs.Io.Cursor.{cursor_position, cursor_inner};
 ghost use Rattle.std.specs.declared.io.ErrorKind.TheVariants.{OutOfMemory};
 ghost use Rattle.deku_bits.specs.declared.error.DekuError.TheVariants.{Io};
 ghost use Rattle.deku_bits.specs.WriterCalls.{Writes, Finalizes};
 ghost use Rattle.deku.specs.Composing.{Both};
 ghost use Rattle.deku_fields.specs.Items.{IsFitting, AlignedFields, LaysOut, fields_of};
-ghost use Rattle.deku_fields.specs.ListCalls.{WritesItem, WritesItems, WritesWhole};
+ghost use Rattle.deku_fields.specs.ListCalls.{IsCountable, WritesItem, WritesItems, WritesWhole};
 
 use crate::list::{Item, Number};
 use deku::calls::{write_signed, write_unsigned};
@@ -57,13 +58,31 @@ fn write_item<W: Sink>(writer: &mut Writer<W>, item: &Item) -> Result<(), DekuEr
 /// ```
 pub fn list_to_bytes(alloc: Global, items: &[Item]) -> Result<Vec<u8>, DekuError>
     ensures meaning { WritesWhole (Both (WritesItems items.now) Finalizes) result }
+    ensures laid_out { All IsFitting items.now → AlignedFields (fields_of items.now) → IsCountable items.now → MatchResult result (λ v. LaysOut items.now v.items) (λ e. e ≡ Io OutOfMemory) }
 {
     let mut writer = Writer::new(Cursor::new(Vec::new(alloc)));
-    write_list(&mut writer, items)?;
-    writer.finalize()?;
-    let cursor = writer.into_inner();
+    match write_padded(&mut writer, items) {
+        Ok(()) => Ok(taken_bytes(writer.into_inner())),
+        Err(refusal) => Err(refusal),
+    }
+}
+
+// Writes the items and fills the last byte with zeros.
+fn write_padded<W: Sink>(writer: &mut Writer<W>, items: &[Item]) -> Result<(), DekuError>
+    ensures { Writes W.told (Both (WritesItems items.now) Finalizes) writer.old result writer.new }
+{
+    match write_list(writer, items) {
+        Ok(()) => writer.finalize(),
+        Err(refusal) => Err(refusal),
+    }
+}
+
+// The bytes before the cursor's place.
+fn taken_bytes(cursor: Cursor<Vec<u8>>) -> Vec<u8>
+    ensures { result.items ≡ take (cursor_position cursor) (cursor_inner cursor).items }
+{
     let end = cursor.position();
     let mut bytes = cursor.into_inner();
     bytes.truncate(end as usize);
-    Ok(bytes)
+    bytes
 }
