@@ -4,3 +4,4 @@ pub mod ReadingLists
 pub mod WritingLists
 pub mod Stepping
 pub mod Whole
+pub mod ReadBack

@@ -1,10 +1,11 @@
 -- What the calls on lists of fields do.
-use Rattle.std.specs.Prelude.{◌≡◌, ◌⊎◌, ℕ, ◌<◌, ◌*◌, ◌^◌, length, Bool, true, false, List, [], ◌∷◌, ◌++◌, Option, None, Some, Result, Ok, Err, codes, ℤ, pos, negsuc}
+use Rattle.std.specs.Prelude.{◌≡◌, ◌⊎◌, ℕ, ◌<◌, ◌*◌, ◌^◌, length, map, All, MatchResult, Bool, true, false, List, [], ◌∷◌, ◌++◌, Option, None, Some, Result, Ok, Err, codes, ℤ, pos, negsuc}
 use Rattle.std.specs.Global.{Vec}
 use Rattle.deku_bits.specs.declared.error.DekuError.{DekuError}
 use Rattle.deku_bits.specs.declared.error.DekuError.TheVariants.{InvalidParam, Io}
 use Rattle.std.specs.declared.io.ErrorKind.TheVariants.{OutOfMemory}
 use Rattle.deku_bits.specs.Streams.{Stream, fresh}
+use Rattle.deku_bits.specs.Pieces.{total}
 use Rattle.deku_bits.specs.Writers.{Nothing}
 use Rattle.deku_bits.specs.Standings.{Standing, Going, Output, count_of}
 use Rattle.deku_bits.specs.Outcomes.{Meaning, Refuses, Mapped}
@@ -17,7 +18,7 @@ use Rattle.deku_fields.specs.declared.list.Number.TheVariants.{Unsigned, Signed}
 use Rattle.deku_fields.specs.declared.list.Kind.{Kind}
 use Rattle.deku_fields.specs.declared.list.Field.{Field}
 use Rattle.deku_fields.specs.declared.list.Item.{Item}
-use Rattle.deku_fields.specs.Items.{number_type, LaysOut}
+use Rattle.deku_fields.specs.Items.{number_type, field_shape, IsFitting, AlignedFields, LaysOut, fields_of, values_of}
 
 -- ---- reading
 -- an integer as a number of a kind without a sign, or with one
@@ -86,6 +87,12 @@ ReadsVec fs b s r u = ((b ≡ false) × (r ≡ Err (Io OutOfMemory)) × (u ≡ s
 abbrev pub ListFrom : List Field → List ℕ → Result (ℕ × Vec Number) DekuError → Type 0
 ListFrom fs bytes (Ok v) = (u : Standing (Option Stream)) × ReadsVec fs false (Going (Some (fresh bytes)) 0) (Ok v.1.items) u × (v.0 ≡ count_of u)
 ListFrom fs bytes (Err e) = (u : Standing (Option Stream)) × ReadsVec fs false (Going (Some (fresh bytes)) 0) (Err e) u
+
+-- from bytes that begin with what aligned fitting items lay out, whatever follows, their fields read their values and their width
+abbrev pub ReadsBack : List Field → List ℕ → Result (ℕ × Vec Number) DekuError → Type 0
+ReadsBack fs bytes r = (items : List Item) (written after : List ℕ) → All IsFitting items → fields_of items ≡ fs → AlignedFields fs → LaysOut items written
+    → bytes ≡ written ++ after → total (map field_shape fs) < 2 ^ 64
+    → MatchResult r (λ v. (v.0 ≡ total (map field_shape fs)) × (v.1.items ≡ values_of items)) (λ e. e ≡ Io OutOfMemory)
 
 -- what was read, where the call succeeds
 abbrev pub items_of : Result (Vec Number) DekuError → Result (List Number) DekuError

@@ -4,7 +4,7 @@ ghost use Rattle.std.specs.Prelude.{◌≡◌, ◌+◌, ◌<◌, ◌≤◌, ◌^
 ghost use Rattle.deku_bits.specs.Pieces.{total};
 ghost use Rattle.deku_bits.specs.ReaderCalls.{Reads};
 ghost use Rattle.deku_fields.specs.Items.{IsFitting, AlignedFields, LaysOut, fields_of, values_of, field_shape};
-ghost use Rattle.deku_fields.specs.ListCalls.{ReadsField, ReadsFields, ReadsVec, filling, items_of};
+ghost use Rattle.deku_fields.specs.ListCalls.{ListFrom, ReadsBack, ReadsField, ReadsFields, ReadsVec, filling, items_of};
 
 use crate::list::{Field, Number};
 use deku::calls::{read_signed, read_unsigned};
@@ -83,8 +83,12 @@ pub fn list_from_bytes(
     bytes: &[u8],
     fields: &[Field],
 ) -> Result<(usize, Vec<Number>), DekuError>
+    ensures meaning { ListFrom fields.now bytes.now result }
+    ensures values { ReadsBack fields.now bytes.now result }
 {
     let mut reader = Reader::new(alloc, Cursor::new(bytes));
-    let numbers = read_list(&mut reader, fields)?;
-    Ok((reader.bits_read(), numbers))
+    match read_list(&mut reader, fields) {
+        Ok(numbers) => Ok((reader.bits_read(), numbers)),
+        Err(refusal) => Err(refusal),
+    }
 }
