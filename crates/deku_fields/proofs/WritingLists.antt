@@ -123,8 +123,7 @@ of_kind : (i : Item) → IsFitting i → IsOfKind i.field.kind i.value
 of_kind i f =
     let t : NumberType = number_type i.field.kind in
     let l : Layout = i.field.layout in
-    let v : ℤ = value t l f.bits in
-    (
+    let v : ℤ = value t l f.bits in (
       sign_is t.signed v i.value (f.worth.worth),
       subst (λ x. InType t.signed t.bits x) (integer_is t.signed v i.value (f.worth.worth)) (type_law t l (whole_kind i.field.kind) (f.allowed) f.bits (f.worth.wide)),
     )

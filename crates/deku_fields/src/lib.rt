@@ -1,13 +1,12 @@
 //! Lists of whole-number fields: what they lay out, how they are read and written, and the program over them.
 #![tactic(auto)]
 
+pub mod laws;
 mod list;
 mod program;
 mod read;
 mod words;
 mod write;
-
-pub mod laws;
 
 pub use list::{Field, Item, Kind, Number};
 pub use program::run;

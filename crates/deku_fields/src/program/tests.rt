@@ -42,7 +42,9 @@ fn expect(
 
 const MISFIT: &str =
     "error: Invalid param error: bit size of input is larger than requested size\n";
+
 const OUTSIDE: &str = "error: Invalid param error: value outside type\n";
+
 const USAGE: &str = "usage: fields read|write SPEC..\n";
 
 #[test]
@@ -159,16 +161,37 @@ fn tells_of_failing_streams(rt: HostRuntime) -> Result<(), Fail> {
     let args = arguments(alloc, &["read", "u8"])?;
     let mut output: Vec<u8> = Vec::new(alloc);
     let mut errors: Vec<u8> = Vec::new(alloc);
-    let status = run(alloc, args.as_slice(), &mut Broken, &mut output, &mut errors);
+    let status = run(
+        alloc,
+        args.as_slice(),
+        &mut Broken,
+        &mut output,
+        &mut errors,
+    );
     assert_eq!(rt; status, 1);
     assert_eq!(rt; output.len(), 0);
     assert_eq!(rt; errors.as_slice(), want.as_slice());
     let args = arguments(alloc, &["write", "u8=1"])?;
     let mut errors: Vec<u8> = Vec::new(alloc);
-    let status = run(alloc, args.as_slice(), &mut "".as_bytes(), &mut Broken, &mut errors);
+    let status = run(
+        alloc,
+        args.as_slice(),
+        &mut "".as_bytes(),
+        &mut Broken,
+        &mut errors,
+    );
     assert_eq!(rt; status, 1);
     assert_eq!(rt; errors.as_slice(), want.as_slice());
     let args = arguments(alloc, &["write", "u9=1"])?;
-    assert_eq!(rt; run(alloc, args.as_slice(), &mut "".as_bytes(), &mut Broken, &mut Broken), 2);
+    assert_eq!(rt;
+        run(
+            alloc,
+            args.as_slice(),
+            &mut "".as_bytes(),
+            &mut Broken,
+            &mut Broken
+        ),
+        2
+    );
     Ok(())
 }

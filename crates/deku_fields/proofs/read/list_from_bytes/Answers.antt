@@ -1,6 +1,4 @@
 use Rattle.std.proofs.Common.{refl, ap, ◌∙◌}
-
-
 use Rattle.deku_bits.proofs.Handing.{unbroken}
 use Rattle.deku_fields.proofs.ReadBack.{back_ok, back_err, starts_fresh, whole_source, new_source, from_first, counted_state}
 use Rattle.deku_fields.proofs.read.list_from_bytes.Goals as goal
