@@ -10,4 +10,6 @@ pub use Rattle.deku_bits.specs.ReaderCalls
 pub use Rattle.deku_bits.specs.WriterCalls
 pub use Rattle.deku_num.specs.Numbers
 pub use Rattle.deku_num.specs.NumberLaws
+pub use Rattle.deku_num.specs.NumberCalls
 pub mod Composing
+pub mod Giving

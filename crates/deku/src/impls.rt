@@ -1,3 +1,4 @@
 //! What can be read and written.
 
+mod primitive;
 mod tuple;

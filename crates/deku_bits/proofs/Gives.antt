@@ -32,11 +32,11 @@ more_after : (a b c : Health) → NoFewerFailures a b → MoreFailures b c → M
 more_after a b c p q = record { failures = More-after a.failures b.failures c.failures p.failures q.failures; lenders = q.lenders ∙ p.lenders }
 
 -- ---- room
-Shrinks-none : (a : Option ℕ) → Shrinks a a 0
+pub Shrinks-none : (a : Option ℕ) → Shrinks a a 0
 Shrinks-none None = tt
 Shrinks-none (Some x) = omega arith
 
-Shrinks-trans : (a b c : Option ℕ) (m n : ℕ) → Shrinks a b m → Shrinks b c n → Shrinks a c (m + n)
+pub Shrinks-trans : (a b c : Option ℕ) (m n : ℕ) → Shrinks a b m → Shrinks b c n → Shrinks a c (m + n)
 Shrinks-trans None None None m n p q = tt
 Shrinks-trans None None (Some z) m n p q = absurd q
 Shrinks-trans None (Some y) c m n p q = absurd p
@@ -44,13 +44,13 @@ Shrinks-trans (Some x) None c m n p q = absurd p
 Shrinks-trans (Some x) (Some y) None m n p q = absurd q
 Shrinks-trans (Some x) (Some y) (Some z) m n p q = omega arith
 
-LacksRoom-after : (a b : Option ℕ) (m n : ℕ) (k : ErrorKind) → Shrinks a b m → LacksRoom b n k → LacksRoom a (m + n) k
+pub LacksRoom-after : (a b : Option ℕ) (m n : ℕ) (k : ErrorKind) → Shrinks a b m → LacksRoom b n k → LacksRoom a (m + n) k
 LacksRoom-after None None m n k p q = q
 LacksRoom-after None (Some y) m n k p q = absurd p
 LacksRoom-after (Some x) None m n k p q = absurd p
 LacksRoom-after (Some x) (Some y) m n k p q = (q.0, omega (arith, q.1))
 
-LacksRoom-more : (a : Option ℕ) (m n : ℕ) (k : ErrorKind) → m ≤ n → LacksRoom a m k → LacksRoom a n k
+pub LacksRoom-more : (a : Option ℕ) (m n : ℕ) (k : ErrorKind) → m ≤ n → LacksRoom a m k → LacksRoom a n k
 LacksRoom-more None m n k l p = p
 LacksRoom-more (Some x) m n k l p = (p.0, omega (arith, p.1))
 

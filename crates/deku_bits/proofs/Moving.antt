@@ -1,7 +1,7 @@
 -- Bits that go from a window and the bytes to come, against what is taken from a stream and left.
-use Rattle.std.proofs.Common.{◌≡◌, ◌≢◌, ◌⊎◌, ℕ, suc, ◌+◌, ◌*◌, ◌-◌, ◌/◌, ◌^◌, ◌<◌, ◌≤◌, Bool, false, List, [], ◌∷◌, ◌++◌, length, take, drop, Option, Some, None, Result, Ok, Err, arith, refl, sym, ap, ap₂, ◌∙◌, subst, inl, inr, ⊎_elim, length-append, append_assoc, eq-eqb, ne_eqb}
+use Rattle.std.proofs.Common.{◌≡◌, ◌≢◌, ◌⊎◌, ℕ, ◌+◌, ◌*◌, ◌^◌, ◌<◌, ◌≤◌, Bool, false, List, [], ◌∷◌, ◌++◌, length, take, drop, Option, Some, None, Result, Ok, Err, arith, refl, sym, ap, ap₂, ◌∙◌, inl, inr, ⊎_elim, length-append, append_assoc, eq-eqb, ne_eqb}
 use Rattle.std.proofs.lemmas.Bool.{cases_eq, cases_lt}
-use Rattle.std.proofs.lemmas.List.{take_at, drop_at, take-append-drop}
+use Rattle.std.proofs.lemmas.List.{take_at, drop_at}
 use Rattle.std.proofs.lemmas.List.Concat.{flat_map-append}
 use Rattle.std.specs.Io.KnownBytes.{Consumes}
 use Rattle.std.specs.declared.io.ErrorKind.{ErrorKind}
@@ -15,7 +15,7 @@ use Rattle.deku_bits.specs.Bits.{byte_bits, facing}
 use Rattle.deku_bits.specs.Streams.{Stream, Has, seen, taken, left, normal, touched}
 use Rattle.deku_bits.specs.Devices.{Health, FewerThan, NoFewerFailures, MoreFailures}
 use Rattle.deku_bits.specs.Standings.{Standing, Going, Stopped, stream_of, reader_state}
-use Rattle.deku_bits.specs.Outcomes.{Breaks, Outcome, Quiet, Broken}
+use Rattle.deku_bits.specs.Outcomes.{Outcome, Quiet, Broken}
 use Rattle.deku_bits.specs.Faults.{error_of}
 use Rattle.deku_bits.specs.Kept.{Admits, standing_of}
 use Rattle.deku_bits.specs.Moving.{Moves, FewerBits}

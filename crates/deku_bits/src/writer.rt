@@ -14,6 +14,7 @@ mod way;
 
 use self::held::Held;
 use self::pushing::push_onto;
+use crate::bounded::BoundedBitVec;
 use crate::ctx::Order;
 use crate::device::Sink;
 use crate::error::{DekuError, Fault};
@@ -86,6 +87,23 @@ impl<W: Sink> Writer<W> {
         ensures { result ≡ count_of self.now.state }
     {
         self.state.bits_written()
+    }
+
+    /// The pending bits, highest first, and their order: at most seven, and none in `Msb0` where nothing is pending or the writer has stopped.
+    ///
+    /// ```text
+    /// writer.write_bits_order(&[true, true, false], Order::Lsb0)?;
+    /// writer.leftover()                                  // 1, 1, 0 in `Lsb0`
+    /// ```
+    pub fn leftover(&self) -> (BoundedBitVec<1>, Order)
+        ensures bits { result.0 ≡ pending_bits (pending_of self.now.state) }
+        ensures order { result.1 ≡ order_of (pending_of self.now.state) }
+    {
+        let bits = self.state.pending();
+        (
+            BoundedBitVec::from_bits(bits.as_slice()),
+            self.state.pending_order(),
+        )
     }
 
     /// The pending bits, highest first: at most seven, and none where the writer has stopped.

@@ -9,7 +9,8 @@ use Rattle.deku_bits.specs.Symmetry.{Takes, packed}
 use Rattle.deku_bits.proofs.Writing.{write_law}
 use Rattle.deku_bits.proofs.Reading.{read_law}
 use Rattle.deku_bits.proofs.Rewriting.{rewrite_law}
-use Rattle.deku_num.specs.Numbers.{NumberType, value}
+use Rattle.deku_num.specs.declared.kind.NumberType.{NumberType}
+use Rattle.deku_num.specs.Numbers.{value}
 use Rattle.deku_num.proofs.Values.{field_law}
 use Rattle.deku_fields.specs.declared.list.Field.{Field}
 use Rattle.deku_fields.specs.declared.list.Item.{Item}

@@ -1,2 +1,5 @@
 pub mod FieldLists
 pub mod WorkedRows
+pub mod ReadingLists
+pub mod WritingLists
+pub mod Stepping

@@ -4,7 +4,8 @@ use Rattle.std.specs.List.{AllZip}
 use Rattle.deku_bits.specs.declared.ctx.Order.{Order}
 use Rattle.deku_bits.specs.Streams.{Stream, Has, taken, left}
 use Rattle.deku_bits.specs.Pieces.{Piece, Aligned, laid_out}
-use Rattle.deku_num.specs.Numbers.{NumberType, byte, unsigned, signed, width, value, IsAllowed}
+use Rattle.deku_num.specs.declared.kind.NumberType.{NumberType}
+use Rattle.deku_num.specs.Numbers.{byte, unsigned, signed, width, value, IsAllowed}
 use Rattle.deku_fields.specs.declared.list.Kind.{Kind}
 use Rattle.deku_fields.specs.declared.list.Kind.TheVariants.{U8, U16, U32, U64, U128, Usize, I8, I16, I32, I64, I128, Isize}
 use Rattle.deku_fields.specs.declared.list.Number.{Number}

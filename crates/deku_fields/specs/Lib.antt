@@ -1,3 +1,4 @@
 pub mod Items
 pub mod Headline
 pub mod Rows
+pub mod ListCalls

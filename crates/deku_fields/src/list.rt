@@ -1,6 +1,11 @@
 //! Fields of whole numbers, and items: fields with their values.
 
+ghost use Rattle.std.specs.Prelude.{◌≡◌, ◌↔◌, ◌<◌, ◌≤◌, ◌^◌, ◌-◌, IsTrue, pos, neg_ℤ, ◌≤ℤ◌, ◌<ℤ◌};
+ghost use Rattle.deku_fields.specs.Items.{number_type};
+ghost use Rattle.deku_fields.specs.ListCalls.{IsOfKind};
+
 use deku::ctx::Layout;
+use deku::kind::NumberType;
 
 /// The type of a whole number.
 #[derive(Debug, Clone, Copy, PartialEq, Eq)]
@@ -17,6 +22,67 @@ pub enum Kind {
     I64,
     I128,
     Isize,
+}
+
+impl Kind {
+    /// The type that it names.
+    pub fn number_type(self) -> NumberType
+        ensures { result ≡ number_type self }
+    {
+        match self {
+            Kind::U8 => NumberType::U8,
+            Kind::U16 => NumberType::U16,
+            Kind::U32 => NumberType::U32,
+            Kind::U64 => NumberType::U64,
+            Kind::U128 => NumberType::U128,
+            Kind::Usize => NumberType::USIZE,
+            Kind::I8 => NumberType::I8,
+            Kind::I16 => NumberType::I16,
+            Kind::I32 => NumberType::I32,
+            Kind::I64 => NumberType::I64,
+            Kind::I128 => NumberType::I128,
+            Kind::Isize => NumberType::ISIZE,
+        }
+    }
+
+    /// Whether a number is one of its own: with a sign or without, as it has one or not, and in its range.
+    pub fn holds(self, number: Number) -> bool
+        ensures { IsTrue result ↔ IsOfKind self number }
+    {
+        let number_type = self.number_type();
+        match number {
+            Number::Unsigned(value) => !number_type.signed && is_below(value, number_type.bits),
+            Number::Signed(value) => number_type.signed && is_within(value, number_type.bits),
+        }
+    }
+
+    /// Whether its numbers have a sign.
+    pub fn is_signed(self) -> bool
+        ensures { result ≡ (number_type self).signed }
+    {
+        self.number_type().signed
+    }
+}
+
+// Whether a number has at most so many bits.
+fn is_below(value: u128, bits: usize) -> bool
+    requires { bits ≤ 128 }
+    ensures { IsTrue result ↔ (value < 2 ^ bits) }
+{
+    bits == 128 || value < 1 << bits
+}
+
+// Whether a number is in the range of two's complement of so many bits.
+fn is_within(value: i128, bits: usize) -> bool
+    requires some { 0 < bits }
+    requires within { bits ≤ 128 }
+    ensures { IsTrue result ↔ ((neg_ℤ (pos (2 ^ (bits - 1))) ≤ℤ value) × (value <ℤ pos (2 ^ (bits - 1)))) }
+{
+    if value >= 0 {
+        is_below(value as u128, bits - 1)
+    } else {
+        is_below((-(value + 1)) as u128, bits - 1)
+    }
 }
 
 /// A whole number: of an unsigned kind, or of a signed one.

@@ -1,19 +1,157 @@
 //! The program: from words on a command line to bytes and back.
 
-use std::alloc::Global;
-use std::io::{Read, Write};
+ghost use Rattle.std.specs.Prelude.{◌≤◌};
 
-/// The arguments were not of a form that the program knows.
-const USAGE: u8 = 2;
+use crate::list::{Field, Item, Number};
+use crate::read::list_from_bytes;
+use crate::words::{parse_field, parse_item};
+use crate::write::list_to_bytes;
+use deku::DekuError;
+use hex::FromHexError;
+use std::alloc::{AllocError, AllocFailed, Global};
+use std::fmt::Write as _;
+use std::io;
+use std::io::{ErrorKind, Read, Write};
 
-/// Runs the program on the arguments after its name, and answers its status.
-pub fn run<R: Read, W: Write, E: Write>(
-    _alloc: Global,
-    _args: &[String],
-    _input: &mut R,
-    _output: &mut W,
-    errors: &mut E,
-) -> u8 {
-    let _ = errors.write_all(b"usage: fields read|write SPEC..\n");
-    USAGE
+/// Why a run ends without what was asked for.
+#[derive(Drop)]
+enum Failure {
+    /// The arguments are not of a form that the program knows.
+    Usage,
+    /// The input is not hexadecimal text.
+    BadText,
+    /// A read, a write, the input, the output or the memory failed.
+    Fault(DekuError),
 }
+
+impl From<DekuError> for Failure {
+    fn from(fault: DekuError) -> Failure {
+        Failure::Fault(fault)
+    }
+}
+
+impl From<io::Error> for Failure {
+    fn from(error: io::Error) -> Failure {
+        Failure::Fault(DekuError::Io(error.kind()))
+    }
+}
+
+impl<T: Drop> From<AllocFailed<T>> for Failure {
+    fn from(_failed: AllocFailed<T>) -> Failure {
+        Failure::Fault(DekuError::Io(ErrorKind::OutOfMemory))
+    }
+}
+
+impl From<AllocError> for Failure {
+    fn from(_error: AllocError) -> Failure {
+        Failure::Fault(DekuError::Io(ErrorKind::OutOfMemory))
+    }
+}
+
+/// Runs the program on the arguments after its name, and answers its status: 0 where it is done, 1 where the input, the output,
+/// the memory or a value stood in the way, and 2 where the arguments are not of a form that it knows.
+///
+/// `write SPEC=VALUE..` prints the bytes of the items in hexadecimal, and `read SPEC..` reads such text and prints the value of each
+/// field on a line of its own, and then how many bits were read. A fault goes to `errors`, and then nothing goes to the output but
+/// what a failing output took. A fault of `errors` changes nothing.
+pub fn run<R: Read, W: Write, E: Write>(
+    alloc: Global,
+    args: &[String],
+    input: &mut R,
+    output: &mut W,
+    errors: &mut E,
+) -> u8
+    ensures { result ≤ 2 }
+{
+    let Err(failure) = command(alloc, args, input, output) else {
+        return 0;
+    };
+    match failure {
+        Failure::Usage => {
+            let _ = writeln!(errors, "usage: fields read|write SPEC..");
+            2
+        }
+        Failure::BadText => {
+            let _ = writeln!(errors, "error: bad hexadecimal text");
+            1
+        }
+        Failure::Fault(fault) => {
+            let _ = writeln!(errors, "error: {fault}");
+            1
+        }
+    }
+}
+
+fn command<R: Read, W: Write>(
+    alloc: Global,
+    args: &[String],
+    input: &mut R,
+    output: &mut W,
+) -> Result<(), Failure> {
+    let [name, specs @ ..] = args else {
+        return Err(Failure::Usage);
+    };
+    let text = match name.as_str() {
+        "write" => written(alloc, specs)?,
+        "read" => read(alloc, specs, input)?,
+        _ => return Err(Failure::Usage),
+    };
+    output.write_all(text.as_bytes())?;
+    Ok(())
+}
+
+// The bytes of the items that the words name, as a line of hexadecimal text.
+fn written(alloc: Global, specs: &[String]) -> Result<String, Failure> {
+    let mut items: Vec<Item> = Vec::new(alloc);
+    for word in specs {
+        let Some(item) = parse_item(word.as_str()) else {
+            return Err(Failure::Usage);
+        };
+        items.push(item)?;
+    }
+    let bytes = list_to_bytes(alloc, items.as_slice())?;
+    let mut text = hex::encode(alloc, bytes.as_slice())?;
+    text.push('\n')?;
+    Ok(text)
+}
+
+// The values that the fields named by the words read from the input, and the count of bits, as lines of text.
+fn read<R: Read>(alloc: Global, specs: &[String], input: &mut R) -> Result<String, Failure> {
+    let mut fields: Vec<Field> = Vec::new(alloc);
+    for word in specs {
+        let Some(field) = parse_field(word.as_str()) else {
+            return Err(Failure::Usage);
+        };
+        fields.push(field)?;
+    }
+    let bytes = read_bytes(alloc, input)?;
+    let (bits, numbers) = list_from_bytes(alloc, bytes.as_slice(), fields.as_slice())?;
+    let mut text = String::new(alloc);
+    for number in &numbers {
+        match number {
+            Number::Unsigned(value) => writeln!(text, "{value}")?,
+            Number::Signed(value) => writeln!(text, "{value}")?,
+        }
+    }
+    writeln!(text, "bits {bits}")?;
+    Ok(text)
+}
+
+// The bytes that hexadecimal text names, without one last newline.
+fn read_bytes<R: Read>(alloc: Global, input: &mut R) -> Result<Vec<u8>, Failure> {
+    let mut text: Vec<u8> = Vec::new(alloc);
+    input.read_to_end(&mut text)?;
+    if text.last() == Some(&b'\n') {
+        text.pop();
+    }
+    match hex::decode(alloc, text.as_slice()) {
+        Ok(bytes) => Ok(bytes),
+        Err(FromHexError::OutOfMemory) => {
+            Err(Failure::Fault(DekuError::Io(ErrorKind::OutOfMemory)))
+        }
+        Err(_) => Err(Failure::BadText),
+    }
+}
+
+#[cfg(test)]
+mod tests;

@@ -5,3 +5,4 @@ pub mod Places
 pub mod Listing
 pub mod Carrying
 pub mod WorkedRows
+pub mod FieldBits

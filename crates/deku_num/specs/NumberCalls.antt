@@ -57,3 +57,7 @@ pub record Tells (refusal : Bor (List ℕ) → DekuError) (text : List ℕ) (e :
 abbrev pub IsLayoutRefusal : (Bor (List ℕ) → DekuError) → List ℕ → NumberType → Layout → DekuError → Type 0
 IsLayoutRefusal refusal text t l e = ((t.bits < width t l) × Tells refusal text e)
     ⊎ ((width t l ≤ t.bits) × (IsEvenWhere t.signed l.endian l.order (width t l) → ⊥) × Tells InvalidParam (codes "signed big Lsb0 field of this width") e)
+
+-- a number without a sign is read
+abbrev pub ReadsUnsigned : NumberType → Layout → Meaning (Option Stream) ℕ
+ReadsUnsigned t l b s r u = ReadsNumber t l b s (integers r) u

@@ -18,7 +18,7 @@ use std::io;
 use std::io::ErrorKind;
 use std::marker::Model;
 
-// The unread bits of a byte, the fault that stopped the reader, if any, and how many bits were read.
+/// The unread bits of a byte, the fault that stopped the reader, if any, and how many bits were read.
 #[derive(Drop)]
 pub struct Progress {
     window: Window,
@@ -39,7 +39,7 @@ impl Model for Progress {
 }
 
 impl Progress {
-    // Nothing is read.
+    /// Nothing is read.
     pub fn start() -> Progress
         ensures { result ≡ Going [] 0 }
     {
@@ -50,14 +50,14 @@ impl Progress {
         }
     }
 
-    // How many bits were read.
+    /// How many bits were read.
     pub fn bits_read(&self) -> usize
         ensures { result ≡ count_of self.now }
     {
         self.bits_read
     }
 
-    // The unread bits, high bit first; none where the reader has stopped.
+    /// The unread bits, high bit first; none where the reader has stopped.
     pub fn unread(&self) -> &[bool]
         ensures value { result.now ≡ window_of self.now }
         ensures bound { length result.now ≤ 8 }
@@ -68,7 +68,7 @@ impl Progress {
         }
     }
 
-    // Refuses what a reader refuses before it moves anything: by its kept fault, or since the count has no room.
+    /// Refuses what a reader refuses before it moves anything: by its kept fault, or since the count has no room.
     pub fn admits(&self, amt: usize) -> Result<(), DekuError>
         ensures { Admits amt self.now result }
     {
@@ -81,7 +81,7 @@ impl Progress {
         Ok(())
     }
 
-    // Takes bits in this order, one after the other, and stops where that fails.
+    /// Takes bits in this order, one after the other, and stops where that fails.
     pub fn take_bits<R: Source>(
         &mut self,
         source: &mut R,

@@ -6,7 +6,7 @@ ghost use Rattle.deku_bits.specs.Bits.{byte_bits, facing};
 use crate::ctx::Order;
 use std::marker::Model;
 
-// Unread bits of one byte, high bit first: those from `start` to before `end`.
+/// Unread bits of one byte, high bit first: those from `start` to before `end`.
 #[derive(Drop)]
 pub struct Window {
     bits: [bool; 8],
@@ -25,7 +25,7 @@ impl Model for Window {
 }
 
 impl Window {
-    // No bits.
+    /// No bits.
     pub fn empty() -> Window
         ensures { result ≡ [] }
     {
@@ -36,7 +36,7 @@ impl Window {
         }
     }
 
-    // How many bits are unread.
+    /// How many bits are unread.
     pub fn len(&self) -> usize
         ensures value { result ≡ length self.now }
         ensures bound { result ≤ 8 }
@@ -44,7 +44,7 @@ impl Window {
         self.end - self.start
     }
 
-    // The unread bits, high bit first.
+    /// The unread bits, high bit first.
     pub fn as_slice(&self) -> &[bool]
         ensures value { result.now ≡ self.now }
         ensures bound { length result.now ≤ 8 }
@@ -52,7 +52,7 @@ impl Window {
         &self.bits[self.start..self.end]
     }
 
-    // The eight bits of a byte.
+    /// The eight bits of a byte.
     #[tactic(auto, unfolding(crate::specs::Bits::byte_bits, crate::specs::Bits::bits_of))]
     pub fn of_byte(byte: u8) -> Window
         ensures bits { result ≡ byte_bits byte }
@@ -74,7 +74,7 @@ impl Window {
         }
     }
 
-    // Takes the next bit in this order.
+    /// Takes the next bit in this order.
     pub fn pop(&mut self, order: Order) -> bool
         requires { 0 < length self.old }
         ensures { facing order self.old ≡ result ∷ facing order self.new }

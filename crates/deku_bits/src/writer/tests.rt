@@ -158,9 +158,16 @@ fn shows_what_is_pending(rt: HostRuntime) -> Result<(), Fail> {
     let list = bits(rt.alloc(), "101")?;
     writer.write_bits_order(&list, Order::Lsb0)?;
     assert_eq!(rt; writer.rest(rt.alloc())?, list);
+    let (pending, order) = writer.leftover();
+    assert_eq!(rt; pending.len(), 3);
+    assert_eq!(rt; pending.as_raw_slice(), [0xA0].as_slice());
+    assert_eq!(rt; order, Order::Lsb0);
     writer.finalize()?;
     writer.finalize()?;
     assert_eq!(rt; writer.rest(rt.alloc())?.len(), 0);
+    let (pending, order) = writer.leftover();
+    assert!(rt; pending.is_empty());
+    assert_eq!(rt; order, Order::Msb0);
     let bytes = writer.into_inner().into_inner();
     assert_eq!(rt; bytes.as_slice(), [0x05].as_slice());
     Ok(())

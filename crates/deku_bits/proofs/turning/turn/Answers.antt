@@ -1,4 +1,4 @@
-use Rattle.std.proofs.Common.{◌≡◌, ◌+◌, ◌*◌, ◌%◌, ◌≤◌, ◌++◌, length, take, drop, reverse, flat_map, arith, ◌∙◌, sym, ap₂, append-nil}
+use Rattle.std.proofs.Common.{◌≡◌, ◌+◌, ◌*◌, ◌%◌, ◌≤◌, ◌++◌, length, reverse, flat_map, arith, ◌∙◌, sym, ap₂, append-nil}
 use Rattle.std.proofs.lemmas.List.{take_all, drop_all}
 use Rattle.deku_bits.specs.Bits.{chunks}
 use Rattle.deku_bits.proofs.Shown.{shown_whole, shown_other, turned_more}

@@ -1,4 +1,4 @@
-use Rattle.std.proofs.Common.{rules, ◌≡◌, sym}
+use Rattle.std.proofs.Common.{rules}
 use Rattle.deku_bits.proofs.Handing.{name_stays, behind}
 use Rattle.deku_bits.proofs.reader.tests.read_lent.Goals as goal
 

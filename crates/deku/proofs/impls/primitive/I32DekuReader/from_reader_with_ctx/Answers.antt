@@ -1,0 +1,15 @@
+use Rattle.std.proofs.Common.{rules, arith}
+use Rattle.std.proofs.lemmas.Int.{ints}
+use Rattle.deku_bits.proofs.Handing.{passed_on}
+use Rattle.deku.proofs.Joining.{signed_read}
+use mir.Syntax.{w32}
+use mir.Val.{SFits}
+use Rattle.deku.proofs.impls.primitive.I32DekuReader.from_reader_with_ctx.Goals as goal
+
+pub returns-in_err-value : goal.returns-in_err-value
+returns-in_err-value g c = passed_on _ c.from_residual.ensures.1 (rw c.parts.ensures at c.in_err-value.ensures.reads)
+
+pub returns : goal.returns
+returns g c =
+    let fits : SFits w32 c.in_ok-value.value = search rules in
+    signed_read (rw c.parts.ensures at c.in_ok-value.ensures.reads) (omega (arith, ints))

@@ -1,0 +1,358 @@
+//! Whole numbers, under every context that names a layout.
+
+use crate::traits::{DekuReader, DekuWriter};
+use deku_bits::device::{Sink, Source};
+use deku_bits::error::DekuError;
+use deku_bits::reader::Reader;
+use deku_bits::writer::Writer;
+use deku_num::calls::{read_signed, read_unsigned, write_signed, write_unsigned};
+use deku_num::ctx::NumberCtx;
+use deku_num::kind::NumberType;
+
+impl<C: NumberCtx> DekuReader<C> for u8 {
+    ghost use Rattle.std.specs.Prelude.{◌≡◌};
+    ghost use Rattle.deku_num.specs.Numbers.{byte};
+    ghost use Rattle.deku_num.specs.NumberCalls.{ReadsUnsigned};
+
+    ghost accepts = { λ c. c ≡ c };
+
+    ghost meaning = { λ c. ReadsUnsigned byte (C.parts_of c) };
+
+    fn from_reader_with_ctx<R: Source>(reader: &mut Reader<R>, ctx: C) -> Result<Self, DekuError> {
+        let value = read_unsigned(reader, NumberType::U8, ctx.parts())?;
+        Ok(value as u8)
+    }
+}
+
+impl<C: NumberCtx> DekuWriter<C> for u8 {
+    ghost use Rattle.std.specs.Prelude.{◌≡◌, pos};
+    ghost use Rattle.deku_num.specs.Numbers.{byte};
+    ghost use Rattle.deku_num.specs.NumberCalls.{WritesNumber};
+
+    ghost accepts = { λ c. c ≡ c };
+
+    ghost meaning = { λ v c. WritesNumber byte (C.parts_of c) (pos v) };
+
+    fn to_writer<W: Sink>(&self, writer: &mut Writer<W>, ctx: C) -> Result<(), DekuError> {
+        write_unsigned(writer, *self as u128, NumberType::U8, ctx.parts())
+    }
+}
+
+impl<C: NumberCtx> DekuReader<C> for u16 {
+    ghost use Rattle.std.specs.Prelude.{◌≡◌};
+    ghost use Rattle.deku_num.specs.Numbers.{unsigned};
+    ghost use Rattle.deku_num.specs.NumberCalls.{ReadsUnsigned};
+
+    ghost accepts = { λ c. c ≡ c };
+
+    ghost meaning = { λ c. ReadsUnsigned (unsigned 16) (C.parts_of c) };
+
+    fn from_reader_with_ctx<R: Source>(reader: &mut Reader<R>, ctx: C) -> Result<Self, DekuError> {
+        let value = read_unsigned(reader, NumberType::U16, ctx.parts())?;
+        Ok(value as u16)
+    }
+}
+
+impl<C: NumberCtx> DekuWriter<C> for u16 {
+    ghost use Rattle.std.specs.Prelude.{◌≡◌, pos};
+    ghost use Rattle.deku_num.specs.Numbers.{unsigned};
+    ghost use Rattle.deku_num.specs.NumberCalls.{WritesNumber};
+
+    ghost accepts = { λ c. c ≡ c };
+
+    ghost meaning = { λ v c. WritesNumber (unsigned 16) (C.parts_of c) (pos v) };
+
+    fn to_writer<W: Sink>(&self, writer: &mut Writer<W>, ctx: C) -> Result<(), DekuError> {
+        write_unsigned(writer, *self as u128, NumberType::U16, ctx.parts())
+    }
+}
+
+impl<C: NumberCtx> DekuReader<C> for u32 {
+    ghost use Rattle.std.specs.Prelude.{◌≡◌};
+    ghost use Rattle.deku_num.specs.Numbers.{unsigned};
+    ghost use Rattle.deku_num.specs.NumberCalls.{ReadsUnsigned};
+
+    ghost accepts = { λ c. c ≡ c };
+
+    ghost meaning = { λ c. ReadsUnsigned (unsigned 32) (C.parts_of c) };
+
+    fn from_reader_with_ctx<R: Source>(reader: &mut Reader<R>, ctx: C) -> Result<Self, DekuError> {
+        let value = read_unsigned(reader, NumberType::U32, ctx.parts())?;
+        Ok(value as u32)
+    }
+}
+
+impl<C: NumberCtx> DekuWriter<C> for u32 {
+    ghost use Rattle.std.specs.Prelude.{◌≡◌, pos};
+    ghost use Rattle.deku_num.specs.Numbers.{unsigned};
+    ghost use Rattle.deku_num.specs.NumberCalls.{WritesNumber};
+
+    ghost accepts = { λ c. c ≡ c };
+
+    ghost meaning = { λ v c. WritesNumber (unsigned 32) (C.parts_of c) (pos v) };
+
+    fn to_writer<W: Sink>(&self, writer: &mut Writer<W>, ctx: C) -> Result<(), DekuError> {
+        write_unsigned(writer, *self as u128, NumberType::U32, ctx.parts())
+    }
+}
+
+impl<C: NumberCtx> DekuReader<C> for u64 {
+    ghost use Rattle.std.specs.Prelude.{◌≡◌};
+    ghost use Rattle.deku_num.specs.Numbers.{unsigned};
+    ghost use Rattle.deku_num.specs.NumberCalls.{ReadsUnsigned};
+
+    ghost accepts = { λ c. c ≡ c };
+
+    ghost meaning = { λ c. ReadsUnsigned (unsigned 64) (C.parts_of c) };
+
+    fn from_reader_with_ctx<R: Source>(reader: &mut Reader<R>, ctx: C) -> Result<Self, DekuError> {
+        let value = read_unsigned(reader, NumberType::U64, ctx.parts())?;
+        Ok(value as u64)
+    }
+}
+
+impl<C: NumberCtx> DekuWriter<C> for u64 {
+    ghost use Rattle.std.specs.Prelude.{◌≡◌, pos};
+    ghost use Rattle.deku_num.specs.Numbers.{unsigned};
+    ghost use Rattle.deku_num.specs.NumberCalls.{WritesNumber};
+
+    ghost accepts = { λ c. c ≡ c };
+
+    ghost meaning = { λ v c. WritesNumber (unsigned 64) (C.parts_of c) (pos v) };
+
+    fn to_writer<W: Sink>(&self, writer: &mut Writer<W>, ctx: C) -> Result<(), DekuError> {
+        write_unsigned(writer, *self as u128, NumberType::U64, ctx.parts())
+    }
+}
+
+impl<C: NumberCtx> DekuReader<C> for u128 {
+    ghost use Rattle.std.specs.Prelude.{◌≡◌};
+    ghost use Rattle.deku_num.specs.Numbers.{unsigned};
+    ghost use Rattle.deku_num.specs.NumberCalls.{ReadsUnsigned};
+
+    ghost accepts = { λ c. c ≡ c };
+
+    ghost meaning = { λ c. ReadsUnsigned (unsigned 128) (C.parts_of c) };
+
+    fn from_reader_with_ctx<R: Source>(reader: &mut Reader<R>, ctx: C) -> Result<Self, DekuError> {
+        let value = read_unsigned(reader, NumberType::U128, ctx.parts())?;
+        Ok(value)
+    }
+}
+
+impl<C: NumberCtx> DekuWriter<C> for u128 {
+    ghost use Rattle.std.specs.Prelude.{◌≡◌, pos};
+    ghost use Rattle.deku_num.specs.Numbers.{unsigned};
+    ghost use Rattle.deku_num.specs.NumberCalls.{WritesNumber};
+
+    ghost accepts = { λ c. c ≡ c };
+
+    ghost meaning = { λ v c. WritesNumber (unsigned 128) (C.parts_of c) (pos v) };
+
+    fn to_writer<W: Sink>(&self, writer: &mut Writer<W>, ctx: C) -> Result<(), DekuError> {
+        write_unsigned(writer, *self, NumberType::U128, ctx.parts())
+    }
+}
+
+impl<C: NumberCtx> DekuReader<C> for usize {
+    ghost use Rattle.std.specs.Prelude.{◌≡◌};
+    ghost use Rattle.deku_num.specs.Numbers.{unsigned};
+    ghost use Rattle.deku_num.specs.NumberCalls.{ReadsUnsigned};
+
+    ghost accepts = { λ c. c ≡ c };
+
+    ghost meaning = { λ c. ReadsUnsigned (unsigned 64) (C.parts_of c) };
+
+    fn from_reader_with_ctx<R: Source>(reader: &mut Reader<R>, ctx: C) -> Result<Self, DekuError> {
+        let value = read_unsigned(reader, NumberType::USIZE, ctx.parts())?;
+        Ok(value as usize)
+    }
+}
+
+impl<C: NumberCtx> DekuWriter<C> for usize {
+    ghost use Rattle.std.specs.Prelude.{◌≡◌, pos};
+    ghost use Rattle.deku_num.specs.Numbers.{unsigned};
+    ghost use Rattle.deku_num.specs.NumberCalls.{WritesNumber};
+
+    ghost accepts = { λ c. c ≡ c };
+
+    ghost meaning = { λ v c. WritesNumber (unsigned 64) (C.parts_of c) (pos v) };
+
+    fn to_writer<W: Sink>(&self, writer: &mut Writer<W>, ctx: C) -> Result<(), DekuError> {
+        write_unsigned(writer, *self as u128, NumberType::USIZE, ctx.parts())
+    }
+}
+
+impl<C: NumberCtx> DekuReader<C> for i8 {
+    ghost use Rattle.std.specs.Prelude.{◌≡◌};
+    ghost use Rattle.deku_num.specs.Numbers.{signed};
+    ghost use Rattle.deku_num.specs.NumberCalls.{ReadsNumber};
+
+    ghost accepts = { λ c. c ≡ c };
+
+    ghost meaning = { λ c. ReadsNumber (signed 8) (C.parts_of c) };
+
+    fn from_reader_with_ctx<R: Source>(reader: &mut Reader<R>, ctx: C) -> Result<Self, DekuError> {
+        let value = read_signed(reader, NumberType::I8, ctx.parts())?;
+        Ok(value as i8)
+    }
+}
+
+impl<C: NumberCtx> DekuWriter<C> for i8 {
+    ghost use Rattle.std.specs.Prelude.{◌≡◌};
+    ghost use Rattle.deku_num.specs.Numbers.{signed};
+    ghost use Rattle.deku_num.specs.NumberCalls.{WritesNumber};
+
+    ghost accepts = { λ c. c ≡ c };
+
+    ghost meaning = { λ v c. WritesNumber (signed 8) (C.parts_of c) v };
+
+    fn to_writer<W: Sink>(&self, writer: &mut Writer<W>, ctx: C) -> Result<(), DekuError> {
+        write_signed(writer, *self as i128, NumberType::I8, ctx.parts())
+    }
+}
+
+impl<C: NumberCtx> DekuReader<C> for i16 {
+    ghost use Rattle.std.specs.Prelude.{◌≡◌};
+    ghost use Rattle.deku_num.specs.Numbers.{signed};
+    ghost use Rattle.deku_num.specs.NumberCalls.{ReadsNumber};
+
+    ghost accepts = { λ c. c ≡ c };
+
+    ghost meaning = { λ c. ReadsNumber (signed 16) (C.parts_of c) };
+
+    fn from_reader_with_ctx<R: Source>(reader: &mut Reader<R>, ctx: C) -> Result<Self, DekuError> {
+        let value = read_signed(reader, NumberType::I16, ctx.parts())?;
+        Ok(value as i16)
+    }
+}
+
+impl<C: NumberCtx> DekuWriter<C> for i16 {
+    ghost use Rattle.std.specs.Prelude.{◌≡◌};
+    ghost use Rattle.deku_num.specs.Numbers.{signed};
+    ghost use Rattle.deku_num.specs.NumberCalls.{WritesNumber};
+
+    ghost accepts = { λ c. c ≡ c };
+
+    ghost meaning = { λ v c. WritesNumber (signed 16) (C.parts_of c) v };
+
+    fn to_writer<W: Sink>(&self, writer: &mut Writer<W>, ctx: C) -> Result<(), DekuError> {
+        write_signed(writer, *self as i128, NumberType::I16, ctx.parts())
+    }
+}
+
+impl<C: NumberCtx> DekuReader<C> for i32 {
+    ghost use Rattle.std.specs.Prelude.{◌≡◌};
+    ghost use Rattle.deku_num.specs.Numbers.{signed};
+    ghost use Rattle.deku_num.specs.NumberCalls.{ReadsNumber};
+
+    ghost accepts = { λ c. c ≡ c };
+
+    ghost meaning = { λ c. ReadsNumber (signed 32) (C.parts_of c) };
+
+    fn from_reader_with_ctx<R: Source>(reader: &mut Reader<R>, ctx: C) -> Result<Self, DekuError> {
+        let value = read_signed(reader, NumberType::I32, ctx.parts())?;
+        Ok(value as i32)
+    }
+}
+
+impl<C: NumberCtx> DekuWriter<C> for i32 {
+    ghost use Rattle.std.specs.Prelude.{◌≡◌};
+    ghost use Rattle.deku_num.specs.Numbers.{signed};
+    ghost use Rattle.deku_num.specs.NumberCalls.{WritesNumber};
+
+    ghost accepts = { λ c. c ≡ c };
+
+    ghost meaning = { λ v c. WritesNumber (signed 32) (C.parts_of c) v };
+
+    fn to_writer<W: Sink>(&self, writer: &mut Writer<W>, ctx: C) -> Result<(), DekuError> {
+        write_signed(writer, *self as i128, NumberType::I32, ctx.parts())
+    }
+}
+
+impl<C: NumberCtx> DekuReader<C> for i64 {
+    ghost use Rattle.std.specs.Prelude.{◌≡◌};
+    ghost use Rattle.deku_num.specs.Numbers.{signed};
+    ghost use Rattle.deku_num.specs.NumberCalls.{ReadsNumber};
+
+    ghost accepts = { λ c. c ≡ c };
+
+    ghost meaning = { λ c. ReadsNumber (signed 64) (C.parts_of c) };
+
+    fn from_reader_with_ctx<R: Source>(reader: &mut Reader<R>, ctx: C) -> Result<Self, DekuError> {
+        let value = read_signed(reader, NumberType::I64, ctx.parts())?;
+        Ok(value as i64)
+    }
+}
+
+impl<C: NumberCtx> DekuWriter<C> for i64 {
+    ghost use Rattle.std.specs.Prelude.{◌≡◌};
+    ghost use Rattle.deku_num.specs.Numbers.{signed};
+    ghost use Rattle.deku_num.specs.NumberCalls.{WritesNumber};
+
+    ghost accepts = { λ c. c ≡ c };
+
+    ghost meaning = { λ v c. WritesNumber (signed 64) (C.parts_of c) v };
+
+    fn to_writer<W: Sink>(&self, writer: &mut Writer<W>, ctx: C) -> Result<(), DekuError> {
+        write_signed(writer, *self as i128, NumberType::I64, ctx.parts())
+    }
+}
+
+impl<C: NumberCtx> DekuReader<C> for i128 {
+    ghost use Rattle.std.specs.Prelude.{◌≡◌};
+    ghost use Rattle.deku_num.specs.Numbers.{signed};
+    ghost use Rattle.deku_num.specs.NumberCalls.{ReadsNumber};
+
+    ghost accepts = { λ c. c ≡ c };
+
+    ghost meaning = { λ c. ReadsNumber (signed 128) (C.parts_of c) };
+
+    fn from_reader_with_ctx<R: Source>(reader: &mut Reader<R>, ctx: C) -> Result<Self, DekuError> {
+        let value = read_signed(reader, NumberType::I128, ctx.parts())?;
+        Ok(value)
+    }
+}
+
+impl<C: NumberCtx> DekuWriter<C> for i128 {
+    ghost use Rattle.std.specs.Prelude.{◌≡◌};
+    ghost use Rattle.deku_num.specs.Numbers.{signed};
+    ghost use Rattle.deku_num.specs.NumberCalls.{WritesNumber};
+
+    ghost accepts = { λ c. c ≡ c };
+
+    ghost meaning = { λ v c. WritesNumber (signed 128) (C.parts_of c) v };
+
+    fn to_writer<W: Sink>(&self, writer: &mut Writer<W>, ctx: C) -> Result<(), DekuError> {
+        write_signed(writer, *self, NumberType::I128, ctx.parts())
+    }
+}
+
+impl<C: NumberCtx> DekuReader<C> for isize {
+    ghost use Rattle.std.specs.Prelude.{◌≡◌};
+    ghost use Rattle.deku_num.specs.Numbers.{signed};
+    ghost use Rattle.deku_num.specs.NumberCalls.{ReadsNumber};
+
+    ghost accepts = { λ c. c ≡ c };
+
+    ghost meaning = { λ c. ReadsNumber (signed 64) (C.parts_of c) };
+
+    fn from_reader_with_ctx<R: Source>(reader: &mut Reader<R>, ctx: C) -> Result<Self, DekuError> {
+        let value = read_signed(reader, NumberType::ISIZE, ctx.parts())?;
+        Ok(value as isize)
+    }
+}
+
+impl<C: NumberCtx> DekuWriter<C> for isize {
+    ghost use Rattle.std.specs.Prelude.{◌≡◌};
+    ghost use Rattle.deku_num.specs.Numbers.{signed};
+    ghost use Rattle.deku_num.specs.NumberCalls.{WritesNumber};
+
+    ghost accepts = { λ c. c ≡ c };
+
+    ghost meaning = { λ v c. WritesNumber (signed 64) (C.parts_of c) v };
+
+    fn to_writer<W: Sink>(&self, writer: &mut Writer<W>, ctx: C) -> Result<(), DekuError> {
+        write_signed(writer, *self as i128, NumberType::ISIZE, ctx.parts())
+    }
+}

@@ -1,0 +1,176 @@
+-- What writing a list of fitting items gives to a sink.
+use Rattle.std.proofs.Common.{◌≡◌, ◌⊎◌, ℕ, ◌+◌, ◌*◌, ◌%◌, ◌<◌, ◌≤◌, ◌^◌, Bool, true, false, Result, Ok, Err, Option, Some, None, List, [], ◌∷◌, ◌++◌, length, All, ℤ, pos, refl, ap, ap₂, sym, ◌∙◌, subst, inl, inr, arith, length-append, append-nil}
+use Rattle.std.proofs.KnownBytes.{Appends-nil, Appends-trans}
+use Rattle.std.proofs.lemmas.List.Elements.{All-head, All-tail}
+use Rattle.std.specs.declared.io.ErrorKind.{ErrorKind}
+use Rattle.deku_bits.specs.declared.ctx.Order.{Order}
+use Rattle.deku_bits.specs.declared.error.DekuError.{DekuError}
+use Rattle.deku_bits.specs.declared.error.DekuError.TheVariants.{Io}
+use Rattle.deku_bits.specs.Bits.{shown}
+use Rattle.deku_bits.specs.Pieces.{Piece}
+use Rattle.deku_bits.specs.Writers.{Pending, Written, append, finalized}
+use Rattle.deku_bits.specs.Symmetry.{followed, appended}
+use Rattle.deku_bits.specs.Devices.{LacksRoom}
+use Rattle.deku_bits.specs.Standings.{Standing, Going, Output}
+use Rattle.deku_bits.specs.WriterCalls.{Took, Emits, WritesBits, Finalizes}
+use Rattle.deku_bits.proofs.Gives.{Shrinks-none, Shrinks-trans, LacksRoom-after, LacksRoom-more}
+use Rattle.deku_num.specs.declared.kind.NumberType.{NumberType}
+use Rattle.deku_num.specs.declared.ctx.Layout.{Layout}
+use Rattle.deku_num.specs.Numbers.{value, IsAllowed, IsFieldOf, IsListFor}
+use Rattle.deku_num.specs.NumberLaws.{InType}
+use Rattle.deku_num.specs.NumberCalls.{Checked, Refused, Passed, WritesNumber}
+use Rattle.deku_num.proofs.Ranges.{type_law}
+use Rattle.deku_num.proofs.FieldBits.{listed_for, one_list}
+use Rattle.deku.specs.Composing.{Answer, Answered, Then, Second, First}
+use Rattle.deku_fields.specs.declared.list.Kind.{Kind}
+use Rattle.deku_fields.specs.declared.list.Kind.TheVariants.{U8, U16, U32, U64, U128, Usize, I8, I16, I32, I64, I128, Isize}
+use Rattle.deku_fields.specs.declared.list.Number.{Number}
+use Rattle.deku_fields.specs.declared.list.Number.TheVariants.{Unsigned, Signed}
+use Rattle.deku_fields.specs.declared.list.Item.{Item}
+use Rattle.deku_fields.specs.Items.{IsNumber, number_type, IsWorth, IsFitting, IsPieceOf, ArePieces}
+use Rattle.deku_fields.specs.ListCalls.{integer_of, has_sign, IsOfKind, WritesItem, WritesItems}
+
+-- what a call with these bytes to give may end with: they are taken; or the sink lacks the room for them; or they are past the count
+pub data Wrote (w : Written) (out : Output) (c : ℕ) (r : Result (Unit {0}) DekuError) (u : Standing Output) : Type 0 where
+  Done : (after : Output) → Took w out after → r ≡ Ok tt → u ≡ Going after (c + 8 * length w.bytes) → Wrote w out c r u
+  Lacking : (kind : ErrorKind) → LacksRoom out.room (length w.bytes) kind → r ≡ Err (Io kind) → Wrote w out c r u
+  Full : 2 ^ 64 ≤ c + 8 * length w.bytes → Wrote w out c r u
+
+pub emitted : (write : Pending → Written) (out : Output) (c : ℕ) (r : Result (Unit {0}) DekuError) (u : Standing Output)
+    → Emits write false (Going out c) r u → Wrote (write out.pending) out c r u
+emitted write out c r u (inl p) = Full p.0
+emitted write out c r u (inr (a, inl p)) = Done p.0 p.1 p.2 p.3
+emitted write out c r u (inr (a, inr p)) = Lacking p.0 p.2 p.3
+
+-- one call after another that gave its bytes
+then_wrote : (w : Written) (next : Pending → Written) (out mid : Output) (c : ℕ) (r : Result (Unit {0}) DekuError) (u : Standing Output)
+    → Took w out mid → Wrote (next mid.pending) mid (c + 8 * length w.bytes) r u → Wrote (followed w next) out c r u
+then_wrote w next out mid c r u t (Done after q e f) =
+    let x : List ℕ = w.bytes in
+    let V : Written = next w.pending in
+    let k : next mid.pending ≡ V = ap next t.pending in
+    let q' : Took V mid after = subst (λ W. Took W mid after) k q in
+    let sum : c + 8 * length x + 8 * length (next mid.pending).bytes ≡ c + 8 * length (x ++ V.bytes) =
+    ap (λ W. c + 8 * length x + 8 * length W.bytes) k ∙ omega (arith, length-append x V.bytes) in
+    Done after
+    (record {
+      taken = Appends-trans out.taken mid.taken after.taken x V.bytes t.taken q'.taken;
+      room = rw (length-append x V.bytes) (Shrinks-trans out.room mid.room after.room (length x) (length V.bytes) t.room q'.room);
+      pending = q'.pending;
+    })
+    e (f ∙ ap (λ n. Going after n) sum)
+then_wrote w next out mid c r u t (Lacking kind l e) =
+    let k : next mid.pending ≡ next w.pending = ap next t.pending in
+    Lacking kind
+    (rw (length-append w.bytes (next w.pending).bytes)
+    (LacksRoom-after out.room mid.room (length w.bytes) (length (next w.pending).bytes) kind t.room (subst (λ W. LacksRoom mid.room (length W.bytes) kind) k l)))
+    e
+then_wrote w next out mid c r u t (Full p) =
+    let k : length (next mid.pending).bytes ≡ length (next w.pending).bytes = ap (λ P. length (next P).bytes) t.pending in
+    Full (omega (arith, length-append w.bytes (next w.pending).bytes))
+
+-- a call that did not give its bytes, before another
+wrote_less : (w : Written) (next : Pending → Written) (out : Output) (c : ℕ) (e : DekuError) (r : Result (Unit {0}) DekuError) (u : Standing Output)
+    → Wrote w out c (Err e) u → r ≡ Err e → Wrote (followed w next) out c r u
+wrote_less w next out c e r u (Done after q f g) h = absurd (cc)
+wrote_less w next out c e r u (Lacking kind l f) h =
+    let n : length w.bytes ≤ length (followed w next).bytes = omega (arith, length-append w.bytes (next w.pending).bytes) in
+    Lacking kind (LacksRoom-more out.room (length w.bytes) (length (followed w next).bytes) kind n l) (h ∙ f)
+wrote_less w next out c e r u (Full p) h = Full (omega (arith, length-append w.bytes (next w.pending).bytes))
+
+pub followed_wrote : (w : Written) (next : Pending → Written) (out : Output) (c : ℕ) (m : (b : Bool) → Standing Output → Result (Unit {0}) DekuError → Standing Output → Type 0)
+    (k : Unit {0} → (b : Bool) → Standing Output → Result (Unit {0}) DekuError → Standing Output → Type 0) (r : Result (Unit {0}) DekuError) (u : Standing Output)
+    → ((r : Result (Unit {0}) DekuError) (u : Standing Output) → m false (Going out c) r u → Wrote w out c r u)
+    → ((mid : Output) (d : ℕ) (r : Result (Unit {0}) DekuError) (u : Standing Output) → k tt false (Going mid d) r u → Wrote (next mid.pending) mid d r u)
+    → Then m k false (Going out c) r u → Wrote (followed w next) out c r u
+followed_wrote w next out c m k r u f g (First e p q) = wrote_less w next out c e r u (f (Err e) u p) q
+followed_wrote w next out c m k r u f g (Second v t p q) = go (f (Ok v) t p)
+  where
+    go : Wrote w out c (Ok v) t → Wrote (followed w next) out c r u
+    go (Done after a e h) = then_wrote w next out after c r u a (g after (c + 8 * length w.bytes) r u (rw h at q))
+    go (Lacking kind l e) = absurd (cc)
+    go (Full p) = Full (omega (arith, length-append w.bytes (next w.pending).bytes))
+
+-- ---- one item
+integer_is : (b : Bool) (v : ℤ) (n : Number) → IsNumber b v n → v ≡ integer_of n
+integer_is false v (Unsigned n) e = e
+integer_is false v (Signed z) e = absurd e
+integer_is true v (Unsigned n) e = absurd e
+integer_is true v (Signed z) e = e
+
+whole_kind : (k : Kind) → (number_type k).bits % 8 ≡ 0
+whole_kind U8 = refl
+whole_kind U16 = refl
+whole_kind U32 = refl
+whole_kind U64 = refl
+whole_kind U128 = refl
+whole_kind Usize = refl
+whole_kind I8 = refl
+whole_kind I16 = refl
+whole_kind I32 = refl
+whole_kind I64 = refl
+whole_kind I128 = refl
+whole_kind Isize = refl
+
+sign_is : (b : Bool) (v : ℤ) (n : Number) → IsNumber b v n → has_sign n ≡ b
+sign_is false v (Unsigned n) e = refl
+sign_is false v (Signed z) e = absurd e
+sign_is true v (Unsigned n) e = absurd e
+sign_is true v (Signed z) e = refl
+
+-- a fitting item is worth a value of its kind
+of_kind : (i : Item) → IsFitting i → IsOfKind i.field.kind i.value
+of_kind i f =
+    let t : NumberType = number_type i.field.kind in
+    let l : Layout = i.field.layout in
+    let v : ℤ = value t l f.bits in
+    (
+      sign_is t.signed v i.value (f.worth.worth),
+      subst (λ x. InType t.signed t.bits x) (integer_is t.signed v i.value (f.worth.worth)) (type_law t l (whole_kind i.field.kind) (f.allowed) f.bits (f.worth.wide)),
+    )
+
+-- the bits of an item's piece are the list of its value
+piece_is : (i : Item) (p : Piece) → IsPieceOf i p → IsFieldOf (number_type i.field.kind) i.field.layout (integer_of i.value) p.bits
+piece_is i p a = record { wide = a.worth.wide; worth = integer_is (number_type i.field.kind).signed _ i.value (a.worth.worth) }
+
+-- a fitting item is written as its piece
+item_wrote : (i : Item) (p : Piece) → IsFitting i → IsPieceOf i p → (out : Output) (c : ℕ) (r : Result (Unit {0}) DekuError) (u : Standing Output)
+    → WritesItem i false (Going out c) r u → Wrote (append p.order (shown p.order p.bits) out.pending) out c r u
+item_wrote i p f a out c r u (Refused b q) = absurd (q.0 (of_kind i f))
+item_wrote i p f a out c r u (Passed (k, w)) = number w
+  where
+    t : NumberType
+    t = number_type i.field.kind
+
+    l : Layout
+    l = i.field.layout
+
+    v : ℤ
+    v = integer_of i.value
+
+    listed : IsListFor t l v p.bits
+    listed = listed_for t l v p.bits (piece_is i p a)
+
+    number : WritesNumber t l v false (Going out c) r u → Wrote (append p.order (shown p.order p.bits) out.pending) out c r u
+    number (Refused b (inl q)) = absurd (omega (arith, q.0, f.allowed.within))
+    number (Refused b (inr q)) = absurd (q.1 f.allowed.even)
+    number (Passed (Refused b q)) = absurd (q.0 p.bits listed)
+    number (Passed (Passed q)) =
+        let same : q.1.0 ≡ p.bits = one_list t l v q.1.0 p.bits (f.allowed) q.1.1 listed in
+        let bits : WritesBits l.order (shown l.order p.bits) false (Going out c) r u = subst (λ s. WritesBits l.order (shown l.order s) false (Going out c) r u) same q.1.2 in
+        subst (λ o. Wrote (append o (shown o p.bits) out.pending) out c r u) (sym (a.same_order)) (emitted (append l.order (shown l.order p.bits)) out c r u bits)
+
+-- fitting items are written as their pieces, one after the other
+pub items_wrote : (items : List Item) (ps : List Piece) → All IsFitting items → ArePieces items ps → (out : Output) (c : ℕ) (r : Result (Unit {0}) DekuError) (u : Standing Output)
+    → WritesItems items false (Going out c) r u → Wrote (appended ps out.pending) out c r u
+unfolding appended
+items_wrote [] [] all a out c r u Answered =
+    let n : c ≡ c + 8 * 0 = omega arith in
+    Done out (record { taken = Appends-nil out.taken; room = Shrinks-none out.room; pending = refl }) refl (ap (λ x. Going out x) n)
+items_wrote [] (p ∷ ps) all a out c r u w = absurd a
+items_wrote (i ∷ is) [] all a out c r u w = absurd a
+items_wrote (i ∷ is) (p ∷ ps) all a out c r u w =
+    followed_wrote (append p.order (shown p.order p.bits) out.pending) (appended ps) out c (WritesItem i) (λ _. WritesItems is) r u
+    (λ x y m. item_wrote i p (All-head IsFitting i is all) a.0 out c x y m)
+    (λ mid d x y m. items_wrote is ps (All-tail IsFitting i is all) a.1 mid d x y m)
+    w

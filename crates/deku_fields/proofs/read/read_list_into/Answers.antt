@@ -1,0 +1,19 @@
+use Rattle.std.proofs.Common.{◌≡◌, length, refl, ◌∙◌, arith, rules}
+use Rattle.std.proofs.lemmas.List.{length-set}
+use Rattle.deku_fields.proofs.Stepping.{started, field_read, field_refused, fields_read}
+use Rattle.deku_fields.proofs.read.read_list_into.Goals as goal
+
+pub loop-place-init : goal.loop-place-init
+loop-place-init g c = (refl, started c.args.fields.now c.args.out.now _ _)
+
+pub returns-in-Err : goal.returns-in-Err
+returns-in-Err g c = field_refused c.args.fields.now c.loop-place.place _ _ c.in-Err.refusal _ _ _ _ _ _ (omega arith) (c.loop-place.invariant.1) (c.in-Err.ensures)
+
+pub loop-place-preserved : goal.loop-place-preserved
+loop-place-preserved g c = (
+  length-set c.loop-place.out c.loop-place.place c.in-Ok.number ∙ c.loop-place.invariant.0,
+  field_read c.args.fields.now c.loop-place.place _ c.loop-place.out c.in-Ok.number _ _ _ _ _ _ (omega arith) (omega (arith, c.loop-place.invariant.0, c.requires)) (c.loop-place.invariant.1) (c.in-Ok.ensures),
+)
+
+pub returns : goal.returns
+returns g c = fields_read c.args.fields.now c.loop-place.place c.loop-place.out _ _ _ _ (omega arith) (omega (arith, c.loop-place.invariant.0, c.requires)) (c.loop-place.invariant.1)

@@ -1,0 +1,84 @@
+-- What the calls on lists of fields do.
+use Rattle.std.specs.Prelude.{◌≡◌, ◌⊎◌, ℕ, ◌<◌, ◌≤◌, ◌^◌, ◌-◌, Bool, true, false, List, [], ◌∷◌, ◌++◌, Option, None, Some, Result, Ok, Err, codes, ℤ, pos, negsuc}
+use Rattle.std.specs.Global.{Vec}
+use Rattle.deku_bits.specs.declared.error.DekuError.{DekuError}
+use Rattle.deku_bits.specs.declared.error.DekuError.TheVariants.{InvalidParam, Io}
+use Rattle.std.specs.declared.io.ErrorKind.TheVariants.{OutOfMemory}
+use Rattle.deku_bits.specs.Streams.{Stream}
+use Rattle.deku_bits.specs.Writers.{Nothing}
+use Rattle.deku_bits.specs.Standings.{Standing, Going, Output}
+use Rattle.deku_bits.specs.Outcomes.{Meaning, Refuses, Mapped}
+use Rattle.deku_bits.specs.WriterCalls.{Finalizes}
+use Rattle.deku_num.specs.NumberLaws.{InType}
+use Rattle.deku_num.specs.NumberCalls.{Checked, ReadsNumber, WritesNumber}
+use Rattle.deku.specs.Composing.{Answer, Then}
+use Rattle.deku_fields.specs.declared.list.Number.{Number}
+use Rattle.deku_fields.specs.declared.list.Number.TheVariants.{Unsigned, Signed}
+use Rattle.deku_fields.specs.declared.list.Kind.{Kind}
+use Rattle.deku_fields.specs.declared.list.Field.{Field}
+use Rattle.deku_fields.specs.declared.list.Item.{Item}
+use Rattle.deku_fields.specs.Items.{number_type}
+
+-- ---- reading
+-- an integer as a number of a kind without a sign, or with one
+abbrev pub number_of : Bool → ℤ → Number
+number_of false (pos n) = Unsigned n
+number_of false (negsuc n) = Unsigned 0
+number_of true z = Signed z
+
+-- a field is read
+abbrev pub ReadsField : Field → Meaning (Option Stream) Number
+ReadsField f = Mapped (number_of (number_type f.kind).signed) (ReadsNumber (number_type f.kind) f.layout)
+
+-- fields are read one after the other
+abbrev pub ReadsFields : List Field → Meaning (Option Stream) (List Number)
+ReadsFields [] = Answer []
+ReadsFields (f ∷ fs) = Then (ReadsField f) (λ n. Mapped (λ ns. n ∷ ns) (ReadsFields fs))
+
+-- what was put into a buffer, where the call succeeds
+abbrev pub filling : Result (Unit {0}) DekuError → List Number → Result (List Number) DekuError
+filling (Ok v) numbers = Ok numbers
+filling (Err e) numbers = Err e
+
+-- ---- writing
+-- a number as an integer
+abbrev pub integer_of : Number → ℤ
+integer_of (Unsigned n) = pos n
+integer_of (Signed z) = z
+
+-- whether a number is one of a signed kind
+abbrev pub has_sign : Number → Bool
+has_sign (Unsigned n) = false
+has_sign (Signed z) = true
+
+-- a number is of a kind: it has a sign or not as the kind has, and it is in its range
+abbrev pub IsOfKind : Kind → Number → Type 0
+IsOfKind k n = (has_sign n ≡ (number_type k).signed) × InType (number_type k).signed (number_type k).bits (integer_of n)
+
+-- an item is written: its value is looked at, and it is written as a number
+abbrev pub WritesItem : Item → Meaning Output (Unit {0})
+WritesItem i = Checked (λ s r u. (IsOfKind i.field.kind i.value → ⊥) × Refuses InvalidParam (codes "value outside type") s r u)
+    (λ b s r u. IsOfKind i.field.kind i.value × WritesNumber (number_type i.field.kind) i.field.layout (integer_of i.value) b s r u)
+
+-- items are written one after the other
+abbrev pub WritesItems : List Item → Meaning Output (Unit {0})
+WritesItems [] = Answer tt
+WritesItems (i ∷ is) = Then (WritesItem i) (λ _. WritesItems is)
+
+-- nothing is written, to memory that grows
+abbrev pub in_memory : Output
+in_memory = record { taken = Some []; room = None; pending = Nothing }
+
+-- what m gives from nothing written, to memory that grows
+abbrev pub WritesWhole : Meaning Output (Unit {0}) → Result (Vec ℕ) DekuError → Type 0
+WritesWhole m (Ok v) = (out : Output) × (c : ℕ) × m false (Going in_memory 0) (Ok tt) (Going out c) × (out.taken ≡ Some v.items)
+WritesWhole m (Err e) = (u : Standing Output) × m false (Going in_memory 0) (Err e) u
+
+-- fields are read into memory that is found first, or it is refused and nothing changed
+abbrev pub ReadsVec : List Field → Meaning (Option Stream) (List Number)
+ReadsVec fs b s r u = ((b ≡ false) × (r ≡ Err (Io OutOfMemory)) × (u ≡ s)) ⊎ ReadsFields fs b s r u
+
+-- what was read, where the call succeeds
+abbrev pub items_of : Result (Vec Number) DekuError → Result (List Number) DekuError
+items_of (Ok v) = Ok v.items
+items_of (Err e) = Err e

@@ -1,0 +1,174 @@
+//! Runs of the program: words, the input, and what it answers, prints and complains.
+
+use super::run;
+use std::alloc::Global;
+use std::io;
+use std::io::{Error, ErrorKind, Read, Write};
+use std::process::Abort;
+use std::test::Fail;
+
+// Words as arguments.
+fn arguments(alloc: Global, words: &[&str]) -> Result<Vec<String>, Fail> {
+    let mut args: Vec<String> = Vec::new(alloc);
+    for word in words {
+        args.push(String::from_str(alloc, word)?)?;
+    }
+    Ok(args)
+}
+
+// The program, run on words over text in memory, ends so.
+fn expect(
+    rt: &impl Abort,
+    alloc: Global,
+    words: &[&str],
+    input: &str,
+    want: (u8, &str, &str),
+) -> Result<(), Fail> {
+    let args = arguments(alloc, words)?;
+    let mut output: Vec<u8> = Vec::new(alloc);
+    let mut errors: Vec<u8> = Vec::new(alloc);
+    let status = run(
+        alloc,
+        args.as_slice(),
+        &mut input.as_bytes(),
+        &mut output,
+        &mut errors,
+    );
+    assert_eq!(rt; errors.as_slice(), want.2.as_bytes(), "errors of {words:?}");
+    assert_eq!(rt; output.as_slice(), want.1.as_bytes(), "output of {words:?}");
+    assert_eq!(rt; status, want.0, "status of {words:?}");
+    Ok(())
+}
+
+const MISFIT: &str =
+    "error: Invalid param error: bit size of input is larger than requested size\n";
+const OUTSIDE: &str = "error: Invalid param error: value outside type\n";
+const USAGE: &str = "usage: fields read|write SPEC..\n";
+
+#[test]
+fn writes_items(rt: HostRuntime) -> Result<(), Fail> {
+    let alloc = rt.alloc();
+    let runs: [(&[&str], &str); 6] = [
+        (
+            &["write", "u8,big,bits4=6", "u8,big,bits4=9", "u16,big=49406"],
+            "69c0fe\n",
+        ),
+        (&["write", "u8,big,bits3=5"], "a0\n"),
+        (&["write", "u8,big,msb,bits3=5"], "a0\n"),
+        (&["write"], "\n"),
+        (&["write", "i8,bits3=-3"], "a0\n"),
+        (&["write", "i16,bits12=-2"], "fef0\n"),
+    ];
+    for (words, output) in runs {
+        expect(&rt, alloc, words, "", (0, output, ""))?;
+    }
+    Ok(())
+}
+
+#[test]
+fn reads_fields(rt: HostRuntime) -> Result<(), Fail> {
+    let alloc = rt.alloc();
+    let runs: [(&[&str], &str, &str); 4] = [
+        (
+            &["read", "u8,big,bits4", "u8,big,bits4", "u16,big"],
+            "69c0fe",
+            "6\n9\n49406\nbits 24\n",
+        ),
+        (
+            &["read", "u8,big,bits4", "u8,big,bits4", "u16,big"],
+            "69BEEF\n",
+            "6\n9\n48879\nbits 24\n",
+        ),
+        (&["read"], "", "bits 0\n"),
+        (&["read", "i8,bits3"], "a0", "-3\nbits 3\n"),
+    ];
+    for (words, input, output) in runs {
+        expect(&rt, alloc, words, input, (0, output, ""))?;
+    }
+    Ok(())
+}
+
+#[test]
+fn refuses_values_and_input(rt: HostRuntime) -> Result<(), Fail> {
+    let alloc = rt.alloc();
+    let runs: [(&[&str], &str, &str); 6] = [
+        (&["write", "u8,big,bits4=16"], "", MISFIT),
+        (&["write", "i8,bits3=4"], "", MISFIT),
+        (&["write", "u8,big=300"], "", OUTSIDE),
+        (&["write", "u8=300"], "", OUTSIDE),
+        (
+            &["read", "u16"],
+            "69",
+            "error: Not enough data, need 16 bits (or 2 bytes)\n",
+        ),
+        (&["read", "u8"], "6", "error: bad hexadecimal text\n"),
+    ];
+    for (words, input, errors) in runs {
+        expect(&rt, alloc, words, input, (1, "", errors))?;
+    }
+    Ok(())
+}
+
+#[test]
+fn refuses_other_words(rt: HostRuntime) -> Result<(), Fail> {
+    let alloc = rt.alloc();
+    let runs: [&[&str]; 12] = [
+        &[],
+        &["copy"],
+        &["write", "u9,big=1"],
+        &["write", "u9=1"],
+        &["write", "u8,big"],
+        &["write", "u8,big="],
+        &["write", "u8,big=+1"],
+        &["write", "u8,big,bits=1"],
+        &["write", "u8,msb,big=1"],
+        &["write", "u8=340282366920938463463374607431768211456"],
+        &["write", "u8,lsb=1"],
+        &["read", "u16,bytes1"],
+    ];
+    for words in runs {
+        expect(&rt, alloc, words, "", (2, "", USAGE))?;
+    }
+    Ok(())
+}
+
+// An input or an output that fails.
+#[derive(Drop)]
+struct Broken;
+
+impl Read for Broken {
+    fn read(&mut self, _buf: &mut [u8]) -> io::Result<usize> {
+        Err(Error::from(ErrorKind::Other))
+    }
+}
+
+impl Write for Broken {
+    fn write(&mut self, _buf: &[u8]) -> io::Result<usize> {
+        Err(Error::from(ErrorKind::Other))
+    }
+
+    fn flush(&mut self) -> io::Result<()> {
+        Ok(())
+    }
+}
+
+#[test]
+fn tells_of_failing_streams(rt: HostRuntime) -> Result<(), Fail> {
+    let alloc = rt.alloc();
+    let want = b"error: io errorr: Other\n";
+    let args = arguments(alloc, &["read", "u8"])?;
+    let mut output: Vec<u8> = Vec::new(alloc);
+    let mut errors: Vec<u8> = Vec::new(alloc);
+    let status = run(alloc, args.as_slice(), &mut Broken, &mut output, &mut errors);
+    assert_eq!(rt; status, 1);
+    assert_eq!(rt; output.len(), 0);
+    assert_eq!(rt; errors.as_slice(), want.as_slice());
+    let args = arguments(alloc, &["write", "u8=1"])?;
+    let mut errors: Vec<u8> = Vec::new(alloc);
+    let status = run(alloc, args.as_slice(), &mut "".as_bytes(), &mut Broken, &mut errors);
+    assert_eq!(rt; status, 1);
+    assert_eq!(rt; errors.as_slice(), want.as_slice());
+    let args = arguments(alloc, &["write", "u9=1"])?;
+    assert_eq!(rt; run(alloc, args.as_slice(), &mut "".as_bytes(), &mut Broken, &mut Broken), 2);
+    Ok(())
+}

@@ -1,0 +1,90 @@
+//! Reading lists of fields.
+
+ghost use Rattle.std.specs.Prelude.{◌≡◌, ◌+◌, ◌<◌, ◌≤◌, ◌^◌, ◌++◌, ◌/◌, ◌∷◌, List, length, map, drop, All, IfOk, IfErr};
+ghost use Rattle.deku_bits.specs.Pieces.{total};
+ghost use Rattle.deku_bits.specs.ReaderCalls.{Reads};
+ghost use Rattle.deku_fields.specs.Items.{IsFitting, AlignedFields, LaysOut, fields_of, values_of, field_shape};
+ghost use Rattle.deku_fields.specs.ListCalls.{ReadsField, ReadsFields, ReadsVec, filling, items_of};
+
+use crate::list::{Field, Number};
+use deku::calls::{read_signed, read_unsigned};
+use deku::device::Source;
+use deku::error::DekuError;
+use deku::reader::Reader;
+use std::alloc::Global;
+use std::io::{Cursor, ErrorKind};
+
+/// Reads one value for each field, in order, into `out`. It takes no memory.
+///
+/// A field is refused as its number is: with `Parse("too much data")` where its size is beyond its kind, with
+/// `InvalidParam("signed big Lsb0 field of this width")`, and then as `Reader` refuses to read its bits. What the fields before it
+/// moved stays moved, and what `out` holds is then open. Without fields no call is made on the reader.
+///
+/// The caller's condition: `out` has one place for each field.
+pub fn read_list_into<R: Source>(
+    reader: &mut Reader<R>,
+    fields: &[Field],
+    out: &mut [Number],
+) -> Result<(), DekuError>
+    requires { length out.old ≡ length fields.now }
+    ensures { Reads R.told (ReadsFields fields.now) reader.old (filling result out.new) reader.new }
+{
+    for (place, field) in fields.iter().enumerate() {
+        match read_field(reader, field) {
+            Ok(number) => out[place] = number,
+            Err(refusal) => return Err(refusal),
+        }
+    }
+    Ok(())
+}
+
+// Reads the value of a field.
+fn read_field<R: Source>(reader: &mut Reader<R>, field: &Field) -> Result<Number, DekuError>
+    ensures { Reads R.told (ReadsField field.now) reader.old result reader.new }
+{
+    let number_type = field.kind.number_type();
+    if number_type.signed {
+        let value = read_signed(reader, number_type, field.layout)?;
+        Ok(Number::Signed(value))
+    } else {
+        let value = read_unsigned(reader, number_type, field.layout)?;
+        Ok(Number::Unsigned(value))
+    }
+}
+
+/// One value for each field, in order. It is `read_list_into` a vector, whose memory is found first.
+///
+/// Where no memory is found it is refused with `Io(OutOfMemory)`, and nothing moves.
+pub fn read_list<R: Source>(
+    reader: &mut Reader<R>,
+    fields: &[Field],
+) -> Result<Vec<Number>, DekuError>
+    ensures { Reads R.told (ReadsVec fields.now) reader.old (items_of result) reader.new }
+{
+    let Ok(mut numbers) = vec![in reader.alloc(); Number::Unsigned(0); fields.len()] else {
+        return Err(DekuError::Io(ErrorKind::OutOfMemory));
+    };
+    match read_list_into(reader, fields, numbers.as_mut_slice()) {
+        Ok(()) => Ok(numbers),
+        Err(refusal) => Err(refusal),
+    }
+}
+
+/// How many bits the fields took of the bytes, from the first one on, and their values.
+///
+/// It is refused as `read_list` is; `Incomplete` has the bits that were asked for.
+///
+/// ```text
+/// // 4 bits, 4 bits and a `u16`, big and `Msb0`, from 69 C0 FE
+/// list_from_bytes(alloc, &bytes, &fields)?           // (24, [6, 9, 49406])
+/// ```
+pub fn list_from_bytes(
+    alloc: Global,
+    bytes: &[u8],
+    fields: &[Field],
+) -> Result<(usize, Vec<Number>), DekuError>
+{
+    let mut reader = Reader::new(alloc, Cursor::new(bytes));
+    let numbers = read_list(&mut reader, fields)?;
+    Ok((reader.bits_read(), numbers))
+}

@@ -1,0 +1,69 @@
+//! Writing lists of items.
+
+ghost use Rattle.std.specs.Prelude.{◌≡◌, ◌+◌, ◌*◌, ◌<◌, ◌≤◌, ◌^◌, ◌-◌, List, length, map, take, All, IfOk, IfErr, MatchResult};
+ghost use Rattle.std.specs.declared.io.ErrorKind.TheVariants.{OutOfMemory};
+ghost use Rattle.deku_bits.specs.declared.error.DekuError.TheVariants.{Io};
+ghost use Rattle.deku_bits.specs.WriterCalls.{Writes, Finalizes};
+ghost use Rattle.deku.specs.Composing.{Both};
+ghost use Rattle.deku_fields.specs.Items.{IsFitting, AlignedFields, LaysOut, fields_of};
+ghost use Rattle.deku_fields.specs.ListCalls.{WritesItem, WritesItems, WritesWhole};
+
+use crate::list::{Item, Number};
+use deku::calls::{write_signed, write_unsigned};
+use deku::device::Sink;
+use deku::error::DekuError;
+use deku::writer::Writer;
+use std::alloc::Global;
+use std::io::Cursor;
+
+/// Writes the items one after the other, without padding. It takes no memory but what the sink takes.
+///
+/// An item is refused with `InvalidParam("value outside type")` where its value is none of its kind, then as its number is: where
+/// the size is beyond the kind, where a signed big `Lsb0` field has such a width, where the value does not fit; and then as `Writer`
+/// refuses to write its bits. What the items before it moved stays moved. Without items no call is made on the writer.
+pub fn write_list<W: Sink>(writer: &mut Writer<W>, items: &[Item]) -> Result<(), DekuError>
+    ensures { Writes W.told (WritesItems items.now) writer.old result writer.new }
+{
+    for item in items {
+        match write_item(writer, item) {
+            Ok(()) => {}
+            Err(refusal) => return Err(refusal),
+        }
+    }
+    Ok(())
+}
+
+// Writes the value of an item.
+fn write_item<W: Sink>(writer: &mut Writer<W>, item: &Item) -> Result<(), DekuError>
+    ensures { Writes W.told (WritesItem item.now) writer.old result writer.new }
+{
+    if !item.field.kind.holds(item.value) {
+        return Err(DekuError::InvalidParam("value outside type"));
+    }
+    let number_type = item.field.kind.number_type();
+    match item.value {
+        Number::Unsigned(value) => write_unsigned(writer, value, number_type, item.field.layout),
+        Number::Signed(value) => write_signed(writer, value, number_type, item.field.layout),
+    }
+}
+
+/// The bytes of the items, written one after the other from nothing and padded once with zeros.
+///
+/// A refusal is that of the first item that is refused, as `write_list` says, or `Io(OutOfMemory)` where no memory is found.
+///
+/// ```text
+/// // 4 bits, 4 bits and a `u16`, big and `Msb0`: 6, 9, 49406
+/// list_to_bytes(alloc, &items)?                      // [0x69, 0xC0, 0xFE]
+/// ```
+pub fn list_to_bytes(alloc: Global, items: &[Item]) -> Result<Vec<u8>, DekuError>
+    ensures meaning { WritesWhole (Both (WritesItems items.now) Finalizes) result }
+{
+    let mut writer = Writer::new(Cursor::new(Vec::new(alloc)));
+    write_list(&mut writer, items)?;
+    writer.finalize()?;
+    let cursor = writer.into_inner();
+    let end = cursor.position();
+    let mut bytes = cursor.into_inner();
+    bytes.truncate(end as usize);
+    Ok(bytes)
+}
