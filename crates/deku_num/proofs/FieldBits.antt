@@ -1,8 +1,7 @@
 -- The list that is worth a value is the list that is written for it, and no other is.
-use Rattle.std.proofs.Common.{ℕ, ◌+◌, ◌*◌, ◌%◌, ◌^◌, ◌<◌, ◌≤◌, ◌≡◌, Bool, true, false, List, length, ℤ, pos, refl, ap, ap₂, sym, ◌∙◌, subst, arith, mod-eq_of_lt}
+use Rattle.std.proofs.Common.{ℕ, ◌%◌, ◌^◌, ◌<◌, ◌≡◌, Bool, true, false, List, length, ℤ, refl, ap, ap₂, sym, ◌∙◌, arith, mod-eq_of_lt}
 use Rattle.deku_num.specs.declared.kind.NumberType.{NumberType}
 use Rattle.deku_num.specs.declared.ctx.Layout.{Layout}
-use Rattle.deku_num.specs.NumberLaws.{Within}
 use Rattle.deku_num.specs.Numbers.{width, IsAllowed, number, with_sign, value, residue, cuts, IsFieldOf, IsCutOf, IsListWhere, IsListFor}
 use Rattle.deku_num.proofs.Chunked.{number-inj, within}
 use Rattle.deku_num.proofs.Ranges.{below_type}

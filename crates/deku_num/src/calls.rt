@@ -168,3 +168,6 @@ fn size_beyond(size: Size) -> &'static str
         _ => "bit size is larger than input",
     }
 }
+
+#[cfg(test)]
+mod tests;
