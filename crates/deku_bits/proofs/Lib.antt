@@ -12,6 +12,8 @@ pub mod Packing
 pub mod Parts
 pub mod Handing
 pub mod Moving
+pub mod Skips
+pub mod ReaderLaws
 pub mod BitPlaces
 pub mod Overlays
 pub mod Holding

@@ -1,7 +1,7 @@
 -- Bits that go from a window and the bytes to come, against what is taken from a stream and left.
-use Rattle.std.proofs.Common.{◌≡◌, ◌≢◌, ◌⊎◌, ℕ, suc, ◌+◌, ◌*◌, ◌-◌, ◌/◌, ◌^◌, ◌<◌, ◌≤◌, Bool, false, List, [], ◌∷◌, ◌++◌, length, take, drop, Option, Some, None, Result, Ok, Err, arith, refl, sym, ap, ap₂, ◌∙◌, subst, inl, inr, ⊎_elim, length-append, append_assoc, eq-eqb, ne_eqb}
+use Rattle.std.proofs.Common.{◌≡◌, ◌≢◌, ◌⊎◌, ℕ, ◌+◌, ◌*◌, ◌^◌, ◌<◌, ◌≤◌, Bool, false, List, [], ◌∷◌, ◌++◌, length, take, drop, Option, Some, None, Result, Ok, Err, arith, refl, sym, ap, ap₂, ◌∙◌, inl, inr, ⊎_elim, length-append, append_assoc, eq-eqb, ne_eqb}
 use Rattle.std.proofs.lemmas.Bool.{cases_eq, cases_lt}
-use Rattle.std.proofs.lemmas.List.{take_at, drop_at, take-append-drop}
+use Rattle.std.proofs.lemmas.List.{take_at, drop_at}
 use Rattle.std.proofs.lemmas.List.Concat.{flat_map-append}
 use Rattle.std.specs.Io.KnownBytes.{Consumes}
 use Rattle.std.specs.declared.io.ErrorKind.{ErrorKind}
@@ -15,7 +15,7 @@ use Rattle.deku_bits.specs.Bits.{byte_bits, facing}
 use Rattle.deku_bits.specs.Streams.{Stream, Has, seen, taken, left, normal, touched}
 use Rattle.deku_bits.specs.Devices.{Health, FewerThan, NoFewerFailures, MoreFailures}
 use Rattle.deku_bits.specs.Standings.{Standing, Going, Stopped, stream_of, reader_state}
-use Rattle.deku_bits.specs.Outcomes.{Breaks, Outcome, Quiet, Broken}
+use Rattle.deku_bits.specs.Outcomes.{Outcome, Quiet, Broken}
 use Rattle.deku_bits.specs.Faults.{error_of}
 use Rattle.deku_bits.specs.Kept.{Admits, standing_of}
 use Rattle.deku_bits.specs.Moving.{Moves, FewerBits}
@@ -25,7 +25,7 @@ use Rattle.deku_bits.proofs.Cuts.{flow, length-flow}
 use Rattle.deku_bits.proofs.Reading.{facing_nil, left_none}
 use Rattle.deku_bits.proofs.Taking.{peek_law}
 
-abbrev at : List Bool → List ℕ → Stream
+abbrev pub at : List Bool → List ℕ → Stream
 at window bytes = record { window = window; bytes = bytes }
 
 -- how many bits are seen
@@ -88,8 +88,26 @@ left_is o w xs bs v ys run lw lv e s =
     ∙ ap (λ l. at (facing o l) ys) (drop_at bs (facing o v) n refl)
     ∙ ap (λ l. at l ys) (facing-facing o v)
 
+some_same : (a b : List ℕ) → Some a ≡ Some b → a ≡ b
+some_same a b e = cc
+
+-- bits that were given: the stream that is left
+pub moved_left : (o : Order) (w : List Bool) (xs : List ℕ) (bs v : List Bool) (ys : List ℕ) → length w ≤ 8
+    → Moves o w (Some xs) bs v (Some ys) → (0 < length bs → length v < 8) → (length bs ≡ 0 → (v ≡ w) × (Some ys ≡ Some xs)) → left o (length bs) (at w xs) ≡ at v ys
+moved_left o w xs bs v ys l moved short none = ⊎_elim
+    (λ (p : length bs < 1).
+    let z : length bs ≡ 0 = omega arith in
+    let e = none z in
+    ap (λ k. left o k (at w xs)) z ∙ left_none o (at w xs) ∙ ap₂ at (sym e.0) (sym (some_same ys xs e.1)))
+    (λ (p : 1 ≤ length bs). left_is o w xs bs v ys moved.1.0 l (short p) moved.0 moved.1.1)
+    (cases_lt (length bs) 1)
+
+-- as many bits as were given were there
+pub moved_has : (o : Order) (w : List Bool) (xs : List ℕ) (bs v : List Bool) (ys : List ℕ) → Moves o w (Some xs) bs v (Some ys) → Has (length bs) (at w xs)
+moved_has o w xs bs v ys moved = omega (arith, ap length moved.0, length-seen o w xs, length-append bs (seen o (at v ys)))
+
 -- a window of eight that is put back is as many bits
-normal-count : (S : Stream) → length (normal S).window + 8 * length (normal S).bytes ≡ length S.window + 8 * length S.bytes
+pub normal-count : (S : Stream) → length (normal S).window + 8 * length (normal S).bytes ≡ length S.window + 8 * length S.bytes
 unfolding normal
 normal-count S = ⊎_elim
     (λ (e : length S.window ≡ 8). rw (eq-eqb (length S.window) 8 e) (omega arith))
@@ -111,25 +129,14 @@ takes_ok o w (Some xs) c n bs v None len l room moved short none = absurd moved
 takes_ok o w (Some xs) c n bs v (Some ys) len l room moved short none =
     let S : Stream = at w xs in
     let m : ℕ = length bs in
-    let all : length (seen o S) ≡ length (bs ++ seen o (at v ys)) = ap length moved.0 in
-    let enough : m ≤ length w + 8 * length xs = omega (arith, length-seen o w xs, length-append bs (seen o (at v ys))) in
-    let rest : left o m S ≡ at v ys = ⊎_elim
-    (λ (p : m < 1).
-    let z : m ≡ 0 = omega arith in
-    let e = none z in
-    let same : ys ≡ xs = some_same ys xs e.1 in
-    ap (λ k. left o k S) z ∙ left_none o S ∙ ap₂ (λ a b. at a b) (sym e.0) (sym same))
-    (λ (p : 1 ≤ m). left_is o w xs bs v ys moved.1.0 l (short p) moved.0 moved.1.1)
-    (cases_lt m 1) in
+    let enough : Has m S = moved_has o w xs bs v ys moved in
+    let rest : left o m S ≡ at v ys = moved_left o w xs bs v ys l moved short none in
     let first : taken o m S ≡ bs = first_bits o S bs (seen o (at v ys)) moved.0 in
     let peek = peek_law o m S l enough in
     let has : Has m (normal S) = omega (arith, normal-count S) in
     let values : bs ≡ taken o m (normal S) = sym first ∙ peek.0 in
     let streams : normal (at v ys) ≡ left o m (normal S) = ap normal (sym rest) ∙ peek.1 in
     rw (← len) (inr (rw len room, inl (has, ap Ok values, ap (λ T. Going (Some T) (c + m)) streams)))
-  where
-    some_same : (a b : List ℕ) → Some a ≡ Some b → a ≡ b
-    some_same a b e = cc
 
 -- a transfer failed
 pub takes_err : (o : Order) (w : List Bool) (t : Option (List ℕ)) (c n : ℕ) (f g : Health) (kind : ErrorKind) (stop : Fault)
