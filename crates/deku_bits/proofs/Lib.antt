@@ -13,6 +13,7 @@ pub mod Parts
 pub mod Handing
 pub mod Moving
 pub mod Skips
+pub mod Bytes
 pub mod ReaderLaws
 pub mod BitPlaces
 pub mod Overlays

@@ -32,30 +32,38 @@ at window bytes = record { window = window; bytes = bytes }
 pub length-seen : (o : Order) (w : List Bool) (bs : List ℕ) → length (seen o (at w bs)) ≡ length w + 8 * length bs
 length-seen o w bs = omega (arith, length-append (facing o w) (flow o bs), length-facing o w, length-flow o bs)
 
-flow-append : (o : Order) (xs ys : List ℕ) → flow o (xs ++ ys) ≡ flow o xs ++ flow o ys
+pub flow-append : (o : Order) (xs ys : List ℕ) → flow o (xs ++ ys) ≡ flow o xs ++ flow o ys
 flow-append o xs ys = flat_map-append (λ b. facing o (byte_bits b)) xs ys
 
 -- ---- moves, one after the other
--- one bit more
-pub moves_more : (o : Order) (w : List Bool) (t : Option (List ℕ)) (bs : List Bool) (v : List Bool) (u : Option (List ℕ)) (b : Bool) (x : List Bool) (k : Option (List ℕ))
-    → Moves o w t bs v u → Moves o v u (b ∷ []) x k → Moves o w t (bs ++ b ∷ []) x k
-moves_more o w None bs v u b x k p q = tt
-moves_more o w (Some xs) bs v None b x k p q = absurd p
-moves_more o w (Some xs) bs v (Some ys) b x None p q = absurd q
-moves_more o w (Some xs) bs v (Some ys) b x (Some zs) p q = (
-  p.0 ∙ ap (λ s. bs ++ s) q.0 ∙ sym (append_assoc bs (b ∷ []) (seen o (at x zs))),
+-- more bits
+pub moves_more : (o : Order) (w : List Bool) (t : Option (List ℕ)) (bs : List Bool) (v : List Bool) (u : Option (List ℕ)) (cs : List Bool) (x : List Bool) (k : Option (List ℕ))
+    → Moves o w t bs v u → Moves o v u cs x k → Moves o w t (bs ++ cs) x k
+moves_more o w None bs v u cs x k p q = tt
+moves_more o w (Some xs) bs v None cs x k p q = absurd p
+moves_more o w (Some xs) bs v (Some ys) cs x None p q = absurd q
+moves_more o w (Some xs) bs v (Some ys) cs x (Some zs) p q = (
+  p.0 ∙ ap (λ s. bs ++ s) q.0 ∙ sym (append_assoc bs cs (seen o (at x zs))),
   (p.1.0 ++ q.1.0, p.1.1 ∙ ap (λ s. p.1.0 ++ s) q.1.1 ∙ sym (append_assoc p.1.0 q.1.0 zs)),
 )
+
+-- fewer than k bits are left behind those that were given
+pub fewer_behind : (o : Order) (w : List Bool) (t : Option (List ℕ)) (bs : List Bool) (v : List Bool) (u : Option (List ℕ)) (k n : ℕ)
+    → Moves o w t bs v u → FewerBits k v u → length bs + k ≤ n → FewerBits n w t
+fewer_behind o w None bs v u k n p f h = tt
+fewer_behind o w (Some xs) bs v None k n p f h = absurd p
+fewer_behind o w (Some xs) bs v (Some ys) k n p f h =
+    let all : length (seen o (at w xs)) ≡ length (bs ++ seen o (at v ys)) = ap length p.0 in
+    omega (arith, f, length-seen o w xs, length-seen o v ys, length-append bs (seen o (at v ys)))
 
 -- fewer than n bits were given, and none is left
 pub too_few : (o : Order) (w : List Bool) (t : Option (List ℕ)) (bs : List Bool) (v : List Bool) (u : Option (List ℕ)) (n : ℕ)
     → Moves o w t bs v u → v ≡ [] → FewerThan 1 u → length bs < n → FewerBits n w t
-too_few o w None bs v u n p e f h = tt
-too_few o w (Some xs) bs v None n p e f h = absurd p
-too_few o w (Some xs) bs v (Some ys) n p e f h =
-    let none : length v ≡ 0 = ap length e in
-    let all : length (seen o (at w xs)) ≡ length (bs ++ seen o (at v ys)) = ap length p.0 in
-    omega (arith, length-seen o w xs, length-seen o v ys, length-append bs (seen o (at v ys)))
+too_few o w t bs v u n p e f h = fewer_behind o w t bs v u 1 n p (none v u e f) (omega arith)
+  where
+    none : (v : List Bool) (u : Option (List ℕ)) → v ≡ [] → FewerThan 1 u → FewerBits 1 v u
+    none v None e f = tt
+    none v (Some ys) e f = let z : length v ≡ 0 = ap length e in omega (arith, f, z)
 
 -- a byte comes into an empty window
 pub supplied : (w : List Bool) (t : Option (List ℕ)) (b : ℕ) (u : Option (List ℕ)) (o : Order) → w ≡ [] → Consumes t u (b ∷ []) → Moves o w t [] (byte_bits b) u

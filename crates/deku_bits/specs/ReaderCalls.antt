@@ -1,13 +1,14 @@
 -- What the calls of a reader do.
-use Rattle.std.specs.Prelude.{◌≡◌, ◌⊎◌, ℕ, ◌+◌, ◌<◌, ◌≤◌, Bool, true, false, List, [], length, Option, None, Some, Result, Ok, Err}
+use Rattle.std.specs.Prelude.{◌≡◌, ◌⊎◌, ℕ, ◌+◌, ◌*◌, ◌<◌, ◌≤◌, Bool, true, false, List, [], length, Option, None, Some, Result, Ok, Err}
 use Rattle.std.specs.Global.{Vec}
+use Rattle.std.specs.declared.io.ErrorKind.TheVariants.{OutOfMemory}
 use Rattle.deku_bits.specs.declared.ctx.Order.{Order}
 use Rattle.deku_bits.specs.declared.error.DekuError.{DekuError}
-use Rattle.deku_bits.specs.declared.error.DekuError.TheVariants.{Incomplete}
+use Rattle.deku_bits.specs.declared.error.DekuError.TheVariants.{Incomplete, Io}
 use Rattle.deku_bits.specs.declared.reader.Reader.{Reader}
 use Rattle.deku_bits.specs.declared.reader.Leftover.{Leftover}
 use Rattle.deku_bits.specs.declared.reader.Leftover.TheVariants.{Byte, Bits}
-use Rattle.deku_bits.specs.Bits.{byte_bits, shown}
+use Rattle.deku_bits.specs.Bits.{byte_bits, shown, bits_in, bytes_of}
 use Rattle.deku_bits.specs.Streams.{Stream, bit_count, Has, Lacks, taken, left, last_part, passed, skipped}
 use Rattle.deku_bits.specs.Devices.{SourceTold}
 use Rattle.deku_bits.specs.Standings.{Standing, Going, Stopped, reader_state}
@@ -41,6 +42,10 @@ ReadsBits o n = Mapped (shown o) (Takes o n)
 -- n bits are taken in an order and shown, in memory that is found first
 abbrev pub ReadsVec : Order → ℕ → Meaning (Option Stream) (List Bool)
 ReadsVec o n = Mapped (shown o) (UnlessStopped (Counted n (Reserving (Transfers o n))))
+
+-- n bytes are read: eight times as many bits, taken in an order and shown, as bytes
+abbrev pub ReadsBytes : Order → ℕ → Meaning (Option Stream) (List ℕ)
+ReadsBytes o n = Mapped bytes_of (ReadsBits o (8 * n))
 
 -- whether the end of input is reached: over a stream that is told, where no bit is left; the stream is the same
 abbrev pub Peeks : Option Stream → ℕ → Result Bool DekuError → Standing (Option Stream) → Type 0
@@ -88,3 +93,11 @@ abbrev pub SkipReadLaw : Type 0
 SkipReadLaw = (o : Order) (n c : ℕ) (S : Stream) → length S.window ≤ 8 → Has n S
     → (bits : List Bool) (u v : Standing (Option Stream)) (r : Result (Unit {0}) DekuError)
     → ReadsVec o n false (Going (Some S) c) (Ok bits) u → Skips o n false (Going (Some S) c) r v → (r ≡ Ok tt) × (v ≡ u)
+
+-- A read of bytes answers what a read of eight times as many bits answers, as bytes, and leaves the same; but it is not refused for memory.
+abbrev pub BytesLaw : Type 0
+BytesLaw = (o : Order) (n : ℕ) (breaks : Bool) (s u : Standing (Option Stream))
+    → ((bits : List Bool) → ReadsVec o (8 * n) breaks s (Ok bits) u → ReadsBytes o n breaks s (Ok (bytes_of bits)) u)
+    × ((bytes : List ℕ) → ReadsBytes o n breaks s (Ok bytes) u → (length bytes ≡ n) × ReadsVec o (8 * n) breaks s (Ok (bits_in bytes)) u)
+    × ((e : DekuError) → ReadsBytes o n breaks s (Err e) u → ReadsVec o (8 * n) breaks s (Err e) u)
+    × ((e : DekuError) → ReadsVec o (8 * n) breaks s (Err e) u → ReadsBytes o n breaks s (Err e) u ⊎ ((e ≡ Io OutOfMemory) × (u ≡ s)))

@@ -2,7 +2,7 @@
 
 ghost use Rattle.deku_bits.specs.Bits.{JoinLaw, PackLaw};
 ghost use Rattle.deku_bits.specs.Streams.{PeekLaw, CutLaw, SkipLaw, PeekSkipLaw, EndLaw};
-ghost use Rattle.deku_bits.specs.ReaderCalls.{SkipReadLaw};
+ghost use Rattle.deku_bits.specs.ReaderCalls.{SkipReadLaw, BytesLaw};
 ghost use Rattle.deku_bits.specs.Pieces.{LengthLaw};
 ghost use Rattle.deku_bits.specs.Writers.{AppendLaw, CountLaw};
 ghost use Rattle.deku_bits.specs.Symmetry.{WriteLaw, ReadLaw, RewriteLaw, CallsLaw};
@@ -36,6 +36,11 @@ pub fn end_law()
 /// A skip leaves the stream and the count of a read of as many bits that succeeds.
 pub fn skip_read_law()
     ensures { SkipReadLaw }
+{}
+
+/// A read of bytes is a read of eight times as many bits, but for memory.
+pub fn bytes_law()
+    ensures { BytesLaw }
 {}
 
 /// Two writes in one order are one write.

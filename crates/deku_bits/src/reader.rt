@@ -4,10 +4,11 @@ ghost use Rattle.std.specs.Prelude.{◌≡◌, ◌+◌, ◌*◌, ◌≤◌, ◌+
 ghost use Rattle.std.specs.Borrow.{Lends, sem};
 ghost use Rattle.deku_bits.specs.Bits.{shown};
 ghost use Rattle.deku_bits.specs.Standings.{Going, count_of};
-ghost use Rattle.deku_bits.specs.ReaderCalls.{Reads, Takes, Ending, Skips, ReadsBits, ReadsVec, IsLeftover, filling, items_of, window_of};
+ghost use Rattle.deku_bits.specs.ReaderCalls.{Reads, Takes, Ending, Skips, ReadsBits, ReadsVec, ReadsBytes, IsLeftover, filling, items_of, window_of};
 ghost use Rattle.deku_bits.specs.contracts.reader.Reader.{the_row as reader-row};
 
 mod progress;
+mod seek;
 mod window;
 
 use crate::bounded::BoundedBitVec;
@@ -27,6 +28,13 @@ pub enum Leftover {
     Bits(BoundedBitVec<1>),
 }
 
+/// What a read of bytes has put into its buffer.
+#[derive(Drop)]
+pub enum ReaderRet {
+    /// Whole bytes.
+    Bytes,
+}
+
 /// Reads bits from a source of bytes.
 ///
 /// It fetches one byte at a time, and none behind the last bit that was wanted. It keeps the bits of that byte that are not read
@@ -41,7 +49,7 @@ pub enum Leftover {
 /// - with `Io` of the fault's kind, where the source fails.
 ///
 /// The last two stop the reader: it answers the same to each further read, also to one of no bits, it has no bits left over, and
-/// the count of bits read stays what it was before the read that failed.
+/// the count of bits read stays what it was before the read that failed. A seek that succeeds lets it go on.
 ///
 /// ```text
 /// let mut reader = Reader::new(alloc, Cursor::new(bytes)); // 6D BE EF
@@ -231,6 +239,66 @@ impl<R: Source> Reader<R> {
         };
         self.read_bits_into(bits.as_mut_slice(), order)?;
         Ok(bits)
+    }
+
+    /// Reads `amt` bytes into the front of the buffer; what is behind them in it stays. The caller's condition: the buffer is as
+    /// long.
+    ///
+    /// They are what a read of eight times as many bits in this order shows, each byte high bit first; they need not start where a
+    /// byte of the source starts. A read of no bytes reads nothing. It takes no memory. What is refused, and what is left then, is
+    /// said at `Reader`: `Incomplete` is of the bits, eight times `amt`. After a refusal the content of the bytes asked for is open.
+    ///
+    /// ```text
+    /// let mut bytes = [0; 4];
+    /// reader.read_bits(4, Order::Msb0)?;               // from AB CD EF: 1, 0, 1, 0
+    /// reader.read_bytes(2, &mut bytes, Order::Lsb0)?;  // DB FC 00 00
+    /// ```
+    pub fn read_bytes(
+        &mut self,
+        amt: usize,
+        buf: &mut [u8],
+        order: Order,
+    ) -> Result<ReaderRet, DekuError>
+        requires { amt ≤ length buf.old }
+        ensures front { Reads R.told (ReadsBytes order amt) self.old (filling result (take amt buf.new)) self.new }
+        ensures behind { drop amt buf.new ≡ drop amt buf.old }
+    {
+        self.state
+            .take_bytes(&mut self.source, &mut buf[..amt], order)?;
+        Ok(ReaderRet::Bytes)
+    }
+
+    /// Fills the buffer with bytes, as `read_bytes` reads as many as it is long.
+    ///
+    /// ```text
+    /// let mut bytes = [0; 2];
+    /// reader.read_bytes_const(&mut bytes, Order::Msb0)?; // from AA BB: AA BB
+    /// ```
+    pub fn read_bytes_const<const N: usize>(
+        &mut self,
+        buf: &mut [u8; N],
+        order: Order,
+    ) -> Result<ReaderRet, DekuError>
+        ensures { Reads R.told (ReadsBytes order N) self.old (filling result buf.new) self.new }
+    {
+        self.read_bytes_const_into(buf, order)?;
+        Ok(ReaderRet::Bytes)
+    }
+
+    /// Fills the buffer with bytes, as `read_bytes` reads as many as it is long.
+    ///
+    /// ```text
+    /// let mut byte = [0; 1];
+    /// reader.read_bytes_const_into(&mut byte, Order::Msb0)?; // from AA BB: AA
+    /// ```
+    pub fn read_bytes_const_into<const N: usize>(
+        &mut self,
+        buf: &mut [u8; N],
+        order: Order,
+    ) -> Result<(), DekuError>
+        ensures { Reads R.told (ReadsBytes order N) self.old (filling result buf.new) self.new }
+    {
+        self.state.take_bytes(&mut self.source, buf, order)
     }
 }
 

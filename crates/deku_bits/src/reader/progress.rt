@@ -1,6 +1,6 @@
 //! What a reader keeps beside its source, and how it takes bits.
 
-ghost use Rattle.std.specs.Prelude.{◌≡◌, ◌≢◌, ℕ, ◌<◌, ◌≤◌, ◌⊎◌, [], ◌∷◌, length, IfOk, OnOk, IfErr};
+ghost use Rattle.std.specs.Prelude.{◌≡◌, ◌≢◌, ℕ, ◌*◌, ◌^◌, ◌<◌, ◌≤◌, ◌⊎◌, [], ◌∷◌, length, IfOk, OnOk, IfErr};
 ghost use Rattle.std.specs.Io.KnownBytes.{Consumes};
 ghost use Rattle.std.specs.IoError.{error_kind};
 ghost use Rattle.deku_bits.specs.declared.ctx.Order.{Order as BitOrder};
@@ -8,15 +8,17 @@ ghost use Rattle.deku_bits.specs.Devices.{NoFewerFailures, MoreFailures, FewerTh
 ghost use Rattle.deku_bits.specs.Kept.{Admits};
 ghost use Rattle.deku_bits.specs.Moving.{Moves, FewerBits};
 ghost use Rattle.deku_bits.specs.Faults.{error_of};
-ghost use Rattle.deku_bits.specs.ReaderCalls.{ReadsAt, Takes, Ending, Skips, filling, window_of};
+ghost use Rattle.deku_bits.specs.ReaderCalls.{ReadsAt, Takes, Ending, Skips, ReadsBytes, filling, window_of};
 ghost use Rattle.deku_bits.specs.Standings.{Going, Stopped, count_of};
 
+mod bytes;
 mod skips;
 
 use super::window::Window;
 use crate::ctx::Order;
 use crate::device::Source;
 use crate::error::{DekuError, Fault, NeedSize};
+use crate::reader::progress::bytes::bytes_into;
 use crate::reader::progress::skips::{drop_bits, pass_bytes, pop_bits};
 use std::io;
 use std::io::ErrorKind;
@@ -103,6 +105,18 @@ impl Progress {
         Ok(())
     }
 
+    /// Refuses what a read of so many bytes refuses before it moves anything.
+    pub fn admits_bytes(&self, amt: usize) -> Result<(), DekuError>
+        ensures answer { Admits (8 * amt) self.now result }
+        ensures fits { OnOk result (8 * amt < 2 ^ 64) }
+    {
+        self.admits(0)?;
+        if amt > usize::MAX / 8 {
+            return Err(DekuError::InvalidParam("count past usize"));
+        }
+        self.admits(8 * amt)
+    }
+
     // Takes bits in this order, one after the other, and stops where that fails.
     pub fn take_bits<R: Source>(
         &mut self,
@@ -120,6 +134,30 @@ impl Progress {
             }
             Err(error) => {
                 let fault = fault_of(&error, dst.len());
+                *self = Progress::stopped(fault, self.bits_read);
+                Err(fault.error())
+            }
+        }
+    }
+
+    /// Takes bytes in this order, one after the other, and stops where that fails.
+    pub fn take_bytes<R: Source>(
+        &mut self,
+        source: &mut R,
+        dst: &mut [u8],
+        order: Order,
+    ) -> Result<(), DekuError>
+        ensures { ReadsAt (ReadsBytes order (length dst.old)) (R.told source.old) self.old (filling result dst.new) (R.told source.new) self.new }
+    {
+        self.admits_bytes(dst.len())?;
+        let bits = 8 * dst.len();
+        match bytes_into(source, &mut self.window, dst, order) {
+            Ok(()) => {
+                self.bits_read += bits;
+                Ok(())
+            }
+            Err(error) => {
+                let fault = fault_of(&error, bits);
                 *self = Progress::stopped(fault, self.bits_read);
                 Err(fault.error())
             }
