@@ -7,6 +7,7 @@ use Rattle.deku_bits.specs.declared.ctx.Order.TheVariants.{Msb0, Lsb0}
 use Rattle.deku_bits.specs.Bits.{bin, bits_of, byte_bits, chunks, facing, group_number}
 use Rattle.deku_bits.specs.Pieces.{Piece, piece, same_order, in_front, runs, filled, run_bytes, laid_out}
 use Rattle.deku_bits.specs.Writers.{whole_groups, remainder}
+pub use Rattle.deku_bits.specs.Streams.{flow}
 use Rattle.deku_bits.proofs.Binary.{bin-inj, length-facing, facing-facing, length-bits_of, bin-bits_of, group_number-lt}
 use Rattle.deku_bits.proofs.Groups.{chunks-full, chunks-short, by_groups}
 
@@ -85,10 +86,6 @@ bits_of-group o g l =
     bin-inj (bits_of 8 (group_number o g)) (facing o g) (length-bits_of 8 (group_number o g) ∙ sym (length-facing o g ∙ l))
     (bin-bits_of 8 (group_number o g) ∙ mod-eq_of_lt small) in
     ap (facing o) same ∙ facing-facing o g
-
--- the bits of bytes, as an order meets them
-abbrev pub flow : Order → List ℕ → List Bool
-flow o bs = flat_map (λ b. facing o (byte_bits b)) bs
 
 pub length-flow : (o : Order) (bs : List ℕ) → length (flow o bs) ≡ 8 * length bs
 unfolding laid_out

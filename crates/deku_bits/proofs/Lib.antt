@@ -12,6 +12,9 @@ pub mod Packing
 pub mod Parts
 pub mod Handing
 pub mod Moving
+pub mod Skips
+pub mod Bytes
+pub mod ReaderLaws
 pub mod BitPlaces
 pub mod Overlays
 pub mod Holding

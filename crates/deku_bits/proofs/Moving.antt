@@ -25,37 +25,45 @@ use Rattle.deku_bits.proofs.Cuts.{flow, length-flow}
 use Rattle.deku_bits.proofs.Reading.{facing_nil, left_none}
 use Rattle.deku_bits.proofs.Taking.{peek_law}
 
-abbrev at : List Bool → List ℕ → Stream
+abbrev pub at : List Bool → List ℕ → Stream
 at window bytes = record { window = window; bytes = bytes }
 
 -- how many bits are seen
 pub length-seen : (o : Order) (w : List Bool) (bs : List ℕ) → length (seen o (at w bs)) ≡ length w + 8 * length bs
 length-seen o w bs = omega (arith, length-append (facing o w) (flow o bs), length-facing o w, length-flow o bs)
 
-flow-append : (o : Order) (xs ys : List ℕ) → flow o (xs ++ ys) ≡ flow o xs ++ flow o ys
+pub flow-append : (o : Order) (xs ys : List ℕ) → flow o (xs ++ ys) ≡ flow o xs ++ flow o ys
 flow-append o xs ys = flat_map-append (λ b. facing o (byte_bits b)) xs ys
 
 -- ---- moves, one after the other
--- one bit more
-pub moves_more : (o : Order) (w : List Bool) (t : Option (List ℕ)) (bs : List Bool) (v : List Bool) (u : Option (List ℕ)) (b : Bool) (x : List Bool) (k : Option (List ℕ))
-    → Moves o w t bs v u → Moves o v u (b ∷ []) x k → Moves o w t (bs ++ b ∷ []) x k
-moves_more o w None bs v u b x k p q = tt
-moves_more o w (Some xs) bs v None b x k p q = absurd p
-moves_more o w (Some xs) bs v (Some ys) b x None p q = absurd q
-moves_more o w (Some xs) bs v (Some ys) b x (Some zs) p q = (
-  p.0 ∙ ap (λ s. bs ++ s) q.0 ∙ sym (append_assoc bs (b ∷ []) (seen o (at x zs))),
+-- more bits
+pub moves_more : (o : Order) (w : List Bool) (t : Option (List ℕ)) (bs : List Bool) (v : List Bool) (u : Option (List ℕ)) (cs : List Bool) (x : List Bool) (k : Option (List ℕ))
+    → Moves o w t bs v u → Moves o v u cs x k → Moves o w t (bs ++ cs) x k
+moves_more o w None bs v u cs x k p q = tt
+moves_more o w (Some xs) bs v None cs x k p q = absurd p
+moves_more o w (Some xs) bs v (Some ys) cs x None p q = absurd q
+moves_more o w (Some xs) bs v (Some ys) cs x (Some zs) p q = (
+  p.0 ∙ ap (λ s. bs ++ s) q.0 ∙ sym (append_assoc bs cs (seen o (at x zs))),
   (p.1.0 ++ q.1.0, p.1.1 ∙ ap (λ s. p.1.0 ++ s) q.1.1 ∙ sym (append_assoc p.1.0 q.1.0 zs)),
 )
+
+-- fewer than k bits are left behind those that were given
+pub fewer_behind : (o : Order) (w : List Bool) (t : Option (List ℕ)) (bs : List Bool) (v : List Bool) (u : Option (List ℕ)) (k n : ℕ)
+    → Moves o w t bs v u → FewerBits k v u → length bs + k ≤ n → FewerBits n w t
+fewer_behind o w None bs v u k n p f h = tt
+fewer_behind o w (Some xs) bs v None k n p f h = absurd p
+fewer_behind o w (Some xs) bs v (Some ys) k n p f h =
+    let all : length (seen o (at w xs)) ≡ length (bs ++ seen o (at v ys)) = ap length p.0 in
+    omega (arith, f, length-seen o w xs, length-seen o v ys, length-append bs (seen o (at v ys)))
 
 -- fewer than n bits were given, and none is left
 pub too_few : (o : Order) (w : List Bool) (t : Option (List ℕ)) (bs : List Bool) (v : List Bool) (u : Option (List ℕ)) (n : ℕ)
     → Moves o w t bs v u → v ≡ [] → FewerThan 1 u → length bs < n → FewerBits n w t
-too_few o w None bs v u n p e f h = tt
-too_few o w (Some xs) bs v None n p e f h = absurd p
-too_few o w (Some xs) bs v (Some ys) n p e f h =
-    let none : length v ≡ 0 = ap length e in
-    let all : length (seen o (at w xs)) ≡ length (bs ++ seen o (at v ys)) = ap length p.0 in
-    omega (arith, length-seen o w xs, length-seen o v ys, length-append bs (seen o (at v ys)))
+too_few o w t bs v u n p e f h = fewer_behind o w t bs v u 1 n p (none v u e f) (omega arith)
+  where
+    none : (v : List Bool) (u : Option (List ℕ)) → v ≡ [] → FewerThan 1 u → FewerBits 1 v u
+    none v None e f = tt
+    none v (Some ys) e f = let z : length v ≡ 0 = ap length e in omega (arith, f, z)
 
 -- a byte comes into an empty window
 pub supplied : (w : List Bool) (t : Option (List ℕ)) (b : ℕ) (u : Option (List ℕ)) (o : Order) → w ≡ [] → Consumes t u (b ∷ []) → Moves o w t [] (byte_bits b) u
@@ -88,8 +96,26 @@ left_is o w xs bs v ys run lw lv e s =
     ∙ ap (λ l. at (facing o l) ys) (drop_at bs (facing o v) n refl)
     ∙ ap (λ l. at l ys) (facing-facing o v)
 
+some_same : (a b : List ℕ) → Some a ≡ Some b → a ≡ b
+some_same a b e = cc
+
+-- bits that were given: the stream that is left
+pub moved_left : (o : Order) (w : List Bool) (xs : List ℕ) (bs v : List Bool) (ys : List ℕ) → length w ≤ 8
+    → Moves o w (Some xs) bs v (Some ys) → (0 < length bs → length v < 8) → (length bs ≡ 0 → (v ≡ w) × (Some ys ≡ Some xs)) → left o (length bs) (at w xs) ≡ at v ys
+moved_left o w xs bs v ys l moved short none = ⊎_elim
+    (λ (p : length bs < 1).
+    let z : length bs ≡ 0 = omega arith in
+    let e = none z in
+    ap (λ k. left o k (at w xs)) z ∙ left_none o (at w xs) ∙ ap₂ at (sym e.0) (sym (some_same ys xs e.1)))
+    (λ (p : 1 ≤ length bs). left_is o w xs bs v ys moved.1.0 l (short p) moved.0 moved.1.1)
+    (cases_lt (length bs) 1)
+
+-- as many bits as were given were there
+pub moved_has : (o : Order) (w : List Bool) (xs : List ℕ) (bs v : List Bool) (ys : List ℕ) → Moves o w (Some xs) bs v (Some ys) → Has (length bs) (at w xs)
+moved_has o w xs bs v ys moved = omega (arith, ap length moved.0, length-seen o w xs, length-append bs (seen o (at v ys)))
+
 -- a window of eight that is put back is as many bits
-normal-count : (S : Stream) → length (normal S).window + 8 * length (normal S).bytes ≡ length S.window + 8 * length S.bytes
+pub normal-count : (S : Stream) → length (normal S).window + 8 * length (normal S).bytes ≡ length S.window + 8 * length S.bytes
 unfolding normal
 normal-count S = ⊎_elim
     (λ (e : length S.window ≡ 8). rw (eq-eqb (length S.window) 8 e) (omega arith))
@@ -111,25 +137,14 @@ takes_ok o w (Some xs) c n bs v None len l room moved short none = absurd moved
 takes_ok o w (Some xs) c n bs v (Some ys) len l room moved short none =
     let S : Stream = at w xs in
     let m : ℕ = length bs in
-    let all : length (seen o S) ≡ length (bs ++ seen o (at v ys)) = ap length moved.0 in
-    let enough : m ≤ length w + 8 * length xs = omega (arith, length-seen o w xs, length-append bs (seen o (at v ys))) in
-    let rest : left o m S ≡ at v ys = ⊎_elim
-    (λ (p : m < 1).
-    let z : m ≡ 0 = omega arith in
-    let e = none z in
-    let same : ys ≡ xs = some_same ys xs e.1 in
-    ap (λ k. left o k S) z ∙ left_none o S ∙ ap₂ (λ a b. at a b) (sym e.0) (sym same))
-    (λ (p : 1 ≤ m). left_is o w xs bs v ys moved.1.0 l (short p) moved.0 moved.1.1)
-    (cases_lt m 1) in
+    let enough : Has m S = moved_has o w xs bs v ys moved in
+    let rest : left o m S ≡ at v ys = moved_left o w xs bs v ys l moved short none in
     let first : taken o m S ≡ bs = first_bits o S bs (seen o (at v ys)) moved.0 in
     let peek = peek_law o m S l enough in
     let has : Has m (normal S) = omega (arith, normal-count S) in
     let values : bs ≡ taken o m (normal S) = sym first ∙ peek.0 in
     let streams : normal (at v ys) ≡ left o m (normal S) = ap normal (sym rest) ∙ peek.1 in
     rw (← len) (inr (rw len room, inl (has, ap Ok values, ap (λ T. Going (Some T) (c + m)) streams)))
-  where
-    some_same : (a b : List ℕ) → Some a ≡ Some b → a ≡ b
-    some_same a b e = cc
 
 -- a transfer failed
 pub takes_err : (o : Order) (w : List Bool) (t : Option (List ℕ)) (c n : ℕ) (f g : Health) (kind : ErrorKind) (stop : Fault)

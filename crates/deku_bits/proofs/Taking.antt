@@ -127,7 +127,7 @@ left_bytes o q bs h =
     ∙ spot_zero o (drop q bs)
 
 -- the window alone
-left_window : (o : Order) (S : Stream) → left o (length S.window) S ≡ fresh S.bytes
+pub left_window : (o : Order) (S : Stream) → left o (length S.window) S ≡ fresh S.bytes
 unfolding taken left skipped normal
 left_window o S =
     let e : (length S.window - length S.window + 7) / 8 ≡ 0 = omega arith in

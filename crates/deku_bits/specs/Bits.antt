@@ -1,5 +1,5 @@
 -- Lists of truth values, highest bit first; the eight bits of a byte; groups of eight.
-use Rattle.std.specs.Prelude.{ℕ, zero, suc, ◌+◌, ◌*◌, ◌/◌, ◌%◌, ◌^◌, Bool, cond, eqb, List, [], ◌∷◌, reverse, length, flat_map, ◌≡◌, ◌<◌, ◌≤◌, ◌-◌, ◌++◌, take, drop}
+use Rattle.std.specs.Prelude.{ℕ, zero, suc, ◌+◌, ◌*◌, ◌/◌, ◌%◌, ◌^◌, Bool, cond, eqb, List, [], ◌∷◌, reverse, length, map, flat_map, ◌≡◌, ◌<◌, ◌≤◌, ◌-◌, ◌++◌, take, drop}
 use Rattle.deku_bits.specs.declared.ctx.Order.{Order}
 use Rattle.deku_bits.specs.declared.ctx.Order.TheVariants.{Msb0, Lsb0}
 
@@ -35,6 +35,10 @@ abbrev pub chunks : List Bool → List (List Bool)
 chunks [] = []
 chunks (a ∷ b ∷ c ∷ d ∷ e ∷ f ∷ g ∷ h ∷ s) = (a ∷ b ∷ c ∷ d ∷ e ∷ f ∷ g ∷ h ∷ []) ∷ chunks s
 chunks s = s ∷ []
+
+-- the bytes of bits, highest first
+abbrev pub bytes_of : List Bool → List ℕ
+bytes_of s = map bin (chunks s)
 
 -- how many groups of eight n bits make
 abbrev pub groups : ℕ → ℕ

@@ -12,5 +12,6 @@ pub mod Rows
 pub mod Kept
 pub mod Moving
 pub mod ReaderCalls
+pub mod Seeking
 pub mod Pushing
 pub mod WriterCalls

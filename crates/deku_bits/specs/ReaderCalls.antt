@@ -1,14 +1,15 @@
 -- What the calls of a reader do.
-use Rattle.std.specs.Prelude.{◌≡◌, ◌⊎◌, ℕ, ◌+◌, ◌*◌, ◌<◌, Bool, List, [], length, Option, None, Some, Result, Ok, Err}
+use Rattle.std.specs.Prelude.{◌≡◌, ◌⊎◌, ℕ, ◌+◌, ◌*◌, ◌<◌, ◌≤◌, Bool, true, false, List, [], length, Option, None, Some, Result, Ok, Err}
 use Rattle.std.specs.Global.{Vec}
+use Rattle.std.specs.declared.io.ErrorKind.TheVariants.{OutOfMemory}
 use Rattle.deku_bits.specs.declared.ctx.Order.{Order}
 use Rattle.deku_bits.specs.declared.error.DekuError.{DekuError}
-use Rattle.deku_bits.specs.declared.error.DekuError.TheVariants.{Incomplete}
+use Rattle.deku_bits.specs.declared.error.DekuError.TheVariants.{Incomplete, Io}
 use Rattle.deku_bits.specs.declared.reader.Reader.{Reader}
 use Rattle.deku_bits.specs.declared.reader.Leftover.{Leftover}
 use Rattle.deku_bits.specs.declared.reader.Leftover.TheVariants.{Byte, Bits}
-use Rattle.deku_bits.specs.Bits.{byte_bits, shown}
-use Rattle.deku_bits.specs.Streams.{Stream, Has, taken, left}
+use Rattle.deku_bits.specs.Bits.{byte_bits, shown, bits_in, bytes_of}
+use Rattle.deku_bits.specs.Streams.{Stream, bit_count, Has, Lacks, taken, left, last_part, passed, skipped}
 use Rattle.deku_bits.specs.Devices.{SourceTold}
 use Rattle.deku_bits.specs.Standings.{Standing, Going, Stopped, reader_state}
 use Rattle.deku_bits.specs.Outcomes.{Meaning, Outcome, UnlessStopped, Counted, Reserving, Mapped}
@@ -27,7 +28,7 @@ Ends n c r u = (r ≡ Err (Incomplete (record { bits = n }))) × (u ≡ Stopped 
 
 -- n bits are taken from a stream: from one that is told exactly those, or the end of input where it has too few
 abbrev pub Transfers : Order → ℕ → Option Stream → ℕ → Result (List Bool) DekuError → Standing (Option Stream) → Type 0
-Transfers o n (Some S) c r u = (Has n S × (r ≡ Ok (taken o n S)) × (u ≡ Going (Some (left o n S)) (c + n))) ⊎ ((length S.window + 8 * length S.bytes < n) × Ends n c r u)
+Transfers o n (Some S) c r u = (Has n S × (r ≡ Ok (taken o n S)) × (u ≡ Going (Some (left o n S)) (c + n))) ⊎ (Lacks n S × Ends n c r u)
 Transfers o n None c r u = ((bits : List Bool) × (after : Option Stream) × (length bits ≡ n) × (r ≡ Ok bits) × (u ≡ Going after (c + n))) ⊎ Ends n c r u
 
 -- n bits are taken in an order
@@ -42,10 +43,34 @@ ReadsBits o n = Mapped (shown o) (Takes o n)
 abbrev pub ReadsVec : Order → ℕ → Meaning (Option Stream) (List Bool)
 ReadsVec o n = Mapped (shown o) (UnlessStopped (Counted n (Reserving (Transfers o n))))
 
+-- n bytes are read: eight times as many bits, taken in an order and shown, as bytes
+abbrev pub ReadsBytes : Order → ℕ → Meaning (Option Stream) (List ℕ)
+ReadsBytes o n = Mapped bytes_of (ReadsBits o (8 * n))
+
+-- whether the end of input is reached: over a stream that is told, where no bit is left; the stream is the same
+abbrev pub Peeks : Option Stream → ℕ → Result Bool DekuError → Standing (Option Stream) → Type 0
+Peeks (Some S) c r u = (((bit_count S ≡ 0) × (r ≡ Ok true)) ⊎ ((0 < bit_count S) × (r ≡ Ok false))) × (u ≡ Going (Some S) c)
+Peeks None c r u = (at_end : Bool) × (after : Option Stream) × (r ≡ Ok at_end) × (u ≡ Going after c)
+
+-- a look whether the end of input is reached
+abbrev pub Ending : Meaning (Option Stream) Bool
+Ending = UnlessStopped Peeks
+
+-- n bits are left out: from a stream that is told what a skip leaves, or the end of input where its last part has too few bits
+abbrev pub Skipping : Order → ℕ → Option Stream → ℕ → Result (Unit {0}) DekuError → Standing (Option Stream) → Type 0
+Skipping o n (Some S) c r u = (Has (last_part n S) (passed o n S) × (r ≡ Ok tt) × (u ≡ Going (Some (skipped o n S)) (c + n)))
+    ⊎ (Lacks (last_part n S) (passed o n S) × Ends (last_part n S) c r u)
+Skipping o n None c r u = ((after : Option Stream) × (r ≡ Ok tt) × (u ≡ Going after (c + n)))
+    ⊎ ((m : ℕ) × (0 < m) × (m < 8) × (m ≤ n) × Ends m c r u)
+
+-- n bits are left out in an order
+abbrev pub Skips : Order → ℕ → Meaning (Option Stream) (Unit {0})
+Skips o n = UnlessStopped (Counted n (Skipping o n))
+
 -- what was put into a buffer, where the call succeeds
-abbrev pub filling : {V : Type 0} → Result V DekuError → List Bool → Result (List Bool) DekuError
-filling (Ok v) bits = Ok bits
-filling (Err e) bits = Err e
+abbrev pub filling : {V W : Type 0} → Result V DekuError → W → Result W DekuError
+filling (Ok v) items = Ok items
+filling (Err e) items = Err e
 
 -- the unread bits of a byte; none where the reader has stopped
 abbrev pub window_of : Standing (List Bool) → List Bool
@@ -62,3 +87,17 @@ abbrev pub IsLeftover : List Bool → Option Leftover → Type 0
 IsLeftover w None = w ≡ []
 IsLeftover w (Some (Byte b)) = w ≡ byte_bits b
 IsLeftover w (Some (Bits v)) = (v ≡ w) × (0 < length w) × (length w < 8)
+
+-- A skip of no more bits than a stream that is told has leaves the stream and the count that a read of as many leaves, where that succeeds.
+abbrev pub SkipReadLaw : Type 0
+SkipReadLaw = (o : Order) (n c : ℕ) (S : Stream) → length S.window ≤ 8 → Has n S
+    → (bits : List Bool) (u v : Standing (Option Stream)) (r : Result (Unit {0}) DekuError)
+    → ReadsVec o n false (Going (Some S) c) (Ok bits) u → Skips o n false (Going (Some S) c) r v → (r ≡ Ok tt) × (v ≡ u)
+
+-- A read of bytes answers what a read of eight times as many bits answers, as bytes, and leaves the same; but it is not refused for memory.
+abbrev pub BytesLaw : Type 0
+BytesLaw = (o : Order) (n : ℕ) (breaks : Bool) (s u : Standing (Option Stream))
+    → ((bits : List Bool) → ReadsVec o (8 * n) breaks s (Ok bits) u → ReadsBytes o n breaks s (Ok (bytes_of bits)) u)
+    × ((bytes : List ℕ) → ReadsBytes o n breaks s (Ok bytes) u → (length bytes ≡ n) × ReadsVec o (8 * n) breaks s (Ok (bits_in bytes)) u)
+    × ((e : DekuError) → ReadsBytes o n breaks s (Err e) u → ReadsVec o (8 * n) breaks s (Err e) u)
+    × ((e : DekuError) → ReadsVec o (8 * n) breaks s (Err e) u → ReadsBytes o n breaks s (Err e) u ⊎ ((e ≡ Io OutOfMemory) × (u ≡ s)))

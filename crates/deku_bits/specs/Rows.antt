@@ -2,22 +2,16 @@
 use Rattle.std.specs.Prelude.{ℕ, ◌≡◌, Bool, true, false, List, [], ◌∷◌, ◌++◌}
 use Rattle.deku_bits.specs.declared.ctx.Order.{Order}
 use Rattle.deku_bits.specs.declared.ctx.Order.TheVariants.{Msb0, Lsb0}
-use Rattle.deku_bits.specs.Bits.{bits_of, byte_bits, shown}
+use Rattle.deku_bits.specs.Bits.{bits_of, shown}
 use Rattle.deku_bits.specs.Streams.{Stream, fresh, normal, Has, taken, left, skipped}
 use Rattle.deku_bits.specs.Pieces.{Piece, piece}
 use Rattle.deku_bits.specs.Writers.{Pending, Nothing, Held, Written, append, padded}
 use Rattle.deku_bits.specs.Symmetry.{followed}
+pub use Rattle.deku_bits.specs.Streams.{peeked}
 
 -- a window and the bytes behind it
 abbrev pub stream : List Bool → List ℕ → Stream
 stream window bytes = record { window = window; bytes = bytes }
-
--- what an `end` leaves: an empty window is filled with the next byte
-abbrev pub peeked : Stream → Stream
-peeked S = elim S.window [
-  | [] ↦ elim S.bytes [ [] ↦ S | b ∷ bs ↦ stream (byte_bits b) bs ]
-  | x ∷ xs ↦ S
-]
 
 -- what reads of so many bits each show, one after the other
 abbrev pub answers : List (Order × ℕ) → Stream → List (List Bool)

@@ -1,7 +1,8 @@
 //! Laws of the definitions that contracts speak of: each is what an empty function ensures.
 
 ghost use Rattle.deku_bits.specs.Bits.{JoinLaw, PackLaw};
-ghost use Rattle.deku_bits.specs.Streams.{PeekLaw, CutLaw, SkipLaw};
+ghost use Rattle.deku_bits.specs.Streams.{PeekLaw, CutLaw, SkipLaw, PeekSkipLaw, EndLaw};
+ghost use Rattle.deku_bits.specs.ReaderCalls.{SkipReadLaw, BytesLaw};
 ghost use Rattle.deku_bits.specs.Pieces.{LengthLaw};
 ghost use Rattle.deku_bits.specs.Writers.{AppendLaw, CountLaw};
 ghost use Rattle.deku_bits.specs.Symmetry.{WriteLaw, ReadLaw, RewriteLaw, CallsLaw};
@@ -20,6 +21,26 @@ pub fn cut_law()
 /// A skip leaves what a read of as many bits leaves.
 pub fn skip_law()
     ensures { SkipLaw }
+{}
+
+/// A skip of a stream is a skip of its normal form, where a peeked byte is put back.
+pub fn peek_skip_law()
+    ensures { PeekSkipLaw }
+{}
+
+/// A look whether the end is reached changes no later read and no later skip.
+pub fn end_law()
+    ensures { EndLaw }
+{}
+
+/// A skip leaves the stream and the count of a read of as many bits that succeeds.
+pub fn skip_read_law()
+    ensures { SkipReadLaw }
+{}
+
+/// A read of bytes is a read of eight times as many bits, but for memory.
+pub fn bytes_law()
+    ensures { BytesLaw }
 {}
 
 /// Two writes in one order are one write.

@@ -1,10 +1,13 @@
 //! Reading bits.
 
-ghost use Rattle.std.specs.Prelude.{◌≡◌, ◌≤◌, [], length, IfOk, IfErr};
+ghost use Rattle.std.specs.Prelude.{◌≡◌, ◌+◌, ◌*◌, ◌≤◌, [], length, take, drop, IfOk, IfErr};
+ghost use Rattle.std.specs.Borrow.{Lends, sem};
 ghost use Rattle.deku_bits.specs.Standings.{Going, count_of};
-ghost use Rattle.deku_bits.specs.ReaderCalls.{Reads, Takes, ReadsBits, ReadsVec, IsLeftover, filling, items_of, window_of};
+ghost use Rattle.deku_bits.specs.ReaderCalls.{Reads, Takes, Ending, Skips, ReadsBits, ReadsVec, ReadsBytes, IsLeftover, filling, items_of, window_of};
+ghost use Rattle.deku_bits.specs.contracts.reader.Reader.{the_row as reader-row};
 
 mod progress;
+mod seek;
 mod window;
 
 use crate::bounded::BoundedBitVec;
@@ -25,6 +28,13 @@ pub enum Leftover {
     Bits(BoundedBitVec<1>),
 }
 
+/// What a read of bytes has put into its buffer.
+#[derive(Drop)]
+pub enum ReaderRet {
+    /// Whole bytes.
+    Bytes,
+}
+
 /// Reads bits from a source of bytes.
 ///
 /// It fetches one byte at a time, and none behind the last bit that was wanted. It keeps the bits of that byte that are not read
@@ -39,7 +49,7 @@ pub enum Leftover {
 /// - with `Io` of the fault's kind, where the source fails.
 ///
 /// The last two stop the reader: it answers the same to each further read, also to one of no bits, it has no bits left over, and
-/// the count of bits read stays what it was before the read that failed.
+/// the count of bits read stays what it was before the read that failed. A seek that succeeds lets it go on.
 ///
 /// ```text
 /// let mut reader = Reader::new(alloc, Cursor::new(bytes)); // 6D BE EF
@@ -85,6 +95,21 @@ impl<R: Source> Reader<R> {
         self.source
     }
 
+    /// The source, behind the last byte that was fetched. What is done to it is done to the reader's source: the next bits are the
+    /// unread ones of that byte, and then those of the bytes that the source gives.
+    ///
+    /// ```text
+    /// let mut reader = Reader::new(alloc, Cursor::new(bytes)); // 01 02 03
+    /// reader.as_mut().set_position(2);
+    /// reader.read_bits(8, Order::Msb0)?;                       // 0, 0, 0, 0, 0, 0, 1, 1
+    /// ```
+    pub fn as_mut(&mut self) -> &mut R
+        ensures value { result.now ≡ self.old.source }
+        ensures* writes_back { sem 𝓛 (Lends (reader-row R.row) R.row self.entry result (λ x. record self.old { source = x })) }
+    {
+        &mut self.source
+    }
+
     /// The unread bits of the byte that was fetched last, where there are any; none after a fault.
     pub fn leftover(&self) -> Option<Leftover>
         ensures { IsLeftover (window_of self.now.state) result }
@@ -123,6 +148,52 @@ impl<R: Source> Reader<R> {
             Ok(bits) => Ok(bits),
             Err(_) => Err(DekuError::Io(ErrorKind::OutOfMemory)),
         }
+    }
+
+    /// Whether the end of input is reached.
+    ///
+    /// Where bits of the byte that was fetched last are unread, it answers false and does not ask the source. Else it fetches one
+    /// byte, all of which is then unread: the next reads and skips are the same as without this call, and the count stays. It
+    /// answers true where the source has no byte.
+    ///
+    /// It is refused with the fault that stopped the reader, if one did, and with `Io` of the fault's kind where the source fails;
+    /// that stops the reader.
+    ///
+    /// ```text
+    /// reader.end()?;                      // from AA: false
+    /// reader.rest()?;                     // 1, 0, 1, 0, 1, 0, 1, 0
+    /// reader.bits_read();                 // 0
+    /// reader.read_bits(8, Order::Lsb0)?;  // 1, 0, 1, 0, 1, 0, 1, 0
+    /// reader.end()?;                      // true
+    /// ```
+    pub fn end(&mut self) -> Result<bool, DekuError>
+        ensures { Reads R.told Ending self.old result self.new }
+    {
+        self.state.end(&mut self.source)
+    }
+
+    /// Leaves out the next `amt` bits.
+    ///
+    /// They are the bits that a read of as many in this order would take: those that the byte fetched last has unread, then whole
+    /// bytes, which the source passes without fetching them, and then fewer than eight bits of one byte more. The count of bits read
+    /// rises by `amt`.
+    ///
+    /// It takes no memory. What is refused, and what is left then, is said at `Reader`, but for two things. `Incomplete` is of the
+    /// bits behind the whole bytes, fewer than eight. And a source may pass its end without a fault, as one over memory does: then
+    /// no byte is left, and the call succeeds where no bit is wanted behind the whole bytes.
+    ///
+    /// ```text
+    /// reader.read_bits(4, Order::Msb0)?; // from AB CD EF: 1, 0, 1, 0
+    /// reader.skip_bits(6, Order::Msb0)?;
+    /// reader.read_bits(6, Order::Msb0)?; // 0, 0, 1, 1, 0, 1
+    /// reader.skip_bits(80, Order::Msb0)?;
+    /// reader.end()?;                     // true
+    /// reader.bits_read();                // 96
+    /// ```
+    pub fn skip_bits(&mut self, amt: usize, order: Order) -> Result<(), DekuError>
+        ensures { Reads R.told (Skips order amt) self.old result self.new }
+    {
+        self.state.skip_bits(&mut self.source, amt, order)
     }
 
     /// Takes as many bits as the buffer is long, as the order meets them.
@@ -168,6 +239,66 @@ impl<R: Source> Reader<R> {
         };
         self.read_bits_into(bits.as_mut_slice(), order)?;
         Ok(bits)
+    }
+
+    /// Reads `amt` bytes into the front of the buffer; what is behind them in it stays. The caller's condition: the buffer is as
+    /// long.
+    ///
+    /// They are what a read of eight times as many bits in this order shows, each byte high bit first; they need not start where a
+    /// byte of the source starts. A read of no bytes reads nothing. It takes no memory. What is refused, and what is left then, is
+    /// said at `Reader`: `Incomplete` is of the bits, eight times `amt`. After a refusal the content of the bytes asked for is open.
+    ///
+    /// ```text
+    /// let mut bytes = [0; 4];
+    /// reader.read_bits(4, Order::Msb0)?;               // from AB CD EF: 1, 0, 1, 0
+    /// reader.read_bytes(2, &mut bytes, Order::Lsb0)?;  // DB FC 00 00
+    /// ```
+    pub fn read_bytes(
+        &mut self,
+        amt: usize,
+        buf: &mut [u8],
+        order: Order,
+    ) -> Result<ReaderRet, DekuError>
+        requires { amt ≤ length buf.old }
+        ensures front { Reads R.told (ReadsBytes order amt) self.old (filling result (take amt buf.new)) self.new }
+        ensures behind { drop amt buf.new ≡ drop amt buf.old }
+    {
+        self.state
+            .take_bytes(&mut self.source, &mut buf[..amt], order)?;
+        Ok(ReaderRet::Bytes)
+    }
+
+    /// Fills the buffer with bytes, as `read_bytes` reads as many as it is long.
+    ///
+    /// ```text
+    /// let mut bytes = [0; 2];
+    /// reader.read_bytes_const(&mut bytes, Order::Msb0)?; // from AA BB: AA BB
+    /// ```
+    pub fn read_bytes_const<const N: usize>(
+        &mut self,
+        buf: &mut [u8; N],
+        order: Order,
+    ) -> Result<ReaderRet, DekuError>
+        ensures { Reads R.told (ReadsBytes order N) self.old (filling result buf.new) self.new }
+    {
+        self.read_bytes_const_into(buf, order)?;
+        Ok(ReaderRet::Bytes)
+    }
+
+    /// Fills the buffer with bytes, as `read_bytes` reads as many as it is long.
+    ///
+    /// ```text
+    /// let mut byte = [0; 1];
+    /// reader.read_bytes_const_into(&mut byte, Order::Msb0)?; // from AA BB: AA
+    /// ```
+    pub fn read_bytes_const_into<const N: usize>(
+        &mut self,
+        buf: &mut [u8; N],
+        order: Order,
+    ) -> Result<(), DekuError>
+        ensures { Reads R.told (ReadsBytes order N) self.old (filling result buf.new) self.new }
+    {
+        self.state.take_bytes(&mut self.source, buf, order)
     }
 }
 

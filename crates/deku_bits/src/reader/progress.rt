@@ -1,19 +1,25 @@
 //! What a reader keeps beside its source, and how it takes bits.
 
-ghost use Rattle.std.specs.Prelude.{◌≡◌, ◌≢◌, ℕ, ◌<◌, ◌≤◌, ◌⊎◌, [], ◌∷◌, length, IfOk, OnOk, IfErr};
+ghost use Rattle.std.specs.Prelude.{◌≡◌, ◌≢◌, ℕ, ◌*◌, ◌^◌, ◌<◌, ◌≤◌, ◌⊎◌, [], ◌∷◌, length, IfOk, OnOk, IfErr};
 ghost use Rattle.std.specs.Io.KnownBytes.{Consumes};
 ghost use Rattle.std.specs.IoError.{error_kind};
 ghost use Rattle.deku_bits.specs.declared.ctx.Order.{Order as BitOrder};
 ghost use Rattle.deku_bits.specs.Devices.{NoFewerFailures, MoreFailures, FewerThan, StaysEmpty};
 ghost use Rattle.deku_bits.specs.Kept.{Admits};
 ghost use Rattle.deku_bits.specs.Moving.{Moves, FewerBits};
-ghost use Rattle.deku_bits.specs.ReaderCalls.{ReadsAt, Takes, filling, window_of};
-ghost use Rattle.deku_bits.specs.Standings.{Going, count_of};
+ghost use Rattle.deku_bits.specs.Faults.{error_of};
+ghost use Rattle.deku_bits.specs.ReaderCalls.{ReadsAt, Takes, Ending, Skips, ReadsBytes, filling, window_of};
+ghost use Rattle.deku_bits.specs.Standings.{Going, Stopped, count_of};
+
+mod bytes;
+mod skips;
 
 use super::window::Window;
 use crate::ctx::Order;
 use crate::device::Source;
 use crate::error::{DekuError, Fault, NeedSize};
+use crate::reader::progress::bytes::bytes_into;
+use crate::reader::progress::skips::{drop_bits, pass_bytes, pop_bits};
 use std::io;
 use std::io::ErrorKind;
 use std::marker::Model;
@@ -43,10 +49,28 @@ impl Progress {
     pub fn start() -> Progress
         ensures { result ≡ Going [] 0 }
     {
+        Progress::going(0)
+    }
+
+    /// So many bits are read, and no bits of a byte are unread.
+    pub fn going(bits_read: usize) -> Progress
+        ensures { result ≡ Going [] bits_read }
+    {
         Progress {
             window: Window::empty(),
             fault: None,
-            bits_read: 0,
+            bits_read,
+        }
+    }
+
+    /// So many bits are read, and this fault is kept.
+    pub fn stopped(fault: Fault, bits_read: usize) -> Progress
+        ensures { result ≡ Stopped (error_of fault) bits_read }
+    {
+        Progress {
+            window: Window::empty(),
+            fault: Some(fault),
+            bits_read,
         }
     }
 
@@ -81,6 +105,18 @@ impl Progress {
         Ok(())
     }
 
+    /// Refuses what a read of so many bytes refuses before it moves anything.
+    pub fn admits_bytes(&self, amt: usize) -> Result<(), DekuError>
+        ensures answer { Admits (8 * amt) self.now result }
+        ensures fits { OnOk result (8 * amt < 2 ^ 64) }
+    {
+        self.admits(0)?;
+        if amt > usize::MAX / 8 {
+            return Err(DekuError::InvalidParam("count past usize"));
+        }
+        self.admits(8 * amt)
+    }
+
     /// Takes bits in this order, one after the other, and stops where that fails.
     pub fn take_bits<R: Source>(
         &mut self,
@@ -98,8 +134,87 @@ impl Progress {
             }
             Err(error) => {
                 let fault = fault_of(&error, dst.len());
-                self.window = Window::empty();
-                self.fault = Some(fault);
+                *self = Progress::stopped(fault, self.bits_read);
+                Err(fault.error())
+            }
+        }
+    }
+
+    /// Takes bytes in this order, one after the other, and stops where that fails.
+    pub fn take_bytes<R: Source>(
+        &mut self,
+        source: &mut R,
+        dst: &mut [u8],
+        order: Order,
+    ) -> Result<(), DekuError>
+        ensures { ReadsAt (ReadsBytes order (length dst.old)) (R.told source.old) self.old (filling result dst.new) (R.told source.new) self.new }
+    {
+        self.admits_bytes(dst.len())?;
+        let bits = 8 * dst.len();
+        match bytes_into(source, &mut self.window, dst, order) {
+            Ok(()) => {
+                self.bits_read += bits;
+                Ok(())
+            }
+            Err(error) => {
+                let fault = fault_of(&error, bits);
+                *self = Progress::stopped(fault, self.bits_read);
+                Err(fault.error())
+            }
+        }
+    }
+
+    /// Whether the end of input is reached: fetches a byte where no bit is unread, and does not count it.
+    pub fn end<R: Source>(&mut self, source: &mut R) -> Result<bool, DekuError>
+        ensures { ReadsAt Ending (R.told source.old) self.old result (R.told source.new) self.new }
+    {
+        if let Some(kept) = self.fault {
+            return Err(kept.error());
+        }
+        if self.window.len() > 0 {
+            return Ok(false);
+        }
+        match fetch_byte(source) {
+            Ok(byte) => {
+                self.window = Window::of_byte(byte);
+                Ok(false)
+            }
+            Err(error) => match fault_of(&error, 8) {
+                Fault::Incomplete(_) => Ok(true),
+                fault => {
+                    *self = Progress::stopped(fault, self.bits_read);
+                    Err(fault.error())
+                }
+            },
+        }
+    }
+
+    /// Leaves out bits: those of the window in this order, then whole bytes, then fewer than eight bits in this order.
+    pub fn skip_bits<R: Source>(
+        &mut self,
+        source: &mut R,
+        amt: usize,
+        order: Order,
+    ) -> Result<(), DekuError>
+        ensures { ReadsAt (Skips order amt) (R.told source.old) self.old result (R.told source.new) self.new }
+    {
+        self.admits(amt)?;
+        let inside = amt.min(self.window.len());
+        let behind = amt - inside;
+        pop_bits(&mut self.window, inside, order);
+        if let Err(error) = pass_bytes(source, behind / 8) {
+            let fault = Fault::Io(error.kind());
+            *self = Progress::stopped(fault, self.bits_read);
+            return Err(fault.error());
+        }
+        match drop_bits(source, &mut self.window, behind % 8, order) {
+            Ok(()) => {
+                self.bits_read += amt;
+                Ok(())
+            }
+            Err(error) => {
+                let fault = fault_of(&error, behind % 8);
+                *self = Progress::stopped(fault, self.bits_read);
                 Err(fault.error())
             }
         }
@@ -162,6 +277,7 @@ fn take_into<R: Source>(
     ensures short { OnOk result (0 < length dst.new → length window.new < 8) }
     ensures none { OnOk result (length dst.new ≡ 0 → (window.new ≡ window.old) × ((R.told source.new).coming ≡ (R.told source.old).coming)) }
     ensures moved { OnOk result (Moves order window.old (R.told source.old).coming dst.new window.new (R.told source.new).coming) }
+    ensures wanted { IfErr result (λ e. 0 < length dst.old) }
     ensures ended { IfErr result (λ e. error_kind e ≡ ErrorKind.UnexpectedEof → FewerBits (length dst.old) window.old (R.told source.old).coming) }
     ensures failed { IfErr result (λ e. error_kind e ≢ ErrorKind.UnexpectedEof → MoreFailures (R.told source.old).health (R.told source.new).health) }
     ensures kept { NoFewerFailures (R.told source.old).health (R.told source.new).health }

@@ -10,7 +10,7 @@ use crate::ctx::Order::{Lsb0, Msb0};
 use crate::device::Source;
 use crate::error::{DekuError, NeedSize};
 use std::alloc::{AllocError, Global};
-use std::io::Cursor;
+use std::io::{Cursor, ErrorKind, Seek, SeekFrom};
 use std::process::Abort;
 use std::test::Fail;
 
@@ -197,6 +197,196 @@ fn has_bits_left_over(rt: HostRuntime) -> Result<(), Fail> {
     }
     reader.read_bits(3, Lsb0)?;
     assert!(rt; reader.leftover().is_none());
+    Ok(())
+}
+
+// What is done with a reader, and what it shows.
+enum Step<'a> {
+    Bits(usize, Order, &'a str),
+    Bytes(&'a [u8], Order),
+    Skip(usize, Order),
+    End(bool),
+    Seek(SeekFrom),
+    Rest(&'a str),
+    Count(usize),
+}
+
+// These steps, one after the other, show what they say.
+fn expect_steps(rt: &impl Abort, alloc: Global, bytes: &[u8], steps: &[Step]) -> Result<(), Fail> {
+    let mut reader = Reader::new(alloc, Cursor::new(bytes));
+    for step in steps {
+        match step {
+            Step::Bits(width, order, want) => {
+                let bits = reader.read_bits(*width, *order)?;
+                assert_eq!(rt; digits(alloc, &bits)?.as_str(), *want, "bits of {bytes:?}");
+            }
+            Step::Bytes(want, order) => {
+                let mut buf = [0; 4];
+                let amt = want.len();
+                assert!(rt; amt <= 4);
+                if amt <= 4 {
+                    reader.read_bytes(amt, &mut buf, *order)?;
+                    assert_eq!(rt; &buf[..amt], *want, "bytes of {bytes:?}");
+                }
+            }
+            Step::Skip(amt, order) => reader.skip_bits(*amt, *order)?,
+            Step::End(want) => assert_eq!(rt; reader.end()?, *want, "the end of {bytes:?}"),
+            Step::Seek(to) => {
+                reader.seek(*to)?;
+            }
+            Step::Rest(want) => assert_eq!(rt;
+                digits(alloc, &reader.rest()?)?.as_str(),
+                *want,
+                "the rest of {bytes:?}"
+            ),
+            Step::Count(want) => assert_eq!(rt;
+                reader.bits_read(),
+                *want,
+                "the count of {bytes:?}"
+            ),
+        }
+    }
+    Ok(())
+}
+
+#[test]
+fn peeks_and_skips(rt: HostRuntime) -> Result<(), Fail> {
+    let alloc = rt.alloc();
+    expect_steps(
+        &rt,
+        alloc,
+        &[0xAA, 0xBB],
+        &[
+            Step::End(false),
+            Step::Rest("10101010"),
+            Step::Bytes(&[0xAA, 0xBB], Lsb0),
+            Step::End(true),
+            Step::Count(16),
+        ],
+    )?;
+    expect_steps(
+        &rt,
+        alloc,
+        &[0xAA, 0xBB, 0xCC],
+        &[
+            Step::End(false),
+            Step::Skip(8, Msb0),
+            Step::Bytes(&[0xBB], Msb0),
+            Step::Count(16),
+        ],
+    )?;
+    expect_steps(
+        &rt,
+        alloc,
+        &[0xAB, 0xCD, 0xEF],
+        &[
+            Step::Bits(4, Msb0, "1010"),
+            Step::Skip(6, Msb0),
+            Step::Bits(6, Msb0, "001101"),
+            Step::Count(16),
+        ],
+    )?;
+    expect_steps(
+        &rt,
+        alloc,
+        &[0xAB, 0xCD],
+        &[
+            Step::Bits(4, Msb0, "1010"),
+            Step::Skip(6, Lsb0),
+            Step::Rest("110011"),
+        ],
+    )?;
+    Ok(())
+}
+
+#[test]
+fn seeks(rt: HostRuntime) -> Result<(), Fail> {
+    let alloc = rt.alloc();
+    expect_steps(
+        &rt,
+        alloc,
+        &[0x01, 0x02, 0x03, 0x04],
+        &[
+            Step::Bits(4, Msb0, "0000"),
+            Step::Seek(SeekFrom::Current(1)),
+            Step::Bytes(&[0x03], Msb0),
+            Step::Count(20),
+        ],
+    )?;
+    expect_steps(
+        &rt,
+        alloc,
+        &[0x01, 0x02, 0x03],
+        &[
+            Step::Bits(4, Msb0, "0000"),
+            Step::Seek(SeekFrom::Start(2)),
+            Step::Count(16),
+            Step::Bytes(&[0x03], Msb0),
+            Step::Seek(SeekFrom::Start(0)),
+            Step::Count(24),
+            Step::Bytes(&[0x01], Msb0),
+            Step::Count(32),
+        ],
+    )?;
+    Ok(())
+}
+
+// A count past `usize` is refused, and nothing changes.
+#[test]
+fn refuses_a_count_past_its_type(rt: HostRuntime) -> Result<(), Fail> {
+    let mut byte = [0];
+    let two: &[u8] = &[0x01, 0x02];
+    let mut reader = Reader::new(rt.alloc(), Cursor::new(two));
+    reader.read_bytes_const_into(&mut byte, Msb0)?;
+    assert_eq!(rt;
+        reader.skip_bits(usize::MAX, Msb0).err(),
+        Some(DekuError::InvalidParam("count past usize"))
+    );
+    assert_eq!(rt; reader.bits_read(), 8);
+    reader.read_bytes_const_into(&mut byte, Msb0)?;
+    assert_eq!(rt; byte, [0x02]);
+
+    let one: &[u8] = &[0x01];
+    let mut reader = Reader::new(rt.alloc(), Cursor::new(one));
+    match reader.seek(SeekFrom::Start(u64::MAX)) {
+        Ok(_) => assert!(rt; false),
+        Err(error) => assert_eq!(rt; error.kind(), ErrorKind::InvalidInput),
+    }
+    reader.read_bytes_const(&mut byte, Msb0)?;
+    assert_eq!(rt; byte, [0x01]);
+    Ok(())
+}
+
+// The source's refusal of a seek is kept until a seek succeeds.
+#[test]
+fn keeps_a_refused_seek(rt: HostRuntime) -> Result<(), Fail> {
+    let bytes: &[u8] = &[0x01, 0x02, 0x03];
+    let mut byte = [0];
+    let mut reader = Reader::new(rt.alloc(), Cursor::new(bytes));
+    reader.read_bits(4, Msb0)?;
+    assert!(rt; reader.seek(SeekFrom::Current(-2)).is_err());
+    assert_eq!(rt; reader.rest()?.len(), 0);
+    assert_eq!(rt; reader.bits_read(), 4);
+    let kept = Some(DekuError::Io(ErrorKind::InvalidInput));
+    assert_eq!(rt; reader.end().err(), kept);
+    assert_eq!(rt; reader.skip_bits(0, Lsb0).err(), kept);
+    assert_eq!(rt; reader.read_bytes_const_into(&mut byte, Msb0).err(), kept);
+    reader.seek(SeekFrom::End(-1))?;
+    reader.read_bytes_const_into(&mut byte, Msb0)?;
+    assert_eq!(rt; byte, [0x03]);
+    assert_eq!(rt; reader.bits_read(), 12);
+    Ok(())
+}
+
+// What is done to the source through a reader is done to the reader's source.
+#[test]
+fn lends_its_source(rt: HostRuntime) -> Result<(), Fail> {
+    let bytes: &[u8] = &[0x01, 0x02, 0x03];
+    let mut byte = [0];
+    let mut reader = Reader::new(rt.alloc(), Cursor::new(bytes));
+    reader.as_mut().set_position(2);
+    reader.read_bytes_const(&mut byte, Msb0)?;
+    assert_eq!(rt; byte, [0x03]);
     Ok(())
 }
 

@@ -1,4 +1,4 @@
-use Rattle.std.proofs.Common.{rules, ◌<◌, length, take, arith}
+use Rattle.std.proofs.Common.{rules, ◌<◌, [], ◌∷◌, length, take, arith}
 use Rattle.std.proofs.lemmas.List.{take_more_set, length-take}
 use Rattle.std.proofs.lemmas.Result.{err_from_is_err_and}
 use Rattle.deku_bits.proofs.Handing.{no_fewer_on}
@@ -24,7 +24,7 @@ loop-bit-preserved g c =
       short = search rules;
       none = λ e. absurd (omega arith);
       moved = rw take_more_set (moves_more c.args.order c.args.window.now (told c.args.source.now).coming (take c.loop-bit.bit-index c.loop-bit.dst)
-          c.loop-bit.window (told c.loop-bit.source).coming c.in_ok-bit.field-0 c.next_bit.new.window (told c.next_bit.new.source).coming
+          c.loop-bit.window (told c.loop-bit.source).coming (c.in_ok-bit.field-0 ∷ []) c.next_bit.new.window (told c.next_bit.new.source).coming
           c.loop-bit.invariant.moved c.in_ok-bit.ensures.moved);
       kept = no_fewer_on _ _ _ c.loop-bit.invariant.kept c.next_bit.ensures.kept;
     }

@@ -1,4 +1,4 @@
-use Rattle.std.proofs.Common.{◌≡◌, length, arith}
+use Rattle.std.proofs.Common.{◌≡◌, ◌∙◌, length, arith}
 use Rattle.deku_bits.specs.Outcomes.{Quiet}
 use Rattle.deku_bits.proofs.Moving.{takes_ok, takes_err, admitted}
 use Rattle.deku_bits.proofs.reader.progress.Progress.take_bits.Goals as goal
@@ -19,6 +19,7 @@ returns-in-Err g c =
     let p = c.self.inside in
     let len : length c.take_into.new.dst ≡ length c.args.dst.now = omega arith in
     let may = admitted p.window p.fault p.bits_read (length c.args.dst.now) (rw (← c.self.view_is) at c.in_ok-admits.ensures) in
-    rw (← c.self.view_is, may.0, c.error.ensures)
+    let at_end = c.self-in-Err.view_is ∙ c.stopped.ensures in
+    rw (← c.self.view_is, may.0, c.error.ensures, at_end)
     (takes_err c.args.order p.window (told c.args.source.now).coming p.bits_read (length c.args.dst.now) (told c.args.source.now).health (told c.take_into.new.source).health _ _
     (rw len at c.fault_of-fault.ensures) may.1 c.in-Err.ensures.ended c.in-Err.ensures.failed c.take_into.ensures.kept)

@@ -1,0 +1,5 @@
+use Rattle.deku_bits.proofs.Skips.{peek_skip_law}
+use Rattle.deku_bits.proofs.laws.peek_skip_law.Goals as goal
+
+pub returns : goal.returns
+returns c = peek_skip_law

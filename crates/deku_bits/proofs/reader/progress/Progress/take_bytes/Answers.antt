@@ -1,0 +1,39 @@
+use Rattle.std.proofs.Common.{◌≡◌, ◌∙◌, ◌*◌, length, arith}
+use Rattle.std.proofs.lemmas.Result.{err_from_is_err_and}
+use Rattle.deku_bits.specs.Bits.{bytes_of, shown}
+use Rattle.deku_bits.specs.ReaderCalls.{Transfers}
+use Rattle.deku_bits.proofs.Handing.{mapped_err, turned_away}
+use Rattle.deku_bits.proofs.Moving.{admitted, reader_admits}
+use Rattle.deku_bits.proofs.Bytes.{bytes_ok, bytes_err}
+use Rattle.deku_bits.proofs.reader.progress.Progress.take_bytes.Goals as goal
+
+pub returns-in_err-admits_bytes : goal.returns-in_err-admits_bytes
+returns-in_err-admits_bytes g c =
+    let told = g.R.Source.told c.args.source.now in
+    let o = c.args.order in
+    let bits = 8 * length c.args.dst.now in
+    let p = err_from_is_err_and c.from_residual.result c.from_residual.ensures.1 in
+    let away = reader_admits told.coming c.args.self.now bits _ c.in_err-admits_bytes.ensures.answer in
+    rw (p.1, p.2) (mapped_err bytes_of (mapped_err (shown o) (turned_away (Transfers o bits) bits _ _ told.health away)))
+
+pub returns-in-Ok : goal.returns-in-Ok
+returns-in-Ok g c =
+    let told = g.R.Source.told in
+    let p = c.self.inside in
+    let n = length c.args.dst.now in
+    let len : length c.bytes_into.new.dst ≡ length c.args.dst.now = omega arith in
+    let may = admitted p.window p.fault p.bits_read (8 * n) (rw (← c.self.view_is) at c.in_ok-admits_bytes.ensures.answer) in
+    rw (← c.self.view_is, may.0)
+    (bytes_ok c.args.order p.window (told c.args.source.now).coming p.bits_read n c.bytes_into.new.dst c.bytes_into.new.window (told c.bytes_into.new.source).coming _ _
+    len c.self.invariant may.1 c.in-Ok.ensures.moved c.in-Ok.ensures.short c.in-Ok.ensures.none c.in-Ok.ensures.bytes c.bytes_into.ensures.kept)
+
+pub returns-in-Err : goal.returns-in-Err
+returns-in-Err g c =
+    let told = g.R.Source.told in
+    let p = c.self.inside in
+    let n = length c.args.dst.now in
+    let may = admitted p.window p.fault p.bits_read (8 * n) (rw (← c.self.view_is) at c.in_ok-admits_bytes.ensures.answer) in
+    let at_end = c.self-in-Err.view_is ∙ c.stopped.ensures in
+    rw (← c.self.view_is, may.0, c.error.ensures, at_end)
+    (bytes_err c.args.order p.window (told c.args.source.now).coming p.bits_read n (told c.args.source.now).health (told c.bytes_into.new.source).health _ _
+    c.fault_of-fault.ensures may.1 c.in-Err.ensures.ended c.in-Err.ensures.failed c.bytes_into.ensures.kept)
