@@ -1,4 +1,4 @@
-use Rattle.std.proofs.Common.{◌≡◌, ◌+◌, ◌-◌, ◌*◌, ◌/◌, ◌^◌, ◌<◌, ◌≤◌, [], length, arith, refl}
+use Rattle.std.proofs.Common.{◌≡◌, ◌+◌, ◌-◌, ◌*◌, ◌/◌, ◌^◌, ◌<◌, [], length, arith, refl}
 use Rattle.deku_bits.specs.declared.ctx.Order.TheVariants.{Msb0}
 use Rattle.deku_bits.specs.Writers.{Nothing, append}
 use Rattle.deku_bits.proofs.Emits.{counted, succeeds_with_room}
