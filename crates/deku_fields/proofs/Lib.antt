@@ -5,3 +5,4 @@ pub mod WritingLists
 pub mod Stepping
 pub mod Whole
 pub mod ReadBack
+pub mod Rewritten

@@ -1,12 +1,11 @@
 -- What a list reads from bytes that begin with its layout.
-use Rattle.std.proofs.Common.{◌≡◌, ◌⊎◌, ℕ, ◌+◌, ◌<◌, ◌^◌, false, Result, Ok, Err, Option, Some, List, [], ◌∷◌, ◌++◌, map, drop, All, Bor, Bool, refl, ap, sym, ◌∙◌, subst, inl, inr, arith}
+use Rattle.std.proofs.Common.{◌≡◌, ◌⊎◌, ℕ, ◌<◌, ◌^◌, false, Result, Ok, Err, Option, Some, List, [], ◌∷◌, ◌++◌, map, drop, All, Bor, Bool, refl, ap, sym, ◌∙◌, subst, inl, inr, arith}
 use Rattle.std.proofs.lemmas.List.Elements.{All-cons, All-head, All-nil, All-tail}
 use Rattle.std.specs.Io.Cursor.{cursor_position, cursor_inner}
 use Rattle.std.specs.declared.io.Cursor.{Cursor}
 use Rattle.std.specs.declared.io.ErrorKind.TheVariants.{OutOfMemory}
 use Rattle.deku_bits.specs.declared.error.DekuError.{DekuError}
 use Rattle.deku_bits.specs.declared.error.DekuError.TheVariants.{Io}
-use Rattle.deku_bits.specs.Bits.{bin}
 use Rattle.deku_bits.specs.Streams.{Stream, fresh, normal}
 use Rattle.deku_bits.specs.Pieces.{laid_out, total}
 use Rattle.deku_bits.specs.Standings.{Standing, Going, Stopped, reader_state, count_of}

@@ -1,9 +1,9 @@
 -- What reading a list of fields gives.
-use Rattle.std.proofs.Common.{◌≡◌, ℕ, ◌+◌, ◌<◌, ◌^◌, Bool, true, false, Some, List, [], ◌∷◌, map, All, ℤ, pos, negsuc, refl, ap, sym, ◌∙◌, subst, arith}
+use Rattle.std.proofs.Common.{◌≡◌, ℕ, ◌+◌, ◌<◌, ◌^◌, Bool, true, false, Some, List, [], ◌∷◌, map, All, ℤ, pos, negsuc, ap, subst, arith}
 use Rattle.std.proofs.lemmas.List.Elements.{All-head, All-tail}
 use Rattle.deku_bits.specs.Streams.{Stream, Has, taken, left}
 use Rattle.deku_bits.specs.Pieces.{total}
-use Rattle.deku_bits.specs.Standings.{Standing, Going}
+use Rattle.deku_bits.specs.Standings.{Going}
 use Rattle.deku_bits.specs.Outcomes.{Mapped}
 use Rattle.deku_num.specs.Numbers.{value}
 use Rattle.deku_num.specs.NumberCalls.{ReadsNumber}

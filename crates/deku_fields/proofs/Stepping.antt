@@ -1,5 +1,5 @@
 -- Lists of fields and items, one after the other: what is known on the way.
-use Rattle.std.proofs.Common.{◌≡◌, ℕ, ◌+◌, ◌<◌, ◌≤◌, Bool, true, false, Result, Ok, Err, Option, List, [], ◌∷◌, ◌++◌, length, get_or, set, take, drop, ℤ, pos, refl, ap, sym, ◌∙◌, subst, arith, append_assoc, append-nil}
+use Rattle.std.proofs.Common.{◌≡◌, ℕ, ◌+◌, ◌<◌, ◌≤◌, true, false, Result, Ok, Err, Option, List, [], ◌∷◌, ◌++◌, length, get_or, set, take, drop, ℤ, pos, refl, ap, sym, ◌∙◌, subst, append_assoc, append-nil}
 use Rattle.std.proofs.lemmas.List.{drop_more, drop_all, take_all, take_more_set}
 use Rattle.deku_bits.specs.declared.error.DekuError.{DekuError}
 use Rattle.deku_bits.specs.Streams.{Stream}
@@ -7,8 +7,7 @@ use Rattle.deku_bits.specs.Devices.{Health}
 use Rattle.deku_bits.specs.Standings.{Standing, Output}
 use Rattle.deku_bits.specs.Outcomes.{Meaning, Outcome, Mapped}
 use Rattle.deku_bits.proofs.Handing.{mapped_ok, mapped_err}
-use Rattle.deku_num.specs.NumberCalls.{ReadsNumber, ReadsUnsigned}
-use Rattle.deku.specs.Composing.{Then}
+use Rattle.deku_num.specs.NumberCalls.{ReadsNumber}
 use Rattle.deku.proofs.Joining.{first_refused, then_on, answered}
 use Rattle.deku_fields.specs.declared.list.Number.{Number}
 use Rattle.deku_fields.specs.declared.list.Number.TheVariants.{Unsigned, Signed}

@@ -1,29 +1,24 @@
 -- Whole lists, in memory.
-use Rattle.std.proofs.Common.{◌≡◌, ◌⊎◌, ℕ, ◌+◌, ◌*◌, ◌<◌, ◌≤◌, ◌^◌, Bool, true, false, Result, Ok, Err, Option, Some, None, IsErrAnd, List, [], ◌∷◌, ◌++◌, length, map, take, All, refl, ap, sym, ◌∙◌, subst, inl, inr, ⊎_elim, arith, nat_le, if◌then◌else◌}
+use Rattle.std.proofs.Common.{◌≡◌, ◌⊎◌, ℕ, ◌*◌, ◌<◌, ◌^◌, Bool, true, false, Result, Ok, Err, Option, Some, None, IsErrAnd, List, [], ◌∷◌, length, take, All, refl, ap, sym, ◌∙◌, subst, inl, inr, ⊎_elim, arith, nat_le, if◌then◌else◌}
 use Rattle.std.proofs.lemmas.Result.{err_from_is_err_and}
 use Rattle.std.specs.Global.{Vec}
 use Rattle.std.specs.Io.Cursor.{cursor_position, cursor_inner}
 use Rattle.std.specs.declared.io.Cursor.{Cursor}
 use Rattle.std.specs.Io.KnownBytes.{Appends}
-use Rattle.std.specs.declared.io.ErrorKind.{ErrorKind}
 use Rattle.std.specs.declared.io.ErrorKind.TheVariants.{OutOfMemory}
 use Rattle.deku_bits.specs.declared.error.DekuError.{DekuError}
 use Rattle.deku_bits.specs.declared.error.DekuError.TheVariants.{Io}
 use Rattle.deku_bits.specs.Bits.{shown}
-use Rattle.deku_bits.specs.Streams.{Stream, fresh, normal}
-use Rattle.deku_bits.specs.Pieces.{Piece, laid_out, total}
+use Rattle.deku_bits.specs.Pieces.{laid_out}
 use Rattle.deku_bits.specs.Writers.{Pending, Nothing, Written, append, finalized, padded}
-use Rattle.deku_bits.specs.Symmetry.{followed, appended, packed}
+use Rattle.deku_bits.specs.Symmetry.{appended, packed}
 use Rattle.deku_bits.specs.Devices.{Health, SinkTold, bytes_before}
 use Rattle.deku_bits.specs.Standings.{Standing, Going, Stopped, Output, writer_state}
-use Rattle.deku_bits.specs.Outcomes.{Mapped}
 use Rattle.deku_bits.specs.WriterCalls.{Emits, Finalizes}
-use Rattle.deku_num.specs.NumberCalls.{Checked, Refused, Passed, WritesNumber}
-use Rattle.deku.specs.Composing.{Answer, Answered, Then, Second, First, Both}
-use Rattle.deku_fields.specs.declared.list.Number.{Number}
-use Rattle.deku_fields.specs.declared.list.Field.{Field}
+use Rattle.deku_num.specs.NumberCalls.{Refused, Passed}
+use Rattle.deku.specs.Composing.{Answered, Second, First, Both}
 use Rattle.deku_fields.specs.declared.list.Item.{Item}
-use Rattle.deku_fields.specs.Items.{IsFitting, ArePieces, AlignedFields, LaysOut, fields_of}
+use Rattle.deku_fields.specs.Items.{IsFitting, AlignedFields, LaysOut, fields_of}
 use Rattle.deku_fields.specs.ListCalls.{IsCountable, WritesItem, WritesItems, in_memory}
 use Rattle.deku_fields.proofs.FieldLists.{piece_law, written}
 use Rattle.deku_fields.proofs.WritingLists.{Wrote, Done, Lacking, Full, emitted, items_wrote, followed_wrote}

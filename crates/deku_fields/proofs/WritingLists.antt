@@ -1,33 +1,32 @@
 -- What writing a list of fitting items gives to a sink.
-use Rattle.std.proofs.Common.{◌≡◌, ◌⊎◌, ℕ, ◌+◌, ◌*◌, ◌%◌, ◌<◌, ◌≤◌, ◌^◌, Bool, true, false, Result, Ok, Err, Option, Some, None, List, [], ◌∷◌, ◌++◌, length, All, ℤ, pos, refl, ap, ap₂, sym, ◌∙◌, subst, inl, inr, arith, length-append, append-nil}
+use Rattle.std.proofs.Common.{◌≡◌, ℕ, ◌+◌, ◌*◌, ◌%◌, ◌≤◌, ◌^◌, Bool, true, false, Result, Ok, Err, List, [], ◌∷◌, ◌++◌, length, All, ℤ, refl, ap, sym, ◌∙◌, subst, inl, inr, arith, length-append}
 use Rattle.std.proofs.KnownBytes.{Appends-nil, Appends-trans}
 use Rattle.std.proofs.lemmas.List.Elements.{All-head, All-tail}
 use Rattle.std.specs.declared.io.ErrorKind.{ErrorKind}
-use Rattle.deku_bits.specs.declared.ctx.Order.{Order}
 use Rattle.deku_bits.specs.declared.error.DekuError.{DekuError}
 use Rattle.deku_bits.specs.declared.error.DekuError.TheVariants.{Io}
 use Rattle.deku_bits.specs.Bits.{shown}
 use Rattle.deku_bits.specs.Pieces.{Piece}
-use Rattle.deku_bits.specs.Writers.{Pending, Written, append, finalized}
+use Rattle.deku_bits.specs.Writers.{Pending, Written, append}
 use Rattle.deku_bits.specs.Symmetry.{followed, appended}
 use Rattle.deku_bits.specs.Devices.{LacksRoom}
 use Rattle.deku_bits.specs.Standings.{Standing, Going, Output}
-use Rattle.deku_bits.specs.WriterCalls.{Took, Emits, WritesBits, Finalizes}
+use Rattle.deku_bits.specs.WriterCalls.{Took, Emits, WritesBits}
 use Rattle.deku_bits.proofs.Gives.{Shrinks-none, Shrinks-trans, LacksRoom-after, LacksRoom-more}
 use Rattle.deku_num.specs.declared.kind.NumberType.{NumberType}
 use Rattle.deku_num.specs.declared.ctx.Layout.{Layout}
-use Rattle.deku_num.specs.Numbers.{value, IsAllowed, IsFieldOf, IsListFor}
+use Rattle.deku_num.specs.Numbers.{value, IsFieldOf, IsListFor}
 use Rattle.deku_num.specs.NumberLaws.{InType}
-use Rattle.deku_num.specs.NumberCalls.{Checked, Refused, Passed, WritesNumber}
+use Rattle.deku_num.specs.NumberCalls.{Refused, Passed, WritesNumber}
 use Rattle.deku_num.proofs.Ranges.{type_law}
 use Rattle.deku_num.proofs.FieldBits.{listed_for, one_list}
-use Rattle.deku.specs.Composing.{Answer, Answered, Then, Second, First}
+use Rattle.deku.specs.Composing.{Answered, Then, Second, First}
 use Rattle.deku_fields.specs.declared.list.Kind.{Kind}
 use Rattle.deku_fields.specs.declared.list.Kind.TheVariants.{U8, U16, U32, U64, U128, Usize, I8, I16, I32, I64, I128, Isize}
 use Rattle.deku_fields.specs.declared.list.Number.{Number}
 use Rattle.deku_fields.specs.declared.list.Number.TheVariants.{Unsigned, Signed}
 use Rattle.deku_fields.specs.declared.list.Item.{Item}
-use Rattle.deku_fields.specs.Items.{IsNumber, number_type, IsWorth, IsFitting, IsPieceOf, ArePieces}
+use Rattle.deku_fields.specs.Items.{IsNumber, number_type, IsFitting, IsPieceOf, ArePieces}
 use Rattle.deku_fields.specs.ListCalls.{integer_of, has_sign, IsOfKind, WritesItem, WritesItems}
 
 -- what a call with these bytes to give may end with: they are taken; or the sink lacks the room for them; or they are past the count

@@ -7,7 +7,7 @@ ghost use Rattle.deku_bits.specs.declared.error.DekuError.TheVariants.{Io};
 ghost use Rattle.deku_bits.specs.WriterCalls.{Writes, Finalizes};
 ghost use Rattle.deku.specs.Composing.{Both};
 ghost use Rattle.deku_fields.specs.Items.{IsFitting, AlignedFields, LaysOut, fields_of};
-ghost use Rattle.deku_fields.specs.ListCalls.{IsCountable, WritesItem, WritesItems, WritesWhole};
+ghost use Rattle.deku_fields.specs.ListCalls.{IsCountable, WritesBack, WritesItem, WritesItems, WritesWhole};
 
 use crate::list::{Item, Number};
 use deku::calls::{write_signed, write_unsigned};
@@ -59,6 +59,7 @@ fn write_item<W: Sink>(writer: &mut Writer<W>, item: &Item) -> Result<(), DekuEr
 pub fn list_to_bytes(alloc: Global, items: &[Item]) -> Result<Vec<u8>, DekuError>
     ensures meaning { WritesWhole (Both (WritesItems items.now) Finalizes) result }
     ensures laid_out { All IsFitting items.now → AlignedFields (fields_of items.now) → IsCountable items.now → MatchResult result (λ v. LaysOut items.now v.items) (λ e. e ≡ Io OutOfMemory) }
+    ensures back { WritesBack items.now result }
 {
     let mut writer = Writer::new(Cursor::new(Vec::new(alloc)));
     match write_padded(&mut writer, items) {

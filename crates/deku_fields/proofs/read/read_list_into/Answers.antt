@@ -1,4 +1,4 @@
-use Rattle.std.proofs.Common.{◌≡◌, length, refl, ◌∙◌, arith, rules}
+use Rattle.std.proofs.Common.{refl, ◌∙◌, arith}
 use Rattle.std.proofs.lemmas.List.{length-set}
 use Rattle.deku_fields.proofs.Stepping.{started, field_read, field_refused, fields_read}
 use Rattle.deku_fields.proofs.read.read_list_into.Goals as goal

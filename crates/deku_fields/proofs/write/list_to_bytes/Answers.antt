@@ -1,6 +1,7 @@
 use Rattle.std.proofs.Common.{refl, ap, sym, ◌∙◌}
 use Rattle.deku_bits.proofs.Handing.{unbroken}
 use Rattle.deku_fields.proofs.Whole.{written_whole, laid_ok, laid_err, starts_empty, from_start, below, before, place_of, items_in, steady, tells}
+use Rattle.deku_fields.proofs.Rewritten.{fitting_read, as_taken}
 use Rattle.deku_fields.proofs.write.list_to_bytes.Goals as goal
 
 pub returns-in-Ok-clause-meaning : goal.returns-in-Ok-clause-meaning
@@ -25,3 +26,12 @@ pub returns-in-Err-clause-laid_out : goal.returns-in-Err-clause-laid_out
 returns-in-Err-clause-laid_out c = λ all aligned small.
     let begin = starts_empty _ _ steady _ (ap place_of c.new-writer.ensures.sink ∙ c.new-2.ensures.position) (ap below c.new-writer.ensures.sink ∙ ap items_in c.new-2.ensures.inner ∙ c.new.ensures.items) c.new-writer.ensures.state in
     laid_err c.args.items.now c.in-Err.refusal _ all aligned small (from_start c.args.items.now _ _ _ begin (unbroken refl refl c.in-Err.ensures))
+
+pub returns-in-Ok-clause-back : goal.returns-in-Ok-clause-back
+returns-in-Ok-clause-back c = λ bytes T allowed aligned small bounded reads.
+    let all = fitting_read c.args.items.now bytes T allowed aligned bounded reads in
+    as_taken c.args.items.now _ bytes T allowed aligned bounded reads (returns-in-Ok-clause-laid_out c all aligned small)
+
+pub returns-in-Err-clause-back : goal.returns-in-Err-clause-back
+returns-in-Err-clause-back c = λ bytes T allowed aligned small bounded reads.
+    returns-in-Err-clause-laid_out c (fitting_read c.args.items.now bytes T allowed aligned bounded reads) aligned small
