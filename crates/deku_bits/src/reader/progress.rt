@@ -213,9 +213,9 @@ impl Progress {
                 Ok(())
             }
             Err(error) => {
-                let fault = fault_of(&error, behind % 8);
-                *self = Progress::stopped(fault, self.bits_read);
-                Err(fault.error())
+                let missing = fault_of(&error, behind % 8);
+                *self = Progress::stopped(missing, self.bits_read);
+                Err(missing.error())
             }
         }
     }

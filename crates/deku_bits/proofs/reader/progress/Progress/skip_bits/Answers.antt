@@ -28,5 +28,5 @@ returns-in-Err-drop_bits g c =
     rw (← c.self.view_is, may.0, c.error-in-Err-drop_bits.ensures, at_end)
     (skips_err c.args.order p.window (told c.args.source.now).coming p.bits_read n c.pop_bits.new.window (told c.pass_bytes.new.source).coming
     (told c.args.source.now).health (told c.drop_bits.new.source).health _ _ c.self.invariant may.1 (rw inside at c.pop_bits.ensures) (rw inside at c.in_default.ensures.bytes)
-    (rw inside at c.in-Err-drop_bits.ensures.wanted) (rw inside at c.fault_of-fault.ensures) (rw inside at c.in-Err-drop_bits.ensures.ended)
+    (rw inside at c.in-Err-drop_bits.ensures.wanted) (rw inside at c.fault_of-missing.ensures) (rw inside at c.in-Err-drop_bits.ensures.ended)
     (λ no. more_on _ _ _ c.pass_bytes.ensures.kept (c.in-Err-drop_bits.ensures.failed no)) (no_fewer_on _ _ _ c.pass_bytes.ensures.kept c.drop_bits.ensures.kept))
