@@ -1,5 +1,5 @@
 -- What a call does that reads or writes a number.
-use Rattle.std.specs.Prelude.{◌≡◌, ◌⊎◌, ℕ, ◌<◌, ◌≤◌, Bool, false, List, Option, Result, Ok, Err, codes, ℤ, pos}
+use Rattle.std.specs.Prelude.{◌≡◌, ◌⊎◌, ℕ, ◌%◌, ◌<◌, ◌≤◌, Bool, false, List, length, Option, Result, Ok, Err, codes, ℤ, pos}
 use Rattle.std.specs.Borrow.{Bor}
 use Rattle.deku_bits.specs.declared.error.DekuError.{DekuError}
 use Rattle.deku_bits.specs.declared.error.DekuError.TheVariants.{Parse, InvalidParam}
@@ -10,8 +10,9 @@ use Rattle.deku_bits.specs.Outcomes.{Meaning, Refuses, Mapped}
 use Rattle.deku_bits.specs.ReaderCalls.{Takes}
 use Rattle.deku_bits.specs.WriterCalls.{WritesBits}
 use Rattle.deku_num.specs.declared.ctx.Size.{Size}
-use Rattle.deku_num.specs.declared.ctx.Size.TheVariants.{Bytes}
+use Rattle.deku_num.specs.declared.ctx.Size.TheVariants.{Whole, Bytes}
 use Rattle.deku_num.specs.declared.ctx.Layout.{Layout}
+use Rattle.deku_num.specs.NumberLaws.{InType}
 use Rattle.deku_num.specs.Numbers.{NumberType, width, IsEvenWhere, IsAllowed, value, IsListFor}
 
 -- a check comes first: where it refuses, nothing changes; else m follows
@@ -61,3 +62,10 @@ IsLayoutRefusal refusal text t l e = ((t.bits < width t l) × Tells refusal text
 -- a number without a sign is read
 abbrev pub ReadsUnsigned : NumberType → Layout → Meaning (Option Stream) ℕ
 ReadsUnsigned t l b s r u = ReadsNumber t l b s (integers r) u
+
+-- A value of a type of whole bytes is written under a layout of its whole size as exactly the bits of its type, and it is never refused
+-- for its layout or its value.
+abbrev pub SizeLaw : Type 0
+SizeLaw = (t : NumberType) (l : Layout) (v : ℤ) → 0 < t.bits → t.bits % 8 ≡ 0 → l.size ≡ Whole → InType t.signed t.bits v
+    → (b : Bool) (s : Standing Output) (r : Result (Unit {0}) DekuError) (u : Standing Output) → WritesNumber t l v b s r u
+    → (bits : List Bool) × (length bits ≡ t.bits) × WritesBits l.order (shown l.order bits) b s r u
