@@ -4,14 +4,17 @@ ghost use Rattle.std.specs.Prelude.{◌≡◌, ◌+◌, ◌/◌, ◌≤◌, leng
 ghost use Rattle.std.specs.declared.io.ErrorKind.TheVariants.{OutOfMemory};
 ghost use Rattle.deku_bits.specs.declared.ctx.Order.TheVariants.{Msb0};
 ghost use Rattle.deku_bits.specs.declared.error.DekuError.TheVariants.{Io};
+ghost use Rattle.deku_bits.specs.Bits.{bits_in};
 ghost use Rattle.deku_bits.specs.Writers.{Nothing, pending_bits};
 ghost use Rattle.deku_bits.specs.Standings.{Going, count_of};
 ghost use Rattle.deku_bits.specs.WriterCalls.{Writes, WritesAt, WritesBits, Finalizes, pending_of, order_of};
 
+mod bytes;
 mod held;
 mod pushing;
 mod way;
 
+use self::bytes::push_bytes_onto;
 use self::held::Held;
 use self::pushing::push_onto;
 use crate::bounded::BoundedBitVec;
@@ -150,6 +153,19 @@ impl<W: Sink> Writer<W> {
         self.write_bits_order(bits, Order::Msb0)
     }
 
+    /// Writes the bits of bytes in `Msb0`, each byte high bit first, as one `write_bits` of all of them does. Where nothing is pending the sink
+    /// is given the bytes at once. It takes no memory but what the sink takes.
+    ///
+    /// ```text
+    /// writer.write_bits(&[true, false, true, false])?;   // 1, 0, 1, 0 are pending
+    /// writer.write_bytes(&[0xBB])?;                      // the byte 0xAB; 1, 0, 1, 1 are pending
+    /// ```
+    pub fn write_bytes(&mut self, buf: &[u8]) -> Result<(), DekuError>
+        ensures { Writes W.told (WritesBits Msb0 (bits_in buf.now)) self.old result self.new }
+    {
+        self.state.write_bytes(&mut self.sink, buf)
+    }
+
     /// Fills pending bits with zeros to a byte, behind `Msb0` bits and above `Lsb0` bits, and gives it to the sink. It counts eight bits. Where
     /// nothing is pending it changes nothing.
     ///
@@ -222,6 +238,33 @@ impl Progress {
             Ok(()) => {
                 self.order = order;
                 self.bits_written += 8 * bytes;
+                Ok(())
+            }
+            Err(kind) => {
+                self.held.clear();
+                self.fault = Some(Fault::Io(kind));
+                Err(DekuError::Io(kind))
+            }
+        }
+    }
+
+    // Writes the bytes to this sink, in `Msb0`.
+    fn write_bytes<W: Sink>(&mut self, sink: &mut W, bytes: &[u8]) -> Result<(), DekuError>
+        ensures { WritesAt (WritesBits Msb0 (bits_in bytes.now)) (W.told sink.old) self.old result (W.told sink.new) self.new }
+    {
+        if let Some(fault) = self.fault {
+            return Err(fault.error());
+        }
+        if bytes.is_empty() {
+            return Ok(());
+        }
+        if bytes.len() > (usize::MAX - self.bits_written) / 8 {
+            return Err(DekuError::InvalidParam("count past usize"));
+        }
+        match push_bytes_onto(sink, &mut self.held, self.order, bytes) {
+            Ok(()) => {
+                self.order = Order::Msb0;
+                self.bits_written += 8 * bytes.len();
                 Ok(())
             }
             Err(kind) => {

@@ -3,6 +3,7 @@ use Rattle.std.specs.Prelude.{◌≡◌, ◌⊎◌, ℕ, ◌%◌, ◌<◌, ◌�
 use Rattle.std.specs.Borrow.{Bor}
 use Rattle.deku_bits.specs.declared.error.DekuError.{DekuError}
 use Rattle.deku_bits.specs.declared.error.DekuError.TheVariants.{Parse, InvalidParam}
+use Rattle.deku_bits.specs.Faults.{Tells}
 use Rattle.deku_bits.specs.Bits.{shown}
 use Rattle.deku_bits.specs.Streams.{Stream}
 use Rattle.deku_bits.specs.Standings.{Standing, Output}
@@ -47,12 +48,6 @@ WritesNumber t l v = Checked (RefusesLayout InvalidParam (beyond l.size) t l)
 abbrev pub integers : Result ℕ DekuError → Result ℤ DekuError
 integers (Ok n) = Ok (pos n)
 integers (Err e) = Err e
-
--- the refusal has this text
-pub record Tells (refusal : Bor (List ℕ) → DekuError) (text : List ℕ) (e : DekuError) : Type 0 where
-  pub words : Bor (List ℕ)
-  pub told : words.now ≡ text
-  pub is : e ≡ refusal words
 
 -- the refusal of a layout, as told for a size beyond the type
 abbrev pub IsLayoutRefusal : (Bor (List ℕ) → DekuError) → List ℕ → NumberType → Layout → DekuError → Type 0
