@@ -6,12 +6,13 @@ ghost use Rattle.deku_bits.specs.declared.ctx.Order.TheVariants.{Msb0};
 ghost use Rattle.deku_bits.specs.declared.error.DekuError.TheVariants.{Io};
 ghost use Rattle.deku_bits.specs.Bits.{bits_in};
 ghost use Rattle.deku_bits.specs.Writers.{Nothing, pending_bits};
-ghost use Rattle.deku_bits.specs.Standings.{Going, count_of};
+ghost use Rattle.deku_bits.specs.Standings.{Going, Stopped, count_of};
 ghost use Rattle.deku_bits.specs.WriterCalls.{Writes, WritesAt, WritesBits, Finalizes, pending_of, order_of};
 
 mod bytes;
 mod held;
 mod pushing;
+mod seek;
 mod way;
 
 use self::bytes::push_bytes_onto;
@@ -74,7 +75,7 @@ impl<W: Sink> Writer<W> {
     {
         Writer {
             sink: inner,
-            state: Progress::new(),
+            state: Progress::going(0),
         }
     }
 
@@ -178,14 +179,27 @@ impl<W: Sink> Writer<W> {
 }
 
 impl Progress {
-    pub(crate) fn new() -> Progress
-        ensures { result ≡ Going Nothing 0 }
+    // So many bits are written, and nothing is pending.
+    fn going(bits_written: usize) -> Progress
+        ensures { result ≡ Going Nothing bits_written }
     {
         Progress {
             held: Held::new(),
             order: Order::Msb0,
-            bits_written: 0,
+            bits_written,
             fault: None,
+        }
+    }
+
+    // Stopped by this fault of the sink, with this count: nothing is pending.
+    fn stopped(kind: ErrorKind, count: usize) -> Progress
+        ensures { result ≡ Stopped (Io kind) count }
+    {
+        Progress {
+            held: Held::new(),
+            order: Order::Msb0,
+            bits_written: count,
+            fault: Some(Fault::Io(kind)),
         }
     }
 
@@ -241,8 +255,7 @@ impl Progress {
                 Ok(())
             }
             Err(kind) => {
-                self.held.clear();
-                self.fault = Some(Fault::Io(kind));
+                *self = Progress::stopped(kind, self.bits_written);
                 Err(DekuError::Io(kind))
             }
         }
@@ -252,8 +265,8 @@ impl Progress {
     fn write_bytes<W: Sink>(&mut self, sink: &mut W, bytes: &[u8]) -> Result<(), DekuError>
         ensures { WritesAt (WritesBits Msb0 (bits_in bytes.now)) (W.told sink.old) self.old result (W.told sink.new) self.new }
     {
-        if let Some(fault) = self.fault {
-            return Err(fault.error());
+        if let Some(kept) = self.fault {
+            return Err(kept.error());
         }
         if bytes.is_empty() {
             return Ok(());
@@ -268,8 +281,7 @@ impl Progress {
                 Ok(())
             }
             Err(kind) => {
-                self.held.clear();
-                self.fault = Some(Fault::Io(kind));
+                *self = Progress::stopped(kind, self.bits_written);
                 Err(DekuError::Io(kind))
             }
         }

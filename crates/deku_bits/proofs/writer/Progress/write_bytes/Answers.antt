@@ -1,4 +1,4 @@
-use Rattle.std.proofs.Common.{◌<◌, ◌≡◌, ◌^◌, length, sym, refl, rules, eqb-true, arith}
+use Rattle.std.proofs.Common.{◌<◌, ◌≡◌, ◌^◌, length, ◌∙◌, sym, refl, rules, eqb-true, arith}
 use Rattle.deku_bits.specs.declared.ctx.Order.TheVariants.{Msb0}
 use Rattle.deku_bits.specs.Bits.{bits_in}
 use Rattle.deku_bits.proofs.BitPlaces.{length-bits_in}
@@ -35,5 +35,6 @@ returns-in-Err g c =
     let h = c.self.inside.held in
     let bytes = c.args.bytes.now in
     let fault = rw (← length-bits_in bytes) at c.in-Err.ensures.fault in
-    rw (← c.self.view_is, c.in_default.is)
+    let at_end = c.self-in-Err.view_is ∙ c.stopped.ensures in
+    rw (← c.self.view_is, c.in_default.is, at_end)
     (write_stopped _ _ c.self.inside.order Msb0 h (bits_in bytes) _ (length bytes) c.in-Err.kind c.self.invariant (whole_count h bytes c.self.invariant) c.if-bytes-self.false w fault)
