@@ -5,7 +5,9 @@ ghost use Rattle.std.specs.Io.{ReadsAtMost, WritesAtMost};
 ghost use Rattle.std.specs.Io.KnownBytes.{Appends, Consumes, Keeps, ReadConsumes, WriteAppends};
 ghost use Rattle.std.specs.Io.Seek.{SeekMoves};
 ghost use Rattle.std.specs.IoError.{error_kind};
+ghost use Rattle.std.specs.Borrow.{Lends, sem};
 ghost use Rattle.deku_bits.specs.Seeking.{IsHere, place_on};
+ghost use Rattle.deku_bits.specs.contracts.noseek.NoSeek.{the_row as stream-row};
 
 use crate::device::{Sink, Source};
 use std::io;
@@ -40,6 +42,14 @@ impl<T> NoSeek<T> {
         ensures { result.now ≡ self.now.inner }
     {
         &self.inner
+    }
+
+    /// The stream inside, to be changed. What is moved by it is not counted.
+    pub fn get_mut(&mut self) -> &mut T
+        ensures value { result.now ≡ self.old.inner }
+        ensures* writes_back { sem 𝓛 (Lends (stream-row T.row) T.row self.entry result (λ x. record self.old { inner = x })) }
+    {
+        &mut self.inner
     }
 
     /// The stream inside, given back.
