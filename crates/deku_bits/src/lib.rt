@@ -7,6 +7,7 @@ pub mod device;
 pub mod error;
 pub mod laws;
 pub mod noseek;
+pub mod probe;
 pub mod reader;
 pub mod turning;
 pub mod writer;
