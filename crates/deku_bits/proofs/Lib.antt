@@ -24,3 +24,4 @@ pub mod Pushes
 pub mod Onto
 pub mod Emits
 pub mod Lent
+pub mod WholeBytes

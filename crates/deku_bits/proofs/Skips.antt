@@ -1,5 +1,5 @@
 -- Peeks and skips, by what a window and the bytes to come give.
-use Rattle.std.proofs.Common.{◌≡◌, ◌≢◌, ◌⊎◌, ℕ, suc, min, ◌+◌, ◌*◌, ◌-◌, ◌/◌, ◌%◌, ◌^◌, ◌<◌, ◌≤◌, Bool, true, false, List, [], ◌∷◌, ◌++◌, length, take, drop, Option, Some, None, Result, Ok, Err, arith, refl, sym, ap, ap₂, ◌∙◌, subst, subst₂, inl, inr, ⊎_elim, length-append, append_assoc, length-drop, eq-eqb, ne_eqb}
+use Rattle.std.proofs.Common.{◌≡◌, ◌≢◌, ◌⊎◌, ℕ, zero, suc, min, ◌+◌, ◌*◌, ◌-◌, ◌/◌, ◌%◌, ◌^◌, ◌<◌, ◌≤◌, Bool, true, false, List, [], ◌∷◌, ◌++◌, length, take, drop, Option, Some, None, Result, Ok, Err, arith, refl, sym, ap, ap₂, ◌∙◌, subst, subst₂, inl, inr, ⊎_elim, length-append, append_assoc, length-drop, eq-eqb, ne_eqb}
 use Rattle.std.proofs.lemmas.Bool.{cases_lt}
 use Rattle.std.proofs.lemmas.List.{length_push, length-take}
 use Rattle.std.specs.Io.KnownBytes.{Consumes}
@@ -18,7 +18,7 @@ use Rattle.deku_bits.specs.Standings.{Standing, Going, Stopped, stream_of}
 use Rattle.deku_bits.specs.Outcomes.{Outcome, Quiet, Broken, UnlessStopped}
 use Rattle.deku_bits.specs.Faults.{error_of}
 use Rattle.deku_bits.specs.Moving.{Moves, FewerBits}
-use Rattle.deku_bits.specs.ReaderCalls.{Ending, Skips}
+use Rattle.deku_bits.specs.ReaderCalls.{Ending, Skips, NoneEarly}
 use Rattle.deku_bits.proofs.Binary.{length-facing, facing-facing}
 use Rattle.deku_bits.proofs.Cuts.{flow, length-flow, length-byte_bits, byte-of}
 use Rattle.deku_bits.proofs.Reading.{left_none}
@@ -147,17 +147,18 @@ forgets_count o w v n h = omega (arith, ap length h.2, h.1, length-facing o w, l
 pub forgets_some : (o : Order) (w v : List Bool) (n : ℕ) → Forgets o w n v → n < length w → 0 < length v
 forgets_some o w v n h l = omega (arith, forgets_count o w v n h)
 
+-- forgetting none of them leaves the window
+forgets_none : (o : Order) (w v : List Bool) → Forgets o w 0 v → v ≡ w
+forgets_none o w v ([], z, e) = sym (facing-facing o v) ∙ ap (facing o) (sym e) ∙ facing-facing o w
+forgets_none o w v (b ∷ p, z, e) = absurd (omega arith)
+
 -- forgetting bits of a window is taking them
 forgets_left : (o : Order) (w v : List Bool) (n : ℕ) (xs : List ℕ) → length w ≤ 8 → Forgets o w n v → left o n (at w xs) ≡ at v xs
 forgets_left o w v n xs l h =
     let count : length w ≡ n + length v = forgets_count o w v n h in
     let moves : Moves o w (Some xs) h.0 v (Some xs) = (ap (λ s. s ++ flow o xs) h.2 ∙ append_assoc h.0 (facing o v) (flow o xs), ([], refl)) in
     ap (λ k. left o k (at w xs)) (sym h.1)
-    ∙ moved_left o w xs h.0 v xs l moves (λ p. omega (arith, h.1)) (λ z. (all h.0 z h.2, refl))
-  where
-    all : (p : List Bool) → length p ≡ 0 → facing o w ≡ p ++ facing o v → v ≡ w
-    all [] z e = sym (facing-facing o v) ∙ ap (facing o) (sym e) ∙ facing-facing o w
-    all (b ∷ p) z e = absurd (omega arith)
+    ∙ moved_left o w xs h.0 v xs l moves (λ p. omega (arith, h.1)) (λ z. (forgets_none o w v (h.0, z, h.2), refl))
 
 -- ---- what a skip answers
 -- what is behind the window, in bits
@@ -170,6 +171,16 @@ passed_is o w v n xs ys l h e = ap (without (behind n w / 8)) (forgets_left o w 
 skipped_is : (o : Order) (S T U : Stream) (n m : ℕ) → passed o n S ≡ T → last_part n S ≡ m → left o m T ≡ U → skipped o n S ≡ U
 unfolding skipped
 skipped_is o S T U n m p q e = ap₂ (λ k x. left o k x) q p ∙ e
+
+-- a skip fetches no byte too early
+pub skips_early : (o : Order) (w v x : List Bool) (c n : ℕ) → length w ≤ 8 → Forgets o w (min n (length w)) v
+    → (0 < behind n w % 8 → length x < 8) → (behind n w % 8 ≡ 0 → x ≡ v) → NoneEarly (Going w c) (Going x (c + n))
+skips_early o w v x c zero l h short none = inr (ap₂ Going (none (omega arith) ∙ forgets_none o w v (h.0, omega (arith, h.1), h.2)) (omega arith))
+skips_early o w v x c (suc n) l h short none = inl (by_rest (cases_lt 0 (behind (suc n) w % 8)))
+  where
+    by_rest : (0 < behind (suc n) w % 8) ⊎ (behind (suc n) w % 8 ≤ 0) → length x < 8
+    by_rest (inl p) = short p
+    by_rest (inr p) = omega (arith, l, forgets_count o w v (min (suc n) (length w)) h, ap length (none (omega arith)))
 
 -- the bits were left out
 pub skips_ok : (o : Order) (w : List Bool) (t : Option (List ℕ)) (c n : ℕ) (v : List Bool) (t1 : Option (List ℕ)) (x : List Bool) (t2 : Option (List ℕ))

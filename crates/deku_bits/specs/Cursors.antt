@@ -1,8 +1,31 @@
--- What a cursor tells by its place.
-use Rattle.std.specs.Prelude.{◌≡◌, ℕ, List, drop, Option, Some}
+-- What a cursor tells by its place, and what one that fails once tells.
+use Rattle.std.specs.Prelude.{◌≡◌, ℕ, zero, suc, ◌-◌, List, [], ◌∷◌, drop, length, Option, Some}
+use Rattle.std.specs.Borrow.{MutBor}
 use Rattle.std.specs.Io.Cursor.{cursor_remaining, cursor_position, cursor_inner}
 use Rattle.std.specs.declared.io.Cursor.{Cursor}
+use Rattle.deku_bits.specs.declared.probe.FailAt.{FailAt}
+use Rattle.deku_bits.specs.Devices.{SourceTold, SinkTold, bytes_before}
 
 -- the bytes from the place on, where all bytes are known
 pub cursor_told : {T : Type 0} (bytes : T → Option (List ℕ)) (c : Cursor T) (at : ℕ) (all : List ℕ) → Some (cursor_position c) ≡ Some at → bytes (cursor_inner c) ≡ Some all → cursor_remaining bytes c ≡ Some (drop at all)
 cursor_told bytes c at all p q = rw q (cc)
+
+-- how many calls failed, where so many are left up to the one that fails
+abbrev pub failures_at : ℕ → ℕ
+failures_at zero = 1
+failures_at (suc n) = 0
+
+-- what a source that fails once tells
+abbrev pub failing_source : {B : Type 0} → (B → Option (List ℕ)) → FailAt B → SourceTold
+failing_source bytes s = record {
+  coming = cursor_remaining bytes s.inner;
+  health = record { failures = Some (failures_at s.left); lenders = [] };
+}
+
+-- what a sink that fails once tells
+abbrev pub failing_sink : FailAt (MutBor (List ℕ)) → SinkTold
+failing_sink s = record {
+  taken = bytes_before (cursor_position s.inner) (cursor_inner s.inner).now;
+  room = Some (length (cursor_inner s.inner).now - cursor_position s.inner);
+  health = record { failures = Some (failures_at s.left); lenders = (cursor_inner s.inner).ghost_name ∷ [] };
+}

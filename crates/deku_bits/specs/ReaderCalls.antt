@@ -77,6 +77,10 @@ abbrev pub window_of : Standing (List Bool) → List Bool
 window_of (Going window c) = window
 window_of (Stopped e c) = []
 
+-- no byte is fetched too early: fewer than eight bits of the last one are unread, or nothing changed
+abbrev pub NoneEarly : Standing (List Bool) → Standing (List Bool) → Type 0
+NoneEarly s u = (length (window_of u) < 8) ⊎ (u ≡ s)
+
 -- what was read, where the call succeeds
 abbrev pub items_of : Result (Vec Bool) DekuError → Result (List Bool) DekuError
 items_of (Ok v) = Ok v.items

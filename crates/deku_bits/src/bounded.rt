@@ -254,6 +254,23 @@ fn bit_of(byte: u8, place: usize) -> bool
     byte / WEIGHTS[place] % 2 == 1
 }
 
+/// The eight bits of a byte, highest first.
+#[tactic(auto, unfolding(crate::specs::Bits::byte_bits, crate::specs::Bits::bits_of))]
+pub(crate) fn bits_of_byte(byte: u8) -> [bool; 8]
+    ensures { result ≡ byte_bits byte }
+{
+    [
+        byte / 128 % 2 == 1,
+        byte / 64 % 2 == 1,
+        byte / 32 % 2 == 1,
+        byte / 16 % 2 == 1,
+        byte / 8 % 2 == 1,
+        byte / 4 % 2 == 1,
+        byte / 2 % 2 == 1,
+        byte / 1 % 2 == 1,
+    ]
+}
+
 // The byte with the bit at a place set, highest first.
 fn with_bit(byte: u8, place: usize, bit: bool) -> u8
     requires { place < 8 }

@@ -1,9 +1,12 @@
 //! What a read or a write is refused with.
 
 ghost use Rattle.std.specs.Prelude.{◌≡◌, ◌+◌, ◌/◌};
-ghost use Rattle.deku_bits.specs.Faults.{error_of};
+ghost use Rattle.deku_bits.specs.Faults.{error_of, kind_of};
 
+use std::array::TryFromSliceError;
+use std::io;
 use std::io::ErrorKind;
+use std::num::TryFromIntError;
 use thiserror::Error;
 
 /// How much more a read wanted.
@@ -56,6 +59,65 @@ pub enum DekuError {
     /// The source, the sink or the memory failed.
     #[error("io errorr: {0:?}")]
     Io(ErrorKind),
+}
+
+impl DekuError {
+    /// The kind of io error that says the same.
+    ///
+    /// ```text
+    /// DekuError::Incomplete(NeedSize::new(8)).io_kind()  // UnexpectedEof
+    /// DekuError::IdVariantNotFound.io_kind()             // NotFound
+    /// ```
+    pub fn io_kind(&self) -> ErrorKind
+        ensures { result ≡ kind_of self.now }
+    {
+        match *self {
+            DekuError::Incomplete(_) => ErrorKind::UnexpectedEof,
+            DekuError::Parse(_) | DekuError::Assertion(_) => ErrorKind::InvalidData,
+            DekuError::InvalidParam(_) => ErrorKind::InvalidInput,
+            DekuError::IdVariantNotFound => ErrorKind::NotFound,
+            DekuError::Io(kind) => kind,
+        }
+    }
+}
+
+/// A number that its type cannot hold is `Parse("error parsing int")`.
+impl From<TryFromIntError> for DekuError {
+    ghost use Rattle.std.specs.Prelude.{codes};
+    ghost use Rattle.deku_bits.specs.declared.error.DekuError.TheVariants.{Parse};
+    ghost use Rattle.deku_bits.specs.Faults.{Tells};
+
+    ghost from_gives = { λ _ e. Tells Parse (codes "error parsing int") e };
+
+    fn from(_error: TryFromIntError) -> DekuError {
+        DekuError::Parse("error parsing int")
+    }
+}
+
+/// A slice of another length than the array's is `Parse("error parsing from slice")`.
+impl From<TryFromSliceError> for DekuError {
+    ghost use Rattle.std.specs.Prelude.{codes};
+    ghost use Rattle.deku_bits.specs.declared.error.DekuError.TheVariants.{Parse};
+    ghost use Rattle.deku_bits.specs.Faults.{Tells};
+
+    ghost from_gives = { λ _ e. Tells Parse (codes "error parsing from slice") e };
+
+    fn from(_error: TryFromSliceError) -> DekuError {
+        DekuError::Parse("error parsing from slice")
+    }
+}
+
+/// An io error is `Io` of its kind.
+impl From<io::Error> for DekuError {
+    ghost use Rattle.std.specs.Prelude.{◌≡◌};
+    ghost use Rattle.std.specs.IoError.{error_kind};
+    ghost use Rattle.deku_bits.specs.declared.error.DekuError.TheVariants.{Io};
+
+    ghost from_gives = { λ error e. e ≡ Io (error_kind error) };
+
+    fn from(error: io::Error) -> DekuError {
+        DekuError::Io(error.kind())
+    }
 }
 
 /// What stops a reader or a writer: the end of input, or a fault of its device. It is kept, and answered again.

@@ -6,6 +6,8 @@ pub mod ctx;
 pub mod device;
 pub mod error;
 pub mod laws;
+pub mod noseek;
+pub mod probe;
 pub mod reader;
 pub mod turning;
 pub mod writer;

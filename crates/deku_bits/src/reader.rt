@@ -3,7 +3,7 @@
 ghost use Rattle.std.specs.Prelude.{◌≡◌, ◌+◌, ◌*◌, ◌≤◌, [], length, take, drop, IfOk, IfErr};
 ghost use Rattle.std.specs.Borrow.{Lends, sem};
 ghost use Rattle.deku_bits.specs.Standings.{Going, count_of};
-ghost use Rattle.deku_bits.specs.ReaderCalls.{Reads, Takes, Ending, Skips, ReadsBits, ReadsVec, ReadsBytes, IsLeftover, filling, items_of, window_of};
+ghost use Rattle.deku_bits.specs.ReaderCalls.{Reads, Takes, Ending, Skips, ReadsBits, ReadsVec, ReadsBytes, NoneEarly, IsLeftover, filling, items_of, window_of};
 ghost use Rattle.deku_bits.specs.contracts.reader.Reader.{the_row as reader-row};
 
 mod progress;
@@ -191,14 +191,16 @@ impl<R: Source> Reader<R> {
     /// reader.bits_read();                // 96
     /// ```
     pub fn skip_bits(&mut self, amt: usize, order: Order) -> Result<(), DekuError>
-        ensures { Reads R.told (Skips order amt) self.old result self.new }
+        ensures skips { Reads R.told (Skips order amt) self.old result self.new }
+        ensures early { NoneEarly self.old.state self.new.state }
     {
         self.state.skip_bits(&mut self.source, amt, order)
     }
 
     /// Takes as many bits as the buffer is long, as the order meets them.
     pub(crate) fn take_bits(&mut self, dst: &mut [bool], order: Order) -> Result<(), DekuError>
-        ensures { Reads R.told (Takes order (length dst.old)) self.old (filling result dst.new) self.new }
+        ensures takes { Reads R.told (Takes order (length dst.old)) self.old (filling result dst.new) self.new }
+        ensures early { NoneEarly self.old.state self.new.state }
     {
         self.state.take_bits(&mut self.source, dst, order)
     }
@@ -214,7 +216,8 @@ impl<R: Source> Reader<R> {
     /// reader.read_bits_into(&mut bits, Order::Lsb0)?; // from A1: 0, 0, 0, 0, 1
     /// ```
     pub fn read_bits_into(&mut self, dst: &mut [bool], order: Order) -> Result<(), DekuError>
-        ensures { Reads R.told (ReadsBits order (length dst.old)) self.old (filling result dst.new) self.new }
+        ensures reads { Reads R.told (ReadsBits order (length dst.old)) self.old (filling result dst.new) self.new }
+        ensures early { NoneEarly self.old.state self.new.state }
     {
         self.take_bits(dst, order)?;
         show(dst, order);
@@ -231,7 +234,8 @@ impl<R: Source> Reader<R> {
     /// reader.read_bits(4, Order::Msb0)?; // 1, 1, 0, 0
     /// ```
     pub fn read_bits(&mut self, amt: usize, order: Order) -> Result<Vec<bool>, DekuError>
-        ensures { Reads R.told (ReadsVec order amt) self.old (items_of result) self.new }
+        ensures reads { Reads R.told (ReadsVec order amt) self.old (items_of result) self.new }
+        ensures early { NoneEarly self.old.state self.new.state }
     {
         self.state.admits(amt)?;
         let Ok(mut bits) = vec![in self.alloc; false; amt] else {
@@ -262,6 +266,7 @@ impl<R: Source> Reader<R> {
         requires { amt ≤ length buf.old }
         ensures front { Reads R.told (ReadsBytes order amt) self.old (filling result (take amt buf.new)) self.new }
         ensures behind { drop amt buf.new ≡ drop amt buf.old }
+        ensures early { NoneEarly self.old.state self.new.state }
     {
         self.state
             .take_bytes(&mut self.source, &mut buf[..amt], order)?;
@@ -279,7 +284,8 @@ impl<R: Source> Reader<R> {
         buf: &mut [u8; N],
         order: Order,
     ) -> Result<ReaderRet, DekuError>
-        ensures { Reads R.told (ReadsBytes order N) self.old (filling result buf.new) self.new }
+        ensures reads { Reads R.told (ReadsBytes order N) self.old (filling result buf.new) self.new }
+        ensures early { NoneEarly self.old.state self.new.state }
     {
         self.read_bytes_const_into(buf, order)?;
         Ok(ReaderRet::Bytes)
@@ -296,7 +302,8 @@ impl<R: Source> Reader<R> {
         buf: &mut [u8; N],
         order: Order,
     ) -> Result<(), DekuError>
-        ensures { Reads R.told (ReadsBytes order N) self.old (filling result buf.new) self.new }
+        ensures reads { Reads R.told (ReadsBytes order N) self.old (filling result buf.new) self.new }
+        ensures early { NoneEarly self.old.state self.new.state }
     {
         self.state.take_bytes(&mut self.source, buf, order)
     }

@@ -4,14 +4,18 @@ ghost use Rattle.std.specs.Prelude.{◌≡◌, ◌+◌, ◌/◌, ◌≤◌, leng
 ghost use Rattle.std.specs.declared.io.ErrorKind.TheVariants.{OutOfMemory};
 ghost use Rattle.deku_bits.specs.declared.ctx.Order.TheVariants.{Msb0};
 ghost use Rattle.deku_bits.specs.declared.error.DekuError.TheVariants.{Io};
+ghost use Rattle.deku_bits.specs.Bits.{bits_in};
 ghost use Rattle.deku_bits.specs.Writers.{Nothing, pending_bits};
-ghost use Rattle.deku_bits.specs.Standings.{Going, count_of};
+ghost use Rattle.deku_bits.specs.Standings.{Going, Stopped, count_of};
 ghost use Rattle.deku_bits.specs.WriterCalls.{Writes, WritesAt, WritesBits, Finalizes, pending_of, order_of};
 
+mod bytes;
 mod held;
 mod pushing;
+mod seek;
 mod way;
 
+use self::bytes::push_bytes_onto;
 use self::held::Held;
 use self::pushing::push_onto;
 use crate::bounded::BoundedBitVec;
@@ -71,7 +75,7 @@ impl<W: Sink> Writer<W> {
     {
         Writer {
             sink: inner,
-            state: Progress::new(),
+            state: Progress::going(0),
         }
     }
 
@@ -150,6 +154,19 @@ impl<W: Sink> Writer<W> {
         self.write_bits_order(bits, Order::Msb0)
     }
 
+    /// Writes the bits of bytes in `Msb0`, each byte high bit first, as one `write_bits` of all of them does. Where nothing is pending the sink
+    /// is given the bytes at once. It takes no memory but what the sink takes.
+    ///
+    /// ```text
+    /// writer.write_bits(&[true, false, true, false])?;   // 1, 0, 1, 0 are pending
+    /// writer.write_bytes(&[0xBB])?;                      // the byte 0xAB; 1, 0, 1, 1 are pending
+    /// ```
+    pub fn write_bytes(&mut self, buf: &[u8]) -> Result<(), DekuError>
+        ensures { Writes W.told (WritesBits Msb0 (bits_in buf.now)) self.old result self.new }
+    {
+        self.state.write_bytes(&mut self.sink, buf)
+    }
+
     /// Fills pending bits with zeros to a byte, behind `Msb0` bits and above `Lsb0` bits, and gives it to the sink. It counts eight bits. Where
     /// nothing is pending it changes nothing.
     ///
@@ -162,14 +179,27 @@ impl<W: Sink> Writer<W> {
 }
 
 impl Progress {
-    pub(crate) fn new() -> Progress
-        ensures { result ≡ Going Nothing 0 }
+    // So many bits are written, and nothing is pending.
+    fn going(bits_written: usize) -> Progress
+        ensures { result ≡ Going Nothing bits_written }
     {
         Progress {
             held: Held::new(),
             order: Order::Msb0,
-            bits_written: 0,
+            bits_written,
             fault: None,
+        }
+    }
+
+    // Stopped by this fault of the sink, with this count: nothing is pending.
+    fn stopped(kind: ErrorKind, count: usize) -> Progress
+        ensures { result ≡ Stopped (Io kind) count }
+    {
+        Progress {
+            held: Held::new(),
+            order: Order::Msb0,
+            bits_written: count,
+            fault: Some(Fault::Io(kind)),
         }
     }
 
@@ -225,8 +255,33 @@ impl Progress {
                 Ok(())
             }
             Err(kind) => {
-                self.held.clear();
-                self.fault = Some(Fault::Io(kind));
+                *self = Progress::stopped(kind, self.bits_written);
+                Err(DekuError::Io(kind))
+            }
+        }
+    }
+
+    // Writes the bytes to this sink, in `Msb0`.
+    fn write_bytes<W: Sink>(&mut self, sink: &mut W, bytes: &[u8]) -> Result<(), DekuError>
+        ensures { WritesAt (WritesBits Msb0 (bits_in bytes.now)) (W.told sink.old) self.old result (W.told sink.new) self.new }
+    {
+        if let Some(kept) = self.fault {
+            return Err(kept.error());
+        }
+        if bytes.is_empty() {
+            return Ok(());
+        }
+        if bytes.len() > (usize::MAX - self.bits_written) / 8 {
+            return Err(DekuError::InvalidParam("count past usize"));
+        }
+        match push_bytes_onto(sink, &mut self.held, self.order, bytes) {
+            Ok(()) => {
+                self.order = Order::Msb0;
+                self.bits_written += 8 * bytes.len();
+                Ok(())
+            }
+            Err(kind) => {
+                *self = Progress::stopped(kind, self.bits_written);
                 Err(DekuError::Io(kind))
             }
         }

@@ -6,3 +6,4 @@ pub mod Listing
 pub mod Carrying
 pub mod WorkedRows
 pub mod FieldBits
+pub mod WholeTypes

@@ -44,7 +44,7 @@ unfolding number value
 type_law t l d ok s w =
     rw w (in_type t.signed l.endian l.order (width t l) t.bits (ok.even) d (ok.within) s w)
 
-range_whole : (e : Endian) (o : Order) (n m : ℕ) → n % 8 ≡ 0 → m < 2 ^ n → Within e o n m
+pub range_whole : (e : Endian) (o : Order) (n m : ℕ) → n % 8 ≡ 0 → m < 2 ^ n → Within e o n m
 unfolding number value
 range_whole Little Msb0 n m d h = h
 range_whole Little Lsb0 n m d h = h

@@ -1,8 +1,9 @@
 -- What a call does that reads or writes a number.
-use Rattle.std.specs.Prelude.{◌≡◌, ◌⊎◌, ℕ, ◌<◌, ◌≤◌, Bool, false, List, Option, Result, Ok, Err, codes, ℤ, pos}
+use Rattle.std.specs.Prelude.{◌≡◌, ◌⊎◌, ℕ, ◌%◌, ◌<◌, ◌≤◌, Bool, false, List, length, Option, Result, Ok, Err, codes, ℤ, pos}
 use Rattle.std.specs.Borrow.{Bor}
 use Rattle.deku_bits.specs.declared.error.DekuError.{DekuError}
 use Rattle.deku_bits.specs.declared.error.DekuError.TheVariants.{Parse, InvalidParam}
+use Rattle.deku_bits.specs.Faults.{Tells}
 use Rattle.deku_bits.specs.Bits.{shown}
 use Rattle.deku_bits.specs.Streams.{Stream}
 use Rattle.deku_bits.specs.Standings.{Standing, Output}
@@ -10,8 +11,9 @@ use Rattle.deku_bits.specs.Outcomes.{Meaning, Refuses, Mapped}
 use Rattle.deku_bits.specs.ReaderCalls.{Takes}
 use Rattle.deku_bits.specs.WriterCalls.{WritesBits}
 use Rattle.deku_num.specs.declared.ctx.Size.{Size}
-use Rattle.deku_num.specs.declared.ctx.Size.TheVariants.{Bytes}
+use Rattle.deku_num.specs.declared.ctx.Size.TheVariants.{Whole, Bytes}
 use Rattle.deku_num.specs.declared.ctx.Layout.{Layout}
+use Rattle.deku_num.specs.NumberLaws.{InType}
 use Rattle.deku_num.specs.Numbers.{NumberType, width, IsEvenWhere, IsAllowed, value, IsListFor}
 
 -- a check comes first: where it refuses, nothing changes; else m follows
@@ -47,12 +49,6 @@ abbrev pub integers : Result ℕ DekuError → Result ℤ DekuError
 integers (Ok n) = Ok (pos n)
 integers (Err e) = Err e
 
--- the refusal has this text
-pub record Tells (refusal : Bor (List ℕ) → DekuError) (text : List ℕ) (e : DekuError) : Type 0 where
-  pub words : Bor (List ℕ)
-  pub told : words.now ≡ text
-  pub is : e ≡ refusal words
-
 -- the refusal of a layout, as told for a size beyond the type
 abbrev pub IsLayoutRefusal : (Bor (List ℕ) → DekuError) → List ℕ → NumberType → Layout → DekuError → Type 0
 IsLayoutRefusal refusal text t l e = ((t.bits < width t l) × Tells refusal text e)
@@ -61,3 +57,10 @@ IsLayoutRefusal refusal text t l e = ((t.bits < width t l) × Tells refusal text
 -- a number without a sign is read
 abbrev pub ReadsUnsigned : NumberType → Layout → Meaning (Option Stream) ℕ
 ReadsUnsigned t l b s r u = ReadsNumber t l b s (integers r) u
+
+-- A value of a type of whole bytes is written under a layout of its whole size as exactly the bits of its type, and it is never refused
+-- for its layout or its value.
+abbrev pub SizeLaw : Type 0
+SizeLaw = (t : NumberType) (l : Layout) (v : ℤ) → 0 < t.bits → t.bits % 8 ≡ 0 → l.size ≡ Whole → InType t.signed t.bits v
+    → (b : Bool) (s : Standing Output) (r : Result (Unit {0}) DekuError) (u : Standing Output) → WritesNumber t l v b s r u
+    → (bits : List Bool) × (length bits ≡ t.bits) × WritesBits l.order (shown l.order bits) b s r u

@@ -2,7 +2,7 @@
 
 ghost use Rattle.std.specs.Prelude.{◌≡◌, ◌<◌, ◌≤◌, ◌%◌, ◌^◌, true, false, length, codes, pos, IfOk, IfErr};
 ghost use Rattle.deku_bits.specs.declared.error.DekuError.TheVariants.{Parse, InvalidParam};
-ghost use Rattle.deku_bits.specs.ReaderCalls.{Reads, Takes, filling};
+ghost use Rattle.deku_bits.specs.ReaderCalls.{Reads, Takes, NoneEarly, filling};
 ghost use Rattle.deku_bits.specs.WriterCalls.{Writes};
 ghost use Rattle.deku_num.specs.NumberLaws.{InType};
 ghost use Rattle.deku_num.specs.Numbers.{width, IsAllowed};
@@ -33,6 +33,7 @@ pub fn read_unsigned<R: Source>(
     requires unsigned { number_type.signed ≡ false }
     requires within { number_type.bits ≤ 128 }
     ensures reads { Reads R.told (ReadsNumber number_type layout) reader.old (integers result) reader.new }
+    ensures early { NoneEarly reader.old.state reader.new.state }
     ensures in_type { IfOk result (λ v. number_type.bits % 8 ≡ 0 → v < 2 ^ number_type.bits) }
 {
     let width = readable_width(number_type, layout)?;
@@ -58,6 +59,7 @@ pub fn read_signed<R: Source>(
     requires signed { number_type.signed ≡ true }
     requires within { number_type.bits ≤ 128 }
     ensures reads { Reads R.told (ReadsNumber number_type layout) reader.old result reader.new }
+    ensures early { NoneEarly reader.old.state reader.new.state }
     ensures in_type { IfOk result (λ v. number_type.bits % 8 ≡ 0 → InType true number_type.bits v) }
 {
     let width = readable_width(number_type, layout)?;
@@ -81,7 +83,8 @@ fn readable_width(number_type: NumberType, layout: Layout) -> Result<usize, Deku
 
 // Takes as many bits as the slice is long, as the order meets them.
 fn take<R: Source>(reader: &mut Reader<R>, bits: &mut [bool], order: Order) -> Result<(), DekuError>
-    ensures { Reads R.told (Takes order (length bits.old)) reader.old (filling result bits.new) reader.new }
+    ensures takes { Reads R.told (Takes order (length bits.old)) reader.old (filling result bits.new) reader.new }
+    ensures early { NoneEarly reader.old.state reader.new.state }
 {
     reader.read_bits_into(bits, order)?;
     show(bits, order);

@@ -1,5 +1,6 @@
 //! Laws of the numbers that fields hold: each is what an empty function ensures.
 
+ghost use Rattle.deku_num.specs.NumberCalls.{SizeLaw};
 ghost use Rattle.deku_num.specs.NumberLaws.{FieldLaw, TypeLaw, ByteLaw, SplitLaw, GroupLaw, BitLaw};
 ghost use Rattle.deku_num.specs.Rows.{RecordRows, NumberRows, PartRows, FitRows};
 
@@ -11,6 +12,11 @@ pub fn field_law()
 /// What a field reads is a value of its type.
 pub fn type_law()
     ensures { TypeLaw }
+{}
+
+/// A value of a type is written under a layout of its whole size, so under `()`, as exactly the bits of its type.
+pub fn size_law()
+    ensures { SizeLaw }
 {}
 
 /// In whole bytes, each number below two to the width has one list of bits.

@@ -8,7 +8,7 @@ ghost use Rattle.deku_bits.specs.Devices.{NoFewerFailures, MoreFailures, FewerTh
 ghost use Rattle.deku_bits.specs.Kept.{Admits};
 ghost use Rattle.deku_bits.specs.Moving.{Moves, FewerBits};
 ghost use Rattle.deku_bits.specs.Faults.{error_of};
-ghost use Rattle.deku_bits.specs.ReaderCalls.{ReadsAt, Takes, Ending, Skips, ReadsBytes, filling, window_of};
+ghost use Rattle.deku_bits.specs.ReaderCalls.{ReadsAt, Takes, Ending, Skips, ReadsBytes, NoneEarly, filling, window_of};
 ghost use Rattle.deku_bits.specs.Standings.{Going, Stopped, count_of};
 
 mod bytes;
@@ -124,7 +124,8 @@ impl Progress {
         dst: &mut [bool],
         order: Order,
     ) -> Result<(), DekuError>
-        ensures { ReadsAt (Takes order (length dst.old)) (R.told source.old) self.old (filling result dst.new) (R.told source.new) self.new }
+        ensures takes { ReadsAt (Takes order (length dst.old)) (R.told source.old) self.old (filling result dst.new) (R.told source.new) self.new }
+        ensures early { NoneEarly self.old self.new }
     {
         self.admits(dst.len())?;
         match take_into(source, &mut self.window, dst, order) {
@@ -147,7 +148,8 @@ impl Progress {
         dst: &mut [u8],
         order: Order,
     ) -> Result<(), DekuError>
-        ensures { ReadsAt (ReadsBytes order (length dst.old)) (R.told source.old) self.old (filling result dst.new) (R.told source.new) self.new }
+        ensures reads { ReadsAt (ReadsBytes order (length dst.old)) (R.told source.old) self.old (filling result dst.new) (R.told source.new) self.new }
+        ensures early { NoneEarly self.old self.new }
     {
         self.admits_bytes(dst.len())?;
         let bits = 8 * dst.len();
@@ -196,7 +198,8 @@ impl Progress {
         amt: usize,
         order: Order,
     ) -> Result<(), DekuError>
-        ensures { ReadsAt (Skips order amt) (R.told source.old) self.old result (R.told source.new) self.new }
+        ensures skips { ReadsAt (Skips order amt) (R.told source.old) self.old result (R.told source.new) self.new }
+        ensures early { NoneEarly self.old self.new }
     {
         self.admits(amt)?;
         let inside = amt.min(self.window.len());

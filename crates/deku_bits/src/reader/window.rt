@@ -3,6 +3,7 @@
 ghost use Rattle.std.specs.Prelude.{◌≡◌, ℕ, ◌<◌, ◌≤◌, [], ◌∷◌, ◌++◌, length};
 ghost use Rattle.deku_bits.specs.Bits.{byte_bits, facing};
 
+use crate::bounded::bits_of_byte;
 use crate::ctx::Order;
 use std::marker::Model;
 
@@ -53,22 +54,12 @@ impl Window {
     }
 
     /// The eight bits of a byte.
-    #[tactic(auto, unfolding(crate::specs::Bits::byte_bits, crate::specs::Bits::bits_of))]
     pub fn of_byte(byte: u8) -> Window
         ensures bits { result ≡ byte_bits byte }
         ensures count { length result ≡ 8 }
     {
         Window {
-            bits: [
-                byte / 128 % 2 == 1,
-                byte / 64 % 2 == 1,
-                byte / 32 % 2 == 1,
-                byte / 16 % 2 == 1,
-                byte / 8 % 2 == 1,
-                byte / 4 % 2 == 1,
-                byte / 2 % 2 == 1,
-                byte / 1 % 2 == 1,
-            ],
+            bits: bits_of_byte(byte),
             start: 0,
             end: 8,
         }

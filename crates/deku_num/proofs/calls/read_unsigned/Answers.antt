@@ -6,11 +6,11 @@ use Rattle.deku_num.proofs.calls.read_unsigned.Goals as goal
 pub returns-in_err-take-clause-reads : goal.returns-in_err-take-clause-reads
 returns-in_err-take-clause-reads g c =
     let p = err_from_is_err_and c.from_residual-in_err-take.result c.from_residual-in_err-take.ensures.1 in
-    rw (p.1, p.2) (number_refused c.args.number_type c.args.layout _ c.in_ok-width.ensures.ok.1 c.in_err-take.ensures (search rules))
+    rw (p.1, p.2) (number_refused c.args.number_type c.args.layout _ c.in_ok-width.ensures.ok.1 c.in_err-take.ensures.takes (search rules))
 
 pub returns-clause-reads : goal.returns-clause-reads
 returns-clause-reads g c =
-    rw c.unsigned_value.ensures (number_read c.args.number_type c.args.layout _ c.in_ok-width.ensures.ok.1 c.in_ok-take.ensures (search rules))
+    rw c.unsigned_value.ensures (number_read c.args.number_type c.args.layout _ c.in_ok-width.ensures.ok.1 c.in_ok-take.ensures.takes (search rules))
 
 pub returns-clause-in_type : goal.returns-clause-in_type
 returns-clause-in_type g c =

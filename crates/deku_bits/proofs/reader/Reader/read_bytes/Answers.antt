@@ -8,7 +8,7 @@ returns-in_err-take_bytes-clause-front g c =
     let amt = c.args.amt in
     let p = err_from_is_err_and c.from_residual.result c.from_residual.ensures.1 in
     let width : length (take amt c.args.buf.now) ≡ amt = simp length-take (omega arith) in
-    rw (p.1, p.2) (rw width at c.in_err-take_bytes.ensures)
+    rw (p.1, p.2) (rw width at c.in_err-take_bytes.ensures.reads)
 
 pub returns-clause-front : goal.returns-clause-front
 returns-clause-front g c =
@@ -17,4 +17,4 @@ returns-clause-front g c =
     let width : length (take amt c.args.buf.now) ≡ amt = simp length-take (omega arith) in
     let same : length dst ≡ amt = omega (arith, width) in
     let front : take amt (dst ++ drop amt c.args.buf.now) ≡ dst = take_at dst (drop amt c.args.buf.now) amt same in
-    rw front (rw width at c.in_ok-take_bytes.ensures)
+    rw front (rw width at c.in_ok-take_bytes.ensures.reads)

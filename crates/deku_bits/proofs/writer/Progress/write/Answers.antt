@@ -1,4 +1,4 @@
-use Rattle.std.proofs.Common.{◌<◌, ◌^◌, sym, refl, rules, eqb-true}
+use Rattle.std.proofs.Common.{◌<◌, ◌^◌, ◌∙◌, sym, refl, rules, eqb-true}
 use Rattle.deku_bits.proofs.Emits.{write_nothing, write_full, write_done, write_stopped}
 use Rattle.deku_bits.proofs.writer.Progress.write.Goals as goal
 
@@ -27,5 +27,6 @@ returns-in-Err g c =
     let w : c.self.inside.bits_written < 2 ^ 64 = search rules in
     let n = c.whole_bytes-bytes.ensures in
     let l = c.len.ensures.length in
-    rw (← c.self.view_is, c.in_default.is)
+    let at_end = c.self-in-Err.view_is ∙ c.stopped.ensures in
+    rw (← c.self.view_is, c.in_default.is, at_end)
     (write_stopped _ _ c.self.inside.order c.args.order c.self.inside.held c.args.bits.now _ c.whole_bytes-bytes.result c.in-Err.kind c.self.invariant (rw (← l) n) c.if-bytes-self.false w c.in-Err.ensures.fault)

@@ -2,11 +2,11 @@ use Rattle.std.proofs.Common.{◌≡◌, ◌∙◌, min, length, arith}
 use Rattle.deku_bits.specs.Outcomes.{Quiet}
 use Rattle.deku_bits.proofs.Handing.{no_fewer_on, more_on}
 use Rattle.deku_bits.proofs.Moving.{admitted}
-use Rattle.deku_bits.proofs.Skips.{skips_ok, skips_err}
+use Rattle.deku_bits.proofs.Skips.{skips_early, skips_ok, skips_err}
 use Rattle.deku_bits.proofs.reader.progress.Progress.skip_bits.Goals as goal
 
-pub returns-in-Ok : goal.returns-in-Ok
-returns-in-Ok g c =
+pub returns-in-Ok-clause-skips : goal.returns-in-Ok-clause-skips
+returns-in-Ok-clause-skips g c =
     let told = g.R.Source.told in
     let p = c.self.inside in
     let n = c.args.amt in
@@ -17,8 +17,18 @@ returns-in-Ok g c =
     (rw inside at c.in-Ok.ensures.moved) (rw inside at c.in-Ok.ensures.short) (rw inside at c.in-Ok.ensures.none) in
     rw (← c.self.view_is, may.0) (Quiet h (no_fewer_on _ _ _ c.pass_bytes.ensures.kept c.drop_bits.ensures.kept))
 
-pub returns-in-Err-drop_bits : goal.returns-in-Err-drop_bits
-returns-in-Err-drop_bits g c =
+pub returns-in-Ok-clause-early : goal.returns-in-Ok-clause-early
+returns-in-Ok-clause-early g c =
+    let p = c.self.inside in
+    let n = c.args.amt in
+    let inside : c.min-inside.result ≡ min n (length c.self.inside.window) = omega arith in
+    let may = admitted p.window p.fault p.bits_read n (rw (← c.self.view_is) at c.in_ok-admits.ensures) in
+    rw (← c.self.view_is, may.0)
+    (skips_early c.args.order p.window c.pop_bits.new.window c.drop_bits.new.window p.bits_read n c.self.invariant (rw inside at c.pop_bits.ensures)
+    (rw inside at c.in-Ok.ensures.short) (λ z. ((rw inside at c.in-Ok.ensures.none) z).0))
+
+pub returns-in-Err-drop_bits-clause-skips : goal.returns-in-Err-drop_bits-clause-skips
+returns-in-Err-drop_bits-clause-skips g c =
     let told = g.R.Source.told in
     let p = c.self.inside in
     let n = c.args.amt in

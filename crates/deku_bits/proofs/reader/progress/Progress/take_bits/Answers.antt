@@ -3,8 +3,8 @@ use Rattle.deku_bits.specs.Outcomes.{Quiet}
 use Rattle.deku_bits.proofs.Moving.{takes_ok, takes_err, admitted}
 use Rattle.deku_bits.proofs.reader.progress.Progress.take_bits.Goals as goal
 
-pub returns-in-Ok : goal.returns-in-Ok
-returns-in-Ok g c =
+pub returns-in-Ok-clause-takes : goal.returns-in-Ok-clause-takes
+returns-in-Ok-clause-takes g c =
     let told = g.R.Source.told in
     let p = c.self.inside in
     let len : length c.take_into.new.dst ≡ length c.args.dst.now = omega arith in
@@ -13,8 +13,8 @@ returns-in-Ok g c =
     len c.self.invariant may.1 c.in-Ok.ensures.moved c.in-Ok.ensures.short c.in-Ok.ensures.none in
     rw (← c.self.view_is, may.0) (Quiet h c.take_into.ensures.kept)
 
-pub returns-in-Err : goal.returns-in-Err
-returns-in-Err g c =
+pub returns-in-Err-clause-takes : goal.returns-in-Err-clause-takes
+returns-in-Err-clause-takes g c =
     let told = g.R.Source.told in
     let p = c.self.inside in
     let len : length c.take_into.new.dst ≡ length c.args.dst.now = omega arith in

@@ -7,8 +7,8 @@ use Rattle.deku_bits.proofs.Moving.{admitted, reader_admits}
 use Rattle.deku_bits.proofs.Bytes.{bytes_ok, bytes_err}
 use Rattle.deku_bits.proofs.reader.progress.Progress.take_bytes.Goals as goal
 
-pub returns-in_err-admits_bytes : goal.returns-in_err-admits_bytes
-returns-in_err-admits_bytes g c =
+pub returns-in_err-admits_bytes-clause-reads : goal.returns-in_err-admits_bytes-clause-reads
+returns-in_err-admits_bytes-clause-reads g c =
     let told = g.R.Source.told c.args.source.now in
     let o = c.args.order in
     let bits = 8 * length c.args.dst.now in
@@ -16,8 +16,8 @@ returns-in_err-admits_bytes g c =
     let away = reader_admits told.coming c.args.self.now bits _ c.in_err-admits_bytes.ensures.answer in
     rw (p.1, p.2) (mapped_err bytes_of (mapped_err (shown o) (turned_away (Transfers o bits) bits _ _ told.health away)))
 
-pub returns-in-Ok : goal.returns-in-Ok
-returns-in-Ok g c =
+pub returns-in-Ok-clause-reads : goal.returns-in-Ok-clause-reads
+returns-in-Ok-clause-reads g c =
     let told = g.R.Source.told in
     let p = c.self.inside in
     let n = length c.args.dst.now in
@@ -27,8 +27,8 @@ returns-in-Ok g c =
     (bytes_ok c.args.order p.window (told c.args.source.now).coming p.bits_read n c.bytes_into.new.dst c.bytes_into.new.window (told c.bytes_into.new.source).coming _ _
     len c.self.invariant may.1 c.in-Ok.ensures.moved c.in-Ok.ensures.short c.in-Ok.ensures.none c.in-Ok.ensures.bytes c.bytes_into.ensures.kept)
 
-pub returns-in-Err : goal.returns-in-Err
-returns-in-Err g c =
+pub returns-in-Err-clause-reads : goal.returns-in-Err-clause-reads
+returns-in-Err-clause-reads g c =
     let told = g.R.Source.told in
     let p = c.self.inside in
     let n = length c.args.dst.now in

@@ -1,0 +1,7 @@
+use Rattle.std.proofs.Common.{take}
+use Rattle.deku_bits.specs.Cursors.{failing_sink}
+use Rattle.deku_bits.specs.Devices.{Gave}
+use Rattle.deku_bits.proofs.probe.FailAtRefMutSliceU8Sink.give.Given as goal
+
+abbrev pub invariant-loop-byte : goal.invariant-loop-byte
+invariant-loop-byte l = Gave (failing_sink l.initial.self) (failing_sink l.self) (take l.byte-index l.bytes)

@@ -1,0 +1,13 @@
+use Rattle.std.proofs.Common.{take}
+use Rattle.std.specs.Io.KnownBytes.{Consumes}
+use Rattle.deku_bits.specs.Cursors.{failing_source}
+use Rattle.deku_bits.specs.Devices.{NoFewerFailures}
+use Rattle.deku_bits.proofs.probe.FailAtSource.fetch.Given as goal
+
+abbrev pub invariant-loop-place : goal.invariant-loop-place
+invariant-loop-place g l =
+    let told = failing_source g.B.AsBytes.bytes in
+    record {
+      bytes : Consumes (told l.initial.self).coming (told l.self).coming (take l.place-index l.buf);
+      kept : NoFewerFailures (told l.initial.self).health (told l.self).health;
+    }

@@ -1,0 +1,22 @@
+use Rattle.std.proofs.lemmas.Result.{on_ok_weaker}
+use Rattle.std.proofs.Common.{arith}
+use Rattle.deku_bits.proofs.WholeBytes.{bytes_onto_none, bytes_onto_same, bytes_onto_other}
+use Rattle.deku_bits.proofs.writer.bytes.push_bytes_onto.Goals as goal
+
+pub returns-then-len-eq0-clause-pushed : goal.returns-then-len-eq0-clause-pushed
+returns-then-len-eq0-clause-pushed g c =
+    on_ok_weaker c.give_all.result
+    (λ m. bytes_onto_none _ _ c.args.from c.args.held.now c.args.bytes.now (omega arith) c.requires.some m)
+    c.give_all.ensures.pushed
+
+pub returns-in-Msb0-clause-pushed : goal.returns-in-Msb0-clause-pushed
+returns-in-Msb0-clause-pushed g c =
+    rw c.in-Msb0.is (on_ok_weaker c.push_bytes.result
+    (λ m. bytes_onto_same _ _ c.args.held.now _ c.args.bytes.now c.requires.some m)
+    c.push_bytes.ensures.pushed)
+
+pub returns-in-Lsb0-clause-pushed : goal.returns-in-Lsb0-clause-pushed
+returns-in-Lsb0-clause-pushed g c =
+    rw c.in-Lsb0.is (on_ok_weaker c.push_bytes_above.result
+    (λ m. bytes_onto_other _ _ c.args.held.now _ c.args.bytes.now (omega arith) c.requires.some m)
+    c.push_bytes_above.ensures.pushed)

@@ -1,0 +1,140 @@
+//! Devices for tests of codecs: a source and sink that fails once.
+
+ghost use Rattle.std.specs.Prelude.{◌≡◌, ◌≢◌, ◌<◌, [], ◌∷◌, OnOk, IfOk, IfErr};
+ghost use Rattle.std.specs.Io.KnownBytes.{Consumes};
+ghost use Rattle.std.specs.IoError.{error_kind};
+ghost use Rattle.deku_bits.specs.Cursors.{failures_at, failing_source, failing_sink};
+ghost use Rattle.deku_bits.specs.Devices.{NoFewerFailures, MoreFailures, FewerThan, StaysEmpty, Gave, Declined};
+
+use crate::device::{Sink, Source};
+use std::io;
+use std::io::{AsBytes, Cursor, Error, ErrorKind, Read, Seek, SeekFrom, Write};
+
+/// A cursor that moves one byte at a time and fails once, with kind `Other`, at its nth read, write or seek, counted from 1. That call moves
+/// nothing. It tells its bytes, and that no call failed or that one did.
+///
+/// ```text
+/// let mut reader = Reader::new(alloc, FailAt::new(Cursor::new(bytes), 2)); // 01 02
+/// reader.read_bits(16, Order::Msb0);                                       // Io(Other)
+/// reader.bits_read();                                                      // 0
+/// ```
+#[derive(Drop)]
+pub struct FailAt<B> {
+    inner: Cursor<B>,
+    // How many calls are left up to the one that fails; 0 behind it.
+    left: usize,
+}
+
+impl<B> FailAt<B> {
+    /// It fails at the nth call. The caller's condition: `n` is at least 1.
+    pub fn new(inner: Cursor<B>, n: usize) -> FailAt<B>
+        requires { 0 < n }
+        ensures inner { result.inner ≡ inner }
+        ensures left { result.left ≡ n }
+    {
+        FailAt { inner, left: n }
+    }
+
+    /// The cursor inside.
+    pub fn into_inner(self) -> Cursor<B>
+        ensures { result ≡ self.inner }
+    {
+        self.inner
+    }
+
+    // One call more, which may be the one that fails.
+    fn call(&mut self) -> io::Result<()>
+        ensures inner { self.new.inner ≡ self.old.inner }
+        ensures ok { OnOk result (failures_at self.new.left ≡ failures_at self.old.left) }
+        ensures kind { IfErr result (λ e. error_kind e ≡ ErrorKind.Other) }
+        ensures failed { IfErr result (λ e. failures_at self.old.left < failures_at self.new.left) }
+    {
+        if self.left == 0 {
+            return Ok(());
+        }
+        self.left -= 1;
+        if self.left == 0 {
+            return Err(Error::from(ErrorKind::Other));
+        }
+        Ok(())
+    }
+}
+
+impl<B: AsBytes> Read for FailAt<B> {
+    fn read(&mut self, buf: &mut [u8]) -> io::Result<usize> {
+        self.call()?;
+        let most = buf.len().min(1);
+        self.inner.read(&mut buf[..most])
+    }
+}
+
+impl<B: AsBytes> Seek for FailAt<B> {
+    fn seek(&mut self, to: SeekFrom) -> io::Result<u64> {
+        self.call()?;
+        self.inner.seek(to)
+    }
+}
+
+// Fetches one byte, by one call.
+fn fetch_byte<B: AsBytes>(source: &mut FailAt<B>) -> io::Result<u8>
+    ensures bytes { IfOk result (λ b. Consumes (failing_source B.bytes source.old).coming (failing_source B.bytes source.new).coming (b ∷ [])) }
+    ensures short { IfErr result (λ e. error_kind e ≡ ErrorKind.UnexpectedEof → FewerThan 1 (failing_source B.bytes source.old).coming) }
+    ensures ended { IfErr result (λ e. error_kind e ≡ ErrorKind.UnexpectedEof → StaysEmpty (failing_source B.bytes source.old).coming (failing_source B.bytes source.new).coming) }
+    ensures failed { IfErr result (λ e. error_kind e ≢ ErrorKind.UnexpectedEof → MoreFailures (failing_source B.bytes source.old).health (failing_source B.bytes source.new).health) }
+    ensures kept { NoFewerFailures (failing_source B.bytes source.old).health (failing_source B.bytes source.new).health }
+{
+    source.call()?;
+    let mut byte = [0];
+    source.inner.fetch(&mut byte)?;
+    Ok(byte[0])
+}
+
+impl<B: AsBytes> Source for FailAt<B> {
+    ghost told = { λ s. failing_source B.bytes s };
+
+    ghost told_by_place = { λ s at all p. Prim.cc };
+
+    fn fetch(&mut self, buf: &mut [u8]) -> io::Result<()> {
+        for place in buf.iter_mut() {
+            *place = fetch_byte(self)?;
+        }
+        Ok(())
+    }
+
+    fn pass(&mut self, n: u64) -> io::Result<()> {
+        self.call()?;
+        self.inner.pass(n)
+    }
+}
+
+impl Write for FailAt<&mut [u8]> {
+    fn write(&mut self, buf: &[u8]) -> io::Result<usize> {
+        self.call()?;
+        let most = buf.len().min(1);
+        self.inner.write(&buf[..most])
+    }
+
+    fn flush(&mut self) -> io::Result<()> {
+        Ok(())
+    }
+}
+
+// Gives one byte, by one call.
+fn give_byte(sink: &mut FailAt<&mut [u8]>, byte: u8) -> io::Result<()>
+    ensures ok { OnOk result (Gave (failing_sink sink.old) (failing_sink sink.new) (byte ∷ [])) }
+    ensures err { IfErr result (λ e. Declined (failing_sink sink.old) (failing_sink sink.new) 1 (error_kind e)) }
+{
+    sink.call()?;
+    sink.inner.give(&[byte])
+}
+
+impl Sink for FailAt<&mut [u8]> {
+    ghost told = { λ s. failing_sink s };
+
+    fn give(&mut self, bytes: &[u8]) -> io::Result<()> {
+        for byte in bytes {
+            give_byte(self, *byte)?;
+        }
+        Ok(())
+    }
+}
