@@ -4,6 +4,8 @@ ghost use Rattle.std.specs.Prelude.{[], length, List, Bool};
 ghost use Rattle.deku_bits.specs.ReaderCalls.{ReadsAt, ReadsBits, filling};
 ghost use Rattle.deku_bits.specs.Standings.{Standing, Going};
 
+mod memory;
+
 use super::{Leftover, Reader};
 use crate::ctx::Order;
 use crate::ctx::Order::{Lsb0, Msb0};
@@ -107,6 +109,30 @@ fn shows_what_each_order_meets(rt: HostRuntime) -> Result<(), Fail> {
     Ok(())
 }
 
+// The reader has stopped with this error: so each call answers, no bit is left over, and the count stays.
+fn expect_kept(
+    rt: &impl Abort,
+    reader: &mut Reader<Cursor<&[u8]>>,
+    kept: DekuError,
+) -> Result<(), Fail> {
+    let count = reader.bits_read();
+    let kept = Some(kept);
+    let mut none: [bool; 0] = [];
+    let mut byte = [0];
+    assert_eq!(rt; reader.read_bits(0, Msb0).err(), kept);
+    assert_eq!(rt; reader.read_bits(usize::MAX, Lsb0).err(), kept);
+    assert_eq!(rt; reader.read_bits_into(&mut none, Lsb0).err(), kept);
+    assert_eq!(rt; reader.read_bytes(0, &mut byte, Msb0).err(), kept);
+    assert_eq!(rt; reader.read_bytes_const(&mut byte, Lsb0).err(), kept);
+    assert_eq!(rt; reader.read_bytes_const_into(&mut byte, Msb0).err(), kept);
+    assert_eq!(rt; reader.skip_bits(0, Lsb0).err(), kept);
+    assert_eq!(rt; reader.end().err(), kept);
+    assert!(rt; reader.leftover().is_none());
+    assert_eq!(rt; reader.rest()?.len(), 0);
+    assert_eq!(rt; reader.bits_read(), count);
+    Ok(())
+}
+
 // Reads of these widths succeed but for the last one, which meets the end of input: that is kept, and nothing else changes.
 fn expect_end(
     rt: &impl Abort,
@@ -122,29 +148,13 @@ fn expect_end(
         assert_eq!(rt; bits.len(), *width, "of {bytes:?}");
     }
     let ended = DekuError::Incomplete(NeedSize::new(last));
-    assert_eq!(rt;
-        reader.read_bits(last, Msb0).err(),
-        Some(ended),
-        "{last} bits of {bytes:?}"
-    );
-    assert_eq!(rt;
-        reader.read_bits(0, Msb0).err(),
-        Some(ended),
-        "0 bits after the end of {bytes:?}"
-    );
-    let mut none: [bool; 0] = [];
-    assert_eq!(rt;
-        reader.read_bits_into(&mut none, Lsb0).err(),
-        Some(ended),
-        "into no bits after the end of {bytes:?}"
-    );
-    assert_eq!(rt;
-        reader.rest()?.len(),
-        0,
-        "the rest after the end of {bytes:?}"
-    );
+    match reader.read_bits(last, Msb0) {
+        Ok(_) => assert!(rt; false, "{last} bits of {bytes:?}"),
+        Err(DekuError::Io(kind)) => return Err(DekuError::Io(kind))?,
+        Err(error) => assert_eq!(rt; error, ended, "{last} bits of {bytes:?}"),
+    }
     assert_eq!(rt; reader.bits_read(), count, "bits read of {bytes:?}");
-    Ok(())
+    expect_kept(rt, &mut reader, ended)
 }
 
 #[test]
@@ -197,6 +207,17 @@ fn has_bits_left_over(rt: HostRuntime) -> Result<(), Fail> {
     }
     reader.read_bits(3, Lsb0)?;
     assert!(rt; reader.leftover().is_none());
+    Ok(())
+}
+
+// A byte that was looked at is left over whole.
+#[test]
+fn has_a_byte_left_over(rt: HostRuntime) -> Result<(), Fail> {
+    let bytes: &[u8] = &[0xAB, 0xCD];
+    let mut reader = Reader::new(rt.alloc(), Cursor::new(bytes));
+    assert!(rt; !reader.end()?);
+    assert!(rt; matches!(reader.leftover(), Some(Leftover::Byte(0xAB))));
+    assert_eq!(rt; reader.bits_read(), 0);
     Ok(())
 }
 
@@ -289,6 +310,18 @@ fn peeks_and_skips(rt: HostRuntime) -> Result<(), Fail> {
     expect_steps(
         &rt,
         alloc,
+        &[0xAB, 0xCD, 0xEF],
+        &[
+            Step::Bits(4, Msb0, "1010"),
+            Step::Bytes(&[0xDB, 0xFC], Lsb0),
+            Step::Rest("1110"),
+            Step::Bytes(&[], Msb0),
+            Step::Count(20),
+        ],
+    )?;
+    expect_steps(
+        &rt,
+        alloc,
         &[0xAB, 0xCD],
         &[
             Step::Bits(4, Msb0, "1010"),
@@ -365,12 +398,8 @@ fn keeps_a_refused_seek(rt: HostRuntime) -> Result<(), Fail> {
     let mut reader = Reader::new(rt.alloc(), Cursor::new(bytes));
     reader.read_bits(4, Msb0)?;
     assert!(rt; reader.seek(SeekFrom::Current(-2)).is_err());
-    assert_eq!(rt; reader.rest()?.len(), 0);
     assert_eq!(rt; reader.bits_read(), 4);
-    let kept = Some(DekuError::Io(ErrorKind::InvalidInput));
-    assert_eq!(rt; reader.end().err(), kept);
-    assert_eq!(rt; reader.skip_bits(0, Lsb0).err(), kept);
-    assert_eq!(rt; reader.read_bytes_const_into(&mut byte, Msb0).err(), kept);
+    expect_kept(&rt, &mut reader, DekuError::Io(ErrorKind::InvalidInput))?;
     reader.seek(SeekFrom::End(-1))?;
     reader.read_bytes_const_into(&mut byte, Msb0)?;
     assert_eq!(rt; byte, [0x03]);
@@ -396,4 +425,23 @@ fn read_lent<R: Source>(alloc: Global, source: &mut R, dst: &mut [bool]) -> Resu
 {
     let mut reader = Reader::new(alloc, source);
     reader.read_bits_into(dst, Msb0)
+}
+
+// A lent source stands behind the last byte that was fetched.
+#[test]
+fn reads_a_lent_vector(rt: HostRuntime) -> Result<(), Fail> {
+    let bytes = [0xA5, 0x3C, 0xFF].to_vec(rt.alloc())?;
+    let mut cursor = Cursor::new(bytes);
+    let mut bits = [false; 9];
+    assert_eq!(rt; read_lent(rt.alloc(), &mut cursor, &mut bits), Ok(()));
+    assert_eq!(rt;
+        bits,
+        [true, false, true, false, false, true, false, true, false]
+    );
+    assert_eq!(rt; cursor.position(), 2);
+    let mut reader = Reader::new(rt.alloc(), cursor);
+    let mut more = Vec::new(reader.alloc());
+    more.push(reader.end()?)?;
+    assert_eq!(rt; more.as_slice(), [false].as_slice());
+    Ok(())
 }

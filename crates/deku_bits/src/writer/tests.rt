@@ -3,6 +3,8 @@ ghost use Rattle.deku_bits.specs.Writers.{Pending, Nothing, append};
 ghost use Rattle.deku_bits.specs.Standings.{Standing, Going};
 ghost use Rattle.deku_bits.specs.WriterCalls.{WritesAt, WritesBits};
 
+mod memory;
+
 use super::Writer;
 use crate::ctx::Order;
 use crate::device::Sink;
