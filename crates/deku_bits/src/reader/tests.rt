@@ -4,6 +4,7 @@ ghost use Rattle.std.specs.Prelude.{[], length, List, Bool};
 ghost use Rattle.deku_bits.specs.ReaderCalls.{ReadsAt, ReadsBits, filling};
 ghost use Rattle.deku_bits.specs.Standings.{Standing, Going};
 
+mod failing;
 mod memory;
 
 use super::{Leftover, Reader};

@@ -3,6 +3,7 @@ ghost use Rattle.deku_bits.specs.Writers.{Pending, Nothing, append};
 ghost use Rattle.deku_bits.specs.Standings.{Standing, Going};
 ghost use Rattle.deku_bits.specs.WriterCalls.{WritesAt, WritesBits};
 
+mod failing;
 mod memory;
 
 use super::Writer;
