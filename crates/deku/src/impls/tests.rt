@@ -53,7 +53,6 @@ fn expect_reads<T: DekuReader<Layout> + PartialEq + Debug>(
 // Each row's value is written as its bytes.
 fn expect_writes<T: DekuWriter<Layout> + Debug>(
     rt: &impl Abort,
-    alloc: Global,
     rows: &[Row<T>],
 ) -> Result<(), Fail>
     requires { (layout : Layout) → T.accepts layout }
@@ -64,11 +63,13 @@ fn expect_writes<T: DekuWriter<Layout> + Debug>(
             order: *order,
             size: *size,
         };
-        let mut writer = Writer::new(Cursor::new(Vec::new(alloc)));
+        let mut written = [0xA5; 16];
+        let mut writer = Writer::new(Cursor::new(written.as_mut_slice()));
         value.to_writer(&mut writer, layout)?;
         writer.finalize()?;
-        let written = writer.into_inner().into_inner();
-        assert_eq!(rt; written.as_slice(), *bytes, "{value:?} under {layout:?}");
+        let end = writer.into_inner().position() as usize;
+        assert!(rt; end <= 16, "{value:?} under {layout:?}");
+        assert_eq!(rt; &written[..end], *bytes, "{value:?} under {layout:?}");
     }
     Ok(())
 }

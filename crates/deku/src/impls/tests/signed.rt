@@ -32,7 +32,7 @@ fn of_8_bits(rt: HostRuntime) -> Result<(), Fail> {
         (Little, Lsb0, Bytes(1), &[0x80], -128),
     ];
     expect_reads(&rt, rt.alloc(), rows)?;
-    expect_writes(&rt, rt.alloc(), rows)?;
+    expect_writes(&rt, rows)?;
     expect_misfits(
         &rt,
         rt.alloc(),
@@ -78,7 +78,7 @@ fn of_16_bits(rt: HostRuntime) -> Result<(), Fail> {
         (Little, Msb0, Bytes(2), &[0x00, 0x80], -32768),
     ];
     expect_reads(&rt, rt.alloc(), rows)?;
-    expect_writes(&rt, rt.alloc(), rows)?;
+    expect_writes(&rt, rows)?;
     expect_misfits(
         &rt,
         rt.alloc(),
@@ -125,7 +125,7 @@ fn of_32_bits(rt: HostRuntime) -> Result<(), Fail> {
         (Little, Lsb0, Bytes(3), &[0x00, 0x00, 0x80], -8388608),
     ];
     expect_reads(&rt, rt.alloc(), rows)?;
-    expect_writes(&rt, rt.alloc(), rows)?;
+    expect_writes(&rt, rows)?;
     expect_misfits(
         &rt,
         rt.alloc(),
@@ -217,7 +217,7 @@ fn of_64_bits(rt: HostRuntime) -> Result<(), Fail> {
         ),
     ];
     expect_reads(&rt, rt.alloc(), rows)?;
-    expect_writes(&rt, rt.alloc(), rows)?;
+    expect_writes(&rt, rows)?;
     expect_misfits(
         &rt,
         rt.alloc(),
@@ -286,7 +286,7 @@ fn of_the_size_of_places(rt: HostRuntime) -> Result<(), Fail> {
         (Big, Msb0, Bytes(1), &[0x80], -128),
     ];
     expect_reads(&rt, rt.alloc(), rows)?;
-    expect_writes(&rt, rt.alloc(), rows)?;
+    expect_writes(&rt, rows)?;
     expect_misfits(
         &rt,
         rt.alloc(),
@@ -371,7 +371,7 @@ fn of_128_bits(rt: HostRuntime) -> Result<(), Fail> {
         (Little, Msb0, Bytes(2), &[0x00, 0x80], -32768),
     ];
     expect_reads(&rt, rt.alloc(), rows)?;
-    expect_writes(&rt, rt.alloc(), rows)?;
+    expect_writes(&rt, rows)?;
     expect_misfits(
         &rt,
         rt.alloc(),

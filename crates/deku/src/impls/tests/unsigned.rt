@@ -27,7 +27,7 @@ fn of_8_bits(rt: HostRuntime) -> Result<(), Fail> {
         (Little, Msb0, Bytes(9), &[0xAB], 0xAB),
     ];
     expect_reads(&rt, rt.alloc(), rows)?;
-    expect_writes(&rt, rt.alloc(), rows)?;
+    expect_writes(&rt, rows)?;
     expect_misfits(
         &rt,
         rt.alloc(),
@@ -72,7 +72,7 @@ fn of_16_bits(rt: HostRuntime) -> Result<(), Fail> {
         (Big, Msb0, Bytes(2), &[0xAB, 0xCD], 0xABCD),
     ];
     expect_reads(&rt, rt.alloc(), rows)?;
-    expect_writes(&rt, rt.alloc(), rows)?;
+    expect_writes(&rt, rows)?;
     expect_misfits(
         &rt,
         rt.alloc(),
@@ -120,7 +120,7 @@ fn of_32_bits(rt: HostRuntime) -> Result<(), Fail> {
         (Big, Lsb0, Bytes(4), &[0x01, 0x02, 0x03, 0x04], 0x01020304),
     ];
     expect_reads(&rt, rt.alloc(), rows)?;
-    expect_writes(&rt, rt.alloc(), rows)?;
+    expect_writes(&rt, rows)?;
     expect_misfits(
         &rt,
         rt.alloc(),
@@ -185,7 +185,7 @@ fn of_64_bits(rt: HostRuntime) -> Result<(), Fail> {
         (Big, Lsb0, Bytes(8), up, 0x0102030405060708),
     ];
     expect_reads(&rt, rt.alloc(), rows)?;
-    expect_writes(&rt, rt.alloc(), rows)?;
+    expect_writes(&rt, rows)?;
     expect_misfits(
         &rt,
         rt.alloc(),
@@ -241,7 +241,7 @@ fn of_the_size_of_places(rt: HostRuntime) -> Result<(), Fail> {
         (Little, Lsb0, Bytes(2), &[0xEF, 0xBE], 0xBEEF),
     ];
     expect_reads(&rt, rt.alloc(), rows)?;
-    expect_writes(&rt, rt.alloc(), rows)?;
+    expect_writes(&rt, rows)?;
     expect_misfits(
         &rt,
         rt.alloc(),
@@ -299,7 +299,7 @@ fn of_128_bits(rt: HostRuntime) -> Result<(), Fail> {
         (Big, Msb0, Bytes(16), up, counted),
     ];
     expect_reads(&rt, rt.alloc(), rows)?;
-    expect_writes(&rt, rt.alloc(), rows)?;
+    expect_writes(&rt, rows)?;
     expect_misfits(
         &rt,
         rt.alloc(),
