@@ -12,18 +12,17 @@ use crate::ctx::Order;
 use crate::ctx::Order::{Lsb0, Msb0};
 use crate::device::Source;
 use crate::error::{DekuError, NeedSize};
-use std::alloc::{AllocError, Global};
+use std::alloc::Global;
 use std::io::{Cursor, ErrorKind, Seek, SeekFrom};
 use std::process::Abort;
 use std::test::Fail;
 
-// The bits as digits.
-fn digits(alloc: Global, bits: &[bool]) -> Result<String, AllocError> {
-    let mut text = String::new(alloc);
-    for bit in bits {
-        text.push(if *bit { '1' } else { '0' })?;
+// The bits are these digits. It takes no memory.
+fn expect_digits(rt: &impl Abort, bits: &[bool], want: &str) {
+    assert_eq!(rt; bits.len(), want.len(), "the length of {want}");
+    for (bit, digit) in bits.iter().zip(want.as_bytes().iter()) {
+        assert_eq!(rt; *bit, *digit == b'1', "a bit of {want}");
     }
-    Ok(text)
 }
 
 // Reads of these widths show these bits, one after the other, and leave these in the last byte.
@@ -37,17 +36,9 @@ fn expect_reads(
     let mut reader = Reader::new(alloc, Cursor::new(bytes));
     for (width, order, want) in reads {
         let bits = reader.read_bits(*width, *order)?;
-        assert_eq!(rt;
-            digits(alloc, &bits)?.as_str(),
-            *want,
-            "{width} bits of {bytes:?}"
-        );
+        expect_digits(rt, &bits, want);
     }
-    assert_eq!(rt;
-        digits(alloc, &reader.rest()?)?.as_str(),
-        rest,
-        "the rest of {bytes:?}"
-    );
+    expect_digits(rt, &reader.rest()?, rest);
     Ok(())
 }
 
@@ -240,7 +231,7 @@ fn expect_steps(rt: &impl Abort, alloc: Global, bytes: &[u8], steps: &[Step]) ->
         match step {
             Step::Bits(width, order, want) => {
                 let bits = reader.read_bits(*width, *order)?;
-                assert_eq!(rt; digits(alloc, &bits)?.as_str(), *want, "bits of {bytes:?}");
+                expect_digits(rt, &bits, want);
             }
             Step::Bytes(want, order) => {
                 let mut buf = [0; 4];
@@ -256,11 +247,7 @@ fn expect_steps(rt: &impl Abort, alloc: Global, bytes: &[u8], steps: &[Step]) ->
             Step::Seek(to) => {
                 reader.seek(*to)?;
             }
-            Step::Rest(want) => assert_eq!(rt;
-                digits(alloc, &reader.rest()?)?.as_str(),
-                *want,
-                "the rest of {bytes:?}"
-            ),
+            Step::Rest(want) => expect_digits(rt, &reader.rest()?, want),
             Step::Count(want) => assert_eq!(rt;
                 reader.bits_read(),
                 *want,

@@ -2,6 +2,7 @@
 
 ghost use Rattle.std.specs.Prelude.{◌≡◌, ◌≤◌, length};
 
+use super::expect_digits;
 use crate::ctx::Order;
 use crate::ctx::Order::{Lsb0, Msb0};
 use crate::error::{DekuError, NeedSize};
@@ -14,14 +15,6 @@ const NO_MEMORY: DekuError = DekuError::Io(ErrorKind::OutOfMemory);
 
 // More bits than memory is found for.
 const TOO_MANY: usize = 1 << 60;
-
-// The bits are these digits. It takes no memory.
-fn expect_digits(rt: &impl Abort, bits: &[bool], want: &str) {
-    assert_eq!(rt; bits.len(), want.len(), "how many bits, for {want}");
-    for (bit, digit) in bits.iter().zip(want.as_bytes().iter()) {
-        assert_eq!(rt; *bit, *digit == b'1', "a bit of {want}");
-    }
-}
 
 // The next bits are these: in a vector, or, where its memory is refused, still in a buffer.
 fn expect_bits(
