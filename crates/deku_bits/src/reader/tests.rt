@@ -42,53 +42,44 @@ fn expect_reads(
     Ok(())
 }
 
-#[test]
-fn shows_what_each_order_meets(rt: HostRuntime) -> Result<(), Fail> {
-    let alloc = rt.alloc();
-    let three: &[u8] = &[0xA1, 0x34, 0x12];
-    expect_reads(
-        &rt,
-        alloc,
-        three,
+// Bytes, the reads of them, and what they leave in the last byte.
+type Shown = (
+    &'static [u8],
+    &'static [(usize, Order, &'static str)],
+    &'static str,
+);
+
+const SHOWN: [Shown; 6] = [
+    (
+        &[0xA1, 0x34, 0x12],
         &[
             (5, Lsb0, "00001"),
             (16, Lsb0, "1010010110010001"),
             (3, Lsb0, "000"),
         ],
         "",
-    )?;
-    let mid: &[u8] = &[0x02, 0x64, 0x20];
-    expect_reads(
-        &rt,
-        alloc,
-        mid,
+    ),
+    (
+        &[0x02, 0x64, 0x20],
         &[(6, Msb0, "000000"), (17, Lsb0, "01000000110010010")],
         "0",
-    )?;
-    expect_reads(
-        &rt,
-        alloc,
-        mid,
+    ),
+    (
+        &[0x02, 0x64, 0x20],
         &[(6, Msb0, "000000"), (17, Msb0, "10011001000010000")],
         "0",
-    )?;
-    expect_reads(
-        &rt,
-        alloc,
+    ),
+    (
         &[0x6D, 0xBE, 0xEF],
         &[(4, Msb0, "0110"), (2, Msb0, "11")],
         "01",
-    )?;
-    expect_reads(
-        &rt,
-        alloc,
+    ),
+    (
         &[0xAB],
         &[(1, Lsb0, "1"), (3, Msb0, "101"), (4, Msb0, "0101")],
         "",
-    )?;
-    expect_reads(
-        &rt,
-        alloc,
+    ),
+    (
         &[0xAB, 0xCD],
         &[
             (4, Lsb0, "1011"),
@@ -97,7 +88,14 @@ fn shows_what_each_order_meets(rt: HostRuntime) -> Result<(), Fail> {
             (4, Msb0, "1101"),
         ],
         "",
-    )?;
+    ),
+];
+
+#[test]
+fn shows_what_each_order_meets(rt: HostRuntime) -> Result<(), Fail> {
+    for (bytes, reads, rest) in SHOWN {
+        expect_reads(&rt, rt.alloc(), bytes, reads, rest)?;
+    }
     Ok(())
 }
 
@@ -258,12 +256,8 @@ fn expect_steps(rt: &impl Abort, alloc: Global, bytes: &[u8], steps: &[Step]) ->
     Ok(())
 }
 
-#[test]
-fn peeks_and_skips(rt: HostRuntime) -> Result<(), Fail> {
-    let alloc = rt.alloc();
-    expect_steps(
-        &rt,
-        alloc,
+const PEEKS: [(&[u8], &[Step]); 5] = [
+    (
         &[0xAA, 0xBB],
         &[
             Step::End(false),
@@ -272,10 +266,8 @@ fn peeks_and_skips(rt: HostRuntime) -> Result<(), Fail> {
             Step::End(true),
             Step::Count(16),
         ],
-    )?;
-    expect_steps(
-        &rt,
-        alloc,
+    ),
+    (
         &[0xAA, 0xBB, 0xCC],
         &[
             Step::End(false),
@@ -283,10 +275,8 @@ fn peeks_and_skips(rt: HostRuntime) -> Result<(), Fail> {
             Step::Bytes(&[0xBB], Msb0),
             Step::Count(16),
         ],
-    )?;
-    expect_steps(
-        &rt,
-        alloc,
+    ),
+    (
         &[0xAB, 0xCD, 0xEF],
         &[
             Step::Bits(4, Msb0, "1010"),
@@ -294,10 +284,8 @@ fn peeks_and_skips(rt: HostRuntime) -> Result<(), Fail> {
             Step::Bits(6, Msb0, "001101"),
             Step::Count(16),
         ],
-    )?;
-    expect_steps(
-        &rt,
-        alloc,
+    ),
+    (
         &[0xAB, 0xCD, 0xEF],
         &[
             Step::Bits(4, Msb0, "1010"),
@@ -306,26 +294,27 @@ fn peeks_and_skips(rt: HostRuntime) -> Result<(), Fail> {
             Step::Bytes(&[], Msb0),
             Step::Count(20),
         ],
-    )?;
-    expect_steps(
-        &rt,
-        alloc,
+    ),
+    (
         &[0xAB, 0xCD],
         &[
             Step::Bits(4, Msb0, "1010"),
             Step::Skip(6, Lsb0),
             Step::Rest("110011"),
         ],
-    )?;
+    ),
+];
+
+#[test]
+fn peeks_and_skips(rt: HostRuntime) -> Result<(), Fail> {
+    for (bytes, steps) in PEEKS {
+        expect_steps(&rt, rt.alloc(), bytes, steps)?;
+    }
     Ok(())
 }
 
-#[test]
-fn seeks(rt: HostRuntime) -> Result<(), Fail> {
-    let alloc = rt.alloc();
-    expect_steps(
-        &rt,
-        alloc,
+const SEEKS: [(&[u8], &[Step]); 2] = [
+    (
         &[0x01, 0x02, 0x03, 0x04],
         &[
             Step::Bits(4, Msb0, "0000"),
@@ -333,10 +322,8 @@ fn seeks(rt: HostRuntime) -> Result<(), Fail> {
             Step::Bytes(&[0x03], Msb0),
             Step::Count(20),
         ],
-    )?;
-    expect_steps(
-        &rt,
-        alloc,
+    ),
+    (
         &[0x01, 0x02, 0x03],
         &[
             Step::Bits(4, Msb0, "0000"),
@@ -348,7 +335,14 @@ fn seeks(rt: HostRuntime) -> Result<(), Fail> {
             Step::Bytes(&[0x01], Msb0),
             Step::Count(32),
         ],
-    )?;
+    ),
+];
+
+#[test]
+fn seeks(rt: HostRuntime) -> Result<(), Fail> {
+    for (bytes, steps) in SEEKS {
+        expect_steps(&rt, rt.alloc(), bytes, steps)?;
+    }
     Ok(())
 }
 
