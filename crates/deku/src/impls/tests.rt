@@ -1,6 +1,6 @@
 //! Numbers and pairs, against worked examples.
 
-ghost use Rattle.std.specs.Prelude.{◌≡◌};
+ghost use Rattle.std.specs.Prelude.{◌≡◌, ◌≤◌};
 
 mod records;
 mod signed;
@@ -21,8 +21,36 @@ const MISFIT: DekuError = DekuError::InvalidParam(
     "bit size of input is larger than requested size",
 );
 
-// How a number lies, its bytes and its value.
-type Row<'a, T> = (Endian, Order, Size, &'a [u8], T);
+// How a number lies, its bytes as digits, and its value.
+type Row<T> = (Endian, Order, Size, &'static str, T);
+
+// How a number lies, its bits, and a value that has no such bits.
+type Misfit<T> = (Endian, Order, usize, T);
+
+// What a hexadecimal digit counts.
+fn digit(code: u8) -> u8
+    ensures { result ≤ 15 }
+{
+    match code {
+        b'0'..=b'9' => code - b'0',
+        b'A'..=b'F' => code - b'A' + 10,
+        _ => 0,
+    }
+}
+
+// The bytes that pairs of hexadecimal digits name.
+fn bytes_of(rt: &impl Abort, digits: &str) -> ([u8; 16], usize)
+    ensures { result.1 ≤ 16 }
+{
+    let mut bytes = [0; 16];
+    for (byte, pair) in bytes.iter_mut().zip(digits.as_bytes().chunks(2)) {
+        if let [high, low] = pair {
+            *byte = 16 * digit(*high) + digit(*low);
+        }
+    }
+    assert!(rt; digits.len() <= 32, "{digits}");
+    (bytes, digits.len() / 2)
+}
 
 // Each row's bytes are read as its value, to the last byte.
 fn expect_reads<T: DekuReader<Layout> + PartialEq + Debug>(
@@ -32,19 +60,20 @@ fn expect_reads<T: DekuReader<Layout> + PartialEq + Debug>(
 ) -> Result<(), Fail>
     requires { (layout : Layout) → T.accepts layout }
 {
-    for (endian, order, size, bytes, want) in rows {
+    for (endian, order, size, digits, want) in rows {
+        let (bytes, len) = bytes_of(rt, digits);
         let layout = Layout {
             endian: *endian,
             order: *order,
             size: *size,
         };
-        let mut reader = Reader::new(alloc, Cursor::new(*bytes));
+        let mut reader = Reader::new(alloc, Cursor::new(&bytes[..len]));
         let value = T::from_reader_with_ctx(&mut reader, layout)?;
-        assert_eq!(rt; value, *want, "of {bytes:?} under {layout:?}");
+        assert_eq!(rt; value, *want, "of {digits} under {layout:?}");
         assert_eq!(rt;
             reader.bits_read().div_ceil(8),
-            bytes.len(),
-            "of {bytes:?} under {layout:?}"
+            len,
+            "of {digits} under {layout:?}"
         );
     }
     Ok(())
@@ -57,7 +86,8 @@ fn expect_writes<T: DekuWriter<Layout> + Debug>(
 ) -> Result<(), Fail>
     requires { (layout : Layout) → T.accepts layout }
 {
-    for (endian, order, size, bytes, value) in rows {
+    for (endian, order, size, digits, value) in rows {
+        let (bytes, len) = bytes_of(rt, digits);
         let layout = Layout {
             endian: *endian,
             order: *order,
@@ -69,7 +99,11 @@ fn expect_writes<T: DekuWriter<Layout> + Debug>(
         writer.finalize()?;
         let end = writer.into_inner().position() as usize;
         assert!(rt; end <= 16, "{value:?} under {layout:?}");
-        assert_eq!(rt; &written[..end], *bytes, "{value:?} under {layout:?}");
+        assert_eq!(rt;
+            &written[..end],
+            &bytes[..len],
+            "{value:?} under {layout:?}"
+        );
     }
     Ok(())
 }
@@ -78,7 +112,7 @@ fn expect_writes<T: DekuWriter<Layout> + Debug>(
 fn expect_misfits<T: DekuWriter<Layout> + Debug>(
     rt: &impl Abort,
     alloc: Global,
-    rows: &[(Endian, Order, usize, T)],
+    rows: &[Misfit<T>],
 ) -> Result<(), Fail>
     requires { (layout : Layout) → T.accepts layout }
 {
