@@ -1,6 +1,6 @@
 //! Numbers and pairs, against worked examples.
 
-ghost use Rattle.std.specs.Prelude.{◌≡◌, ◌≤◌};
+ghost use Rattle.std.specs.Prelude.{◌≤◌};
 
 mod records;
 mod signed;

@@ -1,7 +1,5 @@
 //! Lists of bits in whole bytes, against worked examples.
 
-ghost use Rattle.std.specs.Prelude.{◌≡◌, length};
-
 use super::BoundedBitVec;
 use std::process::Abort;
 

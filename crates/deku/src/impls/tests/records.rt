@@ -1,7 +1,5 @@
 //! Records: numbers and pairs, one after the other, each under a context of its own.
 
-ghost use Rattle.std.specs.Prelude.{◌≡◌};
-
 use super::{MISFIT, expect_beyond};
 use crate::traits::{DekuReader, DekuWriter};
 use deku_bits::error::{DekuError, NeedSize};

@@ -1,7 +1,5 @@
 //! Reads over a source that fails in the middle, and seeks that it is asked for.
 
-ghost use Rattle.std.specs.Prelude.{◌≡◌};
-
 use crate::ctx::Order::{Lsb0, Msb0};
 use crate::device::Source;
 use crate::error::DekuError;

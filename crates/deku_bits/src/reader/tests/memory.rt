@@ -1,7 +1,5 @@
 //! Reads where memory may be refused: each shows what it would, or answers that there is none, and then nothing has moved.
 
-ghost use Rattle.std.specs.Prelude.{◌≡◌, ◌≤◌, length};
-
 use super::expect_digits;
 use crate::ctx::Order;
 use crate::ctx::Order::{Lsb0, Msb0};

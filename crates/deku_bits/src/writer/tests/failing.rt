@@ -1,7 +1,5 @@
 //! Writes to a sink that fails in the middle.
 
-ghost use Rattle.std.specs.Prelude.{◌≡◌};
-
 use crate::ctx::Order::{Lsb0, Msb0};
 use crate::device::Sink;
 use crate::error::DekuError;

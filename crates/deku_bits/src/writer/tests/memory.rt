@@ -1,7 +1,5 @@
 //! Writes where memory may be refused: to a vector that has to grow, and of the pending bits into a new one.
 
-ghost use Rattle.std.specs.Prelude.{◌≡◌, ◌≤◌, length};
-
 use crate::ctx::Order;
 use crate::error::DekuError;
 use crate::writer::Writer;
