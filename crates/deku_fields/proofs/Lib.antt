@@ -6,3 +6,5 @@ pub mod Stepping
 pub mod Whole
 pub mod ReadBack
 pub mod Rewritten
+pub mod Sound
+pub mod Padded

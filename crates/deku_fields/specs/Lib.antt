@@ -2,3 +2,4 @@ pub mod Items
 pub mod Headline
 pub mod Rows
 pub mod ListCalls
+pub mod Promise
