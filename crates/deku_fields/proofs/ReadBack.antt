@@ -11,6 +11,7 @@ use Rattle.deku_bits.specs.Pieces.{laid_out, total}
 use Rattle.deku_bits.specs.Devices.{Health}
 use Rattle.deku_bits.specs.Outcomes.{Outcome}
 use Rattle.deku_bits.specs.Standings.{Standing, Going, Stopped, reader_state, count_of}
+use Rattle.deku_bits.proofs.Handing.{weaker}
 use Rattle.deku_fields.specs.declared.list.Number.{Number}
 use Rattle.deku_fields.specs.declared.list.Field.{Field}
 use Rattle.deku_fields.specs.declared.list.Item.{Item}
@@ -48,6 +49,11 @@ vec_back fs {r} {s} {u} o calm = elim (sound o calm) [
   | inl p ↦ inl (p.1, p.2)
   | inr m ↦ inr (read_back fs r s u m)
 ]
+
+-- fields that are read are read into memory that was found
+pub found : (fs : List Field) {r : Result (List Number) DekuError} {s u : Standing (Option Stream)} {f g : Health}
+    → Outcome (ReadsFields fs) s f r u g → Outcome (ReadsVec fs) s f r u g
+found fs {r} {s} {u} {f} {g} o = weaker (ReadsFields fs) (ReadsVec fs) s f r u g (λ b m. inr m) o
 
 -- a fresh reader stands before the bytes that its source tells
 pub starts_fresh : (coming : Option (List ℕ)) (bytes : List ℕ) (st : Standing _) → coming ≡ Some bytes → st ≡ Going [] 0 → reader_state coming st ≡ Going (Some (fresh bytes)) 0
