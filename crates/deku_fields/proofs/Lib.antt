@@ -8,3 +8,8 @@ pub mod ReadBack
 pub mod Rewritten
 pub mod Sound
 pub mod Padded
+pub mod Digits
+pub mod FirstComma
+pub mod Named
+pub mod Numerals
+pub mod NamedItems

@@ -3,3 +3,4 @@ pub mod Headline
 pub mod Rows
 pub mod ListCalls
 pub mod Promise
+pub mod Naming
