@@ -13,3 +13,4 @@ pub mod FirstComma
 pub mod Named
 pub mod Numerals
 pub mod NamedItems
+pub mod Runs

@@ -4,3 +4,4 @@ pub mod Rows
 pub mod ListCalls
 pub mod Promise
 pub mod Naming
+pub mod Runs

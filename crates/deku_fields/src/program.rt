@@ -1,6 +1,14 @@
 //! The program: from words on a command line to bytes and back.
 
-ghost use Rattle.std.specs.Prelude.{◌≤◌};
+ghost use Rattle.std.specs.Prelude.{◌≡◌, ◌≤◌, List, IfOk, IfErr, string_bytes};
+ghost use Rattle.std.specs.List.{AllZip};
+ghost use Rattle.std.specs.IoError.{error_kind};
+ghost use Rattle.std.specs.declared.io.ErrorKind.TheVariants.{OutOfMemory};
+ghost use Rattle.deku_bits.specs.declared.error.DekuError.TheVariants.{Io};
+ghost use Rattle.deku_fields.specs.declared.program.Failure.TheVariants.{Fault, Usage};
+ghost use Rattle.deku_fields.specs.declared.list.Item.{Item as ListItem};
+ghost use Rattle.deku_fields.specs.Naming.{NamesItem};
+ghost use Rattle.deku_fields.specs.Runs.{words_of, ShowsWritten};
 
 use crate::list::{Field, Item, Number};
 use crate::read::list_from_bytes;
@@ -25,24 +33,32 @@ enum Failure {
 }
 
 impl From<DekuError> for Failure {
+    ghost from_gives = { λ fault e. e ≡ Fault fault };
+
     fn from(fault: DekuError) -> Failure {
         Failure::Fault(fault)
     }
 }
 
 impl From<io::Error> for Failure {
+    ghost from_gives = { λ error e. e ≡ Fault (Io (error_kind error)) };
+
     fn from(error: io::Error) -> Failure {
         Failure::Fault(DekuError::Io(error.kind()))
     }
 }
 
 impl<T: Drop> From<AllocFailed<T>> for Failure {
+    ghost from_gives = { λ _ e. e ≡ Fault (Io OutOfMemory) };
+
     fn from(_failed: AllocFailed<T>) -> Failure {
         Failure::Fault(DekuError::Io(ErrorKind::OutOfMemory))
     }
 }
 
 impl From<AllocError> for Failure {
+    ghost from_gives = { λ _ e. e ≡ Fault (Io OutOfMemory) };
+
     fn from(_error: AllocError) -> Failure {
         Failure::Fault(DekuError::Io(ErrorKind::OutOfMemory))
     }
@@ -101,7 +117,10 @@ fn command<R: Read, W: Write>(
 }
 
 // The bytes of the items that the words name, as a line of hexadecimal text.
-fn written(alloc: Global, specs: &[String]) -> Result<String, Failure> {
+fn written(alloc: Global, specs: &[String]) -> Result<String, Failure>
+    ensures shown { IfOk result (λ text. ShowsWritten (words_of specs.now) (string_bytes text)) }
+    ensures usage { IfErr result (λ e. e ≡ Usage → (items : List ListItem) → AllZip NamesItem (words_of specs.now) items → ⊥) }
+{
     let mut items: Vec<Item> = Vec::new(alloc);
     for word in specs {
         let Some(item) = parse_item(word.as_str()) else {
