@@ -13,6 +13,7 @@ use Rattle.deku_fields.specs.declared.list.Number.{Number}
 use Rattle.deku_fields.specs.declared.list.Number.TheVariants.{Unsigned, Signed}
 use Rattle.deku_fields.specs.ListCalls.{ListFrom, WritesItems, WritesWhole}
 use Rattle.deku_fields.specs.Naming.{NamesField, NamesItem}
+use Rattle.deku_fields.specs.Promise.{LaidOut, ReadsBackFrom}
 
 -- the bytes of texts
 abbrev pub words_of : {A : Type 0} → List (String A) → List (List ℕ)
@@ -28,6 +29,7 @@ pub record ShowsWritten (words : List (List ℕ)) (text : List ℕ) : Type 0 whe
   pub named : AllZip NamesItem words items
   pub bytes : Vec ℕ
   pub written : WritesWhole (Both (WritesItems items) Finalizes) (Ok bytes)
+  pub laid_out : LaidOut items (Ok bytes)
   pub shown : text ≡ line (encode_lower bytes.items)
 
 -- a number in decimal digits
@@ -55,6 +57,7 @@ pub record ShowsRead (words : List (List ℕ)) (input : Option (List ℕ)) (text
   pub bits : ℕ
   pub values : Vec Number
   pub read : ListFrom fields bytes (Ok (bits, values))
+  pub back : ReadsBackFrom fields bytes (Ok (bits, values))
   pub shown : text ≡ flat_map (λ n. line (number_text n)) values.items ++ line (codes "bits " ++ decimal bits)
 
 -- the words ask for this text: `write` and items, or `read` and fields

@@ -7,6 +7,7 @@ use Rattle.deku.specs.Composing.{Both}
 use Rattle.deku_fields.specs.ListCalls.{WritesItems, WritesWhole}
 use Rattle.hex.specs.Hex.{encode_lower}
 use Rattle.deku_fields.specs.Naming.{NamesItem}
+use Rattle.deku_fields.specs.Promise.{LaidOut}
 use Rattle.deku_fields.specs.Runs.{words_of, line}
 use Rattle.deku_fields.specs.declared.list.Item.{Item}
 use Rattle.deku_fields.proofs.NamedItems.{none_is}
@@ -33,4 +34,13 @@ returns-clause-shown c =
     let all : take c.loop-word.word-index texts ≡ texts = take_all c.loop-word.word-index texts (omega arith) in
     let named : AllZip NamesItem (words_of texts) items = subst (λ xs. AllZip NamesItem (words_of xs) items) all c.loop-word.invariant in
     let shown : string_bytes c.push-2.new.self ≡ line (encode_lower c.in_ok-bytes.bytes.items) = search rules in
-    record { items = items; named = named; bytes = c.in_ok-bytes.bytes; written = subst (λ xs. WritesWhole (Both (WritesItems xs) Finalizes) (Ok c.in_ok-bytes.bytes)) c.as_slice.ensures.value c.in_ok-bytes.ensures.meaning; shown = shown }
+    let bytes = c.in_ok-bytes.bytes in
+    let same : c.as_slice.result.now ≡ items = c.as_slice.ensures.value in
+    record {
+      items = items;
+      named = named;
+      bytes = bytes;
+      written = subst (λ xs. WritesWhole (Both (WritesItems xs) Finalizes) (Ok bytes)) same c.in_ok-bytes.ensures.meaning;
+      laid_out = subst (λ xs. LaidOut xs (Ok bytes)) same c.in_ok-bytes.ensures.laid_out;
+      shown = shown;
+    }
