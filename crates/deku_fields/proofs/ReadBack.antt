@@ -1,12 +1,17 @@
 -- What a list reads from bytes that begin with its layout.
-use Rattle.std.proofs.Common.{◌≡◌, ℕ, ◌<◌, ◌^◌, false, Result, Ok, Err, Option, Some, List, [], ◌∷◌, ◌++◌, map, drop, All, Bor, Bool, refl, ap, sym, ◌∙◌, subst, inl, inr, arith}
+use Rattle.std.proofs.Common.{◌≡◌, ℕ, ◌<◌, ◌^◌, false, Result, Ok, Err, Option, Some, List, [], ◌∷◌, ◌++◌, map, drop, All, Bor, Bool, refl, ap, sym, ◌∙◌, subst, inl, inr, arith, ◌+◌, ◌*◌, length, take, length-drop, length-append}
+use Rattle.std.proofs.lemmas.List.{length-take}
 use Rattle.std.proofs.lemmas.List.Elements.{All-cons, All-head, All-nil, All-tail}
 use Rattle.std.specs.Io.Cursor.{cursor_position, cursor_inner}
 use Rattle.std.specs.declared.io.Cursor.{Cursor}
 use Rattle.std.specs.declared.io.ErrorKind.TheVariants.{OutOfMemory}
 use Rattle.deku_bits.specs.declared.error.DekuError.{DekuError}
 use Rattle.deku_bits.specs.declared.error.DekuError.TheVariants.{Io}
-use Rattle.deku_bits.specs.Streams.{Stream, fresh, normal}
+use Rattle.deku_bits.specs.declared.ctx.Order.{Order}
+use Rattle.deku_bits.specs.Bits.{facing}
+use Rattle.deku_bits.specs.Streams.{Stream, Has, bit_count, flow, left, touched, fresh, normal}
+use Rattle.deku_bits.proofs.Binary.{length-facing}
+use Rattle.deku_bits.proofs.Cuts.{length-flow}
 use Rattle.deku_bits.specs.Pieces.{laid_out, total}
 use Rattle.deku_bits.specs.Devices.{Health}
 use Rattle.deku_bits.specs.Outcomes.{Outcome}
@@ -15,7 +20,7 @@ use Rattle.deku_bits.proofs.Handing.{weaker}
 use Rattle.deku_fields.specs.declared.list.Number.{Number}
 use Rattle.deku_fields.specs.declared.list.Field.{Field}
 use Rattle.deku_fields.specs.declared.list.Item.{Item}
-use Rattle.deku_fields.specs.Items.{IsFitting, IsAllowedField, AlignedFields, Reads, fields_of, values_of, field_shape}
+use Rattle.deku_fields.specs.Items.{IsFitting, IsAllowedField, AlignedFields, Reads, fields_of, values_of, field_shape, field_width}
 use Rattle.deku_fields.specs.ListCalls.{ReadsFields, ReadsVec}
 use Rattle.deku_fields.specs.Promise.{Unfailing, Begins, ReadsBack, ReadsBackVec}
 use Rattle.deku_fields.proofs.Sound.{sound}
@@ -26,6 +31,35 @@ allowed_all : (items : List Item) → All IsFitting items → All IsAllowedField
 allowed_all [] all = All-nil IsAllowedField
 allowed_all (i ∷ is) all = All-cons IsAllowedField i.field (fields_of is) (All-head IsFitting i is all).allowed (allowed_all is (All-tail IsFitting i is all))
 
+-- what is left of a stream has the bits that were not taken
+left_count : (o : Order) (n : ℕ) (S : Stream) → Has n S → n + bit_count (left o n S) ≡ bit_count S
+unfolding left
+left_count o n S h =
+    let k : ℕ = touched n S in
+    let bits : List Bool = facing o S.window ++ flow o (take k S.bytes) in
+    omega (
+      arith,
+      h,
+      length-facing o (drop n bits),
+      length-drop n bits,
+      length-append (facing o S.window) (flow o (take k S.bytes)),
+      length-facing o S.window,
+      length-flow o (take k S.bytes),
+      length-take k S.bytes,
+      length-drop k S.bytes,
+    )
+
+-- and so for fields
+reads_count : (fs : List Field) (ns : List Number) (S T : Stream) → Reads fs S ns T → total (map field_shape fs) + bit_count T ≡ bit_count S
+reads_count [] [] S T r = let same : bit_count T ≡ bit_count S = ap bit_count (sym r) in omega (arith, same)
+reads_count [] (n ∷ ns) S T r = absurd r
+reads_count (f ∷ fs) [] S T r = absurd r
+reads_count (f ∷ fs) (n ∷ ns) S T r =
+    let R : Stream = left f.layout.order (field_width f) S in
+    let first : field_width f + bit_count R ≡ bit_count S = left_count f.layout.order (field_width f) S r.0 in
+    let others : total (map field_shape fs) + bit_count T ≡ bit_count R = reads_count fs ns R T r.2 in
+    omega (arith, first, others)
+
 -- what is read before bytes that begin with a layout
 read_back : (fs : List Field) (r : Result (List Number) DekuError) (s u : Standing (Option Stream)) → ReadsFields fs false s r u → ReadsBack fs s r u
 read_back fs r s u m items bytes after c b e room =
@@ -35,7 +69,9 @@ read_back fs r s u m items bytes after c b e room =
     subst (λ x. Reads x (fresh bytes) (values_of items) T.0) (b.of_fields) (subst (λ x. Reads (fields_of items) (fresh x) (values_of items) T.0) (sym whole) T.1) in
     let allowed : All IsAllowedField fs = subst (All IsAllowedField) (b.of_fields) (allowed_all items b.fitting) in
     let d = fields_give fs (values_of items) (fresh bytes) T.0 c allowed reads room r u (subst (λ x. ReadsFields fs false x r u) e m) in
-    (d.0, record { rest = T.0; read = reads; behind = T.2; stands = d.1 })
+    let count : total (map field_shape fs) + bit_count T.0 ≡ bit_count (fresh bytes) = reads_count fs (values_of items) (fresh bytes) T.0 reads in
+    let unread : total (map field_shape fs) + length T.0.window + 8 * length after ≡ 8 * length bytes = omega (arith, count, ap length T.2) in
+    (d.0, record { rest = T.0; read = reads; behind = T.2; unread = unread; stands = d.1 })
 
 -- an outcome over a source that does not fail
 pub fields_back : (fs : List Field) {r : Result (List Number) DekuError} {s u : Standing (Option Stream)} {f g : Health}

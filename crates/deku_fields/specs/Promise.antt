@@ -47,11 +47,12 @@ pub record Begins (fs : List Field) (items : List Item) (bytes after : List ℕ)
   pub laid : LaysOut items written
   pub begins : bytes ≡ written ++ after
 
--- fields were read from bytes: these values; their bits are counted from c on, and the bytes behind are still to come
+-- fields were read from bytes: these values; their bits are counted from c on, and the unread bits of the last byte and the bytes behind are still to come
 pub record HasRead (fs : List Field) (bytes : List ℕ) (values : List Number) (c : ℕ) (after : List ℕ) (u : Standing (Option Stream)) : Type 0 where
   pub rest : Stream
   pub read : Reads fs (fresh bytes) values rest
   pub behind : rest.bytes ≡ after
+  pub unread : total (map field_shape fs) + length rest.window + 8 * length after ≡ 8 * length bytes
   pub stands : u ≡ Going (Some rest) (c + total (map field_shape fs))
 
 -- before bytes that begin with what aligned fitting items lay out, whatever follows, the fields read exactly the items' values

@@ -37,14 +37,14 @@ abbrev pub number_text : Number → List ℕ
 number_text (Unsigned n) = decimal n
 number_text (Signed z) = signed_decimal z
 
--- the text is the other, or that as a line
-abbrev pub IsLineOrText : List ℕ → List ℕ → Type 0
-IsLineOrText text inner = (text ≡ line inner) ⊎ ((text ≡ inner) × ((front : List ℕ) → text ≡ line front → ⊥))
+-- the inner text is the text without one newline at its end, where it has one
+abbrev pub LosesNewline : List ℕ → List ℕ → Type 0
+LosesNewline text inner = (text ≡ line inner) ⊎ ((text ≡ inner) × ((front : List ℕ) → text ≡ line front → ⊥))
 
 -- the text shows bytes in hexadecimal
 pub record IsHexText (text bytes : List ℕ) : Type 0 where
   pub digits : List ℕ
-  pub trimmed : IsLineOrText text digits
+  pub trimmed : LosesNewline text digits
   pub decoded : decode_of digits ≡ Ok bytes
 
 -- The words name fields, which are read from the bytes that the input shows, where it is known. The text has the values, a line each, and then

@@ -9,7 +9,7 @@ ghost use Rattle.deku_fields.specs.declared.program.Failure.TheVariants.{Fault, 
 ghost use Rattle.deku_fields.specs.declared.list.Item.{Item as ListItem};
 ghost use Rattle.deku_fields.specs.declared.list.Field.{Field as ListField};
 ghost use Rattle.deku_fields.specs.Naming.{NamesField, NamesItem};
-ghost use Rattle.deku_fields.specs.Runs.{words_of, line, number_text, IsHexText, IsLineOrText, IsDone, AreNoForm, ShowsRead, ShowsWritten};
+ghost use Rattle.deku_fields.specs.Runs.{words_of, line, number_text, IsHexText, LosesNewline, IsDone, AreNoForm, ShowsRead, ShowsWritten};
 
 use crate::list::{Field, Item, Number};
 use crate::read::list_from_bytes;
@@ -202,7 +202,7 @@ fn read_bytes<R: Read>(alloc: Global, input: &mut R) -> Result<Vec<u8>, Failure>
 
 // The text without one last newline.
 fn without_newline(text: &[u8]) -> &[u8]
-    ensures { IsLineOrText text.now result.now }
+    ensures { LosesNewline text.now result.now }
 {
     match text {
         [inner @ .., b'\n'] => inner,
