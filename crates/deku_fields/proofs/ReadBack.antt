@@ -21,7 +21,7 @@ use Rattle.deku_fields.specs.declared.list.Number.{Number}
 use Rattle.deku_fields.specs.declared.list.Field.{Field}
 use Rattle.deku_fields.specs.declared.list.Item.{Item}
 use Rattle.deku_fields.specs.Items.{IsFitting, IsAllowedField, AlignedFields, Reads, fields_of, values_of, field_shape, field_width}
-use Rattle.deku_fields.specs.ListCalls.{ReadsFields, ReadsVec}
+use Rattle.deku_fields.specs.ListCalls.{ReadsFields, ReadsVec, filling}
 use Rattle.deku_fields.specs.Promise.{Unfailing, Begins, ReadsBack, ReadsBackVec}
 use Rattle.deku_fields.proofs.Sound.{sound}
 use Rattle.deku_fields.proofs.FieldLists.{there_law}
@@ -98,6 +98,11 @@ starts_fresh coming bytes st e f = rw (e, f) refl
 
 ok_is : (x y : List Number) → ◌≡◌ {A = Result (List Number) DekuError} (Ok x) (Ok y) → x ≡ y
 ok_is x y e = cc
+
+-- a buffer that was filled holds what was read
+pub filled : (r : Result (Unit {0}) DekuError) (ns vs : List Number) → filling r ns ≡ Ok vs → (r ≡ Ok tt) × (ns ≡ vs)
+filled (Ok tt) ns vs e = (refl, ok_is ns vs e)
+filled (Err x) ns vs e = absurd (cc)
 
 -- a list that is read from the first byte on has read back what the bytes begin with
 pub back_ok : (fs : List Field) (bytes : List ℕ) (ns : List Number) (n : ℕ) (s u : Standing (Option Stream))

@@ -1,5 +1,11 @@
 //! Lists of fields, read and written, against worked examples.
 
+ghost use Rattle.std.specs.Prelude.{◌≡◌, ◌<◌, ◌^◌, List, ℕ, Ok, length, map};
+ghost use Rattle.deku_bits.specs.Pieces.{total};
+ghost use Rattle.deku_fields.specs.declared.list.Item.{Item as ListItem};
+ghost use Rattle.deku_fields.specs.Items.{field_shape, values_of as list_values};
+ghost use Rattle.deku_fields.specs.Promise.{Begins};
+
 use super::{Field, Item, Kind, Number};
 use crate::read::{list_from_bytes, read_list, read_list_into};
 use crate::write::{list_to_bytes, write_list};
@@ -88,6 +94,21 @@ fn values_of(items: &[Item; 3]) -> [Number; 3] {
     [items[0].value, items[1].value, items[2].value]
 }
 
+// From bytes that begin with what aligned fitting items lay out the fields read the items' values: it takes no memory and is not refused.
+fn read_from(
+    alloc: Global,
+    bytes: &[u8],
+    fields: &[Field],
+    out: &mut [Number],
+) -> Result<(), DekuError>
+    requires { length out.old ≡ length fields.now }
+    ensures { (items : List ListItem) (after : List ℕ) → Begins fields.now items bytes.now after → total (map field_shape fields.now) < 2 ^ 64
+        → (result ≡ Ok tt) × (out.new ≡ list_values items) }
+{
+    let mut reader = Reader::new(alloc, Cursor::new(bytes));
+    read_list_into(&mut reader, fields, out)
+}
+
 // Three items are written as the bytes, by each of the calls.
 fn expect_written(
     rt: &impl Abort,
@@ -122,13 +143,16 @@ fn expect_read(
     assert_eq!(rt; numbers.as_slice(), values.as_slice());
     assert_eq!(rt; reader.bits_read(), 24);
     let mut out = [Number::Unsigned(7); 3];
-    let mut reader = Reader::new(alloc, Cursor::new(bytes.as_slice()));
     assert_eq!(rt;
-        read_list_into(&mut reader, fields.as_slice(), out.as_mut_slice()),
+        read_from(
+            alloc,
+            bytes.as_slice(),
+            fields.as_slice(),
+            out.as_mut_slice()
+        ),
         Ok(())
     );
     assert_eq!(rt; out, values);
-    assert_eq!(rt; reader.bits_read(), 24);
     Ok(())
 }
 
