@@ -1,9 +1,9 @@
 //! Lists of fields, read and written, against worked examples.
 
-ghost use Rattle.std.specs.Prelude.{◌≡◌, ◌<◌, ◌^◌, List, ℕ, Ok, length, map};
+ghost use Rattle.std.specs.Prelude.{◌≡◌, ◌<◌, ◌≤◌, ◌*◌, ◌^◌, List, ℕ, Ok, length, map, All};
 ghost use Rattle.deku_bits.specs.Pieces.{total};
 ghost use Rattle.deku_fields.specs.declared.list.Item.{Item as ListItem};
-ghost use Rattle.deku_fields.specs.Items.{field_shape, values_of as list_values};
+ghost use Rattle.deku_fields.specs.Items.{field_shape, values_of as list_values, fields_of as list_fields, IsFitting, AlignedFields, LaysOut};
 ghost use Rattle.deku_fields.specs.Promise.{Begins};
 
 use super::{Field, Item, Kind, Number};
@@ -109,6 +109,18 @@ fn read_from(
     read_list_into(&mut reader, fields, out)
 }
 
+// Aligned fitting items are written over a slice that has room for what they lay out: that is not refused.
+fn write_over(items: &[Item], all: &mut [u8]) -> Result<(), DekuError>
+    ensures { (bytes : List ℕ) → All IsFitting items.now → AlignedFields (list_fields items.now) → LaysOut items.now bytes → length bytes ≤ length all.old
+        → 8 * length bytes < 2 ^ 64 → result ≡ Ok tt }
+{
+    let mut writer = Writer::new(Cursor::new(all));
+    match write_list(&mut writer, items) {
+        Ok(()) => writer.finalize(),
+        Err(refusal) => Err(refusal),
+    }
+}
+
 // Three items are written as the bytes, by each of the calls.
 fn expect_written(
     rt: &impl Abort,
@@ -119,9 +131,7 @@ fn expect_written(
     let written = list_to_bytes(alloc, items.as_slice())?;
     assert_eq!(rt; written.as_slice(), bytes.as_slice());
     let mut page = [0u8; 3];
-    let mut writer = Writer::new(Cursor::new(page.as_mut_slice()));
-    assert_eq!(rt; write_list(&mut writer, items.as_slice()), Ok(()));
-    assert_eq!(rt; writer.finalize(), Ok(()));
+    assert_eq!(rt; write_over(items.as_slice(), page.as_mut_slice()), Ok(()));
     assert_eq!(rt; page, *bytes);
     Ok(())
 }

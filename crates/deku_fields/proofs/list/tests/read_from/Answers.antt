@@ -1,4 +1,4 @@
-use Rattle.std.proofs.Common.{refl, ap, ◌∙◌, arith}
+use Rattle.std.proofs.Common.{ap, ◌∙◌, arith}
 use Rattle.deku_fields.proofs.Sound.{sound_memory}
 use Rattle.deku_fields.proofs.ReadBack.{starts_fresh, whole_source, new_source, filled}
 use Rattle.deku_fields.proofs.list.tests.read_from.Goals as goal
