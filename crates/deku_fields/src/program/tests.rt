@@ -1,14 +1,14 @@
 //! Runs of the program: words, the input, and what it answers, prints and complains.
 
 use super::run;
-use std::alloc::Global;
+use std::alloc::{AllocError, Global};
 use std::io;
-use std::io::{Error, ErrorKind, Read, Write};
+use std::io::{Cursor, Error, ErrorKind, Read, Write};
 use std::process::Abort;
 use std::test::Fail;
 
 // Words as arguments.
-fn arguments(alloc: Global, words: &[&str]) -> Result<Vec<String>, Fail> {
+fn arguments(alloc: Global, words: &[&str]) -> Result<Vec<String>, AllocError> {
     let mut args: Vec<String> = Vec::new(alloc);
     for word in words {
         args.push(String::from_str(alloc, word)?)?;
@@ -44,6 +44,10 @@ const MISFIT: &str =
     "error: Invalid param error: bit size of input is larger than requested size\n";
 
 const OUTSIDE: &str = "error: Invalid param error: value outside type\n";
+
+const TOO_WIDE: &str = "error: Invalid param error: bit size is larger than input\n";
+
+const NO_MEMORY: &str = "error: io errorr: OutOfMemory\n";
 
 const USAGE: &str = "usage: fields read|write SPEC..\n";
 
@@ -93,11 +97,17 @@ fn reads_fields(rt: HostRuntime) -> Result<(), Fail> {
 #[test]
 fn refuses_values_and_input(rt: HostRuntime) -> Result<(), Fail> {
     let alloc = rt.alloc();
-    let runs: [(&[&str], &str, &str); 6] = [
+    let runs: [(&[&str], &str, &str); 8] = [
         (&["write", "u8,big,bits4=16"], "", MISFIT),
         (&["write", "i8,bits3=4"], "", MISFIT),
         (&["write", "u8,big=300"], "", OUTSIDE),
         (&["write", "u8=300"], "", OUTSIDE),
+        (&["write", "u8,bits9=1"], "", TOO_WIDE),
+        (
+            &["read", "u8,bits9"],
+            "0000",
+            "error: Parse error: too much data\n",
+        ),
         (
             &["read", "u16"],
             "69",
@@ -194,4 +204,48 @@ fn tells_of_failing_streams(rt: HostRuntime) -> Result<(), Fail> {
         2
     );
     Ok(())
+}
+
+// The program, run on words over text and into memory that is there already, ends so; or it finds no memory and says so.
+fn expect_or_no_memory(
+    rt: &impl Abort,
+    alloc: Global,
+    words: &[&str],
+    input: &str,
+    want: &str,
+) -> Result<(), Fail> {
+    let Ok(args) = arguments(alloc, words) else {
+        return Ok(());
+    };
+    let mut page = [0u8; 64];
+    let mut complaints = [0u8; 64];
+    let mut output = Cursor::new(page.as_mut_slice());
+    let mut errors = Cursor::new(complaints.as_mut_slice());
+    let status = run(
+        alloc,
+        args.as_slice(),
+        &mut input.as_bytes(),
+        &mut output,
+        &mut errors,
+    );
+    let (written, told) = (output.position() as usize, errors.position() as usize);
+    assert!(rt; written <= page.len() && told <= complaints.len());
+    if status == 0 {
+        assert_eq!(rt; &page[..written], want.as_bytes());
+        assert_eq!(rt; told, 0);
+    } else {
+        assert_eq!(rt; status, 1);
+        assert_eq!(rt; written, 0);
+        assert_eq!(rt; &complaints[..told], NO_MEMORY.as_bytes());
+    }
+    Ok(())
+}
+
+#[test]
+fn runs_or_finds_no_memory(rt: HostRuntime) -> Result<(), Fail> {
+    let alloc = rt.alloc();
+    let write = &["write", "u8,big,bits4=6", "u8,big,bits4=9", "u16,big=49406"];
+    expect_or_no_memory(&rt, alloc, write, "", "69c0fe\n")?;
+    let read = &["read", "u8,big,bits4", "u8,big,bits4", "u16,big"];
+    expect_or_no_memory(&rt, alloc, read, "69c0fe", "6\n9\n49406\nbits 24\n")
 }

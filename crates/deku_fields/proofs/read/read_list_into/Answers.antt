@@ -1,13 +1,14 @@
 use Rattle.std.proofs.Common.{refl, ◌∙◌, arith}
 use Rattle.std.proofs.lemmas.List.{length-set}
 use Rattle.deku_fields.proofs.Stepping.{started, field_read, field_refused, fields_read}
+use Rattle.deku_fields.proofs.ReadBack.{fields_back}
 use Rattle.deku_fields.proofs.read.read_list_into.Goals as goal
 
 pub loop-place-init : goal.loop-place-init
 loop-place-init g c = (refl, started c.args.fields.now c.args.out.now _ _)
 
-pub returns-in-Err : goal.returns-in-Err
-returns-in-Err g c = field_refused c.args.fields.now c.loop-place.place _ _ c.in-Err.refusal _ _ _ _ _ _ (omega arith) (c.loop-place.invariant.1) (c.in-Err.ensures)
+pub returns-in-Err-clause-meaning : goal.returns-in-Err-clause-meaning
+returns-in-Err-clause-meaning g c = field_refused c.args.fields.now c.loop-place.place _ _ c.in-Err.refusal _ _ _ _ _ _ (omega arith) (c.loop-place.invariant.1) (c.in-Err.ensures)
 
 pub loop-place-preserved : goal.loop-place-preserved
 loop-place-preserved g c = (
@@ -15,5 +16,11 @@ loop-place-preserved g c = (
   field_read c.args.fields.now c.loop-place.place _ c.loop-place.out c.in-Ok.number _ _ _ _ _ _ (omega arith) (omega (arith, c.loop-place.invariant.0, c.requires)) (c.loop-place.invariant.1) (c.in-Ok.ensures),
 )
 
-pub returns : goal.returns
-returns g c = fields_read c.args.fields.now c.loop-place.place c.loop-place.out _ _ _ _ (omega arith) (omega (arith, c.loop-place.invariant.0, c.requires)) (c.loop-place.invariant.1)
+pub returns-clause-meaning : goal.returns-clause-meaning
+returns-clause-meaning g c = fields_read c.args.fields.now c.loop-place.place c.loop-place.out _ _ _ _ (omega arith) (omega (arith, c.loop-place.invariant.0, c.requires)) (c.loop-place.invariant.1)
+
+pub returns-clause-values : goal.returns-clause-values
+returns-clause-values g c = fields_back c.args.fields.now (returns-clause-meaning g c)
+
+pub returns-in-Err-clause-values : goal.returns-in-Err-clause-values
+returns-in-Err-clause-values g c = fields_back c.args.fields.now (returns-in-Err-clause-meaning g c)
