@@ -1,7 +1,7 @@
 //! Reading lists of fields.
 
 ghost use Rattle.std.specs.Prelude.{◌≡◌, length};
-ghost use Rattle.deku_bits.specs.ReaderCalls.{Reads};
+ghost use Rattle.deku_bits.specs.ReaderCalls.{Reads, NoneEarly};
 ghost use Rattle.deku_fields.specs.ListCalls.{ListFrom, ReadsField, ReadsFields, ReadsVec, filling, items_of};
 ghost use Rattle.deku_fields.specs.Promise.{ReadsBack, ReadsBackVec, ReadsBackFrom, ReadsWhereSound};
 
@@ -19,6 +19,8 @@ use std::io::{Cursor, ErrorKind};
 /// `InvalidParam("signed big Lsb0 field of this width")`, and then as `Reader` refuses to read its bits. What the fields before it
 /// moved stays moved, and what `out` holds is then open. Without fields no call is made on the reader.
 ///
+/// No byte of the source is fetched behind the last one that a field touches.
+///
 /// The caller's condition: `out` has one place for each field.
 pub fn read_list_into<R: Source>(
     reader: &mut Reader<R>,
@@ -28,6 +30,7 @@ pub fn read_list_into<R: Source>(
     requires { length out.old ≡ length fields.now }
     ensures meaning { Reads R.told (ReadsFields fields.now) reader.old (filling result out.new) reader.new }
     ensures values { ReadsWhereSound R.told (ReadsBack fields.now) reader.old (filling result out.new) reader.new }
+    ensures early { NoneEarly reader.old.state reader.new.state }
 {
     for (place, field) in fields.iter().enumerate() {
         match read_field(reader, field) {
@@ -40,7 +43,8 @@ pub fn read_list_into<R: Source>(
 
 // Reads the value of a field.
 fn read_field<R: Source>(reader: &mut Reader<R>, field: &Field) -> Result<Number, DekuError>
-    ensures { Reads R.told (ReadsField field.now) reader.old result reader.new }
+    ensures reads { Reads R.told (ReadsField field.now) reader.old result reader.new }
+    ensures early { NoneEarly reader.old.state reader.new.state }
 {
     let number_type = field.kind.number_type();
     if number_type.signed {
@@ -61,6 +65,7 @@ pub fn read_list<R: Source>(
 ) -> Result<Vec<Number>, DekuError>
     ensures meaning { Reads R.told (ReadsVec fields.now) reader.old (items_of result) reader.new }
     ensures values { ReadsWhereSound R.told (ReadsBackVec fields.now) reader.old (items_of result) reader.new }
+    ensures early { NoneEarly reader.old.state reader.new.state }
 {
     let Ok(mut numbers) = vec![in reader.alloc(); Number::Unsigned(0); fields.len()] else {
         return Err(DekuError::Io(ErrorKind::OutOfMemory));
