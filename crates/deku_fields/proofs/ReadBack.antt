@@ -1,5 +1,5 @@
 -- What a list reads from bytes that begin with its layout.
-use Rattle.std.proofs.Common.{◌≡◌, ℕ, ◌<◌, ◌^◌, false, Result, Ok, Err, Option, Some, List, [], ◌∷◌, ◌++◌, map, drop, All, Bor, Bool, refl, ap, sym, ◌∙◌, subst, inl, inr, arith, ◌+◌, ◌*◌, length, take, length-drop, length-append}
+use Rattle.std.proofs.Common.{◌≡◌, ℕ, ◌<◌, ◌^◌, false, Result, Ok, Err, Option, Some, None, OnOk, ne_eqb, List, [], ◌∷◌, ◌++◌, map, drop, All, Bor, Bool, refl, ap, sym, ◌∙◌, subst, inl, inr, arith, ◌+◌, ◌*◌, length, take, length-drop, length-append}
 use Rattle.std.proofs.lemmas.List.{length-take}
 use Rattle.std.proofs.lemmas.List.Elements.{All-cons, All-head, All-nil, All-tail}
 use Rattle.std.specs.Io.Cursor.{cursor_position, cursor_inner}
@@ -16,6 +16,7 @@ use Rattle.deku_bits.specs.Pieces.{laid_out, total}
 use Rattle.deku_bits.specs.Devices.{Health}
 use Rattle.deku_bits.specs.Outcomes.{Outcome}
 use Rattle.deku_bits.specs.Standings.{Standing, Going, Stopped, reader_state, count_of}
+use Rattle.deku_bits.specs.ReaderCalls.{NoneEarly, window_of}
 use Rattle.deku_bits.proofs.Handing.{weaker}
 use Rattle.deku_fields.specs.declared.list.Number.{Number}
 use Rattle.deku_fields.specs.declared.list.Field.{Field}
@@ -95,6 +96,40 @@ found fs {r} {s} {u} {f} {g} o = weaker (ReadsFields fs) (ReadsVec fs) s f r u g
 pub starts_fresh : (coming : Option (List ℕ)) (bytes : List ℕ) (st : Standing _) → coming ≡ Some bytes → st ≡ Going [] 0 → reader_state coming st ≡ Going (Some (fresh bytes)) 0
 unfolding normal
 starts_fresh coming bytes st e f = rw (e, f) refl
+
+-- ---- the bytes behind
+normal_short : (S : Stream) → length S.window < 8 → normal S ≡ S
+unfolding normal
+normal_short S l = rw (ne_eqb (length S.window) 8 (λ (e : length S.window ≡ 8). omega arith)) refl
+
+-- a source tells the bytes of the stream, where no whole byte is unread
+source_tells : (coming : Option (List ℕ)) (st : Standing (List Bool)) (rest : Stream) (c : ℕ) → length (window_of st) < 8
+    → reader_state coming st ≡ Going (Some rest) c → coming ≡ Some rest.bytes
+source_tells coming (Stopped e k) rest c l q = absurd (cc)
+source_tells None (Going w k) rest c l q = absurd (cc)
+source_tells (Some ys) (Going w k) rest c l q =
+    let S : Stream = record { window = w; bytes = ys } in
+    let same : normal S ≡ rest = cc in
+    ap (λ x. Some x.bytes) (sym (normal_short S l) ∙ same)
+
+no_whole_byte : (s t : Standing (List Bool)) (c : ℕ) → s ≡ Going [] c → NoneEarly s t → length (window_of t) < 8
+no_whole_byte s t c e (inl l) = l
+no_whole_byte s t c e (inr same) = rw (same, e) (omega arith)
+
+starts_at : (coming : Option (List ℕ)) (bytes : List ℕ) (st : Standing (List Bool)) (c : ℕ) → coming ≡ Some bytes → st ≡ Going [] c
+    → reader_state coming st ≡ Going (Some (fresh bytes)) c
+unfolding normal
+starts_at coming bytes st c e f = rw (e, f) refl
+
+-- the bytes behind a list that was read are those that its source tells
+pub left_behind : (fs : List Field) (r : Result (List Number) DekuError) (before now : Option (List ℕ)) (s t : Standing (List Bool)) (items : List Item) (bytes after : List ℕ) (c : ℕ)
+    → Begins fs items bytes after → s ≡ Going [] c → before ≡ Some bytes → c + total (map field_shape fs) < 2 ^ 64 → NoneEarly s t
+    → ReadsBackVec fs (reader_state before s) r (reader_state now t) → OnOk r (now ≡ Some after)
+left_behind fs (Err x) before now s t items bytes after c begins stands tells room early back = tt
+left_behind fs (Ok ns) before now s t items bytes after c begins stands tells room early (inl p) = let f = p.0 in absurd (cc)
+left_behind fs (Ok ns) before now s t items bytes after c begins stands tells room early (inr b) =
+    let d = (b items bytes after c begins (starts_at before bytes s c tells stands) room).1 in
+    source_tells now t d.rest (c + total (map field_shape fs)) (no_whole_byte s t c stands early) d.stands ∙ ap Some d.behind
 
 ok_is : (x y : List Number) → ◌≡◌ {A = Result (List Number) DekuError} (Ok x) (Ok y) → x ≡ y
 ok_is x y e = cc

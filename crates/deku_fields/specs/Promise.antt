@@ -1,5 +1,5 @@
 -- What the calls on lists promise: from bytes that begin with a layout its values are read, and items are written as their layout.
-use Rattle.std.specs.Prelude.{◌≡◌, ◌⊎◌, ℕ, false, ◌+◌, ◌*◌, ◌-◌, ◌<◌, ◌≤◌, ◌^◌, length, map, take, All, MatchResult, List, ◌++◌, Option, None, Some, Result, Ok, Err}
+use Rattle.std.specs.Prelude.{◌≡◌, ◌⊎◌, ℕ, false, ◌+◌, ◌*◌, ◌-◌, ◌<◌, ◌≤◌, ◌^◌, length, map, take, All, MatchResult, OnOk, List, [], ◌++◌, Option, None, Some, Result, Ok, Err}
 use Rattle.std.specs.Global.{Vec}
 use Rattle.std.specs.declared.io.ErrorKind.TheVariants.{OutOfMemory}
 use Rattle.deku_bits.specs.declared.error.DekuError.{DekuError}
@@ -63,6 +63,13 @@ ReadsBack fs s r u = (items : List Item) (bytes after : List ℕ) (c : ℕ) → 
 -- the same in memory that is found first, or it is refused and nothing changed
 abbrev pub ReadsBackVec : List Field → Standing (Option Stream) → Result (List Number) DekuError → Standing (Option Stream) → Type 0
 ReadsBackVec fs s r u = ((r ≡ Err (Io OutOfMemory)) × (u ≡ s)) ⊎ ReadsBack fs s r u
+
+-- Where no bit of a byte was unread and the source told bytes that begin with what aligned fitting items lay out, it tells exactly those behind,
+-- when the fields were read.
+abbrev pub LeavesBehind : {R : Type 0} → (R → SourceTold) → List Field → Reader R → Result (List Number) DekuError → Reader R → Type 0
+LeavesBehind told fs old r new = (items : List Item) (bytes after : List ℕ) (c : ℕ) → Unfailing (told old.source).health (told new.source).health
+    → Begins fs items bytes after → old.state ≡ Going [] c → (told old.source).coming ≡ Some bytes → c + total (map field_shape fs) < 2 ^ 64
+    → OnOk r ((told new.source).coming ≡ Some after)
 
 -- from bytes that begin with what aligned fitting items lay out, whatever follows, the fields read exactly the items' values, and their width
 abbrev pub ReadsBackFrom : List Field → List ℕ → Result (ℕ × Vec Number) DekuError → Type 0

@@ -3,7 +3,7 @@
 ghost use Rattle.std.specs.Prelude.{◌≡◌, length};
 ghost use Rattle.deku_bits.specs.ReaderCalls.{Reads, NoneEarly};
 ghost use Rattle.deku_fields.specs.ListCalls.{ListFrom, ReadsField, ReadsFields, ReadsVec, filling, items_of};
-ghost use Rattle.deku_fields.specs.Promise.{ReadsBack, ReadsBackVec, ReadsBackFrom, ReadsWhereSound};
+ghost use Rattle.deku_fields.specs.Promise.{LeavesBehind, ReadsBack, ReadsBackVec, ReadsBackFrom, ReadsWhereSound};
 
 use crate::list::{Field, Number};
 use deku::calls::{read_signed, read_unsigned};
@@ -30,6 +30,7 @@ pub fn read_list_into<R: Source>(
     requires { length out.old ≡ length fields.now }
     ensures meaning { Reads R.told (ReadsFields fields.now) reader.old (filling result out.new) reader.new }
     ensures values { ReadsWhereSound R.told (ReadsBack fields.now) reader.old (filling result out.new) reader.new }
+    ensures behind { LeavesBehind R.told fields.now reader.old (filling result out.new) reader.new }
     ensures early { NoneEarly reader.old.state reader.new.state }
 {
     for (place, field) in fields.iter().enumerate() {
@@ -65,6 +66,7 @@ pub fn read_list<R: Source>(
 ) -> Result<Vec<Number>, DekuError>
     ensures meaning { Reads R.told (ReadsVec fields.now) reader.old (items_of result) reader.new }
     ensures values { ReadsWhereSound R.told (ReadsBackVec fields.now) reader.old (items_of result) reader.new }
+    ensures behind { LeavesBehind R.told fields.now reader.old (items_of result) reader.new }
     ensures early { NoneEarly reader.old.state reader.new.state }
 {
     let Ok(mut numbers) = vec![in reader.alloc(); Number::Unsigned(0); fields.len()] else {

@@ -1,7 +1,7 @@
 use Rattle.std.proofs.Common.{refl, inr, ◌∙◌, arith}
 use Rattle.std.proofs.lemmas.List.{length-set}
 use Rattle.deku_fields.proofs.Stepping.{early_on, started, field_read, field_refused, fields_read}
-use Rattle.deku_fields.proofs.ReadBack.{fields_back}
+use Rattle.deku_fields.proofs.ReadBack.{fields_back, left_behind}
 use Rattle.deku_fields.proofs.read.read_list_into.Goals as goal
 
 pub loop-place-init : goal.loop-place-init
@@ -28,3 +28,7 @@ returns-in-Err-clause-values g c = fields_back c.args.fields.now (returns-in-Err
 
 pub returns-in-Err-clause-early : goal.returns-in-Err-clause-early
 returns-in-Err-clause-early g c = early_on c.loop-place.invariant.2 c.in-Err.ensures.early
+
+pub returns-clause-behind : goal.returns-clause-behind
+returns-clause-behind g c = λ items bytes after k calm begins stands tells room.
+    left_behind c.args.fields.now _ _ _ _ _ items bytes after k begins stands tells room c.loop-place.invariant.2 (inr (returns-clause-values g c calm))
