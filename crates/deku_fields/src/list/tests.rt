@@ -188,10 +188,19 @@ fn writes_thirteen_bits(rt: HostRuntime) -> Result<(), Fail> {
     assert_eq!(rt; bytes.as_slice(), [0xFF, 0x1F].as_slice());
     let misfit = "bit size of input is larger than requested size";
     assert_eq!(rt;
-        list_to_bytes(alloc, &[thirteen(0x1020)]).err(),
+        refusal(list_to_bytes(alloc, &[thirteen(0x1020)]))?,
         Some(DekuError::InvalidParam(misfit))
     );
     Ok(())
+}
+
+// Why a call was refused, if it was. Want of memory, which nobody asked for, is handed on.
+fn refusal<T: Drop>(answer: Result<T, DekuError>) -> Result<Option<DekuError>, DekuError> {
+    match answer {
+        Ok(_) => Ok(None),
+        Err(error) if error == NO_MEMORY => Err(error),
+        Err(error) => Ok(Some(error)),
+    }
 }
 
 #[test]
@@ -200,15 +209,15 @@ fn refuses_lists(rt: HostRuntime) -> Result<(), Fail> {
     let wide = [big_msb(Kind::U8, Size::Bits(9), 0)];
     let outside = [big_msb(Kind::U8, Size::Whole, 300)];
     assert_eq!(rt;
-        list_from_bytes(alloc, &[0, 0], &[wide[0].field]).err(),
+        refusal(list_from_bytes(alloc, &[0, 0], &[wide[0].field]))?,
         Some(DekuError::Parse("too much data"))
     );
     assert_eq!(rt;
-        list_to_bytes(alloc, &wide).err(),
+        refusal(list_to_bytes(alloc, &wide))?,
         Some(DekuError::InvalidParam("bit size is larger than input"))
     );
     assert_eq!(rt;
-        list_to_bytes(alloc, &outside).err(),
+        refusal(list_to_bytes(alloc, &outside))?,
         Some(DekuError::InvalidParam("value outside type"))
     );
     Ok(())
@@ -223,11 +232,11 @@ fn ends_inside_a_list(rt: HostRuntime) -> Result<(), Fail> {
         let ended = Some(DekuError::Incomplete(NeedSize::new(wanted)));
         let (input, _) = bytes.split_at(length);
         assert_eq!(rt;
-            list_from_bytes(alloc, input, fields.as_slice()).err(),
+            refusal(list_from_bytes(alloc, input, fields.as_slice()))?,
             ended
         );
         let mut reader = Reader::new(alloc, Cursor::new(input));
-        assert_eq!(rt; read_list(&mut reader, fields.as_slice()).err(), ended);
+        assert_eq!(rt; refusal(read_list(&mut reader, fields.as_slice()))?, ended);
         assert_eq!(rt; reader.bits_read(), read);
     }
     Ok(())

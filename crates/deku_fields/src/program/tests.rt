@@ -1,6 +1,7 @@
 //! Runs of the program: words, the input, and what it answers, prints and complains.
 
 use super::run;
+use deku::error::DekuError;
 use std::alloc::{AllocError, Global};
 use std::io;
 use std::io::{Cursor, Error, ErrorKind, Read, Write};
@@ -16,6 +17,34 @@ fn arguments(alloc: Global, words: &[&str]) -> Result<Vec<String>, AllocError> {
     Ok(args)
 }
 
+// The program, run on words, ends with this status and complains so. Want of memory, which nobody asked for, is handed on.
+fn expect_end<R: Read, W: Write>(
+    rt: &impl Abort,
+    alloc: Global,
+    words: &[&str],
+    input: &mut R,
+    output: &mut W,
+    want: (u8, &str),
+) -> Result<(), Fail> {
+    let args = arguments(alloc, words)?;
+    let mut complaints = [0u8; 128];
+    let mut errors = Cursor::new(complaints.as_mut_slice());
+    let status = run(alloc, args.as_slice(), input, output, &mut errors);
+    let told = errors.position() as usize;
+    assert!(rt; told <= complaints.len());
+    if &complaints[..told] == NO_MEMORY.as_bytes() {
+        assert_eq!(rt; status, 1, "status of {words:?}");
+        return Err(Fail::from(DekuError::Io(ErrorKind::OutOfMemory)));
+    }
+    assert_eq!(rt;
+        &complaints[..told],
+        want.1.as_bytes(),
+        "errors of {words:?}"
+    );
+    assert_eq!(rt; status, want.0, "status of {words:?}");
+    Ok(())
+}
+
 // The program, run on words over text in memory, ends so.
 fn expect(
     rt: &impl Abort,
@@ -24,20 +53,22 @@ fn expect(
     input: &str,
     want: (u8, &str, &str),
 ) -> Result<(), Fail> {
-    let args = arguments(alloc, words)?;
-    let mut output: Vec<u8> = Vec::new(alloc);
-    let mut errors: Vec<u8> = Vec::new(alloc);
-    let status = run(
-        alloc,
-        args.as_slice(),
-        &mut input.as_bytes(),
-        &mut output,
-        &mut errors,
-    );
-    assert_eq!(rt; errors.as_slice(), want.2.as_bytes(), "errors of {words:?}");
-    assert_eq!(rt; output.as_slice(), want.1.as_bytes(), "output of {words:?}");
-    assert_eq!(rt; status, want.0, "status of {words:?}");
-    Ok(())
+    let mut page = [0u8; 64];
+    let mut output = Cursor::new(page.as_mut_slice());
+    let mut text = input.as_bytes();
+    let ended = expect_end(rt, alloc, words, &mut text, &mut output, (want.0, want.2));
+    let written = output.position() as usize;
+    match ended {
+        Ok(()) => {
+            assert!(rt; written <= page.len());
+            assert_eq!(rt; &page[..written], want.1.as_bytes(), "output of {words:?}");
+            Ok(())
+        }
+        Err(refused) => {
+            assert_eq!(rt; written, 0, "output of {words:?}");
+            Err(refused)
+        }
+    }
 }
 
 const MISFIT: &str =
@@ -167,85 +198,35 @@ impl Write for Broken {
 #[test]
 fn tells_of_failing_streams(rt: HostRuntime) -> Result<(), Fail> {
     let alloc = rt.alloc();
-    let want = b"error: io errorr: Other\n";
-    let args = arguments(alloc, &["read", "u8"])?;
-    let mut output: Vec<u8> = Vec::new(alloc);
-    let mut errors: Vec<u8> = Vec::new(alloc);
-    let status = run(
-        alloc,
-        args.as_slice(),
-        &mut Broken,
-        &mut output,
-        &mut errors,
-    );
-    assert_eq!(rt; status, 1);
-    assert_eq!(rt; output.len(), 0);
-    assert_eq!(rt; errors.as_slice(), want.as_slice());
-    let args = arguments(alloc, &["write", "u8=1"])?;
-    let mut errors: Vec<u8> = Vec::new(alloc);
-    let status = run(
-        alloc,
-        args.as_slice(),
-        &mut "".as_bytes(),
-        &mut Broken,
-        &mut errors,
-    );
-    assert_eq!(rt; status, 1);
-    assert_eq!(rt; errors.as_slice(), want.as_slice());
-    let args = arguments(alloc, &["write", "u9=1"])?;
-    assert_eq!(rt;
-        run(
-            alloc,
-            args.as_slice(),
-            &mut "".as_bytes(),
-            &mut Broken,
-            &mut Broken
-        ),
-        2
-    );
-    Ok(())
-}
-
-// The program, run on words over text and into memory that is there already, ends so; or it finds no memory and says so.
-fn expect_or_no_memory(
-    rt: &impl Abort,
-    alloc: Global,
-    words: &[&str],
-    input: &str,
-    want: &str,
-) -> Result<(), Fail> {
-    let Ok(args) = arguments(alloc, words) else {
-        return Ok(());
-    };
-    let mut page = [0u8; 64];
-    let mut complaints = [0u8; 64];
+    let fault = "error: io errorr: Other\n";
+    let mut page = [0u8; 8];
     let mut output = Cursor::new(page.as_mut_slice());
-    let mut errors = Cursor::new(complaints.as_mut_slice());
-    let status = run(
+    expect_end(
+        &rt,
         alloc,
-        args.as_slice(),
-        &mut input.as_bytes(),
+        &["read", "u8"],
+        &mut Broken,
         &mut output,
-        &mut errors,
-    );
-    let (written, told) = (output.position() as usize, errors.position() as usize);
-    assert!(rt; written <= page.len() && told <= complaints.len());
-    if status == 0 {
-        assert_eq!(rt; &page[..written], want.as_bytes());
-        assert_eq!(rt; told, 0);
-    } else {
-        assert_eq!(rt; status, 1);
-        assert_eq!(rt; written, 0);
-        assert_eq!(rt; &complaints[..told], NO_MEMORY.as_bytes());
-    }
-    Ok(())
+        (1, fault),
+    )?;
+    assert_eq!(rt; output.position(), 0);
+    let mut none = "".as_bytes();
+    expect_end(
+        &rt,
+        alloc,
+        &["write", "u8=1"],
+        &mut none,
+        &mut Broken,
+        (1, fault),
+    )
 }
 
 #[test]
-fn runs_or_finds_no_memory(rt: HostRuntime) -> Result<(), Fail> {
+fn ends_though_nobody_listens(rt: HostRuntime) -> Result<(), Fail> {
     let alloc = rt.alloc();
-    let write = &["write", "u8,big,bits4=6", "u8,big,bits4=9", "u16,big=49406"];
-    expect_or_no_memory(&rt, alloc, write, "", "69c0fe\n")?;
-    let read = &["read", "u8,big,bits4", "u8,big,bits4", "u16,big"];
-    expect_or_no_memory(&rt, alloc, read, "69c0fe", "6\n9\n49406\nbits 24\n")
+    let args = arguments(alloc, &["write", "u9=1"])?;
+    let (mut input, mut output, mut errors) = (Broken, Broken, Broken);
+    let status = run(alloc, args.as_slice(), &mut input, &mut output, &mut errors);
+    assert_eq!(rt; status, 2);
+    Ok(())
 }
