@@ -162,3 +162,6 @@ macro_rules! deku_error {
         $variant($text)
     }};
 }
+
+#[cfg(test)]
+mod tests;

@@ -138,3 +138,6 @@ impl Sink for FailAt<&mut [u8]> {
         Ok(())
     }
 }
+
+#[cfg(test)]
+mod tests;
