@@ -71,6 +71,8 @@ fn expect_written(rt: &impl Abort, way: Way, n: u8) -> Result<(), Fail> {
     if n <= way.calls() {
         assert_eq!(rt; write(&mut writer, way), Err(FAILED), "{way:?} at {n}");
         expect_failed(rt, &mut writer, way);
+        let place = writer.seek(SeekFrom::Current(0))?;
+        assert_eq!(rt; place, u64::from(n), "the place of {way:?} at {n}");
         assert_eq!(rt; writer.seek(SeekFrom::Start(1))?, 1);
     }
     assert_eq!(rt; write(&mut writer, way), Ok(()), "{way:?} at {n}");

@@ -117,6 +117,8 @@ fn expect_taken(rt: &impl Abort, alloc: Global, way: Way, n: u8) -> Result<(), F
             "{way:?} at {n}"
         );
         expect_failed(rt, &mut reader, way)?;
+        let place = reader.seek(SeekFrom::Current(0))?;
+        assert_eq!(rt; place, u64::from(n), "the place of {way:?} at {n}");
         assert_eq!(rt; reader.seek(SeekFrom::Start(1))?, 1);
         assert_eq!(rt; reader.bits_read(), 8);
     }
