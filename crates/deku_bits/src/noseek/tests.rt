@@ -6,7 +6,7 @@ use crate::error::DekuError;
 use crate::reader::Reader;
 use crate::writer::Writer;
 use std::io;
-use std::io::{ErrorKind, Read, Seek, SeekFrom, Write};
+use std::io::{BufWriter, ErrorKind, Read, Seek, SeekFrom, Write};
 use std::test::Fail;
 
 const REFUSED: DekuError = DekuError::Io(ErrorKind::Other);
@@ -111,5 +111,19 @@ fn writes_without_a_seek(rt: HostRuntime) -> Result<(), Fail> {
         stream.into_inner().as_slice(),
         [0xAA, 0xBB, 0xDD, 0xEE, 0xFF, 0x01].as_slice()
     );
+    Ok(())
+}
+
+// What a stream holds back goes on where it is flushed.
+#[test]
+fn flushes_the_stream_inside(rt: HostRuntime) -> Result<(), Fail> {
+    let mut bytes = [0; 2];
+    let buffered = BufWriter::new(rt.alloc(), bytes.as_mut_slice())?;
+    let mut stream = NoSeek::new(buffered);
+    stream.write_all(&[0xAA, 0xBB])?;
+    assert_eq!(rt; stream.get_ref().buffer(), [0xAA, 0xBB].as_slice());
+    stream.flush()?;
+    assert!(rt; stream.get_ref().buffer().is_empty());
+    assert_eq!(rt; stream.stream_position()?, 2);
     Ok(())
 }
