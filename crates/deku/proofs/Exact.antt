@@ -1,7 +1,6 @@
 -- Meanings that leave no choice, one after the other.
-use Rattle.std.proofs.Common.{◌≡◌, ℕ, ◌+◌, ◌*◌, ◌<◌, ◌≤◌, ◌^◌, false, Result, Ok, Err, Option, Some, List, length, refl, ap, sym, ◌∙◌, inl, inr, arith}
+use Rattle.std.proofs.Common.{◌≡◌, ℕ, ◌+◌, ◌<◌, ◌^◌, Result, Ok, Err, Some, refl, ap, ◌∙◌, inl, inr, arith}
 use Rattle.deku_bits.specs.declared.ctx.Order.{Order}
-use Rattle.deku_bits.specs.declared.error.DekuError.{DekuError}
 use Rattle.deku_bits.specs.Streams.{Stream, Has, taken, left}
 use Rattle.deku_bits.specs.Standings.{Standing, Going}
 use Rattle.deku_bits.specs.Outcomes.{Meaning, Mapped, Value, Refusal}
@@ -9,7 +8,7 @@ use Rattle.deku_bits.specs.ReaderCalls.{Takes}
 use Rattle.deku_num.specs.declared.kind.NumberType.{NumberType}
 use Rattle.deku_num.specs.declared.ctx.Layout.{Layout}
 use Rattle.deku_num.specs.Numbers.{width, value, IsAllowed}
-use Rattle.deku_num.specs.NumberCalls.{Checked, Refused, Passed, ReadsNumber}
+use Rattle.deku_num.specs.NumberCalls.{Refused, Passed, ReadsNumber}
 use Rattle.deku.specs.Composing.{Answer, Answered, Then, Second, First}
 use Rattle.deku.specs.Giving.{Gives}
 

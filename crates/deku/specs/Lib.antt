@@ -8,8 +8,13 @@ pub use Rattle.deku_bits.specs.Standings
 pub use Rattle.deku_bits.specs.Outcomes
 pub use Rattle.deku_bits.specs.ReaderCalls
 pub use Rattle.deku_bits.specs.WriterCalls
+pub use Rattle.deku_bits.specs.Faults
+pub use Rattle.deku_bits.specs.Cursors
+pub use Rattle.deku_bits.specs.Seeking
 pub use Rattle.deku_num.specs.Numbers
 pub use Rattle.deku_num.specs.NumberLaws
 pub use Rattle.deku_num.specs.NumberCalls
+pub use Rattle.deku_num.specs.Contexts
+pub use Rattle.deku_num.specs.Sizes
 pub mod Composing
 pub mod Giving

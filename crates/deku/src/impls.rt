@@ -1,4 +1,6 @@
 //! What can be read and written.
 
 mod primitive;
+#[cfg(test)]
+mod tests;
 mod tuple;

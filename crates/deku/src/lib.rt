@@ -2,10 +2,12 @@
 #![tactic(auto)]
 
 mod impls;
+mod macros;
 mod traits;
 
 pub use deku_bits::bounded::BoundedBitVec;
 pub use deku_bits::error::DekuError;
-pub use deku_bits::{bounded, device, error, reader, writer};
+pub use deku_bits::{bounded, device, error, noseek, probe, reader, writer};
+pub use deku_num::size::{DekuSize, DekuSizeConst};
 pub use deku_num::{calls, ctx, kind, size};
 pub use traits::{DekuReader, DekuWriter};

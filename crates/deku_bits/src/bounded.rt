@@ -284,3 +284,6 @@ fn with_bit(byte: u8, place: usize, bit: bool) -> u8
         byte - WEIGHTS[place]
     }
 }
+
+#[cfg(test)]
+mod tests;

@@ -1,9 +1,12 @@
 //! Devices for tests of codecs: a source and sink that fails once.
 
-ghost use Rattle.std.specs.Prelude.{◌≡◌, ◌≢◌, ◌<◌, [], ◌∷◌, OnOk, IfOk, IfErr};
-ghost use Rattle.std.specs.Io.KnownBytes.{Consumes};
+ghost use Rattle.std.specs.Prelude.{◌≡◌, ◌≢◌, ◌<◌, ◌≤◌, ◌-◌, min, [], ◌∷◌, Some, None, length, OnOk, OnErr, IfOk, IfErr, IsOk};
+ghost use Rattle.std.specs.Io.{ReadsAtMost, WritesAtMost};
+ghost use Rattle.std.specs.Io.Cursor.{cursor_position, cursor_inner, cursor_remaining};
+ghost use Rattle.std.specs.Io.KnownBytes.{Consumes, Keeps, ReadConsumes, WriteAppends};
+ghost use Rattle.std.specs.Io.Seek.{SeekMoves};
 ghost use Rattle.std.specs.IoError.{error_kind};
-ghost use Rattle.deku_bits.specs.Cursors.{failures_at, failing_source, failing_sink};
+ghost use Rattle.deku_bits.specs.Cursors.{cursor_told, failing_source, failing_sink};
 ghost use Rattle.deku_bits.specs.Devices.{NoFewerFailures, MoreFailures, FewerThan, StaysEmpty, Gave, Declined};
 
 use crate::device::{Sink, Source};
@@ -45,9 +48,9 @@ impl<B> FailAt<B> {
     // One call more, which may be the one that fails.
     fn call(&mut self) -> io::Result<()>
         ensures inner { self.new.inner ≡ self.old.inner }
-        ensures ok { OnOk result (failures_at self.new.left ≡ failures_at self.old.left) }
-        ensures kind { IfErr result (λ e. error_kind e ≡ ErrorKind.Other) }
-        ensures failed { IfErr result (λ e. failures_at self.old.left < failures_at self.new.left) }
+        ensures left { self.new.left ≡ self.old.left - 1 }
+        ensures ok { OnOk result (self.old.left ≢ 1) }
+        ensures err { IfErr result (λ e. (self.old.left ≡ 1) × (error_kind e ≡ ErrorKind.Other)) }
     {
         if self.left == 0 {
             return Ok(());
@@ -61,7 +64,14 @@ impl<B> FailAt<B> {
 }
 
 impl<B: AsBytes> Read for FailAt<B> {
-    fn read(&mut self, buf: &mut [u8]) -> io::Result<usize> {
+    ghost remaining = { λ s. cursor_remaining B.bytes s.inner };
+
+    fn read(&mut self, buf: &mut [u8]) -> io::Result<usize>
+        ensures bound { ReadsAtMost result buf.new }
+        ensures bytes { ReadConsumes (cursor_remaining B.bytes self.old.inner) (cursor_remaining B.bytes self.new.inner) result buf.new }
+        ensures one { IfOk result (λ n. n ≤ 1) }
+        ensures failed { OnErr result (self.old.left ≡ 1) }
+    {
         self.call()?;
         let most = buf.len().min(1);
         self.inner.read(&mut buf[..most])
@@ -69,7 +79,15 @@ impl<B: AsBytes> Read for FailAt<B> {
 }
 
 impl<B: AsBytes> Seek for FailAt<B> {
-    fn seek(&mut self, to: SeekFrom) -> io::Result<u64> {
+    ghost stream_position = { λ s. Some (cursor_position s.inner) };
+
+    ghost stream_bytes = { λ s. B.bytes (cursor_inner s.inner) };
+
+    fn seek(&mut self, to: SeekFrom) -> io::Result<u64>
+        ensures moves { SeekMoves (Some (cursor_position self.old.inner)) (Some (cursor_position self.new.inner)) (B.bytes (cursor_inner self.old.inner)) to result }
+        ensures bytes { Keeps (B.bytes (cursor_inner self.old.inner)) (B.bytes (cursor_inner self.new.inner)) }
+        ensures failed { IfErr result (λ e. error_kind e ≡ ErrorKind.Other → self.old.left ≡ 1) }
+    {
         self.call()?;
         self.inner.seek(to)
     }
@@ -92,7 +110,7 @@ fn fetch_byte<B: AsBytes>(source: &mut FailAt<B>) -> io::Result<u8>
 impl<B: AsBytes> Source for FailAt<B> {
     ghost told = { λ s. failing_source B.bytes s };
 
-    ghost told_by_place = { λ s at all p. Prim.cc };
+    ghost told_by_place = { λ s at all. cursor_told B.bytes s.inner at all };
 
     fn fetch(&mut self, buf: &mut [u8]) -> io::Result<()> {
         for place in buf.iter_mut() {
@@ -108,13 +126,22 @@ impl<B: AsBytes> Source for FailAt<B> {
 }
 
 impl Write for FailAt<&mut [u8]> {
-    fn write(&mut self, buf: &[u8]) -> io::Result<usize> {
+    fn write(&mut self, buf: &[u8]) -> io::Result<usize>
+        ensures bound { WritesAtMost result buf.now }
+        ensures bytes { WriteAppends None None result buf.now }
+        ensures one { IfOk result (λ n. n ≡ min (min (length buf.now) 1) (length (cursor_inner self.old.inner).now - cursor_position self.old.inner)) }
+        ensures failed { OnErr result (self.old.left ≡ 1) }
+    {
         self.call()?;
         let most = buf.len().min(1);
         self.inner.write(&buf[..most])
     }
 
-    fn flush(&mut self) -> io::Result<()> {
+    fn flush(&mut self) -> io::Result<()>
+        ensures bytes { Keeps None None }
+        ensures ok { IsOk result }
+        ensures stays { self.new ≡ self.old }
+    {
         Ok(())
     }
 }

@@ -6,3 +6,11 @@ pub mod Stepping
 pub mod Whole
 pub mod ReadBack
 pub mod Rewritten
+pub mod Sound
+pub mod Padded
+pub mod Digits
+pub mod FirstComma
+pub mod Named
+pub mod Numerals
+pub mod NamedItems
+pub mod Runs

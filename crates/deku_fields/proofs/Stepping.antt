@@ -1,11 +1,12 @@
 -- Lists of fields and items, one after the other: what is known on the way.
-use Rattle.std.proofs.Common.{◌≡◌, ℕ, ◌+◌, ◌<◌, ◌≤◌, true, false, Result, Ok, Err, Option, List, [], ◌∷◌, ◌++◌, length, get_or, set, take, drop, ℤ, pos, refl, ap, sym, ◌∙◌, subst, append_assoc, append-nil}
+use Rattle.std.proofs.Common.{◌≡◌, ℕ, ◌+◌, ◌<◌, ◌≤◌, Bool, true, false, inl, inr, Result, Ok, Err, Option, List, [], ◌∷◌, ◌++◌, length, get_or, set, take, drop, ℤ, pos, refl, ap, sym, ◌∙◌, subst, append_assoc, append-nil}
 use Rattle.std.proofs.lemmas.List.{drop_more, drop_all, take_all, take_more_set}
 use Rattle.deku_bits.specs.declared.error.DekuError.{DekuError}
 use Rattle.deku_bits.specs.Streams.{Stream}
 use Rattle.deku_bits.specs.Devices.{Health}
 use Rattle.deku_bits.specs.Standings.{Standing, Output}
 use Rattle.deku_bits.specs.Outcomes.{Meaning, Outcome, Mapped}
+use Rattle.deku_bits.specs.ReaderCalls.{NoneEarly}
 use Rattle.deku_bits.proofs.Handing.{mapped_ok, mapped_err}
 use Rattle.deku_num.specs.NumberCalls.{ReadsNumber}
 use Rattle.deku.proofs.Joining.{first_refused, then_on, answered}
@@ -29,6 +30,11 @@ unsigned_field f {v} {s} {h} {u} {g} e o =
     subst (λ n. Outcome (ReadsField f) s h (Ok n) u g) (ap (λ b. number_of b (pos v)) e) (mapped_ok (number_of (number_type f.kind).signed) o)
 
 -- ---- fields
+-- no byte is fetched too early in two calls
+pub early_on : {s t u : Standing (List Bool)} → NoneEarly s t → NoneEarly t u → NoneEarly s u
+early_on p (inl q) = inl q
+early_on {s} p (inr e) = subst (NoneEarly s) (sym e) p
+
 -- numbers in front of those that are answered
 abbrev pub with_front : List Number → Result (List Number) DekuError → Result (List Number) DekuError
 with_front ns (Ok ms) = Ok (ns ++ ms)

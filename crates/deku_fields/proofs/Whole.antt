@@ -19,7 +19,8 @@ use Rattle.deku_num.specs.NumberCalls.{Refused, Passed}
 use Rattle.deku.specs.Composing.{Answered, Second, First, Both}
 use Rattle.deku_fields.specs.declared.list.Item.{Item}
 use Rattle.deku_fields.specs.Items.{IsFitting, AlignedFields, LaysOut, fields_of}
-use Rattle.deku_fields.specs.ListCalls.{IsCountable, WritesItem, WritesItems, in_memory}
+use Rattle.deku_fields.specs.ListCalls.{WritesItem, WritesItems, in_memory}
+use Rattle.deku_fields.specs.Promise.{IsCountable}
 use Rattle.deku_fields.proofs.FieldLists.{piece_law, written}
 use Rattle.deku_fields.proofs.WritingLists.{Wrote, Done, Lacking, Full, emitted, items_wrote, followed_wrote}
 

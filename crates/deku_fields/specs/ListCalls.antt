@@ -1,12 +1,10 @@
 -- What the calls on lists of fields do.
-use Rattle.std.specs.Prelude.{◌≡◌, ◌⊎◌, ℕ, ◌-◌, ◌<◌, ◌*◌, ◌^◌, length, map, take, All, MatchResult, Bool, true, false, List, [], ◌∷◌, ◌++◌, Option, None, Some, Result, Ok, Err, codes, ℤ, pos, negsuc}
+use Rattle.std.specs.Prelude.{◌≡◌, ◌⊎◌, ℕ, Bool, true, false, List, [], ◌∷◌, Option, None, Some, Result, Ok, Err, codes, ℤ, pos, negsuc}
 use Rattle.std.specs.Global.{Vec}
 use Rattle.deku_bits.specs.declared.error.DekuError.{DekuError}
 use Rattle.deku_bits.specs.declared.error.DekuError.TheVariants.{InvalidParam, Io}
 use Rattle.std.specs.declared.io.ErrorKind.TheVariants.{OutOfMemory}
 use Rattle.deku_bits.specs.Streams.{Stream, fresh}
-use Rattle.deku_bits.specs.declared.ctx.Order.TheVariants.{Msb0}
-use Rattle.deku_bits.specs.Pieces.{total, cleared, last_order}
 use Rattle.deku_bits.specs.Writers.{Nothing}
 use Rattle.deku_bits.specs.Standings.{Standing, Going, Output, count_of}
 use Rattle.deku_bits.specs.Outcomes.{Meaning, Refuses, Mapped}
@@ -18,7 +16,7 @@ use Rattle.deku_fields.specs.declared.list.Number.TheVariants.{Unsigned, Signed}
 use Rattle.deku_fields.specs.declared.list.Kind.{Kind}
 use Rattle.deku_fields.specs.declared.list.Field.{Field}
 use Rattle.deku_fields.specs.declared.list.Item.{Item}
-use Rattle.deku_fields.specs.Items.{number_type, field_shape, IsAllowedField, IsFitting, AlignedFields, LaysOut, Reads, fields_of, values_of}
+use Rattle.deku_fields.specs.Items.{number_type}
 
 -- ---- reading
 -- an integer as a number of a kind without a sign, or with one
@@ -75,16 +73,6 @@ abbrev pub WritesWhole : Meaning Output (Unit {0}) → Result (Vec ℕ) DekuErro
 WritesWhole m (Ok v) = (out : Output) × (c : ℕ) × m false (Going in_memory 0) (Ok tt) (Going out c) × (out.taken ≡ Some v.items)
 WritesWhole m (Err e) = (u : Standing Output) × m false (Going in_memory 0) (Err e) u
 
--- the bits of the bytes that items lay out can be counted
-abbrev pub IsCountable : List Item → Type 0
-IsCountable items = (bytes : List ℕ) → LaysOut items bytes → 8 * length bytes < 2 ^ 64
-
--- items whose aligned fields read their values from bytes are written as the bytes taken, unread bits zero
-abbrev pub WritesBack : List Item → Result (Vec ℕ) DekuError → Type 0
-WritesBack items r = (bytes : List ℕ) (T : Stream) → All IsAllowedField (fields_of items) → AlignedFields (fields_of items) → IsCountable items
-    → All (λ b. b < 256) bytes → Reads (fields_of items) (fresh bytes) (values_of items) T
-    → MatchResult r (λ v. v.items ≡ cleared (last_order Msb0 (map field_shape (fields_of items))) (length T.window) (take (length bytes - length T.bytes) bytes)) (λ e. e ≡ Io OutOfMemory)
-
 -- fields are read into memory that is found first, or it is refused and nothing changed
 abbrev pub ReadsVec : List Field → Meaning (Option Stream) (List Number)
 ReadsVec fs b s r u = ((b ≡ false) × (r ≡ Err (Io OutOfMemory)) × (u ≡ s)) ⊎ ReadsFields fs b s r u
@@ -93,12 +81,6 @@ ReadsVec fs b s r u = ((b ≡ false) × (r ≡ Err (Io OutOfMemory)) × (u ≡ s
 abbrev pub ListFrom : List Field → List ℕ → Result (ℕ × Vec Number) DekuError → Type 0
 ListFrom fs bytes (Ok v) = (u : Standing (Option Stream)) × ReadsVec fs false (Going (Some (fresh bytes)) 0) (Ok v.1.items) u × (v.0 ≡ count_of u)
 ListFrom fs bytes (Err e) = (u : Standing (Option Stream)) × ReadsVec fs false (Going (Some (fresh bytes)) 0) (Err e) u
-
--- from bytes that begin with what aligned fitting items lay out, whatever follows, their fields read their values and their width
-abbrev pub ReadsBack : List Field → List ℕ → Result (ℕ × Vec Number) DekuError → Type 0
-ReadsBack fs bytes r = (items : List Item) (written after : List ℕ) → All IsFitting items → fields_of items ≡ fs → AlignedFields fs → LaysOut items written
-    → bytes ≡ written ++ after → total (map field_shape fs) < 2 ^ 64
-    → MatchResult r (λ v. (v.0 ≡ total (map field_shape fs)) × (v.1.items ≡ values_of items)) (λ e. e ≡ Io OutOfMemory)
 
 -- what was read, where the call succeeds
 abbrev pub items_of : Result (Vec Number) DekuError → Result (List Number) DekuError

@@ -1,6 +1,7 @@
 //! Laws of lists of fields: each is what an empty function ensures.
 
 ghost use Rattle.deku_fields.specs.Headline.{PieceLaw, LayoutLaw, ThereLaw, BackLaw, CallsLaw};
+ghost use Rattle.deku_fields.specs.Promise.{PaddedLaw};
 ghost use Rattle.deku_fields.specs.Rows.{ListRows, TurnedRows, MisfitRows};
 
 /// Fitting items have pieces, and these pieces alone.
@@ -16,6 +17,11 @@ pub fn layout_law()
 /// Aligned fitting items are written as their layout, and reading it gives their values and leaves the bytes behind.
 pub fn there_law()
     ensures { ThereLaw }
+{}
+
+/// Items written by `write_list`, and padded once by `finalize`, give the sink exactly what they lay out, where it has the room.
+pub fn padded_law()
+    ensures { PaddedLaw }
 {}
 
 /// What aligned fields read from a boundary is written as the bytes taken, unread bits zero.

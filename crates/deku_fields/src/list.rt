@@ -105,3 +105,6 @@ pub struct Item {
     pub field: Field,
     pub value: Number,
 }
+
+#[cfg(test)]
+mod tests;

@@ -1,6 +1,15 @@
 //! The program: from words on a command line to bytes and back.
 
-ghost use Rattle.std.specs.Prelude.{◌≤◌};
+ghost use Rattle.std.specs.Prelude.{◌≡◌, ◌≢◌, ◌≤◌, List, flat_map, IfSome, IfOk, OnOk, IfErr, string_bytes};
+ghost use Rattle.std.specs.List.{AllZip};
+ghost use Rattle.std.specs.IoError.{error_kind};
+ghost use Rattle.std.specs.declared.io.ErrorKind.TheVariants.{OutOfMemory};
+ghost use Rattle.deku_bits.specs.declared.error.DekuError.TheVariants.{Io};
+ghost use Rattle.deku_fields.specs.declared.program.Failure.TheVariants.{Fault, Usage};
+ghost use Rattle.deku_fields.specs.declared.list.Item.{Item as ListItem};
+ghost use Rattle.deku_fields.specs.declared.list.Field.{Field as ListField};
+ghost use Rattle.deku_fields.specs.Naming.{NamesField, NamesItem};
+ghost use Rattle.deku_fields.specs.Runs.{words_of, line, number_text, IsHexText, LosesNewline, IsDone, AreNoForm, ShowsRead, ShowsWritten};
 
 use crate::list::{Field, Item, Number};
 use crate::read::list_from_bytes;
@@ -25,24 +34,32 @@ enum Failure {
 }
 
 impl From<DekuError> for Failure {
+    ghost from_gives = { λ fault e. e ≡ Fault fault };
+
     fn from(fault: DekuError) -> Failure {
         Failure::Fault(fault)
     }
 }
 
 impl From<io::Error> for Failure {
+    ghost from_gives = { λ error e. e ≡ Fault (Io (error_kind error)) };
+
     fn from(error: io::Error) -> Failure {
         Failure::Fault(DekuError::Io(error.kind()))
     }
 }
 
 impl<T: Drop> From<AllocFailed<T>> for Failure {
+    ghost from_gives = { λ _ e. e ≡ Fault (Io OutOfMemory) };
+
     fn from(_failed: AllocFailed<T>) -> Failure {
         Failure::Fault(DekuError::Io(ErrorKind::OutOfMemory))
     }
 }
 
 impl From<AllocError> for Failure {
+    ghost from_gives = { λ _ e. e ≡ Fault (Io OutOfMemory) };
+
     fn from(_error: AllocError) -> Failure {
         Failure::Fault(DekuError::Io(ErrorKind::OutOfMemory))
     }
@@ -61,7 +78,10 @@ pub fn run<R: Read, W: Write, E: Write>(
     output: &mut W,
     errors: &mut E,
 ) -> u8
-    ensures { result ≤ 2 }
+    ensures status { result ≤ 2 }
+    ensures done { result ≡ 0 → IsDone (words_of args.now) (R.remaining input.old) (W.contents output.old) (W.contents output.new) }
+    ensures quiet { result ≡ 0 → errors.new ≡ errors.old }
+    ensures usage { result ≡ 2 → AreNoForm (words_of args.now) × (input.new ≡ input.old) × (output.new ≡ output.old) }
 {
     let Err(failure) = command(alloc, args, input, output) else {
         return 0;
@@ -87,7 +107,10 @@ fn command<R: Read, W: Write>(
     args: &[String],
     input: &mut R,
     output: &mut W,
-) -> Result<(), Failure> {
+) -> Result<(), Failure>
+    ensures done { OnOk result (IsDone (words_of args.now) (R.remaining input.old) (W.contents output.old) (W.contents output.new)) }
+    ensures usage { IfErr result (λ e. e ≡ Usage → AreNoForm (words_of args.now) × (input.new ≡ input.old) × (output.new ≡ output.old)) }
+{
     let [name, specs @ ..] = args else {
         return Err(Failure::Usage);
     };
@@ -101,7 +124,10 @@ fn command<R: Read, W: Write>(
 }
 
 // The bytes of the items that the words name, as a line of hexadecimal text.
-fn written(alloc: Global, specs: &[String]) -> Result<String, Failure> {
+fn written(alloc: Global, specs: &[String]) -> Result<String, Failure>
+    ensures shown { IfOk result (λ text. ShowsWritten (words_of specs.now) (string_bytes text)) }
+    ensures usage { IfErr result (λ e. e ≡ Usage → (items : List ListItem) → AllZip NamesItem (words_of specs.now) items → ⊥) }
+{
     let mut items: Vec<Item> = Vec::new(alloc);
     for word in specs {
         let Some(item) = parse_item(word.as_str()) else {
@@ -116,7 +142,23 @@ fn written(alloc: Global, specs: &[String]) -> Result<String, Failure> {
 }
 
 // The values that the fields named by the words read from the input, and the count of bits, as lines of text.
-fn read<R: Read>(alloc: Global, specs: &[String], input: &mut R) -> Result<String, Failure> {
+fn read<R: Read>(alloc: Global, specs: &[String], input: &mut R) -> Result<String, Failure>
+    ensures shown { IfOk result (λ text. ShowsRead (words_of specs.now) (R.remaining input.old) (string_bytes text)) }
+    ensures usage { IfErr result (λ e. e ≡ Usage → ((fields : List ListField) → AllZip NamesField (words_of specs.now) fields → ⊥) × (input.new ≡ input.old)) }
+{
+    let fields = fields_named(alloc, specs)?;
+    let bytes = read_bytes(alloc, input)?;
+    let (bits, numbers) = list_from_bytes(alloc, bytes.as_slice(), fields.as_slice())?;
+    let mut text = number_lines(alloc, numbers.as_slice())?;
+    writeln!(text, "bits {bits}")?;
+    Ok(text)
+}
+
+// The fields that the words name.
+fn fields_named(alloc: Global, specs: &[String]) -> Result<Vec<Field>, Failure>
+    ensures named { IfOk result (λ fields. AllZip NamesField (words_of specs.now) fields.items) }
+    ensures usage { IfErr result (λ e. e ≡ Usage → (fields : List ListField) → AllZip NamesField (words_of specs.now) fields → ⊥) }
+{
     let mut fields: Vec<Field> = Vec::new(alloc);
     for word in specs {
         let Some(field) = parse_field(word.as_str()) else {
@@ -124,32 +166,47 @@ fn read<R: Read>(alloc: Global, specs: &[String], input: &mut R) -> Result<Strin
         };
         fields.push(field)?;
     }
-    let bytes = read_bytes(alloc, input)?;
-    let (bits, numbers) = list_from_bytes(alloc, bytes.as_slice(), fields.as_slice())?;
+    Ok(fields)
+}
+
+// The numbers in decimal digits, a line each.
+fn number_lines(alloc: Global, numbers: &[Number]) -> Result<String, Failure>
+    ensures shown { IfOk result (λ text. string_bytes text ≡ flat_map (λ n. line (number_text n)) numbers.now) }
+    ensures memory { IfErr result (λ e. e ≡ Fault (Io OutOfMemory)) }
+{
     let mut text = String::new(alloc);
-    for number in &numbers {
+    for number in numbers {
         match number {
             Number::Unsigned(value) => writeln!(text, "{value}")?,
             Number::Signed(value) => writeln!(text, "{value}")?,
         }
     }
-    writeln!(text, "bits {bits}")?;
     Ok(text)
 }
 
 // The bytes that hexadecimal text names, without one last newline.
-fn read_bytes<R: Read>(alloc: Global, input: &mut R) -> Result<Vec<u8>, Failure> {
+fn read_bytes<R: Read>(alloc: Global, input: &mut R) -> Result<Vec<u8>, Failure>
+    ensures shown { IfOk result (λ bytes. IfSome (R.remaining input.old) (λ text. IsHexText text bytes.items)) }
+    ensures usage { IfErr result (λ e. e ≢ Usage) }
+{
     let mut text: Vec<u8> = Vec::new(alloc);
     input.read_to_end(&mut text)?;
-    if text.last() == Some(&b'\n') {
-        text.pop();
-    }
-    match hex::decode(alloc, text.as_slice()) {
+    match hex::decode(alloc, without_newline(text.as_slice())) {
         Ok(bytes) => Ok(bytes),
         Err(FromHexError::OutOfMemory) => {
             Err(Failure::Fault(DekuError::Io(ErrorKind::OutOfMemory)))
         }
         Err(_) => Err(Failure::BadText),
+    }
+}
+
+// The text without one last newline.
+fn without_newline(text: &[u8]) -> &[u8]
+    ensures { LosesNewline text.now result.now }
+{
+    match text {
+        [inner @ .., b'\n'] => inner,
+        _ => text,
     }
 }
 

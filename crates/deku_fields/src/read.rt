@@ -1,10 +1,9 @@
 //! Reading lists of fields.
 
-ghost use Rattle.std.specs.Prelude.{◌≡◌, ◌+◌, ◌<◌, ◌≤◌, ◌^◌, ◌++◌, ◌/◌, ◌∷◌, List, length, map, drop, All, IfOk, IfErr};
-ghost use Rattle.deku_bits.specs.Pieces.{total};
-ghost use Rattle.deku_bits.specs.ReaderCalls.{Reads};
-ghost use Rattle.deku_fields.specs.Items.{IsFitting, AlignedFields, LaysOut, fields_of, values_of, field_shape};
-ghost use Rattle.deku_fields.specs.ListCalls.{ListFrom, ReadsBack, ReadsField, ReadsFields, ReadsVec, filling, items_of};
+ghost use Rattle.std.specs.Prelude.{◌≡◌, length};
+ghost use Rattle.deku_bits.specs.ReaderCalls.{Reads, NoneEarly};
+ghost use Rattle.deku_fields.specs.ListCalls.{ListFrom, ReadsField, ReadsFields, ReadsVec, filling, items_of};
+ghost use Rattle.deku_fields.specs.Promise.{LeavesBehind, ReadsBack, ReadsBackVec, ReadsBackFrom, ReadsWhereSound};
 
 use crate::list::{Field, Number};
 use deku::calls::{read_signed, read_unsigned};
@@ -20,6 +19,8 @@ use std::io::{Cursor, ErrorKind};
 /// `InvalidParam("signed big Lsb0 field of this width")`, and then as `Reader` refuses to read its bits. What the fields before it
 /// moved stays moved, and what `out` holds is then open. Without fields no call is made on the reader.
 ///
+/// No byte of the source is fetched behind the last one that a field touches.
+///
 /// The caller's condition: `out` has one place for each field.
 pub fn read_list_into<R: Source>(
     reader: &mut Reader<R>,
@@ -27,7 +28,10 @@ pub fn read_list_into<R: Source>(
     out: &mut [Number],
 ) -> Result<(), DekuError>
     requires { length out.old ≡ length fields.now }
-    ensures { Reads R.told (ReadsFields fields.now) reader.old (filling result out.new) reader.new }
+    ensures meaning { Reads R.told (ReadsFields fields.now) reader.old (filling result out.new) reader.new }
+    ensures values { ReadsWhereSound R.told (ReadsBack fields.now) reader.old (filling result out.new) reader.new }
+    ensures behind { LeavesBehind R.told fields.now reader.old (filling result out.new) reader.new }
+    ensures early { NoneEarly reader.old.state reader.new.state }
 {
     for (place, field) in fields.iter().enumerate() {
         match read_field(reader, field) {
@@ -40,7 +44,8 @@ pub fn read_list_into<R: Source>(
 
 // Reads the value of a field.
 fn read_field<R: Source>(reader: &mut Reader<R>, field: &Field) -> Result<Number, DekuError>
-    ensures { Reads R.told (ReadsField field.now) reader.old result reader.new }
+    ensures reads { Reads R.told (ReadsField field.now) reader.old result reader.new }
+    ensures early { NoneEarly reader.old.state reader.new.state }
 {
     let number_type = field.kind.number_type();
     if number_type.signed {
@@ -59,7 +64,10 @@ pub fn read_list<R: Source>(
     reader: &mut Reader<R>,
     fields: &[Field],
 ) -> Result<Vec<Number>, DekuError>
-    ensures { Reads R.told (ReadsVec fields.now) reader.old (items_of result) reader.new }
+    ensures meaning { Reads R.told (ReadsVec fields.now) reader.old (items_of result) reader.new }
+    ensures values { ReadsWhereSound R.told (ReadsBackVec fields.now) reader.old (items_of result) reader.new }
+    ensures behind { LeavesBehind R.told fields.now reader.old (items_of result) reader.new }
+    ensures early { NoneEarly reader.old.state reader.new.state }
 {
     let Ok(mut numbers) = vec![in reader.alloc(); Number::Unsigned(0); fields.len()] else {
         return Err(DekuError::Io(ErrorKind::OutOfMemory));
@@ -84,7 +92,7 @@ pub fn list_from_bytes(
     fields: &[Field],
 ) -> Result<(usize, Vec<Number>), DekuError>
     ensures meaning { ListFrom fields.now bytes.now result }
-    ensures values { ReadsBack fields.now bytes.now result }
+    ensures values { ReadsBackFrom fields.now bytes.now result }
 {
     let mut reader = Reader::new(alloc, Cursor::new(bytes));
     match read_list(&mut reader, fields) {

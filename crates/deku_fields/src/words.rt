@@ -1,30 +1,24 @@
 //! Words of a command line: fields, and fields with their values.
 
+ghost use Rattle.std.specs.Prelude.{◌≡◌, ◌↔◌, ◌++◌, ◌<◌, ◌^◌, ℕ, List, Some, IsTrue, MatchOption, SomeIff};
+ghost use Rattle.std.specs.Str.Parse.{IsNumeral, digits_value};
+ghost use Rattle.deku_fields.specs.declared.list.Kind.{Kind as FieldKind};
+ghost use Rattle.deku_fields.specs.declared.list.Number.{Number as FieldNumber};
+ghost use Rattle.deku_fields.specs.declared.list.Field.{Field as ListField};
+ghost use Rattle.deku_fields.specs.declared.list.Item.{Item as ListItem};
+ghost use Rattle.deku_num.specs.declared.ctx.Size.{Size as FieldSize};
+ghost use Rattle.deku_fields.specs.Naming.{kind_name, BeginsOption, SplitsEndian, SplitsMsb, NamesNumber, NamesSize, NamesField, NamesItem};
+
 use crate::list::{Field, Item, Kind, Number};
 use deku::ctx::{Endian, Layout, Order, Size};
 
 /// The field that a word names: `kind[,big|,little][,msb][,bitsN]`.
-pub fn parse_field(word: &str) -> Option<Field> {
-    let mut parts = word.split(',');
-    let kind = parse_kind(parts.next()?)?;
-    let mut next = parts.next();
-    let endian = match next {
-        Some("big") => Endian::Big,
-        _ => Endian::Little,
-    };
-    if next == Some("big") || next == Some("little") {
-        next = parts.next();
-    }
-    if next == Some("msb") {
-        next = parts.next();
-    }
-    let size = match next {
-        None => Size::Whole,
-        Some(part) => Size::Bits(parse_count(part.strip_prefix("bits")?)?),
-    };
-    if parts.next().is_some() {
-        return None;
-    }
+pub fn parse_field(word: &str) -> Option<Field>
+    ensures { (f : ListField) → (result ≡ Some f) ↔ NamesField word.now f }
+{
+    let (kind, options) = split_kind(word)?;
+    let (endian, options) = split_endian(options);
+    let size = parse_size(after_msb(options))?;
     let layout = Layout {
         endian,
         order: Order::Msb0,
@@ -34,14 +28,18 @@ pub fn parse_field(word: &str) -> Option<Field> {
 }
 
 /// The item that a word names: a field, `=` and a value.
-pub fn parse_item(word: &str) -> Option<Item> {
+pub fn parse_item(word: &str) -> Option<Item>
+    ensures { (i : ListItem) → (result ≡ Some i) ↔ NamesItem word.now i }
+{
     let (field, value) = word.split_once('=')?;
     let field = parse_field(field)?;
     let value = parse_number(value, field.kind)?;
     Some(Item { field, value })
 }
 
-fn parse_kind(name: &str) -> Option<Kind> {
+fn parse_kind(name: &str) -> Option<Kind>
+    ensures { MatchOption result ((k : FieldKind) → name.now ≡ kind_name k → ⊥) (λ k. name.now ≡ kind_name k) }
+{
     match name {
         "u8" => Some(Kind::U8),
         "u16" => Some(Kind::U16),
@@ -59,8 +57,61 @@ fn parse_kind(name: &str) -> Option<Kind> {
     }
 }
 
+// The kind in front of the first comma, and what stands from there on.
+fn split_kind(word: &str) -> Option<(Kind, &str)>
+    ensures { MatchOption result ((k : FieldKind) (rest : List ℕ) → word.now ≡ kind_name k ++ rest → BeginsOption rest → ⊥) (λ p. (word.now ≡ kind_name p.0 ++ p.1.now) × BeginsOption p.1.now) }
+{
+    let end = word.find(',').unwrap_or(word.len());
+    match parse_kind(&word[..end]) {
+        Some(kind) => Some((kind, &word[end..])),
+        None => None,
+    }
+}
+
+// The endian in front, little where there is none, and what stands behind it.
+fn split_endian(text: &str) -> (Endian, &str)
+    ensures { SplitsEndian text.now result.0 result.1.now }
+{
+    if let Some(rest) = behind(text, ",big") {
+        return (Endian::Big, rest);
+    }
+    if let Some(rest) = behind(text, ",little") {
+        return (Endian::Little, rest);
+    }
+    (Endian::Little, text)
+}
+
+// What stands behind `,msb`, where it is in front.
+fn after_msb(text: &str) -> &str
+    ensures { SplitsMsb text.now result.now }
+{
+    match behind(text, ",msb") {
+        Some(rest) => rest,
+        None => text,
+    }
+}
+
+// The text behind another at its front, where that stands there.
+fn behind<'a>(text: &'a str, front: &str) -> Option<&'a str>
+    ensures { MatchOption result ((rest : List ℕ) → text.now ≡ front.now ++ rest → ⊥) (λ rest. text.now ≡ front.now ++ rest.now) }
+{
+    text.strip_prefix(front)
+}
+
+// The size that the end of a field's word names.
+fn parse_size(text: &str) -> Option<Size>
+    ensures { MatchOption result ((s : FieldSize) → NamesSize text.now s → ⊥) (λ s. NamesSize text.now s) }
+{
+    if text.is_empty() {
+        return Some(Size::Whole);
+    }
+    Some(Size::Bits(parse_count(behind(text, ",bits")?)?))
+}
+
 // A count in decimal digits alone.
-fn parse_count(digits: &str) -> Option<usize> {
+fn parse_count(digits: &str) -> Option<usize>
+    ensures { SomeIff result (IsNumeral 10 digits.now × (digits_value 10 digits.now < 2 ^ 64)) (digits_value 10 digits.now) }
+{
     if !is_digits(digits) {
         return None;
     }
@@ -68,12 +119,17 @@ fn parse_count(digits: &str) -> Option<usize> {
 }
 
 // A number in decimal digits, with or without a minus. Without one it is signed for a signed kind where it can be.
-fn parse_number(text: &str, kind: Kind) -> Option<Number> {
-    if let Some(digits) = text.strip_prefix('-') {
+fn parse_number(text: &str, kind: Kind) -> Option<Number>
+    ensures { MatchOption result ((n : FieldNumber) → NamesNumber kind text.now n → ⊥) (λ n. NamesNumber kind text.now n) }
+{
+    if let Some(digits) = behind(text, "-") {
         if !is_digits(digits) {
             return None;
         }
-        return text.parse().ok().map(Number::Signed);
+        return match text.parse::<i128>() {
+            Ok(value) => Some(Number::Signed(value)),
+            Err(_) => None,
+        };
     }
     if !is_digits(text) {
         return None;
@@ -83,9 +139,14 @@ fn parse_number(text: &str, kind: Kind) -> Option<Number> {
             return Some(Number::Signed(value));
         }
     }
-    text.parse().ok().map(Number::Unsigned)
+    match text.parse::<u128>() {
+        Ok(value) => Some(Number::Unsigned(value)),
+        Err(_) => None,
+    }
 }
 
-fn is_digits(text: &str) -> bool {
-    !text.is_empty() && text.bytes().all(|byte| byte.is_ascii_digit())
+fn is_digits(text: &str) -> bool
+    ensures { IsTrue result ↔ IsNumeral 10 text.now }
+{
+    !text.is_empty() && text.as_bytes().iter().all(|byte| byte.is_ascii_digit())
 }

@@ -1,13 +1,11 @@
 //! Writing lists of items.
 
-ghost use Rattle.std.specs.Prelude.{◌≡◌, ◌+◌, ◌*◌, ◌<◌, ◌≤◌, ◌^◌, ◌-◌, List, length, map, take, All, IfOk, IfErr, MatchResult};
+ghost use Rattle.std.specs.Prelude.{◌≡◌, take};
 ghost use Rattle.std.specs.Io.Cursor.{cursor_position, cursor_inner};
-ghost use Rattle.std.specs.declared.io.ErrorKind.TheVariants.{OutOfMemory};
-ghost use Rattle.deku_bits.specs.declared.error.DekuError.TheVariants.{Io};
 ghost use Rattle.deku_bits.specs.WriterCalls.{Writes, Finalizes};
 ghost use Rattle.deku.specs.Composing.{Both};
-ghost use Rattle.deku_fields.specs.Items.{IsFitting, AlignedFields, LaysOut, fields_of};
-ghost use Rattle.deku_fields.specs.ListCalls.{IsCountable, WritesBack, WritesItem, WritesItems, WritesWhole};
+ghost use Rattle.deku_fields.specs.ListCalls.{WritesItem, WritesItems, WritesWhole};
+ghost use Rattle.deku_fields.specs.Promise.{LaidOut, WritesBack, WritesLaid, WritesWhereSound};
 
 use crate::list::{Item, Number};
 use deku::calls::{write_signed, write_unsigned};
@@ -23,7 +21,8 @@ use std::io::Cursor;
 /// the size is beyond the kind, where a signed big `Lsb0` field has such a width, where the value does not fit; and then as `Writer`
 /// refuses to write its bits. What the items before it moved stays moved. Without items no call is made on the writer.
 pub fn write_list<W: Sink>(writer: &mut Writer<W>, items: &[Item]) -> Result<(), DekuError>
-    ensures { Writes W.told (WritesItems items.now) writer.old result writer.new }
+    ensures meaning { Writes W.told (WritesItems items.now) writer.old result writer.new }
+    ensures laid_out { WritesWhereSound W.told (WritesLaid items.now) writer.old result writer.new }
 {
     for item in items {
         match write_item(writer, item) {
@@ -58,7 +57,7 @@ fn write_item<W: Sink>(writer: &mut Writer<W>, item: &Item) -> Result<(), DekuEr
 /// ```
 pub fn list_to_bytes(alloc: Global, items: &[Item]) -> Result<Vec<u8>, DekuError>
     ensures meaning { WritesWhole (Both (WritesItems items.now) Finalizes) result }
-    ensures laid_out { All IsFitting items.now → AlignedFields (fields_of items.now) → IsCountable items.now → MatchResult result (λ v. LaysOut items.now v.items) (λ e. e ≡ Io OutOfMemory) }
+    ensures laid_out { LaidOut items.now result }
     ensures back { WritesBack items.now result }
 {
     let mut writer = Writer::new(Cursor::new(Vec::new(alloc)));

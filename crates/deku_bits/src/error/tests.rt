@@ -1,7 +1,6 @@
 //! What refusals print, and what they are made from.
 
 use super::{DekuError, NeedSize};
-use crate::deku_error;
 use std::alloc::Global;
 use std::io;
 use std::io::ErrorKind;
@@ -111,41 +110,4 @@ fn is_made_from_other_errors(rt: HostRuntime) {
         after(Err(broken)),
         Err(DekuError::Io(ErrorKind::BrokenPipe))
     );
-}
-
-#[test]
-fn is_made_by_a_macro(rt: HostRuntime) {
-    assert_eq!(rt;
-        deku_error!(DekuError::IdVariantNotFound),
-        DekuError::IdVariantNotFound
-    );
-    assert_eq!(rt;
-        deku_error!(DekuError::Parse, "no such version"),
-        DekuError::Parse("no such version")
-    );
-    let failed = DekuError::Assertion("Field failed assertion");
-    assert_eq!(rt;
-        deku_error!(
-            DekuError::Assertion,
-            "Field failed assertion",
-            "no argument"
-        ),
-        failed
-    );
-    let mut calls: u8 = 0;
-    let error = deku_error!(
-        DekuError::Assertion,
-        "Field failed assertion",
-        "version {} of {}",
-        {
-            calls = calls.saturating_add(1);
-            calls
-        },
-        {
-            calls = calls.saturating_add(10);
-            calls
-        },
-    );
-    assert_eq!(rt; error, failed);
-    assert_eq!(rt; calls, 11);
 }

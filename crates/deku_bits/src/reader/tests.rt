@@ -4,23 +4,25 @@ ghost use Rattle.std.specs.Prelude.{[], length, List, Bool};
 ghost use Rattle.deku_bits.specs.ReaderCalls.{ReadsAt, ReadsBits, filling};
 ghost use Rattle.deku_bits.specs.Standings.{Standing, Going};
 
+mod failing;
+mod memory;
+
 use super::{Leftover, Reader};
 use crate::ctx::Order;
 use crate::ctx::Order::{Lsb0, Msb0};
 use crate::device::Source;
 use crate::error::{DekuError, NeedSize};
-use std::alloc::{AllocError, Global};
+use std::alloc::Global;
 use std::io::{Cursor, ErrorKind, Seek, SeekFrom};
 use std::process::Abort;
 use std::test::Fail;
 
-// The bits as digits.
-fn digits(alloc: Global, bits: &[bool]) -> Result<String, AllocError> {
-    let mut text = String::new(alloc);
-    for bit in bits {
-        text.push(if *bit { '1' } else { '0' })?;
+// The bits are these digits. It takes no memory.
+fn expect_digits(rt: &impl Abort, bits: &[bool], want: &str) {
+    assert_eq!(rt; bits.len(), want.len(), "the length of {want}");
+    for (bit, digit) in bits.iter().zip(want.as_bytes().iter()) {
+        assert_eq!(rt; *bit, *digit == b'1', "a bit of {want}");
     }
-    Ok(text)
 }
 
 // Reads of these widths show these bits, one after the other, and leave these in the last byte.
@@ -34,67 +36,50 @@ fn expect_reads(
     let mut reader = Reader::new(alloc, Cursor::new(bytes));
     for (width, order, want) in reads {
         let bits = reader.read_bits(*width, *order)?;
-        assert_eq!(rt;
-            digits(alloc, &bits)?.as_str(),
-            *want,
-            "{width} bits of {bytes:?}"
-        );
+        expect_digits(rt, &bits, want);
     }
-    assert_eq!(rt;
-        digits(alloc, &reader.rest()?)?.as_str(),
-        rest,
-        "the rest of {bytes:?}"
-    );
+    expect_digits(rt, &reader.rest()?, rest);
     Ok(())
 }
 
-#[test]
-fn shows_what_each_order_meets(rt: HostRuntime) -> Result<(), Fail> {
-    let alloc = rt.alloc();
-    let three: &[u8] = &[0xA1, 0x34, 0x12];
-    expect_reads(
-        &rt,
-        alloc,
-        three,
+// Bytes, the reads of them, and what they leave in the last byte.
+type Shown = (
+    &'static [u8],
+    &'static [(usize, Order, &'static str)],
+    &'static str,
+);
+
+const SHOWN: [Shown; 6] = [
+    (
+        &[0xA1, 0x34, 0x12],
         &[
             (5, Lsb0, "00001"),
             (16, Lsb0, "1010010110010001"),
             (3, Lsb0, "000"),
         ],
         "",
-    )?;
-    let mid: &[u8] = &[0x02, 0x64, 0x20];
-    expect_reads(
-        &rt,
-        alloc,
-        mid,
+    ),
+    (
+        &[0x02, 0x64, 0x20],
         &[(6, Msb0, "000000"), (17, Lsb0, "01000000110010010")],
         "0",
-    )?;
-    expect_reads(
-        &rt,
-        alloc,
-        mid,
+    ),
+    (
+        &[0x02, 0x64, 0x20],
         &[(6, Msb0, "000000"), (17, Msb0, "10011001000010000")],
         "0",
-    )?;
-    expect_reads(
-        &rt,
-        alloc,
+    ),
+    (
         &[0x6D, 0xBE, 0xEF],
         &[(4, Msb0, "0110"), (2, Msb0, "11")],
         "01",
-    )?;
-    expect_reads(
-        &rt,
-        alloc,
+    ),
+    (
         &[0xAB],
         &[(1, Lsb0, "1"), (3, Msb0, "101"), (4, Msb0, "0101")],
         "",
-    )?;
-    expect_reads(
-        &rt,
-        alloc,
+    ),
+    (
         &[0xAB, 0xCD],
         &[
             (4, Lsb0, "1011"),
@@ -103,7 +88,38 @@ fn shows_what_each_order_meets(rt: HostRuntime) -> Result<(), Fail> {
             (4, Msb0, "1101"),
         ],
         "",
-    )?;
+    ),
+];
+
+#[test]
+fn shows_what_each_order_meets(rt: HostRuntime) -> Result<(), Fail> {
+    for (bytes, reads, rest) in SHOWN {
+        expect_reads(&rt, rt.alloc(), bytes, reads, rest)?;
+    }
+    Ok(())
+}
+
+// The reader has stopped with this error: so each call answers, no bit is left over, and the count stays.
+fn expect_kept(
+    rt: &impl Abort,
+    reader: &mut Reader<Cursor<&[u8]>>,
+    kept: DekuError,
+) -> Result<(), Fail> {
+    let count = reader.bits_read();
+    let kept = Some(kept);
+    let mut none: [bool; 0] = [];
+    let mut byte = [0];
+    assert_eq!(rt; reader.read_bits(0, Msb0).err(), kept);
+    assert_eq!(rt; reader.read_bits(usize::MAX, Lsb0).err(), kept);
+    assert_eq!(rt; reader.read_bits_into(&mut none, Lsb0).err(), kept);
+    assert_eq!(rt; reader.read_bytes(0, &mut byte, Msb0).err(), kept);
+    assert_eq!(rt; reader.read_bytes_const(&mut byte, Lsb0).err(), kept);
+    assert_eq!(rt; reader.read_bytes_const_into(&mut byte, Msb0).err(), kept);
+    assert_eq!(rt; reader.skip_bits(0, Lsb0).err(), kept);
+    assert_eq!(rt; reader.end().err(), kept);
+    assert!(rt; reader.leftover().is_none());
+    assert_eq!(rt; reader.rest()?.len(), 0);
+    assert_eq!(rt; reader.bits_read(), count);
     Ok(())
 }
 
@@ -122,29 +138,13 @@ fn expect_end(
         assert_eq!(rt; bits.len(), *width, "of {bytes:?}");
     }
     let ended = DekuError::Incomplete(NeedSize::new(last));
-    assert_eq!(rt;
-        reader.read_bits(last, Msb0).err(),
-        Some(ended),
-        "{last} bits of {bytes:?}"
-    );
-    assert_eq!(rt;
-        reader.read_bits(0, Msb0).err(),
-        Some(ended),
-        "0 bits after the end of {bytes:?}"
-    );
-    let mut none: [bool; 0] = [];
-    assert_eq!(rt;
-        reader.read_bits_into(&mut none, Lsb0).err(),
-        Some(ended),
-        "into no bits after the end of {bytes:?}"
-    );
-    assert_eq!(rt;
-        reader.rest()?.len(),
-        0,
-        "the rest after the end of {bytes:?}"
-    );
+    match reader.read_bits(last, Msb0) {
+        Ok(_) => assert!(rt; false, "{last} bits of {bytes:?}"),
+        Err(DekuError::Io(kind)) => return Err(DekuError::Io(kind))?,
+        Err(error) => assert_eq!(rt; error, ended, "{last} bits of {bytes:?}"),
+    }
     assert_eq!(rt; reader.bits_read(), count, "bits read of {bytes:?}");
-    Ok(())
+    expect_kept(rt, &mut reader, ended)
 }
 
 #[test]
@@ -200,6 +200,17 @@ fn has_bits_left_over(rt: HostRuntime) -> Result<(), Fail> {
     Ok(())
 }
 
+// A byte that was looked at is left over whole.
+#[test]
+fn has_a_byte_left_over(rt: HostRuntime) -> Result<(), Fail> {
+    let bytes: &[u8] = &[0xAB, 0xCD];
+    let mut reader = Reader::new(rt.alloc(), Cursor::new(bytes));
+    assert!(rt; !reader.end()?);
+    assert!(rt; matches!(reader.leftover(), Some(Leftover::Byte(0xAB))));
+    assert_eq!(rt; reader.bits_read(), 0);
+    Ok(())
+}
+
 // What is done with a reader, and what it shows.
 enum Step<'a> {
     Bits(usize, Order, &'a str),
@@ -218,7 +229,7 @@ fn expect_steps(rt: &impl Abort, alloc: Global, bytes: &[u8], steps: &[Step]) ->
         match step {
             Step::Bits(width, order, want) => {
                 let bits = reader.read_bits(*width, *order)?;
-                assert_eq!(rt; digits(alloc, &bits)?.as_str(), *want, "bits of {bytes:?}");
+                expect_digits(rt, &bits, want);
             }
             Step::Bytes(want, order) => {
                 let mut buf = [0; 4];
@@ -234,11 +245,7 @@ fn expect_steps(rt: &impl Abort, alloc: Global, bytes: &[u8], steps: &[Step]) ->
             Step::Seek(to) => {
                 reader.seek(*to)?;
             }
-            Step::Rest(want) => assert_eq!(rt;
-                digits(alloc, &reader.rest()?)?.as_str(),
-                *want,
-                "the rest of {bytes:?}"
-            ),
+            Step::Rest(want) => expect_digits(rt, &reader.rest()?, want),
             Step::Count(want) => assert_eq!(rt;
                 reader.bits_read(),
                 *want,
@@ -249,12 +256,8 @@ fn expect_steps(rt: &impl Abort, alloc: Global, bytes: &[u8], steps: &[Step]) ->
     Ok(())
 }
 
-#[test]
-fn peeks_and_skips(rt: HostRuntime) -> Result<(), Fail> {
-    let alloc = rt.alloc();
-    expect_steps(
-        &rt,
-        alloc,
+const PEEKS: [(&[u8], &[Step]); 5] = [
+    (
         &[0xAA, 0xBB],
         &[
             Step::End(false),
@@ -263,10 +266,8 @@ fn peeks_and_skips(rt: HostRuntime) -> Result<(), Fail> {
             Step::End(true),
             Step::Count(16),
         ],
-    )?;
-    expect_steps(
-        &rt,
-        alloc,
+    ),
+    (
         &[0xAA, 0xBB, 0xCC],
         &[
             Step::End(false),
@@ -274,10 +275,8 @@ fn peeks_and_skips(rt: HostRuntime) -> Result<(), Fail> {
             Step::Bytes(&[0xBB], Msb0),
             Step::Count(16),
         ],
-    )?;
-    expect_steps(
-        &rt,
-        alloc,
+    ),
+    (
         &[0xAB, 0xCD, 0xEF],
         &[
             Step::Bits(4, Msb0, "1010"),
@@ -285,26 +284,37 @@ fn peeks_and_skips(rt: HostRuntime) -> Result<(), Fail> {
             Step::Bits(6, Msb0, "001101"),
             Step::Count(16),
         ],
-    )?;
-    expect_steps(
-        &rt,
-        alloc,
+    ),
+    (
+        &[0xAB, 0xCD, 0xEF],
+        &[
+            Step::Bits(4, Msb0, "1010"),
+            Step::Bytes(&[0xDB, 0xFC], Lsb0),
+            Step::Rest("1110"),
+            Step::Bytes(&[], Msb0),
+            Step::Count(20),
+        ],
+    ),
+    (
         &[0xAB, 0xCD],
         &[
             Step::Bits(4, Msb0, "1010"),
             Step::Skip(6, Lsb0),
             Step::Rest("110011"),
         ],
-    )?;
+    ),
+];
+
+#[test]
+fn peeks_and_skips(rt: HostRuntime) -> Result<(), Fail> {
+    for (bytes, steps) in PEEKS {
+        expect_steps(&rt, rt.alloc(), bytes, steps)?;
+    }
     Ok(())
 }
 
-#[test]
-fn seeks(rt: HostRuntime) -> Result<(), Fail> {
-    let alloc = rt.alloc();
-    expect_steps(
-        &rt,
-        alloc,
+const SEEKS: [(&[u8], &[Step]); 2] = [
+    (
         &[0x01, 0x02, 0x03, 0x04],
         &[
             Step::Bits(4, Msb0, "0000"),
@@ -312,10 +322,8 @@ fn seeks(rt: HostRuntime) -> Result<(), Fail> {
             Step::Bytes(&[0x03], Msb0),
             Step::Count(20),
         ],
-    )?;
-    expect_steps(
-        &rt,
-        alloc,
+    ),
+    (
         &[0x01, 0x02, 0x03],
         &[
             Step::Bits(4, Msb0, "0000"),
@@ -327,7 +335,14 @@ fn seeks(rt: HostRuntime) -> Result<(), Fail> {
             Step::Bytes(&[0x01], Msb0),
             Step::Count(32),
         ],
-    )?;
+    ),
+];
+
+#[test]
+fn seeks(rt: HostRuntime) -> Result<(), Fail> {
+    for (bytes, steps) in SEEKS {
+        expect_steps(&rt, rt.alloc(), bytes, steps)?;
+    }
     Ok(())
 }
 
@@ -365,12 +380,8 @@ fn keeps_a_refused_seek(rt: HostRuntime) -> Result<(), Fail> {
     let mut reader = Reader::new(rt.alloc(), Cursor::new(bytes));
     reader.read_bits(4, Msb0)?;
     assert!(rt; reader.seek(SeekFrom::Current(-2)).is_err());
-    assert_eq!(rt; reader.rest()?.len(), 0);
     assert_eq!(rt; reader.bits_read(), 4);
-    let kept = Some(DekuError::Io(ErrorKind::InvalidInput));
-    assert_eq!(rt; reader.end().err(), kept);
-    assert_eq!(rt; reader.skip_bits(0, Lsb0).err(), kept);
-    assert_eq!(rt; reader.read_bytes_const_into(&mut byte, Msb0).err(), kept);
+    expect_kept(&rt, &mut reader, DekuError::Io(ErrorKind::InvalidInput))?;
     reader.seek(SeekFrom::End(-1))?;
     reader.read_bytes_const_into(&mut byte, Msb0)?;
     assert_eq!(rt; byte, [0x03]);
@@ -396,4 +407,23 @@ fn read_lent<R: Source>(alloc: Global, source: &mut R, dst: &mut [bool]) -> Resu
 {
     let mut reader = Reader::new(alloc, source);
     reader.read_bits_into(dst, Msb0)
+}
+
+// A lent source stands behind the last byte that was fetched.
+#[test]
+fn reads_a_lent_vector(rt: HostRuntime) -> Result<(), Fail> {
+    let bytes = [0xA5, 0x3C, 0xFF].to_vec(rt.alloc())?;
+    let mut cursor = Cursor::new(bytes);
+    let mut bits = [false; 9];
+    assert_eq!(rt; read_lent(rt.alloc(), &mut cursor, &mut bits), Ok(()));
+    assert_eq!(rt;
+        bits,
+        [true, false, true, false, false, true, false, true, false]
+    );
+    assert_eq!(rt; cursor.position(), 2);
+    let mut reader = Reader::new(rt.alloc(), cursor);
+    let mut more = Vec::new(reader.alloc());
+    more.push(reader.end()?)?;
+    assert_eq!(rt; more.as_slice(), [false].as_slice());
+    Ok(())
 }

@@ -3,6 +3,9 @@ ghost use Rattle.deku_bits.specs.Writers.{Pending, Nothing, append};
 ghost use Rattle.deku_bits.specs.Standings.{Standing, Going};
 ghost use Rattle.deku_bits.specs.WriterCalls.{WritesAt, WritesBits};
 
+mod failing;
+mod memory;
+
 use super::Writer;
 use crate::ctx::Order;
 use crate::device::Sink;
@@ -12,25 +15,28 @@ use std::io::{Cursor, ErrorKind};
 use std::process::Abort;
 use std::test::Fail;
 
-// Bits from digits.
-fn bits(alloc: Global, digits: &str) -> Result<Vec<bool>, Fail> {
-    let mut bits = Vec::new(alloc);
-    for digit in digits.as_bytes() {
-        bits.push(*digit == b'1')?;
+// Bits from digits, and how many there are. It takes no memory.
+fn bits(rt: &impl Abort, digits: &str) -> ([bool; 16], usize)
+    ensures { result.1 ≤ 16 }
+{
+    let mut bits = [false; 16];
+    for (bit, digit) in bits.iter_mut().zip(digits.as_bytes().iter()) {
+        *bit = *digit == b'1';
     }
-    Ok(bits)
+    assert!(rt; digits.len() <= 16, "{digits}");
+    (bits, digits.len())
 }
 
 // Writes lists of bits, each in its order, fills the last byte, and answers how many bits were counted.
 fn write_lists<S: Sink>(
-    alloc: Global,
+    rt: &impl Abort,
     sink: &mut S,
     lists: &[(Order, &str)],
 ) -> Result<usize, Fail> {
     let mut writer = Writer::new(sink);
     for (order, digits) in lists {
-        let list = bits(alloc, digits)?;
-        writer.write_bits_order(&list, *order)?;
+        let (list, len) = bits(rt, digits);
+        writer.write_bits_order(&list[..len], *order)?;
     }
     writer.finalize()?;
     Ok(writer.bits_written())
@@ -39,11 +45,11 @@ fn write_lists<S: Sink>(
 // The lists make these bytes, in a vector and in a slice.
 fn check(rt: &impl Abort, alloc: Global, lists: &[(Order, &str)], want: &[u8]) -> Result<(), Fail> {
     let mut vector = Cursor::new(Vec::new(alloc));
-    let count = write_lists(alloc, &mut vector, lists)?;
+    let count = write_lists(rt, &mut vector, lists)?;
     assert_eq!(rt; vector.into_inner().as_slice(), want);
     assert_eq!(rt; count / 8, want.len());
     let mut slice = [0; 8];
-    write_lists(alloc, &mut Cursor::new(slice.as_mut_slice()), lists)?;
+    write_lists(rt, &mut Cursor::new(slice.as_mut_slice()), lists)?;
     assert!(rt; want.len() <= 8);
     assert_eq!(rt; &slice[..want.len()], want);
     Ok(())
@@ -140,8 +146,8 @@ fn writes_bytes_and_halves(rt: HostRuntime) -> Result<(), Fail> {
         "10101010", "10111011", "1111", "0001", "10101010", "0001", "1111", "0001", "10101010",
         "1111",
     ] {
-        let list = bits(rt.alloc(), digits)?;
-        writer.write_bits(&list)?;
+        let (list, len) = bits(&rt, digits);
+        writer.write_bits(&list[..len])?;
     }
     assert_eq!(rt; writer.bits_written(), 56);
     let bytes = writer.into_inner().into_inner();
@@ -155,9 +161,9 @@ fn writes_bytes_and_halves(rt: HostRuntime) -> Result<(), Fail> {
 #[test]
 fn shows_what_is_pending(rt: HostRuntime) -> Result<(), Fail> {
     let mut writer = Writer::new(Cursor::new(Vec::new(rt.alloc())));
-    let list = bits(rt.alloc(), "101")?;
+    let list = [true, false, true];
     writer.write_bits_order(&list, Order::Lsb0)?;
-    assert_eq!(rt; writer.rest(rt.alloc())?, list);
+    assert_eq!(rt; writer.rest(rt.alloc())?.as_slice(), list.as_slice());
     let (pending, order) = writer.leftover();
     assert_eq!(rt; pending.len(), 3);
     assert_eq!(rt; pending.as_raw_slice(), [0xA0].as_slice());
@@ -178,7 +184,7 @@ fn keeps_a_fault(rt: HostRuntime) -> Result<(), Fail> {
     let mut slice = [0];
     let mut writer = Writer::new(Cursor::new(slice.as_mut_slice()));
     let full = Err(DekuError::Io(ErrorKind::WriteZero));
-    let list = bits(rt.alloc(), "101010101")?;
+    let list = [true, false, true, false, true, false, true, false, true];
     writer.write_bits(&list)?;
     assert_eq!(rt; writer.write_bits(&list), full);
     assert_eq!(rt; writer.bits_written(), 8);
@@ -191,7 +197,7 @@ fn keeps_a_fault(rt: HostRuntime) -> Result<(), Fail> {
 
 #[test]
 fn writes_over_a_slice(rt: HostRuntime) -> Result<(), Fail> {
-    let list = bits(rt.alloc(), "10100101")?;
+    let list = [true, false, true, false, false, true, false, true];
     let mut slice = [1, 2];
     assert_eq!(rt;
         write_over(slice.as_mut_slice(), &list, Order::Msb0),

@@ -1,19 +1,48 @@
 //! Runs of the program: words, the input, and what it answers, prints and complains.
 
 use super::run;
-use std::alloc::Global;
+use deku::error::DekuError;
+use std::alloc::{AllocError, Global};
 use std::io;
-use std::io::{Error, ErrorKind, Read, Write};
+use std::io::{Cursor, Error, ErrorKind, Read, Write};
 use std::process::Abort;
 use std::test::Fail;
 
 // Words as arguments.
-fn arguments(alloc: Global, words: &[&str]) -> Result<Vec<String>, Fail> {
+fn arguments(alloc: Global, words: &[&str]) -> Result<Vec<String>, AllocError> {
     let mut args: Vec<String> = Vec::new(alloc);
     for word in words {
         args.push(String::from_str(alloc, word)?)?;
     }
     Ok(args)
+}
+
+// The program, run on words, ends with this status and complains so. Want of memory, which nobody asked for, is handed on.
+fn expect_end<R: Read, W: Write>(
+    rt: &impl Abort,
+    alloc: Global,
+    words: &[&str],
+    input: &mut R,
+    output: &mut W,
+    want: (u8, &str),
+) -> Result<(), Fail> {
+    let args = arguments(alloc, words)?;
+    let mut complaints = [0u8; 128];
+    let mut errors = Cursor::new(complaints.as_mut_slice());
+    let status = run(alloc, args.as_slice(), input, output, &mut errors);
+    let told = errors.position() as usize;
+    assert!(rt; told <= complaints.len());
+    if &complaints[..told] == NO_MEMORY.as_bytes() {
+        assert_eq!(rt; status, 1, "status of {words:?}");
+        return Err(Fail::from(DekuError::Io(ErrorKind::OutOfMemory)));
+    }
+    assert_eq!(rt;
+        &complaints[..told],
+        want.1.as_bytes(),
+        "errors of {words:?}"
+    );
+    assert_eq!(rt; status, want.0, "status of {words:?}");
+    Ok(())
 }
 
 // The program, run on words over text in memory, ends so.
@@ -24,26 +53,32 @@ fn expect(
     input: &str,
     want: (u8, &str, &str),
 ) -> Result<(), Fail> {
-    let args = arguments(alloc, words)?;
-    let mut output: Vec<u8> = Vec::new(alloc);
-    let mut errors: Vec<u8> = Vec::new(alloc);
-    let status = run(
-        alloc,
-        args.as_slice(),
-        &mut input.as_bytes(),
-        &mut output,
-        &mut errors,
-    );
-    assert_eq!(rt; errors.as_slice(), want.2.as_bytes(), "errors of {words:?}");
-    assert_eq!(rt; output.as_slice(), want.1.as_bytes(), "output of {words:?}");
-    assert_eq!(rt; status, want.0, "status of {words:?}");
-    Ok(())
+    let mut page = [0u8; 64];
+    let mut output = Cursor::new(page.as_mut_slice());
+    let mut text = input.as_bytes();
+    let ended = expect_end(rt, alloc, words, &mut text, &mut output, (want.0, want.2));
+    let written = output.position() as usize;
+    match ended {
+        Ok(()) => {
+            assert!(rt; written <= page.len());
+            assert_eq!(rt; &page[..written], want.1.as_bytes(), "output of {words:?}");
+            Ok(())
+        }
+        Err(refused) => {
+            assert_eq!(rt; written, 0, "output of {words:?}");
+            Err(refused)
+        }
+    }
 }
 
 const MISFIT: &str =
     "error: Invalid param error: bit size of input is larger than requested size\n";
 
 const OUTSIDE: &str = "error: Invalid param error: value outside type\n";
+
+const TOO_WIDE: &str = "error: Invalid param error: bit size is larger than input\n";
+
+const NO_MEMORY: &str = "error: io errorr: OutOfMemory\n";
 
 const USAGE: &str = "usage: fields read|write SPEC..\n";
 
@@ -93,11 +128,17 @@ fn reads_fields(rt: HostRuntime) -> Result<(), Fail> {
 #[test]
 fn refuses_values_and_input(rt: HostRuntime) -> Result<(), Fail> {
     let alloc = rt.alloc();
-    let runs: [(&[&str], &str, &str); 6] = [
+    let runs: [(&[&str], &str, &str); 8] = [
         (&["write", "u8,big,bits4=16"], "", MISFIT),
         (&["write", "i8,bits3=4"], "", MISFIT),
         (&["write", "u8,big=300"], "", OUTSIDE),
         (&["write", "u8=300"], "", OUTSIDE),
+        (&["write", "u8,bits9=1"], "", TOO_WIDE),
+        (
+            &["read", "u8,bits9"],
+            "0000",
+            "error: Parse error: too much data\n",
+        ),
         (
             &["read", "u16"],
             "69",
@@ -157,41 +198,35 @@ impl Write for Broken {
 #[test]
 fn tells_of_failing_streams(rt: HostRuntime) -> Result<(), Fail> {
     let alloc = rt.alloc();
-    let want = b"error: io errorr: Other\n";
-    let args = arguments(alloc, &["read", "u8"])?;
-    let mut output: Vec<u8> = Vec::new(alloc);
-    let mut errors: Vec<u8> = Vec::new(alloc);
-    let status = run(
+    let fault = "error: io errorr: Other\n";
+    let mut page = [0u8; 8];
+    let mut output = Cursor::new(page.as_mut_slice());
+    expect_end(
+        &rt,
         alloc,
-        args.as_slice(),
+        &["read", "u8"],
         &mut Broken,
         &mut output,
-        &mut errors,
-    );
-    assert_eq!(rt; status, 1);
-    assert_eq!(rt; output.len(), 0);
-    assert_eq!(rt; errors.as_slice(), want.as_slice());
-    let args = arguments(alloc, &["write", "u8=1"])?;
-    let mut errors: Vec<u8> = Vec::new(alloc);
-    let status = run(
+        (1, fault),
+    )?;
+    assert_eq!(rt; output.position(), 0);
+    let mut none = "".as_bytes();
+    expect_end(
+        &rt,
         alloc,
-        args.as_slice(),
-        &mut "".as_bytes(),
+        &["write", "u8=1"],
+        &mut none,
         &mut Broken,
-        &mut errors,
-    );
-    assert_eq!(rt; status, 1);
-    assert_eq!(rt; errors.as_slice(), want.as_slice());
+        (1, fault),
+    )
+}
+
+#[test]
+fn ends_though_nobody_listens(rt: HostRuntime) -> Result<(), Fail> {
+    let alloc = rt.alloc();
     let args = arguments(alloc, &["write", "u9=1"])?;
-    assert_eq!(rt;
-        run(
-            alloc,
-            args.as_slice(),
-            &mut "".as_bytes(),
-            &mut Broken,
-            &mut Broken
-        ),
-        2
-    );
+    let (mut input, mut output, mut errors) = (Broken, Broken, Broken);
+    let status = run(alloc, args.as_slice(), &mut input, &mut output, &mut errors);
+    assert_eq!(rt; status, 2);
     Ok(())
 }

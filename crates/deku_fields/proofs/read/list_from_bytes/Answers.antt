@@ -1,24 +1,25 @@
 use Rattle.std.proofs.Common.{refl, ap, ◌∙◌}
 use Rattle.deku_bits.proofs.Handing.{unbroken}
+use Rattle.deku_fields.proofs.Sound.{sound_memory}
 use Rattle.deku_fields.proofs.ReadBack.{back_ok, back_err, starts_fresh, whole_source, new_source, from_first, counted_state}
 use Rattle.deku_fields.proofs.read.list_from_bytes.Goals as goal
 
 pub returns-in-Ok-clause-meaning : goal.returns-in-Ok-clause-meaning
 returns-in-Ok-clause-meaning c =
     let begin = starts_fresh _ c.args.bytes.now _ (ap whole_source c.new-reader.ensures.source ∙ new_source c.new.result _ c.new.ensures.inner c.new.ensures.position) c.new-reader.ensures.state in
-    (_, from_first c.args.fields.now _ _ _ _ begin (unbroken refl refl c.in-Ok.ensures), counted_state (whole_source c.read_list.new.reader.source) c.read_list.new.reader.state c.bits_read.result c.bits_read.ensures)
+    (_, from_first c.args.fields.now _ _ _ _ begin (unbroken refl refl c.in-Ok.ensures.meaning), counted_state (whole_source c.read_list.new.reader.source) c.read_list.new.reader.state c.bits_read.result c.bits_read.ensures)
 
 pub returns-in-Ok-clause-values : goal.returns-in-Ok-clause-values
-returns-in-Ok-clause-values c = λ items written after all same aligned laid begins room.
+returns-in-Ok-clause-values c = λ items after begins room.
     let begin = starts_fresh _ c.args.bytes.now _ (ap whole_source c.new-reader.ensures.source ∙ new_source c.new.result _ c.new.ensures.inner c.new.ensures.position) c.new-reader.ensures.state in
-    back_ok c.args.fields.now _ _ _ _ (from_first c.args.fields.now _ _ _ _ begin (unbroken refl refl c.in-Ok.ensures)) (counted_state (whole_source c.read_list.new.reader.source) c.read_list.new.reader.state c.bits_read.result c.bits_read.ensures) items written after all same aligned laid begins room
+    back_ok c.args.fields.now _ _ _ _ _ begin (c.in-Ok.ensures.values sound_memory) (counted_state (whole_source c.read_list.new.reader.source) c.read_list.new.reader.state c.bits_read.result c.bits_read.ensures) items after begins room
 
 pub returns-in-Err-clause-meaning : goal.returns-in-Err-clause-meaning
 returns-in-Err-clause-meaning c =
     let begin = starts_fresh _ c.args.bytes.now _ (ap whole_source c.new-reader.ensures.source ∙ new_source c.new.result _ c.new.ensures.inner c.new.ensures.position) c.new-reader.ensures.state in
-    (_, from_first c.args.fields.now _ _ _ _ begin (unbroken refl refl c.in-Err.ensures))
+    (_, from_first c.args.fields.now _ _ _ _ begin (unbroken refl refl c.in-Err.ensures.meaning))
 
 pub returns-in-Err-clause-values : goal.returns-in-Err-clause-values
-returns-in-Err-clause-values c = λ items written after all same aligned laid begins room.
+returns-in-Err-clause-values c = λ items after begins room.
     let begin = starts_fresh _ c.args.bytes.now _ (ap whole_source c.new-reader.ensures.source ∙ new_source c.new.result _ c.new.ensures.inner c.new.ensures.position) c.new-reader.ensures.state in
-    back_err c.args.fields.now _ _ _ (from_first c.args.fields.now _ _ _ _ begin (unbroken refl refl c.in-Err.ensures)) items written after all same aligned laid begins room
+    back_err c.args.fields.now _ _ _ _ begin (c.in-Err.ensures.values sound_memory) items after begins room

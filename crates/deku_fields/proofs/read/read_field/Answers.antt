@@ -6,18 +6,18 @@ use Rattle.deku_fields.specs.Items.{number_type}
 use Rattle.deku_fields.proofs.Stepping.{signed_field, unsigned_field}
 use Rattle.deku_fields.proofs.read.read_field.Goals as goal
 
-pub returns-in_err-value : goal.returns-in_err-value
-returns-in_err-value g c =
+pub returns-in_err-value-clause-reads : goal.returns-in_err-value-clause-reads
+returns-in_err-value-clause-reads g c =
     passed_on _ c.from_residual.ensures.1 (mapped_err (number_of (number_type c.args.field.now.kind).signed) (rw (c.number_type-number_type.ensures) at c.in_err-value.ensures.reads))
 
-pub returns-in_err-value-2 : goal.returns-in_err-value-2
-returns-in_err-value-2 g c =
+pub returns-in_err-value-2-clause-reads : goal.returns-in_err-value-2-clause-reads
+returns-in_err-value-2-clause-reads g c =
     passed_on _ c.from_residual-in_err-value-2.ensures.1 (mapped_err (number_of (number_type c.args.field.now.kind).signed) (rw (c.number_type-number_type.ensures) at c.in_err-value-2.ensures.reads))
 
-pub returns-in_ok-value : goal.returns-in_ok-value
-returns-in_ok-value g c =
+pub returns-in_ok-value-clause-reads : goal.returns-in_ok-value-clause-reads
+returns-in_ok-value-clause-reads g c =
     signed_field c.args.field.now (ap (λ t. t.signed) (sym c.number_type-number_type.ensures) ∙ c.if-number_type.true) (omega (arith, ints)) (rw (c.number_type-number_type.ensures) at c.in_ok-value.ensures.reads)
 
-pub returns-in_ok-value-2 : goal.returns-in_ok-value-2
-returns-in_ok-value-2 g c =
+pub returns-in_ok-value-2-clause-reads : goal.returns-in_ok-value-2-clause-reads
+returns-in_ok-value-2-clause-reads g c =
     unsigned_field c.args.field.now (ap (λ t. t.signed) (sym c.number_type-number_type.ensures) ∙ c.if-number_type.false) (rw (c.number_type-number_type.ensures) at c.in_ok-value-2.ensures.reads)

@@ -1,19 +1,34 @@
-use Rattle.std.proofs.Common.{refl, ◌∙◌, arith}
+use Rattle.std.proofs.Common.{refl, inr, ◌∙◌, arith}
 use Rattle.std.proofs.lemmas.List.{length-set}
-use Rattle.deku_fields.proofs.Stepping.{started, field_read, field_refused, fields_read}
+use Rattle.deku_fields.proofs.Stepping.{early_on, started, field_read, field_refused, fields_read}
+use Rattle.deku_fields.proofs.ReadBack.{fields_back, left_behind}
 use Rattle.deku_fields.proofs.read.read_list_into.Goals as goal
 
 pub loop-place-init : goal.loop-place-init
-loop-place-init g c = (refl, started c.args.fields.now c.args.out.now _ _)
+loop-place-init g c = (refl, started c.args.fields.now c.args.out.now _ _, inr refl)
 
-pub returns-in-Err : goal.returns-in-Err
-returns-in-Err g c = field_refused c.args.fields.now c.loop-place.place _ _ c.in-Err.refusal _ _ _ _ _ _ (omega arith) (c.loop-place.invariant.1) (c.in-Err.ensures)
+pub returns-in-Err-clause-meaning : goal.returns-in-Err-clause-meaning
+returns-in-Err-clause-meaning g c = field_refused c.args.fields.now c.loop-place.place _ _ c.in-Err.refusal _ _ _ _ _ _ (omega arith) (c.loop-place.invariant.1) (c.in-Err.ensures.reads)
 
 pub loop-place-preserved : goal.loop-place-preserved
 loop-place-preserved g c = (
   length-set c.loop-place.out c.loop-place.place c.in-Ok.number ∙ c.loop-place.invariant.0,
-  field_read c.args.fields.now c.loop-place.place _ c.loop-place.out c.in-Ok.number _ _ _ _ _ _ (omega arith) (omega (arith, c.loop-place.invariant.0, c.requires)) (c.loop-place.invariant.1) (c.in-Ok.ensures),
+  field_read c.args.fields.now c.loop-place.place _ c.loop-place.out c.in-Ok.number _ _ _ _ _ _ (omega arith) (omega (arith, c.loop-place.invariant.0, c.requires)) (c.loop-place.invariant.1) (c.in-Ok.ensures.reads),
+  early_on c.loop-place.invariant.2 c.in-Ok.ensures.early,
 )
 
-pub returns : goal.returns
-returns g c = fields_read c.args.fields.now c.loop-place.place c.loop-place.out _ _ _ _ (omega arith) (omega (arith, c.loop-place.invariant.0, c.requires)) (c.loop-place.invariant.1)
+pub returns-clause-meaning : goal.returns-clause-meaning
+returns-clause-meaning g c = fields_read c.args.fields.now c.loop-place.place c.loop-place.out _ _ _ _ (omega arith) (omega (arith, c.loop-place.invariant.0, c.requires)) (c.loop-place.invariant.1)
+
+pub returns-clause-values : goal.returns-clause-values
+returns-clause-values g c = fields_back c.args.fields.now (returns-clause-meaning g c)
+
+pub returns-in-Err-clause-values : goal.returns-in-Err-clause-values
+returns-in-Err-clause-values g c = fields_back c.args.fields.now (returns-in-Err-clause-meaning g c)
+
+pub returns-in-Err-clause-early : goal.returns-in-Err-clause-early
+returns-in-Err-clause-early g c = early_on c.loop-place.invariant.2 c.in-Err.ensures.early
+
+pub returns-clause-behind : goal.returns-clause-behind
+returns-clause-behind g c = λ items bytes after k calm begins stands tells room.
+    left_behind c.args.fields.now _ _ _ _ _ items bytes after k begins stands tells room c.loop-place.invariant.2 (inr (returns-clause-values g c calm))

@@ -1,4 +1,5 @@
 use Rattle.std.proofs.Common.{◌≡◌, length, take}
+use Rattle.deku_bits.specs.ReaderCalls.{NoneEarly}
 use Rattle.deku_bits.specs.Standings.{reader_state}
 use Rattle.deku_fields.proofs.Stepping.{Continues}
 use Rattle.deku_fields.proofs.read.read_list_into.Given as goal
@@ -8,3 +9,4 @@ invariant-loop-place g l = (length l.out ≡ length l.initial.out)
     × Continues l.fields l.place (take l.place l.out)
     (reader_state (g.R.Source.told l.initial.reader.source).coming l.initial.reader.state) (g.R.Source.told l.initial.reader.source).health
     (reader_state (g.R.Source.told l.reader.source).coming l.reader.state) (g.R.Source.told l.reader.source).health
+    × NoneEarly l.initial.reader.state l.reader.state

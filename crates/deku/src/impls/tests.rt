@@ -1,0 +1,215 @@
+//! Numbers and pairs, against worked examples.
+
+ghost use Rattle.std.specs.Prelude.{◌≤◌};
+
+mod records;
+mod signed;
+mod unsigned;
+
+use crate::traits::{DekuReader, DekuWriter};
+use deku_bits::error::DekuError;
+use deku_bits::reader::Reader;
+use deku_bits::writer::Writer;
+use deku_num::ctx::{Endian, Layout, Order, Size};
+use std::alloc::Global;
+use std::fmt::Debug;
+use std::io::Cursor;
+use std::process::Abort;
+use std::test::Fail;
+
+const MISFIT: DekuError = DekuError::InvalidParam(
+    "bit size of input is larger than requested size",
+);
+
+// How a number lies, its bytes as digits, and its value.
+type Row<T> = (Endian, Order, Size, &'static str, T);
+
+// How a number lies, its bits, and a value that has no such bits.
+type Misfit<T> = (Endian, Order, usize, T);
+
+// What a hexadecimal digit counts.
+fn digit(code: u8) -> u8
+    ensures { result ≤ 15 }
+{
+    match code {
+        b'0'..=b'9' => code - b'0',
+        b'A'..=b'F' => code - b'A' + 10,
+        _ => 0,
+    }
+}
+
+// The bytes that pairs of hexadecimal digits name.
+fn bytes_of(rt: &impl Abort, digits: &str) -> ([u8; 16], usize)
+    ensures { result.1 ≤ 16 }
+{
+    let mut bytes = [0; 16];
+    for (byte, pair) in bytes.iter_mut().zip(digits.as_bytes().chunks(2)) {
+        if let [high, low] = pair {
+            *byte = 16 * digit(*high) + digit(*low);
+        }
+    }
+    assert!(rt; digits.len() <= 32, "{digits}");
+    (bytes, digits.len() / 2)
+}
+
+// Each row's bytes are read as its value, to the last byte.
+fn expect_reads<T: DekuReader<Layout> + PartialEq + Debug>(
+    rt: &impl Abort,
+    alloc: Global,
+    rows: &[Row<T>],
+) -> Result<(), Fail>
+    requires { (layout : Layout) → T.accepts layout }
+{
+    for (endian, order, size, digits, want) in rows {
+        let (bytes, len) = bytes_of(rt, digits);
+        let layout = Layout {
+            endian: *endian,
+            order: *order,
+            size: *size,
+        };
+        let mut reader = Reader::new(alloc, Cursor::new(&bytes[..len]));
+        let value = T::from_reader_with_ctx(&mut reader, layout)?;
+        assert_eq!(rt; value, *want, "of {digits} under {layout:?}");
+        assert_eq!(rt;
+            reader.bits_read().div_ceil(8),
+            len,
+            "of {digits} under {layout:?}"
+        );
+    }
+    Ok(())
+}
+
+// Each row's value is written as its bytes.
+fn expect_writes<T: DekuWriter<Layout> + Debug>(
+    rt: &impl Abort,
+    rows: &[Row<T>],
+) -> Result<(), Fail>
+    requires { (layout : Layout) → T.accepts layout }
+{
+    for (endian, order, size, digits, value) in rows {
+        let (bytes, len) = bytes_of(rt, digits);
+        let layout = Layout {
+            endian: *endian,
+            order: *order,
+            size: *size,
+        };
+        let mut written = [0xA5; 16];
+        let mut writer = Writer::new(Cursor::new(written.as_mut_slice()));
+        value.to_writer(&mut writer, layout)?;
+        writer.finalize()?;
+        let end = writer.into_inner().position() as usize;
+        assert!(rt; end <= 16, "{value:?} under {layout:?}");
+        assert_eq!(rt;
+            &written[..end],
+            &bytes[..len],
+            "{value:?} under {layout:?}"
+        );
+    }
+    Ok(())
+}
+
+// The values do not fit, and nothing is written.
+fn expect_misfits<T: DekuWriter<Layout> + Debug>(
+    rt: &impl Abort,
+    alloc: Global,
+    rows: &[Misfit<T>],
+) -> Result<(), Fail>
+    requires { (layout : Layout) → T.accepts layout }
+{
+    for (endian, order, bits, value) in rows {
+        let layout = Layout {
+            endian: *endian,
+            order: *order,
+            size: Size::Bits(*bits),
+        };
+        let mut writer = Writer::new(Cursor::new(Vec::new(alloc)));
+        assert_eq!(rt;
+            value.to_writer(&mut writer, layout),
+            Err(MISFIT),
+            "{value:?} under {layout:?}"
+        );
+        writer.finalize()?;
+        assert!(rt;
+            writer.into_inner().into_inner().is_empty(),
+            "{value:?} under {layout:?}"
+        );
+    }
+    Ok(())
+}
+
+// A size refuses to be read and to be written with these errors, and nothing moves.
+fn expect_beyond<T: DekuReader<Layout> + DekuWriter<Layout> + Debug>(
+    rt: &impl Abort,
+    alloc: Global,
+    value: T,
+    layout: Layout,
+    errors: (DekuError, DekuError),
+) -> Result<(), Fail>
+    requires reads { (layout : Layout) → T.DekuReader.accepts layout }
+    requires writes { (layout : Layout) → T.DekuWriter.accepts layout }
+{
+    let bytes: &[u8] = &[0xA5; 24];
+    let mut reader = Reader::new(alloc, Cursor::new(bytes));
+    let mut byte = [0];
+    assert_eq!(rt;
+        T::from_reader_with_ctx(&mut reader, layout).err(),
+        Some(errors.0),
+        "under {layout:?}"
+    );
+    assert_eq!(rt; reader.bits_read(), 0, "under {layout:?}");
+    reader.read_bytes_const_into(&mut byte, Order::Msb0)?;
+    assert_eq!(rt; byte, [0xA5], "under {layout:?}");
+    assert_eq!(rt; reader.into_inner().position(), 1, "under {layout:?}");
+    let mut writer = Writer::new(Cursor::new(Vec::new(alloc)));
+    assert_eq!(rt;
+        value.to_writer(&mut writer, layout),
+        Err(errors.1),
+        "under {layout:?}"
+    );
+    writer.finalize()?;
+    assert!(rt;
+        writer.into_inner().into_inner().is_empty(),
+        "under {layout:?}"
+    );
+    Ok(())
+}
+
+// One bit and one byte more than a type has are refused.
+fn expect_one_beyond<T: Copy + DekuReader<Layout> + DekuWriter<Layout> + Debug>(
+    rt: &impl Abort,
+    alloc: Global,
+    value: T,
+    bits: usize,
+) -> Result<(), Fail>
+    requires reads { (layout : Layout) → T.DekuReader.accepts layout }
+    requires writes { (layout : Layout) → T.DekuWriter.accepts layout }
+{
+    let (endian, order) = (Endian::Big, Order::Lsb0);
+    let read = DekuError::Parse("too much data");
+    let size = Size::Bits(bits.saturating_add(1));
+    let written = DekuError::InvalidParam("bit size is larger than input");
+    expect_beyond(
+        rt,
+        alloc,
+        value,
+        Layout {
+            endian,
+            order,
+            size,
+        },
+        (read, written),
+    )?;
+    let size = Size::Bytes(bits / 8 + 1);
+    let written = DekuError::InvalidParam("byte size is larger than input");
+    expect_beyond(
+        rt,
+        alloc,
+        value,
+        Layout {
+            endian,
+            order,
+            size,
+        },
+        (read, written),
+    )
+}

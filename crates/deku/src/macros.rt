@@ -1,0 +1,28 @@
+//! A refusal by its name.
+
+/// A refusal by its variant alone, or by its variant and its text. A format and arguments may follow: they are evaluated and dropped, and the
+/// refusal has its fixed text.
+///
+/// ```text
+/// deku_error!(DekuError::IdVariantNotFound)
+/// deku_error!(DekuError::Parse, "no such version")
+/// deku_error!(DekuError::Assertion, "Field failed assertion", "version {}", version)
+/// ```
+#[macro_export]
+macro_rules! deku_error {
+    ($variant:path) => {
+        $variant
+    };
+    ($variant:path, $text:expr) => {
+        $variant($text)
+    };
+    ($variant:path, $text:expr, $format:expr $(, $argument:expr)* $(,)?) => {{
+        $(
+            let _ = &$argument;
+        )*
+        $variant($text)
+    }};
+}
+
+#[cfg(test)]
+mod tests;

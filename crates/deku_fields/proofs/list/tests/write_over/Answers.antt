@@ -1,0 +1,18 @@
+use Rattle.std.proofs.Common.{refl, arith}
+use Rattle.deku_bits.specs.WriterCalls.{Finalizes}
+use Rattle.deku.proofs.Joining.{first_refused, then_on}
+use Rattle.deku_fields.proofs.Sound.{sound}
+use Rattle.deku_fields.proofs.Padded.{padded_law}
+use Rattle.deku_fields.proofs.list.tests.write_over.Goals as goal
+
+pub returns-in-Ok : goal.returns-in-Ok
+returns-in-Ok c = λ bytes all aligned laid room small.
+    let m = sound (then_on {k = λ _. Finalizes} c.in-Ok.ensures.meaning c.finalize.ensures) (record { count = 0; known = refl; still = refl }) in
+    let n = rw (c.new-writer.ensures.sink, c.new-writer.ensures.state, c.new.ensures.inner, c.new.ensures.position) at m in
+    (padded_law c.args.items.now bytes _ 0 _ _ (record { fitting = all; aligned = aligned; laid = laid; none = refl; room = omega arith; countable = omega arith }) n).0
+
+pub returns-in-Err : goal.returns-in-Err
+returns-in-Err c = λ bytes all aligned laid room small.
+    let m = sound (first_refused {k = λ _. Finalizes} c.in-Err.ensures.meaning) (record { count = 0; known = refl; still = refl }) in
+    let n = rw (c.new-writer.ensures.sink, c.new-writer.ensures.state, c.new.ensures.inner, c.new.ensures.position) at m in
+    (padded_law c.args.items.now bytes _ 0 _ _ (record { fitting = all; aligned = aligned; laid = laid; none = refl; room = omega arith; countable = omega arith }) n).0

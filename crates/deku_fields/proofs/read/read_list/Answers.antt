@@ -1,0 +1,26 @@
+use Rattle.std.proofs.Common.{◌≡◌, ◌∙◌, ◌++◌, length, take, drop, arith}
+use Rattle.std.proofs.lemmas.List.{take_at}
+use Rattle.deku_fields.proofs.ReadBack.{found, vec_back, left_behind}
+use Rattle.deku_fields.proofs.read.read_list.Goals as goal
+
+pub returns-in-Ok-read_list_into-clause-meaning : goal.returns-in-Ok-read_list_into-clause-meaning
+returns-in-Ok-read_list_into-clause-meaning g c =
+    let numbers = c.read_list_into.new.out in
+    let same : length numbers ≡ length c.as_mut_slice.result.now = omega arith in
+    let whole : take c.in-Ok.numbers.len (numbers ++ drop (length numbers) c.in-Ok.numbers.items) ≡ numbers =
+    take_at numbers (drop (length numbers) c.in-Ok.numbers.items) c.in-Ok.numbers.len (same ∙ c.as_mut_slice.ensures.len) in
+    rw whole (found c.args.fields.now c.in-Ok-read_list_into.ensures.meaning)
+
+pub returns-in-Ok-read_list_into-clause-values : goal.returns-in-Ok-read_list_into-clause-values
+returns-in-Ok-read_list_into-clause-values g c = vec_back c.args.fields.now (returns-in-Ok-read_list_into-clause-meaning g c)
+
+pub returns-in-Err-clause-meaning : goal.returns-in-Err-clause-meaning
+returns-in-Err-clause-meaning g c = found c.args.fields.now c.in-Err.ensures.meaning
+
+pub returns-in-Err-clause-values : goal.returns-in-Err-clause-values
+returns-in-Err-clause-values g c = vec_back c.args.fields.now (returns-in-Err-clause-meaning g c)
+
+pub returns-in-Ok-read_list_into-clause-behind : goal.returns-in-Ok-read_list_into-clause-behind
+returns-in-Ok-read_list_into-clause-behind g c = λ items bytes after k calm begins stands tells room.
+    left_behind c.args.fields.now _ _ _ _ _ items bytes after k begins stands tells room c.in-Ok-read_list_into.ensures.early
+    (returns-in-Ok-read_list_into-clause-values g c calm)

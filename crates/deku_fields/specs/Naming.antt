@@ -1,0 +1,88 @@
+-- The words of a command line, and what they name.
+use Rattle.std.specs.Prelude.{◌≡◌, ◌⊎◌, ℕ, ◌<◌, ◌≤◌, ◌^◌, true, List, [], ◌∷◌, ◌++◌, codes, pos, neg_ℤ, ⊤}
+use Rattle.std.specs.Str.Parse.{IsNumeral, digits_value}
+use Rattle.deku_bits.specs.declared.ctx.Order.TheVariants.{Msb0}
+use Rattle.deku_num.specs.declared.ctx.Endian.{Endian}
+use Rattle.deku_num.specs.declared.ctx.Endian.TheVariants.{Little, Big}
+use Rattle.deku_num.specs.declared.ctx.Size.{Size}
+use Rattle.deku_num.specs.declared.ctx.Size.TheVariants.{Whole, Bits}
+use Rattle.deku_fields.specs.declared.list.Kind.{Kind}
+use Rattle.deku_fields.specs.declared.list.Kind.TheVariants.{U8, U16, U32, U64, U128, Usize, I8, I16, I32, I64, I128, Isize}
+use Rattle.deku_fields.specs.declared.list.Number.{Number}
+use Rattle.deku_fields.specs.declared.list.Number.TheVariants.{Unsigned, Signed}
+use Rattle.deku_fields.specs.declared.list.Field.{Field}
+use Rattle.deku_fields.specs.declared.list.Item.{Item}
+use Rattle.deku_fields.specs.Items.{number_type}
+
+-- the name of a kind
+abbrev pub kind_name : Kind → List ℕ
+kind_name U8 = codes "u8"
+kind_name U16 = codes "u16"
+kind_name U32 = codes "u32"
+kind_name U64 = codes "u64"
+kind_name U128 = codes "u128"
+kind_name Usize = codes "usize"
+kind_name I8 = codes "i8"
+kind_name I16 = codes "i16"
+kind_name I32 = codes "i32"
+kind_name I64 = codes "i64"
+kind_name I128 = codes "i128"
+kind_name Isize = codes "isize"
+
+-- a count in decimal digits alone
+abbrev pub NamesCount : List ℕ → ℕ → Type 0
+NamesCount text n = IsNumeral 10 text × (n ≡ digits_value 10 text) × (n < 2 ^ 64)
+
+-- a number in decimal digits, with or without a minus; without one it is signed for a signed kind where it can be
+pub data NamesNumber (kind : Kind) (text : List ℕ) : Number → Type 0 where
+  Negative : (digits : List ℕ) → text ≡ codes "-" ++ digits → IsNumeral 10 digits → digits_value 10 digits ≤ 2 ^ 127
+      → NamesNumber kind text (Signed (neg_ℤ (pos (digits_value 10 digits))))
+  Positive : IsNumeral 10 text → (number_type kind).signed ≡ true → digits_value 10 text < 2 ^ 127 → NamesNumber kind text (Signed (pos (digits_value 10 text)))
+  Plain : IsNumeral 10 text → ((number_type kind).signed ≡ true → 2 ^ 127 ≤ digits_value 10 text) → digits_value 10 text < 2 ^ 128
+      → NamesNumber kind text (Unsigned (digits_value 10 text))
+
+-- an endian behind a comma; little where there is none
+abbrev pub NamesEndian : List ℕ → Endian → Type 0
+NamesEndian text e = ((text ≡ codes ",big") × (e ≡ Big)) ⊎ (((text ≡ codes ",little") ⊎ (text ≡ [])) × (e ≡ Little))
+
+-- a size behind a comma; all bits of the kind where there is none
+abbrev pub NamesSize : List ℕ → Size → Type 0
+NamesSize text s = ((text ≡ []) × (s ≡ Whole)) ⊎ ((digits : List ℕ) × (n : ℕ) × (text ≡ codes ",bits" ++ digits) × NamesCount digits n × (s ≡ Bits n))
+
+-- a field: its kind, and then its endian, `msb` and its size, each of which may be left out
+pub record NamesField (word : List ℕ) (f : Field) : Type 0 where
+  pub endian : List ℕ
+  pub msb : List ℕ
+  pub size : List ℕ
+  pub parts : word ≡ kind_name f.kind ++ (endian ++ (msb ++ size))
+  pub endian_named : NamesEndian endian f.layout.endian
+  pub msb_named : (msb ≡ codes ",msb") ⊎ (msb ≡ [])
+  pub order_is : f.layout.order ≡ Msb0
+  pub size_named : NamesSize size f.layout.size
+
+-- an item: a field, `=` and its value
+pub record NamesItem (word : List ℕ) (i : Item) : Type 0 where
+  pub field : List ℕ
+  pub value : List ℕ
+  pub parts : word ≡ field ++ (codes "=" ++ value)
+  pub field_named : NamesField field i.field
+  pub value_named : NamesNumber i.field.kind value i.value
+
+-- ---- on the way
+-- nothing, or what begins with a comma
+abbrev pub BeginsOption : List ℕ → Type 0
+BeginsOption [] = ⊤
+BeginsOption (c ∷ cs) = codes "," ≡ c ∷ []
+
+-- the text does not begin with the other
+abbrev pub Lacks : List ℕ → List ℕ → Type 0
+Lacks front text = (rest : List ℕ) → text ≡ front ++ rest → ⊥
+
+-- an endian is in front of the rest, or none is and it is little
+abbrev pub SplitsEndian : List ℕ → Endian → List ℕ → Type 0
+SplitsEndian text e rest = ((text ≡ codes ",big" ++ rest) × (e ≡ Big)) ⊎ ((text ≡ codes ",little" ++ rest) × (e ≡ Little))
+    ⊎ ((text ≡ rest) × (e ≡ Little) × Lacks (codes ",big") text × Lacks (codes ",little") text)
+
+-- `,msb` is in front of the rest, or the text lacks it
+abbrev pub SplitsMsb : List ℕ → List ℕ → Type 0
+SplitsMsb text rest = (text ≡ codes ",msb" ++ rest) ⊎ ((text ≡ rest) × Lacks (codes ",msb") text)

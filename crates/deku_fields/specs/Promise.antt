@@ -1,0 +1,124 @@
+-- What the calls on lists promise: from bytes that begin with a layout its values are read, and items are written as their layout.
+use Rattle.std.specs.Prelude.{◌≡◌, ◌⊎◌, ℕ, false, ◌+◌, ◌*◌, ◌-◌, ◌<◌, ◌≤◌, ◌^◌, length, map, take, All, MatchResult, OnOk, List, [], ◌++◌, Option, None, Some, Result, Ok, Err}
+use Rattle.std.specs.Global.{Vec}
+use Rattle.std.specs.declared.io.ErrorKind.TheVariants.{OutOfMemory}
+use Rattle.deku_bits.specs.declared.error.DekuError.{DekuError}
+use Rattle.deku_bits.specs.declared.error.DekuError.TheVariants.{Io}
+use Rattle.deku_bits.specs.declared.ctx.Order.TheVariants.{Msb0}
+use Rattle.deku_bits.specs.declared.reader.Reader.{Reader}
+use Rattle.deku_bits.specs.declared.writer.Writer.{Writer}
+use Rattle.deku_bits.specs.Streams.{Stream, fresh}
+use Rattle.deku_bits.specs.Pieces.{total, cleared, last_order}
+use Rattle.deku_bits.specs.Writers.{Nothing, Written, padded}
+use Rattle.deku_bits.specs.Devices.{Health, SourceTold, SinkTold}
+use Rattle.deku_bits.specs.Standings.{Standing, Going, Output, reader_state, writer_state}
+use Rattle.deku_bits.specs.WriterCalls.{Took, Finalizes}
+use Rattle.deku.specs.Composing.{Both}
+use Rattle.deku_fields.specs.declared.list.Number.{Number}
+use Rattle.deku_fields.specs.declared.list.Field.{Field}
+use Rattle.deku_fields.specs.declared.list.Item.{Item}
+use Rattle.deku_fields.specs.Items.{field_shape, IsAllowedField, IsFitting, AlignedFields, LaysOut, Reads, fields_of, values_of}
+use Rattle.deku_fields.specs.ListCalls.{WritesItems}
+
+-- ---- devices that do not fail
+-- a device tells of its failures, and none came
+pub record Unfailing (before after : Health) : Type 0 where
+  pub count : ℕ
+  pub known : before.failures ≡ Some count
+  pub still : after.failures ≡ Some count
+
+-- a call on a reader does what m says, where its source tells of its failures and none comes
+abbrev pub ReadsWhereSound : {R V : Type 0} → (R → SourceTold) → (Standing (Option Stream) → Result V DekuError → Standing (Option Stream) → Type 0) → Reader R → Result V DekuError → Reader R → Type 0
+ReadsWhereSound told m old r new = Unfailing (told old.source).health (told new.source).health
+    → m (reader_state (told old.source).coming old.state) r (reader_state (told new.source).coming new.state)
+
+-- a call on a writer does what m says, where its sink tells of its failures and none comes
+abbrev pub WritesWhereSound : {W : Type 0} → (W → SinkTold) → (Standing Output → Result (Unit {0}) DekuError → Standing Output → Type 0) → Writer W → Result (Unit {0}) DekuError → Writer W → Type 0
+WritesWhereSound told m old r new = Unfailing (told old.sink).health (told new.sink).health
+    → m (writer_state (told old.sink) old.state) r (writer_state (told new.sink) new.state)
+
+-- ---- reading
+-- bytes begin with what aligned fitting items of these fields lay out, and others follow
+pub record Begins (fs : List Field) (items : List Item) (bytes after : List ℕ) : Type 0 where
+  pub of_fields : fields_of items ≡ fs
+  pub fitting : All IsFitting items
+  pub aligned : AlignedFields fs
+  pub written : List ℕ
+  pub laid : LaysOut items written
+  pub begins : bytes ≡ written ++ after
+
+-- fields were read from bytes: these values; their bits are counted from c on, and the unread bits of the last byte and the bytes behind are still to come
+pub record HasRead (fs : List Field) (bytes : List ℕ) (values : List Number) (c : ℕ) (after : List ℕ) (u : Standing (Option Stream)) : Type 0 where
+  pub rest : Stream
+  pub read : Reads fs (fresh bytes) values rest
+  pub behind : rest.bytes ≡ after
+  pub unread : total (map field_shape fs) + length rest.window + 8 * length after ≡ 8 * length bytes
+  pub stands : u ≡ Going (Some rest) (c + total (map field_shape fs))
+
+-- before bytes that begin with what aligned fitting items lay out, whatever follows, the fields read exactly the items' values
+abbrev pub ReadsBack : List Field → Standing (Option Stream) → Result (List Number) DekuError → Standing (Option Stream) → Type 0
+ReadsBack fs s r u = (items : List Item) (bytes after : List ℕ) (c : ℕ) → Begins fs items bytes after → s ≡ Going (Some (fresh bytes)) c
+    → c + total (map field_shape fs) < 2 ^ 64 → (r ≡ Ok (values_of items)) × HasRead fs bytes (values_of items) c after u
+
+-- the same in memory that is found first, or it is refused and nothing changed
+abbrev pub ReadsBackVec : List Field → Standing (Option Stream) → Result (List Number) DekuError → Standing (Option Stream) → Type 0
+ReadsBackVec fs s r u = ((r ≡ Err (Io OutOfMemory)) × (u ≡ s)) ⊎ ReadsBack fs s r u
+
+-- Where no bit of a byte was unread and the source told bytes that begin with what aligned fitting items lay out, it tells exactly those behind,
+-- when the fields were read.
+abbrev pub LeavesBehind : {R : Type 0} → (R → SourceTold) → List Field → Reader R → Result (List Number) DekuError → Reader R → Type 0
+LeavesBehind told fs old r new = (items : List Item) (bytes after : List ℕ) (c : ℕ) → Unfailing (told old.source).health (told new.source).health
+    → Begins fs items bytes after → old.state ≡ Going [] c → (told old.source).coming ≡ Some bytes → c + total (map field_shape fs) < 2 ^ 64
+    → OnOk r ((told new.source).coming ≡ Some after)
+
+-- from bytes that begin with what aligned fitting items lay out, whatever follows, the fields read exactly the items' values, and their width
+abbrev pub ReadsBackFrom : List Field → List ℕ → Result (ℕ × Vec Number) DekuError → Type 0
+ReadsBackFrom fs bytes r = (items : List Item) (after : List ℕ) → Begins fs items bytes after → total (map field_shape fs) < 2 ^ 64
+    → MatchResult r (λ v. (v.0 ≡ total (map field_shape fs)) × (v.1.items ≡ values_of items)) (λ e. e ≡ Io OutOfMemory)
+
+-- ---- writing
+-- the room is told, and n bytes are not more
+abbrev pub HasRoom : Option ℕ → ℕ → Type 0
+HasRoom None n = ⊥
+HasRoom (Some room) n = n ≤ room
+
+-- bytes that aligned fitting items lay out, which go to a sink that has the room, where nothing is pending; and their bits can be counted
+pub record Fills (items : List Item) (bytes : List ℕ) (out : Output) (c : ℕ) : Type 0 where
+  pub fitting : All IsFitting items
+  pub aligned : AlignedFields (fields_of items)
+  pub laid : LaysOut items bytes
+  pub none : out.pending ≡ Nothing
+  pub room : HasRoom out.room (length bytes)
+  pub countable : c + 8 * length bytes < 2 ^ 64
+
+-- the items were written: what the sink took, and then the padding of what is pending, are these bytes
+pub record HasWritten (bytes : List ℕ) (out : Output) (c : ℕ) (u : Standing Output) : Type 0 where
+  pub written : Written
+  pub whole : written.bytes ++ padded written.pending ≡ bytes
+  pub after : Output
+  pub took : Took written out after
+  pub stands : u ≡ Going after (c + 8 * length written.bytes)
+
+-- aligned fitting items are written where nothing is pending and there is room: padded once, they are exactly what they lay out
+abbrev pub WritesLaid : List Item → Standing Output → Result (Unit {0}) DekuError → Standing Output → Type 0
+WritesLaid items s r u = (bytes : List ℕ) (out : Output) (c : ℕ) → Fills items bytes out c → s ≡ Going out c → (r ≡ Ok tt) × HasWritten bytes out c u
+
+-- Where nothing is pending and there is room, aligned fitting items that are written and padded once give the sink exactly what they lay out.
+abbrev pub PaddedLaw : Type 0
+PaddedLaw = (items : List Item) (bytes : List ℕ) (out : Output) (c : ℕ) (r : Result (Unit {0}) DekuError) (u : Standing Output) → Fills items bytes out c
+    → Both (WritesItems items) Finalizes false (Going out c) r u
+    → (r ≡ Ok tt) × ((after : Output) × Took (record { bytes = bytes; pending = Nothing }) out after × (u ≡ Going after (c + 8 * length bytes)))
+
+-- the bits of the bytes that items lay out can be counted
+abbrev pub IsCountable : List Item → Type 0
+IsCountable items = (bytes : List ℕ) → LaysOut items bytes → 8 * length bytes < 2 ^ 64
+
+-- aligned fitting items are the bytes that they lay out
+abbrev pub LaidOut : List Item → Result (Vec ℕ) DekuError → Type 0
+LaidOut items r = All IsFitting items → AlignedFields (fields_of items) → IsCountable items → MatchResult r (λ v. LaysOut items v.items) (λ e. e ≡ Io OutOfMemory)
+
+-- items whose aligned fields read their values from bytes are written as the bytes taken, unread bits zero
+abbrev pub WritesBack : List Item → Result (Vec ℕ) DekuError → Type 0
+WritesBack items r = (bytes : List ℕ) (T : Stream) → All IsAllowedField (fields_of items) → AlignedFields (fields_of items) → IsCountable items
+    → All (λ b. b < 256) bytes → Reads (fields_of items) (fresh bytes) (values_of items) T
+    → MatchResult r (λ v. v.items ≡ cleared (last_order Msb0 (map field_shape (fields_of items))) (length T.window) (take (length bytes - length T.bytes) bytes)) (λ e. e ≡ Io OutOfMemory)

@@ -1,0 +1,78 @@
+-- What a run of the program does: the words that it is given, the text that it reads and the text that it writes.
+use Rattle.std.specs.Prelude.{◌≡◌, ◌⊎◌, ℕ, List, [], ◌∷◌, ◌++◌, map, flat_map, Ok, Option, IfSome, String, string_bytes, decimal, codes, ⊤}
+use Rattle.std.specs.Fmt.{signed_decimal}
+use Rattle.std.specs.List.{AllZip}
+use Rattle.std.specs.Global.{Vec}
+use Rattle.std.specs.Io.KnownBytes.{Appends}
+use Rattle.hex.specs.Hex.{encode_lower, decode_of}
+use Rattle.deku_bits.specs.WriterCalls.{Finalizes}
+use Rattle.deku.specs.Composing.{Both}
+use Rattle.deku_fields.specs.declared.list.Field.{Field}
+use Rattle.deku_fields.specs.declared.list.Item.{Item}
+use Rattle.deku_fields.specs.declared.list.Number.{Number}
+use Rattle.deku_fields.specs.declared.list.Number.TheVariants.{Unsigned, Signed}
+use Rattle.deku_fields.specs.ListCalls.{ListFrom, WritesItems, WritesWhole}
+use Rattle.deku_fields.specs.Naming.{NamesField, NamesItem}
+use Rattle.deku_fields.specs.Promise.{LaidOut, ReadsBackFrom}
+
+-- the bytes of texts
+abbrev pub words_of : {A : Type 0} → List (String A) → List (List ℕ)
+words_of texts = map string_bytes texts
+
+-- a text as a line
+abbrev pub line : List ℕ → List ℕ
+line text = text ++ 10 ∷ []
+
+-- the words name items, and the text is a line of the bytes that these are written as, in hexadecimal
+pub record ShowsWritten (words : List (List ℕ)) (text : List ℕ) : Type 0 where
+  pub items : List Item
+  pub named : AllZip NamesItem words items
+  pub bytes : Vec ℕ
+  pub written : WritesWhole (Both (WritesItems items) Finalizes) (Ok bytes)
+  pub laid_out : LaidOut items (Ok bytes)
+  pub shown : text ≡ line (encode_lower bytes.items)
+
+-- a number in decimal digits
+abbrev pub number_text : Number → List ℕ
+number_text (Unsigned n) = decimal n
+number_text (Signed z) = signed_decimal z
+
+-- the inner text is the text without one newline at its end, where it has one
+abbrev pub LosesNewline : List ℕ → List ℕ → Type 0
+LosesNewline text inner = (text ≡ line inner) ⊎ ((text ≡ inner) × ((front : List ℕ) → text ≡ line front → ⊥))
+
+-- the text shows bytes in hexadecimal
+pub record IsHexText (text bytes : List ℕ) : Type 0 where
+  pub digits : List ℕ
+  pub trimmed : LosesNewline text digits
+  pub decoded : decode_of digits ≡ Ok bytes
+
+-- The words name fields, which are read from the bytes that the input shows, where it is known. The text has the values, a line each, and then
+-- how many bits were read.
+pub record ShowsRead (words : List (List ℕ)) (input : Option (List ℕ)) (text : List ℕ) : Type 0 where
+  pub fields : List Field
+  pub named : AllZip NamesField words fields
+  pub bytes : List ℕ
+  pub given : IfSome input (λ shown. IsHexText shown bytes)
+  pub bits : ℕ
+  pub values : Vec Number
+  pub read : ListFrom fields bytes (Ok (bits, values))
+  pub back : ReadsBackFrom fields bytes (Ok (bits, values))
+  pub shown : text ≡ flat_map (λ n. line (number_text n)) values.items ++ line (codes "bits " ++ decimal bits)
+
+-- the words ask for this text: `write` and items, or `read` and fields
+abbrev pub Asks : List (List ℕ) → Option (List ℕ) → List ℕ → Type 0
+Asks [] input text = ⊥
+Asks (name ∷ words) input text = ((name ≡ codes "write") × ShowsWritten words text) ⊎ ((name ≡ codes "read") × ShowsRead words input text)
+
+-- the text that the words ask for was given to the output
+pub record IsDone (words : List (List ℕ)) (input before after : Option (List ℕ)) : Type 0 where
+  pub text : List ℕ
+  pub asked : Asks words input text
+  pub given : Appends before after text
+
+-- the words are neither `write` and items nor `read` and fields
+abbrev pub AreNoForm : List (List ℕ) → Type 0
+AreNoForm [] = ⊤
+AreNoForm (name ∷ words) = (name ≡ codes "write" → (items : List Item) → AllZip NamesItem words items → ⊥)
+    × (name ≡ codes "read" → (fields : List Field) → AllZip NamesField words fields → ⊥)
