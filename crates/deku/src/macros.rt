@@ -23,3 +23,6 @@ macro_rules! deku_error {
         $variant($text)
     }};
 }
+
+#[cfg(test)]
+mod tests;

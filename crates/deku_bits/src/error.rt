@@ -138,3 +138,6 @@ impl Fault {
         }
     }
 }
+
+#[cfg(test)]
+mod tests;

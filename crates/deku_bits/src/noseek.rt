@@ -168,3 +168,6 @@ impl<T: Write> Sink for NoSeek<T> {
         self.write_all(bytes)
     }
 }
+
+#[cfg(test)]
+mod tests;

@@ -165,3 +165,6 @@ impl Sink for FailAt<&mut [u8]> {
         Ok(())
     }
 }
+
+#[cfg(test)]
+mod tests;

@@ -79,3 +79,6 @@ fn count_for(to: SeekFrom, count: usize) -> Option<usize>
         }
     }
 }
+
+#[cfg(test)]
+mod tests;

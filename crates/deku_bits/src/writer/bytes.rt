@@ -103,3 +103,6 @@ pub fn push_bytes_onto<W: Sink>(
         Order::Lsb0 => push_bytes_above(sink, held, bytes),
     }
 }
+
+#[cfg(test)]
+mod tests;

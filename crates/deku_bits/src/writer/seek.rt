@@ -47,3 +47,6 @@ impl<W: Sink> Seek for Writer<W> {
         }
     }
 }
+
+#[cfg(test)]
+mod tests;
