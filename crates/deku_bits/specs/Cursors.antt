@@ -4,11 +4,19 @@ use Rattle.std.specs.Borrow.{MutBor}
 use Rattle.std.specs.Io.Cursor.{cursor_remaining, cursor_position, cursor_inner}
 use Rattle.std.specs.declared.io.Cursor.{Cursor}
 use Rattle.deku_bits.specs.declared.probe.FailAt.{FailAt}
+use Rattle.deku_bits.specs.declared.probe.trickle.Trickle.{Trickle}
 use Rattle.deku_bits.specs.Devices.{SourceTold, SinkTold, bytes_before}
 
 -- the bytes from the place on, where all bytes are known
 pub cursor_told : {T : Type 0} (bytes : T → Option (List ℕ)) (c : Cursor T) (at : ℕ) (all : List ℕ) → Some (cursor_position c) ≡ Some at → bytes (cursor_inner c) ≡ Some all → cursor_remaining bytes c ≡ Some (drop at all)
 cursor_told bytes c at all p q = rw q (cc)
+
+-- what a source that gives one byte at a time tells
+abbrev pub trickling : Trickle → SourceTold
+trickling s = record {
+  coming = cursor_remaining (λ b. Some b.now) s.inner;
+  health = record { failures = Some 0; lenders = [] };
+}
 
 -- how many calls failed, where so many are left up to the one that fails
 abbrev pub failures_at : ℕ → ℕ

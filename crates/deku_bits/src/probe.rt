@@ -1,4 +1,4 @@
-//! Devices for tests of codecs: a source and sink that fails once.
+//! Devices for tests of codecs: a source that gives one byte at a time, and a source and sink that fails once.
 
 ghost use Rattle.std.specs.Prelude.{◌≡◌, ◌≢◌, ◌<◌, ◌≤◌, ◌-◌, min, [], ◌∷◌, Some, None, length, OnOk, OnErr, IfOk, IfErr, IsOk};
 ghost use Rattle.std.specs.Io.{ReadsAtMost, WritesAtMost};
@@ -9,9 +9,12 @@ ghost use Rattle.std.specs.IoError.{error_kind};
 ghost use Rattle.deku_bits.specs.Cursors.{cursor_told, failing_source, failing_sink};
 ghost use Rattle.deku_bits.specs.Devices.{NoFewerFailures, MoreFailures, FewerThan, StaysEmpty, Gave, Declined};
 
+mod trickle;
+
 use crate::device::{Sink, Source};
 use std::io;
 use std::io::{AsBytes, Cursor, Error, ErrorKind, Read, Seek, SeekFrom, Write};
+pub use trickle::Trickle;
 
 /// A cursor that moves one byte at a time and fails once, with kind `Other`, at its nth read, write or seek, counted from 1. That call moves
 /// nothing. It tells its bytes, and that no call failed or that one did.

@@ -4,7 +4,7 @@ use super::{BITS, FAILED};
 use crate::ctx::Order;
 use crate::ctx::Order::{Lsb0, Msb0};
 use crate::error::DekuError;
-use crate::probe::FailAt;
+use crate::probe::{FailAt, Trickle};
 use crate::reader::Reader;
 use std::alloc::Global;
 use std::io::{Cursor, ErrorKind, Read, Seek, SeekFrom};
@@ -162,5 +162,21 @@ fn fails_once(rt: HostRuntime) -> Result<(), Fail> {
     source.read_exact(&mut buf)?;
     assert_eq!(rt; buf, [0xAA, 0xBB, 0xCC]);
     assert_eq!(rt; source.into_inner().position(), 3);
+    Ok(())
+}
+
+#[test]
+fn trickles(rt: HostRuntime) -> Result<(), Fail> {
+    let bytes = [0xA1, 0x34, 0x12];
+    let mut source = Trickle::new(bytes.as_slice());
+    let mut three = [0; 3];
+    assert_eq!(rt; source.read(&mut three)?, 1);
+    assert_eq!(rt; three, [0xA1, 0, 0]);
+    assert_eq!(rt; source.seek(SeekFrom::Start(0))?, 0);
+    let mut reader = Reader::new(rt.alloc(), source);
+    reader.read_bytes_const_into(&mut three, Lsb0)?;
+    assert_eq!(rt; three, bytes);
+    assert_eq!(rt; reader.end(), Ok(true));
+    assert_eq!(rt; reader.bits_read(), 24);
     Ok(())
 }
