@@ -1,2 +1,3 @@
 pub mod Joining
 pub mod Exact
+pub mod Turns
