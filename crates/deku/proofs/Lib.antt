@@ -1,3 +1,5 @@
 pub mod Joining
 pub mod Exact
 pub mod Turns
+pub mod Turning
+pub mod Slots

@@ -18,3 +18,4 @@ pub use Rattle.deku_num.specs.Contexts
 pub use Rattle.deku_num.specs.Sizes
 pub mod Composing
 pub mod Giving
+pub mod Lists

@@ -1,5 +1,6 @@
 //! What can be read and written.
 
+mod array;
 mod primitive;
 mod slice;
 #[cfg(test)]

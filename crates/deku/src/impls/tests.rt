@@ -2,6 +2,7 @@
 
 ghost use Rattle.std.specs.Prelude.{◌≤◌};
 
+mod lists;
 mod records;
 mod signed;
 mod unsigned;
