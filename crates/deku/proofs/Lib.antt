@@ -3,3 +3,5 @@ pub mod Exact
 pub mod Turns
 pub mod Turning
 pub mod Slots
+pub mod Runs
+pub mod Endings
