@@ -1,3 +1,8 @@
 pub mod Joining
 pub mod Exact
 pub mod Holding
+pub mod Turns
+pub mod Turning
+pub mod Slots
+pub mod Runs
+pub mod Endings

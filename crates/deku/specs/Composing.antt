@@ -1,5 +1,5 @@
 -- How the meanings of items make that of a composite. They serve reading and writing alike.
-use Rattle.std.specs.Prelude.{◌≡◌, Bool, false, Result, Ok, Err}
+use Rattle.std.specs.Prelude.{◌≡◌, Bool, false, List, [], ◌∷◌, Result, Ok, Err}
 use Rattle.deku_bits.specs.declared.error.DekuError.{DekuError}
 use Rattle.deku_bits.specs.Standings.{Standing}
 use Rattle.deku_bits.specs.Outcomes.{Meaning}
@@ -20,3 +20,8 @@ PairOf m n = Then m (λ v. Then n (λ w. Answer (v, w)))
 -- two calls without a value, the first first
 abbrev pub Both : {A : Type 0} → Meaning A (Unit {0}) → Meaning A (Unit {0}) → Meaning A (Unit {0})
 Both m n = Then m (λ _. n)
+
+-- items are written one after the other
+abbrev pub WritesEach : {A V : Type 0} → (V → Meaning A (Unit {0})) → List V → Meaning A (Unit {0})
+WritesEach m [] = Answer tt
+WritesEach m (v ∷ vs) = Both (m v) (WritesEach m vs)

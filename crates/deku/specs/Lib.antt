@@ -19,3 +19,5 @@ pub use Rattle.deku_num.specs.Sizes
 pub mod Composing
 pub mod Giving
 pub mod Shapes
+pub mod Lists
+pub mod Texts

@@ -10,4 +10,5 @@ pub use deku_bits::error::DekuError;
 pub use deku_bits::{bounded, device, error, noseek, probe, reader, writer};
 pub use deku_num::size::{DekuSize, DekuSizeConst};
 pub use deku_num::{calls, ctx, kind, size};
+pub use impls::cstring;
 pub use traits::{DekuReader, DekuWriter};

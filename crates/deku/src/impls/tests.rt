@@ -2,8 +2,10 @@
 
 ghost use Rattle.std.specs.Prelude.{◌≤◌};
 
+mod lists;
 mod records;
 mod signed;
+mod texts;
 mod unsigned;
 
 use crate::traits::{DekuReader, DekuWriter};

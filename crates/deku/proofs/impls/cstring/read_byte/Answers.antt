@@ -1,0 +1,15 @@
+use Rattle.deku_bits.specs.Outcomes.{Quiet}
+use Rattle.deku_bits.proofs.Handing.{no_fewer_same}
+use Rattle.deku.specs.Lists.{NoMemory}
+use Rattle.deku.proofs.Joining.{first_refused, then_on}
+use Rattle.deku.proofs.Runs.{stored}
+use Rattle.deku.proofs.impls.cstring.read_byte.Goals as goal
+
+pub returns-in-Ok-push-clause-reads : goal.returns-in-Ok-push-clause-reads
+returns-in-Ok-push-clause-reads g c = stored c.in-Ok.ensures
+
+pub returns-in-Err-push-clause-reads : goal.returns-in-Err-push-clause-reads
+returns-in-Err-push-clause-reads g c = then_on c.in-Ok.ensures (Quiet NoMemory (no_fewer_same _))
+
+pub returns-in-Err-clause-reads : goal.returns-in-Err-clause-reads
+returns-in-Err-clause-reads g c = first_refused c.in-Err.ensures

@@ -1,0 +1,215 @@
+//! Texts that end with a zero.
+
+ghost use Rattle.std.specs.Prelude.{◌≡◌, ◌<◌, ℕ, List, [], ◌∷◌, ◌++◌, length, codes, IfOk, IfErr, MatchOption};
+ghost use Rattle.std.specs.List.{Contains};
+ghost use Rattle.deku_bits.specs.declared.error.DekuError.TheVariants.{Parse};
+ghost use Rattle.deku_bits.specs.ReaderCalls.{Reads};
+ghost use Rattle.deku_bits.specs.Faults.{Tells};
+ghost use Rattle.deku.specs.Lists.{Runs, on_value};
+ghost use Rattle.deku.specs.Texts.{NoZeros, IsEnded, ReadsByte};
+
+use crate::traits::{DekuReader, DekuWriter};
+use deku_bits::device::{Sink, Source};
+use deku_bits::error::DekuError;
+use deku_bits::reader::Reader;
+use deku_bits::writer::Writer;
+use deku_num::ctx::{ByteSize, NumberCtx};
+use std::alloc::Global;
+use std::io::ErrorKind;
+use std::marker::Model;
+
+/// Bytes without a zero, which stand before a zero where they are read and written.
+#[derive(Debug, Drop)]
+pub struct CString {
+    bytes: Vec<u8>,
+}
+
+impl Model for CString {
+    ghost use Rattle.std.specs.Prelude.{ℕ, List};
+    ghost use Rattle.deku.specs.Texts.{NoZeros};
+
+    ghost Value = { List ℕ };
+
+    ghost view = { λ text. text.bytes.items };
+
+    ghost invariant = { λ text. NoZeros text.bytes.items };
+}
+
+impl PartialEq for CString {
+    ghost use Rattle.std.specs.Prelude.{nat_eq};
+    ghost use Rattle.std.specs.Cmp.{partial_equiv_from_equiv};
+    ghost use Rattle.std.specs.Cmp.Lexicographic.{pointwise, nat_list_eq_equiv};
+
+    ghost eq = { pointwise nat_eq };
+
+    ghost laws = { partial_equiv_from_equiv nat_list_eq_equiv };
+
+    fn eq(&self, other: &CString) -> bool {
+        self.as_bytes() == other.as_bytes()
+    }
+}
+
+impl Eq for CString {
+    ghost use Rattle.std.specs.Cmp.Lexicographic.{nat_list_eq_equiv};
+
+    ghost laws = { nat_list_eq_equiv };
+}
+
+impl CString {
+    /// These bytes; none where a zero is among them.
+    pub fn new(bytes: Vec<u8>) -> Option<CString>
+        ensures { MatchOption result (Contains bytes.items 0) (λ text. (text ≡ bytes.items) × NoZeros bytes.items) }
+    {
+        if bytes.as_slice().contains(&0) {
+            None
+        } else {
+            Some(CString { bytes })
+        }
+    }
+
+    /// The bytes, without the zero.
+    pub fn as_bytes(&self) -> &[u8]
+        ensures value { result.now ≡ self.now }
+        ensures no_zeros { NoZeros self.now }
+    {
+        self.bytes.as_slice()
+    }
+
+    /// The bytes and a zero behind them, in memory of `alloc`. It is refused with `Io(OutOfMemory)` where there is none, and with
+    /// nothing else.
+    pub fn as_bytes_with_nul(&self, alloc: Global) -> Result<Vec<u8>, DekuError>
+        ensures ok { IfOk result (λ v. v.items ≡ self.now ++ 0 ∷ []) }
+        ensures err { IfErr result (λ e. e ≡ DekuError.Io ErrorKind.OutOfMemory) }
+    {
+        let Ok(mut bytes) = self.bytes.as_slice().to_vec(alloc) else {
+            return Err(DekuError::Io(ErrorKind::OutOfMemory));
+        };
+        match bytes.push(0) {
+            Ok(()) => Ok(bytes),
+            Err(_) => Err(DekuError::Io(ErrorKind::OutOfMemory)),
+        }
+    }
+}
+
+// Reads a byte, and puts it behind those that were read.
+fn read_byte<R: Source>(reader: &mut Reader<R>, bytes: &mut Vec<u8>) -> Result<u8, DekuError>
+    ensures reads { Reads R.told ReadsByte reader.old result reader.new }
+    ensures put { IfOk result (λ b. bytes.new.items ≡ bytes.old.items ++ b ∷ []) }
+{
+    match u8::from_reader_with_ctx(reader, ()) {
+        Ok(byte) => match bytes.push(byte) {
+            Ok(()) => Ok(byte),
+            Err(_) => Err(DekuError::Io(ErrorKind::OutOfMemory)),
+        },
+        Err(refusal) => Err(refusal),
+    }
+}
+
+// Reads bytes up to the first zero, and that.
+fn read_to_zero<R: Source>(reader: &mut Reader<R>) -> Result<Vec<u8>, DekuError>
+    ensures { Reads R.told (Runs NoZeros (λ bytes. (text : List ℕ) × IsEnded text bytes) ReadsByte) reader.old (on_value (λ v. v.items) result) reader.new }
+{
+    let mut bytes = Vec::new(reader.alloc());
+    loop {
+        match read_byte(reader, &mut bytes) {
+            Ok(byte) => {
+                if byte == 0 {
+                    return Ok(bytes);
+                }
+            }
+            Err(refusal) => return Err(refusal),
+        }
+    }
+}
+
+// Reads so many bytes.
+fn read_count<R: Source>(reader: &mut Reader<R>, count: usize) -> Result<Vec<u8>, DekuError>
+    ensures { Reads R.told (Runs (λ bytes. length bytes < count) (λ bytes. length bytes ≡ count) ReadsByte) reader.old (on_value (λ v. v.items) result) reader.new }
+{
+    let mut bytes = Vec::new(reader.alloc());
+    for _ in 0..count {
+        match read_byte(reader, &mut bytes) {
+            Ok(_) => {}
+            Err(refusal) => return Err(refusal),
+        }
+    }
+    Ok(bytes)
+}
+
+// The text before a zero at the end of bytes, where there is no other zero.
+fn unended(bytes: Vec<u8>) -> Result<CString, DekuError>
+    ensures ok { IfOk result (λ text. IsEnded text bytes.items) }
+    ensures err { IfErr result (λ e. ((text : List ℕ) → IsEnded text bytes.items → ⊥) × Tells Parse (codes "Failed to convert Vec to CString") e) }
+{
+    let mut text = bytes;
+    if let Some(0) = text.pop() {
+        if let Some(text) = CString::new(text) {
+            return Ok(text);
+        }
+    }
+    Err(DekuError::Parse("Failed to convert Vec to CString"))
+}
+
+/// Bytes up to the first zero, which is read too; each is read as a `u8` under `()`.
+///
+/// It is refused as one of those reads is, or with `Io(OutOfMemory)` where no memory is found for a byte that was read: the reader is
+/// behind that byte then.
+impl DekuReader<()> for CString {
+    ghost use Rattle.std.specs.Prelude.{◌≡◌};
+    ghost use Rattle.deku.specs.Texts.{ReadsEnded};
+
+    ghost accepts = { λ c. c ≡ c };
+
+    ghost meaning = { λ _. ReadsEnded };
+
+    fn from_reader_with_ctx<R: Source>(reader: &mut Reader<R>, ctx: ()) -> Result<Self, DekuError> {
+        match read_to_zero(reader) {
+            Ok(bytes) => unended(bytes),
+            Err(refusal) => Err(refusal),
+        }
+    }
+}
+
+/// So many bytes, the last a zero and no other one; each is read as a `u8` under `()`.
+///
+/// It is refused as one of those reads is, or with `Io(OutOfMemory)` where no memory is found for a byte that was read: the reader is
+/// behind that byte then. Where the last byte is no zero, or an earlier one is, or there is none, it is refused with
+/// `Parse("Failed to convert Vec to CString")`, behind all of them.
+impl DekuReader<ByteSize> for CString {
+    ghost use Rattle.std.specs.Prelude.{◌≡◌};
+    ghost use Rattle.deku.specs.Texts.{ReadsWithin};
+
+    ghost accepts = { λ c. c ≡ c };
+
+    ghost meaning = { λ c. ReadsWithin c.0 };
+
+    fn from_reader_with_ctx<R: Source>(
+        reader: &mut Reader<R>,
+        ctx: ByteSize,
+    ) -> Result<Self, DekuError> {
+        match read_count(reader, ctx.0) {
+            Ok(bytes) => unended(bytes),
+            Err(refusal) => Err(refusal),
+        }
+    }
+}
+
+/// The bytes and a zero, each written as a `u8` under the context, one after the other. It takes no memory. The refusal is that of the
+/// first byte that is refused, and what the bytes before it moved stays moved.
+impl<C: NumberCtx> DekuWriter<C> for CString {
+    ghost use Rattle.std.specs.Prelude.{◌≡◌, pos};
+    ghost use Rattle.deku_num.specs.Numbers.{byte};
+    ghost use Rattle.deku_num.specs.NumberCalls.{WritesNumber};
+    ghost use Rattle.deku.specs.Composing.{Both, WritesEach};
+
+    ghost accepts = { λ c. c ≡ c };
+
+    ghost meaning = { λ text c. Both (WritesEach (λ b. WritesNumber byte (C.parts_of c) (pos b)) text) (WritesNumber byte (C.parts_of c) (pos 0)) };
+
+    fn to_writer<W: Sink>(&self, writer: &mut Writer<W>, ctx: C) -> Result<(), DekuError> {
+        match self.as_bytes().to_writer(writer, ctx) {
+            Ok(()) => 0u8.to_writer(writer, ctx),
+            Err(refusal) => Err(refusal),
+        }
+    }
+}
