@@ -1,3 +1,4 @@
 pub mod Joining
 pub mod Exact
 pub mod Holding
+pub mod Addresses

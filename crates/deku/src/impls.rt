@@ -1,7 +1,10 @@
 //! What can be read and written.
 
+mod bool;
 mod boxed;
 mod cow;
+mod net;
+mod nonzero;
 mod option;
 mod primitive;
 mod reference;

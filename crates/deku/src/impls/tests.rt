@@ -2,8 +2,12 @@
 
 ghost use Rattle.std.specs.Prelude.{◌≤◌};
 
+mod expecting;
+mod holders;
 mod records;
 mod signed;
+mod stand_ins;
+mod tuples;
 mod unsigned;
 
 use crate::traits::{DekuReader, DekuWriter};
