@@ -6,3 +6,4 @@ pub mod Turning
 pub mod Slots
 pub mod Runs
 pub mod Endings
+pub mod Addresses
