@@ -1,5 +1,5 @@
 -- Sizes of types, as calls answer them.
-use Rattle.std.specs.Prelude.{ℕ, ◌/◌, ◌%◌, ◌^◌, Option, None, Some, ltb, eqb, cond}
+use Rattle.std.specs.Prelude.{ℕ, zero, suc, ◌*◌, ◌/◌, ◌%◌, ◌^◌, Option, None, Some, ltb, eqb, cond}
 
 -- bits that a usize holds
 abbrev pub fitting : Option ℕ → Option ℕ
@@ -10,3 +10,9 @@ fitting (Some n) = cond (ltb n (2 ^ 64)) (Some n) None
 abbrev pub eighth : Option ℕ → Option ℕ
 eighth None = None
 eighth (Some n) = cond (eqb (n % 8) 0) (Some (n / 8)) None
+
+-- the bits of n items one after the other; no items take no bits
+abbrev pub bits_times : ℕ → Option ℕ → Option ℕ
+bits_times zero item = Some 0
+bits_times (suc n) None = None
+bits_times (suc n) (Some bits) = Some (suc n * bits)

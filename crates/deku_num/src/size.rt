@@ -302,3 +302,20 @@ impl DekuSizeConst for isize {
 
     const SIZE_BYTES: Option<usize> = Some(8);
 }
+
+/// So many times the bits of an item; an array of no items takes none, whatever is known of an item.
+impl<T: DekuSize, const N: usize> DekuSize for [T; N] {
+    ghost use Rattle.deku_num.specs.Sizes.{bits_times};
+
+    ghost bits = { bits_times N T.bits };
+
+    fn size_bits() -> Option<usize> {
+        if N == 0 {
+            return Some(0);
+        }
+        match T::size_bits() {
+            Some(bits) => bits.checked_mul(N),
+            None => None,
+        }
+    }
+}

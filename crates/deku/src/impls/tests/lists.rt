@@ -7,6 +7,7 @@ use deku_bits::reader::Reader;
 use deku_bits::writer::Writer;
 use deku_num::ctx::BitSize;
 use deku_num::ctx::Endian::{Big, Little};
+use deku_num::size::DekuSize;
 use std::io::Cursor;
 use std::test::Fail;
 
@@ -88,5 +89,45 @@ fn slices(rt: HostRuntime) -> Result<(), Fail> {
         writer.into_inner().into_inner().as_slice(),
         [1, 2, 3, 4, 5, 6].as_slice()
     );
+    Ok(())
+}
+
+// A type of as many bits as a `usize` counts.
+struct Wide {}
+
+impl DekuSize for Wide {
+    ghost use Rattle.std.specs.Prelude.{Some};
+
+    ghost bits = { Some 18446744073709551615 };
+
+    fn size_bits() -> Option<usize> {
+        Some(usize::MAX)
+    }
+}
+
+// A type of values of many sizes.
+struct Open {}
+
+impl DekuSize for Open {
+    ghost use Rattle.std.specs.Prelude.{None};
+
+    ghost bits = { None };
+
+    fn size_bits() -> Option<usize> {
+        None
+    }
+}
+
+#[test]
+fn sizes(rt: HostRuntime) -> Result<(), Fail> {
+    assert_eq!(rt; <[u16; 3]>::size_bits(), Some(48));
+    assert_eq!(rt; <[u16; 3]>::size_bytes(), Some(6));
+    assert_eq!(rt; <[[u8; 3]; 2]>::size_bits(), Some(48));
+    assert_eq!(rt; <[Wide; 2]>::size_bits(), None);
+    assert_eq!(rt; <[Wide; 2]>::size_bytes(), None);
+    assert_eq!(rt; <[Wide; 1]>::size_bits(), Some(usize::MAX));
+    assert_eq!(rt; <[Wide; 0]>::size_bits(), Some(0));
+    assert_eq!(rt; <[Open; 1]>::size_bits(), None);
+    assert_eq!(rt; <[Open; 0]>::size_bytes(), Some(0));
     Ok(())
 }
