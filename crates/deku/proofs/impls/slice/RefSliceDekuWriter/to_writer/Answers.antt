@@ -1,5 +1,5 @@
 use Rattle.std.proofs.Common.{arith}
-use Rattle.deku.proofs.Turns.{begun, item_written, item_refused, items_written}
+use Rattle.deku.proofs.WritingEach.{begun, item_written, item_refused, items_written}
 use Rattle.deku.proofs.impls.slice.RefSliceDekuWriter.to_writer.Goals as goal
 
 pub loop-item-init : goal.loop-item-init

@@ -1,5 +1,5 @@
 use Rattle.deku_bits.specs.Standings.{writer_state}
-use Rattle.deku.proofs.Turns.{GoesOn}
+use Rattle.deku.proofs.WritingEach.{GoesOn}
 use Rattle.deku.proofs.impls.slice.RefSliceDekuWriter.to_writer.Given as goal
 
 abbrev pub invariant-loop-item : goal.invariant-loop-item
