@@ -1,7 +1,6 @@
 pub mod Joining
 pub mod Exact
 pub mod Holding
-pub mod Turns
 pub mod WritingEach
 pub mod Turning
 pub mod Slots
