@@ -19,3 +19,4 @@ pub use Rattle.deku_num.specs.Sizes
 pub mod Composing
 pub mod Giving
 pub mod Shapes
+pub mod Extents
