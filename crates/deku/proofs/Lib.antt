@@ -7,3 +7,5 @@ pub mod Slots
 pub mod Runs
 pub mod Endings
 pub mod Addresses
+pub mod Extending
+pub mod Whole

@@ -21,3 +21,4 @@ pub mod Giving
 pub mod Shapes
 pub mod Lists
 pub mod Texts
+pub mod Extents

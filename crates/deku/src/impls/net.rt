@@ -39,7 +39,8 @@ impl<C: NumberCtx> DekuWriter<C> for Ipv4Addr {
     ghost meaning = { λ v c. WritesNumber (unsigned 32) (C.parts_of c) (pos (ipv4_bits v)) };
 
     fn to_writer<W: Sink>(&self, writer: &mut Writer<W>, ctx: C) -> Result<(), DekuError> {
-        self.to_bits().to_writer(writer, ctx)
+        let number: u32 = self.to_bits();
+        number.to_writer(writer, ctx)
     }
 }
 
@@ -74,7 +75,8 @@ impl<C: NumberCtx> DekuWriter<C> for Ipv6Addr {
     ghost meaning = { λ v c. WritesNumber (unsigned 128) (C.parts_of c) (pos (ipv6_bits v)) };
 
     fn to_writer<W: Sink>(&self, writer: &mut Writer<W>, ctx: C) -> Result<(), DekuError> {
-        self.to_bits().to_writer(writer, ctx)
+        let number: u128 = self.to_bits();
+        number.to_writer(writer, ctx)
     }
 }
 

@@ -45,7 +45,8 @@ impl<C: NumberCtx> DekuWriter<C> for NonZeroU8 {
     ghost meaning = { λ v c. WritesNumber byte (C.parts_of c) (pos (non_zero_u8_get v)) };
 
     fn to_writer<W: Sink>(&self, writer: &mut Writer<W>, ctx: C) -> Result<(), DekuError> {
-        self.get().to_writer(writer, ctx)
+        let number: u8 = self.get();
+        number.to_writer(writer, ctx)
     }
 }
 
@@ -81,7 +82,8 @@ impl<C: NumberCtx> DekuWriter<C> for NonZeroU16 {
     ghost meaning = { λ v c. WritesNumber (unsigned 16) (C.parts_of c) (pos (non_zero_u16_get v)) };
 
     fn to_writer<W: Sink>(&self, writer: &mut Writer<W>, ctx: C) -> Result<(), DekuError> {
-        self.get().to_writer(writer, ctx)
+        let number: u16 = self.get();
+        number.to_writer(writer, ctx)
     }
 }
 
@@ -117,7 +119,8 @@ impl<C: NumberCtx> DekuWriter<C> for NonZeroU32 {
     ghost meaning = { λ v c. WritesNumber (unsigned 32) (C.parts_of c) (pos (non_zero_u32_get v)) };
 
     fn to_writer<W: Sink>(&self, writer: &mut Writer<W>, ctx: C) -> Result<(), DekuError> {
-        self.get().to_writer(writer, ctx)
+        let number: u32 = self.get();
+        number.to_writer(writer, ctx)
     }
 }
 
@@ -153,7 +156,8 @@ impl<C: NumberCtx> DekuWriter<C> for NonZeroU64 {
     ghost meaning = { λ v c. WritesNumber (unsigned 64) (C.parts_of c) (pos (non_zero_u64_get v)) };
 
     fn to_writer<W: Sink>(&self, writer: &mut Writer<W>, ctx: C) -> Result<(), DekuError> {
-        self.get().to_writer(writer, ctx)
+        let number: u64 = self.get();
+        number.to_writer(writer, ctx)
     }
 }
 
@@ -189,7 +193,8 @@ impl<C: NumberCtx> DekuWriter<C> for NonZeroU128 {
     ghost meaning = { λ v c. WritesNumber (unsigned 128) (C.parts_of c) (pos (non_zero_u128_get v)) };
 
     fn to_writer<W: Sink>(&self, writer: &mut Writer<W>, ctx: C) -> Result<(), DekuError> {
-        self.get().to_writer(writer, ctx)
+        let number: u128 = self.get();
+        number.to_writer(writer, ctx)
     }
 }
 
@@ -225,7 +230,8 @@ impl<C: NumberCtx> DekuWriter<C> for NonZeroUsize {
     ghost meaning = { λ v c. WritesNumber (unsigned 64) (C.parts_of c) (pos (non_zero_usize_get v)) };
 
     fn to_writer<W: Sink>(&self, writer: &mut Writer<W>, ctx: C) -> Result<(), DekuError> {
-        self.get().to_writer(writer, ctx)
+        let number: usize = self.get();
+        number.to_writer(writer, ctx)
     }
 }
 
@@ -261,7 +267,8 @@ impl<C: NumberCtx> DekuWriter<C> for NonZeroI8 {
     ghost meaning = { λ v c. WritesNumber (signed 8) (C.parts_of c) (non_zero_i8_get v) };
 
     fn to_writer<W: Sink>(&self, writer: &mut Writer<W>, ctx: C) -> Result<(), DekuError> {
-        self.get().to_writer(writer, ctx)
+        let number: i8 = self.get();
+        number.to_writer(writer, ctx)
     }
 }
 
@@ -297,7 +304,8 @@ impl<C: NumberCtx> DekuWriter<C> for NonZeroI16 {
     ghost meaning = { λ v c. WritesNumber (signed 16) (C.parts_of c) (non_zero_i16_get v) };
 
     fn to_writer<W: Sink>(&self, writer: &mut Writer<W>, ctx: C) -> Result<(), DekuError> {
-        self.get().to_writer(writer, ctx)
+        let number: i16 = self.get();
+        number.to_writer(writer, ctx)
     }
 }
 
@@ -333,7 +341,8 @@ impl<C: NumberCtx> DekuWriter<C> for NonZeroI32 {
     ghost meaning = { λ v c. WritesNumber (signed 32) (C.parts_of c) (non_zero_i32_get v) };
 
     fn to_writer<W: Sink>(&self, writer: &mut Writer<W>, ctx: C) -> Result<(), DekuError> {
-        self.get().to_writer(writer, ctx)
+        let number: i32 = self.get();
+        number.to_writer(writer, ctx)
     }
 }
 
@@ -369,7 +378,8 @@ impl<C: NumberCtx> DekuWriter<C> for NonZeroI64 {
     ghost meaning = { λ v c. WritesNumber (signed 64) (C.parts_of c) (non_zero_i64_get v) };
 
     fn to_writer<W: Sink>(&self, writer: &mut Writer<W>, ctx: C) -> Result<(), DekuError> {
-        self.get().to_writer(writer, ctx)
+        let number: i64 = self.get();
+        number.to_writer(writer, ctx)
     }
 }
 
@@ -405,7 +415,8 @@ impl<C: NumberCtx> DekuWriter<C> for NonZeroI128 {
     ghost meaning = { λ v c. WritesNumber (signed 128) (C.parts_of c) (non_zero_i128_get v) };
 
     fn to_writer<W: Sink>(&self, writer: &mut Writer<W>, ctx: C) -> Result<(), DekuError> {
-        self.get().to_writer(writer, ctx)
+        let number: i128 = self.get();
+        number.to_writer(writer, ctx)
     }
 }
 
@@ -441,6 +452,7 @@ impl<C: NumberCtx> DekuWriter<C> for NonZeroIsize {
     ghost meaning = { λ v c. WritesNumber (signed 64) (C.parts_of c) (non_zero_isize_get v) };
 
     fn to_writer<W: Sink>(&self, writer: &mut Writer<W>, ctx: C) -> Result<(), DekuError> {
-        self.get().to_writer(writer, ctx)
+        let number: isize = self.get();
+        number.to_writer(writer, ctx)
     }
 }
