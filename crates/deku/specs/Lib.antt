@@ -20,3 +20,5 @@ pub mod Composing
 pub mod Giving
 pub mod Lists
 pub mod Texts
+pub mod Shapes
+pub mod Extents

@@ -1,9 +1,17 @@
 //! What can be read and written.
 
 mod array;
+mod bool;
+mod boxed;
+mod cow;
 pub mod cstring;
+mod net;
+mod nonzero;
+mod option;
 mod primitive;
+mod reference;
 mod slice;
 #[cfg(test)]
 mod tests;
 mod tuple;
+mod unit;

@@ -2,6 +2,7 @@
 #![tactic(auto)]
 
 mod impls;
+pub mod laws;
 mod macros;
 mod traits;
 

@@ -2,10 +2,14 @@
 
 ghost use Rattle.std.specs.Prelude.{◌≤◌};
 
+mod expecting;
+mod holders;
 mod lists;
 mod records;
 mod signed;
+mod stand_ins;
 mod texts;
+mod tuples;
 mod unsigned;
 
 use crate::traits::{DekuReader, DekuWriter};

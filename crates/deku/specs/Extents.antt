@@ -1,0 +1,30 @@
+-- What is written as exactly so many bits.
+use Rattle.std.specs.Prelude.{◌≡◌, ℕ, ◌%◌, ◌<◌, Bool, List, [], ◌∷◌, map, Result, ℤ}
+use Rattle.deku_bits.specs.declared.error.DekuError.{DekuError}
+use Rattle.deku_bits.specs.Bits.{shown}
+use Rattle.deku_bits.specs.Pieces.{Piece, shape, total}
+use Rattle.deku_bits.specs.Standings.{Standing, Output}
+use Rattle.deku_bits.specs.Outcomes.{Meaning}
+use Rattle.deku_bits.specs.WriterCalls.{WritesBits}
+use Rattle.deku_num.specs.declared.kind.NumberType.{NumberType}
+use Rattle.deku_num.specs.declared.ctx.Size.TheVariants.{Whole}
+use Rattle.deku_num.specs.declared.ctx.Layout.{Layout}
+use Rattle.deku_num.specs.NumberLaws.{InType}
+use Rattle.deku_num.specs.NumberCalls.{WritesNumber}
+use Rattle.deku.specs.Composing.{Answer, Both}
+
+-- pieces are written one after the other
+abbrev pub WritesPieces : List Piece → Meaning Output (Unit {0})
+WritesPieces [] = Answer tt
+WritesPieces (p ∷ ps) = Both (WritesBits p.order (shown p.order p.bits)) (WritesPieces ps)
+
+-- m writes exactly n bits: whatever it answers and leaves, writing some pieces of so many bits answers and leaves
+pub record IsSized (n : ℕ) (m : Meaning Output (Unit {0})) : Type 0 where
+  pub pieces : List Piece
+  pub wide : total (map shape pieces) ≡ n
+  pub written : (b : Bool) (s : Standing Output) (r : Result (Unit {0}) DekuError) (u : Standing Output) → m b s r u → WritesPieces pieces b s r u
+
+-- A value of a type of whole bytes is written under a layout of its whole size as exactly the bits of its type.
+abbrev pub NumberSizeLaw : Type 0
+NumberSizeLaw = (t : NumberType) (l : Layout) (v : ℤ) → 0 < t.bits → t.bits % 8 ≡ 0 → l.size ≡ Whole → InType t.signed t.bits v
+    → IsSized t.bits (WritesNumber t l v)

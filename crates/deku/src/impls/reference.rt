@@ -1,0 +1,17 @@
+//! Items behind a reference.
+
+use crate::traits::DekuWriter;
+use deku_bits::device::Sink;
+use deku_bits::error::DekuError;
+use deku_bits::writer::Writer;
+
+/// What the reference names is written.
+impl<Ctx: Copy, T: DekuWriter<Ctx>> DekuWriter<Ctx> for &T {
+    ghost accepts = { T.accepts };
+
+    ghost meaning = { λ v c. T.meaning v.now c };
+
+    fn to_writer<W: Sink>(&self, writer: &mut Writer<W>, ctx: Ctx) -> Result<(), DekuError> {
+        (**self).to_writer(writer, ctx)
+    }
+}

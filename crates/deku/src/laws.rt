@@ -1,0 +1,28 @@
+//! Laws of what is written: each is what an empty function ensures.
+
+ghost use Rattle.std.specs.Prelude.{ℕ, ◌+◌, Bool};
+ghost use Rattle.deku.specs.Composing.{Both};
+ghost use Rattle.deku.specs.Extents.{IsSized, NumberSizeLaw};
+
+use crate::traits::DekuWriter;
+
+/// A value of a number type is written under a layout of its whole size, so under `()`, as exactly the bits of its type.
+pub fn number_size_law()
+    ensures { NumberSizeLaw }
+{}
+
+/// A truth value is written under `()` as exactly eight bits.
+pub fn bool_size_law()
+    ensures { (v : Bool) → IsSized 8 (⟦<bool as DekuWriter<()>>⟧.meaning v tt) }
+{}
+
+/// Nothing is written as no bits.
+pub fn unit_size_law()
+    ensures { IsSized 0 (⟦<() as DekuWriter<()>>⟧.meaning tt tt) }
+{}
+
+/// Two values that are written as exactly n and k bits are written, one after the other, as exactly n + k bits. So is a pair; and a longer
+/// tuple is its first item and then the tuple of the rest.
+pub fn joined_size_law<Ctx: Copy, A: DekuWriter<Ctx>, B: DekuWriter<Ctx>>()
+    ensures { (c : Ctx) (v : A) (w : B) (n k : ℕ) → IsSized n (A.meaning v c) → IsSized k (B.meaning w c) → IsSized (n + k) (Both (A.meaning v c) (B.meaning w c)) }
+{}
