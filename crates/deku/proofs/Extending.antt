@@ -1,10 +1,11 @@
 -- What is written as exactly so many bits, one after the other.
-use Rattle.std.proofs.Common.{◌≡◌, ℕ, ◌+◌, Bool, false, List, [], ◌∷◌, ◌++◌, map, Result, Ok, Err, arith}
+use Rattle.std.proofs.Common.{◌≡◌, ℕ, suc, ◌+◌, ◌*◌, Bool, false, List, [], ◌∷◌, ◌++◌, length, map, Result, Ok, Err, subst, arith}
+use Rattle.std.specs.List.{All}
 use Rattle.deku_bits.specs.declared.error.DekuError.{DekuError}
 use Rattle.deku_bits.specs.Pieces.{Piece, shape, total}
 use Rattle.deku_bits.specs.Standings.{Standing, Output}
 use Rattle.deku_bits.specs.Outcomes.{Meaning}
-use Rattle.deku.specs.Composing.{Answered, Both, Second, First}
+use Rattle.deku.specs.Composing.{Answered, Both, WritesEach, Second, First}
 use Rattle.deku.specs.Extents.{WritesPieces, IsSized}
 
 -- the widths of both
@@ -32,3 +33,10 @@ joined_sized m o n k p q = record { pieces = p.pieces ++ q.pieces; wide = omega 
     written : (b : Bool) (s : Standing Output) (r : Result (Unit {0}) DekuError) (u : Standing Output) → Both m o b s r u → WritesPieces (p.pieces ++ q.pieces) b s r u
     written b s r u (Second v t x y) = joined_ok p.pieces q.pieces b s t r u (p.written false s (Ok v) t x) (q.written b t r u y)
     written b s r u (First e x is) = rw is (joined_err p.pieces q.pieces b s e u (p.written b s (Err e) u x))
+
+-- items of so many bits each
+pub items_sized : {V : Type 0} (m : V → Meaning Output (Unit {0})) (k : ℕ) (vs : List V) → All (λ v. IsSized k (m v)) vs → IsSized (length vs * k) (WritesEach m vs)
+items_sized m k [] h = record { pieces = []; wide = omega arith; written = λ b s r u p. p }
+items_sized m k (v ∷ vs) h =
+    subst (λ n. IsSized n (WritesEach m (v ∷ vs))) (omega arith)
+    (joined_sized (m v) (WritesEach m vs) k (length vs * k) (h 0 v (omega arith)) (items_sized m k vs (λ i d l. h (suc i) d (omega arith))))

@@ -1,7 +1,8 @@
 //! Laws of what is written: each is what an empty function ensures.
 
-ghost use Rattle.std.specs.Prelude.{ℕ, ◌+◌, Bool};
-ghost use Rattle.deku.specs.Composing.{Both};
+ghost use Rattle.std.specs.Prelude.{ℕ, ◌+◌, ◌*◌, Bool, List, length};
+ghost use Rattle.std.specs.List.{All};
+ghost use Rattle.deku.specs.Composing.{Both, WritesEach};
 ghost use Rattle.deku.specs.Extents.{IsSized, NumberSizeLaw};
 
 use crate::traits::DekuWriter;
@@ -25,4 +26,10 @@ pub fn unit_size_law()
 /// tuple is its first item and then the tuple of the rest.
 pub fn joined_size_law<Ctx: Copy, A: DekuWriter<Ctx>, B: DekuWriter<Ctx>>()
     ensures { (c : Ctx) (v : A) (w : B) (n k : ℕ) → IsSized n (A.meaning v c) → IsSized k (B.meaning w c) → IsSized (n + k) (Both (A.meaning v c) (B.meaning w c)) }
+{}
+
+/// Items that are each written as exactly k bits are written, one after the other, as exactly as many times k bits as there are items. So
+/// are slices and arrays.
+pub fn items_size_law<Ctx: Copy, T: DekuWriter<Ctx>>()
+    ensures { (c : Ctx) (vs : List T) (k : ℕ) → All (λ v. IsSized k (T.meaning v c)) vs → IsSized (length vs * k) (WritesEach (λ v. T.meaning v c) vs) }
 {}
