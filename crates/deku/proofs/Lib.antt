@@ -6,7 +6,6 @@ pub mod Turning
 pub mod Slots
 pub mod Runs
 pub mod Endings
-pub mod Holding
 pub mod Addresses
 pub mod Extending
 pub mod Whole
