@@ -7,3 +7,4 @@ pub mod Carrying
 pub mod WorkedRows
 pub mod FieldBits
 pub mod WholeTypes
+pub mod Summed

@@ -1,5 +1,5 @@
 -- Sizes of types, as calls answer them.
-use Rattle.std.specs.Prelude.{ℕ, zero, suc, ◌*◌, ◌/◌, ◌%◌, ◌^◌, Option, None, Some, ltb, eqb, cond}
+use Rattle.std.specs.Prelude.{ℕ, zero, suc, ◌+◌, ◌*◌, ◌/◌, ◌%◌, ◌^◌, Option, None, Some, ltb, eqb, cond}
 
 -- bits that a usize holds
 abbrev pub fitting : Option ℕ → Option ℕ
@@ -10,6 +10,11 @@ fitting (Some n) = cond (ltb n (2 ^ 64)) (Some n) None
 abbrev pub eighth : Option ℕ → Option ℕ
 eighth None = None
 eighth (Some n) = cond (eqb (n % 8) 0) (Some (n / 8)) None
+
+-- the bits of both, where both are known
+abbrev pub both : Option ℕ → Option ℕ → Option ℕ
+both (Some n) (Some k) = Some (n + k)
+both _ _ = None
 
 -- the bits of n items one after the other; no items take no bits
 abbrev pub bits_times : ℕ → Option ℕ → Option ℕ

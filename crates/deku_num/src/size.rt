@@ -3,6 +3,8 @@
 ghost use Rattle.std.specs.Prelude.{◌≡◌, ℕ, Option, Some, refl};
 ghost use Rattle.deku_num.specs.Sizes.{fitting, eighth};
 
+mod shapes;
+
 /// A type whose values all take the same bits, where these are known.
 pub trait DekuSize {
     ghost bits: { Option ℕ };

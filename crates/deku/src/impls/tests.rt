@@ -7,6 +7,7 @@ mod holders;
 mod lists;
 mod records;
 mod signed;
+mod sizes;
 mod stand_ins;
 mod texts;
 mod tuples;

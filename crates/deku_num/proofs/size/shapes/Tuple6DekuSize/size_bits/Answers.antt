@@ -1,0 +1,5 @@
+use Rattle.deku_num.proofs.Summed.{summed}
+use Rattle.deku_num.proofs.size.shapes.Tuple6DekuSize.size_bits.Goals as goal
+
+pub returns : goal.returns
+returns g c = search (summed, c.size_bits.ensures, c.size_bits-2.ensures, c.sum.ensures)
