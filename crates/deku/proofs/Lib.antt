@@ -9,3 +9,7 @@ pub mod Endings
 pub mod Addresses
 pub mod Extending
 pub mod Whole
+pub mod Judging
+pub mod Counting
+pub mod Collecting
+pub mod Bytes

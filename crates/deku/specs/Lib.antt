@@ -22,3 +22,5 @@ pub mod Shapes
 pub mod Lists
 pub mod Texts
 pub mod Extents
+pub mod Limits
+pub mod Walks

@@ -1,6 +1,7 @@
 //! Bit-level reading and writing of binary records.
 #![tactic(auto)]
 
+pub mod ctx;
 mod impls;
 pub mod laws;
 mod macros;
@@ -10,6 +11,6 @@ pub use deku_bits::bounded::BoundedBitVec;
 pub use deku_bits::error::DekuError;
 pub use deku_bits::{bounded, device, error, noseek, probe, reader, writer};
 pub use deku_num::size::{DekuSize, DekuSizeConst};
-pub use deku_num::{calls, ctx, kind, size};
+pub use deku_num::{calls, kind, size};
 pub use impls::cstring;
 pub use traits::{DekuReader, DekuWriter};

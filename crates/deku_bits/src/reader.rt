@@ -2,6 +2,7 @@
 
 ghost use Rattle.std.specs.Prelude.{◌≡◌, ◌+◌, ◌*◌, ◌≤◌, [], length, take, drop, IfOk, IfErr};
 ghost use Rattle.std.specs.Borrow.{Lends, sem};
+ghost use Rattle.deku_bits.specs.Kept.{Admits};
 ghost use Rattle.deku_bits.specs.Standings.{Going, count_of};
 ghost use Rattle.deku_bits.specs.ReaderCalls.{Reads, Takes, Ending, Skips, ReadsBits, ReadsVec, ReadsBytes, NoneEarly, IsLeftover, filling, items_of, window_of};
 ghost use Rattle.deku_bits.specs.contracts.reader.Reader.{the_row as reader-row};
@@ -195,6 +196,18 @@ impl<R: Source> Reader<R> {
         ensures early { NoneEarly self.old.state self.new.state }
     {
         self.state.skip_bits(&mut self.source, amt, order)
+    }
+
+    /// Refuses what a read of `amt` bytes refuses before it asks for memory or moves anything: with the fault that stopped the reader, or
+    /// with `InvalidParam("count past usize")`. A call that finds memory for what it reads asks this first.
+    ///
+    /// ```text
+    /// reader.admits_bytes(usize::MAX)                  // InvalidParam("count past usize")
+    /// ```
+    pub fn admits_bytes(&self, amt: usize) -> Result<(), DekuError>
+        ensures { Admits (8 * amt) self.now.state result }
+    {
+        self.state.admits_bytes(amt)
     }
 
     /// Takes as many bits as the buffer is long, as the order meets them.

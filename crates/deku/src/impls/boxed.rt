@@ -1,10 +1,13 @@
 //! Items on the heap.
 
+use crate::ctx::{Limit, Predicate};
 use crate::traits::{DekuReader, DekuWriter};
 use deku_bits::device::{Sink, Source};
 use deku_bits::error::DekuError;
 use deku_bits::reader::Reader;
 use deku_bits::writer::Writer;
+use std::alloc::Allocator;
+use std::boxed::BoxedSlice;
 use std::io::ErrorKind;
 
 /// The item is read, and then memory is asked from the reader's allocator. `Io(OutOfMemory)` is answered where there is none, and the
@@ -38,5 +41,54 @@ impl<Ctx: Copy, T: DekuWriter<Ctx>> DekuWriter<Ctx> for Box<T> {
 
     fn to_writer<W: Sink>(&self, writer: &mut Writer<W>, ctx: Ctx) -> Result<(), DekuError> {
         (**self).to_writer(writer, ctx)
+    }
+}
+
+/// The items that the limit says, as a vector of them is read, in memory of the reader's allocator.
+impl<T: DekuReader<Ctx>, P: Predicate<T>, Ctx: Copy> DekuReader<(Limit<T, P>, Ctx)>
+    for BoxedSlice<T> {
+    ghost use Rattle.std.specs.Prelude.{◌≡◌};
+    ghost use Rattle.std.specs.Box.{boxed_slice_items};
+    ghost use Rattle.deku.specs.Limits.{ReadsUnder, AsksAll, Held};
+
+    ghost accepts = { λ c. T.accepts c.1 × AsksAll P.asks_all c.0 };
+
+    ghost meaning = { λ c. Held (λ xs b. boxed_slice_items b ≡ xs) (ReadsUnder P.answers c.0 (T.meaning c.1)) };
+
+    fn from_reader_with_ctx<R: Source>(
+        reader: &mut Reader<R>,
+        ctx: (Limit<T, P>, Ctx),
+    ) -> Result<Self, DekuError> {
+        let items = <Vec<T> as DekuReader<(Limit<T, P>, Ctx)>>::from_reader_with_ctx(reader, ctx)?;
+        Ok(items.into_boxed_slice())
+    }
+}
+
+/// The items that the limit says, each under `()`.
+impl<T: DekuReader<()>, P: Predicate<T>> DekuReader<Limit<T, P>> for BoxedSlice<T> {
+    ghost accepts = { λ c. ⟦<BoxedSlice<T> as DekuReader<(Limit<T, P>, ())>>⟧.accepts (c, tt) };
+
+    ghost meaning = { λ c. ⟦<BoxedSlice<T> as DekuReader<(Limit<T, P>, ())>>⟧.meaning (c, tt) };
+
+    fn from_reader_with_ctx<R: Source>(
+        reader: &mut Reader<R>,
+        ctx: Limit<T, P>,
+    ) -> Result<Self, DekuError> {
+        <BoxedSlice<T> as DekuReader<(Limit<T, P>, ())>>::from_reader_with_ctx(reader, (ctx, ()))
+    }
+}
+
+/// The items in order, under the items' context. The refusal is that of the first item that is refused, and what the items before it
+/// moved stays moved. It takes no memory.
+impl<Ctx: Copy, T: DekuWriter<Ctx>, A: Allocator> DekuWriter<Ctx> for BoxedSlice<T, A> {
+    ghost use Rattle.std.specs.Box.{boxed_slice_items};
+    ghost use Rattle.deku.specs.Composing.{WritesEach};
+
+    ghost accepts = { T.accepts };
+
+    ghost meaning = { λ v c. WritesEach (λ x. T.meaning x c) (boxed_slice_items v) };
+
+    fn to_writer<W: Sink>(&self, writer: &mut Writer<W>, ctx: Ctx) -> Result<(), DekuError> {
+        self.as_slice().to_writer(writer, ctx)
     }
 }

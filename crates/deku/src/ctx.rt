@@ -1,0 +1,112 @@
+//! Contexts: how a number lies in a stream, and where a list ends.
+
+ghost use Rattle.std.specs.Prelude.{◌≡◌, Bool};
+
+pub use deku_num::ctx::{
+    BitSize, ByteSize, Endian, Layout, NumberCtx, Order, ParseEndianError, Size,
+};
+use std::marker::PhantomData;
+
+/// So many bytes, read at once.
+#[derive(Drop)]
+pub struct ReadExact(pub usize);
+
+/// What is asked about each item of a list, one after the other. It may change its own state.
+///
+/// Each closure `FnMut(&T) -> bool` that may be called on every item is one.
+pub trait Predicate<T>: Drop {
+    // It may be asked about every item.
+    ghost asks_all: { Self → Type 0 };
+
+    // What it answers about an item, and what it is then.
+    ghost answers: { Self → T → Bool → Self → Type 0 };
+
+    /// Whether it is true of the item.
+    fn test(&mut self, item: &T) -> bool
+        requires { asks_all self.old }
+        ensures answered { answers self.old item.now result self.new }
+        ensures again { asks_all self.new };
+}
+
+impl<T, P: FnMut(&T) -> bool + Drop> Predicate<T> for P {
+    ghost use Rattle.std.specs.Fn.{CalledAt};
+
+    ghost asks_all = { λ p. P.IsAlwaysCallable p };
+
+    ghost answers = { λ p x b q. CalledAt P.FnMut p x b q };
+
+    fn test(&mut self, item: &T) -> bool {
+        self(item)
+    }
+}
+
+/// The predicate of limits that have none.
+#[derive(Clone, Copy)]
+pub struct Never;
+
+/// It is true of no item.
+impl<T> Predicate<T> for Never {
+    ghost use Rattle.std.specs.Prelude.{◌≡◌, false, ⊤};
+
+    ghost asks_all = { λ _. ⊤ };
+
+    ghost answers = { λ p x b q. b ≡ false };
+
+    fn test(&mut self, _item: &T) -> bool {
+        false
+    }
+}
+
+/// Where a list of items ends.
+#[derive_where(Clone, Copy; P)]
+pub enum Limit<T, P: Predicate<T>> {
+    /// Behind so many items.
+    Count(usize),
+    /// Behind the first item of which the predicate is true.
+    Until(P, PhantomData<T>),
+    /// Behind the item with which exactly so many bytes are read; items that step over that are read on.
+    ByteSize(ByteSize),
+    /// Behind the item with which exactly so many bits are read; items that step over that are read on.
+    BitSize(BitSize),
+    /// Where the stream ends.
+    End,
+}
+
+impl<T, P: FnMut(&T) -> bool + Drop> Limit<T, P> {
+    /// Behind the first item of which the predicate is true. It is asked about each item once, in order.
+    pub fn new_until(predicate: P) -> Self
+        ensures { result ≡ Limit.Until predicate (record {}) }
+    {
+        Limit::Until(predicate, PhantomData)
+    }
+}
+
+impl<T> Limit<T, Never> {
+    /// Behind so many items.
+    pub fn new_count(count: usize) -> Self
+        ensures { result ≡ Limit.Count count }
+    {
+        Limit::Count(count)
+    }
+
+    /// Behind the item with which exactly so many bits are read; items that step over that are read on. Nothing is read for 0 bits.
+    pub fn new_bit_size(size: BitSize) -> Self
+        ensures { result ≡ Limit.BitSize size }
+    {
+        Limit::BitSize(size)
+    }
+
+    /// Behind the item with which exactly so many bytes are read; items that step over that are read on. Nothing is read for 0 bytes.
+    pub fn new_byte_size(size: ByteSize) -> Self
+        ensures { result ≡ Limit.ByteSize size }
+    {
+        Limit::ByteSize(size)
+    }
+
+    /// Where the stream ends.
+    pub fn end() -> Self
+        ensures { result ≡ Limit.End }
+    {
+        Limit::End
+    }
+}
