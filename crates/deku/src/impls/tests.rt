@@ -3,8 +3,11 @@
 ghost use Rattle.std.specs.Prelude.{◌≤◌};
 
 mod expecting;
+mod hashes;
 mod holders;
+mod limits;
 mod lists;
+mod memory;
 mod records;
 mod signed;
 mod sizes;
