@@ -27,20 +27,20 @@ pub trait Gather<T>: Drop {
 
 // Puts an item into its place where it has width, which the counts of bits before and after it tell, or ends the list.
 fn keep<B: Gather<T>, T: Drop>(
-    into: &mut B,
+    collection: &mut B,
     item: T,
     ends: bool,
     before: usize,
     after: usize,
 ) -> Result<(), DekuError>
-    ensures placed { OnOk result (B.puts into.old item into.new) }
+    ensures placed { OnOk result (B.puts collection.old item collection.new) }
     ensures kept { OnOk result ((ends ≡ true) ⊎ (before < after)) }
     ensures err { IfErr result (λ e. ((ends ≡ false) × (after ≤ before) × Tells Parse (codes "item without width") e) ⊎ (((ends ≡ true) ⊎ (before < after)) × (e ≡ DekuError.Io ErrorKind.OutOfMemory))) }
 {
     if !ends && after <= before {
         return Err(DekuError::Parse("item without width"));
     }
-    into.put(item)
+    collection.put(item)
 }
 
 // Exactly so many items.
