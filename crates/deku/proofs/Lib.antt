@@ -13,3 +13,5 @@ pub mod Judging
 pub mod Counting
 pub mod Collecting
 pub mod Bytes
+pub mod Emitting
+pub mod Vectors

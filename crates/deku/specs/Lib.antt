@@ -24,3 +24,4 @@ pub mod Texts
 pub mod Extents
 pub mod Limits
 pub mod Walks
+pub mod VectorLaws

@@ -4,6 +4,7 @@ ghost use Rattle.std.specs.Prelude.{ℕ, ◌+◌, ◌*◌, Bool, List, length};
 ghost use Rattle.std.specs.List.{All};
 ghost use Rattle.deku.specs.Composing.{Both, WritesEach};
 ghost use Rattle.deku.specs.Extents.{IsSized, NumberSizeLaw};
+ghost use Rattle.deku.specs.VectorLaws.{VectorLaw};
 
 use crate::traits::DekuWriter;
 
@@ -32,4 +33,10 @@ pub fn joined_size_law<Ctx: Copy, A: DekuWriter<Ctx>, B: DekuWriter<Ctx>>()
 /// are slices and arrays.
 pub fn items_size_law<Ctx: Copy, T: DekuWriter<Ctx>>()
     ensures { (c : Ctx) (vs : List T) (k : ℕ) → All (λ v. IsSized k (T.meaning v c)) vs → IsSized (length vs * k) (WritesEach (λ v. T.meaning v c) vs) }
+{}
+
+/// A vector of fitting whole numbers, written from a byte's boundary under one layout that is not refused, and padded once, is read with a
+/// count of its length as itself, whatever follows; the one refusal is that no memory is found.
+pub fn vector_law()
+    ensures { VectorLaw }
 {}
