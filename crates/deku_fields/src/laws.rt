@@ -19,7 +19,8 @@ pub fn there_law()
     ensures { ThereLaw }
 {}
 
-/// Items written by `write_list`, and padded once by `finalize`, give the sink exactly what they lay out, where it has the room.
+/// Items written by `write_list`, and padded once by `finalize`, give the sink exactly what they lay out, where it has the room, or finds
+/// the memory.
 pub fn padded_law()
     ensures { PaddedLaw }
 {}
