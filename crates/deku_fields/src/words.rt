@@ -157,3 +157,6 @@ fn is_digits(text: &str) -> bool
 {
     !text.is_empty() && text.as_bytes().iter().all(|byte| byte.is_ascii_digit())
 }
+
+#[cfg(test)]
+mod tests;
