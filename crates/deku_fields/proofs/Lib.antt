@@ -14,3 +14,4 @@ pub mod Named
 pub mod Numerals
 pub mod NamedItems
 pub mod Runs
+pub mod Cuts

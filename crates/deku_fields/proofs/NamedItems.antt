@@ -1,16 +1,17 @@
 -- What a word for an item names: a field, `=` and a value.
-use Rattle.std.proofs.Common.{◌≡◌, ◌≢◌, ◌⊎◌, ℕ, zero, suc, ◌<◌, Bool, true, false, cond, eqb, get_or, List, [], ◌∷◌, ◌++◌, length, codes, refl, sym, ◌∙◌, subst, inl, inr, arith, Option, Some, None}
+use Rattle.std.proofs.Common.{◌≡◌, ◌≢◌, ℕ, zero, suc, ◌<◌, Bool, true, false, cond, eqb, get_or, List, [], ◌∷◌, ◌++◌, length, codes, refl, sym, ◌∙◌, subst, inl, inr, arith, Option, Some, None}
 use Rattle.std.proofs.lemmas.Bool.{ne_eqb}
 use Rattle.std.proofs.lemmas.Str.Parse.{tells_digits}
 use Rattle.std.specs.Str.Parse.{AllDigits}
-use Rattle.deku_num.specs.declared.ctx.Endian.{Endian}
+use Rattle.deku_bits.specs.declared.ctx.Order.TheVariants.{Msb0, Lsb0}
+use Rattle.deku_num.specs.declared.ctx.Endian.TheVariants.{Little, Big}
 use Rattle.deku_num.specs.declared.ctx.Size.{Size}
 use Rattle.deku_fields.specs.declared.list.Kind.{Kind}
 use Rattle.deku_fields.specs.declared.list.Kind.TheVariants.{U8, U16, U32, U64, U128, Usize, I8, I16, I32, I64, I128, Isize}
 use Rattle.deku_fields.specs.declared.list.Number.{Number}
 use Rattle.deku_fields.specs.declared.list.Field.{Field}
 use Rattle.deku_fields.specs.declared.list.Item.{Item}
-use Rattle.deku_fields.specs.Naming.{kind_name, NamesEndian, NamesSize, NamesField, NamesNumber, NamesItem}
+use Rattle.deku_fields.specs.Naming.{kind_name, NamesOption, NamesSize, NamesField, NamesNumber, NamesItem}
 use Rattle.deku_fields.proofs.FirstComma.{free}
 use Rattle.deku_fields.proofs.Numerals.{number_one}
 
@@ -56,25 +57,23 @@ plain_kind I64 = refl
 plain_kind I128 = refl
 plain_kind Isize = refl
 
-plain_endian : (text : List ℕ) (e : Endian) → NamesEndian text e → Plain text
-plain_endian text e (inl p) = subst Plain (sym (p.0)) refl
-plain_endian text e (inr (inl p, q)) = subst Plain (sym p) refl
-plain_endian text e (inr (inr p, q)) = subst Plain (sym p) refl
-
-plain_msb : (text : List ℕ) → (text ≡ codes ",msb") ⊎ (text ≡ []) → Plain text
-plain_msb text (inl p) = subst Plain (sym p) refl
-plain_msb text (inr p) = subst Plain (sym p) refl
+plain_option : {T : Type 0} (first second : List ℕ) (a b x : T) (text : List ℕ) → Plain first → Plain second → NamesOption first a second b text x → Plain text
+plain_option first second a b x text p q (inl n) = subst Plain (sym (n.0)) p
+plain_option first second a b x text p q (inr (inl n, m)) = subst Plain (sym n) q
+plain_option first second a b x text p q (inr (inr n, m)) = subst Plain (sym n) refl
 
 plain_size : (text : List ℕ) (s : Size) → NamesSize text s → Plain text
 plain_size text s (inl p) = subst Plain (sym (p.0)) refl
-plain_size text s (inr p) = subst Plain (sym (p.2)) (plain_both (codes ",bits") p.0 refl (plain_digits p.0 p.3.0.1))
+plain_size text s (inr (inl p)) = let c = p.1 in subst Plain (sym (c.1)) (plain_both (codes ",bits") c.0 refl (plain_digits c.0 c.2.0.1))
+plain_size text s (inr (inr p)) = let c = p.1 in subst Plain (sym (c.1)) (plain_both (codes ",bytes") c.0 refl (plain_digits c.0 c.2.0.1))
 
 plain_field : (word : List ℕ) (f : Field) → NamesField word f → Plain word
 plain_field word f n =
-    subst Plain (sym (n.parts))
-    (plain_both (kind_name f.kind) (n.endian ++ (n.msb ++ n.size)) (plain_kind f.kind)
-    (plain_both n.endian (n.msb ++ n.size) (plain_endian n.endian f.layout.endian (n.endian_named))
-    (plain_both n.msb n.size (plain_msb n.msb (n.msb_named)) (plain_size n.size f.layout.size (n.size_named)))))
+    let endian : Plain n.endian = plain_option (codes ",big") (codes ",little") Big Little f.layout.endian n.endian refl refl (n.endian_named) in
+    let order : Plain n.order = plain_option (codes ",lsb") (codes ",msb") Lsb0 Msb0 f.layout.order n.order refl refl (n.order_named) in
+    let size : Plain n.size = plain_size n.size f.layout.size (n.size_named) in
+    let options : Plain (n.endian ++ (n.order ++ n.size)) = plain_both n.endian (n.order ++ n.size) endian (plain_both n.order n.size order size) in
+    subst Plain (sym (n.parts)) (plain_both (kind_name f.kind) (n.endian ++ (n.order ++ n.size)) (plain_kind f.kind) options)
 
 -- ---- items
 -- whatever stands round an `=` in front of which there is none is the two parts

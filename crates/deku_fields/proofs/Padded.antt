@@ -1,7 +1,8 @@
 -- What aligned fitting items give to a sink that does not fail and has the room.
-use Rattle.std.proofs.Common.{◌≡◌, ℕ, ◌+◌, ◌*◌, ◌<◌, ◌≤◌, ◌^◌, ◌++◌, false, Result, Ok, Option, Some, None, List, length, sym, ◌∙◌, subst, arith, length-append}
+use Rattle.std.proofs.Common.{◌≡◌, ℕ, ◌+◌, ◌*◌, ◌<◌, ◌≤◌, ◌^◌, ◌++◌, false, Result, Ok, Err, Option, Some, None, List, length, ◌⊎◌, inl, inr, ⊎_elim, ap, sym, ◌∙◌, subst, arith, length-append}
 use Rattle.std.specs.declared.io.ErrorKind.{ErrorKind}
 use Rattle.deku_bits.specs.declared.error.DekuError.{DekuError}
+use Rattle.deku_bits.specs.declared.error.DekuError.TheVariants.{Io}
 use Rattle.deku_bits.specs.Pieces.{Piece}
 use Rattle.deku_bits.specs.Writers.{Nothing, Written, finalized, padded}
 use Rattle.deku_bits.specs.Symmetry.{followed, appended, packed}
@@ -11,7 +12,7 @@ use Rattle.deku_bits.specs.Outcomes.{Outcome}
 use Rattle.deku_bits.specs.WriterCalls.{Took, Finalizes}
 use Rattle.deku_fields.specs.declared.list.Item.{Item}
 use Rattle.deku_fields.specs.ListCalls.{WritesItems}
-use Rattle.deku_fields.specs.Promise.{Unfailing, HasRoom, Fills, WritesLaid, PaddedLaw}
+use Rattle.deku_fields.specs.Promise.{Unfailing, HasRoom, FindsNoMemory, Fills, WritesLaid, PaddedLaw}
 use Rattle.deku_fields.proofs.Sound.{sound}
 use Rattle.deku_fields.proofs.FieldLists.{written}
 use Rattle.deku_fields.proofs.WritingLists.{Wrote, Done, Lacking, Full, emitted, items_wrote, followed_wrote}
@@ -20,15 +21,15 @@ use Rattle.deku_fields.proofs.WritingLists.{Wrote, Done, Lacking, Full, emitted,
 abbrev TookAll : Written → Output → ℕ → Result (Unit {0}) DekuError → Standing Output → Type 0
 TookAll w out c r u = (r ≡ Ok tt) × ((after : Output) × Took w out after × (u ≡ Going after (c + 8 * length w.bytes)))
 
-not_lacking : (room : Option ℕ) (m n : ℕ) (kind : ErrorKind) → m ≤ n → HasRoom room n → LacksRoom room m kind → ⊥
-not_lacking None m n kind l h p = h
-not_lacking (Some x) m n kind l h p = omega (arith, p.1)
+lacking : (room : Option ℕ) (m n : ℕ) (kind : ErrorKind) (r : Result (Unit {0}) DekuError) → m ≤ n → HasRoom room n → LacksRoom room m kind → r ≡ Err (Io kind) → FindsNoMemory room r
+lacking None m n kind r l h p e = e ∙ ap (λ k. Err (Io k)) p
+lacking (Some x) m n kind r l h p e = absurd (omega (arith, p.1))
 
 -- where there is room for no fewer bytes, and they can be counted
 took_all : (w : Written) (n : ℕ) (out : Output) (c : ℕ) (r : Result (Unit {0}) DekuError) (u : Standing Output)
-    → length w.bytes ≤ n → HasRoom out.room n → c + 8 * n < 2 ^ 64 → Wrote w out c r u → TookAll w out c r u
-took_all w n out c r u less room countable (Done after t e f) = (e, (after, t, f))
-took_all w n out c r u less room countable (Lacking kind l e) = absurd (not_lacking out.room (length w.bytes) n kind less room l)
+    → length w.bytes ≤ n → HasRoom out.room n → c + 8 * n < 2 ^ 64 → Wrote w out c r u → TookAll w out c r u ⊎ FindsNoMemory out.room r
+took_all w n out c r u less room countable (Done after t e f) = inl (e, (after, t, f))
+took_all w n out c r u less room countable (Lacking kind l e) = inr (lacking out.room (length w.bytes) n kind r less room l e)
 took_all w n out c r u less room countable (Full p) = absurd (omega arith)
 
 -- the bytes of items that were written from nothing pending, and then padded
@@ -51,7 +52,7 @@ laid_written items {r} {s} {u} o calm bytes out c fills e =
     let less : length w.bytes ≤ length bytes = subst (λ x. length w.bytes ≤ length x) all (omega (arith, length-append w.bytes (padded w.pending))) in
     let m : WritesItems items false (Going out c) r u = subst (λ x. WritesItems items false x r u) e (sound o calm) in
     let k = took_all w (length bytes) out c r u less (fills.room) (fills.countable) (items_laid items bytes out c r u fills m) in
-    (k.0, record { written = w; whole = all; after = k.1.0; took = k.1.1; stands = k.1.2 })
+    ⊎_elim (λ t. inl (t.0, record { written = w; whole = all; after = t.1.0; took = t.1.1; stands = t.1.2 })) (λ n. inr n) k
 
 pub padded_law : PaddedLaw
 padded_law items bytes out c r u fills m =
@@ -63,4 +64,4 @@ padded_law items bytes out c r u fills m =
     let all : w.bytes ≡ bytes = whole fills in
     let less : length w.bytes ≤ length bytes = subst (λ x. length w.bytes ≤ length x) all (omega arith) in
     let k = took_all w (length bytes) out c r u less (fills.room) (fills.countable) both in
-    subst (λ x. TookAll (record { bytes = x; pending = Nothing }) out c r u) all k
+    subst (λ x. TookAll (record { bytes = x; pending = Nothing }) out c r u ⊎ FindsNoMemory out.room r) all k

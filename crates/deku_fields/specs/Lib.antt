@@ -5,3 +5,4 @@ pub mod ListCalls
 pub mod Promise
 pub mod Naming
 pub mod Runs
+pub mod Cuts

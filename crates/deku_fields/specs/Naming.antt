@@ -1,11 +1,12 @@
 -- The words of a command line, and what they name.
 use Rattle.std.specs.Prelude.{◌≡◌, ◌⊎◌, ℕ, ◌<◌, ◌≤◌, ◌^◌, true, List, [], ◌∷◌, ◌++◌, codes, pos, neg_ℤ, ⊤}
 use Rattle.std.specs.Str.Parse.{IsNumeral, digits_value}
-use Rattle.deku_bits.specs.declared.ctx.Order.TheVariants.{Msb0}
+use Rattle.deku_bits.specs.declared.ctx.Order.{Order}
+use Rattle.deku_bits.specs.declared.ctx.Order.TheVariants.{Msb0, Lsb0}
 use Rattle.deku_num.specs.declared.ctx.Endian.{Endian}
 use Rattle.deku_num.specs.declared.ctx.Endian.TheVariants.{Little, Big}
 use Rattle.deku_num.specs.declared.ctx.Size.{Size}
-use Rattle.deku_num.specs.declared.ctx.Size.TheVariants.{Whole, Bits}
+use Rattle.deku_num.specs.declared.ctx.Size.TheVariants.{Whole, Bits, Bytes}
 use Rattle.deku_fields.specs.declared.list.Kind.{Kind}
 use Rattle.deku_fields.specs.declared.list.Kind.TheVariants.{U8, U16, U32, U64, U128, Usize, I8, I16, I32, I64, I128, Isize}
 use Rattle.deku_fields.specs.declared.list.Number.{Number}
@@ -41,23 +42,35 @@ pub data NamesNumber (kind : Kind) (text : List ℕ) : Number → Type 0 where
   Plain : IsNumeral 10 text → ((number_type kind).signed ≡ true → 2 ^ 127 ≤ digits_value 10 text) → digits_value 10 text < 2 ^ 128
       → NamesNumber kind text (Unsigned (digits_value 10 text))
 
+-- one of two options, or none, which stands for the second
+abbrev pub NamesOption : {T : Type 0} → List ℕ → T → List ℕ → T → List ℕ → T → Type 0
+NamesOption first a second b text t = ((text ≡ first) × (t ≡ a)) ⊎ (((text ≡ second) ⊎ (text ≡ [])) × (t ≡ b))
+
 -- an endian behind a comma; little where there is none
 abbrev pub NamesEndian : List ℕ → Endian → Type 0
-NamesEndian text e = ((text ≡ codes ",big") × (e ≡ Big)) ⊎ (((text ≡ codes ",little") ⊎ (text ≡ [])) × (e ≡ Little))
+NamesEndian text e = NamesOption (codes ",big") Big (codes ",little") Little text e
 
--- a size behind a comma; all bits of the kind where there is none
+-- an order behind a comma; `Msb0` where there is none
+abbrev pub NamesOrder : List ℕ → Order → Type 0
+NamesOrder text o = NamesOption (codes ",lsb") Lsb0 (codes ",msb") Msb0 text o
+
+-- a count behind a unit
+abbrev pub CountsBehind : List ℕ → List ℕ → ℕ → Type 0
+CountsBehind unit text n = (digits : List ℕ) × (text ≡ unit ++ digits) × NamesCount digits n
+
+-- a size behind a comma, in bits or in bytes; all bits of the kind where there is none
 abbrev pub NamesSize : List ℕ → Size → Type 0
-NamesSize text s = ((text ≡ []) × (s ≡ Whole)) ⊎ ((digits : List ℕ) × (n : ℕ) × (text ≡ codes ",bits" ++ digits) × NamesCount digits n × (s ≡ Bits n))
+NamesSize text s = ((text ≡ []) × (s ≡ Whole)) ⊎ ((n : ℕ) × CountsBehind (codes ",bits") text n × (s ≡ Bits n))
+    ⊎ ((n : ℕ) × CountsBehind (codes ",bytes") text n × (s ≡ Bytes n))
 
--- a field: its kind, and then its endian, `msb` and its size, each of which may be left out
+-- a field: its kind, and then its endian, its order and its size, each of which may be left out
 pub record NamesField (word : List ℕ) (f : Field) : Type 0 where
   pub endian : List ℕ
-  pub msb : List ℕ
+  pub order : List ℕ
   pub size : List ℕ
-  pub parts : word ≡ kind_name f.kind ++ (endian ++ (msb ++ size))
+  pub parts : word ≡ kind_name f.kind ++ (endian ++ (order ++ size))
   pub endian_named : NamesEndian endian f.layout.endian
-  pub msb_named : (msb ≡ codes ",msb") ⊎ (msb ≡ [])
-  pub order_is : f.layout.order ≡ Msb0
+  pub order_named : NamesOrder order f.layout.order
   pub size_named : NamesSize size f.layout.size
 
 -- an item: a field, `=` and its value
@@ -78,11 +91,15 @@ BeginsOption (c ∷ cs) = codes "," ≡ c ∷ []
 abbrev pub Lacks : List ℕ → List ℕ → Type 0
 Lacks front text = (rest : List ℕ) → text ≡ front ++ rest → ⊥
 
+-- One of two options is in front of the rest. Or none is, and the second is meant.
+abbrev pub SplitsOption : {T : Type 0} → List ℕ → T → List ℕ → T → List ℕ → T → List ℕ → Type 0
+SplitsOption first a second b text t rest = ((text ≡ first ++ rest) × (t ≡ a)) ⊎ ((text ≡ second ++ rest) × (t ≡ b))
+    ⊎ ((text ≡ rest) × (t ≡ b) × Lacks first text × Lacks second text)
+
 -- an endian is in front of the rest, or none is and it is little
 abbrev pub SplitsEndian : List ℕ → Endian → List ℕ → Type 0
-SplitsEndian text e rest = ((text ≡ codes ",big" ++ rest) × (e ≡ Big)) ⊎ ((text ≡ codes ",little" ++ rest) × (e ≡ Little))
-    ⊎ ((text ≡ rest) × (e ≡ Little) × Lacks (codes ",big") text × Lacks (codes ",little") text)
+SplitsEndian text e rest = SplitsOption (codes ",big") Big (codes ",little") Little text e rest
 
--- `,msb` is in front of the rest, or the text lacks it
-abbrev pub SplitsMsb : List ℕ → List ℕ → Type 0
-SplitsMsb text rest = (text ≡ codes ",msb" ++ rest) ⊎ ((text ≡ rest) × Lacks (codes ",msb") text)
+-- an order is in front of the rest, or none is and it is `Msb0`
+abbrev pub SplitsOrder : List ℕ → Order → List ℕ → Type 0
+SplitsOrder text o rest = SplitsOption (codes ",lsb") Lsb0 (codes ",msb") Msb0 text o rest

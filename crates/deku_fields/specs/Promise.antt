@@ -1,5 +1,5 @@
 -- What the calls on lists promise: from bytes that begin with a layout its values are read, and items are written as their layout.
-use Rattle.std.specs.Prelude.{◌≡◌, ◌⊎◌, ℕ, false, ◌+◌, ◌*◌, ◌-◌, ◌<◌, ◌≤◌, ◌^◌, length, map, take, All, MatchResult, OnOk, List, [], ◌++◌, Option, None, Some, Result, Ok, Err}
+use Rattle.std.specs.Prelude.{◌≡◌, ◌⊎◌, ℕ, false, ◌+◌, ◌*◌, ◌-◌, ◌<◌, ◌≤◌, ◌^◌, length, map, take, All, MatchResult, OnOk, List, [], ◌++◌, Option, None, Some, Result, Ok, Err, ⊤}
 use Rattle.std.specs.Global.{Vec}
 use Rattle.std.specs.declared.io.ErrorKind.TheVariants.{OutOfMemory}
 use Rattle.deku_bits.specs.declared.error.DekuError.{DekuError}
@@ -77,10 +77,15 @@ ReadsBackFrom fs bytes r = (items : List Item) (after : List ℕ) → Begins fs 
     → MatchResult r (λ v. (v.0 ≡ total (map field_shape fs)) × (v.1.items ≡ values_of items)) (λ e. e ≡ Io OutOfMemory)
 
 -- ---- writing
--- the room is told, and n bytes are not more
+-- n bytes are not more than the room, where it is told
 abbrev pub HasRoom : Option ℕ → ℕ → Type 0
-HasRoom None n = ⊥
+HasRoom None n = ⊤
 HasRoom (Some room) n = n ≤ room
+
+-- a sink that grows, and so tells no room, finds no memory
+abbrev pub FindsNoMemory : Option ℕ → Result (Unit {0}) DekuError → Type 0
+FindsNoMemory None r = r ≡ Err (Io OutOfMemory)
+FindsNoMemory (Some room) r = ⊥
 
 -- bytes that aligned fitting items lay out, which go to a sink that has the room, where nothing is pending; and their bits can be counted
 pub record Fills (items : List Item) (bytes : List ℕ) (out : Output) (c : ℕ) : Type 0 where
@@ -101,13 +106,16 @@ pub record HasWritten (bytes : List ℕ) (out : Output) (c : ℕ) (u : Standing 
 
 -- aligned fitting items are written where nothing is pending and there is room: padded once, they are exactly what they lay out
 abbrev pub WritesLaid : List Item → Standing Output → Result (Unit {0}) DekuError → Standing Output → Type 0
-WritesLaid items s r u = (bytes : List ℕ) (out : Output) (c : ℕ) → Fills items bytes out c → s ≡ Going out c → (r ≡ Ok tt) × HasWritten bytes out c u
+WritesLaid items s r u = (bytes : List ℕ) (out : Output) (c : ℕ) → Fills items bytes out c → s ≡ Going out c
+    → ((r ≡ Ok tt) × HasWritten bytes out c u) ⊎ FindsNoMemory out.room r
 
--- Where nothing is pending and there is room, aligned fitting items that are written and padded once give the sink exactly what they lay out.
+-- Where nothing is pending and there is room, aligned fitting items that are written and padded once give the sink exactly what they lay out,
+-- or a sink that grows finds no memory.
 abbrev pub PaddedLaw : Type 0
 PaddedLaw = (items : List Item) (bytes : List ℕ) (out : Output) (c : ℕ) (r : Result (Unit {0}) DekuError) (u : Standing Output) → Fills items bytes out c
     → Both (WritesItems items) Finalizes false (Going out c) r u
-    → (r ≡ Ok tt) × ((after : Output) × Took (record { bytes = bytes; pending = Nothing }) out after × (u ≡ Going after (c + 8 * length bytes)))
+    → ((r ≡ Ok tt) × ((after : Output) × Took (record { bytes = bytes; pending = Nothing }) out after × (u ≡ Going after (c + 8 * length bytes))))
+    ⊎ FindsNoMemory out.room r
 
 -- the bits of the bytes that items lay out can be counted
 abbrev pub IsCountable : List Item → Type 0

@@ -1,12 +1,19 @@
 -- What a run of the program does: the words that it is given, the text that it reads and the text that it writes.
-use Rattle.std.specs.Prelude.{◌≡◌, ◌⊎◌, ℕ, List, [], ◌∷◌, ◌++◌, map, flat_map, Ok, Option, IfSome, String, string_bytes, decimal, codes, ⊤}
+use Rattle.std.specs.Prelude.{◌≡◌, ◌⊎◌, ℕ, List, [], ◌∷◌, ◌++◌, map, flat_map, Ok, Err, Option, Some, None, IfSome, String, string_bytes, decimal, codes, ⊤}
 use Rattle.std.specs.Fmt.{signed_decimal}
 use Rattle.std.specs.List.{AllZip}
 use Rattle.std.specs.Global.{Vec}
 use Rattle.std.specs.Io.KnownBytes.{Appends}
+use Rattle.std.specs.declared.io.ErrorKind.{ErrorKind}
+use Rattle.std.specs.declared.io.ErrorKind.TheVariants.{OutOfMemory}
 use Rattle.hex.specs.Hex.{encode_lower, decode_of}
+use Rattle.hex.specs.declared.error.FromHexError.{FromHexError}
+use Rattle.deku_bits.specs.declared.error.DekuError.{DekuError}
+use Rattle.deku_bits.specs.declared.error.DekuError.TheVariants.{Io}
 use Rattle.deku_bits.specs.WriterCalls.{Finalizes}
 use Rattle.deku.specs.Composing.{Both}
+use Rattle.deku_fields.specs.declared.program.Failure.{Failure}
+use Rattle.deku_fields.specs.declared.program.Failure.TheVariants.{Usage, BadText, Fault}
 use Rattle.deku_fields.specs.declared.list.Field.{Field}
 use Rattle.deku_fields.specs.declared.list.Item.{Item}
 use Rattle.deku_fields.specs.declared.list.Number.{Number}
@@ -71,8 +78,78 @@ pub record IsDone (words : List (List ℕ)) (input before after : Option (List �
   pub asked : Asks words input text
   pub given : Appends before after text
 
+-- the text that the words ask for was known
+abbrev pub IsKnown : List (List ℕ) → Option (List ℕ) → Type 0
+IsKnown words input = (text : List ℕ) × Asks words input text
+
+-- the first word is `read`
+abbrev pub AsksToRead : List (List ℕ) → Type 0
+AsksToRead [] = ⊥
+AsksToRead (name ∷ words) = name ≡ codes "read"
+
 -- the words are neither `write` and items nor `read` and fields
 abbrev pub AreNoForm : List (List ℕ) → Type 0
 AreNoForm [] = ⊤
 AreNoForm (name ∷ words) = (name ≡ codes "write" → (items : List Item) → AllZip NamesItem words items → ⊥)
     × (name ≡ codes "read" → (fields : List Field) → AllZip NamesField words fields → ⊥)
+
+-- ---- what a run ends with where it is not done
+-- the words name these items, which are refused so
+pub record ItemsRefused (words : List (List ℕ)) (e : Failure) : Type 0 where
+  pub items : List Item
+  pub named : AllZip NamesItem words items
+  pub fault : DekuError
+  pub refused : WritesWhole (Both (WritesItems items) Finalizes) (Err fault)
+  pub is : e ≡ Fault fault
+
+-- the words name no items, no memory is found, or the items are refused
+abbrev pub WritingStops : List (List ℕ) → Failure → Type 0
+WritingStops words e = ((e ≡ Usage) × ((items : List Item) → AllZip NamesItem words items → ⊥)) ⊎ (e ≡ Fault (Io OutOfMemory)) ⊎ ItemsRefused words e
+
+-- the text shows no bytes in hexadecimal
+pub record IsNoHexText (text : List ℕ) : Type 0 where
+  pub digits : List ℕ
+  pub trimmed : LosesNewline text digits
+  pub error : FromHexError
+  pub refused : decode_of digits ≡ Err error
+
+-- the input shows no bytes, where it is known, or it or the memory failed
+abbrev pub InputStops : Option (List ℕ) → Failure → Type 0
+InputStops input e = ((e ≡ BadText) × IfSome input IsNoHexText) ⊎ ((kind : ErrorKind) × (e ≡ Fault (Io kind)))
+
+-- the fields are refused so, read from the bytes that the input shows, where it is known
+pub record FieldsRefused (fields : List Field) (input : Option (List ℕ)) (e : Failure) : Type 0 where
+  pub bytes : List ℕ
+  pub given : IfSome input (λ shown. IsHexText shown bytes)
+  pub fault : DekuError
+  pub refused : ListFrom fields bytes (Err fault)
+  pub is : e ≡ Fault fault
+
+-- the words name fields, and then the input or the fields stand in the way
+pub record FieldsStop (words : List (List ℕ)) (input : Option (List ℕ)) (e : Failure) : Type 0 where
+  pub fields : List Field
+  pub named : AllZip NamesField words fields
+  pub stop : InputStops input e ⊎ FieldsRefused fields input e
+
+-- the words name no fields, no memory is found, or the input or the fields stand in the way
+abbrev pub ReadingStops : List (List ℕ) → Option (List ℕ) → Failure → Type 0
+ReadingStops words input e = ((e ≡ Usage) × ((fields : List Field) → AllZip NamesField words fields → ⊥)) ⊎ (e ≡ Fault (Io OutOfMemory)) ⊎ FieldsStop words input e
+
+-- what stands in the way of the words: that they are of no form, what they ask for, or the output, when the text is known
+abbrev pub Stops : List (List ℕ) → Option (List ℕ) → Failure → Type 0
+Stops words input e = ((e ≡ Usage) × AreNoForm words)
+    ⊎ ((names : List (List ℕ)) × (words ≡ codes "write" ∷ names) × WritingStops names e)
+    ⊎ ((names : List (List ℕ)) × (words ≡ codes "read" ∷ names) × ReadingStops names input e)
+    ⊎ ((kind : ErrorKind) × (e ≡ Fault (Io kind)) × IsKnown words input)
+
+-- the status of a run that ends so: 2 where the words are of no form, else 1
+abbrev pub status_of : Failure → ℕ
+status_of Usage = 2
+status_of BadText = 1
+status_of (Fault fault) = 1
+
+-- what it is told as; the text of a fault is left open
+abbrev pub message : Failure → Option (List ℕ)
+message Usage = Some (line (codes "usage: fields read|write SPEC.."))
+message BadText = Some (line (codes "error: bad hexadecimal text"))
+message (Fault fault) = None

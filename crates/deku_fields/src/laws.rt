@@ -1,5 +1,6 @@
 //! Laws of lists of fields: each is what an empty function ensures.
 
+ghost use Rattle.deku_fields.specs.Cuts.{WriteCutLaw, WriteCallsLaw, WritePartsLaw, ReadCutLaw, ReadCallsLaw, LookLaw, ReadPartsLaw};
 ghost use Rattle.deku_fields.specs.Headline.{PieceLaw, LayoutLaw, ThereLaw, BackLaw, CallsLaw};
 ghost use Rattle.deku_fields.specs.Promise.{PaddedLaw};
 ghost use Rattle.deku_fields.specs.Rows.{ListRows, TurnedRows, MisfitRows};
@@ -19,7 +20,8 @@ pub fn there_law()
     ensures { ThereLaw }
 {}
 
-/// Items written by `write_list`, and padded once by `finalize`, give the sink exactly what they lay out, where it has the room.
+/// Items written by `write_list`, and padded once by `finalize`, give the sink exactly what they lay out, where it has the room, or finds
+/// the memory.
 pub fn padded_law()
     ensures { PaddedLaw }
 {}
@@ -32,6 +34,41 @@ pub fn back_law()
 /// Fields may be read in several calls.
 pub fn calls_law()
     ensures { CallsLaw }
+{}
+
+/// Two lists of items written one after the other are both together written.
+pub fn write_cut_law()
+    ensures { WriteCutLaw }
+{}
+
+/// Items may be written in two calls: what these do, the first refusal too, one call may do.
+pub fn write_calls_law()
+    ensures { WriteCallsLaw }
+{}
+
+/// Items may be written in any number of calls.
+pub fn write_parts_law()
+    ensures { WritePartsLaw }
+{}
+
+/// Two lists of fields read one after the other are both together read, their values joined.
+pub fn read_cut_law()
+    ensures { ReadCutLaw }
+{}
+
+/// Fields may be read in two calls: what these do, the first refusal too, one call may do.
+pub fn read_calls_law()
+    ensures { ReadCallsLaw }
+{}
+
+/// A look whether the end of input is reached changes no later read of fields.
+pub fn look_law()
+    ensures { LookLaw }
+{}
+
+/// Fields may be read in any number of calls, with any number of looks between them whether the end of input is reached.
+pub fn read_parts_law()
+    ensures { ReadPartsLaw }
 {}
 
 /// Worked examples of lists of fields, read and written.

@@ -1,15 +1,15 @@
 //! The program: from words on a command line to bytes and back.
 
-ghost use Rattle.std.specs.Prelude.{◌≡◌, ◌≢◌, ◌≤◌, List, flat_map, IfSome, IfOk, OnOk, IfErr, string_bytes};
+ghost use Rattle.std.specs.Prelude.{◌≡◌, ◌⊎◌, ◌≤◌, List, flat_map, IfSome, IfOk, OnOk, IfErr, OnErr, string_bytes};
 ghost use Rattle.std.specs.List.{AllZip};
+ghost use Rattle.std.specs.Io.KnownBytes.{Appends};
 ghost use Rattle.std.specs.IoError.{error_kind};
 ghost use Rattle.std.specs.declared.io.ErrorKind.TheVariants.{OutOfMemory};
 ghost use Rattle.deku_bits.specs.declared.error.DekuError.TheVariants.{Io};
 ghost use Rattle.deku_fields.specs.declared.program.Failure.TheVariants.{Fault, Usage};
-ghost use Rattle.deku_fields.specs.declared.list.Item.{Item as ListItem};
 ghost use Rattle.deku_fields.specs.declared.list.Field.{Field as ListField};
-ghost use Rattle.deku_fields.specs.Naming.{NamesField, NamesItem};
-ghost use Rattle.deku_fields.specs.Runs.{words_of, line, number_text, IsHexText, LosesNewline, IsDone, AreNoForm, ShowsRead, ShowsWritten};
+ghost use Rattle.deku_fields.specs.Naming.{NamesField};
+ghost use Rattle.deku_fields.specs.Runs.{words_of, line, number_text, status_of, message, IsHexText, LosesNewline, IsDone, IsKnown, AsksToRead, AreNoForm, ShowsRead, ShowsWritten, InputStops, ReadingStops, WritingStops, Stops};
 
 use crate::list::{Field, Item, Number};
 use crate::read::list_from_bytes;
@@ -68,9 +68,18 @@ impl From<AllocError> for Failure {
 /// Runs the program on the arguments after its name, and answers its status: 0 where it is done, 1 where the input, the output,
 /// the memory or a value stood in the way, and 2 where the arguments are not of a form that it knows.
 ///
-/// `write SPEC=VALUE..` prints the bytes of the items in hexadecimal, and `read SPEC..` reads such text and prints the value of each
-/// field on a line of its own, and then how many bits were read. A fault goes to `errors`, and then nothing goes to the output but
-/// what a failing output took. A fault of `errors` changes nothing.
+/// `write SPEC=VALUE..` prints the bytes of the items in hexadecimal, and `read SPEC..` reads such text, of either case and without one
+/// newline at its end, and prints the value of each field on a line of its own, and then how many bits were read.
+///
+/// A run that is not done is told of in one line on `errors`: the usage with status 2, and with status 1 `error: bad hexadecimal text`
+/// or `error: ` and the text of the fault. The arguments are looked at before the input, and nothing goes to the output until all of the
+/// text is known, so it gains nothing then but what a failing output took. A fault of `errors` changes nothing.
+///
+/// ```text
+/// write u8,big,bits4=6 u8,big,bits4=9 u16,big=49406   // prints 69c0fe, status 0
+/// read u8,lsb,bits5 u16,lsb u8,lsb,bits3              // on a13412 prints 1, 37285, 0 and bits 24, status 0
+/// write u9=1                                          // tells usage: fields read|write SPEC.., status 2
+/// ```
 pub fn run<R: Read, W: Write, E: Write>(
     alloc: Global,
     args: &[String],
@@ -82,23 +91,34 @@ pub fn run<R: Read, W: Write, E: Write>(
     ensures done { result ≡ 0 → IsDone (words_of args.now) (R.remaining input.old) (W.contents output.old) (W.contents output.new) }
     ensures quiet { result ≡ 0 → errors.new ≡ errors.old }
     ensures usage { result ≡ 2 → AreNoForm (words_of args.now) × (input.new ≡ input.old) × (output.new ≡ output.old) }
+    ensures kept { result ≡ 1 → (output.new ≡ output.old) ⊎ IsKnown (words_of args.now) (R.remaining input.old) }
+    ensures unread { AsksToRead (words_of args.now) ⊎ (input.new ≡ input.old) }
 {
     let Err(failure) = command(alloc, args, input, output) else {
         return 0;
     };
+    let _ = complain(errors, &failure);
+    status_of(&failure)
+}
+
+// The status of a run that ends so.
+fn status_of(failure: &Failure) -> u8
+    ensures { result ≡ status_of failure.now }
+{
     match failure {
-        Failure::Usage => {
-            let _ = writeln!(errors, "usage: fields read|write SPEC..");
-            2
-        }
-        Failure::BadText => {
-            let _ = writeln!(errors, "error: bad hexadecimal text");
-            1
-        }
-        Failure::Fault(fault) => {
-            let _ = writeln!(errors, "error: {fault}");
-            1
-        }
+        Failure::Usage => 2,
+        Failure::BadText | Failure::Fault(_) => 1,
+    }
+}
+
+// Tells of a failure in a line.
+fn complain<E: Write>(errors: &mut E, failure: &Failure) -> io::Result<()>
+    ensures told { OnOk result (IfSome (message failure.now) (Appends (E.contents errors.old) (E.contents errors.new))) }
+{
+    match failure {
+        Failure::Usage => writeln!(errors, "usage: fields read|write SPEC.."),
+        Failure::BadText => writeln!(errors, "error: bad hexadecimal text"),
+        Failure::Fault(fault) => writeln!(errors, "error: {fault}"),
     }
 }
 
@@ -109,7 +129,10 @@ fn command<R: Read, W: Write>(
     output: &mut W,
 ) -> Result<(), Failure>
     ensures done { OnOk result (IsDone (words_of args.now) (R.remaining input.old) (W.contents output.old) (W.contents output.new)) }
+    ensures stops { IfErr result (λ e. Stops (words_of args.now) (R.remaining input.old) e) }
     ensures usage { IfErr result (λ e. e ≡ Usage → AreNoForm (words_of args.now) × (input.new ≡ input.old) × (output.new ≡ output.old)) }
+    ensures kept { OnErr result ((output.new ≡ output.old) ⊎ IsKnown (words_of args.now) (R.remaining input.old)) }
+    ensures unread { AsksToRead (words_of args.now) ⊎ (input.new ≡ input.old) }
 {
     let [name, specs @ ..] = args else {
         return Err(Failure::Usage);
@@ -126,7 +149,7 @@ fn command<R: Read, W: Write>(
 // The bytes of the items that the words name, as a line of hexadecimal text.
 fn written(alloc: Global, specs: &[String]) -> Result<String, Failure>
     ensures shown { IfOk result (λ text. ShowsWritten (words_of specs.now) (string_bytes text)) }
-    ensures usage { IfErr result (λ e. e ≡ Usage → (items : List ListItem) → AllZip NamesItem (words_of specs.now) items → ⊥) }
+    ensures stops { IfErr result (λ e. WritingStops (words_of specs.now) e) }
 {
     let mut items: Vec<Item> = Vec::new(alloc);
     for word in specs {
@@ -144,7 +167,8 @@ fn written(alloc: Global, specs: &[String]) -> Result<String, Failure>
 // The values that the fields named by the words read from the input, and the count of bits, as lines of text.
 fn read<R: Read>(alloc: Global, specs: &[String], input: &mut R) -> Result<String, Failure>
     ensures shown { IfOk result (λ text. ShowsRead (words_of specs.now) (R.remaining input.old) (string_bytes text)) }
-    ensures usage { IfErr result (λ e. e ≡ Usage → ((fields : List ListField) → AllZip NamesField (words_of specs.now) fields → ⊥) × (input.new ≡ input.old)) }
+    ensures stops { IfErr result (λ e. ReadingStops (words_of specs.now) (R.remaining input.old) e) }
+    ensures unread { IfErr result (λ e. e ≡ Usage → input.new ≡ input.old) }
 {
     let fields = fields_named(alloc, specs)?;
     let bytes = read_bytes(alloc, input)?;
@@ -158,6 +182,7 @@ fn read<R: Read>(alloc: Global, specs: &[String], input: &mut R) -> Result<Strin
 fn fields_named(alloc: Global, specs: &[String]) -> Result<Vec<Field>, Failure>
     ensures named { IfOk result (λ fields. AllZip NamesField (words_of specs.now) fields.items) }
     ensures usage { IfErr result (λ e. e ≡ Usage → (fields : List ListField) → AllZip NamesField (words_of specs.now) fields → ⊥) }
+    ensures memory { IfErr result (λ e. (e ≡ Usage) ⊎ (e ≡ Fault (Io OutOfMemory))) }
 {
     let mut fields: Vec<Field> = Vec::new(alloc);
     for word in specs {
@@ -187,7 +212,7 @@ fn number_lines(alloc: Global, numbers: &[Number]) -> Result<String, Failure>
 // The bytes that hexadecimal text names, without one last newline.
 fn read_bytes<R: Read>(alloc: Global, input: &mut R) -> Result<Vec<u8>, Failure>
     ensures shown { IfOk result (λ bytes. IfSome (R.remaining input.old) (λ text. IsHexText text bytes.items)) }
-    ensures usage { IfErr result (λ e. e ≢ Usage) }
+    ensures stops { IfErr result (InputStops (R.remaining input.old)) }
 {
     let mut text: Vec<u8> = Vec::new(alloc);
     input.read_to_end(&mut text)?;

@@ -7,21 +7,22 @@ ghost use Rattle.deku_fields.specs.declared.list.Number.{Number as FieldNumber};
 ghost use Rattle.deku_fields.specs.declared.list.Field.{Field as ListField};
 ghost use Rattle.deku_fields.specs.declared.list.Item.{Item as ListItem};
 ghost use Rattle.deku_num.specs.declared.ctx.Size.{Size as FieldSize};
-ghost use Rattle.deku_fields.specs.Naming.{kind_name, BeginsOption, SplitsEndian, SplitsMsb, NamesNumber, NamesSize, NamesField, NamesItem};
+ghost use Rattle.deku_fields.specs.Naming.{kind_name, BeginsOption, SplitsEndian, SplitsOrder, NamesNumber, NamesSize, NamesField, NamesItem};
 
 use crate::list::{Field, Item, Kind, Number};
 use deku::ctx::{Endian, Layout, Order, Size};
 
-/// The field that a word names: `kind[,big|,little][,msb][,bitsN]`.
+/// The field that a word names: `kind[,big|,little][,msb|,lsb][,bitsN|,bytesN]`.
 pub fn parse_field(word: &str) -> Option<Field>
     ensures { (f : ListField) → (result ≡ Some f) ↔ NamesField word.now f }
 {
     let (kind, options) = split_kind(word)?;
     let (endian, options) = split_endian(options);
-    let size = parse_size(after_msb(options))?;
+    let (order, size) = split_order(options);
+    let size = parse_size(size)?;
     let layout = Layout {
         endian,
-        order: Order::Msb0,
+        order,
         size,
     };
     Some(Field { kind, layout })
@@ -81,14 +82,17 @@ fn split_endian(text: &str) -> (Endian, &str)
     (Endian::Little, text)
 }
 
-// What stands behind `,msb`, where it is in front.
-fn after_msb(text: &str) -> &str
-    ensures { SplitsMsb text.now result.now }
+// The order in front, `Msb0` where there is none, and what stands behind it.
+fn split_order(text: &str) -> (Order, &str)
+    ensures { SplitsOrder text.now result.0 result.1.now }
 {
-    match behind(text, ",msb") {
-        Some(rest) => rest,
-        None => text,
+    if let Some(rest) = behind(text, ",lsb") {
+        return (Order::Lsb0, rest);
     }
+    if let Some(rest) = behind(text, ",msb") {
+        return (Order::Msb0, rest);
+    }
+    (Order::Msb0, text)
 }
 
 // The text behind another at its front, where that stands there.
@@ -105,7 +109,10 @@ fn parse_size(text: &str) -> Option<Size>
     if text.is_empty() {
         return Some(Size::Whole);
     }
-    Some(Size::Bits(parse_count(behind(text, ",bits")?)?))
+    if let Some(digits) = behind(text, ",bits") {
+        return Some(Size::Bits(parse_count(digits)?));
+    }
+    Some(Size::Bytes(parse_count(behind(text, ",bytes")?)?))
 }
 
 // A count in decimal digits alone.
@@ -150,3 +157,6 @@ fn is_digits(text: &str) -> bool
 {
     !text.is_empty() && text.as_bytes().iter().all(|byte| byte.is_ascii_digit())
 }
+
+#[cfg(test)]
+mod tests;

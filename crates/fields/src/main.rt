@@ -1,18 +1,27 @@
 //! Writes lists of whole-number fields as bytes, and reads them back.
 #![tactic(auto)]
 
+use std::io::ErrorKind;
 use std::process::ExitCode;
 use std::{env, io};
 
 fn main(rt: HostRuntime) -> io::Result<ExitCode> {
-    let alloc = rt.alloc();
-    let args: Vec<String> = env::args(&rt)?.skip(1).collect(alloc)?;
+    let args = arguments(&rt)?;
     let status = deku_fields::run(
-        alloc,
+        rt.alloc(),
         &args,
         &mut rt.stdin(),
         &mut rt.stdout(),
         &mut rt.stderr(),
     );
     Ok(ExitCode::from(status))
+}
+
+// The arguments after the program's name. Where one of them is not UTF-8 there are none: they are of no form then.
+fn arguments(rt: &HostRuntime) -> io::Result<Vec<String>> {
+    match env::args(rt) {
+        Ok(args) => Ok(args.skip(1).collect(rt.alloc())?),
+        Err(error) if error.kind() == ErrorKind::InvalidData => Ok(Vec::new(rt.alloc())),
+        Err(error) => Err(error),
+    }
 }

@@ -255,6 +255,72 @@ fn fills_a_slice(rt: HostRuntime) -> Result<(), Fail> {
     Ok(())
 }
 
+// ---- lists that are cut
+// Items are written in two calls as in one, and their fields read in two calls, with looks whether the end is reached.
+fn expect_cut(
+    rt: &impl Abort,
+    alloc: Global,
+    items: &[Item; 3],
+    bytes: &[u8; 3],
+    cut: usize,
+) -> Result<(), Fail>
+    requires { cut ≤ 3 }
+{
+    let mut page = [0u8; 3];
+    let mut writer = Writer::new(Cursor::new(page.as_mut_slice()));
+    let (front, back) = items.split_at(cut);
+    assert_eq!(rt; write_list(&mut writer, front), Ok(()));
+    assert_eq!(rt; write_list(&mut writer, back), Ok(()));
+    assert_eq!(rt; writer.finalize(), Ok(()));
+    assert_eq!(rt; page, *bytes);
+    let fields = fields_of(items);
+    let (front, back) = fields.split_at(cut);
+    let mut out = [Number::Unsigned(7); 3];
+    let (first, second) = out.split_at_mut(cut);
+    let mut reader = Reader::new(alloc, Cursor::new(bytes.as_slice()));
+    assert_eq!(rt; reader.end(), Ok(false));
+    assert_eq!(rt; read_list_into(&mut reader, front, first), Ok(()));
+    assert_eq!(rt; reader.end(), Ok(cut == 3));
+    assert_eq!(rt; reader.end(), Ok(cut == 3));
+    assert_eq!(rt; read_list_into(&mut reader, back, second), Ok(()));
+    assert_eq!(rt; reader.end(), Ok(true));
+    assert_eq!(rt; reader.bits_read(), 24);
+    assert_eq!(rt; out, values_of(items));
+    Ok(())
+}
+
+#[test]
+fn cuts_lists(rt: HostRuntime) -> Result<(), Fail> {
+    let alloc = rt.alloc();
+    for cut in [0, 1, 2, 3] {
+        expect_cut(&rt, alloc, &halves_and_word(), &[0x69, 0xBE, 0xEF], cut)?;
+        expect_cut(&rt, alloc, &word_inside(), &[0xA1, 0x34, 0x12], cut)?;
+    }
+    Ok(())
+}
+
+#[test]
+fn refuses_cut_lists(rt: HostRuntime) {
+    let items = [
+        big_msb(Kind::U8, Size::Bits(4), 6),
+        big_msb(Kind::U8, Size::Bits(4), 16),
+    ];
+    let misfit = Err(DekuError::InvalidParam("bit size of input is larger than requested size"));
+    for cut in [0, 1, 2] {
+        let mut page = [0u8; 1];
+        let mut writer = Writer::new(Cursor::new(page.as_mut_slice()));
+        let (front, back) = items.split_at(cut);
+        let both = match write_list(&mut writer, front) {
+            Ok(()) => write_list(&mut writer, back),
+            Err(refusal) => Err(refusal),
+        };
+        assert_eq!(rt; both, misfit);
+        assert_eq!(rt; writer.bits_written(), 0);
+        assert_eq!(rt; writer.finalize(), Ok(()));
+        assert_eq!(rt; page, [0x60]);
+    }
+}
+
 // ---- where a request for memory may be refused
 #[test]
 fn reads_a_list_or_finds_no_memory(rt: HostRuntime) -> Result<(), Fail> {

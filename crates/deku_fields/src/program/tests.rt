@@ -80,6 +80,8 @@ const TOO_WIDE: &str = "error: Invalid param error: bit size is larger than inpu
 
 const NO_MEMORY: &str = "error: io errorr: OutOfMemory\n";
 
+const NO_HEX_TEXT: &str = "error: bad hexadecimal text\n";
+
 const USAGE: &str = "usage: fields read|write SPEC..\n";
 
 #[test]
@@ -95,6 +97,54 @@ fn writes_items(rt: HostRuntime) -> Result<(), Fail> {
         (&["write"], "\n"),
         (&["write", "i8,bits3=-3"], "a0\n"),
         (&["write", "i16,bits12=-2"], "fef0\n"),
+    ];
+    for (words, output) in runs {
+        expect(&rt, alloc, words, "", (0, output, ""))?;
+    }
+    Ok(())
+}
+
+#[test]
+fn writes_items_in_both_orders(rt: HostRuntime) -> Result<(), Fail> {
+    let alloc = rt.alloc();
+    let runs: [(&[&str], &str); 4] = [
+        (&["write", "u32,big,bytes2=16909060"], "0304\n"),
+        (&["write", "u8,big,bits3=5", "u16,lsb,bits9=257"], "b001\n"),
+        (
+            &[
+                "write",
+                "u8,lsb,bits3=5",
+                "u128,lsb=170141183460469231731687303715884105729",
+            ],
+            "0d00000000000000000000000000000004\n",
+        ),
+        (
+            &["write", "u16,big,lsb,bits13=65311", "u8,big,lsb,bits3=7"],
+            "ffff\n",
+        ),
+    ];
+    for (words, output) in runs {
+        expect(&rt, alloc, words, "", (0, output, ""))?;
+    }
+    Ok(())
+}
+
+#[test]
+fn takes_numbers_to_their_bounds(rt: HostRuntime) -> Result<(), Fail> {
+    let alloc = rt.alloc();
+    let runs: [(&[&str], &str); 6] = [
+        (
+            &["write", "u128=340282366920938463463374607431768211455"],
+            "ffffffffffffffffffffffffffffffff\n",
+        ),
+        (
+            &["write", "i128=-170141183460469231731687303715884105728"],
+            "00000000000000000000000000000080\n",
+        ),
+        (&["write", "i8=-0"], "00\n"),
+        (&["write", "u8=0005"], "05\n"),
+        (&["write", "u8,bits03=5"], "a0\n"),
+        (&["write", "u8,bytes9=171"], "ab\n"),
     ];
     for (words, output) in runs {
         expect(&rt, alloc, words, "", (0, output, ""))?;
@@ -126,14 +176,77 @@ fn reads_fields(rt: HostRuntime) -> Result<(), Fail> {
 }
 
 #[test]
-fn refuses_values_and_input(rt: HostRuntime) -> Result<(), Fail> {
+fn reads_fields_in_both_orders(rt: HostRuntime) -> Result<(), Fail> {
     let alloc = rt.alloc();
-    let runs: [(&[&str], &str, &str); 8] = [
-        (&["write", "u8,big,bits4=16"], "", MISFIT),
-        (&["write", "i8,bits3=4"], "", MISFIT),
-        (&["write", "u8,big=300"], "", OUTSIDE),
-        (&["write", "u8=300"], "", OUTSIDE),
-        (&["write", "u8,bits9=1"], "", TOO_WIDE),
+    let runs: [(&[&str], &str, &str); 3] = [
+        (
+            &["read", "u8,big,bits3", "u16,lsb,bits9"],
+            "b001",
+            "5\n48\nbits 12\n",
+        ),
+        (
+            &["read", "u8,lsb,bits5", "u16,lsb", "u8,lsb,bits3"],
+            "a13412",
+            "1\n37285\n0\nbits 24\n",
+        ),
+        (
+            &["read", "u16,big,lsb,bits13", "u8,big,lsb,bits3"],
+            "ffff",
+            "65311\n7\nbits 16\n",
+        ),
+    ];
+    for (words, input, output) in runs {
+        expect(&rt, alloc, words, input, (0, output, ""))?;
+    }
+    Ok(())
+}
+
+#[test]
+fn refuses_values(rt: HostRuntime) -> Result<(), Fail> {
+    let alloc = rt.alloc();
+    let runs: [(&[&str], &str); 7] = [
+        (&["write", "u8,big,bits4=16"], MISFIT),
+        (&["write", "i8,bits3=4"], MISFIT),
+        (&["write", "u16,big,lsb,bits13=4128"], MISFIT),
+        (&["write", "u8,big=300"], OUTSIDE),
+        (&["write", "u8=300"], OUTSIDE),
+        (&["write", "u8=-1"], OUTSIDE),
+        (
+            &["write", "i128=170141183460469231731687303715884105728"],
+            OUTSIDE,
+        ),
+    ];
+    for (words, errors) in runs {
+        expect(&rt, alloc, words, "", (1, "", errors))?;
+    }
+    Ok(())
+}
+
+#[test]
+fn refuses_sizes(rt: HostRuntime) -> Result<(), Fail> {
+    let alloc = rt.alloc();
+    let runs: [(&[&str], &str); 4] = [
+        (&["write", "u8,bits9=1"], TOO_WIDE),
+        (&["write", "u8,bits18446744073709551615=1"], TOO_WIDE),
+        (
+            &["write", "u16,bytes3=1"],
+            "error: Invalid param error: byte size is larger than input\n",
+        ),
+        (
+            &["write", "i16,big,lsb,bits13=1"],
+            "error: Invalid param error: signed big Lsb0 field of this width\n",
+        ),
+    ];
+    for (words, errors) in runs {
+        expect(&rt, alloc, words, "", (1, "", errors))?;
+    }
+    Ok(())
+}
+
+#[test]
+fn refuses_input(rt: HostRuntime) -> Result<(), Fail> {
+    let alloc = rt.alloc();
+    let runs: [(&[&str], &str, &str); 7] = [
         (
             &["read", "u8,bits9"],
             "0000",
@@ -144,7 +257,11 @@ fn refuses_values_and_input(rt: HostRuntime) -> Result<(), Fail> {
             "69",
             "error: Not enough data, need 16 bits (or 2 bytes)\n",
         ),
-        (&["read", "u8"], "6", "error: bad hexadecimal text\n"),
+        (&["read", "u8"], "6", NO_HEX_TEXT),
+        (&["read", "u8"], "6g", NO_HEX_TEXT),
+        (&["read", "u8"], "69\n\n", NO_HEX_TEXT),
+        (&["read", "u8"], "69\r\n", NO_HEX_TEXT),
+        (&["read"], " ", NO_HEX_TEXT),
     ];
     for (words, input, errors) in runs {
         expect(&rt, alloc, words, input, (1, "", errors))?;
@@ -155,19 +272,21 @@ fn refuses_values_and_input(rt: HostRuntime) -> Result<(), Fail> {
 #[test]
 fn refuses_other_words(rt: HostRuntime) -> Result<(), Fail> {
     let alloc = rt.alloc();
-    let runs: [&[&str]; 12] = [
+    let runs: [&[&str]; 14] = [
         &[],
         &["copy"],
+        &["Write", "u8=1"],
         &["write", "u9,big=1"],
         &["write", "u9=1"],
-        &["write", "u8,big"],
-        &["write", "u8,big="],
-        &["write", "u8,big=+1"],
-        &["write", "u8,big,bits=1"],
-        &["write", "u8,msb,big=1"],
+        &["write", "u8=1", "u9=1"],
+        &["write", "u8,bits4,big=1"],
+        &["write", "u8,lsb,big=1"],
+        &["write", "u8,bits4,bytes1=1"],
         &["write", "u8=340282366920938463463374607431768211456"],
-        &["write", "u8,lsb=1"],
-        &["read", "u16,bytes1"],
+        &["read", "u8=1"],
+        &["read", "u8", ""],
+        &["read", "u8,bytes"],
+        &["read", "u8,lsb,msb"],
     ];
     for words in runs {
         expect(&rt, alloc, words, "", (2, "", USAGE))?;
@@ -210,6 +329,14 @@ fn tells_of_failing_streams(rt: HostRuntime) -> Result<(), Fail> {
         (1, fault),
     )?;
     assert_eq!(rt; output.position(), 0);
+    expect_end(
+        &rt,
+        alloc,
+        &["read", "u9"],
+        &mut Broken,
+        &mut output,
+        (2, USAGE),
+    )?;
     let mut none = "".as_bytes();
     expect_end(
         &rt,

@@ -1,8 +1,10 @@
-use Rattle.std.proofs.Common.{◌≡◌, ◌++◌, List, ℕ, Ok, flat_map, rules, subst₂, codes}
+use Rattle.std.proofs.Common.{◌≡◌, ◌++◌, List, ℕ, Ok, Err, flat_map, rules, subst₂, codes, refl, inr}
 use Rattle.std.specs.Prelude.{string_bytes, decimal}
 use Rattle.deku_fields.specs.ListCalls.{ListFrom}
 use Rattle.deku_fields.specs.Promise.{ReadsBackFrom}
-use Rattle.deku_fields.specs.Runs.{line, number_text}
+use Rattle.deku_bits.specs.declared.error.DekuError.{DekuError}
+use Rattle.deku_fields.specs.declared.program.Failure.TheVariants.{Fault}
+use Rattle.deku_fields.specs.Runs.{words_of, line, number_text, FieldsRefused, ReadingStops}
 use Rattle.deku_fields.proofs.program.read.Goals as goal
 
 pub returns-clause-shown : goal.returns-clause-shown
@@ -25,3 +27,15 @@ returns-clause-shown g c =
       back = back;
       shown = shown;
     }
+
+pub returns-in_err-bits-clause-stops : goal.returns-in_err-bits-clause-stops
+returns-in_err-bits-clause-stops g c =
+    let fields = c.in_ok-fields.fields.items in
+    let bytes : List ℕ = c.in_ok-bytes.bytes.items in
+    let fault : DekuError = c.in_err-bits.field-0.0 in
+    let from : ListFrom fields bytes (Err fault) = subst₂ (λ bs fs. ListFrom fs bs (Err fault)) c.as_slice.ensures.value c.as_slice-2.ensures.value c.in_err-bits.ensures.meaning in
+    let refused : FieldsRefused fields (g.R.Read.remaining c.args.input.now) (Fault fault) =
+    record { bytes = bytes; given = c.in_ok-bytes.ensures.shown; fault = fault; refused = from; is = refl } in
+    let stops : ReadingStops (words_of c.args.specs.now) (g.R.Read.remaining c.args.input.now) (Fault fault) =
+    inr (inr (record { fields = fields; named = c.in_ok-fields.ensures.named; stop = inr refused })) in
+    search (rules, stops)

@@ -1,4 +1,4 @@
-use Rattle.std.proofs.Common.{refl, arith}
+use Rattle.std.proofs.Common.{refl, arith, ⊎_elim}
 use Rattle.deku_bits.specs.WriterCalls.{Finalizes}
 use Rattle.deku.proofs.Joining.{first_refused, then_on}
 use Rattle.deku_fields.proofs.Sound.{sound}
@@ -9,10 +9,10 @@ pub returns-in-Ok : goal.returns-in-Ok
 returns-in-Ok c = λ bytes all aligned laid room small.
     let m = sound (then_on {k = λ _. Finalizes} c.in-Ok.ensures.meaning c.finalize.ensures) (record { count = 0; known = refl; still = refl }) in
     let n = rw (c.new-writer.ensures.sink, c.new-writer.ensures.state, c.new.ensures.inner, c.new.ensures.position) at m in
-    (padded_law c.args.items.now bytes _ 0 _ _ (record { fitting = all; aligned = aligned; laid = laid; none = refl; room = omega arith; countable = omega arith }) n).0
+    ⊎_elim (λ t. t.0) (λ none. absurd none) (padded_law c.args.items.now bytes _ 0 _ _ (record { fitting = all; aligned = aligned; laid = laid; none = refl; room = omega arith; countable = omega arith }) n)
 
 pub returns-in-Err : goal.returns-in-Err
 returns-in-Err c = λ bytes all aligned laid room small.
     let m = sound (first_refused {k = λ _. Finalizes} c.in-Err.ensures.meaning) (record { count = 0; known = refl; still = refl }) in
     let n = rw (c.new-writer.ensures.sink, c.new-writer.ensures.state, c.new.ensures.inner, c.new.ensures.position) at m in
-    (padded_law c.args.items.now bytes _ 0 _ _ (record { fitting = all; aligned = aligned; laid = laid; none = refl; room = omega arith; countable = omega arith }) n).0
+    ⊎_elim (λ t. t.0) (λ none. absurd none) (padded_law c.args.items.now bytes _ 0 _ _ (record { fitting = all; aligned = aligned; laid = laid; none = refl; room = omega arith; countable = omega arith }) n)
