@@ -9,3 +9,4 @@ pub mod Endings
 pub mod Addresses
 pub mod Extending
 pub mod Whole
+pub mod Containers

@@ -22,3 +22,4 @@ pub mod Shapes
 pub mod Lists
 pub mod Texts
 pub mod Extents
+pub mod Wholes
