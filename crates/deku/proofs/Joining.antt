@@ -1,4 +1,5 @@
--- Outcomes of one item after the other.
+-- Outcomes of one item after the other. What records written by hand cite stands here or is passed on from here.
+pub use Rattle.deku_bits.proofs.Handing.{passed_on, mapped_ok, mapped_err}
 use Rattle.std.proofs.Common.{◌≡◌, ℕ, Result, Ok, Err, Option, ℤ, pos, refl, sym, subst}
 use Rattle.deku_bits.specs.declared.error.DekuError.{DekuError}
 use Rattle.deku_bits.specs.Streams.{Stream}

@@ -15,3 +15,4 @@ pub mod Collecting
 pub mod Bytes
 pub mod Emitting
 pub mod Vectors
+pub mod Containers

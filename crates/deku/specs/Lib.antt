@@ -25,3 +25,4 @@ pub mod Extents
 pub mod Limits
 pub mod Walks
 pub mod VectorLaws
+pub mod Wholes

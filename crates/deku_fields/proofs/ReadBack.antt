@@ -1,9 +1,7 @@
 -- What a list reads from bytes that begin with its layout.
-use Rattle.std.proofs.Common.{◌≡◌, ℕ, ◌<◌, ◌^◌, false, Result, Ok, Err, Option, Some, None, OnOk, ne_eqb, List, [], ◌∷◌, ◌++◌, map, drop, All, Bor, Bool, refl, ap, sym, ◌∙◌, subst, inl, inr, arith, ◌+◌, ◌*◌, length, take, length-drop, length-append}
+use Rattle.std.proofs.Common.{◌≡◌, ℕ, ◌<◌, ◌^◌, false, Result, Ok, Err, Option, Some, None, OnOk, ne_eqb, List, [], ◌∷◌, ◌++◌, map, drop, All, Bool, refl, ap, sym, ◌∙◌, subst, inl, inr, arith, ◌+◌, ◌*◌, length, take, length-drop, length-append}
 use Rattle.std.proofs.lemmas.List.{length-take}
 use Rattle.std.proofs.lemmas.List.Elements.{All-cons, All-head, All-nil, All-tail}
-use Rattle.std.specs.Io.Cursor.{cursor_position, cursor_inner}
-use Rattle.std.specs.declared.io.Cursor.{Cursor}
 use Rattle.std.specs.declared.io.ErrorKind.TheVariants.{OutOfMemory}
 use Rattle.deku_bits.specs.declared.error.DekuError.{DekuError}
 use Rattle.deku_bits.specs.declared.error.DekuError.TheVariants.{Io}
@@ -92,11 +90,6 @@ pub found : (fs : List Field) {r : Result (List Number) DekuError} {s u : Standi
     → Outcome (ReadsFields fs) s f r u g → Outcome (ReadsVec fs) s f r u g
 found fs {r} {s} {u} {f} {g} o = weaker (ReadsFields fs) (ReadsVec fs) s f r u g (λ b m. inr m) o
 
--- a fresh reader stands before the bytes that its source tells
-pub starts_fresh : (coming : Option (List ℕ)) (bytes : List ℕ) (st : Standing _) → coming ≡ Some bytes → st ≡ Going [] 0 → reader_state coming st ≡ Going (Some (fresh bytes)) 0
-unfolding normal
-starts_fresh coming bytes st e f = rw (e, f) refl
-
 -- ---- the bytes behind
 normal_short : (S : Stream) → length S.window < 8 → normal S ≡ S
 unfolding normal
@@ -160,16 +153,3 @@ back_err fs bytes x s u e (inr b) items after begins room = let f = (b items byt
 pub from_first : (fs : List Field) (bytes : List ℕ) (r : Result (List Number) DekuError) (s u : Standing (Option Stream))
     → s ≡ Going (Some (fresh bytes)) 0 → ReadsVec fs false s r u → ReadsVec fs false (Going (Some (fresh bytes)) 0) r u
 from_first fs bytes r s u e m = subst (λ x. ReadsVec fs false x r u) e m
-
--- the bytes of a cursor from its place on
-abbrev pub whole_source : Cursor (Bor (List ℕ)) → Option (List ℕ)
-whole_source k = Some (drop (cursor_position k) (cursor_inner k).now)
-
--- a cursor that is new tells the bytes that it is over
-pub new_source : (k : Cursor (Bor (List ℕ))) (b : Bor (List ℕ)) → cursor_inner k ≡ b → cursor_position k ≡ 0 → whole_source k ≡ Some b.now
-new_source k b e f = rw (e, f) refl
-
--- the count of a reader is that of its state
-pub counted_state : (coming : Option (List ℕ)) (st : Standing (List Bool)) (n : ℕ) → n ≡ count_of st → n ≡ count_of (reader_state coming st)
-counted_state coming (Going window count) n e = e
-counted_state coming (Stopped fault count) n e = e

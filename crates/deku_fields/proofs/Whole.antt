@@ -1,9 +1,6 @@
 -- Whole lists, in memory.
-use Rattle.std.proofs.Common.{◌≡◌, ◌⊎◌, ℕ, ◌*◌, ◌<◌, ◌^◌, Bool, true, false, Result, Ok, Err, Option, Some, None, IsErrAnd, List, [], ◌∷◌, length, take, All, refl, ap, sym, ◌∙◌, subst, inl, inr, ⊎_elim, arith, nat_le, if◌then◌else◌}
+use Rattle.std.proofs.Common.{◌≡◌, ◌⊎◌, ℕ, ◌*◌, ◌<◌, ◌^◌, false, Result, Ok, Err, Option, Some, None, IsErrAnd, List, [], ◌∷◌, length, take, All, refl, ap, sym, ◌∙◌, subst, inl, inr, ⊎_elim, arith}
 use Rattle.std.proofs.lemmas.Result.{err_from_is_err_and}
-use Rattle.std.specs.Global.{Vec}
-use Rattle.std.specs.Io.Cursor.{cursor_position, cursor_inner}
-use Rattle.std.specs.declared.io.Cursor.{Cursor}
 use Rattle.std.specs.Io.KnownBytes.{Appends}
 use Rattle.std.specs.declared.io.ErrorKind.TheVariants.{OutOfMemory}
 use Rattle.deku_bits.specs.declared.error.DekuError.{DekuError}
@@ -12,14 +9,16 @@ use Rattle.deku_bits.specs.Bits.{shown}
 use Rattle.deku_bits.specs.Pieces.{laid_out}
 use Rattle.deku_bits.specs.Writers.{Pending, Nothing, Written, append, finalized, padded}
 use Rattle.deku_bits.specs.Symmetry.{appended, packed}
-use Rattle.deku_bits.specs.Devices.{Health, SinkTold, bytes_before}
+use Rattle.deku_bits.specs.Devices.{SinkTold, bytes_before}
 use Rattle.deku_bits.specs.Standings.{Standing, Going, Stopped, Output, writer_state}
 use Rattle.deku_bits.specs.WriterCalls.{Emits, Finalizes}
 use Rattle.deku_num.specs.NumberCalls.{Refused, Passed}
 use Rattle.deku.specs.Composing.{Answered, Second, First, Both}
 use Rattle.deku_fields.specs.declared.list.Item.{Item}
 use Rattle.deku_fields.specs.Items.{IsFitting, AlignedFields, LaysOut, fields_of}
-use Rattle.deku_fields.specs.ListCalls.{WritesItem, WritesItems, in_memory}
+use Rattle.deku.specs.Wholes.{in_memory}
+use Rattle.deku.proofs.Containers.{before_is}
+use Rattle.deku_fields.specs.ListCalls.{WritesItem, WritesItems}
 use Rattle.deku_fields.specs.Promise.{IsCountable}
 use Rattle.deku_fields.proofs.FieldLists.{piece_law, written}
 use Rattle.deku_fields.proofs.WritingLists.{Wrote, Done, Lacking, Full, emitted, items_wrote, followed_wrote}
@@ -118,13 +117,6 @@ pub whole_both : (is : List Item) (told : SinkTold) (st : Standing Pending) → 
 whole_both is told st (First e p q) = absurd (cc)
 whole_both is told st (Second v t p q) = whole_written is t told st p q
 
-before_is : (place : ℕ) (xs bytes : List ℕ) → bytes_before place xs ≡ Some bytes → take place xs ≡ bytes
-before_is place xs bytes = go (nat_le place (length xs))
-  where
-    go : (b : Bool) → (if b then Some (take place xs) else None) ≡ Some bytes → take place xs ≡ bytes
-    go true e = cc
-    go false e = absurd (cc)
-
 -- the bytes before the place of a cursor, where items were written from its start
 pub written_whole : (is : List Item) (place : ℕ) (xs ys : List ℕ) (told : SinkTold) (st : Standing Pending) → told.taken ≡ bytes_before place xs → ys ≡ take place xs
     → Both (WritesItems is) Finalizes false (Going in_memory 0) (Ok tt) (writer_state told st)
@@ -150,31 +142,6 @@ pub laid_err : (is : List Item) (e : DekuError) (u : Standing Output) → All Is
 laid_err is e u all aligned small w =
     ⊎_elim (λ p. absurd (ok_not_err (sym (p.0)))) (λ p. err_is p) (laid_whole is (Err e) u all aligned small w)
 
--- a fresh writer onto an empty vector
-pub starts_empty : (place : ℕ) (xs : List ℕ) (h : Health) (st : Standing Pending) → place ≡ 0 → xs ≡ [] → st ≡ Going Nothing 0
-    → writer_state (record { taken = bytes_before place xs; room = None; health = h }) st ≡ Going in_memory 0
-starts_empty place xs h st p e s = rw (p, e, s) refl
-
 pub from_start : (is : List Item) (s : Standing Output) (r : Result (Unit {0}) DekuError) (u : Standing Output) → s ≡ Going in_memory 0
     → Both (WritesItems is) Finalizes false s r u → Both (WritesItems is) Finalizes false (Going in_memory 0) r u
 from_start is s r u e w = subst (λ x. Both (WritesItems is) Finalizes false x r u) e w
-
--- the bytes below a cursor, and those before its place
-abbrev pub below : Cursor (Vec ℕ) → List ℕ
-below k = (cursor_inner k).items
-
-abbrev pub before : Cursor (Vec ℕ) → Option (List ℕ)
-before k = bytes_before (cursor_position k) (cursor_inner k).items
-
-abbrev pub place_of : Cursor (Vec ℕ) → ℕ
-place_of k = cursor_position k
-
-abbrev pub items_in : Vec ℕ → List ℕ
-items_in v = v.items
-
--- what a cursor over a vector tells
-abbrev pub steady : Health
-steady = record { failures = Some 0; lenders = [] }
-
-abbrev pub tells : Cursor (Vec ℕ) → SinkTold
-tells k = record { taken = before k; room = None; health = steady }

@@ -1,16 +1,16 @@
 -- What the calls on lists of fields do.
-use Rattle.std.specs.Prelude.{◌≡◌, ◌⊎◌, ℕ, Bool, true, false, List, [], ◌∷◌, Option, None, Some, Result, Ok, Err, codes, ℤ, pos, negsuc}
+use Rattle.std.specs.Prelude.{◌≡◌, ◌⊎◌, ℕ, Bool, true, false, List, [], ◌∷◌, Option, Some, Result, Ok, Err, codes, ℤ, pos, negsuc}
 use Rattle.std.specs.Global.{Vec}
 use Rattle.deku_bits.specs.declared.error.DekuError.{DekuError}
 use Rattle.deku_bits.specs.declared.error.DekuError.TheVariants.{InvalidParam, Io}
 use Rattle.std.specs.declared.io.ErrorKind.TheVariants.{OutOfMemory}
 use Rattle.deku_bits.specs.Streams.{Stream, fresh}
-use Rattle.deku_bits.specs.Writers.{Nothing}
 use Rattle.deku_bits.specs.Standings.{Standing, Going, Output, count_of}
 use Rattle.deku_bits.specs.Outcomes.{Meaning, Refuses, Mapped}
 use Rattle.deku_num.specs.NumberLaws.{InType}
 use Rattle.deku_num.specs.NumberCalls.{Checked, ReadsNumber, WritesNumber}
 use Rattle.deku.specs.Composing.{Answer, Then}
+use Rattle.deku.specs.Wholes.{in_memory}
 use Rattle.deku_fields.specs.declared.list.Number.{Number}
 use Rattle.deku_fields.specs.declared.list.Number.TheVariants.{Unsigned, Signed}
 use Rattle.deku_fields.specs.declared.list.Kind.{Kind}
@@ -63,10 +63,6 @@ WritesItem i = Checked (λ s r u. (IsOfKind i.field.kind i.value → ⊥) × Ref
 abbrev pub WritesItems : List Item → Meaning Output (Unit {0})
 WritesItems [] = Answer tt
 WritesItems (i ∷ is) = Then (WritesItem i) (λ _. WritesItems is)
-
--- nothing is written, to memory that grows
-abbrev pub in_memory : Output
-in_memory = record { taken = Some []; room = None; pending = Nothing }
 
 -- what m gives from nothing written, to memory that grows
 abbrev pub WritesWhole : Meaning Output (Unit {0}) → Result (Vec ℕ) DekuError → Type 0

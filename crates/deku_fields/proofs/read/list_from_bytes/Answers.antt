@@ -1,7 +1,8 @@
 use Rattle.std.proofs.Common.{refl, ap, ◌∙◌}
 use Rattle.deku_bits.proofs.Handing.{unbroken}
 use Rattle.deku_fields.proofs.Sound.{sound_memory}
-use Rattle.deku_fields.proofs.ReadBack.{back_ok, back_err, starts_fresh, whole_source, new_source, from_first, counted_state}
+use Rattle.deku.proofs.Containers.{starts_fresh, whole_source, new_source, counted_state}
+use Rattle.deku_fields.proofs.ReadBack.{back_ok, back_err, from_first}
 use Rattle.deku_fields.proofs.read.list_from_bytes.Goals as goal
 
 pub returns-in-Ok-clause-meaning : goal.returns-in-Ok-clause-meaning

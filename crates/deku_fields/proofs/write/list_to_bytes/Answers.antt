@@ -1,6 +1,7 @@
 use Rattle.std.proofs.Common.{refl, ap, sym, ◌∙◌}
 use Rattle.deku_bits.proofs.Handing.{unbroken}
-use Rattle.deku_fields.proofs.Whole.{written_whole, laid_ok, laid_err, starts_empty, from_start, below, before, place_of, items_in, steady, tells}
+use Rattle.deku.proofs.Containers.{starts_empty, below, before, place_of, items_in, steady, tells}
+use Rattle.deku_fields.proofs.Whole.{written_whole, laid_ok, laid_err, from_start}
 use Rattle.deku_fields.proofs.Rewritten.{fitting_read, as_taken}
 use Rattle.deku_fields.proofs.write.list_to_bytes.Goals as goal
 

@@ -1,6 +1,7 @@
 use Rattle.std.proofs.Common.{ap, ◌∙◌, arith}
 use Rattle.deku_fields.proofs.Sound.{sound_memory}
-use Rattle.deku_fields.proofs.ReadBack.{starts_fresh, whole_source, new_source, filled}
+use Rattle.deku.proofs.Containers.{starts_fresh, whole_source, new_source}
+use Rattle.deku_fields.proofs.ReadBack.{filled}
 use Rattle.deku_fields.proofs.list.tests.read_from.Goals as goal
 
 pub returns : goal.returns

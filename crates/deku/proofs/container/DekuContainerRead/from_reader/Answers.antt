@@ -1,0 +1,25 @@
+use Rattle.std.proofs.Common.{rules}
+use Rattle.deku_bits.proofs.Handing.{name_stays, behind}
+use Rattle.deku.proofs.container.DekuContainerRead.from_reader.Goals as goal
+
+pub returns-in-Ok : goal.returns-in-Ok
+returns-in-Ok g c =
+    let made = c.new-reader.ensures in
+    let left = c.read_behind-answer.new.reader in
+    let before = (g.R.Source.told c.args.input.0.now).health in
+    let after = (g.R.Source.told left.source.now).health in
+    let h = rw (made.source, made.state) at c.in-Ok.ensures in
+    let same = name_stays before after _ _ h in
+    let tie = c.input-1.given.1 (search (rules, same)) in
+    rw (tie, c.into_inner-source.ensures) (record { stands = left.state; reads = behind before after _ _ h; counts = c.bits_read-count.ensures })
+
+pub returns-in-Err : goal.returns-in-Err
+returns-in-Err g c =
+    let made = c.new-reader.ensures in
+    let left = c.read_behind-answer.new.reader in
+    let before = (g.R.Source.told c.args.input.0.now).health in
+    let after = (g.R.Source.told left.source.now).health in
+    let h = rw (made.source, made.state) at c.in-Err.ensures in
+    let same = name_stays before after _ _ h in
+    let tie = c.input-1.given.1 (search (rules, same)) in
+    rw (tie, c.into_inner-source.ensures) (record { stands = left.state; reads = behind before after _ _ h; counts = tt })

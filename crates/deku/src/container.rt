@@ -1,0 +1,235 @@
+//! Whole values: from the bytes of an input, and as bytes or bits of their own.
+
+ghost use Rattle.std.specs.Prelude.{◌≡◌, ◌++◌, take, OnOk, IfOk, IfErr};
+ghost use Rattle.std.specs.Io.Cursor.{cursor_position, cursor_inner};
+ghost use Rattle.std.specs.declared.io.ErrorKind.TheVariants.{OutOfMemory};
+ghost use Rattle.deku_bits.specs.declared.error.DekuError.TheVariants.{Io};
+ghost use Rattle.deku_bits.specs.Bits.{bits_in};
+ghost use Rattle.deku_bits.specs.ReaderCalls.{Reads};
+ghost use Rattle.deku_bits.specs.Writers.{Pending, Nothing};
+ghost use Rattle.deku_bits.specs.Standings.{Standing, Going};
+ghost use Rattle.deku_bits.specs.WriterCalls.{Writes, WritesAt, Finalizes};
+ghost use Rattle.deku.specs.Composing.{Both};
+ghost use Rattle.deku.specs.Wholes.{Behind, ReadsOnce, ReadsBytesOnce, WritesOnce, WritesOver, WritesBare};
+
+use crate::traits::{DekuReader, DekuWriter};
+use deku_bits::bounded::BoundedBitVec;
+use deku_bits::ctx::Order;
+use deku_bits::device::{Sink, Source};
+use deku_bits::error::{DekuError, NeedSize};
+use deku_bits::reader::Reader;
+use deku_bits::writer::Writer;
+use std::alloc::Global;
+use std::io::{Cursor, ErrorKind};
+
+/// A type whose values are read from the front of an input, each by a reader of its own.
+///
+/// The calls have their bodies here; a type states `impl DekuContainerRead for Record {}`.
+pub trait DekuContainerRead: DekuReader<()> {
+    /// Leaves out so many bits of a source and reads a value behind them: the count of bits that this took, those left out among them, and
+    /// the value.
+    ///
+    /// The source is left behind the last byte that was fetched. Bits of that byte that were not read are lost, so the next call begins
+    /// with the byte behind them. What is read takes its memory by `alloc`.
+    ///
+    /// The caller's condition: the type may be read under `()`. It is refused as `Reader::skip_bits` in `Msb0` refuses to leave the bits
+    /// out, and then as the type is; the source stays behind what was read until then.
+    ///
+    /// ```text
+    /// let mut input = Cursor::new(bytes);                     // 12 34 56
+    /// let (count, record) = Record::from_reader(alloc, (&mut input, 4))?;
+    /// // a record of one byte: 12 and 0x23; the input is at 56
+    /// ```
+    fn from_reader<R: Source>(
+        alloc: Global,
+        input: (&mut R, usize),
+    ) -> Result<(usize, Self), DekuError>
+    where
+        Self: Sized,
+        requires { Self.accepts tt }
+        ensures { ReadsOnce R.told (Behind input.entry.1 (Self.meaning tt)) input.entry.0.now result input.exit.0.now }
+    {
+        let bits = input.1;
+        let mut reader = Reader::new(alloc, &mut *input.0);
+        let answer = read_behind::<Self, &mut R>(&mut reader, bits);
+        let count = reader.bits_read();
+        let _source = reader.into_inner();
+        match answer {
+            Ok(value) => Ok((count, value)),
+            Err(refusal) => Err(refusal),
+        }
+    }
+
+    /// Leaves out so many bits of some bytes and reads a value behind them: the bytes from that of the first unread bit on with the bits of
+    /// the first one that are read already, and the value.
+    ///
+    /// The caller's condition: the type may be read under `()`. It is refused as `Reader::skip_bits` in `Msb0` refuses to leave the bits
+    /// out, and then as the type is. Bits behind the last byte can be left out: where the whole bytes that were left out or read are more
+    /// than there are, it is refused with `Incomplete` of all those bits.
+    ///
+    /// ```text
+    /// let ((rest, bits), record) = Record::from_bytes(alloc, (&[0x12, 0x34], 4))?;
+    /// // a record of one byte: 0x23; the rest is 34, of which 4 bits are read
+    /// ```
+    fn from_bytes(alloc: Global, input: (&[u8], usize)) -> Result<((&[u8], usize), Self), DekuError>
+    where
+        Self: Sized,
+        requires { Self.accepts tt }
+        ensures { ReadsBytesOnce (Behind input.entry.1 (Self.meaning tt)) input.entry.0.now result }
+    {
+        let (bytes, bits) = input;
+        let mut reader = Reader::new(alloc, Cursor::new(bytes));
+        let value = read_behind::<Self, Cursor<&[u8]>>(&mut reader, bits)?;
+        let count = reader.bits_read();
+        if count / 8 > bytes.len() {
+            return Err(DekuError::Incomplete(NeedSize::new(count)));
+        }
+        Ok(((&bytes[count / 8..], count % 8), value))
+    }
+}
+
+// Leaves out so many bits in `Msb0`, and reads a value.
+fn read_behind<T: DekuReader<()>, R: Source>(
+    reader: &mut Reader<R>,
+    bits: usize,
+) -> Result<T, DekuError>
+    requires { T.accepts tt }
+    ensures { Reads R.told (Behind bits (T.meaning tt)) reader.old result reader.new }
+{
+    match reader.skip_bits(bits, Order::Msb0) {
+        Ok(()) => T::from_reader_with_ctx(reader, ()),
+        Err(refusal) => Err(refusal),
+    }
+}
+
+/// A type whose values are written as bytes or bits of their own, each by a writer of its own.
+///
+/// The calls have their bodies here; a type states `impl DekuContainerWrite for Record {}`.
+pub trait DekuContainerWrite: DekuWriter<()> {
+    /// The bytes of the value, the last one filled with zeros.
+    ///
+    /// The caller's condition: the type may be written under `()`. It is refused as the type is, or with `Io(OutOfMemory)` where no memory
+    /// is found for the bytes.
+    ///
+    /// ```text
+    /// record.to_bytes(alloc)?                                 // of 4, 4 and 1 bits: F1 80
+    /// ```
+    fn to_bytes(&self, alloc: Global) -> Result<Vec<u8>, DekuError>
+        requires { Self.accepts tt }
+        ensures { WritesOnce (Both (Self.meaning self.now tt) Finalizes) result }
+    {
+        let mut cursor = Cursor::new(Vec::new(alloc));
+        match write_whole(self, &mut cursor) {
+            Ok(()) => Ok(taken_bytes(cursor)),
+            Err(refusal) => Err(refusal),
+        }
+    }
+
+    /// Writes the bytes of the value to the front of a slice, the last one filled with zeros, and answers how many they are. It takes no
+    /// memory.
+    ///
+    /// The caller's condition: the type may be written under `()`. It is refused as the type is, or with `Io(WriteZero)` where the slice is
+    /// too short; what the slice holds is then open.
+    ///
+    /// ```text
+    /// let mut out = [0; 3];
+    /// record.to_slice(&mut out)?                              // of 4, 4 and 1 bits: 2, and `out` is F1 80 00
+    /// ```
+    fn to_slice(&self, out: &mut [u8]) -> Result<usize, DekuError>
+        requires { Self.accepts tt }
+        ensures { WritesOver (Both (Self.meaning self.now tt) Finalizes) out.old result out.new }
+    {
+        let mut cursor = Cursor::new(out);
+        match write_whole(self, &mut cursor) {
+            Ok(()) => Ok(cursor.position() as usize),
+            Err(refusal) => Err(refusal),
+        }
+    }
+
+    /// The bits of the value, with no padding: those of the bytes that it fills, each high bit first, and then the pending ones, high bit
+    /// first too.
+    ///
+    /// The caller's condition: the type may be written under `()`. It is refused as the type is, or with `Io(OutOfMemory)` where no memory
+    /// is found for the bits. A fault of its writer that the type did not hand on is answered too.
+    ///
+    /// ```text
+    /// record.to_bits(alloc)?                                  // of 4, 4 and 1 bits: 1, 1, 1, 1, 0, 0, 0, 1, 1
+    /// ```
+    fn to_bits(&self, alloc: Global) -> Result<Vec<bool>, DekuError>
+        requires { Self.accepts tt }
+        ensures { WritesBare (Self.meaning self.now tt) result }
+    {
+        let mut writer = Writer::new(Cursor::new(Vec::new(alloc)));
+        self.to_writer(&mut writer, ())?;
+        let _count = writer.bits_written();
+        writer.write_bits(&[])?;
+        let (pending, _order) = writer.leftover();
+        let bytes = taken_bytes(writer.into_inner());
+        joined_bits(alloc, bytes.as_slice(), &pending)
+    }
+}
+
+// Writes the value by a writer of its own, and fills the last byte with zeros.
+fn write_whole<T: DekuWriter<()>, W: Sink>(value: &T, sink: &mut W) -> Result<(), DekuError>
+    requires { T.accepts tt }
+    ensures { (u : Standing Pending) × WritesAt (Both (T.meaning value.now tt) Finalizes) (W.told sink.old) (Going Nothing 0) result (W.told sink.new) u }
+{
+    let mut writer = Writer::new(sink);
+    write_padded(value, &mut writer)
+}
+
+// Writes the value and fills the last byte with zeros.
+fn write_padded<T: DekuWriter<()>, W: Sink>(
+    value: &T,
+    writer: &mut Writer<W>,
+) -> Result<(), DekuError>
+    requires { T.accepts tt }
+    ensures { Writes W.told (Both (T.meaning value.now tt) Finalizes) writer.old result writer.new }
+{
+    match value.to_writer(writer, ()) {
+        Ok(()) => writer.finalize(),
+        Err(refusal) => Err(refusal),
+    }
+}
+
+// The bytes before the cursor's place.
+fn taken_bytes(cursor: Cursor<Vec<u8>>) -> Vec<u8>
+    ensures { result.items ≡ take (cursor_position cursor) (cursor_inner cursor).items }
+{
+    let end = cursor.position();
+    let mut bytes = cursor.into_inner();
+    bytes.truncate(end as usize);
+    bytes
+}
+
+// The bits of bytes, each high bit first, and then these.
+fn joined_bits(alloc: Global, bytes: &[u8], last: &BoundedBitVec<1>) -> Result<Vec<bool>, DekuError>
+    ensures bits { IfOk result (λ v. v.items ≡ bits_in bytes.now ++ last.now) }
+    ensures memory { IfErr result (λ e. e ≡ Io OutOfMemory) }
+{
+    let mut bits: Vec<bool> = Vec::new(alloc);
+    for byte in bytes {
+        push_bits(&mut bits, &BoundedBitVec::from_array([*byte]))?;
+    }
+    push_bits(&mut bits, last)?;
+    Ok(bits)
+}
+
+// Puts bits behind others.
+fn push_bits(bits: &mut Vec<bool>, more: &BoundedBitVec<1>) -> Result<(), DekuError>
+    ensures bits { OnOk result (bits.new.items ≡ bits.old.items ++ more.now) }
+    ensures memory { IfErr result (λ e. e ≡ Io OutOfMemory) }
+{
+    for place in 0..more.len() {
+        let Some(bit) = more.get(place) else {
+            continue;
+        };
+        if bits.push(bit).is_err() {
+            return Err(DekuError::Io(ErrorKind::OutOfMemory));
+        }
+    }
+    Ok(())
+}
+
+#[cfg(test)]
+mod tests;
