@@ -15,7 +15,8 @@ use Rattle.deku_fields.specs.ListCalls.{WritesItems}
 use Rattle.deku_fields.specs.Promise.{Unfailing, HasRoom, FindsNoMemory, Fills, WritesLaid, PaddedLaw}
 use Rattle.deku_fields.proofs.Sound.{sound}
 use Rattle.deku_fields.proofs.FieldLists.{written}
-use Rattle.deku_fields.proofs.WritingLists.{Wrote, Done, Lacking, Full, emitted, items_wrote, followed_wrote}
+use Rattle.deku.proofs.Emitting.{Wrote, Done, Lacking, Full, emitted, followed_wrote}
+use Rattle.deku_fields.proofs.WritingLists.{items_wrote}
 
 -- all of them were taken
 abbrev TookAll : Written → Output → ℕ → Result (Unit {0}) DekuError → Standing Output → Type 0
@@ -30,7 +31,7 @@ took_all : (w : Written) (n : ℕ) (out : Output) (c : ℕ) (r : Result (Unit {0
     → length w.bytes ≤ n → HasRoom out.room n → c + 8 * n < 2 ^ 64 → Wrote w out c r u → TookAll w out c r u ⊎ FindsNoMemory out.room r
 took_all w n out c r u less room countable (Done after t e f) = inl (e, (after, t, f))
 took_all w n out c r u less room countable (Lacking kind l e) = inr (lacking out.room (length w.bytes) n kind r less room l e)
-took_all w n out c r u less room countable (Full p) = absurd (omega arith)
+took_all w n out c r u less room countable (Full x p e) = absurd (omega arith)
 
 -- the bytes of items that were written from nothing pending, and then padded
 whole : {items : List Item} {bytes : List ℕ} {out : Output} {c : ℕ} → (fills : Fills items bytes out c) → packed fills.laid.pieces ≡ bytes

@@ -21,7 +21,8 @@ use Rattle.deku.proofs.Containers.{before_is}
 use Rattle.deku_fields.specs.ListCalls.{WritesItem, WritesItems}
 use Rattle.deku_fields.specs.Promise.{IsCountable}
 use Rattle.deku_fields.proofs.FieldLists.{piece_law, written}
-use Rattle.deku_fields.proofs.WritingLists.{Wrote, Done, Lacking, Full, emitted, items_wrote, followed_wrote}
+use Rattle.deku.proofs.Emitting.{Wrote, Done, Lacking, Full, emitted, followed_wrote}
+use Rattle.deku_fields.proofs.WritingLists.{items_wrote}
 
 -- ---- what is told stays told
 record Tells (u : Standing Output) : Type 0 where
@@ -106,7 +107,7 @@ laid_whole is r u all aligned small w =
             one None xs p e = absurd (cc)
             one (Some y) xs p e = sym p ∙ (let f : y ≡ xs = cc in f)
     go laid (Lacking kind l e) = inr (e ∙ ap (λ k. Err (Io k)) l)
-    go {W} laid (Full p) = absurd (let h = small W.bytes laid in omega arith)
+    go {W} laid (Full x p e) = absurd (let h = small W.bytes laid in omega arith)
 
 -- what a `?` hands on
 pub handed_on : {V : Type 0} (e : DekuError) (r : Result V DekuError) → IsErrAnd r (λ x. x ≡ e) → r ≡ Err e
