@@ -1,6 +1,6 @@
 //! A stream that cannot seek, as one whose seeks go nowhere.
 
-ghost use Rattle.std.specs.Prelude.{◌≡◌, Some, None, length, IfOk, OnOk, OnErr, IfErr};
+ghost use Rattle.std.specs.Prelude.{◌≡◌, ◌<◌, ◌^◌, Some, None, length, IfOk, OnOk, OnErr, IfErr};
 ghost use Rattle.std.specs.Io.{ReadsAtMost, WritesAtMost};
 ghost use Rattle.std.specs.Io.KnownBytes.{Appends, Consumes, Keeps, ReadConsumes, WriteAppends};
 ghost use Rattle.std.specs.Io.Seek.{SeekMoves};
@@ -149,11 +149,20 @@ impl<T: Read> Source for NoSeek<T> {
 
     ghost told_by_place = { λ s at all p q. Prim.cc };
 
-    fn fetch(&mut self, buf: &mut [u8]) -> io::Result<()> {
+    fn fetch(&mut self, buf: &mut [u8]) -> io::Result<()>
+        ensures bytes { OnOk result (Consumes (T.remaining self.old.inner) (T.remaining self.new.inner) buf.new) }
+        ensures counts { OnOk result (self.new.position ≡ place_on self.old.position (length buf.new)) }
+        ensures stays { OnErr result (self.new.position ≡ self.old.position) }
+    {
         self.read_exact(buf)
     }
 
-    fn pass(&mut self, n: u64) -> io::Result<()> {
+    fn pass(&mut self, n: u64) -> io::Result<()>
+        requires { n < 2 ^ 63 }
+        ensures none { OnOk result (n ≡ 0) }
+        ensures refused { IfErr result (λ e. (error_kind e ≡ ErrorKind.Other) × (0 < n)) }
+        ensures stays { self.new ≡ self.old }
+    {
         self.seek(SeekFrom::Current(n as i64))?;
         Ok(())
     }
@@ -164,7 +173,11 @@ impl<T: Write> Sink for NoSeek<T> {
 
     ghost told = { λ _. record { taken = None; room = None; health = record { failures = None; lenders = [] } } };
 
-    fn give(&mut self, bytes: &[u8]) -> io::Result<()> {
+    fn give(&mut self, bytes: &[u8]) -> io::Result<()>
+        ensures bytes { OnOk result (Appends (T.contents self.old.inner) (T.contents self.new.inner) bytes.now) }
+        ensures counts { OnOk result (self.new.position ≡ place_on self.old.position (length bytes.now)) }
+        ensures stays { OnErr result (self.new.position ≡ self.old.position) }
+    {
         self.write_all(bytes)
     }
 }

@@ -1,13 +1,13 @@
 //! Devices for tests of codecs: a source that gives one byte at a time, and a source and sink that fails once.
 
-ghost use Rattle.std.specs.Prelude.{◌≡◌, ◌≢◌, ◌<◌, ◌≤◌, ◌-◌, min, [], ◌∷◌, Some, None, length, OnOk, OnErr, IfOk, IfErr, IsOk};
+ghost use Rattle.std.specs.Prelude.{◌≡◌, ◌≢◌, ◌<◌, ◌≤◌, ◌-◌, ◌^◌, ◌↔◌, min, [], ◌∷◌, Some, None, length, take, OnOk, OnErr, IfOk, IfErr, IfSome, IsOk};
 ghost use Rattle.std.specs.Io.{ReadsAtMost, WritesAtMost};
-ghost use Rattle.std.specs.Io.Cursor.{cursor_position, cursor_inner, cursor_remaining};
-ghost use Rattle.std.specs.Io.KnownBytes.{Consumes, Keeps, ReadConsumes, WriteAppends};
+ghost use Rattle.std.specs.Io.Cursor.{cursor_position, cursor_inner, cursor_remaining, IsSeekResult, IsSeekFromEnd};
+ghost use Rattle.std.specs.Io.KnownBytes.{Appends, Consumes, Keeps, ReadConsumes, WriteAppends};
 ghost use Rattle.std.specs.Io.Seek.{SeekMoves};
 ghost use Rattle.std.specs.IoError.{error_kind};
 ghost use Rattle.deku_bits.specs.Cursors.{cursor_told, failing_source, failing_sink};
-ghost use Rattle.deku_bits.specs.Devices.{NoFewerFailures, MoreFailures, FewerThan, StaysEmpty, Gave, Declined};
+ghost use Rattle.deku_bits.specs.Devices.{NoFewerFailures, MoreFailures, FewerThan, Passes, StaysEmpty, Gave, Declined};
 
 mod trickle;
 
@@ -73,7 +73,10 @@ impl<B: AsBytes> Read for FailAt<B> {
         ensures bound { ReadsAtMost result buf.new }
         ensures bytes { ReadConsumes (cursor_remaining B.bytes self.old.inner) (cursor_remaining B.bytes self.new.inner) result buf.new }
         ensures one { IfOk result (λ n. n ≤ 1) }
-        ensures failed { OnErr result (self.old.left ≡ 1) }
+        ensures counted { self.new.left ≡ self.old.left - 1 }
+        ensures fails { OnOk result (self.old.left ≢ 1) }
+        ensures failed { IfErr result (λ e. (self.old.left ≡ 1) × (error_kind e ≡ ErrorKind.Other)) }
+        ensures still { OnErr result (self.new.inner ≡ self.old.inner) }
     {
         self.call()?;
         let most = buf.len().min(1);
@@ -89,7 +92,14 @@ impl<B: AsBytes> Seek for FailAt<B> {
     fn seek(&mut self, to: SeekFrom) -> io::Result<u64>
         ensures moves { SeekMoves (Some (cursor_position self.old.inner)) (Some (cursor_position self.new.inner)) (B.bytes (cursor_inner self.old.inner)) to result }
         ensures bytes { Keeps (B.bytes (cursor_inner self.old.inner)) (B.bytes (cursor_inner self.new.inner)) }
-        ensures failed { IfErr result (λ e. error_kind e ≡ ErrorKind.Other → self.old.left ≡ 1) }
+        ensures counted { self.new.left ≡ self.old.left - 1 }
+        ensures fails { OnOk result (self.old.left ≢ 1) }
+        ensures failed { IfErr result (λ e. (error_kind e ≡ ErrorKind.Other) ↔ (self.old.left ≡ 1)) }
+        ensures still { OnErr result (self.new.inner ≡ self.old.inner) }
+        // Each other call answers as the cursor does.
+        ensures target { self.old.left ≢ 1 → IsSeekResult to (cursor_position self.old.inner) result }
+        ensures from_end { self.old.left ≢ 1 → IfSome (B.bytes (cursor_inner self.old.inner)) (λ xs. IsSeekFromEnd to (length xs) result) }
+        ensures inner { cursor_inner self.new.inner ≡ cursor_inner self.old.inner }
     {
         self.call()?;
         self.inner.seek(to)
@@ -103,6 +113,10 @@ fn fetch_byte<B: AsBytes>(source: &mut FailAt<B>) -> io::Result<u8>
     ensures ended { IfErr result (λ e. error_kind e ≡ ErrorKind.UnexpectedEof → StaysEmpty (failing_source B.bytes source.old).coming (failing_source B.bytes source.new).coming) }
     ensures failed { IfErr result (λ e. error_kind e ≢ ErrorKind.UnexpectedEof → MoreFailures (failing_source B.bytes source.old).health (failing_source B.bytes source.new).health) }
     ensures kept { NoFewerFailures (failing_source B.bytes source.old).health (failing_source B.bytes source.new).health }
+    ensures counted { source.new.left ≡ source.old.left - 1 }
+    ensures fails { OnOk result (source.old.left ≢ 1) }
+    ensures kind { IfErr result (λ e. source.old.left ≡ 1 → error_kind e ≡ ErrorKind.Other) }
+    ensures still { source.old.left ≡ 1 → source.new.inner ≡ source.old.inner }
 {
     source.call()?;
     let mut byte = [0];
@@ -115,14 +129,34 @@ impl<B: AsBytes> Source for FailAt<B> {
 
     ghost told_by_place = { λ s at all. cursor_told B.bytes s.inner at all };
 
-    fn fetch(&mut self, buf: &mut [u8]) -> io::Result<()> {
+    fn fetch(&mut self, buf: &mut [u8]) -> io::Result<()>
+        ensures bytes { OnOk result (Consumes (failing_source B.bytes self.old).coming (failing_source B.bytes self.new).coming buf.new) }
+        ensures short { IfErr result (λ e. error_kind e ≡ ErrorKind.UnexpectedEof → FewerThan (length buf.old) (failing_source B.bytes self.old).coming) }
+        ensures ended { IfErr result (λ e. error_kind e ≡ ErrorKind.UnexpectedEof → StaysEmpty (failing_source B.bytes self.old).coming (failing_source B.bytes self.new).coming) }
+        ensures failed { IfErr result (λ e. error_kind e ≢ ErrorKind.UnexpectedEof → MoreFailures (failing_source B.bytes self.old).health (failing_source B.bytes self.new).health) }
+        ensures kept { NoFewerFailures (failing_source B.bytes self.old).health (failing_source B.bytes self.new).health }
+        // A call for each byte: those in front of the one that fails move a byte each, and that one moves none.
+        ensures counted { OnOk result (self.new.left ≡ self.old.left - length buf.new) }
+        ensures fails { OnOk result (0 < self.old.left → length buf.new < self.old.left) }
+        ensures kind { IfErr result (λ e. error_kind e ≢ ErrorKind.UnexpectedEof → error_kind e ≡ ErrorKind.Other) }
+        ensures still { IfErr result (λ e. error_kind e ≡ ErrorKind.Other → Passes (self.old.left - 1) (failing_source B.bytes self.old).coming (failing_source B.bytes self.new).coming) }
+    {
         for place in buf.iter_mut() {
             *place = fetch_byte(self)?;
         }
         Ok(())
     }
 
-    fn pass(&mut self, n: u64) -> io::Result<()> {
+    fn pass(&mut self, n: u64) -> io::Result<()>
+        requires { n < 2 ^ 63 }
+        ensures bytes { OnOk result (Passes n (failing_source B.bytes self.old).coming (failing_source B.bytes self.new).coming) }
+        ensures failed { IfErr result (λ e. MoreFailures (failing_source B.bytes self.old).health (failing_source B.bytes self.new).health) }
+        ensures kept { NoFewerFailures (failing_source B.bytes self.old).health (failing_source B.bytes self.new).health }
+        ensures counted { self.new.left ≡ self.old.left - 1 }
+        ensures fails { OnOk result (self.old.left ≢ 1) }
+        ensures kind { IfErr result (λ e. error_kind e ≡ ErrorKind.Other) }
+        ensures still { OnErr result (self.new.inner ≡ self.old.inner) }
+    {
         self.call()?;
         self.inner.pass(n)
     }
@@ -133,7 +167,10 @@ impl Write for FailAt<&mut [u8]> {
         ensures bound { WritesAtMost result buf.now }
         ensures bytes { WriteAppends None None result buf.now }
         ensures one { IfOk result (λ n. n ≡ min (min (length buf.now) 1) (length (cursor_inner self.old.inner).now - cursor_position self.old.inner)) }
-        ensures failed { OnErr result (self.old.left ≡ 1) }
+        ensures counted { self.new.left ≡ self.old.left - 1 }
+        ensures fails { OnOk result (self.old.left ≢ 1) }
+        ensures failed { IfErr result (λ e. (self.old.left ≡ 1) × (error_kind e ≡ ErrorKind.Other)) }
+        ensures still { OnErr result (self.new.inner ≡ self.old.inner) }
     {
         self.call()?;
         let most = buf.len().min(1);
@@ -153,6 +190,10 @@ impl Write for FailAt<&mut [u8]> {
 fn give_byte(sink: &mut FailAt<&mut [u8]>, byte: u8) -> io::Result<()>
     ensures ok { OnOk result (Gave (failing_sink sink.old) (failing_sink sink.new) (byte ∷ [])) }
     ensures err { IfErr result (λ e. Declined (failing_sink sink.old) (failing_sink sink.new) 1 (error_kind e)) }
+    ensures counted { sink.new.left ≡ sink.old.left - 1 }
+    ensures fails { OnOk result (sink.old.left ≢ 1) }
+    ensures kind { IfErr result (λ e. sink.old.left ≡ 1 → error_kind e ≡ ErrorKind.Other) }
+    ensures still { sink.old.left ≡ 1 → sink.new.inner ≡ sink.old.inner }
 {
     sink.call()?;
     sink.inner.give(&[byte])
@@ -161,7 +202,15 @@ fn give_byte(sink: &mut FailAt<&mut [u8]>, byte: u8) -> io::Result<()>
 impl Sink for FailAt<&mut [u8]> {
     ghost told = { λ s. failing_sink s };
 
-    fn give(&mut self, bytes: &[u8]) -> io::Result<()> {
+    fn give(&mut self, bytes: &[u8]) -> io::Result<()>
+        ensures ok { OnOk result (Gave (failing_sink self.old) (failing_sink self.new) bytes.now) }
+        ensures err { IfErr result (λ e. Declined (failing_sink self.old) (failing_sink self.new) (length bytes.now) (error_kind e)) }
+        // A call for each byte: those in front of the one that fails give a byte each, and that one gives none.
+        ensures counted { OnOk result (self.new.left ≡ self.old.left - length bytes.now) }
+        ensures fails { OnOk result (0 < self.old.left → length bytes.now < self.old.left) }
+        ensures kind { IfErr result (λ e. error_kind e ≢ ErrorKind.WriteZero → error_kind e ≡ ErrorKind.Other) }
+        ensures still { IfErr result (λ e. error_kind e ≡ ErrorKind.Other → Appends (failing_sink self.old).taken (failing_sink self.new).taken (take (self.old.left - 1) bytes.now)) }
+    {
         for byte in bytes {
             give_byte(self, *byte)?;
         }

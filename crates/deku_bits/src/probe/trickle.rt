@@ -1,9 +1,10 @@
 //! A source that gives one byte at a time.
 
-ghost use Rattle.std.specs.Prelude.{◌≡◌, ◌≤◌, ◌∷◌, [], Some, IfOk, IfErr, IsOk};
+ghost use Rattle.std.specs.Prelude.{◌≡◌, ◌≤◌, ◌∷◌, [], length, Some, IfOk, IfErr, IsOk};
 ghost use Rattle.std.specs.Io.{ReadsAtMost};
-ghost use Rattle.std.specs.Io.Cursor.{cursor_position, cursor_inner};
-ghost use Rattle.std.specs.Io.KnownBytes.{Consumes, ReadConsumes};
+ghost use Rattle.std.specs.Io.Cursor.{cursor_position, cursor_inner, IsSeekResult, IsSeekFromEnd};
+ghost use Rattle.std.specs.Io.KnownBytes.{Consumes, Keeps, ReadConsumes};
+ghost use Rattle.std.specs.Io.Seek.{SeekMoves};
 ghost use Rattle.std.specs.IoError.{error_kind};
 ghost use Rattle.deku_bits.specs.Cursors.{cursor_told, trickling};
 ghost use Rattle.deku_bits.specs.Devices.{FewerThan, StaysEmpty};
@@ -54,7 +55,13 @@ impl<'a> Seek for Trickle<'a> {
 
     ghost stream_bytes = { λ s. Some (cursor_inner s.inner).now };
 
-    fn seek(&mut self, to: SeekFrom) -> io::Result<u64> {
+    fn seek(&mut self, to: SeekFrom) -> io::Result<u64>
+        ensures moves { SeekMoves (Some (cursor_position self.old.inner)) (Some (cursor_position self.new.inner)) (Some (cursor_inner self.old.inner).now) to result }
+        ensures bytes { Keeps (Some (cursor_inner self.old.inner).now) (Some (cursor_inner self.new.inner).now) }
+        ensures target { IsSeekResult to (cursor_position self.old.inner) result }
+        ensures from_end { IsSeekFromEnd to (length (cursor_inner self.old.inner).now) result }
+        ensures inner { cursor_inner self.new.inner ≡ cursor_inner self.old.inner }
+    {
         self.inner.seek(to)
     }
 }

@@ -116,7 +116,8 @@ fn part_of_a_tuple(rt: HostRuntime) -> Result<(), Fail> {
     let alloc = rt.alloc();
     let untrue = DekuError::Parse("cannot parse bool value");
     expect_denied::<(u8, bool, u8), ()>(&rt, alloc, (), &[1, 2, 3], (untrue, 16, 3))?;
-    let mut writer = Writer::new(Cursor::new(Vec::new(alloc)));
+    let mut slice = [0; 2];
+    let mut writer = Writer::new(Cursor::new(slice.as_mut_slice()));
     let four = BitSize(4);
     assert_eq!(&rt;
         (5u8, 6u8, 16u8, 7u8).to_writer(&mut writer, four),

@@ -1,4 +1,4 @@
-use Rattle.std.proofs.Common.{take}
+use Rattle.std.proofs.Common.{◌≡◌, ◌-◌, ◌<◌, take}
 use Rattle.std.specs.Io.KnownBytes.{Consumes}
 use Rattle.deku_bits.specs.Cursors.{failing_source}
 use Rattle.deku_bits.specs.Devices.{NoFewerFailures}
@@ -10,4 +10,6 @@ invariant-loop-place g l =
     record {
       bytes : Consumes (told l.initial.self).coming (told l.self).coming (take l.place-index l.buf);
       kept : NoFewerFailures (told l.initial.self).health (told l.self).health;
+      counted : l.self.left ≡ l.initial.self.left - l.place-index;
+      fails : 0 < l.initial.self.left → l.place-index < l.initial.self.left;
     }
