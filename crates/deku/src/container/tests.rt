@@ -1,8 +1,10 @@
 //! Whole records from bytes, and as bytes and bits.
 
+mod examples;
 mod kept_in_step;
 mod records;
 
+use self::examples::{Bytes, Child, LsbField, Node, Parent};
 use self::records::{Empty, Head, Low, Nine, Octet, Pair};
 use crate::container::{DekuContainerRead, DekuContainerWrite};
 use deku_bits::error::{DekuError, NeedSize};
@@ -221,4 +223,56 @@ fn memory_for_what_is_written(rt: HostRuntime) {
         Ok(bits) => assert_eq!(rt; bits.as_slice(), [true, false, true].as_slice()),
         Err(refusal) => assert_eq!(rt; refusal, NO_MEMORY),
     }
+}
+
+// The bytes are read as the value, to the last one, and it is written as them.
+fn expect_both_ways<T: DekuContainerRead + DekuContainerWrite + PartialEq + Debug>(
+    rt: &impl Abort,
+    alloc: Global,
+    bytes: &[u8],
+    want: T,
+) -> Result<(), Fail>
+    requires reads { T.DekuReader.accepts tt }
+    requires writes { T.DekuWriter.accepts tt }
+{
+    let ((rest, bits), value) = T::from_bytes(alloc, (bytes, 0))?;
+    assert_eq!(rt; value, want);
+    assert!(rt; rest.is_empty());
+    assert_eq!(rt; bits, 0);
+    assert_eq!(rt; value.to_bytes(alloc)?.as_slice(), bytes, "{value:?}");
+    Ok(())
+}
+
+#[test]
+fn records_of_the_examples(rt: HostRuntime) -> Result<(), Fail> {
+    let alloc = rt.alloc();
+    let node = Node {
+        kind: 1,
+        mode: 0x123,
+        owners: (4, 5),
+        numbers: (6, 7),
+    };
+    let bytes: &[u8] = &[0x31, 0x12, 4, 5, 6, 0, 0, 0, 7, 0, 0, 0];
+    expect_both_ways(&rt, alloc, bytes, node)?;
+    let child = Child {
+        byte: 0xAB,
+        flags: (1, 0, 0),
+        five: 22,
+    };
+    let parent = Parent {
+        wide: 0x1001,
+        narrow: 4,
+        child,
+    };
+    expect_both_ways(&rt, alloc, &[0x10, 0x81, 0xAB, 0x96], parent)?;
+    let field = LsbField {
+        thirteen: 0x40,
+        three: 2,
+    };
+    expect_both_ways(&rt, alloc, &[0x40, 0x40], field)?;
+    let bytes = Bytes {
+        two: 0xCDAB,
+        one: 0xFF,
+    };
+    expect_both_ways(&rt, alloc, &[0xAB, 0xCD, 0xFF], bytes)
 }
