@@ -20,7 +20,7 @@ use Rattle.deku_fields.proofs.WritingLists.{Wrote, Done, Lacking, Full, emitted,
 abbrev TookAll : Written → Output → ℕ → Result (Unit {0}) DekuError → Standing Output → Type 0
 TookAll w out c r u = (r ≡ Ok tt) × ((after : Output) × Took w out after × (u ≡ Going after (c + 8 * length w.bytes)))
 
-not_lacking : (room : Option ℕ) (m n : ℕ) (kind : ErrorKind) → m ≤ n → HasRoom room n → LacksRoom room m kind → ⊥
+not_lacking : (room : Option (List ℕ)) (m n : ℕ) (kind : ErrorKind) → m ≤ n → HasRoom room n → LacksRoom room m kind → ⊥
 not_lacking None m n kind l h p = h
 not_lacking (Some x) m n kind l h p = omega (arith, p.1)
 

@@ -78,9 +78,9 @@ ReadsBackFrom fs bytes r = (items : List Item) (after : List ℕ) → Begins fs 
 
 -- ---- writing
 -- the room is told, and n bytes are not more
-abbrev pub HasRoom : Option ℕ → ℕ → Type 0
+abbrev pub HasRoom : Option (List ℕ) → ℕ → Type 0
 HasRoom None n = ⊥
-HasRoom (Some room) n = n ≤ room
+HasRoom (Some room) n = n ≤ length room
 
 -- bytes that aligned fitting items lay out, which go to a sink that has the room, where nothing is pending; and their bits can be counted
 pub record Fills (items : List Item) (bytes : List ℕ) (out : Output) (c : ℕ) : Type 0 where
