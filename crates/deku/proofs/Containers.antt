@@ -130,16 +130,16 @@ nothing_before xs = rw (leb-zero (length xs)) refl
 
 -- a fresh writer over a slice
 pub starts_over : (place : ℕ) (xs ys : List ℕ) (h : Health) (st : Standing Pending) → place ≡ 0 → xs ≡ ys → st ≡ Going Nothing 0
-    → writer_state (record { taken = bytes_before place xs; room = Some (length xs - place); health = h }) st ≡ Going (over ys) 0
+    → writer_state (record { taken = bytes_before place xs; room = Some (drop place xs); health = h }) st ≡ Going (over ys) 0
 starts_over place xs ys h st p e s = rw (p, s) (
-    ap (λ t. Going (record { taken = t; room = Some (length xs - 0); pending = Nothing }) 0) (nothing_before xs)
-    ∙ ap (λ n. Going (record { taken = Some []; room = Some n; pending = Nothing }) 0) (let same : length xs - 0 ≡ length ys = omega (arith, ap length e) in same))
+    ap (λ t. Going (record { taken = t; room = Some xs; pending = Nothing }) 0) (nothing_before xs)
+    ∙ ap (λ zs. Going (record { taken = Some []; room = Some zs; pending = Nothing }) 0) e)
 
 -- what a cursor over a slice tells
 abbrev pub tells_over : Cursor (MutBor (List ℕ)) → SinkTold
 tells_over k = record {
   taken = bytes_before (cursor_position k) (cursor_inner k).now;
-  room = Some (length (cursor_inner k).now - cursor_position k);
+  room = Some (drop (cursor_position k) (cursor_inner k).now);
   health = by_name (cursor_inner k).ghost_name steady;
 }
 

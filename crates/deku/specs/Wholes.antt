@@ -1,5 +1,5 @@
 -- Whole inputs and whole outputs: what calls do that make a reader or a writer of their own.
-use Rattle.std.specs.Prelude.{◌≡◌, ◌⊎◌, ℕ, ◌-◌, ◌/◌, ◌%◌, ◌<◌, ◌≤◌, Bool, false, List, [], ◌++◌, length, drop, Option, None, Some, Result, Ok, Err, IfOk, IfSome}
+use Rattle.std.specs.Prelude.{◌≡◌, ◌⊎◌, ℕ, ◌/◌, ◌%◌, ◌<◌, ◌≤◌, Bool, false, List, [], ◌++◌, length, drop, Option, None, Some, Result, Ok, Err, IfOk, IfSome}
 use Rattle.std.specs.Borrow.{Bor}
 use Rattle.std.specs.Global.{Vec}
 use Rattle.std.specs.declared.io.ErrorKind.TheVariants.{OutOfMemory}
@@ -50,16 +50,16 @@ in_memory = record { taken = Some []; room = None; pending = Nothing }
 
 -- nothing is written, over these bytes
 abbrev pub over : List ℕ → Output
-over bytes = record { taken = Some []; room = Some (length bytes); pending = Nothing }
+over bytes = record { taken = Some []; room = Some bytes; pending = Nothing }
 
 -- what m gives from nothing written, to memory that grows: the bytes that were taken, where they are told
 abbrev pub WritesOnce : Meaning Output (Unit {0}) → Result (Vec ℕ) DekuError → Type 0
 WritesOnce m (Ok v) = (out : Output) × (c : ℕ) × m false (Going in_memory 0) (Ok tt) (Going out c) × IfSome out.taken (λ bytes. v.items ≡ bytes)
 WritesOnce m (Err e) = (u : Standing Output) × m false (Going in_memory 0) (Err e) u
 
--- what m gives from nothing written, over a slice: how many bytes were taken, which the slice has in front
+-- what m gives from nothing written, over a slice: how many bytes were taken, which the slice has in front, and those in its room behind them
 abbrev pub WritesOver : Meaning Output (Unit {0}) → List ℕ → Result ℕ DekuError → List ℕ → Type 0
-WritesOver m old (Ok n) new = (out : Output) × (c : ℕ) × m false (Going (over old) 0) (Ok tt) (Going out c) × (out.taken ≡ bytes_before n new) × (out.room ≡ Some (length new - n))
+WritesOver m old (Ok n) new = (out : Output) × (c : ℕ) × m false (Going (over old) 0) (Ok tt) (Going out c) × (out.taken ≡ bytes_before n new) × (out.room ≡ Some (drop n new))
 WritesOver m old (Err e) new = (u : Standing Output) × m false (Going (over old) 0) (Err e) u
 
 -- the bits that m gives from nothing written: those of the bytes that were taken, where they are told, and the pending ones

@@ -125,8 +125,8 @@ pub trait DekuContainerWrite: DekuWriter<()> {
         }
     }
 
-    /// Writes the bytes of the value to the front of a slice, the last one filled with zeros, and answers how many they are. It takes no
-    /// memory.
+    /// Writes the bytes of the value to the front of a slice, the last one filled with zeros, and answers how many they are. What is behind
+    /// them in the slice stays. It takes no memory.
     ///
     /// The caller's condition: the type may be written under `()`. It is refused as the type is, or with `Io(WriteZero)` where the slice is
     /// too short; what the slice holds is then open.

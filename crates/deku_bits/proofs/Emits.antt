@@ -121,8 +121,8 @@ finalizes o h w None t after r u l m = same_emits (append o (replicate ((8 - len
 finalizes o h w (Some f) t after r u l m = elim m [ Quiet q n ↦ Quiet q n | Broken b q n ↦ Broken b q n ]
 
 -- ---- a sink that has room, and whose calls do not fail
-pub succeeds_with_room : (write : Pending → Written) (t after : SinkTold) (P : Pending) (c room : ℕ) (r : Result (Unit {0}) DekuError) (u : Standing Pending)
-    → t.room ≡ Some room → t.health.failures ≡ Some 0 → after.health.failures ≡ Some 0 → c + 8 * length (write P).bytes < 2 ^ 64 → length (write P).bytes ≤ room
+pub succeeds_with_room : (write : Pending → Written) (t after : SinkTold) (P : Pending) (c : ℕ) (room : List ℕ) (r : Result (Unit {0}) DekuError) (u : Standing Pending)
+    → t.room ≡ Some room → t.health.failures ≡ Some 0 → after.health.failures ≡ Some 0 → c + 8 * length (write P).bytes < 2 ^ 64 → length (write P).bytes ≤ length room
     → WritesAt (Emits write) t (Going P c) r after u → r ≡ Ok tt
 succeeds_with_room write t after P c room r u has none still fits enough m = elim m [
   | Quiet q h ↦ elim q as (λ q. r ≡ Ok tt) [

@@ -1,5 +1,5 @@
 -- What a sink took over several calls, and what it declined after them.
-use Rattle.std.proofs.Common.{ℕ, ◌+◌, ◌≤◌, List, [], ◌++◌, length, refl, ◌∙◌, arith, length-append, Option, Some, None, inl, inr}
+use Rattle.std.proofs.Common.{◌≡◌, ℕ, ◌+◌, ◌-◌, ◌≤◌, List, [], ◌++◌, length, drop, refl, ap, ◌∙◌, arith, length-append, length-drop, drop-drop, Option, Some, None, inl, inr}
 use Rattle.std.proofs.KnownBytes.{Appends-nil, Appends-trans}
 use Rattle.std.specs.declared.io.ErrorKind.{ErrorKind}
 use Rattle.deku_bits.specs.Devices.{Health, SinkTold, NotFewer, More, NoFewerFailures, MoreFailures, Shrinks, LacksRoom, Gave}
@@ -32,25 +32,27 @@ more_after : (a b c : Health) → NoFewerFailures a b → MoreFailures b c → M
 more_after a b c p q = record { failures = More-after a.failures b.failures c.failures p.failures q.failures; lenders = q.lenders ∙ p.lenders }
 
 -- ---- room
-pub Shrinks-none : (a : Option ℕ) → Shrinks a a 0
+pub Shrinks-none : (a : Option (List ℕ)) → Shrinks a a 0
 Shrinks-none None = tt
-Shrinks-none (Some x) = omega arith
+Shrinks-none (Some x) = (omega arith, refl)
 
-pub Shrinks-trans : (a b c : Option ℕ) (m n : ℕ) → Shrinks a b m → Shrinks b c n → Shrinks a c (m + n)
+pub Shrinks-trans : (a b c : Option (List ℕ)) (m n : ℕ) → Shrinks a b m → Shrinks b c n → Shrinks a c (m + n)
 Shrinks-trans None None None m n p q = tt
 Shrinks-trans None None (Some z) m n p q = absurd q
 Shrinks-trans None (Some y) c m n p q = absurd p
 Shrinks-trans (Some x) None c m n p q = absurd p
 Shrinks-trans (Some x) (Some y) None m n p q = absurd q
-Shrinks-trans (Some x) (Some y) (Some z) m n p q = omega arith
+Shrinks-trans (Some x) (Some y) (Some z) m n p q =
+    let left : length y ≡ length x - m = ap length p.1 ∙ length-drop m x in
+    (omega (arith, p.0, q.0, left), q.1 ∙ ap (drop n) p.1 ∙ drop-drop n m x)
 
-pub LacksRoom-after : (a b : Option ℕ) (m n : ℕ) (k : ErrorKind) → Shrinks a b m → LacksRoom b n k → LacksRoom a (m + n) k
+pub LacksRoom-after : (a b : Option (List ℕ)) (m n : ℕ) (k : ErrorKind) → Shrinks a b m → LacksRoom b n k → LacksRoom a (m + n) k
 LacksRoom-after None None m n k p q = q
 LacksRoom-after None (Some y) m n k p q = absurd p
 LacksRoom-after (Some x) None m n k p q = absurd p
-LacksRoom-after (Some x) (Some y) m n k p q = (q.0, omega (arith, q.1))
+LacksRoom-after (Some x) (Some y) m n k p q = let left : length y ≡ length x - m = ap length p.1 ∙ length-drop m x in (q.0, omega (arith, p.0, q.1, left))
 
-pub LacksRoom-more : (a : Option ℕ) (m n : ℕ) (k : ErrorKind) → m ≤ n → LacksRoom a m k → LacksRoom a n k
+pub LacksRoom-more : (a : Option (List ℕ)) (m n : ℕ) (k : ErrorKind) → m ≤ n → LacksRoom a m k → LacksRoom a n k
 LacksRoom-more None m n k l p = p
 LacksRoom-more (Some x) m n k l p = (p.0, omega (arith, p.1))
 

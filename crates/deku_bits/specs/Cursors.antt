@@ -1,5 +1,5 @@
 -- What a cursor tells by its place, and what one that fails once tells.
-use Rattle.std.specs.Prelude.{◌≡◌, ℕ, zero, suc, ◌-◌, List, [], ◌∷◌, drop, length, Option, Some}
+use Rattle.std.specs.Prelude.{◌≡◌, ℕ, zero, suc, List, [], ◌∷◌, drop, Option, Some}
 use Rattle.std.specs.Borrow.{MutBor}
 use Rattle.std.specs.Io.Cursor.{cursor_remaining, cursor_position, cursor_inner}
 use Rattle.std.specs.declared.io.Cursor.{Cursor}
@@ -34,6 +34,6 @@ failing_source bytes s = record {
 abbrev pub failing_sink : FailAt (MutBor (List ℕ)) → SinkTold
 failing_sink s = record {
   taken = bytes_before (cursor_position s.inner) (cursor_inner s.inner).now;
-  room = Some (length (cursor_inner s.inner).now - cursor_position s.inner);
+  room = Some (drop (cursor_position s.inner) (cursor_inner s.inner).now);
   health = record { failures = Some (failures_at s.left); lenders = (cursor_inner s.inner).ghost_name ∷ [] };
 }

@@ -1,5 +1,5 @@
 -- What sources and sinks tell of themselves, and what a transfer does to it.
-use Rattle.std.specs.Prelude.{◌≡◌, ◌⊎◌, ℕ, ◌+◌, ◌<◌, ◌≤◌, List, length, drop, take, Option, None, Some, ⊤, nat_le, if◌then◌else◌}
+use Rattle.std.specs.Prelude.{◌≡◌, ◌⊎◌, ℕ, ◌<◌, ◌≤◌, List, length, drop, take, Option, None, Some, ⊤, nat_le, if◌then◌else◌}
 use Rattle.std.specs.Borrow.{GName}
 use Rattle.std.specs.Io.KnownBytes.{Appends}
 use Rattle.std.specs.declared.io.ErrorKind.{ErrorKind}
@@ -15,10 +15,10 @@ pub record SourceTold : Type 0 where
   pub coming : Option (List ℕ)
   pub health : Health
 
--- what a sink tells: the bytes that it took and the room that it has left, where they are known
+-- what a sink tells: the bytes that it took, and the room that it has left, by the bytes that lie there, where they are known
 pub record SinkTold : Type 0 where
   pub taken : Option (List ℕ)
-  pub room : Option ℕ
+  pub room : Option (List ℕ)
   pub health : Health
 
 -- a count that is told stays told and does not fall
@@ -65,17 +65,17 @@ StaysEmpty (Some bs) new = length bs ≡ 0 → new ≡ Some bs
 abbrev pub bytes_before : ℕ → List ℕ → Option (List ℕ)
 bytes_before place bytes = if nat_le place (length bytes) then Some (take place bytes) else None
 
--- a room that is told shrinks by n, and one that is not told stays untold
-abbrev pub Shrinks : Option ℕ → Option ℕ → ℕ → Type 0
+-- a room that is told loses its first n bytes, and one that is not told stays untold
+abbrev pub Shrinks : Option (List ℕ) → Option (List ℕ) → ℕ → Type 0
 Shrinks None None n = ⊤
 Shrinks None (Some s) n = ⊥
 Shrinks (Some r) None n = ⊥
-Shrinks (Some r) (Some s) n = s + n ≡ r
+Shrinks (Some r) (Some s) n = (n ≤ length r) × (s ≡ drop n r)
 
 -- the room is too small for n bytes, or no memory is found where no room is told
-abbrev pub LacksRoom : Option ℕ → ℕ → ErrorKind → Type 0
+abbrev pub LacksRoom : Option (List ℕ) → ℕ → ErrorKind → Type 0
 LacksRoom None n kind = kind ≡ OutOfMemory
-LacksRoom (Some r) n kind = (kind ≡ WriteZero) × (r < n)
+LacksRoom (Some r) n kind = (kind ≡ WriteZero) × (length r < n)
 
 -- the sink took these bytes
 pub record Gave (old new : SinkTold) (bytes : List ℕ) : Type 0 where

@@ -25,10 +25,10 @@ abbrev pub reader_state : Option (List ℕ) → Standing (List Bool) → Standin
 reader_state coming (Going window count) = Going (stream_of window coming) count
 reader_state coming (Stopped fault count) = Stopped fault count
 
--- what a writer goes on with: what its sink took and has room for, where these are told, and the pending bits
+-- what a writer goes on with: what its sink took and the bytes that lie in its room, where these are told, and the pending bits
 pub record Output : Type 0 where
   pub taken : Option (List ℕ)
-  pub room : Option ℕ
+  pub room : Option (List ℕ)
   pub pending : Pending
 
 -- the state of a writer: its pending bits with what its sink tells

@@ -45,7 +45,7 @@ pub trait Source: Read + Seek {
 /// `give` is `write_all`, under laws: what is told stays true, and a call fails only where a told count of failures rises, where
 /// the room that is told is too small, or, where no room is told, where no memory is found.
 pub trait Sink: Write + Seek {
-    // What it tells: the bytes taken, the room left, the count of failures, the references on the way.
+    // What it tells: the bytes taken, those that lie in the room left, the count of failures, the references on the way.
     ghost told: { Self → SinkTold };
 
     /// Gives all the bytes.
@@ -155,11 +155,11 @@ fn copy_at(all: &[u8], at: u64, buf: &mut [u8]) -> bool
     true
 }
 
-// A cursor over a slice tells the bytes before its place, and the room behind it.
+// A cursor over a slice tells the bytes before its place, and its room by those behind.
 impl Sink for Cursor<&mut [u8]> {
     ghost told = { λ c. record {
       taken = bytes_before (cursor_position c) (cursor_inner c).now;
-      room = Some (length (cursor_inner c).now - cursor_position c);
+      room = Some (drop (cursor_position c) (cursor_inner c).now);
       health = record { failures = Some 0; lenders = (cursor_inner c).ghost_name ∷ [] };
     } };
 

@@ -22,7 +22,7 @@ use Rattle.deku_fields.proofs.WritingLists.{items_wrote}
 abbrev TookAll : Written → Output → ℕ → Result (Unit {0}) DekuError → Standing Output → Type 0
 TookAll w out c r u = (r ≡ Ok tt) × ((after : Output) × Took w out after × (u ≡ Going after (c + 8 * length w.bytes)))
 
-lacking : (room : Option ℕ) (m n : ℕ) (kind : ErrorKind) (r : Result (Unit {0}) DekuError) → m ≤ n → HasRoom room n → LacksRoom room m kind → r ≡ Err (Io kind) → FindsNoMemory room r
+lacking : (room : Option (List ℕ)) (m n : ℕ) (kind : ErrorKind) (r : Result (Unit {0}) DekuError) → m ≤ n → HasRoom room n → LacksRoom room m kind → r ≡ Err (Io kind) → FindsNoMemory room r
 lacking None m n kind r l h p e = e ∙ ap (λ k. Err (Io k)) p
 lacking (Some x) m n kind r l h p e = absurd (omega (arith, p.1))
 

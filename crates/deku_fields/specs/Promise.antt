@@ -78,12 +78,12 @@ ReadsBackFrom fs bytes r = (items : List Item) (after : List ℕ) → Begins fs 
 
 -- ---- writing
 -- n bytes are not more than the room, where it is told
-abbrev pub HasRoom : Option ℕ → ℕ → Type 0
+abbrev pub HasRoom : Option (List ℕ) → ℕ → Type 0
 HasRoom None n = ⊤
-HasRoom (Some room) n = n ≤ room
+HasRoom (Some room) n = n ≤ length room
 
 -- a sink that grows, and so tells no room, finds no memory
-abbrev pub FindsNoMemory : Option ℕ → Result (Unit {0}) DekuError → Type 0
+abbrev pub FindsNoMemory : Option (List ℕ) → Result (Unit {0}) DekuError → Type 0
 FindsNoMemory None r = r ≡ Err (Io OutOfMemory)
 FindsNoMemory (Some room) r = ⊥
 
