@@ -6,7 +6,7 @@ use deku_bits::reader::Reader;
 use deku_bits::writer::Writer;
 use std::alloc::Global;
 use std::fmt::Debug;
-use std::io::Cursor;
+use std::io::{Cursor, ErrorKind};
 use std::process::Abort;
 use std::test::Fail;
 
@@ -64,4 +64,13 @@ pub fn expect_denied<T: DekuReader<C> + PartialEq + Debug, C: Copy>(
     assert_eq!(rt; reader.bits_read(), want.1);
     assert_eq!(rt; u8::from_reader_with_ctx(&mut reader, ())?, want.2);
     Ok(())
+}
+
+// The refusal of a call that takes memory, if it is refused; where no memory was found, that is handed on.
+pub fn refusal_of<T: Drop>(answer: Result<T, DekuError>) -> Result<Option<DekuError>, Fail> {
+    let refusal = answer.err();
+    if refusal == Some(DekuError::Io(ErrorKind::OutOfMemory)) {
+        Err(DekuError::Io(ErrorKind::OutOfMemory))?;
+    }
+    Ok(refusal)
 }

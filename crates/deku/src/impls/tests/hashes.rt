@@ -1,5 +1,6 @@
 //! Maps and sets under limits.
 
+use super::expecting::refusal_of;
 use crate::ctx::{BitSize, Limit};
 use crate::traits::{DekuReader, DekuWriter};
 use deku_bits::error::{DekuError, NeedSize};
@@ -61,7 +62,10 @@ fn maps_up_to_a_pair(rt: HostRuntime) -> Result<(), Fail> {
 fn half_a_map(rt: HostRuntime) -> Result<(), Fail> {
     let mut reader = Reader::new(rt.alloc(), Cursor::new([1, 2, 3].as_slice()));
     let map = Map::<u8, u8>::from_reader_with_ctx(&mut reader, Limit::end());
-    assert_eq!(rt; map.err(), Some(DekuError::Incomplete(NeedSize::new(8))));
+    assert_eq!(rt;
+        refusal_of(map)?,
+        Some(DekuError::Incomplete(NeedSize::new(8)))
+    );
     assert_eq!(rt; reader.bits_read(), 24);
     Ok(())
 }

@@ -1,5 +1,6 @@
 //! Lists under limits.
 
+use super::expecting::refusal_of;
 use crate::ctx::{BitSize, ByteSize, Limit, ReadExact};
 use crate::traits::{DekuReader, DekuWriter};
 use deku_bits::error::{DekuError, NeedSize};
@@ -40,7 +41,7 @@ fn expect_refused<T: Drop>(
     answer: Result<Vec<T>, DekuError>,
     want: (DekuError, usize, u8),
 ) -> Result<(), Fail> {
-    assert_eq!(rt; answer.err(), Some(want.0));
+    assert_eq!(rt; refusal_of(answer)?, Some(want.0));
     assert_eq!(rt; reader.bits_read(), want.1);
     assert_eq!(rt; u8::from_reader_with_ctx(reader, ())?, want.2);
     Ok(())
@@ -71,7 +72,7 @@ fn up_to_a_count_that_is_not_there(rt: HostRuntime) -> Result<(), Fail> {
     let mut reader = Reader::new(rt.alloc(), Cursor::new([1, 2].as_slice()));
     let ended = DekuError::Incomplete(NeedSize::new(8));
     let items = Vec::<u8>::from_reader_with_ctx(&mut reader, Limit::new_count(usize::MAX));
-    assert_eq!(rt; items.err(), Some(ended));
+    assert_eq!(rt; refusal_of(items)?, Some(ended));
     assert_eq!(rt; reader.bits_read(), 16);
     Ok(())
 }
@@ -108,7 +109,7 @@ fn up_to_an_item_that_is_not_there(rt: HostRuntime) -> Result<(), Fail> {
     let zero = Limit::new_until(|byte: &u8| *byte == 0);
     let ended = DekuError::Incomplete(NeedSize::new(8));
     let items = Vec::<u8>::from_reader_with_ctx(&mut reader, zero);
-    assert_eq!(rt; items.err(), Some(ended));
+    assert_eq!(rt; refusal_of(items)?, Some(ended));
     assert_eq!(rt; reader.bits_read(), 16);
     Ok(())
 }
@@ -140,7 +141,7 @@ fn over_so_many_bits(rt: HostRuntime) -> Result<(), Fail> {
     let twelve = Limit::new_bit_size(BitSize(12));
     let ended = DekuError::Incomplete(NeedSize::new(8));
     let items = Vec::<u8>::from_reader_with_ctx(&mut reader, twelve);
-    assert_eq!(rt; items.err(), Some(ended));
+    assert_eq!(rt; refusal_of(items)?, Some(ended));
     assert_eq!(rt; reader.bits_read(), 24);
     let mut reader = Reader::new(rt.alloc(), Cursor::new([1, 2].as_slice()));
     let past = Limit::new_byte_size(ByteSize(2305843009213693952));
@@ -229,7 +230,7 @@ fn bytes_at_once(rt: HostRuntime) -> Result<(), Fail> {
     assert_eq!(rt; reader.bits_read(), 20);
     let ended = DekuError::Incomplete(NeedSize::new(16));
     let more = Vec::<u8>::from_reader_with_ctx(&mut reader, ReadExact(2));
-    assert_eq!(rt; more.err(), Some(ended));
+    assert_eq!(rt; refusal_of(more)?, Some(ended));
     let kept = Vec::<u8>::from_reader_with_ctx(&mut reader, ReadExact(0));
     assert_eq!(rt; kept.err(), Some(ended));
     Ok(())
