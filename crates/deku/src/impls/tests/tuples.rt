@@ -86,7 +86,13 @@ fn of_several_types(rt: HostRuntime) -> Result<(), Fail> {
         Big,
         &[0x69, 0xBE, 0xEF, 0x01],
         ((0x69u8, 0xBEEFu16), ((true,),)),
-    )?;
+    )
+}
+
+// So under the contexts that have a size.
+#[test]
+fn of_several_sizes(rt: HostRuntime) -> Result<(), Fail> {
+    let alloc = rt.alloc();
     expect_whole(
         &rt,
         alloc,
