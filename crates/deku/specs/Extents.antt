@@ -1,5 +1,5 @@
 -- What is written as exactly so many bits.
-use Rattle.std.specs.Prelude.{◌≡◌, ℕ, ◌%◌, ◌<◌, Bool, List, [], ◌∷◌, map, Result, ℤ}
+use Rattle.std.specs.Prelude.{◌≡◌, ℕ, Bool, List, [], ◌∷◌, map, Result, ℤ}
 use Rattle.deku_bits.specs.declared.error.DekuError.{DekuError}
 use Rattle.deku_bits.specs.Bits.{shown}
 use Rattle.deku_bits.specs.Pieces.{Piece, shape, total}
@@ -7,10 +7,8 @@ use Rattle.deku_bits.specs.Standings.{Standing, Output}
 use Rattle.deku_bits.specs.Outcomes.{Meaning}
 use Rattle.deku_bits.specs.WriterCalls.{WritesBits}
 use Rattle.deku_num.specs.declared.kind.NumberType.{NumberType}
-use Rattle.deku_num.specs.declared.ctx.Size.TheVariants.{Whole}
 use Rattle.deku_num.specs.declared.ctx.Layout.{Layout}
-use Rattle.deku_num.specs.NumberLaws.{InType}
-use Rattle.deku_num.specs.NumberCalls.{WritesNumber}
+use Rattle.deku_num.specs.NumberCalls.{WritesNumber, IsWhole}
 use Rattle.deku.specs.Composing.{Answer, Both}
 
 -- pieces are written one after the other
@@ -24,7 +22,6 @@ pub record IsSized (n : ℕ) (m : Meaning Output (Unit {0})) : Type 0 where
   pub wide : total (map shape pieces) ≡ n
   pub written : (b : Bool) (s : Standing Output) (r : Result (Unit {0}) DekuError) (u : Standing Output) → m b s r u → WritesPieces pieces b s r u
 
--- A value of a type of whole bytes is written under a layout of its whole size as exactly the bits of its type.
+-- A value under a layout of its type's whole size is written as exactly the bits of its type.
 abbrev pub NumberSizeLaw : Type 0
-NumberSizeLaw = (t : NumberType) (l : Layout) (v : ℤ) → 0 < t.bits → t.bits % 8 ≡ 0 → l.size ≡ Whole → InType t.signed t.bits v
-    → IsSized t.bits (WritesNumber t l v)
+NumberSizeLaw = (t : NumberType) (l : Layout) (v : ℤ) → IsWhole t l v → IsSized t.bits (WritesNumber t l v)

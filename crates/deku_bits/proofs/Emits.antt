@@ -16,12 +16,14 @@ use Rattle.deku_bits.specs.Devices.{SinkTold, Gave, LacksRoom, More}
 use Rattle.deku_bits.specs.Standings.{Standing, Going, Stopped, writer_state}
 use Rattle.deku_bits.specs.Outcomes.{Quiet, Broken, Counted}
 use Rattle.deku_bits.specs.WriterCalls.{WritesAt, GivesOut, Emits, WritesBits, Finalizes}
-use Rattle.deku_bits.specs.Pushing.{GaveUp, PushedOnto, waiting, standing_of}
+use Rattle.deku_bits.specs.Kept.{standing_of}
+use Rattle.deku_bits.specs.Pushing.{GaveUp, PushedOnto, waiting}
 use Rattle.deku_bits.proofs.Binary.{length-facing, facing-facing}
 use Rattle.deku_bits.proofs.Shown.{shown_odd}
 use Rattle.deku_bits.proofs.Writing.{held_some, pending_bits-held}
 use Rattle.deku_bits.proofs.Appends.{count_law}
-use Rattle.deku_bits.proofs.Gives.{none_fewer, Gave-nil}
+use Rattle.deku_bits.proofs.Handing.{no_fewer_same}
+use Rattle.deku_bits.proofs.Gives.{Gave-nil}
 use Rattle.deku_bits.proofs.Pushes.{emitted_one, remainder_one}
 use Rattle.deku_bits.proofs.Onto.{append_same, waiting_none}
 
@@ -29,7 +31,7 @@ use Rattle.deku_bits.proofs.Onto.{append_same, waiting_none}
 module _ (write : Pending → Written) (t : SinkTold) (P : Pending) (c : ℕ) where
   emits_full : (words : Bor (List ℕ)) → 2 ^ 64 ≤ c + 8 * length (write P).bytes → words.now ≡ codes "count past usize"
       → WritesAt (Emits write) t (Going P c) (Err (InvalidParam words)) t (Going P c)
-  emits_full words past says = Quiet (inl (past, (words, says, refl, refl))) (none_fewer t.health)
+  emits_full words past says = Quiet (inl (past, (words, says, refl, refl))) (no_fewer_same t.health)
 
   emits_done : (after : SinkTold) (Q : Pending) (d : ℕ) → c + 8 * length (write P).bytes < 2 ^ 64 → Gave t after (write P).bytes → Q ≡ (write P).pending → d ≡ c + 8 * length (write P).bytes
       → WritesAt (Emits write) t (Going P c) (Ok tt) after (Going Q d)
@@ -53,24 +55,24 @@ counted from to h bits l =
     omega (arith, k.0, k.1)
 
 pub write_nothing : (t : SinkTold) (from to : Order) (h bits : List Bool) (w : ℕ) → length bits ≡ 0 → w < 2 ^ 64
-    → WritesAt (WritesBits to bits) t (standing_of from h w None) (Ok tt) t (standing_of from h w None)
+    → WritesAt (WritesBits to bits) t (standing_of (waiting from h) None w) (Ok tt) t (standing_of (waiting from h) None w)
 unfolding append
 write_nothing t from to h [] w n s = emits_done (append to []) t (waiting from h) w t (waiting from h) w (omega arith) (Gave-nil t) refl (omega arith)
 write_nothing t from to h (b ∷ bits) w n s = absurd (omega arith)
 
 pub write_full : (t : SinkTold) (from to : Order) (h bits : List Bool) (w n : ℕ) (words : Bor (List ℕ)) → length h < 8 → n ≡ (length h + length bits) / 8 → (2 ^ 64 - 1 - w) / 8 < n
-    → words.now ≡ codes "count past usize" → WritesAt (WritesBits to bits) t (standing_of from h w None) (Err (InvalidParam words)) t (standing_of from h w None)
+    → words.now ≡ codes "count past usize" → WritesAt (WritesBits to bits) t (standing_of (waiting from h) None w) (Err (InvalidParam words)) t (standing_of (waiting from h) None w)
 write_full t from to h bits w n words l e past says =
     emits_full (append to bits) t (waiting from h) w words (rw (counted from to h bits l, ← e) (omega arith)) says
 
 pub write_done : (t after : SinkTold) (from to : Order) (h hs bits : List Bool) (w n : ℕ) → length h < 8 → n ≡ (length h + length bits) / 8 → n ≤ (2 ^ 64 - 1 - w) / 8 → w < 2 ^ 64
-    → PushedOnto t after from to h hs bits → WritesAt (WritesBits to bits) t (standing_of from h w None) (Ok tt) after (standing_of to hs (w + 8 * n) None)
+    → PushedOnto t after from to h hs bits → WritesAt (WritesBits to bits) t (standing_of (waiting from h) None w) (Ok tt) after (standing_of (waiting to hs) None (w + 8 * n))
 write_done t after from to h hs bits w n l e fits s m =
     let b : length (append to bits (waiting from h)).bytes ≡ n = counted from to h bits l ∙ sym e in
     emits_done (append to bits) t (waiting from h) w after (waiting to hs) (w + 8 * n) (rw b (omega arith)) m.gave m.rest (rw b refl)
 
 pub write_stopped : (t after : SinkTold) (from to : Order) (h bits : List Bool) (w n : ℕ) (k : ErrorKind) → length h < 8 → n ≡ (length h + length bits) / 8 → n ≤ (2 ^ 64 - 1 - w) / 8 → w < 2 ^ 64
-    → GaveUp t after ((length h + length bits) / 8) k → WritesAt (WritesBits to bits) t (standing_of from h w None) (Err (Io k)) after (Stopped (Io k) w)
+    → GaveUp t after ((length h + length bits) / 8) k → WritesAt (WritesBits to bits) t (standing_of (waiting from h) None w) (Err (Io k)) after (Stopped (Io k) w)
 write_stopped t after from to h bits w n k l e fits s f =
     let b : length (append to bits (waiting from h)).bytes ≡ n = counted from to h bits l ∙ sym e in
     emits_stopped (append to bits) t (waiting from h) w after k (rw b (omega arith)) (rw (counted from to h bits l) f)
@@ -116,7 +118,7 @@ same_emits write other t after P c r u e m = elim m [
 ]
 
 pub finalizes : (o : Order) (h : List Bool) (w : ℕ) (f : Option Fault) (t after : SinkTold) (r : Result (Unit {0}) DekuError) (u : Standing Pending) → length h < 8
-    → WritesAt (WritesBits o (replicate ((8 - length h) % 8) false)) t (standing_of o h w f) r after u → WritesAt Finalizes t (standing_of o h w f) r after u
+    → WritesAt (WritesBits o (replicate ((8 - length h) % 8) false)) t (standing_of (waiting o h) f w) r after u → WritesAt Finalizes t (standing_of (waiting o h) f w) r after u
 finalizes o h w None t after r u l m = same_emits (append o (replicate ((8 - length h) % 8) false)) finalized t after (waiting o h) w r u (finalized_is o h l) m
 finalizes o h w (Some f) t after r u l m = elim m [ Quiet q n ↦ Quiet q n | Broken b q n ↦ Broken b q n ]
 

@@ -2,34 +2,9 @@
 use Rattle.std.proofs.Common.{◌≡◌, ℕ, ◌+◌, ◌-◌, ◌≤◌, List, [], ◌++◌, length, drop, refl, ap, ◌∙◌, arith, length-append, length-drop, drop-drop, Option, Some, None, inl, inr}
 use Rattle.std.proofs.KnownBytes.{Appends-nil, Appends-trans}
 use Rattle.std.specs.declared.io.ErrorKind.{ErrorKind}
-use Rattle.deku_bits.specs.Devices.{Health, SinkTold, NotFewer, More, NoFewerFailures, MoreFailures, Shrinks, LacksRoom, Gave}
+use Rattle.deku_bits.specs.Devices.{SinkTold, Shrinks, LacksRoom, Gave}
 use Rattle.deku_bits.specs.Pushing.{GaveUp}
-
--- ---- counts of failures
-NotFewer-same : (a : Option ℕ) → NotFewer a a
-NotFewer-same None = tt
-NotFewer-same (Some x) = omega arith
-
-NotFewer-trans : (a b c : Option ℕ) → NotFewer a b → NotFewer b c → NotFewer a c
-NotFewer-trans None b c p q = tt
-NotFewer-trans (Some x) None c p q = absurd p
-NotFewer-trans (Some x) (Some y) None p q = absurd q
-NotFewer-trans (Some x) (Some y) (Some z) p q = omega arith
-
-More-after : (a b c : Option ℕ) → NotFewer a b → More b c → More a c
-More-after None b c p q = tt
-More-after (Some x) None c p q = absurd p
-More-after (Some x) (Some y) None p q = absurd q
-More-after (Some x) (Some y) (Some z) p q = omega arith
-
-pub none_fewer : (a : Health) → NoFewerFailures a a
-none_fewer a = record { failures = NotFewer-same a.failures; lenders = refl }
-
-none_fewer-trans : (a b c : Health) → NoFewerFailures a b → NoFewerFailures b c → NoFewerFailures a c
-none_fewer-trans a b c p q = record { failures = NotFewer-trans a.failures b.failures c.failures p.failures q.failures; lenders = q.lenders ∙ p.lenders }
-
-more_after : (a b c : Health) → NoFewerFailures a b → MoreFailures b c → MoreFailures a c
-more_after a b c p q = record { failures = More-after a.failures b.failures c.failures p.failures q.failures; lenders = q.lenders ∙ p.lenders }
+use Rattle.deku_bits.proofs.Handing.{no_fewer_same, no_fewer_on, more_on}
 
 -- ---- room
 pub Shrinks-none : (a : Option (List ℕ)) → Shrinks a a 0
@@ -58,13 +33,13 @@ LacksRoom-more (Some x) m n k l p = (p.0, omega (arith, p.1))
 
 -- ---- transfers
 pub Gave-nil : (a : SinkTold) → Gave a a []
-Gave-nil a = record { taken = Appends-nil a.taken; room = Shrinks-none a.room; health = none_fewer a.health }
+Gave-nil a = record { taken = Appends-nil a.taken; room = Shrinks-none a.room; health = no_fewer_same a.health }
 
 pub Gave-trans : (a b c : SinkTold) (xs ys : List ℕ) → Gave a b xs → Gave b c ys → Gave a c (xs ++ ys)
 Gave-trans a b c xs ys p q = record {
   taken = Appends-trans a.taken b.taken c.taken xs ys p.taken q.taken;
   room = rw length-append (Shrinks-trans a.room b.room c.room (length xs) (length ys) p.room q.room);
-  health = none_fewer-trans a.health b.health c.health p.health q.health;
+  health = no_fewer_on a.health b.health c.health p.health q.health;
 }
 
 -- bytes were taken, and then not all of n bytes
@@ -73,10 +48,10 @@ gave_up-after a b c xs n k p q = record {
   some = omega (arith, q.some);
   declined = record {
     cause = elim q.declined.cause [
-      | inl r ↦ inl (more_after a.health b.health c.health p.health r)
+      | inl r ↦ inl (more_on a.health b.health c.health p.health r)
       | inr r ↦ inr (LacksRoom-after a.room b.room (length xs) n k p.room r)
     ];
-    health = none_fewer-trans a.health b.health c.health p.health q.declined.health;
+    health = no_fewer_on a.health b.health c.health p.health q.declined.health;
   };
 }
 

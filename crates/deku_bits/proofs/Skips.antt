@@ -253,9 +253,10 @@ peeks_end w (Some xs) c u f g e few stays kept =
     Quiet (inl (omega (arith, normal-count (at w xs)), refl), ap (λ k. Going (stream_of w k) c) same) kept
 
 -- ---- a skip of no more bits than there are
-left-count : (o : Order) (n : ℕ) (S : Stream) → Has n S → bit_count (left o n S) ≡ bit_count S - n
+-- what is left of a stream has the bits that were not taken
+pub left_count : (o : Order) (n : ℕ) (S : Stream) → Has n S → n + bit_count (left o n S) ≡ bit_count S
 unfolding left
-left-count o n S h =
+left_count o n S h =
     let k : ℕ = touched n S in
     let bits : List Bool = facing o S.window ++ flow o (take k S.bytes) in
     omega (
@@ -274,4 +275,4 @@ pub skip_finds : (o : Order) (n : ℕ) (S : Stream) → length S.window ≤ 8 �
 skip_finds o n S l h =
     let c : ℕ = min n (length S.window) in
     let q : ℕ = (n - c) / 8 in
-    omega (arith, left-count o c S (omega arith), length-drop q (left o c S).bytes)
+    omega (arith, left_count o c S (omega arith), length-drop q (left o c S).bytes)

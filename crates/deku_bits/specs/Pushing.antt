@@ -1,15 +1,12 @@
 -- Bits that go out through a byte that fills.
-use Rattle.std.specs.Prelude.{◌≡◌, ℕ, ◌%◌, ◌<◌, List, Bool, true, false, ◌++◌, length, reverse, flat_map, Option, None, Some, ⊤}
+use Rattle.std.specs.Prelude.{◌≡◌, ℕ, ◌%◌, ◌<◌, List, Bool, true, false, ◌++◌, length, reverse, flat_map, ⊤}
 use Rattle.std.specs.declared.io.ErrorKind.{ErrorKind}
 use Rattle.deku_bits.specs.declared.ctx.Order.{Order}
-use Rattle.deku_bits.specs.declared.error.Fault.{Fault}
 use Rattle.deku_bits.specs.declared.writer.way.Way.{Way}
 use Rattle.deku_bits.specs.declared.writer.way.Way.TheVariants.{Forward, Backward, TurnedBytes, BytesBackward}
 use Rattle.deku_bits.specs.Bits.{chunks, facing}
 use Rattle.deku_bits.specs.Writers.{Pending, held, remainder, cut, append}
 use Rattle.deku_bits.specs.Devices.{SinkTold, Gave, Declined}
-use Rattle.deku_bits.specs.Standings.{Standing, Going, Stopped}
-use Rattle.deku_bits.specs.Faults.{error_of}
 
 -- the bits of a list on a way through it
 abbrev pub along : Way → List Bool → List Bool
@@ -49,8 +46,3 @@ pub record PushedOnto (old new : SinkTold) (from to : Order) (before after bits 
   pub gave : Gave old new (append to bits (waiting from before)).bytes
   pub rest : waiting to after ≡ (append to bits (waiting from before)).pending
   pub short : length after < 8
-
--- where a writer stands
-abbrev pub standing_of : Order → List Bool → ℕ → Option Fault → Standing Pending
-standing_of o h count None = Going (waiting o h) count
-standing_of o h count (Some fault) = Stopped (error_of fault) count

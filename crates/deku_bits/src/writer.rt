@@ -58,11 +58,12 @@ impl Model for Progress {
     ghost use Rattle.std.specs.Prelude.{◌<◌, length};
     ghost use Rattle.deku_bits.specs.Writers.{Pending};
     ghost use Rattle.deku_bits.specs.Standings.{Standing};
-    ghost use Rattle.deku_bits.specs.Pushing.{standing_of};
+    ghost use Rattle.deku_bits.specs.Pushing.{waiting};
+    ghost use Rattle.deku_bits.specs.Kept.{standing_of};
 
     ghost Value = { Standing Pending };
 
-    ghost view = { λ a. standing_of a.order a.held a.bits_written a.fault };
+    ghost view = { λ a. standing_of (waiting a.order a.held) a.fault a.bits_written };
 
     ghost invariant = { λ a. length a.held < 8 };
 }

@@ -1,15 +1,12 @@
 -- What a list reads from bytes that begin with its layout.
-use Rattle.std.proofs.Common.{◌≡◌, ℕ, ◌<◌, ◌^◌, false, Result, Ok, Err, Option, Some, None, OnOk, ne_eqb, List, [], ◌∷◌, ◌++◌, map, drop, All, Bool, refl, ap, sym, ◌∙◌, subst, inl, inr, arith, ◌+◌, ◌*◌, length, take, length-drop, length-append}
-use Rattle.std.proofs.lemmas.List.{length-take}
+use Rattle.std.proofs.Common.{◌≡◌, ℕ, ◌<◌, ◌^◌, false, Result, Ok, Err, Option, Some, None, OnOk, ne_eqb, List, [], ◌∷◌, ◌++◌, map, All, Bool, refl, ap, sym, ◌∙◌, subst, inl, inr, arith, ◌+◌, ◌*◌, length}
 use Rattle.std.proofs.lemmas.List.Elements.{All-cons, All-head, All-nil, All-tail}
 use Rattle.std.specs.declared.io.ErrorKind.TheVariants.{OutOfMemory}
 use Rattle.deku_bits.specs.declared.error.DekuError.{DekuError}
 use Rattle.deku_bits.specs.declared.error.DekuError.TheVariants.{Io}
 use Rattle.deku_bits.specs.declared.ctx.Order.{Order}
-use Rattle.deku_bits.specs.Bits.{facing}
-use Rattle.deku_bits.specs.Streams.{Stream, Has, bit_count, flow, left, touched, fresh, normal}
-use Rattle.deku_bits.proofs.Binary.{length-facing}
-use Rattle.deku_bits.proofs.Cuts.{length-flow}
+use Rattle.deku_bits.specs.Streams.{Stream, bit_count, left, fresh, normal}
+use Rattle.deku_bits.proofs.Skips.{left_count}
 use Rattle.deku_bits.specs.Pieces.{laid_out, total}
 use Rattle.deku_bits.specs.Devices.{Health}
 use Rattle.deku_bits.specs.Outcomes.{Outcome}
@@ -30,25 +27,7 @@ allowed_all : (items : List Item) → All IsFitting items → All IsAllowedField
 allowed_all [] all = All-nil IsAllowedField
 allowed_all (i ∷ is) all = All-cons IsAllowedField i.field (fields_of is) (All-head IsFitting i is all).allowed (allowed_all is (All-tail IsFitting i is all))
 
--- what is left of a stream has the bits that were not taken
-left_count : (o : Order) (n : ℕ) (S : Stream) → Has n S → n + bit_count (left o n S) ≡ bit_count S
-unfolding left
-left_count o n S h =
-    let k : ℕ = touched n S in
-    let bits : List Bool = facing o S.window ++ flow o (take k S.bytes) in
-    omega (
-      arith,
-      h,
-      length-facing o (drop n bits),
-      length-drop n bits,
-      length-append (facing o S.window) (flow o (take k S.bytes)),
-      length-facing o S.window,
-      length-flow o (take k S.bytes),
-      length-take k S.bytes,
-      length-drop k S.bytes,
-    )
-
--- and so for fields
+-- what fields leave of a stream has the bits that they did not take
 reads_count : (fs : List Field) (ns : List Number) (S T : Stream) → Reads fs S ns T → total (map field_shape fs) + bit_count T ≡ bit_count S
 reads_count [] [] S T r = let same : bit_count T ≡ bit_count S = ap bit_count (sym r) in omega (arith, same)
 reads_count [] (n ∷ ns) S T r = absurd r

@@ -1,17 +1,19 @@
 -- A value of a type of whole bytes is written as the bits of its type.
-use Rattle.std.proofs.Common.{ℕ, zero, suc, ◌%◌, ◌^◌, ◌<◌, ◌≡◌, inl, inr, Bool, true, false, List, length, ℤ, pos, neg_ℤ, ◌≤ℤ◌, ◌<ℤ◌, refl, ap, sym, ◌∙◌, arith, subst}
+use Rattle.std.proofs.Common.{ℕ, zero, suc, ◌%◌, ◌^◌, ◌<◌, ◌≡◌, inl, inr, Bool, true, false, List, Result, ℤ, pos, neg_ℤ, ◌≤ℤ◌, ◌<ℤ◌, refl, ap, sym, ◌∙◌, arith, subst}
 use Rattle.deku_bits.specs.declared.ctx.Order.{Order}
 use Rattle.deku_bits.specs.declared.ctx.Order.TheVariants.{Msb0, Lsb0}
 use Rattle.deku_bits.specs.Bits.{shown}
+use Rattle.deku_bits.specs.declared.error.DekuError.{DekuError}
+use Rattle.deku_bits.specs.Standings.{Standing, Output}
 use Rattle.deku_bits.specs.WriterCalls.{WritesBits}
 use Rattle.deku_num.specs.declared.ctx.Endian.{Endian}
 use Rattle.deku_num.specs.declared.ctx.Endian.TheVariants.{Little, Big}
 use Rattle.deku_num.specs.NumberLaws.{InType, InRange}
-use Rattle.deku_num.specs.Numbers.{width, sized_width, IsEvenWhere, IsAllowed, IsFieldOf, IsListWhere, cuts}
+use Rattle.deku_num.specs.Numbers.{width, sized_width, IsEvenWhere, IsAllowed, IsFieldOf}
 use Rattle.deku_num.specs.NumberCalls.{Refused, Passed, WritesNumber, SizeLaw}
 use Rattle.deku_num.proofs.Ranges.{range_whole}
 use Rattle.deku_num.proofs.Values.{field_law}
-use Rattle.deku_num.proofs.FieldBits.{listed_for}
+use Rattle.deku_num.proofs.FieldBits.{listed_for, one_list}
 
 even_whole : (g : Bool) (e : Endian) (o : Order) (n : ℕ) → n % 8 ≡ 0 → IsEvenWhere g e o n
 even_whole false e o n d = refl
@@ -25,32 +27,28 @@ range_of_type true e o (suc n) v p d i = subst (λ k. (neg_ℤ (pos (2 ^ k)) ≤
 range_of_type false e o n v p d i = (i.0, i.1, range_whole e o n i.0 d i.2)
 
 pub size_law : SizeLaw
-size_law t l v p d w i b s r u m = go m
+size_law t l v i = (field.0, field.1.wide ∙ wide, written)
   where
     wide : width t l ≡ t.bits
-    wide = ap (sized_width t) w
+    wide = ap (sized_width t) i.whole
 
     even : width t l % 8 ≡ 0
-    even = ap (λ n. n % 8) wide ∙ d
+    even = ap (λ n. n % 8) wide ∙ i.bytes
 
     allowed : IsAllowed t l
     allowed = record { within = omega (arith, wide); even = even_whole t.signed l.endian l.order (width t l) even }
 
     in_range : InRange t.signed l.endian l.order (width t l) v
-    in_range = range_of_type t.signed l.endian l.order (width t l) v (omega (arith, wide, p)) even (subst (λ n. InType t.signed n v) (sym wide) i)
+    in_range = range_of_type t.signed l.endian l.order (width t l) v (omega (arith, wide, i.some)) even (subst (λ n. InType t.signed n v) (sym wide) i.in_type)
 
     field : (bits : List Bool) × IsFieldOf t l v bits
     field = (field_law t l allowed v).0.1 in_range
 
-    width_of : (c : Bool) → c ≡ false → (bits : List Bool) → IsListWhere c t l v bits → length bits ≡ t.bits
-    width_of false q bits f = f.wide ∙ wide
-    width_of true q bits f = f.wide ∙ wide
-
-    Written : Type 0
-    Written = (bits : List Bool) × (length bits ≡ t.bits) × WritesBits l.order (shown l.order bits) b s r u
-
-    go : WritesNumber t l v b s r u → Written
-    go (Refused q (inl k)) = absurd (omega (arith, k.0, wide))
-    go (Refused q (inr k)) = absurd (k.1 allowed.even)
-    go (Passed (Refused q k)) = absurd (k.0 field.0 (listed_for t l v field.0 field.1))
-    go (Passed (Passed k)) = (k.1.0, width_of (cuts l.size) (ap cuts w) k.1.0 k.1.1, k.1.2)
+    written : (b : Bool) (s : Standing Output) (r : Result (Unit {0}) DekuError) (u : Standing Output) → WritesNumber t l v b s r u
+        → WritesBits l.order (shown l.order field.0) b s r u
+    written b s r u (Refused q (inl k)) = absurd (omega (arith, k.0, wide))
+    written b s r u (Refused q (inr k)) = absurd (k.1 allowed.even)
+    written b s r u (Passed (Refused q k)) = absurd (k.0 field.0 (listed_for t l v field.0 field.1))
+    written b s r u (Passed (Passed k)) =
+        let same : k.1.0 ≡ field.0 = one_list t l v k.1.0 field.0 allowed k.1.1 (listed_for t l v field.0 field.1) in
+        subst (λ bits. WritesBits l.order (shown l.order bits) b s r u) same k.1.2

@@ -58,9 +58,16 @@ IsLayoutRefusal refusal text t l e = ((t.bits < width t l) × Tells refusal text
 abbrev pub ReadsUnsigned : NumberType → Layout → Meaning (Option Stream) ℕ
 ReadsUnsigned t l b s r u = ReadsNumber t l b s (integers r) u
 
--- A value of a type of whole bytes is written under a layout of its whole size as exactly the bits of its type, and it is never refused
--- for its layout or its value.
+-- a value of a type of whole bytes, under a layout of the type's whole size
+pub record IsWhole (t : NumberType) (l : Layout) (v : ℤ) : Type 0 where
+  pub some : 0 < t.bits
+  pub bytes : t.bits % 8 ≡ 0
+  pub whole : l.size ≡ Whole
+  pub in_type : InType t.signed t.bits v
+
+-- A value under a layout of its type's whole size is written as exactly the bits of its type, and it is never refused for its layout or
+-- for what it is.
 abbrev pub SizeLaw : Type 0
-SizeLaw = (t : NumberType) (l : Layout) (v : ℤ) → 0 < t.bits → t.bits % 8 ≡ 0 → l.size ≡ Whole → InType t.signed t.bits v
-    → (b : Bool) (s : Standing Output) (r : Result (Unit {0}) DekuError) (u : Standing Output) → WritesNumber t l v b s r u
-    → (bits : List Bool) × (length bits ≡ t.bits) × WritesBits l.order (shown l.order bits) b s r u
+SizeLaw = (t : NumberType) (l : Layout) (v : ℤ) → IsWhole t l v
+    → (bits : List Bool) × (length bits ≡ t.bits)
+    × ((b : Bool) (s : Standing Output) (r : Result (Unit {0}) DekuError) (u : Standing Output) → WritesNumber t l v b s r u → WritesBits l.order (shown l.order bits) b s r u)
