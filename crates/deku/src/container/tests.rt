@@ -57,18 +57,16 @@ fn expect_refused<T: DekuContainerRead>(
 fn expect_taken<T: DekuContainerRead + PartialEq + Debug>(
     rt: &impl Abort,
     alloc: Global,
-    input: (&mut Cursor<&[u8]>, usize),
+    source: &mut Cursor<&[u8]>,
+    bits: usize,
     want: (usize, T),
     place: u64,
 ) -> Result<(), Fail>
     requires { T.accepts tt }
 {
-    let bits = input.1;
-    let source = input.0;
-    let (count, value) = T::from_reader(alloc, (&mut *source, bits))?;
-    assert_eq!(rt; value, want.1);
-    assert_eq!(rt; count, want.0, "{value:?}");
-    assert_eq!(rt; source.position(), place, "{value:?}");
+    let read = T::from_reader(alloc, (source, bits))?;
+    assert_eq!(rt; read, want);
+    assert_eq!(rt; source.position(), place, "{bits} bits left out");
     Ok(())
 }
 
@@ -148,15 +146,15 @@ fn reads_from_a_source(rt: HostRuntime) -> Result<(), Fail> {
     let alloc = rt.alloc();
     let octet = |value| Octet { value };
     let mut source = Cursor::new([0x12, 0x34, 0x56].as_slice());
-    expect_taken(&rt, alloc, (&mut source, 0), (8, octet(0x12)), 1)?;
-    expect_taken(&rt, alloc, (&mut source, 0), (8, octet(0x34)), 2)?;
-    expect_taken(&rt, alloc, (&mut source, 0), (8, octet(0x56)), 3)?;
+    expect_taken(&rt, alloc, &mut source, 0, (8, octet(0x12)), 1)?;
+    expect_taken(&rt, alloc, &mut source, 0, (8, octet(0x34)), 2)?;
+    expect_taken(&rt, alloc, &mut source, 0, (8, octet(0x56)), 3)?;
     source.set_position(0);
-    expect_taken(&rt, alloc, (&mut source, 4), (12, octet(0x23)), 2)?;
+    expect_taken(&rt, alloc, &mut source, 4, (12, octet(0x23)), 2)?;
     source.set_position(0);
-    expect_taken(&rt, alloc, (&mut source, 16), (24, octet(0x56)), 3)?;
+    expect_taken(&rt, alloc, &mut source, 16, (24, octet(0x56)), 3)?;
     source.set_position(0);
-    expect_taken(&rt, alloc, (&mut source, 9), (9, Empty {}), 2)?;
+    expect_taken(&rt, alloc, &mut source, 9, (9, Empty {}), 2)?;
     source.set_position(0);
     match Octet::from_reader(alloc, (&mut source, 20)) {
         Ok(_) => assert!(rt; false),

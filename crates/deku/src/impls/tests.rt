@@ -89,6 +89,20 @@ fn expect_reads<T: DekuReader<Layout> + PartialEq + Debug>(
     Ok(())
 }
 
+// Writes the value over a page, fills the last byte, and tells how many bytes it took.
+fn written_over<T: DekuWriter<Layout>>(
+    page: &mut [u8; 16],
+    value: &T,
+    layout: Layout,
+) -> Result<u64, DekuError>
+    requires { (layout : Layout) → T.accepts layout }
+{
+    let mut writer = Writer::new(Cursor::new(page.as_mut_slice()));
+    value.to_writer(&mut writer, layout)?;
+    writer.finalize()?;
+    Ok(writer.into_inner().position())
+}
+
 // Each row's value is written as its bytes.
 fn expect_writes<T: DekuWriter<Layout> + Debug>(
     rt: &impl Abort,
@@ -103,17 +117,10 @@ fn expect_writes<T: DekuWriter<Layout> + Debug>(
             order: *order,
             size: *size,
         };
-        let mut written = [0xA5; 16];
-        let mut writer = Writer::new(Cursor::new(written.as_mut_slice()));
-        value.to_writer(&mut writer, layout)?;
-        writer.finalize()?;
-        let end = writer.into_inner().position() as usize;
-        assert!(rt; end <= 16, "{value:?} under {layout:?}");
-        assert_eq!(rt;
-            &written[..end],
-            &bytes[..len],
-            "{value:?} under {layout:?}"
-        );
+        let mut page = [0xA5; 16];
+        let end = written_over(&mut page, value, layout)?;
+        assert_eq!(rt; end, len as u64, "{value:?} under {layout:?}");
+        assert_eq!(rt; &page[..len], &bytes[..len], "{value:?} under {layout:?}");
     }
     Ok(())
 }

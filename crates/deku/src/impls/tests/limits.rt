@@ -164,18 +164,23 @@ fn up_to_the_end(rt: HostRuntime) -> Result<(), Fail> {
 // What raises no count is refused where the list does not end with it.
 #[test]
 fn items_without_width(rt: HostRuntime) -> Result<(), Fail> {
-    let mut reader = Reader::new(rt.alloc(), Cursor::new([1, 2, 3, 4].as_slice()));
+    let mut reader = Reader::new(rt.alloc(), Cursor::new([1, 2].as_slice()));
     let always = Limit::new_until(|_: &()| true);
     let one = Vec::<()>::from_reader_with_ctx(&mut reader, always)?;
     assert_eq!(rt; one.len(), 1);
     let never = Limit::new_until(|_: &()| false);
     let items = Vec::<()>::from_reader_with_ctx(&mut reader, never);
-    expect_refused(&rt, &mut reader, items, (NO_WIDTH, 0, 1))?;
+    expect_refused(&rt, &mut reader, items, (NO_WIDTH, 0, 1))
+}
+
+#[test]
+fn items_without_width_up_to_an_end(rt: HostRuntime) -> Result<(), Fail> {
+    let mut reader = Reader::new(rt.alloc(), Cursor::new([1, 2, 3].as_slice()));
     let bytes = Limit::new_byte_size(ByteSize(1));
     let items = Vec::<[u8; 0]>::from_reader_with_ctx(&mut reader, bytes);
-    expect_refused(&rt, &mut reader, items, (NO_WIDTH, 8, 2))?;
+    expect_refused(&rt, &mut reader, items, (NO_WIDTH, 0, 1))?;
     let items = Vec::<()>::from_reader_with_ctx(&mut reader, Limit::end());
-    expect_refused(&rt, &mut reader, items, (NO_WIDTH, 16, 3))
+    expect_refused(&rt, &mut reader, items, (NO_WIDTH, 8, 2))
 }
 
 #[test]
