@@ -1,5 +1,5 @@
 -- The worked examples of lists of fields, by computation; of items that do not fit, by the law of fields.
-use Rattle.std.proofs.Common.{ℕ, ◌%◌, ◌≡◌, ◌≤◌, Bool, true, List, [], ◌∷◌, length, map, ℤ, pos, refl, arith, inl, inr, ⊎_elim, All}
+use Rattle.std.proofs.Common.{ℕ, ◌%◌, ◌≡◌, ◌≤◌, Bool, true, List, [], ◌∷◌, length, map, ℤ, pos, refl, sym, ap, ◌∙◌, arith, inl, inr, ⊎_elim, All}
 use Rattle.std.proofs.lemmas.Int.{ints}
 use Rattle.std.proofs.lemmas.List.Elements.{All-nil, All-cons}
 use Rattle.deku_bits.specs.declared.ctx.Order.TheVariants.{Msb0, Lsb0}
@@ -17,8 +17,9 @@ use Rattle.deku_num.proofs.WorkedRows.{plain, allowed_all}
 use Rattle.deku_fields.specs.declared.list.Number.{Number}
 use Rattle.deku_fields.specs.declared.list.Field.{Field}
 use Rattle.deku_fields.specs.declared.list.Item.{Item}
-use Rattle.deku_fields.specs.Items.{IsNumber, number_type, field_width, IsWorth, IsPieceOf, IsFitting, ArePieces, AlignedFields, Reads, fields_of, values_of}
-use Rattle.deku_fields.specs.Rows.{BothWays, ListRows, TurnedRows, MisfitRows}
+use Rattle.deku_fields.specs.Items.{IsNumber, number_type, field_width, IsWorth, IsPieceOf, IsFitting, ArePieces, LaysOut, AlignedFields, Reads, fields_of, values_of}
+use Rattle.deku_fields.specs.Rows.{BothWays, ListRows, PromiseRows, TurnedRows, MisfitRows, word_items}
+use Rattle.deku_fields.proofs.FieldLists.{layout_law}
 
 -- the types and layouts of items
 abbrev places : List Item → Places
@@ -125,6 +126,18 @@ list_rows = record {
       refl refl (fresh [])
       (omega arith, worth refl refl, (omega arith, worth refl refl, (omega arith, worth refl refl, (omega arith, worth refl refl, refl)))) refl;
 }
+
+pub promise_rows : PromiseRows
+promise_rows =
+    let row : BothWays word_items (0x69 ∷ 0xC0 ∷ 0xFE ∷ []) = list_rows.halves_and_word in
+    let same : (bytes : List ℕ) → LaysOut word_items bytes → bytes ≡ 0x69 ∷ 0xC0 ∷ 0xFE ∷ [] = λ bytes l.
+        let law = layout_law word_items row.fitting in
+        law.2 bytes l ∙ sym (law.2 (0x69 ∷ 0xC0 ∷ 0xFE ∷ []) row.laid) in
+    record {
+      begins = record { of_fields = refl; fitting = row.fitting; aligned = row.aligned; written = 0x69 ∷ 0xC0 ∷ 0xFE ∷ []; laid = row.laid; begins = refl };
+      fills = record { fitting = row.fitting; aligned = row.aligned; laid = row.laid; none = refl; room = omega arith; countable = omega arith };
+      countable = λ bytes l. let n : length bytes ≡ 3 = ap length (same bytes l) in omega (arith, n);
+    }
 
 pub turned_rows : TurnedRows
 unfolding bits_of byte_bits shown taken left append padded appended laid_out number value

@@ -1,8 +1,9 @@
 -- Worked examples of lists of fields, as theorems that compute.
-use Rattle.std.specs.Prelude.{ℕ, ◌≡◌, List, [], ◌∷◌, pos, neg_ℤ, All}
+use Rattle.std.specs.Prelude.{ℕ, ◌≡◌, List, [], ◌∷◌, Some, pos, neg_ℤ, All}
 use Rattle.deku_bits.specs.Bits.{bits_of}
 use Rattle.deku_bits.specs.Streams.{Stream, fresh}
 use Rattle.deku_bits.specs.Pieces.{Piece}
+use Rattle.deku_bits.specs.Writers.{Nothing}
 use Rattle.deku_bits.specs.Symmetry.{packed}
 use Rattle.deku_bits.specs.Rows.{stream}
 use Rattle.deku_num.specs.declared.ctx.Size.TheVariants.{Whole, Bits, Bytes}
@@ -14,6 +15,7 @@ use Rattle.deku_fields.specs.declared.list.Number.{Number}
 use Rattle.deku_fields.specs.declared.list.Number.TheVariants.{Unsigned, Signed}
 use Rattle.deku_fields.specs.declared.list.Item.{Item}
 use Rattle.deku_fields.specs.Items.{IsFitting, ArePieces, LaysOut, AlignedFields, Reads, fields_of, values_of}
+use Rattle.deku_fields.specs.Promise.{Begins, Fills, IsCountable}
 
 -- a field with its value
 abbrev pub item : Kind → Layout → Number → Item
@@ -34,6 +36,10 @@ pub record BothWays (items : List Item) (bytes : List ℕ) : Type 0 where
   pub rest : Stream
   pub read : Reads (fields_of items) (fresh bytes) (values_of items) rest
   pub touched : rest.bytes ≡ []
+
+-- two halves of a byte and two bytes
+abbrev pub word_items : List Item
+word_items = item U8 (big_msb (Bits 4)) (Unsigned 6) ∷ item U8 (big_msb (Bits 4)) (Unsigned 9) ∷ item U16 (big_msb Whole) (Unsigned 49406) ∷ []
 
 -- three bits in `Msb0`, then nine in `Lsb0`: the order changes inside a byte
 abbrev pub turned_items : List Item
@@ -56,9 +62,7 @@ pub record ListRows : Type 0 where
   -- the greatest such number
   pub thirteen_greatest : BothWays (item U16 (big_lsb (Bits 13)) (Unsigned 0xFF1F) ∷ []) (0xFF ∷ 0x1F ∷ [])
   -- two halves of a byte and two bytes
-  pub halves_and_word : BothWays
-      (item U8 (big_msb (Bits 4)) (Unsigned 6) ∷ item U8 (big_msb (Bits 4)) (Unsigned 9) ∷ item U16 (big_msb Whole) (Unsigned 49406) ∷ [])
-      (0x69 ∷ 0xC0 ∷ 0xFE ∷ [])
+  pub halves_and_word : BothWays word_items (0x69 ∷ 0xC0 ∷ 0xFE ∷ [])
   -- thirteen and three bits in `Lsb0`, high group first
   pub thirteen_and_three : BothWays
       (item U16 (big_lsb (Bits 13)) (Unsigned 65311) ∷ item U8 (big_lsb (Bits 3)) (Unsigned 7) ∷ [])
@@ -95,6 +99,15 @@ pub record TurnedRows : Type 0 where
   pub written : WrittenAs turned_items (0xB0 ∷ 0x01 ∷ [])
   -- other numbers are read from the bytes
   pub read : Reads (fields_of turned_items) (fresh (0xB0 ∷ 0x01 ∷ [])) (Unsigned 5 ∷ Unsigned 48 ∷ []) (stream (bits_of 4 0b0000) [])
+
+-- What the promises ask for is met.
+pub record PromiseRows : Type 0 where
+  -- bytes that begin with a layout, and one behind them
+  pub begins : Begins (fields_of word_items) word_items (0x69 ∷ 0xC0 ∷ 0xFE ∷ 0xAA ∷ []) (0xAA ∷ [])
+  -- a slice of four bytes has the room for it
+  pub fills : Fills word_items (0x69 ∷ 0xC0 ∷ 0xFE ∷ []) (record { taken = Some []; room = Some (0 ∷ 0 ∷ 0 ∷ 0 ∷ []); pending = Nothing }) 0
+  -- its bits can be counted
+  pub countable : IsCountable word_items
 
 -- Items that do not fit.
 pub record MisfitRows : Type 0 where

@@ -3,7 +3,7 @@
 ghost use Rattle.deku_fields.specs.Cuts.{WriteCutLaw, WriteCallsLaw, WritePartsLaw, ReadCutLaw, ReadCallsLaw, LookLaw, ReadPartsLaw};
 ghost use Rattle.deku_fields.specs.Headline.{PieceLaw, LayoutLaw, ThereLaw, BackLaw, CallsLaw};
 ghost use Rattle.deku_fields.specs.Promise.{PaddedLaw};
-ghost use Rattle.deku_fields.specs.Rows.{ListRows, TurnedRows, MisfitRows};
+ghost use Rattle.deku_fields.specs.Rows.{ListRows, PromiseRows, TurnedRows, MisfitRows};
 
 /// Fitting items have pieces, and these pieces alone.
 pub fn piece_law()
@@ -74,6 +74,11 @@ pub fn read_parts_law()
 /// Worked examples of lists of fields, read and written.
 pub fn list_rows()
     ensures { ListRows }
+{}
+
+/// Worked examples of what the promises of list calls ask for.
+pub fn promise_rows()
+    ensures { PromiseRows }
 {}
 
 /// A worked example of a list whose order changes inside a byte.
