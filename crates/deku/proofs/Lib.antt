@@ -16,3 +16,4 @@ pub mod Bytes
 pub mod Emitting
 pub mod Vectors
 pub mod Containers
+pub mod WorkedRows

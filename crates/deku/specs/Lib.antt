@@ -25,4 +25,5 @@ pub mod Extents
 pub mod Limits
 pub mod Walks
 pub mod VectorLaws
+pub mod Rows
 pub mod Wholes

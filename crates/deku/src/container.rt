@@ -161,6 +161,7 @@ pub trait DekuContainerWrite: DekuWriter<()> {
     {
         let mut writer = Writer::new(Cursor::new(Vec::new(alloc)));
         self.to_writer(&mut writer, ())?;
+        // What it tells fits a `usize`, by which the proof knows that no bit more passes it.
         let _count = writer.bits_written();
         writer.write_bits(&[])?;
         let (pending, _order) = writer.leftover();

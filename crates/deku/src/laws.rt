@@ -5,6 +5,7 @@ ghost use Rattle.std.specs.List.{All};
 ghost use Rattle.deku.specs.Composing.{Both, WritesEach};
 ghost use Rattle.deku.specs.Extents.{IsSized, NumberSizeLaw};
 ghost use Rattle.deku.specs.VectorLaws.{VectorLaw};
+ghost use Rattle.deku.specs.Rows.{VectorRows};
 
 use crate::traits::DekuWriter;
 
@@ -39,4 +40,9 @@ pub fn items_size_law<Ctx: Copy, T: DekuWriter<Ctx>>()
 /// count of its length as itself, whatever follows; the one refusal is that no memory is found.
 pub fn vector_law()
     ensures { VectorLaw }
+{}
+
+/// Worked examples of vectors that are written.
+pub fn vector_rows()
+    ensures { VectorRows }
 {}

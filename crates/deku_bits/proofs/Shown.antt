@@ -63,7 +63,7 @@ shown_high s = refl
 
 -- whole bytes are shown byte by byte
 pub shown_whole : (s : List Bool) → length s % 8 ≡ 0 → shown Lsb0 s ≡ flat_map reverse (chunks s)
-unfolding turned shown
+unfolding shown
 shown_whole s h = shown_even s h
 
 -- other lists are reversed

@@ -82,6 +82,17 @@ fn expect_written<T: DekuContainerWrite + Debug>(
 {
     assert_eq!(rt; value.to_bytes(alloc)?.as_slice(), bytes, "{value:?}");
     assert_eq!(rt; value.to_bits(alloc)?.as_slice(), bits, "{value:?}");
+    expect_over(rt, value, bytes)
+}
+
+// The value is written as these bytes over a slice, and what is behind them stays.
+fn expect_over<T: DekuContainerWrite + Debug>(
+    rt: &impl Abort,
+    value: &T,
+    bytes: &[u8],
+) -> Result<(), Fail>
+    requires { T.accepts tt }
+{
     let mut page = [0xA5; 4];
     assert!(rt; bytes.len() <= 4);
     assert_eq!(rt; value.to_slice(&mut page), Ok(bytes.len()), "{value:?}");

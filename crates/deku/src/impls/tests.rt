@@ -139,22 +139,60 @@ fn expect_misfits<T: DekuWriter<Layout> + Debug>(
             order: *order,
             size: Size::Bits(*bits),
         };
-        let mut writer = Writer::new(Cursor::new(Vec::new(alloc)));
-        assert_eq!(rt;
-            value.to_writer(&mut writer, layout),
-            Err(MISFIT),
-            "{value:?} under {layout:?}"
-        );
-        writer.finalize()?;
-        assert!(rt;
-            writer.into_inner().into_inner().is_empty(),
-            "{value:?} under {layout:?}"
-        );
+        expect_unwritten(rt, alloc, value, layout, MISFIT)?;
     }
     Ok(())
 }
 
-// A size refuses to be read and to be written with these errors, and nothing moves.
+// A layout refuses to be read with this error, and the reader stands where it stood.
+fn expect_unread<T: DekuReader<Layout> + Debug>(
+    rt: &impl Abort,
+    alloc: Global,
+    layout: Layout,
+    error: DekuError,
+) -> Result<(), Fail>
+    requires { (layout : Layout) → T.accepts layout }
+{
+    let bytes: &[u8] = &[0xA5; 24];
+    let mut reader = Reader::new(alloc, Cursor::new(bytes));
+    assert_eq!(rt;
+        T::from_reader_with_ctx(&mut reader, layout).err(),
+        Some(error),
+        "under {layout:?}"
+    );
+    assert_eq!(rt; reader.bits_read(), 0, "under {layout:?}");
+    let mut byte = [0];
+    reader.read_bytes_const_into(&mut byte, Order::Msb0)?;
+    assert_eq!(rt; byte, [0xA5], "under {layout:?}");
+    assert_eq!(rt; reader.into_inner().position(), 1, "under {layout:?}");
+    Ok(())
+}
+
+// A layout refuses to be written with this error, and nothing is written.
+fn expect_unwritten<T: DekuWriter<Layout> + Debug>(
+    rt: &impl Abort,
+    alloc: Global,
+    value: &T,
+    layout: Layout,
+    error: DekuError,
+) -> Result<(), Fail>
+    requires { (layout : Layout) → T.accepts layout }
+{
+    let mut writer = Writer::new(Cursor::new(Vec::new(alloc)));
+    assert_eq!(rt;
+        value.to_writer(&mut writer, layout),
+        Err(error),
+        "{value:?} under {layout:?}"
+    );
+    writer.finalize()?;
+    assert!(rt;
+        writer.into_inner().into_inner().is_empty(),
+        "{value:?} under {layout:?}"
+    );
+    Ok(())
+}
+
+// A layout refuses to be read and to be written with these errors, and nothing moves.
 fn expect_beyond<T: DekuReader<Layout> + DekuWriter<Layout> + Debug>(
     rt: &impl Abort,
     alloc: Global,
@@ -165,30 +203,8 @@ fn expect_beyond<T: DekuReader<Layout> + DekuWriter<Layout> + Debug>(
     requires reads { (layout : Layout) → T.DekuReader.accepts layout }
     requires writes { (layout : Layout) → T.DekuWriter.accepts layout }
 {
-    let bytes: &[u8] = &[0xA5; 24];
-    let mut reader = Reader::new(alloc, Cursor::new(bytes));
-    let mut byte = [0];
-    assert_eq!(rt;
-        T::from_reader_with_ctx(&mut reader, layout).err(),
-        Some(errors.0),
-        "under {layout:?}"
-    );
-    assert_eq!(rt; reader.bits_read(), 0, "under {layout:?}");
-    reader.read_bytes_const_into(&mut byte, Order::Msb0)?;
-    assert_eq!(rt; byte, [0xA5], "under {layout:?}");
-    assert_eq!(rt; reader.into_inner().position(), 1, "under {layout:?}");
-    let mut writer = Writer::new(Cursor::new(Vec::new(alloc)));
-    assert_eq!(rt;
-        value.to_writer(&mut writer, layout),
-        Err(errors.1),
-        "under {layout:?}"
-    );
-    writer.finalize()?;
-    assert!(rt;
-        writer.into_inner().into_inner().is_empty(),
-        "under {layout:?}"
-    );
-    Ok(())
+    expect_unread::<T>(rt, alloc, layout, errors.0)?;
+    expect_unwritten(rt, alloc, &value, layout, errors.1)
 }
 
 // One bit and one byte more than a type has are refused.

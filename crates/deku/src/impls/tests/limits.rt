@@ -57,6 +57,11 @@ fn up_to_a_count(rt: HostRuntime) -> Result<(), Fail> {
         reader.rest()?.as_slice(),
         [true, false, false, true].as_slice()
     );
+    Ok(())
+}
+
+#[test]
+fn up_to_a_count_without_bits(rt: HostRuntime) -> Result<(), Fail> {
     let mut reader = Reader::new(rt.alloc(), Cursor::new([1, 2].as_slice()));
     let none = Vec::<u8>::from_reader_with_ctx(&mut reader, Limit::new_count(0))?;
     expect_items(&rt, &mut reader, &none, &[], 1)?;

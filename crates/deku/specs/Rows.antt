@@ -1,0 +1,13 @@
+-- Worked examples of vectors of numbers that are written.
+use Rattle.std.specs.Prelude.{[], ◌∷◌, pos}
+use Rattle.deku_num.specs.declared.ctx.Size.TheVariants.{Bits}
+use Rattle.deku_num.specs.Numbers.{byte}
+use Rattle.deku_num.specs.Rows.{big_msb}
+use Rattle.deku.specs.VectorLaws.{GivesBytes}
+
+-- Vectors, as bytes.
+pub record VectorRows : Type 0 where
+  -- two halves of a byte
+  pub halves : GivesBytes byte (big_msb (Bits 4)) (pos 6 ∷ pos 9 ∷ []) (0x69 ∷ [])
+  -- three bits, which are padded
+  pub three_bits : GivesBytes byte (big_msb (Bits 3)) (pos 5 ∷ []) (0xA0 ∷ [])
