@@ -127,7 +127,11 @@ impl NumberCtx for Layout {
     ghost parts_of = { λ c. c };
 
     fn parts(self) -> Layout {
-        self
+        Layout {
+            endian: self.endian,
+            order: self.order,
+            size: self.size,
+        }
     }
 }
 
@@ -140,11 +144,7 @@ impl NumberCtx for () {
     ghost parts_of = { λ _. record { endian = Little; order = Msb0; size = Whole } };
 
     fn parts(self) -> Layout {
-        Layout {
-            endian: Endian::Little,
-            order: Order::Msb0,
-            size: Size::Whole,
-        }
+        Endian::default().parts()
     }
 }
 
@@ -237,9 +237,10 @@ impl NumberCtx for (Endian, Order) {
     ghost parts_of = { λ c. record { endian = c.0; order = c.1; size = Whole } };
 
     fn parts(self) -> Layout {
+        let (endian, order) = self;
         Layout {
-            endian: self.0,
-            order: self.1,
+            endian,
+            order,
             size: Size::Whole,
         }
     }
@@ -253,10 +254,11 @@ impl NumberCtx for (Endian, ByteSize) {
     ghost parts_of = { λ c. record { endian = c.0; order = Msb0; size = Bytes c.1.0 } };
 
     fn parts(self) -> Layout {
+        let (endian, ByteSize(bytes)) = self;
         Layout {
-            endian: self.0,
+            endian,
             order: Order::Msb0,
-            size: Size::Bytes(self.1.0),
+            size: Size::Bytes(bytes),
         }
     }
 }
@@ -269,10 +271,11 @@ impl NumberCtx for (Endian, BitSize) {
     ghost parts_of = { λ c. record { endian = c.0; order = Msb0; size = Bits c.1.0 } };
 
     fn parts(self) -> Layout {
+        let (endian, BitSize(bits)) = self;
         Layout {
-            endian: self.0,
+            endian,
             order: Order::Msb0,
-            size: Size::Bits(self.1.0),
+            size: Size::Bits(bits),
         }
     }
 }
@@ -285,10 +288,11 @@ impl NumberCtx for (BitSize, Order) {
     ghost parts_of = { λ c. record { endian = Little; order = c.1; size = Bits c.0.0 } };
 
     fn parts(self) -> Layout {
+        let (BitSize(bits), order) = self;
         Layout {
             endian: Endian::Little,
-            order: self.1,
-            size: Size::Bits(self.0.0),
+            order,
+            size: Size::Bits(bits),
         }
     }
 }
@@ -300,10 +304,11 @@ impl NumberCtx for (Endian, BitSize, Order) {
     ghost parts_of = { λ c. record { endian = c.0; order = c.2; size = Bits c.1.0 } };
 
     fn parts(self) -> Layout {
+        let (endian, BitSize(bits), order) = self;
         Layout {
-            endian: self.0,
-            order: self.2,
-            size: Size::Bits(self.1.0),
+            endian,
+            order,
+            size: Size::Bits(bits),
         }
     }
 }
@@ -315,10 +320,11 @@ impl NumberCtx for (Endian, ByteSize, Order) {
     ghost parts_of = { λ c. record { endian = c.0; order = c.2; size = Bytes c.1.0 } };
 
     fn parts(self) -> Layout {
+        let (endian, ByteSize(bytes), order) = self;
         Layout {
-            endian: self.0,
-            order: self.2,
-            size: Size::Bytes(self.1.0),
+            endian,
+            order,
+            size: Size::Bytes(bytes),
         }
     }
 }

@@ -45,7 +45,7 @@ impl DekuSize for u8 {
     ghost bits = { Some 8 };
 
     fn size_bits() -> Option<usize> {
-        Some(8)
+        Some(u8::BITS as usize)
     }
 }
 
@@ -67,7 +67,7 @@ impl DekuSize for u16 {
     ghost bits = { Some 16 };
 
     fn size_bits() -> Option<usize> {
-        Some(16)
+        Some(u16::BITS as usize)
     }
 }
 
@@ -89,7 +89,7 @@ impl DekuSize for u32 {
     ghost bits = { Some 32 };
 
     fn size_bits() -> Option<usize> {
-        Some(32)
+        Some(u32::BITS as usize)
     }
 }
 
@@ -111,7 +111,7 @@ impl DekuSize for u64 {
     ghost bits = { Some 64 };
 
     fn size_bits() -> Option<usize> {
-        Some(64)
+        Some(u64::BITS as usize)
     }
 }
 
@@ -133,7 +133,7 @@ impl DekuSize for u128 {
     ghost bits = { Some 128 };
 
     fn size_bits() -> Option<usize> {
-        Some(128)
+        Some(u128::BITS as usize)
     }
 }
 
@@ -155,7 +155,7 @@ impl DekuSize for usize {
     ghost bits = { Some 64 };
 
     fn size_bits() -> Option<usize> {
-        Some(64)
+        Some(usize::BITS as usize)
     }
 }
 
@@ -177,7 +177,7 @@ impl DekuSize for i8 {
     ghost bits = { Some 8 };
 
     fn size_bits() -> Option<usize> {
-        Some(8)
+        Some(i8::BITS as usize)
     }
 }
 
@@ -199,7 +199,7 @@ impl DekuSize for i16 {
     ghost bits = { Some 16 };
 
     fn size_bits() -> Option<usize> {
-        Some(16)
+        Some(i16::BITS as usize)
     }
 }
 
@@ -221,7 +221,7 @@ impl DekuSize for i32 {
     ghost bits = { Some 32 };
 
     fn size_bits() -> Option<usize> {
-        Some(32)
+        Some(i32::BITS as usize)
     }
 }
 
@@ -243,7 +243,7 @@ impl DekuSize for i64 {
     ghost bits = { Some 64 };
 
     fn size_bits() -> Option<usize> {
-        Some(64)
+        Some(i64::BITS as usize)
     }
 }
 
@@ -265,7 +265,7 @@ impl DekuSize for i128 {
     ghost bits = { Some 128 };
 
     fn size_bits() -> Option<usize> {
-        Some(128)
+        Some(i128::BITS as usize)
     }
 }
 
@@ -287,7 +287,7 @@ impl DekuSize for isize {
     ghost bits = { Some 64 };
 
     fn size_bits() -> Option<usize> {
-        Some(64)
+        Some(isize::BITS as usize)
     }
 }
 

@@ -46,7 +46,7 @@ impl<A: DekuSize> DekuSize for (A,) {
     ghost bits = { A.bits };
 
     fn size_bits() -> Option<usize> {
-        A::size_bits()
+        <A as DekuSize>::size_bits()
     }
 }
 
