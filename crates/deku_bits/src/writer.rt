@@ -6,7 +6,7 @@ ghost use Rattle.deku_bits.specs.declared.ctx.Order.TheVariants.{Msb0};
 ghost use Rattle.deku_bits.specs.declared.error.DekuError.TheVariants.{Io};
 ghost use Rattle.deku_bits.specs.Bits.{bits_in};
 ghost use Rattle.deku_bits.specs.Writers.{Nothing, pending_bits};
-ghost use Rattle.deku_bits.specs.Standings.{Going, Stopped, count_of};
+ghost use Rattle.deku_bits.specs.Standings.{Going, Stopped, Untouched, count_of};
 ghost use Rattle.deku_bits.specs.WriterCalls.{Writes, WritesAt, WritesBits, Finalizes, pending_of, order_of};
 
 mod bytes;
@@ -142,14 +142,16 @@ impl<W: Sink> Writer<W> {
     /// writer.finalize()?;                                // the byte 0x05
     /// ```
     pub fn write_bits_order(&mut self, bits: &[bool], order: Order) -> Result<(), DekuError>
-        ensures { Writes W.told (WritesBits order bits.now) self.old result self.new }
+        ensures writes { Writes W.told (WritesBits order bits.now) self.old result self.new }
+        ensures stopped { Untouched self.old.state self.old.sink self.new.sink }
     {
         self.state.write(&mut self.sink, bits, order)
     }
 
     /// Writes bits in `Msb0`, as `write_bits_order` does.
     pub fn write_bits(&mut self, bits: &[bool]) -> Result<(), DekuError>
-        ensures { Writes W.told (WritesBits Msb0 bits.now) self.old result self.new }
+        ensures writes { Writes W.told (WritesBits Msb0 bits.now) self.old result self.new }
+        ensures stopped { Untouched self.old.state self.old.sink self.new.sink }
     {
         self.write_bits_order(bits, Order::Msb0)
     }
@@ -162,7 +164,8 @@ impl<W: Sink> Writer<W> {
     /// writer.write_bytes(&[0xBB])?;                      // the byte 0xAB; 1, 0, 1, 1 are pending
     /// ```
     pub fn write_bytes(&mut self, buf: &[u8]) -> Result<(), DekuError>
-        ensures { Writes W.told (WritesBits Msb0 (bits_in buf.now)) self.old result self.new }
+        ensures writes { Writes W.told (WritesBits Msb0 (bits_in buf.now)) self.old result self.new }
+        ensures stopped { Untouched self.old.state self.old.sink self.new.sink }
     {
         self.state.write_bytes(&mut self.sink, buf)
     }
@@ -172,7 +175,8 @@ impl<W: Sink> Writer<W> {
     ///
     /// Fails as `write_bits_order` does, and leaves the same.
     pub fn finalize(&mut self) -> Result<(), DekuError>
-        ensures { Writes W.told Finalizes self.old result self.new }
+        ensures writes { Writes W.told Finalizes self.old result self.new }
+        ensures stopped { Untouched self.old.state self.old.sink self.new.sink }
     {
         self.state.finalize(&mut self.sink)
     }
@@ -236,7 +240,8 @@ impl Progress {
 
     // Writes the bits to this sink.
     fn write<W: Sink>(&mut self, sink: &mut W, bits: &[bool], order: Order) -> Result<(), DekuError>
-        ensures { WritesAt (WritesBits order bits.now) (W.told sink.old) self.old result (W.told sink.new) self.new }
+        ensures writes { WritesAt (WritesBits order bits.now) (W.told sink.old) self.old result (W.told sink.new) self.new }
+        ensures stopped { Untouched self.old sink.old sink.new }
     {
         if let Some(fault) = self.fault {
             return Err(fault.error());
@@ -263,7 +268,8 @@ impl Progress {
 
     // Writes the bytes to this sink, in `Msb0`.
     fn write_bytes<W: Sink>(&mut self, sink: &mut W, bytes: &[u8]) -> Result<(), DekuError>
-        ensures { WritesAt (WritesBits Msb0 (bits_in bytes.now)) (W.told sink.old) self.old result (W.told sink.new) self.new }
+        ensures writes { WritesAt (WritesBits Msb0 (bits_in bytes.now)) (W.told sink.old) self.old result (W.told sink.new) self.new }
+        ensures stopped { Untouched self.old sink.old sink.new }
     {
         if let Some(kept) = self.fault {
             return Err(kept.error());
@@ -289,7 +295,8 @@ impl Progress {
 
     // Writes as many zeros as the pending bits lack to a byte.
     fn finalize<W: Sink>(&mut self, sink: &mut W) -> Result<(), DekuError>
-        ensures { WritesAt Finalizes (W.told sink.old) self.old result (W.told sink.new) self.new }
+        ensures writes { WritesAt Finalizes (W.told sink.old) self.old result (W.told sink.new) self.new }
+        ensures stopped { Untouched self.old sink.old sink.new }
     {
         let zeros = [false; 8];
         let lacking = (8 - self.held.len()) % 8;
