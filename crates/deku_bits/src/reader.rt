@@ -168,8 +168,7 @@ impl<R: Source> Reader<R> {
     /// reader.end()?;                      // true
     /// ```
     pub fn end(&mut self) -> Result<bool, DekuError>
-        ensures reads { Reads R.told Ending self.old result self.new }
-        ensures stopped { Untouched self.old.state self.old.source self.new.source }
+        ensures { Reads R.told Ending self.old result self.new }
     {
         self.state.end(&mut self.source)
     }
