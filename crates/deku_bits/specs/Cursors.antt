@@ -1,5 +1,6 @@
 -- What a cursor tells by its place, and what one that fails once tells.
-use Rattle.std.specs.Prelude.{◌≡◌, ℕ, zero, suc, List, [], ◌∷◌, drop, Option, Some}
+use Rattle.std.specs.Prelude.{◌≡◌, ℕ, zero, suc, ◌+◌, ◌-◌, List, [], ◌∷◌, ◌++◌, length, take, drop, replicate, Option, None, Some}
+use Rattle.std.specs.Global.{Vec}
 use Rattle.std.specs.Borrow.{MutBor}
 use Rattle.std.specs.Io.Cursor.{cursor_remaining, cursor_position, cursor_inner}
 use Rattle.std.specs.declared.io.Cursor.{Cursor}
@@ -37,3 +38,31 @@ failing_sink s = record {
   room = Some (drop (cursor_position s.inner) (cursor_inner s.inner).now);
   health = record { failures = Some (failures_at s.left); lenders = (cursor_inner s.inner).ghost_name ∷ [] };
 }
+
+-- what a cursor over a slice tells: the bytes before its place, and its room by those behind
+abbrev pub slice_told : Cursor (MutBor (List ℕ)) → SinkTold
+slice_told c = record {
+  taken = bytes_before (cursor_position c) (cursor_inner c).now;
+  room = Some (drop (cursor_position c) (cursor_inner c).now);
+  health = record { failures = Some 0; lenders = (cursor_inner c).ghost_name ∷ [] };
+}
+
+-- what a cursor over a vector tells: the bytes before its place; its room is what memory is found
+abbrev pub vector_told : Cursor (Vec ℕ) → SinkTold
+vector_told c = record {
+  taken = bytes_before (cursor_position c) (cursor_inner c).items;
+  room = None;
+  health = record { failures = Some 0; lenders = [] };
+}
+
+-- bytes with others laid over those from a place on
+abbrev pub laid_over : List ℕ → ℕ → List ℕ → List ℕ
+laid_over all place bytes = take place all ++ bytes ++ drop (place + length bytes) all
+
+-- as many of the bytes as fit behind a place
+abbrev pub fitting : List ℕ → ℕ → List ℕ → List ℕ
+fitting all place bytes = take (length all - place) bytes
+
+-- bytes that reach up to a place, by zeros
+abbrev pub reaching : ℕ → List ℕ → List ℕ
+reaching place all = all ++ replicate (place - length all) 0

@@ -1,5 +1,5 @@
 -- Where a reader or a writer stands.
-use Rattle.std.specs.Prelude.{ℕ, Bool, List, Option, None, Some}
+use Rattle.std.specs.Prelude.{◌≡◌, ⊤, ℕ, Bool, List, Option, None, Some}
 use Rattle.deku_bits.specs.declared.error.DekuError.{DekuError}
 use Rattle.deku_bits.specs.Streams.{Stream, normal}
 use Rattle.deku_bits.specs.Writers.{Pending}
@@ -35,3 +35,8 @@ pub record Output : Type 0 where
 abbrev pub writer_state : SinkTold → Standing Pending → Standing Output
 writer_state told (Going pending count) = Going (record { taken = told.taken; room = told.room; pending = pending }) count
 writer_state told (Stopped fault count) = Stopped fault count
+
+-- where it has stopped, its device stays as it was
+abbrev pub Untouched : {A D : Type 0} → Standing A → D → D → Type 0
+Untouched (Going a count) old new = ⊤
+Untouched (Stopped fault count) old new = new ≡ old

@@ -1,11 +1,12 @@
 //! What a reader takes its bytes from, and what a writer gives them to.
 
-ghost use Rattle.std.specs.Prelude.{◌≡◌, ◌≢◌, ℕ, ◌^◌, ◌<◌, ◌≤◌, ◌+◌, ◌-◌, ◌++◌, ◌∷◌, min, List, [], length, take, drop, Option, Some, None, OnOk, IfErr, IsTrue, IsFalse};
+ghost use Rattle.std.specs.Prelude.{◌≡◌, ◌≢◌, ℕ, ◌^◌, ◌<◌, ◌≤◌, ◌+◌, ◌-◌, ◌++◌, ◌∷◌, min, List, [], length, take, drop, Option, Some, None, OnOk, OnErr, IsOk, IfErr, IsTrue, IsFalse};
 ghost use Rattle.std.specs.Io.KnownBytes.{Consumes};
 ghost use Rattle.std.specs.Io.Cursor.{cursor_position, cursor_inner, cursor_remaining};
 ghost use Rattle.std.specs.IoError.{error_kind};
 ghost use Rattle.deku_bits.specs.Devices.{SourceTold, SinkTold, NoFewerFailures, MoreFailures, FewerThan, Passes, StaysEmpty, bytes_before, Gave, Declined};
-ghost use Rattle.deku_bits.specs.Cursors.{cursor_told};
+ghost use Rattle.deku_bits.specs.Cursors.{cursor_told, slice_told, vector_told, laid_over, fitting, reaching};
+ghost use Rattle.deku_bits.specs.Seeking.{place_on};
 
 use std::fs::File;
 use std::io;
@@ -113,7 +114,14 @@ impl<T: AsBytes> Source for Cursor<T> {
 
     ghost told_by_place = { λ s at all. cursor_told T.bytes s at all };
 
-    fn fetch(&mut self, buf: &mut [u8]) -> io::Result<()> {
+    fn fetch(&mut self, buf: &mut [u8]) -> io::Result<()>
+        ensures bytes { OnOk result (Consumes (cursor_remaining T.bytes self.old) (cursor_remaining T.bytes self.new) buf.new) }
+        ensures short { IfErr result (λ e. (error_kind e ≡ ErrorKind.UnexpectedEof) × FewerThan (length buf.old) (cursor_remaining T.bytes self.old)) }
+        ensures place { OnOk result (cursor_position self.new ≡ cursor_position self.old + length buf.new) }
+        ensures inner { cursor_inner self.new ≡ cursor_inner self.old }
+        // A fetch that is refused moves nothing.
+        ensures stays { OnErr result (self.new ≡ self.old) }
+    {
         let at = self.position();
         if !copy_at(self.get_ref().as_byte_slice(), at, buf) {
             return Err(Error::new(ErrorKind::UnexpectedEof, "failed to fill whole buffer"));
@@ -122,7 +130,14 @@ impl<T: AsBytes> Source for Cursor<T> {
         Ok(())
     }
 
-    fn pass(&mut self, n: u64) -> io::Result<()> {
+    fn pass(&mut self, n: u64) -> io::Result<()>
+        requires { n < 2 ^ 63 }
+        ensures bytes { Passes n (cursor_remaining T.bytes self.old) (cursor_remaining T.bytes self.new) }
+        ensures ok { IsOk result }
+        // It may pass the end, as a seek does.
+        ensures place { cursor_position self.new ≡ place_on (cursor_position self.old) n }
+        ensures inner { cursor_inner self.new ≡ cursor_inner self.old }
+    {
         let at = self.position();
         let end = place_after(self.get_ref().as_byte_slice(), at, n);
         self.set_position(end);
@@ -132,7 +147,8 @@ impl<T: AsBytes> Source for Cursor<T> {
 
 // The place n bytes after this one, or the last place that there is.
 fn place_after(all: &[u8], at: u64, n: u64) -> u64
-    ensures { drop result all.now ≡ drop n (drop at all.now) }
+    ensures place { result ≡ place_on at n }
+    ensures behind { drop result all.now ≡ drop n (drop at all.now) }
 {
     let _length = all.len();
     at.saturating_add(n)
@@ -157,13 +173,15 @@ fn copy_at(all: &[u8], at: u64, buf: &mut [u8]) -> bool
 
 // A cursor over a slice tells the bytes before its place, and its room by those behind.
 impl Sink for Cursor<&mut [u8]> {
-    ghost told = { λ c. record {
-      taken = bytes_before (cursor_position c) (cursor_inner c).now;
-      room = Some (drop (cursor_position c) (cursor_inner c).now);
-      health = record { failures = Some 0; lenders = (cursor_inner c).ghost_name ∷ [] };
-    } };
+    ghost told = { λ c. slice_told c };
 
-    fn give(&mut self, bytes: &[u8]) -> io::Result<()> {
+    fn give(&mut self, bytes: &[u8]) -> io::Result<()>
+        ensures ok { OnOk result (Gave (slice_told self.old) (slice_told self.new) bytes.now) }
+        ensures err { IfErr result (λ e. Declined (slice_told self.old) (slice_told self.new) (length bytes.now) (error_kind e)) }
+        // As many of the bytes as fit are laid over those that lie there, also where it is refused.
+        ensures written { (cursor_inner self.new).now ≡ laid_over (cursor_inner self.old).now (cursor_position self.old) (fitting (cursor_inner self.old).now (cursor_position self.old) bytes.now) }
+        ensures place { cursor_position self.new ≡ cursor_position self.old + length (fitting (cursor_inner self.old).now (cursor_position self.old) bytes.now) }
+    {
         let place = self.position();
         let all = self.get_mut();
         let n = overwrite(all, place as usize, bytes);
@@ -177,13 +195,16 @@ impl Sink for Cursor<&mut [u8]> {
 
 // A cursor over a vector tells the bytes before its place. Its room is what memory is found.
 impl Sink for Cursor<Vec<u8>> {
-    ghost told = { λ c. record {
-      taken = bytes_before (cursor_position c) (cursor_inner c).items;
-      room = None;
-      health = record { failures = Some 0; lenders = [] };
-    } };
+    ghost told = { λ c. vector_told c };
 
-    fn give(&mut self, bytes: &[u8]) -> io::Result<()> {
+    fn give(&mut self, bytes: &[u8]) -> io::Result<()>
+        ensures ok { OnOk result (Gave (vector_told self.old) (vector_told self.new) bytes.now) }
+        ensures err { IfErr result (λ e. error_kind e ≡ ErrorKind.OutOfMemory) }
+        // The bytes are laid over those that lie there, behind zeros where the place is past the end; what is behind them stays.
+        ensures written { OnOk result ((cursor_inner self.new).items ≡ laid_over (reaching (cursor_position self.old) (cursor_inner self.old).items) (cursor_position self.old) bytes.now) }
+        ensures place { OnOk result (cursor_position self.new ≡ place_on (cursor_position self.old) (length bytes.now)) }
+        ensures stays { OnErr result (cursor_position self.new ≡ cursor_position self.old) }
+    {
         let place = self.position();
         let all = self.get_mut();
         if (place as usize) > all.len() {

@@ -140,6 +140,8 @@ impl<B: AsBytes> Source for FailAt<B> {
         ensures fails { OnOk result (0 < self.old.left → length buf.new < self.old.left) }
         ensures kind { IfErr result (λ e. error_kind e ≢ ErrorKind.UnexpectedEof → error_kind e ≡ ErrorKind.Other) }
         ensures still { IfErr result (λ e. error_kind e ≡ ErrorKind.Other → Passes (self.old.left - 1) (failing_source B.bytes self.old).coming (failing_source B.bytes self.new).coming) }
+        // The end of input leaves the call that fails to come.
+        ensures waits { IfErr result (λ e. error_kind e ≡ ErrorKind.UnexpectedEof → 0 < self.old.left → (0 < self.new.left) × (self.new.left < self.old.left)) }
     {
         for place in buf.iter_mut() {
             *place = fetch_byte(self)?;
@@ -210,6 +212,8 @@ impl Sink for FailAt<&mut [u8]> {
         ensures fails { OnOk result (0 < self.old.left → length bytes.now < self.old.left) }
         ensures kind { IfErr result (λ e. error_kind e ≢ ErrorKind.WriteZero → error_kind e ≡ ErrorKind.Other) }
         ensures still { IfErr result (λ e. error_kind e ≡ ErrorKind.Other → Appends (failing_sink self.old).taken (failing_sink self.new).taken (take (self.old.left - 1) bytes.now)) }
+        // Room that lacks leaves the call that fails to come.
+        ensures waits { IfErr result (λ e. error_kind e ≡ ErrorKind.WriteZero → 0 < self.old.left → (0 < self.new.left) × (self.new.left < self.old.left)) }
     {
         for byte in bytes {
             give_byte(self, *byte)?;

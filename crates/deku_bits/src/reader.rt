@@ -3,7 +3,7 @@
 ghost use Rattle.std.specs.Prelude.{◌≡◌, ◌+◌, ◌*◌, ◌≤◌, [], length, take, drop, IfOk, IfErr};
 ghost use Rattle.std.specs.Borrow.{Lends, sem};
 ghost use Rattle.deku_bits.specs.Kept.{Admits};
-ghost use Rattle.deku_bits.specs.Standings.{Going, count_of};
+ghost use Rattle.deku_bits.specs.Standings.{Going, Untouched, count_of};
 ghost use Rattle.deku_bits.specs.ReaderCalls.{Reads, Takes, Ending, Skips, ReadsBits, ReadsVec, ReadsBytes, NoneEarly, IsLeftover, filling, items_of, window_of};
 ghost use Rattle.deku_bits.specs.contracts.reader.Reader.{the_row as reader-row};
 
@@ -194,6 +194,7 @@ impl<R: Source> Reader<R> {
     pub fn skip_bits(&mut self, amt: usize, order: Order) -> Result<(), DekuError>
         ensures skips { Reads R.told (Skips order amt) self.old result self.new }
         ensures early { NoneEarly self.old.state self.new.state }
+        ensures stopped { Untouched self.old.state self.old.source self.new.source }
     {
         self.state.skip_bits(&mut self.source, amt, order)
     }
@@ -214,6 +215,7 @@ impl<R: Source> Reader<R> {
     pub(crate) fn take_bits(&mut self, dst: &mut [bool], order: Order) -> Result<(), DekuError>
         ensures takes { Reads R.told (Takes order (length dst.old)) self.old (filling result dst.new) self.new }
         ensures early { NoneEarly self.old.state self.new.state }
+        ensures stopped { Untouched self.old.state self.old.source self.new.source }
     {
         self.state.take_bits(&mut self.source, dst, order)
     }
@@ -231,6 +233,7 @@ impl<R: Source> Reader<R> {
     pub fn read_bits_into(&mut self, dst: &mut [bool], order: Order) -> Result<(), DekuError>
         ensures reads { Reads R.told (ReadsBits order (length dst.old)) self.old (filling result dst.new) self.new }
         ensures early { NoneEarly self.old.state self.new.state }
+        ensures stopped { Untouched self.old.state self.old.source self.new.source }
     {
         self.take_bits(dst, order)?;
         show(dst, order);
@@ -249,6 +252,7 @@ impl<R: Source> Reader<R> {
     pub fn read_bits(&mut self, amt: usize, order: Order) -> Result<Vec<bool>, DekuError>
         ensures reads { Reads R.told (ReadsVec order amt) self.old (items_of result) self.new }
         ensures early { NoneEarly self.old.state self.new.state }
+        ensures stopped { Untouched self.old.state self.old.source self.new.source }
     {
         self.state.admits(amt)?;
         let Ok(mut bits) = vec![in self.alloc; false; amt] else {
@@ -280,6 +284,7 @@ impl<R: Source> Reader<R> {
         ensures front { Reads R.told (ReadsBytes order amt) self.old (filling result (take amt buf.new)) self.new }
         ensures behind { drop amt buf.new ≡ drop amt buf.old }
         ensures early { NoneEarly self.old.state self.new.state }
+        ensures stopped { Untouched self.old.state self.old.source self.new.source }
     {
         self.state
             .take_bytes(&mut self.source, &mut buf[..amt], order)?;
@@ -299,6 +304,7 @@ impl<R: Source> Reader<R> {
     ) -> Result<ReaderRet, DekuError>
         ensures reads { Reads R.told (ReadsBytes order N) self.old (filling result buf.new) self.new }
         ensures early { NoneEarly self.old.state self.new.state }
+        ensures stopped { Untouched self.old.state self.old.source self.new.source }
     {
         self.read_bytes_const_into(buf, order)?;
         Ok(ReaderRet::Bytes)
@@ -317,6 +323,7 @@ impl<R: Source> Reader<R> {
     ) -> Result<(), DekuError>
         ensures reads { Reads R.told (ReadsBytes order N) self.old (filling result buf.new) self.new }
         ensures early { NoneEarly self.old.state self.new.state }
+        ensures stopped { Untouched self.old.state self.old.source self.new.source }
     {
         self.state.take_bytes(&mut self.source, buf, order)
     }

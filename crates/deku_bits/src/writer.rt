@@ -6,7 +6,7 @@ ghost use Rattle.deku_bits.specs.declared.ctx.Order.TheVariants.{Msb0};
 ghost use Rattle.deku_bits.specs.declared.error.DekuError.TheVariants.{Io};
 ghost use Rattle.deku_bits.specs.Bits.{bits_in};
 ghost use Rattle.deku_bits.specs.Writers.{Nothing, pending_bits};
-ghost use Rattle.deku_bits.specs.Standings.{Going, Stopped, count_of};
+ghost use Rattle.deku_bits.specs.Standings.{Going, Stopped, Untouched, count_of};
 ghost use Rattle.deku_bits.specs.WriterCalls.{Writes, WritesAt, WritesBits, Finalizes, pending_of, order_of};
 
 mod bytes;
@@ -237,7 +237,8 @@ impl Progress {
 
     // Writes the bits to this sink.
     fn write<W: Sink>(&mut self, sink: &mut W, bits: &[bool], order: Order) -> Result<(), DekuError>
-        ensures { WritesAt (WritesBits order bits.now) (W.told sink.old) self.old result (W.told sink.new) self.new }
+        ensures writes { WritesAt (WritesBits order bits.now) (W.told sink.old) self.old result (W.told sink.new) self.new }
+        ensures stopped { Untouched self.old sink.old sink.new }
     {
         if let Some(fault) = self.fault {
             return Err(fault.error());
@@ -264,7 +265,8 @@ impl Progress {
 
     // Writes the bytes to this sink, in `Msb0`.
     fn write_bytes<W: Sink>(&mut self, sink: &mut W, bytes: &[u8]) -> Result<(), DekuError>
-        ensures { WritesAt (WritesBits Msb0 (bits_in bytes.now)) (W.told sink.old) self.old result (W.told sink.new) self.new }
+        ensures writes { WritesAt (WritesBits Msb0 (bits_in bytes.now)) (W.told sink.old) self.old result (W.told sink.new) self.new }
+        ensures stopped { Untouched self.old sink.old sink.new }
     {
         if let Some(kept) = self.fault {
             return Err(kept.error());
@@ -290,7 +292,8 @@ impl Progress {
 
     // Writes as many zeros as the pending bits lack to a byte.
     fn finalize<W: Sink>(&mut self, sink: &mut W) -> Result<(), DekuError>
-        ensures { WritesAt Finalizes (W.told sink.old) self.old result (W.told sink.new) self.new }
+        ensures writes { WritesAt Finalizes (W.told sink.old) self.old result (W.told sink.new) self.new }
+        ensures stopped { Untouched self.old sink.old sink.new }
     {
         let zeros = [false; 8];
         let lacking = (8 - self.held.len()) % 8;

@@ -9,7 +9,7 @@ ghost use Rattle.deku_bits.specs.Kept.{Admits};
 ghost use Rattle.deku_bits.specs.Moving.{Moves, FewerBits};
 ghost use Rattle.deku_bits.specs.Faults.{error_of};
 ghost use Rattle.deku_bits.specs.ReaderCalls.{ReadsAt, Takes, Ending, Skips, ReadsBytes, NoneEarly, filling, window_of};
-ghost use Rattle.deku_bits.specs.Standings.{Going, Stopped, count_of};
+ghost use Rattle.deku_bits.specs.Standings.{Going, Stopped, Untouched, count_of};
 
 mod bytes;
 mod skips;
@@ -126,6 +126,7 @@ impl Progress {
     ) -> Result<(), DekuError>
         ensures takes { ReadsAt (Takes order (length dst.old)) (R.told source.old) self.old (filling result dst.new) (R.told source.new) self.new }
         ensures early { NoneEarly self.old self.new }
+        ensures stopped { Untouched self.old source.old source.new }
     {
         self.admits(dst.len())?;
         match take_into(source, &mut self.window, dst, order) {
@@ -150,6 +151,7 @@ impl Progress {
     ) -> Result<(), DekuError>
         ensures reads { ReadsAt (ReadsBytes order (length dst.old)) (R.told source.old) self.old (filling result dst.new) (R.told source.new) self.new }
         ensures early { NoneEarly self.old self.new }
+        ensures stopped { Untouched self.old source.old source.new }
     {
         self.admits_bytes(dst.len())?;
         let bits = 8 * dst.len();
@@ -168,7 +170,8 @@ impl Progress {
 
     /// Whether the end of input is reached: fetches a byte where no bit is unread, and does not count it.
     pub fn end<R: Source>(&mut self, source: &mut R) -> Result<bool, DekuError>
-        ensures { ReadsAt Ending (R.told source.old) self.old result (R.told source.new) self.new }
+        ensures reads { ReadsAt Ending (R.told source.old) self.old result (R.told source.new) self.new }
+        ensures stopped { Untouched self.old source.old source.new }
     {
         if let Some(kept) = self.fault {
             return Err(kept.error());
@@ -200,6 +203,7 @@ impl Progress {
     ) -> Result<(), DekuError>
         ensures skips { ReadsAt (Skips order amt) (R.told source.old) self.old result (R.told source.new) self.new }
         ensures early { NoneEarly self.old self.new }
+        ensures stopped { Untouched self.old source.old source.new }
     {
         self.admits(amt)?;
         let inside = amt.min(self.window.len());

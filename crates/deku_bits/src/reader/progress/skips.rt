@@ -26,6 +26,7 @@ pub fn pop_bits(window: &mut Window, count: usize, order: Order)
 /// Passes whole bytes. For none the source is not called.
 pub fn pass_bytes<R: Source>(source: &mut R, count: usize) -> io::Result<()>
     requires { count < 2 ^ 63 }
+    ensures none { count ≡ 0 → source.new ≡ source.old }
     ensures bytes { OnOk result (Passes count (R.told source.old).coming (R.told source.new).coming) }
     ensures failed { IfErr result (λ e. MoreFailures (R.told source.old).health (R.told source.new).health) }
     ensures kept { NoFewerFailures (R.told source.old).health (R.told source.new).health }

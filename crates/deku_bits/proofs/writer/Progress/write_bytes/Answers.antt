@@ -6,31 +6,31 @@ use Rattle.deku_bits.proofs.Emits.{write_nothing, write_full, write_done, write_
 use Rattle.deku_bits.proofs.WholeBytes.{whole_count}
 use Rattle.deku_bits.proofs.writer.Progress.write_bytes.Goals as goal
 
-pub returns-then-is_empty : goal.returns-then-is_empty
-returns-then-is_empty g c =
+pub returns-then-is_empty-clause-writes : goal.returns-then-is_empty-clause-writes
+returns-then-is_empty-clause-writes g c =
     let w : c.self.inside.bits_written < 2 ^ 64 = search rules in
     let bytes = c.args.bytes.now in
     let none : length bytes ≡ 0 = eqb-true _ _ (sym c.if-is_empty.ensures) in
     let bits : length (bits_in bytes) ≡ 0 = omega (arith, none, length-bits_in bytes) in
     rw (← c.self.view_is, c.in_default.is) (write_nothing _ c.self.inside.order Msb0 c.self.inside.held (bits_in bytes) _ bits w)
 
-pub returns-then-bytes-self : goal.returns-then-bytes-self
-returns-then-bytes-self g c =
+pub returns-then-bytes-self-clause-writes : goal.returns-then-bytes-self-clause-writes
+returns-then-bytes-self-clause-writes g c =
     let h = c.self.inside.held in
     let bytes = c.args.bytes.now in
     rw (← c.self.view_is, c.in_default.is)
     (write_full _ c.self.inside.order Msb0 h (bits_in bytes) _ (length bytes) _ c.self.invariant (whole_count h bytes c.self.invariant) c.if-bytes-self.true refl)
 
-pub returns-in-Ok : goal.returns-in-Ok
-returns-in-Ok g c =
+pub returns-in-Ok-clause-writes : goal.returns-in-Ok-clause-writes
+returns-in-Ok-clause-writes g c =
     let w : c.self.inside.bits_written < 2 ^ 64 = search rules in
     let h = c.self.inside.held in
     let bytes = c.args.bytes.now in
     rw (← c.self.view_is, c.in_default.is)
     (write_done _ _ c.self.inside.order Msb0 h _ (bits_in bytes) _ (length bytes) c.self.invariant (whole_count h bytes c.self.invariant) c.if-bytes-self.false w c.in-Ok.ensures.pushed)
 
-pub returns-in-Err : goal.returns-in-Err
-returns-in-Err g c =
+pub returns-in-Err-clause-writes : goal.returns-in-Err-clause-writes
+returns-in-Err-clause-writes g c =
     let w : c.self.inside.bits_written < 2 ^ 64 = search rules in
     let h = c.self.inside.held in
     let bytes = c.args.bytes.now in

@@ -5,22 +5,22 @@ use Rattle.std.specs.declared.io.ErrorKind.TheVariants.{UnexpectedEof}
 use Rattle.deku_bits.proofs.Skips.{peeks_some, peeks_byte, peeks_end}
 use Rattle.deku_bits.proofs.reader.progress.Progress.end.Goals as goal
 
-pub returns-then-len-gt0 : goal.returns-then-len-gt0
-returns-then-len-gt0 g c =
+pub returns-then-len-gt0-clause-reads : goal.returns-then-len-gt0-clause-reads
+returns-then-len-gt0-clause-reads g c =
     let told = g.R.Source.told in
     let p = c.self.inside in
     rw (← c.self.view_is, c.in_default.is) (peeks_some p.window (told c.args.source.now).coming p.bits_read (told c.args.source.now).health (omega arith))
 
-pub returns-in-Ok : goal.returns-in-Ok
-returns-in-Ok g c =
+pub returns-in-Ok-clause-reads : goal.returns-in-Ok-clause-reads
+returns-in-Ok-clause-reads g c =
     let told = g.R.Source.told in
     let p = c.self.inside in
     let none : p.window ≡ [] = nil_from_length p.window (omega arith) in
     rw (← c.self.view_is, c.in_default.is, c.of_byte-self-inside.ensures.bits)
     (peeks_byte p.window (told c.args.source.now).coming p.bits_read c.in-Ok.byte (told c.fetch_byte.new.source).coming _ _ none (omega arith) c.in-Ok.ensures.bytes c.fetch_byte.ensures.kept)
 
-pub returns-in-Incomplete : goal.returns-in-Incomplete
-returns-in-Incomplete g c =
+pub returns-in-Incomplete-clause-reads : goal.returns-in-Incomplete-clause-reads
+returns-in-Incomplete-clause-reads g c =
     let told = g.R.Source.told in
     let p = c.self.inside in
     let none : p.window ≡ [] = nil_from_length p.window (omega arith) in
