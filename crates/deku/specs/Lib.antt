@@ -20,6 +20,7 @@ pub mod Composing
 pub mod Giving
 pub mod Shapes
 pub mod Lists
+pub mod Collected
 pub mod Texts
 pub mod Extents
 pub mod Limits

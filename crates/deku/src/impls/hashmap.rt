@@ -3,6 +3,7 @@
 ghost use Rattle.std.specs.Prelude.{Some};
 ghost use Rattle.std.specs.HashMap.{Updates, IsUnique};
 ghost use Rattle.deku_bits.specs.WriterCalls.{Writes};
+ghost use Rattle.deku.specs.Collected.{PutsPair};
 ghost use Rattle.deku.specs.Composing.{Both};
 
 use crate::ctx::{Limit, Predicate};
@@ -17,7 +18,7 @@ use std::hash::{BuildHasher, Hash};
 use std::io::ErrorKind;
 
 impl<K: Eq + Hash + Drop, V: Drop, S: BuildHasher + Drop> Gather<(K, V)> for HashMap<K, V, S> {
-    ghost puts = { λ m p n. Updates K.eq m n p.0 (Some p.1) × IsUnique K.eq n };
+    ghost puts = { λ m p n. Updates K.eq m n p.0 (Some p.1) × IsUnique K.eq n × PutsPair K.eq m p n };
 
     fn put(&mut self, item: (K, V)) -> Result<(), DekuError> {
         let (key, value) = item;
@@ -29,7 +30,7 @@ impl<K: Eq + Hash + Drop, V: Drop, S: BuildHasher + Drop> Gather<(K, V)> for Has
 }
 
 /// The pairs that the limit says, each a key and then its value, under the items' context. The limit is on the pairs that are read, and
-/// not on the entries: a later value of a key takes the place of an earlier one.
+/// not on the entries: a later value of a key takes the place of an earlier one, and of equal keys the first is kept.
 ///
 /// What is refused, and what is left then, is as for a vector of pairs.
 ///
@@ -44,11 +45,12 @@ impl<
     Ctx: Copy,
 > DekuReader<(Limit<(K, V), P>, Ctx)> for HashMap<K, V, S> {
     ghost use Rattle.std.specs.HashMap.{IsFromIterResult};
+    ghost use Rattle.deku.specs.Collected.{IsMapOf};
     ghost use Rattle.deku.specs.Limits.{ReadsUnder, AsksAll, Held};
 
     ghost accepts = { λ c. ⟦<(K, V) as DekuReader<Ctx>>⟧.accepts c.1 × AsksAll P.asks_all c.0 };
 
-    ghost meaning = { λ c. Held (λ xs m. IsFromIterResult K.eq xs m) (ReadsUnder P.answers c.0 (⟦<(K, V) as DekuReader<Ctx>>⟧.meaning c.1)) };
+    ghost meaning = { λ c. Held (λ xs m. IsFromIterResult K.eq xs m × IsMapOf K.eq xs m) (ReadsUnder P.answers c.0 (⟦<(K, V) as DekuReader<Ctx>>⟧.meaning c.1)) };
 
     fn from_reader_with_ctx<R: Source>(
         reader: &mut Reader<R>,

@@ -2,6 +2,7 @@
 
 ghost use Rattle.std.specs.Prelude.{true};
 ghost use Rattle.std.specs.HashSet.{Updates, IsUnique};
+ghost use Rattle.deku.specs.Collected.{PutsItem};
 
 use crate::ctx::{Limit, Predicate};
 use crate::impls::gather::{Gather, gather_under};
@@ -15,7 +16,7 @@ use std::hash::{BuildHasher, Hash};
 use std::io::ErrorKind;
 
 impl<T: Eq + Hash + Drop, S: BuildHasher + Drop> Gather<T> for HashSet<T, S> {
-    ghost puts = { λ m x n. Updates T.eq m n x true × IsUnique T.eq n };
+    ghost puts = { λ m x n. Updates T.eq m n x true × IsUnique T.eq n × PutsItem T.eq m x n };
 
     fn put(&mut self, item: T) -> Result<(), DekuError> {
         match self.insert(item) {
@@ -26,7 +27,7 @@ impl<T: Eq + Hash + Drop, S: BuildHasher + Drop> Gather<T> for HashSet<T, S> {
 }
 
 /// The items that the limit says, each under the items' context. The limit is on the items that are read, and not on those that the set
-/// has then: each is kept once.
+/// has then: each is kept once, and of equal items the first.
 ///
 /// What is refused, and what is left then, is as for a vector.
 ///
@@ -40,11 +41,12 @@ impl<
     Ctx: Copy,
 > DekuReader<(Limit<T, P>, Ctx)> for HashSet<T, S> {
     ghost use Rattle.std.specs.HashSet.{IsFromIterResult};
+    ghost use Rattle.deku.specs.Collected.{IsSetOf};
     ghost use Rattle.deku.specs.Limits.{ReadsUnder, AsksAll, Held};
 
     ghost accepts = { λ c. T.accepts c.1 × AsksAll P.asks_all c.0 };
 
-    ghost meaning = { λ c. Held (λ xs m. IsFromIterResult T.eq xs m) (ReadsUnder P.answers c.0 (T.meaning c.1)) };
+    ghost meaning = { λ c. Held (λ xs m. IsFromIterResult T.eq xs m × IsSetOf T.eq xs m) (ReadsUnder P.answers c.0 (T.meaning c.1)) };
 
     fn from_reader_with_ctx<R: Source>(
         reader: &mut Reader<R>,
