@@ -168,7 +168,8 @@ impl<R: Source> Reader<R> {
     /// reader.end()?;                      // true
     /// ```
     pub fn end(&mut self) -> Result<bool, DekuError>
-        ensures { Reads R.told Ending self.old result self.new }
+        ensures reads { Reads R.told Ending self.old result self.new }
+        ensures stopped { Untouched self.old.state self.old.source self.new.source }
     {
         self.state.end(&mut self.source)
     }

@@ -143,14 +143,16 @@ impl<W: Sink> Writer<W> {
     /// writer.finalize()?;                                // the byte 0x05
     /// ```
     pub fn write_bits_order(&mut self, bits: &[bool], order: Order) -> Result<(), DekuError>
-        ensures { Writes W.told (WritesBits order bits.now) self.old result self.new }
+        ensures writes { Writes W.told (WritesBits order bits.now) self.old result self.new }
+        ensures stopped { Untouched self.old.state self.old.sink self.new.sink }
     {
         self.state.write(&mut self.sink, bits, order)
     }
 
     /// Writes bits in `Msb0`, as `write_bits_order` does.
     pub fn write_bits(&mut self, bits: &[bool]) -> Result<(), DekuError>
-        ensures { Writes W.told (WritesBits Msb0 bits.now) self.old result self.new }
+        ensures writes { Writes W.told (WritesBits Msb0 bits.now) self.old result self.new }
+        ensures stopped { Untouched self.old.state self.old.sink self.new.sink }
     {
         self.write_bits_order(bits, Order::Msb0)
     }
@@ -163,7 +165,8 @@ impl<W: Sink> Writer<W> {
     /// writer.write_bytes(&[0xBB])?;                      // the byte 0xAB; 1, 0, 1, 1 are pending
     /// ```
     pub fn write_bytes(&mut self, buf: &[u8]) -> Result<(), DekuError>
-        ensures { Writes W.told (WritesBits Msb0 (bits_in buf.now)) self.old result self.new }
+        ensures writes { Writes W.told (WritesBits Msb0 (bits_in buf.now)) self.old result self.new }
+        ensures stopped { Untouched self.old.state self.old.sink self.new.sink }
     {
         self.state.write_bytes(&mut self.sink, buf)
     }
@@ -173,7 +176,8 @@ impl<W: Sink> Writer<W> {
     ///
     /// Fails as `write_bits_order` does, and leaves the same.
     pub fn finalize(&mut self) -> Result<(), DekuError>
-        ensures { Writes W.told Finalizes self.old result self.new }
+        ensures writes { Writes W.told Finalizes self.old result self.new }
+        ensures stopped { Untouched self.old.state self.old.sink self.new.sink }
     {
         self.state.finalize(&mut self.sink)
     }

@@ -6,7 +6,7 @@ use Rattle.deku_bits.proofs.writer.tests.write_lent.Goals as goal
 
 pub returns : goal.returns
 returns g c =
-    let m = rw (c.new-writer.ensures.sink, c.new-writer.ensures.state) at c.write_bits_order.ensures in
+    let m = rw (c.new-writer.ensures.sink, c.new-writer.ensures.state) at c.write_bits_order.ensures.writes in
     let t = g.S.Sink.told c.args.sink.now in
     let after = g.S.Sink.told c.write_bits_order.new.self.sink.now in
     let u = c.write_bits_order.new.self.state in

@@ -7,7 +7,7 @@ use Rattle.deku_fields.proofs.list.tests.write_over.Goals as goal
 
 pub returns-in-Ok : goal.returns-in-Ok
 returns-in-Ok c = λ bytes all aligned laid room small.
-    let m = sound (then_on {k = λ _. Finalizes} c.in-Ok.ensures.meaning c.finalize.ensures) (record { count = 0; known = refl; still = refl }) in
+    let m = sound (then_on {k = λ _. Finalizes} c.in-Ok.ensures.meaning c.finalize.ensures.writes) (record { count = 0; known = refl; still = refl }) in
     let n = rw (c.new-writer.ensures.sink, c.new-writer.ensures.state, c.new.ensures.inner, c.new.ensures.position) at m in
     ⊎_elim (λ t. t.0) (λ none. absurd none) (padded_law c.args.items.now bytes _ 0 _ _ (record { fitting = all; aligned = aligned; laid = laid; none = refl; room = omega arith; countable = omega arith }) n)
 
