@@ -1,13 +1,13 @@
 //! A source that gives one byte at a time.
 
-ghost use Rattle.std.specs.Prelude.{◌≡◌, ◌≤◌, ◌∷◌, [], length, Some, IfOk, IfErr, IsOk};
+ghost use Rattle.std.specs.Prelude.{◌≡◌, ◌≢◌, ◌≤◌, ◌∷◌, [], length, Some, OnOk, OnErr, IfOk, IfErr, IsOk};
 ghost use Rattle.std.specs.Io.{ReadsAtMost};
 ghost use Rattle.std.specs.Io.Cursor.{cursor_position, cursor_inner, IsSeekResult, IsSeekFromEnd};
 ghost use Rattle.std.specs.Io.KnownBytes.{Consumes, Keeps, ReadConsumes};
 ghost use Rattle.std.specs.Io.Seek.{SeekMoves};
 ghost use Rattle.std.specs.IoError.{error_kind};
 ghost use Rattle.deku_bits.specs.Cursors.{cursor_told, trickling};
-ghost use Rattle.deku_bits.specs.Devices.{FewerThan, StaysEmpty};
+ghost use Rattle.deku_bits.specs.Devices.{NoFewerFailures, MoreFailures, FewerThan, StaysEmpty};
 
 use crate::device::Source;
 use std::io;
@@ -81,7 +81,15 @@ impl<'a> Source for Trickle<'a> {
 
     ghost told_by_place = { λ s at all. cursor_told (λ b. Some b.now) s.inner at all };
 
-    fn fetch(&mut self, buf: &mut [u8]) -> io::Result<()> {
+    fn fetch(&mut self, buf: &mut [u8]) -> io::Result<()>
+        ensures bytes { OnOk result (Consumes (trickling self.old).coming (trickling self.new).coming buf.new) }
+        ensures short { IfErr result (λ e. error_kind e ≡ ErrorKind.UnexpectedEof → FewerThan (length buf.old) (trickling self.old).coming) }
+        ensures ended { IfErr result (λ e. error_kind e ≡ ErrorKind.UnexpectedEof → StaysEmpty (trickling self.old).coming (trickling self.new).coming) }
+        ensures failed { IfErr result (λ e. error_kind e ≢ ErrorKind.UnexpectedEof → MoreFailures (trickling self.old).health (trickling self.new).health) }
+        ensures kept { NoFewerFailures (trickling self.old).health (trickling self.new).health }
+        // Where it is refused, each byte is given.
+        ensures spent { OnErr result ((trickling self.new).coming ≡ Some []) }
+    {
         for place in buf.iter_mut() {
             *place = trickled_byte(self)?;
         }
