@@ -148,6 +148,10 @@ status_of Usage = 2
 status_of BadText = 1
 status_of (Fault fault) = 1
 
+-- something stands in the way of the words that a run ends with 1 for, so not their form
+abbrev pub IsStopped : List (List ℕ) → Option (List ℕ) → Type 0
+IsStopped words input = (e : Failure) × Stops words input e × (status_of e ≡ 1)
+
 -- what it is told as; the text of a fault is left open
 abbrev pub message : Failure → Option (List ℕ)
 message Usage = Some (line (codes "usage: fields read|write SPEC.."))

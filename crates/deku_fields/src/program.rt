@@ -9,7 +9,7 @@ ghost use Rattle.deku_bits.specs.declared.error.DekuError.TheVariants.{Io};
 ghost use Rattle.deku_fields.specs.declared.program.Failure.TheVariants.{Fault, Usage};
 ghost use Rattle.deku_fields.specs.declared.list.Field.{Field as ListField};
 ghost use Rattle.deku_fields.specs.Naming.{NamesField};
-ghost use Rattle.deku_fields.specs.Runs.{words_of, line, number_text, status_of, message, IsHexText, LosesNewline, IsDone, IsKnown, AsksToRead, AreNoForm, ShowsRead, ShowsWritten, InputStops, ReadingStops, WritingStops, Stops};
+ghost use Rattle.deku_fields.specs.Runs.{words_of, line, number_text, status_of, message, IsHexText, LosesNewline, IsDone, IsKnown, AsksToRead, AreNoForm, ShowsRead, ShowsWritten, InputStops, ReadingStops, WritingStops, Stops, IsStopped};
 
 use crate::list::{Field, Item, Number};
 use crate::read::list_from_bytes;
@@ -91,6 +91,7 @@ pub fn run<R: Read, W: Write, E: Write>(
     ensures done { result ≡ 0 → IsDone (words_of args.now) (R.remaining input.old) (W.contents output.old) (W.contents output.new) }
     ensures quiet { result ≡ 0 → errors.new ≡ errors.old }
     ensures usage { result ≡ 2 → AreNoForm (words_of args.now) × (input.new ≡ input.old) × (output.new ≡ output.old) }
+    ensures stopped { result ≡ 1 → IsStopped (words_of args.now) (R.remaining input.old) }
     ensures kept { result ≡ 1 → (output.new ≡ output.old) ⊎ IsKnown (words_of args.now) (R.remaining input.old) }
     ensures unread { AsksToRead (words_of args.now) ⊎ (input.new ≡ input.old) }
 {
