@@ -24,6 +24,5 @@ pub mod Collected
 pub mod Texts
 pub mod Extents
 pub mod Limits
-pub mod Walks
 pub mod VectorLaws
 pub mod Wholes
