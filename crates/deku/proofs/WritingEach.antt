@@ -4,10 +4,8 @@ use Rattle.std.proofs.lemmas.List.{drop_more, drop_all}
 use Rattle.deku_bits.specs.declared.error.DekuError.{DekuError}
 use Rattle.deku_bits.specs.Devices.{Health}
 use Rattle.deku_bits.specs.Standings.{Standing}
-use Rattle.deku_bits.specs.Outcomes.{Meaning, Outcome, Quiet, Broken}
-use Rattle.std.proofs.lemmas.List.Sorted.{IsPermutation-refl}
+use Rattle.deku_bits.specs.Outcomes.{Meaning, Outcome}
 use Rattle.deku.specs.Composing.{WritesEach}
-use Rattle.deku.specs.Walks.{WritesInSomeOrder, InOrder}
 use Rattle.deku.proofs.Joining.{first_refused, then_on, answered}
 
 -- the items from place i on are the one there and those behind it
@@ -49,9 +47,3 @@ module _ {A V : Type 0} (m : V → Meaning A (Unit {0})) (vs : List V) where
   pub items_written : (i : ℕ) (s0 : Standing A) (f0 : Health) (s : Standing A) (f : Health)
       → length vs ≤ i → GoesOn i s0 f0 s f → Outcome (WritesEach m vs) s0 f0 (Ok tt) s f
   items_written i s0 f0 s f l k = none_left s0 f0 s f (subst (λ x. Awaits x s0 f0 s f) (drop_all i vs l) k)
-
--- the order in which they stand is one
-pub in_some_order : {A V : Type 0} (m : V → Meaning A (Unit {0})) (vs : List V) {s : Standing A} {f : Health} {r : Result (Unit {0}) DekuError} {u : Standing A} {g : Health}
-    → Outcome (WritesEach m vs) s f r u g → Outcome (WritesInSomeOrder m vs) s f r u g
-in_some_order m vs (Quiet p q) = Quiet (InOrder vs (IsPermutation-refl vs) p) q
-in_some_order m vs (Broken a p q) = Broken a (InOrder vs (IsPermutation-refl vs) p) q

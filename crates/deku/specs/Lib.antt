@@ -24,7 +24,6 @@ pub mod Collected
 pub mod Texts
 pub mod Extents
 pub mod Limits
-pub mod Walks
 pub mod VectorLaws
 pub mod Rows
 pub mod Wholes

@@ -84,16 +84,15 @@ impl<
     }
 }
 
-/// Each entry once, a key and then its value, under the items' context, in the order in which the map is walked, which is open. The refusal
-/// is that of the first that is refused, and what those before it moved stays moved. It takes no memory.
+/// Each entry once, a key and then its value, under the items' context, in the order in which the map is walked, which is open but the same
+/// until the map changes. The refusal is that of the first that is refused, and what those before it moved stays moved. It takes no memory.
 impl<Ctx: Copy, K: DekuWriter<Ctx> + Eq + Hash, V: DekuWriter<Ctx>, S: BuildHasher> DekuWriter<Ctx>
     for HashMap<K, V, S> {
-    ghost use Rattle.deku.specs.Composing.{Both};
-    ghost use Rattle.deku.specs.Walks.{WritesInSomeOrder};
+    ghost use Rattle.deku.specs.Composing.{Both, WritesEach};
 
     ghost accepts = { λ c. K.accepts c × V.accepts c };
 
-    ghost meaning = { λ m c. WritesInSomeOrder (λ p. Both (K.meaning p.0 c) (V.meaning p.1 c)) m.entries };
+    ghost meaning = { λ m c. WritesEach (λ p. Both (K.meaning p.0 c) (V.meaning p.1 c)) m.entries };
 
     fn to_writer<W: Sink>(&self, writer: &mut Writer<W>, ctx: Ctx) -> Result<(), DekuError> {
         for (key, value) in self {

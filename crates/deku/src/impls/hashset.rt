@@ -74,14 +74,14 @@ impl<T: DekuReader<()> + Eq + Hash, S: BuildHasher + Default + Drop, P: Predicat
     }
 }
 
-/// Each item once, under the items' context, in the order in which the set is walked, which is open. The refusal is that of the first that
-/// is refused, and what those before it moved stays moved. It takes no memory.
+/// Each item once, under the items' context, in the order in which the set is walked, which is open but the same until the set changes. The
+/// refusal is that of the first that is refused, and what those before it moved stays moved. It takes no memory.
 impl<Ctx: Copy, T: DekuWriter<Ctx> + Eq + Hash, S: BuildHasher> DekuWriter<Ctx> for HashSet<T, S> {
-    ghost use Rattle.deku.specs.Walks.{WritesInSomeOrder};
+    ghost use Rattle.deku.specs.Composing.{WritesEach};
 
     ghost accepts = { T.accepts };
 
-    ghost meaning = { λ m c. WritesInSomeOrder (λ x. T.meaning x c) m.keys };
+    ghost meaning = { λ m c. WritesEach (λ x. T.meaning x c) m.keys };
 
     fn to_writer<W: Sink>(&self, writer: &mut Writer<W>, ctx: Ctx) -> Result<(), DekuError> {
         for item in self {
