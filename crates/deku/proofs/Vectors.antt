@@ -1,5 +1,5 @@
 -- Numbers of one layout, written one after the other and read back.
-use Rattle.std.proofs.Common.{◌≡◌, ◌⊎◌, ℕ, zero, suc, ◌+◌, ◌*◌, ◌-◌, ◌<◌, ◌≤◌, ◌^◌, Bool, false, List, [], ◌∷◌, ◌++◌, length, map, take, drop, Option, Some, Result, Ok, Err, ℤ, refl, ap, sym, ◌∙◌, subst, inl, inr, arith, append-nil, length-append}
+use Rattle.std.proofs.Common.{◌≡◌, ◌⊎◌, ℕ, zero, suc, ◌+◌, ◌*◌, ◌<◌, ◌≤◌, ◌^◌, false, List, [], ◌∷◌, ◌++◌, length, map, Option, Some, Result, Ok, Err, ℤ, refl, ap, sym, ◌∙◌, subst, inl, inr, arith, append-nil, length-append}
 use Rattle.std.specs.List.{All, AllZip}
 use Rattle.std.specs.Io.KnownBytes.{Appends}
 use Rattle.std.proofs.KnownBytes.{Appends-nil}
@@ -11,16 +11,16 @@ use Rattle.deku_bits.specs.declared.error.DekuError.TheVariants.{Io}
 use Rattle.deku_bits.specs.Bits.{shown}
 use Rattle.deku_bits.specs.Streams.{Stream, Has, taken, left, fresh}
 use Rattle.deku_bits.specs.Pieces.{Piece, piece, shape, AlignedFrom, Aligned, laid_out}
-use Rattle.deku_bits.specs.Writers.{Pending, Nothing, Written, append, padded, finalized}
+use Rattle.deku_bits.specs.Writers.{Written, append, padded, finalized}
 use Rattle.deku_bits.specs.Symmetry.{followed, appended, packed, Takes}
 use Rattle.deku_bits.specs.Standings.{Standing, Going, Output}
-use Rattle.deku_bits.specs.WriterCalls.{Took, WritesBits, Finalizes}
+use Rattle.deku_bits.specs.WriterCalls.{WritesBits, Finalizes}
 use Rattle.deku_bits.proofs.Gives.{Shrinks-none}
 use Rattle.deku_bits.proofs.Reading.{read_law}
 use Rattle.deku_bits.proofs.Writing.{write_law}
 use Rattle.deku_num.specs.declared.kind.NumberType.{NumberType}
 use Rattle.deku_num.specs.declared.ctx.Layout.{Layout}
-use Rattle.deku_num.specs.Numbers.{width, value, Fits, IsAllowed, IsFieldOf, IsListFor}
+use Rattle.deku_num.specs.Numbers.{width, value, Fits, IsAllowed, IsFieldOf}
 use Rattle.deku_num.specs.NumberCalls.{Refused, Passed, ReadsNumber, WritesNumber}
 use Rattle.deku_num.proofs.FieldBits.{listed_for, one_list}
 use Rattle.deku.specs.Composing.{Answered, Second, First, WritesEach}

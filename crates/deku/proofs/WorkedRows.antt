@@ -1,5 +1,5 @@
 -- The worked examples of vectors that are written, call after call.
-use Rattle.std.proofs.Common.{◌≡◌, ℕ, ◌+◌, ◌*◌, ◌<◌, ◌^◌, Bool, false, List, [], ◌∷◌, length, ℤ, pos, Option, Some, None, Result, Ok, refl, arith, inl, inr}
+use Rattle.std.proofs.Common.{ℕ, ◌+◌, ◌*◌, ◌<◌, ◌^◌, Bool, false, List, [], ◌∷◌, length, ℤ, pos, Some, None, Ok, refl, arith, inl, inr}
 use Rattle.deku_bits.specs.declared.ctx.Order.TheVariants.{Msb0}
 use Rattle.deku_bits.specs.Bits.{bits_of, shown}
 use Rattle.deku_bits.specs.Writers.{Pending, Nothing, Held, append, finalized, padded}

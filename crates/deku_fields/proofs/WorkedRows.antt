@@ -131,8 +131,8 @@ pub promise_rows : PromiseRows
 promise_rows =
     let row : BothWays word_items (0x69 ∷ 0xC0 ∷ 0xFE ∷ []) = list_rows.halves_and_word in
     let same : (bytes : List ℕ) → LaysOut word_items bytes → bytes ≡ 0x69 ∷ 0xC0 ∷ 0xFE ∷ [] = λ bytes l.
-        let law = layout_law word_items row.fitting in
-        law.2 bytes l ∙ sym (law.2 (0x69 ∷ 0xC0 ∷ 0xFE ∷ []) row.laid) in
+    let law = layout_law word_items row.fitting in
+    law.2 bytes l ∙ sym (law.2 (0x69 ∷ 0xC0 ∷ 0xFE ∷ []) row.laid) in
     record {
       begins = record { of_fields = refl; fitting = row.fitting; aligned = row.aligned; written = 0x69 ∷ 0xC0 ∷ 0xFE ∷ []; laid = row.laid; begins = refl };
       fills = record { fitting = row.fitting; aligned = row.aligned; laid = row.laid; none = refl; room = omega arith; countable = omega arith };
