@@ -9,11 +9,14 @@ pub mod Taking
 pub mod Rewriting
 pub mod Lengths
 pub mod Packing
+pub mod Packed
 pub mod Parts
 pub mod Handing
 pub mod Moving
 pub mod Skips
 pub mod Bytes
+pub mod Handouts
+pub mod Words
 pub mod ReaderLaws
 pub mod BitPlaces
 pub mod Overlays

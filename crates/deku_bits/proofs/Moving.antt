@@ -1,8 +1,9 @@
 -- Bits that go from a window and the bytes to come, against what is taken from a stream and left.
-use Rattle.std.proofs.Common.{◌≡◌, ◌≢◌, ◌⊎◌, ℕ, ◌+◌, ◌*◌, ◌^◌, ◌<◌, ◌≤◌, Bool, false, List, [], ◌∷◌, ◌++◌, length, take, drop, Option, Some, None, Result, Ok, Err, arith, refl, sym, ap, ap₂, ◌∙◌, inl, inr, ⊎_elim, length-append, append_assoc, eq-eqb, ne_eqb}
+use Rattle.std.proofs.Common.{◌≡◌, ◌≢◌, ◌⊎◌, ℕ, suc, set, append-nil, ◌+◌, ◌*◌, ◌-◌, ◌^◌, ◌<◌, ◌≤◌, Bool, false, List, [], ◌∷◌, ◌++◌, length, take, drop, Option, Some, None, Result, Ok, Err, arith, refl, sym, ap, ap₂, ◌∙◌, subst, inl, inr, ⊎_elim, length-append, append_assoc, eq-eqb, ne_eqb}
 use Rattle.std.proofs.lemmas.Bool.{cases_eq, cases_lt}
-use Rattle.std.proofs.lemmas.List.{take_at, drop_at}
+use Rattle.std.proofs.lemmas.List.{take_at, drop_at, drop_all, length-take, length-drop, length-set}
 use Rattle.std.proofs.lemmas.List.Concat.{flat_map-append}
+use borrow.Rule.Slice.PartMut.{mid_of, put_mid}
 use Rattle.std.specs.Io.KnownBytes.{Consumes}
 use Rattle.std.specs.declared.io.ErrorKind.{ErrorKind}
 use Rattle.std.specs.declared.io.ErrorKind.TheVariants.{UnexpectedEof}
@@ -11,9 +12,9 @@ use Rattle.deku_bits.specs.declared.error.DekuError.{DekuError}
 use Rattle.deku_bits.specs.declared.error.DekuError.TheVariants as error
 use Rattle.deku_bits.specs.declared.error.Fault.{Fault}
 use Rattle.deku_bits.specs.declared.error.Fault.TheVariants as fault
-use Rattle.deku_bits.specs.Bits.{byte_bits, facing}
+use Rattle.deku_bits.specs.Bits.{byte_bits, facing, groups}
 use Rattle.deku_bits.specs.Streams.{Stream, Has, seen, taken, left, normal, touched}
-use Rattle.deku_bits.specs.Devices.{Health, FewerThan, NoFewerFailures, MoreFailures}
+use Rattle.deku_bits.specs.Devices.{Health, FewerThan, Loses, NoFewerFailures, MoreFailures}
 use Rattle.deku_bits.specs.Standings.{Standing, Going, Stopped, stream_of, reader_state}
 use Rattle.deku_bits.specs.Outcomes.{Outcome, Quiet, Broken}
 use Rattle.deku_bits.specs.Faults.{error_of}
@@ -71,6 +72,62 @@ supplied w None b u o e p = tt
 supplied w (Some xs) b None o e p = absurd p
 supplied w (Some xs) b (Some ys) o e p = (rw (e, p, facing_nil o) refl, (b ∷ [], p))
 
+-- ---- bytes that are fetched at once
+-- bytes behind a window
+pub fetched : (o : Order) (w : List Bool) (t : Option (List ℕ)) (bs : List ℕ) (u : Option (List ℕ)) → Consumes t u bs → Moves o w t (facing o w ++ flow o bs) [] u
+fetched o w None bs u p = tt
+fetched o w (Some xs) bs None p = absurd p
+fetched o w (Some xs) bs (Some ys) p = (
+  ap (λ s. facing o w ++ s) (ap (flow o) p ∙ flow-append o bs ys)
+      ∙ sym (append_assoc (facing o w) (flow o bs) (flow o ys))
+      ∙ ap (λ s. (facing o w ++ flow o bs) ++ s) (sym (ap (λ s. s ++ flow o ys) (facing_nil o))),
+  (bs, p),
+)
+
+-- bytes behind a window of eight, which is put back
+pub fetched_full : (o : Order) (w : List Bool) (b : ℕ) (t : Option (List ℕ)) (bs : List ℕ) (u : Option (List ℕ)) → byte_bits b ≡ w → Consumes t u bs → Moves o w t (facing o [] ++ flow o (b ∷ bs)) [] u
+fetched_full o w b t bs u e p =
+    let same : facing o w ++ flow o bs ≡ facing o [] ++ flow o (b ∷ bs) = ap (λ s. facing o s ++ flow o bs) (sym e) ∙ ap (λ s. s ++ flow o (b ∷ bs)) (sym (facing_nil o)) in
+    subst (λ s. Moves o w t s [] u) same (fetched o w t bs u p)
+
+-- a slice whose first byte is put there, and whose others are filled
+pub behind_first : (b : ℕ) (dst new : List ℕ) → 0 < length dst → length new ≡ length dst - 1 → put_mid 1 (length (set dst 0 b) - 1) (set dst 0 b) new ≡ b ∷ new
+behind_first b [] new p l = absurd (omega arith)
+behind_first b (x ∷ xs) new p l =
+    let k : ℕ = suc (length xs) - 1 in
+    let none : drop k xs ≡ [] = drop_all k xs (omega arith) in
+    ap (λ s. b ∷ (new ++ s)) none ∙ ap (λ s. b ∷ s) (append-nil new)
+
+pub behind_length : (b : ℕ) (dst : List ℕ) → length (mid_of 1 (length (set dst 0 b) - 1) (set dst 0 b)) ≡ length dst - 1
+behind_length b dst = length-take (length (set dst 0 b) - 1) (drop 1 (set dst 0 b)) ∙ omega (arith, length-drop 1 (set dst 0 b), length-set dst 0 b)
+
+-- the bytes of so many bits are too many
+pub fewer_fetched : (w : List Bool) (t : Option (List ℕ)) (k n : ℕ) → FewerThan k t → length w + 8 * k < n + 8 → FewerBits n w t
+fewer_fetched w None k n f h = tt
+fewer_fetched w (Some xs) k n f h = omega (arith, f)
+
+-- of the bits that are given, the last stay in a window
+pub moves_keep : (o : Order) (w : List Bool) (t : Option (List ℕ)) (all bs v : List Bool) (u : Option (List ℕ)) → Moves o w t all [] u → all ≡ bs ++ facing o v → Moves o w t bs v u
+moves_keep o w None all bs v u p e = tt
+moves_keep o w (Some xs) all bs v None p e = absurd p
+moves_keep o w (Some xs) all bs v (Some ys) p e = (
+  p.0 ∙ ap₂ (λ a f. a ++ (f ++ flow o ys)) e (facing_nil o) ∙ append_assoc bs (facing o v) (flow o ys),
+  p.1,
+)
+
+-- bits that a window gives
+pub moves_inside : (o : Order) (w : List Bool) (t : Option (List ℕ)) (bs v : List Bool) → facing o w ≡ bs ++ facing o v → Moves o w t bs v t
+moves_inside o w None bs v e = tt
+moves_inside o w (Some xs) bs v e = (ap (λ s. s ++ flow o xs) e ∙ append_assoc bs (facing o v) (flow o xs), ([], refl))
+
+-- bits of a window, and then bits of bytes behind it
+pub handed : (o : Order) (w v x : List Bool) (t u : Option (List ℕ)) (bytes : List ℕ) (first second : List Bool) → Consumes t u bytes
+    → facing o w ≡ first ++ facing o v → facing o v ++ flow o bytes ≡ second ++ facing o x → Moves o w t (first ++ second) x u
+handed o w v x t u bytes first second p e f =
+    let all : facing o w ++ flow o bytes ≡ (first ++ second) ++ facing o x =
+    ap (λ s. s ++ flow o bytes) e ∙ append_assoc first (facing o v) (flow o bytes) ∙ ap (λ s. first ++ s) f ∙ sym (append_assoc first second (facing o x)) in
+    moves_keep o w t (facing o w ++ flow o bytes) (first ++ second) x u (fetched o w t bytes u p) all
+
 -- ---- what is taken and left
 -- bits that were given, and a window below eight: the stream that is left
 left_is : (o : Order) (w : List Bool) (xs : List ℕ) (bs v : List Bool) (ys run : List ℕ) → length w ≤ 8 → length v < 8
@@ -108,6 +165,26 @@ moved_left o w xs bs v ys l moved short none = ⊎_elim
     let e = none z in
     ap (λ k. left o k (at w xs)) z ∙ left_none o (at w xs) ∙ ap₂ at (sym e.0) (sym (some_same ys xs e.1)))
     (λ (p : 1 ≤ length bs). left_is o w xs bs v ys moved.1.0 l (short p) moved.0 moved.1.1)
+    (cases_lt (length bs) 1)
+
+-- as many bytes were fetched as the bits behind the window need
+pub moved_loses : (o : Order) (w : List Bool) (t : Option (List ℕ)) (n : ℕ) (bs v : List Bool) (u : Option (List ℕ)) → length bs ≡ n → length w ≤ 8
+    → Moves o w t bs v u → (0 < length bs → length v < 8) → (length bs ≡ 0 → (v ≡ w) × (u ≡ t)) → Loses (groups (n - length w)) t u
+moved_loses o w None n bs v u e l moved short none = tt
+moved_loses o w (Some xs) n bs v None e l moved short none = absurd moved
+moved_loses o w (Some xs) n bs v (Some ys) e l moved short none = ⊎_elim
+    (λ (p : length bs < 1).
+    let same : ys ≡ xs = some_same ys xs (none (omega arith)).1 in
+    let k : groups (n - length w) ≡ 0 = omega arith in
+    rw k (omega arith, same))
+    (λ (p : 1 ≤ length bs).
+    let run : List ℕ = moved.1.0 in
+    let small : length v < 8 = short p in
+    let parts : length xs ≡ length run + length ys = ap length moved.1.1 ∙ length-append run ys in
+    let count : length w + 8 * length run ≡ n + length v =
+    omega (arith, ap length moved.0, length-seen o w xs, length-seen o v ys, length-append bs (seen o (at v ys))) in
+    let k : groups (n - length w) ≡ length run = omega arith in
+    rw k (omega arith, sym (ap (drop (length run)) moved.1.1 ∙ drop_at run ys (length run) refl)))
     (cases_lt (length bs) 1)
 
 -- as many bits as were given were there

@@ -79,7 +79,7 @@ unreserved moves n false (Stopped e c) r u p = inl p
 unreserved moves n true (Stopped e c) r u p = absurd p
 
 -- as many bits are taken as were asked for
-taken_length : (o : Order) (n : ℕ) (b : Bool) (s : Standing (Option Stream)) (bits : List Bool) (u : Standing (Option Stream)) → Takes o n b s (Ok bits) u → length bits ≡ n
+pub taken_length : (o : Order) (n : ℕ) (b : Bool) (s : Standing (Option Stream)) (bits : List Bool) (u : Standing (Option Stream)) → Takes o n b s (Ok bits) u → length bits ≡ n
 taken_length o n false (Going a c) bits u (inl p) = let h = p.1.2 in absurd (cc)
 taken_length o n false (Going (Some S) c) bits u (inr (room, inl p)) = ap length (ok_is bits (taken o n S) p.1) ∙ length-taken o n S p.0
 taken_length o n false (Going (Some S) c) bits u (inr (room, inr p)) = let h = p.1.0 in absurd (cc)

@@ -48,6 +48,15 @@ groups n = (n + 7) / 8
 abbrev pub group_number : Order → List Bool → ℕ
 group_number o g = bin (facing o g)
 
+-- the first number counts once, each further one 256 times as much
+abbrev pub little : List ℕ → ℕ
+little [] = 0
+little (c ∷ cs) = c + 256 * little cs
+
+-- the word of a list: the number of its groups, the first the lowest
+abbrev pub word : Order → List Bool → ℕ
+word o s = little (map (group_number o) (chunks s))
+
 -- what a read shows of the list that it took: in `Lsb0` it is reversed, and where it is whole bytes, byte by byte
 unfoldable pub shown : Order → List Bool → List Bool
 shown Msb0 s = s

@@ -55,6 +55,12 @@ Passes n None new = ⊤
 Passes n (Some bs) None = ⊥
 Passes n (Some bs) (Some cs) = cs ≡ drop n bs
 
+-- bytes that are told are at least n, and lose the first n of them
+abbrev pub Loses : ℕ → Option (List ℕ) → Option (List ℕ) → Type 0
+Loses n None new = ⊤
+Loses n (Some bs) None = ⊥
+Loses n (Some bs) (Some cs) = (n ≤ length bs) × (cs ≡ drop n bs)
+
 -- where no byte was to come, none is
 abbrev pub StaysEmpty : Option (List ℕ) → Option (List ℕ) → Type 0
 StaysEmpty None new = ⊤

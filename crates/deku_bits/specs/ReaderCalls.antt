@@ -1,5 +1,5 @@
 -- What the calls of a reader do.
-use Rattle.std.specs.Prelude.{◌≡◌, ◌⊎◌, ℕ, ◌+◌, ◌*◌, ◌<◌, ◌≤◌, Bool, true, false, List, [], length, Option, None, Some, Result, Ok, Err}
+use Rattle.std.specs.Prelude.{◌≡◌, ◌⊎◌, ℕ, ◌+◌, ◌*◌, ◌-◌, ◌<◌, ◌≤◌, Bool, true, false, List, [], length, Option, None, Some, Result, Ok, Err}
 use Rattle.std.specs.Global.{Vec}
 use Rattle.std.specs.declared.io.ErrorKind.TheVariants.{OutOfMemory}
 use Rattle.deku_bits.specs.declared.ctx.Order.{Order}
@@ -8,9 +8,9 @@ use Rattle.deku_bits.specs.declared.error.DekuError.TheVariants.{Incomplete, Io}
 use Rattle.deku_bits.specs.declared.reader.Reader.{Reader}
 use Rattle.deku_bits.specs.declared.reader.Leftover.{Leftover}
 use Rattle.deku_bits.specs.declared.reader.Leftover.TheVariants.{Byte, Bits}
-use Rattle.deku_bits.specs.Bits.{byte_bits, shown, bits_in, bytes_of}
+use Rattle.deku_bits.specs.Bits.{byte_bits, shown, bits_in, bytes_of, groups, word}
 use Rattle.deku_bits.specs.Streams.{Stream, bit_count, Has, Lacks, taken, left, last_part, passed, skipped}
-use Rattle.deku_bits.specs.Devices.{SourceTold}
+use Rattle.deku_bits.specs.Devices.{SourceTold, Loses}
 use Rattle.deku_bits.specs.Standings.{Standing, Going, Stopped, reader_state}
 use Rattle.deku_bits.specs.Outcomes.{Meaning, Outcome, UnlessStopped, Counted, Reserving, Mapped}
 
@@ -47,6 +47,10 @@ ReadsVec o n = Mapped (shown o) (UnlessStopped (Counted n (Reserving (Transfers 
 abbrev pub ReadsBytes : Order → ℕ → Meaning (Option Stream) (List ℕ)
 ReadsBytes o n = Mapped bytes_of (ReadsBits o (8 * n))
 
+-- n bits are taken in an order, as their word
+abbrev pub ReadsWord : Order → ℕ → Meaning (Option Stream) ℕ
+ReadsWord o n = Mapped (word o) (Takes o n)
+
 -- whether the end of input is reached: over a stream that is told, where no bit is left; the stream is the same
 abbrev pub Peeks : Option Stream → ℕ → Result Bool DekuError → Standing (Option Stream) → Type 0
 Peeks (Some S) c r u = (((bit_count S ≡ 0) × (r ≡ Ok true)) ⊎ ((0 < bit_count S) × (r ≡ Ok false))) × (u ≡ Going (Some S) c)
@@ -80,6 +84,10 @@ window_of (Stopped e c) = []
 -- no byte is fetched too early: fewer than eight bits of the last one are unread, or nothing changed
 abbrev pub NoneEarly : Standing (List Bool) → Standing (List Bool) → Type 0
 NoneEarly s u = (length (window_of u) < 8) ⊎ (u ≡ s)
+
+-- as many bytes were fetched as n bits need behind the unread ones, and no more
+abbrev pub FetchesFor : ℕ → Standing (List Bool) → SourceTold → SourceTold → Type 0
+FetchesFor n s old new = Loses (groups (n - length (window_of s))) old.coming new.coming
 
 -- what was read, where the call succeeds
 abbrev pub items_of : Result (Vec Bool) DekuError → Result (List Bool) DekuError

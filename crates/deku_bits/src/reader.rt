@@ -1,10 +1,10 @@
 //! Reading bits.
 
-ghost use Rattle.std.specs.Prelude.{◌≡◌, ◌+◌, ◌*◌, ◌≤◌, [], length, take, drop, IfOk, IfErr};
+ghost use Rattle.std.specs.Prelude.{◌≡◌, ◌+◌, ◌*◌, ◌≤◌, [], length, take, drop, OnOk, IfOk, IfErr};
 ghost use Rattle.std.specs.Borrow.{Lends, sem};
 ghost use Rattle.deku_bits.specs.Kept.{Admits};
 ghost use Rattle.deku_bits.specs.Standings.{Going, Untouched, count_of};
-ghost use Rattle.deku_bits.specs.ReaderCalls.{Reads, Takes, Ending, Skips, ReadsBits, ReadsVec, ReadsBytes, NoneEarly, IsLeftover, filling, items_of, window_of};
+ghost use Rattle.deku_bits.specs.ReaderCalls.{Reads, Takes, Ending, Skips, ReadsBits, ReadsVec, ReadsBytes, ReadsWord, FetchesFor, NoneEarly, IsLeftover, filling, items_of, window_of};
 ghost use Rattle.deku_bits.specs.contracts.reader.Reader.{the_row as reader-row};
 
 mod progress;
@@ -115,11 +115,12 @@ impl<R: Source> Reader<R> {
     pub fn leftover(&self) -> Option<Leftover>
         ensures { IsLeftover (window_of self.now.state) result }
     {
-        let unread = self.state.unread();
-        if unread.is_empty() {
+        let count = self.state.unread_len();
+        if count == 0 {
             return None;
         }
-        let bits: BoundedBitVec<1> = BoundedBitVec::from_bits(unread);
+        let eight = self.state.unread_in_eight();
+        let bits: BoundedBitVec<1> = BoundedBitVec::from_bits(&eight[8 - count..]);
         if bits.is_full() {
             return Some(Leftover::Byte(bits.as_raw_slice()[0]));
         }
@@ -145,7 +146,8 @@ impl<R: Source> Reader<R> {
         ensures ok { IfOk result (λ v. v.items ≡ window_of self.now.state) }
         ensures err { IfErr result (λ e. e ≡ DekuError.Io ErrorKind.OutOfMemory) }
     {
-        match self.state.unread().to_vec(self.alloc) {
+        let eight = self.state.unread_in_eight();
+        match eight[8 - self.state.unread_len()..].to_vec(self.alloc) {
             Ok(bits) => Ok(bits),
             Err(_) => Err(DekuError::Io(ErrorKind::OutOfMemory)),
         }
@@ -215,6 +217,7 @@ impl<R: Source> Reader<R> {
     /// Takes as many bits as the buffer is long, as the order meets them.
     pub(crate) fn take_bits(&mut self, dst: &mut [bool], order: Order) -> Result<(), DekuError>
         ensures takes { Reads R.told (Takes order (length dst.old)) self.old (filling result dst.new) self.new }
+        ensures fetched { OnOk result (FetchesFor (length dst.old) self.old.state (R.told self.old.source) (R.told self.new.source)) }
         ensures early { NoneEarly self.old.state self.new.state }
         ensures stopped { Untouched self.old.state self.old.source self.new.source }
     {
@@ -233,6 +236,7 @@ impl<R: Source> Reader<R> {
     /// ```
     pub fn read_bits_into(&mut self, dst: &mut [bool], order: Order) -> Result<(), DekuError>
         ensures reads { Reads R.told (ReadsBits order (length dst.old)) self.old (filling result dst.new) self.new }
+        ensures fetched { OnOk result (FetchesFor (length dst.old) self.old.state (R.told self.old.source) (R.told self.new.source)) }
         ensures early { NoneEarly self.old.state self.new.state }
         ensures stopped { Untouched self.old.state self.old.source self.new.source }
     {
@@ -252,6 +256,7 @@ impl<R: Source> Reader<R> {
     /// ```
     pub fn read_bits(&mut self, amt: usize, order: Order) -> Result<Vec<bool>, DekuError>
         ensures reads { Reads R.told (ReadsVec order amt) self.old (items_of result) self.new }
+        ensures fetched { OnOk result (FetchesFor amt self.old.state (R.told self.old.source) (R.told self.new.source)) }
         ensures early { NoneEarly self.old.state self.new.state }
         ensures stopped { Untouched self.old.state self.old.source self.new.source }
     {
@@ -261,6 +266,25 @@ impl<R: Source> Reader<R> {
         };
         self.read_bits_into(bits.as_mut_slice(), order)?;
         Ok(bits)
+    }
+
+    /// The word of the next `amt` bits. The caller's condition: they are at most 128.
+    ///
+    /// Of the bits that the order takes, each eight from the first on make a group, and the last group may be shorter. A group's number has its
+    /// first bit as the highest in `Msb0`, and as the lowest in `Lsb0`. In the word the first group's number counts once, each further
+    /// one 256 times as much. It takes no memory. What is refused, and what is left then, is said at `Reader`.
+    ///
+    /// ```text
+    /// reader.read_word(12, Order::Msb0)?; // from AB CD: 0xCAB
+    /// ```
+    pub fn read_word(&mut self, amt: usize, order: Order) -> Result<u128, DekuError>
+        requires { amt ≤ 128 }
+        ensures reads { Reads R.told (ReadsWord order amt) self.old result self.new }
+        ensures fetched { OnOk result (FetchesFor amt self.old.state (R.told self.old.source) (R.told self.new.source)) }
+        ensures early { NoneEarly self.old.state self.new.state }
+        ensures stopped { Untouched self.old.state self.old.source self.new.source }
+    {
+        self.state.take_word(&mut self.source, amt, order)
     }
 
     /// Reads `amt` bytes into the front of the buffer; what is behind them in it stays. The caller's condition: the buffer is as
@@ -284,6 +308,7 @@ impl<R: Source> Reader<R> {
         requires { amt ≤ length buf.old }
         ensures front { Reads R.told (ReadsBytes order amt) self.old (filling result (take amt buf.new)) self.new }
         ensures behind { drop amt buf.new ≡ drop amt buf.old }
+        ensures fetched { OnOk result (FetchesFor (8 * amt) self.old.state (R.told self.old.source) (R.told self.new.source)) }
         ensures early { NoneEarly self.old.state self.new.state }
         ensures stopped { Untouched self.old.state self.old.source self.new.source }
     {
@@ -304,6 +329,7 @@ impl<R: Source> Reader<R> {
         order: Order,
     ) -> Result<ReaderRet, DekuError>
         ensures reads { Reads R.told (ReadsBytes order N) self.old (filling result buf.new) self.new }
+        ensures fetched { OnOk result (FetchesFor (8 * N) self.old.state (R.told self.old.source) (R.told self.new.source)) }
         ensures early { NoneEarly self.old.state self.new.state }
         ensures stopped { Untouched self.old.state self.old.source self.new.source }
     {
@@ -323,6 +349,7 @@ impl<R: Source> Reader<R> {
         order: Order,
     ) -> Result<(), DekuError>
         ensures reads { Reads R.told (ReadsBytes order N) self.old (filling result buf.new) self.new }
+        ensures fetched { OnOk result (FetchesFor (8 * N) self.old.state (R.told self.old.source) (R.told self.new.source)) }
         ensures early { NoneEarly self.old.state self.new.state }
         ensures stopped { Untouched self.old.state self.old.source self.new.source }
     {

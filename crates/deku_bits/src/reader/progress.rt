@@ -1,6 +1,6 @@
 //! What a reader keeps beside its source, and how it takes bits.
 
-ghost use Rattle.std.specs.Prelude.{◌≡◌, ◌≢◌, ℕ, ◌*◌, ◌^◌, ◌<◌, ◌≤◌, ◌⊎◌, [], ◌∷◌, length, IfOk, OnOk, IfErr};
+ghost use Rattle.std.specs.Prelude.{◌≡◌, ◌≢◌, ℕ, ◌*◌, ◌^◌, ◌<◌, ◌≤◌, ◌⊎◌, ◌-◌, [], ◌∷◌, length, drop, IfOk, OnOk, IfErr};
 ghost use Rattle.std.specs.Io.KnownBytes.{Consumes};
 ghost use Rattle.std.specs.IoError.{error_kind};
 ghost use Rattle.deku_bits.specs.declared.ctx.Order.{Order as BitOrder};
@@ -8,18 +8,23 @@ ghost use Rattle.deku_bits.specs.Devices.{NoFewerFailures, MoreFailures, FewerTh
 ghost use Rattle.deku_bits.specs.Kept.{Admits};
 ghost use Rattle.deku_bits.specs.Moving.{Moves, FewerBits};
 ghost use Rattle.deku_bits.specs.Faults.{error_of};
-ghost use Rattle.deku_bits.specs.ReaderCalls.{ReadsAt, Takes, Ending, Skips, ReadsBytes, NoneEarly, filling, window_of};
+ghost use Rattle.deku_bits.specs.ReaderCalls.{ReadsAt, Takes, Ending, Skips, ReadsBytes, ReadsWord, FetchesFor, NoneEarly, filling, window_of};
 ghost use Rattle.deku_bits.specs.Standings.{Going, Stopped, Untouched, count_of};
 
+mod bits;
 mod bytes;
+mod fetching;
 mod skips;
+mod words;
 
 use super::window::Window;
 use crate::ctx::Order;
 use crate::device::Source;
 use crate::error::{DekuError, Fault, NeedSize};
+use crate::reader::progress::bits::bits_into;
 use crate::reader::progress::bytes::bytes_into;
 use crate::reader::progress::skips::{drop_bits, pass_bytes, pop_bits};
+use crate::reader::progress::words::word_from;
 use std::io;
 use std::io::ErrorKind;
 use std::marker::Model;
@@ -81,14 +86,24 @@ impl Progress {
         self.bits_read
     }
 
-    /// The unread bits, high bit first; none where the reader has stopped.
-    pub fn unread(&self) -> &[bool]
-        ensures value { result.now ≡ window_of self.now }
-        ensures bound { length result.now ≤ 8 }
+    /// How many bits of a byte are unread; none where the reader has stopped.
+    pub fn unread_len(&self) -> usize
+        ensures value { result ≡ length (window_of self.now) }
+        ensures bound { result ≤ 8 }
     {
         match self.fault {
-            None => self.window.as_slice(),
-            Some(_) => &[],
+            None => self.window.len(),
+            Some(_) => 0,
+        }
+    }
+
+    /// Eight bits, of which the last are those that are unread.
+    pub fn unread_in_eight(&self) -> [bool; 8]
+        ensures { drop (8 - length (window_of self.now)) result ≡ window_of self.now }
+    {
+        match self.fault {
+            None => self.window.in_eight(),
+            Some(_) => [false; 8],
         }
     }
 
@@ -125,17 +140,45 @@ impl Progress {
         order: Order,
     ) -> Result<(), DekuError>
         ensures takes { ReadsAt (Takes order (length dst.old)) (R.told source.old) self.old (filling result dst.new) (R.told source.new) self.new }
+        ensures fetched { OnOk result (FetchesFor (length dst.old) self.old (R.told source.old) (R.told source.new)) }
         ensures early { NoneEarly self.old self.new }
         ensures stopped { Untouched self.old source.old source.new }
     {
         self.admits(dst.len())?;
-        match take_into(source, &mut self.window, dst, order) {
+        match bits_into(source, &mut self.window, dst, order) {
             Ok(()) => {
                 self.bits_read += dst.len();
                 Ok(())
             }
             Err(error) => {
                 let fault = fault_of(&error, dst.len());
+                *self = Progress::stopped(fault, self.bits_read);
+                Err(fault.error())
+            }
+        }
+    }
+
+    /// Takes at most 128 bits in this order, as their word, and stops where that fails.
+    pub fn take_word<R: Source>(
+        &mut self,
+        source: &mut R,
+        amt: usize,
+        order: Order,
+    ) -> Result<u128, DekuError>
+        requires { amt ≤ 128 }
+        ensures reads { ReadsAt (ReadsWord order amt) (R.told source.old) self.old result (R.told source.new) self.new }
+        ensures fetched { OnOk result (FetchesFor amt self.old (R.told source.old) (R.told source.new)) }
+        ensures early { NoneEarly self.old self.new }
+        ensures stopped { Untouched self.old source.old source.new }
+    {
+        self.admits(amt)?;
+        match word_from(source, &mut self.window, amt, order) {
+            Ok(word) => {
+                self.bits_read += amt;
+                Ok(word)
+            }
+            Err(error) => {
+                let fault = fault_of(&error, amt);
                 *self = Progress::stopped(fault, self.bits_read);
                 Err(fault.error())
             }
@@ -150,6 +193,7 @@ impl Progress {
         order: Order,
     ) -> Result<(), DekuError>
         ensures reads { ReadsAt (ReadsBytes order (length dst.old)) (R.told source.old) self.old (filling result dst.new) (R.told source.new) self.new }
+        ensures fetched { OnOk result (FetchesFor (8 * length dst.old) self.old (R.told source.old) (R.told source.new)) }
         ensures early { NoneEarly self.old self.new }
         ensures stopped { Untouched self.old source.old source.new }
     {
@@ -239,60 +283,6 @@ fn fetch_byte<R: Source>(source: &mut R) -> io::Result<u8>
     let mut buf = [0u8; 1];
     source.fetch(&mut buf)?;
     Ok(buf[0])
-}
-
-// Sees to it that the window has a bit: by the next byte, where it has none.
-fn supply<R: Source>(source: &mut R, window: &mut Window) -> io::Result<()>
-    requires { length window.old ≤ 8 }
-    ensures some { OnOk result (0 < length window.new) }
-    ensures bound { OnOk result (length window.new ≤ 8) }
-    ensures moved { OnOk result ((order : BitOrder) → Moves order window.old (R.told source.old).coming [] window.new (R.told source.new).coming) }
-    ensures ended { IfErr result (λ e. error_kind e ≡ ErrorKind.UnexpectedEof → (window.old ≡ []) × FewerThan 1 (R.told source.old).coming) }
-    ensures failed { IfErr result (λ e. error_kind e ≢ ErrorKind.UnexpectedEof → MoreFailures (R.told source.old).health (R.told source.new).health) }
-    ensures kept { NoFewerFailures (R.told source.old).health (R.told source.new).health }
-{
-    if window.len() > 0 {
-        return Ok(());
-    }
-    let byte = fetch_byte(source)?;
-    *window = Window::of_byte(byte);
-    Ok(())
-}
-
-// Takes the next bit in this order.
-fn next_bit<R: Source>(source: &mut R, window: &mut Window, order: Order) -> io::Result<bool>
-    requires { length window.old ≤ 8 }
-    ensures bound { OnOk result (length window.new < 8) }
-    ensures moved { IfOk result (λ b. Moves order window.old (R.told source.old).coming (b ∷ []) window.new (R.told source.new).coming) }
-    ensures ended { IfErr result (λ e. error_kind e ≡ ErrorKind.UnexpectedEof → (window.old ≡ []) × FewerThan 1 (R.told source.old).coming) }
-    ensures failed { IfErr result (λ e. error_kind e ≢ ErrorKind.UnexpectedEof → MoreFailures (R.told source.old).health (R.told source.new).health) }
-    ensures kept { NoFewerFailures (R.told source.old).health (R.told source.new).health }
-{
-    supply(source, window)?;
-    Ok(window.pop(order))
-}
-
-// Fills the buffer with the next bits in this order.
-fn take_into<R: Source>(
-    source: &mut R,
-    window: &mut Window,
-    dst: &mut [bool],
-    order: Order,
-) -> io::Result<()>
-    requires { length window.old ≤ 8 }
-    ensures bound { OnOk result (length window.new ≤ 8) }
-    ensures short { OnOk result (0 < length dst.new → length window.new < 8) }
-    ensures none { OnOk result (length dst.new ≡ 0 → (window.new ≡ window.old) × ((R.told source.new).coming ≡ (R.told source.old).coming)) }
-    ensures moved { OnOk result (Moves order window.old (R.told source.old).coming dst.new window.new (R.told source.new).coming) }
-    ensures wanted { IfErr result (λ e. 0 < length dst.old) }
-    ensures ended { IfErr result (λ e. error_kind e ≡ ErrorKind.UnexpectedEof → FewerBits (length dst.old) window.old (R.told source.old).coming) }
-    ensures failed { IfErr result (λ e. error_kind e ≢ ErrorKind.UnexpectedEof → MoreFailures (R.told source.old).health (R.told source.new).health) }
-    ensures kept { NoFewerFailures (R.told source.old).health (R.told source.new).health }
-{
-    for bit in dst.iter_mut() {
-        *bit = next_bit(source, window, order)?;
-    }
-    Ok(())
 }
 
 // What stops a reader that wanted this many bits: the end of input, or the kind of the fault.

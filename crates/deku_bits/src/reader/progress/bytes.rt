@@ -1,21 +1,20 @@
-//! Bytes, taken bit by bit from a window and a source.
+//! Bytes, fetched into the caller's buffer and turned in place.
 
-ghost use Rattle.std.specs.Prelude.{◌≡◌, ◌≢◌, ◌*◌, ◌<◌, ◌≤◌, length, All, OnOk, IfOk, IfErr};
+ghost use Rattle.std.specs.Prelude.{◌≡◌, ◌≢◌, ◌*◌, ◌<◌, ◌≤◌, ◌++◌, length, All, OnOk, IfErr};
 ghost use Rattle.std.specs.IoError.{error_kind};
-ghost use Rattle.deku_bits.specs.Bits.{byte_bits, facing};
+ghost use Rattle.deku_bits.specs.Bits.{facing};
 ghost use Rattle.deku_bits.specs.Devices.{NoFewerFailures, MoreFailures};
 ghost use Rattle.deku_bits.specs.Moving.{Moves, FewerBits};
 ghost use Rattle.deku_bits.specs.Streams.{flow};
 
-use super::take_into;
-use crate::bounded::BoundedBitVec;
+use super::fetching::fetch_behind;
 use crate::ctx::Order;
 use crate::device::Source;
 use crate::reader::window::Window;
 use std::io;
 use std::io::ErrorKind;
 
-/// Fills the buffer with the next bytes in this order.
+/// Fills the buffer with the next bytes in this order. They are fetched into it at once, and turned there where bits of a byte are unread.
 pub fn bytes_into<R: Source>(
     source: &mut R,
     window: &mut Window,
@@ -31,34 +30,24 @@ pub fn bytes_into<R: Source>(
     ensures failed { IfErr result (λ e. error_kind e ≢ ErrorKind.UnexpectedEof → MoreFailures (R.told source.old).health (R.told source.new).health) }
     ensures kept { NoFewerFailures (R.told source.old).health (R.told source.new).health }
 {
-    for byte in dst.iter_mut() {
-        *byte = next_byte(source, window, order)?;
+    if dst.is_empty() {
+        return Ok(());
     }
+    fetch_behind(source, window, dst)?;
+    exchange_all(window, dst, order);
     Ok(())
 }
 
-// Takes the next byte in this order.
-fn next_byte<R: Source>(source: &mut R, window: &mut Window, order: Order) -> io::Result<u8>
-    requires { length window.old ≤ 8 }
-    ensures bound { OnOk result (length window.new < 8) }
-    ensures moved { IfOk result (λ b. Moves order window.old (R.told source.old).coming (facing order (byte_bits b)) window.new (R.told source.new).coming) }
-    ensures ended { IfErr result (λ e. error_kind e ≡ ErrorKind.UnexpectedEof → FewerBits 8 window.old (R.told source.old).coming) }
-    ensures failed { IfErr result (λ e. error_kind e ≢ ErrorKind.UnexpectedEof → MoreFailures (R.told source.old).health (R.told source.new).health) }
-    ensures kept { NoFewerFailures (R.told source.old).health (R.told source.new).health }
+/// Turns bytes that stand behind the window into those that begin with its bits. As many bits are then unread.
+pub fn exchange_all(window: &mut Window, dst: &mut [u8], order: Order)
+    ensures bits { facing order window.old ++ flow order dst.old ≡ flow order dst.new ++ facing order window.new }
+    ensures bytes { All (λ b. b < 256) dst.new }
+    ensures len { length window.new ≡ length window.old }
 {
-    let mut bits = [false; 8];
-    take_into(source, window, &mut bits, order)?;
-    Ok(byte_of(bits, order))
-}
-
-// The byte of eight bits that were taken in this order.
-fn byte_of(mut bits: [bool; 8], order: Order) -> u8
-    ensures { facing order (byte_bits result) ≡ bits }
-{
-    match order {
-        Order::Msb0 => {}
-        Order::Lsb0 => bits.reverse(),
+    if window.len() == 0 {
+        return;
     }
-    let held: BoundedBitVec<1> = BoundedBitVec::from_bits(&bits);
-    held.as_raw_slice()[0]
+    for byte in dst.iter_mut() {
+        *byte = window.exchange(*byte, order);
+    }
 }

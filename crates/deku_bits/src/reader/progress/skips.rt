@@ -6,7 +6,7 @@ ghost use Rattle.deku_bits.specs.Bits.{facing};
 ghost use Rattle.deku_bits.specs.Devices.{NoFewerFailures, MoreFailures, Passes};
 ghost use Rattle.deku_bits.specs.Moving.{Moves, FewerBits};
 
-use super::take_into;
+use super::bits::bits_into;
 use crate::ctx::Order;
 use crate::device::Source;
 use crate::reader::window::Window;
@@ -18,9 +18,7 @@ pub fn pop_bits(window: &mut Window, count: usize, order: Order)
     requires { count ≤ length window.old }
     ensures { (bits : List Bool) × (length bits ≡ count) × (facing order window.old ≡ bits ++ facing order window.new) }
 {
-    for _ in 0..count {
-        window.pop(order);
-    }
+    window.take(count, order);
 }
 
 /// Passes whole bytes. For none the source is not called.
@@ -56,5 +54,5 @@ pub fn drop_bits<R: Source>(
     ensures kept { NoFewerFailures (R.told source.old).health (R.told source.new).health }
 {
     let mut bits = [false; 8];
-    take_into(source, window, &mut bits[..count], order)
+    bits_into(source, window, &mut bits[..count], order)
 }

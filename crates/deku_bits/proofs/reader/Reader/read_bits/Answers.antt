@@ -41,3 +41,8 @@ returns-clause-reads g c =
     take_at bits (drop (length bits) c.in-Ok.bits.items) c.in-Ok.bits.len (same ∙ c.as_mut_slice.ensures.len) in
     let h = rw width at c.in_ok-read_bits_into.ensures.reads in
     rw whole (weaker (ReadsBits o n) (ReadsVec o n) _ _ _ _ _ (λ b m. mapped_memory_found (shown o) (Transfers o n) n b _ _ _ m) h)
+
+pub returns-clause-fetched : goal.returns-clause-fetched
+returns-clause-fetched g c =
+    let width : length c.as_mut_slice.result.now ≡ c.args.amt = c.as_mut_slice.ensures.len ∙ c.in-Ok.ensures.len in
+    rw width at c.in_ok-read_bits_into.ensures.fetched

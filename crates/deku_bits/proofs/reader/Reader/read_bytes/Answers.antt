@@ -18,3 +18,9 @@ returns-clause-front g c =
     let same : length dst ≡ amt = omega (arith, width) in
     let front : take amt (dst ++ drop amt c.args.buf.now) ≡ dst = take_at dst (drop amt c.args.buf.now) amt same in
     rw front (rw width at c.in_ok-take_bytes.ensures.reads)
+
+pub returns-clause-fetched : goal.returns-clause-fetched
+returns-clause-fetched g c =
+    let amt = c.args.amt in
+    let width : length (take amt c.args.buf.now) ≡ amt = simp length-take (omega arith) in
+    rw width at c.in_ok-take_bytes.ensures.fetched

@@ -2,8 +2,10 @@ use Rattle.std.proofs.Common.{◌≡◌, ◌∙◌, ◌*◌, length, arith}
 use Rattle.std.proofs.lemmas.Result.{err_from_is_err_and}
 use Rattle.deku_bits.specs.Bits.{bytes_of, shown}
 use Rattle.deku_bits.specs.ReaderCalls.{Transfers}
+use Rattle.deku_bits.specs.Streams.{flow}
+use Rattle.deku_bits.proofs.Cuts.{length-flow}
 use Rattle.deku_bits.proofs.Handing.{mapped_err, turned_away}
-use Rattle.deku_bits.proofs.Moving.{admitted, reader_admits}
+use Rattle.deku_bits.proofs.Moving.{moved_loses, admitted, reader_admits}
 use Rattle.deku_bits.proofs.Bytes.{bytes_ok, bytes_err}
 use Rattle.deku_bits.proofs.reader.progress.Progress.take_bytes.Goals as goal
 
@@ -37,3 +39,15 @@ returns-in-Err-clause-reads g c =
     rw (← c.self.view_is, may.0, c.error.ensures, at_end)
     (bytes_err c.args.order p.window (told c.args.source.now).coming p.bits_read n (told c.args.source.now).health (told c.bytes_into.new.source).health _ _
     c.fault_of-fault.ensures may.1 c.in-Err.ensures.ended c.in-Err.ensures.failed c.bytes_into.ensures.kept)
+
+pub returns-in-Ok-clause-fetched : goal.returns-in-Ok-clause-fetched
+returns-in-Ok-clause-fetched g c =
+    let told = g.R.Source.told in
+    let p = c.self.inside in
+    let n = length c.args.dst.now in
+    let bytes = c.bytes_into.new.dst in
+    let wide : length (flow c.args.order bytes) ≡ 8 * n = omega (arith, length-flow c.args.order bytes) in
+    let may = admitted p.window p.fault p.bits_read (8 * n) (rw (← c.self.view_is) at c.in_ok-admits_bytes.ensures.answer) in
+    rw (← c.self.view_is, may.0)
+    (moved_loses c.args.order p.window (told c.args.source.now).coming (8 * n) (flow c.args.order bytes) c.bytes_into.new.window (told c.bytes_into.new.source).coming
+    wide c.self.invariant c.in-Ok.ensures.moved (λ k. c.in-Ok.ensures.short (omega (arith, k, wide))) (λ z. c.in-Ok.ensures.none (omega (arith, z, wide))))
