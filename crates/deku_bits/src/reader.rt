@@ -38,8 +38,9 @@ pub enum ReaderRet {
 
 /// Reads bits from a source of bytes.
 ///
-/// It fetches one byte at a time, and none behind the last bit that was wanted. It keeps the bits of that byte that are not read
-/// yet. In `Msb0` the next bit is the highest of them, in `Lsb0` the lowest; the order may change at any bit.
+/// A read fetches the bytes that it needs behind the unread bits, a run of them at once, and none behind the last bit that was wanted.
+/// It keeps the bits of that byte that are not read yet. In `Msb0` the next bit is the highest of them, in `Lsb0` the lowest; the order
+/// may change at any bit.
 ///
 /// Each read is refused, in this order,
 ///
