@@ -2,20 +2,22 @@
 use Rattle.std.proofs.Common.{◌≡◌, ℕ, ◌%◌, ◌^◌, ◌<◌, Bool, true, false, List, length, Option, Result, Ok, Err, ℤ, pos, sym, ◌∙◌, ap, subst}
 use Rattle.deku_bits.specs.declared.ctx.Order.{Order}
 use Rattle.deku_bits.specs.declared.error.DekuError.{DekuError}
-use Rattle.deku_bits.specs.Bits.{shown}
+use Rattle.deku_bits.specs.Bits.{shown, word}
 use Rattle.deku_bits.specs.Streams.{Stream}
 use Rattle.deku_bits.specs.Devices.{Health}
 use Rattle.deku_bits.specs.Standings.{Standing, Output}
 use Rattle.deku_bits.specs.Outcomes.{Outcome, Quiet, Broken, Mapped, Value, Refusal}
-use Rattle.deku_bits.specs.ReaderCalls.{Takes, ReadsBits}
+use Rattle.deku_bits.specs.ReaderCalls.{Takes, ReadsBits, ReadsWord}
+use Rattle.deku_bits.proofs.ReaderLaws.{taken_length}
 use Rattle.deku_bits.specs.WriterCalls.{WritesBits}
 use Rattle.deku_bits.proofs.Shown.{shown-shown}
-use Rattle.deku_bits.proofs.Handing.{no_ok, mapped_ok, mapped_err, weaker}
+use Rattle.deku_bits.proofs.Handing.{no_ok, broken_at, mapped_ok, mapped_err, weaker}
 use Rattle.deku_num.specs.declared.ctx.Layout.{Layout}
 use Rattle.deku_num.specs.NumberLaws.{InType}
-use Rattle.deku_num.specs.Numbers.{NumberType, width, value, IsAllowed, IsListFor}
+use Rattle.deku_num.specs.Numbers.{NumberType, width, number, value, with_sign, IsAllowed, IsListFor}
 use Rattle.deku_num.specs.NumberCalls.{Passed, ReadsNumber, WritesNumber}
-use Rattle.deku_num.proofs.Ranges.{type_law}
+use Rattle.deku_num.proofs.Ranges.{type_law, signed_below}
+use Rattle.deku_num.proofs.Turned.{word_below}
 
 -- bits that are shown, turned back
 pub turned_back : (o : Order) (n : ℕ) {s : Standing (Option Stream)} {f : Health} {bits : List Bool} {u : Standing (Option Stream)} {g : Health}
@@ -25,6 +27,30 @@ turned_back o n {s} {f} {bits} {u} {g} (Quiet (Value v p e) q) =
     Quiet (subst (λ x. Takes o n false s (Ok x) u) (sym (ap (shown o) same ∙ shown-shown o v)) p) q
 turned_back o n (Quiet (Refusal d p e) q) = absurd (cc)
 turned_back o n (Broken a p q) = absurd (no_ok a)
+
+-- the bits whose word was read
+pub record WordRead (o : Order) (n k : ℕ) (s : Standing (Option Stream)) (f : Health) (u : Standing (Option Stream)) (g : Health) : Type 0 where
+  pub bits : List Bool
+  pub long : length bits ≡ n
+  pub worth : k ≡ word o bits
+  pub taken : Outcome (Takes o n) s f (Ok bits) u g
+
+pub word_read : (o : Order) (n : ℕ) {k : ℕ} {s : Standing (Option Stream)} {f : Health} {u : Standing (Option Stream)} {g : Health} → Outcome (ReadsWord o n) s f (Ok k) u g → WordRead o n k s f u g
+word_read o n {k} {s} {f} {u} {g} (Quiet (Value v p e) q) = record {
+  bits = v;
+  long = taken_length o n false s v u p;
+  worth = cc;
+  taken = Quiet p q;
+}
+word_read o n (Quiet (Refusal d p e) q) = absurd (cc)
+word_read o n (Broken a p q) = absurd (no_ok a)
+
+-- a refusal of a word is one of its bits
+pub word_refused : (o : Order) (n : ℕ) {e : DekuError} {s : Standing (Option Stream)} {f : Health} {u : Standing (Option Stream)} {g : Health} → Outcome (ReadsWord o n) s f (Err e) u g → Outcome (Takes o n) s f (Err e) u g
+word_refused o n {e} {s} {f} {u} {g} (Quiet (Refusal d p x) q) = let same : e ≡ d = cc in Quiet (subst (λ y. Takes o n false s (Err y) u) (sym same) p) q
+word_refused o n (Quiet (Value v p x) q) = absurd (cc)
+word_refused o n {e} {s} {f} {u} {g} (Broken a (Refusal d p x) q) = let same : e ≡ d = cc in Broken (broken_at a) (subst (λ y. Takes o n true s (Err y) u) (sym same) p) q
+word_refused o n (Broken a (Value v p x) q) = absurd (cc)
 
 -- the bits of a field were taken
 pub number_read : (t : NumberType) (l : Layout) (n : ℕ) {s : Standing (Option Stream)} {f : Health} {bits : List Bool} {u : Standing (Option Stream)} {g : Health}
@@ -56,3 +82,17 @@ unsigned_in_type t l s v g ok w e d =
     let r = subst (λ x. InType false t.bits x) (sym e) (subst (λ b. InType b t.bits (value t l s)) g (type_law t l d ok s w)) in
     let same : v ≡ r.0 = cc (r.1) in
     rw same r.2
+
+-- ---- words of fields
+-- a word that was read fits its bits
+pub word_fits : {o : Order} {n k : ℕ} {s : Standing (Option Stream)} {f : Health} {u : Standing (Option Stream)} {g : Health} → WordRead o n k s f u g → k < 2 ^ n
+word_fits {o} r = rw (r.worth, ← r.long) (word_below o (r.bits))
+
+-- the number of an unsigned field is what it is worth
+pub unsigned_worth : (t : NumberType) (l : Layout) (s : List Bool) (k : ℕ) → t.signed ≡ false → k ≡ number l.endian l.order s → pos k ≡ value t l s
+unfolding value
+unsigned_worth t l s k g e = ap pos e ∙ sym (ap (λ b. with_sign b (length s) (number l.endian l.order s)) g)
+
+-- the number of a signed field fits its bits
+pub number_fits : (t : NumberType) (l : Layout) (s : List Bool) (n k : ℕ) → t.signed ≡ true → IsAllowed t l → length s ≡ n → n ≡ width t l → k ≡ number l.endian l.order s → k < 2 ^ n
+number_fits t l s n k g ok e w q = rw (q, ← e) (signed_below t l s ok (e ∙ w) g)

@@ -1,6 +1,7 @@
 pub mod Chunked
 pub mod Values
 pub mod Ranges
+pub mod Turned
 pub mod Places
 pub mod Listing
 pub mod Carrying

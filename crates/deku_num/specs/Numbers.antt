@@ -2,7 +2,7 @@
 use Rattle.std.specs.Prelude.{ℕ, suc, ◌+◌, ◌*◌, ◌-◌, ◌%◌, ◌^◌, ◌≤◌, Bool, true, false, cond, leb, List, [], ◌∷◌, ◌≡◌, ◌⊎◌, map, length, ℤ, pos, negsuc, ◌-ℤ◌}
 use Rattle.deku_bits.specs.declared.ctx.Order.{Order}
 use Rattle.deku_bits.specs.declared.ctx.Order.TheVariants.{Msb0, Lsb0}
-use Rattle.deku_bits.specs.Bits.{bin, chunks, group_number}
+use Rattle.deku_bits.specs.Bits.{bin, chunks, group_number, little}
 use Rattle.deku_num.specs.declared.ctx.Endian.{Endian}
 use Rattle.deku_num.specs.declared.ctx.Endian.TheVariants.{Little, Big}
 use Rattle.deku_num.specs.declared.ctx.Size.{Size}
@@ -41,11 +41,6 @@ IsEvenWhere _ _ _ n = n ≡ n
 pub record IsAllowed (t : NumberType) (l : Layout) : Type 0 where
   pub within : width t l ≤ t.bits
   pub even : IsEvenWhere t.signed l.endian l.order (width t l)
-
--- the first number counts once, each further one 256 times as much
-abbrev pub little : List ℕ → ℕ
-little [] = 0
-little (c ∷ cs) = c + 256 * little cs
 
 -- the last number counts once, each earlier one 256 times as much
 abbrev pub big : List ℕ → ℕ

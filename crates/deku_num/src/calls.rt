@@ -1,16 +1,16 @@
 //! Numbers that are read from a reader and written to a writer.
 
-ghost use Rattle.std.specs.Prelude.{◌≡◌, ◌<◌, ◌≤◌, ◌%◌, ◌^◌, true, false, length, codes, pos, IfOk, IfErr};
+ghost use Rattle.std.specs.Prelude.{◌≡◌, ◌<◌, ◌≤◌, ◌%◌, ◌^◌, true, false, length, codes, pos, OnOk, IfOk, IfErr};
 ghost use Rattle.deku_bits.specs.declared.error.DekuError.TheVariants.{Parse, InvalidParam};
-ghost use Rattle.deku_bits.specs.ReaderCalls.{Reads, Takes, NoneEarly, filling};
+ghost use Rattle.deku_bits.specs.ReaderCalls.{Reads, FetchesFor, NoneEarly};
 ghost use Rattle.deku_bits.specs.WriterCalls.{Writes};
 ghost use Rattle.deku_num.specs.NumberLaws.{InType};
 ghost use Rattle.deku_num.specs.Numbers.{width, IsAllowed};
 ghost use Rattle.deku_num.specs.NumberCalls.{ReadsNumber, WritesNumber, IsLayoutRefusal, beyond, integers};
 
-use crate::ctx::{Layout, Order, Size};
+use crate::ctx::{Layout, Size};
 use crate::kernel::{
-    Misfit, allowed_width, fill_signed, fill_unsigned, signed_value, unsigned_value,
+    Misfit, allowed_width, fill_signed, fill_unsigned, number_of_word, value_of_number,
 };
 use crate::kind::NumberType;
 use deku_bits::device::{Sink, Source};
@@ -33,14 +33,13 @@ pub fn read_unsigned<R: Source>(
     requires unsigned { number_type.signed ≡ false }
     requires within { number_type.bits ≤ 128 }
     ensures reads { Reads R.told (ReadsNumber number_type layout) reader.old (integers result) reader.new }
+    ensures fetched { OnOk result (FetchesFor (width number_type layout) reader.old.state (R.told reader.old.source) (R.told reader.new.source)) }
     ensures early { NoneEarly reader.old.state reader.new.state }
     ensures in_type { IfOk result (λ v. number_type.bits % 8 ≡ 0 → v < 2 ^ number_type.bits) }
 {
     let width = readable_width(number_type, layout)?;
-    let mut field = [false; 128];
-    let bits = &mut field[..width];
-    take(reader, bits, layout.order)?;
-    Ok(unsigned_value(bits, number_type, layout))
+    let word = reader.read_word(width, layout.order)?;
+    Ok(number_of_word(word, width, layout.endian, layout.order))
 }
 
 /// Reads a number of a signed type of at most 128 bits.
@@ -59,14 +58,14 @@ pub fn read_signed<R: Source>(
     requires signed { number_type.signed ≡ true }
     requires within { number_type.bits ≤ 128 }
     ensures reads { Reads R.told (ReadsNumber number_type layout) reader.old result reader.new }
+    ensures fetched { OnOk result (FetchesFor (width number_type layout) reader.old.state (R.told reader.old.source) (R.told reader.new.source)) }
     ensures early { NoneEarly reader.old.state reader.new.state }
     ensures in_type { IfOk result (λ v. number_type.bits % 8 ≡ 0 → InType true number_type.bits v) }
 {
     let width = readable_width(number_type, layout)?;
-    let mut field = [false; 128];
-    let bits = &mut field[..width];
-    take(reader, bits, layout.order)?;
-    Ok(signed_value(bits, number_type, layout))
+    let word = reader.read_word(width, layout.order)?;
+    let number = number_of_word(word, width, layout.endian, layout.order);
+    Ok(value_of_number(number, width, number_type, layout))
 }
 
 // The bits of a field that is read.
@@ -79,16 +78,6 @@ fn readable_width(number_type: NumberType, layout: Layout) -> Result<usize, Deku
         Err(Misfit::TooWide) => Err(DekuError::Parse("too much data")),
         Err(Misfit::Uneven) => Err(DekuError::InvalidParam("signed big Lsb0 field of this width")),
     }
-}
-
-// Takes as many bits as the slice is long, as the order meets them.
-fn take<R: Source>(reader: &mut Reader<R>, bits: &mut [bool], order: Order) -> Result<(), DekuError>
-    ensures takes { Reads R.told (Takes order (length bits.old)) reader.old (filling result bits.new) reader.new }
-    ensures early { NoneEarly reader.old.state reader.new.state }
-{
-    reader.read_bits_into(bits, order)?;
-    show(bits, order);
-    Ok(())
 }
 
 /// Writes a number of an unsigned type of at most 128 bits: the list of bits that is worth it, or under a byte size its lowest bits.

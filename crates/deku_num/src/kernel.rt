@@ -1,7 +1,10 @@
 //! Fields as slices of truth values: their widths, what they are worth, and the bits of a value.
 
-ghost use Rattle.std.specs.Prelude.{◌≡◌, ◌↔◌, ◌<◌, ◌≤◌, ◌*◌, ◌^◌, ◌%◌, List, Bool, true, false, length, IsTrue, IsOk, IfOk, IfSome, IsNone, Err, ℤ, pos, negsuc, ◌-ℤ◌, ◌<ℤ◌};
+ghost use Rattle.std.specs.Prelude.{◌≡◌, ◌↔◌, ◌<◌, ◌≤◌, ◌-◌, ◌*◌, ◌/◌, ◌^◌, ◌%◌, List, Bool, true, false, length, IsTrue, IsOk, IfOk, IfSome, IsNone, Err, ℤ, pos, negsuc, ◌-ℤ◌, ◌<ℤ◌};
 ghost use Rattle.deku_num.specs.NumberLaws.{place as place_of};
+ghost use Rattle.std.specs.Int.{w128, swap_bytes};
+ghost use Rattle.deku_bits.specs.Bits.{word as word_of};
+ghost use Rattle.deku_num.specs.Numbers.{width as width_of, number as number_of_bits};
 ghost use Rattle.deku_num.specs.Numbers.{width, sized_width, IsEvenWhere, IsAllowed, number, value as value_of, residue, cuts, IsListFor};
 
 use crate::ctx::{Endian, Layout, Order, Size};
@@ -96,6 +99,75 @@ pub fn number_of(bits: &[bool], endian: Endian, order: Order) -> u128
     sum
 }
 
+/// The number of a field's bits, without a sign, from their word, as `Reader::read_word` answers it. There are at most 128.
+pub fn number_of_word(word: u128, width: usize, endian: Endian, order: Order) -> u128
+    requires wide { width ≤ 128 }
+    requires fits { word < 2 ^ width }
+    ensures { (bits : List Bool) → length bits ≡ width → word ≡ word_of order bits → result ≡ number endian order bits }
+{
+    match endian {
+        Endian::Little => word,
+        Endian::Big => turned_big(word, width, order),
+    }
+}
+
+// The number of bits in big from their word.
+fn turned_big(word: u128, width: usize, order: Order) -> u128
+    requires wide { width ≤ 128 }
+    requires fits { word < 2 ^ width }
+    ensures { (bits : List Bool) → length bits ≡ width → word ≡ word_of order bits → result ≡ number Endian.Big order bits }
+{
+    match order {
+        Order::Msb0 => turned_high(word, width),
+        Order::Lsb0 => turned(word, width.div_ceil(8)),
+    }
+}
+
+// A word of so many bytes with its bytes the other way round.
+fn turned(word: u128, count: usize) -> u128
+    requires { count ≤ 16 }
+    ensures value { result ≡ swap_bytes w128 word / 2 ^ (128 - 8 * count) }
+    ensures bound { result < 2 ^ (8 * count) }
+{
+    let swapped = word.swap_bytes();
+    if count == 0 {
+        return 0;
+    }
+    swapped >> (128 - 8 * count)
+}
+
+// The number of bits, the highest first, from their word: whole bytes are turned, and the bits behind them follow.
+fn turned_high(word: u128, width: usize) -> u128
+    requires wide { width ≤ 128 }
+    requires fits { word < 2 ^ width }
+    ensures { (bits : List Bool) → length bits ≡ width → word ≡ word_of Order.Msb0 bits → result ≡ number Endian.Big Order.Msb0 bits }
+{
+    let count = width / 8;
+    let behind = width % 8;
+    if behind == 0 {
+        return turned(word, count);
+    }
+    let whole = 8 * count;
+    let low = word % (1 << whole);
+    (turned(low, count) << behind) + (word >> whole)
+}
+
+/// What the bits of a signed field are worth, from their number without a sign. The layout is one that `allowed_width` admits, and there are
+/// as many bits as it answers.
+pub fn value_of_number(number: u128, width: usize, number_type: NumberType, layout: Layout) -> i128
+    requires signed { number_type.signed ≡ true }
+    requires within { number_type.bits ≤ 128 }
+    requires allowed { IsAllowed number_type layout }
+    requires wide { width ≡ width_of number_type layout }
+    requires fits { number < 2 ^ width }
+    ensures { (bits : List Bool) → length bits ≡ width → number ≡ number_of_bits layout.endian layout.order bits → result ≡ value_of number_type layout bits }
+{
+    if width == 0 {
+        return 0;
+    }
+    with_sign(number, 1 << (width - 1))
+}
+
 /// What the bits of an unsigned field are worth. There are at most 128.
 #[tactic(auto, unfolding(crate::specs::Numbers::value))]
 pub fn unsigned_value(bits: &[bool], number_type: NumberType, layout: Layout) -> u128
@@ -115,10 +187,7 @@ pub fn signed_value(bits: &[bool], number_type: NumberType, layout: Layout) -> i
     ensures { result ≡ value_of number_type layout bits.now }
 {
     let sum = number_of(bits, layout.endian, layout.order);
-    if bits.len() == 0 {
-        return 0;
-    }
-    with_sign(sum, 1 << (bits.len() - 1))
+    value_of_number(sum, bits.len(), number_type, layout)
 }
 
 // A number of n bits in two's complement, `half` being two to the power of n - 1.

@@ -1,0 +1,172 @@
+-- Words that are turned: the number of a field from the word of its bits.
+use Rattle.std.proofs.Common.{◌≡◌, ℕ, zero, suc, ◌+◌, ◌*◌, ◌-◌, ◌/◌, ◌%◌, ◌^◌, ◌<◌, ◌≤◌, Bool, List, [], ◌∷◌, ◌++◌, length, map, take, drop, replicate, All, arith, refl, sym, ap, ap₂, ◌∙◌, subst, length-append, take-append-drop, length-drop, length-take-le}
+use Rattle.std.proofs.lemmas.Nat.{shr-shr, shl-shr, shr_below, shl_whole, one_shl, mul-add-lt, pow-add, div-mul-add, mod-mul-add}
+use native.Mathlib.Nat.{pow-le-pow_right}
+use Rattle.std.proofs.Math.Nat.{pow-suc}
+use Rattle.std.proofs.lemmas.List.{length-map, length-replicate}
+use Rattle.std.proofs.lemmas.List.Elements.{All-head, All-tail, All-cons, All-nil, All-append, All-replicate}
+use Rattle.std.specs.Int.{w128, from_be_bytes, swap_bytes, byte_at, bytes_low_first}
+use Rattle.deku_bits.specs.declared.ctx.Order.{Order}
+use Rattle.deku_bits.specs.declared.ctx.Order.TheVariants.{Msb0, Lsb0}
+use Rattle.deku_bits.specs.Bits.{bin, chunks, group_number, groups, little, word}
+use Rattle.deku_bits.proofs.Binary.{bin-append}
+use Rattle.deku_bits.proofs.Bytes.{IsByte}
+use Rattle.deku_bits.proofs.Groups.{chunks-full, chunks-short, by_groups, length-chunks}
+use Rattle.deku_bits.proofs.Words.{little-filled}
+use Rattle.deku_num.specs.declared.ctx.Endian.TheVariants.{Little, Big}
+use Rattle.deku_num.specs.Numbers.{number, big}
+use Rattle.deku_num.proofs.Chunked.{group_below, little_below, number_short}
+use Rattle.deku_num.proofs.Ranges.{split_law}
+use Rattle.deku_num.proofs.Values.{eights}
+
+-- ---- bytes the other way round
+byte_is : (i n : ℕ) → byte_at i n ≡ n / 256 ^ i % 256
+byte_is zero n = omega arith
+byte_is (suc i) n = refl
+
+-- one byte further up
+shift_more : (n i : ℕ) → n / 256 ^ suc i ≡ n / 256 ^ i / 256
+shift_more n i =
+    let a : 8 * suc i ≡ 8 * i + 8 = omega arith in
+    ap (λ k. n / k) (sym (eights (suc i)) ∙ ap (λ k. 2 ^ k) a) ∙ sym (shr-shr n (8 * i) 8) ∙ ap (λ k. n / k / 256) (eights i)
+
+-- the bytes of a number, lowest first
+low_bytes : (bs : List ℕ) (i n : ℕ) → All IsByte bs → n / 256 ^ i ≡ little bs → bytes_low_first i (length bs) n ≡ bs
+low_bytes [] i n h e = refl
+low_bytes (b ∷ bs) i n h e =
+    let small : b < 256 = All-head IsByte b bs h in
+    ap₂ (λ x y. x ∷ y) (byte_is i n ∙ ap (λ k. k % 256) e ∙ omega arith)
+    (low_bytes bs (suc i) n (All-tail IsByte b bs h) (shift_more n i ∙ ap (λ k. k / 256) e ∙ omega arith))
+
+-- the number of sixteen bytes, the first the highest
+big_sixteen : (bytes : List ℕ) → length bytes ≡ 16 → from_be_bytes w128 bytes ≡ big bytes
+big_sixteen (a ∷ b ∷ c ∷ d ∷ e ∷ f ∷ g ∷ h ∷ i ∷ j ∷ k ∷ l ∷ m ∷ n ∷ o ∷ p ∷ []) q = omega arith
+big_sixteen _ q = absurd (omega arith)
+
+-- zeros behind bytes
+big_zeros : (m : ℕ) → big (replicate m 0) ≡ 0
+big_zeros zero = refl
+big_zeros (suc m) = omega (arith, big_zeros m)
+
+big-filled : (bytes : List ℕ) (m : ℕ) → big (bytes ++ replicate m 0) ≡ big bytes * 256 ^ m
+big-filled [] m = big_zeros m ∙ omega arith
+big-filled (b ∷ bytes) m =
+    rw (length-append bytes (replicate m 0), length-replicate {A = ℕ} m 0, pow-add 256 (length bytes) m, big-filled bytes m) (omega arith)
+
+-- sixteen bytes turned
+swapped : (bytes : List ℕ) → length bytes ≡ 16 → All IsByte bytes → swap_bytes w128 (little bytes) ≡ big bytes
+swapped bytes l h =
+    let one : little bytes / 256 ^ 0 ≡ little bytes = omega arith in
+    ap (from_be_bytes w128) (ap (λ k. bytes_low_first 0 k (little bytes)) (sym l) ∙ low_bytes bytes 0 (little bytes) h one) ∙ big_sixteen bytes l
+
+-- fewer bytes turned, and shifted down
+pub turned_bytes : (bytes : List ℕ) (count n : ℕ) → length bytes ≡ count → count ≤ 16 → All IsByte bytes → n ≡ little bytes → swap_bytes w128 n / 2 ^ (128 - 8 * count) ≡ big bytes
+turned_bytes bytes count n l few h e =
+    let m : ℕ = 16 - count in
+    let all : List ℕ = bytes ++ replicate m 0 in
+    let size : length all ≡ 16 = omega (arith, length-append bytes (replicate m 0), length-replicate {A = ℕ} m 0, l) in
+    let small : All IsByte all = All-append IsByte bytes (replicate m 0) h (All-replicate IsByte m 0 (omega arith)) in
+    let places : 128 - 8 * count ≡ 8 * m = omega arith in
+    ap₂ (λ x k. swap_bytes w128 x / 2 ^ k) (e ∙ sym (little-filled bytes m)) places
+    ∙ ap (λ x. x / 2 ^ (8 * m)) (swapped all size small ∙ big-filled bytes m ∙ ap (λ k. big bytes * k) (sym (eights m)))
+    ∙ shl-shr (big bytes) (8 * m)
+
+-- ---- groups as bytes
+pub group_bytes : (o : Order) (s : List Bool) → All IsByte (map (group_number o) (chunks s))
+group_bytes o s = by_groups (λ s. All IsByte (map (group_number o) (chunks s))) (All-nil IsByte)
+    (λ s p l. rw (chunks-short s p l) (All-cons IsByte (group_number o s) [] (group_below o s (omega arith)) (All-nil IsByte)))
+    (λ g t l h. rw (chunks-full g t l) (All-cons IsByte (group_number o g) (map (group_number o) (chunks t)) (group_below o g (omega arith)) h))
+    s
+
+pub length-group_bytes : (o : Order) (s : List Bool) → length (map (group_number o) (chunks s)) ≡ groups (length s)
+length-group_bytes o s = length-map (chunks s) (group_number o) ∙ length-chunks s
+
+-- whole groups, high bits first
+whole_big : (s : List Bool) → length s % 8 ≡ 0 → bin s ≡ big (map bin (chunks s))
+whole_big s = by_groups (λ s. length s % 8 ≡ 0 → bin s ≡ big (map bin (chunks s))) (λ z. refl)
+    (λ s p l z. absurd (omega arith))
+    (λ g t l h z.
+    let more : length t % 8 ≡ 0 = omega (arith, length-append g t) in
+    let places : 2 ^ length t ≡ 256 ^ groups (length t) = ap (λ k. 2 ^ k) (omega arith) ∙ eights (groups (length t)) in
+    bin-append g t ∙ ap₂ (λ x y. bin g * x + y) places (h more)
+    ∙ sym (ap (λ x. big (map bin x)) (chunks-full g t l) ∙ ap (λ k. bin g * 256 ^ k + big (map bin (chunks t))) (length-group_bytes Msb0 t)))
+    s
+
+-- ---- numbers from words
+pub word_below : (o : Order) (s : List Bool) → word o s < 2 ^ length s
+unfolding number
+word_below o s = little_below o s
+
+-- in little a word is the number
+pub little_turned : (o : Order) (s : List Bool) → word o s ≡ number Little o s
+unfolding number
+little_turned o s = refl
+
+-- in big and `Lsb0` its bytes are turned
+pub low_turned : (s : List Bool) (n count : ℕ) → length s ≤ 128 → count ≡ groups (length s) → n ≡ word Lsb0 s → swap_bytes w128 n / 2 ^ (128 - 8 * count) ≡ number Big Lsb0 s
+unfolding number
+low_turned s n count h e f =
+    turned_bytes (map (group_number Lsb0) (chunks s)) count n (length-group_bytes Lsb0 s ∙ sym e) (omega arith) (group_bytes Lsb0 s) f
+
+-- and so in big and `Msb0`, where there are whole groups alone
+pub high_turned : (s : List Bool) (n count : ℕ) → length s ≤ 128 → length s ≡ 8 * count → n ≡ word Msb0 s → swap_bytes w128 n / 2 ^ (128 - 8 * count) ≡ number Big Msb0 s
+unfolding number
+high_turned s n count h e f =
+    turned_bytes (map bin (chunks s)) count n (length-group_bytes Msb0 s ∙ omega arith) (omega arith) (group_bytes Msb0 s) f ∙ sym (whole_big s (omega arith))
+
+-- whole groups, and a short one behind them
+pub both_turned : (s : List Bool) (n q r low high : ℕ) → length s ≤ 128 → length s ≡ 8 * q + r → 0 < r → r < 8 → n ≡ word Msb0 s → low ≡ n % 2 ^ (8 * q) → high ≡ n / 2 ^ (8 * q)
+    → swap_bytes w128 low / 2 ^ (128 - 8 * q) * 2 ^ r + high ≡ number Big Msb0 s
+both_turned s n q r low high h e p k f a b =
+    let k8 : ℕ = 8 * q in
+    let x : List Bool = take k8 s in
+    let y : List Bool = drop k8 s in
+    let whole : x ++ y ≡ s = take-append-drop k8 s in
+    let lx : length x ≡ k8 = length-take-le k8 s (omega arith) in
+    let ly : length y ≡ r = omega (arith, length-drop k8 s) in
+    let parts = split_law Msb0 x y (omega arith) in
+    let sum : n ≡ word Msb0 y * 2 ^ k8 + word Msb0 x =
+    f ∙ little_turned Msb0 s ∙ ap (number Little Msb0) (sym whole) ∙ parts.0 ∙ ap (λ z. number Little Msb0 x + number Little Msb0 y * 2 ^ z) lx ∙ swap (number Little Msb0 x) (number Little Msb0 y * 2 ^ k8)
+    ∙ ap₂ (λ u v. v * 2 ^ k8 + u) (sym (little_turned Msb0 x)) (sym (little_turned Msb0 y)) in
+    let small : word Msb0 x < 2 ^ k8 = subst (λ z. word Msb0 x < 2 ^ z) lx (word_below Msb0 x) in
+    let low_is : low ≡ word Msb0 x = a ∙ ap (λ z. z % 2 ^ k8) sum ∙ mod-mul-add (word Msb0 y) (2 ^ k8) (word Msb0 x) small in
+    let high_is : high ≡ number Big Msb0 y =
+    b ∙ ap (λ z. z / 2 ^ k8) sum ∙ div-mul-add (word Msb0 y) (2 ^ k8) (word Msb0 x) small ∙ little_turned Msb0 y
+    ∙ number_short Little Msb0 y (omega arith) (omega arith) ∙ sym (number_short Big Msb0 y (omega arith) (omega arith)) in
+    ap₂ (λ u v. u * 2 ^ r + v) (high_turned x low q (omega arith) lx low_is) high_is
+    ∙ ap (λ z. number Big Msb0 x * 2 ^ z + number Big Msb0 y) (sym ly) ∙ sym (parts.1) ∙ ap (number Big Msb0) whole
+  where
+    swap : (u v : ℕ) → u + v ≡ v + u
+    swap u v = omega arith
+
+-- ---- as the code shifts
+-- no bytes
+pub turned_none : (n x k : ℕ) → x < 2 ^ 128 → x ≡ swap_bytes w128 n → k ≡ 0 → 0 ≡ swap_bytes w128 n / 2 ^ (128 - 8 * k)
+turned_none n x k h e z =
+    let p : 128 - 8 * k ≡ 128 = omega arith in
+    let q : x / 2 ^ 128 ≡ 0 = omega arith in
+    sym (ap₂ (λ u v. u / 2 ^ v) (sym e) p ∙ q)
+
+-- a word of so many bytes
+pub turned_fits : (x k : ℕ) → x < 2 ^ 128 → k ≤ 16 → x / 2 ^ (128 - 8 * k) < 2 ^ (8 * k)
+turned_fits x k h l =
+    let all : 8 * k + (128 - 8 * k) ≡ 128 = omega arith in
+    shr_below x (8 * k) (128 - 8 * k) (subst (λ z. x < 2 ^ z) (sym all) h)
+
+-- whole bytes and the bits behind them
+pub both_fit : (a q r n k : ℕ) → a < 2 ^ (8 * q) → n ≡ 8 * q + r → n ≤ 128 → k < 2 ^ n → (a * 2 ^ r % 2 ^ 128 ≡ a * 2 ^ r) × (a * 2 ^ r + k / 2 ^ (8 * q) < 2 ^ 128)
+both_fit a q r n k h e l f =
+    let turned : n ≡ r + 8 * q = omega arith in
+    let low : k / 2 ^ (8 * q) < 2 ^ r = shr_below k r (8 * q) (subst (λ z. k < 2 ^ z) turned f) in
+    let sum : a * 2 ^ r + k / 2 ^ (8 * q) < 2 ^ (8 * q) * 2 ^ r = omega (arith, mul-add-lt a (2 ^ r) (k / 2 ^ (8 * q)) (2 ^ (8 * q)) h low) in
+    let whole : 2 ^ (8 * q) * 2 ^ r ≡ 2 ^ n = sym (pow-add 2 (8 * q) r) ∙ ap (λ z. 2 ^ z) (sym e) in
+    let top : 2 ^ n ≤ 2 ^ 128 = pow-le-pow_right {n = 2} (omega arith) {i = n} {j = 128} l in
+    (shl_whole a (8 * q) r 128 h (omega arith), omega arith)
+
+-- the half of a field's numbers
+pub half_of : (n k : ℕ) → 0 < n → n ≤ 128 → k < 2 ^ n → (k < 1 * 2 ^ (n - 1) % 2 ^ 128 * 2) × (1 * 2 ^ (n - 1) % 2 ^ 128 ≤ 2 ^ 127)
+half_of n k p l h =
+    let one : 1 * 2 ^ (n - 1) % 2 ^ 128 ≡ 2 ^ (n - 1) = one_shl (n - 1) 128 (omega arith) in
+    let twice : 2 ^ n ≡ 2 ^ (n - 1) * 2 = ap (λ z. 2 ^ z) (omega arith) ∙ pow-suc 2 (n - 1) in
+    let top : 2 ^ (n - 1) ≤ 2 ^ 127 = pow-le-pow_right {n = 2} (omega arith) {i = n - 1} {j = 127} (omega arith) in
+    (omega arith, omega arith)
