@@ -186,13 +186,15 @@ word_gathered o w u v t x n k m fetched numbers wide l short more e f long moved
     let full : length (numbers ++ replicate (16 - m) 0) ≡ 16 = omega (arith, length-append numbers (replicate (16 - m) 0), length-replicate {A = ℕ} (16 - m) 0) in
     let all : length (facing o u ++ flow o fetched) ≡ length (g.bits ++ facing o v) = ap length cut in
     let few : length v < 8 =
-    omega (arith, all, short, long, e, g.long, length-append (facing o u) (flow o fetched), length-facing o u, length-flow o fetched, length-append (g.bits) (facing o v), length-facing o v) in
-    (record {
-      bits = g.bits;
-      long = g.long;
-      moved = moves_keep o w t (facing o u ++ flow o fetched) (g.bits) v x moved cut;
-      worth = ap (λ s. from_le_bytes w128 (numbers ++ s)) rest ∙ little_sixteen (numbers ++ replicate (16 - m) 0) full ∙ little-filled numbers (16 - m) ∙ ap little (sym (g.worth));
-    }, few)
+    omega (arith, all, short, long, e, g.long, length-append (facing o u) (flow o fetched), length-facing o u, length-flow o fetched, length-append (g.bits) (facing o v), length-facing o v) in (
+      record {
+        bits = g.bits;
+        long = g.long;
+        moved = moves_keep o w t (facing o u ++ flow o fetched) (g.bits) v x moved cut;
+        worth = ap (λ s. from_le_bytes w128 (numbers ++ s)) rest ∙ little_sixteen (numbers ++ replicate (16 - m) 0) full ∙ little-filled numbers (16 - m) ∙ ap little (sym (g.worth));
+      },
+      few,
+    )
 
 -- ---- what a read of a word answers
 -- bits were taken
