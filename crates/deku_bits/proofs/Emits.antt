@@ -17,15 +17,15 @@ use Rattle.deku_bits.specs.Standings.{Standing, Going, Stopped, writer_state}
 use Rattle.deku_bits.specs.Outcomes.{Quiet, Broken, Counted}
 use Rattle.deku_bits.specs.WriterCalls.{WritesAt, GivesOut, Emits, WritesBits, Finalizes}
 use Rattle.deku_bits.specs.Kept.{standing_of}
-use Rattle.deku_bits.specs.Pushing.{GaveUp, PushedOnto, waiting}
-use Rattle.deku_bits.proofs.Binary.{length-facing, facing-facing}
+use Rattle.deku_bits.specs.Pushing.{GaveUp, PushedOnto}
+use Rattle.deku_bits.proofs.Binary.{length-facing}
 use Rattle.deku_bits.proofs.Shown.{shown_odd}
-use Rattle.deku_bits.proofs.Writing.{held_some, pending_bits-held}
+use Rattle.deku_bits.proofs.Writing.{pending_bits-held}
 use Rattle.deku_bits.proofs.Appends.{count_law}
 use Rattle.deku_bits.proofs.Handing.{no_fewer_same}
 use Rattle.deku_bits.proofs.Gives.{Gave-nil}
 use Rattle.deku_bits.proofs.Pushes.{emitted_one, remainder_one}
-use Rattle.deku_bits.proofs.Onto.{append_same, waiting_none}
+use Rattle.deku_bits.proofs.Onto.{append_same}
 
 -- ---- a call that gives out what writing makes
 module _ (write : Pending → Written) (t : SinkTold) (P : Pending) (c : ℕ) where
@@ -48,34 +48,34 @@ module _ (write : Pending → Written) (t : SinkTold) (P : Pending) (c : ℕ) wh
 
 -- ---- a write
 -- the bytes that the code counts
-pub counted : (from to : Order) (h bits : List Bool) → length h < 8 → length (append to bits (waiting from h)).bytes ≡ (length h + length bits) / 8
+pub counted : (from to : Order) (h bits : List Bool) → length h < 8 → length (append to bits (held from h)).bytes ≡ (length h + length bits) / 8
 counted from to h bits l =
-    let n : length (pending_bits (waiting from h)) ≡ length h = ap length (pending_bits-held from (facing from h)) ∙ length-facing from h in
-    let k = count_law.0 to bits (waiting from h) (omega arith) in
+    let n : length (pending_bits (held from h)) ≡ length h = ap length (pending_bits-held from h) in
+    let k = count_law.0 to bits (held from h) (omega arith) in
     omega (arith, k.0, k.1)
 
 pub write_nothing : (t : SinkTold) (from to : Order) (h bits : List Bool) (w : ℕ) → length bits ≡ 0 → w < 2 ^ 64
-    → WritesAt (WritesBits to bits) t (standing_of (waiting from h) None w) (Ok tt) t (standing_of (waiting from h) None w)
+    → WritesAt (WritesBits to bits) t (standing_of (held from h) None w) (Ok tt) t (standing_of (held from h) None w)
 unfolding append
-write_nothing t from to h [] w n s = emits_done (append to []) t (waiting from h) w t (waiting from h) w (omega arith) (Gave-nil t) refl (omega arith)
+write_nothing t from to h [] w n s = emits_done (append to []) t (held from h) w t (held from h) w (omega arith) (Gave-nil t) refl (omega arith)
 write_nothing t from to h (b ∷ bits) w n s = absurd (omega arith)
 
 pub write_full : (t : SinkTold) (from to : Order) (h bits : List Bool) (w n : ℕ) (words : Bor (List ℕ)) → length h < 8 → n ≡ (length h + length bits) / 8 → (2 ^ 64 - 1 - w) / 8 < n
-    → words.now ≡ codes "count past usize" → WritesAt (WritesBits to bits) t (standing_of (waiting from h) None w) (Err (InvalidParam words)) t (standing_of (waiting from h) None w)
+    → words.now ≡ codes "count past usize" → WritesAt (WritesBits to bits) t (standing_of (held from h) None w) (Err (InvalidParam words)) t (standing_of (held from h) None w)
 write_full t from to h bits w n words l e past says =
-    emits_full (append to bits) t (waiting from h) w words (rw (counted from to h bits l, ← e) (omega arith)) says
+    emits_full (append to bits) t (held from h) w words (rw (counted from to h bits l, ← e) (omega arith)) says
 
 pub write_done : (t after : SinkTold) (from to : Order) (h hs bits : List Bool) (w n : ℕ) → length h < 8 → n ≡ (length h + length bits) / 8 → n ≤ (2 ^ 64 - 1 - w) / 8 → w < 2 ^ 64
-    → PushedOnto t after from to h hs bits → WritesAt (WritesBits to bits) t (standing_of (waiting from h) None w) (Ok tt) after (standing_of (waiting to hs) None (w + 8 * n))
+    → PushedOnto t after from to h hs bits → WritesAt (WritesBits to bits) t (standing_of (held from h) None w) (Ok tt) after (standing_of (held to hs) None (w + 8 * n))
 write_done t after from to h hs bits w n l e fits s m =
-    let b : length (append to bits (waiting from h)).bytes ≡ n = counted from to h bits l ∙ sym e in
-    emits_done (append to bits) t (waiting from h) w after (waiting to hs) (w + 8 * n) (rw b (omega arith)) m.gave m.rest (rw b refl)
+    let b : length (append to bits (held from h)).bytes ≡ n = counted from to h bits l ∙ sym e in
+    emits_done (append to bits) t (held from h) w after (held to hs) (w + 8 * n) (rw b (omega arith)) m.gave m.rest (rw b refl)
 
 pub write_stopped : (t after : SinkTold) (from to : Order) (h bits : List Bool) (w n : ℕ) (k : ErrorKind) → length h < 8 → n ≡ (length h + length bits) / 8 → n ≤ (2 ^ 64 - 1 - w) / 8 → w < 2 ^ 64
-    → GaveUp t after ((length h + length bits) / 8) k → WritesAt (WritesBits to bits) t (standing_of (waiting from h) None w) (Err (Io k)) after (Stopped (Io k) w)
+    → GaveUp t after ((length h + length bits) / 8) k → WritesAt (WritesBits to bits) t (standing_of (held from h) None w) (Err (Io k)) after (Stopped (Io k) w)
 write_stopped t after from to h bits w n k l e fits s f =
-    let b : length (append to bits (waiting from h)).bytes ≡ n = counted from to h bits l ∙ sym e in
-    emits_stopped (append to bits) t (waiting from h) w after k (rw b (omega arith)) (rw (counted from to h bits l) f)
+    let b : length (append to bits (held from h)).bytes ≡ n = counted from to h bits l ∙ sym e in
+    emits_stopped (append to bits) t (held from h) w after k (rw b (omega arith)) (rw (counted from to h bits l) f)
 
 pub some_bits : (s : List Bool) → false ≡ (length s == 0) → 0 < length s
 some_bits [] e = cc
@@ -91,7 +91,7 @@ unfolding shown
 shown_zeros Msb0 n p l = refl
 shown_zeros Lsb0 n p l = shown_odd (replicate n false) (λ e. omega (arith, length-replicate n false)) ∙ reverse-replicate n false
 
-finalized_is : (o : Order) (h : List Bool) → length h < 8 → append o (replicate ((8 - length h) % 8) false) (waiting o h) ≡ finalized (waiting o h)
+finalized_is : (o : Order) (h : List Bool) → length h < 8 → append o (replicate ((8 - length h) % 8) false) (held o h) ≡ finalized (held o h)
 unfolding append padded
 finalized_is Msb0 [] l = refl
 finalized_is Lsb0 [] l = refl
@@ -99,16 +99,21 @@ finalized_is o (b ∷ s) l =
     let h : List Bool = b ∷ s in
     let n : ℕ = 8 - length h in
     let z : (8 - length h) % 8 ≡ n = omega arith in
-    let g : List Bool = h ++ replicate n false in
-    let lg : length g ≡ 8 = omega (arith, length-append h (replicate n false), length-replicate n false) in
-    let lf : 0 < length (facing o h) = rw (length-facing o h) (omega arith) in
-    ap (λ k. append o (replicate k false) (waiting o h)) z
+    let f : List Bool = facing o h in
+    let lf : length f ≡ length h = length-facing o h in
+    let g : List Bool = f ++ replicate n false in
+    let lg : length g ≡ 8 = omega (arith, length-append f (replicate n false), length-replicate n false) in
+    let same : g ≡ filled f = ap (λ k. f ++ replicate (8 - k) false) (sym lf) in
+    ap (λ k. append o (replicate k false) (held o h)) z
     ∙ append_same o h (replicate n false) (rw (length-replicate n false) (omega arith))
-    ∙ ap (λ x. cut o (h ++ x)) (shown_zeros o n (omega arith) (omega arith))
+    ∙ ap (λ x. cut o (f ++ x)) (shown_zeros o n (omega arith) (omega arith))
     ∙ ap₂ (λ x y. record { bytes = x; pending = held o (facing o y) }) (emitted_one o g lg) (remainder_one g lg)
-    ∙ ap (λ P. record { bytes = group_number o g ∷ []; pending = P }) (waiting_none o Msb0)
-    ∙ ap (λ x. record { bytes = group_number o (filled x) ∷ []; pending = Nothing }) (sym (facing-facing o h))
-    ∙ ap finalized (sym (held_some o (facing o h) lf))
+    ∙ ap (λ P. record { bytes = group_number o g ∷ []; pending = P }) (none o)
+    ∙ ap (λ x. record { bytes = group_number o x ∷ []; pending = Nothing }) same
+  where
+    none : (o : Order) → held o (facing o []) ≡ Nothing
+    none Msb0 = refl
+    none Lsb0 = refl
 
 same_emits : (write other : Pending → Written) (t after : SinkTold) (P : Pending) (c : ℕ) (r : Result (Unit {0}) DekuError) (u : Standing Pending) → write P ≡ other P
     → WritesAt (Emits write) t (Going P c) r after u → WritesAt (Emits other) t (Going P c) r after u
@@ -118,8 +123,8 @@ same_emits write other t after P c r u e m = elim m [
 ]
 
 pub finalizes : (o : Order) (h : List Bool) (w : ℕ) (f : Option Fault) (t after : SinkTold) (r : Result (Unit {0}) DekuError) (u : Standing Pending) → length h < 8
-    → WritesAt (WritesBits o (replicate ((8 - length h) % 8) false)) t (standing_of (waiting o h) f w) r after u → WritesAt Finalizes t (standing_of (waiting o h) f w) r after u
-finalizes o h w None t after r u l m = same_emits (append o (replicate ((8 - length h) % 8) false)) finalized t after (waiting o h) w r u (finalized_is o h l) m
+    → WritesAt (WritesBits o (replicate ((8 - length h) % 8) false)) t (standing_of (held o h) f w) r after u → WritesAt Finalizes t (standing_of (held o h) f w) r after u
+finalizes o h w None t after r u l m = same_emits (append o (replicate ((8 - length h) % 8) false)) finalized t after (held o h) w r u (finalized_is o h l) m
 finalizes o h w (Some f) t after r u l m = elim m [ Quiet q n ↦ Quiet q n | Broken b q n ↦ Broken b q n ]
 
 -- ---- a sink that has room, and whose calls do not fail

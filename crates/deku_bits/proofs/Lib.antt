@@ -10,6 +10,8 @@ pub mod Rewriting
 pub mod Lengths
 pub mod Packing
 pub mod Packed
+pub mod Windows
+pub mod Fills
 pub mod Parts
 pub mod Handing
 pub mod Moving
@@ -17,6 +19,8 @@ pub mod Skips
 pub mod Bytes
 pub mod Handouts
 pub mod Words
+pub mod WordsRead
+pub mod WordsWritten
 pub mod ReaderLaws
 pub mod BitPlaces
 pub mod Overlays

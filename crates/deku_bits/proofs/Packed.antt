@@ -1,15 +1,12 @@
--- Windows as numbers of so many bits: what is taken from them, and bytes that go through them.
-use Rattle.std.proofs.Common.{ℕ, zero, suc, ◌+◌, ◌*◌, ◌-◌, ◌/◌, ◌%◌, ◌^◌, ◌<◌, ◌≤◌, ◌≡◌, Bool, true, false, eqb, nat_eq, List, [], ◌∷◌, ◌++◌, reverse, length, drop, refl, ap, ap₂, sym, ◌∙◌, subst, arith, mod-lt, mod-eq_of_lt}
-use Rattle.std.proofs.lemmas.Nat.{shr-shr, pow_pos, shr_below, shl_whole, mul-add-lt, div-mul-add, mod-mul-add}
+-- Numbers of so many bits: cut in two, and put side by side.
+use Rattle.std.proofs.Common.{ℕ, zero, suc, ◌+◌, ◌*◌, ◌-◌, ◌/◌, ◌%◌, ◌^◌, ◌<◌, ◌≤◌, ◌≡◌, eqb, ◌∷◌, ◌++◌, length, take, refl, ap, ap₂, sym, ◌∙◌, arith, mod-lt, mod-eq_of_lt}
+use Rattle.std.proofs.lemmas.List.{take_at}
+use Rattle.std.proofs.lemmas.Nat.{shr-shr, pow_pos, pow-add, shl_whole, mul-add-lt, div-mul-add, mod-mul-add}
 use Rattle.std.proofs.Math.Nat.{pow-le-pow_right}
-use Rattle.std.proofs.lemmas.List.{reverse-append, reverse-reverse, length-reverse, drop_at}
-use Rattle.deku_bits.specs.declared.ctx.Order.{Order}
-use Rattle.deku_bits.specs.declared.ctx.Order.TheVariants.{Msb0, Lsb0}
-use Rattle.deku_bits.specs.Bits.{bin, bits_of, byte_bits, facing, group_number}
-use Rattle.deku_bits.specs.Moving.{GivesGroup}
+use Rattle.deku_bits.specs.Bits.{bin, bits_of, byte_bits}
 use Rattle.deku_bits.proofs.Binary.{length-bits_of, bin-bits_of, bin-inj}
 
--- ---- numbers of so many bits
+-- ---- cut and joined
 -- the bits of two parts of a number
 pub bits_of-split : (m n v : ℕ) → bits_of (m + n) v ≡ bits_of m (v / 2 ^ n) ++ bits_of n v
 unfolding bits_of
@@ -36,134 +33,41 @@ bits_of-join m n a b h =
     ∙ ap₂ (λ x y. bits_of m x ++ y) (div-mul-add a (2 ^ n) b h)
     (sym (bits_of-low n (a * 2 ^ n + b)) ∙ ap (bits_of n) (mod-mul-add a (2 ^ n) b h)))
 
--- ---- what is taken
--- the high bits of a number
-pub high_group : (c m v : ℕ) → v < 2 ^ (c + m) → GivesGroup Msb0 c (bits_of (c + m) v) (v / 2 ^ m) (bits_of m (v % 2 ^ m))
-high_group c m v h = record {
-  group = bits_of c (v / 2 ^ m);
-  long = length-bits_of c (v / 2 ^ m);
-  cut = bits_of-split c m v ∙ ap (λ s. bits_of c (v / 2 ^ m) ++ s) (sym (bits_of-low m v));
-  worth = sym (bin-whole c (v / 2 ^ m) (shr_below v c m h));
-}
+-- their number is one of as many bits
+pub joined_below : (a b x y : ℕ) → x < 2 ^ a → y < 2 ^ b → x * 2 ^ b + y < 2 ^ (a + b)
+joined_below a b x y p q = rw pow-add (omega (arith, mul-add-lt x (2 ^ b) y (2 ^ a) p q))
 
--- the low bits of a number
-pub low_group : (c m v : ℕ) → GivesGroup Lsb0 c (bits_of (m + c) v) (v % 2 ^ c) (bits_of m (v / 2 ^ c))
-low_group c m v = record {
-  group = reverse (bits_of c v);
-  long = length-reverse (bits_of c v) ∙ length-bits_of c v;
-  cut = ap reverse (bits_of-split m c v) ∙ reverse-append (bits_of m (v / 2 ^ c)) (bits_of c v);
-  worth = sym (ap bin (reverse-reverse (bits_of c v)) ∙ bin-bits_of c v);
-}
-
--- one bit, and whether its number is one
-pub one_bit : {o : Order} {w : List Bool} {number : ℕ} {rest : List Bool} {one : Bool} → GivesGroup o 1 w number rest → one ≡ nat_eq number 1 → facing o w ≡ one ∷ facing o rest
-one_bit {o} {w} {number} {rest} {one} g e = go o g.group g.long (g.cut) (g.worth)
-  where
-    go : (o : Order) (s : List Bool) → length s ≡ 1 → facing o w ≡ s ++ facing o rest → number ≡ group_number o s → facing o w ≡ one ∷ facing o rest
-    go o [] l c n = absurd (omega arith)
-    go o (a ∷ b ∷ s) l c n = absurd (omega arith)
-    go Msb0 (true ∷ []) l c n = c ∙ ap (λ x. x ∷ facing Msb0 rest) (sym (e ∙ ap (λ k. nat_eq k 1) n))
-    go Msb0 (false ∷ []) l c n = c ∙ ap (λ x. x ∷ facing Msb0 rest) (sym (e ∙ ap (λ k. nat_eq k 1) n))
-    go Lsb0 (true ∷ []) l c n = c ∙ ap (λ x. x ∷ facing Lsb0 rest) (sym (e ∙ ap (λ k. nat_eq k 1) n))
-    go Lsb0 (false ∷ []) l c n = c ∙ ap (λ x. x ∷ facing Lsb0 rest) (sym (e ∙ ap (λ k. nat_eq k 1) n))
-
--- ---- a byte that goes through a window
--- behind the bits of a number
-pub through_high : (n v b : ℕ) → b < 2 ^ 8 → bits_of n v ++ byte_bits b ≡ byte_bits ((v * 2 ^ 8 + b) / 2 ^ n) ++ bits_of n ((v * 2 ^ 8 + b) % 2 ^ n)
-unfolding byte_bits
-through_high n v b h =
-    bits_of-join n 8 v b h ∙ ap (λ k. bits_of k (v * 2 ^ 8 + b)) (omega arith) ∙ bits_of-split 8 n (v * 2 ^ 8 + b)
-    ∙ ap (λ s. bits_of 8 ((v * 2 ^ 8 + b) / 2 ^ n) ++ s) (sym (bits_of-low n (v * 2 ^ 8 + b)))
-
--- before the bits of a number
-pub through_low : (n v b : ℕ) → v < 2 ^ n → byte_bits b ++ bits_of n v ≡ bits_of n ((b * 2 ^ n + v) / 2 ^ 8) ++ byte_bits ((b * 2 ^ n + v) % 2 ^ 8)
-unfolding byte_bits
-through_low n v b h =
-    bits_of-join 8 n b v h ∙ ap (λ k. bits_of k (b * 2 ^ n + v)) (omega arith) ∙ bits_of-split n 8 (b * 2 ^ n + v)
-    ∙ ap (λ s. bits_of n ((b * 2 ^ n + v) / 2 ^ 8) ++ s) (sym (bits_of-low 8 (b * 2 ^ n + v)))
-
--- ---- as the code has them
--- high bits that are taken from a window
-pub high_taken : (c n m v h l : ℕ) (w : List Bool) → bits_of n v ≡ w → c ≤ length w → m ≡ n - c → v < 2 ^ n → h ≡ v / 2 ^ m → l ≡ v % 2 ^ m → GivesGroup Msb0 c w h (bits_of m l)
-high_taken c n m v h l w e p q small a b =
-    let long : length w ≡ n = sym (ap length e) ∙ length-bits_of n v in
-    let whole : n ≡ c + m = omega arith in
-    let all : bits_of (c + m) v ≡ w = ap (λ k. bits_of k v) (sym whole) ∙ e in
-    let g = high_group c m v (subst (λ k. v < 2 ^ k) whole small) in
-    subst (λ s. GivesGroup Msb0 c s h (bits_of m l)) all
-    (subst (λ x. GivesGroup Msb0 c (bits_of (c + m) v) h (bits_of m x)) (sym b)
-    (subst (λ x. GivesGroup Msb0 c (bits_of (c + m) v) x (bits_of m (v % 2 ^ m))) (sym a) g))
-
--- low bits that are taken from a window
-pub low_taken : (c n m v h l : ℕ) (w : List Bool) → bits_of n v ≡ w → c ≤ length w → m ≡ n - c → h ≡ v / 2 ^ c → l ≡ v % 2 ^ c → GivesGroup Lsb0 c w l (bits_of m h)
-low_taken c n m v h l w e p q a b =
-    let long : length w ≡ n = sym (ap length e) ∙ length-bits_of n v in
-    let whole : n ≡ m + c = omega arith in
-    let all : bits_of (m + c) v ≡ w = ap (λ k. bits_of k v) (sym whole) ∙ e in
-    subst (λ s. GivesGroup Lsb0 c s l (bits_of m h)) all
-    (subst (λ x. GivesGroup Lsb0 c (bits_of (m + c) v) l (bits_of m x)) (sym a)
-    (subst (λ x. GivesGroup Lsb0 c (bits_of (m + c) v) x (bits_of m (v / 2 ^ c))) (sym b) (low_group c m v)))
-
--- a byte that goes through the high bits of a window
-pub high_through : (n v b x h l : ℕ) (w : List Bool) → bits_of n v ≡ w → b < 2 ^ 8 → x ≡ v * 2 ^ 8 + b → h ≡ x / 2 ^ n → l ≡ x % 2 ^ n → w ++ byte_bits b ≡ byte_bits h ++ bits_of n l
-high_through n v b x h l w e p d f g =
-    ap (λ s. s ++ byte_bits b) (sym e) ∙ through_high n v b p
-    ∙ ap₂ (λ y z. byte_bits y ++ bits_of n z) (sym (f ∙ ap (λ k. k / 2 ^ n) d)) (sym (g ∙ ap (λ k. k % 2 ^ n) d))
-
--- a byte that goes through the low bits of a window
-pub low_through : (n v b x h l : ℕ) (w : List Bool) → bits_of n v ≡ w → v < 2 ^ n → x ≡ b * 2 ^ n + v → h ≡ x / 2 ^ 8 → l ≡ x % 2 ^ 8 → byte_bits b ++ w ≡ bits_of n h ++ byte_bits l
-low_through n v b x h l w e p d f g =
-    ap (λ s. byte_bits b ++ s) (sym e) ∙ through_low n v b p
-    ∙ ap₂ (λ y z. bits_of n y ++ byte_bits z) (sym (f ∙ ap (λ k. k / 2 ^ 8) d)) (sym (g ∙ ap (λ k. k % 2 ^ 8) d))
-
--- a byte that goes through a window, from the front or from the end
-pub exchanged : (o : Order) (w s b r : List Bool) → length s ≡ length w → (o ≡ Msb0 → w ++ b ≡ r ++ s) → (o ≡ Lsb0 → b ++ w ≡ s ++ r) → facing o w ++ facing o b ≡ facing o r ++ facing o s
-exchanged Msb0 w s b r l high low = high refl
-exchanged Lsb0 w s b r l high low = sym (reverse-append b w) ∙ ap reverse (low refl) ∙ reverse-append s r
-
--- the byte of eight bits
-pub whole_byte : (n v : ℕ) (w : List Bool) → bits_of n v ≡ w → length w ≡ 8 → byte_bits v ≡ w
-unfolding byte_bits
-whole_byte n v w e l = ap (λ k. bits_of k v) (sym l ∙ sym (ap length e) ∙ length-bits_of n v) ∙ e
-
--- as many bits
-pub as_many : (n v h : ℕ) (w : List Bool) → bits_of n v ≡ w → length (bits_of n h) ≡ length w
-as_many n v h w e = length-bits_of n h ∙ sym (length-bits_of n v) ∙ ap length e
-
--- how many bits a window has
-pub how_many : (n v : ℕ) (w : List Bool) → bits_of n v ≡ w → n ≡ length w
-how_many n v w e = sym (length-bits_of n v) ∙ ap length e
-
--- the last bits of eight
-pub last_of_eight : (n v : ℕ) (w : List Bool) → bits_of n v ≡ w → n ≤ 8 → drop (8 - length w) (byte_bits v) ≡ w
-unfolding byte_bits
-last_of_eight n v w e h =
-    let m : ℕ = 8 - n in
-    let k : 8 - length w ≡ m = omega (arith, how_many n v w e) in
-    let whole : 8 ≡ m + n = omega arith in
-    ap₂ (λ x y. drop x (bits_of y v)) k whole
-    ∙ ap (drop m) (bits_of-split m n v)
-    ∙ drop_at (bits_of m (v / 2 ^ n)) (bits_of n v) m (length-bits_of m (v / 2 ^ n)) ∙ e
-
--- ---- numbers of so many bits that fit
+-- ---- numbers that fit
 -- at most eight bits are below a byte's end
 pub pow_byte : (k : ℕ) → k ≤ 8 → 2 ^ k ≤ 256
 pow_byte k h = pow-le-pow_right (omega arith) h
 
--- a number of one byte that makes room for at most eight bits
-pub shifted : (a k : ℕ) → a < 2 ^ 8 → k ≤ 8 → a * 2 ^ k % 2 ^ 16 ≡ a * 2 ^ k
-shifted a k h l = shl_whole a 8 k 16 h (omega arith)
+-- shifted by at most eight bits, at most eight lose none
+pub shifted : (n v k : ℕ) → v < 2 ^ n → n ≤ 8 → k ≤ 8 → v * 2 ^ k % 2 ^ 16 ≡ v * 2 ^ k
+shifted n v k h l m = shl_whole v n k 16 h (omega arith)
 
--- what is left of a number without its low bits
-pub low_left : (c n v h : ℕ) → c ≤ n → v < 2 ^ n → h ≡ v / 2 ^ c → h < 2 ^ (n - c)
-low_left c n v h l small e =
-    let whole : n ≡ (n - c) + c = omega arith in
-    subst (λ x. x < 2 ^ (n - c)) (sym e) (shr_below v (n - c) c (subst (λ k. v < 2 ^ k) whole small))
+pub byte_shifted : (v k : ℕ) → v < 2 ^ 8 → k ≤ 8 → v * 2 ^ k % 2 ^ 16 ≡ v * 2 ^ k
+byte_shifted v k h l = shifted 8 v k h (omega arith) l
 
--- and behind a byte that went through
-pub through_left : (n x h : ℕ) → x < 2 ^ 8 * 2 ^ n → h ≡ x / 2 ^ 8 → h < 2 ^ n
-through_left n x h small e = omega arith
+-- ---- bits at the front of a byte
+pub front_of_byte : (n v : ℕ) → n ≤ 8 → v < 2 ^ n → take n (byte_bits (v * 2 ^ (8 - n))) ≡ bits_of n v
+unfolding byte_bits
+front_of_byte n v l inside =
+    let e : n + (8 - n) ≡ 8 = omega arith in
+    let z : v * 2 ^ (8 - n) + 0 ≡ v * 2 ^ (8 - n) = omega arith in
+    let j = sym (bits_of-join n (8 - n) v 0 (pow_pos (8 - n))) in
+    let k : bits_of 8 (v * 2 ^ (8 - n)) ≡ bits_of n v ++ bits_of (8 - n) 0 = rw (e, z) at j in
+    ap (take n) k ∙ take_at (bits_of n v) (bits_of (8 - n) 0) n (length-bits_of n v)
 
--- and with those bits
-pub with_low : (a b k : ℕ) → a < 2 ^ 8 → b < 2 ^ k → k ≤ 8 → a * 2 ^ k + b < 2 ^ 8 * 2 ^ k
-with_low a b k h l m = omega (arith, mul-add-lt a (2 ^ k) b (2 ^ 8) h l)
+-- and the number of that byte
+pub front_whole : (n v : ℕ) → n ≤ 8 → v < 2 ^ n → v * 2 ^ (8 - n) % 2 ^ 16 ≡ v * 2 ^ (8 - n)
+front_whole n v l inside = shifted n v (8 - n) inside l (omega arith)
+
+pub front_below : (n v : ℕ) → n ≤ 8 → v < 2 ^ n → v * 2 ^ (8 - n) % 2 ^ 16 < 2 ^ 8
+front_below n v l inside =
+    let e : n + (8 - n) ≡ 8 = omega arith in
+    let z : v * 2 ^ (8 - n) + 0 ≡ v * 2 ^ (8 - n) = omega arith in
+    let j : v * 2 ^ (8 - n) + 0 < 2 ^ 8 = rw e at (joined_below n (8 - n) v 0 inside (pow_pos (8 - n))) in
+    rw (front_whole n v l inside) (omega arith)
+
+pub ruleset lengths = (length-bits_of)

@@ -1,7 +1,6 @@
 -- Bits that go out one after the other; ways through a list.
-use Rattle.std.proofs.Common.{◌≡◌, ℕ, ◌+◌, ◌-◌, ◌*◌, ◌/◌, ◌%◌, ◌^◌, ◌<◌, ◌≤◌, Bool, false, cond, List, [], ◌∷◌, ◌++◌, length, get_or, take, reverse, refl, sym, ap, ◌∙◌, append_assoc, append-nil, arith, length-append, subst, ⊎_elim}
+use Rattle.std.proofs.Common.{◌≡◌, ℕ, ◌+◌, ◌-◌, ◌*◌, ◌/◌, ◌%◌, ◌<◌, ◌≤◌, Bool, false, List, [], ◌∷◌, ◌++◌, length, get_or, take, reverse, refl, sym, ap, ◌∙◌, append_assoc, append-nil, arith, length-append, subst, ⊎_elim}
 use Rattle.std.proofs.Math.ListN.{get_or-append}
-use Rattle.std.proofs.Math.Pow.{pow_mono}
 use Rattle.std.proofs.lemmas.Bool.{cases_lt}
 use Rattle.std.proofs.lemmas.List.{take_more, take_all, length-reverse, length-take, get_or-reverse, get_or-append_right, reverse-append, nil_from_length}
 use Rattle.std.specs.declared.io.ErrorKind.{ErrorKind}
@@ -9,11 +8,11 @@ use Rattle.deku_bits.specs.declared.ctx.Order.{Order}
 use Rattle.deku_bits.specs.declared.ctx.Order.TheVariants.{Msb0, Lsb0}
 use Rattle.deku_bits.specs.declared.writer.way.Way.{Way}
 use Rattle.deku_bits.specs.declared.writer.way.Way.TheVariants.{Forward, Backward, TurnedBytes, BytesBackward}
-use Rattle.deku_bits.specs.Bits.{bin, group_number, shown}
+use Rattle.deku_bits.specs.Bits.{group_number, facing, shown}
 use Rattle.deku_bits.specs.Writers.{remainder}
 use Rattle.deku_bits.specs.Devices.{SinkTold, Gave}
-use Rattle.deku_bits.specs.Pushing.{along, Pushed, GaveUp}
-use Rattle.deku_bits.proofs.Binary.{bin-lt, bin-append}
+use Rattle.deku_bits.specs.Pushing.{along, Fills, Pushed, GaveUp}
+use Rattle.deku_bits.proofs.Binary.{length-facing}
 use Rattle.deku_bits.proofs.Groups.{by_groups}
 use Rattle.deku_bits.proofs.Cuts.{emitted, emitted-full, emitted-short, remainder-full, remainder-short, length-remainder, length-emitted}
 use Rattle.deku_bits.proofs.Shown.{turned, turned-full, length-turned, shown_even, shown_odd}
@@ -60,31 +59,14 @@ shown_turned s h = sym (shown_even s h)
 pub shown_backward : (s : List Bool) → (length s % 8 ≡ 0 → ⊥) → along Backward s ≡ shown Lsb0 s
 shown_backward s h = sym (shown_odd s h)
 
--- ---- the number of a list, bit after bit
-bin-push : (s : List Bool) (b : Bool) → bin (s ++ b ∷ []) ≡ 2 * bin s + cond b 1 0
-bin-push s b = bin-append s (b ∷ []) ∙ omega arith
-
-pub number_more : (w : Way) (s : List Bool) (i : ℕ) (b : Bool) → i < length s → b ≡ get_or (along w s) i false → bin (take (i + 1) (along w s)) ≡ 2 * bin (take i (along w s)) + cond b 1 0
-number_more w s i b h e =
-    ap bin (take_more (along w s) i false (rw length-along h)) ∙ bin-push (take i (along w s)) (get_or (along w s) i false)
-    ∙ ap (λ x. 2 * bin (take i (along w s)) + cond x 1 0) (sym e)
-
-pub number_fits : (w : Way) (s : List Bool) (i : ℕ) → i < length s → length s ≤ 8 → 2 * bin (take i (along w s)) + 1 < 256
-number_fits w s i h k =
-    let t : List Bool = take i (along w s) in
-    let l : length t ≤ 7 = omega (arith, length-take i (along w s), length-along w s) in
-    let d : 2 ^ length t ≤ 2 ^ 7 = pow_mono l in
-    omega (arith, bin-lt t)
-
-pub number_all : (w : Way) (s : List Bool) (i : ℕ) → length s ≤ i → bin (take i (along w s)) ≡ bin (along w s)
-number_all w s i h = ap bin (take_all i (along w s) (rw length-along h))
-
 -- ---- bits that went out, and more bits
 pub Pushed-nil : (a : SinkTold) (o : Order) (h : List Bool) → length h < 8 → Pushed a a o h h []
-Pushed-nil a o h l = record {
-  gave = rw (append-nil h, emitted-short o h l) (Gave-nil a);
-  rest = rw (append-nil h, remainder-short h l) refl;
-}
+Pushed-nil a o h l =
+    let k : length (facing o h) < 8 = rw length-facing l in
+    record {
+      gave = rw (append-nil (facing o h), emitted-short o (facing o h) k) (Gave-nil a);
+      rest = rw (append-nil (facing o h), remainder-short (facing o h) k) refl;
+    }
 
 split_bytes : (o : Order) (h hs xs ys : List Bool) → hs ≡ remainder (h ++ xs) → emitted o (h ++ (xs ++ ys)) ≡ emitted o (h ++ xs) ++ emitted o (hs ++ ys)
 split_bytes o h hs xs ys e =
@@ -92,8 +74,8 @@ split_bytes o h hs xs ys e =
 
 pub Pushed-trans : (a b c : SinkTold) (o : Order) (h hs hs2 xs ys : List Bool) → Pushed a b o h hs xs → Pushed b c o hs hs2 ys → Pushed a c o h hs2 (xs ++ ys)
 Pushed-trans a b c o h hs hs2 xs ys m n = record {
-  gave = subst (λ l. Gave a c l) (sym (split_bytes o h hs xs ys m.rest)) (Gave-trans a b c _ _ m.gave n.gave);
-  rest = n.rest ∙ ap (λ l. remainder (l ++ ys)) m.rest ∙ sym (remainder-append (h ++ xs) ys) ∙ ap remainder (append_assoc h xs ys);
+  gave = subst (λ l. Gave a c l) (sym (split_bytes o (facing o h) (facing o hs) xs ys m.rest)) (Gave-trans a b c _ _ m.gave n.gave);
+  rest = n.rest ∙ ap (λ l. remainder (l ++ ys)) m.rest ∙ sym (remainder-append (facing o h ++ xs) ys) ∙ ap remainder (append_assoc (facing o h) xs ys);
 }
 
 -- eight bits are a byte
@@ -105,15 +87,16 @@ remainder_one g l = ap remainder (sym (append-nil g)) ∙ remainder-full g [] l
 
 -- what is held after bits went out is no byte
 pub Pushed-short : {a b : SinkTold} {o : Order} {h hs xs : List Bool} → Pushed a b o h hs xs → length hs < 8
-Pushed-short {a} {b} {o} {h} {hs} {xs} m = rw m.rest (rw length-remainder (omega arith))
+Pushed-short {a} {b} {o} {h} {hs} {xs} m = omega (arith, length-facing o hs, ap length m.rest, length-remainder (facing o h ++ xs))
 
 -- bits went out, and then the sink gave up
 pub Pushed-gave_up : (a b c : SinkTold) (o : Order) (h hs xs : List Bool) (n m : ℕ) (k : ErrorKind) → Pushed a b o h hs xs → GaveUp b c ((length hs + n) / 8) k
     → length h + length xs + n ≤ m → GaveUp a c (m / 8) k
 Pushed-gave_up a b c o h hs xs n m k p f l =
-    let e : length hs ≡ length (h ++ xs) % 8 = ap length p.rest ∙ length-remainder (h ++ xs) in
-    let w = length-emitted o (h ++ xs) in
-    gave_up-more a c (length (emitted o (h ++ xs)) + (length hs + n) / 8) (m / 8) k (omega (arith, length-append h xs)) (gave_up-after a b c _ _ k p.gave f)
+    let all : length (facing o h ++ xs) ≡ length h + length xs = length-append (facing o h) xs ∙ ap (λ x. x + length xs) (length-facing o h) in
+    let e : length hs ≡ length (facing o h ++ xs) % 8 = sym (length-facing o hs) ∙ ap length p.rest ∙ length-remainder (facing o h ++ xs) in
+    let w = length-emitted o (facing o h ++ xs) in
+    gave_up-more a c (length (emitted o (facing o h ++ xs)) + (length hs + n) / 8) (m / 8) k (omega arith) (gave_up-after a b c _ _ k p.gave f)
 
 -- ---- a way, bit after bit
 module _ (a b c : SinkTold) (o : Order) (w : Way) (h hs bits : List Bool) (i : ℕ) (x : Bool) (inside : i < length bits) (is : x ≡ get_or (along w bits) i false)
@@ -154,10 +137,18 @@ module _ (o : Order) (w : Way) (xs ys zs : List Bool) where
       Pushed-gave_up a c d o h h2 (along w xs ++ ys) (length zs) (length xs + length ys + length zs) k (Pushed-trans a b c o h h1 h2 (along w xs) ys l m) f
       (let z : length h ≡ 0 = ap length e in omega (arith, length-append (along w xs) ys, length-along w xs))
 
-pub ruleset number_steps = (number_more, number_fits, number_all)
-
 pub ruleset ways = (turned_at, length-turned, get_or-reverse)
 
 pub ruleset shown_ways = (shown_forward, shown_turned, shown_backward)
 
-pub ruleset pushes = (emitted-short, emitted_one, remainder-short, remainder_one, Gave-nil)
+-- ---- a byte that fills, or none
+pub filled_none : (a : SinkTold) (o : Order) (h hs xs : List Bool) → Fills o h hs xs [] → Pushed a a o h hs xs
+filled_none a o h hs xs f = record { gave = rw (← f.bytes) (Gave-nil a); rest = f.rest }
+
+pub filled_given : (a b : SinkTold) (o : Order) (h hs xs : List Bool) (out : List ℕ) → Fills o h hs xs out → Gave a b out → Pushed a b o h hs xs
+filled_given a b o h hs xs out f g = record { gave = rw (← f.bytes) g; rest = f.rest }
+
+-- how many bytes fill
+pub filled_count : (o : Order) (h hs xs : List Bool) (out : List ℕ) → Fills o h hs xs out → length out ≡ (length h + length xs) / 8
+filled_count o h hs xs out f =
+    ap length f.bytes ∙ length-emitted o (facing o h ++ xs) ∙ ap (λ n. n / 8) (length-append (facing o h) xs ∙ ap (λ n. n + length xs) (length-facing o h))

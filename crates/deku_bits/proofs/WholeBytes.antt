@@ -1,22 +1,25 @@
 -- Whole bytes behind held bits.
-use Rattle.std.proofs.Common.{◌≡◌, ℕ, ◌+◌, ◌-◌, ◌*◌, ◌/◌, ◌%◌, ◌<◌, ◌≤◌, Bool, true, false, List, [], ◌∷◌, ◌++◌, length, get_or, take, reverse, All, refl, sym, ap, ap₂, ◌∙◌, append-nil, arith, subst₂}
-use Rattle.std.proofs.lemmas.List.{take_more, take_all, length-reverse, length-take, get_or-reverse, reverse-append, reverse-reverse}
+use Rattle.std.proofs.Common.{◌≡◌, ℕ, ◌+◌, ◌-◌, ◌*◌, ◌/◌, ◌%◌, ◌<◌, ◌≤◌, min, Bool, List, [], ◌∷◌, ◌++◌, length, get_or, set, take, drop, reverse, All, refl, sym, ap, ap₂, ◌∙◌, append-nil, arith, subst, ⊎_elim, length-drop}
+use Rattle.std.proofs.Math.Seq.{take-add}
+use Rattle.std.proofs.lemmas.Bool.{cases_lt}
+use Rattle.std.proofs.lemmas.List.{take_more, take_all, drop_all, length-take, length-reverse, reverse-append}
 use Rattle.std.proofs.lemmas.List.Concat.{flat_map-append}
 use Rattle.std.proofs.lemmas.List.Elements.{All-head, All-tail}
 use Rattle.std.specs.declared.io.ErrorKind.{ErrorKind}
 use Rattle.deku_bits.specs.declared.ctx.Order.{Order}
 use Rattle.deku_bits.specs.declared.ctx.Order.TheVariants.{Msb0, Lsb0}
-use Rattle.deku_bits.specs.declared.writer.way.Way.TheVariants.{BytesBackward}
 use Rattle.deku_bits.specs.Bits.{byte_bits, bits_in, shown}
-use Rattle.deku_bits.specs.Writers.{remainder}
+use Rattle.deku_bits.specs.Writers.{held, remainder, append, cross_append}
 use Rattle.deku_bits.specs.Devices.{SinkTold, Gave}
-use Rattle.deku_bits.specs.Pushing.{along, turned_where, Pushed, GaveUp, PushedOnto}
+use Rattle.deku_bits.specs.Pushing.{Fills, Pushed, GaveUp, PushedOnto}
 use Rattle.deku_bits.proofs.BitPlaces.{length-bits_in}
-use Rattle.deku_bits.proofs.Bytes.{IsByte}
-use Rattle.deku_bits.proofs.Cuts.{emitted, emitted-full, remainder-full, length-byte_bits, byte-of}
-use Rattle.deku_bits.proofs.Shown.{turned, turned-full}
-use Rattle.deku_bits.proofs.Pushes.{Pushed-trans, Pushed-gave_up}
-use Rattle.deku_bits.proofs.Onto.{same_onto, empty_onto, above_onto}
+use Rattle.deku_bits.proofs.Bytes.{IsByte, bytes_of-bits_in}
+use Rattle.deku_bits.proofs.Cuts.{emitted, emitted-full, emitted-short, remainder-full, remainder-short, length-byte_bits, byte-of}
+use Rattle.deku_bits.proofs.Gives.{Gave-trans, gave_up-after, gave_up-more}
+use Rattle.deku_bits.proofs.Parts.{cut_part}
+use Rattle.deku_bits.proofs.Fills.{fills_more}
+use Rattle.deku_bits.proofs.Pushes.{Pushed-trans, Pushed-short, Pushed-gave_up}
+use Rattle.deku_bits.proofs.Onto.{same_onto, empty_onto, append_above}
 
 -- ---- bytes as bits, cut in eights again
 emitted-bytes : (bs : List ℕ) → All IsByte bs → emitted Msb0 (bits_in bs) ≡ bs
@@ -34,46 +37,91 @@ pub given_at_once : (a b : SinkTold) (bs : List ℕ) → All IsByte bs → Gave 
 given_at_once a b bs h g = record { gave = rw (emitted-bytes bs h) g; rest = sym (remainder-bytes bs) }
 
 -- ---- one byte after the other
-pub length-turned_where : (r : Bool) (bs : List ℕ) → length (turned_where r bs) ≡ length bs
-length-turned_where true bs = length-reverse bs
-length-turned_where false bs = refl
-
-pub byte_from_last : (bs : List ℕ) (i : ℕ) → i < length bs → get_or bs (length bs - 1 - i) 0 ≡ get_or (turned_where true bs) i 0
-byte_from_last bs i h = sym (get_or-reverse bs i 0 h)
-
 bits_of_more : (bs : List ℕ) (i : ℕ) → i < length bs → bits_in (take (i + 1) bs) ≡ bits_in (take i bs) ++ byte_bits (get_or bs i 0)
 bits_of_more bs i h =
     ap bits_in (take_more bs i 0 h) ∙ flat_map-append byte_bits (take i bs) (get_or bs i 0 ∷ [])
     ∙ ap (λ x. bits_in (take i bs) ++ x) (append-nil (byte_bits (get_or bs i 0)))
 
-module _ (a b c : SinkTold) (r : Bool) (h hs : List Bool) (bs : List ℕ) (i x : ℕ) (inside : i < length bs) (is : x ≡ get_or (turned_where r bs) i 0)
-    (so_far : Pushed a b Msb0 h hs (bits_in (take i (turned_where r bs)))) where
-  within : i < length (turned_where r bs)
-  within = rw length-turned_where inside
+pub shifted_more : (h hs hs2 : List Bool) (bs out : List ℕ) (i byte : ℕ) → i < length bs → i < length out → Fills Msb0 h hs (bits_in (take i bs)) (take i out)
+    → Fills Msb0 hs hs2 (byte_bits (get_or bs i 0)) (byte ∷ []) → Fills Msb0 h hs2 (bits_in (take (i + 1) bs)) (take (i + 1) (set out i byte))
+shifted_more h hs hs2 bs out i byte l k p q =
+    rw (bits_of_more bs i l) (fills_more Msb0 h hs hs2 (bits_in (take i bs)) (byte_bits (get_or bs i 0)) out i byte k p q)
 
-  pub bytes_more : (hs2 : List Bool) → Pushed b c Msb0 hs hs2 (byte_bits x) → Pushed a c Msb0 h hs2 (bits_in (take (i + 1) (turned_where r bs)))
-  bytes_more hs2 m =
-      rw (bits_of_more (turned_where r bs) i within, ← is) (Pushed-trans a b c Msb0 h hs hs2 (bits_in (take i (turned_where r bs))) (byte_bits x) so_far m)
+pub shifted_all : (h hs : List Bool) (bs out : List ℕ) (i : ℕ) → length bs ≤ i → i ≤ length bs → Fills Msb0 h hs (bits_in (take i bs)) (take i out) → Fills Msb0 h hs (bits_in bs) (take (length bs) out)
+shifted_all h hs bs out i l k p =
+    let e : i ≡ length bs = omega arith in
+    rw (take_all i bs l, e) at p
 
-  pub bytes_stopped : (k : ErrorKind) → GaveUp b c ((length hs + 8) / 8) k → GaveUp a c ((length h + 8 * length bs) / 8) k
-  bytes_stopped k f =
-      Pushed-gave_up a b c Msb0 h hs (bits_in (take i (turned_where r bs))) 8 (length h + 8 * length bs) k so_far f
-      (omega (arith, length-bits_in (take i (turned_where r bs)), length-take i (turned_where r bs), length-turned_where r bs))
+-- ---- run by run
+-- the front of a list that is cut at a place past its end
+take_within : (xs : List ℕ) (n : ℕ) → take (min n (length xs)) xs ≡ take n xs
+take_within xs n = ⊎_elim
+    (λ (h : n < length xs). let e : min n (length xs) ≡ n = omega arith in ap (λ m. take m xs) e)
+    (λ (h : length xs ≤ n). take_all (min n (length xs)) xs (omega arith) ∙ sym (take_all n xs h))
+    (cases_lt n (length xs))
 
-pub bytes_all : (a b : SinkTold) (r : Bool) (h hs : List Bool) (bs : List ℕ) (i : ℕ) → length bs ≤ i → Pushed a b Msb0 h hs (bits_in (take i (turned_where r bs)))
-    → Pushed a b Msb0 h hs (bits_in (turned_where r bs))
-bytes_all a b r h hs bs i l m = let e : length (turned_where r bs) ≤ i = rw length-turned_where l in rw (take_all i (turned_where r bs) e) at m
+run_more : (bs : List ℕ) (i : ℕ) → 64 * i < length bs
+    → take (64 * (i + 1)) bs ≡ take (64 * i) bs ++ take (64 * i + min 64 (length bs - 64 * i) - 64 * i) (drop (64 * i) bs)
+run_more bs i l =
+    let n : 64 * (i + 1) ≡ 64 * i + 64 = omega arith in
+    let m : 64 * i + min 64 (length bs - 64 * i) - 64 * i ≡ min 64 (length (drop (64 * i) bs)) = omega (arith, length-drop (64 * i) bs) in
+    rw (n, m, take_within (drop (64 * i) bs) 64) (take-add (64 * i) 64 bs)
+
+module _ (a b c : SinkTold) (h hs : List Bool) (bs : List ℕ) (i : ℕ) (inside : 64 * i < length bs) (short : length h < 8) (so_far : Pushed a b Msb0 h hs (bits_in (take (64 * i) bs))) where
+  abbrev run : List ℕ
+  run = take (64 * i + min 64 (length bs - 64 * i) - 64 * i) (drop (64 * i) bs)
+
+  pub runs_more : (hs2 : List Bool) → Pushed b c Msb0 hs hs2 (bits_in run) → Pushed a c Msb0 h hs2 (bits_in (take (64 * (i + 1)) bs))
+  runs_more hs2 m =
+      subst (λ x. Pushed a c Msb0 h hs2 x) (sym (ap bits_in (run_more bs i inside) ∙ flat_map-append byte_bits (take (64 * i) bs) run))
+      (Pushed-trans a b c Msb0 h hs hs2 (bits_in (take (64 * i) bs)) (bits_in run) so_far m)
+
+  pub runs_stopped : (k : ErrorKind) → GaveUp b c (length run) k → GaveUp a c (length bs) k
+  runs_stopped k f =
+      let l : length hs < 8 = Pushed-short so_far in
+      let n : length run ≡ (length hs + 8 * length run) / 8 = omega arith in
+      let m : (length h + 8 * length bs) / 8 ≡ length bs = omega arith in
+      let w : length run ≤ length bs - 64 * i = omega (arith, length-take (64 * i + min 64 (length bs - 64 * i) - 64 * i) (drop (64 * i) bs), length-drop (64 * i) bs) in
+      let room : length h + length (bits_in (take (64 * i) bs)) + 8 * length run ≤ length h + 8 * length bs =
+      omega (arith, length-bits_in (take (64 * i) bs), length-take (64 * i) bs) in
+      subst (λ x. GaveUp a c x k) m (Pushed-gave_up a b c Msb0 h hs (bits_in (take (64 * i) bs)) (8 * length run) (length h + 8 * length bs) k so_far (subst (λ x. GaveUp b c x k) n f) room)
+
+pub runs_all : (a b : SinkTold) (h hs : List Bool) (bs : List ℕ) (i : ℕ) → length bs ≤ 64 * i → Pushed a b Msb0 h hs (bits_in (take (64 * i) bs)) → Pushed a b Msb0 h hs (bits_in bs)
+runs_all a b h hs bs i l m = rw (take_all (64 * i) bs l) at m
+
+-- ---- run by run, the last byte first
+module _ (a b c : SinkTold) (bs : List ℕ) (i : ℕ) (inside : 64 * i < length bs) (so_far : Gave a b (reverse (drop (length bs - 64 * i) bs))) where
+  abbrev end : ℕ
+  end = length bs - 64 * i
+
+  abbrev begin : ℕ
+  begin = end - min 64 end
+
+  abbrev back : List ℕ
+  back = take (end - begin) (drop begin bs)
+
+  turned_run : reverse (drop (length bs - 64 * (i + 1)) bs) ≡ reverse (drop end bs) ++ reverse back
+  turned_run =
+      let e : length bs - 64 * (i + 1) ≡ begin = omega arith in
+      let n : begin + (end - begin) ≡ end = omega arith in
+      ap (λ x. reverse (drop x bs)) e ∙ ap reverse (cut_part bs begin (end - begin)) ∙ ap (λ x. reverse (back ++ drop x bs)) n ∙ reverse-append back (drop end bs)
+
+  pub above_more : Gave b c (reverse back) → Gave a c (reverse (drop (length bs - 64 * (i + 1)) bs))
+  above_more g = rw turned_run (Gave-trans a b c (reverse (drop end bs)) (reverse back) so_far g)
+
+  pub above_stopped : (k : ErrorKind) → GaveUp b c (length back) k → GaveUp a c (length bs) k
+  above_stopped k f =
+      gave_up-more a c (length (reverse (drop end bs)) + length back) (length bs) k
+      (omega (arith, length-reverse (drop end bs), length-drop end bs, length-take (end - begin) (drop begin bs), length-drop begin bs))
+      (gave_up-after a b c (reverse (drop end bs)) (length back) k so_far f)
+
+pub above_none : (a : SinkTold) (bs : List ℕ) → Gave a a [] → Gave a a (reverse (drop (length bs - 64 * 0) bs))
+above_none a bs g = rw (drop_all (length bs - 64 * 0) bs (omega arith)) g
+
+pub above_all : (a b : SinkTold) (bs : List ℕ) (i : ℕ) → length bs ≤ 64 * i → Gave a b (reverse (drop (length bs - 64 * i) bs)) → Gave a b (reverse bs)
+above_all a b bs i l g = let e : length bs - 64 * i ≡ 0 = omega arith in rw e at g
 
 -- ---- onto held bits
-backward_bytes : (bs : List ℕ) → along BytesBackward (bits_in bs) ≡ bits_in (reverse bs)
-backward_bytes [] = refl
-backward_bytes (b ∷ bs) =
-    ap reverse (turned-full (byte_bits b) (bits_in bs) (length-byte_bits b))
-    ∙ reverse-append (reverse (byte_bits b)) (turned (bits_in bs))
-    ∙ ap₂ (λ x y. x ++ y) (backward_bytes bs) (reverse-reverse (byte_bits b) ∙ sym (append-nil (byte_bits b)))
-    ∙ sym (flat_map-append byte_bits (reverse bs) (b ∷ []))
-    ∙ ap bits_in (sym (reverse-append (b ∷ []) bs))
-
 some_bits : (bs : List ℕ) → 0 < length bs → 0 < length (bits_in bs)
 some_bits bs p = omega (arith, length-bits_in bs)
 
@@ -87,27 +135,21 @@ pub bytes_onto_same : (a b : SinkTold) (h hs : List Bool) (bs : List ℕ) → 0 
 unfolding shown
 bytes_onto_same a b h hs bs p m = same_onto a b Msb0 h hs (bits_in bs) (some_bits bs p) m
 
-pub bytes_onto_other : (a b : SinkTold) (h hs : List Bool) (bs : List ℕ) → 0 < length h → 0 < length bs → Pushed a b Msb0 [] hs (bits_in (reverse bs) ++ reverse h)
-    → PushedOnto a b Lsb0 Msb0 h hs (bits_in bs)
-bytes_onto_other a b h hs bs q p m =
-    let n : length (bits_in bs) % 8 ≡ 0 = omega (arith, length-bits_in bs) in
-    let front : bits_in (reverse bs) ++ take 0 (bits_in bs) ≡ bits_in (reverse bs) = append-nil (bits_in (reverse bs)) in
-    above_onto a b h hs (bits_in bs) q (some_bits bs p) (rw (n, backward_bytes bs, front) m)
+-- bytes above `Lsb0` bits
+above_bytes : (bs : List ℕ) (h : List Bool) → All IsByte bs → length h < 8 → cross_append Msb0 (bits_in bs) h ≡ record { bytes = reverse bs; pending = held Msb0 h }
+above_bytes bs h all l =
+    let z : length (bits_in bs) % 8 ≡ 0 = omega (arith, length-bits_in bs) in
+    rw z
+    (ap₂ (λ x y. record { bytes = x; pending = held Msb0 y })
+    (ap (λ x. reverse x ++ emitted Msb0 h) (bytes_of-bits_in bs all) ∙ ap (λ x. reverse bs ++ x) (emitted-short Msb0 h l) ∙ append-nil (reverse bs))
+    (remainder-short h l))
+
+pub bytes_onto_other : (a b : SinkTold) (h : List Bool) (bs : List ℕ) → 0 < length h → length h < 8 → 0 < length bs → All IsByte bs → Gave a b (reverse bs)
+    → PushedOnto a b Lsb0 Msb0 h h (bits_in bs)
+bytes_onto_other a b h bs q l p all g =
+    let e : append Msb0 (bits_in bs) (held Lsb0 h) ≡ record { bytes = reverse bs; pending = held Msb0 h } = append_above h (bits_in bs) q (some_bits bs p) ∙ above_bytes bs h all l in
+    record { gave = rw e g; rest = sym (ap (λ W. W.pending) e); short = l }
 
 -- how many bytes they make with the held bits
 pub whole_count : (h : List Bool) (bs : List ℕ) → length h < 8 → length bs ≡ (length h + length (bits_in bs)) / 8
 whole_count h bs l = omega (arith, length-bits_in bs)
-
--- bytes that went out from the last on, and then the bits that were held
-pub above_pushed : (a b c : SinkTold) (h : List Bool) (bs : List ℕ) (h0 h1 h2 t : List Bool) → h0 ≡ [] → t ≡ reverse h → Pushed a b Msb0 h0 h1 (bits_in (reverse bs)) → Pushed b c Msb0 h1 h2 t
-    → Pushed a c Msb0 [] h2 (bits_in (reverse bs) ++ reverse h)
-above_pushed a b c h bs h0 h1 h2 t e f m n =
-    subst₂ (λ x y. Pushed a c Msb0 x h2 (bits_in (reverse bs) ++ y)) e f (Pushed-trans a b c Msb0 h0 h1 h2 (bits_in (reverse bs)) t m n)
-
-pub above_stopped : (a b c : SinkTold) (h : List Bool) (bs : List ℕ) (h0 h1 t : List Bool) (k : ErrorKind) → h0 ≡ [] → t ≡ reverse h → Pushed a b Msb0 h0 h1 (bits_in (reverse bs))
-    → GaveUp b c ((length h1 + length t) / 8) k → GaveUp a c ((length h + 8 * length bs) / 8) k
-above_stopped a b c h bs h0 h1 t k e f m g =
-    let none : length h0 ≡ 0 = ap length e in
-    let same : length t ≡ length h = ap length f ∙ length-reverse h in
-    Pushed-gave_up a b c Msb0 h0 h1 (bits_in (reverse bs)) (length t) (length h + 8 * length bs) k m g
-    (omega (arith, none, same, length-bits_in (reverse bs), length-reverse bs))

@@ -53,9 +53,9 @@ abbrev pub little : List ℕ → ℕ
 little [] = 0
 little (c ∷ cs) = c + 256 * little cs
 
--- the word of a list: the number of its groups, the first the lowest
-abbrev pub word : Order → List Bool → ℕ
-word o s = little (map (group_number o) (chunks s))
+-- the word of a list: the number of its first group counts once, that of each further one 256 times as much
+abbrev pub word_of : Order → List Bool → ℕ
+word_of o s = little (map (group_number o) (chunks s))
 
 -- what a read shows of the list that it took: in `Lsb0` it is reversed, and where it is whole bytes, byte by byte
 unfoldable pub shown : Order → List Bool → List Bool

@@ -1,7 +1,7 @@
 -- Bits that go from a window and the bytes to come, one after the other.
 use Rattle.std.specs.Prelude.{◌≡◌, ⊤, ℕ, ◌+◌, ◌*◌, ◌<◌, Bool, List, length, map, ◌++◌, Option, None, Some}
 use Rattle.deku_bits.specs.declared.ctx.Order.{Order}
-use Rattle.deku_bits.specs.Bits.{chunks, facing, group_number, word}
+use Rattle.deku_bits.specs.Bits.{chunks, facing, group_number, word_of}
 use Rattle.deku_bits.specs.Streams.{flow, seen}
 
 -- A window and the bytes to come, where they are told, give these bits and are then another window and the bytes behind.
@@ -36,4 +36,4 @@ pub record MovesWord (o : Order) (window : List Bool) (bytes : Option (List ℕ)
   pub bits : List Bool
   pub long : length bits ≡ n
   pub moved : Moves o window bytes bits rest after
-  pub worth : number ≡ word o bits
+  pub worth : number ≡ word_of o bits

@@ -8,7 +8,7 @@ use Rattle.deku_bits.specs.declared.error.DekuError.TheVariants.{Incomplete, Io}
 use Rattle.deku_bits.specs.declared.reader.Reader.{Reader}
 use Rattle.deku_bits.specs.declared.reader.Leftover.{Leftover}
 use Rattle.deku_bits.specs.declared.reader.Leftover.TheVariants.{Byte, Bits}
-use Rattle.deku_bits.specs.Bits.{byte_bits, shown, bits_in, bytes_of, groups, word}
+use Rattle.deku_bits.specs.Bits.{byte_bits, shown, bits_in, bytes_of, groups, word_of}
 use Rattle.deku_bits.specs.Streams.{Stream, bit_count, Has, Lacks, taken, left, last_part, passed, skipped}
 use Rattle.deku_bits.specs.Devices.{SourceTold, Loses}
 use Rattle.deku_bits.specs.Standings.{Standing, Going, Stopped, reader_state}
@@ -49,7 +49,7 @@ ReadsBytes o n = Mapped bytes_of (ReadsBits o (8 * n))
 
 -- n bits are taken in an order, as their word
 abbrev pub ReadsWord : Order → ℕ → Meaning (Option Stream) ℕ
-ReadsWord o n = Mapped (word o) (Takes o n)
+ReadsWord o n = Mapped (word_of o) (Takes o n)
 
 -- whether the end of input is reached: over a stream that is told, where no bit is left; the stream is the same
 abbrev pub Peeks : Option Stream → ℕ → Result Bool DekuError → Standing (Option Stream) → Type 0

@@ -7,6 +7,7 @@ use Rattle.deku_bits.specs.declared.ctx.Order.TheVariants.{Msb0}
 use Rattle.deku_bits.specs.declared.error.DekuError.{DekuError}
 use Rattle.deku_bits.specs.declared.error.DekuError.TheVariants.{Io}
 use Rattle.deku_bits.specs.declared.writer.Writer.{Writer}
+use Rattle.deku_bits.specs.Bits.{word_of, shown}
 use Rattle.deku_bits.specs.Writers.{Pending, Nothing, Held, Written, append, finalized}
 use Rattle.deku_bits.specs.Devices.{SinkTold, Shrinks, LacksRoom}
 use Rattle.deku_bits.specs.Standings.{Standing, Going, Stopped, Output, writer_state}
@@ -38,6 +39,10 @@ Emits write = UnlessStopped (λ out. Counted (8 * length (write out.pending).byt
 -- bits are written in an order
 abbrev pub WritesBits : Order → List Bool → Meaning Output (Unit {0})
 WritesBits o bits = Emits (append o bits)
+
+-- a word is written in an order: the list of n bits that has this word, as a read shows it
+abbrev pub WritesWord : Order → ℕ → ℕ → Meaning Output (Unit {0})
+WritesWord o n word b s r u = (bits : List Bool) × (length bits ≡ n) × (word_of o bits ≡ word) × WritesBits o (shown o bits) b s r u
 
 -- the pending bits are filled with zeros to a byte
 abbrev pub Finalizes : Meaning Output (Unit {0})

@@ -1,23 +1,25 @@
 //! Bits written to a sink, one call at a time.
 
-ghost use Rattle.std.specs.Prelude.{◌≡◌, ◌+◌, ◌/◌, ◌≤◌, length, IfOk, IfErr};
+ghost use Rattle.std.specs.Prelude.{◌≡◌, ◌+◌, ◌/◌, ◌^◌, ◌<◌, ◌≤◌, length, IfOk, IfErr};
 ghost use Rattle.std.specs.declared.io.ErrorKind.TheVariants.{OutOfMemory};
 ghost use Rattle.deku_bits.specs.declared.ctx.Order.TheVariants.{Msb0};
 ghost use Rattle.deku_bits.specs.declared.error.DekuError.TheVariants.{Io};
 ghost use Rattle.deku_bits.specs.Bits.{bits_in};
 ghost use Rattle.deku_bits.specs.Writers.{Nothing, pending_bits};
 ghost use Rattle.deku_bits.specs.Standings.{Going, Stopped, Untouched, count_of};
-ghost use Rattle.deku_bits.specs.WriterCalls.{Writes, WritesAt, WritesBits, Finalizes, pending_of, order_of};
+ghost use Rattle.deku_bits.specs.WriterCalls.{Writes, WritesAt, WritesBits, WritesWord, Finalizes, pending_of, order_of};
 
 mod bytes;
 mod held;
 mod pushing;
 mod seek;
 mod way;
+mod words;
 
 use self::bytes::push_bytes_onto;
 use self::held::Held;
 use self::pushing::push_onto;
+use self::words::push_word_onto;
 use crate::bounded::BoundedBitVec;
 use crate::ctx::Order;
 use crate::device::Sink;
@@ -47,7 +49,6 @@ pub struct Writer<W> {
 /// How far a writer has come.
 #[derive(Drop)]
 pub struct Progress {
-    // The pending bits, in the order in which they go out.
     held: Held,
     order: Order,
     bits_written: usize,
@@ -56,14 +57,13 @@ pub struct Progress {
 
 impl Model for Progress {
     ghost use Rattle.std.specs.Prelude.{◌<◌, length};
-    ghost use Rattle.deku_bits.specs.Writers.{Pending};
+    ghost use Rattle.deku_bits.specs.Writers.{Pending, held as pending_in};
     ghost use Rattle.deku_bits.specs.Standings.{Standing};
-    ghost use Rattle.deku_bits.specs.Pushing.{waiting};
     ghost use Rattle.deku_bits.specs.Kept.{standing_of};
 
     ghost Value = { Standing Pending };
 
-    ghost view = { λ a. standing_of (waiting a.order a.held) a.fault a.bits_written };
+    ghost view = { λ a. standing_of (pending_in a.order a.held) a.fault a.bits_written };
 
     ghost invariant = { λ a. length a.held < 8 };
 }
@@ -106,7 +106,7 @@ impl<W: Sink> Writer<W> {
     {
         let bits = self.state.pending();
         (
-            BoundedBitVec::from_bits(bits.as_slice()),
+            BoundedBitVec::from_bits(&bits.bits()[..bits.len()]),
             self.state.pending_order(),
         )
     }
@@ -124,7 +124,7 @@ impl<W: Sink> Writer<W> {
         ensures memory { IfErr result (λ e. e ≡ Io OutOfMemory) }
     {
         let pending = self.state.pending();
-        match Vec::from_slice(alloc, pending.as_slice()) {
+        match Vec::from_slice(alloc, &pending.bits()[..pending.len()]) {
             Ok(bits) => Ok(bits),
             Err(_) => Err(DekuError::Io(ErrorKind::OutOfMemory)),
         }
@@ -169,6 +169,22 @@ impl<W: Sink> Writer<W> {
         ensures stopped { Untouched self.old.state self.old.sink self.new.sink }
     {
         self.state.write_bytes(&mut self.sink, buf)
+    }
+
+    /// Writes a word of at most 128 bits in an order, as one `write_bits_order` of its bits does: eight bits for each byte of the word, the
+    /// lowest byte first, and what is above the whole bytes last. It takes no memory but what the sink takes, and gives the sink its bytes at
+    /// once, but for bits of the other order that are pending. The caller's conditions: `n` is at most 128, and the word has no more bits.
+    ///
+    /// ```text
+    /// writer.write_word(0x0201, 12, Order::Msb0)?;       // the byte 0x01; 0, 0, 1, 0 are pending
+    /// ```
+    pub fn write_word(&mut self, word: u128, n: usize, order: Order) -> Result<(), DekuError>
+        requires most { n ≤ 128 }
+        requires inside { word < 2 ^ n }
+        ensures writes { Writes W.told (WritesWord order n word) self.old result self.new }
+        ensures stopped { Untouched self.old.state self.old.sink self.new.sink }
+    {
+        self.state.write_word(&mut self.sink, word, n, order)
     }
 
     /// Fills pending bits with zeros to a byte, behind `Msb0` bits and above `Lsb0` bits, and gives it to the sink. It counts eight bits. Where
@@ -221,12 +237,7 @@ impl Progress {
         if self.fault.is_some() {
             return Held::new();
         }
-        let mut pending = self.held.copy();
-        match self.order {
-            Order::Msb0 => {}
-            Order::Lsb0 => pending.turn(),
-        }
-        pending
+        self.held.copy()
     }
 
     // The order of the pending bits.
@@ -285,6 +296,42 @@ impl Progress {
             Ok(()) => {
                 self.order = Order::Msb0;
                 self.bits_written += 8 * bytes.len();
+                Ok(())
+            }
+            Err(kind) => {
+                *self = Progress::stopped(kind, self.bits_written);
+                Err(DekuError::Io(kind))
+            }
+        }
+    }
+
+    // Writes a word of n bits to this sink.
+    fn write_word<W: Sink>(
+        &mut self,
+        sink: &mut W,
+        word: u128,
+        n: usize,
+        order: Order,
+    ) -> Result<(), DekuError>
+        requires most { n ≤ 128 }
+        requires inside { word < 2 ^ n }
+        ensures writes { WritesAt (WritesWord order n word) (W.told sink.old) self.old result (W.told sink.new) self.new }
+        ensures stopped { Untouched self.old sink.old sink.new }
+    {
+        if let Some(reason) = self.fault {
+            return Err(reason.error());
+        }
+        if n == 0 {
+            return Ok(());
+        }
+        let filled = whole_bytes(self.held.len(), n);
+        if filled > (usize::MAX - self.bits_written) / 8 {
+            return Err(DekuError::InvalidParam("count past usize"));
+        }
+        match push_word_onto(sink, &mut self.held, self.order, order, word, n) {
+            Ok(()) => {
+                self.order = order;
+                self.bits_written += 8 * filled;
                 Ok(())
             }
             Err(kind) => {

@@ -1,38 +1,28 @@
 -- What a transfer of a field's bits says of its number.
-use Rattle.std.proofs.Common.{◌≡◌, ℕ, ◌%◌, ◌^◌, ◌<◌, Bool, true, false, List, length, Option, Result, Ok, Err, ℤ, pos, sym, ◌∙◌, ap, subst}
+use Rattle.std.proofs.Common.{◌≡◌, ℕ, ◌%◌, ◌^◌, ◌<◌, Bool, true, false, List, length, Option, Result, Ok, Err, ℤ, pos, sym, ◌∙◌, ap, ap₂, subst}
 use Rattle.deku_bits.specs.declared.ctx.Order.{Order}
 use Rattle.deku_bits.specs.declared.error.DekuError.{DekuError}
-use Rattle.deku_bits.specs.Bits.{shown, word}
+use Rattle.deku_bits.specs.Bits.{word_of}
 use Rattle.deku_bits.specs.Streams.{Stream}
 use Rattle.deku_bits.specs.Devices.{Health}
 use Rattle.deku_bits.specs.Standings.{Standing, Output}
 use Rattle.deku_bits.specs.Outcomes.{Outcome, Quiet, Broken, Mapped, Value, Refusal}
-use Rattle.deku_bits.specs.ReaderCalls.{Takes, ReadsBits, ReadsWord}
+use Rattle.deku_bits.specs.ReaderCalls.{Takes, ReadsWord}
 use Rattle.deku_bits.proofs.ReaderLaws.{taken_length}
-use Rattle.deku_bits.specs.WriterCalls.{WritesBits}
-use Rattle.deku_bits.proofs.Shown.{shown-shown}
+use Rattle.deku_bits.specs.WriterCalls.{WritesWord}
 use Rattle.deku_bits.proofs.Handing.{no_ok, broken_at, mapped_ok, mapped_err, weaker}
 use Rattle.deku_num.specs.declared.ctx.Layout.{Layout}
 use Rattle.deku_num.specs.NumberLaws.{InType}
-use Rattle.deku_num.specs.Numbers.{NumberType, width, number, value, with_sign, IsAllowed, IsListFor}
+use Rattle.deku_num.specs.Numbers.{NumberType, width, number, value, with_sign, IsAllowed, IsWordFor}
 use Rattle.deku_num.specs.NumberCalls.{Passed, ReadsNumber, WritesNumber}
 use Rattle.deku_num.proofs.Ranges.{type_law, signed_below}
 use Rattle.deku_num.proofs.Turned.{word_below}
-
--- bits that are shown, turned back
-pub turned_back : (o : Order) (n : ℕ) {s : Standing (Option Stream)} {f : Health} {bits : List Bool} {u : Standing (Option Stream)} {g : Health}
-    → Outcome (ReadsBits o n) s f (Ok bits) u g → Outcome (Takes o n) s f (Ok (shown o bits)) u g
-turned_back o n {s} {f} {bits} {u} {g} (Quiet (Value v p e) q) =
-    let same : bits ≡ shown o v = cc in
-    Quiet (subst (λ x. Takes o n false s (Ok x) u) (sym (ap (shown o) same ∙ shown-shown o v)) p) q
-turned_back o n (Quiet (Refusal d p e) q) = absurd (cc)
-turned_back o n (Broken a p q) = absurd (no_ok a)
 
 -- the bits whose word was read
 pub record WordRead (o : Order) (n k : ℕ) (s : Standing (Option Stream)) (f : Health) (u : Standing (Option Stream)) (g : Health) : Type 0 where
   pub bits : List Bool
   pub long : length bits ≡ n
-  pub worth : k ≡ word o bits
+  pub worth : k ≡ word_of o bits
   pub taken : Outcome (Takes o n) s f (Ok bits) u g
 
 pub word_read : (o : Order) (n : ℕ) {k : ℕ} {s : Standing (Option Stream)} {f : Health} {u : Standing (Option Stream)} {g : Health} → Outcome (ReadsWord o n) s f (Ok k) u g → WordRead o n k s f u g
@@ -66,12 +56,12 @@ number_refused t l n {s} {f} {e} {u} {g} ok o w =
     weaker (Mapped (value t l) (Takes l.order (width t l))) (ReadsNumber t l) s f (Err e) u g (λ b m. Passed (ok, m))
     (mapped_err (value t l) (subst (λ k. Outcome (Takes l.order k) s f (Err e) u g) w o))
 
--- the list of a value was written
-pub number_written : (t : NumberType) (l : Layout) (v : ℤ) (bits shows : List Bool) {s : Standing Output} {f : Health} {r : Result (Unit {0}) DekuError} {u : Standing Output} {g : Health}
-    → IsAllowed t l → IsListFor t l v bits → shows ≡ shown l.order bits → Outcome (WritesBits l.order shows) s f r u g → Outcome (WritesNumber t l v) s f r u g
-number_written t l v bits shows {s} {f} {r} {u} {g} ok list e o =
-    weaker (WritesBits l.order (shown l.order bits)) (WritesNumber t l v) s f r u g (λ b m. Passed (Passed (ok, (bits, list, m))))
-    (subst (λ x. Outcome (WritesBits l.order x) s f r u g) e o)
+-- the word of a value was written
+pub word_written : (t : NumberType) (l : Layout) (v : ℤ) (n w : ℕ) {s : Standing Output} {f : Health} {r : Result (Unit {0}) DekuError} {u : Standing Output} {g : Health}
+    → IsAllowed t l → n ≡ width t l → IsWordFor t l v w → Outcome (WritesWord l.order n w) s f r u g → Outcome (WritesNumber t l v) s f r u g
+word_written t l v n w {s} {f} {r} {u} {g} ok wide word o =
+    weaker (WritesWord l.order n w) (WritesNumber t l v) s f r u g
+    (λ b m. Passed (Passed (ok, (m.0, word.list m.0 (m.1 ∙ wide) m.2, m.3)))) o
 
 -- ---- what is read is of the type
 pub signed_in_type : (t : NumberType) (l : Layout) (s : List Bool) (v : ℤ) → t.signed ≡ true → IsAllowed t l → length s ≡ width t l → v ≡ value t l s → t.bits % 8 ≡ 0 → InType true t.bits v
@@ -96,3 +86,8 @@ unsigned_worth t l s k g e = ap pos e ∙ sym (ap (λ b. with_sign b (length s) 
 -- the number of a signed field fits its bits
 pub number_fits : (t : NumberType) (l : Layout) (s : List Bool) (n k : ℕ) → t.signed ≡ true → IsAllowed t l → length s ≡ n → n ≡ width t l → k ≡ number l.endian l.order s → k < 2 ^ n
 number_fits t l s n k g ok e w q = rw (q, ← e) (signed_below t l s ok (e ∙ w) g)
+
+-- and in two's complement it is worth what its bits are
+pub signed_worth : (t : NumberType) (l : Layout) (s : List Bool) (n k : ℕ) → t.signed ≡ true → length s ≡ n → k ≡ number l.endian l.order s → with_sign true n k ≡ value t l s
+unfolding value
+signed_worth t l s n k g e q = ap₂ (λ x y. with_sign true x y) (sym e) q ∙ sym (ap (λ b. with_sign b (length s) (number l.endian l.order s)) g)

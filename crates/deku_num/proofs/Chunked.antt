@@ -10,15 +10,11 @@ use Rattle.deku_num.specs.declared.ctx.Endian.{Endian}
 use Rattle.deku_num.specs.declared.ctx.Endian.TheVariants.{Little, Big}
 use Rattle.deku_bits.specs.Bits.{chunks, bits_of, group_number}
 use Rattle.deku_bits.specs.Bits.{groups}
+pub use Rattle.deku_num.specs.NumberLaws.{weight}
 use Rattle.deku_num.specs.NumberLaws.{Within}
 use Rattle.deku_num.specs.Numbers.{number}
 use Rattle.deku_bits.proofs.Binary.{bin-lt, bin-append, group_number-lt, group_number-inj, group_of, length-group_of, group_number-group_of, length-bits_of, bin-bits_of}
 use Rattle.deku_bits.proofs.Groups.{chunks-full, chunks-short, by_eights, by_groups, groups-more, groups_short, length-chunks}
-
--- what the bits behind a group weigh, in big
-abbrev pub weight : Order → ℕ → ℕ
-weight Msb0 n = 2 ^ n
-weight Lsb0 n = 256 ^ groups n
 
 -- ---- a group in front, and a short group alone
 pub little-full : (o : Order) (g t : List Bool) → length g ≡ 8 → number Little o (g ++ t) ≡ group_number o g + 256 * number Little o t

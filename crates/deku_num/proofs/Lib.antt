@@ -1,9 +1,10 @@
 pub mod Chunked
 pub mod Values
 pub mod Ranges
-pub mod Turned
 pub mod Places
 pub mod Listing
+pub mod Turned
+pub mod Fitted
 pub mod Carrying
 pub mod WorkedRows
 pub mod FieldBits

@@ -109,9 +109,3 @@ unsigned_list false t l v s g w e = record {
   wide = w;
   worth = unsigned_worth t.signed (length s) (number l.endian l.order s) g ∙ ap pos e;
 }
-
--- where values are cut, there is a list
-pub cut_listed : (t : NumberType) (l : Layout) (v : ℤ) → cuts l.size ≡ true → (s : List Bool) × (length s ≡ width t l) × (number l.endian l.order s ≡ residue v (width t l))
-cut_listed t l v e =
-    let r = byte_law l.endian l.order (width t l) (residue v (width t l)) (cut_width t l.size e) (residue-lt v (width t l)) in
-    (r.0, r.1, r.2)

@@ -89,29 +89,6 @@ pub group_law : GroupLaw
 unfolding number value
 group_law e o g p l = (number_one e o g p l, group_number-lt o g)
 
--- ---- a signed field's number, with half of its range
-pub record SignedRead (t : NumberType) (l : Layout) (s : List Bool) (H : ℕ) : Type 0 where
-  pub below : number l.endian l.order s < H * 2
-  pub fits : H ≤ 2 ^ 127
-  pub low : number l.endian l.order s < H → value t l s ≡ pos (number l.endian l.order s)
-  pub high : H ≤ number l.endian l.order s → value t l s ≡ pos (number l.endian l.order s) -ℤ pos (H * 2)
-
-pub signed_read : (t : NumberType) (l : Layout) (s : List Bool) → t.bits ≤ 128 → IsAllowed t l → length s ≡ width t l → t.signed ≡ true → 0 < length s → SignedRead t l s (2 ^ (length s - 1))
-unfolding number value
-signed_read t l s small ok w g p =
-    let n : ℕ = length s - 1 in
-    let e : length s ≡ suc n = omega arith in
-    let v : value t l s ≡ with_sign true (suc n) (number l.endian l.order s) = ap₂ (λ b m. with_sign b m (number l.endian l.order s)) g e in
-    let even : IsEvenWhere true l.endian l.order (suc n) = subst₂ (λ b m. IsEvenWhere b l.endian l.order m) g (sym w ∙ e) (ok.even) in
-    let b : number l.endian l.order s < 2 ^ suc n = (plain l.endian l.order (suc n) even (number l.endian l.order s)).0 (subst (λ m. Within l.endian l.order m (number l.endian l.order s)) e (within l.endian l.order s)) in
-    let d : 2 ^ suc n ≡ 2 ^ n * 2 = pow-suc 2 n in
-    record {
-      below = omega arith;
-      fits = pow-le-pow_right {n = 2} (omega arith) {i = n} {j = 127} (omega (arith, ok.within, small));
-      low = λ h. v ∙ with_sign-signed n (number l.endian l.order s) ∙ signed_low (2 ^ n) (number l.endian l.order s) h;
-      high = λ h. v ∙ with_sign-signed n (number l.endian l.order s) ∙ signed_high (2 ^ n) (number l.endian l.order s) h;
-    }
-
 -- what a signed field's list has for its number is below 2 ^ n
 pub signed_below : (t : NumberType) (l : Layout) (s : List Bool) → IsAllowed t l → length s ≡ width t l → t.signed ≡ true → number l.endian l.order s < 2 ^ length s
 unfolding number value

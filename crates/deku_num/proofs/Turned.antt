@@ -1,14 +1,14 @@
--- Words that are turned: the number of a field from the word of its bits.
-use Rattle.std.proofs.Common.{◌≡◌, ℕ, zero, suc, ◌+◌, ◌*◌, ◌-◌, ◌/◌, ◌%◌, ◌^◌, ◌<◌, ◌≤◌, Bool, List, [], ◌∷◌, ◌++◌, length, map, take, drop, replicate, All, arith, refl, sym, ap, ap₂, ◌∙◌, subst, length-append, take-append-drop, length-drop, length-take-le}
+-- Words that are turned: the number of a field from the word of its bits, and back.
+use Rattle.std.proofs.Common.{◌≡◌, ℕ, zero, suc, ◌+◌, ◌*◌, ◌-◌, ◌/◌, ◌%◌, ◌^◌, ◌<◌, ◌≤◌, Bool, List, [], ◌∷◌, ◌++◌, reverse, length, map, take, drop, replicate, All, arith, refl, sym, ap, ap₂, ◌∙◌, subst, length-append, take-append-drop, length-drop, length-take-le}
 use Rattle.std.proofs.lemmas.Nat.{shr-shr, shl-shr, shr_below, shl_whole, one_shl, mul-add-lt, pow-add, div-mul-add, mod-mul-add}
 use native.Mathlib.Nat.{pow-le-pow_right}
 use Rattle.std.proofs.Math.Nat.{pow-suc}
-use Rattle.std.proofs.lemmas.List.{length-map, length-replicate}
+use Rattle.std.proofs.lemmas.List.{length-map, length-replicate, length-reverse, reverse-append, reverse-reverse}
 use Rattle.std.proofs.lemmas.List.Elements.{All-head, All-tail, All-cons, All-nil, All-append, All-replicate}
 use Rattle.std.specs.Int.{w128, from_be_bytes, swap_bytes, byte_at, bytes_low_first}
 use Rattle.deku_bits.specs.declared.ctx.Order.{Order}
 use Rattle.deku_bits.specs.declared.ctx.Order.TheVariants.{Msb0, Lsb0}
-use Rattle.deku_bits.specs.Bits.{bin, chunks, group_number, groups, little, word}
+use Rattle.deku_bits.specs.Bits.{bin, chunks, group_number, groups, little, word_of}
 use Rattle.deku_bits.proofs.Binary.{bin-append}
 use Rattle.deku_bits.proofs.Bytes.{IsByte}
 use Rattle.deku_bits.proofs.Groups.{chunks-full, chunks-short, by_groups, length-chunks}
@@ -93,29 +93,29 @@ whole_big s = by_groups (λ s. length s % 8 ≡ 0 → bin s ≡ big (map bin (ch
     s
 
 -- ---- numbers from words
-pub word_below : (o : Order) (s : List Bool) → word o s < 2 ^ length s
+pub word_below : (o : Order) (s : List Bool) → word_of o s < 2 ^ length s
 unfolding number
 word_below o s = little_below o s
 
--- in little a word is the number
-pub little_turned : (o : Order) (s : List Bool) → word o s ≡ number Little o s
+-- a word is the number in little endian
+pub word_is : (o : Order) (s : List Bool) → word_of o s ≡ number Little o s
 unfolding number
-little_turned o s = refl
+word_is o s = refl
 
 -- in big and `Lsb0` its bytes are turned
-pub low_turned : (s : List Bool) (n count : ℕ) → length s ≤ 128 → count ≡ groups (length s) → n ≡ word Lsb0 s → swap_bytes w128 n / 2 ^ (128 - 8 * count) ≡ number Big Lsb0 s
+pub low_turned : (s : List Bool) (n count : ℕ) → length s ≤ 128 → count ≡ groups (length s) → n ≡ word_of Lsb0 s → swap_bytes w128 n / 2 ^ (128 - 8 * count) ≡ number Big Lsb0 s
 unfolding number
 low_turned s n count h e f =
     turned_bytes (map (group_number Lsb0) (chunks s)) count n (length-group_bytes Lsb0 s ∙ sym e) (omega arith) (group_bytes Lsb0 s) f
 
 -- and so in big and `Msb0`, where there are whole groups alone
-pub high_turned : (s : List Bool) (n count : ℕ) → length s ≤ 128 → length s ≡ 8 * count → n ≡ word Msb0 s → swap_bytes w128 n / 2 ^ (128 - 8 * count) ≡ number Big Msb0 s
+pub high_turned : (s : List Bool) (n count : ℕ) → length s ≤ 128 → length s ≡ 8 * count → n ≡ word_of Msb0 s → swap_bytes w128 n / 2 ^ (128 - 8 * count) ≡ number Big Msb0 s
 unfolding number
 high_turned s n count h e f =
     turned_bytes (map bin (chunks s)) count n (length-group_bytes Msb0 s ∙ omega arith) (omega arith) (group_bytes Msb0 s) f ∙ sym (whole_big s (omega arith))
 
 -- whole groups, and a short one behind them
-pub both_turned : (s : List Bool) (n q r low high : ℕ) → length s ≤ 128 → length s ≡ 8 * q + r → 0 < r → r < 8 → n ≡ word Msb0 s → low ≡ n % 2 ^ (8 * q) → high ≡ n / 2 ^ (8 * q)
+pub both_turned : (s : List Bool) (n q r low high : ℕ) → length s ≤ 128 → length s ≡ 8 * q + r → 0 < r → r < 8 → n ≡ word_of Msb0 s → low ≡ n % 2 ^ (8 * q) → high ≡ n / 2 ^ (8 * q)
     → swap_bytes w128 low / 2 ^ (128 - 8 * q) * 2 ^ r + high ≡ number Big Msb0 s
 both_turned s n q r low high h e p k f a b =
     let k8 : ℕ = 8 * q in
@@ -125,19 +125,82 @@ both_turned s n q r low high h e p k f a b =
     let lx : length x ≡ k8 = length-take-le k8 s (omega arith) in
     let ly : length y ≡ r = omega (arith, length-drop k8 s) in
     let parts = split_law Msb0 x y (omega arith) in
-    let sum : n ≡ word Msb0 y * 2 ^ k8 + word Msb0 x =
-    f ∙ little_turned Msb0 s ∙ ap (number Little Msb0) (sym whole) ∙ parts.0 ∙ ap (λ z. number Little Msb0 x + number Little Msb0 y * 2 ^ z) lx ∙ swap (number Little Msb0 x) (number Little Msb0 y * 2 ^ k8)
-    ∙ ap₂ (λ u v. v * 2 ^ k8 + u) (sym (little_turned Msb0 x)) (sym (little_turned Msb0 y)) in
-    let small : word Msb0 x < 2 ^ k8 = subst (λ z. word Msb0 x < 2 ^ z) lx (word_below Msb0 x) in
-    let low_is : low ≡ word Msb0 x = a ∙ ap (λ z. z % 2 ^ k8) sum ∙ mod-mul-add (word Msb0 y) (2 ^ k8) (word Msb0 x) small in
+    let sum : n ≡ word_of Msb0 y * 2 ^ k8 + word_of Msb0 x =
+    f ∙ word_is Msb0 s ∙ ap (number Little Msb0) (sym whole) ∙ parts.0 ∙ ap (λ z. number Little Msb0 x + number Little Msb0 y * 2 ^ z) lx ∙ swap (number Little Msb0 x) (number Little Msb0 y * 2 ^ k8)
+    ∙ ap₂ (λ u v. v * 2 ^ k8 + u) (sym (word_is Msb0 x)) (sym (word_is Msb0 y)) in
+    let small : word_of Msb0 x < 2 ^ k8 = subst (λ z. word_of Msb0 x < 2 ^ z) lx (word_below Msb0 x) in
+    let low_is : low ≡ word_of Msb0 x = a ∙ ap (λ z. z % 2 ^ k8) sum ∙ mod-mul-add (word_of Msb0 y) (2 ^ k8) (word_of Msb0 x) small in
     let high_is : high ≡ number Big Msb0 y =
-    b ∙ ap (λ z. z / 2 ^ k8) sum ∙ div-mul-add (word Msb0 y) (2 ^ k8) (word Msb0 x) small ∙ little_turned Msb0 y
+    b ∙ ap (λ z. z / 2 ^ k8) sum ∙ div-mul-add (word_of Msb0 y) (2 ^ k8) (word_of Msb0 x) small ∙ word_is Msb0 y
     ∙ number_short Little Msb0 y (omega arith) (omega arith) ∙ sym (number_short Big Msb0 y (omega arith) (omega arith)) in
     ap₂ (λ u v. u * 2 ^ r + v) (high_turned x low q (omega arith) lx low_is) high_is
     ∙ ap (λ z. number Big Msb0 x * 2 ^ z + number Big Msb0 y) (sym ly) ∙ sym (parts.1) ∙ ap (number Big Msb0) whole
   where
     swap : (u v : ℕ) → u + v ≡ v + u
     swap u v = omega arith
+
+-- ---- the way back
+-- a byte behind others
+little-more : (bytes : List ℕ) (b : ℕ) → little (bytes ++ b ∷ []) ≡ little bytes + b * 256 ^ length bytes
+little-more [] b = omega arith
+little-more (a ∷ bytes) b =
+    let p : 256 ^ suc (length bytes) ≡ 256 ^ length bytes * 256 = pow-suc 256 (length bytes) in
+    rw (little-more bytes b, p) (omega arith)
+
+-- from the other end the first byte is the highest
+little-reverse : (bytes : List ℕ) → little (reverse bytes) ≡ big bytes
+little-reverse [] = refl
+little-reverse (b ∷ bytes) =
+    ap little (reverse-append (b ∷ []) bytes) ∙ little-more (reverse bytes) b
+    ∙ ap₂ (λ x k. x + b * 256 ^ k) (little-reverse bytes) (length-reverse bytes) ∙ swap (big bytes) (b * 256 ^ length bytes)
+  where
+    swap : (u v : ℕ) → u + v ≡ v + u
+    swap u v = omega arith
+
+All-reverse : (bytes : List ℕ) → All IsByte bytes → All IsByte (reverse bytes)
+All-reverse [] h = h
+All-reverse (b ∷ bytes) h =
+    subst (All IsByte) (sym (reverse-append (b ∷ []) bytes))
+    (All-append IsByte (reverse bytes) (b ∷ []) (All-reverse bytes (All-tail IsByte b bytes h)) (All-cons IsByte b [] (All-head IsByte b bytes h) (All-nil IsByte)))
+
+-- turned again, bytes are as they were
+turned_back : (bytes : List ℕ) (count n : ℕ) → length bytes ≡ count → count ≤ 16 → All IsByte bytes → n ≡ big bytes → swap_bytes w128 n / 2 ^ (128 - 8 * count) ≡ little bytes
+turned_back bytes count n l few h e =
+    turned_bytes (reverse bytes) count n (length-reverse bytes ∙ l) few (All-reverse bytes h) (e ∙ sym (little-reverse bytes))
+    ∙ sym (little-reverse (reverse bytes)) ∙ ap little (reverse-reverse bytes)
+
+-- in big and `Lsb0` the bytes of a number are turned
+pub low_back : (s : List Bool) (n count : ℕ) → length s ≤ 128 → count ≡ groups (length s) → n ≡ number Big Lsb0 s → swap_bytes w128 n / 2 ^ (128 - 8 * count) ≡ word_of Lsb0 s
+unfolding number
+low_back s n count h e f =
+    turned_back (map (group_number Lsb0) (chunks s)) count n (length-group_bytes Lsb0 s ∙ sym e) (omega arith) (group_bytes Lsb0 s) f
+
+-- and so in big and `Msb0`, where there are whole groups alone
+pub high_back : (s : List Bool) (n count : ℕ) → length s ≤ 128 → length s ≡ 8 * count → n ≡ number Big Msb0 s → swap_bytes w128 n / 2 ^ (128 - 8 * count) ≡ word_of Msb0 s
+unfolding number
+high_back s n count h e f =
+    turned_back (map bin (chunks s)) count n (length-group_bytes Msb0 s ∙ omega arith) (omega arith) (group_bytes Msb0 s) (f ∙ whole_big s (omega arith))
+
+-- whole groups, and a short one behind them
+pub both_back : (s : List Bool) (n q r low high : ℕ) → length s ≤ 128 → length s ≡ 8 * q + r → 0 < r → r < 8 → n ≡ number Big Msb0 s → low ≡ n % 2 ^ r → high ≡ n / 2 ^ r
+    → swap_bytes w128 high / 2 ^ (128 - 8 * q) + low * 2 ^ (8 * q) ≡ word_of Msb0 s
+both_back s n q r low high h e p k f a b =
+    let k8 : ℕ = 8 * q in
+    let x : List Bool = take k8 s in
+    let y : List Bool = drop k8 s in
+    let whole : x ++ y ≡ s = take-append-drop k8 s in
+    let lx : length x ≡ k8 = length-take-le k8 s (omega arith) in
+    let ly : length y ≡ r = omega (arith, length-drop k8 s) in
+    let parts = split_law Msb0 x y (omega arith) in
+    let short : number Big Msb0 y ≡ word_of Msb0 y =
+    number_short Big Msb0 y (omega arith) (omega arith) ∙ sym (number_short Little Msb0 y (omega arith) (omega arith)) ∙ sym (word_is Msb0 y) in
+    let small : number Big Msb0 y < 2 ^ r = rw short (subst (λ z. word_of Msb0 y < 2 ^ z) ly (word_below Msb0 y)) in
+    let sum : n ≡ number Big Msb0 x * 2 ^ r + number Big Msb0 y =
+    f ∙ ap (number Big Msb0) (sym whole) ∙ parts.1 ∙ ap (λ z. number Big Msb0 x * 2 ^ z + number Big Msb0 y) ly in
+    let low_is : low ≡ word_of Msb0 y = a ∙ ap (λ z. z % 2 ^ r) sum ∙ mod-mul-add (number Big Msb0 x) (2 ^ r) (number Big Msb0 y) small ∙ short in
+    let high_is : high ≡ number Big Msb0 x = b ∙ ap (λ z. z / 2 ^ r) sum ∙ div-mul-add (number Big Msb0 x) (2 ^ r) (number Big Msb0 y) small in
+    ap₂ (λ u v. u + v * 2 ^ k8) (high_back x high q (omega arith) lx high_is ∙ word_is Msb0 x) (low_is ∙ word_is Msb0 y)
+    ∙ ap (λ z. number Little Msb0 x + number Little Msb0 y * 2 ^ z) (sym lx) ∙ sym (parts.0) ∙ ap (number Little Msb0) whole ∙ sym (word_is Msb0 s)
 
 -- ---- as the code shifts
 -- no bytes
@@ -163,10 +226,10 @@ both_fit a q r n k h e l f =
     let top : 2 ^ n ≤ 2 ^ 128 = pow-le-pow_right {n = 2} (omega arith) {i = n} {j = 128} l in
     (shl_whole a (8 * q) r 128 h (omega arith), omega arith)
 
--- the half of a field's numbers
-pub half_of : (n k : ℕ) → 0 < n → n ≤ 128 → k < 2 ^ n → (k < 1 * 2 ^ (n - 1) % 2 ^ 128 * 2) × (1 * 2 ^ (n - 1) % 2 ^ 128 ≤ 2 ^ 127)
-half_of n k p l h =
-    let one : 1 * 2 ^ (n - 1) % 2 ^ 128 ≡ 2 ^ (n - 1) = one_shl (n - 1) 128 (omega arith) in
-    let twice : 2 ^ n ≡ 2 ^ (n - 1) * 2 = ap (λ z. 2 ^ z) (omega arith) ∙ pow-suc 2 (n - 1) in
-    let top : 2 ^ (n - 1) ≤ 2 ^ 127 = pow-le-pow_right {n = 2} (omega arith) {i = n - 1} {j = 127} (omega arith) in
-    (omega arith, omega arith)
+-- whole bytes and the bits behind them, the other way
+pub back_fits : (a q r n k : ℕ) → a < 2 ^ (8 * q) → n ≡ 8 * q + r → n ≤ 128 → k < 2 ^ r → (k * 2 ^ (8 * q) % 2 ^ 128 ≡ k * 2 ^ (8 * q)) × (a + k * 2 ^ (8 * q) < 2 ^ 128)
+back_fits a q r n k h e l f =
+    let sum : k * 2 ^ (8 * q) + a < 2 ^ r * 2 ^ (8 * q) = omega (arith, mul-add-lt k (2 ^ (8 * q)) a (2 ^ r) f h) in
+    let whole : 2 ^ r * 2 ^ (8 * q) ≡ 2 ^ n = sym (pow-add 2 r (8 * q)) ∙ ap (λ z. 2 ^ z) (omega arith) in
+    let top : 2 ^ n ≤ 2 ^ 128 = pow-le-pow_right {n = 2} (omega arith) {i = n} {j = 128} l in
+    (shl_whole k r (8 * q) 128 f (omega arith), omega arith)

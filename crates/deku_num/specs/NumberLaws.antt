@@ -8,6 +8,11 @@ use Rattle.deku_num.specs.declared.ctx.Endian.TheVariants.{Little, Big}
 use Rattle.deku_num.specs.declared.ctx.Layout.{Layout}
 use Rattle.deku_num.specs.Numbers.{NumberType, width, IsAllowed, number, value, IsFieldOf, Fits}
 
+-- what the bits in front of n more weigh, in big
+abbrev pub weight : Order → ℕ → ℕ
+weight Msb0 n = 2 ^ n
+weight Lsb0 n = 256 ^ groups n
+
 -- the numbers of n bits, without a sign: in big `Lsb0` the last group may be short, and its number is small
 abbrev pub Within : Endian → Order → ℕ → ℕ → Type 0
 Within Big Lsb0 n m = (m < 256 ^ groups n) × (m % 256 < 2 ^ (n - 8 * (groups n - 1)))

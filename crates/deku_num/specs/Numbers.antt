@@ -1,8 +1,8 @@
 -- Whole numbers as lists of bits: widths, refused layouts, and what a list is worth.
-use Rattle.std.specs.Prelude.{ℕ, suc, ◌+◌, ◌*◌, ◌-◌, ◌%◌, ◌^◌, ◌≤◌, Bool, true, false, cond, leb, List, [], ◌∷◌, ◌≡◌, ◌⊎◌, map, length, ℤ, pos, negsuc, ◌-ℤ◌}
+use Rattle.std.specs.Prelude.{ℕ, suc, ◌+◌, ◌*◌, ◌-◌, ◌%◌, ◌^◌, ◌<◌, ◌≤◌, Bool, true, false, cond, leb, List, [], ◌∷◌, ◌≡◌, ◌⊎◌, map, length, ℤ, pos, negsuc, ◌-ℤ◌}
 use Rattle.deku_bits.specs.declared.ctx.Order.{Order}
 use Rattle.deku_bits.specs.declared.ctx.Order.TheVariants.{Msb0, Lsb0}
-use Rattle.deku_bits.specs.Bits.{bin, chunks, group_number, little}
+use Rattle.deku_bits.specs.Bits.{bin, chunks, group_number, word_of}
 use Rattle.deku_num.specs.declared.ctx.Endian.{Endian}
 use Rattle.deku_num.specs.declared.ctx.Endian.TheVariants.{Little, Big}
 use Rattle.deku_num.specs.declared.ctx.Size.{Size}
@@ -49,7 +49,7 @@ big (c ∷ cs) = c * 256 ^ length cs + big cs
 
 -- the number of a list of bits
 unfoldable pub number : Endian → Order → List Bool → ℕ
-number Little o s = little (map (group_number o) (chunks s))
+number Little o s = word_of o s
 number Big Msb0 s = bin s
 number Big Lsb0 s = big (map (group_number Lsb0) (chunks s))
 
@@ -94,3 +94,8 @@ IsListWhere false t l v s = IsFieldOf t l v s
 -- the list that is written for v: it is worth v, or under a byte size its number is v modulo two to the width
 abbrev pub IsListFor : NumberType → Layout → ℤ → List Bool → Type 0
 IsListFor t l v s = IsListWhere (cuts l.size) t l v s
+
+-- the word of the list that is written for v: it is one of the width, and the list of the width that has it is written for v
+pub record IsWordFor (t : NumberType) (l : Layout) (v : ℤ) (w : ℕ) : Type 0 where
+  pub below : w < 2 ^ width t l
+  pub list : (s : List Bool) → length s ≡ width t l → word_of l.order s ≡ w → IsListFor t l v s

@@ -10,13 +10,12 @@ ghost use Rattle.deku_num.specs.NumberCalls.{ReadsNumber, WritesNumber, IsLayout
 
 use crate::ctx::{Layout, Size};
 use crate::kernel::{
-    Misfit, allowed_width, fill_signed, fill_unsigned, number_of_word, value_of_number,
+    Misfit, allowed_width, number_of_word, signed_of, signed_word, unsigned_word,
 };
 use crate::kind::NumberType;
 use deku_bits::device::{Sink, Source};
 use deku_bits::error::DekuError;
 use deku_bits::reader::Reader;
-use deku_bits::turning::show;
 use deku_bits::writer::Writer;
 
 /// Reads a number of an unsigned type of at most 128 bits.
@@ -65,7 +64,7 @@ pub fn read_signed<R: Source>(
     let width = readable_width(number_type, layout)?;
     let word = reader.read_word(width, layout.order)?;
     let number = number_of_word(word, width, layout.endian, layout.order);
-    Ok(value_of_number(number, width, number_type, layout))
+    Ok(signed_of(number, width))
 }
 
 // The bits of a field that is read.
@@ -99,13 +98,10 @@ pub fn write_unsigned<W: Sink>(
     ensures { Writes W.told (WritesNumber number_type layout (pos value)) writer.old result writer.new }
 {
     let width = writable_width(number_type, layout)?;
-    let mut field = [false; 128];
-    let bits = &mut field[..width];
-    if !fill_unsigned(bits, value, number_type, layout) {
+    let Some(word) = unsigned_word(value, number_type, layout, width) else {
         return Err(DekuError::InvalidParam("bit size of input is larger than requested size"));
-    }
-    show(bits, layout.order);
-    writer.write_bits_order(bits, layout.order)
+    };
+    writer.write_word(word, width, layout.order)
 }
 
 /// Writes a number of a signed type of at most 128 bits: the list of bits that is worth it, or under a byte size its lowest bits in two's
@@ -130,13 +126,10 @@ pub fn write_signed<W: Sink>(
     ensures { Writes W.told (WritesNumber number_type layout value) writer.old result writer.new }
 {
     let width = writable_width(number_type, layout)?;
-    let mut field = [false; 128];
-    let bits = &mut field[..width];
-    if !fill_signed(bits, value, number_type, layout) {
+    let Some(word) = signed_word(value, number_type, layout, width) else {
         return Err(DekuError::InvalidParam("bit size of input is larger than requested size"));
-    }
-    show(bits, layout.order);
-    writer.write_bits_order(bits, layout.order)
+    };
+    writer.write_word(word, width, layout.order)
 }
 
 // The bits of a field that is written.

@@ -1,11 +1,10 @@
-//! Fields as slices of truth values: their widths, what they are worth, and the bits of a value.
+//! Fields as words: their widths, the numbers that words make, and the words of values.
 
 ghost use Rattle.std.specs.Prelude.{◌≡◌, ◌↔◌, ◌<◌, ◌≤◌, ◌-◌, ◌*◌, ◌/◌, ◌^◌, ◌%◌, List, Bool, true, false, length, IsTrue, IsOk, IfOk, IfSome, IsNone, Err, ℤ, pos, negsuc, ◌-ℤ◌, ◌<ℤ◌};
-ghost use Rattle.deku_num.specs.NumberLaws.{place as place_of};
 ghost use Rattle.std.specs.Int.{w128, swap_bytes};
-ghost use Rattle.deku_bits.specs.Bits.{word as word_of};
-ghost use Rattle.deku_num.specs.Numbers.{width as width_of, number as number_of_bits};
-ghost use Rattle.deku_num.specs.Numbers.{width, sized_width, IsEvenWhere, IsAllowed, number, value as value_of, residue, cuts, IsListFor};
+ghost use Rattle.deku_bits.specs.Bits.{word_of};
+ghost use Rattle.deku_num.specs.NumberLaws.{Within};
+ghost use Rattle.deku_num.specs.Numbers.{IsWordFor, with_sign as signed_worth, width as width_of, sized_width, IsEvenWhere, IsAllowed, number as number_of, residue, cuts, IsListFor};
 
 use crate::ctx::{Endian, Layout, Order, Size};
 use crate::kind::NumberType;
@@ -25,9 +24,9 @@ pub enum Misfit {
 /// whole bytes, as `Uneven`.
 pub fn allowed_width(number_type: NumberType, layout: Layout) -> Result<usize, Misfit>
     ensures allowed { IsOk result ↔ IsAllowed number_type layout }
-    ensures width { IfOk result (λ n. n ≡ width number_type layout) }
-    ensures too_wide { (result ≡ Err Misfit.TooWide) ↔ (number_type.bits < width number_type layout) }
-    ensures uneven { (result ≡ Err Misfit.Uneven) ↔ ((width number_type layout ≤ number_type.bits) × (¬ IsEvenWhere number_type.signed layout.endian layout.order (width number_type layout))) }
+    ensures width { IfOk result (λ n. n ≡ width_of number_type layout) }
+    ensures too_wide { (result ≡ Err Misfit.TooWide) ↔ (number_type.bits < width_of number_type layout) }
+    ensures uneven { (result ≡ Err Misfit.Uneven) ↔ ((width_of number_type layout ≤ number_type.bits) × (¬ IsEvenWhere number_type.signed layout.endian layout.order (width_of number_type layout))) }
 {
     let Some(width) = width_within(number_type, layout.size) else {
         return Err(Misfit::TooWide);
@@ -67,80 +66,24 @@ fn is_even_where(signed: bool, endian: Endian, order: Order, width: usize) -> bo
     }
 }
 
-// The place of bit `i` of `n` bits: it counts two to that power.
-fn place(endian: Endian, order: Order, n: usize, i: usize) -> usize
-    requires in_field { i < n }
-    requires wide { n ≤ 128 }
-    ensures { result ≡ place_of endian order n i }
-{
-    match (endian, order) {
-        (Endian::Little, Order::Msb0) => {
-            let begin = 8 * (i / 8);
-            let group = (n - begin).min(8);
-            begin + (group - 1 - i % 8)
-        }
-        (Endian::Little, Order::Lsb0) => i,
-        (Endian::Big, Order::Msb0) => n - 1 - i,
-        (Endian::Big, Order::Lsb0) => 8 * (n.div_ceil(8) - 1 - i / 8) + i % 8,
-    }
-}
-
-/// The number of a field's bits, without a sign. There are at most 128.
-pub fn number_of(bits: &[bool], endian: Endian, order: Order) -> u128
-    requires { length bits.now ≤ 128 }
-    ensures { result ≡ number endian order bits.now }
-{
-    let mut sum: u128 = 0;
-    for (i, bit) in bits.iter().enumerate() {
-        if *bit {
-            sum += 1 << place(endian, order, bits.len(), i);
-        }
-    }
-    sum
-}
-
 /// The number of a field's bits, without a sign, from their word, as `Reader::read_word` answers it. There are at most 128.
 pub fn number_of_word(word: u128, width: usize, endian: Endian, order: Order) -> u128
     requires wide { width ≤ 128 }
     requires fits { word < 2 ^ width }
-    ensures { (bits : List Bool) → length bits ≡ width → word ≡ word_of order bits → result ≡ number endian order bits }
+    ensures { (bits : List Bool) → length bits ≡ width → word ≡ word_of order bits → result ≡ number_of endian order bits }
 {
-    match endian {
-        Endian::Little => word,
-        Endian::Big => turned_big(word, width, order),
+    match (endian, order) {
+        (Endian::Little, _) => word,
+        (Endian::Big, Order::Msb0) => number_of_high(word, width),
+        (Endian::Big, Order::Lsb0) => turned(word, width.div_ceil(8)),
     }
-}
-
-// The number of bits in big from their word.
-fn turned_big(word: u128, width: usize, order: Order) -> u128
-    requires wide { width ≤ 128 }
-    requires fits { word < 2 ^ width }
-    ensures { (bits : List Bool) → length bits ≡ width → word ≡ word_of order bits → result ≡ number Endian.Big order bits }
-{
-    match order {
-        Order::Msb0 => turned_high(word, width),
-        Order::Lsb0 => turned(word, width.div_ceil(8)),
-    }
-}
-
-// A word of so many bytes with its bytes the other way round.
-fn turned(word: u128, count: usize) -> u128
-    requires { count ≤ 16 }
-    ensures value { result ≡ swap_bytes w128 word / 2 ^ (128 - 8 * count) }
-    ensures bound { result < 2 ^ (8 * count) }
-{
-    let swapped = word.swap_bytes();
-    if count == 0 {
-        return 0;
-    }
-    swapped >> (128 - 8 * count)
 }
 
 // The number of bits, the highest first, from their word: whole bytes are turned, and the bits behind them follow.
-fn turned_high(word: u128, width: usize) -> u128
+fn number_of_high(word: u128, width: usize) -> u128
     requires wide { width ≤ 128 }
     requires fits { word < 2 ^ width }
-    ensures { (bits : List Bool) → length bits ≡ width → word ≡ word_of Order.Msb0 bits → result ≡ number Endian.Big Order.Msb0 bits }
+    ensures { (bits : List Bool) → length bits ≡ width → word ≡ word_of Order.Msb0 bits → result ≡ number_of Endian.Big Order.Msb0 bits }
 {
     let count = width / 8;
     let behind = width % 8;
@@ -152,42 +95,55 @@ fn turned_high(word: u128, width: usize) -> u128
     (turned(low, count) << behind) + (word >> whole)
 }
 
-/// What the bits of a signed field are worth, from their number without a sign. The layout is one that `allowed_width` admits, and there are
-/// as many bits as it answers.
-pub fn value_of_number(number: u128, width: usize, number_type: NumberType, layout: Layout) -> i128
-    requires signed { number_type.signed ≡ true }
-    requires within { number_type.bits ≤ 128 }
-    requires allowed { IsAllowed number_type layout }
-    requires wide { width ≡ width_of number_type layout }
-    requires fits { number < 2 ^ width }
-    ensures { (bits : List Bool) → length bits ≡ width → number ≡ number_of_bits layout.endian layout.order bits → result ≡ value_of number_type layout bits }
+/// The word of a field's bits, as `Writer::write_word` takes it, from their number without a sign. There are at most 128.
+pub fn word_of_number(number: u128, width: usize, endian: Endian, order: Order) -> u128
+    requires wide { width ≤ 128 }
+    ensures { (bits : List Bool) → length bits ≡ width → number ≡ number_of endian order bits → result ≡ word_of order bits }
 {
-    if width == 0 {
+    match (endian, order) {
+        (Endian::Little, _) => number,
+        (Endian::Big, Order::Msb0) => word_of_high(number, width),
+        (Endian::Big, Order::Lsb0) => turned(number, width.div_ceil(8)),
+    }
+}
+
+// The word of bits, the highest first, from their number: the bytes before the last bits are turned, and these follow.
+fn word_of_high(number: u128, width: usize) -> u128
+    requires { width ≤ 128 }
+    ensures { (bits : List Bool) → length bits ≡ width → number ≡ number_of Endian.Big Order.Msb0 bits → result ≡ word_of Order.Msb0 bits }
+{
+    let count = width / 8;
+    let behind = width % 8;
+    if behind == 0 {
+        return turned(number, count);
+    }
+    let last = number % (1 << behind);
+    turned(number >> behind, count) + (last << (8 * count))
+}
+
+// So many bytes of a number, the other way round.
+fn turned(number: u128, count: usize) -> u128
+    requires { count ≤ 16 }
+    ensures value { result ≡ swap_bytes w128 number / 2 ^ (128 - 8 * count) }
+    ensures bound { result < 2 ^ (8 * count) }
+{
+    let swapped = number.swap_bytes();
+    if count == 0 {
         return 0;
     }
-    with_sign(number, 1 << (width - 1))
+    swapped >> (128 - 8 * count)
 }
 
-/// What the bits of an unsigned field are worth. There are at most 128.
-#[tactic(auto, unfolding(crate::specs::Numbers::value))]
-pub fn unsigned_value(bits: &[bool], number_type: NumberType, layout: Layout) -> u128
-    requires unsigned { number_type.signed ≡ false }
-    requires wide { length bits.now ≤ 128 }
-    ensures { pos result ≡ value_of number_type layout bits.now }
+/// What a number of n bits is worth in two's complement.
+pub fn signed_of(number: u128, n: usize) -> i128
+    requires wide { n ≤ 128 }
+    requires below { number < 2 ^ n }
+    ensures { result ≡ signed_worth true n number }
 {
-    number_of(bits, layout.endian, layout.order)
-}
-
-/// What the bits of a signed field are worth. The layout is one that `allowed_width` admits, and there are as many bits as it answers.
-pub fn signed_value(bits: &[bool], number_type: NumberType, layout: Layout) -> i128
-    requires signed { number_type.signed ≡ true }
-    requires within { number_type.bits ≤ 128 }
-    requires allowed { IsAllowed number_type layout }
-    requires wide { length bits.now ≡ width number_type layout }
-    ensures { result ≡ value_of number_type layout bits.now }
-{
-    let sum = number_of(bits, layout.endian, layout.order);
-    value_of_number(sum, bits.len(), number_type, layout)
+    if n == 0 {
+        return 0;
+    }
+    with_sign(number, 1 << (n - 1))
 }
 
 // A number of n bits in two's complement, `half` being two to the power of n - 1.
@@ -205,42 +161,41 @@ fn with_sign(sum: u128, half: u128) -> i128
     }
 }
 
-/// Fills the slice with the bits of an unsigned value, and answers whether the value fits it: under a byte size each does, and its lowest bits
-/// are written. Where it does not fit, what the slice has is open. The layout is one that `allowed_width` admits, and the slice has as many
-/// bits as it answers.
-pub fn fill_unsigned(
-    bits: &mut [bool],
-    value: u128,
-    number_type: NumberType,
-    layout: Layout,
-) -> bool
+/// The word of the bits of an unsigned value, as `Writer::write_word` takes it; none where the value does not fit. Under a byte size each value
+/// fits, and the word is that of its lowest bits. The layout is one that `allowed_width` admits, and `width` is the one that it answers.
+pub fn unsigned_word(value: u128, number_type: NumberType, layout: Layout, width: usize) -> Option<u128>
     requires unsigned { number_type.signed ≡ false }
     requires within { number_type.bits ≤ 128 }
     requires allowed { IsAllowed number_type layout }
-    requires wide { length bits.old ≡ width number_type layout }
-    ensures fits { IsTrue result ↔ ((s : List Bool) × IsListFor number_type layout (pos value) s) }
-    ensures list { IsTrue result → IsListFor number_type layout (pos value) bits.new }
+    requires wide { width ≡ width_of number_type layout }
+    ensures word { IfSome result (λ word. IsWordFor number_type layout (pos value) word) }
+    ensures none { IsNone result → (s : List Bool) → IsListFor number_type layout (pos value) s → ⊥ }
 {
     let wanted = if is_cut(layout.size) {
-        low_bits(value, bits.len())
+        low_bits(value, width)
     } else {
         value
     };
-    fill(bits, wanted, layout.endian, layout.order)
+    if !is_within(wanted, layout.endian, layout.order, width) {
+        return None;
+    }
+    Some(word_of_number(wanted, width, layout.endian, layout.order))
 }
 
-/// Fills the slice with the bits of a signed value, and answers whether the value fits it, as `fill_unsigned` does.
-pub fn fill_signed(bits: &mut [bool], value: i128, number_type: NumberType, layout: Layout) -> bool
+/// The word of the bits of a signed value, as `unsigned_word` answers it.
+pub fn signed_word(value: i128, number_type: NumberType, layout: Layout, width: usize) -> Option<u128>
     requires signed { number_type.signed ≡ true }
     requires within { number_type.bits ≤ 128 }
     requires allowed { IsAllowed number_type layout }
-    requires wide { length bits.old ≡ width number_type layout }
-    ensures fits { IsTrue result ↔ ((s : List Bool) × IsListFor number_type layout value s) }
-    ensures list { IsTrue result → IsListFor number_type layout value bits.new }
+    requires wide { width ≡ width_of number_type layout }
+    ensures word { IfSome result (λ word. IsWordFor number_type layout value word) }
+    ensures none { IsNone result → (s : List Bool) → IsListFor number_type layout value s → ⊥ }
 {
-    let wanted = residue_of(value, bits.len());
-    let filled = fill(bits, wanted, layout.endian, layout.order);
-    filled && (is_cut(layout.size) || signed_value(bits, number_type, layout) == value)
+    let wanted = residue_of(value, width);
+    if !is_cut(layout.size) && signed_of(wanted, width) != value {
+        return None;
+    }
+    Some(word_of_number(wanted, width, layout.endian, layout.order))
 }
 
 // Whether a size cuts values.
@@ -250,26 +205,26 @@ fn is_cut(size: Size) -> bool
     matches!(size, Size::Bytes(_))
 }
 
-// Fills the slice with the bits whose number is `wanted`, and answers whether there are any.
-fn fill(bits: &mut [bool], wanted: u128, endian: Endian, order: Order) -> bool
-    requires { length bits.old ≤ 128 }
-    ensures len { length bits.new ≡ length bits.old }
-    ensures found { IsTrue result → number endian order bits.new ≡ wanted }
-    ensures only { (s : List Bool) → length s ≡ length bits.old → number endian order s ≡ wanted → IsTrue result × (bits.new ≡ s) }
+// Whether a number is one of n bits of a field.
+fn is_within(value: u128, endian: Endian, order: Order, n: usize) -> bool
+    requires { n ≤ 128 }
+    ensures { IsTrue result ↔ Within endian order n value }
 {
-    set_bits(bits, wanted, endian, order);
-    number_of(bits, endian, order) == wanted
+    match (endian, order) {
+        (Endian::Big, Order::Lsb0) => {
+            let groups = n.div_ceil(8);
+            is_below(value, 8 * groups) && is_below(value % 256, n - 8 * groups.saturating_sub(1))
+        }
+        _ => is_below(value, n),
+    }
 }
 
-// Fills the slice with the bits at the places of the number.
-fn set_bits(bits: &mut [bool], wanted: u128, endian: Endian, order: Order)
-    requires { length bits.old ≤ 128 }
-    ensures { (s : List Bool) → length s ≡ length bits.old → number endian order s ≡ wanted → bits.new ≡ s }
+// Whether a number is below two to the power of n.
+fn is_below(value: u128, n: usize) -> bool
+    requires { n ≤ 128 }
+    ensures { IsTrue result ↔ (value < 2 ^ n) }
 {
-    let n = bits.len();
-    for i in 0..n {
-        bits[i] = (wanted >> place(endian, order, n, i)) % 2 == 1;
-    }
+    n == 128 || value < 1 << n
 }
 
 // A value modulo two to the power of n.

@@ -138,7 +138,7 @@ impl Window {
 }
 
 // The number of bits whose last ones, so many, have the number `low`, and whose others have the number `high`.
-#[tactic(auto, using(crate::proofs::Packed::shifted, crate::proofs::Packed::with_low))]
+#[tactic(auto, using(crate::proofs::Packed::byte_shifted, crate::proofs::Windows::with_low))]
 fn joined(high: u8, low: u8, count: usize) -> u16
     requires few { count ≤ 8 }
     requires below { low < 2 ^ count }

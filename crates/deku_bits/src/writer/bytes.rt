@@ -1,54 +1,55 @@
-//! Whole bytes that go out, by way of a byte that fills or at once.
+//! Whole bytes that go out, by way of held bits or at once.
 
-ghost use Rattle.std.specs.Prelude.{◌≡◌, ◌<◌, ◌+◌, ◌*◌, ◌/◌, ◌++◌, [], length, get_or, reverse, OnOk, IfErr};
+ghost use Rattle.std.specs.Prelude.{◌≡◌, ◌<◌, ◌≤◌, length, take, reverse, OnOk, IfErr};
 ghost use Rattle.deku_bits.specs.declared.ctx.Order.TheVariants.{Msb0};
-ghost use Rattle.deku_bits.specs.Bits.{byte_bits, bits_in};
-ghost use Rattle.deku_bits.specs.Pushing.{turned_where, Pushed, GaveUp, PushedOnto};
+ghost use Rattle.deku_bits.specs.Bits.{bits_in};
+ghost use Rattle.deku_bits.specs.Devices.{Gave};
+ghost use Rattle.deku_bits.specs.Pushing.{Fills, Pushed, GaveUp, PushedOnto};
 
 use super::held::Held;
-use super::pushing::push_along;
-use super::way::Way;
-use crate::bounded::bits_of_byte;
+use super::pushing::give_out;
 use crate::ctx::Order;
 use crate::device::Sink;
 use std::io::ErrorKind;
-use std::mem;
 
-// One more byte, high bit first.
-fn push_byte<W: Sink>(sink: &mut W, held: &mut Held, byte: u8) -> Result<(), ErrorKind>
-    requires { length held.old < 8 }
-    ensures pushed { OnOk result (Pushed (W.told sink.old) (W.told sink.new) Msb0 held.old held.new (byte_bits byte)) }
-    ensures fault { IfErr result (GaveUp (W.told sink.old) (W.told sink.new) ((length held.old + 8) / 8)) }
-{
-    push_along(sink, held, Order::Msb0, Way::Forward, &bits_of_byte(byte))
-}
+// How many bytes go out at a time.
+const RUN: usize = 64;
 
-// The byte at a place, from the first on or from the last on.
-#[tactic(auto, using(crate::proofs::WholeBytes::byte_from_last))]
-fn byte_at(bytes: &[u8], from_last: bool, at: usize) -> u8
-    requires { at < length bytes.now }
-    ensures { result ≡ get_or (turned_where from_last bytes.now) at 0 }
+// Bytes through held bits, each high bit first: as many go out as come in.
+fn shift(out: &mut [u8], held: &mut Held, bytes: &[u8])
+    requires short { length held.old < 8 }
+    requires room { length bytes.now ≤ length out.old }
+    ensures fills { Fills Msb0 held.old held.new (bits_in bytes.now) (take (length bytes.now) out.new) }
+    ensures len { length out.new ≡ length out.old }
 {
-    if from_last {
-        bytes[bytes.len() - 1 - at]
-    } else {
-        bytes[at]
+    for i in 0..bytes.len() {
+        out[i] = held.pass(Order::Msb0, bytes[i]);
     }
 }
 
-// The bytes, from the first on or from the last on, each high bit first.
-fn push_bytes<W: Sink>(
-    sink: &mut W,
-    held: &mut Held,
-    bytes: &[u8],
-    from_last: bool,
-) -> Result<(), ErrorKind>
-    requires { length held.old < 8 }
-    ensures pushed { OnOk result (Pushed (W.told sink.old) (W.told sink.new) Msb0 held.old held.new (bits_in (turned_where from_last bytes.now))) }
-    ensures fault { IfErr result (GaveUp (W.told sink.old) (W.told sink.new) ((length held.old + 8 * length bytes.now) / 8)) }
+// The bytes, each high bit first, onto held bits: a run that goes out at once.
+fn push_run<W: Sink>(sink: &mut W, held: &mut Held, bytes: &[u8]) -> Result<(), ErrorKind>
+    requires short { length held.old < 8 }
+    requires some { 0 < length bytes.now }
+    requires most { length bytes.now ≤ 64 }
+    ensures pushed { OnOk result (Pushed (W.told sink.old) (W.told sink.new) Msb0 held.old held.new (bits_in bytes.now)) }
+    ensures fault { IfErr result (GaveUp (W.told sink.old) (W.told sink.new) (length bytes.now)) }
 {
-    for i in 0..bytes.len() {
-        match push_byte(sink, held, byte_at(bytes, from_last, i)) {
+    let mut out = [0; RUN];
+    shift(&mut out, held, bytes);
+    give_out(sink, &out[..bytes.len()])
+}
+
+// The bytes, each high bit first, onto held bits, run by run.
+fn push_bytes<W: Sink>(sink: &mut W, held: &mut Held, bytes: &[u8]) -> Result<(), ErrorKind>
+    requires { length held.old < 8 }
+    ensures pushed { OnOk result (Pushed (W.told sink.old) (W.told sink.new) Msb0 held.old held.new (bits_in bytes.now)) }
+    ensures fault { IfErr result (GaveUp (W.told sink.old) (W.told sink.new) (length bytes.now)) }
+{
+    for i in 0..bytes.len().div_ceil(RUN) {
+        let begin = RUN * i;
+        let end = begin + RUN.min(bytes.len() - begin);
+        match push_run(sink, held, &bytes[begin..end]) {
             Ok(()) => {}
             Err(kind) => return Err(kind),
         }
@@ -56,31 +57,34 @@ fn push_bytes<W: Sink>(
     Ok(())
 }
 
-// Bytes above `Lsb0` bits, which are held from the lowest on: the last byte goes out first.
-fn push_bytes_above<W: Sink>(sink: &mut W, held: &mut Held, bytes: &[u8]) -> Result<(), ErrorKind>
-    requires { length held.old < 8 }
-    ensures pushed { OnOk result (Pushed (W.told sink.old) (W.told sink.new) Msb0 [] held.new (bits_in (reverse bytes.now) ++ reverse held.old)) }
-    ensures fault { IfErr result (GaveUp (W.told sink.old) (W.told sink.new) ((length held.old + 8 * length bytes.now) / 8)) }
-{
-    let mut pending = mem::replace(held, Held::new());
-    pending.turn();
-    match push_bytes(sink, held, bytes, true) {
-        Ok(()) => {}
-        Err(kind) => return Err(kind),
-    }
-    push_along(sink, held, Order::Msb0, Way::Forward, pending.as_slice())
-}
-
-// Bytes onto no bits: they are given to the sink at once.
-fn give_all<W: Sink>(sink: &mut W, bytes: &[u8]) -> Result<(), ErrorKind>
-    requires { 0 < length bytes.now }
-    ensures pushed { OnOk result (Pushed (W.told sink.old) (W.told sink.new) Msb0 [] [] (bits_in bytes.now)) }
+// The bytes, the last one first: a run that goes out at once.
+fn give_turned<W: Sink>(sink: &mut W, bytes: &[u8]) -> Result<(), ErrorKind>
+    requires some { 0 < length bytes.now }
+    requires most { length bytes.now ≤ 64 }
+    ensures gave { OnOk result (Gave (W.told sink.old) (W.told sink.new) (reverse bytes.now)) }
     ensures fault { IfErr result (GaveUp (W.told sink.old) (W.told sink.new) (length bytes.now)) }
 {
-    match sink.give(bytes) {
-        Ok(()) => Ok(()),
-        Err(e) => Err(e.kind()),
+    let mut out = [0; RUN];
+    let run = &mut out[..bytes.len()];
+    run.copy_from_slice(bytes);
+    run.reverse();
+    give_out(sink, run)
+}
+
+// Bytes above `Lsb0` bits: the last byte goes out first, and the bits stay.
+fn give_above<W: Sink>(sink: &mut W, bytes: &[u8]) -> Result<(), ErrorKind>
+    ensures gave { OnOk result (Gave (W.told sink.old) (W.told sink.new) (reverse bytes.now)) }
+    ensures fault { IfErr result (GaveUp (W.told sink.old) (W.told sink.new) (length bytes.now)) }
+{
+    for i in 0..bytes.len().div_ceil(RUN) {
+        let end = bytes.len() - RUN * i;
+        let begin = end - RUN.min(end);
+        match give_turned(sink, &bytes[begin..end]) {
+            Ok(()) => {}
+            Err(kind) => return Err(kind),
+        }
     }
+    Ok(())
 }
 
 /// Bytes onto the held bits of an order.
@@ -93,14 +97,14 @@ pub fn push_bytes_onto<W: Sink>(
     requires short { length held.old < 8 }
     requires some { 0 < length bytes.now }
     ensures pushed { OnOk result (PushedOnto (W.told sink.old) (W.told sink.new) from Msb0 held.old held.new (bits_in bytes.now)) }
-    ensures fault { IfErr result (GaveUp (W.told sink.old) (W.told sink.new) ((length held.old + 8 * length bytes.now) / 8)) }
+    ensures fault { IfErr result (GaveUp (W.told sink.old) (W.told sink.new) (length bytes.now)) }
 {
     if held.len() == 0 {
-        return give_all(sink, bytes);
+        return give_out(sink, bytes);
     }
     match from {
-        Order::Msb0 => push_bytes(sink, held, bytes, false),
-        Order::Lsb0 => push_bytes_above(sink, held, bytes),
+        Order::Msb0 => push_bytes(sink, held, bytes),
+        Order::Lsb0 => give_above(sink, bytes),
     }
 }
 

@@ -1,45 +1,45 @@
-//! Up to eight bits.
+//! Up to seven bits, packed.
 
-ghost use Rattle.std.specs.Prelude.{◌≡◌, ◌<◌, ◌≤◌, [], ◌∷◌, ◌++◌, length, reverse};
-ghost use Rattle.deku_bits.specs.Bits.{bin, group_number};
-ghost use Rattle.deku_bits.specs.Pushing.{along, IsFor};
+ghost use Rattle.std.specs.Prelude.{◌≡◌, ◌+◌, ◌-◌, ◌^◌, ◌<◌, ◌≤◌, [], ◌∷◌, ◌++◌, length, take};
+ghost use Rattle.deku_bits.specs.Bits.{bits_of, byte_bits, facing};
+ghost use Rattle.deku_bits.specs.Pushing.{Fills, given};
 
-use super::way::Way;
+use crate::bounded::bits_of_byte;
 use crate::ctx::Order;
 use std::marker::Model;
 
-/// Up to eight bits, in the order in which they go out.
+/// Up to seven bits, packed into the number that they make, the first the highest.
 #[derive(Drop)]
 pub struct Held {
-    bits: [bool; 8],
+    number: u8,
     len: usize,
 }
 
 impl Model for Held {
-    ghost use Rattle.std.specs.Prelude.{◌≤◌, List, Bool, take};
+    ghost use Rattle.std.specs.Prelude.{◌<◌, ◌^◌, List, Bool};
+    ghost use Rattle.deku_bits.specs.Bits.{bits_of};
 
     ghost Value = { List Bool };
 
-    ghost view = { λ a. take a.len a.bits };
+    ghost view = { λ a. bits_of a.len a.number };
 
-    ghost invariant = { λ a. a.len ≤ 8 };
+    ghost invariant = { λ a. (a.len < 8) × (a.number < 2 ^ a.len) };
 }
 
 impl Held {
     /// No bits.
+    #[tactic(auto, unfolding(crate::specs::Bits::bits_of))]
     pub fn new() -> Held
         ensures { result ≡ [] }
     {
-        Held {
-            bits: [false; 8],
-            len: 0,
-        }
+        Held { number: 0, len: 0 }
     }
 
     /// How many there are.
+    #[tactic(auto, using(crate::proofs::Packed::lengths))]
     pub fn len(&self) -> usize
         ensures length { result ≡ length self.now }
-        ensures most { result ≤ 8 }
+        ensures most { result < 8 }
     {
         self.len
     }
@@ -49,66 +49,76 @@ impl Held {
         ensures { result ≡ self.now }
     {
         Held {
-            bits: self.bits,
+            number: self.number,
             len: self.len,
         }
     }
 
-    /// One more bit, at the end.
-    pub fn push(&mut self, bit: bool)
-        requires { length self.old < 8 }
-        ensures { self.new ≡ self.old ++ bit ∷ [] }
+    /// The bits, highest first, with zeros behind them.
+    pub fn bits(&self) -> [bool; 8]
+        ensures { take (length self.now) result ≡ self.now }
     {
-        self.bits[self.len] = bit;
-        self.len += 1;
+        bits_of_byte(((self.number as u16) << (8 - self.len)) as u8)
     }
 
-    /// Lets all go.
-    pub fn clear(&mut self)
-        ensures { self.new ≡ [] }
+    /// A whole byte, as the order meets it behind the bits that are held. The first eight go out as a byte, and as many are held as before.
+    pub fn pass(&mut self, order: Order, byte: u8) -> u8
+        ensures fills { Fills order self.old self.new (facing order (byte_bits byte)) (result ∷ []) }
+        ensures len { length self.new ≡ length self.old }
     {
-        self.len = 0;
+        let joined = join(order, self.number, self.len, byte, 8);
+        let (first, behind) = split(order, joined, self.len + 8);
+        self.number = behind;
+        first
     }
 
-    /// The bits.
-    pub fn as_slice(&self) -> &[bool]
-        ensures value { result.now ≡ self.now }
-        ensures most { length result.now ≤ 8 }
+    /// A group of at most eight bits, as the order meets it behind those that are held. Where there are eight then, the first eight go out as
+    /// a byte.
+    pub fn push(&mut self, order: Order, group: u8, n: usize) -> Option<u8>
+        requires size { n ≤ 8 }
+        requires inside { group < 2 ^ n }
+        ensures { Fills order self.old self.new (facing order (bits_of n group)) (given result) }
     {
-        &self.bits[..self.len]
-    }
-
-    /// Reverses the bits.
-    pub fn turn(&mut self)
-        ensures { self.new ≡ reverse self.old }
-    {
-        let n = self.len;
-        self.bits[..n].reverse();
-    }
-
-    /// The byte of eight bits, the first the highest in `Msb0` and the lowest in `Lsb0`.
-    pub fn byte(&self, order: Order) -> u8
-        requires { length self.now ≡ 8 }
-        ensures { result ≡ group_number order self.now }
-    {
-        match order {
-            Order::Msb0 => number(&self.bits, Way::Forward),
-            Order::Lsb0 => number(&self.bits, Way::Backward),
+        let joined = join(order, self.number, self.len, group, n);
+        let len = self.len + n;
+        if len < 8 {
+            self.number = joined as u8;
+            self.len = len;
+            return None;
         }
+        let (byte, behind) = split(order, joined, len);
+        self.number = behind;
+        self.len = len - 8;
+        Some(byte)
     }
 }
 
-// The number of at most eight bits on a way through them, the first the highest.
-#[tactic(auto, using(crate::proofs::Pushes::number_steps))]
-fn number(bits: &[bool], way: Way) -> u8
-    requires most { length bits.now ≤ 8 }
-    requires whole { IsFor way (length bits.now) }
-    ensures { result ≡ bin (along way bits.now) }
+// The number of two groups of bits, as the order meets the one behind the other.
+fn join(order: Order, first: u8, a: usize, second: u8, b: usize) -> u16
+    requires short { a < 8 }
+    requires size { b ≤ 8 }
+    requires first { first < 2 ^ a }
+    requires second { second < 2 ^ b }
+    ensures inside { result < 2 ^ (a + b) }
+    ensures bits { facing order (bits_of (a + b) result) ≡ facing order (bits_of a first) ++ facing order (bits_of b second) }
 {
-    let n = bits.len();
-    let mut value = 0;
-    for i in 0..n {
-        value = 2 * value + u8::from(bits[way.place(n, i)]);
+    match order {
+        Order::Msb0 => ((first as u16) << b) + second as u16,
+        Order::Lsb0 => first as u16 + ((second as u16) << a),
     }
-    value
+}
+
+// The first eight bits that the order meets, and the number of those behind them.
+fn split(order: Order, joined: u16, n: usize) -> (u8, u8)
+    requires whole { 8 ≤ n }
+    requires short { n < 16 }
+    requires inside { joined < 2 ^ n }
+    ensures inside { result.1 < 2 ^ (n - 8) }
+    ensures bits { facing order (bits_of n joined) ≡ facing order (byte_bits result.0) ++ facing order (bits_of (n - 8) result.1) }
+{
+    let behind = n - 8;
+    match order {
+        Order::Msb0 => ((joined >> behind) as u8, (joined % (1 << behind)) as u8),
+        Order::Lsb0 => ((joined % 256) as u8, (joined >> 8) as u8),
+    }
 }

@@ -1,9 +1,10 @@
 //! Bits given to a sink by way of a byte that fills.
 
-ghost use Rattle.std.specs.Prelude.{◌≡◌, ◌<◌, ◌≤◌, ◌+◌, ◌-◌, ◌/◌, ◌%◌, Bool, List, false, min, take, drop, get_or, ◌++◌, ◌∷◌, [], length, reverse, OnOk, IfErr};
+ghost use Rattle.std.specs.Prelude.{◌≡◌, ◌<◌, ◌≤◌, ◌+◌, ◌-◌, ◌/◌, ◌%◌, Bool, List, false, min, take, drop, get_or, ◌++◌, ◌∷◌, [], length, OnOk, IfErr};
 ghost use Rattle.deku_bits.specs.declared.ctx.Order.TheVariants.{Msb0, Lsb0};
 ghost use Rattle.deku_bits.specs.declared.writer.way.Way.TheVariants.{BytesBackward};
 ghost use Rattle.deku_bits.specs.Bits.{shown};
+ghost use Rattle.deku_bits.specs.Devices.{Gave};
 ghost use Rattle.deku_bits.specs.Pushing.{along, IsFor, Pushed, GaveUp, PushedOnto};
 
 use super::held::Held;
@@ -11,10 +12,20 @@ use super::way::Way;
 use crate::ctx::Order;
 use crate::device::Sink;
 use std::io::ErrorKind;
-use std::mem;
+
+/// Bytes given to the sink at once.
+pub fn give_out<W: Sink>(sink: &mut W, bytes: &[u8]) -> Result<(), ErrorKind>
+    requires { 0 < length bytes.now }
+    ensures gave { OnOk result (Gave (W.told sink.old) (W.told sink.new) bytes.now) }
+    ensures fault { IfErr result (GaveUp (W.told sink.old) (W.told sink.new) (length bytes.now)) }
+{
+    match sink.give(bytes) {
+        Ok(()) => Ok(()),
+        Err(e) => Err(e.kind()),
+    }
+}
 
 // One more bit. The byte goes out when it is full.
-#[tactic(auto, using(crate::proofs::Pushes::pushes))]
 fn push_bit<W: Sink>(
     sink: &mut W,
     held: &mut Held,
@@ -25,16 +36,9 @@ fn push_bit<W: Sink>(
     ensures pushed { OnOk result (Pushed (W.told sink.old) (W.told sink.new) order held.old held.new (bit ∷ [])) }
     ensures fault { IfErr result (GaveUp (W.told sink.old) (W.told sink.new) ((length held.old + 1) / 8)) }
 {
-    held.push(bit);
-    if held.len() == 8 {
-        let byte = held.byte(order);
-        held.clear();
-        match sink.give(&[byte]) {
-            Ok(()) => Ok(()),
-            Err(e) => Err(e.kind()),
-        }
-    } else {
-        Ok(())
+    match held.push(order, u8::from(bit), 1) {
+        None => Ok(()),
+        Some(byte) => give_out(sink, &[byte]),
     }
 }
 
@@ -103,38 +107,34 @@ fn push_three<W: Sink>(
 /// `Lsb0` bits into `Msb0` bits.
 pub fn push_into<W: Sink>(sink: &mut W, held: &mut Held, bits: &[bool]) -> Result<(), ErrorKind>
     requires { length held.old < 8 }
-    ensures pushed { OnOk result (Pushed (W.told sink.old) (W.told sink.new) Msb0 [] (reverse held.new)
+    ensures pushed { OnOk result (Pushed (W.told sink.old) (W.told sink.new) Msb0 [] held.new
         (take (min (8 - length bits.now % 8) (length held.old)) held.old ++ bits.now ++ drop (min (8 - length bits.now % 8) (length held.old)) held.old)) }
     ensures fault { IfErr result (GaveUp (W.told sink.old) (W.told sink.new) ((length held.old + length bits.now) / 8)) }
 {
-    let pending = mem::replace(held, Held::new());
-    let pending = pending.as_slice();
+    let pending = held.bits();
+    let pending = &pending[..held.len()];
+    *held = Held::new();
     let cut = (8 - bits.len() % 8).min(pending.len());
-    match push_three(
+    push_three(
         sink,
         held,
         Way::Forward,
         &pending[..cut],
         bits,
         &pending[cut..],
-    ) {
-        Ok(()) => {
-            held.turn();
-            Ok(())
-        }
-        Err(kind) => Err(kind),
-    }
+    )
 }
 
-/// `Msb0` bits above `Lsb0` bits, which are held from the lowest on.
+/// `Msb0` bits above `Lsb0` bits.
 pub fn push_above<W: Sink>(sink: &mut W, held: &mut Held, bits: &[bool]) -> Result<(), ErrorKind>
     requires { length held.old < 8 }
     ensures pushed { OnOk result (Pushed (W.told sink.old) (W.told sink.new) Msb0 [] held.new
-        (along BytesBackward (drop (length bits.now % 8) bits.now) ++ take (length bits.now % 8) bits.now ++ reverse held.old)) }
+        (along BytesBackward (drop (length bits.now % 8) bits.now) ++ take (length bits.now % 8) bits.now ++ held.old)) }
     ensures fault { IfErr result (GaveUp (W.told sink.old) (W.told sink.new) ((length held.old + length bits.now) / 8)) }
 {
-    let mut pending = mem::replace(held, Held::new());
-    pending.turn();
+    let pending = held.bits();
+    let pending = &pending[..held.len()];
+    *held = Held::new();
     let cut = bits.len() % 8;
     push_three(
         sink,
@@ -142,7 +142,7 @@ pub fn push_above<W: Sink>(sink: &mut W, held: &mut Held, bits: &[bool]) -> Resu
         Way::BytesBackward,
         &bits[cut..],
         &bits[..cut],
-        pending.as_slice(),
+        pending,
     )
 }
 

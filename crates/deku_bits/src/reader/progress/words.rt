@@ -3,7 +3,7 @@
 ghost use Rattle.std.specs.Prelude.{◌≡◌, ◌≢◌, ◌+◌, ◌-◌, ◌*◌, ◌^◌, ◌<◌, ◌≤◌, ◌∷◌, [], length, take, OnOk, IfOk, IfErr};
 ghost use Rattle.std.specs.IoError.{error_kind};
 ghost use Rattle.deku_bits.specs.declared.ctx.Order.TheVariants.{Msb0, Lsb0};
-ghost use Rattle.deku_bits.specs.Bits.{groups, word as word_of};
+ghost use Rattle.deku_bits.specs.Bits.{groups};
 ghost use Rattle.deku_bits.specs.Devices.{NoFewerFailures, MoreFailures};
 ghost use Rattle.deku_bits.specs.Moving.{FewerBits, MovesWord, TakesGroups};
 

@@ -3,14 +3,14 @@ use mir.Syntax.{w128}
 use mir.Val.{SFits}
 use Rattle.std.proofs.lemmas.Int.{to_z-of_z}
 use Rattle.std.proofs.lemmas.Result.{err_from_is_err_and}
-use Rattle.deku_num.proofs.Carrying.{word_read, word_refused, number_read, number_refused, signed_in_type, word_fits, number_fits}
+use Rattle.deku_num.proofs.Carrying.{word_read, word_refused, number_read, number_refused, signed_in_type, word_fits, number_fits, signed_worth}
 use Rattle.deku_num.proofs.calls.read_signed.Goals as goal
 
 pub number_of_word-number-requires-clause-fits : goal.number_of_word-number-requires-clause-fits
 number_of_word-number-requires-clause-fits g c = word_fits (word_read c.args.layout.order c.in_ok-width.width c.in_ok-word.ensures.reads)
 
-pub value_of_number-requires-clause-fits : goal.value_of_number-requires-clause-fits
-value_of_number-requires-clause-fits g c =
+pub signed_of-requires-clause-below : goal.signed_of-requires-clause-below
+signed_of-requires-clause-below g c =
     let r = word_read c.args.layout.order c.in_ok-width.width c.in_ok-word.ensures.reads in
     number_fits c.args.number_type c.args.layout r.bits c.in_ok-width.width c.number_of_word-number.result c.requires.signed c.in_ok-width.ensures.ok.1 r.long c.in_ok-width.ensures.ok.0
     (c.number_of_word-number.ensures r.bits r.long r.worth)
@@ -24,8 +24,8 @@ returns-in_err-word-clause-reads g c =
 pub returns-clause-reads : goal.returns-clause-reads
 returns-clause-reads g c =
     let r = word_read c.args.layout.order c.in_ok-width.width c.in_ok-word.ensures.reads in
-    let fits : SFits w128 c.value_of_number.result = search rules in
-    rw (to_z-of_z w128 c.value_of_number.result fits ∙ c.value_of_number.ensures r.bits r.long (c.number_of_word-number.ensures r.bits r.long r.worth))
+    let fits : SFits w128 c.signed_of.result = search rules in
+    rw (to_z-of_z w128 c.signed_of.result fits ∙ c.signed_of.ensures ∙ signed_worth c.args.number_type c.args.layout r.bits c.in_ok-width.width c.number_of_word-number.result c.requires.signed r.long (c.number_of_word-number.ensures r.bits r.long r.worth))
     (number_read c.args.number_type c.args.layout _ c.in_ok-width.ensures.ok.1 r.taken c.in_ok-width.ensures.ok.0)
 
 pub returns-clause-fetched : goal.returns-clause-fetched
@@ -34,6 +34,6 @@ returns-clause-fetched g c = rw c.in_ok-width.ensures.ok.0 at c.in_ok-word.ensur
 pub returns-clause-in_type : goal.returns-clause-in_type
 returns-clause-in_type g c =
     let r = word_read c.args.layout.order c.in_ok-width.width c.in_ok-word.ensures.reads in
-    let fits : SFits w128 c.value_of_number.result = search rules in
+    let fits : SFits w128 c.signed_of.result = search rules in
     signed_in_type c.args.number_type c.args.layout r.bits _ c.requires.signed c.in_ok-width.ensures.ok.1 (r.long ∙ c.in_ok-width.ensures.ok.0)
-    (to_z-of_z w128 c.value_of_number.result fits ∙ c.value_of_number.ensures r.bits r.long (c.number_of_word-number.ensures r.bits r.long r.worth))
+    (to_z-of_z w128 c.signed_of.result fits ∙ c.signed_of.ensures ∙ signed_worth c.args.number_type c.args.layout r.bits c.in_ok-width.width c.number_of_word-number.result c.requires.signed r.long (c.number_of_word-number.ensures r.bits r.long r.worth))

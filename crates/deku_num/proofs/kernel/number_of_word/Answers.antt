@@ -1,9 +1,14 @@
-use Rattle.std.proofs.Common.{◌∙◌}
-use Rattle.deku_num.proofs.Turned.{little_turned}
+use Rattle.std.proofs.Common.{◌∙◌, arith}
+use Rattle.deku_num.proofs.Turned.{word_is, low_turned}
 use Rattle.deku_num.proofs.kernel.number_of_word.Goals as goal
 
-pub returns-in-Little : goal.returns-in-Little
-returns-in-Little c = λ s l e. rw c.in-Little.is (e ∙ little_turned c.args.order s)
+pub returns-in-Little-default : goal.returns-in-Little-default
+returns-in-Little-default c = λ s l e. rw c.in-Little-default.is-0 (e ∙ word_is c.args.order s)
 
-pub returns-in-Big : goal.returns-in-Big
-returns-in-Big c = λ s l e. rw c.in-Big.is (c.turned_big.ensures s l e)
+pub returns-in-Big-Msb0 : goal.returns-in-Big-Msb0
+returns-in-Big-Msb0 c = λ s l e. rw (c.in-Big-Msb0.is-0, c.in-Big-Msb0.is-1) (c.number_of_high.ensures s l (rw c.in-Big-Msb0.is-1 at e))
+
+pub returns-in-Big-Lsb0 : goal.returns-in-Big-Lsb0
+returns-in-Big-Lsb0 c = λ s l e.
+    rw (c.in-Big-Lsb0.is-0, c.in-Big-Lsb0.is-1)
+    (c.turned.ensures.value ∙ low_turned s c.args.word c.div_ceil.result (omega arith) (omega arith) (rw c.in-Big-Lsb0.is-1 at e))

@@ -3,7 +3,7 @@ use Rattle.deku_num.proofs.Turned.{turned_none, turned_fits}
 use Rattle.deku_num.proofs.kernel.turned.Goals as goal
 
 pub returns-then-count-eq0-clause-value : goal.returns-then-count-eq0-clause-value
-returns-then-count-eq0-clause-value c = turned_none c.args.word c.swap_bytes-swapped.result c.args.count (search rules) c.swap_bytes-swapped.ensures (omega arith)
+returns-then-count-eq0-clause-value c = turned_none c.args.number c.swap_bytes-swapped.result c.args.count (search rules) c.swap_bytes-swapped.ensures (omega arith)
 
 pub returns-clause-value : goal.returns-clause-value
 returns-clause-value c = ap (λ x. x / 2 ^ (128 - 8 * c.args.count)) c.swap_bytes-swapped.ensures

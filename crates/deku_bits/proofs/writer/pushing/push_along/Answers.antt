@@ -1,5 +1,5 @@
 use Rattle.std.proofs.Common.{refl}
-use Rattle.deku_bits.proofs.Pushes.{along_more, along_stopped, along_all}
+use Rattle.deku_bits.proofs.Pushes.{Pushed-short, along_more, along_stopped, along_all}
 use Rattle.deku_bits.proofs.writer.pushing.push_along.Goals as goal
 
 pub returns-in-Err-clause-fault : goal.returns-in-Err-clause-fault
@@ -15,3 +15,6 @@ loop-i-preserved g c =
 pub returns-clause-pushed : goal.returns-clause-pushed
 returns-clause-pushed g c =
     along_all _ _ c.args.order c.args.way c.args.held.now c.loop-i.held c.args.bits.now c.loop-i.i c.loop-i-test.false c.loop-i.invariant
+
+pub push_bit-requires : goal.push_bit-requires
+push_bit-requires g c = Pushed-short c.loop-i.invariant

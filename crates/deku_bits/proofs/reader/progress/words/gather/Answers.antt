@@ -1,6 +1,6 @@
 use Rattle.std.proofs.Common.{◌≡◌, ◌/◌, length, take, arith, refl}
 use Rattle.std.proofs.lemmas.List.{length-take}
-use Rattle.deku_bits.proofs.Words.{gather_even, gather_more}
+use Rattle.deku_bits.proofs.WordsRead.{gather_even, gather_more}
 use Rattle.deku_bits.proofs.reader.progress.words.gather.Goals as goal
 
 pub returns-then-count-gt0 : goal.returns-then-count-gt0

@@ -1,5 +1,5 @@
 use Rattle.std.proofs.Common.{◌+◌, ap, arith}
-use Rattle.deku_bits.proofs.Words.{joined_fits}
+use Rattle.deku_bits.proofs.WordsRead.{joined_fits}
 use Rattle.deku_bits.proofs.reader.progress.words.joined.Goals as goal
 
 pub overflow_add-result : goal.overflow_add-result

@@ -1,5 +1,5 @@
 use Rattle.std.proofs.Common.{◌-◌, arith}
-use Rattle.deku_bits.proofs.Words.{gives_below, last_across}
+use Rattle.deku_bits.proofs.WordsRead.{gives_below, last_across}
 use Rattle.deku_bits.proofs.reader.progress.words.last_group.Goals as goal
 
 pub joined-requires-clause-first : goal.joined-requires-clause-first

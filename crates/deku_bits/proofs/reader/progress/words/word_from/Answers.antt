@@ -1,7 +1,7 @@
 use Rattle.std.proofs.Common.{◌≡◌, ℕ, length, take, replicate, arith, refl}
 use Rattle.std.proofs.lemmas.List.{length-take, length-replicate}
 use Rattle.std.proofs.lemmas.Result.{err_from_is_err_and}
-use Rattle.deku_bits.proofs.Words.{gives_none, word_inside, word_gathered}
+use Rattle.deku_bits.proofs.WordsRead.{gives_none, word_inside, word_gathered}
 use Rattle.deku_bits.proofs.reader.progress.words.word_from.Goals as goal
 
 pub returns-then-count-len-clause-none : goal.returns-then-count-len-clause-none

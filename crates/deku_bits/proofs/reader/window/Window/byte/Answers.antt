@@ -1,4 +1,4 @@
-use Rattle.deku_bits.proofs.Packed.{whole_byte}
+use Rattle.deku_bits.proofs.Windows.{whole_byte}
 use Rattle.deku_bits.proofs.reader.window.Window.byte.Goals as goal
 
 pub returns : goal.returns

@@ -1,5 +1,5 @@
 use Rattle.std.proofs.Common.{arith}
-use Rattle.deku_bits.proofs.Packed.{as_many, high_through}
+use Rattle.deku_bits.proofs.Windows.{as_many, high_through}
 use Rattle.deku_bits.proofs.reader.window.Window.exchange_high.Goals as goal
 
 pub split-high-requires-clause-below : goal.split-high-requires-clause-below

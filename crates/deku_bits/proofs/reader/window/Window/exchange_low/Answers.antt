@@ -1,5 +1,6 @@
 use Rattle.std.proofs.Common.{arith}
-use Rattle.deku_bits.proofs.Packed.{as_many, low_through, through_left, pow_byte}
+use Rattle.deku_bits.proofs.Packed.{pow_byte}
+use Rattle.deku_bits.proofs.Windows.{as_many, low_through, through_left}
 use Rattle.deku_bits.proofs.reader.window.Window.exchange_low.Goals as goal
 
 pub split-high-requires-clause-below : goal.split-high-requires-clause-below

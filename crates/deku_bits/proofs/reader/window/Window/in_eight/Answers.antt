@@ -1,5 +1,5 @@
 use Rattle.std.proofs.Common.{◌-◌, ◌∙◌, ap, length, drop}
-use Rattle.deku_bits.proofs.Packed.{last_of_eight}
+use Rattle.deku_bits.proofs.Windows.{last_of_eight}
 use Rattle.deku_bits.proofs.reader.window.Window.in_eight.Goals as goal
 
 pub returns : goal.returns

@@ -1,4 +1,4 @@
-use Rattle.deku_bits.proofs.Packed.{how_many}
+use Rattle.deku_bits.proofs.Windows.{how_many}
 use Rattle.deku_bits.proofs.reader.window.Window.len.Goals as goal
 
 pub returns-clause-value : goal.returns-clause-value

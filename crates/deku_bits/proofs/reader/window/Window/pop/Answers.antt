@@ -1,5 +1,5 @@
 use Rattle.std.proofs.Common.{refl}
-use Rattle.deku_bits.proofs.Packed.{one_bit}
+use Rattle.deku_bits.proofs.Windows.{one_bit}
 use Rattle.deku_bits.proofs.reader.window.Window.pop.Goals as goal
 
 pub returns : goal.returns

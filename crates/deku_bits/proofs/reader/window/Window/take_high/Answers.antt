@@ -1,5 +1,5 @@
 use Rattle.std.proofs.Common.{arith, refl, ◌-◌}
-use Rattle.deku_bits.proofs.Packed.{how_many, high_taken}
+use Rattle.deku_bits.proofs.Windows.{how_many, high_taken}
 use Rattle.deku_bits.proofs.reader.window.Window.take_high.Goals as goal
 
 pub overflow_sub-left : goal.overflow_sub-left

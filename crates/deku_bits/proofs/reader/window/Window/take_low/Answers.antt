@@ -1,5 +1,5 @@
 use Rattle.std.proofs.Common.{arith, refl, ◌≤◌, ◌-◌}
-use Rattle.deku_bits.proofs.Packed.{how_many, low_taken, low_left}
+use Rattle.deku_bits.proofs.Windows.{how_many, low_taken, low_left}
 use Rattle.deku_bits.proofs.reader.window.Window.take_low.Goals as goal
 
 pub split-high-requires-clause-few : goal.split-high-requires-clause-few

@@ -1,0 +1,20 @@
+use Rattle.std.proofs.Common.{◌≡◌, ◌-◌, ◌∙◌, ap, refl, rules}
+use Rattle.deku_bits.specs.Bits.{groups}
+use Rattle.deku_num.proofs.Fitted.{within_split}
+use Rattle.deku_num.proofs.kernel.is_within.Goals as goal
+
+pub returns-then-is_below : goal.returns-then-is_below
+returns-then-is_below c =
+    let k : c.div_ceil-groups.result ≡ groups c.args.n = search rules in
+    let j : c.saturating_sub.result ≡ c.div_ceil-groups.result - 1 = search rules in
+    let w = within_split c.args.n c.args.value c.div_ceil-groups.result c.saturating_sub.result k (j ∙ ap (λ x. x - 1) k) in
+    rw (c.in-Big-Lsb0.is-0, c.in-Big-Lsb0.is-1) (
+      λ h. w.0 (c.is_below.ensures.0 (search rules), c.is_below-then-is_below.ensures.0 h),
+      λ h. c.is_below-then-is_below.ensures.1 (w.1 h).1,
+    )
+
+pub returns-else-is_below : goal.returns-else-is_below
+returns-else-is_below c =
+    let k : c.div_ceil-groups.result ≡ groups c.args.n = search rules in
+    let w = within_split c.args.n c.args.value c.div_ceil-groups.result (groups c.args.n - 1) k refl in
+    rw (c.in-Big-Lsb0.is-0, c.in-Big-Lsb0.is-1) (λ h. absurd (search rules), λ h. c.is_below.ensures.1 (w.1 h).0)

@@ -1,0 +1,13 @@
+use Rattle.std.proofs.Common.{◌<◌, ◌-◌, arith}
+use Rattle.std.proofs.Math.Pow.{pow_mono}
+use Rattle.std.proofs.lemmas.Nat.{one_shl}
+use Rattle.deku_num.proofs.Fitted.{half_twice}
+use Rattle.deku_num.proofs.kernel.signed_of.Goals as goal
+
+pub with_sign-requires-clause-below : goal.with_sign-requires-clause-below
+with_sign-requires-clause-below c =
+    let some : 0 < c.args.n = omega arith in
+    rw (one_shl (c.args.n - 1) 128 (omega arith), half_twice c.args.n some) c.requires.below
+
+pub with_sign-requires-clause-fits : goal.with_sign-requires-clause-fits
+with_sign-requires-clause-fits c = rw (one_shl (c.args.n - 1) 128 (omega arith)) (pow_mono {i = c.args.n - 1} {j = 127} (omega arith))
