@@ -9,7 +9,7 @@ use Rattle.deku_num.specs.declared.ctx.Size.{Size}
 use Rattle.deku_num.specs.declared.ctx.Size.TheVariants.{Whole, Bits, Bytes}
 use Rattle.deku_num.specs.Numbers.{NumberType, number, with_sign, sized_width, width, value, IsAllowed, IsListWhere, IsListFor, residue, cuts}
 use Rattle.deku_num.proofs.Values.{signed_low, signed_high, with_sign-signed}
-use Rattle.deku_num.proofs.Ranges.{signed_below, byte_law}
+use Rattle.deku_num.proofs.Ranges.{signed_below}
 
 -- the n lowest bits, all set
 pub ones : (n : ℕ) → n ≤ 128 → (2 ^ 128 - 1) % 2 ^ n ≡ 2 ^ n - 1

@@ -1,7 +1,7 @@
 -- Each bit of a field stands at its place in the number.
-use Rattle.std.proofs.Common.{ℕ, zero, suc, ◌+◌, ◌*◌, ◌-◌, ◌/◌, ◌%◌, ◌^◌, ◌<◌, ◌≤◌, ◌≡◌, Bool, true, false, cond, List, [], ◌∷◌, ◌++◌, reverse, length, take, drop, replicate, refl, ap, ap₂, sym, ◌∙◌, ⊎_elim, arith, append_assoc, append-nil, length-append, take-append-drop, length-drop, length-take-le, get_or, take_all}
+use Rattle.std.proofs.Common.{ℕ, suc, ◌+◌, ◌*◌, ◌-◌, ◌/◌, ◌%◌, ◌^◌, ◌<◌, ◌≤◌, ◌≡◌, Bool, true, false, cond, List, [], ◌∷◌, ◌++◌, reverse, length, take, drop, refl, ap, ap₂, sym, ◌∙◌, ⊎_elim, arith, append_assoc, length-append, take-append-drop, length-take-le}
 use Rattle.std.proofs.lemmas.Nat.{pow-add, div-mul-add, shr-shr, field_of}
-use Rattle.std.proofs.lemmas.List.{length-reverse, reverse-append, take_more, drop_more, length-replicate, replicate-append-replicate}
+use Rattle.std.proofs.lemmas.List.{length-reverse, reverse-append}
 use Rattle.std.proofs.lemmas.Bool.{cases_lt}
 use native.Mathlib.Nat.{pow-succ', add-mul-mod_self_left}
 use Rattle.deku_bits.specs.declared.ctx.Order.{Order}
@@ -13,10 +13,9 @@ use Rattle.deku_bits.specs.Bits.{groups}
 use Rattle.deku_num.specs.NumberLaws.{place, BitLaw}
 use Rattle.deku_num.specs.Numbers.{number}
 use Rattle.deku_bits.proofs.Binary.{bin-lt, bin-append}
-use Rattle.deku_bits.proofs.Groups.{by_groups, by_eights}
-use Rattle.deku_num.proofs.Chunked.{within, number_short, weight, little-full, big-full, number_one, big_below, group_below}
+use Rattle.deku_bits.proofs.Groups.{by_groups}
+use Rattle.deku_num.proofs.Chunked.{little-full, big-full, number_one, big_below, group_below}
 use Rattle.deku_num.proofs.Values.{eights}
-use Rattle.deku_num.proofs.Ranges.{below_type}
 
 bit : Bool → ℕ
 unfolding number

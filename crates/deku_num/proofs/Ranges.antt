@@ -1,5 +1,5 @@
 -- What a field reads is a value of its kind; byte sizes; one group more.
-use Rattle.std.proofs.Common.{pos, ap₂, ℕ, zero, suc, ◌+◌, ◌*◌, ◌-◌, ◌%◌, ◌^◌, ◌<◌, ◌≤◌, ◌≡◌, Bool, true, false, List, ◌++◌, length, refl, ap, sym, ◌∙◌, arith, append_assoc, length-append, subst₂, pow-suc, ◌-ℤ◌, subst}
+use Rattle.std.proofs.Common.{ℕ, zero, suc, ◌+◌, ◌*◌, ◌-◌, ◌%◌, ◌^◌, ◌<◌, ◌≤◌, ◌≡◌, Bool, true, false, List, ◌++◌, length, refl, ap, sym, ◌∙◌, arith, append_assoc, length-append, subst₂}
 use Rattle.std.proofs.lemmas.Nat.{pow_pos, pow-add}
 use Rattle.std.proofs.lemmas.Int.{ints}
 use native.Mathlib.Nat.{pow-le-pow_right}
@@ -14,7 +14,7 @@ use Rattle.deku_num.specs.Numbers.{number, with_sign, width, NumberType, IsEvenW
 use Rattle.deku_bits.proofs.Binary.{bin-append, group_number-lt}
 use Rattle.deku_bits.proofs.Groups.{by_groups}
 use Rattle.deku_num.proofs.Chunked.{number-inj, within, listed, number_one, little-full, big-full}
-use Rattle.deku_num.proofs.Values.{plain, signed_low, signed_high, with_sign-signed, range_of, plain_whole, eights}
+use Rattle.deku_num.proofs.Values.{plain, range_of, plain_whole, eights}
 
 grown : (m n b : ℕ) → m < 2 ^ n → n ≤ b → m < 2 ^ b
 unfolding number value

@@ -1,6 +1,6 @@
 -- Words that are turned: the number of a field from the word of its bits, and back.
 use Rattle.std.proofs.Common.{◌≡◌, ℕ, zero, suc, ◌+◌, ◌*◌, ◌-◌, ◌/◌, ◌%◌, ◌^◌, ◌<◌, ◌≤◌, Bool, List, [], ◌∷◌, ◌++◌, reverse, length, map, take, drop, replicate, All, arith, refl, sym, ap, ap₂, ◌∙◌, subst, length-append, take-append-drop, length-drop, length-take-le}
-use Rattle.std.proofs.lemmas.Nat.{shr-shr, shl-shr, shr_below, shl_whole, one_shl, mul-add-lt, pow-add, div-mul-add, mod-mul-add}
+use Rattle.std.proofs.lemmas.Nat.{shr-shr, shl-shr, shr_below, shl_whole, mul-add-lt, pow-add, div-mul-add, mod-mul-add}
 use native.Mathlib.Nat.{pow-le-pow_right}
 use Rattle.std.proofs.Math.Nat.{pow-suc}
 use Rattle.std.proofs.lemmas.List.{length-map, length-replicate, length-reverse, reverse-append, reverse-reverse}

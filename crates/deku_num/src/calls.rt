@@ -9,9 +9,7 @@ ghost use Rattle.deku_num.specs.Numbers.{width, IsAllowed};
 ghost use Rattle.deku_num.specs.NumberCalls.{ReadsNumber, WritesNumber, IsLayoutRefusal, beyond, integers};
 
 use crate::ctx::{Layout, Size};
-use crate::kernel::{
-    Misfit, allowed_width, number_of_word, signed_of, signed_word, unsigned_word,
-};
+use crate::kernel::{Misfit, allowed_width, number_of_word, signed_of, signed_word, unsigned_word};
 use crate::kind::NumberType;
 use deku_bits::device::{Sink, Source};
 use deku_bits::error::DekuError;

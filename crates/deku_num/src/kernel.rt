@@ -163,7 +163,12 @@ fn with_sign(sum: u128, half: u128) -> i128
 
 /// The word of the bits of an unsigned value, as `Writer::write_word` takes it; none where the value does not fit. Under a byte size each value
 /// fits, and the word is that of its lowest bits. The layout is one that `allowed_width` admits, and `width` is the one that it answers.
-pub fn unsigned_word(value: u128, number_type: NumberType, layout: Layout, width: usize) -> Option<u128>
+pub fn unsigned_word(
+    value: u128,
+    number_type: NumberType,
+    layout: Layout,
+    width: usize,
+) -> Option<u128>
     requires unsigned { number_type.signed ≡ false }
     requires within { number_type.bits ≤ 128 }
     requires allowed { IsAllowed number_type layout }
@@ -183,7 +188,12 @@ pub fn unsigned_word(value: u128, number_type: NumberType, layout: Layout, width
 }
 
 /// The word of the bits of a signed value, as `unsigned_word` answers it.
-pub fn signed_word(value: i128, number_type: NumberType, layout: Layout, width: usize) -> Option<u128>
+pub fn signed_word(
+    value: i128,
+    number_type: NumberType,
+    layout: Layout,
+    width: usize,
+) -> Option<u128>
     requires signed { number_type.signed ≡ true }
     requires within { number_type.bits ≤ 128 }
     requires allowed { IsAllowed number_type layout }

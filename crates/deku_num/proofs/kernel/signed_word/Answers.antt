@@ -3,7 +3,7 @@ use Rattle.std.proofs.Common.{◌≡◌, ℤ, true, false, sym, ◌∙◌, ap, a
 use mir.Syntax.{w128}
 use mir.Val.{SFits, of_z, to_z}
 use Rattle.std.proofs.lemmas.Int.{to_z-of_z}
-use Rattle.deku_num.specs.Numbers.{width, residue, with_sign, cuts}
+use Rattle.deku_num.specs.Numbers.{residue, with_sign, cuts}
 use Rattle.deku_num.proofs.Fitted.{signed_word_for, signed_unfit}
 use Rattle.deku_num.proofs.kernel.signed_word.Goals as goal
 use Rattle.deku_num.proofs.kernel.signed_word.Goals.{else-not-is_cut-via-then-not-is_cut+else-signed_of-value, else-not-is_cut-via-else-not-is_cut}

@@ -1,4 +1,4 @@
-use Rattle.std.proofs.Common.{◌≡◌, ◌<◌, ◌∙◌, ◌*◌, ◌+◌, ◌/◌, ◌%◌, ◌^◌, ap, ap₂, refl, arith}
+use Rattle.std.proofs.Common.{◌∙◌, ◌*◌, ◌+◌, ◌/◌, ◌%◌, ◌^◌, ap, refl, arith}
 use Rattle.std.proofs.lemmas.Nat.{one_shl, mod_below, pow_pos}
 use Rattle.deku_num.proofs.Turned.{high_back, both_back, back_fits}
 use Rattle.deku_num.proofs.kernel.word_of_high.Goals as goal
