@@ -1,5 +1,5 @@
 -- Numbers of so many bits: cut in two, and put side by side.
-use Rattle.std.proofs.Common.{ℕ, zero, suc, ◌+◌, ◌*◌, ◌-◌, ◌/◌, ◌%◌, ◌^◌, ◌<◌, ◌≤◌, ◌≡◌, eqb, ◌∷◌, ◌++◌, length, take, refl, ap, ap₂, sym, ◌∙◌, arith, mod-lt, mod-eq_of_lt}
+use Rattle.std.proofs.Common.{ℕ, zero, suc, ◌+◌, ◌*◌, ◌-◌, ◌/◌, ◌%◌, ◌^◌, ◌<◌, ◌≤◌, ◌≡◌, eqb, ◌∷◌, ◌++◌, take, refl, ap, ap₂, sym, ◌∙◌, arith, mod-lt, mod-eq_of_lt}
 use Rattle.std.proofs.lemmas.List.{take_at}
 use Rattle.std.proofs.lemmas.Nat.{shr-shr, pow_pos, pow-add, shl_whole, mul-add-lt, div-mul-add, mod-mul-add}
 use Rattle.std.proofs.Math.Nat.{pow-le-pow_right}

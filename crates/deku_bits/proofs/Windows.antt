@@ -1,5 +1,5 @@
 -- Windows as numbers of so many bits: what is taken from them, and bytes that go through them.
-use Rattle.std.proofs.Common.{ℕ, zero, suc, ◌+◌, ◌*◌, ◌-◌, ◌/◌, ◌%◌, ◌^◌, ◌<◌, ◌≤◌, ◌≡◌, Bool, true, false, nat_eq, List, [], ◌∷◌, ◌++◌, reverse, length, drop, refl, ap, ap₂, sym, ◌∙◌, subst, arith}
+use Rattle.std.proofs.Common.{ℕ, ◌+◌, ◌*◌, ◌-◌, ◌/◌, ◌%◌, ◌^◌, ◌<◌, ◌≤◌, ◌≡◌, Bool, true, false, nat_eq, List, [], ◌∷◌, ◌++◌, reverse, length, drop, refl, ap, ap₂, sym, ◌∙◌, subst, arith}
 use Rattle.std.proofs.lemmas.Nat.{shr_below, mul-add-lt}
 use Rattle.std.proofs.lemmas.List.{reverse-append, reverse-reverse, length-reverse, drop_at}
 use Rattle.deku_bits.specs.declared.ctx.Order.{Order}

@@ -1,9 +1,8 @@
 -- Words that are written: their lists, and what they fill behind held bits.
-use Rattle.std.proofs.Common.{ℕ, zero, suc, ◌+◌, ◌*◌, ◌-◌, ◌/◌, ◌%◌, ◌^◌, ◌<◌, ◌≤◌, ◌≡◌, Bool, List, [], ◌∷◌, ◌++◌, length, set, take, Result, Ok, Err, Bor, codes, None, refl, sym, ap, ap₂, ◌∙◌, append_assoc, append-nil, arith, length-append, mod-lt, mod-eq_of_lt, subst}
+use Rattle.std.proofs.Common.{ℕ, zero, suc, ◌+◌, ◌*◌, ◌-◌, ◌/◌, ◌%◌, ◌^◌, ◌<◌, ◌≤◌, ◌≡◌, Bool, List, [], ◌∷◌, ◌++◌, length, set, take, Result, Ok, Err, Bor, codes, None, sym, ap, ap₂, ◌∙◌, append_assoc, append-nil, arith, length-append, mod-lt, mod-eq_of_lt, subst}
 use Rattle.std.proofs.lemmas.List.{take_at, length-take-le}
 use Rattle.std.proofs.lemmas.Nat.{shr-shr, shr_below}
 use Rattle.deku_bits.specs.declared.ctx.Order.{Order}
-use Rattle.deku_bits.specs.declared.ctx.Order.TheVariants.{Msb0, Lsb0}
 use Rattle.std.specs.declared.io.ErrorKind.{ErrorKind}
 use Rattle.deku_bits.specs.declared.error.DekuError.{DekuError}
 use Rattle.deku_bits.specs.declared.error.DekuError.TheVariants.{InvalidParam, Io}

@@ -44,6 +44,16 @@ impl Window {
         Window { bits: byte, len: 8 }
     }
 
+    /// The same bits again.
+    pub fn copy(&self) -> Window
+        ensures { result ≡ self.now }
+    {
+        Window {
+            bits: self.bits,
+            len: self.len,
+        }
+    }
+
     /// How many bits are unread.
     pub fn len(&self) -> usize
         ensures value { result ≡ length self.now }

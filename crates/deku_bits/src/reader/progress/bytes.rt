@@ -47,7 +47,10 @@ pub fn exchange_all(window: &mut Window, dst: &mut [u8], order: Order)
     if window.len() == 0 {
         return;
     }
+    // Beside the bytes, so that it stays in registers.
+    let mut passing = window.copy();
     for byte in dst.iter_mut() {
-        *byte = window.exchange(*byte, order);
+        *byte = passing.exchange(*byte, order);
     }
+    *window = passing;
 }

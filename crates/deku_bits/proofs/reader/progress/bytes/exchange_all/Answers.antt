@@ -13,7 +13,7 @@ loop-byte-preserved c =
     let i = c.loop-byte.byte-index in
     let at : c.loop-byte.byte-index < length c.loop-byte.dst = omega arith in
     record {
-      bits = exchange_more c.args.order c.args.window.now c.loop-byte.window c.exchange.new.self c.args.dst.now c.loop-byte.dst i _ c.exchange.result at (omega arith)
+      bits = exchange_more c.args.order c.args.window.now c.loop-byte.passing c.exchange.new.self c.args.dst.now c.loop-byte.dst i _ c.exchange.result at (omega arith)
           c.loop-byte.invariant.behind refl c.loop-byte.invariant.bits c.exchange.ensures.bits;
       behind = behind_more c.args.dst.now c.loop-byte.dst i c.exchange.result c.loop-byte.invariant.behind;
       bytes = rw take_more_set (All-push IsByte (take i c.loop-byte.dst) c.exchange.result c.loop-byte.invariant.bytes (omega arith));

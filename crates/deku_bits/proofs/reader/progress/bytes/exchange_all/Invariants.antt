@@ -6,8 +6,8 @@ use Rattle.deku_bits.proofs.reader.progress.bytes.exchange_all.Given as goal
 
 abbrev pub invariant-loop-byte : goal.invariant-loop-byte
 invariant-loop-byte l = record {
-  bits : facing l.order l.initial.window ++ flow l.order (take l.byte-index l.initial.dst) ≡ flow l.order (take l.byte-index l.dst) ++ facing l.order l.window;
+  bits : facing l.order l.initial.window ++ flow l.order (take l.byte-index l.initial.dst) ≡ flow l.order (take l.byte-index l.dst) ++ facing l.order l.passing;
   behind : drop l.byte-index l.dst ≡ drop l.byte-index l.initial.dst;
   bytes : All IsByte (take l.byte-index l.dst);
-  len : length l.window ≡ length l.initial.window;
+  len : length l.passing ≡ length l.initial.window;
 }
