@@ -22,6 +22,7 @@ pub mod Words
 pub mod WordsRead
 pub mod WordsWritten
 pub mod ReaderLaws
+pub mod Fetched
 pub mod BitPlaces
 pub mod Overlays
 pub mod Holding

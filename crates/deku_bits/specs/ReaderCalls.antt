@@ -11,7 +11,7 @@ use Rattle.deku_bits.specs.declared.reader.Leftover.TheVariants.{Byte, Bits}
 use Rattle.deku_bits.specs.Bits.{byte_bits, shown, bits_in, bytes_of, groups, word_of}
 use Rattle.deku_bits.specs.Streams.{Stream, bit_count, Has, Lacks, taken, left, last_part, passed, skipped}
 use Rattle.deku_bits.specs.Devices.{SourceTold, Loses}
-use Rattle.deku_bits.specs.Standings.{Standing, Going, Stopped, reader_state}
+use Rattle.deku_bits.specs.Standings.{Standing, Going, Stopped, count_of, reader_state}
 use Rattle.deku_bits.specs.Outcomes.{Meaning, Outcome, UnlessStopped, Counted, Reserving, Mapped}
 
 -- a call on a source and what a reader keeps beside it
@@ -89,6 +89,14 @@ NoneEarly s u = (length (window_of u) < 8) ⊎ (u ≡ s)
 abbrev pub FetchesFor : ℕ → Standing (List Bool) → SourceTold → SourceTold → Type 0
 FetchesFor n s old new = Loses (groups (n - length (window_of s))) old.coming new.coming
 
+-- as many bytes were fetched as the unread bits that came need, and no more
+abbrev pub FetchesAhead : Standing (List Bool) → Standing (List Bool) → SourceTold → SourceTold → Type 0
+FetchesAhead s u old new = Loses (groups (length (window_of u) - length (window_of s))) old.coming new.coming
+
+-- Of the bytes that a source told, k were fetched since: their bits are those that were counted and those that are unread.
+abbrev pub HasFetched : List ℕ → ℕ → Option (List ℕ) → Standing (List Bool) → Type 0
+HasFetched bytes k coming s = Loses k (Some bytes) coming × (8 * k ≡ count_of s + length (window_of s))
+
 -- what was read, where the call succeeds
 abbrev pub items_of : Result (Vec Bool) DekuError → Result (List Bool) DekuError
 items_of (Ok v) = Ok v.items
@@ -113,3 +121,15 @@ BytesLaw = (o : Order) (n : ℕ) (breaks : Bool) (s u : Standing (Option Stream)
     × ((bytes : List ℕ) → ReadsBytes o n breaks s (Ok bytes) u → (length bytes ≡ n) × ReadsVec o (8 * n) breaks s (Ok (bits_in bytes)) u)
     × ((e : DekuError) → ReadsBytes o n breaks s (Err e) u → ReadsVec o (8 * n) breaks s (Err e) u)
     × ((e : DekuError) → ReadsVec o (8 * n) breaks s (Err e) u → ReadsBytes o n breaks s (Err e) u ⊎ ((e ≡ Io OutOfMemory) × (u ≡ s)))
+
+-- On a reader that was fresh, reads and looks that succeed fetch the bytes of the bits that they count and of those that are then unread. So where fewer
+-- than eight bits are unread, as behind a read, these are the bytes that the counted bits fill; and where eight are, as behind a look, one byte more.
+abbrev pub FetchLaw : Type 0
+FetchLaw = (bytes : List ℕ)
+    → HasFetched bytes 0 (Some bytes) (Going [] 0)
+    × ((o : Order) (k n : ℕ) (bits : List Bool) (told after : SourceTold) (s u : Standing (List Bool)) → HasFetched bytes k told.coming s
+    → ReadsAt (Takes o n) told s (Ok bits) after u → FetchesFor n s told after → HasFetched bytes (k + groups (n - length (window_of s))) after.coming u)
+    × ((k : ℕ) (at_end : Bool) (told after : SourceTold) (s u : Standing (List Bool)) → HasFetched bytes k told.coming s
+    → ReadsAt Ending told s (Ok at_end) after u → FetchesAhead s u told after → HasFetched bytes (k + groups (length (window_of u) - length (window_of s))) after.coming u)
+    × ((k : ℕ) (coming : Option (List ℕ)) (s : Standing (List Bool)) → HasFetched bytes k coming s
+    → (length (window_of s) < 8 → k ≡ groups (count_of s)) × (length (window_of s) ≤ 8 → k ≤ groups (count_of s) + 1))

@@ -2,7 +2,7 @@
 
 ghost use Rattle.deku_bits.specs.Bits.{JoinLaw, PackLaw};
 ghost use Rattle.deku_bits.specs.Streams.{PeekLaw, CutLaw, SkipLaw, PeekSkipLaw, EndLaw};
-ghost use Rattle.deku_bits.specs.ReaderCalls.{SkipReadLaw, BytesLaw};
+ghost use Rattle.deku_bits.specs.ReaderCalls.{FetchLaw, SkipReadLaw, BytesLaw};
 ghost use Rattle.deku_bits.specs.Pieces.{LengthLaw};
 ghost use Rattle.deku_bits.specs.Writers.{AppendLaw, CountLaw};
 ghost use Rattle.deku_bits.specs.Symmetry.{WriteLaw, ReadLaw, RewriteLaw, CallsLaw};
@@ -46,6 +46,11 @@ pub fn bytes_law()
 /// Two writes in one order are one write.
 pub fn append_law()
     ensures { AppendLaw }
+{}
+
+/// On a reader that was fresh, reads fetch the bytes that the bits read fill, and a look at the end one byte more at most.
+pub fn fetch_law()
+    ensures { FetchLaw }
 {}
 
 /// A write loses no bit, and padding makes one byte of at most seven pending bits.

@@ -4,7 +4,7 @@ ghost use Rattle.std.specs.Prelude.{◌≡◌, ◌+◌, ◌*◌, ◌≤◌, [], 
 ghost use Rattle.std.specs.Borrow.{Lends, sem};
 ghost use Rattle.deku_bits.specs.Kept.{Admits};
 ghost use Rattle.deku_bits.specs.Standings.{Going, Untouched, count_of};
-ghost use Rattle.deku_bits.specs.ReaderCalls.{Reads, Takes, Ending, Skips, ReadsBits, ReadsVec, ReadsBytes, ReadsWord, FetchesFor, NoneEarly, IsLeftover, filling, items_of, window_of};
+ghost use Rattle.deku_bits.specs.ReaderCalls.{Reads, Takes, Ending, Skips, ReadsBits, ReadsVec, ReadsBytes, ReadsWord, FetchesFor, FetchesAhead, NoneEarly, IsLeftover, filling, items_of, window_of};
 ghost use Rattle.deku_bits.specs.contracts.reader.Reader.{the_row as reader-row};
 
 mod progress;
@@ -172,6 +172,8 @@ impl<R: Source> Reader<R> {
     /// ```
     pub fn end(&mut self) -> Result<bool, DekuError>
         ensures reads { Reads R.told Ending self.old result self.new }
+        ensures fetched { OnOk result (FetchesAhead self.old.state self.new.state (R.told self.old.source) (R.told self.new.source)) }
+        ensures held { OnOk result (length (window_of self.new.state) ≤ 8) }
         ensures stopped { Untouched self.old.state self.old.source self.new.source }
     {
         self.state.end(&mut self.source)

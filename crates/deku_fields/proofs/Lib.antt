@@ -7,6 +7,7 @@ pub mod Whole
 pub mod ReadBack
 pub mod Rewritten
 pub mod Sound
+pub mod Fetching
 pub mod Padded
 pub mod Digits
 pub mod FirstComma

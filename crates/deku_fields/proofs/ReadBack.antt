@@ -4,7 +4,6 @@ use Rattle.std.proofs.lemmas.List.Elements.{All-cons, All-head, All-nil, All-tai
 use Rattle.std.specs.declared.io.ErrorKind.TheVariants.{OutOfMemory}
 use Rattle.deku_bits.specs.declared.error.DekuError.{DekuError}
 use Rattle.deku_bits.specs.declared.error.DekuError.TheVariants.{Io}
-use Rattle.deku_bits.specs.declared.ctx.Order.{Order}
 use Rattle.deku_bits.specs.Streams.{Stream, bit_count, left, fresh, normal}
 use Rattle.deku_bits.proofs.Skips.{left_count}
 use Rattle.deku_bits.specs.Pieces.{laid_out, total}

@@ -1,7 +1,9 @@
 //! Reading lists of fields.
 
-ghost use Rattle.std.specs.Prelude.{◌≡◌, length};
-ghost use Rattle.deku_bits.specs.ReaderCalls.{Reads, NoneEarly};
+ghost use Rattle.std.specs.Prelude.{◌≡◌, ◌≤◌, ◌*◌, length, map, OnOk, IfOk};
+ghost use Rattle.deku_bits.specs.Pieces.{total};
+ghost use Rattle.deku_bits.specs.ReaderCalls.{Reads, FetchesFor, NoneEarly};
+ghost use Rattle.deku_fields.specs.Items.{field_shape, field_width};
 ghost use Rattle.deku_fields.specs.ListCalls.{ListFrom, ReadsField, ReadsFields, ReadsVec, filling, items_of};
 ghost use Rattle.deku_fields.specs.Promise.{LeavesBehind, ReadsBack, ReadsBackVec, ReadsBackFrom, ReadsWhereSound};
 
@@ -19,7 +21,7 @@ use std::io::{Cursor, ErrorKind};
 /// `InvalidParam("signed big Lsb0 field of this width")`, and then as `Reader` refuses to read its bits. What the fields before it
 /// moved stays moved, and what `out` holds is then open. Without fields no call is made on the reader.
 ///
-/// No byte of the source is fetched behind the last one that a field touches.
+/// As many bytes of the source are fetched as the fields' bits need behind the unread ones, and none behind the last one that a field touches.
 ///
 /// The caller's condition: `out` has one place for each field.
 pub fn read_list_into<R: Source>(
@@ -31,6 +33,7 @@ pub fn read_list_into<R: Source>(
     ensures meaning { Reads R.told (ReadsFields fields.now) reader.old (filling result out.new) reader.new }
     ensures values { ReadsWhereSound R.told (ReadsBack fields.now) reader.old (filling result out.new) reader.new }
     ensures behind { LeavesBehind R.told fields.now reader.old (filling result out.new) reader.new }
+    ensures fetched { OnOk result (FetchesFor (total (map field_shape fields.now)) reader.old.state (R.told reader.old.source) (R.told reader.new.source)) }
     ensures early { NoneEarly reader.old.state reader.new.state }
 {
     for (place, field) in fields.iter().enumerate() {
@@ -45,6 +48,7 @@ pub fn read_list_into<R: Source>(
 // Reads the value of a field.
 fn read_field<R: Source>(reader: &mut Reader<R>, field: &Field) -> Result<Number, DekuError>
     ensures reads { Reads R.told (ReadsField field.now) reader.old result reader.new }
+    ensures fetched { OnOk result (FetchesFor (field_width field.now) reader.old.state (R.told reader.old.source) (R.told reader.new.source)) }
     ensures early { NoneEarly reader.old.state reader.new.state }
 {
     let number_type = field.kind.number_type();
@@ -67,6 +71,7 @@ pub fn read_list<R: Source>(
     ensures meaning { Reads R.told (ReadsVec fields.now) reader.old (items_of result) reader.new }
     ensures values { ReadsWhereSound R.told (ReadsBackVec fields.now) reader.old (items_of result) reader.new }
     ensures behind { LeavesBehind R.told fields.now reader.old (items_of result) reader.new }
+    ensures fetched { OnOk result (FetchesFor (total (map field_shape fields.now)) reader.old.state (R.told reader.old.source) (R.told reader.new.source)) }
     ensures early { NoneEarly reader.old.state reader.new.state }
 {
     let Ok(mut numbers) = vec![in reader.alloc(); Number::Unsigned(0); fields.len()] else {
@@ -93,6 +98,7 @@ pub fn list_from_bytes(
 ) -> Result<(usize, Vec<Number>), DekuError>
     ensures meaning { ListFrom fields.now bytes.now result }
     ensures values { ReadsBackFrom fields.now bytes.now result }
+    ensures fetched { IfOk result (λ v. (v.0 ≡ total (map field_shape fields.now)) × (v.0 ≤ 8 * length bytes.now)) }
 {
     let mut reader = Reader::new(alloc, Cursor::new(bytes));
     match read_list(&mut reader, fields) {

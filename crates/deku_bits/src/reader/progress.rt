@@ -8,7 +8,7 @@ ghost use Rattle.deku_bits.specs.Devices.{NoFewerFailures, MoreFailures, FewerTh
 ghost use Rattle.deku_bits.specs.Kept.{Admits};
 ghost use Rattle.deku_bits.specs.Moving.{Moves, FewerBits};
 ghost use Rattle.deku_bits.specs.Faults.{error_of};
-ghost use Rattle.deku_bits.specs.ReaderCalls.{ReadsAt, Takes, Ending, Skips, ReadsBytes, ReadsWord, FetchesFor, NoneEarly, filling, window_of};
+ghost use Rattle.deku_bits.specs.ReaderCalls.{ReadsAt, Takes, Ending, Skips, ReadsBytes, ReadsWord, FetchesFor, FetchesAhead, NoneEarly, filling, window_of};
 ghost use Rattle.deku_bits.specs.Standings.{Going, Stopped, Untouched, count_of};
 
 mod bits;
@@ -215,6 +215,8 @@ impl Progress {
     /// Whether the end of input is reached: fetches a byte where no bit is unread, and does not count it.
     pub fn end<R: Source>(&mut self, source: &mut R) -> Result<bool, DekuError>
         ensures reads { ReadsAt Ending (R.told source.old) self.old result (R.told source.new) self.new }
+        ensures fetched { OnOk result (FetchesAhead self.old self.new (R.told source.old) (R.told source.new)) }
+        ensures held { OnOk result (length (window_of self.new) ≤ 8) }
         ensures stopped { Untouched self.old source.old source.new }
     {
         if let Some(kept) = self.fault {

@@ -3,6 +3,8 @@ use Rattle.deku_bits.proofs.Handing.{unbroken}
 use Rattle.deku_fields.proofs.Sound.{sound_memory}
 use Rattle.deku.proofs.Containers.{starts_fresh, whole_source, new_source, counted_state}
 use Rattle.deku_fields.proofs.ReadBack.{back_ok, back_err, from_first}
+use Rattle.deku_bits.specs.Standings.{count_of}
+use Rattle.deku_fields.proofs.Fetching.{bits_found}
 use Rattle.deku_fields.proofs.read.list_from_bytes.Goals as goal
 
 pub returns-in-Ok-clause-meaning : goal.returns-in-Ok-clause-meaning
@@ -24,3 +26,10 @@ pub returns-in-Err-clause-values : goal.returns-in-Err-clause-values
 returns-in-Err-clause-values c = λ items after begins room.
     let begin = starts_fresh _ c.args.bytes.now _ (ap whole_source c.new-reader.ensures.source ∙ new_source c.new.result _ c.new.ensures.inner c.new.ensures.position) c.new-reader.ensures.state in
     back_err c.args.fields.now _ _ _ _ begin (c.in-Err.ensures.values sound_memory) items after begins room
+
+pub returns-in-Ok-clause-fetched : goal.returns-in-Ok-clause-fetched
+returns-in-Ok-clause-fetched c =
+    let tells = ap whole_source c.new-reader.ensures.source ∙ new_source c.new.result _ c.new.ensures.inner c.new.ensures.position in
+    let begin = starts_fresh _ c.args.bytes.now _ tells c.new-reader.ensures.state in
+    bits_found c.args.fields.now _ c.args.bytes.now _ _ (whole_source c.read_list.new.reader.source) _ _ _ (unbroken refl refl c.in-Ok.ensures.meaning) (ap count_of begin)
+    (counted_state (whole_source c.read_list.new.reader.source) c.read_list.new.reader.state c.bits_read.result c.bits_read.ensures) tells c.new-reader.ensures.state c.in-Ok.ensures.fetched

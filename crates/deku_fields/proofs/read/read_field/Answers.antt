@@ -21,3 +21,9 @@ returns-in_ok-value-clause-reads g c =
 pub returns-in_ok-value-2-clause-reads : goal.returns-in_ok-value-2-clause-reads
 returns-in_ok-value-2-clause-reads g c =
     unsigned_field c.args.field.now (ap (λ t. t.signed) (sym c.number_type-number_type.ensures) ∙ c.if-number_type.false) (rw (c.number_type-number_type.ensures) at c.in_ok-value-2.ensures.reads)
+
+pub returns-in_ok-value-clause-fetched : goal.returns-in_ok-value-clause-fetched
+returns-in_ok-value-clause-fetched g c = rw (c.number_type-number_type.ensures) at c.in_ok-value.ensures.fetched
+
+pub returns-in_ok-value-2-clause-fetched : goal.returns-in_ok-value-2-clause-fetched
+returns-in_ok-value-2-clause-fetched g c = rw (c.number_type-number_type.ensures) at c.in_ok-value-2.ensures.fetched

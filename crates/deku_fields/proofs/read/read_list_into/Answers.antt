@@ -2,10 +2,11 @@ use Rattle.std.proofs.Common.{refl, inr, ◌∙◌, arith}
 use Rattle.std.proofs.lemmas.List.{length-set}
 use Rattle.deku_fields.proofs.Stepping.{early_on, started, field_read, field_refused, fields_read}
 use Rattle.deku_fields.proofs.ReadBack.{fields_back, left_behind}
+use Rattle.deku_fields.proofs.Fetching.{tally_none, tally_more, tally_whole}
 use Rattle.deku_fields.proofs.read.read_list_into.Goals as goal
 
 pub loop-place-init : goal.loop-place-init
-loop-place-init g c = (refl, started c.args.fields.now c.args.out.now _ _, inr refl)
+loop-place-init g c = (refl, started c.args.fields.now c.args.out.now _ _, inr refl, tally_none c.args.reader.now.state _)
 
 pub returns-in-Err-clause-meaning : goal.returns-in-Err-clause-meaning
 returns-in-Err-clause-meaning g c = field_refused c.args.fields.now c.loop-place.place _ _ c.in-Err.refusal _ _ _ _ _ _ (omega arith) (c.loop-place.invariant.1) (c.in-Err.ensures.reads)
@@ -15,6 +16,7 @@ loop-place-preserved g c = (
   length-set c.loop-place.out c.loop-place.place c.in-Ok.number ∙ c.loop-place.invariant.0,
   field_read c.args.fields.now c.loop-place.place _ c.loop-place.out c.in-Ok.number _ _ _ _ _ _ (omega arith) (omega (arith, c.loop-place.invariant.0, c.requires)) (c.loop-place.invariant.1) (c.in-Ok.ensures.reads),
   early_on c.loop-place.invariant.2 c.in-Ok.ensures.early,
+  tally_more c.args.fields.now c.loop-place.place _ c.in-Ok.number (g.R.Source.told c.args.reader.now.source) (g.R.Source.told c.loop-place.reader.source) (g.R.Source.told c.read_field.new.reader.source) c.args.reader.now.state c.loop-place.reader.state c.read_field.new.reader.state (omega arith) c.loop-place.invariant.3 c.in-Ok.ensures.reads c.in-Ok.ensures.fetched c.in-Ok.ensures.early,
 )
 
 pub returns-clause-meaning : goal.returns-clause-meaning
@@ -32,3 +34,6 @@ returns-in-Err-clause-early g c = early_on c.loop-place.invariant.2 c.in-Err.ens
 pub returns-clause-behind : goal.returns-clause-behind
 returns-clause-behind g c = λ items bytes after k calm begins stands tells room.
     left_behind c.args.fields.now _ _ _ _ _ items bytes after k begins stands tells room c.loop-place.invariant.2 (inr (returns-clause-values g c calm))
+
+pub returns-clause-fetched : goal.returns-clause-fetched
+returns-clause-fetched g c = tally_whole c.args.fields.now c.loop-place.place (g.R.Source.told c.args.reader.now.source) (g.R.Source.told c.loop-place.reader.source) c.args.reader.now.state c.loop-place.reader.state (omega arith) c.loop-place.invariant.3

@@ -1,7 +1,10 @@
-use Rattle.std.proofs.Common.{◌≡◌, length, take}
+use Rattle.std.proofs.Common.{◌≡◌, length, map, take}
+use Rattle.deku_bits.specs.Pieces.{total}
 use Rattle.deku_bits.specs.ReaderCalls.{NoneEarly}
 use Rattle.deku_bits.specs.Standings.{reader_state}
+use Rattle.deku_fields.specs.Items.{field_shape}
 use Rattle.deku_fields.proofs.Stepping.{Continues}
+use Rattle.deku_fields.proofs.Fetching.{Tally}
 use Rattle.deku_fields.proofs.read.read_list_into.Given as goal
 
 abbrev pub invariant-loop-place : goal.invariant-loop-place
@@ -10,3 +13,4 @@ invariant-loop-place g l = (length l.out ≡ length l.initial.out)
     (reader_state (g.R.Source.told l.initial.reader.source).coming l.initial.reader.state) (g.R.Source.told l.initial.reader.source).health
     (reader_state (g.R.Source.told l.reader.source).coming l.reader.state) (g.R.Source.told l.reader.source).health
     × NoneEarly l.initial.reader.state l.reader.state
+    × Tally (total (map field_shape (take l.place l.fields))) l.initial.reader.state (g.R.Source.told l.initial.reader.source).coming l.reader.state (g.R.Source.told l.reader.source).coming

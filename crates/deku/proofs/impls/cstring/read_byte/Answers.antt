@@ -6,10 +6,10 @@ use Rattle.deku.proofs.Runs.{stored}
 use Rattle.deku.proofs.impls.cstring.read_byte.Goals as goal
 
 pub returns-in-Ok-push-clause-reads : goal.returns-in-Ok-push-clause-reads
-returns-in-Ok-push-clause-reads g c = stored c.in-Ok.ensures
+returns-in-Ok-push-clause-reads g c = stored c.in-Ok.ensures.reads
 
 pub returns-in-Err-push-clause-reads : goal.returns-in-Err-push-clause-reads
-returns-in-Err-push-clause-reads g c = then_on c.in-Ok.ensures (Quiet NoMemory (no_fewer_same _))
+returns-in-Err-push-clause-reads g c = then_on c.in-Ok.ensures.reads (Quiet NoMemory (no_fewer_same _))
 
 pub returns-in-Err-clause-reads : goal.returns-in-Err-clause-reads
-returns-in-Err-clause-reads g c = first_refused c.in-Err.ensures
+returns-in-Err-clause-reads g c = first_refused c.in-Err.ensures.reads

@@ -6,7 +6,7 @@ use Rattle.deku.proofs.Addresses.{ipv6_made}
 use Rattle.deku.proofs.impls.net.Ipv6AddrDekuReader.from_reader_with_ctx.Goals as goal
 
 pub returns-in_err-number : goal.returns-in_err-number
-returns-in_err-number g c = passed_on _ c.from_residual.ensures.1 (first_refused c.in_err-number.ensures)
+returns-in_err-number g c = passed_on _ c.from_residual.ensures.1 (first_refused c.in_err-number.ensures.reads)
 
 pub returns : goal.returns
-returns g c = then_on c.in_ok-number.ensures (shown (ipv6_made _ _ c.from_bits.ensures (search rules)))
+returns g c = then_on c.in_ok-number.ensures.reads (shown (ipv6_made _ _ c.from_bits.ensures (search rules)))

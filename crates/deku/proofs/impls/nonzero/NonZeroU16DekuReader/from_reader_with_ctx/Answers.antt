@@ -6,10 +6,10 @@ use Rattle.deku.proofs.Holding.{denied, shown_behind}
 use Rattle.deku.proofs.impls.nonzero.NonZeroU16DekuReader.from_reader_with_ctx.Goals as goal
 
 pub returns-in_err-number : goal.returns-in_err-number
-returns-in_err-number g c = passed_on _ c.from_residual.ensures.1 (first_refused c.in_err-number.ensures)
+returns-in_err-number g c = passed_on _ c.from_residual.ensures.1 (first_refused c.in_err-number.ensures.reads)
 
 pub returns-in-Some : goal.returns-in-Some
-returns-in-Some g c = then_on c.in_ok-number.ensures (shown_behind c.in-Some.ensures)
+returns-in-Some g c = then_on c.in_ok-number.ensures.reads (shown_behind c.in-Some.ensures)
 
 pub returns-in-None : goal.returns-in-None
-returns-in-None g c = then_on c.in_ok-number.ensures (denied (λ n. n ≡ 0) non_zero_u16_get _ refl c.in-None.ensures)
+returns-in-None g c = then_on c.in_ok-number.ensures.reads (denied (λ n. n ≡ 0) non_zero_u16_get _ refl c.in-None.ensures)

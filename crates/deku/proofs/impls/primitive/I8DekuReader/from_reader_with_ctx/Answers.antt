@@ -6,10 +6,13 @@ use mir.Syntax.{w8}
 use mir.Val.{SFits}
 use Rattle.deku.proofs.impls.primitive.I8DekuReader.from_reader_with_ctx.Goals as goal
 
-pub returns-in_err-value : goal.returns-in_err-value
-returns-in_err-value g c = passed_on _ c.from_residual.ensures.1 (rw c.parts.ensures at c.in_err-value.ensures.reads)
+pub returns-in_err-value-clause-reads : goal.returns-in_err-value-clause-reads
+returns-in_err-value-clause-reads g c = passed_on _ c.from_residual.ensures.1 (rw c.parts.ensures at c.in_err-value.ensures.reads)
 
-pub returns : goal.returns
-returns g c =
+pub returns-clause-reads : goal.returns-clause-reads
+returns-clause-reads g c =
     let fits : SFits w8 c.in_ok-value.value = search rules in
     signed_read (rw c.parts.ensures at c.in_ok-value.ensures.reads) (omega (arith, ints))
+
+pub returns-clause-fetched : goal.returns-clause-fetched
+returns-clause-fetched g c = rw c.parts.ensures at c.in_ok-value.ensures.fetched
