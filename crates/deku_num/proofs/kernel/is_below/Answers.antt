@@ -1,0 +1,9 @@
+use Rattle.std.proofs.Common.{arith, rules}
+use Rattle.std.proofs.lemmas.Grind.{common_steps}
+use Rattle.deku_num.proofs.kernel.is_below.Goals as goal
+
+pub returns-then-n-eq128 : goal.returns-then-n-eq128
+returns-then-n-eq128 c = search rules
+
+pub returns-else-n-eq128 : goal.returns-else-n-eq128
+returns-else-n-eq128 c = grind (arith, common_steps)

@@ -1,0 +1,5 @@
+use Rattle.std.proofs.Common.{rules}
+use Rattle.deku_num.proofs.size.I8DekuSize.size_bits.Goals as goal
+
+pub returns : goal.returns
+returns c = search rules
