@@ -1,0 +1,7 @@
+//! Tests of `deku_fields`, through its public calls.
+#![tactic(auto)]
+
+#[cfg(test)]
+mod list;
+#[cfg(test)]
+mod program;
