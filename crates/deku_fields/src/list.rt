@@ -105,6 +105,3 @@ pub struct Item {
     pub field: Field,
     pub value: Number,
 }
-
-#[cfg(test)]
-mod tests;

@@ -235,6 +235,3 @@ fn without_newline(text: &[u8]) -> &[u8]
         _ => text,
     }
 }
-
-#[cfg(test)]
-mod tests;

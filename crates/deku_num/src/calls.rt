@@ -151,6 +151,3 @@ fn size_beyond(size: Size) -> &'static str
         _ => "bit size is larger than input",
     }
 }
-
-#[cfg(test)]
-mod tests;

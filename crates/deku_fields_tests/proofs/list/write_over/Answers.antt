@@ -3,7 +3,7 @@ use Rattle.deku_bits.specs.WriterCalls.{Finalizes}
 use Rattle.deku.proofs.Joining.{first_refused, then_on}
 use Rattle.deku_fields.proofs.Sound.{sound}
 use Rattle.deku_fields.proofs.Padded.{padded_law}
-use Rattle.deku_fields.proofs.list.tests.write_over.Goals as goal
+use Rattle.deku_fields_tests.proofs.list.write_over.Goals as goal
 
 pub returns-in-Ok : goal.returns-in-Ok
 returns-in-Ok c = λ bytes all aligned laid room small.

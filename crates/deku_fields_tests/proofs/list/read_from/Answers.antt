@@ -2,7 +2,7 @@ use Rattle.std.proofs.Common.{ap, ◌∙◌, arith}
 use Rattle.deku_fields.proofs.Sound.{sound_memory}
 use Rattle.deku.proofs.Containers.{starts_fresh, whole_source, new_source}
 use Rattle.deku_fields.proofs.ReadBack.{filled}
-use Rattle.deku_fields.proofs.list.tests.read_from.Goals as goal
+use Rattle.deku_fields_tests.proofs.list.read_from.Goals as goal
 
 pub returns : goal.returns
 returns c = λ items after begins room.

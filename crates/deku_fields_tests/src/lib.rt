@@ -1,0 +1,9 @@
+//! Tests of `deku_fields`, through its public calls.
+#![tactic(auto)]
+
+#[cfg(test)]
+mod items;
+#[cfg(test)]
+mod list;
+#[cfg(test)]
+mod program;

@@ -1,0 +1,132 @@
+//! Numbers read and written, against worked examples.
+
+use crate::values::{Value, read_value, write_value};
+use deku_bits::error::DekuError;
+use deku_bits::reader::Reader;
+use deku_bits::writer::Writer;
+use deku_num::ctx::{BitSize, ByteSize, Endian, Layout, NumberCtx, Order};
+use deku_num::kind::NumberType;
+use std::alloc::Global;
+use std::io::Cursor;
+use std::process::Abort;
+use std::test::Fail;
+
+// A field, the bytes that it lies in, and its value.
+type Row<'a> = (NumberType, Layout, &'a [u8], Value);
+
+// The bytes are read as the value, and it is written as the bytes.
+fn expect_both_ways(rt: &impl Abort, alloc: Global, row: &Row) -> Result<(), Fail> {
+    let (number_type, layout, bytes, value) = *row;
+    let mut reader = Reader::new(alloc, Cursor::new(bytes));
+    let read = read_value(rt, &mut reader, number_type, layout);
+    assert_eq!(rt; read, Ok(value), "{row:?}");
+    let mut writer = Writer::new(Cursor::new(Vec::new(alloc)));
+    write_value(rt, &mut writer, value, number_type, layout)?;
+    writer.finalize()?;
+    let written = writer.into_inner().into_inner();
+    assert_eq!(rt; written.as_slice(), bytes, "{row:?}");
+    Ok(())
+}
+
+#[test]
+fn numbers_both_ways(rt: HostRuntime) -> Result<(), Fail> {
+    let three = (Endian::Big, BitSize(3)).parts();
+    let ten = (Endian::Little, BitSize(10)).parts();
+    let thirteen = (Endian::Big, BitSize(13), Order::Lsb0).parts();
+    let whole = ().parts();
+    let rows: [Row; 4] = [
+        (NumberType::U8, three, &[0xA0], Value::Unsigned(5)),
+        (NumberType::U16, ten, &[0xAB, 0xC0], Value::Unsigned(0x3AB)),
+        (
+            NumberType::U16,
+            thirteen,
+            &[0x10, 0x01],
+            Value::Unsigned(0x1001),
+        ),
+        (
+            NumberType::U16,
+            whole,
+            &[0xEF, 0xBE],
+            Value::Unsigned(0xBEEF),
+        ),
+    ];
+    for row in &rows {
+        expect_both_ways(&rt, rt.alloc(), row)?;
+    }
+    Ok(())
+}
+
+#[test]
+fn signed_numbers_both_ways(rt: HostRuntime) -> Result<(), Fail> {
+    let three = BitSize(3).parts();
+    let twelve = BitSize(12).parts();
+    let two_bytes = (Endian::Big, ByteSize(2)).parts();
+    let rows: [Row; 3] = [
+        (NumberType::I8, three, &[0xA0], Value::Signed(-3)),
+        (NumberType::I16, twelve, &[0xFE, 0xF0], Value::Signed(-2)),
+        (
+            NumberType::I32,
+            two_bytes,
+            &[0x80, 0x00],
+            Value::Signed(-32768),
+        ),
+    ];
+    for row in &rows {
+        expect_both_ways(&rt, rt.alloc(), row)?;
+    }
+    Ok(())
+}
+
+#[test]
+fn refuses_to_read(rt: HostRuntime) {
+    let bytes: &[u8] = &[0xFF, 0xFF];
+    let mut reader = Reader::new(rt.alloc(), Cursor::new(bytes));
+    let thirteen = (Endian::Big, BitSize(13), Order::Lsb0).parts();
+    let rows = [
+        (
+            NumberType::U8,
+            BitSize(9).parts(),
+            DekuError::Parse("too much data"),
+        ),
+        (
+            NumberType::I16,
+            thirteen,
+            DekuError::InvalidParam("signed big Lsb0 field of this width"),
+        ),
+    ];
+    for (number_type, layout, refusal) in rows {
+        let read = read_value(&rt, &mut reader, number_type, layout);
+        assert_eq!(rt; read, Err(refusal), "{number_type:?} {layout:?}");
+    }
+}
+
+#[test]
+fn refuses_to_write(rt: HostRuntime) -> Result<(), Fail> {
+    let mut writer = Writer::new(Cursor::new(Vec::new(rt.alloc())));
+    let misfit = "bit size of input is larger than requested size";
+    let rows = [
+        (
+            Value::Unsigned(16),
+            NumberType::U8,
+            BitSize(4).parts(),
+            misfit,
+        ),
+        (
+            Value::Signed(0),
+            NumberType::I16,
+            ByteSize(3).parts(),
+            "byte size is larger than input",
+        ),
+    ];
+    for (value, number_type, layout, refusal) in rows {
+        let written = write_value(&rt, &mut writer, value, number_type, layout);
+        assert_eq!(rt;
+            written,
+            Err(DekuError::InvalidParam(refusal)),
+            "{value:?} {layout:?}"
+        );
+    }
+    writer.finalize()?;
+    assert!(rt; writer.into_inner().into_inner().is_empty());
+    Ok(())
+}
