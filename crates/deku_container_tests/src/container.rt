@@ -11,6 +11,11 @@ use std::test::Fail;
 
 const NO_MEMORY: DekuError = DekuError::Io(ErrorKind::OutOfMemory);
 
+// What was got is what was wanted, in the row of this name.
+pub fn same<T: PartialEq + Debug>(rt: &impl Abort, row: &impl Debug, got: &T, want: &T) {
+    assert_eq!(rt; *got, *want, "{row:?}");
+}
+
 // The input ended where so many bits were wanted.
 fn incomplete(bits: usize) -> DekuError {
     DekuError::Incomplete(NeedSize::new(bits))
@@ -27,9 +32,8 @@ fn expect_rest<T: DekuContainerRead + PartialEq + Debug>(
     requires { T.accepts tt }
 {
     let (left, value) = T::from_bytes(alloc, input)?;
-    assert_eq!(rt; value, want);
-    assert_eq!(rt; left.0, rest.0, "{value:?}");
-    assert_eq!(rt; left.1, rest.1, "{value:?}");
+    same(rt, &input, &value, &want);
+    same(rt, &input, &left, &rest);
     Ok(())
 }
 
@@ -43,8 +47,8 @@ fn expect_refused<T: DekuContainerRead>(
     requires { T.accepts tt }
 {
     match T::from_bytes(alloc, input) {
-        Ok(_) => assert!(rt; false, "read, and not refused with {want:?}"),
-        Err(refusal) => assert_eq!(rt; refusal, want),
+        Ok(_) => assert!(rt; false, "{input:?} is read, and not refused with {want:?}"),
+        Err(refusal) => same(rt, &input, &refusal, &want),
     }
 }
 
@@ -60,8 +64,8 @@ fn expect_taken<T: DekuContainerRead + PartialEq + Debug>(
     requires { T.accepts tt }
 {
     let read = T::from_reader(alloc, (source, bits))?;
-    assert_eq!(rt; read, want);
-    assert_eq!(rt; source.position(), place, "{bits} bits left out");
+    same(rt, &bits, &read, &want);
+    same(rt, &bits, &source.position(), &place);
     Ok(())
 }
 
@@ -75,8 +79,8 @@ fn expect_written<T: DekuContainerWrite + Debug>(
 ) -> Result<(), Fail>
     requires { T.accepts tt }
 {
-    assert_eq!(rt; value.to_bytes(alloc)?.as_slice(), bytes, "{value:?}");
-    assert_eq!(rt; value.to_bits(alloc)?.as_slice(), bits, "{value:?}");
+    same(rt, value, &value.to_bytes(alloc)?.as_slice(), &bytes);
+    same(rt, value, &value.to_bits(alloc)?.as_slice(), &bits);
     expect_over(rt, value, bytes)
 }
 
@@ -90,21 +94,28 @@ fn expect_over<T: DekuContainerWrite + Debug>(
 {
     let mut page = [0xA5; 4];
     assert!(rt; bytes.len() <= 4);
-    assert_eq!(rt; value.to_slice(&mut page), Ok(bytes.len()), "{value:?}");
-    assert_eq!(rt; &page[..bytes.len()], bytes, "{value:?}");
+    same(rt, value, &value.to_slice(&mut page), &Ok(bytes.len()));
+    same(rt, value, &&page[..bytes.len()], &bytes);
     let rest = &[0xA5u8; 4][bytes.len()..];
-    assert_eq!(rt; &page[bytes.len()..], rest, "{value:?}");
+    same(rt, value, &&page[bytes.len()..], &rest);
     Ok(())
 }
+
+// How many bits of 12 34 are left out, the byte behind them, and the rest.
+type Behind = (usize, u8, (&'static [u8], usize));
+
+const OCTETS: [Behind; 3] = [
+    (0, 0x12, (&[0x34], 0)),
+    (4, 0x23, (&[0x34], 4)),
+    (8, 0x34, (&[], 0)),
+];
 
 #[test]
 fn reads_from_bytes(rt: HostRuntime) -> Result<(), Fail> {
     let alloc = rt.alloc();
-    let octet = |value| Octet { value };
-    let two: &[u8] = &[0x12, 0x34];
-    expect_rest(&rt, alloc, (two, 0), octet(0x12), (&[0x34], 0))?;
-    expect_rest(&rt, alloc, (two, 4), octet(0x23), (&[0x34], 4))?;
-    expect_rest(&rt, alloc, (two, 8), octet(0x34), (&[], 0))?;
+    for (bits, value, rest) in OCTETS {
+        expect_rest(&rt, alloc, (&[0x12, 0x34], bits), Octet { value }, rest)?;
+    }
     expect_rest(
         &rt,
         alloc,
@@ -140,31 +151,41 @@ fn reads_from_bytes(rt: HostRuntime) -> Result<(), Fail> {
 #[test]
 fn refuses_short_bytes(rt: HostRuntime) {
     let alloc = rt.alloc();
-    expect_refused::<Octet>(&rt, alloc, (&[0x12], 12), incomplete(4));
-    expect_refused::<Octet>(&rt, alloc, (&[0x12], 16), incomplete(8));
-    expect_refused::<Octet>(&rt, alloc, (&[0x12], 1), incomplete(8));
+    for (bits, wanted) in [(12, 4), (16, 8), (1, 8)] {
+        expect_refused::<Octet>(&rt, alloc, (&[0x12], bits), incomplete(wanted));
+    }
     expect_refused::<Empty>(&rt, alloc, (&[], 8), incomplete(8));
     expect_refused::<Pair>(&rt, alloc, (&[0xBE], 0), incomplete(16));
 }
 
+// Where the source of 12 34 56 stands, how many bits are left out, how many were taken, the byte, and where the source stands then.
+type Taken = (u64, usize, usize, u8, u64);
+
+const TAKEN: [Taken; 5] = [
+    (0, 0, 8, 0x12, 1),
+    (1, 0, 8, 0x34, 2),
+    (2, 0, 8, 0x56, 3),
+    (0, 4, 12, 0x23, 2),
+    (0, 16, 24, 0x56, 3),
+];
+
 #[test]
 fn reads_from_a_source(rt: HostRuntime) -> Result<(), Fail> {
     let alloc = rt.alloc();
-    let octet = |value| Octet { value };
     let mut source = Cursor::new([0x12, 0x34, 0x56].as_slice());
-    expect_taken(&rt, alloc, &mut source, 0, (8, octet(0x12)), 1)?;
-    expect_taken(&rt, alloc, &mut source, 0, (8, octet(0x34)), 2)?;
-    expect_taken(&rt, alloc, &mut source, 0, (8, octet(0x56)), 3)?;
-    source.set_position(0);
-    expect_taken(&rt, alloc, &mut source, 4, (12, octet(0x23)), 2)?;
-    source.set_position(0);
-    expect_taken(&rt, alloc, &mut source, 16, (24, octet(0x56)), 3)?;
+    for (from, bits, count, value, place) in TAKEN {
+        if source.position() != from {
+            source.set_position(from);
+        }
+        let want = (count, Octet { value });
+        expect_taken(&rt, alloc, &mut source, bits, want, place)?;
+    }
     source.set_position(0);
     expect_taken(&rt, alloc, &mut source, 9, (9, Empty {}), 2)?;
     source.set_position(0);
     match Octet::from_reader(alloc, (&mut source, 20)) {
-        Ok(_) => assert!(rt; false),
-        Err(refusal) => assert_eq!(rt; refusal, incomplete(8)),
+        Ok(_) => assert!(rt; false, "read behind 20 bits"),
+        Err(refusal) => same(&rt, &"behind 20 bits", &refusal, &incomplete(8)),
     }
     Ok(())
 }
@@ -198,7 +219,7 @@ fn writes_bytes_and_bits(rt: HostRuntime) -> Result<(), Fail> {
         number: 0xC0FE,
     };
     let bytes = head.to_bytes(alloc)?;
-    assert_eq!(rt; bytes.as_slice(), [0x69, 0xC0, 0xFE].as_slice());
+    same(&rt, &head, &bytes.as_slice(), &[0x69, 0xC0, 0xFE].as_slice());
     Ok(())
 }
 
@@ -206,12 +227,10 @@ fn writes_bytes_and_bits(rt: HostRuntime) -> Result<(), Fail> {
 fn writes_over_slices(rt: HostRuntime) {
     let number = Pair { value: 0xBEEF };
     let mut page = [0xA5; 3];
-    assert_eq!(rt;
-        number.to_slice(&mut page[..1]),
-        Err(DekuError::Io(ErrorKind::WriteZero))
-    );
-    assert_eq!(rt; number.to_slice(&mut page), Ok(2));
-    assert_eq!(rt; page, [0xBE, 0xEF, 0xA5]);
+    let answer = number.to_slice(&mut page[..1]);
+    same(&rt, &"one byte", &answer, &Err(DekuError::Io(ErrorKind::WriteZero)));
+    let answer = number.to_slice(&mut page);
+    same(&rt, &"three bytes", &(answer, page), &(Ok(2), [0xBE, 0xEF, 0xA5]));
 }
 
 // Where memory is refused, that is what is answered.
@@ -220,12 +239,12 @@ fn memory_for_what_is_written(rt: HostRuntime) {
     let alloc = rt.alloc();
     let low = Low { value: 5 };
     match low.to_bytes(alloc) {
-        Ok(bytes) => assert_eq!(rt; bytes.as_slice(), [5].as_slice()),
-        Err(refusal) => assert_eq!(rt; refusal, NO_MEMORY),
+        Ok(bytes) => same(&rt, &low, &bytes.as_slice(), &[5].as_slice()),
+        Err(refusal) => same(&rt, &low, &refusal, &NO_MEMORY),
     }
     match low.to_bits(alloc) {
-        Ok(bits) => assert_eq!(rt; bits.as_slice(), [true, false, true].as_slice()),
-        Err(refusal) => assert_eq!(rt; refusal, NO_MEMORY),
+        Ok(bits) => same(&rt, &low, &bits.as_slice(), &[true, false, true].as_slice()),
+        Err(refusal) => same(&rt, &low, &refusal, &NO_MEMORY),
     }
 }
 
@@ -239,11 +258,10 @@ fn expect_both_ways<T: DekuContainerRead + DekuContainerWrite + PartialEq + Debu
     requires reads { T.DekuReader.accepts tt }
     requires writes { T.DekuWriter.accepts tt }
 {
-    let ((rest, bits), value) = T::from_bytes(alloc, (bytes, 0))?;
-    assert_eq!(rt; value, want);
-    assert!(rt; rest.is_empty());
-    assert_eq!(rt; bits, 0);
-    assert_eq!(rt; value.to_bytes(alloc)?.as_slice(), bytes, "{value:?}");
+    let (left, value) = T::from_bytes(alloc, (bytes, 0))?;
+    same(rt, &bytes, &value, &want);
+    same(rt, &bytes, &(left.0.len(), left.1), &(0, 0));
+    same(rt, &value, &value.to_bytes(alloc)?.as_slice(), &bytes);
     Ok(())
 }
 

@@ -1,7 +1,7 @@
 //! Records that update themselves, and enums whose variants have ids.
 
+use super::container::same;
 use deku::prelude::{DekuEnumExt, DekuError, DekuUpdate};
-use std::alloc::Global;
 use std::test::Fail;
 
 // A list of bytes, and how many they are.
@@ -48,28 +48,30 @@ impl DekuEnumExt<u8> for Shape {
     }
 }
 
+// A count of bytes, what an update answers, and the length then: the one of the row above where it is refused.
+type Row = (usize, Result<(), DekuError>, u8);
+
+const ROWS: [Row; 3] = [
+    (2, Ok(()), 2),
+    (255, Ok(()), 255),
+    (256, Err(DekuError::Parse("error parsing int")), 255),
+];
+
 #[test]
 fn updates(rt: HostRuntime) -> Result<(), Fail> {
-    let alloc: Global = rt.alloc();
-    let payload = [0xAA, 0xBB].to_vec(alloc)?;
+    let payload = Vec::new(rt.alloc());
     let mut counted = Counted { length: 1, payload };
-    assert_eq!(rt; counted.update(), Ok(()));
-    assert_eq!(rt; counted.length, 2);
-    counted.payload.resize(255, 0)?;
-    assert_eq!(rt; counted.update(), Ok(()));
-    assert_eq!(rt; counted.length, 255);
-    counted.payload.resize(256, 0)?;
-    assert_eq!(rt;
-        counted.update(),
-        Err(DekuError::Parse("error parsing int"))
-    );
-    assert_eq!(rt; counted.length, 255);
-    assert_eq!(rt; counted.payload.len(), 256);
+    for (count, want, length) in ROWS {
+        counted.payload.resize(count, 0)?;
+        same(&rt, &count, &counted.update(), &want);
+        let lengths = (counted.length, counted.payload.len());
+        same(&rt, &count, &lengths, &(length, count));
+    }
     Ok(())
 }
 
 #[test]
 fn names_variants(rt: HostRuntime) {
-    assert_eq!(rt; Shape::Point.deku_id(), Ok(1));
-    assert_eq!(rt; Shape::Circle { radius: 3 }.deku_id(), Ok(2));
+    same(&rt, &"point", &Shape::Point.deku_id(), &Ok(1));
+    same(&rt, &"circle", &Shape::Circle { radius: 3 }.deku_id(), &Ok(2));
 }

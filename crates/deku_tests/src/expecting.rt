@@ -7,6 +7,10 @@ use std::io::{Cursor, ErrorKind};
 use std::process::Abort;
 use std::test::Fail;
 
+pub const MISFIT: DekuError = DekuError::InvalidParam(
+    "bit size of input is larger than requested size",
+);
+
 pub const NO_MEMORY: DekuError = DekuError::Io(ErrorKind::OutOfMemory);
 
 // A refusal in a table: the end of input, where so many bits were wanted, or another one.
@@ -27,6 +31,13 @@ impl Refusal {
 
 // What a call that takes memory answers, in a table.
 pub type Answer<T> = Result<&'static [T], Refusal>;
+
+// Where a step stands: in which run, and which it is.
+#[derive(Debug, Clone, Copy)]
+pub struct Row<'a, S> {
+    pub run: &'a str,
+    pub step: &'a S,
+}
 
 // What was got is what was wanted, in the row of this name.
 pub fn same<T: PartialEq + Debug>(rt: &impl Abort, row: &impl Debug, got: &T, want: &T) {
@@ -122,7 +133,7 @@ pub fn expect_answer<T: PartialEq + Debug + Drop>(
     rt: &impl Abort,
     row: &impl Debug,
     answer: Result<Vec<T>, DekuError>,
-    want: &Answer<T>,
+    want: &Result<&[T], Refusal>,
 ) -> Result<(), Fail> {
     match (answer, want) {
         (Ok(items), Ok(want)) => assert_eq!(rt; items.as_slice(), *want, "{row:?}"),

@@ -1,4 +1,4 @@
-//! Tests of `deku`, by the paths that users name: types, limits and refusals.
+//! Tests of `deku`, by the paths that users name: lists, maps, texts, tuples and what holds them, limits, sizes and refusals.
 #![tactic(auto)]
 
 #[cfg(test)]
@@ -14,13 +14,7 @@ mod lists;
 #[cfg(test)]
 mod memory;
 #[cfg(test)]
-mod numbers;
-#[cfg(test)]
-mod records;
-#[cfg(test)]
 mod refusals;
-#[cfg(test)]
-mod signed;
 #[cfg(test)]
 mod sizes;
 #[cfg(test)]
@@ -29,5 +23,3 @@ mod stand_ins;
 mod texts;
 #[cfg(test)]
 mod tuples;
-#[cfg(test)]
-mod unsigned;

@@ -1,7 +1,7 @@
 //! Lists under limits.
 
 use super::expecting::Refusal::{Ended, Said};
-use super::expecting::{Answer, Refusal, expect_answer, expect_bytes, expect_written, same};
+use super::expecting::{Answer, Refusal, Row, expect_answer, expect_bytes, expect_written, same};
 use deku::ctx::Endian::{Big, Little};
 use deku::ctx::Order::{Lsb0, Msb0};
 use deku::ctx::{BitSize, ByteSize, Limit, Never, ReadExact};
@@ -36,7 +36,7 @@ impl Stop {
 }
 
 // A call on a reader, and what it answers.
-#[derive(Debug)]
+#[derive(Debug, Drop)]
 enum Step {
     // Bytes, under the limit alone, and numbers of so many bits, with and without an endian.
     Octets(Stop, Answer<u8>),
@@ -59,19 +59,13 @@ enum Step {
 
 fn take_list(
     rt: &impl Abort,
-    run: &str,
+    row: &Row<Step>,
     reader: &mut Reader<Cursor<&[u8]>>,
-    step: &Step,
 ) -> Result<(), Fail> {
-    let row = &(run, step);
-    match step {
+    match row.step {
         Step::Octets(stop, want) => {
-            expect_answer(
-                rt,
-                row,
-                Vec::from_reader_with_ctx(reader, stop.limit::<u8>()),
-                want,
-            )
+            let limit = stop.limit::<u8>();
+            expect_answer(rt, row, Vec::from_reader_with_ctx(reader, limit), want)
         }
         Step::Sized(stop, bits, want) => {
             let ctx = (stop.limit::<u8>(), BitSize(*bits));
@@ -86,47 +80,47 @@ fn take_list(
             expect_answer(rt, row, Vec::from_reader_with_ctx(reader, ctx), want)
         }
         Step::Units(stop, want) => {
-            expect_answer(
-                rt,
-                row,
-                Vec::from_reader_with_ctx(reader, stop.limit::<()>()),
-                want,
-            )
+            let limit = stop.limit::<()>();
+            expect_answer(rt, row, Vec::from_reader_with_ctx(reader, limit), want)
         }
         Step::Hollows(stop, want) => {
             let limit = stop.limit::<[u8; 0]>();
             expect_answer(rt, row, Vec::from_reader_with_ctx(reader, limit), want)
         }
-        Step::AtOnce(count, want) => {
-            let bytes = Vec::<u8>::from_reader_with_ctx(reader, ReadExact(*count));
-            expect_answer(rt, row, bytes, want)
-        }
-        _ => take_place(rt, run, reader, step),
+        _ => take_place(rt, row, reader),
     }
 }
 
 fn take_place(
     rt: &impl Abort,
-    run: &str,
+    row: &Row<Step>,
     reader: &mut Reader<Cursor<&[u8]>>,
-    step: &Step,
 ) -> Result<(), Fail> {
-    let row = &(run, step);
-    match step {
+    match row.step {
+        Step::AtOnce(count, want) => {
+            let bytes = Vec::<u8>::from_reader_with_ctx(reader, ReadExact(*count));
+            expect_answer(rt, row, bytes, want)?;
+        }
         Step::Next(want) => same(rt, row, &u8::from_reader_with_ctx(reader, ())?, want),
         Step::NextSized(bits, want) => {
-            same(
-                rt,
-                row,
-                &u8::from_reader_with_ctx(reader, BitSize(*bits))?,
-                want,
-            )
+            let byte = u8::from_reader_with_ctx(reader, BitSize(*bits))?;
+            same(rt, row, &byte, want);
         }
         Step::Read(want) => same(rt, row, &reader.bits_read(), want),
         Step::Rest(want) => same(rt, row, &reader.rest()?.as_slice(), want),
         _ => assert!(rt; false, "{row:?} is no step of a place"),
     }
     Ok(())
+}
+
+// The next step of a run is taken.
+fn take_next(
+    rt: &impl Abort,
+    run: &str,
+    reader: &mut Reader<Cursor<&[u8]>>,
+    step: Step,
+) -> Result<(), Fail> {
+    take_place(rt, &Row { run, step: &step }, reader)
 }
 
 // A name, the bytes of a reader, and what is asked of it, one step after the other.
@@ -228,7 +222,7 @@ fn up_to_an_end(rt: HostRuntime) -> Result<(), Fail> {
     for (run, bytes, steps) in &RUNS {
         let mut reader = Reader::new(rt.alloc(), Cursor::new(*bytes));
         for step in *steps {
-            take_list(&rt, run, &mut reader, step)?;
+            take_list(&rt, &Row { run, step }, &mut reader)?;
         }
     }
     Ok(())
@@ -246,7 +240,7 @@ fn up_to_an_item(rt: HostRuntime) -> Result<(), Fail> {
     let items = Vec::<u8>::from_reader_with_ctx(&mut reader, third);
     expect_answer(&rt, &"the third", items, &Ok(&[5, 5, 5]))?;
     same(&rt, &"calls for the third", &calls, &3);
-    take_place(&rt, "the third", &mut reader, &Step::Next(5))?;
+    take_next(&rt, "the third", &mut reader, Step::Next(5))?;
     let mut reader = Reader::new(rt.alloc(), Cursor::new([1, 2, 3].as_slice()));
     let mut second = true;
     let turns = Limit::new_until(|_: &u8| {
@@ -255,7 +249,7 @@ fn up_to_an_item(rt: HostRuntime) -> Result<(), Fail> {
     });
     let items = Vec::<u8>::from_reader_with_ctx(&mut reader, turns);
     expect_answer(&rt, &"each second", items, &Ok(&[1, 2]))?;
-    take_place(&rt, "each second", &mut reader, &Step::Next(3))
+    take_next(&rt, "each second", &mut reader, Step::Next(3))
 }
 
 // The bytes of a reader, what they are up to a zero, and the next step.
@@ -273,7 +267,11 @@ fn up_to_a_zero(rt: HostRuntime) -> Result<(), Fail> {
         let zero = Limit::new_until(|byte: &u8| *byte == 0);
         let items = Vec::<u8>::from_reader_with_ctx(&mut reader, zero);
         expect_answer(&rt, bytes, items, want)?;
-        take_place(&rt, "up to a zero", &mut reader, next)?;
+        let row = Row {
+            run: "up to a zero",
+            step: next,
+        };
+        take_place(&rt, &row, &mut reader)?;
     }
     Ok(())
 }
@@ -285,9 +283,9 @@ fn items_without_width_up_to_an_item(rt: HostRuntime) -> Result<(), Fail> {
         let limit = Limit::new_until(|_: &()| always);
         let items = Vec::<()>::from_reader_with_ctx(&mut reader, limit);
         expect_answer(&rt, &always, items, &want)?;
-        take_place(&rt, "without width", &mut reader, &Step::Read(0))?;
+        take_next(&rt, "without width", &mut reader, Step::Read(0))?;
     }
-    take_place(&rt, "without width", &mut reader, &Step::Next(1))
+    take_next(&rt, "without width", &mut reader, Step::Next(1))
 }
 
 #[test]

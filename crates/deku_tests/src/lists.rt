@@ -1,7 +1,6 @@
 //! Arrays and slices: their items, one after the other.
 
-use super::expecting::{expect_bytes, expect_next, expect_whole, expect_written, same};
-use super::numbers::MISFIT;
+use super::expecting::{MISFIT, expect_bytes, expect_next, expect_whole, expect_written, same};
 use deku::ctx::BitSize;
 use deku::ctx::Endian::{Big, Little};
 use deku::prelude::{DekuError, DekuReader, DekuWriter, NeedSize, Reader, Writer};

@@ -2,7 +2,7 @@
 
 use super::expecting::Refusal::{Ended, Said};
 use super::expecting::{
-    Answer, NO_MEMORY, Refusal, expect_bytes, expect_refusal, expect_written, same,
+    Answer, NO_MEMORY, Refusal, Row, expect_bytes, expect_refusal, expect_written, same,
 };
 use deku::cstring::CString;
 use deku::ctx::Endian::Big;
@@ -76,9 +76,9 @@ fn take_step(
     rt: &impl Abort,
     alloc: Global,
     reader: &mut Reader<Cursor<&[u8]>>,
-    row: &(&[u8], &Step),
+    row: &Row<Step>,
 ) -> Result<(), Fail> {
-    match row.1 {
+    match row.step {
         Step::UpToZero(want) => {
             let answer = CString::from_reader_with_ctx(reader, ());
             expect_text(rt, alloc, row, answer, want)?;
@@ -102,7 +102,7 @@ fn take_step(
 fn expect_text(
     rt: &impl Abort,
     alloc: Global,
-    row: &(&[u8], &Step),
+    row: &Row<Step>,
     answer: Result<CString, DekuError>,
     want: &Answer<u8>,
 ) -> Result<(), Fail> {
@@ -114,8 +114,9 @@ fn expect_text(
     Ok(())
 }
 
-const RUNS: [(&[u8], &[Step]); 6] = [
+const RUNS: [(&str, &[u8], &[Step]); 6] = [
     (
+        "up to a zero",
         &TEST,
         &[
             Step::UpToZero(Ok(b"test")),
@@ -123,8 +124,13 @@ const RUNS: [(&[u8], &[Step]); 6] = [
             Step::Byte(0x61),
         ],
     ),
-    (b"test", &[Step::UpToZero(Err(Ended(8))), Step::Read(32)]),
     (
+        "up to a zero that is not there",
+        b"test",
+        &[Step::UpToZero(Err(Ended(8))), Step::Read(32)],
+    ),
+    (
+        "within five bytes, and none",
         &[0x74, 0x65, 0x73, 0x74, 0x00, 0x00],
         &[
             Step::Within(5, Ok(b"test")),
@@ -134,15 +140,18 @@ const RUNS: [(&[u8], &[Step]); 6] = [
         ],
     ),
     (
+        "within four bytes",
         &[0x74, 0x65, 0x73, 0x74, 0x00, 0x00],
         &[Step::Within(4, Err(NO_TEXT)), Step::Read(32)],
     ),
     (
+        "within six bytes",
         &[0x74, 0x65, 0x73, 0x74, 0x00, 0x00],
         &[Step::Within(6, Err(NO_TEXT)), Step::Read(48)],
     ),
     // The end of input is answered again until a seek succeeds.
     (
+        "behind the end",
         b"test",
         &[
             Step::Within(5, Err(Ended(8))),
@@ -157,10 +166,10 @@ const RUNS: [(&[u8], &[Step]); 6] = [
 
 #[test]
 fn from_a_reader(rt: HostRuntime) -> Result<(), Fail> {
-    for (bytes, steps) in &RUNS {
+    for (run, bytes, steps) in &RUNS {
         let mut reader = Reader::new(rt.alloc(), Cursor::new(*bytes));
         for step in *steps {
-            take_step(&rt, rt.alloc(), &mut reader, &(*bytes, step))?;
+            take_step(&rt, rt.alloc(), &mut reader, &Row { run, step })?;
         }
     }
     Ok(())

@@ -1,7 +1,6 @@
 //! Nothing, and tuples.
 
-use super::expecting::{expect_denied, expect_whole, expect_written, same};
-use super::numbers::MISFIT;
+use super::expecting::{MISFIT, expect_denied, expect_whole, expect_written, same};
 use deku::ctx::Endian::{Big, Little};
 use deku::ctx::Order::Lsb0;
 use deku::ctx::{BitSize, ByteSize};
