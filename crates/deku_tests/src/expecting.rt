@@ -32,16 +32,20 @@ impl Refusal {
 // What a call that takes memory answers, in a table.
 pub type Answer<T> = Result<&'static [T], Refusal>;
 
-// Where a step stands: in which run, and which it is.
-#[derive(Debug, Clone, Copy)]
-pub struct Row<'a, S> {
-    pub run: &'a str,
-    pub step: &'a S,
-}
-
 // What was got is what was wanted, in the row of this name.
 pub fn same<T: PartialEq + Debug>(rt: &impl Abort, row: &impl Debug, got: &T, want: &T) {
     assert_eq!(rt; *got, *want, "{row:?}");
+}
+
+// So of a step of a run.
+pub fn same_at<T: PartialEq + Debug>(
+    rt: &impl Abort,
+    run: &str,
+    step: &impl Debug,
+    got: &T,
+    want: &T,
+) {
+    assert_eq!(rt; *got, *want, "{run}: {step:?}");
 }
 
 // What the writer wrote, with the last byte filled, are these bytes.
@@ -131,14 +135,15 @@ pub fn expect_denied<T: DekuReader<C> + PartialEq + Debug, C: Copy>(
 // A call that takes memory answers these items or this refusal; where no memory was found, that is handed on.
 pub fn expect_answer<T: PartialEq + Debug + Drop>(
     rt: &impl Abort,
-    row: &impl Debug,
+    run: &str,
+    step: &impl Debug,
     answer: Result<Vec<T>, DekuError>,
     want: &Result<&[T], Refusal>,
 ) -> Result<(), Fail> {
     match (answer, want) {
-        (Ok(items), Ok(want)) => assert_eq!(rt; items.as_slice(), *want, "{row:?}"),
-        (Ok(items), Err(_)) => assert!(rt; false, "{row:?} answers {items:?}"),
-        (Err(refusal), want) => expect_refusal(rt, row, refusal, want.as_ref().err())?,
+        (Ok(items), Ok(want)) => assert_eq!(rt; items.as_slice(), *want, "{run}: {step:?}"),
+        (Ok(items), Err(_)) => assert!(rt; false, "{run}: {step:?} answers {items:?}"),
+        (Err(refusal), want) => expect_refusal(rt, run, step, refusal, want.as_ref().err())?,
     }
     Ok(())
 }
@@ -146,7 +151,8 @@ pub fn expect_answer<T: PartialEq + Debug + Drop>(
 // This is the refusal that is wanted; where no memory was found, that is handed on.
 pub fn expect_refusal(
     rt: &impl Abort,
-    row: &impl Debug,
+    run: &str,
+    step: &impl Debug,
     refusal: DekuError,
     want: Option<&Refusal>,
 ) -> Result<(), Fail> {
@@ -154,8 +160,8 @@ pub fn expect_refusal(
         return Err(Fail::from(NO_MEMORY));
     }
     match want {
-        Some(want) => assert_eq!(rt; refusal, want.error(), "{row:?}"),
-        None => assert!(rt; false, "{row:?} answers {refusal:?}"),
+        Some(want) => assert_eq!(rt; refusal, want.error(), "{run}: {step:?}"),
+        None => assert!(rt; false, "{run}: {step:?} answers {refusal:?}"),
     }
     Ok(())
 }

@@ -92,7 +92,13 @@ fn maps(rt: HostRuntime) -> Result<(), Fail> {
         match (read_map(&mut reader, stop), want) {
             (Ok(map), Ok(pairs)) => expect_pairs(&rt, bytes, &map, pairs),
             (Ok(_), Err(_)) => assert!(rt; false, "{bytes:?} is read"),
-            (Err(refusal), want) => expect_refusal(&rt, bytes, refusal, want.as_ref().err())?,
+            (Err(refusal), want) => expect_refusal(
+                &rt,
+                "maps",
+                bytes,
+                refusal,
+                want.as_ref().err(),
+            )?,
         }
         same(&rt, bytes, &reader.bits_read(), bits);
     }

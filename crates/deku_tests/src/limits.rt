@@ -1,7 +1,9 @@
 //! Lists under limits.
 
 use super::expecting::Refusal::{Ended, Said};
-use super::expecting::{Answer, Refusal, Row, expect_answer, expect_bytes, expect_written, same};
+use super::expecting::{
+    Answer, Refusal, expect_answer, expect_bytes, expect_written, same, same_at,
+};
 use deku::ctx::Endian::{Big, Little};
 use deku::ctx::Order::{Lsb0, Msb0};
 use deku::ctx::{BitSize, ByteSize, Limit, Never, ReadExact};
@@ -36,7 +38,7 @@ impl Stop {
 }
 
 // A call on a reader, and what it answers.
-#[derive(Debug, Drop)]
+#[derive(Debug)]
 enum Step {
     // Bytes, under the limit alone, and numbers of so many bits, with and without an endian.
     Octets(Stop, Answer<u8>),
@@ -59,68 +61,78 @@ enum Step {
 
 fn take_list(
     rt: &impl Abort,
-    row: &Row<Step>,
+    run: &str,
+    step: &Step,
     reader: &mut Reader<Cursor<&[u8]>>,
 ) -> Result<(), Fail> {
-    match row.step {
+    match step {
         Step::Octets(stop, want) => {
             let limit = stop.limit::<u8>();
-            expect_answer(rt, row, Vec::from_reader_with_ctx(reader, limit), want)
+            expect_answer(
+                rt,
+                run,
+                step,
+                Vec::from_reader_with_ctx(reader, limit),
+                want,
+            )
         }
         Step::Sized(stop, bits, want) => {
             let ctx = (stop.limit::<u8>(), BitSize(*bits));
-            expect_answer(rt, row, Vec::from_reader_with_ctx(reader, ctx), want)
+            expect_answer(rt, run, step, Vec::from_reader_with_ctx(reader, ctx), want)
         }
         Step::SizedLittle(stop, bits, want) => {
             let ctx = (stop.limit::<u8>(), (Little, BitSize(*bits)));
-            expect_answer(rt, row, Vec::from_reader_with_ctx(reader, ctx), want)
+            expect_answer(rt, run, step, Vec::from_reader_with_ctx(reader, ctx), want)
         }
         Step::Wides(stop, want) => {
             let ctx = (stop.limit::<u16>(), Big);
-            expect_answer(rt, row, Vec::from_reader_with_ctx(reader, ctx), want)
+            expect_answer(rt, run, step, Vec::from_reader_with_ctx(reader, ctx), want)
         }
         Step::Units(stop, want) => {
             let limit = stop.limit::<()>();
-            expect_answer(rt, row, Vec::from_reader_with_ctx(reader, limit), want)
+            expect_answer(
+                rt,
+                run,
+                step,
+                Vec::from_reader_with_ctx(reader, limit),
+                want,
+            )
         }
         Step::Hollows(stop, want) => {
             let limit = stop.limit::<[u8; 0]>();
-            expect_answer(rt, row, Vec::from_reader_with_ctx(reader, limit), want)
+            expect_answer(
+                rt,
+                run,
+                step,
+                Vec::from_reader_with_ctx(reader, limit),
+                want,
+            )
         }
-        _ => take_place(rt, row, reader),
+        _ => take_place(rt, run, step, reader),
     }
 }
 
 fn take_place(
     rt: &impl Abort,
-    row: &Row<Step>,
+    run: &str,
+    step: &Step,
     reader: &mut Reader<Cursor<&[u8]>>,
 ) -> Result<(), Fail> {
-    match row.step {
+    match step {
         Step::AtOnce(count, want) => {
             let bytes = Vec::<u8>::from_reader_with_ctx(reader, ReadExact(*count));
-            expect_answer(rt, row, bytes, want)?;
+            expect_answer(rt, run, step, bytes, want)?;
         }
-        Step::Next(want) => same(rt, row, &u8::from_reader_with_ctx(reader, ())?, want),
+        Step::Next(want) => same_at(rt, run, step, &u8::from_reader_with_ctx(reader, ())?, want),
         Step::NextSized(bits, want) => {
             let byte = u8::from_reader_with_ctx(reader, BitSize(*bits))?;
-            same(rt, row, &byte, want);
+            same_at(rt, run, step, &byte, want);
         }
-        Step::Read(want) => same(rt, row, &reader.bits_read(), want),
-        Step::Rest(want) => same(rt, row, &reader.rest()?.as_slice(), want),
-        _ => assert!(rt; false, "{row:?} is no step of a place"),
+        Step::Read(want) => same_at(rt, run, step, &reader.bits_read(), want),
+        Step::Rest(want) => same_at(rt, run, step, &reader.rest()?.as_slice(), want),
+        _ => assert!(rt; false, "{run}: {step:?} is no step of a place"),
     }
     Ok(())
-}
-
-// The next step of a run is taken.
-fn take_next(
-    rt: &impl Abort,
-    run: &str,
-    reader: &mut Reader<Cursor<&[u8]>>,
-    step: Step,
-) -> Result<(), Fail> {
-    take_place(rt, &Row { run, step: &step }, reader)
 }
 
 // A name, the bytes of a reader, and what is asked of it, one step after the other.
@@ -222,7 +234,7 @@ fn up_to_an_end(rt: HostRuntime) -> Result<(), Fail> {
     for (run, bytes, steps) in &RUNS {
         let mut reader = Reader::new(rt.alloc(), Cursor::new(*bytes));
         for step in *steps {
-            take_list(&rt, &Row { run, step }, &mut reader)?;
+            take_list(&rt, run, step, &mut reader)?;
         }
     }
     Ok(())
@@ -238,9 +250,9 @@ fn up_to_an_item(rt: HostRuntime) -> Result<(), Fail> {
         calls == 3
     });
     let items = Vec::<u8>::from_reader_with_ctx(&mut reader, third);
-    expect_answer(&rt, &"the third", items, &Ok(&[5, 5, 5]))?;
+    expect_answer(&rt, "up to an item", &"the third", items, &Ok(&[5, 5, 5]))?;
     same(&rt, &"calls for the third", &calls, &3);
-    take_next(&rt, "the third", &mut reader, Step::Next(5))?;
+    take_place(&rt, "the third", &Step::Next(5), &mut reader)?;
     let mut reader = Reader::new(rt.alloc(), Cursor::new([1, 2, 3].as_slice()));
     let mut second = true;
     let turns = Limit::new_until(|_: &u8| {
@@ -248,8 +260,8 @@ fn up_to_an_item(rt: HostRuntime) -> Result<(), Fail> {
         second
     });
     let items = Vec::<u8>::from_reader_with_ctx(&mut reader, turns);
-    expect_answer(&rt, &"each second", items, &Ok(&[1, 2]))?;
-    take_next(&rt, "each second", &mut reader, Step::Next(3))
+    expect_answer(&rt, "up to an item", &"each second", items, &Ok(&[1, 2]))?;
+    take_place(&rt, "each second", &Step::Next(3), &mut reader)
 }
 
 // The bytes of a reader, what they are up to a zero, and the next step.
@@ -266,12 +278,8 @@ fn up_to_a_zero(rt: HostRuntime) -> Result<(), Fail> {
         let mut reader = Reader::new(rt.alloc(), Cursor::new(*bytes));
         let zero = Limit::new_until(|byte: &u8| *byte == 0);
         let items = Vec::<u8>::from_reader_with_ctx(&mut reader, zero);
-        expect_answer(&rt, bytes, items, want)?;
-        let row = Row {
-            run: "up to a zero",
-            step: next,
-        };
-        take_place(&rt, &row, &mut reader)?;
+        expect_answer(&rt, "up to a zero", bytes, items, want)?;
+        take_place(&rt, "up to a zero", next, &mut reader)?;
     }
     Ok(())
 }
@@ -282,10 +290,10 @@ fn items_without_width_up_to_an_item(rt: HostRuntime) -> Result<(), Fail> {
     for (always, want) in [(true, Ok([()].as_slice())), (false, Err(NO_WIDTH))] {
         let limit = Limit::new_until(|_: &()| always);
         let items = Vec::<()>::from_reader_with_ctx(&mut reader, limit);
-        expect_answer(&rt, &always, items, &want)?;
-        take_next(&rt, "without width", &mut reader, Step::Read(0))?;
+        expect_answer(&rt, "without width", &always, items, &want)?;
+        take_place(&rt, "without width", &Step::Read(0), &mut reader)?;
     }
-    take_next(&rt, "without width", &mut reader, Step::Next(1))
+    take_place(&rt, "without width", &Step::Next(1), &mut reader)
 }
 
 #[test]

@@ -2,7 +2,7 @@
 
 use super::expecting::Refusal::{Ended, Said};
 use super::expecting::{
-    Answer, NO_MEMORY, Refusal, Row, expect_bytes, expect_refusal, expect_written, same,
+    Answer, NO_MEMORY, Refusal, expect_bytes, expect_refusal, expect_written, same, same_at,
 };
 use deku::cstring::CString;
 use deku::ctx::Endian::Big;
@@ -75,25 +75,32 @@ enum Step {
 fn take_step(
     rt: &impl Abort,
     alloc: Global,
+    run: &str,
+    step: &Step,
     reader: &mut Reader<Cursor<&[u8]>>,
-    row: &Row<Step>,
 ) -> Result<(), Fail> {
-    match row.step {
+    match step {
         Step::UpToZero(want) => {
             let answer = CString::from_reader_with_ctx(reader, ());
-            expect_text(rt, alloc, row, answer, want)?;
+            expect_text(rt, alloc, run, step, answer, want)?;
         }
         Step::Within(bytes, want) => {
             let answer = CString::from_reader_with_ctx(reader, ByteSize(*bytes));
-            expect_text(rt, alloc, row, answer, want)?;
+            expect_text(rt, alloc, run, step, answer, want)?;
         }
-        Step::Byte(want) => same(rt, row, &u8::from_reader_with_ctx(reader, ())?, want),
+        Step::Byte(want) => same_at(rt, run, step, &u8::from_reader_with_ctx(reader, ())?, want),
         Step::Number(want) => {
             let answer = u16::from_reader_with_ctx(reader, Big);
-            same(rt, row, &answer, &want.map_err(|refusal| refusal.error()));
+            same_at(
+                rt,
+                run,
+                step,
+                &answer,
+                &want.map_err(|refusal| refusal.error()),
+            );
         }
-        Step::Read(want) => same(rt, row, &reader.bits_read(), want),
-        Step::Seek(place) => same(rt, row, &reader.seek(SeekFrom::Start(*place))?, place),
+        Step::Read(want) => same_at(rt, run, step, &reader.bits_read(), want),
+        Step::Seek(place) => same_at(rt, run, step, &reader.seek(SeekFrom::Start(*place))?, place),
     }
     Ok(())
 }
@@ -102,14 +109,15 @@ fn take_step(
 fn expect_text(
     rt: &impl Abort,
     alloc: Global,
-    row: &Row<Step>,
+    run: &str,
+    step: &Step,
     answer: Result<CString, DekuError>,
     want: &Answer<u8>,
 ) -> Result<(), Fail> {
     match (answer, want) {
-        (Ok(got), Ok(want)) => same(rt, row, &got, &text(rt, alloc, want)?),
-        (Ok(got), Err(_)) => assert!(rt; false, "{row:?} answers {got:?}"),
-        (Err(refusal), want) => expect_refusal(rt, row, refusal, want.as_ref().err())?,
+        (Ok(got), Ok(want)) => same_at(rt, run, step, &got, &text(rt, alloc, want)?),
+        (Ok(got), Err(_)) => assert!(rt; false, "{run}: {step:?} answers {got:?}"),
+        (Err(refusal), want) => expect_refusal(rt, run, step, refusal, want.as_ref().err())?,
     }
     Ok(())
 }
@@ -169,7 +177,7 @@ fn from_a_reader(rt: HostRuntime) -> Result<(), Fail> {
     for (run, bytes, steps) in &RUNS {
         let mut reader = Reader::new(rt.alloc(), Cursor::new(*bytes));
         for step in *steps {
-            take_step(&rt, rt.alloc(), &mut reader, &Row { run, step })?;
+            take_step(&rt, rt.alloc(), run, step, &mut reader)?;
         }
     }
     Ok(())
