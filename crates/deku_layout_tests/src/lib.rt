@@ -1,4 +1,4 @@
-//! Tests of numbers of `deku` under each layout, by the paths that users name: tables, and records of several numbers.
+//! Tests of numbers of `deku` under each layout, by the paths that users name: tables, records of several numbers, and a sweep.
 #![tactic(auto)]
 
 #[cfg(test)]
@@ -9,5 +9,9 @@ mod numbers;
 mod records;
 #[cfg(test)]
 mod signed;
+#[cfg(test)]
+mod slow;
+#[cfg(test)]
+mod sweep;
 #[cfg(test)]
 mod unsigned;
