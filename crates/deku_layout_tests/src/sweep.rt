@@ -180,7 +180,7 @@ fn expect_list<T: Swept + DekuReader<Layout> + DekuWriter<Layout> + PartialEq + 
             rt,
             &(field, count, pattern),
             &answer,
-            &(Ok(T::of(pattern)), count + field.width),
+            &(Ok(T::of(pattern)), count.saturating_add(field.width)),
         );
     }
 }

@@ -101,6 +101,7 @@ fn maps(rt: HostRuntime) -> Result<(), Fail> {
             )?,
         }
         same(&rt, bytes, &reader.bits_read(), bits);
+        same(&rt, bytes, &reader.rest()?.len(), &0);
     }
     Ok(())
 }
