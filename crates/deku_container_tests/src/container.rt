@@ -219,7 +219,12 @@ fn writes_bytes_and_bits(rt: HostRuntime) -> Result<(), Fail> {
         number: 0xC0FE,
     };
     let bytes = head.to_bytes(alloc)?;
-    same(&rt, &head, &bytes.as_slice(), &[0x69, 0xC0, 0xFE].as_slice());
+    same(
+        &rt,
+        &head,
+        &bytes.as_slice(),
+        &[0x69, 0xC0, 0xFE].as_slice(),
+    );
     Ok(())
 }
 
@@ -228,9 +233,19 @@ fn writes_over_slices(rt: HostRuntime) {
     let number = Pair { value: 0xBEEF };
     let mut page = [0xA5; 3];
     let answer = number.to_slice(&mut page[..1]);
-    same(&rt, &"one byte", &answer, &Err(DekuError::Io(ErrorKind::WriteZero)));
+    same(
+        &rt,
+        &"one byte",
+        &answer,
+        &Err(DekuError::Io(ErrorKind::WriteZero)),
+    );
     let answer = number.to_slice(&mut page);
-    same(&rt, &"three bytes", &(answer, page), &(Ok(2), [0xBE, 0xEF, 0xA5]));
+    same(
+        &rt,
+        &"three bytes",
+        &(answer, page),
+        &(Ok(2), [0xBE, 0xEF, 0xA5]),
+    );
 }
 
 // Where memory is refused, that is what is answered.

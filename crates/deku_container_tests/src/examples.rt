@@ -1,11 +1,12 @@
 //! The records of deku's own examples, written by hand.
 
-use deku::ctx::Order;
-use deku::ctx::Order::Lsb0;
-use deku::device::{Sink, Source};
 use deku::ctx::Endian::Big;
-use deku::ctx::{BitSize, ByteSize, Endian};
-use deku::prelude::{DekuContainerRead, DekuContainerWrite, DekuError, DekuReader, DekuWriter, Reader, Writer};
+use deku::ctx::Order::Lsb0;
+use deku::ctx::{BitSize, ByteSize, Endian, Order};
+use deku::device::{Sink, Source};
+use deku::prelude::{
+    DekuContainerRead, DekuContainerWrite, DekuError, DekuReader, DekuWriter, Reader, Writer,
+};
 
 // The head of a file system's node: all fields with their low bits first.
 #[derive(Debug, PartialEq, Eq, Drop)]

@@ -73,5 +73,10 @@ fn updates(rt: HostRuntime) -> Result<(), Fail> {
 #[test]
 fn names_variants(rt: HostRuntime) {
     same(&rt, &"point", &Shape::Point.deku_id(), &Ok(1));
-    same(&rt, &"circle", &Shape::Circle { radius: 3 }.deku_id(), &Ok(2));
+    same(
+        &rt,
+        &"circle",
+        &Shape::Circle { radius: 3 }.deku_id(),
+        &Ok(2),
+    );
 }

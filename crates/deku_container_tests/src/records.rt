@@ -1,10 +1,12 @@
 //! Records as a user writes them, by hand, with what reading and writing them means.
 
-use deku::ctx::Order::Lsb0;
-use deku::device::{Sink, Source};
 use deku::ctx::Endian::Big;
+use deku::ctx::Order::Lsb0;
 use deku::ctx::{BitSize, Endian};
-use deku::prelude::{DekuContainerRead, DekuContainerWrite, DekuError, DekuReader, DekuWriter, Reader, Writer};
+use deku::device::{Sink, Source};
+use deku::prelude::{
+    DekuContainerRead, DekuContainerWrite, DekuError, DekuReader, DekuWriter, Reader, Writer,
+};
 
 // One byte.
 #[derive(Debug, PartialEq, Eq, Drop)]
