@@ -1,5 +1,4 @@
-use Rattle.deku_bits.proofs.Handing.{passed_on}
-use Rattle.deku.proofs.Joining.{first_refused, then_on, answered}
+use Rattle.deku.proofs.Joining.{passed_on, first_refused, then_on, answered}
 use Rattle.deku_container_tests.proofs.examples.BytesDekuReaderUnit.from_reader_with_ctx.Goals as goal
 
 pub returns-in_err-two : goal.returns-in_err-two

@@ -1,5 +1,4 @@
-use Rattle.deku_bits.proofs.Handing.{passed_on}
-use Rattle.deku.proofs.Joining.{first_refused, then_on}
+use Rattle.deku.proofs.Joining.{passed_on, first_refused, then_on}
 use Rattle.deku_container_tests.proofs.examples.LsbFieldDekuWriterUnit.to_writer.Goals as goal
 
 pub returns-in_err-to_writer : goal.returns-in_err-to_writer

@@ -1,4 +1,4 @@
-use Rattle.deku_bits.proofs.Handing.{passed_on, mapped_ok, mapped_err}
+use Rattle.deku.proofs.Joining.{passed_on, mapped_ok, mapped_err}
 use Rattle.deku_container_tests.proofs.records.LowDekuReaderUnit.from_reader_with_ctx.Goals as goal
 
 pub returns-in_err-value : goal.returns-in_err-value
