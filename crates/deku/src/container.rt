@@ -231,6 +231,3 @@ fn push_bits(bits: &mut Vec<bool>, more: &BoundedBitVec<1>) -> Result<(), DekuEr
     }
     Ok(())
 }
-
-#[cfg(test)]
-mod tests;

@@ -14,8 +14,6 @@ mod option;
 mod primitive;
 mod reference;
 mod slice;
-#[cfg(test)]
-mod tests;
 mod tuple;
 mod unit;
 mod vec;

@@ -23,6 +23,3 @@ macro_rules! deku_error {
         $variant($text)
     }};
 }
-
-#[cfg(test)]
-mod tests;

@@ -1,0 +1,11 @@
+//! Tests of `deku`, by the paths that users name: whole records from bytes and as bytes.
+#![tactic(auto)]
+
+#[cfg(test)]
+mod container;
+#[cfg(test)]
+mod examples;
+#[cfg(test)]
+mod kept_in_step;
+#[cfg(test)]
+mod records;

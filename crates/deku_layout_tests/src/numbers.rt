@@ -1,0 +1,246 @@
+//! What rows of worked examples expect of numbers.
+
+ghost use Rattle.std.specs.Prelude.{◌≤◌};
+
+use deku::ctx::{Endian, Layout, Order, Size};
+use deku::prelude::{DekuError, DekuReader, DekuWriter, Reader, Writer};
+use std::alloc::Global;
+use std::fmt::Debug;
+use std::io::Cursor;
+use std::process::Abort;
+use std::test::Fail;
+
+pub const MISFIT: DekuError = DekuError::InvalidParam(
+    "bit size of input is larger than requested size",
+);
+
+// How a number lies, its bytes as digits, and its value.
+pub type Row<T> = (Endian, Order, Size, &'static str, T);
+
+// How a number lies, its bits, and a value that has no such bits.
+pub type Misfit<T> = (Endian, Order, usize, T);
+
+// What a hexadecimal digit counts.
+fn digit(code: u8) -> u8
+    ensures { result ≤ 15 }
+{
+    match code {
+        b'0'..=b'9' => code - b'0',
+        b'A'..=b'F' => code - b'A' + 10,
+        _ => 0,
+    }
+}
+
+// The bytes that pairs of hexadecimal digits name.
+fn bytes_of(rt: &impl Abort, digits: &str) -> ([u8; 16], usize)
+    ensures { result.1 ≤ 16 }
+{
+    let mut bytes = [0; 16];
+    for (byte, pair) in bytes.iter_mut().zip(digits.as_bytes().chunks(2)) {
+        if let [high, low] = pair {
+            *byte = 16 * digit(*high) + digit(*low);
+        }
+    }
+    assert!(rt; digits.len() <= 32, "{digits}");
+    (bytes, digits.len() / 2)
+}
+
+// Each row's bytes are read as its value, to the last byte.
+fn expect_reads<T: DekuReader<Layout> + PartialEq + Debug>(
+    rt: &impl Abort,
+    alloc: Global,
+    rows: &[Row<T>],
+) -> Result<(), Fail>
+    requires { (layout : Layout) → T.accepts layout }
+{
+    for (endian, order, size, digits, want) in rows {
+        let (bytes, len) = bytes_of(rt, digits);
+        let layout = Layout {
+            endian: *endian,
+            order: *order,
+            size: *size,
+        };
+        let mut reader = Reader::new(alloc, Cursor::new(&bytes[..len]));
+        let value = T::from_reader_with_ctx(&mut reader, layout)?;
+        assert_eq!(rt; value, *want, "of {digits} under {layout:?}");
+        assert_eq!(rt;
+            reader.bits_read().div_ceil(8),
+            len,
+            "of {digits} under {layout:?}"
+        );
+    }
+    Ok(())
+}
+
+// Writes the value over a page, fills the last byte, and tells how many bytes it took.
+fn written_over<T: DekuWriter<Layout>>(
+    page: &mut [u8; 16],
+    value: &T,
+    layout: Layout,
+) -> Result<u64, DekuError>
+    requires { (layout : Layout) → T.accepts layout }
+{
+    let mut writer = Writer::new(Cursor::new(page.as_mut_slice()));
+    value.to_writer(&mut writer, layout)?;
+    writer.finalize()?;
+    Ok(writer.into_inner().position())
+}
+
+// Each row's value is written as its bytes.
+fn expect_writes<T: DekuWriter<Layout> + Debug>(
+    rt: &impl Abort,
+    rows: &[Row<T>],
+) -> Result<(), Fail>
+    requires { (layout : Layout) → T.accepts layout }
+{
+    for (endian, order, size, digits, value) in rows {
+        let (bytes, len) = bytes_of(rt, digits);
+        let layout = Layout {
+            endian: *endian,
+            order: *order,
+            size: *size,
+        };
+        let mut page = [0xA5; 16];
+        let end = written_over(&mut page, value, layout)?;
+        assert_eq!(rt; end, len as u64, "{value:?} under {layout:?}");
+        assert_eq!(rt; &page[..len], &bytes[..len], "{value:?} under {layout:?}");
+    }
+    Ok(())
+}
+
+// The values do not fit, and nothing is written.
+fn expect_misfits<T: DekuWriter<Layout> + Debug>(
+    rt: &impl Abort,
+    alloc: Global,
+    rows: &[Misfit<T>],
+) -> Result<(), Fail>
+    requires { (layout : Layout) → T.accepts layout }
+{
+    for (endian, order, bits, value) in rows {
+        let layout = Layout {
+            endian: *endian,
+            order: *order,
+            size: Size::Bits(*bits),
+        };
+        expect_unwritten(rt, alloc, value, layout, MISFIT)?;
+    }
+    Ok(())
+}
+
+// A layout refuses to be read with this error, and the reader stands where it stood.
+fn expect_unread<T: DekuReader<Layout> + Debug>(
+    rt: &impl Abort,
+    alloc: Global,
+    layout: Layout,
+    error: DekuError,
+) -> Result<(), Fail>
+    requires { (layout : Layout) → T.accepts layout }
+{
+    let bytes: &[u8] = &[0xA5; 24];
+    let mut reader = Reader::new(alloc, Cursor::new(bytes));
+    assert_eq!(rt;
+        T::from_reader_with_ctx(&mut reader, layout).err(),
+        Some(error),
+        "under {layout:?}"
+    );
+    assert_eq!(rt; reader.bits_read(), 0, "under {layout:?}");
+    let mut byte = [0];
+    reader.read_bytes_const_into(&mut byte, Order::Msb0)?;
+    assert_eq!(rt; byte, [0xA5], "under {layout:?}");
+    assert_eq!(rt; reader.into_inner().position(), 1, "under {layout:?}");
+    Ok(())
+}
+
+// A layout refuses to be written with this error, and nothing is written.
+fn expect_unwritten<T: DekuWriter<Layout> + Debug>(
+    rt: &impl Abort,
+    alloc: Global,
+    value: &T,
+    layout: Layout,
+    error: DekuError,
+) -> Result<(), Fail>
+    requires { (layout : Layout) → T.accepts layout }
+{
+    let mut writer = Writer::new(Cursor::new(Vec::new(alloc)));
+    assert_eq!(rt;
+        value.to_writer(&mut writer, layout),
+        Err(error),
+        "{value:?} under {layout:?}"
+    );
+    writer.finalize()?;
+    assert!(rt;
+        writer.into_inner().into_inner().is_empty(),
+        "{value:?} under {layout:?}"
+    );
+    Ok(())
+}
+
+// A layout refuses to be read and to be written with these errors, and nothing moves.
+pub fn expect_beyond<T: DekuReader<Layout> + DekuWriter<Layout> + Debug>(
+    rt: &impl Abort,
+    alloc: Global,
+    value: T,
+    layout: Layout,
+    errors: (DekuError, DekuError),
+) -> Result<(), Fail>
+    requires reads { (layout : Layout) → T.DekuReader.accepts layout }
+    requires writes { (layout : Layout) → T.DekuWriter.accepts layout }
+{
+    expect_unread::<T>(rt, alloc, layout, errors.0)?;
+    expect_unwritten(rt, alloc, &value, layout, errors.1)
+}
+
+// One bit and one byte more than a type has are refused.
+pub fn expect_one_beyond<T: Copy + DekuReader<Layout> + DekuWriter<Layout> + Debug>(
+    rt: &impl Abort,
+    alloc: Global,
+    value: T,
+    bits: usize,
+) -> Result<(), Fail>
+    requires reads { (layout : Layout) → T.DekuReader.accepts layout }
+    requires writes { (layout : Layout) → T.DekuWriter.accepts layout }
+{
+    let (endian, order) = (Endian::Big, Order::Lsb0);
+    let read = DekuError::Parse("too much data");
+    let size = Size::Bits(bits.saturating_add(1));
+    let written = DekuError::InvalidParam("bit size is larger than input");
+    expect_beyond(
+        rt,
+        alloc,
+        value,
+        Layout {
+            endian,
+            order,
+            size,
+        },
+        (read, written),
+    )?;
+    let size = Size::Bytes(bits / 8 + 1);
+    let written = DekuError::InvalidParam("byte size is larger than input");
+    expect_beyond(
+        rt,
+        alloc,
+        value,
+        Layout {
+            endian,
+            order,
+            size,
+        },
+        (read, written),
+    )
+}
+
+// The rows of a type are read and written, and its misfits are refused.
+pub fn expect_rows<T: DekuReader<Layout> + DekuWriter<Layout> + PartialEq + Debug>(
+    rt: &impl Abort,
+    alloc: Global,
+    rows: &[Row<T>],
+    misfits: &[Misfit<T>],
+) -> Result<(), Fail>
+    requires reads { (layout : Layout) → T.DekuReader.accepts layout }
+    requires writes { (layout : Layout) → T.DekuWriter.accepts layout }
+{
+    expect_reads(rt, alloc, rows)?;
+    expect_writes(rt, rows)?;
+    expect_misfits(rt, alloc, misfits)
+}

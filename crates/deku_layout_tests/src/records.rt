@@ -1,0 +1,501 @@
+//! Records: numbers and pairs, one after the other, each under a context of its own.
+
+use super::expecting::{expect_bytes, expect_next, same};
+use super::numbers::{MISFIT, expect_beyond};
+use deku::ctx::Endian::{Big, Little};
+use deku::ctx::Order::{Lsb0, Msb0};
+use deku::ctx::{BitSize, ByteSize, Endian, Layout, NumberCtx, Order, Size};
+use deku::prelude::{DekuError, DekuReader, DekuWriter, NeedSize, Reader, Writer};
+use std::alloc::Global;
+use std::io::Cursor;
+use std::process::Abort;
+use std::test::Fail;
+
+// A number of a type.
+#[derive(Clone, Copy, Debug)]
+enum Number {
+    U8(u8),
+    U16(u16),
+    U32(u32),
+    I32(i32),
+}
+
+// A context of each type that there is.
+#[derive(Clone, Copy, Debug)]
+enum Under {
+    Nothing,
+    One(Endian),
+    Turned(Order),
+    Sized(Size),
+    Bytes(usize),
+    Bits(usize),
+    OneTurned(Endian, Order),
+    OneBytes(Endian, usize),
+    OneBits(Endian, usize),
+    BitsTurned(usize, Order),
+    OneBytesTurned(Endian, usize, Order),
+    OneBitsTurned(Endian, usize, Order),
+    Laid(Layout),
+}
+
+type Field = (Number, Under);
+
+// The number is read under the context.
+fn expect_number<C: NumberCtx>(
+    rt: &impl Abort,
+    row: &(&str, &Field),
+    reader: &mut Reader<Cursor<&[u8]>>,
+    ctx: C,
+) -> Result<(), Fail> {
+    match &row.1.0 {
+        Number::U8(want) => same(rt, row, &u8::from_reader_with_ctx(reader, ctx)?, want),
+        Number::U16(want) => same(rt, row, &u16::from_reader_with_ctx(reader, ctx)?, want),
+        Number::U32(want) => same(rt, row, &u32::from_reader_with_ctx(reader, ctx)?, want),
+        Number::I32(want) => same(rt, row, &i32::from_reader_with_ctx(reader, ctx)?, want),
+    }
+    Ok(())
+}
+
+fn expect_field(
+    rt: &impl Abort,
+    row: &(&str, &Field),
+    reader: &mut Reader<Cursor<&[u8]>>,
+) -> Result<(), Fail> {
+    match row.1.1 {
+        Under::Nothing => expect_number(rt, row, reader, ()),
+        Under::One(endian) => expect_number(rt, row, reader, endian),
+        Under::Turned(order) => expect_number(rt, row, reader, order),
+        Under::Sized(size) => expect_number(rt, row, reader, size),
+        Under::Bytes(n) => expect_number(rt, row, reader, ByteSize(n)),
+        Under::Bits(n) => expect_number(rt, row, reader, BitSize(n)),
+        Under::OneTurned(endian, order) => expect_number(rt, row, reader, (endian, order)),
+        Under::OneBytes(endian, n) => expect_number(rt, row, reader, (endian, ByteSize(n))),
+        Under::OneBits(endian, n) => expect_number(rt, row, reader, (endian, BitSize(n))),
+        Under::BitsTurned(n, order) => expect_number(rt, row, reader, (BitSize(n), order)),
+        Under::OneBytesTurned(endian, n, order) => {
+            expect_number(rt, row, reader, (endian, ByteSize(n), order))
+        }
+        Under::OneBitsTurned(endian, n, order) => {
+            expect_number(rt, row, reader, (endian, BitSize(n), order))
+        }
+        Under::Laid(layout) => expect_number(rt, row, reader, layout),
+    }
+}
+
+type Page = Writer<Cursor<Vec<u8>>>;
+
+// Writes the number under the context.
+fn write_number<C: NumberCtx>(writer: &mut Page, number: Number, ctx: C) -> Result<(), DekuError> {
+    match number {
+        Number::U8(value) => value.to_writer(writer, ctx),
+        Number::U16(value) => value.to_writer(writer, ctx),
+        Number::U32(value) => value.to_writer(writer, ctx),
+        Number::I32(value) => value.to_writer(writer, ctx),
+    }
+}
+
+fn write_field(writer: &mut Page, field: &Field) -> Result<(), DekuError> {
+    let number = field.0;
+    match field.1 {
+        Under::Nothing => write_number(writer, number, ()),
+        Under::One(endian) => write_number(writer, number, endian),
+        Under::Turned(order) => write_number(writer, number, order),
+        Under::Sized(size) => write_number(writer, number, size),
+        Under::Bytes(n) => write_number(writer, number, ByteSize(n)),
+        Under::Bits(n) => write_number(writer, number, BitSize(n)),
+        Under::OneTurned(endian, order) => write_number(writer, number, (endian, order)),
+        Under::OneBytes(endian, n) => write_number(writer, number, (endian, ByteSize(n))),
+        Under::OneBits(endian, n) => write_number(writer, number, (endian, BitSize(n))),
+        Under::BitsTurned(n, order) => write_number(writer, number, (BitSize(n), order)),
+        Under::OneBytesTurned(endian, n, order) => {
+            write_number(writer, number, (endian, ByteSize(n), order))
+        }
+        Under::OneBitsTurned(endian, n, order) => {
+            write_number(writer, number, (endian, BitSize(n), order))
+        }
+        Under::Laid(layout) => write_number(writer, number, layout),
+    }
+}
+
+// A name, bytes, the fields that they are, how many bits these take, and those left of the last byte.
+type Record = (
+    &'static str,
+    &'static [u8],
+    &'static [Field],
+    usize,
+    &'static [bool],
+);
+
+// Records that are read.
+fn expect_read(rt: &impl Abort, alloc: Global, records: &[Record]) -> Result<(), Fail> {
+    for (name, bytes, fields, bits, rest) in records {
+        let mut reader = Reader::new(alloc, Cursor::new(*bytes));
+        for field in *fields {
+            expect_field(rt, &(*name, field), &mut reader)?;
+        }
+        same(rt, name, &reader.bits_read(), bits);
+        same(rt, name, &reader.rest()?.as_slice(), rest);
+    }
+    Ok(())
+}
+
+// Records that are written.
+fn expect_records_written(rt: &impl Abort, alloc: Global, records: &[Record]) -> Result<(), Fail> {
+    for (name, bytes, fields, bits, _) in records {
+        let mut writer = Writer::new(Cursor::new(Vec::new(alloc)));
+        for field in *fields {
+            write_field(&mut writer, field)?;
+        }
+        same(rt, name, &writer.bits_written(), &(bits / 8 * 8));
+        expect_bytes(rt, name, writer, bytes)?;
+    }
+    Ok(())
+}
+
+const BEEF: Number = Number::U16(0xBEEF);
+
+const TEN: Number = Number::U16(0x3AB);
+
+// Number of sixteen bits, under a context of each type.
+const CONTEXTS: [Record; 13] = [
+    ("none", &[0xEF, 0xBE], &[(BEEF, Under::Nothing)], 16, &[]),
+    ("endian", &[0xBE, 0xEF], &[(BEEF, Under::One(Big))], 16, &[]),
+    (
+        "order",
+        &[0xEF, 0xBE],
+        &[(BEEF, Under::Turned(Lsb0))],
+        16,
+        &[],
+    ),
+    (
+        "size",
+        &[0xAB, 0xC0],
+        &[(TEN, Under::Sized(Size::Bits(10)))],
+        10,
+        &[false; 6],
+    ),
+    (
+        "byte",
+        &[0xAB],
+        &[(Number::U16(0xAB), Under::Bytes(1))],
+        8,
+        &[],
+    ),
+    (
+        "bits",
+        &[0xAB, 0xC0],
+        &[(TEN, Under::Bits(10))],
+        10,
+        &[false; 6],
+    ),
+    (
+        "endian, order",
+        &[0xBE, 0xEF],
+        &[(BEEF, Under::OneTurned(Big, Lsb0))],
+        16,
+        &[],
+    ),
+    (
+        "endian, bytes",
+        &[0xBE, 0xEF],
+        &[(BEEF, Under::OneBytes(Big, 2))],
+        16,
+        &[],
+    ),
+    (
+        "endian, bits",
+        &[0xEA, 0xC0],
+        &[(TEN, Under::OneBits(Big, 10))],
+        10,
+        &[false; 6],
+    ),
+    (
+        "bits, order",
+        &[0xAB, 0x03],
+        &[(TEN, Under::BitsTurned(10, Lsb0))],
+        10,
+        &[false; 6],
+    ),
+    (
+        "endian, bits, order",
+        &[0x10, 0x01],
+        &[(Number::U16(0x1001), Under::OneBitsTurned(Big, 13, Lsb0))],
+        13,
+        &[false; 3],
+    ),
+    (
+        "endian, bytes, order",
+        &[0xBE, 0xEF],
+        &[(BEEF, Under::OneBytesTurned(Big, 2, Lsb0))],
+        16,
+        &[],
+    ),
+    (
+        "layout",
+        &[0xEA, 0xC0],
+        &[(
+            TEN,
+            Under::Laid(Layout {
+                endian: Big,
+                order: Msb0,
+                size: Size::Bits(10),
+            }),
+        )],
+        10,
+        &[false; 6],
+    ),
+];
+
+#[test]
+fn under_each_context(rt: HostRuntime) -> Result<(), Fail> {
+    expect_read(&rt, rt.alloc(), &CONTEXTS)?;
+    expect_records_written(&rt, rt.alloc(), &CONTEXTS)
+}
+
+const NIBBLE: Under = Under::OneBits(Big, 4);
+
+const BIT: Under = Under::OneBits(Big, 1);
+
+const LOW: Under = Under::Turned(Lsb0);
+
+const BOTH_WAYS: [Record; 5] = [
+    (
+        "low bits first",
+        &[0x31, 0x12, 0x04, 0x05, 0x06, 0, 0, 0, 0x07, 0, 0, 0],
+        &[
+            (Number::U8(1), Under::BitsTurned(4, Lsb0)),
+            (Number::U16(0x123), Under::BitsTurned(12, Lsb0)),
+            (Number::U8(4), LOW),
+            (Number::U8(5), LOW),
+            (Number::U32(6), LOW),
+            (Number::U32(7), LOW),
+        ],
+        96,
+        &[],
+    ),
+    (
+        "a number across bytes",
+        &[0xA1, 0x34, 0x12],
+        &[
+            (Number::U8(1), Under::BitsTurned(5, Lsb0)),
+            (Number::U16(0x91A5), LOW),
+            (Number::U8(0), Under::BitsTurned(3, Lsb0)),
+        ],
+        24,
+        &[],
+    ),
+    (
+        "both orders",
+        &[0x10, 0x81, 0xAB, 0x96],
+        &[
+            (Number::U16(0x1001), Under::OneBitsTurned(Big, 13, Lsb0)),
+            (Number::U8(4), Under::OneBitsTurned(Big, 3, Lsb0)),
+            (Number::U8(0xAB), Under::One(Big)),
+            (Number::U8(1), BIT),
+            (Number::U8(0), BIT),
+            (Number::U8(0), BIT),
+            (Number::U8(22), Under::OneBits(Big, 5)),
+        ],
+        32,
+        &[],
+    ),
+    (
+        "a field below a field",
+        &[0x40, 0x40],
+        &[
+            (Number::U16(0x40), Under::BitsTurned(13, Lsb0)),
+            (Number::U8(2), Under::BitsTurned(3, Lsb0)),
+        ],
+        16,
+        &[],
+    ),
+    // Fields of no bits are read from nothing.
+    (
+        "no bits",
+        &[],
+        &[
+            (Number::U8(0), Under::Bits(0)),
+            (Number::U16(0), Under::Bytes(0)),
+        ],
+        0,
+        &[],
+    ),
+];
+
+#[test]
+fn both_ways(rt: HostRuntime) -> Result<(), Fail> {
+    expect_read(&rt, rt.alloc(), &BOTH_WAYS)?;
+    expect_records_written(&rt, rt.alloc(), &BOTH_WAYS)
+}
+
+const READ: [Record; 7] = [
+    (
+        "nibbles before a number",
+        &[0x69, 0xBE, 0xEF],
+        &[
+            (Number::U8(6), NIBBLE),
+            (Number::U8(9), NIBBLE),
+            (BEEF, Under::One(Big)),
+        ],
+        24,
+        &[],
+    ),
+    (
+        "bytes of a wider number",
+        &[0xAB, 0xCD, 0xFF],
+        &[
+            (Number::U32(0xCDAB), Under::Bytes(2)),
+            (Number::U8(0xFF), Under::Nothing),
+        ],
+        24,
+        &[],
+    ),
+    // What a field leaves of its last byte is there to be read.
+    (
+        "three bits left",
+        &[0x10, 0x81],
+        &[(Number::U32(0x1001), Under::OneBitsTurned(Big, 13, Lsb0))],
+        13,
+        &[true, false, false],
+    ),
+    (
+        "four bits left, little",
+        &[0x96, 0xE0, 0xCC, 0xDD],
+        &[(Number::U32(0xE96), Under::OneBits(Little, 12))],
+        12,
+        &[false, false, false, false],
+    ),
+    (
+        "four bits left, big",
+        &[0x96, 0xE0, 0xCC, 0xDD],
+        &[(Number::U32(0x96E), Under::OneBits(Big, 12))],
+        12,
+        &[false, false, false, false],
+    ),
+    (
+        "four bits left behind two fields",
+        &[0x69, 0xE9],
+        &[
+            (Number::U8(0x1A), Under::Bits(6)),
+            (Number::U8(0x1E), Under::Bits(6)),
+        ],
+        12,
+        &[true, false, false, true],
+    ),
+    (
+        "two high bits left",
+        &[0x0D],
+        &[
+            (Number::U8(1), Under::BitsTurned(2, Lsb0)),
+            (Number::U8(3), Under::BitsTurned(2, Lsb0)),
+            (Number::U8(0), Under::BitsTurned(2, Lsb0)),
+        ],
+        6,
+        &[false, false],
+    ),
+];
+
+#[test]
+fn read(rt: HostRuntime) -> Result<(), Fail> {
+    expect_read(&rt, rt.alloc(), &READ)
+}
+
+const WRITTEN: [Record; 2] = [
+    (
+        "nibbles before a number",
+        &[0x69, 0xC0, 0xFE],
+        &[
+            (Number::U8(6), NIBBLE),
+            (Number::U8(9), NIBBLE),
+            (Number::U16(0xC0FE), Under::One(Big)),
+        ],
+        24,
+        &[],
+    ),
+    (
+        "bytes of a wider number",
+        &[0xAB, 0xCD, 0x03, 0x04, 0xAB, 0xFF, 0xFE],
+        &[
+            (Number::U32(0xCDAB), Under::Bytes(2)),
+            (Number::U32(0x01020304), Under::OneBytes(Big, 2)),
+            (Number::U8(0xAB), Under::Bytes(9)),
+            (Number::I32(-2), Under::OneBytes(Big, 2)),
+        ],
+        56,
+        &[],
+    ),
+];
+
+#[test]
+fn written(rt: HostRuntime) -> Result<(), Fail> {
+    expect_records_written(&rt, rt.alloc(), &WRITTEN)
+}
+
+// No field takes more bits than its type has.
+#[test]
+fn too_many_bits(rt: HostRuntime) -> Result<(), Fail> {
+    let read = DekuError::Parse("too much data");
+    let written = DekuError::InvalidParam("bit size is larger than input");
+    expect_beyond(&rt, rt.alloc(), 0u8, BitSize(9).parts(), (read, written))
+}
+
+// What does not fit leaves what was pending, and the next field is behind that.
+#[test]
+fn a_misfit_between_fields(rt: HostRuntime) -> Result<(), Fail> {
+    let ten = (Little, BitSize(10));
+    let mut writer = Writer::new(Cursor::new(Vec::new(rt.alloc())));
+    0x3ABu16.to_writer(&mut writer, ten)?;
+    let answer = 0x400u16.to_writer(&mut writer, ten);
+    same(
+        &rt,
+        &"misfit",
+        &(answer, writer.bits_written()),
+        &(Err(MISFIT), 8),
+    );
+    15u8.to_writer(&mut writer, BitSize(4))?;
+    expect_bytes(&rt, &"around the misfit", writer, &[0xAB, 0xFC])
+}
+
+// A pair is its first, then its second, under one context.
+#[test]
+fn pairs(rt: HostRuntime) -> Result<(), Fail> {
+    let bytes: &[u8] = &[0x04, 0xF0, 0x80, 0x69, 0xBE, 0xEF, 0x1B];
+    let mut reader = Reader::new(rt.alloc(), Cursor::new(bytes));
+    expect_next(&rt, &mut reader, BitSize(6), (1u8, 15u8), 12)?;
+    expect_next(&rt, &mut reader, BitSize(6), (2u8, 0u8), 24)?;
+    expect_next(&rt, &mut reader, Big, (0x69u8, 0xBEEFu16), 48)?;
+    expect_next(&rt, &mut reader, BitSize(2), ((0u8, 1u8), 2u8), 54)?;
+    same(
+        &rt,
+        &"left",
+        &reader.rest()?.as_slice(),
+        &[true, true].as_slice(),
+    );
+    let mut writer = Writer::new(Cursor::new(Vec::new(rt.alloc())));
+    (1u8, 15u8).to_writer(&mut writer, BitSize(6))?;
+    (2u8, 0u8).to_writer(&mut writer, BitSize(6))?;
+    (0x69u8, 0xBEEFu16).to_writer(&mut writer, Big)?;
+    ((0u8, 1u8), (2u8, 3u8)).to_writer(&mut writer, BitSize(2))?;
+    expect_bytes(&rt, &"pairs", writer, bytes)
+}
+
+// A pair whose second is refused has moved its first.
+#[test]
+fn half_a_pair(rt: HostRuntime) -> Result<(), Fail> {
+    let mut reader = Reader::new(rt.alloc(), Cursor::new([0x69].as_slice()));
+    let ended = DekuError::Incomplete(NeedSize::new(16));
+    let answer = <(u8, u16)>::from_reader_with_ctx(&mut reader, Big);
+    same(
+        &rt,
+        &"half",
+        &(answer, reader.bits_read()),
+        &(Err(ended), 8),
+    );
+    same(&rt, &"left", &reader.rest()?.len(), &0);
+    let answer = u8::from_reader_with_ctx(&mut reader, BitSize(0));
+    same(&rt, &"behind it", &answer, &Err(ended));
+    let mut writer = Writer::new(Cursor::new(Vec::new(rt.alloc())));
+    let answer = (5u8, 16u8).to_writer(&mut writer, BitSize(4));
+    same(&rt, &"misfit", &answer, &Err(MISFIT));
+    expect_bytes(&rt, &"before the misfit", writer, &[0x50])
+}

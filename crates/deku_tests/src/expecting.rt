@@ -1,0 +1,167 @@
+//! What values and their bytes are expected to be to one another.
+
+use deku::prelude::{DekuError, DekuReader, DekuWriter, NeedSize, Reader, Writer};
+use std::alloc::Global;
+use std::fmt::Debug;
+use std::io::{Cursor, ErrorKind};
+use std::process::Abort;
+use std::test::Fail;
+
+pub const MISFIT: DekuError = DekuError::InvalidParam(
+    "bit size of input is larger than requested size",
+);
+
+pub const NO_MEMORY: DekuError = DekuError::Io(ErrorKind::OutOfMemory);
+
+// A refusal in a table: the end of input, where so many bits were wanted, or another one.
+#[derive(Clone, Copy, Debug)]
+pub enum Refusal {
+    Ended(usize),
+    Said(DekuError),
+}
+
+impl Refusal {
+    pub fn error(self) -> DekuError {
+        match self {
+            Refusal::Ended(bits) => DekuError::Incomplete(NeedSize::new(bits)),
+            Refusal::Said(error) => error,
+        }
+    }
+}
+
+// What a call that takes memory answers, in a table.
+pub type Answer<T> = Result<&'static [T], Refusal>;
+
+// What was got is what was wanted, in the row of this name.
+pub fn same<T: PartialEq + Debug>(rt: &impl Abort, row: &impl Debug, got: &T, want: &T) {
+    assert_eq!(rt; *got, *want, "{row:?}");
+}
+
+// So of a step of a run.
+pub fn same_at<T: PartialEq + Debug>(
+    rt: &impl Abort,
+    run: &str,
+    step: &impl Debug,
+    got: &T,
+    want: &T,
+) {
+    assert_eq!(rt; *got, *want, "{run}: {step:?}");
+}
+
+// What the writer wrote, with the last byte filled, are these bytes.
+pub fn expect_bytes(
+    rt: &impl Abort,
+    row: &impl Debug,
+    mut writer: Writer<Cursor<Vec<u8>>>,
+    want: &[u8],
+) -> Result<(), Fail> {
+    writer.finalize()?;
+    same(rt, row, &writer.into_inner().into_inner().as_slice(), &want);
+    Ok(())
+}
+
+// The value is written as these bytes, with the last one filled.
+pub fn expect_written<T: DekuWriter<C> + Debug, C>(
+    rt: &impl Abort,
+    alloc: Global,
+    ctx: C,
+    value: &T,
+    want: &[u8],
+) -> Result<(), Fail>
+    requires { T.accepts ctx }
+{
+    let mut writer = Writer::new(Cursor::new(Vec::new(alloc)));
+    value.to_writer(&mut writer, ctx)?;
+    expect_bytes(rt, value, writer, want)
+}
+
+// The next value, under this context, is this one, and then so many bits are read.
+pub fn expect_next<T: DekuReader<C> + PartialEq + Debug, C>(
+    rt: &impl Abort,
+    reader: &mut Reader<Cursor<&[u8]>>,
+    ctx: C,
+    want: T,
+    bits: usize,
+) -> Result<(), Fail>
+    requires { T.accepts ctx }
+{
+    let value = T::from_reader_with_ctx(reader, ctx)?;
+    same(rt, &bits, &value, &want);
+    same(rt, &value, &reader.bits_read(), &bits);
+    Ok(())
+}
+
+// The bytes are read as the value, to the last byte, and it is written as them.
+pub fn expect_whole<T: DekuReader<C> + DekuWriter<C> + PartialEq + Debug, C: Copy>(
+    rt: &impl Abort,
+    alloc: Global,
+    ctx: C,
+    bytes: &[u8],
+    want: T,
+) -> Result<(), Fail>
+    requires reads { T.DekuReader.accepts ctx }
+    requires writes { T.DekuWriter.accepts ctx }
+{
+    let mut reader = Reader::new(alloc, Cursor::new(bytes));
+    let value = T::from_reader_with_ctx(&mut reader, ctx)?;
+    same(rt, &bytes, &value, &want);
+    same(rt, &value, &reader.bits_read().div_ceil(8), &bytes.len());
+    expect_written(rt, alloc, ctx, &value, bytes)
+}
+
+// The bytes are refused with this text after so many bits, and the byte behind is read then.
+pub fn expect_denied<T: DekuReader<C> + PartialEq + Debug, C: Copy>(
+    rt: &impl Abort,
+    alloc: Global,
+    ctx: C,
+    bytes: &[u8],
+    want: (DekuError, usize, u8),
+) -> Result<(), Fail>
+    requires { T.accepts ctx }
+{
+    let mut reader = Reader::new(alloc, Cursor::new(bytes));
+    let answer = T::from_reader_with_ctx(&mut reader, ctx);
+    same(rt, &bytes, &answer, &Err(want.0));
+    same(rt, &bytes, &reader.bits_read(), &want.1);
+    same(
+        rt,
+        &bytes,
+        &u8::from_reader_with_ctx(&mut reader, ())?,
+        &want.2,
+    );
+    Ok(())
+}
+
+// A call that takes memory answers these items or this refusal; where no memory was found, that is handed on.
+pub fn expect_answer<T: PartialEq + Debug + Drop>(
+    rt: &impl Abort,
+    run: &str,
+    step: &impl Debug,
+    answer: Result<Vec<T>, DekuError>,
+    want: &Result<&[T], Refusal>,
+) -> Result<(), Fail> {
+    match (answer, want) {
+        (Ok(items), Ok(want)) => assert_eq!(rt; items.as_slice(), *want, "{run}: {step:?}"),
+        (Ok(items), Err(_)) => assert!(rt; false, "{run}: {step:?} answers {items:?}"),
+        (Err(refusal), want) => expect_refusal(rt, run, step, refusal, want.as_ref().err())?,
+    }
+    Ok(())
+}
+
+// This is the refusal that is wanted; where no memory was found, that is handed on.
+pub fn expect_refusal(
+    rt: &impl Abort,
+    run: &str,
+    step: &impl Debug,
+    refusal: DekuError,
+    want: Option<&Refusal>,
+) -> Result<(), Fail> {
+    if refusal == NO_MEMORY {
+        return Err(Fail::from(NO_MEMORY));
+    }
+    match want {
+        Some(want) => assert_eq!(rt; refusal, want.error(), "{run}: {step:?}"),
+        None => assert!(rt; false, "{run}: {step:?} answers {refusal:?}"),
+    }
+    Ok(())
+}

@@ -1,0 +1,181 @@
+//! Maps and sets under limits.
+
+use super::expecting::Refusal::Ended;
+use super::expecting::{Refusal, expect_refusal, expect_written, same};
+use deku::ctx::Endian::Little;
+use deku::ctx::{BitSize, Limit};
+use deku::prelude::{DekuError, DekuReader, DekuWriter, Reader, Writer};
+use std::alloc::Global;
+use std::collections::{HashMap, HashSet};
+use std::hash::{BuildHasherDefault, FoldHasher};
+use std::io::Cursor;
+use std::process::Abort;
+use std::test::Fail;
+
+type Hasher = BuildHasherDefault<FoldHasher>;
+
+type Map<K, V> = HashMap<K, V, Hasher>;
+
+type Set<T> = HashSet<T, Hasher>;
+
+// Where a map ends, and under what.
+#[derive(Debug)]
+enum Stop {
+    // Behind two pairs, each of two numbers of six bits, and of two bytes.
+    TwoOfSixBits,
+    Two,
+    // Behind a pair whose key is 0.
+    Zero,
+    End,
+}
+
+fn read_map(reader: &mut Reader<Cursor<&[u8]>>, stop: &Stop) -> Result<Map<u8, u8>, DekuError> {
+    match stop {
+        Stop::TwoOfSixBits => {
+            let pairs = (Limit::new_count(2), (Little, BitSize(6)));
+            Map::from_reader_with_ctx(reader, pairs)
+        }
+        Stop::Two => Map::from_reader_with_ctx(reader, Limit::new_count(2)),
+        Stop::Zero => {
+            let zero = Limit::new_until(|pair: &(u8, u8)| pair.0 == 0);
+            Map::from_reader_with_ctx(reader, zero)
+        }
+        Stop::End => Map::from_reader_with_ctx(reader, Limit::end()),
+    }
+}
+
+// Bytes, where a map ends in them, its pairs or its refusal, and how many bits are read then.
+type Row = (
+    &'static [u8],
+    Stop,
+    Result<&'static [(u8, u8)], Refusal>,
+    usize,
+);
+
+const ROWS: [Row; 4] = [
+    (
+        &[0x04, 0xF0, 0x80],
+        Stop::TwoOfSixBits,
+        Ok(&[(1, 15), (2, 0)]),
+        24,
+    ),
+    // The limit counts pairs, and the last value of a key stays.
+    (
+        &[0x01, 0xAA, 0x01, 0xBB, 0x02],
+        Stop::Two,
+        Ok(&[(1, 0xBB)]),
+        32,
+    ),
+    // A map's predicate is asked about pairs, the key first.
+    (
+        &[0x01, 0xAA, 0x00, 0xBB, 0x02, 0xCC],
+        Stop::Zero,
+        Ok(&[(0, 0xBB), (1, 0xAA)]),
+        32,
+    ),
+    // A map refused in a pair is refused behind what of it was read.
+    (&[1, 2, 3], Stop::End, Err(Ended(8)), 24),
+];
+
+// The map has these pairs, and no others.
+fn expect_pairs(rt: &impl Abort, row: &[u8], map: &Map<u8, u8>, pairs: &[(u8, u8)]) {
+    same(rt, &row, &map.len(), &pairs.len());
+    for (key, value) in pairs {
+        same(rt, &(row, key), &map.get(key).copied(), &Some(*value));
+    }
+}
+
+#[test]
+fn maps(rt: HostRuntime) -> Result<(), Fail> {
+    for (bytes, stop, want, bits) in &ROWS {
+        let mut reader = Reader::new(rt.alloc(), Cursor::new(*bytes));
+        match (read_map(&mut reader, stop), want) {
+            (Ok(map), Ok(pairs)) => expect_pairs(&rt, bytes, &map, pairs),
+            (Ok(_), Err(_)) => assert!(rt; false, "{bytes:?} is read"),
+            (Err(refusal), want) => expect_refusal(
+                &rt,
+                "maps",
+                bytes,
+                refusal,
+                want.as_ref().err(),
+            )?,
+        }
+        same(&rt, bytes, &reader.bits_read(), bits);
+        same(&rt, bytes, &reader.rest()?.len(), &0);
+    }
+    Ok(())
+}
+
+#[test]
+fn maps_written(rt: HostRuntime) -> Result<(), Fail> {
+    let mut map: Map<u8, u32> = HashMap::with_hasher(rt.alloc(), Hasher::default());
+    expect_written(&rt, rt.alloc(), Little, &map, &[])?;
+    map.insert(100, 0x04030201)?;
+    expect_written(
+        &rt,
+        rt.alloc(),
+        Little,
+        &map,
+        &[0x64, 0x01, 0x02, 0x03, 0x04],
+    )
+}
+
+#[test]
+fn sets(rt: HostRuntime) -> Result<(), Fail> {
+    let mut reader = Reader::new(rt.alloc(), Cursor::new([7, 7, 8, 9].as_slice()));
+    let set = Set::<u8>::from_reader_with_ctx(&mut reader, Limit::new_count(3))?;
+    let found = (set.len(), set.contains(&7), set.contains(&8));
+    same(&rt, &"7, 7 and 8", &found, &(2, true, true));
+    same(
+        &rt,
+        &"behind them",
+        &u8::from_reader_with_ctx(&mut reader, ())?,
+        &9,
+    );
+    Ok(())
+}
+
+// The items of a set, from the bytes that it was written as: none is left out, and none is there twice.
+fn expect_each_once(rt: &impl Abort, alloc: Global, want: &[u8]) -> Result<(), Fail> {
+    let mut set: Set<u8> = HashSet::with_hasher(alloc, Hasher::default());
+    for item in want {
+        set.insert(*item)?;
+    }
+    let mut writer = Writer::new(Cursor::new(Vec::new(alloc)));
+    set.to_writer(&mut writer, ())?;
+    let bytes = writer.into_inner().into_inner();
+    same(rt, &want, &bytes.len(), &want.len());
+    for item in want {
+        same(rt, &(want, item), &bytes.as_slice().contains(item), &true);
+    }
+    Ok(())
+}
+
+const SETS: [&[u8]; 3] = [&[], &[7], &[7, 8, 200, 0, 91]];
+
+#[test]
+fn sets_written(rt: HostRuntime) -> Result<(), Fail> {
+    for items in &SETS {
+        expect_each_once(&rt, rt.alloc(), items)?;
+    }
+    Ok(())
+}
+
+// What was written of a map is read as the same map, whatever the order.
+#[test]
+fn maps_both_ways(rt: HostRuntime) -> Result<(), Fail> {
+    let mut map: Map<u8, u16> = HashMap::with_hasher(rt.alloc(), Hasher::default());
+    for (key, value) in [(3, 0x0303), (1, 0x0101), (2, 0x0202)] {
+        map.insert(key, value)?;
+    }
+    let mut writer = Writer::new(Cursor::new(Vec::new(rt.alloc())));
+    map.to_writer(&mut writer, Little)?;
+    let bytes = writer.into_inner().into_inner();
+    let mut reader = Reader::new(rt.alloc(), Cursor::new(bytes.as_slice()));
+    let back = Map::<u8, u16>::from_reader_with_ctx(&mut reader, (Limit::end(), Little))?;
+    same(&rt, &"bytes and pairs", &(bytes.len(), back.len()), &(9, 3));
+    for key in 1..4u8 {
+        same(&rt, &key, &back.get(&key).copied(), &map.get(&key).copied());
+    }
+    Ok(())
+}

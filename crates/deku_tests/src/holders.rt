@@ -1,0 +1,74 @@
+//! Items that may be absent, on the heap, borrowed or behind a reference.
+
+use super::expecting::{NO_MEMORY, expect_next, expect_whole, expect_written, same};
+use deku::ctx::BitSize;
+use deku::ctx::Endian::{Big, Little};
+use deku::prelude::{DekuError, DekuReader, DekuWriter, NeedSize, Reader};
+use std::borrow::Cow;
+use std::io::Cursor;
+use std::test::Fail;
+
+// An item is always read; an absent one is written as nothing.
+#[test]
+fn options(rt: HostRuntime) -> Result<(), Fail> {
+    let alloc = rt.alloc();
+    let nothing: Option<u8> = None;
+    expect_whole(&rt, alloc, Big, &[0xBE, 0xEF], Some(0xBEEFu16))?;
+    expect_whole(&rt, alloc, Big, &[1, 2, 3], (Some(1u8), Some((2u8, 3u8))))?;
+    expect_written(&rt, alloc, (), &nothing, &[])?;
+    expect_written(&rt, alloc, (), &(1u8, nothing, 2u8), &[1, 2])?;
+    let mut reader = Reader::new(alloc, Cursor::new([].as_slice()));
+    let ended = DekuError::Incomplete(NeedSize::new(8));
+    let answer = Option::<u8>::from_reader_with_ctx(&mut reader, ());
+    same(&rt, &"nothing to read", &answer, &Err(ended));
+    Ok(())
+}
+
+#[test]
+fn boxes(rt: HostRuntime) -> Result<(), Fail> {
+    let alloc = rt.alloc();
+    expect_whole(&rt, alloc, (), &[0xEF, 0xBE], Box::new(alloc, 0xBEEFu16)?)?;
+    expect_whole(&rt, alloc, Big, &[0xBE, 0xEF], Box::new(alloc, 0xBEEFu16)?)?;
+    expect_whole(
+        &rt,
+        alloc,
+        BitSize(4),
+        &[0x12],
+        Box::new(alloc, (1u8, 2u8))?,
+    )
+}
+
+// With memory or without it, the reader is behind the item.
+#[test]
+fn memory_for_a_box(rt: HostRuntime) -> Result<(), Fail> {
+    let mut reader = Reader::new(rt.alloc(), Cursor::new([0xEF, 0xBE, 0x69].as_slice()));
+    match Box::<u16>::from_reader_with_ctx(&mut reader, ()) {
+        Ok(held) => same(&rt, &"held", &*held, &0xBEEF),
+        Err(refusal) => same(&rt, &"refused", &refusal, &NO_MEMORY),
+    }
+    expect_next(&rt, &mut reader, (), 0x69u8, 24)?;
+    Ok(())
+}
+
+// It is read as one that owns its item, and written whether it owns it or not.
+#[test]
+fn cows(rt: HostRuntime) -> Result<(), Fail> {
+    let alloc = rt.alloc();
+    let lent = 0xBEEFu16;
+    expect_whole(&rt, alloc, (), &[0xEF, 0xBE], Cow::Owned(0xBEEFu16))?;
+    expect_whole(&rt, alloc, Big, &[0xBE, 0xEF], Cow::Owned(0xBEEFu16))?;
+    expect_written(&rt, alloc, Big, &Cow::Borrowed(&lent), &[0xBE, 0xEF])?;
+    let mut reader = Reader::new(alloc, Cursor::new([0xBE, 0xEF].as_slice()));
+    let value = Cow::<u16>::from_reader_with_ctx(&mut reader, Big)?;
+    assert!(&rt; matches!(value, Cow::Owned(0xBEEF)));
+    Ok(())
+}
+
+#[test]
+fn references(rt: HostRuntime) -> Result<(), Fail> {
+    let alloc = rt.alloc();
+    let number = 0xBEEFu16;
+    let lent = &number;
+    expect_written(&rt, alloc, Little, &lent, &[0xEF, 0xBE])?;
+    expect_written(&rt, alloc, Big, &(lent, &lent), &[0xBE, 0xEF, 0xBE, 0xEF])
+}

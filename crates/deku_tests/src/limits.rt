@@ -1,0 +1,340 @@
+//! Lists under limits.
+
+use super::expecting::Refusal::{Ended, Said};
+use super::expecting::{
+    Answer, Refusal, expect_answer, expect_bytes, expect_written, same, same_at,
+};
+use deku::ctx::Endian::{Big, Little};
+use deku::ctx::Order::{Lsb0, Msb0};
+use deku::ctx::{BitSize, ByteSize, Limit, Never, ReadExact};
+use deku::prelude::{DekuError, DekuReader, DekuWriter, Reader, Writer};
+use std::boxed::BoxedSlice;
+use std::io::Cursor;
+use std::process::Abort;
+use std::test::Fail;
+
+const NO_WIDTH: Refusal = Said(DekuError::Parse("item without width"));
+
+const PAST_COUNT: Refusal = Said(DekuError::InvalidParam("count past usize"));
+
+// Where a list ends.
+#[derive(Clone, Copy, Debug)]
+enum Stop {
+    Count(usize),
+    Bytes(usize),
+    Bits(usize),
+    End,
+}
+
+impl Stop {
+    fn limit<T>(self) -> Limit<T, Never> {
+        match self {
+            Stop::Count(count) => Limit::new_count(count),
+            Stop::Bytes(count) => Limit::new_byte_size(ByteSize(count)),
+            Stop::Bits(count) => Limit::new_bit_size(BitSize(count)),
+            Stop::End => Limit::end(),
+        }
+    }
+}
+
+// A call on a reader, and what it answers.
+#[derive(Debug)]
+enum Step {
+    // Bytes, under the limit alone, and numbers of so many bits, with and without an endian.
+    Octets(Stop, Answer<u8>),
+    Sized(Stop, usize, Answer<u8>),
+    SizedLittle(Stop, usize, Answer<u8>),
+    // Numbers of two bytes, under the limit and `Big`.
+    Wides(Stop, Answer<u16>),
+    // Items without width, of two types.
+    Units(Stop, Answer<()>),
+    Hollows(Stop, Answer<[u8; 0]>),
+    // So many bytes at once.
+    AtOnce(usize, Answer<u8>),
+    // One byte, and one of so many bits.
+    Next(u8),
+    NextSized(usize, u8),
+    // How many bits are read, and which are left of the last byte.
+    Read(usize),
+    Rest(&'static [bool]),
+}
+
+fn take_list(
+    rt: &impl Abort,
+    run: &str,
+    step: &Step,
+    reader: &mut Reader<Cursor<&[u8]>>,
+) -> Result<(), Fail> {
+    match step {
+        Step::Octets(stop, want) => {
+            let limit = stop.limit::<u8>();
+            expect_answer(
+                rt,
+                run,
+                step,
+                Vec::from_reader_with_ctx(reader, limit),
+                want,
+            )
+        }
+        Step::Sized(stop, bits, want) => {
+            let ctx = (stop.limit::<u8>(), BitSize(*bits));
+            expect_answer(rt, run, step, Vec::from_reader_with_ctx(reader, ctx), want)
+        }
+        Step::SizedLittle(stop, bits, want) => {
+            let ctx = (stop.limit::<u8>(), (Little, BitSize(*bits)));
+            expect_answer(rt, run, step, Vec::from_reader_with_ctx(reader, ctx), want)
+        }
+        Step::Wides(stop, want) => {
+            let ctx = (stop.limit::<u16>(), Big);
+            expect_answer(rt, run, step, Vec::from_reader_with_ctx(reader, ctx), want)
+        }
+        Step::Units(stop, want) => {
+            let limit = stop.limit::<()>();
+            expect_answer(
+                rt,
+                run,
+                step,
+                Vec::from_reader_with_ctx(reader, limit),
+                want,
+            )
+        }
+        Step::Hollows(stop, want) => {
+            let limit = stop.limit::<[u8; 0]>();
+            expect_answer(
+                rt,
+                run,
+                step,
+                Vec::from_reader_with_ctx(reader, limit),
+                want,
+            )
+        }
+        _ => take_place(rt, run, step, reader),
+    }
+}
+
+fn take_place(
+    rt: &impl Abort,
+    run: &str,
+    step: &Step,
+    reader: &mut Reader<Cursor<&[u8]>>,
+) -> Result<(), Fail> {
+    match step {
+        Step::AtOnce(count, want) => {
+            let bytes = Vec::<u8>::from_reader_with_ctx(reader, ReadExact(*count));
+            expect_answer(rt, run, step, bytes, want)?;
+        }
+        Step::Next(want) => same_at(rt, run, step, &u8::from_reader_with_ctx(reader, ())?, want),
+        Step::NextSized(bits, want) => {
+            let byte = u8::from_reader_with_ctx(reader, BitSize(*bits))?;
+            same_at(rt, run, step, &byte, want);
+        }
+        Step::Read(want) => same_at(rt, run, step, &reader.bits_read(), want),
+        Step::Rest(want) => same_at(rt, run, step, &reader.rest()?.as_slice(), want),
+        _ => assert!(rt; false, "{run}: {step:?} is no step of a place"),
+    }
+    Ok(())
+}
+
+// A name, the bytes of a reader, and what is asked of it, one step after the other.
+type Run = (&'static str, &'static [u8], &'static [Step]);
+
+const RUNS: [Run; 9] = [
+    (
+        "up to a count",
+        &[0x69, 0xE9],
+        &[
+            Step::SizedLittle(Stop::Count(2), 6, Ok(&[0x1A, 0x1E])),
+            Step::Rest(&[true, false, false, true]),
+        ],
+    ),
+    (
+        "up to a count without bits",
+        &[1, 2],
+        &[
+            Step::Octets(Stop::Count(0), Ok(&[])),
+            Step::Next(1),
+            Step::Units(Stop::Count(3), Ok(&[(), (), ()])),
+            Step::Read(8),
+        ],
+    ),
+    // Memory grows with the items that there are, and not with the count.
+    (
+        "up to a count that is not there",
+        &[1, 2],
+        &[
+            Step::Octets(Stop::Count(usize::MAX), Err(Ended(8))),
+            Step::Read(16),
+        ],
+    ),
+    (
+        "up to so many bits",
+        &[0xAA, 0xBB, 0xCC, 0xDD],
+        &[
+            Step::Wides(Stop::Bytes(2), Ok(&[0xAABB])),
+            Step::Sized(Stop::Bits(12), 4, Ok(&[0x0C, 0x0C, 0x0D])),
+            Step::Octets(Stop::Bits(0), Ok(&[])),
+            Step::Octets(Stop::Bytes(0), Ok(&[])),
+            Step::Read(28),
+        ],
+    ),
+    // Items that step over the size are read on, to the end of the input.
+    (
+        "over so many bits",
+        &[1, 2, 3],
+        &[Step::Octets(Stop::Bits(12), Err(Ended(8))), Step::Read(24)],
+    ),
+    (
+        "over more bits than can be counted",
+        &[1, 2],
+        &[
+            Step::Octets(Stop::Bytes(2305843009213693952), Err(PAST_COUNT)),
+            Step::Read(0),
+            Step::Next(1),
+        ],
+    ),
+    (
+        "up to the end",
+        &[0xF0, 0xF0],
+        &[
+            Step::Sized(Stop::End, 4, Ok(&[15, 0, 15, 0])),
+            Step::Rest(&[]),
+            Step::Units(Stop::End, Ok(&[])),
+        ],
+    ),
+    // What raises no count is refused where the list does not end with it.
+    (
+        "items without width up to an end",
+        &[1, 2, 3],
+        &[
+            Step::Hollows(Stop::Bytes(1), Err(NO_WIDTH)),
+            Step::Read(0),
+            Step::Next(1),
+            Step::Units(Stop::End, Err(NO_WIDTH)),
+            Step::Read(8),
+            Step::Next(2),
+        ],
+    ),
+    (
+        "bytes at once",
+        &[0xAB, 0xCD, 0xEF],
+        &[
+            Step::NextSized(4, 0xA),
+            Step::AtOnce(2, Ok(&[0xDB, 0xFC])),
+            Step::Rest(&[true, true, true, false]),
+            Step::AtOnce(usize::MAX, Err(PAST_COUNT)),
+            Step::Read(20),
+            Step::AtOnce(2, Err(Ended(16))),
+            Step::AtOnce(0, Err(Ended(16))),
+        ],
+    ),
+];
+
+#[test]
+fn up_to_an_end(rt: HostRuntime) -> Result<(), Fail> {
+    for (run, bytes, steps) in &RUNS {
+        let mut reader = Reader::new(rt.alloc(), Cursor::new(*bytes));
+        for step in *steps {
+            take_list(&rt, run, step, &mut reader)?;
+        }
+    }
+    Ok(())
+}
+
+// A predicate with a state of its own is asked about each item once, in order.
+#[test]
+fn up_to_an_item(rt: HostRuntime) -> Result<(), Fail> {
+    let mut reader = Reader::new(rt.alloc(), Cursor::new([5, 5, 5, 5].as_slice()));
+    let mut calls = 0u8;
+    let third = Limit::new_until(|_: &u8| {
+        calls = calls.wrapping_add(1);
+        calls == 3
+    });
+    let items = Vec::<u8>::from_reader_with_ctx(&mut reader, third);
+    expect_answer(&rt, "up to an item", &"the third", items, &Ok(&[5, 5, 5]))?;
+    same(&rt, &"calls for the third", &calls, &3);
+    take_place(&rt, "the third", &Step::Next(5), &mut reader)?;
+    let mut reader = Reader::new(rt.alloc(), Cursor::new([1, 2, 3].as_slice()));
+    let mut second = true;
+    let turns = Limit::new_until(|_: &u8| {
+        second = !second;
+        second
+    });
+    let items = Vec::<u8>::from_reader_with_ctx(&mut reader, turns);
+    expect_answer(&rt, "up to an item", &"each second", items, &Ok(&[1, 2]))?;
+    take_place(&rt, "each second", &Step::Next(3), &mut reader)
+}
+
+// The bytes of a reader, what they are up to a zero, and the next step.
+type Zero = (&'static [u8], Answer<u8>, Step);
+
+const ZEROS: [Zero; 2] = [
+    (&[0xAA, 0x00, 0xBB], Ok(&[0xAA, 0x00]), Step::Next(0xBB)),
+    (&[1, 2], Err(Ended(8)), Step::Read(16)),
+];
+
+#[test]
+fn up_to_a_zero(rt: HostRuntime) -> Result<(), Fail> {
+    for (bytes, want, next) in &ZEROS {
+        let mut reader = Reader::new(rt.alloc(), Cursor::new(*bytes));
+        let zero = Limit::new_until(|byte: &u8| *byte == 0);
+        let items = Vec::<u8>::from_reader_with_ctx(&mut reader, zero);
+        expect_answer(&rt, "up to a zero", bytes, items, want)?;
+        take_place(&rt, "up to a zero", next, &mut reader)?;
+    }
+    Ok(())
+}
+
+#[test]
+fn items_without_width_up_to_an_item(rt: HostRuntime) -> Result<(), Fail> {
+    let mut reader = Reader::new(rt.alloc(), Cursor::new([1, 2].as_slice()));
+    for (always, want) in [(true, Ok([()].as_slice())), (false, Err(NO_WIDTH))] {
+        let limit = Limit::new_until(|_: &()| always);
+        let items = Vec::<()>::from_reader_with_ctx(&mut reader, limit);
+        expect_answer(&rt, "without width", &always, items, &want)?;
+        take_place(&rt, "without width", &Step::Read(0), &mut reader)?;
+    }
+    take_place(&rt, "without width", &Step::Next(1), &mut reader)
+}
+
+#[test]
+fn lists_of_lists(rt: HostRuntime) -> Result<(), Fail> {
+    let mut reader = Reader::new(rt.alloc(), Cursor::new([0x12, 0x34].as_slice()));
+    let pairs = (Limit::new_count(2), (Limit::new_count(2), BitSize(4)));
+    let rows = Vec::<Vec<u8>>::from_reader_with_ctx(&mut reader, pairs)?;
+    same(&rt, &"rows", &rows.len(), &2);
+    for (row, want) in rows.iter().zip([[1, 2], [3, 4]]) {
+        same(&rt, &want, &row.as_slice(), &want.as_slice());
+    }
+    expect_written(&rt, rt.alloc(), BitSize(4), &rows, &[0x12, 0x34])
+}
+
+#[test]
+fn boxed_slices(rt: HostRuntime) -> Result<(), Fail> {
+    let bytes: &[u8] = &[0xAA, 0xBB, 0xCC, 0xDD];
+    let mut reader = Reader::new(rt.alloc(), Cursor::new(bytes));
+    let two = (Limit::new_count(2), Little);
+    let items = BoxedSlice::<u16>::from_reader_with_ctx(&mut reader, two)?;
+    same(&rt, &"two", &items.as_slice(), &[0xBBAA, 0xDDCC].as_slice());
+    let mut reader = Reader::new(rt.alloc(), Cursor::new(bytes));
+    let whole = BoxedSlice::<u8>::from_reader_with_ctx(&mut reader, Limit::end())?;
+    same(&rt, &"all", &whole.as_slice(), &bytes);
+    let mut writer = Writer::new(Cursor::new(Vec::new(rt.alloc())));
+    items.to_writer(&mut writer, Little)?;
+    whole.to_writer(&mut writer, ())?;
+    expect_bytes(
+        &rt,
+        &"two and all",
+        writer,
+        &[0xAA, 0xBB, 0xCC, 0xDD, 0xAA, 0xBB, 0xCC, 0xDD],
+    )
+}
+
+// A vector written among bits is its items, one after the other, and not one run of bits.
+#[test]
+fn vectors_behind_bits(rt: HostRuntime) -> Result<(), Fail> {
+    let items = Vec::from_slice(rt.alloc(), &[0x61u8, 0x62])?;
+    let mut writer = Writer::new(Cursor::new(Vec::new(rt.alloc())));
+    writer.write_bits_order(&[true, false, true], Lsb0)?;
+    items.to_writer(&mut writer, Msb0)?;
+    expect_bytes(&rt, &"behind bits", writer, &[0x61, 0xAC, 0x40])
+}

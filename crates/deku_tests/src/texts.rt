@@ -1,0 +1,244 @@
+//! Texts that end with a zero.
+
+use super::expecting::Refusal::{Ended, Said};
+use super::expecting::{
+    Answer, NO_MEMORY, Refusal, expect_bytes, expect_refusal, expect_written, same, same_at,
+};
+use deku::cstring::CString;
+use deku::ctx::Endian::Big;
+use deku::ctx::Order::Lsb0;
+use deku::ctx::{BitSize, ByteSize};
+use deku::prelude::{DekuError, DekuReader, DekuWriter, Reader, Writer};
+use std::alloc::Global;
+use std::io::{Cursor, Seek, SeekFrom};
+use std::process::Abort;
+use std::test::Fail;
+
+const NO_TEXT: Refusal = Said(DekuError::Parse("Failed to convert Vec to CString"));
+
+// A text, its zero, and a byte more.
+const TEST: [u8; 6] = [0x74, 0x65, 0x73, 0x74, 0x00, 0x61];
+
+// The text of bytes without a zero.
+fn text(rt: &impl Abort, alloc: Global, bytes: &[u8]) -> Result<CString, Fail> {
+    let text = CString::new(bytes.to_vec(alloc)?);
+    assert!(rt; text.is_some());
+    Ok(text.unwrap())
+}
+
+// Bytes, and what they are with a zero behind them, if they are a text.
+type Bytes = (&'static [u8], Option<&'static [u8]>);
+
+const BYTES: [Bytes; 5] = [
+    (b"ab", Some(&[0x61, 0x62, 0x00])),
+    (b"a", Some(&[0x61, 0x00])),
+    (b"", Some(&[0x00])),
+    (&[0x61, 0x00, 0x62], None),
+    (&[0x00], None),
+];
+
+#[test]
+fn of_bytes(rt: HostRuntime) -> Result<(), Fail> {
+    let alloc = rt.alloc();
+    for (bytes, want) in &BYTES {
+        match (CString::new(bytes.to_vec(alloc)?), want) {
+            (Some(text), Some(want)) => {
+                same(&rt, bytes, &text.as_bytes(), bytes);
+                same(&rt, bytes, &text.as_bytes_with_nul(alloc)?.as_slice(), want);
+            }
+            (text, want) => same(&rt, bytes, &text.is_some(), &want.is_some()),
+        }
+    }
+    same(
+        &rt,
+        &"a and ab",
+        &(text(&rt, alloc, b"a")? == text(&rt, alloc, b"ab")?),
+        &false,
+    );
+    Ok(())
+}
+
+// A call on a reader, and what it answers.
+#[derive(Debug)]
+enum Step {
+    // A text up to a zero, and one of so many bytes.
+    UpToZero(Answer<u8>),
+    Within(usize, Answer<u8>),
+    // A byte, and a number of two bytes.
+    Byte(u8),
+    Number(Result<u16, Refusal>),
+    // How many bits are read, and a byte to go to.
+    Read(usize),
+    Seek(u64),
+}
+
+fn take_step(
+    rt: &impl Abort,
+    alloc: Global,
+    run: &str,
+    step: &Step,
+    reader: &mut Reader<Cursor<&[u8]>>,
+) -> Result<(), Fail> {
+    match step {
+        Step::UpToZero(want) => {
+            let answer = CString::from_reader_with_ctx(reader, ());
+            expect_text(rt, alloc, run, step, answer, want)?;
+        }
+        Step::Within(bytes, want) => {
+            let answer = CString::from_reader_with_ctx(reader, ByteSize(*bytes));
+            expect_text(rt, alloc, run, step, answer, want)?;
+        }
+        Step::Byte(want) => same_at(rt, run, step, &u8::from_reader_with_ctx(reader, ())?, want),
+        Step::Number(want) => {
+            let answer = u16::from_reader_with_ctx(reader, Big);
+            same_at(
+                rt,
+                run,
+                step,
+                &answer,
+                &want.map_err(|refusal| refusal.error()),
+            );
+        }
+        Step::Read(want) => same_at(rt, run, step, &reader.bits_read(), want),
+        Step::Seek(place) => same_at(rt, run, step, &reader.seek(SeekFrom::Start(*place))?, place),
+    }
+    Ok(())
+}
+
+// The text of these bytes was read, or it is refused so.
+fn expect_text(
+    rt: &impl Abort,
+    alloc: Global,
+    run: &str,
+    step: &Step,
+    answer: Result<CString, DekuError>,
+    want: &Answer<u8>,
+) -> Result<(), Fail> {
+    match (answer, want) {
+        (Ok(got), Ok(want)) => same_at(rt, run, step, &got, &text(rt, alloc, want)?),
+        (Ok(got), Err(_)) => assert!(rt; false, "{run}: {step:?} answers {got:?}"),
+        (Err(refusal), want) => expect_refusal(rt, run, step, refusal, want.as_ref().err())?,
+    }
+    Ok(())
+}
+
+const RUNS: [(&str, &[u8], &[Step]); 6] = [
+    (
+        "up to a zero",
+        &TEST,
+        &[
+            Step::UpToZero(Ok(b"test")),
+            Step::Read(40),
+            Step::Byte(0x61),
+        ],
+    ),
+    (
+        "up to a zero that is not there",
+        b"test",
+        &[Step::UpToZero(Err(Ended(8))), Step::Read(32)],
+    ),
+    (
+        "within five bytes, and none",
+        &[0x74, 0x65, 0x73, 0x74, 0x00, 0x00],
+        &[
+            Step::Within(5, Ok(b"test")),
+            Step::Read(40),
+            Step::Within(0, Err(NO_TEXT)),
+            Step::Read(40),
+        ],
+    ),
+    (
+        "within four bytes",
+        &[0x74, 0x65, 0x73, 0x74, 0x00, 0x00],
+        &[Step::Within(4, Err(NO_TEXT)), Step::Read(32)],
+    ),
+    (
+        "within six bytes",
+        &[0x74, 0x65, 0x73, 0x74, 0x00, 0x00],
+        &[Step::Within(6, Err(NO_TEXT)), Step::Read(48)],
+    ),
+    // The end of input is answered again until a seek succeeds.
+    (
+        "behind the end",
+        b"test",
+        &[
+            Step::Within(5, Err(Ended(8))),
+            Step::Read(32),
+            Step::Number(Err(Ended(8))),
+            Step::UpToZero(Err(Ended(8))),
+            Step::Seek(2),
+            Step::Number(Ok(0x7374)),
+        ],
+    ),
+];
+
+#[test]
+fn from_a_reader(rt: HostRuntime) -> Result<(), Fail> {
+    for (run, bytes, steps) in &RUNS {
+        let mut reader = Reader::new(rt.alloc(), Cursor::new(*bytes));
+        for step in *steps {
+            take_step(&rt, rt.alloc(), run, step, &mut reader)?;
+        }
+    }
+    Ok(())
+}
+
+#[test]
+fn written_behind_bits(rt: HostRuntime) -> Result<(), Fail> {
+    let alloc = rt.alloc();
+    let ab = text(&rt, alloc, b"ab")?;
+    let mut writer = Writer::new(Cursor::new(Vec::new(alloc)));
+    5u8.to_writer(&mut writer, (BitSize(3), Lsb0))?;
+    ab.to_writer(&mut writer, ())?;
+    expect_bytes(&rt, &"behind bits", writer, &[0x61, 0xAC, 0x40, 0x00])?;
+    expect_written(&rt, alloc, (Big, ByteSize(1)), &ab, &[0x61, 0x62, 0x00])
+}
+
+// The reader has read this text, or no memory was found for a byte that was read: it is behind that byte then.
+fn expect_test_read(
+    rt: &impl Abort,
+    reader: &mut Reader<Cursor<&[u8]>>,
+    answer: Result<CString, DekuError>,
+) -> Result<(), Fail> {
+    let read = reader.bits_read() / 8;
+    match answer {
+        Ok(test) => same(rt, &"read", &(test.as_bytes(), read), &(b"test", 5)),
+        Err(refusal) => same(rt, &"refused", &refusal, &NO_MEMORY),
+    }
+    assert!(rt; read >= 1 && read <= 5);
+    same(
+        rt,
+        &read,
+        &u8::from_reader_with_ctx(reader, ())?,
+        &TEST[read],
+    );
+    Ok(())
+}
+
+#[test]
+fn read_or_wanting_memory(rt: HostRuntime) -> Result<(), Fail> {
+    let mut reader = Reader::new(rt.alloc(), Cursor::new(TEST.as_slice()));
+    let answer = CString::from_reader_with_ctx(&mut reader, ());
+    expect_test_read(&rt, &mut reader, answer)?;
+    let mut reader = Reader::new(rt.alloc(), Cursor::new(TEST.as_slice()));
+    let answer = CString::from_reader_with_ctx(&mut reader, ByteSize(5));
+    expect_test_read(&rt, &mut reader, answer)
+}
+
+// The bytes and the zero stand in memory of their own, or none is found for them; the text stays.
+#[test]
+fn with_its_zero_or_wanting_memory(rt: HostRuntime) -> Result<(), Fail> {
+    let alloc = rt.alloc();
+    let ab = text(&rt, alloc, b"ab")?;
+    match ab.as_bytes_with_nul(alloc) {
+        Ok(bytes) => same(
+            &rt,
+            &"with its zero",
+            &bytes.as_slice(),
+            &[0x61, 0x62, 0x00].as_slice(),
+        ),
+        Err(refusal) => same(&rt, &"refused", &refusal, &NO_MEMORY),
+    }
+    same(&rt, &"the text", &ab.as_bytes(), &b"ab".as_slice());
+    Ok(())
+}

@@ -1,0 +1,140 @@
+//! Nothing, and tuples.
+
+use super::expecting::{MISFIT, expect_denied, expect_whole, expect_written, same};
+use deku::ctx::Endian::{Big, Little};
+use deku::ctx::Order::Lsb0;
+use deku::ctx::{BitSize, ByteSize};
+use deku::prelude::{DekuError, DekuReader, DekuWriter, NeedSize, Reader, Writer};
+use std::io::Cursor;
+use std::test::Fail;
+
+// It moves nothing, whatever its context, and so it does where the reader has stopped.
+#[test]
+fn nothing(rt: HostRuntime) -> Result<(), Fail> {
+    let alloc = rt.alloc();
+    expect_whole(&rt, alloc, (), &[], ())?;
+    expect_whole(&rt, alloc, (Big, BitSize(3)), &[], ())?;
+    expect_whole(&rt, alloc, "any context", &[], ())?;
+    let ended = DekuError::Incomplete(NeedSize::new(8));
+    let mut reader = Reader::new(alloc, Cursor::new([].as_slice()));
+    for turn in [1, 2] {
+        same(
+            &rt,
+            &turn,
+            &u8::from_reader_with_ctx(&mut reader, ()),
+            &Err(ended),
+        );
+        same(
+            &rt,
+            &turn,
+            &<()>::from_reader_with_ctx(&mut reader, ()),
+            &Ok(()),
+        );
+    }
+    Ok(())
+}
+
+#[test]
+fn of_one_to_six(rt: HostRuntime) -> Result<(), Fail> {
+    let alloc = rt.alloc();
+    let bytes = [1, 2, 3, 4, 5, 6];
+    expect_whole(&rt, alloc, (), &bytes[..1], (1u8,))?;
+    expect_whole(&rt, alloc, (), &bytes[..2], (1u8, 2u8))?;
+    expect_whole(&rt, alloc, (), &bytes[..3], (1u8, 2u8, 3u8))?;
+    expect_whole(&rt, alloc, (), &bytes[..4], (1u8, 2u8, 3u8, 4u8))?;
+    expect_whole(&rt, alloc, (), &bytes[..5], (1u8, 2u8, 3u8, 4u8, 5u8))?;
+    expect_whole(&rt, alloc, (), &bytes[..6], (1u8, 2u8, 3u8, 4u8, 5u8, 6u8))
+}
+
+#[test]
+fn of_seven_to_eleven(rt: HostRuntime) -> Result<(), Fail> {
+    let alloc = rt.alloc();
+    let (a, b, c, d, e, f) = (1u8, 2u8, 3u8, 4u8, 5u8, 6u8);
+    let (g, h, i, j, k) = (7u8, 8u8, 9u8, 10u8, 11u8);
+    let bytes = [1, 2, 3, 4, 5, 6, 7, 8, 9, 10, 11];
+    expect_whole(&rt, alloc, (), &bytes[..7], (a, b, c, d, e, f, g))?;
+    expect_whole(&rt, alloc, (), &bytes[..8], (a, b, c, d, e, f, g, h))?;
+    expect_whole(&rt, alloc, (), &bytes[..9], (a, b, c, d, e, f, g, h, i))?;
+    expect_whole(&rt, alloc, (), &bytes[..10], (a, b, c, d, e, f, g, h, i, j))?;
+    expect_whole(&rt, alloc, (), &bytes, (a, b, c, d, e, f, g, h, i, j, k))
+}
+
+// Items of several types, and tuples in tuples, all under the context of the whole.
+#[test]
+fn of_several_types(rt: HostRuntime) -> Result<(), Fail> {
+    let alloc = rt.alloc();
+    expect_whole(
+        &rt,
+        alloc,
+        (),
+        &[0x01, 0x24, 0x98, 0x82, 0x00],
+        (true, 0x829824u32),
+    )?;
+    expect_whole(
+        &rt,
+        alloc,
+        Big,
+        &[0x01, 0x00, 0x82, 0x98, 0x24],
+        (true, 0x829824u32),
+    )?;
+    expect_whole(
+        &rt,
+        alloc,
+        Big,
+        &[0x69, 0xBE, 0xEF, 0xFF, 0xFE],
+        (0x69u8, (0xBEEFu16, -2i16)),
+    )?;
+    expect_whole(
+        &rt,
+        alloc,
+        Big,
+        &[0x69, 0xBE, 0xEF, 0x01],
+        ((0x69u8, 0xBEEFu16), ((true,),)),
+    )
+}
+
+// So under the contexts that have a size.
+#[test]
+fn of_several_sizes(rt: HostRuntime) -> Result<(), Fail> {
+    let alloc = rt.alloc();
+    expect_whole(
+        &rt,
+        alloc,
+        ByteSize(1),
+        &[1, 2, 3, 4],
+        (1u16, (), (2u32, 3u64, 4u128)),
+    )?;
+    expect_whole(
+        &rt,
+        alloc,
+        (Little, BitSize(2)),
+        &[0x1B],
+        (0u8, 1u16, 2u32, 3u64),
+    )?;
+    expect_whole(
+        &rt,
+        alloc,
+        (BitSize(2), Lsb0),
+        &[0xE4],
+        (0u8, (1u16, (2u32, 3u64))),
+    )
+}
+
+// What comes before a refused item stays moved.
+#[test]
+fn part_of_a_tuple(rt: HostRuntime) -> Result<(), Fail> {
+    let alloc = rt.alloc();
+    let untrue = DekuError::Parse("cannot parse bool value");
+    expect_denied::<(u8, bool, u8), ()>(&rt, alloc, (), &[1, 2, 3], (untrue, 16, 3))?;
+    let mut slice = [0; 2];
+    let mut writer = Writer::new(Cursor::new(slice.as_mut_slice()));
+    let four = BitSize(4);
+    let answer = (5u8, 6u8, 16u8, 7u8).to_writer(&mut writer, four);
+    same(
+        &rt,
+        &"misfit",
+        &(answer, writer.bits_written()),
+        &(Err(MISFIT), 8),
+    );
+    expect_written(&rt, alloc, four, &(5u8, 6u8, 7u8), &[0x56, 0x70])
+}
