@@ -1,0 +1,132 @@
+//! Steps of a stream of bytes, in tables.
+
+use crate::same::{Row, same, same_bytes};
+use deku_bits::error::DekuError;
+use std::fmt::Debug;
+use std::io::{ErrorKind, Read, Seek, SeekFrom, Write};
+use std::process::Abort;
+use std::test::Fail;
+
+/// What is done with a stream that is read, and what it answers. A number in front is how many bytes are asked for, at most four.
+pub enum Get {
+    /// `read`
+    Some(usize, Result<&'static [u8], ErrorKind>),
+    /// `read_exact`
+    Exact(usize, Result<&'static [u8], ErrorKind>),
+    Seek(SeekFrom, Result<u64, ErrorKind>),
+    /// `stream_position`
+    Place(u64),
+}
+
+// What was read stands in front of zeros.
+fn same_front(rt: &impl Abort, row: Row, all: &[u8; 4], want: &[u8]) {
+    for (at, byte) in all.iter().enumerate() {
+        same(rt, row, byte, want.get(at).unwrap_or(&0));
+    }
+}
+
+// One step.
+fn get_step<S: Read + Seek>(rt: &impl Abort, row: Row, stream: &mut S, step: &Get) {
+    let mut all = [0; 4];
+    match step {
+        Get::Some(amt, want) => {
+            assert!(rt; *amt <= 4);
+            let answer = stream.read(&mut all[..*amt]).map_err(|error| error.kind());
+            same(rt, row, &answer, &want.map(|bytes| bytes.len()));
+            same_front(rt, row, &all, want.unwrap_or(&[]));
+        }
+        Get::Exact(amt, want) => {
+            assert!(rt; *amt <= 4);
+            let answer = stream.read_exact(&mut all[..*amt]);
+            same(
+                rt,
+                row,
+                &answer.err().map(|error| error.kind()),
+                &want.err(),
+            );
+            if let Ok(bytes) = want {
+                same_front(rt, row, &all, bytes);
+            }
+        }
+        Get::Seek(to, want) => {
+            let answer = stream.seek(*to).map_err(|error| error.kind());
+            same(rt, row, &answer, want);
+        }
+        Get::Place(want) => {
+            let answer = stream.stream_position().map_err(|error| error.kind());
+            same(rt, row, &answer, &Ok(*want));
+        }
+    }
+}
+
+/// These steps, one after the other, show what they say.
+pub fn get_steps<S: Read + Seek>(rt: &impl Abort, case: usize, stream: &mut S, steps: &[Get]) {
+    for (at, step) in steps.iter().enumerate() {
+        get_step(rt, (case, at), stream, step);
+    }
+}
+
+/// What is done with a stream that is written, and what it answers.
+pub enum Set {
+    /// `write`
+    Some(&'static [u8], Result<usize, ErrorKind>),
+    /// `write_all`
+    All(&'static [u8], Result<(), ErrorKind>),
+    Flush,
+    /// `stream_position`
+    Place(u64),
+}
+
+// What a write of bytes answers. Memory that was refused is handed on.
+fn expect_written<T: PartialEq + Debug + Drop>(
+    rt: &impl Abort,
+    row: Row,
+    answer: Result<T, ErrorKind>,
+    want: &Result<T, ErrorKind>,
+) -> Result<(), Fail> {
+    if answer.as_ref().err() == Some(&ErrorKind::OutOfMemory) && want.is_ok() {
+        return Err(DekuError::Io(ErrorKind::OutOfMemory))?;
+    }
+    same(rt, row, &answer, want);
+    Ok(())
+}
+
+// One step.
+fn set_step<S: Write + Seek>(
+    rt: &impl Abort,
+    row: Row,
+    stream: &mut S,
+    step: &Set,
+) -> Result<(), Fail> {
+    match step {
+        Set::Some(bytes, want) => {
+            let answer = stream.write(bytes).map_err(|error| error.kind());
+            expect_written(rt, row, answer, want)
+        }
+        Set::All(bytes, want) => {
+            let answer = stream.write_all(bytes).map_err(|error| error.kind());
+            expect_written(rt, row, answer, want)
+        }
+        Set::Flush => {
+            let answer = stream.flush().map_err(|error| error.kind());
+            expect_written(rt, row, answer, &Ok(()))
+        }
+        Set::Place(want) => {
+            let answer = stream.stream_position().map_err(|error| error.kind());
+            expect_written(rt, row, answer, &Ok(*want))
+        }
+    }
+}
+
+/// These steps, one after the other, show what they say. Memory that was refused is handed on.
+pub fn set_steps<S: Write + Seek>(
+    rt: &impl Abort,
+    case: usize,
+    stream: &mut S,
+    steps: &[Set],
+) -> Result<(), Fail> {
+    for (at, step) in steps.iter().enumerate() {
+        set_step(rt, (case, at), stream, step)?;
+    }
+    Ok(())
+}
