@@ -11,14 +11,14 @@ type Shown = (&'static str, [u8; 2]);
 // The list has these bits and no more, and these are its bytes.
 fn expect(rt: &impl Abort, row: Row, bits: &BoundedBitVec<2>, shown: Shown) {
     let (want, bytes) = shown;
-    let digits = want.as_bytes();
-    same(rt, row, &bits.len(), &want.len());
-    for at in 0..=16 {
-        let bit = digits.get(at).map(|digit| *digit == b'1');
+    let (list, len) = bits_of(rt, want);
+    same(rt, row, &bits.len(), &len);
+    for at in 0..24 {
+        let bit = if at < len { Some(list[at]) } else { None };
         same(rt, row, &bits.get(at), &bit);
     }
     same(rt, row, &bits.is_empty(), &want.is_empty());
-    same(rt, row, &bits.is_full(), &(want.len() == 16));
+    same(rt, row, &bits.is_full(), &(len == 16));
     same(rt, row, &bits.capacity(), &16);
     same_bytes(rt, row, bits.as_raw_slice(), &bytes);
 }
@@ -68,11 +68,11 @@ fn change(rt: &impl Abort, row: Row, bits: &mut BoundedBitVec<2>, op: &Op) {
 }
 
 // These changes, one after the other, show what they say.
-fn expect_changes(rt: &impl Abort, changes: &[(Op, Shown)]) {
+fn expect_changes(rt: &impl Abort, case: usize, changes: &[(Op, Shown)]) {
     let mut bits = BoundedBitVec::new();
     for (at, (op, shown)) in changes.iter().enumerate() {
-        change(rt, (0, at), &mut bits, op);
-        expect(rt, (0, at), &bits, *shown);
+        change(rt, (case, at), &mut bits, op);
+        expect(rt, (case, at), &bits, *shown);
     }
 }
 
@@ -86,11 +86,6 @@ const BEGINS: [(Op, Shown); 5] = [
         ("1011001100000101", [0xB3, 0x05]),
     ),
 ];
-
-#[test]
-fn begins(rt: HostRuntime) {
-    expect_changes(&rt, &BEGINS);
-}
 
 // A list of no bytes is empty and full.
 #[test]
@@ -114,11 +109,6 @@ const GROWS: [(Op, Shown); 7] = [
     (Op::Push(true), ("1011001101000111", [0xB3, 0x47])),
 ];
 
-#[test]
-fn grows(rt: HostRuntime) {
-    expect_changes(&rt, &GROWS);
-}
-
 const INSERTS: [(Op, Shown); 8] = [
     (Op::FromBits("101"), ("101", [0xA0, 0x00])),
     (Op::Insert(1, true), ("1101", [0xD0, 0x00])),
@@ -129,11 +119,6 @@ const INSERTS: [(Op, Shown); 8] = [
     (Op::Extend("010110"), ("011100111010110", [0x73, 0xAC])),
     (Op::Insert(8, false), ("0111001101010110", [0x73, 0x56])),
 ];
-
-#[test]
-fn inserts(rt: HostRuntime) {
-    expect_changes(&rt, &INSERTS);
-}
 
 const SPLITS: [(Op, Shown); 4] = [
     (
@@ -148,11 +133,6 @@ const SPLITS: [(Op, Shown); 4] = [
     (Op::SplitOff(0, ("1011", [0xB0, 0x00])), ("", [0x00, 0x00])),
 ];
 
-#[test]
-fn splits(rt: HostRuntime) {
-    expect_changes(&rt, &SPLITS);
-}
-
 // Bits that were taken away leave zeros.
 const CLEARS: [(Op, Shown); 4] = [
     (
@@ -164,7 +144,11 @@ const CLEARS: [(Op, Shown); 4] = [
     (Op::Push(true), ("1", [0x80, 0x00])),
 ];
 
+const CHANGES: [&[(Op, Shown)]; 5] = [&BEGINS, &GROWS, &INSERTS, &SPLITS, &CLEARS];
+
 #[test]
-fn clears(rt: HostRuntime) {
-    expect_changes(&rt, &CLEARS);
+fn begins_grows_inserts_splits_and_clears(rt: HostRuntime) {
+    for (case, changes) in CHANGES.iter().enumerate() {
+        expect_changes(&rt, case, changes);
+    }
 }

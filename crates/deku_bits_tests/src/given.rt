@@ -1,6 +1,8 @@
 //! Steps of a writer, in tables.
 
-use crate::same::{NO_MEMORY, Refusal, Row, refused, same, same_bytes, same_digits};
+ghost use Rattle.std.specs.Prelude.{◌^◌, ◌<◌, ◌≤◌};
+
+use crate::same::{NO_MEMORY, Refusal, Row, kind_of, refused, same, same_bytes, same_digits};
 use deku_bits::ctx::Order;
 use deku_bits::ctx::Order::{Lsb0, Msb0};
 use deku_bits::device::Sink;
@@ -171,8 +173,7 @@ fn give_step<W: Sink>(
         | Put::Word(_, _, _, want)
         | Put::Finalize(want) => expect_put(rt, row, writer, step, want)?,
         Put::Seek(to, want) => {
-            let answer = writer.seek(*to).map_err(|error| error.kind());
-            same(rt, row, &answer, want);
+            same(rt, row, &kind_of(writer.seek(*to)), want);
         }
         Put::Rest(want) => return Ok(expect_rest(rt, alloc, row, writer, want)),
         Put::Left(digits, byte, order) => expect_left(rt, row, writer, (digits, *byte, *order)),
@@ -204,13 +205,22 @@ pub fn give_steps<W: Sink>(
 /// The steps of a writer over a vector, and the bytes that it has then.
 pub type Grown = (&'static [Put], &'static [u8]);
 
-/// These cases make the bytes that they say, in a vector.
-pub fn give_grown(rt: &impl Abort, alloc: Global, cases: &[Grown]) -> Result<(), Fail> {
-    for (case, (steps, want)) in cases.iter().enumerate() {
+// These cases of the nth table make the bytes that they say.
+fn give_grown(rt: &impl Abort, alloc: Global, table: usize, cases: &[Grown]) -> Result<(), Fail> {
+    for (at, (steps, want)) in cases.iter().enumerate() {
+        let case = table.wrapping_mul(100).wrapping_add(at);
         let mut writer = Writer::new(Cursor::new(Vec::new(alloc)));
         give_steps(rt, alloc, case, &mut writer, steps)?;
         let bytes = writer.into_inner().into_inner();
         same_bytes(rt, (case, steps.len()), bytes.as_slice(), want);
+    }
+    Ok(())
+}
+
+/// The cases of these tables make the bytes that they say, in a vector.
+pub fn give_tables(rt: &impl Abort, alloc: Global, tables: &[&[Grown]]) -> Result<(), Fail> {
+    for (table, cases) in tables.iter().enumerate() {
+        give_grown(rt, alloc, table, cases)?;
     }
     Ok(())
 }

@@ -4,13 +4,12 @@ ghost use Rattle.std.specs.Prelude.{[], length, List, Bool};
 ghost use Rattle.deku_bits.specs.ReaderCalls.{ReadsAt, ReadsBits, filling};
 ghost use Rattle.deku_bits.specs.Standings.{Standing, Going};
 
-mod counting;
 mod failing;
 mod memory;
 mod seek;
 
 use crate::same::{Refusal, same, same_bytes, same_digits};
-use crate::taken::{Case, Left, Step, take_cases, take_steps};
+use crate::taken::{Case, Left, Step, take_steps, take_tables};
 use deku_bits::ctx::Order;
 use deku_bits::ctx::Order::{Lsb0, Msb0};
 use deku_bits::device::Source;
@@ -20,6 +19,7 @@ use std::alloc::Global;
 use std::io::{Cursor, ErrorKind, SeekFrom};
 use std::test::Fail;
 
+// What each order meets.
 const SHOWN: [Case; 6] = [
     (
         &[0xA1, 0x34, 0x12],
@@ -81,11 +81,7 @@ const SHOWN: [Case; 6] = [
     ),
 ];
 
-#[test]
-fn shows_what_each_order_meets(rt: HostRuntime) -> Result<(), Fail> {
-    take_cases(&rt, rt.alloc(), &SHOWN)
-}
-
+// The end of input is kept.
 const ENDS: [Case; 4] = [
     (
         &[],
@@ -131,11 +127,6 @@ const ENDS: [Case; 4] = [
         3,
     ),
 ];
-
-#[test]
-fn keeps_the_end_of_input(rt: HostRuntime) -> Result<(), Fail> {
-    take_cases(&rt, rt.alloc(), &ENDS)
-}
 
 // Bits that fill a whole number of bytes leave nothing, and the source stands behind the last byte touched, also where the end was looked
 // for in front of each read.
@@ -200,11 +191,6 @@ const EARLY: [Case; 6] = [
     ),
 ];
 
-#[test]
-fn fetches_no_byte_too_early(rt: HostRuntime) -> Result<(), Fail> {
-    take_cases(&rt, rt.alloc(), &EARLY)
-}
-
 // A byte that was looked at is left over whole.
 const LEFT_OVER: [Case; 2] = [
     (
@@ -229,11 +215,7 @@ const LEFT_OVER: [Case; 2] = [
     ),
 ];
 
-#[test]
-fn has_bits_or_a_byte_left_over(rt: HostRuntime) -> Result<(), Fail> {
-    take_cases(&rt, rt.alloc(), &LEFT_OVER)
-}
-
+// Looks for the end, and skips.
 const PEEKS: [Case; 5] = [
     (
         &[0xAA, 0xBB],
@@ -288,11 +270,7 @@ const PEEKS: [Case; 5] = [
     ),
 ];
 
-#[test]
-fn peeks_and_skips(rt: HostRuntime) -> Result<(), Fail> {
-    take_cases(&rt, rt.alloc(), &PEEKS)
-}
-
+// A seek moves the source and drops what is unread.
 const SEEKS: [Case; 2] = [
     (
         &[0x01, 0x02, 0x03, 0x04],
@@ -320,11 +298,6 @@ const SEEKS: [Case; 2] = [
     ),
 ];
 
-#[test]
-fn seeks(rt: HostRuntime) -> Result<(), Fail> {
-    take_cases(&rt, rt.alloc(), &SEEKS)
-}
-
 // A count past `usize` is refused, and nothing changes.
 const PAST: [Case; 2] = [
     (
@@ -347,11 +320,6 @@ const PAST: [Case; 2] = [
     ),
 ];
 
-#[test]
-fn refuses_a_count_past_its_type(rt: HostRuntime) -> Result<(), Fail> {
-    take_cases(&rt, rt.alloc(), &PAST)
-}
-
 // The source's refusal of a seek is kept until a seek succeeds.
 const REFUSED: [Case; 1] = [(
     &[0x01, 0x02, 0x03],
@@ -367,9 +335,13 @@ const REFUSED: [Case; 1] = [(
     3,
 )];
 
+const TABLES: [&[Case]; 8] = [
+    &SHOWN, &ENDS, &EARLY, &LEFT_OVER, &PEEKS, &SEEKS, &PAST, &REFUSED,
+];
+
 #[test]
-fn keeps_a_refused_seek(rt: HostRuntime) -> Result<(), Fail> {
-    take_cases(&rt, rt.alloc(), &REFUSED)
+fn shows_what_each_call_meets(rt: HostRuntime) -> Result<(), Fail> {
+    take_tables(&rt, rt.alloc(), &TABLES)
 }
 
 const BEHIND: [Step; 1] = [Step::Const(1, Msb0, Ok(&[0x03]))];

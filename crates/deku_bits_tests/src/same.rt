@@ -2,10 +2,11 @@
 
 use deku_bits::error::{DekuError, NeedSize};
 use std::fmt::Debug;
+use std::io;
 use std::io::ErrorKind;
 use std::process::Abort;
 
-/// A case of a table, and a step of it.
+/// A case of a table, and a step of it. A case of several tables has the number of its table in front, times a hundred.
 pub type Row = (usize, usize);
 
 /// What was answered is what was wanted.
@@ -65,5 +66,21 @@ pub fn refused<T>(want: &Result<T, Refusal>) -> Option<DekuError> {
     match want {
         Ok(_) => None,
         Err(refusal) => Some(refusal.error()),
+    }
+}
+
+/// What a call should answer.
+pub fn wanted<T: Copy>(want: &Result<T, Refusal>) -> Result<T, DekuError> {
+    match want {
+        Ok(value) => Ok(*value),
+        Err(refusal) => Err(refusal.error()),
+    }
+}
+
+/// What a stream answers, with the kind of its fault.
+pub fn kind_of<T>(answer: io::Result<T>) -> Result<T, ErrorKind> {
+    match answer {
+        Ok(value) => Ok(value),
+        Err(error) => Err(error.kind()),
     }
 }

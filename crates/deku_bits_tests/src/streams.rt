@@ -1,6 +1,6 @@
 //! Steps of a stream of bytes, in tables.
 
-use crate::same::{Row, same, same_bytes};
+use crate::same::{Row, kind_of, same};
 use deku_bits::error::DekuError;
 use std::fmt::Debug;
 use std::io::{ErrorKind, Read, Seek, SeekFrom, Write};
@@ -18,42 +18,55 @@ pub enum Get {
     Place(u64),
 }
 
-// What was read stands in front of zeros.
-fn same_front(rt: &impl Abort, row: Row, all: &[u8; 4], want: &[u8]) {
+// What was read stands in front of zeros, or it was refused.
+fn same_front(rt: &impl Abort, row: Row, all: &[u8; 4], want: &Result<&[u8], ErrorKind>) {
+    let bytes: &[u8] = match want {
+        Ok(bytes) => bytes,
+        Err(_) => &[],
+    };
     for (at, byte) in all.iter().enumerate() {
-        same(rt, row, byte, want.get(at).unwrap_or(&0));
+        let wanted = if at < bytes.len() { bytes[at] } else { 0 };
+        same(rt, row, byte, &wanted);
     }
 }
 
-// One step.
+// What a read of some bytes answers.
+fn expect_some(
+    rt: &impl Abort,
+    row: Row,
+    answer: Result<usize, ErrorKind>,
+    want: &Result<&[u8], ErrorKind>,
+) {
+    let wanted = match want {
+        Ok(bytes) => Ok(bytes.len()),
+        Err(kind) => Err(*kind),
+    };
+    same(rt, row, &answer, &wanted);
+}
+
+// One step. The bytes of a whole read that is refused are open.
 fn get_step<S: Read + Seek>(rt: &impl Abort, row: Row, stream: &mut S, step: &Get) {
     let mut all = [0; 4];
     match step {
         Get::Some(amt, want) => {
             assert!(rt; *amt <= 4);
-            let answer = stream.read(&mut all[..*amt]).map_err(|error| error.kind());
-            same(rt, row, &answer, &want.map(|bytes| bytes.len()));
-            same_front(rt, row, &all, want.unwrap_or(&[]));
+            expect_some(rt, row, kind_of(stream.read(&mut all[..*amt])), want);
+            same_front(rt, row, &all, want);
         }
         Get::Exact(amt, want) => {
             assert!(rt; *amt <= 4);
-            let answer = stream.read_exact(&mut all[..*amt]);
-            same(
-                rt,
-                row,
-                &answer.err().map(|error| error.kind()),
-                &want.err(),
-            );
-            if let Ok(bytes) = want {
-                same_front(rt, row, &all, bytes);
+            let answer = kind_of(stream.read_exact(&mut all[..*amt]));
+            same(rt, row, &answer.err(), &want.err());
+            if want.is_ok() {
+                same_front(rt, row, &all, want);
             }
         }
         Get::Seek(to, want) => {
-            let answer = stream.seek(*to).map_err(|error| error.kind());
+            let answer = kind_of(stream.seek(*to));
             same(rt, row, &answer, want);
         }
         Get::Place(want) => {
-            let answer = stream.stream_position().map_err(|error| error.kind());
+            let answer = kind_of(stream.stream_position());
             same(rt, row, &answer, &Ok(*want));
         }
     }
@@ -100,19 +113,19 @@ fn set_step<S: Write + Seek>(
 ) -> Result<(), Fail> {
     match step {
         Set::Some(bytes, want) => {
-            let answer = stream.write(bytes).map_err(|error| error.kind());
+            let answer = kind_of(stream.write(bytes));
             expect_written(rt, row, answer, want)
         }
         Set::All(bytes, want) => {
-            let answer = stream.write_all(bytes).map_err(|error| error.kind());
+            let answer = kind_of(stream.write_all(bytes));
             expect_written(rt, row, answer, want)
         }
         Set::Flush => {
-            let answer = stream.flush().map_err(|error| error.kind());
+            let answer = kind_of(stream.flush());
             expect_written(rt, row, answer, &Ok(()))
         }
         Set::Place(want) => {
-            let answer = stream.stream_position().map_err(|error| error.kind());
+            let answer = kind_of(stream.stream_position());
             expect_written(rt, row, answer, &Ok(*want))
         }
     }

@@ -1,6 +1,10 @@
 //! Steps of a reader, in tables.
 
-use crate::same::{NO_MEMORY, Refusal, Row, refused, same, same_bytes, same_digits};
+ghost use Rattle.std.specs.Prelude.{◌≤◌};
+
+use crate::same::{
+    NO_MEMORY, Refusal, Row, kind_of, refused, same, same_bytes, same_digits, wanted,
+};
 use deku_bits::ctx::Order;
 use deku_bits::ctx::Order::{Lsb0, Msb0};
 use deku_bits::device::Source;
@@ -126,14 +130,16 @@ fn read_const<R: Source, const N: usize>(
     reader: &mut Reader<R>,
     asked: (bool, Order),
     want: &Bytes,
-) {
+)
+    requires { N ≤ 3 }
+{
     let mut all = [0; N];
-    let answer = if asked.0 {
-        reader.read_bytes_const_into(&mut all, asked.1)
+    let error = if asked.0 {
+        reader.read_bytes_const_into(&mut all, asked.1).err()
     } else {
-        reader.read_bytes_const(&mut all, asked.1).map(|_| ())
+        reader.read_bytes_const(&mut all, asked.1).err()
     };
-    same(rt, row, &answer.err(), &refused(want));
+    same(rt, row, &error, &refused(want));
     if let Ok(bytes) = want {
         same_bytes(rt, row, &all, bytes);
     }
@@ -221,21 +227,14 @@ fn take_plain<R: Source>(rt: &impl Abort, row: Row, reader: &mut Reader<R>, step
         Step::Fill(amt, order, want) => read_array(rt, row, reader, *amt, (true, *order), want),
         Step::Word(amt, order, want) => {
             assert!(rt; *amt <= 128);
-            let want = want.map_err(|refusal| refusal.error());
-            same(rt, row, &reader.read_word(*amt, *order), &want);
+            let answer = reader.read_word(*amt, *order);
+            same(rt, row, &answer, &wanted(want));
         }
         Step::Skip(amt, order, want) => {
-            let want = want.map_err(|refusal| refusal.error());
-            same(rt, row, &reader.skip_bits(*amt, *order), &want);
+            same(rt, row, &reader.skip_bits(*amt, *order), &wanted(want));
         }
-        Step::End(want) => {
-            let want = want.map_err(|refusal| refusal.error());
-            same(rt, row, &reader.end(), &want);
-        }
-        Step::Seek(to, want) => {
-            let answer = reader.seek(*to).map_err(|error| error.kind());
-            same(rt, row, &answer, want);
-        }
+        Step::End(want) => same(rt, row, &reader.end(), &wanted(want)),
+        Step::Seek(to, want) => same(rt, row, &kind_of(reader.seek(*to)), want),
         Step::Left(want) => same(rt, row, &left_of(reader), want),
         Step::Count(want) => same(rt, row, &reader.bits_read(), want),
         _ => {}
@@ -282,17 +281,22 @@ pub fn take_steps<R: Source>(
 /// Bytes, the steps of a reader over a cursor on them, and where the cursor stands then.
 pub type Case = (&'static [u8], &'static [Step], u64);
 
-/// These cases show what they say.
-pub fn take_cases(rt: &impl Abort, alloc: Global, cases: &[Case]) -> Result<(), Fail> {
-    for (case, (bytes, steps, place)) in cases.iter().enumerate() {
+// These cases of the nth table show what they say.
+fn take_cases(rt: &impl Abort, alloc: Global, table: usize, cases: &[Case]) -> Result<(), Fail> {
+    for (at, (bytes, steps, place)) in cases.iter().enumerate() {
+        let case = table.wrapping_mul(100).wrapping_add(at);
         let mut reader = Reader::new(alloc, Cursor::new(*bytes));
         take_steps(rt, case, &mut reader, steps)?;
-        same(
-            rt,
-            (case, steps.len()),
-            &reader.into_inner().position(),
-            place,
-        );
+        let row = (case, steps.len());
+        same(rt, row, &reader.into_inner().position(), place);
+    }
+    Ok(())
+}
+
+/// The cases of these tables show what they say.
+pub fn take_tables(rt: &impl Abort, alloc: Global, tables: &[&[Case]]) -> Result<(), Fail> {
+    for (table, cases) in tables.iter().enumerate() {
+        take_cases(rt, alloc, table, cases)?;
     }
     Ok(())
 }

@@ -10,7 +10,7 @@ mod failing;
 mod memory;
 mod seek;
 
-use crate::given::{Grown, Put, bits_of, give_bounded, give_grown};
+use crate::given::{Grown, Put, bits_of, give_bounded, give_tables};
 use crate::same::{Refusal, same, same_bytes};
 use deku_bits::ctx::Order;
 use deku_bits::ctx::Order::{Lsb0, Msb0};
@@ -72,7 +72,8 @@ fn write_over(all: &mut [u8], list: &[bool], order: Order) -> Result<(), DekuErr
     write_lent(&mut cursor, list, order)
 }
 
-const IN_ONE_ORDER: [Lists; 5] = [
+// In one order, and across orders.
+const ORDERS: [Lists; 12] = [
     (&[(Msb0, "101010"), (Msb0, "010101")], &[0xA9, 0x50]),
     (&[(Lsb0, "101010"), (Lsb0, "010101")], &[0x6A, 0x05]),
     (&[(Msb0, "1010"), (Msb0, "0101")], &[0xA5]),
@@ -81,14 +82,6 @@ const IN_ONE_ORDER: [Lists; 5] = [
         &[(Lsb0, "00001"), (Lsb0, "1010010110010001"), (Lsb0, "000")],
         &[0xA1, 0x34, 0x12],
     ),
-];
-
-#[test]
-fn writes_in_one_order(rt: HostRuntime) -> Result<(), Fail> {
-    expect_lists(&rt, rt.alloc(), &IN_ONE_ORDER)
-}
-
-const ACROSS_ORDERS: [Lists; 7] = [
     (&[(Lsb0, "101010"), (Msb0, "010101")], &[0x56, 0xA0]),
     (&[(Msb0, "101010"), (Lsb0, "010101")], &[0x95, 0x0A]),
     (
@@ -102,8 +95,8 @@ const ACROSS_ORDERS: [Lists; 7] = [
 ];
 
 #[test]
-fn writes_across_orders(rt: HostRuntime) -> Result<(), Fail> {
-    expect_lists(&rt, rt.alloc(), &ACROSS_ORDERS)
+fn writes_in_each_order(rt: HostRuntime) -> Result<(), Fail> {
+    expect_lists(&rt, rt.alloc(), &ORDERS)
 }
 
 const STEPS: [Grown; 2] = [
@@ -141,7 +134,7 @@ const STEPS: [Grown; 2] = [
 
 #[test]
 fn writes_and_shows_what_is_pending(rt: HostRuntime) -> Result<(), Fail> {
-    give_grown(&rt, rt.alloc(), &STEPS)
+    give_tables(&rt, rt.alloc(), &[&STEPS])
 }
 
 const FULL: Refusal = Refusal::Io(ErrorKind::WriteZero);

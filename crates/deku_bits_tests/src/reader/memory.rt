@@ -1,7 +1,7 @@
 //! Reads where memory may be refused: each shows what it would, or answers that there is none, and then nothing has moved.
 
 use crate::same::{NO_MEMORY, Refusal};
-use crate::taken::{Case, Left, Step, take_cases};
+use crate::taken::{Case, Left, Step, take_tables};
 use deku_bits::ctx::Order::{Lsb0, Msb0};
 use std::test::Fail;
 
@@ -29,11 +29,6 @@ const WANTS: [Case; 1] = [(
     3,
 )];
 
-#[test]
-fn reads_or_wants_memory(rt: HostRuntime) -> Result<(), Fail> {
-    take_cases(&rt, rt.alloc(), &WANTS)
-}
-
 // A kept fault comes first, then the count, then memory, and the transfer last.
 const REFUSED: [Case; 1] = [(
     &[0x6D, 0xBE],
@@ -55,6 +50,6 @@ const REFUSED: [Case; 1] = [(
 )];
 
 #[test]
-fn refuses_what_memory_cannot_hold(rt: HostRuntime) -> Result<(), Fail> {
-    take_cases(&rt, rt.alloc(), &REFUSED)
+fn reads_or_wants_memory(rt: HostRuntime) -> Result<(), Fail> {
+    take_tables(&rt, rt.alloc(), &[&WANTS, &REFUSED])
 }

@@ -1,7 +1,7 @@
 //! The count of bits read at its largest.
 
 use crate::same::Refusal;
-use crate::taken::{Case, Left, Step, take_cases};
+use crate::taken::{Case, Left, Step, take_tables};
 use deku_bits::ctx::Order::Msb0;
 use std::io::{ErrorKind, SeekFrom};
 use std::test::Fail;
@@ -31,11 +31,6 @@ const TO_THE_END: [Case; 1] = [(
     1,
 )];
 
-#[test]
-fn counts_to_the_end_of_its_type(rt: HostRuntime) -> Result<(), Fail> {
-    take_cases(&rt, rt.alloc(), &TO_THE_END)
-}
-
 // One place further is refused, and nothing changes.
 const PAST_THE_LAST: [Case; 1] = [(
     &[0x01, 0x02],
@@ -58,6 +53,6 @@ const PAST_THE_LAST: [Case; 1] = [(
 )];
 
 #[test]
-fn refuses_a_place_past_the_last(rt: HostRuntime) -> Result<(), Fail> {
-    take_cases(&rt, rt.alloc(), &PAST_THE_LAST)
+fn counts_to_the_end_of_its_type_and_no_further(rt: HostRuntime) -> Result<(), Fail> {
+    take_tables(&rt, rt.alloc(), &[&TO_THE_END, &PAST_THE_LAST])
 }

@@ -2,7 +2,7 @@
 
 use super::slow::{ORDERS, Slow, samples, turn, word_of};
 use crate::same::same;
-use crate::taken::{Case, Left, Step, take_cases};
+use crate::taken::{Case, Left, Step, take_tables};
 use deku_bits::ctx::Order;
 use deku_bits::ctx::Order::{Lsb0, Msb0};
 use deku_bits::error::DekuError;
@@ -37,7 +37,7 @@ const WORKED: [Case; 2] = [
 
 #[test]
 fn reads_the_worked_words(rt: HostRuntime) -> Result<(), Fail> {
-    take_cases(&rt, rt.alloc(), &WORKED)
+    take_tables(&rt, rt.alloc(), &[&WORKED])
 }
 
 // How a word is read: behind so many bits of an order, or behind a look for the end.

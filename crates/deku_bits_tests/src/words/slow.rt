@@ -1,5 +1,7 @@
 //! What words are, by their definition: slow, over lists of truth values.
 
+ghost use Rattle.std.specs.Prelude.{◌<◌, ◌≤◌};
+
 use deku_bits::ctx::Order;
 use deku_bits::ctx::Order::{Lsb0, Msb0};
 use std::process::Abort;

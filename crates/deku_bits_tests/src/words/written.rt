@@ -1,7 +1,7 @@
 //! Words that are written.
 
 use super::slow::{ORDERS, Slow, put_word, samples, turn, word_of};
-use crate::given::{Grown, Put, fitting, give_bounded, give_grown};
+use crate::given::{Grown, Put, fitting, give_bounded, give_tables};
 use crate::same::{Refusal, same, same_bytes};
 use deku_bits::ctx::Order;
 use deku_bits::ctx::Order::{Lsb0, Msb0};
@@ -42,7 +42,7 @@ const WORKED: [Grown; 3] = [
 
 #[test]
 fn writes_the_worked_words(rt: HostRuntime) -> Result<(), Fail> {
-    give_grown(&rt, rt.alloc(), &WORKED)
+    give_tables(&rt, rt.alloc(), &[&WORKED])
 }
 
 const FULL: Refusal = Refusal::Io(ErrorKind::WriteZero);

@@ -1,11 +1,12 @@
 //! Whole bytes that are written, against worked examples.
 
-use crate::given::{Grown, Put, give_bounded, give_grown};
+use crate::given::{Grown, Put, give_bounded, give_tables};
 use crate::same::Refusal;
 use deku_bits::ctx::Order::{Lsb0, Msb0};
 use std::io::{ErrorKind, SeekFrom};
 use std::test::Fail;
 
+// Bytes among bits.
 const AMONG: [Grown; 1] = [(
     &[
         Put::Bytes(&[0xAA], Ok(())),
@@ -23,11 +24,6 @@ const AMONG: [Grown; 1] = [(
     ],
     &[0xAA, 0xBB, 0xF1, 0xAA, 0x1F, 0x1A, 0xAF],
 )];
-
-#[test]
-fn writes_bytes_among_bits(rt: HostRuntime) -> Result<(), Fail> {
-    give_grown(&rt, rt.alloc(), &AMONG)
-}
 
 // Bits in an order, bytes written onto them, what is pending then, and what the sink has been given.
 const ONTO: [Grown; 4] = [
@@ -69,11 +65,7 @@ const ONTO: [Grown; 4] = [
     ),
 ];
 
-#[test]
-fn writes_bytes_onto_bits(rt: HostRuntime) -> Result<(), Fail> {
-    give_grown(&rt, rt.alloc(), &ONTO)
-}
-
+// A byte behind bytes is filled.
 const BEHIND: [Grown; 1] = [(
     &[
         Put::Ordered(Lsb0, "101", Ok(())),
@@ -86,8 +78,8 @@ const BEHIND: [Grown; 1] = [(
 )];
 
 #[test]
-fn fills_a_byte_behind_bytes(rt: HostRuntime) -> Result<(), Fail> {
-    give_grown(&rt, rt.alloc(), &BEHIND)
+fn writes_bytes_among_bits_and_onto_them(rt: HostRuntime) -> Result<(), Fail> {
+    give_tables(&rt, rt.alloc(), &[&AMONG, &ONTO, &BEHIND])
 }
 
 const FULL: Refusal = Refusal::Io(ErrorKind::WriteZero);

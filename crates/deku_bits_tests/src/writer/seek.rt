@@ -1,6 +1,6 @@
 //! Seeks of a writer.
 
-use crate::given::{Grown, Put, give_bounded, give_grown};
+use crate::given::{Grown, Put, give_bounded, give_tables};
 use crate::same::Refusal;
 use deku_bits::ctx::Order::{Lsb0, Msb0};
 use std::io::{ErrorKind, SeekFrom};
@@ -27,7 +27,7 @@ const DROPS: [Grown; 1] = [(
 
 #[test]
 fn drops_what_is_pending(rt: HostRuntime) -> Result<(), Fail> {
-    give_grown(&rt, rt.alloc(), &DROPS)
+    give_tables(&rt, rt.alloc(), &[&DROPS])
 }
 
 const KEPT: Refusal = Refusal::Io(ErrorKind::InvalidInput);
