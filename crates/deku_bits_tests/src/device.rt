@@ -1,32 +1,16 @@
-//! A record in a file.
+//! A record that is read from a file.
 
-use crate::given::{Put, give_steps};
 use crate::same::Refusal;
 use crate::taken::{Step, take_steps};
 use deku_bits::ctx::Order::{Lsb0, Msb0};
 use deku_bits::reader::Reader;
-use deku_bits::writer::Writer;
 use std::fs;
 use std::fs::File;
-use std::io::SeekFrom;
+use std::io::{SeekFrom, Write};
 use std::test::Fail;
 
 // In the folder where the tests run.
-const PATH: &str = "record.bin";
-
-// A5 05 1C DE: a byte half from above and half from below, one of three bits, and two, of which the first is written again.
-const WRITTEN: [Put; 10] = [
-    Put::Bits("1010", Ok(())),
-    Put::Ordered(Lsb0, "0101", Ok(())),
-    Put::Ordered(Lsb0, "101", Ok(())),
-    Put::Finalize(Ok(())),
-    Put::Bytes(&[0xBC, 0xDE], Ok(())),
-    Put::Count(32),
-    Put::Seek(SeekFrom::Start(2), Ok(2)),
-    Put::Bits("0001", Ok(())),
-    Put::Bits("1100", Ok(())),
-    Put::Count(40),
-];
+const PATH: &str = "record_read.bin";
 
 const READ: [Step; 17] = [
     Step::Into(4, Msb0, Ok("1010")),
@@ -48,12 +32,12 @@ const READ: [Step; 17] = [
     Step::Fill(1, Msb0, Ok(&[0xDE])),
 ];
 
+// A byte half from above and half from below, one of three bits, and two.
 #[test]
-fn reads_the_record_that_was_written(rt: HostRuntime) -> Result<(), Fail> {
-    let mut writer = Writer::new(File::create(&rt, PATH)?);
-    give_steps(&rt, rt.alloc(), 0, &mut writer, &WRITTEN)?;
-    let _file = writer.into_inner();
+fn reads_a_record(rt: HostRuntime) -> Result<(), Fail> {
+    let mut file = File::create(&rt, PATH)?;
+    file.write_all(&[0xA5, 0x05, 0x1C, 0xDE])?;
     let mut reader = Reader::new(rt.alloc(), File::open(&rt, PATH)?);
     fs::remove_file(&rt, PATH)?;
-    take_steps(&rt, 1, &mut reader, &READ)
+    take_steps(&rt, 0, &mut reader, &READ)
 }

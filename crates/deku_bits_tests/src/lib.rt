@@ -1,14 +1,8 @@
-//! Tests of `deku_bits`, through its public calls.
+//! Tests of `deku_bits`, through its public calls: what is read.
 #![tactic(auto)]
 
 #[cfg(test)]
-mod bounded;
-#[cfg(test)]
 mod device;
-#[cfg(test)]
-mod error;
-#[cfg(test)]
-mod given;
 #[cfg(test)]
 mod noseek;
 #[cfg(test)]
@@ -23,5 +17,3 @@ mod streams;
 mod taken;
 #[cfg(test)]
 mod words;
-#[cfg(test)]
-mod writer;

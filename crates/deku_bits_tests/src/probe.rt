@@ -1,6 +1,5 @@
-//! Reads and writes over a device that fails once, at each of their calls on it.
+//! Reads over a source that fails once, at each of their calls on it.
 
-mod sinks;
 mod sources;
 
 // The bits of BB CC DD, each byte high bit first.

@@ -2,4 +2,3 @@
 
 mod read;
 mod slow;
-mod written;

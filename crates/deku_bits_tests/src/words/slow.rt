@@ -71,29 +71,6 @@ pub fn word_of(met: &[bool], order: Order) -> u128 {
     word
 }
 
-// Makes a group the bits of a number.
-fn put_number(number: u128, group: &mut [bool], order: Order) {
-    let mut rest = number;
-    for at in 0..group.len() {
-        let place = match order {
-            Msb0 => group.len() - 1 - at,
-            Lsb0 => at,
-        };
-        group[place] = rest % 2 == 1;
-        rest /= 2;
-    }
-}
-
-/// Makes at most 128 bits those of a word, in the order in which they are met.
-pub fn put_word(word: u128, met: &mut [bool], order: Order) {
-    let mut rest = word;
-    for group in 0..16 {
-        let (start, end) = group_of(group, met.len());
-        put_number(rest % 256, &mut met[start..end], order);
-        rest /= 256;
-    }
-}
-
 /// Turns bits that an order met to those that are shown, highest first, and back: whole bytes each by itself, others as one.
 pub fn turn(bits: &mut [bool], order: Order) {
     if order == Msb0 {

@@ -45,7 +45,7 @@ fn writes_the_worked_words(rt: HostRuntime) -> Result<(), Fail> {
     give_tables(&rt, rt.alloc(), &[&WORKED])
 }
 
-const FULL: Refusal = Refusal::Io(ErrorKind::WriteZero);
+const FULL: Refusal = Refusal(ErrorKind::WriteZero);
 
 // A sink without room for all bytes of a word stops the writer until a seek succeeds.
 const ROOM: [Grown; 1] = [(
@@ -174,12 +174,19 @@ fn expect_sample(rt: &impl Abort, word: u128) -> Result<(), Fail> {
     Ok(())
 }
 
+// The word of the first sixteen bytes, the highest first.
+fn word_in(bytes: &[u8]) -> u128 {
+    let mut word: u128 = 0;
+    for byte in bytes.iter().take(16) {
+        word = word.wrapping_mul(256).wrapping_add(u128::from(*byte));
+    }
+    word
+}
+
 #[test]
 fn writes_words_of_each_width(rt: HostRuntime) -> Result<(), Fail> {
     for bytes in samples() {
-        let mut met = [false; 128];
-        Slow::new().take(&rt, &bytes, Lsb0, &mut met);
-        expect_sample(&rt, word_of(&met, Lsb0))?;
+        expect_sample(&rt, word_in(&bytes))?;
     }
     Ok(())
 }

@@ -2,7 +2,7 @@ use Rattle.deku_bits.specs.Writers.{Nothing}
 use Rattle.deku_bits.specs.Standings.{Going}
 use Rattle.deku_bits.specs.WriterCalls.{WritesBits}
 use Rattle.deku_bits.proofs.Lent.{lender_stays, lent_through}
-use Rattle.deku_bits_tests.proofs.writer.write_lent.Goals as goal
+use Rattle.deku_bits_write_tests.proofs.writer.write_lent.Goals as goal
 
 pub returns : goal.returns
 returns g c =

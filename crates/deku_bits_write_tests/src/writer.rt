@@ -137,7 +137,7 @@ fn writes_and_shows_what_is_pending(rt: HostRuntime) -> Result<(), Fail> {
     give_tables(&rt, rt.alloc(), &[&STEPS])
 }
 
-const FULL: Refusal = Refusal::Io(ErrorKind::WriteZero);
+const FULL: Refusal = Refusal(ErrorKind::WriteZero);
 
 const FAULT: [Grown; 1] = [(
     &[

@@ -30,7 +30,7 @@ fn drops_what_is_pending(rt: HostRuntime) -> Result<(), Fail> {
     give_tables(&rt, rt.alloc(), &[&DROPS])
 }
 
-const KEPT: Refusal = Refusal::Io(ErrorKind::InvalidInput);
+const KEPT: Refusal = Refusal(ErrorKind::InvalidInput);
 
 // The sink's refusal of a seek is kept until a seek succeeds.
 const REFUSED: [Grown; 1] = [(

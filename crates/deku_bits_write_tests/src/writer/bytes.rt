@@ -82,7 +82,7 @@ fn writes_bytes_among_bits_and_onto_them(rt: HostRuntime) -> Result<(), Fail> {
     give_tables(&rt, rt.alloc(), &[&AMONG, &ONTO, &BEHIND])
 }
 
-const FULL: Refusal = Refusal::Io(ErrorKind::WriteZero);
+const FULL: Refusal = Refusal(ErrorKind::WriteZero);
 
 // A sink without room for all bytes stops the writer until a seek succeeds.
 const ROOM: [Grown; 1] = [(

@@ -2,7 +2,7 @@ use Rattle.std.proofs.Common.{◌≡◌, ◌+◌, ◌-◌, ◌*◌, ◌/◌, ◌
 use Rattle.deku_bits.specs.declared.ctx.Order.TheVariants.{Msb0}
 use Rattle.deku_bits.specs.Writers.{Nothing, append}
 use Rattle.deku_bits.proofs.Emits.{counted, succeeds_with_room}
-use Rattle.deku_bits_tests.proofs.writer.write_over.Goals as goal
+use Rattle.deku_bits_write_tests.proofs.writer.write_over.Goals as goal
 
 pub returns-clause-room : goal.returns-clause-room
 returns-clause-room c = λ enough.
