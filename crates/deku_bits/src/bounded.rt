@@ -284,6 +284,3 @@ fn with_bit(byte: u8, place: usize, bit: bool) -> u8
         byte - WEIGHTS[place]
     }
 }
-
-#[cfg(test)]
-mod tests;

@@ -230,6 +230,3 @@ fn overwrite(all: &mut [u8], place: usize, bytes: &[u8]) -> usize
     all[place..place + n].copy_from_slice(&bytes[..n]);
     n
 }
-
-#[cfg(test)]
-mod tests;

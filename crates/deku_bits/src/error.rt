@@ -138,6 +138,3 @@ impl Fault {
         }
     }
 }
-
-#[cfg(test)]
-mod tests;

@@ -181,6 +181,3 @@ impl<T: Write> Sink for NoSeek<T> {
         self.write_all(bytes)
     }
 }
-
-#[cfg(test)]
-mod tests;

@@ -221,6 +221,3 @@ impl Sink for FailAt<&mut [u8]> {
         Ok(())
     }
 }
-
-#[cfg(test)]
-mod tests;

@@ -359,6 +359,3 @@ impl<R: Source> Reader<R> {
         self.state.take_bytes(&mut self.source, buf, order)
     }
 }
-
-#[cfg(test)]
-mod tests;

@@ -360,6 +360,3 @@ fn whole_bytes(held: usize, more: usize) -> usize
 {
     more / 8 + (held + more % 8) / 8
 }
-
-#[cfg(test)]
-mod tests;

@@ -79,6 +79,3 @@ fn count_for(to: SeekFrom, count: usize) -> Option<usize>
         }
     }
 }
-
-#[cfg(test)]
-mod tests;

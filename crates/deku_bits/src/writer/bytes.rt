@@ -107,6 +107,3 @@ pub fn push_bytes_onto<W: Sink>(
         Order::Lsb0 => give_above(sink, bytes),
     }
 }
-
-#[cfg(test)]
-mod tests;

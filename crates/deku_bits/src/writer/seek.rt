@@ -47,6 +47,3 @@ impl<W: Sink> Seek for Writer<W> {
         }
     }
 }
-
-#[cfg(test)]
-mod tests;

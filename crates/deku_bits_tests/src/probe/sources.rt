@@ -1,0 +1,226 @@
+//! Sources that fail once.
+
+use super::BITS;
+use crate::same::{FAILED, NO_MEMORY, Row, same};
+use crate::streams::{Get, get_steps};
+use crate::taken::{Left, Step, take_steps, walk_steps};
+use deku_bits::ctx::Order;
+use deku_bits::ctx::Order::{Lsb0, Msb0};
+use deku_bits::error::DekuError;
+use deku_bits::probe::{FailAt, Trickle};
+use deku_bits::reader::Reader;
+use std::alloc::Global;
+use std::io::{Cursor, ErrorKind, Seek, SeekFrom};
+use std::process::Abort;
+use std::test::Fail;
+
+// Bytes, the call that fails, the steps of a reader, and where the cursor stands then.
+type Fault = (&'static [u8], usize, &'static [Step], u64);
+
+const FAULTS: [Fault; 2] = [
+    // In the middle.
+    (
+        &[0xAA, 0xBB],
+        2,
+        &[
+            Step::Into(16, Msb0, Err(FAILED)),
+            Step::Count(0),
+            Step::Into(0, Msb0, Err(FAILED)),
+            Step::Bits(3, Lsb0, Err(FAILED)),
+            Step::Rest(""),
+            Step::Left(Left::Nothing),
+            Step::Seek(SeekFrom::Start(0), Ok(0)),
+            Step::Fill(2, Msb0, Ok(&[0xAA, 0xBB])),
+            Step::End(Ok(true)),
+        ],
+        2,
+    ),
+    // At the look for the end.
+    (
+        &[0xAA],
+        1,
+        &[
+            Step::End(Err(FAILED)),
+            Step::Fill(1, Msb0, Err(FAILED)),
+            Step::End(Err(FAILED)),
+            Step::Seek(SeekFrom::Current(0), Ok(0)),
+            Step::End(Ok(false)),
+            Step::Fill(1, Msb0, Ok(&[0xAA])),
+        ],
+        1,
+    ),
+];
+
+#[test]
+fn keeps_a_fault(rt: HostRuntime) -> Result<(), Fail> {
+    for (case, (bytes, n, steps, place)) in FAULTS.iter().enumerate() {
+        assert!(&rt; *n > 0);
+        let source = FailAt::new(Cursor::new(*bytes), *n);
+        let mut reader = Reader::new(rt.alloc(), source);
+        take_steps(&rt, case, &mut reader, steps)?;
+        let cursor = reader.into_inner().into_inner();
+        same(&rt, (case, steps.len()), &cursor.position(), place);
+    }
+    Ok(())
+}
+
+// A way to take three bytes.
+#[derive(Clone, Copy)]
+enum Way {
+    Bits(Order),
+    Bytes(Order),
+    Skip(Order),
+    EndThenBytes,
+}
+
+// Each way, and how many calls on the source it makes.
+const WAYS: [(Way, usize); 7] = [
+    (Way::Bits(Msb0), 3),
+    (Way::Bits(Lsb0), 3),
+    (Way::Bytes(Msb0), 3),
+    (Way::Bytes(Lsb0), 3),
+    (Way::Skip(Msb0), 1),
+    (Way::Skip(Lsb0), 1),
+    (Way::EndThenBytes, 3),
+];
+
+// Takes BB CC DD in this way.
+fn take_three(
+    rt: &impl Abort,
+    row: Row,
+    reader: &mut Reader<FailAt<&[u8]>>,
+    way: Way,
+) -> Result<(), DekuError> {
+    let mut bits = BITS;
+    let mut bytes = [0xBB, 0xCC, 0xDD];
+    match way {
+        Way::Bits(order) => {
+            bits = [false; 24];
+            reader.read_bits_into(&mut bits, order)?;
+        }
+        Way::Bytes(order) => {
+            bytes = [0; 3];
+            reader.read_bytes(3, &mut bytes, order)?;
+        }
+        Way::Skip(order) => reader.skip_bits(24, order)?,
+        Way::EndThenBytes => {
+            bytes = [0; 3];
+            same(rt, row, &reader.end()?, &false);
+            reader.read_bytes_const_into(&mut bytes, Msb0)?;
+        }
+    }
+    same(rt, row, &bits, &BITS);
+    same(rt, row, &bytes, &[0xBB, 0xCC, 0xDD]);
+    Ok(())
+}
+
+const AA: [Step; 2] = [Step::Fill(1, Msb0, Ok(&[0xAA])), Step::Count(8)];
+
+// The reader has stopped with the fault: so each call answers, no bit is left over, and the count is still eight.
+const STOPPED: [Step; 7] = [
+    Step::Into(0, Lsb0, Err(FAILED)),
+    Step::Skip(0, Msb0, Err(FAILED)),
+    Step::End(Err(FAILED)),
+    Step::Left(Left::Nothing),
+    Step::Rest(""),
+    Step::Kept(FAILED),
+    Step::Count(8),
+];
+
+// Takes three bytes behind one, where the nth call behind that one fails: it is answered and kept until a seek. It answers whether memory
+// was refused.
+fn expect_taken(
+    rt: &impl Abort,
+    alloc: Global,
+    case: (Way, usize),
+    n: usize,
+) -> Result<bool, Fail> {
+    let (way, calls) = case;
+    let row = (calls, n);
+    let bytes: &[u8] = &[0xAA, 0xBB, 0xCC, 0xDD];
+    let source = FailAt::new(Cursor::new(bytes), n.saturating_add(1));
+    let mut reader = Reader::new(alloc, source);
+    let mut lacks = walk_steps(rt, n, &mut reader, &AA);
+    if n <= calls {
+        let failed = Err(FAILED.error());
+        same(rt, row, &take_three(rt, row, &mut reader, way), &failed);
+        same(rt, row, &take_three(rt, row, &mut reader, way), &failed);
+        lacks = walk_steps(rt, n, &mut reader, &STOPPED);
+        let place = reader.seek(SeekFrom::Current(0))?;
+        same(rt, row, &place, &(n as u64));
+        same(rt, row, &reader.seek(SeekFrom::Start(1))?, &1);
+        same(rt, row, &reader.bits_read(), &8);
+    }
+    same(rt, row, &take_three(rt, row, &mut reader, way), &Ok(()));
+    same(rt, row, &reader.bits_read(), &32);
+    Ok(lacks)
+}
+
+#[test]
+fn keeps_a_fault_at_each_call(rt: HostRuntime) -> Result<(), Fail> {
+    let mut lacking = false;
+    for n in 1..=5 {
+        for case in WAYS {
+            let lacks = expect_taken(&rt, rt.alloc(), case, n)?;
+            lacking = lacking || lacks;
+        }
+    }
+    if lacking {
+        return Err(NO_MEMORY.error())?;
+    }
+    Ok(())
+}
+
+// A call that fails moves nothing, and the next ones succeed.
+const ONCE: [(usize, &[Get]); 2] = [
+    (
+        2,
+        &[
+            Get::Some(3, Ok(&[0xAA])),
+            Get::Some(3, Err(ErrorKind::Other)),
+            Get::Exact(2, Ok(&[0xBB, 0xCC])),
+        ],
+    ),
+    (
+        1,
+        &[
+            Get::Seek(SeekFrom::Start(2), Err(ErrorKind::Other)),
+            Get::Exact(3, Ok(&[0xAA, 0xBB, 0xCC])),
+        ],
+    ),
+];
+
+#[test]
+fn fails_once(rt: HostRuntime) {
+    let bytes: &[u8] = &[0xAA, 0xBB, 0xCC];
+    for (case, (n, steps)) in ONCE.iter().enumerate() {
+        assert!(&rt; *n > 0);
+        let mut source = FailAt::new(Cursor::new(bytes), *n);
+        get_steps(&rt, case, &mut source, steps);
+        same(
+            &rt,
+            (case, steps.len()),
+            &source.into_inner().position(),
+            &3,
+        );
+    }
+}
+
+const FIRST: [Get; 2] = [
+    Get::Some(3, Ok(&[0xA1])),
+    Get::Seek(SeekFrom::Start(0), Ok(0)),
+];
+
+const THREE: [Step; 3] = [
+    Step::Fill(3, Lsb0, Ok(&[0xA1, 0x34, 0x12])),
+    Step::End(Ok(true)),
+    Step::Count(24),
+];
+
+#[test]
+fn trickles(rt: HostRuntime) -> Result<(), Fail> {
+    let bytes = [0xA1, 0x34, 0x12];
+    let mut source = Trickle::new(bytes.as_slice());
+    get_steps(&rt, 0, &mut source, &FIRST);
+    take_steps(&rt, 1, &mut Reader::new(rt.alloc(), source), &THREE)
+}

@@ -1,0 +1,207 @@
+//! Reads over a source that fails in the middle, and how often it is asked for bytes and for seeks.
+
+use crate::same::{FAILED, same};
+use crate::taken::{Left, Step, take_steps};
+use deku_bits::ctx::Order::{Lsb0, Msb0};
+use deku_bits::device::Source;
+use deku_bits::reader::Reader;
+use std::alloc::Global;
+use std::io;
+use std::io::{Cursor, Error, ErrorKind, Read, Seek, SeekFrom};
+use std::process::Abort;
+use std::test::Fail;
+
+// A source that gives so many bytes and then fails, passes none, and counts the fetches and the seeks that it is asked for.
+#[derive(Drop)]
+struct Failing<'a> {
+    bytes: Cursor<&'a [u8]>,
+    good: usize,
+    fetches: usize,
+    seeks: usize,
+}
+
+impl<'a> Read for Failing<'a> {
+    fn read(&mut self, buf: &mut [u8]) -> io::Result<usize> {
+        self.bytes.read(buf)
+    }
+}
+
+impl<'a> Seek for Failing<'a> {
+    fn seek(&mut self, to: SeekFrom) -> io::Result<u64> {
+        self.seeks = self.seeks.saturating_add(1);
+        self.bytes.seek(to)
+    }
+}
+
+// It tells nothing.
+impl<'a> Source for Failing<'a> {
+    ghost use Rattle.std.specs.Prelude.{None, []};
+
+    ghost told = { λ _. record { coming = None; health = record { failures = None; lenders = [] } } };
+
+    ghost told_by_place = { λ s at all p. Prim.cc };
+
+    fn fetch(&mut self, buf: &mut [u8]) -> io::Result<()> {
+        self.fetches = self.fetches.saturating_add(1);
+        if buf.len() > self.good {
+            return Err(Error::from(ErrorKind::Other));
+        }
+        self.good -= buf.len();
+        self.bytes.fetch(buf)
+    }
+
+    fn pass(&mut self, _n: u64) -> io::Result<()> {
+        Err(Error::from(ErrorKind::Other))
+    }
+}
+
+// Bytes; how many are given before a fault, the steps then, how many are given afterwards, and the steps then; how many fetches and how many
+// seeks were asked for, and where the source stands.
+type Fault = (
+    &'static [u8],
+    usize,
+    &'static [Step],
+    usize,
+    &'static [Step],
+    usize,
+    usize,
+    u64,
+);
+
+// A case shows what it says.
+fn expect_fault(rt: &impl Abort, alloc: Global, at: usize, case: &Fault) -> Result<(), Fail> {
+    let (bytes, good, first, more, then, fetches, seeks, place) = case;
+    let failing = Failing {
+        bytes: Cursor::new(*bytes),
+        good: *good,
+        fetches: 0,
+        seeks: 0,
+    };
+    let mut reader = Reader::new(alloc, failing);
+    take_steps(rt, at, &mut reader, first)?;
+    reader.as_mut().good = *more;
+    take_steps(rt, at.saturating_add(100), &mut reader, then)?;
+    let source = reader.into_inner();
+    let counts = (source.fetches, source.seeks);
+    same(rt, (at, 1000), &counts, &(*fetches, *seeks));
+    same(rt, (at, 1001), &source.bytes.position(), place);
+    Ok(())
+}
+
+const FAULTS: [Fault; 3] = [
+    // A transfer, until a seek.
+    (
+        &[0xBE, 0xEF],
+        1,
+        &[
+            Step::Into(16, Msb0, Err(FAILED)),
+            Step::Count(0),
+            Step::Left(Left::Nothing),
+        ],
+        2,
+        &[
+            Step::Bits(0, Msb0, Err(FAILED)),
+            Step::Fill(2, Lsb0, Err(FAILED)),
+            Step::End(Err(FAILED)),
+            Step::Seek(SeekFrom::Start(0), Ok(0)),
+            Step::Fill(2, Lsb0, Ok(&[0xBE, 0xEF])),
+            Step::Count(16),
+            Step::End(Err(FAILED)),
+        ],
+        3,
+        1,
+        2,
+    ),
+    // A skip, until a seek.
+    (
+        &[0x01, 0x02, 0x03],
+        3,
+        &[
+            Step::Skip(16, Msb0, Err(FAILED)),
+            Step::Count(0),
+            Step::Skip(0, Lsb0, Err(FAILED)),
+        ],
+        3,
+        &[
+            Step::Seek(SeekFrom::Current(0), Ok(0)),
+            Step::Fill(1, Msb0, Ok(&[0x01])),
+            Step::Skip(7, Msb0, Ok(())),
+            Step::Count(15),
+        ],
+        2,
+        1,
+        2,
+    ),
+    // A seek asks the source once, and not at all where the count has no room.
+    (
+        &[0x01, 0x02, 0x03],
+        3,
+        &[
+            Step::Seek(SeekFrom::Start(2), Ok(2)),
+            Step::Seek(SeekFrom::Start(u64::MAX), Err(ErrorKind::InvalidInput)),
+        ],
+        3,
+        &[Step::Seek(SeekFrom::Current(-3), Err(ErrorKind::InvalidInput))],
+        0,
+        2,
+        2,
+    ),
+];
+
+#[test]
+fn keeps_a_fault_until_a_seek(rt: HostRuntime) -> Result<(), Fail> {
+    for (at, case) in FAULTS.iter().enumerate() {
+        expect_fault(&rt, rt.alloc(), at, case)?;
+    }
+    Ok(())
+}
+
+const BYTES: [u8; 17] = [
+    0xA1, 0x34, 0x12, 0x7F, 0x05, 0x06, 0x07, 0x08, 0x09, 0x0A, 0x0B, 0x0C, 0x0D, 0x0E, 0x0F, 0x10,
+    0x11,
+];
+
+// Steps over these bytes, and how many fetches they make.
+const FETCHES: [(&[Step], usize); 8] = [
+    (&[Step::Bytes(3, Msb0, Ok(&[0xA1, 0x34, 0x12]))], 1),
+    (&[Step::Const(3, Lsb0, Ok(&[0xA1, 0x34, 0x12]))], 1),
+    (&[Step::Fill(3, Msb0, Ok(&[0xA1, 0x34, 0x12]))], 1),
+    (&[Step::Word(32, Msb0, Ok(0x7F1234A1))], 1),
+    (&[Step::Word(32, Lsb0, Ok(0x7F1234A1))], 1),
+    (
+        &[Step::Word(128, Msb0, Ok(0x100F0E0D0C0B0A090807_06057F1234A1))],
+        1,
+    ),
+    // Each further read asks once more, and one of bits that are held not at all.
+    (
+        &[
+            Step::Fill(1, Msb0, Ok(&[0xA1])),
+            Step::Bytes(3, Msb0, Ok(&[0x34, 0x12, 0x7F])),
+            Step::Word(4, Lsb0, Ok(0x5)),
+            Step::Word(4, Lsb0, Ok(0x0)),
+            Step::Word(0, Lsb0, Ok(0x0)),
+        ],
+        3,
+    ),
+    (
+        &[Step::Word(0, Msb0, Ok(0)), Step::Bytes(0, Msb0, Ok(&[]))],
+        0,
+    ),
+];
+
+#[test]
+fn fetches_a_run_of_bytes_at_once(rt: HostRuntime) -> Result<(), Fail> {
+    for (case, (steps, fetches)) in FETCHES.iter().enumerate() {
+        let counting = Failing {
+            bytes: Cursor::new(BYTES.as_slice()),
+            good: 17,
+            fetches: 0,
+            seeks: 0,
+        };
+        let mut reader = Reader::new(rt.alloc(), counting);
+        take_steps(&rt, case, &mut reader, steps)?;
+        let row = (case, steps.len());
+        same(&rt, row, &reader.into_inner().fetches, fetches);
+    }
+    Ok(())
+}

@@ -1,0 +1,302 @@
+//! Steps of a reader, in tables.
+
+ghost use Rattle.std.specs.Prelude.{◌≤◌};
+
+use crate::same::{
+    NO_MEMORY, Refusal, Row, kind_of, refused, same, same_bytes, same_digits, wanted,
+};
+use deku_bits::ctx::Order;
+use deku_bits::ctx::Order::{Lsb0, Msb0};
+use deku_bits::device::Source;
+use deku_bits::error::DekuError;
+use deku_bits::reader::{Leftover, Reader};
+use std::alloc::Global;
+use std::io::{Cursor, ErrorKind, Seek, SeekFrom};
+use std::process::Abort;
+use std::test::Fail;
+
+/// The bits that are wanted, as digits, or what refuses them.
+pub type Digits = Result<&'static str, Refusal>;
+
+/// The bytes that are wanted, or what refuses them.
+pub type Bytes = Result<&'static [u8], Refusal>;
+
+/// What is left over of a byte.
+#[derive(PartialEq, Debug, Drop)]
+pub enum Left {
+    Nothing,
+    Byte(u8),
+    /// So many bits, as the high bits of a byte.
+    Bits(usize, u8),
+}
+
+/// What is done with a reader, and what it answers. A number in front is how many bits or bytes are asked for.
+pub enum Step {
+    /// `read_bits`
+    Bits(usize, Order, Digits),
+    /// `read_bits_into`
+    Into(usize, Order, Digits),
+    /// `read_bytes`, into the front of four bytes
+    Bytes(usize, Order, Bytes),
+    /// `read_bytes_const`, of at most three bytes
+    Const(usize, Order, Bytes),
+    /// `read_bytes_const_into`, of at most three bytes
+    Fill(usize, Order, Bytes),
+    /// `read_word`
+    Word(usize, Order, Result<u128, Refusal>),
+    /// `skip_bits`
+    Skip(usize, Order, Result<(), Refusal>),
+    End(Result<bool, Refusal>),
+    Seek(SeekFrom, Result<u64, ErrorKind>),
+    Rest(&'static str),
+    Left(Left),
+    /// `bits_read`
+    Count(usize),
+    /// The reader has stopped with this: so each call answers, no bit is left over, and the count stays.
+    Kept(Refusal),
+}
+
+// The bits in a buffer, where no more than 24 are asked for.
+fn read_into<R: Source>(
+    rt: &impl Abort,
+    row: Row,
+    reader: &mut Reader<R>,
+    asked: (usize, Order),
+    want: &Digits,
+) {
+    let mut all = [true; 24];
+    let (amt, order) = asked;
+    assert!(rt; amt <= 24);
+    let answer = reader.read_bits_into(&mut all[..amt], order);
+    same(rt, row, &answer.err(), &refused(want));
+    if let Ok(digits) = want {
+        same_digits(rt, row, &all[..amt], digits);
+    }
+}
+
+// The bits in a vector. Where its memory is refused nothing has moved, and they are read into a buffer; it answers whether.
+fn read_vector<R: Source>(
+    rt: &impl Abort,
+    row: Row,
+    reader: &mut Reader<R>,
+    asked: (usize, Order),
+    want: &Digits,
+) -> bool {
+    let count = reader.bits_read();
+    let wanted = refused(want);
+    match reader.read_bits(asked.0, asked.1) {
+        Ok(bits) => {
+            same(rt, row, &None, &wanted);
+            if let Ok(digits) = want {
+                same_digits(rt, row, &bits, digits);
+            }
+            false
+        }
+        Err(error) => {
+            if error != NO_MEMORY.error() || wanted == Some(error) {
+                same(rt, row, &Some(error), &wanted);
+                return false;
+            }
+            same(rt, row, &reader.bits_read(), &count);
+            read_into(rt, row, reader, asked, want);
+            true
+        }
+    }
+}
+
+// The bytes in the front of four; those behind stay.
+fn read_front<R: Source>(
+    rt: &impl Abort,
+    row: Row,
+    reader: &mut Reader<R>,
+    asked: (usize, Order),
+    want: &Bytes,
+) {
+    let mut all = [0x5A; 4];
+    let (amt, order) = asked;
+    assert!(rt; amt <= 4);
+    let answer = reader.read_bytes(amt, &mut all, order);
+    same(rt, row, &answer.err(), &refused(want));
+    if let Ok(bytes) = want {
+        same_bytes(rt, row, &all[..amt], bytes);
+    }
+    same_bytes(rt, row, &all[amt..], &[0x5A; 4][amt..]);
+}
+
+// So many bytes as an array has, filled or answered.
+fn read_const<R: Source, const N: usize>(
+    rt: &impl Abort,
+    row: Row,
+    reader: &mut Reader<R>,
+    asked: (bool, Order),
+    want: &Bytes,
+)
+    requires { N ≤ 3 }
+{
+    let mut all = [0; N];
+    let error = if asked.0 {
+        reader.read_bytes_const_into(&mut all, asked.1).err()
+    } else {
+        reader.read_bytes_const(&mut all, asked.1).err()
+    };
+    same(rt, row, &error, &refused(want));
+    if let Ok(bytes) = want {
+        same_bytes(rt, row, &all, bytes);
+    }
+}
+
+// The array of as many bytes as are asked for.
+fn read_array<R: Source>(
+    rt: &impl Abort,
+    row: Row,
+    reader: &mut Reader<R>,
+    amt: usize,
+    asked: (bool, Order),
+    want: &Bytes,
+) {
+    match amt {
+        1 => read_const::<R, 1>(rt, row, reader, asked, want),
+        2 => read_const::<R, 2>(rt, row, reader, asked, want),
+        3 => read_const::<R, 3>(rt, row, reader, asked, want),
+        _ => same(rt, row, &amt, &3),
+    }
+}
+
+// The unread bits of the last byte, or their memory is refused; it answers whether.
+fn expect_rest<R: Source>(rt: &impl Abort, row: Row, reader: &Reader<R>, want: &str) -> bool {
+    match reader.rest() {
+        Ok(bits) => {
+            same_digits(rt, row, &bits, want);
+            false
+        }
+        Err(error) => {
+            same(rt, row, &error, &NO_MEMORY.error());
+            true
+        }
+    }
+}
+
+// What is left over.
+fn left_of<R: Source>(reader: &Reader<R>) -> Left {
+    match reader.leftover() {
+        None => Left::Nothing,
+        Some(Leftover::Byte(byte)) => Left::Byte(byte),
+        Some(Leftover::Bits(bits)) => Left::Bits(bits.len(), bits.as_raw_slice()[0]),
+    }
+}
+
+// The reader has stopped with this error.
+fn expect_kept<R: Source>(
+    rt: &impl Abort,
+    row: Row,
+    reader: &mut Reader<R>,
+    error: DekuError,
+) -> bool {
+    let count = reader.bits_read();
+    let kept = Some(error);
+    same(rt, row, &reader.read_bits(0, Msb0).err(), &kept);
+    same(rt, row, &reader.read_bits(usize::MAX, Lsb0).err(), &kept);
+    same(rt, row, &reader.read_bits_into(&mut [], Lsb0).err(), &kept);
+    same(rt, row, &reader.read_bytes(0, &mut [0], Msb0).err(), &kept);
+    same(
+        rt,
+        row,
+        &reader.read_bytes_const(&mut [0], Lsb0).err(),
+        &kept,
+    );
+    same(
+        rt,
+        row,
+        &reader.read_bytes_const_into(&mut [0], Msb0).err(),
+        &kept,
+    );
+    same(rt, row, &reader.read_word(0, Msb0).err(), &kept);
+    same(rt, row, &reader.skip_bits(0, Lsb0).err(), &kept);
+    same(rt, row, &reader.end().err(), &kept);
+    same(rt, row, &left_of(reader), &Left::Nothing);
+    same(rt, row, &reader.bits_read(), &count);
+    expect_rest(rt, row, reader, "")
+}
+
+// One step that takes no memory; `walk_steps` has the others.
+fn take_plain<R: Source>(rt: &impl Abort, row: Row, reader: &mut Reader<R>, step: &Step) {
+    match step {
+        Step::Into(amt, order, want) => read_into(rt, row, reader, (*amt, *order), want),
+        Step::Bytes(amt, order, want) => read_front(rt, row, reader, (*amt, *order), want),
+        Step::Const(amt, order, want) => read_array(rt, row, reader, *amt, (false, *order), want),
+        Step::Fill(amt, order, want) => read_array(rt, row, reader, *amt, (true, *order), want),
+        Step::Word(amt, order, want) => {
+            assert!(rt; *amt <= 128);
+            let answer = reader.read_word(*amt, *order);
+            same(rt, row, &answer, &wanted(want));
+        }
+        Step::Skip(amt, order, want) => {
+            same(rt, row, &reader.skip_bits(*amt, *order), &wanted(want));
+        }
+        Step::End(want) => same(rt, row, &reader.end(), &wanted(want)),
+        Step::Seek(to, want) => same(rt, row, &kind_of(reader.seek(*to)), want),
+        Step::Left(want) => same(rt, row, &left_of(reader), want),
+        Step::Count(want) => same(rt, row, &reader.bits_read(), want),
+        _ => {}
+    }
+}
+
+/// These steps, one after the other, show what they say. It answers whether memory was refused.
+pub fn walk_steps<R: Source>(
+    rt: &impl Abort,
+    case: usize,
+    reader: &mut Reader<R>,
+    steps: &[Step],
+) -> bool {
+    let mut lacking = false;
+    for (at, step) in steps.iter().enumerate() {
+        let row = (case, at);
+        let lacks = match step {
+            Step::Bits(amt, order, want) => read_vector(rt, row, reader, (*amt, *order), want),
+            Step::Rest(want) => expect_rest(rt, row, reader, want),
+            Step::Kept(refusal) => expect_kept(rt, row, reader, refusal.error()),
+            _ => {
+                take_plain(rt, row, reader, step);
+                false
+            }
+        };
+        lacking = lacking || lacks;
+    }
+    lacking
+}
+
+/// These steps, one after the other, show what they say. Memory that was refused is handed on at the end.
+pub fn take_steps<R: Source>(
+    rt: &impl Abort,
+    case: usize,
+    reader: &mut Reader<R>,
+    steps: &[Step],
+) -> Result<(), Fail> {
+    if walk_steps(rt, case, reader, steps) {
+        return Err(NO_MEMORY.error())?;
+    }
+    Ok(())
+}
+
+/// Bytes, the steps of a reader over a cursor on them, and where the cursor stands then.
+pub type Case = (&'static [u8], &'static [Step], u64);
+
+// These cases of the nth table show what they say.
+fn take_cases(rt: &impl Abort, alloc: Global, table: usize, cases: &[Case]) -> Result<(), Fail> {
+    for (at, (bytes, steps, place)) in cases.iter().enumerate() {
+        let case = table.wrapping_mul(100).wrapping_add(at);
+        let mut reader = Reader::new(alloc, Cursor::new(*bytes));
+        take_steps(rt, case, &mut reader, steps)?;
+        let row = (case, steps.len());
+        same(rt, row, &reader.into_inner().position(), place);
+    }
+    Ok(())
+}
+
+/// The cases of these tables show what they say.
+pub fn take_tables(rt: &impl Abort, alloc: Global, tables: &[&[Case]]) -> Result<(), Fail> {
+    for (table, cases) in tables.iter().enumerate() {
+        take_cases(rt, alloc, table, cases)?;
+    }
+    Ok(())
+}

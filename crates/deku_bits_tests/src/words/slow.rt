@@ -1,0 +1,141 @@
+//! What words are, by their definition: slow, over lists of truth values.
+
+ghost use Rattle.std.specs.Prelude.{◌<◌, ◌≤◌};
+
+use deku_bits::ctx::Order;
+use deku_bits::ctx::Order::{Lsb0, Msb0};
+use std::process::Abort;
+
+/// Both orders.
+pub const ORDERS: [Order; 2] = [Msb0, Lsb0];
+
+/// Seventeen bytes: all zeros, all ones, a high and a low bit at the edges, and four that look like chance.
+pub fn samples() -> [[u8; 17]; 8] {
+    let mut state = 0x9E3779B97F4A7C15;
+    let mut all = [[0; 17]; 8];
+    all[1] = [0xFF; 17];
+    all[2] = [0x80; 17];
+    all[3] = [0x01; 17];
+    for bytes in all[4..].iter_mut() {
+        for byte in bytes.iter_mut() {
+            state = next(state);
+            *byte = (state % 256) as u8;
+        }
+    }
+    all
+}
+
+// The next number that looks like chance.
+fn next(state: u64) -> u64 {
+    let mut state = state;
+    state ^= state << 13;
+    state ^= state >> 7;
+    state ^= state << 17;
+    state
+}
+
+// The number of a group: its first bit is the highest in `Msb0`, and the lowest in `Lsb0`.
+fn number_of(group: &[bool], order: Order) -> u128 {
+    let mut number: u128 = 0;
+    for at in 0..group.len() {
+        let place = match order {
+            Msb0 => at,
+            Lsb0 => group.len() - 1 - at,
+        };
+        number = number
+            .wrapping_mul(2)
+            .wrapping_add(u128::from(group[place]));
+    }
+    number
+}
+
+// The bits of the nth group: eight, or what is left.
+fn group_of(group: usize, len: usize) -> (usize, usize)
+    requires { group < 16 }
+    ensures order { result.0 ≤ result.1 }
+    ensures within { result.1 ≤ len }
+{
+    let start = (8 * group).min(len);
+    (start, len.min(8 * group + 8))
+}
+
+/// The word of at most 128 bits in the order in which they are met: the first group counts once, each further one 256 times as much.
+pub fn word_of(met: &[bool], order: Order) -> u128 {
+    let mut word: u128 = 0;
+    for behind in 0..16 {
+        let (start, end) = group_of(15 - behind, met.len());
+        word = word
+            .wrapping_mul(256)
+            .wrapping_add(number_of(&met[start..end], order));
+    }
+    word
+}
+
+/// Turns bits that an order met to those that are shown, highest first, and back: whole bytes each by itself, others as one.
+pub fn turn(bits: &mut [bool], order: Order) {
+    if order == Msb0 {
+        return;
+    }
+    if bits.len() % 8 != 0 {
+        bits.reverse();
+        return;
+    }
+    for group in 0..bits.len() / 8 {
+        bits[8 * group..8 * group + 8].reverse();
+    }
+}
+
+/// A reader that holds the unread bits of a byte, lowest first, and knows the byte that comes next.
+#[derive(Drop)]
+pub struct Slow {
+    held: [bool; 8],
+    low: usize,
+    high: usize,
+    at: usize,
+}
+
+impl Slow {
+    /// At the first byte.
+    pub fn new() -> Slow {
+        Slow {
+            held: [false; 8],
+            low: 0,
+            high: 0,
+            at: 0,
+        }
+    }
+
+    // Holds the bits of the next byte, where none is unread.
+    fn fetch(&mut self, rt: &impl Abort, bytes: &[u8]) {
+        if self.low < self.high {
+            return;
+        }
+        assert!(rt; self.at < bytes.len());
+        let mut rest = bytes[self.at];
+        for bit in self.held.iter_mut() {
+            *bit = rest % 2 == 1;
+            rest /= 2;
+        }
+        self.low = 0;
+        self.high = 8;
+        self.at += 1;
+    }
+
+    /// Takes the next bits: in `Msb0` the highest that is unread, in `Lsb0` the lowest.
+    pub fn take(&mut self, rt: &impl Abort, bytes: &[u8], order: Order, met: &mut [bool]) {
+        for bit in met.iter_mut() {
+            self.fetch(rt, bytes);
+            assert!(rt; self.low < self.high && self.high <= 8);
+            match order {
+                Msb0 => {
+                    self.high -= 1;
+                    *bit = self.held[self.high];
+                }
+                Lsb0 => {
+                    *bit = self.held[self.low];
+                    self.low += 1;
+                }
+            }
+        }
+    }
+}

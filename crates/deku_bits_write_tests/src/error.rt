@@ -1,0 +1,119 @@
+//! What refusals print, and what they are made from.
+
+use crate::same::same;
+use deku_bits::error::{DekuError, NeedSize};
+use std::alloc::Global;
+use std::io;
+use std::io::ErrorKind;
+use std::process::Abort;
+use std::test::Fail;
+
+// The refusal prints this text, and says the same as this kind of io error.
+fn expect_printed(
+    rt: &impl Abort,
+    alloc: Global,
+    case: usize,
+    error: DekuError,
+    text: &str,
+    kind: ErrorKind,
+) -> Result<(), Fail> {
+    same(
+        rt,
+        (case, 0),
+        &format!(in alloc; "{error}")?.as_str(),
+        &text,
+    );
+    same(rt, (case, 1), &error.io_kind(), &kind);
+    Ok(())
+}
+
+const WANTED: [(usize, &str); 3] = [
+    (9, "Not enough data, need 9 bits (or 2 bytes)"),
+    (8, "Not enough data, need 8 bits (or 1 bytes)"),
+    (0, "Not enough data, need 0 bits (or 0 bytes)"),
+];
+
+#[test]
+fn prints_what_is_wanted(rt: HostRuntime) -> Result<(), Fail> {
+    for (case, (bits, text)) in WANTED.iter().enumerate() {
+        let error = DekuError::Incomplete(NeedSize::new(*bits));
+        expect_printed(&rt, rt.alloc(), case, error, text, ErrorKind::UnexpectedEof)?;
+    }
+    Ok(())
+}
+
+const PRINTED: [(DekuError, &str, ErrorKind); 6] = [
+    (
+        DekuError::Parse("t"),
+        "Parse error: t",
+        ErrorKind::InvalidData,
+    ),
+    (
+        DekuError::InvalidParam("t"),
+        "Invalid param error: t",
+        ErrorKind::InvalidInput,
+    ),
+    (DekuError::Assertion("t"), "t", ErrorKind::InvalidData),
+    (
+        DekuError::IdVariantNotFound,
+        "Could not resolve `id` for variant",
+        ErrorKind::NotFound,
+    ),
+    (
+        DekuError::Io(ErrorKind::Other),
+        "io errorr: Other",
+        ErrorKind::Other,
+    ),
+    (
+        DekuError::Io(ErrorKind::WriteZero),
+        "io errorr: WriteZero",
+        ErrorKind::WriteZero,
+    ),
+];
+
+#[test]
+fn prints_what_is_wrong_or_failed(rt: HostRuntime) -> Result<(), Fail> {
+    for (case, (error, text, kind)) in PRINTED.iter().enumerate() {
+        expect_printed(&rt, rt.alloc(), case, *error, text, *kind)?;
+    }
+    Ok(())
+}
+
+// A number as a byte.
+fn byte_of(number: u32) -> Result<u8, DekuError> {
+    Ok(u8::try_from(number)?)
+}
+
+// A slice as three bytes.
+fn three_of(bytes: &[u8]) -> Result<[u8; 3], DekuError> {
+    Ok(bytes.try_into()?)
+}
+
+// What io answers.
+fn after(answer: io::Result<()>) -> Result<(), DekuError> {
+    answer?;
+    Ok(())
+}
+
+const NUMBERS: [(u32, Result<u8, DekuError>); 2] = [
+    (255, Ok(255)),
+    (300, Err(DekuError::Parse("error parsing int"))),
+];
+
+const SLICES: [(&[u8], Result<[u8; 3], DekuError>); 2] = [
+    (&[1, 2, 3], Ok([1, 2, 3])),
+    (&[1, 2], Err(DekuError::Parse("error parsing from slice"))),
+];
+
+#[test]
+fn is_made_from_other_errors(rt: HostRuntime) {
+    for (case, (number, want)) in NUMBERS.iter().enumerate() {
+        same(&rt, (0, case), &byte_of(*number), want);
+    }
+    for (case, (bytes, want)) in SLICES.iter().enumerate() {
+        same(&rt, (1, case), &three_of(bytes), want);
+    }
+    let broken = io::Error::new(ErrorKind::BrokenPipe, "the pipe is gone");
+    let want = Err(DekuError::Io(ErrorKind::BrokenPipe));
+    same(&rt, (2, 0), &after(Err(broken)), &want);
+}

@@ -1,0 +1,239 @@
+//! Steps of a writer, in tables.
+
+ghost use Rattle.std.specs.Prelude.{◌^◌, ◌<◌, ◌≤◌};
+
+use crate::same::{NO_MEMORY, Refusal, Row, kind_of, refused, same, same_bytes, same_digits};
+use deku_bits::ctx::Order;
+use deku_bits::ctx::Order::{Lsb0, Msb0};
+use deku_bits::device::Sink;
+use deku_bits::error::DekuError;
+use deku_bits::writer::Writer;
+use std::alloc::Global;
+use std::io::{Cursor, ErrorKind, Seek, SeekFrom};
+use std::process::Abort;
+use std::test::Fail;
+
+/// What a write answers.
+pub type Answer = Result<(), Refusal>;
+
+/// What is done with a writer, and what it answers.
+pub enum Put {
+    /// `write_bits`
+    Bits(&'static str, Answer),
+    /// `write_bits_order`
+    Ordered(Order, &'static str, Answer),
+    /// `write_bytes`
+    Bytes(&'static [u8], Answer),
+    /// `write_word` of so many bits
+    Word(u128, usize, Order, Answer),
+    Finalize(Answer),
+    Seek(SeekFrom, Result<u64, ErrorKind>),
+    Rest(&'static str),
+    /// `leftover`: the bits, the same as the high bits of a byte, and their order
+    Left(&'static str, u8, Order),
+    /// `bits_written`
+    Count(usize),
+    /// The writer has stopped with this: so each call answers, nothing is pending, and the count stays.
+    Kept(Refusal),
+}
+
+/// Bits from digits, and how many there are. It takes no memory.
+pub fn bits_of(rt: &impl Abort, digits: &str) -> ([bool; 24], usize)
+    ensures { result.1 ≤ 24 }
+{
+    let mut bits = [false; 24];
+    for (bit, digit) in bits.iter_mut().zip(digits.as_bytes().iter()) {
+        *bit = *digit == b'1';
+    }
+    assert!(rt; digits.len() <= 24, "{digits}");
+    (bits, digits.len())
+}
+
+/// The word, where it has no more than so many bits.
+pub fn fitting(word: u128, n: usize) -> u128
+    requires { n ≤ 128 }
+    ensures { result < 2 ^ n }
+{
+    if n == 128 { word } else { word % (1 << n) }
+}
+
+// A write, and what it answers.
+fn write_step<W: Sink>(
+    rt: &impl Abort,
+    row: Row,
+    writer: &mut Writer<W>,
+    step: &Put,
+) -> Result<(), DekuError> {
+    match step {
+        Put::Bits(digits, _) => {
+            let (list, len) = bits_of(rt, digits);
+            writer.write_bits(&list[..len])
+        }
+        Put::Ordered(order, digits, _) => {
+            let (list, len) = bits_of(rt, digits);
+            writer.write_bits_order(&list[..len], *order)
+        }
+        Put::Bytes(bytes, _) => writer.write_bytes(bytes),
+        Put::Word(word, n, order, _) => {
+            assert!(rt; *n <= 128);
+            let fits = fitting(*word, *n);
+            same(rt, row, &fits, word);
+            writer.write_word(fits, *n, *order)
+        }
+        _ => writer.finalize(),
+    }
+}
+
+// A write answers what it should. Memory that was refused is handed on.
+fn expect_put<W: Sink>(
+    rt: &impl Abort,
+    row: Row,
+    writer: &mut Writer<W>,
+    step: &Put,
+    want: &Answer,
+) -> Result<(), Fail> {
+    let answer = write_step(rt, row, writer, step).err();
+    let want = refused(want);
+    if answer != want && answer == Some(NO_MEMORY.error()) {
+        return Err(NO_MEMORY.error())?;
+    }
+    same(rt, row, &answer, &want);
+    Ok(())
+}
+
+// The pending bits, or their memory is refused; it answers whether.
+fn expect_rest<W: Sink>(
+    rt: &impl Abort,
+    alloc: Global,
+    row: Row,
+    writer: &Writer<W>,
+    want: &str,
+) -> bool {
+    match writer.rest(alloc) {
+        Ok(bits) => {
+            same_digits(rt, row, &bits, want);
+            false
+        }
+        Err(error) => {
+            same(rt, row, &error, &NO_MEMORY.error());
+            true
+        }
+    }
+}
+
+// The pending bits, as the high bits of a byte, and their order.
+fn expect_left<W: Sink>(rt: &impl Abort, row: Row, writer: &Writer<W>, want: (&str, u8, Order)) {
+    let (pending, order) = writer.leftover();
+    let (digits, byte, wanted) = want;
+    let (list, len) = bits_of(rt, digits);
+    same(rt, row, &pending.len(), &len);
+    same(rt, row, &pending.is_empty(), &digits.is_empty());
+    for (at, bit) in list[..len].iter().enumerate() {
+        same(rt, row, &pending.get(at), &Some(*bit));
+    }
+    same_bytes(rt, row, pending.as_raw_slice(), &[byte]);
+    same(rt, row, &order, &wanted);
+}
+
+/// The writer has stopped with this error. It answers whether memory was refused.
+pub fn expect_kept<W: Sink>(
+    rt: &impl Abort,
+    alloc: Global,
+    row: Row,
+    writer: &mut Writer<W>,
+    error: DekuError,
+) -> bool {
+    let count = writer.bits_written();
+    let kept = Err(error);
+    same(rt, row, &writer.write_bits(&[]), &kept);
+    same(rt, row, &writer.write_bits(&[true; 12]), &kept);
+    same(rt, row, &writer.write_bits_order(&[], Lsb0), &kept);
+    same(rt, row, &writer.write_bits_order(&[true; 5], Lsb0), &kept);
+    same(rt, row, &writer.write_bytes(&[]), &kept);
+    same(rt, row, &writer.write_bytes(&[0xAA]), &kept);
+    same(rt, row, &writer.write_word(0, 0, Msb0), &kept);
+    same(rt, row, &writer.finalize(), &kept);
+    expect_left(rt, row, writer, ("", 0, Msb0));
+    same(rt, row, &writer.bits_written(), &count);
+    expect_rest(rt, alloc, row, writer, "")
+}
+
+// One step. It answers whether memory for an answer was refused.
+fn give_step<W: Sink>(
+    rt: &impl Abort,
+    alloc: Global,
+    row: Row,
+    writer: &mut Writer<W>,
+    step: &Put,
+) -> Result<bool, Fail> {
+    match step {
+        Put::Bits(_, want)
+        | Put::Ordered(_, _, want)
+        | Put::Bytes(_, want)
+        | Put::Word(_, _, _, want)
+        | Put::Finalize(want) => expect_put(rt, row, writer, step, want)?,
+        Put::Seek(to, want) => {
+            same(rt, row, &kind_of(writer.seek(*to)), want);
+        }
+        Put::Rest(want) => return Ok(expect_rest(rt, alloc, row, writer, want)),
+        Put::Left(digits, byte, order) => expect_left(rt, row, writer, (digits, *byte, *order)),
+        Put::Count(want) => same(rt, row, &writer.bits_written(), want),
+        Put::Kept(refusal) => return Ok(expect_kept(rt, alloc, row, writer, refusal.error())),
+    }
+    Ok(false)
+}
+
+/// These steps, one after the other, show what they say. Memory that was refused is handed on.
+pub fn give_steps<W: Sink>(
+    rt: &impl Abort,
+    alloc: Global,
+    case: usize,
+    writer: &mut Writer<W>,
+    steps: &[Put],
+) -> Result<(), Fail> {
+    let mut lacking = false;
+    for (at, step) in steps.iter().enumerate() {
+        let lacks = give_step(rt, alloc, (case, at), writer, step)?;
+        lacking = lacking || lacks;
+    }
+    if lacking {
+        return Err(NO_MEMORY.error())?;
+    }
+    Ok(())
+}
+
+/// The steps of a writer over a vector, and the bytes that it has then.
+pub type Grown = (&'static [Put], &'static [u8]);
+
+// These cases of the nth table make the bytes that they say.
+fn give_grown(rt: &impl Abort, alloc: Global, table: usize, cases: &[Grown]) -> Result<(), Fail> {
+    for (at, (steps, want)) in cases.iter().enumerate() {
+        let case = table.wrapping_mul(100).wrapping_add(at);
+        let mut writer = Writer::new(Cursor::new(Vec::new(alloc)));
+        give_steps(rt, alloc, case, &mut writer, steps)?;
+        let bytes = writer.into_inner().into_inner();
+        same_bytes(rt, (case, steps.len()), bytes.as_slice(), want);
+    }
+    Ok(())
+}
+
+/// The cases of these tables make the bytes that they say, in a vector.
+pub fn give_tables(rt: &impl Abort, alloc: Global, tables: &[&[Grown]]) -> Result<(), Fail> {
+    for (table, cases) in tables.iter().enumerate() {
+        give_grown(rt, alloc, table, cases)?;
+    }
+    Ok(())
+}
+
+/// The steps of a writer over the front of a slice of zeros that has room for as many bytes as it has then.
+pub fn give_bounded(rt: &impl Abort, alloc: Global, cases: &[Grown]) -> Result<(), Fail> {
+    for (case, (steps, want)) in cases.iter().enumerate() {
+        let mut slice = [0; 8];
+        let room = want.len();
+        assert!(rt; room <= 8);
+        let mut writer = Writer::new(Cursor::new(&mut slice[..room]));
+        give_steps(rt, alloc, case, &mut writer, steps)?;
+        same_bytes(rt, (case, steps.len()), &slice[..room], want);
+    }
+    Ok(())
+}

@@ -1,0 +1,65 @@
+//! Streams that cannot seek, written.
+
+use crate::given::{Put, give_steps};
+use crate::same::{FAILED, same, same_bytes};
+use crate::streams::{Set, set_steps};
+use deku_bits::noseek::NoSeek;
+use deku_bits::writer::Writer;
+use std::io::{BufWriter, ErrorKind, SeekFrom};
+use std::test::Fail;
+
+const WRITES: [Put; 9] = [
+    Put::Bytes(&[0xAA, 0xBB], Ok(())),
+    Put::Bits("1010", Ok(())),
+    Put::Seek(SeekFrom::Start(2), Ok(2)),
+    Put::Seek(SeekFrom::Start(0), Err(ErrorKind::Other)),
+    Put::Bytes(&[0xCC], Err(FAILED)),
+    Put::Finalize(Err(FAILED)),
+    Put::Seek(SeekFrom::Current(0), Ok(2)),
+    Put::Bytes(&[0xDD], Ok(())),
+    Put::Count(24),
+];
+
+// What is moved by the stream inside is not counted.
+const MORE: [Set; 5] = [
+    Set::Place(3),
+    Set::All(&[0xFF], Ok(())),
+    Set::Some(&[0x01], Ok(1)),
+    Set::Flush,
+    Set::Place(5),
+];
+
+#[test]
+fn writes_without_a_seek(rt: HostRuntime) -> Result<(), Fail> {
+    let mut writer = Writer::new(NoSeek::new(Vec::new(rt.alloc())));
+    give_steps(&rt, rt.alloc(), 0, &mut writer, &WRITES)?;
+    let mut stream = writer.into_inner();
+    same_bytes(
+        &rt,
+        (1, 0),
+        stream.get_ref().as_slice(),
+        &[0xAA, 0xBB, 0xDD],
+    );
+    stream.get_mut().push(0xEE)?;
+    set_steps(&rt, 2, &mut stream, &MORE)?;
+    let want = [0xAA, 0xBB, 0xDD, 0xEE, 0xFF, 0x01];
+    same_bytes(&rt, (3, 0), stream.into_inner().as_slice(), &want);
+    Ok(())
+}
+
+const TWO: [Set; 1] = [Set::All(&[0xAA, 0xBB], Ok(()))];
+
+const FLUSHED: [Set; 2] = [Set::Flush, Set::Place(2)];
+
+// What a stream holds back goes on where it is flushed.
+#[test]
+fn flushes_the_stream_inside(rt: HostRuntime) -> Result<(), Fail> {
+    let mut bytes = [0; 2];
+    let buffered = BufWriter::new(rt.alloc(), bytes.as_mut_slice())?;
+    let mut stream = NoSeek::new(buffered);
+    set_steps(&rt, 0, &mut stream, &TWO)?;
+    same_bytes(&rt, (1, 0), stream.get_ref().buffer(), &[0xAA, 0xBB]);
+    set_steps(&rt, 2, &mut stream, &FLUSHED)?;
+    same(&rt, (3, 0), &stream.get_ref().buffer().is_empty(), &true);
+    Ok(())
+}

@@ -1,0 +1,189 @@
+//! Sinks that fail once.
+
+use super::BITS;
+use crate::given::{Put, expect_kept, give_steps};
+use crate::same::{FAILED, NO_MEMORY, Row, same, same_bytes};
+use crate::streams::{Set, set_steps};
+use deku_bits::ctx::Order;
+use deku_bits::ctx::Order::{Lsb0, Msb0};
+use deku_bits::error::DekuError;
+use deku_bits::probe::FailAt;
+use deku_bits::writer::Writer;
+use std::alloc::Global;
+use std::io::{Cursor, ErrorKind, Seek, SeekFrom};
+use std::process::Abort;
+use std::test::Fail;
+
+type Sink<'a> = FailAt<&'a mut [u8]>;
+
+// A way to write.
+#[derive(Clone, Copy)]
+enum Way {
+    Bits(Order),
+    Bytes,
+    // Four bits, which are then padded.
+    Padding(Order),
+}
+
+// Each way, how many calls on the sink it makes, one for each byte, and what the sink holds behind its first byte then.
+const WAYS: [(Way, usize, [u8; 3]); 5] = [
+    (Way::Bits(Msb0), 3, [0xBB, 0xCC, 0xDD]),
+    (Way::Bits(Lsb0), 3, [0xBB, 0xCC, 0xDD]),
+    (Way::Bytes, 3, [0xBB, 0xCC, 0xDD]),
+    (Way::Padding(Msb0), 1, [0xB0, 0, 0]),
+    (Way::Padding(Lsb0), 1, [0x0B, 0, 0]),
+];
+
+// Writes in this way.
+fn write(writer: &mut Writer<Sink>, way: Way) -> Result<(), DekuError> {
+    match way {
+        Way::Bits(order) => writer.write_bits_order(&BITS, order),
+        Way::Bytes => writer.write_bytes(&[0xBB, 0xCC, 0xDD]),
+        Way::Padding(order) => {
+            writer.write_bits_order(&BITS[..4], order)?;
+            writer.finalize()
+        }
+    }
+}
+
+// The writer fails in this way and stops with the fault, at the place behind the calls that succeeded, until a seek. It answers whether
+// memory was refused.
+fn expect_failed(
+    rt: &impl Abort,
+    alloc: Global,
+    row: Row,
+    writer: &mut Writer<Sink>,
+    way: Way,
+) -> Result<bool, Fail> {
+    let failed = Err(FAILED.error());
+    same(rt, row, &write(writer, way), &failed);
+    same(rt, row, &write(writer, way), &failed);
+    let lacks = expect_kept(rt, alloc, row, writer, FAILED.error());
+    same(rt, row, &writer.bits_written(), &8);
+    same(
+        rt,
+        row,
+        &writer.seek(SeekFrom::Current(0))?,
+        &(row.1 as u64),
+    );
+    same(rt, row, &writer.seek(SeekFrom::Start(1))?, &1);
+    Ok(lacks)
+}
+
+const AA: [Put; 2] = [Put::Bytes(&[0xAA], Ok(())), Put::Count(8)];
+
+// Writes behind one byte, where the nth call behind that one fails: it is answered and kept until a seek.
+fn expect_written(
+    rt: &impl Abort,
+    alloc: Global,
+    case: (Way, usize, [u8; 3]),
+    n: usize,
+) -> Result<bool, Fail> {
+    let (way, calls, bytes) = case;
+    let row = (calls, n);
+    let mut lacks = false;
+    let mut slice = [0; 4];
+    let sink = FailAt::new(Cursor::new(slice.as_mut_slice()), n.saturating_add(1));
+    let mut writer = Writer::new(sink);
+    give_steps(rt, alloc, n, &mut writer, &AA)?;
+    if n <= calls {
+        lacks = expect_failed(rt, alloc, row, &mut writer, way)?;
+    }
+    same(rt, row, &write(&mut writer, way), &Ok(()));
+    same(
+        rt,
+        row,
+        &(writer.bits_written() / 8),
+        &calls.saturating_add(1),
+    );
+    same(rt, row, &(writer.bits_written() % 8), &0);
+    same(rt, row, &slice[0], &0xAA);
+    same_bytes(rt, row, &slice[1..], &bytes);
+    Ok(lacks)
+}
+
+#[test]
+fn keeps_a_fault_at_each_call(rt: HostRuntime) -> Result<(), Fail> {
+    let mut lacking = false;
+    for n in 1..=5 {
+        for case in WAYS {
+            let lacks = expect_written(&rt, rt.alloc(), case, n)?;
+            lacking = lacking || lacks;
+        }
+    }
+    if lacking {
+        return Err(NO_MEMORY.error())?;
+    }
+    Ok(())
+}
+
+// Seeks behind one byte and four bits, where the nth call behind that byte fails.
+const AT_THE_SEEK: [Put; 9] = [
+    Put::Bytes(&[0xAA], Ok(())),
+    Put::Bits("1011", Ok(())),
+    Put::Seek(SeekFrom::Start(2), Err(ErrorKind::Other)),
+    Put::Bytes(&[0xBB, 0xCC, 0xDD], Err(FAILED)),
+    Put::Kept(FAILED),
+    Put::Seek(SeekFrom::Start(2), Ok(2)),
+    Put::Count(8),
+    Put::Bytes(&[0xBB], Ok(())),
+    Put::Count(16),
+];
+
+const BEHIND_THE_SEEK: [Put; 8] = [
+    Put::Bytes(&[0xAA], Ok(())),
+    Put::Bits("1011", Ok(())),
+    Put::Seek(SeekFrom::Start(2), Ok(2)),
+    Put::Count(8),
+    Put::Bytes(&[0xBB], Err(FAILED)),
+    Put::Seek(SeekFrom::Current(0), Ok(2)),
+    Put::Bytes(&[0xBB], Ok(())),
+    Put::Count(16),
+];
+
+const WITHOUT_A_FAULT: [Put; 6] = [
+    Put::Bytes(&[0xAA], Ok(())),
+    Put::Bits("1011", Ok(())),
+    Put::Seek(SeekFrom::Start(2), Ok(2)),
+    Put::Count(8),
+    Put::Bytes(&[0xBB], Ok(())),
+    Put::Count(16),
+];
+
+const SOUGHT: [&[Put]; 5] = [
+    &AT_THE_SEEK,
+    &BEHIND_THE_SEEK,
+    &WITHOUT_A_FAULT,
+    &WITHOUT_A_FAULT,
+    &WITHOUT_A_FAULT,
+];
+
+#[test]
+fn keeps_a_refused_seek(rt: HostRuntime) -> Result<(), Fail> {
+    for (case, steps) in SOUGHT.iter().enumerate() {
+        let mut slice = [0; 3];
+        let cursor = Cursor::new(slice.as_mut_slice());
+        let mut writer = Writer::new(FailAt::new(cursor, case.saturating_add(2)));
+        give_steps(&rt, rt.alloc(), case, &mut writer, steps)?;
+        same_bytes(&rt, (case, steps.len()), &slice, &[0xAA, 0x00, 0xBB]);
+    }
+    Ok(())
+}
+
+// A call that fails moves nothing, and the next ones succeed.
+const ONCE: [Set; 5] = [
+    Set::Some(&[0xAA, 0xBB], Ok(1)),
+    Set::Some(&[0xBB], Err(ErrorKind::Other)),
+    Set::All(&[0xCC, 0xDD], Ok(())),
+    Set::Flush,
+    Set::All(&[0xEE], Err(ErrorKind::WriteZero)),
+];
+
+#[test]
+fn fails_once(rt: HostRuntime) -> Result<(), Fail> {
+    let mut slice = [0; 3];
+    let mut sink = FailAt::new(Cursor::new(slice.as_mut_slice()), 2);
+    set_steps(&rt, 0, &mut sink, &ONCE)?;
+    same_bytes(&rt, (0, 5), &slice, &[0xAA, 0xCC, 0xDD]);
+    Ok(())
+}

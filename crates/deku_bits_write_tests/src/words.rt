@@ -1,0 +1,4 @@
+//! Words, against slow functions over truth values, at each width, order and offset.
+
+mod slow;
+mod written;

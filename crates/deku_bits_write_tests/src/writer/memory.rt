@@ -1,0 +1,80 @@
+//! Writes where memory may be refused: to a vector that has to grow, and of the pending bits into a new one.
+
+use crate::given::{Put, expect_kept, give_steps};
+use crate::same::{NO_MEMORY, same, same_bytes};
+use deku_bits::ctx::Order::Msb0;
+use deku_bits::writer::Writer;
+use std::io::Cursor;
+use std::test::Fail;
+
+// Twelve bits: two of them are the bytes A5 CA 5C.
+const TWELVE: [bool; 12] = [
+    true, false, true, false, false, true, false, true, true, true, false, false,
+];
+
+// Where memory is refused the writer has stopped.
+#[test]
+fn grows_its_sink_or_wants_memory(rt: HostRuntime) -> Result<(), Fail> {
+    let mut writer = Writer::new(Cursor::new(Vec::new(rt.alloc())));
+    let mut count = 0;
+    let mut lacking = false;
+    for calls in 1..=40 {
+        let row = (0, calls);
+        match writer.write_bits(&TWELVE) {
+            Ok(()) => count = calls * 12 / 8 * 8,
+            Err(error) => {
+                same(&rt, row, &error, &NO_MEMORY.error());
+                expect_kept(&rt, rt.alloc(), row, &mut writer, error);
+                lacking = true;
+                break;
+            }
+        }
+        same(&rt, row, &writer.bits_written(), &count);
+    }
+    same(&rt, (1, 0), &writer.bits_written(), &count);
+    let bytes = writer.into_inner().into_inner();
+    assert!(&rt; bytes.len() >= count / 8);
+    for (at, byte) in bytes.iter().take(count / 8).enumerate() {
+        same(&rt, (2, at), byte, &[0xA5, 0xCA, 0x5C][at % 3]);
+    }
+    if lacking {
+        return Err(NO_MEMORY.error())?;
+    }
+    Ok(())
+}
+
+const FAR: [Put; 4] = [
+    Put::Bits("1010", Ok(())),
+    Put::Left("1010", 0xA0, Msb0),
+    Put::Bits("101001011100", Err(NO_MEMORY)),
+    Put::Kept(NO_MEMORY),
+];
+
+// A place far behind the bytes of a vector wants more memory than there is.
+#[test]
+fn refuses_what_memory_cannot_hold(rt: HostRuntime) -> Result<(), Fail> {
+    let mut cursor = Cursor::new(Vec::new(rt.alloc()));
+    cursor.set_position(1 << 60);
+    let mut writer = Writer::new(cursor);
+    give_steps(&rt, rt.alloc(), 0, &mut writer, &FAR)?;
+    same(&rt, (1, 0), &writer.bits_written(), &0);
+    Ok(())
+}
+
+const TELLS: [Put; 5] = [
+    Put::Bits("101001011100", Ok(())),
+    Put::Rest("1100"),
+    Put::Count(8),
+    Put::Bits("1010", Ok(())),
+    Put::Count(16),
+];
+
+// The pending bits are told, or memory is refused, and then they are pending still.
+#[test]
+fn tells_what_is_pending_or_wants_memory(rt: HostRuntime) -> Result<(), Fail> {
+    let mut slice = [0; 2];
+    let mut writer = Writer::new(Cursor::new(slice.as_mut_slice()));
+    let answer = give_steps(&rt, rt.alloc(), 0, &mut writer, &TELLS);
+    same_bytes(&rt, (1, 0), &slice, &[0xA5, 0xCA]);
+    answer
+}
