@@ -5,7 +5,7 @@ pub returns-in_err-halves : goal.returns-in_err-halves
 returns-in_err-halves g c = passed_on _ c.from_residual.ensures.1 (first_refused c.in_err-halves.ensures)
 
 pub returns-in_err-number : goal.returns-in_err-number
-returns-in_err-number g c = passed_on _ c.from_residual-in_err-number.ensures.1 (then_on c.in_ok-halves.ensures (first_refused c.in_err-number.ensures))
+returns-in_err-number g c = passed_on _ c.from_residual-in_err-number.ensures.1 (then_on c.in_ok-halves.ensures (first_refused c.in_err-number.ensures.reads))
 
 pub returns : goal.returns
-returns g c = then_on c.in_ok-halves.ensures (then_on c.in_ok-number.ensures answered)
+returns g c = then_on c.in_ok-halves.ensures (then_on c.in_ok-number.ensures.reads answered)
