@@ -1,14 +1,14 @@
 -- How many bytes were fetched: the bits of a stream, before a read or a look and after it.
 use Rattle.std.proofs.Common.{◌≡◌, ℕ, ◌+◌, ◌*◌, Bool, false, List, length, drop, Option, Some, None, Ok, refl, ap, sym, ◌∙◌, subst, inl, inr, arith}
 use Rattle.std.proofs.lemmas.List.{length-drop, drop-drop}
-use Rattle.deku_bits.specs.declared.ctx.Order.{Order}
-use Rattle.deku_bits.specs.Streams.{Stream, bit_count, left, normal}
-use Rattle.deku_bits.specs.Devices.{SourceTold, Loses}
-use Rattle.deku_bits.specs.Standings.{Standing, Going, Stopped, count_of, stream_of, reader_state}
-use Rattle.deku_bits.specs.ReaderCalls.{ReadsAt, Transfers, Takes, Peeks, Ending, HasFetched, FetchLaw, window_of}
-use Rattle.deku_bits.proofs.Handing.{meant}
-use Rattle.deku_bits.proofs.Moving.{at, normal-count}
-use Rattle.deku_bits.proofs.Skips.{left_count}
+use Rattle.deku_stream.specs.declared.ctx.Order.{Order}
+use Rattle.deku_stream.specs.Streams.{Stream, bit_count, left, normal}
+use Rattle.deku_device.specs.Devices.{SourceTold, Loses}
+use Rattle.deku_stream.specs.Standings.{Standing, Going, Stopped, count_of, stream_of, reader_state}
+use Rattle.deku_reader.specs.ReaderCalls.{ReadsAt, Transfers, Takes, Peeks, Ending, HasFetched, FetchLaw, window_of}
+use Rattle.deku_stream.proofs.Handing.{meant}
+use Rattle.deku_reader.proofs.Moving.{at, normal-count}
+use Rattle.deku_reader.proofs.Skips.{left_count}
 
 -- ---- a state that is known
 -- the count of a reader is that of its state

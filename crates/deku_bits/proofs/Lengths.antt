@@ -1,11 +1,11 @@
 -- How many bytes aligned pieces lay out.
 use Rattle.std.proofs.Common.{ℕ, ◌+◌, ◌/◌, ◌%◌, ◌<◌, ◌≡◌, Bool, List, [], ◌∷◌, ◌++◌, length, map, refl, ap, sym, ◌∙◌, subst, ⊎_elim, arith, length-append}
-use Rattle.deku_bits.specs.declared.ctx.Order.{Order}
-use Rattle.deku_bits.specs.declared.ctx.Order.TheVariants.{Msb0}
-use Rattle.deku_bits.specs.Pieces.{Piece, piece, laid_out, shape, total, AlignedFrom}
-use Rattle.deku_bits.specs.Writers.{remainder}
-use Rattle.deku_bits.specs.Pieces.{LengthLaw}
-use Rattle.deku_bits.proofs.Cuts.{emitted, length-remainder, length-emitted, laid_out-join, laid_out_cut, laid_out_end}
+use Rattle.deku_stream.specs.declared.ctx.Order.{Order}
+use Rattle.deku_stream.specs.declared.ctx.Order.TheVariants.{Msb0}
+use Rattle.deku_stream.specs.Pieces.{Piece, piece, laid_out, shape, total, AlignedFrom}
+use Rattle.deku_stream.specs.Writers.{remainder}
+use Rattle.deku_stream.specs.Pieces.{LengthLaw}
+use Rattle.deku_stream.proofs.Cuts.{emitted, length-remainder, length-emitted, laid_out-join, laid_out_cut, laid_out_end}
 
 abbrev LengthFrom : List Piece → Type 0
 LengthFrom ps = (n : ℕ) (o : Order) (P : List Bool) → length P < 8 → n % 8 ≡ length P → AlignedFrom n o (map shape ps)

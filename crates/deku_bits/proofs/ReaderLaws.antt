@@ -3,21 +3,21 @@ use Rattle.std.proofs.Common.{◌≡◌, ◌⊎◌, ℕ, ◌+◌, ◌*◌, ◌�
 use Rattle.std.proofs.lemmas.List.{length-take}
 use Rattle.std.proofs.lemmas.List.Elements.{All-head}
 use Rattle.std.specs.declared.io.ErrorKind.TheVariants.{OutOfMemory}
-use Rattle.deku_bits.specs.declared.ctx.Order.{Order}
-use Rattle.deku_bits.specs.declared.error.DekuError.{DekuError}
-use Rattle.deku_bits.specs.declared.error.DekuError.TheVariants.{Io}
-use Rattle.deku_bits.specs.Bits.{shown, bits_in, bytes_of}
-use Rattle.deku_bits.specs.Streams.{Stream, Has, bit_count, seen, taken, left, normal, peeked, skipped, fresh, EndLaw}
-use Rattle.deku_bits.specs.Standings.{Standing, Going, Stopped}
-use Rattle.deku_bits.specs.Outcomes.{Value, Refusal, UnlessStopped, Counted, Reserving}
-use Rattle.deku_bits.specs.ReaderCalls.{Takes, Transfers, ReadsBytes, ReadsVec, SkipReadLaw, BytesLaw}
-use Rattle.deku_bits.proofs.Cuts.{length-byte_bits}
-use Rattle.deku_bits.proofs.Shown.{length-shown}
-use Rattle.deku_bits.proofs.Taking.{peek_law, skip_law}
-use Rattle.deku_bits.proofs.Handing.{memory_found}
-use Rattle.deku_bits.proofs.Moving.{at, normal-count, length-seen}
-use Rattle.deku_bits.proofs.Skips.{normal_peeked, peek_skip_law, skip_finds}
-use Rattle.deku_bits.proofs.Bytes.{IsByte, bits_in-bytes_of, length-bytes_of}
+use Rattle.deku_stream.specs.declared.ctx.Order.{Order}
+use Rattle.deku_stream.specs.declared.error.DekuError.{DekuError}
+use Rattle.deku_stream.specs.declared.error.DekuError.TheVariants.{Io}
+use Rattle.deku_stream.specs.Bits.{shown, bits_in, bytes_of}
+use Rattle.deku_stream.specs.Streams.{Stream, Has, bit_count, seen, taken, left, normal, peeked, skipped, fresh, EndLaw}
+use Rattle.deku_stream.specs.Standings.{Standing, Going, Stopped}
+use Rattle.deku_stream.specs.Outcomes.{Value, Refusal, UnlessStopped, Counted, Reserving}
+use Rattle.deku_reader.specs.ReaderCalls.{Takes, Transfers, ReadsBytes, ReadsVec, SkipReadLaw, BytesLaw}
+use Rattle.deku_stream.proofs.Cuts.{length-byte_bits}
+use Rattle.deku_stream.proofs.Shown.{length-shown}
+use Rattle.deku_stream.proofs.Taking.{peek_law, skip_law}
+use Rattle.deku_stream.proofs.Handing.{memory_found}
+use Rattle.deku_reader.proofs.Moving.{at, normal-count, length-seen}
+use Rattle.deku_reader.proofs.Skips.{normal_peeked, peek_skip_law, skip_finds}
+use Rattle.deku_stream.proofs.Bytes.{IsByte, bits_in-bytes_of, length-bytes_of}
 
 -- ---- peeks
 normal_fresh : (bs : List ℕ) → normal (fresh bs) ≡ fresh bs

@@ -2,18 +2,18 @@
 use Rattle.std.proofs.Common.{ℕ, zero, suc, ◌+◌, ◌*◌, ◌-◌, ◌/◌, ◌%◌, ◌<◌, ◌≤◌, ◌≡◌, Bool, List, [], ◌∷◌, ◌++◌, length, map, take, drop, refl, ap, ap₂, sym, ◌∙◌, subst, ⊎_elim, arith, append_assoc, append-nil, length-append, length-drop, take-add, All}
 use Rattle.std.proofs.lemmas.List.{take_all, take_at, drop_at, take-append-le}
 use Rattle.std.proofs.lemmas.List.Elements.{All-head, All-tail, All-drop, All-take, All-same}
-use Rattle.deku_bits.specs.declared.ctx.Order.{Order}
-use Rattle.deku_bits.specs.declared.ctx.Order.TheVariants.{Msb0}
-use Rattle.deku_bits.specs.Bits.{byte_bits, facing, group_number}
-use Rattle.deku_bits.specs.Streams.{Stream, Has, left, taken}
-use Rattle.deku_bits.specs.Pieces.{Piece, piece, filled, laid_out, shape, AlignedFrom}
-use Rattle.deku_bits.specs.Writers.{remainder}
-use Rattle.deku_bits.specs.Pieces.{last_order, cleared}
-use Rattle.deku_bits.specs.Symmetry.{Takes, RewriteLaw}
-use Rattle.deku_bits.proofs.Binary.{length-facing}
-use Rattle.deku_bits.proofs.Groups.{by_groups}
-use Rattle.deku_bits.proofs.Cuts.{filled_whole, emitted, emitted-full, emitted-short, remainder-full, remainder-short, flow, length-byte_bits, byte-of, length-remainder, laid_out-join, laid_out_cut, laid_out_end}
-use Rattle.deku_bits.proofs.Reading.{spot, spot_zero, seen-spot, left-spot, left_none}
+use Rattle.deku_stream.specs.declared.ctx.Order.{Order}
+use Rattle.deku_stream.specs.declared.ctx.Order.TheVariants.{Msb0}
+use Rattle.deku_stream.specs.Bits.{byte_bits, facing, group_number}
+use Rattle.deku_stream.specs.Streams.{Stream, Has, left, taken}
+use Rattle.deku_stream.specs.Pieces.{Piece, piece, filled, laid_out, shape, AlignedFrom}
+use Rattle.deku_stream.specs.Writers.{remainder}
+use Rattle.deku_stream.specs.Pieces.{last_order, cleared}
+use Rattle.deku_stream.specs.Symmetry.{Takes, RewriteLaw}
+use Rattle.deku_stream.proofs.Binary.{length-facing}
+use Rattle.deku_stream.proofs.Groups.{by_groups}
+use Rattle.deku_stream.proofs.Cuts.{filled_whole, emitted, emitted-full, emitted-short, remainder-full, remainder-short, flow, length-byte_bits, byte-of, length-remainder, laid_out-join, laid_out_cut, laid_out_end}
+use Rattle.deku_stream.proofs.Reading.{spot, spot_zero, seen-spot, left-spot, left_none}
 
 abbrev IsByte : ℕ → Type 0
 IsByte b = b < 256

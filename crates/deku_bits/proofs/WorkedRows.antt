@@ -1,8 +1,8 @@
 -- The worked examples of reading and writing bits, by computation.
 use Rattle.std.proofs.Common.{◌≤◌, refl, arith}
-use Rattle.deku_bits.specs.Bits.{bits_of, byte_bits, shown}
-use Rattle.deku_bits.specs.Streams.{normal, taken, left, skipped}
-use Rattle.deku_bits.specs.Writers.{append, padded}
+use Rattle.deku_stream.specs.Bits.{bits_of, byte_bits, shown}
+use Rattle.deku_stream.specs.Streams.{normal, taken, left, skipped}
+use Rattle.deku_stream.specs.Writers.{append, padded}
 use Rattle.deku_bits.specs.Rows.{ReadRows, SkipRows, ShortRows, WriteRows}
 
 pub read_rows : ReadRows

@@ -1,13 +1,13 @@
 -- Worked examples of reading and writing bits, as theorems that compute.
 use Rattle.std.specs.Prelude.{ℕ, ◌≡◌, Bool, true, false, List, [], ◌∷◌, ◌++◌}
-use Rattle.deku_bits.specs.declared.ctx.Order.{Order}
-use Rattle.deku_bits.specs.declared.ctx.Order.TheVariants.{Msb0, Lsb0}
-use Rattle.deku_bits.specs.Bits.{bits_of, shown}
-use Rattle.deku_bits.specs.Streams.{Stream, fresh, normal, Has, taken, left, skipped}
-use Rattle.deku_bits.specs.Pieces.{Piece, piece}
-use Rattle.deku_bits.specs.Writers.{Pending, Nothing, Held, Written, append, padded}
-use Rattle.deku_bits.specs.Symmetry.{followed}
-pub use Rattle.deku_bits.specs.Streams.{peeked}
+use Rattle.deku_stream.specs.declared.ctx.Order.{Order}
+use Rattle.deku_stream.specs.declared.ctx.Order.TheVariants.{Msb0, Lsb0}
+use Rattle.deku_stream.specs.Bits.{bits_of, shown}
+use Rattle.deku_stream.specs.Streams.{Stream, fresh, normal, Has, taken, left, skipped}
+use Rattle.deku_stream.specs.Pieces.{Piece, piece}
+use Rattle.deku_stream.specs.Writers.{Pending, Nothing, Held, Written, append, padded}
+use Rattle.deku_stream.specs.Symmetry.{followed}
+pub use Rattle.deku_stream.specs.Streams.{peeked}
 
 -- a window and the bytes behind it
 abbrev pub stream : List Bool → List ℕ → Stream

@@ -1,11 +1,11 @@
 //! Laws of the definitions that contracts speak of: each is what an empty function ensures.
 
-ghost use Rattle.deku_bits.specs.Bits.{JoinLaw, PackLaw};
-ghost use Rattle.deku_bits.specs.Streams.{PeekLaw, CutLaw, SkipLaw, PeekSkipLaw, EndLaw};
-ghost use Rattle.deku_bits.specs.ReaderCalls.{FetchLaw, SkipReadLaw, BytesLaw};
-ghost use Rattle.deku_bits.specs.Pieces.{LengthLaw};
-ghost use Rattle.deku_bits.specs.Writers.{AppendLaw, CountLaw};
-ghost use Rattle.deku_bits.specs.Symmetry.{WriteLaw, ReadLaw, RewriteLaw, CallsLaw};
+ghost use Rattle.deku_stream.specs.Bits.{JoinLaw, PackLaw};
+ghost use Rattle.deku_stream.specs.Streams.{PeekLaw, CutLaw, SkipLaw, PeekSkipLaw, EndLaw};
+ghost use Rattle.deku_reader.specs.ReaderCalls.{FetchLaw, SkipReadLaw, BytesLaw};
+ghost use Rattle.deku_stream.specs.Pieces.{LengthLaw};
+ghost use Rattle.deku_stream.specs.Writers.{AppendLaw, CountLaw};
+ghost use Rattle.deku_stream.specs.Symmetry.{WriteLaw, ReadLaw, RewriteLaw, CallsLaw};
 ghost use Rattle.deku_bits.specs.Rows.{ReadRows, SkipRows, ShortRows, WriteRows};
 
 /// A read of a stream is a read of its normal form, where a peeked byte is put back.

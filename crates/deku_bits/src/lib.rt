@@ -1,13 +1,9 @@
 //! Bits, streams of bits and the writing of bits: the base of a codec library.
 #![tactic(auto)]
 
-pub mod bounded;
-pub mod ctx;
-pub mod device;
-pub mod error;
 pub mod laws;
-pub mod noseek;
-pub mod probe;
-pub mod reader;
-pub mod turning;
-pub mod writer;
+
+pub use deku_device::{device, noseek, probe};
+pub use deku_reader::reader;
+pub use deku_stream::{bounded, ctx, error, turning};
+pub use deku_writer::writer;

@@ -1,4 +1,4 @@
-use Rattle.deku_bits.proofs.Taking.{cut_law}
+use Rattle.deku_stream.proofs.Taking.{cut_law}
 use Rattle.deku_bits.proofs.laws.cut_law.Goals as goal
 
 pub returns : goal.returns

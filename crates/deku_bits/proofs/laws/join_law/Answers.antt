@@ -1,4 +1,4 @@
-use Rattle.deku_bits.proofs.Packing.{join_law}
+use Rattle.deku_stream.proofs.Packing.{join_law}
 use Rattle.deku_bits.proofs.laws.join_law.Goals as goal
 
 pub returns : goal.returns

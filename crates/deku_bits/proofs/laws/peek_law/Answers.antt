@@ -1,4 +1,4 @@
-use Rattle.deku_bits.proofs.Taking.{peek_law}
+use Rattle.deku_stream.proofs.Taking.{peek_law}
 use Rattle.deku_bits.proofs.laws.peek_law.Goals as goal
 
 pub returns : goal.returns

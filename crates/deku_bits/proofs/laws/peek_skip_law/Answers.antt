@@ -1,4 +1,4 @@
-use Rattle.deku_bits.proofs.Skips.{peek_skip_law}
+use Rattle.deku_reader.proofs.Skips.{peek_skip_law}
 use Rattle.deku_bits.proofs.laws.peek_skip_law.Goals as goal
 
 pub returns : goal.returns

@@ -1,4 +1,4 @@
-use Rattle.deku_bits.proofs.Writing.{write_law}
+use Rattle.deku_stream.proofs.Writing.{write_law}
 use Rattle.deku_bits.proofs.laws.write_law.Goals as goal
 
 pub returns : goal.returns

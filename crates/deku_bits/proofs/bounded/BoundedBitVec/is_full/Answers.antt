@@ -1,6 +1,0 @@
-use Rattle.std.proofs.Common.{rules}
-use Rattle.deku_bits.proofs.Holding.{opened}
-use Rattle.deku_bits.proofs.bounded.BoundedBitVec.is_full.Goals as goal
-
-pub returns : goal.returns
-returns g c = let len = (opened c.self.inside.bytes c.self.inside.len g.row.N c.args.self.now c.self.told c.self.invariant c.self.view_is).len in search (rules, len)

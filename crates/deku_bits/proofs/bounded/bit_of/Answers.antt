@@ -1,5 +1,0 @@
-use Rattle.deku_bits.proofs.BitPlaces.{bit_is}
-use Rattle.deku_bits.proofs.bounded.bit_of.Goals as goal
-
-pub returns : goal.returns
-returns c = bit_is c.args.byte c.args.place c.requires

@@ -1,5 +1,0 @@
-use Rattle.std.proofs.Common.{rules}
-use Rattle.deku_bits.proofs.error.DekuErrorFromTryFromIntError.from.Goals as goal
-
-pub returns : goal.returns
-returns c = search rules

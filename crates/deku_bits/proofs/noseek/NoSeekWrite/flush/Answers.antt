@@ -1,8 +1,0 @@
-use Rattle.std.proofs.Common.{rules}
-use Rattle.deku_bits.proofs.noseek.NoSeekWrite.flush.Goals as goal
-
-pub returns-clause-bytes : goal.returns-clause-bytes
-returns-clause-bytes g c = search rules
-
-pub returns-clause-stays : goal.returns-clause-stays
-returns-clause-stays g c = search rules

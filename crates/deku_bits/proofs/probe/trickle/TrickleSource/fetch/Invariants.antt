@@ -1,7 +1,0 @@
-use Rattle.std.proofs.Common.{take}
-use Rattle.std.specs.Io.KnownBytes.{Consumes}
-use Rattle.deku_bits.specs.Cursors.{trickling}
-use Rattle.deku_bits.proofs.probe.trickle.TrickleSource.fetch.Given as goal
-
-abbrev pub invariant-loop-place : goal.invariant-loop-place
-invariant-loop-place l = Consumes (trickling l.initial.self).coming (trickling l.self).coming (take l.place-index l.buf)

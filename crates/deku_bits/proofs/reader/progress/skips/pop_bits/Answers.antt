@@ -1,4 +1,0 @@
-use Rattle.deku_bits.proofs.reader.progress.skips.pop_bits.Goals as goal
-
-pub returns : goal.returns
-returns c = (c.take.ensures.group, c.take.ensures.long, c.take.ensures.cut)

@@ -1,5 +1,0 @@
-use Rattle.deku_bits.proofs.Windows.{how_many}
-use Rattle.deku_bits.proofs.reader.window.Window.len.Goals as goal
-
-pub returns-clause-value : goal.returns-clause-value
-returns-clause-value c = how_many c.self.inside.len c.self.inside.bits c.args.self.now c.self.view_is

@@ -1,6 +1,0 @@
-use Rattle.std.proofs.Common.{refl}
-use Rattle.deku_bits.proofs.Windows.{one_bit}
-use Rattle.deku_bits.proofs.reader.window.Window.pop.Goals as goal
-
-pub returns : goal.returns
-returns c = one_bit c.take.ensures refl

@@ -1,8 +1,0 @@
-use Rattle.std.proofs.Common.{rules}
-use Rattle.deku_bits.proofs.reader.window.Window.take.Goals as goal
-
-pub returns-in-Msb0 : goal.returns-in-Msb0
-returns-in-Msb0 c = search rules
-
-pub returns-in-Lsb0 : goal.returns-in-Lsb0
-returns-in-Lsb0 c = search rules

@@ -1,5 +1,0 @@
-use Rattle.std.proofs.Common.{rules}
-use Rattle.deku_bits.proofs.turning.show.Goals as goal
-
-pub returns-in-Lsb0 : goal.returns-in-Lsb0
-returns-in-Lsb0 c = search rules

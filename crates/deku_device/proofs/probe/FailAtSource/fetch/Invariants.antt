@@ -1,0 +1,15 @@
+use Rattle.std.proofs.Common.{◌≡◌, ◌-◌, ◌<◌, take}
+use Rattle.std.specs.Io.KnownBytes.{Consumes}
+use Rattle.deku_device.specs.Cursors.{failing_source}
+use Rattle.deku_device.specs.Devices.{NoFewerFailures}
+use Rattle.deku_device.proofs.probe.FailAtSource.fetch.Given as goal
+
+abbrev pub invariant-loop-place : goal.invariant-loop-place
+invariant-loop-place g l =
+    let told = failing_source g.B.AsBytes.bytes in
+    record {
+      bytes : Consumes (told l.initial.self).coming (told l.self).coming (take l.place-index l.buf);
+      kept : NoFewerFailures (told l.initial.self).health (told l.self).health;
+      counted : l.self.left ≡ l.initial.self.left - l.place-index;
+      fails : 0 < l.initial.self.left → l.place-index < l.initial.self.left;
+    }

@@ -1,0 +1,7 @@
+use Rattle.std.proofs.Common.{take}
+use Rattle.std.specs.Io.KnownBytes.{Consumes}
+use Rattle.deku_device.specs.Cursors.{trickling}
+use Rattle.deku_device.proofs.probe.trickle.TrickleSource.fetch.Given as goal
+
+abbrev pub invariant-loop-place : goal.invariant-loop-place
+invariant-loop-place l = Consumes (trickling l.initial.self).coming (trickling l.self).coming (take l.place-index l.buf)

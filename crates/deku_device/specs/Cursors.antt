@@ -1,0 +1,68 @@
+-- What a cursor tells by its place, and what one that fails once tells.
+use Rattle.std.specs.Prelude.{◌≡◌, ℕ, zero, suc, ◌+◌, ◌-◌, List, [], ◌∷◌, ◌++◌, length, take, drop, replicate, Option, None, Some}
+use Rattle.std.specs.Global.{Vec}
+use Rattle.std.specs.Borrow.{MutBor}
+use Rattle.std.specs.Io.Cursor.{cursor_remaining, cursor_position, cursor_inner}
+use Rattle.std.specs.declared.io.Cursor.{Cursor}
+use Rattle.deku_device.specs.declared.probe.FailAt.{FailAt}
+use Rattle.deku_device.specs.declared.probe.trickle.Trickle.{Trickle}
+use Rattle.deku_device.specs.Devices.{SourceTold, SinkTold, bytes_before}
+
+-- the bytes from the place on, where all bytes are known
+pub cursor_told : {T : Type 0} (bytes : T → Option (List ℕ)) (c : Cursor T) (at : ℕ) (all : List ℕ) → Some (cursor_position c) ≡ Some at → bytes (cursor_inner c) ≡ Some all → cursor_remaining bytes c ≡ Some (drop at all)
+cursor_told bytes c at all p q = rw q (cc)
+
+-- what a source that gives one byte at a time tells
+abbrev pub trickling : Trickle → SourceTold
+trickling s = record {
+  coming = cursor_remaining (λ b. Some b.now) s.inner;
+  health = record { failures = Some 0; lenders = [] };
+}
+
+-- how many calls failed, where so many are left up to the one that fails
+abbrev pub failures_at : ℕ → ℕ
+failures_at zero = 1
+failures_at (suc n) = 0
+
+-- what a source that fails once tells
+abbrev pub failing_source : {B : Type 0} → (B → Option (List ℕ)) → FailAt B → SourceTold
+failing_source bytes s = record {
+  coming = cursor_remaining bytes s.inner;
+  health = record { failures = Some (failures_at s.left); lenders = [] };
+}
+
+-- what a sink that fails once tells
+abbrev pub failing_sink : FailAt (MutBor (List ℕ)) → SinkTold
+failing_sink s = record {
+  taken = bytes_before (cursor_position s.inner) (cursor_inner s.inner).now;
+  room = Some (drop (cursor_position s.inner) (cursor_inner s.inner).now);
+  health = record { failures = Some (failures_at s.left); lenders = (cursor_inner s.inner).ghost_name ∷ [] };
+}
+
+-- what a cursor over a slice tells: the bytes before its place, and its room by those behind
+abbrev pub slice_told : Cursor (MutBor (List ℕ)) → SinkTold
+slice_told c = record {
+  taken = bytes_before (cursor_position c) (cursor_inner c).now;
+  room = Some (drop (cursor_position c) (cursor_inner c).now);
+  health = record { failures = Some 0; lenders = (cursor_inner c).ghost_name ∷ [] };
+}
+
+-- what a cursor over a vector tells: the bytes before its place; its room is what memory is found
+abbrev pub vector_told : Cursor (Vec ℕ) → SinkTold
+vector_told c = record {
+  taken = bytes_before (cursor_position c) (cursor_inner c).items;
+  room = None;
+  health = record { failures = Some 0; lenders = [] };
+}
+
+-- bytes with others laid over those from a place on
+abbrev pub laid_over : List ℕ → ℕ → List ℕ → List ℕ
+laid_over all place bytes = take place all ++ bytes ++ drop (place + length bytes) all
+
+-- as many of the bytes as fit behind a place
+abbrev pub fitting : List ℕ → ℕ → List ℕ → List ℕ
+fitting all place bytes = take (length all - place) bytes
+
+-- bytes that reach up to a place, by zeros
+abbrev pub reaching : ℕ → List ℕ → List ℕ
+reaching place all = all ++ replicate (place - length all) 0

@@ -1,0 +1,232 @@
+//! What a reader takes its bytes from, and what a writer gives them to.
+
+ghost use Rattle.std.specs.Prelude.{◌≡◌, ◌≢◌, ℕ, ◌^◌, ◌<◌, ◌≤◌, ◌+◌, ◌-◌, ◌++◌, ◌∷◌, min, List, [], length, take, drop, Option, Some, None, OnOk, OnErr, IsOk, IfErr, IsTrue, IsFalse};
+ghost use Rattle.std.specs.Io.KnownBytes.{Consumes};
+ghost use Rattle.std.specs.Io.Cursor.{cursor_position, cursor_inner, cursor_remaining};
+ghost use Rattle.std.specs.IoError.{error_kind};
+ghost use Rattle.deku_device.specs.Devices.{SourceTold, SinkTold, NoFewerFailures, MoreFailures, FewerThan, Passes, StaysEmpty, bytes_before, Gave, Declined};
+ghost use Rattle.deku_device.specs.Cursors.{cursor_told, slice_told, vector_told, laid_over, fitting, reaching};
+ghost use Rattle.deku_device.specs.Seeking.{place_on};
+
+use std::fs::File;
+use std::io;
+use std::io::{AsBytes, Cursor, Error, ErrorKind, Read, Seek, SeekFrom, Write};
+
+/// A reader that can seek, whose bytes to come and whose count of failures may be known.
+///
+/// `fetch` is `read_exact` and `pass` is `seek(SeekFrom::Current(n))`, under laws: what is told stays true, and a call fails
+/// only where a told count of failures rises, but for the end of input.
+pub trait Source: Read + Seek {
+    // What it tells: the bytes to come, the count of failures, the references on the way.
+    ghost told: { Self → SourceTold };
+
+    /// Fills the buffer with the next bytes.
+    ///
+    /// Fails with `UnexpectedEof` only where fewer bytes are to come, and else only where the device fails.
+    fn fetch(&mut self, buf: &mut [u8]) -> io::Result<()>
+        ensures bytes { OnOk result (Consumes (told self.old).coming (told self.new).coming buf.new) }
+        ensures short { IfErr result (λ e. error_kind e ≡ ErrorKind.UnexpectedEof → FewerThan (length buf.old) (told self.old).coming) }
+        ensures ended { IfErr result (λ e. error_kind e ≡ ErrorKind.UnexpectedEof → StaysEmpty (told self.old).coming (told self.new).coming) }
+        ensures failed { IfErr result (λ e. error_kind e ≢ ErrorKind.UnexpectedEof → MoreFailures (told self.old).health (told self.new).health) }
+        ensures kept { NoFewerFailures (told self.old).health (told self.new).health };
+
+    /// Leaves out the next `n` bytes, or all where fewer are to come.
+    fn pass(&mut self, n: u64) -> io::Result<()>
+        requires { n < 2 ^ 63 }
+        ensures bytes { OnOk result (Passes n (told self.old).coming (told self.new).coming) }
+        ensures failed { IfErr result (λ e. MoreFailures (told self.old).health (told self.new).health) }
+        ensures kept { NoFewerFailures (told self.old).health (told self.new).health };
+
+    // Where all its bytes and its place among them are known, it tells those from there on.
+    ghost told_by_place: { (s : Self) (at : ℕ) (all : List ℕ) → Self.stream_position s ≡ Some at → Self.stream_bytes s ≡ Some all → (told s).coming ≡ Some (drop at all) };
+}
+
+/// A writer that can seek, whose bytes taken, whose room and whose count of failures may be known.
+///
+/// `give` is `write_all`, under laws: what is told stays true, and a call fails only where a told count of failures rises, where
+/// the room that is told is too small, or, where no room is told, where no memory is found.
+pub trait Sink: Write + Seek {
+    // What it tells: the bytes taken, those that lie in the room left, the count of failures, the references on the way.
+    ghost told: { Self → SinkTold };
+
+    /// Gives all the bytes.
+    fn give(&mut self, bytes: &[u8]) -> io::Result<()>
+        ensures ok { OnOk result (Gave (told self.old) (told self.new) bytes.now) }
+        ensures err { IfErr result (λ e. Declined (told self.old) (told self.new) (length bytes.now) (error_kind e)) };
+}
+
+impl<S: Source> Source for &mut S {
+    ghost told = { λ s. record {
+      coming = (S.told s.now).coming;
+      health = record { failures = (S.told s.now).health.failures; lenders = s.ghost_name ∷ (S.told s.now).health.lenders };
+    } };
+
+    ghost told_by_place = { λ s. S.told_by_place s.now };
+
+    fn fetch(&mut self, buf: &mut [u8]) -> io::Result<()> {
+        Source::fetch(&mut **self, buf)
+    }
+
+    fn pass(&mut self, n: u64) -> io::Result<()> {
+        Source::pass(&mut **self, n)
+    }
+}
+
+impl<S: Sink> Sink for &mut S {
+    ghost told = { λ s. record {
+      taken = (S.told s.now).taken;
+      room = (S.told s.now).room;
+      health = record { failures = (S.told s.now).health.failures; lenders = s.ghost_name ∷ (S.told s.now).health.lenders };
+    } };
+
+    fn give(&mut self, bytes: &[u8]) -> io::Result<()> {
+        Sink::give(&mut **self, bytes)
+    }
+}
+
+// A file tells nothing.
+impl Source for File {
+    ghost told = { λ _. record { coming = None; health = record { failures = None; lenders = [] } } };
+
+    ghost told_by_place = { λ s at all p. Prim.cc };
+
+    fn fetch(&mut self, buf: &mut [u8]) -> io::Result<()> {
+        self.read_exact(buf)
+    }
+
+    fn pass(&mut self, n: u64) -> io::Result<()> {
+        self.seek(SeekFrom::Current(n as i64))?;
+        Ok(())
+    }
+}
+
+impl Sink for File {
+    ghost told = { λ _. record { taken = None; room = None; health = record { failures = None; lenders = [] } } };
+
+    fn give(&mut self, bytes: &[u8]) -> io::Result<()> {
+        self.write_all(bytes)
+    }
+}
+
+// A cursor over bytes in memory tells those from its place on, and does not fail.
+impl<T: AsBytes> Source for Cursor<T> {
+    ghost told = { λ s. record { coming = cursor_remaining T.bytes s; health = record { failures = Some 0; lenders = [] } } };
+
+    ghost told_by_place = { λ s at all. cursor_told T.bytes s at all };
+
+    fn fetch(&mut self, buf: &mut [u8]) -> io::Result<()>
+        ensures bytes { OnOk result (Consumes (cursor_remaining T.bytes self.old) (cursor_remaining T.bytes self.new) buf.new) }
+        ensures short { IfErr result (λ e. (error_kind e ≡ ErrorKind.UnexpectedEof) × FewerThan (length buf.old) (cursor_remaining T.bytes self.old)) }
+        ensures place { OnOk result (cursor_position self.new ≡ cursor_position self.old + length buf.new) }
+        ensures inner { cursor_inner self.new ≡ cursor_inner self.old }
+        // A fetch that is refused moves nothing.
+        ensures stays { OnErr result (self.new ≡ self.old) }
+    {
+        let at = self.position();
+        if !copy_at(self.get_ref().as_byte_slice(), at, buf) {
+            return Err(Error::new(ErrorKind::UnexpectedEof, "failed to fill whole buffer"));
+        }
+        self.set_position(at + buf.len() as u64);
+        Ok(())
+    }
+
+    fn pass(&mut self, n: u64) -> io::Result<()>
+        requires { n < 2 ^ 63 }
+        ensures bytes { Passes n (cursor_remaining T.bytes self.old) (cursor_remaining T.bytes self.new) }
+        ensures ok { IsOk result }
+        // It may pass the end, as a seek does.
+        ensures place { cursor_position self.new ≡ place_on (cursor_position self.old) n }
+        ensures inner { cursor_inner self.new ≡ cursor_inner self.old }
+    {
+        let at = self.position();
+        let end = place_after(self.get_ref().as_byte_slice(), at, n);
+        self.set_position(end);
+        Ok(())
+    }
+}
+
+// The place n bytes after this one, or the last place that there is.
+fn place_after(all: &[u8], at: u64, n: u64) -> u64
+    ensures place { result ≡ place_on at n }
+    ensures behind { drop result all.now ≡ drop n (drop at all.now) }
+{
+    let _length = all.len();
+    at.saturating_add(n)
+}
+
+// Fills the buffer from the bytes at this place, or answers that they are too few.
+fn copy_at(all: &[u8], at: u64, buf: &mut [u8]) -> bool
+    ensures fits { IsTrue result → at + length buf.old < 2 ^ 64 }
+    ensures short { IsFalse result → FewerThan (length buf.old) (Some (drop at all.now)) }
+    ensures bytes { IsTrue result → drop at all.now ≡ buf.new ++ drop (at + length buf.old) all.now }
+{
+    if buf.is_empty() {
+        return true;
+    }
+    let at = at as usize;
+    if all.len() < at || all.len() - at < buf.len() {
+        return false;
+    }
+    buf.copy_from_slice(&all[at..at + buf.len()]);
+    true
+}
+
+// A cursor over a slice tells the bytes before its place, and its room by those behind.
+impl Sink for Cursor<&mut [u8]> {
+    ghost told = { λ c. slice_told c };
+
+    fn give(&mut self, bytes: &[u8]) -> io::Result<()>
+        ensures ok { OnOk result (Gave (slice_told self.old) (slice_told self.new) bytes.now) }
+        ensures err { IfErr result (λ e. Declined (slice_told self.old) (slice_told self.new) (length bytes.now) (error_kind e)) }
+        // As many of the bytes as fit are laid over those that lie there, also where it is refused.
+        ensures written { (cursor_inner self.new).now ≡ laid_over (cursor_inner self.old).now (cursor_position self.old) (fitting (cursor_inner self.old).now (cursor_position self.old) bytes.now) }
+        ensures place { cursor_position self.new ≡ cursor_position self.old + length (fitting (cursor_inner self.old).now (cursor_position self.old) bytes.now) }
+    {
+        let place = self.position();
+        let all = self.get_mut();
+        let n = overwrite(all, place as usize, bytes);
+        self.set_position(place + n as u64);
+        if n < bytes.len() {
+            return Err(Error::from(ErrorKind::WriteZero));
+        }
+        Ok(())
+    }
+}
+
+// A cursor over a vector tells the bytes before its place. Its room is what memory is found.
+impl Sink for Cursor<Vec<u8>> {
+    ghost told = { λ c. vector_told c };
+
+    fn give(&mut self, bytes: &[u8]) -> io::Result<()>
+        ensures ok { OnOk result (Gave (vector_told self.old) (vector_told self.new) bytes.now) }
+        ensures err { IfErr result (λ e. error_kind e ≡ ErrorKind.OutOfMemory) }
+        // The bytes are laid over those that lie there, behind zeros where the place is past the end; what is behind them stays.
+        ensures written { OnOk result ((cursor_inner self.new).items ≡ laid_over (reaching (cursor_position self.old) (cursor_inner self.old).items) (cursor_position self.old) bytes.now) }
+        ensures place { OnOk result (cursor_position self.new ≡ place_on (cursor_position self.old) (length bytes.now)) }
+        ensures stays { OnErr result (cursor_position self.new ≡ cursor_position self.old) }
+    {
+        let place = self.position();
+        let all = self.get_mut();
+        if (place as usize) > all.len() {
+            all.resize(place as usize, 0)?;
+        }
+        let n = overwrite(all.as_mut_slice(), place as usize, bytes);
+        all.extend_from_slice(&bytes[n..])?;
+        self.set_position(place.saturating_add(bytes.len() as u64));
+        Ok(())
+    }
+}
+
+// Writes as many of the bytes as fit over `all` from `place` on, and answers how many.
+fn overwrite(all: &mut [u8], place: usize, bytes: &[u8]) -> usize
+    ensures count { result ≡ min (length bytes.now) (length all.old - place) }
+    ensures written { place ≤ length all.old → all.new ≡ take place all.old ++ take result bytes.now ++ drop (place + result) all.old }
+    ensures past { length all.old < place → all.new ≡ all.old }
+{
+    if place > all.len() {
+        return 0;
+    }
+    let n = bytes.len().min(all.len() - place);
+    all[place..place + n].copy_from_slice(&bytes[..n]);
+    n
+}

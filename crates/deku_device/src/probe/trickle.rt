@@ -1,0 +1,102 @@
+//! A source that gives one byte at a time.
+
+ghost use Rattle.std.specs.Prelude.{◌≡◌, ◌≢◌, ◌≤◌, ◌∷◌, [], length, Some, OnOk, OnErr, IfOk, IfErr, IsOk};
+ghost use Rattle.std.specs.Io.{ReadsAtMost};
+ghost use Rattle.std.specs.Io.Cursor.{cursor_position, cursor_inner, IsSeekResult, IsSeekFromEnd};
+ghost use Rattle.std.specs.Io.KnownBytes.{Consumes, Keeps, ReadConsumes};
+ghost use Rattle.std.specs.Io.Seek.{SeekMoves};
+ghost use Rattle.std.specs.IoError.{error_kind};
+ghost use Rattle.deku_device.specs.Cursors.{cursor_told, trickling};
+ghost use Rattle.deku_device.specs.Devices.{NoFewerFailures, MoreFailures, FewerThan, StaysEmpty};
+
+use crate::device::Source;
+use std::io;
+use std::io::{Cursor, ErrorKind, Read, Seek, SeekFrom};
+
+/// A source over bytes in memory that gives one byte at a time. It tells its bytes, and does not fail.
+///
+/// ```text
+/// let mut reader = Reader::new(alloc, Trickle::new(bytes)); // 01 02
+/// reader.read_bits(16, Order::Msb0)?;                       // the bits of 01 02
+/// ```
+#[derive(Drop)]
+pub struct Trickle<'a> {
+    inner: Cursor<&'a [u8]>,
+}
+
+impl<'a> Trickle<'a> {
+    /// It begins at the first byte.
+    pub fn new(bytes: &'a [u8]) -> Trickle<'a>
+        ensures bytes { cursor_inner result.inner ≡ bytes.entry }
+        ensures place { cursor_position result.inner ≡ 0 }
+    {
+        Trickle {
+            inner: Cursor::new(bytes),
+        }
+    }
+}
+
+impl<'a> Read for Trickle<'a> {
+    ghost remaining = { λ s. (trickling s).coming };
+
+    fn read(&mut self, buf: &mut [u8]) -> io::Result<usize>
+        ensures bound { ReadsAtMost result buf.new }
+        ensures bytes { ReadConsumes (trickling self.old).coming (trickling self.new).coming result buf.new }
+        ensures one { IfOk result (λ n. n ≤ 1) }
+        ensures ok { IsOk result }
+    {
+        let most = buf.len().min(1);
+        self.inner.read(&mut buf[..most])
+    }
+}
+
+impl<'a> Seek for Trickle<'a> {
+    ghost stream_position = { λ s. Some (cursor_position s.inner) };
+
+    ghost stream_bytes = { λ s. Some (cursor_inner s.inner).now };
+
+    fn seek(&mut self, to: SeekFrom) -> io::Result<u64>
+        ensures moves { SeekMoves (Some (cursor_position self.old.inner)) (Some (cursor_position self.new.inner)) (Some (cursor_inner self.old.inner).now) to result }
+        ensures bytes { Keeps (Some (cursor_inner self.old.inner).now) (Some (cursor_inner self.new.inner).now) }
+        ensures target { IsSeekResult to (cursor_position self.old.inner) result }
+        ensures from_end { IsSeekFromEnd to (length (cursor_inner self.old.inner).now) result }
+        ensures inner { cursor_inner self.new.inner ≡ cursor_inner self.old.inner }
+    {
+        self.inner.seek(to)
+    }
+}
+
+// Fetches one byte of the cursor.
+fn trickled_byte(source: &mut Trickle<'_>) -> io::Result<u8>
+    ensures bytes { IfOk result (λ b. Consumes (trickling source.old).coming (trickling source.new).coming (b ∷ [])) }
+    ensures err { IfErr result (λ e. (error_kind e ≡ ErrorKind.UnexpectedEof) × FewerThan 1 (trickling source.old).coming × StaysEmpty (trickling source.old).coming (trickling source.new).coming) }
+{
+    let mut byte = [0];
+    source.inner.fetch(&mut byte)?;
+    Ok(byte[0])
+}
+
+impl<'a> Source for Trickle<'a> {
+    ghost told = { λ s. trickling s };
+
+    ghost told_by_place = { λ s at all. cursor_told (λ b. Some b.now) s.inner at all };
+
+    fn fetch(&mut self, buf: &mut [u8]) -> io::Result<()>
+        ensures bytes { OnOk result (Consumes (trickling self.old).coming (trickling self.new).coming buf.new) }
+        ensures short { IfErr result (λ e. error_kind e ≡ ErrorKind.UnexpectedEof → FewerThan (length buf.old) (trickling self.old).coming) }
+        ensures ended { IfErr result (λ e. error_kind e ≡ ErrorKind.UnexpectedEof → StaysEmpty (trickling self.old).coming (trickling self.new).coming) }
+        ensures failed { IfErr result (λ e. error_kind e ≢ ErrorKind.UnexpectedEof → MoreFailures (trickling self.old).health (trickling self.new).health) }
+        ensures kept { NoFewerFailures (trickling self.old).health (trickling self.new).health }
+        // Where it is refused, each byte is given.
+        ensures spent { OnErr result ((trickling self.new).coming ≡ Some []) }
+    {
+        for place in buf.iter_mut() {
+            *place = trickled_byte(self)?;
+        }
+        Ok(())
+    }
+
+    fn pass(&mut self, n: u64) -> io::Result<()> {
+        self.inner.pass(n)
+    }
+}

@@ -1,0 +1,5 @@
+pub mod Moving
+pub mod Skips
+pub mod Handouts
+pub mod WordsRead
+pub mod BytesRead

@@ -1,0 +1,177 @@
+-- Words that are read: groups of eight as bytes, from a window and the bytes behind it.
+use Rattle.std.proofs.Common.{◌≡◌, ℕ, ◌+◌, ◌*◌, ◌-◌, ◌/◌, ◌%◌, ◌^◌, ◌<◌, ◌≤◌, Bool, false, List, [], ◌∷◌, ◌++◌, length, map, take, drop, set, get_or, replicate, All, Option, Ok, arith, refl, sym, ap, ap₂, ◌∙◌, subst, append-nil, append_assoc, length-append, take-add, mod-eq_of_lt}
+use Rattle.std.proofs.lemmas.Nat.{mul-add-lt, pow-add}
+use Rattle.std.proofs.lemmas.List.{take_at, drop_at, take-take, drop-drop, drop-replicate, drop_all, drop_more, get_or_at, set_at, length-map, length-replicate, nil_from_length}
+use Rattle.std.specs.Int.{w128, from_le_bytes}
+use Rattle.deku_stream.specs.declared.ctx.Order.{Order}
+use Rattle.deku_stream.specs.declared.ctx.Order.TheVariants.{Msb0, Lsb0}
+use Rattle.deku_stream.specs.Bits.{byte_bits, chunks, facing, group_number, groups, little, word_of}
+use Rattle.deku_stream.specs.Streams.{flow}
+use Rattle.deku_device.specs.Devices.{Health, NoFewerFailures, Loses}
+use Rattle.deku_stream.specs.Standings.{Going, stream_of}
+use Rattle.deku_stream.specs.Outcomes.{Outcome, Quiet}
+use Rattle.deku_reader.specs.ReaderCalls.{Takes, ReadsWord}
+use Rattle.deku_stream.specs.Moving.{Moves, GivesGroup, TakesGroups, MovesWord}
+use Rattle.deku_stream.proofs.Binary.{length-facing, facing-facing, group_number-lt}
+use Rattle.deku_stream.proofs.Packed.{pow_byte}
+use Rattle.deku_stream.proofs.Cuts.{length-flow, flow-append}
+use Rattle.deku_stream.proofs.Groups.{length-chunks}
+use Rattle.deku_stream.proofs.Packing.{join_law}
+use Rattle.deku_stream.proofs.Handing.{mapped_ok}
+use Rattle.deku_reader.proofs.Moving.{moves_keep, moves_inside, moved_loses, takes_ok}
+use Rattle.deku_stream.proofs.Bytes.{IsByte}
+use Rattle.deku_stream.proofs.Words.{byte_groups, one_group, word_of-short, little-filled, little_sixteen}
+
+-- a group's number is below two to the power of its length
+pub gives_below : (o : Order) (n k : ℕ) (w v : List Bool) → GivesGroup o n w k v → k < 2 ^ n
+gives_below o n k w v g = rw (g.worth, ← g.long) (group_number-lt o (g.group))
+
+-- a window gives no bits and stays
+pub gives_none : (o : Order) (n k : ℕ) (w v : List Bool) → GivesGroup o n w k v → n ≡ 0 → v ≡ w
+gives_none o n k w v g z =
+    let none : g.group ≡ [] = nil_from_length (g.group) (g.long ∙ z) in
+    let same : facing o w ≡ facing o v = g.cut ∙ ap (λ s. s ++ facing o v) none in
+    sym (facing-facing o v) ∙ ap (facing o) (sym same) ∙ facing-facing o w
+
+-- the number of two parts of a group fits a byte
+pub joined_fits : (a b i k : ℕ) → a < 2 ^ i → b < 2 ^ k → i + k < 8 → (a * 2 ^ k % 256 ≡ a * 2 ^ k) × (a * 2 ^ k + b < 256)
+joined_fits a b i k h l few =
+    let small : a * 2 ^ k + b < 2 ^ i * 2 ^ k = omega (arith, mul-add-lt a (2 ^ k) b (2 ^ i) h l) in
+    let byte : 2 ^ i * 2 ^ k ≤ 256 = rw (← pow-add 2 i k) (pow_byte (i + k) (omega arith)) in
+    let fits : a * 2 ^ k + b < 256 = omega arith in
+    (mod-eq_of_lt (omega arith), fits)
+
+-- ---- groups from a window and bytes
+-- a group that the window has
+pub last_inside : (o : Order) (w v : List Bool) (b n k : ℕ) → 0 < n → n ≤ 8 → n ≤ length w → GivesGroup o n w k v → TakesGroups o w (take (groups (n - length w)) (b ∷ [])) n (k ∷ []) v
+last_inside o w v b n k p q h g =
+    let none : groups (n - length w) ≡ 0 = omega arith in
+    rw none (record {
+      bits = g.group;
+      long = g.long;
+      cut = append-nil (facing o w) ∙ g.cut;
+      worth = one_group o (g.group) (omega (arith, g.long)) (omega (arith, g.long)) ∙ ap (λ x. x ∷ []) (sym (g.worth));
+    })
+
+-- a group that begins in the window and ends in a byte
+pub last_across : (o : Order) (w u v : List Bool) (b n m f s k : ℕ) → m ≡ length w → m < n → n ≤ 8 → GivesGroup o m w f u → GivesGroup o (n - m) (byte_bits b) s v
+    → (o ≡ Msb0 → k ≡ f * 2 ^ (n - m) + s) → (o ≡ Lsb0 → k ≡ f + s * 2 ^ m) → TakesGroups o w (take (groups (n - length w)) (b ∷ [])) n (k ∷ []) v
+last_across o w u v b n m f s k e p q g h high low =
+    let one : groups (n - length w) ≡ 1 = omega arith in
+    let all : length (facing o w) ≡ length (g.group ++ facing o u) = ap length (g.cut) in
+    let nothing : facing o u ≡ [] = nil_from_length (facing o u) (omega (arith, all, length-facing o w, length-append (g.group) (facing o u), g.long)) in
+    let first : facing o w ≡ g.group = g.cut ∙ ap (λ x. g.group ++ x) nothing ∙ append-nil (g.group) in
+    let bits : List Bool = g.group ++ h.group in
+    let wide : length bits ≡ n = omega (arith, length-append (g.group) (h.group), g.long, h.long) in
+    rw one (record {
+      bits = bits;
+      long = wide;
+      cut = ap₂ (λ x y. x ++ y) first (append-nil (facing o (byte_bits b)) ∙ h.cut) ∙ sym (append_assoc (g.group) (h.group) (facing o v));
+      worth = one_group o bits (omega (arith, wide)) (omega (arith, wide)) ∙ ap (λ x. x ∷ []) (sym (number o refl));
+    })
+  where
+    number : (p : Order) → o ≡ p → k ≡ group_number o (g.group ++ h.group)
+    number Msb0 r = rw r (high r ∙ ap₂ (λ x y. x + y) (ap₂ (λ x y. x * 2 ^ y) (g.worth ∙ ap (λ x. group_number x (g.group)) r) (sym (h.long))) (h.worth ∙ ap (λ x. group_number x (h.group)) r)
+        ∙ sym ((join_law (g.group) (h.group)).0))
+    number Lsb0 r = rw r (low r ∙ ap₂ (λ x y. x + y) (g.worth ∙ ap (λ x. group_number x (g.group)) r) (ap₂ (λ x y. x * 2 ^ y) (h.worth ∙ ap (λ x. group_number x (h.group)) r) (sym (g.long)))
+        ∙ sym ((join_law (g.group) (h.group)).1))
+
+-- whole groups alone
+pub gather_even : (o : Order) (w v : List Bool) (dst bytes : List ℕ) (n q : ℕ) → q ≡ n / 8 → n % 8 ≡ 0 → length w < 8 → length dst ≡ groups n → length bytes ≡ q → All IsByte bytes
+    → facing o w ++ flow o (take q dst) ≡ flow o bytes ++ facing o v → TakesGroups o w (take (groups (n - length w)) dst) n (bytes ++ drop q dst) v
+gather_even o w v dst bytes n q e z short room long all cut =
+    let count : groups (n - length w) ≡ q = omega arith in
+    let nothing : drop q dst ≡ [] = drop_all q dst (omega arith) in
+    rw (count, nothing) (record {
+      bits = flow o bytes;
+      long = length-flow o bytes ∙ omega arith;
+      cut = cut;
+      worth = ap (λ s. map (group_number o) (chunks s)) (sym (append-nil (flow o bytes))) ∙ byte_groups o bytes [] all;
+    })
+
+-- whole groups and a short one
+pub gather_more : (o : Order) (w u v : List Bool) (dst bytes : List ℕ) (n q b k : ℕ) → q ≡ n / 8 → 0 < n % 8 → length w < 8 → length dst ≡ groups n → length bytes ≡ q → All IsByte bytes
+    → facing o w ++ flow o (take q dst) ≡ flow o bytes ++ facing o u → length u ≡ length w → b ≡ get_or (bytes ++ drop q dst) q 0
+    → TakesGroups o u (take (groups (n % 8 - length u)) (b ∷ [])) (n % 8) (k ∷ []) v
+    → TakesGroups o w (take (groups (n - length w)) dst) n (set (bytes ++ drop q dst) q k) v
+gather_more o w u v dst bytes n q b k e p short room long all cut same at g =
+    let j : ℕ = groups (n % 8 - length u) in
+    let count : groups (n - length w) ≡ q + j = omega arith in
+    let c : ℕ = get_or dst q 0 in
+    let last : drop q dst ≡ c ∷ [] = drop_more dst q 0 (omega arith) ∙ ap (λ s. c ∷ s) (drop_all (q + 1) dst (omega arith)) in
+    let byte : b ≡ c = at ∙ ap (λ s. get_or (bytes ++ s) q 0) last ∙ get_or_at bytes c [] 0 q long in
+    let done : set (bytes ++ drop q dst) q k ≡ bytes ++ k ∷ [] = ap (λ s. set (bytes ++ s) q k) last ∙ set_at bytes c [] k q long in
+    let taken : take (q + j) dst ≡ take q dst ++ take j (b ∷ []) = take-add q j dst ∙ ap (λ s. take q dst ++ take j s) (last ∙ ap (λ x. x ∷ []) (sym byte)) in
+    rw (count, done, taken) (record {
+      bits = flow o bytes ++ g.bits;
+      long = omega (arith, length-append (flow o bytes) (g.bits), length-flow o bytes, g.long);
+      cut = ap (λ s. facing o w ++ s) (flow-append o (take q dst) (take j (b ∷ [])))
+          ∙ sym (append_assoc (facing o w) (flow o (take q dst)) (flow o (take j (b ∷ []))))
+          ∙ ap (λ s. s ++ flow o (take j (b ∷ []))) cut
+          ∙ append_assoc (flow o bytes) (facing o u) (flow o (take j (b ∷ [])))
+          ∙ ap (λ s. flow o bytes ++ s) (g.cut)
+          ∙ sym (append_assoc (flow o bytes) (g.bits) (facing o v));
+      worth = byte_groups o bytes (g.bits) all ∙ ap (λ s. bytes ++ s) (g.worth);
+    })
+
+-- ---- the word that is answered
+-- so many groups
+length-numbers : (o : Order) (w v : List Bool) (bytes numbers : List ℕ) (n : ℕ) → TakesGroups o w bytes n numbers v → length numbers ≡ groups n
+length-numbers o w v bytes numbers n g =
+    ap length (sym (g.worth)) ∙ length-map (chunks (g.bits)) (group_number o) ∙ length-chunks (g.bits) ∙ ap groups (g.long)
+
+-- of a group that the window has
+pub word_inside : (o : Order) (w v : List Bool) (t : Option (List ℕ)) (n k : ℕ) → n ≤ 8 → GivesGroup o n w k v → MovesWord o w t n k v t
+word_inside o w v t n k l g = record {
+  bits = g.group;
+  long = g.long;
+  moved = moves_inside o w t (g.group) v (g.cut);
+  worth = g.worth ∙ sym (word_of-short o (g.group) (omega (arith, g.long)));
+}
+
+-- of groups in sixteen bytes
+pub word_gathered : (o : Order) (w u v : List Bool) (t x : Option (List ℕ)) (n k m : ℕ) (fetched numbers : List ℕ) → n ≤ 128 → length w ≤ 8 → length u ≡ length w % 8 → length w < n
+    → k ≡ groups (n - length w % 8) → m ≡ groups n → length fetched ≡ k → Moves o w t (facing o u ++ flow o fetched) [] x
+    → TakesGroups o u (take (groups (n - length u)) (take m (fetched ++ drop k (replicate 16 0)))) n numbers v
+    → MovesWord o w t n (from_le_bytes w128 (numbers ++ drop m (fetched ++ drop k (replicate 16 0)))) v x × (length v < 8)
+word_gathered o w u v t x n k m fetched numbers wide l short more e f long moved g =
+    let zeros : List ℕ = drop k (replicate 16 0) in
+    let j : ℕ = m - k in
+    let sum : m ≡ k + j = omega arith in
+    let count : groups (n - length u) ≡ k = ap (λ x. groups (n - x)) short ∙ sym e in
+    let bytes : take (groups (n - length u)) (take m (fetched ++ zeros)) ≡ fetched =
+    ap (λ x. take x (take m (fetched ++ zeros))) count ∙ take-take k m (fetched ++ zeros) (omega arith) ∙ take_at fetched zeros k long in
+    let rest : drop m (fetched ++ zeros) ≡ replicate (16 - m) 0 =
+    ap (λ x. drop x (fetched ++ zeros)) sum ∙ sym (drop-drop j k (fetched ++ zeros)) ∙ ap (drop j) (drop_at fetched zeros k long)
+    ∙ drop-drop j k (replicate 16 0) ∙ ap (λ x. drop x (replicate 16 0)) (sym sum) ∙ drop-replicate m 16 0 in
+    let cut : facing o u ++ flow o fetched ≡ g.bits ++ facing o v = ap (λ s. facing o u ++ flow o s) (sym bytes) ∙ g.cut in
+    let size : length numbers ≡ m = length-numbers o u v _ numbers n g ∙ sym f in
+    let full : length (numbers ++ replicate (16 - m) 0) ≡ 16 = omega (arith, length-append numbers (replicate (16 - m) 0), length-replicate {A = ℕ} (16 - m) 0) in
+    let all : length (facing o u ++ flow o fetched) ≡ length (g.bits ++ facing o v) = ap length cut in
+    let few : length v < 8 =
+    omega (arith, all, short, long, e, g.long, length-append (facing o u) (flow o fetched), length-facing o u, length-flow o fetched, length-append (g.bits) (facing o v), length-facing o v) in (
+      record {
+        bits = g.bits;
+        long = g.long;
+        moved = moves_keep o w t (facing o u ++ flow o fetched) (g.bits) v x moved cut;
+        worth = ap (λ s. from_le_bytes w128 (numbers ++ s)) rest ∙ little_sixteen (numbers ++ replicate (16 - m) 0) full ∙ little-filled numbers (16 - m) ∙ ap little (sym (g.worth));
+      },
+      few,
+    )
+
+-- ---- what a read of a word answers
+-- bits were taken
+pub word_ok : (o : Order) (w : List Bool) (t : Option (List ℕ)) (c n k : ℕ) (v : List Bool) (u : Option (List ℕ)) (f g : Health) → length w ≤ 8 → c + n < 2 ^ 64
+    → MovesWord o w t n k v u → (0 < n → length v < 8) → (n ≡ 0 → (v ≡ w) × (u ≡ t)) → NoFewerFailures f g
+    → Outcome (ReadsWord o n) (Going (stream_of w t) c) f (Ok k) (Going (stream_of v u) (c + n)) g
+word_ok o w t c n k v u f g l room m short none kept =
+    let bits : List Bool = m.bits in
+    let taken = takes_ok o w t c n bits v u (m.long) l room (m.moved) (λ p. short (omega (arith, p, m.long))) (λ z. none (omega (arith, z, m.long))) in
+    let counted = subst (λ x. Takes o n false (Going (stream_of w t) c) (Ok bits) (Going (stream_of v u) (c + x))) (m.long) taken in
+    subst (λ x. Outcome (ReadsWord o n) (Going (stream_of w t) c) f (Ok x) (Going (stream_of v u) (c + n)) g) (sym (m.worth)) (mapped_ok (word_of o) (Quiet counted kept))
+
+-- and as many bytes as they need were fetched
+pub word_loses : (o : Order) (w : List Bool) (t : Option (List ℕ)) (n k : ℕ) (v : List Bool) (u : Option (List ℕ)) → length w ≤ 8
+    → MovesWord o w t n k v u → (0 < n → length v < 8) → (n ≡ 0 → (v ≡ w) × (u ≡ t)) → Loses (groups (n - length w)) t u
+word_loses o w t n k v u l m short none =
+    moved_loses o w t n (m.bits) v u (m.long) l (m.moved) (λ p. short (omega (arith, p, m.long))) (λ z. none (omega (arith, z, m.long)))

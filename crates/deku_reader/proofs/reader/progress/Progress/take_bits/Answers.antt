@@ -1,0 +1,35 @@
+use Rattle.std.proofs.Common.{◌≡◌, ◌∙◌, length, arith}
+use Rattle.deku_stream.specs.Outcomes.{Quiet}
+use Rattle.deku_reader.proofs.Moving.{moved_loses, takes_ok, takes_err, admitted}
+use Rattle.deku_reader.proofs.reader.progress.Progress.take_bits.Goals as goal
+
+pub returns-in-Ok-clause-takes : goal.returns-in-Ok-clause-takes
+returns-in-Ok-clause-takes g c =
+    let told = g.R.Source.told in
+    let p = c.self.inside in
+    let len : length c.bits_into.new.dst ≡ length c.args.dst.now = omega arith in
+    let may = admitted p.window p.fault p.bits_read (length c.args.dst.now) (rw (← c.self.view_is) at c.in_ok-admits.ensures) in
+    let h = takes_ok c.args.order p.window (told c.args.source.now).coming p.bits_read (length c.args.dst.now) c.bits_into.new.dst c.bits_into.new.window (told c.bits_into.new.source).coming
+    len c.self.invariant may.1 c.in-Ok.ensures.moved c.in-Ok.ensures.short c.in-Ok.ensures.none in
+    rw (← c.self.view_is, may.0) (Quiet h c.bits_into.ensures.kept)
+
+pub returns-in-Err-clause-takes : goal.returns-in-Err-clause-takes
+returns-in-Err-clause-takes g c =
+    let told = g.R.Source.told in
+    let p = c.self.inside in
+    let len : length c.bits_into.new.dst ≡ length c.args.dst.now = omega arith in
+    let may = admitted p.window p.fault p.bits_read (length c.args.dst.now) (rw (← c.self.view_is) at c.in_ok-admits.ensures) in
+    let at_end = c.self-in-Err.view_is ∙ c.stopped.ensures in
+    rw (← c.self.view_is, may.0, c.error.ensures, at_end)
+    (takes_err c.args.order p.window (told c.args.source.now).coming p.bits_read (length c.args.dst.now) (told c.args.source.now).health (told c.bits_into.new.source).health _ _
+    (rw len at c.fault_of-fault.ensures) may.1 c.in-Err.ensures.ended c.in-Err.ensures.failed c.bits_into.ensures.kept)
+
+pub returns-in-Ok-clause-fetched : goal.returns-in-Ok-clause-fetched
+returns-in-Ok-clause-fetched g c =
+    let told = g.R.Source.told in
+    let p = c.self.inside in
+    let len : length c.bits_into.new.dst ≡ length c.args.dst.now = omega arith in
+    let may = admitted p.window p.fault p.bits_read (length c.args.dst.now) (rw (← c.self.view_is) at c.in_ok-admits.ensures) in
+    rw (← c.self.view_is, may.0)
+    (moved_loses c.args.order p.window (told c.args.source.now).coming (length c.args.dst.now) c.bits_into.new.dst c.bits_into.new.window (told c.bits_into.new.source).coming
+    len c.self.invariant c.in-Ok.ensures.moved c.in-Ok.ensures.short c.in-Ok.ensures.none)

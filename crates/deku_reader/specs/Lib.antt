@@ -1,0 +1,14 @@
+pub use Rattle.deku_device.specs.Devices
+pub use Rattle.deku_device.specs.Cursors
+pub use Rattle.deku_device.specs.Seeking
+pub use Rattle.deku_stream.specs.Bits
+pub use Rattle.deku_stream.specs.Streams
+pub use Rattle.deku_stream.specs.Pieces
+pub use Rattle.deku_stream.specs.Writers
+pub use Rattle.deku_stream.specs.Symmetry
+pub use Rattle.deku_stream.specs.Standings
+pub use Rattle.deku_stream.specs.Outcomes
+pub use Rattle.deku_stream.specs.Faults
+pub use Rattle.deku_stream.specs.Kept
+pub use Rattle.deku_stream.specs.Moving
+pub mod ReaderCalls

@@ -1,0 +1,135 @@
+-- What the calls of a reader do.
+use Rattle.std.specs.Prelude.{◌≡◌, ◌⊎◌, ℕ, ◌+◌, ◌*◌, ◌-◌, ◌<◌, ◌≤◌, Bool, true, false, List, [], length, Option, None, Some, Result, Ok, Err}
+use Rattle.std.specs.Global.{Vec}
+use Rattle.std.specs.declared.io.ErrorKind.TheVariants.{OutOfMemory}
+use Rattle.deku_stream.specs.declared.ctx.Order.{Order}
+use Rattle.deku_stream.specs.declared.error.DekuError.{DekuError}
+use Rattle.deku_stream.specs.declared.error.DekuError.TheVariants.{Incomplete, Io}
+use Rattle.deku_reader.specs.declared.reader.Reader.{Reader}
+use Rattle.deku_reader.specs.declared.reader.Leftover.{Leftover}
+use Rattle.deku_reader.specs.declared.reader.Leftover.TheVariants.{Byte, Bits}
+use Rattle.deku_stream.specs.Bits.{byte_bits, shown, bits_in, bytes_of, groups, word_of}
+use Rattle.deku_stream.specs.Streams.{Stream, bit_count, Has, Lacks, taken, left, last_part, passed, skipped}
+use Rattle.deku_device.specs.Devices.{SourceTold, Loses}
+use Rattle.deku_stream.specs.Standings.{Standing, Going, Stopped, count_of, reader_state}
+use Rattle.deku_stream.specs.Outcomes.{Meaning, Outcome, UnlessStopped, Counted, Reserving, Mapped}
+
+-- a call on a source and what a reader keeps beside it
+abbrev pub ReadsAt : {V : Type 0} → Meaning (Option Stream) V → SourceTold → Standing (List Bool) → Result V DekuError → SourceTold → Standing (List Bool) → Type 0
+ReadsAt m told s r told_after u = Outcome m (reader_state told.coming s) told.health r (reader_state told_after.coming u) told_after.health
+
+-- a call on a reader
+abbrev pub Reads : {R V : Type 0} → (R → SourceTold) → Meaning (Option Stream) V → Reader R → Result V DekuError → Reader R → Type 0
+Reads told m old r new = ReadsAt m (told old.source) old.state r (told new.source) new.state
+
+-- the end of input, which is kept, where n bits were asked
+abbrev pub Ends : {V : Type 0} → ℕ → ℕ → Result V DekuError → Standing (Option Stream) → Type 0
+Ends n c r u = (r ≡ Err (Incomplete (record { bits = n }))) × (u ≡ Stopped (Incomplete (record { bits = n })) c)
+
+-- n bits are taken from a stream: from one that is told exactly those, or the end of input where it has too few
+abbrev pub Transfers : Order → ℕ → Option Stream → ℕ → Result (List Bool) DekuError → Standing (Option Stream) → Type 0
+Transfers o n (Some S) c r u = (Has n S × (r ≡ Ok (taken o n S)) × (u ≡ Going (Some (left o n S)) (c + n))) ⊎ (Lacks n S × Ends n c r u)
+Transfers o n None c r u = ((bits : List Bool) × (after : Option Stream) × (length bits ≡ n) × (r ≡ Ok bits) × (u ≡ Going after (c + n))) ⊎ Ends n c r u
+
+-- n bits are taken in an order
+abbrev pub Takes : Order → ℕ → Meaning (Option Stream) (List Bool)
+Takes o n = UnlessStopped (Counted n (Transfers o n))
+
+-- n bits are taken in an order and shown
+abbrev pub ReadsBits : Order → ℕ → Meaning (Option Stream) (List Bool)
+ReadsBits o n = Mapped (shown o) (Takes o n)
+
+-- n bits are taken in an order and shown, in memory that is found first
+abbrev pub ReadsVec : Order → ℕ → Meaning (Option Stream) (List Bool)
+ReadsVec o n = Mapped (shown o) (UnlessStopped (Counted n (Reserving (Transfers o n))))
+
+-- n bytes are read: eight times as many bits, taken in an order and shown, as bytes
+abbrev pub ReadsBytes : Order → ℕ → Meaning (Option Stream) (List ℕ)
+ReadsBytes o n = Mapped bytes_of (ReadsBits o (8 * n))
+
+-- n bits are taken in an order, as their word
+abbrev pub ReadsWord : Order → ℕ → Meaning (Option Stream) ℕ
+ReadsWord o n = Mapped (word_of o) (Takes o n)
+
+-- whether the end of input is reached: over a stream that is told, where no bit is left; the stream is the same
+abbrev pub Peeks : Option Stream → ℕ → Result Bool DekuError → Standing (Option Stream) → Type 0
+Peeks (Some S) c r u = (((bit_count S ≡ 0) × (r ≡ Ok true)) ⊎ ((0 < bit_count S) × (r ≡ Ok false))) × (u ≡ Going (Some S) c)
+Peeks None c r u = (at_end : Bool) × (after : Option Stream) × (r ≡ Ok at_end) × (u ≡ Going after c)
+
+-- a look whether the end of input is reached
+abbrev pub Ending : Meaning (Option Stream) Bool
+Ending = UnlessStopped Peeks
+
+-- n bits are left out: from a stream that is told what a skip leaves, or the end of input where its last part has too few bits
+abbrev pub Skipping : Order → ℕ → Option Stream → ℕ → Result (Unit {0}) DekuError → Standing (Option Stream) → Type 0
+Skipping o n (Some S) c r u = (Has (last_part n S) (passed o n S) × (r ≡ Ok tt) × (u ≡ Going (Some (skipped o n S)) (c + n)))
+    ⊎ (Lacks (last_part n S) (passed o n S) × Ends (last_part n S) c r u)
+Skipping o n None c r u = ((after : Option Stream) × (r ≡ Ok tt) × (u ≡ Going after (c + n)))
+    ⊎ ((m : ℕ) × (0 < m) × (m < 8) × (m ≤ n) × Ends m c r u)
+
+-- n bits are left out in an order
+abbrev pub Skips : Order → ℕ → Meaning (Option Stream) (Unit {0})
+Skips o n = UnlessStopped (Counted n (Skipping o n))
+
+-- what was put into a buffer, where the call succeeds
+abbrev pub filling : {V W : Type 0} → Result V DekuError → W → Result W DekuError
+filling (Ok v) items = Ok items
+filling (Err e) items = Err e
+
+-- the unread bits of a byte; none where the reader has stopped
+abbrev pub window_of : Standing (List Bool) → List Bool
+window_of (Going window c) = window
+window_of (Stopped e c) = []
+
+-- no byte is fetched too early: fewer than eight bits of the last one are unread, or nothing changed
+abbrev pub NoneEarly : Standing (List Bool) → Standing (List Bool) → Type 0
+NoneEarly s u = (length (window_of u) < 8) ⊎ (u ≡ s)
+
+-- as many bytes were fetched as n bits need behind the unread ones, and no more
+abbrev pub FetchesFor : ℕ → Standing (List Bool) → SourceTold → SourceTold → Type 0
+FetchesFor n s old new = Loses (groups (n - length (window_of s))) old.coming new.coming
+
+-- as many bytes were fetched as the unread bits that came need, and no more
+abbrev pub FetchesAhead : Standing (List Bool) → Standing (List Bool) → SourceTold → SourceTold → Type 0
+FetchesAhead s u old new = Loses (groups (length (window_of u) - length (window_of s))) old.coming new.coming
+
+-- Of the bytes that a source told, k were fetched since: their bits are those that were counted and those that are unread.
+abbrev pub HasFetched : List ℕ → ℕ → Option (List ℕ) → Standing (List Bool) → Type 0
+HasFetched bytes k coming s = Loses k (Some bytes) coming × (8 * k ≡ count_of s + length (window_of s))
+
+-- what was read, where the call succeeds
+abbrev pub items_of : Result (Vec Bool) DekuError → Result (List Bool) DekuError
+items_of (Ok v) = Ok v.items
+items_of (Err e) = Err e
+
+-- the leftover that shows a window: none, one whole byte, or fewer than eight bits
+abbrev pub IsLeftover : List Bool → Option Leftover → Type 0
+IsLeftover w None = w ≡ []
+IsLeftover w (Some (Byte b)) = w ≡ byte_bits b
+IsLeftover w (Some (Bits v)) = (v ≡ w) × (0 < length w) × (length w < 8)
+
+-- A skip of no more bits than a stream that is told has leaves the stream and the count that a read of as many leaves, where that succeeds.
+abbrev pub SkipReadLaw : Type 0
+SkipReadLaw = (o : Order) (n c : ℕ) (S : Stream) → length S.window ≤ 8 → Has n S
+    → (bits : List Bool) (u v : Standing (Option Stream)) (r : Result (Unit {0}) DekuError)
+    → ReadsVec o n false (Going (Some S) c) (Ok bits) u → Skips o n false (Going (Some S) c) r v → (r ≡ Ok tt) × (v ≡ u)
+
+-- A read of bytes answers what a read of eight times as many bits answers, as bytes, and leaves the same; but it is not refused for memory.
+abbrev pub BytesLaw : Type 0
+BytesLaw = (o : Order) (n : ℕ) (breaks : Bool) (s u : Standing (Option Stream))
+    → ((bits : List Bool) → ReadsVec o (8 * n) breaks s (Ok bits) u → ReadsBytes o n breaks s (Ok (bytes_of bits)) u)
+    × ((bytes : List ℕ) → ReadsBytes o n breaks s (Ok bytes) u → (length bytes ≡ n) × ReadsVec o (8 * n) breaks s (Ok (bits_in bytes)) u)
+    × ((e : DekuError) → ReadsBytes o n breaks s (Err e) u → ReadsVec o (8 * n) breaks s (Err e) u)
+    × ((e : DekuError) → ReadsVec o (8 * n) breaks s (Err e) u → ReadsBytes o n breaks s (Err e) u ⊎ ((e ≡ Io OutOfMemory) × (u ≡ s)))
+
+-- On a reader that was fresh, reads and looks that succeed fetch the bytes of the bits that they count and of those that are then unread. So where fewer
+-- than eight bits are unread, as behind a read, these are the bytes that the counted bits fill; and where eight are, as behind a look, one byte more.
+abbrev pub FetchLaw : Type 0
+FetchLaw = (bytes : List ℕ)
+    → HasFetched bytes 0 (Some bytes) (Going [] 0)
+    × ((o : Order) (k n : ℕ) (bits : List Bool) (told after : SourceTold) (s u : Standing (List Bool)) → HasFetched bytes k told.coming s
+    → ReadsAt (Takes o n) told s (Ok bits) after u → FetchesFor n s told after → HasFetched bytes (k + groups (n - length (window_of s))) after.coming u)
+    × ((k : ℕ) (at_end : Bool) (told after : SourceTold) (s u : Standing (List Bool)) → HasFetched bytes k told.coming s
+    → ReadsAt Ending told s (Ok at_end) after u → FetchesAhead s u told after → HasFetched bytes (k + groups (length (window_of u) - length (window_of s))) after.coming u)
+    × ((k : ℕ) (coming : Option (List ℕ)) (s : Standing (List Bool)) → HasFetched bytes k coming s
+    → (length (window_of s) < 8 → k ≡ groups (count_of s)) × (length (window_of s) ≤ 8 → k ≤ groups (count_of s) + 1))

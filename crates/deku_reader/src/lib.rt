@@ -1,0 +1,4 @@
+//! The reader of bits.
+#![tactic(auto)]
+
+pub mod reader;

@@ -1,0 +1,360 @@
+//! Reading bits.
+
+ghost use Rattle.std.specs.Prelude.{◌≡◌, ◌+◌, ◌*◌, ◌≤◌, [], length, take, drop, OnOk, IfOk, IfErr};
+ghost use Rattle.std.specs.Borrow.{Lends, sem};
+ghost use Rattle.deku_stream.specs.Kept.{Admits};
+ghost use Rattle.deku_stream.specs.Standings.{Going, Untouched, count_of};
+ghost use Rattle.deku_reader.specs.ReaderCalls.{Reads, Takes, Ending, Skips, ReadsBits, ReadsVec, ReadsBytes, ReadsWord, FetchesFor, FetchesAhead, NoneEarly, IsLeftover, filling, items_of, window_of};
+ghost use Rattle.deku_reader.specs.contracts.reader.Reader.{the_row as reader-row};
+
+mod progress;
+mod seek;
+
+use crate::reader::progress::Progress;
+use deku_device::device::Source;
+use deku_stream::bounded::BoundedBitVec;
+use deku_stream::ctx::Order;
+use deku_stream::error::DekuError;
+use deku_stream::turning::show;
+use std::alloc::Global;
+use std::io::ErrorKind;
+
+/// The unread bits of the byte that a reader fetched last.
+#[derive(Debug, Clone, Drop)]
+pub enum Leftover {
+    /// All eight of them.
+    Byte(u8),
+    /// One to seven of them, high bit first.
+    Bits(BoundedBitVec<1>),
+}
+
+/// What a read of bytes has put into its buffer.
+#[derive(Drop)]
+pub enum ReaderRet {
+    /// Whole bytes.
+    Bytes,
+}
+
+/// Reads bits from a source of bytes.
+///
+/// A read fetches the bytes that it needs behind the unread bits, a run of them at once, and none behind the last bit that was wanted.
+/// It keeps the bits of that byte that are not read yet. In `Msb0` the next bit is the highest of them, in `Lsb0` the lowest; the order
+/// may change at any bit.
+///
+/// Each read is refused, in this order,
+///
+/// - with the fault that stopped the reader, if one did;
+/// - with `InvalidParam("count past usize")` where the bits read would be more than a `usize` counts; nothing changes;
+/// - with `Io(OutOfMemory)` where it needs memory and finds none; nothing changes;
+/// - with `Incomplete` of the bits that were asked for, where the input ends before the last of them;
+/// - with `Io` of the fault's kind, where the source fails.
+///
+/// The last two stop the reader: it answers the same to each further read, also to one of no bits, it has no bits left over, and
+/// the count of bits read stays what it was before the read that failed. A seek that succeeds lets it go on.
+///
+/// ```text
+/// let mut reader = Reader::new(alloc, Cursor::new(bytes)); // 6D BE EF
+/// reader.read_bits(4, Order::Msb0)?;                       // 0, 1, 1, 0
+/// reader.read_bits(2, Order::Msb0)?;                       // 1, 1
+/// reader.rest()?;                                          // 0, 1
+/// reader.bits_read();                                      // 6
+/// reader.read_bits(19, Order::Msb0);                       // Incomplete of 19 bits
+/// reader.read_bits(0, Order::Msb0);                        // the same
+/// ```
+#[derive(Drop)]
+pub struct Reader<R: Source> {
+    source: R,
+    state: Progress,
+    alloc: Global,
+}
+
+impl<R: Source> Reader<R> {
+    /// A reader that begins at the source's next byte, with no bits read. The vectors that it answers are made by `alloc`.
+    pub fn new(alloc: Global, inner: R) -> Reader<R>
+        ensures source { result.source ≡ inner }
+        ensures alloc { result.alloc ≡ alloc }
+        ensures state { result.state ≡ Going [] 0 }
+    {
+        Reader {
+            source: inner,
+            state: Progress::start(),
+            alloc,
+        }
+    }
+
+    /// The allocator that it was given.
+    pub fn alloc(&self) -> Global
+        ensures { result ≡ self.now.alloc }
+    {
+        self.alloc
+    }
+
+    /// The source, behind the last byte that was fetched. Bits of that byte that were not read yet are lost.
+    pub fn into_inner(self) -> R
+        ensures { result ≡ self.source }
+    {
+        self.source
+    }
+
+    /// The source, behind the last byte that was fetched. What is done to it is done to the reader's source: the next bits are the
+    /// unread ones of that byte, and then those of the bytes that the source gives.
+    ///
+    /// ```text
+    /// let mut reader = Reader::new(alloc, Cursor::new(bytes)); // 01 02 03
+    /// reader.as_mut().set_position(2);
+    /// reader.read_bits(8, Order::Msb0)?;                       // 0, 0, 0, 0, 0, 0, 1, 1
+    /// ```
+    pub fn as_mut(&mut self) -> &mut R
+        ensures value { result.now ≡ self.old.source }
+        ensures* writes_back { sem 𝓛 (Lends (reader-row R.row) R.row self.entry result (λ x. record self.old { source = x })) }
+    {
+        &mut self.source
+    }
+
+    /// The unread bits of the byte that was fetched last, where there are any; none after a fault.
+    pub fn leftover(&self) -> Option<Leftover>
+        ensures { IsLeftover (window_of self.now.state) result }
+    {
+        let count = self.state.unread_len();
+        if count == 0 {
+            return None;
+        }
+        let eight = self.state.unread_in_eight();
+        let bits: BoundedBitVec<1> = BoundedBitVec::from_bits(&eight[8 - count..]);
+        if bits.is_full() {
+            return Some(Leftover::Byte(bits.as_raw_slice()[0]));
+        }
+        Some(Leftover::Bits(bits))
+    }
+
+    /// How many bits were read, by reads that succeeded.
+    pub fn bits_read(&self) -> usize
+        ensures { result ≡ count_of self.now.state }
+    {
+        self.state.bits_read()
+    }
+
+    /// The unread bits of the byte that was fetched last, high bit first: at most eight, and none after a fault.
+    ///
+    /// It is refused with `Io(OutOfMemory)` where no memory is found, and with nothing else. Nothing changes.
+    ///
+    /// ```text
+    /// reader.read_bits(13, Order::Lsb0)?; // from 10 81
+    /// reader.rest()?;                     // 1, 0, 0
+    /// ```
+    pub fn rest(&self) -> Result<Vec<bool>, DekuError>
+        ensures ok { IfOk result (λ v. v.items ≡ window_of self.now.state) }
+        ensures err { IfErr result (λ e. e ≡ DekuError.Io ErrorKind.OutOfMemory) }
+    {
+        let eight = self.state.unread_in_eight();
+        match eight[8 - self.state.unread_len()..].to_vec(self.alloc) {
+            Ok(bits) => Ok(bits),
+            Err(_) => Err(DekuError::Io(ErrorKind::OutOfMemory)),
+        }
+    }
+
+    /// Whether the end of input is reached.
+    ///
+    /// Where bits of the byte that was fetched last are unread, it answers false and does not ask the source. Else it fetches one
+    /// byte, all of which is then unread: the next reads and skips are the same as without this call, and the count stays. It
+    /// answers true where the source has no byte.
+    ///
+    /// It is refused with the fault that stopped the reader, if one did, and with `Io` of the fault's kind where the source fails;
+    /// that stops the reader.
+    ///
+    /// ```text
+    /// reader.end()?;                      // from AA: false
+    /// reader.rest()?;                     // 1, 0, 1, 0, 1, 0, 1, 0
+    /// reader.bits_read();                 // 0
+    /// reader.read_bits(8, Order::Lsb0)?;  // 1, 0, 1, 0, 1, 0, 1, 0
+    /// reader.end()?;                      // true
+    /// ```
+    pub fn end(&mut self) -> Result<bool, DekuError>
+        ensures reads { Reads R.told Ending self.old result self.new }
+        ensures fetched { OnOk result (FetchesAhead self.old.state self.new.state (R.told self.old.source) (R.told self.new.source)) }
+        ensures held { OnOk result (length (window_of self.new.state) ≤ 8) }
+        ensures stopped { Untouched self.old.state self.old.source self.new.source }
+    {
+        self.state.end(&mut self.source)
+    }
+
+    /// Leaves out the next `amt` bits.
+    ///
+    /// They are the bits that a read of as many in this order would take: those that the byte fetched last has unread, then whole
+    /// bytes, which the source passes without fetching them, and then fewer than eight bits of one byte more. The count of bits read
+    /// rises by `amt`.
+    ///
+    /// It takes no memory. What is refused, and what is left then, is said at `Reader`, but for two things. `Incomplete` is of the
+    /// bits behind the whole bytes, fewer than eight. And a source may pass its end without a fault, as one over memory does: then
+    /// no byte is left, and the call succeeds where no bit is wanted behind the whole bytes.
+    ///
+    /// ```text
+    /// reader.read_bits(4, Order::Msb0)?; // from AB CD EF: 1, 0, 1, 0
+    /// reader.skip_bits(6, Order::Msb0)?;
+    /// reader.read_bits(6, Order::Msb0)?; // 0, 0, 1, 1, 0, 1
+    /// reader.skip_bits(80, Order::Msb0)?;
+    /// reader.end()?;                     // true
+    /// reader.bits_read();                // 96
+    /// ```
+    pub fn skip_bits(&mut self, amt: usize, order: Order) -> Result<(), DekuError>
+        ensures skips { Reads R.told (Skips order amt) self.old result self.new }
+        ensures early { NoneEarly self.old.state self.new.state }
+        ensures stopped { Untouched self.old.state self.old.source self.new.source }
+    {
+        self.state.skip_bits(&mut self.source, amt, order)
+    }
+
+    /// Refuses what a read of `amt` bytes refuses before it asks for memory or moves anything: with the fault that stopped the reader, or
+    /// with `InvalidParam("count past usize")`. A call that finds memory for what it reads asks this first.
+    ///
+    /// ```text
+    /// reader.admits_bytes(usize::MAX)                  // InvalidParam("count past usize")
+    /// ```
+    pub fn admits_bytes(&self, amt: usize) -> Result<(), DekuError>
+        ensures { Admits (8 * amt) self.now.state result }
+    {
+        self.state.admits_bytes(amt)
+    }
+
+    /// Takes as many bits as the buffer is long, as the order meets them.
+    pub(crate) fn take_bits(&mut self, dst: &mut [bool], order: Order) -> Result<(), DekuError>
+        ensures takes { Reads R.told (Takes order (length dst.old)) self.old (filling result dst.new) self.new }
+        ensures fetched { OnOk result (FetchesFor (length dst.old) self.old.state (R.told self.old.source) (R.told self.new.source)) }
+        ensures early { NoneEarly self.old.state self.new.state }
+        ensures stopped { Untouched self.old.state self.old.source self.new.source }
+    {
+        self.state.take_bits(&mut self.source, dst, order)
+    }
+
+    /// Fills the buffer with the next bits, as many as it is long.
+    ///
+    /// In `Msb0` they stand in the order in which they are met. In `Lsb0` they are turned, so that the highest stands first: whole
+    /// bytes each by itself, and any other number of bits as one. What is refused, and what is left then, is said at `Reader`.
+    /// After a refusal the content of the buffer is open.
+    ///
+    /// ```text
+    /// let mut bits = [false; 5];
+    /// reader.read_bits_into(&mut bits, Order::Lsb0)?; // from A1: 0, 0, 0, 0, 1
+    /// ```
+    pub fn read_bits_into(&mut self, dst: &mut [bool], order: Order) -> Result<(), DekuError>
+        ensures reads { Reads R.told (ReadsBits order (length dst.old)) self.old (filling result dst.new) self.new }
+        ensures fetched { OnOk result (FetchesFor (length dst.old) self.old.state (R.told self.old.source) (R.told self.new.source)) }
+        ensures early { NoneEarly self.old.state self.new.state }
+        ensures stopped { Untouched self.old.state self.old.source self.new.source }
+    {
+        self.take_bits(dst, order)?;
+        show(dst, order);
+        Ok(())
+    }
+
+    /// The next `amt` bits, in a new vector, as `read_bits_into` shows them.
+    ///
+    /// Its memory is found before a bit is taken. What is refused, and what is left then, is said at `Reader`.
+    ///
+    /// ```text
+    /// reader.read_bits(4, Order::Lsb0)?; // from AB CD: 1, 0, 1, 1
+    /// reader.read_bits(4, Order::Lsb0)?; // 1, 0, 1, 0
+    /// reader.read_bits(4, Order::Msb0)?; // 1, 1, 0, 0
+    /// ```
+    pub fn read_bits(&mut self, amt: usize, order: Order) -> Result<Vec<bool>, DekuError>
+        ensures reads { Reads R.told (ReadsVec order amt) self.old (items_of result) self.new }
+        ensures fetched { OnOk result (FetchesFor amt self.old.state (R.told self.old.source) (R.told self.new.source)) }
+        ensures early { NoneEarly self.old.state self.new.state }
+        ensures stopped { Untouched self.old.state self.old.source self.new.source }
+    {
+        self.state.admits(amt)?;
+        let Ok(mut bits) = vec![in self.alloc; false; amt] else {
+            return Err(DekuError::Io(ErrorKind::OutOfMemory));
+        };
+        self.read_bits_into(bits.as_mut_slice(), order)?;
+        Ok(bits)
+    }
+
+    /// The word of the next `amt` bits. The caller's condition: they are at most 128.
+    ///
+    /// Of the bits that the order takes, each eight from the first on make a group, and the last group may be shorter. A group's number has its
+    /// first bit as the highest in `Msb0`, and as the lowest in `Lsb0`. In the word the first group's number counts once, each further
+    /// one 256 times as much. It takes no memory. What is refused, and what is left then, is said at `Reader`.
+    ///
+    /// ```text
+    /// reader.read_word(12, Order::Msb0)?; // from AB CD: 0xCAB
+    /// ```
+    pub fn read_word(&mut self, amt: usize, order: Order) -> Result<u128, DekuError>
+        requires { amt ≤ 128 }
+        ensures reads { Reads R.told (ReadsWord order amt) self.old result self.new }
+        ensures fetched { OnOk result (FetchesFor amt self.old.state (R.told self.old.source) (R.told self.new.source)) }
+        ensures early { NoneEarly self.old.state self.new.state }
+        ensures stopped { Untouched self.old.state self.old.source self.new.source }
+    {
+        self.state.take_word(&mut self.source, amt, order)
+    }
+
+    /// Reads `amt` bytes into the front of the buffer; what is behind them in it stays. The caller's condition: the buffer is as
+    /// long.
+    ///
+    /// They are what a read of eight times as many bits in this order shows, each byte high bit first; they need not start where a
+    /// byte of the source starts. A read of no bytes reads nothing. It takes no memory. What is refused, and what is left then, is
+    /// said at `Reader`: `Incomplete` is of the bits, eight times `amt`. After a refusal the content of the bytes asked for is open.
+    ///
+    /// ```text
+    /// let mut bytes = [0; 4];
+    /// reader.read_bits(4, Order::Msb0)?;               // from AB CD EF: 1, 0, 1, 0
+    /// reader.read_bytes(2, &mut bytes, Order::Lsb0)?;  // DB FC 00 00
+    /// ```
+    pub fn read_bytes(
+        &mut self,
+        amt: usize,
+        buf: &mut [u8],
+        order: Order,
+    ) -> Result<ReaderRet, DekuError>
+        requires { amt ≤ length buf.old }
+        ensures front { Reads R.told (ReadsBytes order amt) self.old (filling result (take amt buf.new)) self.new }
+        ensures behind { drop amt buf.new ≡ drop amt buf.old }
+        ensures fetched { OnOk result (FetchesFor (8 * amt) self.old.state (R.told self.old.source) (R.told self.new.source)) }
+        ensures early { NoneEarly self.old.state self.new.state }
+        ensures stopped { Untouched self.old.state self.old.source self.new.source }
+    {
+        self.state
+            .take_bytes(&mut self.source, &mut buf[..amt], order)?;
+        Ok(ReaderRet::Bytes)
+    }
+
+    /// Fills the buffer with bytes, as `read_bytes` reads as many as it is long.
+    ///
+    /// ```text
+    /// let mut bytes = [0; 2];
+    /// reader.read_bytes_const(&mut bytes, Order::Msb0)?; // from AA BB: AA BB
+    /// ```
+    pub fn read_bytes_const<const N: usize>(
+        &mut self,
+        buf: &mut [u8; N],
+        order: Order,
+    ) -> Result<ReaderRet, DekuError>
+        ensures reads { Reads R.told (ReadsBytes order N) self.old (filling result buf.new) self.new }
+        ensures fetched { OnOk result (FetchesFor (8 * N) self.old.state (R.told self.old.source) (R.told self.new.source)) }
+        ensures early { NoneEarly self.old.state self.new.state }
+        ensures stopped { Untouched self.old.state self.old.source self.new.source }
+    {
+        self.read_bytes_const_into(buf, order)?;
+        Ok(ReaderRet::Bytes)
+    }
+
+    /// Fills the buffer with bytes, as `read_bytes` reads as many as it is long.
+    ///
+    /// ```text
+    /// let mut byte = [0; 1];
+    /// reader.read_bytes_const_into(&mut byte, Order::Msb0)?; // from AA BB: AA
+    /// ```
+    pub fn read_bytes_const_into<const N: usize>(
+        &mut self,
+        buf: &mut [u8; N],
+        order: Order,
+    ) -> Result<(), DekuError>
+        ensures reads { Reads R.told (ReadsBytes order N) self.old (filling result buf.new) self.new }
+        ensures fetched { OnOk result (FetchesFor (8 * N) self.old.state (R.told self.old.source) (R.told self.new.source)) }
+        ensures early { NoneEarly self.old.state self.new.state }
+        ensures stopped { Untouched self.old.state self.old.source self.new.source }
+    {
+        self.state.take_bytes(&mut self.source, buf, order)
+    }
+}

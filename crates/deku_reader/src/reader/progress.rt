@@ -1,0 +1,301 @@
+//! What a reader keeps beside its source, and how it takes bits.
+
+ghost use Rattle.std.specs.Prelude.{◌≡◌, ◌≢◌, ℕ, ◌*◌, ◌^◌, ◌<◌, ◌≤◌, ◌⊎◌, ◌-◌, [], ◌∷◌, length, drop, IfOk, OnOk, IfErr};
+ghost use Rattle.std.specs.Io.KnownBytes.{Consumes};
+ghost use Rattle.std.specs.IoError.{error_kind};
+ghost use Rattle.deku_stream.specs.declared.ctx.Order.{Order as BitOrder};
+ghost use Rattle.deku_device.specs.Devices.{NoFewerFailures, MoreFailures, FewerThan, StaysEmpty};
+ghost use Rattle.deku_stream.specs.Kept.{Admits};
+ghost use Rattle.deku_stream.specs.Moving.{Moves, FewerBits};
+ghost use Rattle.deku_stream.specs.Faults.{error_of};
+ghost use Rattle.deku_reader.specs.ReaderCalls.{ReadsAt, Takes, Ending, Skips, ReadsBytes, ReadsWord, FetchesFor, FetchesAhead, NoneEarly, filling, window_of};
+ghost use Rattle.deku_stream.specs.Standings.{Going, Stopped, Untouched, count_of};
+
+mod bits;
+mod bytes;
+mod fetching;
+mod skips;
+mod words;
+
+use crate::reader::progress::bits::bits_into;
+use crate::reader::progress::bytes::bytes_into;
+use crate::reader::progress::skips::{drop_bits, pass_bytes, pop_bits};
+use crate::reader::progress::words::word_from;
+use deku_device::device::Source;
+use deku_stream::ctx::Order;
+use deku_stream::error::{DekuError, Fault, NeedSize};
+use deku_stream::window::Window;
+use std::io;
+use std::io::ErrorKind;
+use std::marker::Model;
+
+/// The unread bits of a byte, the fault that stopped the reader, if any, and how many bits were read.
+#[derive(Drop)]
+pub struct Progress {
+    window: Window,
+    fault: Option<Fault>,
+    bits_read: usize,
+}
+
+impl Model for Progress {
+    ghost use Rattle.std.specs.Prelude.{◌≤◌, Bool, List, length};
+    ghost use Rattle.deku_stream.specs.Standings.{Standing};
+    ghost use Rattle.deku_stream.specs.Kept.{standing_of};
+
+    ghost Value = { Standing (List Bool) };
+
+    ghost view = { λ p. standing_of p.window p.fault p.bits_read };
+
+    ghost invariant = { λ p. length p.window ≤ 8 };
+}
+
+impl Progress {
+    /// Nothing is read.
+    pub fn start() -> Progress
+        ensures { result ≡ Going [] 0 }
+    {
+        Progress::going(0)
+    }
+
+    /// So many bits are read, and no bits of a byte are unread.
+    pub fn going(bits_read: usize) -> Progress
+        ensures { result ≡ Going [] bits_read }
+    {
+        Progress {
+            window: Window::empty(),
+            fault: None,
+            bits_read,
+        }
+    }
+
+    /// So many bits are read, and this fault is kept.
+    pub fn stopped(fault: Fault, bits_read: usize) -> Progress
+        ensures { result ≡ Stopped (error_of fault) bits_read }
+    {
+        Progress {
+            window: Window::empty(),
+            fault: Some(fault),
+            bits_read,
+        }
+    }
+
+    /// How many bits were read.
+    pub fn bits_read(&self) -> usize
+        ensures { result ≡ count_of self.now }
+    {
+        self.bits_read
+    }
+
+    /// How many bits of a byte are unread; none where the reader has stopped.
+    pub fn unread_len(&self) -> usize
+        ensures value { result ≡ length (window_of self.now) }
+        ensures bound { result ≤ 8 }
+    {
+        match self.fault {
+            None => self.window.len(),
+            Some(_) => 0,
+        }
+    }
+
+    /// Eight bits, of which the last are those that are unread.
+    pub fn unread_in_eight(&self) -> [bool; 8]
+        ensures { drop (8 - length (window_of self.now)) result ≡ window_of self.now }
+    {
+        match self.fault {
+            None => self.window.in_eight(),
+            Some(_) => [false; 8],
+        }
+    }
+
+    /// Refuses what a reader refuses before it moves anything: by its kept fault, or since the count has no room.
+    pub fn admits(&self, amt: usize) -> Result<(), DekuError>
+        ensures { Admits amt self.now result }
+    {
+        if let Some(fault) = self.fault {
+            return Err(fault.error());
+        }
+        if self.bits_read > usize::MAX - amt {
+            return Err(DekuError::InvalidParam("count past usize"));
+        }
+        Ok(())
+    }
+
+    /// Refuses what a read of so many bytes refuses before it moves anything.
+    pub fn admits_bytes(&self, amt: usize) -> Result<(), DekuError>
+        ensures answer { Admits (8 * amt) self.now result }
+        ensures fits { OnOk result (8 * amt < 2 ^ 64) }
+    {
+        self.admits(0)?;
+        if amt > usize::MAX / 8 {
+            return Err(DekuError::InvalidParam("count past usize"));
+        }
+        self.admits(8 * amt)
+    }
+
+    /// Takes bits in this order, one after the other, and stops where that fails.
+    pub fn take_bits<R: Source>(
+        &mut self,
+        source: &mut R,
+        dst: &mut [bool],
+        order: Order,
+    ) -> Result<(), DekuError>
+        ensures takes { ReadsAt (Takes order (length dst.old)) (R.told source.old) self.old (filling result dst.new) (R.told source.new) self.new }
+        ensures fetched { OnOk result (FetchesFor (length dst.old) self.old (R.told source.old) (R.told source.new)) }
+        ensures early { NoneEarly self.old self.new }
+        ensures stopped { Untouched self.old source.old source.new }
+    {
+        self.admits(dst.len())?;
+        match bits_into(source, &mut self.window, dst, order) {
+            Ok(()) => {
+                self.bits_read += dst.len();
+                Ok(())
+            }
+            Err(error) => {
+                let fault = fault_of(&error, dst.len());
+                *self = Progress::stopped(fault, self.bits_read);
+                Err(fault.error())
+            }
+        }
+    }
+
+    /// Takes at most 128 bits in this order, as their word, and stops where that fails.
+    pub fn take_word<R: Source>(
+        &mut self,
+        source: &mut R,
+        amt: usize,
+        order: Order,
+    ) -> Result<u128, DekuError>
+        requires { amt ≤ 128 }
+        ensures reads { ReadsAt (ReadsWord order amt) (R.told source.old) self.old result (R.told source.new) self.new }
+        ensures fetched { OnOk result (FetchesFor amt self.old (R.told source.old) (R.told source.new)) }
+        ensures early { NoneEarly self.old self.new }
+        ensures stopped { Untouched self.old source.old source.new }
+    {
+        self.admits(amt)?;
+        match word_from(source, &mut self.window, amt, order) {
+            Ok(word) => {
+                self.bits_read += amt;
+                Ok(word)
+            }
+            Err(error) => {
+                let fault = fault_of(&error, amt);
+                *self = Progress::stopped(fault, self.bits_read);
+                Err(fault.error())
+            }
+        }
+    }
+
+    /// Takes bytes in this order, one after the other, and stops where that fails.
+    pub fn take_bytes<R: Source>(
+        &mut self,
+        source: &mut R,
+        dst: &mut [u8],
+        order: Order,
+    ) -> Result<(), DekuError>
+        ensures reads { ReadsAt (ReadsBytes order (length dst.old)) (R.told source.old) self.old (filling result dst.new) (R.told source.new) self.new }
+        ensures fetched { OnOk result (FetchesFor (8 * length dst.old) self.old (R.told source.old) (R.told source.new)) }
+        ensures early { NoneEarly self.old self.new }
+        ensures stopped { Untouched self.old source.old source.new }
+    {
+        self.admits_bytes(dst.len())?;
+        let bits = 8 * dst.len();
+        match bytes_into(source, &mut self.window, dst, order) {
+            Ok(()) => {
+                self.bits_read += bits;
+                Ok(())
+            }
+            Err(error) => {
+                let fault = fault_of(&error, bits);
+                *self = Progress::stopped(fault, self.bits_read);
+                Err(fault.error())
+            }
+        }
+    }
+
+    /// Whether the end of input is reached: fetches a byte where no bit is unread, and does not count it.
+    pub fn end<R: Source>(&mut self, source: &mut R) -> Result<bool, DekuError>
+        ensures reads { ReadsAt Ending (R.told source.old) self.old result (R.told source.new) self.new }
+        ensures fetched { OnOk result (FetchesAhead self.old self.new (R.told source.old) (R.told source.new)) }
+        ensures held { OnOk result (length (window_of self.new) ≤ 8) }
+        ensures stopped { Untouched self.old source.old source.new }
+    {
+        if let Some(kept) = self.fault {
+            return Err(kept.error());
+        }
+        if self.window.len() > 0 {
+            return Ok(false);
+        }
+        match fetch_byte(source) {
+            Ok(byte) => {
+                self.window = Window::of_byte(byte);
+                Ok(false)
+            }
+            Err(error) => match fault_of(&error, 8) {
+                Fault::Incomplete(_) => Ok(true),
+                fault => {
+                    *self = Progress::stopped(fault, self.bits_read);
+                    Err(fault.error())
+                }
+            },
+        }
+    }
+
+    /// Leaves out bits: those of the window in this order, then whole bytes, then fewer than eight bits in this order.
+    pub fn skip_bits<R: Source>(
+        &mut self,
+        source: &mut R,
+        amt: usize,
+        order: Order,
+    ) -> Result<(), DekuError>
+        ensures skips { ReadsAt (Skips order amt) (R.told source.old) self.old result (R.told source.new) self.new }
+        ensures early { NoneEarly self.old self.new }
+        ensures stopped { Untouched self.old source.old source.new }
+    {
+        self.admits(amt)?;
+        let inside = amt.min(self.window.len());
+        let behind = amt - inside;
+        pop_bits(&mut self.window, inside, order);
+        if let Err(error) = pass_bytes(source, behind / 8) {
+            let fault = Fault::Io(error.kind());
+            *self = Progress::stopped(fault, self.bits_read);
+            return Err(fault.error());
+        }
+        match drop_bits(source, &mut self.window, behind % 8, order) {
+            Ok(()) => {
+                self.bits_read += amt;
+                Ok(())
+            }
+            Err(error) => {
+                let missing = fault_of(&error, behind % 8);
+                *self = Progress::stopped(missing, self.bits_read);
+                Err(missing.error())
+            }
+        }
+    }
+}
+
+// Fetches one byte.
+fn fetch_byte<R: Source>(source: &mut R) -> io::Result<u8>
+    ensures bytes { IfOk result (λ b. Consumes (R.told source.old).coming (R.told source.new).coming (b ∷ [])) }
+    ensures short { IfErr result (λ e. error_kind e ≡ ErrorKind.UnexpectedEof → FewerThan 1 (R.told source.old).coming) }
+    ensures ended { IfErr result (λ e. error_kind e ≡ ErrorKind.UnexpectedEof → StaysEmpty (R.told source.old).coming (R.told source.new).coming) }
+    ensures failed { IfErr result (λ e. error_kind e ≢ ErrorKind.UnexpectedEof → MoreFailures (R.told source.old).health (R.told source.new).health) }
+    ensures kept { NoFewerFailures (R.told source.old).health (R.told source.new).health }
+{
+    let mut buf = [0u8; 1];
+    source.fetch(&mut buf)?;
+    Ok(buf[0])
+}
+
+// What stops a reader that wanted this many bits: the end of input, or the kind of the fault.
+fn fault_of(error: &io::Error, bits: usize) -> Fault
+    ensures { ((error_kind error.now ≡ ErrorKind.UnexpectedEof) × (result ≡ Fault.Incomplete (record { bits = bits })))
+        ⊎ ((error_kind error.now ≢ ErrorKind.UnexpectedEof) × (result ≡ Fault.Io (error_kind error.now))) }
+{
+    let kind = error.kind();
+    if kind == ErrorKind::UnexpectedEof {
+        Fault::Incomplete(NeedSize::new(bits))
+    } else {
+        Fault::Io(kind)
+    }
+}

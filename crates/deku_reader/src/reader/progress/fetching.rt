@@ -1,0 +1,52 @@
+//! Whole bytes from a source, in one transfer.
+
+ghost use Rattle.std.specs.Prelude.{◌≡◌, ◌≢◌, ℕ, ◌+◌, ◌*◌, ◌%◌, ◌<◌, ◌≤◌, ◌++◌, [], length, All, OnOk, IfErr};
+ghost use Rattle.std.specs.Io.KnownBytes.{Consumes};
+ghost use Rattle.std.specs.IoError.{error_kind};
+ghost use Rattle.deku_stream.specs.declared.ctx.Order.{Order as BitOrder};
+ghost use Rattle.deku_stream.specs.Bits.{facing};
+ghost use Rattle.deku_device.specs.Devices.{NoFewerFailures, MoreFailures, FewerThan};
+ghost use Rattle.deku_stream.specs.Moving.{Moves, FewerBits};
+ghost use Rattle.deku_stream.specs.Streams.{flow};
+
+use deku_device::device::Source;
+use deku_stream::window::Window;
+use std::io;
+use std::io::ErrorKind;
+
+/// Fills the buffer with the next bytes. For none the source is not called.
+pub fn fetch_bytes<R: Source>(source: &mut R, dst: &mut [u8]) -> io::Result<()>
+    ensures bytes { OnOk result (Consumes (R.told source.old).coming (R.told source.new).coming dst.new) }
+    ensures none { length dst.old ≡ 0 → source.new ≡ source.old }
+    ensures wanted { IfErr result (λ e. 0 < length dst.old) }
+    ensures short { IfErr result (λ e. error_kind e ≡ ErrorKind.UnexpectedEof → FewerThan (length dst.old) (R.told source.old).coming) }
+    ensures failed { IfErr result (λ e. error_kind e ≢ ErrorKind.UnexpectedEof → MoreFailures (R.told source.old).health (R.told source.new).health) }
+    ensures kept { NoFewerFailures (R.told source.old).health (R.told source.new).health }
+{
+    if dst.is_empty() {
+        return Ok(());
+    }
+    source.fetch(dst)
+}
+
+/// Fills the buffer with the bytes that stand behind fewer than eight unread bits: a window of eight is put back, as the first of them.
+pub fn fetch_behind<R: Source>(
+    source: &mut R,
+    window: &mut Window,
+    dst: &mut [u8],
+) -> io::Result<()>
+    requires bound { length window.old ≤ 8 }
+    requires some { 0 < length dst.old }
+    ensures short { OnOk result (length window.new ≡ length window.old % 8) }
+    ensures moved { OnOk result ((order : BitOrder) → Moves order window.old (R.told source.old).coming (facing order window.new ++ flow order dst.new) [] (R.told source.new).coming) }
+    ensures ended { IfErr result (λ e. error_kind e ≡ ErrorKind.UnexpectedEof → (n : ℕ) → length window.old % 8 + 8 * length dst.old < n + 8 → FewerBits n window.old (R.told source.old).coming) }
+    ensures failed { IfErr result (λ e. error_kind e ≢ ErrorKind.UnexpectedEof → MoreFailures (R.told source.old).health (R.told source.new).health) }
+    ensures kept { NoFewerFailures (R.told source.old).health (R.told source.new).health }
+{
+    if window.len() < 8 {
+        return fetch_bytes(source, dst);
+    }
+    dst[0] = window.byte();
+    *window = Window::empty();
+    fetch_bytes(source, &mut dst[1..])
+}

@@ -1,0 +1,89 @@
+//! Words: at most 128 bits, each group of eight as a byte.
+
+ghost use Rattle.std.specs.Prelude.{◌≡◌, ◌≢◌, ◌+◌, ◌-◌, ◌*◌, ◌^◌, ◌<◌, ◌≤◌, ◌∷◌, [], length, take, OnOk, IfOk, IfErr};
+ghost use Rattle.std.specs.IoError.{error_kind};
+ghost use Rattle.deku_stream.specs.declared.ctx.Order.TheVariants.{Msb0, Lsb0};
+ghost use Rattle.deku_stream.specs.Bits.{groups};
+ghost use Rattle.deku_device.specs.Devices.{NoFewerFailures, MoreFailures};
+ghost use Rattle.deku_stream.specs.Moving.{FewerBits, MovesWord, TakesGroups};
+
+use super::bytes::exchange_all;
+use super::fetching::fetch_behind;
+use deku_device::device::Source;
+use deku_stream::ctx::Order;
+use deku_stream::window::Window;
+use std::io;
+use std::io::ErrorKind;
+
+/// Takes at most 128 bits in this order, and answers their word. The bytes that they need are fetched at once.
+pub fn word_from<R: Source>(
+    source: &mut R,
+    window: &mut Window,
+    count: usize,
+    order: Order,
+) -> io::Result<u128>
+    requires bound { length window.old ≤ 8 }
+    requires few { count ≤ 128 }
+    ensures short { OnOk result (0 < count → length window.new < 8) }
+    ensures none { OnOk result (count ≡ 0 → (window.new ≡ window.old) × ((R.told source.new).coming ≡ (R.told source.old).coming)) }
+    ensures moved { IfOk result (λ word. MovesWord order window.old (R.told source.old).coming count word window.new (R.told source.new).coming) }
+    ensures wanted { IfErr result (λ e. 0 < count) }
+    ensures ended { IfErr result (λ e. error_kind e ≡ ErrorKind.UnexpectedEof → FewerBits count window.old (R.told source.old).coming) }
+    ensures failed { IfErr result (λ e. error_kind e ≢ ErrorKind.UnexpectedEof → MoreFailures (R.told source.old).health (R.told source.new).health) }
+    ensures kept { NoFewerFailures (R.told source.old).health (R.told source.new).health }
+{
+    if count <= window.len() {
+        return Ok(window.take(count, order) as u128);
+    }
+    let mut room = [0; 16];
+    let behind = count - window.len() % 8;
+    fetch_behind(source, window, &mut room[..behind.div_ceil(8)])?;
+    let all = count.div_ceil(8);
+    gather(window, &mut room[..all], count, order);
+    Ok(u128::from_le_bytes(room))
+}
+
+// Makes the groups of so many bits of the bytes that stand behind the window.
+fn gather(window: &mut Window, dst: &mut [u8], count: usize, order: Order)
+    requires short { length window.old < 8 }
+    requires room { length dst.old ≡ groups count }
+    requires wide { count ≤ 128 }
+    ensures { TakesGroups order window.old (take (groups (count - length window.old)) dst.old) count dst.new window.new }
+{
+    let whole = count / 8;
+    exchange_all(window, &mut dst[..whole], order);
+    if count % 8 > 0 {
+        dst[whole] = last_group(window, dst[whole], count % 8, order);
+    }
+}
+
+// Takes fewer than eight bits: those of the window, and where it has fewer, those of the byte behind it.
+fn last_group(window: &mut Window, byte: u8, count: usize, order: Order) -> u8
+    requires window { length window.old < 8 }
+    requires some { 0 < count }
+    requires few { count < 8 }
+    ensures { TakesGroups order window.old (take (groups (count - length window.old)) (byte ∷ [])) count (result ∷ []) window.new }
+{
+    let inside = count.min(window.len());
+    let first = window.take(inside, order);
+    if inside == count {
+        return first;
+    }
+    *window = Window::of_byte(byte);
+    let second = window.take(count - inside, order);
+    joined(first, inside, second, count - inside, order)
+}
+
+// The number of a group from those of two parts of it, which are so long.
+fn joined(first: u8, inside: usize, second: u8, behind: usize, order: Order) -> u8
+    requires few { inside + behind < 8 }
+    requires first { first < 2 ^ inside }
+    requires second { second < 2 ^ behind }
+    ensures high { order ≡ Msb0 → result ≡ first * 2 ^ behind + second }
+    ensures low { order ≡ Lsb0 → result ≡ first + second * 2 ^ inside }
+{
+    match order {
+        Order::Msb0 => (first << behind) + second,
+        Order::Lsb0 => first + (second << inside),
+    }
+}

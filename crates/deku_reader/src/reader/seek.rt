@@ -1,0 +1,81 @@
+//! Seeking.
+
+ghost use Rattle.std.specs.Prelude.{◌≡◌, ◌^◌, ◌<◌, ◌≤◌, [], None, OnOk, IfErr, IfSome, IfNone, IsErrAnd};
+ghost use Rattle.std.specs.Io.KnownBytes.{Keeps};
+ghost use Rattle.std.specs.Io.Seek.{SeekMoves};
+ghost use Rattle.std.specs.IoError.{error_kind};
+ghost use Rattle.deku_stream.specs.declared.error.DekuError.{DekuError};
+ghost use Rattle.deku_device.specs.Seeking.{count_after};
+ghost use Rattle.deku_stream.specs.Standings.{Going, Stopped, count_of};
+
+use crate::reader::Reader;
+use crate::reader::progress::Progress;
+use deku_device::device::Source;
+use deku_stream::error::Fault;
+use std::io;
+use std::io::{ErrorKind, Seek, SeekFrom};
+
+/// Seeks the source. No bit of the byte that was fetched last is unread then, also where that byte was fetched by `end`.
+///
+/// A seek that succeeds ends what a fault has stopped. The count of bits read is then that of the bytes before the place for
+/// `Start`, but for place 0, and is raised by the bits of the bytes in front for `Current`. It stays for `Start(0)`, for `End`, and
+/// for `Current` backwards.
+///
+/// It is refused
+///
+/// - with an error of kind `InvalidInput` where the count would be more than a `usize` holds; nothing changes, and the source is not
+///   asked;
+/// - with the source's error, where it refuses. That stops the reader with `Io` of the error's kind, and the count stays.
+///
+/// ```text
+/// reader.read_bits(4, Order::Msb0)?;   // from 01 02 03
+/// reader.seek(SeekFrom::Start(2))?;
+/// reader.bits_read();                  // 16
+/// reader.read_bits(8, Order::Msb0)?;   // 0, 0, 0, 0, 0, 0, 1, 1
+/// ```
+impl<R: Source> Seek for Reader<R> {
+    fn seek(&mut self, to: SeekFrom) -> io::Result<u64>
+        ensures ok { OnOk result (self.new.state ≡ Going [] (count_after to (count_of self.old.state))) }
+        ensures refused { 2 ^ 64 ≤ count_after to (count_of self.old.state) → IsErrAnd result (λ e. error_kind e ≡ ErrorKind.InvalidInput) × (self.new ≡ self.old) }
+        ensures err { count_after to (count_of self.old.state) < 2 ^ 64 → IfErr result (λ e. self.new.state ≡ Stopped (DekuError.Io (error_kind e)) (count_of self.old.state)) }
+        // Where the source knows its place and its bytes, it is where its own seek leaves it.
+        ensures place { SeekMoves (R.stream_position self.old.source) (R.stream_position self.new.source) (R.stream_bytes self.old.source) to result }
+        ensures source_bytes { Keeps (R.stream_bytes self.old.source) (R.stream_bytes self.new.source) }
+        // What the trait asks of a stream whose own place is not known.
+        ensures moves { SeekMoves None None None to result }
+        ensures bytes { Keeps None None }
+    {
+        let Some(count) = count_for(to, self.state.bits_read()) else {
+            return Err(io::Error::new(ErrorKind::InvalidInput, "count past usize"));
+        };
+        match self.source.seek(to) {
+            Ok(place) => {
+                self.state = Progress::going(count);
+                Ok(place)
+            }
+            Err(error) => {
+                let fault = Fault::Io(error.kind());
+                self.state = Progress::stopped(fault, self.state.bits_read());
+                Err(error)
+            }
+        }
+    }
+}
+
+// The count after a seek that succeeds, where a `usize` holds it.
+fn count_for(to: SeekFrom, count: usize) -> Option<usize>
+    ensures some { IfSome result (λ n. n ≡ count_after to count) }
+    ensures none { IfNone result (2 ^ 64 ≤ count_after to count) }
+{
+    match to {
+        SeekFrom::Start(0) | SeekFrom::End(_) => Some(count),
+        SeekFrom::Start(place) => (place as usize).checked_mul(8),
+        SeekFrom::Current(offset) => {
+            if offset <= 0 {
+                return Some(count);
+            }
+            let more = (offset as usize).checked_mul(8)?;
+            count.checked_add(more)
+        }
+    }
+}

@@ -1,0 +1,17 @@
+pub mod Binary
+pub mod Groups
+pub mod Shown
+pub mod Cuts
+pub mod Writing
+pub mod Appends
+pub mod Reading
+pub mod Taking
+pub mod Packing
+pub mod Packed
+pub mod Windows
+pub mod Handing
+pub mod Bytes
+pub mod Words
+pub mod BitPlaces
+pub mod Overlays
+pub mod Holding

@@ -1,0 +1,6 @@
+use Rattle.std.proofs.Common.{refl}
+use Rattle.deku_stream.proofs.Windows.{one_bit}
+use Rattle.deku_stream.proofs.window.Window.pop.Goals as goal
+
+pub returns : goal.returns
+returns c = one_bit c.take.ensures refl

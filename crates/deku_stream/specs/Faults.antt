@@ -1,0 +1,29 @@
+-- Kept faults, and what refusals say.
+use Rattle.std.specs.Prelude.{◌≡◌, ℕ, List}
+use Rattle.std.specs.Borrow.{Bor}
+use Rattle.std.specs.declared.io.ErrorKind.{ErrorKind}
+use Rattle.std.specs.declared.io.ErrorKind.TheVariants.{UnexpectedEof, InvalidData, InvalidInput, NotFound}
+use Rattle.deku_stream.specs.declared.error.DekuError.{DekuError}
+use Rattle.deku_stream.specs.declared.error.DekuError.TheVariants as error
+use Rattle.deku_stream.specs.declared.error.Fault.{Fault}
+use Rattle.deku_stream.specs.declared.error.Fault.TheVariants as fault
+
+-- a kept fault as a refusal
+abbrev pub error_of : Fault → DekuError
+error_of (fault.Incomplete need) = error.Incomplete need
+error_of (fault.Io kind) = error.Io kind
+
+-- the refusal has this text
+pub record Tells (refusal : Bor (List ℕ) → DekuError) (text : List ℕ) (e : DekuError) : Type 0 where
+  pub words : Bor (List ℕ)
+  pub told : words.now ≡ text
+  pub is : e ≡ refusal words
+
+-- the kind of io error that says the same
+abbrev pub kind_of : DekuError → ErrorKind
+kind_of (error.Incomplete need) = UnexpectedEof
+kind_of (error.Parse text) = InvalidData
+kind_of (error.InvalidParam text) = InvalidInput
+kind_of (error.Assertion text) = InvalidData
+kind_of error.IdVariantNotFound = NotFound
+kind_of (error.Io kind) = kind

@@ -1,0 +1,13 @@
+pub use Rattle.deku_device.specs.Devices
+pub use Rattle.deku_device.specs.Cursors
+pub use Rattle.deku_device.specs.Seeking
+pub mod Bits
+pub mod Streams
+pub mod Pieces
+pub mod Writers
+pub mod Symmetry
+pub mod Standings
+pub mod Outcomes
+pub mod Faults
+pub mod Kept
+pub mod Moving

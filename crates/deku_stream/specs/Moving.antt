@@ -1,0 +1,39 @@
+-- Bits that go from a window and the bytes to come, one after the other.
+use Rattle.std.specs.Prelude.{◌≡◌, ⊤, ℕ, ◌+◌, ◌*◌, ◌<◌, Bool, List, length, map, ◌++◌, Option, None, Some}
+use Rattle.deku_stream.specs.declared.ctx.Order.{Order}
+use Rattle.deku_stream.specs.Bits.{chunks, facing, group_number, word_of}
+use Rattle.deku_stream.specs.Streams.{flow, seen}
+
+-- A window and the bytes to come, where they are told, give these bits and are then another window and the bytes behind.
+abbrev pub Moves : Order → List Bool → Option (List ℕ) → List Bool → List Bool → Option (List ℕ) → Type 0
+Moves o window None bits rest after = ⊤
+Moves o window (Some bytes) bits rest None = ⊥
+Moves o window (Some bytes) bits rest (Some after) =
+    (seen o (record { window = window; bytes = bytes }) ≡ bits ++ seen o (record { window = rest; bytes = after }))
+    × ((run : List ℕ) × (bytes ≡ run ++ after))
+
+-- a window and the bytes to come, where they are told, have fewer than n bits
+abbrev pub FewerBits : ℕ → List Bool → Option (List ℕ) → Type 0
+FewerBits n window None = ⊤
+FewerBits n window (Some bytes) = length window + 8 * length bytes < n
+
+-- a window gives its first n bits in an order, which have this number, and those behind them stay
+pub record GivesGroup (o : Order) (n : ℕ) (window : List Bool) (number : ℕ) (rest : List Bool) : Type 0 where
+  pub group : List Bool
+  pub long : length group ≡ n
+  pub cut : facing o window ≡ group ++ facing o rest
+  pub worth : number ≡ group_number o group
+
+-- a window, and bytes behind it, give their first n bits in an order, whose groups have these numbers, and those behind them are another window
+pub record TakesGroups (o : Order) (window : List Bool) (bytes : List ℕ) (n : ℕ) (numbers : List ℕ) (rest : List Bool) : Type 0 where
+  pub bits : List Bool
+  pub long : length bits ≡ n
+  pub cut : facing o window ++ flow o bytes ≡ bits ++ facing o rest
+  pub worth : map (group_number o) (chunks bits) ≡ numbers
+
+-- n bits that have this word go from a window and the bytes to come
+pub record MovesWord (o : Order) (window : List Bool) (bytes : Option (List ℕ)) (n number : ℕ) (rest : List Bool) (after : Option (List ℕ)) : Type 0 where
+  pub bits : List Bool
+  pub long : length bits ≡ n
+  pub moved : Moves o window bytes bits rest after
+  pub worth : number ≡ word_of o bits

@@ -1,0 +1,54 @@
+-- What a call on a reader or a writer may answer, and what it leaves.
+use Rattle.std.specs.Prelude.{◌≡◌, ◌⊎◌, ℕ, ◌+◌, ◌<◌, ◌≤◌, ◌^◌, Bool, true, false, List, Result, Ok, Err, codes}
+use Rattle.std.specs.Borrow.{Bor}
+use Rattle.std.specs.declared.io.ErrorKind.{ErrorKind}
+use Rattle.std.specs.declared.io.ErrorKind.TheVariants.{OutOfMemory}
+use Rattle.deku_stream.specs.declared.error.DekuError.{DekuError}
+use Rattle.deku_stream.specs.declared.error.DekuError.TheVariants.{InvalidParam, Io}
+use Rattle.deku_device.specs.Devices.{Health, NoFewerFailures, MoreFailures}
+use Rattle.deku_stream.specs.Standings.{Standing, Going, Stopped}
+
+-- which answers each standing allows, and where each leads: at `false` what may come where no device fails, at `true` what may come
+-- where one does
+abbrev pub Meaning : Type 0 → Type 0 → Type 1
+Meaning A V = Bool → Standing A → Result V DekuError → Standing A → Type 0
+
+-- a fault of the device, which is answered and kept
+pub record Faults {A V : Type 0} (r : Result V DekuError) (u : Standing A) : Type 0 where
+  pub kind : ErrorKind
+  pub count : ℕ
+  pub answered : r ≡ Err (Io kind)
+  pub kept : u ≡ Stopped (Io kind) count
+
+-- an answer of the meaning; or a fault of the device, which the meaning lets come, and the count of failures rises where it is told
+pub data Outcome {A V : Type 0} (m : Meaning A V) (s : Standing A) (f : Health) (r : Result V DekuError) (u : Standing A) (g : Health) : Type 0 where
+  Quiet : m false s r u → NoFewerFailures f g → Outcome m s f r u g
+  Broken : Faults r u → m true s r u → MoreFailures f g → Outcome m s f r u g
+
+-- a fault of the device, which keeps this count
+abbrev pub Breaks : {A V : Type 0} → ℕ → Result V DekuError → Standing A → Type 0
+Breaks c r u = (kind : ErrorKind) × (r ≡ Err (Io kind)) × (u ≡ Stopped (Io kind) c)
+
+-- what goes on moves as told; what has stopped answers its fault again, and stays
+abbrev pub UnlessStopped : {A V : Type 0} → (A → ℕ → Result V DekuError → Standing A → Type 0) → Meaning A V
+UnlessStopped moves false (Going a c) r u = moves a c r u
+UnlessStopped moves true (Going a c) r u = Breaks c r u
+UnlessStopped moves false (Stopped e c) r u = (r ≡ Err e) × (u ≡ Stopped e c)
+UnlessStopped moves true (Stopped e c) r u = ⊥
+
+-- refused with this text, and nothing changed
+abbrev pub Refuses : {A V : Type 0} → (Bor (List ℕ) → DekuError) → List ℕ → Standing A → Result V DekuError → Standing A → Type 0
+Refuses refusal text s r u = (words : Bor (List ℕ)) × (words.now ≡ text) × (r ≡ Err (refusal words)) × (u ≡ s)
+
+-- n bits more are counted, where the count has room for them
+abbrev pub Counted : {A V : Type 0} → ℕ → (A → ℕ → Result V DekuError → Standing A → Type 0) → A → ℕ → Result V DekuError → Standing A → Type 0
+Counted n moves a c r u = ((2 ^ 64 ≤ c + n) × Refuses InvalidParam (codes "count past usize") (Going a c) r u) ⊎ ((c + n < 2 ^ 64) × moves a c r u)
+
+-- memory is found first, or it is refused and nothing changed
+abbrev pub Reserving : {A V : Type 0} → (A → ℕ → Result V DekuError → Standing A → Type 0) → A → ℕ → Result V DekuError → Standing A → Type 0
+Reserving moves a c r u = ((r ≡ Err (Io OutOfMemory)) × (u ≡ Going a c)) ⊎ moves a c r u
+
+-- what m answers, with h on its values
+pub data Mapped {A V W : Type 0} (h : V → W) (m : Meaning A V) (b : Bool) (s : Standing A) (r : Result W DekuError) (u : Standing A) : Type 0 where
+  Value : (v : V) → m b s (Ok v) u → r ≡ Ok (h v) → Mapped h m b s r u
+  Refusal : (e : DekuError) → m b s (Err e) u → r ≡ Err e → Mapped h m b s r u

@@ -1,0 +1,94 @@
+-- Writing: the bits that wait for a byte, and what an append or the padding makes of them.
+use Rattle.std.specs.Prelude.{ℕ, ◌+◌, ◌-◌, ◌*◌, ◌/◌, ◌%◌, ◌<◌, ◌≡◌, min, Bool, cond, List, [], ◌∷◌, ◌++◌, length, map, take, drop, reverse}
+use Rattle.deku_stream.specs.declared.ctx.Order.{Order}
+use Rattle.deku_stream.specs.declared.ctx.Order.TheVariants.{Msb0, Lsb0}
+use Rattle.deku_stream.specs.Bits.{bin, chunks, group_number, facing, shown}
+use Rattle.deku_stream.specs.Pieces.{same_order, filled}
+
+-- bits that wait for a byte: none, or at most seven of one order, high bit first
+pub data Pending : Type 0 where
+  Nothing : Pending
+  Held : Order → List Bool → Pending
+
+-- bits of an order are pending, where there are any
+abbrev pub held : Order → List Bool → Pending
+held o [] = Nothing
+held o (b ∷ s) = Held o (b ∷ s)
+
+-- the pending bits, high bit first
+abbrev pub pending_bits : Pending → List Bool
+pending_bits Nothing = []
+pending_bits (Held o s) = s
+
+-- what writing makes of pending bits: the bytes to give out, and what is pending then
+pub record Written : Type 0 where
+  pub bytes : List ℕ
+  pub pending : Pending
+
+-- the whole groups of eight
+abbrev pub whole_groups : List Bool → List Bool
+whole_groups t = take (8 * (length t / 8)) t
+
+-- the bits behind the whole groups of eight
+abbrev pub remainder : List Bool → List Bool
+remainder t = drop (8 * (length t / 8)) t
+
+-- a list, as an order meets it, is cut in eights: each is a byte, and the remainder is pending
+abbrev pub cut : Order → List Bool → Written
+cut o t = record {
+  bytes = map (group_number o) (chunks (whole_groups t));
+  pending = held o (facing o (remainder t));
+}
+
+-- bits behind pending bits of the same order, or behind none
+abbrev pub same_append : Order → List Bool → List Bool → Written
+same_append o bits L = cut o (facing o L ++ shown o bits)
+
+-- `Lsb0` bits into pending `Msb0` bits, and `Msb0` bits above pending `Lsb0` bits
+abbrev pub cross_append : Order → List Bool → List Bool → Written
+cross_append Lsb0 bits L =
+    let c : ℕ = min (8 - length bits % 8) (length L) in
+    let t : List Bool = take c L ++ bits ++ drop c L in
+    record { bytes = map bin (chunks (whole_groups t)); pending = held Lsb0 (remainder t) }
+cross_append Msb0 bits L =
+    let r : ℕ = length bits % 8 in
+    let t : List Bool = take r bits ++ L in
+    record {
+      bytes = reverse (map bin (chunks (drop r bits))) ++ map bin (chunks (whole_groups t));
+      pending = held Msb0 (remainder t);
+    }
+
+-- one write; an empty one changes nothing
+unfoldable pub append : Order → List Bool → Pending → Written
+append o [] P = record { bytes = []; pending = P }
+append o bits Nothing = same_append o bits []
+append o bits (Held p L) = cond (same_order o p) (same_append o bits L) (cross_append o bits L)
+
+-- the byte of the padding: zeros after `Msb0` bits, above `Lsb0` bits, up to eight; none where nothing is pending
+unfoldable pub padded : Pending → List ℕ
+padded Nothing = []
+padded (Held o s) = group_number o (filled (facing o s)) ∷ []
+
+-- the padding: its byte is given out, and nothing is pending
+abbrev pub finalized : Pending → Written
+finalized P = record { bytes = padded P; pending = Nothing }
+
+-- nothing is pending, or bits of the order
+abbrev pub Meets : Order → Pending → Type 0
+Meets o Nothing = o ≡ o
+Meets o (Held p s) = o ≡ p
+
+-- Two writes in one order are one write of both lists.
+abbrev pub AppendLaw : Type 0
+AppendLaw = (o : Order) (s t : List Bool) (P : Pending) → Meets o P
+    → let first : Written = append o (shown o s) P in
+    let second : Written = append o (shown o t) first.pending in
+    append o (shown o (s ++ t)) P ≡ record { bytes = first.bytes ++ second.bytes; pending = second.pending }
+
+-- A write in any order loses no bit: those of the bytes given out and those pending then are those pending before and those written.
+-- The padding makes one byte of at most seven pending bits.
+abbrev pub CountLaw : Type 0
+CountLaw = ((o : Order) (bits : List Bool) (P : Pending) → length (pending_bits P) < 8
+    → (8 * length (append o bits P).bytes + length (pending_bits (append o bits P).pending) ≡ length (pending_bits P) + length bits)
+    × (length (pending_bits (append o bits P).pending) < 8))
+    × ((o : Order) (s : List Bool) → length s < 8 → 8 * length (padded (held o s)) < length s + 8)

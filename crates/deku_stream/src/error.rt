@@ -1,0 +1,140 @@
+//! What a read or a write is refused with.
+
+ghost use Rattle.std.specs.Prelude.{◌≡◌, ◌+◌, ◌/◌};
+ghost use Rattle.deku_stream.specs.Faults.{error_of, kind_of};
+
+use std::array::TryFromSliceError;
+use std::io;
+use std::io::ErrorKind;
+use std::num::TryFromIntError;
+use thiserror::Error;
+
+/// How much more a read wanted.
+#[derive(Debug, Clone, Copy, PartialEq, Eq)]
+pub struct NeedSize {
+    bits: usize,
+}
+
+impl NeedSize {
+    /// So many bits.
+    pub fn new(bits: usize) -> NeedSize
+        ensures { result.bits ≡ bits }
+    {
+        NeedSize { bits }
+    }
+
+    /// The bits wanted.
+    pub fn bit_size(&self) -> usize
+        ensures { result ≡ self.now.bits }
+    {
+        self.bits
+    }
+
+    /// The bytes that the bits wanted need: an eighth of them, rounded up.
+    pub fn byte_size(&self) -> usize
+        ensures { result ≡ (self.now.bits + 7) / 8 }
+    {
+        self.bits.div_ceil(8)
+    }
+}
+
+/// Why a read or a write was refused.
+#[derive(Debug, Clone, Copy, PartialEq, Eq, Error)]
+pub enum DekuError {
+    /// The input ended before all bits wanted were read.
+    #[error("Not enough data, need {} bits (or {} bytes)", .0.bit_size(), .0.byte_size())]
+    Incomplete(NeedSize),
+    /// What was read is no value of the type.
+    #[error("Parse error: {0}")]
+    Parse(&'static str),
+    /// A value or a size that cannot be written or asked for.
+    #[error("Invalid param error: {0}")]
+    InvalidParam(&'static str),
+    /// A check of a record's own failed.
+    #[error("{0}")]
+    Assertion(&'static str),
+    /// No variant has the id that was read.
+    #[error("Could not resolve `id` for variant")]
+    IdVariantNotFound,
+    /// The source, the sink or the memory failed.
+    #[error("io errorr: {0:?}")]
+    Io(ErrorKind),
+}
+
+impl DekuError {
+    /// The kind of io error that says the same.
+    ///
+    /// ```text
+    /// DekuError::Incomplete(NeedSize::new(8)).io_kind()  // UnexpectedEof
+    /// DekuError::IdVariantNotFound.io_kind()             // NotFound
+    /// ```
+    pub fn io_kind(&self) -> ErrorKind
+        ensures { result ≡ kind_of self.now }
+    {
+        match *self {
+            DekuError::Incomplete(_) => ErrorKind::UnexpectedEof,
+            DekuError::Parse(_) | DekuError::Assertion(_) => ErrorKind::InvalidData,
+            DekuError::InvalidParam(_) => ErrorKind::InvalidInput,
+            DekuError::IdVariantNotFound => ErrorKind::NotFound,
+            DekuError::Io(kind) => kind,
+        }
+    }
+}
+
+/// A number that its type cannot hold is `Parse("error parsing int")`.
+impl From<TryFromIntError> for DekuError {
+    ghost use Rattle.std.specs.Prelude.{codes};
+    ghost use Rattle.deku_stream.specs.declared.error.DekuError.TheVariants.{Parse};
+    ghost use Rattle.deku_stream.specs.Faults.{Tells};
+
+    ghost from_gives = { λ _ e. Tells Parse (codes "error parsing int") e };
+
+    fn from(_error: TryFromIntError) -> DekuError {
+        DekuError::Parse("error parsing int")
+    }
+}
+
+/// A slice of another length than the array's is `Parse("error parsing from slice")`.
+impl From<TryFromSliceError> for DekuError {
+    ghost use Rattle.std.specs.Prelude.{codes};
+    ghost use Rattle.deku_stream.specs.declared.error.DekuError.TheVariants.{Parse};
+    ghost use Rattle.deku_stream.specs.Faults.{Tells};
+
+    ghost from_gives = { λ _ e. Tells Parse (codes "error parsing from slice") e };
+
+    fn from(_error: TryFromSliceError) -> DekuError {
+        DekuError::Parse("error parsing from slice")
+    }
+}
+
+/// An io error is `Io` of its kind.
+impl From<io::Error> for DekuError {
+    ghost use Rattle.std.specs.Prelude.{◌≡◌};
+    ghost use Rattle.std.specs.IoError.{error_kind};
+    ghost use Rattle.deku_stream.specs.declared.error.DekuError.TheVariants.{Io};
+
+    ghost from_gives = { λ error e. e ≡ Io (error_kind error) };
+
+    fn from(error: io::Error) -> DekuError {
+        DekuError::Io(error.kind())
+    }
+}
+
+/// What stops a reader or a writer: the end of input, or a fault of its device. It is kept, and answered again.
+#[derive(Clone, Copy)]
+pub enum Fault {
+    Incomplete(NeedSize),
+    Io(ErrorKind),
+}
+
+impl Fault {
+    /// The fault as a refusal.
+    pub fn error(self) -> DekuError
+        ensures { result ≡ error_of self }
+    {
+        match self {
+            Fault::Incomplete(need) => DekuError::Incomplete(need),
+            Fault::Io(kind) => DekuError::Io(kind),
+        }
+    }
+}

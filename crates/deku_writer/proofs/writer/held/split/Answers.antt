@@ -1,0 +1,16 @@
+use Rattle.std.proofs.Common.{arith, rules, ◌-◌}
+use Rattle.std.proofs.lemmas.Nat.{one_shl}
+use Rattle.deku_writer.proofs.Fills.{cut_high_below, cut_high, cut_low_below, cut_low}
+use Rattle.deku_writer.proofs.writer.held.split.Goals as goal
+
+pub overflow_cast-result-in-Msb0 : goal.overflow_cast-result-in-Msb0
+overflow_cast-result-in-Msb0 c = let b = cut_high_below c.args.n c.args.joined c.requires.whole c.requires.inside in search rules
+
+pub returns-in-Msb0-clause-bits : goal.returns-in-Msb0-clause-bits
+returns-in-Msb0-clause-bits c = rw (c.in-Msb0.is, one_shl (c.args.n - 8) 16 (omega arith)) (cut_high c.args.n c.args.joined c.requires.whole c.requires.inside)
+
+pub returns-in-Lsb0-clause-inside : goal.returns-in-Lsb0-clause-inside
+returns-in-Lsb0-clause-inside c = cut_low_below c.args.n c.args.joined c.requires.whole c.requires.inside
+
+pub returns-in-Lsb0-clause-bits : goal.returns-in-Lsb0-clause-bits
+returns-in-Lsb0-clause-bits c = rw c.in-Lsb0.is (cut_low c.args.n c.args.joined c.requires.whole c.requires.inside)

@@ -1,0 +1,59 @@
+-- What the calls of a writer do.
+use Rattle.std.specs.Prelude.{◌≡◌, ◌⊎◌, ℕ, ◌+◌, ◌*◌, ◌<◌, Bool, List, length, Result, Ok, Err}
+use Rattle.std.specs.Io.KnownBytes.{Appends}
+use Rattle.std.specs.declared.io.ErrorKind.{ErrorKind}
+use Rattle.deku_stream.specs.declared.ctx.Order.{Order}
+use Rattle.deku_stream.specs.declared.ctx.Order.TheVariants.{Msb0}
+use Rattle.deku_stream.specs.declared.error.DekuError.{DekuError}
+use Rattle.deku_stream.specs.declared.error.DekuError.TheVariants.{Io}
+use Rattle.deku_writer.specs.declared.writer.Writer.{Writer}
+use Rattle.deku_stream.specs.Bits.{word_of, shown}
+use Rattle.deku_stream.specs.Writers.{Pending, Nothing, Held, Written, append, finalized}
+use Rattle.deku_device.specs.Devices.{SinkTold, Shrinks, LacksRoom}
+use Rattle.deku_stream.specs.Standings.{Standing, Going, Stopped, Output, writer_state}
+use Rattle.deku_stream.specs.Outcomes.{Meaning, Outcome, UnlessStopped, Counted}
+
+-- a call on a sink and what a writer keeps beside it
+abbrev pub WritesAt : Meaning Output (Unit {0}) → SinkTold → Standing Pending → Result (Unit {0}) DekuError → SinkTold → Standing Pending → Type 0
+WritesAt m told s r told_after u = Outcome m (writer_state told s) told.health r (writer_state told_after u) told_after.health
+
+-- a call on a writer
+abbrev pub Writes : {W : Type 0} → (W → SinkTold) → Meaning Output (Unit {0}) → Writer W → Result (Unit {0}) DekuError → Writer W → Type 0
+Writes told m old r new = WritesAt m (told old.sink) old.state r (told new.sink) new.state
+
+-- the sink took the bytes, and the bits are pending
+pub record Took (w : Written) (old new : Output) : Type 0 where
+  pub taken : Appends old.taken new.taken w.bytes
+  pub room : Shrinks old.room new.room (length w.bytes)
+  pub pending : new.pending ≡ w.pending
+
+-- bytes are given out: the sink takes them, each counts eight bits, and the bits are pending; or it lacks the room, which is kept
+abbrev pub GivesOut : Written → Output → ℕ → Result (Unit {0}) DekuError → Standing Output → Type 0
+GivesOut w out c r u = ((after : Output) × Took w out after × (r ≡ Ok tt) × (u ≡ Going after (c + 8 * length w.bytes)))
+    ⊎ ((kind : ErrorKind) × (0 < length w.bytes) × LacksRoom out.room (length w.bytes) kind × (r ≡ Err (Io kind)) × (u ≡ Stopped (Io kind) c))
+
+-- what writing makes of the pending bits is given out, where the count has room for the bytes
+abbrev pub Emits : (Pending → Written) → Meaning Output (Unit {0})
+Emits write = UnlessStopped (λ out. Counted (8 * length (write out.pending).bytes) (GivesOut (write out.pending)) out)
+
+-- bits are written in an order
+abbrev pub WritesBits : Order → List Bool → Meaning Output (Unit {0})
+WritesBits o bits = Emits (append o bits)
+
+-- a word is written in an order: the list of n bits that has this word, as a read shows it
+abbrev pub WritesWord : Order → ℕ → ℕ → Meaning Output (Unit {0})
+WritesWord o n word b s r u = (bits : List Bool) × (length bits ≡ n) × (word_of o bits ≡ word) × WritesBits o (shown o bits) b s r u
+
+-- the pending bits are filled with zeros to a byte
+abbrev pub Finalizes : Meaning Output (Unit {0})
+Finalizes = Emits finalized
+
+-- what is pending; nothing where the writer has stopped
+abbrev pub pending_of : Standing Pending → Pending
+pending_of (Going pending c) = pending
+pending_of (Stopped e c) = Nothing
+
+-- the order of pending bits; `Msb0` where nothing is pending
+abbrev pub order_of : Pending → Order
+order_of Nothing = Msb0
+order_of (Held o s) = o

@@ -1,0 +1,4 @@
+//! The writer of bits.
+#![tactic(auto)]
+
+pub mod writer;

@@ -1,0 +1,362 @@
+//! Bits written to a sink, one call at a time.
+
+ghost use Rattle.std.specs.Prelude.{◌≡◌, ◌+◌, ◌/◌, ◌^◌, ◌<◌, ◌≤◌, length, IfOk, IfErr};
+ghost use Rattle.std.specs.declared.io.ErrorKind.TheVariants.{OutOfMemory};
+ghost use Rattle.deku_stream.specs.declared.ctx.Order.TheVariants.{Msb0};
+ghost use Rattle.deku_stream.specs.declared.error.DekuError.TheVariants.{Io};
+ghost use Rattle.deku_stream.specs.Bits.{bits_in};
+ghost use Rattle.deku_stream.specs.Writers.{Nothing, pending_bits};
+ghost use Rattle.deku_stream.specs.Standings.{Going, Stopped, Untouched, count_of};
+ghost use Rattle.deku_writer.specs.WriterCalls.{Writes, WritesAt, WritesBits, WritesWord, Finalizes, pending_of, order_of};
+
+mod bytes;
+mod held;
+mod pushing;
+mod seek;
+mod way;
+mod words;
+
+use self::bytes::push_bytes_onto;
+use self::held::Held;
+use self::pushing::push_onto;
+use self::words::push_word_onto;
+use deku_device::device::Sink;
+use deku_stream::bounded::BoundedBitVec;
+use deku_stream::ctx::Order;
+use deku_stream::error::{DekuError, Fault};
+use std::alloc::Global;
+use std::io::ErrorKind;
+use std::marker::Model;
+
+/// Gives whole bytes to a sink, and keeps the bits that do not fill one: at most seven, of one order.
+///
+/// Bits in `Msb0` fill a byte from its highest bit down, and bits in `Lsb0` from its lowest bit up. A fault of the sink stops the
+/// writer: it is kept, nothing is pending, and each later write answers the fault again. What the sink took of the failed call is not known.
+///
+/// ```text
+/// let mut writer = Writer::new(Cursor::new(Vec::new(alloc)));
+/// writer.write_bits(&[true, false, true])?;          // 1, 0, 1 are pending
+/// writer.finalize()?;                                // the byte 0xA0 is given to the sink
+/// writer.bits_written()                              // 8
+/// writer.into_inner().into_inner()                   // [0xA0]
+/// ```
+#[derive(Drop)]
+pub struct Writer<W> {
+    pub(crate) sink: W,
+    pub(crate) state: Progress,
+}
+
+/// How far a writer has come.
+#[derive(Drop)]
+pub struct Progress {
+    held: Held,
+    order: Order,
+    bits_written: usize,
+    fault: Option<Fault>,
+}
+
+impl Model for Progress {
+    ghost use Rattle.std.specs.Prelude.{◌<◌, length};
+    ghost use Rattle.deku_stream.specs.Writers.{Pending, held as pending_in};
+    ghost use Rattle.deku_stream.specs.Standings.{Standing};
+    ghost use Rattle.deku_stream.specs.Kept.{standing_of};
+
+    ghost Value = { Standing Pending };
+
+    ghost view = { λ a. standing_of (pending_in a.order a.held) a.fault a.bits_written };
+
+    ghost invariant = { λ a. length a.held < 8 };
+}
+
+impl<W: Sink> Writer<W> {
+    /// A writer onto this sink, with nothing pending and no bit written. Nothing is given to the sink.
+    pub fn new(inner: W) -> Writer<W>
+        ensures sink { result.sink ≡ inner }
+        ensures state { result.state ≡ Going Nothing 0 }
+    {
+        Writer {
+            sink: inner,
+            state: Progress::going(0),
+        }
+    }
+
+    /// The sink, with the bytes that it was given. Pending bits are lost: call `finalize` first.
+    pub fn into_inner(self) -> W
+        ensures { result ≡ self.sink }
+    {
+        self.sink
+    }
+
+    /// How many bits were given to the sink: eight for each byte. Pending bits are not counted, nor are those of a write that failed.
+    pub fn bits_written(&self) -> usize
+        ensures { result ≡ count_of self.now.state }
+    {
+        self.state.bits_written()
+    }
+
+    /// The pending bits, highest first, and their order: at most seven, and none in `Msb0` where nothing is pending or the writer has stopped.
+    ///
+    /// ```text
+    /// writer.write_bits_order(&[true, true, false], Order::Lsb0)?;
+    /// writer.leftover()                                  // 1, 1, 0 in `Lsb0`
+    /// ```
+    pub fn leftover(&self) -> (BoundedBitVec<1>, Order)
+        ensures bits { result.0 ≡ pending_bits (pending_of self.now.state) }
+        ensures order { result.1 ≡ order_of (pending_of self.now.state) }
+    {
+        let bits = self.state.pending();
+        (
+            BoundedBitVec::from_bits(&bits.bits()[..bits.len()]),
+            self.state.pending_order(),
+        )
+    }
+
+    /// The pending bits, highest first: at most seven, and none where the writer has stopped.
+    ///
+    /// Fails with `Io(OutOfMemory)` where no memory is found for them.
+    ///
+    /// ```text
+    /// writer.write_bits_order(&[true, true, false], Order::Lsb0)?;
+    /// writer.rest(alloc)?                                // [true, true, false]
+    /// ```
+    pub fn rest(&self, alloc: Global) -> Result<Vec<bool>, DekuError>
+        ensures bits { IfOk result (λ v. v.items ≡ pending_bits (pending_of self.now.state)) }
+        ensures memory { IfErr result (λ e. e ≡ Io OutOfMemory) }
+    {
+        let pending = self.state.pending();
+        match Vec::from_slice(alloc, &pending.bits()[..pending.len()]) {
+            Ok(bits) => Ok(bits),
+            Err(_) => Err(DekuError::Io(ErrorKind::OutOfMemory)),
+        }
+    }
+
+    /// Writes bits, highest first, in an order. Each byte that is filled is given to the sink, and counts eight bits.
+    ///
+    /// In `Msb0` they follow the pending bits. In `Lsb0` they go above them, the last bit first, or, where the list is whole bytes, byte by
+    /// byte, the last bit of each first. `Lsb0` bits go into pending `Msb0` bits, and `Msb0` bits above pending `Lsb0` bits. No bits change nothing.
+    ///
+    /// Fails, in this order: with the fault that stopped the writer; with `InvalidParam` where the count would pass `usize`, and nothing changes;
+    /// with `Io` of the sink's fault, as `WriteZero` where it lacks room. The fault is kept, nothing is pending then, and the count stays.
+    ///
+    /// ```text
+    /// writer.write_bits_order(&[true, false, true], Order::Lsb0)?;
+    /// writer.finalize()?;                                // the byte 0x05
+    /// ```
+    pub fn write_bits_order(&mut self, bits: &[bool], order: Order) -> Result<(), DekuError>
+        ensures writes { Writes W.told (WritesBits order bits.now) self.old result self.new }
+        ensures stopped { Untouched self.old.state self.old.sink self.new.sink }
+    {
+        self.state.write(&mut self.sink, bits, order)
+    }
+
+    /// Writes bits in `Msb0`, as `write_bits_order` does.
+    pub fn write_bits(&mut self, bits: &[bool]) -> Result<(), DekuError>
+        ensures writes { Writes W.told (WritesBits Msb0 bits.now) self.old result self.new }
+        ensures stopped { Untouched self.old.state self.old.sink self.new.sink }
+    {
+        self.write_bits_order(bits, Order::Msb0)
+    }
+
+    /// Writes the bits of bytes in `Msb0`, each byte high bit first, as one `write_bits` of all of them does. Where nothing is pending the sink
+    /// is given the bytes at once. It takes no memory but what the sink takes.
+    ///
+    /// ```text
+    /// writer.write_bits(&[true, false, true, false])?;   // 1, 0, 1, 0 are pending
+    /// writer.write_bytes(&[0xBB])?;                      // the byte 0xAB; 1, 0, 1, 1 are pending
+    /// ```
+    pub fn write_bytes(&mut self, buf: &[u8]) -> Result<(), DekuError>
+        ensures writes { Writes W.told (WritesBits Msb0 (bits_in buf.now)) self.old result self.new }
+        ensures stopped { Untouched self.old.state self.old.sink self.new.sink }
+    {
+        self.state.write_bytes(&mut self.sink, buf)
+    }
+
+    /// Writes a word of at most 128 bits in an order, as one `write_bits_order` of its bits does: eight bits for each byte of the word, the
+    /// lowest byte first, and what is above the whole bytes last. It takes no memory but what the sink takes, and gives the sink its bytes at
+    /// once, but for bits of the other order that are pending. The caller's conditions: `n` is at most 128, and the word has no more bits.
+    ///
+    /// ```text
+    /// writer.write_word(0x0201, 12, Order::Msb0)?;       // the byte 0x01; 0, 0, 1, 0 are pending
+    /// ```
+    pub fn write_word(&mut self, word: u128, n: usize, order: Order) -> Result<(), DekuError>
+        requires most { n ≤ 128 }
+        requires inside { word < 2 ^ n }
+        ensures writes { Writes W.told (WritesWord order n word) self.old result self.new }
+        ensures stopped { Untouched self.old.state self.old.sink self.new.sink }
+    {
+        self.state.write_word(&mut self.sink, word, n, order)
+    }
+
+    /// Fills pending bits with zeros to a byte, behind `Msb0` bits and above `Lsb0` bits, and gives it to the sink. It counts eight bits. Where
+    /// nothing is pending it changes nothing.
+    ///
+    /// Fails as `write_bits_order` does, and leaves the same.
+    pub fn finalize(&mut self) -> Result<(), DekuError>
+        ensures writes { Writes W.told Finalizes self.old result self.new }
+        ensures stopped { Untouched self.old.state self.old.sink self.new.sink }
+    {
+        self.state.finalize(&mut self.sink)
+    }
+}
+
+impl Progress {
+    // So many bits are written, and nothing is pending.
+    fn going(bits_written: usize) -> Progress
+        ensures { result ≡ Going Nothing bits_written }
+    {
+        Progress {
+            held: Held::new(),
+            order: Order::Msb0,
+            bits_written,
+            fault: None,
+        }
+    }
+
+    // Stopped by this fault of the sink, with this count: nothing is pending.
+    fn stopped(kind: ErrorKind, count: usize) -> Progress
+        ensures { result ≡ Stopped (Io kind) count }
+    {
+        Progress {
+            held: Held::new(),
+            order: Order::Msb0,
+            bits_written: count,
+            fault: Some(Fault::Io(kind)),
+        }
+    }
+
+    fn bits_written(&self) -> usize
+        ensures { result ≡ count_of self.now }
+    {
+        self.bits_written
+    }
+
+    // The pending bits, highest first.
+    fn pending(&self) -> Held
+        ensures { result ≡ pending_bits (pending_of self.now) }
+    {
+        if self.fault.is_some() {
+            return Held::new();
+        }
+        self.held.copy()
+    }
+
+    // The order of the pending bits.
+    fn pending_order(&self) -> Order
+        ensures { result ≡ order_of (pending_of self.now) }
+    {
+        if self.fault.is_some() || self.held.len() == 0 {
+            return Order::Msb0;
+        }
+        self.order
+    }
+
+    // Writes the bits to this sink.
+    fn write<W: Sink>(&mut self, sink: &mut W, bits: &[bool], order: Order) -> Result<(), DekuError>
+        ensures writes { WritesAt (WritesBits order bits.now) (W.told sink.old) self.old result (W.told sink.new) self.new }
+        ensures stopped { Untouched self.old sink.old sink.new }
+    {
+        if let Some(fault) = self.fault {
+            return Err(fault.error());
+        }
+        if bits.is_empty() {
+            return Ok(());
+        }
+        let bytes = whole_bytes(self.held.len(), bits.len());
+        if bytes > (usize::MAX - self.bits_written) / 8 {
+            return Err(DekuError::InvalidParam("count past usize"));
+        }
+        match push_onto(sink, &mut self.held, self.order, order, bits) {
+            Ok(()) => {
+                self.order = order;
+                self.bits_written += 8 * bytes;
+                Ok(())
+            }
+            Err(kind) => {
+                *self = Progress::stopped(kind, self.bits_written);
+                Err(DekuError::Io(kind))
+            }
+        }
+    }
+
+    // Writes the bytes to this sink, in `Msb0`.
+    fn write_bytes<W: Sink>(&mut self, sink: &mut W, bytes: &[u8]) -> Result<(), DekuError>
+        ensures writes { WritesAt (WritesBits Msb0 (bits_in bytes.now)) (W.told sink.old) self.old result (W.told sink.new) self.new }
+        ensures stopped { Untouched self.old sink.old sink.new }
+    {
+        if let Some(kept) = self.fault {
+            return Err(kept.error());
+        }
+        if bytes.is_empty() {
+            return Ok(());
+        }
+        if bytes.len() > (usize::MAX - self.bits_written) / 8 {
+            return Err(DekuError::InvalidParam("count past usize"));
+        }
+        match push_bytes_onto(sink, &mut self.held, self.order, bytes) {
+            Ok(()) => {
+                self.order = Order::Msb0;
+                self.bits_written += 8 * bytes.len();
+                Ok(())
+            }
+            Err(kind) => {
+                *self = Progress::stopped(kind, self.bits_written);
+                Err(DekuError::Io(kind))
+            }
+        }
+    }
+
+    // Writes a word of n bits to this sink.
+    fn write_word<W: Sink>(
+        &mut self,
+        sink: &mut W,
+        word: u128,
+        n: usize,
+        order: Order,
+    ) -> Result<(), DekuError>
+        requires most { n ≤ 128 }
+        requires inside { word < 2 ^ n }
+        ensures writes { WritesAt (WritesWord order n word) (W.told sink.old) self.old result (W.told sink.new) self.new }
+        ensures stopped { Untouched self.old sink.old sink.new }
+    {
+        if let Some(reason) = self.fault {
+            return Err(reason.error());
+        }
+        if n == 0 {
+            return Ok(());
+        }
+        let filled = whole_bytes(self.held.len(), n);
+        if filled > (usize::MAX - self.bits_written) / 8 {
+            return Err(DekuError::InvalidParam("count past usize"));
+        }
+        match push_word_onto(sink, &mut self.held, self.order, order, word, n) {
+            Ok(()) => {
+                self.order = order;
+                self.bits_written += 8 * filled;
+                Ok(())
+            }
+            Err(kind) => {
+                *self = Progress::stopped(kind, self.bits_written);
+                Err(DekuError::Io(kind))
+            }
+        }
+    }
+
+    // Writes as many zeros as the pending bits lack to a byte.
+    fn finalize<W: Sink>(&mut self, sink: &mut W) -> Result<(), DekuError>
+        ensures writes { WritesAt Finalizes (W.told sink.old) self.old result (W.told sink.new) self.new }
+        ensures stopped { Untouched self.old sink.old sink.new }
+    {
+        let zeros = [false; 8];
+        let lacking = (8 - self.held.len()) % 8;
+        let order = self.order;
+        self.write(sink, &zeros[..lacking], order)
+    }
+}
+
+// How many whole bytes so many held bits and bits more make.
+fn whole_bytes(held: usize, more: usize) -> usize
+    requires { held ≤ 8 }
+    ensures { result ≡ (held + more) / 8 }
+{
+    more / 8 + (held + more % 8) / 8
+}

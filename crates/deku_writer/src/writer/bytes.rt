@@ -1,0 +1,109 @@
+//! Whole bytes that go out, by way of held bits or at once.
+
+ghost use Rattle.std.specs.Prelude.{◌≡◌, ◌<◌, ◌≤◌, length, take, reverse, OnOk, IfErr};
+ghost use Rattle.deku_stream.specs.declared.ctx.Order.TheVariants.{Msb0};
+ghost use Rattle.deku_stream.specs.Bits.{bits_in};
+ghost use Rattle.deku_device.specs.Devices.{Gave};
+ghost use Rattle.deku_writer.specs.Pushing.{Fills, Pushed, GaveUp, PushedOnto};
+
+use super::held::Held;
+use super::pushing::give_out;
+use deku_device::device::Sink;
+use deku_stream::ctx::Order;
+use std::io::ErrorKind;
+
+// How many bytes go out at a time.
+const RUN: usize = 64;
+
+// Bytes through held bits, each high bit first: as many go out as come in.
+fn shift(out: &mut [u8], held: &mut Held, bytes: &[u8])
+    requires short { length held.old < 8 }
+    requires room { length bytes.now ≤ length out.old }
+    ensures fills { Fills Msb0 held.old held.new (bits_in bytes.now) (take (length bytes.now) out.new) }
+    ensures len { length out.new ≡ length out.old }
+{
+    for i in 0..bytes.len() {
+        out[i] = held.pass(Order::Msb0, bytes[i]);
+    }
+}
+
+// The bytes, each high bit first, onto held bits: a run that goes out at once.
+fn push_run<W: Sink>(sink: &mut W, held: &mut Held, bytes: &[u8]) -> Result<(), ErrorKind>
+    requires short { length held.old < 8 }
+    requires some { 0 < length bytes.now }
+    requires most { length bytes.now ≤ 64 }
+    ensures pushed { OnOk result (Pushed (W.told sink.old) (W.told sink.new) Msb0 held.old held.new (bits_in bytes.now)) }
+    ensures fault { IfErr result (GaveUp (W.told sink.old) (W.told sink.new) (length bytes.now)) }
+{
+    let mut out = [0; RUN];
+    shift(&mut out, held, bytes);
+    give_out(sink, &out[..bytes.len()])
+}
+
+// The bytes, each high bit first, onto held bits, run by run.
+fn push_bytes<W: Sink>(sink: &mut W, held: &mut Held, bytes: &[u8]) -> Result<(), ErrorKind>
+    requires { length held.old < 8 }
+    ensures pushed { OnOk result (Pushed (W.told sink.old) (W.told sink.new) Msb0 held.old held.new (bits_in bytes.now)) }
+    ensures fault { IfErr result (GaveUp (W.told sink.old) (W.told sink.new) (length bytes.now)) }
+{
+    for i in 0..bytes.len().div_ceil(RUN) {
+        let begin = RUN * i;
+        let end = begin + RUN.min(bytes.len() - begin);
+        match push_run(sink, held, &bytes[begin..end]) {
+            Ok(()) => {}
+            Err(kind) => return Err(kind),
+        }
+    }
+    Ok(())
+}
+
+// The bytes, the last one first: a run that goes out at once.
+fn give_turned<W: Sink>(sink: &mut W, bytes: &[u8]) -> Result<(), ErrorKind>
+    requires some { 0 < length bytes.now }
+    requires most { length bytes.now ≤ 64 }
+    ensures gave { OnOk result (Gave (W.told sink.old) (W.told sink.new) (reverse bytes.now)) }
+    ensures fault { IfErr result (GaveUp (W.told sink.old) (W.told sink.new) (length bytes.now)) }
+{
+    let mut out = [0; RUN];
+    let run = &mut out[..bytes.len()];
+    run.copy_from_slice(bytes);
+    run.reverse();
+    give_out(sink, run)
+}
+
+// Bytes above `Lsb0` bits: the last byte goes out first, and the bits stay.
+fn give_above<W: Sink>(sink: &mut W, bytes: &[u8]) -> Result<(), ErrorKind>
+    ensures gave { OnOk result (Gave (W.told sink.old) (W.told sink.new) (reverse bytes.now)) }
+    ensures fault { IfErr result (GaveUp (W.told sink.old) (W.told sink.new) (length bytes.now)) }
+{
+    for i in 0..bytes.len().div_ceil(RUN) {
+        let end = bytes.len() - RUN * i;
+        let begin = end - RUN.min(end);
+        match give_turned(sink, &bytes[begin..end]) {
+            Ok(()) => {}
+            Err(kind) => return Err(kind),
+        }
+    }
+    Ok(())
+}
+
+/// Bytes onto the held bits of an order.
+pub fn push_bytes_onto<W: Sink>(
+    sink: &mut W,
+    held: &mut Held,
+    from: Order,
+    bytes: &[u8],
+) -> Result<(), ErrorKind>
+    requires short { length held.old < 8 }
+    requires some { 0 < length bytes.now }
+    ensures pushed { OnOk result (PushedOnto (W.told sink.old) (W.told sink.new) from Msb0 held.old held.new (bits_in bytes.now)) }
+    ensures fault { IfErr result (GaveUp (W.told sink.old) (W.told sink.new) (length bytes.now)) }
+{
+    if held.len() == 0 {
+        return give_out(sink, bytes);
+    }
+    match from {
+        Order::Msb0 => push_bytes(sink, held, bytes),
+        Order::Lsb0 => give_above(sink, bytes),
+    }
+}

@@ -1,0 +1,124 @@
+//! Up to seven bits, packed.
+
+ghost use Rattle.std.specs.Prelude.{◌≡◌, ◌+◌, ◌-◌, ◌^◌, ◌<◌, ◌≤◌, [], ◌∷◌, ◌++◌, length, take};
+ghost use Rattle.deku_stream.specs.Bits.{bits_of, byte_bits, facing};
+ghost use Rattle.deku_writer.specs.Pushing.{Fills, given};
+
+use deku_stream::byte::bits_of_byte;
+use deku_stream::ctx::Order;
+use std::marker::Model;
+
+/// Up to seven bits, packed into the number that they make, the first the highest.
+#[derive(Drop)]
+pub struct Held {
+    number: u8,
+    len: usize,
+}
+
+impl Model for Held {
+    ghost use Rattle.std.specs.Prelude.{◌<◌, ◌^◌, List, Bool};
+    ghost use Rattle.deku_stream.specs.Bits.{bits_of};
+
+    ghost Value = { List Bool };
+
+    ghost view = { λ a. bits_of a.len a.number };
+
+    ghost invariant = { λ a. (a.len < 8) × (a.number < 2 ^ a.len) };
+}
+
+impl Held {
+    /// No bits.
+    #[tactic(auto, unfolding(deku_stream::specs::Bits::bits_of))]
+    pub fn new() -> Held
+        ensures { result ≡ [] }
+    {
+        Held { number: 0, len: 0 }
+    }
+
+    /// How many there are.
+    #[tactic(auto, using(deku_stream::proofs::Packed::lengths))]
+    pub fn len(&self) -> usize
+        ensures length { result ≡ length self.now }
+        ensures most { result < 8 }
+    {
+        self.len
+    }
+
+    /// The same bits again.
+    pub fn copy(&self) -> Held
+        ensures { result ≡ self.now }
+    {
+        Held {
+            number: self.number,
+            len: self.len,
+        }
+    }
+
+    /// The bits, highest first, with zeros behind them.
+    pub fn bits(&self) -> [bool; 8]
+        ensures { take (length self.now) result ≡ self.now }
+    {
+        bits_of_byte(((self.number as u16) << (8 - self.len)) as u8)
+    }
+
+    /// A whole byte, as the order meets it behind the bits that are held. The first eight go out as a byte, and as many are held as before.
+    pub fn pass(&mut self, order: Order, byte: u8) -> u8
+        ensures fills { Fills order self.old self.new (facing order (byte_bits byte)) (result ∷ []) }
+        ensures len { length self.new ≡ length self.old }
+    {
+        let joined = join(order, self.number, self.len, byte, 8);
+        let (first, behind) = split(order, joined, self.len + 8);
+        self.number = behind;
+        first
+    }
+
+    /// A group of at most eight bits, as the order meets it behind those that are held. Where there are eight then, the first eight go out as
+    /// a byte.
+    pub fn push(&mut self, order: Order, group: u8, n: usize) -> Option<u8>
+        requires size { n ≤ 8 }
+        requires inside { group < 2 ^ n }
+        ensures { Fills order self.old self.new (facing order (bits_of n group)) (given result) }
+    {
+        let joined = join(order, self.number, self.len, group, n);
+        let len = self.len + n;
+        if len < 8 {
+            self.number = joined as u8;
+            self.len = len;
+            return None;
+        }
+        let (byte, behind) = split(order, joined, len);
+        self.number = behind;
+        self.len = len - 8;
+        Some(byte)
+    }
+}
+
+// The number of two groups of bits, as the order meets the one behind the other.
+fn join(order: Order, first: u8, a: usize, second: u8, b: usize) -> u16
+    requires short { a < 8 }
+    requires size { b ≤ 8 }
+    requires first { first < 2 ^ a }
+    requires second { second < 2 ^ b }
+    ensures inside { result < 2 ^ (a + b) }
+    ensures bits { facing order (bits_of (a + b) result) ≡ facing order (bits_of a first) ++ facing order (bits_of b second) }
+{
+    match order {
+        Order::Msb0 => ((first as u16) << b) + second as u16,
+        Order::Lsb0 => first as u16 + ((second as u16) << a),
+    }
+}
+
+// The first eight bits that the order meets, and the number of those behind them.
+fn split(order: Order, joined: u16, n: usize) -> (u8, u8)
+    requires whole { 8 ≤ n }
+    requires short { n < 16 }
+    requires inside { joined < 2 ^ n }
+    ensures inside { result.1 < 2 ^ (n - 8) }
+    ensures bits { facing order (bits_of n joined) ≡ facing order (byte_bits result.0) ++ facing order (bits_of (n - 8) result.1) }
+{
+    let behind = n - 8;
+    match order {
+        Order::Msb0 => ((joined >> behind) as u8, (joined % (1 << behind)) as u8),
+        Order::Lsb0 => ((joined % 256) as u8, (joined >> 8) as u8),
+    }
+}

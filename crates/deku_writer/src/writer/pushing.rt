@@ -1,0 +1,171 @@
+//! Bits given to a sink by way of a byte that fills.
+
+ghost use Rattle.std.specs.Prelude.{◌≡◌, ◌<◌, ◌≤◌, ◌+◌, ◌-◌, ◌/◌, ◌%◌, Bool, List, false, min, take, drop, get_or, ◌++◌, ◌∷◌, [], length, OnOk, IfErr};
+ghost use Rattle.deku_stream.specs.declared.ctx.Order.TheVariants.{Msb0, Lsb0};
+ghost use Rattle.deku_writer.specs.declared.writer.way.Way.TheVariants.{BytesBackward};
+ghost use Rattle.deku_stream.specs.Bits.{shown};
+ghost use Rattle.deku_device.specs.Devices.{Gave};
+ghost use Rattle.deku_writer.specs.Pushing.{along, IsFor, Pushed, GaveUp, PushedOnto};
+
+use super::held::Held;
+use super::way::Way;
+use deku_device::device::Sink;
+use deku_stream::ctx::Order;
+use std::io::ErrorKind;
+
+/// Bytes given to the sink at once.
+pub fn give_out<W: Sink>(sink: &mut W, bytes: &[u8]) -> Result<(), ErrorKind>
+    requires { 0 < length bytes.now }
+    ensures gave { OnOk result (Gave (W.told sink.old) (W.told sink.new) bytes.now) }
+    ensures fault { IfErr result (GaveUp (W.told sink.old) (W.told sink.new) (length bytes.now)) }
+{
+    match sink.give(bytes) {
+        Ok(()) => Ok(()),
+        Err(e) => Err(e.kind()),
+    }
+}
+
+// One more bit. The byte goes out when it is full.
+fn push_bit<W: Sink>(
+    sink: &mut W,
+    held: &mut Held,
+    order: Order,
+    bit: bool,
+) -> Result<(), ErrorKind>
+    requires { length held.old < 8 }
+    ensures pushed { OnOk result (Pushed (W.told sink.old) (W.told sink.new) order held.old held.new (bit ∷ [])) }
+    ensures fault { IfErr result (GaveUp (W.told sink.old) (W.told sink.new) ((length held.old + 1) / 8)) }
+{
+    match held.push(order, u8::from(bit), 1) {
+        None => Ok(()),
+        Some(byte) => give_out(sink, &[byte]),
+    }
+}
+
+/// The bits, on a way through them.
+pub fn push_along<W: Sink>(
+    sink: &mut W,
+    held: &mut Held,
+    order: Order,
+    way: Way,
+    bits: &[bool],
+) -> Result<(), ErrorKind>
+    requires short { length held.old < 8 }
+    requires whole { IsFor way (length bits.now) }
+    ensures pushed { OnOk result (Pushed (W.told sink.old) (W.told sink.new) order held.old held.new (along way bits.now)) }
+    ensures fault { IfErr result (GaveUp (W.told sink.old) (W.told sink.new) ((length held.old + length bits.now) / 8)) }
+{
+    let n = bits.len();
+    for i in 0..n {
+        match push_bit(sink, held, order, bits[way.place(n, i)]) {
+            Ok(()) => {}
+            Err(kind) => return Err(kind),
+        }
+    }
+    Ok(())
+}
+
+/// Bits onto bits of the same order.
+pub fn push_same<W: Sink>(
+    sink: &mut W,
+    held: &mut Held,
+    order: Order,
+    bits: &[bool],
+) -> Result<(), ErrorKind>
+    requires { length held.old < 8 }
+    ensures pushed { OnOk result (Pushed (W.told sink.old) (W.told sink.new) order held.old held.new (shown order bits.now)) }
+    ensures fault { IfErr result (GaveUp (W.told sink.old) (W.told sink.new) ((length held.old + length bits.now) / 8)) }
+{
+    push_along(sink, held, order, Way::shown(order, bits.len()), bits)
+}
+
+// Three lists into an empty byte, high bit first: the first on a way through it, and the others from their first bit on.
+fn push_three<W: Sink>(
+    sink: &mut W,
+    held: &mut Held,
+    way: Way,
+    first: &[bool],
+    second: &[bool],
+    third: &[bool],
+) -> Result<(), ErrorKind>
+    requires empty { held.old ≡ [] }
+    requires whole { IsFor way (length first.now) }
+    ensures pushed { OnOk result (Pushed (W.told sink.old) (W.told sink.new) Msb0 [] held.new (along way first.now ++ second.now ++ third.now)) }
+    ensures fault { IfErr result (GaveUp (W.told sink.old) (W.told sink.new) ((length first.now + length second.now + length third.now) / 8)) }
+{
+    match push_along(sink, held, Order::Msb0, way, first) {
+        Ok(()) => {}
+        Err(kind) => return Err(kind),
+    }
+    match push_along(sink, held, Order::Msb0, Way::Forward, second) {
+        Ok(()) => {}
+        Err(kind) => return Err(kind),
+    }
+    push_along(sink, held, Order::Msb0, Way::Forward, third)
+}
+
+/// `Lsb0` bits into `Msb0` bits.
+pub fn push_into<W: Sink>(sink: &mut W, held: &mut Held, bits: &[bool]) -> Result<(), ErrorKind>
+    requires { length held.old < 8 }
+    ensures pushed { OnOk result (Pushed (W.told sink.old) (W.told sink.new) Msb0 [] held.new
+        (take (min (8 - length bits.now % 8) (length held.old)) held.old ++ bits.now ++ drop (min (8 - length bits.now % 8) (length held.old)) held.old)) }
+    ensures fault { IfErr result (GaveUp (W.told sink.old) (W.told sink.new) ((length held.old + length bits.now) / 8)) }
+{
+    let pending = held.bits();
+    let pending = &pending[..held.len()];
+    *held = Held::new();
+    let cut = (8 - bits.len() % 8).min(pending.len());
+    push_three(
+        sink,
+        held,
+        Way::Forward,
+        &pending[..cut],
+        bits,
+        &pending[cut..],
+    )
+}
+
+/// `Msb0` bits above `Lsb0` bits.
+pub fn push_above<W: Sink>(sink: &mut W, held: &mut Held, bits: &[bool]) -> Result<(), ErrorKind>
+    requires { length held.old < 8 }
+    ensures pushed { OnOk result (Pushed (W.told sink.old) (W.told sink.new) Msb0 [] held.new
+        (along BytesBackward (drop (length bits.now % 8) bits.now) ++ take (length bits.now % 8) bits.now ++ held.old)) }
+    ensures fault { IfErr result (GaveUp (W.told sink.old) (W.told sink.new) ((length held.old + length bits.now) / 8)) }
+{
+    let pending = held.bits();
+    let pending = &pending[..held.len()];
+    *held = Held::new();
+    let cut = bits.len() % 8;
+    push_three(
+        sink,
+        held,
+        Way::BytesBackward,
+        &bits[cut..],
+        &bits[..cut],
+        pending,
+    )
+}
+
+/// Bits onto the held bits of an order.
+#[tactic(auto, using(crate::proofs::Onto::onto))]
+pub fn push_onto<W: Sink>(
+    sink: &mut W,
+    held: &mut Held,
+    from: Order,
+    to: Order,
+    bits: &[bool],
+) -> Result<(), ErrorKind>
+    requires short { length held.old < 8 }
+    requires some { 0 < length bits.now }
+    ensures pushed { OnOk result (PushedOnto (W.told sink.old) (W.told sink.new) from to held.old held.new bits.now) }
+    ensures fault { IfErr result (GaveUp (W.told sink.old) (W.told sink.new) ((length held.old + length bits.now) / 8)) }
+{
+    if held.len() == 0 {
+        return push_same(sink, held, to, bits);
+    }
+    match (from, to) {
+        (Order::Msb0, Order::Lsb0) => push_into(sink, held, bits),
+        (Order::Lsb0, Order::Msb0) => push_above(sink, held, bits),
+        (Order::Msb0, Order::Msb0) | (Order::Lsb0, Order::Lsb0) => push_same(sink, held, to, bits),
+    }
+}
