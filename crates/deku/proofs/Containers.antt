@@ -20,7 +20,7 @@ use Rattle.deku_bits.specs.Standings.{Standing, Going, Stopped, Output, count_of
 use Rattle.deku_bits.specs.Outcomes.{Meaning}
 use Rattle.deku_bits.specs.WriterCalls.{Finalizes, WritesBits, pending_of}
 use Rattle.deku_bits.proofs.Handing.{by_name}
-use Rattle.deku.specs.Composing.{Both, Second, First}
+use Rattle.deku_meanings.specs.Composing.{Both, Second, First}
 use Rattle.deku.specs.Wholes.{Behind, FromFirst, ReadsBytesOnce, WritesBare, in_memory, over}
 
 -- ---- memory as a sink

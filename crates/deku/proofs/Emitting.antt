@@ -10,7 +10,7 @@ use Rattle.deku_bits.specs.Devices.{LacksRoom}
 use Rattle.deku_bits.specs.Standings.{Standing, Going, Output}
 use Rattle.deku_bits.specs.WriterCalls.{Took, Emits}
 use Rattle.deku_bits.proofs.Gives.{Shrinks-trans, LacksRoom-after, LacksRoom-more}
-use Rattle.deku.specs.Composing.{Then, Second, First}
+use Rattle.deku_meanings.specs.Composing.{Then, Second, First}
 
 -- what a call with these bytes to give may end with: they are taken; or the sink lacks the room for them; or they are past the count
 pub data Wrote (w : Written) (out : Output) (c : ℕ) (r : Result (Unit {0}) DekuError) (u : Standing Output) : Type 0 where

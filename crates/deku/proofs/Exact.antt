@@ -9,7 +9,7 @@ use Rattle.deku_num.specs.declared.kind.NumberType.{NumberType}
 use Rattle.deku_num.specs.declared.ctx.Layout.{Layout}
 use Rattle.deku_num.specs.Numbers.{width, value, IsAllowed}
 use Rattle.deku_num.specs.NumberCalls.{Refused, Passed, ReadsNumber}
-use Rattle.deku.specs.Composing.{Answer, Answered, Then, Second, First}
+use Rattle.deku_meanings.specs.Composing.{Answer, Answered, Then, Second, First}
 use Rattle.deku.specs.Giving.{Gives}
 
 ok_is : {V E : Type 0} (v x : V) → ◌≡◌ {A = Result V E} (Ok v) (Ok x) → v ≡ x

@@ -5,7 +5,8 @@ use Rattle.deku_bits.specs.declared.error.DekuError.{DekuError}
 use Rattle.deku_bits.specs.Pieces.{Piece, shape, total}
 use Rattle.deku_bits.specs.Standings.{Standing, Output}
 use Rattle.deku_bits.specs.Outcomes.{Meaning}
-use Rattle.deku.specs.Composing.{Answered, Both, WritesEach, Second, First}
+use Rattle.deku_meanings.specs.Composing.{Answered, Both, Second, First}
+use Rattle.deku_writing.specs.Composing.{WritesEach}
 use Rattle.deku.specs.Extents.{WritesPieces, IsSized}
 
 -- the widths of both

@@ -23,10 +23,11 @@ use Rattle.deku_num.specs.declared.ctx.Layout.{Layout}
 use Rattle.deku_num.specs.Numbers.{width, value, Fits, IsAllowed, IsFieldOf}
 use Rattle.deku_num.specs.NumberCalls.{Refused, Passed, ReadsNumber, WritesNumber}
 use Rattle.deku_num.proofs.FieldBits.{listed_for, one_list}
-use Rattle.deku.specs.Composing.{Answered, Second, First, WritesEach}
-use Rattle.deku.specs.Lists as lists
-use Rattle.deku.specs.Lists.{InTurn, Runs, Ended, Stored, Put, NoMemory}
-use Rattle.deku.specs.Limits.{ReadsCount}
+use Rattle.deku_meanings.specs.Composing.{Answered, Second, First}
+use Rattle.deku_writing.specs.Composing.{WritesEach}
+use Rattle.deku_reading.specs.Lists as lists
+use Rattle.deku_reading.specs.Lists.{InTurn, Runs, Ended, Stored, Put, NoMemory}
+use Rattle.deku_reading.specs.Limits.{ReadsCount}
 use Rattle.deku.specs.VectorLaws.{GivesBytes, VectorLaw}
 use Rattle.deku.proofs.Emitting.{Wrote, Done, Lacking, Full, emitted, followed_wrote}
 use Rattle.deku.proofs.Exact.{number_gives}

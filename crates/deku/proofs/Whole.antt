@@ -7,8 +7,8 @@ use Rattle.deku_bits.specs.Pieces.{piece}
 use Rattle.deku_bits.specs.Standings.{Standing, Going, Stopped, Output}
 use Rattle.deku_bits.specs.WriterCalls.{WritesBits}
 use Rattle.deku_num.proofs.WholeTypes.{size_law}
-use Rattle.deku.specs.Composing.{Answer, Answered, Both, Second, First}
-use Rattle.deku.specs.Shapes.{numeral}
+use Rattle.deku_meanings.specs.Composing.{Answer, Answered, Both, Second, First}
+use Rattle.deku_meanings.specs.Shapes.{numeral}
 use Rattle.deku.specs.Extents.{NumberSizeLaw}
 
 -- one write alone

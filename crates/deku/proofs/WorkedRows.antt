@@ -11,7 +11,7 @@ use Rattle.deku_num.specs.declared.ctx.Size.TheVariants.{Bits}
 use Rattle.deku_num.specs.Numbers.{byte, IsAllowed, IsListFor, number, value}
 use Rattle.deku_num.specs.NumberCalls.{Passed, WritesNumber}
 use Rattle.deku_num.specs.Rows.{big_msb}
-use Rattle.deku.specs.Composing.{Answered, Second}
+use Rattle.deku_meanings.specs.Composing.{Answered, Second}
 use Rattle.deku.specs.Rows.{VectorRows}
 
 -- a sink that grows took these bytes, and these bits are pending

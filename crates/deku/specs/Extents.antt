@@ -9,7 +9,7 @@ use Rattle.deku_bits.specs.WriterCalls.{WritesBits}
 use Rattle.deku_num.specs.declared.kind.NumberType.{NumberType}
 use Rattle.deku_num.specs.declared.ctx.Layout.{Layout}
 use Rattle.deku_num.specs.NumberCalls.{WritesNumber, IsWhole}
-use Rattle.deku.specs.Composing.{Answer, Both}
+use Rattle.deku_meanings.specs.Composing.{Answer, Both}
 
 -- pieces are written one after the other
 abbrev pub WritesPieces : List Piece → Meaning Output (Unit {0})

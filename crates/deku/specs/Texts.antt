@@ -11,8 +11,8 @@ use Rattle.deku_num.specs.declared.ctx.Endian.TheVariants.{Little}
 use Rattle.deku_num.specs.declared.ctx.Size.TheVariants.{Whole}
 use Rattle.deku_num.specs.Numbers.{byte}
 use Rattle.deku_num.specs.NumberCalls.{ReadsUnsigned}
-use Rattle.deku.specs.Composing.{Then}
-use Rattle.deku.specs.Lists.{Runs, Stored}
+use Rattle.deku_meanings.specs.Composing.{Then}
+use Rattle.deku_reading.specs.Lists.{Runs, Stored}
 
 -- no byte is zero
 abbrev pub NoZeros : List ℕ → Type 0

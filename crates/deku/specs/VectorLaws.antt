@@ -12,8 +12,9 @@ use Rattle.deku_num.specs.declared.kind.NumberType.{NumberType}
 use Rattle.deku_num.specs.declared.ctx.Layout.{Layout}
 use Rattle.deku_num.specs.Numbers.{width, Fits, IsAllowed}
 use Rattle.deku_num.specs.NumberCalls.{ReadsNumber, WritesNumber}
-use Rattle.deku.specs.Composing.{Both, WritesEach}
-use Rattle.deku.specs.Limits.{ReadsCount}
+use Rattle.deku_meanings.specs.Composing.{Both}
+use Rattle.deku_writing.specs.Composing.{WritesEach}
+use Rattle.deku_reading.specs.Limits.{ReadsCount}
 
 -- numbers of one layout, written onto nothing and padded once, give these bytes to a sink that had taken none
 pub record GivesBytes (t : NumberType) (l : Layout) (vs : List ℤ) (bytes : List ℕ) : Type 0 where

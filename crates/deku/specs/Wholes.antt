@@ -13,8 +13,8 @@ use Rattle.deku_bits.specs.Devices.{SourceTold, bytes_before}
 use Rattle.deku_bits.specs.Standings.{Standing, Going, Stopped, Output, count_of}
 use Rattle.deku_bits.specs.Outcomes.{Meaning}
 use Rattle.deku_bits.specs.ReaderCalls.{ReadsAt, Skips}
-use Rattle.deku.specs.Composing.{Then}
-use Rattle.deku.specs.Lists.{on_value}
+use Rattle.deku_meanings.specs.Composing.{Then}
+use Rattle.deku_reading.specs.Lists.{on_value}
 
 -- ---- reading
 -- n bits are left out in `Msb0`, and then m

@@ -9,16 +9,17 @@ ghost use Rattle.deku_bits.specs.ReaderCalls.{Reads};
 ghost use Rattle.deku_bits.specs.Writers.{Pending, Nothing};
 ghost use Rattle.deku_bits.specs.Standings.{Standing, Going};
 ghost use Rattle.deku_bits.specs.WriterCalls.{Writes, WritesAt, Finalizes};
-ghost use Rattle.deku.specs.Composing.{Both};
+ghost use Rattle.deku_meanings.specs.Composing.{Both};
 ghost use Rattle.deku.specs.Wholes.{Behind, ReadsOnce, ReadsBytesOnce, WritesOnce, WritesOver, WritesBare};
 
-use crate::traits::{DekuReader, DekuWriter};
 use deku_bits::bounded::BoundedBitVec;
 use deku_bits::ctx::Order;
 use deku_bits::device::{Sink, Source};
 use deku_bits::error::{DekuError, NeedSize};
 use deku_bits::reader::Reader;
 use deku_bits::writer::Writer;
+use deku_reading::DekuReader;
+use deku_writing::DekuWriter;
 use std::alloc::Global;
 use std::io::{Cursor, ErrorKind};
 

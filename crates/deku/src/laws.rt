@@ -2,12 +2,13 @@
 
 ghost use Rattle.std.specs.Prelude.{ℕ, ◌+◌, ◌*◌, Bool, List, length};
 ghost use Rattle.std.specs.List.{All};
-ghost use Rattle.deku.specs.Composing.{Both, WritesEach};
+ghost use Rattle.deku_meanings.specs.Composing.{Both};
+ghost use Rattle.deku_writing.specs.Composing.{WritesEach};
 ghost use Rattle.deku.specs.Extents.{IsSized, NumberSizeLaw};
 ghost use Rattle.deku.specs.VectorLaws.{VectorLaw};
 ghost use Rattle.deku.specs.Rows.{VectorRows};
 
-use crate::traits::DekuWriter;
+use deku_writing::DekuWriter;
 
 /// A value of a number type is written under a layout of its whole size, so under `()`, as exactly the bits of its type.
 pub fn number_size_law()

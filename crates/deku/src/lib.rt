@@ -29,7 +29,6 @@
 #![tactic(auto)]
 
 mod container;
-pub mod ctx;
 mod impls;
 pub mod laws;
 mod macros;
@@ -40,7 +39,10 @@ pub use container::{DekuContainerRead, DekuContainerWrite};
 pub use deku_bits::bounded::BoundedBitVec;
 pub use deku_bits::error::DekuError;
 pub use deku_bits::{bounded, device, error, noseek, probe, reader, writer};
+pub use deku_meanings::ctx;
 pub use deku_num::size::{DekuSize, DekuSizeConst};
 pub use deku_num::{calls, kind, size};
+pub use deku_reading::DekuReader;
+pub use deku_writing::DekuWriter;
 pub use impls::cstring;
-pub use traits::{DekuEnumExt, DekuReader, DekuUpdate, DekuWriter};
+pub use traits::{DekuEnumExt, DekuUpdate};

@@ -5,15 +5,16 @@ ghost use Rattle.std.specs.List.{Contains};
 ghost use Rattle.deku_bits.specs.declared.error.DekuError.TheVariants.{Parse};
 ghost use Rattle.deku_bits.specs.ReaderCalls.{Reads};
 ghost use Rattle.deku_bits.specs.Faults.{Tells};
-ghost use Rattle.deku.specs.Lists.{Runs, on_value};
+ghost use Rattle.deku_reading.specs.Lists.{Runs, on_value};
 ghost use Rattle.deku.specs.Texts.{NoZeros, IsEnded, ReadsByte};
 
-use crate::traits::{DekuReader, DekuWriter};
 use deku_bits::device::{Sink, Source};
 use deku_bits::error::DekuError;
 use deku_bits::reader::Reader;
 use deku_bits::writer::Writer;
 use deku_num::ctx::{ByteSize, NumberCtx};
+use deku_reading::DekuReader;
+use deku_writing::DekuWriter;
 use std::alloc::Global;
 use std::io::ErrorKind;
 use std::marker::Model;
@@ -200,7 +201,8 @@ impl<C: NumberCtx> DekuWriter<C> for CString {
     ghost use Rattle.std.specs.Prelude.{◌≡◌, pos};
     ghost use Rattle.deku_num.specs.Numbers.{byte};
     ghost use Rattle.deku_num.specs.NumberCalls.{WritesNumber};
-    ghost use Rattle.deku.specs.Composing.{Both, WritesEach};
+    ghost use Rattle.deku_meanings.specs.Composing.{Both};
+    ghost use Rattle.deku_writing.specs.Composing.{WritesEach};
 
     ghost accepts = { λ c. c ≡ c };
 

@@ -1,4 +1,4 @@
-use Rattle.deku.proofs.Joining.{first_refused, then_on}
+use Rattle.deku_meanings.proofs.Joining.{first_refused, then_on}
 use Rattle.deku.proofs.container.read_behind.Goals as goal
 
 pub returns-in-Ok : goal.returns-in-Ok

@@ -2,7 +2,7 @@ use Rattle.deku_bits.specs.Writers.{Nothing}
 use Rattle.deku_bits.specs.Standings.{Going}
 use Rattle.deku_bits.specs.WriterCalls.{Finalizes}
 use Rattle.deku_bits.proofs.Lent.{lender_stays, lent_through}
-use Rattle.deku.specs.Composing.{Both}
+use Rattle.deku_meanings.specs.Composing.{Both}
 use Rattle.deku.proofs.container.write_whole.Goals as goal
 
 pub returns : goal.returns

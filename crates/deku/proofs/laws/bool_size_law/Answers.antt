@@ -1,6 +1,6 @@
 use Rattle.std.proofs.Common.{pos, refl, arith}
 use Rattle.deku_num.specs.Numbers.{byte}
-use Rattle.deku.specs.Shapes.{numeral}
+use Rattle.deku_meanings.specs.Shapes.{numeral}
 use Rattle.deku.proofs.Whole.{number_sized, below_byte}
 use Rattle.deku.proofs.laws.bool_size_law.Goals as goal
 

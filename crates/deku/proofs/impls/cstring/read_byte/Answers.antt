@@ -1,8 +1,8 @@
 use Rattle.deku_bits.specs.Outcomes.{Quiet}
 use Rattle.deku_bits.proofs.Handing.{no_fewer_same}
-use Rattle.deku.specs.Lists.{NoMemory}
-use Rattle.deku.proofs.Joining.{first_refused, then_on}
-use Rattle.deku.proofs.Runs.{stored}
+use Rattle.deku_reading.specs.Lists.{NoMemory}
+use Rattle.deku_meanings.proofs.Joining.{first_refused, then_on}
+use Rattle.deku_reading.proofs.Runs.{stored}
 use Rattle.deku.proofs.impls.cstring.read_byte.Goals as goal
 
 pub returns-in-Ok-push-clause-reads : goal.returns-in-Ok-push-clause-reads

@@ -1,6 +1,6 @@
 use Rattle.std.proofs.Common.{[], ◌∷◌, ◌+◌, ◌∙◌, ap, arith}
 use Rattle.std.proofs.lemmas.List.{length-append}
-use Rattle.deku.proofs.Runs.{one_more, run_ended, run_refused}
+use Rattle.deku_reading.proofs.Runs.{one_more, run_ended, run_refused}
 use Rattle.deku.proofs.impls.cstring.read_count.Goals as goal
 
 pub returns-in-Err : goal.returns-in-Err

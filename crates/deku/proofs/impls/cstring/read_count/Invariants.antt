@@ -1,7 +1,7 @@
 use Rattle.std.proofs.Common.{◌≡◌, length}
 use Rattle.deku_bits.specs.Standings.{reader_state}
 use Rattle.deku.specs.Texts.{ReadsByte}
-use Rattle.deku.proofs.Runs.{SoFar}
+use Rattle.deku_reading.proofs.Runs.{SoFar}
 use Rattle.deku.proofs.impls.cstring.read_count.Given as goal
 
 abbrev pub invariant-loop : goal.invariant-loop

@@ -1,6 +1,6 @@
 use Rattle.std.proofs.Common.{[], ◌∷◌, ◌++◌, ◌≢◌, ap}
 use Rattle.std.proofs.lemmas.List.Elements.{All-push}
-use Rattle.deku.proofs.Runs.{one_more, run_ended, run_refused}
+use Rattle.deku_reading.proofs.Runs.{one_more, run_ended, run_refused}
 use Rattle.deku.proofs.impls.cstring.read_to_zero.Goals as goal
 
 pub returns-then-byte-eq0 : goal.returns-then-byte-eq0

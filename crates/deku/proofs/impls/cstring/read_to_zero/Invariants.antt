@@ -1,7 +1,7 @@
 use Rattle.std.proofs.Common.{◌-◌, ◌^◌}
 use Rattle.deku_bits.specs.Standings.{count_of, reader_state}
 use Rattle.deku.specs.Texts.{NoZeros, ReadsByte}
-use Rattle.deku.proofs.Runs.{SoFar}
+use Rattle.deku_reading.proofs.Runs.{SoFar}
 use Rattle.deku.proofs.impls.cstring.read_to_zero.Given as goal
 
 abbrev pub invariant-loop-byte : goal.invariant-loop-byte

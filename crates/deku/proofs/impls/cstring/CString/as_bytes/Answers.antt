@@ -3,7 +3,7 @@ use Rattle.std.specs.List.{Contains}
 use Rattle.deku_bits.specs.declared.error.DekuError.TheVariants.{Parse}
 use Rattle.deku_bits.specs.ReaderCalls.{Reads}
 use Rattle.deku_bits.specs.Faults.{Tells}
-use Rattle.deku.specs.Lists.{Runs, on_value}
+use Rattle.deku_reading.specs.Lists.{Runs, on_value}
 use Rattle.deku.specs.Texts.{NoZeros, IsEnded, ReadsByte}
 use Rattle.deku.proofs.impls.cstring.CString.as_bytes.Goals as goal
 

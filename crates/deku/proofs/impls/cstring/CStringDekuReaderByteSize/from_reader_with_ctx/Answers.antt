@@ -1,4 +1,4 @@
-use Rattle.deku.proofs.Joining.{first_refused, then_on}
+use Rattle.deku_meanings.proofs.Joining.{first_refused, then_on}
 use Rattle.deku.proofs.Endings.{unended}
 use Rattle.deku.proofs.impls.cstring.CStringDekuReaderByteSize.from_reader_with_ctx.Goals as goal
 

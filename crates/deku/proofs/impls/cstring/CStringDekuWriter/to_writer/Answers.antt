@@ -1,4 +1,4 @@
-use Rattle.deku.proofs.Joining.{first_refused, then_on}
+use Rattle.deku_meanings.proofs.Joining.{first_refused, then_on}
 use Rattle.deku.proofs.impls.cstring.CStringDekuWriter.to_writer.Goals as goal
 
 pub returns-in-Ok : goal.returns-in-Ok

@@ -1,6 +1,0 @@
-use Rattle.deku.proofs.Judging.{held_as}
-use Rattle.deku.proofs.Collecting.{map_of}
-use Rattle.deku.proofs.impls.hashmap.HashMapDekuReaderTuple2LimitTuple2.from_reader_with_ctx.Goals as goal
-
-pub returns : goal.returns
-returns g c = held_as _ (λ xs m h. map_of _ _ xs m c.with_hasher-empty.ensures.empty c.with_hasher-empty.ensures.unique h) c.gather_under.ensures

@@ -1,5 +1,0 @@
-use Rattle.std.proofs.Common.{rules}
-use Rattle.deku.proofs.impls.nonzero.NonZeroUsizeDekuWriter.to_writer.Goals as goal
-
-pub returns : goal.returns
-returns g c = search rules

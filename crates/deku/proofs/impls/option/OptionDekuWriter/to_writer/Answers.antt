@@ -1,5 +1,0 @@
-use Rattle.deku.proofs.Joining.{answered}
-use Rattle.deku.proofs.impls.option.OptionDekuWriter.to_writer.Goals as goal
-
-pub returns-in-None : goal.returns-in-None
-returns-in-None g c = rw c.in-None.is answered

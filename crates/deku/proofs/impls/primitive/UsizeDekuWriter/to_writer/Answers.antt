@@ -1,4 +1,0 @@
-use Rattle.deku.proofs.impls.primitive.UsizeDekuWriter.to_writer.Goals as goal
-
-pub returns : goal.returns
-returns g c = rw c.parts.ensures at c.write_unsigned.ensures

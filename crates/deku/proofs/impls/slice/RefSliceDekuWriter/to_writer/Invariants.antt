@@ -1,8 +1,0 @@
-use Rattle.deku_bits.specs.Standings.{writer_state}
-use Rattle.deku.proofs.WritingEach.{GoesOn}
-use Rattle.deku.proofs.impls.slice.RefSliceDekuWriter.to_writer.Given as goal
-
-abbrev pub invariant-loop-item : goal.invariant-loop-item
-invariant-loop-item g l = GoesOn (λ x. g.T.DekuWriter.meaning x l.ctx) l.self.now l.item-index
-    (writer_state (g.W.Sink.told l.initial.writer.sink) l.initial.writer.state) (g.W.Sink.told l.initial.writer.sink).health
-    (writer_state (g.W.Sink.told l.writer.sink) l.writer.state) (g.W.Sink.told l.writer.sink).health

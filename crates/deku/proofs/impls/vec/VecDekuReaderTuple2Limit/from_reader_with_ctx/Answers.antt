@@ -1,6 +1,0 @@
-use Rattle.deku.proofs.Judging.{held_as}
-use Rattle.deku.proofs.Collecting.{vec_of}
-use Rattle.deku.proofs.impls.vec.VecDekuReaderTuple2Limit.from_reader_with_ctx.Goals as goal
-
-pub returns : goal.returns
-returns g c = held_as _ (λ xs v h. vec_of _ xs v c.new-empty.ensures.items h) c.gather_under.ensures

@@ -1,0 +1,3 @@
+pub mod Composing
+pub mod Shapes
+pub mod Collected

@@ -1,0 +1,44 @@
+//! Collections that items are put into.
+
+ghost use Rattle.std.specs.Prelude.{◌≡◌, ◌⊎◌, ◌↔◌, ◌+◌, ◌<◌, ◌≤◌, true, false, OnOk, IfErr, codes};
+ghost use Rattle.deku_bits.specs.declared.error.DekuError.TheVariants.{Parse};
+ghost use Rattle.deku_bits.specs.Faults.{Tells};
+
+use deku_bits::error::DekuError;
+use std::io::ErrorKind;
+
+/// A collection that items are put into, one after the other.
+pub trait Gather<T>: Drop {
+    // What putting an item into it makes of it.
+    ghost puts: { Self → T → Self → Type 0 };
+
+    /// Puts the item into it. It is refused with `Io(OutOfMemory)` where no memory is found for it.
+    fn put(&mut self, item: T) -> Result<(), DekuError>
+        ensures ok { OnOk result (puts self.old item self.new) }
+        ensures err { IfErr result (λ e. e ≡ DekuError.Io ErrorKind.OutOfMemory) };
+}
+
+/// Puts an item into its place where it has width, which the counts of bits before and after it tell, or ends the list.
+pub fn keep<B: Gather<T>, T: Drop>(
+    collection: &mut B,
+    item: T,
+    ends: bool,
+    before: usize,
+    after: usize,
+) -> Result<(), DekuError>
+    ensures placed { OnOk result (B.puts collection.old item collection.new) }
+    ensures kept { OnOk result ((ends ≡ true) ⊎ (before < after)) }
+    ensures err { IfErr result (λ e. ((ends ≡ false) × (after ≤ before) × Tells Parse (codes "item without width") e) ⊎ (((ends ≡ true) ⊎ (before < after)) × (e ≡ DekuError.Io ErrorKind.OutOfMemory))) }
+{
+    if !ends && after <= before {
+        return Err(DekuError::Parse("item without width"));
+    }
+    collection.put(item)
+}
+
+/// Whether `after` is exactly so many bits behind `start`.
+pub fn is_past_by(start: usize, after: usize, bits: usize) -> bool
+    ensures { (result ≡ true) ↔ (after ≡ start + bits) }
+{
+    start <= after && after - start == bits
+}

@@ -1,0 +1,7 @@
+//! What reading and writing share: contexts, how the meanings of items make those of composites, and collections that items are put into.
+#![tactic(auto)]
+
+pub mod ctx;
+mod impls;
+
+pub use impls::gather::{Gather, is_past_by, keep};

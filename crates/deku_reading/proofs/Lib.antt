@@ -1,0 +1,9 @@
+pub mod Holding
+pub mod Turning
+pub mod Slots
+pub mod Runs
+pub mod Addresses
+pub mod Judging
+pub mod Counting
+pub mod Collecting
+pub mod Bytes

@@ -1,0 +1,9 @@
+use Rattle.std.proofs.Common.{length}
+use Rattle.deku_bits.specs.Standings.{reader_state}
+use Rattle.deku_reading.proofs.Slots.{FilledTo}
+use Rattle.deku_reading.proofs.impls.array.fill_slots.Given as goal
+
+abbrev pub invariant-loop-place : goal.invariant-loop-place
+invariant-loop-place g l = FilledTo (g.T.DekuReader.meaning l.ctx) (length l.initial.slots) l.place l.slots
+    (reader_state (g.R.Source.told l.initial.reader.source).coming l.initial.reader.state) (g.R.Source.told l.initial.reader.source).health
+    (reader_state (g.R.Source.told l.reader.source).coming l.reader.state) (g.R.Source.told l.reader.source).health

@@ -1,0 +1,8 @@
+use Rattle.deku_bits.specs.Standings.{reader_state}
+use Rattle.deku_reading.proofs.Counting.{Counted}
+use Rattle.deku_reading.proofs.impls.gather.gather_count.Given as goal
+
+abbrev pub invariant-loop : goal.invariant-loop
+invariant-loop g l = Counted g.B.Gather.puts (g.T.DekuReader.meaning l.ctx) l.counter l.initial.into l.into
+    (reader_state (g.R.Source.told l.initial.reader.source).coming l.initial.reader.state) (g.R.Source.told l.initial.reader.source).health
+    (reader_state (g.R.Source.told l.reader.source).coming l.reader.state) (g.R.Source.told l.reader.source).health

@@ -1,0 +1,18 @@
+use Rattle.std.proofs.Common.{rules, arith}
+use Rattle.std.proofs.lemmas.Int.{ints}
+use Rattle.deku_bits.proofs.Handing.{passed_on}
+use Rattle.deku_meanings.proofs.Joining.{signed_read}
+use mir.Syntax.{w64}
+use mir.Val.{SFits}
+use Rattle.deku_reading.proofs.impls.primitive.IsizeDekuReader.from_reader_with_ctx.Goals as goal
+
+pub returns-in_err-value-clause-reads : goal.returns-in_err-value-clause-reads
+returns-in_err-value-clause-reads g c = passed_on _ c.from_residual.ensures.1 (rw c.parts.ensures at c.in_err-value.ensures.reads)
+
+pub returns-clause-reads : goal.returns-clause-reads
+returns-clause-reads g c =
+    let fits : SFits w64 c.in_ok-value.value = search rules in
+    signed_read (rw c.parts.ensures at c.in_ok-value.ensures.reads) (omega (arith, ints))
+
+pub returns-clause-fetched : goal.returns-clause-fetched
+returns-clause-fetched g c = rw c.parts.ensures at c.in_ok-value.ensures.fetched

@@ -1,0 +1,6 @@
+use Rattle.deku_reading.proofs.Judging.{held_as}
+use Rattle.deku_reading.proofs.Collecting.{vec_of}
+use Rattle.deku_reading.proofs.impls.vec.VecDekuReaderTuple2Limit.from_reader_with_ctx.Goals as goal
+
+pub returns : goal.returns
+returns g c = held_as _ (λ xs v h. vec_of _ xs v c.new-empty.ensures.items h) c.gather_under.ensures

@@ -1,0 +1,41 @@
+-- How lists of items are read.
+use Rattle.std.specs.Prelude.{◌≡◌, ℕ, zero, suc, Bool, false, List, [], ◌∷◌, Result, Ok, Err}
+use Rattle.std.specs.declared.io.ErrorKind.TheVariants.{OutOfMemory}
+use Rattle.deku_bits.specs.declared.error.DekuError.{DekuError}
+use Rattle.deku_bits.specs.declared.error.DekuError.TheVariants.{Io}
+use Rattle.deku_bits.specs.Standings.{Standing}
+use Rattle.deku_bits.specs.Outcomes.{Meaning, Mapped}
+use Rattle.deku_meanings.specs.Composing.{Answer, Then}
+
+-- n items are read one after the other
+abbrev pub ReadsTimes : {A V : Type 0} → ℕ → Meaning A V → Meaning A (List V)
+ReadsTimes zero m = Answer []
+ReadsTimes (suc n) m = Then m (λ v. Mapped (λ vs. v ∷ vs) (ReadsTimes n m))
+
+-- an answer, with h on its value
+abbrev pub on_value : {V W : Type 0} → (V → W) → Result V DekuError → Result W DekuError
+on_value h (Ok v) = Ok (h v)
+on_value h (Err e) = Err e
+
+-- m, of what h sees in the value
+abbrev pub Seen : {A V W : Type 0} → (V → W) → Meaning A W → Meaning A V
+Seen h m b s r u = m b s (on_value h r) u
+
+-- these items are answered one after the other
+abbrev pub InTurn : {A V : Type 0} → Meaning A V → List V → Standing A → Standing A → Type 0
+InTurn m [] s u = u ≡ s
+InTurn {A} m (v ∷ vs) s u = (t : Standing A) × m false s (Ok v) t × InTurn m vs t u
+
+-- items are read one after the other: a list that ends; or the next item is refused, behind a list that goes on
+pub data Runs {A V : Type 0} (goes ends : List V → Type 0) (m : Meaning A V) (b : Bool) (s : Standing A) (r : Result (List V) DekuError) (u : Standing A) : Type 0 where
+  Ended : (vs : List V) → InTurn m vs s u → ends vs → b ≡ false → r ≡ Ok vs → Runs goes ends m b s r u
+  Refused : (vs : List V) (t : Standing A) (e : DekuError) → InTurn m vs s t → goes vs → m b t (Err e) u → r ≡ Err e → Runs goes ends m b s r u
+
+-- the value is put in its place, or no memory is found for it; nothing moves
+pub data InPlace {A V : Type 0} (v : V) : Bool → Standing A → Result V DekuError → Standing A → Type 0 where
+  Put : {s : Standing A} → InPlace v false s (Ok v) s
+  NoMemory : {s : Standing A} → InPlace v false s (Err (Io OutOfMemory)) s
+
+-- m, and then its value is put in its place in memory that grows
+abbrev pub Stored : {A V : Type 0} → Meaning A V → Meaning A V
+Stored m = Then m InPlace

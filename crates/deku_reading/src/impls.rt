@@ -1,0 +1,16 @@
+//! What can be read.
+
+mod array;
+mod bool;
+mod boxed;
+mod cow;
+mod gather;
+mod hashmap;
+mod hashset;
+mod net;
+mod nonzero;
+mod option;
+mod primitive;
+mod tuple;
+mod unit;
+mod vec;

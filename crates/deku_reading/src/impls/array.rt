@@ -1,0 +1,147 @@
+//! Arrays: so many items in order.
+
+ghost use Rattle.std.specs.Prelude.{◌≡◌, ℕ, ◌<◌, List, Option, Some, None, map, length, slice_index_or, slice_set, IsSome, IfOk};
+ghost use Rattle.deku_bits.specs.ReaderCalls.{Reads, filling};
+ghost use Rattle.deku_reading.specs.Lists.{ReadsTimes};
+
+use crate::traits::DekuReader;
+use deku_bits::device::Source;
+use deku_bits::error::DekuError;
+use deku_bits::reader::Reader;
+use std::array;
+
+/// A type that is read as a fixed number of elements, by way of slots for them.
+pub trait Fixed: Drop {
+    /// An element.
+    type Element: Drop;
+
+    /// A place for each element.
+    type Slots: Drop;
+
+    ghost count: { ℕ };
+
+    ghost slots_of: { Self.Slots → List (Option Self.Element) };
+
+    ghost elements_of: { Self → List Self.Element };
+
+    /// Slots without elements.
+    fn empty() -> Self::Slots
+        ensures { length (slots_of result) ≡ count };
+
+    /// Reads an element into each slot.
+    fn fill<C: Copy, R: Source>(
+        slots: &mut Self::Slots,
+        reader: &mut Reader<R>,
+        ctx: C,
+    ) -> Result<(), DekuError>
+    where
+        Self: Sized,
+        Self::Element: DekuReader<C>,
+        requires readable { Self.Element.DekuReader.accepts ctx }
+        requires slots { length (slots_of slots.old) ≡ count }
+        ensures { (xs : List Self.Element) × Reads R.told (ReadsTimes count (Self.Element.DekuReader.meaning ctx)) reader.old (filling result xs) reader.new
+            × IfOk result (λ _. (length xs ≡ count) × (slots_of slots.new ≡ map Some xs)) };
+
+    /// The elements in slots that are full.
+    fn turned(slots: Self::Slots) -> Self
+    where
+        Self: Sized,
+        requires { (xs : List Self.Element) × (length xs ≡ count) × (slots_of slots ≡ map Some xs) }
+        ensures { slots_of slots ≡ map Some (elements_of result) };
+}
+
+/// The elements in order, under the elements' context. The refusal is that of the first element that is refused, and what the elements
+/// before it moved stays moved.
+impl<C: Copy, X: Fixed> DekuReader<C> for X
+where
+    X::Element: DekuReader<C>,
+{
+    ghost use Rattle.deku_reading.specs.Lists.{ReadsTimes, Seen};
+
+    ghost accepts = { X.Element.accepts };
+
+    ghost meaning = { λ c. Seen X.elements_of (ReadsTimes X.count (X.Element.meaning c)) };
+
+    fn from_reader_with_ctx<R: Source>(reader: &mut Reader<R>, ctx: C) -> Result<X, DekuError> {
+        let mut slots = X::empty();
+        match X::fill(&mut slots, reader, ctx) {
+            Ok(()) => Ok(X::turned(slots)),
+            Err(refusal) => Err(refusal),
+        }
+    }
+}
+
+// Reads an item into each slot.
+fn fill_slots<C: Copy, T: DekuReader<C>, R: Source>(
+    slots: &mut [Option<T>],
+    reader: &mut Reader<R>,
+    ctx: C,
+) -> Result<(), DekuError>
+    requires { T.accepts ctx }
+    ensures { (xs : List T) × Reads R.told (ReadsTimes (length slots.old) (T.meaning ctx)) reader.old (filling result xs) reader.new
+        × IfOk result (λ _. (length xs ≡ length slots.old) × (slots.new ≡ map Some xs)) }
+{
+    for place in 0..slots.len() {
+        match T::from_reader_with_ctx(reader, ctx) {
+            Ok(item) => slots[place] = Some(item),
+            Err(refusal) => return Err(refusal),
+        }
+    }
+    Ok(())
+}
+
+// Takes the item out of a slot.
+fn take_at<T, const N: usize>(slots: &mut [Option<T>; N], place: usize) -> T
+    requires in_bounds { place < length slots.old }
+    requires filled { IsSome (slice_index_or slots.old place None) }
+    ensures value { slice_index_or slots.old place None ≡ Some result }
+    ensures after { slots.new ≡ slice_set slots.old place None }
+{
+    let slot = &mut slots[place];
+    slot.take().unwrap()
+}
+
+// The items of slots that are full.
+fn turned_slots<T: Drop, const N: usize>(slots: [Option<T>; N]) -> [T; N]
+    requires { (k : ℕ) → k < N → IsSome (slice_index_or slots k None) }
+    ensures { slots ≡ map Some result }
+{
+    let mut slots = slots;
+    let take = |place: usize| -> T
+        requires { (place < length slots) × IsSome (slice_index_or slots place None) }
+        ensures value { slice_index_or slots.entry place None ≡ Some result }
+        ensures after { slots.exit ≡ slice_set slots.entry place None }
+    { take_at(&mut slots, place) };
+    array::from_fn(take)
+}
+
+impl<T: Drop, const N: usize> Fixed for [T; N] {
+    type Element = T;
+
+    type Slots = [Option<T>; N];
+
+    ghost count = { N };
+
+    ghost slots_of = { λ slots. slots };
+
+    ghost elements_of = { λ items. items };
+
+    fn empty() -> [Option<T>; N] {
+        array::from_fn(|_| None)
+    }
+
+    fn fill<C: Copy, R: Source>(
+        slots: &mut [Option<T>; N],
+        reader: &mut Reader<R>,
+        ctx: C,
+    ) -> Result<(), DekuError>
+    where
+        T: DekuReader<C>,
+    {
+        fill_slots(slots, reader, ctx)
+    }
+
+    fn turned(slots: [Option<T>; N]) -> [T; N] {
+        turned_slots(slots)
+    }
+}

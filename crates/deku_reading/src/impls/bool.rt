@@ -1,0 +1,29 @@
+//! Truth values, as numbers of a byte.
+
+use crate::traits::DekuReader;
+use deku_bits::device::Source;
+use deku_bits::error::DekuError;
+use deku_bits::reader::Reader;
+use deku_num::ctx::NumberCtx;
+
+/// Read as a `u8`: 0 is false and 1 is true. Another number is refused with `Parse("cannot parse bool value")`, and its bits stay read.
+impl<C: NumberCtx> DekuReader<C> for bool {
+    ghost use Rattle.std.specs.Prelude.{◌≡◌, ◌<◌, codes};
+    ghost use Rattle.deku_num.specs.Numbers.{byte};
+    ghost use Rattle.deku_num.specs.NumberCalls.{ReadsUnsigned};
+    ghost use Rattle.deku_meanings.specs.Composing.{Then};
+    ghost use Rattle.deku_meanings.specs.Shapes.{ShowsUnless, numeral};
+
+    ghost accepts = { λ c. c ≡ c };
+
+    ghost meaning = { λ c. Then (ReadsUnsigned byte (C.parts_of c)) (ShowsUnless (λ n. 1 < n) (codes "cannot parse bool value") numeral) };
+
+    fn from_reader_with_ctx<R: Source>(reader: &mut Reader<R>, ctx: C) -> Result<Self, DekuError> {
+        let number = u8::from_reader_with_ctx(reader, ctx)?;
+        match number {
+            0 => Ok(false),
+            1 => Ok(true),
+            _ => Err(DekuError::Parse("cannot parse bool value")),
+        }
+    }
+}

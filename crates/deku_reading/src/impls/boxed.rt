@@ -1,0 +1,66 @@
+//! Items on the heap.
+
+use crate::traits::DekuReader;
+use deku_bits::device::Source;
+use deku_bits::error::DekuError;
+use deku_bits::reader::Reader;
+use deku_meanings::ctx::{Limit, Predicate};
+use std::boxed::BoxedSlice;
+use std::io::ErrorKind;
+
+/// The item is read, and then memory is asked from the reader's allocator. `Io(OutOfMemory)` is answered where there is none, and the
+/// reader stays behind the item.
+impl<Ctx: Copy, T: DekuReader<Ctx>> DekuReader<Ctx> for Box<T> {
+    ghost use Rattle.deku_num.specs.NumberCalls.{Checked};
+    ghost use Rattle.deku_meanings.specs.Composing.{Then};
+    ghost use Rattle.deku_meanings.specs.Shapes.{Shows, LacksMemory};
+
+    ghost accepts = { T.accepts };
+
+    ghost meaning = { λ c. Then (T.meaning c) (λ v. Checked LacksMemory (Shows (λ b. b.value) v)) };
+
+    fn from_reader_with_ctx<R: Source>(
+        reader: &mut Reader<R>,
+        ctx: Ctx,
+    ) -> Result<Self, DekuError> {
+        let value = T::from_reader_with_ctx(reader, ctx)?;
+        match Box::new(reader.alloc(), value) {
+            Ok(held) => Ok(held),
+            Err(_) => Err(DekuError::Io(ErrorKind::OutOfMemory)),
+        }
+    }
+}
+
+/// The items that the limit says, as a vector of them is read, in memory of the reader's allocator.
+impl<T: DekuReader<Ctx>, P: Predicate<T>, Ctx: Copy> DekuReader<(Limit<T, P>, Ctx)>
+    for BoxedSlice<T> {
+    ghost use Rattle.std.specs.Prelude.{◌≡◌};
+    ghost use Rattle.std.specs.Box.{boxed_slice_items};
+    ghost use Rattle.deku_reading.specs.Limits.{ReadsUnder, AsksAll, Held};
+
+    ghost accepts = { λ c. T.accepts c.1 × AsksAll P.asks_all c.0 };
+
+    ghost meaning = { λ c. Held (λ xs b. boxed_slice_items b ≡ xs) (ReadsUnder P.answers c.0 (T.meaning c.1)) };
+
+    fn from_reader_with_ctx<R: Source>(
+        reader: &mut Reader<R>,
+        ctx: (Limit<T, P>, Ctx),
+    ) -> Result<Self, DekuError> {
+        let items = <Vec<T> as DekuReader<(Limit<T, P>, Ctx)>>::from_reader_with_ctx(reader, ctx)?;
+        Ok(items.into_boxed_slice())
+    }
+}
+
+/// The items that the limit says, each under `()`.
+impl<T: DekuReader<()>, P: Predicate<T>> DekuReader<Limit<T, P>> for BoxedSlice<T> {
+    ghost accepts = { λ c. ⟦<BoxedSlice<T> as DekuReader<(Limit<T, P>, ())>>⟧.accepts (c, tt) };
+
+    ghost meaning = { λ c. ⟦<BoxedSlice<T> as DekuReader<(Limit<T, P>, ())>>⟧.meaning (c, tt) };
+
+    fn from_reader_with_ctx<R: Source>(
+        reader: &mut Reader<R>,
+        ctx: Limit<T, P>,
+    ) -> Result<Self, DekuError> {
+        <BoxedSlice<T> as DekuReader<(Limit<T, P>, ())>>::from_reader_with_ctx(reader, (ctx, ()))
+    }
+}

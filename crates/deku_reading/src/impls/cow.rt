@@ -1,0 +1,25 @@
+//! Items that are borrowed until they have to be owned.
+
+use crate::traits::DekuReader;
+use deku_bits::device::Source;
+use deku_bits::error::DekuError;
+use deku_bits::reader::Reader;
+use std::borrow::Cow;
+
+/// The item is read, and owned.
+impl<Ctx: Copy, T: Clone + DekuReader<Ctx>> DekuReader<Ctx> for Cow<'_, T> {
+    ghost use Rattle.std.specs.declared.borrow.Cow.TheVariants.{Owned};
+    ghost use Rattle.deku_bits.specs.Outcomes.{Mapped};
+
+    ghost accepts = { T.accepts };
+
+    ghost meaning = { λ c. Mapped Owned (T.meaning c) };
+
+    fn from_reader_with_ctx<R: Source>(
+        reader: &mut Reader<R>,
+        ctx: Ctx,
+    ) -> Result<Self, DekuError> {
+        let value = T::from_reader_with_ctx(reader, ctx)?;
+        Ok(Cow::Owned(value))
+    }
+}

@@ -1,0 +1,65 @@
+//! Maps: pairs of a key and a value, as long as a limit says.
+
+use crate::impls::gather::gather_under;
+use crate::traits::DekuReader;
+use deku_bits::device::Source;
+use deku_bits::error::DekuError;
+use deku_bits::reader::Reader;
+use deku_meanings::ctx::{Limit, Predicate};
+use std::collections::HashMap;
+use std::hash::{BuildHasher, Hash};
+
+/// The pairs that the limit says, each a key and then its value, under the items' context. The limit is on the pairs that are read, and
+/// not on the entries: a later value of a key takes the place of an earlier one, and of equal keys the first is kept.
+///
+/// What is refused, and what is left then, is as for a vector of pairs.
+///
+/// ```text
+/// HashMap::<u8, u8, S>::from_reader_with_ctx(&mut reader, Limit::new_count(2))?; // from 01 AA 01 BB: 1 to 0xBB
+/// ```
+impl<
+    K: DekuReader<Ctx> + Eq + Hash,
+    V: DekuReader<Ctx>,
+    S: BuildHasher + Default + Drop,
+    P: Predicate<(K, V)>,
+    Ctx: Copy,
+> DekuReader<(Limit<(K, V), P>, Ctx)> for HashMap<K, V, S> {
+    ghost use Rattle.std.specs.HashMap.{IsFromIterResult};
+    ghost use Rattle.deku_meanings.specs.Collected.{IsMapOf};
+    ghost use Rattle.deku_reading.specs.Limits.{ReadsUnder, AsksAll, Held};
+
+    ghost accepts = { λ c. ⟦<(K, V) as DekuReader<Ctx>>⟧.accepts c.1 × AsksAll P.asks_all c.0 };
+
+    ghost meaning = { λ c. Held (λ xs m. IsFromIterResult K.eq xs m × IsMapOf K.eq xs m) (ReadsUnder P.answers c.0 (⟦<(K, V) as DekuReader<Ctx>>⟧.meaning c.1)) };
+
+    fn from_reader_with_ctx<R: Source>(
+        reader: &mut Reader<R>,
+        ctx: (Limit<(K, V), P>, Ctx),
+    ) -> Result<Self, DekuError> {
+        let (limit, items) = ctx;
+        let empty = HashMap::with_hasher(reader.alloc(), S::default());
+        gather_under(empty, reader, limit, items)
+    }
+}
+
+/// The pairs that the limit says, each under `()`.
+impl<
+    K: DekuReader<()> + Eq + Hash,
+    V: DekuReader<()>,
+    S: BuildHasher + Default + Drop,
+    P: Predicate<(K, V)>,
+> DekuReader<Limit<(K, V), P>> for HashMap<K, V, S> {
+    ghost accepts = { λ c. ⟦<HashMap<K, V, S> as DekuReader<(Limit<(K, V), P>, ())>>⟧.accepts (c, tt) };
+
+    ghost meaning = { λ c. ⟦<HashMap<K, V, S> as DekuReader<(Limit<(K, V), P>, ())>>⟧.meaning (c, tt) };
+
+    fn from_reader_with_ctx<R: Source>(
+        reader: &mut Reader<R>,
+        ctx: Limit<(K, V), P>,
+    ) -> Result<Self, DekuError> {
+        <HashMap<K, V, S> as DekuReader<(Limit<(K, V), P>, ())>>::from_reader_with_ctx(
+            reader,
+            (ctx, ()),
+        )
+    }
+}

@@ -1,0 +1,58 @@
+//! Sets: items as long as a limit says, each kept once.
+
+use crate::impls::gather::gather_under;
+use crate::traits::DekuReader;
+use deku_bits::device::Source;
+use deku_bits::error::DekuError;
+use deku_bits::reader::Reader;
+use deku_meanings::ctx::{Limit, Predicate};
+use std::collections::HashSet;
+use std::hash::{BuildHasher, Hash};
+
+/// The items that the limit says, each under the items' context. The limit is on the items that are read, and not on those that the set
+/// has then: each is kept once, and of equal items the first.
+///
+/// What is refused, and what is left then, is as for a vector.
+///
+/// ```text
+/// HashSet::<u8, S>::from_reader_with_ctx(&mut reader, Limit::new_count(3))?; // from 07 07 08: 7 and 8
+/// ```
+impl<
+    T: DekuReader<Ctx> + Eq + Hash,
+    S: BuildHasher + Default + Drop,
+    P: Predicate<T>,
+    Ctx: Copy,
+> DekuReader<(Limit<T, P>, Ctx)> for HashSet<T, S> {
+    ghost use Rattle.std.specs.HashSet.{IsFromIterResult};
+    ghost use Rattle.deku_meanings.specs.Collected.{IsSetOf};
+    ghost use Rattle.deku_reading.specs.Limits.{ReadsUnder, AsksAll, Held};
+
+    ghost accepts = { λ c. T.accepts c.1 × AsksAll P.asks_all c.0 };
+
+    ghost meaning = { λ c. Held (λ xs m. IsFromIterResult T.eq xs m × IsSetOf T.eq xs m) (ReadsUnder P.answers c.0 (T.meaning c.1)) };
+
+    fn from_reader_with_ctx<R: Source>(
+        reader: &mut Reader<R>,
+        ctx: (Limit<T, P>, Ctx),
+    ) -> Result<Self, DekuError> {
+        let (limit, items) = ctx;
+        let empty = HashSet::with_hasher(reader.alloc(), S::default());
+        gather_under(empty, reader, limit, items)
+    }
+}
+
+/// The items that the limit says, each under `()`.
+impl<T: DekuReader<()> + Eq + Hash, S: BuildHasher + Default + Drop, P: Predicate<T>> DekuReader<
+    Limit<T, P>,
+> for HashSet<T, S> {
+    ghost accepts = { λ c. ⟦<HashSet<T, S> as DekuReader<(Limit<T, P>, ())>>⟧.accepts (c, tt) };
+
+    ghost meaning = { λ c. ⟦<HashSet<T, S> as DekuReader<(Limit<T, P>, ())>>⟧.meaning (c, tt) };
+
+    fn from_reader_with_ctx<R: Source>(
+        reader: &mut Reader<R>,
+        ctx: Limit<T, P>,
+    ) -> Result<Self, DekuError> {
+        <HashSet<T, S> as DekuReader<(Limit<T, P>, ())>>::from_reader_with_ctx(reader, (ctx, ()))
+    }
+}

@@ -1,0 +1,46 @@
+//! Network addresses, as the numbers that their octets make.
+
+use crate::traits::DekuReader;
+use deku_bits::device::Source;
+use deku_bits::error::DekuError;
+use deku_bits::reader::Reader;
+use deku_num::ctx::NumberCtx;
+use std::net::{Ipv4Addr, Ipv6Addr};
+
+/// Read as a `u32`, whose highest byte is the first octet.
+impl<C: NumberCtx> DekuReader<C> for Ipv4Addr {
+    ghost use Rattle.std.specs.Prelude.{◌≡◌};
+    ghost use Rattle.std.specs.Net.Addr.{ipv4_bits};
+    ghost use Rattle.deku_num.specs.Numbers.{unsigned};
+    ghost use Rattle.deku_num.specs.NumberCalls.{ReadsUnsigned};
+    ghost use Rattle.deku_meanings.specs.Composing.{Then};
+    ghost use Rattle.deku_meanings.specs.Shapes.{Shows};
+
+    ghost accepts = { λ c. c ≡ c };
+
+    ghost meaning = { λ c. Then (ReadsUnsigned (unsigned 32) (C.parts_of c)) (Shows ipv4_bits) };
+
+    fn from_reader_with_ctx<R: Source>(reader: &mut Reader<R>, ctx: C) -> Result<Self, DekuError> {
+        let number = u32::from_reader_with_ctx(reader, ctx)?;
+        Ok(Ipv4Addr::from_bits(number))
+    }
+}
+
+/// Read as a `u128`, whose highest byte is the first octet.
+impl<C: NumberCtx> DekuReader<C> for Ipv6Addr {
+    ghost use Rattle.std.specs.Prelude.{◌≡◌};
+    ghost use Rattle.std.specs.Net.Addr.{ipv6_bits};
+    ghost use Rattle.deku_num.specs.Numbers.{unsigned};
+    ghost use Rattle.deku_num.specs.NumberCalls.{ReadsUnsigned};
+    ghost use Rattle.deku_meanings.specs.Composing.{Then};
+    ghost use Rattle.deku_meanings.specs.Shapes.{Shows};
+
+    ghost accepts = { λ c. c ≡ c };
+
+    ghost meaning = { λ c. Then (ReadsUnsigned (unsigned 128) (C.parts_of c)) (Shows ipv6_bits) };
+
+    fn from_reader_with_ctx<R: Source>(reader: &mut Reader<R>, ctx: C) -> Result<Self, DekuError> {
+        let number = u128::from_reader_with_ctx(reader, ctx)?;
+        Ok(Ipv6Addr::from_bits(number))
+    }
+}

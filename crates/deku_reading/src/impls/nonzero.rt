@@ -1,0 +1,264 @@
+//! Numbers that are not 0.
+
+use crate::traits::DekuReader;
+use deku_bits::device::Source;
+use deku_bits::error::DekuError;
+use deku_bits::reader::Reader;
+use deku_num::ctx::NumberCtx;
+use std::num::{
+    NonZeroI8, NonZeroI16, NonZeroI32, NonZeroI64, NonZeroI128, NonZeroIsize, NonZeroU8,
+    NonZeroU16, NonZeroU32, NonZeroU64, NonZeroU128, NonZeroUsize,
+};
+
+/// Read as its number. 0 is refused with `Parse("NonZero assertion")`, and its bits stay read.
+impl<C: NumberCtx> DekuReader<C> for NonZeroU8 {
+    ghost use Rattle.std.specs.Prelude.{◌≡◌, codes};
+    ghost use Rattle.std.specs.Int.NonZero.{non_zero_u8_get};
+    ghost use Rattle.deku_num.specs.Numbers.{byte};
+    ghost use Rattle.deku_num.specs.NumberCalls.{ReadsUnsigned};
+    ghost use Rattle.deku_meanings.specs.Composing.{Then};
+    ghost use Rattle.deku_meanings.specs.Shapes.{ShowsUnless};
+
+    ghost accepts = { λ c. c ≡ c };
+
+    ghost meaning = { λ c. Then (ReadsUnsigned byte (C.parts_of c)) (ShowsUnless (λ n. n ≡ 0) (codes "NonZero assertion") non_zero_u8_get) };
+
+    fn from_reader_with_ctx<R: Source>(reader: &mut Reader<R>, ctx: C) -> Result<Self, DekuError> {
+        let number = u8::from_reader_with_ctx(reader, ctx)?;
+        match NonZeroU8::new(number) {
+            Some(value) => Ok(value),
+            None => Err(DekuError::Parse("NonZero assertion")),
+        }
+    }
+}
+
+impl<C: NumberCtx> DekuReader<C> for NonZeroU16 {
+    ghost use Rattle.std.specs.Prelude.{◌≡◌, codes};
+    ghost use Rattle.std.specs.Int.NonZero.{non_zero_u16_get};
+    ghost use Rattle.deku_num.specs.Numbers.{unsigned};
+    ghost use Rattle.deku_num.specs.NumberCalls.{ReadsUnsigned};
+    ghost use Rattle.deku_meanings.specs.Composing.{Then};
+    ghost use Rattle.deku_meanings.specs.Shapes.{ShowsUnless};
+
+    ghost accepts = { λ c. c ≡ c };
+
+    ghost meaning = { λ c. Then (ReadsUnsigned (unsigned 16) (C.parts_of c)) (ShowsUnless (λ n. n ≡ 0) (codes "NonZero assertion") non_zero_u16_get) };
+
+    fn from_reader_with_ctx<R: Source>(reader: &mut Reader<R>, ctx: C) -> Result<Self, DekuError> {
+        let number = u16::from_reader_with_ctx(reader, ctx)?;
+        match NonZeroU16::new(number) {
+            Some(value) => Ok(value),
+            None => Err(DekuError::Parse("NonZero assertion")),
+        }
+    }
+}
+
+impl<C: NumberCtx> DekuReader<C> for NonZeroU32 {
+    ghost use Rattle.std.specs.Prelude.{◌≡◌, codes};
+    ghost use Rattle.std.specs.Int.NonZero.{non_zero_u32_get};
+    ghost use Rattle.deku_num.specs.Numbers.{unsigned};
+    ghost use Rattle.deku_num.specs.NumberCalls.{ReadsUnsigned};
+    ghost use Rattle.deku_meanings.specs.Composing.{Then};
+    ghost use Rattle.deku_meanings.specs.Shapes.{ShowsUnless};
+
+    ghost accepts = { λ c. c ≡ c };
+
+    ghost meaning = { λ c. Then (ReadsUnsigned (unsigned 32) (C.parts_of c)) (ShowsUnless (λ n. n ≡ 0) (codes "NonZero assertion") non_zero_u32_get) };
+
+    fn from_reader_with_ctx<R: Source>(reader: &mut Reader<R>, ctx: C) -> Result<Self, DekuError> {
+        let number = u32::from_reader_with_ctx(reader, ctx)?;
+        match NonZeroU32::new(number) {
+            Some(value) => Ok(value),
+            None => Err(DekuError::Parse("NonZero assertion")),
+        }
+    }
+}
+
+impl<C: NumberCtx> DekuReader<C> for NonZeroU64 {
+    ghost use Rattle.std.specs.Prelude.{◌≡◌, codes};
+    ghost use Rattle.std.specs.Int.NonZero.{non_zero_u64_get};
+    ghost use Rattle.deku_num.specs.Numbers.{unsigned};
+    ghost use Rattle.deku_num.specs.NumberCalls.{ReadsUnsigned};
+    ghost use Rattle.deku_meanings.specs.Composing.{Then};
+    ghost use Rattle.deku_meanings.specs.Shapes.{ShowsUnless};
+
+    ghost accepts = { λ c. c ≡ c };
+
+    ghost meaning = { λ c. Then (ReadsUnsigned (unsigned 64) (C.parts_of c)) (ShowsUnless (λ n. n ≡ 0) (codes "NonZero assertion") non_zero_u64_get) };
+
+    fn from_reader_with_ctx<R: Source>(reader: &mut Reader<R>, ctx: C) -> Result<Self, DekuError> {
+        let number = u64::from_reader_with_ctx(reader, ctx)?;
+        match NonZeroU64::new(number) {
+            Some(value) => Ok(value),
+            None => Err(DekuError::Parse("NonZero assertion")),
+        }
+    }
+}
+
+impl<C: NumberCtx> DekuReader<C> for NonZeroU128 {
+    ghost use Rattle.std.specs.Prelude.{◌≡◌, codes};
+    ghost use Rattle.std.specs.Int.NonZero.{non_zero_u128_get};
+    ghost use Rattle.deku_num.specs.Numbers.{unsigned};
+    ghost use Rattle.deku_num.specs.NumberCalls.{ReadsUnsigned};
+    ghost use Rattle.deku_meanings.specs.Composing.{Then};
+    ghost use Rattle.deku_meanings.specs.Shapes.{ShowsUnless};
+
+    ghost accepts = { λ c. c ≡ c };
+
+    ghost meaning = { λ c. Then (ReadsUnsigned (unsigned 128) (C.parts_of c)) (ShowsUnless (λ n. n ≡ 0) (codes "NonZero assertion") non_zero_u128_get) };
+
+    fn from_reader_with_ctx<R: Source>(reader: &mut Reader<R>, ctx: C) -> Result<Self, DekuError> {
+        let number = u128::from_reader_with_ctx(reader, ctx)?;
+        match NonZeroU128::new(number) {
+            Some(value) => Ok(value),
+            None => Err(DekuError::Parse("NonZero assertion")),
+        }
+    }
+}
+
+impl<C: NumberCtx> DekuReader<C> for NonZeroUsize {
+    ghost use Rattle.std.specs.Prelude.{◌≡◌, codes};
+    ghost use Rattle.std.specs.Int.NonZero.{non_zero_usize_get};
+    ghost use Rattle.deku_num.specs.Numbers.{unsigned};
+    ghost use Rattle.deku_num.specs.NumberCalls.{ReadsUnsigned};
+    ghost use Rattle.deku_meanings.specs.Composing.{Then};
+    ghost use Rattle.deku_meanings.specs.Shapes.{ShowsUnless};
+
+    ghost accepts = { λ c. c ≡ c };
+
+    ghost meaning = { λ c. Then (ReadsUnsigned (unsigned 64) (C.parts_of c)) (ShowsUnless (λ n. n ≡ 0) (codes "NonZero assertion") non_zero_usize_get) };
+
+    fn from_reader_with_ctx<R: Source>(reader: &mut Reader<R>, ctx: C) -> Result<Self, DekuError> {
+        let number = usize::from_reader_with_ctx(reader, ctx)?;
+        match NonZeroUsize::new(number) {
+            Some(value) => Ok(value),
+            None => Err(DekuError::Parse("NonZero assertion")),
+        }
+    }
+}
+
+impl<C: NumberCtx> DekuReader<C> for NonZeroI8 {
+    ghost use Rattle.std.specs.Prelude.{◌≡◌, codes, pos};
+    ghost use Rattle.std.specs.Int.NonZero.{non_zero_i8_get};
+    ghost use Rattle.deku_num.specs.Numbers.{signed};
+    ghost use Rattle.deku_num.specs.NumberCalls.{ReadsNumber};
+    ghost use Rattle.deku_meanings.specs.Composing.{Then};
+    ghost use Rattle.deku_meanings.specs.Shapes.{ShowsUnless};
+
+    ghost accepts = { λ c. c ≡ c };
+
+    ghost meaning = { λ c. Then (ReadsNumber (signed 8) (C.parts_of c)) (ShowsUnless (λ n. n ≡ pos 0) (codes "NonZero assertion") non_zero_i8_get) };
+
+    fn from_reader_with_ctx<R: Source>(reader: &mut Reader<R>, ctx: C) -> Result<Self, DekuError> {
+        let number = i8::from_reader_with_ctx(reader, ctx)?;
+        match NonZeroI8::new(number) {
+            Some(value) => Ok(value),
+            None => Err(DekuError::Parse("NonZero assertion")),
+        }
+    }
+}
+
+impl<C: NumberCtx> DekuReader<C> for NonZeroI16 {
+    ghost use Rattle.std.specs.Prelude.{◌≡◌, codes, pos};
+    ghost use Rattle.std.specs.Int.NonZero.{non_zero_i16_get};
+    ghost use Rattle.deku_num.specs.Numbers.{signed};
+    ghost use Rattle.deku_num.specs.NumberCalls.{ReadsNumber};
+    ghost use Rattle.deku_meanings.specs.Composing.{Then};
+    ghost use Rattle.deku_meanings.specs.Shapes.{ShowsUnless};
+
+    ghost accepts = { λ c. c ≡ c };
+
+    ghost meaning = { λ c. Then (ReadsNumber (signed 16) (C.parts_of c)) (ShowsUnless (λ n. n ≡ pos 0) (codes "NonZero assertion") non_zero_i16_get) };
+
+    fn from_reader_with_ctx<R: Source>(reader: &mut Reader<R>, ctx: C) -> Result<Self, DekuError> {
+        let number = i16::from_reader_with_ctx(reader, ctx)?;
+        match NonZeroI16::new(number) {
+            Some(value) => Ok(value),
+            None => Err(DekuError::Parse("NonZero assertion")),
+        }
+    }
+}
+
+impl<C: NumberCtx> DekuReader<C> for NonZeroI32 {
+    ghost use Rattle.std.specs.Prelude.{◌≡◌, codes, pos};
+    ghost use Rattle.std.specs.Int.NonZero.{non_zero_i32_get};
+    ghost use Rattle.deku_num.specs.Numbers.{signed};
+    ghost use Rattle.deku_num.specs.NumberCalls.{ReadsNumber};
+    ghost use Rattle.deku_meanings.specs.Composing.{Then};
+    ghost use Rattle.deku_meanings.specs.Shapes.{ShowsUnless};
+
+    ghost accepts = { λ c. c ≡ c };
+
+    ghost meaning = { λ c. Then (ReadsNumber (signed 32) (C.parts_of c)) (ShowsUnless (λ n. n ≡ pos 0) (codes "NonZero assertion") non_zero_i32_get) };
+
+    fn from_reader_with_ctx<R: Source>(reader: &mut Reader<R>, ctx: C) -> Result<Self, DekuError> {
+        let number = i32::from_reader_with_ctx(reader, ctx)?;
+        match NonZeroI32::new(number) {
+            Some(value) => Ok(value),
+            None => Err(DekuError::Parse("NonZero assertion")),
+        }
+    }
+}
+
+impl<C: NumberCtx> DekuReader<C> for NonZeroI64 {
+    ghost use Rattle.std.specs.Prelude.{◌≡◌, codes, pos};
+    ghost use Rattle.std.specs.Int.NonZero.{non_zero_i64_get};
+    ghost use Rattle.deku_num.specs.Numbers.{signed};
+    ghost use Rattle.deku_num.specs.NumberCalls.{ReadsNumber};
+    ghost use Rattle.deku_meanings.specs.Composing.{Then};
+    ghost use Rattle.deku_meanings.specs.Shapes.{ShowsUnless};
+
+    ghost accepts = { λ c. c ≡ c };
+
+    ghost meaning = { λ c. Then (ReadsNumber (signed 64) (C.parts_of c)) (ShowsUnless (λ n. n ≡ pos 0) (codes "NonZero assertion") non_zero_i64_get) };
+
+    fn from_reader_with_ctx<R: Source>(reader: &mut Reader<R>, ctx: C) -> Result<Self, DekuError> {
+        let number = i64::from_reader_with_ctx(reader, ctx)?;
+        match NonZeroI64::new(number) {
+            Some(value) => Ok(value),
+            None => Err(DekuError::Parse("NonZero assertion")),
+        }
+    }
+}
+
+impl<C: NumberCtx> DekuReader<C> for NonZeroI128 {
+    ghost use Rattle.std.specs.Prelude.{◌≡◌, codes, pos};
+    ghost use Rattle.std.specs.Int.NonZero.{non_zero_i128_get};
+    ghost use Rattle.deku_num.specs.Numbers.{signed};
+    ghost use Rattle.deku_num.specs.NumberCalls.{ReadsNumber};
+    ghost use Rattle.deku_meanings.specs.Composing.{Then};
+    ghost use Rattle.deku_meanings.specs.Shapes.{ShowsUnless};
+
+    ghost accepts = { λ c. c ≡ c };
+
+    ghost meaning = { λ c. Then (ReadsNumber (signed 128) (C.parts_of c)) (ShowsUnless (λ n. n ≡ pos 0) (codes "NonZero assertion") non_zero_i128_get) };
+
+    fn from_reader_with_ctx<R: Source>(reader: &mut Reader<R>, ctx: C) -> Result<Self, DekuError> {
+        let number = i128::from_reader_with_ctx(reader, ctx)?;
+        match NonZeroI128::new(number) {
+            Some(value) => Ok(value),
+            None => Err(DekuError::Parse("NonZero assertion")),
+        }
+    }
+}
+
+impl<C: NumberCtx> DekuReader<C> for NonZeroIsize {
+    ghost use Rattle.std.specs.Prelude.{◌≡◌, codes, pos};
+    ghost use Rattle.std.specs.Int.NonZero.{non_zero_isize_get};
+    ghost use Rattle.deku_num.specs.Numbers.{signed};
+    ghost use Rattle.deku_num.specs.NumberCalls.{ReadsNumber};
+    ghost use Rattle.deku_meanings.specs.Composing.{Then};
+    ghost use Rattle.deku_meanings.specs.Shapes.{ShowsUnless};
+
+    ghost accepts = { λ c. c ≡ c };
+
+    ghost meaning = { λ c. Then (ReadsNumber (signed 64) (C.parts_of c)) (ShowsUnless (λ n. n ≡ pos 0) (codes "NonZero assertion") non_zero_isize_get) };
+
+    fn from_reader_with_ctx<R: Source>(reader: &mut Reader<R>, ctx: C) -> Result<Self, DekuError> {
+        let number = isize::from_reader_with_ctx(reader, ctx)?;
+        match NonZeroIsize::new(number) {
+            Some(value) => Ok(value),
+            None => Err(DekuError::Parse("NonZero assertion")),
+        }
+    }
+}

@@ -1,0 +1,24 @@
+//! Items that may be absent.
+
+use crate::traits::DekuReader;
+use deku_bits::device::Source;
+use deku_bits::error::DekuError;
+use deku_bits::reader::Reader;
+
+/// The item is always read.
+impl<Ctx: Copy, T: DekuReader<Ctx>> DekuReader<Ctx> for Option<T> {
+    ghost use Rattle.std.specs.Prelude.{Some};
+    ghost use Rattle.deku_bits.specs.Outcomes.{Mapped};
+
+    ghost accepts = { T.accepts };
+
+    ghost meaning = { λ c. Mapped Some (T.meaning c) };
+
+    fn from_reader_with_ctx<R: Source>(
+        reader: &mut Reader<R>,
+        ctx: Ctx,
+    ) -> Result<Self, DekuError> {
+        let value = T::from_reader_with_ctx(reader, ctx)?;
+        Ok(Some(value))
+    }
+}

@@ -1,0 +1,275 @@
+//! Tuples: their items in order.
+
+use crate::traits::DekuReader;
+use deku_bits::device::Source;
+use deku_bits::error::DekuError;
+use deku_bits::reader::Reader;
+
+impl<Ctx: Copy, A: DekuReader<Ctx>> DekuReader<Ctx> for (A,) {
+    ghost use Rattle.deku_bits.specs.Outcomes.{Mapped};
+
+    ghost accepts = { A.accepts };
+
+    ghost meaning = { λ c. Mapped (λ a. record { 0 = a }) (A.meaning c) };
+
+    fn from_reader_with_ctx<R: Source>(
+        reader: &mut Reader<R>,
+        ctx: Ctx,
+    ) -> Result<Self, DekuError> {
+        let a = A::from_reader_with_ctx(reader, ctx)?;
+        Ok((a,))
+    }
+}
+
+impl<Ctx: Copy, A: DekuReader<Ctx>, B: DekuReader<Ctx>> DekuReader<Ctx> for (A, B) {
+    ghost use Rattle.deku_meanings.specs.Composing.{PairOf};
+
+    ghost accepts = { λ c. A.accepts c × B.accepts c };
+
+    ghost meaning = { λ c. PairOf (A.meaning c) (B.meaning c) };
+
+    fn from_reader_with_ctx<R: Source>(
+        reader: &mut Reader<R>,
+        ctx: Ctx,
+    ) -> Result<Self, DekuError> {
+        let a = A::from_reader_with_ctx(reader, ctx)?;
+        let b = B::from_reader_with_ctx(reader, ctx)?;
+        Ok((a, b))
+    }
+}
+
+impl<Ctx: Copy, A: DekuReader<Ctx>, B: DekuReader<Ctx>, C: DekuReader<Ctx>> DekuReader<Ctx>
+    for (A, B, C) {
+    ghost use Rattle.deku_meanings.specs.Shapes.{JoinedBy};
+
+    ghost accepts = { λ c. A.accepts c × ⟦<(B, C) as DekuReader<Ctx>>⟧.accepts c };
+
+    ghost meaning = { λ c. JoinedBy (λ a rest. (a, rest.0, rest.1)) (A.meaning c) (⟦<(B, C) as DekuReader<Ctx>>⟧.meaning c) };
+
+    fn from_reader_with_ctx<R: Source>(
+        reader: &mut Reader<R>,
+        ctx: Ctx,
+    ) -> Result<Self, DekuError> {
+        let a = A::from_reader_with_ctx(reader, ctx)?;
+        let (b, c) = <(B, C)>::from_reader_with_ctx(reader, ctx)?;
+        Ok((a, b, c))
+    }
+}
+
+impl<
+    Ctx: Copy,
+    A: DekuReader<Ctx>,
+    B: DekuReader<Ctx>,
+    C: DekuReader<Ctx>,
+    D: DekuReader<Ctx>,
+> DekuReader<Ctx> for (A, B, C, D) {
+    ghost use Rattle.deku_meanings.specs.Shapes.{JoinedBy};
+
+    ghost accepts = { λ c. A.accepts c × ⟦<(B, C, D) as DekuReader<Ctx>>⟧.accepts c };
+
+    ghost meaning = { λ c. JoinedBy (λ a rest. (a, rest.0, rest.1, rest.2)) (A.meaning c) (⟦<(B, C, D) as DekuReader<Ctx>>⟧.meaning c) };
+
+    fn from_reader_with_ctx<R: Source>(
+        reader: &mut Reader<R>,
+        ctx: Ctx,
+    ) -> Result<Self, DekuError> {
+        let a = A::from_reader_with_ctx(reader, ctx)?;
+        let (b, c, d) = <(B, C, D)>::from_reader_with_ctx(reader, ctx)?;
+        Ok((a, b, c, d))
+    }
+}
+
+impl<
+    Ctx: Copy,
+    A: DekuReader<Ctx>,
+    B: DekuReader<Ctx>,
+    C: DekuReader<Ctx>,
+    D: DekuReader<Ctx>,
+    E: DekuReader<Ctx>,
+> DekuReader<Ctx> for (A, B, C, D, E) {
+    ghost use Rattle.deku_meanings.specs.Shapes.{JoinedBy};
+
+    ghost accepts = { λ c. A.accepts c × ⟦<(B, C, D, E) as DekuReader<Ctx>>⟧.accepts c };
+
+    ghost meaning = { λ c. JoinedBy (λ a rest. (a, rest.0, rest.1, rest.2, rest.3)) (A.meaning c) (⟦<(B, C, D, E) as DekuReader<Ctx>>⟧.meaning c) };
+
+    fn from_reader_with_ctx<R: Source>(
+        reader: &mut Reader<R>,
+        ctx: Ctx,
+    ) -> Result<Self, DekuError> {
+        let a = A::from_reader_with_ctx(reader, ctx)?;
+        let (b, c, d, e) = <(B, C, D, E)>::from_reader_with_ctx(reader, ctx)?;
+        Ok((a, b, c, d, e))
+    }
+}
+
+impl<
+    Ctx: Copy,
+    A: DekuReader<Ctx>,
+    B: DekuReader<Ctx>,
+    C: DekuReader<Ctx>,
+    D: DekuReader<Ctx>,
+    E: DekuReader<Ctx>,
+    F: DekuReader<Ctx>,
+> DekuReader<Ctx> for (A, B, C, D, E, F) {
+    ghost use Rattle.deku_meanings.specs.Shapes.{JoinedBy};
+
+    ghost accepts = { λ c. A.accepts c × ⟦<(B, C, D, E, F) as DekuReader<Ctx>>⟧.accepts c };
+
+    ghost meaning = { λ c. JoinedBy (λ a rest. (a, rest.0, rest.1, rest.2, rest.3, rest.4)) (A.meaning c) (⟦<(B, C, D, E, F) as DekuReader<Ctx>>⟧.meaning c) };
+
+    fn from_reader_with_ctx<R: Source>(
+        reader: &mut Reader<R>,
+        ctx: Ctx,
+    ) -> Result<Self, DekuError> {
+        let a = A::from_reader_with_ctx(reader, ctx)?;
+        let (b, c, d, e, f) = <(B, C, D, E, F)>::from_reader_with_ctx(reader, ctx)?;
+        Ok((a, b, c, d, e, f))
+    }
+}
+
+impl<
+    Ctx: Copy,
+    A: DekuReader<Ctx>,
+    B: DekuReader<Ctx>,
+    C: DekuReader<Ctx>,
+    D: DekuReader<Ctx>,
+    E: DekuReader<Ctx>,
+    F: DekuReader<Ctx>,
+    G: DekuReader<Ctx>,
+> DekuReader<Ctx> for (A, B, C, D, E, F, G) {
+    ghost use Rattle.deku_meanings.specs.Shapes.{JoinedBy};
+
+    ghost accepts = { λ c. A.accepts c × ⟦<(B, C, D, E, F, G) as DekuReader<Ctx>>⟧.accepts c };
+
+    ghost meaning = { λ c. JoinedBy (λ a rest. (a, rest.0, rest.1, rest.2, rest.3, rest.4, rest.5)) (A.meaning c) (⟦<(B, C, D, E, F, G) as DekuReader<Ctx>>⟧.meaning c) };
+
+    fn from_reader_with_ctx<R: Source>(
+        reader: &mut Reader<R>,
+        ctx: Ctx,
+    ) -> Result<Self, DekuError> {
+        let a = A::from_reader_with_ctx(reader, ctx)?;
+        let (b, c, d, e, f, g) = <(B, C, D, E, F, G)>::from_reader_with_ctx(reader, ctx)?;
+        Ok((a, b, c, d, e, f, g))
+    }
+}
+
+impl<
+    Ctx: Copy,
+    A: DekuReader<Ctx>,
+    B: DekuReader<Ctx>,
+    C: DekuReader<Ctx>,
+    D: DekuReader<Ctx>,
+    E: DekuReader<Ctx>,
+    F: DekuReader<Ctx>,
+    G: DekuReader<Ctx>,
+    H: DekuReader<Ctx>,
+> DekuReader<Ctx> for (A, B, C, D, E, F, G, H) {
+    ghost use Rattle.deku_meanings.specs.Shapes.{JoinedBy};
+
+    ghost accepts = { λ c. A.accepts c × ⟦<(B, C, D, E, F, G, H) as DekuReader<Ctx>>⟧.accepts c };
+
+    ghost meaning = { λ c. JoinedBy (λ a rest. (a, rest.0, rest.1, rest.2, rest.3, rest.4, rest.5, rest.6)) (A.meaning c) (⟦<(B, C, D, E, F, G, H) as DekuReader<Ctx>>⟧.meaning c) };
+
+    fn from_reader_with_ctx<R: Source>(
+        reader: &mut Reader<R>,
+        ctx: Ctx,
+    ) -> Result<Self, DekuError> {
+        let a = A::from_reader_with_ctx(reader, ctx)?;
+        let (b, c, d, e, f, g, h) = <(B, C, D, E, F, G, H)>::from_reader_with_ctx(reader, ctx)?;
+        Ok((a, b, c, d, e, f, g, h))
+    }
+}
+
+impl<
+    Ctx: Copy,
+    A: DekuReader<Ctx>,
+    B: DekuReader<Ctx>,
+    C: DekuReader<Ctx>,
+    D: DekuReader<Ctx>,
+    E: DekuReader<Ctx>,
+    F: DekuReader<Ctx>,
+    G: DekuReader<Ctx>,
+    H: DekuReader<Ctx>,
+    I: DekuReader<Ctx>,
+> DekuReader<Ctx> for (A, B, C, D, E, F, G, H, I) {
+    ghost use Rattle.deku_meanings.specs.Shapes.{JoinedBy};
+
+    ghost accepts = { λ c. A.accepts c × ⟦<(B, C, D, E, F, G, H, I) as DekuReader<Ctx>>⟧.accepts c };
+
+    ghost meaning = { λ c. JoinedBy (λ a rest. (a, rest.0, rest.1, rest.2, rest.3, rest.4, rest.5, rest.6, rest.7)) (A.meaning c) (⟦<(B, C, D, E, F, G, H, I) as DekuReader<Ctx>>⟧.meaning c) };
+
+    fn from_reader_with_ctx<R: Source>(
+        reader: &mut Reader<R>,
+        ctx: Ctx,
+    ) -> Result<Self, DekuError> {
+        let a = A::from_reader_with_ctx(reader, ctx)?;
+        let (b, c, d, e, f, g, h, i) = <(B, C, D, E, F, G, H, I)>::from_reader_with_ctx(
+            reader, ctx,
+        )?;
+        Ok((a, b, c, d, e, f, g, h, i))
+    }
+}
+
+impl<
+    Ctx: Copy,
+    A: DekuReader<Ctx>,
+    B: DekuReader<Ctx>,
+    C: DekuReader<Ctx>,
+    D: DekuReader<Ctx>,
+    E: DekuReader<Ctx>,
+    F: DekuReader<Ctx>,
+    G: DekuReader<Ctx>,
+    H: DekuReader<Ctx>,
+    I: DekuReader<Ctx>,
+    J: DekuReader<Ctx>,
+> DekuReader<Ctx> for (A, B, C, D, E, F, G, H, I, J) {
+    ghost use Rattle.deku_meanings.specs.Shapes.{JoinedBy};
+
+    ghost accepts = { λ c. A.accepts c × ⟦<(B, C, D, E, F, G, H, I, J) as DekuReader<Ctx>>⟧.accepts c };
+
+    ghost meaning = { λ c. JoinedBy (λ a rest. (a, rest.0, rest.1, rest.2, rest.3, rest.4, rest.5, rest.6, rest.7, rest.8)) (A.meaning c) (⟦<(B, C, D, E, F, G, H, I, J) as DekuReader<Ctx>>⟧.meaning c) };
+
+    fn from_reader_with_ctx<R: Source>(
+        reader: &mut Reader<R>,
+        ctx: Ctx,
+    ) -> Result<Self, DekuError> {
+        let a = A::from_reader_with_ctx(reader, ctx)?;
+        let (b, c, d, e, f, g, h, i, j) = <(B, C, D, E, F, G, H, I, J)>::from_reader_with_ctx(
+            reader, ctx,
+        )?;
+        Ok((a, b, c, d, e, f, g, h, i, j))
+    }
+}
+
+impl<
+    Ctx: Copy,
+    A: DekuReader<Ctx>,
+    B: DekuReader<Ctx>,
+    C: DekuReader<Ctx>,
+    D: DekuReader<Ctx>,
+    E: DekuReader<Ctx>,
+    F: DekuReader<Ctx>,
+    G: DekuReader<Ctx>,
+    H: DekuReader<Ctx>,
+    I: DekuReader<Ctx>,
+    J: DekuReader<Ctx>,
+    K: DekuReader<Ctx>,
+> DekuReader<Ctx> for (A, B, C, D, E, F, G, H, I, J, K) {
+    ghost use Rattle.deku_meanings.specs.Shapes.{JoinedBy};
+
+    ghost accepts = { λ c. A.accepts c × ⟦<(B, C, D, E, F, G, H, I, J, K) as DekuReader<Ctx>>⟧.accepts c };
+
+    ghost meaning = { λ c. JoinedBy (λ a rest. (a, rest.0, rest.1, rest.2, rest.3, rest.4, rest.5, rest.6, rest.7, rest.8, rest.9)) (A.meaning c) (⟦<(B, C, D, E, F, G, H, I, J, K) as DekuReader<Ctx>>⟧.meaning c) };
+
+    fn from_reader_with_ctx<R: Source>(
+        reader: &mut Reader<R>,
+        ctx: Ctx,
+    ) -> Result<Self, DekuError> {
+        let a = A::from_reader_with_ctx(reader, ctx)?;
+        let (b, c, d, e, f, g, h, i, j, k) = <(B, C, D, E, F, G, H, I, J, K)>::from_reader_with_ctx(
+            reader, ctx,
+        )?;
+        Ok((a, b, c, d, e, f, g, h, i, j, k))
+    }
+}

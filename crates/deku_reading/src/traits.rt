@@ -1,0 +1,30 @@
+//! What can be read.
+
+ghost use Rattle.std.specs.Prelude.{Option, Result};
+ghost use Rattle.deku_bits.specs.Streams.{Stream};
+ghost use Rattle.deku_bits.specs.Outcomes.{Meaning};
+ghost use Rattle.deku_bits.specs.ReaderCalls.{Reads};
+
+use deku_bits::device::Source;
+use deku_bits::error::DekuError;
+use deku_bits::reader::Reader;
+
+/// A type that is read from bits, under a context.
+///
+/// An implementation says what reading means, as a relation between the state of the reader before, the answer and the state
+/// after. Its law: each call gives an outcome of that meaning, or a fault of the device that the meaning lets come, which is
+/// answered and kept, with the count that the meaning states.
+pub trait DekuReader<Ctx>: Drop {
+    // The contexts under which it may be read.
+    ghost accepts: { Ctx → Type 0 };
+
+    // What reading it answers and leaves; at `true` where the device fails in it.
+    ghost meaning: { Ctx → Meaning (Option Stream) Self };
+
+    /// Reads a value. What is refused is stated by the type; what it moved before a refusal stays moved.
+    fn from_reader_with_ctx<R: Source>(reader: &mut Reader<R>, ctx: Ctx) -> Result<Self, DekuError>
+    where
+        Self: Sized,
+        requires { accepts ctx }
+        ensures { Reads R.told (meaning ctx) reader.old result reader.new };
+}

@@ -1,0 +1,11 @@
+use Rattle.std.proofs.Common.{rules, arith}
+use Rattle.std.proofs.lemmas.Int.{ints}
+use Rattle.deku_meanings.proofs.Joining.{signed_written}
+use mir.Syntax.{w32}
+use mir.Val.{SFits}
+use Rattle.deku_writing.proofs.impls.primitive.I32DekuWriter.to_writer.Goals as goal
+
+pub returns : goal.returns
+returns g c =
+    let fits : SFits w32 c.args.self.now = search rules in
+    signed_written (rw c.parts.ensures at c.write_signed.ensures) (omega (arith, ints))

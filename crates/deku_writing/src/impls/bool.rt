@@ -1,0 +1,23 @@
+//! Truth values, as numbers of a byte.
+
+use crate::traits::DekuWriter;
+use deku_bits::device::Sink;
+use deku_bits::error::DekuError;
+use deku_bits::writer::Writer;
+use deku_num::ctx::NumberCtx;
+
+/// Written as the `u8` 0 or 1.
+impl<C: NumberCtx> DekuWriter<C> for bool {
+    ghost use Rattle.std.specs.Prelude.{◌≡◌, pos};
+    ghost use Rattle.deku_num.specs.Numbers.{byte};
+    ghost use Rattle.deku_num.specs.NumberCalls.{WritesNumber};
+    ghost use Rattle.deku_meanings.specs.Shapes.{numeral};
+
+    ghost accepts = { λ c. c ≡ c };
+
+    ghost meaning = { λ v c. WritesNumber byte (C.parts_of c) (pos (numeral v)) };
+
+    fn to_writer<W: Sink>(&self, writer: &mut Writer<W>, ctx: C) -> Result<(), DekuError> {
+        (*self as u8).to_writer(writer, ctx)
+    }
+}

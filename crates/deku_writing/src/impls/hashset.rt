@@ -1,0 +1,25 @@
+//! Sets: items in the order in which a set is walked.
+
+use crate::traits::DekuWriter;
+use deku_bits::device::Sink;
+use deku_bits::error::DekuError;
+use deku_bits::writer::Writer;
+use std::collections::HashSet;
+use std::hash::{BuildHasher, Hash};
+
+/// Each item once, under the items' context, in the order in which the set is walked, which is open but the same until the set changes. The
+/// refusal is that of the first that is refused, and what those before it moved stays moved. It takes no memory.
+impl<Ctx: Copy, T: DekuWriter<Ctx> + Eq + Hash, S: BuildHasher> DekuWriter<Ctx> for HashSet<T, S> {
+    ghost use Rattle.deku_writing.specs.Composing.{WritesEach};
+
+    ghost accepts = { T.accepts };
+
+    ghost meaning = { λ m c. WritesEach (λ x. T.meaning x c) m.keys };
+
+    fn to_writer<W: Sink>(&self, writer: &mut Writer<W>, ctx: Ctx) -> Result<(), DekuError> {
+        for item in self {
+            item.to_writer(writer, ctx)?;
+        }
+        Ok(())
+    }
+}

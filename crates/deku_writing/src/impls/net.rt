@@ -1,0 +1,59 @@
+//! Network addresses, as the numbers that their octets make.
+
+use crate::traits::DekuWriter;
+use deku_bits::device::Sink;
+use deku_bits::error::DekuError;
+use deku_bits::writer::Writer;
+use deku_num::ctx::NumberCtx;
+use std::net::{IpAddr, Ipv4Addr, Ipv6Addr};
+
+/// Written as the `u32` that it is read from.
+impl<C: NumberCtx> DekuWriter<C> for Ipv4Addr {
+    ghost use Rattle.std.specs.Prelude.{◌≡◌, pos};
+    ghost use Rattle.std.specs.Net.Addr.{ipv4_bits};
+    ghost use Rattle.deku_num.specs.Numbers.{unsigned};
+    ghost use Rattle.deku_num.specs.NumberCalls.{WritesNumber};
+
+    ghost accepts = { λ c. c ≡ c };
+
+    ghost meaning = { λ v c. WritesNumber (unsigned 32) (C.parts_of c) (pos (ipv4_bits v)) };
+
+    fn to_writer<W: Sink>(&self, writer: &mut Writer<W>, ctx: C) -> Result<(), DekuError> {
+        let number: u32 = self.to_bits();
+        number.to_writer(writer, ctx)
+    }
+}
+
+/// Written as the `u128` that it is read from.
+impl<C: NumberCtx> DekuWriter<C> for Ipv6Addr {
+    ghost use Rattle.std.specs.Prelude.{◌≡◌, pos};
+    ghost use Rattle.std.specs.Net.Addr.{ipv6_bits};
+    ghost use Rattle.deku_num.specs.Numbers.{unsigned};
+    ghost use Rattle.deku_num.specs.NumberCalls.{WritesNumber};
+
+    ghost accepts = { λ c. c ≡ c };
+
+    ghost meaning = { λ v c. WritesNumber (unsigned 128) (C.parts_of c) (pos (ipv6_bits v)) };
+
+    fn to_writer<W: Sink>(&self, writer: &mut Writer<W>, ctx: C) -> Result<(), DekuError> {
+        let number: u128 = self.to_bits();
+        number.to_writer(writer, ctx)
+    }
+}
+
+/// Written as the address that it is; no byte says of which family.
+impl<C: NumberCtx> DekuWriter<C> for IpAddr {
+    ghost use Rattle.std.specs.Prelude.{◌≡◌};
+    ghost use Rattle.deku_meanings.specs.Shapes.{WritesAddress};
+
+    ghost accepts = { λ c. c ≡ c };
+
+    ghost meaning = { λ v c. WritesAddress (C.parts_of c) v };
+
+    fn to_writer<W: Sink>(&self, writer: &mut Writer<W>, ctx: C) -> Result<(), DekuError> {
+        match self {
+            IpAddr::V4(address) => address.to_writer(writer, ctx),
+            IpAddr::V6(address) => address.to_writer(writer, ctx),
+        }
+    }
+}

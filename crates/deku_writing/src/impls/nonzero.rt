@@ -1,0 +1,204 @@
+//! Numbers that are not 0.
+
+use crate::traits::DekuWriter;
+use deku_bits::device::Sink;
+use deku_bits::error::DekuError;
+use deku_bits::writer::Writer;
+use deku_num::ctx::NumberCtx;
+use std::num::{
+    NonZeroI8, NonZeroI16, NonZeroI32, NonZeroI64, NonZeroI128, NonZeroIsize, NonZeroU8,
+    NonZeroU16, NonZeroU32, NonZeroU64, NonZeroU128, NonZeroUsize,
+};
+
+/// Written as its number.
+impl<C: NumberCtx> DekuWriter<C> for NonZeroU8 {
+    ghost use Rattle.std.specs.Prelude.{◌≡◌, pos};
+    ghost use Rattle.std.specs.Int.NonZero.{non_zero_u8_get};
+    ghost use Rattle.deku_num.specs.Numbers.{byte};
+    ghost use Rattle.deku_num.specs.NumberCalls.{WritesNumber};
+
+    ghost accepts = { λ c. c ≡ c };
+
+    ghost meaning = { λ v c. WritesNumber byte (C.parts_of c) (pos (non_zero_u8_get v)) };
+
+    fn to_writer<W: Sink>(&self, writer: &mut Writer<W>, ctx: C) -> Result<(), DekuError> {
+        let number: u8 = self.get();
+        number.to_writer(writer, ctx)
+    }
+}
+
+impl<C: NumberCtx> DekuWriter<C> for NonZeroU16 {
+    ghost use Rattle.std.specs.Prelude.{◌≡◌, pos};
+    ghost use Rattle.std.specs.Int.NonZero.{non_zero_u16_get};
+    ghost use Rattle.deku_num.specs.Numbers.{unsigned};
+    ghost use Rattle.deku_num.specs.NumberCalls.{WritesNumber};
+
+    ghost accepts = { λ c. c ≡ c };
+
+    ghost meaning = { λ v c. WritesNumber (unsigned 16) (C.parts_of c) (pos (non_zero_u16_get v)) };
+
+    fn to_writer<W: Sink>(&self, writer: &mut Writer<W>, ctx: C) -> Result<(), DekuError> {
+        let number: u16 = self.get();
+        number.to_writer(writer, ctx)
+    }
+}
+
+impl<C: NumberCtx> DekuWriter<C> for NonZeroU32 {
+    ghost use Rattle.std.specs.Prelude.{◌≡◌, pos};
+    ghost use Rattle.std.specs.Int.NonZero.{non_zero_u32_get};
+    ghost use Rattle.deku_num.specs.Numbers.{unsigned};
+    ghost use Rattle.deku_num.specs.NumberCalls.{WritesNumber};
+
+    ghost accepts = { λ c. c ≡ c };
+
+    ghost meaning = { λ v c. WritesNumber (unsigned 32) (C.parts_of c) (pos (non_zero_u32_get v)) };
+
+    fn to_writer<W: Sink>(&self, writer: &mut Writer<W>, ctx: C) -> Result<(), DekuError> {
+        let number: u32 = self.get();
+        number.to_writer(writer, ctx)
+    }
+}
+
+impl<C: NumberCtx> DekuWriter<C> for NonZeroU64 {
+    ghost use Rattle.std.specs.Prelude.{◌≡◌, pos};
+    ghost use Rattle.std.specs.Int.NonZero.{non_zero_u64_get};
+    ghost use Rattle.deku_num.specs.Numbers.{unsigned};
+    ghost use Rattle.deku_num.specs.NumberCalls.{WritesNumber};
+
+    ghost accepts = { λ c. c ≡ c };
+
+    ghost meaning = { λ v c. WritesNumber (unsigned 64) (C.parts_of c) (pos (non_zero_u64_get v)) };
+
+    fn to_writer<W: Sink>(&self, writer: &mut Writer<W>, ctx: C) -> Result<(), DekuError> {
+        let number: u64 = self.get();
+        number.to_writer(writer, ctx)
+    }
+}
+
+impl<C: NumberCtx> DekuWriter<C> for NonZeroU128 {
+    ghost use Rattle.std.specs.Prelude.{◌≡◌, pos};
+    ghost use Rattle.std.specs.Int.NonZero.{non_zero_u128_get};
+    ghost use Rattle.deku_num.specs.Numbers.{unsigned};
+    ghost use Rattle.deku_num.specs.NumberCalls.{WritesNumber};
+
+    ghost accepts = { λ c. c ≡ c };
+
+    ghost meaning = { λ v c. WritesNumber (unsigned 128) (C.parts_of c) (pos (non_zero_u128_get v)) };
+
+    fn to_writer<W: Sink>(&self, writer: &mut Writer<W>, ctx: C) -> Result<(), DekuError> {
+        let number: u128 = self.get();
+        number.to_writer(writer, ctx)
+    }
+}
+
+impl<C: NumberCtx> DekuWriter<C> for NonZeroUsize {
+    ghost use Rattle.std.specs.Prelude.{◌≡◌, pos};
+    ghost use Rattle.std.specs.Int.NonZero.{non_zero_usize_get};
+    ghost use Rattle.deku_num.specs.Numbers.{unsigned};
+    ghost use Rattle.deku_num.specs.NumberCalls.{WritesNumber};
+
+    ghost accepts = { λ c. c ≡ c };
+
+    ghost meaning = { λ v c. WritesNumber (unsigned 64) (C.parts_of c) (pos (non_zero_usize_get v)) };
+
+    fn to_writer<W: Sink>(&self, writer: &mut Writer<W>, ctx: C) -> Result<(), DekuError> {
+        let number: usize = self.get();
+        number.to_writer(writer, ctx)
+    }
+}
+
+impl<C: NumberCtx> DekuWriter<C> for NonZeroI8 {
+    ghost use Rattle.std.specs.Prelude.{◌≡◌};
+    ghost use Rattle.std.specs.Int.NonZero.{non_zero_i8_get};
+    ghost use Rattle.deku_num.specs.Numbers.{signed};
+    ghost use Rattle.deku_num.specs.NumberCalls.{WritesNumber};
+
+    ghost accepts = { λ c. c ≡ c };
+
+    ghost meaning = { λ v c. WritesNumber (signed 8) (C.parts_of c) (non_zero_i8_get v) };
+
+    fn to_writer<W: Sink>(&self, writer: &mut Writer<W>, ctx: C) -> Result<(), DekuError> {
+        let number: i8 = self.get();
+        number.to_writer(writer, ctx)
+    }
+}
+
+impl<C: NumberCtx> DekuWriter<C> for NonZeroI16 {
+    ghost use Rattle.std.specs.Prelude.{◌≡◌};
+    ghost use Rattle.std.specs.Int.NonZero.{non_zero_i16_get};
+    ghost use Rattle.deku_num.specs.Numbers.{signed};
+    ghost use Rattle.deku_num.specs.NumberCalls.{WritesNumber};
+
+    ghost accepts = { λ c. c ≡ c };
+
+    ghost meaning = { λ v c. WritesNumber (signed 16) (C.parts_of c) (non_zero_i16_get v) };
+
+    fn to_writer<W: Sink>(&self, writer: &mut Writer<W>, ctx: C) -> Result<(), DekuError> {
+        let number: i16 = self.get();
+        number.to_writer(writer, ctx)
+    }
+}
+
+impl<C: NumberCtx> DekuWriter<C> for NonZeroI32 {
+    ghost use Rattle.std.specs.Prelude.{◌≡◌};
+    ghost use Rattle.std.specs.Int.NonZero.{non_zero_i32_get};
+    ghost use Rattle.deku_num.specs.Numbers.{signed};
+    ghost use Rattle.deku_num.specs.NumberCalls.{WritesNumber};
+
+    ghost accepts = { λ c. c ≡ c };
+
+    ghost meaning = { λ v c. WritesNumber (signed 32) (C.parts_of c) (non_zero_i32_get v) };
+
+    fn to_writer<W: Sink>(&self, writer: &mut Writer<W>, ctx: C) -> Result<(), DekuError> {
+        let number: i32 = self.get();
+        number.to_writer(writer, ctx)
+    }
+}
+
+impl<C: NumberCtx> DekuWriter<C> for NonZeroI64 {
+    ghost use Rattle.std.specs.Prelude.{◌≡◌};
+    ghost use Rattle.std.specs.Int.NonZero.{non_zero_i64_get};
+    ghost use Rattle.deku_num.specs.Numbers.{signed};
+    ghost use Rattle.deku_num.specs.NumberCalls.{WritesNumber};
+
+    ghost accepts = { λ c. c ≡ c };
+
+    ghost meaning = { λ v c. WritesNumber (signed 64) (C.parts_of c) (non_zero_i64_get v) };
+
+    fn to_writer<W: Sink>(&self, writer: &mut Writer<W>, ctx: C) -> Result<(), DekuError> {
+        let number: i64 = self.get();
+        number.to_writer(writer, ctx)
+    }
+}
+
+impl<C: NumberCtx> DekuWriter<C> for NonZeroI128 {
+    ghost use Rattle.std.specs.Prelude.{◌≡◌};
+    ghost use Rattle.std.specs.Int.NonZero.{non_zero_i128_get};
+    ghost use Rattle.deku_num.specs.Numbers.{signed};
+    ghost use Rattle.deku_num.specs.NumberCalls.{WritesNumber};
+
+    ghost accepts = { λ c. c ≡ c };
+
+    ghost meaning = { λ v c. WritesNumber (signed 128) (C.parts_of c) (non_zero_i128_get v) };
+
+    fn to_writer<W: Sink>(&self, writer: &mut Writer<W>, ctx: C) -> Result<(), DekuError> {
+        let number: i128 = self.get();
+        number.to_writer(writer, ctx)
+    }
+}
+
+impl<C: NumberCtx> DekuWriter<C> for NonZeroIsize {
+    ghost use Rattle.std.specs.Prelude.{◌≡◌};
+    ghost use Rattle.std.specs.Int.NonZero.{non_zero_isize_get};
+    ghost use Rattle.deku_num.specs.Numbers.{signed};
+    ghost use Rattle.deku_num.specs.NumberCalls.{WritesNumber};
+
+    ghost accepts = { λ c. c ≡ c };
+
+    ghost meaning = { λ v c. WritesNumber (signed 64) (C.parts_of c) (non_zero_isize_get v) };
+
+    fn to_writer<W: Sink>(&self, writer: &mut Writer<W>, ctx: C) -> Result<(), DekuError> {
+        let number: isize = self.get();
+        number.to_writer(writer, ctx)
+    }
+}

@@ -1,0 +1,278 @@
+//! Tuples: their items in order.
+
+use crate::traits::DekuWriter;
+use deku_bits::device::Sink;
+use deku_bits::error::DekuError;
+use deku_bits::writer::Writer;
+
+impl<Ctx: Copy, A: DekuWriter<Ctx>> DekuWriter<Ctx> for (A,) {
+    ghost accepts = { A.accepts };
+
+    ghost meaning = { λ v c. A.meaning v.0 c };
+
+    fn to_writer<W: Sink>(&self, writer: &mut Writer<W>, ctx: Ctx) -> Result<(), DekuError> {
+        self.0.to_writer(writer, ctx)
+    }
+}
+
+impl<Ctx: Copy, A: DekuWriter<Ctx>, B: DekuWriter<Ctx>> DekuWriter<Ctx> for (A, B) {
+    ghost use Rattle.deku_meanings.specs.Composing.{Both};
+
+    ghost accepts = { λ c. A.accepts c × B.accepts c };
+
+    ghost meaning = { λ v c. Both (A.meaning v.0 c) (B.meaning v.1 c) };
+
+    fn to_writer<W: Sink>(&self, writer: &mut Writer<W>, ctx: Ctx) -> Result<(), DekuError> {
+        let (a, b) = self;
+        a.to_writer(writer, ctx)?;
+        b.to_writer(writer, ctx)
+    }
+}
+
+impl<Ctx: Copy, A: DekuWriter<Ctx>, B: DekuWriter<Ctx>, C: DekuWriter<Ctx>> DekuWriter<Ctx>
+    for (A, B, C) {
+    ghost use Rattle.deku_meanings.specs.Composing.{Both};
+
+    ghost accepts = { λ c. A.accepts c × B.accepts c × C.accepts c };
+
+    ghost meaning = { λ v c. Both (A.meaning v.0 c) (Both (B.meaning v.1 c) (C.meaning v.2 c)) };
+
+    fn to_writer<W: Sink>(&self, writer: &mut Writer<W>, ctx: Ctx) -> Result<(), DekuError> {
+        let (a, b, c) = self;
+        a.to_writer(writer, ctx)?;
+        b.to_writer(writer, ctx)?;
+        c.to_writer(writer, ctx)
+    }
+}
+
+impl<
+    Ctx: Copy,
+    A: DekuWriter<Ctx>,
+    B: DekuWriter<Ctx>,
+    C: DekuWriter<Ctx>,
+    D: DekuWriter<Ctx>,
+> DekuWriter<Ctx> for (A, B, C, D) {
+    ghost use Rattle.deku_meanings.specs.Composing.{Both};
+
+    ghost accepts = { λ c. A.accepts c × B.accepts c × C.accepts c × D.accepts c };
+
+    ghost meaning = { λ v c. Both (A.meaning v.0 c) (Both (B.meaning v.1 c) (Both (C.meaning v.2 c) (D.meaning v.3 c))) };
+
+    fn to_writer<W: Sink>(&self, writer: &mut Writer<W>, ctx: Ctx) -> Result<(), DekuError> {
+        let (a, b, c, d) = self;
+        a.to_writer(writer, ctx)?;
+        b.to_writer(writer, ctx)?;
+        c.to_writer(writer, ctx)?;
+        d.to_writer(writer, ctx)
+    }
+}
+
+impl<
+    Ctx: Copy,
+    A: DekuWriter<Ctx>,
+    B: DekuWriter<Ctx>,
+    C: DekuWriter<Ctx>,
+    D: DekuWriter<Ctx>,
+    E: DekuWriter<Ctx>,
+> DekuWriter<Ctx> for (A, B, C, D, E) {
+    ghost use Rattle.deku_meanings.specs.Composing.{Both};
+
+    ghost accepts = { λ c. A.accepts c × B.accepts c × C.accepts c × D.accepts c × E.accepts c };
+
+    ghost meaning = { λ v c. Both (A.meaning v.0 c) (Both (B.meaning v.1 c) (Both (C.meaning v.2 c) (Both (D.meaning v.3 c) (E.meaning v.4 c)))) };
+
+    fn to_writer<W: Sink>(&self, writer: &mut Writer<W>, ctx: Ctx) -> Result<(), DekuError> {
+        let (a, b, c, d, e) = self;
+        a.to_writer(writer, ctx)?;
+        b.to_writer(writer, ctx)?;
+        c.to_writer(writer, ctx)?;
+        d.to_writer(writer, ctx)?;
+        e.to_writer(writer, ctx)
+    }
+}
+
+impl<
+    Ctx: Copy,
+    A: DekuWriter<Ctx>,
+    B: DekuWriter<Ctx>,
+    C: DekuWriter<Ctx>,
+    D: DekuWriter<Ctx>,
+    E: DekuWriter<Ctx>,
+    F: DekuWriter<Ctx>,
+> DekuWriter<Ctx> for (A, B, C, D, E, F) {
+    ghost use Rattle.deku_meanings.specs.Composing.{Both};
+
+    ghost accepts = { λ c. A.accepts c × B.accepts c × C.accepts c × D.accepts c × E.accepts c × F.accepts c };
+
+    ghost meaning = { λ v c. Both (A.meaning v.0 c) (Both (B.meaning v.1 c) (Both (C.meaning v.2 c) (Both (D.meaning v.3 c) (Both (E.meaning v.4 c) (F.meaning v.5 c))))) };
+
+    fn to_writer<W: Sink>(&self, writer: &mut Writer<W>, ctx: Ctx) -> Result<(), DekuError> {
+        let (a, b, c, d, e, f) = self;
+        a.to_writer(writer, ctx)?;
+        b.to_writer(writer, ctx)?;
+        c.to_writer(writer, ctx)?;
+        d.to_writer(writer, ctx)?;
+        e.to_writer(writer, ctx)?;
+        f.to_writer(writer, ctx)
+    }
+}
+
+impl<
+    Ctx: Copy,
+    A: DekuWriter<Ctx>,
+    B: DekuWriter<Ctx>,
+    C: DekuWriter<Ctx>,
+    D: DekuWriter<Ctx>,
+    E: DekuWriter<Ctx>,
+    F: DekuWriter<Ctx>,
+    G: DekuWriter<Ctx>,
+> DekuWriter<Ctx> for (A, B, C, D, E, F, G) {
+    ghost use Rattle.deku_meanings.specs.Composing.{Both};
+
+    ghost accepts = { λ c. A.accepts c × B.accepts c × C.accepts c × D.accepts c × E.accepts c × F.accepts c × G.accepts c };
+
+    ghost meaning = { λ v c. Both (A.meaning v.0 c) (Both (B.meaning v.1 c) (Both (C.meaning v.2 c) (Both (D.meaning v.3 c) (Both (E.meaning v.4 c) (Both (F.meaning v.5 c) (G.meaning v.6 c)))))) };
+
+    fn to_writer<W: Sink>(&self, writer: &mut Writer<W>, ctx: Ctx) -> Result<(), DekuError> {
+        let (a, b, c, d, e, f, g) = self;
+        a.to_writer(writer, ctx)?;
+        b.to_writer(writer, ctx)?;
+        c.to_writer(writer, ctx)?;
+        d.to_writer(writer, ctx)?;
+        e.to_writer(writer, ctx)?;
+        f.to_writer(writer, ctx)?;
+        g.to_writer(writer, ctx)
+    }
+}
+
+impl<
+    Ctx: Copy,
+    A: DekuWriter<Ctx>,
+    B: DekuWriter<Ctx>,
+    C: DekuWriter<Ctx>,
+    D: DekuWriter<Ctx>,
+    E: DekuWriter<Ctx>,
+    F: DekuWriter<Ctx>,
+    G: DekuWriter<Ctx>,
+    H: DekuWriter<Ctx>,
+> DekuWriter<Ctx> for (A, B, C, D, E, F, G, H) {
+    ghost use Rattle.deku_meanings.specs.Composing.{Both};
+
+    ghost accepts = { λ c. A.accepts c × B.accepts c × C.accepts c × D.accepts c × E.accepts c × F.accepts c × G.accepts c × H.accepts c };
+
+    ghost meaning = { λ v c. Both (A.meaning v.0 c) (Both (B.meaning v.1 c) (Both (C.meaning v.2 c) (Both (D.meaning v.3 c) (Both (E.meaning v.4 c) (Both (F.meaning v.5 c) (Both (G.meaning v.6 c) (H.meaning v.7 c))))))) };
+
+    fn to_writer<W: Sink>(&self, writer: &mut Writer<W>, ctx: Ctx) -> Result<(), DekuError> {
+        let (a, b, c, d, e, f, g, h) = self;
+        a.to_writer(writer, ctx)?;
+        b.to_writer(writer, ctx)?;
+        c.to_writer(writer, ctx)?;
+        d.to_writer(writer, ctx)?;
+        e.to_writer(writer, ctx)?;
+        f.to_writer(writer, ctx)?;
+        g.to_writer(writer, ctx)?;
+        h.to_writer(writer, ctx)
+    }
+}
+
+impl<
+    Ctx: Copy,
+    A: DekuWriter<Ctx>,
+    B: DekuWriter<Ctx>,
+    C: DekuWriter<Ctx>,
+    D: DekuWriter<Ctx>,
+    E: DekuWriter<Ctx>,
+    F: DekuWriter<Ctx>,
+    G: DekuWriter<Ctx>,
+    H: DekuWriter<Ctx>,
+    I: DekuWriter<Ctx>,
+> DekuWriter<Ctx> for (A, B, C, D, E, F, G, H, I) {
+    ghost use Rattle.deku_meanings.specs.Composing.{Both};
+
+    ghost accepts = { λ c. A.accepts c × B.accepts c × C.accepts c × D.accepts c × E.accepts c × F.accepts c × G.accepts c × H.accepts c × I.accepts c };
+
+    ghost meaning = { λ v c. Both (A.meaning v.0 c) (Both (B.meaning v.1 c) (Both (C.meaning v.2 c) (Both (D.meaning v.3 c) (Both (E.meaning v.4 c) (Both (F.meaning v.5 c) (Both (G.meaning v.6 c) (Both (H.meaning v.7 c) (I.meaning v.8 c)))))))) };
+
+    fn to_writer<W: Sink>(&self, writer: &mut Writer<W>, ctx: Ctx) -> Result<(), DekuError> {
+        let (a, b, c, d, e, f, g, h, i) = self;
+        a.to_writer(writer, ctx)?;
+        b.to_writer(writer, ctx)?;
+        c.to_writer(writer, ctx)?;
+        d.to_writer(writer, ctx)?;
+        e.to_writer(writer, ctx)?;
+        f.to_writer(writer, ctx)?;
+        g.to_writer(writer, ctx)?;
+        h.to_writer(writer, ctx)?;
+        i.to_writer(writer, ctx)
+    }
+}
+
+impl<
+    Ctx: Copy,
+    A: DekuWriter<Ctx>,
+    B: DekuWriter<Ctx>,
+    C: DekuWriter<Ctx>,
+    D: DekuWriter<Ctx>,
+    E: DekuWriter<Ctx>,
+    F: DekuWriter<Ctx>,
+    G: DekuWriter<Ctx>,
+    H: DekuWriter<Ctx>,
+    I: DekuWriter<Ctx>,
+    J: DekuWriter<Ctx>,
+> DekuWriter<Ctx> for (A, B, C, D, E, F, G, H, I, J) {
+    ghost use Rattle.deku_meanings.specs.Composing.{Both};
+
+    ghost accepts = { λ c. A.accepts c × B.accepts c × C.accepts c × D.accepts c × E.accepts c × F.accepts c × G.accepts c × H.accepts c × I.accepts c × J.accepts c };
+
+    ghost meaning = { λ v c. Both (A.meaning v.0 c) (Both (B.meaning v.1 c) (Both (C.meaning v.2 c) (Both (D.meaning v.3 c) (Both (E.meaning v.4 c) (Both (F.meaning v.5 c) (Both (G.meaning v.6 c) (Both (H.meaning v.7 c) (Both (I.meaning v.8 c) (J.meaning v.9 c))))))))) };
+
+    fn to_writer<W: Sink>(&self, writer: &mut Writer<W>, ctx: Ctx) -> Result<(), DekuError> {
+        let (a, b, c, d, e, f, g, h, i, j) = self;
+        a.to_writer(writer, ctx)?;
+        b.to_writer(writer, ctx)?;
+        c.to_writer(writer, ctx)?;
+        d.to_writer(writer, ctx)?;
+        e.to_writer(writer, ctx)?;
+        f.to_writer(writer, ctx)?;
+        g.to_writer(writer, ctx)?;
+        h.to_writer(writer, ctx)?;
+        i.to_writer(writer, ctx)?;
+        j.to_writer(writer, ctx)
+    }
+}
+
+impl<
+    Ctx: Copy,
+    A: DekuWriter<Ctx>,
+    B: DekuWriter<Ctx>,
+    C: DekuWriter<Ctx>,
+    D: DekuWriter<Ctx>,
+    E: DekuWriter<Ctx>,
+    F: DekuWriter<Ctx>,
+    G: DekuWriter<Ctx>,
+    H: DekuWriter<Ctx>,
+    I: DekuWriter<Ctx>,
+    J: DekuWriter<Ctx>,
+    K: DekuWriter<Ctx>,
+> DekuWriter<Ctx> for (A, B, C, D, E, F, G, H, I, J, K) {
+    ghost use Rattle.deku_meanings.specs.Composing.{Both};
+
+    ghost accepts = { λ c. A.accepts c × B.accepts c × C.accepts c × D.accepts c × E.accepts c × F.accepts c × G.accepts c × H.accepts c × I.accepts c × J.accepts c × K.accepts c };
+
+    ghost meaning = { λ v c. Both (A.meaning v.0 c) (Both (B.meaning v.1 c) (Both (C.meaning v.2 c) (Both (D.meaning v.3 c) (Both (E.meaning v.4 c) (Both (F.meaning v.5 c) (Both (G.meaning v.6 c) (Both (H.meaning v.7 c) (Both (I.meaning v.8 c) (Both (J.meaning v.9 c) (K.meaning v.10 c)))))))))) };
+
+    fn to_writer<W: Sink>(&self, writer: &mut Writer<W>, ctx: Ctx) -> Result<(), DekuError> {
+        let (a, b, c, d, e, f, g, h, i, j, k) = self;
+        a.to_writer(writer, ctx)?;
+        b.to_writer(writer, ctx)?;
+        c.to_writer(writer, ctx)?;
+        d.to_writer(writer, ctx)?;
+        e.to_writer(writer, ctx)?;
+        f.to_writer(writer, ctx)?;
+        g.to_writer(writer, ctx)?;
+        h.to_writer(writer, ctx)?;
+        i.to_writer(writer, ctx)?;
+        j.to_writer(writer, ctx)?;
+        k.to_writer(writer, ctx)
+    }
+}
