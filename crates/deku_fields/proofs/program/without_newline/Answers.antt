@@ -1,0 +1,14 @@
+use Rattle.std.proofs.Common.{rules}
+use Rattle.deku_fields.proofs.program.without_newline.Goals as goal
+
+pub overflow_sub-text : goal.overflow_sub-text
+overflow_sub-text c = search rules
+
+pub bounds-text-text : goal.bounds-text-text
+bounds-text-text c = search rules
+
+pub slice_bounds-inner-count : goal.slice_bounds-inner-count
+slice_bounds-inner-count c = search rules
+
+pub slice_bounds-inner-length : goal.slice_bounds-inner-length
+slice_bounds-inner-length c = search rules
