@@ -1,4 +1,4 @@
--- How the meanings of items make that of a composite. They serve reading and writing alike.
+-- How the meanings of items make that of a composite, and that of a list that is written.
 pub use Rattle.deku_meanings.specs.Composing.{Answer, Answered, Then, Second, First, PairOf, Both}
 use Rattle.std.specs.Prelude.{List, [], ◌∷◌}
 use Rattle.deku_bits.specs.Outcomes.{Meaning}
