@@ -9,6 +9,8 @@ pub use Rattle.deku_stream.proofs.Writing
 pub use Rattle.deku_stream.proofs.Appends
 pub use Rattle.deku_stream.proofs.Reading
 pub use Rattle.deku_stream.proofs.Taking
+pub use Rattle.deku_stream.proofs.Rewriting
+pub use Rattle.deku_stream.proofs.Lengths
 pub use Rattle.deku_stream.proofs.Packing
 pub use Rattle.deku_stream.proofs.Packed
 pub use Rattle.deku_stream.proofs.Windows
@@ -22,6 +24,8 @@ pub use Rattle.deku_reader.proofs.Moving
 pub use Rattle.deku_reader.proofs.Skips
 pub use Rattle.deku_reader.proofs.Handouts
 pub use Rattle.deku_reader.proofs.WordsRead
+pub use Rattle.deku_reader.proofs.ReaderLaws
+pub use Rattle.deku_reader.proofs.Fetched
 pub use Rattle.deku_reader.proofs.BytesRead
 pub use Rattle.deku_writer.proofs.Fills
 pub use Rattle.deku_writer.proofs.WordsWritten
@@ -31,8 +35,4 @@ pub use Rattle.deku_writer.proofs.Onto
 pub use Rattle.deku_writer.proofs.Emits
 pub use Rattle.deku_writer.proofs.Lent
 pub use Rattle.deku_writer.proofs.WholeBytes
-pub mod Rewriting
-pub mod Lengths
-pub mod ReaderLaws
-pub mod Fetched
 pub mod WorkedRows

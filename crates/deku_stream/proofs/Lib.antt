@@ -6,6 +6,8 @@ pub mod Writing
 pub mod Appends
 pub mod Reading
 pub mod Taking
+pub mod Rewriting
+pub mod Lengths
 pub mod Packing
 pub mod Packed
 pub mod Windows

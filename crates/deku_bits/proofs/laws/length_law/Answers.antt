@@ -1,4 +1,4 @@
-use Rattle.deku_bits.proofs.Lengths.{length_law}
+use Rattle.deku_stream.proofs.Lengths.{length_law}
 use Rattle.deku_bits.proofs.laws.length_law.Goals as goal
 
 pub returns : goal.returns
