@@ -15,5 +15,6 @@ pub mod Extending
 pub mod Whole
 pub mod Emitting
 pub mod Vectors
+pub mod SeenVectors
 pub mod Containers
 pub mod WorkedRows

@@ -28,7 +28,7 @@ use Rattle.deku_writing.specs.Composing.{WritesEach}
 use Rattle.deku_reading.specs.Lists as lists
 use Rattle.deku_reading.specs.Lists.{InTurn, Runs, Ended, Stored, Put, NoMemory}
 use Rattle.deku_reading.specs.Limits.{ReadsCount}
-use Rattle.deku.specs.VectorLaws.{GivesBytes, VectorLaw}
+use Rattle.deku.specs.VectorLaws.{GivesBytes}
 use Rattle.deku.proofs.Emitting.{Wrote, Done, Lacking, Full, emitted, followed_wrote}
 use Rattle.deku.proofs.Exact.{number_gives}
 
@@ -97,7 +97,7 @@ module _ (t : NumberType) (l : Layout) (ok : IsAllowed t l) where
   appends_is : (old new : Option (List ℕ)) (xs bytes : List ℕ) → old ≡ Some [] → new ≡ Some bytes → Appends old new xs → bytes ≡ xs
   appends_is old new xs bytes e f h = let k : Appends (Some []) (Some bytes) xs = rw (e, f) at h in k
 
-  given : (vs : List ℤ) (ps : List Piece) (bytes : List ℕ) → ArePiecesOf vs ps → GivesBytes t l vs bytes → bytes ≡ packed ps
+  given : (vs : List ℤ) (ps : List Piece) (bytes : List ℕ) → ArePiecesOf vs ps → GivesBytes (WritesEach (WritesNumber t l) vs) bytes → bytes ≡ packed ps
   given vs ps bytes a g = is both
     where
       w : Written
@@ -201,7 +201,10 @@ module _ (t : NumberType) (l : Layout) (ok : IsAllowed t l) where
       (subst (λ k. Stored (ReadsNumber t l) false k (Err e) u) (it.stands) m) in
       inr (q ∙ ap (λ k. Err k) none)
 
-pub vector_law : VectorLaw
+-- numbers that are written under one layout are read with a count of as many, or no memory is found
+pub vector_law : (t : NumberType) (l : Layout) (vs : List ℤ) (bytes behind : List ℕ) (c : ℕ) (r : Result (List ℤ) DekuError) (u : Standing (Option Stream))
+    → IsAllowed t l → All (Fits t l) vs → GivesBytes (WritesEach (WritesNumber t l) vs) bytes → c + length vs * width t l < 2 ^ 64
+    → ReadsCount (length vs) (ReadsNumber t l) false (Going (Some (fresh (bytes ++ behind))) c) r u → (r ≡ Ok vs) ⊎ (r ≡ Err (Io OutOfMemory))
 vector_law t l vs bytes behind c r u ok fit given_bytes room m =
     let ps = pieces_of t l ok vs fit in
     let aligned : Aligned (map shape ps.0) = from_start t l ok vs ps.0 _ ps.1 in

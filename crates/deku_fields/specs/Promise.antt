@@ -1,5 +1,5 @@
 -- What the calls on lists promise: from bytes that begin with a layout its values are read, and items are written as their layout.
-use Rattle.std.specs.Prelude.{◌≡◌, ◌⊎◌, ℕ, false, ◌+◌, ◌*◌, ◌-◌, ◌<◌, ◌≤◌, ◌^◌, length, map, take, All, MatchResult, OnOk, List, [], ◌++◌, Option, None, Some, Result, Ok, Err, ⊤}
+use Rattle.std.specs.Prelude.{◌≡◌, ◌⊎◌, ℕ, false, ◌+◌, ◌*◌, ◌-◌, ◌<◌, ◌≤◌, ◌^◌, length, map, take, All, MatchResult, OnOk, IfOk, List, [], ◌++◌, Option, None, Some, Result, Ok, Err, ⊤}
 use Rattle.std.specs.Global.{Vec}
 use Rattle.std.specs.declared.io.ErrorKind.TheVariants.{OutOfMemory}
 use Rattle.deku_bits.specs.declared.error.DekuError.{DekuError}
@@ -31,6 +31,10 @@ pub record Unfailing (before after : Health) : Type 0 where
 abbrev pub ReadsWhereSound : {R V : Type 0} → (R → SourceTold) → (Standing (Option Stream) → Result V DekuError → Standing (Option Stream) → Type 0) → Reader R → Result V DekuError → Reader R → Type 0
 ReadsWhereSound told m old r new = Unfailing (told old.source).health (told new.source).health
     → m (reader_state (told old.source).coming old.state) r (reader_state (told new.source).coming new.state)
+
+-- a call on a reader does what m says of what its source tells
+abbrev pub ReadsWhereTold : {R V : Type 0} → (R → SourceTold) → (Standing (Option Stream) → Result V DekuError → Standing (Option Stream) → Type 0) → Reader R → Result V DekuError → Reader R → Type 0
+ReadsWhereTold told m old r new = m (reader_state (told old.source).coming old.state) r (reader_state (told new.source).coming new.state)
 
 -- a call on a writer does what m says, where its sink tells of its failures and none comes
 abbrev pub WritesWhereSound : {W : Type 0} → (W → SinkTold) → (Standing Output → Result (Unit {0}) DekuError → Standing Output → Type 0) → Writer W → Result (Unit {0}) DekuError → Writer W → Type 0
@@ -75,6 +79,21 @@ LeavesBehind told fs old r new = (items : List Item) (bytes after : List ℕ) (c
 abbrev pub ReadsBackFrom : List Field → List ℕ → Result (ℕ × Vec Number) DekuError → Type 0
 ReadsBackFrom fs bytes r = (items : List Item) (after : List ℕ) → Begins fs items bytes after → total (map field_shape fs) < 2 ^ 64
     → MatchResult r (λ v. (v.0 ≡ total (map field_shape fs)) × (v.1.items ≡ values_of items)) (λ e. e ≡ Io OutOfMemory)
+
+-- what fields whose layouts are not refused found in a stream: these values, and this stream is left
+pub record HasFound (fs : List Field) (S : Stream) (c : ℕ) (values : List Number) (u : Standing (Option Stream)) : Type 0 where
+  pub allowed : All IsAllowedField fs
+  pub rest : Stream
+  pub read : Reads fs S values rest
+  pub stands : u ≡ Going (Some rest) (c + total (map field_shape fs))
+
+-- from any stream that is told, values that are answered are those that the fields read from it
+abbrev pub FindsAny : List Field → Standing (Option Stream) → Result (List Number) DekuError → Standing (Option Stream) → Type 0
+FindsAny fs s r u = (S : Stream) (c : ℕ) → s ≡ Going (Some S) c → IfOk r (λ ns. HasFound fs S c ns u)
+
+-- from any bytes, values that are answered are those that the fields read from them
+abbrev pub FindsIn : List Field → List ℕ → Result (ℕ × Vec Number) DekuError → Type 0
+FindsIn fs bytes r = IfOk r (λ v. All IsAllowedField fs × ((rest : Stream) × Reads fs (fresh bytes) v.1.items rest))
 
 -- ---- writing
 -- n bytes are not more than the room, where it is told

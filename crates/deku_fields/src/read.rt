@@ -5,7 +5,7 @@ ghost use Rattle.deku_bits.specs.Pieces.{total};
 ghost use Rattle.deku_bits.specs.ReaderCalls.{Reads, FetchesFor, NoneEarly};
 ghost use Rattle.deku_fields.specs.Items.{field_shape, field_width};
 ghost use Rattle.deku_fields.specs.ListCalls.{ListFrom, ReadsField, ReadsFields, ReadsVec, filling, items_of};
-ghost use Rattle.deku_fields.specs.Promise.{LeavesBehind, ReadsBack, ReadsBackVec, ReadsBackFrom, ReadsWhereSound};
+ghost use Rattle.deku_fields.specs.Promise.{FindsAny, FindsIn, LeavesBehind, ReadsBack, ReadsBackVec, ReadsBackFrom, ReadsWhereSound, ReadsWhereTold};
 
 use crate::list::{Field, Number};
 use deku::calls::{read_signed, read_unsigned};
@@ -32,6 +32,7 @@ pub fn read_list_into<R: Source>(
     requires { length out.old ≡ length fields.now }
     ensures meaning { Reads R.told (ReadsFields fields.now) reader.old (filling result out.new) reader.new }
     ensures values { ReadsWhereSound R.told (ReadsBack fields.now) reader.old (filling result out.new) reader.new }
+    ensures found { ReadsWhereTold R.told (FindsAny fields.now) reader.old (filling result out.new) reader.new }
     ensures behind { LeavesBehind R.told fields.now reader.old (filling result out.new) reader.new }
     ensures fetched { OnOk result (FetchesFor (total (map field_shape fields.now)) reader.old.state (R.told reader.old.source) (R.told reader.new.source)) }
     ensures early { NoneEarly reader.old.state reader.new.state }
@@ -70,6 +71,7 @@ pub fn read_list<R: Source>(
 ) -> Result<Vec<Number>, DekuError>
     ensures meaning { Reads R.told (ReadsVec fields.now) reader.old (items_of result) reader.new }
     ensures values { ReadsWhereSound R.told (ReadsBackVec fields.now) reader.old (items_of result) reader.new }
+    ensures found { ReadsWhereTold R.told (FindsAny fields.now) reader.old (items_of result) reader.new }
     ensures behind { LeavesBehind R.told fields.now reader.old (items_of result) reader.new }
     ensures fetched { OnOk result (FetchesFor (total (map field_shape fields.now)) reader.old.state (R.told reader.old.source) (R.told reader.new.source)) }
     ensures early { NoneEarly reader.old.state reader.new.state }
@@ -98,6 +100,7 @@ pub fn list_from_bytes(
 ) -> Result<(usize, Vec<Number>), DekuError>
     ensures meaning { ListFrom fields.now bytes.now result }
     ensures values { ReadsBackFrom fields.now bytes.now result }
+    ensures found { FindsIn fields.now bytes.now result }
     ensures fetched { IfOk result (λ v. (v.0 ≡ total (map field_shape fields.now)) × (v.0 ≤ 8 * length bytes.now)) }
 {
     let mut reader = Reader::new(alloc, Cursor::new(bytes));

@@ -7,3 +7,5 @@ mod items;
 mod list;
 #[cfg(test)]
 mod program;
+#[cfg(test)]
+mod rewriting;

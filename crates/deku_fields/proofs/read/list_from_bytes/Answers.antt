@@ -4,6 +4,7 @@ use Rattle.deku_fields.proofs.Sound.{sound_memory}
 use Rattle.deku.proofs.Containers.{starts_fresh, whole_source, new_source, counted_state}
 use Rattle.deku_fields.proofs.ReadBack.{back_ok, back_err, from_first}
 use Rattle.deku_bits.specs.Standings.{count_of}
+use Rattle.deku_bits.specs.Streams.{fresh}
 use Rattle.deku_fields.proofs.Fetching.{bits_found}
 use Rattle.deku_fields.proofs.read.list_from_bytes.Goals as goal
 
@@ -33,3 +34,9 @@ returns-in-Ok-clause-fetched c =
     let begin = starts_fresh _ c.args.bytes.now _ tells c.new-reader.ensures.state in
     bits_found c.args.fields.now _ c.args.bytes.now _ _ (whole_source c.read_list.new.reader.source) _ _ _ (unbroken refl refl c.in-Ok.ensures.meaning) (ap count_of begin)
     (counted_state (whole_source c.read_list.new.reader.source) c.read_list.new.reader.state c.bits_read.result c.bits_read.ensures) tells c.new-reader.ensures.state c.in-Ok.ensures.fetched
+
+pub returns-in-Ok-clause-found : goal.returns-in-Ok-clause-found
+returns-in-Ok-clause-found c =
+    let begin = starts_fresh _ c.args.bytes.now _ (ap whole_source c.new-reader.ensures.source ∙ new_source c.new.result _ c.new.ensures.inner c.new.ensures.position) c.new-reader.ensures.state in
+    let found = c.in-Ok.ensures.found (fresh c.args.bytes.now) 0 begin in
+    (found.allowed, (found.rest, found.read))

@@ -1,6 +1,7 @@
 use Rattle.std.proofs.Common.{◌≡◌, ◌∙◌, ◌++◌, length, take, drop, arith}
 use Rattle.std.proofs.lemmas.List.{take_at}
 use Rattle.deku_fields.proofs.ReadBack.{found, vec_back, left_behind}
+use Rattle.deku_fields.proofs.Finding.{vec_finds}
 use Rattle.deku_fields.proofs.read.read_list.Goals as goal
 
 pub returns-in-Ok-read_list_into-clause-meaning : goal.returns-in-Ok-read_list_into-clause-meaning
@@ -24,3 +25,9 @@ pub returns-in-Ok-read_list_into-clause-behind : goal.returns-in-Ok-read_list_in
 returns-in-Ok-read_list_into-clause-behind g c = λ items bytes after k calm begins stands tells room.
     left_behind c.args.fields.now _ _ _ _ _ items bytes after k begins stands tells room c.in-Ok-read_list_into.ensures.early
     (returns-in-Ok-read_list_into-clause-values g c calm)
+
+pub returns-in-Ok-read_list_into-clause-found : goal.returns-in-Ok-read_list_into-clause-found
+returns-in-Ok-read_list_into-clause-found g c = vec_finds c.args.fields.now _ _ (returns-in-Ok-read_list_into-clause-meaning g c)
+
+pub returns-in-Err-clause-found : goal.returns-in-Err-clause-found
+returns-in-Err-clause-found g c = vec_finds c.args.fields.now _ _ (returns-in-Err-clause-meaning g c)

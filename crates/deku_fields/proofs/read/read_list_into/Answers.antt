@@ -2,6 +2,7 @@ use Rattle.std.proofs.Common.{refl, inr, ◌∙◌, arith}
 use Rattle.std.proofs.lemmas.List.{length-set}
 use Rattle.deku_fields.proofs.Stepping.{early_on, started, field_read, field_refused, fields_read}
 use Rattle.deku_fields.proofs.ReadBack.{fields_back, left_behind}
+use Rattle.deku_fields.proofs.Finding.{finds_any}
 use Rattle.deku_fields.proofs.Fetching.{tally_none, tally_more, tally_whole}
 use Rattle.deku_fields.proofs.read.read_list_into.Goals as goal
 
@@ -37,3 +38,9 @@ returns-clause-behind g c = λ items bytes after k calm begins stands tells room
 
 pub returns-clause-fetched : goal.returns-clause-fetched
 returns-clause-fetched g c = tally_whole c.args.fields.now c.loop-place.place (g.R.Source.told c.args.reader.now.source) (g.R.Source.told c.loop-place.reader.source) c.args.reader.now.state c.loop-place.reader.state (omega arith) c.loop-place.invariant.3
+
+pub returns-clause-found : goal.returns-clause-found
+returns-clause-found g c = finds_any c.args.fields.now _ _ (returns-clause-meaning g c)
+
+pub returns-in-Err-clause-found : goal.returns-in-Err-clause-found
+returns-in-Err-clause-found g c = finds_any c.args.fields.now _ _ (returns-in-Err-clause-meaning g c)

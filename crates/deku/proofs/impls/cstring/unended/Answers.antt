@@ -1,11 +1,5 @@
-use Rattle.std.proofs.Common.{rules, arith, ◌≡◌, ◌<◌, ℕ, List, [], ◌∷◌, ◌++◌, length, codes, IfOk, IfErr, MatchOption, ◌+◌, ◌-◌, ◌*◌, ◌≤◌, ◌/◌, ◌%◌, Bool, true, false, nat_eq, nat_lt, slice_index_or, slice_set, bit_and, bit_or, Fits, w8, w32, w64, Bor, MutBor}
+use Rattle.std.proofs.Common.{arith}
 use Rattle.std.proofs.lemmas.Grind.{common_steps}
-use Rattle.std.specs.List.{Contains}
-use Rattle.deku_bits.specs.declared.error.DekuError.TheVariants.{Parse}
-use Rattle.deku_bits.specs.ReaderCalls.{Reads}
-use Rattle.deku_bits.specs.Faults.{Tells}
-use Rattle.deku_reading.specs.Lists.{Runs, on_value}
-use Rattle.deku.specs.Texts.{NoZeros, IsEnded, ReadsByte}
 use Rattle.deku.proofs.impls.cstring.unended.Goals as goal
 
 pub returns-clause-err : goal.returns-clause-err
