@@ -1,4 +1,4 @@
-//! Tuples: their items in order.
+//! Tuples: their items in order. One of three or more is written as its first item and the tuple of the rest.
 
 use crate::traits::DekuWriter;
 use deku_bits::device::Sink;
@@ -40,8 +40,7 @@ impl<Ctx: Copy, A: DekuWriter<Ctx>, B: DekuWriter<Ctx>, C: DekuWriter<Ctx>> Deku
     fn to_writer<W: Sink>(&self, writer: &mut Writer<W>, ctx: Ctx) -> Result<(), DekuError> {
         let (a, b, c) = self;
         a.to_writer(writer, ctx)?;
-        b.to_writer(writer, ctx)?;
-        c.to_writer(writer, ctx)
+        (b, c).to_writer(writer, ctx)
     }
 }
 
@@ -61,9 +60,7 @@ impl<
     fn to_writer<W: Sink>(&self, writer: &mut Writer<W>, ctx: Ctx) -> Result<(), DekuError> {
         let (a, b, c, d) = self;
         a.to_writer(writer, ctx)?;
-        b.to_writer(writer, ctx)?;
-        c.to_writer(writer, ctx)?;
-        d.to_writer(writer, ctx)
+        (b, c, d).to_writer(writer, ctx)
     }
 }
 
@@ -84,10 +81,7 @@ impl<
     fn to_writer<W: Sink>(&self, writer: &mut Writer<W>, ctx: Ctx) -> Result<(), DekuError> {
         let (a, b, c, d, e) = self;
         a.to_writer(writer, ctx)?;
-        b.to_writer(writer, ctx)?;
-        c.to_writer(writer, ctx)?;
-        d.to_writer(writer, ctx)?;
-        e.to_writer(writer, ctx)
+        (b, c, d, e).to_writer(writer, ctx)
     }
 }
 
@@ -109,11 +103,7 @@ impl<
     fn to_writer<W: Sink>(&self, writer: &mut Writer<W>, ctx: Ctx) -> Result<(), DekuError> {
         let (a, b, c, d, e, f) = self;
         a.to_writer(writer, ctx)?;
-        b.to_writer(writer, ctx)?;
-        c.to_writer(writer, ctx)?;
-        d.to_writer(writer, ctx)?;
-        e.to_writer(writer, ctx)?;
-        f.to_writer(writer, ctx)
+        (b, c, d, e, f).to_writer(writer, ctx)
     }
 }
 
@@ -136,12 +126,7 @@ impl<
     fn to_writer<W: Sink>(&self, writer: &mut Writer<W>, ctx: Ctx) -> Result<(), DekuError> {
         let (a, b, c, d, e, f, g) = self;
         a.to_writer(writer, ctx)?;
-        b.to_writer(writer, ctx)?;
-        c.to_writer(writer, ctx)?;
-        d.to_writer(writer, ctx)?;
-        e.to_writer(writer, ctx)?;
-        f.to_writer(writer, ctx)?;
-        g.to_writer(writer, ctx)
+        (b, c, d, e, f, g).to_writer(writer, ctx)
     }
 }
 
@@ -165,13 +150,7 @@ impl<
     fn to_writer<W: Sink>(&self, writer: &mut Writer<W>, ctx: Ctx) -> Result<(), DekuError> {
         let (a, b, c, d, e, f, g, h) = self;
         a.to_writer(writer, ctx)?;
-        b.to_writer(writer, ctx)?;
-        c.to_writer(writer, ctx)?;
-        d.to_writer(writer, ctx)?;
-        e.to_writer(writer, ctx)?;
-        f.to_writer(writer, ctx)?;
-        g.to_writer(writer, ctx)?;
-        h.to_writer(writer, ctx)
+        (b, c, d, e, f, g, h).to_writer(writer, ctx)
     }
 }
 
@@ -196,14 +175,7 @@ impl<
     fn to_writer<W: Sink>(&self, writer: &mut Writer<W>, ctx: Ctx) -> Result<(), DekuError> {
         let (a, b, c, d, e, f, g, h, i) = self;
         a.to_writer(writer, ctx)?;
-        b.to_writer(writer, ctx)?;
-        c.to_writer(writer, ctx)?;
-        d.to_writer(writer, ctx)?;
-        e.to_writer(writer, ctx)?;
-        f.to_writer(writer, ctx)?;
-        g.to_writer(writer, ctx)?;
-        h.to_writer(writer, ctx)?;
-        i.to_writer(writer, ctx)
+        (b, c, d, e, f, g, h, i).to_writer(writer, ctx)
     }
 }
 
@@ -229,15 +201,7 @@ impl<
     fn to_writer<W: Sink>(&self, writer: &mut Writer<W>, ctx: Ctx) -> Result<(), DekuError> {
         let (a, b, c, d, e, f, g, h, i, j) = self;
         a.to_writer(writer, ctx)?;
-        b.to_writer(writer, ctx)?;
-        c.to_writer(writer, ctx)?;
-        d.to_writer(writer, ctx)?;
-        e.to_writer(writer, ctx)?;
-        f.to_writer(writer, ctx)?;
-        g.to_writer(writer, ctx)?;
-        h.to_writer(writer, ctx)?;
-        i.to_writer(writer, ctx)?;
-        j.to_writer(writer, ctx)
+        (b, c, d, e, f, g, h, i, j).to_writer(writer, ctx)
     }
 }
 
@@ -264,15 +228,6 @@ impl<
     fn to_writer<W: Sink>(&self, writer: &mut Writer<W>, ctx: Ctx) -> Result<(), DekuError> {
         let (a, b, c, d, e, f, g, h, i, j, k) = self;
         a.to_writer(writer, ctx)?;
-        b.to_writer(writer, ctx)?;
-        c.to_writer(writer, ctx)?;
-        d.to_writer(writer, ctx)?;
-        e.to_writer(writer, ctx)?;
-        f.to_writer(writer, ctx)?;
-        g.to_writer(writer, ctx)?;
-        h.to_writer(writer, ctx)?;
-        i.to_writer(writer, ctx)?;
-        j.to_writer(writer, ctx)?;
-        k.to_writer(writer, ctx)
+        (b, c, d, e, f, g, h, i, j, k).to_writer(writer, ctx)
     }
 }

@@ -5,11 +5,5 @@ use Rattle.deku_writing.proofs.impls.tuple.Tuple4DekuWriter.to_writer.Goals as g
 pub returns-in_err-to_writer : goal.returns-in_err-to_writer
 returns-in_err-to_writer g c = passed_on _ c.from_residual.ensures.1 (first_refused c.in_err-to_writer.ensures)
 
-pub returns-in_err-to_writer-2 : goal.returns-in_err-to_writer-2
-returns-in_err-to_writer-2 g c = passed_on _ c.from_residual-in_err-to_writer-2.ensures.1 (then_on c.in_ok-to_writer.ensures (first_refused c.in_err-to_writer-2.ensures))
-
-pub returns-in_err-to_writer-3 : goal.returns-in_err-to_writer-3
-returns-in_err-to_writer-3 g c = passed_on _ c.from_residual-in_err-to_writer-3.ensures.1 (then_on c.in_ok-to_writer.ensures (then_on c.in_ok-to_writer-2.ensures (first_refused c.in_err-to_writer-3.ensures)))
-
 pub returns : goal.returns
-returns g c = then_on c.in_ok-to_writer.ensures (then_on c.in_ok-to_writer-2.ensures (then_on c.in_ok-to_writer-3.ensures c.to_writer-4.ensures))
+returns g c = then_on c.in_ok-to_writer.ensures c.to_writer-2.ensures
