@@ -67,46 +67,28 @@ fn take_list(
 ) -> Result<(), Fail> {
     match step {
         Step::Octets(stop, want) => {
-            let limit = stop.limit::<u8>();
-            expect_answer(
-                rt,
-                run,
-                step,
-                Vec::from_reader_with_ctx(reader, limit),
-                want,
-            )
+            let list = Vec::from_reader_with_ctx(reader, stop.limit::<u8>());
+            expect_answer(rt, run, step, list, want)
         }
         Step::Sized(stop, bits, want) => {
-            let ctx = (stop.limit::<u8>(), BitSize(*bits));
-            expect_answer(rt, run, step, Vec::from_reader_with_ctx(reader, ctx), want)
+            let list = Vec::from_reader_with_ctx(reader, (stop.limit::<u8>(), BitSize(*bits)));
+            expect_answer(rt, run, step, list, want)
         }
         Step::SizedLittle(stop, bits, want) => {
             let ctx = (stop.limit::<u8>(), (Little, BitSize(*bits)));
             expect_answer(rt, run, step, Vec::from_reader_with_ctx(reader, ctx), want)
         }
         Step::Wides(stop, want) => {
-            let ctx = (stop.limit::<u16>(), Big);
-            expect_answer(rt, run, step, Vec::from_reader_with_ctx(reader, ctx), want)
+            let list = Vec::from_reader_with_ctx(reader, (stop.limit::<u16>(), Big));
+            expect_answer(rt, run, step, list, want)
         }
         Step::Units(stop, want) => {
-            let limit = stop.limit::<()>();
-            expect_answer(
-                rt,
-                run,
-                step,
-                Vec::from_reader_with_ctx(reader, limit),
-                want,
-            )
+            let list = Vec::from_reader_with_ctx(reader, stop.limit::<()>());
+            expect_answer(rt, run, step, list, want)
         }
         Step::Hollows(stop, want) => {
-            let limit = stop.limit::<[u8; 0]>();
-            expect_answer(
-                rt,
-                run,
-                step,
-                Vec::from_reader_with_ctx(reader, limit),
-                want,
-            )
+            let list = Vec::from_reader_with_ctx(reader, stop.limit::<[u8; 0]>());
+            expect_answer(rt, run, step, list, want)
         }
         _ => take_place(rt, run, step, reader),
     }

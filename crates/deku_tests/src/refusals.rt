@@ -3,6 +3,12 @@
 use super::expecting::same;
 use deku::{DekuError, deku_error};
 
+// A call adds to the count.
+fn called(calls: &mut u8, by: u8) -> u8 {
+    *calls = calls.saturating_add(by);
+    *calls
+}
+
 #[test]
 fn names_a_refusal(rt: HostRuntime) {
     let mut calls: u8 = 0;
@@ -29,14 +35,8 @@ fn names_a_refusal(rt: HostRuntime) {
                 DekuError::Assertion,
                 "Field failed assertion",
                 "version {} of {}",
-                {
-                    calls = calls.saturating_add(1);
-                    calls
-                },
-                {
-                    calls = calls.saturating_add(10);
-                    calls
-                },
+                called(&mut calls, 1),
+                called(&mut calls, 10),
             ),
             failed,
         ),

@@ -51,42 +51,16 @@ fn of_truth_values_and_tuples(rt: HostRuntime) {
     expect_size::<(bool, u16, u32)>(&rt, "(bool, u16, u32)", Some(56), Some(7));
     expect_size::<(u8, u16, u32, u64)>(&rt, "(u8, u16, u32, u64)", Some(120), Some(15));
     expect_size::<(u8, u8, u8, u8, u128)>(&rt, "(u8, u8, u8, u8, u128)", Some(160), Some(20));
-    expect_size::<(i8, i16, i32, i64, i128, isize)>(
-        &rt,
-        "(i8, i16, i32, i64, i128, isize)",
-        Some(312),
-        Some(39),
-    );
-    expect_size::<(u8, u8, u8, u8, u8, u8, u8)>(
-        &rt,
-        "(u8, u8, u8, u8, u8, u8, u8)",
-        Some(56),
-        Some(7),
-    );
-    expect_size::<(u8, u8, u8, u8, u8, u8, u8, u8)>(
-        &rt,
-        "(u8, u8, u8, u8, u8, u8, u8, u8)",
-        Some(64),
-        Some(8),
-    );
-    expect_size::<(u8, u8, u8, u8, u8, u8, u8, u8, u8)>(
-        &rt,
-        "(u8, u8, u8, u8, u8, u8, u8, u8, u8)",
-        Some(72),
-        Some(9),
-    );
-    expect_size::<(u8, u8, u8, u8, u8, u8, u8, u8, u8, u8)>(
-        &rt,
-        "(u8, u8, u8, u8, u8, u8, u8, u8, u8, u8)",
-        Some(80),
-        Some(10),
-    );
-    expect_size::<(u8, u8, u8, u8, u8, u8, u8, u8, u8, u8, u8)>(
-        &rt,
-        "(u8, u8, u8, u8, u8, u8, u8, u8, u8, u8, u8)",
-        Some(88),
-        Some(11),
-    );
+    expect_size::<(i8, i16, i32, i64, i128, isize)>(&rt, "6 signed", Some(312), Some(39));
+}
+
+#[test]
+fn of_long_tuples(rt: HostRuntime) {
+    expect_size::<(u8, u8, u8, u8, u8, u8, u8)>(&rt, "7", Some(56), Some(7));
+    expect_size::<(u8, u8, u8, u8, u8, u8, u8, u8)>(&rt, "8", Some(64), Some(8));
+    expect_size::<(u8, u8, u8, u8, u8, u8, u8, u8, u8)>(&rt, "9", Some(72), Some(9));
+    expect_size::<(u8, u8, u8, u8, u8, u8, u8, u8, u8, u8)>(&rt, "10", Some(80), Some(10));
+    expect_size::<(u8, u8, u8, u8, u8, u8, u8, u8, u8, u8, u8)>(&rt, "11", Some(88), Some(11));
 }
 
 // What does not fit a usize together has no size.
