@@ -1,4 +1,5 @@
 pub use Rattle.deku_device.proofs.Parts
+pub use Rattle.deku_device.proofs.Wholes
 pub use Rattle.deku_device.proofs.Failures
 pub use Rattle.deku_device.proofs.Transfers
 pub use Rattle.deku_stream.proofs.Binary

@@ -1,5 +1,7 @@
 //! What a reader keeps beside its source, and how it takes bits.
 
+#![tactic(auto, using(deku_device::proofs::Wholes::onward_same))]
+
 ghost use Rattle.std.specs.Prelude.{◌≡◌, ◌≢◌, ℕ, ◌*◌, ◌^◌, ◌<◌, ◌≤◌, ◌⊎◌, ◌-◌, [], ◌∷◌, length, drop, IfOk, OnOk, IfErr};
 ghost use Rattle.std.specs.Io.KnownBytes.{Consumes};
 ghost use Rattle.std.specs.IoError.{error_kind};

@@ -1,5 +1,7 @@
 //! Leaving out bits, by a window and a source.
 
+#![tactic(auto, using(deku_device::proofs::Wholes::onward_same))]
+
 ghost use Rattle.std.specs.Prelude.{◌≡◌, ◌≢◌, ◌<◌, ◌≤◌, ◌^◌, ◌++◌, Bool, List, length, OnOk, IfErr};
 ghost use Rattle.std.specs.IoError.{error_kind};
 ghost use Rattle.deku_stream.specs.Bits.{facing};

@@ -1,8 +1,9 @@
 use Rattle.std.proofs.Common.{◌≡◌, ◌∙◌, min, length, arith}
-use Rattle.deku_stream.specs.Outcomes.{Quiet}
+use Rattle.deku_stream.specs.Outcomes.{Quiet, Counted}
 use Rattle.deku_device.proofs.Failures.{no_fewer_on, more_on}
 use Rattle.deku_reader.proofs.Moving.{admitted}
-use Rattle.deku_reader.proofs.Skips.{skips_early, skips_ok, skips_err}
+use Rattle.deku_reader.specs.ReaderCalls.{Skipping}
+use Rattle.deku_reader.proofs.Skips.{skips_early, skips_ok, skips_err, breaks}
 use Rattle.deku_reader.proofs.reader.progress.Progress.skip_bits.Goals as goal
 
 pub returns-in-Ok-clause-skips : goal.returns-in-Ok-clause-skips
@@ -40,3 +41,11 @@ returns-in-Err-drop_bits-clause-skips g c =
     (told c.args.source.now).health (told c.drop_bits.new.source).health _ _ c.self.invariant may.1 (rw inside at c.pop_bits.ensures) (rw inside at c.in_default.ensures.bytes)
     (rw inside at c.in-Err-drop_bits.ensures.wanted) (rw inside at c.fault_of-missing.ensures) (rw inside at c.in-Err-drop_bits.ensures.ended)
     (λ no. more_on _ _ _ c.pass_bytes.ensures.kept (c.in-Err-drop_bits.ensures.failed no)) (no_fewer_on _ _ _ c.pass_bytes.ensures.kept c.drop_bits.ensures.kept))
+
+pub returns-in-Err-clause-skips : goal.returns-in-Err-clause-skips
+returns-in-Err-clause-skips g c =
+    let p = c.self.inside in
+    let n = c.args.amt in
+    let may = admitted p.window p.fault p.bits_read n (rw (← c.self.view_is) at c.in_ok-admits.ensures) in
+    let at_end = c.self-in-Err.view_is ∙ c.stopped.ensures in
+    rw (← c.self.view_is, may.0, c.error.ensures, at_end) (breaks (Counted n (Skipping c.args.order n)) _ p.bits_read _ _ _ c.in-Err.ensures.failed)
