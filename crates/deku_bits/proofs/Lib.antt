@@ -37,3 +37,4 @@ pub use Rattle.deku_writer.proofs.Emits
 pub use Rattle.deku_writer.proofs.Lent
 pub use Rattle.deku_writer.proofs.WholeBytes
 pub mod WorkedRows
+pub mod WholeLaws

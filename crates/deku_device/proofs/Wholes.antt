@@ -95,13 +95,15 @@ over_slice : (a : List ℕ) (p : ℕ) (bytes : List ℕ) → (length (laid_over 
     × (drop (p + length (fitting a p bytes)) (laid_over a p (fitting a p bytes)) ≡ drop (p + length (fitting a p bytes)) a)
 over_slice a p bytes =
     let n : length (fitting a p bytes) ≡ min (length a - p) (length bytes) = length-take (length a - p) bytes in
-    let all : length (laid_over a p (fitting a p bytes)) ≡ length a = simp (length-append, length-take, length-drop) (omega arith) in
-    (all, ⊎_elim
-        (λ (past : length a < p). let none : length (fitting a p bytes) ≡ 0 = omega arith in
-            drop_all (p + length (fitting a p bytes)) (laid_over a p (fitting a p bytes)) (omega arith) ∙ sym (drop_all (p + length (fitting a p bytes)) a (omega arith)))
-        (λ (inside : p ≤ length a). let front : length (take p a ++ fitting a p bytes) ≡ p + length (fitting a p bytes) = length-append (take p a) (fitting a p bytes) ∙ ap (λ k. k + length (fitting a p bytes)) (length-take-le p a inside) in
-            drop_at (take p a ++ fitting a p bytes) (drop (p + length (fitting a p bytes)) a) (p + length (fitting a p bytes)) front)
-        (cases_lt (length a) p))
+    let all : length (laid_over a p (fitting a p bytes)) ≡ length a = simp (length-append, length-take, length-drop) (omega arith) in (
+      all,
+      ⊎_elim
+          (λ (past : length a < p). let none : length (fitting a p bytes) ≡ 0 = omega arith in
+          drop_all (p + length (fitting a p bytes)) (laid_over a p (fitting a p bytes)) (omega arith) ∙ sym (drop_all (p + length (fitting a p bytes)) a (omega arith)))
+          (λ (inside : p ≤ length a). let front : length (take p a ++ fitting a p bytes) ≡ p + length (fitting a p bytes) = length-append (take p a) (fitting a p bytes) ∙ ap (λ k. k + length (fitting a p bytes)) (length-take-le p a inside) in
+          drop_at (take p a ++ fitting a p bytes) (drop (p + length (fitting a p bytes)) a) (p + length (fitting a p bytes)) front)
+          (cases_lt (length a) p),
+    )
 
 -- as many bytes as fit were laid over a slice
 pub slice_onward : (a b : List ℕ) (p q : ℕ) (bytes : List ℕ) → b ≡ laid_over a p (fitting a p bytes) → q ≡ p + length (fitting a p bytes)
@@ -127,9 +129,9 @@ reached a p =
 behind_reached : (a : List ℕ) (p n : ℕ) → drop (p + n) (reaching p a) ≡ drop (p + n) a
 behind_reached a p n = ⊎_elim
     (λ (past : length a < p). let m : length (reaching p a) ≤ p + n = simp (length-append, length-replicate) (omega arith) in
-        drop_all (p + n) (reaching p a) m ∙ sym (drop_all (p + n) a (omega arith)))
+    drop_all (p + n) (reaching p a) m ∙ sym (drop_all (p + n) a (omega arith)))
     (λ (inside : p ≤ length a). let none : p - length a ≡ 0 = omega arith in
-        ap (λ k. drop (p + n) (a ++ replicate k 0)) none ∙ ap (drop (p + n)) (append-nil a))
+    ap (λ k. drop (p + n) (a ++ replicate k 0)) none ∙ ap (drop (p + n)) (append-nil a))
     (cases_lt (length a) p)
 
 -- bytes were laid over a vector
@@ -140,7 +142,7 @@ vector_onward a b p q bytes e n =
     let front : length (take p (reaching p a) ++ bytes) ≡ p + length bytes = length-append (take p (reaching p a)) bytes ∙ ap (λ k. k + length bytes) (r.0) in
     let tail : List ℕ = drop (p + length bytes) (reaching p a) in
     let back : drop (p + length bytes) (laid_over (reaching p a) p bytes) ≡ drop (p + length bytes) a =
-        drop_at (take p (reaching p a) ++ bytes) tail (p + length bytes) front ∙ behind_reached a p (length bytes) in
+    drop_at (take p (reaching p a) ++ bytes) tail (p + length bytes) front ∙ behind_reached a p (length bytes) in
     inr (record {
       access = refl;
       place = omega arith;
