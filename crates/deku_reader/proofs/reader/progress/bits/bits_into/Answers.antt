@@ -1,4 +1,4 @@
-use Rattle.std.proofs.Common.{◌≡◌, ◌+◌, ◌-◌, ◌*◌, length, take, arith, sym, subst}
+use Rattle.std.proofs.Common.{◌≡◌, ◌+◌, ◌-◌, ◌*◌, length, take, arith, ap, ◌∙◌, sym, subst}
 use Rattle.std.proofs.lemmas.List.{length-take}
 use Rattle.std.proofs.lemmas.Result.{err_from_is_err_and}
 use Rattle.deku_stream.specs.Moving.{Moves}
@@ -36,6 +36,9 @@ loop-run-preserved g c =
       moved = subst (λ s. Moves c.args.order c.args.window.now (told c.args.source.now).coming s c.run_into.new.window (told c.run_into.new.source).coming) (sym done)
           (moves_more c.args.order c.args.window.now (told c.args.source.now).coming (take from dst) c.loop-run.window (told c.loop-run.source).coming
           new c.run_into.new.window (told c.run_into.new.source).coming c.loop-run.invariant.moved c.in_ok-run_into.ensures.moved);
+      still = λ le.
+          let window = (c.loop-run.invariant.none (omega arith)).0 in
+          c.run_into.ensures.inside (omega (arith, le, part-length dst from to (omega arith), ap length window)) ∙ c.loop-run.invariant.still le;
       kept = no_fewer_on _ _ _ c.loop-run.invariant.kept c.run_into.ensures.kept;
     }
 
