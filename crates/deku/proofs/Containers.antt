@@ -15,7 +15,8 @@ use Rattle.deku_bits.specs.declared.error.DekuError.TheVariants.{Incomplete, Io}
 use Rattle.deku_bits.specs.Bits.{bits_in}
 use Rattle.deku_bits.specs.Streams.{Stream, fresh, normal}
 use Rattle.deku_bits.specs.Writers.{Pending, Nothing, append, pending_bits}
-use Rattle.deku_bits.specs.Devices.{Health, SinkTold, bytes_before}
+use Rattle.deku_bits.specs.Devices.{Health, Whole, SinkTold, bytes_before}
+use Rattle.deku_bits.specs.Cursors.{slice_whole, vector_whole}
 use Rattle.deku_bits.specs.Standings.{Standing, Going, Stopped, Output, count_of, reader_state, writer_state}
 use Rattle.deku_bits.specs.Outcomes.{Meaning}
 use Rattle.deku_bits.specs.WriterCalls.{Finalizes, WritesBits, pending_of}
@@ -42,13 +43,13 @@ place_of k = cursor_position k
 abbrev pub items_in : Vec ℕ → List ℕ
 items_in v = v.items
 
--- a device that tells that it does not fail
-abbrev pub steady : Health
-steady = record { failures = Some 0; lenders = [] }
+-- a device that tells that it does not fail, and all its bytes
+abbrev pub steady : Option Whole → Health
+steady w = record { failures = Some 0; lenders = []; whole = w }
 
 -- what a cursor over a vector tells
 abbrev pub tells : Cursor (Vec ℕ) → SinkTold
-tells k = record { taken = before k; room = None; health = steady }
+tells k = record { taken = before k; room = None; health = steady (vector_whole k) }
 
 -- the bytes before a place, where they are told
 pub before_is : (place : ℕ) (xs bytes : List ℕ) → bytes_before place xs ≡ Some bytes → take place xs ≡ bytes
@@ -140,7 +141,7 @@ abbrev pub tells_over : Cursor (MutBor (List ℕ)) → SinkTold
 tells_over k = record {
   taken = bytes_before (cursor_position k) (cursor_inner k).now;
   room = Some (drop (cursor_position k) (cursor_inner k).now);
-  health = by_name (cursor_inner k).ghost_name steady;
+  health = by_name (cursor_inner k).ghost_name (steady (slice_whole k));
 }
 
 abbrev pub place_over : Cursor (MutBor (List ℕ)) → ℕ

@@ -1,4 +1,5 @@
 pub use Rattle.deku_device.proofs.Parts
+pub use Rattle.deku_device.proofs.Wholes
 pub use Rattle.deku_device.proofs.Failures
 pub use Rattle.deku_device.proofs.Transfers
 pub use Rattle.deku_stream.proofs.Binary
@@ -36,3 +37,4 @@ pub use Rattle.deku_writer.proofs.Emits
 pub use Rattle.deku_writer.proofs.Lent
 pub use Rattle.deku_writer.proofs.WholeBytes
 pub mod WorkedRows
+pub mod WholeLaws

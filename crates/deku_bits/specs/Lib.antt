@@ -15,3 +15,4 @@ pub use Rattle.deku_reader.specs.ReaderCalls
 pub use Rattle.deku_writer.specs.Pushing
 pub use Rattle.deku_writer.specs.WriterCalls
 pub mod Rows
+pub mod Wholes

@@ -6,6 +6,7 @@ ghost use Rattle.deku_reader.specs.ReaderCalls.{FetchLaw, SkipReadLaw, BytesLaw}
 ghost use Rattle.deku_stream.specs.Pieces.{LengthLaw};
 ghost use Rattle.deku_stream.specs.Writers.{AppendLaw, CountLaw};
 ghost use Rattle.deku_stream.specs.Symmetry.{WriteLaw, ReadLaw, RewriteLaw, CallsLaw};
+ghost use Rattle.deku_bits.specs.Wholes.{WholeLaw, PlainLaw};
 ghost use Rattle.deku_bits.specs.Rows.{ReadRows, SkipRows, ShortRows, WriteRows};
 
 /// A read of a stream is a read of its normal form, where a peeked byte is put back.
@@ -111,4 +112,14 @@ pub fn short_rows()
 /// Worked examples of writing bits.
 pub fn write_rows()
     ensures { WriteRows }
+{}
+
+/// After transfers a device that tells all its bytes holds what it took, and behind that what it held.
+pub fn whole_law()
+    ensures { WholeLaw }
+{}
+
+/// Bytes are written as they are where nothing is pending, and read as they are where no byte is begun.
+pub fn plain_law()
+    ensures { PlainLaw }
 {}

@@ -17,3 +17,5 @@ mod streams;
 mod taken;
 #[cfg(test)]
 mod words;
+#[cfg(test)]
+mod worked;

@@ -20,4 +20,6 @@ mod streams;
 #[cfg(test)]
 mod words;
 #[cfg(test)]
+mod worked;
+#[cfg(test)]
 mod writer;

@@ -1,3 +1,4 @@
 pub mod Parts
+pub mod Wholes
 pub mod Failures
 pub mod Transfers

@@ -1,9 +1,9 @@
 -- What a sink took over several calls, and what room it has then.
-use Rattle.std.proofs.Common.{◌≡◌, ℕ, ◌+◌, ◌-◌, ◌≤◌, List, [], ◌++◌, length, drop, refl, ap, ◌∙◌, arith, length-append, length-drop, drop-drop, Option, Some, None}
+use Rattle.std.proofs.Common.{◌≡◌, ℕ, ◌+◌, ◌-◌, ◌≤◌, List, [], ◌++◌, length, drop, refl, ap, ◌∙◌, arith, length-append, length-drop, drop-drop, Option, Some, None, inl, inr}
 use Rattle.std.proofs.KnownBytes.{Appends-nil, Appends-trans}
 use Rattle.std.specs.declared.io.ErrorKind.{ErrorKind}
-use Rattle.deku_device.specs.Devices.{SinkTold, Shrinks, LacksRoom, Gave}
-use Rattle.deku_device.proofs.Failures.{no_fewer_same, no_fewer_on}
+use Rattle.deku_device.specs.Devices.{SinkTold, Shrinks, LacksRoom, Gave, Declined}
+use Rattle.deku_device.proofs.Failures.{no_fewer_same, no_fewer_on, more_on}
 
 -- ---- room
 pub Shrinks-none : (a : Option (List ℕ)) → Shrinks a a 0
@@ -39,4 +39,21 @@ Gave-trans a b c xs ys p q = record {
   taken = Appends-trans a.taken b.taken c.taken xs ys p.taken q.taken;
   room = rw length-append (Shrinks-trans a.room b.room c.room (length xs) (length ys) p.room q.room);
   health = no_fewer_on a.health b.health c.health p.health q.health;
+}
+
+-- bytes were taken, and then not all of n bytes
+pub Declined-after : (a b c : SinkTold) (xs : List ℕ) (n : ℕ) (k : ErrorKind) → Gave a b xs → Declined b c n k → Declined a c (length xs + n) k
+Declined-after a b c xs n k p q = record {
+  cause = elim q.cause [
+    | inl r ↦ inl (more_on a.health b.health c.health p.health r)
+    | inr r ↦ inr (LacksRoom-after a.room b.room (length xs) n k p.room r)
+  ];
+  health = no_fewer_on a.health b.health c.health p.health q.health;
+}
+
+-- where more bytes were to be taken
+pub Declined-more : (a b : SinkTold) (m n : ℕ) (k : ErrorKind) → m ≤ n → Declined a b m k → Declined a b n k
+Declined-more a b m n k l q = record {
+  cause = elim q.cause [ inl r ↦ inl r | inr r ↦ inr (LacksRoom-more a.room m n k l r) ];
+  health = q.health;
 }

@@ -6,17 +6,37 @@ use Rattle.std.specs.Io.Cursor.{cursor_remaining, cursor_position, cursor_inner}
 use Rattle.std.specs.declared.io.Cursor.{Cursor}
 use Rattle.deku_device.specs.declared.probe.FailAt.{FailAt}
 use Rattle.deku_device.specs.declared.probe.trickle.Trickle.{Trickle}
-use Rattle.deku_device.specs.Devices.{SourceTold, SinkTold, bytes_before}
+use Rattle.deku_device.specs.Devices.{SourceTold, SinkTold, Whole, ReadOnly, Overwritten, Grows, bytes_before}
 
 -- the bytes from the place on, where all bytes are known
 pub cursor_told : {T : Type 0} (bytes : T → Option (List ℕ)) (c : Cursor T) (at : ℕ) (all : List ℕ) → Some (cursor_position c) ≡ Some at → bytes (cursor_inner c) ≡ Some all → cursor_remaining bytes c ≡ Some (drop at all)
 cursor_told bytes c at all p q = rw q (cc)
 
+-- all bytes of a cursor that is read, where they are known
+abbrev pub read_whole : ℕ → Option (List ℕ) → Option Whole
+read_whole at None = None
+read_whole at (Some all) = Some (record { place = at; bytes = all; access = ReadOnly })
+
+-- all bytes of a cursor over a slice that is written
+abbrev pub slice_whole : Cursor (MutBor (List ℕ)) → Option Whole
+slice_whole c = Some (record { place = cursor_position c; bytes = (cursor_inner c).now; access = Overwritten })
+
+-- all bytes of a cursor over a vector that is written
+abbrev pub vector_whole : Cursor (Vec ℕ) → Option Whole
+vector_whole c = Some (record { place = cursor_position c; bytes = (cursor_inner c).items; access = Grows })
+
+-- what a cursor over bytes tells, where they are known
+abbrev pub cursor_source : {T : Type 0} → (T → Option (List ℕ)) → Cursor T → SourceTold
+cursor_source bytes c = record {
+  coming = cursor_remaining bytes c;
+  health = record { failures = Some 0; lenders = []; whole = read_whole (cursor_position c) (bytes (cursor_inner c)) };
+}
+
 -- what a source that gives one byte at a time tells
 abbrev pub trickling : Trickle → SourceTold
 trickling s = record {
   coming = cursor_remaining (λ b. Some b.now) s.inner;
-  health = record { failures = Some 0; lenders = [] };
+  health = record { failures = Some 0; lenders = []; whole = read_whole (cursor_position s.inner) (Some (cursor_inner s.inner).now) };
 }
 
 -- how many calls failed, where so many are left up to the one that fails
@@ -28,7 +48,7 @@ failures_at (suc n) = 0
 abbrev pub failing_source : {B : Type 0} → (B → Option (List ℕ)) → FailAt B → SourceTold
 failing_source bytes s = record {
   coming = cursor_remaining bytes s.inner;
-  health = record { failures = Some (failures_at s.left); lenders = [] };
+  health = record { failures = Some (failures_at s.left); lenders = []; whole = read_whole (cursor_position s.inner) (bytes (cursor_inner s.inner)) };
 }
 
 -- what a sink that fails once tells
@@ -36,7 +56,7 @@ abbrev pub failing_sink : FailAt (MutBor (List ℕ)) → SinkTold
 failing_sink s = record {
   taken = bytes_before (cursor_position s.inner) (cursor_inner s.inner).now;
   room = Some (drop (cursor_position s.inner) (cursor_inner s.inner).now);
-  health = record { failures = Some (failures_at s.left); lenders = (cursor_inner s.inner).ghost_name ∷ [] };
+  health = record { failures = Some (failures_at s.left); lenders = (cursor_inner s.inner).ghost_name ∷ []; whole = slice_whole s.inner };
 }
 
 -- what a cursor over a slice tells: the bytes before its place, and its room by those behind
@@ -44,7 +64,7 @@ abbrev pub slice_told : Cursor (MutBor (List ℕ)) → SinkTold
 slice_told c = record {
   taken = bytes_before (cursor_position c) (cursor_inner c).now;
   room = Some (drop (cursor_position c) (cursor_inner c).now);
-  health = record { failures = Some 0; lenders = (cursor_inner c).ghost_name ∷ [] };
+  health = record { failures = Some 0; lenders = (cursor_inner c).ghost_name ∷ []; whole = slice_whole c };
 }
 
 -- what a cursor over a vector tells: the bytes before its place; its room is what memory is found
@@ -52,7 +72,7 @@ abbrev pub vector_told : Cursor (Vec ℕ) → SinkTold
 vector_told c = record {
   taken = bytes_before (cursor_position c) (cursor_inner c).items;
   room = None;
-  health = record { failures = Some 0; lenders = [] };
+  health = record { failures = Some 0; lenders = []; whole = vector_whole c };
 }
 
 -- bytes with others laid over those from a place on

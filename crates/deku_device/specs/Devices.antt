@@ -1,14 +1,28 @@
 -- What sources and sinks tell of themselves, and what a transfer does to it.
-use Rattle.std.specs.Prelude.{◌≡◌, ◌⊎◌, ℕ, ◌<◌, ◌≤◌, List, length, drop, take, Option, None, Some, ⊤, nat_le, if◌then◌else◌}
+use Rattle.std.specs.Prelude.{◌≡◌, ◌⊎◌, ℕ, ◌<◌, ◌≤◌, List, [], ◌++◌, length, drop, take, Option, None, Some, ⊤, nat_le, if◌then◌else◌}
 use Rattle.std.specs.Borrow.{GName}
 use Rattle.std.specs.Io.KnownBytes.{Appends}
 use Rattle.std.specs.declared.io.ErrorKind.{ErrorKind}
 use Rattle.std.specs.declared.io.ErrorKind.TheVariants.{WriteZero, OutOfMemory}
 
--- how many calls failed, where that is told, and the names of the references on the way to the device
+-- how transfers may change the bytes of a device: not at all, those that are there, or as many as there are bytes given
+pub data Access : Type 0 where
+  ReadOnly : Access
+  Overwritten : Access
+  Grows : Access
+
+-- all bytes of a device, its place among them, and how transfers may change them
+pub record Whole : Type 0 where
+  pub place : ℕ
+  pub bytes : List ℕ
+  pub access : Access
+
+-- what every call keeps up: how many calls failed, where that is told, the names of the references on the way to the device, and all of
+-- its bytes, where they are known
 pub record Health : Type 0 where
   pub failures : Option ℕ
   pub lenders : List GName
+  pub whole : Option Whole
 
 -- what a source tells: the bytes to come, where they are known
 pub record SourceTold : Type 0 where
@@ -33,17 +47,51 @@ More None new = ⊤
 More (Some m) None = ⊥
 More (Some m) (Some n) = m < n
 
--- no failure is forgotten, and the references stay
+-- what a transfer leaves of the bytes
+abbrev pub Changes : Access → List ℕ → List ℕ → Type 0
+Changes ReadOnly old new = new ≡ old
+Changes Overwritten old new = length new ≡ length old
+Changes Grows old new = ⊤
+
+-- a transfer goes on from its place: the bytes in front of it stay, and so do those behind the new place
+pub record Onward (old new : Whole) : Type 0 where
+  pub access : new.access ≡ old.access
+  pub place : old.place ≤ new.place
+  pub front : (rest : List ℕ) × (new.bytes ≡ take old.place old.bytes ++ rest)
+  pub back : drop new.place new.bytes ≡ drop new.place old.bytes
+  pub size : Changes old.access old.bytes new.bytes
+
+-- bytes that are told stay told, and a transfer goes on from its place
+abbrev pub Transferred : Option Whole → Option Whole → Type 0
+Transferred None new = ⊤
+Transferred (Some w) None = ⊥
+Transferred (Some w) (Some v) = Onward w v
+
+-- nothing moved, or a transfer went on
+abbrev pub GoesOnward : Option Whole → Option Whole → Type 0
+GoesOnward old new = (new ≡ old) ⊎ Transferred old new
+
+-- no failure is forgotten, the references stay, and the bytes beside those transferred
 pub record NoFewerFailures (old new : Health) : Type 0 where
   pub failures : NotFewer old.failures new.failures
   pub lenders : new.lenders ≡ old.lenders
+  pub whole : GoesOnward old.whole new.whole
 
--- a call failed, and the references stay
+-- a call failed, the references stay, and the bytes beside those transferred
 pub record MoreFailures (old new : Health) : Type 0 where
   pub failures : More old.failures new.failures
   pub lenders : new.lenders ≡ old.lenders
+  pub whole : GoesOnward old.whole new.whole
+
+-- a device of which nothing is known
+abbrev pub unknown : Health
+unknown = record { failures = None; lenders = []; whole = None }
 
 -- ---- sources
+-- a source that tells nothing
+abbrev pub untold_source : SourceTold
+untold_source = record { coming = None; health = unknown }
+
 -- bytes that are told are fewer than n
 abbrev pub FewerThan : ℕ → Option (List ℕ) → Type 0
 FewerThan n None = ⊤
@@ -67,6 +115,10 @@ StaysEmpty None new = ⊤
 StaysEmpty (Some bs) new = length bs ≡ 0 → new ≡ Some bs
 
 -- ---- sinks
+-- a sink that tells nothing
+abbrev pub untold_sink : SinkTold
+untold_sink = record { taken = None; room = None; health = unknown }
+
 -- the bytes before a place, where the place is not past the end
 abbrev pub bytes_before : ℕ → List ℕ → Option (List ℕ)
 bytes_before place bytes = if nat_le place (length bytes) then Some (take place bytes) else None

@@ -1,7 +1,9 @@
 -- What a seek does to a count, and which seeks lead nowhere.
-use Rattle.std.specs.Prelude.{◌≡◌, ℕ, zero, suc, ◌+◌, ◌*◌, ◌-◌, ◌^◌, min, pos, negsuc}
+use Rattle.std.specs.Prelude.{◌≡◌, ◌⊎◌, ⊤, ℕ, ℤ, zero, suc, ◌+◌, ◌*◌, ◌-◌, ◌^◌, ◌<◌, ◌≤◌, min, pos, negsuc, List, length, drop, Option, None, Some, Result, Ok, Err, IfOk, IfErr, IfSome}
+use Rattle.std.specs.Io.Seek.{IsSeekTarget}
 use Rattle.std.specs.declared.io.SeekFrom.{SeekFrom}
 use Rattle.std.specs.declared.io.SeekFrom.TheVariants.{Start, End, Current}
+use Rattle.deku_device.specs.Devices.{Access, ReadOnly, Overwritten, Grows, Whole, Health, NotFewer, More, SourceTold, SinkTold, bytes_before}
 
 -- the count after a seek that succeeds: from the start that of the bytes before the place, from the place in front what is left out more, and else the same
 abbrev pub count_after : SeekFrom → ℕ → ℕ
@@ -16,6 +18,57 @@ abbrev pub IsHere : ℕ → SeekFrom → Type 0
 IsHere at (Start n) = n ≡ at
 IsHere at (End offset) = ⊥
 IsHere at (Current offset) = offset ≡ pos 0
+
+-- no place is so far from this one
+abbrev pub NoPlace : ℕ → ℤ → Type 0
+NoPlace at (pos n) = 2 ^ 64 ≤ at + n
+NoPlace at (negsuc n) = at < n + 1
+
+-- a seek leads in front of the first byte, or further than a `u64` counts
+abbrev pub LeadsNowhere : Whole → SeekFrom → Type 0
+LeadsNowhere w (Start n) = ⊥
+LeadsNowhere w (End offset) = NoPlace (length w.bytes) offset
+LeadsNowhere w (Current offset) = NoPlace w.place offset
+
+-- where bytes are, and the place that a seek answers; or the old place, where it is refused
+abbrev pub at_place : {E : Type 0} → Whole → Result ℕ E → Whole
+at_place w (Ok n) = record w { place = n }
+at_place w (Err e) = w
+
+-- bytes that are told stay, at the place that the seek answers
+abbrev pub Lands : {E : Type 0} → Option Whole → Option Whole → Result ℕ E → Type 0
+Lands None new r = ⊤
+Lands (Some w) new r = new ≡ Some (at_place w r)
+
+-- a seek: no failure is forgotten, the references stay, and all bytes, at the place that it answers, which is its target
+pub record Seeks {E : Type 0} (old new : Health) (to : SeekFrom) (r : Result ℕ E) : Type 0 where
+  pub failures : NotFewer old.failures new.failures
+  pub lenders : new.lenders ≡ old.lenders
+  pub whole : Lands old.whole new.whole r
+  pub target : IfSome old.whole (λ w. IfOk r (IsSeekTarget w.place (Some w.bytes) to))
+
+-- where all bytes are told, a seek is refused only where it leads nowhere, or where a call fails
+abbrev pub RefusedSeek : {E : Type 0} → Health → Health → SeekFrom → Result ℕ E → Type 0
+RefusedSeek old new to r = IfSome old.whole (λ w. IfErr r (λ e. LeadsNowhere w to ⊎ More old.failures new.failures))
+
+-- what a seek to n answers, where only its success is told
+abbrev pub toward : {E : Type 0} → ℕ → Result (Unit {0}) E → Result ℕ E
+toward n (Ok u) = Ok n
+toward n (Err e) = Err e
+
+-- where all bytes are told, those from the place on are to come
+abbrev pub ComesFrom : {E : Type 0} → Option Whole → Result ℕ E → SourceTold → Type 0
+ComesFrom w r told = IfSome w (λ w. IfOk r (λ n. told.coming ≡ Some (drop n w.bytes)))
+
+-- the room by the bytes behind a place, but for what grows
+abbrev pub room_at : Access → ℕ → List ℕ → Option (List ℕ)
+room_at Grows at all = None
+room_at Overwritten at all = Some (drop at all)
+room_at ReadOnly at all = Some (drop at all)
+
+-- where all bytes are told, those before the place are taken, and those behind lie in the room
+abbrev pub StandsAt : {E : Type 0} → Option Whole → Result ℕ E → SinkTold → Type 0
+StandsAt w r told = IfSome w (λ w. IfOk r (λ n. (told.taken ≡ bytes_before n w.bytes) × (told.room ≡ room_at w.access n w.bytes)))
 
 -- a place, n bytes further on, as far as a `u64` counts
 abbrev pub place_on : ℕ → ℕ → ℕ

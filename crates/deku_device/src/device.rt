@@ -1,13 +1,17 @@
 //! What a reader takes its bytes from, and what a writer gives them to.
 
+#![tactic(auto, using(crate::proofs::Wholes::onward_same, crate::proofs::Wholes::read_onward, crate::proofs::Wholes::nowhere, crate::proofs::Wholes::slice_onward, crate::proofs::Wholes::vector_onward))]
+
 ghost use Rattle.std.specs.Prelude.{◌≡◌, ◌≢◌, ℕ, ◌^◌, ◌<◌, ◌≤◌, ◌+◌, ◌-◌, ◌++◌, ◌∷◌, min, List, [], length, take, drop, Option, Some, None, OnOk, OnErr, IsOk, IfErr, IsTrue, IsFalse};
-ghost use Rattle.std.specs.Io.KnownBytes.{Consumes};
+ghost use Rattle.std.specs.Io.KnownBytes.{Consumes, Keeps};
 ghost use Rattle.std.specs.Io.Cursor.{cursor_position, cursor_inner, cursor_remaining};
 ghost use Rattle.std.specs.IoError.{error_kind};
-ghost use Rattle.deku_device.specs.Devices.{SourceTold, SinkTold, NoFewerFailures, MoreFailures, FewerThan, Passes, StaysEmpty, bytes_before, Gave, Declined};
-ghost use Rattle.deku_device.specs.Cursors.{cursor_told, slice_told, vector_told, laid_over, fitting, reaching};
-ghost use Rattle.deku_device.specs.Seeking.{place_on};
+ghost use Rattle.std.specs.Io.Seek.{SeekMoves};
+ghost use Rattle.deku_device.specs.Devices.{SourceTold, SinkTold, untold_source, untold_sink, NoFewerFailures, MoreFailures, FewerThan, Passes, StaysEmpty, bytes_before, Gave, Declined};
+ghost use Rattle.deku_device.specs.Cursors.{cursor_told, cursor_source, slice_told, vector_told, laid_over, fitting, reaching};
+ghost use Rattle.deku_device.specs.Seeking.{place_on, Seeks, RefusedSeek, ComesFrom, StandsAt};
 
+use std::alloc::AllocError;
 use std::fs::File;
 use std::io;
 use std::io::{AsBytes, Cursor, Error, ErrorKind, Read, Seek, SeekFrom, Write};
@@ -37,6 +41,16 @@ pub trait Source: Read + Seek {
         ensures failed { IfErr result (λ e. MoreFailures (told self.old).health (told self.new).health) }
         ensures kept { NoFewerFailures (told self.old).health (told self.new).health };
 
+    /// Seeks, as `seek` does.
+    ///
+    /// Where all bytes are told, it leads to its target and is refused only where there is none or the device fails.
+    fn go(&mut self, to: SeekFrom) -> io::Result<u64>
+        ensures moves { SeekMoves (Self.stream_position self.old) (Self.stream_position self.new) (Self.stream_bytes self.old) to result }
+        ensures all { Keeps (Self.stream_bytes self.old) (Self.stream_bytes self.new) }
+        ensures sought { Seeks (told self.old).health (told self.new).health to result }
+        ensures refused { RefusedSeek (told self.old).health (told self.new).health to result }
+        ensures coming { ComesFrom (told self.old).health.whole result (told self.new) };
+
     // Where all its bytes and its place among them are known, it tells those from there on.
     ghost told_by_place: { (s : Self) (at : ℕ) (all : List ℕ) → Self.stream_position s ≡ Some at → Self.stream_bytes s ≡ Some all → (told s).coming ≡ Some (drop at all) };
 }
@@ -53,12 +67,22 @@ pub trait Sink: Write + Seek {
     fn give(&mut self, bytes: &[u8]) -> io::Result<()>
         ensures ok { OnOk result (Gave (told self.old) (told self.new) bytes.now) }
         ensures err { IfErr result (λ e. Declined (told self.old) (told self.new) (length bytes.now) (error_kind e)) };
+
+    /// Seeks, as `seek` does.
+    ///
+    /// Where all bytes are told, it leads to its target and is refused only where there is none or the device fails.
+    fn go(&mut self, to: SeekFrom) -> io::Result<u64>
+        ensures moves { SeekMoves (Self.stream_position self.old) (Self.stream_position self.new) (Self.stream_bytes self.old) to result }
+        ensures all { Keeps (Self.stream_bytes self.old) (Self.stream_bytes self.new) }
+        ensures sought { Seeks (told self.old).health (told self.new).health to result }
+        ensures refused { RefusedSeek (told self.old).health (told self.new).health to result }
+        ensures stands { StandsAt (told self.old).health.whole result (told self.new) };
 }
 
 impl<S: Source> Source for &mut S {
     ghost told = { λ s. record {
       coming = (S.told s.now).coming;
-      health = record { failures = (S.told s.now).health.failures; lenders = s.ghost_name ∷ (S.told s.now).health.lenders };
+      health = record { failures = (S.told s.now).health.failures; lenders = s.ghost_name ∷ (S.told s.now).health.lenders; whole = (S.told s.now).health.whole };
     } };
 
     ghost told_by_place = { λ s. S.told_by_place s.now };
@@ -70,23 +94,31 @@ impl<S: Source> Source for &mut S {
     fn pass(&mut self, n: u64) -> io::Result<()> {
         Source::pass(&mut **self, n)
     }
+
+    fn go(&mut self, to: SeekFrom) -> io::Result<u64> {
+        Source::go(&mut **self, to)
+    }
 }
 
 impl<S: Sink> Sink for &mut S {
     ghost told = { λ s. record {
       taken = (S.told s.now).taken;
       room = (S.told s.now).room;
-      health = record { failures = (S.told s.now).health.failures; lenders = s.ghost_name ∷ (S.told s.now).health.lenders };
+      health = record { failures = (S.told s.now).health.failures; lenders = s.ghost_name ∷ (S.told s.now).health.lenders; whole = (S.told s.now).health.whole };
     } };
 
     fn give(&mut self, bytes: &[u8]) -> io::Result<()> {
         Sink::give(&mut **self, bytes)
     }
+
+    fn go(&mut self, to: SeekFrom) -> io::Result<u64> {
+        Sink::go(&mut **self, to)
+    }
 }
 
 // A file tells nothing.
 impl Source for File {
-    ghost told = { λ _. record { coming = None; health = record { failures = None; lenders = [] } } };
+    ghost told = { λ _. untold_source };
 
     ghost told_by_place = { λ s at all p. Prim.cc };
 
@@ -98,19 +130,27 @@ impl Source for File {
         self.seek(SeekFrom::Current(n as i64))?;
         Ok(())
     }
+
+    fn go(&mut self, to: SeekFrom) -> io::Result<u64> {
+        self.seek(to)
+    }
 }
 
 impl Sink for File {
-    ghost told = { λ _. record { taken = None; room = None; health = record { failures = None; lenders = [] } } };
+    ghost told = { λ _. untold_sink };
 
     fn give(&mut self, bytes: &[u8]) -> io::Result<()> {
         self.write_all(bytes)
     }
+
+    fn go(&mut self, to: SeekFrom) -> io::Result<u64> {
+        self.seek(to)
+    }
 }
 
-// A cursor over bytes in memory tells those from its place on, and does not fail.
+// A cursor over bytes in memory tells those from its place on, and all of them, and does not fail.
 impl<T: AsBytes> Source for Cursor<T> {
-    ghost told = { λ s. record { coming = cursor_remaining T.bytes s; health = record { failures = Some 0; lenders = [] } } };
+    ghost told = { λ s. cursor_source T.bytes s };
 
     ghost told_by_place = { λ s at all. cursor_told T.bytes s at all };
 
@@ -119,6 +159,7 @@ impl<T: AsBytes> Source for Cursor<T> {
         ensures short { IfErr result (λ e. (error_kind e ≡ ErrorKind.UnexpectedEof) × FewerThan (length buf.old) (cursor_remaining T.bytes self.old)) }
         ensures place { OnOk result (cursor_position self.new ≡ cursor_position self.old + length buf.new) }
         ensures inner { cursor_inner self.new ≡ cursor_inner self.old }
+        ensures kept { NoFewerFailures (cursor_source T.bytes self.old).health (cursor_source T.bytes self.new).health }
         // A fetch that is refused moves nothing.
         ensures stays { OnErr result (self.new ≡ self.old) }
     {
@@ -137,11 +178,23 @@ impl<T: AsBytes> Source for Cursor<T> {
         // It may pass the end, as a seek does.
         ensures place { cursor_position self.new ≡ place_on (cursor_position self.old) n }
         ensures inner { cursor_inner self.new ≡ cursor_inner self.old }
+        ensures kept { NoFewerFailures (cursor_source T.bytes self.old).health (cursor_source T.bytes self.new).health }
     {
         let at = self.position();
         let end = place_after(self.get_ref().as_byte_slice(), at, n);
         self.set_position(end);
         Ok(())
+    }
+
+    fn go(&mut self, to: SeekFrom) -> io::Result<u64>
+        ensures moves { SeekMoves (Some (cursor_position self.old)) (Some (cursor_position self.new)) (T.bytes (cursor_inner self.old)) to result }
+        ensures all { Keeps (T.bytes (cursor_inner self.old)) (T.bytes (cursor_inner self.new)) }
+        ensures sought { Seeks (cursor_source T.bytes self.old).health (cursor_source T.bytes self.new).health to result }
+        ensures refused { RefusedSeek (cursor_source T.bytes self.old).health (cursor_source T.bytes self.new).health to result }
+        ensures coming { ComesFrom (cursor_source T.bytes self.old).health.whole result (cursor_source T.bytes self.new) }
+        ensures inner { cursor_inner self.new ≡ cursor_inner self.old }
+    {
+        self.seek(to)
     }
 }
 
@@ -191,6 +244,17 @@ impl Sink for Cursor<&mut [u8]> {
         }
         Ok(())
     }
+
+    fn go(&mut self, to: SeekFrom) -> io::Result<u64>
+        ensures moves { SeekMoves (Some (cursor_position self.old)) (Some (cursor_position self.new)) (Some (cursor_inner self.old).now) to result }
+        ensures all { Keeps (Some (cursor_inner self.old).now) (Some (cursor_inner self.new).now) }
+        ensures sought { Seeks (slice_told self.old).health (slice_told self.new).health to result }
+        ensures refused { RefusedSeek (slice_told self.old).health (slice_told self.new).health to result }
+        ensures stands { StandsAt (slice_told self.old).health.whole result (slice_told self.new) }
+        ensures inner { cursor_inner self.new ≡ cursor_inner self.old }
+    {
+        self.seek(to)
+    }
 }
 
 // A cursor over a vector tells the bytes before its place. Its room is what memory is found.
@@ -203,17 +267,50 @@ impl Sink for Cursor<Vec<u8>> {
         // The bytes are laid over those that lie there, behind zeros where the place is past the end; what is behind them stays.
         ensures written { OnOk result ((cursor_inner self.new).items ≡ laid_over (reaching (cursor_position self.old) (cursor_inner self.old).items) (cursor_position self.old) bytes.now) }
         ensures place { OnOk result (cursor_position self.new ≡ place_on (cursor_position self.old) (length bytes.now)) }
+        ensures kept { NoFewerFailures (vector_told self.old).health (vector_told self.new).health }
+        // Where no memory is found, it holds the same bytes, at the same place.
         ensures stays { OnErr result (cursor_position self.new ≡ cursor_position self.old) }
+        ensures holds { OnErr result ((cursor_inner self.new).items ≡ (cursor_inner self.old).items) }
     {
         let place = self.position();
         let all = self.get_mut();
-        if (place as usize) > all.len() {
-            all.resize(place as usize, 0)?;
-        }
-        let n = overwrite(all.as_mut_slice(), place as usize, bytes);
-        all.extend_from_slice(&bytes[n..])?;
+        put_over(all, place as usize, bytes)?;
         self.set_position(place.saturating_add(bytes.len() as u64));
         Ok(())
+    }
+
+    fn go(&mut self, to: SeekFrom) -> io::Result<u64>
+        ensures moves { SeekMoves (Some (cursor_position self.old)) (Some (cursor_position self.new)) (Some (cursor_inner self.old).items) to result }
+        ensures all { Keeps (Some (cursor_inner self.old).items) (Some (cursor_inner self.new).items) }
+        ensures sought { Seeks (vector_told self.old).health (vector_told self.new).health to result }
+        ensures refused { RefusedSeek (vector_told self.old).health (vector_told self.new).health to result }
+        ensures stands { StandsAt (vector_told self.old).health.whole result (vector_told self.new) }
+        ensures inner { cursor_inner self.new ≡ cursor_inner self.old }
+    {
+        self.seek(to)
+    }
+}
+
+// Lays bytes over those of a vector from a place on, behind zeros where it is past the end; where no memory is found, nothing changes.
+fn put_over(all: &mut Vec<u8>, place: usize, bytes: &[u8]) -> Result<(), AllocError>
+    ensures written { OnOk result (all.new.items ≡ laid_over (reaching place all.old.items) place bytes.now) }
+    ensures fits { OnOk result (place + length bytes.now < 2 ^ 63) }
+    ensures holds { OnErr result (all.new.items ≡ all.old.items) }
+{
+    let held = all.len();
+    if place > held {
+        all.resize(place, 0)?;
+    }
+    let n = bytes.len().min(all.len() - place);
+    match all.extend_from_slice(&bytes[n..]) {
+        Ok(()) => {
+            overwrite(all.as_mut_slice(), place, &bytes[..n]);
+            Ok(())
+        }
+        Err(error) => {
+            all.truncate(held);
+            Err(error)
+        }
     }
 }
 

@@ -1,11 +1,12 @@
 //! A stream that cannot seek, as one whose seeks go nowhere.
 
-ghost use Rattle.std.specs.Prelude.{◌≡◌, ◌<◌, ◌^◌, Some, None, length, IfOk, OnOk, OnErr, IfErr};
+ghost use Rattle.std.specs.Prelude.{◌≡◌, ◌<◌, ◌^◌, Some, None, length, IfOk, OnOk, OnErr, IfErr, IsOk};
 ghost use Rattle.std.specs.Io.{ReadsAtMost, WritesAtMost};
 ghost use Rattle.std.specs.Io.KnownBytes.{Appends, Consumes, Keeps, ReadConsumes, WriteAppends};
-ghost use Rattle.std.specs.Io.Seek.{SeekMoves};
+ghost use Rattle.std.specs.Io.Seek.{SeekMoves, StaysAt};
 ghost use Rattle.std.specs.IoError.{error_kind};
 ghost use Rattle.std.specs.Borrow.{Lends, sem};
+ghost use Rattle.deku_device.specs.Devices.{untold_source, untold_sink};
 ghost use Rattle.deku_device.specs.Seeking.{IsHere, place_on};
 ghost use Rattle.deku_device.specs.contracts.noseek.NoSeek.{the_row as stream-row};
 
@@ -139,13 +140,21 @@ impl<T> Seek for NoSeek<T> {
             Err(Error::from(ErrorKind::Other))
         }
     }
+
+    fn stream_position(&mut self) -> io::Result<u64>
+        ensures ok { IsOk result }
+        ensures value { IfOk result (λ n. n ≡ self.old.position) }
+        ensures unchanged { self.new ≡ self.old }
+        ensures stays { StaysAt (Some self.old.position) (Some self.new.position) }
+        ensures bytes { Keeps None None }
+    {
+        Ok(self.position)
+    }
 }
 
 // It tells nothing: a reader inside may answer the end of input and go on.
 impl<T: Read> Source for NoSeek<T> {
-    ghost use Rattle.std.specs.Prelude.{None, []};
-
-    ghost told = { λ _. record { coming = None; health = record { failures = None; lenders = [] } } };
+    ghost told = { λ _. untold_source };
 
     ghost told_by_place = { λ s at all p q. Prim.cc };
 
@@ -166,12 +175,14 @@ impl<T: Read> Source for NoSeek<T> {
         self.seek(SeekFrom::Current(n as i64))?;
         Ok(())
     }
+
+    fn go(&mut self, to: SeekFrom) -> io::Result<u64> {
+        self.seek(to)
+    }
 }
 
 impl<T: Write> Sink for NoSeek<T> {
-    ghost use Rattle.std.specs.Prelude.{None, []};
-
-    ghost told = { λ _. record { taken = None; room = None; health = record { failures = None; lenders = [] } } };
+    ghost told = { λ _. untold_sink };
 
     fn give(&mut self, bytes: &[u8]) -> io::Result<()>
         ensures bytes { OnOk result (Appends (T.contents self.old.inner) (T.contents self.new.inner) bytes.now) }
@@ -179,5 +190,9 @@ impl<T: Write> Sink for NoSeek<T> {
         ensures stays { OnErr result (self.new.position ≡ self.old.position) }
     {
         self.write_all(bytes)
+    }
+
+    fn go(&mut self, to: SeekFrom) -> io::Result<u64> {
+        self.seek(to)
     }
 }

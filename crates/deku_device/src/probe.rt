@@ -1,5 +1,7 @@
 //! Devices for tests of codecs: a source that gives one byte at a time, and a source and sink that fails once.
 
+#![tactic(auto, using(crate::proofs::Wholes::onward_same, crate::proofs::Wholes::read_onward, crate::proofs::Wholes::nowhere))]
+
 ghost use Rattle.std.specs.Prelude.{◌≡◌, ◌≢◌, ◌<◌, ◌≤◌, ◌-◌, ◌^◌, ◌↔◌, min, [], ◌∷◌, Some, None, length, take, OnOk, OnErr, IfOk, IfErr, IfSome, IsOk};
 ghost use Rattle.std.specs.Io.{ReadsAtMost, WritesAtMost};
 ghost use Rattle.std.specs.Io.Cursor.{cursor_position, cursor_inner, cursor_remaining, IsSeekResult, IsSeekFromEnd};
@@ -7,6 +9,7 @@ ghost use Rattle.std.specs.Io.KnownBytes.{Appends, Consumes, Keeps, ReadConsumes
 ghost use Rattle.std.specs.Io.Seek.{SeekMoves};
 ghost use Rattle.std.specs.IoError.{error_kind};
 ghost use Rattle.deku_device.specs.Cursors.{cursor_told, failing_source, failing_sink};
+ghost use Rattle.deku_device.specs.Seeking.{place_on, Seeks, RefusedSeek, ComesFrom, StandsAt};
 ghost use Rattle.deku_device.specs.Devices.{NoFewerFailures, MoreFailures, FewerThan, Passes, StaysEmpty, Gave, Declined};
 
 mod trickle;
@@ -32,9 +35,8 @@ pub struct FailAt<B> {
 }
 
 impl<B> FailAt<B> {
-    /// It fails at the nth call. The caller's condition: `n` is at least 1.
+    /// It fails at the nth call, counted from 1; for 0 it never fails.
     pub fn new(inner: Cursor<B>, n: usize) -> FailAt<B>
-        requires { 0 < n }
         ensures inner { result.inner ≡ inner }
         ensures left { result.left ≡ n }
     {
@@ -158,9 +160,25 @@ impl<B: AsBytes> Source for FailAt<B> {
         ensures fails { OnOk result (self.old.left ≢ 1) }
         ensures kind { IfErr result (λ e. error_kind e ≡ ErrorKind.Other) }
         ensures still { OnErr result (self.new.inner ≡ self.old.inner) }
+        // It may pass the end, as a seek does.
+        ensures place { OnOk result (cursor_position self.new.inner ≡ place_on (cursor_position self.old.inner) n) }
+        ensures inner { cursor_inner self.new.inner ≡ cursor_inner self.old.inner }
     {
         self.call()?;
         self.inner.pass(n)
+    }
+
+    fn go(&mut self, to: SeekFrom) -> io::Result<u64>
+        ensures moves { SeekMoves (Some (cursor_position self.old.inner)) (Some (cursor_position self.new.inner)) (B.bytes (cursor_inner self.old.inner)) to result }
+        ensures all { Keeps (B.bytes (cursor_inner self.old.inner)) (B.bytes (cursor_inner self.new.inner)) }
+        ensures sought { Seeks (failing_source B.bytes self.old).health (failing_source B.bytes self.new).health to result }
+        ensures refused { RefusedSeek (failing_source B.bytes self.old).health (failing_source B.bytes self.new).health to result }
+        ensures coming { ComesFrom (failing_source B.bytes self.old).health.whole result (failing_source B.bytes self.new) }
+        ensures counted { self.new.left ≡ self.old.left - 1 }
+        ensures still { OnErr result (self.new.inner ≡ self.old.inner) }
+        ensures inner { cursor_inner self.new.inner ≡ cursor_inner self.old.inner }
+    {
+        self.seek(to)
     }
 }
 
@@ -219,5 +237,18 @@ impl Sink for FailAt<&mut [u8]> {
             give_byte(self, *byte)?;
         }
         Ok(())
+    }
+
+    fn go(&mut self, to: SeekFrom) -> io::Result<u64>
+        ensures moves { SeekMoves (Some (cursor_position self.old.inner)) (Some (cursor_position self.new.inner)) (Some (cursor_inner self.old.inner).now) to result }
+        ensures all { Keeps (Some (cursor_inner self.old.inner).now) (Some (cursor_inner self.new.inner).now) }
+        ensures sought { Seeks (failing_sink self.old).health (failing_sink self.new).health to result }
+        ensures refused { RefusedSeek (failing_sink self.old).health (failing_sink self.new).health to result }
+        ensures stands { StandsAt (failing_sink self.old).health.whole result (failing_sink self.new) }
+        ensures counted { self.new.left ≡ self.old.left - 1 }
+        ensures still { OnErr result (self.new.inner ≡ self.old.inner) }
+        ensures inner { cursor_inner self.new.inner ≡ cursor_inner self.old.inner }
+    {
+        self.seek(to)
     }
 }

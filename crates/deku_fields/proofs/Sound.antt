@@ -1,7 +1,7 @@
 -- Devices that tell of their failures, of which none came.
-use Rattle.std.proofs.Common.{false, Some, Result, [], refl, arith}
+use Rattle.std.proofs.Common.{false, Option, Some, Result, [], refl, arith}
 use Rattle.deku_bits.specs.declared.error.DekuError.{DekuError}
-use Rattle.deku_bits.specs.Devices.{Health}
+use Rattle.deku_bits.specs.Devices.{Health, Whole}
 use Rattle.deku_bits.specs.Standings.{Standing}
 use Rattle.deku_bits.specs.Outcomes.{Meaning, Outcome, Quiet, Broken}
 use Rattle.deku_fields.specs.Promise.{Unfailing}
@@ -13,5 +13,5 @@ sound (Quiet m k) calm = m
 sound (Broken a m k) calm = let h = rw (calm.known, calm.still) at k.failures in absurd (omega (arith, h))
 
 -- memory tells that no call failed
-pub sound_memory : Unfailing (record { failures = Some 0; lenders = [] }) (record { failures = Some 0; lenders = [] })
+pub sound_memory : {w v : Option Whole} → Unfailing (record { failures = Some 0; lenders = []; whole = w }) (record { failures = Some 0; lenders = []; whole = v })
 sound_memory = record { count = 0; known = refl; still = refl }

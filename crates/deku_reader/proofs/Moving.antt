@@ -19,7 +19,7 @@ use Rattle.deku_stream.specs.Outcomes.{Outcome, Quiet, Broken}
 use Rattle.deku_stream.specs.Faults.{error_of}
 use Rattle.deku_stream.specs.Kept.{Admits, standing_of}
 use Rattle.deku_stream.specs.Moving.{Moves, FewerBits}
-use Rattle.deku_reader.specs.ReaderCalls.{Takes}
+use Rattle.deku_reader.specs.ReaderCalls.{Takes, NeedsNone}
 use Rattle.deku_stream.proofs.Binary.{length-facing, facing-facing}
 use Rattle.deku_stream.proofs.Cuts.{flow, length-flow, flow-append}
 use Rattle.deku_stream.proofs.Reading.{facing_nil, left_none}
@@ -249,3 +249,8 @@ pub admitted : {A : Type 0} (a : A) (f : Option Fault) (c n : ℕ) → Admits n 
 admitted a None c n (inl p) = let h = p.1.2 in absurd (cc)
 admitted a None c n (inr p) = (refl, p.0)
 admitted a (Some f) c n p = absurd (cc)
+
+-- no transfer was needed, and the source stays
+pub needs_none : {D : Type 0} (w : List Bool) (c n : ℕ) (old new : D) → c + n < 2 ^ 64 → (n ≤ length w → new ≡ old) → NeedsNone n (Going w c) → new ≡ old
+needs_none w c n old new fits same (inl inside) = same inside
+needs_none w c n old new fits same (inr past) = absurd (omega (arith, fits, past))

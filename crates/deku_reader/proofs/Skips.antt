@@ -10,6 +10,7 @@ use Rattle.deku_stream.specs.declared.ctx.Order.TheVariants.{Msb0}
 use Rattle.deku_stream.specs.declared.error.DekuError.{DekuError}
 use Rattle.deku_stream.specs.declared.error.DekuError.TheVariants as error
 use Rattle.deku_stream.specs.declared.error.Fault.{Fault}
+use Rattle.deku_stream.specs.declared.error.NeedSize.{NeedSize}
 use Rattle.deku_stream.specs.declared.error.Fault.TheVariants as fault
 use Rattle.deku_stream.specs.Bits.{bin, byte_bits, facing}
 use Rattle.deku_stream.specs.Streams.{Stream, bit_count, Has, Lacks, fresh, left, normal, touched, last_part, without, passed, skipped, PeekSkipLaw}
@@ -17,8 +18,9 @@ use Rattle.deku_device.specs.Devices.{Health, FewerThan, Passes, StaysEmpty, NoF
 use Rattle.deku_stream.specs.Standings.{Standing, Going, Stopped, stream_of}
 use Rattle.deku_stream.specs.Outcomes.{Outcome, Quiet, Broken, UnlessStopped}
 use Rattle.deku_stream.specs.Faults.{error_of}
+use Rattle.deku_stream.specs.Kept.{Admits}
 use Rattle.deku_stream.specs.Moving.{Moves, FewerBits}
-use Rattle.deku_reader.specs.ReaderCalls.{Ending, Skips, NoneEarly}
+use Rattle.deku_reader.specs.ReaderCalls.{Ending, Skips, NoneEarly, NamesRest}
 use Rattle.deku_stream.proofs.Binary.{length-facing, facing-facing}
 use Rattle.deku_stream.proofs.Cuts.{flow, length-flow, length-byte_bits, byte-of}
 use Rattle.deku_stream.proofs.Reading.{left_none}
@@ -225,6 +227,26 @@ skips_err o w (Some xs) c n v (Some ys) f g kind stop l room h passes some (inl 
     let lacks : Lacks (last_part n S) (passed o n S) = subst (λ T. Lacks (last_part n S) T) (sym first) (ended p.0) in
     let law = (peek_skip_law o n S l).2 lacks in
     rw (p.1, ← law.1) (Quiet (inr (room, inr (law.0, (refl, refl)))) kept)
+
+-- ---- which bits a skip names
+same_need : (x y : NeedSize) → ◌≡◌ {A = Result (Unit {0}) DekuError} (Err (error.Incomplete x)) (Err (error.Incomplete y)) → x ≡ y
+same_need x y e = cc
+
+pub names_rest : (n c : ℕ) (w : List Bool) (kind : ErrorKind) (stop : Fault)
+    → ((kind ≡ UnexpectedEof) × (stop ≡ fault.Incomplete (record { bits = behind n w % 8 }))) ⊎ ((kind ≢ UnexpectedEof) × (stop ≡ fault.Io kind))
+    → NamesRest n (Going w c) (Err (error_of stop))
+names_rest n c w kind stop (inl p) = rw p.1 (λ m e. let k : behind n w % 8 ≡ m = ap (λ d. d.bits) (same_need _ _ e) in omega (arith, k))
+names_rest n c w kind stop (inr p) = rw p.1 (λ m e. absurd (cc))
+
+-- a fault of the device names none
+pub names_none : (n c : ℕ) (w : List Bool) (kind : ErrorKind) → NamesRest n (Going w c) (Err (error.Io kind))
+names_none n c w kind = λ m e. absurd (cc)
+
+-- neither does what is refused before
+pub names_away : (n : ℕ) (s : Standing (List Bool)) (e : DekuError) → Admits n s (Err e) → NamesRest n s (Err e)
+names_away n (Going w c) e (inl p) = let k = p.1.2 in λ m q. absurd (cc)
+names_away n (Going w c) e (inr p) = let k = p.1 in absurd (cc)
+names_away n (Stopped d c) e p = tt
 
 -- ---- what a look at the end answers
 -- bits are unread

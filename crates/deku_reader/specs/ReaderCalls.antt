@@ -1,5 +1,5 @@
 -- What the calls of a reader do.
-use Rattle.std.specs.Prelude.{◌≡◌, ◌⊎◌, ℕ, ◌+◌, ◌*◌, ◌-◌, ◌<◌, ◌≤◌, Bool, true, false, List, [], length, Option, None, Some, Result, Ok, Err}
+use Rattle.std.specs.Prelude.{◌≡◌, ◌⊎◌, ⊤, ℕ, ◌+◌, ◌*◌, ◌-◌, ◌%◌, ◌^◌, ◌<◌, ◌≤◌, Bool, true, false, List, [], length, Option, None, Some, Result, Ok, Err}
 use Rattle.std.specs.Global.{Vec}
 use Rattle.std.specs.declared.io.ErrorKind.TheVariants.{OutOfMemory}
 use Rattle.deku_stream.specs.declared.ctx.Order.{Order}
@@ -84,6 +84,15 @@ window_of (Stopped e c) = []
 -- no byte is fetched too early: fewer than eight bits of the last one are unread, or nothing changed
 abbrev pub NoneEarly : Standing (List Bool) → Standing (List Bool) → Type 0
 NoneEarly s u = (length (window_of u) < 8) ⊎ (u ≡ s)
+
+-- n bits need no transfer: so many are unread, or the count has no room for them
+abbrev pub NeedsNone : ℕ → Standing (List Bool) → Type 0
+NeedsNone n s = (n ≤ length (window_of s)) ⊎ (2 ^ 64 ≤ count_of s + n)
+
+-- the end of input that a skip of n bits finds is of the bits behind the unread ones and the whole bytes
+abbrev pub NamesRest : ℕ → Standing (List Bool) → Result (Unit {0}) DekuError → Type 0
+NamesRest n (Going w c) r = (m : ℕ) → r ≡ Err (Incomplete (record { bits = m })) → m ≡ (n - length w) % 8
+NamesRest n (Stopped e c) r = ⊤
 
 -- as many bytes were fetched as n bits need behind the unread ones, and no more
 abbrev pub FetchesFor : ℕ → Standing (List Bool) → SourceTold → SourceTold → Type 0

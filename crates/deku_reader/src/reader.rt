@@ -1,10 +1,10 @@
 //! Reading bits.
 
-ghost use Rattle.std.specs.Prelude.{◌≡◌, ◌+◌, ◌*◌, ◌≤◌, [], length, take, drop, OnOk, IfOk, IfErr};
+ghost use Rattle.std.specs.Prelude.{◌≡◌, ◌+◌, ◌*◌, ◌≤◌, ◌<◌, false, Ok, [], length, take, drop, OnOk, IfOk, IfErr};
 ghost use Rattle.std.specs.Borrow.{Lends, sem};
 ghost use Rattle.deku_stream.specs.Kept.{Admits};
 ghost use Rattle.deku_stream.specs.Standings.{Going, Untouched, count_of};
-ghost use Rattle.deku_reader.specs.ReaderCalls.{Reads, Takes, Ending, Skips, ReadsBits, ReadsVec, ReadsBytes, ReadsWord, FetchesFor, FetchesAhead, NoneEarly, IsLeftover, filling, items_of, window_of};
+ghost use Rattle.deku_reader.specs.ReaderCalls.{Reads, Takes, Ending, Skips, ReadsBits, ReadsVec, ReadsBytes, ReadsWord, FetchesFor, FetchesAhead, NoneEarly, NeedsNone, NamesRest, IsLeftover, filling, items_of, window_of};
 ghost use Rattle.deku_reader.specs.contracts.reader.Reader.{the_row as reader-row};
 
 mod progress;
@@ -173,7 +173,10 @@ impl<R: Source> Reader<R> {
         ensures reads { Reads R.told Ending self.old result self.new }
         ensures fetched { OnOk result (FetchesAhead self.old.state self.new.state (R.told self.old.source) (R.told self.new.source)) }
         ensures held { OnOk result (length (window_of self.new.state) ≤ 8) }
+        // Where bits are unread, it moves nothing, whatever the source tells.
+        ensures unread { 0 < length (window_of self.old.state) → (result ≡ Ok false) × (self.new ≡ self.old) }
         ensures stopped { Untouched self.old.state self.old.source self.new.source }
+        ensures alloc { self.new.alloc ≡ self.old.alloc }
     {
         self.state.end(&mut self.source)
     }
@@ -199,7 +202,10 @@ impl<R: Source> Reader<R> {
     pub fn skip_bits(&mut self, amt: usize, order: Order) -> Result<(), DekuError>
         ensures skips { Reads R.told (Skips order amt) self.old result self.new }
         ensures early { NoneEarly self.old.state self.new.state }
+        ensures still { NeedsNone amt self.old.state → self.new.source ≡ self.old.source }
+        ensures named { NamesRest amt self.old.state result }
         ensures stopped { Untouched self.old.state self.old.source self.new.source }
+        ensures alloc { self.new.alloc ≡ self.old.alloc }
     {
         self.state.skip_bits(&mut self.source, amt, order)
     }
@@ -221,7 +227,9 @@ impl<R: Source> Reader<R> {
         ensures takes { Reads R.told (Takes order (length dst.old)) self.old (filling result dst.new) self.new }
         ensures fetched { OnOk result (FetchesFor (length dst.old) self.old.state (R.told self.old.source) (R.told self.new.source)) }
         ensures early { NoneEarly self.old.state self.new.state }
+        ensures still { NeedsNone (length dst.old) self.old.state → self.new.source ≡ self.old.source }
         ensures stopped { Untouched self.old.state self.old.source self.new.source }
+        ensures alloc { self.new.alloc ≡ self.old.alloc }
     {
         self.state.take_bits(&mut self.source, dst, order)
     }
@@ -240,7 +248,9 @@ impl<R: Source> Reader<R> {
         ensures reads { Reads R.told (ReadsBits order (length dst.old)) self.old (filling result dst.new) self.new }
         ensures fetched { OnOk result (FetchesFor (length dst.old) self.old.state (R.told self.old.source) (R.told self.new.source)) }
         ensures early { NoneEarly self.old.state self.new.state }
+        ensures still { NeedsNone (length dst.old) self.old.state → self.new.source ≡ self.old.source }
         ensures stopped { Untouched self.old.state self.old.source self.new.source }
+        ensures alloc { self.new.alloc ≡ self.old.alloc }
     {
         self.take_bits(dst, order)?;
         show(dst, order);
@@ -260,7 +270,9 @@ impl<R: Source> Reader<R> {
         ensures reads { Reads R.told (ReadsVec order amt) self.old (items_of result) self.new }
         ensures fetched { OnOk result (FetchesFor amt self.old.state (R.told self.old.source) (R.told self.new.source)) }
         ensures early { NoneEarly self.old.state self.new.state }
+        ensures still { NeedsNone amt self.old.state → self.new.source ≡ self.old.source }
         ensures stopped { Untouched self.old.state self.old.source self.new.source }
+        ensures alloc { self.new.alloc ≡ self.old.alloc }
     {
         self.state.admits(amt)?;
         let Ok(mut bits) = vec![in self.alloc; false; amt] else {
@@ -284,7 +296,9 @@ impl<R: Source> Reader<R> {
         ensures reads { Reads R.told (ReadsWord order amt) self.old result self.new }
         ensures fetched { OnOk result (FetchesFor amt self.old.state (R.told self.old.source) (R.told self.new.source)) }
         ensures early { NoneEarly self.old.state self.new.state }
+        ensures still { NeedsNone amt self.old.state → self.new.source ≡ self.old.source }
         ensures stopped { Untouched self.old.state self.old.source self.new.source }
+        ensures alloc { self.new.alloc ≡ self.old.alloc }
     {
         self.state.take_word(&mut self.source, amt, order)
     }
@@ -312,7 +326,9 @@ impl<R: Source> Reader<R> {
         ensures behind { drop amt buf.new ≡ drop amt buf.old }
         ensures fetched { OnOk result (FetchesFor (8 * amt) self.old.state (R.told self.old.source) (R.told self.new.source)) }
         ensures early { NoneEarly self.old.state self.new.state }
+        ensures still { NeedsNone (8 * amt) self.old.state → self.new.source ≡ self.old.source }
         ensures stopped { Untouched self.old.state self.old.source self.new.source }
+        ensures alloc { self.new.alloc ≡ self.old.alloc }
     {
         self.state
             .take_bytes(&mut self.source, &mut buf[..amt], order)?;
@@ -333,7 +349,9 @@ impl<R: Source> Reader<R> {
         ensures reads { Reads R.told (ReadsBytes order N) self.old (filling result buf.new) self.new }
         ensures fetched { OnOk result (FetchesFor (8 * N) self.old.state (R.told self.old.source) (R.told self.new.source)) }
         ensures early { NoneEarly self.old.state self.new.state }
+        ensures still { NeedsNone (8 * N) self.old.state → self.new.source ≡ self.old.source }
         ensures stopped { Untouched self.old.state self.old.source self.new.source }
+        ensures alloc { self.new.alloc ≡ self.old.alloc }
     {
         self.read_bytes_const_into(buf, order)?;
         Ok(ReaderRet::Bytes)
@@ -353,7 +371,9 @@ impl<R: Source> Reader<R> {
         ensures reads { Reads R.told (ReadsBytes order N) self.old (filling result buf.new) self.new }
         ensures fetched { OnOk result (FetchesFor (8 * N) self.old.state (R.told self.old.source) (R.told self.new.source)) }
         ensures early { NoneEarly self.old.state self.new.state }
+        ensures still { NeedsNone (8 * N) self.old.state → self.new.source ≡ self.old.source }
         ensures stopped { Untouched self.old.state self.old.source self.new.source }
+        ensures alloc { self.new.alloc ≡ self.old.alloc }
     {
         self.state.take_bytes(&mut self.source, buf, order)
     }

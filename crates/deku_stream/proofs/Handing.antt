@@ -80,8 +80,8 @@ name_stays f g n k o = heads k n g.lenders f.lenders (lenders_stay o)
 -- what holds through a reference holds of what is behind it
 pub behind : {A V : Type 0} {m : Meaning A V} {s : Standing A} {r : Result V DekuError} {u : Standing A} (f g : Health) (n k : GName)
     → Outcome m s (by_name n f) r u (by_name k g) → Outcome m s f r u g
-behind f g n k (Quiet p q) = Quiet p (record { failures = q.failures; lenders = tails k n g.lenders f.lenders q.lenders })
-behind f g n k (Broken a p q) = Broken a p (record { failures = q.failures; lenders = tails k n g.lenders f.lenders q.lenders })
+behind f g n k (Quiet p q) = Quiet p (record { failures = q.failures; lenders = tails k n g.lenders f.lenders q.lenders; whole = q.whole })
+behind f g n k (Broken a p q) = Broken a p (record { failures = q.failures; lenders = tails k n g.lenders f.lenders q.lenders; whole = q.whole })
 
 -- ---- what is refused before anything moves
 -- a kept fault, or a count without room

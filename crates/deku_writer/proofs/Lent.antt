@@ -10,7 +10,7 @@ use Rattle.deku_writer.specs.WriterCalls.{WritesAt}
 
 -- what is told through a reference
 abbrev pub lent : GName → SinkTold → SinkTold
-lent a t = record { taken = t.taken; room = t.room; health = record { failures = t.health.failures; lenders = a ∷ t.health.lenders } }
+lent a t = record { taken = t.taken; room = t.room; health = record { failures = t.health.failures; lenders = a ∷ t.health.lenders; whole = t.health.whole } }
 
 first : {A : Type 0} (x y : A) (xs ys : List A) → x ∷ xs ≡ y ∷ ys → x ≡ y
 first x y xs ys e = cc
@@ -32,6 +32,6 @@ module _ (m : Meaning Output (Unit {0})) (t after : SinkTold) (a b : GName) (s :
 
   pub lent_through : WritesAt m (lent a t) s r (lent b after) u → WritesAt m t s r after u
   lent_through o = elim (rw (state_lent a t s, state_lent b after u) at o) [
-    | Quiet q n ↦ Quiet q (record { failures = n.failures; lenders = rest b a after.health.lenders t.health.lenders n.lenders })
-    | Broken f q n ↦ Broken f q (record { failures = n.failures; lenders = rest b a after.health.lenders t.health.lenders n.lenders })
+    | Quiet q n ↦ Quiet q (record { failures = n.failures; lenders = rest b a after.health.lenders t.health.lenders n.lenders; whole = n.whole })
+    | Broken f q n ↦ Broken f q (record { failures = n.failures; lenders = rest b a after.health.lenders t.health.lenders n.lenders; whole = n.whole })
   ]

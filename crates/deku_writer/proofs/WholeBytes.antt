@@ -23,13 +23,13 @@ use Rattle.deku_writer.proofs.Pushes.{Pushed-trans, Pushed-short, Pushed-gave_up
 use Rattle.deku_writer.proofs.Onto.{same_onto, empty_onto, append_above}
 
 -- ---- bytes as bits, cut in eights again
-emitted-bytes : (bs : List ℕ) → All IsByte bs → emitted Msb0 (bits_in bs) ≡ bs
+pub emitted-bytes : (bs : List ℕ) → All IsByte bs → emitted Msb0 (bits_in bs) ≡ bs
 emitted-bytes [] h = refl
 emitted-bytes (b ∷ bs) h =
     emitted-full Msb0 (byte_bits b) (bits_in bs) (length-byte_bits b)
     ∙ ap₂ (λ x y. x ∷ y) (byte-of Msb0 b (All-head IsByte b bs h)) (emitted-bytes bs (All-tail IsByte b bs h))
 
-remainder-bytes : (bs : List ℕ) → remainder (bits_in bs) ≡ []
+pub remainder-bytes : (bs : List ℕ) → remainder (bits_in bs) ≡ []
 remainder-bytes [] = refl
 remainder-bytes (b ∷ bs) = remainder-full (byte_bits b) (bits_in bs) (length-byte_bits b) ∙ remainder-bytes bs
 

@@ -1,5 +1,7 @@
 //! Bits written to a sink, one call at a time.
 
+#![tactic(auto, using(deku_device::proofs::Wholes::onward_same))]
+
 ghost use Rattle.std.specs.Prelude.{◌≡◌, ◌+◌, ◌/◌, ◌^◌, ◌<◌, ◌≤◌, length, IfOk, IfErr};
 ghost use Rattle.std.specs.declared.io.ErrorKind.TheVariants.{OutOfMemory};
 ghost use Rattle.deku_stream.specs.declared.ctx.Order.TheVariants.{Msb0};
@@ -103,6 +105,8 @@ impl<W: Sink> Writer<W> {
     pub fn leftover(&self) -> (BoundedBitVec<1>, Order)
         ensures bits { result.0 ≡ pending_bits (pending_of self.now.state) }
         ensures order { result.1 ≡ order_of (pending_of self.now.state) }
+        ensures few { length (pending_bits (pending_of self.now.state)) < 8 }
+        ensures nothing { length result.0 ≡ 0 → pending_of self.now.state ≡ Nothing }
     {
         let bits = self.state.pending();
         (
@@ -232,7 +236,9 @@ impl Progress {
 
     // The pending bits, highest first.
     fn pending(&self) -> Held
-        ensures { result ≡ pending_bits (pending_of self.now) }
+        ensures bits { result ≡ pending_bits (pending_of self.now) }
+        ensures few { length result < 8 }
+        ensures nothing { length result ≡ 0 → pending_of self.now ≡ Nothing }
     {
         if self.fault.is_some() {
             return Held::new();

@@ -35,9 +35,9 @@ impl<'a> Seek for Failing<'a> {
 
 // It tells nothing.
 impl<'a> Source for Failing<'a> {
-    ghost use Rattle.std.specs.Prelude.{None, []};
+    ghost use Rattle.deku_bits.specs.Devices.{untold_source};
 
-    ghost told = { λ _. record { coming = None; health = record { failures = None; lenders = [] } } };
+    ghost told = { λ _. untold_source };
 
     ghost told_by_place = { λ s at all p. Prim.cc };
 
@@ -52,6 +52,10 @@ impl<'a> Source for Failing<'a> {
 
     fn pass(&mut self, _n: u64) -> io::Result<()> {
         Err(Error::from(ErrorKind::Other))
+    }
+
+    fn go(&mut self, to: SeekFrom) -> io::Result<u64> {
+        self.seek(to)
     }
 }
 

@@ -34,9 +34,9 @@ impl Seek for Failing {
 
 // It tells nothing.
 impl Sink for Failing {
-    ghost use Rattle.std.specs.Prelude.{None, []};
+    ghost use Rattle.deku_bits.specs.Devices.{untold_sink};
 
-    ghost told = { λ _. record { taken = None; room = None; health = record { failures = None; lenders = [] } } };
+    ghost told = { λ _. untold_sink };
 
     fn give(&mut self, bytes: &[u8]) -> io::Result<()> {
         self.calls = self.calls.saturating_add(1);
@@ -46,6 +46,10 @@ impl Sink for Failing {
         }
         self.good -= bytes.len();
         Ok(())
+    }
+
+    fn go(&mut self, to: SeekFrom) -> io::Result<u64> {
+        self.seek(to)
     }
 }
 

@@ -1,13 +1,16 @@
 //! A source that gives one byte at a time.
 
-ghost use Rattle.std.specs.Prelude.{◌≡◌, ◌≢◌, ◌≤◌, ◌∷◌, [], length, Some, OnOk, OnErr, IfOk, IfErr, IsOk};
+#![tactic(auto, using(crate::proofs::Wholes::onward_same, crate::proofs::Wholes::read_onward, crate::proofs::Wholes::nowhere))]
+
+ghost use Rattle.std.specs.Prelude.{◌≡◌, ◌≢◌, ◌<◌, ◌≤◌, ◌^◌, ◌∷◌, [], length, Some, OnOk, OnErr, IfOk, IfErr, IsOk};
 ghost use Rattle.std.specs.Io.{ReadsAtMost};
 ghost use Rattle.std.specs.Io.Cursor.{cursor_position, cursor_inner, IsSeekResult, IsSeekFromEnd};
 ghost use Rattle.std.specs.Io.KnownBytes.{Consumes, Keeps, ReadConsumes};
 ghost use Rattle.std.specs.Io.Seek.{SeekMoves};
 ghost use Rattle.std.specs.IoError.{error_kind};
 ghost use Rattle.deku_device.specs.Cursors.{cursor_told, trickling};
-ghost use Rattle.deku_device.specs.Devices.{NoFewerFailures, MoreFailures, FewerThan, StaysEmpty};
+ghost use Rattle.deku_device.specs.Seeking.{place_on, Seeks, RefusedSeek, ComesFrom};
+ghost use Rattle.deku_device.specs.Devices.{NoFewerFailures, MoreFailures, FewerThan, Passes, StaysEmpty};
 
 use crate::device::Source;
 use std::io;
@@ -70,6 +73,8 @@ impl<'a> Seek for Trickle<'a> {
 fn trickled_byte(source: &mut Trickle<'_>) -> io::Result<u8>
     ensures bytes { IfOk result (λ b. Consumes (trickling source.old).coming (trickling source.new).coming (b ∷ [])) }
     ensures err { IfErr result (λ e. (error_kind e ≡ ErrorKind.UnexpectedEof) × FewerThan 1 (trickling source.old).coming × StaysEmpty (trickling source.old).coming (trickling source.new).coming) }
+    ensures kept { NoFewerFailures (trickling source.old).health (trickling source.new).health }
+    ensures inner { cursor_inner source.new.inner ≡ cursor_inner source.old.inner }
 {
     let mut byte = [0];
     source.inner.fetch(&mut byte)?;
@@ -96,7 +101,27 @@ impl<'a> Source for Trickle<'a> {
         Ok(())
     }
 
-    fn pass(&mut self, n: u64) -> io::Result<()> {
+    fn pass(&mut self, n: u64) -> io::Result<()>
+        requires { n < 2 ^ 63 }
+        ensures bytes { OnOk result (Passes n (trickling self.old).coming (trickling self.new).coming) }
+        ensures failed { IfErr result (λ e. MoreFailures (trickling self.old).health (trickling self.new).health) }
+        ensures kept { NoFewerFailures (trickling self.old).health (trickling self.new).health }
+        ensures ok { IsOk result }
+        // It may pass the end, as a seek does.
+        ensures place { cursor_position self.new.inner ≡ place_on (cursor_position self.old.inner) n }
+        ensures inner { cursor_inner self.new.inner ≡ cursor_inner self.old.inner }
+    {
         self.inner.pass(n)
+    }
+
+    fn go(&mut self, to: SeekFrom) -> io::Result<u64>
+        ensures moves { SeekMoves (Some (cursor_position self.old.inner)) (Some (cursor_position self.new.inner)) (Some (cursor_inner self.old.inner).now) to result }
+        ensures all { Keeps (Some (cursor_inner self.old.inner).now) (Some (cursor_inner self.new.inner).now) }
+        ensures sought { Seeks (trickling self.old).health (trickling self.new).health to result }
+        ensures refused { RefusedSeek (trickling self.old).health (trickling self.new).health to result }
+        ensures coming { ComesFrom (trickling self.old).health.whole result (trickling self.new) }
+        ensures inner { cursor_inner self.new.inner ≡ cursor_inner self.old.inner }
+    {
+        self.seek(to)
     }
 }

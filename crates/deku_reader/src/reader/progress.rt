@@ -1,6 +1,8 @@
 //! What a reader keeps beside its source, and how it takes bits.
 
-ghost use Rattle.std.specs.Prelude.{◌≡◌, ◌≢◌, ℕ, ◌*◌, ◌^◌, ◌<◌, ◌≤◌, ◌⊎◌, ◌-◌, [], ◌∷◌, length, drop, IfOk, OnOk, IfErr};
+#![tactic(auto, using(deku_device::proofs::Wholes::onward_same))]
+
+ghost use Rattle.std.specs.Prelude.{◌≡◌, ◌≢◌, ℕ, ◌*◌, ◌^◌, ◌<◌, ◌≤◌, ◌⊎◌, ◌-◌, false, Ok, [], ◌∷◌, length, drop, IfOk, OnOk, IfErr};
 ghost use Rattle.std.specs.Io.KnownBytes.{Consumes};
 ghost use Rattle.std.specs.IoError.{error_kind};
 ghost use Rattle.deku_stream.specs.declared.ctx.Order.{Order as BitOrder};
@@ -8,7 +10,7 @@ ghost use Rattle.deku_device.specs.Devices.{NoFewerFailures, MoreFailures, Fewer
 ghost use Rattle.deku_stream.specs.Kept.{Admits};
 ghost use Rattle.deku_stream.specs.Moving.{Moves, FewerBits};
 ghost use Rattle.deku_stream.specs.Faults.{error_of};
-ghost use Rattle.deku_reader.specs.ReaderCalls.{ReadsAt, Takes, Ending, Skips, ReadsBytes, ReadsWord, FetchesFor, FetchesAhead, NoneEarly, filling, window_of};
+ghost use Rattle.deku_reader.specs.ReaderCalls.{ReadsAt, Takes, Ending, Skips, ReadsBytes, ReadsWord, FetchesFor, FetchesAhead, NoneEarly, NeedsNone, NamesRest, filling, window_of};
 ghost use Rattle.deku_stream.specs.Standings.{Going, Stopped, Untouched, count_of};
 
 mod bits;
@@ -142,6 +144,7 @@ impl Progress {
         ensures takes { ReadsAt (Takes order (length dst.old)) (R.told source.old) self.old (filling result dst.new) (R.told source.new) self.new }
         ensures fetched { OnOk result (FetchesFor (length dst.old) self.old (R.told source.old) (R.told source.new)) }
         ensures early { NoneEarly self.old self.new }
+        ensures still { NeedsNone (length dst.old) self.old → source.new ≡ source.old }
         ensures stopped { Untouched self.old source.old source.new }
     {
         self.admits(dst.len())?;
@@ -169,6 +172,7 @@ impl Progress {
         ensures reads { ReadsAt (ReadsWord order amt) (R.told source.old) self.old result (R.told source.new) self.new }
         ensures fetched { OnOk result (FetchesFor amt self.old (R.told source.old) (R.told source.new)) }
         ensures early { NoneEarly self.old self.new }
+        ensures still { NeedsNone amt self.old → source.new ≡ source.old }
         ensures stopped { Untouched self.old source.old source.new }
     {
         self.admits(amt)?;
@@ -195,6 +199,7 @@ impl Progress {
         ensures reads { ReadsAt (ReadsBytes order (length dst.old)) (R.told source.old) self.old (filling result dst.new) (R.told source.new) self.new }
         ensures fetched { OnOk result (FetchesFor (8 * length dst.old) self.old (R.told source.old) (R.told source.new)) }
         ensures early { NoneEarly self.old self.new }
+        ensures still { NeedsNone (8 * length dst.old) self.old → source.new ≡ source.old }
         ensures stopped { Untouched self.old source.old source.new }
     {
         self.admits_bytes(dst.len())?;
@@ -217,6 +222,7 @@ impl Progress {
         ensures reads { ReadsAt Ending (R.told source.old) self.old result (R.told source.new) self.new }
         ensures fetched { OnOk result (FetchesAhead self.old self.new (R.told source.old) (R.told source.new)) }
         ensures held { OnOk result (length (window_of self.new) ≤ 8) }
+        ensures unread { 0 < length (window_of self.old) → (result ≡ Ok false) × (self.new ≡ self.old) × (source.new ≡ source.old) }
         ensures stopped { Untouched self.old source.old source.new }
     {
         if let Some(kept) = self.fault {
@@ -249,6 +255,8 @@ impl Progress {
     ) -> Result<(), DekuError>
         ensures skips { ReadsAt (Skips order amt) (R.told source.old) self.old result (R.told source.new) self.new }
         ensures early { NoneEarly self.old self.new }
+        ensures still { NeedsNone amt self.old → source.new ≡ source.old }
+        ensures named { NamesRest amt self.old result }
         ensures stopped { Untouched self.old source.old source.new }
     {
         self.admits(amt)?;

@@ -1,11 +1,12 @@
 //! Seeking.
 
-ghost use Rattle.std.specs.Prelude.{◌≡◌, ◌^◌, ◌<◌, ◌≤◌, [], None, OnOk, IfErr, IfSome, IfNone, IsErrAnd};
+ghost use Rattle.std.specs.Prelude.{◌≡◌, ◌^◌, ◌<◌, ◌≤◌, ℕ, pos, [], None, OnOk, IfErr, IfSome, IfNone, IsErrAnd};
 ghost use Rattle.std.specs.Io.KnownBytes.{Keeps};
-ghost use Rattle.std.specs.Io.Seek.{SeekMoves};
+ghost use Rattle.std.specs.Io.Seek.{SeekMoves, MovesTo, MovesBy, StaysAt};
 ghost use Rattle.std.specs.IoError.{error_kind};
+ghost use Rattle.std.specs.declared.io.SeekFrom.TheVariants.{Start, Current};
 ghost use Rattle.deku_stream.specs.declared.error.DekuError.{DekuError};
-ghost use Rattle.deku_device.specs.Seeking.{count_after};
+ghost use Rattle.deku_device.specs.Seeking.{count_after, Seeks, RefusedSeek, ComesFrom, toward};
 ghost use Rattle.deku_stream.specs.Standings.{Going, Stopped, count_of};
 
 use crate::reader::Reader;
@@ -41,6 +42,11 @@ impl<R: Source> Seek for Reader<R> {
         // Where the source knows its place and its bytes, it is where its own seek leaves it.
         ensures place { SeekMoves (R.stream_position self.old.source) (R.stream_position self.new.source) (R.stream_bytes self.old.source) to result }
         ensures source_bytes { Keeps (R.stream_bytes self.old.source) (R.stream_bytes self.new.source) }
+        // Where the source tells all its bytes, those from there on are to come.
+        ensures sought { Seeks (R.told self.old.source).health (R.told self.new.source).health to result }
+        ensures coming { ComesFrom (R.told self.old.source).health.whole result (R.told self.new.source) }
+        ensures nowhere { count_after to (count_of self.old.state) < 2 ^ 64 → RefusedSeek (R.told self.old.source).health (R.told self.new.source).health to result }
+        ensures alloc { self.new.alloc ≡ self.old.alloc }
         // What the trait asks of a stream whose own place is not known.
         ensures moves { SeekMoves None None None to result }
         ensures bytes { Keeps None None }
@@ -48,7 +54,7 @@ impl<R: Source> Seek for Reader<R> {
         let Some(count) = count_for(to, self.state.bits_read()) else {
             return Err(io::Error::new(ErrorKind::InvalidInput, "count past usize"));
         };
-        match self.source.seek(to) {
+        match Source::go(&mut self.source, to) {
             Ok(place) => {
                 self.state = Progress::going(count);
                 Ok(place)
@@ -59,6 +65,59 @@ impl<R: Source> Seek for Reader<R> {
                 Err(error)
             }
         }
+    }
+
+    /// Seeks to the start, as `seek(SeekFrom::Start(0))` does.
+    fn rewind(&mut self) -> io::Result<()>
+        ensures ok { OnOk result (self.new.state ≡ Going [] (count_of self.old.state)) }
+        ensures err { IfErr result (λ e. self.new.state ≡ Stopped (DekuError.Io (error_kind e)) (count_of self.old.state)) }
+        ensures place { MovesTo (R.stream_position self.old.source) (R.stream_position self.new.source) 0 result }
+        ensures source_bytes { Keeps (R.stream_bytes self.old.source) (R.stream_bytes self.new.source) }
+        ensures sought { Seeks (R.told self.old.source).health (R.told self.new.source).health (Start 0) (toward 0 result) }
+        ensures coming { ComesFrom (R.told self.old.source).health.whole (toward 0 result) (R.told self.new.source) }
+        ensures nowhere { RefusedSeek (R.told self.old.source).health (R.told self.new.source).health (Start 0) (toward 0 result) }
+        ensures alloc { self.new.alloc ≡ self.old.alloc }
+        ensures moves { MovesTo None None 0 result }
+        ensures bytes { Keeps None None }
+    {
+        let _count = self.state.bits_read();
+        self.seek(SeekFrom::Start(0))?;
+        Ok(())
+    }
+
+    /// The place of the source, as `seek(SeekFrom::Current(0))` answers it: so it leaves no bit unread.
+    fn stream_position(&mut self) -> io::Result<u64>
+        ensures ok { OnOk result (self.new.state ≡ Going [] (count_of self.old.state)) }
+        ensures err { IfErr result (λ e. self.new.state ≡ Stopped (DekuError.Io (error_kind e)) (count_of self.old.state)) }
+        ensures place { SeekMoves (R.stream_position self.old.source) (R.stream_position self.new.source) (R.stream_bytes self.old.source) (Current (pos 0)) result }
+        ensures source_bytes { Keeps (R.stream_bytes self.old.source) (R.stream_bytes self.new.source) }
+        ensures sought { Seeks (R.told self.old.source).health (R.told self.new.source).health (Current (pos 0)) result }
+        ensures coming { ComesFrom (R.told self.old.source).health.whole result (R.told self.new.source) }
+        ensures nowhere { RefusedSeek (R.told self.old.source).health (R.told self.new.source).health (Current (pos 0)) result }
+        ensures alloc { self.new.alloc ≡ self.old.alloc }
+        ensures stays { StaysAt None None }
+        ensures bytes { Keeps None None }
+    {
+        let _count = self.state.bits_read();
+        self.seek(SeekFrom::Current(0))
+    }
+
+    /// Seeks from its place, as `seek(SeekFrom::Current(offset))` does.
+    fn seek_relative(&mut self, offset: i64) -> io::Result<()>
+        ensures ok { OnOk result (self.new.state ≡ Going [] (count_after (Current offset) (count_of self.old.state))) }
+        ensures refused { 2 ^ 64 ≤ count_after (Current offset) (count_of self.old.state) → IsErrAnd result (λ e. error_kind e ≡ ErrorKind.InvalidInput) × (self.new ≡ self.old) }
+        ensures err { count_after (Current offset) (count_of self.old.state) < 2 ^ 64 → IfErr result (λ e. self.new.state ≡ Stopped (DekuError.Io (error_kind e)) (count_of self.old.state)) }
+        ensures place { MovesBy (R.stream_position self.old.source) (R.stream_position self.new.source) offset result }
+        ensures source_bytes { Keeps (R.stream_bytes self.old.source) (R.stream_bytes self.new.source) }
+        ensures sought { (n : ℕ) × Seeks (R.told self.old.source).health (R.told self.new.source).health (Current offset) (toward n result)
+            × ComesFrom (R.told self.old.source).health.whole (toward n result) (R.told self.new.source) }
+        ensures nowhere { count_after (Current offset) (count_of self.old.state) < 2 ^ 64 → RefusedSeek (R.told self.old.source).health (R.told self.new.source).health (Current offset) (toward 0 result) }
+        ensures alloc { self.new.alloc ≡ self.old.alloc }
+        ensures moves { MovesBy None None offset result }
+        ensures bytes { Keeps None None }
+    {
+        self.seek(SeekFrom::Current(offset))?;
+        Ok(())
     }
 }
 

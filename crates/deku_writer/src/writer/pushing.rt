@@ -1,5 +1,7 @@
 //! Bits given to a sink by way of a byte that fills.
 
+#![tactic(auto, using(deku_device::proofs::Wholes::onward_same))]
+
 ghost use Rattle.std.specs.Prelude.{◌≡◌, ◌<◌, ◌≤◌, ◌+◌, ◌-◌, ◌/◌, ◌%◌, Bool, List, false, min, take, drop, get_or, ◌++◌, ◌∷◌, [], length, OnOk, IfErr};
 ghost use Rattle.deku_stream.specs.declared.ctx.Order.TheVariants.{Msb0, Lsb0};
 ghost use Rattle.deku_writer.specs.declared.writer.way.Way.TheVariants.{BytesBackward};
@@ -147,7 +149,7 @@ pub fn push_above<W: Sink>(sink: &mut W, held: &mut Held, bits: &[bool]) -> Resu
 }
 
 /// Bits onto the held bits of an order.
-#[tactic(auto, using(crate::proofs::Onto::onto))]
+#[tactic(auto, using(crate::proofs::Onto::onto, deku_device::proofs::Wholes::onward_same))]
 pub fn push_onto<W: Sink>(
     sink: &mut W,
     held: &mut Held,

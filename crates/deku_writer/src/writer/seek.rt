@@ -1,10 +1,12 @@
 //! Seeking.
 
-ghost use Rattle.std.specs.Prelude.{◌≡◌, None, OnOk, IfErr};
+ghost use Rattle.std.specs.Prelude.{◌≡◌, ℕ, pos, None, OnOk, IfErr};
 ghost use Rattle.std.specs.Io.KnownBytes.{Keeps};
-ghost use Rattle.std.specs.Io.Seek.{SeekMoves};
+ghost use Rattle.std.specs.Io.Seek.{SeekMoves, MovesTo, MovesBy, StaysAt};
 ghost use Rattle.std.specs.IoError.{error_kind};
+ghost use Rattle.std.specs.declared.io.SeekFrom.TheVariants.{Start, Current};
 ghost use Rattle.deku_stream.specs.declared.error.DekuError.{DekuError};
+ghost use Rattle.deku_device.specs.Seeking.{Seeks, RefusedSeek, StandsAt, toward};
 ghost use Rattle.deku_stream.specs.Standings.{Going, Stopped, count_of};
 ghost use Rattle.deku_stream.specs.Writers.{Nothing};
 
@@ -31,11 +33,15 @@ impl<W: Sink> Seek for Writer<W> {
         // Where the sink knows its place and its bytes, it is where its own seek leaves it.
         ensures place { SeekMoves (W.stream_position self.old.sink) (W.stream_position self.new.sink) (W.stream_bytes self.old.sink) to result }
         ensures sink_bytes { Keeps (W.stream_bytes self.old.sink) (W.stream_bytes self.new.sink) }
+        // Where the sink tells all its bytes, it goes on among them there.
+        ensures sought { Seeks (W.told self.old.sink).health (W.told self.new.sink).health to result }
+        ensures stands { StandsAt (W.told self.old.sink).health.whole result (W.told self.new.sink) }
+        ensures nowhere { RefusedSeek (W.told self.old.sink).health (W.told self.new.sink).health to result }
         // What the trait asks of a stream whose own place is not known.
         ensures moves { SeekMoves None None None to result }
         ensures bytes { Keeps None None }
     {
-        match self.sink.seek(to) {
+        match Sink::go(&mut self.sink, to) {
             Ok(place) => {
                 self.state = Progress::going(self.state.bits_written());
                 Ok(place)
@@ -45,5 +51,52 @@ impl<W: Sink> Seek for Writer<W> {
                 Err(error)
             }
         }
+    }
+
+    /// Seeks to the start, as `seek(SeekFrom::Start(0))` does.
+    fn rewind(&mut self) -> io::Result<()>
+        ensures ok { OnOk result (self.new.state ≡ Going Nothing (count_of self.old.state)) }
+        ensures err { IfErr result (λ e. self.new.state ≡ Stopped (DekuError.Io (error_kind e)) (count_of self.old.state)) }
+        ensures place { MovesTo (W.stream_position self.old.sink) (W.stream_position self.new.sink) 0 result }
+        ensures sink_bytes { Keeps (W.stream_bytes self.old.sink) (W.stream_bytes self.new.sink) }
+        ensures sought { Seeks (W.told self.old.sink).health (W.told self.new.sink).health (Start 0) (toward 0 result) }
+        ensures stands { StandsAt (W.told self.old.sink).health.whole (toward 0 result) (W.told self.new.sink) }
+        ensures nowhere { RefusedSeek (W.told self.old.sink).health (W.told self.new.sink).health (Start 0) (toward 0 result) }
+        ensures moves { MovesTo None None 0 result }
+        ensures bytes { Keeps None None }
+    {
+        self.seek(SeekFrom::Start(0))?;
+        Ok(())
+    }
+
+    /// The place of the sink, as `seek(SeekFrom::Current(0))` answers it: so it drops pending bits.
+    fn stream_position(&mut self) -> io::Result<u64>
+        ensures ok { OnOk result (self.new.state ≡ Going Nothing (count_of self.old.state)) }
+        ensures err { IfErr result (λ e. self.new.state ≡ Stopped (DekuError.Io (error_kind e)) (count_of self.old.state)) }
+        ensures place { SeekMoves (W.stream_position self.old.sink) (W.stream_position self.new.sink) (W.stream_bytes self.old.sink) (Current (pos 0)) result }
+        ensures sink_bytes { Keeps (W.stream_bytes self.old.sink) (W.stream_bytes self.new.sink) }
+        ensures sought { Seeks (W.told self.old.sink).health (W.told self.new.sink).health (Current (pos 0)) result }
+        ensures stands { StandsAt (W.told self.old.sink).health.whole result (W.told self.new.sink) }
+        ensures nowhere { RefusedSeek (W.told self.old.sink).health (W.told self.new.sink).health (Current (pos 0)) result }
+        ensures stays { StaysAt None None }
+        ensures bytes { Keeps None None }
+    {
+        self.seek(SeekFrom::Current(0))
+    }
+
+    /// Seeks from its place, as `seek(SeekFrom::Current(offset))` does.
+    fn seek_relative(&mut self, offset: i64) -> io::Result<()>
+        ensures ok { OnOk result (self.new.state ≡ Going Nothing (count_of self.old.state)) }
+        ensures err { IfErr result (λ e. self.new.state ≡ Stopped (DekuError.Io (error_kind e)) (count_of self.old.state)) }
+        ensures place { MovesBy (W.stream_position self.old.sink) (W.stream_position self.new.sink) offset result }
+        ensures sink_bytes { Keeps (W.stream_bytes self.old.sink) (W.stream_bytes self.new.sink) }
+        ensures sought { (n : ℕ) × Seeks (W.told self.old.sink).health (W.told self.new.sink).health (Current offset) (toward n result)
+            × StandsAt (W.told self.old.sink).health.whole (toward n result) (W.told self.new.sink) }
+        ensures nowhere { RefusedSeek (W.told self.old.sink).health (W.told self.new.sink).health (Current offset) (toward 0 result) }
+        ensures moves { MovesBy None None offset result }
+        ensures bytes { Keeps None None }
+    {
+        self.seek(SeekFrom::Current(offset))?;
+        Ok(())
     }
 }

@@ -29,6 +29,7 @@ pub fn bits_into<R: Source>(
     ensures wanted { IfErr result (λ e. 0 < length dst.old) }
     ensures ended { IfErr result (λ e. error_kind e ≡ ErrorKind.UnexpectedEof → FewerBits (length dst.old) window.old (R.told source.old).coming) }
     ensures failed { IfErr result (λ e. error_kind e ≢ ErrorKind.UnexpectedEof → MoreFailures (R.told source.old).health (R.told source.new).health) }
+    ensures inside { length dst.old ≤ length window.old → source.new ≡ source.old }
     ensures kept { NoFewerFailures (R.told source.old).health (R.told source.new).health }
 {
     for run in 0..dst.len().div_ceil(128) {
@@ -53,6 +54,7 @@ fn run_into<R: Source>(
     ensures moved { OnOk result (Moves order window.old (R.told source.old).coming dst.new window.new (R.told source.new).coming) }
     ensures ended { IfErr result (λ e. error_kind e ≡ ErrorKind.UnexpectedEof → FewerBits (length dst.old) window.old (R.told source.old).coming) }
     ensures failed { IfErr result (λ e. error_kind e ≢ ErrorKind.UnexpectedEof → MoreFailures (R.told source.old).health (R.told source.new).health) }
+    ensures inside { length dst.old ≤ length window.old → source.new ≡ source.old }
     ensures kept { NoFewerFailures (R.told source.old).health (R.told source.new).health }
 {
     let inside = dst.len().min(window.len());

@@ -28,6 +28,7 @@ pub fn bytes_into<R: Source>(
     ensures bytes { OnOk result (All (λ b. b < 256) dst.new) }
     ensures ended { IfErr result (λ e. error_kind e ≡ ErrorKind.UnexpectedEof → FewerBits (8 * length dst.old) window.old (R.told source.old).coming) }
     ensures failed { IfErr result (λ e. error_kind e ≢ ErrorKind.UnexpectedEof → MoreFailures (R.told source.old).health (R.told source.new).health) }
+    ensures inside { 8 * length dst.old ≤ length window.old → source.new ≡ source.old }
     ensures kept { NoFewerFailures (R.told source.old).health (R.told source.new).health }
 {
     if dst.is_empty() {

@@ -41,6 +41,7 @@ pub fn fetch_behind<R: Source>(
     ensures moved { OnOk result ((order : BitOrder) → Moves order window.old (R.told source.old).coming (facing order window.new ++ flow order dst.new) [] (R.told source.new).coming) }
     ensures ended { IfErr result (λ e. error_kind e ≡ ErrorKind.UnexpectedEof → (n : ℕ) → length window.old % 8 + 8 * length dst.old < n + 8 → FewerBits n window.old (R.told source.old).coming) }
     ensures failed { IfErr result (λ e. error_kind e ≢ ErrorKind.UnexpectedEof → MoreFailures (R.told source.old).health (R.told source.new).health) }
+    ensures inside { 8 * length dst.old ≤ length window.old → source.new ≡ source.old }
     ensures kept { NoFewerFailures (R.told source.old).health (R.told source.new).health }
 {
     if window.len() < 8 {

@@ -30,6 +30,7 @@ pub fn word_from<R: Source>(
     ensures wanted { IfErr result (λ e. 0 < count) }
     ensures ended { IfErr result (λ e. error_kind e ≡ ErrorKind.UnexpectedEof → FewerBits count window.old (R.told source.old).coming) }
     ensures failed { IfErr result (λ e. error_kind e ≢ ErrorKind.UnexpectedEof → MoreFailures (R.told source.old).health (R.told source.new).health) }
+    ensures inside { count ≤ length window.old → source.new ≡ source.old }
     ensures kept { NoFewerFailures (R.told source.old).health (R.told source.new).health }
 {
     if count <= window.len() {

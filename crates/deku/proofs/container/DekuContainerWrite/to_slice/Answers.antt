@@ -1,4 +1,5 @@
 use Rattle.std.proofs.Common.{rules, refl, ap}
+use Rattle.deku_bits.specs.Cursors.{slice_whole}
 use Rattle.deku_bits.proofs.Handing.{unbroken, name_stays}
 use Rattle.deku.proofs.Containers.{starts_over, padded_from, refused_from, steady, tells_over}
 use Rattle.deku.proofs.container.DekuContainerWrite.to_slice.Goals as goal
@@ -7,7 +8,7 @@ pub returns-in-Ok : goal.returns-in-Ok
 returns-in-Ok g c =
     let begin = starts_over _ _ c.args.out.now (tells_over c.new-cursor.result).health _ c.new-cursor.ensures.position (ap (λ r. r.now) c.new-cursor.ensures.inner) refl in
     let w = padded_from (g.Self.DekuWriter.meaning c.args.self.now tt) _ _ (tells_over c.write_whole.new.sink) c.in-Ok.ensures.0 begin (unbroken refl refl c.in-Ok.ensures.1) in
-    let same = name_stays steady steady _ _ c.in-Ok.ensures.1 in
+    let same = name_stays (steady (slice_whole c.new-cursor.result)) (steady (slice_whole c.write_whole.new.sink)) _ _ c.in-Ok.ensures.1 in
     let tie = c.out-1.given.1.1 (search (rules, same)) in
     rw (tie, c.position.ensures) w
 

@@ -1,7 +1,31 @@
-use Rattle.std.proofs.Common.{rules, arith}
-use Rattle.std.proofs.lemmas.List.{take_more}
-use Rattle.deku_device.proofs.Transfers.{Gave-trans}
+use Rattle.std.proofs.Common.{rules, arith, ◌≡◌, ◌-◌, ◌+◌, ◌≤◌, length, take, inl, inr}
+use Rattle.std.proofs.lemmas.List.{take_more, length-take}
+use Rattle.std.proofs.lemmas.Result.{err_from_is_err_and}
+use Rattle.deku_device.specs.Cursors.{failing_sink}
+use Rattle.deku_device.proofs.Transfers.{Gave-trans, Declined-after, Declined-more}
+use Rattle.deku_device.proofs.Wholes.{only_at_one}
 use Rattle.deku_device.proofs.probe.FailAtRefMutSliceU8Sink.give.Goals as goal
+
+pub returns-in_err-give_byte-clause-err : goal.returns-in_err-give_byte-clause-err
+returns-in_err-give_byte-clause-err c =
+    let p = err_from_is_err_and c.from_residual.result c.from_residual.ensures.1 in
+    let given = take c.loop-byte.byte-index c.args.bytes.now in
+    let more : length given + 1 ≤ length c.args.bytes.now = simp length-take (omega arith) in
+    rw (p.1, p.2)
+    (Declined-more _ _ (length given + 1) (length c.args.bytes.now) _ more
+    (Declined-after (failing_sink c.args.self.now) (failing_sink c.loop-byte.self) (failing_sink c.give_byte.new.sink) given 1 _ c.loop-byte.invariant.given c.in_err-give_byte.ensures.err))
+
+pub returns-in_err-give_byte-clause-still : goal.returns-in_err-give_byte-clause-still
+returns-in_err-give_byte-clause-still c =
+    let p = err_from_is_err_and c.from_residual.result c.from_residual.ensures.1 in
+    rw (p.1, p.2)
+    (λ other.
+    let one : c.loop-byte.self.left ≡ 1 = elim c.in_err-give_byte.ensures.err.cause [
+      | inl m ↦ only_at_one c.loop-byte.self.left c.give_byte.new.sink.left c.give_byte.ensures.counted m.failures
+      | inr l ↦ let e = l.0 in cc
+    ] in
+    let n : c.args.self.now.left - 1 ≡ c.loop-byte.byte-index = omega (arith, c.loop-byte.invariant.counted, one) in
+    rw (c.give_byte.ensures.still one, n) c.loop-byte.invariant.given.taken)
 
 pub loop-byte-preserved : goal.loop-byte-preserved
 loop-byte-preserved c = record {

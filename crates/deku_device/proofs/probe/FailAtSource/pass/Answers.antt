@@ -42,3 +42,15 @@ returns-clause-kind g c = search rules
 
 pub returns-clause-still : goal.returns-clause-still
 returns-clause-still g c = search rules
+
+pub returns-in_err-call-clause-place : goal.returns-in_err-call-clause-place
+returns-in_err-call-clause-place g c = search rules
+
+pub returns-clause-place : goal.returns-clause-place
+returns-clause-place g c = search rules
+
+pub returns-in_err-call-clause-inner : goal.returns-in_err-call-clause-inner
+returns-in_err-call-clause-inner g c = search rules
+
+pub returns-clause-inner : goal.returns-clause-inner
+returns-clause-inner g c = search rules

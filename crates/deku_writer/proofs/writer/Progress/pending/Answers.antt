@@ -1,8 +1,8 @@
 use Rattle.std.proofs.Common.{rules}
 use Rattle.deku_writer.proofs.writer.Progress.pending.Goals as goal
 
-pub returns-then-is_some : goal.returns-then-is_some
-returns-then-is_some c = search rules
+pub returns-then-is_some-clause-bits : goal.returns-then-is_some-clause-bits
+returns-then-is_some-clause-bits c = search rules
 
-pub returns : goal.returns
-returns c = search rules
+pub returns-clause-bits : goal.returns-clause-bits
+returns-clause-bits c = search rules

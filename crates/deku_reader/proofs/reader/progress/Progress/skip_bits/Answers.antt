@@ -1,8 +1,10 @@
-use Rattle.std.proofs.Common.{◌≡◌, ◌∙◌, min, length, arith}
-use Rattle.deku_stream.specs.Outcomes.{Quiet}
+use Rattle.std.proofs.Common.{◌≡◌, ◌-◌, ◌∙◌, min, length, arith}
+use Rattle.std.proofs.lemmas.Result.{err_from_is_err_and}
+use Rattle.deku_stream.specs.Outcomes.{Quiet, Counted}
 use Rattle.deku_device.proofs.Failures.{no_fewer_on, more_on}
-use Rattle.deku_reader.proofs.Moving.{admitted}
-use Rattle.deku_reader.proofs.Skips.{skips_early, skips_ok, skips_err}
+use Rattle.deku_reader.proofs.Moving.{admitted, needs_none}
+use Rattle.deku_reader.specs.ReaderCalls.{Skipping}
+use Rattle.deku_reader.proofs.Skips.{skips_early, skips_ok, skips_err, breaks, names_rest, names_none, names_away}
 use Rattle.deku_reader.proofs.reader.progress.Progress.skip_bits.Goals as goal
 
 pub returns-in-Ok-clause-skips : goal.returns-in-Ok-clause-skips
@@ -40,3 +42,64 @@ returns-in-Err-drop_bits-clause-skips g c =
     (told c.args.source.now).health (told c.drop_bits.new.source).health _ _ c.self.invariant may.1 (rw inside at c.pop_bits.ensures) (rw inside at c.in_default.ensures.bytes)
     (rw inside at c.in-Err-drop_bits.ensures.wanted) (rw inside at c.fault_of-missing.ensures) (rw inside at c.in-Err-drop_bits.ensures.ended)
     (λ no. more_on _ _ _ c.pass_bytes.ensures.kept (c.in-Err-drop_bits.ensures.failed no)) (no_fewer_on _ _ _ c.pass_bytes.ensures.kept c.drop_bits.ensures.kept))
+
+pub returns-in-Err-clause-skips : goal.returns-in-Err-clause-skips
+returns-in-Err-clause-skips g c =
+    let p = c.self.inside in
+    let n = c.args.amt in
+    let may = admitted p.window p.fault p.bits_read n (rw (← c.self.view_is) at c.in_ok-admits.ensures) in
+    let at_end = c.self-in-Err.view_is ∙ c.stopped.ensures in
+    rw (← c.self.view_is, may.0, c.error.ensures, at_end) (breaks (Counted n (Skipping c.args.order n)) _ p.bits_read _ _ _ c.in-Err.ensures.failed)
+
+pub returns-in-Ok-clause-still : goal.returns-in-Ok-clause-still
+returns-in-Ok-clause-still g c =
+    let p = c.self.inside in
+    let n = c.args.amt in
+    let may = admitted p.window p.fault p.bits_read n (rw (← c.self.view_is) at c.in_ok-admits.ensures) in
+    let inside : c.min-inside.result ≡ min n (length p.window) = omega arith in
+    rw (← c.self.view_is, may.0) (needs_none p.window p.bits_read n _ _ may.1
+    (λ le. let none : n - c.min-inside.result ≡ 0 = omega (arith, le, inside) in c.drop_bits.ensures.inside (omega (arith, none)) ∙ c.pass_bytes.ensures.none (omega (arith, none))))
+
+pub returns-in-Err-drop_bits-clause-still : goal.returns-in-Err-drop_bits-clause-still
+returns-in-Err-drop_bits-clause-still g c =
+    let p = c.self.inside in
+    let n = c.args.amt in
+    let may = admitted p.window p.fault p.bits_read n (rw (← c.self.view_is) at c.in_ok-admits.ensures) in
+    let inside : c.min-inside.result ≡ min n (length p.window) = omega arith in
+    rw (← c.self.view_is, may.0) (needs_none p.window p.bits_read n _ _ may.1
+    (λ le. let none : n - c.min-inside.result ≡ 0 = omega (arith, le, inside) in c.drop_bits.ensures.inside (omega (arith, none)) ∙ c.pass_bytes.ensures.none (omega (arith, none))))
+
+pub returns-in-Err-clause-still : goal.returns-in-Err-clause-still
+returns-in-Err-clause-still g c =
+    let p = c.self.inside in
+    let n = c.args.amt in
+    let may = admitted p.window p.fault p.bits_read n (rw (← c.self.view_is) at c.in_ok-admits.ensures) in
+    let inside : c.min-inside.result ≡ min n (length p.window) = omega arith in
+    rw (← c.self.view_is, may.0) (needs_none p.window p.bits_read n _ _ may.1 (λ le. c.pass_bytes.ensures.none (omega (arith, le, inside))))
+
+pub returns-in-Ok-clause-named : goal.returns-in-Ok-clause-named
+returns-in-Ok-clause-named g c =
+    let p = c.self.inside in
+    let n = c.args.amt in
+    let may = admitted p.window p.fault p.bits_read n (rw (← c.self.view_is) at c.in_ok-admits.ensures) in
+    rw (← c.self.view_is, may.0) (λ m e. absurd (cc))
+
+pub returns-in-Err-drop_bits-clause-named : goal.returns-in-Err-drop_bits-clause-named
+returns-in-Err-drop_bits-clause-named g c =
+    let p = c.self.inside in
+    let n = c.args.amt in
+    let may = admitted p.window p.fault p.bits_read n (rw (← c.self.view_is) at c.in_ok-admits.ensures) in
+    let inside : c.min-inside.result ≡ min n (length p.window) = omega arith in
+    rw (← c.self.view_is, may.0, c.error-in-Err-drop_bits.ensures) (names_rest n p.bits_read p.window _ _ (rw inside at c.fault_of-missing.ensures))
+
+pub returns-in-Err-clause-named : goal.returns-in-Err-clause-named
+returns-in-Err-clause-named g c =
+    let p = c.self.inside in
+    let n = c.args.amt in
+    let may = admitted p.window p.fault p.bits_read n (rw (← c.self.view_is) at c.in_ok-admits.ensures) in
+    rw (← c.self.view_is, may.0, c.error.ensures) (names_none n p.bits_read p.window _)
+
+pub returns-in_err-admits-clause-named : goal.returns-in_err-admits-clause-named
+returns-in_err-admits-clause-named g c =
+    let p = err_from_is_err_and c.from_residual.result c.from_residual.ensures.1 in
+    rw (p.1, p.2) (names_away c.args.amt c.args.self.now _ c.in_err-admits.ensures)

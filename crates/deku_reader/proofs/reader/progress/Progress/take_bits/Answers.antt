@@ -1,6 +1,6 @@
 use Rattle.std.proofs.Common.{◌≡◌, ◌∙◌, length, arith}
 use Rattle.deku_stream.specs.Outcomes.{Quiet}
-use Rattle.deku_reader.proofs.Moving.{moved_loses, takes_ok, takes_err, admitted}
+use Rattle.deku_reader.proofs.Moving.{moved_loses, takes_ok, takes_err, admitted, needs_none}
 use Rattle.deku_reader.proofs.reader.progress.Progress.take_bits.Goals as goal
 
 pub returns-in-Ok-clause-takes : goal.returns-in-Ok-clause-takes
@@ -33,3 +33,17 @@ returns-in-Ok-clause-fetched g c =
     rw (← c.self.view_is, may.0)
     (moved_loses c.args.order p.window (told c.args.source.now).coming (length c.args.dst.now) c.bits_into.new.dst c.bits_into.new.window (told c.bits_into.new.source).coming
     len c.self.invariant c.in-Ok.ensures.moved c.in-Ok.ensures.short c.in-Ok.ensures.none)
+
+pub returns-in-Ok-clause-still : goal.returns-in-Ok-clause-still
+returns-in-Ok-clause-still g c =
+    let p = c.self.inside in
+    let n = length c.args.dst.now in
+    let may = admitted p.window p.fault p.bits_read n (rw (← c.self.view_is) at c.in_ok-admits.ensures) in
+    rw (← c.self.view_is, may.0) (needs_none p.window p.bits_read n _ _ may.1 c.bits_into.ensures.inside)
+
+pub returns-in-Err-clause-still : goal.returns-in-Err-clause-still
+returns-in-Err-clause-still g c =
+    let p = c.self.inside in
+    let n = length c.args.dst.now in
+    let may = admitted p.window p.fault p.bits_read n (rw (← c.self.view_is) at c.in_ok-admits.ensures) in
+    rw (← c.self.view_is, may.0) (needs_none p.window p.bits_read n _ _ may.1 c.bits_into.ensures.inside)

@@ -5,7 +5,7 @@ use Rattle.deku_reader.specs.ReaderCalls.{Transfers}
 use Rattle.deku_stream.specs.Streams.{flow}
 use Rattle.deku_stream.proofs.Cuts.{length-flow}
 use Rattle.deku_stream.proofs.Handing.{mapped_err, turned_away}
-use Rattle.deku_reader.proofs.Moving.{moved_loses, admitted, reader_admits}
+use Rattle.deku_reader.proofs.Moving.{moved_loses, admitted, reader_admits, needs_none}
 use Rattle.deku_reader.proofs.BytesRead.{bytes_ok, bytes_err}
 use Rattle.deku_reader.proofs.reader.progress.Progress.take_bytes.Goals as goal
 
@@ -51,3 +51,17 @@ returns-in-Ok-clause-fetched g c =
     rw (← c.self.view_is, may.0)
     (moved_loses c.args.order p.window (told c.args.source.now).coming (8 * n) (flow c.args.order bytes) c.bytes_into.new.window (told c.bytes_into.new.source).coming
     wide c.self.invariant c.in-Ok.ensures.moved (λ k. c.in-Ok.ensures.short (omega (arith, k, wide))) (λ z. c.in-Ok.ensures.none (omega (arith, z, wide))))
+
+pub returns-in-Ok-clause-still : goal.returns-in-Ok-clause-still
+returns-in-Ok-clause-still g c =
+    let p = c.self.inside in
+    let n = 8 * length c.args.dst.now in
+    let may = admitted p.window p.fault p.bits_read n (rw (← c.self.view_is) at c.in_ok-admits_bytes.ensures.answer) in
+    rw (← c.self.view_is, may.0) (needs_none p.window p.bits_read n _ _ may.1 c.bytes_into.ensures.inside)
+
+pub returns-in-Err-clause-still : goal.returns-in-Err-clause-still
+returns-in-Err-clause-still g c =
+    let p = c.self.inside in
+    let n = 8 * length c.args.dst.now in
+    let may = admitted p.window p.fault p.bits_read n (rw (← c.self.view_is) at c.in_ok-admits_bytes.ensures.answer) in
+    rw (← c.self.view_is, may.0) (needs_none p.window p.bits_read n _ _ may.1 c.bytes_into.ensures.inside)

@@ -3,7 +3,7 @@ use Rattle.std.proofs.lemmas.Result.{err_from_is_err_and}
 use Rattle.deku_stream.specs.Bits.{word_of}
 use Rattle.deku_reader.specs.ReaderCalls.{Transfers}
 use Rattle.deku_stream.proofs.Handing.{mapped_err, turned_away}
-use Rattle.deku_reader.proofs.Moving.{admitted, reader_admits, takes_err}
+use Rattle.deku_reader.proofs.Moving.{admitted, reader_admits, takes_err, needs_none}
 use Rattle.deku_reader.proofs.WordsRead.{word_ok, word_loses}
 use Rattle.deku_reader.proofs.reader.progress.Progress.take_word.Goals as goal
 
@@ -42,3 +42,17 @@ returns-in-Err-clause-reads g c =
     rw (← c.self.view_is, may.0, c.error.ensures, at_end)
     (mapped_err (word_of c.args.order) (takes_err c.args.order p.window (told c.args.source.now).coming p.bits_read c.args.amt (told c.args.source.now).health (told c.word_from.new.source).health _ _
     c.fault_of-fault.ensures may.1 c.in-Err.ensures.ended c.in-Err.ensures.failed c.word_from.ensures.kept))
+
+pub returns-in-Ok-clause-still : goal.returns-in-Ok-clause-still
+returns-in-Ok-clause-still g c =
+    let p = c.self.inside in
+    let n = c.args.amt in
+    let may = admitted p.window p.fault p.bits_read n (rw (← c.self.view_is) at c.in_ok-admits.ensures) in
+    rw (← c.self.view_is, may.0) (needs_none p.window p.bits_read n _ _ may.1 c.word_from.ensures.inside)
+
+pub returns-in-Err-clause-still : goal.returns-in-Err-clause-still
+returns-in-Err-clause-still g c =
+    let p = c.self.inside in
+    let n = c.args.amt in
+    let may = admitted p.window p.fault p.bits_read n (rw (← c.self.view_is) at c.in_ok-admits.ensures) in
+    rw (← c.self.view_is, may.0) (needs_none p.window p.bits_read n _ _ may.1 c.word_from.ensures.inside)

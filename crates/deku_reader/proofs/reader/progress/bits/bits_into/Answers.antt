@@ -1,8 +1,8 @@
-use Rattle.std.proofs.Common.{◌≡◌, ◌+◌, ◌-◌, ◌*◌, length, take, arith, sym, subst}
+use Rattle.std.proofs.Common.{◌≡◌, ◌+◌, ◌-◌, ◌*◌, length, take, arith, ap, ◌∙◌, sym, subst}
 use Rattle.std.proofs.lemmas.List.{length-take}
 use Rattle.std.proofs.lemmas.Result.{err_from_is_err_and}
 use Rattle.deku_stream.specs.Moving.{Moves}
-use Rattle.deku_device.proofs.Failures.{no_fewer_on}
+use Rattle.deku_device.proofs.Failures.{no_fewer_on, more_on}
 use Rattle.deku_reader.proofs.Handouts.{part-length, take_written}
 use Rattle.deku_reader.proofs.Moving.{moves_more, fewer_behind}
 use Rattle.deku_reader.proofs.reader.progress.bits.bits_into.Goals as goal
@@ -36,5 +36,18 @@ loop-run-preserved g c =
       moved = subst (λ s. Moves c.args.order c.args.window.now (told c.args.source.now).coming s c.run_into.new.window (told c.run_into.new.source).coming) (sym done)
           (moves_more c.args.order c.args.window.now (told c.args.source.now).coming (take from dst) c.loop-run.window (told c.loop-run.source).coming
           new c.run_into.new.window (told c.run_into.new.source).coming c.loop-run.invariant.moved c.in_ok-run_into.ensures.moved);
+      still = λ le.
+          let window = (c.loop-run.invariant.none (omega arith)).0 in
+          c.run_into.ensures.inside (omega (arith, le, part-length dst from to (omega arith), ap length window)) ∙ c.loop-run.invariant.still le;
       kept = no_fewer_on _ _ _ c.loop-run.invariant.kept c.run_into.ensures.kept;
     }
+
+pub returns-in_err-run_into-clause-failed : goal.returns-in_err-run_into-clause-failed
+returns-in_err-run_into-clause-failed g c =
+    let told = g.R.Source.told in
+    let p = err_from_is_err_and c.from_residual.result c.from_residual.ensures.1 in
+    rw (p.1, p.2)
+    (λ other. more_on (told c.args.source.now).health (told c.loop-run.source).health (told c.run_into.new.source).health c.loop-run.invariant.kept (c.in_err-run_into.ensures.failed other))
+
+pub returns-in_err-run_into-clause-kept : goal.returns-in_err-run_into-clause-kept
+returns-in_err-run_into-clause-kept g c = no_fewer_on _ _ _ c.loop-run.invariant.kept c.run_into.ensures.kept

@@ -28,3 +28,15 @@ returns-clause-moved g c =
     rw (two_parts c.args.dst.now c.hand_out.new.dst c.hand_out_bytes.new.dst a (omega arith) lf)
     (handed c.args.order c.args.window.now c.hand_out.new.window c.hand_out_bytes.new.window (told c.args.source.now).coming (told c.fetch_bytes.new.source).coming c.fetch_bytes.new.dst
     c.hand_out.new.dst c.hand_out_bytes.new.dst c.in_ok-fetch_bytes.ensures.bytes c.hand_out.ensures c.hand_out_bytes.ensures)
+
+pub returns-in_err-fetch_bytes-clause-inside : goal.returns-in_err-fetch_bytes-clause-inside
+returns-in_err-fetch_bytes-clause-inside g c = λ le.
+    let k = c.div_ceil.result in
+    let width : length (take k (replicate {A = ℕ} 16 0)) ≡ k = simp (length-take, length-replicate) (omega arith) in
+    c.fetch_bytes.ensures.none (omega (arith, le, width))
+
+pub returns-clause-inside : goal.returns-clause-inside
+returns-clause-inside g c = λ le.
+    let k = c.div_ceil.result in
+    let width : length (take k (replicate {A = ℕ} 16 0)) ≡ k = simp (length-take, length-replicate) (omega arith) in
+    c.fetch_bytes.ensures.none (omega (arith, le, width))
