@@ -1,6 +1,7 @@
 //! Whole numbers, under every context that names a layout.
 
 ghost use Rattle.std.specs.Prelude.{OnOk};
+ghost use Rattle.deku_bits.specs.Standings.{Untouched};
 ghost use Rattle.deku_bits.specs.ReaderCalls.{Reads, FetchesFor};
 ghost use Rattle.deku_num.specs.Numbers.{width};
 ghost use Rattle.deku_reading.specs.Early.{Promptly};
@@ -28,6 +29,7 @@ impl<C: NumberCtx> DekuReader<C> for u8 {
         ensures reads { Reads R.told (ReadsUnsigned byte (C.parts_of ctx)) reader.old result reader.new }
         ensures fetched { OnOk result (FetchesFor (width byte (C.parts_of ctx)) reader.old.state (R.told reader.old.source) (R.told reader.new.source)) }
         ensures early { OnOk result (Promptly R.told reader.old reader.new) }
+        ensures stopped { Untouched reader.old.state reader.old.source reader.new.source }
     {
         let value = read_unsigned(reader, NumberType::U8, ctx.parts())?;
         Ok(value as u8)
@@ -49,6 +51,7 @@ impl<C: NumberCtx> DekuReader<C> for u16 {
         ensures reads { Reads R.told (ReadsUnsigned (unsigned 16) (C.parts_of ctx)) reader.old result reader.new }
         ensures fetched { OnOk result (FetchesFor (width (unsigned 16) (C.parts_of ctx)) reader.old.state (R.told reader.old.source) (R.told reader.new.source)) }
         ensures early { OnOk result (Promptly R.told reader.old reader.new) }
+        ensures stopped { Untouched reader.old.state reader.old.source reader.new.source }
     {
         let value = read_unsigned(reader, NumberType::U16, ctx.parts())?;
         Ok(value as u16)
@@ -70,6 +73,7 @@ impl<C: NumberCtx> DekuReader<C> for u32 {
         ensures reads { Reads R.told (ReadsUnsigned (unsigned 32) (C.parts_of ctx)) reader.old result reader.new }
         ensures fetched { OnOk result (FetchesFor (width (unsigned 32) (C.parts_of ctx)) reader.old.state (R.told reader.old.source) (R.told reader.new.source)) }
         ensures early { OnOk result (Promptly R.told reader.old reader.new) }
+        ensures stopped { Untouched reader.old.state reader.old.source reader.new.source }
     {
         let value = read_unsigned(reader, NumberType::U32, ctx.parts())?;
         Ok(value as u32)
@@ -91,6 +95,7 @@ impl<C: NumberCtx> DekuReader<C> for u64 {
         ensures reads { Reads R.told (ReadsUnsigned (unsigned 64) (C.parts_of ctx)) reader.old result reader.new }
         ensures fetched { OnOk result (FetchesFor (width (unsigned 64) (C.parts_of ctx)) reader.old.state (R.told reader.old.source) (R.told reader.new.source)) }
         ensures early { OnOk result (Promptly R.told reader.old reader.new) }
+        ensures stopped { Untouched reader.old.state reader.old.source reader.new.source }
     {
         let value = read_unsigned(reader, NumberType::U64, ctx.parts())?;
         Ok(value as u64)
@@ -112,6 +117,7 @@ impl<C: NumberCtx> DekuReader<C> for u128 {
         ensures reads { Reads R.told (ReadsUnsigned (unsigned 128) (C.parts_of ctx)) reader.old result reader.new }
         ensures fetched { OnOk result (FetchesFor (width (unsigned 128) (C.parts_of ctx)) reader.old.state (R.told reader.old.source) (R.told reader.new.source)) }
         ensures early { OnOk result (Promptly R.told reader.old reader.new) }
+        ensures stopped { Untouched reader.old.state reader.old.source reader.new.source }
     {
         let value = read_unsigned(reader, NumberType::U128, ctx.parts())?;
         Ok(value)
@@ -133,6 +139,7 @@ impl<C: NumberCtx> DekuReader<C> for usize {
         ensures reads { Reads R.told (ReadsUnsigned (unsigned 64) (C.parts_of ctx)) reader.old result reader.new }
         ensures fetched { OnOk result (FetchesFor (width (unsigned 64) (C.parts_of ctx)) reader.old.state (R.told reader.old.source) (R.told reader.new.source)) }
         ensures early { OnOk result (Promptly R.told reader.old reader.new) }
+        ensures stopped { Untouched reader.old.state reader.old.source reader.new.source }
     {
         let value = read_unsigned(reader, NumberType::USIZE, ctx.parts())?;
         Ok(value as usize)
@@ -154,6 +161,7 @@ impl<C: NumberCtx> DekuReader<C> for i8 {
         ensures reads { Reads R.told (ReadsNumber (signed 8) (C.parts_of ctx)) reader.old result reader.new }
         ensures fetched { OnOk result (FetchesFor (width (signed 8) (C.parts_of ctx)) reader.old.state (R.told reader.old.source) (R.told reader.new.source)) }
         ensures early { OnOk result (Promptly R.told reader.old reader.new) }
+        ensures stopped { Untouched reader.old.state reader.old.source reader.new.source }
     {
         let value = read_signed(reader, NumberType::I8, ctx.parts())?;
         Ok(value as i8)
@@ -175,6 +183,7 @@ impl<C: NumberCtx> DekuReader<C> for i16 {
         ensures reads { Reads R.told (ReadsNumber (signed 16) (C.parts_of ctx)) reader.old result reader.new }
         ensures fetched { OnOk result (FetchesFor (width (signed 16) (C.parts_of ctx)) reader.old.state (R.told reader.old.source) (R.told reader.new.source)) }
         ensures early { OnOk result (Promptly R.told reader.old reader.new) }
+        ensures stopped { Untouched reader.old.state reader.old.source reader.new.source }
     {
         let value = read_signed(reader, NumberType::I16, ctx.parts())?;
         Ok(value as i16)
@@ -196,6 +205,7 @@ impl<C: NumberCtx> DekuReader<C> for i32 {
         ensures reads { Reads R.told (ReadsNumber (signed 32) (C.parts_of ctx)) reader.old result reader.new }
         ensures fetched { OnOk result (FetchesFor (width (signed 32) (C.parts_of ctx)) reader.old.state (R.told reader.old.source) (R.told reader.new.source)) }
         ensures early { OnOk result (Promptly R.told reader.old reader.new) }
+        ensures stopped { Untouched reader.old.state reader.old.source reader.new.source }
     {
         let value = read_signed(reader, NumberType::I32, ctx.parts())?;
         Ok(value as i32)
@@ -217,6 +227,7 @@ impl<C: NumberCtx> DekuReader<C> for i64 {
         ensures reads { Reads R.told (ReadsNumber (signed 64) (C.parts_of ctx)) reader.old result reader.new }
         ensures fetched { OnOk result (FetchesFor (width (signed 64) (C.parts_of ctx)) reader.old.state (R.told reader.old.source) (R.told reader.new.source)) }
         ensures early { OnOk result (Promptly R.told reader.old reader.new) }
+        ensures stopped { Untouched reader.old.state reader.old.source reader.new.source }
     {
         let value = read_signed(reader, NumberType::I64, ctx.parts())?;
         Ok(value as i64)
@@ -238,6 +249,7 @@ impl<C: NumberCtx> DekuReader<C> for i128 {
         ensures reads { Reads R.told (ReadsNumber (signed 128) (C.parts_of ctx)) reader.old result reader.new }
         ensures fetched { OnOk result (FetchesFor (width (signed 128) (C.parts_of ctx)) reader.old.state (R.told reader.old.source) (R.told reader.new.source)) }
         ensures early { OnOk result (Promptly R.told reader.old reader.new) }
+        ensures stopped { Untouched reader.old.state reader.old.source reader.new.source }
     {
         let value = read_signed(reader, NumberType::I128, ctx.parts())?;
         Ok(value)
@@ -259,6 +271,7 @@ impl<C: NumberCtx> DekuReader<C> for isize {
         ensures reads { Reads R.told (ReadsNumber (signed 64) (C.parts_of ctx)) reader.old result reader.new }
         ensures fetched { OnOk result (FetchesFor (width (signed 64) (C.parts_of ctx)) reader.old.state (R.told reader.old.source) (R.told reader.new.source)) }
         ensures early { OnOk result (Promptly R.told reader.old reader.new) }
+        ensures stopped { Untouched reader.old.state reader.old.source reader.new.source }
     {
         let value = read_signed(reader, NumberType::ISIZE, ctx.parts())?;
         Ok(value as isize)

@@ -20,3 +20,9 @@ returns-clause-fetched g c = rw c.parts.ensures at c.in_ok-value.ensures.fetched
 
 pub returns-clause-early : goal.returns-clause-early
 returns-clause-early g c = number_promptly c.in_ok-value.ensures.reads c.in_ok-value.ensures.fetched c.in_ok-value.ensures.early
+
+pub returns-in_err-value-clause-stopped : goal.returns-in_err-value-clause-stopped
+returns-in_err-value-clause-stopped g c = c.in_err-value.ensures.stopped
+
+pub returns-clause-stopped : goal.returns-clause-stopped
+returns-clause-stopped g c = c.in_ok-value.ensures.stopped
