@@ -1,4 +1,5 @@
 -- Readers and writers that are made for one call, over memory.
+pub use Rattle.deku_bits.proofs.Handing.{unbroken}
 use Rattle.std.proofs.Common.{◌≡◌, ℕ, ◌-◌, ◌/◌, ◌%◌, ◌^◌, ◌<◌, ◌≤◌, Bool, true, false, Result, Ok, Err, Option, Some, None, IsErrAnd, IfOk, IfErr, IfSome, List, [], ◌++◌, length, take, drop, Bor, MutBor, refl, ap, sym, ◌∙◌, subst, inl, inr, arith, nat_le, if◌then◌else◌, append-nil}
 use Rattle.std.proofs.Math.Dec.{leb-zero}
 use Rattle.std.proofs.lemmas.List.{take_rest}
@@ -12,17 +13,28 @@ use Rattle.deku_bits.specs.declared.ctx.Order.TheVariants.{Msb0}
 use Rattle.deku_bits.specs.declared.error.NeedSize.{NeedSize}
 use Rattle.deku_bits.specs.declared.error.DekuError.{DekuError}
 use Rattle.deku_bits.specs.declared.error.DekuError.TheVariants.{Incomplete, Io}
-use Rattle.deku_bits.specs.Bits.{bits_in}
+use Rattle.deku_bits.specs.Bits.{bits_in, groups}
 use Rattle.deku_bits.specs.Streams.{Stream, fresh, normal}
 use Rattle.deku_bits.specs.Writers.{Pending, Nothing, append, pending_bits}
-use Rattle.deku_bits.specs.Devices.{Health, Whole, SinkTold, bytes_before}
+use Rattle.deku_bits.specs.Devices.{Health, Whole, SourceTold, SinkTold, bytes_before}
 use Rattle.deku_bits.specs.Cursors.{slice_whole, vector_whole}
 use Rattle.deku_bits.specs.Standings.{Standing, Going, Stopped, Output, count_of, reader_state, writer_state}
 use Rattle.deku_bits.specs.Outcomes.{Meaning}
 use Rattle.deku_bits.specs.WriterCalls.{Finalizes, WritesBits, pending_of}
 use Rattle.deku_bits.proofs.Handing.{by_name}
 use Rattle.deku_meanings.specs.Composing.{Both, Second, First}
-use Rattle.deku.specs.Wholes.{Behind, FromFirst, ReadsBytesOnce, WritesBare, in_memory, over}
+use Rattle.deku_reading.specs.Early.{PromptlyAt}
+use Rattle.deku_reading.proofs.Early.{whole_behind}
+use Rattle.deku.specs.Wholes.{Behind, FromFirst, TellsBehind, ReadsBytesOnce, WritesBare, in_memory, over}
+
+-- ---- what a source tells
+-- a reader that was made for one call and fetched no byte too early
+pub told_behind : {told after : SourceTold} {u : Standing (List Bool)} → PromptlyAt told (Going [] 0) after u → TellsBehind (count_of u) told after
+told_behind {told} {after} {u} p = by_told told.coming refl
+  where
+    by_told : (now : Option (List ℕ)) → told.coming ≡ now → IfSome now (λ bytes. after.coming ≡ Some (drop (groups (count_of u)) bytes))
+    by_told None e = tt
+    by_told (Some bytes) e = whole_behind told after u p bytes e
 
 -- ---- memory as a sink
 -- a fresh writer onto an empty vector

@@ -1,4 +1,5 @@
 pub use Rattle.deku_meanings.proofs.Joining
+pub use Rattle.deku_reading.proofs.Early
 pub use Rattle.deku_reading.proofs.Holding
 pub use Rattle.deku_writing.proofs.WritingEach
 pub use Rattle.deku_reading.proofs.Turning

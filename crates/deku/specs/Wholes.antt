@@ -6,7 +6,7 @@ use Rattle.std.specs.declared.io.ErrorKind.TheVariants.{OutOfMemory}
 use Rattle.deku_bits.specs.declared.ctx.Order.TheVariants.{Msb0}
 use Rattle.deku_bits.specs.declared.error.DekuError.{DekuError}
 use Rattle.deku_bits.specs.declared.error.DekuError.TheVariants.{Incomplete, Io}
-use Rattle.deku_bits.specs.Bits.{bits_in}
+use Rattle.deku_bits.specs.Bits.{bits_in, groups}
 use Rattle.deku_bits.specs.Streams.{Stream, fresh}
 use Rattle.deku_bits.specs.Writers.{Nothing, pending_bits}
 use Rattle.deku_bits.specs.Devices.{SourceTold, bytes_before}
@@ -26,6 +26,10 @@ pub record ReadsOnce {R V : Type 0} (told : R → SourceTold) (m : Meaning (Opti
   pub stands : Standing (List Bool)
   pub reads : ReadsAt m (told old) (Going [] 0) (on_value (λ p. p.1) r) (told new) stands
   pub counts : IfOk r (λ p. p.0 ≡ count_of stands)
+
+-- where a source told its bytes, it tells those behind the ones that n bits fill
+abbrev pub TellsBehind : ℕ → SourceTold → SourceTold → Type 0
+TellsBehind n old new = IfSome old.coming (λ bytes. new.coming ≡ Some (drop (groups n) bytes))
 
 -- what m gives from bytes of which nothing is read
 abbrev pub FromFirst : {V : Type 0} → Meaning (Option Stream) V → List ℕ → Result V DekuError → Standing (Option Stream) → Type 0

@@ -1,16 +1,17 @@
 //! Whole values: from the bytes of an input, and as bytes or bits of their own.
 
-ghost use Rattle.std.specs.Prelude.{◌≡◌, ◌++◌, take, OnOk, IfOk, IfErr};
+ghost use Rattle.std.specs.Prelude.{◌≡◌, ◌++◌, ◌<◌, length, take, OnOk, IfOk, IfErr};
 ghost use Rattle.std.specs.Io.Cursor.{cursor_position, cursor_inner};
 ghost use Rattle.std.specs.declared.io.ErrorKind.TheVariants.{OutOfMemory};
 ghost use Rattle.deku_bits.specs.declared.error.DekuError.TheVariants.{Io};
 ghost use Rattle.deku_bits.specs.Bits.{bits_in};
-ghost use Rattle.deku_bits.specs.ReaderCalls.{Reads};
+ghost use Rattle.deku_bits.specs.ReaderCalls.{Reads, window_of};
 ghost use Rattle.deku_bits.specs.Writers.{Pending, Nothing};
 ghost use Rattle.deku_bits.specs.Standings.{Standing, Going};
 ghost use Rattle.deku_bits.specs.WriterCalls.{Writes, WritesAt, Finalizes};
 ghost use Rattle.deku_meanings.specs.Composing.{Both};
-ghost use Rattle.deku.specs.Wholes.{Behind, ReadsOnce, ReadsBytesOnce, WritesOnce, WritesOver, WritesBare};
+ghost use Rattle.deku_reading.specs.Early.{Promptly};
+ghost use Rattle.deku.specs.Wholes.{Behind, ReadsOnce, TellsBehind, ReadsBytesOnce, WritesOnce, WritesOver, WritesBare};
 
 use deku_bits::bounded::BoundedBitVec;
 use deku_bits::ctx::Order;
@@ -31,7 +32,8 @@ pub trait DekuContainerRead: DekuReader<()> {
     /// the value.
     ///
     /// The source is left behind the last byte that was fetched. Bits of that byte that were not read are lost, so the next call begins
-    /// with the byte behind them. What is read takes its memory by `alloc`.
+    /// with the byte behind them: where the type fetches no byte too early, that is the one behind those that the counted bits fill. What is
+    /// read takes its memory by `alloc`.
     ///
     /// The caller's condition: the type may be read under `()`. It is refused as `Reader::skip_bits` in `Msb0` refuses to leave the bits
     /// out, and then as the type is; the source stays behind what was read until then.
@@ -48,7 +50,8 @@ pub trait DekuContainerRead: DekuReader<()> {
     where
         Self: Sized,
         requires { Self.accepts tt }
-        ensures { ReadsOnce R.told (Behind input.entry.1 (Self.meaning tt)) input.entry.0.now result input.exit.0.now }
+        ensures reads { ReadsOnce R.told (Behind input.entry.1 (Self.meaning tt)) input.entry.0.now result input.exit.0.now }
+        ensures behind { IfOk result (λ p. Self.prompt tt → TellsBehind p.0 (R.told input.entry.0.now) (R.told input.exit.0.now)) }
     {
         let bits = input.1;
         let mut reader = Reader::new(alloc, &mut *input.0);
@@ -95,7 +98,8 @@ fn read_behind<T: DekuReader<()>, R: Source>(
     bits: usize,
 ) -> Result<T, DekuError>
     requires { T.accepts tt }
-    ensures { Reads R.told (Behind bits (T.meaning tt)) reader.old result reader.new }
+    ensures reads { Reads R.told (Behind bits (T.meaning tt)) reader.old result reader.new }
+    ensures early { OnOk result (T.prompt tt → length (window_of reader.old.state) < 8 → Promptly R.told reader.old reader.new) }
 {
     match reader.skip_bits(bits, Order::Msb0) {
         Ok(()) => T::from_reader_with_ctx(reader, ()),

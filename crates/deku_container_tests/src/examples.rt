@@ -24,6 +24,8 @@ impl DekuReader<()> for Node {
 
     ghost accepts = { λ c. c ≡ c };
 
+    ghost prompt = { λ c. c ≡ c };
+
     ghost meaning = { λ _.
         Then (⟦<u8 as DekuReader<(BitSize, Order)>>⟧.meaning (record { 0 = 4 }, Lsb0)) (λ kind.
         Then (⟦<u16 as DekuReader<(BitSize, Order)>>⟧.meaning (record { 0 = 12 }, Lsb0)) (λ mode.
@@ -88,6 +90,8 @@ impl DekuReader<Endian> for Child {
 
     ghost accepts = { λ c. c ≡ c };
 
+    ghost prompt = { λ c. c ≡ c };
+
     ghost meaning = { λ endian.
         Then (⟦<u8 as DekuReader<Endian>>⟧.meaning endian) (λ byte.
         Then (⟦<(u8, u8, u8) as DekuReader<(Endian, BitSize)>>⟧.meaning (endian, record { 0 = 1 })) (λ flags.
@@ -138,6 +142,8 @@ impl DekuReader<()> for Parent {
     ghost use Rattle.deku.specs.Composing.{Answer, Then};
 
     ghost accepts = { λ c. c ≡ c };
+
+    ghost prompt = { λ c. c ≡ c };
 
     ghost meaning = { λ _.
         Then (⟦<u16 as DekuReader<(Endian, BitSize, Order)>>⟧.meaning (Big, record { 0 = 13 }, Lsb0)) (λ wide.
@@ -198,6 +204,8 @@ impl DekuReader<()> for LsbField {
 
     ghost accepts = { λ c. c ≡ c };
 
+    ghost prompt = { λ c. c ≡ c };
+
     ghost meaning = { λ _. JoinedBy (λ a b. record { thirteen = a; three = b })
         (⟦<u16 as DekuReader<(BitSize, Order)>>⟧.meaning (record { 0 = 13 }, Lsb0))
         (⟦<u8 as DekuReader<(BitSize, Order)>>⟧.meaning (record { 0 = 3 }, Lsb0)) };
@@ -244,6 +252,8 @@ impl DekuReader<()> for Bytes {
     ghost use Rattle.deku.specs.Shapes.{JoinedBy};
 
     ghost accepts = { λ c. c ≡ c };
+
+    ghost prompt = { λ c. c ≡ c };
 
     ghost meaning = { λ _. JoinedBy (λ a b. record { two = a; one = b }) (⟦<u32 as DekuReader<ByteSize>>⟧.meaning (record { 0 = 2 })) (⟦<u8 as DekuReader<()>>⟧.meaning tt) };
 

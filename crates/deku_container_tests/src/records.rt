@@ -20,6 +20,8 @@ impl DekuReader<()> for Octet {
 
     ghost accepts = { λ c. c ≡ c };
 
+    ghost prompt = { λ c. c ≡ c };
+
     ghost meaning = { λ _. Mapped (λ v. record { value = v }) (⟦<u8 as DekuReader<()>>⟧.meaning tt) };
 
     fn from_reader_with_ctx<R: Source>(
@@ -59,6 +61,8 @@ impl DekuReader<()> for Pair {
     ghost use Rattle.deku.specs.declared.ctx.Endian.TheVariants.{Big};
 
     ghost accepts = { λ c. c ≡ c };
+
+    ghost prompt = { λ c. c ≡ c };
 
     ghost meaning = { λ _. Mapped (λ v. record { value = v }) (⟦<u16 as DekuReader<Endian>>⟧.meaning Big) };
 
@@ -105,6 +109,8 @@ impl DekuReader<()> for Low {
 
     ghost accepts = { λ c. c ≡ c };
 
+    ghost prompt = { λ c. c ≡ c };
+
     ghost meaning = { λ _. Mapped (λ v. record { value = v }) (ReadsUnsigned byte (record { endian = Little; order = Lsb0; size = Bits 3 })) };
 
     fn from_reader_with_ctx<R: Source>(
@@ -150,6 +156,8 @@ impl DekuReader<()> for Nine {
 
     ghost accepts = { λ c. c ≡ c };
 
+    ghost prompt = { λ c. c ≡ c };
+
     ghost meaning = { λ _. JoinedBy (λ a b. record { halves = a; flag = b }) (⟦<(u8, u8) as DekuReader<BitSize>>⟧.meaning (record { 0 = 4 })) (⟦<u8 as DekuReader<BitSize>>⟧.meaning (record { 0 = 1 })) };
 
     fn from_reader_with_ctx<R: Source>(
@@ -194,6 +202,8 @@ impl DekuReader<()> for Head {
 
     ghost accepts = { λ c. c ≡ c };
 
+    ghost prompt = { λ c. c ≡ c };
+
     ghost meaning = { λ _. JoinedBy (λ a b. record { halves = a; number = b }) (⟦<(u8, u8) as DekuReader<(Endian, BitSize)>>⟧.meaning (Big, record { 0 = 4 })) (⟦<u16 as DekuReader<Endian>>⟧.meaning Big) };
 
     fn from_reader_with_ctx<R: Source>(
@@ -234,6 +244,8 @@ impl DekuReader<()> for Empty {
     ghost use Rattle.deku.specs.Composing.{Answer};
 
     ghost accepts = { λ c. c ≡ c };
+
+    ghost prompt = { λ c. c ≡ c };
 
     ghost meaning = { λ _. Answer (record {}) };
 

@@ -31,7 +31,7 @@ number_took f v s u (Passed p) = elim p.1 [
 ]
 
 -- the bits that a field took
-field_took : (f : Field) (n : Number) (s u : Standing (Option Stream)) → ReadsField f false s (Ok n) u → (bits : List Bool) × Takes f.layout.order (field_width f) false s (Ok bits) u
+pub field_took : (f : Field) (n : Number) (s u : Standing (Option Stream)) → ReadsField f false s (Ok n) u → (bits : List Bool) × Takes f.layout.order (field_width f) false s (Ok bits) u
 field_took f n s u (Value v read e) = number_took f v s u read
 field_took f n s u (Refusal x refused e) = absurd (cc)
 

@@ -8,6 +8,7 @@ pub mod ReadBack
 pub mod Rewritten
 pub mod Sound
 pub mod Fetching
+pub mod Resting
 pub mod Finding
 pub mod Padded
 pub mod Digits

@@ -7,15 +7,16 @@ use Rattle.deku_bits.specs.Devices.{Health}
 use Rattle.deku_bits.specs.Standings.{Standing, Output}
 use Rattle.deku_bits.specs.Outcomes.{Meaning, Outcome, Mapped}
 use Rattle.deku_bits.specs.ReaderCalls.{NoneEarly}
-use Rattle.deku_bits.proofs.Handing.{mapped_ok, mapped_err}
-use Rattle.deku_num.specs.NumberCalls.{ReadsNumber}
+use Rattle.deku_bits.proofs.Handing.{mapped_ok, mapped_err, weaker}
+use Rattle.deku_num.specs.declared.kind.NumberType.{NumberType}
+use Rattle.deku_num.specs.NumberCalls.{ReadsNumber, WritesNumber, Passed}
 use Rattle.deku.proofs.Joining.{first_refused, then_on, answered}
 use Rattle.deku_fields.specs.declared.list.Number.{Number}
 use Rattle.deku_fields.specs.declared.list.Number.TheVariants.{Unsigned, Signed}
 use Rattle.deku_fields.specs.declared.list.Field.{Field}
 use Rattle.deku_fields.specs.declared.list.Item.{Item}
 use Rattle.deku_fields.specs.Items.{number_type}
-use Rattle.deku_fields.specs.ListCalls.{number_of, ReadsField, ReadsFields, WritesItem, WritesItems}
+use Rattle.deku_fields.specs.ListCalls.{number_of, integer_of, IsOfKind, ReadsField, ReadsFields, WritesItem, WritesItems}
 
 -- ---- one field
 -- a value of a field with a sign, and of one without
@@ -100,6 +101,14 @@ pub items_written : (is : List Item) (i : ℕ) (s0 : Standing Output) (f0 : Heal
 items_written is i s0 f0 s f l k =
     let none : drop i is ≡ [] = drop_all i is l in
     k (Ok tt) s f (subst (λ x. Outcome (WritesItems x) s f (Ok tt) s f) (sym none) answered)
+
+-- the value is of its kind, and is written
+pub item_passed : (i : Item) (v : Number) {t : NumberType} {s : Standing Output} {f : Health} {r : Result (Unit {0}) DekuError} {u : Standing Output} {g : Health} → i.value ≡ v → t ≡ number_type i.field.kind → IsOfKind i.field.kind i.value
+    → Outcome (WritesNumber t i.field.layout (integer_of v)) s f r u g → Outcome (WritesItem i) s f r u g
+item_passed i v {s} {f} {r} {u} {g} e k kind o =
+    let of_kind = subst (λ n. Outcome (WritesNumber n i.field.layout (integer_of v)) s f r u g) k o in
+    let of_item = subst (λ n. Outcome (WritesNumber (number_type i.field.kind) i.field.layout (integer_of n)) s f r u g) (sym e) of_kind in
+    weaker (WritesNumber (number_type i.field.kind) i.field.layout (integer_of i.value)) (WritesItem i) s f r u g (λ b m. Passed (kind, m)) of_item
 
 -- ---- the first of them
 pub started : (fs : List Field) (out : List Number) (s : Standing (Option Stream)) (f : Health) → Continues fs 0 (take 0 out) s f s f

@@ -8,8 +8,6 @@ use Rattle.deku_bits.specs.Pieces.{Piece}
 use Rattle.deku_bits.specs.Writers.{append}
 use Rattle.deku_bits.specs.Symmetry.{appended}
 use Rattle.deku_bits.specs.Standings.{Standing, Going, Output}
-use Rattle.deku_bits.specs.Devices.{Health}
-use Rattle.deku_bits.specs.Outcomes.{Outcome, Quiet, Broken}
 use Rattle.deku_bits.specs.WriterCalls.{WritesBits}
 use Rattle.deku_bits.proofs.Gives.{Shrinks-none}
 use Rattle.deku_num.specs.declared.kind.NumberType.{NumberType}
@@ -111,9 +109,3 @@ items_wrote (i ∷ is) (p ∷ ps) all a out c r u w =
     (λ x y m. item_wrote i p (All-head IsFitting i is all) a.0 out c x y m)
     (λ mid d x y m. items_wrote is ps (All-tail IsFitting i is all) a.1 mid d x y m)
     w
-
--- an item whose value is of its kind is written as a number
-pub item_passed : (i : Item) (t : NumberType) (v : ℤ) {s : Standing Output} {f : Health} {r : Result (Unit {0}) DekuError} {u : Standing Output} {g : Health}
-    → Outcome (WritesNumber t i.field.layout v) s f r u g → IsOfKind i.field.kind i.value → t ≡ number_type i.field.kind → v ≡ integer_of i.value → Outcome (WritesItem i) s f r u g
-item_passed i t v (Quiet m k) kind e n = Quiet (Passed (kind, rw (e, n) at m)) k
-item_passed i t v (Broken a m k) kind e n = Broken a (Passed (kind, rw (e, n) at m)) k

@@ -1,7 +1,8 @@
 //! Reading lists of fields.
 
-ghost use Rattle.std.specs.Prelude.{◌≡◌, ◌≤◌, ◌*◌, length, map, OnOk, IfOk};
+ghost use Rattle.std.specs.Prelude.{◌≡◌, ◌≤◌, ◌*◌, [], length, map, OnOk, IfOk};
 ghost use Rattle.deku_bits.specs.Pieces.{total};
+ghost use Rattle.deku_bits.specs.Standings.{Untouched};
 ghost use Rattle.deku_bits.specs.ReaderCalls.{Reads, FetchesFor, NoneEarly};
 ghost use Rattle.deku_fields.specs.Items.{field_shape, field_width};
 ghost use Rattle.deku_fields.specs.ListCalls.{ListFrom, ReadsField, ReadsFields, ReadsVec, filling, items_of};
@@ -36,6 +37,8 @@ pub fn read_list_into<R: Source>(
     ensures behind { LeavesBehind R.told fields.now reader.old (filling result out.new) reader.new }
     ensures fetched { OnOk result (FetchesFor (total (map field_shape fields.now)) reader.old.state (R.told reader.old.source) (R.told reader.new.source)) }
     ensures early { NoneEarly reader.old.state reader.new.state }
+    ensures stopped { Untouched reader.old.state reader.old.source reader.new.source }
+    ensures none { fields.now ≡ [] → reader.new ≡ reader.old }
 {
     for (place, field) in fields.iter().enumerate() {
         match read_field(reader, field) {
@@ -51,6 +54,7 @@ fn read_field<R: Source>(reader: &mut Reader<R>, field: &Field) -> Result<Number
     ensures reads { Reads R.told (ReadsField field.now) reader.old result reader.new }
     ensures fetched { OnOk result (FetchesFor (field_width field.now) reader.old.state (R.told reader.old.source) (R.told reader.new.source)) }
     ensures early { NoneEarly reader.old.state reader.new.state }
+    ensures stopped { Untouched reader.old.state reader.old.source reader.new.source }
 {
     let number_type = field.kind.number_type();
     if number_type.signed {
@@ -75,6 +79,8 @@ pub fn read_list<R: Source>(
     ensures behind { LeavesBehind R.told fields.now reader.old (items_of result) reader.new }
     ensures fetched { OnOk result (FetchesFor (total (map field_shape fields.now)) reader.old.state (R.told reader.old.source) (R.told reader.new.source)) }
     ensures early { NoneEarly reader.old.state reader.new.state }
+    ensures stopped { Untouched reader.old.state reader.old.source reader.new.source }
+    ensures none { fields.now ≡ [] → reader.new ≡ reader.old }
 {
     let Ok(mut numbers) = vec![in reader.alloc(); Number::Unsigned(0); fields.len()] else {
         return Err(DekuError::Io(ErrorKind::OutOfMemory));

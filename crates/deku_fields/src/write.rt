@@ -1,7 +1,8 @@
 //! Writing lists of items.
 
-ghost use Rattle.std.specs.Prelude.{◌≡◌, take};
+ghost use Rattle.std.specs.Prelude.{◌≡◌, [], take};
 ghost use Rattle.std.specs.Io.Cursor.{cursor_position, cursor_inner};
+ghost use Rattle.deku_bits.specs.Standings.{Untouched};
 ghost use Rattle.deku_bits.specs.WriterCalls.{Writes, Finalizes};
 ghost use Rattle.deku.specs.Composing.{Both};
 ghost use Rattle.deku_fields.specs.ListCalls.{WritesItem, WritesItems, WritesWhole};
@@ -23,6 +24,8 @@ use std::io::Cursor;
 pub fn write_list<W: Sink>(writer: &mut Writer<W>, items: &[Item]) -> Result<(), DekuError>
     ensures meaning { Writes W.told (WritesItems items.now) writer.old result writer.new }
     ensures laid_out { WritesWhereSound W.told (WritesLaid items.now) writer.old result writer.new }
+    ensures stopped { Untouched writer.old.state writer.old.sink writer.new.sink }
+    ensures none { items.now ≡ [] → writer.new ≡ writer.old }
 {
     for item in items {
         match write_item(writer, item) {
@@ -35,7 +38,8 @@ pub fn write_list<W: Sink>(writer: &mut Writer<W>, items: &[Item]) -> Result<(),
 
 // Writes the value of an item.
 fn write_item<W: Sink>(writer: &mut Writer<W>, item: &Item) -> Result<(), DekuError>
-    ensures { Writes W.told (WritesItem item.now) writer.old result writer.new }
+    ensures writes { Writes W.told (WritesItem item.now) writer.old result writer.new }
+    ensures stopped { Untouched writer.old.state writer.old.sink writer.new.sink }
 {
     if !item.field.kind.holds(item.value) {
         return Err(DekuError::InvalidParam("value outside type"));

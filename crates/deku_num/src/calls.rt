@@ -1,11 +1,12 @@
 //! Numbers that are read from a reader and written to a writer.
 
-ghost use Rattle.std.specs.Prelude.{◌≡◌, ◌<◌, ◌≤◌, ◌%◌, ◌^◌, true, false, length, codes, pos, OnOk, IfOk, IfErr};
+ghost use Rattle.std.specs.Prelude.{◌≡◌, ◌<◌, ◌≤◌, ◌%◌, ◌^◌, Bool, true, false, List, length, codes, pos, OnOk, IfOk, IfErr};
 ghost use Rattle.deku_bits.specs.declared.error.DekuError.TheVariants.{Parse, InvalidParam};
+ghost use Rattle.deku_bits.specs.Standings.{Untouched};
 ghost use Rattle.deku_bits.specs.ReaderCalls.{Reads, FetchesFor, NoneEarly};
 ghost use Rattle.deku_bits.specs.WriterCalls.{Writes};
 ghost use Rattle.deku_num.specs.NumberLaws.{InType};
-ghost use Rattle.deku_num.specs.Numbers.{width, IsAllowed};
+ghost use Rattle.deku_num.specs.Numbers.{width, IsAllowed, IsListFor};
 ghost use Rattle.deku_num.specs.NumberCalls.{ReadsNumber, WritesNumber, IsLayoutRefusal, beyond, integers};
 
 use crate::ctx::{Layout, Size};
@@ -32,6 +33,8 @@ pub fn read_unsigned<R: Source>(
     ensures reads { Reads R.told (ReadsNumber number_type layout) reader.old (integers result) reader.new }
     ensures fetched { OnOk result (FetchesFor (width number_type layout) reader.old.state (R.told reader.old.source) (R.told reader.new.source)) }
     ensures early { NoneEarly reader.old.state reader.new.state }
+    ensures stopped { Untouched reader.old.state reader.old.source reader.new.source }
+    ensures refused { (IsAllowed number_type layout → ⊥) → reader.new ≡ reader.old }
     ensures in_type { IfOk result (λ v. number_type.bits % 8 ≡ 0 → v < 2 ^ number_type.bits) }
 {
     let width = readable_width(number_type, layout)?;
@@ -57,6 +60,8 @@ pub fn read_signed<R: Source>(
     ensures reads { Reads R.told (ReadsNumber number_type layout) reader.old result reader.new }
     ensures fetched { OnOk result (FetchesFor (width number_type layout) reader.old.state (R.told reader.old.source) (R.told reader.new.source)) }
     ensures early { NoneEarly reader.old.state reader.new.state }
+    ensures stopped { Untouched reader.old.state reader.old.source reader.new.source }
+    ensures refused { (IsAllowed number_type layout → ⊥) → reader.new ≡ reader.old }
     ensures in_type { IfOk result (λ v. number_type.bits % 8 ≡ 0 → InType true number_type.bits v) }
 {
     let width = readable_width(number_type, layout)?;
@@ -93,7 +98,10 @@ pub fn write_unsigned<W: Sink>(
 ) -> Result<(), DekuError>
     requires unsigned { number_type.signed ≡ false }
     requires within { number_type.bits ≤ 128 }
-    ensures { Writes W.told (WritesNumber number_type layout (pos value)) writer.old result writer.new }
+    ensures writes { Writes W.told (WritesNumber number_type layout (pos value)) writer.old result writer.new }
+    ensures stopped { Untouched writer.old.state writer.old.sink writer.new.sink }
+    ensures refused { (IsAllowed number_type layout → ⊥) → writer.new ≡ writer.old }
+    ensures unfit { ((bits : List Bool) → IsListFor number_type layout (pos value) bits → ⊥) → writer.new ≡ writer.old }
 {
     let width = writable_width(number_type, layout)?;
     let Some(word) = unsigned_word(value, number_type, layout, width) else {
@@ -121,7 +129,10 @@ pub fn write_signed<W: Sink>(
 ) -> Result<(), DekuError>
     requires signed { number_type.signed ≡ true }
     requires within { number_type.bits ≤ 128 }
-    ensures { Writes W.told (WritesNumber number_type layout value) writer.old result writer.new }
+    ensures writes { Writes W.told (WritesNumber number_type layout value) writer.old result writer.new }
+    ensures stopped { Untouched writer.old.state writer.old.sink writer.new.sink }
+    ensures refused { (IsAllowed number_type layout → ⊥) → writer.new ≡ writer.old }
+    ensures unfit { ((bits : List Bool) → IsListFor number_type layout value bits → ⊥) → writer.new ≡ writer.old }
 {
     let width = writable_width(number_type, layout)?;
     let Some(word) = signed_word(value, number_type, layout, width) else {

@@ -1,3 +1,4 @@
+pub mod Early
 pub mod Holding
 pub mod Turning
 pub mod Slots

@@ -100,6 +100,11 @@ abbrev pub AsksAll : {T P : Type 0} → (P → Type 0) → Limit T P → Type 0
 AsksAll ok (Until p _) = ok p
 AsksAll ok _ = ⊤
 
+-- the list ends without a look for the end of input
+abbrev pub EndsItself : {T P : Type 0} → Limit T P → Type 0
+EndsItself End = ⊥
+EndsItself _ = ⊤
+
 -- m, with what h says stands for its values
 pub data Held {A V W : Type 0} (h : V → W → Type 0) (m : Meaning A V) (b : Bool) (s : Standing A) (r : Result W DekuError) (u : Standing A) : Type 0 where
   Holds : (v : V) (w : W) → m b s (Ok v) u → h v w → r ≡ Ok w → Held h m b s r u

@@ -1,9 +1,10 @@
 //! What can be read.
 
-ghost use Rattle.std.specs.Prelude.{Option, Result};
+ghost use Rattle.std.specs.Prelude.{Option, Result, OnOk};
 ghost use Rattle.deku_bits.specs.Streams.{Stream};
 ghost use Rattle.deku_bits.specs.Outcomes.{Meaning};
 ghost use Rattle.deku_bits.specs.ReaderCalls.{Reads};
+ghost use Rattle.deku_reading.specs.Early.{Promptly};
 
 use deku_bits::device::Source;
 use deku_bits::error::DekuError;
@@ -18,6 +19,9 @@ pub trait DekuReader<Ctx>: Drop {
     // The contexts under which it may be read.
     ghost accepts: { Ctx → Type 0 };
 
+    // The contexts under which it fetches no byte too early.
+    ghost prompt: { Ctx → Type 0 };
+
     // What reading it answers and leaves; at `true` where the device fails in it.
     ghost meaning: { Ctx → Meaning (Option Stream) Self };
 
@@ -26,5 +30,6 @@ pub trait DekuReader<Ctx>: Drop {
     where
         Self: Sized,
         requires { accepts ctx }
-        ensures { Reads R.told (meaning ctx) reader.old result reader.new };
+        ensures reads { Reads R.told (meaning ctx) reader.old result reader.new }
+        ensures early { OnOk result (prompt ctx → Promptly R.told reader.old reader.new) };
 }

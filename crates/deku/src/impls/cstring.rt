@@ -1,10 +1,11 @@
 //! Texts that end with a zero.
 
-ghost use Rattle.std.specs.Prelude.{◌≡◌, ◌<◌, ℕ, List, [], ◌∷◌, ◌++◌, length, codes, IfOk, IfErr, MatchOption};
+ghost use Rattle.std.specs.Prelude.{◌≡◌, ◌<◌, ℕ, List, [], ◌∷◌, ◌++◌, length, codes, OnOk, IfOk, IfErr, MatchOption};
 ghost use Rattle.std.specs.List.{Contains};
 ghost use Rattle.deku_bits.specs.declared.error.DekuError.TheVariants.{Parse};
 ghost use Rattle.deku_bits.specs.ReaderCalls.{Reads};
 ghost use Rattle.deku_bits.specs.Faults.{Tells};
+ghost use Rattle.deku_reading.specs.Early.{Promptly};
 ghost use Rattle.deku_reading.specs.Lists.{Runs, on_value};
 ghost use Rattle.deku.specs.Texts.{NoZeros, IsEnded, ReadsByte};
 
@@ -96,6 +97,7 @@ impl CString {
 fn read_byte<R: Source>(reader: &mut Reader<R>, bytes: &mut Vec<u8>) -> Result<u8, DekuError>
     ensures reads { Reads R.told ReadsByte reader.old result reader.new }
     ensures put { IfOk result (λ b. bytes.new.items ≡ bytes.old.items ++ b ∷ []) }
+    ensures early { OnOk result (Promptly R.told reader.old reader.new) }
 {
     match u8::from_reader_with_ctx(reader, ()) {
         Ok(byte) => match bytes.push(byte) {
@@ -108,7 +110,8 @@ fn read_byte<R: Source>(reader: &mut Reader<R>, bytes: &mut Vec<u8>) -> Result<u
 
 // Reads bytes up to the first zero, and that.
 fn read_to_zero<R: Source>(reader: &mut Reader<R>) -> Result<Vec<u8>, DekuError>
-    ensures { Reads R.told (Runs NoZeros (λ bytes. (text : List ℕ) × IsEnded text bytes) ReadsByte) reader.old (on_value (λ v. v.items) result) reader.new }
+    ensures reads { Reads R.told (Runs NoZeros (λ bytes. (text : List ℕ) × IsEnded text bytes) ReadsByte) reader.old (on_value (λ v. v.items) result) reader.new }
+    ensures early { OnOk result (Promptly R.told reader.old reader.new) }
 {
     let mut bytes = Vec::new(reader.alloc());
     loop {
@@ -125,7 +128,8 @@ fn read_to_zero<R: Source>(reader: &mut Reader<R>) -> Result<Vec<u8>, DekuError>
 
 // Reads so many bytes.
 fn read_count<R: Source>(reader: &mut Reader<R>, count: usize) -> Result<Vec<u8>, DekuError>
-    ensures { Reads R.told (Runs (λ bytes. length bytes < count) (λ bytes. length bytes ≡ count) ReadsByte) reader.old (on_value (λ v. v.items) result) reader.new }
+    ensures reads { Reads R.told (Runs (λ bytes. length bytes < count) (λ bytes. length bytes ≡ count) ReadsByte) reader.old (on_value (λ v. v.items) result) reader.new }
+    ensures early { OnOk result (Promptly R.told reader.old reader.new) }
 {
     let mut bytes = Vec::new(reader.alloc());
     for _ in 0..count {
@@ -161,6 +165,8 @@ impl DekuReader<()> for CString {
 
     ghost accepts = { λ c. c ≡ c };
 
+    ghost prompt = { λ c. c ≡ c };
+
     ghost meaning = { λ _. ReadsEnded };
 
     fn from_reader_with_ctx<R: Source>(reader: &mut Reader<R>, ctx: ()) -> Result<Self, DekuError> {
@@ -181,6 +187,8 @@ impl DekuReader<ByteSize> for CString {
     ghost use Rattle.deku.specs.Texts.{ReadsWithin};
 
     ghost accepts = { λ c. c ≡ c };
+
+    ghost prompt = { λ c. c ≡ c };
 
     ghost meaning = { λ c. ReadsWithin c.0 };
 

@@ -1,7 +1,8 @@
 //! Arrays: so many items in order.
 
-ghost use Rattle.std.specs.Prelude.{◌≡◌, ℕ, ◌<◌, List, Option, Some, None, map, length, slice_index_or, slice_set, IsSome, IfOk};
+ghost use Rattle.std.specs.Prelude.{◌≡◌, ℕ, ◌<◌, List, Option, Some, None, map, length, slice_index_or, slice_set, IsSome, OnOk, IfOk};
 ghost use Rattle.deku_bits.specs.ReaderCalls.{Reads, filling};
+ghost use Rattle.deku_reading.specs.Early.{Promptly};
 ghost use Rattle.deku_reading.specs.Lists.{ReadsTimes};
 
 use crate::traits::DekuReader;
@@ -39,8 +40,9 @@ pub trait Fixed: Drop {
         Self::Element: DekuReader<C>,
         requires readable { Self.Element.DekuReader.accepts ctx }
         requires slots { length (slots_of slots.old) ≡ count }
-        ensures { (xs : List Self.Element) × Reads R.told (ReadsTimes count (Self.Element.DekuReader.meaning ctx)) reader.old (filling result xs) reader.new
-            × IfOk result (λ _. (length xs ≡ count) × (slots_of slots.new ≡ map Some xs)) };
+        ensures reads { (xs : List Self.Element) × Reads R.told (ReadsTimes count (Self.Element.DekuReader.meaning ctx)) reader.old (filling result xs) reader.new
+            × IfOk result (λ _. (length xs ≡ count) × (slots_of slots.new ≡ map Some xs)) }
+        ensures early { OnOk result (Self.Element.DekuReader.prompt ctx → Promptly R.told reader.old reader.new) };
 
     /// The elements in slots that are full.
     fn turned(slots: Self::Slots) -> Self
@@ -60,6 +62,8 @@ where
 
     ghost accepts = { X.Element.accepts };
 
+    ghost prompt = { X.Element.prompt };
+
     ghost meaning = { λ c. Seen X.elements_of (ReadsTimes X.count (X.Element.meaning c)) };
 
     fn from_reader_with_ctx<R: Source>(reader: &mut Reader<R>, ctx: C) -> Result<X, DekuError> {
@@ -78,8 +82,9 @@ fn fill_slots<C: Copy, T: DekuReader<C>, R: Source>(
     ctx: C,
 ) -> Result<(), DekuError>
     requires { T.accepts ctx }
-    ensures { (xs : List T) × Reads R.told (ReadsTimes (length slots.old) (T.meaning ctx)) reader.old (filling result xs) reader.new
+    ensures reads { (xs : List T) × Reads R.told (ReadsTimes (length slots.old) (T.meaning ctx)) reader.old (filling result xs) reader.new
         × IfOk result (λ _. (length xs ≡ length slots.old) × (slots.new ≡ map Some xs)) }
+    ensures early { OnOk result (T.prompt ctx → Promptly R.told reader.old reader.new) }
 {
     for place in 0..slots.len() {
         match T::from_reader_with_ctx(reader, ctx) {

@@ -17,6 +17,8 @@ impl<Ctx: Copy, T: DekuReader<Ctx>> DekuReader<Ctx> for Box<T> {
 
     ghost accepts = { T.accepts };
 
+    ghost prompt = { T.prompt };
+
     ghost meaning = { λ c. Then (T.meaning c) (λ v. Checked LacksMemory (Shows (λ b. b.value) v)) };
 
     fn from_reader_with_ctx<R: Source>(
@@ -36,9 +38,11 @@ impl<T: DekuReader<Ctx>, P: Predicate<T>, Ctx: Copy> DekuReader<(Limit<T, P>, Ct
     for BoxedSlice<T> {
     ghost use Rattle.std.specs.Prelude.{◌≡◌};
     ghost use Rattle.std.specs.Box.{boxed_slice_items};
-    ghost use Rattle.deku_reading.specs.Limits.{ReadsUnder, AsksAll, Held};
+    ghost use Rattle.deku_reading.specs.Limits.{ReadsUnder, AsksAll, EndsItself, Held};
 
     ghost accepts = { λ c. T.accepts c.1 × AsksAll P.asks_all c.0 };
+
+    ghost prompt = { λ c. T.prompt c.1 × EndsItself c.0 };
 
     ghost meaning = { λ c. Held (λ xs b. boxed_slice_items b ≡ xs) (ReadsUnder P.answers c.0 (T.meaning c.1)) };
 
@@ -54,6 +58,8 @@ impl<T: DekuReader<Ctx>, P: Predicate<T>, Ctx: Copy> DekuReader<(Limit<T, P>, Ct
 /// The items that the limit says, each under `()`.
 impl<T: DekuReader<()>, P: Predicate<T>> DekuReader<Limit<T, P>> for BoxedSlice<T> {
     ghost accepts = { λ c. ⟦<BoxedSlice<T> as DekuReader<(Limit<T, P>, ())>>⟧.accepts (c, tt) };
+
+    ghost prompt = { λ c. ⟦<BoxedSlice<T> as DekuReader<(Limit<T, P>, ())>>⟧.prompt (c, tt) };
 
     ghost meaning = { λ c. ⟦<BoxedSlice<T> as DekuReader<(Limit<T, P>, ())>>⟧.meaning (c, tt) };
 

@@ -13,6 +13,8 @@ impl<Ctx: Copy, T: Clone + DekuReader<Ctx>> DekuReader<Ctx> for Cow<'_, T> {
 
     ghost accepts = { T.accepts };
 
+    ghost prompt = { T.prompt };
+
     ghost meaning = { λ c. Mapped Owned (T.meaning c) };
 
     fn from_reader_with_ctx<R: Source>(

@@ -1,8 +1,10 @@
 //! Items that are read one after the other, under a limit, and put into a collection.
 
+ghost use Rattle.std.specs.Prelude.{OnOk};
 ghost use Rattle.std.specs.List.{FoldsTo};
 ghost use Rattle.deku_bits.specs.ReaderCalls.{Reads};
-ghost use Rattle.deku_reading.specs.Limits.{ReadsCount, ReadsUntil, ReadsBitsOf, ReadsToEnd, ReadsUnder, AsksAll, Held};
+ghost use Rattle.deku_reading.specs.Early.{Promptly};
+ghost use Rattle.deku_reading.specs.Limits.{ReadsCount, ReadsUntil, ReadsBitsOf, ReadsToEnd, ReadsUnder, AsksAll, EndsItself, Held};
 
 use crate::traits::DekuReader;
 use deku_bits::device::Source;
@@ -19,7 +21,8 @@ fn gather_count<B: Gather<T>, T: DekuReader<C>, C: Copy, R: Source>(
     ctx: C,
 ) -> Result<B, DekuError>
     requires { T.accepts ctx }
-    ensures { Reads R.told (Held (λ xs b. FoldsTo B.puts into xs b) (ReadsCount count (T.meaning ctx))) reader.old result reader.new }
+    ensures reads { Reads R.told (Held (λ xs b. FoldsTo B.puts into xs b) (ReadsCount count (T.meaning ctx))) reader.old result reader.new }
+    ensures early { OnOk result (T.prompt ctx → Promptly R.told reader.old reader.new) }
 {
     for _ in 0..count {
         let item = T::from_reader_with_ctx(reader, ctx)?;
@@ -37,7 +40,8 @@ fn gather_until<B: Gather<T>, T: DekuReader<C>, C: Copy, R: Source, P: Predicate
 ) -> Result<B, DekuError>
     requires readable { T.accepts ctx }
     requires askable { P.asks_all predicate }
-    ensures { Reads R.told (Held (λ xs b. FoldsTo B.puts into xs b) (ReadsUntil P.answers predicate (T.meaning ctx))) reader.old result reader.new }
+    ensures reads { Reads R.told (Held (λ xs b. FoldsTo B.puts into xs b) (ReadsUntil P.answers predicate (T.meaning ctx))) reader.old result reader.new }
+    ensures early { OnOk result (T.prompt ctx → Promptly R.told reader.old reader.new) }
 {
     loop {
         let before = reader.bits_read();
@@ -58,7 +62,8 @@ fn gather_bits<B: Gather<T>, T: DekuReader<C>, C: Copy, R: Source>(
     ctx: C,
 ) -> Result<B, DekuError>
     requires { T.accepts ctx }
-    ensures { Reads R.told (Held (λ xs b. FoldsTo B.puts into xs b) (ReadsBitsOf bits (T.meaning ctx))) reader.old result reader.new }
+    ensures reads { Reads R.told (Held (λ xs b. FoldsTo B.puts into xs b) (ReadsBitsOf bits (T.meaning ctx))) reader.old result reader.new }
+    ensures early { OnOk result (T.prompt ctx → Promptly R.told reader.old reader.new) }
 {
     if bits == 0 {
         return Ok(into);
@@ -102,7 +107,8 @@ pub fn gather_under<B: Gather<T>, T: DekuReader<C>, C: Copy, R: Source, P: Predi
 ) -> Result<B, DekuError>
     requires readable { T.accepts ctx }
     requires askable { AsksAll P.asks_all limit }
-    ensures { Reads R.told (Held (λ xs b. FoldsTo B.puts into xs b) (ReadsUnder P.answers limit (T.meaning ctx))) reader.old result reader.new }
+    ensures reads { Reads R.told (Held (λ xs b. FoldsTo B.puts into xs b) (ReadsUnder P.answers limit (T.meaning ctx))) reader.old result reader.new }
+    ensures early { OnOk result (T.prompt ctx → EndsItself limit → Promptly R.told reader.old reader.new) }
 {
     match limit {
         Limit::Count(count) => gather_count(into, reader, count, ctx),

@@ -26,9 +26,11 @@ impl<
 > DekuReader<(Limit<(K, V), P>, Ctx)> for HashMap<K, V, S> {
     ghost use Rattle.std.specs.HashMap.{IsFromIterResult};
     ghost use Rattle.deku_meanings.specs.Collected.{IsMapOf};
-    ghost use Rattle.deku_reading.specs.Limits.{ReadsUnder, AsksAll, Held};
+    ghost use Rattle.deku_reading.specs.Limits.{ReadsUnder, AsksAll, EndsItself, Held};
 
     ghost accepts = { λ c. ⟦<(K, V) as DekuReader<Ctx>>⟧.accepts c.1 × AsksAll P.asks_all c.0 };
+
+    ghost prompt = { λ c. ⟦<(K, V) as DekuReader<Ctx>>⟧.prompt c.1 × EndsItself c.0 };
 
     ghost meaning = { λ c. Held (λ xs m. IsFromIterResult K.eq xs m × IsMapOf K.eq xs m) (ReadsUnder P.answers c.0 (⟦<(K, V) as DekuReader<Ctx>>⟧.meaning c.1)) };
 
@@ -50,6 +52,8 @@ impl<
     P: Predicate<(K, V)>,
 > DekuReader<Limit<(K, V), P>> for HashMap<K, V, S> {
     ghost accepts = { λ c. ⟦<HashMap<K, V, S> as DekuReader<(Limit<(K, V), P>, ())>>⟧.accepts (c, tt) };
+
+    ghost prompt = { λ c. ⟦<HashMap<K, V, S> as DekuReader<(Limit<(K, V), P>, ())>>⟧.prompt (c, tt) };
 
     ghost meaning = { λ c. ⟦<HashMap<K, V, S> as DekuReader<(Limit<(K, V), P>, ())>>⟧.meaning (c, tt) };
 

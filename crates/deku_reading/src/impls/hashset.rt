@@ -25,9 +25,11 @@ impl<
 > DekuReader<(Limit<T, P>, Ctx)> for HashSet<T, S> {
     ghost use Rattle.std.specs.HashSet.{IsFromIterResult};
     ghost use Rattle.deku_meanings.specs.Collected.{IsSetOf};
-    ghost use Rattle.deku_reading.specs.Limits.{ReadsUnder, AsksAll, Held};
+    ghost use Rattle.deku_reading.specs.Limits.{ReadsUnder, AsksAll, EndsItself, Held};
 
     ghost accepts = { λ c. T.accepts c.1 × AsksAll P.asks_all c.0 };
+
+    ghost prompt = { λ c. T.prompt c.1 × EndsItself c.0 };
 
     ghost meaning = { λ c. Held (λ xs m. IsFromIterResult T.eq xs m × IsSetOf T.eq xs m) (ReadsUnder P.answers c.0 (T.meaning c.1)) };
 
@@ -46,6 +48,8 @@ impl<T: DekuReader<()> + Eq + Hash, S: BuildHasher + Default + Drop, P: Predicat
     Limit<T, P>,
 > for HashSet<T, S> {
     ghost accepts = { λ c. ⟦<HashSet<T, S> as DekuReader<(Limit<T, P>, ())>>⟧.accepts (c, tt) };
+
+    ghost prompt = { λ c. ⟦<HashSet<T, S> as DekuReader<(Limit<T, P>, ())>>⟧.prompt (c, tt) };
 
     ghost meaning = { λ c. ⟦<HashSet<T, S> as DekuReader<(Limit<T, P>, ())>>⟧.meaning (c, tt) };
 

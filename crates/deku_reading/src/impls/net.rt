@@ -18,6 +18,8 @@ impl<C: NumberCtx> DekuReader<C> for Ipv4Addr {
 
     ghost accepts = { λ c. c ≡ c };
 
+    ghost prompt = { λ c. c ≡ c };
+
     ghost meaning = { λ c. Then (ReadsUnsigned (unsigned 32) (C.parts_of c)) (Shows ipv4_bits) };
 
     fn from_reader_with_ctx<R: Source>(reader: &mut Reader<R>, ctx: C) -> Result<Self, DekuError> {
@@ -36,6 +38,8 @@ impl<C: NumberCtx> DekuReader<C> for Ipv6Addr {
     ghost use Rattle.deku_meanings.specs.Shapes.{Shows};
 
     ghost accepts = { λ c. c ≡ c };
+
+    ghost prompt = { λ c. c ≡ c };
 
     ghost meaning = { λ c. Then (ReadsUnsigned (unsigned 128) (C.parts_of c)) (Shows ipv6_bits) };
 

@@ -21,6 +21,8 @@ impl<C: NumberCtx> DekuReader<C> for NonZeroU8 {
 
     ghost accepts = { λ c. c ≡ c };
 
+    ghost prompt = { λ c. c ≡ c };
+
     ghost meaning = { λ c. Then (ReadsUnsigned byte (C.parts_of c)) (ShowsUnless (λ n. n ≡ 0) (codes "NonZero assertion") non_zero_u8_get) };
 
     fn from_reader_with_ctx<R: Source>(reader: &mut Reader<R>, ctx: C) -> Result<Self, DekuError> {
@@ -41,6 +43,8 @@ impl<C: NumberCtx> DekuReader<C> for NonZeroU16 {
     ghost use Rattle.deku_meanings.specs.Shapes.{ShowsUnless};
 
     ghost accepts = { λ c. c ≡ c };
+
+    ghost prompt = { λ c. c ≡ c };
 
     ghost meaning = { λ c. Then (ReadsUnsigned (unsigned 16) (C.parts_of c)) (ShowsUnless (λ n. n ≡ 0) (codes "NonZero assertion") non_zero_u16_get) };
 
@@ -63,6 +67,8 @@ impl<C: NumberCtx> DekuReader<C> for NonZeroU32 {
 
     ghost accepts = { λ c. c ≡ c };
 
+    ghost prompt = { λ c. c ≡ c };
+
     ghost meaning = { λ c. Then (ReadsUnsigned (unsigned 32) (C.parts_of c)) (ShowsUnless (λ n. n ≡ 0) (codes "NonZero assertion") non_zero_u32_get) };
 
     fn from_reader_with_ctx<R: Source>(reader: &mut Reader<R>, ctx: C) -> Result<Self, DekuError> {
@@ -83,6 +89,8 @@ impl<C: NumberCtx> DekuReader<C> for NonZeroU64 {
     ghost use Rattle.deku_meanings.specs.Shapes.{ShowsUnless};
 
     ghost accepts = { λ c. c ≡ c };
+
+    ghost prompt = { λ c. c ≡ c };
 
     ghost meaning = { λ c. Then (ReadsUnsigned (unsigned 64) (C.parts_of c)) (ShowsUnless (λ n. n ≡ 0) (codes "NonZero assertion") non_zero_u64_get) };
 
@@ -105,6 +113,8 @@ impl<C: NumberCtx> DekuReader<C> for NonZeroU128 {
 
     ghost accepts = { λ c. c ≡ c };
 
+    ghost prompt = { λ c. c ≡ c };
+
     ghost meaning = { λ c. Then (ReadsUnsigned (unsigned 128) (C.parts_of c)) (ShowsUnless (λ n. n ≡ 0) (codes "NonZero assertion") non_zero_u128_get) };
 
     fn from_reader_with_ctx<R: Source>(reader: &mut Reader<R>, ctx: C) -> Result<Self, DekuError> {
@@ -125,6 +135,8 @@ impl<C: NumberCtx> DekuReader<C> for NonZeroUsize {
     ghost use Rattle.deku_meanings.specs.Shapes.{ShowsUnless};
 
     ghost accepts = { λ c. c ≡ c };
+
+    ghost prompt = { λ c. c ≡ c };
 
     ghost meaning = { λ c. Then (ReadsUnsigned (unsigned 64) (C.parts_of c)) (ShowsUnless (λ n. n ≡ 0) (codes "NonZero assertion") non_zero_usize_get) };
 
@@ -147,6 +159,8 @@ impl<C: NumberCtx> DekuReader<C> for NonZeroI8 {
 
     ghost accepts = { λ c. c ≡ c };
 
+    ghost prompt = { λ c. c ≡ c };
+
     ghost meaning = { λ c. Then (ReadsNumber (signed 8) (C.parts_of c)) (ShowsUnless (λ n. n ≡ pos 0) (codes "NonZero assertion") non_zero_i8_get) };
 
     fn from_reader_with_ctx<R: Source>(reader: &mut Reader<R>, ctx: C) -> Result<Self, DekuError> {
@@ -167,6 +181,8 @@ impl<C: NumberCtx> DekuReader<C> for NonZeroI16 {
     ghost use Rattle.deku_meanings.specs.Shapes.{ShowsUnless};
 
     ghost accepts = { λ c. c ≡ c };
+
+    ghost prompt = { λ c. c ≡ c };
 
     ghost meaning = { λ c. Then (ReadsNumber (signed 16) (C.parts_of c)) (ShowsUnless (λ n. n ≡ pos 0) (codes "NonZero assertion") non_zero_i16_get) };
 
@@ -189,6 +205,8 @@ impl<C: NumberCtx> DekuReader<C> for NonZeroI32 {
 
     ghost accepts = { λ c. c ≡ c };
 
+    ghost prompt = { λ c. c ≡ c };
+
     ghost meaning = { λ c. Then (ReadsNumber (signed 32) (C.parts_of c)) (ShowsUnless (λ n. n ≡ pos 0) (codes "NonZero assertion") non_zero_i32_get) };
 
     fn from_reader_with_ctx<R: Source>(reader: &mut Reader<R>, ctx: C) -> Result<Self, DekuError> {
@@ -209,6 +227,8 @@ impl<C: NumberCtx> DekuReader<C> for NonZeroI64 {
     ghost use Rattle.deku_meanings.specs.Shapes.{ShowsUnless};
 
     ghost accepts = { λ c. c ≡ c };
+
+    ghost prompt = { λ c. c ≡ c };
 
     ghost meaning = { λ c. Then (ReadsNumber (signed 64) (C.parts_of c)) (ShowsUnless (λ n. n ≡ pos 0) (codes "NonZero assertion") non_zero_i64_get) };
 
@@ -231,6 +251,8 @@ impl<C: NumberCtx> DekuReader<C> for NonZeroI128 {
 
     ghost accepts = { λ c. c ≡ c };
 
+    ghost prompt = { λ c. c ≡ c };
+
     ghost meaning = { λ c. Then (ReadsNumber (signed 128) (C.parts_of c)) (ShowsUnless (λ n. n ≡ pos 0) (codes "NonZero assertion") non_zero_i128_get) };
 
     fn from_reader_with_ctx<R: Source>(reader: &mut Reader<R>, ctx: C) -> Result<Self, DekuError> {
@@ -251,6 +273,8 @@ impl<C: NumberCtx> DekuReader<C> for NonZeroIsize {
     ghost use Rattle.deku_meanings.specs.Shapes.{ShowsUnless};
 
     ghost accepts = { λ c. c ≡ c };
+
+    ghost prompt = { λ c. c ≡ c };
 
     ghost meaning = { λ c. Then (ReadsNumber (signed 64) (C.parts_of c)) (ShowsUnless (λ n. n ≡ pos 0) (codes "NonZero assertion") non_zero_isize_get) };
 

@@ -12,6 +12,8 @@ impl<Ctx: Copy, T: DekuReader<Ctx>> DekuReader<Ctx> for Option<T> {
 
     ghost accepts = { T.accepts };
 
+    ghost prompt = { T.prompt };
+
     ghost meaning = { λ c. Mapped Some (T.meaning c) };
 
     fn from_reader_with_ctx<R: Source>(

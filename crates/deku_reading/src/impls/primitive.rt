@@ -1,8 +1,10 @@
 //! Whole numbers, under every context that names a layout.
 
 ghost use Rattle.std.specs.Prelude.{OnOk};
+ghost use Rattle.deku_bits.specs.Standings.{Untouched};
 ghost use Rattle.deku_bits.specs.ReaderCalls.{Reads, FetchesFor};
 ghost use Rattle.deku_num.specs.Numbers.{width};
+ghost use Rattle.deku_reading.specs.Early.{Promptly};
 
 use crate::traits::DekuReader;
 use deku_bits::device::Source;
@@ -19,11 +21,15 @@ impl<C: NumberCtx> DekuReader<C> for u8 {
 
     ghost accepts = { λ c. c ≡ c };
 
+    ghost prompt = { λ c. c ≡ c };
+
     ghost meaning = { λ c. ReadsUnsigned byte (C.parts_of c) };
 
     fn from_reader_with_ctx<R: Source>(reader: &mut Reader<R>, ctx: C) -> Result<Self, DekuError>
         ensures reads { Reads R.told (ReadsUnsigned byte (C.parts_of ctx)) reader.old result reader.new }
         ensures fetched { OnOk result (FetchesFor (width byte (C.parts_of ctx)) reader.old.state (R.told reader.old.source) (R.told reader.new.source)) }
+        ensures early { OnOk result (Promptly R.told reader.old reader.new) }
+        ensures stopped { Untouched reader.old.state reader.old.source reader.new.source }
     {
         let value = read_unsigned(reader, NumberType::U8, ctx.parts())?;
         Ok(value as u8)
@@ -37,11 +43,15 @@ impl<C: NumberCtx> DekuReader<C> for u16 {
 
     ghost accepts = { λ c. c ≡ c };
 
+    ghost prompt = { λ c. c ≡ c };
+
     ghost meaning = { λ c. ReadsUnsigned (unsigned 16) (C.parts_of c) };
 
     fn from_reader_with_ctx<R: Source>(reader: &mut Reader<R>, ctx: C) -> Result<Self, DekuError>
         ensures reads { Reads R.told (ReadsUnsigned (unsigned 16) (C.parts_of ctx)) reader.old result reader.new }
         ensures fetched { OnOk result (FetchesFor (width (unsigned 16) (C.parts_of ctx)) reader.old.state (R.told reader.old.source) (R.told reader.new.source)) }
+        ensures early { OnOk result (Promptly R.told reader.old reader.new) }
+        ensures stopped { Untouched reader.old.state reader.old.source reader.new.source }
     {
         let value = read_unsigned(reader, NumberType::U16, ctx.parts())?;
         Ok(value as u16)
@@ -55,11 +65,15 @@ impl<C: NumberCtx> DekuReader<C> for u32 {
 
     ghost accepts = { λ c. c ≡ c };
 
+    ghost prompt = { λ c. c ≡ c };
+
     ghost meaning = { λ c. ReadsUnsigned (unsigned 32) (C.parts_of c) };
 
     fn from_reader_with_ctx<R: Source>(reader: &mut Reader<R>, ctx: C) -> Result<Self, DekuError>
         ensures reads { Reads R.told (ReadsUnsigned (unsigned 32) (C.parts_of ctx)) reader.old result reader.new }
         ensures fetched { OnOk result (FetchesFor (width (unsigned 32) (C.parts_of ctx)) reader.old.state (R.told reader.old.source) (R.told reader.new.source)) }
+        ensures early { OnOk result (Promptly R.told reader.old reader.new) }
+        ensures stopped { Untouched reader.old.state reader.old.source reader.new.source }
     {
         let value = read_unsigned(reader, NumberType::U32, ctx.parts())?;
         Ok(value as u32)
@@ -73,11 +87,15 @@ impl<C: NumberCtx> DekuReader<C> for u64 {
 
     ghost accepts = { λ c. c ≡ c };
 
+    ghost prompt = { λ c. c ≡ c };
+
     ghost meaning = { λ c. ReadsUnsigned (unsigned 64) (C.parts_of c) };
 
     fn from_reader_with_ctx<R: Source>(reader: &mut Reader<R>, ctx: C) -> Result<Self, DekuError>
         ensures reads { Reads R.told (ReadsUnsigned (unsigned 64) (C.parts_of ctx)) reader.old result reader.new }
         ensures fetched { OnOk result (FetchesFor (width (unsigned 64) (C.parts_of ctx)) reader.old.state (R.told reader.old.source) (R.told reader.new.source)) }
+        ensures early { OnOk result (Promptly R.told reader.old reader.new) }
+        ensures stopped { Untouched reader.old.state reader.old.source reader.new.source }
     {
         let value = read_unsigned(reader, NumberType::U64, ctx.parts())?;
         Ok(value as u64)
@@ -91,11 +109,15 @@ impl<C: NumberCtx> DekuReader<C> for u128 {
 
     ghost accepts = { λ c. c ≡ c };
 
+    ghost prompt = { λ c. c ≡ c };
+
     ghost meaning = { λ c. ReadsUnsigned (unsigned 128) (C.parts_of c) };
 
     fn from_reader_with_ctx<R: Source>(reader: &mut Reader<R>, ctx: C) -> Result<Self, DekuError>
         ensures reads { Reads R.told (ReadsUnsigned (unsigned 128) (C.parts_of ctx)) reader.old result reader.new }
         ensures fetched { OnOk result (FetchesFor (width (unsigned 128) (C.parts_of ctx)) reader.old.state (R.told reader.old.source) (R.told reader.new.source)) }
+        ensures early { OnOk result (Promptly R.told reader.old reader.new) }
+        ensures stopped { Untouched reader.old.state reader.old.source reader.new.source }
     {
         let value = read_unsigned(reader, NumberType::U128, ctx.parts())?;
         Ok(value)
@@ -109,11 +131,15 @@ impl<C: NumberCtx> DekuReader<C> for usize {
 
     ghost accepts = { λ c. c ≡ c };
 
+    ghost prompt = { λ c. c ≡ c };
+
     ghost meaning = { λ c. ReadsUnsigned (unsigned 64) (C.parts_of c) };
 
     fn from_reader_with_ctx<R: Source>(reader: &mut Reader<R>, ctx: C) -> Result<Self, DekuError>
         ensures reads { Reads R.told (ReadsUnsigned (unsigned 64) (C.parts_of ctx)) reader.old result reader.new }
         ensures fetched { OnOk result (FetchesFor (width (unsigned 64) (C.parts_of ctx)) reader.old.state (R.told reader.old.source) (R.told reader.new.source)) }
+        ensures early { OnOk result (Promptly R.told reader.old reader.new) }
+        ensures stopped { Untouched reader.old.state reader.old.source reader.new.source }
     {
         let value = read_unsigned(reader, NumberType::USIZE, ctx.parts())?;
         Ok(value as usize)
@@ -127,11 +153,15 @@ impl<C: NumberCtx> DekuReader<C> for i8 {
 
     ghost accepts = { λ c. c ≡ c };
 
+    ghost prompt = { λ c. c ≡ c };
+
     ghost meaning = { λ c. ReadsNumber (signed 8) (C.parts_of c) };
 
     fn from_reader_with_ctx<R: Source>(reader: &mut Reader<R>, ctx: C) -> Result<Self, DekuError>
         ensures reads { Reads R.told (ReadsNumber (signed 8) (C.parts_of ctx)) reader.old result reader.new }
         ensures fetched { OnOk result (FetchesFor (width (signed 8) (C.parts_of ctx)) reader.old.state (R.told reader.old.source) (R.told reader.new.source)) }
+        ensures early { OnOk result (Promptly R.told reader.old reader.new) }
+        ensures stopped { Untouched reader.old.state reader.old.source reader.new.source }
     {
         let value = read_signed(reader, NumberType::I8, ctx.parts())?;
         Ok(value as i8)
@@ -145,11 +175,15 @@ impl<C: NumberCtx> DekuReader<C> for i16 {
 
     ghost accepts = { λ c. c ≡ c };
 
+    ghost prompt = { λ c. c ≡ c };
+
     ghost meaning = { λ c. ReadsNumber (signed 16) (C.parts_of c) };
 
     fn from_reader_with_ctx<R: Source>(reader: &mut Reader<R>, ctx: C) -> Result<Self, DekuError>
         ensures reads { Reads R.told (ReadsNumber (signed 16) (C.parts_of ctx)) reader.old result reader.new }
         ensures fetched { OnOk result (FetchesFor (width (signed 16) (C.parts_of ctx)) reader.old.state (R.told reader.old.source) (R.told reader.new.source)) }
+        ensures early { OnOk result (Promptly R.told reader.old reader.new) }
+        ensures stopped { Untouched reader.old.state reader.old.source reader.new.source }
     {
         let value = read_signed(reader, NumberType::I16, ctx.parts())?;
         Ok(value as i16)
@@ -163,11 +197,15 @@ impl<C: NumberCtx> DekuReader<C> for i32 {
 
     ghost accepts = { λ c. c ≡ c };
 
+    ghost prompt = { λ c. c ≡ c };
+
     ghost meaning = { λ c. ReadsNumber (signed 32) (C.parts_of c) };
 
     fn from_reader_with_ctx<R: Source>(reader: &mut Reader<R>, ctx: C) -> Result<Self, DekuError>
         ensures reads { Reads R.told (ReadsNumber (signed 32) (C.parts_of ctx)) reader.old result reader.new }
         ensures fetched { OnOk result (FetchesFor (width (signed 32) (C.parts_of ctx)) reader.old.state (R.told reader.old.source) (R.told reader.new.source)) }
+        ensures early { OnOk result (Promptly R.told reader.old reader.new) }
+        ensures stopped { Untouched reader.old.state reader.old.source reader.new.source }
     {
         let value = read_signed(reader, NumberType::I32, ctx.parts())?;
         Ok(value as i32)
@@ -181,11 +219,15 @@ impl<C: NumberCtx> DekuReader<C> for i64 {
 
     ghost accepts = { λ c. c ≡ c };
 
+    ghost prompt = { λ c. c ≡ c };
+
     ghost meaning = { λ c. ReadsNumber (signed 64) (C.parts_of c) };
 
     fn from_reader_with_ctx<R: Source>(reader: &mut Reader<R>, ctx: C) -> Result<Self, DekuError>
         ensures reads { Reads R.told (ReadsNumber (signed 64) (C.parts_of ctx)) reader.old result reader.new }
         ensures fetched { OnOk result (FetchesFor (width (signed 64) (C.parts_of ctx)) reader.old.state (R.told reader.old.source) (R.told reader.new.source)) }
+        ensures early { OnOk result (Promptly R.told reader.old reader.new) }
+        ensures stopped { Untouched reader.old.state reader.old.source reader.new.source }
     {
         let value = read_signed(reader, NumberType::I64, ctx.parts())?;
         Ok(value as i64)
@@ -199,11 +241,15 @@ impl<C: NumberCtx> DekuReader<C> for i128 {
 
     ghost accepts = { λ c. c ≡ c };
 
+    ghost prompt = { λ c. c ≡ c };
+
     ghost meaning = { λ c. ReadsNumber (signed 128) (C.parts_of c) };
 
     fn from_reader_with_ctx<R: Source>(reader: &mut Reader<R>, ctx: C) -> Result<Self, DekuError>
         ensures reads { Reads R.told (ReadsNumber (signed 128) (C.parts_of ctx)) reader.old result reader.new }
         ensures fetched { OnOk result (FetchesFor (width (signed 128) (C.parts_of ctx)) reader.old.state (R.told reader.old.source) (R.told reader.new.source)) }
+        ensures early { OnOk result (Promptly R.told reader.old reader.new) }
+        ensures stopped { Untouched reader.old.state reader.old.source reader.new.source }
     {
         let value = read_signed(reader, NumberType::I128, ctx.parts())?;
         Ok(value)
@@ -217,11 +263,15 @@ impl<C: NumberCtx> DekuReader<C> for isize {
 
     ghost accepts = { λ c. c ≡ c };
 
+    ghost prompt = { λ c. c ≡ c };
+
     ghost meaning = { λ c. ReadsNumber (signed 64) (C.parts_of c) };
 
     fn from_reader_with_ctx<R: Source>(reader: &mut Reader<R>, ctx: C) -> Result<Self, DekuError>
         ensures reads { Reads R.told (ReadsNumber (signed 64) (C.parts_of ctx)) reader.old result reader.new }
         ensures fetched { OnOk result (FetchesFor (width (signed 64) (C.parts_of ctx)) reader.old.state (R.told reader.old.source) (R.told reader.new.source)) }
+        ensures early { OnOk result (Promptly R.told reader.old reader.new) }
+        ensures stopped { Untouched reader.old.state reader.old.source reader.new.source }
     {
         let value = read_signed(reader, NumberType::ISIZE, ctx.parts())?;
         Ok(value as isize)

@@ -10,6 +10,8 @@ impl<Ctx: Copy, A: DekuReader<Ctx>> DekuReader<Ctx> for (A,) {
 
     ghost accepts = { A.accepts };
 
+    ghost prompt = { A.prompt };
+
     ghost meaning = { λ c. Mapped (λ a. record { 0 = a }) (A.meaning c) };
 
     fn from_reader_with_ctx<R: Source>(
@@ -25,6 +27,8 @@ impl<Ctx: Copy, A: DekuReader<Ctx>, B: DekuReader<Ctx>> DekuReader<Ctx> for (A, 
     ghost use Rattle.deku_meanings.specs.Composing.{PairOf};
 
     ghost accepts = { λ c. A.accepts c × B.accepts c };
+
+    ghost prompt = { λ c. A.prompt c × B.prompt c };
 
     ghost meaning = { λ c. PairOf (A.meaning c) (B.meaning c) };
 
@@ -43,6 +47,8 @@ impl<Ctx: Copy, A: DekuReader<Ctx>, B: DekuReader<Ctx>, C: DekuReader<Ctx>> Deku
     ghost use Rattle.deku_meanings.specs.Shapes.{JoinedBy};
 
     ghost accepts = { λ c. A.accepts c × ⟦<(B, C) as DekuReader<Ctx>>⟧.accepts c };
+
+    ghost prompt = { λ c. A.prompt c × ⟦<(B, C) as DekuReader<Ctx>>⟧.prompt c };
 
     ghost meaning = { λ c. JoinedBy (λ a rest. (a, rest.0, rest.1)) (A.meaning c) (⟦<(B, C) as DekuReader<Ctx>>⟧.meaning c) };
 
@@ -67,6 +73,8 @@ impl<
 
     ghost accepts = { λ c. A.accepts c × ⟦<(B, C, D) as DekuReader<Ctx>>⟧.accepts c };
 
+    ghost prompt = { λ c. A.prompt c × ⟦<(B, C, D) as DekuReader<Ctx>>⟧.prompt c };
+
     ghost meaning = { λ c. JoinedBy (λ a rest. (a, rest.0, rest.1, rest.2)) (A.meaning c) (⟦<(B, C, D) as DekuReader<Ctx>>⟧.meaning c) };
 
     fn from_reader_with_ctx<R: Source>(
@@ -90,6 +98,8 @@ impl<
     ghost use Rattle.deku_meanings.specs.Shapes.{JoinedBy};
 
     ghost accepts = { λ c. A.accepts c × ⟦<(B, C, D, E) as DekuReader<Ctx>>⟧.accepts c };
+
+    ghost prompt = { λ c. A.prompt c × ⟦<(B, C, D, E) as DekuReader<Ctx>>⟧.prompt c };
 
     ghost meaning = { λ c. JoinedBy (λ a rest. (a, rest.0, rest.1, rest.2, rest.3)) (A.meaning c) (⟦<(B, C, D, E) as DekuReader<Ctx>>⟧.meaning c) };
 
@@ -116,6 +126,8 @@ impl<
 
     ghost accepts = { λ c. A.accepts c × ⟦<(B, C, D, E, F) as DekuReader<Ctx>>⟧.accepts c };
 
+    ghost prompt = { λ c. A.prompt c × ⟦<(B, C, D, E, F) as DekuReader<Ctx>>⟧.prompt c };
+
     ghost meaning = { λ c. JoinedBy (λ a rest. (a, rest.0, rest.1, rest.2, rest.3, rest.4)) (A.meaning c) (⟦<(B, C, D, E, F) as DekuReader<Ctx>>⟧.meaning c) };
 
     fn from_reader_with_ctx<R: Source>(
@@ -141,6 +153,8 @@ impl<
     ghost use Rattle.deku_meanings.specs.Shapes.{JoinedBy};
 
     ghost accepts = { λ c. A.accepts c × ⟦<(B, C, D, E, F, G) as DekuReader<Ctx>>⟧.accepts c };
+
+    ghost prompt = { λ c. A.prompt c × ⟦<(B, C, D, E, F, G) as DekuReader<Ctx>>⟧.prompt c };
 
     ghost meaning = { λ c. JoinedBy (λ a rest. (a, rest.0, rest.1, rest.2, rest.3, rest.4, rest.5)) (A.meaning c) (⟦<(B, C, D, E, F, G) as DekuReader<Ctx>>⟧.meaning c) };
 
@@ -169,6 +183,8 @@ impl<
 
     ghost accepts = { λ c. A.accepts c × ⟦<(B, C, D, E, F, G, H) as DekuReader<Ctx>>⟧.accepts c };
 
+    ghost prompt = { λ c. A.prompt c × ⟦<(B, C, D, E, F, G, H) as DekuReader<Ctx>>⟧.prompt c };
+
     ghost meaning = { λ c. JoinedBy (λ a rest. (a, rest.0, rest.1, rest.2, rest.3, rest.4, rest.5, rest.6)) (A.meaning c) (⟦<(B, C, D, E, F, G, H) as DekuReader<Ctx>>⟧.meaning c) };
 
     fn from_reader_with_ctx<R: Source>(
@@ -196,6 +212,8 @@ impl<
     ghost use Rattle.deku_meanings.specs.Shapes.{JoinedBy};
 
     ghost accepts = { λ c. A.accepts c × ⟦<(B, C, D, E, F, G, H, I) as DekuReader<Ctx>>⟧.accepts c };
+
+    ghost prompt = { λ c. A.prompt c × ⟦<(B, C, D, E, F, G, H, I) as DekuReader<Ctx>>⟧.prompt c };
 
     ghost meaning = { λ c. JoinedBy (λ a rest. (a, rest.0, rest.1, rest.2, rest.3, rest.4, rest.5, rest.6, rest.7)) (A.meaning c) (⟦<(B, C, D, E, F, G, H, I) as DekuReader<Ctx>>⟧.meaning c) };
 
@@ -228,6 +246,8 @@ impl<
 
     ghost accepts = { λ c. A.accepts c × ⟦<(B, C, D, E, F, G, H, I, J) as DekuReader<Ctx>>⟧.accepts c };
 
+    ghost prompt = { λ c. A.prompt c × ⟦<(B, C, D, E, F, G, H, I, J) as DekuReader<Ctx>>⟧.prompt c };
+
     ghost meaning = { λ c. JoinedBy (λ a rest. (a, rest.0, rest.1, rest.2, rest.3, rest.4, rest.5, rest.6, rest.7, rest.8)) (A.meaning c) (⟦<(B, C, D, E, F, G, H, I, J) as DekuReader<Ctx>>⟧.meaning c) };
 
     fn from_reader_with_ctx<R: Source>(
@@ -259,6 +279,8 @@ impl<
     ghost use Rattle.deku_meanings.specs.Shapes.{JoinedBy};
 
     ghost accepts = { λ c. A.accepts c × ⟦<(B, C, D, E, F, G, H, I, J, K) as DekuReader<Ctx>>⟧.accepts c };
+
+    ghost prompt = { λ c. A.prompt c × ⟦<(B, C, D, E, F, G, H, I, J, K) as DekuReader<Ctx>>⟧.prompt c };
 
     ghost meaning = { λ c. JoinedBy (λ a rest. (a, rest.0, rest.1, rest.2, rest.3, rest.4, rest.5, rest.6, rest.7, rest.8, rest.9)) (A.meaning c) (⟦<(B, C, D, E, F, G, H, I, J, K) as DekuReader<Ctx>>⟧.meaning c) };
 

@@ -12,6 +12,8 @@ impl<Ctx: Copy> DekuReader<Ctx> for () {
 
     ghost accepts = { λ c. c ≡ c };
 
+    ghost prompt = { λ c. c ≡ c };
+
     ghost meaning = { λ _. Answer tt };
 
     fn from_reader_with_ctx<R: Source>(

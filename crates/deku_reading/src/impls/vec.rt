@@ -22,9 +22,11 @@ use std::io::ErrorKind;
 /// Vec::<u8>::from_reader_with_ctx(&mut reader, (limit, BitSize(6)))?; // 0x1A, 0x1E
 /// ```
 impl<T: DekuReader<Ctx>, P: Predicate<T>, Ctx: Copy> DekuReader<(Limit<T, P>, Ctx)> for Vec<T> {
-    ghost use Rattle.deku_reading.specs.Limits.{ReadsUnder, AsksAll, Held};
+    ghost use Rattle.deku_reading.specs.Limits.{ReadsUnder, AsksAll, EndsItself, Held};
 
     ghost accepts = { λ c. T.accepts c.1 × AsksAll P.asks_all c.0 };
+
+    ghost prompt = { λ c. T.prompt c.1 × EndsItself c.0 };
 
     ghost meaning = { λ c. Held (λ xs v. v.items ≡ xs) (ReadsUnder P.answers c.0 (T.meaning c.1)) };
 
@@ -41,6 +43,8 @@ impl<T: DekuReader<Ctx>, P: Predicate<T>, Ctx: Copy> DekuReader<(Limit<T, P>, Ct
 /// The items that the limit says, each under `()`.
 impl<T: DekuReader<()>, P: Predicate<T>> DekuReader<Limit<T, P>> for Vec<T> {
     ghost accepts = { λ c. ⟦<Vec<T> as DekuReader<(Limit<T, P>, ())>>⟧.accepts (c, tt) };
+
+    ghost prompt = { λ c. ⟦<Vec<T> as DekuReader<(Limit<T, P>, ())>>⟧.prompt (c, tt) };
 
     ghost meaning = { λ c. ⟦<Vec<T> as DekuReader<(Limit<T, P>, ())>>⟧.meaning (c, tt) };
 
@@ -65,6 +69,8 @@ impl DekuReader<ReadExact> for Vec<u8> {
     ghost use Rattle.deku_reading.specs.Lists.{Seen};
 
     ghost accepts = { λ c. c ≡ c };
+
+    ghost prompt = { λ c. c ≡ c };
 
     ghost meaning = { λ c. Seen (λ v. v.items) (Mapped bytes_of (ReadsVec Lsb0 (8 * c.0))) };
 

@@ -1,5 +1,6 @@
-use Rattle.std.proofs.Common.{refl, inr, ◌∙◌, arith}
+use Rattle.std.proofs.Common.{◌≡◌, ◌+◌, length, ap, refl, inr, ◌∙◌, arith}
 use Rattle.std.proofs.lemmas.List.{length-set}
+use Rattle.deku_fields.proofs.Resting.{rests, rests_in, rests_on, field_going}
 use Rattle.deku_fields.proofs.Stepping.{early_on, started, field_read, field_refused, fields_read}
 use Rattle.deku_fields.proofs.ReadBack.{fields_back, left_behind}
 use Rattle.deku_fields.proofs.Finding.{finds_any}
@@ -7,7 +8,7 @@ use Rattle.deku_fields.proofs.Fetching.{tally_none, tally_more, tally_whole}
 use Rattle.deku_fields.proofs.read.read_list_into.Goals as goal
 
 pub loop-place-init : goal.loop-place-init
-loop-place-init g c = (refl, started c.args.fields.now c.args.out.now _ _, inr refl, tally_none c.args.reader.now.state _)
+loop-place-init g c = (refl, started c.args.fields.now c.args.out.now _ _, inr refl, tally_none c.args.reader.now.state _, rests c.args.reader.now.state refl, λ _. refl)
 
 pub returns-in-Err-clause-meaning : goal.returns-in-Err-clause-meaning
 returns-in-Err-clause-meaning g c = field_refused c.args.fields.now c.loop-place.place _ _ c.in-Err.refusal _ _ _ _ _ _ (omega arith) (c.loop-place.invariant.1) (c.in-Err.ensures.reads)
@@ -18,6 +19,9 @@ loop-place-preserved g c = (
   field_read c.args.fields.now c.loop-place.place _ c.loop-place.out c.in-Ok.number _ _ _ _ _ _ (omega arith) (omega (arith, c.loop-place.invariant.0, c.requires)) (c.loop-place.invariant.1) (c.in-Ok.ensures.reads),
   early_on c.loop-place.invariant.2 c.in-Ok.ensures.early,
   tally_more c.args.fields.now c.loop-place.place _ c.in-Ok.number (g.R.Source.told c.args.reader.now.source) (g.R.Source.told c.loop-place.reader.source) (g.R.Source.told c.read_field.new.reader.source) c.args.reader.now.state c.loop-place.reader.state c.read_field.new.reader.state (omega arith) c.loop-place.invariant.3 c.in-Ok.ensures.reads c.in-Ok.ensures.fetched c.in-Ok.ensures.early,
+  field_going _ c.in-Ok.number (g.R.Source.told c.loop-place.reader.source) (g.R.Source.told c.read_field.new.reader.source) c.args.reader.now.state c.loop-place.reader.state c.read_field.new.reader.state _ _
+      (rests_in (λ r. r.state) c.args.reader.now.state c.args.reader.now c.loop-place.reader c.loop-place.invariant.4) c.in-Ok.ensures.reads,
+  λ (e : c.loop-place.place + 1 ≡ 0). absurd (omega arith),
 )
 
 pub returns-clause-meaning : goal.returns-clause-meaning
@@ -44,3 +48,18 @@ returns-clause-found g c = finds_any c.args.fields.now _ _ (returns-clause-meani
 
 pub returns-in-Err-clause-found : goal.returns-in-Err-clause-found
 returns-in-Err-clause-found g c = finds_any c.args.fields.now _ _ (returns-in-Err-clause-meaning g c)
+
+pub returns-in-Err-clause-stopped : goal.returns-in-Err-clause-stopped
+returns-in-Err-clause-stopped g c =
+    rests_on c.args.reader.now.state c.loop-place.reader.state c.args.reader.now.source c.loop-place.reader.source _
+    (rests_in (λ r. r.state) c.args.reader.now.state c.args.reader.now c.loop-place.reader c.loop-place.invariant.4)
+    (rests_in (λ r. r.source) c.args.reader.now.state c.args.reader.now c.loop-place.reader c.loop-place.invariant.4) c.in-Err.ensures.stopped
+
+pub returns-clause-stopped : goal.returns-clause-stopped
+returns-clause-stopped g c = rests_in (λ r. r.source) c.args.reader.now.state c.args.reader.now c.loop-place.reader c.loop-place.invariant.4
+
+pub returns-clause-none : goal.returns-clause-none
+returns-clause-none g c = λ e. c.loop-place.invariant.5 (omega (arith, ap length e))
+
+pub returns-in-Err-clause-none : goal.returns-in-Err-clause-none
+returns-in-Err-clause-none g c = λ e. absurd (omega (arith, ap length e))

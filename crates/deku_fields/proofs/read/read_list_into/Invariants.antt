@@ -1,7 +1,7 @@
 use Rattle.std.proofs.Common.{◌≡◌, length, map, take}
 use Rattle.deku_bits.specs.Pieces.{total}
 use Rattle.deku_bits.specs.ReaderCalls.{NoneEarly}
-use Rattle.deku_bits.specs.Standings.{reader_state}
+use Rattle.deku_bits.specs.Standings.{Untouched, reader_state}
 use Rattle.deku_fields.specs.Items.{field_shape}
 use Rattle.deku_fields.proofs.Stepping.{Continues}
 use Rattle.deku_fields.proofs.Fetching.{Tally}
@@ -14,3 +14,5 @@ invariant-loop-place g l = (length l.out ≡ length l.initial.out)
     (reader_state (g.R.Source.told l.reader.source).coming l.reader.state) (g.R.Source.told l.reader.source).health
     × NoneEarly l.initial.reader.state l.reader.state
     × Tally (total (map field_shape (take l.place l.fields))) l.initial.reader.state (g.R.Source.told l.initial.reader.source).coming l.reader.state (g.R.Source.told l.reader.source).coming
+    × Untouched l.initial.reader.state l.initial.reader l.reader
+    × (l.place ≡ 0 → l.reader ≡ l.initial.reader)

@@ -1,8 +1,15 @@
-use Rattle.std.proofs.Common.{rules, arith}
-use Rattle.std.proofs.lemmas.Int.{ints}
-use Rattle.deku_fields.proofs.WritingLists.{item_passed}
+use Rattle.std.proofs.Common.{rules, ◌≡◌}
+use Rattle.std.proofs.lemmas.Int.{to_z-of_z}
+use mir.Syntax.{w128}
+use mir.Val.{SFits}
+use Rattle.deku_fields.specs.declared.list.Number.TheVariants.{Signed}
+use Rattle.deku_fields.specs.ListCalls.{IsOfKind}
+use Rattle.deku_fields.proofs.Stepping.{item_passed}
 use Rattle.deku_fields.proofs.write.write_item.Goals as goal
 
-pub returns-in-Signed : goal.returns-in-Signed
-returns-in-Signed g c =
-    item_passed c.args.item.now _ _ c.write_signed.ensures (search rules) c.number_type-number_type.ensures (rw c.in-Signed.is (omega (arith, ints)))
+pub returns-in-Signed-clause-writes : goal.returns-in-Signed-clause-writes
+returns-in-Signed-clause-writes g c =
+    let is : c.args.item.now.value ≡ Signed c.in-Signed.value = search rules in
+    let kind : IsOfKind c.args.item.now.field.kind c.args.item.now.value = search rules in
+    let fits : SFits w128 c.in-Signed.value = search rules in
+    item_passed c.args.item.now (Signed c.in-Signed.value) is c.number_type-number_type.ensures kind (rw (to_z-of_z w128 c.in-Signed.value fits) at c.write_signed.ensures.writes)

@@ -13,3 +13,6 @@ returns-in-Err-push-clause-reads g c = then_on c.in-Ok.ensures.reads (Quiet NoMe
 
 pub returns-in-Err-clause-reads : goal.returns-in-Err-clause-reads
 returns-in-Err-clause-reads g c = first_refused c.in-Err.ensures.reads
+
+pub returns-in-Ok-push-clause-early : goal.returns-in-Ok-push-clause-early
+returns-in-Ok-push-clause-early g c = c.in-Ok.ensures.early

@@ -1,11 +1,15 @@
 use Rattle.deku.proofs.Joining.{passed_on, first_refused, then_on, answered}
+use Rattle.deku.proofs.Early.{promptly_on}
 use Rattle.deku_container_tests.proofs.examples.BytesDekuReaderUnit.from_reader_with_ctx.Goals as goal
 
-pub returns-in_err-two : goal.returns-in_err-two
-returns-in_err-two g c = passed_on _ c.from_residual.ensures.1 (first_refused c.in_err-two.ensures.reads)
+pub returns-in_err-two-clause-reads : goal.returns-in_err-two-clause-reads
+returns-in_err-two-clause-reads g c = passed_on _ c.from_residual.ensures.1 (first_refused c.in_err-two.ensures.reads)
 
-pub returns-in_err-one : goal.returns-in_err-one
-returns-in_err-one g c = passed_on _ c.from_residual-in_err-one.ensures.1 (then_on c.in_ok-two.ensures.reads (first_refused c.in_err-one.ensures.reads))
+pub returns-in_err-one-clause-reads : goal.returns-in_err-one-clause-reads
+returns-in_err-one-clause-reads g c = passed_on _ c.from_residual-in_err-one.ensures.1 (then_on c.in_ok-two.ensures.reads (first_refused c.in_err-one.ensures.reads))
 
-pub returns : goal.returns
-returns g c = then_on c.in_ok-two.ensures.reads (then_on c.in_ok-one.ensures.reads answered)
+pub returns-clause-reads : goal.returns-clause-reads
+returns-clause-reads g c = then_on c.in_ok-two.ensures.reads (then_on c.in_ok-one.ensures.reads answered)
+
+pub returns-clause-early : goal.returns-clause-early
+returns-clause-early g c = λ _. promptly_on c.in_ok-two.ensures.early c.in_ok-one.ensures.early

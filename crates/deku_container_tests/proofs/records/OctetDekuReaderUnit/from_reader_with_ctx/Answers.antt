@@ -1,8 +1,11 @@
 use Rattle.deku.proofs.Joining.{passed_on, mapped_ok, mapped_err}
 use Rattle.deku_container_tests.proofs.records.OctetDekuReaderUnit.from_reader_with_ctx.Goals as goal
 
-pub returns-in_err-value : goal.returns-in_err-value
-returns-in_err-value g c = passed_on _ c.from_residual.ensures.1 (mapped_err (λ v. record { value = v }) c.in_err-value.ensures.reads)
+pub returns-in_err-value-clause-reads : goal.returns-in_err-value-clause-reads
+returns-in_err-value-clause-reads g c = passed_on _ c.from_residual.ensures.1 (mapped_err (λ v. record { value = v }) c.in_err-value.ensures.reads)
 
-pub returns : goal.returns
-returns g c = mapped_ok (λ v. record { value = v }) c.in_ok-value.ensures.reads
+pub returns-clause-reads : goal.returns-clause-reads
+returns-clause-reads g c = mapped_ok (λ v. record { value = v }) c.in_ok-value.ensures.reads
+
+pub returns-clause-early : goal.returns-clause-early
+returns-clause-early g c = λ _. c.in_ok-value.ensures.early

@@ -1,17 +1,24 @@
 use Rattle.std.proofs.Common.{[], refl, ◌∙◌, arith}
 use Rattle.deku_reading.proofs.Slots.{no_items, item_read, item_refused, items_read, all_held}
+use Rattle.deku_reading.proofs.Early.{promptly_none, promptly_on}
 use Rattle.deku_reading.proofs.impls.array.fill_slots.Goals as goal
 
 pub loop-place-init : goal.loop-place-init
-loop-place-init g c = no_items _ _ c.args.slots.now _ _ refl
+loop-place-init g c = record { far = no_items _ _ c.args.slots.now _ _ refl; early = λ _. promptly_none }
 
 pub loop-place-preserved : goal.loop-place-preserved
-loop-place-preserved g c = item_read _ _ c.loop-place.place _ _ _ _ _ _ _ _ (omega arith) c.loop-place.invariant c.in-Ok.ensures
+loop-place-preserved g c = record {
+  far = item_read _ _ c.loop-place.place _ _ _ _ _ _ _ _ (omega arith) c.loop-place.invariant.far c.in-Ok.ensures.reads;
+  early = λ p. promptly_on (c.loop-place.invariant.early p) (c.in-Ok.ensures.early p);
+}
 
-pub returns-in-Err : goal.returns-in-Err
-returns-in-Err g c = ([], item_refused _ _ c.loop-place.place _ _ _ _ _ _ _ _ (omega arith) c.loop-place.invariant c.in-Err.ensures, tt)
+pub returns-in-Err-clause-reads : goal.returns-in-Err-clause-reads
+returns-in-Err-clause-reads g c = ([], item_refused _ _ c.loop-place.place _ _ _ _ _ _ _ _ (omega arith) c.loop-place.invariant.far c.in-Err.ensures.reads, tt)
 
-pub returns : goal.returns
-returns g c =
-    let k = c.loop-place.invariant in
+pub returns-clause-reads : goal.returns-clause-reads
+returns-clause-reads g c =
+    let k = c.loop-place.invariant.far in
     (k.items, items_read _ _ _ _ _ _ _ _ (omega arith) k, (k.read ∙ omega arith, all_held _ _ _ _ _ _ _ _ (omega arith) k))
+
+pub returns-clause-early : goal.returns-clause-early
+returns-clause-early g c = c.loop-place.invariant.early

@@ -1,23 +1,35 @@
-use Rattle.std.proofs.Common.{refl, arith}
+use Rattle.std.proofs.Common.{rules, refl, arith}
 use Rattle.deku_reading.proofs.Judging.{within_count, past_count}
 use Rattle.deku_reading.proofs.impls.gather.gather_under.Goals as goal
 
-pub returns-in-Count : goal.returns-in-Count
-returns-in-Count g c = rw c.in-Count.is c.gather_count.ensures
+pub returns-in-Count-clause-reads : goal.returns-in-Count-clause-reads
+returns-in-Count-clause-reads g c = rw c.in-Count.is c.gather_count.ensures.reads
 
-pub returns-in-Until : goal.returns-in-Until
-returns-in-Until g c = rw c.in-Until.is c.gather_until.ensures
+pub returns-in-Until-clause-reads : goal.returns-in-Until-clause-reads
+returns-in-Until-clause-reads g c = rw c.in-Until.is c.gather_until.ensures.reads
 
-pub returns-in-Some : goal.returns-in-Some
-returns-in-Some g c =
+pub returns-in-Some-clause-reads : goal.returns-in-Some-clause-reads
+returns-in-Some-clause-reads g c =
     let bits = c.in-Some.ensures in
-    rw c.in-ByteSize.is (within_count c.in-ByteSize.field-0.0 c.in-Some.bits (omega (arith, bits.0)) (omega (arith, bits.1)) c.gather_bits.ensures)
+    rw c.in-ByteSize.is (within_count c.in-ByteSize.field-0.0 c.in-Some.bits (omega (arith, bits.0)) (omega (arith, bits.1)) c.gather_bits.ensures.reads)
 
-pub returns-in-None : goal.returns-in-None
-returns-in-None g c = rw c.in-ByteSize.is (past_count c.in-ByteSize.field-0.0 _ refl (omega (arith, c.in-None.ensures)))
+pub returns-in-None-clause-reads : goal.returns-in-None-clause-reads
+returns-in-None-clause-reads g c = rw c.in-ByteSize.is (past_count c.in-ByteSize.field-0.0 _ refl (omega (arith, c.in-None.ensures)))
 
-pub returns-in-BitSize : goal.returns-in-BitSize
-returns-in-BitSize g c = rw c.in-BitSize.is c.gather_bits-in-BitSize.ensures
+pub returns-in-BitSize-clause-reads : goal.returns-in-BitSize-clause-reads
+returns-in-BitSize-clause-reads g c = rw c.in-BitSize.is c.gather_bits-in-BitSize.ensures.reads
 
-pub returns-in-End : goal.returns-in-End
-returns-in-End g c = rw c.in-End.is c.gather_to_end.ensures
+pub returns-in-End-clause-reads : goal.returns-in-End-clause-reads
+returns-in-End-clause-reads g c = rw c.in-End.is c.gather_to_end.ensures
+
+pub returns-in-Count-clause-early : goal.returns-in-Count-clause-early
+returns-in-Count-clause-early g c = search (rules, c.gather_count.ensures.early)
+
+pub returns-in-Until-clause-early : goal.returns-in-Until-clause-early
+returns-in-Until-clause-early g c = search (rules, c.gather_until.ensures.early)
+
+pub returns-in-Some-clause-early : goal.returns-in-Some-clause-early
+returns-in-Some-clause-early g c = search (rules, c.gather_bits.ensures.early)
+
+pub returns-in-BitSize-clause-early : goal.returns-in-BitSize-clause-early
+returns-in-BitSize-clause-early g c = search (rules, c.gather_bits-in-BitSize.ensures.early)

@@ -1,5 +1,6 @@
 use Rattle.std.proofs.Common.{◌-◌, ◌^◌}
 use Rattle.deku_bits.specs.Standings.{count_of, reader_state}
+use Rattle.deku_reading.specs.Early.{Promptly}
 use Rattle.deku_reading.proofs.Judging.{Gathering}
 use Rattle.deku_reading.proofs.impls.gather.gather_until.Given as goal
 
@@ -9,6 +10,7 @@ invariant-loop-predicate g l = record {
   far : Gathering g.B.Gather.puts (λ q x v k. g.P.Predicate.answers q x.item v k) (g.T.DekuReader.meaning l.ctx) l.initial.predicate l.predicate l.initial.into l.into
       (reader_state (g.R.Source.told l.initial.reader.source).coming l.initial.reader.state) (g.R.Source.told l.initial.reader.source).health
       (reader_state (g.R.Source.told l.reader.source).coming l.reader.state) (g.R.Source.told l.reader.source).health;
+  early : g.T.DekuReader.prompt l.ctx → Promptly g.R.Source.told l.initial.reader l.reader;
 }
 
 abbrev pub decreases-loop-predicate : goal.decreases-loop-predicate

@@ -8,15 +8,18 @@ use mir.Syntax.{w64}
 use mir.Val.{SFits}
 use Rattle.deku_reading.proofs.impls.nonzero.NonZeroI64DekuReader.from_reader_with_ctx.Goals as goal
 
-pub returns-in_err-number : goal.returns-in_err-number
-returns-in_err-number g c = passed_on _ c.from_residual.ensures.1 (first_refused c.in_err-number.ensures.reads)
+pub returns-in_err-number-clause-reads : goal.returns-in_err-number-clause-reads
+returns-in_err-number-clause-reads g c = passed_on _ c.from_residual.ensures.1 (first_refused c.in_err-number.ensures.reads)
 
-pub returns-in-Some : goal.returns-in-Some
-returns-in-Some g c =
+pub returns-in-Some-clause-reads : goal.returns-in-Some-clause-reads
+returns-in-Some-clause-reads g c =
     let fits : SFits w64 c.in_ok-number.number = search rules in
     then_on c.in_ok-number.ensures.reads (shown_behind (c.in-Some.ensures ∙ omega (arith, ints)))
 
-pub returns-in-None : goal.returns-in-None
-returns-in-None g c =
+pub returns-in-None-clause-reads : goal.returns-in-None-clause-reads
+returns-in-None-clause-reads g c =
     let fits : SFits w64 c.in_ok-number.number = search rules in
     then_on c.in_ok-number.ensures.reads (denied (λ n. n ≡ pos 0) non_zero_i64_get _ refl (omega (arith, ints, c.in-None.ensures)))
+
+pub returns-in-Some-clause-early : goal.returns-in-Some-clause-early
+returns-in-Some-clause-early g c = λ _. c.in_ok-number.ensures.early

@@ -8,4 +8,4 @@ use Rattle.deku_writing.proofs.impls.primitive.I32DekuWriter.to_writer.Goals as 
 pub returns : goal.returns
 returns g c =
     let fits : SFits w32 c.args.self.now = search rules in
-    signed_written (rw c.parts.ensures at c.write_signed.ensures) (omega (arith, ints))
+    signed_written (rw c.parts.ensures at c.write_signed.ensures.writes) (omega (arith, ints))

@@ -8,4 +8,4 @@ use Rattle.deku_writing.proofs.impls.primitive.I8DekuWriter.to_writer.Goals as g
 pub returns : goal.returns
 returns g c =
     let fits : SFits w8 c.args.self.now = search rules in
-    signed_written (rw c.parts.ensures at c.write_signed.ensures) (omega (arith, ints))
+    signed_written (rw c.parts.ensures at c.write_signed.ensures.writes) (omega (arith, ints))
