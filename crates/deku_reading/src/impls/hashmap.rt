@@ -30,7 +30,7 @@ impl<
 
     ghost accepts = { λ c. ⟦<(K, V) as DekuReader<Ctx>>⟧.accepts c.1 × AsksAll P.asks_all c.0 };
 
-    ghost meaning = { λ c. Held (λ xs m. IsFromIterResult K.eq xs m × IsMapOf K.eq xs m) (ReadsUnder P.answers c.0 (⟦<(K, V) as DekuReader<Ctx>>⟧.meaning c.1)) };
+    ghost meaning = { λ c. Held (λ xs m. IsFromIterResult K.eq xs m × IsMapOf K.eq xs m) (ReadsUnder P.answers P.ended c.0 (⟦<(K, V) as DekuReader<Ctx>>⟧.meaning c.1)) };
 
     fn from_reader_with_ctx<R: Source>(
         reader: &mut Reader<R>,

@@ -29,7 +29,7 @@ impl<
 
     ghost accepts = { λ c. T.accepts c.1 × AsksAll P.asks_all c.0 };
 
-    ghost meaning = { λ c. Held (λ xs m. IsFromIterResult T.eq xs m × IsSetOf T.eq xs m) (ReadsUnder P.answers c.0 (T.meaning c.1)) };
+    ghost meaning = { λ c. Held (λ xs m. IsFromIterResult T.eq xs m × IsSetOf T.eq xs m) (ReadsUnder P.answers P.ended c.0 (T.meaning c.1)) };
 
     fn from_reader_with_ctx<R: Source>(
         reader: &mut Reader<R>,

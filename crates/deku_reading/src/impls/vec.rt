@@ -26,7 +26,7 @@ impl<T: DekuReader<Ctx>, P: Predicate<T>, Ctx: Copy> DekuReader<(Limit<T, P>, Ct
 
     ghost accepts = { λ c. T.accepts c.1 × AsksAll P.asks_all c.0 };
 
-    ghost meaning = { λ c. Held (λ xs v. v.items ≡ xs) (ReadsUnder P.answers c.0 (T.meaning c.1)) };
+    ghost meaning = { λ c. Held (λ xs v. v.items ≡ xs) (ReadsUnder P.answers P.ended c.0 (T.meaning c.1)) };
 
     fn from_reader_with_ctx<R: Source>(
         reader: &mut Reader<R>,
