@@ -1,6 +1,7 @@
+use Rattle.std.proofs.Common.{sym, subst}
 use Rattle.deku_reading.proofs.Judging.{held_as}
 use Rattle.deku_reading.proofs.Collecting.{set_of}
 use Rattle.deku_reading.proofs.impls.hashset.HashSetDekuReaderTuple2Limit.from_reader_with_ctx.Goals as goal
 
 pub returns : goal.returns
-returns g c = held_as _ (λ xs m h. set_of _ g.met.T.Eq.laws _ xs m c.with_hasher-empty.ensures.empty c.with_hasher-empty.ensures.unique h) c.gather_under.ensures
+returns g c = held_as _ (λ xs m h. set_of _ g.met.T.Eq.laws g.S.Default.is_default _ xs m c.with_hasher-empty.ensures.empty c.with_hasher-empty.ensures.unique (subst g.S.Default.is_default (sym c.with_hasher-empty.ensures.hasher) c.default.ensures) h) c.gather_under.ensures
