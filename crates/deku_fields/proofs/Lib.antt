@@ -17,3 +17,4 @@ pub mod Numerals
 pub mod NamedItems
 pub mod Runs
 pub mod Cuts
+pub mod Giving
