@@ -1,5 +1,5 @@
 -- What a list of fields finds in any stream that is told.
-use Rattle.std.proofs.Common.{◌≡◌, ℕ, ◌+◌, Bool, true, false, Result, Ok, Err, Option, Some, List, [], ◌∷◌, map, length, refl, ap, sym, ◌∙◌, subst, inl, inr, arith}
+use Rattle.std.proofs.Common.{◌≡◌, ℕ, ◌+◌, Bool, true, false, Result, Ok, Err, Option, Some, List, [], ◌∷◌, map, length, ℤ, refl, ap, sym, ◌∙◌, subst, inl, inr, arith}
 use Rattle.std.proofs.lemmas.List.Elements.{All-cons, All-nil}
 use Rattle.deku_bits.specs.declared.error.DekuError.{DekuError}
 use Rattle.deku_bits.specs.declared.ctx.Order.{Order}
@@ -12,7 +12,7 @@ use Rattle.deku_bits.specs.ReaderCalls.{Takes}
 use Rattle.deku_bits.proofs.Handing.{meant}
 use Rattle.deku_bits.proofs.ReaderLaws.{taken_length}
 use Rattle.deku_num.specs.Numbers.{value, number, with_sign}
-use Rattle.deku_num.specs.NumberCalls.{Refused, Passed}
+use Rattle.deku_num.specs.NumberCalls.{ReadsNumber, Refused, Passed}
 use Rattle.deku.specs.Composing.{Answered, Second, First}
 use Rattle.deku_fields.specs.declared.list.Number.{Number}
 use Rattle.deku_fields.specs.declared.list.Field.{Field}
