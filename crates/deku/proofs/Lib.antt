@@ -17,5 +17,6 @@ pub mod Whole
 pub mod Emitting
 pub mod Vectors
 pub mod SeenVectors
+pub mod Sizing
 pub mod Containers
 pub mod WorkedRows

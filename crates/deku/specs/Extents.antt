@@ -1,5 +1,5 @@
 -- What is written as exactly so many bits.
-use Rattle.std.specs.Prelude.{◌≡◌, ℕ, Bool, List, [], ◌∷◌, map, Result, ℤ}
+use Rattle.std.specs.Prelude.{◌≡◌, ℕ, Bool, List, [], ◌∷◌, map, Option, Some, Result, ℤ}
 use Rattle.deku_bits.specs.declared.error.DekuError.{DekuError}
 use Rattle.deku_bits.specs.Bits.{shown}
 use Rattle.deku_bits.specs.Pieces.{Piece, shape, total}
@@ -8,7 +8,9 @@ use Rattle.deku_bits.specs.Outcomes.{Meaning}
 use Rattle.deku_bits.specs.WriterCalls.{WritesBits}
 use Rattle.deku_num.specs.declared.kind.NumberType.{NumberType}
 use Rattle.deku_num.specs.declared.ctx.Layout.{Layout}
+use Rattle.deku_num.specs.NumberLaws.{InType}
 use Rattle.deku_num.specs.NumberCalls.{WritesNumber, IsWhole}
+use Rattle.deku_num.specs.Sizes.{fitting}
 use Rattle.deku_meanings.specs.Composing.{Answer, Both}
 
 -- pieces are written one after the other
@@ -25,3 +27,11 @@ pub record IsSized (n : ℕ) (m : Meaning Output (Unit {0})) : Type 0 where
 -- A value under a layout of its type's whole size is written as exactly the bits of its type.
 abbrev pub NumberSizeLaw : Type 0
 NumberSizeLaw = (t : NumberType) (l : Layout) (v : ℤ) → IsWhole t l v → IsSized t.bits (WritesNumber t l v)
+
+-- where a type's size is answered by a call, m writes exactly so many bits
+pub record KeepsSize (size : Option ℕ) (m : Meaning Output (Unit {0})) : Type 0 where
+  pub answered : (n : ℕ) → fitting size ≡ Some n → IsSized n m
+
+-- each value of a number type, standing for an integer, is written as exactly the bits that its size answers
+abbrev pub NumbersKeepSize : {V : Type 0} → NumberType → (V → ℤ) → Option ℕ → (V → Meaning Output (Unit {0})) → Type 0
+NumbersKeepSize {V} t h size writes = (v : V) → InType t.signed t.bits (h v) → KeepsSize size (writes v)

@@ -1,10 +1,10 @@
 //! Laws of what is written: each is what an empty function ensures.
 
-ghost use Rattle.std.specs.Prelude.{ℕ, ◌+◌, ◌*◌, Bool, List, length, pos};
+ghost use Rattle.std.specs.Prelude.{◌≡◌, ℕ, ◌+◌, ◌*◌, Bool, List, length, pos};
 ghost use Rattle.std.specs.List.{All};
 ghost use Rattle.deku_meanings.specs.Composing.{Both};
 ghost use Rattle.deku_writing.specs.Composing.{WritesEach};
-ghost use Rattle.deku.specs.Extents.{IsSized, NumberSizeLaw};
+ghost use Rattle.deku.specs.Extents.{IsSized, NumberSizeLaw, KeepsSize, NumbersKeepSize};
 ghost use Rattle.deku_num.specs.Numbers.{byte, unsigned, signed};
 ghost use Rattle.deku_meanings.specs.declared.ctx.Limit.TheVariants.{Count};
 ghost use Rattle.deku.specs.VectorLaws.{ReadsAsWritten};
@@ -12,6 +12,7 @@ ghost use Rattle.deku.specs.Rows.{VectorRows};
 
 use deku_meanings::ctx::{Limit, Never};
 use deku_num::ctx::NumberCtx;
+use deku_num::size::DekuSize;
 use deku_reading::DekuReader;
 use deku_writing::DekuWriter;
 
@@ -40,6 +41,57 @@ pub fn joined_size_law<Ctx: Copy, A: DekuWriter<Ctx>, B: DekuWriter<Ctx>>()
 /// are slices and arrays.
 pub fn items_size_law<Ctx: Copy, T: DekuWriter<Ctx>>()
     ensures { (c : Ctx) (vs : List T) (k : ℕ) → All (λ v. IsSized k (T.meaning v c)) vs → IsSized (length vs * k) (WritesEach (λ v. T.meaning v c) vs) }
+{}
+
+/// Where `size_bits` of a number type or of `bool` answers n, each value of the type is written under `()` as exactly n bits.
+pub fn number_extent_law()
+    ensures of_u8 { NumbersKeepSize byte pos ⟦<u8 as DekuSize>⟧.bits (λ v. ⟦<u8 as DekuWriter<()>>⟧.meaning v tt) }
+    ensures of_u16 { NumbersKeepSize (unsigned 16) pos ⟦<u16 as DekuSize>⟧.bits (λ v. ⟦<u16 as DekuWriter<()>>⟧.meaning v tt) }
+    ensures of_u32 { NumbersKeepSize (unsigned 32) pos ⟦<u32 as DekuSize>⟧.bits (λ v. ⟦<u32 as DekuWriter<()>>⟧.meaning v tt) }
+    ensures of_u64 { NumbersKeepSize (unsigned 64) pos ⟦<u64 as DekuSize>⟧.bits (λ v. ⟦<u64 as DekuWriter<()>>⟧.meaning v tt) }
+    ensures of_u128 { NumbersKeepSize (unsigned 128) pos ⟦<u128 as DekuSize>⟧.bits (λ v. ⟦<u128 as DekuWriter<()>>⟧.meaning v tt) }
+    ensures of_usize { NumbersKeepSize (unsigned 64) pos ⟦<usize as DekuSize>⟧.bits (λ v. ⟦<usize as DekuWriter<()>>⟧.meaning v tt) }
+    ensures of_i8 { NumbersKeepSize (signed 8) (λ v. v) ⟦<i8 as DekuSize>⟧.bits (λ v. ⟦<i8 as DekuWriter<()>>⟧.meaning v tt) }
+    ensures of_i16 { NumbersKeepSize (signed 16) (λ v. v) ⟦<i16 as DekuSize>⟧.bits (λ v. ⟦<i16 as DekuWriter<()>>⟧.meaning v tt) }
+    ensures of_i32 { NumbersKeepSize (signed 32) (λ v. v) ⟦<i32 as DekuSize>⟧.bits (λ v. ⟦<i32 as DekuWriter<()>>⟧.meaning v tt) }
+    ensures of_i64 { NumbersKeepSize (signed 64) (λ v. v) ⟦<i64 as DekuSize>⟧.bits (λ v. ⟦<i64 as DekuWriter<()>>⟧.meaning v tt) }
+    ensures of_i128 { NumbersKeepSize (signed 128) (λ v. v) ⟦<i128 as DekuSize>⟧.bits (λ v. ⟦<i128 as DekuWriter<()>>⟧.meaning v tt) }
+    ensures of_isize { NumbersKeepSize (signed 64) (λ v. v) ⟦<isize as DekuSize>⟧.bits (λ v. ⟦<isize as DekuWriter<()>>⟧.meaning v tt) }
+    ensures of_bool { (v : Bool) → KeepsSize ⟦<bool as DekuSize>⟧.bits (⟦<bool as DekuWriter<()>>⟧.meaning v tt) }
+{}
+
+/// Where `size_bits` of a tuple answers n, it is written under `()` as exactly n bits, if its first item and the tuple of the rest are written as
+/// exactly the bits that their own sizes answer. So with each length, up to eleven items.
+pub fn tuple_extent_law<
+    A: DekuSize + DekuWriter<()>,
+    B: DekuSize + DekuWriter<()>,
+    C: DekuSize + DekuWriter<()>,
+    D: DekuSize + DekuWriter<()>,
+    E: DekuSize + DekuWriter<()>,
+    F: DekuSize + DekuWriter<()>,
+    G: DekuSize + DekuWriter<()>,
+    H: DekuSize + DekuWriter<()>,
+    I: DekuSize + DekuWriter<()>,
+    J: DekuSize + DekuWriter<()>,
+    K: DekuSize + DekuWriter<()>,
+>()
+    ensures one { (a : A) → KeepsSize A.bits (A.meaning a tt) → KeepsSize ⟦<(A,) as DekuSize>⟧.bits (⟦<(A,) as DekuWriter<()>>⟧.meaning (record { 0 = a }) tt) }
+    ensures two { (a : A) (b : B) → KeepsSize A.bits (A.meaning a tt) → KeepsSize B.bits (B.meaning b tt) → KeepsSize ⟦<(A, B) as DekuSize>⟧.bits (⟦<(A, B) as DekuWriter<()>>⟧.meaning (a, b) tt) }
+    ensures three { (a : A) (b : B) (c : C) → KeepsSize A.bits (A.meaning a tt) → KeepsSize ⟦<(B, C) as DekuSize>⟧.bits (⟦<(B, C) as DekuWriter<()>>⟧.meaning (b, c) tt) → KeepsSize ⟦<(A, B, C) as DekuSize>⟧.bits (⟦<(A, B, C) as DekuWriter<()>>⟧.meaning (a, b, c) tt) }
+    ensures four { (a : A) (b : B) (c : C) (d : D) → KeepsSize A.bits (A.meaning a tt) → KeepsSize ⟦<(B, C, D) as DekuSize>⟧.bits (⟦<(B, C, D) as DekuWriter<()>>⟧.meaning (b, c, d) tt) → KeepsSize ⟦<(A, B, C, D) as DekuSize>⟧.bits (⟦<(A, B, C, D) as DekuWriter<()>>⟧.meaning (a, b, c, d) tt) }
+    ensures five { (a : A) (b : B) (c : C) (d : D) (e : E) → KeepsSize A.bits (A.meaning a tt) → KeepsSize ⟦<(B, C, D, E) as DekuSize>⟧.bits (⟦<(B, C, D, E) as DekuWriter<()>>⟧.meaning (b, c, d, e) tt) → KeepsSize ⟦<(A, B, C, D, E) as DekuSize>⟧.bits (⟦<(A, B, C, D, E) as DekuWriter<()>>⟧.meaning (a, b, c, d, e) tt) }
+    ensures six { (a : A) (b : B) (c : C) (d : D) (e : E) (f : F) → KeepsSize A.bits (A.meaning a tt) → KeepsSize ⟦<(B, C, D, E, F) as DekuSize>⟧.bits (⟦<(B, C, D, E, F) as DekuWriter<()>>⟧.meaning (b, c, d, e, f) tt) → KeepsSize ⟦<(A, B, C, D, E, F) as DekuSize>⟧.bits (⟦<(A, B, C, D, E, F) as DekuWriter<()>>⟧.meaning (a, b, c, d, e, f) tt) }
+    ensures seven { (a : A) (b : B) (c : C) (d : D) (e : E) (f : F) (g : G) → KeepsSize A.bits (A.meaning a tt) → KeepsSize ⟦<(B, C, D, E, F, G) as DekuSize>⟧.bits (⟦<(B, C, D, E, F, G) as DekuWriter<()>>⟧.meaning (b, c, d, e, f, g) tt) → KeepsSize ⟦<(A, B, C, D, E, F, G) as DekuSize>⟧.bits (⟦<(A, B, C, D, E, F, G) as DekuWriter<()>>⟧.meaning (a, b, c, d, e, f, g) tt) }
+    ensures eight { (a : A) (b : B) (c : C) (d : D) (e : E) (f : F) (g : G) (h : H) → KeepsSize A.bits (A.meaning a tt) → KeepsSize ⟦<(B, C, D, E, F, G, H) as DekuSize>⟧.bits (⟦<(B, C, D, E, F, G, H) as DekuWriter<()>>⟧.meaning (b, c, d, e, f, g, h) tt) → KeepsSize ⟦<(A, B, C, D, E, F, G, H) as DekuSize>⟧.bits (⟦<(A, B, C, D, E, F, G, H) as DekuWriter<()>>⟧.meaning (a, b, c, d, e, f, g, h) tt) }
+    ensures nine { (a : A) (b : B) (c : C) (d : D) (e : E) (f : F) (g : G) (h : H) (i : I) → KeepsSize A.bits (A.meaning a tt) → KeepsSize ⟦<(B, C, D, E, F, G, H, I) as DekuSize>⟧.bits (⟦<(B, C, D, E, F, G, H, I) as DekuWriter<()>>⟧.meaning (b, c, d, e, f, g, h, i) tt) → KeepsSize ⟦<(A, B, C, D, E, F, G, H, I) as DekuSize>⟧.bits (⟦<(A, B, C, D, E, F, G, H, I) as DekuWriter<()>>⟧.meaning (a, b, c, d, e, f, g, h, i) tt) }
+    ensures ten { (a : A) (b : B) (c : C) (d : D) (e : E) (f : F) (g : G) (h : H) (i : I) (j : J) → KeepsSize A.bits (A.meaning a tt) → KeepsSize ⟦<(B, C, D, E, F, G, H, I, J) as DekuSize>⟧.bits (⟦<(B, C, D, E, F, G, H, I, J) as DekuWriter<()>>⟧.meaning (b, c, d, e, f, g, h, i, j) tt) → KeepsSize ⟦<(A, B, C, D, E, F, G, H, I, J) as DekuSize>⟧.bits (⟦<(A, B, C, D, E, F, G, H, I, J) as DekuWriter<()>>⟧.meaning (a, b, c, d, e, f, g, h, i, j) tt) }
+    ensures eleven { (a : A) (b : B) (c : C) (d : D) (e : E) (f : F) (g : G) (h : H) (i : I) (j : J) (k : K) → KeepsSize A.bits (A.meaning a tt) → KeepsSize ⟦<(B, C, D, E, F, G, H, I, J, K) as DekuSize>⟧.bits (⟦<(B, C, D, E, F, G, H, I, J, K) as DekuWriter<()>>⟧.meaning (b, c, d, e, f, g, h, i, j, k) tt) → KeepsSize ⟦<(A, B, C, D, E, F, G, H, I, J, K) as DekuSize>⟧.bits (⟦<(A, B, C, D, E, F, G, H, I, J, K) as DekuWriter<()>>⟧.meaning (a, b, c, d, e, f, g, h, i, j, k) tt) }
+{}
+
+/// Where `size_bits` of an array answers n, it is written under `()` as exactly n bits, if its items are each written as exactly the bits that their
+/// size answers.
+pub fn array_extent_law<T: DekuSize + DekuWriter<()>, const N: usize>()
+    ensures { (vs : List T) → length vs ≡ N → All (λ v. KeepsSize T.bits (T.meaning v tt)) vs → KeepsSize ⟦<[T; N] as DekuSize>⟧.bits (⟦<[T; N] as DekuWriter<()>>⟧.meaning vs tt) }
 {}
 
 /// A vector of whole numbers of any of the twelve types, whose values fit, written from a byte's boundary under one context whose layout is not refused, and

@@ -18,3 +18,4 @@ pub mod Numerals
 pub mod NamedItems
 pub mod Runs
 pub mod Cuts
+pub mod Giving

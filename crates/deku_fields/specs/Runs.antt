@@ -1,5 +1,5 @@
 -- What a run of the program does: the words that it is given, the text that it reads and the text that it writes.
-use Rattle.std.specs.Prelude.{◌≡◌, ◌⊎◌, ℕ, List, [], ◌∷◌, ◌++◌, map, flat_map, Ok, Err, Option, Some, None, IfSome, String, string_bytes, decimal, codes, ⊤}
+use Rattle.std.specs.Prelude.{◌≡◌, ◌⊎◌, ℕ, ◌<◌, List, [], ◌∷◌, ◌++◌, length, map, flat_map, Ok, Err, Option, Some, None, IfSome, String, string_bytes, decimal, codes, ⊤}
 use Rattle.std.specs.Fmt.{signed_decimal}
 use Rattle.std.specs.List.{AllZip}
 use Rattle.std.specs.Global.{Vec}
@@ -78,6 +78,26 @@ pub record IsDone (words : List (List ℕ)) (input before after : Option (List �
   pub asked : Asks words input text
   pub given : Appends before after text
 
+-- the text was given but for the rest of it
+pub record IsGivenBut (rest : List ℕ) (before after : Option (List ℕ)) (text : List ℕ) : Type 0 where
+  pub front : List ℕ
+  pub cut : text ≡ front ++ rest
+  pub given : Appends before after front
+
+-- a beginning of the text was given, perhaps all of it
+abbrev pub IsBegun : Option (List ℕ) → Option (List ℕ) → List ℕ → Type 0
+IsBegun before after text = (rest : List ℕ) × IsGivenBut rest before after text
+
+-- the text was not given to its end
+abbrev pub IsCutShort : Option (List ℕ) → Option (List ℕ) → List ℕ → Type 0
+IsCutShort before after text = (rest : List ℕ) × (0 < length rest) × IsGivenBut rest before after text
+
+-- the text that the words ask for was known, and was not given to the output to its end
+pub record IsUnfinished (words : List (List ℕ)) (input before after : Option (List ℕ)) : Type 0 where
+  pub text : List ℕ
+  pub asked : Asks words input text
+  pub cut : IsCutShort before after text
+
 -- the text that the words ask for was known
 abbrev pub IsKnown : List (List ℕ) → Option (List ℕ) → Type 0
 IsKnown words input = (text : List ℕ) × Asks words input text
@@ -148,12 +168,16 @@ status_of Usage = 2
 status_of BadText = 1
 status_of (Fault fault) = 1
 
--- something stands in the way of the words that a run ends with 1 for, so not their form
-abbrev pub IsStopped : List (List ℕ) → Option (List ℕ) → Type 0
-IsStopped words input = (e : Failure) × Stops words input e × (status_of e ≡ 1)
-
 -- what it is told as; the text of a fault is left open
 abbrev pub message : Failure → Option (List ℕ)
 message Usage = Some (line (codes "usage: fields read|write SPEC.."))
 message BadText = Some (line (codes "error: bad hexadecimal text"))
 message (Fault fault) = None
+
+-- Something stands in the way of the words that a run ends with 1 for, so not their form; and what was told of it, where its text is fixed, is a
+-- beginning of its line.
+pub record IsStopped (words : List (List ℕ)) (input before after : Option (List ℕ)) : Type 0 where
+  pub failure : Failure
+  pub stops : Stops words input failure
+  pub one : status_of failure ≡ 1
+  pub told : IfSome (message failure) (IsBegun before after)

@@ -9,7 +9,7 @@ ghost use Rattle.deku_bits.specs.declared.error.DekuError.TheVariants.{Io};
 ghost use Rattle.deku_fields.specs.declared.program.Failure.TheVariants.{Fault, Usage};
 ghost use Rattle.deku_fields.specs.declared.list.Field.{Field as ListField};
 ghost use Rattle.deku_fields.specs.Naming.{NamesField};
-ghost use Rattle.deku_fields.specs.Runs.{words_of, line, number_text, status_of, message, IsHexText, LosesNewline, IsDone, IsKnown, AsksToRead, AreNoForm, ShowsRead, ShowsWritten, InputStops, ReadingStops, WritingStops, Stops, IsStopped};
+ghost use Rattle.deku_fields.specs.Runs.{words_of, line, number_text, status_of, message, IsHexText, LosesNewline, IsDone, Asks, AsksToRead, AreNoForm, ShowsRead, ShowsWritten, InputStops, ReadingStops, WritingStops, Stops, IsStopped, IsBegun, IsCutShort, IsUnfinished};
 
 use crate::list::{Field, Item, Number};
 use crate::read::list_from_bytes;
@@ -91,8 +91,9 @@ pub fn run<R: Read, W: Write, E: Write>(
     ensures done { result ≡ 0 → IsDone (words_of args.now) (R.remaining input.old) (W.contents output.old) (W.contents output.new) }
     ensures quiet { result ≡ 0 → errors.new ≡ errors.old }
     ensures usage { result ≡ 2 → AreNoForm (words_of args.now) × (input.new ≡ input.old) × (output.new ≡ output.old) }
-    ensures stopped { result ≡ 1 → IsStopped (words_of args.now) (R.remaining input.old) }
-    ensures kept { result ≡ 1 → (output.new ≡ output.old) ⊎ IsKnown (words_of args.now) (R.remaining input.old) }
+    ensures told { result ≡ 2 → IfSome (message Usage) (IsBegun (E.contents errors.old) (E.contents errors.new)) }
+    ensures stopped { result ≡ 1 → IsStopped (words_of args.now) (R.remaining input.old) (E.contents errors.old) (E.contents errors.new) }
+    ensures kept { result ≡ 1 → (output.new ≡ output.old) ⊎ IsUnfinished (words_of args.now) (R.remaining input.old) (W.contents output.old) (W.contents output.new) }
     ensures unread { AsksToRead (words_of args.now) ⊎ (input.new ≡ input.old) }
 {
     let Err(failure) = command(alloc, args, input, output) else {
@@ -112,15 +113,38 @@ fn status_of(failure: &Failure) -> u8
     }
 }
 
-// Tells of a failure in a line.
+// Tells of a failure in a line, of which `errors` takes a beginning where it fails.
 fn complain<E: Write>(errors: &mut E, failure: &Failure) -> io::Result<()>
     ensures told { OnOk result (IfSome (message failure.now) (Appends (E.contents errors.old) (E.contents errors.new))) }
+    ensures begun { IfSome (message failure.now) (IsBegun (E.contents errors.old) (E.contents errors.new)) }
 {
     match failure {
-        Failure::Usage => writeln!(errors, "usage: fields read|write SPEC.."),
-        Failure::BadText => writeln!(errors, "error: bad hexadecimal text"),
+        Failure::Usage => give_text(errors, b"usage: fields read|write SPEC..\n"),
+        Failure::BadText => give_text(errors, b"error: bad hexadecimal text\n"),
         Failure::Fault(fault) => writeln!(errors, "error: {fault}"),
     }
+}
+
+// Gives the whole text. Where the output fails, it has not taken the text to its end.
+fn give_text<W: Write>(output: &mut W, text: &[u8]) -> io::Result<()>
+    ensures given { OnOk result (Appends (W.contents output.old) (W.contents output.new) text.now) }
+    ensures cut { OnErr result (IsCutShort (W.contents output.old) (W.contents output.new) text.now) }
+{
+    let mut rest = text;
+    let mut tries = u64::MAX;
+    while !rest.is_empty() {
+        if tries == 0 {
+            return Err(io::Error::new(ErrorKind::TimedOut, "interrupted too often"));
+        }
+        tries -= 1;
+        match output.write(rest) {
+            Ok(0) => return Err(io::Error::new(ErrorKind::WriteZero, "no more is taken")),
+            Ok(count) => rest = &rest[count..],
+            Err(error) if error.kind() == ErrorKind::Interrupted => {}
+            Err(error) => return Err(error),
+        }
+    }
+    Ok(())
 }
 
 fn command<R: Read, W: Write>(
@@ -132,19 +156,29 @@ fn command<R: Read, W: Write>(
     ensures done { OnOk result (IsDone (words_of args.now) (R.remaining input.old) (W.contents output.old) (W.contents output.new)) }
     ensures stops { IfErr result (λ e. Stops (words_of args.now) (R.remaining input.old) e) }
     ensures usage { IfErr result (λ e. e ≡ Usage → AreNoForm (words_of args.now) × (input.new ≡ input.old) × (output.new ≡ output.old)) }
-    ensures kept { OnErr result ((output.new ≡ output.old) ⊎ IsKnown (words_of args.now) (R.remaining input.old)) }
+    ensures kept { OnErr result ((output.new ≡ output.old) ⊎ IsUnfinished (words_of args.now) (R.remaining input.old) (W.contents output.old) (W.contents output.new)) }
+    ensures unread { AsksToRead (words_of args.now) ⊎ (input.new ≡ input.old) }
+{
+    let text = asked(alloc, args, input)?;
+    give_text(output, text.as_bytes())?;
+    Ok(())
+}
+
+// The text that the words ask for.
+fn asked<R: Read>(alloc: Global, args: &[String], input: &mut R) -> Result<String, Failure>
+    ensures known { IfOk result (λ text. Asks (words_of args.now) (R.remaining input.old) (string_bytes text)) }
+    ensures stops { IfErr result (λ e. Stops (words_of args.now) (R.remaining input.old) e) }
+    ensures usage { IfErr result (λ e. e ≡ Usage → AreNoForm (words_of args.now) × (input.new ≡ input.old)) }
     ensures unread { AsksToRead (words_of args.now) ⊎ (input.new ≡ input.old) }
 {
     let [name, specs @ ..] = args else {
         return Err(Failure::Usage);
     };
-    let text = match name.as_str() {
-        "write" => written(alloc, specs)?,
-        "read" => read(alloc, specs, input)?,
-        _ => return Err(Failure::Usage),
-    };
-    output.write_all(text.as_bytes())?;
-    Ok(())
+    match name.as_str() {
+        "write" => written(alloc, specs),
+        "read" => read(alloc, specs, input),
+        _ => Err(Failure::Usage),
+    }
 }
 
 // The bytes of the items that the words name, as a line of hexadecimal text.

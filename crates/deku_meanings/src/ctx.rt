@@ -21,23 +21,37 @@ pub trait Predicate<T>: Drop {
     // What it answers about an item, and what it is then.
     ghost answers: { Self → T → Bool → Self → Type 0 };
 
+    // It was let go as this.
+    ghost ended: { Self → Type 0 };
+
     /// Whether it is true of the item.
     fn test(&mut self, item: &T) -> bool
         requires { asks_all self.old }
         ensures answered { answers self.old item.now result self.new }
         ensures again { asks_all self.new };
+
+    /// Lets it go, behind the last item that it was asked about.
+    fn finish(self)
+    where
+        Self: Sized,
+        ensures { ended self };
 }
 
 impl<T, P: FnMut(&T) -> bool + Drop> Predicate<T> for P {
+    ghost use Rattle.std.specs.Prelude.{⊤};
     ghost use Rattle.std.specs.Fn.{CalledAt};
 
     ghost asks_all = { λ p. P.IsAlwaysCallable p };
 
     ghost answers = { λ p x b q. CalledAt P.FnMut p x b q };
 
+    ghost ended = { λ _. ⊤ };
+
     fn test(&mut self, item: &T) -> bool {
         self(item)
     }
+
+    fn finish(self) {}
 }
 
 /// The predicate of limits that have none.
@@ -52,9 +66,13 @@ impl<T> Predicate<T> for Never {
 
     ghost answers = { λ p x b q. b ≡ false };
 
+    ghost ended = { λ _. ⊤ };
+
     fn test(&mut self, _item: &T) -> bool {
         false
     }
+
+    fn finish(self) {}
 }
 
 /// Where a list of items ends.

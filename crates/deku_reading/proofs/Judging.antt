@@ -1,5 +1,6 @@
 -- Items that are read under a limit and put into a collection: what is known on the way.
 use Rattle.std.proofs.Common.{◌≡◌, ◌⊎◌, ◌↔◌, ℕ, ◌+◌, ◌*◌, ◌^◌, ◌<◌, Bool, true, false, List, [], ◌∷◌, ◌++◌, Result, Ok, Err, Option, Some, None, ◌≤◌, ◌∙◌, refl, sym, inl, inr, codes, arith}
+use Rattle.std.specs.Prelude.{⊤}
 use Rattle.std.specs.List.{FoldsTo}
 use Rattle.std.proofs.lemmas.Fn.{FoldsTo-push}
 use Rattle.std.proofs.lemmas.List.{map-append}
@@ -87,34 +88,50 @@ module _ {A T B J : Type 0} {puts : B → T → B → Type 0} {judge : Judge A T
   }
 
 module _ {A T B J : Type 0} {puts : B → T → B → Type 0} {judge : Judge A T J} {m : Meaning A T} {j k : J} {b c : B} {s0 : Standing A} {f0 : Health} {s : Standing A} {f : Health}
-    (closes : Standing A → Standing A → Type 0) (h : Gathering puts judge m j k b c s0 f0 s f) where
+    (closes : Standing A → Standing A → Type 0) (ended : J → Type 0) (h : Gathering puts judge m j k b c s0 f0 s f) where
   -- the list ends with this item
-  pub ends_with : {v : T} {t : Standing A} {g : Health} {d : B} {l : J} → Outcome m s f (Ok v) t g → judge k (taken_at v s t) true l → puts c v d
-      → Outcome (Held (λ xs z. FoldsTo puts b xs z) (Judged judge closes j m)) s0 f0 (Ok d) t g
-  ends_with {v} {t} {g} {d} {l} o y p = let a = meant o in
-      held_ok (Quiet (EndsWith h.items (taken_at v s t) k l (turn_on h a.0) h.on y refl refl) (no_fewer_on f0 f g h.calm a.1)) (put_on h t p)
+  pub ends_with : {v : T} {t : Standing A} {g : Health} {d : B} {l : J} → Outcome m s f (Ok v) t g → judge k (taken_at v s t) true l → ended l → puts c v d
+      → Outcome (Held (λ xs z. FoldsTo puts b xs z) (Judged judge closes ended j m)) s0 f0 (Ok d) t g
+  ends_with {v} {t} {g} {d} {l} o y z p = let a = meant o in
+      held_ok (Quiet (EndsWith h.items (taken_at v s t) k l (turn_on h a.0) h.on y z refl refl) (no_fewer_on f0 f g h.calm a.1)) (put_on h t p)
 
   -- it closes before the next item
-  pub closed : {t : Standing A} {g : Health} → closes s t → NoFewerFailures f g → Outcome (Held (λ xs z. FoldsTo puts b xs z) (Judged judge closes j m)) s0 f0 (Ok c) t g
-  closed {t} {g} p q = held_ok (Quiet (Closes h.items k s h.turn h.on p refl refl) (no_fewer_on f0 f g h.calm q)) h.put
+  pub closed : {t : Standing A} {g : Health} → closes s t → ended k → NoFewerFailures f g → Outcome (Held (λ xs z. FoldsTo puts b xs z) (Judged judge closes ended j m)) s0 f0 (Ok c) t g
+  closed {t} {g} p z q = held_ok (Quiet (Closes h.items k s h.turn h.on p z refl refl) (no_fewer_on f0 f g h.calm q)) h.put
 
   -- the next item is refused
-  pub item_refused : {e : DekuError} {t : Standing A} {g : Health} → Outcome m s f (Err e) t g → Outcome (Held (λ xs z. FoldsTo puts b xs z) (Judged judge closes j m)) s0 f0 (Err e) t g
-  item_refused {e} {g} (Quiet p q) = held_err (Quiet (ItemRefused h.items k s e h.turn h.on p refl) (no_fewer_on f0 f g h.calm q))
-  item_refused {e} {g} (Broken a p q) = held_err (Broken (broken_at a) (ItemRefused h.items k s e h.turn h.on p refl) (more_on f0 f g h.calm q))
+  pub item_refused : {e : DekuError} {t : Standing A} {g : Health} → Outcome m s f (Err e) t g → ended k → Outcome (Held (λ xs z. FoldsTo puts b xs z) (Judged judge closes ended j m)) s0 f0 (Err e) t g
+  item_refused {e} {g} (Quiet p q) z = held_err (Quiet (ItemRefused h.items k s e h.turn h.on p z refl) (no_fewer_on f0 f g h.calm q))
+  item_refused {e} {g} (Broken a p q) z = held_err (Broken (broken_at a) (ItemRefused h.items k s e h.turn h.on p z refl) (more_on f0 f g h.calm q))
 
   -- it is not put in its place: it has no width and does not end the list, or no memory is found
-  pub not_kept : {v : T} {t : Standing A} {g : Health} {l : J} {e : DekuError} (x : Bool) (n o : ℕ) → n ≡ count_of s → o ≡ count_of t → Outcome m s f (Ok v) t g → judge k (taken_at v s t) x l
+  pub not_kept : {v : T} {t : Standing A} {g : Health} {l : J} {e : DekuError} (x : Bool) (n o : ℕ) → n ≡ count_of s → o ≡ count_of t → Outcome m s f (Ok v) t g → judge k (taken_at v s t) x l → ended l
       → ((x ≡ false) × (o ≤ n) × Tells Parse (codes "item without width") e) ⊎ (((x ≡ true) ⊎ (n < o)) × (e ≡ Io OutOfMemory))
-      → Outcome (Held (λ xs z. FoldsTo puts b xs z) (Judged judge closes j m)) s0 f0 (Err e) t g
-  not_kept {v} {t} {g} {l} {e} x n o before after q y (inl p) = let a = meant q in
-      held_err (Quiet (WithoutWidth h.items (taken_at v s t) k l e (turn_on h a.0) h.on (rw p.0 at y) (λ z. omega (arith, before, after, p.1, z)) p.2 refl refl) (no_fewer_on f0 f g h.calm a.1))
-  not_kept {v} {t} {g} {l} {e} x n o before after q y (inr p) = let a = meant q in rw p.1
-      (held_err (Quiet (NoPlace h.items (taken_at v s t) x k l (turn_on h a.0) h.on y (wide p.0) refl refl) (no_fewer_on f0 f g h.calm a.1)))
+      → Outcome (Held (λ xs z. FoldsTo puts b xs z) (Judged judge closes ended j m)) s0 f0 (Err e) t g
+  not_kept {v} {t} {g} {l} {e} x n o before after q y z (inl p) = let a = meant q in
+      held_err (Quiet (WithoutWidth h.items (taken_at v s t) k l e (turn_on h a.0) h.on (rw p.0 at y) (λ w. omega (arith, before, after, p.1, w)) p.2 z refl refl) (no_fewer_on f0 f g h.calm a.1))
+  not_kept {v} {t} {g} {l} {e} x n o before after q y z (inr p) = let a = meant q in rw p.1
+      (held_err (Quiet (NoPlace h.items (taken_at v s t) x k l (turn_on h a.0) h.on y (wide p.0) z refl refl) (no_fewer_on f0 f g h.calm a.1)))
     where
       wide : (x ≡ true) ⊎ (n < o) → (x ≡ true) ⊎ (count_of s < count_of t)
-      wide (inl z) = inl z
-      wide (inr z) = inr (omega (arith, before, after, z))
+      wide (inl w) = inl w
+      wide (inr w) = inr (omega (arith, before, after, w))
+
+-- a limit that was left as one of which this holds
+pub let_go : {A T J : Type 0} {judge : Judge A T J} {closes : Standing A → Standing A → Type 0} {j : J} {m : Meaning A T} {b : Bool} {s : Standing A} {r : Result (List T) DekuError} {u : Standing A}
+    (ended : J → Type 0) (last : J) → ended last → Judged judge closes (λ k. k ≡ last) j m b s r u → Judged judge closes ended j m b s r u
+let_go ended last h (EndsWith xs x k l p q y z e i) = EndsWith xs x k l p q y (rw z h) e i
+let_go ended last h (Closes xs k t p q c z e i) = Closes xs k t p q c (rw z h) e i
+let_go ended last h (ItemRefused xs k t e p q y z i) = ItemRefused xs k t e p q y (rw z h) i
+let_go ended last h (WithoutWidth xs x k l e p q y w o z i v) = WithoutWidth xs x k l e p q y w o (rw z h) i v
+let_go ended last h (NoPlace xs x v k l p q y w z i e) = NoPlace xs x v k l p q y w (rw z h) i e
+
+pub held_let_go : {A T B J : Type 0} {h : List T → B → Type 0} {judge : Judge A T J} {closes : Standing A → Standing A → Type 0} {j : J} {m : Meaning A T} {s : Standing A} {f : Health} {r : Result B DekuError} {u : Standing A} {g : Health}
+    (ended : J → Type 0) (last : J) → ended last → Outcome (Held h (Judged judge closes (λ k. k ≡ last) j m)) s f r u g → Outcome (Held h (Judged judge closes ended j m)) s f r u g
+held_let_go ended last k (Quiet (Holds v w p h e) q) = Quiet (Holds v w (let_go ended last k p) h e) q
+held_let_go ended last k (Quiet (NotHeld x p e) q) = Quiet (NotHeld x (let_go ended last k p) e) q
+held_let_go ended last k (Broken a (Holds v w p h e) q) = Broken a (Holds v w (let_go ended last k p) h e) q
+held_let_go ended last k (Broken a (NotHeld x p e) q) = Broken a (NotHeld x (let_go ended last k p) e) q
 
 -- an item that is kept and does not end the list has width
 pub wide_of_kept : (x : Bool) (n o p q : ℕ) → n ≡ p → o ≡ q → x ≡ false → (x ≡ true) ⊎ (n < o) → p < q
@@ -133,7 +150,7 @@ pub judged_by_counts : (x : Bool) (start after n p q : ℕ) → start ≡ p → 
 judged_by_counts x start after n p q e f h = rw (e, f) at h
 
 pub some_bits : {A T B : Type 0} {h : List T → B → Type 0} {m : Meaning A T} {s : Standing A} {f : Health} {r : Result B DekuError} {u : Standing A} {g : Health} (n : ℕ) → 0 < n
-    → Outcome (Held h (Judged {J = Unit {0}} (λ _ x v _. (v ≡ true) ↔ (count_of x.after ≡ count_of s + n)) (λ _ _. ⊥) tt m)) s f r u g → Outcome (Held h (ReadsBitsOf n m)) s f r u g
+    → Outcome (Held h (Judged {J = Unit {0}} (λ _ x v _. (v ≡ true) ↔ (count_of x.after ≡ count_of s + n)) (λ _ _. ⊥) (λ _. ⊤) tt m)) s f r u g → Outcome (Held h (ReadsBitsOf n m)) s f r u g
 some_bits n l (Quiet (Holds v w p k e) q) = Quiet (Holds v w (SomeBits l p) k e) q
 some_bits n l (Quiet (NotHeld e p i) q) = Quiet (NotHeld e (SomeBits l p) i) q
 some_bits n l (Broken a (Holds v w p k e) q) = Broken a (Holds v w (SomeBits l p) k e) q

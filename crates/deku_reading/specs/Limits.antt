@@ -49,27 +49,27 @@ GoesOn judge j xs k = FoldsTo (λ i x l. judge i x false l × Widens x) j xs k
 
 -- Items are read one after the other, and each has width but one that ends the list. The list ends with the first item with which the limit
 -- ends it, or where it closes before the next item. It is refused where the next item is; where that has no width and does not end the list;
--- or where no memory is found for it.
-pub data Judged {A T J : Type 0} (judge : Judge A T J) (closes : Standing A → Standing A → Type 0) (j : J) (m : Meaning A T) (b : Bool) (s : Standing A) (r : Result (List T) DekuError) (u : Standing A) : Type 0 where
-  EndsWith : (xs : List (Taken A T)) (x : Taken A T) (k l : J) → TakesEach m s (xs ++ x ∷ []) u → GoesOn judge j xs k → judge k x true l
-      → b ≡ false → r ≡ Ok (items_of (xs ++ x ∷ [])) → Judged judge closes j m b s r u
-  Closes : (xs : List (Taken A T)) (k : J) (t : Standing A) → TakesEach m s xs t → GoesOn judge j xs k → closes t u
-      → b ≡ false → r ≡ Ok (items_of xs) → Judged judge closes j m b s r u
-  ItemRefused : (xs : List (Taken A T)) (k : J) (t : Standing A) (e : DekuError) → TakesEach m s xs t → GoesOn judge j xs k → m b t (Err e) u
-      → r ≡ Err e → Judged judge closes j m b s r u
+-- or where no memory is found for it. However it ends, the limit is let go as it is behind the last item.
+pub data Judged {A T J : Type 0} (judge : Judge A T J) (closes : Standing A → Standing A → Type 0) (ended : J → Type 0) (j : J) (m : Meaning A T) (b : Bool) (s : Standing A) (r : Result (List T) DekuError) (u : Standing A) : Type 0 where
+  EndsWith : (xs : List (Taken A T)) (x : Taken A T) (k l : J) → TakesEach m s (xs ++ x ∷ []) u → GoesOn judge j xs k → judge k x true l → ended l
+      → b ≡ false → r ≡ Ok (items_of (xs ++ x ∷ [])) → Judged judge closes ended j m b s r u
+  Closes : (xs : List (Taken A T)) (k : J) (t : Standing A) → TakesEach m s xs t → GoesOn judge j xs k → closes t u → ended k
+      → b ≡ false → r ≡ Ok (items_of xs) → Judged judge closes ended j m b s r u
+  ItemRefused : (xs : List (Taken A T)) (k : J) (t : Standing A) (e : DekuError) → TakesEach m s xs t → GoesOn judge j xs k → m b t (Err e) u → ended k
+      → r ≡ Err e → Judged judge closes ended j m b s r u
   WithoutWidth : (xs : List (Taken A T)) (x : Taken A T) (k l : J) (e : DekuError) → TakesEach m s (xs ++ x ∷ []) u → GoesOn judge j xs k → judge k x false l → (Widens x → ⊥)
-      → Tells Parse (codes "item without width") e → b ≡ false → r ≡ Err e → Judged judge closes j m b s r u
-  NoPlace : (xs : List (Taken A T)) (x : Taken A T) (v : Bool) (k l : J) → TakesEach m s (xs ++ x ∷ []) u → GoesOn judge j xs k → judge k x v l → (v ≡ true) ⊎ Widens x
-      → b ≡ false → r ≡ Err (Io OutOfMemory) → Judged judge closes j m b s r u
+      → Tells Parse (codes "item without width") e → ended l → b ≡ false → r ≡ Err e → Judged judge closes ended j m b s r u
+  NoPlace : (xs : List (Taken A T)) (x : Taken A T) (v : Bool) (k l : J) → TakesEach m s (xs ++ x ∷ []) u → GoesOn judge j xs k → judge k x v l → (v ≡ true) ⊎ Widens x → ended l
+      → b ≡ false → r ≡ Err (Io OutOfMemory) → Judged judge closes ended j m b s r u
 
--- up to and including the first item of which a predicate is true; it is asked about each item once, in order
-abbrev pub ReadsUntil : {A T P : Type 0} → (P → T → Bool → P → Type 0) → P → Meaning A T → Meaning A (List T)
-ReadsUntil answers p m = Judged (λ q x v k. answers q x.item v k) (λ _ _. ⊥) p m
+-- up to and including the first item of which a predicate is true; it is asked about each item once, in order, and then let go
+abbrev pub ReadsUntil : {A T P : Type 0} → (P → T → Bool → P → Type 0) → (P → Type 0) → P → Meaning A T → Meaning A (List T)
+ReadsUntil answers ended p m = Judged (λ q x v k. answers q x.item v k) (λ _ _. ⊥) ended p m
 
 -- up to and including the item with which exactly n bits are read; nothing for no bits
 pub data ReadsBitsOf {A T : Type 0} (n : ℕ) (m : Meaning A T) (b : Bool) (s : Standing A) (r : Result (List T) DekuError) (u : Standing A) : Type 0 where
   NoBits : n ≡ 0 → Answer [] b s r u → ReadsBitsOf n m b s r u
-  SomeBits : 0 < n → Judged {J = Unit {0}} (λ _ x v _. (v ≡ true) ↔ (count_of x.after ≡ count_of s + n)) (λ _ _. ⊥) tt m b s r u → ReadsBitsOf n m b s r u
+  SomeBits : 0 < n → Judged {J = Unit {0}} (λ _ x v _. (v ≡ true) ↔ (count_of x.after ≡ count_of s + n)) (λ _ _. ⊥) (λ _. ⊤) tt m b s r u → ReadsBitsOf n m b s r u
 
 -- a bit is left, or the look for one is refused
 abbrev pub MoreToCome : Meaning (Option Stream) (Unit {0})
@@ -77,7 +77,7 @@ MoreToCome = Seen (λ _. false) Ending
 
 -- items as long as a bit is left before them
 abbrev pub ReadsToEnd : {T : Type 0} → Meaning (Option Stream) T → Meaning (Option Stream) (List T)
-ReadsToEnd m = Judged {J = Unit {0}} (λ _ _ v _. v ≡ false) (λ t u. Ending false t (Ok true) u) tt (Then MoreToCome (λ _. m))
+ReadsToEnd m = Judged {J = Unit {0}} (λ _ _ v _. v ≡ false) (λ t u. Ending false t (Ok true) u) (λ _. ⊤) tt (Then MoreToCome (λ _. m))
 
 -- exactly n items
 abbrev pub ReadsCount : {A T : Type 0} → ℕ → Meaning A T → Meaning A (List T)
@@ -88,12 +88,12 @@ abbrev pub PastCount : {A V : Type 0} → ℕ → Standing A → Result V DekuEr
 PastCount n s r u = (2 ^ 64 ≤ 8 * n) × Refuses InvalidParam (codes "count past usize") s r u
 
 -- items are read under a limit
-abbrev pub ReadsUnder : {T P : Type 0} → (P → T → Bool → P → Type 0) → Limit T P → Meaning (Option Stream) T → Meaning (Option Stream) (List T)
-ReadsUnder answers (Count n) m = ReadsCount n m
-ReadsUnder answers (Until p _) m = ReadsUntil answers p m
-ReadsUnder answers (ByteSize n) m = Checked (PastCount n.0) (λ b s r u. (8 * n.0 < 2 ^ 64) × ReadsBitsOf (8 * n.0) m b s r u)
-ReadsUnder answers (BitSize n) m = ReadsBitsOf n.0 m
-ReadsUnder answers End m = ReadsToEnd m
+abbrev pub ReadsUnder : {T P : Type 0} → (P → T → Bool → P → Type 0) → (P → Type 0) → Limit T P → Meaning (Option Stream) T → Meaning (Option Stream) (List T)
+ReadsUnder answers ended (Count n) m = ReadsCount n m
+ReadsUnder answers ended (Until p _) m = ReadsUntil answers ended p m
+ReadsUnder answers ended (ByteSize n) m = Checked (PastCount n.0) (λ b s r u. (8 * n.0 < 2 ^ 64) × ReadsBitsOf (8 * n.0) m b s r u)
+ReadsUnder answers ended (BitSize n) m = ReadsBitsOf n.0 m
+ReadsUnder answers ended End m = ReadsToEnd m
 
 -- the predicate of a limit, where it has one, may be asked about every item
 abbrev pub AsksAll : {T P : Type 0} → (P → Type 0) → Limit T P → Type 0

@@ -1,7 +1,7 @@
 //! Maps, as collections of pairs of a key and a value.
 
-ghost use Rattle.std.specs.Prelude.{Some};
-ghost use Rattle.std.specs.HashMap.{Updates, IsUnique};
+ghost use Rattle.std.specs.Prelude.{◌≡◌, Some};
+ghost use Rattle.std.specs.HashMap.{hasher_of, Updates, IsUnique};
 ghost use Rattle.deku_meanings.specs.Collected.{PutsPair};
 
 use crate::impls::gather::Gather;
@@ -11,7 +11,7 @@ use std::hash::{BuildHasher, Hash};
 use std::io::ErrorKind;
 
 impl<K: Eq + Hash + Drop, V: Drop, S: BuildHasher + Drop> Gather<(K, V)> for HashMap<K, V, S> {
-    ghost puts = { λ m p n. Updates K.eq m n p.0 (Some p.1) × IsUnique K.eq n × PutsPair K.eq m p n };
+    ghost puts = { λ m p n. Updates K.eq m n p.0 (Some p.1) × IsUnique K.eq n × PutsPair K.eq m p n × (hasher_of n ≡ hasher_of m) };
 
     fn put(&mut self, item: (K, V)) -> Result<(), DekuError> {
         let (key, value) = item;

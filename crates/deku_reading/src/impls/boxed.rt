@@ -44,7 +44,7 @@ impl<T: DekuReader<Ctx>, P: Predicate<T>, Ctx: Copy> DekuReader<(Limit<T, P>, Ct
 
     ghost prompt = { λ c. T.prompt c.1 × EndsItself c.0 };
 
-    ghost meaning = { λ c. Held (λ xs b. boxed_slice_items b ≡ xs) (ReadsUnder P.answers c.0 (T.meaning c.1)) };
+    ghost meaning = { λ c. Held (λ xs b. boxed_slice_items b ≡ xs) (ReadsUnder P.answers P.ended c.0 (T.meaning c.1)) };
 
     fn from_reader_with_ctx<R: Source>(
         reader: &mut Reader<R>,

@@ -1,6 +1,6 @@
 //! Items that are read one after the other, under a limit, and put into a collection.
 
-ghost use Rattle.std.specs.Prelude.{OnOk};
+ghost use Rattle.std.specs.Prelude.{◌≡◌, OnOk};
 ghost use Rattle.std.specs.List.{FoldsTo};
 ghost use Rattle.deku_bits.specs.ReaderCalls.{Reads};
 ghost use Rattle.deku_reading.specs.Early.{Promptly};
@@ -31,16 +31,16 @@ fn gather_count<B: Gather<T>, T: DekuReader<C>, C: Copy, R: Source>(
     Ok(into)
 }
 
-// Items up to and including the first of which the predicate is true.
-fn gather_until<B: Gather<T>, T: DekuReader<C>, C: Copy, R: Source, P: Predicate<T>>(
+// Items up to and including the first of which the predicate is true; the predicate is left as it is behind the last item.
+fn gather_asking<B: Gather<T>, T: DekuReader<C>, C: Copy, R: Source, P: Predicate<T>>(
     mut into: B,
     reader: &mut Reader<R>,
-    mut predicate: P,
+    predicate: &mut P,
     ctx: C,
 ) -> Result<B, DekuError>
     requires readable { T.accepts ctx }
-    requires askable { P.asks_all predicate }
-    ensures reads { Reads R.told (Held (λ xs b. FoldsTo B.puts into xs b) (ReadsUntil P.answers predicate (T.meaning ctx))) reader.old result reader.new }
+    requires askable { P.asks_all predicate.old }
+    ensures reads { Reads R.told (Held (λ xs b. FoldsTo B.puts into xs b) (ReadsUntil P.answers (λ p. p ≡ predicate.new) predicate.old (T.meaning ctx))) reader.old result reader.new }
     ensures early { OnOk result (T.prompt ctx → Promptly R.told reader.old reader.new) }
 {
     loop {
@@ -52,6 +52,23 @@ fn gather_until<B: Gather<T>, T: DekuReader<C>, C: Copy, R: Source, P: Predicate
             return Ok(into);
         }
     }
+}
+
+// Items up to and including the first of which the predicate is true, which is then let go.
+fn gather_until<B: Gather<T>, T: DekuReader<C>, C: Copy, R: Source, P: Predicate<T>>(
+    into: B,
+    reader: &mut Reader<R>,
+    mut predicate: P,
+    ctx: C,
+) -> Result<B, DekuError>
+    requires readable { T.accepts ctx }
+    requires askable { P.asks_all predicate }
+    ensures reads { Reads R.told (Held (λ xs b. FoldsTo B.puts into xs b) (ReadsUntil P.answers P.ended predicate (T.meaning ctx))) reader.old result reader.new }
+    ensures early { OnOk result (T.prompt ctx → Promptly R.told reader.old reader.new) }
+{
+    let gathered = gather_asking(into, reader, &mut predicate, ctx);
+    predicate.finish();
+    gathered
 }
 
 // Items up to and including the one with which exactly so many bits are read.
@@ -107,7 +124,7 @@ pub fn gather_under<B: Gather<T>, T: DekuReader<C>, C: Copy, R: Source, P: Predi
 ) -> Result<B, DekuError>
     requires readable { T.accepts ctx }
     requires askable { AsksAll P.asks_all limit }
-    ensures reads { Reads R.told (Held (λ xs b. FoldsTo B.puts into xs b) (ReadsUnder P.answers limit (T.meaning ctx))) reader.old result reader.new }
+    ensures reads { Reads R.told (Held (λ xs b. FoldsTo B.puts into xs b) (ReadsUnder P.answers P.ended limit (T.meaning ctx))) reader.old result reader.new }
     ensures early { OnOk result (T.prompt ctx → EndsItself limit → Promptly R.told reader.old reader.new) }
 {
     match limit {

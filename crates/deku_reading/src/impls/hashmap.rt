@@ -10,7 +10,8 @@ use std::collections::HashMap;
 use std::hash::{BuildHasher, Hash};
 
 /// The pairs that the limit says, each a key and then its value, under the items' context. The limit is on the pairs that are read, and
-/// not on the entries: a later value of a key takes the place of an earlier one, and of equal keys the first is kept.
+/// not on the entries: a later value of a key takes the place of an earlier one, and of equal keys the first is kept. The map has the hasher
+/// that `S: Default` gives.
 ///
 /// What is refused, and what is left then, is as for a vector of pairs.
 ///
@@ -24,7 +25,7 @@ impl<
     P: Predicate<(K, V)>,
     Ctx: Copy,
 > DekuReader<(Limit<(K, V), P>, Ctx)> for HashMap<K, V, S> {
-    ghost use Rattle.std.specs.HashMap.{IsFromIterResult};
+    ghost use Rattle.std.specs.HashMap.{hasher_of, IsFromIterResult};
     ghost use Rattle.deku_meanings.specs.Collected.{IsMapOf};
     ghost use Rattle.deku_reading.specs.Limits.{ReadsUnder, AsksAll, EndsItself, Held};
 
@@ -32,7 +33,7 @@ impl<
 
     ghost prompt = { λ c. ⟦<(K, V) as DekuReader<Ctx>>⟧.prompt c.1 × EndsItself c.0 };
 
-    ghost meaning = { λ c. Held (λ xs m. IsFromIterResult K.eq xs m × IsMapOf K.eq xs m) (ReadsUnder P.answers c.0 (⟦<(K, V) as DekuReader<Ctx>>⟧.meaning c.1)) };
+    ghost meaning = { λ c. Held (λ xs m. IsFromIterResult K.eq xs m × IsMapOf K.eq xs m × S.is_default (hasher_of m)) (ReadsUnder P.answers P.ended c.0 (⟦<(K, V) as DekuReader<Ctx>>⟧.meaning c.1)) };
 
     fn from_reader_with_ctx<R: Source>(
         reader: &mut Reader<R>,

@@ -10,7 +10,7 @@ use std::collections::HashSet;
 use std::hash::{BuildHasher, Hash};
 
 /// The items that the limit says, each under the items' context. The limit is on the items that are read, and not on those that the set
-/// has then: each is kept once, and of equal items the first.
+/// has then: each is kept once, and of equal items the first. The set has the hasher that `S: Default` gives.
 ///
 /// What is refused, and what is left then, is as for a vector.
 ///
@@ -23,7 +23,7 @@ impl<
     P: Predicate<T>,
     Ctx: Copy,
 > DekuReader<(Limit<T, P>, Ctx)> for HashSet<T, S> {
-    ghost use Rattle.std.specs.HashSet.{IsFromIterResult};
+    ghost use Rattle.std.specs.HashSet.{hasher_of, IsFromIterResult};
     ghost use Rattle.deku_meanings.specs.Collected.{IsSetOf};
     ghost use Rattle.deku_reading.specs.Limits.{ReadsUnder, AsksAll, EndsItself, Held};
 
@@ -31,7 +31,7 @@ impl<
 
     ghost prompt = { λ c. T.prompt c.1 × EndsItself c.0 };
 
-    ghost meaning = { λ c. Held (λ xs m. IsFromIterResult T.eq xs m × IsSetOf T.eq xs m) (ReadsUnder P.answers c.0 (T.meaning c.1)) };
+    ghost meaning = { λ c. Held (λ xs m. IsFromIterResult T.eq xs m × IsSetOf T.eq xs m × S.is_default (hasher_of m)) (ReadsUnder P.answers P.ended c.0 (T.meaning c.1)) };
 
     fn from_reader_with_ctx<R: Source>(
         reader: &mut Reader<R>,

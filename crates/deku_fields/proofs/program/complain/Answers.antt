@@ -3,6 +3,3 @@ use Rattle.deku_fields.proofs.program.complain.Goals as goal
 
 pub returns-in-Usage : goal.returns-in-Usage
 returns-in-Usage g c = search rules
-
-pub returns-in-Fault : goal.returns-in-Fault
-returns-in-Fault g c = search rules

@@ -5,11 +5,11 @@ use Rattle.deku_reading.proofs.Judging.{goes_on, closed, item_refused, not_kept,
 use Rattle.deku_reading.proofs.impls.gather.gather_to_end.Goals as goal
 
 pub returns-in_err-end : goal.returns-in_err-end
-returns-in_err-end g c = passed_on _ c.from_residual.ensures.1 (item_refused _ c.loop-into.invariant (first_refused (look_refused c.in_err-end.ensures.reads)))
+returns-in_err-end g c = passed_on _ c.from_residual.ensures.1 (item_refused _ _ c.loop-into.invariant (first_refused (look_refused c.in_err-end.ensures.reads)) tt)
 
 pub returns-in_err-item : goal.returns-in_err-item
 returns-in_err-item g c =
-    passed_on _ c.from_residual-in_err-item.ensures.1 (item_refused _ c.loop-into.invariant (then_on (more_to_come (rw c.if-not-branch.true at c.in_ok-end.ensures.reads)) c.in_err-item.ensures.reads))
+    passed_on _ c.from_residual-in_err-item.ensures.1 (item_refused _ _ c.loop-into.invariant (then_on (more_to_come (rw c.if-not-branch.true at c.in_ok-end.ensures.reads)) c.in_err-item.ensures.reads) tt)
 
 pub loop-into-preserved : goal.loop-into-preserved
 loop-into-preserved g c =
@@ -24,8 +24,8 @@ returns-in_err-keep g c =
     let look = meant c.in_ok-end.ensures.reads in
     let before = counted (g.R.Source.told c.end.new.self.source).coming c.end.new.self.state _ c.bits_read-before.ensures ∙ look_counts_nothing _ _ _ look.0 in
     let after = counted (g.R.Source.told c.from_reader_with_ctx.new.reader.source).coming c.from_reader_with_ctx.new.reader.state _ c.bits_read.ensures in
-    passed_on _ c.from_residual-in_err-keep.ensures.1 (not_kept _ c.loop-into.invariant _ _ _ before after
-    (then_on (more_to_come (rw c.if-not-branch.true at c.in_ok-end.ensures.reads)) c.in_ok-item.ensures.reads) refl c.in_err-keep.ensures.err)
+    passed_on _ c.from_residual-in_err-keep.ensures.1 (not_kept _ _ c.loop-into.invariant _ _ _ before after
+    (then_on (more_to_come (rw c.if-not-branch.true at c.in_ok-end.ensures.reads)) c.in_ok-item.ensures.reads) refl tt c.in_err-keep.ensures.err)
 
 pub returns : goal.returns
-returns g c = let look = meant c.in_ok-end.ensures.reads in closed _ c.loop-into.invariant (rw c.if-not-branch.false at look.0) look.1
+returns g c = let look = meant c.in_ok-end.ensures.reads in closed _ _ c.loop-into.invariant (rw c.if-not-branch.false at look.0) tt look.1

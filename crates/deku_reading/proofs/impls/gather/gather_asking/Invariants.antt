@@ -2,10 +2,10 @@ use Rattle.std.proofs.Common.{◌-◌, ◌^◌}
 use Rattle.deku_bits.specs.Standings.{count_of, reader_state}
 use Rattle.deku_reading.specs.Early.{Promptly}
 use Rattle.deku_reading.proofs.Judging.{Gathering}
-use Rattle.deku_reading.proofs.impls.gather.gather_until.Given as goal
+use Rattle.deku_reading.proofs.impls.gather.gather_asking.Given as goal
 
-abbrev pub invariant-loop-predicate : goal.invariant-loop-predicate
-invariant-loop-predicate g l = record {
+abbrev pub invariant-loop-into : goal.invariant-loop-into
+invariant-loop-into g l = record {
   askable : g.P.Predicate.asks_all l.predicate;
   far : Gathering g.B.Gather.puts (λ q x v k. g.P.Predicate.answers q x.item v k) (g.T.DekuReader.meaning l.ctx) l.initial.predicate l.predicate l.initial.into l.into
       (reader_state (g.R.Source.told l.initial.reader.source).coming l.initial.reader.state) (g.R.Source.told l.initial.reader.source).health
@@ -13,5 +13,5 @@ invariant-loop-predicate g l = record {
   early : g.T.DekuReader.prompt l.ctx → Promptly g.R.Source.told l.initial.reader l.reader;
 }
 
-abbrev pub decreases-loop-predicate : goal.decreases-loop-predicate
-decreases-loop-predicate g l = 2 ^ 64 - count_of l.reader.state
+abbrev pub decreases-loop-into : goal.decreases-loop-into
+decreases-loop-into g l = 2 ^ 64 - count_of l.reader.state
