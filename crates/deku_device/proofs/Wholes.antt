@@ -3,8 +3,9 @@ use Rattle.std.proofs.Common.{◌≡◌, ℕ, ◌+◌, ◌-◌, ◌*◌, ◌≤�
 use Rattle.std.proofs.lemmas.List.{places, same_lists, length-take, length-drop, length-append, take_at, drop_at, take-append-drop, drop_all, length-take-le, length-replicate, append-nil}
 use Rattle.std.proofs.lemmas.Bool.{cases_lt}
 use Rattle.std.proofs.Common.{⊎_elim}
-use Rattle.deku_device.specs.Devices.{Access, ReadOnly, Overwritten, Grows, Changes, Whole, Onward, Transferred, GoesOnward}
-use Rattle.std.specs.Prelude.{Result, Ok, Err, IfErr, pos, negsuc}
+use Rattle.deku_device.specs.Devices.{Access, ReadOnly, Overwritten, Grows, Changes, Whole, Onward, Transferred, GoesOnward, FewerThan}
+use Rattle.std.specs.Prelude.{Result, Ok, Err, IfErr, IfSome, pos, negsuc, option_map}
+use Rattle.std.specs.Io.KnownBytes.{Consumes}
 use Rattle.std.specs.Io.Cursor.{IsSeekResult, IsSeekFromEnd}
 use Rattle.std.specs.declared.io.SeekFrom.{SeekFrom}
 use Rattle.std.specs.declared.io.SeekFrom.TheVariants.{Start, End, Current}
@@ -165,3 +166,11 @@ pub only_at_one : (m n : ℕ) → n ≡ m - 1 → failures_at m < failures_at n 
 only_at_one zero n e l = absurd (let z : n ≡ 0 = omega arith in let h : 1 < failures_at 0 = rw z at l in omega (arith, h))
 only_at_one (suc zero) n e l = refl
 only_at_one (suc (suc k)) n e l = absurd (let z : n ≡ suc k = omega arith in let h : 0 < failures_at (suc k) = rw z at l in omega (arith, h))
+
+-- the place behind the last byte, where i bytes were read and none is left
+pub at_end : (t : Option (List ℕ)) (p i q : ℕ) (xs : List ℕ) → q ≡ p + i → length xs ≡ i → Consumes (option_map (drop p) t) (option_map (drop (p + i)) t) xs
+    → FewerThan 1 (option_map (drop (p + i)) t) → IfSome t (λ all. q ≡ p + (length all - p))
+at_end None p i q xs k n c f = tt
+at_end (Some all) p i q xs k n c f =
+    let whole : length (drop p all) ≡ length xs + length (drop (p + i) all) = ap length c ∙ length-append xs (drop (p + i) all) in
+    omega (arith, k, n, whole, f, length-drop p all)

@@ -30,6 +30,7 @@ returns-in_err-give_byte-clause-still c =
 pub loop-byte-preserved : goal.loop-byte-preserved
 loop-byte-preserved c = record {
   given = rw (take_more c.args.bytes.now c.loop-byte.byte-index 0 (omega arith)) (Gave-trans _ _ _ _ _ c.loop-byte.invariant.given c.in_ok-give_byte.ensures.ok);
+  place = search rules;
   counted = search rules;
   fails = search rules;
 }
