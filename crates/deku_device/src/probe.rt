@@ -226,6 +226,7 @@ fn give_byte(sink: &mut FailAt<&mut [u8]>, byte: u8) -> io::Result<()>
     ensures which { IfErr result (λ e. error_kind e ≡ ErrorKind.Other → sink.old.left ≡ 1) }
     ensures place { OnOk result (cursor_position sink.new.inner ≡ cursor_position sink.old.inner + 1) }
     ensures stays { OnErr result (cursor_position sink.new.inner ≡ cursor_position sink.old.inner) }
+    ensures holds { OnErr result ((cursor_inner sink.new.inner).now ≡ (cursor_inner sink.old.inner).now) }
 {
     sink.call()?;
     sink.inner.give(&[byte])
@@ -247,6 +248,8 @@ impl Sink for FailAt<&mut [u8]> {
         ensures failed_place { IfErr result (λ e. error_kind e ≡ ErrorKind.Other → cursor_position self.new.inner ≡ cursor_position self.old.inner + (self.old.left - 1)) }
         ensures full_place { IfErr result (λ e. error_kind e ≡ ErrorKind.WriteZero
             → cursor_position self.new.inner ≡ cursor_position self.old.inner + (length (cursor_inner self.old.inner).now - cursor_position self.old.inner)) }
+        ensures full { IfErr result (λ e. error_kind e ≡ ErrorKind.WriteZero
+            → Appends (failing_sink self.old).taken (failing_sink self.new).taken (take (length (cursor_inner self.old.inner).now - cursor_position self.old.inner) bytes.now)) }
         // Room that lacks leaves the call that fails to come.
         ensures waits { IfErr result (λ e. error_kind e ≡ ErrorKind.WriteZero → 0 < self.old.left → (0 < self.new.left) × (self.new.left < self.old.left)) }
     {

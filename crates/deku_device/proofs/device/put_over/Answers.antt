@@ -4,19 +4,19 @@ use Rattle.deku_device.proofs.Wholes.{onward_same, read_onward, nowhere, slice_o
 use Rattle.deku_device.proofs.device.put_over.Goals as goal
 
 pub returns-in-Err-clause-fits : goal.returns-in-Err-clause-fits
-returns-in-Err-clause-fits c = search (rules, onward_same, read_onward, nowhere, slice_onward, vector_onward)
+returns-in-Err-clause-fits c = search rules
 
 pub returns-in-Err-clause-holds : goal.returns-in-Err-clause-holds
 returns-in-Err-clause-holds c = grind (arith, common_steps)
 
 pub returns-in-Err-clause-written : goal.returns-in-Err-clause-written
-returns-in-Err-clause-written c = search (rules, onward_same, read_onward, nowhere, slice_onward, vector_onward)
+returns-in-Err-clause-written c = search rules
 
 pub returns-in-Ok-clause-fits : goal.returns-in-Ok-clause-fits
 returns-in-Ok-clause-fits c = search (rules, onward_same, read_onward, nowhere, slice_onward, vector_onward)
 
 pub returns-in-Ok-clause-holds : goal.returns-in-Ok-clause-holds
-returns-in-Ok-clause-holds c = search (rules, onward_same, read_onward, nowhere, slice_onward, vector_onward)
+returns-in-Ok-clause-holds c = search rules
 
 pub returns-in-Ok-clause-written : goal.returns-in-Ok-clause-written
 returns-in-Ok-clause-written c = grind (arith, common_steps)

@@ -3,13 +3,13 @@ use Rattle.deku_device.proofs.Wholes.{onward_same, read_onward, nowhere, slice_o
 use Rattle.deku_device.proofs.device.CursorRefMutSliceU8Sink.go.Goals as goal
 
 pub returns-clause-all : goal.returns-clause-all
-returns-clause-all c = search (rules, onward_same, read_onward, nowhere, slice_onward, vector_onward)
+returns-clause-all c = search rules
 
 pub returns-clause-inner : goal.returns-clause-inner
-returns-clause-inner c = search (rules, onward_same, read_onward, nowhere, slice_onward, vector_onward)
+returns-clause-inner c = search rules
 
 pub returns-clause-moves : goal.returns-clause-moves
-returns-clause-moves c = search (rules, onward_same, read_onward, nowhere, slice_onward, vector_onward)
+returns-clause-moves c = search rules
 
 pub returns-clause-refused : goal.returns-clause-refused
 returns-clause-refused c = search (rules, onward_same, read_onward, nowhere, slice_onward, vector_onward)

@@ -3,16 +3,16 @@ use Rattle.deku_device.proofs.Wholes.{onward_same, read_onward, nowhere, slice_o
 use Rattle.deku_device.proofs.device.CursorSource.go.Goals as goal
 
 pub returns-clause-all : goal.returns-clause-all
-returns-clause-all g c = search (rules, onward_same, read_onward, nowhere, slice_onward, vector_onward)
+returns-clause-all g c = search rules
 
 pub returns-clause-coming : goal.returns-clause-coming
 returns-clause-coming g c = search (rules, onward_same, read_onward, nowhere, slice_onward, vector_onward)
 
 pub returns-clause-inner : goal.returns-clause-inner
-returns-clause-inner g c = search (rules, onward_same, read_onward, nowhere, slice_onward, vector_onward)
+returns-clause-inner g c = search rules
 
 pub returns-clause-moves : goal.returns-clause-moves
-returns-clause-moves g c = search (rules, onward_same, read_onward, nowhere, slice_onward, vector_onward)
+returns-clause-moves g c = search rules
 
 pub returns-clause-refused : goal.returns-clause-refused
 returns-clause-refused g c = search (rules, onward_same, read_onward, nowhere, slice_onward, vector_onward)

@@ -4,10 +4,10 @@ use Rattle.deku_device.proofs.Wholes.{onward_same, read_onward, nowhere, slice_o
 use Rattle.deku_device.proofs.device.CursorVecU8Sink.give.Goals as goal
 
 pub returns-clause-err : goal.returns-clause-err
-returns-clause-err c = search (rules, onward_same, read_onward, nowhere, slice_onward, vector_onward)
+returns-clause-err c = search rules
 
 pub returns-clause-holds : goal.returns-clause-holds
-returns-clause-holds c = search (rules, onward_same, read_onward, nowhere, slice_onward, vector_onward)
+returns-clause-holds c = search rules
 
 pub returns-clause-kept : goal.returns-clause-kept
 returns-clause-kept c = search (rules, onward_same, read_onward, nowhere, slice_onward, vector_onward)
@@ -19,7 +19,7 @@ pub returns-clause-place : goal.returns-clause-place
 returns-clause-place c = search (rules, onward_same, read_onward, nowhere, slice_onward, vector_onward)
 
 pub returns-clause-stays : goal.returns-clause-stays
-returns-clause-stays c = search (rules, onward_same, read_onward, nowhere, slice_onward, vector_onward)
+returns-clause-stays c = search rules
 
 pub returns-clause-written : goal.returns-clause-written
 returns-clause-written c = search (rules, onward_same, read_onward, nowhere, slice_onward, vector_onward)
