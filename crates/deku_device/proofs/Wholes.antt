@@ -1,6 +1,6 @@
 -- All bytes of a device, call after call.
-use Rattle.std.proofs.Common.{◌≡◌, ℕ, ◌+◌, ◌-◌, ◌*◌, ◌≤◌, ◌<◌, ◌^◌, min, List, [], ◌∷◌, ◌++◌, length, take, drop, replicate, Option, Some, None, refl, sym, ap, ◌∙◌, arith, rules, suc, zero, append_assoc, drop-drop, inl, inr, subst}
-use Rattle.std.proofs.lemmas.List.{places, same_lists, length-take, length-drop, length-append, take_at, drop_at, take-append-drop, drop_all, length-take-le, length-replicate, append-nil, nil_from_length}
+use Rattle.std.proofs.Common.{◌≡◌, ℕ, ◌+◌, ◌-◌, ◌≤◌, ◌<◌, min, List, [], ◌∷◌, ◌++◌, length, take, drop, replicate, Option, Some, None, refl, sym, ap, ◌∙◌, arith, rules, suc, zero, append_assoc, drop-drop, inl, inr, subst}
+use Rattle.std.proofs.lemmas.List.{places, same_lists, length-take, length-drop, length-append, drop_at, take-append-drop, drop_all, length-take-le, length-replicate, append-nil, nil_from_length}
 use Rattle.std.proofs.lemmas.Bool.{cases_lt}
 use Rattle.std.proofs.Common.{⊎_elim}
 use Rattle.deku_device.specs.Devices.{Access, ReadOnly, Overwritten, Grows, Changes, Whole, Onward, Transferred, GoesOnward, FewerThan}

@@ -1,4 +1,4 @@
-use Rattle.std.proofs.Common.{◌≡◌, ◌+◌, ◌-◌, length, take, drop, arith, rules, ap, ap₂, ◌∙◌, option_map, subst}
+use Rattle.std.proofs.Common.{◌≡◌, ◌+◌, length, take, drop, arith, rules, ap, ap₂, ◌∙◌, option_map, subst}
 use Rattle.std.proofs.lemmas.List.{length-take}
 use Rattle.std.proofs.lemmas.Result.{err_from_is_err_and}
 use Rattle.std.specs.Io.Cursor.{cursor_position, cursor_inner, cursor_remaining}
