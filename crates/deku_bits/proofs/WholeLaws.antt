@@ -1,12 +1,12 @@
 -- Laws of devices that tell all their bytes.
-use Rattle.std.proofs.Common.{◌≡◌, ℕ, ◌+◌, ◌-◌, ◌*◌, ◌^◌, ◌<◌, ◌≤◌, Bool, false, List, [], ◌∷◌, ◌++◌, length, take, drop, All, Option, Some, None, Result, Ok, Err, refl, sym, ap, ap₂, ◌∙◌, arith, inl, inr, ⊎_elim, subst₂, get_or, suc, zero}
+use Rattle.std.proofs.Common.{◌≡◌, ℕ, ◌+◌, ◌*◌, ◌^◌, ◌<◌, ◌≤◌, Bool, false, List, [], ◌∷◌, ◌++◌, length, take, drop, All, Option, Some, None, Result, Ok, Err, refl, sym, ap, ap₂, ◌∙◌, arith, inl, inr, ⊎_elim, subst₂, get_or, suc, zero}
 use Rattle.std.proofs.lemmas.List.{places, take-append-drop, length-take-le, take_at}
 use Rattle.std.proofs.lemmas.List.Elements.{All-take, All-from_get_or}
 use Rattle.std.proofs.lemmas.Bool.{cases_lt, lt-leb, le-leb}
 use Rattle.deku_stream.specs.declared.ctx.Order.{Order}
 use Rattle.deku_stream.specs.declared.ctx.Order.TheVariants.{Msb0, Lsb0}
 use Rattle.deku_stream.specs.declared.error.DekuError.{DekuError}
-use Rattle.deku_stream.specs.Bits.{byte_bits, bits_in, bytes_of, shown, facing}
+use Rattle.deku_stream.specs.Bits.{bits_in, bytes_of, shown}
 use Rattle.deku_stream.specs.Streams.{Stream, fresh, normal, flow, seen, taken, bit_count}
 use Rattle.deku_stream.specs.Writers.{Pending, Nothing, Written, append, cut, held}
 use Rattle.std.specs.Io.KnownBytes.{Appends}

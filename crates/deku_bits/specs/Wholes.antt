@@ -1,11 +1,11 @@
 -- All bytes of a device, and what a caller knows of them after calls.
-use Rattle.std.specs.Prelude.{◌≡◌, ℕ, false, ◌+◌, ◌*◌, ◌^◌, ◌<◌, ◌≤◌, List, [], ◌++◌, length, take, drop, All, Option, Some, Result, Ok}
+use Rattle.std.specs.Prelude.{◌≡◌, ℕ, false, ◌+◌, ◌*◌, ◌^◌, ◌<◌, ◌≤◌, List, ◌++◌, length, take, drop, All, Option, Some, Result, Ok}
 use Rattle.deku_stream.specs.declared.ctx.Order.{Order}
 use Rattle.deku_stream.specs.declared.ctx.Order.TheVariants.{Msb0}
 use Rattle.deku_stream.specs.declared.error.DekuError.{DekuError}
 use Rattle.deku_stream.specs.Bits.{bits_in}
 use Rattle.deku_stream.specs.Streams.{Stream, fresh, normal}
-use Rattle.deku_stream.specs.Writers.{Written, Nothing, append}
+use Rattle.deku_stream.specs.Writers.{Nothing, append}
 use Rattle.deku_device.specs.Devices.{Whole, ReadOnly, GoesOnward, bytes_before}
 use Rattle.deku_stream.specs.Standings.{Standing, Going}
 use Rattle.deku_reader.specs.ReaderCalls.{ReadsBytes}

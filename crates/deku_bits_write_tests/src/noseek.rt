@@ -1,11 +1,11 @@
 //! Streams that cannot seek, written.
 
 use crate::given::{Put, give_steps};
-use crate::same::{FAILED, same, same_bytes};
+use crate::same::{FAILED, kind_of, same, same_bytes};
 use crate::streams::{Set, set_steps};
 use deku_bits::noseek::NoSeek;
 use deku_bits::writer::Writer;
-use std::io::{BufWriter, ErrorKind, SeekFrom};
+use std::io::{BufWriter, ErrorKind, SeekFrom, Write};
 use std::test::Fail;
 
 const WRITES: [Put; 9] = [
@@ -61,5 +61,17 @@ fn flushes_the_stream_inside(rt: HostRuntime) -> Result<(), Fail> {
     same_bytes(&rt, (1, 0), stream.get_ref().buffer(), &[0xAA, 0xBB]);
     set_steps(&rt, 2, &mut stream, &FLUSHED)?;
     same(&rt, (3, 0), &stream.get_ref().buffer().is_empty(), &true);
+    Ok(())
+}
+
+// A fault of the stream inside is handed on where it is flushed.
+#[test]
+fn hands_on_a_flush_that_fails(rt: HostRuntime) -> Result<(), Fail> {
+    let mut byte = [0; 1];
+    let buffered = BufWriter::new(rt.alloc(), byte.as_mut_slice())?;
+    let mut stream = NoSeek::new(buffered);
+    set_steps(&rt, 0, &mut stream, &TWO)?;
+    let answer = kind_of(stream.flush());
+    same(&rt, (1, 0), &answer, &Err(ErrorKind::WriteZero));
     Ok(())
 }

@@ -2,7 +2,7 @@
 
 #![tactic(auto, using(crate::proofs::Wholes::onward_same, crate::proofs::Wholes::read_onward, crate::proofs::Wholes::nowhere))]
 
-ghost use Rattle.std.specs.Prelude.{◌≡◌, ◌≢◌, ◌<◌, ◌≤◌, ◌-◌, ◌^◌, ◌↔◌, min, [], ◌∷◌, Some, None, length, take, OnOk, OnErr, IfOk, IfErr, IfSome, IsOk};
+ghost use Rattle.std.specs.Prelude.{◌≡◌, ◌≢◌, ◌<◌, ◌≤◌, ◌+◌, ◌-◌, ◌^◌, ◌↔◌, min, [], ◌∷◌, Some, None, length, take, OnOk, OnErr, IfOk, IfErr, IfSome, IsOk};
 ghost use Rattle.std.specs.Io.{ReadsAtMost, WritesAtMost};
 ghost use Rattle.std.specs.Io.Cursor.{cursor_position, cursor_inner, cursor_remaining, IsSeekResult, IsSeekFromEnd};
 ghost use Rattle.std.specs.Io.KnownBytes.{Appends, Consumes, Keeps, ReadConsumes, WriteAppends};
@@ -118,7 +118,10 @@ fn fetch_byte<B: AsBytes>(source: &mut FailAt<B>) -> io::Result<u8>
     ensures counted { source.new.left ≡ source.old.left - 1 }
     ensures fails { OnOk result (source.old.left ≢ 1) }
     ensures kind { IfErr result (λ e. source.old.left ≡ 1 → error_kind e ≡ ErrorKind.Other) }
-    ensures still { source.old.left ≡ 1 → source.new.inner ≡ source.old.inner }
+    ensures still { OnErr result (source.new.inner ≡ source.old.inner) }
+    ensures which { IfErr result (λ e. error_kind e ≡ ErrorKind.Other → source.old.left ≡ 1) }
+    ensures place { OnOk result (cursor_position source.new.inner ≡ cursor_position source.old.inner + 1) }
+    ensures inner { cursor_inner source.new.inner ≡ cursor_inner source.old.inner }
 {
     source.call()?;
     let mut byte = [0];
@@ -142,6 +145,12 @@ impl<B: AsBytes> Source for FailAt<B> {
         ensures fails { OnOk result (0 < self.old.left → length buf.new < self.old.left) }
         ensures kind { IfErr result (λ e. error_kind e ≢ ErrorKind.UnexpectedEof → error_kind e ≡ ErrorKind.Other) }
         ensures still { IfErr result (λ e. error_kind e ≡ ErrorKind.Other → Passes (self.old.left - 1) (failing_source B.bytes self.old).coming (failing_source B.bytes self.new).coming) }
+        // It stands behind the bytes that were fetched: up to the call that fails, or all where the input ends.
+        ensures place { OnOk result (cursor_position self.new.inner ≡ cursor_position self.old.inner + length buf.new) }
+        ensures failed_place { IfErr result (λ e. error_kind e ≡ ErrorKind.Other → cursor_position self.new.inner ≡ cursor_position self.old.inner + (self.old.left - 1)) }
+        ensures end_place { IfErr result (λ e. error_kind e ≡ ErrorKind.UnexpectedEof → IfSome (B.bytes (cursor_inner self.old.inner))
+            (λ all. cursor_position self.new.inner ≡ cursor_position self.old.inner + (length all - cursor_position self.old.inner))) }
+        ensures inner { cursor_inner self.new.inner ≡ cursor_inner self.old.inner }
         // The end of input leaves the call that fails to come.
         ensures waits { IfErr result (λ e. error_kind e ≡ ErrorKind.UnexpectedEof → 0 < self.old.left → (0 < self.new.left) × (self.new.left < self.old.left)) }
     {
@@ -214,6 +223,10 @@ fn give_byte(sink: &mut FailAt<&mut [u8]>, byte: u8) -> io::Result<()>
     ensures fails { OnOk result (sink.old.left ≢ 1) }
     ensures kind { IfErr result (λ e. sink.old.left ≡ 1 → error_kind e ≡ ErrorKind.Other) }
     ensures still { sink.old.left ≡ 1 → sink.new.inner ≡ sink.old.inner }
+    ensures which { IfErr result (λ e. error_kind e ≡ ErrorKind.Other → sink.old.left ≡ 1) }
+    ensures place { OnOk result (cursor_position sink.new.inner ≡ cursor_position sink.old.inner + 1) }
+    ensures stays { OnErr result (cursor_position sink.new.inner ≡ cursor_position sink.old.inner) }
+    ensures holds { OnErr result ((cursor_inner sink.new.inner).now ≡ (cursor_inner sink.old.inner).now) }
 {
     sink.call()?;
     sink.inner.give(&[byte])
@@ -230,6 +243,13 @@ impl Sink for FailAt<&mut [u8]> {
         ensures fails { OnOk result (0 < self.old.left → length bytes.now < self.old.left) }
         ensures kind { IfErr result (λ e. error_kind e ≢ ErrorKind.WriteZero → error_kind e ≡ ErrorKind.Other) }
         ensures still { IfErr result (λ e. error_kind e ≡ ErrorKind.Other → Appends (failing_sink self.old).taken (failing_sink self.new).taken (take (self.old.left - 1) bytes.now)) }
+        // It stands behind the bytes that were given: up to the call that fails, or as many as fit where room lacks.
+        ensures place { OnOk result (cursor_position self.new.inner ≡ cursor_position self.old.inner + length bytes.now) }
+        ensures failed_place { IfErr result (λ e. error_kind e ≡ ErrorKind.Other → cursor_position self.new.inner ≡ cursor_position self.old.inner + (self.old.left - 1)) }
+        ensures full_place { IfErr result (λ e. error_kind e ≡ ErrorKind.WriteZero
+            → cursor_position self.new.inner ≡ cursor_position self.old.inner + (length (cursor_inner self.old.inner).now - cursor_position self.old.inner)) }
+        ensures full { IfErr result (λ e. error_kind e ≡ ErrorKind.WriteZero
+            → Appends (failing_sink self.old).taken (failing_sink self.new).taken (take (length (cursor_inner self.old.inner).now - cursor_position self.old.inner) bytes.now)) }
         // Room that lacks leaves the call that fails to come.
         ensures waits { IfErr result (λ e. error_kind e ≡ ErrorKind.WriteZero → 0 < self.old.left → (0 < self.new.left) × (self.new.left < self.old.left)) }
     {

@@ -1,4 +1,5 @@
-use Rattle.std.proofs.Common.{◌≡◌, ◌-◌, ◌<◌, take}
+use Rattle.std.proofs.Common.{◌≡◌, ◌+◌, ◌-◌, ◌<◌, take}
+use Rattle.std.specs.Io.Cursor.{cursor_position, cursor_inner}
 use Rattle.std.specs.Io.KnownBytes.{Consumes}
 use Rattle.deku_device.specs.Cursors.{failing_source}
 use Rattle.deku_device.specs.Devices.{NoFewerFailures}
@@ -10,6 +11,8 @@ invariant-loop-place g l =
     record {
       bytes : Consumes (told l.initial.self).coming (told l.self).coming (take l.place-index l.buf);
       kept : NoFewerFailures (told l.initial.self).health (told l.self).health;
+      place : cursor_position l.self.inner ≡ cursor_position l.initial.self.inner + l.place-index;
+      inner : cursor_inner l.self.inner ≡ cursor_inner l.initial.self.inner;
       counted : l.self.left ≡ l.initial.self.left - l.place-index;
       fails : 0 < l.initial.self.left → l.place-index < l.initial.self.left;
     }
