@@ -8,4 +8,6 @@ mod examples;
 #[cfg(test)]
 mod kept_in_step;
 #[cfg(test)]
+mod own_devices;
+#[cfg(test)]
 mod records;
