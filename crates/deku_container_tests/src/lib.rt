@@ -10,4 +10,6 @@ mod in_turn;
 #[cfg(test)]
 mod kept_in_step;
 #[cfg(test)]
+mod own_devices;
+#[cfg(test)]
 mod records;

@@ -1,5 +1,6 @@
 -- The list that is written for a value: its number, and where there is one.
-use Rattle.std.proofs.Common.{pos, negsuc, ℕ, zero, suc, ◌+◌, ◌*◌, ◌-◌, ◌%◌, ◌^◌, ◌<◌, ◌≤◌, ◌≡◌, Bool, true, false, cond, List, length, ℤ, refl, ap, ap₂, sym, ◌∙◌, arith, subst, pow-suc, ◌-ℤ◌, ⊎_elim, mod-eq_of_lt, mod-lt}
+use Rattle.std.proofs.Common.{pos, negsuc, ℕ, zero, suc, ◌+◌, ◌*◌, ◌-◌, ◌/◌, ◌%◌, ◌^◌, ◌<◌, ◌≤◌, ◌≡◌, Bool, true, false, cond, List, length, ℤ, refl, ap, ap₂, sym, ◌∙◌, arith, subst, pow-suc, ◌-ℤ◌, inl, inr, ⊎_elim, mod-eq_of_lt, mod-lt}
+use Rattle.std.proofs.Math.Nat.{mod-add-div}
 use Rattle.std.proofs.lemmas.Nat.{pow_pos, pow-add}
 use Rattle.std.proofs.lemmas.Int.{ints}
 use Rattle.std.proofs.lemmas.Bool.{cases_lt}
@@ -8,6 +9,7 @@ use Rattle.deku_num.specs.declared.ctx.Layout.{Layout}
 use Rattle.deku_num.specs.declared.ctx.Size.{Size}
 use Rattle.deku_num.specs.declared.ctx.Size.TheVariants.{Whole, Bits, Bytes}
 use Rattle.deku_num.specs.Numbers.{NumberType, number, with_sign, sized_width, width, value, IsAllowed, IsListWhere, IsListFor, residue, cuts}
+use Rattle.deku_num.specs.NumberLaws.{ResidueLaw}
 use Rattle.deku_num.proofs.Values.{signed_low, signed_high, with_sign-signed}
 use Rattle.deku_num.proofs.Ranges.{signed_below}
 
@@ -53,6 +55,17 @@ residue-with_sign (suc k) m h = ⊎_elim
     let r : (T - 1 - m) % T ≡ T - 1 - m = mod-eq_of_lt low in
     ap (λ v. residue v (suc k)) e ∙ ap (λ x. T - 1 - x) r ∙ omega arith)
     (cases_lt m (2 ^ k))
+
+-- it differs from the value by a multiple of two to the power of n
+below_by : (m r q M : ℕ) → r < M → r + q ≡ m → negsuc m ≡ pos (M - 1 - r) -ℤ pos (M + q)
+below_by m r q M l e = omega (arith, ints, l, e)
+
+pub residue_law : ResidueLaw
+residue_law (pos m) n = (residue-lt (pos m) n, (m / 2 ^ n, inl (ap pos (sym (mod-add-div m (2 ^ n))))))
+residue_law (negsuc m) n =
+    let M : ℕ = 2 ^ n in
+    let more : M + M * (m / M) ≡ M * suc (m / M) = omega arith in
+    (residue-lt (negsuc m) n, (suc (m / M), inr (below_by m (m % M) (M * (m / M)) M (mod-lt m (pow_pos n)) (mod-add-div m M) ∙ ap (λ x. pos (M - 1 - m % M) -ℤ pos x) more)))
 
 -- ---- the list of a value
 -- a byte size is whole bytes

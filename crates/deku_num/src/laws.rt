@@ -1,7 +1,7 @@
 //! Laws of the numbers that fields hold: each is what an empty function ensures.
 
 ghost use Rattle.deku_num.specs.NumberCalls.{SizeLaw};
-ghost use Rattle.deku_num.specs.NumberLaws.{FieldLaw, TypeLaw, ByteLaw, SplitLaw, GroupLaw, BitLaw};
+ghost use Rattle.deku_num.specs.NumberLaws.{FieldLaw, TypeLaw, ByteLaw, SplitLaw, GroupLaw, BitLaw, ResidueLaw};
 ghost use Rattle.deku_num.specs.Rows.{RecordRows, NumberRows, PartRows, FitRows};
 
 /// The values that fit a field are those in range, and each has one list of bits alone.
@@ -37,6 +37,11 @@ pub fn group_law()
 /// Each bit stands at its place in the number.
 pub fn bit_law()
     ensures { BitLaw }
+{}
+
+/// What is left of a value modulo two to a width, as it is cut to so many bits, is below that and differs from the value by a multiple of it.
+pub fn residue_law()
+    ensures { ResidueLaw }
 {}
 
 /// Worked examples of records of several numbers, read and written.

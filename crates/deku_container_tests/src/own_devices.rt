@@ -1,0 +1,119 @@
+//! A source and a sink that a user writes, and what is read and written through them.
+
+ghost use Rattle.std.specs.Prelude.{◌≡◌, Some, None, []};
+
+use super::container::same;
+use deku::ctx::BitSize;
+use deku::device::{Sink, Source};
+use deku::prelude::{DekuReader, DekuWriter, Reader, Writer};
+use std::io;
+use std::io::{BufReader, Cursor, Read, Seek, SeekFrom, Write};
+use std::test::Fail;
+
+// A buffered reader. It tells nothing of its bytes, as a file.
+#[derive(Drop)]
+struct Buffered<R> {
+    inner: BufReader<R>,
+}
+
+impl<R: Read> Read for Buffered<R> {
+    fn read(&mut self, buf: &mut [u8]) -> io::Result<usize> {
+        self.inner.read(buf)
+    }
+}
+
+impl<R: Seek> Seek for Buffered<R> {
+    fn seek(&mut self, to: SeekFrom) -> io::Result<u64> {
+        self.inner.seek(to)
+    }
+}
+
+impl<R: Read + Seek> Source for Buffered<R> {
+    ghost told = { λ _. record { coming = None; health = record { failures = None; lenders = [] } } };
+
+    ghost told_by_place = { λ s at all p. Prim.cc };
+
+    fn fetch(&mut self, buf: &mut [u8]) -> io::Result<()> {
+        self.inner.read_exact(buf)
+    }
+
+    fn pass(&mut self, n: u64) -> io::Result<()> {
+        self.inner.seek(SeekFrom::Current(n as i64))?;
+        Ok(())
+    }
+}
+
+// A sink that counts the bytes that go through it, and tells what the sink inside tells.
+#[derive(Drop)]
+struct Counted<W> {
+    inner: W,
+    bytes: u64,
+}
+
+impl<W: Write> Write for Counted<W> {
+    ghost contents = { λ s. W.contents s.inner };
+
+    fn write(&mut self, buf: &[u8]) -> io::Result<usize> {
+        let count = self.inner.write(buf)?;
+        self.bytes = self.bytes.wrapping_add(count as u64);
+        Ok(count)
+    }
+
+    fn flush(&mut self) -> io::Result<()> {
+        self.inner.flush()
+    }
+}
+
+impl<W: Seek> Seek for Counted<W> {
+    ghost stream_position = { λ s. W.stream_position s.inner };
+
+    ghost stream_bytes = { λ s. W.stream_bytes s.inner };
+
+    fn seek(&mut self, to: SeekFrom) -> io::Result<u64> {
+        self.inner.seek(to)
+    }
+}
+
+impl<W: Sink> Sink for Counted<W> {
+    ghost told = { λ s. W.told s.inner };
+
+    fn give(&mut self, bytes: &[u8]) -> io::Result<()> {
+        self.bytes = self.bytes.wrapping_add(bytes.len() as u64);
+        self.inner.give(bytes)
+    }
+}
+
+// The halves of a byte and the byte behind it, written and read.
+#[test]
+fn through_own_devices(rt: HostRuntime) -> Result<(), Fail> {
+    for (halves, number, bytes) in [((6, 9), 0xBE, [0x69, 0xBE]), ((0, 15), 1, [0x0F, 0x01])] {
+        let own = Counted {
+            inner: Cursor::new(Vec::new(rt.alloc())),
+            bytes: 0,
+        };
+        let mut writer = Writer::new(own);
+        halves.to_writer(&mut writer, BitSize(4))?;
+        number.to_writer(&mut writer, ())?;
+        let own = writer.into_inner();
+        same(&rt, &"given", &own.bytes, &2);
+        same(
+            &rt,
+            &"bytes",
+            &own.inner.get_ref().as_slice(),
+            &bytes.as_slice(),
+        );
+
+        let inner = BufReader::new(rt.alloc(), Cursor::new(bytes.as_slice()))?;
+        let mut reader = Reader::new(rt.alloc(), Buffered { inner });
+        let read = <(u8, u8)>::from_reader_with_ctx(&mut reader, BitSize(4))?;
+        same(&rt, &"halves", &read, &halves);
+        same(
+            &rt,
+            &"number",
+            &u8::from_reader_with_ctx(&mut reader, ())?,
+            &number,
+        );
+        same(&rt, &"end", &reader.end()?, &true);
+    }
+    Ok(())
+}
