@@ -1,6 +1,6 @@
 //! A source and a sink that a user writes, and what is read and written through them.
 
-ghost use Rattle.std.specs.Prelude.{◌≡◌, Some, None, []};
+ghost use Rattle.deku.specs.Devices.{untold_source};
 
 use super::container::same;
 use deku::ctx::BitSize;
@@ -29,7 +29,7 @@ impl<R: Seek> Seek for Buffered<R> {
 }
 
 impl<R: Read + Seek> Source for Buffered<R> {
-    ghost told = { λ _. record { coming = None; health = record { failures = None; lenders = [] } } };
+    ghost told = { λ _. untold_source };
 
     ghost told_by_place = { λ s at all p. Prim.cc };
 
@@ -40,6 +40,10 @@ impl<R: Read + Seek> Source for Buffered<R> {
     fn pass(&mut self, n: u64) -> io::Result<()> {
         self.inner.seek(SeekFrom::Current(n as i64))?;
         Ok(())
+    }
+
+    fn go(&mut self, to: SeekFrom) -> io::Result<u64> {
+        self.seek(to)
     }
 }
 
@@ -80,6 +84,10 @@ impl<W: Sink> Sink for Counted<W> {
     fn give(&mut self, bytes: &[u8]) -> io::Result<()> {
         self.bytes = self.bytes.wrapping_add(bytes.len() as u64);
         self.inner.give(bytes)
+    }
+
+    fn go(&mut self, to: SeekFrom) -> io::Result<u64> {
+        self.inner.go(to)
     }
 }
 
