@@ -176,7 +176,13 @@ impl<T: Read> Source for NoSeek<T> {
         Ok(())
     }
 
-    fn go(&mut self, to: SeekFrom) -> io::Result<u64> {
+    fn go(&mut self, to: SeekFrom) -> io::Result<u64>
+        ensures here { IfOk result (λ n. (n ≡ self.old.position) × IsHere self.old.position to) }
+        ensures refused { IfErr result (λ e. (error_kind e ≡ ErrorKind.Other) × (IsHere self.old.position to → ⊥)) }
+        ensures stays { self.new ≡ self.old }
+        ensures moves { SeekMoves (Some self.old.position) (Some self.new.position) None to result }
+        ensures all { Keeps None None }
+    {
         self.seek(to)
     }
 }
@@ -192,7 +198,13 @@ impl<T: Write> Sink for NoSeek<T> {
         self.write_all(bytes)
     }
 
-    fn go(&mut self, to: SeekFrom) -> io::Result<u64> {
-        self.seek(to)
+    fn go(&mut self, to: SeekFrom) -> io::Result<u64>
+        ensures here { IfOk result (λ n. (n ≡ self.old.position) × IsHere self.old.position to) }
+        ensures refused { IfErr result (λ e. (error_kind e ≡ ErrorKind.Other) × (IsHere self.old.position to → ⊥)) }
+        ensures stays { self.new ≡ self.old }
+        ensures moves { SeekMoves (Some self.old.position) (Some self.new.position) None to result }
+        ensures all { Keeps None None }
+    {
+        Seek::seek(self, to)
     }
 }

@@ -4,8 +4,8 @@ use Rattle.deku_device.proofs.noseek.NoSeekSource.go.Goals as goal
 pub returns-clause-all : goal.returns-clause-all
 returns-clause-all g c = search rules
 
-pub returns-clause-coming : goal.returns-clause-coming
-returns-clause-coming g c = search rules
+pub returns-clause-here : goal.returns-clause-here
+returns-clause-here g c = search rules
 
 pub returns-clause-moves : goal.returns-clause-moves
 returns-clause-moves g c = search rules
@@ -13,5 +13,5 @@ returns-clause-moves g c = search rules
 pub returns-clause-refused : goal.returns-clause-refused
 returns-clause-refused g c = search rules
 
-pub returns-clause-sought : goal.returns-clause-sought
-returns-clause-sought g c = search rules
+pub returns-clause-stays : goal.returns-clause-stays
+returns-clause-stays g c = search rules
