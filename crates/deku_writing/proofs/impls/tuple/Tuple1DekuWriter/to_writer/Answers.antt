@@ -1,0 +1,4 @@
+use Rattle.deku_writing.proofs.impls.tuple.Tuple1DekuWriter.to_writer.Goals as goal
+
+pub returns : goal.returns
+returns g c = c.to_writer.ensures
