@@ -92,6 +92,29 @@ pub fn both_orders() -> [Item; 7] {
     ]
 }
 
+/// Half a byte, a byte and a half, two bytes and two words, little in `Lsb0`: 31 12 04 05 06 00 00 00 07 00 00 00.
+pub fn little_words() -> [Item; 6] {
+    [
+        little_lsb(Kind::U8, Size::Bits(4), 1),
+        little_lsb(Kind::U16, Size::Bits(12), 0x123),
+        little_lsb(Kind::U8, Size::Whole, 4),
+        little_lsb(Kind::U8, Size::Whole, 5),
+        little_lsb(Kind::U32, Size::Whole, 6),
+        little_lsb(Kind::U32, Size::Whole, 7),
+    ]
+}
+
+/// Thirteen bits of a big `u32` in `Lsb0`: 10 01.
+pub fn thirteen_of_a_word() -> [Item; 1] {
+    [item(
+        Kind::U32,
+        Endian::Big,
+        Order::Lsb0,
+        Size::Bits(13),
+        Number::Unsigned(0x1001),
+    )]
+}
+
 /// The fields of items, and then more that stand for nothing.
 pub fn fields_of(items: &[Item]) -> [Field; MOST] {
     let mut fields = [big_msb(Kind::U8, Size::Whole, 0).field; MOST];
