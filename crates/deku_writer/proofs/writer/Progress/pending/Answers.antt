@@ -6,3 +6,9 @@ returns-then-is_some-clause-bits c = search rules
 
 pub returns-clause-bits : goal.returns-clause-bits
 returns-clause-bits c = search rules
+
+pub returns-clause-few : goal.returns-clause-few
+returns-clause-few c = search rules
+
+pub returns-clause-nothing : goal.returns-clause-nothing
+returns-clause-nothing c = search rules
