@@ -249,8 +249,9 @@ const CONTEXTS: [Record; 13] = [
 
 #[test]
 fn under_each_context(rt: HostRuntime) -> Result<(), Fail> {
-    expect_read(&rt, rt.alloc(), &CONTEXTS)?;
-    expect_records_written(&rt, rt.alloc(), &CONTEXTS)
+    let records = &CONTEXTS;
+    expect_read(&rt, rt.alloc(), records)?;
+    expect_records_written(&rt, rt.alloc(), records)
 }
 
 const NIBBLE: Under = Under::OneBits(Big, 4);
@@ -325,8 +326,9 @@ const BOTH_WAYS: [Record; 5] = [
 
 #[test]
 fn both_ways(rt: HostRuntime) -> Result<(), Fail> {
-    expect_read(&rt, rt.alloc(), &BOTH_WAYS)?;
-    expect_records_written(&rt, rt.alloc(), &BOTH_WAYS)
+    let records = &BOTH_WAYS;
+    expect_read(&rt, rt.alloc(), records)?;
+    expect_records_written(&rt, rt.alloc(), records)
 }
 
 const READ: [Record; 7] = [
