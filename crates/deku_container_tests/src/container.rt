@@ -13,8 +13,52 @@ const NO_MEMORY: DekuError = DekuError::Io(ErrorKind::OutOfMemory);
 
 // What was got is what was wanted, in the row of this name.
 pub fn same<T: PartialEq + Debug>(rt: &impl Abort, row: &impl Debug, got: &T, want: &T) {
-    assert_eq!(rt; *got, *want, "{row:?}");
+    assert!(rt; *got == *want, "{row:?}: {got:?}, and not {want:?}");
 }
+
+// ---- single calls
+// What is left of these bytes behind so many bits, and what was read.
+type Parsed<'b, T> = ((&'b [u8], usize), T);
+
+fn parsed<'b, T: DekuContainerRead>(
+    alloc: Global,
+    input: (&'b [u8], usize),
+) -> Result<Parsed<'b, T>, DekuError>
+    requires { T.accepts tt }
+{
+    T::from_bytes(alloc, input)
+}
+
+// How many bits were taken from the source, and what was read.
+fn taken<T: DekuContainerRead>(
+    alloc: Global,
+    source: &mut Cursor<&[u8]>,
+    bits: usize,
+) -> Result<(usize, T), DekuError>
+    requires { T.accepts tt }
+{
+    T::from_reader(alloc, (source, bits))
+}
+
+fn bytes_of<T: DekuContainerWrite>(alloc: Global, value: &T) -> Result<Vec<u8>, DekuError>
+    requires { T.accepts tt }
+{
+    value.to_bytes(alloc)
+}
+
+fn bits_of<T: DekuContainerWrite>(alloc: Global, value: &T) -> Result<Vec<bool>, DekuError>
+    requires { T.accepts tt }
+{
+    value.to_bits(alloc)
+}
+
+fn over<T: DekuContainerWrite>(value: &T, page: &mut [u8]) -> Result<usize, DekuError>
+    requires { T.accepts tt }
+{
+    value.to_slice(page)
+}
+
+// ---- expectations
 
 // The input ended where so many bits were wanted.
 fn incomplete(bits: usize) -> DekuError {
@@ -31,9 +75,8 @@ fn expect_rest<T: DekuContainerRead + PartialEq + Debug>(
 ) -> Result<(), Fail>
     requires { T.accepts tt }
 {
-    let (left, value) = T::from_bytes(alloc, input)?;
-    same(rt, &input, &value, &want);
-    same(rt, &input, &left, &rest);
+    let seen = parsed::<T>(alloc, input)?;
+    same(rt, &input, &seen, &(rest, want));
     Ok(())
 }
 
@@ -46,7 +89,7 @@ fn expect_refused<T: DekuContainerRead>(
 )
     requires { T.accepts tt }
 {
-    match T::from_bytes(alloc, input) {
+    match parsed::<T>(alloc, input) {
         Ok(_) => assert!(rt; false, "{input:?} is read, and not refused with {want:?}"),
         Err(refusal) => same(rt, &input, &refusal, &want),
     }
@@ -63,9 +106,8 @@ fn expect_taken<T: DekuContainerRead + PartialEq + Debug>(
 ) -> Result<(), Fail>
     requires { T.accepts tt }
 {
-    let read = T::from_reader(alloc, (source, bits))?;
-    same(rt, &bits, &read, &want);
-    same(rt, &bits, &source.position(), &place);
+    let read = taken::<T>(alloc, source, bits)?;
+    same(rt, &bits, &(read, source.position()), &(want, place));
     Ok(())
 }
 
@@ -79,8 +121,8 @@ fn expect_written<T: DekuContainerWrite + Debug>(
 ) -> Result<(), Fail>
     requires { T.accepts tt }
 {
-    same(rt, value, &value.to_bytes(alloc)?.as_slice(), &bytes);
-    same(rt, value, &value.to_bits(alloc)?.as_slice(), &bits);
+    same(rt, value, &bytes_of(alloc, value)?.as_slice(), &bytes);
+    same(rt, value, &bits_of(alloc, value)?.as_slice(), &bits);
     expect_over(rt, value, bytes)
 }
 
@@ -94,10 +136,11 @@ fn expect_over<T: DekuContainerWrite + Debug>(
 {
     let mut page = [0xA5; 4];
     assert!(rt; bytes.len() <= 4);
-    same(rt, value, &value.to_slice(&mut page), &Ok(bytes.len()));
-    same(rt, value, &&page[..bytes.len()], &bytes);
+    let answer = over(value, &mut page);
+    let (front, behind) = page.split_at(bytes.len());
     let rest = &[0xA5u8; 4][bytes.len()..];
-    same(rt, value, &&page[bytes.len()..], &rest);
+    let want = (Ok(bytes.len()), bytes, rest);
+    same(rt, value, &(answer, front, behind), &want);
     Ok(())
 }
 
@@ -183,7 +226,7 @@ fn reads_from_a_source(rt: HostRuntime) -> Result<(), Fail> {
     source.set_position(0);
     expect_taken(&rt, alloc, &mut source, 9, (9, Empty {}), 2)?;
     source.set_position(0);
-    match Octet::from_reader(alloc, (&mut source, 20)) {
+    match taken::<Octet>(alloc, &mut source, 20) {
         Ok(_) => assert!(rt; false, "read behind 20 bits"),
         Err(refusal) => same(&rt, &"behind 20 bits", &refusal, &incomplete(8)),
     }
@@ -218,7 +261,7 @@ fn writes_bytes_and_bits(rt: HostRuntime) -> Result<(), Fail> {
         halves: (6, 9),
         number: 0xC0FE,
     };
-    let bytes = head.to_bytes(alloc)?;
+    let bytes = bytes_of(alloc, &head)?;
     same(
         &rt,
         &head,
@@ -232,14 +275,14 @@ fn writes_bytes_and_bits(rt: HostRuntime) -> Result<(), Fail> {
 fn writes_over_slices(rt: HostRuntime) {
     let number = Pair { value: 0xBEEF };
     let mut page = [0xA5; 3];
-    let answer = number.to_slice(&mut page[..1]);
+    let answer = over(&number, &mut page[..1]);
     same(
         &rt,
         &"one byte",
         &answer,
         &Err(DekuError::Io(ErrorKind::WriteZero)),
     );
-    let answer = number.to_slice(&mut page);
+    let answer = over(&number, &mut page);
     same(
         &rt,
         &"three bytes",
@@ -253,11 +296,11 @@ fn writes_over_slices(rt: HostRuntime) {
 fn memory_for_what_is_written(rt: HostRuntime) {
     let alloc = rt.alloc();
     let low = Low { value: 5 };
-    match low.to_bytes(alloc) {
+    match bytes_of(alloc, &low) {
         Ok(bytes) => same(&rt, &low, &bytes.as_slice(), &[5].as_slice()),
         Err(refusal) => same(&rt, &low, &refusal, &NO_MEMORY),
     }
-    match low.to_bits(alloc) {
+    match bits_of(alloc, &low) {
         Ok(bits) => same(&rt, &low, &bits.as_slice(), &[true, false, true].as_slice()),
         Err(refusal) => same(&rt, &low, &refusal, &NO_MEMORY),
     }
@@ -273,10 +316,11 @@ fn expect_both_ways<T: DekuContainerRead + DekuContainerWrite + PartialEq + Debu
     requires reads { T.DekuReader.accepts tt }
     requires writes { T.DekuWriter.accepts tt }
 {
-    let (left, value) = T::from_bytes(alloc, (bytes, 0))?;
-    same(rt, &bytes, &value, &want);
-    same(rt, &bytes, &(left.0.len(), left.1), &(0, 0));
-    same(rt, &value, &value.to_bytes(alloc)?.as_slice(), &bytes);
+    let (left, value) = parsed::<T>(alloc, (bytes, 0))?;
+    let seen = (value, left.0.len(), left.1);
+    same(rt, &bytes, &seen, &(want, 0, 0));
+    let written = bytes_of(alloc, &seen.0)?;
+    same(rt, &seen.0, &written.as_slice(), &bytes);
     Ok(())
 }
 

@@ -5,9 +5,11 @@ ghost use Rattle.deku.specs.Devices.{untold_source};
 use super::container::same;
 use deku::ctx::BitSize;
 use deku::device::{Sink, Source};
-use deku::prelude::{DekuReader, DekuWriter, Reader, Writer};
+use deku::prelude::{DekuError, DekuReader, DekuWriter, Reader, Writer};
+use std::alloc::Global;
 use std::io;
 use std::io::{BufReader, Cursor, Read, Seek, SeekFrom, Write};
+use std::process::Abort;
 use std::test::Fail;
 
 // A buffered reader. It tells nothing of its bytes, as a file.
@@ -91,37 +93,60 @@ impl<W: Sink> Sink for Counted<W> {
     }
 }
 
-// The halves of a byte and the byte behind it, written and read.
+// The halves of a byte, and the byte behind it.
+type Row = ((u8, u8), u8, [u8; 2]);
+
+const ROWS: [Row; 2] = [((6, 9), 0xBE, [0x69, 0xBE]), ((0, 15), 1, [0x0F, 0x01])];
+
+// They are written.
+fn expect_written(rt: &impl Abort, alloc: Global, row: &Row) -> Result<(), Fail> {
+    let (halves, number, bytes) = row;
+    let own = Counted {
+        inner: Cursor::new(Vec::new(alloc)),
+        bytes: 0,
+    };
+    let mut writer = Writer::new(own);
+    put(&mut writer, halves, BitSize(4))?;
+    put(&mut writer, number, ())?;
+    let own = writer.into_inner();
+    let seen = (own.bytes, own.inner.get_ref().as_slice());
+    same(rt, row, &seen, &(2, bytes.as_slice()));
+    Ok(())
+}
+
+fn put<T: DekuWriter<C>, C, W: Sink>(
+    writer: &mut Writer<W>,
+    value: &T,
+    ctx: C,
+) -> Result<(), DekuError>
+    requires { T.accepts ctx }
+{
+    value.to_writer(writer, ctx)
+}
+
+// They are read.
+fn expect_read(rt: &impl Abort, alloc: Global, row: &Row) -> Result<(), Fail> {
+    let (halves, number, bytes) = row;
+    let inner = BufReader::new(alloc, Cursor::new(bytes.as_slice()))?;
+    let mut reader = Reader::new(alloc, Buffered { inner });
+    let read = next::<(u8, u8), BitSize, Buffered<_>>(&mut reader, BitSize(4))?;
+    let behind = next::<u8, (), Buffered<_>>(&mut reader, ())?;
+    let seen = (read, behind, reader.end()?);
+    same(rt, row, &seen, &(*halves, *number, true));
+    Ok(())
+}
+
+fn next<T: DekuReader<C>, C, R: Source>(reader: &mut Reader<R>, ctx: C) -> Result<T, DekuError>
+    requires { T.accepts ctx }
+{
+    T::from_reader_with_ctx(reader, ctx)
+}
+
 #[test]
 fn through_own_devices(rt: HostRuntime) -> Result<(), Fail> {
-    for (halves, number, bytes) in [((6, 9), 0xBE, [0x69, 0xBE]), ((0, 15), 1, [0x0F, 0x01])] {
-        let own = Counted {
-            inner: Cursor::new(Vec::new(rt.alloc())),
-            bytes: 0,
-        };
-        let mut writer = Writer::new(own);
-        halves.to_writer(&mut writer, BitSize(4))?;
-        number.to_writer(&mut writer, ())?;
-        let own = writer.into_inner();
-        same(&rt, &"given", &own.bytes, &2);
-        same(
-            &rt,
-            &"bytes",
-            &own.inner.get_ref().as_slice(),
-            &bytes.as_slice(),
-        );
-
-        let inner = BufReader::new(rt.alloc(), Cursor::new(bytes.as_slice()))?;
-        let mut reader = Reader::new(rt.alloc(), Buffered { inner });
-        let read = <(u8, u8)>::from_reader_with_ctx(&mut reader, BitSize(4))?;
-        same(&rt, &"halves", &read, &halves);
-        same(
-            &rt,
-            &"number",
-            &u8::from_reader_with_ctx(&mut reader, ())?,
-            &number,
-        );
-        same(&rt, &"end", &reader.end()?, &true);
+    for row in &ROWS {
+        expect_written(&rt, rt.alloc(), row)?;
+        expect_read(&rt, rt.alloc(), row)?;
     }
     Ok(())
 }

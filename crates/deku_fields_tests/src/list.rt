@@ -45,7 +45,44 @@ struct Sample<'n, 'i, 'b> {
 
 // What was seen is what was wanted, in the row of that name.
 fn same<T: PartialEq + Debug>(rt: &impl Abort, name: &str, seen: &T, want: &T) {
-    assert_eq!(rt; *seen, *want, "{name}");
+    assert!(rt; *seen == *want, "{name}: {seen:?}, and not {want:?}");
+}
+
+// ---- single calls
+// A reader of these bytes.
+fn reader_of<'b>(alloc: Global, bytes: &'b [u8]) -> Reader<Cursor<&'b [u8]>> {
+    Reader::new(alloc, Cursor::new(bytes))
+}
+
+// Whether the end is reached.
+fn ends(reader: &mut Reader<Cursor<&[u8]>>) -> Result<bool, DekuError> {
+    reader.end()
+}
+
+// The fields are read into as many places.
+fn read_into(
+    rt: &impl Abort,
+    reader: &mut Reader<Cursor<&[u8]>>,
+    fields: &[Field],
+    out: &mut [Number],
+) -> Result<(), DekuError> {
+    assert!(rt; fields.len() == out.len());
+    read_list_into(reader, fields, out)
+}
+
+// A writer over a slice.
+fn writer_over<'p>(page: &'p mut [u8]) -> Writer<Cursor<&'p mut [u8]>> {
+    Writer::new(Cursor::new(page))
+}
+
+// The items are written behind what is written.
+fn write_next(writer: &mut Writer<Cursor<&mut [u8]>>, items: &[Item]) -> Result<(), DekuError> {
+    write_list(writer, items)
+}
+
+// The last byte is filled.
+fn filled(writer: &mut Writer<Cursor<&mut [u8]>>) -> Result<(), DekuError> {
+    writer.finalize()
 }
 
 // ---- the calls, on memory
@@ -97,78 +134,125 @@ fn expect_read(rt: &impl Abort, alloc: Global, sample: &Sample) -> Result<(), Fa
     let (all_fields, all_values) = (fields_of(sample.items), values_of(sample.items));
     let (fields, values) = (&all_fields[..count], &all_values[..count]);
     let (bits, numbers) = list_from_bytes(alloc, sample.bytes, fields)?;
-    same(rt, name, &bits, &sample.bits);
-    same(rt, name, &numbers.as_slice(), &values);
-    let mut reader = Reader::new(alloc, Cursor::new(sample.bytes));
+    same(
+        rt,
+        name,
+        &(bits, numbers.as_slice()),
+        &(sample.bits, values),
+    );
+    let mut reader = reader_of(alloc, sample.bytes);
     let numbers = read_list(&mut reader, fields)?;
-    same(rt, name, &numbers.as_slice(), &values);
-    same(rt, name, &reader.bits_read(), &sample.bits);
+    let seen = (numbers.as_slice(), reader.bits_read());
+    same(rt, name, &seen, &(values, sample.bits));
     let mut out = [NONE_YET; MOST];
     let read = read_from(alloc, sample.bytes, fields, &mut out[..count]);
-    same(rt, name, &read, &Ok(()));
-    same(rt, name, &out, &all_values);
+    same(rt, name, &(read, out), &(Ok(()), all_values));
     Ok(())
 }
 
-// The fields are read one by one, each behind a look whether the end is reached.
+// A field is read, behind a look whether the end is reached.
+fn expect_item(rt: &impl Abort, name: &str, reader: &mut Reader<Cursor<&[u8]>>, item: &Item) {
+    let mut out = [NONE_YET];
+    let end = ends(reader);
+    let seen = (end, read_into(rt, reader, &[item.field], &mut out), out);
+    let want = (Ok(false), Ok(()), [item.value]);
+    assert!(rt; seen == want, "{name} at {item:?}: {seen:?}");
+}
+
+// The fields are read one by one.
 fn expect_each(rt: &impl Abort, alloc: Global, sample: &Sample) {
-    let name = sample.name;
-    let mut reader = Reader::new(alloc, Cursor::new(sample.bytes));
+    let mut reader = reader_of(alloc, sample.bytes);
     for item in sample.items {
-        let mut out = [NONE_YET];
-        let end = reader.end();
-        let read = read_list_into(&mut reader, &[item.field], &mut out);
-        let seen = (end, read, out);
-        assert_eq!(rt;
-            seen,
-            (Ok(false), Ok(()), [item.value]),
-            "{name} at {item:?}"
-        );
+        expect_item(rt, sample.name, &mut reader, item);
     }
-    same(rt, name, &reader.end(), &Ok(true));
-    same(rt, name, &reader.bits_read(), &sample.bits);
+    let seen = (ends(&mut reader), reader.bits_read());
+    same(rt, sample.name, &seen, &(Ok(true), sample.bits));
 }
 
 // The items are written in two calls as in one.
 fn expect_cut_written(rt: &impl Abort, sample: &Sample, cut: usize) {
     let name = sample.name;
     let mut page = [0u8; MOST];
-    assert!(rt; cut <= sample.items.len() && sample.bytes.len() <= page.len());
+    assert!(rt; sample.bytes.len() <= page.len());
     let (over, _) = page.split_at_mut(sample.bytes.len());
-    let (front, back) = sample.items.split_at(cut);
-    let mut writer = Writer::new(Cursor::new(over));
-    let first = write_list(&mut writer, front);
-    let second = write_list(&mut writer, back);
-    let seen = (first, second, writer.finalize(), writer.bits_written());
+    let seen = write_cut(rt, over, sample.items, cut);
     let want = (Ok(()), Ok(()), Ok(()), sample.bits);
-    assert_eq!(rt; seen, want, "{name} cut at {cut}");
+    assert!(rt; seen == want, "{name} cut at {cut}: {seen:?}");
     assert!(rt; page.starts_with(sample.bytes), "{name} cut at {cut}");
+}
+
+// What two calls answer, and the last byte's filling, and the bits written.
+type CutWritten = (
+    Result<(), DekuError>,
+    Result<(), DekuError>,
+    Result<(), DekuError>,
+    usize,
+);
+
+fn write_cut(rt: &impl Abort, page: &mut [u8], items: &[Item], cut: usize) -> CutWritten {
+    assert!(rt; cut <= items.len());
+    let (front, back) = items.split_at(cut);
+    let mut writer = writer_over(page);
+    let first = write_next(&mut writer, front);
+    let second = write_next(&mut writer, back);
+    (first, second, filled(&mut writer), writer.bits_written())
 }
 
 // The fields are read in two calls, with looks whether the end is reached.
 fn expect_cut_read(rt: &impl Abort, alloc: Global, sample: &Sample, cut: usize) {
     let (name, count) = (sample.name, sample.items.len());
-    assert!(rt; count <= MOST && cut <= count);
-    let (fields, values) = (fields_of(sample.items), values_of(sample.items));
+    assert!(rt; count <= MOST);
+    let fields = fields_of(sample.items);
     let mut out = [NONE_YET; MOST];
-    let (front, back) = fields[..count].split_at(cut);
-    let (first, second) = out[..count].split_at_mut(cut);
-    let mut reader = Reader::new(alloc, Cursor::new(sample.bytes));
-    let begin = reader.end();
-    let front_read = read_list_into(&mut reader, front, first);
-    let looks = (begin, reader.end(), reader.end());
-    let back_read = read_list_into(&mut reader, back, second);
-    let seen = (looks, front_read, back_read, reader.end(), out);
-    let between = Ok(cut == count);
-    let want = (
-        (Ok(false), between, between),
-        Ok(()),
-        Ok(()),
-        Ok(true),
-        values,
+    let seen = read_cut(
+        rt,
+        alloc,
+        sample.bytes,
+        &fields[..count],
+        &mut out[..count],
+        cut,
     );
-    assert_eq!(rt; seen, want, "{name} cut at {cut}");
-    assert_eq!(rt; reader.bits_read(), sample.bits, "{name} cut at {cut}");
+    let between = Ok(cut == count);
+    let looks = (Ok(false), between, between, Ok(true));
+    let want = (looks, Ok(()), Ok(()), sample.bits);
+    assert!(rt; seen == want, "{name} cut at {cut}: {seen:?}");
+    assert!(rt;
+        out == values_of(sample.items),
+        "{name} cut at {cut}: {out:?}"
+    );
+}
+
+// Whether the end is reached in front of the first call, between the two, again, and behind them; what they answer, and the bits read.
+type CutRead = (
+    (
+        Result<bool, DekuError>,
+        Result<bool, DekuError>,
+        Result<bool, DekuError>,
+        Result<bool, DekuError>,
+    ),
+    Result<(), DekuError>,
+    Result<(), DekuError>,
+    usize,
+);
+
+fn read_cut(
+    rt: &impl Abort,
+    alloc: Global,
+    bytes: &[u8],
+    fields: &[Field],
+    out: &mut [Number],
+    cut: usize,
+) -> CutRead {
+    assert!(rt; cut <= fields.len() && fields.len() == out.len());
+    let (front, back) = fields.split_at(cut);
+    let (first, second) = out.split_at_mut(cut);
+    let mut reader = reader_of(alloc, bytes);
+    let begin = ends(&mut reader);
+    let front_read = read_into(rt, &mut reader, front, first);
+    let (between, again) = (ends(&mut reader), ends(&mut reader));
+    let back_read = read_into(rt, &mut reader, back, second);
+    let looks = (begin, between, again, ends(&mut reader));
+    (looks, front_read, back_read, reader.bits_read())
 }
 
 // A list in each of these ways, cut between any two items.
@@ -217,7 +301,7 @@ fn expect_bytes(
         Err(refusal) if *refusal == NO_MEMORY => return Err(Fail::from(NO_MEMORY)),
         Err(refusal) => Err(*refusal),
     };
-    assert_eq!(rt; seen, want, "{item:?}");
+    assert!(rt; seen == want, "{item:?}: {seen:?}, and not {want:?}");
     Ok(())
 }
 
@@ -254,15 +338,12 @@ fn expect_refused(
     want: DekuError,
     bits: usize,
 ) -> Result<(), Fail> {
-    let mut reader = Reader::new(alloc, Cursor::new(bytes));
+    let mut reader = reader_of(alloc, bytes);
     let from_bytes = refusal(list_from_bytes(alloc, bytes, fields))?;
     let from_reader = refusal(read_list(&mut reader, fields))?;
     let seen = (from_bytes, from_reader, reader.bits_read());
-    assert_eq!(rt;
-        seen,
-        (Some(want), Some(want), bits),
-        "{fields:?} from {bytes:?}"
-    );
+    let want = (Some(want), Some(want), bits);
+    assert!(rt; seen == want, "{fields:?} from {bytes:?}: {seen:?}");
     Ok(())
 }
 
@@ -292,13 +373,28 @@ fn refuses_lists(rt: HostRuntime) -> Result<(), Fail> {
 fn fills_a_slice(rt: HostRuntime) {
     let full = Err(DekuError::Io(ErrorKind::WriteZero));
     let mut page = [0u8; 1];
-    let mut writer = Writer::new(Cursor::new(page.as_mut_slice()));
-    let written = write_list(&mut writer, &halves_and_word());
+    let mut writer = writer_over(page.as_mut_slice());
+    let written = write_next(&mut writer, &halves_and_word());
     let bits = writer.bits_written();
-    let ended = writer.finalize();
+    let ended = filled(&mut writer);
     let seen = (written, bits, ended, writer.bits_written());
     same(&rt, "a full slice", &seen, &(full, 8, full, 8));
     same(&rt, "a full slice", &page, &[0x69]);
+}
+
+// What the first of two calls that is refused answers, the bits written, and the last byte's filling.
+fn write_until_refused(
+    page: &mut [u8],
+    items: &[Item; 2],
+    cut: usize,
+) -> (Result<(), DekuError>, usize, Result<(), DekuError>) {
+    let (front, back) = items.split_at(cut.min(2));
+    let mut writer = writer_over(page);
+    let both = match write_next(&mut writer, front) {
+        Ok(()) => write_next(&mut writer, back),
+        Err(refusal) => Err(refusal),
+    };
+    (both, writer.bits_written(), filled(&mut writer))
 }
 
 #[test]
@@ -309,14 +405,10 @@ fn refuses_cut_lists(rt: HostRuntime) {
     ];
     for cut in [0, 1, 2] {
         let mut page = [0u8; 1];
-        let mut writer = Writer::new(Cursor::new(page.as_mut_slice()));
-        let (front, back) = items.split_at(cut);
-        let both = match write_list(&mut writer, front) {
-            Ok(()) => write_list(&mut writer, back),
-            Err(refusal) => Err(refusal),
-        };
-        let seen = (both, writer.bits_written(), writer.finalize(), page);
-        assert_eq!(rt; seen, (Err(MISFIT), 0, Ok(()), [0x60]), "cut at {cut}");
+        let (both, bits, end) = write_until_refused(&mut page, &items, cut);
+        let seen = (both, bits, end, page);
+        let want = (Err(MISFIT), 0, Ok(()), [0x60]);
+        assert!(rt; seen == want, "cut at {cut}: {seen:?}");
     }
 }
 
@@ -328,15 +420,14 @@ fn reads_a_list_or_finds_no_memory(rt: HostRuntime) -> Result<(), Fail> {
     let (fields, values) = (fields_of(&items), values_of(&items));
     let (three, three_values) = (&fields[..3], &values[..3]);
     let bytes = [0xA1, 0x34, 0x12];
-    let mut reader = Reader::new(rt.alloc(), Cursor::new(bytes.as_slice()));
+    let mut reader = reader_of(rt.alloc(), &bytes);
     match read_list(&mut reader, three) {
         Ok(numbers) => same(&rt, name, &numbers.as_slice(), &three_values),
         Err(refusal) => {
             same(&rt, name, &(refusal, reader.bits_read()), &(NO_MEMORY, 0));
             let mut out = [NONE_YET; MOST];
-            let read = read_list_into(&mut reader, three, &mut out[..3]);
-            same(&rt, name, &read, &Ok(()));
-            same(&rt, name, &out, &values);
+            let read = read_into(&rt, &mut reader, three, &mut out[..3]);
+            same(&rt, name, &(read, out), &(Ok(()), values));
         }
     }
     same(&rt, name, &reader.bits_read(), &24);

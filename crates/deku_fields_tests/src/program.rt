@@ -23,6 +23,20 @@ fn arguments(alloc: Global, words: &[&str]) -> Result<Vec<String>, AllocError> {
     Ok(args)
 }
 
+// The program's status, run on words, and how much it complained.
+fn run_on<R: Read, W: Write>(
+    alloc: Global,
+    words: &[&str],
+    input: &mut R,
+    output: &mut W,
+    complaints: &mut [u8],
+) -> Result<(u8, u64), AllocError> {
+    let args = arguments(alloc, words)?;
+    let mut errors = Cursor::new(complaints);
+    let status = run(alloc, args.as_slice(), input, output, &mut errors);
+    Ok((status, errors.position()))
+}
+
 // The program, run on words, ends with this status and complains so. Want of memory, which nobody asked for, is handed on.
 fn expect_end<R: Read, W: Write>(
     rt: &impl Abort,
@@ -32,22 +46,27 @@ fn expect_end<R: Read, W: Write>(
     output: &mut W,
     want: (u8, &str),
 ) -> Result<(), Fail> {
-    let args = arguments(alloc, words)?;
     let mut complaints = [0u8; 128];
-    let mut errors = Cursor::new(complaints.as_mut_slice());
-    let status = run(alloc, args.as_slice(), input, output, &mut errors);
-    let told = errors.position() as usize;
-    assert!(rt; told <= complaints.len());
-    if &complaints[..told] == NO_MEMORY.as_bytes() {
-        assert_eq!(rt; status, 1, "status of {words:?}");
+    let (status, count) = run_on(alloc, words, input, output, &mut complaints)?;
+    assert!(rt; count <= 128);
+    let (told, _) = complaints.split_at(count as usize);
+    expect_told(rt, words, (status, told), want)
+}
+
+// This status and these complaints are the wanted ones.
+fn expect_told(
+    rt: &impl Abort,
+    words: &[&str],
+    seen: (u8, &[u8]),
+    want: (u8, &str),
+) -> Result<(), Fail> {
+    let (status, told) = seen;
+    if told == NO_MEMORY.as_bytes() {
+        assert!(rt; status == 1, "status of {words:?}: {status}");
         return Err(Fail::from(DekuError::Io(ErrorKind::OutOfMemory)));
     }
-    assert_eq!(rt;
-        &complaints[..told],
-        want.1.as_bytes(),
-        "errors of {words:?}"
-    );
-    assert_eq!(rt; status, want.0, "status of {words:?}");
+    assert!(rt; told == want.1.as_bytes(), "errors of {words:?}: {told:?}");
+    assert!(rt; status == want.0, "status of {words:?}: {status}");
     Ok(())
 }
 

@@ -1,6 +1,7 @@
 //! What values and their bytes are expected to be to one another.
 
-use deku::prelude::{DekuReader, Reader, Writer};
+use deku::prelude::{DekuError, DekuReader, DekuWriter, Reader, Writer};
+use std::alloc::Global;
 use std::fmt::Debug;
 use std::io::Cursor;
 use std::process::Abort;
@@ -8,7 +9,35 @@ use std::test::Fail;
 
 // What was got is what was wanted, in the row of this name.
 pub fn same<T: PartialEq + Debug>(rt: &impl Abort, row: &impl Debug, got: &T, want: &T) {
-    assert_eq!(rt; *got, *want, "{row:?}");
+    assert!(rt; *got == *want, "{row:?}: {got:?}, and not {want:?}");
+}
+
+// A reader of these bytes.
+pub fn reader_of<'b>(alloc: Global, bytes: &'b [u8]) -> Reader<Cursor<&'b [u8]>> {
+    Reader::new(alloc, Cursor::new(bytes))
+}
+
+// What is read next, under this context.
+pub fn next<T: DekuReader<C>, C>(reader: &mut Reader<Cursor<&[u8]>>, ctx: C) -> Result<T, DekuError>
+    requires { T.accepts ctx }
+{
+    T::from_reader_with_ctx(reader, ctx)
+}
+
+// A writer into memory.
+pub fn writer_in(alloc: Global) -> Writer<Cursor<Vec<u8>>> {
+    Writer::new(Cursor::new(Vec::new(alloc)))
+}
+
+// The value is written behind what is written, under this context.
+pub fn put<T: DekuWriter<C>, C>(
+    writer: &mut Writer<Cursor<Vec<u8>>>,
+    value: &T,
+    ctx: C,
+) -> Result<(), DekuError>
+    requires { T.accepts ctx }
+{
+    value.to_writer(writer, ctx)
 }
 
 // What the writer wrote, with the last byte filled, are these bytes.
@@ -33,8 +62,7 @@ pub fn expect_next<T: DekuReader<C> + PartialEq + Debug, C>(
 ) -> Result<(), Fail>
     requires { T.accepts ctx }
 {
-    let value = T::from_reader_with_ctx(reader, ctx)?;
-    same(rt, &bits, &value, &want);
-    same(rt, &value, &reader.bits_read(), &bits);
+    let value = next::<T, C>(reader, ctx)?;
+    same(rt, &bits, &(value, reader.bits_read()), &(want, bits));
     Ok(())
 }

@@ -2,6 +2,7 @@
 
 ghost use Rattle.std.specs.Prelude.{◌≤◌};
 
+use super::expecting::{expect_bytes, next, put, reader_of, same, writer_in};
 use deku::ctx::{Endian, Layout, Order, Size};
 use deku::prelude::{DekuError, DekuReader, DekuWriter, Reader, Writer};
 use std::alloc::Global;
@@ -60,14 +61,11 @@ fn expect_reads<T: DekuReader<Layout> + PartialEq + Debug>(
             order: *order,
             size: *size,
         };
-        let mut reader = Reader::new(alloc, Cursor::new(&bytes[..len]));
-        let value = T::from_reader_with_ctx(&mut reader, layout)?;
-        assert_eq!(rt; value, *want, "of {digits} under {layout:?}");
-        assert_eq!(rt;
-            reader.bits_read().div_ceil(8),
-            len,
-            "of {digits} under {layout:?}"
-        );
+        let mut reader = reader_of(alloc, &bytes[..len]);
+        let value = next::<T, Layout>(&mut reader, layout)?;
+        same(rt, &(digits, layout), &value, want);
+        let read = reader.bits_read().div_ceil(8);
+        same(rt, &(digits, layout), &read, &len);
     }
     Ok(())
 }
@@ -102,8 +100,8 @@ fn expect_writes<T: DekuWriter<Layout> + Debug>(
         };
         let mut page = [0xA5; 16];
         let end = written_over(&mut page, value, layout)?;
-        assert_eq!(rt; end, len as u64, "{value:?} under {layout:?}");
-        assert_eq!(rt; &page[..len], &bytes[..len], "{value:?} under {layout:?}");
+        let want = (len as u64, &bytes[..len]);
+        same(rt, &(value, layout), &(end, &page[..len]), &want);
     }
     Ok(())
 }
@@ -127,6 +125,13 @@ fn expect_misfits<T: DekuWriter<Layout> + Debug>(
     Ok(())
 }
 
+// The next byte.
+fn next_byte(reader: &mut Reader<Cursor<&[u8]>>) -> Result<u8, DekuError> {
+    let mut byte = [0];
+    reader.read_bytes_const_into(&mut byte, Order::Msb0)?;
+    Ok(byte[0])
+}
+
 // A layout refuses to be read with this error, and the reader stands where it stood.
 fn expect_unread<T: DekuReader<Layout> + Debug>(
     rt: &impl Abort,
@@ -136,18 +141,13 @@ fn expect_unread<T: DekuReader<Layout> + Debug>(
 ) -> Result<(), Fail>
     requires { (layout : Layout) → T.accepts layout }
 {
-    let bytes: &[u8] = &[0xA5; 24];
-    let mut reader = Reader::new(alloc, Cursor::new(bytes));
-    assert_eq!(rt;
-        T::from_reader_with_ctx(&mut reader, layout).err(),
-        Some(error),
-        "under {layout:?}"
-    );
-    assert_eq!(rt; reader.bits_read(), 0, "under {layout:?}");
-    let mut byte = [0];
-    reader.read_bytes_const_into(&mut byte, Order::Msb0)?;
-    assert_eq!(rt; byte, [0xA5], "under {layout:?}");
-    assert_eq!(rt; reader.into_inner().position(), 1, "under {layout:?}");
+    let mut reader = reader_of(alloc, &[0xA5; 24]);
+    let refusal = next::<T, Layout>(&mut reader, layout).err();
+    let read = reader.bits_read();
+    same(rt, &layout, &(refusal, read), &(Some(error), 0));
+    let byte = next_byte(&mut reader)?;
+    let place = reader.into_inner().position();
+    same(rt, &layout, &(byte, place), &(0xA5, 1));
     Ok(())
 }
 
@@ -161,18 +161,10 @@ fn expect_unwritten<T: DekuWriter<Layout> + Debug>(
 ) -> Result<(), Fail>
     requires { (layout : Layout) → T.accepts layout }
 {
-    let mut writer = Writer::new(Cursor::new(Vec::new(alloc)));
-    assert_eq!(rt;
-        value.to_writer(&mut writer, layout),
-        Err(error),
-        "{value:?} under {layout:?}"
-    );
-    writer.finalize()?;
-    assert!(rt;
-        writer.into_inner().into_inner().is_empty(),
-        "{value:?} under {layout:?}"
-    );
-    Ok(())
+    let mut writer = writer_in(alloc);
+    let refusal = put(&mut writer, value, layout).err();
+    same(rt, &(value, layout), &refusal, &Some(error));
+    expect_bytes(rt, &(value, layout), writer, &[])
 }
 
 // A layout refuses to be read and to be written with these errors, and nothing moves.

@@ -1,11 +1,11 @@
 //! Records: numbers and pairs, one after the other, each under a context of its own.
 
-use super::expecting::{expect_bytes, expect_next, same};
+use super::expecting::{expect_bytes, expect_next, next, put, reader_of, same, writer_in};
 use super::numbers::{MISFIT, expect_beyond};
 use deku::ctx::Endian::{Big, Little};
 use deku::ctx::Order::{Lsb0, Msb0};
 use deku::ctx::{BitSize, ByteSize, Endian, Layout, NumberCtx, Order, Size};
-use deku::prelude::{DekuError, DekuReader, DekuWriter, NeedSize, Reader, Writer};
+use deku::prelude::{DekuError, NeedSize, Reader, Writer};
 use std::alloc::Global;
 use std::io::Cursor;
 use std::process::Abort;
@@ -48,10 +48,10 @@ fn expect_number<C: NumberCtx>(
     ctx: C,
 ) -> Result<(), Fail> {
     match &row.1.0 {
-        Number::U8(want) => same(rt, row, &u8::from_reader_with_ctx(reader, ctx)?, want),
-        Number::U16(want) => same(rt, row, &u16::from_reader_with_ctx(reader, ctx)?, want),
-        Number::U32(want) => same(rt, row, &u32::from_reader_with_ctx(reader, ctx)?, want),
-        Number::I32(want) => same(rt, row, &i32::from_reader_with_ctx(reader, ctx)?, want),
+        Number::U8(want) => same(rt, row, &next::<u8, C>(reader, ctx)?, want),
+        Number::U16(want) => same(rt, row, &next::<u16, C>(reader, ctx)?, want),
+        Number::U32(want) => same(rt, row, &next::<u32, C>(reader, ctx)?, want),
+        Number::I32(want) => same(rt, row, &next::<i32, C>(reader, ctx)?, want),
     }
     Ok(())
 }
@@ -87,10 +87,10 @@ type Page = Writer<Cursor<Vec<u8>>>;
 // Writes the number under the context.
 fn write_number<C: NumberCtx>(writer: &mut Page, number: Number, ctx: C) -> Result<(), DekuError> {
     match number {
-        Number::U8(value) => value.to_writer(writer, ctx),
-        Number::U16(value) => value.to_writer(writer, ctx),
-        Number::U32(value) => value.to_writer(writer, ctx),
-        Number::I32(value) => value.to_writer(writer, ctx),
+        Number::U8(value) => put(writer, &value, ctx),
+        Number::U16(value) => put(writer, &value, ctx),
+        Number::U32(value) => put(writer, &value, ctx),
+        Number::I32(value) => put(writer, &value, ctx),
     }
 }
 
@@ -129,12 +129,13 @@ type Record = (
 // Records that are read.
 fn expect_read(rt: &impl Abort, alloc: Global, records: &[Record]) -> Result<(), Fail> {
     for (name, bytes, fields, bits, rest) in records {
-        let mut reader = Reader::new(alloc, Cursor::new(*bytes));
+        let mut reader = reader_of(alloc, bytes);
         for field in *fields {
             expect_field(rt, &(*name, field), &mut reader)?;
         }
-        same(rt, name, &reader.bits_read(), bits);
-        same(rt, name, &reader.rest()?.as_slice(), rest);
+        let left = reader.rest()?;
+        let seen = (reader.bits_read(), left.as_slice());
+        same(rt, name, &seen, &(*bits, *rest));
     }
     Ok(())
 }
@@ -142,7 +143,7 @@ fn expect_read(rt: &impl Abort, alloc: Global, records: &[Record]) -> Result<(),
 // Records that are written.
 fn expect_records_written(rt: &impl Abort, alloc: Global, records: &[Record]) -> Result<(), Fail> {
     for (name, bytes, fields, bits, _) in records {
-        let mut writer = Writer::new(Cursor::new(Vec::new(alloc)));
+        let mut writer = writer_in(alloc);
         for field in *fields {
             write_field(&mut writer, field)?;
         }
@@ -248,8 +249,9 @@ const CONTEXTS: [Record; 13] = [
 
 #[test]
 fn under_each_context(rt: HostRuntime) -> Result<(), Fail> {
-    expect_read(&rt, rt.alloc(), &CONTEXTS)?;
-    expect_records_written(&rt, rt.alloc(), &CONTEXTS)
+    let records = &CONTEXTS;
+    expect_read(&rt, rt.alloc(), records)?;
+    expect_records_written(&rt, rt.alloc(), records)
 }
 
 const NIBBLE: Under = Under::OneBits(Big, 4);
@@ -324,8 +326,9 @@ const BOTH_WAYS: [Record; 5] = [
 
 #[test]
 fn both_ways(rt: HostRuntime) -> Result<(), Fail> {
-    expect_read(&rt, rt.alloc(), &BOTH_WAYS)?;
-    expect_records_written(&rt, rt.alloc(), &BOTH_WAYS)
+    let records = &BOTH_WAYS;
+    expect_read(&rt, rt.alloc(), records)?;
+    expect_records_written(&rt, rt.alloc(), records)
 }
 
 const READ: [Record; 7] = [
@@ -443,16 +446,16 @@ fn too_many_bits(rt: HostRuntime) -> Result<(), Fail> {
 #[test]
 fn a_misfit_between_fields(rt: HostRuntime) -> Result<(), Fail> {
     let ten = (Little, BitSize(10));
-    let mut writer = Writer::new(Cursor::new(Vec::new(rt.alloc())));
-    0x3ABu16.to_writer(&mut writer, ten)?;
-    let answer = 0x400u16.to_writer(&mut writer, ten);
+    let mut writer = writer_in(rt.alloc());
+    put(&mut writer, &0x3ABu16, ten)?;
+    let answer = put(&mut writer, &0x400u16, ten);
     same(
         &rt,
         &"misfit",
         &(answer, writer.bits_written()),
         &(Err(MISFIT), 8),
     );
-    15u8.to_writer(&mut writer, BitSize(4))?;
+    put(&mut writer, &15u8, BitSize(4))?;
     expect_bytes(&rt, &"around the misfit", writer, &[0xAB, 0xFC])
 }
 
@@ -460,7 +463,7 @@ fn a_misfit_between_fields(rt: HostRuntime) -> Result<(), Fail> {
 #[test]
 fn pairs(rt: HostRuntime) -> Result<(), Fail> {
     let bytes: &[u8] = &[0x04, 0xF0, 0x80, 0x69, 0xBE, 0xEF, 0x1B];
-    let mut reader = Reader::new(rt.alloc(), Cursor::new(bytes));
+    let mut reader = reader_of(rt.alloc(), bytes);
     expect_next(&rt, &mut reader, BitSize(6), (1u8, 15u8), 12)?;
     expect_next(&rt, &mut reader, BitSize(6), (2u8, 0u8), 24)?;
     expect_next(&rt, &mut reader, Big, (0x69u8, 0xBEEFu16), 48)?;
@@ -471,31 +474,26 @@ fn pairs(rt: HostRuntime) -> Result<(), Fail> {
         &reader.rest()?.as_slice(),
         &[true, true].as_slice(),
     );
-    let mut writer = Writer::new(Cursor::new(Vec::new(rt.alloc())));
-    (1u8, 15u8).to_writer(&mut writer, BitSize(6))?;
-    (2u8, 0u8).to_writer(&mut writer, BitSize(6))?;
-    (0x69u8, 0xBEEFu16).to_writer(&mut writer, Big)?;
-    ((0u8, 1u8), (2u8, 3u8)).to_writer(&mut writer, BitSize(2))?;
+    let mut writer = writer_in(rt.alloc());
+    put(&mut writer, &(1u8, 15u8), BitSize(6))?;
+    put(&mut writer, &(2u8, 0u8), BitSize(6))?;
+    put(&mut writer, &(0x69u8, 0xBEEFu16), Big)?;
+    put(&mut writer, &((0u8, 1u8), (2u8, 3u8)), BitSize(2))?;
     expect_bytes(&rt, &"pairs", writer, bytes)
 }
 
 // A pair whose second is refused has moved its first.
 #[test]
 fn half_a_pair(rt: HostRuntime) -> Result<(), Fail> {
-    let mut reader = Reader::new(rt.alloc(), Cursor::new([0x69].as_slice()));
+    let mut reader = reader_of(rt.alloc(), &[0x69]);
     let ended = DekuError::Incomplete(NeedSize::new(16));
-    let answer = <(u8, u16)>::from_reader_with_ctx(&mut reader, Big);
-    same(
-        &rt,
-        &"half",
-        &(answer, reader.bits_read()),
-        &(Err(ended), 8),
-    );
-    same(&rt, &"left", &reader.rest()?.len(), &0);
-    let answer = u8::from_reader_with_ctx(&mut reader, BitSize(0));
+    let answer = next::<(u8, u16), Endian>(&mut reader, Big);
+    let seen = (answer, reader.bits_read(), reader.rest()?.len());
+    same(&rt, &"half", &seen, &(Err(ended), 8, 0));
+    let answer = next::<u8, BitSize>(&mut reader, BitSize(0));
     same(&rt, &"behind it", &answer, &Err(ended));
-    let mut writer = Writer::new(Cursor::new(Vec::new(rt.alloc())));
-    let answer = (5u8, 16u8).to_writer(&mut writer, BitSize(4));
+    let mut writer = writer_in(rt.alloc());
+    let answer = put(&mut writer, &(5u8, 16u8), BitSize(4));
     same(&rt, &"misfit", &answer, &Err(MISFIT));
     expect_bytes(&rt, &"before the misfit", writer, &[0x50])
 }

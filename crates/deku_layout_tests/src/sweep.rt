@@ -1,12 +1,12 @@
 //! A sweep over numbers: all types, widths, endians, orders and places in a byte, against slow functions over lists of truth values.
 
-use super::expecting::same;
+use super::expecting::{next, reader_of, same};
 use super::numbers::MISFIT;
 use super::slow::{Bits, list_of, page_of, places_of, power, with_sign, worth};
 use deku::ctx::Endian::{Big, Little};
 use deku::ctx::Order::{Lsb0, Msb0};
 use deku::ctx::{Endian, Layout, Order, Size};
-use deku::prelude::{DekuError, DekuReader, DekuWriter, Reader, Writer};
+use deku::prelude::{DekuError, DekuReader, DekuWriter, Writer};
 use std::alloc::Global;
 use std::fmt::Debug;
 use std::io::Cursor;
@@ -142,9 +142,9 @@ fn read<T: DekuReader<Layout>>(
 ) -> (Result<T, DekuError>, usize)
     requires { (layout : Layout) → T.accepts layout }
 {
-    let mut reader = Reader::new(alloc, Cursor::new(page.as_slice()));
+    let mut reader = reader_of(alloc, page);
     let skipped = reader.skip_bits(front, field.order);
-    let answer = T::from_reader_with_ctx(&mut reader, field.layout());
+    let answer = next::<T, Layout>(&mut reader, field.layout());
     match skipped {
         Ok(()) => (answer, reader.bits_read()),
         Err(refusal) => (Err(refusal), 0),

@@ -34,7 +34,7 @@ pub type Answer<T> = Result<&'static [T], Refusal>;
 
 // What was got is what was wanted, in the row of this name.
 pub fn same<T: PartialEq + Debug>(rt: &impl Abort, row: &impl Debug, got: &T, want: &T) {
-    assert_eq!(rt; *got, *want, "{row:?}");
+    assert!(rt; *got == *want, "{row:?}: {got:?}, and not {want:?}");
 }
 
 // So of a step of a run.
@@ -45,7 +45,54 @@ pub fn same_at<T: PartialEq + Debug>(
     got: &T,
     want: &T,
 ) {
-    assert_eq!(rt; *got, *want, "{run}: {step:?}");
+    assert!(rt; *got == *want, "{run}: {step:?}: {got:?}, and not {want:?}");
+}
+
+// A reader of these bytes.
+pub fn reader_of<'b>(alloc: Global, bytes: &'b [u8]) -> Reader<Cursor<&'b [u8]>> {
+    Reader::new(alloc, Cursor::new(bytes))
+}
+
+// What is read next, under this context.
+pub fn next<T: DekuReader<C>, C>(reader: &mut Reader<Cursor<&[u8]>>, ctx: C) -> Result<T, DekuError>
+    requires { T.accepts ctx }
+{
+    T::from_reader_with_ctx(reader, ctx)
+}
+
+// The next byte.
+pub fn next_byte(reader: &mut Reader<Cursor<&[u8]>>) -> Result<u8, DekuError> {
+    next(reader, ())
+}
+
+// The bits that are left of the last byte.
+pub fn rest_of(reader: &Reader<Cursor<&[u8]>>) -> Result<Vec<bool>, DekuError> {
+    reader.rest()
+}
+
+// A writer into memory.
+pub fn writer_in(alloc: Global) -> Writer<Cursor<Vec<u8>>> {
+    Writer::new(Cursor::new(Vec::new(alloc)))
+}
+
+// The value is written behind what is written, under this context.
+pub fn put<T: DekuWriter<C>, C>(
+    writer: &mut Writer<Cursor<Vec<u8>>>,
+    value: &T,
+    ctx: C,
+) -> Result<(), DekuError>
+    requires { T.accepts ctx }
+{
+    value.to_writer(writer, ctx)
+}
+
+// The bytes of the value, under this context.
+pub fn written<T: DekuWriter<C>, C>(alloc: Global, value: &T, ctx: C) -> Result<Vec<u8>, DekuError>
+    requires { T.accepts ctx }
+{
+    let mut writer = writer_in(alloc);
+    put(&mut writer, value, ctx)?;
+    Ok(writer.into_inner().into_inner())
 }
 
 // What the writer wrote, with the last byte filled, are these bytes.
@@ -70,8 +117,8 @@ pub fn expect_written<T: DekuWriter<C> + Debug, C>(
 ) -> Result<(), Fail>
     requires { T.accepts ctx }
 {
-    let mut writer = Writer::new(Cursor::new(Vec::new(alloc)));
-    value.to_writer(&mut writer, ctx)?;
+    let mut writer = writer_in(alloc);
+    put(&mut writer, value, ctx)?;
     expect_bytes(rt, value, writer, want)
 }
 
@@ -82,13 +129,11 @@ pub fn expect_next<T: DekuReader<C> + PartialEq + Debug, C>(
     ctx: C,
     want: T,
     bits: usize,
-) -> Result<(), Fail>
+)
     requires { T.accepts ctx }
 {
-    let value = T::from_reader_with_ctx(reader, ctx)?;
-    same(rt, &bits, &value, &want);
-    same(rt, &value, &reader.bits_read(), &bits);
-    Ok(())
+    let value = next::<T, C>(reader, ctx);
+    same(rt, &bits, &(value, reader.bits_read()), &(Ok(want), bits));
 }
 
 // The bytes are read as the value, to the last byte, and it is written as them.
@@ -102,8 +147,8 @@ pub fn expect_whole<T: DekuReader<C> + DekuWriter<C> + PartialEq + Debug, C: Cop
     requires reads { T.DekuReader.accepts ctx }
     requires writes { T.DekuWriter.accepts ctx }
 {
-    let mut reader = Reader::new(alloc, Cursor::new(bytes));
-    let value = T::from_reader_with_ctx(&mut reader, ctx)?;
+    let mut reader = reader_of(alloc, bytes);
+    let value = next::<T, C>(&mut reader, ctx)?;
     same(rt, &bytes, &value, &want);
     same(rt, &value, &reader.bits_read().div_ceil(8), &bytes.len());
     expect_written(rt, alloc, ctx, &value, bytes)
@@ -116,20 +161,14 @@ pub fn expect_denied<T: DekuReader<C> + PartialEq + Debug, C: Copy>(
     ctx: C,
     bytes: &[u8],
     want: (DekuError, usize, u8),
-) -> Result<(), Fail>
+)
     requires { T.accepts ctx }
 {
-    let mut reader = Reader::new(alloc, Cursor::new(bytes));
-    let answer = T::from_reader_with_ctx(&mut reader, ctx);
-    same(rt, &bytes, &answer, &Err(want.0));
-    same(rt, &bytes, &reader.bits_read(), &want.1);
-    same(
-        rt,
-        &bytes,
-        &u8::from_reader_with_ctx(&mut reader, ())?,
-        &want.2,
-    );
-    Ok(())
+    let mut reader = reader_of(alloc, bytes);
+    let answer = next::<T, C>(&mut reader, ctx);
+    let read = reader.bits_read();
+    let seen = (answer, read, next_byte(&mut reader));
+    same(rt, &bytes, &seen, &(Err(want.0), want.1, Ok(want.2)));
 }
 
 // A call that takes memory answers these items or this refusal; where no memory was found, that is handed on.
@@ -141,7 +180,7 @@ pub fn expect_answer<T: PartialEq + Debug + Drop>(
     want: &Result<&[T], Refusal>,
 ) -> Result<(), Fail> {
     match (answer, want) {
-        (Ok(items), Ok(want)) => assert_eq!(rt; items.as_slice(), *want, "{run}: {step:?}"),
+        (Ok(items), Ok(want)) => same_at(rt, run, step, &items.as_slice(), want),
         (Ok(items), Err(_)) => assert!(rt; false, "{run}: {step:?} answers {items:?}"),
         (Err(refusal), want) => expect_refusal(rt, run, step, refusal, want.as_ref().err())?,
     }
@@ -159,9 +198,10 @@ pub fn expect_refusal(
     if refusal == NO_MEMORY {
         return Err(Fail::from(NO_MEMORY));
     }
-    match want {
-        Some(want) => assert_eq!(rt; refusal, want.error(), "{run}: {step:?}"),
-        None => assert!(rt; false, "{run}: {step:?} answers {refusal:?}"),
-    }
+    let want = match want {
+        Some(want) => Some(want.error()),
+        None => None,
+    };
+    same_at(rt, run, step, &Some(refusal), &want);
     Ok(())
 }

@@ -1,10 +1,12 @@
 //! Maps and sets under limits.
 
 use super::expecting::Refusal::Ended;
-use super::expecting::{Refusal, expect_refusal, expect_written, same};
+use super::expecting::{
+    Refusal, expect_refusal, expect_written, next, next_byte, reader_of, rest_of, same, written,
+};
 use deku::ctx::Endian::Little;
 use deku::ctx::{BitSize, Limit};
-use deku::prelude::{DekuError, DekuReader, DekuWriter, Reader, Writer};
+use deku::prelude::{DekuError, Reader};
 use std::alloc::Global;
 use std::collections::{HashMap, HashSet};
 use std::hash::{BuildHasherDefault, FoldHasher};
@@ -33,14 +35,14 @@ fn read_map(reader: &mut Reader<Cursor<&[u8]>>, stop: &Stop) -> Result<Map<u8, u
     match stop {
         Stop::TwoOfSixBits => {
             let pairs = (Limit::new_count(2), (Little, BitSize(6)));
-            Map::from_reader_with_ctx(reader, pairs)
+            next(reader, pairs)
         }
-        Stop::Two => Map::from_reader_with_ctx(reader, Limit::new_count(2)),
+        Stop::Two => next(reader, Limit::new_count(2)),
         Stop::Zero => {
             let zero = Limit::new_until(|pair: &(u8, u8)| pair.0 == 0);
-            Map::from_reader_with_ctx(reader, zero)
+            next(reader, zero)
         }
-        Stop::End => Map::from_reader_with_ctx(reader, Limit::end()),
+        Stop::End => next(reader, Limit::end()),
     }
 }
 
@@ -88,7 +90,7 @@ fn expect_pairs(rt: &impl Abort, row: &[u8], map: &Map<u8, u8>, pairs: &[(u8, u8
 #[test]
 fn maps(rt: HostRuntime) -> Result<(), Fail> {
     for (bytes, stop, want, bits) in &ROWS {
-        let mut reader = Reader::new(rt.alloc(), Cursor::new(*bytes));
+        let mut reader = reader_of(rt.alloc(), bytes);
         match (read_map(&mut reader, stop), want) {
             (Ok(map), Ok(pairs)) => expect_pairs(&rt, bytes, &map, pairs),
             (Ok(_), Err(_)) => assert!(rt; false, "{bytes:?} is read"),
@@ -100,8 +102,8 @@ fn maps(rt: HostRuntime) -> Result<(), Fail> {
                 want.as_ref().err(),
             )?,
         }
-        same(&rt, bytes, &reader.bits_read(), bits);
-        same(&rt, bytes, &reader.rest()?.len(), &0);
+        let seen = (reader.bits_read(), rest_of(&reader)?.len());
+        same(&rt, bytes, &seen, &(*bits, 0));
     }
     Ok(())
 }
@@ -122,16 +124,11 @@ fn maps_written(rt: HostRuntime) -> Result<(), Fail> {
 
 #[test]
 fn sets(rt: HostRuntime) -> Result<(), Fail> {
-    let mut reader = Reader::new(rt.alloc(), Cursor::new([7, 7, 8, 9].as_slice()));
-    let set = Set::<u8>::from_reader_with_ctx(&mut reader, Limit::new_count(3))?;
+    let mut reader = reader_of(rt.alloc(), &[7, 7, 8, 9]);
+    let set: Set<u8> = next(&mut reader, Limit::new_count(3))?;
     let found = (set.len(), set.contains(&7), set.contains(&8));
     same(&rt, &"7, 7 and 8", &found, &(2, true, true));
-    same(
-        &rt,
-        &"behind them",
-        &u8::from_reader_with_ctx(&mut reader, ())?,
-        &9,
-    );
+    same(&rt, &"behind them", &next_byte(&mut reader), &Ok(9));
     Ok(())
 }
 
@@ -141,9 +138,7 @@ fn expect_each_once(rt: &impl Abort, alloc: Global, want: &[u8]) -> Result<(), F
     for item in want {
         set.insert(*item)?;
     }
-    let mut writer = Writer::new(Cursor::new(Vec::new(alloc)));
-    set.to_writer(&mut writer, ())?;
-    let bytes = writer.into_inner().into_inner();
+    let bytes = written(alloc, &set, ())?;
     same(rt, &want, &bytes.len(), &want.len());
     for item in want {
         same(rt, &(want, item), &bytes.as_slice().contains(item), &true);
@@ -161,18 +156,21 @@ fn sets_written(rt: HostRuntime) -> Result<(), Fail> {
     Ok(())
 }
 
+fn map_of_three(alloc: Global) -> Result<Map<u8, u16>, Fail> {
+    let mut map: Map<u8, u16> = HashMap::with_hasher(alloc, Hasher::default());
+    map.insert(3, 0x0303)?;
+    map.insert(1, 0x0101)?;
+    map.insert(2, 0x0202)?;
+    Ok(map)
+}
+
 // What was written of a map is read as the same map, whatever the order.
 #[test]
 fn maps_both_ways(rt: HostRuntime) -> Result<(), Fail> {
-    let mut map: Map<u8, u16> = HashMap::with_hasher(rt.alloc(), Hasher::default());
-    for (key, value) in [(3, 0x0303), (1, 0x0101), (2, 0x0202)] {
-        map.insert(key, value)?;
-    }
-    let mut writer = Writer::new(Cursor::new(Vec::new(rt.alloc())));
-    map.to_writer(&mut writer, Little)?;
-    let bytes = writer.into_inner().into_inner();
-    let mut reader = Reader::new(rt.alloc(), Cursor::new(bytes.as_slice()));
-    let back = Map::<u8, u16>::from_reader_with_ctx(&mut reader, (Limit::end(), Little))?;
+    let map = map_of_three(rt.alloc())?;
+    let bytes = written(rt.alloc(), &map, Little)?;
+    let mut reader = reader_of(rt.alloc(), bytes.as_slice());
+    let back: Map<u8, u16> = next(&mut reader, (Limit::end(), Little))?;
     same(&rt, &"bytes and pairs", &(bytes.len(), back.len()), &(9, 3));
     for key in 1..4u8 {
         same(&rt, &key, &back.get(&key).copied(), &map.get(&key).copied());

@@ -1,11 +1,12 @@
 //! Items that may be absent, on the heap, borrowed or behind a reference.
 
-use super::expecting::{NO_MEMORY, expect_next, expect_whole, expect_written, same};
+use super::expecting::{
+    NO_MEMORY, expect_next, expect_whole, expect_written, next, reader_of, same,
+};
 use deku::ctx::BitSize;
 use deku::ctx::Endian::{Big, Little};
-use deku::prelude::{DekuError, DekuReader, DekuWriter, NeedSize, Reader};
+use deku::prelude::{DekuError, NeedSize};
 use std::borrow::Cow;
-use std::io::Cursor;
 use std::test::Fail;
 
 // An item is always read; an absent one is written as nothing.
@@ -17,9 +18,9 @@ fn options(rt: HostRuntime) -> Result<(), Fail> {
     expect_whole(&rt, alloc, Big, &[1, 2, 3], (Some(1u8), Some((2u8, 3u8))))?;
     expect_written(&rt, alloc, (), &nothing, &[])?;
     expect_written(&rt, alloc, (), &(1u8, nothing, 2u8), &[1, 2])?;
-    let mut reader = Reader::new(alloc, Cursor::new([].as_slice()));
+    let mut reader = reader_of(alloc, &[]);
     let ended = DekuError::Incomplete(NeedSize::new(8));
-    let answer = Option::<u8>::from_reader_with_ctx(&mut reader, ());
+    let answer = next::<Option<u8>, ()>(&mut reader, ());
     same(&rt, &"nothing to read", &answer, &Err(ended));
     Ok(())
 }
@@ -40,14 +41,13 @@ fn boxes(rt: HostRuntime) -> Result<(), Fail> {
 
 // With memory or without it, the reader is behind the item.
 #[test]
-fn memory_for_a_box(rt: HostRuntime) -> Result<(), Fail> {
-    let mut reader = Reader::new(rt.alloc(), Cursor::new([0xEF, 0xBE, 0x69].as_slice()));
-    match Box::<u16>::from_reader_with_ctx(&mut reader, ()) {
+fn memory_for_a_box(rt: HostRuntime) {
+    let mut reader = reader_of(rt.alloc(), &[0xEF, 0xBE, 0x69]);
+    match next::<Box<u16>, ()>(&mut reader, ()) {
         Ok(held) => same(&rt, &"held", &*held, &0xBEEF),
         Err(refusal) => same(&rt, &"refused", &refusal, &NO_MEMORY),
     }
-    expect_next(&rt, &mut reader, (), 0x69u8, 24)?;
-    Ok(())
+    expect_next(&rt, &mut reader, (), 0x69u8, 24);
 }
 
 // It is read as one that owns its item, and written whether it owns it or not.
@@ -58,8 +58,8 @@ fn cows(rt: HostRuntime) -> Result<(), Fail> {
     expect_whole(&rt, alloc, (), &[0xEF, 0xBE], Cow::Owned(0xBEEFu16))?;
     expect_whole(&rt, alloc, Big, &[0xBE, 0xEF], Cow::Owned(0xBEEFu16))?;
     expect_written(&rt, alloc, Big, &Cow::Borrowed(&lent), &[0xBE, 0xEF])?;
-    let mut reader = Reader::new(alloc, Cursor::new([0xBE, 0xEF].as_slice()));
-    let value = Cow::<u16>::from_reader_with_ctx(&mut reader, Big)?;
+    let mut reader = reader_of(alloc, &[0xBE, 0xEF]);
+    let value: Cow<u16> = next(&mut reader, Big)?;
     assert!(&rt; matches!(value, Cow::Owned(0xBEEF)));
     Ok(())
 }

@@ -2,12 +2,14 @@
 
 use super::expecting::Refusal::{Ended, Said};
 use super::expecting::{
-    Answer, Refusal, expect_answer, expect_bytes, expect_written, same, same_at,
+    Answer, Refusal, expect_answer, expect_bytes, expect_written, next, next_byte, put, reader_of,
+    rest_of, same, same_at, writer_in,
 };
 use deku::ctx::Endian::{Big, Little};
 use deku::ctx::Order::{Lsb0, Msb0};
 use deku::ctx::{BitSize, ByteSize, Limit, Never, ReadExact};
-use deku::prelude::{DekuError, DekuReader, DekuWriter, Reader, Writer};
+use deku::prelude::{DekuError, Reader};
+use std::alloc::Global;
 use std::boxed::BoxedSlice;
 use std::io::Cursor;
 use std::process::Abort;
@@ -67,27 +69,27 @@ fn take_list(
 ) -> Result<(), Fail> {
     match step {
         Step::Octets(stop, want) => {
-            let list = Vec::from_reader_with_ctx(reader, stop.limit::<u8>());
+            let list = next(reader, stop.limit::<u8>());
             expect_answer(rt, run, step, list, want)
         }
         Step::Sized(stop, bits, want) => {
-            let list = Vec::from_reader_with_ctx(reader, (stop.limit::<u8>(), BitSize(*bits)));
+            let list = next(reader, (stop.limit::<u8>(), BitSize(*bits)));
             expect_answer(rt, run, step, list, want)
         }
         Step::SizedLittle(stop, bits, want) => {
             let ctx = (stop.limit::<u8>(), (Little, BitSize(*bits)));
-            expect_answer(rt, run, step, Vec::from_reader_with_ctx(reader, ctx), want)
+            expect_answer(rt, run, step, next(reader, ctx), want)
         }
         Step::Wides(stop, want) => {
-            let list = Vec::from_reader_with_ctx(reader, (stop.limit::<u16>(), Big));
+            let list = next(reader, (stop.limit::<u16>(), Big));
             expect_answer(rt, run, step, list, want)
         }
         Step::Units(stop, want) => {
-            let list = Vec::from_reader_with_ctx(reader, stop.limit::<()>());
+            let list = next(reader, stop.limit::<()>());
             expect_answer(rt, run, step, list, want)
         }
         Step::Hollows(stop, want) => {
-            let list = Vec::from_reader_with_ctx(reader, stop.limit::<[u8; 0]>());
+            let list = next(reader, stop.limit::<[u8; 0]>());
             expect_answer(rt, run, step, list, want)
         }
         _ => take_place(rt, run, step, reader),
@@ -102,16 +104,16 @@ fn take_place(
 ) -> Result<(), Fail> {
     match step {
         Step::AtOnce(count, want) => {
-            let bytes = Vec::<u8>::from_reader_with_ctx(reader, ReadExact(*count));
+            let bytes = next::<Vec<u8>, ReadExact>(reader, ReadExact(*count));
             expect_answer(rt, run, step, bytes, want)?;
         }
-        Step::Next(want) => same_at(rt, run, step, &u8::from_reader_with_ctx(reader, ())?, want),
+        Step::Next(want) => same_at(rt, run, step, &next_byte(reader)?, want),
         Step::NextSized(bits, want) => {
-            let byte = u8::from_reader_with_ctx(reader, BitSize(*bits))?;
+            let byte: u8 = next(reader, BitSize(*bits))?;
             same_at(rt, run, step, &byte, want);
         }
         Step::Read(want) => same_at(rt, run, step, &reader.bits_read(), want),
-        Step::Rest(want) => same_at(rt, run, step, &reader.rest()?.as_slice(), want),
+        Step::Rest(want) => same_at(rt, run, step, &rest_of(reader)?.as_slice(), want),
         _ => assert!(rt; false, "{run}: {step:?} is no step of a place"),
     }
     Ok(())
@@ -214,7 +216,7 @@ const RUNS: [Run; 9] = [
 #[test]
 fn up_to_an_end(rt: HostRuntime) -> Result<(), Fail> {
     for (run, bytes, steps) in &RUNS {
-        let mut reader = Reader::new(rt.alloc(), Cursor::new(*bytes));
+        let mut reader = reader_of(rt.alloc(), bytes);
         for step in *steps {
             take_list(&rt, run, step, &mut reader)?;
         }
@@ -225,25 +227,33 @@ fn up_to_an_end(rt: HostRuntime) -> Result<(), Fail> {
 // A predicate with a state of its own is asked about each item once, in order.
 #[test]
 fn up_to_an_item(rt: HostRuntime) -> Result<(), Fail> {
-    let mut reader = Reader::new(rt.alloc(), Cursor::new([5, 5, 5, 5].as_slice()));
+    expect_third(&rt, rt.alloc())?;
+    expect_second(&rt, rt.alloc())
+}
+
+fn expect_third(rt: &impl Abort, alloc: Global) -> Result<(), Fail> {
+    let mut reader = reader_of(alloc, &[5, 5, 5, 5]);
     let mut calls = 0u8;
     let third = Limit::new_until(|_: &u8| {
         calls = calls.wrapping_add(1);
         calls == 3
     });
-    let items = Vec::<u8>::from_reader_with_ctx(&mut reader, third);
-    expect_answer(&rt, "up to an item", &"the third", items, &Ok(&[5, 5, 5]))?;
-    same(&rt, &"calls for the third", &calls, &3);
-    take_place(&rt, "the third", &Step::Next(5), &mut reader)?;
-    let mut reader = Reader::new(rt.alloc(), Cursor::new([1, 2, 3].as_slice()));
+    let items: Result<Vec<u8>, DekuError> = next(&mut reader, third);
+    expect_answer(rt, "up to an item", &"the third", items, &Ok(&[5, 5, 5]))?;
+    same(rt, &"calls for the third", &calls, &3);
+    take_place(rt, "the third", &Step::Next(5), &mut reader)
+}
+
+fn expect_second(rt: &impl Abort, alloc: Global) -> Result<(), Fail> {
+    let mut reader = reader_of(alloc, &[1, 2, 3]);
     let mut second = true;
     let turns = Limit::new_until(|_: &u8| {
         second = !second;
         second
     });
-    let items = Vec::<u8>::from_reader_with_ctx(&mut reader, turns);
-    expect_answer(&rt, "up to an item", &"each second", items, &Ok(&[1, 2]))?;
-    take_place(&rt, "each second", &Step::Next(3), &mut reader)
+    let items: Result<Vec<u8>, DekuError> = next(&mut reader, turns);
+    expect_answer(rt, "up to an item", &"each second", items, &Ok(&[1, 2]))?;
+    take_place(rt, "each second", &Step::Next(3), &mut reader)
 }
 
 // The bytes of a reader, what they are up to a zero, and the next step.
@@ -256,22 +266,22 @@ const ZEROS: [Zero; 2] = [
 
 #[test]
 fn up_to_a_zero(rt: HostRuntime) -> Result<(), Fail> {
-    for (bytes, want, next) in &ZEROS {
-        let mut reader = Reader::new(rt.alloc(), Cursor::new(*bytes));
+    for (bytes, want, behind) in &ZEROS {
+        let mut reader = reader_of(rt.alloc(), bytes);
         let zero = Limit::new_until(|byte: &u8| *byte == 0);
-        let items = Vec::<u8>::from_reader_with_ctx(&mut reader, zero);
+        let items: Result<Vec<u8>, DekuError> = next(&mut reader, zero);
         expect_answer(&rt, "up to a zero", bytes, items, want)?;
-        take_place(&rt, "up to a zero", next, &mut reader)?;
+        take_place(&rt, "up to a zero", behind, &mut reader)?;
     }
     Ok(())
 }
 
 #[test]
 fn items_without_width_up_to_an_item(rt: HostRuntime) -> Result<(), Fail> {
-    let mut reader = Reader::new(rt.alloc(), Cursor::new([1, 2].as_slice()));
+    let mut reader = reader_of(rt.alloc(), &[1, 2]);
     for (always, want) in [(true, Ok([()].as_slice())), (false, Err(NO_WIDTH))] {
         let limit = Limit::new_until(|_: &()| always);
-        let items = Vec::<()>::from_reader_with_ctx(&mut reader, limit);
+        let items: Result<Vec<()>, DekuError> = next(&mut reader, limit);
         expect_answer(&rt, "without width", &always, items, &want)?;
         take_place(&rt, "without width", &Step::Read(0), &mut reader)?;
     }
@@ -280,29 +290,29 @@ fn items_without_width_up_to_an_item(rt: HostRuntime) -> Result<(), Fail> {
 
 #[test]
 fn lists_of_lists(rt: HostRuntime) -> Result<(), Fail> {
-    let mut reader = Reader::new(rt.alloc(), Cursor::new([0x12, 0x34].as_slice()));
+    let mut reader = reader_of(rt.alloc(), &[0x12, 0x34]);
     let pairs = (Limit::new_count(2), (Limit::new_count(2), BitSize(4)));
-    let rows = Vec::<Vec<u8>>::from_reader_with_ctx(&mut reader, pairs)?;
-    same(&rt, &"rows", &rows.len(), &2);
-    for (row, want) in rows.iter().zip([[1, 2], [3, 4]]) {
-        same(&rt, &want, &row.as_slice(), &want.as_slice());
-    }
+    let rows: Vec<Vec<u8>> = next(&mut reader, pairs)?;
+    assert!(rt; rows.len() == 2, "{rows:?}");
+    let seen = (rows[0].as_slice(), rows[1].as_slice());
+    let want = ([1, 2].as_slice(), [3, 4].as_slice());
+    same(&rt, &"rows", &seen, &want);
     expect_written(&rt, rt.alloc(), BitSize(4), &rows, &[0x12, 0x34])
 }
 
 #[test]
 fn boxed_slices(rt: HostRuntime) -> Result<(), Fail> {
     let bytes: &[u8] = &[0xAA, 0xBB, 0xCC, 0xDD];
-    let mut reader = Reader::new(rt.alloc(), Cursor::new(bytes));
+    let mut reader = reader_of(rt.alloc(), bytes);
     let two = (Limit::new_count(2), Little);
-    let items = BoxedSlice::<u16>::from_reader_with_ctx(&mut reader, two)?;
+    let items: BoxedSlice<u16> = next(&mut reader, two)?;
     same(&rt, &"two", &items.as_slice(), &[0xBBAA, 0xDDCC].as_slice());
-    let mut reader = Reader::new(rt.alloc(), Cursor::new(bytes));
-    let whole = BoxedSlice::<u8>::from_reader_with_ctx(&mut reader, Limit::end())?;
+    let mut reader = reader_of(rt.alloc(), bytes);
+    let whole: BoxedSlice<u8> = next(&mut reader, Limit::end())?;
     same(&rt, &"all", &whole.as_slice(), &bytes);
-    let mut writer = Writer::new(Cursor::new(Vec::new(rt.alloc())));
-    items.to_writer(&mut writer, Little)?;
-    whole.to_writer(&mut writer, ())?;
+    let mut writer = writer_in(rt.alloc());
+    put(&mut writer, &items, Little)?;
+    put(&mut writer, &whole, ())?;
     expect_bytes(
         &rt,
         &"two and all",
@@ -315,8 +325,8 @@ fn boxed_slices(rt: HostRuntime) -> Result<(), Fail> {
 #[test]
 fn vectors_behind_bits(rt: HostRuntime) -> Result<(), Fail> {
     let items = Vec::from_slice(rt.alloc(), &[0x61u8, 0x62])?;
-    let mut writer = Writer::new(Cursor::new(Vec::new(rt.alloc())));
+    let mut writer = writer_in(rt.alloc());
     writer.write_bits_order(&[true, false, true], Lsb0)?;
-    items.to_writer(&mut writer, Msb0)?;
+    put(&mut writer, &items, Msb0)?;
     expect_bytes(&rt, &"behind bits", writer, &[0x61, 0xAC, 0x40])
 }

@@ -1,17 +1,19 @@
 //! Arrays and slices: their items, one after the other.
 
-use super::expecting::{MISFIT, expect_bytes, expect_next, expect_whole, expect_written, same};
-use deku::ctx::BitSize;
+use super::expecting::{
+    MISFIT, expect_bytes, expect_next, expect_whole, expect_written, next, put, reader_of, same,
+    writer_in,
+};
 use deku::ctx::Endian::{Big, Little};
-use deku::prelude::{DekuError, DekuReader, DekuWriter, NeedSize, Reader, Writer};
-use std::io::Cursor;
+use deku::ctx::{BitSize, Endian};
+use deku::prelude::{DekuError, NeedSize};
 use std::test::Fail;
 
 #[test]
 fn arrays(rt: HostRuntime) -> Result<(), Fail> {
     let items = [0xCCDDu16, 0xAABB];
-    let mut reader = Reader::new(rt.alloc(), Cursor::new([0xDD, 0xCC, 0xBB, 0xAA].as_slice()));
-    expect_next(&rt, &mut reader, Little, items, 32)?;
+    let mut reader = reader_of(rt.alloc(), &[0xDD, 0xCC, 0xBB, 0xAA]);
+    expect_next(&rt, &mut reader, Little, items, 32);
     expect_written(&rt, rt.alloc(), Big, &items, &[0xCC, 0xDD, 0xAA, 0xBB])?;
     let rows = [[1u8, 2, 3], [4, 5, 6]];
     expect_whole(&rt, rt.alloc(), BitSize(4), &[0x12, 0x34, 0x56], rows)
@@ -20,17 +22,17 @@ fn arrays(rt: HostRuntime) -> Result<(), Fail> {
 // The item that is there is read, and the next one is refused.
 #[test]
 fn half_an_array(rt: HostRuntime) -> Result<(), Fail> {
-    let mut reader = Reader::new(rt.alloc(), Cursor::new([0xDD, 0xCC].as_slice()));
+    let mut reader = reader_of(rt.alloc(), &[0xDD, 0xCC]);
     let ended = DekuError::Incomplete(NeedSize::new(16));
-    let answer = <[u16; 2]>::from_reader_with_ctx(&mut reader, Big);
+    let answer = next::<[u16; 2], Endian>(&mut reader, Big);
     same(
         &rt,
         &"read",
         &(answer, reader.bits_read()),
         &(Err(ended), 16),
     );
-    let mut writer = Writer::new(Cursor::new(Vec::new(rt.alloc())));
-    let answer = [5u8, 16, 6].to_writer(&mut writer, BitSize(4));
+    let mut writer = writer_in(rt.alloc());
+    let answer = put(&mut writer, &[5u8, 16, 6], BitSize(4));
     same(&rt, &"written", &answer, &Err(MISFIT));
     expect_bytes(&rt, &"before the misfit", writer, &[0x50])
 }
@@ -40,20 +42,20 @@ fn half_an_array(rt: HostRuntime) -> Result<(), Fail> {
 fn arrays_in_pairs(rt: HostRuntime) -> Result<(), Fail> {
     let bytes: &[u8] = &[0x01, 0x02, 0x03, 0x04];
     let (pair, none) = (([1u8, 2], 0x0304u16), [0u16; 0]);
-    let mut reader = Reader::new(rt.alloc(), Cursor::new(bytes));
-    expect_next(&rt, &mut reader, Big, pair, 32)?;
-    expect_next(&rt, &mut reader, Big, none, 32)?;
-    let mut writer = Writer::new(Cursor::new(Vec::new(rt.alloc())));
-    none.to_writer(&mut writer, Big)?;
-    pair.to_writer(&mut writer, Big)?;
+    let mut reader = reader_of(rt.alloc(), bytes);
+    expect_next(&rt, &mut reader, Big, pair, 32);
+    expect_next(&rt, &mut reader, Big, none, 32);
+    let mut writer = writer_in(rt.alloc());
+    put(&mut writer, &none, Big)?;
+    put(&mut writer, &pair, Big)?;
     expect_bytes(&rt, &"none and a pair", writer, bytes)
 }
 
 #[test]
 fn slices(rt: HostRuntime) -> Result<(), Fail> {
     let items: &[(u8, u16)] = &[(1, 0x0203), (4, 0x0506)];
-    let mut writer = Writer::new(Cursor::new(Vec::new(rt.alloc())));
-    items.to_writer(&mut writer, Big)?;
-    (&items[..0]).to_writer(&mut writer, Big)?;
+    let mut writer = writer_in(rt.alloc());
+    put(&mut writer, &items, Big)?;
+    put(&mut writer, &&items[..0], Big)?;
     expect_bytes(&rt, &"slices", writer, &[1, 2, 3, 4, 5, 6])
 }

@@ -1,8 +1,8 @@
 //! Reads where memory may be refused: each answers what it would, or that there is none, and then the reader stands behind what was read.
 
-use super::expecting::{NO_MEMORY, same};
+use super::expecting::{NO_MEMORY, next, next_byte, reader_of, same};
 use deku::ctx::{BitSize, Limit, ReadExact};
-use deku::prelude::{DekuError, DekuReader, Reader};
+use deku::prelude::{DekuError, Reader};
 use std::alloc::Global;
 use std::boxed::BoxedSlice;
 use std::collections::{HashMap, HashSet};
@@ -16,7 +16,7 @@ type Hasher = BuildHasherDefault<FoldHasher>;
 const BYTES: [u8; 8] = [1, 2, 3, 4, 5, 6, 7, 8];
 
 fn reader_of_bytes(alloc: Global) -> Reader<Cursor<&'static [u8]>> {
-    Reader::new(alloc, Cursor::new(BYTES.as_slice()))
+    reader_of(alloc, &BYTES)
 }
 
 // No memory was found, behind a whole number of items of so many bytes, of which one was read and no more than these; and the next byte is the one behind them.
@@ -28,12 +28,11 @@ fn expect_behind_items(
     most: usize,
 ) -> Result<(), Fail> {
     let row = &(size, most);
-    same(rt, row, &refusal, &NO_MEMORY);
     let read = reader.bits_read() / 8;
     assert!(rt; size > 0 && read % size == 0, "{read} bytes were read");
     assert!(rt; size <= read && read <= most, "{read} bytes were read");
-    let next = u8::from_reader_with_ctx(reader, ())?;
-    same(rt, row, &usize::from(next), &(read + 1));
+    let behind = usize::from(next_byte(reader)?);
+    same(rt, row, &(refusal, behind), &(NO_MEMORY, read + 1));
     Ok(())
 }
 
@@ -54,21 +53,21 @@ fn expect_first(
 #[test]
 fn vectors_or_no_memory(rt: HostRuntime) -> Result<(), Fail> {
     let mut reader = reader_of_bytes(rt.alloc());
-    let answer = Vec::from_reader_with_ctx(&mut reader, Limit::new_count(7));
+    let answer = next(&mut reader, Limit::new_count(7));
     expect_first(&rt, &mut reader, answer, &BYTES[..7])?;
     let mut reader = reader_of_bytes(rt.alloc());
     let six = Limit::new_until(|byte: &u8| *byte == 6);
-    let answer = Vec::from_reader_with_ctx(&mut reader, six);
+    let answer = next(&mut reader, six);
     expect_first(&rt, &mut reader, answer, &BYTES[..6])?;
     let mut reader = reader_of_bytes(rt.alloc());
-    let answer = Vec::from_reader_with_ctx(&mut reader, Limit::new_bit_size(BitSize(40)));
+    let answer = next(&mut reader, Limit::new_bit_size(BitSize(40)));
     expect_first(&rt, &mut reader, answer, &BYTES[..5])
 }
 
 #[test]
 fn boxes_or_no_memory(rt: HostRuntime) -> Result<(), Fail> {
     let mut reader = reader_of_bytes(rt.alloc());
-    match BoxedSlice::<u16>::from_reader_with_ctx(&mut reader, Limit::new_count(3)) {
+    match next::<BoxedSlice<u16>, _>(&mut reader, Limit::new_count(3)) {
         Ok(items) => same(
             &rt,
             &"items",
@@ -78,7 +77,7 @@ fn boxes_or_no_memory(rt: HostRuntime) -> Result<(), Fail> {
         Err(refusal) => expect_behind_items(&rt, &mut reader, refusal, 2, 6)?,
     }
     let mut reader = reader_of_bytes(rt.alloc());
-    match Box::<u16>::from_reader_with_ctx(&mut reader, ()) {
+    match next::<Box<u16>, ()>(&mut reader, ()) {
         Ok(item) => same(&rt, &"item", &*item, &0x0201),
         Err(refusal) => expect_behind_items(&rt, &mut reader, refusal, 2, 2)?,
     }
@@ -88,7 +87,7 @@ fn boxes_or_no_memory(rt: HostRuntime) -> Result<(), Fail> {
 #[test]
 fn maps_or_no_memory(rt: HostRuntime) -> Result<(), Fail> {
     let mut reader = reader_of_bytes(rt.alloc());
-    match HashMap::<u8, u8, Hasher>::from_reader_with_ctx(&mut reader, Limit::new_count(3)) {
+    match next::<HashMap<u8, u8, Hasher>, _>(&mut reader, Limit::new_count(3)) {
         Ok(map) => same(
             &rt,
             &"pairs",
@@ -98,7 +97,7 @@ fn maps_or_no_memory(rt: HostRuntime) -> Result<(), Fail> {
         Err(refusal) => expect_behind_items(&rt, &mut reader, refusal, 2, 6)?,
     }
     let mut reader = reader_of_bytes(rt.alloc());
-    match HashSet::<u8, Hasher>::from_reader_with_ctx(&mut reader, Limit::new_count(7)) {
+    match next::<HashSet<u8, Hasher>, _>(&mut reader, Limit::new_count(7)) {
         Ok(set) => same(&rt, &"items", &set.len(), &7),
         Err(refusal) => expect_behind_items(&rt, &mut reader, refusal, 1, 7)?,
     }
@@ -109,24 +108,15 @@ fn maps_or_no_memory(rt: HostRuntime) -> Result<(), Fail> {
 #[test]
 fn bytes_or_no_memory(rt: HostRuntime) -> Result<(), Fail> {
     let mut reader = reader_of_bytes(rt.alloc());
-    match Vec::<u8>::from_reader_with_ctx(&mut reader, ReadExact(7)) {
+    match next::<Vec<u8>, _>(&mut reader, ReadExact(7)) {
         Ok(bytes) => same(&rt, &"bytes", &bytes.as_slice(), &&BYTES[..7]),
         Err(refusal) => {
-            same(
-                &rt,
-                &"refused",
-                &(refusal, reader.bits_read()),
-                &(NO_MEMORY, 0),
-            );
-            same(
-                &rt,
-                &"behind it",
-                &u8::from_reader_with_ctx(&mut reader, ())?,
-                &1,
-            );
+            let read = reader.bits_read();
+            let seen = (refusal, read, next_byte(&mut reader));
+            same(&rt, &"refused", &seen, &(NO_MEMORY, 0, Ok(1)));
         }
     }
-    let too_many = Vec::<u8>::from_reader_with_ctx(&mut reader, ReadExact(1 << 59));
+    let too_many = next::<Vec<u8>, _>(&mut reader, ReadExact(1 << 59));
     same(&rt, &"too many", &too_many.err(), &Some(NO_MEMORY));
     Ok(())
 }
@@ -134,9 +124,9 @@ fn bytes_or_no_memory(rt: HostRuntime) -> Result<(), Fail> {
 // A list that needs memory for no item takes none.
 #[test]
 fn nothing_without_memory(rt: HostRuntime) -> Result<(), Fail> {
-    let mut reader = Reader::new(rt.alloc(), Cursor::new([].as_slice()));
-    let list = Vec::<u8>::from_reader_with_ctx(&mut reader, Limit::end())?;
-    let set = HashSet::<u8, Hasher>::from_reader_with_ctx(&mut reader, Limit::end())?;
+    let mut reader = reader_of(rt.alloc(), &[]);
+    let list: Vec<u8> = next(&mut reader, Limit::end())?;
+    let set: HashSet<u8, Hasher> = next(&mut reader, Limit::end())?;
     same(&rt, &"nothing", &(list.len(), set.len()), &(0, 0));
     Ok(())
 }

@@ -26,9 +26,10 @@ fn truth_values(rt: HostRuntime) -> Result<(), Fail> {
     expect_whole(&rt, alloc, BitSize(1), &[0x80], true)?;
     expect_whole(&rt, alloc, ByteSize(4), &[0x01], true)?;
     expect_whole(&rt, alloc, BitSize(0), &[], false)?;
-    expect_denied::<bool, ()>(&rt, alloc, (), &[0x02, 0x69], (UNTRUE, 8, 0x69))?;
-    expect_denied::<bool, ()>(&rt, alloc, (), &[0xFF, 0x69], (UNTRUE, 8, 0x69))?;
-    expect_denied::<bool, BitSize>(&rt, alloc, BitSize(2), &[0x9A, 0x40], (UNTRUE, 2, 0x69))
+    expect_denied::<bool, ()>(&rt, alloc, (), &[0x02, 0x69], (UNTRUE, 8, 0x69));
+    expect_denied::<bool, ()>(&rt, alloc, (), &[0xFF, 0x69], (UNTRUE, 8, 0x69));
+    expect_denied::<bool, BitSize>(&rt, alloc, BitSize(2), &[0x9A, 0x40], (UNTRUE, 2, 0x69));
+    Ok(())
 }
 
 #[test]
@@ -52,18 +53,19 @@ fn unsigned_other_than_0(rt: HostRuntime) -> Result<(), Fail> {
         &[0x05],
         NonZeroUsize::new(5),
     )?;
-    expect_denied::<NonZeroU8, ()>(&rt, alloc, (), &[0, 0x69], (ZERO, 8, 0x69))?;
-    expect_denied::<NonZeroU16, ()>(&rt, alloc, (), &[0, 0, 0x69], (ZERO, 16, 0x69))?;
-    expect_denied::<NonZeroU32, BitSize>(&rt, alloc, BitSize(0), &[0x69], (ZERO, 0, 0x69))?;
-    expect_denied::<NonZeroU64, ByteSize>(&rt, alloc, ByteSize(1), &[0, 0x69], (ZERO, 8, 0x69))?;
+    expect_denied::<NonZeroU8, ()>(&rt, alloc, (), &[0, 0x69], (ZERO, 8, 0x69));
+    expect_denied::<NonZeroU16, ()>(&rt, alloc, (), &[0, 0, 0x69], (ZERO, 16, 0x69));
+    expect_denied::<NonZeroU32, BitSize>(&rt, alloc, BitSize(0), &[0x69], (ZERO, 0, 0x69));
+    expect_denied::<NonZeroU64, ByteSize>(&rt, alloc, ByteSize(1), &[0, 0x69], (ZERO, 8, 0x69));
     expect_denied::<NonZeroU128, BitSize>(
         &rt,
         alloc,
         BitSize(9),
         &[0, 0x34, 0x80],
         (ZERO, 9, 0x69),
-    )?;
-    expect_denied::<NonZeroUsize, BitSize>(&rt, alloc, BitSize(1), &[0x34, 0x80], (ZERO, 1, 0x69))
+    );
+    expect_denied::<NonZeroUsize, BitSize>(&rt, alloc, BitSize(1), &[0x34, 0x80], (ZERO, 1, 0x69));
+    Ok(())
 }
 
 #[test]
@@ -87,18 +89,19 @@ fn signed_other_than_0(rt: HostRuntime) -> Result<(), Fail> {
         &[0x05],
         NonZeroIsize::new(-3),
     )?;
-    expect_denied::<NonZeroI8, ()>(&rt, alloc, (), &[0, 0x69], (ZERO, 8, 0x69))?;
-    expect_denied::<NonZeroI16, ()>(&rt, alloc, (), &[0, 0, 0x69], (ZERO, 16, 0x69))?;
-    expect_denied::<NonZeroI32, BitSize>(&rt, alloc, BitSize(0), &[0x69], (ZERO, 0, 0x69))?;
-    expect_denied::<NonZeroI64, ByteSize>(&rt, alloc, ByteSize(1), &[0, 0x69], (ZERO, 8, 0x69))?;
+    expect_denied::<NonZeroI8, ()>(&rt, alloc, (), &[0, 0x69], (ZERO, 8, 0x69));
+    expect_denied::<NonZeroI16, ()>(&rt, alloc, (), &[0, 0, 0x69], (ZERO, 16, 0x69));
+    expect_denied::<NonZeroI32, BitSize>(&rt, alloc, BitSize(0), &[0x69], (ZERO, 0, 0x69));
+    expect_denied::<NonZeroI64, ByteSize>(&rt, alloc, ByteSize(1), &[0, 0x69], (ZERO, 8, 0x69));
     expect_denied::<NonZeroI128, BitSize>(
         &rt,
         alloc,
         BitSize(9),
         &[0, 0x34, 0x80],
         (ZERO, 9, 0x69),
-    )?;
-    expect_denied::<NonZeroIsize, BitSize>(&rt, alloc, BitSize(1), &[0x34, 0x80], (ZERO, 1, 0x69))
+    );
+    expect_denied::<NonZeroIsize, BitSize>(&rt, alloc, BitSize(1), &[0x34, 0x80], (ZERO, 1, 0x69));
+    Ok(())
 }
 
 #[test]

@@ -2,14 +2,16 @@
 
 use super::expecting::Refusal::{Ended, Said};
 use super::expecting::{
-    Answer, NO_MEMORY, Refusal, expect_bytes, expect_refusal, expect_written, same, same_at,
+    Answer, NO_MEMORY, Refusal, expect_bytes, expect_refusal, expect_written, next, next_byte, put,
+    reader_of, same, same_at, writer_in,
 };
 use deku::cstring::CString;
 use deku::ctx::Endian::Big;
 use deku::ctx::Order::Lsb0;
-use deku::ctx::{BitSize, ByteSize};
-use deku::prelude::{DekuError, DekuReader, DekuWriter, Reader, Writer};
+use deku::ctx::{BitSize, ByteSize, Endian};
+use deku::prelude::{DekuError, Reader};
 use std::alloc::Global;
+use std::io;
 use std::io::{Cursor, Seek, SeekFrom};
 use std::process::Abort;
 use std::test::Fail;
@@ -41,12 +43,12 @@ const BYTES: [Bytes; 5] = [
 fn of_bytes(rt: HostRuntime) -> Result<(), Fail> {
     let alloc = rt.alloc();
     for (bytes, want) in &BYTES {
-        match (CString::new(bytes.to_vec(alloc)?), want) {
-            (Some(text), Some(want)) => {
-                same(&rt, bytes, &text.as_bytes(), bytes);
-                same(&rt, bytes, &text.as_bytes_with_nul(alloc)?.as_slice(), want);
-            }
-            (text, want) => same(&rt, bytes, &text.is_some(), &want.is_some()),
+        let text = CString::new(bytes.to_vec(alloc)?);
+        same(&rt, bytes, &text.is_some(), &want.is_some());
+        if let (Some(text), Some(want)) = (&text, want) {
+            let whole = text.as_bytes_with_nul(alloc)?;
+            let seen = (text.as_bytes(), whole.as_slice());
+            same(&rt, bytes, &seen, &(*bytes, *want));
         }
     }
     same(
@@ -72,6 +74,10 @@ enum Step {
     Seek(u64),
 }
 
+fn gone_to(reader: &mut Reader<Cursor<&[u8]>>, place: u64) -> io::Result<u64> {
+    reader.seek(SeekFrom::Start(place))
+}
+
 fn take_step(
     rt: &impl Abort,
     alloc: Global,
@@ -81,26 +87,24 @@ fn take_step(
 ) -> Result<(), Fail> {
     match step {
         Step::UpToZero(want) => {
-            let answer = CString::from_reader_with_ctx(reader, ());
+            let answer = next(reader, ());
             expect_text(rt, alloc, run, step, answer, want)?;
         }
         Step::Within(bytes, want) => {
-            let answer = CString::from_reader_with_ctx(reader, ByteSize(*bytes));
+            let answer = next(reader, ByteSize(*bytes));
             expect_text(rt, alloc, run, step, answer, want)?;
         }
-        Step::Byte(want) => same_at(rt, run, step, &u8::from_reader_with_ctx(reader, ())?, want),
+        Step::Byte(want) => same_at(rt, run, step, &next_byte(reader)?, want),
         Step::Number(want) => {
-            let answer = u16::from_reader_with_ctx(reader, Big);
-            same_at(
-                rt,
-                run,
-                step,
-                &answer,
-                &want.map_err(|refusal| refusal.error()),
-            );
+            let answer = next::<u16, Endian>(reader, Big);
+            let want = match want {
+                Ok(number) => Ok(*number),
+                Err(refusal) => Err(refusal.error()),
+            };
+            same_at(rt, run, step, &answer, &want);
         }
         Step::Read(want) => same_at(rt, run, step, &reader.bits_read(), want),
-        Step::Seek(place) => same_at(rt, run, step, &reader.seek(SeekFrom::Start(*place))?, place),
+        Step::Seek(place) => same_at(rt, run, step, &gone_to(reader, *place)?, place),
     }
     Ok(())
 }
@@ -175,7 +179,7 @@ const RUNS: [(&str, &[u8], &[Step]); 6] = [
 #[test]
 fn from_a_reader(rt: HostRuntime) -> Result<(), Fail> {
     for (run, bytes, steps) in &RUNS {
-        let mut reader = Reader::new(rt.alloc(), Cursor::new(*bytes));
+        let mut reader = reader_of(rt.alloc(), bytes);
         for step in *steps {
             take_step(&rt, rt.alloc(), run, step, &mut reader)?;
         }
@@ -187,9 +191,9 @@ fn from_a_reader(rt: HostRuntime) -> Result<(), Fail> {
 fn written_behind_bits(rt: HostRuntime) -> Result<(), Fail> {
     let alloc = rt.alloc();
     let ab = text(&rt, alloc, b"ab")?;
-    let mut writer = Writer::new(Cursor::new(Vec::new(alloc)));
-    5u8.to_writer(&mut writer, (BitSize(3), Lsb0))?;
-    ab.to_writer(&mut writer, ())?;
+    let mut writer = writer_in(alloc);
+    put(&mut writer, &5u8, (BitSize(3), Lsb0))?;
+    put(&mut writer, &ab, ())?;
     expect_bytes(&rt, &"behind bits", writer, &[0x61, 0xAC, 0x40, 0x00])?;
     expect_written(&rt, alloc, (Big, ByteSize(1)), &ab, &[0x61, 0x62, 0x00])
 }
@@ -206,22 +210,17 @@ fn expect_test_read(
         Err(refusal) => same(rt, &"refused", &refusal, &NO_MEMORY),
     }
     assert!(rt; read >= 1 && read <= 5);
-    same(
-        rt,
-        &read,
-        &u8::from_reader_with_ctx(reader, ())?,
-        &TEST[read],
-    );
+    same(rt, &read, &next_byte(reader)?, &TEST[read]);
     Ok(())
 }
 
 #[test]
 fn read_or_wanting_memory(rt: HostRuntime) -> Result<(), Fail> {
-    let mut reader = Reader::new(rt.alloc(), Cursor::new(TEST.as_slice()));
-    let answer = CString::from_reader_with_ctx(&mut reader, ());
+    let mut reader = reader_of(rt.alloc(), &TEST);
+    let answer = next(&mut reader, ());
     expect_test_read(&rt, &mut reader, answer)?;
-    let mut reader = Reader::new(rt.alloc(), Cursor::new(TEST.as_slice()));
-    let answer = CString::from_reader_with_ctx(&mut reader, ByteSize(5));
+    let mut reader = reader_of(rt.alloc(), &TEST);
+    let answer = next(&mut reader, ByteSize(5));
     expect_test_read(&rt, &mut reader, answer)
 }
 

@@ -1,10 +1,12 @@
 //! Nothing, and tuples.
 
-use super::expecting::{MISFIT, expect_denied, expect_whole, expect_written, same};
+use super::expecting::{
+    MISFIT, expect_denied, expect_whole, expect_written, next, next_byte, reader_of, same,
+};
 use deku::ctx::Endian::{Big, Little};
 use deku::ctx::Order::Lsb0;
 use deku::ctx::{BitSize, ByteSize};
-use deku::prelude::{DekuError, DekuReader, DekuWriter, NeedSize, Reader, Writer};
+use deku::prelude::{DekuError, DekuWriter, NeedSize, Writer};
 use std::io::Cursor;
 use std::test::Fail;
 
@@ -16,20 +18,11 @@ fn nothing(rt: HostRuntime) -> Result<(), Fail> {
     expect_whole(&rt, alloc, (Big, BitSize(3)), &[], ())?;
     expect_whole(&rt, alloc, "any context", &[], ())?;
     let ended = DekuError::Incomplete(NeedSize::new(8));
-    let mut reader = Reader::new(alloc, Cursor::new([].as_slice()));
+    let mut reader = reader_of(alloc, &[]);
     for turn in [1, 2] {
-        same(
-            &rt,
-            &turn,
-            &u8::from_reader_with_ctx(&mut reader, ()),
-            &Err(ended),
-        );
-        same(
-            &rt,
-            &turn,
-            &<()>::from_reader_with_ctx(&mut reader, ()),
-            &Ok(()),
-        );
+        let byte = next_byte(&mut reader);
+        let seen = (byte, next::<(), ()>(&mut reader, ()));
+        same(&rt, &turn, &seen, &(Err(ended), Ok(())));
     }
     Ok(())
 }
@@ -37,26 +30,38 @@ fn nothing(rt: HostRuntime) -> Result<(), Fail> {
 #[test]
 fn of_one_to_six(rt: HostRuntime) -> Result<(), Fail> {
     let alloc = rt.alloc();
-    let bytes = [1, 2, 3, 4, 5, 6];
-    expect_whole(&rt, alloc, (), &bytes[..1], (1u8,))?;
-    expect_whole(&rt, alloc, (), &bytes[..2], (1u8, 2u8))?;
-    expect_whole(&rt, alloc, (), &bytes[..3], (1u8, 2u8, 3u8))?;
-    expect_whole(&rt, alloc, (), &bytes[..4], (1u8, 2u8, 3u8, 4u8))?;
-    expect_whole(&rt, alloc, (), &bytes[..5], (1u8, 2u8, 3u8, 4u8, 5u8))?;
-    expect_whole(&rt, alloc, (), &bytes[..6], (1u8, 2u8, 3u8, 4u8, 5u8, 6u8))
+    expect_whole(&rt, alloc, (), &[1], (1u8,))?;
+    expect_whole(&rt, alloc, (), &[1, 2], (1u8, 2u8))?;
+    expect_whole(&rt, alloc, (), &[1, 2, 3], (1u8, 2u8, 3u8))?;
+    expect_whole(&rt, alloc, (), &[1, 2, 3, 4], (1u8, 2u8, 3u8, 4u8))?;
+    expect_whole(&rt, alloc, (), &[1, 2, 3, 4, 5], (1u8, 2u8, 3u8, 4u8, 5u8))?;
+    expect_whole(
+        &rt,
+        alloc,
+        (),
+        &[1, 2, 3, 4, 5, 6],
+        (1u8, 2u8, 3u8, 4u8, 5u8, 6u8),
+    )
 }
+
+const SEVEN: (u8, u8, u8, u8, u8, u8, u8) = (1, 2, 3, 4, 5, 6, 7);
+
+const EIGHT: (u8, u8, u8, u8, u8, u8, u8, u8) = (1, 2, 3, 4, 5, 6, 7, 8);
+
+const NINE: (u8, u8, u8, u8, u8, u8, u8, u8, u8) = (1, 2, 3, 4, 5, 6, 7, 8, 9);
+
+const TEN: (u8, u8, u8, u8, u8, u8, u8, u8, u8, u8) = (1, 2, 3, 4, 5, 6, 7, 8, 9, 10);
+
+const ELEVEN: (u8, u8, u8, u8, u8, u8, u8, u8, u8, u8, u8) = (1, 2, 3, 4, 5, 6, 7, 8, 9, 10, 11);
 
 #[test]
 fn of_seven_to_eleven(rt: HostRuntime) -> Result<(), Fail> {
     let alloc = rt.alloc();
-    let (a, b, c, d, e, f) = (1u8, 2u8, 3u8, 4u8, 5u8, 6u8);
-    let (g, h, i, j, k) = (7u8, 8u8, 9u8, 10u8, 11u8);
-    let bytes = [1, 2, 3, 4, 5, 6, 7, 8, 9, 10, 11];
-    expect_whole(&rt, alloc, (), &bytes[..7], (a, b, c, d, e, f, g))?;
-    expect_whole(&rt, alloc, (), &bytes[..8], (a, b, c, d, e, f, g, h))?;
-    expect_whole(&rt, alloc, (), &bytes[..9], (a, b, c, d, e, f, g, h, i))?;
-    expect_whole(&rt, alloc, (), &bytes[..10], (a, b, c, d, e, f, g, h, i, j))?;
-    expect_whole(&rt, alloc, (), &bytes, (a, b, c, d, e, f, g, h, i, j, k))
+    expect_whole(&rt, alloc, (), &[1, 2, 3, 4, 5, 6, 7], SEVEN)?;
+    expect_whole(&rt, alloc, (), &[1, 2, 3, 4, 5, 6, 7, 8], EIGHT)?;
+    expect_whole(&rt, alloc, (), &[1, 2, 3, 4, 5, 6, 7, 8, 9], NINE)?;
+    expect_whole(&rt, alloc, (), &[1, 2, 3, 4, 5, 6, 7, 8, 9, 10], TEN)?;
+    expect_whole(&rt, alloc, (), &[1, 2, 3, 4, 5, 6, 7, 8, 9, 10, 11], ELEVEN)
 }
 
 // Items of several types, and tuples in tuples, all under the context of the whole.
@@ -125,7 +130,7 @@ fn of_several_sizes(rt: HostRuntime) -> Result<(), Fail> {
 fn part_of_a_tuple(rt: HostRuntime) -> Result<(), Fail> {
     let alloc = rt.alloc();
     let untrue = DekuError::Parse("cannot parse bool value");
-    expect_denied::<(u8, bool, u8), ()>(&rt, alloc, (), &[1, 2, 3], (untrue, 16, 3))?;
+    expect_denied::<(u8, bool, u8), ()>(&rt, alloc, (), &[1, 2, 3], (untrue, 16, 3));
     let mut slice = [0; 2];
     let mut writer = Writer::new(Cursor::new(slice.as_mut_slice()));
     let four = BitSize(4);

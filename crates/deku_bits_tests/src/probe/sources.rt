@@ -10,6 +10,7 @@ use deku_bits::error::DekuError;
 use deku_bits::probe::{FailAt, Trickle};
 use deku_bits::reader::Reader;
 use std::alloc::Global;
+use std::io;
 use std::io::{Cursor, ErrorKind, Seek, SeekFrom};
 use std::process::Abort;
 use std::test::Fail;
@@ -109,8 +110,7 @@ fn take_three(
             reader.read_bytes_const_into(&mut bytes, Msb0)?;
         }
     }
-    same(rt, row, &bits, &BITS);
-    same(rt, row, &bytes, &[0xBB, 0xCC, 0xDD]);
+    same(rt, row, &(bits, bytes), &(BITS, [0xBB, 0xCC, 0xDD]));
     Ok(())
 }
 
@@ -143,17 +143,22 @@ fn expect_taken(
     let mut lacks = walk_steps(rt, n, &mut reader, &AA);
     if n <= calls {
         let failed = Err(FAILED.error());
-        same(rt, row, &take_three(rt, row, &mut reader, way), &failed);
-        same(rt, row, &take_three(rt, row, &mut reader, way), &failed);
+        let once = take_three(rt, row, &mut reader, way);
+        let twice = take_three(rt, row, &mut reader, way);
+        same(rt, row, &(once, twice), &(failed, failed));
         lacks = walk_steps(rt, n, &mut reader, &STOPPED);
-        let place = reader.seek(SeekFrom::Current(0))?;
-        same(rt, row, &place, &(n as u64));
-        same(rt, row, &reader.seek(SeekFrom::Start(1))?, &1);
-        same(rt, row, &reader.bits_read(), &8);
+        let place = gone_to(&mut reader, SeekFrom::Current(0))?;
+        let back = gone_to(&mut reader, SeekFrom::Start(1))?;
+        let seen = (place, back, reader.bits_read());
+        same(rt, row, &seen, &(n as u64, 1, 8));
     }
-    same(rt, row, &take_three(rt, row, &mut reader, way), &Ok(()));
-    same(rt, row, &reader.bits_read(), &32);
+    let taken = take_three(rt, row, &mut reader, way);
+    same(rt, row, &(taken, reader.bits_read()), &(Ok(()), 32));
     Ok(lacks)
+}
+
+fn gone_to(reader: &mut Reader<FailAt<&[u8]>>, to: SeekFrom) -> io::Result<u64> {
+    reader.seek(to)
 }
 
 #[test]

@@ -82,21 +82,45 @@ fn expect_word(
     slow.take(rt, bytes, order, &mut met[..n]);
     let row = (start.offset, n);
     let want = word_of(&met[..n], order);
-    let mut reader = started(rt, alloc, bytes, start)?;
-    same(rt, row, &reader.read_word(n, order)?, &want);
-    same(rt, row, &reader.bits_read(), &(start.offset + n));
-    let mut shown = [false; 128];
-    let mut other = started(rt, alloc, bytes, start)?;
-    other.read_bits_into(&mut shown[..n], order)?;
-    turn(&mut shown[..n], order);
-    same(rt, row, &word_of(&shown[..n], order), &want);
-    same(
-        rt,
-        row,
-        &other.into_inner().position(),
-        &reader.into_inner().position(),
-    );
+    let (word, count, place) = read_as_word(rt, alloc, bytes, start, n, order)?;
+    same(rt, row, &(word, count), &(want, start.offset + n));
+    let shown = read_as_bits(rt, alloc, bytes, start, n, order)?;
+    same(rt, row, &shown, &(want, place));
     Ok(())
+}
+
+// The word, how many bits are read then, and where the source stands.
+fn read_as_word(
+    rt: &impl Abort,
+    alloc: Global,
+    bytes: &[u8],
+    start: Start,
+    n: usize,
+    order: Order,
+) -> Result<(u128, usize, u64), DekuError> {
+    assert!(rt; n <= 128);
+    let mut reader = started(rt, alloc, bytes, start)?;
+    let word = reader.read_word(n, order)?;
+    let count = reader.bits_read();
+    Ok((word, count, reader.into_inner().position()))
+}
+
+// The word of the bits that are shown, and where the source stands.
+fn read_as_bits(
+    rt: &impl Abort,
+    alloc: Global,
+    bytes: &[u8],
+    start: Start,
+    n: usize,
+    order: Order,
+) -> Result<(u128, u64), DekuError> {
+    assert!(rt; n <= 128);
+    let mut shown = [false; 128];
+    let mut reader = started(rt, alloc, bytes, start)?;
+    reader.read_bits_into(&mut shown[..n], order)?;
+    turn(&mut shown[..n], order);
+    let word = word_of(&shown[..n], order);
+    Ok((word, reader.into_inner().position()))
 }
 
 // Words of all widths in both orders, behind these bits.
