@@ -2,3 +2,4 @@ pub mod Parts
 pub mod Wholes
 pub mod Failures
 pub mod Transfers
+pub mod Laying

@@ -1,6 +1,6 @@
 -- Parts of lists.
 use Rattle.std.proofs.Common.{◌≡◌, ℕ, ◌+◌, ◌-◌, ◌<◌, ◌≤◌, ◌^◌, List, [], ◌∷◌, ◌++◌, length, get_or, suc, take, drop, sym, ap, ◌∙◌, arith, min, refl}
-use Rattle.std.proofs.lemmas.List.{drop-drop, take-append-drop, drop_all, length-drop, length-take, drop_more, take_more, get_or-drop}
+use Rattle.std.proofs.lemmas.List.{drop-drop, take-append-drop, drop_all, length-drop, length-take, drop_more, take_more, get_or-drop, drop-append-le, take_at}
 use Rattle.std.proofs.lemmas.Bool.{cases_lt}
 use Rattle.std.proofs.Common.{⊎_elim}
 
@@ -39,3 +39,9 @@ part_back xs s e d h k =
 pub part_long : {X : Type 0} (xs : List X) (s e : ℕ) (ys : List X) → take (e - s) (drop s xs) ≡ ys → 0 < length ys → s < e
 part_long xs s e ys p h =
     let n : length ys ≤ e - s = rw (← p) (simp length-take (omega arith)) in omega arith
+
+-- where a list goes on with a run, it goes on behind the first of the run with the others
+pub run_ahead : {X : Type 0} (run xs : List X) (at n k : ℕ) → length run ≡ k → n ≤ k → drop at xs ≡ run ++ drop (at + k) xs → take (length (drop n run)) (drop (at + n) xs) ≡ drop n run
+run_ahead run xs at n k l h e =
+    let rest : drop (at + n) xs ≡ drop n run ++ drop (at + k) xs = sym (drop-drop n at xs) ∙ ap (drop n) e ∙ drop-append-le n run (drop (at + k) xs) (omega arith) in
+    ap (take (length (drop n run))) rest ∙ take_at (drop n run) (drop (at + k) xs) (length (drop n run)) refl

@@ -109,6 +109,11 @@ Loses n None new = ⊤
 Loses n (Some bs) None = ⊥
 Loses n (Some bs) (Some cs) = (n ≤ length bs) × (cs ≡ drop n bs)
 
+-- bytes that are told begin with these
+abbrev pub BeginsWith : List ℕ → Option (List ℕ) → Type 0
+BeginsWith bytes None = ⊤
+BeginsWith bytes (Some coming) = take (length bytes) coming ≡ bytes
+
 -- where no byte was to come, none is
 abbrev pub StaysEmpty : Option (List ℕ) → Option (List ℕ) → Type 0
 StaysEmpty None new = ⊤

@@ -2,12 +2,14 @@
 
 #![tactic(auto, using(crate::proofs::Wholes::onward_same, crate::proofs::Wholes::read_onward, crate::proofs::Wholes::nowhere, crate::proofs::Wholes::slice_onward, crate::proofs::Wholes::vector_onward))]
 
-ghost use Rattle.std.specs.Prelude.{◌≡◌, ◌≢◌, ℕ, ◌^◌, ◌<◌, ◌≤◌, ◌+◌, ◌-◌, ◌++◌, ◌∷◌, min, List, [], length, take, drop, Option, Some, None, OnOk, OnErr, IsOk, IfErr, IsTrue, IsFalse};
+ghost use Rattle.std.specs.Prelude.{◌≡◌, ◌≢◌, ℕ, ◌^◌, ◌<◌, ◌≤◌, ◌+◌, ◌-◌, ◌++◌, ◌∷◌, min, List, [], length, take, drop, Option, Some, None, OnOk, OnErr, IsOk, IfErr, IfSome, IsNone, IsTrue, IsFalse, ◌↔◌, All};
+ghost use Rattle.std.specs.Int.{w64, from_le_bytes};
 ghost use Rattle.std.specs.Io.KnownBytes.{Consumes, Keeps};
 ghost use Rattle.std.specs.Io.Cursor.{cursor_position, cursor_inner, cursor_remaining};
 ghost use Rattle.std.specs.IoError.{error_kind};
+ghost use Rattle.std.specs.Vec.{vec_len, vec_capacity};
 ghost use Rattle.std.specs.Io.Seek.{SeekMoves};
-ghost use Rattle.deku_device.specs.Devices.{SourceTold, SinkTold, untold_source, untold_sink, NoFewerFailures, MoreFailures, FewerThan, Passes, StaysEmpty, bytes_before, Gave, Declined};
+ghost use Rattle.deku_device.specs.Devices.{SourceTold, SinkTold, untold_source, untold_sink, NoFewerFailures, MoreFailures, FewerThan, Passes, StaysEmpty, BeginsWith, bytes_before, Gave, Declined};
 ghost use Rattle.deku_device.specs.Cursors.{cursor_told, cursor_source, slice_told, vector_told, laid_over, fitting, reaching};
 ghost use Rattle.deku_device.specs.Seeking.{place_on, Seeks, RefusedSeek, ComesFrom, StandsAt};
 
@@ -19,7 +21,8 @@ use std::io::{AsBytes, Cursor, Error, ErrorKind, Read, Seek, SeekFrom, Write};
 /// A reader that can seek, whose bytes to come and whose count of failures may be known.
 ///
 /// `fetch` is `read_exact` and `pass` is `seek(SeekFrom::Current(n))`, under laws: what is told stays true, and a call fails
-/// only where a told count of failures rises, but for the end of input.
+/// only where a told count of failures rises, but for the end of input. `at_hand` is a look at eight bytes that lie in memory and a `pass` of some of
+/// them; a source that has none at hand is read by `fetch` alone.
 pub trait Source: Read + Seek {
     // What it tells: the bytes to come, the count of failures, the references on the way.
     ghost told: { Self → SourceTold };
@@ -41,6 +44,47 @@ pub trait Source: Read + Seek {
         ensures failed { IfErr result (λ e. MoreFailures (told self.old).health (told self.new).health) }
         ensures kept { NoFewerFailures (told self.old).health (told self.new).health };
 
+    /// The next eight bytes, where they are at hand, of which the first `n` are passed. The caller's condition: `n` is at most 8.
+    ///
+    /// The bytes behind the first `n` are still to come. It answers none where the next eight are not at hand, as where fewer are to come, and may
+    /// do so always, as it does where an implementation does not say otherwise. Then nothing moves, and it says nothing of what is to come.
+    ///
+    /// ```text
+    /// let mut source = Cursor::new(bytes); // 01 02 03 04 05 06 07 08 09
+    /// source.at_hand(2);                   // Some of 01 02 03 04 05 06 07 08; the next byte to come is 03
+    /// source.at_hand(2);                   // None: seven bytes are to come, from 03 on
+    /// ```
+    fn at_hand(&mut self, n: usize) -> Option<[u8; 8]>
+        requires { n ≤ 8 }
+        ensures bytes { IfSome result (λ eight. Consumes (told self.old).coming (told self.new).coming (take n eight)) }
+        ensures ahead { IfSome result (λ eight. BeginsWith (drop n eight) (told self.new).coming) }
+        ensures none { IsNone result → self.new ≡ self.old }
+        ensures kept { NoFewerFailures (told self.old).health (told self.new).health }
+    {
+        let _passed = n;
+        None
+    }
+
+    /// Puts the next `n` bytes behind those of the vector. The caller's condition: the vector has room for them, so no memory is asked for.
+    ///
+    /// It fails as `fetch` does for so many bytes. Then it is open what the vector holds.
+    fn fetch_onto(&mut self, bytes: &mut Vec<u8>, n: usize) -> io::Result<()>
+        requires { vec_len bytes.old + n ≤ vec_capacity bytes.old }
+        ensures bytes { OnOk result (Consumes (told self.old).coming (told self.new).coming (drop (vec_len bytes.old) bytes.new.items)) }
+        ensures held { OnOk result (take (vec_len bytes.old) bytes.new.items ≡ bytes.old.items) }
+        ensures count { OnOk result (vec_len bytes.new ≡ vec_len bytes.old + n) }
+        ensures short { IfErr result (λ e. error_kind e ≡ ErrorKind.UnexpectedEof → FewerThan n (told self.old).coming) }
+        ensures ended { IfErr result (λ e. error_kind e ≡ ErrorKind.UnexpectedEof → StaysEmpty (told self.old).coming (told self.new).coming) }
+        ensures failed { IfErr result (λ e. error_kind e ≢ ErrorKind.UnexpectedEof → MoreFailures (told self.old).health (told self.new).health) }
+        ensures kept { NoFewerFailures (told self.old).health (told self.new).health }
+    {
+        let held = bytes.len();
+        match bytes.resize(held + n, 0) {
+            Ok(()) => self.fetch(&mut bytes[held..]),
+            Err(_) => unreachable!(),
+        }
+    }
+
     /// Seeks, as `seek` does.
     ///
     /// Where all bytes are told, it leads to its target and is refused only where there is none or the device fails.
@@ -58,7 +102,8 @@ pub trait Source: Read + Seek {
 /// A writer that can seek, whose bytes taken, whose room and whose count of failures may be known.
 ///
 /// `give` is `write_all`, under laws: what is told stays true, and a call fails only where a told count of failures rises, where
-/// the room that is told is too small, or, where no room is told, where no memory is found.
+/// the room that is told is too small, or, where no room is told, where no memory is found. `lay` gives at most eight bytes in one
+/// step where memory has room for eight, and is never refused: a sink that has no such room, or no memory, leaves it as it is.
 pub trait Sink: Write + Seek {
     // What it tells: the bytes taken, those that lie in the room left, the count of failures, the references on the way.
     ghost told: { Self → SinkTold };
@@ -67,6 +112,23 @@ pub trait Sink: Write + Seek {
     fn give(&mut self, bytes: &[u8]) -> io::Result<()>
         ensures ok { OnOk result (Gave (told self.old) (told self.new) bytes.now) }
         ensures err { IfErr result (λ e. Declined (told self.old) (told self.new) (length bytes.now) (error_kind e)) };
+
+    /// Gives the first `n` of eight bytes, at most all of them, where it has room for eight at hand, and answers whether it did. Its place moves
+    /// by `n`, and what lies behind them stays. Where it answers `false` nothing is given and nothing changes, and `give` says more.
+    ///
+    /// ```text
+    /// let mut sink = Cursor::new(&mut room[..]);         // nine bytes of room
+    /// sink.lay([1, 2, 3, 4, 5, 6, 7, 8], 2)              // true: the bytes 1 and 2 are given, and seven bytes of room are left
+    /// sink.lay([3, 4, 5, 6, 7, 8, 9, 10], 2)             // false: nothing is given
+    /// ```
+    fn lay(&mut self, eight: [u8; 8], n: usize) -> bool
+        requires { n ≤ 8 }
+        ensures gave { IsTrue result → Gave (told self.old) (told self.new) (take n eight) }
+        ensures stays { IsFalse result → self.new ≡ self.old }
+    {
+        let _unused = (eight, n);
+        false
+    }
 
     /// Seeks, as `seek` does.
     ///
@@ -87,12 +149,23 @@ impl<S: Source> Source for &mut S {
 
     ghost told_by_place = { λ s. S.told_by_place s.now };
 
+    #[inline(always)]
     fn fetch(&mut self, buf: &mut [u8]) -> io::Result<()> {
         Source::fetch(&mut **self, buf)
     }
 
     fn pass(&mut self, n: u64) -> io::Result<()> {
         Source::pass(&mut **self, n)
+    }
+
+    #[inline(always)]
+    fn at_hand(&mut self, n: usize) -> Option<[u8; 8]> {
+        Source::at_hand(&mut **self, n)
+    }
+
+    #[inline(always)]
+    fn fetch_onto(&mut self, bytes: &mut Vec<u8>, n: usize) -> io::Result<()> {
+        Source::fetch_onto(&mut **self, bytes, n)
     }
 
     fn go(&mut self, to: SeekFrom) -> io::Result<u64> {
@@ -109,6 +182,11 @@ impl<S: Sink> Sink for &mut S {
 
     fn give(&mut self, bytes: &[u8]) -> io::Result<()> {
         Sink::give(&mut **self, bytes)
+    }
+
+    #[inline(always)]
+    fn lay(&mut self, eight: [u8; 8], n: usize) -> bool {
+        Sink::lay(&mut **self, eight, n)
     }
 
     fn go(&mut self, to: SeekFrom) -> io::Result<u64> {
@@ -154,6 +232,7 @@ impl<T: AsBytes> Source for Cursor<T> {
 
     ghost told_by_place = { λ s at all. cursor_told T.bytes s at all };
 
+    #[inline(always)]
     fn fetch(&mut self, buf: &mut [u8]) -> io::Result<()>
         ensures bytes { OnOk result (Consumes (cursor_remaining T.bytes self.old) (cursor_remaining T.bytes self.new) buf.new) }
         ensures short { IfErr result (λ e. (error_kind e ≡ ErrorKind.UnexpectedEof) × FewerThan (length buf.old) (cursor_remaining T.bytes self.old)) }
@@ -186,6 +265,46 @@ impl<T: AsBytes> Source for Cursor<T> {
         Ok(())
     }
 
+    #[inline(always)]
+    fn at_hand(&mut self, n: usize) -> Option<[u8; 8]>
+        requires { n ≤ 8 }
+        ensures bytes { IfSome result (λ eight. Consumes (cursor_remaining T.bytes self.old) (cursor_remaining T.bytes self.new) (take n eight)) }
+        ensures ahead { IfSome result (λ eight. BeginsWith (drop n eight) (cursor_remaining T.bytes self.new)) }
+        ensures none { IsNone result → self.new ≡ self.old }
+        // None only where fewer than eight bytes are to come.
+        ensures short { IsNone result → FewerThan 8 (cursor_remaining T.bytes self.old) }
+        ensures place { IfSome result (λ eight. cursor_position self.new ≡ cursor_position self.old + n) }
+        ensures inner { cursor_inner self.new ≡ cursor_inner self.old }
+        ensures kept { NoFewerFailures (cursor_source T.bytes self.old).health (cursor_source T.bytes self.new).health }
+    {
+        let at = self.position();
+        let eight = eight_at(self.get_ref().as_byte_slice(), at, n)?;
+        self.set_position(at + n as u64);
+        Some(eight)
+    }
+
+    #[inline(always)]
+    fn fetch_onto(&mut self, bytes: &mut Vec<u8>, n: usize) -> io::Result<()>
+        requires { vec_len bytes.old + n ≤ vec_capacity bytes.old }
+        ensures bytes { OnOk result (Consumes (cursor_remaining T.bytes self.old) (cursor_remaining T.bytes self.new) (drop (vec_len bytes.old) bytes.new.items)) }
+        ensures held { OnOk result (take (vec_len bytes.old) bytes.new.items ≡ bytes.old.items) }
+        ensures count { OnOk result (vec_len bytes.new ≡ vec_len bytes.old + n) }
+        ensures short { IfErr result (λ e. (error_kind e ≡ ErrorKind.UnexpectedEof) × FewerThan n (cursor_remaining T.bytes self.old)) }
+        ensures place { OnOk result (cursor_position self.new ≡ cursor_position self.old + n) }
+        ensures inner { cursor_inner self.new ≡ cursor_inner self.old }
+        ensures kept { NoFewerFailures (cursor_source T.bytes self.old).health (cursor_source T.bytes self.new).health }
+        // One that is refused moves nothing, and leaves the vector's bytes.
+        ensures stays { OnErr result (self.new ≡ self.old) }
+        ensures same { OnErr result (bytes.new.items ≡ bytes.old.items) }
+    {
+        let at = self.position();
+        if !append_at(self.get_ref().as_byte_slice(), at, bytes, n) {
+            return Err(Error::new(ErrorKind::UnexpectedEof, "failed to fill whole buffer"));
+        }
+        self.set_position(at + n as u64);
+        Ok(())
+    }
+
     fn go(&mut self, to: SeekFrom) -> io::Result<u64>
         ensures moves { SeekMoves (Some (cursor_position self.old)) (Some (cursor_position self.new)) (T.bytes (cursor_inner self.old)) to result }
         ensures all { Keeps (T.bytes (cursor_inner self.old)) (T.bytes (cursor_inner self.new)) }
@@ -198,6 +317,23 @@ impl<T: AsBytes> Source for Cursor<T> {
     }
 }
 
+// The eight bytes at this place, where there are as many, of which the first n stand before those behind n.
+#[inline(always)]
+fn eight_at(all: &[u8], at: u64, n: usize) -> Option<[u8; 8]>
+    requires { n ≤ 8 }
+    ensures fits { IfSome result (λ eight. at + n < 2 ^ 64) }
+    ensures bytes { IfSome result (λ eight. drop at all.now ≡ take n eight ++ drop (at + n) all.now) }
+    ensures ahead { IfSome result (λ eight. BeginsWith (drop n eight) (Some (drop (at + n) all.now))) }
+    ensures short { IsNone result → FewerThan 8 (Some (drop at all.now)) }
+{
+    let _passed = n;
+    let mut eight = [0; 8];
+    if !copy_at(all, at, &mut eight) {
+        return None;
+    }
+    Some(eight)
+}
+
 // The place n bytes after this one, or the last place that there is.
 fn place_after(all: &[u8], at: u64, n: u64) -> u64
     ensures place { result ≡ place_on at n }
@@ -208,6 +344,7 @@ fn place_after(all: &[u8], at: u64, n: u64) -> u64
 }
 
 // Fills the buffer from the bytes at this place, or answers that they are too few.
+#[inline(always)]
 fn copy_at(all: &[u8], at: u64, buf: &mut [u8]) -> bool
     ensures fits { IsTrue result → at + length buf.old < 2 ^ 64 }
     ensures short { IsFalse result → FewerThan (length buf.old) (Some (drop at all.now)) }
@@ -222,6 +359,27 @@ fn copy_at(all: &[u8], at: u64, buf: &mut [u8]) -> bool
     }
     buf.copy_from_slice(&all[at..at + buf.len()]);
     true
+}
+
+// Puts so many of the bytes from this place on behind those of the vector, which has room for them, or answers that they are too few.
+#[inline(always)]
+fn append_at(all: &[u8], at: u64, bytes: &mut Vec<u8>, n: usize) -> bool
+    requires { vec_len bytes.old + n ≤ vec_capacity bytes.old }
+    ensures fits { IsTrue result → at + n < 2 ^ 64 }
+    ensures short { IsFalse result → FewerThan n (Some (drop at all.now)) }
+    ensures same { IsFalse result → bytes.new.items ≡ bytes.old.items }
+    ensures bytes { IsTrue result → drop at all.now ≡ drop (vec_len bytes.old) bytes.new.items ++ drop (at + n) all.now }
+    ensures held { IsTrue result → take (vec_len bytes.old) bytes.new.items ≡ bytes.old.items }
+    ensures count { IsTrue result → vec_len bytes.new ≡ vec_len bytes.old + n }
+{
+    if n == 0 {
+        return true;
+    }
+    let at = at as usize;
+    if all.len() < at || all.len() - at < n {
+        return false;
+    }
+    bytes.extend_from_slice(&all[at..at + n]).is_ok()
 }
 
 // A cursor over a slice tells the bytes before its place, and its room by those behind.
@@ -243,6 +401,25 @@ impl Sink for Cursor<&mut [u8]> {
             return Err(Error::from(ErrorKind::WriteZero));
         }
         Ok(())
+    }
+
+    #[inline(always)]
+    fn lay(&mut self, eight: [u8; 8], n: usize) -> bool
+        requires { n ≤ 8 }
+        ensures gave { IsTrue result → Gave (slice_told self.old) (slice_told self.new) (take n eight) }
+        ensures stays { IsFalse result → self.new ≡ self.old }
+        // The bytes are laid over those that lie there.
+        ensures written { IsTrue result → (cursor_inner self.new).now ≡ laid_over (cursor_inner self.old).now (cursor_position self.old) (take n eight) }
+        ensures place { IsTrue result → cursor_position self.new ≡ cursor_position self.old + n }
+        ensures room { IsTrue result ↔ (cursor_position self.old + 8 ≤ length (cursor_inner self.old).now) }
+    {
+        let place = self.position();
+        if !has_eight(self.get_ref().len(), place) {
+            return false;
+        }
+        lay_over(self.get_mut(), place as usize, eight, n);
+        self.set_position(place + n as u64);
+        true
     }
 
     fn go(&mut self, to: SeekFrom) -> io::Result<u64>
@@ -277,6 +454,26 @@ impl Sink for Cursor<Vec<u8>> {
         put_over(all, place as usize, bytes)?;
         self.set_position(place.saturating_add(bytes.len() as u64));
         Ok(())
+    }
+
+    #[inline(always)]
+    fn lay(&mut self, eight: [u8; 8], n: usize) -> bool
+        requires { n ≤ 8 }
+        ensures gave { IsTrue result → Gave (vector_told self.old) (vector_told self.new) (take n eight) }
+        ensures stays { IsFalse result → self.new ≡ self.old }
+        // The bytes are laid over those that lie there.
+        ensures written { IsTrue result → (cursor_inner self.new).items ≡ laid_over (cursor_inner self.old).items (cursor_position self.old) (take n eight) }
+        ensures place { IsTrue result → cursor_position self.new ≡ cursor_position self.old + n }
+        ensures room { IsTrue result ↔ (cursor_position self.old + 8 ≤ length (cursor_inner self.old).items) }
+    {
+        let at = self.position();
+        if !has_eight(self.get_ref().len(), at) {
+            return false;
+        }
+        let all = self.get_mut();
+        lay_over(all.as_mut_slice(), at as usize, eight, n);
+        self.set_position(at + n as u64);
+        true
     }
 
     fn go(&mut self, to: SeekFrom) -> io::Result<u64>
@@ -326,4 +523,53 @@ fn overwrite(all: &mut [u8], place: usize, bytes: &[u8]) -> usize
     let n = bytes.len().min(all.len() - place);
     all[place..place + n].copy_from_slice(&bytes[..n]);
     n
+}
+
+// Whether eight of so many bytes lie behind a place.
+#[inline(always)]
+fn has_eight(length: usize, place: u64) -> bool
+    ensures { IsTrue result ↔ (place + 8 ≤ length) }
+{
+    let length = length as u64;
+    place <= length && length - place >= 8
+}
+
+// Lays the first n of eight bytes over those from a place on.
+#[inline(always)]
+fn lay_over(all: &mut [u8], place: usize, eight: [u8; 8], n: usize)
+    requires few { n ≤ 8 }
+    requires room { place + 8 ≤ length all.old }
+    ensures { all.new ≡ laid_over all.old place (take n eight) }
+{
+    let mixed = blended(&eight, &all[place..place + 8], n);
+    all[place..place + 8].copy_from_slice(&mixed);
+}
+
+// The first n of eight bytes, and those that lie there behind them.
+#[inline(always)]
+fn blended(eight: &[u8], there: &[u8], n: usize) -> [u8; 8]
+    requires eight { length eight.now ≡ 8 }
+    requires there { length there.now ≡ 8 }
+    requires few { n ≤ 8 }
+    ensures { result ≡ take n eight.now ++ drop n there.now }
+{
+    let front = number_of_eight(eight);
+    let behind = number_of_eight(there);
+    if n == 8 {
+        return front.to_le_bytes();
+    }
+    let end = 1 << (8 * n);
+    (behind - behind % end + front % end).to_le_bytes()
+}
+
+// The number of eight bytes, the first the lowest.
+#[inline(always)]
+fn number_of_eight(bytes: &[u8]) -> u64
+    requires { length bytes.now ≡ 8 }
+    ensures number { result ≡ from_le_bytes w64 bytes.now }
+    ensures bytes { All (λ b. b < 256) bytes.now }
+{
+    let mut room = [0; 8];
+    room.copy_from_slice(bytes);
+    u64::from_le_bytes(room)
 }
