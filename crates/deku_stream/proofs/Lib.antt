@@ -17,3 +17,4 @@ pub mod Words
 pub mod BitPlaces
 pub mod Overlays
 pub mod Holding
+pub mod Across

@@ -1,13 +1,13 @@
 -- Windows as numbers of so many bits: what is taken from them, and bytes that go through them.
-use Rattle.std.proofs.Common.{ℕ, ◌+◌, ◌*◌, ◌-◌, ◌/◌, ◌%◌, ◌^◌, ◌<◌, ◌≤◌, ◌≡◌, Bool, true, false, nat_eq, List, [], ◌∷◌, ◌++◌, reverse, length, drop, refl, ap, ap₂, sym, ◌∙◌, subst, arith}
-use Rattle.std.proofs.lemmas.Nat.{shr_below, mul-add-lt}
+use Rattle.std.proofs.Common.{ℕ, ◌+◌, ◌*◌, ◌-◌, ◌/◌, ◌%◌, ◌^◌, ◌<◌, ◌≤◌, ◌≡◌, Bool, true, false, nat_eq, List, [], ◌∷◌, ◌++◌, reverse, length, drop, refl, ap, ap₂, sym, ◌∙◌, subst, arith, append_assoc, mod-lt}
+use Rattle.std.proofs.lemmas.Nat.{shr_below, mul-add-lt, pow_pos}
 use Rattle.std.proofs.lemmas.List.{reverse-append, reverse-reverse, length-reverse, drop_at}
 use Rattle.deku_stream.specs.declared.ctx.Order.{Order}
 use Rattle.deku_stream.specs.declared.ctx.Order.TheVariants.{Msb0, Lsb0}
 use Rattle.deku_stream.specs.Bits.{bin, bits_of, byte_bits, facing, group_number}
 use Rattle.deku_stream.specs.Moving.{GivesGroup}
 use Rattle.deku_stream.proofs.Binary.{length-bits_of, bin-bits_of}
-use Rattle.deku_stream.proofs.Packed.{bits_of-split, bits_of-low, bin-whole, bits_of-join}
+use Rattle.deku_stream.proofs.Packed.{bits_of-split, bits_of-low, bin-whole, bits_of-join, joined_below}
 
 -- ---- what is taken
 -- the high bits of a number
@@ -49,11 +49,15 @@ through_high n v b h =
     ∙ ap (λ s. bits_of 8 ((v * 2 ^ 8 + b) / 2 ^ n) ++ s) (sym (bits_of-low n (v * 2 ^ 8 + b)))
 
 -- before the bits of a number
-pub through_low : (n v b : ℕ) → v < 2 ^ n → byte_bits b ++ bits_of n v ≡ bits_of n ((b * 2 ^ n + v) / 2 ^ 8) ++ byte_bits ((b * 2 ^ n + v) % 2 ^ 8)
+pub through_low : (n m v b : ℕ) → n + m ≡ 8 → v < 2 ^ n → byte_bits b ++ bits_of n v ≡ bits_of n (b / 2 ^ m) ++ byte_bits (b % 2 ^ m * 2 ^ n + v)
 unfolding byte_bits
-through_low n v b h =
-    bits_of-join 8 n b v h ∙ ap (λ k. bits_of k (b * 2 ^ n + v)) (omega arith) ∙ bits_of-split n 8 (b * 2 ^ n + v)
-    ∙ ap (λ s. bits_of n ((b * 2 ^ n + v) / 2 ^ 8) ++ s) (sym (bits_of-low 8 (b * 2 ^ n + v)))
+through_low n m v b e h =
+    let whole : m + n ≡ 8 = omega arith in
+    let high : List Bool = bits_of n (b / 2 ^ m) in
+    let low : ℕ = b % 2 ^ m in
+    let cut : bits_of 8 b ≡ high ++ bits_of m low = ap (λ k. bits_of k b) (sym e) ∙ bits_of-split n m b ∙ ap (λ s. high ++ s) (sym (bits_of-low m b)) in
+    let side : bits_of m low ++ bits_of n v ≡ bits_of 8 (low * 2 ^ n + v) = bits_of-join m n low v h ∙ ap (λ k. bits_of k (low * 2 ^ n + v)) whole in
+    ap (λ s. s ++ bits_of n v) cut ∙ append_assoc high (bits_of m low) (bits_of n v) ∙ ap (λ s. high ++ s) side
 
 -- ---- as the code has them
 -- high bits that are taken from a window
@@ -84,10 +88,10 @@ high_through n v b x h l w e p d f g =
     ∙ ap₂ (λ y z. byte_bits y ++ bits_of n z) (sym (f ∙ ap (λ k. k / 2 ^ n) d)) (sym (g ∙ ap (λ k. k % 2 ^ n) d))
 
 -- a byte that goes through the low bits of a window
-pub low_through : (n v b x h l : ℕ) (w : List Bool) → bits_of n v ≡ w → v < 2 ^ n → x ≡ b * 2 ^ n + v → h ≡ x / 2 ^ 8 → l ≡ x % 2 ^ 8 → byte_bits b ++ w ≡ bits_of n h ++ byte_bits l
-low_through n v b x h l w e p d f g =
-    ap (λ s. byte_bits b ++ s) (sym e) ∙ through_low n v b p
-    ∙ ap₂ (λ y z. bits_of n y ++ byte_bits z) (sym (f ∙ ap (λ k. k / 2 ^ 8) d)) (sym (g ∙ ap (λ k. k % 2 ^ 8) d))
+pub low_through : (n v b h l x : ℕ) (w : List Bool) → bits_of n v ≡ w → n ≤ 8 → v < 2 ^ n → h ≡ b / 2 ^ (8 - n) → l ≡ b % 2 ^ (8 - n) → x ≡ l * 2 ^ n + v → byte_bits b ++ w ≡ bits_of n h ++ byte_bits x
+low_through n v b h l x w e few p f g d =
+    ap (λ s. byte_bits b ++ s) (sym e) ∙ through_low n (8 - n) v b (omega arith) p
+    ∙ ap₂ (λ y z. bits_of n y ++ byte_bits z) (sym f) (sym (d ∙ ap (λ k. k * 2 ^ n + v) g))
 
 -- a byte that goes through a window, from the front or from the end
 pub exchanged : (o : Order) (w s b r : List Bool) → length s ≡ length w → (o ≡ Msb0 → w ++ b ≡ r ++ s) → (o ≡ Lsb0 → b ++ w ≡ s ++ r) → facing o w ++ facing o b ≡ facing o r ++ facing o s
@@ -125,10 +129,18 @@ low_left c n v h l small e =
     let whole : n ≡ (n - c) + c = omega arith in
     subst (λ x. x < 2 ^ (n - c)) (sym e) (shr_below v (n - c) c (subst (λ k. v < 2 ^ k) whole small))
 
--- and behind a byte that went through
-pub through_left : (n x h : ℕ) → x < 2 ^ 8 * 2 ^ n → h ≡ x / 2 ^ 8 → h < 2 ^ n
-through_left n x h small e = omega arith
+-- the high bits of a byte
+pub high_below : (m n b h : ℕ) → m + n ≡ 8 → b < 2 ^ 8 → h ≡ b / 2 ^ n → h < 2 ^ m
+high_below m n b h whole p e = subst (λ x. x < 2 ^ m) (sym e) (shr_below b m n (subst (λ k. b < 2 ^ k) (sym whole) p))
 
--- and with those bits
+-- its low bits
+pub low_below : (n b l : ℕ) → l ≡ b % 2 ^ n → l < 2 ^ n
+low_below n b l e = subst (λ x. x < 2 ^ n) (sym e) (mod-lt b (pow_pos n))
+
+-- two parts of a byte, so many bits and the others
+pub whole_below : (m n x y : ℕ) → m + n ≡ 8 → x < 2 ^ m → y < 2 ^ n → x * 2 ^ n + y < 2 ^ 8
+whole_below m n x y e p q = subst (λ k. x * 2 ^ n + y < 2 ^ k) e (joined_below m n x y p q)
+
+-- a number with eight bits before its own
 pub with_low : (a b k : ℕ) → a < 2 ^ 8 → b < 2 ^ k → k ≤ 8 → a * 2 ^ k + b < 2 ^ 8 * 2 ^ k
 with_low a b k h l m = omega (arith, mul-add-lt a (2 ^ k) b (2 ^ 8) h l)

@@ -31,6 +31,13 @@ pub record TakesGroups (o : Order) (window : List Bool) (bytes : List ℕ) (n : 
   pub cut : facing o window ++ flow o bytes ≡ bits ++ facing o rest
   pub worth : map (group_number o) (chunks bits) ≡ numbers
 
+-- a window, and bytes behind it, give their first n bits in an order, which have this word, and those behind them are another window
+pub record TakesWord (o : Order) (window : List Bool) (bytes : List ℕ) (n number : ℕ) (rest : List Bool) : Type 0 where
+  pub bits : List Bool
+  pub long : length bits ≡ n
+  pub cut : facing o window ++ flow o bytes ≡ bits ++ facing o rest
+  pub worth : number ≡ word_of o bits
+
 -- n bits that have this word go from a window and the bytes to come
 pub record MovesWord (o : Order) (window : List Bool) (bytes : Option (List ℕ)) (n number : ℕ) (rest : List Bool) (after : Option (List ℕ)) : Type 0 where
   pub bits : List Bool

@@ -1,8 +1,10 @@
 //! The unread part of one byte.
 
-ghost use Rattle.std.specs.Prelude.{◌≡◌, ◌+◌, ◌*◌, ◌/◌, ◌%◌, ◌^◌, ◌<◌, ◌≤◌, ◌-◌, [], ◌∷◌, ◌++◌, length, drop};
-ghost use Rattle.deku_stream.specs.Bits.{byte_bits, facing};
-ghost use Rattle.deku_stream.specs.Moving.{GivesGroup};
+ghost use Rattle.std.specs.Prelude.{◌≡◌, ◌+◌, ◌*◌, ◌/◌, ◌%◌, ◌^◌, ◌<◌, ◌≤◌, ◌-◌, [], ◌∷◌, ◌++◌, length, take, drop, All};
+ghost use Rattle.std.specs.Int.{w64, to_le_bytes};
+ghost use Rattle.deku_stream.specs.Bits.{bits_of, byte_bits, facing, groups, word_of};
+ghost use Rattle.deku_stream.specs.Moving.{GivesGroup, TakesWord};
+ghost use Rattle.deku_stream.specs.Streams.{flow};
 
 use crate::byte::bits_of_byte;
 use crate::ctx::Order;
@@ -78,6 +80,7 @@ impl Window {
     }
 
     /// Takes the next bits in this order, and answers their number.
+    #[inline(always)]
     pub fn take(&mut self, count: usize, order: Order) -> u8
         requires { count ≤ length self.old }
         ensures { GivesGroup order count self.old result self.new }
@@ -88,6 +91,7 @@ impl Window {
         }
     }
 
+    #[inline(always)]
     fn take_high(&mut self, count: usize) -> u8
         requires { count ≤ length self.old }
         ensures { GivesGroup Order.Msb0 count self.old result self.new }
@@ -99,6 +103,7 @@ impl Window {
         high
     }
 
+    #[inline(always)]
     fn take_low(&mut self, count: usize) -> u8
         requires { count ≤ length self.old }
         ensures { GivesGroup Order.Lsb0 count self.old result self.new }
@@ -107,6 +112,65 @@ impl Window {
         self.bits = high;
         self.len -= count;
         low
+    }
+
+    /// Takes the next bits in this order, where those of these eight bytes come behind the unread ones, and answers their word. The rest of the last byte
+    /// that they need is then unread.
+    #[inline(always)]
+    pub fn take_across(&mut self, eight: &[u8; 8], count: usize, order: Order) -> u64
+        requires short { length self.old < 8 }
+        requires more { length self.old < count }
+        requires few { count ≤ 64 }
+        ensures { TakesWord order self.old (take (groups (count - length self.old)) eight.now) count result self.new }
+    {
+        match order {
+            Order::Msb0 => {
+                let number = self.across_high(u64::from_be_bytes(*eight), count);
+                word_of_high(number, count)
+            }
+            Order::Lsb0 => self.across_low(u64::from_le_bytes(*eight), count),
+        }
+    }
+
+    // The number of the next bits, where the high bits of 64 come behind the unread ones.
+    #[inline(always)]
+    fn across_high(&mut self, eight: u64, count: usize) -> u64
+        requires short { length self.old < 8 }
+        requires more { length self.old < count }
+        requires few { count ≤ 64 }
+        ensures below { result < 2 ^ count }
+        ensures cut { self.old ++ bits_of (8 * groups (count - length self.old)) (eight / 2 ^ (64 - 8 * groups (count - length self.old))) ≡ bits_of count result ++ self.new }
+    {
+        let behind = count - self.len;
+        let above = 64 - behind;
+        let spare = above % 8;
+        // With none unread there is nothing to shift, also by 64.
+        let held = (self.bits as u64) << (behind % 64);
+        let rest = (eight >> (above - spare)) % (1 << spare);
+        self.bits = rest as u8;
+        self.len = spare;
+        held + (eight >> above)
+    }
+
+    // The number of the next bits, where the low bits of 64 come before the unread ones.
+    #[inline(always)]
+    fn across_low(&mut self, eight: u64, count: usize) -> u64
+        requires short { length self.old < 8 }
+        requires more { length self.old < count }
+        requires few { count ≤ 64 }
+        ensures below { result < 2 ^ count }
+        ensures cut { bits_of (8 * groups (count - length self.old)) eight ++ self.old ≡ self.new ++ bits_of count result }
+    {
+        let behind = count - self.len;
+        let above = 64 - behind;
+        let spare = above % 8;
+        let low = (eight << above) >> above;
+        let number = (low << self.len) + self.bits as u64;
+        // Of 64 bits none is left, also by a shift that does nothing.
+        let rest = (eight >> (behind % 64)) % (1 << spare);
+        self.bits = rest as u8;
+        self.len = spare;
+        number
     }
 
     /// Takes the next bit in this order.
@@ -137,13 +201,68 @@ impl Window {
         high
     }
 
+    // What is unread then is of this byte alone, so that no byte of a run waits for the one before it.
     fn exchange_low(&mut self, byte: u8) -> u8
         ensures bits { byte_bits byte ++ self.old ≡ self.new ++ byte_bits result }
         ensures len { length self.new ≡ length self.old }
     {
-        let (high, low) = split(joined(byte, self.bits, self.len), 8);
+        let (high, low) = split(byte as u16, 8 - self.len);
+        let whole = joined(low, self.bits, self.len);
         self.bits = high;
-        low
+        whole as u8
+    }
+
+    /// Takes the next 64 bits in this order, where those of these eight bytes come behind the unread ones: as eight bytes. As many are then unread.
+    #[inline(always)]
+    pub fn exchange_eight(&mut self, eight: &[u8; 8], order: Order) -> [u8; 8]
+        ensures bits { facing order self.old ++ flow order eight.now ≡ flow order result ++ facing order self.new }
+        ensures bytes { All (λ b. b < 256) result }
+        ensures len { length self.new ≡ length self.old }
+    {
+        // One number for both orders, so that its bytes stay together in a register.
+        let word = self.word_through(eight, order);
+        word.to_le_bytes()
+    }
+
+    // The next 64 bits in this order, where those of these eight bytes come behind the unread ones: as a number, the first byte the lowest.
+    #[inline(always)]
+    fn word_through(&mut self, eight: &[u8; 8], order: Order) -> u64
+        ensures bits { facing order self.old ++ flow order eight.now ≡ flow order (to_le_bytes w64 result) ++ facing order self.new }
+        ensures len { length self.new ≡ length self.old }
+    {
+        match order {
+            Order::Msb0 => {
+                let number = self.through_high(u64::from_be_bytes(*eight));
+                number.swap_bytes()
+            }
+            Order::Lsb0 => self.through_low(u64::from_le_bytes(*eight)),
+        }
+    }
+
+    // The number of the next 64 bits, where those of this number come behind the unread ones.
+    #[inline(always)]
+    fn through_high(&mut self, eight: u64) -> u64
+        ensures bits { self.old ++ bits_of 64 eight ≡ bits_of 64 result ++ self.new }
+        ensures len { length self.new ≡ length self.old }
+    {
+        // With none unread there is nothing to shift, also by 64.
+        let held = (self.bits as u64) << ((64 - self.len) % 64);
+        let rest = eight % (1 << self.len);
+        self.bits = rest as u8;
+        held + (eight >> self.len)
+    }
+
+    // The number of the next 64 bits, where those of this number come before the unread ones.
+    #[inline(always)]
+    fn through_low(&mut self, eight: u64) -> u64
+        ensures bits { bits_of 64 eight ++ self.old ≡ self.new ++ bits_of 64 result }
+        ensures len { length self.new ≡ length self.old }
+    {
+        let number = (eight << self.len) + self.bits as u64;
+        // With none unread none is left, also by a shift that does nothing.
+        let rest = (eight >> ((64 - self.len) % 64)) % (1 << self.len);
+        self.bits = rest as u8;
+        number
     }
 }
 
@@ -159,7 +278,26 @@ fn joined(high: u8, low: u8, count: usize) -> u16
     above + low as u16
 }
 
+// The word of so many bits, the first the highest, from their number: whole bytes are turned, and the bits behind them follow.
+#[inline(always)]
+fn word_of_high(number: u64, count: usize) -> u64
+    requires few { count ≤ 64 }
+    requires below { number < 2 ^ count }
+    ensures { result ≡ word_of Order.Msb0 (bits_of count number) }
+{
+    if count < 8 {
+        return number;
+    }
+    let behind = count % 8;
+    let whole = count - behind;
+    let turned = (number >> behind).swap_bytes() >> (64 - whole);
+    // Behind 64 bits there is nothing to shift.
+    let last = (number % (1 << behind)) << (whole % 64);
+    turned + last
+}
+
 // The numbers of the bits before the last `count` ones, and of these.
+#[inline(always)]
 fn split(bits: u16, count: usize) -> (u8, u8)
     requires few { count ≤ 8 }
     requires below { bits < 2 ^ 8 * 2 ^ count }

@@ -1,0 +1,12 @@
+use Rattle.std.proofs.Common.{rules}
+use Rattle.deku_stream.proofs.Across.{word_high, word_high_short}
+use Rattle.deku_stream.proofs.window.word_of_high.Goals as goal
+
+pub returns-then-count-lt8 : goal.returns-then-count-lt8
+returns-then-count-lt8 c = word_high_short c.args.count c.args.number c.if-count-lt8.true c.requires.below
+
+pub overflow_add-result : goal.overflow_add-result
+overflow_add-result c = record { fits = (word_high c.args.count c.args.number c.swap_bytes.result c.requires.few c.requires.below (search rules) c.swap_bytes.ensures).1 }
+
+pub returns : goal.returns
+returns c = (word_high c.args.count c.args.number c.swap_bytes.result c.requires.few c.requires.below (search rules) c.swap_bytes.ensures).0
