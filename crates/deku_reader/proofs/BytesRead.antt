@@ -1,20 +1,21 @@
 -- Bytes that are read as bits.
-use Rattle.std.proofs.Common.{◌≡◌, ◌≢◌, ◌⊎◌, ℕ, ◌+◌, ◌*◌, ◌^◌, ◌<◌, ◌≤◌, Bool, false, List, [], ◌∷◌, ◌++◌, length, Option, Ok, Err, All, arith, sym, ap, ◌∙◌, subst, append-nil}
+use Rattle.std.proofs.Common.{◌≡◌, ◌≢◌, ◌⊎◌, ℕ, ◌+◌, ◌*◌, ◌^◌, ◌<◌, ◌≤◌, Bool, false, List, [], ◌∷◌, ◌++◌, length, Option, Result, Ok, Err, All, arith, sym, ap, ◌∙◌, subst, append-nil}
 use Rattle.std.specs.declared.io.ErrorKind.{ErrorKind}
 use Rattle.std.specs.declared.io.ErrorKind.TheVariants.{UnexpectedEof}
 use Rattle.deku_stream.specs.declared.ctx.Order.{Order}
+use Rattle.deku_stream.specs.declared.error.DekuError.{DekuError}
 use Rattle.deku_stream.specs.declared.error.Fault.{Fault}
 use Rattle.deku_stream.specs.declared.error.Fault.TheVariants as fault
 use Rattle.deku_stream.specs.Bits.{byte_bits, bytes_of, facing, shown}
-use Rattle.deku_stream.specs.Streams.{flow}
+use Rattle.deku_stream.specs.Streams.{Stream, flow}
 use Rattle.deku_device.specs.Devices.{Health, NoFewerFailures, MoreFailures}
-use Rattle.deku_stream.specs.Standings.{Going, Stopped, stream_of}
-use Rattle.deku_stream.specs.Outcomes.{Outcome, Quiet}
+use Rattle.deku_stream.specs.Standings.{Standing, Going, Stopped, stream_of}
+use Rattle.deku_stream.specs.Outcomes.{Outcome, Quiet, Broken, Value, Refusal}
 use Rattle.deku_stream.specs.Faults.{error_of}
 use Rattle.deku_stream.specs.Moving.{Moves, FewerBits}
-use Rattle.deku_reader.specs.ReaderCalls.{Takes, ReadsBytes}
+use Rattle.deku_reader.specs.ReaderCalls.{Transfers, Takes, ReadsBytes, ReadsByteVec}
 use Rattle.deku_stream.proofs.Cuts.{length-flow, flow-append}
-use Rattle.deku_stream.proofs.Handing.{mapped_ok, mapped_err}
+use Rattle.deku_stream.proofs.Handing.{mapped_ok, mapped_err, mapped_memory_found}
 use Rattle.deku_reader.proofs.Moving.{takes_ok, takes_err, moves_more}
 use Rattle.deku_stream.proofs.Bytes.{IsByte, shown-flow, bytes_of-bits_in}
 
@@ -46,3 +47,11 @@ pub bytes_err : (o : Order) (w : List Bool) (t : Option (List ℕ)) (c n : ℕ) 
     → Outcome (ReadsBytes o n) (Going (stream_of w t) c) f (Err (error_of stop)) (Stopped (error_of stop) c) g
 bytes_err o w t c n f g kind stop cause room ended failed kept =
     mapped_err bytes_of (mapped_err (shown o) (takes_err o w t c (8 * n) f g kind stop cause room ended failed kept))
+
+-- memory was found first
+pub bytes_found : (o : Order) (n : ℕ) {s : Standing (Option Stream)} {f : Health} {r : Result (List ℕ) DekuError} {u : Standing (Option Stream)} {g : Health}
+    → Outcome (ReadsBytes o n) s f r u g → Outcome (ReadsByteVec o n) s f r u g
+bytes_found o n (Quiet (Value v p e) q) = Quiet (Value v (mapped_memory_found (shown o) (Transfers o (8 * n)) (8 * n) _ _ _ _ p) e) q
+bytes_found o n (Quiet (Refusal x p e) q) = Quiet (Refusal x (mapped_memory_found (shown o) (Transfers o (8 * n)) (8 * n) _ _ _ _ p) e) q
+bytes_found o n (Broken a (Value v p e) q) = Broken a (Value v (mapped_memory_found (shown o) (Transfers o (8 * n)) (8 * n) _ _ _ _ p) e) q
+bytes_found o n (Broken a (Refusal x p e) q) = Broken a (Refusal x (mapped_memory_found (shown o) (Transfers o (8 * n)) (8 * n) _ _ _ _ p) e) q

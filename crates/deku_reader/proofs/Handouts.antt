@@ -1,13 +1,16 @@
 -- Bits that are handed out of a window and of bytes behind it, one group after the other.
-use Rattle.std.proofs.Common.{◌≡◌, ℕ, ◌+◌, ◌*◌, ◌-◌, ◌<◌, ◌≤◌, min, Bool, List, [], ◌∷◌, ◌++◌, length, take, drop, set, get_or, arith, sym, ap, ap₂, ◌∙◌, ⊎_elim, append-nil, append_assoc, length-append}
+use Rattle.std.proofs.Common.{◌≡◌, ℕ, ◌+◌, ◌*◌, ◌-◌, ◌<◌, ◌≤◌, min, Bool, List, [], ◌∷◌, ◌++◌, length, take, drop, set, get_or, All, arith, sym, ap, ap₂, ◌∙◌, ⊎_elim, append-nil, append_assoc, length-append}
 use Rattle.std.proofs.lemmas.Bool.{cases_lt}
 use Rattle.std.proofs.lemmas.List.{take_all, take_at, take_more, take_more_set, drop_all, drop-drop, drop-set-lt, get_or-drop, length-drop, length-take, nil_from_length}
-use Rattle.std.proofs.lemmas.Slice.{take-put_mid}
+use Rattle.std.proofs.lemmas.List.Elements.{All-append}
+use Rattle.std.proofs.lemmas.Slice.{take-put_mid, drop-put_mid}
+use Rattle.std.proofs.Math.Seq.{take-add}
 use borrow.Rule.Slice.PartMut.{mid_of, put_mid}
 use Rattle.deku_stream.specs.declared.ctx.Order.{Order}
 use Rattle.deku_stream.specs.Bits.{byte_bits, facing, groups}
 use Rattle.deku_stream.specs.Streams.{flow}
 use Rattle.deku_stream.proofs.Binary.{length-facing}
+use Rattle.deku_stream.proofs.Bytes.{IsByte}
 use Rattle.deku_stream.proofs.Cuts.{length-flow, flow-append}
 use Rattle.deku_stream.proofs.Reading.{facing_nil}
 
@@ -59,6 +62,43 @@ pub empty_through : (o : Order) (w : List Bool) (bs : List ℕ) → length w ≡
 empty_through o w bs z =
     let none : facing o w ≡ [] = ap (facing o) (nil_from_length w z) ∙ facing_nil o in
     ap (λ s. s ++ flow o bs) none ∙ sym (append-nil (flow o bs)) ∙ ap (λ s. flow o bs ++ s) (sym none)
+
+-- ---- parts that go through a window
+-- one part and the next
+pub parts_through : (o : Order) (w u v : List Bool) (x y p q : List ℕ) → facing o w ++ flow o x ≡ flow o p ++ facing o u → facing o u ++ flow o y ≡ flow o q ++ facing o v
+    → facing o w ++ flow o (x ++ y) ≡ flow o (p ++ q) ++ facing o v
+parts_through o w u v x y p q e f =
+    ap (λ s. facing o w ++ s) (flow-append o x y)
+    ∙ sym (append_assoc (facing o w) (flow o x) (flow o y))
+    ∙ ap (λ s. s ++ flow o y) e
+    ∙ append_assoc (flow o p) (facing o u) (flow o y)
+    ∙ ap (λ s. flow o p ++ s) f
+    ∙ sym (append_assoc (flow o p) (flow o q) (facing o v))
+    ∙ ap (λ s. s ++ facing o v) (sym (flow-append o p q))
+
+-- one part more of a list that is written in place
+pub part_more : (o : Order) (w u v : List Bool) (old dst ys : List ℕ) (a k n : ℕ) → n ≡ a + k → a + k ≤ length dst → length ys ≡ k → drop a dst ≡ drop a old
+    → facing o w ++ flow o (take a old) ≡ flow o (take a dst) ++ facing o u → facing o u ++ flow o (mid_of a k dst) ≡ flow o ys ++ facing o v
+    → facing o w ++ flow o (take n old) ≡ flow o (take n (put_mid a k dst ys)) ++ facing o v
+part_more o w u v old dst ys a k n m h l same e f =
+    let before : take n old ≡ take a old ++ mid_of a k dst = ap (λ i. take i old) m ∙ take-add a k old ∙ ap (λ s. take a old ++ take k s) (sym same) in
+    let after : take n (put_mid a k dst ys) ≡ take a dst ++ ys = take-put_mid a k dst ys n (omega arith) (omega arith) in
+    ap (λ s. facing o w ++ flow o s) before
+    ∙ parts_through o w u v (take a old) (mid_of a k dst) (take a dst) ys e f
+    ∙ ap (λ s. flow o s ++ facing o v) (sym after)
+
+-- what is behind that part stays
+pub part_behind : (old dst ys : List ℕ) (a k n : ℕ) → n ≡ a + k → a + k ≤ length dst → length ys ≡ k → drop a dst ≡ drop a old → drop n (put_mid a k dst ys) ≡ drop n old
+part_behind old dst ys a k n m h l same =
+    let all : a + k ≡ n = sym m in
+    drop-put_mid a k dst ys n (omega arith) (omega arith) l
+    ∙ sym (drop-drop k a dst ∙ ap (λ i. drop i dst) all)
+    ∙ ap (drop k) same ∙ drop-drop k a old ∙ ap (λ i. drop i old) all
+
+-- all that is written is bytes
+pub part_bytes : (dst ys : List ℕ) (a k n : ℕ) → n ≡ a + k → a + k ≤ length dst → length ys ≡ k → All IsByte (take a dst) → All IsByte ys → All IsByte (take n (put_mid a k dst ys))
+part_bytes dst ys a k n m h l first more =
+    rw (take-put_mid a k dst ys n (omega arith) (omega arith)) (All-append IsByte (take a dst) ys first more)
 
 -- ---- bits of bytes
 -- a part of a list that is written, up to so many elements or to the list's end

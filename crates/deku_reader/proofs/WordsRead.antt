@@ -1,7 +1,7 @@
 -- Words that are read: groups of eight as bytes, from a window and the bytes behind it.
 use Rattle.std.proofs.Common.{◌≡◌, ℕ, ◌+◌, ◌*◌, ◌-◌, ◌/◌, ◌%◌, ◌^◌, ◌<◌, ◌≤◌, Bool, false, List, [], ◌∷◌, ◌++◌, length, map, take, drop, set, get_or, replicate, All, Option, Ok, arith, refl, sym, ap, ap₂, ◌∙◌, subst, append-nil, append_assoc, length-append, take-add, mod-eq_of_lt}
 use Rattle.std.proofs.lemmas.Nat.{mul-add-lt, pow-add}
-use Rattle.std.proofs.lemmas.List.{take_at, drop_at, take-take, drop-drop, drop-replicate, drop_all, drop_more, get_or_at, set_at, length-map, length-replicate, nil_from_length}
+use Rattle.std.proofs.lemmas.List.{take_at, drop_at, take-take, length-take-le, drop-drop, drop-replicate, drop_all, drop_more, get_or_at, set_at, length-map, length-replicate, nil_from_length}
 use Rattle.std.specs.Int.{w128, from_le_bytes}
 use Rattle.deku_stream.specs.declared.ctx.Order.{Order}
 use Rattle.deku_stream.specs.declared.ctx.Order.TheVariants.{Msb0, Lsb0}
@@ -11,14 +11,15 @@ use Rattle.deku_device.specs.Devices.{Health, NoFewerFailures, Loses}
 use Rattle.deku_stream.specs.Standings.{Going, stream_of}
 use Rattle.deku_stream.specs.Outcomes.{Outcome, Quiet}
 use Rattle.deku_reader.specs.ReaderCalls.{Takes, ReadsWord}
-use Rattle.deku_stream.specs.Moving.{Moves, GivesGroup, TakesGroups, MovesWord}
+use Rattle.deku_stream.specs.Moving.{Moves, GivesGroup, TakesGroups, TakesWord, MovesWord}
 use Rattle.deku_stream.proofs.Binary.{length-facing, facing-facing, group_number-lt}
 use Rattle.deku_stream.proofs.Packed.{pow_byte}
 use Rattle.deku_stream.proofs.Cuts.{length-flow, flow-append}
 use Rattle.deku_stream.proofs.Groups.{length-chunks}
 use Rattle.deku_stream.proofs.Packing.{join_law}
 use Rattle.deku_stream.proofs.Handing.{mapped_ok}
-use Rattle.deku_reader.proofs.Moving.{moves_keep, moves_inside, moved_loses, takes_ok}
+use Rattle.std.specs.Io.KnownBytes.{Consumes}
+use Rattle.deku_reader.proofs.Moving.{fetched as fetched_behind, moves_keep, moves_inside, moved_loses, takes_ok}
 use Rattle.deku_stream.proofs.Bytes.{IsByte}
 use Rattle.deku_stream.proofs.Words.{byte_groups, one_group, word_of-short, little-filled, little_sixteen}
 
@@ -155,6 +156,25 @@ word_gathered o w u v t x n k m fetched numbers wide l short more e f long moved
         long = g.long;
         moved = moves_keep o w t (facing o u ++ flow o fetched) (g.bits) v x moved cut;
         worth = ap (λ s. from_le_bytes w128 (numbers ++ s)) rest ∙ little_sixteen (numbers ++ replicate (16 - m) 0) full ∙ little-filled numbers (16 - m) ∙ ap little (sym (g.worth));
+      },
+      few,
+    )
+
+-- of bits that begin in the window and end in eight bytes that were at hand
+pub word_at_hand : (o : Order) (w v : List Bool) (t x : Option (List ℕ)) (n k number : ℕ) (eight : List ℕ) → n ≤ 64 → length w < 8 → length w < n → k ≡ groups (n - length w) → length eight ≡ 8
+    → Consumes t x (take k eight) → TakesWord o w (take (groups (n - length w)) eight) n number v → MovesWord o w t n number v x × (length v < 8)
+word_at_hand o w v t x n k number eight wide short more e size consumed g =
+    let bytes : List ℕ = take k eight in
+    let long : length bytes ≡ k = length-take-le k eight (omega arith) in
+    let cut : facing o w ++ flow o bytes ≡ g.bits ++ facing o v = ap (λ j. facing o w ++ flow o (take j eight)) e ∙ g.cut in
+    let sum : length (facing o w ++ flow o bytes) ≡ length (g.bits ++ facing o v) = ap length cut in
+    let few : length v < 8 =
+    omega (arith, sum, long, e, g.long, length-append (facing o w) (flow o bytes), length-facing o w, length-flow o bytes, length-append (g.bits) (facing o v), length-facing o v) in (
+      record {
+        bits = g.bits;
+        long = g.long;
+        moved = moves_keep o w t (facing o w ++ flow o bytes) (g.bits) v x (fetched_behind o w t bytes x consumed) cut;
+        worth = g.worth;
       },
       few,
     )

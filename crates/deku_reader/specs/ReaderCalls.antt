@@ -47,6 +47,10 @@ ReadsVec o n = Mapped (shown o) (UnlessStopped (Counted n (Reserving (Transfers 
 abbrev pub ReadsBytes : Order → ℕ → Meaning (Option Stream) (List ℕ)
 ReadsBytes o n = Mapped bytes_of (ReadsBits o (8 * n))
 
+-- n bytes are read, in memory that is found first
+abbrev pub ReadsByteVec : Order → ℕ → Meaning (Option Stream) (List ℕ)
+ReadsByteVec o n = Mapped bytes_of (ReadsVec o (8 * n))
+
 -- n bits are taken in an order, as their word
 abbrev pub ReadsWord : Order → ℕ → Meaning (Option Stream) ℕ
 ReadsWord o n = Mapped (word_of o) (Takes o n)
@@ -110,6 +114,11 @@ HasFetched bytes k coming s = Loses k (Some bytes) coming × (8 * k ≡ count_of
 abbrev pub items_of : Result (Vec Bool) DekuError → Result (List Bool) DekuError
 items_of (Ok v) = Ok v.items
 items_of (Err e) = Err e
+
+-- the bytes that were read, where the call succeeds
+abbrev pub bytes_in_vec : Result (Vec ℕ) DekuError → Result (List ℕ) DekuError
+bytes_in_vec (Ok v) = Ok v.items
+bytes_in_vec (Err e) = Err e
 
 -- the leftover that shows a window: none, one whole byte, or fewer than eight bits
 abbrev pub IsLeftover : List Bool → Option Leftover → Type 0

@@ -4,7 +4,7 @@ ghost use Rattle.std.specs.Prelude.{◌≡◌, ◌+◌, ◌*◌, ◌≤◌, ◌<
 ghost use Rattle.std.specs.Borrow.{Lends, sem};
 ghost use Rattle.deku_stream.specs.Kept.{Admits};
 ghost use Rattle.deku_stream.specs.Standings.{Going, Untouched, count_of};
-ghost use Rattle.deku_reader.specs.ReaderCalls.{Reads, Takes, Ending, Skips, ReadsBits, ReadsVec, ReadsBytes, ReadsWord, FetchesFor, FetchesAhead, NoneEarly, NeedsNone, NamesRest, IsLeftover, filling, items_of, window_of};
+ghost use Rattle.deku_reader.specs.ReaderCalls.{Reads, Takes, Ending, Skips, ReadsBits, ReadsVec, ReadsBytes, ReadsByteVec, ReadsWord, FetchesFor, FetchesAhead, NoneEarly, NeedsNone, NamesRest, IsLeftover, filling, items_of, bytes_in_vec, window_of};
 ghost use Rattle.deku_reader.specs.contracts.reader.Reader.{the_row as reader-row};
 
 mod progress;
@@ -291,6 +291,7 @@ impl<R: Source> Reader<R> {
     /// ```text
     /// reader.read_word(12, Order::Msb0)?; // from AB CD: 0xCAB
     /// ```
+    #[inline(always)]
     pub fn read_word(&mut self, amt: usize, order: Order) -> Result<u128, DekuError>
         requires { amt ≤ 128 }
         ensures reads { Reads R.told (ReadsWord order amt) self.old result self.new }
@@ -315,6 +316,7 @@ impl<R: Source> Reader<R> {
     /// reader.read_bits(4, Order::Msb0)?;               // from AB CD EF: 1, 0, 1, 0
     /// reader.read_bytes(2, &mut bytes, Order::Lsb0)?;  // DB FC 00 00
     /// ```
+    #[inline(always)]
     pub fn read_bytes(
         &mut self,
         amt: usize,
@@ -333,6 +335,34 @@ impl<R: Source> Reader<R> {
         self.state
             .take_bytes(&mut self.source, &mut buf[..amt], order)?;
         Ok(ReaderRet::Bytes)
+    }
+
+    /// The next `amt` bytes, in a new vector, as `read_bytes` reads them.
+    ///
+    /// Its memory is found before a byte is taken. What is refused, and what is left then, is said at `Reader`: `Incomplete` is of the bits,
+    /// eight times `amt`.
+    ///
+    /// ```text
+    /// reader.read_bits(4, Order::Msb0)?;        // from AB CD EF: 1, 0, 1, 0
+    /// reader.read_bytes_vec(2, Order::Lsb0)?;   // DB FC
+    /// ```
+    pub fn read_bytes_vec(&mut self, amt: usize, order: Order) -> Result<Vec<u8>, DekuError>
+        ensures reads { Reads R.told (ReadsByteVec order amt) self.old (bytes_in_vec result) self.new }
+        ensures fetched { OnOk result (FetchesFor (8 * amt) self.old.state (R.told self.old.source) (R.told self.new.source)) }
+        ensures early { NoneEarly self.old.state self.new.state }
+        ensures still { NeedsNone (8 * amt) self.old.state → self.new.source ≡ self.old.source }
+        ensures stopped { Untouched self.old.state self.old.source self.new.source }
+        ensures alloc { self.new.alloc ≡ self.old.alloc }
+    {
+        self.admits_bytes(amt)?;
+        match Vec::with_capacity(self.alloc, amt) {
+            Ok(mut bytes) => {
+                self.state
+                    .take_bytes_onto(&mut self.source, &mut bytes, amt, order)?;
+                Ok(bytes)
+            }
+            Err(_) => Err(DekuError::Io(ErrorKind::OutOfMemory)),
+        }
     }
 
     /// Fills the buffer with bytes, as `read_bytes` reads as many as it is long.

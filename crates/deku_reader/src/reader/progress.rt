@@ -5,6 +5,7 @@
 ghost use Rattle.std.specs.Prelude.{◌≡◌, ◌≢◌, ℕ, ◌*◌, ◌^◌, ◌<◌, ◌≤◌, ◌⊎◌, ◌-◌, false, Ok, [], ◌∷◌, length, drop, IfOk, OnOk, IfErr};
 ghost use Rattle.std.specs.Io.KnownBytes.{Consumes};
 ghost use Rattle.std.specs.IoError.{error_kind};
+ghost use Rattle.std.specs.Vec.{vec_len, vec_capacity};
 ghost use Rattle.deku_stream.specs.declared.ctx.Order.{Order as BitOrder};
 ghost use Rattle.deku_device.specs.Devices.{NoFewerFailures, MoreFailures, FewerThan, StaysEmpty};
 ghost use Rattle.deku_stream.specs.Kept.{Admits};
@@ -20,7 +21,7 @@ mod skips;
 mod words;
 
 use crate::reader::progress::bits::bits_into;
-use crate::reader::progress::bytes::bytes_into;
+use crate::reader::progress::bytes::{bytes_into, bytes_onto};
 use crate::reader::progress::skips::{drop_bits, pass_bytes, pop_bits};
 use crate::reader::progress::words::word_from;
 use deku_device::device::Source;
@@ -110,6 +111,7 @@ impl Progress {
     }
 
     /// Refuses what a reader refuses before it moves anything: by its kept fault, or since the count has no room.
+    #[inline(always)]
     pub fn admits(&self, amt: usize) -> Result<(), DekuError>
         ensures { Admits amt self.now result }
     {
@@ -123,6 +125,7 @@ impl Progress {
     }
 
     /// Refuses what a read of so many bytes refuses before it moves anything.
+    #[inline(always)]
     pub fn admits_bytes(&self, amt: usize) -> Result<(), DekuError>
         ensures answer { Admits (8 * amt) self.now result }
         ensures fits { OnOk result (8 * amt < 2 ^ 64) }
@@ -162,6 +165,7 @@ impl Progress {
     }
 
     /// Takes at most 128 bits in this order, as their word, and stops where that fails.
+    #[inline(always)]
     pub fn take_word<R: Source>(
         &mut self,
         source: &mut R,
@@ -181,8 +185,8 @@ impl Progress {
                 self.bits_read += amt;
                 Ok(word)
             }
-            Err(error) => {
-                let fault = fault_of(&error, amt);
+            Err(kind) => {
+                let fault = fault_of_kind(kind, amt);
                 *self = Progress::stopped(fault, self.bits_read);
                 Err(fault.error())
             }
@@ -190,6 +194,7 @@ impl Progress {
     }
 
     /// Takes bytes in this order, one after the other, and stops where that fails.
+    #[inline(always)]
     pub fn take_bytes<R: Source>(
         &mut self,
         source: &mut R,
@@ -209,8 +214,39 @@ impl Progress {
                 self.bits_read += bits;
                 Ok(())
             }
-            Err(error) => {
-                let fault = fault_of(&error, bits);
+            Err(kind) => {
+                let fault = fault_of_kind(kind, bits);
+                *self = Progress::stopped(fault, self.bits_read);
+                Err(fault.error())
+            }
+        }
+    }
+
+    /// Puts so many bytes in this order into an empty vector that has room for them, and stops where that fails.
+    #[inline(always)]
+    pub fn take_bytes_onto<R: Source>(
+        &mut self,
+        source: &mut R,
+        bytes: &mut Vec<u8>,
+        amt: usize,
+        order: Order,
+    ) -> Result<(), DekuError>
+        requires empty { vec_len bytes.old ≡ 0 }
+        requires room { amt ≤ vec_capacity bytes.old }
+        ensures reads { ReadsAt (ReadsBytes order amt) (R.told source.old) self.old (filling result bytes.new.items) (R.told source.new) self.new }
+        ensures fetched { OnOk result (FetchesFor (8 * amt) self.old (R.told source.old) (R.told source.new)) }
+        ensures early { NoneEarly self.old self.new }
+        ensures still { NeedsNone (8 * amt) self.old → source.new ≡ source.old }
+        ensures stopped { Untouched self.old source.old source.new }
+    {
+        self.admits_bytes(amt)?;
+        match bytes_onto(source, &mut self.window, bytes, amt, order) {
+            Ok(()) => {
+                self.bits_read += 8 * amt;
+                Ok(())
+            }
+            Err(kind) => {
+                let fault = fault_of_kind(kind, 8 * amt);
                 *self = Progress::stopped(fault, self.bits_read);
                 Err(fault.error())
             }
@@ -300,7 +336,14 @@ fn fault_of(error: &io::Error, bits: usize) -> Fault
     ensures { ((error_kind error.now ≡ ErrorKind.UnexpectedEof) × (result ≡ Fault.Incomplete (record { bits = bits })))
         ⊎ ((error_kind error.now ≢ ErrorKind.UnexpectedEof) × (result ≡ Fault.Io (error_kind error.now))) }
 {
-    let kind = error.kind();
+    fault_of_kind(error.kind(), bits)
+}
+
+// The same, from the kind of the fault.
+fn fault_of_kind(kind: ErrorKind, bits: usize) -> Fault
+    ensures { ((kind ≡ ErrorKind.UnexpectedEof) × (result ≡ Fault.Incomplete (record { bits = bits })))
+        ⊎ ((kind ≢ ErrorKind.UnexpectedEof) × (result ≡ Fault.Io kind)) }
+{
     if kind == ErrorKind::UnexpectedEof {
         Fault::Incomplete(NeedSize::new(bits))
     } else {

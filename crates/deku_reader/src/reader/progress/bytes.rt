@@ -1,7 +1,7 @@
 //! Bytes, fetched into the caller's buffer and turned in place.
 
-ghost use Rattle.std.specs.Prelude.{◌≡◌, ◌≢◌, ◌*◌, ◌<◌, ◌≤◌, ◌++◌, length, All, OnOk, IfErr};
-ghost use Rattle.std.specs.IoError.{error_kind};
+ghost use Rattle.std.specs.Prelude.{◌≡◌, ◌≢◌, ◌*◌, ◌%◌, ◌<◌, ◌≤◌, ◌++◌, length, All, OnOk, IfErr};
+ghost use Rattle.std.specs.Vec.{vec_len, vec_capacity};
 ghost use Rattle.deku_stream.specs.Bits.{facing};
 ghost use Rattle.deku_device.specs.Devices.{NoFewerFailures, MoreFailures};
 ghost use Rattle.deku_stream.specs.Moving.{Moves, FewerBits};
@@ -11,32 +11,77 @@ use super::fetching::fetch_behind;
 use deku_device::device::Source;
 use deku_stream::ctx::Order;
 use deku_stream::window::Window;
-use std::io;
 use std::io::ErrorKind;
 
-/// Fills the buffer with the next bytes in this order. They are fetched into it at once, and turned there where bits of a byte are unread.
+/// Fills the buffer with the next bytes in this order, or answers the kind of the fault. They are fetched into it at once, and turned there where
+/// bits of a byte are unread.
+#[inline(always)]
 pub fn bytes_into<R: Source>(
     source: &mut R,
     window: &mut Window,
     dst: &mut [u8],
     order: Order,
-) -> io::Result<()>
+) -> Result<(), ErrorKind>
     requires { length window.old ≤ 8 }
     ensures short { OnOk result (0 < length dst.new → length window.new < 8) }
     ensures none { OnOk result (length dst.new ≡ 0 → (window.new ≡ window.old) × ((R.told source.new).coming ≡ (R.told source.old).coming)) }
     ensures moved { OnOk result (Moves order window.old (R.told source.old).coming (flow order dst.new) window.new (R.told source.new).coming) }
     ensures bytes { OnOk result (All (λ b. b < 256) dst.new) }
-    ensures ended { IfErr result (λ e. error_kind e ≡ ErrorKind.UnexpectedEof → FewerBits (8 * length dst.old) window.old (R.told source.old).coming) }
-    ensures failed { IfErr result (λ e. error_kind e ≢ ErrorKind.UnexpectedEof → MoreFailures (R.told source.old).health (R.told source.new).health) }
+    ensures ended { IfErr result (λ e. e ≡ ErrorKind.UnexpectedEof → FewerBits (8 * length dst.old) window.old (R.told source.old).coming) }
+    ensures failed { IfErr result (λ e. e ≢ ErrorKind.UnexpectedEof → MoreFailures (R.told source.old).health (R.told source.new).health) }
     ensures inside { 8 * length dst.old ≤ length window.old → source.new ≡ source.old }
     ensures kept { NoFewerFailures (R.told source.old).health (R.told source.new).health }
 {
     if dst.is_empty() {
         return Ok(());
     }
-    fetch_behind(source, window, dst)?;
-    exchange_all(window, dst, order);
-    Ok(())
+    match fetch_behind(source, window, dst) {
+        Ok(()) => {
+            exchange_all(window, dst, order);
+            Ok(())
+        }
+        Err(error) => Err(error.kind()),
+    }
+}
+
+/// Puts the next bytes in this order, so many, into an empty vector that has room for them, or answers the kind of the fault.
+#[inline(always)]
+pub fn bytes_onto<R: Source>(
+    source: &mut R,
+    window: &mut Window,
+    bytes: &mut Vec<u8>,
+    amt: usize,
+    order: Order,
+) -> Result<(), ErrorKind>
+    requires bound { length window.old ≤ 8 }
+    requires empty { vec_len bytes.old ≡ 0 }
+    requires room { amt ≤ vec_capacity bytes.old }
+    ensures count { OnOk result (length bytes.new.items ≡ amt) }
+    ensures short { OnOk result (0 < amt → length window.new < 8) }
+    ensures none { OnOk result (amt ≡ 0 → (window.new ≡ window.old) × ((R.told source.new).coming ≡ (R.told source.old).coming)) }
+    ensures moved { OnOk result (Moves order window.old (R.told source.old).coming (flow order bytes.new.items) window.new (R.told source.new).coming) }
+    ensures bytes { OnOk result (All (λ b. b < 256) bytes.new.items) }
+    ensures ended { IfErr result (λ e. e ≡ ErrorKind.UnexpectedEof → FewerBits (8 * amt) window.old (R.told source.old).coming) }
+    ensures failed { IfErr result (λ e. e ≢ ErrorKind.UnexpectedEof → MoreFailures (R.told source.old).health (R.told source.new).health) }
+    ensures inside { 8 * amt ≤ length window.old → source.new ≡ source.old }
+    ensures kept { NoFewerFailures (R.told source.old).health (R.told source.new).health }
+{
+    if amt == 0 {
+        return Ok(());
+    }
+    if window.len() == 8 {
+        return match bytes.resize(amt, 0) {
+            Ok(()) => bytes_into(source, window, bytes.as_mut_slice(), order),
+            Err(_) => unreachable!(),
+        };
+    }
+    match source.fetch_onto(bytes, amt) {
+        Ok(()) => {
+            exchange_all(window, bytes.as_mut_slice(), order);
+            Ok(())
+        }
+        Err(error) => Err(error.kind()),
+    }
 }
 
 /// Turns bytes that stand behind the window into those that begin with its bits. As many bits are then unread.
@@ -50,8 +95,47 @@ pub fn exchange_all(window: &mut Window, dst: &mut [u8], order: Order)
     }
     // Beside the bytes, so that it stays in registers.
     let mut passing = window.copy();
+    let (eights, last) = dst.split_at_mut(dst.len() / 8 * 8);
+    exchange_eights(&mut passing, eights, order);
+    exchange_each(&mut passing, last, order);
+    *window = passing;
+}
+
+// Turns bytes as `exchange_all` does, eight at a time.
+#[inline(always)]
+fn exchange_eights(passing: &mut Window, dst: &mut [u8], order: Order)
+    requires { length dst.old % 8 ≡ 0 }
+    ensures bits { facing order passing.old ++ flow order dst.old ≡ flow order dst.new ++ facing order passing.new }
+    ensures bytes { All (λ b. b < 256) dst.new }
+    ensures len { length passing.new ≡ length passing.old }
+{
+    for i in 0..dst.len() / 8 {
+        let begin = 8 * i;
+        exchange_eight(passing, &mut dst[begin..begin + 8], order);
+    }
+}
+
+// Turns eight bytes as `exchange_all` does.
+#[inline(always)]
+fn exchange_eight(passing: &mut Window, dst: &mut [u8], order: Order)
+    requires { length dst.old ≡ 8 }
+    ensures bits { facing order passing.old ++ flow order dst.old ≡ flow order dst.new ++ facing order passing.new }
+    ensures bytes { All (λ b. b < 256) dst.new }
+    ensures len { length passing.new ≡ length passing.old }
+{
+    let mut eight = [0; 8];
+    eight.copy_from_slice(dst);
+    dst.copy_from_slice(&passing.exchange_eight(&eight, order));
+}
+
+// Turns bytes as `exchange_all` does, one by one.
+#[inline(always)]
+fn exchange_each(passing: &mut Window, dst: &mut [u8], order: Order)
+    ensures bits { facing order passing.old ++ flow order dst.old ≡ flow order dst.new ++ facing order passing.new }
+    ensures bytes { All (λ b. b < 256) dst.new }
+    ensures len { length passing.new ≡ length passing.old }
+{
     for byte in dst.iter_mut() {
         *byte = passing.exchange(*byte, order);
     }
-    *window = passing;
 }

@@ -15,6 +15,7 @@ use std::io;
 use std::io::ErrorKind;
 
 /// Fills the buffer with the next bytes. For none the source is not called.
+#[inline(always)]
 pub fn fetch_bytes<R: Source>(source: &mut R, dst: &mut [u8]) -> io::Result<()>
     ensures bytes { OnOk result (Consumes (R.told source.old).coming (R.told source.new).coming dst.new) }
     ensures none { length dst.old ≡ 0 → source.new ≡ source.old }
@@ -30,6 +31,7 @@ pub fn fetch_bytes<R: Source>(source: &mut R, dst: &mut [u8]) -> io::Result<()>
 }
 
 /// Fills the buffer with the bytes that stand behind fewer than eight unread bits: a window of eight is put back, as the first of them.
+#[inline(always)]
 pub fn fetch_behind<R: Source>(
     source: &mut R,
     window: &mut Window,

@@ -1,7 +1,6 @@
 //! Words: at most 128 bits, each group of eight as a byte.
 
 ghost use Rattle.std.specs.Prelude.{◌≡◌, ◌≢◌, ◌+◌, ◌-◌, ◌*◌, ◌^◌, ◌<◌, ◌≤◌, ◌∷◌, [], length, take, OnOk, IfOk, IfErr};
-ghost use Rattle.std.specs.IoError.{error_kind};
 ghost use Rattle.deku_stream.specs.declared.ctx.Order.TheVariants.{Msb0, Lsb0};
 ghost use Rattle.deku_stream.specs.Bits.{groups};
 ghost use Rattle.deku_device.specs.Devices.{NoFewerFailures, MoreFailures};
@@ -12,36 +11,67 @@ use super::fetching::fetch_behind;
 use deku_device::device::Source;
 use deku_stream::ctx::Order;
 use deku_stream::window::Window;
-use std::io;
 use std::io::ErrorKind;
 
-/// Takes at most 128 bits in this order, and answers their word. The bytes that they need are fetched at once.
+/// Takes at most 128 bits in this order, and answers their word, or the kind of the fault. The bytes that they need are fetched at once.
+#[inline(always)]
 pub fn word_from<R: Source>(
     source: &mut R,
     window: &mut Window,
     count: usize,
     order: Order,
-) -> io::Result<u128>
+) -> Result<u128, ErrorKind>
     requires bound { length window.old ≤ 8 }
     requires few { count ≤ 128 }
     ensures short { OnOk result (0 < count → length window.new < 8) }
     ensures none { OnOk result (count ≡ 0 → (window.new ≡ window.old) × ((R.told source.new).coming ≡ (R.told source.old).coming)) }
     ensures moved { IfOk result (λ word. MovesWord order window.old (R.told source.old).coming count word window.new (R.told source.new).coming) }
     ensures wanted { IfErr result (λ e. 0 < count) }
-    ensures ended { IfErr result (λ e. error_kind e ≡ ErrorKind.UnexpectedEof → FewerBits count window.old (R.told source.old).coming) }
-    ensures failed { IfErr result (λ e. error_kind e ≢ ErrorKind.UnexpectedEof → MoreFailures (R.told source.old).health (R.told source.new).health) }
+    ensures ended { IfErr result (λ e. e ≡ ErrorKind.UnexpectedEof → FewerBits count window.old (R.told source.old).coming) }
+    ensures failed { IfErr result (λ e. e ≢ ErrorKind.UnexpectedEof → MoreFailures (R.told source.old).health (R.told source.new).health) }
     ensures inside { count ≤ length window.old → source.new ≡ source.old }
     ensures kept { NoFewerFailures (R.told source.old).health (R.told source.new).health }
 {
     if count <= window.len() {
         return Ok(window.take(count, order) as u128);
     }
+    if count <= 64 && window.len() < 8 {
+        let behind = count - window.len();
+        if let Some(eight) = source.at_hand(behind.div_ceil(8)) {
+            return Ok(window.take_across(&eight, count, order) as u128);
+        }
+    }
+    word_fetched(source, window, count, order)
+}
+
+// Takes bits, more than the window has, by one transfer of the bytes that they need.
+#[cold]
+#[inline(never)]
+fn word_fetched<R: Source>(
+    source: &mut R,
+    window: &mut Window,
+    count: usize,
+    order: Order,
+) -> Result<u128, ErrorKind>
+    requires bound { length window.old ≤ 8 }
+    requires more { length window.old < count }
+    requires few { count ≤ 128 }
+    ensures short { OnOk result (length window.new < 8) }
+    ensures moved { IfOk result (λ word. MovesWord order window.old (R.told source.old).coming count word window.new (R.told source.new).coming) }
+    ensures ended { IfErr result (λ e. e ≡ ErrorKind.UnexpectedEof → FewerBits count window.old (R.told source.old).coming) }
+    ensures failed { IfErr result (λ e. e ≢ ErrorKind.UnexpectedEof → MoreFailures (R.told source.old).health (R.told source.new).health) }
+    ensures kept { NoFewerFailures (R.told source.old).health (R.told source.new).health }
+{
     let mut room = [0; 16];
     let behind = count - window.len() % 8;
-    fetch_behind(source, window, &mut room[..behind.div_ceil(8)])?;
-    let all = count.div_ceil(8);
-    gather(window, &mut room[..all], count, order);
-    Ok(u128::from_le_bytes(room))
+    match fetch_behind(source, window, &mut room[..behind.div_ceil(8)]) {
+        Ok(()) => {
+            let all = count.div_ceil(8);
+            gather(window, &mut room[..all], count, order);
+            Ok(u128::from_le_bytes(room))
+        }
+        Err(error) => Err(error.kind()),
+    }
 }
 
 // Makes the groups of so many bits of the bytes that stand behind the window.

@@ -38,7 +38,7 @@ returns-in-Err-clause-reads g c =
     let at_end = c.self-in-Err.view_is ∙ c.stopped.ensures in
     rw (← c.self.view_is, may.0, c.error.ensures, at_end)
     (bytes_err c.args.order p.window (told c.args.source.now).coming p.bits_read n (told c.args.source.now).health (told c.bytes_into.new.source).health _ _
-    c.fault_of-fault.ensures may.1 c.in-Err.ensures.ended c.in-Err.ensures.failed c.bytes_into.ensures.kept)
+    c.fault_of_kind-fault.ensures may.1 c.in-Err.ensures.ended c.in-Err.ensures.failed c.bytes_into.ensures.kept)
 
 pub returns-in-Ok-clause-fetched : goal.returns-in-Ok-clause-fetched
 returns-in-Ok-clause-fetched g c =

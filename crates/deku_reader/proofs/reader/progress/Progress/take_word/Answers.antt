@@ -41,7 +41,7 @@ returns-in-Err-clause-reads g c =
     let at_end = c.self-in-Err.view_is ∙ c.stopped.ensures in
     rw (← c.self.view_is, may.0, c.error.ensures, at_end)
     (mapped_err (word_of c.args.order) (takes_err c.args.order p.window (told c.args.source.now).coming p.bits_read c.args.amt (told c.args.source.now).health (told c.word_from.new.source).health _ _
-    c.fault_of-fault.ensures may.1 c.in-Err.ensures.ended c.in-Err.ensures.failed c.word_from.ensures.kept))
+    c.fault_of_kind-fault.ensures may.1 c.in-Err.ensures.ended c.in-Err.ensures.failed c.word_from.ensures.kept))
 
 pub returns-in-Ok-clause-still : goal.returns-in-Ok-clause-still
 returns-in-Ok-clause-still g c =

@@ -1,21 +1,19 @@
-use Rattle.std.proofs.Common.{◌<◌, ◌∙◌, length, take, arith, refl}
-use Rattle.std.proofs.lemmas.List.{take_more_set}
-use Rattle.std.proofs.lemmas.List.Elements.{All-push}
+use Rattle.std.proofs.Common.{◌++◌, ◌∙◌, sym, ap₂, arith}
+use Rattle.std.proofs.lemmas.List.Elements.{All-append}
+use Rattle.deku_stream.specs.Bits.{facing}
+use Rattle.deku_stream.specs.Streams.{flow}
 use Rattle.deku_stream.proofs.Bytes.{IsByte}
-use Rattle.deku_reader.proofs.Handouts.{exchange_more, behind_more, empty_through}
+use Rattle.deku_reader.proofs.Handouts.{empty_through, parts_through}
 use Rattle.deku_reader.proofs.reader.progress.bytes.exchange_all.Goals as goal
 
 pub returns-then-len-eq0-clause-bits : goal.returns-then-len-eq0-clause-bits
 returns-then-len-eq0-clause-bits c = empty_through c.args.order c.args.window.now c.args.dst.now (omega arith)
 
-pub loop-byte-preserved : goal.loop-byte-preserved
-loop-byte-preserved c =
-    let i = c.loop-byte.byte-index in
-    let at : c.loop-byte.byte-index < length c.loop-byte.dst = omega arith in
-    record {
-      bits = exchange_more c.args.order c.args.window.now c.loop-byte.passing c.exchange.new.self c.args.dst.now c.loop-byte.dst i _ c.exchange.result at (omega arith)
-          c.loop-byte.invariant.behind refl c.loop-byte.invariant.bits c.exchange.ensures.bits;
-      behind = behind_more c.args.dst.now c.loop-byte.dst i c.exchange.result c.loop-byte.invariant.behind;
-      bytes = rw take_more_set (All-push IsByte (take i c.loop-byte.dst) c.exchange.result c.loop-byte.invariant.bytes (omega arith));
-      len = c.exchange.ensures.len ∙ c.loop-byte.invariant.len;
-    }
+pub returns-clause-bits : goal.returns-clause-bits
+returns-clause-bits c =
+    ap₂ (λ w s. facing c.args.order w ++ flow c.args.order s) (sym c.copy-passing.ensures) c.split_at_mut-eights.ensures.value
+    ∙ parts_through c.args.order c.copy-passing.result c.exchange_eights.new.passing c.exchange_each.new.passing c.split_at_mut-eights.result.0.now c.split_at_mut-eights.result.1.now
+    c.exchange_eights.new.dst c.exchange_each.new.dst c.exchange_eights.ensures.bits c.exchange_each.ensures.bits
+
+pub returns-clause-bytes : goal.returns-clause-bytes
+returns-clause-bytes c = All-append IsByte c.exchange_eights.new.dst c.exchange_each.new.dst c.exchange_eights.ensures.bytes c.exchange_each.ensures.bytes
