@@ -6,3 +6,4 @@ pub mod Onto
 pub mod Emits
 pub mod Lent
 pub mod WholeBytes
+pub mod Joined

@@ -13,6 +13,7 @@ ghost use Rattle.deku_writer.specs.WriterCalls.{Writes, WritesAt, WritesBits, Wr
 
 mod bytes;
 mod held;
+mod joined;
 mod pushing;
 mod seek;
 mod way;
@@ -182,6 +183,7 @@ impl<W: Sink> Writer<W> {
     /// ```text
     /// writer.write_word(0x0201, 12, Order::Msb0)?;       // the byte 0x01; 0, 0, 1, 0 are pending
     /// ```
+    #[inline(always)]
     pub fn write_word(&mut self, word: u128, n: usize, order: Order) -> Result<(), DekuError>
         requires most { n ≤ 128 }
         requires inside { word < 2 ^ n }
@@ -312,6 +314,7 @@ impl Progress {
     }
 
     // Writes a word of n bits to this sink.
+    #[inline(always)]
     fn write_word<W: Sink>(
         &mut self,
         sink: &mut W,
@@ -360,6 +363,7 @@ impl Progress {
 }
 
 // How many whole bytes so many held bits and bits more make.
+#[inline(always)]
 fn whole_bytes(held: usize, more: usize) -> usize
     requires { held ≤ 8 }
     ensures { result ≡ (held + more) / 8 }

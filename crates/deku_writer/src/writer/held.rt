@@ -1,9 +1,10 @@
 //! Up to seven bits, packed.
 
-ghost use Rattle.std.specs.Prelude.{◌≡◌, ◌+◌, ◌-◌, ◌^◌, ◌<◌, ◌≤◌, [], ◌∷◌, ◌++◌, length, take};
+ghost use Rattle.std.specs.Prelude.{◌≡◌, ◌+◌, ◌-◌, ◌/◌, ◌^◌, ◌<◌, ◌≤◌, [], ◌∷◌, ◌++◌, length, take};
 ghost use Rattle.deku_stream.specs.Bits.{bits_of, byte_bits, facing};
-ghost use Rattle.deku_writer.specs.Pushing.{Fills, given};
+ghost use Rattle.deku_writer.specs.Pushing.{word_bits, Fills, given};
 
+use super::joined::{cut_word, join_word};
 use deku_stream::byte::bits_of_byte;
 use deku_stream::ctx::Order;
 use std::marker::Model;
@@ -37,6 +38,7 @@ impl Held {
 
     /// How many there are.
     #[tactic(auto, using(deku_stream::proofs::Packed::lengths))]
+    #[inline(always)]
     pub fn len(&self) -> usize
         ensures length { result ≡ length self.now }
         ensures most { result < 8 }
@@ -45,6 +47,7 @@ impl Held {
     }
 
     /// The same bits again.
+    #[inline(always)]
     pub fn copy(&self) -> Held
         ensures { result ≡ self.now }
     {
@@ -70,6 +73,24 @@ impl Held {
         let (first, behind) = split(order, joined, self.len + 8);
         self.number = behind;
         first
+    }
+
+    /// A word of n bits behind the held bits, with which it has at most 64: the bytes that fill are the first of eight, so many. The bits behind
+    /// them are held.
+    #[inline(always)]
+    pub fn fill(&mut self, order: Order, word: u64, n: usize) -> ([u8; 8], usize)
+        requires some { 0 < n }
+        requires most { length self.old + n ≤ 64 }
+        requires inside { word < 2 ^ n }
+        ensures fills { Fills order self.old self.new (word_bits order n word) (take result.1 result.0) }
+        ensures count { result.1 ≡ (length self.old + n) / 8 }
+    {
+        let len = self.len + n;
+        let joined = join_word(order, self.number, self.len, word, n);
+        let (eight, behind) = cut_word(order, joined, len);
+        self.number = behind;
+        self.len = len % 8;
+        (eight, len / 8)
     }
 
     /// A group of at most eight bits, as the order meets it behind those that are held. Where there are eight then, the first eight go out as

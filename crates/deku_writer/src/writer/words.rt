@@ -1,6 +1,6 @@
 //! Words that go out by way of held bits.
 
-ghost use Rattle.std.specs.Prelude.{◌≡◌, ◌↔◌, ◌<◌, ◌≤◌, ◌+◌, ◌*◌, ◌/◌, ◌%◌, ◌^◌, length, take, IsTrue, OnOk, IfErr};
+ghost use Rattle.std.specs.Prelude.{◌≡◌, ◌↔◌, ◌<◌, ◌≤◌, ◌+◌, ◌*◌, ◌/◌, ◌%◌, ◌^◌, ◌⊎◌, length, take, IsTrue, OnOk, IfErr};
 ghost use Rattle.deku_stream.specs.Bits.{bits_of, facing, shown};
 ghost use Rattle.deku_stream.specs.Streams.{flow};
 ghost use Rattle.deku_writer.specs.Pushing.{low_bytes, word_bits, Fills, Pushed, GaveUp, PushedOnto};
@@ -100,6 +100,7 @@ fn bits_of_word(bits: &mut [bool; 128], order: Order, word: u128, n: usize)
 }
 
 // Whether two orders are one.
+#[inline(always)]
 fn is_same(from: Order, to: Order) -> bool
     ensures { IsTrue result ↔ (from ≡ to) }
 {
@@ -109,8 +110,18 @@ fn is_same(from: Order, to: Order) -> bool
     )
 }
 
-/// A word of n bits onto the held bits of an order.
-pub fn push_word_onto<W: Sink>(
+// Whether bits of an order go behind held bits as they are: there are none, or they are of the same order.
+#[inline(always)]
+fn is_behind(held: &Held, from: Order, to: Order) -> bool
+    ensures { IsTrue result ↔ ((length held.now ≡ 0) ⊎ (from ≡ to)) }
+{
+    held.len() == 0 || is_same(from, to)
+}
+
+// A word of n bits onto the held bits of an order, of any length and onto any sink.
+#[cold]
+#[inline(never)]
+fn push_long_word<W: Sink>(
     sink: &mut W,
     held: &mut Held,
     from: Order,
@@ -136,4 +147,33 @@ pub fn push_word_onto<W: Sink>(
     let bits = &mut bits[..n];
     show(bits, to);
     push_onto(sink, held, from, to, bits)
+}
+
+/// A word of n bits onto the held bits of an order. Where they have at most 64 bits together, and the sink has room for eight bytes at hand, they
+/// are laid there.
+#[inline(always)]
+pub fn push_word_onto<W: Sink>(
+    sink: &mut W,
+    held: &mut Held,
+    from: Order,
+    to: Order,
+    word: u128,
+    n: usize,
+) -> Result<(), ErrorKind>
+    requires some { 0 < n }
+    requires short { length held.old < 8 }
+    requires most { n ≤ 128 }
+    requires inside { word < 2 ^ n }
+    ensures pushed { OnOk result (PushedOnto (W.told sink.old) (W.told sink.new) from to held.old held.new (shown to (word_bits to n word))) }
+    ensures fault { IfErr result (GaveUp (W.told sink.old) (W.told sink.new) ((length held.old + n) / 8)) }
+{
+    if held.len() + n <= 64 && is_behind(held, from, to) {
+        let mut next = held.copy();
+        let (eight, count) = next.fill(to, word as u64, n);
+        if sink.lay(eight, count) {
+            *held = next;
+            return Ok(());
+        }
+    }
+    push_long_word(sink, held, from, to, word, n)
 }

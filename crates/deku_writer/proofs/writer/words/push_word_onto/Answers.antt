@@ -1,17 +1,17 @@
-use Rattle.std.proofs.Common.{◌≡◌, arith, rules}
-use Rattle.std.proofs.lemmas.Result.{on_ok_weaker}
+use Rattle.std.proofs.Common.{◌≡◌, ◌⊎◌, ⊎_elim, length, rules}
+use Rattle.deku_writer.specs.Pushing.{Pushed, word_bits}
 use Rattle.deku_writer.proofs.WordsWritten.{word_onto_none, word_onto_same}
 use Rattle.deku_writer.proofs.writer.words.push_word_onto.Goals as goal
 
-pub returns-then-len-eq0-clause-pushed : goal.returns-then-len-eq0-clause-pushed
-returns-then-len-eq0-clause-pushed g c =
-    on_ok_weaker c.push_word.result
-    (λ m. word_onto_none _ _ c.args.from c.args.to c.args.held.now _ c.args.n c.args.word (omega arith) c.requires.some m)
-    c.push_word.ensures.pushed
-
-pub returns-then-is_same-clause-pushed : goal.returns-then-is_same-clause-pushed
-returns-then-is_same-clause-pushed g c =
-    let e : c.args.from ≡ c.args.to = search rules in
-    on_ok_weaker c.push_word-then-is_same.result
-    (λ m. word_onto_same _ _ c.args.from c.args.to c.args.held.now _ c.args.n c.args.word e c.requires.some m)
-    c.push_word-then-is_same.ensures.pushed
+pub returns-then-lay-clause-pushed : goal.returns-then-lay-clause-pushed
+returns-then-lay-clause-pushed g c =
+    let a = g.W.Sink.told c.args.sink.now in
+    let b = g.W.Sink.told c.lay.new.self in
+    let h = c.args.held.now in
+    let hs = c.fill-count.new.self in
+    let bits = word_bits c.args.to c.args.n c.args.word in
+    let fills = c.fill-count.ensures.fills in
+    let behind : (length h ≡ 0) ⊎ (c.args.from ≡ c.args.to) = search rules in
+    let pushed : Pushed a b c.args.to h hs bits = record { gave = search (rules, fills.bytes, c.lay.ensures.gave); rest = search (rules, fills.rest) } in
+    ⊎_elim (λ none. word_onto_none a b c.args.from c.args.to h hs c.args.n c.args.word none c.requires.some pushed)
+    (λ same. word_onto_same a b c.args.from c.args.to h hs c.args.n c.args.word same c.requires.some pushed) behind
