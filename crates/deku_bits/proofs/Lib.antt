@@ -38,3 +38,4 @@ pub use Rattle.deku_writer.proofs.Lent
 pub use Rattle.deku_writer.proofs.WholeBytes
 pub mod WorkedRows
 pub mod WholeLaws
+pub mod Causes

@@ -16,3 +16,4 @@ pub use Rattle.deku_writer.specs.Pushing
 pub use Rattle.deku_writer.specs.WriterCalls
 pub mod Rows
 pub mod Wholes
+pub mod Causes

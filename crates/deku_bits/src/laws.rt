@@ -7,6 +7,7 @@ ghost use Rattle.deku_stream.specs.Pieces.{LengthLaw};
 ghost use Rattle.deku_stream.specs.Writers.{AppendLaw, CountLaw};
 ghost use Rattle.deku_stream.specs.Symmetry.{WriteLaw, ReadLaw, RewriteLaw, CallsLaw};
 ghost use Rattle.deku_bits.specs.Wholes.{WholeLaw, PlainLaw};
+ghost use Rattle.deku_bits.specs.Causes.{CauseLaw};
 ghost use Rattle.deku_bits.specs.Rows.{ReadRows, SkipRows, ShortRows, WriteRows};
 
 /// A read of a stream is a read of its normal form, where a peeked byte is put back.
@@ -122,4 +123,9 @@ pub fn whole_law()
 /// Bytes are written as they are where nothing is pending, and read as they are where no byte is begun.
 pub fn plain_law()
     ensures { PlainLaw }
+{}
+
+/// An `Io` comes only where a device fails, from want of memory, for want of room where bits are written, or where it was kept.
+pub fn cause_law()
+    ensures { CauseLaw }
 {}
