@@ -23,6 +23,7 @@ use deku_bits::writer::Writer;
 ///
 /// - with `Parse("too much data")` where the size is beyond the type; nothing changes, also where the reader has stopped;
 /// - as `Reader::read_bits_into` refuses to read the bits of the field, and what is left then is said there.
+#[inline(always)]
 pub fn read_unsigned<R: Source>(
     reader: &mut Reader<R>,
     number_type: NumberType,
@@ -50,6 +51,7 @@ pub fn read_unsigned<R: Source>(
 /// - with `InvalidParam("signed big Lsb0 field of this width")` where the field is big and `Lsb0`, of more than eight bits and no whole
 ///   bytes; nothing changes;
 /// - as `Reader::read_bits_into` refuses to read the bits of the field, and what is left then is said there.
+#[inline(always)]
 pub fn read_signed<R: Source>(
     reader: &mut Reader<R>,
     number_type: NumberType,
@@ -71,6 +73,7 @@ pub fn read_signed<R: Source>(
 }
 
 // The bits of a field that is read.
+#[inline(always)]
 fn readable_width(number_type: NumberType, layout: Layout) -> Result<usize, DekuError>
     ensures ok { IfOk result (λ n. (n ≡ width number_type layout) × IsAllowed number_type layout) }
     ensures err { IfErr result (λ e. IsLayoutRefusal Parse (codes "too much data") number_type layout e) }
@@ -90,6 +93,7 @@ fn readable_width(number_type: NumberType, layout: Layout) -> Result<usize, Deku
 ///   the writer has stopped;
 /// - with `InvalidParam("bit size of input is larger than requested size")` where the number does not fit the bits; nothing changes;
 /// - as `Writer::write_bits_order` refuses to write the bits of the field, and what is left then is said there.
+#[inline(always)]
 pub fn write_unsigned<W: Sink>(
     writer: &mut Writer<W>,
     value: u128,
@@ -121,6 +125,7 @@ pub fn write_unsigned<W: Sink>(
 ///   bytes; nothing changes;
 /// - with `InvalidParam("bit size of input is larger than requested size")` where the number does not fit the bits; nothing changes;
 /// - as `Writer::write_bits_order` refuses to write the bits of the field, and what is left then is said there.
+#[inline(always)]
 pub fn write_signed<W: Sink>(
     writer: &mut Writer<W>,
     value: i128,
@@ -142,6 +147,7 @@ pub fn write_signed<W: Sink>(
 }
 
 // The bits of a field that is written.
+#[inline(always)]
 fn writable_width(number_type: NumberType, layout: Layout) -> Result<usize, DekuError>
     ensures ok { IfOk result (λ n. (n ≡ width number_type layout) × IsAllowed number_type layout) }
     ensures err { IfErr result (λ e. IsLayoutRefusal InvalidParam (beyond layout.size) number_type layout e) }

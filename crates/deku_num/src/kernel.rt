@@ -22,6 +22,7 @@ pub enum Misfit {
 ///
 /// Refused are a size beyond the type, as `TooWide`, and otherwise a signed field that is big and `Lsb0`, of more than eight bits and no
 /// whole bytes, as `Uneven`.
+#[inline(always)]
 pub fn allowed_width(number_type: NumberType, layout: Layout) -> Result<usize, Misfit>
     ensures allowed { IsOk result ↔ IsAllowed number_type layout }
     ensures width { IfOk result (λ n. n ≡ width_of number_type layout) }
@@ -38,6 +39,7 @@ pub fn allowed_width(number_type: NumberType, layout: Layout) -> Result<usize, M
 }
 
 // The bits of a field of the type, where the type has as many.
+#[inline(always)]
 fn width_within(number_type: NumberType, size: Size) -> Option<usize>
     ensures some { IfSome result (λ n. (n ≡ sized_width number_type size) × (n ≤ number_type.bits)) }
     ensures none { IsNone result → number_type.bits < sized_width number_type size }
@@ -57,6 +59,7 @@ fn width_within(number_type: NumberType, size: Size) -> Option<usize>
 }
 
 // Whether a signed field that is big and `Lsb0` has at most eight bits or whole bytes.
+#[inline(always)]
 fn is_even_where(signed: bool, endian: Endian, order: Order, width: usize) -> bool
     ensures { IsTrue result ↔ IsEvenWhere signed endian order width }
 {
@@ -67,6 +70,7 @@ fn is_even_where(signed: bool, endian: Endian, order: Order, width: usize) -> bo
 }
 
 /// The number of a field's bits, without a sign, from their word, as `Reader::read_word` answers it. There are at most 128.
+#[inline(always)]
 pub fn number_of_word(word: u128, width: usize, endian: Endian, order: Order) -> u128
     requires wide { width ≤ 128 }
     requires fits { word < 2 ^ width }
@@ -80,6 +84,7 @@ pub fn number_of_word(word: u128, width: usize, endian: Endian, order: Order) ->
 }
 
 // The number of bits, the highest first, from their word: whole bytes are turned, and the bits behind them follow.
+#[inline(always)]
 fn number_of_high(word: u128, width: usize) -> u128
     requires wide { width ≤ 128 }
     requires fits { word < 2 ^ width }
@@ -96,6 +101,7 @@ fn number_of_high(word: u128, width: usize) -> u128
 }
 
 /// The word of a field's bits, as `Writer::write_word` takes it, from their number without a sign. There are at most 128.
+#[inline(always)]
 pub fn word_of_number(number: u128, width: usize, endian: Endian, order: Order) -> u128
     requires wide { width ≤ 128 }
     ensures { (bits : List Bool) → length bits ≡ width → number ≡ number_of endian order bits → result ≡ word_of order bits }
@@ -108,6 +114,7 @@ pub fn word_of_number(number: u128, width: usize, endian: Endian, order: Order) 
 }
 
 // The word of bits, the highest first, from their number: the bytes before the last bits are turned, and these follow.
+#[inline(always)]
 fn word_of_high(number: u128, width: usize) -> u128
     requires { width ≤ 128 }
     ensures { (bits : List Bool) → length bits ≡ width → number ≡ number_of Endian.Big Order.Msb0 bits → result ≡ word_of Order.Msb0 bits }
@@ -122,6 +129,7 @@ fn word_of_high(number: u128, width: usize) -> u128
 }
 
 // So many bytes of a number, the other way round.
+#[inline(always)]
 fn turned(number: u128, count: usize) -> u128
     requires { count ≤ 16 }
     ensures value { result ≡ swap_bytes w128 number / 2 ^ (128 - 8 * count) }
@@ -135,6 +143,7 @@ fn turned(number: u128, count: usize) -> u128
 }
 
 /// What a number of n bits is worth in two's complement.
+#[inline(always)]
 pub fn signed_of(number: u128, n: usize) -> i128
     requires wide { n ≤ 128 }
     requires below { number < 2 ^ n }
@@ -147,6 +156,7 @@ pub fn signed_of(number: u128, n: usize) -> i128
 }
 
 // A number of n bits in two's complement, `half` being two to the power of n - 1.
+#[inline(always)]
 fn with_sign(sum: u128, half: u128) -> i128
     requires below { sum < half * 2 }
     requires fits { half ≤ 2 ^ 127 }
@@ -163,6 +173,7 @@ fn with_sign(sum: u128, half: u128) -> i128
 
 /// The word of the bits of an unsigned value, as `Writer::write_word` takes it; none where the value does not fit. Under a byte size each value
 /// fits, and the word is that of its lowest bits. The layout is one that `allowed_width` admits, and `width` is the one that it answers.
+#[inline(always)]
 pub fn unsigned_word(
     value: u128,
     number_type: NumberType,
@@ -188,6 +199,7 @@ pub fn unsigned_word(
 }
 
 /// The word of the bits of a signed value, as `unsigned_word` answers it.
+#[inline(always)]
 pub fn signed_word(
     value: i128,
     number_type: NumberType,
@@ -209,6 +221,7 @@ pub fn signed_word(
 }
 
 // Whether a size cuts values.
+#[inline(always)]
 fn is_cut(size: Size) -> bool
     ensures { result ≡ cuts size }
 {
@@ -216,6 +229,7 @@ fn is_cut(size: Size) -> bool
 }
 
 // Whether a number is one of n bits of a field.
+#[inline(always)]
 fn is_within(value: u128, endian: Endian, order: Order, n: usize) -> bool
     requires { n ≤ 128 }
     ensures { IsTrue result ↔ Within endian order n value }
@@ -230,6 +244,7 @@ fn is_within(value: u128, endian: Endian, order: Order, n: usize) -> bool
 }
 
 // Whether a number is below two to the power of n.
+#[inline(always)]
 fn is_below(value: u128, n: usize) -> bool
     requires { n ≤ 128 }
     ensures { IsTrue result ↔ (value < 2 ^ n) }
@@ -238,6 +253,7 @@ fn is_below(value: u128, n: usize) -> bool
 }
 
 // A value modulo two to the power of n.
+#[inline(always)]
 fn residue_of(value: i128, n: usize) -> u128
     requires { n ≤ 128 }
     ensures { result ≡ residue value n }
@@ -250,6 +266,7 @@ fn residue_of(value: i128, n: usize) -> u128
 }
 
 // How far a value lies below minus one.
+#[inline(always)]
 fn below_zero(value: i128) -> u128
     requires { value <ℤ pos 0 }
     ensures { value ≡ negsuc result }
@@ -258,6 +275,7 @@ fn below_zero(value: i128) -> u128
 }
 
 // A number modulo two to the power of n.
+#[inline(always)]
 fn low_bits(sum: u128, n: usize) -> u128
     requires { n ≤ 128 }
     ensures { result ≡ sum % 2 ^ n }

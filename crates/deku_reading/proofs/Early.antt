@@ -1,14 +1,16 @@
 -- No byte is fetched too early, from one call to the next.
-use Rattle.std.proofs.Common.{◌≡◌, ℕ, ◌+◌, ◌*◌, ◌-◌, ◌<◌, Bool, false, List, length, drop, Option, Some, None, Result, Ok, Err, ℤ, refl, ap, sym, ◌∙◌, subst, inl, inr, arith, min, ◌/◌, ◌%◌, [], ne_eqb}
+use Rattle.std.proofs.Common.{◌≡◌, ℕ, ◌+◌, ◌*◌, ◌-◌, ◌<◌, Bool, false, List, length, drop, Option, Some, None, Result, Ok, Err, ℤ, refl, ap, sym, ◌∙◌, subst, inl, inr, arith, min, ◌/◌, [], ne_eqb}
 use Rattle.std.specs.Prelude.{OnOk}
+use Rattle.std.specs.Global.{Vec}
 use Rattle.std.proofs.lemmas.List.{drop-drop, length-drop}
 use Rattle.deku_bits.specs.declared.ctx.Order.{Order}
+use Rattle.deku_bits.specs.declared.error.DekuError.{DekuError}
 use Rattle.deku_bits.specs.Bits.{groups}
 use Rattle.deku_bits.specs.Streams.{Stream, Has, normal, left, touched, last_part, passed, skipped}
 use Rattle.deku_bits.specs.Devices.{SourceTold, Loses}
 use Rattle.deku_bits.specs.Standings.{Standing, Going, Stopped, count_of, reader_state, stream_of}
-use Rattle.deku_bits.specs.Outcomes.{Quiet, Value, Refusal, Counted}
-use Rattle.deku_bits.specs.ReaderCalls.{ReadsAt, Takes, ReadsBytes, FetchesFor, NoneEarly, window_of, Skipping, Skips}
+use Rattle.deku_bits.specs.Outcomes.{Quiet, Value, Refusal, UnlessStopped, Counted, Reserving}
+use Rattle.deku_bits.specs.ReaderCalls.{ReadsAt, Transfers, Takes, ReadsBytes, ReadsByteVec, FetchesFor, NoneEarly, bytes_in_vec, window_of, Skipping, Skips}
 use Rattle.deku_bits.proofs.Handing.{meant}
 use Rattle.deku_bits.proofs.Fetched.{takes_bits, takes_counted, balance}
 use Rattle.deku_num.specs.declared.kind.NumberType.{NumberType}
@@ -98,6 +100,30 @@ bytes_promptly o n {bytes} {told} {after} {s} {u} read fetches early =
     let m = meant read in
     let took = bytes_took o n bytes (reader_state told.coming s) (reader_state after.coming u) m.0 in
     took_promptly o (8 * n) took.0 told after s u (Quiet took.1 m.1) fetches early
+
+-- what was answered behind memory that was found
+unreserved : {A V : Type 0} (moves : A → ℕ → Result V DekuError → Standing A → Type 0) (n : ℕ) (s : Standing A) (v : V) (u : Standing A)
+    → UnlessStopped (Counted n (Reserving moves)) false s (Ok v) u → UnlessStopped (Counted n moves) false s (Ok v) u
+unreserved moves n (Going a c) v u (inl p) = inl p
+unreserved moves n (Going a c) v u (inr (room, inl p)) = let e = p.0 in absurd (cc)
+unreserved moves n (Going a c) v u (inr (room, inr p)) = inr (room, p)
+unreserved moves n (Stopped e c) v u p = p
+
+-- the bits that the bytes of a vector took
+vec_took : (o : Order) (n : ℕ) (bytes : List ℕ) (s u : Standing (Option Stream)) → ReadsByteVec o n false s (Ok bytes) u → (bits : List Bool) × Takes o (8 * n) false s (Ok bits) u
+vec_took o n bytes s u (Value v p e) = elim p [
+  | Value bits took d ↦ (bits, unreserved (Transfers o (8 * n)) (8 * n) s bits u took)
+  | Refusal x refused d ↦ absurd (cc)
+]
+vec_took o n bytes s u (Refusal x p e) = absurd (cc)
+
+pub vec_promptly : (o : Order) (n : ℕ) (r : Result (Vec ℕ) DekuError) (told after : SourceTold) {s u : Standing (List Bool)} → ReadsAt (ReadsByteVec o n) told s (bytes_in_vec r) after u
+    → OnOk r (FetchesFor (8 * n) s told after) → NoneEarly s u → OnOk r (PromptlyAt told s after u)
+vec_promptly o n (Ok v) told after {s} {u} read fetches early =
+    let m = meant read in
+    let took = vec_took o n v.items (reader_state told.coming s) (reader_state after.coming u) m.0 in
+    took_promptly o (8 * n) took.0 told after s u (Quiet took.1 m.1) fetches early
+vec_promptly o n (Err e) told after read fetches early = tt
 
 -- ---- skips
 normal_short : (w : List Bool) (xs : List ℕ) → length w < 8 → normal (at w xs) ≡ at w xs

@@ -20,6 +20,7 @@ impl<C: NumberCtx> DekuReader<C> for bool {
 
     ghost meaning = { λ c. Then (ReadsUnsigned byte (C.parts_of c)) (ShowsUnless (λ n. 1 < n) (codes "cannot parse bool value") numeral) };
 
+    #[inline(always)]
     fn from_reader_with_ctx<R: Source>(reader: &mut Reader<R>, ctx: C) -> Result<Self, DekuError> {
         let number = u8::from_reader_with_ctx(reader, ctx)?;
         match number {

@@ -22,6 +22,7 @@ impl<C: NumberCtx> DekuReader<C> for Ipv4Addr {
 
     ghost meaning = { λ c. Then (ReadsUnsigned (unsigned 32) (C.parts_of c)) (Shows ipv4_bits) };
 
+    #[inline(always)]
     fn from_reader_with_ctx<R: Source>(reader: &mut Reader<R>, ctx: C) -> Result<Self, DekuError> {
         let number = u32::from_reader_with_ctx(reader, ctx)?;
         Ok(Ipv4Addr::from_bits(number))
@@ -43,6 +44,7 @@ impl<C: NumberCtx> DekuReader<C> for Ipv6Addr {
 
     ghost meaning = { λ c. Then (ReadsUnsigned (unsigned 128) (C.parts_of c)) (Shows ipv6_bits) };
 
+    #[inline(always)]
     fn from_reader_with_ctx<R: Source>(reader: &mut Reader<R>, ctx: C) -> Result<Self, DekuError> {
         let number = u128::from_reader_with_ctx(reader, ctx)?;
         Ok(Ipv6Addr::from_bits(number))

@@ -25,6 +25,7 @@ impl<C: NumberCtx> DekuReader<C> for NonZeroU8 {
 
     ghost meaning = { λ c. Then (ReadsUnsigned byte (C.parts_of c)) (ShowsUnless (λ n. n ≡ 0) (codes "NonZero assertion") non_zero_u8_get) };
 
+    #[inline(always)]
     fn from_reader_with_ctx<R: Source>(reader: &mut Reader<R>, ctx: C) -> Result<Self, DekuError> {
         let number = u8::from_reader_with_ctx(reader, ctx)?;
         match NonZeroU8::new(number) {
@@ -48,6 +49,7 @@ impl<C: NumberCtx> DekuReader<C> for NonZeroU16 {
 
     ghost meaning = { λ c. Then (ReadsUnsigned (unsigned 16) (C.parts_of c)) (ShowsUnless (λ n. n ≡ 0) (codes "NonZero assertion") non_zero_u16_get) };
 
+    #[inline(always)]
     fn from_reader_with_ctx<R: Source>(reader: &mut Reader<R>, ctx: C) -> Result<Self, DekuError> {
         let number = u16::from_reader_with_ctx(reader, ctx)?;
         match NonZeroU16::new(number) {
@@ -71,6 +73,7 @@ impl<C: NumberCtx> DekuReader<C> for NonZeroU32 {
 
     ghost meaning = { λ c. Then (ReadsUnsigned (unsigned 32) (C.parts_of c)) (ShowsUnless (λ n. n ≡ 0) (codes "NonZero assertion") non_zero_u32_get) };
 
+    #[inline(always)]
     fn from_reader_with_ctx<R: Source>(reader: &mut Reader<R>, ctx: C) -> Result<Self, DekuError> {
         let number = u32::from_reader_with_ctx(reader, ctx)?;
         match NonZeroU32::new(number) {
@@ -94,6 +97,7 @@ impl<C: NumberCtx> DekuReader<C> for NonZeroU64 {
 
     ghost meaning = { λ c. Then (ReadsUnsigned (unsigned 64) (C.parts_of c)) (ShowsUnless (λ n. n ≡ 0) (codes "NonZero assertion") non_zero_u64_get) };
 
+    #[inline(always)]
     fn from_reader_with_ctx<R: Source>(reader: &mut Reader<R>, ctx: C) -> Result<Self, DekuError> {
         let number = u64::from_reader_with_ctx(reader, ctx)?;
         match NonZeroU64::new(number) {
@@ -117,6 +121,7 @@ impl<C: NumberCtx> DekuReader<C> for NonZeroU128 {
 
     ghost meaning = { λ c. Then (ReadsUnsigned (unsigned 128) (C.parts_of c)) (ShowsUnless (λ n. n ≡ 0) (codes "NonZero assertion") non_zero_u128_get) };
 
+    #[inline(always)]
     fn from_reader_with_ctx<R: Source>(reader: &mut Reader<R>, ctx: C) -> Result<Self, DekuError> {
         let number = u128::from_reader_with_ctx(reader, ctx)?;
         match NonZeroU128::new(number) {
@@ -140,6 +145,7 @@ impl<C: NumberCtx> DekuReader<C> for NonZeroUsize {
 
     ghost meaning = { λ c. Then (ReadsUnsigned (unsigned 64) (C.parts_of c)) (ShowsUnless (λ n. n ≡ 0) (codes "NonZero assertion") non_zero_usize_get) };
 
+    #[inline(always)]
     fn from_reader_with_ctx<R: Source>(reader: &mut Reader<R>, ctx: C) -> Result<Self, DekuError> {
         let number = usize::from_reader_with_ctx(reader, ctx)?;
         match NonZeroUsize::new(number) {
@@ -163,6 +169,7 @@ impl<C: NumberCtx> DekuReader<C> for NonZeroI8 {
 
     ghost meaning = { λ c. Then (ReadsNumber (signed 8) (C.parts_of c)) (ShowsUnless (λ n. n ≡ pos 0) (codes "NonZero assertion") non_zero_i8_get) };
 
+    #[inline(always)]
     fn from_reader_with_ctx<R: Source>(reader: &mut Reader<R>, ctx: C) -> Result<Self, DekuError> {
         let number = i8::from_reader_with_ctx(reader, ctx)?;
         match NonZeroI8::new(number) {
@@ -186,6 +193,7 @@ impl<C: NumberCtx> DekuReader<C> for NonZeroI16 {
 
     ghost meaning = { λ c. Then (ReadsNumber (signed 16) (C.parts_of c)) (ShowsUnless (λ n. n ≡ pos 0) (codes "NonZero assertion") non_zero_i16_get) };
 
+    #[inline(always)]
     fn from_reader_with_ctx<R: Source>(reader: &mut Reader<R>, ctx: C) -> Result<Self, DekuError> {
         let number = i16::from_reader_with_ctx(reader, ctx)?;
         match NonZeroI16::new(number) {
@@ -209,6 +217,7 @@ impl<C: NumberCtx> DekuReader<C> for NonZeroI32 {
 
     ghost meaning = { λ c. Then (ReadsNumber (signed 32) (C.parts_of c)) (ShowsUnless (λ n. n ≡ pos 0) (codes "NonZero assertion") non_zero_i32_get) };
 
+    #[inline(always)]
     fn from_reader_with_ctx<R: Source>(reader: &mut Reader<R>, ctx: C) -> Result<Self, DekuError> {
         let number = i32::from_reader_with_ctx(reader, ctx)?;
         match NonZeroI32::new(number) {
@@ -232,6 +241,7 @@ impl<C: NumberCtx> DekuReader<C> for NonZeroI64 {
 
     ghost meaning = { λ c. Then (ReadsNumber (signed 64) (C.parts_of c)) (ShowsUnless (λ n. n ≡ pos 0) (codes "NonZero assertion") non_zero_i64_get) };
 
+    #[inline(always)]
     fn from_reader_with_ctx<R: Source>(reader: &mut Reader<R>, ctx: C) -> Result<Self, DekuError> {
         let number = i64::from_reader_with_ctx(reader, ctx)?;
         match NonZeroI64::new(number) {
@@ -255,6 +265,7 @@ impl<C: NumberCtx> DekuReader<C> for NonZeroI128 {
 
     ghost meaning = { λ c. Then (ReadsNumber (signed 128) (C.parts_of c)) (ShowsUnless (λ n. n ≡ pos 0) (codes "NonZero assertion") non_zero_i128_get) };
 
+    #[inline(always)]
     fn from_reader_with_ctx<R: Source>(reader: &mut Reader<R>, ctx: C) -> Result<Self, DekuError> {
         let number = i128::from_reader_with_ctx(reader, ctx)?;
         match NonZeroI128::new(number) {
@@ -278,6 +289,7 @@ impl<C: NumberCtx> DekuReader<C> for NonZeroIsize {
 
     ghost meaning = { λ c. Then (ReadsNumber (signed 64) (C.parts_of c)) (ShowsUnless (λ n. n ≡ pos 0) (codes "NonZero assertion") non_zero_isize_get) };
 
+    #[inline(always)]
     fn from_reader_with_ctx<R: Source>(reader: &mut Reader<R>, ctx: C) -> Result<Self, DekuError> {
         let number = isize::from_reader_with_ctx(reader, ctx)?;
         match NonZeroIsize::new(number) {

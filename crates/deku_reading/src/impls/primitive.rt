@@ -25,6 +25,7 @@ impl<C: NumberCtx> DekuReader<C> for u8 {
 
     ghost meaning = { λ c. ReadsUnsigned byte (C.parts_of c) };
 
+    #[inline(always)]
     fn from_reader_with_ctx<R: Source>(reader: &mut Reader<R>, ctx: C) -> Result<Self, DekuError>
         ensures reads { Reads R.told (ReadsUnsigned byte (C.parts_of ctx)) reader.old result reader.new }
         ensures fetched { OnOk result (FetchesFor (width byte (C.parts_of ctx)) reader.old.state (R.told reader.old.source) (R.told reader.new.source)) }
@@ -47,6 +48,7 @@ impl<C: NumberCtx> DekuReader<C> for u16 {
 
     ghost meaning = { λ c. ReadsUnsigned (unsigned 16) (C.parts_of c) };
 
+    #[inline(always)]
     fn from_reader_with_ctx<R: Source>(reader: &mut Reader<R>, ctx: C) -> Result<Self, DekuError>
         ensures reads { Reads R.told (ReadsUnsigned (unsigned 16) (C.parts_of ctx)) reader.old result reader.new }
         ensures fetched { OnOk result (FetchesFor (width (unsigned 16) (C.parts_of ctx)) reader.old.state (R.told reader.old.source) (R.told reader.new.source)) }
@@ -69,6 +71,7 @@ impl<C: NumberCtx> DekuReader<C> for u32 {
 
     ghost meaning = { λ c. ReadsUnsigned (unsigned 32) (C.parts_of c) };
 
+    #[inline(always)]
     fn from_reader_with_ctx<R: Source>(reader: &mut Reader<R>, ctx: C) -> Result<Self, DekuError>
         ensures reads { Reads R.told (ReadsUnsigned (unsigned 32) (C.parts_of ctx)) reader.old result reader.new }
         ensures fetched { OnOk result (FetchesFor (width (unsigned 32) (C.parts_of ctx)) reader.old.state (R.told reader.old.source) (R.told reader.new.source)) }
@@ -91,6 +94,7 @@ impl<C: NumberCtx> DekuReader<C> for u64 {
 
     ghost meaning = { λ c. ReadsUnsigned (unsigned 64) (C.parts_of c) };
 
+    #[inline(always)]
     fn from_reader_with_ctx<R: Source>(reader: &mut Reader<R>, ctx: C) -> Result<Self, DekuError>
         ensures reads { Reads R.told (ReadsUnsigned (unsigned 64) (C.parts_of ctx)) reader.old result reader.new }
         ensures fetched { OnOk result (FetchesFor (width (unsigned 64) (C.parts_of ctx)) reader.old.state (R.told reader.old.source) (R.told reader.new.source)) }
@@ -113,6 +117,7 @@ impl<C: NumberCtx> DekuReader<C> for u128 {
 
     ghost meaning = { λ c. ReadsUnsigned (unsigned 128) (C.parts_of c) };
 
+    #[inline(always)]
     fn from_reader_with_ctx<R: Source>(reader: &mut Reader<R>, ctx: C) -> Result<Self, DekuError>
         ensures reads { Reads R.told (ReadsUnsigned (unsigned 128) (C.parts_of ctx)) reader.old result reader.new }
         ensures fetched { OnOk result (FetchesFor (width (unsigned 128) (C.parts_of ctx)) reader.old.state (R.told reader.old.source) (R.told reader.new.source)) }
@@ -135,6 +140,7 @@ impl<C: NumberCtx> DekuReader<C> for usize {
 
     ghost meaning = { λ c. ReadsUnsigned (unsigned 64) (C.parts_of c) };
 
+    #[inline(always)]
     fn from_reader_with_ctx<R: Source>(reader: &mut Reader<R>, ctx: C) -> Result<Self, DekuError>
         ensures reads { Reads R.told (ReadsUnsigned (unsigned 64) (C.parts_of ctx)) reader.old result reader.new }
         ensures fetched { OnOk result (FetchesFor (width (unsigned 64) (C.parts_of ctx)) reader.old.state (R.told reader.old.source) (R.told reader.new.source)) }
@@ -157,6 +163,7 @@ impl<C: NumberCtx> DekuReader<C> for i8 {
 
     ghost meaning = { λ c. ReadsNumber (signed 8) (C.parts_of c) };
 
+    #[inline(always)]
     fn from_reader_with_ctx<R: Source>(reader: &mut Reader<R>, ctx: C) -> Result<Self, DekuError>
         ensures reads { Reads R.told (ReadsNumber (signed 8) (C.parts_of ctx)) reader.old result reader.new }
         ensures fetched { OnOk result (FetchesFor (width (signed 8) (C.parts_of ctx)) reader.old.state (R.told reader.old.source) (R.told reader.new.source)) }
@@ -179,6 +186,7 @@ impl<C: NumberCtx> DekuReader<C> for i16 {
 
     ghost meaning = { λ c. ReadsNumber (signed 16) (C.parts_of c) };
 
+    #[inline(always)]
     fn from_reader_with_ctx<R: Source>(reader: &mut Reader<R>, ctx: C) -> Result<Self, DekuError>
         ensures reads { Reads R.told (ReadsNumber (signed 16) (C.parts_of ctx)) reader.old result reader.new }
         ensures fetched { OnOk result (FetchesFor (width (signed 16) (C.parts_of ctx)) reader.old.state (R.told reader.old.source) (R.told reader.new.source)) }
@@ -201,6 +209,7 @@ impl<C: NumberCtx> DekuReader<C> for i32 {
 
     ghost meaning = { λ c. ReadsNumber (signed 32) (C.parts_of c) };
 
+    #[inline(always)]
     fn from_reader_with_ctx<R: Source>(reader: &mut Reader<R>, ctx: C) -> Result<Self, DekuError>
         ensures reads { Reads R.told (ReadsNumber (signed 32) (C.parts_of ctx)) reader.old result reader.new }
         ensures fetched { OnOk result (FetchesFor (width (signed 32) (C.parts_of ctx)) reader.old.state (R.told reader.old.source) (R.told reader.new.source)) }
@@ -223,6 +232,7 @@ impl<C: NumberCtx> DekuReader<C> for i64 {
 
     ghost meaning = { λ c. ReadsNumber (signed 64) (C.parts_of c) };
 
+    #[inline(always)]
     fn from_reader_with_ctx<R: Source>(reader: &mut Reader<R>, ctx: C) -> Result<Self, DekuError>
         ensures reads { Reads R.told (ReadsNumber (signed 64) (C.parts_of ctx)) reader.old result reader.new }
         ensures fetched { OnOk result (FetchesFor (width (signed 64) (C.parts_of ctx)) reader.old.state (R.told reader.old.source) (R.told reader.new.source)) }
@@ -245,6 +255,7 @@ impl<C: NumberCtx> DekuReader<C> for i128 {
 
     ghost meaning = { λ c. ReadsNumber (signed 128) (C.parts_of c) };
 
+    #[inline(always)]
     fn from_reader_with_ctx<R: Source>(reader: &mut Reader<R>, ctx: C) -> Result<Self, DekuError>
         ensures reads { Reads R.told (ReadsNumber (signed 128) (C.parts_of ctx)) reader.old result reader.new }
         ensures fetched { OnOk result (FetchesFor (width (signed 128) (C.parts_of ctx)) reader.old.state (R.told reader.old.source) (R.told reader.new.source)) }
@@ -267,6 +278,7 @@ impl<C: NumberCtx> DekuReader<C> for isize {
 
     ghost meaning = { λ c. ReadsNumber (signed 64) (C.parts_of c) };
 
+    #[inline(always)]
     fn from_reader_with_ctx<R: Source>(reader: &mut Reader<R>, ctx: C) -> Result<Self, DekuError>
         ensures reads { Reads R.told (ReadsNumber (signed 64) (C.parts_of ctx)) reader.old result reader.new }
         ensures fetched { OnOk result (FetchesFor (width (signed 64) (C.parts_of ctx)) reader.old.state (R.told reader.old.source) (R.told reader.new.source)) }

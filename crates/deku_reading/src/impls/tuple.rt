@@ -14,6 +14,7 @@ impl<Ctx: Copy, A: DekuReader<Ctx>> DekuReader<Ctx> for (A,) {
 
     ghost meaning = { λ c. Mapped (λ a. record { 0 = a }) (A.meaning c) };
 
+    #[inline(always)]
     fn from_reader_with_ctx<R: Source>(
         reader: &mut Reader<R>,
         ctx: Ctx,
@@ -32,6 +33,7 @@ impl<Ctx: Copy, A: DekuReader<Ctx>, B: DekuReader<Ctx>> DekuReader<Ctx> for (A, 
 
     ghost meaning = { λ c. PairOf (A.meaning c) (B.meaning c) };
 
+    #[inline(always)]
     fn from_reader_with_ctx<R: Source>(
         reader: &mut Reader<R>,
         ctx: Ctx,
@@ -52,6 +54,7 @@ impl<Ctx: Copy, A: DekuReader<Ctx>, B: DekuReader<Ctx>, C: DekuReader<Ctx>> Deku
 
     ghost meaning = { λ c. JoinedBy (λ a rest. (a, rest.0, rest.1)) (A.meaning c) (⟦<(B, C) as DekuReader<Ctx>>⟧.meaning c) };
 
+    #[inline(always)]
     fn from_reader_with_ctx<R: Source>(
         reader: &mut Reader<R>,
         ctx: Ctx,
@@ -77,6 +80,7 @@ impl<
 
     ghost meaning = { λ c. JoinedBy (λ a rest. (a, rest.0, rest.1, rest.2)) (A.meaning c) (⟦<(B, C, D) as DekuReader<Ctx>>⟧.meaning c) };
 
+    #[inline(always)]
     fn from_reader_with_ctx<R: Source>(
         reader: &mut Reader<R>,
         ctx: Ctx,
@@ -103,6 +107,7 @@ impl<
 
     ghost meaning = { λ c. JoinedBy (λ a rest. (a, rest.0, rest.1, rest.2, rest.3)) (A.meaning c) (⟦<(B, C, D, E) as DekuReader<Ctx>>⟧.meaning c) };
 
+    #[inline(always)]
     fn from_reader_with_ctx<R: Source>(
         reader: &mut Reader<R>,
         ctx: Ctx,
@@ -130,6 +135,7 @@ impl<
 
     ghost meaning = { λ c. JoinedBy (λ a rest. (a, rest.0, rest.1, rest.2, rest.3, rest.4)) (A.meaning c) (⟦<(B, C, D, E, F) as DekuReader<Ctx>>⟧.meaning c) };
 
+    #[inline(always)]
     fn from_reader_with_ctx<R: Source>(
         reader: &mut Reader<R>,
         ctx: Ctx,
@@ -158,6 +164,7 @@ impl<
 
     ghost meaning = { λ c. JoinedBy (λ a rest. (a, rest.0, rest.1, rest.2, rest.3, rest.4, rest.5)) (A.meaning c) (⟦<(B, C, D, E, F, G) as DekuReader<Ctx>>⟧.meaning c) };
 
+    #[inline(always)]
     fn from_reader_with_ctx<R: Source>(
         reader: &mut Reader<R>,
         ctx: Ctx,
@@ -187,6 +194,7 @@ impl<
 
     ghost meaning = { λ c. JoinedBy (λ a rest. (a, rest.0, rest.1, rest.2, rest.3, rest.4, rest.5, rest.6)) (A.meaning c) (⟦<(B, C, D, E, F, G, H) as DekuReader<Ctx>>⟧.meaning c) };
 
+    #[inline(always)]
     fn from_reader_with_ctx<R: Source>(
         reader: &mut Reader<R>,
         ctx: Ctx,
@@ -217,6 +225,7 @@ impl<
 
     ghost meaning = { λ c. JoinedBy (λ a rest. (a, rest.0, rest.1, rest.2, rest.3, rest.4, rest.5, rest.6, rest.7)) (A.meaning c) (⟦<(B, C, D, E, F, G, H, I) as DekuReader<Ctx>>⟧.meaning c) };
 
+    #[inline(always)]
     fn from_reader_with_ctx<R: Source>(
         reader: &mut Reader<R>,
         ctx: Ctx,
@@ -250,6 +259,7 @@ impl<
 
     ghost meaning = { λ c. JoinedBy (λ a rest. (a, rest.0, rest.1, rest.2, rest.3, rest.4, rest.5, rest.6, rest.7, rest.8)) (A.meaning c) (⟦<(B, C, D, E, F, G, H, I, J) as DekuReader<Ctx>>⟧.meaning c) };
 
+    #[inline(always)]
     fn from_reader_with_ctx<R: Source>(
         reader: &mut Reader<R>,
         ctx: Ctx,
@@ -284,6 +294,7 @@ impl<
 
     ghost meaning = { λ c. JoinedBy (λ a rest. (a, rest.0, rest.1, rest.2, rest.3, rest.4, rest.5, rest.6, rest.7, rest.8, rest.9)) (A.meaning c) (⟦<(B, C, D, E, F, G, H, I, J, K) as DekuReader<Ctx>>⟧.meaning c) };
 
+    #[inline(always)]
     fn from_reader_with_ctx<R: Source>(
         reader: &mut Reader<R>,
         ctx: Ctx,

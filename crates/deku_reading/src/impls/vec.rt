@@ -1,6 +1,6 @@
 //! Vectors: items as long as a limit says.
 
-ghost use Rattle.std.specs.Prelude.{◌≡◌};
+ghost use Rattle.std.specs.Prelude.{◌≡◌, []};
 
 use crate::impls::gather::gather_under;
 use crate::traits::DekuReader;
@@ -8,7 +8,7 @@ use deku_bits::device::Source;
 use deku_bits::error::DekuError;
 use deku_bits::reader::Reader;
 use deku_meanings::ctx::{Limit, Order, Predicate, ReadExact};
-use std::io::ErrorKind;
+use std::alloc::Global;
 
 /// The items that the limit says, each under the items' context.
 ///
@@ -35,9 +35,24 @@ impl<T: DekuReader<Ctx>, P: Predicate<T>, Ctx: Copy> DekuReader<(Limit<T, P>, Ct
         ctx: (Limit<T, P>, Ctx),
     ) -> Result<Self, DekuError> {
         let (limit, items) = ctx;
-        let empty = Vec::new(reader.alloc());
+        let empty = empty_for(reader.alloc(), &limit);
         gather_under(empty, reader, limit, items)
     }
+}
+
+// For how many items room is made, at most, before the first is read: a count that no input has is to cost nothing.
+const ROOM: usize = 64;
+
+// An empty vector; where a count says how many items come, with room for the first of them, if memory is found.
+fn empty_for<T, P: Predicate<T>>(alloc: Global, limit: &Limit<T, P>) -> Vec<T>
+    ensures { result.items ≡ [] }
+{
+    if let Limit::Count(count) = limit {
+        if let Ok(roomy) = Vec::with_capacity(alloc, (*count).min(ROOM)) {
+            return roomy;
+        }
+    }
+    Vec::new(alloc)
 }
 
 /// The items that the limit says, each under `()`.
@@ -79,11 +94,6 @@ impl DekuReader<ReadExact> for Vec<u8> {
         ctx: ReadExact,
     ) -> Result<Self, DekuError> {
         let ReadExact(count) = ctx;
-        reader.admits_bytes(count)?;
-        let Ok(mut bytes) = vec![in reader.alloc(); 0; count] else {
-            return Err(DekuError::Io(ErrorKind::OutOfMemory));
-        };
-        reader.read_bytes(count, bytes.as_mut_slice(), Order::Lsb0)?;
-        Ok(bytes)
+        reader.read_bytes_vec(count, Order::Lsb0)
     }
 }

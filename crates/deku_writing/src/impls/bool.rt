@@ -17,6 +17,7 @@ impl<C: NumberCtx> DekuWriter<C> for bool {
 
     ghost meaning = { λ v c. WritesNumber byte (C.parts_of c) (pos (numeral v)) };
 
+    #[inline(always)]
     fn to_writer<W: Sink>(&self, writer: &mut Writer<W>, ctx: C) -> Result<(), DekuError> {
         (*self as u8).to_writer(writer, ctx)
     }

@@ -18,6 +18,7 @@ impl<C: NumberCtx> DekuWriter<C> for Ipv4Addr {
 
     ghost meaning = { λ v c. WritesNumber (unsigned 32) (C.parts_of c) (pos (ipv4_bits v)) };
 
+    #[inline(always)]
     fn to_writer<W: Sink>(&self, writer: &mut Writer<W>, ctx: C) -> Result<(), DekuError> {
         let number: u32 = self.to_bits();
         number.to_writer(writer, ctx)
@@ -35,6 +36,7 @@ impl<C: NumberCtx> DekuWriter<C> for Ipv6Addr {
 
     ghost meaning = { λ v c. WritesNumber (unsigned 128) (C.parts_of c) (pos (ipv6_bits v)) };
 
+    #[inline(always)]
     fn to_writer<W: Sink>(&self, writer: &mut Writer<W>, ctx: C) -> Result<(), DekuError> {
         let number: u128 = self.to_bits();
         number.to_writer(writer, ctx)
@@ -50,6 +52,7 @@ impl<C: NumberCtx> DekuWriter<C> for IpAddr {
 
     ghost meaning = { λ v c. WritesAddress (C.parts_of c) v };
 
+    #[inline(always)]
     fn to_writer<W: Sink>(&self, writer: &mut Writer<W>, ctx: C) -> Result<(), DekuError> {
         match self {
             IpAddr::V4(address) => address.to_writer(writer, ctx),

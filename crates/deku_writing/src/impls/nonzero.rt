@@ -21,6 +21,7 @@ impl<C: NumberCtx> DekuWriter<C> for NonZeroU8 {
 
     ghost meaning = { λ v c. WritesNumber byte (C.parts_of c) (pos (non_zero_u8_get v)) };
 
+    #[inline(always)]
     fn to_writer<W: Sink>(&self, writer: &mut Writer<W>, ctx: C) -> Result<(), DekuError> {
         let number: u8 = self.get();
         number.to_writer(writer, ctx)
@@ -37,6 +38,7 @@ impl<C: NumberCtx> DekuWriter<C> for NonZeroU16 {
 
     ghost meaning = { λ v c. WritesNumber (unsigned 16) (C.parts_of c) (pos (non_zero_u16_get v)) };
 
+    #[inline(always)]
     fn to_writer<W: Sink>(&self, writer: &mut Writer<W>, ctx: C) -> Result<(), DekuError> {
         let number: u16 = self.get();
         number.to_writer(writer, ctx)
@@ -53,6 +55,7 @@ impl<C: NumberCtx> DekuWriter<C> for NonZeroU32 {
 
     ghost meaning = { λ v c. WritesNumber (unsigned 32) (C.parts_of c) (pos (non_zero_u32_get v)) };
 
+    #[inline(always)]
     fn to_writer<W: Sink>(&self, writer: &mut Writer<W>, ctx: C) -> Result<(), DekuError> {
         let number: u32 = self.get();
         number.to_writer(writer, ctx)
@@ -69,6 +72,7 @@ impl<C: NumberCtx> DekuWriter<C> for NonZeroU64 {
 
     ghost meaning = { λ v c. WritesNumber (unsigned 64) (C.parts_of c) (pos (non_zero_u64_get v)) };
 
+    #[inline(always)]
     fn to_writer<W: Sink>(&self, writer: &mut Writer<W>, ctx: C) -> Result<(), DekuError> {
         let number: u64 = self.get();
         number.to_writer(writer, ctx)
@@ -85,6 +89,7 @@ impl<C: NumberCtx> DekuWriter<C> for NonZeroU128 {
 
     ghost meaning = { λ v c. WritesNumber (unsigned 128) (C.parts_of c) (pos (non_zero_u128_get v)) };
 
+    #[inline(always)]
     fn to_writer<W: Sink>(&self, writer: &mut Writer<W>, ctx: C) -> Result<(), DekuError> {
         let number: u128 = self.get();
         number.to_writer(writer, ctx)
@@ -101,6 +106,7 @@ impl<C: NumberCtx> DekuWriter<C> for NonZeroUsize {
 
     ghost meaning = { λ v c. WritesNumber (unsigned 64) (C.parts_of c) (pos (non_zero_usize_get v)) };
 
+    #[inline(always)]
     fn to_writer<W: Sink>(&self, writer: &mut Writer<W>, ctx: C) -> Result<(), DekuError> {
         let number: usize = self.get();
         number.to_writer(writer, ctx)
@@ -117,6 +123,7 @@ impl<C: NumberCtx> DekuWriter<C> for NonZeroI8 {
 
     ghost meaning = { λ v c. WritesNumber (signed 8) (C.parts_of c) (non_zero_i8_get v) };
 
+    #[inline(always)]
     fn to_writer<W: Sink>(&self, writer: &mut Writer<W>, ctx: C) -> Result<(), DekuError> {
         let number: i8 = self.get();
         number.to_writer(writer, ctx)
@@ -133,6 +140,7 @@ impl<C: NumberCtx> DekuWriter<C> for NonZeroI16 {
 
     ghost meaning = { λ v c. WritesNumber (signed 16) (C.parts_of c) (non_zero_i16_get v) };
 
+    #[inline(always)]
     fn to_writer<W: Sink>(&self, writer: &mut Writer<W>, ctx: C) -> Result<(), DekuError> {
         let number: i16 = self.get();
         number.to_writer(writer, ctx)
@@ -149,6 +157,7 @@ impl<C: NumberCtx> DekuWriter<C> for NonZeroI32 {
 
     ghost meaning = { λ v c. WritesNumber (signed 32) (C.parts_of c) (non_zero_i32_get v) };
 
+    #[inline(always)]
     fn to_writer<W: Sink>(&self, writer: &mut Writer<W>, ctx: C) -> Result<(), DekuError> {
         let number: i32 = self.get();
         number.to_writer(writer, ctx)
@@ -165,6 +174,7 @@ impl<C: NumberCtx> DekuWriter<C> for NonZeroI64 {
 
     ghost meaning = { λ v c. WritesNumber (signed 64) (C.parts_of c) (non_zero_i64_get v) };
 
+    #[inline(always)]
     fn to_writer<W: Sink>(&self, writer: &mut Writer<W>, ctx: C) -> Result<(), DekuError> {
         let number: i64 = self.get();
         number.to_writer(writer, ctx)
@@ -181,6 +191,7 @@ impl<C: NumberCtx> DekuWriter<C> for NonZeroI128 {
 
     ghost meaning = { λ v c. WritesNumber (signed 128) (C.parts_of c) (non_zero_i128_get v) };
 
+    #[inline(always)]
     fn to_writer<W: Sink>(&self, writer: &mut Writer<W>, ctx: C) -> Result<(), DekuError> {
         let number: i128 = self.get();
         number.to_writer(writer, ctx)
@@ -197,6 +208,7 @@ impl<C: NumberCtx> DekuWriter<C> for NonZeroIsize {
 
     ghost meaning = { λ v c. WritesNumber (signed 64) (C.parts_of c) (non_zero_isize_get v) };
 
+    #[inline(always)]
     fn to_writer<W: Sink>(&self, writer: &mut Writer<W>, ctx: C) -> Result<(), DekuError> {
         let number: isize = self.get();
         number.to_writer(writer, ctx)

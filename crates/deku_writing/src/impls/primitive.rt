@@ -17,6 +17,7 @@ impl<C: NumberCtx> DekuWriter<C> for u8 {
 
     ghost meaning = { λ v c. WritesNumber byte (C.parts_of c) (pos v) };
 
+    #[inline(always)]
     fn to_writer<W: Sink>(&self, writer: &mut Writer<W>, ctx: C) -> Result<(), DekuError> {
         write_unsigned(writer, *self as u128, NumberType::U8, ctx.parts())
     }
@@ -31,6 +32,7 @@ impl<C: NumberCtx> DekuWriter<C> for u16 {
 
     ghost meaning = { λ v c. WritesNumber (unsigned 16) (C.parts_of c) (pos v) };
 
+    #[inline(always)]
     fn to_writer<W: Sink>(&self, writer: &mut Writer<W>, ctx: C) -> Result<(), DekuError> {
         write_unsigned(writer, *self as u128, NumberType::U16, ctx.parts())
     }
@@ -45,6 +47,7 @@ impl<C: NumberCtx> DekuWriter<C> for u32 {
 
     ghost meaning = { λ v c. WritesNumber (unsigned 32) (C.parts_of c) (pos v) };
 
+    #[inline(always)]
     fn to_writer<W: Sink>(&self, writer: &mut Writer<W>, ctx: C) -> Result<(), DekuError> {
         write_unsigned(writer, *self as u128, NumberType::U32, ctx.parts())
     }
@@ -59,6 +62,7 @@ impl<C: NumberCtx> DekuWriter<C> for u64 {
 
     ghost meaning = { λ v c. WritesNumber (unsigned 64) (C.parts_of c) (pos v) };
 
+    #[inline(always)]
     fn to_writer<W: Sink>(&self, writer: &mut Writer<W>, ctx: C) -> Result<(), DekuError> {
         write_unsigned(writer, *self as u128, NumberType::U64, ctx.parts())
     }
@@ -73,6 +77,7 @@ impl<C: NumberCtx> DekuWriter<C> for u128 {
 
     ghost meaning = { λ v c. WritesNumber (unsigned 128) (C.parts_of c) (pos v) };
 
+    #[inline(always)]
     fn to_writer<W: Sink>(&self, writer: &mut Writer<W>, ctx: C) -> Result<(), DekuError> {
         write_unsigned(writer, *self, NumberType::U128, ctx.parts())
     }
@@ -87,6 +92,7 @@ impl<C: NumberCtx> DekuWriter<C> for usize {
 
     ghost meaning = { λ v c. WritesNumber (unsigned 64) (C.parts_of c) (pos v) };
 
+    #[inline(always)]
     fn to_writer<W: Sink>(&self, writer: &mut Writer<W>, ctx: C) -> Result<(), DekuError> {
         write_unsigned(writer, *self as u128, NumberType::USIZE, ctx.parts())
     }
@@ -101,6 +107,7 @@ impl<C: NumberCtx> DekuWriter<C> for i8 {
 
     ghost meaning = { λ v c. WritesNumber (signed 8) (C.parts_of c) v };
 
+    #[inline(always)]
     fn to_writer<W: Sink>(&self, writer: &mut Writer<W>, ctx: C) -> Result<(), DekuError> {
         write_signed(writer, *self as i128, NumberType::I8, ctx.parts())
     }
@@ -115,6 +122,7 @@ impl<C: NumberCtx> DekuWriter<C> for i16 {
 
     ghost meaning = { λ v c. WritesNumber (signed 16) (C.parts_of c) v };
 
+    #[inline(always)]
     fn to_writer<W: Sink>(&self, writer: &mut Writer<W>, ctx: C) -> Result<(), DekuError> {
         write_signed(writer, *self as i128, NumberType::I16, ctx.parts())
     }
@@ -129,6 +137,7 @@ impl<C: NumberCtx> DekuWriter<C> for i32 {
 
     ghost meaning = { λ v c. WritesNumber (signed 32) (C.parts_of c) v };
 
+    #[inline(always)]
     fn to_writer<W: Sink>(&self, writer: &mut Writer<W>, ctx: C) -> Result<(), DekuError> {
         write_signed(writer, *self as i128, NumberType::I32, ctx.parts())
     }
@@ -143,6 +152,7 @@ impl<C: NumberCtx> DekuWriter<C> for i64 {
 
     ghost meaning = { λ v c. WritesNumber (signed 64) (C.parts_of c) v };
 
+    #[inline(always)]
     fn to_writer<W: Sink>(&self, writer: &mut Writer<W>, ctx: C) -> Result<(), DekuError> {
         write_signed(writer, *self as i128, NumberType::I64, ctx.parts())
     }
@@ -157,6 +167,7 @@ impl<C: NumberCtx> DekuWriter<C> for i128 {
 
     ghost meaning = { λ v c. WritesNumber (signed 128) (C.parts_of c) v };
 
+    #[inline(always)]
     fn to_writer<W: Sink>(&self, writer: &mut Writer<W>, ctx: C) -> Result<(), DekuError> {
         write_signed(writer, *self, NumberType::I128, ctx.parts())
     }
@@ -171,6 +182,7 @@ impl<C: NumberCtx> DekuWriter<C> for isize {
 
     ghost meaning = { λ v c. WritesNumber (signed 64) (C.parts_of c) v };
 
+    #[inline(always)]
     fn to_writer<W: Sink>(&self, writer: &mut Writer<W>, ctx: C) -> Result<(), DekuError> {
         write_signed(writer, *self as i128, NumberType::ISIZE, ctx.parts())
     }

@@ -10,6 +10,7 @@ impl<Ctx: Copy, A: DekuWriter<Ctx>> DekuWriter<Ctx> for (A,) {
 
     ghost meaning = { λ v c. A.meaning v.0 c };
 
+    #[inline(always)]
     fn to_writer<W: Sink>(&self, writer: &mut Writer<W>, ctx: Ctx) -> Result<(), DekuError> {
         self.0.to_writer(writer, ctx)
     }
@@ -22,6 +23,7 @@ impl<Ctx: Copy, A: DekuWriter<Ctx>, B: DekuWriter<Ctx>> DekuWriter<Ctx> for (A, 
 
     ghost meaning = { λ v c. Both (A.meaning v.0 c) (B.meaning v.1 c) };
 
+    #[inline(always)]
     fn to_writer<W: Sink>(&self, writer: &mut Writer<W>, ctx: Ctx) -> Result<(), DekuError> {
         let (a, b) = self;
         a.to_writer(writer, ctx)?;
@@ -37,6 +39,7 @@ impl<Ctx: Copy, A: DekuWriter<Ctx>, B: DekuWriter<Ctx>, C: DekuWriter<Ctx>> Deku
 
     ghost meaning = { λ v c. Both (A.meaning v.0 c) (Both (B.meaning v.1 c) (C.meaning v.2 c)) };
 
+    #[inline(always)]
     fn to_writer<W: Sink>(&self, writer: &mut Writer<W>, ctx: Ctx) -> Result<(), DekuError> {
         let (a, b, c) = self;
         a.to_writer(writer, ctx)?;
@@ -57,6 +60,7 @@ impl<
 
     ghost meaning = { λ v c. Both (A.meaning v.0 c) (Both (B.meaning v.1 c) (Both (C.meaning v.2 c) (D.meaning v.3 c))) };
 
+    #[inline(always)]
     fn to_writer<W: Sink>(&self, writer: &mut Writer<W>, ctx: Ctx) -> Result<(), DekuError> {
         let (a, b, c, d) = self;
         a.to_writer(writer, ctx)?;
@@ -78,6 +82,7 @@ impl<
 
     ghost meaning = { λ v c. Both (A.meaning v.0 c) (Both (B.meaning v.1 c) (Both (C.meaning v.2 c) (Both (D.meaning v.3 c) (E.meaning v.4 c)))) };
 
+    #[inline(always)]
     fn to_writer<W: Sink>(&self, writer: &mut Writer<W>, ctx: Ctx) -> Result<(), DekuError> {
         let (a, b, c, d, e) = self;
         a.to_writer(writer, ctx)?;
@@ -100,6 +105,7 @@ impl<
 
     ghost meaning = { λ v c. Both (A.meaning v.0 c) (Both (B.meaning v.1 c) (Both (C.meaning v.2 c) (Both (D.meaning v.3 c) (Both (E.meaning v.4 c) (F.meaning v.5 c))))) };
 
+    #[inline(always)]
     fn to_writer<W: Sink>(&self, writer: &mut Writer<W>, ctx: Ctx) -> Result<(), DekuError> {
         let (a, b, c, d, e, f) = self;
         a.to_writer(writer, ctx)?;
@@ -123,6 +129,7 @@ impl<
 
     ghost meaning = { λ v c. Both (A.meaning v.0 c) (Both (B.meaning v.1 c) (Both (C.meaning v.2 c) (Both (D.meaning v.3 c) (Both (E.meaning v.4 c) (Both (F.meaning v.5 c) (G.meaning v.6 c)))))) };
 
+    #[inline(always)]
     fn to_writer<W: Sink>(&self, writer: &mut Writer<W>, ctx: Ctx) -> Result<(), DekuError> {
         let (a, b, c, d, e, f, g) = self;
         a.to_writer(writer, ctx)?;
@@ -147,6 +154,7 @@ impl<
 
     ghost meaning = { λ v c. Both (A.meaning v.0 c) (Both (B.meaning v.1 c) (Both (C.meaning v.2 c) (Both (D.meaning v.3 c) (Both (E.meaning v.4 c) (Both (F.meaning v.5 c) (Both (G.meaning v.6 c) (H.meaning v.7 c))))))) };
 
+    #[inline(always)]
     fn to_writer<W: Sink>(&self, writer: &mut Writer<W>, ctx: Ctx) -> Result<(), DekuError> {
         let (a, b, c, d, e, f, g, h) = self;
         a.to_writer(writer, ctx)?;
@@ -172,6 +180,7 @@ impl<
 
     ghost meaning = { λ v c. Both (A.meaning v.0 c) (Both (B.meaning v.1 c) (Both (C.meaning v.2 c) (Both (D.meaning v.3 c) (Both (E.meaning v.4 c) (Both (F.meaning v.5 c) (Both (G.meaning v.6 c) (Both (H.meaning v.7 c) (I.meaning v.8 c)))))))) };
 
+    #[inline(always)]
     fn to_writer<W: Sink>(&self, writer: &mut Writer<W>, ctx: Ctx) -> Result<(), DekuError> {
         let (a, b, c, d, e, f, g, h, i) = self;
         a.to_writer(writer, ctx)?;
@@ -198,6 +207,7 @@ impl<
 
     ghost meaning = { λ v c. Both (A.meaning v.0 c) (Both (B.meaning v.1 c) (Both (C.meaning v.2 c) (Both (D.meaning v.3 c) (Both (E.meaning v.4 c) (Both (F.meaning v.5 c) (Both (G.meaning v.6 c) (Both (H.meaning v.7 c) (Both (I.meaning v.8 c) (J.meaning v.9 c))))))))) };
 
+    #[inline(always)]
     fn to_writer<W: Sink>(&self, writer: &mut Writer<W>, ctx: Ctx) -> Result<(), DekuError> {
         let (a, b, c, d, e, f, g, h, i, j) = self;
         a.to_writer(writer, ctx)?;
@@ -225,6 +235,7 @@ impl<
 
     ghost meaning = { λ v c. Both (A.meaning v.0 c) (Both (B.meaning v.1 c) (Both (C.meaning v.2 c) (Both (D.meaning v.3 c) (Both (E.meaning v.4 c) (Both (F.meaning v.5 c) (Both (G.meaning v.6 c) (Both (H.meaning v.7 c) (Both (I.meaning v.8 c) (Both (J.meaning v.9 c) (K.meaning v.10 c)))))))))) };
 
+    #[inline(always)]
     fn to_writer<W: Sink>(&self, writer: &mut Writer<W>, ctx: Ctx) -> Result<(), DekuError> {
         let (a, b, c, d, e, f, g, h, i, j, k) = self;
         a.to_writer(writer, ctx)?;

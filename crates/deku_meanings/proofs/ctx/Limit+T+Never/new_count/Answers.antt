@@ -1,0 +1,5 @@
+use Rattle.std.proofs.Common.{rules}
+use Rattle.deku_meanings.proofs.ctx.Limit+T+Never.new_count.Goals as goal
+
+pub returns : goal.returns
+returns g c = search rules
