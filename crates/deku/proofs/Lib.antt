@@ -19,4 +19,5 @@ pub mod Vectors
 pub mod SeenVectors
 pub mod Sizing
 pub mod Containers
+pub mod Causes
 pub mod WorkedRows

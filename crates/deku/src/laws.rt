@@ -1,16 +1,26 @@
 //! Laws of what is written: each is what an empty function ensures.
 
-ghost use Rattle.std.specs.Prelude.{◌≡◌, ℕ, ◌+◌, ◌*◌, Bool, List, length, pos};
+ghost use Rattle.std.specs.Prelude.{◌≡◌, ℕ, ◌+◌, ◌*◌, Bool, List, Err, ℤ, length, pos};
 ghost use Rattle.std.specs.List.{All};
+ghost use Rattle.std.specs.declared.io.ErrorKind.{ErrorKind};
+ghost use Rattle.deku_bits.specs.declared.error.DekuError.TheVariants.{Io};
+ghost use Rattle.deku_bits.specs.Causes.{OwnFaults, NoKind, WantsMemory, WantsPlace};
+ghost use Rattle.deku_bits.specs.WriterCalls.{Finalizes};
+ghost use Rattle.deku_num.specs.declared.ctx.Layout.{Layout as FieldLayout};
+ghost use Rattle.deku_num.specs.declared.kind.NumberType.{NumberType as FieldType};
+ghost use Rattle.deku_num.specs.NumberCalls.{ReadsNumber, WritesNumber};
+ghost use Rattle.deku_meanings.specs.Shapes.{JoinedBy};
+ghost use Rattle.deku.specs.Wholes.{Behind, ReadsBytesOnce, WritesOnce, WritesOver, WritesBare};
 ghost use Rattle.deku_meanings.specs.Composing.{Both};
 ghost use Rattle.deku_writing.specs.Composing.{WritesEach};
 ghost use Rattle.deku.specs.Extents.{IsSized, NumberSizeLaw, KeepsSize, NumbersKeepSize};
 ghost use Rattle.deku_num.specs.Numbers.{byte, unsigned, signed};
+ghost use Rattle.deku_meanings.specs.declared.ctx.Limit.{Limit as LimitOf};
 ghost use Rattle.deku_meanings.specs.declared.ctx.Limit.TheVariants.{Count};
 ghost use Rattle.deku.specs.VectorLaws.{ReadsAsWritten};
 ghost use Rattle.deku.specs.Rows.{VectorRows};
 
-use deku_meanings::ctx::{Limit, Never};
+use deku_meanings::ctx::{Limit, Never, Predicate};
 use deku_num::ctx::NumberCtx;
 use deku_num::size::DekuSize;
 use deku_reading::DekuReader;
@@ -114,4 +124,43 @@ pub fn vector_law<C: NumberCtx>()
 /// Worked examples of vectors that are written.
 pub fn vector_rows()
     ensures { VectorRows }
+{}
+
+/// A number that is read has no `Io` of its own, nor has one that is written, but for want of room or of memory.
+pub fn number_cause_law()
+    ensures reads { (t : FieldType) (l : FieldLayout) → OwnFaults NoKind (ReadsNumber t l) }
+    ensures writes { (t : FieldType) (l : FieldLayout) (v : ℤ) → OwnFaults WantsPlace (WritesNumber t l v) }
+{}
+
+/// What is made of items has no `Io` of its own, if its items have none: two items as one value, and arrays; or none but want of memory, and vectors under
+/// any limit have none but that. So are tuples, whose items are the first one and those behind it; and sets, maps and boxed slices, which are read as
+/// vectors are.
+pub fn items_cause_law<
+    Ctx: Copy,
+    A: DekuReader<Ctx>,
+    B: DekuReader<Ctx>,
+    X,
+    P: Predicate<A>,
+    const N: usize,
+>()
+    ensures wider { (c : Ctx) → OwnFaults NoKind (A.meaning c) → OwnFaults WantsMemory (A.meaning c) }
+    ensures joined_alone { (h : A → B → X) (c : Ctx) → OwnFaults NoKind (A.meaning c) → OwnFaults NoKind (B.meaning c) → OwnFaults NoKind (JoinedBy h (A.meaning c) (B.meaning c)) }
+    ensures array_alone { (c : Ctx) → OwnFaults NoKind (A.meaning c) → OwnFaults NoKind (⟦<[A; N] as DekuReader<Ctx>>⟧.meaning c) }
+    ensures joined { (h : A → B → X) (c : Ctx) → OwnFaults WantsMemory (A.meaning c) → OwnFaults WantsMemory (B.meaning c) → OwnFaults WantsMemory (JoinedBy h (A.meaning c) (B.meaning c)) }
+    ensures array { (c : Ctx) → OwnFaults WantsMemory (A.meaning c) → OwnFaults WantsMemory (⟦<[A; N] as DekuReader<Ctx>>⟧.meaning c) }
+    ensures vector { (l : LimitOf A P) (c : Ctx) → OwnFaults WantsMemory (A.meaning c) → OwnFaults WantsMemory (⟦<Vec<A> as DekuReader<(Limit<A, P>, Ctx)>>⟧.meaning (l, c)) }
+{}
+
+/// The same of what is written: two items one after the other, and vectors, with which stand slices and arrays.
+pub fn written_cause_law<Ctx: Copy, A: DekuWriter<Ctx>, B: DekuWriter<Ctx>>()
+    ensures both { (a : A) (b : B) (c : Ctx) → OwnFaults WantsPlace (A.meaning a c) → OwnFaults WantsPlace (B.meaning b c) → OwnFaults WantsPlace (Both (A.meaning a c) (B.meaning b c)) }
+    ensures each { (vs : List A) (c : Ctx) → ((v : A) → OwnFaults WantsPlace (A.meaning v c)) → OwnFaults WantsPlace (WritesEach (λ v. A.meaning v c) vs) }
+{}
+
+/// The calls on whole values answer an `Io` only of the value's own kinds: slices and memory do not fail.
+pub fn whole_cause_law<T: DekuReader<()> + DekuWriter<()>>()
+    ensures from_bytes { (n : ℕ) (bytes : List ℕ) (k : ErrorKind) → OwnFaults WantsMemory (T.DekuReader.meaning tt) → ReadsBytesOnce (Behind n (T.DekuReader.meaning tt)) bytes (Err (Io k)) → WantsMemory k }
+    ensures to_bytes { (v : T) (k : ErrorKind) → OwnFaults WantsPlace (T.DekuWriter.meaning v tt) → WritesOnce (Both (T.DekuWriter.meaning v tt) Finalizes) (Err (Io k)) → WantsPlace k }
+    ensures to_slice { (v : T) (old new : List ℕ) (k : ErrorKind) → OwnFaults WantsPlace (T.DekuWriter.meaning v tt) → WritesOver (Both (T.DekuWriter.meaning v tt) Finalizes) old (Err (Io k)) new → WantsPlace k }
+    ensures to_bits { (v : T) (k : ErrorKind) → OwnFaults WantsPlace (T.DekuWriter.meaning v tt) → WritesBare (T.DekuWriter.meaning v tt) (Err (Io k)) → WantsPlace k }
 {}

@@ -19,3 +19,4 @@ pub mod NamedItems
 pub mod Runs
 pub mod Cuts
 pub mod Giving
+pub mod Causes

@@ -1,9 +1,12 @@
 //! Reading lists of fields.
 
-ghost use Rattle.std.specs.Prelude.{◌≡◌, ◌≤◌, ◌*◌, [], length, map, OnOk, IfOk};
+ghost use Rattle.std.specs.Prelude.{◌≡◌, ◌≤◌, ◌*◌, [], length, map, OnOk, IfOk, IfErr};
+ghost use Rattle.std.specs.declared.io.ErrorKind.{ErrorKind as IoKind};
+ghost use Rattle.deku_bits.specs.declared.error.DekuError.TheVariants.{Io};
 ghost use Rattle.deku_bits.specs.Pieces.{total};
 ghost use Rattle.deku_bits.specs.Standings.{Untouched};
 ghost use Rattle.deku_bits.specs.ReaderCalls.{Reads, FetchesFor, NoneEarly};
+ghost use Rattle.deku_bits.specs.Causes.{NoKind, WantsMemory, Caused};
 ghost use Rattle.deku_fields.specs.Items.{field_shape, field_width};
 ghost use Rattle.deku_fields.specs.ListCalls.{ListFrom, ReadsField, ReadsFields, ReadsVec, filling, items_of};
 ghost use Rattle.deku_fields.specs.Promise.{FindsAny, FindsIn, LeavesBehind, ReadsBack, ReadsBackVec, ReadsBackFrom, ReadsWhereSound, ReadsWhereTold};
@@ -39,6 +42,7 @@ pub fn read_list_into<R: Source>(
     ensures early { NoneEarly reader.old.state reader.new.state }
     ensures stopped { Untouched reader.old.state reader.old.source reader.new.source }
     ensures none { fields.now ≡ [] → reader.new ≡ reader.old }
+    ensures cause { Caused NoKind reader.old.state (R.told reader.old.source).health result (R.told reader.new.source).health }
 {
     for (place, field) in fields.iter().enumerate() {
         match read_field(reader, field) {
@@ -81,6 +85,7 @@ pub fn read_list<R: Source>(
     ensures early { NoneEarly reader.old.state reader.new.state }
     ensures stopped { Untouched reader.old.state reader.old.source reader.new.source }
     ensures none { fields.now ≡ [] → reader.new ≡ reader.old }
+    ensures cause { Caused WantsMemory reader.old.state (R.told reader.old.source).health result (R.told reader.new.source).health }
 {
     let Ok(mut numbers) = vec![in reader.alloc(); Number::Unsigned(0); fields.len()] else {
         return Err(DekuError::Io(ErrorKind::OutOfMemory));
@@ -108,6 +113,7 @@ pub fn list_from_bytes(
     ensures values { ReadsBackFrom fields.now bytes.now result }
     ensures found { FindsIn fields.now bytes.now result }
     ensures fetched { IfOk result (λ v. (v.0 ≡ total (map field_shape fields.now)) × (v.0 ≤ 8 * length bytes.now)) }
+    ensures cause { IfErr result (λ e. (k : IoKind) → e ≡ Io k → WantsMemory k) }
 {
     let mut reader = Reader::new(alloc, Cursor::new(bytes));
     match read_list(&mut reader, fields) {

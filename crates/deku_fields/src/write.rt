@@ -1,7 +1,10 @@
 //! Writing lists of items.
 
-ghost use Rattle.std.specs.Prelude.{◌≡◌, [], take};
+ghost use Rattle.std.specs.Prelude.{◌≡◌, [], take, IfErr};
+ghost use Rattle.std.specs.declared.io.ErrorKind.{ErrorKind as IoKind};
+ghost use Rattle.deku_bits.specs.declared.error.DekuError.TheVariants.{Io};
 ghost use Rattle.std.specs.Io.Cursor.{cursor_position, cursor_inner};
+ghost use Rattle.deku_bits.specs.Causes.{WantsPlace, Caused};
 ghost use Rattle.deku_bits.specs.Standings.{Untouched};
 ghost use Rattle.deku_bits.specs.WriterCalls.{Writes, Finalizes};
 ghost use Rattle.deku.specs.Composing.{Both};
@@ -26,6 +29,7 @@ pub fn write_list<W: Sink>(writer: &mut Writer<W>, items: &[Item]) -> Result<(),
     ensures laid_out { WritesWhereSound W.told (WritesLaid items.now) writer.old result writer.new }
     ensures stopped { Untouched writer.old.state writer.old.sink writer.new.sink }
     ensures none { items.now ≡ [] → writer.new ≡ writer.old }
+    ensures cause { Caused WantsPlace writer.old.state (W.told writer.old.sink).health result (W.told writer.new.sink).health }
 {
     for item in items {
         match write_item(writer, item) {
@@ -63,6 +67,7 @@ pub fn list_to_bytes(alloc: Global, items: &[Item]) -> Result<Vec<u8>, DekuError
     ensures meaning { WritesWhole (Both (WritesItems items.now) Finalizes) result }
     ensures laid_out { LaidOut items.now result }
     ensures back { WritesBack items.now result }
+    ensures cause { IfErr result (λ e. (k : IoKind) → e ≡ Io k → WantsPlace k) }
 {
     let mut writer = Writer::new(Cursor::new(Vec::new(alloc)));
     match write_padded(&mut writer, items) {

@@ -6,6 +6,7 @@ use Rattle.deku_fields.proofs.ReadBack.{back_ok, back_err, from_first}
 use Rattle.deku_bits.specs.Standings.{count_of}
 use Rattle.deku_bits.specs.Streams.{fresh}
 use Rattle.deku_fields.proofs.Fetching.{bits_found}
+use Rattle.deku_fields.proofs.Causes.{bytes_caused}
 use Rattle.deku_fields.proofs.read.list_from_bytes.Goals as goal
 
 pub returns-in-Ok-clause-meaning : goal.returns-in-Ok-clause-meaning
@@ -40,3 +41,6 @@ returns-in-Ok-clause-found c =
     let begin = starts_fresh _ c.args.bytes.now _ (ap whole_source c.new-reader.ensures.source ∙ new_source c.new.result _ c.new.ensures.inner c.new.ensures.position) c.new-reader.ensures.state in
     let found = c.in-Ok.ensures.found (fresh c.args.bytes.now) 0 begin in
     (found.allowed, (found.rest, found.read))
+
+pub returns-in-Err-clause-cause : goal.returns-in-Err-clause-cause
+returns-in-Err-clause-cause c = bytes_caused c.args.fields.now c.args.bytes.now _ (returns-in-Err-clause-meaning c)

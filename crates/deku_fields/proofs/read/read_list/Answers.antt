@@ -2,6 +2,7 @@ use Rattle.std.proofs.Common.{◌≡◌, ◌∙◌, ◌++◌, length, take, drop
 use Rattle.std.proofs.lemmas.List.{take_at}
 use Rattle.deku_fields.proofs.ReadBack.{found, vec_back, left_behind}
 use Rattle.deku_fields.proofs.Finding.{vec_finds}
+use Rattle.deku_fields.proofs.Causes.{vec_caused}
 use Rattle.deku_fields.proofs.read.read_list.Goals as goal
 
 pub returns-in-Ok-read_list_into-clause-meaning : goal.returns-in-Ok-read_list_into-clause-meaning
@@ -31,3 +32,6 @@ returns-in-Ok-read_list_into-clause-found g c = vec_finds c.args.fields.now _ _ 
 
 pub returns-in-Err-clause-found : goal.returns-in-Err-clause-found
 returns-in-Err-clause-found g c = vec_finds c.args.fields.now _ _ (returns-in-Err-clause-meaning g c)
+
+pub returns-in-Err-clause-cause : goal.returns-in-Err-clause-cause
+returns-in-Err-clause-cause g c = vec_caused c.args.fields.now _ c.args.reader.now.state _ _ _ _ (returns-in-Err-clause-meaning g c)

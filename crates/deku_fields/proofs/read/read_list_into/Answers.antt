@@ -5,6 +5,7 @@ use Rattle.deku_fields.proofs.Stepping.{early_on, started, field_read, field_ref
 use Rattle.deku_fields.proofs.ReadBack.{fields_back, left_behind}
 use Rattle.deku_fields.proofs.Finding.{finds_any}
 use Rattle.deku_fields.proofs.Fetching.{tally_none, tally_more, tally_whole}
+use Rattle.deku_fields.proofs.Causes.{list_caused}
 use Rattle.deku_fields.proofs.read.read_list_into.Goals as goal
 
 pub loop-place-init : goal.loop-place-init
@@ -63,3 +64,6 @@ returns-clause-none g c = λ e. c.loop-place.invariant.5 (omega (arith, ap lengt
 
 pub returns-in-Err-clause-none : goal.returns-in-Err-clause-none
 returns-in-Err-clause-none g c = λ e. absurd (omega (arith, ap length e))
+
+pub returns-in-Err-clause-cause : goal.returns-in-Err-clause-cause
+returns-in-Err-clause-cause g c = list_caused c.args.fields.now _ c.args.reader.now.state _ c.in-Err.refusal _ _ (returns-in-Err-clause-meaning g c)

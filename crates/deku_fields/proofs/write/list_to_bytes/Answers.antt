@@ -3,6 +3,7 @@ use Rattle.deku_bits.proofs.Handing.{unbroken}
 use Rattle.deku.proofs.Containers.{starts_empty, below, before, place_of, items_in, steady, tells}
 use Rattle.deku_fields.proofs.Whole.{written_whole, laid_ok, laid_err, from_start}
 use Rattle.deku_fields.proofs.Rewritten.{fitting_read, as_taken}
+use Rattle.deku_fields.proofs.Causes.{whole_caused}
 use Rattle.deku_fields.proofs.write.list_to_bytes.Goals as goal
 
 pub returns-in-Ok-clause-meaning : goal.returns-in-Ok-clause-meaning
@@ -36,3 +37,6 @@ returns-in-Ok-clause-back c = λ bytes T allowed aligned small bounded reads.
 pub returns-in-Err-clause-back : goal.returns-in-Err-clause-back
 returns-in-Err-clause-back c = λ bytes T allowed aligned small bounded reads.
     returns-in-Err-clause-laid_out c (fitting_read c.args.items.now bytes T allowed aligned bounded reads) aligned small
+
+pub returns-in-Err-clause-cause : goal.returns-in-Err-clause-cause
+returns-in-Err-clause-cause c = whole_caused c.args.items.now _ (returns-in-Err-clause-meaning c)

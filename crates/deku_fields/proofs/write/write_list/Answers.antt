@@ -2,6 +2,7 @@ use Rattle.std.proofs.Common.{◌≡◌, ◌+◌, length, ap, refl, arith}
 use Rattle.deku_fields.proofs.Resting.{rests, rests_in, rests_on, item_going}
 use Rattle.deku_fields.proofs.Stepping.{begun, item_written, item_refused, items_written}
 use Rattle.deku_fields.proofs.Padded.{laid_written}
+use Rattle.deku_fields.proofs.Causes.{items_caused}
 use Rattle.deku_fields.proofs.write.write_list.Goals as goal
 
 pub loop-item-init : goal.loop-item-init
@@ -41,3 +42,6 @@ returns-clause-none g c = λ e. c.loop-item.invariant.2 (omega (arith, ap length
 
 pub returns-in-Err-clause-none : goal.returns-in-Err-clause-none
 returns-in-Err-clause-none g c = λ e. absurd (omega (arith, ap length e))
+
+pub returns-in-Err-clause-cause : goal.returns-in-Err-clause-cause
+returns-in-Err-clause-cause g c = items_caused c.args.items.now (g.W.Sink.told c.args.writer.now.sink) c.args.writer.now.state _ _ _ _ (returns-in-Err-clause-meaning g c)

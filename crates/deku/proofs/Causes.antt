@@ -1,0 +1,175 @@
+-- Where faults of the kind `Io` come from in what is made of other calls.
+use Rattle.std.proofs.Common.{◌≡◌, ◌⊎◌, ℕ, zero, suc, Bool, true, List, [], ◌∷◌, Option, Result, Ok, Err, ℤ, refl, sym, inl, inr, ⊎_elim, subst}
+use Rattle.std.specs.Borrow.{Bor}
+use Rattle.std.specs.declared.io.ErrorKind.{ErrorKind}
+use Rattle.std.specs.declared.io.ErrorKind.TheVariants.{OutOfMemory}
+use Rattle.deku_bits.specs.declared.error.DekuError.{DekuError}
+use Rattle.deku_bits.specs.declared.error.DekuError.TheVariants.{Io, Parse, InvalidParam}
+use Rattle.deku_bits.specs.Streams.{Stream}
+use Rattle.deku_bits.specs.Standings.{Standing, Output}
+use Rattle.deku_bits.specs.Outcomes.{Meaning, Refuses}
+use Rattle.deku_bits.specs.ReaderCalls.{Takes, Ending, Skips}
+use Rattle.deku_bits.specs.Causes.{KeepsIo, NoKind, WantsMemory, WantsPlace, OwnFaults}
+use Rattle.deku_bits.proofs.Causes.{mapped, wider, cause_law}
+use Rattle.deku_num.specs.declared.ctx.Layout.{Layout}
+use Rattle.deku_num.specs.declared.kind.NumberType.{NumberType}
+use Rattle.deku_num.specs.NumberCalls.{Checked, Refused, Passed, RefusesLayout, ReadsNumber, WritesNumber}
+use Rattle.deku_meanings.specs.declared.ctx.Limit.{Limit}
+use Rattle.deku_meanings.specs.declared.ctx.Limit.TheVariants.{Count, Until, ByteSize, BitSize, End}
+use Rattle.deku_meanings.specs.Composing.{Answer, Answered, Then, Second, First, Both}
+use Rattle.deku_meanings.specs.Shapes.{JoinedBy}
+use Rattle.deku_reading.specs.Lists.{ReadsTimes, Seen, InTurn, Runs, Ended, Refused as NextRefused, InPlace, Put, NoMemory, Stored}
+use Rattle.deku_reading.specs.Limits.{Taken, TakesEach, Judge, Judged, EndsWith, Closes, ItemRefused, WithoutWidth, NoPlace, ReadsUntil, ReadsBitsOf, NoBits, SomeBits, MoreToCome, ReadsToEnd, ReadsCount, ReadsUnder, Held, Holds, NotHeld}
+use Rattle.deku_writing.specs.Composing.{WritesEach}
+use Rattle.deku_bits.specs.declared.ctx.Order.TheVariants.{Msb0}
+use Rattle.deku_bits.specs.WriterCalls.{Finalizes}
+use Rattle.deku.specs.Wholes.{Behind, ReadsBytesOnce, WritesOnce, WritesOver, WritesBare}
+
+-- ---- one after the other
+pub answer : {A V : Type 0} (own : ErrorKind → Type 0) (v : V) → OwnFaults {A = A} own (Answer v)
+answer own v s r u k Answered (inl q) = absurd cc
+answer own v s r u k Answered (inr q) = inr q
+
+pub then : {A V W : Type 0} (own : ErrorKind → Type 0) (m : Meaning A V) (n : V → Meaning A W) → OwnFaults own m → ((v : V) → OwnFaults own (n v)) → OwnFaults own (Then m n)
+then own m n f g s r u k (Second v t p q) x = ⊎_elim (λ o. inl o) (λ kept. f s (Ok v) t k p (inr kept)) (g v t r u k q x)
+then own m n f g s r u k (First e p d) (inl q) = f s (Err e) u k p (inl cc)
+then own m n f g s r u k (First e p d) (inr q) = f s (Err e) u k p (inr q)
+
+pub joined : {A V W X : Type 0} (own : ErrorKind → Type 0) (h : V → W → X) (m : Meaning A V) (n : Meaning A W) → OwnFaults own m → OwnFaults own n → OwnFaults own (JoinedBy h m n)
+joined own h m n f g = then own m _ f (λ v. then own n _ g (λ w. answer own (h v w)))
+
+pub times : {A V : Type 0} (own : ErrorKind → Type 0) (n : ℕ) (m : Meaning A V) → OwnFaults own m → OwnFaults own (ReadsTimes n m)
+times own zero m f = answer own []
+times own (suc n) m f = then own m _ f (λ v. mapped own (λ vs. v ∷ vs) (ReadsTimes n m) (times own n m f))
+
+pub each : {A V : Type 0} (own : ErrorKind → Type 0) (m : V → Meaning A (Unit {0})) (vs : List V) → ((v : V) → OwnFaults own (m v)) → OwnFaults own (WritesEach m vs)
+each own m [] f = answer own tt
+each own m (v ∷ vs) f = then own (m v) _ (f v) (λ _. each own m vs f)
+
+pub seen : {A V W : Type 0} (own : ErrorKind → Type 0) (h : V → W) (m : Meaning A W) → OwnFaults own m → OwnFaults own (Seen h m)
+seen own h m f s (Ok v) u k p (inl q) = absurd cc
+seen own h m f s (Err e) u k p (inl q) = f s (Err e) u k p (inl cc)
+seen own h m f s (Ok v) u k p (inr q) = f s (Ok (h v)) u k p (inr q)
+seen own h m f s (Err e) u k p (inr q) = f s (Err e) u k p (inr q)
+
+pub held : {A V W : Type 0} (own : ErrorKind → Type 0) (h : V → W → Type 0) (m : Meaning A V) → OwnFaults own m → OwnFaults own (Held h m)
+held own h m f s r u k (Holds v w p x d) (inl q) = absurd cc
+held own h m f s r u k (Holds v w p x d) (inr q) = f s (Ok v) u k p (inr q)
+held own h m f s r u k (NotHeld e p d) (inl q) = f s (Err e) u k p (inl cc)
+held own h m f s r u k (NotHeld e p d) (inr q) = f s (Err e) u k p (inr q)
+
+-- ---- checks
+pub checked : {A V : Type 0} (own : ErrorKind → Type 0) (refuses : Standing A → Result V DekuError → Standing A → Type 0) (m : Meaning A V)
+    → ((s : Standing A) (r : Result V DekuError) (u : Standing A) (k : ErrorKind) → refuses s r u → (r ≡ Err (Io k)) ⊎ KeepsIo k u → own k ⊎ KeepsIo k s)
+    → OwnFaults own m → OwnFaults own (Checked refuses m)
+checked own refuses m h f s r u k (Refused b p) q = h s r u k p q
+checked own refuses m h f s r u k (Passed p) q = f s r u k p q
+
+-- a refusal with a text, of another kind
+pub texted : {A V : Type 0} (refusal : Bor (List ℕ) → DekuError) (text : List ℕ) → ((w : Bor (List ℕ)) (k : ErrorKind) → refusal w ≡ Io k → ⊥)
+    → (s : Standing A) (r : Result V DekuError) (u : Standing A) (k : ErrorKind) → Refuses refusal text s r u → (r ≡ Err (Io k)) ⊎ KeepsIo k u → KeepsIo k s
+texted refusal text h s r u k p (inl q) = let d = p.2 in absurd (h p.0 k cc)
+texted refusal text h s r u k p (inr q) = rw p.3 at q
+
+no_parse : (w : Bor (List ℕ)) (k : ErrorKind) → Parse w ≡ Io k → ⊥
+no_parse w k e = cc
+
+pub no_param : (w : Bor (List ℕ)) (k : ErrorKind) → InvalidParam w ≡ Io k → ⊥
+no_param w k e = cc
+
+layout : {A V : Type 0} (own : ErrorKind → Type 0) (refusal : Bor (List ℕ) → DekuError) (text : List ℕ) (t : NumberType) (l : Layout) → ((w : Bor (List ℕ)) (k : ErrorKind) → refusal w ≡ Io k → ⊥)
+    → (s : Standing A) (r : Result V DekuError) (u : Standing A) (k : ErrorKind) → RefusesLayout refusal text t l s r u → (r ≡ Err (Io k)) ⊎ KeepsIo k u → own k ⊎ KeepsIo k s
+layout own refusal text t l h s r u k (inl p) q = inr (texted refusal text h s r u k p.1 q)
+layout own refusal text t l h s r u k (inr p) q = inr (texted InvalidParam _ no_param s r u k p.2 q)
+
+-- ---- numbers
+pub reads_number : (t : NumberType) (l : Layout) → OwnFaults NoKind (ReadsNumber t l)
+reads_number t l = checked NoKind _ _ (layout NoKind Parse _ t l no_parse)
+    (λ s r u k p q. mapped NoKind _ (Takes _ _) ((cause_law.0 _ _).0) s r u k p.1 q)
+
+pub writes_number : (t : NumberType) (l : Layout) (v : ℤ) → OwnFaults WantsPlace (WritesNumber t l v)
+writes_number t l v = checked WantsPlace _ _ (layout WantsPlace InvalidParam _ t l no_param)
+    (checked WantsPlace _ _ (λ s r u k p q. inr (texted InvalidParam _ no_param s r u k p.2 q)) (λ s r u k p q. cause_law.2 _ _ s r u k p.1.2 q))
+
+-- ---- lists that end by a limit
+in_turn : {A V : Type 0} (own : ErrorKind → Type 0) (m : Meaning A V) → OwnFaults own m → (vs : List V) (s u : Standing A) (k : ErrorKind) → InTurn m vs s u → KeepsIo k u → own k ⊎ KeepsIo k s
+in_turn own m f [] s u k p q = inr (rw p at q)
+in_turn own m f (v ∷ vs) s u k p q = ⊎_elim (λ o. inl o) (λ kept. f s (Ok v) p.0 k p.1 (inr kept)) (in_turn own m f vs p.0 u k p.2 q)
+
+pub runs : {A V : Type 0} (own : ErrorKind → Type 0) (goes ends : List V → Type 0) (m : Meaning A V) → OwnFaults own m → OwnFaults own (Runs goes ends m)
+runs own goes ends m f s r u k (Ended vs p e b d) (inl q) = absurd cc
+runs own goes ends m f s r u k (Ended vs p e b d) (inr q) = in_turn own m f vs s u k p q
+runs own goes ends m f s r u k (NextRefused vs t e p g n d) (inl q) = ⊎_elim (λ o. inl o) (λ kept. in_turn own m f vs s t k p kept) (f t (Err e) u k n (inl cc))
+runs own goes ends m f s r u k (NextRefused vs t e p g n d) (inr q) = ⊎_elim (λ o. inl o) (λ kept. in_turn own m f vs s t k p kept) (f t (Err e) u k n (inr q))
+
+in_place : {A V : Type 0} (v : V) → OwnFaults {A = A} WantsMemory (InPlace v)
+in_place v s r u k Put (inl q) = absurd cc
+in_place v s r u k Put (inr q) = inr q
+in_place v s r u k NoMemory (inl q) = inl (let e : OutOfMemory ≡ k = cc in sym e)
+in_place v s r u k NoMemory (inr q) = inr q
+
+pub stored : {A V : Type 0} (m : Meaning A V) → OwnFaults WantsMemory m → OwnFaults WantsMemory (Stored m)
+stored m f = then WantsMemory m InPlace f in_place
+
+takes_each : {A T : Type 0} (own : ErrorKind → Type 0) (m : Meaning A T) → OwnFaults own m → (xs : List (Taken A T)) (s u : Standing A) (k : ErrorKind) → TakesEach m s xs u → KeepsIo k u → own k ⊎ KeepsIo k s
+takes_each own m f [] s u k p q = inr (subst (λ t. KeepsIo k t) (sym p) q)
+takes_each own m f (x ∷ xs) s u k p q = ⊎_elim (λ o. inl o) (λ kept. f s (Ok (x.item)) p.0 k (p.1.read) (inr kept)) (takes_each own m f xs p.0 u k p.2 q)
+
+-- an answer behind items that were taken
+behind : {A T : Type 0} (own : ErrorKind → Type 0) (m : Meaning A T) → OwnFaults own m → (xs : List (Taken A T)) (s t : Standing A) (k : ErrorKind) → TakesEach m s xs t
+    → own k ⊎ KeepsIo k t → own k ⊎ KeepsIo k s
+behind own m f xs s t k p q = ⊎_elim (λ o. inl o) (λ kept. takes_each own m f xs s t k p kept) q
+
+pub judged : {A T J : Type 0} (judge : Judge A T J) (closes : Standing A → Standing A → Type 0) (ended : J → Type 0) (j : J) (m : Meaning A T)
+    → ((t u : Standing A) (k : ErrorKind) → closes t u → KeepsIo k u → WantsMemory k ⊎ KeepsIo k t)
+    → OwnFaults WantsMemory m → OwnFaults WantsMemory (Judged judge closes ended j m)
+judged judge closes ended j m h f s r u k (EndsWith xs x i l p g v e b d) (inl q) = absurd cc
+judged judge closes ended j m h f s r u k (EndsWith xs x i l p g v e b d) (inr q) = takes_each WantsMemory m f _ s u k p q
+judged judge closes ended j m h f s r u k (Closes xs i t p g c e b d) (inl q) = absurd cc
+judged judge closes ended j m h f s r u k (Closes xs i t p g c e b d) (inr q) = behind WantsMemory m f xs s t k p (h t u k c q)
+judged judge closes ended j m h f s r u k (ItemRefused xs i t e p g n o d) (inl q) = behind WantsMemory m f xs s t k p (f t (Err e) u k n (inl cc))
+judged judge closes ended j m h f s r u k (ItemRefused xs i t e p g n o d) (inr q) = behind WantsMemory m f xs s t k p (f t (Err e) u k n (inr q))
+judged judge closes ended j m h f s r u k (WithoutWidth xs x i l e p g v w t o b d) (inl q) = let y = t.is in absurd cc
+judged judge closes ended j m h f s r u k (WithoutWidth xs x i l e p g v w t o b d) (inr q) = takes_each WantsMemory m f _ s u k p q
+judged judge closes ended j m h f s r u k (NoPlace xs x v i l p g w y o b d) (inl q) = inl (let e : OutOfMemory ≡ k = cc in sym e)
+judged judge closes ended j m h f s r u k (NoPlace xs x v i l p g w y o b d) (inr q) = takes_each WantsMemory m f _ s u k p q
+
+until : {A T P : Type 0} (answers : P → T → Bool → P → Type 0) (ended : P → Type 0) (p : P) (m : Meaning A T) → OwnFaults WantsMemory m → OwnFaults WantsMemory (ReadsUntil answers ended p m)
+until answers ended p m f = judged _ _ ended p m (λ t u k c q. absurd c) f
+
+bits_of : {A T : Type 0} (n : ℕ) (m : Meaning A T) → OwnFaults WantsMemory m → OwnFaults WantsMemory (ReadsBitsOf n m)
+bits_of n m f s r u k (NoBits e p) q = answer WantsMemory [] s r u k p q
+bits_of n m f s r u k (SomeBits e p) q = judged _ _ _ tt m (λ t v i c h. absurd c) f s r u k p q
+
+to_end : {T : Type 0} (m : Meaning (Option Stream) T) → OwnFaults WantsMemory m → OwnFaults WantsMemory (ReadsToEnd m)
+to_end m f = judged _ _ _ tt _ (λ t u k c q. wider WantsMemory Ending (cause_law.1) t (Ok true) u k c (inr q))
+    (then WantsMemory MoreToCome _ (seen WantsMemory _ Ending (wider WantsMemory Ending (cause_law.1))) (λ _. f))
+
+count : {A T : Type 0} (n : ℕ) (m : Meaning A T) → OwnFaults WantsMemory m → OwnFaults WantsMemory (ReadsCount n m)
+count n m f = runs WantsMemory _ _ (Stored m) (stored m f)
+
+pub under : {T P : Type 0} (answers : P → T → Bool → P → Type 0) (ended : P → Type 0) (l : Limit T P) (m : Meaning (Option Stream) T) → OwnFaults WantsMemory m → OwnFaults WantsMemory (ReadsUnder answers ended l m)
+under answers ended (Count n) m f = count n m f
+under answers ended (Until p _) m f = until answers ended p m f
+under answers ended (ByteSize n) m f = checked WantsMemory _ _ (λ s r u k p q. inr (texted InvalidParam _ no_param s r u k p.1 q)) (λ s r u k p q. bits_of _ m f s r u k p.1 q)
+under answers ended (BitSize n) m f = bits_of _ m f
+under answers ended End m f = to_end m f
+
+-- ---- whole values: nothing was kept before
+pub from_first : {V : Type 0} (n : ℕ) (m : Meaning (Option Stream) V) → OwnFaults WantsMemory m → OwnFaults WantsMemory (Behind n m)
+from_first n m f = then WantsMemory _ _ (wider WantsMemory (Skips Msb0 n) ((cause_law.0 Msb0 n).5)) (λ _. f)
+
+pub from_bytes : {V : Type 0} (n : ℕ) (m : Meaning (Option Stream) V) (bytes : List ℕ) (k : ErrorKind) → OwnFaults WantsMemory m → ReadsBytesOnce (Behind n m) bytes (Err (Io k)) → WantsMemory k
+from_bytes n m bytes k f (inl p) = ⊎_elim (λ o. o) (λ kept. absurd kept) (from_first n m f _ _ p.0 k p.1 (inl refl))
+from_bytes n m bytes k f (inr p) = let e = p.4 in absurd cc
+
+pub to_bytes : (m : Meaning Output (Unit {0})) (k : ErrorKind) → OwnFaults WantsPlace m → WritesOnce (Both m Finalizes) (Err (Io k)) → WantsPlace k
+to_bytes m k f p = ⊎_elim (λ o. o) (λ kept. absurd kept) (then WantsPlace m _ f (λ _. cause_law.4) _ _ p.0 k p.1 (inl refl))
+
+pub to_slice : (m : Meaning Output (Unit {0})) (old new : List ℕ) (k : ErrorKind) → OwnFaults WantsPlace m → WritesOver (Both m Finalizes) old (Err (Io k)) new → WantsPlace k
+to_slice m old new k f p = ⊎_elim (λ o. o) (λ kept. absurd kept) (then WantsPlace m _ f (λ _. cause_law.4) _ _ p.0 k p.1 (inl refl))
+
+pub to_bits : (m : Meaning Output (Unit {0})) (k : ErrorKind) → OwnFaults WantsPlace m → WritesBare m (Err (Io k)) → WantsPlace k
+to_bits m k f (inl p) = ⊎_elim (λ o. o) (λ kept. absurd kept) (f _ _ p.0 k p.1 (inl refl))
+to_bits m k f (inr (inl p)) = ⊎_elim (λ o. o) (λ kept. absurd kept) (f _ _ _ k p.1 (inr refl))
+to_bits m k f (inr (inr p)) = inl (let e = p.3 in cc)
