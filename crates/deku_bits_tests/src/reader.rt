@@ -335,8 +335,60 @@ const REFUSED: [Case; 1] = [(
     3,
 )];
 
-const TABLES: [&[Case]; 8] = [
-    &SHOWN, &ENDS, &EARLY, &LEFT_OVER, &PEEKS, &SEEKS, &PAST, &REFUSED,
+// Bytes in a vector: at a boundary, behind bits of a byte in both orders, and behind a look; and more than the source has.
+const VECTORS: [Case; 4] = [
+    (
+        &[0x01, 0x02, 0x03],
+        &[
+            Step::Vector(0, Msb0, Ok(&[])),
+            Step::Vector(2, Lsb0, Ok(&[0x01, 0x02])),
+            Step::Count(16),
+            Step::Vector(1, Msb0, Ok(&[0x03])),
+            Step::Vector(0, Lsb0, Ok(&[])),
+            Step::Vector(2, Msb0, Err(Refusal::Ended(16))),
+            Step::Count(24),
+        ],
+        3,
+    ),
+    (
+        &[0xAB, 0xCD, 0xEF],
+        &[
+            Step::Into(4, Msb0, Ok("1010")),
+            Step::Vector(2, Lsb0, Ok(&[0xDB, 0xFC])),
+            Step::Count(20),
+            Step::Rest("1110"),
+            Step::Vector(1, Msb0, Err(Refusal::Ended(8))),
+            Step::Kept(Refusal::Ended(8)),
+        ],
+        3,
+    ),
+    (
+        &[0xAB, 0xCD, 0xEF],
+        &[
+            Step::Into(4, Msb0, Ok("1010")),
+            Step::Vector(0, Lsb0, Ok(&[])),
+            Step::Vector(1, Msb0, Ok(&[0xBC])),
+            Step::Vector(2, Msb0, Err(Refusal::Ended(16))),
+            Step::Count(12),
+        ],
+        2,
+    ),
+    (
+        &[0x01, 0x02, 0x03],
+        &[
+            Step::End(Ok(false)),
+            Step::Vector(2, Msb0, Ok(&[0x01, 0x02])),
+            Step::Rest(""),
+            Step::End(Ok(false)),
+            Step::Vector(1, Lsb0, Ok(&[0x03])),
+            Step::Count(24),
+        ],
+        3,
+    ),
+];
+
+const TABLES: [&[Case]; 9] = [
+    &SHOWN, &ENDS, &EARLY, &LEFT_OVER, &PEEKS, &SEEKS, &PAST, &REFUSED, &VECTORS,
 ];
 
 #[test]

@@ -38,6 +38,8 @@ pub enum Step {
     Into(usize, Order, Digits),
     /// `read_bytes`, into the front of four bytes
     Bytes(usize, Order, Bytes),
+    /// `read_bytes_vec`
+    Vector(usize, Order, Bytes),
     /// `read_bytes_const`, of at most three bytes
     Const(usize, Order, Bytes),
     /// `read_bytes_const_into`, of at most three bytes
@@ -123,6 +125,44 @@ fn read_front<R: Source>(
     same_bytes(rt, row, &all[amt..], &[0x5A; 4][amt..]);
 }
 
+fn vector_of<R: Source>(
+    reader: &mut Reader<R>,
+    amt: usize,
+    order: Order,
+) -> Result<Vec<u8>, DekuError> {
+    reader.read_bytes_vec(amt, order)
+}
+
+// The bytes in a vector. Where its memory is refused nothing has moved, and they are read into a buffer; it answers whether.
+fn read_byte_vector<R: Source>(
+    rt: &impl Abort,
+    row: Row,
+    reader: &mut Reader<R>,
+    asked: (usize, Order),
+    want: &Bytes,
+) -> bool {
+    let count = reader.bits_read();
+    let wanted = refused(want);
+    match vector_of(reader, asked.0, asked.1) {
+        Ok(all) => {
+            same(rt, row, &None, &wanted);
+            if let Ok(bytes) = want {
+                same_bytes(rt, row, all.as_slice(), bytes);
+            }
+            false
+        }
+        Err(error) => {
+            if error != NO_MEMORY.error() || wanted == Some(error) {
+                same(rt, row, &Some(error), &wanted);
+                return false;
+            }
+            same(rt, row, &reader.bits_read(), &count);
+            read_front(rt, row, reader, asked, want);
+            true
+        }
+    }
+}
+
 // So many bytes as an array has, filled or answered.
 fn read_const<R: Source, const N: usize>(
     rt: &impl Abort,
@@ -198,13 +238,14 @@ fn expect_kept<R: Source>(
         kept_by_bits(reader, usize::MAX, Lsb0),
         kept_by_into(reader),
         kept_by_bytes(reader),
+        kept_by_vector(reader),
         kept_by_const(reader),
         kept_by_fill(reader),
         kept_by_word(reader),
         kept_by_skip(reader),
         kept_by_end(reader),
     ];
-    same(rt, row, &seen, &[Some(error); 9]);
+    same(rt, row, &seen, &[Some(error); 10]);
     let left = (left_of(reader), reader.bits_read());
     same(rt, row, &left, &(Left::Nothing, count));
     expect_rest(rt, row, reader, "")
@@ -221,6 +262,10 @@ fn kept_by_into<R: Source>(reader: &mut Reader<R>) -> Option<DekuError> {
 
 fn kept_by_bytes<R: Source>(reader: &mut Reader<R>) -> Option<DekuError> {
     reader.read_bytes(0, &mut [0], Msb0).err()
+}
+
+fn kept_by_vector<R: Source>(reader: &mut Reader<R>) -> Option<DekuError> {
+    vector_of(reader, 0, Lsb0).err()
 }
 
 fn kept_by_const<R: Source>(reader: &mut Reader<R>) -> Option<DekuError> {
@@ -278,6 +323,9 @@ pub fn walk_steps<R: Source>(
         let row = (case, at);
         let lacks = match step {
             Step::Bits(amt, order, want) => read_vector(rt, row, reader, (*amt, *order), want),
+            Step::Vector(amt, order, want) => {
+                read_byte_vector(rt, row, reader, (*amt, *order), want)
+            }
             Step::Rest(want) => expect_rest(rt, row, reader, want),
             Step::Kept(refusal) => expect_kept(rt, row, reader, refusal.error()),
             _ => {

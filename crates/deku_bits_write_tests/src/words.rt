@@ -1,4 +1,5 @@
 //! Words, against slow functions over truth values, at each width, order and offset.
 
+mod laid;
 mod slow;
 mod written;

@@ -138,52 +138,64 @@ impl Lists {
         }
     }
 
+    fn halves(&self) -> Sample<'_> {
+        Sample {
+            name: "halves and a word",
+            items: &self.halves,
+            widths: &[4, 4, 16],
+            bytes: &[0x69, 0xBE, 0xEF],
+            written: &[0x69, 0xBE, 0xEF],
+        }
+    }
+
+    fn words(&self) -> Sample<'_> {
+        Sample {
+            name: "little words",
+            items: &self.words,
+            widths: &[4, 12, 8, 8, 32, 32],
+            bytes: &[0x31, 0x12, 4, 5, 6, 0, 0, 0, 7, 0, 0, 0],
+            written: &[0x31, 0x12, 4, 5, 6, 0, 0, 0, 7, 0, 0, 0],
+        }
+    }
+
+    fn both(&self) -> Sample<'_> {
+        Sample {
+            name: "both orders",
+            items: &self.both,
+            widths: &[13, 3, 8, 1, 1, 1, 5],
+            bytes: &[0x10, 0x81, 0xAB, 0x96],
+            written: &[0x10, 0x81, 0xAB, 0x96],
+        }
+    }
+
+    fn thirteen(&self) -> Sample<'_> {
+        Sample {
+            name: "thirteen bits",
+            items: &self.thirteen,
+            widths: &[13],
+            bytes: &[0x10, 0x81],
+            written: &[0x10, 0x01],
+        }
+    }
+
+    fn inside(&self) -> Sample<'_> {
+        Sample {
+            name: "a word inside",
+            items: &self.inside,
+            widths: &[5, 16, 3],
+            bytes: &[0xA1, 0x34, 0x12],
+            written: &[0xA1, 0x34, 0x12],
+        }
+    }
+
     fn samples(&self) -> [Sample<'_>; 5] {
-        let words = &[0x31, 0x12, 4, 5, 6, 0, 0, 0, 7, 0, 0, 0];
-        let rows: [(&str, &[Item], &[usize], &[u8], &[u8]); 5] = [
-            (
-                "halves and a word",
-                &self.halves,
-                &[4, 4, 16],
-                &[0x69, 0xBE, 0xEF],
-                &[0x69, 0xBE, 0xEF],
-            ),
-            (
-                "little words",
-                &self.words,
-                &[4, 12, 8, 8, 32, 32],
-                words,
-                words,
-            ),
-            (
-                "both orders",
-                &self.both,
-                &[13, 3, 8, 1, 1, 1, 5],
-                &[0x10, 0x81, 0xAB, 0x96],
-                &[0x10, 0x81, 0xAB, 0x96],
-            ),
-            (
-                "thirteen bits",
-                &self.thirteen,
-                &[13],
-                &[0x10, 0x81],
-                &[0x10, 0x01],
-            ),
-            (
-                "a word inside",
-                &self.inside,
-                &[5, 16, 3],
-                &[0xA1, 0x34, 0x12],
-                &[0xA1, 0x34, 0x12],
-            ),
-        ];
-        rows.map(|(name, items, widths, bytes, written)| Sample {
-            name,
-            items,
-            widths,
-            bytes,
-            written,
-        })
+        [
+            self.halves(),
+            self.words(),
+            self.both(),
+            self.thirteen(),
+            self.inside(),
+        ]
     }
 }
 

@@ -182,7 +182,7 @@ pub fn expect_beyond<T: DekuReader<Layout> + DekuWriter<Layout> + Debug>(
     expect_unwritten(rt, alloc, &value, layout, errors.1)
 }
 
-// One bit and one byte more than a type has are refused.
+// One bit more than a type has, one byte more, and as many bytes as can be counted are refused.
 pub fn expect_one_beyond<T: Copy + DekuReader<Layout> + DekuWriter<Layout> + Debug>(
     rt: &impl Abort,
     alloc: Global,
@@ -207,19 +207,16 @@ pub fn expect_one_beyond<T: Copy + DekuReader<Layout> + DekuWriter<Layout> + Deb
         },
         (read, written),
     )?;
-    let size = Size::Bytes(bits / 8 + 1);
     let written = DekuError::InvalidParam("byte size is larger than input");
-    expect_beyond(
-        rt,
-        alloc,
-        value,
-        Layout {
+    for bytes in [bits / 8 + 1, usize::MAX] {
+        let layout = Layout {
             endian,
             order,
-            size,
-        },
-        (read, written),
-    )
+            size: Size::Bytes(bytes),
+        };
+        expect_beyond(rt, alloc, value, layout, (read, written))?;
+    }
+    Ok(())
 }
 
 // The rows of a type are read and written, and its misfits are refused.

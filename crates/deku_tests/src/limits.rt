@@ -122,7 +122,7 @@ fn take_place(
 // A name, the bytes of a reader, and what is asked of it, one step after the other.
 type Run = (&'static str, &'static [u8], &'static [Step]);
 
-const RUNS: [Run; 9] = [
+const RUNS: [Run; 10] = [
     (
         "up to a count",
         &[0x69, 0xE9],
@@ -196,6 +196,16 @@ const RUNS: [Run; 9] = [
             Step::Units(Stop::End, Err(NO_WIDTH)),
             Step::Read(8),
             Step::Next(2),
+        ],
+    ),
+    (
+        "bytes at once, at a boundary",
+        &[1, 2, 3],
+        &[
+            Step::AtOnce(2, Ok(&[1, 2])),
+            Step::AtOnce(0, Ok(&[])),
+            Step::AtOnce(2, Err(Ended(16))),
+            Step::Read(16),
         ],
     ),
     (

@@ -1,11 +1,13 @@
 //! Nothing, and tuples.
 
 use super::expecting::{
-    MISFIT, expect_denied, expect_whole, expect_written, next, next_byte, reader_of, same,
+    MISFIT, expect_bytes, expect_denied, expect_whole, expect_written, next, next_byte, put,
+    reader_of, same, writer_in,
 };
 use deku::ctx::Endian::{Big, Little};
 use deku::ctx::Order::Lsb0;
-use deku::ctx::{BitSize, ByteSize};
+use deku::ctx::{BitSize, ByteSize, Order};
+use deku::device::Sink;
 use deku::prelude::{DekuError, DekuWriter, NeedSize, Writer};
 use std::io::Cursor;
 use std::test::Fail;
@@ -42,6 +44,46 @@ fn of_one_to_six(rt: HostRuntime) -> Result<(), Fail> {
         &[1, 2, 3, 4, 5, 6],
         (1u8, 2u8, 3u8, 4u8, 5u8, 6u8),
     )
+}
+
+// Three bits, the high one first: 101.
+#[derive(Drop)]
+struct High;
+
+impl DekuWriter<()> for High {
+    ghost use Rattle.std.specs.Prelude.{◌≡◌};
+
+    ghost accepts = { λ c. c ≡ c };
+
+    ghost meaning = { λ v _. ⟦<u8 as DekuWriter<BitSize>>⟧.meaning 5 (record { 0 = 3 }) };
+
+    fn to_writer<W: Sink>(&self, writer: &mut Writer<W>, _ctx: ()) -> Result<(), DekuError> {
+        5u8.to_writer(writer, BitSize(3))
+    }
+}
+
+// Nine bits, the low one first: 100000001.
+#[derive(Drop)]
+struct Low;
+
+impl DekuWriter<()> for Low {
+    ghost use Rattle.std.specs.Prelude.{◌≡◌};
+    ghost use Rattle.deku.specs.declared.ctx.Order.TheVariants as order;
+
+    ghost accepts = { λ c. c ≡ c };
+
+    ghost meaning = { λ v _. ⟦<u16 as DekuWriter<(BitSize, Order)>>⟧.meaning 257 (record { 0 = 9 }, order.Lsb0) };
+
+    fn to_writer<W: Sink>(&self, writer: &mut Writer<W>, _ctx: ()) -> Result<(), DekuError> {
+        0x101u16.to_writer(writer, (BitSize(9), Lsb0))
+    }
+}
+
+#[test]
+fn of_records_in_two_orders(rt: HostRuntime) -> Result<(), Fail> {
+    let mut writer = writer_in(rt.alloc());
+    put(&mut writer, &(High, Low), ())?;
+    expect_bytes(&rt, &"two orders", writer, &[0xB0, 0x01])
 }
 
 const SEVEN: (u8, u8, u8, u8, u8, u8, u8) = (1, 2, 3, 4, 5, 6, 7);

@@ -92,7 +92,27 @@ fn expect_fault(rt: &impl Abort, alloc: Global, at: usize, case: &Fault) -> Resu
     Ok(())
 }
 
-const FAULTS: [Fault; 3] = [
+const FAULTS: [Fault; 4] = [
+    // A transfer into a vector, which the source makes by a fetch.
+    (
+        &[0xBE, 0xEF, 0xAD],
+        2,
+        &[
+            Step::Vector(2, Lsb0, Ok(&[0xBE, 0xEF])),
+            Step::Vector(1, Msb0, Err(FAILED)),
+            Step::Count(16),
+        ],
+        1,
+        &[
+            Step::Vector(0, Msb0, Err(FAILED)),
+            Step::Seek(SeekFrom::Start(2), Ok(2)),
+            Step::Into(4, Msb0, Ok("1010")),
+            Step::Vector(1, Msb0, Err(FAILED)),
+        ],
+        4,
+        1,
+        3,
+    ),
     // A transfer, until a seek.
     (
         &[0xBE, 0xEF],
@@ -166,7 +186,8 @@ const BYTES: [u8; 17] = [
 ];
 
 // Steps over these bytes, and how many fetches they make.
-const FETCHES: [(&[Step], usize); 8] = [
+const FETCHES: [(&[Step], usize); 9] = [
+    (&[Step::Vector(3, Msb0, Ok(&[0xA1, 0x34, 0x12]))], 1),
     (&[Step::Bytes(3, Msb0, Ok(&[0xA1, 0x34, 0x12]))], 1),
     (&[Step::Const(3, Lsb0, Ok(&[0xA1, 0x34, 0x12]))], 1),
     (&[Step::Fill(3, Msb0, Ok(&[0xA1, 0x34, 0x12]))], 1),

@@ -29,6 +29,9 @@ const WANTS: [Case; 1] = [(
     3,
 )];
 
+// More bytes than memory is found for; the count has room for their bits.
+const TOO_MANY_BYTES: usize = 1 << 59;
+
 // A kept fault comes first, then the count, then memory, and the transfer last.
 const REFUSED: [Case; 1] = [(
     &[0x6D, 0xBE],
@@ -37,13 +40,16 @@ const REFUSED: [Case; 1] = [(
         Step::Count(0),
         Step::Bits(4, Msb0, Ok("0110")),
         Step::Bits(TOO_MANY, Lsb0, Err(NO_MEMORY)),
+        Step::Vector(TOO_MANY_BYTES, Lsb0, Err(NO_MEMORY)),
         Step::Count(4),
         Step::Rest("1101"),
         Step::Bits(usize::MAX, Msb0, Err(Refusal::Past)),
+        Step::Vector(1 << 61, Msb0, Err(Refusal::Past)),
         Step::Bits(5, Msb0, Ok("11011")),
         Step::Count(9),
         Step::Into(16, Msb0, Err(Refusal::Ended(16))),
         Step::Bits(TOO_MANY, Msb0, Err(Refusal::Ended(16))),
+        Step::Vector(TOO_MANY_BYTES, Msb0, Err(Refusal::Ended(16))),
         Step::Count(9),
     ],
     2,

@@ -1,0 +1,161 @@
+//! Words near the end of the bytes, where the next eight are at hand or no more, against a source that has none at hand.
+
+use super::slow::{ORDERS, Slow, samples, word_of};
+use crate::same::{FAILED, Refusal, same, wanted};
+use deku_bits::ctx::Order;
+use deku_bits::ctx::Order::Msb0;
+use deku_bits::device::Source;
+use deku_bits::error::DekuError;
+use deku_bits::probe::{FailAt, Trickle};
+use deku_bits::reader::Reader;
+use std::alloc::Global;
+use std::io::Cursor;
+use std::process::Abort;
+use std::test::Fail;
+
+// So many bytes, and how many of them are read first. Of those behind, the first is read in part: so words begin at the first byte of eight, and of
+// seven and fewer, and they end at each bit up to the last.
+const ENDS: [(usize, usize); 7] = [(17, 9), (17, 8), (17, 10), (9, 1), (8, 0), (7, 0), (16, 13)];
+
+// A word that is read behind so many bytes and bits of an order.
+#[derive(Clone, Copy)]
+struct Start {
+    bytes: usize,
+    offset: usize,
+    order: Order,
+}
+
+impl Start {
+    // How many bits stand in front of the word.
+    fn bits(self) -> usize {
+        self.bytes.wrapping_mul(8).wrapping_add(self.offset)
+    }
+}
+
+// What a reader answers: the word of n bits, and then that of the rest of the last byte.
+type Words = (u128, u128);
+
+// How many bits of the last byte are left behind n bits.
+fn spare(start: Start, n: usize) -> usize {
+    7 - start.bits().wrapping_add(n).wrapping_add(7) % 8
+}
+
+// The words by their definition.
+fn slow_words(rt: &impl Abort, bytes: &[u8], start: Start, n: usize, order: Order) -> Words {
+    let mut slow = Slow::new();
+    let mut front = [false; 128];
+    let mut met = [false; 64];
+    let mut rest = [false; 8];
+    let before = start.bits();
+    let behind = spare(start, n);
+    assert!(rt; before <= 128 && n <= 64 && behind <= 8);
+    slow.take(rt, bytes, start.order, &mut front[..before]);
+    slow.take(rt, bytes, order, &mut met[..n]);
+    slow.take(rt, bytes, order, &mut rest[..behind]);
+    (word_of(&met[..n], order), word_of(&rest[..behind], order))
+}
+
+// The words as a reader over any source answers them.
+fn words_of<R: Source + Drop>(
+    rt: &impl Abort,
+    alloc: Global,
+    source: R,
+    start: Start,
+    n: usize,
+    order: Order,
+) -> Result<Words, DekuError> {
+    let mut reader = Reader::new(alloc, source);
+    let behind = spare(start, n);
+    assert!(rt; start.bytes <= 16 && start.offset <= 8 && n <= 64 && behind <= 8);
+    reader.read_word(8 * start.bytes, start.order)?;
+    reader.read_word(start.offset, start.order)?;
+    let word = reader.read_word(n, order)?;
+    let rest = reader.read_word(behind, order)?;
+    same(
+        rt,
+        (start.bytes, n),
+        &reader.bits_read(),
+        &start.bits().wrapping_add(n).wrapping_add(behind),
+    );
+    Ok((word, rest))
+}
+
+// A cursor, a source that gives one byte at a time and one that gives them by calls answer the same.
+fn expect_words(
+    rt: &impl Abort,
+    alloc: Global,
+    bytes: &[u8],
+    start: Start,
+    n: usize,
+    order: Order,
+) {
+    let want = if start.bits().wrapping_add(n) <= bytes.len().wrapping_mul(8) {
+        Ok(slow_words(rt, bytes, start, n, order))
+    } else {
+        Err(Refusal::Ended(n))
+    };
+    let row = (start.bits(), n);
+    let at_hand = words_of(rt, alloc, Cursor::new(bytes), start, n, order);
+    same(rt, row, &at_hand, &wanted(&want));
+    let fetched = words_of(rt, alloc, Trickle::new(bytes), start, n, order);
+    same(rt, row, &fetched, &wanted(&want));
+    let called = words_of(
+        rt,
+        alloc,
+        FailAt::new(Cursor::new(bytes), 0),
+        start,
+        n,
+        order,
+    );
+    same(rt, row, &called, &wanted(&want));
+}
+
+// Words of 1 to 64 bits in both orders, behind 0 to 7 bits of a byte.
+fn expect_end(rt: &impl Abort, alloc: Global, bytes: &[u8], front: usize) {
+    for offset in 0..8 {
+        for first in ORDERS {
+            let start = Start {
+                bytes: front,
+                offset,
+                order: first,
+            };
+            for n in 1..=64 {
+                for order in ORDERS {
+                    expect_words(rt, alloc, bytes, start, n, order);
+                }
+            }
+        }
+    }
+}
+
+#[test]
+fn reads_words_up_to_the_last_bytes(rt: HostRuntime) -> Result<(), Fail> {
+    for bytes in samples()[4..6].iter() {
+        for (len, front) in ENDS {
+            assert!(rt; len <= 17);
+            expect_end(&rt, rt.alloc(), &bytes[..len], front);
+        }
+    }
+    Ok(())
+}
+
+// The word of sixteen bits over a source whose nth call fails.
+fn failing_word(alloc: Global, bytes: &[u8], n: usize) -> Result<u128, DekuError> {
+    let mut reader = Reader::new(alloc, FailAt::new(Cursor::new(bytes), n));
+    reader.read_word(16, Msb0)
+}
+
+#[test]
+fn sources_with_nothing_at_hand_fail_as_they_fetch(rt: HostRuntime) -> Result<(), Fail> {
+    let bytes = [0xAB; 17];
+    let rows = [(1, Err(FAILED)), (2, Err(FAILED)), (3, Ok(0xABAB))];
+    for (n, want) in rows {
+        same(
+            &rt,
+            (n, 0),
+            &failing_word(rt.alloc(), &bytes, n),
+            &wanted(&want),
+        );
+    }
+    Ok(())
+}

@@ -1,0 +1,180 @@
+//! Words where eight bytes of room are left, where fewer are, and onto a sink that never lays them at once.
+
+use super::slow::{ORDERS, put_word, turn, word_of};
+use crate::given::fitting;
+use crate::same::{same, same_bytes};
+use deku_bits::ctx::Order;
+use deku_bits::device::Sink;
+use deku_bits::error::DekuError;
+use deku_bits::writer::Writer;
+use std::io;
+use std::io::{Cursor, Seek, SeekFrom, Write};
+use std::process::Abort;
+use std::test::Fail;
+
+// A sink that only gives: it has `lay` as the trait has it.
+#[derive(Drop)]
+struct Giving<S> {
+    inner: S,
+}
+
+impl<S: Write> Write for Giving<S> {
+    fn write(&mut self, buf: &[u8]) -> io::Result<usize> {
+        self.inner.write(buf)
+    }
+
+    fn flush(&mut self) -> io::Result<()> {
+        self.inner.flush()
+    }
+}
+
+impl<S: Seek> Seek for Giving<S> {
+    fn seek(&mut self, to: SeekFrom) -> io::Result<u64> {
+        self.inner.seek(to)
+    }
+}
+
+// It tells nothing.
+impl<S: Sink> Sink for Giving<S> {
+    ghost use Rattle.deku_bits.specs.Devices.{untold_sink};
+
+    ghost told = { λ _. untold_sink };
+
+    fn give(&mut self, bytes: &[u8]) -> io::Result<()> {
+        match self.inner.give(bytes) {
+            Ok(()) => Ok(()),
+            Err(error) => Err(error),
+        }
+    }
+
+    fn go(&mut self, to: SeekFrom) -> io::Result<u64> {
+        self.seek(to)
+    }
+}
+
+// What lies in the slice before.
+const THERE: u8 = 0xA6;
+
+// Bits that are written in front of a word.
+const FRONT: [bool; 7] = [true, false, true, true, false, false, true];
+
+const WORD: u128 = 0x9E37_79B9_7F4A_7C15_F39C_C060_5CED_C834;
+
+// The bytes of the slice, or the refusal; how many bits were counted, and how many are pending.
+type Made = ([u8; 12], bool, usize, usize);
+
+// So many bits in front of a word of so many, in this order.
+#[derive(Clone, Copy)]
+struct Row {
+    room: usize,
+    front: usize,
+    n: usize,
+    order: Order,
+}
+
+// Writes both into what is left of a slice.
+fn write_both<S: Sink>(rt: &impl Abort, writer: &mut Writer<S>, row: Row) -> Result<(), DekuError> {
+    let mut front = FRONT;
+    assert!(rt; row.front <= 7 && row.n <= 128);
+    turn(&mut front[..row.front], row.order);
+    writer.write_bits_order(&front[..row.front], row.order)?;
+    writer.write_word(fitting(WORD, row.n), row.n, row.order)
+}
+
+// By a cursor over the last bytes of a slice.
+fn make_laid(rt: &impl Abort, row: Row) -> Made {
+    let mut slice = [THERE; 12];
+    assert!(rt; row.room <= 12);
+    let mut writer = Writer::new(Cursor::new(&mut slice[12 - row.room..]));
+    let is_ok = write_both(rt, &mut writer, row).is_ok();
+    let count = writer.bits_written();
+    let pending = writer.leftover().0.len();
+    (slice, is_ok, count, pending)
+}
+
+// By a sink that only gives.
+fn make_given(rt: &impl Abort, row: Row) -> Made {
+    let mut slice = [THERE; 12];
+    assert!(rt; row.room <= 12);
+    let cursor = Cursor::new(&mut slice[12 - row.room..]);
+    let mut writer = Writer::new(Giving { inner: cursor });
+    let is_ok = write_both(rt, &mut writer, row).is_ok();
+    let count = writer.bits_written();
+    let pending = writer.leftover().0.len();
+    (slice, is_ok, count, pending)
+}
+
+// The whole bytes of the bits that the order meets, behind what lies there, and in front of it.
+fn make_wanted(rt: &impl Abort, row: Row) -> Made {
+    let mut slice = [THERE; 12];
+    let mut met = [false; 128];
+    assert!(rt; row.front <= 7 && row.n <= 64 && row.room <= 12);
+    met[..row.front].copy_from_slice(&FRONT[..row.front]);
+    let end = row.front + row.n;
+    put_word(fitting(WORD, row.n), &mut met[row.front..end], row.order);
+    let mut rest = word_of(&met[..end / 8 * 8], row.order);
+    for place in slice[12 - row.room..].iter_mut().take(end / 8) {
+        *place = (rest % 256) as u8;
+        rest /= 256;
+    }
+    (slice, true, end / 8 * 8, end % 8)
+}
+
+// What both sinks leave is what the slow functions want, or both lack the room.
+fn expect_made(rt: &impl Abort, row: Row) {
+    let laid = make_laid(rt, row);
+    let given = make_given(rt, row);
+    let at = (row.room, row.n);
+    same_bytes(rt, at, &laid.0, &given.0);
+    same(
+        rt,
+        at,
+        &(laid.1, laid.2, laid.3),
+        &(given.1, given.2, given.3),
+    );
+    assert!(rt; row.front <= 7 && row.n <= 64);
+    if (row.front + row.n) / 8 > row.room {
+        same(rt, at, &(laid.1, laid.2, laid.3), &(false, 0, 0));
+        return;
+    }
+    let wanted = make_wanted(rt, row);
+    same_bytes(rt, at, &laid.0, &wanted.0);
+    same(
+        rt,
+        at,
+        &(laid.1, laid.2, laid.3),
+        &(wanted.1, wanted.2, wanted.3),
+    );
+}
+
+// How many bytes are left: more than eight, the last eight, the last seven, and too few.
+const ROOMS: [usize; 6] = [12, 9, 8, 7, 1, 0];
+
+const WIDTHS: [usize; 14] = [1, 5, 7, 8, 9, 10, 13, 16, 24, 31, 32, 57, 63, 64];
+
+// Words behind so many bits, into so much room.
+fn expect_room(rt: &impl Abort, room: usize, front: usize) {
+    for n in WIDTHS {
+        for order in ORDERS {
+            expect_made(
+                rt,
+                Row {
+                    room,
+                    front,
+                    n,
+                    order,
+                },
+            );
+        }
+    }
+}
+
+#[test]
+fn lays_words_and_no_more(rt: HostRuntime) -> Result<(), Fail> {
+    for room in ROOMS {
+        for front in 0..8 {
+            expect_room(&rt, room, front);
+        }
+    }
+    Ok(())
+}
