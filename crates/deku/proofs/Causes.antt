@@ -1,5 +1,5 @@
 -- Where faults of the kind `Io` come from in what is made of other calls.
-use Rattle.std.proofs.Common.{◌≡◌, ◌⊎◌, ℕ, zero, suc, Bool, true, List, [], ◌∷◌, Option, Result, Ok, Err, ℤ, refl, sym, inl, inr, ⊎_elim, subst}
+use Rattle.std.proofs.Common.{◌≡◌, ◌⊎◌, ℕ, zero, suc, Bool, true, List, [], ◌∷◌, Option, Result, Ok, Err, ℤ, refl, sym, cong, inl, inr, ⊎_elim, subst}
 use Rattle.std.specs.Borrow.{Bor}
 use Rattle.std.specs.declared.io.ErrorKind.{ErrorKind}
 use Rattle.std.specs.declared.io.ErrorKind.TheVariants.{OutOfMemory}
@@ -7,23 +7,28 @@ use Rattle.deku_bits.specs.declared.error.DekuError.{DekuError}
 use Rattle.deku_bits.specs.declared.error.DekuError.TheVariants.{Io, Parse, InvalidParam}
 use Rattle.deku_bits.specs.Streams.{Stream}
 use Rattle.deku_bits.specs.Standings.{Standing, Output}
-use Rattle.deku_bits.specs.Outcomes.{Meaning, Refuses}
-use Rattle.deku_bits.specs.ReaderCalls.{Takes, Ending, Skips}
+use Rattle.deku_bits.specs.Bits.{bytes_of}
+use Rattle.deku_bits.specs.Outcomes.{Meaning, Refuses, Mapped}
+use Rattle.deku_bits.specs.ReaderCalls.{Takes, ReadsVec, Ending, Skips}
 use Rattle.deku_bits.specs.Causes.{KeepsIo, NoKind, WantsMemory, WantsPlace, OwnFaults}
-use Rattle.deku_bits.proofs.Causes.{mapped, wider, cause_law}
+use Rattle.deku_bits.proofs.Causes.{mapped, wider, caused, cause_law}
 use Rattle.deku_num.specs.declared.ctx.Layout.{Layout}
 use Rattle.deku_num.specs.declared.kind.NumberType.{NumberType}
-use Rattle.deku_num.specs.NumberCalls.{Checked, Refused, Passed, RefusesLayout, ReadsNumber, WritesNumber}
+use Rattle.deku_num.specs.NumberCalls.{Checked, Refused, Passed, RefusesLayout, ReadsNumber, ReadsUnsigned, WritesNumber, integers}
 use Rattle.deku_meanings.specs.declared.ctx.Limit.{Limit}
 use Rattle.deku_meanings.specs.declared.ctx.Limit.TheVariants.{Count, Until, ByteSize, BitSize, End}
 use Rattle.deku_meanings.specs.Composing.{Answer, Answered, Then, Second, First, Both}
-use Rattle.deku_meanings.specs.Shapes.{JoinedBy}
+use Rattle.deku_meanings.specs.Shapes.{JoinedBy, Shows, ShowsUnless, LacksMemory}
 use Rattle.deku_reading.specs.Lists.{ReadsTimes, Seen, InTurn, Runs, Ended, Refused as NextRefused, InPlace, Put, NoMemory, Stored}
 use Rattle.deku_reading.specs.Limits.{Taken, TakesEach, Judge, Judged, EndsWith, Closes, ItemRefused, WithoutWidth, NoPlace, ReadsUntil, ReadsBitsOf, NoBits, SomeBits, MoreToCome, ReadsToEnd, ReadsCount, ReadsUnder, Held, Holds, NotHeld}
 use Rattle.deku_writing.specs.Composing.{WritesEach}
+use Rattle.deku_bits.specs.declared.ctx.Order.{Order}
 use Rattle.deku_bits.specs.declared.ctx.Order.TheVariants.{Msb0}
+use Rattle.deku_bits.specs.Devices.{SourceTold, MoreFailures}
+use Rattle.deku_num.specs.Numbers.{byte}
 use Rattle.deku_bits.specs.WriterCalls.{Finalizes}
-use Rattle.deku.specs.Wholes.{Behind, ReadsBytesOnce, WritesOnce, WritesOver, WritesBare}
+use Rattle.deku.specs.Texts.{Unended, Text, NoText, ReadsByte, ReadsEnded, ReadsWithin}
+use Rattle.deku.specs.Wholes.{Behind, ReadsOnce, ReadsBytesOnce, WritesOnce, WritesOver, WritesBare}
 
 -- ---- one after the other
 pub answer : {A V : Type 0} (own : ErrorKind → Type 0) (v : V) → OwnFaults {A = A} own (Answer v)
@@ -155,6 +160,47 @@ under answers ended (ByteSize n) m f = checked WantsMemory _ _ (λ s r u k p q. 
 under answers ended (BitSize n) m f = bits_of _ m f
 under answers ended End m f = to_end m f
 
+-- ---- values that hold others
+shows : {A V W : Type 0} (own : ErrorKind → Type 0) (h : W → V) (v : V) → OwnFaults {A = A} own (Shows h v)
+shows own h v s r u k (Shown e) (inl q) = absurd cc
+shows own h v s r u k (Shown e) (inr q) = inr q
+
+lacking : {A V : Type 0} (s : Standing A) (r : Result V DekuError) (u : Standing A) (k : ErrorKind) → LacksMemory s r u → (r ≡ Err (Io k)) ⊎ KeepsIo k u → WantsMemory k ⊎ KeepsIo k s
+lacking s r u k p (inl q) = let d = p.0 in let e : OutOfMemory ≡ k = cc in inl (sym e)
+lacking s r u k p (inr q) = inr (rw p.1 at q)
+
+pub boxed : {A V W : Type 0} (h : W → V) (m : Meaning A V) → OwnFaults WantsMemory m → OwnFaults WantsMemory (Then m (λ v. Checked LacksMemory (Shows h v)))
+boxed h m f = then WantsMemory m _ f (λ v. checked WantsMemory LacksMemory (Shows h v) lacking (shows WantsMemory h v))
+
+-- ---- what is made of one number
+pub reads_unsigned : (t : NumberType) (l : Layout) → OwnFaults NoKind (ReadsUnsigned t l)
+reads_unsigned t l s r u k p (inl q) = reads_number t l s (integers r) u k p (inl (cong integers q))
+reads_unsigned t l s r u k p (inr q) = reads_number t l s (integers r) u k p (inr q)
+
+pub shown : {V W : Type 0} (m : Meaning (Option Stream) V) (h : W → V) → OwnFaults NoKind m → OwnFaults NoKind (Then m (Shows h))
+shown m h f = then NoKind m (Shows h) f (shows NoKind h)
+
+pub shown_unless : {V W : Type 0} (m : Meaning (Option Stream) V) (none : V → Type 0) (text : List ℕ) (h : W → V) → OwnFaults NoKind m → OwnFaults NoKind (Then m (ShowsUnless none text h))
+shown_unless m none text h f = then NoKind m _ f (λ v. checked NoKind _ _ (λ s r u k p q. inr (texted Parse text no_parse s r u k p.1 q)) (shows NoKind h v))
+
+-- ---- texts and bytes
+unended : {A : Type 0} (bytes : List ℕ) → OwnFaults {A = A} WantsMemory (Unended bytes)
+unended bytes s r u k (Text text e) (inl q) = absurd cc
+unended bytes s r u k (Text text e) (inr q) = inr q
+unended bytes s r u k (NoText e p) q = inr (texted Parse _ no_parse s r u k p q)
+
+read_byte : OwnFaults WantsMemory ReadsByte
+read_byte = stored _ (wider WantsMemory _ (reads_unsigned byte _))
+
+pub text_to_zero : OwnFaults WantsMemory ReadsEnded
+text_to_zero = then WantsMemory _ _ (runs WantsMemory _ _ ReadsByte read_byte) unended
+
+pub text_within : (n : ℕ) → OwnFaults WantsMemory (ReadsWithin n)
+text_within n = then WantsMemory _ _ (runs WantsMemory _ _ ReadsByte read_byte) unended
+
+pub exact_bytes : {V : Type 0} (h : V → List ℕ) (o : Order) (n : ℕ) → OwnFaults WantsMemory (Seen h (Mapped bytes_of (ReadsVec o n)))
+exact_bytes h o n = seen WantsMemory h _ (mapped WantsMemory bytes_of (ReadsVec o n) ((cause_law.0 o n).2))
+
 -- ---- whole values: nothing was kept before
 pub from_first : {V : Type 0} (n : ℕ) (m : Meaning (Option Stream) V) → OwnFaults WantsMemory m → OwnFaults WantsMemory (Behind n m)
 from_first n m f = then WantsMemory _ _ (wider WantsMemory (Skips Msb0 n) ((cause_law.0 Msb0 n).5)) (λ _. f)
@@ -162,6 +208,11 @@ from_first n m f = then WantsMemory _ _ (wider WantsMemory (Skips Msb0 n) ((caus
 pub from_bytes : {V : Type 0} (n : ℕ) (m : Meaning (Option Stream) V) (bytes : List ℕ) (k : ErrorKind) → OwnFaults WantsMemory m → ReadsBytesOnce (Behind n m) bytes (Err (Io k)) → WantsMemory k
 from_bytes n m bytes k f (inl p) = ⊎_elim (λ o. o) (λ kept. absurd kept) (from_first n m f _ _ p.0 k p.1 (inl refl))
 from_bytes n m bytes k f (inr p) = let e = p.4 in absurd cc
+
+-- the source that was lent may be one that fails
+pub from_reader : {R V : Type 0} (told : R → SourceTold) (n : ℕ) (m : Meaning (Option Stream) V) (old new : R) (k : ErrorKind) → OwnFaults WantsMemory m
+    → ReadsOnce told (Behind n m) old (Err (Io k)) new → MoreFailures (told old).health (told new).health ⊎ WantsMemory k
+from_reader told n m old new k f p = ⊎_elim (λ o. inl o) (λ h. ⊎_elim (λ o. inr o) (λ kept. absurd kept) h) (caused WantsMemory _ _ _ _ _ _ (from_first n m f) p.reads k refl)
 
 pub to_bytes : (m : Meaning Output (Unit {0})) (k : ErrorKind) → OwnFaults WantsPlace m → WritesOnce (Both m Finalizes) (Err (Io k)) → WantsPlace k
 to_bytes m k f p = ⊎_elim (λ o. o) (λ kept. absurd kept) (then WantsPlace m _ f (λ _. cause_law.4) _ _ p.0 k p.1 (inl refl))

@@ -1,16 +1,19 @@
 //! Laws of what is written: each is what an empty function ensures.
 
-ghost use Rattle.std.specs.Prelude.{◌≡◌, ℕ, ◌+◌, ◌*◌, Bool, List, Err, ℤ, length, pos};
+ghost use Rattle.std.specs.Prelude.{◌≡◌, ◌⊎◌, ℕ, ◌+◌, ◌*◌, Bool, List, Err, ℤ, length, pos};
 ghost use Rattle.std.specs.List.{All};
 ghost use Rattle.std.specs.declared.io.ErrorKind.{ErrorKind};
 ghost use Rattle.deku_bits.specs.declared.error.DekuError.TheVariants.{Io};
+ghost use Rattle.deku_bits.specs.Devices.{MoreFailures};
+ghost use Rattle.deku_num.specs.declared.ctx.ByteSize.{ByteSize as ByteCount};
+ghost use Rattle.deku_meanings.specs.declared.ctx.ReadExact.{ReadExact as ExactCount};
 ghost use Rattle.deku_bits.specs.Causes.{OwnFaults, NoKind, WantsMemory, WantsPlace};
 ghost use Rattle.deku_bits.specs.WriterCalls.{Finalizes};
 ghost use Rattle.deku_num.specs.declared.ctx.Layout.{Layout as FieldLayout};
 ghost use Rattle.deku_num.specs.declared.kind.NumberType.{NumberType as FieldType};
 ghost use Rattle.deku_num.specs.NumberCalls.{ReadsNumber, WritesNumber};
 ghost use Rattle.deku_meanings.specs.Shapes.{JoinedBy};
-ghost use Rattle.deku.specs.Wholes.{Behind, ReadsBytesOnce, WritesOnce, WritesOver, WritesBare};
+ghost use Rattle.deku.specs.Wholes.{Behind, ReadsOnce, ReadsBytesOnce, WritesOnce, WritesOver, WritesBare};
 ghost use Rattle.deku_meanings.specs.Composing.{Both};
 ghost use Rattle.deku_writing.specs.Composing.{WritesEach};
 ghost use Rattle.deku.specs.Extents.{IsSized, NumberSizeLaw, KeepsSize, NumbersKeepSize};
@@ -20,11 +23,21 @@ ghost use Rattle.deku_meanings.specs.declared.ctx.Limit.TheVariants.{Count};
 ghost use Rattle.deku.specs.VectorLaws.{ReadsAsWritten};
 ghost use Rattle.deku.specs.Rows.{VectorRows};
 
-use deku_meanings::ctx::{Limit, Never, Predicate};
-use deku_num::ctx::NumberCtx;
+use crate::impls::cstring::CString;
+use deku_bits::device::Source;
+use deku_meanings::ctx::{Limit, Never, Predicate, ReadExact};
+use deku_num::ctx::{ByteSize, NumberCtx};
 use deku_num::size::DekuSize;
 use deku_reading::DekuReader;
 use deku_writing::DekuWriter;
+use std::boxed::BoxedSlice;
+use std::collections::{HashMap, HashSet};
+use std::hash::{BuildHasher, Hash};
+use std::net::{Ipv4Addr, Ipv6Addr};
+use std::num::{
+    NonZeroI8, NonZeroI16, NonZeroI32, NonZeroI64, NonZeroI128, NonZeroIsize, NonZeroU8,
+    NonZeroU16, NonZeroU32, NonZeroU64, NonZeroU128, NonZeroUsize,
+};
 
 /// A value of a number type is written under a layout of its whole size, so under `()`, as exactly the bits of its type.
 pub fn number_size_law()
@@ -133,8 +146,7 @@ pub fn number_cause_law()
 {}
 
 /// What is made of items has no `Io` of its own, if its items have none: two items as one value, and arrays; or none but want of memory, and vectors under
-/// any limit have none but that. So are tuples, whose items are the first one and those behind it; and sets, maps and boxed slices, which are read as
-/// vectors are.
+/// any limit have none but that. So are tuples, whose items are the first one and those behind it.
 pub fn items_cause_law<
     Ctx: Copy,
     A: DekuReader<Ctx>,
@@ -151,14 +163,59 @@ pub fn items_cause_law<
     ensures vector { (l : LimitOf A P) (c : Ctx) → OwnFaults WantsMemory (A.meaning c) → OwnFaults WantsMemory (⟦<Vec<A> as DekuReader<(Limit<A, P>, Ctx)>>⟧.meaning (l, c)) }
 {}
 
+/// So it is of a value that is held: one that may be left out, one on the heap, a slice, a set and a map on it.
+pub fn held_cause_law<
+    Ctx: Copy,
+    K: DekuReader<Ctx> + Eq + Hash,
+    V: DekuReader<Ctx>,
+    S: BuildHasher + Default + Drop,
+    P: Predicate<K>,
+    Q: Predicate<(K, V)>,
+>()
+    ensures option_alone { (c : Ctx) → OwnFaults NoKind (V.meaning c) → OwnFaults NoKind (⟦<Option<V> as DekuReader<Ctx>>⟧.meaning c) }
+    ensures option { (c : Ctx) → OwnFaults WantsMemory (V.meaning c) → OwnFaults WantsMemory (⟦<Option<V> as DekuReader<Ctx>>⟧.meaning c) }
+    ensures boxed { (c : Ctx) → OwnFaults WantsMemory (V.meaning c) → OwnFaults WantsMemory (⟦<Box<V> as DekuReader<Ctx>>⟧.meaning c) }
+    ensures slice { (l : LimitOf K P) (c : Ctx) → OwnFaults WantsMemory (K.meaning c) → OwnFaults WantsMemory (⟦<BoxedSlice<K> as DekuReader<(Limit<K, P>, Ctx)>>⟧.meaning (l, c)) }
+    ensures set { (l : LimitOf K P) (c : Ctx) → OwnFaults WantsMemory (K.meaning c) → OwnFaults WantsMemory (⟦<HashSet<K, S> as DekuReader<(Limit<K, P>, Ctx)>>⟧.meaning (l, c)) }
+    ensures map { (l : LimitOf (K × V) Q) (c : Ctx) → OwnFaults WantsMemory (K.meaning c) → OwnFaults WantsMemory (V.meaning c) → OwnFaults WantsMemory (⟦<HashMap<K, V, S> as DekuReader<(Limit<(K, V), Q>, Ctx)>>⟧.meaning (l, c)) }
+{}
+
+/// What is made of one number has no `Io` of its own: truth values, addresses and numbers that are not zero.
+pub fn plain_cause_law<C: NumberCtx>()
+    ensures of_bool { (c : C) → OwnFaults NoKind (⟦<bool as DekuReader<C>>⟧.meaning c) }
+    ensures of_ipv4 { (c : C) → OwnFaults NoKind (⟦<Ipv4Addr as DekuReader<C>>⟧.meaning c) }
+    ensures of_ipv6 { (c : C) → OwnFaults NoKind (⟦<Ipv6Addr as DekuReader<C>>⟧.meaning c) }
+    ensures of_non_zero_u8 { (c : C) → OwnFaults NoKind (⟦<NonZeroU8 as DekuReader<C>>⟧.meaning c) }
+    ensures of_non_zero_u16 { (c : C) → OwnFaults NoKind (⟦<NonZeroU16 as DekuReader<C>>⟧.meaning c) }
+    ensures of_non_zero_u32 { (c : C) → OwnFaults NoKind (⟦<NonZeroU32 as DekuReader<C>>⟧.meaning c) }
+    ensures of_non_zero_u64 { (c : C) → OwnFaults NoKind (⟦<NonZeroU64 as DekuReader<C>>⟧.meaning c) }
+    ensures of_non_zero_u128 { (c : C) → OwnFaults NoKind (⟦<NonZeroU128 as DekuReader<C>>⟧.meaning c) }
+    ensures of_non_zero_usize { (c : C) → OwnFaults NoKind (⟦<NonZeroUsize as DekuReader<C>>⟧.meaning c) }
+    ensures of_non_zero_i8 { (c : C) → OwnFaults NoKind (⟦<NonZeroI8 as DekuReader<C>>⟧.meaning c) }
+    ensures of_non_zero_i16 { (c : C) → OwnFaults NoKind (⟦<NonZeroI16 as DekuReader<C>>⟧.meaning c) }
+    ensures of_non_zero_i32 { (c : C) → OwnFaults NoKind (⟦<NonZeroI32 as DekuReader<C>>⟧.meaning c) }
+    ensures of_non_zero_i64 { (c : C) → OwnFaults NoKind (⟦<NonZeroI64 as DekuReader<C>>⟧.meaning c) }
+    ensures of_non_zero_i128 { (c : C) → OwnFaults NoKind (⟦<NonZeroI128 as DekuReader<C>>⟧.meaning c) }
+    ensures of_non_zero_isize { (c : C) → OwnFaults NoKind (⟦<NonZeroIsize as DekuReader<C>>⟧.meaning c) }
+{}
+
+/// A text, and bytes of an exact count, have no `Io` of their own but want of memory.
+pub fn text_cause_law()
+    ensures to_zero { OwnFaults WantsMemory (⟦<CString as DekuReader<()>>⟧.meaning tt) }
+    ensures within { (n : ByteCount) → OwnFaults WantsMemory (⟦<CString as DekuReader<ByteSize>>⟧.meaning n) }
+    ensures exact { (n : ExactCount) → OwnFaults WantsMemory (⟦<Vec<u8> as DekuReader<ReadExact>>⟧.meaning n) }
+{}
+
 /// The same of what is written: two items one after the other, and vectors, with which stand slices and arrays.
 pub fn written_cause_law<Ctx: Copy, A: DekuWriter<Ctx>, B: DekuWriter<Ctx>>()
     ensures both { (a : A) (b : B) (c : Ctx) → OwnFaults WantsPlace (A.meaning a c) → OwnFaults WantsPlace (B.meaning b c) → OwnFaults WantsPlace (Both (A.meaning a c) (B.meaning b c)) }
     ensures each { (vs : List A) (c : Ctx) → ((v : A) → OwnFaults WantsPlace (A.meaning v c)) → OwnFaults WantsPlace (WritesEach (λ v. A.meaning v c) vs) }
 {}
 
-/// The calls on whole values answer an `Io` only of the value's own kinds: slices and memory do not fail.
-pub fn whole_cause_law<T: DekuReader<()> + DekuWriter<()>>()
+/// The calls on whole values answer an `Io` only of the value's own kinds: slices and memory do not fail. `from_reader` answers one too where the source that
+/// it was lent fails, and tells so by its count.
+pub fn whole_cause_law<T: DekuReader<()> + DekuWriter<()>, R: Source>()
+    ensures from_reader { (n : ℕ) (old new : R) (k : ErrorKind) → OwnFaults WantsMemory (T.DekuReader.meaning tt) → ReadsOnce R.told (Behind n (T.DekuReader.meaning tt)) old (Err (Io k)) new → MoreFailures (R.told old).health (R.told new).health ⊎ WantsMemory k }
     ensures from_bytes { (n : ℕ) (bytes : List ℕ) (k : ErrorKind) → OwnFaults WantsMemory (T.DekuReader.meaning tt) → ReadsBytesOnce (Behind n (T.DekuReader.meaning tt)) bytes (Err (Io k)) → WantsMemory k }
     ensures to_bytes { (v : T) (k : ErrorKind) → OwnFaults WantsPlace (T.DekuWriter.meaning v tt) → WritesOnce (Both (T.DekuWriter.meaning v tt) Finalizes) (Err (Io k)) → WantsPlace k }
     ensures to_slice { (v : T) (old new : List ℕ) (k : ErrorKind) → OwnFaults WantsPlace (T.DekuWriter.meaning v tt) → WritesOver (Both (T.DekuWriter.meaning v tt) Finalizes) old (Err (Io k)) new → WantsPlace k }
