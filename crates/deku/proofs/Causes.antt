@@ -1,5 +1,5 @@
 -- Where faults of the kind `Io` come from in what is made of other calls.
-use Rattle.std.proofs.Common.{◌≡◌, ◌⊎◌, ℕ, zero, suc, Bool, true, List, [], ◌∷◌, Option, Result, Ok, Err, ℤ, refl, sym, cong, inl, inr, ⊎_elim, subst}
+use Rattle.std.proofs.Common.{◌≡◌, ◌⊎◌, ℕ, zero, suc, Bool, true, List, [], ◌∷◌, Option, Result, Ok, Err, ℤ, refl, sym, inl, inr, ⊎_elim, subst}
 use Rattle.std.specs.Borrow.{Bor}
 use Rattle.std.specs.declared.io.ErrorKind.{ErrorKind}
 use Rattle.std.specs.declared.io.ErrorKind.TheVariants.{OutOfMemory}
@@ -18,13 +18,15 @@ use Rattle.deku_num.specs.NumberCalls.{Checked, Refused, Passed, RefusesLayout, 
 use Rattle.deku_meanings.specs.declared.ctx.Limit.{Limit}
 use Rattle.deku_meanings.specs.declared.ctx.Limit.TheVariants.{Count, Until, ByteSize, BitSize, End}
 use Rattle.deku_meanings.specs.Composing.{Answer, Answered, Then, Second, First, Both}
-use Rattle.deku_meanings.specs.Shapes.{JoinedBy, Shows, ShowsUnless, LacksMemory}
+use Rattle.deku_meanings.specs.Shapes.{JoinedBy, Shows, Shown, ShowsUnless, LacksMemory}
 use Rattle.deku_reading.specs.Lists.{ReadsTimes, Seen, InTurn, Runs, Ended, Refused as NextRefused, InPlace, Put, NoMemory, Stored}
 use Rattle.deku_reading.specs.Limits.{Taken, TakesEach, Judge, Judged, EndsWith, Closes, ItemRefused, WithoutWidth, NoPlace, ReadsUntil, ReadsBitsOf, NoBits, SomeBits, MoreToCome, ReadsToEnd, ReadsCount, ReadsUnder, Held, Holds, NotHeld}
 use Rattle.deku_writing.specs.Composing.{WritesEach}
 use Rattle.deku_bits.specs.declared.ctx.Order.{Order}
 use Rattle.deku_bits.specs.declared.ctx.Order.TheVariants.{Msb0}
 use Rattle.deku_bits.specs.Devices.{SourceTold, MoreFailures}
+use Rattle.deku_num.specs.declared.ctx.Endian.TheVariants.{Little}
+use Rattle.deku_num.specs.declared.ctx.Size.TheVariants.{Whole}
 use Rattle.deku_num.specs.Numbers.{byte}
 use Rattle.deku_bits.specs.WriterCalls.{Finalizes}
 use Rattle.deku.specs.Texts.{Unended, Text, NoText, ReadsByte, ReadsEnded, ReadsWithin}
@@ -174,7 +176,8 @@ boxed h m f = then WantsMemory m _ f (λ v. checked WantsMemory LacksMemory (Sho
 
 -- ---- what is made of one number
 pub reads_unsigned : (t : NumberType) (l : Layout) → OwnFaults NoKind (ReadsUnsigned t l)
-reads_unsigned t l s r u k p (inl q) = reads_number t l s (integers r) u k p (inl (cong integers q))
+reads_unsigned t l s (Ok n) u k p (inl q) = absurd cc
+reads_unsigned t l s (Err e) u k p (inl q) = reads_number t l s (Err e) u k p (inl cc)
 reads_unsigned t l s r u k p (inr q) = reads_number t l s (integers r) u k p (inr q)
 
 pub shown : {V W : Type 0} (m : Meaning (Option Stream) V) (h : W → V) → OwnFaults NoKind m → OwnFaults NoKind (Then m (Shows h))
@@ -190,7 +193,9 @@ unended bytes s r u k (Text text e) (inr q) = inr q
 unended bytes s r u k (NoText e p) q = inr (texted Parse _ no_parse s r u k p q)
 
 read_byte : OwnFaults WantsMemory ReadsByte
-read_byte = stored _ (wider WantsMemory _ (reads_unsigned byte _))
+read_byte =
+    let m = ReadsUnsigned byte (record { endian = Little; order = Msb0; size = Whole }) in
+    stored m (wider WantsMemory m (reads_unsigned byte (record { endian = Little; order = Msb0; size = Whole })))
 
 pub text_to_zero : OwnFaults WantsMemory ReadsEnded
 text_to_zero = then WantsMemory _ _ (runs WantsMemory _ _ ReadsByte read_byte) unended
@@ -199,7 +204,7 @@ pub text_within : (n : ℕ) → OwnFaults WantsMemory (ReadsWithin n)
 text_within n = then WantsMemory _ _ (runs WantsMemory _ _ ReadsByte read_byte) unended
 
 pub exact_bytes : {V : Type 0} (h : V → List ℕ) (o : Order) (n : ℕ) → OwnFaults WantsMemory (Seen h (Mapped bytes_of (ReadsVec o n)))
-exact_bytes h o n = seen WantsMemory h _ (mapped WantsMemory bytes_of (ReadsVec o n) ((cause_law.0 o n).2))
+exact_bytes h o n = seen WantsMemory h (Mapped bytes_of (ReadsVec o n)) (mapped WantsMemory bytes_of (ReadsVec o n) ((cause_law.0 o n).2))
 
 -- ---- whole values: nothing was kept before
 pub from_first : {V : Type 0} (n : ℕ) (m : Meaning (Option Stream) V) → OwnFaults WantsMemory m → OwnFaults WantsMemory (Behind n m)
