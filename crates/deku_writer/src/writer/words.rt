@@ -1,6 +1,7 @@
 //! Words that go out by way of held bits.
 
-ghost use Rattle.std.specs.Prelude.{◌≡◌, ◌↔◌, ◌<◌, ◌≤◌, ◌+◌, ◌*◌, ◌/◌, ◌%◌, ◌^◌, ◌⊎◌, length, take, IsTrue, OnOk, IfErr};
+ghost use Rattle.std.specs.Prelude.{◌≡◌, ◌↔◌, ◌<◌, ◌≤◌, ◌+◌, ◌*◌, ◌/◌, ◌%◌, ◌^◌, ◌⊎◌, length, take, IsTrue, IsFalse, OnOk, IfErr};
+ghost use Rattle.deku_device.specs.Devices.{Gave};
 ghost use Rattle.deku_stream.specs.Bits.{bits_of, facing, shown};
 ghost use Rattle.deku_stream.specs.Streams.{flow};
 ghost use Rattle.deku_writer.specs.Pushing.{low_bytes, word_bits, Fills, Pushed, GaveUp, PushedOnto};
@@ -149,6 +150,17 @@ fn push_long_word<W: Sink>(
     push_onto(sink, held, from, to, bits)
 }
 
+// A word of at most eight whole bytes, the lowest first, where the sink has room for eight bytes at hand, and whether it has.
+#[inline(always)]
+fn lay_whole<W: Sink>(sink: &mut W, word: u64, n: usize) -> bool
+    requires whole { n % 8 ≡ 0 }
+    requires most { n ≤ 64 }
+    ensures gave { IsTrue result → Gave (W.told sink.old) (W.told sink.new) (low_bytes (n / 8) word) }
+    ensures stays { IsFalse result → sink.new ≡ sink.old }
+{
+    sink.lay(word.to_le_bytes(), n / 8)
+}
+
 /// A word of n bits onto the held bits of an order. Where they have at most 64 bits together, and the sink has room for eight bytes at hand, they
 /// are laid there.
 #[inline(always)]
@@ -167,7 +179,11 @@ pub fn push_word_onto<W: Sink>(
     ensures pushed { OnOk result (PushedOnto (W.told sink.old) (W.told sink.new) from to held.old held.new (shown to (word_bits to n word))) }
     ensures fault { IfErr result (GaveUp (W.told sink.old) (W.told sink.new) ((length held.old + n) / 8)) }
 {
-    if held.len() + n <= 64 && is_behind(held, from, to) {
+    if held.len() == 0 && n % 8 == 0 && n <= 64 {
+        if lay_whole(sink, word as u64, n) {
+            return Ok(());
+        }
+    } else if held.len() + n <= 64 && is_behind(held, from, to) {
         let mut next = held.copy();
         let (eight, count) = next.fill(to, word as u64, n);
         if sink.lay(eight, count) {
