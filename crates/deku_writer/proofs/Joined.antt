@@ -5,7 +5,7 @@ use Rattle.std.proofs.Math.Nat.{pow-suc}
 use Rattle.std.proofs.lemmas.Nat.{shr-shr, shr_below, shl_whole, pow-add, pow_pos, be_bytes_8}
 use Rattle.std.proofs.lemmas.List.{take_at, reverse-append, length-take-le}
 use Rattle.std.proofs.lemmas.List.Elements.{All-nil, All-cons, All-head, All-tail}
-use Rattle.std.specs.Int.{w64, to_le_bytes, to_be_bytes, swap_bytes, byte_at, bytes_low_first, bytes_high_first}
+use Rattle.std.specs.Int.{w64, w128, to_le_bytes, to_be_bytes, swap_bytes, byte_at, bytes_low_first, bytes_high_first}
 use Rattle.deku_stream.specs.declared.ctx.Order.{Order}
 use Rattle.deku_stream.specs.declared.ctx.Order.TheVariants.{Msb0, Lsb0}
 use Rattle.deku_stream.specs.Bits.{bits_of, byte_bits, facing}
@@ -39,6 +39,9 @@ low_from i (suc k) n =
 
 pub low_first : (n : ℕ) → to_le_bytes w64 n ≡ low_bytes 8 n
 low_first n = let e : n / 2 ^ (8 * 0) ≡ n = omega arith in low_from 0 8 n ∙ ap (low_bytes 8) e
+
+pub long_first : (n : ℕ) → to_le_bytes w128 n ≡ low_bytes 16 n
+long_first n = let e : n / 2 ^ (8 * 0) ≡ n = omega arith in low_from 0 16 n ∙ ap (low_bytes 16) e
 
 small_low : (k n : ℕ) → All IsByte (low_bytes k n)
 small_low zero n = All-nil IsByte

@@ -48,6 +48,17 @@ fn fill_word(out: &mut [u8; 16], held: &mut Held, order: Order, word: u128, n: u
     }
 }
 
+// A word of whole bytes that goes out at once, the lowest byte first.
+fn give_whole<W: Sink>(sink: &mut W, word: u128, n: usize) -> Result<(), ErrorKind>
+    requires some { 0 < n }
+    requires whole { n % 8 ≡ 0 }
+    requires most { n ≤ 128 }
+    ensures gave { OnOk result (Gave (W.told sink.old) (W.told sink.new) (low_bytes (n / 8) word)) }
+    ensures fault { IfErr result (GaveUp (W.told sink.old) (W.told sink.new) (n / 8)) }
+{
+    give_out(sink, &word.to_le_bytes()[..n / 8])
+}
+
 // A word of n bits onto bits of the same order. The bytes that fill go out at once.
 fn push_word<W: Sink>(
     sink: &mut W,
@@ -56,12 +67,16 @@ fn push_word<W: Sink>(
     word: u128,
     n: usize,
 ) -> Result<(), ErrorKind>
+    requires some { 0 < n }
     requires short { length held.old < 8 }
     requires most { n ≤ 128 }
     requires inside { word < 2 ^ n }
     ensures pushed { OnOk result (Pushed (W.told sink.old) (W.told sink.new) order held.old held.new (word_bits order n word)) }
     ensures fault { IfErr result (GaveUp (W.told sink.old) (W.told sink.new) ((length held.old + n) / 8)) }
 {
+    if held.len() == 0 && n % 8 == 0 {
+        return give_whole(sink, word, n);
+    }
     let mut out = [0; 16];
     let count = fill_word(&mut out, held, order, word, n);
     if count == 0 {
