@@ -57,6 +57,15 @@ impl Held {
         }
     }
 
+    /// Holds the bits of another in place of its own. Each part is set by itself: so what lies between them in memory is not moved.
+    #[inline(always)]
+    pub fn replace(&mut self, next: Held)
+        ensures { self.new ≡ next }
+    {
+        self.number = next.number;
+        self.len = next.len;
+    }
+
     /// The bits, highest first, with zeros behind them.
     pub fn bits(&self) -> [bool; 8]
         ensures { take (length self.now) result ≡ self.now }

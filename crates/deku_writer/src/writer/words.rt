@@ -202,7 +202,7 @@ pub fn push_word_onto<W: Sink>(
         let mut next = held.copy();
         let (eight, count) = next.fill(to, word as u64, n);
         if sink.lay(eight, count) {
-            *held = next;
+            held.replace(next);
             return Ok(());
         }
     }

@@ -25,5 +25,6 @@ returns-then-lay-clause-pushed g c =
     let fills = c.fill-count.ensures.fills in
     let behind : (length h ≡ 0) ⊎ (c.args.from ≡ c.args.to) = search rules in
     let pushed : Pushed a b c.args.to h hs bits = record { gave = search (rules, fills.bytes, c.lay.ensures.gave); rest = search (rules, fills.rest) } in
-    ⊎_elim (λ none. word_onto_none a b c.args.from c.args.to h hs c.args.n c.args.word none c.requires.some pushed)
-    (λ same. word_onto_same a b c.args.from c.args.to h hs c.args.n c.args.word same c.requires.some pushed) behind
+    rw c.replace.ensures
+    (⊎_elim (λ none. word_onto_none a b c.args.from c.args.to h hs c.args.n c.args.word none c.requires.some pushed)
+    (λ same. word_onto_same a b c.args.from c.args.to h hs c.args.n c.args.word same c.requires.some pushed) behind)
