@@ -51,7 +51,7 @@ pub small_le : (n : ℕ) → All IsByte (to_le_bytes w64 n)
 small_le n = subst (All IsByte) (sym (low_first n)) (small_low 8 n)
 
 -- the lowest of them, and the others
-low_bytes-split : (m k w : ℕ) → low_bytes (m + k) w ≡ low_bytes m w ++ low_bytes k (w / 2 ^ (8 * m))
+pub low_bytes-split : (m k w : ℕ) → low_bytes (m + k) w ≡ low_bytes m w ++ low_bytes k (w / 2 ^ (8 * m))
 low_bytes-split zero k w =
     let e : w / 2 ^ (8 * 0) ≡ w = omega arith in
     let n : 0 + k ≡ k = omega arith in

@@ -14,38 +14,36 @@ use deku_stream::ctx::Order;
 use deku_stream::turning::show;
 use std::io::ErrorKind;
 
-// Whole bytes of a word through held bits, the lowest byte first: as many go out as come in. What is left of the word is answered.
-fn shift_word(out: &mut [u8; 16], held: &mut Held, order: Order, word: u128, bytes: usize) -> u128
+// Seven bytes of a word at a time through held bits, the lowest first: as many go out as come in. What is left of the word is answered.
+fn shift_word(out: &mut [u8; 16], held: &mut Held, order: Order, word: u128, parts: usize) -> u128
     requires short { length held.old < 8 }
-    requires room { bytes ≤ 16 }
-    ensures fills { Fills order held.old held.new (flow order (low_bytes bytes word)) (take bytes out.new) }
-    ensures rest { result ≡ word / 2 ^ (8 * bytes) }
+    requires room { parts ≤ 2 }
+    ensures fills { Fills order held.old held.new (flow order (low_bytes (7 * parts) word)) (take (7 * parts) out.new) }
+    ensures rest { result ≡ word / 2 ^ (56 * parts) }
 {
     let mut rest = word;
-    for i in 0..bytes {
-        out[i] = held.pass(order, (rest % 256) as u8);
-        rest >>= 8;
+    for i in 0..parts {
+        let (eight, _) = held.fill(order, (rest % (1 << 56)) as u64, 56);
+        out[7 * i..7 * i + 7].copy_from_slice(&eight[..7]);
+        rest >>= 56;
     }
     rest
 }
 
 // A word of n bits behind held bits: how many bytes fill.
 fn fill_word(out: &mut [u8; 16], held: &mut Held, order: Order, word: u128, n: usize) -> usize
+    requires some { 0 < n }
     requires short { length held.old < 8 }
     requires most { n ≤ 128 }
     requires inside { word < 2 ^ n }
     ensures fills { Fills order held.old held.new (word_bits order n word) (take result out.new) }
     ensures room { result ≤ 16 }
 {
-    let whole = n / 8;
-    let rest = shift_word(out, held, order, word, whole);
-    match held.push(order, rest as u8, n % 8) {
-        None => whole,
-        Some(byte) => {
-            out[whole] = byte;
-            whole + 1
-        }
-    }
+    let parts = (n - 1) / 56;
+    let rest = shift_word(out, held, order, word, parts);
+    let (eight, count) = held.fill(order, rest as u64, n - 56 * parts);
+    out[7 * parts..7 * parts + count].copy_from_slice(&eight[..count]);
+    7 * parts + count
 }
 
 // A word of whole bytes that goes out at once, the lowest byte first.
