@@ -530,46 +530,36 @@ fn overwrite(all: &mut [u8], place: usize, bytes: &[u8]) -> usize
 fn has_eight(length: usize, place: u64) -> bool
     ensures { IsTrue result ↔ (place + 8 ≤ length) }
 {
-    let length = length as u64;
-    place <= length && length - place >= 8
+    place < (length as u64).saturating_sub(7)
 }
 
-// Lays the first n of eight bytes over those from a place on.
+// Lays the first n of eight bytes over those from a place on. Each length has an arm of its own, so that each is one store or two.
 #[inline(always)]
 fn lay_over(all: &mut [u8], place: usize, eight: [u8; 8], n: usize)
     requires few { n ≤ 8 }
     requires room { place + 8 ≤ length all.old }
     ensures { all.new ≡ laid_over all.old place (take n eight) }
 {
-    let mixed = blended(&eight, &all[place..place + 8], n);
-    all[place..place + 8].copy_from_slice(&mixed);
-}
-
-// The first n of eight bytes, and those that lie there behind them.
-#[inline(always)]
-fn blended(eight: &[u8], there: &[u8], n: usize) -> [u8; 8]
-    requires eight { length eight.now ≡ 8 }
-    requires there { length there.now ≡ 8 }
-    requires few { n ≤ 8 }
-    ensures { result ≡ take n eight.now ++ drop n there.now }
-{
-    let front = number_of_eight(eight);
-    let behind = number_of_eight(there);
-    if n == 8 {
-        return front.to_le_bytes();
+    match n {
+        1 => lay_first(all, place, &eight, 1),
+        2 => lay_first(all, place, &eight, 2),
+        3 => lay_first(all, place, &eight, 3),
+        4 => lay_first(all, place, &eight, 4),
+        5 => lay_first(all, place, &eight, 5),
+        6 => lay_first(all, place, &eight, 6),
+        7 => lay_first(all, place, &eight, 7),
+        8 => lay_first(all, place, &eight, 8),
+        _ => {}
     }
-    let end = 1 << (8 * n);
-    (behind - behind % end + front % end).to_le_bytes()
 }
 
-// The number of eight bytes, the first the lowest.
+// Lays the first n of some bytes over those from a place on.
 #[inline(always)]
-fn number_of_eight(bytes: &[u8]) -> u64
-    requires { length bytes.now ≡ 8 }
-    ensures number { result ≡ from_le_bytes w64 bytes.now }
-    ensures bytes { All (λ b. b < 256) bytes.now }
+fn lay_first(all: &mut [u8], place: usize, bytes: &[u8], n: usize)
+    requires few { n ≤ length bytes.now }
+    requires room { place + n ≤ length all.old }
+    ensures { all.new ≡ laid_over all.old place (take n bytes.now) }
 {
-    let mut room = [0; 8];
-    room.copy_from_slice(bytes);
-    u64::from_le_bytes(room)
+    let first = &bytes[..n];
+    all[place..place + n].copy_from_slice(first);
 }

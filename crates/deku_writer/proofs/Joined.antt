@@ -5,7 +5,7 @@ use Rattle.std.proofs.Math.Nat.{pow-suc}
 use Rattle.std.proofs.lemmas.Nat.{shr-shr, shr_below, shl_whole, pow-add, pow_pos, be_bytes_8}
 use Rattle.std.proofs.lemmas.List.{take_at, reverse-append, length-take-le}
 use Rattle.std.proofs.lemmas.List.Elements.{All-nil, All-cons, All-head, All-tail}
-use Rattle.std.specs.Int.{w64, to_le_bytes, to_be_bytes, swap_bytes, byte_at, bytes_low_first, bytes_high_first}
+use Rattle.std.specs.Int.{w64, w128, to_le_bytes, to_be_bytes, swap_bytes, byte_at, bytes_low_first, bytes_high_first}
 use Rattle.deku_stream.specs.declared.ctx.Order.{Order}
 use Rattle.deku_stream.specs.declared.ctx.Order.TheVariants.{Msb0, Lsb0}
 use Rattle.deku_stream.specs.Bits.{bits_of, byte_bits, facing}
@@ -40,6 +40,9 @@ low_from i (suc k) n =
 pub low_first : (n : ℕ) → to_le_bytes w64 n ≡ low_bytes 8 n
 low_first n = let e : n / 2 ^ (8 * 0) ≡ n = omega arith in low_from 0 8 n ∙ ap (low_bytes 8) e
 
+pub long_first : (n : ℕ) → to_le_bytes w128 n ≡ low_bytes 16 n
+long_first n = let e : n / 2 ^ (8 * 0) ≡ n = omega arith in low_from 0 16 n ∙ ap (low_bytes 16) e
+
 small_low : (k n : ℕ) → All IsByte (low_bytes k n)
 small_low zero n = All-nil IsByte
 small_low (suc k) n = All-cons IsByte (n % 256) (low_bytes k (n / 256)) (mod-lt n (omega arith)) (small_low k (n / 256))
@@ -48,7 +51,7 @@ pub small_le : (n : ℕ) → All IsByte (to_le_bytes w64 n)
 small_le n = subst (All IsByte) (sym (low_first n)) (small_low 8 n)
 
 -- the lowest of them, and the others
-low_bytes-split : (m k w : ℕ) → low_bytes (m + k) w ≡ low_bytes m w ++ low_bytes k (w / 2 ^ (8 * m))
+pub low_bytes-split : (m k w : ℕ) → low_bytes (m + k) w ≡ low_bytes m w ++ low_bytes k (w / 2 ^ (8 * m))
 low_bytes-split zero k w =
     let e : w / 2 ^ (8 * 0) ≡ w = omega arith in
     let n : 0 + k ≡ k = omega arith in
@@ -58,10 +61,10 @@ low_bytes-split (suc m) k w =
     let p : 8 + 8 * m ≡ 8 * suc m = omega arith in
     ap (λ i. low_bytes i w) n ∙ ap (λ x. w % 256 ∷ x) (low_bytes-split m k (w / 256) ∙ ap (λ v. low_bytes m (w / 256) ++ low_bytes k v) (shr-shr w 8 (8 * m) ∙ ap (λ i. w / 2 ^ i) p))
 
-first_low : (q w : ℕ) → q ≤ 8 → take q (low_bytes 8 w) ≡ low_bytes q w
-first_low q w l =
-    let e : 8 ≡ q + (8 - q) = omega arith in
-    ap (take q) (ap (λ i. low_bytes i w) e ∙ low_bytes-split q (8 - q) w) ∙ take_at (low_bytes q w) (low_bytes (8 - q) (w / 2 ^ (8 * q))) q (length-low_bytes q w)
+pub first_low : (k q w : ℕ) → q ≤ k → take q (low_bytes k w) ≡ low_bytes q w
+first_low k q w l =
+    let e : k ≡ q + (k - q) = omega arith in
+    ap (take q) (ap (λ i. low_bytes i w) e ∙ low_bytes-split q (k - q) w) ∙ take_at (low_bytes q w) (low_bytes (k - q) (w / 2 ^ (8 * q))) q (length-low_bytes q w)
 
 -- ---- their bits
 low_flow : (k v : ℕ) → flow Lsb0 (low_bytes k v) ≡ reverse (bits_of (8 * k) v)
@@ -157,7 +160,7 @@ module _ (n v : ℕ) (some : 0 < n) (most : n ≤ 64) (inside : v < 2 ^ n) where
   unfolding word_bits
   cut_low =
       sym (low_word n v)
-      ∙ ap (λ x. flow Lsb0 x ++ facing Lsb0 (bits_of (n % 8) (v / 2 ^ (8 * (n / 8))))) (sym (ap (take (n / 8)) (low_first v) ∙ first_low (n / 8) v (omega arith)))
+      ∙ ap (λ x. flow Lsb0 x ++ facing Lsb0 (bits_of (n % 8) (v / 2 ^ (8 * (n / 8))))) (sym (ap (take (n / 8)) (low_first v) ∙ first_low 8 (n / 8) v (omega arith)))
 
 -- ---- bytes that fill
 emitted_bytes : (o : Order) (bs : List ℕ) (s : List Bool) → All IsByte bs → length s < 8 → emitted o (flow o bs ++ s) ≡ bs
@@ -182,6 +185,16 @@ fills_bytes o h hs xs bs e small l =
       bytes = sym (ap (emitted o) e ∙ emitted_bytes o bs (facing o hs) small k);
       rest = sym (ap (λ t. remainder t) e ∙ rest_bytes o bs (facing o hs) k);
     }
+
+-- whole bytes of a word, where nothing is held
+pub whole_word : (o : Order) (n w : ℕ) → n % 8 ≡ 0 → word_bits o n w ≡ flow o (low_bytes (n / 8) w) ++ facing o []
+unfolding bits_of word_bits
+whole_word o n w whole = ap (λ r. flow o (low_bytes (n / 8) w) ++ facing o (bits_of r (w / 2 ^ (8 * (n / 8))))) whole
+
+pub fills_whole : (o : Order) (h : List Bool) (n w : ℕ) → length h ≡ 0 → n % 8 ≡ 0 → Fills o h h (word_bits o n w) (low_bytes (n / 8) w)
+fills_whole Msb0 [] n w none whole = fills_bytes Msb0 [] [] (word_bits Msb0 n w) (low_bytes (n / 8) w) (whole_word Msb0 n w whole) (small_low (n / 8) w) (omega arith)
+fills_whole Lsb0 [] n w none whole = fills_bytes Lsb0 [] [] (word_bits Lsb0 n w) (low_bytes (n / 8) w) (whole_word Lsb0 n w whole) (small_low (n / 8) w) (omega arith)
+fills_whole o (x ∷ h) n w none whole = absurd (omega arith)
 
 -- ---- as the code shifts
 -- a word's number

@@ -7,3 +7,4 @@ pub mod Emits
 pub mod Lent
 pub mod WholeBytes
 pub mod Joined
+pub mod LongWords

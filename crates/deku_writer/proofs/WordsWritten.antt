@@ -1,5 +1,5 @@
 -- Words that are written: their lists, and what they fill behind held bits.
-use Rattle.std.proofs.Common.{refl, ℕ, zero, suc, ◌+◌, ◌*◌, ◌-◌, ◌/◌, ◌%◌, ◌^◌, ◌<◌, ◌≤◌, ◌≡◌, Bool, List, [], ◌∷◌, ◌++◌, length, set, take, Result, Ok, Err, Bor, codes, None, sym, ap, ap₂, ◌∙◌, append_assoc, append-nil, arith, length-append, mod-lt, mod-eq_of_lt, subst}
+use Rattle.std.proofs.Common.{refl, ℕ, zero, suc, ◌+◌, ◌*◌, ◌-◌, ◌/◌, ◌%◌, ◌^◌, ◌<◌, ◌≤◌, ◌≡◌, Bool, List, [], ◌∷◌, ◌++◌, length, take, Result, Ok, Err, Bor, codes, None, sym, ap, ap₂, ◌∙◌, append_assoc, append-nil, arith, length-append, mod-lt, mod-eq_of_lt, subst}
 use Rattle.std.proofs.lemmas.List.{take_at, length-take-le}
 use Rattle.std.proofs.lemmas.Nat.{shr-shr, shr_below}
 use Rattle.deku_stream.specs.declared.ctx.Order.{Order}
@@ -18,7 +18,6 @@ use Rattle.deku_stream.proofs.Binary.{bin-bits_of, length-bits_of, length-facing
 use Rattle.deku_stream.proofs.Cuts.{length-byte_bits, length-flow, byte-of, flow-append}
 use Rattle.deku_writer.proofs.Emits.{write_nothing, write_full, write_done, write_stopped}
 use Rattle.deku_stream.proofs.Handing.{weaker}
-use Rattle.deku_writer.proofs.Fills.{Fills-trans, fills_more}
 use Rattle.deku_writer.proofs.Onto.{empty_onto, same_onto}
 use Rattle.deku_writer.proofs.Pushes.{filled_count}
 use Rattle.deku_stream.proofs.Shown.{length-shown, shown-shown}
@@ -84,35 +83,10 @@ bytes_of_more o i w =
     let b : ℕ = w / 2 ^ (8 * i) % 256 in
     ap (flow o) (low_bytes-more i w) ∙ flow-append o (low_bytes i w) (b ∷ []) ∙ ap (λ s. flow o (low_bytes i w) ++ s) (append-nil (facing o (byte_bits b)))
 
-pub word_more : (o : Order) (h hs hs2 : List Bool) (out : List ℕ) (i w rest byte : ℕ) → i < length out → rest ≡ w / 2 ^ (8 * i) → Fills o h hs (flow o (low_bytes i w)) (take i out)
-    → Fills o hs hs2 (facing o (byte_bits (rest % 256))) (byte ∷ []) → Fills o h hs2 (flow o (low_bytes (i + 1) w)) (take (i + 1) (set out i byte))
-word_more o h hs hs2 out i w rest byte l e p q =
-    rw (bytes_of_more o i w, ← e) (fills_more o h hs hs2 (flow o (low_bytes i w)) (facing o (byte_bits (rest % 256))) out i byte l p q)
-
 pub rest_more : (w rest i : ℕ) → rest ≡ w / 2 ^ (8 * i) → rest / 2 ^ 8 ≡ w / 2 ^ (8 * (i + 1))
 rest_more w rest i e =
     let n : 8 * i + 8 ≡ 8 * (i + 1) = omega arith in
     ap (λ x. x / 2 ^ 8) e ∙ shr-shr w (8 * i) 8 ∙ ap (λ m. w / 2 ^ m) n
-
--- what is above the whole bytes fills a byte, or none
-module _ (o : Order) (h hs hs2 : List Bool) (out : List ℕ) (n w rest : ℕ) (is : rest ≡ w / 2 ^ (8 * (n / 8))) (so_far : Fills o h hs (flow o (low_bytes (n / 8) w)) (take (n / 8) out)) where
-  pub word_kept : Fills o hs hs2 (facing o (bits_of (n % 8) rest)) [] → Fills o h hs2 (word_bits o n w) (take (n / 8) out)
-  unfolding word_bits
-  word_kept q =
-      rw (← is) (subst (λ x. Fills o h hs2 (flow o (low_bytes (n / 8) w) ++ facing o (bits_of (n % 8) rest)) x) (append-nil (take (n / 8) out))
-      (Fills-trans o h hs hs2 (flow o (low_bytes (n / 8) w)) (facing o (bits_of (n % 8) rest)) (take (n / 8) out) [] so_far q))
-
-  pub word_filled : (byte : ℕ) → n / 8 < length out → Fills o hs hs2 (facing o (bits_of (n % 8) rest)) (byte ∷ []) → Fills o h hs2 (word_bits o n w) (take (n / 8 + 1) (set out (n / 8) byte))
-  unfolding word_bits
-  word_filled byte l q =
-      rw (← is) (fills_more o h hs hs2 (flow o (low_bytes (n / 8) w)) (facing o (bits_of (n % 8) rest)) out (n / 8) byte l so_far q)
-
--- a last byte fills only where there are bits above the whole ones
-pub word_room : (o : Order) (hs hs2 : List Bool) (n rest byte : ℕ) → length hs < 8 → n ≤ 128 → Fills o hs hs2 (facing o (bits_of (n % 8) rest)) (byte ∷ []) → n / 8 < 16
-word_room o hs hs2 n rest byte l k q =
-    let c : length (byte ∷ []) ≡ (length hs + length (facing o (bits_of (n % 8) rest))) / 8 = filled_count o hs hs2 (facing o (bits_of (n % 8) rest)) (byte ∷ []) q in
-    let g : length (facing o (bits_of (n % 8) rest)) ≡ n % 8 = length-facing o (bits_of (n % 8) rest) ∙ length-bits_of (n % 8) rest in
-    omega arith
 
 -- how many bytes a word fills
 pub word_count : (o : Order) (h hs : List Bool) (n w : ℕ) (out : List ℕ) → Fills o h hs (word_bits o n w) out → length out ≡ (length h + n) / 8
@@ -127,8 +101,8 @@ word_written o n w t s r after u h m =
 
 -- ---- a word as bits
 -- the front of a list with a part laid over it
-pub laid_front : (xs ys zs : List Bool) (m n : ℕ) → m ≤ length xs → n ≡ m + length ys → take n (take m xs ++ (ys ++ zs)) ≡ take m xs ++ ys
-laid_front xs ys zs m n l e =
+pub laid_front : {A : Type 0} (xs ys zs : List A) (m n : ℕ) → m ≤ length xs → n ≡ m + length ys → take n (take m xs ++ (ys ++ zs)) ≡ take m xs ++ ys
+laid_front {A} xs ys zs m n l e =
     ap (take n) (sym (append_assoc (take m xs) ys zs))
     ∙ take_at (take m xs ++ ys) zs n (length-append (take m xs) ys ∙ omega (arith, length-take-le m xs l))
 

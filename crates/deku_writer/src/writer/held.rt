@@ -36,14 +36,14 @@ impl Held {
         Held { number: 0, len: 0 }
     }
 
-    /// How many there are.
+    /// How many there are. They are below eight, as is said to the compiler too: so it knows how many bytes a field of whole bytes fills.
     #[tactic(auto, using(deku_stream::proofs::Packed::lengths))]
     #[inline(always)]
     pub fn len(&self) -> usize
         ensures length { result ≡ length self.now }
         ensures most { result < 8 }
     {
-        self.len
+        self.len % 8
     }
 
     /// The same bits again.
@@ -55,6 +55,15 @@ impl Held {
             number: self.number,
             len: self.len,
         }
+    }
+
+    /// Holds the bits of another in place of its own. Each part is set by itself: so what lies between them in memory is not moved.
+    #[inline(always)]
+    pub fn replace(&mut self, next: Held)
+        ensures { self.new ≡ next }
+    {
+        self.number = next.number;
+        self.len = next.len;
     }
 
     /// The bits, highest first, with zeros behind them.
@@ -85,8 +94,9 @@ impl Held {
         ensures fills { Fills order self.old self.new (word_bits order n word) (take result.1 result.0) }
         ensures count { result.1 ≡ (length self.old + n) / 8 }
     {
-        let len = self.len + n;
-        let joined = join_word(order, self.number, self.len, word, n);
+        let held = self.len();
+        let len = held + n;
+        let joined = join_word(order, self.number, held, word, n);
         let (eight, behind) = cut_word(order, joined, len);
         self.number = behind;
         self.len = len % 8;

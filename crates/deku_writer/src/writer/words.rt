@@ -1,6 +1,7 @@
 //! Words that go out by way of held bits.
 
-ghost use Rattle.std.specs.Prelude.{◌≡◌, ◌↔◌, ◌<◌, ◌≤◌, ◌+◌, ◌*◌, ◌/◌, ◌%◌, ◌^◌, ◌⊎◌, length, take, IsTrue, OnOk, IfErr};
+ghost use Rattle.std.specs.Prelude.{◌≡◌, ◌↔◌, ◌<◌, ◌≤◌, ◌+◌, ◌*◌, ◌/◌, ◌%◌, ◌^◌, ◌⊎◌, length, take, IsTrue, IsFalse, OnOk, IfErr};
+ghost use Rattle.deku_device.specs.Devices.{Gave};
 ghost use Rattle.deku_stream.specs.Bits.{bits_of, facing, shown};
 ghost use Rattle.deku_stream.specs.Streams.{flow};
 ghost use Rattle.deku_writer.specs.Pushing.{low_bytes, word_bits, Fills, Pushed, GaveUp, PushedOnto};
@@ -13,38 +14,47 @@ use deku_stream::ctx::Order;
 use deku_stream::turning::show;
 use std::io::ErrorKind;
 
-// Whole bytes of a word through held bits, the lowest byte first: as many go out as come in. What is left of the word is answered.
-fn shift_word(out: &mut [u8; 16], held: &mut Held, order: Order, word: u128, bytes: usize) -> u128
+// Seven bytes of a word at a time through held bits, the lowest first: as many go out as come in. What is left of the word is answered.
+fn shift_word(out: &mut [u8; 16], held: &mut Held, order: Order, word: u128, parts: usize) -> u128
     requires short { length held.old < 8 }
-    requires room { bytes ≤ 16 }
-    ensures fills { Fills order held.old held.new (flow order (low_bytes bytes word)) (take bytes out.new) }
-    ensures rest { result ≡ word / 2 ^ (8 * bytes) }
+    requires room { parts ≤ 2 }
+    ensures fills { Fills order held.old held.new (flow order (low_bytes (7 * parts) word)) (take (7 * parts) out.new) }
+    ensures rest { result ≡ word / 2 ^ (56 * parts) }
 {
     let mut rest = word;
-    for i in 0..bytes {
-        out[i] = held.pass(order, (rest % 256) as u8);
-        rest >>= 8;
+    for i in 0..parts {
+        let (eight, _) = held.fill(order, (rest % (1 << 56)) as u64, 56);
+        out[7 * i..7 * i + 7].copy_from_slice(&eight[..7]);
+        rest >>= 56;
     }
     rest
 }
 
 // A word of n bits behind held bits: how many bytes fill.
 fn fill_word(out: &mut [u8; 16], held: &mut Held, order: Order, word: u128, n: usize) -> usize
+    requires some { 0 < n }
     requires short { length held.old < 8 }
     requires most { n ≤ 128 }
     requires inside { word < 2 ^ n }
     ensures fills { Fills order held.old held.new (word_bits order n word) (take result out.new) }
     ensures room { result ≤ 16 }
 {
-    let whole = n / 8;
-    let rest = shift_word(out, held, order, word, whole);
-    match held.push(order, rest as u8, n % 8) {
-        None => whole,
-        Some(byte) => {
-            out[whole] = byte;
-            whole + 1
-        }
-    }
+    let parts = (n - 1) / 56;
+    let rest = shift_word(out, held, order, word, parts);
+    let (eight, count) = held.fill(order, rest as u64, n - 56 * parts);
+    out[7 * parts..7 * parts + count].copy_from_slice(&eight[..count]);
+    7 * parts + count
+}
+
+// A word of whole bytes that goes out at once, the lowest byte first.
+fn give_whole<W: Sink>(sink: &mut W, word: u128, n: usize) -> Result<(), ErrorKind>
+    requires some { 0 < n }
+    requires whole { n % 8 ≡ 0 }
+    requires most { n ≤ 128 }
+    ensures gave { OnOk result (Gave (W.told sink.old) (W.told sink.new) (low_bytes (n / 8) word)) }
+    ensures fault { IfErr result (GaveUp (W.told sink.old) (W.told sink.new) (n / 8)) }
+{
+    give_out(sink, &word.to_le_bytes()[..n / 8])
 }
 
 // A word of n bits onto bits of the same order. The bytes that fill go out at once.
@@ -55,12 +65,16 @@ fn push_word<W: Sink>(
     word: u128,
     n: usize,
 ) -> Result<(), ErrorKind>
+    requires some { 0 < n }
     requires short { length held.old < 8 }
     requires most { n ≤ 128 }
     requires inside { word < 2 ^ n }
     ensures pushed { OnOk result (Pushed (W.told sink.old) (W.told sink.new) order held.old held.new (word_bits order n word)) }
     ensures fault { IfErr result (GaveUp (W.told sink.old) (W.told sink.new) ((length held.old + n) / 8)) }
 {
+    if held.len() == 0 && n % 8 == 0 {
+        return give_whole(sink, word, n);
+    }
     let mut out = [0; 16];
     let count = fill_word(&mut out, held, order, word, n);
     if count == 0 {
@@ -149,6 +163,17 @@ fn push_long_word<W: Sink>(
     push_onto(sink, held, from, to, bits)
 }
 
+// A word of at most eight whole bytes, the lowest first, where the sink has room for eight bytes at hand, and whether it has.
+#[inline(always)]
+fn lay_whole<W: Sink>(sink: &mut W, word: u64, n: usize) -> bool
+    requires whole { n % 8 ≡ 0 }
+    requires most { n ≤ 64 }
+    ensures gave { IsTrue result → Gave (W.told sink.old) (W.told sink.new) (low_bytes (n / 8) word) }
+    ensures stays { IsFalse result → sink.new ≡ sink.old }
+{
+    sink.lay(word.to_le_bytes(), n / 8)
+}
+
 /// A word of n bits onto the held bits of an order. Where they have at most 64 bits together, and the sink has room for eight bytes at hand, they
 /// are laid there.
 #[inline(always)]
@@ -167,11 +192,15 @@ pub fn push_word_onto<W: Sink>(
     ensures pushed { OnOk result (PushedOnto (W.told sink.old) (W.told sink.new) from to held.old held.new (shown to (word_bits to n word))) }
     ensures fault { IfErr result (GaveUp (W.told sink.old) (W.told sink.new) ((length held.old + n) / 8)) }
 {
-    if held.len() + n <= 64 && is_behind(held, from, to) {
+    if held.len() == 0 && n % 8 == 0 && n <= 64 {
+        if lay_whole(sink, word as u64, n) {
+            return Ok(());
+        }
+    } else if held.len() + n <= 64 && is_behind(held, from, to) {
         let mut next = held.copy();
         let (eight, count) = next.fill(to, word as u64, n);
         if sink.lay(eight, count) {
-            *held = next;
+            held.replace(next);
             return Ok(());
         }
     }

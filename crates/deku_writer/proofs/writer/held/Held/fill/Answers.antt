@@ -6,26 +6,21 @@ use Rattle.deku_stream.proofs.Bytes.{IsByte}
 use Rattle.deku_writer.proofs.Joined.{fills_bytes}
 use Rattle.deku_writer.proofs.writer.held.Held.fill.Goals as goal
 
-pub join_word-joined-requires-clause-most : goal.join_word-joined-requires-clause-most
-join_word-joined-requires-clause-most c =
-    let l : length c.args.self.now ≡ c.self.inside.len = ap length (sym c.self.view_is) ∙ length-bits_of c.self.inside.len c.self.inside.number in
-    omega (arith, l, c.requires.most)
-
-pub cut_word-behind-requires-clause-most : goal.cut_word-behind-requires-clause-most
-cut_word-behind-requires-clause-most c =
-    let l : length c.args.self.now ≡ c.self.inside.len = ap length (sym c.self.view_is) ∙ length-bits_of c.self.inside.len c.self.inside.number in
-    omega (arith, l, c.requires.most)
+pub join_word-joined-requires-clause-first : goal.join_word-joined-requires-clause-first
+join_word-joined-requires-clause-first c =
+    let l : c.self.inside.len ≡ c.len-held.result = sym (length-bits_of c.self.inside.len c.self.inside.number) ∙ ap length c.self.view_is ∙ sym c.len-held.ensures.length in
+    rw (← l) c.self.invariant.1
 
 pub returns-clause-count : goal.returns-clause-count
-returns-clause-count c =
-    let l : length c.args.self.now ≡ c.self.inside.len = ap length (sym c.self.view_is) ∙ length-bits_of c.self.inside.len c.self.inside.number in
-    ap (λ x. (x + c.args.n) / 8) (sym l)
+returns-clause-count c = ap (λ x. (x + c.args.n) / 8) c.len-held.ensures.length
 
 pub returns-clause-fills : goal.returns-clause-fills
 returns-clause-fills c =
-    let k = (c.self.inside.len + c.args.n) / 8 in
-    let r = (c.self.inside.len + c.args.n) % 8 in
-    let short : length (bits_of r c.cut_word-behind.result.1) < 8 = rw length-bits_of (mod-lt (c.self.inside.len + c.args.n) (omega arith)) in
-    rw (← c.self.view_is)
+    let k = (c.len-held.result + c.args.n) / 8 in
+    let r = (c.len-held.result + c.args.n) % 8 in
+    let l : c.self.inside.len ≡ c.len-held.result = sym (length-bits_of c.self.inside.len c.self.inside.number) ∙ ap length c.self.view_is ∙ sym c.len-held.ensures.length in
+    let front : bits_of c.len-held.result c.self.inside.number ≡ c.args.self.now = ap (λ i. bits_of i c.self.inside.number) (sym l) ∙ c.self.view_is in
+    let short : length (bits_of r c.cut_word-behind.result.1) < 8 = rw length-bits_of (mod-lt (c.len-held.result + c.args.n) (omega arith)) in
+    rw (← front)
     (fills_bytes c.args.order _ _ _ (take k c.cut_word-behind.result.0) (sym c.join_word-joined.ensures.bits ∙ c.cut_word-behind.ensures.bits)
     (All-take IsByte k c.cut_word-behind.result.0 c.cut_word-behind.ensures.bytes) short)
