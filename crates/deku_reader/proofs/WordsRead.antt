@@ -179,6 +179,14 @@ word_at_hand o w v t x n k number eight wide short more e size consumed g =
       few,
     )
 
+-- of whole bytes that were at hand, where no bit was unread
+pub word_whole_at_hand : (o : Order) (w : List Bool) (t x : Option (List ℕ)) (n k number : ℕ) (eight : List ℕ) → n ≤ 64 → 0 < n → length w ≡ 0 → k ≡ groups n → length eight ≡ 8
+    → Consumes t x (take k eight) → TakesWord o [] (take (groups n) eight) n number [] → MovesWord o w t n number w x
+word_whole_at_hand o w t x n k number eight wide some none e size consumed g =
+    let nothing : w ≡ [] = nil_from_length w none in
+    let few : groups (n - length {A = Bool} []) ≡ groups n = omega arith in
+    subst (λ v. MovesWord o v t n number v x) (sym nothing) ((word_at_hand o [] [] t x n k number eight wide (omega arith) some (e ∙ sym few) size consumed (rw few g)).0)
+
 -- ---- what a read of a word answers
 -- bits were taken
 pub word_ok : (o : Order) (w : List Bool) (t : Option (List ℕ)) (c n k : ℕ) (v : List Bool) (u : Option (List ℕ)) (f g : Health) → length w ≤ 8 → c + n < 2 ^ 64

@@ -10,7 +10,7 @@ use super::bytes::exchange_all;
 use super::fetching::fetch_behind;
 use deku_device::device::Source;
 use deku_stream::ctx::Order;
-use deku_stream::window::Window;
+use deku_stream::window::{Window, word_of_front};
 use std::io::ErrorKind;
 
 /// Takes at most 128 bits in this order, and answers their word, or the kind of the fault. The bytes that they need are fetched at once.
@@ -32,6 +32,12 @@ pub fn word_from<R: Source>(
     ensures inside { count ≤ length window.old → source.new ≡ source.old }
     ensures kept { NoFewerFailures (R.told source.old).health (R.told source.new).health }
 {
+    if 0 < count && count <= 64 && count % 8 == 0 && window.len() == 0 {
+        if let Some(eight) = source.at_hand(count / 8) {
+            return Ok(word_of_front(&eight, count) as u128);
+        }
+        return word_fetched(source, window, count, order);
+    }
     if count <= window.len() {
         return Ok(window.take(count, order) as u128);
     }
