@@ -43,7 +43,7 @@ high_eight : (bytes : List ℕ) → length bytes ≡ 8 → from_be_bytes w64 byt
 high_eight (a ∷ b ∷ c ∷ d ∷ e ∷ f ∷ g ∷ h ∷ []) q = omega arith
 high_eight _ q = absurd (omega arith)
 
-low_eight : (bytes : List ℕ) → length bytes ≡ 8 → from_le_bytes w64 bytes ≡ little bytes
+pub low_eight : (bytes : List ℕ) → length bytes ≡ 8 → from_le_bytes w64 bytes ≡ little bytes
 low_eight (a ∷ b ∷ c ∷ d ∷ e ∷ f ∷ g ∷ h ∷ []) q = omega arith
 low_eight _ q = absurd (omega arith)
 
@@ -122,7 +122,7 @@ low_cut w b s v e small =
 
 -- ---- words of numbers, the first bit the highest
 -- bytes in front of others
-little-append : (bs cs : List ℕ) → little (bs ++ cs) ≡ little bs + 2 ^ (8 * length bs) * little cs
+pub little-append : (bs cs : List ℕ) → little (bs ++ cs) ≡ little bs + 2 ^ (8 * length bs) * little cs
 little-append [] cs = omega arith
 little-append (b ∷ bs) cs =
     let p : 2 ^ (8 * suc (length bs)) ≡ 256 * 2 ^ (8 * length bs) = ap (λ n. 2 ^ n) (omega arith) ∙ pow-add 2 8 (8 * length bs) in
@@ -349,7 +349,7 @@ below_64 n x few h =
     omega (arith, h, top)
 
 -- ---- words of whole bytes
-little-lt : (bytes : List ℕ) → All IsByte bytes → little bytes < 2 ^ (8 * length bytes)
+pub little-lt : (bytes : List ℕ) → All IsByte bytes → little bytes < 2 ^ (8 * length bytes)
 little-lt [] h = omega arith
 little-lt (b ∷ bytes) h =
     let p : 2 ^ (8 * suc (length bytes)) ≡ 256 * 2 ^ (8 * length bytes) = ap (λ n. 2 ^ n) (omega arith) ∙ pow-add 2 8 (8 * length bytes) in

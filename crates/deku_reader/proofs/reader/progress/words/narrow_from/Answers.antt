@@ -1,6 +1,6 @@
 use Rattle.std.proofs.Common.{◌/◌, arith, refl}
 use Rattle.deku_reader.proofs.WordsRead.{gives_none, word_inside, word_at_hand, word_whole_at_hand}
-use Rattle.deku_reader.proofs.reader.progress.words.word_from.Goals as goal
+use Rattle.deku_reader.proofs.reader.progress.words.narrow_from.Goals as goal
 
 pub returns-then-count-len-clause-none : goal.returns-then-count-len-clause-none
 returns-then-count-len-clause-none g c = λ z. (gives_none c.args.order c.args.count c.take.result c.args.window.now c.take.new.self c.take.ensures z, refl)
