@@ -62,12 +62,9 @@ fn narrow_from<R: Source>(
         if let Some(eight) = source.at_hand(count / 8) {
             return Ok(word_of_front(&eight, count) as u128);
         }
-        return word_fetched(source, window, count, order);
-    }
-    if count <= window.len() {
+    } else if count <= window.len() {
         return Ok(window.take(count, order) as u128);
-    }
-    if window.len() < 8 {
+    } else if window.len() < 8 {
         let behind = count - window.len();
         if let Some(eight) = source.at_hand(behind.div_ceil(8)) {
             return Ok(window.take_across(&eight, count, order) as u128);
