@@ -1,8 +1,8 @@
 -- Words that are read: groups of eight as bytes, from a window and the bytes behind it.
 use Rattle.std.proofs.Common.{◌≡◌, ℕ, ◌+◌, ◌*◌, ◌-◌, ◌/◌, ◌%◌, ◌^◌, ◌<◌, ◌≤◌, Bool, false, List, [], ◌∷◌, ◌++◌, length, map, take, drop, set, get_or, replicate, All, Option, Ok, arith, refl, sym, ap, ap₂, ◌∙◌, subst, append-nil, append_assoc, length-append, take-add, mod-eq_of_lt}
-use Rattle.std.proofs.lemmas.Nat.{mul-add-lt, pow-add}
-use Rattle.std.proofs.lemmas.List.{take_at, drop_at, take-take, length-take-le, drop-drop, drop-replicate, drop_all, drop_more, get_or_at, set_at, length-map, length-replicate, nil_from_length}
-use Rattle.std.specs.Int.{w128, from_le_bytes}
+use Rattle.std.proofs.lemmas.Nat.{mul-add-lt, pow-add, shl_whole}
+use Rattle.std.proofs.lemmas.List.{take_all, take_at, drop_at, take-take, length-take-le, drop-drop, drop-replicate, drop_all, drop_more, get_or_at, set_at, length-map, length-replicate, nil_from_length}
+use Rattle.std.specs.Int.{w64, w128, from_le_bytes}
 use Rattle.deku_stream.specs.declared.ctx.Order.{Order}
 use Rattle.deku_stream.specs.declared.ctx.Order.TheVariants.{Msb0, Lsb0}
 use Rattle.deku_stream.specs.Bits.{byte_bits, chunks, facing, group_number, groups, little, word_of}
@@ -11,17 +11,18 @@ use Rattle.deku_device.specs.Devices.{Health, NoFewerFailures, Loses}
 use Rattle.deku_stream.specs.Standings.{Going, stream_of}
 use Rattle.deku_stream.specs.Outcomes.{Outcome, Quiet}
 use Rattle.deku_reader.specs.ReaderCalls.{Takes, ReadsWord}
-use Rattle.deku_stream.specs.Moving.{Moves, GivesGroup, TakesGroups, TakesWord, MovesWord}
+use Rattle.deku_stream.specs.Moving.{Moves, FewerBits, GivesGroup, TakesGroups, TakesWord, MovesWord}
 use Rattle.deku_stream.proofs.Binary.{length-facing, facing-facing, group_number-lt}
 use Rattle.deku_stream.proofs.Packed.{pow_byte}
 use Rattle.deku_stream.proofs.Cuts.{length-flow, flow-append}
-use Rattle.deku_stream.proofs.Groups.{length-chunks}
+use Rattle.deku_stream.proofs.Groups.{by_groups, length-chunks}
 use Rattle.deku_stream.proofs.Packing.{join_law}
 use Rattle.deku_stream.proofs.Handing.{mapped_ok}
 use Rattle.std.specs.Io.KnownBytes.{Consumes}
-use Rattle.deku_reader.proofs.Moving.{fetched as fetched_behind, moves_keep, moves_inside, moved_loses, takes_ok}
+use Rattle.deku_reader.proofs.Moving.{fetched as fetched_behind, fewer_behind, moves_more, moves_keep, moves_inside, moved_loses, takes_ok}
+use Rattle.deku_stream.proofs.Across.{below_64, low_eight, little-lt, little-append}
 use Rattle.deku_stream.proofs.Bytes.{IsByte}
-use Rattle.deku_stream.proofs.Words.{byte_groups, one_group, word_of-short, little-filled, little_sixteen}
+use Rattle.deku_stream.proofs.Words.{byte_groups, one_group, word_of-short, word_of-full, little-filled, little_sixteen}
 
 -- a group's number is below two to the power of its length
 pub gives_below : (o : Order) (n k : ℕ) (w v : List Bool) → GivesGroup o n w k v → k < 2 ^ n
@@ -178,6 +179,60 @@ word_at_hand o w v t x n k number eight wide short more e size consumed g =
       },
       few,
     )
+
+-- of whole bytes that were at hand, where no bit was unread
+pub word_whole_at_hand : (o : Order) (w : List Bool) (t x : Option (List ℕ)) (n k number : ℕ) (eight : List ℕ) → n ≤ 64 → 0 < n → length w ≡ 0 → k ≡ groups n → length eight ≡ 8
+    → Consumes t x (take k eight) → TakesWord o [] (take (groups n) eight) n number [] → MovesWord o w t n number w x
+word_whole_at_hand o w t x n k number eight wide some none e size consumed g =
+    let nothing : w ≡ [] = nil_from_length w none in
+    let few : groups (n - length {A = Bool} []) ≡ groups n = omega arith in
+    subst (λ v. MovesWord o v t n number v x) (sym nothing) ((word_at_hand o [] [] t x n k number eight wide (omega arith) some (e ∙ sym few) size consumed (rw few g)).0)
+
+-- ---- of more than 64 bits
+-- a word is below two to the power of its length
+pub word_of-lt : (o : Order) (s : List Bool) → word_of o s < 2 ^ length s
+word_of-lt o s = by_groups (λ s. word_of o s < 2 ^ length s) (omega arith)
+    (λ s p l. rw (word_of-short o s (omega arith)) (group_number-lt o s))
+    (λ g t l h.
+    let long : length (g ++ t) ≡ 8 + length t = length-append g t ∙ ap (λ n. n + length t) l in
+    let g_small : group_number o g < 2 ^ 8 = subst (λ n. group_number o g < 2 ^ n) l (group_number-lt o g) in
+    rw (word_of-full o g t l, long, pow-add 2 8 (length t)) (omega (arith, g_small, h)))
+    s
+
+-- eight bytes through the window, and the bits behind them
+pub word_behind_eight : (o : Order) (w u v : List Bool) (t y x : Option (List ℕ)) (a n k : ℕ) (eight first : List ℕ) → a ≡ 64 + n → n ≤ 64 → length eight ≡ 8 → length first ≡ 8
+    → Consumes t y (take 8 eight) → facing o w ++ flow o eight ≡ flow o first ++ facing o u → All IsByte first → MovesWord o u y n k v x
+    → (k * 2 ^ 64 % 2 ^ 128 + from_le_bytes w64 first < 2 ^ 128) × MovesWord o w t a (k * 2 ^ 64 % 2 ^ 128 + from_le_bytes w64 first) v x
+word_behind_eight o w u v t y x a n k eight first sum few l m consumed cut all g =
+    let small : k < 2 ^ n = rw (g.worth, ← g.long) (word_of-lt o g.bits) in
+    let below : k < 2 ^ 64 = below_64 n k few small in
+    let shifted : k * 2 ^ 64 % 2 ^ 128 ≡ k * 2 ^ 64 = shl_whole k 64 64 128 below (omega arith) in
+    let low : from_le_bytes w64 first ≡ little first = low_eight first m in
+    let low_small : little first < 2 ^ 64 = subst (λ j. little first < 2 ^ (8 * j)) m (little-lt first all) in
+    let whole : take 8 eight ≡ eight = take_all 8 eight (omega arith) in
+    let start : Moves o w t (flow o first) u y = moves_keep o w t (facing o w ++ flow o eight) (flow o first) u y (fetched_behind o w t eight y (rw whole at consumed)) cut in
+    let size : 8 * length first ≡ 64 = omega arith in
+    let worth : word_of o (flow o first ++ g.bits) ≡ little first + 2 ^ 64 * word_of o g.bits =
+    ap little (byte_groups o first g.bits all) ∙ little-append first (map (group_number o) (chunks g.bits)) ∙ ap (λ j. little first + 2 ^ j * word_of o g.bits) size in (
+      rw (shifted, low) (omega arith),
+      rw (shifted, low) (record {
+        bits = flow o first ++ g.bits;
+        long = length-append (flow o first) g.bits ∙ ap₂ (λ i j. i + j) (length-flow o first ∙ size) (g.long) ∙ sym sum;
+        moved = moves_more o w t (flow o first) u y g.bits v x start (g.moved);
+        worth = ap (λ j. j * 2 ^ 64 + little first) (g.worth) ∙ turn (word_of o g.bits) (2 ^ 64) (little first) ∙ sym worth;
+      }),
+    )
+  where
+    turn : (a p b : ℕ) → a * p + b ≡ b + p * a
+    turn a p b = omega arith
+
+-- or too few of these
+pub fewer_behind_eight : (o : Order) (w u : List Bool) (t y : Option (List ℕ)) (a n : ℕ) (eight first : List ℕ) → a ≡ 64 + n → length eight ≡ 8 → length first ≡ 8
+    → Consumes t y (take 8 eight) → facing o w ++ flow o eight ≡ flow o first ++ facing o u → FewerBits n u y → FewerBits a w t
+fewer_behind_eight o w u t y a n eight first sum l m consumed cut f =
+    let whole : take 8 eight ≡ eight = take_all 8 eight (omega arith) in
+    let start : Moves o w t (flow o first) u y = moves_keep o w t (facing o w ++ flow o eight) (flow o first) u y (fetched_behind o w t eight y (rw whole at consumed)) cut in
+    fewer_behind o w t (flow o first) u y n a start f (omega (arith, length-flow o first))
 
 -- ---- what a read of a word answers
 -- bits were taken

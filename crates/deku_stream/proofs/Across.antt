@@ -1,7 +1,7 @@
 -- Words of the bits of a window and of eight bytes behind it, through numbers of at most 64 bits.
 use Rattle.std.proofs.Common.{ℕ, zero, suc, ◌+◌, ◌*◌, ◌-◌, ◌/◌, ◌%◌, ◌^◌, ◌<◌, ◌≤◌, ◌≡◌, Bool, List, [], ◌∷◌, ◌++◌, reverse, length, map, take, drop, All, refl, ap, ap₂, sym, ◌∙◌, subst, arith, append-nil, append_assoc, take-append-drop, length-take-le, mod-lt, ⊎_elim}
 use Rattle.std.proofs.lemmas.List.{take_at, reverse-append, reverse-reverse, length-reverse}
-use Rattle.std.proofs.lemmas.List.Elements.{All-head, All-tail, All-cons, All-nil}
+use Rattle.std.proofs.lemmas.List.Elements.{All-head, All-tail, All-cons, All-nil, All-take}
 use Rattle.std.proofs.lemmas.Nat.{shr-shr, shr_below, shr_split, shl_below, shl-shr, shl_whole, mod-mul-add, one_shl, pow_pos, pow-add, from_le_bytes-to_le_bytes_8, le_bytes_8}
 use native.Mathlib.Nat.{pow-succ'}
 use Rattle.std.proofs.lemmas.Bool.{cases_lt}
@@ -19,6 +19,7 @@ use Rattle.deku_stream.proofs.Cuts.{length-flow, flow-append, byte-of}
 use Rattle.deku_stream.proofs.Groups.{by_groups}
 use Rattle.deku_stream.proofs.Packed.{bits_of-split, bits_of-low, bits_of-join, bin-whole, joined_below}
 use Rattle.deku_stream.proofs.Packing.{join_law}
+use Rattle.deku_stream.proofs.Reading.{facing_nil}
 use Rattle.deku_stream.proofs.Words.{byte_groups, word_of-full, word_of-short}
 
 -- ---- the numbers of eight bytes
@@ -42,7 +43,7 @@ high_eight : (bytes : List ℕ) → length bytes ≡ 8 → from_be_bytes w64 byt
 high_eight (a ∷ b ∷ c ∷ d ∷ e ∷ f ∷ g ∷ h ∷ []) q = omega arith
 high_eight _ q = absurd (omega arith)
 
-low_eight : (bytes : List ℕ) → length bytes ≡ 8 → from_le_bytes w64 bytes ≡ little bytes
+pub low_eight : (bytes : List ℕ) → length bytes ≡ 8 → from_le_bytes w64 bytes ≡ little bytes
 low_eight (a ∷ b ∷ c ∷ d ∷ e ∷ f ∷ g ∷ h ∷ []) q = omega arith
 low_eight _ q = absurd (omega arith)
 
@@ -121,7 +122,7 @@ low_cut w b s v e small =
 
 -- ---- words of numbers, the first bit the highest
 -- bytes in front of others
-little-append : (bs cs : List ℕ) → little (bs ++ cs) ≡ little bs + 2 ^ (8 * length bs) * little cs
+pub little-append : (bs cs : List ℕ) → little (bs ++ cs) ≡ little bs + 2 ^ (8 * length bs) * little cs
 little-append [] cs = omega arith
 little-append (b ∷ bs) cs =
     let p : 2 ^ (8 * suc (length bs)) ≡ 256 * 2 ^ (8 * length bs) = ap (λ n. 2 ^ n) (omega arith) ∙ pow-add 2 8 (8 * length bs) in
@@ -346,6 +347,43 @@ pub below_64 : (n x : ℕ) → n ≤ 64 → x < 2 ^ n → x < 2 ^ 64
 below_64 n x few h =
     let top : 2 ^ n ≤ 2 ^ 64 = pow-le-pow_right {n = 2} (omega arith) {i = n} {j = 64} few in
     omega (arith, h, top)
+
+-- ---- words of whole bytes
+pub little-lt : (bytes : List ℕ) → All IsByte bytes → little bytes < 2 ^ (8 * length bytes)
+little-lt [] h = omega arith
+little-lt (b ∷ bytes) h =
+    let p : 2 ^ (8 * suc (length bytes)) ≡ 256 * 2 ^ (8 * length bytes) = ap (λ n. 2 ^ n) (omega arith) ∙ pow-add 2 8 (8 * length bytes) in
+    rw p (omega (arith, All-head IsByte b bytes h, little-lt bytes (All-tail IsByte b bytes h)))
+
+-- the first bytes of a number, the lowest first
+little_front : (k : ℕ) (bytes : List ℕ) → k ≤ length bytes → All IsByte bytes → little bytes % 2 ^ (8 * k) ≡ little (take k bytes)
+little_front k bytes few h =
+    let front : List ℕ = take k bytes in
+    let long : length front ≡ k = length-take-le k bytes few in
+    let small : little front < 2 ^ (8 * k) = subst (λ n. little front < 2 ^ (8 * n)) long (little-lt front (All-take IsByte k bytes h)) in
+    let parts : little bytes ≡ little (drop k bytes) * 2 ^ (8 * k) + little front =
+    ap little (sym (take-append-drop k bytes)) ∙ little-append front (drop k bytes) ∙ ap (λ n. little front + 2 ^ (8 * n) * little (drop k bytes)) long
+    ∙ turn (little front) (2 ^ (8 * k)) (little (drop k bytes)) in
+    ap (λ n. n % 2 ^ (8 * k)) parts ∙ mod-mul-add (little (drop k bytes)) (2 ^ (8 * k)) (little front) small
+  where
+    turn : (x p y : ℕ) → x + p * y ≡ y * p + x
+    turn x p y = omega arith
+
+-- the first bytes as bits are such a word, as the code has it
+pub word_whole : (o : Order) (bytes : List ℕ) (n : ℕ) → length bytes ≡ 8 → All IsByte bytes → n % 8 ≡ 0 → n ≤ 64
+    → TakesWord o [] (take (groups n) bytes) n (from_le_bytes w64 bytes * 2 ^ (64 - n) % 2 ^ 64 / 2 ^ (64 - n)) []
+word_whole o bytes n l h whole few =
+    let k : ℕ = groups n in
+    let front : List ℕ = take k bytes in
+    let inside : k ≤ length bytes = omega arith in
+    let all : 8 * k ≡ n = omega arith in
+    let worth : word_of o (flow o front) ≡ little front =
+    ap (λ s. word_of o s) (sym (append-nil (flow o front))) ∙ ap little (byte_groups o front [] (All-take IsByte k bytes h) ∙ append-nil front) in record {
+      bits = flow o front;
+      long = length-flow o front ∙ ap (λ j. 8 * j) (length-take-le k bytes inside) ∙ all;
+      cut = ap (λ s. s ++ flow o front) (facing_nil o) ∙ sym (append-nil (flow o front)) ∙ ap (λ s. flow o front ++ s) (sym (facing_nil o));
+      worth = low_masked (from_le_bytes w64 bytes) n few ∙ ap₂ (λ x j. x % 2 ^ j) (low_eight bytes l) (sym all) ∙ little_front k bytes inside h ∙ sym worth;
+    }
 
 -- ---- eight bytes through a window
 -- the number of a window's bits and of all of 64 but the low ones, which are left

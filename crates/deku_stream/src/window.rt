@@ -2,6 +2,7 @@
 
 ghost use Rattle.std.specs.Prelude.{◌≡◌, ◌+◌, ◌*◌, ◌/◌, ◌%◌, ◌^◌, ◌<◌, ◌≤◌, ◌-◌, [], ◌∷◌, ◌++◌, length, take, drop, All};
 ghost use Rattle.std.specs.Int.{w64, to_le_bytes};
+ghost use Rattle.deku_stream.specs.declared.ctx.Order.{Order as BitOrder};
 ghost use Rattle.deku_stream.specs.Bits.{bits_of, byte_bits, facing, groups, word_of};
 ghost use Rattle.deku_stream.specs.Moving.{GivesGroup, TakesWord};
 ghost use Rattle.deku_stream.specs.Streams.{flow};
@@ -276,6 +277,18 @@ fn joined(high: u8, low: u8, count: usize) -> u16
 {
     let above = (high as u16) << count;
     above + low as u16
+}
+
+/// The word of whole bytes, the first of these eight, in each order: where no bit is unread, they are the next bits.
+#[inline(always)]
+pub fn word_of_front(eight: &[u8; 8], count: usize) -> u64
+    requires whole { count % 8 ≡ 0 }
+    requires some { 0 < count }
+    requires few { count ≤ 64 }
+    ensures { (order : BitOrder) → TakesWord order [] (take (groups count) eight.now) count result [] }
+{
+    let above = 64 - count;
+    (u64::from_le_bytes(*eight) << above) >> above
 }
 
 // The word of so many bits, the first the highest, from their number: whole bytes are turned, and the bits behind them follow.

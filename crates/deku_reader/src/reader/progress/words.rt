@@ -10,10 +10,11 @@ use super::bytes::exchange_all;
 use super::fetching::fetch_behind;
 use deku_device::device::Source;
 use deku_stream::ctx::Order;
-use deku_stream::window::Window;
+use deku_stream::window::{Window, word_of_front};
 use std::io::ErrorKind;
 
-/// Takes at most 128 bits in this order, and answers their word, or the kind of the fault. The bytes that they need are fetched at once.
+/// Takes at most 128 bits in this order, and answers their word, or the kind of the fault. The bytes that they need are taken where they are at hand,
+/// and fetched at once else.
 #[inline(always)]
 pub fn word_from<R: Source>(
     source: &mut R,
@@ -32,16 +33,74 @@ pub fn word_from<R: Source>(
     ensures inside { count ≤ length window.old → source.new ≡ source.old }
     ensures kept { NoFewerFailures (R.told source.old).health (R.told source.new).health }
 {
-    if count <= window.len() {
-        return Ok(window.take(count, order) as u128);
+    if count <= 64 {
+        return narrow_from(source, window, count, order);
     }
-    if count <= 64 && window.len() < 8 {
+    wide_from(source, window, count, order)
+}
+
+// Takes at most 64 bits as `word_from` does.
+#[inline(always)]
+fn narrow_from<R: Source>(
+    source: &mut R,
+    window: &mut Window,
+    count: usize,
+    order: Order,
+) -> Result<u128, ErrorKind>
+    requires bound { length window.old ≤ 8 }
+    requires few { count ≤ 64 }
+    ensures short { OnOk result (0 < count → length window.new < 8) }
+    ensures none { OnOk result (count ≡ 0 → (window.new ≡ window.old) × ((R.told source.new).coming ≡ (R.told source.old).coming)) }
+    ensures moved { IfOk result (λ word. MovesWord order window.old (R.told source.old).coming count word window.new (R.told source.new).coming) }
+    ensures wanted { IfErr result (λ e. 0 < count) }
+    ensures ended { IfErr result (λ e. e ≡ ErrorKind.UnexpectedEof → FewerBits count window.old (R.told source.old).coming) }
+    ensures failed { IfErr result (λ e. e ≢ ErrorKind.UnexpectedEof → MoreFailures (R.told source.old).health (R.told source.new).health) }
+    ensures inside { count ≤ length window.old → source.new ≡ source.old }
+    ensures kept { NoFewerFailures (R.told source.old).health (R.told source.new).health }
+{
+    if 0 < count && count % 8 == 0 && window.len() == 0 {
+        if let Some(eight) = source.at_hand(count / 8) {
+            return Ok(word_of_front(&eight, count) as u128);
+        }
+    } else if count <= window.len() {
+        return Ok(window.take(count, order) as u128);
+    } else if window.len() < 8 {
         let behind = count - window.len();
         if let Some(eight) = source.at_hand(behind.div_ceil(8)) {
             return Ok(window.take_across(&eight, count, order) as u128);
         }
     }
     word_fetched(source, window, count, order)
+}
+
+// Takes more than 64 bits: where eight bytes are at hand, 64 bits through the window and then the others.
+#[inline(always)]
+fn wide_from<R: Source>(
+    source: &mut R,
+    window: &mut Window,
+    count: usize,
+    order: Order,
+) -> Result<u128, ErrorKind>
+    requires bound { length window.old ≤ 8 }
+    requires wide { 64 < count }
+    requires few { count ≤ 128 }
+    ensures short { OnOk result (length window.new < 8) }
+    ensures moved { IfOk result (λ word. MovesWord order window.old (R.told source.old).coming count word window.new (R.told source.new).coming) }
+    ensures ended { IfErr result (λ e. e ≡ ErrorKind.UnexpectedEof → FewerBits count window.old (R.told source.old).coming) }
+    ensures failed { IfErr result (λ e. e ≢ ErrorKind.UnexpectedEof → MoreFailures (R.told source.old).health (R.told source.new).health) }
+    ensures kept { NoFewerFailures (R.told source.old).health (R.told source.new).health }
+{
+    if window.len() == 8 {
+        return word_fetched(source, window, count, order);
+    }
+    let Some(eight) = source.at_hand(8) else {
+        return word_fetched(source, window, count, order);
+    };
+    let first = u64::from_le_bytes(window.exchange_eight(&eight, order));
+    match narrow_from(source, window, count - 64, order) {
+        Ok(behind) => Ok((behind << 64) + first as u128),
+        Err(kind) => Err(kind),
+    }
 }
 
 // Takes bits, more than the window has, by one transfer of the bytes that they need.
