@@ -5,7 +5,7 @@ use mir.Val.{SFits}
 use Rattle.deku_fields.specs.declared.list.Number.TheVariants.{Signed, Unsigned}
 use Rattle.deku_fields.specs.ListCalls.{IsOfKind}
 use Rattle.deku_fields.proofs.Stepping.{item_passed}
-use Rattle.deku_fields.proofs.write.write_item.Goals as goal
+use Rattle.deku_fields.proofs.write.write_checked.Goals as goal
 
 pub returns-in-Signed-clause-writes : goal.returns-in-Signed-clause-writes
 returns-in-Signed-clause-writes g c =
