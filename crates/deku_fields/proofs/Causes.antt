@@ -1,22 +1,20 @@
 -- Where faults of the kind `Io` come from in lists of fields.
-use Rattle.std.proofs.Common.{◌≡◌, ◌⊎◌, ℕ, Bool, false, List, [], ◌∷◌, Option, Result, Ok, Err, IfErr, refl, sym, inl, inr, ⊎_elim}
-use Rattle.std.specs.Global.{Vec}
+use Rattle.std.proofs.Common.{◌≡◌, ℕ, Bool, List, [], ◌∷◌, Option, Result, Err, sym, inl, inr, ⊎_elim}
 use Rattle.std.specs.declared.io.ErrorKind.{ErrorKind}
 use Rattle.std.specs.declared.io.ErrorKind.TheVariants.{OutOfMemory}
 use Rattle.deku_bits.specs.declared.error.DekuError.{DekuError}
 use Rattle.deku_bits.specs.declared.error.DekuError.TheVariants.{Io, InvalidParam}
-use Rattle.deku_bits.specs.Streams.{Stream, fresh}
+use Rattle.deku_bits.specs.Streams.{Stream}
 use Rattle.deku_bits.specs.Devices.{Health, SinkTold}
 use Rattle.deku_bits.specs.Writers.{Pending}
 use Rattle.deku_bits.specs.Standings.{Standing, Going, Stopped, Output, reader_state, writer_state}
-use Rattle.deku_bits.specs.Outcomes.{Meaning, Outcome, Quiet, Broken, Mapped}
+use Rattle.deku_bits.specs.Outcomes.{Meaning, Outcome}
 use Rattle.deku_bits.specs.WriterCalls.{Finalizes}
 use Rattle.deku_bits.specs.Causes.{KeepsIo, NoKind, WantsMemory, WantsPlace, OwnFaults, Caused}
 use Rattle.deku_bits.proofs.Causes.{mapped, wider, caused, cause_law}
 use Rattle.deku_num.specs.NumberCalls.{ReadsNumber}
-use Rattle.deku.specs.Composing.{Answer, Then, Both}
+use Rattle.deku.specs.Composing.{Both}
 use Rattle.deku.proofs.Causes.{answer, then, checked, texted, no_param, reads_number, writes_number}
-use Rattle.deku_fields.specs.declared.list.Number.{Number}
 use Rattle.deku_fields.specs.declared.list.Field.{Field}
 use Rattle.deku_fields.specs.declared.list.Item.{Item}
 use Rattle.deku_fields.specs.ListCalls.{ReadsField, ReadsFields, ReadsVec, WritesItem, WritesItems, WritesWhole, ListFrom}

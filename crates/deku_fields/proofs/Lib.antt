@@ -11,6 +11,7 @@ pub mod Fetching
 pub mod Resting
 pub mod Finding
 pub mod Padded
+pub mod Plain
 pub mod Digits
 pub mod FirstComma
 pub mod Named

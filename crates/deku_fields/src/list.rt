@@ -26,26 +26,33 @@ pub enum Kind {
 
 impl Kind {
     /// The type that it names.
+    #[inline(always)]
     pub fn number_type(self) -> NumberType
         ensures { result ≡ number_type self }
     {
+        NumberType {
+            bits: self.bits(),
+            signed: self.is_signed(),
+            one_byte: matches!(self, Kind::U8),
+        }
+    }
+
+    // The bits of its type.
+    #[inline(always)]
+    fn bits(self) -> usize
+        ensures { result ≡ (number_type self).bits }
+    {
         match self {
-            Kind::U8 => NumberType::U8,
-            Kind::U16 => NumberType::U16,
-            Kind::U32 => NumberType::U32,
-            Kind::U64 => NumberType::U64,
-            Kind::U128 => NumberType::U128,
-            Kind::Usize => NumberType::USIZE,
-            Kind::I8 => NumberType::I8,
-            Kind::I16 => NumberType::I16,
-            Kind::I32 => NumberType::I32,
-            Kind::I64 => NumberType::I64,
-            Kind::I128 => NumberType::I128,
-            Kind::Isize => NumberType::ISIZE,
+            Kind::U8 | Kind::I8 => 8,
+            Kind::U16 | Kind::I16 => 16,
+            Kind::U32 | Kind::I32 => 32,
+            Kind::U64 | Kind::Usize | Kind::I64 | Kind::Isize => 64,
+            Kind::U128 | Kind::I128 => 128,
         }
     }
 
     /// Whether a number is one of its own: with a sign or without, as it has one or not, and in its range.
+    #[inline(always)]
     pub fn holds(self, number: Number) -> bool
         ensures { IsTrue result ↔ IsOfKind self number }
     {
@@ -57,22 +64,32 @@ impl Kind {
     }
 
     /// Whether its numbers have a sign.
+    #[inline(always)]
     pub fn is_signed(self) -> bool
         ensures { result ≡ (number_type self).signed }
     {
-        self.number_type().signed
+        match self {
+            Kind::U8 | Kind::U16 | Kind::U32 | Kind::U64 | Kind::U128 | Kind::Usize => false,
+            Kind::I8 | Kind::I16 | Kind::I32 | Kind::I64 | Kind::I128 | Kind::Isize => true,
+        }
     }
 }
 
 // Whether a number has at most so many bits.
+#[inline(always)]
 fn is_below(value: u128, bits: usize) -> bool
     requires { bits ≤ 128 }
     ensures { IsTrue result ↔ (value < 2 ^ bits) }
 {
+    if bits < 64 {
+        let end: u64 = 1 << bits;
+        return value < end as u128;
+    }
     bits == 128 || value < 1 << bits
 }
 
 // Whether a number is in the range of two's complement of so many bits.
+#[inline(always)]
 fn is_within(value: i128, bits: usize) -> bool
     requires some { 0 < bits }
     requires within { bits ≤ 128 }

@@ -54,6 +54,7 @@ pub fn read_list_into<R: Source>(
 }
 
 // Reads the value of a field.
+#[inline(always)]
 fn read_field<R: Source>(reader: &mut Reader<R>, field: &Field) -> Result<Number, DekuError>
     ensures reads { Reads R.told (ReadsField field.now) reader.old result reader.new }
     ensures fetched { OnOk result (FetchesFor (field_width field.now) reader.old.state (R.told reader.old.source) (R.told reader.new.source)) }

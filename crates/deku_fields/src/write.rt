@@ -1,6 +1,6 @@
 //! Writing lists of items.
 
-ghost use Rattle.std.specs.Prelude.{◌≡◌, [], take, IfErr};
+ghost use Rattle.std.specs.Prelude.{◌≡◌, ◌≤◌, [], false, take, IfErr, IfSome};
 ghost use Rattle.std.specs.declared.io.ErrorKind.{ErrorKind as IoKind};
 ghost use Rattle.deku_bits.specs.declared.error.DekuError.TheVariants.{Io};
 ghost use Rattle.std.specs.Io.Cursor.{cursor_position, cursor_inner};
@@ -8,14 +8,19 @@ ghost use Rattle.deku_bits.specs.Causes.{WantsPlace, Caused};
 ghost use Rattle.deku_bits.specs.Standings.{Untouched};
 ghost use Rattle.deku_bits.specs.WriterCalls.{Writes, Finalizes};
 ghost use Rattle.deku.specs.Composing.{Both};
-ghost use Rattle.deku_fields.specs.ListCalls.{WritesItem, WritesItems, WritesWhole};
+ghost use Rattle.deku_num.specs.Numbers.{sized_width, cuts, IsWordFor};
+ghost use Rattle.deku_fields.specs.Items.{number_type, field_width, IsAllowedField};
+ghost use Rattle.deku_fields.specs.ListCalls.{IsOfKind, WritesItem, WritesItems, WritesWhole, integer_of};
 ghost use Rattle.deku_fields.specs.Promise.{LaidOut, WritesBack, WritesLaid, WritesWhereSound};
 
 use crate::list::{Item, Number};
 use deku::calls::{write_signed, write_unsigned};
+use deku::ctx::Size;
 use deku::device::Sink;
 use deku::error::DekuError;
+use deku::kind::NumberType;
 use deku::writer::Writer;
+use deku_num::kernel::unsigned_word;
 use std::alloc::Global;
 use std::io::Cursor;
 
@@ -40,8 +45,55 @@ pub fn write_list<W: Sink>(writer: &mut Writer<W>, items: &[Item]) -> Result<(),
     Ok(())
 }
 
-// Writes the value of an item.
+// Writes the value of an item: where nothing refuses it for what it is, at once.
+#[inline(always)]
 fn write_item<W: Sink>(writer: &mut Writer<W>, item: &Item) -> Result<(), DekuError>
+    ensures writes { Writes W.told (WritesItem item.now) writer.old result writer.new }
+    ensures stopped { Untouched writer.old.state writer.old.sink writer.new.sink }
+{
+    match plain_word(item) {
+        Some((word, width)) => writer.write_word(word, width, item.field.layout.order),
+        None => write_checked(writer, item),
+    }
+}
+
+// The word of an item and how many bits it has, where its kind has no sign, its size cuts no value, and nothing refuses it.
+#[inline(always)]
+fn plain_word(item: &Item) -> Option<(u128, usize)>
+    ensures kind { IfSome result (λ r. IsOfKind item.now.field.kind item.now.value) }
+    ensures allowed { IfSome result (λ r. IsAllowedField item.now.field) }
+    ensures wide { IfSome result (λ r. r.1 ≡ field_width item.now.field) }
+    ensures word { IfSome result (λ r. IsWordFor (number_type item.now.field.kind) item.now.field.layout (integer_of item.now.value) r.0) }
+{
+    let number_type = item.field.kind.number_type();
+    let Number::Unsigned(value) = item.value else {
+        return None;
+    };
+    if number_type.signed {
+        return None;
+    }
+    let width = plain_width(number_type, item.field.layout.size)?;
+    let word = unsigned_word(value, number_type, item.field.layout, width)?;
+    Some((word, width))
+}
+
+// The bits of a field whose size cuts no value, where the type has as many.
+#[inline(always)]
+fn plain_width(number_type: NumberType, size: Size) -> Option<usize>
+    ensures wide { IfSome result (λ n. n ≡ sized_width number_type size) }
+    ensures within { IfSome result (λ n. n ≤ number_type.bits) }
+    ensures whole { IfSome result (λ n. cuts size ≡ false) }
+{
+    match size {
+        Size::Whole => Some(number_type.bits),
+        Size::Bits(bits) if bits <= number_type.bits => Some(bits),
+        _ => None,
+    }
+}
+
+// Writes the value of an item, and looks at all that may refuse it.
+#[inline(never)]
+fn write_checked<W: Sink>(writer: &mut Writer<W>, item: &Item) -> Result<(), DekuError>
     ensures writes { Writes W.told (WritesItem item.now) writer.old result writer.new }
     ensures stopped { Untouched writer.old.state writer.old.sink writer.new.sink }
 {

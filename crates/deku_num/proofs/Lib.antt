@@ -4,6 +4,7 @@ pub mod Ranges
 pub mod Places
 pub mod Listing
 pub mod Turned
+pub mod Narrow
 pub mod Fitted
 pub mod Carrying
 pub mod WorkedRows

@@ -211,25 +211,25 @@ turned_none n x k h e z =
     sym (ap₂ (λ u v. u / 2 ^ v) (sym e) p ∙ q)
 
 -- a word of so many bytes
-pub turned_fits : (x k : ℕ) → x < 2 ^ 128 → k ≤ 16 → x / 2 ^ (128 - 8 * k) < 2 ^ (8 * k)
-turned_fits x k h l =
-    let all : 8 * k + (128 - 8 * k) ≡ 128 = omega arith in
-    shr_below x (8 * k) (128 - 8 * k) (subst (λ z. x < 2 ^ z) (sym all) h)
+pub turned_fits : (w x k : ℕ) → x < 2 ^ w → 8 * k ≤ w → x / 2 ^ (w - 8 * k) < 2 ^ (8 * k)
+turned_fits w x k h l =
+    let all : 8 * k + (w - 8 * k) ≡ w = omega arith in
+    shr_below x (8 * k) (w - 8 * k) (subst (λ z. x < 2 ^ z) (sym all) h)
 
 -- whole bytes and the bits behind them
-pub both_fit : (a q r n k : ℕ) → a < 2 ^ (8 * q) → n ≡ 8 * q + r → n ≤ 128 → k < 2 ^ n → (a * 2 ^ r % 2 ^ 128 ≡ a * 2 ^ r) × (a * 2 ^ r + k / 2 ^ (8 * q) < 2 ^ 128)
-both_fit a q r n k h e l f =
+pub both_fit : (w a q r n k : ℕ) → a < 2 ^ (8 * q) → n ≡ 8 * q + r → n ≤ w → k < 2 ^ n → (a * 2 ^ r % 2 ^ w ≡ a * 2 ^ r) × (a * 2 ^ r + k / 2 ^ (8 * q) < 2 ^ w)
+both_fit w a q r n k h e l f =
     let turned : n ≡ r + 8 * q = omega arith in
     let low : k / 2 ^ (8 * q) < 2 ^ r = shr_below k r (8 * q) (subst (λ z. k < 2 ^ z) turned f) in
     let sum : a * 2 ^ r + k / 2 ^ (8 * q) < 2 ^ (8 * q) * 2 ^ r = omega (arith, mul-add-lt a (2 ^ r) (k / 2 ^ (8 * q)) (2 ^ (8 * q)) h low) in
     let whole : 2 ^ (8 * q) * 2 ^ r ≡ 2 ^ n = sym (pow-add 2 (8 * q) r) ∙ ap (λ z. 2 ^ z) (sym e) in
-    let top : 2 ^ n ≤ 2 ^ 128 = pow-le-pow_right {n = 2} (omega arith) {i = n} {j = 128} l in
-    (shl_whole a (8 * q) r 128 h (omega arith), omega arith)
+    let top : 2 ^ n ≤ 2 ^ w = pow-le-pow_right {n = 2} (omega arith) {i = n} {j = w} l in
+    (shl_whole a (8 * q) r w h (omega arith), omega arith)
 
 -- whole bytes and the bits behind them, the other way
-pub back_fits : (a q r n k : ℕ) → a < 2 ^ (8 * q) → n ≡ 8 * q + r → n ≤ 128 → k < 2 ^ r → (k * 2 ^ (8 * q) % 2 ^ 128 ≡ k * 2 ^ (8 * q)) × (a + k * 2 ^ (8 * q) < 2 ^ 128)
-back_fits a q r n k h e l f =
+pub back_fits : (w a q r n k : ℕ) → a < 2 ^ (8 * q) → n ≡ 8 * q + r → n ≤ w → k < 2 ^ r → (k * 2 ^ (8 * q) % 2 ^ w ≡ k * 2 ^ (8 * q)) × (a + k * 2 ^ (8 * q) < 2 ^ w)
+back_fits w a q r n k h e l f =
     let sum : k * 2 ^ (8 * q) + a < 2 ^ r * 2 ^ (8 * q) = omega (arith, mul-add-lt k (2 ^ (8 * q)) a (2 ^ r) f h) in
     let whole : 2 ^ r * 2 ^ (8 * q) ≡ 2 ^ n = sym (pow-add 2 r (8 * q)) ∙ ap (λ z. 2 ^ z) (omega arith) in
-    let top : 2 ^ n ≤ 2 ^ 128 = pow-le-pow_right {n = 2} (omega arith) {i = n} {j = 128} l in
-    (shl_whole k r (8 * q) 128 f (omega arith), omega arith)
+    let top : 2 ^ n ≤ 2 ^ w = pow-le-pow_right {n = 2} (omega arith) {i = n} {j = w} l in
+    (shl_whole k r (8 * q) w f (omega arith), omega arith)

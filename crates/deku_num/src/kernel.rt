@@ -6,7 +6,10 @@ ghost use Rattle.deku_bits.specs.Bits.{word_of};
 ghost use Rattle.deku_num.specs.NumberLaws.{Within};
 ghost use Rattle.deku_num.specs.Numbers.{IsWordFor, with_sign as signed_worth, width as width_of, sized_width, IsEvenWhere, IsAllowed, number as number_of, residue, cuts, IsListFor};
 
+mod narrow;
+
 use crate::ctx::{Endian, Layout, Order, Size};
+use crate::kernel::narrow::{narrow_number, narrow_word};
 use crate::kind::NumberType;
 
 /// Why a layout is refused for a type of numbers.
@@ -76,6 +79,9 @@ pub fn number_of_word(word: u128, width: usize, endian: Endian, order: Order) ->
     requires fits { word < 2 ^ width }
     ensures { (bits : List Bool) → length bits ≡ width → word ≡ word_of order bits → result ≡ number_of endian order bits }
 {
+    if width <= 64 {
+        return narrow_number(word as u64, width, endian, order) as u128;
+    }
     match (endian, order) {
         (Endian::Little, _) => word,
         (Endian::Big, Order::Msb0) => number_of_high(word, width),
@@ -106,6 +112,10 @@ pub fn word_of_number(number: u128, width: usize, endian: Endian, order: Order) 
     requires wide { width ≤ 128 }
     ensures { (bits : List Bool) → length bits ≡ width → number ≡ number_of endian order bits → result ≡ word_of order bits }
 {
+    if width <= 64 {
+        let number = (number % (1 << 64)) as u64;
+        return narrow_word(number, width, endian, order) as u128;
+    }
     match (endian, order) {
         (Endian::Little, _) => number,
         (Endian::Big, Order::Msb0) => word_of_high(number, width),
@@ -151,6 +161,9 @@ pub fn signed_of(number: u128, n: usize) -> i128
 {
     if n == 0 {
         return 0;
+    }
+    if n <= 64 {
+        return with_sign(number, narrow_power(n - 1));
     }
     with_sign(number, 1 << (n - 1))
 }
@@ -249,6 +262,9 @@ fn is_below(value: u128, n: usize) -> bool
     requires { n ≤ 128 }
     ensures { IsTrue result ↔ (value < 2 ^ n) }
 {
+    if n < 64 {
+        return value < narrow_power(n);
+    }
     n == 128 || value < 1 << n
 }
 
@@ -280,5 +296,19 @@ fn low_bits(sum: u128, n: usize) -> u128
     requires { n ≤ 128 }
     ensures { result ≡ sum % 2 ^ n }
 {
+    if n < 64 {
+        let low = (sum % (1 << 64)) as u64;
+        return (low % (1 << n)) as u128;
+    }
     if n == 128 { sum } else { sum % (1 << n) }
+}
+
+// Two to the power of n, where it is a number of 64 bits.
+#[inline(always)]
+fn narrow_power(n: usize) -> u128
+    requires { n < 64 }
+    ensures { result ≡ 2 ^ n }
+{
+    let power: u64 = 1 << n;
+    power as u128
 }

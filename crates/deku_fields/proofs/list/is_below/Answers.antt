@@ -6,3 +6,6 @@ overflow_shl-result c = search rules
 
 pub returns-then-bits-eq128 : goal.returns-then-bits-eq128
 returns-then-bits-eq128 c = search rules
+
+pub returns-then-bits-lt64 : goal.returns-then-bits-lt64
+returns-then-bits-lt64 c = search rules

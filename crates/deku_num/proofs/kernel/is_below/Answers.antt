@@ -7,3 +7,6 @@ returns-then-n-eq128 c = search rules
 
 pub returns-else-n-eq128 : goal.returns-else-n-eq128
 returns-else-n-eq128 c = grind (arith, common_steps)
+
+pub returns-then-n-lt64 : goal.returns-then-n-lt64
+returns-then-n-lt64 c = search rules

@@ -8,12 +8,12 @@ returns-then-behind-eq0 c = λ s l e. c.turned.ensures.value ∙ high_turned s c
 
 pub overflow_add-result : goal.overflow_add-result
 overflow_add-result c =
-    let h = both_fit c.turned-2.result (c.args.width / 8) (c.args.width % 8) c.args.width c.args.word c.turned-2.ensures.bound (omega arith) c.requires.wide c.requires.fits in
+    let h = both_fit 128 c.turned-2.result (c.args.width / 8) (c.args.width % 8) c.args.width c.args.word c.turned-2.ensures.bound (omega arith) c.requires.wide c.requires.fits in
     rw h.0 (record { fits = h.1 })
 
 pub returns : goal.returns
 returns c = λ s l e.
     let q = c.args.width / 8 in
-    let h = both_fit c.turned-2.result q (c.args.width % 8) c.args.width c.args.word c.turned-2.ensures.bound (omega arith) c.requires.wide c.requires.fits in
+    let h = both_fit 128 c.turned-2.result q (c.args.width % 8) c.args.width c.args.word c.turned-2.ensures.bound (omega arith) c.requires.wide c.requires.fits in
     ap (λ x. x + c.args.word / 2 ^ (8 * q)) (h.0 ∙ ap (λ x. x * 2 ^ (c.args.width % 8)) c.turned-2.ensures.value)
     ∙ both_turned s c.args.word q (c.args.width % 8) _ _ (omega arith) (omega arith) (omega arith) (omega arith) e (ap (λ x. c.args.word % x) (one_shl (8 * q) 128 (omega arith))) refl

@@ -7,7 +7,15 @@ use Rattle.deku_num.proofs.kernel.signed_of.Goals as goal
 pub with_sign-requires-clause-below : goal.with_sign-requires-clause-below
 with_sign-requires-clause-below c =
     let some : 0 < c.args.n = omega arith in
-    rw (one_shl (c.args.n - 1) 128 (omega arith), half_twice c.args.n some) c.requires.below
+    rw (c.narrow_power.ensures, half_twice c.args.n some) c.requires.below
 
 pub with_sign-requires-clause-fits : goal.with_sign-requires-clause-fits
-with_sign-requires-clause-fits c = rw (one_shl (c.args.n - 1) 128 (omega arith)) (pow_mono {i = c.args.n - 1} {j = 127} (omega arith))
+with_sign-requires-clause-fits c = rw c.narrow_power.ensures (pow_mono {i = c.args.n - 1} {j = 127} (omega arith))
+
+pub with_sign-requires-2-clause-below : goal.with_sign-requires-2-clause-below
+with_sign-requires-2-clause-below c =
+    let some : 0 < c.args.n = omega arith in
+    rw (one_shl (c.args.n - 1) 128 (omega arith), half_twice c.args.n some) c.requires.below
+
+pub with_sign-requires-2-clause-fits : goal.with_sign-requires-2-clause-fits
+with_sign-requires-2-clause-fits c = rw (one_shl (c.args.n - 1) 128 (omega arith)) (pow_mono {i = c.args.n - 1} {j = 127} (omega arith))

@@ -9,4 +9,4 @@ pub returns-clause-value : goal.returns-clause-value
 returns-clause-value c = ap (λ x. x / 2 ^ (128 - 8 * c.args.count)) c.swap_bytes-swapped.ensures
 
 pub returns-clause-bound : goal.returns-clause-bound
-returns-clause-bound c = turned_fits c.swap_bytes-swapped.result c.args.count (search rules) c.requires
+returns-clause-bound c = turned_fits 128 c.swap_bytes-swapped.result c.args.count (search rules) (omega (arith, c.requires))

@@ -11,7 +11,7 @@ overflow_add-result c =
     let q = c.args.width / 8 in
     let r = c.args.width % 8 in
     let low = mod_below c.args.number (2 ^ r) (pow_pos r) in
-    let h = back_fits c.turned-2.result q r c.args.width (c.args.number % 2 ^ r) c.turned-2.ensures.bound (omega arith) c.requires low in
+    let h = back_fits 128 c.turned-2.result q r c.args.width (c.args.number % 2 ^ r) c.turned-2.ensures.bound (omega arith) c.requires low in
     rw (one_shl r 128 (omega arith), h.0) (record { fits = h.1 })
 
 pub returns : goal.returns
@@ -19,7 +19,7 @@ returns c = λ s l e.
     let q = c.args.width / 8 in
     let r = c.args.width % 8 in
     let low = mod_below c.args.number (2 ^ r) (pow_pos r) in
-    let h = back_fits c.turned-2.result q r c.args.width (c.args.number % 2 ^ r) c.turned-2.ensures.bound (omega arith) c.requires low in
+    let h = back_fits 128 c.turned-2.result q r c.args.width (c.args.number % 2 ^ r) c.turned-2.ensures.bound (omega arith) c.requires low in
     rw (one_shl r 128 (omega arith), h.0)
     (ap (λ x. x + c.args.number % 2 ^ r * 2 ^ (8 * q)) c.turned-2.ensures.value
     ∙ both_back s c.args.number q r _ _ (omega arith) (omega arith) (omega arith) (omega arith) e refl refl)

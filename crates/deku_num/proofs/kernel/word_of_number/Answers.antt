@@ -1,6 +1,13 @@
-use Rattle.std.proofs.Common.{◌∙◌, sym, arith}
+use Rattle.std.proofs.Common.{◌≡◌, ◌%◌, ◌^◌, ◌<◌, ◌∙◌, sym, arith}
 use Rattle.deku_num.proofs.Turned.{word_is, low_back}
+use Rattle.deku_num.proofs.Narrow.{number_narrow}
 use Rattle.deku_num.proofs.kernel.word_of_number.Goals as goal
+
+pub returns-then-width-le64 : goal.returns-then-width-le64
+returns-then-width-le64 c = λ s l e.
+    let small : c.args.number < 2 ^ 64 = rw e (number_narrow c.args.endian c.args.order s (omega arith)) in
+    let whole : c.args.number % 2 ^ 64 ≡ c.args.number = omega arith in
+    c.narrow_word.ensures s l (whole ∙ e)
 
 pub returns-in-Little-default : goal.returns-in-Little-default
 returns-in-Little-default c = λ s l e. (rw c.in-Little-default.is-0 at e) ∙ sym (word_is c.args.order s)

@@ -1,0 +1,20 @@
+use Rattle.std.proofs.Common.{rules}
+use Rattle.deku_fields.proofs.write.plain_width.Goals as goal
+
+pub returns-in-Whole-clause-wide : goal.returns-in-Whole-clause-wide
+returns-in-Whole-clause-wide c = search rules
+
+pub returns-in-Whole-clause-within : goal.returns-in-Whole-clause-within
+returns-in-Whole-clause-within c = search rules
+
+pub returns-in-Whole-clause-whole : goal.returns-in-Whole-clause-whole
+returns-in-Whole-clause-whole c = search rules
+
+pub returns-in-Bits-clause-wide : goal.returns-in-Bits-clause-wide
+returns-in-Bits-clause-wide c = search rules
+
+pub returns-in-Bits-clause-within : goal.returns-in-Bits-clause-within
+returns-in-Bits-clause-within c = search rules
+
+pub returns-in-Bits-clause-whole : goal.returns-in-Bits-clause-whole
+returns-in-Bits-clause-whole c = search rules
