@@ -68,6 +68,12 @@ pub trait Source: Read + Seek {
     /// Puts the next `n` bytes behind those of the vector. The caller's condition: the vector has room for them, so no memory is asked for.
     ///
     /// It fails as `fetch` does for so many bytes. Then it is open what the vector holds.
+    ///
+    /// ```text
+    /// let mut bytes = Vec::with_capacity(alloc, 4)?;
+    /// let mut source = Cursor::new(input);               // 01 02 03 04 05
+    /// source.fetch_onto(&mut bytes, 3)?;                 // 01 02 03; the next byte to come is 04
+    /// ```
     fn fetch_onto(&mut self, bytes: &mut Vec<u8>, n: usize) -> io::Result<()>
         requires { vec_len bytes.old + n ≤ vec_capacity bytes.old }
         ensures bytes { OnOk result (Consumes (told self.old).coming (told self.new).coming (drop (vec_len bytes.old) bytes.new.items)) }
