@@ -12,8 +12,6 @@ mod limits;
 #[cfg(test)]
 mod lists;
 #[cfg(test)]
-mod memory;
-#[cfg(test)]
 mod refusals;
 #[cfg(test)]
 mod sizes;

@@ -1,6 +1,6 @@
 //! Reads where memory may be refused: each answers what it would, or that there is none, and then the reader stands behind what was read.
 
-use super::expecting::{NO_MEMORY, next, next_byte, reader_of, same};
+use crate::expecting::{NO_MEMORY, expect_behind_items, next, next_byte, reader_of, same};
 use deku::ctx::{BitSize, Limit, ReadExact};
 use deku::prelude::{DekuError, Reader};
 use std::alloc::Global;
@@ -17,23 +17,6 @@ const BYTES: [u8; 8] = [1, 2, 3, 4, 5, 6, 7, 8];
 
 fn reader_of_bytes(alloc: Global) -> Reader<Cursor<&'static [u8]>> {
     reader_of(alloc, &BYTES)
-}
-
-// No memory was found, behind a whole number of items of so many bytes, of which one was read and no more than these; and the next byte is the one behind them.
-fn expect_behind_items(
-    rt: &impl Abort,
-    reader: &mut Reader<Cursor<&[u8]>>,
-    refusal: DekuError,
-    size: usize,
-    most: usize,
-) -> Result<(), Fail> {
-    let row = &(size, most);
-    let read = reader.bits_read() / 8;
-    assert!(rt; size > 0 && read % size == 0, "{read} bytes were read");
-    assert!(rt; size <= read && read <= most, "{read} bytes were read");
-    let behind = usize::from(next_byte(reader)?);
-    same(rt, row, &(refusal, behind), &(NO_MEMORY, read + 1));
-    Ok(())
 }
 
 // The first bytes are read, or no memory was found for them.

@@ -1,0 +1,16 @@
+//! Tests of each call that takes memory: it answers what it would, or that no memory was found, and then what its contract says is left.
+//! `tools/refuse-memory` refuses each request of each test in turn.
+#![tactic(auto)]
+
+#[cfg(test)]
+mod bits;
+#[cfg(test)]
+mod expecting;
+#[cfg(test)]
+mod fields;
+#[cfg(test)]
+mod texts;
+#[cfg(test)]
+mod values;
+#[cfg(test)]
+mod written;
