@@ -11,4 +11,5 @@ mod write;
 pub use list::{Field, Item, Kind, Number};
 pub use program::run;
 pub use read::{list_from_bytes, read_list, read_list_into};
+pub use words::{parse_field, parse_item};
 pub use write::{list_to_bytes, write_list};

@@ -12,7 +12,12 @@ ghost use Rattle.deku_fields.specs.Naming.{kind_name, BeginsOption, SplitsEndian
 use crate::list::{Field, Item, Kind, Number};
 use deku::ctx::{Endian, Layout, Order, Size};
 
-/// The field that a word names: `kind[,big|,little][,msb|,lsb][,bitsN|,bytesN]`.
+/// The field that a word names: `kind[,big|,little][,msb|,lsb][,bitsN|,bytesN]`. None where it names no field.
+///
+/// ```text
+/// parse_field("u8,big,bits4")       // four bits of a `u8`, big and `Msb0`
+/// parse_field("u8,bits4,big")       // none: the size stands last
+/// ```
 pub fn parse_field(word: &str) -> Option<Field>
     ensures { (f : ListField) → (result ≡ Some f) ↔ NamesField word.now f }
 {
@@ -28,7 +33,12 @@ pub fn parse_field(word: &str) -> Option<Field>
     Some(Field { kind, layout })
 }
 
-/// The item that a word names: a field, `=` and a value.
+/// The item that a word names: a field, `=` and a value in decimal digits, with or without a minus. None where it names no item.
+///
+/// ```text
+/// parse_item("u16,big=49406")       // C0 FE
+/// parse_item("u16,big=")            // none: no digit
+/// ```
 pub fn parse_item(word: &str) -> Option<Item>
     ensures { (i : ListItem) → (result ≡ Some i) ↔ NamesItem word.now i }
 {
@@ -157,6 +167,3 @@ fn is_digits(text: &str) -> bool
 {
     !text.is_empty() && text.as_bytes().iter().all(|byte| byte.is_ascii_digit())
 }
-
-#[cfg(test)]
-mod tests;

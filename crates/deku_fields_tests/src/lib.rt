@@ -11,3 +11,5 @@ mod list;
 mod program;
 #[cfg(test)]
 mod rewriting;
+#[cfg(test)]
+mod words;

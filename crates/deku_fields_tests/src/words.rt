@@ -1,8 +1,7 @@
 //! Words of a command line, and what they name.
 
-use super::{parse_field, parse_item};
-use crate::list::{Field, Item, Kind, Number};
 use deku::ctx::{Endian, Layout, Order, Size};
+use deku_fields::{Field, Item, Kind, Number, parse_field, parse_item};
 use std::process::Abort;
 
 // A field.
