@@ -1,20 +1,30 @@
 -- Items that nothing refuses for what they are: their value is of their kind.
-use Rattle.std.proofs.Common.{◌≡◌, ℕ, ◌%◌, ◌^◌, ◌<◌, Bool, false, pos, refl, sym, subst, ◌∙◌}
-use Rattle.deku_num.specs.declared.ctx.Endian.TheVariants.{Little}
+use Rattle.std.proofs.Common.{◌≡◌, ℕ, ◌%◌, ◌^◌, ◌<◌, Bool, false, Option, Ok, pos, refl, sym, subst, ◌∙◌}
+use Rattle.deku_bits.specs.Devices.{Health}
+use Rattle.deku_bits.specs.Streams.{Stream}
+use Rattle.deku_bits.specs.Standings.{Standing}
+use Rattle.deku_bits.specs.Outcomes.{Outcome}
+use Rattle.deku_bits.specs.ReaderCalls.{Takes}
+use Rattle.deku_bits.specs.declared.ctx.Order.TheVariants.{Msb0}
+use Rattle.deku_bits.specs.Bits.{bits_of}
+use Rattle.deku_bits.proofs.Packed.{bin-whole}
+use Rattle.deku_num.specs.declared.ctx.Endian.TheVariants.{Little, Big}
 use Rattle.deku_num.specs.declared.ctx.Layout.{Layout}
 use Rattle.deku_num.specs.declared.kind.NumberType.{NumberType}
 use Rattle.deku_num.specs.NumberLaws.{InType}
-use Rattle.deku_num.specs.Numbers.{width, cuts, IsAllowed, IsWordFor}
+use Rattle.deku_num.specs.Numbers.{width, number, cuts, IsAllowed, IsWordFor}
 use Rattle.deku_num.proofs.Chunked.{listed}
 use Rattle.deku_num.proofs.Listing.{where_cut}
 use Rattle.deku_num.proofs.Turned.{word_is}
-use Rattle.deku_num.proofs.Carrying.{unsigned_in_type}
+use Rattle.deku_num.proofs.Carrying.{unsigned_in_type, unsigned_worth, number_read}
 use Rattle.deku_fields.specs.declared.list.Kind.{Kind}
 use Rattle.deku_fields.specs.declared.list.Kind.TheVariants.{U8, U16, U32, U64, U128, Usize, I8, I16, I32, I64, I128, Isize}
 use Rattle.deku_fields.specs.declared.list.Number.TheVariants.{Unsigned}
 use Rattle.deku_fields.specs.declared.list.Item.{Item}
-use Rattle.deku_fields.specs.Items.{number_type}
-use Rattle.deku_fields.specs.ListCalls.{IsOfKind}
+use Rattle.deku_fields.specs.declared.list.Field.{Field}
+use Rattle.deku_fields.specs.Items.{number_type, field_width, IsAllowedField}
+use Rattle.deku_fields.specs.ListCalls.{IsOfKind, ReadsField}
+use Rattle.deku_fields.proofs.Stepping.{unsigned_field}
 
 -- a value that is not cut and has a word is of its type
 word_in_type : (t : NumberType) (l : Layout) (v w : ℕ) → t.signed ≡ false → IsAllowed t l → cuts l.size ≡ false → t.bits % 8 ≡ 0 → IsWordFor t l (pos v) w → v < 2 ^ t.bits
@@ -48,3 +58,19 @@ kind_of_word i {v} {w} is g ok c h = rw is (
   sym g,
   in_unsigned (number_type i.field.kind).signed (number_type i.field.kind).bits v g (word_in_type (number_type i.field.kind) i.field.layout v w g ok c (whole_kind i.field.kind) h),
 )
+
+-- the number of bits from the highest down is that of a big field
+high_number : (n k : ℕ) → k < 2 ^ n → k ≡ number Big Msb0 (bits_of n k)
+unfolding number
+high_number n k h = sym (bin-whole n k h)
+
+-- a field without a sign that is big and `Msb0`, whose bits were taken
+pub high_field : (f : Field) (n k : ℕ) {s : Standing (Option Stream)} {h : Health} {u : Standing (Option Stream)} {g : Health}
+    → (number_type f.kind).signed ≡ false → f.layout.endian ≡ Big → f.layout.order ≡ Msb0 → n ≡ field_width f → IsAllowedField f → k < 2 ^ n
+    → Outcome (Takes Msb0 n) s h (Ok (bits_of n k)) u g → Outcome (ReadsField f) s h (Ok (Unsigned k)) u g
+high_field f n k {s} {h} {u} {g} plain big high wide ok small o =
+    let t : NumberType = number_type f.kind in
+    let l : Layout = f.layout in
+    let is : k ≡ number l.endian l.order (bits_of n k) = rw (big, high) (high_number n k small) in
+    let taken : Outcome (Takes l.order n) s h (Ok (bits_of n k)) u g = rw high o in
+    unsigned_field f plain (rw (unsigned_worth t l (bits_of n k) k plain is) (number_read t l n ok taken wide))

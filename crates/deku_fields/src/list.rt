@@ -1,10 +1,11 @@
 //! Fields of whole numbers, and items: fields with their values.
 
-ghost use Rattle.std.specs.Prelude.{◌≡◌, ◌↔◌, ◌<◌, ◌≤◌, ◌^◌, ◌-◌, IsTrue, pos, neg_ℤ, ◌≤ℤ◌, ◌<ℤ◌};
+ghost use Rattle.std.specs.Prelude.{◌≡◌, ◌↔◌, ◌<◌, ◌≤◌, ◌^◌, ◌-◌, IsTrue, pos, neg_ℤ, ◌≤ℤ◌, ◌<ℤ◌, false, IfSome};
+ghost use Rattle.deku_num.specs.Numbers.{sized_width, cuts};
 ghost use Rattle.deku_fields.specs.Items.{number_type};
 ghost use Rattle.deku_fields.specs.ListCalls.{IsOfKind};
 
-use deku::ctx::Layout;
+use deku::ctx::{Layout, Size};
 use deku::kind::NumberType;
 
 /// The type of a whole number.
@@ -99,6 +100,20 @@ fn is_within(value: i128, bits: usize) -> bool
         is_below(value as u128, bits - 1)
     } else {
         is_below((-(value + 1)) as u128, bits - 1)
+    }
+}
+
+/// The bits of a field whose size cuts no value, where the type has as many.
+#[inline(always)]
+pub(crate) fn plain_width(number_type: NumberType, size: Size) -> Option<usize>
+    ensures wide { IfSome result (λ n. n ≡ sized_width number_type size) }
+    ensures within { IfSome result (λ n. n ≤ number_type.bits) }
+    ensures whole { IfSome result (λ n. cuts size ≡ false) }
+{
+    match size {
+        Size::Whole => Some(number_type.bits),
+        Size::Bits(bits) if bits <= number_type.bits => Some(bits),
+        _ => None,
     }
 }
 

@@ -1,18 +1,20 @@
 //! Reading lists of fields.
 
-ghost use Rattle.std.specs.Prelude.{◌≡◌, ◌≤◌, ◌*◌, [], length, map, OnOk, IfOk, IfErr};
+ghost use Rattle.std.specs.Prelude.{◌≡◌, ◌≤◌, ◌*◌, [], false, Ok, length, map, OnOk, IfOk, IfErr, IfSome, IsNone};
 ghost use Rattle.std.specs.declared.io.ErrorKind.{ErrorKind as IoKind};
 ghost use Rattle.deku_bits.specs.declared.error.DekuError.TheVariants.{Io};
 ghost use Rattle.deku_bits.specs.Pieces.{total};
 ghost use Rattle.deku_bits.specs.Standings.{Untouched};
 ghost use Rattle.deku_bits.specs.ReaderCalls.{Reads, FetchesFor, NoneEarly};
 ghost use Rattle.deku_bits.specs.Causes.{NoKind, WantsMemory, Caused};
-ghost use Rattle.deku_fields.specs.Items.{field_shape, field_width};
+ghost use Rattle.deku_fields.specs.declared.list.Number.TheVariants.{Unsigned};
+ghost use Rattle.deku_fields.specs.Items.{number_type, field_shape, field_width, IsAllowedField};
 ghost use Rattle.deku_fields.specs.ListCalls.{ListFrom, ReadsField, ReadsFields, ReadsVec, filling, items_of};
 ghost use Rattle.deku_fields.specs.Promise.{FindsAny, FindsIn, LeavesBehind, ReadsBack, ReadsBackVec, ReadsBackFrom, ReadsWhereSound, ReadsWhereTold};
 
-use crate::list::{Field, Number};
+use crate::list::{Field, Number, plain_width};
 use deku::calls::{read_signed, read_unsigned};
+use deku::ctx::{Endian, Order};
 use deku::device::Source;
 use deku::error::DekuError;
 use deku::reader::Reader;
@@ -53,9 +55,57 @@ pub fn read_list_into<R: Source>(
     Ok(())
 }
 
-// Reads the value of a field.
+// Reads the value of a field: at once, where nothing refuses it and its bits are at hand.
 #[inline(always)]
 fn read_field<R: Source>(reader: &mut Reader<R>, field: &Field) -> Result<Number, DekuError>
+    ensures reads { Reads R.told (ReadsField field.now) reader.old result reader.new }
+    ensures fetched { OnOk result (FetchesFor (field_width field.now) reader.old.state (R.told reader.old.source) (R.told reader.new.source)) }
+    ensures early { NoneEarly reader.old.state reader.new.state }
+    ensures stopped { Untouched reader.old.state reader.old.source reader.new.source }
+{
+    match plain_number(reader, field) {
+        Some(number) => Ok(Number::Unsigned(number as u128)),
+        None => read_checked(reader, field),
+    }
+}
+
+// The number of a field of bits that go from the highest down, where nothing refuses it and they are at hand. It answers none else, and then nothing moves.
+#[inline(always)]
+fn plain_number<R: Source>(reader: &mut Reader<R>, field: &Field) -> Option<u64>
+    ensures reads { IfSome result (λ n. Reads R.told (ReadsField field.now) reader.old (Ok (Unsigned n)) reader.new) }
+    ensures fetched { IfSome result (λ n. FetchesFor (field_width field.now) reader.old.state (R.told reader.old.source) (R.told reader.new.source)) }
+    ensures early { NoneEarly reader.old.state reader.new.state }
+    ensures stays { IsNone result → reader.new ≡ reader.old }
+    ensures stopped { Untouched reader.old.state reader.old.source reader.new.source }
+{
+    let width = high_width(field)?;
+    let number = reader.high_at_hand(width)?;
+    Some(number)
+}
+
+// How many bits a field without a sign has that is big and `Msb0`, where they are at most 64 and its layout is not refused.
+#[inline(always)]
+fn high_width(field: &Field) -> Option<usize>
+    ensures unsigned { IfSome result (λ n. (number_type field.now.kind).signed ≡ false) }
+    ensures big { IfSome result (λ n. field.now.layout.endian ≡ Endian.Big) }
+    ensures high { IfSome result (λ n. field.now.layout.order ≡ Order.Msb0) }
+    ensures wide { IfSome result (λ n. n ≡ field_width field.now) }
+    ensures few { IfSome result (λ n. n ≤ 64) }
+    ensures allowed { IfSome result (λ n. IsAllowedField field.now) }
+{
+    let (Endian::Big, Order::Msb0) = (field.layout.endian, field.layout.order) else {
+        return None;
+    };
+    if field.kind.is_signed() {
+        return None;
+    }
+    let width = plain_width(field.kind.number_type(), field.layout.size)?;
+    if width <= 64 { Some(width) } else { None }
+}
+
+// Reads the value of a field, and looks at all that may refuse it.
+#[inline(always)]
+fn read_checked<R: Source>(reader: &mut Reader<R>, field: &Field) -> Result<Number, DekuError>
     ensures reads { Reads R.told (ReadsField field.now) reader.old result reader.new }
     ensures fetched { OnOk result (FetchesFor (field_width field.now) reader.old.state (R.told reader.old.source) (R.told reader.new.source)) }
     ensures early { NoneEarly reader.old.state reader.new.state }

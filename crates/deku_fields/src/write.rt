@@ -1,6 +1,6 @@
 //! Writing lists of items.
 
-ghost use Rattle.std.specs.Prelude.{◌≡◌, ◌≤◌, [], false, take, IfErr, IfSome};
+ghost use Rattle.std.specs.Prelude.{◌≡◌, [], take, IfErr, IfSome};
 ghost use Rattle.std.specs.declared.io.ErrorKind.{ErrorKind as IoKind};
 ghost use Rattle.deku_bits.specs.declared.error.DekuError.TheVariants.{Io};
 ghost use Rattle.std.specs.Io.Cursor.{cursor_position, cursor_inner};
@@ -8,17 +8,15 @@ ghost use Rattle.deku_bits.specs.Causes.{WantsPlace, Caused};
 ghost use Rattle.deku_bits.specs.Standings.{Untouched};
 ghost use Rattle.deku_bits.specs.WriterCalls.{Writes, Finalizes};
 ghost use Rattle.deku.specs.Composing.{Both};
-ghost use Rattle.deku_num.specs.Numbers.{sized_width, cuts, IsWordFor};
+ghost use Rattle.deku_num.specs.Numbers.{IsWordFor};
 ghost use Rattle.deku_fields.specs.Items.{number_type, field_width, IsAllowedField};
 ghost use Rattle.deku_fields.specs.ListCalls.{IsOfKind, WritesItem, WritesItems, WritesWhole, integer_of};
 ghost use Rattle.deku_fields.specs.Promise.{LaidOut, WritesBack, WritesLaid, WritesWhereSound};
 
-use crate::list::{Item, Number};
+use crate::list::{Item, Number, plain_width};
 use deku::calls::{write_signed, write_unsigned};
-use deku::ctx::Size;
 use deku::device::Sink;
 use deku::error::DekuError;
-use deku::kind::NumberType;
 use deku::writer::Writer;
 use deku_num::kernel::unsigned_word;
 use std::alloc::Global;
@@ -75,20 +73,6 @@ fn plain_word(item: &Item) -> Option<(u128, usize)>
     let width = plain_width(number_type, item.field.layout.size)?;
     let word = unsigned_word(value, number_type, item.field.layout, width)?;
     Some((word, width))
-}
-
-// The bits of a field whose size cuts no value, where the type has as many.
-#[inline(always)]
-fn plain_width(number_type: NumberType, size: Size) -> Option<usize>
-    ensures wide { IfSome result (λ n. n ≡ sized_width number_type size) }
-    ensures within { IfSome result (λ n. n ≤ number_type.bits) }
-    ensures whole { IfSome result (λ n. cuts size ≡ false) }
-{
-    match size {
-        Size::Whole => Some(number_type.bits),
-        Size::Bits(bits) if bits <= number_type.bits => Some(bits),
-        _ => None,
-    }
 }
 
 // Writes the value of an item, and looks at all that may refuse it.

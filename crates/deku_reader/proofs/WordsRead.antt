@@ -5,14 +5,14 @@ use Rattle.std.proofs.lemmas.List.{take_all, take_at, drop_at, take-take, length
 use Rattle.std.specs.Int.{w64, w128, from_le_bytes}
 use Rattle.deku_stream.specs.declared.ctx.Order.{Order}
 use Rattle.deku_stream.specs.declared.ctx.Order.TheVariants.{Msb0, Lsb0}
-use Rattle.deku_stream.specs.Bits.{byte_bits, chunks, facing, group_number, groups, little, word_of}
+use Rattle.deku_stream.specs.Bits.{bits_of, byte_bits, chunks, facing, group_number, groups, little, word_of}
 use Rattle.deku_stream.specs.Streams.{flow}
 use Rattle.deku_device.specs.Devices.{Health, NoFewerFailures, Loses}
 use Rattle.deku_stream.specs.Standings.{Going, stream_of}
 use Rattle.deku_stream.specs.Outcomes.{Outcome, Quiet}
 use Rattle.deku_reader.specs.ReaderCalls.{Takes, ReadsWord}
 use Rattle.deku_stream.specs.Moving.{Moves, FewerBits, GivesGroup, TakesGroups, TakesWord, MovesWord}
-use Rattle.deku_stream.proofs.Binary.{length-facing, facing-facing, group_number-lt}
+use Rattle.deku_stream.proofs.Binary.{length-bits_of, length-facing, facing-facing, group_number-lt}
 use Rattle.deku_stream.proofs.Packed.{pow_byte}
 use Rattle.deku_stream.proofs.Cuts.{length-flow, flow-append}
 use Rattle.deku_stream.proofs.Groups.{by_groups, length-chunks}
@@ -20,7 +20,7 @@ use Rattle.deku_stream.proofs.Packing.{join_law}
 use Rattle.deku_stream.proofs.Handing.{mapped_ok}
 use Rattle.std.specs.Io.KnownBytes.{Consumes}
 use Rattle.deku_reader.proofs.Moving.{fetched as fetched_behind, fewer_behind, moves_more, moves_keep, moves_inside, moved_loses, takes_ok}
-use Rattle.deku_stream.proofs.Across.{below_64, low_eight, little-lt, little-append}
+use Rattle.deku_stream.proofs.Across.{bits_of-bin, below_64, low_eight, little-lt, little-append}
 use Rattle.deku_stream.proofs.Bytes.{IsByte}
 use Rattle.deku_stream.proofs.Words.{byte_groups, one_group, word_of-short, word_of-full, little-filled, little_sixteen}
 
@@ -250,3 +250,35 @@ pub word_loses : (o : Order) (w : List Bool) (t : Option (List ℕ)) (n k : ℕ)
     → MovesWord o w t n k v u → (0 < n → length v < 8) → (n ≡ 0 → (v ≡ w) × (u ≡ t)) → Loses (groups (n - length w)) t u
 word_loses o w t n k v u l m short none =
     moved_loses o w t n (m.bits) v u (m.long) l (m.moved) (λ p. short (omega (arith, p, m.long))) (λ z. none (omega (arith, z, m.long)))
+
+-- ---- bits from the highest down
+-- that the window has
+pub high_inside : (w v : List Bool) (t : Option (List ℕ)) (n k : ℕ) → GivesGroup Msb0 n w k v → Moves Msb0 w t (bits_of n k) v t
+high_inside w v t n k g =
+    let same : g.group ≡ bits_of n k = sym (bits_of-bin g.group) ∙ ap₂ bits_of g.long (sym g.worth) in
+    moves_inside Msb0 w t (bits_of n k) v (g.cut ∙ ap (λ s. s ++ v) same)
+
+-- of which the last lie in eight bytes that were at hand
+pub high_short : (w v : List Bool) (n k : ℕ) (eight : List ℕ) → length eight ≡ 8 → n ≤ 64 → length w < 8 → length w < n
+    → w ++ flow Msb0 (take (groups (n - length w)) eight) ≡ bits_of n k ++ v → length v < 8
+high_short w v n k eight size wide short more cut =
+    let bytes : List ℕ = take (groups (n - length w)) eight in
+    let long : length bytes ≡ groups (n - length w) = length-take-le (groups (n - length w)) eight (omega arith) in
+    let sum : length (w ++ flow Msb0 bytes) ≡ length (bits_of n k ++ v) = ap length cut in
+    omega (arith, sum, long, length-bits_of n k, length-append w (flow Msb0 bytes), length-flow Msb0 bytes, length-append (bits_of n k) v)
+
+-- a read of them
+pub high_ok : (w : List Bool) (t : Option (List ℕ)) (c n k : ℕ) (v : List Bool) (u : Option (List ℕ)) (f g : Health) → length w ≤ 8 → c + n < 2 ^ 64
+    → Moves Msb0 w t (bits_of n k) v u → (0 < n → length v < 8) → (n ≡ 0 → (v ≡ w) × (u ≡ t)) → NoFewerFailures f g
+    → Outcome (Takes Msb0 n) (Going (stream_of w t) c) f (Ok (bits_of n k)) (Going (stream_of v u) (c + n)) g
+high_ok w t c n k v u f g l room moved short none kept =
+    let long : length (bits_of n k) ≡ n = length-bits_of n k in
+    let taken = takes_ok Msb0 w t c n (bits_of n k) v u long l room moved (λ p. short (omega (arith, p, long))) (λ z. none (omega (arith, z, long))) in
+    Quiet (subst (λ x. Takes Msb0 n false (Going (stream_of w t) c) (Ok (bits_of n k)) (Going (stream_of v u) (c + x))) long taken) kept
+
+-- as many bytes as they need were fetched
+pub high_loses : (w : List Bool) (t : Option (List ℕ)) (n k : ℕ) (v : List Bool) (u : Option (List ℕ)) → length w ≤ 8
+    → Moves Msb0 w t (bits_of n k) v u → (0 < n → length v < 8) → (n ≡ 0 → (v ≡ w) × (u ≡ t)) → Loses (groups (n - length w)) t u
+high_loses w t n k v u l moved short none =
+    let long : length (bits_of n k) ≡ n = length-bits_of n k in
+    moved_loses Msb0 w t n (bits_of n k) v u long l moved (λ p. short (omega (arith, p, long))) (λ z. none (omega (arith, z, long)))

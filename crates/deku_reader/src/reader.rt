@@ -1,7 +1,9 @@
 //! Reading bits.
 
-ghost use Rattle.std.specs.Prelude.{◌≡◌, ◌+◌, ◌*◌, ◌≤◌, ◌<◌, false, Ok, [], length, take, drop, OnOk, IfOk, IfErr};
+ghost use Rattle.std.specs.Prelude.{◌≡◌, ◌+◌, ◌*◌, ◌^◌, ◌≤◌, ◌<◌, false, Ok, [], length, take, drop, OnOk, IfOk, IfErr, IfSome, IsNone};
 ghost use Rattle.std.specs.Borrow.{Lends, sem};
+ghost use Rattle.deku_stream.specs.declared.ctx.Order.TheVariants.{Msb0};
+ghost use Rattle.deku_stream.specs.Bits.{bits_of};
 ghost use Rattle.deku_stream.specs.Kept.{Admits};
 ghost use Rattle.deku_stream.specs.Standings.{Going, Untouched, count_of};
 ghost use Rattle.deku_reader.specs.ReaderCalls.{Reads, Takes, Ending, Skips, ReadsBits, ReadsVec, ReadsBytes, ReadsByteVec, ReadsWord, FetchesFor, FetchesAhead, NoneEarly, NeedsNone, NamesRest, IsLeftover, filling, items_of, bytes_in_vec, window_of};
@@ -302,6 +304,29 @@ impl<R: Source> Reader<R> {
         ensures alloc { self.new.alloc ≡ self.old.alloc }
     {
         self.state.take_word(&mut self.source, amt, order)
+    }
+
+    /// The number of the next `amt` bits in `Msb0`, the first the highest, where it has them without a call on the source that may fail: they are unread,
+    /// or at hand as `Source::at_hand` says. The caller's condition: they are at most 64.
+    ///
+    /// It is a read of as many bits, which rises the count. It answers none where `read_word` refuses as many, and may do so where it does not; then nothing
+    /// moves.
+    ///
+    /// ```text
+    /// reader.high_at_hand(12); // from AB CD EF 01 23 45 67 89: Some of 0xABC
+    /// ```
+    #[inline(always)]
+    pub fn high_at_hand(&mut self, amt: usize) -> Option<u64>
+        requires { amt ≤ 64 }
+        ensures takes { IfSome result (λ number. Reads R.told (Takes Msb0 amt) self.old (Ok (bits_of amt number)) self.new) }
+        ensures below { IfSome result (λ number. number < 2 ^ amt) }
+        ensures fetched { IfSome result (λ number. FetchesFor amt self.old.state (R.told self.old.source) (R.told self.new.source)) }
+        ensures early { NoneEarly self.old.state self.new.state }
+        ensures stays { IsNone result → self.new ≡ self.old }
+        ensures stopped { Untouched self.old.state self.old.source self.new.source }
+        ensures alloc { self.new.alloc ≡ self.old.alloc }
+    {
+        self.state.high_at_hand(&mut self.source, amt)
     }
 
     /// Reads `amt` bytes into the front of the buffer; what is behind them in it stays. The caller's condition: the buffer is as

@@ -1,6 +1,6 @@
 -- Words of the bits of a window and of eight bytes behind it, through numbers of at most 64 bits.
 use Rattle.std.proofs.Common.{ℕ, zero, suc, ◌+◌, ◌*◌, ◌-◌, ◌/◌, ◌%◌, ◌^◌, ◌<◌, ◌≤◌, ◌≡◌, Bool, List, [], ◌∷◌, ◌++◌, reverse, length, map, take, drop, All, refl, ap, ap₂, sym, ◌∙◌, subst, arith, append-nil, append_assoc, take-append-drop, length-take-le, mod-lt, ⊎_elim}
-use Rattle.std.proofs.lemmas.List.{take_at, reverse-append, reverse-reverse, length-reverse}
+use Rattle.std.proofs.lemmas.List.{take_at, reverse-append, reverse-reverse, length-reverse, nil_from_length}
 use Rattle.std.proofs.lemmas.List.Elements.{All-head, All-tail, All-cons, All-nil, All-take}
 use Rattle.std.proofs.lemmas.Nat.{shr-shr, shr_below, shr_split, shl_below, shl-shr, shl_whole, mod-mul-add, one_shl, pow_pos, pow-add, from_le_bytes-to_le_bytes_8, le_bytes_8}
 use native.Mathlib.Nat.{pow-succ'}
@@ -24,7 +24,7 @@ use Rattle.deku_stream.proofs.Words.{byte_groups, word_of-full, word_of-short}
 
 -- ---- the numbers of eight bytes
 -- the bits of a list's number are the list
-bits_of-bin : (s : List Bool) → bits_of (length s) (bin s) ≡ s
+pub bits_of-bin : (s : List Bool) → bits_of (length s) (bin s) ≡ s
 bits_of-bin s = bin-inj (bits_of (length s) (bin s)) s (length-bits_of (length s) (bin s)) (bin-whole (length s) (bin s) (bin-lt s))
 
 -- the first byte the highest
@@ -242,6 +242,27 @@ word_across_high w u bytes n number word l h more few cut worth = record {
   cut = ap (λ s. w ++ s) (high_front (groups (n - length w)) bytes (omega arith) l h) ∙ cut;
   worth = worth;
 }
+
+-- in `Msb0`, their bits
+pub high_across : (w u : List Bool) (bytes : List ℕ) (n number : ℕ) → length bytes ≡ 8 → All IsByte bytes → length w < n → n ≤ 64
+    → w ++ bits_of (8 * groups (n - length w)) (from_be_bytes w64 bytes / 2 ^ (64 - 8 * groups (n - length w))) ≡ bits_of n number ++ u
+    → w ++ flow Msb0 (take (groups (n - length w)) bytes) ≡ bits_of n number ++ u
+high_across w u bytes n number l h more few cut = ap (λ s. w ++ s) (high_front (groups (n - length w)) bytes (omega arith) l h) ∙ cut
+
+-- of whole bytes behind no bits none is left
+pub high_whole : (w : List Bool) (bytes : List ℕ) (n : ℕ) → length bytes ≡ 8 → All IsByte bytes → length w ≡ 0 → n % 8 ≡ 0 → n ≤ 64
+    → w ++ flow Msb0 (take (groups (n - length w)) bytes) ≡ bits_of n (from_be_bytes w64 bytes / 2 ^ (64 - n)) ++ w
+high_whole w bytes n l h none whole few =
+    let nothing : w ≡ [] = nil_from_length w none in
+    let places : 8 * groups (n - length {A = Bool} []) ≡ n = omega arith in
+    rw nothing (high_front (groups (n - length {A = Bool} [])) bytes (omega arith) l h ∙ ap (λ k. bits_of k (from_be_bytes w64 bytes / 2 ^ (64 - k))) places
+    ∙ sym (append-nil (bits_of n (from_be_bytes w64 bytes / 2 ^ (64 - n)))))
+
+-- the high bits of 64 are so many
+pub high_below : (e n : ℕ) → e < 2 ^ 64 → n ≤ 64 → e / 2 ^ (64 - n) < 2 ^ n
+high_below e n fits few =
+    let places : 64 ≡ n + (64 - n) = omega arith in
+    shr_below e n (64 - n) (subst (λ k. e < 2 ^ k) places fits)
 
 -- in `Lsb0`
 pub word_across_low : (w u : List Bool) (bytes : List ℕ) (n number : ℕ) → length bytes ≡ 8 → All IsByte bytes → length w < n → n ≤ 64 → number < 2 ^ n

@@ -133,6 +133,24 @@ impl Window {
         }
     }
 
+    /// Takes the next bits from the highest down, where those of these eight bytes come behind the unread ones, and answers their number. The rest of the
+    /// last byte that they need is then unread.
+    #[inline(always)]
+    pub fn take_high_across(&mut self, eight: &[u8; 8], count: usize) -> u64
+        requires short { length self.old < 8 }
+        requires more { length self.old < count }
+        requires few { count ≤ 64 }
+        ensures below { result < 2 ^ count }
+        ensures cut { self.old ++ flow Order.Msb0 (take (groups (count - length self.old)) eight.now) ≡ bits_of count result ++ self.new }
+    {
+        let number = u64::from_be_bytes(*eight);
+        // Whole bytes, where no bit is unread, leave none.
+        if self.len == 0 && count % 8 == 0 {
+            return number >> (64 - count);
+        }
+        self.across_high(number, count)
+    }
+
     // The number of the next bits, where the high bits of 64 come behind the unread ones.
     #[inline(always)]
     fn across_high(&mut self, eight: u64, count: usize) -> u64

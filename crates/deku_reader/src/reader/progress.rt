@@ -2,11 +2,13 @@
 
 #![tactic(auto, using(deku_device::proofs::Wholes::onward_same))]
 
-ghost use Rattle.std.specs.Prelude.{◌≡◌, ◌≢◌, ℕ, ◌*◌, ◌^◌, ◌<◌, ◌≤◌, ◌⊎◌, ◌-◌, false, Ok, [], ◌∷◌, length, drop, IfOk, OnOk, IfErr};
+ghost use Rattle.std.specs.Prelude.{◌≡◌, ◌≢◌, ℕ, ◌*◌, ◌^◌, ◌<◌, ◌≤◌, ◌⊎◌, ◌-◌, false, Ok, [], ◌∷◌, length, drop, IfOk, OnOk, IfErr, IfSome, IsNone};
 ghost use Rattle.std.specs.Io.KnownBytes.{Consumes};
 ghost use Rattle.std.specs.IoError.{error_kind};
 ghost use Rattle.std.specs.Vec.{vec_len, vec_capacity};
 ghost use Rattle.deku_stream.specs.declared.ctx.Order.{Order as BitOrder};
+ghost use Rattle.deku_stream.specs.declared.ctx.Order.TheVariants.{Msb0};
+ghost use Rattle.deku_stream.specs.Bits.{bits_of};
 ghost use Rattle.deku_device.specs.Devices.{NoFewerFailures, MoreFailures, FewerThan, StaysEmpty};
 ghost use Rattle.deku_stream.specs.Kept.{Admits};
 ghost use Rattle.deku_stream.specs.Moving.{Moves, FewerBits};
@@ -23,7 +25,7 @@ mod words;
 use crate::reader::progress::bits::bits_into;
 use crate::reader::progress::bytes::{bytes_into, bytes_onto};
 use crate::reader::progress::skips::{drop_bits, pass_bytes, pop_bits};
-use crate::reader::progress::words::word_from;
+use crate::reader::progress::words::{high_at_hand, word_from};
 use deku_device::device::Source;
 use deku_stream::ctx::Order;
 use deku_stream::error::{DekuError, Fault, NeedSize};
@@ -191,6 +193,26 @@ impl Progress {
                 Err(fault.error())
             }
         }
+    }
+
+    /// Takes at most 64 bits from the highest down, where nothing refuses them and they are unread or at hand, as their number. It answers none else, and
+    /// then nothing moves.
+    #[inline(always)]
+    pub fn high_at_hand<R: Source>(&mut self, source: &mut R, amt: usize) -> Option<u64>
+        requires { amt ≤ 64 }
+        ensures takes { IfSome result (λ number. ReadsAt (Takes Msb0 amt) (R.told source.old) self.old (Ok (bits_of amt number)) (R.told source.new) self.new) }
+        ensures below { IfSome result (λ number. number < 2 ^ amt) }
+        ensures fetched { IfSome result (λ number. FetchesFor amt self.old (R.told source.old) (R.told source.new)) }
+        ensures early { NoneEarly self.old self.new }
+        ensures stays { IsNone result → (self.new ≡ self.old) × (source.new ≡ source.old) }
+        ensures stopped { Untouched self.old source.old source.new }
+    {
+        let Ok(()) = self.admits(amt) else {
+            return None;
+        };
+        let number = high_at_hand(source, &mut self.window, amt)?;
+        self.bits_read += amt;
+        Some(number)
     }
 
     /// Takes bytes in this order, one after the other, and stops where that fails.

@@ -1,10 +1,10 @@
 //! Words: at most 128 bits, each group of eight as a byte.
 
-ghost use Rattle.std.specs.Prelude.{◌≡◌, ◌≢◌, ◌+◌, ◌-◌, ◌*◌, ◌^◌, ◌<◌, ◌≤◌, ◌∷◌, [], length, take, OnOk, IfOk, IfErr};
+ghost use Rattle.std.specs.Prelude.{◌≡◌, ◌≢◌, ◌+◌, ◌-◌, ◌*◌, ◌^◌, ◌<◌, ◌≤◌, ◌∷◌, [], length, take, OnOk, IfOk, IfErr, IfSome, IsNone};
 ghost use Rattle.deku_stream.specs.declared.ctx.Order.TheVariants.{Msb0, Lsb0};
-ghost use Rattle.deku_stream.specs.Bits.{groups};
+ghost use Rattle.deku_stream.specs.Bits.{bits_of, groups};
 ghost use Rattle.deku_device.specs.Devices.{NoFewerFailures, MoreFailures};
-ghost use Rattle.deku_stream.specs.Moving.{FewerBits, MovesWord, TakesGroups};
+ghost use Rattle.deku_stream.specs.Moving.{FewerBits, Moves, MovesWord, TakesGroups};
 
 use super::bytes::exchange_all;
 use super::fetching::fetch_behind;
@@ -71,6 +71,29 @@ fn narrow_from<R: Source>(
         }
     }
     word_fetched(source, window, count, order)
+}
+
+/// Takes at most 64 bits from the highest down, where they are unread or at hand, and answers their number. It answers none else, and then nothing moves.
+#[inline(always)]
+pub fn high_at_hand<R: Source>(source: &mut R, window: &mut Window, count: usize) -> Option<u64>
+    requires bound { length window.old ≤ 8 }
+    requires few { count ≤ 64 }
+    ensures short { IfSome result (λ number. 0 < count → length window.new < 8) }
+    ensures none { IfSome result (λ number. count ≡ 0 → (window.new ≡ window.old) × ((R.told source.new).coming ≡ (R.told source.old).coming)) }
+    ensures moved { IfSome result (λ number. Moves Msb0 window.old (R.told source.old).coming (bits_of count number) window.new (R.told source.new).coming) }
+    ensures below { IfSome result (λ number. number < 2 ^ count) }
+    ensures stays { IsNone result → (window.new ≡ window.old) × (source.new ≡ source.old) }
+    ensures kept { NoFewerFailures (R.told source.old).health (R.told source.new).health }
+{
+    if count <= window.len() {
+        return Some(window.take(count, Order::Msb0) as u64);
+    }
+    if window.len() == 8 {
+        return None;
+    }
+    let behind = count - window.len();
+    let eight = source.at_hand(behind.div_ceil(8))?;
+    Some(window.take_high_across(&eight, count))
 }
 
 // Takes more than 64 bits: where eight bytes are at hand, 64 bits through the window and then the others.

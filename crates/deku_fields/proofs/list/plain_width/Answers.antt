@@ -1,5 +1,5 @@
 use Rattle.std.proofs.Common.{rules}
-use Rattle.deku_fields.proofs.write.plain_width.Goals as goal
+use Rattle.deku_fields.proofs.list.plain_width.Goals as goal
 
 pub returns-in-Whole-clause-wide : goal.returns-in-Whole-clause-wide
 returns-in-Whole-clause-wide c = search rules
