@@ -145,6 +145,30 @@ fn fill_long_word(held: Held, from: Order, to: Order, word: u128, n: usize) -> (
     (out, next)
 }
 
+// A word of n bits onto the held bits of an order, of any length and onto any sink. It is inlined, so that its place for the bytes is cleared where
+// they are asked for, and the call that asks for them is cold.
+#[inline(always)]
+fn push_long_word<W: Sink>(
+    sink: &mut W,
+    held: &mut Held,
+    from: Order,
+    to: Order,
+    word: u128,
+    n: usize,
+) -> Result<(), ErrorKind>
+    requires some { 0 < n }
+    requires short { length held.old < 8 }
+    requires most { n ≤ 128 }
+    requires inside { word < 2 ^ n }
+    ensures pushed { OnOk result (PushedOnto (W.told sink.old) (W.told sink.new) from to held.old held.new (shown to (word_bits to n word))) }
+    ensures fault { IfErr result (GaveUp (W.told sink.old) (W.told sink.new) ((length held.old + n) / 8)) }
+{
+    let filled = (held.len() + n) / 8;
+    let (bytes, next) = fill_long_word(held.copy(), from, to, word, n);
+    held.follow(next, n);
+    give_any(sink, &bytes[..filled])
+}
+
 // A word of at most eight whole bytes, the lowest first, where the sink has room for eight bytes at hand, and whether it has.
 #[inline(always)]
 fn lay_whole<W: Sink>(sink: &mut W, word: u64, n: usize) -> bool
@@ -186,8 +210,5 @@ pub fn push_word_onto<W: Sink>(
             return Ok(());
         }
     }
-    let filled = (held.len() + n) / 8;
-    let (bytes, next) = fill_long_word(held.copy(), from, to, word, n);
-    held.follow(next, n);
-    give_any(sink, &bytes[..filled])
+    push_long_word(sink, held, from, to, word, n)
 }

@@ -1,9 +1,6 @@
-use Rattle.std.proofs.Common.{◌≡◌, ◌⊎◌, inl, ◌+◌, ◌/◌, ◌%◌, ◌∙◌, length, ap, rules}
-use Rattle.std.proofs.lemmas.Result.{on_ok_weaker}
-use Rattle.deku_writer.specs.Pushing.{low_bytes}
-use Rattle.deku_writer.proofs.Filling.{word_behind, onto_given, onto_rest}
+use Rattle.std.proofs.Common.{◌≡◌, ◌⊎◌, inl, length, rules}
+use Rattle.deku_writer.proofs.Filling.{word_behind, onto_given}
 use Rattle.deku_writer.proofs.Joined.{fills_whole}
-use Rattle.deku_writer.proofs.WordsWritten.{length-shown_word}
 use Rattle.deku_writer.proofs.writer.words.push_word_onto.Goals as goal
 
 pub returns-then-lay_whole-clause-pushed : goal.returns-then-lay_whole-clause-pushed
@@ -19,9 +16,3 @@ returns-then-lay-clause-pushed g c =
     let filled = rw c.copy-next.ensures at c.fill-count.ensures.fills in
     let fills = word_behind c.args.from c.args.to c.args.held.now c.fill-count.new.self c.args.n c.args.word _ behind c.requires.some filled in
     rw c.follow.ensures (onto_given _ _ c.args.from c.args.to c.args.held.now c.fill-count.new.self _ _ fills (search (rules, c.lay.ensures.gave)))
-
-pub follow-requires-2 : goal.follow-requires-2
-follow-requires-2 g c =
-    let fills = rw c.copy.ensures at c.fill_long_word-next.ensures.fills in
-    onto_rest c.args.from c.args.to c.args.held.now c.fill_long_word-next.result.1 _ _ c.requires.short fills
-    ∙ ap (λ k. (length c.args.held.now + k) % 8) (length-shown_word c.args.to c.args.n c.args.word)

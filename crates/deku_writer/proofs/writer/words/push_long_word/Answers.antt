@@ -1,0 +1,11 @@
+use Rattle.std.proofs.Common.{◌≡◌, ◌+◌, ◌/◌, ◌%◌, ◌∙◌, length, take, ap, rules}
+use Rattle.std.proofs.lemmas.Result.{on_ok_weaker}
+use Rattle.deku_writer.proofs.Filling.{onto_given, onto_count, onto_rest}
+use Rattle.deku_writer.proofs.WordsWritten.{length-shown_word}
+use Rattle.deku_writer.proofs.writer.words.push_long_word.Goals as goal
+
+pub follow-requires : goal.follow-requires
+follow-requires g c =
+    let fills = rw c.copy.ensures at c.fill_long_word-next.ensures.fills in
+    onto_rest c.args.from c.args.to c.args.held.now c.fill_long_word-next.result.1 _ _ c.requires.short fills
+    ∙ ap (λ k. (length c.args.held.now + k) % 8) (length-shown_word c.args.to c.args.n c.args.word)
