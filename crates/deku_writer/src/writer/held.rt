@@ -58,14 +58,13 @@ impl Held {
         }
     }
 
-    /// Holds the bits of another in place of its own: those that are left behind whole bytes, after n bits more. So many there are then, which
-    /// is said to the compiler too, and each part is set by itself: so what lies between them in memory is not moved.
+    /// Holds the bits of another, which are so many, in place of its own. Their count is the caller's, who knows it whichever way they came: so the
+    /// compiler knows it too. Each part is set by itself, so that what lies between them in memory is not moved.
     #[inline(always)]
-    pub fn follow(&mut self, next: Held, n: usize)
-        requires { length next ≡ (length self.old + n) % 8 }
+    pub fn follow(&mut self, next: Held, len: usize)
+        requires { len ≡ length next }
         ensures { self.new ≡ next }
     {
-        let len = (self.len() + n % 8) % 8;
         self.number = next.number;
         self.len = len;
     }

@@ -164,8 +164,9 @@ fn push_long_word<W: Sink>(
     ensures fault { IfErr result (GaveUp (W.told sink.old) (W.told sink.new) ((length held.old + n) / 8)) }
 {
     let filled = (held.len() + n) / 8;
+    let behind = (held.len() + n % 8) % 8;
     let (bytes, next) = fill_long_word(held.copy(), from, to, word, n);
-    held.follow(next, n);
+    held.follow(next, behind);
     give_any(sink, &bytes[..filled])
 }
 
@@ -203,10 +204,11 @@ pub fn push_word_onto<W: Sink>(
             return Ok(());
         }
     } else if held.len() + n <= 64 && is_behind(held, from, to) {
+        let left = (held.len() + n % 8) % 8;
         let mut next = held.copy();
         let (eight, count) = next.fill(to, word as u64, n);
         if sink.lay(eight, count) {
-            held.follow(next, n);
+            held.follow(next, left);
             return Ok(());
         }
     }
