@@ -7,7 +7,7 @@ ghost use Rattle.deku_stream.specs.Streams.{flow};
 ghost use Rattle.deku_writer.specs.Pushing.{low_bytes, word_bits, Fills, FillsOnto, GaveUp, PushedOnto};
 
 use super::held::Held;
-use super::pushing::{give_any, push_onto};
+use super::pushing::{give_any, give_out, push_onto};
 use deku_device::device::Sink;
 use deku_stream::byte::bits_of_byte;
 use deku_stream::ctx::Order;
@@ -170,6 +170,18 @@ fn push_long_word<W: Sink>(
     give_any(sink, &bytes[..filled])
 }
 
+// A word of whole bytes that goes out at once, the lowest byte first.
+#[inline(always)]
+fn give_whole<W: Sink>(sink: &mut W, word: u128, n: usize) -> Result<(), ErrorKind>
+    requires some { 0 < n }
+    requires whole { n % 8 ≡ 0 }
+    requires most { n ≤ 128 }
+    ensures gave { OnOk result (Gave (W.told sink.old) (W.told sink.new) (low_bytes (n / 8) word)) }
+    ensures fault { IfErr result (GaveUp (W.told sink.old) (W.told sink.new) (n / 8)) }
+{
+    give_out(sink, &word.to_le_bytes()[..n / 8])
+}
+
 // A word of at most eight whole bytes, the lowest first, where the sink has room for eight bytes at hand, and whether it has.
 #[inline(always)]
 fn lay_whole<W: Sink>(sink: &mut W, word: u64, n: usize) -> bool
@@ -182,7 +194,7 @@ fn lay_whole<W: Sink>(sink: &mut W, word: u64, n: usize) -> bool
 }
 
 /// A word of n bits onto the held bits of an order. Where they have at most 64 bits together, and the sink has room for eight bytes at hand, they
-/// are laid there.
+/// are laid there. Longer words of whole bytes that meet none held are given as they are.
 #[inline(always)]
 pub fn push_word_onto<W: Sink>(
     sink: &mut W,
@@ -199,7 +211,10 @@ pub fn push_word_onto<W: Sink>(
     ensures pushed { OnOk result (PushedOnto (W.told sink.old) (W.told sink.new) from to held.old held.new (shown to (word_bits to n word))) }
     ensures fault { IfErr result (GaveUp (W.told sink.old) (W.told sink.new) ((length held.old + n) / 8)) }
 {
-    if held.len() == 0 && n % 8 == 0 && n <= 64 {
+    if held.len() == 0 && n % 8 == 0 {
+        if n > 64 {
+            return give_whole(sink, word, n);
+        }
         if lay_whole(sink, word as u64, n) {
             return Ok(());
         }

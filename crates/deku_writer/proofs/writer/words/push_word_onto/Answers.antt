@@ -1,4 +1,5 @@
-use Rattle.std.proofs.Common.{◌≡◌, ◌⊎◌, inl, length, rules}
+use Rattle.std.proofs.Common.{◌≡◌, ◌⊎◌, inl, ◌+◌, ◌/◌, length, arith, rules}
+use Rattle.std.proofs.lemmas.Result.{on_ok_weaker}
 use Rattle.deku_writer.proofs.Filling.{word_behind, onto_given}
 use Rattle.deku_writer.proofs.Joined.{fills_whole}
 use Rattle.deku_writer.proofs.writer.words.push_word_onto.Goals as goal
@@ -9,6 +10,19 @@ returns-then-lay_whole-clause-pushed g c =
     let none : length h ≡ 0 = search rules in
     let fills = word_behind c.args.from c.args.to h h c.args.n c.args.word _ (inl none) c.requires.some (fills_whole c.args.to h c.args.n c.args.word none (search rules)) in
     onto_given _ _ c.args.from c.args.to h h _ _ fills (search (rules, c.lay_whole.ensures.gave))
+
+pub returns-then-n-gt64-clause-pushed : goal.returns-then-n-gt64-clause-pushed
+returns-then-n-gt64-clause-pushed g c =
+    let h = c.args.held.now in
+    let none : length h ≡ 0 = search rules in
+    let fills = word_behind c.args.from c.args.to h h c.args.n c.args.word _ (inl none) c.requires.some (fills_whole c.args.to h c.args.n c.args.word none (search rules)) in
+    on_ok_weaker c.give_whole.result (λ gave. onto_given _ _ c.args.from c.args.to h h _ _ fills gave) c.give_whole.ensures.gave
+
+pub returns-then-n-gt64-clause-fault : goal.returns-then-n-gt64-clause-fault
+returns-then-n-gt64-clause-fault g c =
+    let none : length c.args.held.now ≡ 0 = search rules in
+    let e : (length c.args.held.now + c.args.n) / 8 ≡ c.args.n / 8 = omega (arith, none) in
+    rw e c.give_whole.ensures.fault
 
 pub returns-then-lay-clause-pushed : goal.returns-then-lay-clause-pushed
 returns-then-lay-clause-pushed g c =
