@@ -14,3 +14,6 @@ returns-clause-fills c =
     rw (← bits)
     (filled_room c.new-room.result c.push_onto.new.sink begins c.args.from c.args.to c.args.held.now c.push_onto.new.held c.show.new.bits c.args.n _ c.requires.short
     (ap length bits ∙ length-shown_word c.args.to c.args.n c.args.word) tie c.in-Ok.ensures.pushed)
+
+pub unreachable-requires : goal.unreachable-requires
+unreachable-requires c = search rules

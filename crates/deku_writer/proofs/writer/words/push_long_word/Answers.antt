@@ -11,3 +11,9 @@ follow-requires g c =
     onto_rest c.args.from c.args.to c.args.held.now c.fill_long_word-next.result.1 _ _ c.requires.short fills
     ∙ ap (λ k. (length c.args.held.now + k) % 8) (length-shown_word c.args.to c.args.n c.args.word) in
     omega (arith, left, c.len-2.ensures.length)
+
+pub returns-clause-pushed : goal.returns-clause-pushed
+returns-clause-pushed g c = search rules
+
+pub returns-clause-fault : goal.returns-clause-fault
+returns-clause-fault g c = search rules
