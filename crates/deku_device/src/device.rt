@@ -186,6 +186,7 @@ impl<S: Sink> Sink for &mut S {
       health = record { failures = (S.told s.now).health.failures; lenders = s.ghost_name ∷ (S.told s.now).health.lenders; whole = (S.told s.now).health.whole };
     } };
 
+    #[inline(always)]
     fn give(&mut self, bytes: &[u8]) -> io::Result<()> {
         Sink::give(&mut **self, bytes)
     }
@@ -392,6 +393,7 @@ fn append_at(all: &[u8], at: u64, bytes: &mut Vec<u8>, n: usize) -> bool
 impl Sink for Cursor<&mut [u8]> {
     ghost told = { λ c. slice_told c };
 
+    #[inline(always)]
     fn give(&mut self, bytes: &[u8]) -> io::Result<()>
         ensures ok { OnOk result (Gave (slice_told self.old) (slice_told self.new) bytes.now) }
         ensures err { IfErr result (λ e. Declined (slice_told self.old) (slice_told self.new) (length bytes.now) (error_kind e)) }
@@ -517,7 +519,9 @@ fn put_over(all: &mut Vec<u8>, place: usize, bytes: &[u8]) -> Result<(), AllocEr
     }
 }
 
-// Writes as many of the bytes as fit over `all` from `place` on, and answers how many.
+// Writes as many of the bytes as fit over `all` from `place` on, and answers how many. It takes slices alone: so a cursor that gives by it stays in
+// registers.
+#[inline(never)]
 fn overwrite(all: &mut [u8], place: usize, bytes: &[u8]) -> usize
     ensures count { result ≡ min (length bytes.now) (length all.old - place) }
     ensures written { place ≤ length all.old → all.new ≡ take place all.old ++ take result bytes.now ++ drop (place + result) all.old }

@@ -9,17 +9,19 @@ use Rattle.deku_stream.specs.declared.ctx.Order.TheVariants.{Msb0, Lsb0}
 use Rattle.deku_stream.specs.declared.error.DekuError.{DekuError}
 use Rattle.deku_stream.specs.declared.error.DekuError.TheVariants.{InvalidParam, Io}
 use Rattle.deku_stream.specs.declared.error.Fault.{Fault}
-use Rattle.deku_stream.specs.Bits.{group_number, facing, shown}
+use Rattle.deku_stream.specs.Bits.{bin, group_number, word_of, facing, shown}
 use Rattle.deku_stream.specs.Pieces.{filled}
 use Rattle.deku_stream.specs.Writers.{Pending, Nothing, held, pending_bits, Written, cut, append, padded, finalized}
 use Rattle.deku_device.specs.Devices.{SinkTold, Gave, LacksRoom, More}
 use Rattle.deku_stream.specs.Standings.{Standing, Going, Stopped, writer_state}
 use Rattle.deku_stream.specs.Outcomes.{Quiet, Broken, Counted}
-use Rattle.deku_writer.specs.WriterCalls.{WritesAt, GivesOut, Emits, WritesBits, Finalizes}
+use Rattle.deku_writer.specs.WriterCalls.{WritesAt, GivesOut, Emits, WritesBits, WritesWord, Finalizes}
 use Rattle.deku_stream.specs.Kept.{standing_of}
 use Rattle.deku_writer.specs.Pushing.{GaveUp, PushedOnto}
-use Rattle.deku_stream.proofs.Binary.{length-facing}
+use Rattle.deku_stream.proofs.Binary.{length-facing, group_number-inj}
+use Rattle.deku_stream.proofs.Handing.{weaker}
 use Rattle.deku_stream.proofs.Shown.{shown_odd}
+use Rattle.deku_stream.proofs.Words.{word_of-short}
 use Rattle.deku_stream.proofs.Writing.{pending_bits-held}
 use Rattle.deku_stream.proofs.Appends.{count_law}
 use Rattle.deku_device.proofs.Failures.{no_fewer_same}
@@ -121,6 +123,37 @@ same_emits write other t after P c r u e m = elim m [
   | Quiet q h ↦ Quiet (subst (λ W. Counted (8 * length W.bytes) (GivesOut W) (record { taken = t.taken; room = t.room; pending = P }) c r (writer_state after u)) e q) h
   | Broken f b h ↦ Broken f b h
 ]
+
+-- a word of no more than seven bits that is 0
+zeros_number : (n : ℕ) → bin (replicate n false) ≡ 0
+zeros_number zero = refl
+zeros_number (suc n) = rw (zeros_number n) (omega arith)
+
+zeros_group : (o : Order) (n : ℕ) → group_number o (replicate n false) ≡ 0
+zeros_group Msb0 n = zeros_number n
+zeros_group Lsb0 n = ap bin (reverse-replicate n false) ∙ zeros_number n
+
+only_zeros : (o : Order) (n : ℕ) (bits : List Bool) → n < 8 → length bits ≡ n → word_of o bits ≡ 0 → bits ≡ replicate n false
+only_zeros o n bits l e w =
+    group_number-inj o bits (replicate n false) (e ∙ sym (length-replicate n false))
+    (sym (word_of-short o bits (omega (arith, l, e))) ∙ w ∙ sym (zeros_group o n))
+
+shown_none : (o : Order) → shown o [] ≡ []
+unfolding shown
+shown_none Msb0 = refl
+shown_none Lsb0 = refl
+
+any_zeros : (o : Order) (n : ℕ) → n < 8 → shown o (replicate n false) ≡ replicate n false
+any_zeros o zero l = shown_none o
+any_zeros o (suc n) l = shown_zeros o (suc n) (omega arith) l
+
+pub zeros_written : (o : Order) (n : ℕ) (t : SinkTold) (s : Standing Pending) (r : Result (Unit {0}) DekuError) (after : SinkTold) (u : Standing Pending) → n < 8
+    → WritesAt (WritesWord o n 0) t s r after u → WritesAt (WritesBits o (replicate n false)) t s r after u
+zeros_written o n t s r after u l m =
+    weaker (WritesWord o n 0) (WritesBits o (replicate n false)) (writer_state t s) t.health r (writer_state after u) after.health
+    (λ b x.
+    let zeros : shown o x.0 ≡ replicate n false = ap (shown o) (only_zeros o n x.0 l x.1 x.2) ∙ any_zeros o n l in
+    subst (λ bits. WritesBits o bits b (writer_state t s) r (writer_state after u)) zeros x.3) m
 
 pub finalizes : (o : Order) (h : List Bool) (w : ℕ) (f : Option Fault) (t after : SinkTold) (r : Result (Unit {0}) DekuError) (u : Standing Pending) → length h < 8
     → WritesAt (WritesBits o (replicate ((8 - length h) % 8) false)) t (standing_of (held o h) f w) r after u → WritesAt Finalizes t (standing_of (held o h) f w) r after u

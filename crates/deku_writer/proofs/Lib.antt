@@ -8,3 +8,4 @@ pub mod Lent
 pub mod WholeBytes
 pub mod Joined
 pub mod LongWords
+pub mod Filling

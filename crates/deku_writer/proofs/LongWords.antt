@@ -1,15 +1,16 @@
 -- A long word behind held bits, seven bytes of it at a time.
-use Rattle.std.proofs.Common.{◌≡◌, ℕ, zero, suc, ◌+◌, ◌*◌, ◌-◌, ◌/◌, ◌%◌, ◌^◌, ◌<◌, ◌≤◌, Bool, List, [], ◌∷◌, ◌++◌, length, take, arith, refl, sym, ap, ap₂, ◌∙◌, append_assoc, append-nil}
+use Rattle.std.proofs.Common.{◌≡◌, ℕ, zero, suc, ◌+◌, ◌*◌, ◌-◌, ◌/◌, ◌%◌, ◌^◌, ◌<◌, ◌≤◌, Bool, List, [], ◌∷◌, ◌++◌, length, take, arith, refl, sym, ap, ap₂, ◌∙◌, append_assoc, append-nil, length-append}
 use Rattle.std.proofs.lemmas.Nat.{shr-shr, shr_below, pow-add}
 use Rattle.deku_stream.specs.declared.ctx.Order.{Order}
 use Rattle.deku_stream.specs.declared.ctx.Order.TheVariants.{Msb0, Lsb0}
 use Rattle.deku_stream.specs.Bits.{bits_of, facing}
 use Rattle.deku_stream.specs.Streams.{flow}
 use Rattle.deku_writer.specs.Pushing.{low_bytes, word_bits, Fills}
-use Rattle.deku_stream.proofs.Cuts.{flow-append}
+use Rattle.deku_stream.proofs.Binary.{length-facing}
+use Rattle.deku_stream.proofs.Cuts.{flow-append, length-flow, length-remainder}
 use Rattle.deku_writer.proofs.Fills.{Fills-trans}
 use Rattle.deku_writer.proofs.Joined.{low_bytes-split, whole_word}
-use Rattle.deku_writer.proofs.WordsWritten.{laid_front}
+use Rattle.deku_writer.proofs.WordsWritten.{laid_front, length-low_bytes}
 
 -- what is above does not matter
 low_bytes-below : (k r q : ℕ) → low_bytes k (r + q * 2 ^ (8 * k)) ≡ low_bytes k r
@@ -86,3 +87,13 @@ module _ (o : Order) (n w p rest : ℕ) (inside : w < 2 ^ n) (few : 56 * p ≤ n
   word_ended h hs hs2 out ys zs count l long a b =
       let front : take (7 * p + count) (take (7 * p) out ++ (ys ++ zs)) ≡ take (7 * p) out ++ ys = laid_front out ys zs (7 * p) (7 * p + count) l (omega (arith, long)) in
       rw (front, word_parts) (Fills-trans o h hs hs2 (flow o (low_bytes (7 * p) w)) (word_bits o (n - 56 * p) rest) (take (7 * p) out) ys a b)
+
+-- how many bytes fill, over all parts
+pub parts_count : (o : Order) (h hs : List Bool) (n p w count : ℕ) (out : List ℕ) → length h < 8 → 56 * p ≤ n → Fills o h hs (flow o (low_bytes (7 * p) w)) out
+    → count ≡ (length hs + (n - 56 * p)) / 8 → 7 * p + count ≡ (length h + n) / 8
+parts_count o h hs n p w count out less few f is =
+    let xs : List Bool = flow o (low_bytes (7 * p) w) in
+    let long : length xs ≡ 8 * (7 * p) = length-flow o (low_bytes (7 * p) w) ∙ ap (λ k. 8 * k) (length-low_bytes (7 * p) w) in
+    let left : length hs ≡ (length h + length xs) % 8 =
+    sym (length-facing o hs) ∙ ap length f.rest ∙ length-remainder (facing o h ++ xs) ∙ ap (λ k. k % 8) (length-append (facing o h) xs ∙ ap (λ k. k + length xs) (length-facing o h)) in
+    omega (arith, less, few, long, left, is)

@@ -13,14 +13,13 @@ use Rattle.deku_stream.specs.Standings.{Standing, Stopped, writer_state}
 use Rattle.deku_stream.specs.Writers.{Pending, held}
 use Rattle.deku_writer.specs.WriterCalls.{WritesAt, WritesBits, WritesWord}
 use Rattle.deku_stream.specs.Streams.{flow}
-use Rattle.deku_writer.specs.Pushing.{low_bytes, word_bits, Fills, Pushed, GaveUp, PushedOnto}
+use Rattle.deku_writer.specs.Pushing.{low_bytes, word_bits, Fills, GaveUp, PushedOnto}
 use Rattle.deku_stream.proofs.Binary.{bin-bits_of, length-bits_of, length-facing, facing-facing}
 use Rattle.deku_stream.proofs.Cuts.{length-byte_bits, length-flow, byte-of, flow-append}
 use Rattle.deku_writer.proofs.Emits.{write_nothing, write_full, write_done, write_stopped}
 use Rattle.deku_stream.proofs.Handing.{weaker}
-use Rattle.deku_writer.proofs.Onto.{empty_onto, same_onto}
 use Rattle.deku_writer.proofs.Pushes.{filled_count}
-use Rattle.deku_stream.proofs.Shown.{length-shown, shown-shown}
+use Rattle.deku_stream.proofs.Shown.{length-shown}
 use Rattle.deku_stream.proofs.Words.{word_of-full, word_of-short}
 
 -- ---- the bytes of a number
@@ -150,14 +149,3 @@ pub word_nothing : (t : SinkTold) (from to : Order) (h : List Bool) (n w c : ℕ
 word_nothing t from to h n w c inside none l =
     word_written to n w t (standing_of (held from h) None c) (Ok tt) t (standing_of (held from h) None c) inside
     (write_nothing t from to h (shown to (word_bits to n w)) c (length-shown_word to n w ∙ none) l)
-
--- a word onto bits of the same order, or onto none
-pub word_onto_none : (a b : SinkTold) (from to : Order) (h hs : List Bool) (n w : ℕ) → length h ≡ 0 → 0 < n → Pushed a b to h hs (word_bits to n w)
-    → PushedOnto a b from to h hs (shown to (word_bits to n w))
-word_onto_none a b from to h hs n w none some m =
-    empty_onto a b from to h hs (shown to (word_bits to n w)) none (rw length-shown_word some) (subst (λ x. Pushed a b to h hs x) (sym (shown-shown to (word_bits to n w))) m)
-
-pub word_onto_same : (a b : SinkTold) (from to : Order) (h hs : List Bool) (n w : ℕ) → from ≡ to → 0 < n → Pushed a b to h hs (word_bits to n w)
-    → PushedOnto a b from to h hs (shown to (word_bits to n w))
-word_onto_same a b from to h hs n w e some m =
-    rw e (same_onto a b to h hs (shown to (word_bits to n w)) (rw length-shown_word some) (subst (λ x. Pushed a b to h hs x) (sym (shown-shown to (word_bits to n w))) m))

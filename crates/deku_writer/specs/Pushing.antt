@@ -54,6 +54,12 @@ pub record PushedOnto (old new : SinkTold) (from to : Order) (before after bits 
   pub rest : held to after ≡ (append to bits (held from before)).pending
   pub short : length after < 8
 
+-- bits were written to the held bits of an order: these bytes go out, and the rest is held in the order of the bits
+pub record FillsOnto (from to : Order) (before after bits : List Bool) (out : List ℕ) : Type 0 where
+  pub bytes : out ≡ (append to bits (held from before)).bytes
+  pub rest : held to after ≡ (append to bits (held from before)).pending
+  pub short : length after < 8
+
 -- ---- words
 -- the lowest bytes of a number, so many, the lowest first
 abbrev pub low_bytes : ℕ → ℕ → List ℕ

@@ -73,6 +73,7 @@ impl Model for Progress {
 
 impl<W: Sink> Writer<W> {
     /// A writer onto this sink, with nothing pending and no bit written. Nothing is given to the sink.
+    #[inline(always)]
     pub fn new(inner: W) -> Writer<W>
         ensures sink { result.sink ≡ inner }
         ensures state { result.state ≡ Going Nothing 0 }
@@ -84,6 +85,7 @@ impl<W: Sink> Writer<W> {
     }
 
     /// The sink, with the bytes that it was given. Pending bits are lost: call `finalize` first.
+    #[inline(always)]
     pub fn into_inner(self) -> W
         ensures { result ≡ self.sink }
     {
@@ -91,6 +93,7 @@ impl<W: Sink> Writer<W> {
     }
 
     /// How many bits were given to the sink: eight for each byte. Pending bits are not counted, nor are those of a write that failed.
+    #[inline(always)]
     pub fn bits_written(&self) -> usize
         ensures { result ≡ count_of self.now.state }
     {
@@ -197,6 +200,7 @@ impl<W: Sink> Writer<W> {
     /// nothing is pending it changes nothing.
     ///
     /// Fails as `write_bits_order` does, and leaves the same.
+    #[inline(always)]
     pub fn finalize(&mut self) -> Result<(), DekuError>
         ensures writes { Writes W.told Finalizes self.old result self.new }
         ensures stopped { Untouched self.old.state self.old.sink self.new.sink }
@@ -207,6 +211,7 @@ impl<W: Sink> Writer<W> {
 
 impl Progress {
     // So many bits are written, and nothing is pending.
+    #[inline(always)]
     fn going(bits_written: usize) -> Progress
         ensures { result ≡ Going Nothing bits_written }
     {
@@ -219,6 +224,7 @@ impl Progress {
     }
 
     // Stopped by this fault of the sink, with this count: nothing is pending.
+    #[inline(always)]
     fn stopped(kind: ErrorKind, count: usize) -> Progress
         ensures { result ≡ Stopped (Io kind) count }
     {
@@ -230,6 +236,7 @@ impl Progress {
         }
     }
 
+    #[inline(always)]
     fn bits_written(&self) -> usize
         ensures { result ≡ count_of self.now }
     {
@@ -351,14 +358,14 @@ impl Progress {
     }
 
     // Writes as many zeros as the pending bits lack to a byte.
+    #[inline(always)]
     fn finalize<W: Sink>(&mut self, sink: &mut W) -> Result<(), DekuError>
         ensures writes { WritesAt Finalizes (W.told sink.old) self.old result (W.told sink.new) self.new }
         ensures stopped { Untouched self.old sink.old sink.new }
     {
-        let zeros = [false; 8];
         let lacking = (8 - self.held.len()) % 8;
         let order = self.order;
-        self.write(sink, &zeros[..lacking], order)
+        self.write_word(sink, 0, lacking, order)
     }
 }
 

@@ -1,6 +1,6 @@
 //! Up to seven bits, packed.
 
-ghost use Rattle.std.specs.Prelude.{◌≡◌, ◌+◌, ◌-◌, ◌/◌, ◌^◌, ◌<◌, ◌≤◌, [], ◌∷◌, ◌++◌, length, take};
+ghost use Rattle.std.specs.Prelude.{◌≡◌, ◌+◌, ◌-◌, ◌/◌, ◌%◌, ◌^◌, ◌<◌, ◌≤◌, [], ◌∷◌, ◌++◌, length, take};
 ghost use Rattle.deku_stream.specs.Bits.{bits_of, byte_bits, facing};
 ghost use Rattle.deku_writer.specs.Pushing.{word_bits, Fills, given};
 
@@ -30,6 +30,7 @@ impl Model for Held {
 impl Held {
     /// No bits.
     #[tactic(auto, unfolding(deku_stream::specs::Bits::bits_of))]
+    #[inline(always)]
     pub fn new() -> Held
         ensures { result ≡ [] }
     {
@@ -57,13 +58,15 @@ impl Held {
         }
     }
 
-    /// Holds the bits of another in place of its own. Each part is set by itself: so what lies between them in memory is not moved.
+    /// Holds the bits of another, which are so many, in place of its own. Their count is the caller's, who knows it whichever way they came: so the
+    /// compiler knows it too. Each part is set by itself, so that what lies between them in memory is not moved.
     #[inline(always)]
-    pub fn replace(&mut self, next: Held)
+    pub fn follow(&mut self, next: Held, len: usize)
+        requires { len ≡ length next }
         ensures { self.new ≡ next }
     {
         self.number = next.number;
-        self.len = next.len;
+        self.len = len;
     }
 
     /// The bits, highest first, with zeros behind them.
@@ -93,6 +96,7 @@ impl Held {
         requires inside { word < 2 ^ n }
         ensures fills { Fills order self.old self.new (word_bits order n word) (take result.1 result.0) }
         ensures count { result.1 ≡ (length self.old + n) / 8 }
+        ensures rest { length self.new ≡ (length self.old + n) % 8 }
     {
         let held = self.len();
         let len = held + n;

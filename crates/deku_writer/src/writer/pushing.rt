@@ -3,6 +3,7 @@
 #![tactic(auto, using(deku_device::proofs::Wholes::onward_same))]
 
 ghost use Rattle.std.specs.Prelude.{◌≡◌, ◌<◌, ◌≤◌, ◌+◌, ◌-◌, ◌/◌, ◌%◌, Bool, List, false, min, take, drop, get_or, ◌++◌, ◌∷◌, [], length, OnOk, IfErr};
+ghost use Rattle.std.specs.IoError.{error_kind};
 ghost use Rattle.deku_stream.specs.declared.ctx.Order.TheVariants.{Msb0, Lsb0};
 ghost use Rattle.deku_writer.specs.declared.writer.way.Way.TheVariants.{BytesBackward};
 ghost use Rattle.deku_stream.specs.Bits.{shown};
@@ -13,9 +14,10 @@ use super::held::Held;
 use super::way::Way;
 use deku_device::device::Sink;
 use deku_stream::ctx::Order;
-use std::io::ErrorKind;
+use std::io::{Error, ErrorKind};
 
 /// Bytes given to the sink at once.
+#[inline(always)]
 pub fn give_out<W: Sink>(sink: &mut W, bytes: &[u8]) -> Result<(), ErrorKind>
     requires { 0 < length bytes.now }
     ensures gave { OnOk result (Gave (W.told sink.old) (W.told sink.new) bytes.now) }
@@ -23,8 +25,29 @@ pub fn give_out<W: Sink>(sink: &mut W, bytes: &[u8]) -> Result<(), ErrorKind>
 {
     match sink.give(bytes) {
         Ok(()) => Ok(()),
-        Err(e) => Err(e.kind()),
+        Err(e) => Err(kind_of(e)),
     }
+}
+
+// The kind of a sink's refusal.
+#[cold]
+#[inline(never)]
+fn kind_of(error: Error) -> ErrorKind
+    ensures { result ≡ error_kind error }
+{
+    error.kind()
+}
+
+/// Bytes given to the sink at once, where there are any.
+#[inline(always)]
+pub fn give_any<W: Sink>(sink: &mut W, bytes: &[u8]) -> Result<(), ErrorKind>
+    ensures gave { OnOk result (Gave (W.told sink.old) (W.told sink.new) bytes.now) }
+    ensures fault { IfErr result (GaveUp (W.told sink.old) (W.told sink.new) (length bytes.now)) }
+{
+    if bytes.is_empty() {
+        return Ok(());
+    }
+    give_out(sink, bytes)
 }
 
 // One more bit. The byte goes out when it is full.

@@ -4,15 +4,15 @@ ghost use Rattle.std.specs.Prelude.{◌≡◌, ◌↔◌, ◌<◌, ◌≤◌, �
 ghost use Rattle.deku_device.specs.Devices.{Gave};
 ghost use Rattle.deku_stream.specs.Bits.{bits_of, facing, shown};
 ghost use Rattle.deku_stream.specs.Streams.{flow};
-ghost use Rattle.deku_writer.specs.Pushing.{low_bytes, word_bits, Fills, Pushed, GaveUp, PushedOnto};
+ghost use Rattle.deku_writer.specs.Pushing.{low_bytes, word_bits, Fills, FillsOnto, GaveUp, PushedOnto};
 
 use super::held::Held;
-use super::pushing::{give_out, push_onto};
+use super::pushing::{give_any, give_out, push_onto};
 use deku_device::device::Sink;
 use deku_stream::byte::bits_of_byte;
 use deku_stream::ctx::Order;
 use deku_stream::turning::show;
-use std::io::ErrorKind;
+use std::io::{Cursor, ErrorKind};
 
 // Seven bytes of a word at a time through held bits, the lowest first: as many go out as come in. What is left of the word is answered.
 fn shift_word(out: &mut [u8; 16], held: &mut Held, order: Order, word: u128, parts: usize) -> u128
@@ -30,57 +30,18 @@ fn shift_word(out: &mut [u8; 16], held: &mut Held, order: Order, word: u128, par
     rest
 }
 
-// A word of n bits behind held bits: how many bytes fill.
-fn fill_word(out: &mut [u8; 16], held: &mut Held, order: Order, word: u128, n: usize) -> usize
+// A word of n bits behind held bits: the bytes that fill.
+fn fill_word(out: &mut [u8; 16], held: &mut Held, order: Order, word: u128, n: usize)
     requires some { 0 < n }
     requires short { length held.old < 8 }
     requires most { n ≤ 128 }
     requires inside { word < 2 ^ n }
-    ensures fills { Fills order held.old held.new (word_bits order n word) (take result out.new) }
-    ensures room { result ≤ 16 }
+    ensures fills { Fills order held.old held.new (word_bits order n word) (take ((length held.old + n) / 8) out.new) }
 {
     let parts = (n - 1) / 56;
     let rest = shift_word(out, held, order, word, parts);
     let (eight, count) = held.fill(order, rest as u64, n - 56 * parts);
     out[7 * parts..7 * parts + count].copy_from_slice(&eight[..count]);
-    7 * parts + count
-}
-
-// A word of whole bytes that goes out at once, the lowest byte first.
-fn give_whole<W: Sink>(sink: &mut W, word: u128, n: usize) -> Result<(), ErrorKind>
-    requires some { 0 < n }
-    requires whole { n % 8 ≡ 0 }
-    requires most { n ≤ 128 }
-    ensures gave { OnOk result (Gave (W.told sink.old) (W.told sink.new) (low_bytes (n / 8) word)) }
-    ensures fault { IfErr result (GaveUp (W.told sink.old) (W.told sink.new) (n / 8)) }
-{
-    give_out(sink, &word.to_le_bytes()[..n / 8])
-}
-
-// A word of n bits onto bits of the same order. The bytes that fill go out at once.
-fn push_word<W: Sink>(
-    sink: &mut W,
-    held: &mut Held,
-    order: Order,
-    word: u128,
-    n: usize,
-) -> Result<(), ErrorKind>
-    requires some { 0 < n }
-    requires short { length held.old < 8 }
-    requires most { n ≤ 128 }
-    requires inside { word < 2 ^ n }
-    ensures pushed { OnOk result (Pushed (W.told sink.old) (W.told sink.new) order held.old held.new (word_bits order n word)) }
-    ensures fault { IfErr result (GaveUp (W.told sink.old) (W.told sink.new) ((length held.old + n) / 8)) }
-{
-    if held.len() == 0 && n % 8 == 0 {
-        return give_whole(sink, word, n);
-    }
-    let mut out = [0; 16];
-    let count = fill_word(&mut out, held, order, word, n);
-    if count == 0 {
-        return Ok(());
-    }
-    give_out(sink, &out[..count])
 }
 
 // The bits of a group of at most eight, as the order meets them.
@@ -132,9 +93,61 @@ fn is_behind(held: &Held, from: Order, to: Order) -> bool
     held.len() == 0 || is_same(from, to)
 }
 
-// A word of n bits onto the held bits of an order, of any length and onto any sink.
+// A word of n bits onto held bits of an order, which may be the other one: the bytes that fill.
+fn fill_other(
+    out: &mut [u8],
+    held: &mut Held,
+    from: Order,
+    to: Order,
+    word: u128,
+    n: usize,
+)
+    requires some { 0 < n }
+    requires short { length held.old < 8 }
+    requires most { n ≤ 128 }
+    requires inside { word < 2 ^ n }
+    requires room { 16 ≤ length out.old }
+    ensures fills { FillsOnto from to held.old held.new (shown to (word_bits to n word)) (take ((length held.old + n) / 8) out.new) }
+    ensures len { length out.new ≡ length out.old }
+{
+    let mut bits = [false; 128];
+    bits_of_word(&mut bits, to, word, n);
+    let bits = &mut bits[..n];
+    show(bits, to);
+    let mut room = Cursor::new(out);
+    match push_onto(&mut room, held, from, to, bits) {
+        Ok(()) => {}
+        Err(_) => unreachable!(),
+    }
+}
+
+// A word of n bits onto the held bits of an order, of any length: the bytes that fill, the first of sixteen, and the bits that are held then. It
+// takes and answers values alone, so that a caller's writer stays in registers.
 #[cold]
 #[inline(never)]
+fn fill_long_word(held: Held, from: Order, to: Order, word: u128, n: usize) -> ([u8; 16], Held)
+    requires some { 0 < n }
+    requires short { length held < 8 }
+    requires most { n ≤ 128 }
+    requires inside { word < 2 ^ n }
+    ensures fills { FillsOnto from to held result.1 (shown to (word_bits to n word)) (take ((length held + n) / 8) result.0) }
+{
+    let mut next = held;
+    if next.len() == 0 && n % 8 == 0 {
+        return (word.to_le_bytes(), next);
+    }
+    let mut out = [0; 16];
+    if is_behind(&next, from, to) {
+        fill_word(&mut out, &mut next, to, word, n);
+        return (out, next);
+    }
+    fill_other(&mut out, &mut next, from, to, word, n);
+    (out, next)
+}
+
+// A word of n bits onto the held bits of an order, of any length and onto any sink. It is inlined, so that its place for the bytes is cleared where
+// they are asked for, and the call that asks for them is cold.
+#[inline(always)]
 fn push_long_word<W: Sink>(
     sink: &mut W,
     held: &mut Held,
@@ -150,17 +163,23 @@ fn push_long_word<W: Sink>(
     ensures pushed { OnOk result (PushedOnto (W.told sink.old) (W.told sink.new) from to held.old held.new (shown to (word_bits to n word))) }
     ensures fault { IfErr result (GaveUp (W.told sink.old) (W.told sink.new) ((length held.old + n) / 8)) }
 {
-    if held.len() == 0 {
-        return push_word(sink, held, to, word, n);
-    }
-    if is_same(from, to) {
-        return push_word(sink, held, to, word, n);
-    }
-    let mut bits = [false; 128];
-    bits_of_word(&mut bits, to, word, n);
-    let bits = &mut bits[..n];
-    show(bits, to);
-    push_onto(sink, held, from, to, bits)
+    let filled = (held.len() + n) / 8;
+    let behind = (held.len() + n % 8) % 8;
+    let (bytes, next) = fill_long_word(held.copy(), from, to, word, n);
+    held.follow(next, behind);
+    give_any(sink, &bytes[..filled])
+}
+
+// A word of whole bytes that goes out at once, the lowest byte first.
+#[inline(always)]
+fn give_whole<W: Sink>(sink: &mut W, word: u128, n: usize) -> Result<(), ErrorKind>
+    requires some { 0 < n }
+    requires whole { n % 8 ≡ 0 }
+    requires most { n ≤ 128 }
+    ensures gave { OnOk result (Gave (W.told sink.old) (W.told sink.new) (low_bytes (n / 8) word)) }
+    ensures fault { IfErr result (GaveUp (W.told sink.old) (W.told sink.new) (n / 8)) }
+{
+    give_out(sink, &word.to_le_bytes()[..n / 8])
 }
 
 // A word of at most eight whole bytes, the lowest first, where the sink has room for eight bytes at hand, and whether it has.
@@ -175,7 +194,7 @@ fn lay_whole<W: Sink>(sink: &mut W, word: u64, n: usize) -> bool
 }
 
 /// A word of n bits onto the held bits of an order. Where they have at most 64 bits together, and the sink has room for eight bytes at hand, they
-/// are laid there.
+/// are laid there. Longer words of whole bytes that meet none held are given as they are.
 #[inline(always)]
 pub fn push_word_onto<W: Sink>(
     sink: &mut W,
@@ -192,15 +211,19 @@ pub fn push_word_onto<W: Sink>(
     ensures pushed { OnOk result (PushedOnto (W.told sink.old) (W.told sink.new) from to held.old held.new (shown to (word_bits to n word))) }
     ensures fault { IfErr result (GaveUp (W.told sink.old) (W.told sink.new) ((length held.old + n) / 8)) }
 {
-    if held.len() == 0 && n % 8 == 0 && n <= 64 {
+    if held.len() == 0 && n % 8 == 0 {
+        if n > 64 {
+            return give_whole(sink, word, n);
+        }
         if lay_whole(sink, word as u64, n) {
             return Ok(());
         }
     } else if held.len() + n <= 64 && is_behind(held, from, to) {
+        let left = (held.len() + n % 8) % 8;
         let mut next = held.copy();
         let (eight, count) = next.fill(to, word as u64, n);
         if sink.lay(eight, count) {
-            held.replace(next);
+            held.follow(next, left);
             return Ok(());
         }
     }

@@ -11,6 +11,7 @@ impl<Ctx: Copy, T: DekuWriter<Ctx>> DekuWriter<Ctx> for &T {
 
     ghost meaning = { λ v c. T.meaning v.now c };
 
+    #[inline(always)]
     fn to_writer<W: Sink>(&self, writer: &mut Writer<W>, ctx: Ctx) -> Result<(), DekuError> {
         (**self).to_writer(writer, ctx)
     }

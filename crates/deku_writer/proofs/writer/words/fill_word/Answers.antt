@@ -1,8 +1,7 @@
 use Rattle.std.proofs.Common.{◌≡◌, ◌<◌, ◌≤◌, ◌*◌, ◌-◌, ◌/◌, ◌^◌, length, arith, rules}
 use Rattle.deku_writer.proofs.Joined.{fits_word}
-use Rattle.deku_writer.proofs.LongWords.{rest_below, word_ended}
+use Rattle.deku_writer.proofs.LongWords.{rest_below, word_ended, parts_count}
 use Rattle.deku_writer.proofs.writer.words.fill_word.Goals as goal
-
 pub overflow_cast-rest : goal.overflow_cast-rest
 overflow_cast-rest c =
     let p = (c.args.n - 1) / 56 in
@@ -14,11 +13,15 @@ pub fill-count-requires-clause-inside : goal.fill-count-requires-clause-inside
 fill-count-requires-clause-inside c =
     rest_below c.args.order c.args.n c.args.word ((c.args.n - 1) / 56) c.shift_word-rest.result c.requires.inside (omega (arith, c.requires.some)) c.shift_word-rest.ensures.rest
 
-pub returns-clause-fills : goal.returns-clause-fills
-returns-clause-fills c =
+pub returns : goal.returns
+returns c =
     let p = (c.args.n - 1) / 56 in
     let long : length c.copy_from_slice.new.self ≡ c.fill-count.result.1 = search rules in
     let room : 7 * ((c.args.n - 1) / 56) ≤ length c.shift_word-rest.new.out = search rules in
+    let filled =
     word_ended c.args.order c.args.n c.args.word p c.shift_word-rest.result c.requires.inside (omega (arith, c.requires.some)) c.shift_word-rest.ensures.rest
     c.args.held.now c.shift_word-rest.new.held c.fill-count.new.self c.shift_word-rest.new.out c.copy_from_slice.new.self _ c.fill-count.result.1 room long
-    c.shift_word-rest.ensures.fills (rw c.copy_from_slice.ensures.after c.fill-count.ensures.fills)
+    c.shift_word-rest.ensures.fills (rw c.copy_from_slice.ensures.after c.fill-count.ensures.fills) in
+    let count = parts_count c.args.order c.args.held.now c.shift_word-rest.new.held c.args.n p c.args.word c.fill-count.result.1 _ c.requires.short (omega (arith, c.requires.some))
+    c.shift_word-rest.ensures.fills c.fill-count.ensures.count in
+    record { fills = rw (← count) filled }

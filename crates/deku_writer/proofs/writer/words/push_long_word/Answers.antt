@@ -1,17 +1,19 @@
-use Rattle.std.proofs.Common.{◌≡◌, arith, rules}
+use Rattle.std.proofs.Common.{◌≡◌, ◌+◌, ◌/◌, ◌%◌, ◌∙◌, length, ap, arith, rules}
 use Rattle.std.proofs.lemmas.Result.{on_ok_weaker}
-use Rattle.deku_writer.proofs.WordsWritten.{word_onto_none, word_onto_same}
+use Rattle.deku_writer.proofs.Filling.{onto_given, onto_count, onto_rest}
+use Rattle.deku_writer.proofs.WordsWritten.{length-shown_word}
 use Rattle.deku_writer.proofs.writer.words.push_long_word.Goals as goal
 
-pub returns-then-len-eq0-clause-pushed : goal.returns-then-len-eq0-clause-pushed
-returns-then-len-eq0-clause-pushed g c =
-    on_ok_weaker c.push_word.result
-    (λ m. word_onto_none _ _ c.args.from c.args.to c.args.held.now _ c.args.n c.args.word (omega arith) c.requires.some m)
-    c.push_word.ensures.pushed
+pub follow-requires : goal.follow-requires
+follow-requires g c =
+    let fills = rw c.copy.ensures at c.fill_long_word-next.ensures.fills in
+    let left : length c.fill_long_word-next.result.1 ≡ (length c.args.held.now + c.args.n) % 8 =
+    onto_rest c.args.from c.args.to c.args.held.now c.fill_long_word-next.result.1 _ _ c.requires.short fills
+    ∙ ap (λ k. (length c.args.held.now + k) % 8) (length-shown_word c.args.to c.args.n c.args.word) in
+    omega (arith, left, c.len-2.ensures.length)
 
-pub returns-then-is_same-clause-pushed : goal.returns-then-is_same-clause-pushed
-returns-then-is_same-clause-pushed g c =
-    let e : c.args.from ≡ c.args.to = search rules in
-    on_ok_weaker c.push_word-then-is_same.result
-    (λ m. word_onto_same _ _ c.args.from c.args.to c.args.held.now _ c.args.n c.args.word e c.requires.some m)
-    c.push_word-then-is_same.ensures.pushed
+pub returns-clause-pushed : goal.returns-clause-pushed
+returns-clause-pushed g c = search rules
+
+pub returns-clause-fault : goal.returns-clause-fault
+returns-clause-fault g c = search rules

@@ -14,6 +14,10 @@ join_word-joined-requires-clause-first c =
 pub returns-clause-count : goal.returns-clause-count
 returns-clause-count c = ap (λ x. (x + c.args.n) / 8) c.len-held.ensures.length
 
+pub returns-clause-rest : goal.returns-clause-rest
+returns-clause-rest c =
+    length-bits_of ((c.len-held.result + c.args.n) % 8) c.cut_word-behind.result.1 ∙ ap (λ x. (x + c.args.n) % 8) c.len-held.ensures.length
+
 pub returns-clause-fills : goal.returns-clause-fills
 returns-clause-fills c =
     let k = (c.len-held.result + c.args.n) / 8 in

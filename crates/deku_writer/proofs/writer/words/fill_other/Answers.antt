@@ -1,0 +1,19 @@
+use Rattle.std.proofs.Common.{◌≡◌, ◌∙◌, length, ap, rules}
+use Rattle.deku_stream.specs.Bits.{shown}
+use Rattle.deku_writer.specs.Pushing.{word_bits}
+use Rattle.deku_writer.proofs.Filling.{filled_room, same_room}
+use Rattle.deku_writer.proofs.WordsWritten.{length-shown_word}
+use Rattle.deku_writer.proofs.writer.words.fill_other.Goals as goal
+
+pub returns-clause-fills : goal.returns-clause-fills
+returns-clause-fills c =
+    let begins = c.new-room.ensures.position in
+    let same = same_room c.new-room.result c.push_onto.new.sink begins _ c.in-Ok.ensures.pushed.gave in
+    let tie = c.out-1.given.1.1 (search (rules, same)) in
+    let bits : c.show.new.bits ≡ shown c.args.to (word_bits c.args.to c.args.n c.args.word) = search (rules, c.show.ensures, c.bits_of_word.ensures) in
+    rw (← bits)
+    (filled_room c.new-room.result c.push_onto.new.sink begins c.args.from c.args.to c.args.held.now c.push_onto.new.held c.show.new.bits c.args.n _ c.requires.short
+    (ap length bits ∙ length-shown_word c.args.to c.args.n c.args.word) tie c.in-Ok.ensures.pushed)
+
+pub unreachable-requires : goal.unreachable-requires
+unreachable-requires c = search rules
