@@ -159,3 +159,30 @@ fn sources_with_nothing_at_hand_fail_as_they_fetch(rt: HostRuntime) -> Result<()
     }
     Ok(())
 }
+
+// Bits that are read in turn from the highest down, so many of them, and the number that is wanted where they are unread or at hand.
+const HIGH: [(usize, Option<u64>); 7] = [
+    (12, Some(0xABC)),
+    (0, Some(0)),
+    (4, Some(0xD)),
+    (16, Some(0xEF01)),
+    (3, Some(1)),
+    (5, Some(3)),
+    (8, None),
+];
+
+#[test]
+fn reads_high_bits_at_hand(rt: HostRuntime) -> Result<(), Fail> {
+    let bytes = [
+        0xAB, 0xCD, 0xEF, 0x01, 0x23, 0x45, 0x67, 0x89, 0x0A, 0xBC, 0xDE, 0xF0,
+    ];
+    let mut reader = Reader::new(rt.alloc(), Cursor::new(bytes.as_slice()));
+    for (n, want) in HIGH {
+        assert!(rt; n <= 64);
+        let got = reader.high_at_hand(n);
+        assert!(rt; got == want, "{n} bits: {got:?}, and not {want:?}");
+    }
+    assert!(rt; reader.bits_read() == 40);
+    assert!(rt; reader.read_word(8, Msb0) == Ok(0x45));
+    Ok(())
+}
