@@ -94,14 +94,7 @@ fn is_behind(held: &Held, from: Order, to: Order) -> bool
 }
 
 // A word of n bits onto held bits of an order, which may be the other one: the bytes that fill.
-fn fill_other(
-    out: &mut [u8],
-    held: &mut Held,
-    from: Order,
-    to: Order,
-    word: u128,
-    n: usize,
-)
+fn fill_other(out: &mut [u8], held: &mut Held, from: Order, to: Order, word: u128, n: usize)
     requires some { 0 < n }
     requires short { length held.old < 8 }
     requires most { n ≤ 128 }

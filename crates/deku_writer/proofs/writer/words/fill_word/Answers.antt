@@ -2,6 +2,7 @@ use Rattle.std.proofs.Common.{◌≡◌, ◌<◌, ◌≤◌, ◌*◌, ◌-◌, �
 use Rattle.deku_writer.proofs.Joined.{fits_word}
 use Rattle.deku_writer.proofs.LongWords.{rest_below, word_ended, parts_count}
 use Rattle.deku_writer.proofs.writer.words.fill_word.Goals as goal
+
 pub overflow_cast-rest : goal.overflow_cast-rest
 overflow_cast-rest c =
     let p = (c.args.n - 1) / 56 in

@@ -30,3 +30,6 @@ returns-then-lay-clause-pushed g c =
     let filled = rw c.copy-next.ensures at c.fill-count.ensures.fills in
     let fills = word_behind c.args.from c.args.to c.args.held.now c.fill-count.new.self c.args.n c.args.word _ behind c.requires.some filled in
     rw c.follow.ensures (onto_given _ _ c.args.from c.args.to c.args.held.now c.fill-count.new.self _ _ fills (search (rules, c.lay.ensures.gave)))
+
+pub follow-requires : goal.follow-requires
+follow-requires g c = search rules
