@@ -9,8 +9,6 @@ use std::io::{Cursor, ErrorKind};
 use std::process::Abort;
 use std::test::Fail;
 
-const NO_MEMORY: DekuError = DekuError::Io(ErrorKind::OutOfMemory);
-
 // What was got is what was wanted, in the row of this name.
 pub fn same<T: PartialEq + Debug>(rt: &impl Abort, row: &impl Debug, got: &T, want: &T) {
     assert!(rt; *got == *want, "{row:?}: {got:?}, and not {want:?}");
@@ -289,21 +287,6 @@ fn writes_over_slices(rt: HostRuntime) {
         &(answer, page),
         &(Ok(2), [0xBE, 0xEF, 0xA5]),
     );
-}
-
-// Where memory is refused, that is what is answered.
-#[test]
-fn memory_for_what_is_written(rt: HostRuntime) {
-    let alloc = rt.alloc();
-    let low = Low { value: 5 };
-    match bytes_of(alloc, &low) {
-        Ok(bytes) => same(&rt, &low, &bytes.as_slice(), &[5].as_slice()),
-        Err(refusal) => same(&rt, &low, &refusal, &NO_MEMORY),
-    }
-    match bits_of(alloc, &low) {
-        Ok(bits) => same(&rt, &low, &bits.as_slice(), &[true, false, true].as_slice()),
-        Err(refusal) => same(&rt, &low, &refusal, &NO_MEMORY),
-    }
 }
 
 // The bytes are read as the value, to the last one, and it is written as them.

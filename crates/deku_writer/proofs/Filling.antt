@@ -1,17 +1,16 @@
 -- Bits onto held bits, without a sink: the bytes that fill, and a sink that takes them then.
-use Rattle.std.proofs.Common.{◌≡◌, ◌⊎◌, inl, inr, ⊎_elim, ℕ, zero, suc, ◌+◌, ◌*◌, ◌-◌, ◌/◌, ◌%◌, ◌<◌, ◌≤◌, Bool, true, false, List, [], ◌∷◌, ◌++◌, length, take, drop, MutBor, Option, Some, None, nat_le, if◌then◌else◌, refl, sym, ap, ap₂, ◌∙◌, arith, subst, length-drop}
+use Rattle.std.proofs.Common.{◌≡◌, ◌⊎◌, ⊎_elim, ℕ, zero, suc, ◌+◌, ◌*◌, ◌/◌, ◌%◌, ◌<◌, Bool, true, false, List, [], ◌∷◌, ◌++◌, length, take, MutBor, Some, None, nat_le, if◌then◌else◌, refl, sym, ap, ap₂, ◌∙◌, arith, subst}
 use Rattle.std.proofs.Math.Dec.{leb-zero}
 use Rattle.std.specs.Borrow.{GName}
 use Rattle.std.specs.Io.KnownBytes.{Appends}
 use Rattle.std.specs.Io.Cursor.{cursor_position, cursor_inner}
 use Rattle.std.specs.declared.io.Cursor.{Cursor}
-use Rattle.std.specs.declared.io.ErrorKind.{ErrorKind}
 use Rattle.deku_stream.specs.declared.ctx.Order.{Order}
 use Rattle.deku_stream.specs.Bits.{facing, shown}
 use Rattle.deku_stream.specs.Writers.{held, pending_bits, cut, append}
 use Rattle.deku_device.specs.Cursors.{slice_told}
 use Rattle.deku_device.specs.Devices.{SinkTold, Gave, bytes_before}
-use Rattle.deku_writer.specs.Pushing.{word_bits, Fills, FillsOnto, GaveUp, PushedOnto}
+use Rattle.deku_writer.specs.Pushing.{word_bits, Fills, FillsOnto, PushedOnto}
 use Rattle.deku_stream.proofs.Appends.{count_law}
 use Rattle.deku_stream.proofs.Binary.{facing-facing}
 use Rattle.deku_stream.proofs.Shown.{shown-shown}
@@ -100,9 +99,3 @@ module _ (c d : Cursor (MutBor (List ℕ))) (begins : cursor_position c ≡ 0) w
 
   pub same_room : (bytes : List ℕ) → Gave (slice_told c) (slice_told d) bytes → (cursor_inner d).ghost_name ≡ (cursor_inner c).ghost_name
   same_room bytes g = one_name (cursor_inner d).ghost_name (cursor_inner c).ghost_name g.health.lenders
-
-  pub never_refused : (n : ℕ) (k : ErrorKind) → n ≤ length (cursor_inner c).now → GaveUp (slice_told c) (slice_told d) n k → ⊥
-  never_refused n k fits f = elim f.declined.cause [
-    | inl more ↦ omega (arith, more.failures)
-    | inr lacks ↦ omega (arith, lacks.1, begins, fits, length-drop (cursor_position c) (cursor_inner c).now)
-  ]

@@ -1,6 +1,5 @@
-use Rattle.std.proofs.Common.{◌≡◌, ◌+◌, ◌/◌, ◌%◌, ◌∙◌, length, ap, arith, rules}
-use Rattle.std.proofs.lemmas.Result.{on_ok_weaker}
-use Rattle.deku_writer.proofs.Filling.{onto_given, onto_count, onto_rest}
+use Rattle.std.proofs.Common.{◌≡◌, ◌+◌, ◌%◌, ◌∙◌, length, ap, arith, rules}
+use Rattle.deku_writer.proofs.Filling.{onto_rest}
 use Rattle.deku_writer.proofs.WordsWritten.{length-shown_word}
 use Rattle.deku_writer.proofs.writer.words.push_long_word.Goals as goal
 

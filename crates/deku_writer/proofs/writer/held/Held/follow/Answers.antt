@@ -1,4 +1,4 @@
-use Rattle.std.proofs.Common.{◌≡◌, ◌∙◌, length, sym, ap, arith}
+use Rattle.std.proofs.Common.{◌≡◌, ◌∙◌, length, sym, ap}
 use Rattle.deku_stream.specs.Bits.{bits_of}
 use Rattle.deku_stream.proofs.Binary.{length-bits_of}
 use Rattle.deku_writer.proofs.writer.held.Held.follow.Goals as goal
