@@ -1,5 +1,5 @@
 use Rattle.std.proofs.Common.{rules, arith}
-use Rattle.std.proofs.lemmas.Grind.{common_steps}
+use Rattle.std.proofs.lemmas.Grind.{common_steps, elements}
 use Rattle.deku_device.proofs.device.append_at.Goals as goal
 
 pub returns-then-n-eq0-clause-fits : goal.returns-then-n-eq0-clause-fits
@@ -52,3 +52,21 @@ returns-clause-held c = grind (arith, common_steps)
 
 pub returns-clause-count : goal.returns-clause-count
 returns-clause-count c = search rules
+
+pub overflow_sub-all : goal.overflow_sub-all
+overflow_sub-all c = search rules
+
+pub overflow_add-at : goal.overflow_add-at
+overflow_add-at c = search rules
+
+pub slice_bounds-extend_from_slice-count : goal.slice_bounds-extend_from_slice-count
+slice_bounds-extend_from_slice-count c = search rules
+
+pub slice_bounds-extend_from_slice-start : goal.slice_bounds-extend_from_slice-start
+slice_bounds-extend_from_slice-start c = search rules
+
+pub slice_bounds-extend_from_slice-end : goal.slice_bounds-extend_from_slice-end
+slice_bounds-extend_from_slice-end c = search rules
+
+pub returns-clause-bytes : goal.returns-clause-bytes
+returns-clause-bytes c = grind (arith, elements)

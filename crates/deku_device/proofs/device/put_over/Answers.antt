@@ -29,3 +29,15 @@ returns-in_err-resize-clause-holds c = search (rules, onward_same, read_onward, 
 
 pub returns-in_err-resize-clause-written : goal.returns-in_err-resize-clause-written
 returns-in_err-resize-clause-written c = search (rules, onward_same, read_onward, nowhere, slice_onward, vector_onward)
+
+pub overflow_sub-len : goal.overflow_sub-len
+overflow_sub-len c = search rules
+
+pub slice_bounds-extend_from_slice-count : goal.slice_bounds-extend_from_slice-count
+slice_bounds-extend_from_slice-count c = search rules
+
+pub slice_bounds-extend_from_slice-start : goal.slice_bounds-extend_from_slice-start
+slice_bounds-extend_from_slice-start c = search rules
+
+pub slice_bounds-extend_from_slice-end : goal.slice_bounds-extend_from_slice-end
+slice_bounds-extend_from_slice-end c = search rules

@@ -25,3 +25,9 @@ returns-clause-written c = grind (arith, common_steps)
 
 pub returns-clause-place : goal.returns-clause-place
 returns-clause-place c = grind (arith, common_steps)
+
+pub slice_bounds-overwrite-end : goal.slice_bounds-overwrite-end
+slice_bounds-overwrite-end c = search rules
+
+pub overflow_add-place : goal.overflow_add-place
+overflow_add-place c = search rules

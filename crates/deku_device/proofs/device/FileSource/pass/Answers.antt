@@ -18,3 +18,6 @@ returns-clause-failed c = search rules
 
 pub returns-clause-kept : goal.returns-clause-kept
 returns-clause-kept c = search rules
+
+pub overflow_cast-n : goal.overflow_cast-n
+overflow_cast-n c = search rules

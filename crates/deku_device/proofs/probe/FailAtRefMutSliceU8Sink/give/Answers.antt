@@ -1,3 +1,4 @@
+use Rattle.std.proofs.lemmas.Grind.{common_steps}
 use Rattle.std.proofs.Common.{rules, arith, ◌≡◌, ◌-◌, ◌+◌, ◌≤◌, length, take, inl, inr}
 use Rattle.std.proofs.lemmas.List.{take_more, length-take}
 use Rattle.std.proofs.lemmas.Result.{err_from_is_err_and}
@@ -51,3 +52,39 @@ loop-byte-preserved c = record {
   counted = search rules;
   fails = search rules;
 }
+
+pub loop-byte-init : goal.loop-byte-init
+loop-byte-init c = search rules
+
+pub returns-clause-ok : goal.returns-clause-ok
+returns-clause-ok c = grind (arith, common_steps)
+
+pub returns-clause-err : goal.returns-clause-err
+returns-clause-err c = search rules
+
+pub returns-clause-counted : goal.returns-clause-counted
+returns-clause-counted c = search rules
+
+pub returns-clause-fails : goal.returns-clause-fails
+returns-clause-fails c = search rules
+
+pub returns-clause-kind : goal.returns-clause-kind
+returns-clause-kind c = search rules
+
+pub returns-clause-still : goal.returns-clause-still
+returns-clause-still c = search rules
+
+pub returns-clause-place : goal.returns-clause-place
+returns-clause-place c = search rules
+
+pub returns-clause-failed_place : goal.returns-clause-failed_place
+returns-clause-failed_place c = search rules
+
+pub returns-clause-full_place : goal.returns-clause-full_place
+returns-clause-full_place c = search rules
+
+pub returns-clause-full : goal.returns-clause-full
+returns-clause-full c = search rules
+
+pub returns-clause-waits : goal.returns-clause-waits
+returns-clause-waits c = search rules

@@ -13,3 +13,6 @@ returns-clause-err c = search rules
 
 pub returns-clause-bytes : goal.returns-clause-bytes
 returns-clause-bytes c = grind (arith, common_steps)
+
+pub slice_bounds-fetch-end : goal.slice_bounds-fetch-end
+slice_bounds-fetch-end c = search rules

@@ -12,3 +12,9 @@ returns-clause-one c = search rules
 
 pub returns-clause-ok : goal.returns-clause-ok
 returns-clause-ok c = search rules
+
+pub slice_bounds-read-end : goal.slice_bounds-read-end
+slice_bounds-read-end c = search rules
+
+pub slice_bounds-read-end-2 : goal.slice_bounds-read-end-2
+slice_bounds-read-end-2 c = search rules
