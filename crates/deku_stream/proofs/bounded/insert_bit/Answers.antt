@@ -1,4 +1,5 @@
-use Rattle.std.proofs.Common.{◌≡◌, ◌+◌, ◌-◌, ◌*◌, ◌∷◌, suc, Bool, List, length, get_or, take, drop, false, refl, ap, sym, ◌∙◌, arith, length-drop}
+use Rattle.std.proofs.lemmas.Grind.{common_steps}
+use Rattle.std.proofs.Common.{Bool, List, ap, arith, drop, false, get_or, length, length-drop, refl, rules, suc, sym, take, ◌*◌, ◌+◌, ◌-◌, ◌∙◌, ◌∷◌, ◌≡◌}
 use Rattle.std.proofs.lemmas.List.{length-take-le, get_or-take, get_or-drop, take_all}
 use Rattle.deku_stream.specs.Bits.{bits_in, overlaid}
 use Rattle.deku_stream.proofs.BitPlaces.{length-bits_in}
@@ -34,3 +35,27 @@ returns-clause-bits c =
     let count : length tail ≡ n = length-take-le n (drop c.args.at F) (omega (arith, length-drop c.args.at F)) in
     lays_more F c.args.at (c.args.bit ∷ tail) i c.args.len _ _ _ (c.loop-i.invariant.1) (c.put_bit-2.ensures.bits) (omega arith) (c.loop-i.invariant.2) (omega arith) (omega arith)
     ∙ ap (overlaid F c.args.at) (take_all (i + 1) (c.args.bit ∷ tail) (omega arith))
+
+pub overflow_sub-i-end : goal.overflow_sub-i-end
+overflow_sub-i-end c = search rules
+
+pub loop-i-init : goal.loop-i-init
+loop-i-init c = grind (arith, common_steps)
+
+pub overflow_add-at : goal.overflow_add-at
+overflow_add-at c = search rules
+
+pub bit_at-next-requires : goal.bit_at-next-requires
+bit_at-next-requires c = search rules
+
+pub overflow_add-at-in-loop-i : goal.overflow_add-at-in-loop-i
+overflow_add-at-in-loop-i c = search rules
+
+pub put_bit-requires : goal.put_bit-requires
+put_bit-requires c = search rules
+
+pub put_bit-requires-2 : goal.put_bit-requires-2
+put_bit-requires-2 c = search rules
+
+pub returns-clause-len : goal.returns-clause-len
+returns-clause-len c = search rules

@@ -1,4 +1,4 @@
-use Rattle.std.proofs.Common.{◌≡◌, ◌+◌, ◌*◌, ◌%◌, ◌≤◌, ◌++◌, length, reverse, flat_map, arith, ◌∙◌, sym, ap₂, append-nil}
+use Rattle.std.proofs.Common.{append-nil, ap₂, arith, flat_map, length, reverse, rules, sym, ◌%◌, ◌*◌, ◌++◌, ◌+◌, ◌∙◌, ◌≡◌, ◌≤◌}
 use Rattle.std.proofs.lemmas.List.{take_all, drop_all}
 use Rattle.deku_stream.specs.Bits.{chunks}
 use Rattle.deku_stream.proofs.Shown.{shown_whole, shown_other, turned_more}
@@ -23,3 +23,12 @@ loop-group-preserved c =
     let at = 8 * c.loop-group.group in
     let next : 8 * (c.loop-group.group + 1) ≡ at + 8 = omega arith in
     rw (next, c.reverse_group.ensures) (turned_more bits at (omega arith) ∙ c.loop-group.invariant)
+
+pub loop-group-init : goal.loop-group-init
+loop-group-init c = search rules
+
+pub overflow_mul-group : goal.overflow_mul-group
+overflow_mul-group c = search rules
+
+pub reverse_group-requires : goal.reverse_group-requires
+reverse_group-requires c = search rules

@@ -33,3 +33,24 @@ pub returns-clause-cut : goal.returns-clause-cut
 returns-clause-cut c =
     let w = how_many c.self.inside.len c.self.inside.bits c.args.self.now c.self.view_is in
     (across_high_is c.self.inside.len c.self.inside.bits c.args.count c.args.eight c.args.self.now c.self.view_is c.self.invariant.1 (omega (arith, w, c.requires.short)) (omega (arith, w, c.requires.more)) c.requires.few (search rules)).1
+
+pub overflow_sub-above : goal.overflow_sub-above
+overflow_sub-above c = search rules
+
+pub overflow_shl-held : goal.overflow_shl-held
+overflow_shl-held c = search rules
+
+pub overflow_sub-rest : goal.overflow_sub-rest
+overflow_sub-rest c = search rules
+
+pub overflow_shl-rest : goal.overflow_shl-rest
+overflow_shl-rest c = search rules
+
+pub nonzero_rem-rest : goal.nonzero_rem-rest
+nonzero_rem-rest c = search rules
+
+pub overflow_cast-self : goal.overflow_cast-self
+overflow_cast-self c = search rules
+
+pub invariant_of-self : goal.invariant_of-self
+invariant_of-self c = search rules

@@ -20,3 +20,27 @@ returns-clause-cut c =
     let all : All IsByte c.args.eight.now = All-from_get_or IsByte c.args.eight.now 0 (λ i inside. c.fits-eight i) in
     high_across c.args.self.now c.across_high.new.self c.args.eight.now c.args.count c.across_high.result (omega arith) all c.requires.more c.requires.few
     (rw c.from_be_bytes-number.ensures at c.across_high.ensures.cut)
+
+pub overflow_sub-result : goal.overflow_sub-result
+overflow_sub-result c = search rules
+
+pub overflow_shr-result : goal.overflow_shr-result
+overflow_shr-result c = search rules
+
+pub same-self : goal.same-self
+same-self c = search rules
+
+pub same-self-2 : goal.same-self-2
+same-self-2 c = search rules
+
+pub across_high-requires-clause-short : goal.across_high-requires-clause-short
+across_high-requires-clause-short c = search rules
+
+pub across_high-requires-clause-more : goal.across_high-requires-clause-more
+across_high-requires-clause-more c = search rules
+
+pub across_high-requires-clause-few : goal.across_high-requires-clause-few
+across_high-requires-clause-few c = search rules
+
+pub returns-clause-below : goal.returns-clause-below
+returns-clause-below c = search rules

@@ -1,4 +1,4 @@
-use Rattle.std.proofs.Common.{arith, refl, ◌≤◌, ◌-◌}
+use Rattle.std.proofs.Common.{arith, refl, rules, ◌-◌, ◌≤◌}
 use Rattle.deku_stream.proofs.Windows.{how_many, low_taken, low_left}
 use Rattle.deku_stream.proofs.window.Window.take_low.Goals as goal
 
@@ -19,3 +19,6 @@ returns c =
     let w = c.self.inside in
     low_taken c.args.count w.len (w.len - c.args.count) w.bits c.split-high.result.0 c.split-high.result.1 c.args.self.now
     c.self.view_is c.requires refl (c.split-high.ensures.high) (c.split-high.ensures.low)
+
+pub split-high-requires-clause-below : goal.split-high-requires-clause-below
+split-high-requires-clause-below c = search rules
