@@ -10,3 +10,9 @@ returns-else-n-eq128 c = grind (arith, common_steps)
 
 pub returns-then-n-lt64 : goal.returns-then-n-lt64
 returns-then-n-lt64 c = search rules
+
+pub narrow_power-requires : goal.narrow_power-requires
+narrow_power-requires c = search rules
+
+pub overflow_shl-result : goal.overflow_shl-result
+overflow_shl-result c = search rules

@@ -1,5 +1,5 @@
 -- Below zero the lowest bits are those of all ones without those of what is missing to minus one.
-use Rattle.std.proofs.Common.{◌≡◌, ◌≤◌, ◌<◌, ◌-◌, ◌%◌, ◌^◌, ℕ, ℤ, negsuc, ap, ap₂, sym, ◌∙◌, arith, mod-lt}
+use Rattle.std.proofs.Common.{ap, ap₂, arith, mod-lt, negsuc, rules, sym, ℕ, ℤ, ◌%◌, ◌-◌, ◌<◌, ◌^◌, ◌∙◌, ◌≡◌, ◌≤◌}
 use mir.Syntax.{w128}
 use Rattle.std.proofs.lemmas.Int.{to_z-of_z}
 use Rattle.std.proofs.lemmas.Nat.{pow_pos}
@@ -24,3 +24,21 @@ pub returns-else-value-ge0 : goal.returns-else-value-ge0
 returns-else-value-ge0 c =
     taken_off c.args.value c.args.n c.below_zero.result _ _ c.requires (sym (to_z-of_z w128 c.args.value (c.ranges.value)) ∙ c.below_zero.ensures)
     (c.low_bits-else-value-ge0.ensures) (c.low_bits-else-value-ge0-2.ensures)
+
+pub overflow_cast-value : goal.overflow_cast-value
+overflow_cast-value c = search rules
+
+pub low_bits-requires : goal.low_bits-requires
+low_bits-requires c = search rules
+
+pub low_bits-requires-else-value-ge0 : goal.low_bits-requires-else-value-ge0
+low_bits-requires-else-value-ge0 c = search rules
+
+pub below_zero-requires : goal.below_zero-requires
+below_zero-requires c = search rules
+
+pub low_bits-requires-else-value-ge0-2 : goal.low_bits-requires-else-value-ge0-2
+low_bits-requires-else-value-ge0-2 c = search rules
+
+pub returns-then-value-ge0 : goal.returns-then-value-ge0
+returns-then-value-ge0 c = search rules

@@ -29,3 +29,21 @@ returns-clause-word c =
       | else-not-is_cut-via-else-not-is_cut w ↦ absurd (search rules)
     ])
     is
+
+pub residue_of-wanted-requires : goal.residue_of-wanted-requires
+residue_of-wanted-requires c = search rules
+
+pub signed_of-requires-clause-wide : goal.signed_of-requires-clause-wide
+signed_of-requires-clause-wide c = search rules
+
+pub signed_of-requires-clause-below : goal.signed_of-requires-clause-below
+signed_of-requires-clause-below c = search rules
+
+pub returns-then-signed_of-value-clause-word : goal.returns-then-signed_of-value-clause-word
+returns-then-signed_of-value-clause-word c = search rules
+
+pub word_of_number-requires : goal.word_of_number-requires
+word_of_number-requires c = search rules
+
+pub returns-clause-none : goal.returns-clause-none
+returns-clause-none c = search rules

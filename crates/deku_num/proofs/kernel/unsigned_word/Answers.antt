@@ -29,3 +29,18 @@ returns-clause-word c =
     let h = rw c.requires.wide at (c.is_within.ensures.0 (search rules)) in
     let is = rw c.requires.wide at c.word_of_number.ensures in
     unsigned_word_for c.args.number_type c.args.layout c.args.value c.if-is_cut.wanted c.word_of_number.result c.requires.unsigned m h is
+
+pub low_bits-wanted-requires : goal.low_bits-wanted-requires
+low_bits-wanted-requires c = search rules
+
+pub is_within-requires : goal.is_within-requires
+is_within-requires c = search rules
+
+pub returns-then-not-is_within-clause-word : goal.returns-then-not-is_within-clause-word
+returns-then-not-is_within-clause-word c = search rules
+
+pub word_of_number-requires : goal.word_of_number-requires
+word_of_number-requires c = search rules
+
+pub returns-clause-none : goal.returns-clause-none
+returns-clause-none c = search rules

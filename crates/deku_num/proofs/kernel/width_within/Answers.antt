@@ -18,3 +18,6 @@ returns-else-bits-number_type-clause-some c = search rules
 
 pub returns-else-bits-number_type-clause-none : goal.returns-else-bits-number_type-clause-none
 returns-else-bits-number_type-clause-none c = search rules
+
+pub overflow_mul-bits : goal.overflow_mul-bits
+overflow_mul-bits c = search rules

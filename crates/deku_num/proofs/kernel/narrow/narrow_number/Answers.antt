@@ -1,4 +1,4 @@
-use Rattle.std.proofs.Common.{◌∙◌, arith}
+use Rattle.std.proofs.Common.{arith, rules, ◌∙◌}
 use Rattle.deku_num.proofs.Turned.{word_is, low_turned}
 use Rattle.deku_num.proofs.Narrow.{one_group}
 use Rattle.deku_num.proofs.kernel.narrow.narrow_number.Goals as goal
@@ -16,3 +16,21 @@ pub returns-in-Big-Lsb0 : goal.returns-in-Big-Lsb0
 returns-in-Big-Lsb0 c = λ s l e.
     rw (c.in-Big-Lsb0.is-0, c.in-Big-Lsb0.is-1)
     (c.turned.ensures.value ∙ low_turned s c.args.word c.div_ceil.result (omega arith) (omega arith) (rw c.in-Big-Lsb0.is-1 at e))
+
+pub number_of_high-requires-clause-more : goal.number_of_high-requires-clause-more
+number_of_high-requires-clause-more c = search rules
+
+pub number_of_high-requires-clause-few : goal.number_of_high-requires-clause-few
+number_of_high-requires-clause-few c = search rules
+
+pub number_of_high-requires-clause-fits : goal.number_of_high-requires-clause-fits
+number_of_high-requires-clause-fits c = search rules
+
+pub div_ceil-requires : goal.div_ceil-requires
+div_ceil-requires c = search rules
+
+pub turned-requires-clause-some : goal.turned-requires-clause-some
+turned-requires-clause-some c = search rules
+
+pub turned-requires-clause-few : goal.turned-requires-clause-few
+turned-requires-clause-few c = search rules

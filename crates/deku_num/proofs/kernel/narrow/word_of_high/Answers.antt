@@ -1,4 +1,4 @@
-use Rattle.std.proofs.Common.{◌∙◌, ◌*◌, ◌+◌, ◌/◌, ◌%◌, ◌^◌, ap, refl, arith}
+use Rattle.std.proofs.Common.{ap, arith, refl, rules, ◌%◌, ◌*◌, ◌+◌, ◌/◌, ◌^◌, ◌∙◌}
 use Rattle.std.proofs.lemmas.Nat.{one_shl, mod_below, pow_pos}
 use Rattle.deku_num.proofs.Turned.{high_back, both_back, back_fits}
 use Rattle.deku_num.proofs.kernel.narrow.word_of_high.Goals as goal
@@ -23,3 +23,30 @@ returns c = λ s l e.
     rw (one_shl r 64 (omega arith), h.0)
     (ap (λ x. x + c.args.number % 2 ^ r * 2 ^ (8 * q)) c.turned-2.ensures.value
     ∙ both_back s c.args.number q r _ _ (omega arith) (omega arith) (omega arith) (omega arith) e refl refl)
+
+pub turned-requires-clause-some : goal.turned-requires-clause-some
+turned-requires-clause-some c = search rules
+
+pub turned-requires-clause-few : goal.turned-requires-clause-few
+turned-requires-clause-few c = search rules
+
+pub overflow_shl-last : goal.overflow_shl-last
+overflow_shl-last c = search rules
+
+pub nonzero_rem-last : goal.nonzero_rem-last
+nonzero_rem-last c = search rules
+
+pub overflow_shr-number : goal.overflow_shr-number
+overflow_shr-number c = search rules
+
+pub turned-requires-2-clause-some : goal.turned-requires-2-clause-some
+turned-requires-2-clause-some c = search rules
+
+pub turned-requires-2-clause-few : goal.turned-requires-2-clause-few
+turned-requires-2-clause-few c = search rules
+
+pub overflow_mul-result : goal.overflow_mul-result
+overflow_mul-result c = search rules
+
+pub overflow_shl-result : goal.overflow_shl-result
+overflow_shl-result c = search rules
