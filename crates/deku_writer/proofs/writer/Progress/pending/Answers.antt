@@ -12,3 +12,9 @@ returns-clause-few c = search rules
 
 pub returns-clause-nothing : goal.returns-clause-nothing
 returns-clause-nothing c = search rules
+
+pub returns-then-is_some-clause-few : goal.returns-then-is_some-clause-few
+returns-then-is_some-clause-few c = search rules
+
+pub returns-then-is_some-clause-nothing : goal.returns-then-is_some-clause-nothing
+returns-then-is_some-clause-nothing c = search rules

@@ -1,4 +1,4 @@
-use Rattle.std.proofs.Common.{arith}
+use Rattle.std.proofs.Common.{arith, rules}
 use Rattle.deku_stream.specs.declared.ctx.Order.TheVariants.{Msb0}
 use Rattle.deku_writer.proofs.Fills.{Fills-nil}
 use Rattle.deku_writer.proofs.WholeBytes.{shifted_more, shifted_all}
@@ -14,3 +14,12 @@ loop-i-preserved c =
 pub returns-clause-fills : goal.returns-clause-fills
 returns-clause-fills c =
     shifted_all c.args.held.now c.loop-i.held c.args.bytes.now c.loop-i.out c.loop-i.i c.loop-i-test.false (omega arith) c.loop-i.invariant
+
+pub bounds-bytes-i : goal.bounds-bytes-i
+bounds-bytes-i c = search rules
+
+pub bounds-out-i : goal.bounds-out-i
+bounds-out-i c = search rules
+
+pub returns-clause-len : goal.returns-clause-len
+returns-clause-len c = search rules

@@ -12,3 +12,18 @@ overflow_cast-result c =
 
 pub returns-clause-inside : goal.returns-clause-inside
 returns-clause-inside c = last_below c.args.n c.args.joined c.requires.inside
+
+pub returns-then-n-eq64-clause-number : goal.returns-then-n-eq64-clause-number
+returns-then-n-eq64-clause-number c = search rules
+
+pub returns-then-n-eq64-clause-inside : goal.returns-then-n-eq64-clause-inside
+returns-then-n-eq64-clause-inside c = search rules
+
+pub overflow_mul-result : goal.overflow_mul-result
+overflow_mul-result c = search rules
+
+pub overflow_shr-result : goal.overflow_shr-result
+overflow_shr-result c = search rules
+
+pub returns-clause-number : goal.returns-clause-number
+returns-clause-number c = search rules

@@ -35,3 +35,24 @@ returns-clause-bits c =
     let wide : c.swap_bytes.result < 2 ^ 64 = search rules in
     rw (front_shifted c.args.n c.args.word c.swap_bytes.result c.requires.most c.requires.inside wide, c.swap_bytes.ensures)
     (high_word c.args.n c.args.word c.requires.most c.requires.inside)
+
+pub returns-then-n-lt8-clause-inside : goal.returns-then-n-lt8-clause-inside
+returns-then-n-lt8-clause-inside c = search rules
+
+pub overflow_mul-front : goal.overflow_mul-front
+overflow_mul-front c = search rules
+
+pub overflow_sub-front : goal.overflow_sub-front
+overflow_sub-front c = search rules
+
+pub overflow_shr-front : goal.overflow_shr-front
+overflow_shr-front c = search rules
+
+pub overflow_shl-result : goal.overflow_shl-result
+overflow_shl-result c = search rules
+
+pub overflow_mul-result : goal.overflow_mul-result
+overflow_mul-result c = search rules
+
+pub overflow_shr-result : goal.overflow_shr-result
+overflow_shr-result c = search rules

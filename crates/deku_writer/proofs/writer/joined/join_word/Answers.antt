@@ -1,4 +1,4 @@
-use Rattle.std.proofs.Common.{◌+◌, ◌∙◌, ◌++◌, ap, sym, arith}
+use Rattle.std.proofs.Common.{ap, arith, rules, sym, ◌++◌, ◌+◌, ◌∙◌}
 use Rattle.std.proofs.lemmas.Nat.{shl_whole}
 use Rattle.deku_stream.specs.declared.ctx.Order.TheVariants.{Lsb0}
 use Rattle.deku_stream.specs.Bits.{bits_of, facing}
@@ -42,3 +42,18 @@ returns-in-Lsb0-clause-bits c =
     rw (c.in-Lsb0.is, shl_whole c.args.word c.args.n c.args.a 64 c.requires.word (omega (arith, c.requires.most)))
     (join_low c.args.a c.args.n c.args.first c.args.word c.requires.first c.requires.word
     ∙ ap (λ s. facing Lsb0 (bits_of c.args.a c.args.first) ++ s) (sym (low_word c.args.n c.args.word)))
+
+pub high_number-number-requires-clause-most : goal.high_number-number-requires-clause-most
+high_number-number-requires-clause-most c = search rules
+
+pub high_number-number-requires-clause-inside : goal.high_number-number-requires-clause-inside
+high_number-number-requires-clause-inside c = search rules
+
+pub returns-then-a-eq0-clause-inside : goal.returns-then-a-eq0-clause-inside
+returns-then-a-eq0-clause-inside c = search rules
+
+pub overflow_shl-result : goal.overflow_shl-result
+overflow_shl-result c = search rules
+
+pub overflow_shl-result-in-Lsb0 : goal.overflow_shl-result-in-Lsb0
+overflow_shl-result-in-Lsb0 c = search rules

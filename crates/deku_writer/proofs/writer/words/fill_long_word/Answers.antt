@@ -20,3 +20,36 @@ pub returns-then-is_behind : goal.returns-then-is_behind
 returns-then-is_behind c =
     let behind : (length c.args.held ≡ 0) ⊎ (c.args.from ≡ c.args.to) = search rules in
     record { fills = word_behind c.args.from c.args.to c.args.held _ c.args.n c.args.word _ behind c.requires.some c.fill_word.ensures.fills }
+
+pub fill_word-requires-clause-some : goal.fill_word-requires-clause-some
+fill_word-requires-clause-some c = search rules
+
+pub fill_word-requires-clause-short : goal.fill_word-requires-clause-short
+fill_word-requires-clause-short c = search rules
+
+pub fill_word-requires-clause-most : goal.fill_word-requires-clause-most
+fill_word-requires-clause-most c = search rules
+
+pub fill_word-requires-clause-inside : goal.fill_word-requires-clause-inside
+fill_word-requires-clause-inside c = search rules
+
+pub slice_bounds-fill_other-end : goal.slice_bounds-fill_other-end
+slice_bounds-fill_other-end c = search rules
+
+pub fill_other-requires-clause-some : goal.fill_other-requires-clause-some
+fill_other-requires-clause-some c = search rules
+
+pub fill_other-requires-clause-short : goal.fill_other-requires-clause-short
+fill_other-requires-clause-short c = search rules
+
+pub fill_other-requires-clause-most : goal.fill_other-requires-clause-most
+fill_other-requires-clause-most c = search rules
+
+pub fill_other-requires-clause-inside : goal.fill_other-requires-clause-inside
+fill_other-requires-clause-inside c = search rules
+
+pub fill_other-requires-clause-room : goal.fill_other-requires-clause-room
+fill_other-requires-clause-room c = search rules
+
+pub returns : goal.returns
+returns c = search rules

@@ -17,3 +17,21 @@ returns-clause-fills c =
 
 pub unreachable-requires : goal.unreachable-requires
 unreachable-requires c = search rules
+
+pub bits_of_word-requires-clause-most : goal.bits_of_word-requires-clause-most
+bits_of_word-requires-clause-most c = search rules
+
+pub bits_of_word-requires-clause-inside : goal.bits_of_word-requires-clause-inside
+bits_of_word-requires-clause-inside c = search rules
+
+pub slice_bounds-bits-end : goal.slice_bounds-bits-end
+slice_bounds-bits-end c = search rules
+
+pub slice_bounds-bits-end-2 : goal.slice_bounds-bits-end-2
+slice_bounds-bits-end-2 c = search rules
+
+pub push_onto-requires-clause-short : goal.push_onto-requires-clause-short
+push_onto-requires-clause-short c = search rules
+
+pub push_onto-requires-clause-some : goal.push_onto-requires-clause-some
+push_onto-requires-clause-some c = search rules

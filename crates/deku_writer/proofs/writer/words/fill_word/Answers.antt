@@ -1,3 +1,4 @@
+use Rattle.std.proofs.lemmas.Grind.{common_steps}
 use Rattle.std.proofs.Common.{◌≡◌, ◌<◌, ◌≤◌, ◌*◌, ◌-◌, ◌/◌, ◌^◌, length, arith, rules}
 use Rattle.deku_writer.proofs.Joined.{fits_word}
 use Rattle.deku_writer.proofs.LongWords.{rest_below, word_ended, parts_count}
@@ -26,3 +27,48 @@ returns c =
     let count = parts_count c.args.order c.args.held.now c.shift_word-rest.new.held c.args.n p c.args.word c.fill-count.result.1 _ c.requires.short (omega (arith, c.requires.some))
     c.shift_word-rest.ensures.fills c.fill-count.ensures.count in
     record { fills = rw (← count) filled }
+
+pub overflow_sub-parts : goal.overflow_sub-parts
+overflow_sub-parts c = search rules
+
+pub shift_word-rest-requires-clause-short : goal.shift_word-rest-requires-clause-short
+shift_word-rest-requires-clause-short c = search rules
+
+pub shift_word-rest-requires-clause-room : goal.shift_word-rest-requires-clause-room
+shift_word-rest-requires-clause-room c = search rules
+
+pub overflow_mul-parts : goal.overflow_mul-parts
+overflow_mul-parts c = search rules
+
+pub overflow_sub-n : goal.overflow_sub-n
+overflow_sub-n c = search rules
+
+pub fill-count-requires-clause-some : goal.fill-count-requires-clause-some
+fill-count-requires-clause-some c = search rules
+
+pub fill-count-requires-clause-most : goal.fill-count-requires-clause-most
+fill-count-requires-clause-most c = grind (arith, common_steps)
+
+pub overflow_mul-parts-2 : goal.overflow_mul-parts-2
+overflow_mul-parts-2 c = search rules
+
+pub overflow_mul-parts-3 : goal.overflow_mul-parts-3
+overflow_mul-parts-3 c = search rules
+
+pub overflow_add-parts : goal.overflow_add-parts
+overflow_add-parts c = grind (arith, common_steps)
+
+pub slice_bounds-copy_from_slice-count : goal.slice_bounds-copy_from_slice-count
+slice_bounds-copy_from_slice-count c = search rules
+
+pub slice_bounds-copy_from_slice-start : goal.slice_bounds-copy_from_slice-start
+slice_bounds-copy_from_slice-start c = search rules
+
+pub slice_bounds-copy_from_slice-end : goal.slice_bounds-copy_from_slice-end
+slice_bounds-copy_from_slice-end c = grind (arith, common_steps)
+
+pub slice_bounds-eight-end : goal.slice_bounds-eight-end
+slice_bounds-eight-end c = grind (arith, common_steps)
+
+pub slice_bounds-copy_from_slice-end-2 : goal.slice_bounds-copy_from_slice-end-2
+slice_bounds-copy_from_slice-end-2 c = grind (arith, common_steps)

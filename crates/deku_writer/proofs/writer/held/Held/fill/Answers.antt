@@ -1,4 +1,4 @@
-use Rattle.std.proofs.Common.{◌≡◌, ◌<◌, ◌+◌, ◌/◌, ◌%◌, ◌∙◌, length, take, sym, ap, arith, mod-lt}
+use Rattle.std.proofs.Common.{ap, arith, length, mod-lt, rules, sym, take, ◌%◌, ◌+◌, ◌/◌, ◌<◌, ◌∙◌, ◌≡◌}
 use Rattle.std.proofs.lemmas.List.Elements.{All-take}
 use Rattle.deku_stream.specs.Bits.{bits_of}
 use Rattle.deku_stream.proofs.Binary.{length-bits_of}
@@ -28,3 +28,30 @@ returns-clause-fills c =
     rw (← front)
     (fills_bytes c.args.order _ _ _ (take k c.cut_word-behind.result.0) (sym c.join_word-joined.ensures.bits ∙ c.cut_word-behind.ensures.bits)
     (All-take IsByte k c.cut_word-behind.result.0 c.cut_word-behind.ensures.bytes) short)
+
+pub overflow_add-len : goal.overflow_add-len
+overflow_add-len c = search rules
+
+pub join_word-joined-requires-clause-short : goal.join_word-joined-requires-clause-short
+join_word-joined-requires-clause-short c = search rules
+
+pub join_word-joined-requires-clause-some : goal.join_word-joined-requires-clause-some
+join_word-joined-requires-clause-some c = search rules
+
+pub join_word-joined-requires-clause-most : goal.join_word-joined-requires-clause-most
+join_word-joined-requires-clause-most c = search rules
+
+pub join_word-joined-requires-clause-word : goal.join_word-joined-requires-clause-word
+join_word-joined-requires-clause-word c = search rules
+
+pub cut_word-behind-requires-clause-some : goal.cut_word-behind-requires-clause-some
+cut_word-behind-requires-clause-some c = search rules
+
+pub cut_word-behind-requires-clause-most : goal.cut_word-behind-requires-clause-most
+cut_word-behind-requires-clause-most c = search rules
+
+pub cut_word-behind-requires-clause-inside : goal.cut_word-behind-requires-clause-inside
+cut_word-behind-requires-clause-inside c = search rules
+
+pub invariant_of-self : goal.invariant_of-self
+invariant_of-self c = search rules
