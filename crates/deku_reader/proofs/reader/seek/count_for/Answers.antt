@@ -36,3 +36,6 @@ returns-in-Start-eq0-2-clause-some c = search rules
 
 pub returns-in-Start-eq0-2-clause-none : goal.returns-in-Start-eq0-2-clause-none
 returns-in-Start-eq0-2-clause-none c = search rules
+
+pub overflow_cast-offset : goal.overflow_cast-offset
+overflow_cast-offset c = search rules

@@ -9,3 +9,6 @@ returns-then-self-amt c = search rules
 
 pub returns : goal.returns
 returns c = search rules
+
+pub overflow_sub-amt : goal.overflow_sub-amt
+overflow_sub-amt c = search rules

@@ -1,4 +1,5 @@
-use Rattle.std.proofs.Common.{◌++◌, ◌∙◌, sym, ap₂, arith}
+use Rattle.std.proofs.lemmas.Grind.{elements}
+use Rattle.std.proofs.Common.{ap₂, arith, rules, sym, ◌++◌, ◌∙◌}
 use Rattle.std.proofs.lemmas.List.Elements.{All-append}
 use Rattle.deku_stream.specs.Bits.{facing}
 use Rattle.deku_stream.specs.Streams.{flow}
@@ -17,3 +18,24 @@ returns-clause-bits c =
 
 pub returns-clause-bytes : goal.returns-clause-bytes
 returns-clause-bytes c = All-append IsByte c.exchange_eights.new.dst c.exchange_each.new.dst c.exchange_eights.ensures.bytes c.exchange_each.ensures.bytes
+
+pub returns-then-len-eq0-clause-bytes : goal.returns-then-len-eq0-clause-bytes
+returns-then-len-eq0-clause-bytes c = grind (arith, elements)
+
+pub returns-then-len-eq0-clause-len : goal.returns-then-len-eq0-clause-len
+returns-then-len-eq0-clause-len c = search rules
+
+pub overflow_mul-dst : goal.overflow_mul-dst
+overflow_mul-dst c = search rules
+
+pub exchange_eights-requires : goal.exchange_eights-requires
+exchange_eights-requires c = search rules
+
+pub both_followed-dst : goal.both_followed-dst
+both_followed-dst c = search rules
+
+pub slice_back_joined-dst : goal.slice_back_joined-dst
+slice_back_joined-dst c = search rules
+
+pub returns-clause-len : goal.returns-clause-len
+returns-clause-len c = search rules

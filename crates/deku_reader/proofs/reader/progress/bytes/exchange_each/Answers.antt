@@ -1,4 +1,5 @@
-use Rattle.std.proofs.Common.{◌<◌, ◌∙◌, length, take, arith, refl}
+use Rattle.std.proofs.lemmas.Grind.{common_steps}
+use Rattle.std.proofs.Common.{arith, length, refl, rules, take, ◌<◌, ◌∙◌}
 use Rattle.std.proofs.lemmas.List.{take_more_set}
 use Rattle.std.proofs.lemmas.List.Elements.{All-push}
 use Rattle.deku_stream.proofs.Bytes.{IsByte}
@@ -16,3 +17,15 @@ loop-byte-preserved c =
       bytes = rw take_more_set (All-push IsByte (take i c.loop-byte.dst) c.exchange.result c.loop-byte.invariant.bytes (omega arith));
       len = c.exchange.ensures.len ∙ c.loop-byte.invariant.len;
     }
+
+pub loop-byte-init : goal.loop-byte-init
+loop-byte-init c = search rules
+
+pub returns-clause-bits : goal.returns-clause-bits
+returns-clause-bits c = grind (arith, common_steps)
+
+pub returns-clause-bytes : goal.returns-clause-bytes
+returns-clause-bytes c = grind (arith, common_steps)
+
+pub returns-clause-len : goal.returns-clause-len
+returns-clause-len c = search rules

@@ -9,3 +9,9 @@ returns-clause-bytes c = search rules
 
 pub returns-clause-len : goal.returns-clause-len
 returns-clause-len c = search rules
+
+pub slice_bounds-copy_from_slice-end : goal.slice_bounds-copy_from_slice-end
+slice_bounds-copy_from_slice-end c = search rules
+
+pub slice_bounds-copy_from_slice-end-2 : goal.slice_bounds-copy_from_slice-end-2
+slice_bounds-copy_from_slice-end-2 c = search rules

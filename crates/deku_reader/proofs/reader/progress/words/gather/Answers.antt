@@ -1,4 +1,4 @@
-use Rattle.std.proofs.Common.{◌≡◌, ◌/◌, length, take, arith, refl}
+use Rattle.std.proofs.Common.{arith, length, refl, rules, take, ◌/◌, ◌≡◌}
 use Rattle.std.proofs.lemmas.List.{length-take}
 use Rattle.deku_reader.proofs.WordsRead.{gather_even, gather_more}
 use Rattle.deku_reader.proofs.reader.progress.words.gather.Goals as goal
@@ -18,3 +18,24 @@ returns-else-count-gt0 c =
     let long : length c.exchange_all.new.dst ≡ q = omega (arith, width) in
     gather_even c.args.order c.args.window.now c.exchange_all.new.window c.args.dst.now c.exchange_all.new.dst c.args.count q
     refl (omega arith) c.requires.short c.requires.room long c.exchange_all.ensures.bytes c.exchange_all.ensures.bits
+
+pub slice_bounds-exchange_all-end : goal.slice_bounds-exchange_all-end
+slice_bounds-exchange_all-end c = search rules
+
+pub slice_bounds-exchange_all-end-2 : goal.slice_bounds-exchange_all-end-2
+slice_bounds-exchange_all-end-2 c = search rules
+
+pub bounds-dst-whole : goal.bounds-dst-whole
+bounds-dst-whole c = search rules
+
+pub last_group-requires-clause-window : goal.last_group-requires-clause-window
+last_group-requires-clause-window c = search rules
+
+pub last_group-requires-clause-some : goal.last_group-requires-clause-some
+last_group-requires-clause-some c = search rules
+
+pub last_group-requires-clause-few : goal.last_group-requires-clause-few
+last_group-requires-clause-few c = search rules
+
+pub bounds-dst-whole-then-count-gt0 : goal.bounds-dst-whole-then-count-gt0
+bounds-dst-whole-then-count-gt0 c = search rules
