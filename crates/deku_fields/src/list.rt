@@ -2,10 +2,10 @@
 
 ghost use Rattle.std.specs.Prelude.{◌≡◌, ◌↔◌, ◌<◌, ◌≤◌, ◌^◌, ◌-◌, IsTrue, pos, neg_ℤ, ◌≤ℤ◌, ◌<ℤ◌, false, IfSome};
 ghost use Rattle.deku_num.specs.Numbers.{sized_width, cuts};
-ghost use Rattle.deku_fields.specs.Items.{number_type};
+ghost use Rattle.deku_fields.specs.Items.{number_type, field_width, IsAllowedField};
 ghost use Rattle.deku_fields.specs.ListCalls.{IsOfKind};
 
-use deku::ctx::{Layout, Size};
+use deku::ctx::{Endian, Layout, Order, Size};
 use deku::kind::NumberType;
 
 /// The type of a whole number.
@@ -76,9 +76,9 @@ impl Kind {
     }
 }
 
-// Whether a number has at most so many bits.
+/// Whether a number has at most so many bits.
 #[inline(always)]
-fn is_below(value: u128, bits: usize) -> bool
+pub(crate) fn is_below(value: u128, bits: usize) -> bool
     requires { bits ≤ 128 }
     ensures { IsTrue result ↔ (value < 2 ^ bits) }
 {
@@ -115,6 +115,27 @@ pub(crate) fn plain_width(number_type: NumberType, size: Size) -> Option<usize>
         Size::Bits(bits) if bits <= number_type.bits => Some(bits),
         _ => None,
     }
+}
+
+/// How many bits a field without a sign has that is big and `Msb0`, where they are at most 64 and its layout is not refused.
+#[inline(always)]
+pub(crate) fn high_width(field: &Field) -> Option<usize>
+    ensures unsigned { IfSome result (λ n. (number_type field.now.kind).signed ≡ false) }
+    ensures big { IfSome result (λ n. field.now.layout.endian ≡ Endian.Big) }
+    ensures high { IfSome result (λ n. field.now.layout.order ≡ Order.Msb0) }
+    ensures whole { IfSome result (λ n. cuts field.now.layout.size ≡ false) }
+    ensures wide { IfSome result (λ n. n ≡ field_width field.now) }
+    ensures few { IfSome result (λ n. n ≤ 64) }
+    ensures allowed { IfSome result (λ n. IsAllowedField field.now) }
+{
+    let (Endian::Big, Order::Msb0) = (field.layout.endian, field.layout.order) else {
+        return None;
+    };
+    if field.kind.is_signed() {
+        return None;
+    }
+    let width = plain_width(field.kind.number_type(), field.layout.size)?;
+    if width <= 64 { Some(width) } else { None }
 }
 
 /// A whole number: of an unsigned kind, or of a signed one.
