@@ -52,6 +52,23 @@ impl Kind {
         }
     }
 
+    // The bits of its type, where that has no sign and at most 64 of them.
+    #[inline(always)]
+    fn narrow_bits(self) -> Option<usize>
+        ensures unsigned { IfSome result (λ n. (number_type self).signed ≡ false) }
+        ensures bits { IfSome result (λ n. n ≡ (number_type self).bits) }
+        ensures few { IfSome result (λ n. n ≤ 64) }
+    {
+        match self {
+            Kind::U8 => Some(8),
+            Kind::U16 => Some(16),
+            Kind::U32 => Some(32),
+            Kind::U64 | Kind::Usize => Some(64),
+            Kind::U128 => None,
+            Kind::I8 | Kind::I16 | Kind::I32 | Kind::I64 | Kind::I128 | Kind::Isize => None,
+        }
+    }
+
     /// Whether a number is one of its own: with a sign or without, as it has one or not, and in its range.
     #[inline(always)]
     pub fn holds(self, number: Number) -> bool
@@ -131,11 +148,12 @@ pub(crate) fn high_width(field: &Field) -> Option<usize>
     let (Endian::Big, Order::Msb0) = (field.layout.endian, field.layout.order) else {
         return None;
     };
-    if field.kind.is_signed() {
-        return None;
+    let bits = field.kind.narrow_bits()?;
+    match field.layout.size {
+        Size::Whole => Some(bits),
+        Size::Bits(width) if width <= bits => Some(width),
+        _ => None,
     }
-    let width = plain_width(field.kind.number_type(), field.layout.size)?;
-    if width <= 64 { Some(width) } else { None }
 }
 
 /// A whole number: of an unsigned kind, or of a signed one.
