@@ -19,6 +19,8 @@ macro_rules! calls {
 calls! {
     dk_heads_read(): u8 => Head;
     dk_heads_write(): Head => u8;
+    dk_inlined_heads_read(): u8 => Head;
+    dk_inlined_heads_write(): Head => u8;
     dk_lone_heads_read(): u8 => Head;
     dk_lone_heads_write(): Head => u8;
     dk_quads_read(): u8 => Quad;

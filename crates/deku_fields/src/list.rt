@@ -2,10 +2,10 @@
 
 ghost use Rattle.std.specs.Prelude.{◌≡◌, ◌↔◌, ◌<◌, ◌≤◌, ◌^◌, ◌-◌, IsTrue, pos, neg_ℤ, ◌≤ℤ◌, ◌<ℤ◌, false, IfSome};
 ghost use Rattle.deku_num.specs.Numbers.{sized_width, cuts};
-ghost use Rattle.deku_fields.specs.Items.{number_type};
+ghost use Rattle.deku_fields.specs.Items.{number_type, field_width, IsAllowedField};
 ghost use Rattle.deku_fields.specs.ListCalls.{IsOfKind};
 
-use deku::ctx::{Layout, Size};
+use deku::ctx::{Endian, Layout, Order, Size};
 use deku::kind::NumberType;
 
 /// The type of a whole number.
@@ -52,6 +52,23 @@ impl Kind {
         }
     }
 
+    // The bits of its type, where that has no sign and at most 64 of them.
+    #[inline(always)]
+    fn narrow_bits(self) -> Option<usize>
+        ensures unsigned { IfSome result (λ n. (number_type self).signed ≡ false) }
+        ensures bits { IfSome result (λ n. n ≡ (number_type self).bits) }
+        ensures few { IfSome result (λ n. n ≤ 64) }
+    {
+        match self {
+            Kind::U8 => Some(8),
+            Kind::U16 => Some(16),
+            Kind::U32 => Some(32),
+            Kind::U64 | Kind::Usize => Some(64),
+            Kind::U128 => None,
+            Kind::I8 | Kind::I16 | Kind::I32 | Kind::I64 | Kind::I128 | Kind::Isize => None,
+        }
+    }
+
     /// Whether a number is one of its own: with a sign or without, as it has one or not, and in its range.
     #[inline(always)]
     pub fn holds(self, number: Number) -> bool
@@ -76,9 +93,9 @@ impl Kind {
     }
 }
 
-// Whether a number has at most so many bits.
+/// Whether a number has at most so many bits.
 #[inline(always)]
-fn is_below(value: u128, bits: usize) -> bool
+pub(crate) fn is_below(value: u128, bits: usize) -> bool
     requires { bits ≤ 128 }
     ensures { IsTrue result ↔ (value < 2 ^ bits) }
 {
@@ -113,6 +130,28 @@ pub(crate) fn plain_width(number_type: NumberType, size: Size) -> Option<usize>
     match size {
         Size::Whole => Some(number_type.bits),
         Size::Bits(bits) if bits <= number_type.bits => Some(bits),
+        _ => None,
+    }
+}
+
+/// How many bits a field without a sign has that is big and `Msb0`, where they are at most 64 and its layout is not refused.
+#[inline(always)]
+pub(crate) fn high_width(field: &Field) -> Option<usize>
+    ensures unsigned { IfSome result (λ n. (number_type field.now.kind).signed ≡ false) }
+    ensures big { IfSome result (λ n. field.now.layout.endian ≡ Endian.Big) }
+    ensures high { IfSome result (λ n. field.now.layout.order ≡ Order.Msb0) }
+    ensures whole { IfSome result (λ n. cuts field.now.layout.size ≡ false) }
+    ensures wide { IfSome result (λ n. n ≡ field_width field.now) }
+    ensures few { IfSome result (λ n. n ≤ 64) }
+    ensures allowed { IfSome result (λ n. IsAllowedField field.now) }
+{
+    let (Endian::Big, Order::Msb0) = (field.layout.endian, field.layout.order) else {
+        return None;
+    };
+    let bits = field.kind.narrow_bits()?;
+    match field.layout.size {
+        Size::Whole => Some(bits),
+        Size::Bits(width) if width <= bits => Some(width),
         _ => None,
     }
 }

@@ -12,9 +12,8 @@ ghost use Rattle.deku_fields.specs.Items.{number_type, field_shape, field_width,
 ghost use Rattle.deku_fields.specs.ListCalls.{ListFrom, ReadsField, ReadsFields, ReadsVec, filling, items_of};
 ghost use Rattle.deku_fields.specs.Promise.{FindsAny, FindsIn, LeavesBehind, ReadsBack, ReadsBackVec, ReadsBackFrom, ReadsWhereSound, ReadsWhereTold};
 
-use crate::list::{Field, Number, plain_width};
+use crate::list::{Field, Number, high_width};
 use deku::calls::{read_signed, read_unsigned};
-use deku::ctx::{Endian, Order};
 use deku::device::Source;
 use deku::error::DekuError;
 use deku::reader::Reader;
@@ -81,26 +80,6 @@ fn plain_number<R: Source>(reader: &mut Reader<R>, field: &Field) -> Option<u64>
     let width = high_width(field)?;
     let number = reader.high_at_hand(width)?;
     Some(number)
-}
-
-// How many bits a field without a sign has that is big and `Msb0`, where they are at most 64 and its layout is not refused.
-#[inline(always)]
-fn high_width(field: &Field) -> Option<usize>
-    ensures unsigned { IfSome result (λ n. (number_type field.now.kind).signed ≡ false) }
-    ensures big { IfSome result (λ n. field.now.layout.endian ≡ Endian.Big) }
-    ensures high { IfSome result (λ n. field.now.layout.order ≡ Order.Msb0) }
-    ensures wide { IfSome result (λ n. n ≡ field_width field.now) }
-    ensures few { IfSome result (λ n. n ≤ 64) }
-    ensures allowed { IfSome result (λ n. IsAllowedField field.now) }
-{
-    let (Endian::Big, Order::Msb0) = (field.layout.endian, field.layout.order) else {
-        return None;
-    };
-    if field.kind.is_signed() {
-        return None;
-    }
-    let width = plain_width(field.kind.number_type(), field.layout.size)?;
-    if width <= 64 { Some(width) } else { None }
 }
 
 // Reads the value of a field, and looks at all that may refuse it.

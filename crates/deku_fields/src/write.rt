@@ -1,6 +1,6 @@
 //! Writing lists of items.
 
-ghost use Rattle.std.specs.Prelude.{◌≡◌, [], take, IfErr, IfSome};
+ghost use Rattle.std.specs.Prelude.{◌≡◌, ◌<◌, ◌≤◌, ◌^◌, [], take, false, Ok, IfErr, IfSome, IsTrue, IsFalse};
 ghost use Rattle.std.specs.declared.io.ErrorKind.{ErrorKind as IoKind};
 ghost use Rattle.deku_bits.specs.declared.error.DekuError.TheVariants.{Io};
 ghost use Rattle.std.specs.Io.Cursor.{cursor_position, cursor_inner};
@@ -8,13 +8,15 @@ ghost use Rattle.deku_bits.specs.Causes.{WantsPlace, Caused};
 ghost use Rattle.deku_bits.specs.Standings.{Untouched};
 ghost use Rattle.deku_bits.specs.WriterCalls.{Writes, Finalizes};
 ghost use Rattle.deku.specs.Composing.{Both};
-ghost use Rattle.deku_num.specs.Numbers.{IsWordFor};
+ghost use Rattle.deku_num.specs.Numbers.{IsWordFor, cuts};
+ghost use Rattle.deku_fields.specs.declared.list.Number.TheVariants.{Unsigned};
 ghost use Rattle.deku_fields.specs.Items.{number_type, field_width, IsAllowedField};
 ghost use Rattle.deku_fields.specs.ListCalls.{IsOfKind, WritesItem, WritesItems, WritesWhole, integer_of};
 ghost use Rattle.deku_fields.specs.Promise.{LaidOut, WritesBack, WritesLaid, WritesWhereSound};
 
-use crate::list::{Item, Number, plain_width};
+use crate::list::{Item, Number, high_width, is_below, plain_width};
 use deku::calls::{write_signed, write_unsigned};
+use deku::ctx::{Endian, Order};
 use deku::device::Sink;
 use deku::error::DekuError;
 use deku::writer::Writer;
@@ -49,9 +51,61 @@ fn write_item<W: Sink>(writer: &mut Writer<W>, item: &Item) -> Result<(), DekuEr
     ensures writes { Writes W.told (WritesItem item.now) writer.old result writer.new }
     ensures stopped { Untouched writer.old.state writer.old.sink writer.new.sink }
 {
+    if laid_high(writer, item) {
+        return Ok(());
+    }
     match plain_word(item) {
         Some((word, width)) => writer.write_word(word, width, item.field.layout.order),
         None => write_checked(writer, item),
+    }
+}
+
+// Writes the value of an item whose bits go from the highest down, where nothing refuses it and they are laid, and answers whether it did. Else nothing
+// changes.
+#[inline(always)]
+fn laid_high<W: Sink>(writer: &mut Writer<W>, item: &Item) -> bool
+    ensures writes { IsTrue result → Writes W.told (WritesItem item.now) writer.old (Ok tt) writer.new }
+    ensures stays { IsFalse result → writer.new ≡ writer.old }
+    ensures stopped { Untouched writer.old.state writer.old.sink writer.new.sink }
+{
+    match plain_high(item) {
+        Some((number, width)) => writer.high_laid(number, width),
+        None => false,
+    }
+}
+
+// The value of an item and how many bits it has, where these go from the highest down, are at most 64, and nothing refuses it.
+#[inline(always)]
+fn plain_high(item: &Item) -> Option<(u64, usize)>
+    ensures value { IfSome result (λ r. item.now.value ≡ Unsigned r.0) }
+    ensures unsigned { IfSome result (λ r. (number_type item.now.field.kind).signed ≡ false) }
+    ensures big { IfSome result (λ r. item.now.field.layout.endian ≡ Endian.Big) }
+    ensures high { IfSome result (λ r. item.now.field.layout.order ≡ Order.Msb0) }
+    ensures whole { IfSome result (λ r. cuts item.now.field.layout.size ≡ false) }
+    ensures wide { IfSome result (λ r. r.1 ≡ field_width item.now.field) }
+    ensures few { IfSome result (λ r. r.1 ≤ 64) }
+    ensures below { IfSome result (λ r. r.0 < 2 ^ r.1) }
+    ensures allowed { IfSome result (λ r. IsAllowedField item.now.field) }
+{
+    let width = high_width(&item.field)?;
+    let Number::Unsigned(value) = item.value else {
+        return None;
+    };
+    let number = fitting(value, width)?;
+    Some((number, width))
+}
+
+// A number, where it has at most so many bits.
+#[inline(always)]
+fn fitting(value: u128, bits: usize) -> Option<u64>
+    requires { bits ≤ 64 }
+    ensures same { IfSome result (λ n. n ≡ value) }
+    ensures below { IfSome result (λ n. n < 2 ^ bits) }
+{
+    if is_below(value, bits) {
+        Some(value as u64)
+    } else {
+        None
     }
 }
 

@@ -2,7 +2,8 @@
 use Rattle.std.proofs.Common.{◌≡◌, ℕ, ◌%◌, ◌^◌, ◌<◌, Bool, true, false, List, length, Option, Result, Ok, Err, ℤ, pos, sym, ◌∙◌, ap, ap₂, subst}
 use Rattle.deku_bits.specs.declared.ctx.Order.{Order}
 use Rattle.deku_bits.specs.declared.error.DekuError.{DekuError}
-use Rattle.deku_bits.specs.Bits.{word_of}
+use Rattle.deku_bits.specs.Bits.{bits_of, word_of}
+use Rattle.deku_bits.specs.declared.ctx.Order.TheVariants.{Msb0}
 use Rattle.deku_bits.specs.Streams.{Stream}
 use Rattle.deku_bits.specs.Devices.{Health}
 use Rattle.deku_bits.specs.Standings.{Standing, Output}
@@ -11,6 +12,8 @@ use Rattle.deku_bits.specs.ReaderCalls.{Takes, ReadsWord}
 use Rattle.deku_bits.proofs.ReaderLaws.{taken_length}
 use Rattle.deku_bits.specs.WriterCalls.{WritesWord}
 use Rattle.deku_bits.proofs.Handing.{no_ok, broken_at, mapped_ok, mapped_err, weaker}
+use Rattle.deku_bits.proofs.Packed.{bin-whole}
+use Rattle.deku_num.specs.declared.ctx.Endian.TheVariants.{Big}
 use Rattle.deku_num.specs.declared.ctx.Layout.{Layout}
 use Rattle.deku_num.specs.NumberLaws.{InType}
 use Rattle.deku_num.specs.Numbers.{NumberType, width, number, value, with_sign, IsAllowed, IsWordFor}
@@ -74,6 +77,15 @@ unsigned_in_type t l s v g ok w e d =
     rw same r.2
 
 -- ---- words of fields
+-- the number of bits from the highest down is that of a big field
+pub high_number : (n k : ℕ) → k < 2 ^ n → k ≡ number Big Msb0 (bits_of n k)
+unfolding number
+high_number n k h = sym (bin-whole n k h)
+
+-- in a layout that is so
+pub high_in : (l : Layout) (n k : ℕ) → l.endian ≡ Big → l.order ≡ Msb0 → k < 2 ^ n → k ≡ number l.endian l.order (bits_of n k)
+high_in l n k big high small = rw (big, high) (high_number n k small)
+
 -- a word that was read fits its bits
 pub word_fits : {o : Order} {n k : ℕ} {s : Standing (Option Stream)} {f : Health} {u : Standing (Option Stream)} {g : Health} → WordRead o n k s f u g → k < 2 ^ n
 word_fits {o} r = rw (r.worth, ← r.long) (word_below o (r.bits))

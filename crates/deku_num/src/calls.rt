@@ -1,15 +1,17 @@
 //! Numbers that are read from a reader and written to a writer.
 
-ghost use Rattle.std.specs.Prelude.{◌≡◌, ◌<◌, ◌≤◌, ◌%◌, ◌^◌, Bool, true, false, List, length, codes, pos, OnOk, IfOk, IfErr};
+ghost use Rattle.std.specs.Prelude.{◌≡◌, ◌<◌, ◌≤◌, ◌%◌, ◌^◌, Bool, true, false, List, length, codes, pos, Ok, OnOk, IfOk, IfErr, IfSome, IsNone};
 ghost use Rattle.deku_bits.specs.declared.error.DekuError.TheVariants.{Parse, InvalidParam};
 ghost use Rattle.deku_bits.specs.Standings.{Untouched};
-ghost use Rattle.deku_bits.specs.ReaderCalls.{Reads, FetchesFor, NoneEarly};
+ghost use Rattle.deku_bits.specs.Bits.{bits_of};
+ghost use Rattle.deku_bits.specs.declared.ctx.Order.{Order as BitOrder};
+ghost use Rattle.deku_bits.specs.ReaderCalls.{Reads, Takes, FetchesFor, NoneEarly};
 ghost use Rattle.deku_bits.specs.WriterCalls.{Writes};
 ghost use Rattle.deku_num.specs.NumberLaws.{InType};
 ghost use Rattle.deku_num.specs.Numbers.{width, IsAllowed, IsListFor};
 ghost use Rattle.deku_num.specs.NumberCalls.{ReadsNumber, WritesNumber, IsLayoutRefusal, beyond, integers};
 
-use crate::ctx::{Layout, Size};
+use crate::ctx::{Endian, Layout, Order, Size};
 use crate::kernel::{Misfit, allowed_width, number_of_word, signed_of, signed_word, unsigned_word};
 use crate::kind::NumberType;
 use deku_bits::device::{Sink, Source};
@@ -67,9 +69,37 @@ pub fn read_signed<R: Source>(
     ensures in_type { IfOk result (λ v. number_type.bits % 8 ≡ 0 → InType true number_type.bits v) }
 {
     let width = readable_width(number_type, layout)?;
+    if let Some(high) = number_at_hand(reader, layout, width) {
+        return Ok(signed_of(high as u128, width));
+    }
     let word = reader.read_word(width, layout.order)?;
     let number = number_of_word(word, width, layout.endian, layout.order);
     Ok(signed_of(number, width))
+}
+
+// The number of so many bits that go from the highest down, where the layout is big and they are at hand. It answers none else, and then nothing moves.
+#[inline(always)]
+fn number_at_hand<R: Source>(
+    reader: &mut Reader<R>,
+    layout: Layout,
+    width: usize,
+) -> Option<u64>
+    ensures big { IfSome result (λ n. layout.endian ≡ Endian.Big) }
+    ensures high { IfSome result (λ n. layout.order ≡ BitOrder.Msb0) }
+    ensures takes { IfSome result (λ n. Reads R.told (Takes BitOrder.Msb0 width) reader.old (Ok (bits_of width n)) reader.new) }
+    ensures below { IfSome result (λ n. n < 2 ^ width) }
+    ensures fetched { IfSome result (λ n. FetchesFor width reader.old.state (R.told reader.old.source) (R.told reader.new.source)) }
+    ensures early { NoneEarly reader.old.state reader.new.state }
+    ensures stays { IsNone result → reader.new ≡ reader.old }
+    ensures stopped { Untouched reader.old.state reader.old.source reader.new.source }
+{
+    let (Endian::Big, Order::Msb0) = (layout.endian, layout.order) else {
+        return None;
+    };
+    if width > 64 {
+        return None;
+    }
+    reader.high_at_hand(width)
 }
 
 // The bits of a field that is read.

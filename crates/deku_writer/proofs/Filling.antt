@@ -6,17 +6,18 @@ use Rattle.std.specs.Io.KnownBytes.{Appends}
 use Rattle.std.specs.Io.Cursor.{cursor_position, cursor_inner}
 use Rattle.std.specs.declared.io.Cursor.{Cursor}
 use Rattle.deku_stream.specs.declared.ctx.Order.{Order}
-use Rattle.deku_stream.specs.Bits.{facing, shown}
+use Rattle.deku_stream.specs.declared.ctx.Order.TheVariants.{Msb0}
+use Rattle.deku_stream.specs.Bits.{bits_of, facing, shown}
 use Rattle.deku_stream.specs.Writers.{held, pending_bits, cut, append}
 use Rattle.deku_device.specs.Cursors.{slice_told}
 use Rattle.deku_device.specs.Devices.{SinkTold, Gave, bytes_before}
-use Rattle.deku_writer.specs.Pushing.{word_bits, Fills, FillsOnto, PushedOnto}
+use Rattle.deku_writer.specs.Pushing.{word_bits, Fills, FillsOnto, Pushed, PushedOnto}
 use Rattle.deku_stream.proofs.Appends.{count_law}
-use Rattle.deku_stream.proofs.Binary.{facing-facing}
+use Rattle.deku_stream.proofs.Binary.{facing-facing, length-bits_of}
 use Rattle.deku_stream.proofs.Shown.{shown-shown}
 use Rattle.deku_stream.proofs.Writing.{pending_bits-held}
 use Rattle.deku_writer.proofs.Fills.{Fills-short}
-use Rattle.deku_writer.proofs.Onto.{append_same}
+use Rattle.deku_writer.proofs.Onto.{append_same, empty_onto}
 use Rattle.deku_writer.proofs.WordsWritten.{length-shown_word}
 
 -- ---- behind bits of the same order, or behind none
@@ -46,6 +47,20 @@ word_behind from to h hs n w out behind some f =
     let long : 0 < length bits = rw length-shown_word some in
     let g : Fills to h hs (shown to bits) out = subst (λ x. Fills to h hs x out) (sym (shown-shown to (word_bits to n w))) f in
     ⊎_elim (λ none. none_filled from to h hs bits out none long g) (λ same. rw same (same_filled to h hs bits out long g)) behind
+
+-- the bits of a number, from the highest down
+pub high_behind : (from : Order) (h hs : List Bool) (n k : ℕ) (out : List ℕ) → (length h ≡ 0) ⊎ (from ≡ Msb0) → 0 < n → Fills Msb0 h hs (bits_of n k) out
+    → FillsOnto from Msb0 h hs (bits_of n k) out
+unfolding shown
+high_behind from h hs n k out behind some f =
+    let long : 0 < length (bits_of n k) = rw length-bits_of some in
+    ⊎_elim (λ none. none_filled from Msb0 h hs (bits_of n k) out none long f) (λ same. rw same (same_filled Msb0 h hs (bits_of n k) out long f)) behind
+
+-- that are whole bytes, behind none
+pub high_behind_none : (a b : SinkTold) (from : Order) (h : List Bool) (n k : ℕ) → length h ≡ 0 → 0 < n → Pushed a b Msb0 [] [] (bits_of n k) → PushedOnto a b from Msb0 h h (bits_of n k)
+unfolding shown
+high_behind_none a b from [] n k none some m = empty_onto a b from Msb0 [] [] (bits_of n k) none (rw length-bits_of some) m
+high_behind_none a b from (x ∷ h) n k none some m = absurd (omega arith)
 
 -- a sink took the bytes
 pub onto_given : (a b : SinkTold) (from to : Order) (h hs bits : List Bool) (out : List ℕ) → FillsOnto from to h hs bits out → Gave a b out → PushedOnto a b from to h hs bits

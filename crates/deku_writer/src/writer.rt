@@ -2,17 +2,18 @@
 
 #![tactic(auto, using(deku_device::proofs::Wholes::onward_same))]
 
-ghost use Rattle.std.specs.Prelude.{◌≡◌, ◌+◌, ◌/◌, ◌^◌, ◌<◌, ◌≤◌, length, IfOk, IfErr};
+ghost use Rattle.std.specs.Prelude.{◌≡◌, ◌+◌, ◌/◌, ◌^◌, ◌<◌, ◌≤◌, Ok, length, IfOk, IfErr, IsTrue, IsFalse};
 ghost use Rattle.std.specs.declared.io.ErrorKind.TheVariants.{OutOfMemory};
 ghost use Rattle.deku_stream.specs.declared.ctx.Order.TheVariants.{Msb0};
 ghost use Rattle.deku_stream.specs.declared.error.DekuError.TheVariants.{Io};
-ghost use Rattle.deku_stream.specs.Bits.{bits_in};
+ghost use Rattle.deku_stream.specs.Bits.{bits_in, bits_of};
 ghost use Rattle.deku_stream.specs.Writers.{Nothing, pending_bits};
 ghost use Rattle.deku_stream.specs.Standings.{Going, Stopped, Untouched, count_of};
 ghost use Rattle.deku_writer.specs.WriterCalls.{Writes, WritesAt, WritesBits, WritesWord, Finalizes, pending_of, order_of};
 
 mod bytes;
 mod held;
+mod high;
 mod joined;
 mod pushing;
 mod seek;
@@ -21,6 +22,7 @@ mod words;
 
 use self::bytes::push_bytes_onto;
 use self::held::Held;
+use self::high::lay_high;
 use self::pushing::push_onto;
 use self::words::push_word_onto;
 use deku_device::device::Sink;
@@ -196,6 +198,27 @@ impl<W: Sink> Writer<W> {
         self.state.write_word(&mut self.sink, word, n, order)
     }
 
+    /// Writes the bits of a number in `Msb0`, the highest first, where nothing refuses them and they need no call on the sink that may fail, and answers
+    /// whether it did: they have at most 64 bits with the pending ones, and the sink has room at hand as `Sink::lay` says. The caller's conditions: `n` is
+    /// at most 64, and the number has no more bits.
+    ///
+    /// It is a `write_bits` of as many bits. It answers `false` where there are none or that refuses them, and may do so where it does not; then nothing
+    /// changes.
+    ///
+    /// ```text
+    /// writer.high_laid(0xABC, 12)                        // true, where eight bytes of room are at hand: the byte 0xAB; 1, 1, 0, 0 are pending
+    /// ```
+    #[inline(always)]
+    pub fn high_laid(&mut self, number: u64, n: usize) -> bool
+        requires most { n ≤ 64 }
+        requires inside { number < 2 ^ n }
+        ensures writes { IsTrue result → Writes W.told (WritesBits Msb0 (bits_of n number)) self.old (Ok tt) self.new }
+        ensures stays { IsFalse result → self.new ≡ self.old }
+        ensures stopped { Untouched self.old.state self.old.sink self.new.sink }
+    {
+        self.state.high_laid(&mut self.sink, number, n)
+    }
+
     /// Fills pending bits with zeros to a byte, behind `Msb0` bits and above `Lsb0` bits, and gives it to the sink. It counts eight bits. Where
     /// nothing is pending it changes nothing.
     ///
@@ -355,6 +378,33 @@ impl Progress {
                 Err(DekuError::Io(kind))
             }
         }
+    }
+
+    // Writes the bits of a number to this sink, the highest first, where nothing refuses them and they are laid, and whether it did.
+    #[inline(always)]
+    fn high_laid<W: Sink>(&mut self, sink: &mut W, number: u64, n: usize) -> bool
+        requires most { n ≤ 64 }
+        requires inside { number < 2 ^ n }
+        ensures writes { IsTrue result → WritesAt (WritesBits Msb0 (bits_of n number)) (W.told sink.old) self.old (Ok tt) (W.told sink.new) self.new }
+        ensures stays { IsFalse result → (self.new ≡ self.old) × (sink.new ≡ sink.old) }
+        ensures stopped { Untouched self.old sink.old sink.new }
+    {
+        if let Some(_) = self.fault {
+            return false;
+        }
+        if n == 0 {
+            return false;
+        }
+        let made = whole_bytes(self.held.len(), n);
+        if made > (usize::MAX - self.bits_written) / 8 {
+            return false;
+        }
+        let laid = lay_high(sink, &mut self.held, self.order, number, n);
+        if laid {
+            self.order = Order::Msb0;
+            self.bits_written += 8 * made;
+        }
+        laid
     }
 
     // Writes as many zeros as the pending bits lack to a byte.

@@ -1,10 +1,11 @@
 //! Up to seven bits, packed.
 
 ghost use Rattle.std.specs.Prelude.{◌≡◌, ◌+◌, ◌-◌, ◌/◌, ◌%◌, ◌^◌, ◌<◌, ◌≤◌, [], ◌∷◌, ◌++◌, length, take};
+ghost use Rattle.deku_stream.specs.declared.ctx.Order.TheVariants.{Msb0};
 ghost use Rattle.deku_stream.specs.Bits.{bits_of, byte_bits, facing};
 ghost use Rattle.deku_writer.specs.Pushing.{word_bits, Fills, given};
 
-use super::joined::{cut_word, join_word};
+use super::joined::{cut_word, join_high, join_word};
 use deku_stream::byte::bits_of_byte;
 use deku_stream::ctx::Order;
 use std::marker::Model;
@@ -105,6 +106,26 @@ impl Held {
         self.number = behind;
         self.len = len % 8;
         (eight, len / 8)
+    }
+
+    /// The bits of a number, from the highest down, behind the held bits, with which they are at most 64: the bytes that fill are the first of eight,
+    /// so many. The bits behind them are held.
+    #[inline(always)]
+    pub fn fill_high(&mut self, number: u64, n: usize) -> ([u8; 8], usize)
+        requires some { 0 < n }
+        requires most { length self.old + n ≤ 64 }
+        requires inside { number < 2 ^ n }
+        ensures fills { Fills Msb0 self.old self.new (bits_of n number) (take result.1 result.0) }
+        ensures count { result.1 ≡ (length self.old + n) / 8 }
+        ensures rest { length self.new ≡ (length self.old + n) % 8 }
+    {
+        let before = self.len();
+        let all = before + n;
+        let joined = join_high(self.number, before, number, n);
+        let (eight, last) = cut_word(Order::Msb0, joined, all);
+        self.number = last;
+        self.len = all % 8;
+        (eight, all / 8)
     }
 
     /// A group of at most eight bits, as the order meets it behind those that are held. Where there are eight then, the first eight go out as

@@ -31,6 +31,24 @@ pub fn join_word(order: Order, first: u8, a: usize, word: u64, n: usize) -> u64
     }
 }
 
+/// The number of some bits and of n bits behind them, each from the highest down.
+#[inline(always)]
+pub fn join_high(first: u8, a: usize, number: u64, n: usize) -> u64
+    requires short { a < 8 }
+    requires some { 0 < n }
+    requires most { a + n ≤ 64 }
+    requires first { first < 2 ^ a }
+    requires number { number < 2 ^ n }
+    ensures inside { result < 2 ^ (a + n) }
+    ensures bits { bits_of (a + n) result ≡ bits_of a first ++ bits_of n number }
+{
+    if a == 0 {
+        return number;
+    }
+    let front = (first as u64) << n;
+    front + number
+}
+
 // The number of a word's n bits, the highest first: its whole bytes are turned, and the bits behind them follow.
 #[inline(always)]
 fn high_number(word: u64, n: usize) -> u64

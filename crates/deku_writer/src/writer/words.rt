@@ -85,9 +85,9 @@ fn is_same(from: Order, to: Order) -> bool
     )
 }
 
-// Whether bits of an order go behind held bits as they are: there are none, or they are of the same order.
+/// Whether bits of an order go behind held bits as they are: there are none, or they are of the same order.
 #[inline(always)]
-fn is_behind(held: &Held, from: Order, to: Order) -> bool
+pub fn is_behind(held: &Held, from: Order, to: Order) -> bool
     ensures { IsTrue result ↔ ((length held.now ≡ 0) ⊎ (from ≡ to)) }
 {
     held.len() == 0 || is_same(from, to)

@@ -85,6 +85,11 @@ pub fn high_at_hand<R: Source>(source: &mut R, window: &mut Window, count: usize
     ensures stays { IsNone result → (window.new ≡ window.old) × (source.new ≡ source.old) }
     ensures kept { NoFewerFailures (R.told source.old).health (R.told source.new).health }
 {
+    // Whole bytes at a boundary first: they move nothing but the source's place.
+    if window.len() == 0 && count % 8 == 0 && 0 < count {
+        let whole = source.at_hand(count / 8)?;
+        return Some(window.take_high_across(&whole, count));
+    }
     if count <= window.len() {
         return Some(window.take(count, Order::Msb0) as u64);
     }

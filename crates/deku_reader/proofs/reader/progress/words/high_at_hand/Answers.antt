@@ -9,6 +9,10 @@ returns-then-count-len-clause-moved g c = high_inside c.args.window.now c.take.n
 pub returns-then-count-len-clause-below : goal.returns-then-count-len-clause-below
 returns-then-count-len-clause-below g c = gives_below Msb0 c.args.count c.take.result c.args.window.now c.take.new.self c.take.ensures
 
+pub returns-then-count-gt0-clause-short : goal.returns-then-count-gt0-clause-short
+returns-then-count-gt0-clause-short g c = λ p.
+    high_short c.args.window.now c.take_high_across.new.self c.args.count c.take_high_across.result c.in_ok-whole.whole (omega arith) (omega arith) (omega arith) (omega arith) c.take_high_across.ensures.cut
+
 pub returns-clause-short : goal.returns-clause-short
 returns-clause-short g c = λ p.
-    high_short c.args.window.now c.take_high_across.new.self c.args.count c.take_high_across.result c.in_ok-eight.eight (omega arith) (omega arith) (omega arith) (omega arith) c.take_high_across.ensures.cut
+    high_short c.args.window.now c.take_high_across-2.new.self c.args.count c.take_high_across-2.result c.in_ok-eight.eight (omega arith) (omega arith) (omega arith) (omega arith) c.take_high_across-2.ensures.cut
