@@ -129,8 +129,8 @@ fn plain_word(item: &Item) -> Option<(u128, usize)>
     Some((word, width))
 }
 
-// Writes the value of an item, and looks at all that may refuse it.
-#[inline(never)]
+// Writes the value of an item, and looks at all that may refuse it. It is inlined, so that no call has the writer by reference.
+#[inline(always)]
 fn write_checked<W: Sink>(writer: &mut Writer<W>, item: &Item) -> Result<(), DekuError>
     ensures writes { Writes W.told (WritesItem item.now) writer.old result writer.new }
     ensures stopped { Untouched writer.old.state writer.old.sink writer.new.sink }
