@@ -52,20 +52,20 @@ impl Kind {
         }
     }
 
-    // The bits of its type, where that has no sign and at most 64 of them, and else 0. So the compiler makes a table of it, and no jump.
+    // The bits of its type, where that has no sign and at most 64 of them.
     #[inline(always)]
-    fn narrow_bits(self) -> usize
-        ensures unsigned { 0 < result → (number_type self).signed ≡ false }
-        ensures bits { 0 < result → result ≡ (number_type self).bits }
-        ensures few { result ≤ 64 }
+    fn narrow_bits(self) -> Option<usize>
+        ensures unsigned { IfSome result (λ n. (number_type self).signed ≡ false) }
+        ensures bits { IfSome result (λ n. n ≡ (number_type self).bits) }
+        ensures few { IfSome result (λ n. n ≤ 64) }
     {
         match self {
-            Kind::U8 => 8,
-            Kind::U16 => 16,
-            Kind::U32 => 32,
-            Kind::U64 | Kind::Usize => 64,
-            Kind::U128 => 0,
-            Kind::I8 | Kind::I16 | Kind::I32 | Kind::I64 | Kind::I128 | Kind::Isize => 0,
+            Kind::U8 => Some(8),
+            Kind::U16 => Some(16),
+            Kind::U32 => Some(32),
+            Kind::U64 | Kind::Usize => Some(64),
+            Kind::U128 => None,
+            Kind::I8 | Kind::I16 | Kind::I32 | Kind::I64 | Kind::I128 | Kind::Isize => None,
         }
     }
 
@@ -148,10 +148,7 @@ pub(crate) fn high_width(field: &Field) -> Option<usize>
     let (Endian::Big, Order::Msb0) = (field.layout.endian, field.layout.order) else {
         return None;
     };
-    let bits = field.kind.narrow_bits();
-    if bits == 0 {
-        return None;
-    }
+    let bits = field.kind.narrow_bits()?;
     match field.layout.size {
         Size::Whole => Some(bits),
         Size::Bits(width) if width <= bits => Some(width),

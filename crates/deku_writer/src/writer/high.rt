@@ -28,13 +28,7 @@ fn lay_bytes<W: Sink>(sink: &mut W, number: u64, n: usize) -> bool
 /// The bits of a number, from the highest down, onto the held bits of an order, where they follow these as they are, have at most 64 bits with them, and
 /// the sink has room for eight bytes at hand, and whether all this is so. Else nothing changes.
 #[inline(always)]
-pub fn lay_high<W: Sink>(
-    sink: &mut W,
-    held: &mut Held,
-    from: Order,
-    number: u64,
-    n: usize,
-) -> bool
+pub fn lay_high<W: Sink>(sink: &mut W, held: &mut Held, from: Order, number: u64, n: usize) -> bool
     requires some { 0 < n }
     requires short { length held.old < 8 }
     requires most { n ≤ 64 }

@@ -1,6 +1,5 @@
-use Rattle.std.proofs.Common.{◌≡◌, ◌/◌, ◌%◌, ◌∙◌, ◌++◌, [], take, ap, arith, subst}
+use Rattle.std.proofs.Common.{◌/◌, take, subst}
 use Rattle.std.proofs.lemmas.List.Elements.{All-take}
-use Rattle.deku_stream.specs.declared.ctx.Order.TheVariants.{Msb0}
 use Rattle.deku_stream.proofs.Bytes.{IsByte}
 use Rattle.deku_device.specs.Devices.{Gave}
 use Rattle.deku_writer.proofs.Joined.{fills_high}
