@@ -12,3 +12,9 @@ slice_bounds-specs-start g c = search rules
 
 pub slice_bounds-specs-end : goal.slice_bounds-specs-end
 slice_bounds-specs-end g c = search rules
+
+pub returns-in_default-as_str-clause-known : goal.returns-in_default-as_str-clause-known
+returns-in_default-as_str-clause-known g c = search rules
+
+pub returns-in-write-clause-unread : goal.returns-in-write-clause-unread
+returns-in-write-clause-unread g c = search rules

@@ -12,3 +12,6 @@ returns-clause-kept g c = search rules
 
 pub returns-clause-usage : goal.returns-clause-usage
 returns-clause-usage g c = search rules
+
+pub returns-in_default-clause-quiet : goal.returns-in_default-clause-quiet
+returns-in_default-clause-quiet g c = search rules

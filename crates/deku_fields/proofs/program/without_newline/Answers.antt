@@ -1,4 +1,5 @@
-use Rattle.std.proofs.Common.{rules}
+use Rattle.std.proofs.lemmas.Grind.{common_steps}
+use Rattle.std.proofs.Common.{rules, tests, arith}
 use Rattle.deku_fields.proofs.program.without_newline.Goals as goal
 
 pub overflow_sub-text : goal.overflow_sub-text
@@ -12,3 +13,6 @@ slice_bounds-inner-count c = search rules
 
 pub slice_bounds-inner-length : goal.slice_bounds-inner-length
 slice_bounds-inner-length c = search rules
+
+pub returns-in-10 : goal.returns-in-10
+returns-in-10 c = grind (arith, common_steps)

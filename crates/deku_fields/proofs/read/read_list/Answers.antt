@@ -1,4 +1,4 @@
-use Rattle.std.proofs.Common.{◌≡◌, ◌∙◌, ◌++◌, length, take, drop, arith}
+use Rattle.std.proofs.Common.{rules, ◌≡◌, ◌∙◌, ◌++◌, length, take, drop, arith}
 use Rattle.std.proofs.lemmas.List.{take_at}
 use Rattle.deku_fields.proofs.ReadBack.{found, vec_back, left_behind}
 use Rattle.deku_fields.proofs.Finding.{vec_finds}
@@ -35,3 +35,27 @@ returns-in-Err-clause-found g c = vec_finds c.args.fields.now _ _ (returns-in-Er
 
 pub returns-in-Err-clause-cause : goal.returns-in-Err-clause-cause
 returns-in-Err-clause-cause g c = vec_caused c.args.fields.now _ c.args.reader.now.state _ _ _ _ (returns-in-Err-clause-meaning g c)
+
+pub returns-in_default-clause-meaning : goal.returns-in_default-clause-meaning
+returns-in_default-clause-meaning g c = search rules
+
+pub returns-in_default-clause-values : goal.returns-in_default-clause-values
+returns-in_default-clause-values g c = search rules
+
+pub returns-in_default-clause-cause : goal.returns-in_default-clause-cause
+returns-in_default-clause-cause g c = search rules
+
+pub returns-in-Ok-read_list_into-clause-fetched : goal.returns-in-Ok-read_list_into-clause-fetched
+returns-in-Ok-read_list_into-clause-fetched g c = search rules
+
+pub returns-in-Ok-read_list_into-clause-early : goal.returns-in-Ok-read_list_into-clause-early
+returns-in-Ok-read_list_into-clause-early g c = search rules
+
+pub returns-in-Ok-read_list_into-clause-none : goal.returns-in-Ok-read_list_into-clause-none
+returns-in-Ok-read_list_into-clause-none g c = search rules
+
+pub returns-in-Err-clause-early : goal.returns-in-Err-clause-early
+returns-in-Err-clause-early g c = search rules
+
+pub returns-in-Err-clause-none : goal.returns-in-Err-clause-none
+returns-in-Err-clause-none g c = search rules

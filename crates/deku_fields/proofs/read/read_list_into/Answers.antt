@@ -1,4 +1,4 @@
-use Rattle.std.proofs.Common.{◌≡◌, ◌+◌, length, ap, refl, inr, ◌∙◌, arith}
+use Rattle.std.proofs.Common.{◌≡◌, ◌+◌, length, ap, refl, inr, ◌∙◌, arith, rules}
 use Rattle.std.proofs.lemmas.List.{length-set}
 use Rattle.deku_fields.proofs.Resting.{rests, rests_in, rests_on, field_going}
 use Rattle.deku_fields.proofs.Stepping.{early_on, started, field_read, field_refused, fields_read}
@@ -67,3 +67,9 @@ returns-in-Err-clause-none g c = λ e. absurd (omega (arith, ap length e))
 
 pub returns-in-Err-clause-cause : goal.returns-in-Err-clause-cause
 returns-in-Err-clause-cause g c = list_caused c.args.fields.now _ c.args.reader.now.state _ c.in-Err.refusal _ _ (returns-in-Err-clause-meaning g c)
+
+pub returns-clause-early : goal.returns-clause-early
+returns-clause-early g c = search rules
+
+pub returns-clause-cause : goal.returns-clause-cause
+returns-clause-cause g c = search rules

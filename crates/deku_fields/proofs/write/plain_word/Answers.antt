@@ -13,3 +13,15 @@ returns-clause-kind c =
     let allowed : IsAllowed (number_type c.args.item.now.field.kind) c.args.item.now.field.layout = search rules in
     let word : IsWordFor (number_type c.args.item.now.field.kind) c.args.item.now.field.layout (pos c.in-Unsigned.value) c.in_ok-word.word = rw c.number_type-number_type.ensures at c.in_ok-word.ensures.word in
     kind_of_word c.args.item.now is plain allowed whole word
+
+pub returns-then-number_type-clause-kind : goal.returns-then-number_type-clause-kind
+returns-then-number_type-clause-kind c = search rules
+
+pub returns-then-number_type-clause-allowed : goal.returns-then-number_type-clause-allowed
+returns-then-number_type-clause-allowed c = search rules
+
+pub returns-then-number_type-clause-wide : goal.returns-then-number_type-clause-wide
+returns-then-number_type-clause-wide c = search rules
+
+pub returns-then-number_type-clause-word : goal.returns-then-number_type-clause-word
+returns-then-number_type-clause-word c = search rules

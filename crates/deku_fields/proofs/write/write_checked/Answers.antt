@@ -1,5 +1,6 @@
-use Rattle.std.proofs.Common.{rules, ◌≡◌}
-use Rattle.std.proofs.lemmas.Int.{to_z-of_z}
+use Rattle.std.proofs.lemmas.List.{get_or_read}
+use Rattle.std.proofs.Common.{rules, ◌≡◌, tests}
+use Rattle.std.proofs.lemmas.Int.{to_z-of_z, ints}
 use mir.Syntax.{w128}
 use mir.Val.{SFits}
 use Rattle.deku_fields.specs.declared.list.Number.TheVariants.{Signed, Unsigned}
@@ -19,3 +20,15 @@ returns-in-Unsigned-clause-writes g c =
     let is : c.args.item.now.value ≡ Unsigned c.in-Unsigned.value = search rules in
     let kind : IsOfKind c.args.item.now.field.kind c.args.item.now.value = search rules in
     item_passed c.args.item.now (Unsigned c.in-Unsigned.value) is c.number_type-number_type.ensures kind c.write_unsigned.ensures.writes
+
+pub returns-then-not-holds-clause-writes : goal.returns-then-not-holds-clause-writes
+returns-then-not-holds-clause-writes g c = let h = c.if-not-holds.ensures in search (ints, tests, rules)
+
+pub returns-then-not-holds-clause-stopped : goal.returns-then-not-holds-clause-stopped
+returns-then-not-holds-clause-stopped g c = let h = c.if-not-holds.ensures in search (ints, tests, rules)
+
+pub returns-in-Unsigned-clause-stopped : goal.returns-in-Unsigned-clause-stopped
+returns-in-Unsigned-clause-stopped g c = let h = c.if-not-holds.ensures in search (ints, tests, rules, get_or_read)
+
+pub returns-in-Signed-clause-stopped : goal.returns-in-Signed-clause-stopped
+returns-in-Signed-clause-stopped g c = let h = c.if-not-holds.ensures in search rules

@@ -1,4 +1,4 @@
-use Rattle.std.proofs.Common.{◌≡◌, ◌+◌, length, ap, refl, arith}
+use Rattle.std.proofs.Common.{◌≡◌, ◌+◌, length, ap, refl, arith, rules}
 use Rattle.deku_fields.proofs.Resting.{rests, rests_in, rests_on, item_going}
 use Rattle.deku_fields.proofs.Stepping.{begun, item_written, item_refused, items_written}
 use Rattle.deku_fields.proofs.Padded.{laid_written}
@@ -45,3 +45,6 @@ returns-in-Err-clause-none g c = λ e. absurd (omega (arith, ap length e))
 
 pub returns-in-Err-clause-cause : goal.returns-in-Err-clause-cause
 returns-in-Err-clause-cause g c = items_caused c.args.items.now (g.W.Sink.told c.args.writer.now.sink) c.args.writer.now.state _ _ _ _ (returns-in-Err-clause-meaning g c)
+
+pub returns-clause-cause : goal.returns-clause-cause
+returns-clause-cause g c = search rules

@@ -1,3 +1,4 @@
+use Rattle.std.proofs.Common.{rules}
 use Rattle.deku_bits.specs.Outcomes.{Quiet}
 use Rattle.deku_bits.proofs.Handing.{no_fewer_same}
 use Rattle.deku_reading.specs.Lists.{NoMemory}
@@ -16,3 +17,6 @@ returns-in-Err-clause-reads g c = first_refused c.in-Err.ensures.reads
 
 pub returns-in-Ok-push-clause-early : goal.returns-in-Ok-push-clause-early
 returns-in-Ok-push-clause-early g c = c.in-Ok.ensures.early
+
+pub returns-in-Ok-push-clause-put : goal.returns-in-Ok-push-clause-put
+returns-in-Ok-push-clause-put g c = search rules
