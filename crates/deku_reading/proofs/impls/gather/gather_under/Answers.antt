@@ -33,3 +33,6 @@ returns-in-Some-clause-early g c = search (rules, c.gather_bits.ensures.early)
 
 pub returns-in-BitSize-clause-early : goal.returns-in-BitSize-clause-early
 returns-in-BitSize-clause-early g c = search (rules, c.gather_bits-in-BitSize.ensures.early)
+
+pub returns-in-End-clause-early : goal.returns-in-End-clause-early
+returns-in-End-clause-early g c = search rules
