@@ -59,9 +59,3 @@ returns-in-Err-clause-early g c = search rules
 
 pub returns-in-Err-clause-none : goal.returns-in-Err-clause-none
 returns-in-Err-clause-none g c = search rules
-
-pub returns-in-Ok-read_list_into-clause-stopped : goal.returns-in-Ok-read_list_into-clause-stopped
-returns-in-Ok-read_list_into-clause-stopped g c = search rules
-
-pub returns-in-Err-clause-stopped : goal.returns-in-Err-clause-stopped
-returns-in-Err-clause-stopped g c = search rules

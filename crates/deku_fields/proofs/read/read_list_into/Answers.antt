@@ -73,9 +73,3 @@ returns-clause-early g c = search rules
 
 pub returns-clause-cause : goal.returns-clause-cause
 returns-clause-cause g c = search rules
-
-pub returns-in-Err-clause-behind : goal.returns-in-Err-clause-behind
-returns-in-Err-clause-behind g c = search rules
-
-pub returns-in-Err-clause-fetched : goal.returns-in-Err-clause-fetched
-returns-in-Err-clause-fetched g c = search rules
