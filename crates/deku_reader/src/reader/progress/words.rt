@@ -70,7 +70,7 @@ fn narrow_from<R: Source>(
             return Ok(window.take_across(&eight, count, order) as u128);
         }
     }
-    word_fetched(source, window, count, order)
+    word_by_copy(source, window, count, order)
 }
 
 /// Takes at most 64 bits from the highest down, where they are unread or at hand, and answers their number. It answers none else, and then nothing moves.
@@ -119,16 +119,39 @@ fn wide_from<R: Source>(
     ensures kept { NoFewerFailures (R.told source.old).health (R.told source.new).health }
 {
     if window.len() == 8 {
-        return word_fetched(source, window, count, order);
+        return word_by_copy(source, window, count, order);
     }
     let Some(eight) = source.at_hand(8) else {
-        return word_fetched(source, window, count, order);
+        return word_by_copy(source, window, count, order);
     };
     let first = u64::from_le_bytes(window.exchange_eight(&eight, order));
     match narrow_from(source, window, count - 64, order) {
         Ok(behind) => Ok((behind << 64) + first as u128),
         Err(kind) => Err(kind),
     }
+}
+
+// Takes bits as `word_fetched` does, with the window handed on as a copy: so a caller's window stays in registers.
+#[inline(always)]
+fn word_by_copy<R: Source>(
+    source: &mut R,
+    window: &mut Window,
+    count: usize,
+    order: Order,
+) -> Result<u128, ErrorKind>
+    requires bound { length window.old ≤ 8 }
+    requires more { length window.old < count }
+    requires few { count ≤ 128 }
+    ensures short { OnOk result (length window.new < 8) }
+    ensures moved { IfOk result (λ word. MovesWord order window.old (R.told source.old).coming count word window.new (R.told source.new).coming) }
+    ensures ended { IfErr result (λ e. e ≡ ErrorKind.UnexpectedEof → FewerBits count window.old (R.told source.old).coming) }
+    ensures failed { IfErr result (λ e. e ≢ ErrorKind.UnexpectedEof → MoreFailures (R.told source.old).health (R.told source.new).health) }
+    ensures kept { NoFewerFailures (R.told source.old).health (R.told source.new).health }
+{
+    let mut copy = window.copy();
+    let word = word_fetched(source, &mut copy, count, order);
+    *window = copy;
+    word
 }
 
 // Takes bits, more than the window has, by one transfer of the bytes that they need.
