@@ -1,4 +1,4 @@
-//! What an id chooses.
+//! What an id chooses: the parts of enums.
 
 ghost use Rattle.std.specs.Prelude.{◌≡◌, ℕ, OnOk};
 ghost use Rattle.deku_bits.specs.ReaderCalls.{Reads};
@@ -12,25 +12,46 @@ use deku::reader::Reader;
 use deku::writer::Writer;
 use deku::{DekuError, DekuReader, DekuWriter};
 
-/// One of two: what lies under the id `ID`, or what lies under others.
+/// One of two: what lies under the id `ID`, or what lies under others. It is read and written under an id that was read and written before.
+///
+/// It is refused as what was chosen is.
+///
+/// ```text
+/// type Rest = Choice<Be<u16>, Only<(), 3>, 2>;                // a number under 2, nothing under 3
+/// ```
 #[derive(Debug, PartialEq, Eq, Drop)]
 pub enum Choice<A, B, const ID: u8> {
+    /// What lies under the id `ID`.
     This(A),
+    /// What lies under another id.
     Other(B),
 }
 
-/// What lies under the id `ID`, the last that there is: another is refused.
+/// What lies under the id `ID`, the last that there is. Under another id it is refused with `IdVariantNotFound`, and nothing moves.
+///
+/// ```text
+/// type Last = Only<(), 3>;                                    // nothing under 3
+/// ```
 #[derive(Debug, PartialEq, Eq, Drop)]
 pub struct Only<A, const ID: u8>(pub A);
 
 /// An id of `N` bits, big and `Msb0`, and behind it what lies under the id `ID`, or what lies under others.
+///
+/// It is refused as the id is, which is a number of `N` bits, and then as what was chosen is. Where no part has the id that was read, it is refused with
+/// `IdVariantNotFound`, and the reader stands behind the id.
+///
+/// ```text
+/// type Parts = Tagged<Be<u16>, Only<(), 2>, 1, 8>;            // 01 BE EF, or 02
+/// ```
 #[derive(Debug, PartialEq, Eq, Drop)]
 pub enum Tagged<A, B, const ID: u8, const N: usize> {
+    /// The id `ID`, and what lies under it.
     This(A),
+    /// Another id, and what lies under it.
     Other(B),
 }
 
-/// What has an id.
+/// What has an id: the kinds that an id chooses from.
 pub trait Named {
     // Its id.
     ghost id_of: { Self → ℕ };

@@ -17,6 +17,13 @@ use std::alloc::Global;
 use std::io::Cursor;
 
 /// The bytes of a value, with the last one filled with zeros.
+///
+/// The caller's condition: the type may be written under the context. It is refused as the type is, or with `Io(OutOfMemory)` where no memory
+/// is found for the bytes.
+///
+/// ```text
+/// padded_bytes(&5u8, alloc, BitSize(4))?                      // 50
+/// ```
 pub fn padded_bytes<Ctx, T: DekuWriter<Ctx>>(
     value: &T,
     alloc: Global,
@@ -71,6 +78,12 @@ fn taken_bytes(cursor: Cursor<Vec<u8>>) -> Vec<u8>
 }
 
 /// How many bits of the bytes a read takes from the first one on, and the value.
+///
+/// The caller's condition: the type may be read under the context. It is refused as the type is.
+///
+/// ```text
+/// read_whole::<BitSize, u8>(alloc, &[0x5F], BitSize(4))?      // (4, 5)
+/// ```
 pub fn read_whole<Ctx, T: DekuReader<Ctx>>(
     alloc: Global,
     bytes: &[u8],

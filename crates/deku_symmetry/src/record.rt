@@ -15,7 +15,11 @@ use deku::reader::Reader;
 use deku::writer::Writer;
 use deku::{DekuError, DekuReader, DekuWriter};
 
-/// A record that is the tuple of its parts, one way and the other.
+/// A record that is the tuple of its parts, one way and the other. Its two laws leave no field out of the parts.
+///
+/// ```text
+/// type Parts = (Msb<u8, 4>, Msb<u8, 4>, Be<u16>);             // of a record of three fields
+/// ```
 pub trait Parted: Drop {
     /// The parts, in the order in which they lie.
     type Parts: Symmetric<()>;
@@ -43,7 +47,7 @@ pub trait Parted: Drop {
     ghost there: { (v : Self) → record_of (parts_of v) ≡ v };
 }
 
-/// A record whose reader and writer are those of its parts: it is symmetric.
+/// A record whose reader and writer are those of its parts: it is `Symmetric<()>`. The page `docs/RECORDS.md` has one whole.
 pub trait Record: Parted + DekuReader<()> + DekuWriter<()> {
     // Nothing is read but the parts.
     ghost reads: { (b : Bool) (s : Standing (Option Stream)) (r : Result Self Refusal) (u : Standing (Option Stream))
@@ -54,7 +58,13 @@ pub trait Record: Parted + DekuReader<()> + DekuWriter<()> {
         → Self.DekuWriter.meaning v tt b s r u → Self.Parts.DekuWriter.meaning (Self.parts_of v) tt b s r u };
 }
 
-/// Reads the parts, and is the record of them.
+/// Reads the parts, and is the record of them: the body of a record's `from_reader_with_ctx`.
+///
+/// The caller's condition: the parts may be read. It is refused as they are, and what was read before stays read.
+///
+/// ```text
+/// read_record(reader)
+/// ```
 pub fn read_record<T: Parted, R: Source>(reader: &mut Reader<R>) -> Result<T, DekuError>
     requires { T.Parts.DekuReader.accepts tt }
     ensures reads { Reads R.told (Mapped T.record_of (T.Parts.DekuReader.meaning tt)) reader.old result reader.new }
@@ -64,7 +74,13 @@ pub fn read_record<T: Parted, R: Source>(reader: &mut Reader<R>) -> Result<T, De
     Ok(T::from_parts(parts))
 }
 
-/// Writes the parts of the record.
+/// Writes the parts of the record: the body of a record's `to_writer`.
+///
+/// The caller's condition: the parts may be written. It is refused as they are, and what was written before stays written.
+///
+/// ```text
+/// write_record(self, writer)
+/// ```
 pub fn write_record<T: Parted, W: Sink>(value: &T, writer: &mut Writer<W>) -> Result<(), DekuError>
     requires { T.Parts.DekuWriter.accepts tt }
     ensures { Writes W.told (T.Parts.DekuWriter.meaning (T.parts_of value.now) tt) writer.old result writer.new }
