@@ -67,6 +67,14 @@ bytes_lie (v ∷ vs) ps h =
     let w : breadth ps ≡ 8 + 8 * length vs = l.wide in
     record { high = l.high; wide = omega (arith, w) }
 
+-- a byte that has pieces is below 256
+pub byte_small : (n : ℕ) (ps : List Piece) → OfUnsigned byte (high_first Whole) n ps → n < 2 ^ 8
+byte_small n ps (ok, (bits, f, e)) =
+    let k = (field_law byte (high_first Whole) ok (pos n)).0.0 (bits, f) in
+    let same : pos n ≡ pos k.0 = k.1 in
+    let is : n ≡ k.0 = cc in
+    omega (arith, is, k.2)
+
 -- ---- that there are pieces
 abbrev pub Has : (List Piece → Type 0) → Type 0
 Has pieces = (ps : List Piece) × pieces ps
