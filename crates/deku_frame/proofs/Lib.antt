@@ -1,0 +1,3 @@
+pub mod Stepping
+pub mod Having
+pub mod Promise

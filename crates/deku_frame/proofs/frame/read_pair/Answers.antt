@@ -1,0 +1,9 @@
+use Rattle.deku.proofs.Joining.{passed_on, mapped_ok, mapped_err}
+use Rattle.deku_frame.specs.declared.frame.Frame.TheVariants.{Pair}
+use Rattle.deku_frame.proofs.frame.read_pair.Goals as goal
+
+pub returns-in_err-left-clause-reads : goal.returns-in_err-left-clause-reads
+returns-in_err-left-clause-reads g c = passed_on _ c.from_residual.ensures.1 (mapped_err (λ p. Pair p.0 p.1) c.in_err-left.ensures.reads)
+
+pub returns-clause-reads : goal.returns-clause-reads
+returns-clause-reads g c = mapped_ok (λ p. Pair p.0 p.1) c.in_ok-left.ensures.reads

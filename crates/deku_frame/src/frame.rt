@@ -1,0 +1,296 @@
+//! The frame.
+
+ghost use Rattle.std.specs.Prelude.{◌≡◌, ◌≤◌, ◌<◌, ◌^◌, List, length as count, codes, IfOk, IfErr, OnOk, MatchBool};
+ghost use Rattle.std.specs.List.{All};
+ghost use Rattle.deku_bits.specs.declared.error.DekuError.TheVariants.{Parse, InvalidParam};
+ghost use Rattle.deku_bits.specs.Faults.{Tells};
+ghost use Rattle.deku_bits.specs.Pieces.{Piece};
+ghost use Rattle.deku_bits.specs.ReaderCalls.{Reads};
+ghost use Rattle.deku_bits.specs.WriterCalls.{Writes};
+ghost use Rattle.deku.specs.Early.{Promptly};
+ghost use Rattle.deku_frame.specs.Frames.{OfFrame, ReadsPing, ReadsSized, ReadsData, ReadsHalves, ReadsPair, ReadsBody, WritesBody, IsInStep, id_of};
+
+use deku::ctx::Endian::Big;
+use deku::ctx::{BitSize, Limit};
+use deku::device::{Sink, Source};
+use deku::prelude::{
+    DekuContainerRead, DekuContainerWrite, DekuEnumExt, DekuError, DekuReader, DekuUpdate,
+    DekuWriter, Reader, Writer,
+};
+use deku_symmetry::Symmetric;
+
+pub mod laws;
+
+/// A frame: four bits of an id, four of a version, which is 1, and the fields that the id names. All lie big, with their high bits first.
+///
+/// What `to_bytes` and `from_bytes` promise of a frame beyond their own clauses, whose bodies stand in the traits, is said by [`laws`], which speak of
+/// those clauses: the bytes of a frame are what its pieces lay out, and from them, whatever follows, comes the frame again; bytes that are read as
+/// a frame begin with its own.
+///
+/// ```text
+/// let frame = Frame::pair(5, 0x2A7)?;
+/// frame.to_bytes(alloc)?                                      // 31 2A A7
+/// let ((rest, bits), again) = Frame::from_bytes(alloc, (&[0x31, 0x2A, 0xA7, 0x99], 0))?;     // the frame; 99 is left, at bit 0
+/// ```
+#[derive(Debug, PartialEq, Eq, Drop)]
+pub enum Frame {
+    /// Id 1: sixteen bits.
+    Ping { token: u16 },
+    /// Id 2: a byte that counts those behind it.
+    Data { length: u8, payload: Vec<u8> },
+    /// Id 3: five bits and eleven.
+    Pair { left: u8, right: u16 },
+}
+
+impl Frame {
+    /// A frame of a token. It lies as pieces, as each frame that a constructor answers.
+    ///
+    /// ```text
+    /// Frame::ping(0xBEEF).to_bytes(alloc)?                        // 11 BE EF
+    /// ```
+    pub fn ping(token: u16) -> Frame
+        ensures is { result ≡ Frame.Ping token }
+        ensures lies { (ps : List Piece) × OfFrame result ps }
+    {
+        Frame::Ping { token }
+    }
+
+    /// A frame of these bytes, with their count. More than 255 are refused with `Parse("error parsing int")`.
+    ///
+    /// ```text
+    /// Frame::data([0xAA, 0xBB].to_vec(alloc)?)?.to_bytes(alloc)?  // 21 02 AA BB
+    /// ```
+    pub fn data(payload: Vec<u8>) -> Result<Frame, DekuError>
+        ensures ok { IfOk result (λ f. (count payload.items < 2 ^ 8) × (f ≡ Frame.Data (count payload.items) payload)) }
+        ensures lies { IfOk result (λ f. (ps : List Piece) × OfFrame f ps) }
+        ensures err { IfErr result (λ e. (2 ^ 8 ≤ count payload.items) × Tells Parse (codes "error parsing int") e) }
+    {
+        match length_of(payload.as_slice()) {
+            Ok(length) => Ok(Frame::Data { length, payload }),
+            Err(refusal) => Err(refusal),
+        }
+    }
+
+    /// A frame of two numbers. A left one from 32 on, or a right one from 2048 on, is refused with
+    /// `InvalidParam("bit size of input is larger than requested size")`.
+    ///
+    /// ```text
+    /// Frame::pair(5, 0x2A7)?.to_bytes(alloc)?                     // 31 2A A7
+    /// ```
+    pub fn pair(left: u8, right: u16) -> Result<Frame, DekuError>
+        ensures ok { IfOk result (λ f. (left < 2 ^ 5) × (right < 2 ^ 11) × (f ≡ Frame.Pair left right)) }
+        ensures lies { IfOk result (λ f. (ps : List Piece) × OfFrame f ps) }
+        ensures err { IfErr result (λ e. ((left < 2 ^ 5) × (right < 2 ^ 11) → ⊥) × Tells InvalidParam (codes "bit size of input is larger than requested size") e) }
+    {
+        if left < 32 && right < 2048 {
+            Ok(Frame::Pair { left, right })
+        } else {
+            Err(DekuError::InvalidParam("bit size of input is larger than requested size"))
+        }
+    }
+
+    // The id of the variant.
+    fn id(&self) -> u8
+        ensures { result ≡ id_of self.now }
+    {
+        match self {
+            Frame::Ping { .. } => 1,
+            Frame::Data { .. } => 2,
+            Frame::Pair { .. } => 3,
+        }
+    }
+}
+
+// How many bytes there are, which are below 256 each. More than 255 are refused.
+fn length_of(bytes: &[u8]) -> Result<u8, DekuError>
+    ensures ok { IfOk result (λ n. (count bytes.now < 2 ^ 8) × (n ≡ count bytes.now)) }
+    ensures err { IfErr result (λ e. (2 ^ 8 ≤ count bytes.now) × Tells Parse (codes "error parsing int") e) }
+    ensures octets { All (λ b. b < 256) bytes.now }
+{
+    let length = u8::try_from(bytes.len())?;
+    Ok(length)
+}
+
+// Reads a token.
+fn read_ping<R: Source>(reader: &mut Reader<R>) -> Result<Frame, DekuError>
+    ensures reads { Reads R.told ReadsPing reader.old result reader.new }
+    ensures early { OnOk result (Promptly R.told reader.old reader.new) }
+{
+    let token = u16::from_reader_with_ctx(reader, Big)?;
+    Ok(Frame::Ping { token })
+}
+
+// Reads a length and so many bytes.
+fn read_sized<R: Source>(reader: &mut Reader<R>) -> Result<(u8, Vec<u8>), DekuError>
+    ensures reads { Reads R.told ReadsSized reader.old result reader.new }
+    ensures early { OnOk result (Promptly R.told reader.old reader.new) }
+{
+    let length = u8::from_reader_with_ctx(reader, Big)?;
+    let payload = Vec::<u8>::from_reader_with_ctx(
+        reader,
+        (Limit::new_count(length as usize), Big),
+    )?;
+    Ok((length, payload))
+}
+
+// Reads a length and so many bytes, as a frame.
+fn read_data<R: Source>(reader: &mut Reader<R>) -> Result<Frame, DekuError>
+    ensures reads { Reads R.told ReadsData reader.old result reader.new }
+    ensures early { OnOk result (Promptly R.told reader.old reader.new) }
+{
+    let (length, payload) = read_sized(reader)?;
+    Ok(Frame::Data { length, payload })
+}
+
+// Reads two numbers.
+fn read_halves<R: Source>(reader: &mut Reader<R>) -> Result<(u8, u16), DekuError>
+    ensures reads { Reads R.told ReadsHalves reader.old result reader.new }
+    ensures early { OnOk result (Promptly R.told reader.old reader.new) }
+{
+    let left = u8::from_reader_with_ctx(reader, (Big, BitSize(5)))?;
+    let right = u16::from_reader_with_ctx(reader, (Big, BitSize(11)))?;
+    Ok((left, right))
+}
+
+// Reads two numbers, as a frame.
+fn read_pair<R: Source>(reader: &mut Reader<R>) -> Result<Frame, DekuError>
+    ensures reads { Reads R.told ReadsPair reader.old result reader.new }
+    ensures early { OnOk result (Promptly R.told reader.old reader.new) }
+{
+    let (left, right) = read_halves(reader)?;
+    Ok(Frame::Pair { left, right })
+}
+
+// Reads what is behind an id and a version.
+fn read_body<R: Source>(reader: &mut Reader<R>, id: u8, version: u8) -> Result<Frame, DekuError>
+    ensures reads { Reads R.told (ReadsBody (id, version)) reader.old result reader.new }
+    ensures early { OnOk result (Promptly R.told reader.old reader.new) }
+{
+    if version != 1 {
+        return Err(DekuError::Assertion("Field failed assertion"));
+    }
+    match id {
+        1 => read_ping(reader),
+        2 => read_data(reader),
+        3 => read_pair(reader),
+        _ => Err(DekuError::IdVariantNotFound),
+    }
+}
+
+// Writes the fields behind the id and the version.
+fn write_body<W: Sink>(frame: &Frame, writer: &mut Writer<W>) -> Result<(), DekuError>
+    ensures { Writes W.told (WritesBody frame.now) writer.old result writer.new }
+{
+    match frame {
+        Frame::Ping { token } => token.to_writer(writer, Big),
+        Frame::Data { length, payload } => match length.to_writer(writer, Big) {
+            Ok(()) => payload.to_writer(writer, Big),
+            Err(refusal) => Err(refusal),
+        },
+        Frame::Pair { left, right } => match left.to_writer(writer, (Big, BitSize(5))) {
+            Ok(()) => right.to_writer(writer, (Big, BitSize(11))),
+            Err(refusal) => Err(refusal),
+        },
+    }
+}
+
+/// The id and the version are read, and then the fields of the id.
+///
+/// A version other than 1 is refused with `Assertion("Field failed assertion")`, and then an id other than 1, 2 and 3 with
+/// `IdVariantNotFound`; the reader stays behind the eight bits. Else the refusal is that of the first field that is refused.
+impl DekuReader<()> for Frame {
+    ghost use Rattle.std.specs.Prelude.{◌≡◌};
+    ghost use Rattle.deku_frame.specs.Frames.{ReadsFrame};
+
+    ghost accepts = { λ c. c ≡ c };
+
+    ghost prompt = { λ c. c ≡ c };
+
+    ghost meaning = { λ _. ReadsFrame };
+
+    fn from_reader_with_ctx<R: Source>(
+        reader: &mut Reader<R>,
+        _ctx: (),
+    ) -> Result<Self, DekuError> {
+        match <(u8, u8)>::from_reader_with_ctx(reader, (Big, BitSize(4))) {
+            Ok((id, version)) => read_body(reader, id, version),
+            Err(refusal) => Err(refusal),
+        }
+    }
+}
+
+/// The id, the version and the fields.
+///
+/// A length that is not that of the payload is refused with `Assertion("Field failed assertion")`, and nothing moves. Else the refusal is
+/// that of the first field that does not fit, and what the fields before it moved stays moved.
+impl DekuWriter<()> for Frame {
+    ghost use Rattle.std.specs.Prelude.{◌≡◌};
+    ghost use Rattle.deku_frame.specs.Frames.{WritesFrame};
+
+    ghost accepts = { λ c. c ≡ c };
+
+    ghost meaning = { λ f _. WritesFrame f };
+
+    fn to_writer<W: Sink>(&self, writer: &mut Writer<W>, _ctx: ()) -> Result<(), DekuError> {
+        if !in_step(self) {
+            return Err(DekuError::Assertion("Field failed assertion"));
+        }
+        match (self.id(), 1u8).to_writer(writer, (Big, BitSize(4))) {
+            Ok(()) => write_body(self, writer),
+            Err(refusal) => Err(refusal),
+        }
+    }
+}
+
+// Whether the length is that of the payload, where there is one.
+fn in_step(frame: &Frame) -> bool
+    ensures { MatchBool result (IsInStep frame.now) (IsInStep frame.now → ⊥) }
+{
+    match frame {
+        Frame::Data { length, payload } => payload.len() == *length as usize,
+        _ => true,
+    }
+}
+
+impl DekuContainerRead for Frame {}
+
+impl DekuContainerWrite for Frame {}
+
+/// The pieces of the id, the version and the fields; a length that is not that of the payload has none.
+impl Symmetric<()> for Frame {
+    ghost use Rattle.deku_frame.specs.Frames.{OfFrame, SameFrame};
+    ghost use Rattle.deku_frame.specs.FrameLaws.{frame_symmetric};
+
+    ghost pieces = { λ f _. OfFrame f };
+
+    ghost same = { SameFrame };
+
+    ghost symmetric = { λ _. frame_symmetric };
+}
+
+/// The length is that of the payload. It is refused with `Parse("error parsing int")` where a byte cannot count so many, and nothing changes. Frames
+/// without a payload stay as they are.
+impl DekuUpdate for Frame {
+    ghost use Rattle.deku_frame.specs.Frames.{Updates};
+
+    ghost updates = { Updates };
+
+    fn update(&mut self) -> Result<(), DekuError> {
+        if let Frame::Data { length, payload } = self {
+            *length = u8::try_from(payload.len())?;
+        }
+        Ok(())
+    }
+}
+
+/// A ping is 1, data 2, a pair 3.
+impl DekuEnumExt<u8> for Frame {
+    ghost use Rattle.std.specs.Prelude.{◌≡◌, Ok};
+    ghost use Rattle.deku_frame.specs.Frames.{id_of};
+
+    ghost has_id = { λ f r. r ≡ Ok (id_of f) };
+
+    fn deku_id(&self) -> Result<u8, DekuError> {
+        Ok(self.id())
+    }
+}

@@ -1,0 +1,16 @@
+pub mod Answering
+pub mod Turns
+pub mod Numbers
+pub mod Joined
+pub mod Times
+pub mod Turned
+pub mod Packing
+pub mod Unpacking
+pub mod Counted
+pub mod Tuples
+pub mod StandIns
+pub mod Ended
+pub mod Chosen
+pub mod Choices
+pub mod WholeBytes
+pub mod HighFirst

@@ -1,0 +1,15 @@
+use Rattle.std.proofs.Common.{refl, ap, ◌∙◌}
+use Rattle.deku_bits.proofs.Handing.{unbroken}
+use Rattle.deku.proofs.Containers.{starts_fresh, whole_source, new_source, counted_state}
+use Rattle.deku_pieces.proofs.Unpacking.{from_first}
+use Rattle.deku_pieces.proofs.whole.read_whole.Goals as goal
+
+pub returns-in-Ok : goal.returns-in-Ok
+returns-in-Ok g c =
+    let begin = starts_fresh _ c.args.bytes.now _ (ap whole_source c.new-reader.ensures.source ∙ new_source c.new.result _ c.new.ensures.inner c.new.ensures.position) c.new-reader.ensures.state in
+    (_, from_first (g.T.DekuReader.meaning c.args.ctx) c.args.bytes.now _ _ _ begin (unbroken refl refl c.in-Ok.ensures.reads), counted_state (whole_source c.from_reader_with_ctx.new.reader.source) c.from_reader_with_ctx.new.reader.state c.bits_read.result c.bits_read.ensures)
+
+pub returns-in-Err : goal.returns-in-Err
+returns-in-Err g c =
+    let begin = starts_fresh _ c.args.bytes.now _ (ap whole_source c.new-reader.ensures.source ∙ new_source c.new.result _ c.new.ensures.inner c.new.ensures.position) c.new-reader.ensures.state in
+    (_, from_first (g.T.DekuReader.meaning c.args.ctx) c.args.bytes.now _ _ _ begin (unbroken refl refl c.in-Err.ensures.reads))

@@ -1,0 +1,4 @@
+pub mod Symmetric
+pub mod Pieces
+pub mod Packs
+pub mod Choices

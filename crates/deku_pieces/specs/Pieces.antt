@@ -1,0 +1,70 @@
+-- Which pieces the values of types have.
+use Rattle.std.specs.Prelude.{◌≡◌, ℕ, Bool, List, [], ◌∷◌, ◌++◌, length, Option, None, Some, ⊤, ℤ, pos}
+use Rattle.deku_bits.specs.Pieces.{Piece, piece}
+use Rattle.deku_num.specs.declared.kind.NumberType.{NumberType}
+use Rattle.deku_num.specs.declared.ctx.Layout.{Layout}
+use Rattle.deku_bits.specs.declared.ctx.Order.TheVariants.{Msb0}
+use Rattle.deku_num.specs.declared.ctx.Endian.TheVariants.{Little, Big}
+use Rattle.deku_num.specs.declared.ctx.Size.{Size}
+use Rattle.deku_num.specs.declared.ctx.Size.TheVariants.{Whole}
+use Rattle.deku_num.specs.Numbers.{byte, IsAllowed, IsFieldOf}
+use Rattle.deku.specs.Texts.{NoZeros}
+
+-- a number that fits, under a layout that is not refused: one piece, in its order, of the bits that are worth it
+abbrev pub OfNumber : NumberType → Layout → ℤ → List Piece → Type 0
+OfNumber t l v ps = IsAllowed t l × ((bits : List Bool) × IsFieldOf t l v bits × (ps ≡ piece l.order bits ∷ []))
+
+-- a number without a sign
+abbrev pub OfUnsigned : NumberType → Layout → ℕ → List Piece → Type 0
+OfUnsigned t l n = OfNumber t l (pos n)
+
+-- no piece
+abbrev pub Nothing : List Piece → Type 0
+Nothing ps = ps ≡ []
+
+-- pieces of one, and then of another
+abbrev pub InTurn : (List Piece → Type 0) → (List Piece → Type 0) → List Piece → Type 0
+InTurn first second ps = (xs : List Piece) × (ys : List Piece) × first xs × second ys × (ps ≡ xs ++ ys)
+
+-- those of items, one after the other
+abbrev pub OfEach : {V : Type 0} → (V → List Piece → Type 0) → List V → List Piece → Type 0
+OfEach pieces [] = Nothing
+OfEach pieces (v ∷ vs) = InTurn (pieces v) (OfEach pieces vs)
+
+-- those of n items
+abbrev pub OfTimes : {V : Type 0} → ℕ → (V → List Piece → Type 0) → List V → List Piece → Type 0
+OfTimes n pieces vs ps = (length vs ≡ n) × OfEach pieces vs ps
+
+-- those of the item that there is; where there is none, there are no pieces, not even an empty list of them
+abbrev pub OfHeld : {V : Type 0} → (V → List Piece → Type 0) → Option V → List Piece → Type 0
+OfHeld pieces None ps = ⊥
+OfHeld pieces (Some v) ps = pieces v ps
+
+-- those of numbers, none of them zero, and of a zero behind them
+abbrev pub OfEnded : (ℕ → List Piece → Type 0) → List ℕ → List Piece → Type 0
+OfEnded pieces vs ps = NoZeros vs × OfEach pieces (vs ++ 0 ∷ []) ps
+
+-- the layout of `()`
+abbrev pub plain : Layout
+plain = record { endian = Little; order = Msb0; size = Whole }
+
+-- the layout of what is big, high bits first
+abbrev pub high_first : Size → Layout
+high_first size = record { endian = Big; order = Msb0; size = size }
+
+-- those of the bytes of a text, and of the zero that ends it
+abbrev pub OfText : List ℕ → List Piece → Type 0
+OfText = OfEnded (OfUnsigned byte plain)
+
+-- ---- the same values
+-- items that are the same, one by one
+abbrev pub SameEach : {V : Type 0} → (V → V → Type 0) → List V → List V → Type 0
+SameEach same [] [] = ⊤
+SameEach same (v ∷ vs) (w ∷ ws) = same v w × SameEach same vs ws
+SameEach same _ _ = ⊥
+
+-- the same item, or none
+abbrev pub SameHeld : {V : Type 0} → (V → V → Type 0) → Option V → Option V → Type 0
+SameHeld same None None = ⊤
+SameHeld same (Some v) (Some w) = same v w
+SameHeld same _ _ = ⊥

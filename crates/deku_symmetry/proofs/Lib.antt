@@ -1,0 +1,1 @@
+pub use Rattle.deku_pieces.proofs.HighFirst

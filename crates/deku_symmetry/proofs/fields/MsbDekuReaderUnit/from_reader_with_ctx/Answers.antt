@@ -1,0 +1,11 @@
+use Rattle.deku.proofs.Joining.{passed_on, mapped_ok, mapped_err}
+use Rattle.deku_symmetry.proofs.fields.MsbDekuReaderUnit.from_reader_with_ctx.Goals as goal
+
+pub returns-in_err-value-clause-reads : goal.returns-in_err-value-clause-reads
+returns-in_err-value-clause-reads g c = passed_on _ c.from_residual.ensures.1 (mapped_err (λ v. record { 0 = v }) c.in_err-value.ensures.reads)
+
+pub returns-clause-reads : goal.returns-clause-reads
+returns-clause-reads g c = mapped_ok (λ v. record { 0 = v }) c.in_ok-value.ensures.reads
+
+pub returns-clause-early : goal.returns-clause-early
+returns-clause-early g c = c.in_ok-value.ensures.early

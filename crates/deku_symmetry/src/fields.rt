@@ -1,0 +1,329 @@
+//! Items whose type says how they lie: the parts of records.
+
+use crate::traits::Symmetric;
+use deku::ctx::{BitSize, Endian, Order};
+use deku::device::{Sink, Source};
+use deku::reader::Reader;
+use deku::writer::Writer;
+use deku::{DekuError, DekuReader, DekuWriter};
+
+/// A number of `N` bits, high bits first: big and `Msb0`. It is refused as the number is under that context.
+///
+/// ```text
+/// (Msb::<u8, 4>(6), Msb::<u8, 4>(9)).pack(alloc, ())?       // 69
+/// ```
+#[derive(Debug, PartialEq, Eq, Drop)]
+pub struct Msb<T, const N: usize>(pub T);
+
+impl<T: DekuReader<(Endian, BitSize)>, const N: usize> DekuReader<()> for Msb<T, N> {
+    ghost use Rattle.deku_bits.specs.Outcomes.{Mapped};
+    ghost use Rattle.deku_num.specs.declared.ctx.Endian.TheVariants.{Big};
+
+    ghost accepts = { λ _. T.accepts (Big, record { 0 = N }) };
+
+    ghost prompt = { λ _. T.prompt (Big, record { 0 = N }) };
+
+    ghost meaning = { λ _. Mapped (λ v. record { 0 = v }) (T.meaning (Big, record { 0 = N })) };
+
+    fn from_reader_with_ctx<R: Source>(
+        reader: &mut Reader<R>,
+        _ctx: (),
+    ) -> Result<Self, DekuError> {
+        let value = T::from_reader_with_ctx(reader, (Endian::Big, BitSize(N)))?;
+        Ok(Msb(value))
+    }
+}
+
+impl<T: DekuWriter<(Endian, BitSize)>, const N: usize> DekuWriter<()> for Msb<T, N> {
+    ghost use Rattle.deku_num.specs.declared.ctx.Endian.TheVariants.{Big};
+
+    ghost accepts = { λ _. T.accepts (Big, record { 0 = N }) };
+
+    ghost meaning = { λ v _. T.meaning v.0 (Big, record { 0 = N }) };
+
+    fn to_writer<W: Sink>(&self, writer: &mut Writer<W>, _ctx: ()) -> Result<(), DekuError> {
+        self.0.to_writer(writer, (Endian::Big, BitSize(N)))
+    }
+}
+
+/// The pieces of the number.
+impl<T: Symmetric<(Endian, BitSize)>, const N: usize> Symmetric<()> for Msb<T, N> {
+    ghost use Rattle.std.specs.Prelude.{refl};
+    ghost use Rattle.deku_pieces.proofs.Turned.{mapped_symmetric};
+    ghost use Rattle.deku_num.specs.declared.ctx.Endian.TheVariants.{Big};
+
+    ghost pieces = { λ v _. T.pieces v.0 (Big, record { 0 = N }) };
+
+    ghost same = { λ v w. T.same v.0 w.0 };
+
+    ghost symmetric = { λ _. mapped_symmetric (λ v. record { 0 = v }) (λ v. v.0) _ _ _ _ (λ v. refl) (T.symmetric (Big, record { 0 = N })) };
+}
+
+/// A number of `N` bits, low bits first: little and `Lsb0`. It is refused as the number is under that context.
+///
+/// ```text
+/// (Lsb::<u8, 4>(1), Lsb::<u16, 12>(0x123)).pack(alloc, ())? // 31 12
+/// ```
+#[derive(Debug, PartialEq, Eq, Drop)]
+pub struct Lsb<T, const N: usize>(pub T);
+
+impl<T: DekuReader<(Endian, BitSize, Order)>, const N: usize> DekuReader<()> for Lsb<T, N> {
+    ghost use Rattle.deku_bits.specs.Outcomes.{Mapped};
+    ghost use Rattle.deku_num.specs.declared.ctx.Endian.TheVariants.{Little};
+    ghost use Rattle.deku_bits.specs.declared.ctx.Order.TheVariants.{Lsb0};
+
+    ghost accepts = { λ _. T.accepts (Little, record { 0 = N }, Lsb0) };
+
+    ghost prompt = { λ _. T.prompt (Little, record { 0 = N }, Lsb0) };
+
+    ghost meaning = { λ _. Mapped (λ v. record { 0 = v }) (T.meaning (Little, record { 0 = N }, Lsb0)) };
+
+    fn from_reader_with_ctx<R: Source>(
+        reader: &mut Reader<R>,
+        _ctx: (),
+    ) -> Result<Self, DekuError> {
+        let value = T::from_reader_with_ctx(reader, (Endian::Little, BitSize(N), Order::Lsb0))?;
+        Ok(Lsb(value))
+    }
+}
+
+impl<T: DekuWriter<(Endian, BitSize, Order)>, const N: usize> DekuWriter<()> for Lsb<T, N> {
+    ghost use Rattle.deku_num.specs.declared.ctx.Endian.TheVariants.{Little};
+    ghost use Rattle.deku_bits.specs.declared.ctx.Order.TheVariants.{Lsb0};
+
+    ghost accepts = { λ _. T.accepts (Little, record { 0 = N }, Lsb0) };
+
+    ghost meaning = { λ v _. T.meaning v.0 (Little, record { 0 = N }, Lsb0) };
+
+    fn to_writer<W: Sink>(&self, writer: &mut Writer<W>, _ctx: ()) -> Result<(), DekuError> {
+        self.0
+            .to_writer(writer, (Endian::Little, BitSize(N), Order::Lsb0))
+    }
+}
+
+/// The pieces of the number.
+impl<T: Symmetric<(Endian, BitSize, Order)>, const N: usize> Symmetric<()> for Lsb<T, N> {
+    ghost use Rattle.std.specs.Prelude.{refl};
+    ghost use Rattle.deku_pieces.proofs.Turned.{mapped_symmetric};
+    ghost use Rattle.deku_num.specs.declared.ctx.Endian.TheVariants.{Little};
+    ghost use Rattle.deku_bits.specs.declared.ctx.Order.TheVariants.{Lsb0};
+
+    ghost pieces = { λ v _. T.pieces v.0 (Little, record { 0 = N }, Lsb0) };
+
+    ghost same = { λ v w. T.same v.0 w.0 };
+
+    ghost symmetric = { λ _. mapped_symmetric (λ v. record { 0 = v }) (λ v. v.0) _ _ _ _ (λ v. refl) (T.symmetric (Little, record { 0 = N }, Lsb0)) };
+}
+
+/// A number of `N` bits in `Msb0`, its low byte first: little and `Msb0`. It is refused as the number is under that context.
+///
+/// ```text
+/// MsbLe::<u16, 10>(0x3AB).pack(alloc, ())?                  // AB C0
+/// ```
+#[derive(Debug, PartialEq, Eq, Drop)]
+pub struct MsbLe<T, const N: usize>(pub T);
+
+impl<T: DekuReader<(Endian, BitSize)>, const N: usize> DekuReader<()> for MsbLe<T, N> {
+    ghost use Rattle.deku_bits.specs.Outcomes.{Mapped};
+    ghost use Rattle.deku_num.specs.declared.ctx.Endian.TheVariants.{Little};
+
+    ghost accepts = { λ _. T.accepts (Little, record { 0 = N }) };
+
+    ghost prompt = { λ _. T.prompt (Little, record { 0 = N }) };
+
+    ghost meaning = { λ _. Mapped (λ v. record { 0 = v }) (T.meaning (Little, record { 0 = N })) };
+
+    fn from_reader_with_ctx<R: Source>(
+        reader: &mut Reader<R>,
+        _ctx: (),
+    ) -> Result<Self, DekuError> {
+        let value = T::from_reader_with_ctx(reader, (Endian::Little, BitSize(N)))?;
+        Ok(MsbLe(value))
+    }
+}
+
+impl<T: DekuWriter<(Endian, BitSize)>, const N: usize> DekuWriter<()> for MsbLe<T, N> {
+    ghost use Rattle.deku_num.specs.declared.ctx.Endian.TheVariants.{Little};
+
+    ghost accepts = { λ _. T.accepts (Little, record { 0 = N }) };
+
+    ghost meaning = { λ v _. T.meaning v.0 (Little, record { 0 = N }) };
+
+    fn to_writer<W: Sink>(&self, writer: &mut Writer<W>, _ctx: ()) -> Result<(), DekuError> {
+        self.0.to_writer(writer, (Endian::Little, BitSize(N)))
+    }
+}
+
+/// The pieces of the number.
+impl<T: Symmetric<(Endian, BitSize)>, const N: usize> Symmetric<()> for MsbLe<T, N> {
+    ghost use Rattle.std.specs.Prelude.{refl};
+    ghost use Rattle.deku_pieces.proofs.Turned.{mapped_symmetric};
+    ghost use Rattle.deku_num.specs.declared.ctx.Endian.TheVariants.{Little};
+
+    ghost pieces = { λ v _. T.pieces v.0 (Little, record { 0 = N }) };
+
+    ghost same = { λ v w. T.same v.0 w.0 };
+
+    ghost symmetric = { λ _. mapped_symmetric (λ v. record { 0 = v }) (λ v. v.0) _ _ _ _ (λ v. refl) (T.symmetric (Little, record { 0 = N })) };
+}
+
+/// A number of `N` bits in `Lsb0`, its high byte first: big and `Lsb0`. It is refused as the number is under that context; a signed one of more
+/// than eight bits whose width is no multiple of eight always is.
+///
+/// ```text
+/// (LsbBe::<u16, 13>(0x1001), LsbBe::<u8, 3>(4)).pack(alloc, ())? // 10 81
+/// ```
+#[derive(Debug, PartialEq, Eq, Drop)]
+pub struct LsbBe<T, const N: usize>(pub T);
+
+impl<T: DekuReader<(Endian, BitSize, Order)>, const N: usize> DekuReader<()> for LsbBe<T, N> {
+    ghost use Rattle.deku_bits.specs.Outcomes.{Mapped};
+    ghost use Rattle.deku_num.specs.declared.ctx.Endian.TheVariants.{Big};
+    ghost use Rattle.deku_bits.specs.declared.ctx.Order.TheVariants.{Lsb0};
+
+    ghost accepts = { λ _. T.accepts (Big, record { 0 = N }, Lsb0) };
+
+    ghost prompt = { λ _. T.prompt (Big, record { 0 = N }, Lsb0) };
+
+    ghost meaning = { λ _. Mapped (λ v. record { 0 = v }) (T.meaning (Big, record { 0 = N }, Lsb0)) };
+
+    fn from_reader_with_ctx<R: Source>(
+        reader: &mut Reader<R>,
+        _ctx: (),
+    ) -> Result<Self, DekuError> {
+        let value = T::from_reader_with_ctx(reader, (Endian::Big, BitSize(N), Order::Lsb0))?;
+        Ok(LsbBe(value))
+    }
+}
+
+impl<T: DekuWriter<(Endian, BitSize, Order)>, const N: usize> DekuWriter<()> for LsbBe<T, N> {
+    ghost use Rattle.deku_num.specs.declared.ctx.Endian.TheVariants.{Big};
+    ghost use Rattle.deku_bits.specs.declared.ctx.Order.TheVariants.{Lsb0};
+
+    ghost accepts = { λ _. T.accepts (Big, record { 0 = N }, Lsb0) };
+
+    ghost meaning = { λ v _. T.meaning v.0 (Big, record { 0 = N }, Lsb0) };
+
+    fn to_writer<W: Sink>(&self, writer: &mut Writer<W>, _ctx: ()) -> Result<(), DekuError> {
+        self.0
+            .to_writer(writer, (Endian::Big, BitSize(N), Order::Lsb0))
+    }
+}
+
+/// The pieces of the number.
+impl<T: Symmetric<(Endian, BitSize, Order)>, const N: usize> Symmetric<()> for LsbBe<T, N> {
+    ghost use Rattle.std.specs.Prelude.{refl};
+    ghost use Rattle.deku_pieces.proofs.Turned.{mapped_symmetric};
+    ghost use Rattle.deku_num.specs.declared.ctx.Endian.TheVariants.{Big};
+    ghost use Rattle.deku_bits.specs.declared.ctx.Order.TheVariants.{Lsb0};
+
+    ghost pieces = { λ v _. T.pieces v.0 (Big, record { 0 = N }, Lsb0) };
+
+    ghost same = { λ v w. T.same v.0 w.0 };
+
+    ghost symmetric = { λ _. mapped_symmetric (λ v. record { 0 = v }) (λ v. v.0) _ _ _ _ (λ v. refl) (T.symmetric (Big, record { 0 = N }, Lsb0)) };
+}
+
+/// A number of whole bytes, the high one first: big and `Msb0`.
+///
+/// ```text
+/// Be(0xC0FEu16).pack(alloc, ())?                            // C0 FE
+/// ```
+#[derive(Debug, PartialEq, Eq, Drop)]
+pub struct Be<T>(pub T);
+
+impl<T: DekuReader<Endian>> DekuReader<()> for Be<T> {
+    ghost use Rattle.deku_bits.specs.Outcomes.{Mapped};
+    ghost use Rattle.deku_num.specs.declared.ctx.Endian.TheVariants.{Big};
+
+    ghost accepts = { λ _. T.accepts Big };
+
+    ghost prompt = { λ _. T.prompt Big };
+
+    ghost meaning = { λ _. Mapped (λ v. record { 0 = v }) (T.meaning Big) };
+
+    fn from_reader_with_ctx<R: Source>(
+        reader: &mut Reader<R>,
+        _ctx: (),
+    ) -> Result<Self, DekuError> {
+        let value = T::from_reader_with_ctx(reader, Endian::Big)?;
+        Ok(Be(value))
+    }
+}
+
+impl<T: DekuWriter<Endian>> DekuWriter<()> for Be<T> {
+    ghost use Rattle.deku_num.specs.declared.ctx.Endian.TheVariants.{Big};
+
+    ghost accepts = { λ _. T.accepts Big };
+
+    ghost meaning = { λ v _. T.meaning v.0 Big };
+
+    fn to_writer<W: Sink>(&self, writer: &mut Writer<W>, _ctx: ()) -> Result<(), DekuError> {
+        self.0.to_writer(writer, Endian::Big)
+    }
+}
+
+/// The pieces of the number.
+impl<T: Symmetric<Endian>> Symmetric<()> for Be<T> {
+    ghost use Rattle.std.specs.Prelude.{refl};
+    ghost use Rattle.deku_pieces.proofs.Turned.{mapped_symmetric};
+    ghost use Rattle.deku_num.specs.declared.ctx.Endian.TheVariants.{Big};
+
+    ghost pieces = { λ v _. T.pieces v.0 Big };
+
+    ghost same = { λ v w. T.same v.0 w.0 };
+
+    ghost symmetric = { λ _. mapped_symmetric (λ v. record { 0 = v }) (λ v. v.0) _ _ _ _ (λ v. refl) (T.symmetric Big) };
+}
+
+/// A number of whole bytes, the low one first: little and `Msb0`.
+///
+/// ```text
+/// Le(0xC0FEu16).pack(alloc, ())?                            // FE C0
+/// ```
+#[derive(Debug, PartialEq, Eq, Drop)]
+pub struct Le<T>(pub T);
+
+impl<T: DekuReader<Endian>> DekuReader<()> for Le<T> {
+    ghost use Rattle.deku_bits.specs.Outcomes.{Mapped};
+    ghost use Rattle.deku_num.specs.declared.ctx.Endian.TheVariants.{Little};
+
+    ghost accepts = { λ _. T.accepts Little };
+
+    ghost prompt = { λ _. T.prompt Little };
+
+    ghost meaning = { λ _. Mapped (λ v. record { 0 = v }) (T.meaning Little) };
+
+    fn from_reader_with_ctx<R: Source>(
+        reader: &mut Reader<R>,
+        _ctx: (),
+    ) -> Result<Self, DekuError> {
+        let value = T::from_reader_with_ctx(reader, Endian::Little)?;
+        Ok(Le(value))
+    }
+}
+
+impl<T: DekuWriter<Endian>> DekuWriter<()> for Le<T> {
+    ghost use Rattle.deku_num.specs.declared.ctx.Endian.TheVariants.{Little};
+
+    ghost accepts = { λ _. T.accepts Little };
+
+    ghost meaning = { λ v _. T.meaning v.0 Little };
+
+    fn to_writer<W: Sink>(&self, writer: &mut Writer<W>, _ctx: ()) -> Result<(), DekuError> {
+        self.0.to_writer(writer, Endian::Little)
+    }
+}
+
+/// The pieces of the number.
+impl<T: Symmetric<Endian>> Symmetric<()> for Le<T> {
+    ghost use Rattle.std.specs.Prelude.{refl};
+    ghost use Rattle.deku_pieces.proofs.Turned.{mapped_symmetric};
+    ghost use Rattle.deku_num.specs.declared.ctx.Endian.TheVariants.{Little};
+
+    ghost pieces = { λ v _. T.pieces v.0 Little };
+
+    ghost same = { λ v w. T.same v.0 w.0 };
+
+    ghost symmetric = { λ _. mapped_symmetric (λ v. record { 0 = v }) (λ v. v.0) _ _ _ _ (λ v. refl) (T.symmetric Little) };
+}

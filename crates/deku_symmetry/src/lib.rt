@@ -1,0 +1,15 @@
+//! Types that are read as they are written, and records made of them in a few lines.
+#![tactic(auto)]
+
+mod fields;
+mod impls;
+mod kinds;
+pub mod laws;
+mod record;
+mod traits;
+
+pub use deku_pieces::choice::{self, Choice, Named, Only, Tagged};
+pub use fields::{Be, Le, Lsb, LsbBe, Msb, MsbLe};
+pub use kinds::Kinds;
+pub use record::{Parted, Record, read_record, write_record};
+pub use traits::Symmetric;

@@ -1,0 +1,100 @@
+//! Records that are the tuple of their parts.
+
+ghost use Rattle.std.specs.Prelude.{◌≡◌, Bool, Option, Result, OnOk};
+ghost use Rattle.deku_bits.specs.declared.error.DekuError.{DekuError as Refusal};
+ghost use Rattle.deku_bits.specs.Streams.{Stream};
+ghost use Rattle.deku_bits.specs.Standings.{Standing, Output};
+ghost use Rattle.deku_bits.specs.Outcomes.{Mapped};
+ghost use Rattle.deku_bits.specs.ReaderCalls.{Reads};
+ghost use Rattle.deku_bits.specs.WriterCalls.{Writes};
+ghost use Rattle.deku.specs.Early.{Promptly};
+
+use crate::traits::Symmetric;
+use deku::device::{Sink, Source};
+use deku::reader::Reader;
+use deku::writer::Writer;
+use deku::{DekuError, DekuReader, DekuWriter};
+
+/// A record that is the tuple of its parts, one way and the other. Its two laws leave no field out of the parts.
+///
+/// ```text
+/// type Parts = (Msb<u8, 4>, Msb<u8, 4>, Be<u16>);             // of a record of three fields
+/// ```
+pub trait Parted: Drop {
+    /// The parts, in the order in which they lie.
+    type Parts: Symmetric<()>;
+
+    // The parts of a record.
+    ghost parts_of: { Self → Self.Parts };
+
+    // The record of parts.
+    ghost record_of: { Self.Parts → Self };
+
+    /// The parts of the record.
+    fn parts(&self) -> Self::Parts
+        ensures { result ≡ parts_of self.now };
+
+    /// The record of parts.
+    fn from_parts(parts: Self::Parts) -> Self
+    where
+        Self: Sized,
+        ensures { result ≡ record_of parts };
+
+    // Parts are those of their record.
+    ghost back: { (p : Self.Parts) → parts_of (record_of p) ≡ p };
+
+    // A record is that of its parts: no field is left out of them.
+    ghost there: { (v : Self) → record_of (parts_of v) ≡ v };
+}
+
+/// A record whose reader and writer are those of its parts: it is `Symmetric<()>`. The page `docs/RECORDS.md` has one whole.
+pub trait Record: Parted + DekuReader<()> + DekuWriter<()> {
+    // Nothing is read but the parts.
+    ghost reads: { (b : Bool) (s : Standing (Option Stream)) (r : Result Self Refusal) (u : Standing (Option Stream))
+        → Self.DekuReader.meaning tt b s r u → Mapped Self.record_of (Self.Parts.DekuReader.meaning tt) b s r u };
+
+    // Nothing is written but the parts.
+    ghost writes: { (v : Self) (b : Bool) (s : Standing Output) (r : Result (Unit {0}) Refusal) (u : Standing Output)
+        → Self.DekuWriter.meaning v tt b s r u → Self.Parts.DekuWriter.meaning (Self.parts_of v) tt b s r u };
+}
+
+/// Reads the parts, and is the record of them: the body of a record's `from_reader_with_ctx`.
+///
+/// The caller's condition: the parts may be read. It is refused as they are, and what was read before stays read.
+///
+/// ```text
+/// read_record(reader)
+/// ```
+pub fn read_record<T: Parted, R: Source>(reader: &mut Reader<R>) -> Result<T, DekuError>
+    requires { T.Parts.DekuReader.accepts tt }
+    ensures reads { Reads R.told (Mapped T.record_of (T.Parts.DekuReader.meaning tt)) reader.old result reader.new }
+    ensures early { OnOk result (T.Parts.DekuReader.prompt tt → Promptly R.told reader.old reader.new) }
+{
+    let parts = T::Parts::from_reader_with_ctx(reader, ())?;
+    Ok(T::from_parts(parts))
+}
+
+/// Writes the parts of the record: the body of a record's `to_writer`.
+///
+/// The caller's condition: the parts may be written. It is refused as they are, and what was written before stays written.
+///
+/// ```text
+/// write_record(self, writer)
+/// ```
+pub fn write_record<T: Parted, W: Sink>(value: &T, writer: &mut Writer<W>) -> Result<(), DekuError>
+    requires { T.Parts.DekuWriter.accepts tt }
+    ensures { Writes W.told (T.Parts.DekuWriter.meaning (T.parts_of value.now) tt) writer.old result writer.new }
+{
+    value.parts().to_writer(writer, ())
+}
+
+/// The pieces of the parts.
+impl<R: Record> Symmetric<()> for R {
+    ghost use Rattle.deku_pieces.proofs.Turned.{told_symmetric};
+
+    ghost pieces = { λ v c. R.Parts.pieces (R.parts_of v) c };
+
+    ghost same = { λ v w. R.Parts.same (R.parts_of v) (R.parts_of w) };
+
+    ghost symmetric = { λ c. told_symmetric R.record_of R.parts_of R.back (R.Parts.symmetric c) R.writes R.reads };
+}

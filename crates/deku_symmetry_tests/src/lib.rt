@@ -1,0 +1,21 @@
+//! Tests of `deku_symmetry`, by the paths that users name: values packed and unpacked, and records in a few lines.
+#![tactic(auto)]
+
+#[cfg(test)]
+mod engine;
+#[cfg(test)]
+mod expecting;
+#[cfg(test)]
+mod ipv4;
+#[cfg(test)]
+mod message;
+#[cfg(test)]
+mod packing;
+#[cfg(test)]
+mod records;
+#[cfg(test)]
+mod report;
+#[cfg(test)]
+mod udp;
+#[cfg(test)]
+mod worked;
