@@ -9,7 +9,7 @@ use Rattle.deku_pieces.proofs.HighFirst.{Has, byte_has, unsigned_has, turns_have
 use Rattle.deku_frame.specs.declared.frame.Frame.{Frame}
 use Rattle.deku_frame.specs.declared.frame.Frame.TheVariants.{Ping, Data, Pair}
 use Rattle.deku_frame.specs.Frames.{id_of, head_of, OfHead, OfBody, OfFrame}
-use Rattle.deku_frame.specs.Promise.{UpdateLaw}
+use Rattle.deku_frame.specs.FramePromise.{UpdateLaw}
 
 frame_has : (f : Frame) → id_of f < 16 → Has (OfBody f) → Has (OfFrame f)
 frame_has f small body =

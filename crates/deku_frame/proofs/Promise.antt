@@ -18,7 +18,7 @@ use Rattle.deku_frame.specs.declared.frame.Frame.{Frame}
 use Rattle.deku_frame.specs.declared.frame.Frame.TheVariants.{Ping, Data, Pair}
 use Rattle.deku_frame.specs.Frames.{id_of, head_of, OfHead, OfFrame, OfBody, SameFrame, ReadsFrame, WritesFrame}
 use Rattle.deku_frame.specs.FrameLaws.{frame_symmetric}
-use Rattle.deku_frame.specs.Promise.{WriteLaw, ReadLaw, RewriteLaw}
+use Rattle.deku_frame.specs.FramePromise.{WriteLaw, ReadLaw, RewriteLaw}
 
 -- so many bytes are behind the first one
 abbrev behind_bytes : Frame → ℕ

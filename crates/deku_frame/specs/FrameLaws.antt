@@ -1,4 +1,5 @@
--- Frames are symmetric.
+-- That frames are symmetric, made of the laws of their parts. It stands here, and not among the proofs, since the law of an implementation may cite nothing else of
+-- its own crate.
 use Rattle.std.proofs.Common.{◌≡◌, ℕ, false, List, Option, Some, Ok, refl, ap, ap₂, sym, ◌∙◌, subst, pos}
 use Rattle.std.specs.Global.{Vec}
 use Rattle.deku_bits.specs.Streams.{Stream}
@@ -21,12 +22,15 @@ use Rattle.deku_frame.specs.declared.frame.Frame.TheVariants.{Ping, Data, Pair}
 use Rattle.deku_frame.specs.Frames.{head_of, OfHead, OfBody, OfFrame, SameFrame, ReadsHead, ReadsPayload, ReadsBody, OtherVersion, OtherId, IsPing, IsData, IsPair, ReadsFrame, WritesHead, WritesBody, WritesFrame, IsInStep}
 
 -- ---- the parts
+-- the same bytes, wherever they lie
 abbrev SameBytes : Vec ℕ → Vec ℕ → Type 0
 SameBytes v w = SameEach (λ x y. x ≡ y) v.items w.items
 
+-- bytes are written, one by one
 abbrev WritesBytes : Vec ℕ → Meaning Output (Unit {0})
 WritesBytes v = WritesEach (λ b. WritesNumber byte (high_first Whole) (pos b)) v.items
 
+-- the pieces of so many bytes
 abbrev OfBytes : ℕ → Vec ℕ → List Piece → Type 0
 OfBytes n v = OfTimes n (OfUnsigned byte (high_first Whole)) v.items
 
@@ -37,12 +41,15 @@ head_symmetric : IsSymmetric OfHead (λ g h. (g.0 ≡ h.0) × (g.1 ≡ h.1)) Wri
 head_symmetric = pair_symmetric (unsigned_symmetric byte (high_first (Bits 4))) (unsigned_symmetric byte (high_first (Bits 4)))
 
 -- ---- a length and so many bytes
+-- a length, and bytes
 abbrev Sized : Type 0
 Sized = ℕ × Vec ℕ
 
+-- the same length and the same bytes
 abbrev SameSized : Sized → Sized → Type 0
 SameSized p q = (p.0 ≡ q.0) × SameBytes p.1 q.1
 
+-- the pieces of bytes under their length; under another length they have none
 abbrev Under : ℕ → Sized → List Piece → Type 0
 Under n p ps = (p.0 ≡ n) × OfBytes p.0 p.1 ps
 
@@ -83,6 +90,7 @@ halves_symmetric : IsSymmetric (λ p. InTurn (OfUnsigned byte (high_first (Bits 
 halves_symmetric = pair_symmetric (unsigned_symmetric byte (high_first (Bits 5))) (unsigned_symmetric (unsigned 16) (high_first (Bits 11)))
 
 -- ---- behind the id and the version
+-- the pieces of a frame's fields under its own id and version; under others it has none
 abbrev Behind : ℕ × ℕ → Frame → List Piece → Type 0
 Behind h x ps = (head_of x ≡ h) × OfBody x ps
 
@@ -148,5 +156,6 @@ frame_written : (f : Frame) (ps : List Piece) → OfFrame f ps → IsWrittenAs p
 frame_written f ps (a, b, p, q, e) w s r u (Refused c wrong) = absurd (wrong.0 (in_step f b q))
 frame_written f ps p w s r u (Passed m) = plain_symmetric.written f ps p w s r u m.1
 
+-- Frames are symmetric.
 pub frame_symmetric : IsSymmetric OfFrame SameFrame WritesFrame ReadsFrame
 frame_symmetric = record { one = plain_symmetric.one; written = frame_written; read_back = plain_symmetric.read_back; read = plain_symmetric.read }

@@ -22,15 +22,9 @@ pub struct Engine {
 
 // The signals as they lie.
 type Parts = (
-    Lsb<u8, 4>,
-    Lsb<u8, 4>,
-    Lsb<u8, 8>,
-    Lsb<u8, 8>,
-    Lsb<u16, 16>,
-    Lsb<u8, 8>,
-    Lsb<u8, 4>,
-    Lsb<u8, 4>,
-    Lsb<u8, 8>,
+    (Lsb<u8, 4>, Lsb<u8, 4>, Lsb<u8, 8>),
+    (Lsb<u8, 8>, Lsb<u16, 16>, Lsb<u8, 8>),
+    (Lsb<u8, 4>, Lsb<u8, 4>, Lsb<u8, 8>),
 );
 
 impl Parted for Engine {
@@ -39,55 +33,30 @@ impl Parted for Engine {
     type Parts = Parts;
 
     ghost parts_of = { λ r. (
-      record { 0 = r.mode },
-      record { 0 = r.fraction },
-      record { 0 = r.demanded },
-      record { 0 = r.actual },
-      record { 0 = r.speed },
-      record { 0 = r.controller },
-      record { 0 = r.starter },
-      record { 0 = r.spare },
-      record { 0 = r.demand },
+      (record { 0 = r.mode }, record { 0 = r.fraction }, record { 0 = r.demanded }),
+      (record { 0 = r.actual }, record { 0 = r.speed }, record { 0 = r.controller }),
+      (record { 0 = r.starter }, record { 0 = r.spare }, record { 0 = r.demand }),
     ) };
 
     ghost record_of = { λ p. record {
-      mode = p.0.0;
-      fraction = p.1.0;
-      demanded = p.2.0;
-      actual = p.3.0;
-      speed = p.4.0;
-      controller = p.5.0;
-      starter = p.6.0;
-      spare = p.7.0;
-      demand = p.8.0;
+      mode = p.0.0.0; fraction = p.0.1.0; demanded = p.0.2.0;
+      actual = p.1.0.0; speed = p.1.1.0; controller = p.1.2.0;
+      starter = p.2.0.0; spare = p.2.1.0; demand = p.2.2.0;
     } };
 
     fn parts(&self) -> Self::Parts {
         (
-            Lsb(self.mode),
-            Lsb(self.fraction),
-            Lsb(self.demanded),
-            Lsb(self.actual),
-            Lsb(self.speed),
-            Lsb(self.controller),
-            Lsb(self.starter),
-            Lsb(self.spare),
-            Lsb(self.demand),
+            (Lsb(self.mode), Lsb(self.fraction), Lsb(self.demanded)),
+            (Lsb(self.actual), Lsb(self.speed), Lsb(self.controller)),
+            (Lsb(self.starter), Lsb(self.spare), Lsb(self.demand)),
         )
     }
 
     fn from_parts(parts: Self::Parts) -> Self {
-        let (
-            Lsb(mode),
-            Lsb(fraction),
-            Lsb(demanded),
-            Lsb(actual),
-            Lsb(speed),
-            Lsb(controller),
-            Lsb(starter),
-            Lsb(spare),
-            Lsb(demand),
-        ) = parts;
+        let (first, second, third) = parts;
+        let (Lsb(mode), Lsb(fraction), Lsb(demanded)) = first;
+        let (Lsb(actual), Lsb(speed), Lsb(controller)) = second;
+        let (Lsb(starter), Lsb(spare), Lsb(demand)) = third;
         Engine {
             mode,
             fraction,

@@ -23,19 +23,9 @@ impl Parted for UdpHeader {
 
     type Parts = Parts;
 
-    ghost parts_of = { λ r. (
-      record { 0 = r.source },
-      record { 0 = r.target },
-      record { 0 = r.length },
-      record { 0 = r.checksum },
-    ) };
+    ghost parts_of = { λ r. (record { 0 = r.source }, record { 0 = r.target }, record { 0 = r.length }, record { 0 = r.checksum }) };
 
-    ghost record_of = { λ p. record {
-      source = p.0.0;
-      target = p.1.0;
-      length = p.2.0;
-      checksum = p.3.0;
-    } };
+    ghost record_of = { λ p. record { source = p.0.0; target = p.1.0; length = p.2.0; checksum = p.3.0 } };
 
     fn parts(&self) -> Self::Parts {
         (

@@ -2,7 +2,7 @@
 
 ghost use Rattle.deku_pieces.specs.Symmetric.{IsSymmetric};
 ghost use Rattle.deku_frame.specs.Frames.{OfFrame, SameFrame, WritesFrame, ReadsFrame};
-ghost use Rattle.deku_frame.specs.Promise.{WriteLaw, ReadLaw, RewriteLaw, UpdateLaw};
+ghost use Rattle.deku_frame.specs.FramePromise.{WriteLaw, ReadLaw, RewriteLaw, UpdateLaw};
 
 /// A frame whose length is that of its payload, and whose fields fit, is the pieces of its id, its version and its fields: it is written as them, and
 /// read back from them as the same frame; and a frame that is read has pieces, those that were taken.
