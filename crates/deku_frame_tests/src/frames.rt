@@ -32,15 +32,28 @@ fn lies_as(rt: &impl Abort, alloc: Global, frame: Frame, bytes: &[u8]) -> Result
 fn frames_lie(rt: HostRuntime) -> Result<(), Fail> {
     lies_as(&rt, rt.alloc(), Frame::ping(0xBEEF), &[0x11, 0xBE, 0xEF])?;
     let payload = [0xAA, 0xBB].to_vec(rt.alloc())?;
-    lies_as(&rt, rt.alloc(), Frame::data(payload)?, &[0x21, 0x02, 0xAA, 0xBB])?;
+    lies_as(
+        &rt,
+        rt.alloc(),
+        Frame::data(payload)?,
+        &[0x21, 0x02, 0xAA, 0xBB],
+    )?;
     lies_as(&rt, rt.alloc(), Frame::pair(5, 0x2A7)?, &[0x31, 0x2A, 0xA7])?;
-    lies_as(&rt, rt.alloc(), Frame::data(Vec::new(rt.alloc()))?, &[0x21, 0x00])
+    lies_as(
+        &rt,
+        rt.alloc(),
+        Frame::data(Vec::new(rt.alloc()))?,
+        &[0x21, 0x00],
+    )
 }
 
 #[test]
 fn bytes_are_refused(rt: HostRuntime) -> Result<(), Fail> {
     let unknown: &[u8] = &[0x41, 0x00];
-    assert_eq!(rt; Frame::from_bytes(rt.alloc(), (unknown, 0)), Err(DekuError::IdVariantNotFound));
+    assert_eq!(rt;
+        Frame::from_bytes(rt.alloc(), (unknown, 0)),
+        Err(DekuError::IdVariantNotFound)
+    );
     let version: &[u8] = &[0x12, 0xBE, 0xEF];
     let failed = DekuError::Assertion("Field failed assertion");
     assert_eq!(rt; Frame::from_bytes(rt.alloc(), (version, 0)), Err(failed));
@@ -61,7 +74,10 @@ fn short_input(rt: HostRuntime) -> Result<(), Fail> {
     let mut reader = Reader::new(rt.alloc(), Cursor::new(bytes));
     assert_eq!(rt; Frame::from_reader_with_ctx(&mut reader, ()), Err(short));
     // The reader has failed, and says so again.
-    assert_eq!(rt; u8::from_reader_with_ctx(&mut reader, BitSize(1)), Err(short));
+    assert_eq!(rt;
+        u8::from_reader_with_ctx(&mut reader, BitSize(1)),
+        Err(short)
+    );
     Ok(())
 }
 
@@ -83,31 +99,49 @@ fn constructors(rt: HostRuntime) -> Result<(), Fail> {
     let wide = DekuError::InvalidParam("bit size of input is larger than requested size");
     assert_eq!(rt; Frame::pair(32, 0), Err(wide));
     assert_eq!(rt; Frame::pair(0, 2048), Err(wide));
-    assert_eq!(rt; Frame::pair(31, 2047), Ok(Frame::Pair { left: 31, right: 2047 }));
+    assert_eq!(rt;
+        Frame::pair(31, 2047),
+        Ok(Frame::Pair {
+            left: 31,
+            right: 2047
+        })
+    );
     let most = vec![in rt.alloc(); 7; 255]?;
     let frame = Frame::data(most)?;
     assert_eq!(rt; frame.to_bytes(rt.alloc())?.len(), 257);
     let more = vec![in rt.alloc(); 7; 256]?;
-    assert_eq!(rt; Frame::data(more), Err(DekuError::Parse("error parsing int")));
+    assert_eq!(rt;
+        Frame::data(more),
+        Err(DekuError::Parse("error parsing int"))
+    );
     Ok(())
 }
 
 #[test]
 fn too_wide_to_write(rt: HostRuntime) -> Result<(), Fail> {
-    let frame = Frame::Pair { left: 1, right: 2048 };
+    let frame = Frame::Pair {
+        left: 1,
+        right: 2048,
+    };
     let mut writer = Writer::new(Cursor::new(Vec::new(rt.alloc())));
     let wide = DekuError::InvalidParam("bit size of input is larger than requested size");
     assert_eq!(rt; frame.to_writer(&mut writer, ()), Err(wide));
     assert_eq!(rt; writer.bits_written(), 8);
     let rest = writer.rest(rt.alloc())?;
-    assert_eq!(rt; rest.as_slice(), [false, false, false, false, true].as_slice());
+    assert_eq!(rt;
+        rest.as_slice(),
+        [false, false, false, false, true].as_slice()
+    );
     Ok(())
 }
 
 #[test]
 fn ids(rt: HostRuntime) -> Result<(), Fail> {
     assert_eq!(rt; Frame::ping(0xBEEF).deku_id(), Ok(1));
-    assert_eq!(rt; Frame::data([0xAA, 0xBB].to_vec(rt.alloc())?)?.deku_id(), Ok(2));
+    assert_eq!(rt;
+        Frame::data([0xAA, 0xBB].to_vec(rt.alloc())?)?.deku_id(),
+        Ok(2)
+    );
     assert_eq!(rt; Frame::pair(5, 0x2A7)?.deku_id(), Ok(3));
     Ok(())
 }
@@ -117,7 +151,10 @@ fn updates(rt: HostRuntime) -> Result<(), Fail> {
     let mut ping = Frame::ping(1);
     assert_eq!(rt; ping.update(), Ok(()));
     assert_eq!(rt; ping, Frame::Ping { token: 1 });
-    let mut long = Frame::Data { length: 3, payload: vec![in rt.alloc(); 0; 256]? };
+    let mut long = Frame::Data {
+        length: 3,
+        payload: vec![in rt.alloc(); 0; 256]?,
+    };
     assert_eq!(rt; long.update(), Err(DekuError::Parse("error parsing int")));
     assert_eq!(rt; matches!(&long, Frame::Data { length: 3, .. }), true);
     Ok(())

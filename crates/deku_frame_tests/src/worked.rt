@@ -42,7 +42,13 @@ fn rewritten(alloc: Global, bytes: &[u8]) -> Result<Vec<u8>, DekuError>
 #[test]
 fn a_pair_there_and_back(rt: HostRuntime) -> Result<(), Fail> {
     let frame = pair_there_and_back(rt.alloc(), 5, 0x2A7)?;
-    assert_eq!(rt; frame, Frame::Pair { left: 5, right: 0x2A7 });
+    assert_eq!(rt;
+        frame,
+        Frame::Pair {
+            left: 5,
+            right: 0x2A7
+        }
+    );
     Ok(())
 }
 

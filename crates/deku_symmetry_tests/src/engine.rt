@@ -39,9 +39,15 @@ impl Parted for Engine {
     ) };
 
     ghost record_of = { λ p. record {
-      mode = p.0.0.0; fraction = p.0.1.0; demanded = p.0.2.0;
-      actual = p.1.0.0; speed = p.1.1.0; controller = p.1.2.0;
-      starter = p.2.0.0; spare = p.2.1.0; demand = p.2.2.0;
+      mode = p.0.0.0;
+      fraction = p.0.1.0;
+      demanded = p.0.2.0;
+      actual = p.1.0.0;
+      speed = p.1.1.0;
+      controller = p.1.2.0;
+      starter = p.2.0.0;
+      spare = p.2.1.0;
+      demand = p.2.2.0;
     } };
 
     fn parts(&self) -> Self::Parts {

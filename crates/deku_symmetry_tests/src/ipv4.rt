@@ -47,11 +47,19 @@ impl Parted for Ipv4Header {
     ) };
 
     ghost record_of = { λ p. record {
-      version = p.0.0.0; words = p.0.1.0; service = p.0.2.0;
-      congestion = p.1.0.0; length = p.1.1.0; identification = p.1.2.0;
-      flags = p.2.0.0; offset = p.2.1.0; time_to_live = p.2.2.0;
-      protocol = p.3.0.0; checksum = p.3.1.0;
-      source = p.4.0.0; target = p.4.1.0;
+      version = p.0.0.0;
+      words = p.0.1.0;
+      service = p.0.2.0;
+      congestion = p.1.0.0;
+      length = p.1.1.0;
+      identification = p.1.2.0;
+      flags = p.2.0.0;
+      offset = p.2.1.0;
+      time_to_live = p.2.2.0;
+      protocol = p.3.0.0;
+      checksum = p.3.1.0;
+      source = p.4.0.0;
+      target = p.4.1.0;
     } };
 
     fn parts(&self) -> Self::Parts {

@@ -112,10 +112,16 @@ impl Parted for Report {
     ) };
 
     ghost record_of = { λ p. record {
-      kind = p.0.0.0; serial = p.0.1.0;
-      time = p.1.0.0; level = p.1.1.0; fresh = p.1.2; place = p.1.3;
-      reading = p.2.0.0; spare = p.2.1.0;
-      stamp = p.3.0.0; quality = p.3.1.0;
+      kind = p.0.0.0;
+      serial = p.0.1.0;
+      time = p.1.0.0;
+      level = p.1.1.0;
+      fresh = p.1.2;
+      place = p.1.3;
+      reading = p.2.0.0;
+      spare = p.2.1.0;
+      stamp = p.3.0.0;
+      quality = p.3.1.0;
     } };
 
     fn parts(&self) -> Self::Parts {
