@@ -23,7 +23,8 @@ fn lies_as(rt: &impl Abort, alloc: Global, frame: Frame, bytes: &[u8]) -> Result
     assert_eq!(rt; rest, [0x99].as_slice());
     assert_eq!(rt; bits, 0);
     let (count, unpacked) = Frame::unpack(alloc, more.as_slice(), ())?;
-    assert_eq!(rt; count, 8 * bytes.len());
+    assert_eq!(rt; count / 8, bytes.len());
+    assert_eq!(rt; count % 8, 0);
     assert_eq!(rt; unpacked, frame);
     Ok(())
 }
