@@ -5,8 +5,7 @@
 mod engine;
 #[cfg(test)]
 mod expecting;
-#[cfg(test)]
-mod ipv4;
+pub mod ipv4;
 #[cfg(test)]
 mod message;
 #[cfg(test)]
@@ -15,7 +14,6 @@ mod packing;
 mod records;
 #[cfg(test)]
 mod report;
-#[cfg(test)]
-mod udp;
+pub mod udp;
 #[cfg(test)]
 mod worked;
