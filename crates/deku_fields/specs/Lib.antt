@@ -1,5 +1,3 @@
-pub use Rattle.deku_frame.specs.Frames
-pub use Rattle.deku_frame.specs.FramePromise
 pub mod Items
 pub mod Headline
 pub mod Rows

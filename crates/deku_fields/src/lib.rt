@@ -1,4 +1,4 @@
-//! Lists of whole-number fields: what they lay out, how they are read and written, and the program over them; and a frame, the pattern of a codec by hand.
+//! Lists of whole-number fields: what they lay out, how they are read and written, and the program over them.
 #![tactic(auto)]
 
 pub mod laws;
@@ -8,7 +8,6 @@ mod read;
 mod words;
 mod write;
 
-pub use deku_frame::frame;
 pub use list::{Field, Item, Kind, Number};
 pub use program::run;
 pub use read::{list_from_bytes, read_list, read_list_into};
