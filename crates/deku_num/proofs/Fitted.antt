@@ -6,11 +6,11 @@ use Rattle.deku_bits.specs.Bits.{groups, word_of}
 use Rattle.deku_num.specs.declared.ctx.Endian.TheVariants.{Little, Big}
 use Rattle.deku_num.specs.declared.ctx.Endian.{Endian}
 use Rattle.deku_num.specs.declared.ctx.Layout.{Layout}
-use Rattle.deku_num.specs.NumberLaws.{Within}
-use Rattle.deku_num.specs.Numbers.{NumberType, width, IsAllowed, IsEvenWhere, number, value, with_sign, residue, cuts, IsListWhere, IsListFor, IsWordFor}
+use Rattle.deku_num.specs.NumberLaws.{Within, residue}
+use Rattle.deku_num.specs.Numbers.{NumberType, width, IsAllowed, IsEvenWhere, number, value, with_sign, IsFieldOf, IsWordFor}
 use Rattle.deku_num.proofs.Chunked.{listed, number-inj, within}
 use Rattle.deku_num.proofs.Values.{eights, plain, with_sign-signed, signed_low, signed_high}
-use Rattle.deku_num.proofs.Listing.{number_for, residue-lt, signed_listed, unsigned_listed, unsigned_list, where_cut}
+use Rattle.deku_num.proofs.Listing.{residue-lt, signed_listed, unsigned_listed, unsigned_list}
 use Rattle.deku_num.proofs.Turned.{word_is, word_below}
 
 -- ---- the word of a value
@@ -25,45 +25,43 @@ numbered e o n m w h is =
       λ s l q. ap (number e o) (number-inj Little o s r.0 (l ∙ sym r.1) (sym (word_is o s) ∙ q ∙ sym v ∙ word_is o r.0)) ∙ r.2,
     )
 
-pub unsigned_word_for : (t : NumberType) (l : Layout) (v m w : ℕ) → t.signed ≡ false → m ≡ number_for (cuts l.size) v (width t l) → Within l.endian l.order (width t l) m
-    → ((s : List Bool) → length s ≡ width t l → m ≡ number l.endian l.order s → w ≡ word_of l.order s) → IsWordFor t l (pos v) w
-unsigned_word_for t l v m w g e h is =
-    let r = numbered l.endian l.order (width t l) m w h is in
-    record { below = r.0; list = λ s k q. unsigned_list (cuts l.size) t l v s g k (r.1 s k q ∙ e) }
+pub unsigned_word_for : (t : NumberType) (l : Layout) (v w : ℕ) → t.signed ≡ false → Within l.endian l.order (width t l) v
+    → ((s : List Bool) → length s ≡ width t l → v ≡ number l.endian l.order s → w ≡ word_of l.order s) → IsWordFor t l (pos v) w
+unsigned_word_for t l v w g h is =
+    let r = numbered l.endian l.order (width t l) v w h is in
+    record { below = r.0; list = λ s k q. unsigned_list t l v s g k (r.1 s k q) }
 
-pub unsigned_unfit : (t : NumberType) (l : Layout) (v m : ℕ) → t.signed ≡ false → m ≡ number_for (cuts l.size) v (width t l) → (Within l.endian l.order (width t l) m → ⊥)
-    → (s : List Bool) → IsListFor t l (pos v) s → ⊥
-unsigned_unfit t l v m g e out s h =
-    let r = unsigned_listed (cuts l.size) t l v s g h in
-    out (rw (r.0, r.1 ∙ sym e) at (within l.endian l.order s))
+pub unsigned_unfit : (t : NumberType) (l : Layout) (v : ℕ) → t.signed ≡ false → (Within l.endian l.order (width t l) v → ⊥)
+    → (s : List Bool) → IsFieldOf t l (pos v) s → ⊥
+unsigned_unfit t l v g out s h =
+    let r = unsigned_listed t l v s g h in
+    out (rw (r.0, r.1) at (within l.endian l.order s))
 
 -- a signed field's number is within its range
 pub residue_within : (t : NumberType) (l : Layout) (v : ℤ) → IsAllowed t l → t.signed ≡ true → Within l.endian l.order (width t l) (residue v (width t l))
 residue_within t l v ok g =
     (plain l.endian l.order (width t l) (subst (λ b. IsEvenWhere b l.endian l.order (width t l)) g ok.even) (residue v (width t l))).1 (residue-lt v (width t l))
 
-signed_list : (b : Bool) (t : NumberType) (l : Layout) (v : ℤ) (s : List Bool) → t.signed ≡ true → (b ≡ false → with_sign true (width t l) (residue v (width t l)) ≡ v) → length s ≡ width t l
-    → number l.endian l.order s ≡ residue v (width t l) → IsListWhere b t l v s
+signed_list : (t : NumberType) (l : Layout) (v : ℤ) (s : List Bool) → t.signed ≡ true → with_sign true (width t l) (residue v (width t l)) ≡ v → length s ≡ width t l
+    → number l.endian l.order s ≡ residue v (width t l) → IsFieldOf t l v s
 unfolding value
-signed_list true t l v s g fits k e = record { wide = k; worth = e }
-signed_list false t l v s g fits k e = record {
+signed_list t l v s g fits k e = record {
   wide = k;
-  worth = ap (λ b. with_sign b (length s) (number l.endian l.order s)) g ∙ ap₂ (λ n m. with_sign true n m) k e ∙ fits refl;
+  worth = ap (λ b. with_sign b (length s) (number l.endian l.order s)) g ∙ ap₂ (λ n m. with_sign true n m) k e ∙ fits;
 }
 
-pub signed_word_for : (t : NumberType) (l : Layout) (v : ℤ) (w : ℕ) → IsAllowed t l → t.signed ≡ true → (cuts l.size ≡ false → with_sign true (width t l) (residue v (width t l)) ≡ v)
+pub signed_word_for : (t : NumberType) (l : Layout) (v : ℤ) (w : ℕ) → IsAllowed t l → t.signed ≡ true → with_sign true (width t l) (residue v (width t l)) ≡ v
     → ((s : List Bool) → length s ≡ width t l → residue v (width t l) ≡ number l.endian l.order s → w ≡ word_of l.order s) → IsWordFor t l v w
 signed_word_for t l v w ok g fits is =
     let r = numbered l.endian l.order (width t l) (residue v (width t l)) w (residue_within t l v ok g) is in
-    record { below = r.0; list = λ s k q. signed_list (cuts l.size) t l v s g fits k (r.1 s k q) }
+    record { below = r.0; list = λ s k q. signed_list t l v s g fits k (r.1 s k q) }
 
-pub signed_unfit : (t : NumberType) (l : Layout) (v : ℤ) → IsAllowed t l → t.signed ≡ true → cuts l.size ≡ false → (with_sign true (width t l) (residue v (width t l)) ≡ v → ⊥)
-    → (s : List Bool) → IsListFor t l v s → ⊥
+pub signed_unfit : (t : NumberType) (l : Layout) (v : ℤ) → IsAllowed t l → t.signed ≡ true → (with_sign true (width t l) (residue v (width t l)) ≡ v → ⊥)
+    → (s : List Bool) → IsFieldOf t l v s → ⊥
 unfolding value
-signed_unfit t l v ok g c out s h =
+signed_unfit t l v ok g out s h =
     let r = signed_listed t l v s ok g h in
-    let f = where_cut (cuts l.size) false t l v s c h in
-    out (sym (ap₂ (λ n m. with_sign true n m) r.0 r.1) ∙ sym (ap (λ b. with_sign b (length s) (number l.endian l.order s)) g) ∙ f.worth)
+    out (sym (ap₂ (λ n m. with_sign true n m) r.0 r.1) ∙ sym (ap (λ b. with_sign b (length s) (number l.endian l.order s)) g) ∙ h.worth)
 
 -- what a number of n bits is worth, with half of its range
 pub worth_low : (n m : ℕ) → 0 < n → m < 2 ^ (n - 1) → with_sign true n m ≡ pos m

@@ -1,4 +1,4 @@
--- The list that is written for a value: its number, and where there is one.
+-- The list that is worth a value: its number; and values modulo two to the power of n.
 use Rattle.std.proofs.Common.{pos, negsuc, ℕ, zero, suc, ◌+◌, ◌*◌, ◌-◌, ◌/◌, ◌%◌, ◌^◌, ◌<◌, ◌≤◌, ◌≡◌, Bool, true, false, cond, List, length, ℤ, refl, ap, ap₂, sym, ◌∙◌, arith, subst, pow-suc, ◌-ℤ◌, inl, inr, ⊎_elim, mod-eq_of_lt, mod-lt}
 use Rattle.std.proofs.Math.Nat.{mod-add-div}
 use Rattle.std.proofs.lemmas.Nat.{pow_pos, pow-add}
@@ -6,10 +6,8 @@ use Rattle.std.proofs.lemmas.Int.{ints}
 use Rattle.std.proofs.lemmas.Bool.{cases_lt}
 use native.Mathlib.Nat.{add-mul-mod_self_left}
 use Rattle.deku_num.specs.declared.ctx.Layout.{Layout}
-use Rattle.deku_num.specs.declared.ctx.Size.{Size}
-use Rattle.deku_num.specs.declared.ctx.Size.TheVariants.{Whole, Bits, Bytes}
-use Rattle.deku_num.specs.Numbers.{NumberType, number, with_sign, sized_width, width, value, IsAllowed, IsListWhere, IsListFor, residue, cuts}
-use Rattle.deku_num.specs.NumberLaws.{ResidueLaw}
+use Rattle.deku_num.specs.Numbers.{NumberType, number, with_sign, width, value, IsAllowed, IsFieldOf}
+use Rattle.deku_num.specs.NumberLaws.{ResidueLaw, residue}
 use Rattle.deku_num.proofs.Values.{signed_low, signed_high, with_sign-signed}
 use Rattle.deku_num.proofs.Ranges.{signed_below}
 
@@ -68,26 +66,11 @@ residue_law (negsuc m) n =
     (residue-lt (negsuc m) n, (suc (m / M), inr (below_by m (m % M) (M * (m / M)) M (mod-lt m (pow_pos n)) (mod-add-div m M) ∙ ap (λ x. pos (M - 1 - m % M) -ℤ pos x) more)))
 
 -- ---- the list of a value
--- a byte size is whole bytes
-pub cut_width : (t : NumberType) (z : Size) → cuts z ≡ true → sized_width t z % 8 ≡ 0
-cut_width t Whole e = cc
-cut_width t (Bits n) e = cc
-cut_width t (Bytes n) e = either t.one_byte
-  where
-    either : (b : Bool) → cond b 8 (8 * n) % 8 ≡ 0
-    either true = refl
-    either false = omega arith
-
--- what a list has to be where values are cut, and where they are not
-pub where_cut : (b c : Bool) (t : NumberType) (l : Layout) (v : ℤ) (s : List Bool) → b ≡ c → IsListWhere b t l v s → IsListWhere c t l v s
-where_cut b c t l v s e = subst (λ x. IsListWhere x t l v s) e
-
--- the number of a list that is written for a signed value
-signed_number : (b : Bool) (t : NumberType) (l : Layout) (v : ℤ) (s : List Bool) → IsAllowed t l → t.signed ≡ true → IsListWhere b t l v s
+-- the number of a list that is worth a signed value
+pub signed_listed : (t : NumberType) (l : Layout) (v : ℤ) (s : List Bool) → IsAllowed t l → t.signed ≡ true → IsFieldOf t l v s
     → (length s ≡ width t l) × (number l.endian l.order s ≡ residue v (width t l))
 unfolding value
-signed_number true t l v s ok g h = (h.wide, h.worth)
-signed_number false t l v s ok g h =
+signed_listed t l v s ok g h =
     let n : ℕ = length s in
     let m : ℕ = number l.endian l.order s in
     let e : with_sign true n m ≡ v = ap (λ x. with_sign x n m) (sym g) ∙ h.worth in (
@@ -95,30 +78,21 @@ signed_number false t l v s ok g h =
       sym (residue-with_sign n m (signed_below t l s ok h.wide g)) ∙ ap₂ (λ x k. residue x k) e h.wide,
     )
 
-pub signed_listed : (t : NumberType) (l : Layout) (v : ℤ) (s : List Bool) → IsAllowed t l → t.signed ≡ true → IsListFor t l v s
-    → (length s ≡ width t l) × (number l.endian l.order s ≡ residue v (width t l))
-signed_listed t l v s = signed_number (cuts l.size) t l v s
-
--- the number of the list that is written for an unsigned value
-abbrev pub number_for : Bool → ℕ → ℕ → ℕ
-number_for b v n = cond b (v % 2 ^ n) v
-
 unsigned_worth : (b : Bool) (n m : ℕ) → b ≡ false → with_sign b n m ≡ pos m
 unsigned_worth b n m e = ap (λ x. with_sign x n m) e
 
-pub unsigned_listed : (b : Bool) (t : NumberType) (l : Layout) (v : ℕ) (s : List Bool) → t.signed ≡ false → IsListWhere b t l (pos v) s
-    → (length s ≡ width t l) × (number l.endian l.order s ≡ number_for b v (width t l))
+-- the number of a list that is worth an unsigned value
+pub unsigned_listed : (t : NumberType) (l : Layout) (v : ℕ) (s : List Bool) → t.signed ≡ false → IsFieldOf t l (pos v) s
+    → (length s ≡ width t l) × (number l.endian l.order s ≡ v)
 unfolding value
-unsigned_listed true t l v s g h = (h.wide, h.worth)
-unsigned_listed false t l v s g h =
+unsigned_listed t l v s g h =
     let e : pos (number l.endian l.order s) ≡ pos v = sym (unsigned_worth t.signed (length s) (number l.endian l.order s) g) ∙ h.worth in
     (h.wide, cc)
 
-pub unsigned_list : (b : Bool) (t : NumberType) (l : Layout) (v : ℕ) (s : List Bool) → t.signed ≡ false → length s ≡ width t l
-    → number l.endian l.order s ≡ number_for b v (width t l) → IsListWhere b t l (pos v) s
+pub unsigned_list : (t : NumberType) (l : Layout) (v : ℕ) (s : List Bool) → t.signed ≡ false → length s ≡ width t l
+    → number l.endian l.order s ≡ v → IsFieldOf t l (pos v) s
 unfolding value
-unsigned_list true t l v s g w e = record { wide = w; worth = e }
-unsigned_list false t l v s g w e = record {
+unsigned_list t l v s g w e = record {
   wide = w;
   worth = unsigned_worth t.signed (length s) (number l.endian l.order s) g ∙ ap pos e;
 }

@@ -13,7 +13,7 @@ use Rattle.deku_num.specs.Numbers.{width, sized_width, IsEvenWhere, IsAllowed, I
 use Rattle.deku_num.specs.NumberCalls.{Refused, Passed, WritesNumber, SizeLaw}
 use Rattle.deku_num.proofs.Ranges.{range_whole}
 use Rattle.deku_num.proofs.Values.{field_law}
-use Rattle.deku_num.proofs.FieldBits.{listed_for, one_list}
+use Rattle.deku_num.proofs.FieldBits.{one_list}
 
 even_whole : (g : Bool) (e : Endian) (o : Order) (n : ℕ) → n % 8 ≡ 0 → IsEvenWhere g e o n
 even_whole false e o n d = refl
@@ -48,7 +48,7 @@ size_law t l v i = (field.0, field.1.wide ∙ wide, written)
         → WritesBits l.order (shown l.order field.0) b s r u
     written b s r u (Refused q (inl k)) = absurd (omega (arith, k.0, wide))
     written b s r u (Refused q (inr k)) = absurd (k.1 allowed.even)
-    written b s r u (Passed (Refused q k)) = absurd (k.0 field.0 (listed_for t l v field.0 field.1))
+    written b s r u (Passed (Refused q k)) = absurd (k.0 field.0 field.1)
     written b s r u (Passed (Passed k)) =
-        let same : k.1.0 ≡ field.0 = one_list t l v k.1.0 field.0 allowed k.1.1 (listed_for t l v field.0 field.1) in
+        let same : k.1.0 ≡ field.0 = one_list t l v k.1.0 field.0 allowed k.1.1 field.1 in
         subst (λ bits. WritesBits l.order (shown l.order bits) b s r u) same k.1.2

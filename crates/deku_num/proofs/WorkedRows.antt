@@ -102,9 +102,9 @@ number_rows = record {
   short_address = both_ways refl refl refl refl refl;
   minus_two = both_ways refl refl refl refl refl;
   least = both_ways refl refl refl refl refl;
-  cut = both_ways refl refl refl refl refl;
-  cut_up = refl;
-  cut_down = refl;
+  two_lowest = both_ways refl refl refl refl refl;
+  byte_of_300 = refl;
+  byte_of_200 = refl;
 }
 
 pub part_rows : PartRows
@@ -126,8 +126,8 @@ part_rows = record {
   turned_second = refl;
   turned_read = refl;
   turned_width = refl;
-  cut_number = refl;
-  cut_written = refl;
+  lowest_number = refl;
+  lowest_written = refl;
 }
 
 pub fit_rows : FitRows

@@ -14,7 +14,7 @@ use Rattle.deku_num.specs.declared.ctx.Size.{Size}
 use Rattle.deku_num.specs.declared.ctx.Size.TheVariants.{Whole, Bytes}
 use Rattle.deku_num.specs.declared.ctx.Layout.{Layout}
 use Rattle.deku_num.specs.NumberLaws.{InType}
-use Rattle.deku_num.specs.Numbers.{NumberType, width, IsEvenWhere, IsAllowed, value, IsListFor}
+use Rattle.deku_num.specs.Numbers.{NumberType, width, IsEvenWhere, IsAllowed, value, IsFieldOf}
 
 -- a check comes first: where it refuses, nothing changes; else m follows
 pub data Checked {A V : Type 0} (refuses : Standing A → Result V DekuError → Standing A → Type 0) (m : Meaning A V) (b : Bool) (s : Standing A) (r : Result V DekuError) (u : Standing A) : Type 0 where
@@ -35,14 +35,14 @@ abbrev pub beyond : Size → List ℕ
 beyond (Bytes n) = codes "byte size is larger than input"
 beyond _ = codes "bit size is larger than input"
 
--- no list is written for v
+-- no list is worth v
 abbrev pub RefusesValue : {A V : Type 0} → NumberType → Layout → ℤ → Standing A → Result V DekuError → Standing A → Type 0
-RefusesValue t l v s r u = ((bits : List Bool) → IsListFor t l v bits → ⊥) × IsAllowed t l × Refuses InvalidParam (codes "bit size of input is larger than requested size") s r u
+RefusesValue t l v s r u = ((bits : List Bool) → IsFieldOf t l v bits → ⊥) × IsAllowed t l × Refuses InvalidParam (codes "bit size of input is larger than requested size") s r u
 
 -- a number is written: its layout is looked at, then whether it fits, and its list is written
 abbrev pub WritesNumber : NumberType → Layout → ℤ → Meaning Output (Unit {0})
 WritesNumber t l v = Checked (RefusesLayout InvalidParam (beyond l.size) t l)
-    (Checked (RefusesValue t l v) (λ b s r u. IsAllowed t l × ((bits : List Bool) × IsListFor t l v bits × WritesBits l.order (shown l.order bits) b s r u)))
+    (Checked (RefusesValue t l v) (λ b s r u. IsAllowed t l × ((bits : List Bool) × IsFieldOf t l v bits × WritesBits l.order (shown l.order bits) b s r u)))
 
 -- a number without a sign, as an integer
 abbrev pub integers : Result ℕ DekuError → Result ℤ DekuError

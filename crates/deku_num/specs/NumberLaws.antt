@@ -1,12 +1,12 @@
 -- The values that fit a field, each with its one list; and how the number of a list is made of its groups and of its bits.
-use Rattle.std.specs.Prelude.{ℕ, zero, suc, ◌+◌, ◌*◌, ◌-◌, ◌/◌, ◌%◌, ◌^◌, ◌<◌, ◌≤◌, Bool, true, false, cond, List, ◌∷◌, ◌++◌, ◌≡◌, ◌⊎◌, ◌↔◌, length, min, ℤ, pos, neg_ℤ, ◌-ℤ◌, ◌≤ℤ◌, ◌<ℤ◌}
+use Rattle.std.specs.Prelude.{ℕ, zero, suc, ◌+◌, ◌*◌, ◌-◌, ◌/◌, ◌%◌, ◌^◌, ◌<◌, ◌≤◌, Bool, true, false, cond, List, ◌∷◌, ◌++◌, ◌≡◌, ◌⊎◌, ◌↔◌, length, min, ℤ, pos, negsuc, neg_ℤ, ◌-ℤ◌, ◌≤ℤ◌, ◌<ℤ◌}
 use Rattle.deku_bits.specs.declared.ctx.Order.{Order}
 use Rattle.deku_bits.specs.declared.ctx.Order.TheVariants.{Msb0, Lsb0}
 use Rattle.deku_bits.specs.Bits.{group_number, groups}
 use Rattle.deku_num.specs.declared.ctx.Endian.{Endian}
 use Rattle.deku_num.specs.declared.ctx.Endian.TheVariants.{Little, Big}
 use Rattle.deku_num.specs.declared.ctx.Layout.{Layout}
-use Rattle.deku_num.specs.Numbers.{NumberType, width, IsAllowed, number, value, IsFieldOf, Fits, residue}
+use Rattle.deku_num.specs.Numbers.{NumberType, width, IsAllowed, number, value, IsFieldOf, Fits}
 
 -- what the bits in front of n more weigh, in big
 abbrev pub weight : Order → ℕ → ℕ
@@ -69,6 +69,11 @@ abbrev pub BitLaw : Type 0
 BitLaw = (e : Endian) (o : Order) (p q : List Bool)
     → (number e o (p ++ true ∷ q) ≡ number e o (p ++ false ∷ q) + 2 ^ place e o (length p + suc (length q)) (length p))
     × ((b : Bool) → number e o (p ++ b ∷ q) / 2 ^ place e o (length p + suc (length q)) (length p) % 2 ≡ cond b 1 0)
+
+-- v modulo two to the power of n
+abbrev pub residue : ℤ → ℕ → ℕ
+residue (pos m) n = m % 2 ^ n
+residue (negsuc m) n = 2 ^ n - 1 - m % 2 ^ n
 
 -- What is left of a value modulo two to the n is below that, and the two differ by a multiple of it.
 abbrev pub ResidueLaw : Type 0

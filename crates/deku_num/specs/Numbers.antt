@@ -1,5 +1,5 @@
 -- Whole numbers as lists of bits: widths, refused layouts, and what a list is worth.
-use Rattle.std.specs.Prelude.{ℕ, suc, ◌+◌, ◌*◌, ◌-◌, ◌%◌, ◌^◌, ◌<◌, ◌≤◌, Bool, true, false, cond, leb, List, [], ◌∷◌, ◌≡◌, ◌⊎◌, map, length, ℤ, pos, negsuc, ◌-ℤ◌}
+use Rattle.std.specs.Prelude.{ℕ, suc, ◌+◌, ◌*◌, ◌%◌, ◌^◌, ◌<◌, ◌≤◌, Bool, true, false, cond, leb, List, [], ◌∷◌, ◌≡◌, ◌⊎◌, map, length, ℤ, pos, ◌-ℤ◌}
 use Rattle.deku_bits.specs.declared.ctx.Order.{Order}
 use Rattle.deku_bits.specs.declared.ctx.Order.TheVariants.{Msb0, Lsb0}
 use Rattle.deku_bits.specs.Bits.{bin, chunks, group_number, word_of}
@@ -71,31 +71,7 @@ pub record IsFieldOf (t : NumberType) (l : Layout) (v : ℤ) (s : List Bool) : T
 abbrev pub Fits : NumberType → Layout → ℤ → Type 0
 Fits t l v = (s : List Bool) × IsFieldOf t l v s
 
--- v modulo two to the power of n
-abbrev pub residue : ℤ → ℕ → ℕ
-residue (pos m) n = m % 2 ^ n
-residue (negsuc m) n = 2 ^ n - 1 - m % 2 ^ n
-
--- a list of the width of the field whose number is v modulo two to the width
-pub record IsCutOf (t : NumberType) (l : Layout) (v : ℤ) (s : List Bool) : Type 0 where
-  pub wide : length s ≡ width t l
-  pub worth : number l.endian l.order s ≡ residue v (width t l)
-
--- a byte size cuts a value that is written to its lowest bits
-abbrev pub cuts : Size → Bool
-cuts (Bytes n) = true
-cuts _ = false
-
--- the list that is written for v, where values are cut and where not
-abbrev pub IsListWhere : Bool → NumberType → Layout → ℤ → List Bool → Type 0
-IsListWhere true t l v s = IsCutOf t l v s
-IsListWhere false t l v s = IsFieldOf t l v s
-
--- the list that is written for v: it is worth v, or under a byte size its number is v modulo two to the width
-abbrev pub IsListFor : NumberType → Layout → ℤ → List Bool → Type 0
-IsListFor t l v s = IsListWhere (cuts l.size) t l v s
-
--- the word of the list that is written for v: it is one of the width, and the list of the width that has it is written for v
+-- the word of the list that is worth v: it is one of the width, and the list of the width that has it is worth v
 pub record IsWordFor (t : NumberType) (l : Layout) (v : ℤ) (w : ℕ) : Type 0 where
   pub below : w < 2 ^ width t l
-  pub list : (s : List Bool) → length s ≡ width t l → word_of l.order s ≡ w → IsListFor t l v s
+  pub list : (s : List Bool) → length s ≡ width t l → word_of l.order s ≡ w → IsFieldOf t l v s

@@ -11,6 +11,7 @@ use Rattle.deku_num.specs.declared.ctx.Size.{Size}
 use Rattle.deku_num.specs.declared.ctx.Size.TheVariants.{Whole, Bits, Bytes}
 use Rattle.deku_num.specs.declared.ctx.Layout.{Layout}
 use Rattle.deku_num.specs.Numbers.{NumberType, byte, unsigned, signed, width, IsAllowed, number, value, Fits}
+use Rattle.deku_num.specs.NumberLaws.{residue}
 
 -- the highest bit first
 abbrev pub big_msb : Size → Layout
@@ -187,12 +188,12 @@ pub record NumberRows : Type 0 where
   pub minus_two : BothWays ((signed 32, big_msb (Bytes 2)) ∷ []) (0xFF ∷ 0xFE ∷ []) (neg_ℤ (pos 2) ∷ [])
   -- the least number of two bytes with a sign
   pub least : BothWays ((signed 32, big_msb (Bytes 2)) ∷ []) (0x80 ∷ 0x00 ∷ []) (neg_ℤ (pos 32768) ∷ [])
-  -- two bytes of a number of four: its lowest
-  pub cut : BothWays ((unsigned 32, big_msb (Bytes 2)) ∷ []) (0x03 ∷ 0x04 ∷ []) (pos (0x01020304 % 2 ^ 16) ∷ [])
-  -- one byte of 300, with a sign
-  pub cut_up : value (signed 16) (little_msb (Bytes 1)) (bits_of 8 (300 % 2 ^ 8)) ≡ pos 44
-  -- one byte of 200, with a sign
-  pub cut_down : value (signed 16) (little_msb (Bytes 1)) (bits_of 8 (200 % 2 ^ 8)) ≡ neg_ℤ (pos 56)
+  -- two bytes of a number of four: what 0x01020304 is modulo two to their bits
+  pub two_lowest : BothWays ((unsigned 32, big_msb (Bytes 2)) ∷ []) (0x03 ∷ 0x04 ∷ []) (pos (residue (pos 0x01020304) 16) ∷ [])
+  -- one byte with a sign, which has the number of 300
+  pub byte_of_300 : value (signed 16) (little_msb (Bytes 1)) (bits_of 8 (residue (pos 300) 8)) ≡ pos 44
+  -- one byte with a sign, which has the number of 200
+  pub byte_of_200 : value (signed 16) (little_msb (Bytes 1)) (bits_of 8 (residue (pos 200) 8)) ≡ neg_ℤ (pos 56)
 
 -- Numbers that are read and leave bits behind, and an order that changes inside a byte.
 pub record PartRows : Type 0 where
@@ -234,10 +235,10 @@ pub record PartRows : Type 0 where
   pub turned_read : values_read turned_inside (fresh (0xB0 ∷ 0x01 ∷ [])) ≡ pos 5 ∷ pos 48 ∷ []
   -- and their bits
   pub turned_width : widths turned_inside ≡ 12
-  -- the two bytes of a number of four have the number modulo two to their bits
-  pub cut_number : number Big Msb0 (bits_of 16 0x01020304) ≡ 0x01020304 % 2 ^ 16
+  -- the lowest sixteen bits of a number have the number modulo two to sixteen
+  pub lowest_number : number Big Msb0 (bits_of 16 0x01020304) ≡ residue (pos 0x01020304) 16
   -- and they are written so
-  pub cut_written : packed (piece Msb0 (bits_of 16 0x01020304) ∷ []) ≡ 0x03 ∷ 0x04 ∷ []
+  pub lowest_written : packed (piece Msb0 (bits_of 16 0x01020304) ∷ []) ≡ 0x03 ∷ 0x04 ∷ []
 
 -- Layouts that are refused, and values that do not fit.
 pub record FitRows : Type 0 where

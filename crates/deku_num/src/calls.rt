@@ -7,7 +7,7 @@ ghost use Rattle.deku_bits.specs.Bits.{bits_of};
 ghost use Rattle.deku_bits.specs.ReaderCalls.{Reads, Takes, FetchesFor, NoneEarly};
 ghost use Rattle.deku_bits.specs.WriterCalls.{Writes};
 ghost use Rattle.deku_num.specs.NumberLaws.{InType};
-ghost use Rattle.deku_num.specs.Numbers.{width, IsAllowed, IsListFor};
+ghost use Rattle.deku_num.specs.Numbers.{width, IsAllowed, IsFieldOf};
 ghost use Rattle.deku_num.specs.NumberCalls.{ReadsNumber, WritesNumber, IsLayoutRefusal, beyond, integers};
 
 use crate::ctx::{Endian, Layout, Order, Size};
@@ -110,7 +110,7 @@ fn readable_width(number_type: NumberType, layout: Layout) -> Result<usize, Deku
     }
 }
 
-/// Writes a number of an unsigned type of at most 128 bits: the list of bits that is worth it, or under a byte size its lowest bits.
+/// Writes a number of an unsigned type of at most 128 bits: the list of bits that is worth it.
 ///
 /// It is refused, in this order,
 ///
@@ -130,7 +130,7 @@ pub fn write_unsigned<W: Sink>(
     ensures writes { Writes W.told (WritesNumber number_type layout (pos value)) writer.old result writer.new }
     ensures stopped { Untouched writer.old.state writer.old.sink writer.new.sink }
     ensures refused { (IsAllowed number_type layout → ⊥) → writer.new ≡ writer.old }
-    ensures unfit { ((bits : List Bool) → IsListFor number_type layout (pos value) bits → ⊥) → writer.new ≡ writer.old }
+    ensures unfit { ((bits : List Bool) → IsFieldOf number_type layout (pos value) bits → ⊥) → writer.new ≡ writer.old }
 {
     let width = writable_width(number_type, layout)?;
     let Some(word) = unsigned_word(value, number_type, layout, width) else {
@@ -139,8 +139,7 @@ pub fn write_unsigned<W: Sink>(
     writer.write_word(word, width, layout.order)
 }
 
-/// Writes a number of a signed type of at most 128 bits: the list of bits that is worth it, or under a byte size its lowest bits in two's
-/// complement.
+/// Writes a number of a signed type of at most 128 bits: the list of bits that is worth it.
 ///
 /// It is refused, in this order,
 ///
@@ -162,7 +161,7 @@ pub fn write_signed<W: Sink>(
     ensures writes { Writes W.told (WritesNumber number_type layout value) writer.old result writer.new }
     ensures stopped { Untouched writer.old.state writer.old.sink writer.new.sink }
     ensures refused { (IsAllowed number_type layout → ⊥) → writer.new ≡ writer.old }
-    ensures unfit { ((bits : List Bool) → IsListFor number_type layout value bits → ⊥) → writer.new ≡ writer.old }
+    ensures unfit { ((bits : List Bool) → IsFieldOf number_type layout value bits → ⊥) → writer.new ≡ writer.old }
 {
     let width = writable_width(number_type, layout)?;
     let Some(word) = signed_word(value, number_type, layout, width) else {

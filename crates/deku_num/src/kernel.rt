@@ -3,8 +3,8 @@
 ghost use Rattle.std.specs.Prelude.{◌≡◌, ◌↔◌, ◌<◌, ◌≤◌, ◌-◌, ◌*◌, ◌/◌, ◌^◌, ◌%◌, List, Bool, true, false, length, IsTrue, IsOk, IfOk, IfSome, IsNone, Err, ℤ, pos, negsuc, ◌-ℤ◌, ◌<ℤ◌};
 ghost use Rattle.std.specs.Int.{w128, swap_bytes};
 ghost use Rattle.deku_bits.specs.Bits.{word_of};
-ghost use Rattle.deku_num.specs.NumberLaws.{Within};
-ghost use Rattle.deku_num.specs.Numbers.{IsWordFor, with_sign as signed_worth, width as width_of, sized_width, IsEvenWhere, IsAllowed, number as number_of, residue, cuts, IsListFor};
+ghost use Rattle.deku_num.specs.NumberLaws.{Within, residue};
+ghost use Rattle.deku_num.specs.Numbers.{IsWordFor, with_sign as signed_worth, width as width_of, sized_width, IsEvenWhere, IsAllowed, number as number_of, IsFieldOf};
 
 mod narrow;
 
@@ -184,8 +184,7 @@ fn with_sign(sum: u128, half: u128) -> i128
     }
 }
 
-/// The word of the bits of an unsigned value, as `Writer::write_word` takes it; none where the value does not fit. Under a byte size each value
-/// fits, and the word is that of its lowest bits. The layout is one that `allowed_width` admits, and `width` is the one that it answers.
+/// The word of the bits of an unsigned value, as `Writer::write_word` takes it; none where the value does not fit. The layout is one that `allowed_width` admits, and `width` is the one that it answers.
 #[inline(always)]
 pub fn unsigned_word(
     value: u128,
@@ -198,17 +197,12 @@ pub fn unsigned_word(
     requires allowed { IsAllowed number_type layout }
     requires wide { width ≡ width_of number_type layout }
     ensures word { IfSome result (λ word. IsWordFor number_type layout (pos value) word) }
-    ensures none { IsNone result → (s : List Bool) → IsListFor number_type layout (pos value) s → ⊥ }
+    ensures none { IsNone result → (s : List Bool) → IsFieldOf number_type layout (pos value) s → ⊥ }
 {
-    let wanted = if is_cut(layout.size) {
-        low_bits(value, width)
-    } else {
-        value
-    };
-    if !is_within(wanted, layout.endian, layout.order, width) {
+    if !is_within(value, layout.endian, layout.order, width) {
         return None;
     }
-    Some(word_of_number(wanted, width, layout.endian, layout.order))
+    Some(word_of_number(value, width, layout.endian, layout.order))
 }
 
 /// The word of the bits of a signed value, as `unsigned_word` answers it.
@@ -224,21 +218,13 @@ pub fn signed_word(
     requires allowed { IsAllowed number_type layout }
     requires wide { width ≡ width_of number_type layout }
     ensures word { IfSome result (λ word. IsWordFor number_type layout value word) }
-    ensures none { IsNone result → (s : List Bool) → IsListFor number_type layout value s → ⊥ }
+    ensures none { IsNone result → (s : List Bool) → IsFieldOf number_type layout value s → ⊥ }
 {
     let wanted = residue_of(value, width);
-    if !is_cut(layout.size) && signed_of(wanted, width) != value {
+    if signed_of(wanted, width) != value {
         return None;
     }
     Some(word_of_number(wanted, width, layout.endian, layout.order))
-}
-
-// Whether a size cuts values.
-#[inline(always)]
-fn is_cut(size: Size) -> bool
-    ensures { result ≡ cuts size }
-{
-    matches!(size, Size::Bytes(_))
 }
 
 // Whether a number is one of n bits of a field.
@@ -268,9 +254,9 @@ fn is_below(value: u128, n: usize) -> bool
     n == 128 || value < 1 << n
 }
 
-// A value modulo two to the power of n.
+/// A value modulo two to the power of n, which is at most 128.
 #[inline(always)]
-fn residue_of(value: i128, n: usize) -> u128
+pub fn residue_of(value: i128, n: usize) -> u128
     requires { n ≤ 128 }
     ensures { result ≡ residue value n }
 {
@@ -290,9 +276,9 @@ fn below_zero(value: i128) -> u128
     (-(value + 1)) as u128
 }
 
-// A number modulo two to the power of n.
+/// A number modulo two to the power of n, which is at most 128: its n lowest bits.
 #[inline(always)]
-fn low_bits(sum: u128, n: usize) -> u128
+pub fn low_bits(sum: u128, n: usize) -> u128
     requires { n ≤ 128 }
     ensures { result ≡ sum % 2 ^ n }
 {

@@ -39,7 +39,7 @@ pub fn bit_law()
     ensures { BitLaw }
 {}
 
-/// What is left of a value modulo two to a width, as it is cut to so many bits, is below that and differs from the value by a multiple of it.
+/// What is left of a value modulo two to a width is below that and differs from the value by a multiple of it.
 pub fn residue_law()
     ensures { ResidueLaw }
 {}

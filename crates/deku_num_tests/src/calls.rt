@@ -34,8 +34,12 @@ fn numbers_both_ways(rt: HostRuntime) -> Result<(), Fail> {
     let ten = (Endian::Little, BitSize(10)).parts();
     let thirteen = (Endian::Big, BitSize(13), Order::Lsb0).parts();
     let whole = ().parts();
-    let rows: [Row; 4] = [
+    let nine_bytes = ByteSize(9).parts();
+    let no_bytes = ByteSize(0).parts();
+    let rows: [Row; 6] = [
         (NumberType::U8, three, &[0xA0], Value::Unsigned(5)),
+        (NumberType::U8, nine_bytes, &[0xAB], Value::Unsigned(0xAB)),
+        (NumberType::U16, no_bytes, &[], Value::Unsigned(0)),
         (NumberType::U16, ten, &[0xAB, 0xC0], Value::Unsigned(0x3AB)),
         (
             NumberType::U16,
@@ -104,11 +108,25 @@ fn refuses_to_read(rt: HostRuntime) {
 fn refuses_to_write(rt: HostRuntime) -> Result<(), Fail> {
     let mut writer = Writer::new(Cursor::new(Vec::new(rt.alloc())));
     let misfit = "bit size of input is larger than requested size";
+    let two_bytes = (Endian::Big, ByteSize(2)).parts();
     let rows = [
         (
             Value::Unsigned(16),
             NumberType::U8,
             BitSize(4).parts(),
+            misfit,
+        ),
+        (
+            Value::Unsigned(0x01020304),
+            NumberType::U32,
+            two_bytes,
+            misfit,
+        ),
+        (Value::Signed(32768), NumberType::I32, two_bytes, misfit),
+        (
+            Value::Unsigned(1),
+            NumberType::U16,
+            ByteSize(0).parts(),
             misfit,
         ),
         (

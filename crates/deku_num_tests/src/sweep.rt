@@ -215,7 +215,7 @@ fn patterns(width: usize, weights: &[u128; slow::MOST], random: &mut Random) -> 
     ]
 }
 
-// What the slow ones say of a field and a value. A byte size cuts a value; else it fits where the list of its bits is worth it.
+// What the slow ones say of a field and a value. It fits where the list of its bits is worth it.
 fn row_of(number_type: NumberType, layout: Layout, pattern: u128, list: &[bool]) -> Row {
     let worth = slow::worth(number_type.signed, layout.endian, layout.order, list);
     let read = match slow::refused_to_read(number_type, layout) {
@@ -224,7 +224,7 @@ fn row_of(number_type: NumberType, layout: Layout, pattern: u128, list: &[bool])
     };
     let written = match slow::refused_to_write(number_type, layout) {
         Some(refusal) => Err(refusal),
-        None if matches!(layout.size, Size::Bytes(_)) || worth == pattern => Ok(()),
+        None if worth == pattern => Ok(()),
         None => Err(DekuError::InvalidParam("bit size of input is larger than requested size")),
     };
     Row {

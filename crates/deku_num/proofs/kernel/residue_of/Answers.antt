@@ -3,7 +3,7 @@ use Rattle.std.proofs.Common.{ap, ap₂, arith, mod-lt, negsuc, rules, sym, ℕ,
 use mir.Syntax.{w128}
 use Rattle.std.proofs.lemmas.Int.{to_z-of_z}
 use Rattle.std.proofs.lemmas.Nat.{pow_pos}
-use Rattle.deku_num.specs.Numbers.{residue}
+use Rattle.deku_num.specs.NumberLaws.{residue}
 use Rattle.deku_num.proofs.Listing.{ones}
 use Rattle.deku_num.proofs.kernel.residue_of.Goals as goal
 

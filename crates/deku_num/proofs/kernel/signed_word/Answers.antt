@@ -1,12 +1,12 @@
--- The word is that of the value's residue, which is worth the value where it is not cut.
+-- The word is that of the value's residue, which is worth the value where it fits.
 use Rattle.std.proofs.Common.{◌≡◌, ℤ, true, false, sym, ◌∙◌, ap, ap₂, rules}
 use mir.Syntax.{w128}
 use mir.Val.{SFits, of_z, to_z}
 use Rattle.std.proofs.lemmas.Int.{to_z-of_z}
-use Rattle.deku_num.specs.Numbers.{residue, with_sign, cuts}
+use Rattle.deku_num.specs.Numbers.{with_sign}
+use Rattle.deku_num.specs.NumberLaws.{residue}
 use Rattle.deku_num.proofs.Fitted.{signed_word_for, signed_unfit}
 use Rattle.deku_num.proofs.kernel.signed_word.Goals as goal
-use Rattle.deku_num.proofs.kernel.signed_word.Goals.{else-not-is_cut-via-then-not-is_cut+else-signed_of-value, else-not-is_cut-via-else-not-is_cut}
 
 -- numbers of 128 bits with the same bits
 same_number : (r v : ℤ) → SFits w128 r → SFits w128 v → of_z w128 r ≡ of_z w128 v → r ≡ v
@@ -15,8 +15,7 @@ same_number r v p q e = sym (to_z-of_z w128 r p) ∙ ap (λ x. to_z w128 x) e �
 pub returns-then-signed_of-value-clause-none : goal.returns-then-signed_of-value-clause-none
 returns-then-signed_of-value-clause-none c = λ _.
     let e = c.residue_of-wanted.ensures ∙ ap₂ (λ x y. residue x y) (to_z-of_z w128 c.args.value c.ranges.value) c.requires.wide in
-    let cut : cuts c.args.layout.size ≡ false = search rules in
-    signed_unfit c.args.number_type c.args.layout c.args.value c.requires.allowed c.requires.signed cut
+    signed_unfit c.args.number_type c.args.layout c.args.value c.requires.allowed c.requires.signed
     (λ q. c.if-signed_of-value.true (ap (λ x. of_z w128 x) (c.signed_of.ensures ∙ ap₂ (λ a b. with_sign true a b) c.requires.wide e ∙ q)))
 
 pub returns-clause-word : goal.returns-clause-word
@@ -24,10 +23,7 @@ returns-clause-word c =
     let e = c.residue_of-wanted.ensures ∙ ap₂ (λ x y. residue x y) (to_z-of_z w128 c.args.value c.ranges.value) c.requires.wide in
     let is = rw (e, c.requires.wide) at c.word_of_number.ensures in
     signed_word_for c.args.number_type c.args.layout c.args.value c.word_of_number.result c.requires.allowed c.requires.signed
-    (λ q. elim c.else-not-is_cut.branch [
-      | else-not-is_cut-via-then-not-is_cut+else-signed_of-value w ↦ sym (w.signed_of.ensures ∙ ap₂ (λ a b. with_sign true a b) c.requires.wide e) ∙ same_number w.signed_of.result c.args.value (search rules) c.ranges.value w.if-signed_of-value.false
-      | else-not-is_cut-via-else-not-is_cut w ↦ absurd (search rules)
-    ])
+    (sym (c.signed_of.ensures ∙ ap₂ (λ a b. with_sign true a b) c.requires.wide e) ∙ same_number c.signed_of.result c.args.value (search rules) c.ranges.value c.if-signed_of-value.false)
     is
 
 pub residue_of-wanted-requires : goal.residue_of-wanted-requires
