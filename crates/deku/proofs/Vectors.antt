@@ -22,7 +22,7 @@ use Rattle.deku_num.specs.declared.kind.NumberType.{NumberType}
 use Rattle.deku_num.specs.declared.ctx.Layout.{Layout}
 use Rattle.deku_num.specs.Numbers.{width, value, Fits, IsAllowed, IsFieldOf}
 use Rattle.deku_num.specs.NumberCalls.{Refused, Passed, ReadsNumber, WritesNumber}
-use Rattle.deku_num.proofs.FieldBits.{listed_for, one_list}
+use Rattle.deku_num.proofs.FieldBits.{one_list}
 use Rattle.deku_meanings.specs.Composing.{Answered, Second, First}
 use Rattle.deku_writing.specs.Composing.{WritesEach}
 use Rattle.deku_reading.specs.Lists as lists
@@ -73,9 +73,9 @@ module _ (t : NumberType) (l : Layout) (ok : IsAllowed t l) where
       → WritesNumber t l v false (Going out c) r u → Wrote (append p.order (shown p.order p.bits) out.pending) out c r u
   number_wrote v p o f out c r u (Refused b (inl q)) = absurd (omega (arith, q.0, ok.within))
   number_wrote v p o f out c r u (Refused b (inr q)) = absurd (q.1 ok.even)
-  number_wrote v p o f out c r u (Passed (Refused b q)) = absurd (q.0 p.bits (listed_for t l v p.bits f))
+  number_wrote v p o f out c r u (Passed (Refused b q)) = absurd (q.0 p.bits f)
   number_wrote v p o f out c r u (Passed (Passed q)) =
-      let same : q.1.0 ≡ p.bits = one_list t l v q.1.0 p.bits ok q.1.1 (listed_for t l v p.bits f) in
+      let same : q.1.0 ≡ p.bits = one_list t l v q.1.0 p.bits ok q.1.1 f in
       let bits : WritesBits l.order (shown l.order p.bits) false (Going out c) r u = subst (λ s. WritesBits l.order (shown l.order s) false (Going out c) r u) same q.1.2 in
       subst (λ x. Wrote (append x (shown x p.bits) out.pending) out c r u) (sym o) (emitted (append l.order (shown l.order p.bits)) out c r u bits)
 

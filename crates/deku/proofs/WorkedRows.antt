@@ -8,7 +8,7 @@ use Rattle.deku_bits.specs.WriterCalls.{Took, Finalizes}
 use Rattle.deku_num.specs.declared.kind.NumberType.{NumberType}
 use Rattle.deku_num.specs.declared.ctx.Layout.{Layout}
 use Rattle.deku_num.specs.declared.ctx.Size.TheVariants.{Bits}
-use Rattle.deku_num.specs.Numbers.{byte, IsAllowed, IsListFor, number, value}
+use Rattle.deku_num.specs.Numbers.{byte, IsAllowed, IsFieldOf, number, value}
 use Rattle.deku_num.specs.NumberCalls.{Passed, WritesNumber}
 use Rattle.deku_num.specs.Rows.{big_msb}
 use Rattle.deku_meanings.specs.Composing.{Answered, Second}
@@ -19,7 +19,7 @@ abbrev gave : List ℕ → Pending → Output
 gave bytes pending = record { taken = Some bytes; room = None; pending = pending }
 
 -- a number is written as its list
-one : (t : NumberType) (l : Layout) (v : ℤ) (bits : List Bool) (before after : Output) (c : ℕ) → IsAllowed t l → IsListFor t l v bits
+one : (t : NumberType) (l : Layout) (v : ℤ) (bits : List Bool) (before after : Output) (c : ℕ) → IsAllowed t l → IsFieldOf t l v bits
     → Took (append l.order (shown l.order bits) before.pending) before after
     → c + 8 * length (append l.order (shown l.order bits) before.pending).bytes < 2 ^ 64
     → WritesNumber t l v false (Going before c) (Ok tt) (Going after (c + 8 * length (append l.order (shown l.order bits) before.pending).bytes))
