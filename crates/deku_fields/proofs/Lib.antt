@@ -21,3 +21,4 @@ pub mod Runs
 pub mod Cuts
 pub mod Giving
 pub mod Causes
+pub mod Cutting

@@ -14,10 +14,9 @@ use Rattle.deku_num.specs.declared.ctx.Endian.TheVariants.{Little, Big}
 use Rattle.deku_num.specs.declared.ctx.Layout.{Layout}
 use Rattle.deku_num.specs.declared.kind.NumberType.{NumberType}
 use Rattle.deku_num.specs.NumberLaws.{InType}
-use Rattle.deku_num.specs.Numbers.{width, number, value, cuts, IsAllowed, IsListFor, IsWordFor}
+use Rattle.deku_num.specs.Numbers.{width, number, value, IsAllowed, IsFieldOf, IsWordFor}
 use Rattle.deku_num.specs.NumberCalls.{WritesNumber, Passed}
 use Rattle.deku_num.proofs.Chunked.{listed}
-use Rattle.deku_num.proofs.Listing.{where_cut}
 use Rattle.deku_num.proofs.Turned.{word_is}
 use Rattle.deku_num.proofs.Carrying.{high_in, unsigned_in_type, unsigned_worth, number_read}
 use Rattle.deku_fields.specs.declared.list.Kind.{Kind}
@@ -29,11 +28,11 @@ use Rattle.deku_fields.specs.Items.{number_type, field_width, IsAllowedField}
 use Rattle.deku_fields.specs.ListCalls.{IsOfKind, ReadsField, WritesItem}
 use Rattle.deku_fields.proofs.Stepping.{unsigned_field, item_passed}
 
--- a value that is not cut and has a word is of its type
-word_in_type : (t : NumberType) (l : Layout) (v w : ℕ) → t.signed ≡ false → IsAllowed t l → cuts l.size ≡ false → t.bits % 8 ≡ 0 → IsWordFor t l (pos v) w → v < 2 ^ t.bits
-word_in_type t l v w g ok c d h =
+-- a value that has a word is of its type
+word_in_type : (t : NumberType) (l : Layout) (v w : ℕ) → t.signed ≡ false → IsAllowed t l → t.bits % 8 ≡ 0 → IsWordFor t l (pos v) w → v < 2 ^ t.bits
+word_in_type t l v w g ok d h =
     let r = listed Little l.order (width t l) w h.below in
-    let f = where_cut (cuts l.size) false t l (pos v) r.0 c (h.list r.0 r.1 (word_is l.order r.0 ∙ r.2)) in
+    let f = h.list r.0 r.1 (word_is l.order r.0 ∙ r.2) in
     unsigned_in_type t l r.0 v g ok r.1 (sym f.worth) d
 
 -- each kind has whole bytes
@@ -55,11 +54,11 @@ in_unsigned : (b : Bool) (n v : ℕ) → b ≡ false → v < 2 ^ n → InType b 
 in_unsigned b n v e h = subst (λ x. InType x n (pos v)) (sym e) (v, refl, h)
 
 -- an item without a sign that has a word is of its kind
-pub kind_of_word : (i : Item) {v w : ℕ} → i.value ≡ Unsigned v → (number_type i.field.kind).signed ≡ false → IsAllowed (number_type i.field.kind) i.field.layout → cuts i.field.layout.size ≡ false
+pub kind_of_word : (i : Item) {v w : ℕ} → i.value ≡ Unsigned v → (number_type i.field.kind).signed ≡ false → IsAllowed (number_type i.field.kind) i.field.layout
     → IsWordFor (number_type i.field.kind) i.field.layout (pos v) w → IsOfKind i.field.kind i.value
-kind_of_word i {v} {w} is g ok c h = rw is (
+kind_of_word i {v} {w} is g ok h = rw is (
   sym g,
-  in_unsigned (number_type i.field.kind).signed (number_type i.field.kind).bits v g (word_in_type (number_type i.field.kind) i.field.layout v w g ok c (whole_kind i.field.kind) h),
+  in_unsigned (number_type i.field.kind).signed (number_type i.field.kind).bits v g (word_in_type (number_type i.field.kind) i.field.layout v w g ok (whole_kind i.field.kind) h),
 )
 
 -- a field without a sign that is big and `Msb0`, whose bits were taken
@@ -75,16 +74,16 @@ high_field f n k {s} {h} {u} {g} plain big high wide ok small o =
 
 -- an item without a sign that is big and `Msb0`, whose bits were written
 pub high_item : (i : Item) (n k : ℕ) {s : Standing Output} {h : Health} {u : Standing Output} {g : Health}
-    → i.value ≡ Unsigned k → (number_type i.field.kind).signed ≡ false → i.field.layout.endian ≡ Big → i.field.layout.order ≡ Msb0 → cuts i.field.layout.size ≡ false
+    → i.value ≡ Unsigned k → (number_type i.field.kind).signed ≡ false → i.field.layout.endian ≡ Big → i.field.layout.order ≡ Msb0
     → n ≡ field_width i.field → IsAllowedField i.field → k < 2 ^ n → Outcome (WritesBits Msb0 (bits_of n k)) s h (Ok tt) u g → Outcome (WritesItem i) s h (Ok tt) u g
 unfolding shown
-high_item i n k {s} {h} {u} {g} is plain big high whole wide ok small o =
+high_item i n k {s} {h} {u} {g} is plain big high wide ok small o =
     let t : NumberType = number_type i.field.kind in
     let l : Layout = i.field.layout in
     let bits : List Bool = bits_of n k in
     let worth : pos k ≡ value t l bits = unsigned_worth t l bits k plain (high_in l n k big high small) in
     let long : length bits ≡ width t l = length-bits_of n k ∙ wide in
-    let listed : IsListFor t l (pos k) bits = where_cut false (cuts l.size) t l (pos k) bits (sym whole) (record { wide = long; worth = sym worth }) in
+    let listed : IsFieldOf t l (pos k) bits = record { wide = long; worth = sym worth } in
     let kind : IsOfKind i.field.kind i.value = rw is (sym plain, in_unsigned t.signed t.bits k plain (unsigned_in_type t l bits k plain ok long worth (whole_kind i.field.kind))) in
     let turned : WritesBits Msb0 (shown Msb0 bits) ≡ WritesBits l.order (shown l.order bits) = ap (λ x. WritesBits x (shown x bits)) (sym high) in
     item_passed i (Unsigned k) is refl kind

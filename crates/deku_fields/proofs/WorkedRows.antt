@@ -18,7 +18,7 @@ use Rattle.deku_fields.specs.declared.list.Number.{Number}
 use Rattle.deku_fields.specs.declared.list.Field.{Field}
 use Rattle.deku_fields.specs.declared.list.Item.{Item}
 use Rattle.deku_fields.specs.Items.{IsNumber, number_type, field_width, IsWorth, IsPieceOf, IsFitting, ArePieces, LaysOut, AlignedFields, Reads, fields_of, values_of}
-use Rattle.deku_fields.specs.Rows.{BothWays, ListRows, PromiseRows, TurnedRows, MisfitRows, word_items}
+use Rattle.deku_fields.specs.Rows.{BothWays, ListRows, PromiseRows, TurnedRows, MisfitRows, CutRows, word_items}
 use Rattle.deku_fields.proofs.FieldLists.{layout_law}
 
 -- the types and layouts of items
@@ -157,4 +157,13 @@ misfit_rows = record {
   other_number = λ f. f.worth.worth;
   nine_bits = λ f. let h : 9 ≤ 8 = f.allowed.within in omega arith;
   signed_thirteen = λ f. ⊎_elim (λ (h : 13 ≤ 8). absurd (omega arith)) (λ (h : 13 % 8 ≡ 0). absurd (omega arith)) f.allowed.even;
+}
+
+pub cut_rows : CutRows
+unfolding bits_of number value
+cut_rows = record {
+  two_bytes = record { kind = (refl, (772, refl, omega arith)); left = record { fits = (bits_of 16 772, record { wide = refl; worth = refl }); same = refl } };
+  one_byte = record { kind = (refl, (omega (arith, ints), omega (arith, ints))); left = record { fits = (bits_of 8 44, record { wide = refl; worth = refl }); same = refl } };
+  below_zero = record { kind = (refl, (omega (arith, ints), omega (arith, ints))); left = record { fits = (bits_of 8 200, record { wide = refl; worth = refl }); same = refl } };
+  byte = record { kind = (refl, (0xAB, refl, omega arith)); left = refl };
 }

@@ -12,11 +12,11 @@ use Rattle.deku_bits.specs.WriterCalls.{WritesBits}
 use Rattle.deku_bits.proofs.Gives.{Shrinks-none}
 use Rattle.deku_num.specs.declared.kind.NumberType.{NumberType}
 use Rattle.deku_num.specs.declared.ctx.Layout.{Layout}
-use Rattle.deku_num.specs.Numbers.{value, IsFieldOf, IsListFor}
+use Rattle.deku_num.specs.Numbers.{value, IsFieldOf}
 use Rattle.deku_num.specs.NumberLaws.{InType}
 use Rattle.deku_num.specs.NumberCalls.{Refused, Passed, WritesNumber}
 use Rattle.deku_num.proofs.Ranges.{type_law}
-use Rattle.deku_num.proofs.FieldBits.{listed_for, one_list}
+use Rattle.deku_num.proofs.FieldBits.{one_list}
 use Rattle.deku.specs.Composing.{Answered}
 use Rattle.deku.proofs.Emitting.{Wrote, Done, emitted, followed_wrote}
 use Rattle.deku_fields.specs.declared.list.Kind.{Kind}
@@ -28,13 +28,13 @@ use Rattle.deku_fields.specs.Items.{IsNumber, number_type, IsFitting, IsPieceOf,
 use Rattle.deku_fields.specs.ListCalls.{integer_of, has_sign, IsOfKind, WritesItem, WritesItems}
 
 -- ---- one item
-integer_is : (b : Bool) (v : ℤ) (n : Number) → IsNumber b v n → v ≡ integer_of n
+pub integer_is : (b : Bool) (v : ℤ) (n : Number) → IsNumber b v n → v ≡ integer_of n
 integer_is false v (Unsigned n) e = e
 integer_is false v (Signed z) e = absurd e
 integer_is true v (Unsigned n) e = absurd e
 integer_is true v (Signed z) e = e
 
-whole_kind : (k : Kind) → (number_type k).bits % 8 ≡ 0
+pub whole_kind : (k : Kind) → (number_type k).bits % 8 ≡ 0
 whole_kind U8 = refl
 whole_kind U16 = refl
 whole_kind U32 = refl
@@ -83,8 +83,8 @@ item_wrote i p f a out c r u (Passed (k, w)) = number w
     v : ℤ
     v = integer_of i.value
 
-    listed : IsListFor t l v p.bits
-    listed = listed_for t l v p.bits (piece_is i p a)
+    listed : IsFieldOf t l v p.bits
+    listed = piece_is i p a
 
     number : WritesNumber t l v false (Going out c) r u → Wrote (append p.order (shown p.order p.bits) out.pending) out c r u
     number (Refused b (inl q)) = absurd (omega (arith, q.0, f.allowed.within))

@@ -1,3 +1,5 @@
+pub use Rattle.deku_frame.specs.Frames
+pub use Rattle.deku_frame.specs.FramePromise
 pub mod Items
 pub mod Headline
 pub mod Rows
@@ -6,3 +8,4 @@ pub mod Promise
 pub mod Naming
 pub mod Runs
 pub mod Cuts
+pub mod Cutting

@@ -15,6 +15,7 @@ use Rattle.deku_fields.specs.declared.list.Number.{Number}
 use Rattle.deku_fields.specs.declared.list.Number.TheVariants.{Unsigned, Signed}
 use Rattle.deku_fields.specs.declared.list.Item.{Item}
 use Rattle.deku_fields.specs.Items.{IsFitting, ArePieces, LaysOut, AlignedFields, Reads, fields_of, values_of}
+use Rattle.deku_fields.specs.Cutting.{IsCutTo}
 use Rattle.deku_fields.specs.Promise.{Begins, Fills, IsCountable}
 
 -- a field with its value
@@ -127,3 +128,14 @@ pub record MisfitRows : Type 0 where
   pub nine_bits : IsFitting (item U8 (little_msb (Bits 9)) (Unsigned 0)) → ⊥
   -- thirteen bits in `Lsb0` with a sign, high group first
   pub signed_thirteen : IsFitting (item I16 (big_lsb (Bits 13)) (Signed (pos 0))) → ⊥
+
+-- Numbers that are cut to bytes.
+pub record CutRows : Type 0 where
+  -- two bytes of 0x01020304
+  pub two_bytes : IsCutTo (record { kind = U32; layout = big_msb (Bytes 2) }) (Unsigned 16909060) (Unsigned 772)
+  -- one byte of 300, with a sign
+  pub one_byte : IsCutTo (record { kind = I16; layout = little_msb (Bytes 1) }) (Signed (pos 300)) (Signed (pos 44))
+  -- one byte of 200, with a sign
+  pub below_zero : IsCutTo (record { kind = I16; layout = little_msb (Bytes 1) }) (Signed (pos 200)) (Signed (neg_ℤ (pos 56)))
+  -- a byte stays under any byte size
+  pub byte : IsCutTo (record { kind = U8; layout = little_msb (Bytes 9) }) (Unsigned 0xAB) (Unsigned 0xAB)

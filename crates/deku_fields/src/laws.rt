@@ -1,9 +1,10 @@
 //! Laws of lists of fields: each is what an empty function ensures.
 
+ghost use Rattle.deku_fields.specs.Cutting.{CutLaw, CutItemsLaw};
 ghost use Rattle.deku_fields.specs.Cuts.{WriteCutLaw, WriteCallsLaw, WritePartsLaw, ReadCutLaw, ReadCallsLaw, LookLaw, ReadPartsLaw};
 ghost use Rattle.deku_fields.specs.Headline.{PieceLaw, LayoutLaw, ThereLaw, BackLaw, CallsLaw};
 ghost use Rattle.deku_fields.specs.Promise.{PaddedLaw};
-ghost use Rattle.deku_fields.specs.Rows.{ListRows, PromiseRows, TurnedRows, MisfitRows};
+ghost use Rattle.deku_fields.specs.Rows.{ListRows, PromiseRows, TurnedRows, MisfitRows, CutRows};
 
 /// Fitting items have pieces, and these pieces alone.
 pub fn piece_law()
@@ -71,6 +72,17 @@ pub fn read_parts_law()
     ensures { ReadPartsLaw }
 {}
 
+/// One number is left of a number that is cut to its field, and its bits are the lowest ones of that number, as which it was written while each
+/// size in bytes cut.
+pub fn cut_law()
+    ensures { CutLaw }
+{}
+
+/// Items whose values were cut have the pieces, and so the bytes, that they were written as while each size in bytes cut.
+pub fn cut_items_law()
+    ensures { CutItemsLaw }
+{}
+
 /// Worked examples of lists of fields, read and written.
 pub fn list_rows()
     ensures { ListRows }
@@ -89,4 +101,9 @@ pub fn turned_rows()
 /// Worked examples of items that do not fit.
 pub fn misfit_rows()
     ensures { MisfitRows }
+{}
+
+/// Worked examples of numbers that are cut to bytes.
+pub fn cut_rows()
+    ensures { CutRows }
 {}

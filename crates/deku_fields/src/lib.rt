@@ -1,6 +1,7 @@
-//! Lists of whole-number fields: what they lay out, how they are read and written, and the program over them.
+//! Lists of whole-number fields: what they lay out, how they are read and written, and the program over them; and a frame, the pattern of a codec by hand.
 #![tactic(auto)]
 
+mod cut;
 pub mod laws;
 mod list;
 mod program;
@@ -8,6 +9,8 @@ mod read;
 mod words;
 mod write;
 
+pub use cut::cut_to_bytes;
+pub use deku_frame::frame;
 pub use list::{Field, Item, Kind, Number};
 pub use program::run;
 pub use read::{list_from_bytes, read_list, read_list_into};

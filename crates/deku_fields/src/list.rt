@@ -1,7 +1,7 @@
 //! Fields of whole numbers, and items: fields with their values.
 
 ghost use Rattle.std.specs.Prelude.{◌≡◌, ◌↔◌, ◌<◌, ◌≤◌, ◌^◌, ◌-◌, IsTrue, pos, neg_ℤ, ◌≤ℤ◌, ◌<ℤ◌, false, IfSome};
-ghost use Rattle.deku_num.specs.Numbers.{sized_width, cuts};
+ghost use Rattle.deku_num.specs.Numbers.{sized_width};
 ghost use Rattle.deku_fields.specs.Items.{number_type, field_width, IsAllowedField};
 ghost use Rattle.deku_fields.specs.ListCalls.{IsOfKind};
 
@@ -120,12 +120,11 @@ fn is_within(value: i128, bits: usize) -> bool
     }
 }
 
-/// The bits of a field whose size cuts no value, where the type has as many.
+/// The bits of a field whose size is not in bytes, where the type has as many.
 #[inline(always)]
 pub(crate) fn plain_width(number_type: NumberType, size: Size) -> Option<usize>
     ensures wide { IfSome result (λ n. n ≡ sized_width number_type size) }
     ensures within { IfSome result (λ n. n ≤ number_type.bits) }
-    ensures whole { IfSome result (λ n. cuts size ≡ false) }
 {
     match size {
         Size::Whole => Some(number_type.bits),
@@ -140,7 +139,6 @@ pub(crate) fn high_width(field: &Field) -> Option<usize>
     ensures unsigned { IfSome result (λ n. (number_type field.now.kind).signed ≡ false) }
     ensures big { IfSome result (λ n. field.now.layout.endian ≡ Endian.Big) }
     ensures high { IfSome result (λ n. field.now.layout.order ≡ Order.Msb0) }
-    ensures whole { IfSome result (λ n. cuts field.now.layout.size ≡ false) }
     ensures wide { IfSome result (λ n. n ≡ field_width field.now) }
     ensures few { IfSome result (λ n. n ≤ 64) }
     ensures allowed { IfSome result (λ n. IsAllowedField field.now) }

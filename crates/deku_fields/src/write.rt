@@ -8,7 +8,7 @@ ghost use Rattle.deku_bits.specs.Causes.{WantsPlace, Caused};
 ghost use Rattle.deku_bits.specs.Standings.{Untouched};
 ghost use Rattle.deku_bits.specs.WriterCalls.{Writes, Finalizes};
 ghost use Rattle.deku.specs.Composing.{Both};
-ghost use Rattle.deku_num.specs.Numbers.{IsWordFor, cuts};
+ghost use Rattle.deku_num.specs.Numbers.{IsWordFor};
 ghost use Rattle.deku_fields.specs.declared.list.Number.TheVariants.{Unsigned};
 ghost use Rattle.deku_fields.specs.Items.{number_type, field_width, IsAllowedField};
 ghost use Rattle.deku_fields.specs.ListCalls.{IsOfKind, WritesItem, WritesItems, WritesWhole, integer_of};
@@ -81,7 +81,6 @@ fn plain_high(item: &Item) -> Option<(u64, usize)>
     ensures unsigned { IfSome result (λ r. (number_type item.now.field.kind).signed ≡ false) }
     ensures big { IfSome result (λ r. item.now.field.layout.endian ≡ Endian.Big) }
     ensures high { IfSome result (λ r. item.now.field.layout.order ≡ Order.Msb0) }
-    ensures whole { IfSome result (λ r. cuts item.now.field.layout.size ≡ false) }
     ensures wide { IfSome result (λ r. r.1 ≡ field_width item.now.field) }
     ensures few { IfSome result (λ r. r.1 ≤ 64) }
     ensures below { IfSome result (λ r. r.0 < 2 ^ r.1) }
@@ -109,7 +108,7 @@ fn fitting(value: u128, bits: usize) -> Option<u64>
     }
 }
 
-// The word of an item and how many bits it has, where its kind has no sign, its size cuts no value, and nothing refuses it.
+// The word of an item and how many bits it has, where its kind has no sign, its size is not in bytes, and nothing refuses it.
 #[inline(always)]
 fn plain_word(item: &Item) -> Option<(u128, usize)>
     ensures kind { IfSome result (λ r. IsOfKind item.now.field.kind item.now.value) }

@@ -9,10 +9,9 @@ pub returns-clause-kind : goal.returns-clause-kind
 returns-clause-kind c =
     let is : c.args.item.now.value ≡ Unsigned c.in-Unsigned.value = search rules in
     let plain : (number_type c.args.item.now.field.kind).signed ≡ false = ap (λ t. t.signed) (sym c.number_type-number_type.ensures) ∙ c.if-number_type.false in
-    let whole = c.in_ok-width.ensures.whole in
     let allowed : IsAllowed (number_type c.args.item.now.field.kind) c.args.item.now.field.layout = search rules in
     let word : IsWordFor (number_type c.args.item.now.field.kind) c.args.item.now.field.layout (pos c.in-Unsigned.value) c.in_ok-word.word = rw c.number_type-number_type.ensures at c.in_ok-word.ensures.word in
-    kind_of_word c.args.item.now is plain allowed whole word
+    kind_of_word c.args.item.now is plain allowed word
 
 pub returns-then-number_type-clause-kind : goal.returns-then-number_type-clause-kind
 returns-then-number_type-clause-kind c = search rules
