@@ -5,7 +5,7 @@ use deku::prelude::{
     DekuContainerRead, DekuContainerWrite, DekuEnumExt, DekuError, DekuReader, DekuUpdate,
     DekuWriter, NeedSize, Reader, Writer,
 };
-use deku_frame::frame::Frame;
+use deku_fields::frame::Frame;
 use deku_symmetry::Symmetric;
 use std::alloc::Global;
 use std::io::Cursor;

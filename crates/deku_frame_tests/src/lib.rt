@@ -1,4 +1,4 @@
-//! Tests of `deku_frame::frame`, by the paths that users name.
+//! Tests of `deku_fields::frame`, by the paths that users name.
 #![tactic(auto)]
 
 #[cfg(test)]

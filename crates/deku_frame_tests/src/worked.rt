@@ -1,11 +1,11 @@
 //! Frames both ways, concluded from what public calls ensure.
 
 ghost use Rattle.std.specs.Prelude.{◌≡◌, ◌++◌, ℕ, List, IfOk};
-ghost use Rattle.deku_frame.specs.Frames.{SameFrame};
+ghost use Rattle.deku_fields.specs.Frames.{SameFrame};
 
 use deku::prelude::{DekuContainerRead, DekuContainerWrite, DekuError};
-use deku_frame::frame::Frame;
-use deku_frame::frame::laws::{read_law, rewrite_law, write_law};
+use deku_fields::frame::Frame;
+use deku_fields::frame::laws::{read_law, rewrite_law, write_law};
 use std::alloc::Global;
 use std::test::Fail;
 

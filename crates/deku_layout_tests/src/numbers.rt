@@ -18,8 +18,8 @@ pub const MISFIT: DekuError = DekuError::InvalidParam(
 // How a number lies, its bytes as digits, and its value.
 pub type Row<T> = (Endian, Order, Size, &'static str, T);
 
-// How a number lies, its bits, and a value that has no such bits.
-pub type Misfit<T> = (Endian, Order, usize, T);
+// How a number lies, and a value that does not fit there.
+pub type Misfit<T> = (Endian, Order, Size, T);
 
 // What a hexadecimal digit counts.
 fn digit(code: u8) -> u8
@@ -114,11 +114,11 @@ fn expect_misfits<T: DekuWriter<Layout> + Debug>(
 ) -> Result<(), Fail>
     requires { (layout : Layout) → T.accepts layout }
 {
-    for (endian, order, bits, value) in rows {
+    for (endian, order, size, value) in rows {
         let layout = Layout {
             endian: *endian,
             order: *order,
-            size: Size::Bits(*bits),
+            size: *size,
         };
         expect_unwritten(rt, alloc, value, layout, MISFIT)?;
     }

@@ -420,7 +420,7 @@ const WRITTEN: [Record; 2] = [
         &[0xAB, 0xCD, 0x03, 0x04, 0xAB, 0xFF, 0xFE],
         &[
             (Number::U32(0xCDAB), Under::Bytes(2)),
-            (Number::U32(0x01020304), Under::OneBytes(Big, 2)),
+            (Number::U32(0x0304), Under::OneBytes(Big, 2)),
             (Number::U8(0xAB), Under::Bytes(9)),
             (Number::I32(-2), Under::OneBytes(Big, 2)),
         ],
@@ -452,6 +452,13 @@ fn a_misfit_between_fields(rt: HostRuntime) -> Result<(), Fail> {
     same(
         &rt,
         &"misfit",
+        &(answer, writer.bits_written()),
+        &(Err(MISFIT), 8),
+    );
+    let answer = put(&mut writer, &0x01020304u32, (Big, ByteSize(2)));
+    same(
+        &rt,
+        &"misfit in bytes",
         &(answer, writer.bits_written()),
         &(Err(MISFIT), 8),
     );

@@ -34,17 +34,18 @@ const I8_ROWS: [Row<i8>; 17] = [
     (Little, Lsb0, Bytes(1), "80", -128),
 ];
 
-const I8_MISFITS: [Misfit<i8>; 10] = [
-    (Big, Msb0, 3, 4),
-    (Big, Msb0, 3, -5),
-    (Little, Msb0, 3, 4),
-    (Big, Lsb0, 3, -5),
-    (Little, Lsb0, 3, 4),
-    (Little, Lsb0, 3, -5),
-    (Big, Msb0, 1, 1),
-    (Big, Msb0, 1, -2),
-    (Big, Msb0, 0, 1),
-    (Big, Msb0, 0, -1),
+const I8_MISFITS: [Misfit<i8>; 11] = [
+    (Big, Msb0, Bits(3), 4),
+    (Big, Msb0, Bits(3), -5),
+    (Little, Msb0, Bits(3), 4),
+    (Big, Lsb0, Bits(3), -5),
+    (Little, Lsb0, Bits(3), 4),
+    (Little, Lsb0, Bits(3), -5),
+    (Big, Msb0, Bits(1), 1),
+    (Big, Msb0, Bits(1), -2),
+    (Big, Msb0, Bits(0), 1),
+    (Big, Msb0, Bits(0), -1),
+    (Big, Msb0, Bytes(0), 1),
 ];
 
 #[test]
@@ -77,15 +78,17 @@ const I16_ROWS: [Row<i16>; 21] = [
     (Little, Msb0, Bytes(2), "0080", -32768),
 ];
 
-const I16_MISFITS: [Misfit<i16>; 8] = [
-    (Big, Msb0, 12, 2048),
-    (Big, Msb0, 12, -2049),
-    (Little, Msb0, 12, 2048),
-    (Little, Msb0, 12, -2049),
-    (Little, Lsb0, 12, 2048),
-    (Little, Lsb0, 12, -2049),
-    (Big, Lsb0, 8, 128),
-    (Big, Lsb0, 8, -129),
+const I16_MISFITS: [Misfit<i16>; 10] = [
+    (Big, Msb0, Bits(12), 2048),
+    (Big, Msb0, Bits(12), -2049),
+    (Little, Msb0, Bits(12), 2048),
+    (Little, Msb0, Bits(12), -2049),
+    (Little, Lsb0, Bits(12), 2048),
+    (Little, Lsb0, Bits(12), -2049),
+    (Big, Lsb0, Bits(8), 128),
+    (Big, Lsb0, Bits(8), -129),
+    (Little, Msb0, Bytes(1), 300),
+    (Little, Msb0, Bytes(1), 200),
 ];
 
 #[test]
@@ -121,15 +124,17 @@ const I32_ROWS: [Row<i32>; 18] = [
     (Little, Lsb0, Bytes(3), "000080", -8388608),
 ];
 
-const I32_MISFITS: [Misfit<i32>; 8] = [
-    (Big, Msb0, 17, 65536),
-    (Big, Msb0, 17, -65537),
-    (Little, Msb0, 17, 65536),
-    (Little, Msb0, 17, -65537),
-    (Little, Lsb0, 17, 65536),
-    (Little, Lsb0, 17, -65537),
-    (Big, Lsb0, 24, 8388608),
-    (Big, Lsb0, 24, -8388609),
+const I32_MISFITS: [Misfit<i32>; 10] = [
+    (Big, Msb0, Bits(17), 65536),
+    (Big, Msb0, Bits(17), -65537),
+    (Little, Msb0, Bits(17), 65536),
+    (Little, Msb0, Bits(17), -65537),
+    (Little, Lsb0, Bits(17), 65536),
+    (Little, Lsb0, Bits(17), -65537),
+    (Big, Lsb0, Bits(24), 8388608),
+    (Big, Lsb0, Bits(24), -8388609),
+    (Big, Msb0, Bytes(2), 32768),
+    (Big, Lsb0, Bytes(2), -32769),
 ];
 
 #[test]
@@ -163,13 +168,13 @@ const I64_ROWS: [Row<i64>; 15] = [
 ];
 
 const I64_MISFITS: [Misfit<i64>; 7] = [
-    (Big, Msb0, 33, 4294967296),
-    (Big, Msb0, 33, -4294967297),
-    (Little, Msb0, 33, 4294967296),
-    (Little, Msb0, 33, -4294967297),
-    (Little, Lsb0, 33, 4294967296),
-    (Little, Lsb0, 33, -4294967297),
-    (Big, Lsb0, 40, 0x8000000000),
+    (Big, Msb0, Bits(33), 4294967296),
+    (Big, Msb0, Bits(33), -4294967297),
+    (Little, Msb0, Bits(33), 4294967296),
+    (Little, Msb0, Bits(33), -4294967297),
+    (Little, Lsb0, Bits(33), 4294967296),
+    (Little, Lsb0, Bits(33), -4294967297),
+    (Big, Lsb0, Bits(40), 0x8000000000),
 ];
 
 #[test]
@@ -205,10 +210,10 @@ const ISIZE_ROWS: [Row<isize>; 11] = [
 ];
 
 const ISIZE_MISFITS: [Misfit<isize>; 4] = [
-    (Big, Msb0, 57, 0x100000000000000),
-    (Little, Msb0, 57, -0x100000000000001),
-    (Little, Lsb0, 57, 0x100000000000000),
-    (Big, Lsb0, 16, 32768),
+    (Big, Msb0, Bits(57), 0x100000000000000),
+    (Little, Msb0, Bits(57), -0x100000000000001),
+    (Little, Lsb0, Bits(57), 0x100000000000000),
+    (Big, Lsb0, Bits(16), 32768),
 ];
 
 #[test]
@@ -251,10 +256,10 @@ const I128_ROWS: [Row<i128>; 12] = [
 ];
 
 const I128_MISFITS: [Misfit<i128>; 4] = [
-    (Big, Msb0, 100, 0x8000000000000000000000000),
-    (Little, Msb0, 100, -0x8000000000000000000000001),
-    (Little, Lsb0, 100, 0x8000000000000000000000000),
-    (Big, Lsb0, 16, -32769),
+    (Big, Msb0, Bits(100), 0x8000000000000000000000000),
+    (Little, Msb0, Bits(100), -0x8000000000000000000000001),
+    (Little, Lsb0, Bits(100), 0x8000000000000000000000000),
+    (Big, Lsb0, Bits(16), -32769),
 ];
 
 #[test]

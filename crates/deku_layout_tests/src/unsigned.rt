@@ -35,11 +35,11 @@ const U8_ROWS: [Row<u8>; 16] = [
 ];
 
 const U8_MISFITS: [Misfit<u8>; 5] = [
-    (Big, Msb0, 0, 1),
-    (Big, Msb0, 3, 8),
-    (Little, Msb0, 3, 8),
-    (Big, Lsb0, 3, 8),
-    (Little, Lsb0, 3, 0xFF),
+    (Big, Msb0, Bits(0), 1),
+    (Big, Msb0, Bits(3), 8),
+    (Little, Msb0, Bits(3), 8),
+    (Big, Lsb0, Bits(3), 8),
+    (Little, Lsb0, Bits(3), 0xFF),
 ];
 
 #[test]
@@ -76,15 +76,17 @@ const U16_ROWS: [Row<u16>; 26] = [
     (Big, Msb0, Bytes(2), "ABCD", 0xABCD),
 ];
 
-const U16_MISFITS: [Misfit<u16>; 8] = [
-    (Big, Msb0, 0, 1),
-    (Little, Msb0, 10, 0x400),
-    (Big, Msb0, 10, 0x400),
-    (Little, Lsb0, 10, 0x400),
-    (Big, Lsb0, 10, 0x0004),
-    (Big, Lsb0, 10, 0xFF04),
-    (Big, Lsb0, 13, 0x1020),
-    (Big, Lsb0, 8, 0x100),
+const U16_MISFITS: [Misfit<u16>; 10] = [
+    (Big, Msb0, Bits(0), 1),
+    (Little, Msb0, Bits(10), 0x400),
+    (Big, Msb0, Bits(10), 0x400),
+    (Little, Lsb0, Bits(10), 0x400),
+    (Big, Lsb0, Bits(10), 0x0004),
+    (Big, Lsb0, Bits(10), 0xFF04),
+    (Big, Lsb0, Bits(13), 0x1020),
+    (Big, Lsb0, Bits(8), 0x100),
+    (Little, Msb0, Bytes(0), 1),
+    (Big, Lsb0, Bytes(1), 0x100),
 ];
 
 #[test]
@@ -121,13 +123,15 @@ const U32_ROWS: [Row<u32>; 25] = [
     (Big, Lsb0, Bytes(4), "01020304", 0x01020304),
 ];
 
-const U32_MISFITS: [Misfit<u32>; 6] = [
-    (Little, Msb0, 12, 0x1000),
-    (Big, Msb0, 12, 0x1000),
-    (Little, Lsb0, 12, 0x1000),
-    (Big, Lsb0, 12, 0x0010),
-    (Big, Lsb0, 12, 0xFF10),
-    (Big, Lsb0, 12, 0x10000),
+const U32_MISFITS: [Misfit<u32>; 8] = [
+    (Little, Msb0, Bits(12), 0x1000),
+    (Big, Msb0, Bits(12), 0x1000),
+    (Little, Lsb0, Bits(12), 0x1000),
+    (Big, Lsb0, Bits(12), 0x0010),
+    (Big, Lsb0, Bits(12), 0xFF10),
+    (Big, Lsb0, Bits(12), 0x10000),
+    (Big, Msb0, Bytes(2), 0x01020304),
+    (Big, Lsb0, Bytes(3), 0x01000000),
 ];
 
 #[test]
@@ -156,13 +160,14 @@ const U64_ROWS: [Row<u64>; 17] = [
     (Big, Lsb0, Bytes(8), "0102030405060708", 0x0102030405060708),
 ];
 
-const U64_MISFITS: [Misfit<u64>; 6] = [
-    (Little, Msb0, 33, 0x200000000),
-    (Big, Msb0, 33, 0x200000000),
-    (Little, Lsb0, 33, 0x200000000),
-    (Big, Lsb0, 33, 0x0000000002),
-    (Big, Lsb0, 33, 0xFFFFFFFF02),
-    (Big, Lsb0, 33, 0x10000000000),
+const U64_MISFITS: [Misfit<u64>; 7] = [
+    (Little, Msb0, Bits(33), 0x200000000),
+    (Big, Msb0, Bits(33), 0x200000000),
+    (Little, Lsb0, Bits(33), 0x200000000),
+    (Big, Lsb0, Bits(33), 0x0000000002),
+    (Big, Lsb0, Bits(33), 0xFFFFFFFF02),
+    (Big, Lsb0, Bits(33), 0x10000000000),
+    (Little, Lsb0, Bytes(7), 0x100000000000000),
 ];
 
 #[test]
@@ -198,10 +203,10 @@ const USIZE_ROWS: [Row<usize>; 11] = [
 ];
 
 const USIZE_MISFITS: [Misfit<usize>; 4] = [
-    (Little, Msb0, 57, 0x200000000000000),
-    (Big, Msb0, 57, 0x200000000000000),
-    (Little, Lsb0, 57, 0x200000000000000),
-    (Big, Lsb0, 57, 0xBEEF000000000002),
+    (Little, Msb0, Bits(57), 0x200000000000000),
+    (Big, Msb0, Bits(57), 0x200000000000000),
+    (Little, Lsb0, Bits(57), 0x200000000000000),
+    (Big, Lsb0, Bits(57), 0xBEEF000000000002),
 ];
 
 #[test]
@@ -254,10 +259,10 @@ const U128_ROWS: [Row<u128>; 16] = [
 ];
 
 const U128_MISFITS: [Misfit<u128>; 4] = [
-    (Little, Msb0, 100, 0x10000000000000000000000000),
-    (Big, Msb0, 100, 0x10000000000000000000000000),
-    (Little, Lsb0, 100, 0x10000000000000000000000000),
-    (Big, Lsb0, 100, 0xFFFFFFFFFFFFFFFFFFFFFFFF10),
+    (Little, Msb0, Bits(100), 0x10000000000000000000000000),
+    (Big, Msb0, Bits(100), 0x10000000000000000000000000),
+    (Little, Lsb0, Bits(100), 0x10000000000000000000000000),
+    (Big, Lsb0, Bits(100), 0xFFFFFFFFFFFFFFFFFFFFFFFF10),
 ];
 
 #[test]

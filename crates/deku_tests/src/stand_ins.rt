@@ -1,6 +1,8 @@
 //! Truth values, numbers other than 0 and addresses, which stand for numbers.
 
-use super::expecting::{expect_denied, expect_whole, expect_written};
+use super::expecting::{
+    expect_bytes, expect_denied, expect_whole, expect_written, put, same, writer_in,
+};
 use deku::ctx::Endian::{Big, Little};
 use deku::ctx::Order::Lsb0;
 use deku::ctx::{BitSize, ByteSize};
@@ -15,6 +17,10 @@ use std::test::Fail;
 const UNTRUE: DekuError = DekuError::Parse("cannot parse bool value");
 
 const ZERO: DekuError = DekuError::Parse("NonZero assertion");
+
+const MISFIT: DekuError = DekuError::InvalidParam(
+    "bit size of input is larger than requested size",
+);
 
 #[test]
 fn truth_values(rt: HostRuntime) -> Result<(), Fail> {
@@ -122,6 +128,12 @@ fn addresses(rt: HostRuntime) -> Result<(), Fail> {
         &[7],
         Ipv4Addr::new(0, 0, 0, 7),
     )?;
+    let two = (Big, ByteSize(2));
+    expect_whole(&rt, alloc, two, &[1, 2], Ipv4Addr::new(0, 0, 1, 2))?;
+    let mut writer = writer_in(alloc);
+    let answer = put(&mut writer, &Ipv4Addr::new(1, 0, 0, 0), two);
+    same(&rt, &"a long address", &answer, &Err(MISFIT));
+    expect_bytes(&rt, &"a long address", writer, &[])?;
     expect_written(&rt, alloc, Big, &IpAddr::V4(four), &[145, 254, 160, 237])?;
     expect_written(&rt, alloc, Big, &IpAddr::V6(six), &octets)
 }

@@ -33,7 +33,7 @@ pub const WRITTEN: [Run; 6] = [
 ];
 
 pub const WRITTEN_IN_BOTH_ORDERS: [Run; 5] = [
-    (&["write", "u32,big,bytes2=16909060"], "", (0, "0304\n", "")),
+    (&["write", "u32,big,bytes2=772"], "", (0, "0304\n", "")),
     (
         &["write", "u8,big,bits3=5", "u16,lsb,bits9=257"],
         "",
@@ -133,8 +133,9 @@ pub const READ_IN_BOTH_ORDERS: [Run; 4] = [
     ),
 ];
 
-pub const VALUES: [Run; 7] = [
+pub const VALUES: [Run; 8] = [
     (&["write", "u8,big,bits4=16"], "", (1, "", MISFIT)),
+    (&["write", "u32,big,bytes2=16909060"], "", (1, "", MISFIT)),
     (&["write", "i8,bits3=4"], "", (1, "", MISFIT)),
     (&["write", "u16,big,lsb,bits13=4128"], "", (1, "", MISFIT)),
     (&["write", "u8,big=300"], "", (1, "", OUTSIDE)),

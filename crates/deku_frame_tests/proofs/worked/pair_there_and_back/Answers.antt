@@ -1,6 +1,6 @@
 use Rattle.std.proofs.Common.{[], Ok, sym, subst, ◌∙◌, append-nil}
 use Rattle.deku_bits.specs.Pieces.{laid_out}
-use Rattle.deku_frame.specs.Frames.{SameFrame}
+use Rattle.deku_fields.specs.Frames.{SameFrame}
 use Rattle.deku_frame_tests.proofs.worked.pair_there_and_back.Goals as goal
 
 pub returns-in-Ok-from_bytes : goal.returns-in-Ok-from_bytes
