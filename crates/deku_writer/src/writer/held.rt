@@ -38,6 +38,25 @@ impl Held {
         Held { number: 0, len: 0 }
     }
 
+    /// So many bits with this number. The caller's conditions: they are fewer than eight, and the number has no more.
+    #[inline(always)]
+    pub fn of_number(number: u8, len: usize) -> Held
+        requires short { len < 8 }
+        requires inside { number < 2 ^ len }
+        ensures { result ≡ bits_of len number }
+    {
+        Held { number, len }
+    }
+
+    /// Their number.
+    #[inline(always)]
+    pub fn number(&self) -> u8
+        ensures inside { result < 2 ^ length self.now }
+        ensures bits { self.now ≡ bits_of (length self.now) result }
+    {
+        self.number
+    }
+
     /// How many there are. They are below eight, as is said to the compiler too: so it knows how many bytes a field of whole bytes fills.
     #[tactic(auto, using(deku_stream::proofs::Packed::lengths))]
     #[inline(always)]
