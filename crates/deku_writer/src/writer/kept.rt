@@ -25,21 +25,19 @@ pub enum Mode {
 /// What a writer keeps beside its sink. One number counts the bits that were given and those that are pending: the latter are what is above whole bytes.
 #[derive(Drop)]
 pub struct Kept {
-    number: u8,
+    number: u64,
     total: usize,
     mode: Mode,
 }
 
 impl Model for Kept {
-    ghost use Rattle.std.specs.Prelude.{◌%◌, ◌^◌, ◌<◌};
+    ghost use Rattle.std.specs.Prelude.{◌%◌};
     ghost use Rattle.deku_stream.specs.Bits.{bits_of};
     ghost use Rattle.deku_writer.specs.Keeping.{Keeping, keeping};
 
     ghost Value = { Keeping };
 
     ghost view = { λ k. keeping k.mode (bits_of (k.total % 8) k.number) k.total };
-
-    ghost invariant = { λ k. k.number < 2 ^ (k.total % 8) };
 }
 
 impl Kept {

@@ -10,19 +10,11 @@ overflow_add-self c =
     let room : (t % 8 + c.args.n) / 8 ≤ (2 ^ 64 - 1 - 8 * (t / 8)) / 8 = rw (← c.self.view_is, keeping_held, keeping_count, length-bits_of) at c.requires.room in
     search rules
 
-pub invariant_of-self : goal.invariant_of-self
-invariant_of-self c =
-    let t = c.self.inside.total in
-    let n = c.args.n in
-    let rest = rw (← c.self.view_is, keeping_held, length-bits_of) at c.requires.rest in
-    let left : (t % 8 + n) % 8 ≡ (t + n) % 8 = omega arith in
-    rw (← left, ← rest) c.number-self-inside.ensures.inside
-
 pub returns : goal.returns
 returns c =
     let t = c.self.inside.total in
     let n = c.args.n in
     let rest = rw (← c.self.view_is, keeping_held, length-bits_of) at c.requires.rest in
     let left : (t % 8 + n) % 8 ≡ (t + n) % 8 = omega arith in
-    let bits : bits_of ((t + n) % 8) c.number-self-inside.result ≡ c.args.next = sym (c.number-self-inside.ensures.bits ∙ ap (λ k. bits_of k c.number-self-inside.result) (rest ∙ left)) in
+    let bits : bits_of ((t + n) % 8) c.number-self-inside.result ≡ c.args.next = sym (c.number-self-inside.ensures ∙ ap (λ k. bits_of k c.number-self-inside.result) (rest ∙ left)) in
     rw (← c.self.view_is, keeping_held, keeping_count, length-bits_of, bits, ← counted_on t n) (c.mode_of-self-inside.ensures c.args.next (t + n))
