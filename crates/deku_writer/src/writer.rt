@@ -368,14 +368,17 @@ impl Progress {
         ensures stays { IsFalse result → (self.new ≡ self.old) × (sink.new ≡ sink.old) }
         ensures stopped { Untouched self.old sink.old sink.new }
     {
-        if !self.kept.goes_on(order) || !self.kept.has_room(n) {
+        if !self.kept.goes_on(order) {
             return false;
         }
+        let Some(total) = self.kept.ahead(n) else {
+            return false;
+        };
         let mut next = self.kept.held();
         let (eight, count) = next.fill(order, word, n);
         let laid = sink.lay(eight, count);
         if laid {
-            self.kept.advance(next, n);
+            self.kept.advance(next, n, total);
         }
         laid
     }
@@ -425,9 +428,12 @@ impl Progress {
         ensures stays { IsFalse result → (self.new ≡ self.old) × (sink.new ≡ sink.old) }
         ensures stopped { Untouched self.old sink.old sink.new }
     {
-        if n == 0 || !self.kept.goes_on(Order::Msb0) || !self.kept.has_room(n) {
+        if n == 0 || !self.kept.goes_on(Order::Msb0) {
             return false;
         }
+        let Some(total) = self.kept.ahead(n) else {
+            return false;
+        };
         let mut next = self.kept.held();
         if next.len() + n > 64 {
             return false;
@@ -435,7 +441,7 @@ impl Progress {
         let (eight, count) = next.fill_high(number, n);
         let laid = sink.lay(eight, count);
         if laid {
-            self.kept.advance(next, n);
+            self.kept.advance(next, n, total);
         }
         laid
     }

@@ -1,6 +1,6 @@
 //! The pending bits of a writer with their order, its fault, if any, and how many bits were given.
 
-ghost use Rattle.std.specs.Prelude.{◌≡◌, ◌+◌, ◌-◌, ◌*◌, ◌/◌, ◌%◌, ◌^◌, ◌<◌, ◌≤◌, ℕ, Bool, List, [], Some, None, length, IsTrue, IsFalse};
+ghost use Rattle.std.specs.Prelude.{◌≡◌, ◌+◌, ◌-◌, ◌*◌, ◌/◌, ◌%◌, ◌^◌, ◌<◌, ◌≤◌, ℕ, Bool, List, [], Some, None, length, IsTrue, IsFalse, IfSome};
 ghost use Rattle.deku_stream.specs.declared.ctx.Order.TheVariants.{Msb0};
 ghost use Rattle.deku_stream.specs.declared.error.Fault.TheVariants.{Io as FaultIo};
 ghost use Rattle.deku_writer.specs.Keeping.{keeping};
@@ -129,6 +129,18 @@ impl Kept {
         true
     }
 
+    /// How many bits are given or pending where so many more are written, where the count has room for the bytes that these fill.
+    #[inline(always)]
+    pub fn ahead(&self, n: usize) -> Option<usize>
+        ensures total { IfSome result (λ total. total ≡ self.now.count + length self.now.held + n) }
+        ensures room { IfSome result (λ total. (length self.now.held + n) / 8 ≤ (2 ^ 64 - 1 - self.now.count) / 8) }
+    {
+        if n > usize::MAX - self.total {
+            return None;
+        }
+        Some(self.total + n)
+    }
+
     /// Whether the count has room for so many bytes more.
     #[inline(always)]
     pub fn has_room_for_bytes(&self, n: usize) -> bool
@@ -141,20 +153,21 @@ impl Kept {
         true
     }
 
-    /// These bits are pending then, of the same order, so many more having been written. The caller's conditions: it goes on, the bits are what is
-    /// above the whole bytes, and the count has room.
+    /// These bits are pending then, of the same order, so many more having been written, which make this total. The caller's conditions: it goes on, the
+    /// bits are what is above the whole bytes, and the total is the one that `ahead` answers. It is the caller's, so that it is not read again here.
     #[inline(always)]
-    pub fn advance(&mut self, next: Held, n: usize)
+    pub fn advance(&mut self, next: Held, n: usize, total: usize)
         requires going { self.old.fault ≡ None }
         requires rest { length next ≡ (length self.old.held + n) % 8 }
-        requires room { (length self.old.held + n) / 8 ≤ (2 ^ 64 - 1 - self.old.count) / 8 }
+        requires total { total ≡ self.old.count + length self.old.held + n }
         ensures { self.new ≡ record { order = self.old.order; held = next; fault = None; count = self.old.count + 8 * ((length self.old.held + n) / 8) } }
     {
         self.number = next.number();
-        self.total += n;
+        self.total = total;
     }
 
-    /// The same, where the bits are of another order.
+    /// These bits are pending then, of this order, so many more having been written. The caller's conditions: it goes on, the bits are what is above the
+    /// whole bytes, and the count has room.
     #[inline(always)]
     pub fn follow(&mut self, next: Held, n: usize, order: Order)
         requires going { self.old.fault ≡ None }
