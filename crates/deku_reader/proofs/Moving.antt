@@ -250,6 +250,11 @@ admitted a None c n (inl p) = let h = p.1.2 in absurd (cc)
 admitted a None c n (inr p) = (refl, p.0)
 admitted a (Some f) c n p = absurd (cc)
 
+-- what is admitted does not depend on what it goes on with
+pub admits_any : {A B : Type 0} (a : A) (b : B) (f : Option Fault) (c n : ℕ) (r : Result (Unit {0}) DekuError) → Admits n (standing_of a f c) r → Admits n (standing_of b f c) r
+admits_any a b None c n r p = p
+admits_any a b (Some f) c n r p = p
+
 -- no transfer was needed, and the source stays
 pub needs_none : {D : Type 0} (w : List Bool) (c n : ℕ) (old new : D) → c + n < 2 ^ 64 → (n ≤ length w → new ≡ old) → NeedsNone n (Going w c) → new ≡ old
 needs_none w c n old new fits same (inl inside) = same inside

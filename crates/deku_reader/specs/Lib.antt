@@ -12,3 +12,4 @@ pub use Rattle.deku_stream.specs.Faults
 pub use Rattle.deku_stream.specs.Kept
 pub use Rattle.deku_stream.specs.Moving
 pub mod ReaderCalls
+pub mod Tallies

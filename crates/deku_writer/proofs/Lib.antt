@@ -9,3 +9,4 @@ pub mod WholeBytes
 pub mod Joined
 pub mod LongWords
 pub mod Filling
+pub mod Keeps

@@ -13,8 +13,8 @@ ghost use Rattle.deku_writer.specs.WriterCalls.{Writes, WritesAt, WritesBits, Wr
 
 mod bytes;
 mod held;
-mod high;
 mod joined;
+mod kept;
 mod pushing;
 mod seek;
 mod way;
@@ -22,13 +22,13 @@ mod words;
 
 use self::bytes::push_bytes_onto;
 use self::held::Held;
-use self::high::lay_high;
+use self::kept::Kept;
 use self::pushing::push_onto;
 use self::words::push_word_onto;
 use deku_device::device::Sink;
 use deku_stream::bounded::BoundedBitVec;
 use deku_stream::ctx::Order;
-use deku_stream::error::{DekuError, Fault};
+use deku_stream::error::DekuError;
 use std::alloc::Global;
 use std::io::ErrorKind;
 use std::marker::Model;
@@ -54,10 +54,7 @@ pub struct Writer<W> {
 /// How far a writer has come.
 #[derive(Drop)]
 pub struct Progress {
-    held: Held,
-    order: Order,
-    bits_written: usize,
-    fault: Option<Fault>,
+    kept: Kept,
 }
 
 impl Model for Progress {
@@ -68,9 +65,9 @@ impl Model for Progress {
 
     ghost Value = { Standing Pending };
 
-    ghost view = { λ a. standing_of (pending_in a.order a.held) a.fault a.bits_written };
+    ghost view = { λ a. standing_of (pending_in a.kept.order a.kept.held) a.kept.fault a.kept.count };
 
-    ghost invariant = { λ a. length a.held < 8 };
+    ghost invariant = { λ a. length a.kept.held < 8 };
 }
 
 impl<W: Sink> Writer<W> {
@@ -82,7 +79,7 @@ impl<W: Sink> Writer<W> {
     {
         Writer {
             sink: inner,
-            state: Progress::going(0),
+            state: Progress::new(),
         }
     }
 
@@ -233,37 +230,35 @@ impl<W: Sink> Writer<W> {
 }
 
 impl Progress {
-    // So many bits are written, and nothing is pending.
+    // Nothing is written.
     #[inline(always)]
-    fn going(bits_written: usize) -> Progress
-        ensures { result ≡ Going Nothing bits_written }
+    fn new() -> Progress
+        ensures { result ≡ Going Nothing 0 }
     {
-        Progress {
-            held: Held::new(),
-            order: Order::Msb0,
-            bits_written,
-            fault: None,
-        }
+        Progress { kept: Kept::new() }
     }
 
-    // Stopped by this fault of the sink, with this count: nothing is pending.
+    // It goes on with its count, and nothing is pending.
     #[inline(always)]
-    fn stopped(kind: ErrorKind, count: usize) -> Progress
-        ensures { result ≡ Stopped (Io kind) count }
+    pub(crate) fn restart(&mut self)
+        ensures { self.new ≡ Going Nothing (count_of self.old) }
     {
-        Progress {
-            held: Held::new(),
-            order: Order::Msb0,
-            bits_written: count,
-            fault: Some(Fault::Io(kind)),
-        }
+        self.kept.restart();
+    }
+
+    // It has stopped by this fault of the sink, with its count: nothing is pending.
+    #[inline(always)]
+    pub(crate) fn stop(&mut self, kind: ErrorKind)
+        ensures { self.new ≡ Stopped (Io kind) (count_of self.old) }
+    {
+        self.kept.stop(kind);
     }
 
     #[inline(always)]
     fn bits_written(&self) -> usize
         ensures { result ≡ count_of self.now }
     {
-        self.bits_written
+        self.kept.count()
     }
 
     // The pending bits, highest first.
@@ -272,20 +267,20 @@ impl Progress {
         ensures few { length result < 8 }
         ensures nothing { length result ≡ 0 → pending_of self.now ≡ Nothing }
     {
-        if self.fault.is_some() {
+        if self.kept.fault().is_some() {
             return Held::new();
         }
-        self.held.copy()
+        self.kept.held()
     }
 
     // The order of the pending bits.
     fn pending_order(&self) -> Order
         ensures { result ≡ order_of (pending_of self.now) }
     {
-        if self.fault.is_some() || self.held.len() == 0 {
+        if self.kept.fault().is_some() || self.kept.len() == 0 {
             return Order::Msb0;
         }
-        self.order
+        self.kept.order()
     }
 
     // Writes the bits to this sink.
@@ -293,24 +288,23 @@ impl Progress {
         ensures writes { WritesAt (WritesBits order bits.now) (W.told sink.old) self.old result (W.told sink.new) self.new }
         ensures stopped { Untouched self.old sink.old sink.new }
     {
-        if let Some(fault) = self.fault {
+        if let Some(fault) = self.kept.fault() {
             return Err(fault.error());
         }
         if bits.is_empty() {
             return Ok(());
         }
-        let bytes = whole_bytes(self.held.len(), bits.len());
-        if bytes > (usize::MAX - self.bits_written) / 8 {
+        if !self.kept.has_room(bits.len()) {
             return Err(DekuError::InvalidParam("count past usize"));
         }
-        match push_onto(sink, &mut self.held, self.order, order, bits) {
+        let mut held = self.kept.held();
+        match push_onto(sink, &mut held, self.kept.order(), order, bits) {
             Ok(()) => {
-                self.order = order;
-                self.bits_written += 8 * bytes;
+                self.kept.follow(held, bits.len(), order);
                 Ok(())
             }
             Err(kind) => {
-                *self = Progress::stopped(kind, self.bits_written);
+                self.kept.stop(kind);
                 Err(DekuError::Io(kind))
             }
         }
@@ -321,23 +315,23 @@ impl Progress {
         ensures writes { WritesAt (WritesBits Msb0 (bits_in bytes.now)) (W.told sink.old) self.old result (W.told sink.new) self.new }
         ensures stopped { Untouched self.old sink.old sink.new }
     {
-        if let Some(kept) = self.fault {
+        if let Some(kept) = self.kept.fault() {
             return Err(kept.error());
         }
         if bytes.is_empty() {
             return Ok(());
         }
-        if bytes.len() > (usize::MAX - self.bits_written) / 8 {
+        if !self.kept.has_room_for_bytes(bytes.len()) {
             return Err(DekuError::InvalidParam("count past usize"));
         }
-        match push_bytes_onto(sink, &mut self.held, self.order, bytes) {
+        let mut held = self.kept.held();
+        match push_bytes_onto(sink, &mut held, self.kept.order(), bytes) {
             Ok(()) => {
-                self.order = Order::Msb0;
-                self.bits_written += 8 * bytes.len();
+                self.kept.follow(held, 8 * bytes.len(), Order::Msb0);
                 Ok(())
             }
             Err(kind) => {
-                *self = Progress::stopped(kind, self.bits_written);
+                self.kept.stop(kind);
                 Err(DekuError::Io(kind))
             }
         }
@@ -357,24 +351,69 @@ impl Progress {
         ensures writes { WritesAt (WritesWord order n word) (W.told sink.old) self.old result (W.told sink.new) self.new }
         ensures stopped { Untouched self.old sink.old sink.new }
     {
-        if let Some(reason) = self.fault {
+        if 0 < n && n <= 57 && self.word_laid(sink, word as u64, n, order) {
+            return Ok(());
+        }
+        self.push_word(sink, word, n, order)
+    }
+
+    // Writes a word of at most 57 bits to this sink, where nothing refuses them, their order is that of the pending bits, and they are laid, and whether
+    // it did.
+    #[inline(always)]
+    fn word_laid<W: Sink>(&mut self, sink: &mut W, word: u64, n: usize, order: Order) -> bool
+        requires some { 0 < n }
+        requires most { n ≤ 57 }
+        requires inside { word < 2 ^ n }
+        ensures writes { IsTrue result → WritesAt (WritesWord order n word) (W.told sink.old) self.old (Ok tt) (W.told sink.new) self.new }
+        ensures stays { IsFalse result → (self.new ≡ self.old) × (sink.new ≡ sink.old) }
+        ensures stopped { Untouched self.old sink.old sink.new }
+    {
+        if !self.kept.goes_on(order) {
+            return false;
+        }
+        let Some(total) = self.kept.ahead(n) else {
+            return false;
+        };
+        let mut next = self.kept.held();
+        let (eight, count) = next.fill(order, word, n);
+        let laid = sink.lay(eight, count);
+        if laid {
+            self.kept.advance(next, n, total);
+        }
+        laid
+    }
+
+    // Writes a word of n bits to this sink, in any way.
+    #[inline(always)]
+    fn push_word<W: Sink>(
+        &mut self,
+        sink: &mut W,
+        word: u128,
+        n: usize,
+        order: Order,
+    ) -> Result<(), DekuError>
+        requires most { n ≤ 128 }
+        requires inside { word < 2 ^ n }
+        ensures writes { WritesAt (WritesWord order n word) (W.told sink.old) self.old result (W.told sink.new) self.new }
+        ensures stopped { Untouched self.old sink.old sink.new }
+    {
+        if let Some(reason) = self.kept.fault() {
             return Err(reason.error());
         }
         if n == 0 {
             return Ok(());
         }
-        let filled = whole_bytes(self.held.len(), n);
-        if filled > (usize::MAX - self.bits_written) / 8 {
+        if !self.kept.has_room(n) {
             return Err(DekuError::InvalidParam("count past usize"));
         }
-        match push_word_onto(sink, &mut self.held, self.order, order, word, n) {
+        let mut held = self.kept.held();
+        match push_word_onto(sink, &mut held, self.kept.order(), order, word, n) {
             Ok(()) => {
-                self.order = order;
-                self.bits_written += 8 * filled;
+                self.kept.follow(held, n, order);
                 Ok(())
             }
             Err(kind) => {
-                *self = Progress::stopped(kind, self.bits_written);
+                self.kept.stop(kind);
                 Err(DekuError::Io(kind))
             }
         }
@@ -389,20 +428,20 @@ impl Progress {
         ensures stays { IsFalse result → (self.new ≡ self.old) × (sink.new ≡ sink.old) }
         ensures stopped { Untouched self.old sink.old sink.new }
     {
-        if let Some(_) = self.fault {
+        if n == 0 || !self.kept.goes_on(Order::Msb0) {
             return false;
         }
-        if n == 0 {
+        let Some(total) = self.kept.ahead(n) else {
+            return false;
+        };
+        let mut next = self.kept.held();
+        if next.len() + n > 64 {
             return false;
         }
-        let made = whole_bytes(self.held.len(), n);
-        if made > (usize::MAX - self.bits_written) / 8 {
-            return false;
-        }
-        let laid = lay_high(sink, &mut self.held, self.order, number, n);
+        let (eight, count) = next.fill_high(number, n);
+        let laid = sink.lay(eight, count);
         if laid {
-            self.order = Order::Msb0;
-            self.bits_written += 8 * made;
+            self.kept.advance(next, n, total);
         }
         laid
     }
@@ -413,17 +452,8 @@ impl Progress {
         ensures writes { WritesAt Finalizes (W.told sink.old) self.old result (W.told sink.new) self.new }
         ensures stopped { Untouched self.old sink.old sink.new }
     {
-        let lacking = (8 - self.held.len()) % 8;
-        let order = self.order;
+        let lacking = (8 - self.kept.len()) % 8;
+        let order = self.kept.order();
         self.write_word(sink, 0, lacking, order)
     }
-}
-
-// How many whole bytes so many held bits and bits more make.
-#[inline(always)]
-fn whole_bytes(held: usize, more: usize) -> usize
-    requires { held ≤ 8 }
-    ensures { result ≡ (held + more) / 8 }
-{
-    more / 8 + (held + more % 8) / 8
 }

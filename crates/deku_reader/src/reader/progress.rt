@@ -20,11 +20,13 @@ mod bits;
 mod bytes;
 mod fetching;
 mod skips;
+mod tally;
 mod words;
 
 use crate::reader::progress::bits::bits_into;
 use crate::reader::progress::bytes::{bytes_into, bytes_onto};
 use crate::reader::progress::skips::{drop_bits, pass_bytes, pop_bits};
+use crate::reader::progress::tally::Tally;
 use crate::reader::progress::words::{high_at_hand, word_from};
 use deku_device::device::Source;
 use deku_stream::ctx::Order;
@@ -38,8 +40,7 @@ use std::marker::Model;
 #[derive(Drop)]
 pub struct Progress {
     window: Window,
-    fault: Option<Fault>,
-    bits_read: usize,
+    tally: Tally,
 }
 
 impl Model for Progress {
@@ -49,7 +50,7 @@ impl Model for Progress {
 
     ghost Value = { Standing (List Bool) };
 
-    ghost view = { λ p. standing_of p.window p.fault p.bits_read };
+    ghost view = { λ p. standing_of p.window p.tally.fault p.tally.count };
 
     ghost invariant = { λ p. length p.window ≤ 8 };
 }
@@ -68,8 +69,7 @@ impl Progress {
     {
         Progress {
             window: Window::empty(),
-            fault: None,
-            bits_read,
+            tally: Tally::going(bits_read),
         }
     }
 
@@ -79,8 +79,7 @@ impl Progress {
     {
         Progress {
             window: Window::empty(),
-            fault: Some(fault),
-            bits_read,
+            tally: Tally::stopped(fault, bits_read),
         }
     }
 
@@ -88,7 +87,7 @@ impl Progress {
     pub fn bits_read(&self) -> usize
         ensures { result ≡ count_of self.now }
     {
-        self.bits_read
+        self.tally.count()
     }
 
     /// How many bits of a byte are unread; none where the reader has stopped.
@@ -96,7 +95,7 @@ impl Progress {
         ensures value { result ≡ length (window_of self.now) }
         ensures bound { result ≤ 8 }
     {
-        match self.fault {
+        match self.tally.fault() {
             None => self.window.len(),
             Some(_) => 0,
         }
@@ -106,7 +105,7 @@ impl Progress {
     pub fn unread_in_eight(&self) -> [bool; 8]
         ensures { drop (8 - length (window_of self.now)) result ≡ window_of self.now }
     {
-        match self.fault {
+        match self.tally.fault() {
             None => self.window.in_eight(),
             Some(_) => [false; 8],
         }
@@ -117,13 +116,7 @@ impl Progress {
     pub fn admits(&self, amt: usize) -> Result<(), DekuError>
         ensures { Admits amt self.now result }
     {
-        if let Some(fault) = self.fault {
-            return Err(fault.error());
-        }
-        if self.bits_read > usize::MAX - amt {
-            return Err(DekuError::InvalidParam("count past usize"));
-        }
-        Ok(())
+        self.tally.admits(amt)
     }
 
     /// Refuses what a read of so many bytes refuses before it moves anything.
@@ -155,12 +148,12 @@ impl Progress {
         self.admits(dst.len())?;
         match bits_into(source, &mut self.window, dst, order) {
             Ok(()) => {
-                self.bits_read += dst.len();
+                self.tally.add(dst.len());
                 Ok(())
             }
             Err(error) => {
                 let fault = fault_of(&error, dst.len());
-                *self = Progress::stopped(fault, self.bits_read);
+                *self = Progress::stopped(fault, self.tally.count());
                 Err(fault.error())
             }
         }
@@ -184,12 +177,12 @@ impl Progress {
         self.admits(amt)?;
         match word_from(source, &mut self.window, amt, order) {
             Ok(word) => {
-                self.bits_read += amt;
+                self.tally.add(amt);
                 Ok(word)
             }
             Err(kind) => {
                 let fault = fault_of_kind(kind, amt);
-                *self = Progress::stopped(fault, self.bits_read);
+                *self = Progress::stopped(fault, self.tally.count());
                 Err(fault.error())
             }
         }
@@ -211,7 +204,7 @@ impl Progress {
             return None;
         };
         let number = high_at_hand(source, &mut self.window, amt)?;
-        self.bits_read += amt;
+        self.tally.add(amt);
         Some(number)
     }
 
@@ -233,12 +226,12 @@ impl Progress {
         let bits = 8 * dst.len();
         match bytes_into(source, &mut self.window, dst, order) {
             Ok(()) => {
-                self.bits_read += bits;
+                self.tally.add(bits);
                 Ok(())
             }
             Err(kind) => {
                 let fault = fault_of_kind(kind, bits);
-                *self = Progress::stopped(fault, self.bits_read);
+                *self = Progress::stopped(fault, self.tally.count());
                 Err(fault.error())
             }
         }
@@ -264,12 +257,12 @@ impl Progress {
         self.admits_bytes(amt)?;
         match bytes_onto(source, &mut self.window, bytes, amt, order) {
             Ok(()) => {
-                self.bits_read += 8 * amt;
+                self.tally.add(8 * amt);
                 Ok(())
             }
             Err(kind) => {
                 let fault = fault_of_kind(kind, 8 * amt);
-                *self = Progress::stopped(fault, self.bits_read);
+                *self = Progress::stopped(fault, self.tally.count());
                 Err(fault.error())
             }
         }
@@ -283,7 +276,7 @@ impl Progress {
         ensures unread { 0 < length (window_of self.old) → (result ≡ Ok false) × (self.new ≡ self.old) × (source.new ≡ source.old) }
         ensures stopped { Untouched self.old source.old source.new }
     {
-        if let Some(kept) = self.fault {
+        if let Some(kept) = self.tally.fault() {
             return Err(kept.error());
         }
         if self.window.len() > 0 {
@@ -297,7 +290,7 @@ impl Progress {
             Err(error) => match fault_of(&error, 8) {
                 Fault::Incomplete(_) => Ok(true),
                 fault => {
-                    *self = Progress::stopped(fault, self.bits_read);
+                    *self = Progress::stopped(fault, self.tally.count());
                     Err(fault.error())
                 }
             },
@@ -323,17 +316,17 @@ impl Progress {
         pop_bits(&mut self.window, inside, order);
         if let Err(error) = pass_bytes(source, behind / 8) {
             let fault = Fault::Io(error.kind());
-            *self = Progress::stopped(fault, self.bits_read);
+            *self = Progress::stopped(fault, self.tally.count());
             return Err(fault.error());
         }
         match drop_bits(source, &mut self.window, behind % 8, order) {
             Ok(()) => {
-                self.bits_read += amt;
+                self.tally.add(amt);
                 Ok(())
             }
             Err(error) => {
                 let missing = fault_of(&error, behind % 8);
-                *self = Progress::stopped(missing, self.bits_read);
+                *self = Progress::stopped(missing, self.tally.count());
                 Err(missing.error())
             }
         }

@@ -6,16 +6,16 @@ pub returns-clause-takes : goal.returns-clause-takes
 returns-clause-takes g c =
     let told = g.R.Source.told in
     let p = c.self.inside in
-    let may = admitted p.window p.fault p.bits_read c.args.amt (rw (← c.self.view_is) at c.in-Ok.ensures) in
-    rw (← c.self.view_is, may.0)
-    (high_ok p.window (told c.args.source.now).coming p.bits_read c.args.amt c.in_ok-number.number c.high_at_hand.new.window (told c.high_at_hand.new.source).coming _ _
+    let may = admitted p.window p.tally.fault p.tally.count c.args.amt (rw (← c.self.view_is) at c.in-Ok.ensures) in
+    rw (← c.self.view_is, may.0, c.add.ensures)
+    (high_ok p.window (told c.args.source.now).coming p.tally.count c.args.amt c.in_ok-number.number c.high_at_hand.new.window (told c.high_at_hand.new.source).coming _ _
     c.self.invariant may.1 c.in_ok-number.ensures.moved c.in_ok-number.ensures.short c.in_ok-number.ensures.none c.high_at_hand.ensures.kept)
 
 pub returns-clause-fetched : goal.returns-clause-fetched
 returns-clause-fetched g c =
     let told = g.R.Source.told in
     let p = c.self.inside in
-    let may = admitted p.window p.fault p.bits_read c.args.amt (rw (← c.self.view_is) at c.in-Ok.ensures) in
+    let may = admitted p.window p.tally.fault p.tally.count c.args.amt (rw (← c.self.view_is) at c.in-Ok.ensures) in
     rw (← c.self.view_is, may.0)
     (high_loses p.window (told c.args.source.now).coming c.args.amt c.in_ok-number.number c.high_at_hand.new.window (told c.high_at_hand.new.source).coming
     c.self.invariant c.in_ok-number.ensures.moved c.in_ok-number.ensures.short c.in_ok-number.ensures.none)

@@ -24,9 +24,9 @@ returns-in-Ok-clause-reads g c =
     let p = c.self.inside in
     let n = c.args.amt in
     let len : length c.bytes_onto.new.bytes.items ≡ c.args.amt = c.in-Ok.ensures.count in
-    let may = admitted p.window p.fault p.bits_read (8 * n) (rw (← c.self.view_is) at c.in_ok-admits_bytes.ensures.answer) in
-    rw (← c.self.view_is, may.0)
-    (bytes_ok c.args.order p.window (told c.args.source.now).coming p.bits_read n c.bytes_onto.new.bytes.items c.bytes_onto.new.window (told c.bytes_onto.new.source).coming _ _
+    let may = admitted p.window p.tally.fault p.tally.count (8 * n) (rw (← c.self.view_is) at c.in_ok-admits_bytes.ensures.answer) in
+    rw (← c.self.view_is, may.0, c.add.ensures)
+    (bytes_ok c.args.order p.window (told c.args.source.now).coming p.tally.count n c.bytes_onto.new.bytes.items c.bytes_onto.new.window (told c.bytes_onto.new.source).coming _ _
     len c.self.invariant may.1 c.in-Ok.ensures.moved (λ k. c.in-Ok.ensures.short (omega (arith, k, len))) (λ z. c.in-Ok.ensures.none (omega (arith, z, len))) c.in-Ok.ensures.bytes c.bytes_onto.ensures.kept)
 
 pub returns-in-Err-clause-reads : goal.returns-in-Err-clause-reads
@@ -34,10 +34,10 @@ returns-in-Err-clause-reads g c =
     let told = g.R.Source.told in
     let p = c.self.inside in
     let n = c.args.amt in
-    let may = admitted p.window p.fault p.bits_read (8 * n) (rw (← c.self.view_is) at c.in_ok-admits_bytes.ensures.answer) in
+    let may = admitted p.window p.tally.fault p.tally.count (8 * n) (rw (← c.self.view_is) at c.in_ok-admits_bytes.ensures.answer) in
     let at_end = c.self-in-Err.view_is ∙ c.stopped.ensures in
-    rw (← c.self.view_is, may.0, c.error.ensures, at_end)
-    (bytes_err c.args.order p.window (told c.args.source.now).coming p.bits_read n (told c.args.source.now).health (told c.bytes_onto.new.source).health _ _
+    rw (← c.self.view_is, may.0, c.error.ensures, at_end, c.count.ensures)
+    (bytes_err c.args.order p.window (told c.args.source.now).coming p.tally.count n (told c.args.source.now).health (told c.bytes_onto.new.source).health _ _
     c.fault_of_kind-fault.ensures may.1 c.in-Err.ensures.ended c.in-Err.ensures.failed c.bytes_onto.ensures.kept)
 
 pub returns-in-Ok-clause-fetched : goal.returns-in-Ok-clause-fetched
@@ -47,7 +47,7 @@ returns-in-Ok-clause-fetched g c =
     let n = c.args.amt in
     let bytes = c.bytes_onto.new.bytes.items in
     let wide : length (flow c.args.order bytes) ≡ 8 * n = omega (arith, length-flow c.args.order bytes, c.in-Ok.ensures.count) in
-    let may = admitted p.window p.fault p.bits_read (8 * n) (rw (← c.self.view_is) at c.in_ok-admits_bytes.ensures.answer) in
+    let may = admitted p.window p.tally.fault p.tally.count (8 * n) (rw (← c.self.view_is) at c.in_ok-admits_bytes.ensures.answer) in
     rw (← c.self.view_is, may.0)
     (moved_loses c.args.order p.window (told c.args.source.now).coming (8 * n) (flow c.args.order bytes) c.bytes_onto.new.window (told c.bytes_onto.new.source).coming
     wide c.self.invariant c.in-Ok.ensures.moved (λ k. c.in-Ok.ensures.short (omega (arith, k, wide))) (λ z. c.in-Ok.ensures.none (omega (arith, z, wide))))
@@ -56,12 +56,12 @@ pub returns-in-Ok-clause-still : goal.returns-in-Ok-clause-still
 returns-in-Ok-clause-still g c =
     let p = c.self.inside in
     let n = 8 * c.args.amt in
-    let may = admitted p.window p.fault p.bits_read n (rw (← c.self.view_is) at c.in_ok-admits_bytes.ensures.answer) in
-    rw (← c.self.view_is, may.0) (needs_none p.window p.bits_read n _ _ may.1 c.bytes_onto.ensures.inside)
+    let may = admitted p.window p.tally.fault p.tally.count n (rw (← c.self.view_is) at c.in_ok-admits_bytes.ensures.answer) in
+    rw (← c.self.view_is, may.0) (needs_none p.window p.tally.count n _ _ may.1 c.bytes_onto.ensures.inside)
 
 pub returns-in-Err-clause-still : goal.returns-in-Err-clause-still
 returns-in-Err-clause-still g c =
     let p = c.self.inside in
     let n = 8 * c.args.amt in
-    let may = admitted p.window p.fault p.bits_read n (rw (← c.self.view_is) at c.in_ok-admits_bytes.ensures.answer) in
-    rw (← c.self.view_is, may.0) (needs_none p.window p.bits_read n _ _ may.1 c.bytes_onto.ensures.inside)
+    let may = admitted p.window p.tally.fault p.tally.count n (rw (← c.self.view_is) at c.in_ok-admits_bytes.ensures.answer) in
+    rw (← c.self.view_is, may.0) (needs_none p.window p.tally.count n _ _ may.1 c.bytes_onto.ensures.inside)

@@ -19,16 +19,16 @@ pub returns-in-Ok-clause-reads : goal.returns-in-Ok-clause-reads
 returns-in-Ok-clause-reads g c =
     let told = g.R.Source.told in
     let p = c.self.inside in
-    let may = admitted p.window p.fault p.bits_read c.args.amt (rw (← c.self.view_is) at c.in_ok-admits.ensures) in
-    rw (← c.self.view_is, may.0)
-    (word_ok c.args.order p.window (told c.args.source.now).coming p.bits_read c.args.amt c.in-Ok.word c.word_from.new.window (told c.word_from.new.source).coming _ _
+    let may = admitted p.window p.tally.fault p.tally.count c.args.amt (rw (← c.self.view_is) at c.in_ok-admits.ensures) in
+    rw (← c.self.view_is, may.0, c.add.ensures)
+    (word_ok c.args.order p.window (told c.args.source.now).coming p.tally.count c.args.amt c.in-Ok.word c.word_from.new.window (told c.word_from.new.source).coming _ _
     c.self.invariant may.1 c.in-Ok.ensures.moved c.in-Ok.ensures.short c.in-Ok.ensures.none c.word_from.ensures.kept)
 
 pub returns-in-Ok-clause-fetched : goal.returns-in-Ok-clause-fetched
 returns-in-Ok-clause-fetched g c =
     let told = g.R.Source.told in
     let p = c.self.inside in
-    let may = admitted p.window p.fault p.bits_read c.args.amt (rw (← c.self.view_is) at c.in_ok-admits.ensures) in
+    let may = admitted p.window p.tally.fault p.tally.count c.args.amt (rw (← c.self.view_is) at c.in_ok-admits.ensures) in
     rw (← c.self.view_is, may.0)
     (word_loses c.args.order p.window (told c.args.source.now).coming c.args.amt c.in-Ok.word c.word_from.new.window (told c.word_from.new.source).coming
     c.self.invariant c.in-Ok.ensures.moved c.in-Ok.ensures.short c.in-Ok.ensures.none)
@@ -37,22 +37,22 @@ pub returns-in-Err-clause-reads : goal.returns-in-Err-clause-reads
 returns-in-Err-clause-reads g c =
     let told = g.R.Source.told in
     let p = c.self.inside in
-    let may = admitted p.window p.fault p.bits_read c.args.amt (rw (← c.self.view_is) at c.in_ok-admits.ensures) in
+    let may = admitted p.window p.tally.fault p.tally.count c.args.amt (rw (← c.self.view_is) at c.in_ok-admits.ensures) in
     let at_end = c.self-in-Err.view_is ∙ c.stopped.ensures in
-    rw (← c.self.view_is, may.0, c.error.ensures, at_end)
-    (mapped_err (word_of c.args.order) (takes_err c.args.order p.window (told c.args.source.now).coming p.bits_read c.args.amt (told c.args.source.now).health (told c.word_from.new.source).health _ _
+    rw (← c.self.view_is, may.0, c.error.ensures, at_end, c.count.ensures)
+    (mapped_err (word_of c.args.order) (takes_err c.args.order p.window (told c.args.source.now).coming p.tally.count c.args.amt (told c.args.source.now).health (told c.word_from.new.source).health _ _
     c.fault_of_kind-fault.ensures may.1 c.in-Err.ensures.ended c.in-Err.ensures.failed c.word_from.ensures.kept))
 
 pub returns-in-Ok-clause-still : goal.returns-in-Ok-clause-still
 returns-in-Ok-clause-still g c =
     let p = c.self.inside in
     let n = c.args.amt in
-    let may = admitted p.window p.fault p.bits_read n (rw (← c.self.view_is) at c.in_ok-admits.ensures) in
-    rw (← c.self.view_is, may.0) (needs_none p.window p.bits_read n _ _ may.1 c.word_from.ensures.inside)
+    let may = admitted p.window p.tally.fault p.tally.count n (rw (← c.self.view_is) at c.in_ok-admits.ensures) in
+    rw (← c.self.view_is, may.0) (needs_none p.window p.tally.count n _ _ may.1 c.word_from.ensures.inside)
 
 pub returns-in-Err-clause-still : goal.returns-in-Err-clause-still
 returns-in-Err-clause-still g c =
     let p = c.self.inside in
     let n = c.args.amt in
-    let may = admitted p.window p.fault p.bits_read n (rw (← c.self.view_is) at c.in_ok-admits.ensures) in
-    rw (← c.self.view_is, may.0) (needs_none p.window p.bits_read n _ _ may.1 c.word_from.ensures.inside)
+    let may = admitted p.window p.tally.fault p.tally.count n (rw (← c.self.view_is) at c.in_ok-admits.ensures) in
+    rw (← c.self.view_is, may.0) (needs_none p.window p.tally.count n _ _ may.1 c.word_from.ensures.inside)

@@ -1,0 +1,115 @@
+//! The fault that stopped a reader, if any, and how many bits were read.
+
+ghost use Rattle.std.specs.Prelude.{◌≡◌, ◌+◌, ◌^◌, ◌<◌, Some, None};
+ghost use Rattle.deku_stream.specs.Kept.{Admits, standing_of};
+ghost use Rattle.deku_reader.specs.Tallies.{tallied};
+
+use deku_stream::error::{DekuError, Fault};
+use std::marker::Model;
+
+/// Why a reader has stopped, and how many bits it had read then.
+#[derive(Clone, Copy)]
+pub struct Stop {
+    fault: Fault,
+    count: usize,
+}
+
+/// Whether a reader has stopped, and how many bits were read. Kept is how many bits may still be counted, none where it has stopped: so one comparison
+/// admits a read.
+#[derive(Drop)]
+pub struct Tally {
+    left: usize,
+    stop: Option<Stop>,
+}
+
+impl Model for Tally {
+    ghost use Rattle.deku_reader.specs.Tallies.{Tallied, tallied, Spent};
+
+    ghost Value = { Tallied };
+
+    ghost view = { λ t. tallied t.stop t.left };
+
+    ghost invariant = { λ t. Spent t.stop t.left };
+}
+
+impl Tally {
+    /// So many bits are read, and no fault is kept.
+    #[inline(always)]
+    pub fn going(count: usize) -> Tally
+        ensures { result ≡ record { fault = None; count = count } }
+    {
+        Tally {
+            left: usize::MAX - count,
+            stop: None,
+        }
+    }
+
+    /// So many bits are read, and this fault is kept.
+    #[inline(always)]
+    pub fn stopped(fault: Fault, count: usize) -> Tally
+        ensures { result ≡ record { fault = Some fault; count = count } }
+    {
+        Tally {
+            left: 0,
+            stop: Some(Stop { fault, count }),
+        }
+    }
+
+    /// How many bits were read.
+    #[inline(always)]
+    pub fn count(&self) -> usize
+        ensures { result ≡ self.now.count }
+    {
+        match self.stop {
+            None => usize::MAX - self.left,
+            Some(stop) => stop.count,
+        }
+    }
+
+    /// The fault that is kept.
+    #[inline(always)]
+    pub fn fault(&self) -> Option<Fault>
+        ensures { result ≡ self.now.fault }
+    {
+        match self.stop {
+            None => None,
+            Some(stop) => Some(stop.fault),
+        }
+    }
+
+    /// Refuses what a reader refuses before it moves anything: by its kept fault, or since the count has no room.
+    #[inline(always)]
+    pub fn admits(&self, amt: usize) -> Result<(), DekuError>
+        ensures { Admits amt (standing_of (tt {0}) self.now.fault self.now.count) result }
+    {
+        if amt < self.left {
+            return Ok(());
+        }
+        looked_at(self.stop, self.left, amt)
+    }
+
+    /// So many bits more are read. The caller's conditions: no fault is kept, and the count has room for them.
+    #[inline(always)]
+    pub fn add(&mut self, amt: usize)
+        requires going { self.old.fault ≡ None }
+        requires fits { self.old.count + amt < 2 ^ 64 }
+        ensures { self.new ≡ record { fault = None; count = self.old.count + amt } }
+    {
+        self.left -= amt;
+    }
+}
+
+// Refuses as `Tally::admits` does, also where as many bits as are wanted may still be counted.
+#[cold]
+#[inline(never)]
+fn looked_at(stop: Option<Stop>, left: usize, amt: usize) -> Result<(), DekuError>
+    ensures { Admits amt (standing_of (tt {0}) (tallied stop left).fault (tallied stop left).count) result }
+{
+    if let Some(stop) = stop {
+        return Err(stop.fault.error());
+    }
+    if left < amt {
+        return Err(DekuError::InvalidParam("count past usize"));
+    }
+    Ok(())
+}
