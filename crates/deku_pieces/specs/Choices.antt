@@ -11,7 +11,6 @@ use Rattle.deku_num.specs.NumberCalls.{Checked}
 use Rattle.deku_pieces.specs.declared.choice.Choice.{Choice}
 use Rattle.deku_pieces.specs.declared.choice.Choice.TheVariants.{This, Other}
 use Rattle.deku_pieces.specs.declared.choice.Tagged.{Tagged}
-use Rattle.deku_pieces.specs.declared.choice.Tagged.TheVariants as tagged
 
 -- ---- values
 -- the id of what was chosen
@@ -19,15 +18,9 @@ abbrev pub id_chosen : {V W : Type 0} → (known : ℕ) → (W → ℕ) → Choi
 id_chosen known id_of (This v) = known
 id_chosen known id_of (Other w) = id_of w
 
--- what was chosen, with its id
-abbrev pub tagged_of : {V W : Type 0} {known bits : ℕ} → Choice V W known → Tagged V W known bits
-tagged_of (This v) = tagged.This v
-tagged_of (Other w) = tagged.Other w
-
--- and without it
-abbrev pub choice_of : {V W : Type 0} {known bits : ℕ} → Tagged V W known bits → Choice V W known
-choice_of (tagged.This v) = This v
-choice_of (tagged.Other w) = Other w
+-- what was chosen, with its id in front
+abbrev pub tagged_of : {I K : Type 0} → K → Tagged I K
+tagged_of kind = record { kind = kind; id = record {} }
 
 -- ---- pieces
 -- those of what lies under the one id; under another id it has none
@@ -43,21 +36,15 @@ abbrev pub OfChoice : {V W : Type 0} → (known : ℕ) → ℕ → (V → List P
 OfChoice known id of_this of_other (This v) = UnderId known id (of_this v)
 OfChoice known id of_this of_other (Other w) = UnderOther known id (of_other w)
 
--- those of the id, and then of what was chosen
-abbrev pub OfTagged : {V W : Type 0} {known bits : ℕ} → (ℕ → List Piece → Type 0) → (W → ℕ) → (V → List Piece → Type 0) → (W → ℕ → List Piece → Type 0) → Tagged V W known bits → List Piece → Type 0
-OfTagged {known} of_id id_of of_this of_other v =
-    let id = id_chosen known id_of (choice_of v) in
-    InTurn (of_id id) (OfChoice known id of_this (λ w. of_other w id) (choice_of v))
+-- those of the id, and then of what lies under it
+abbrev pub OfTagged : {I K : Type 0} → (ℕ → List Piece → Type 0) → (K → ℕ) → (K → ℕ → List Piece → Type 0) → Tagged I K → List Piece → Type 0
+OfTagged of_id id_of of_kind v = InTurn (of_id (id_of v.kind)) (of_kind v.kind (id_of v.kind))
 
 -- the same of one kind
 abbrev pub SameChoice : {V W : Type 0} {known : ℕ} → (V → V → Type 0) → (W → W → Type 0) → Choice V W known → Choice V W known → Type 0
 SameChoice same_this same_other (This v) (This w) = same_this v w
 SameChoice same_this same_other (Other v) (Other w) = same_other v w
 SameChoice same_this same_other _ _ = ⊥
-
--- the same, but for their id
-abbrev pub SameTagged : {V W : Type 0} {known bits : ℕ} → (V → V → Type 0) → (W → W → Type 0) → Tagged V W known bits → Tagged V W known bits → Type 0
-SameTagged same_this same_other v w = SameChoice same_this same_other (choice_of v) (choice_of w)
 
 -- ---- reading and writing
 -- m under the one id, k under another
@@ -74,12 +61,9 @@ WritesChosen write_this write_other (This v) = write_this v
 WritesChosen write_this write_other (Other w) = write_other w
 
 -- an id is read, and what it chooses
-abbrev pub ReadsTagged : {V W : Type 0} → (known bits : ℕ) → Meaning (Option Stream) ℕ → Meaning (Option Stream) V → (ℕ → Meaning (Option Stream) W) → Meaning (Option Stream) (Tagged V W known bits)
-ReadsTagged known bits m this other = Mapped tagged_of (Then m (λ id. Chooses known id this (other id)))
+abbrev pub ReadsTagged : {I K : Type 0} → (I → ℕ) → Meaning (Option Stream) I → (ℕ → Meaning (Option Stream) K) → Meaning (Option Stream) (Tagged I K)
+ReadsTagged id_of m k = Mapped tagged_of (Then (Mapped id_of m) k)
 
--- the id is written, and what was chosen
-abbrev pub WritesTagged : {V W : Type 0} {known bits : ℕ} → (ℕ → Meaning Output (Unit {0})) → (W → ℕ) → (V → Meaning Output (Unit {0})) → (W → ℕ → Meaning Output (Unit {0}))
-    → Tagged V W known bits → Meaning Output (Unit {0})
-WritesTagged {known} write_id id_of write_this write_other v =
-    let id = id_chosen known id_of (choice_of v) in
-    Both (write_id id) (WritesChosen write_this (λ w. write_other w id) (choice_of v))
+-- the id is written, and what lies under it
+abbrev pub WritesTagged : {I K : Type 0} → (ℕ → Meaning Output (Unit {0})) → (K → ℕ) → (K → ℕ → Meaning Output (Unit {0})) → Tagged I K → Meaning Output (Unit {0})
+WritesTagged write_id id_of write_kind v = Both (write_id (id_of v.kind)) (write_kind v.kind (id_of v.kind))
