@@ -133,4 +133,4 @@ pub kinds_symmetric : {I K : Type 0} (id_of : K → ℕ) {of_id : ℕ → List P
     → ((id : ℕ) → IsSymmetric (λ x. P x id) same (λ x. writes x id) (k id))
     → IsSymmetric {V = Tagged I K} (OfTagged of_id id_of P) (λ v w. same v.kind w.kind) (WritesTagged write_id id_of writes) (Mapped tagged_of (Then m k))
 kinds_symmetric {I} {K} id_of {P} {same} {writes} {k} own C A =
-    mapped_symmetric (λ kind. tagged_of {I} kind) (λ v. v.kind) _ _ _ _ (λ v. refl) (tagged_symmetric id_of P same writes k own A C)
+    mapped_symmetric (λ kind. tagged_of {I = I} kind) (λ v. v.kind) _ _ _ _ (λ v. refl) (tagged_symmetric id_of P same writes k own A C)

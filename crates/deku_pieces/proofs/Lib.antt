@@ -14,5 +14,5 @@ pub mod Chosen
 pub mod Choices
 pub mod WholeBytes
 pub mod HighFirst
-pub mod Led
+pub mod Heads
 pub mod Passing

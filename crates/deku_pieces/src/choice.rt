@@ -99,7 +99,7 @@ impl<A, B: Named, const ID: u8> Named for Choice<A, B, ID> {
 }
 
 /// A part that is an id.
-pub trait Id: Named {
+pub trait Id: Named + Drop {
     // The part of an id.
     ghost of_id: { ℕ → Self };
 

@@ -1,6 +1,6 @@
 //! Heads that say how many items lie behind them.
 
-ghost use Rattle.std.specs.Prelude.{◌≡◌, ℕ, Option, OnOk, MatchBool};
+ghost use Rattle.std.specs.Prelude.{◌≡◌, ℕ, Option, length, OnOk, MatchBool};
 ghost use Rattle.deku_bits.specs.ReaderCalls.{Reads};
 ghost use Rattle.deku.specs.Early.{Promptly};
 ghost use Rattle.deku_pieces.specs.Leading.{ReadsCounted, IsCounted};
@@ -99,7 +99,7 @@ impl<H: Counts + DekuWriter<()>, T: DekuWriter<()>> DekuWriter<()> for Led<H, T>
     ghost meaning = { λ v _. WritesLed H.Counts.count_of (λ h. H.DekuWriter.meaning h tt) (λ x. T.meaning x tt) v };
 
     fn to_writer<W: Sink>(&self, writer: &mut Writer<W>, _ctx: ()) -> Result<(), DekuError> {
-        if !is_counted(self.head.count(), self.items.len()) {
+        if !in_step(self) {
             return Err(DekuError::Assertion("count out of step with items"));
         }
         self.head.to_writer(writer, ())?;
@@ -107,12 +107,12 @@ impl<H: Counts + DekuWriter<()>, T: DekuWriter<()>> DekuWriter<()> for Led<H, T>
     }
 }
 
-// Whether this is the count.
-fn is_counted(count: Option<usize>, items: usize) -> bool
-    ensures { MatchBool result (IsCounted count items) (IsCounted count items → ⊥) }
+// Whether there are as many items as the head says.
+fn in_step<H: Counts, T>(led: &Led<H, T>) -> bool
+    ensures { MatchBool result (IsCounted (H.count_of led.now.head) (length led.now.items.items)) (IsCounted (H.count_of led.now.head) (length led.now.items.items) → ⊥) }
 {
-    match count {
-        Some(count) => count == items,
+    match led.head.count() {
+        Some(count) => led.items.len() == count,
         None => false,
     }
 }

@@ -13,15 +13,15 @@ pub trait Leads: Counts + Symmetric<()> {
 }
 
 impl Leads for u8 {
-    ghost use Rattle.std.specs.Prelude.{ap, Some};
+    ghost use Rattle.std.specs.Prelude.{refl};
 
-    ghost alike = { λ v w e. ap (λ n. Some n) e };
+    ghost alike = { λ v w e. rw e refl };
 }
 
 /// The pieces of the head, and then those of its items; items that are not as many as the head says have none.
 impl<H: Leads, T: Symmetric<()>> Symmetric<()> for Led<H, T> {
     ghost use Rattle.deku_pieces.specs.Leading.{OfLed, SameLed};
-    ghost use Rattle.deku_pieces.proofs.Led.{led_symmetric};
+    ghost use Rattle.deku_pieces.proofs.Heads.{led_symmetric};
 
     ghost pieces = { λ v _. OfLed H.Counts.count_of (λ h. H.Symmetric.pieces h tt) (λ x. T.pieces x tt) v };
 

@@ -48,15 +48,16 @@ pub trait Parted<Ctx>: Drop {
     ghost there: { (v : Self) → record_of (parts_of v) ≡ v };
 }
 
-/// A record whose reader and writer are those of its parts: it is `Symmetric<Ctx>`. The page `docs/RECORDS.md` has one whole.
-pub trait Record<Ctx>: Parted<Ctx> + DekuReader<Ctx> + DekuWriter<Ctx> {
+/// A record whose reader and writer are those of its parts: it is `Symmetric<()>`. The page `docs/RECORDS.md` has one whole, and says what a record under
+/// another context states in its place.
+pub trait Record: Parted<()> + DekuReader<()> + DekuWriter<()> {
     // Nothing is read but the parts.
-    ghost reads: { (c : Ctx) (b : Bool) (s : Standing (Option Stream)) (r : Result Self Refusal) (u : Standing (Option Stream))
-        → Self.DekuReader.meaning c b s r u → Mapped Self.record_of (Self.Parts.DekuReader.meaning c) b s r u };
+    ghost reads: { (b : Bool) (s : Standing (Option Stream)) (r : Result Self Refusal) (u : Standing (Option Stream))
+        → Self.DekuReader.meaning tt b s r u → Mapped Self.record_of (Self.Parts.DekuReader.meaning tt) b s r u };
 
     // Nothing is written but the parts.
-    ghost writes: { (v : Self) (c : Ctx) (b : Bool) (s : Standing Output) (r : Result (Unit {0}) Refusal) (u : Standing Output)
-        → Self.DekuWriter.meaning v c b s r u → Self.Parts.DekuWriter.meaning (Self.parts_of v) c b s r u };
+    ghost writes: { (v : Self) (b : Bool) (s : Standing Output) (r : Result (Unit {0}) Refusal) (u : Standing Output)
+        → Self.DekuWriter.meaning v tt b s r u → Self.Parts.DekuWriter.meaning (Self.parts_of v) tt b s r u };
 }
 
 /// Reads the parts, and is the record of them: the body of a record's `from_reader_with_ctx`.
@@ -97,12 +98,12 @@ pub fn write_record<Ctx, T: Parted<Ctx>, W: Sink>(
 }
 
 /// The pieces of the parts.
-impl<Ctx, R: Record<Ctx>> Symmetric<Ctx> for R {
+impl<R: Record> Symmetric<()> for R {
     ghost use Rattle.deku_pieces.proofs.Turned.{told_symmetric};
 
     ghost pieces = { λ v c. R.Parts.pieces (R.parts_of v) c };
 
     ghost same = { λ v w. R.Parts.same (R.parts_of v) (R.parts_of w) };
 
-    ghost symmetric = { λ c. told_symmetric R.record_of R.parts_of (λ p ps h. R.back p c ps h) (R.Parts.symmetric c) (λ v. R.writes v c) (R.reads c) };
+    ghost symmetric = { λ c. told_symmetric R.record_of R.parts_of (λ p ps h. R.back p c ps h) (R.Parts.symmetric c) R.writes R.reads };
 }
