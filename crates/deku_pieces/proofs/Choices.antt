@@ -13,11 +13,10 @@ use Rattle.deku_pieces.specs.declared.choice.Choice.{Choice}
 use Rattle.deku_pieces.specs.declared.choice.Choice.TheVariants.{This, Other}
 use Rattle.deku_pieces.specs.Symmetric.{breadth, IsWrittenAs, IsReadBack, TakenAs, IsSymmetric}
 use Rattle.deku_pieces.specs.Pieces.{InTurn}
-use Rattle.deku_pieces.specs.declared.choice.Tagged.{Tagged}
-use Rattle.deku_pieces.specs.Choices.{id_chosen, tagged_of, UnderId, OfChoice, OfTagged, SameChoice, Chooses, ChoosesOnly, WritesChosen, WritesTagged}
+use Rattle.deku_pieces.specs.Choices.{id_chosen, tagged_of, choice_of, UnderId, OfChoice, OfTagged, SameChoice, SameTagged, Chooses, ChoosesOnly, ReadsTagged, WritesChosen, WritesTagged}
 use Rattle.deku_pieces.proofs.Answering.{ok_is, mapped_must}
 use Rattle.deku_pieces.proofs.Chosen.{chosen_symmetric}
-use Rattle.deku_pieces.proofs.Turned.{mapped_symmetric, alike_symmetric}
+use Rattle.deku_pieces.proofs.Turned.{mapped_symmetric}
 
 -- ---- calls
 -- under its own id
@@ -120,17 +119,18 @@ module _ {X : Type 0} (id_of : X → ℕ) (P : X → ℕ → List Piece → Type
   tagged_symmetric {I} {write_id} {m} B =
       chosen_symmetric id_of I (λ i j. i ≡ j) write_id m (λ i j e. e) B (λ x. P x (id_of x)) same (λ x. writes x (id_of x)) reads own_symmetric
 
--- ---- an id and its kinds, as one value
--- the part of an id as the number that it is
-pub id_symmetric : {V : Type 0} {P : V → List Piece → Type 0} {same : V → V → Type 0} {writes : V → Meaning Output (Unit {0})} {m : Meaning (Option Stream) V} (id_of : V → ℕ) (of_id : ℕ → V)
-    → ((v : V) → of_id (id_of v) ≡ v) → ((i j : ℕ) → same (of_id i) (of_id j) → i ≡ j) → IsSymmetric P same writes m
-    → IsSymmetric (λ id. P (of_id id)) (λ i j. i ≡ j) (λ id. writes (of_id id)) (Mapped id_of m)
-id_symmetric {P} {same} {writes} {m} id_of of_id back alike A = alike_symmetric alike (mapped_symmetric id_of of_id P writes m same back A)
+-- ---- an id with one of two kinds
+module _ {V W : Type 0} {P : V → List Piece → Type 0} {Q : W → ℕ → List Piece → Type 0} {same_this : V → V → Type 0} {same_other : W → W → Type 0}
+    {write_this : V → Meaning Output (Unit {0})} {write_other : W → ℕ → Meaning Output (Unit {0})} {m : Meaning (Option Stream) V} {k : ℕ → Meaning (Option Stream) W}
+    {I : ℕ → List Piece → Type 0} {write_id : ℕ → Meaning Output (Unit {0})} {reads_id : Meaning (Option Stream) ℕ}
+    (known bits low : ℕ) (id_of : W → ℕ) (own : (w : W) (id : ℕ) (ps : List Piece) → Q w id ps → id ≡ id_of w) (C : IsSymmetric I (λ i j. i ≡ j) write_id reads_id)
+    (A : IsSymmetric P same_this write_this m) (B : (id : ℕ) → IsSymmetric (λ w. Q w id) same_other (λ w. write_other w id) (k id)) where
+  choice_back_again : (x : Choice V W known) → choice_of {bits = bits} {low = low} (tagged_of x) ≡ x
+  choice_back_again (This v) = refl
+  choice_back_again (Other w) = refl
 
-pub kinds_symmetric : {I K : Type 0} (id_of : K → ℕ) {of_id : ℕ → List Piece → Type 0} {write_id : ℕ → Meaning Output (Unit {0})} {m : Meaning (Option Stream) ℕ}
-    {P : K → ℕ → List Piece → Type 0} {same : K → K → Type 0} {writes : K → ℕ → Meaning Output (Unit {0})} {k : ℕ → Meaning (Option Stream) K}
-    → ((x : K) (id : ℕ) (ps : List Piece) → P x id ps → id ≡ id_of x) → IsSymmetric of_id (λ i j. i ≡ j) write_id m
-    → ((id : ℕ) → IsSymmetric (λ x. P x id) same (λ x. writes x id) (k id))
-    → IsSymmetric {V = Tagged I K} (OfTagged of_id id_of P) (λ v w. same v.kind w.kind) (WritesTagged write_id id_of writes) (Mapped tagged_of (Then m k))
-kinds_symmetric {I} {K} id_of {P} {same} {writes} {k} own C A =
-    mapped_symmetric (λ kind. tagged_of {I = I} kind) (λ v. v.kind) _ _ _ _ (λ v. refl) (tagged_symmetric id_of P same writes k own A C)
+  pub coded_symmetric : IsSymmetric (OfTagged {bits = bits} {low = low} I id_of P Q) (SameTagged same_this same_other) (WritesTagged write_id id_of write_this write_other) (ReadsTagged {low = low} known bits reads_id m k)
+  coded_symmetric =
+      mapped_symmetric tagged_of choice_of _ _ _ _ choice_back_again
+      (tagged_symmetric (id_chosen known id_of) (λ x id. OfChoice known id P (λ w. Q w id) x) (SameChoice same_this same_other) (λ x id. WritesChosen write_this (λ w. write_other w id) x)
+      (λ id. Chooses known id m (k id)) (λ x id. choice_own known id P Q id_of (λ w. own w id) x) (λ id. choice_symmetric known id A (B id)) C)

@@ -2,15 +2,16 @@
 
 ghost use Rattle.std.specs.Prelude.{◌≡◌, ℕ, OnOk};
 ghost use Rattle.deku_bits.specs.ReaderCalls.{Reads};
-ghost use Rattle.deku_bits.specs.Outcomes.{Mapped};
 ghost use Rattle.deku.specs.Composing.{Then};
 ghost use Rattle.deku.specs.Early.{Promptly};
+ghost use Rattle.deku_num.specs.declared.ctx.Endian.TheVariants.{Big};
+ghost use Rattle.deku_pieces.specs.Choices.{order_where};
 
+use deku::ctx::{BitSize, Endian, Order};
 use deku::device::{Sink, Source};
 use deku::reader::Reader;
 use deku::writer::Writer;
 use deku::{DekuError, DekuReader, DekuWriter};
-use std::marker::PhantomData;
 
 /// One of two: what lies under the id `ID`, or what lies under others. It is read and written under an id that was read and written before.
 ///
@@ -35,36 +36,34 @@ pub enum Choice<A, B, const ID: u8> {
 #[derive(Debug, PartialEq, Eq, Drop)]
 pub struct Only<A, const ID: u8>(pub A);
 
-/// An id, which lies as the part `I` says, and behind it what lies under it: of kinds `K`, a `Choice` or an `Only`.
+/// An id of `N` bits, and behind it what lies under the id `ID`, or what lies under others. The id lies in `Lsb0` where `LOW` is true, as in `LsbTagged`, and
+/// else in `Msb0`, as in `MsbTagged`.
 ///
-/// It is refused as the id is, and then as what was chosen is. Where no kind has the id that was read, it is refused with `IdVariantNotFound`, and the reader
-/// stands behind the id.
+/// It is refused as the id is, which is a number of `N` bits, and then as what was chosen is. Where no part has the id that was read, it is refused with
+/// `IdVariantNotFound`, and the reader stands behind the id.
 ///
 /// ```text
-/// type Parts = Tagged<Msb<u8, 8>, Choice<Be<u16>, Only<(), 2>, 1>>;   // 01 BE EF, or 02
+/// type Parts = MsbTagged<Be<u16>, Only<(), 2>, 1, 8>;         // 01 BE EF, or 02
 /// ```
 #[derive(Debug, PartialEq, Eq, Drop)]
-pub struct Tagged<I, K> {
-    /// What lies behind the id.
-    pub kind: K,
-    /// How the id lies.
-    pub id: PhantomData<I>,
+pub enum Tagged<A, B, const ID: u8, const N: usize, const LOW: bool> {
+    /// The id `ID`, and what lies under it.
+    This(A),
+    /// Another id, and what lies under it.
+    Other(B),
 }
 
-impl<I, K> Tagged<I, K> {
-    /// What was chosen, with its id in front.
-    ///
-    /// ```text
-    /// Tagged::<Msb<u8, 8>, _>::new(Choice::This(Be(0xBEEFu16)))           // of the parts above: 01 BE EF
-    /// ```
-    pub fn new(kind: K) -> Tagged<I, K>
-        ensures { result ≡ record { kind = kind; id = record {} } }
-    {
-        Tagged {
-            kind,
-            id: PhantomData,
-        }
-    }
+/// An id in high bits first, and what it chooses.
+pub type MsbTagged<A, B, const ID: u8, const N: usize> = Tagged<A, B, ID, N, false>;
+
+/// An id in low bits first, and what it chooses.
+pub type LsbTagged<A, B, const ID: u8, const N: usize> = Tagged<A, B, ID, N, true>;
+
+// The order of an id.
+fn order_of(low: bool) -> Order
+    ensures { result ≡ order_where low }
+{
+    if low { Order::Lsb0 } else { Order::Msb0 }
 }
 
 /// What has an id: the kinds that an id chooses from.
@@ -96,18 +95,6 @@ impl<A, B: Named, const ID: u8> Named for Choice<A, B, ID> {
             Choice::Other(other) => other.id(),
         }
     }
-}
-
-/// A part that is an id.
-pub trait Id: Named + Drop {
-    // The part of an id.
-    ghost of_id: { ℕ → Self };
-
-    /// The part of an id.
-    fn of_id(id: u8) -> Self
-    where
-        Self: Sized,
-        ensures { result ≡ of_id id };
 }
 
 impl<A: DekuReader<()>, const ID: u8> DekuReader<u8> for Only<A, ID> {
@@ -148,46 +135,41 @@ impl<A: DekuReader<()>, B: DekuReader<u8>, const ID: u8> DekuReader<u8> for Choi
     }
 }
 
-impl<I: Id + DekuReader<()>, K: DekuReader<u8>> DekuReader<()> for Tagged<I, K> {
+impl<A: DekuReader<()>, B: DekuReader<u8>, const ID: u8, const N: usize, const LOW: bool>
+    DekuReader<()> for Tagged<A, B, ID, N, LOW> {
     ghost use Rattle.std.specs.Prelude.{ℕ};
-    ghost use Rattle.deku_pieces.specs.Choices.{ReadsTagged};
+    ghost use Rattle.deku_num.specs.declared.ctx.Endian.TheVariants.{Big};
+    ghost use Rattle.deku_pieces.specs.Choices.{ReadsTagged, order_where};
 
-    ghost accepts = { λ _. I.DekuReader.accepts tt × ((id : ℕ) → K.accepts id) };
+    ghost accepts = { λ _. A.accepts tt × ((id : ℕ) → B.accepts id) };
 
-    ghost prompt = { λ _. I.DekuReader.prompt tt × ((id : ℕ) → K.prompt id) };
+    ghost prompt = { λ _. A.prompt tt × ((id : ℕ) → B.prompt id) };
 
-    ghost meaning = { λ _. ReadsTagged I.Named.id_of (I.DekuReader.meaning tt) K.meaning };
+    ghost meaning = { λ _. ReadsTagged ID N (⟦<u8 as DekuReader<(Endian, BitSize, Order)>>⟧.meaning (Big, record { 0 = N }, order_where LOW)) (A.meaning tt) B.meaning };
 
     fn from_reader_with_ctx<R: Source>(
         reader: &mut Reader<R>,
         _ctx: (),
     ) -> Result<Self, DekuError> {
-        let kind = read_chosen::<I, K, R>(reader)?;
-        Ok(Tagged::new(kind))
+        match read_chosen::<Choice<A, B, ID>, R>(reader, N, order_of(LOW))? {
+            Choice::This(value) => Ok(Tagged::This(value)),
+            Choice::Other(other) => Ok(Tagged::Other(other)),
+        }
     }
 }
 
-// Reads an id, and what it chooses.
-fn read_chosen<I: Id + DekuReader<()>, K: DekuReader<u8>, R: Source>(
+// Reads an id of so many bits, in this order, and what it chooses.
+fn read_chosen<C: DekuReader<u8>, R: Source>(
     reader: &mut Reader<R>,
-) -> Result<K, DekuError>
-    requires own { I.DekuReader.accepts tt }
-    requires all { (id : ℕ) → K.accepts id }
-    ensures reads { Reads R.told (Then (Mapped I.Named.id_of (I.DekuReader.meaning tt)) K.meaning) reader.old result reader.new }
-    ensures early { OnOk result (I.DekuReader.prompt tt → ((id : ℕ) → K.prompt id) → Promptly R.told reader.old reader.new) }
+    bits: usize,
+    order: Order,
+) -> Result<C, DekuError>
+    requires { (id : ℕ) → C.accepts id }
+    ensures reads { Reads R.told (Then (⟦<u8 as DekuReader<(Endian, BitSize, Order)>>⟧.meaning (Big, record { 0 = bits }, order)) C.meaning) reader.old result reader.new }
+    ensures early { OnOk result (((id : ℕ) → C.prompt id) → Promptly R.told reader.old reader.new) }
 {
-    let id = read_id::<I, R>(reader)?;
-    K::from_reader_with_ctx(reader, id)
-}
-
-// Reads an id.
-fn read_id<I: Id + DekuReader<()>, R: Source>(reader: &mut Reader<R>) -> Result<u8, DekuError>
-    requires { I.DekuReader.accepts tt }
-    ensures reads { Reads R.told (Mapped I.Named.id_of (I.DekuReader.meaning tt)) reader.old result reader.new }
-    ensures early { OnOk result (I.DekuReader.prompt tt → Promptly R.told reader.old reader.new) }
-{
-    let part = I::from_reader_with_ctx(reader, ())?;
-    Ok(part.id())
+    let id = u8::from_reader_with_ctx(reader, (Endian::Big, BitSize(bits), order))?;
+    C::from_reader_with_ctx(reader, id)
 }
 
 impl<A: DekuWriter<()>, const ID: u8> DekuWriter<u8> for Only<A, ID> {
@@ -215,17 +197,32 @@ impl<A: DekuWriter<()>, B: DekuWriter<u8>, const ID: u8> DekuWriter<u8> for Choi
     }
 }
 
-impl<I: Id + DekuWriter<()>, K: Named + DekuWriter<u8>> DekuWriter<()> for Tagged<I, K> {
+impl<
+    A: DekuWriter<()>,
+    B: Named + DekuWriter<u8>,
+    const ID: u8,
+    const N: usize,
+    const LOW: bool,
+> DekuWriter<()> for Tagged<A, B, ID, N, LOW> {
     ghost use Rattle.std.specs.Prelude.{ℕ};
-    ghost use Rattle.deku_pieces.specs.Choices.{WritesTagged};
+    ghost use Rattle.deku_num.specs.declared.ctx.Endian.TheVariants.{Big};
+    ghost use Rattle.deku_pieces.specs.Choices.{WritesTagged, order_where};
 
-    ghost accepts = { λ _. I.DekuWriter.accepts tt × ((id : ℕ) → K.DekuWriter.accepts id) };
+    ghost accepts = { λ _. A.accepts tt × ((id : ℕ) → B.DekuWriter.accepts id) };
 
-    ghost meaning = { λ v _. WritesTagged (λ id. I.DekuWriter.meaning (I.Id.of_id id) tt) K.Named.id_of K.DekuWriter.meaning v };
+    ghost meaning = { λ v _. WritesTagged (λ id. ⟦<u8 as DekuWriter<(Endian, BitSize, Order)>>⟧.meaning id (Big, record { 0 = N }, order_where LOW)) B.Named.id_of (λ a. A.meaning a tt) B.DekuWriter.meaning v };
 
     fn to_writer<W: Sink>(&self, writer: &mut Writer<W>, _ctx: ()) -> Result<(), DekuError> {
-        let id = self.kind.id();
-        I::of_id(id).to_writer(writer, ())?;
-        self.kind.to_writer(writer, id)
+        match self {
+            Tagged::This(value) => {
+                ID.to_writer(writer, (Endian::Big, BitSize(N), order_of(LOW)))?;
+                value.to_writer(writer, ())
+            }
+            Tagged::Other(other) => {
+                let id = other.id();
+                id.to_writer(writer, (Endian::Big, BitSize(N), order_of(LOW)))?;
+                other.to_writer(writer, id)
+            }
+        }
     }
 }

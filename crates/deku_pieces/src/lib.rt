@@ -7,6 +7,6 @@ pub mod led;
 mod whole;
 
 pub use asserted::{Asserted, Check};
-pub use choice::{Choice, Named, Only, Tagged};
+pub use choice::{Choice, LsbTagged, MsbTagged, Named, Only, Tagged};
 pub use led::{Counts, Led};
 pub use whole::{padded_bytes, read_whole};

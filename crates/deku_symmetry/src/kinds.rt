@@ -3,9 +3,8 @@
 ghost use Rattle.std.specs.Prelude.{◌≡◌, ℕ, List};
 ghost use Rattle.deku_bits.specs.Pieces.{Piece};
 
-use crate::fields::{Lsb, Msb};
 use crate::traits::Symmetric;
-use deku_pieces::choice::Id;
+use deku::ctx::{BitSize, Endian, NumberCtx, Order};
 use deku_pieces::{Choice, Named, Only, Tagged};
 
 /// Kinds of parts that an id chooses from: what is read under an id has this id.
@@ -50,73 +49,19 @@ impl<A: Symmetric<()>, B: Kinds, const ID: u8> Kinds for Choice<A, B, ID> {
     ghost own = { λ v id ps p. choice_own ID id (λ a. A.pieces a tt) B.Symmetric.pieces B.Named.id_of (λ b. B.own b id) v ps p };
 }
 
-/// A part that is an id, of numbers below 256 alone.
-pub trait IdPart: Id + Symmetric<()> {
-    // A part is that of its id.
-    ghost back: { (v : Self) → Self.Id.of_id (Self.Named.id_of v) ≡ v };
+/// The piece of the id, and then those of what it chooses.
+impl<A: Symmetric<()>, B: Kinds, const ID: u8, const N: usize, const LOW: bool> Symmetric<()>
+    for Tagged<A, B, ID, N, LOW> {
+    ghost use Rattle.deku_num.specs.Numbers.{byte};
+    ghost use Rattle.deku_num.specs.declared.ctx.Endian.TheVariants.{Big};
+    ghost use Rattle.deku_pieces.specs.Choices.{OfTagged, SameTagged, order_where};
+    ghost use Rattle.deku_pieces.proofs.Numbers.{unsigned_symmetric};
+    ghost use Rattle.deku_pieces.proofs.Choices.{coded_symmetric};
 
-    // The same parts are those of one id.
-    ghost alike: { (i j : ℕ) → Self.Symmetric.same (Self.Id.of_id i) (Self.Id.of_id j) → i ≡ j };
-}
+    ghost pieces = { λ v _. OfTagged (λ id. ⟦<u8 as Symmetric<(Endian, BitSize, Order)>>⟧.pieces id (Big, record { 0 = N }, order_where LOW)) B.Named.id_of (λ a. A.pieces a tt) B.Symmetric.pieces v };
 
-/// The id in high bits first.
-impl<const N: usize> Named for Msb<u8, N> {
-    ghost id_of = { λ v. v.0 };
+    ghost same = { SameTagged A.same B.Symmetric.same };
 
-    fn id(&self) -> u8 {
-        self.0
-    }
-}
-
-impl<const N: usize> Id for Msb<u8, N> {
-    ghost of_id = { λ id. record { 0 = id } };
-
-    fn of_id(id: u8) -> Self {
-        Msb(id)
-    }
-}
-
-impl<const N: usize> IdPart for Msb<u8, N> {
-    ghost use Rattle.std.specs.Prelude.{refl};
-
-    ghost back = { λ v. refl };
-
-    ghost alike = { λ i j e. e };
-}
-
-/// The id in low bits first.
-impl<const N: usize> Named for Lsb<u8, N> {
-    ghost id_of = { λ v. v.0 };
-
-    fn id(&self) -> u8 {
-        self.0
-    }
-}
-
-impl<const N: usize> Id for Lsb<u8, N> {
-    ghost of_id = { λ id. record { 0 = id } };
-
-    fn of_id(id: u8) -> Self {
-        Lsb(id)
-    }
-}
-
-impl<const N: usize> IdPart for Lsb<u8, N> {
-    ghost use Rattle.std.specs.Prelude.{refl};
-
-    ghost back = { λ v. refl };
-
-    ghost alike = { λ i j e. e };
-}
-
-/// The pieces of the id, and then those of what lies under it.
-impl<I: IdPart, K: Kinds> Symmetric<()> for Tagged<I, K> {
-    ghost use Rattle.deku_pieces.specs.Choices.{OfTagged};
-    ghost use Rattle.deku_pieces.proofs.Choices.{id_symmetric, kinds_symmetric};
-
-    ghost pieces = { λ v _. OfTagged (λ id. I.Symmetric.pieces (I.Id.of_id id) tt) K.Named.id_of K.Symmetric.pieces v };
-
-    ghost same = { λ v w. K.Symmetric.same v.kind w.kind };
-
-    ghost symmetric = { λ _. kinds_symmetric K.Named.id_of K.own (id_symmetric I.Named.id_of I.Id.of_id I.IdPart.back I.IdPart.alike (I.Symmetric.symmetric tt)) K.Symmetric.symmetric };
+    ghost symmetric = { λ _. coded_symmetric ID N _ B.Named.id_of B.own (unsigned_symmetric byte ((⟦<(Endian, BitSize, Order) as NumberCtx>⟧).parts_of (Big, record { 0 = N }, order_where LOW)))
+        (A.symmetric tt) B.Symmetric.symmetric };
 }
