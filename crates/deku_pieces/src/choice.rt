@@ -135,8 +135,13 @@ impl<A: DekuReader<()>, B: DekuReader<u8>, const ID: u8> DekuReader<u8> for Choi
     }
 }
 
-impl<A: DekuReader<()>, B: DekuReader<u8>, const ID: u8, const N: usize, const LOW: bool>
-    DekuReader<()> for Tagged<A, B, ID, N, LOW> {
+impl<
+    A: DekuReader<()>,
+    B: DekuReader<u8>,
+    const ID: u8,
+    const N: usize,
+    const LOW: bool,
+> DekuReader<()> for Tagged<A, B, ID, N, LOW> {
     ghost use Rattle.std.specs.Prelude.{ℕ};
     ghost use Rattle.deku_num.specs.declared.ctx.Endian.TheVariants.{Big};
     ghost use Rattle.deku_pieces.specs.Choices.{ReadsTagged, order_where};
