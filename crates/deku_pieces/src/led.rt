@@ -84,7 +84,7 @@ fn read_counted<T: DekuReader<()>, R: Source>(
     ensures early { OnOk result (T.prompt tt → Promptly R.told reader.old reader.new) }
 {
     match count {
-        Some(count) => { Vec::<T>::from_reader_with_ctx(reader, (Limit::new_count(count), ())) }
+        Some(count) => Vec::from_reader_with_ctx(reader, (Limit::new_count(count), ())),
         None => Err(DekuError::Parse("head without a count")),
     }
 }
