@@ -123,13 +123,13 @@ module _ {X : Type 0} (id_of : X → ℕ) (P : X → ℕ → List Piece → Type
 module _ {V W : Type 0} {P : V → List Piece → Type 0} {Q : W → ℕ → List Piece → Type 0} {same_this : V → V → Type 0} {same_other : W → W → Type 0}
     {write_this : V → Meaning Output (Unit {0})} {write_other : W → ℕ → Meaning Output (Unit {0})} {m : Meaning (Option Stream) V} {k : ℕ → Meaning (Option Stream) W}
     {I : ℕ → List Piece → Type 0} {write_id : ℕ → Meaning Output (Unit {0})} {reads_id : Meaning (Option Stream) ℕ}
-    (known bits : ℕ) (id_of : W → ℕ) (own : (w : W) (id : ℕ) (ps : List Piece) → Q w id ps → id ≡ id_of w) (C : IsSymmetric I (λ i j. i ≡ j) write_id reads_id)
+    (known bits low : ℕ) (id_of : W → ℕ) (own : (w : W) (id : ℕ) (ps : List Piece) → Q w id ps → id ≡ id_of w) (C : IsSymmetric I (λ i j. i ≡ j) write_id reads_id)
     (A : IsSymmetric P same_this write_this m) (B : (id : ℕ) → IsSymmetric (λ w. Q w id) same_other (λ w. write_other w id) (k id)) where
-  choice_back_again : (x : Choice V W known) → choice_of {bits = bits} (tagged_of x) ≡ x
+  choice_back_again : (x : Choice V W known) → choice_of {bits = bits} {low = low} (tagged_of x) ≡ x
   choice_back_again (This v) = refl
   choice_back_again (Other w) = refl
 
-  pub coded_symmetric : IsSymmetric (OfTagged {bits = bits} I id_of P Q) (SameTagged same_this same_other) (WritesTagged write_id id_of write_this write_other) (ReadsTagged known bits reads_id m k)
+  pub coded_symmetric : IsSymmetric (OfTagged {bits = bits} {low = low} I id_of P Q) (SameTagged same_this same_other) (WritesTagged write_id id_of write_this write_other) (ReadsTagged {low = low} known bits reads_id m k)
   coded_symmetric =
       mapped_symmetric tagged_of choice_of _ _ _ _ choice_back_again
       (tagged_symmetric (id_chosen known id_of) (λ x id. OfChoice known id P (λ w. Q w id) x) (SameChoice same_this same_other) (λ x id. WritesChosen write_this (λ w. write_other w id) x)

@@ -14,3 +14,5 @@ pub mod Chosen
 pub mod Choices
 pub mod WholeBytes
 pub mod HighFirst
+pub mod Heads
+pub mod Passing

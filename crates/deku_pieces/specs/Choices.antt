@@ -1,5 +1,7 @@
 -- What an id chooses: parts of one kind under an id of their own, and others under other ids.
-use Rattle.std.specs.Prelude.{◌≡◌, ◌≢◌, ◌⊎◌, ℕ, List, Option, Err}
+use Rattle.std.specs.Prelude.{◌≡◌, ◌≢◌, ◌⊎◌, ℕ, Bool, cond, List, Option, Err}
+use Rattle.deku_bits.specs.declared.ctx.Order.{Order}
+use Rattle.deku_bits.specs.declared.ctx.Order.TheVariants.{Msb0, Lsb0}
 use Rattle.deku_bits.specs.declared.error.DekuError.TheVariants.{IdVariantNotFound}
 use Rattle.deku_bits.specs.Pieces.{Piece}
 use Rattle.deku_bits.specs.Outcomes.{Meaning, Mapped}
@@ -13,6 +15,10 @@ use Rattle.deku_pieces.specs.declared.choice.Choice.TheVariants.{This, Other}
 use Rattle.deku_pieces.specs.declared.choice.Tagged.{Tagged}
 use Rattle.deku_pieces.specs.declared.choice.Tagged.TheVariants as tagged
 
+-- the order of an id: low bits first, or high ones
+abbrev pub order_where : Bool → Order
+order_where low = cond low Lsb0 Msb0
+
 -- ---- values
 -- the id of what was chosen
 abbrev pub id_chosen : {V W : Type 0} → (known : ℕ) → (W → ℕ) → Choice V W known → ℕ
@@ -20,12 +26,12 @@ id_chosen known id_of (This v) = known
 id_chosen known id_of (Other w) = id_of w
 
 -- what was chosen, with its id
-abbrev pub tagged_of : {V W : Type 0} {known bits : ℕ} → Choice V W known → Tagged V W known bits
+abbrev pub tagged_of : {V W : Type 0} {known bits : ℕ} {low : ℕ} → Choice V W known → Tagged V W known bits low
 tagged_of (This v) = tagged.This v
 tagged_of (Other w) = tagged.Other w
 
 -- and without it
-abbrev pub choice_of : {V W : Type 0} {known bits : ℕ} → Tagged V W known bits → Choice V W known
+abbrev pub choice_of : {V W : Type 0} {known bits : ℕ} {low : ℕ} → Tagged V W known bits low → Choice V W known
 choice_of (tagged.This v) = This v
 choice_of (tagged.Other w) = Other w
 
@@ -44,7 +50,7 @@ OfChoice known id of_this of_other (This v) = UnderId known id (of_this v)
 OfChoice known id of_this of_other (Other w) = UnderOther known id (of_other w)
 
 -- those of the id, and then of what was chosen
-abbrev pub OfTagged : {V W : Type 0} {known bits : ℕ} → (ℕ → List Piece → Type 0) → (W → ℕ) → (V → List Piece → Type 0) → (W → ℕ → List Piece → Type 0) → Tagged V W known bits → List Piece → Type 0
+abbrev pub OfTagged : {V W : Type 0} {known bits : ℕ} {low : ℕ} → (ℕ → List Piece → Type 0) → (W → ℕ) → (V → List Piece → Type 0) → (W → ℕ → List Piece → Type 0) → Tagged V W known bits low → List Piece → Type 0
 OfTagged {known} of_id id_of of_this of_other v =
     let id = id_chosen known id_of (choice_of v) in
     InTurn (of_id id) (OfChoice known id of_this (λ w. of_other w id) (choice_of v))
@@ -56,7 +62,7 @@ SameChoice same_this same_other (Other v) (Other w) = same_other v w
 SameChoice same_this same_other _ _ = ⊥
 
 -- the same, but for their id
-abbrev pub SameTagged : {V W : Type 0} {known bits : ℕ} → (V → V → Type 0) → (W → W → Type 0) → Tagged V W known bits → Tagged V W known bits → Type 0
+abbrev pub SameTagged : {V W : Type 0} {known bits : ℕ} {low : ℕ} → (V → V → Type 0) → (W → W → Type 0) → Tagged V W known bits low → Tagged V W known bits low → Type 0
 SameTagged same_this same_other v w = SameChoice same_this same_other (choice_of v) (choice_of w)
 
 -- ---- reading and writing
@@ -74,12 +80,12 @@ WritesChosen write_this write_other (This v) = write_this v
 WritesChosen write_this write_other (Other w) = write_other w
 
 -- an id is read, and what it chooses
-abbrev pub ReadsTagged : {V W : Type 0} → (known bits : ℕ) → Meaning (Option Stream) ℕ → Meaning (Option Stream) V → (ℕ → Meaning (Option Stream) W) → Meaning (Option Stream) (Tagged V W known bits)
+abbrev pub ReadsTagged : {V W : Type 0} {low : ℕ} → (known bits : ℕ) → Meaning (Option Stream) ℕ → Meaning (Option Stream) V → (ℕ → Meaning (Option Stream) W) → Meaning (Option Stream) (Tagged V W known bits low)
 ReadsTagged known bits m this other = Mapped tagged_of (Then m (λ id. Chooses known id this (other id)))
 
 -- the id is written, and what was chosen
-abbrev pub WritesTagged : {V W : Type 0} {known bits : ℕ} → (ℕ → Meaning Output (Unit {0})) → (W → ℕ) → (V → Meaning Output (Unit {0})) → (W → ℕ → Meaning Output (Unit {0}))
-    → Tagged V W known bits → Meaning Output (Unit {0})
+abbrev pub WritesTagged : {V W : Type 0} {known bits : ℕ} {low : ℕ} → (ℕ → Meaning Output (Unit {0})) → (W → ℕ) → (V → Meaning Output (Unit {0})) → (W → ℕ → Meaning Output (Unit {0}))
+    → Tagged V W known bits low → Meaning Output (Unit {0})
 WritesTagged {known} write_id id_of write_this write_other v =
     let id = id_chosen known id_of (choice_of v) in
     Both (write_id id) (WritesChosen write_this (λ w. write_other w id) (choice_of v))

@@ -2,3 +2,5 @@ pub mod Symmetric
 pub mod Pieces
 pub mod Packs
 pub mod Choices
+pub mod Leading
+pub mod Asserting

@@ -5,8 +5,9 @@ ghost use Rattle.deku_bits.specs.ReaderCalls.{Reads};
 ghost use Rattle.deku.specs.Composing.{Then};
 ghost use Rattle.deku.specs.Early.{Promptly};
 ghost use Rattle.deku_num.specs.declared.ctx.Endian.TheVariants.{Big};
+ghost use Rattle.deku_pieces.specs.Choices.{order_where};
 
-use deku::ctx::{BitSize, Endian};
+use deku::ctx::{BitSize, Endian, Order};
 use deku::device::{Sink, Source};
 use deku::reader::Reader;
 use deku::writer::Writer;
@@ -35,20 +36,34 @@ pub enum Choice<A, B, const ID: u8> {
 #[derive(Debug, PartialEq, Eq, Drop)]
 pub struct Only<A, const ID: u8>(pub A);
 
-/// An id of `N` bits, big and `Msb0`, and behind it what lies under the id `ID`, or what lies under others.
+/// An id of `N` bits, and behind it what lies under the id `ID`, or what lies under others. The id lies in `Lsb0` where `LOW` is true, as in `LsbTagged`, and
+/// else in `Msb0`, as in `MsbTagged`.
 ///
 /// It is refused as the id is, which is a number of `N` bits, and then as what was chosen is. Where no part has the id that was read, it is refused with
 /// `IdVariantNotFound`, and the reader stands behind the id.
 ///
 /// ```text
-/// type Parts = Tagged<Be<u16>, Only<(), 2>, 1, 8>;            // 01 BE EF, or 02
+/// type Parts = MsbTagged<Be<u16>, Only<(), 2>, 1, 8>;         // 01 BE EF, or 02
 /// ```
 #[derive(Debug, PartialEq, Eq, Drop)]
-pub enum Tagged<A, B, const ID: u8, const N: usize> {
+pub enum Tagged<A, B, const ID: u8, const N: usize, const LOW: bool> {
     /// The id `ID`, and what lies under it.
     This(A),
     /// Another id, and what lies under it.
     Other(B),
+}
+
+/// An id in high bits first, and what it chooses.
+pub type MsbTagged<A, B, const ID: u8, const N: usize> = Tagged<A, B, ID, N, false>;
+
+/// An id in low bits first, and what it chooses.
+pub type LsbTagged<A, B, const ID: u8, const N: usize> = Tagged<A, B, ID, N, true>;
+
+// The order of an id.
+fn order_of(low: bool) -> Order
+    ensures { result ≡ order_where low }
+{
+    if low { Order::Lsb0 } else { Order::Msb0 }
 }
 
 /// What has an id: the kinds that an id chooses from.
@@ -120,39 +135,45 @@ impl<A: DekuReader<()>, B: DekuReader<u8>, const ID: u8> DekuReader<u8> for Choi
     }
 }
 
-impl<A: DekuReader<()>, B: DekuReader<u8>, const ID: u8, const N: usize> DekuReader<()>
-    for Tagged<A, B, ID, N> {
+impl<
+    A: DekuReader<()>,
+    B: DekuReader<u8>,
+    const ID: u8,
+    const N: usize,
+    const LOW: bool,
+> DekuReader<()> for Tagged<A, B, ID, N, LOW> {
     ghost use Rattle.std.specs.Prelude.{ℕ};
     ghost use Rattle.deku_num.specs.declared.ctx.Endian.TheVariants.{Big};
-    ghost use Rattle.deku_pieces.specs.Choices.{ReadsTagged};
+    ghost use Rattle.deku_pieces.specs.Choices.{ReadsTagged, order_where};
 
     ghost accepts = { λ _. A.accepts tt × ((id : ℕ) → B.accepts id) };
 
     ghost prompt = { λ _. A.prompt tt × ((id : ℕ) → B.prompt id) };
 
-    ghost meaning = { λ _. ReadsTagged ID N (⟦<u8 as DekuReader<(Endian, BitSize)>>⟧.meaning (Big, record { 0 = N })) (A.meaning tt) B.meaning };
+    ghost meaning = { λ _. ReadsTagged ID N (⟦<u8 as DekuReader<(Endian, BitSize, Order)>>⟧.meaning (Big, record { 0 = N }, order_where LOW)) (A.meaning tt) B.meaning };
 
     fn from_reader_with_ctx<R: Source>(
         reader: &mut Reader<R>,
         _ctx: (),
     ) -> Result<Self, DekuError> {
-        match read_chosen::<Choice<A, B, ID>, R>(reader, N)? {
+        match read_chosen::<Choice<A, B, ID>, R>(reader, N, order_of(LOW))? {
             Choice::This(value) => Ok(Tagged::This(value)),
             Choice::Other(other) => Ok(Tagged::Other(other)),
         }
     }
 }
 
-// Reads an id of so many bits, and what it chooses.
+// Reads an id of so many bits, in this order, and what it chooses.
 fn read_chosen<C: DekuReader<u8>, R: Source>(
     reader: &mut Reader<R>,
     bits: usize,
+    order: Order,
 ) -> Result<C, DekuError>
     requires { (id : ℕ) → C.accepts id }
-    ensures reads { Reads R.told (Then (⟦<u8 as DekuReader<(Endian, BitSize)>>⟧.meaning (Big, record { 0 = bits })) C.meaning) reader.old result reader.new }
+    ensures reads { Reads R.told (Then (⟦<u8 as DekuReader<(Endian, BitSize, Order)>>⟧.meaning (Big, record { 0 = bits }, order)) C.meaning) reader.old result reader.new }
     ensures early { OnOk result (((id : ℕ) → C.prompt id) → Promptly R.told reader.old reader.new) }
 {
-    let id = u8::from_reader_with_ctx(reader, (Endian::Big, BitSize(bits)))?;
+    let id = u8::from_reader_with_ctx(reader, (Endian::Big, BitSize(bits), order))?;
     C::from_reader_with_ctx(reader, id)
 }
 
@@ -181,25 +202,30 @@ impl<A: DekuWriter<()>, B: DekuWriter<u8>, const ID: u8> DekuWriter<u8> for Choi
     }
 }
 
-impl<A: DekuWriter<()>, B: Named + DekuWriter<u8>, const ID: u8, const N: usize> DekuWriter<()>
-    for Tagged<A, B, ID, N> {
+impl<
+    A: DekuWriter<()>,
+    B: Named + DekuWriter<u8>,
+    const ID: u8,
+    const N: usize,
+    const LOW: bool,
+> DekuWriter<()> for Tagged<A, B, ID, N, LOW> {
     ghost use Rattle.std.specs.Prelude.{ℕ};
     ghost use Rattle.deku_num.specs.declared.ctx.Endian.TheVariants.{Big};
-    ghost use Rattle.deku_pieces.specs.Choices.{WritesTagged};
+    ghost use Rattle.deku_pieces.specs.Choices.{WritesTagged, order_where};
 
     ghost accepts = { λ _. A.accepts tt × ((id : ℕ) → B.DekuWriter.accepts id) };
 
-    ghost meaning = { λ v _. WritesTagged (λ id. ⟦<u8 as DekuWriter<(Endian, BitSize)>>⟧.meaning id (Big, record { 0 = N })) B.Named.id_of (λ a. A.meaning a tt) B.DekuWriter.meaning v };
+    ghost meaning = { λ v _. WritesTagged (λ id. ⟦<u8 as DekuWriter<(Endian, BitSize, Order)>>⟧.meaning id (Big, record { 0 = N }, order_where LOW)) B.Named.id_of (λ a. A.meaning a tt) B.DekuWriter.meaning v };
 
     fn to_writer<W: Sink>(&self, writer: &mut Writer<W>, _ctx: ()) -> Result<(), DekuError> {
         match self {
             Tagged::This(value) => {
-                ID.to_writer(writer, (Endian::Big, BitSize(N)))?;
+                ID.to_writer(writer, (Endian::Big, BitSize(N), order_of(LOW)))?;
                 value.to_writer(writer, ())
             }
             Tagged::Other(other) => {
                 let id = other.id();
-                id.to_writer(writer, (Endian::Big, BitSize(N)))?;
+                id.to_writer(writer, (Endian::Big, BitSize(N), order_of(LOW)))?;
                 other.to_writer(writer, id)
             }
         }

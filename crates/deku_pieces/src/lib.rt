@@ -1,8 +1,12 @@
 //! When reading and writing a type are symmetric: the definitions, the laws of what is made of symmetric parts, and whole values under a context.
 #![tactic(auto)]
 
+pub mod asserted;
 pub mod choice;
+pub mod led;
 mod whole;
 
-pub use choice::{Choice, Named, Only, Tagged};
+pub use asserted::{Asserted, Check};
+pub use choice::{Choice, LsbTagged, MsbTagged, Named, Only, Tagged};
+pub use led::{Counts, Led};
 pub use whole::{padded_bytes, read_whole};

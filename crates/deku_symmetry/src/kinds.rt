@@ -4,7 +4,7 @@ ghost use Rattle.std.specs.Prelude.{◌≡◌, ℕ, List};
 ghost use Rattle.deku_bits.specs.Pieces.{Piece};
 
 use crate::traits::Symmetric;
-use deku::ctx::{BitSize, Endian, NumberCtx};
+use deku::ctx::{BitSize, Endian, NumberCtx, Order};
 use deku_pieces::{Choice, Named, Only, Tagged};
 
 /// Kinds of parts that an id chooses from: what is read under an id has this id.
@@ -50,18 +50,18 @@ impl<A: Symmetric<()>, B: Kinds, const ID: u8> Kinds for Choice<A, B, ID> {
 }
 
 /// The piece of the id, and then those of what it chooses.
-impl<A: Symmetric<()>, B: Kinds, const ID: u8, const N: usize> Symmetric<()>
-    for Tagged<A, B, ID, N> {
+impl<A: Symmetric<()>, B: Kinds, const ID: u8, const N: usize, const LOW: bool> Symmetric<()>
+    for Tagged<A, B, ID, N, LOW> {
     ghost use Rattle.deku_num.specs.Numbers.{byte};
     ghost use Rattle.deku_num.specs.declared.ctx.Endian.TheVariants.{Big};
-    ghost use Rattle.deku_pieces.specs.Choices.{OfTagged, SameTagged};
+    ghost use Rattle.deku_pieces.specs.Choices.{OfTagged, SameTagged, order_where};
     ghost use Rattle.deku_pieces.proofs.Numbers.{unsigned_symmetric};
     ghost use Rattle.deku_pieces.proofs.Choices.{coded_symmetric};
 
-    ghost pieces = { λ v _. OfTagged (λ id. ⟦<u8 as Symmetric<(Endian, BitSize)>>⟧.pieces id (Big, record { 0 = N })) B.Named.id_of (λ a. A.pieces a tt) B.Symmetric.pieces v };
+    ghost pieces = { λ v _. OfTagged (λ id. ⟦<u8 as Symmetric<(Endian, BitSize, Order)>>⟧.pieces id (Big, record { 0 = N }, order_where LOW)) B.Named.id_of (λ a. A.pieces a tt) B.Symmetric.pieces v };
 
     ghost same = { SameTagged A.same B.Symmetric.same };
 
-    ghost symmetric = { λ _. coded_symmetric ID N B.Named.id_of B.own (unsigned_symmetric byte ((⟦<(Endian, BitSize) as NumberCtx>⟧).parts_of (Big, record { 0 = N })))
+    ghost symmetric = { λ _. coded_symmetric ID N _ B.Named.id_of B.own (unsigned_symmetric byte ((⟦<(Endian, BitSize, Order) as NumberCtx>⟧).parts_of (Big, record { 0 = N }, order_where LOW)))
         (A.symmetric tt) B.Symmetric.symmetric };
 }

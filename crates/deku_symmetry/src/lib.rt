@@ -5,11 +5,15 @@ mod fields;
 mod impls;
 mod kinds;
 pub mod laws;
+mod made;
 mod record;
 mod traits;
 
-pub use deku_pieces::choice::{self, Choice, Named, Only, Tagged};
+pub use deku_pieces::asserted::{Asserted, Check};
+pub use deku_pieces::choice::{self, Choice, LsbTagged, MsbTagged, Named, Only, Tagged};
+pub use deku_pieces::led::{Counts, Led};
 pub use fields::{Be, Le, Lsb, LsbBe, Msb, MsbLe};
 pub use kinds::Kinds;
+pub use made::{Checks, Leads};
 pub use record::{Parted, Record, read_record, write_record};
 pub use traits::Symmetric;

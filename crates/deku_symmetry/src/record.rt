@@ -1,8 +1,9 @@
 //! Records that are the tuple of their parts.
 
-ghost use Rattle.std.specs.Prelude.{◌≡◌, Bool, Option, Result, OnOk};
+ghost use Rattle.std.specs.Prelude.{◌≡◌, Bool, List, Option, Result, OnOk};
 ghost use Rattle.deku_bits.specs.declared.error.DekuError.{DekuError as Refusal};
 ghost use Rattle.deku_bits.specs.Streams.{Stream};
+ghost use Rattle.deku_bits.specs.Pieces.{Piece};
 ghost use Rattle.deku_bits.specs.Standings.{Standing, Output};
 ghost use Rattle.deku_bits.specs.Outcomes.{Mapped};
 ghost use Rattle.deku_bits.specs.ReaderCalls.{Reads};
@@ -15,14 +16,14 @@ use deku::reader::Reader;
 use deku::writer::Writer;
 use deku::{DekuError, DekuReader, DekuWriter};
 
-/// A record that is the tuple of its parts, one way and the other. Its two laws leave no field out of the parts.
+/// A record that is the tuple of its parts under a context, one way and the other. Its two laws leave no field out of the parts.
 ///
 /// ```text
-/// type Parts = (Msb<u8, 4>, Msb<u8, 4>, Be<u16>);             // of a record of three fields
+/// type Parts = (Msb<u8, 4>, Msb<u8, 4>, Be<u16>);             // of a record of three fields, under ()
 /// ```
-pub trait Parted: Drop {
+pub trait Parted<Ctx>: Drop {
     /// The parts, in the order in which they lie.
-    type Parts: Symmetric<()>;
+    type Parts: Symmetric<Ctx>;
 
     // The parts of a record.
     ghost parts_of: { Self → Self.Parts };
@@ -40,15 +41,16 @@ pub trait Parted: Drop {
         Self: Sized,
         ensures { result ≡ record_of parts };
 
-    // Parts are those of their record.
-    ghost back: { (p : Self.Parts) → parts_of (record_of p) ≡ p };
+    // Parts that have pieces are those of their record.
+    ghost back: { (p : Self.Parts) (c : Ctx) (ps : List Piece) → Self.Parts.pieces p c ps → parts_of (record_of p) ≡ p };
 
     // A record is that of its parts: no field is left out of them.
     ghost there: { (v : Self) → record_of (parts_of v) ≡ v };
 }
 
-/// A record whose reader and writer are those of its parts: it is `Symmetric<()>`. The page `docs/RECORDS.md` has one whole.
-pub trait Record: Parted + DekuReader<()> + DekuWriter<()> {
+/// A record whose reader and writer are those of its parts: it is `Symmetric<()>`. The page `docs/RECORDS.md` has one whole, and says what a record under
+/// another context states in its place.
+pub trait Record: Parted<()> + DekuReader<()> + DekuWriter<()> {
     // Nothing is read but the parts.
     ghost reads: { (b : Bool) (s : Standing (Option Stream)) (r : Result Self Refusal) (u : Standing (Option Stream))
         → Self.DekuReader.meaning tt b s r u → Mapped Self.record_of (Self.Parts.DekuReader.meaning tt) b s r u };
@@ -63,14 +65,17 @@ pub trait Record: Parted + DekuReader<()> + DekuWriter<()> {
 /// The caller's condition: the parts may be read. It is refused as they are, and what was read before stays read.
 ///
 /// ```text
-/// read_record(reader)
+/// read_record(reader, ())
 /// ```
-pub fn read_record<T: Parted, R: Source>(reader: &mut Reader<R>) -> Result<T, DekuError>
-    requires { T.Parts.DekuReader.accepts tt }
-    ensures reads { Reads R.told (Mapped T.record_of (T.Parts.DekuReader.meaning tt)) reader.old result reader.new }
-    ensures early { OnOk result (T.Parts.DekuReader.prompt tt → Promptly R.told reader.old reader.new) }
+pub fn read_record<Ctx, T: Parted<Ctx>, R: Source>(
+    reader: &mut Reader<R>,
+    ctx: Ctx,
+) -> Result<T, DekuError>
+    requires { T.Parts.DekuReader.accepts ctx }
+    ensures reads { Reads R.told (Mapped T.record_of (T.Parts.DekuReader.meaning ctx)) reader.old result reader.new }
+    ensures early { OnOk result (T.Parts.DekuReader.prompt ctx → Promptly R.told reader.old reader.new) }
 {
-    let parts = T::Parts::from_reader_with_ctx(reader, ())?;
+    let parts = T::Parts::from_reader_with_ctx(reader, ctx)?;
     Ok(T::from_parts(parts))
 }
 
@@ -79,13 +84,17 @@ pub fn read_record<T: Parted, R: Source>(reader: &mut Reader<R>) -> Result<T, De
 /// The caller's condition: the parts may be written. It is refused as they are, and what was written before stays written.
 ///
 /// ```text
-/// write_record(self, writer)
+/// write_record(self, writer, ())
 /// ```
-pub fn write_record<T: Parted, W: Sink>(value: &T, writer: &mut Writer<W>) -> Result<(), DekuError>
-    requires { T.Parts.DekuWriter.accepts tt }
-    ensures { Writes W.told (T.Parts.DekuWriter.meaning (T.parts_of value.now) tt) writer.old result writer.new }
+pub fn write_record<Ctx, T: Parted<Ctx>, W: Sink>(
+    value: &T,
+    writer: &mut Writer<W>,
+    ctx: Ctx,
+) -> Result<(), DekuError>
+    requires { T.Parts.DekuWriter.accepts ctx }
+    ensures { Writes W.told (T.Parts.DekuWriter.meaning (T.parts_of value.now) ctx) writer.old result writer.new }
 {
-    value.parts().to_writer(writer, ())
+    value.parts().to_writer(writer, ctx)
 }
 
 /// The pieces of the parts.
@@ -96,5 +105,5 @@ impl<R: Record> Symmetric<()> for R {
 
     ghost same = { λ v w. R.Parts.same (R.parts_of v) (R.parts_of w) };
 
-    ghost symmetric = { λ c. told_symmetric R.record_of R.parts_of R.back (R.Parts.symmetric c) R.writes R.reads };
+    ghost symmetric = { λ c. told_symmetric R.record_of R.parts_of (λ p ps h. R.back p c ps h) (R.Parts.symmetric c) R.writes R.reads };
 }

@@ -27,7 +27,7 @@ type Parts = (
     (Lsb<u8, 4>, Lsb<u8, 4>, Lsb<u8, 8>),
 );
 
-impl Parted for Engine {
+impl Parted<()> for Engine {
     ghost use Rattle.std.specs.Prelude.{refl};
 
     type Parts = Parts;
@@ -76,7 +76,7 @@ impl Parted for Engine {
         }
     }
 
-    ghost back = { λ p. refl };
+    ghost back = { λ p c ps h. refl };
 
     ghost there = { λ r. refl };
 }
@@ -94,23 +94,23 @@ impl DekuReader<()> for Engine {
 
     ghost prompt = { ⟦<Parts as DekuReader<()>>⟧.prompt };
 
-    ghost meaning = { λ _. Mapped ⟦<Engine as Parted>⟧.record_of (⟦<Parts as DekuReader<()>>⟧.meaning tt) };
+    ghost meaning = { λ _. Mapped ⟦<Engine as Parted<()>>⟧.record_of (⟦<Parts as DekuReader<()>>⟧.meaning tt) };
 
     fn from_reader_with_ctx<R: Source>(
         reader: &mut Reader<R>,
         _ctx: (),
     ) -> Result<Self, DekuError> {
-        read_record(reader)
+        read_record(reader, ())
     }
 }
 
 impl DekuWriter<()> for Engine {
     ghost accepts = { ⟦<Parts as DekuWriter<()>>⟧.accepts };
 
-    ghost meaning = { λ v _. ⟦<Parts as DekuWriter<()>>⟧.meaning (⟦<Engine as Parted>⟧.parts_of v) tt };
+    ghost meaning = { λ v _. ⟦<Parts as DekuWriter<()>>⟧.meaning (⟦<Engine as Parted<()>>⟧.parts_of v) tt };
 
     fn to_writer<W: Sink>(&self, writer: &mut Writer<W>, _ctx: ()) -> Result<(), DekuError> {
-        write_record(self, writer)
+        write_record(self, writer, ())
     }
 }
 

@@ -33,7 +33,7 @@ type Parts = (
     (Be<u32>, Be<u32>),
 );
 
-impl Parted for Ipv4Header {
+impl Parted<()> for Ipv4Header {
     ghost use Rattle.std.specs.Prelude.{refl};
 
     type Parts = Parts;
@@ -97,7 +97,7 @@ impl Parted for Ipv4Header {
         }
     }
 
-    ghost back = { λ p. refl };
+    ghost back = { λ p c ps h. refl };
 
     ghost there = { λ h. refl };
 }
@@ -115,23 +115,23 @@ impl DekuReader<()> for Ipv4Header {
 
     ghost prompt = { ⟦<Parts as DekuReader<()>>⟧.prompt };
 
-    ghost meaning = { λ _. Mapped ⟦<Ipv4Header as Parted>⟧.record_of (⟦<Parts as DekuReader<()>>⟧.meaning tt) };
+    ghost meaning = { λ _. Mapped ⟦<Ipv4Header as Parted<()>>⟧.record_of (⟦<Parts as DekuReader<()>>⟧.meaning tt) };
 
     fn from_reader_with_ctx<R: Source>(
         reader: &mut Reader<R>,
         _ctx: (),
     ) -> Result<Self, DekuError> {
-        read_record(reader)
+        read_record(reader, ())
     }
 }
 
 impl DekuWriter<()> for Ipv4Header {
     ghost accepts = { ⟦<Parts as DekuWriter<()>>⟧.accepts };
 
-    ghost meaning = { λ h _. ⟦<Parts as DekuWriter<()>>⟧.meaning (⟦<Ipv4Header as Parted>⟧.parts_of h) tt };
+    ghost meaning = { λ h _. ⟦<Parts as DekuWriter<()>>⟧.meaning (⟦<Ipv4Header as Parted<()>>⟧.parts_of h) tt };
 
     fn to_writer<W: Sink>(&self, writer: &mut Writer<W>, _ctx: ()) -> Result<(), DekuError> {
-        write_record(self, writer)
+        write_record(self, writer, ())
     }
 }
 

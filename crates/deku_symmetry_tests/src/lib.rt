@@ -7,6 +7,8 @@ mod engine;
 mod expecting;
 pub mod ipv4;
 #[cfg(test)]
+mod made;
+#[cfg(test)]
 mod message;
 #[cfg(test)]
 mod packing;

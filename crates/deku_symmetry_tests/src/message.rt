@@ -4,7 +4,9 @@ use deku::device::{Sink, Source};
 use deku::prelude::{
     DekuContainerRead, DekuContainerWrite, DekuError, DekuReader, DekuWriter, Reader, Writer,
 };
-use deku_symmetry::{Be, Choice, Msb, Only, Parted, Record, Tagged, read_record, write_record};
+use deku_symmetry::{
+    Be, Choice, Msb, MsbTagged, Only, Parted, Record, Tagged, read_record, write_record,
+};
 
 /// A message.
 #[derive(Debug, PartialEq, Eq, Drop)]
@@ -21,9 +23,9 @@ pub enum Message {
 type Place = (Msb<i16, 12>, Msb<i16, 12>);
 
 // An id of eight bits, and what lies under 1, under 2, and under 3.
-type Parts = Tagged<Be<u16>, Choice<Place, Only<(), 3>, 2>, 1, 8>;
+type Parts = MsbTagged<Be<u16>, Choice<Place, Only<(), 3>, 2>, 1, 8>;
 
-impl Parted for Message {
+impl Parted<()> for Message {
     ghost use Rattle.std.specs.Prelude.{refl};
     ghost use Rattle.deku_symmetry_tests.specs.declared.message.Message.TheVariants.{Tone, Move, Stop};
     ghost use Rattle.deku_symmetry.specs.declared.choice.Tagged.TheVariants as first;
@@ -61,9 +63,9 @@ impl Parted for Message {
     }
 
     ghost back = { elim [
-      | first.This tone ↦ refl
-      | first.Other (second.This place) ↦ refl
-      | first.Other (second.Other none) ↦ refl
+      | first.This tone ↦ λ c ps h. refl
+      | first.Other (second.This place) ↦ λ c ps h. refl
+      | first.Other (second.Other none) ↦ λ c ps h. refl
     ] };
 
     ghost there = { elim [ Tone height ↦ refl | Move across up ↦ refl | Stop ↦ refl ] };
@@ -82,23 +84,23 @@ impl DekuReader<()> for Message {
 
     ghost prompt = { ⟦<Parts as DekuReader<()>>⟧.prompt };
 
-    ghost meaning = { λ _. Mapped ⟦<Message as Parted>⟧.record_of (⟦<Parts as DekuReader<()>>⟧.meaning tt) };
+    ghost meaning = { λ _. Mapped ⟦<Message as Parted<()>>⟧.record_of (⟦<Parts as DekuReader<()>>⟧.meaning tt) };
 
     fn from_reader_with_ctx<R: Source>(
         reader: &mut Reader<R>,
         _ctx: (),
     ) -> Result<Self, DekuError> {
-        read_record(reader)
+        read_record(reader, ())
     }
 }
 
 impl DekuWriter<()> for Message {
     ghost accepts = { ⟦<Parts as DekuWriter<()>>⟧.accepts };
 
-    ghost meaning = { λ v _. ⟦<Parts as DekuWriter<()>>⟧.meaning (⟦<Message as Parted>⟧.parts_of v) tt };
+    ghost meaning = { λ v _. ⟦<Parts as DekuWriter<()>>⟧.meaning (⟦<Message as Parted<()>>⟧.parts_of v) tt };
 
     fn to_writer<W: Sink>(&self, writer: &mut Writer<W>, _ctx: ()) -> Result<(), DekuError> {
-        write_record(self, writer)
+        write_record(self, writer, ())
     }
 }
 

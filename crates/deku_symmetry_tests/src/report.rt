@@ -16,7 +16,7 @@ pub struct Place {
 // The fields as they lie.
 type PlaceParts = (Msb<i16, 12>, Msb<i16, 12>);
 
-impl Parted for Place {
+impl Parted<()> for Place {
     ghost use Rattle.std.specs.Prelude.{refl};
 
     type Parts = PlaceParts;
@@ -34,7 +34,7 @@ impl Parted for Place {
         Place { across, up }
     }
 
-    ghost back = { λ p. refl };
+    ghost back = { λ p c ps h. refl };
 
     ghost there = { λ p. refl };
 }
@@ -52,23 +52,23 @@ impl DekuReader<()> for Place {
 
     ghost prompt = { ⟦<PlaceParts as DekuReader<()>>⟧.prompt };
 
-    ghost meaning = { λ _. Mapped ⟦<Place as Parted>⟧.record_of (⟦<PlaceParts as DekuReader<()>>⟧.meaning tt) };
+    ghost meaning = { λ _. Mapped ⟦<Place as Parted<()>>⟧.record_of (⟦<PlaceParts as DekuReader<()>>⟧.meaning tt) };
 
     fn from_reader_with_ctx<R: Source>(
         reader: &mut Reader<R>,
         _ctx: (),
     ) -> Result<Self, DekuError> {
-        read_record(reader)
+        read_record(reader, ())
     }
 }
 
 impl DekuWriter<()> for Place {
     ghost accepts = { ⟦<PlaceParts as DekuWriter<()>>⟧.accepts };
 
-    ghost meaning = { λ v _. ⟦<PlaceParts as DekuWriter<()>>⟧.meaning (⟦<Place as Parted>⟧.parts_of v) tt };
+    ghost meaning = { λ v _. ⟦<PlaceParts as DekuWriter<()>>⟧.meaning (⟦<Place as Parted<()>>⟧.parts_of v) tt };
 
     fn to_writer<W: Sink>(&self, writer: &mut Writer<W>, _ctx: ()) -> Result<(), DekuError> {
-        write_record(self, writer)
+        write_record(self, writer, ())
     }
 }
 
@@ -99,7 +99,7 @@ type ReportParts = (
     (LsbBe<u16, 13>, LsbBe<u8, 3>),
 );
 
-impl Parted for Report {
+impl Parted<()> for Report {
     ghost use Rattle.std.specs.Prelude.{refl};
 
     type Parts = ReportParts;
@@ -157,7 +157,7 @@ impl Parted for Report {
         }
     }
 
-    ghost back = { λ p. refl };
+    ghost back = { λ p c ps h. refl };
 
     ghost there = { λ r. refl };
 }
@@ -175,23 +175,23 @@ impl DekuReader<()> for Report {
 
     ghost prompt = { ⟦<ReportParts as DekuReader<()>>⟧.prompt };
 
-    ghost meaning = { λ _. Mapped ⟦<Report as Parted>⟧.record_of (⟦<ReportParts as DekuReader<()>>⟧.meaning tt) };
+    ghost meaning = { λ _. Mapped ⟦<Report as Parted<()>>⟧.record_of (⟦<ReportParts as DekuReader<()>>⟧.meaning tt) };
 
     fn from_reader_with_ctx<R: Source>(
         reader: &mut Reader<R>,
         _ctx: (),
     ) -> Result<Self, DekuError> {
-        read_record(reader)
+        read_record(reader, ())
     }
 }
 
 impl DekuWriter<()> for Report {
     ghost accepts = { ⟦<ReportParts as DekuWriter<()>>⟧.accepts };
 
-    ghost meaning = { λ v _. ⟦<ReportParts as DekuWriter<()>>⟧.meaning (⟦<Report as Parted>⟧.parts_of v) tt };
+    ghost meaning = { λ v _. ⟦<ReportParts as DekuWriter<()>>⟧.meaning (⟦<Report as Parted<()>>⟧.parts_of v) tt };
 
     fn to_writer<W: Sink>(&self, writer: &mut Writer<W>, _ctx: ()) -> Result<(), DekuError> {
-        write_record(self, writer)
+        write_record(self, writer, ())
     }
 }
 

@@ -18,7 +18,7 @@ pub struct UdpHeader {
 // The fields as they lie.
 type Parts = (Be<u16>, Be<u16>, Be<u16>, Be<u16>);
 
-impl Parted for UdpHeader {
+impl Parted<()> for UdpHeader {
     ghost use Rattle.std.specs.Prelude.{refl};
 
     type Parts = Parts;
@@ -46,7 +46,7 @@ impl Parted for UdpHeader {
         }
     }
 
-    ghost back = { λ p. refl };
+    ghost back = { λ p c ps h. refl };
 
     ghost there = { λ r. refl };
 }
@@ -64,23 +64,23 @@ impl DekuReader<()> for UdpHeader {
 
     ghost prompt = { ⟦<Parts as DekuReader<()>>⟧.prompt };
 
-    ghost meaning = { λ _. Mapped ⟦<UdpHeader as Parted>⟧.record_of (⟦<Parts as DekuReader<()>>⟧.meaning tt) };
+    ghost meaning = { λ _. Mapped ⟦<UdpHeader as Parted<()>>⟧.record_of (⟦<Parts as DekuReader<()>>⟧.meaning tt) };
 
     fn from_reader_with_ctx<R: Source>(
         reader: &mut Reader<R>,
         _ctx: (),
     ) -> Result<Self, DekuError> {
-        read_record(reader)
+        read_record(reader, ())
     }
 }
 
 impl DekuWriter<()> for UdpHeader {
     ghost accepts = { ⟦<Parts as DekuWriter<()>>⟧.accepts };
 
-    ghost meaning = { λ v _. ⟦<Parts as DekuWriter<()>>⟧.meaning (⟦<UdpHeader as Parted>⟧.parts_of v) tt };
+    ghost meaning = { λ v _. ⟦<Parts as DekuWriter<()>>⟧.meaning (⟦<UdpHeader as Parted<()>>⟧.parts_of v) tt };
 
     fn to_writer<W: Sink>(&self, writer: &mut Writer<W>, _ctx: ()) -> Result<(), DekuError> {
-        write_record(self, writer)
+        write_record(self, writer, ())
     }
 }
 

@@ -1,0 +1,26 @@
+-- Parts that are looked at when they were read, and before they are written.
+use Rattle.std.specs.Prelude.{◌≡◌, ℕ, Bool, true, false, List, Option}
+use Rattle.deku_bits.specs.declared.error.DekuError.TheVariants.{Assertion}
+use Rattle.deku_bits.specs.Pieces.{Piece}
+use Rattle.deku_bits.specs.Streams.{Stream}
+use Rattle.deku_bits.specs.Standings.{Output}
+use Rattle.deku_bits.specs.Outcomes.{Meaning, Refuses}
+use Rattle.deku_num.specs.NumberCalls.{Checked}
+use Rattle.deku.specs.Composing.{Answer, Then}
+use Rattle.deku_pieces.specs.declared.asserted.Asserted.{Asserted}
+
+-- those of a part that passes; another has none
+abbrev pub OfPassing : {V C : Type 0} → (V → Bool) → (V → List Piece → Type 0) → Asserted V C → List Piece → Type 0
+OfPassing passes pieces v ps = (passes v.part ≡ true) × pieces v.part ps
+
+-- m where v passes; else it is refused with this text, and nothing moves
+abbrev pub IfPasses : {A V W : Type 0} → (V → Bool) → List ℕ → V → Meaning A W → Meaning A W
+IfPasses passes text v m = Checked (λ s r u. (passes v ≡ false) × Refuses Assertion text s r u) (λ b s r u. (passes v ≡ true) × m b s r u)
+
+-- a part is read, and refused with this text where it does not pass
+abbrev pub ReadsAsserted : {V C : Type 0} → (V → Bool) → List ℕ → Meaning (Option Stream) V → Meaning (Option Stream) (Asserted V C)
+ReadsAsserted passes text m = Then m (λ v. IfPasses passes text v (Answer (record { part = v; check = record {} })))
+
+-- a part is written where it passes
+abbrev pub WritesAsserted : {V C : Type 0} → (V → Bool) → List ℕ → (V → Meaning Output (Unit {0})) → Asserted V C → Meaning Output (Unit {0})
+WritesAsserted passes text writes v = IfPasses passes text v.part (writes v.part)

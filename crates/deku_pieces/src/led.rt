@@ -1,0 +1,116 @@
+//! Heads that say how many items lie behind them.
+
+ghost use Rattle.std.specs.Prelude.{◌≡◌, ℕ, Option, length, OnOk, MatchBool};
+ghost use Rattle.deku_bits.specs.ReaderCalls.{Reads};
+ghost use Rattle.deku.specs.Early.{Promptly};
+ghost use Rattle.deku_pieces.specs.Leading.{ReadsCounted, IsCounted};
+
+use deku::ctx::Limit;
+use deku::device::{Sink, Source};
+use deku::reader::Reader;
+use deku::writer::Writer;
+use deku::{DekuError, DekuReader, DekuWriter};
+
+/// What says how many items lie behind it.
+///
+/// ```text
+/// fn count(&self) -> Option<usize> {                          // of a header whose length is in words, itself among them
+///     (self.words as usize).checked_sub(5)
+/// }
+/// ```
+pub trait Counts {
+    // How many items lie behind it, where it names a count.
+    ghost count_of: { Self → Option ℕ };
+
+    /// How many items lie behind it, or none where it names no count.
+    fn count(&self) -> Option<usize>
+        ensures { result ≡ count_of self.now };
+}
+
+/// A head, and behind it as many items as it says.
+///
+/// Where it is read, a head that names no count is refused with `Parse("head without a count")`, and stays read. Where it is written, a head
+/// that names another count than that of the items, or none, is refused with `Assertion("count out of step with items")`, and nothing moves. Else it is
+/// refused as its head is, and then as the first of its items is, or with `Io(OutOfMemory)` where no memory is found for an item.
+///
+/// ```text
+/// type Text = Led<u8, u8>;                                    // 02 68 69, where a byte counts those behind it
+/// ```
+#[derive(Debug, PartialEq, Eq, Drop)]
+pub struct Led<H, T> {
+    /// What says how many items there are.
+    pub head: H,
+    /// The items.
+    pub items: Vec<T>,
+}
+
+/// A byte counts what lies behind it.
+impl Counts for u8 {
+    ghost use Rattle.std.specs.Prelude.{Some};
+
+    ghost count_of = { λ n. Some n };
+
+    fn count(&self) -> Option<usize> {
+        Some(*self as usize)
+    }
+}
+
+impl<H: Counts + DekuReader<()>, T: DekuReader<()>> DekuReader<()> for Led<H, T> {
+    ghost use Rattle.deku_pieces.specs.Leading.{ReadsLed};
+
+    ghost accepts = { λ _. H.DekuReader.accepts tt × T.accepts tt };
+
+    ghost prompt = { λ _. H.DekuReader.prompt tt × T.prompt tt };
+
+    ghost meaning = { λ _. ReadsLed H.Counts.count_of (H.DekuReader.meaning tt) (T.meaning tt) };
+
+    fn from_reader_with_ctx<R: Source>(
+        reader: &mut Reader<R>,
+        _ctx: (),
+    ) -> Result<Self, DekuError> {
+        let head = H::from_reader_with_ctx(reader, ())?;
+        let items = read_counted::<T, R>(reader, head.count())?;
+        Ok(Led { head, items })
+    }
+}
+
+// Reads as many items as there are to be.
+fn read_counted<T: DekuReader<()>, R: Source>(
+    reader: &mut Reader<R>,
+    count: Option<usize>,
+) -> Result<Vec<T>, DekuError>
+    requires { T.accepts tt }
+    ensures reads { Reads R.told (ReadsCounted count (T.meaning tt)) reader.old result reader.new }
+    ensures early { OnOk result (T.prompt tt → Promptly R.told reader.old reader.new) }
+{
+    match count {
+        Some(count) => Vec::from_reader_with_ctx(reader, (Limit::new_count(count), ())),
+        None => Err(DekuError::Parse("head without a count")),
+    }
+}
+
+impl<H: Counts + DekuWriter<()>, T: DekuWriter<()>> DekuWriter<()> for Led<H, T> {
+    ghost use Rattle.deku_pieces.specs.Leading.{WritesLed};
+
+    ghost accepts = { λ _. H.DekuWriter.accepts tt × T.accepts tt };
+
+    ghost meaning = { λ v _. WritesLed H.Counts.count_of (λ h. H.DekuWriter.meaning h tt) (λ x. T.meaning x tt) v };
+
+    fn to_writer<W: Sink>(&self, writer: &mut Writer<W>, _ctx: ()) -> Result<(), DekuError> {
+        if !in_step(self) {
+            return Err(DekuError::Assertion("count out of step with items"));
+        }
+        self.head.to_writer(writer, ())?;
+        self.items.to_writer(writer, ())
+    }
+}
+
+// Whether there are as many items as the head says.
+fn in_step<H: Counts, T>(led: &Led<H, T>) -> bool
+    ensures { MatchBool result (IsCounted (H.count_of led.now.head) (length led.now.items.items)) (IsCounted (H.count_of led.now.head) (length led.now.items.items) → ⊥) }
+{
+    match led.head.count() {
+        Some(count) => led.items.len() == count,
+        None => false,
+    }
+}

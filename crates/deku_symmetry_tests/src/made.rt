@@ -1,0 +1,111 @@
+//! Parts that other parts depend on: counted items, checks, and ids in low bits.
+
+use crate::expecting::expect_packed;
+use crate::report::Place;
+use deku::prelude::{DekuError, DekuReader, NeedSize, Reader};
+use deku_symmetry::{
+    Asserted, Check, Checks, Counts, Led, Lsb, LsbTagged, Msb, Only, Symmetric, Tagged,
+};
+use std::io::Cursor;
+use std::test::Fail;
+
+// The version is 4.
+#[derive(Debug, PartialEq, Eq, Drop)]
+struct Version;
+
+impl Check<Msb<u8, 4>> for Version {
+    ghost use Rattle.std.specs.Prelude.{nat_eq, codes};
+
+    ghost passes = { λ part. nat_eq part.0 4 };
+
+    ghost text = { codes "version" };
+
+    fn passes(part: &Msb<u8, 4>) -> bool {
+        part.0 == 4
+    }
+
+    fn text() -> &'static str {
+        "version"
+    }
+}
+
+impl Checks<Msb<u8, 4>> for Version {
+    ghost use Rattle.std.specs.Prelude.{refl};
+
+    ghost alike = { λ v w e. rw e refl };
+}
+
+// A place counts nothing.
+impl Counts for Place {
+    ghost use Rattle.std.specs.Prelude.{None};
+
+    ghost count_of = { λ _. None };
+
+    fn count(&self) -> Option<usize> {
+        None
+    }
+}
+
+// A version of four bits, and a length.
+type Front = (Asserted<Msb<u8, 4>, Version>, Msb<u8, 4>);
+
+// A bit behind the id 5, or nine behind the id 3.
+type Word = LsbTagged<Lsb<u8, 1>, Only<Lsb<u16, 9>, 3>, 5, 7>;
+
+#[test]
+fn counted_items(rt: HostRuntime) -> Result<(), Fail> {
+    let alloc = rt.alloc();
+    let two = Led {
+        head: 2u8,
+        items: [0x68u8, 0x69].to_vec(alloc)?,
+    };
+    expect_packed(&rt, alloc, (), &two, 24, &[0x02, 0x68, 0x69])?;
+    let short: &[u8] = &[0x03, 0x68];
+    let ended = DekuError::Incomplete(NeedSize::new(8));
+    assert_eq!(rt; Led::<u8, u8>::unpack(alloc, short, ()), Err(ended));
+    let out_of_step = Led {
+        head: 3u8,
+        items: [1u8].to_vec(alloc)?,
+    };
+    let refusal = DekuError::Assertion("count out of step with items");
+    assert_eq!(rt; out_of_step.pack(alloc, ()), Err(refusal));
+    Ok(())
+}
+
+#[test]
+fn a_head_without_a_count(rt: HostRuntime) -> Result<(), Fail> {
+    let bytes: &[u8] = &[0xFF, 0xF1, 0x23, 0x69];
+    let mut reader = Reader::new(rt.alloc(), Cursor::new(bytes));
+    let refusal = DekuError::Parse("head without a count");
+    assert_eq!(rt;
+        Led::<Place, u8>::from_reader_with_ctx(&mut reader, ()),
+        Err(refusal)
+    );
+    assert_eq!(rt; reader.bits_read(), 24);
+    Ok(())
+}
+
+#[test]
+fn what_passes(rt: HostRuntime) -> Result<(), Fail> {
+    let alloc = rt.alloc();
+    let four: Front = (Asserted::new(Msb(4)), Msb(5));
+    expect_packed(&rt, alloc, (), &four, 8, &[0x45])?;
+    let six: Front = (Asserted::new(Msb(6)), Msb(5));
+    let refusal = DekuError::Assertion("version");
+    assert_eq!(rt; six.pack(alloc, ()), Err(refusal));
+    let bytes: &[u8] = &[0x65];
+    let mut reader = Reader::new(alloc, Cursor::new(bytes));
+    assert_eq!(rt; Front::from_reader_with_ctx(&mut reader, ()), Err(refusal));
+    assert_eq!(rt; reader.bits_read(), 4);
+    Ok(())
+}
+
+// 3 + 0x1FF * 128 is 0xFF83, its low byte first.
+#[test]
+fn ids_in_low_bits(rt: HostRuntime) -> Result<(), Fail> {
+    let alloc = rt.alloc();
+    let one: Word = Tagged::This(Lsb(1));
+    expect_packed(&rt, alloc, (), &one, 8, &[0x85])?;
+    let nine: Word = Tagged::Other(Only(Lsb(0x1FF)));
+    expect_packed(&rt, alloc, (), &nine, 16, &[0x83, 0xFF])
+}
