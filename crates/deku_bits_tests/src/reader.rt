@@ -17,6 +17,7 @@ use deku_bits::error::DekuError;
 use deku_bits::reader::Reader;
 use std::alloc::Global;
 use std::io::{Cursor, ErrorKind, SeekFrom};
+use std::process::Abort;
 use std::test::Fail;
 
 // What each order meets.
@@ -420,18 +421,23 @@ fn read_lent<R: Source>(alloc: Global, source: &mut R, dst: &mut [bool]) -> Resu
 fn reads_a_lent_vector(rt: HostRuntime) -> Result<(), Fail> {
     let bytes = [0xA5, 0x3C, 0xFF].to_vec(rt.alloc())?;
     let mut cursor = Cursor::new(bytes);
-    let mut bits = [false; 9];
-    same(
-        &rt,
-        (0, 0),
-        &read_lent(rt.alloc(), &mut cursor, &mut bits),
-        &Ok(()),
-    );
-    same_digits(&rt, (0, 1), &bits, "101001010");
+    expect_lent(&rt, rt.alloc(), &mut cursor);
     same(&rt, (0, 2), &cursor.position(), &2);
-    let mut reader = Reader::new(rt.alloc(), cursor);
-    let mut more = Vec::new(reader.alloc());
-    more.push(u8::from(reader.end()?))?;
+    let more = end_of(&mut Reader::new(rt.alloc(), cursor))?;
     same_bytes(&rt, (0, 3), more.as_slice(), &[0]);
     Ok(())
+}
+
+fn expect_lent<R: Source>(rt: &impl Abort, alloc: Global, source: &mut R) {
+    let mut bits = [false; 9];
+    let answer = read_lent(alloc, source, &mut bits);
+    same(rt, (0, 0), &answer, &Ok(()));
+    same_digits(rt, (0, 1), &bits, "101001010");
+}
+
+// Whether the reader is at the end, as a number in memory of the reader's own allocator.
+fn end_of<R: Source>(reader: &mut Reader<R>) -> Result<Vec<u8>, Fail> {
+    let mut more = Vec::new(reader.alloc());
+    more.push(u8::from(reader.end()?))?;
+    Ok(more)
 }

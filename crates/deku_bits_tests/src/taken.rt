@@ -163,6 +163,21 @@ fn read_byte_vector<R: Source>(
     }
 }
 
+// Why an array of bytes is refused, where it is: it is filled or answered.
+fn const_refused<R: Source, const N: usize>(
+    reader: &mut Reader<R>,
+    all: &mut [u8; N],
+    asked: (bool, Order),
+) -> Option<DekuError>
+    requires { N ≤ 3 }
+{
+    if asked.0 {
+        reader.read_bytes_const_into(all, asked.1).err()
+    } else {
+        reader.read_bytes_const(all, asked.1).err()
+    }
+}
+
 // So many bytes as an array has, filled or answered.
 fn read_const<R: Source, const N: usize>(
     rt: &impl Abort,
@@ -174,11 +189,7 @@ fn read_const<R: Source, const N: usize>(
     requires { N ≤ 3 }
 {
     let mut all = [0; N];
-    let error = if asked.0 {
-        reader.read_bytes_const_into(&mut all, asked.1).err()
-    } else {
-        reader.read_bytes_const(&mut all, asked.1).err()
-    };
+    let error = const_refused(reader, &mut all, asked);
     same(rt, row, &error, &refused(want));
     if let Ok(bytes) = want {
         same_bytes(rt, row, &all, bytes);
@@ -345,7 +356,12 @@ pub fn take_steps<R: Source>(
     reader: &mut Reader<R>,
     steps: &[Step],
 ) -> Result<(), Fail> {
-    if walk_steps(rt, case, reader, steps) {
+    handed(walk_steps(rt, case, reader, steps))
+}
+
+/// Memory that was refused is handed on.
+pub fn handed(lacking: bool) -> Result<(), Fail> {
+    if lacking {
         return Err(NO_MEMORY.error())?;
     }
     Ok(())
@@ -354,22 +370,36 @@ pub fn take_steps<R: Source>(
 /// Bytes, the steps of a reader over a cursor on them, and where the cursor stands then.
 pub type Case = (&'static [u8], &'static [Step], u64);
 
-// These cases of the nth table show what they say.
-fn take_cases(rt: &impl Abort, alloc: Global, table: usize, cases: &[Case]) -> Result<(), Fail> {
+// The steps show what they say; whether memory was refused, and where the cursor stands then.
+fn walk_bytes(
+    rt: &impl Abort,
+    alloc: Global,
+    case: usize,
+    bytes: &[u8],
+    steps: &[Step],
+) -> (bool, u64) {
+    let mut reader = Reader::new(alloc, Cursor::new(bytes));
+    let lacks = walk_steps(rt, case, &mut reader, steps);
+    (lacks, reader.into_inner().position())
+}
+
+// These cases of the nth table show what they say. It answers whether memory was refused.
+fn walk_cases(rt: &impl Abort, alloc: Global, table: usize, cases: &[Case]) -> bool {
+    let mut lacking = false;
     for (at, (bytes, steps, place)) in cases.iter().enumerate() {
         let case = table.wrapping_mul(100).wrapping_add(at);
-        let mut reader = Reader::new(alloc, Cursor::new(*bytes));
-        take_steps(rt, case, &mut reader, steps)?;
-        let row = (case, steps.len());
-        same(rt, row, &reader.into_inner().position(), place);
+        let (lacks, stands) = walk_bytes(rt, alloc, case, bytes, steps);
+        same(rt, (case, steps.len()), &stands, place);
+        lacking = lacks || lacking;
     }
-    Ok(())
+    lacking
 }
 
 /// The cases of these tables show what they say.
 pub fn take_tables(rt: &impl Abort, alloc: Global, tables: &[&[Case]]) -> Result<(), Fail> {
+    let mut lacking = false;
     for (table, cases) in tables.iter().enumerate() {
-        take_cases(rt, alloc, table, cases)?;
+        lacking = walk_cases(rt, alloc, table, cases) || lacking;
     }
-    Ok(())
+    handed(lacking)
 }

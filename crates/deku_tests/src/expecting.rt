@@ -101,10 +101,10 @@ pub fn expect_bytes(
     row: &impl Debug,
     mut writer: Writer<Cursor<Vec<u8>>>,
     want: &[u8],
-) -> Result<(), Fail> {
-    writer.finalize()?;
-    same(rt, row, &writer.into_inner().into_inner().as_slice(), &want);
-    Ok(())
+) {
+    let answer = writer.finalize();
+    let bytes = writer.into_inner().into_inner();
+    same(rt, row, &(answer, bytes.as_slice()), &(Ok(()), want));
 }
 
 // The value is written as these bytes, with the last one filled.
@@ -114,12 +114,13 @@ pub fn expect_written<T: DekuWriter<C> + Debug, C>(
     ctx: C,
     value: &T,
     want: &[u8],
-) -> Result<(), Fail>
+)
     requires { T.accepts ctx }
 {
     let mut writer = writer_in(alloc);
-    put(&mut writer, value, ctx)?;
-    expect_bytes(rt, value, writer, want)
+    let answer = put(&mut writer, value, ctx);
+    same(rt, value, &answer, &Ok(()));
+    expect_bytes(rt, value, writer, want);
 }
 
 // The next value, under this context, is this one, and then so many bits are read.
@@ -143,15 +144,15 @@ pub fn expect_whole<T: DekuReader<C> + DekuWriter<C> + PartialEq + Debug, C: Cop
     ctx: C,
     bytes: &[u8],
     want: T,
-) -> Result<(), Fail>
+)
     requires reads { T.DekuReader.accepts ctx }
     requires writes { T.DekuWriter.accepts ctx }
 {
     let mut reader = reader_of(alloc, bytes);
-    let value = next::<T, C>(&mut reader, ctx)?;
-    same(rt, &bytes, &value, &want);
-    same(rt, &value, &reader.bits_read().div_ceil(8), &bytes.len());
-    expect_written(rt, alloc, ctx, &value, bytes)
+    let answer = next::<T, C>(&mut reader, ctx);
+    let read = reader.bits_read().div_ceil(8);
+    expect_written(rt, alloc, ctx, &want, bytes);
+    same(rt, &bytes, &(answer, read), &(Ok(want), bytes.len()));
 }
 
 // The bytes are refused with this text after so many bits, and the byte behind is read then.
@@ -171,37 +172,32 @@ pub fn expect_denied<T: DekuReader<C> + PartialEq + Debug, C: Copy>(
     same(rt, &bytes, &seen, &(Err(want.0), want.1, Ok(want.2)));
 }
 
-// A call that takes memory answers these items or this refusal; where no memory was found, that is handed on.
+// A call that takes memory answers these items or this refusal.
 pub fn expect_answer<T: PartialEq + Debug + Drop>(
     rt: &impl Abort,
     run: &str,
     step: &impl Debug,
     answer: Result<Vec<T>, DekuError>,
     want: &Result<&[T], Refusal>,
-) -> Result<(), Fail> {
+) {
     match (answer, want) {
         (Ok(items), Ok(want)) => same_at(rt, run, step, &items.as_slice(), want),
         (Ok(items), Err(_)) => assert!(rt; false, "{run}: {step:?} answers {items:?}"),
-        (Err(refusal), want) => expect_refusal(rt, run, step, refusal, want.as_ref().err())?,
+        (Err(refusal), want) => expect_refusal(rt, run, step, refusal, want.as_ref().err()),
     }
-    Ok(())
 }
 
-// This is the refusal that is wanted; where no memory was found, that is handed on.
+// This is the refusal that is wanted.
 pub fn expect_refusal(
     rt: &impl Abort,
     run: &str,
     step: &impl Debug,
     refusal: DekuError,
     want: Option<&Refusal>,
-) -> Result<(), Fail> {
-    if refusal == NO_MEMORY {
-        return Err(Fail::from(NO_MEMORY));
-    }
+) {
     let want = match want {
         Some(want) => Some(want.error()),
         None => None,
     };
     same_at(rt, run, step, &Some(refusal), &want);
-    Ok(())
 }

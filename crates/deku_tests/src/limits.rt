@@ -61,12 +61,7 @@ enum Step {
     Rest(&'static [bool]),
 }
 
-fn take_list(
-    rt: &impl Abort,
-    run: &str,
-    step: &Step,
-    reader: &mut Reader<Cursor<&[u8]>>,
-) -> Result<(), Fail> {
+fn take_list(rt: &impl Abort, run: &str, step: &Step, reader: &mut Reader<Cursor<&[u8]>>) {
     match step {
         Step::Octets(stop, want) => {
             let list = next(reader, stop.limit::<u8>());
@@ -96,27 +91,35 @@ fn take_list(
     }
 }
 
-fn take_place(
-    rt: &impl Abort,
-    run: &str,
-    step: &Step,
-    reader: &mut Reader<Cursor<&[u8]>>,
-) -> Result<(), Fail> {
+fn take_place(rt: &impl Abort, run: &str, step: &Step, reader: &mut Reader<Cursor<&[u8]>>) {
     match step {
         Step::AtOnce(count, want) => {
             let bytes = next::<Vec<u8>, ReadExact>(reader, ReadExact(*count));
-            expect_answer(rt, run, step, bytes, want)?;
+            expect_answer(rt, run, step, bytes, want);
         }
-        Step::Next(want) => same_at(rt, run, step, &next_byte(reader)?, want),
+        Step::Next(want) => same_at(rt, run, step, &next_byte(reader), &Ok(*want)),
         Step::NextSized(bits, want) => {
-            let byte: u8 = next(reader, BitSize(*bits))?;
-            same_at(rt, run, step, &byte, want);
+            let byte = next::<u8, BitSize>(reader, BitSize(*bits));
+            same_at(rt, run, step, &byte, &Ok(*want));
         }
         Step::Read(want) => same_at(rt, run, step, &reader.bits_read(), want),
-        Step::Rest(want) => same_at(rt, run, step, &rest_of(reader)?.as_slice(), want),
+        Step::Rest(want) => expect_rest(rt, run, step, reader, want),
         _ => assert!(rt; false, "{run}: {step:?} is no step of a place"),
     }
-    Ok(())
+}
+
+// These bits are left of the last byte.
+fn expect_rest(
+    rt: &impl Abort,
+    run: &str,
+    step: &Step,
+    reader: &Reader<Cursor<&[u8]>>,
+    want: &[bool],
+) {
+    match rest_of(reader) {
+        Ok(bits) => same_at(rt, run, step, &bits.as_slice(), &want),
+        Err(refusal) => assert!(rt; false, "{run}: {step:?}: {refusal:?}"),
+    }
 }
 
 // A name, the bytes of a reader, and what is asked of it, one step after the other.
@@ -224,24 +227,26 @@ const RUNS: [Run; 10] = [
 ];
 
 #[test]
-fn up_to_an_end(rt: HostRuntime) -> Result<(), Fail> {
+fn up_to_an_end(rt: HostRuntime) {
     for (run, bytes, steps) in &RUNS {
-        let mut reader = reader_of(rt.alloc(), bytes);
-        for step in *steps {
-            take_list(&rt, run, step, &mut reader)?;
-        }
+        take_lists(&rt, run, &mut reader_of(rt.alloc(), bytes), steps);
     }
-    Ok(())
+}
+
+fn take_lists(rt: &impl Abort, run: &str, reader: &mut Reader<Cursor<&[u8]>>, steps: &[Step]) {
+    for step in steps {
+        take_list(rt, run, step, reader);
+    }
 }
 
 // A predicate with a state of its own is asked about each item once, in order.
 #[test]
-fn up_to_an_item(rt: HostRuntime) -> Result<(), Fail> {
-    expect_third(&rt, rt.alloc())?;
-    expect_second(&rt, rt.alloc())
+fn up_to_an_item(rt: HostRuntime) {
+    expect_third(&rt, rt.alloc());
+    expect_second(&rt, rt.alloc());
 }
 
-fn expect_third(rt: &impl Abort, alloc: Global) -> Result<(), Fail> {
+fn expect_third(rt: &impl Abort, alloc: Global) {
     let mut reader = reader_of(alloc, &[5, 5, 5, 5]);
     let mut calls = 0u8;
     let third = Limit::new_until(|_: &u8| {
@@ -249,12 +254,12 @@ fn expect_third(rt: &impl Abort, alloc: Global) -> Result<(), Fail> {
         calls == 3
     });
     let items: Result<Vec<u8>, DekuError> = next(&mut reader, third);
-    expect_answer(rt, "up to an item", &"the third", items, &Ok(&[5, 5, 5]))?;
+    expect_answer(rt, "up to an item", &"the third", items, &Ok(&[5, 5, 5]));
     same(rt, &"calls for the third", &calls, &3);
-    take_place(rt, "the third", &Step::Next(5), &mut reader)
+    take_place(rt, "the third", &Step::Next(5), &mut reader);
 }
 
-fn expect_second(rt: &impl Abort, alloc: Global) -> Result<(), Fail> {
+fn expect_second(rt: &impl Abort, alloc: Global) {
     let mut reader = reader_of(alloc, &[1, 2, 3]);
     let mut second = true;
     let turns = Limit::new_until(|_: &u8| {
@@ -262,8 +267,8 @@ fn expect_second(rt: &impl Abort, alloc: Global) -> Result<(), Fail> {
         second
     });
     let items: Result<Vec<u8>, DekuError> = next(&mut reader, turns);
-    expect_answer(rt, "up to an item", &"each second", items, &Ok(&[1, 2]))?;
-    take_place(rt, "each second", &Step::Next(3), &mut reader)
+    expect_answer(rt, "up to an item", &"each second", items, &Ok(&[1, 2]));
+    take_place(rt, "each second", &Step::Next(3), &mut reader);
 }
 
 // The bytes of a reader, what they are up to a zero, and the next step.
@@ -275,15 +280,14 @@ const ZEROS: [Zero; 2] = [
 ];
 
 #[test]
-fn up_to_a_zero(rt: HostRuntime) -> Result<(), Fail> {
+fn up_to_a_zero(rt: HostRuntime) {
     for (bytes, want, behind) in &ZEROS {
         let mut reader = reader_of(rt.alloc(), bytes);
         let zero = Limit::new_until(|byte: &u8| *byte == 0);
         let items: Result<Vec<u8>, DekuError> = next(&mut reader, zero);
-        expect_answer(&rt, "up to a zero", bytes, items, want)?;
-        take_place(&rt, "up to a zero", behind, &mut reader)?;
+        expect_answer(&rt, "up to a zero", bytes, items, want);
+        take_place(&rt, "up to a zero", behind, &mut reader);
     }
-    Ok(())
 }
 
 #[test]
@@ -292,10 +296,11 @@ fn items_without_width_up_to_an_item(rt: HostRuntime) -> Result<(), Fail> {
     for (always, want) in [(true, Ok([()].as_slice())), (false, Err(NO_WIDTH))] {
         let limit = Limit::new_until(|_: &()| always);
         let items: Result<Vec<()>, DekuError> = next(&mut reader, limit);
-        expect_answer(&rt, "without width", &always, items, &want)?;
-        take_place(&rt, "without width", &Step::Read(0), &mut reader)?;
+        expect_answer(&rt, "without width", &always, items, &want);
+        take_place(&rt, "without width", &Step::Read(0), &mut reader);
     }
-    take_place(&rt, "without width", &Step::Next(1), &mut reader)
+    take_place(&rt, "without width", &Step::Next(1), &mut reader);
+    Ok(())
 }
 
 #[test]
@@ -307,7 +312,8 @@ fn lists_of_lists(rt: HostRuntime) -> Result<(), Fail> {
     let seen = (rows[0].as_slice(), rows[1].as_slice());
     let want = ([1, 2].as_slice(), [3, 4].as_slice());
     same(&rt, &"rows", &seen, &want);
-    expect_written(&rt, rt.alloc(), BitSize(4), &rows, &[0x12, 0x34])
+    expect_written(&rt, rt.alloc(), BitSize(4), &rows, &[0x12, 0x34]);
+    Ok(())
 }
 
 #[test]
@@ -328,7 +334,8 @@ fn boxed_slices(rt: HostRuntime) -> Result<(), Fail> {
         &"two and all",
         writer,
         &[0xAA, 0xBB, 0xCC, 0xDD, 0xAA, 0xBB, 0xCC, 0xDD],
-    )
+    );
+    Ok(())
 }
 
 // A vector written among bits is its items, one after the other, and not one run of bits.
@@ -338,5 +345,6 @@ fn vectors_behind_bits(rt: HostRuntime) -> Result<(), Fail> {
     let mut writer = writer_in(rt.alloc());
     writer.write_bits_order(&[true, false, true], Lsb0)?;
     put(&mut writer, &items, Msb0)?;
-    expect_bytes(&rt, &"behind bits", writer, &[0x61, 0xAC, 0x40])
+    expect_bytes(&rt, &"behind bits", writer, &[0x61, 0xAC, 0x40]);
+    Ok(())
 }

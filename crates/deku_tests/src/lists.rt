@@ -10,18 +10,18 @@ use deku::prelude::{DekuError, NeedSize};
 use std::test::Fail;
 
 #[test]
-fn arrays(rt: HostRuntime) -> Result<(), Fail> {
+fn arrays(rt: HostRuntime) {
     let items = [0xCCDDu16, 0xAABB];
     let mut reader = reader_of(rt.alloc(), &[0xDD, 0xCC, 0xBB, 0xAA]);
     expect_next(&rt, &mut reader, Little, items, 32);
-    expect_written(&rt, rt.alloc(), Big, &items, &[0xCC, 0xDD, 0xAA, 0xBB])?;
+    expect_written(&rt, rt.alloc(), Big, &items, &[0xCC, 0xDD, 0xAA, 0xBB]);
     let rows = [[1u8, 2, 3], [4, 5, 6]];
-    expect_whole(&rt, rt.alloc(), BitSize(4), &[0x12, 0x34, 0x56], rows)
+    expect_whole(&rt, rt.alloc(), BitSize(4), &[0x12, 0x34, 0x56], rows);
 }
 
 // The item that is there is read, and the next one is refused.
 #[test]
-fn half_an_array(rt: HostRuntime) -> Result<(), Fail> {
+fn half_an_array(rt: HostRuntime) {
     let mut reader = reader_of(rt.alloc(), &[0xDD, 0xCC]);
     let ended = DekuError::Incomplete(NeedSize::new(16));
     let answer = next::<[u16; 2], Endian>(&mut reader, Big);
@@ -34,7 +34,7 @@ fn half_an_array(rt: HostRuntime) -> Result<(), Fail> {
     let mut writer = writer_in(rt.alloc());
     let answer = put(&mut writer, &[5u8, 16, 6], BitSize(4));
     same(&rt, &"written", &answer, &Err(MISFIT));
-    expect_bytes(&rt, &"before the misfit", writer, &[0x50])
+    expect_bytes(&rt, &"before the misfit", writer, &[0x50]);
 }
 
 // An array stands among others in a pair, and none of no items reads anything.
@@ -48,7 +48,8 @@ fn arrays_in_pairs(rt: HostRuntime) -> Result<(), Fail> {
     let mut writer = writer_in(rt.alloc());
     put(&mut writer, &none, Big)?;
     put(&mut writer, &pair, Big)?;
-    expect_bytes(&rt, &"none and a pair", writer, bytes)
+    expect_bytes(&rt, &"none and a pair", writer, bytes);
+    Ok(())
 }
 
 #[test]
@@ -57,5 +58,6 @@ fn slices(rt: HostRuntime) -> Result<(), Fail> {
     let mut writer = writer_in(rt.alloc());
     put(&mut writer, &items, Big)?;
     put(&mut writer, &&items[..0], Big)?;
-    expect_bytes(&rt, &"slices", writer, &[1, 2, 3, 4, 5, 6])
+    expect_bytes(&rt, &"slices", writer, &[1, 2, 3, 4, 5, 6]);
+    Ok(())
 }

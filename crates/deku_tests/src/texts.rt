@@ -11,8 +11,7 @@ use deku::ctx::Order::Lsb0;
 use deku::ctx::{BitSize, ByteSize, Endian};
 use deku::prelude::{DekuError, Reader};
 use std::alloc::Global;
-use std::io;
-use std::io::{Cursor, Seek, SeekFrom};
+use std::io::{Cursor, ErrorKind, Seek, SeekFrom};
 use std::process::Abort;
 use std::test::Fail;
 
@@ -51,12 +50,18 @@ fn of_bytes(rt: HostRuntime) -> Result<(), Fail> {
             same(&rt, bytes, &seen, &(*bytes, *want));
         }
     }
-    same(
-        &rt,
-        &"a and ab",
-        &(text(&rt, alloc, b"a")? == text(&rt, alloc, b"ab")?),
-        &false,
-    );
+    Ok(())
+}
+
+// Two lists of bytes, and whether their texts are the same.
+const PAIRS: [(&[u8], &[u8], bool); 2] = [(b"a", b"ab", false), (b"ab", b"ab", true)];
+
+#[test]
+fn compared(rt: HostRuntime) -> Result<(), Fail> {
+    for (one, other, want) in &PAIRS {
+        let seen = text(&rt, rt.alloc(), one)? == text(&rt, rt.alloc(), other)?;
+        same(&rt, &(one, other), &seen, want);
+    }
     Ok(())
 }
 
@@ -74,56 +79,53 @@ enum Step {
     Seek(u64),
 }
 
-fn gone_to(reader: &mut Reader<Cursor<&[u8]>>, place: u64) -> io::Result<u64> {
-    reader.seek(SeekFrom::Start(place))
+fn gone_to(reader: &mut Reader<Cursor<&[u8]>>, place: u64) -> Result<u64, ErrorKind> {
+    match reader.seek(SeekFrom::Start(place)) {
+        Ok(place) => Ok(place),
+        Err(error) => Err(error.kind()),
+    }
 }
 
-fn take_step(
-    rt: &impl Abort,
-    alloc: Global,
-    run: &str,
-    step: &Step,
-    reader: &mut Reader<Cursor<&[u8]>>,
-) -> Result<(), Fail> {
+fn take_step(rt: &impl Abort, run: &str, step: &Step, reader: &mut Reader<Cursor<&[u8]>>) {
     match step {
         Step::UpToZero(want) => {
             let answer = next(reader, ());
-            expect_text(rt, alloc, run, step, answer, want)?;
+            expect_text(rt, run, step, answer, want);
         }
         Step::Within(bytes, want) => {
             let answer = next(reader, ByteSize(*bytes));
-            expect_text(rt, alloc, run, step, answer, want)?;
+            expect_text(rt, run, step, answer, want);
         }
-        Step::Byte(want) => same_at(rt, run, step, &next_byte(reader)?, want),
+        Step::Byte(want) => same_at(rt, run, step, &next_byte(reader), &Ok(*want)),
         Step::Number(want) => {
             let answer = next::<u16, Endian>(reader, Big);
-            let want = match want {
-                Ok(number) => Ok(*number),
-                Err(refusal) => Err(refusal.error()),
-            };
-            same_at(rt, run, step, &answer, &want);
+            same_at(rt, run, step, &answer, &number_wanted(want));
         }
         Step::Read(want) => same_at(rt, run, step, &reader.bits_read(), want),
-        Step::Seek(place) => same_at(rt, run, step, &gone_to(reader, *place)?, place),
+        Step::Seek(place) => same_at(rt, run, step, &gone_to(reader, *place), &Ok(*place)),
     }
-    Ok(())
+}
+
+fn number_wanted(want: &Result<u16, Refusal>) -> Result<u16, DekuError> {
+    match want {
+        Ok(number) => Ok(*number),
+        Err(refusal) => Err(refusal.error()),
+    }
 }
 
 // The text of these bytes was read, or it is refused so.
 fn expect_text(
     rt: &impl Abort,
-    alloc: Global,
     run: &str,
     step: &Step,
     answer: Result<CString, DekuError>,
     want: &Answer<u8>,
-) -> Result<(), Fail> {
+) {
     match (answer, want) {
-        (Ok(got), Ok(want)) => same_at(rt, run, step, &got, &text(rt, alloc, want)?),
+        (Ok(got), Ok(want)) => same_at(rt, run, step, &got.as_bytes(), want),
         (Ok(got), Err(_)) => assert!(rt; false, "{run}: {step:?} answers {got:?}"),
-        (Err(refusal), want) => expect_refusal(rt, run, step, refusal, want.as_ref().err())?,
+        (Err(refusal), want) => expect_refusal(rt, run, step, refusal, want.as_ref().err()),
     }
-    Ok(())
 }
 
 const RUNS: [(&str, &[u8], &[Step]); 6] = [
@@ -177,14 +179,16 @@ const RUNS: [(&str, &[u8], &[Step]); 6] = [
 ];
 
 #[test]
-fn from_a_reader(rt: HostRuntime) -> Result<(), Fail> {
+fn from_a_reader(rt: HostRuntime) {
     for (run, bytes, steps) in &RUNS {
-        let mut reader = reader_of(rt.alloc(), bytes);
-        for step in *steps {
-            take_step(&rt, rt.alloc(), run, step, &mut reader)?;
-        }
+        take_steps(&rt, run, &mut reader_of(rt.alloc(), bytes), steps);
     }
-    Ok(())
+}
+
+fn take_steps(rt: &impl Abort, run: &str, reader: &mut Reader<Cursor<&[u8]>>, steps: &[Step]) {
+    for step in steps {
+        take_step(rt, run, step, reader);
+    }
 }
 
 #[test]
@@ -194,8 +198,9 @@ fn written_behind_bits(rt: HostRuntime) -> Result<(), Fail> {
     let mut writer = writer_in(alloc);
     put(&mut writer, &5u8, (BitSize(3), Lsb0))?;
     put(&mut writer, &ab, ())?;
-    expect_bytes(&rt, &"behind bits", writer, &[0x61, 0xAC, 0x40, 0x00])?;
-    expect_written(&rt, alloc, (Big, ByteSize(1)), &ab, &[0x61, 0x62, 0x00])
+    expect_bytes(&rt, &"behind bits", writer, &[0x61, 0xAC, 0x40, 0x00]);
+    expect_written(&rt, alloc, (Big, ByteSize(1)), &ab, &[0x61, 0x62, 0x00]);
+    Ok(())
 }
 
 // The reader has read this text, or no memory was found for a byte that was read: it is behind that byte then.
@@ -203,25 +208,24 @@ fn expect_test_read(
     rt: &impl Abort,
     reader: &mut Reader<Cursor<&[u8]>>,
     answer: Result<CString, DekuError>,
-) -> Result<(), Fail> {
+) {
     let read = reader.bits_read() / 8;
     match answer {
         Ok(test) => same(rt, &"read", &(test.as_bytes(), read), &(b"test", 5)),
         Err(refusal) => same(rt, &"refused", &refusal, &NO_MEMORY),
     }
     assert!(rt; read >= 1 && read <= 5);
-    same(rt, &read, &next_byte(reader)?, &TEST[read]);
-    Ok(())
+    same(rt, &read, &next_byte(reader), &Ok(TEST[read]));
 }
 
 #[test]
-fn read_or_wanting_memory(rt: HostRuntime) -> Result<(), Fail> {
+fn read_or_wanting_memory(rt: HostRuntime) {
     let mut reader = reader_of(rt.alloc(), &TEST);
     let answer = next(&mut reader, ());
-    expect_test_read(&rt, &mut reader, answer)?;
+    expect_test_read(&rt, &mut reader, answer);
     let mut reader = reader_of(rt.alloc(), &TEST);
     let answer = next(&mut reader, ByteSize(5));
-    expect_test_read(&rt, &mut reader, answer)
+    expect_test_read(&rt, &mut reader, answer);
 }
 
 // The bytes and the zero stand in memory of their own, or none is found for them; the text stays.

@@ -14,11 +14,11 @@ use std::test::Fail;
 
 // It moves nothing, whatever its context, and so it does where the reader has stopped.
 #[test]
-fn nothing(rt: HostRuntime) -> Result<(), Fail> {
+fn nothing(rt: HostRuntime) {
     let alloc = rt.alloc();
-    expect_whole(&rt, alloc, (), &[], ())?;
-    expect_whole(&rt, alloc, (Big, BitSize(3)), &[], ())?;
-    expect_whole(&rt, alloc, "any context", &[], ())?;
+    expect_whole(&rt, alloc, (), &[], ());
+    expect_whole(&rt, alloc, (Big, BitSize(3)), &[], ());
+    expect_whole(&rt, alloc, "any context", &[], ());
     let ended = DekuError::Incomplete(NeedSize::new(8));
     let mut reader = reader_of(alloc, &[]);
     for turn in [1, 2] {
@@ -26,17 +26,16 @@ fn nothing(rt: HostRuntime) -> Result<(), Fail> {
         let seen = (byte, next::<(), ()>(&mut reader, ()));
         same(&rt, &turn, &seen, &(Err(ended), Ok(())));
     }
-    Ok(())
 }
 
 #[test]
-fn of_one_to_six(rt: HostRuntime) -> Result<(), Fail> {
+fn of_one_to_six(rt: HostRuntime) {
     let alloc = rt.alloc();
-    expect_whole(&rt, alloc, (), &[1], (1u8,))?;
-    expect_whole(&rt, alloc, (), &[1, 2], (1u8, 2u8))?;
-    expect_whole(&rt, alloc, (), &[1, 2, 3], (1u8, 2u8, 3u8))?;
-    expect_whole(&rt, alloc, (), &[1, 2, 3, 4], (1u8, 2u8, 3u8, 4u8))?;
-    expect_whole(&rt, alloc, (), &[1, 2, 3, 4, 5], (1u8, 2u8, 3u8, 4u8, 5u8))?;
+    expect_whole(&rt, alloc, (), &[1], (1u8,));
+    expect_whole(&rt, alloc, (), &[1, 2], (1u8, 2u8));
+    expect_whole(&rt, alloc, (), &[1, 2, 3], (1u8, 2u8, 3u8));
+    expect_whole(&rt, alloc, (), &[1, 2, 3, 4], (1u8, 2u8, 3u8, 4u8));
+    expect_whole(&rt, alloc, (), &[1, 2, 3, 4, 5], (1u8, 2u8, 3u8, 4u8, 5u8));
     expect_whole(
         &rt,
         alloc,
@@ -83,7 +82,8 @@ impl DekuWriter<()> for Low {
 fn of_records_in_two_orders(rt: HostRuntime) -> Result<(), Fail> {
     let mut writer = writer_in(rt.alloc());
     put(&mut writer, &(High, Low), ())?;
-    expect_bytes(&rt, &"two orders", writer, &[0xB0, 0x01])
+    expect_bytes(&rt, &"two orders", writer, &[0xB0, 0x01]);
+    Ok(())
 }
 
 const SEVEN: (u8, u8, u8, u8, u8, u8, u8) = (1, 2, 3, 4, 5, 6, 7);
@@ -97,18 +97,18 @@ const TEN: (u8, u8, u8, u8, u8, u8, u8, u8, u8, u8) = (1, 2, 3, 4, 5, 6, 7, 8, 9
 const ELEVEN: (u8, u8, u8, u8, u8, u8, u8, u8, u8, u8, u8) = (1, 2, 3, 4, 5, 6, 7, 8, 9, 10, 11);
 
 #[test]
-fn of_seven_to_eleven(rt: HostRuntime) -> Result<(), Fail> {
+fn of_seven_to_eleven(rt: HostRuntime) {
     let alloc = rt.alloc();
-    expect_whole(&rt, alloc, (), &[1, 2, 3, 4, 5, 6, 7], SEVEN)?;
-    expect_whole(&rt, alloc, (), &[1, 2, 3, 4, 5, 6, 7, 8], EIGHT)?;
-    expect_whole(&rt, alloc, (), &[1, 2, 3, 4, 5, 6, 7, 8, 9], NINE)?;
-    expect_whole(&rt, alloc, (), &[1, 2, 3, 4, 5, 6, 7, 8, 9, 10], TEN)?;
-    expect_whole(&rt, alloc, (), &[1, 2, 3, 4, 5, 6, 7, 8, 9, 10, 11], ELEVEN)
+    expect_whole(&rt, alloc, (), &[1, 2, 3, 4, 5, 6, 7], SEVEN);
+    expect_whole(&rt, alloc, (), &[1, 2, 3, 4, 5, 6, 7, 8], EIGHT);
+    expect_whole(&rt, alloc, (), &[1, 2, 3, 4, 5, 6, 7, 8, 9], NINE);
+    expect_whole(&rt, alloc, (), &[1, 2, 3, 4, 5, 6, 7, 8, 9, 10], TEN);
+    expect_whole(&rt, alloc, (), &[1, 2, 3, 4, 5, 6, 7, 8, 9, 10, 11], ELEVEN);
 }
 
 // Items of several types, and tuples in tuples, all under the context of the whole.
 #[test]
-fn of_several_types(rt: HostRuntime) -> Result<(), Fail> {
+fn of_several_types(rt: HostRuntime) {
     let alloc = rt.alloc();
     expect_whole(
         &rt,
@@ -116,33 +116,33 @@ fn of_several_types(rt: HostRuntime) -> Result<(), Fail> {
         (),
         &[0x01, 0x24, 0x98, 0x82, 0x00],
         (true, 0x829824u32),
-    )?;
+    );
     expect_whole(
         &rt,
         alloc,
         Big,
         &[0x01, 0x00, 0x82, 0x98, 0x24],
         (true, 0x829824u32),
-    )?;
+    );
     expect_whole(
         &rt,
         alloc,
         Big,
         &[0x69, 0xBE, 0xEF, 0xFF, 0xFE],
         (0x69u8, (0xBEEFu16, -2i16)),
-    )?;
+    );
     expect_whole(
         &rt,
         alloc,
         Big,
         &[0x69, 0xBE, 0xEF, 0x01],
         ((0x69u8, 0xBEEFu16), ((true,),)),
-    )
+    );
 }
 
 // So under the contexts that have a size.
 #[test]
-fn of_several_sizes(rt: HostRuntime) -> Result<(), Fail> {
+fn of_several_sizes(rt: HostRuntime) {
     let alloc = rt.alloc();
     expect_whole(
         &rt,
@@ -150,26 +150,26 @@ fn of_several_sizes(rt: HostRuntime) -> Result<(), Fail> {
         ByteSize(1),
         &[1, 2, 3, 4],
         (1u16, (), (2u32, 3u64, 4u128)),
-    )?;
+    );
     expect_whole(
         &rt,
         alloc,
         (Little, BitSize(2)),
         &[0x1B],
         (0u8, 1u16, 2u32, 3u64),
-    )?;
+    );
     expect_whole(
         &rt,
         alloc,
         (BitSize(2), Lsb0),
         &[0xE4],
         (0u8, (1u16, (2u32, 3u64))),
-    )
+    );
 }
 
 // What comes before a refused item stays moved.
 #[test]
-fn part_of_a_tuple(rt: HostRuntime) -> Result<(), Fail> {
+fn part_of_a_tuple(rt: HostRuntime) {
     let alloc = rt.alloc();
     let untrue = DekuError::Parse("cannot parse bool value");
     expect_denied::<(u8, bool, u8), ()>(&rt, alloc, (), &[1, 2, 3], (untrue, 16, 3));
@@ -183,5 +183,5 @@ fn part_of_a_tuple(rt: HostRuntime) -> Result<(), Fail> {
         &(answer, writer.bits_written()),
         &(Err(MISFIT), 8),
     );
-    expect_written(&rt, alloc, four, &(5u8, 6u8, 7u8), &[0x56, 0x70])
+    expect_written(&rt, alloc, four, &(5u8, 6u8, 7u8), &[0x56, 0x70]);
 }

@@ -1,7 +1,7 @@
 //! Reads over a source that fails in the middle, and how often it is asked for bytes and for seeks.
 
 use crate::same::{FAILED, same};
-use crate::taken::{Left, Step, take_steps};
+use crate::taken::{Left, Step, handed, walk_steps};
 use deku_bits::ctx::Order::{Lsb0, Msb0};
 use deku_bits::device::Source;
 use deku_bits::reader::Reader;
@@ -72,8 +72,8 @@ type Fault = (
     u64,
 );
 
-// A case shows what it says.
-fn expect_fault(rt: &impl Abort, alloc: Global, at: usize, case: &Fault) -> Result<(), Fail> {
+// A case shows what it says. It answers whether memory was refused.
+fn expect_fault(rt: &impl Abort, alloc: Global, at: usize, case: &Fault) -> bool {
     let (bytes, good, first, more, then, fetches, seeks, place) = case;
     let failing = Failing {
         bytes: Cursor::new(*bytes),
@@ -82,14 +82,13 @@ fn expect_fault(rt: &impl Abort, alloc: Global, at: usize, case: &Fault) -> Resu
         seeks: 0,
     };
     let mut reader = Reader::new(alloc, failing);
-    take_steps(rt, at, &mut reader, first)?;
+    let mut lacks = walk_steps(rt, at, &mut reader, first);
     reader.as_mut().good = *more;
-    take_steps(rt, at.saturating_add(100), &mut reader, then)?;
+    lacks = walk_steps(rt, at.saturating_add(100), &mut reader, then) || lacks;
     let source = reader.into_inner();
-    let counts = (source.fetches, source.seeks);
-    same(rt, (at, 1000), &counts, &(*fetches, *seeks));
-    same(rt, (at, 1001), &source.bytes.position(), place);
-    Ok(())
+    let seen = (source.fetches, source.seeks, source.bytes.position());
+    same(rt, (at, 1000), &seen, &(*fetches, *seeks, *place));
+    lacks
 }
 
 const FAULTS: [Fault; 4] = [
@@ -174,10 +173,11 @@ const FAULTS: [Fault; 4] = [
 
 #[test]
 fn keeps_a_fault_until_a_seek(rt: HostRuntime) -> Result<(), Fail> {
+    let mut lacking = false;
     for (at, case) in FAULTS.iter().enumerate() {
-        expect_fault(&rt, rt.alloc(), at, case)?;
+        lacking = expect_fault(&rt, rt.alloc(), at, case) || lacking;
     }
-    Ok(())
+    handed(lacking)
 }
 
 const BYTES: [u8; 17] = [
@@ -214,19 +214,26 @@ const FETCHES: [(&[Step], usize); 9] = [
     ),
 ];
 
+// The steps show what they say; whether memory was refused, and how many fetches they make.
+fn count_fetches(rt: &impl Abort, alloc: Global, case: usize, steps: &[Step]) -> (bool, usize) {
+    let counting = Failing {
+        bytes: Cursor::new(BYTES.as_slice()),
+        good: 17,
+        fetches: 0,
+        seeks: 0,
+    };
+    let mut reader = Reader::new(alloc, counting);
+    let lacks = walk_steps(rt, case, &mut reader, steps);
+    (lacks, reader.into_inner().fetches)
+}
+
 #[test]
 fn fetches_a_run_of_bytes_at_once(rt: HostRuntime) -> Result<(), Fail> {
+    let mut lacking = false;
     for (case, (steps, fetches)) in FETCHES.iter().enumerate() {
-        let counting = Failing {
-            bytes: Cursor::new(BYTES.as_slice()),
-            good: 17,
-            fetches: 0,
-            seeks: 0,
-        };
-        let mut reader = Reader::new(rt.alloc(), counting);
-        take_steps(&rt, case, &mut reader, steps)?;
-        let row = (case, steps.len());
-        same(&rt, row, &reader.into_inner().fetches, fetches);
+        let (lacks, seen) = count_fetches(&rt, rt.alloc(), case, steps);
+        same(&rt, (case, steps.len()), &seen, fetches);
+        lacking = lacks || lacking;
     }
-    Ok(())
+    handed(lacking)
 }

@@ -55,6 +55,30 @@ fn slow_words(rt: &impl Abort, bytes: &[u8], start: Start, n: usize, order: Orde
     (word_of(&met[..n], order), word_of(&rest[..behind], order))
 }
 
+// So many bits are read over.
+fn pass<R: Source>(rt: &impl Abort, reader: &mut Reader<R>, n: usize, order: Order) {
+    assert!(rt; n <= 128);
+    assert!(rt; reader.read_word(n, order).is_ok(), "{n} bits");
+}
+
+// The words of so many bits, and of so many more.
+fn two_words<R: Source>(
+    rt: &impl Abort,
+    reader: &mut Reader<R>,
+    n: usize,
+    behind: usize,
+    order: Order,
+) -> Result<Words, DekuError> {
+    assert!(rt; n <= 64 && behind <= 8);
+    match reader.read_word(n, order) {
+        Ok(word) => match reader.read_word(behind, order) {
+            Ok(rest) => Ok((word, rest)),
+            Err(error) => Err(error),
+        },
+        Err(error) => Err(error),
+    }
+}
+
 // The words as a reader over any source answers them.
 fn words_of<R: Source + Drop>(
     rt: &impl Abort,
@@ -66,18 +90,14 @@ fn words_of<R: Source + Drop>(
 ) -> Result<Words, DekuError> {
     let mut reader = Reader::new(alloc, source);
     let behind = spare(start, n);
-    assert!(rt; start.bytes <= 16 && start.offset <= 8 && n <= 64 && behind <= 8);
-    reader.read_word(8 * start.bytes, start.order)?;
-    reader.read_word(start.offset, start.order)?;
-    let word = reader.read_word(n, order)?;
-    let rest = reader.read_word(behind, order)?;
-    same(
-        rt,
-        (start.bytes, n),
-        &reader.bits_read(),
-        &start.bits().wrapping_add(n).wrapping_add(behind),
-    );
-    Ok((word, rest))
+    pass(rt, &mut reader, start.bytes.wrapping_mul(8), start.order);
+    pass(rt, &mut reader, start.offset, start.order);
+    let words = two_words(rt, &mut reader, n, behind, order);
+    if words.is_ok() {
+        let want = start.bits().wrapping_add(n).wrapping_add(behind);
+        same(rt, (start.bytes, n), &reader.bits_read(), &want);
+    }
+    words
 }
 
 // A cursor, a source that gives one byte at a time and one that gives them by calls answer the same.
@@ -94,20 +114,13 @@ fn expect_words(
     } else {
         Err(Refusal::Ended(n))
     };
-    let row = (start.bits(), n);
+    let want = wanted(&want);
     let at_hand = words_of(rt, alloc, Cursor::new(bytes), start, n, order);
-    same(rt, row, &at_hand, &wanted(&want));
     let fetched = words_of(rt, alloc, Trickle::new(bytes), start, n, order);
-    same(rt, row, &fetched, &wanted(&want));
-    let called = words_of(
-        rt,
-        alloc,
-        FailAt::new(Cursor::new(bytes), 0),
-        start,
-        n,
-        order,
-    );
-    same(rt, row, &called, &wanted(&want));
+    let never = FailAt::new(Cursor::new(bytes), 0);
+    let called = words_of(rt, alloc, never, start, n, order);
+    let row = (start.bits(), n);
+    same(rt, row, &(at_hand, fetched, called), &(want, want, want));
 }
 
 // Words of 1 to 64 bits in both orders, behind 0 to 7 bits of a byte.

@@ -5,7 +5,7 @@ use crate::same::same;
 use crate::taken::{Case, Left, Step, take_tables};
 use deku_bits::ctx::Order;
 use deku_bits::ctx::Order::{Lsb0, Msb0};
-use deku_bits::error::DekuError;
+use deku_bits::device::Source;
 use deku_bits::reader::Reader;
 use std::alloc::Global;
 use std::io::Cursor;
@@ -48,48 +48,68 @@ struct Start {
     looks: bool,
 }
 
-// A reader that has read so many bits, or looked for the end.
-fn started<'a>(
-    rt: &impl Abort,
-    alloc: Global,
-    bytes: &'a [u8],
-    start: Start,
-) -> Result<Reader<Cursor<&'a [u8]>>, DekuError> {
-    let mut reader = Reader::new(alloc, Cursor::new(bytes));
+// A reader looks for the end, or reads so many bits.
+fn begin<R: Source>(rt: &impl Abort, reader: &mut Reader<R>, start: Start) {
     let mut front = [false; 8];
     assert!(rt; start.offset <= 8);
     if start.looks {
-        same(rt, (0, 0), &reader.end()?, &false);
+        same(rt, (0, 0), &reader.end(), &Ok(false));
     }
-    reader.read_bits_into(&mut front[..start.offset], start.order)?;
-    Ok(reader)
+    let answer = reader.read_bits_into(&mut front[..start.offset], start.order);
+    same(rt, (0, start.offset), &answer, &Ok(()));
 }
 
-// A word of n bits is that of the bits that are met, and of those that a read of as many bits shows.
-fn expect_word(
-    rt: &impl Abort,
-    alloc: Global,
-    bytes: &[u8],
-    start: Start,
-    n: usize,
-    order: Order,
-) -> Result<(), Fail> {
+// The word of the bits that are met.
+fn slow_word(rt: &impl Abort, bytes: &[u8], start: Start, n: usize, order: Order) -> u128 {
     let mut slow = Slow::new();
     let mut front = [false; 8];
     let mut met = [false; 128];
     assert!(rt; start.offset <= 8 && n <= 128);
     slow.take(rt, bytes, start.order, &mut front[..start.offset]);
     slow.take(rt, bytes, order, &mut met[..n]);
-    let row = (start.offset, n);
-    let want = word_of(&met[..n], order);
-    let (word, count, place) = read_as_word(rt, alloc, bytes, start, n, order)?;
-    same(rt, row, &(word, count), &(want, start.offset + n));
-    let shown = read_as_bits(rt, alloc, bytes, start, n, order)?;
-    same(rt, row, &shown, &(want, place));
-    Ok(())
+    word_of(&met[..n], order)
 }
 
-// The word, how many bits are read then, and where the source stands.
+// A word of n bits is that of the bits that are met, and of those that a read of as many bits shows.
+fn expect_word(rt: &impl Abort, alloc: Global, bytes: &[u8], start: Start, n: usize, order: Order) {
+    let row = (start.offset, n);
+    let want = slow_word(rt, bytes, start, n, order);
+    let read = read_as_word(rt, alloc, bytes, start, n, order);
+    let seen = (read.0, read.1);
+    same(rt, row, &seen, &(Some(want), start.offset.wrapping_add(n)));
+    let shown = read_as_bits(rt, alloc, bytes, start, n, order);
+    same(rt, row, &shown, &read);
+}
+
+fn next_word<R: Source>(
+    rt: &impl Abort,
+    reader: &mut Reader<R>,
+    n: usize,
+    order: Order,
+) -> Option<u128> {
+    assert!(rt; n <= 128);
+    reader.read_word(n, order).ok()
+}
+
+// The word of the bits that are shown.
+fn shown_word<R: Source>(
+    rt: &impl Abort,
+    reader: &mut Reader<R>,
+    n: usize,
+    order: Order,
+) -> Option<u128> {
+    let mut shown = [false; 128];
+    assert!(rt; n <= 128);
+    if reader.read_bits_into(&mut shown[..n], order).is_err() {
+        return None;
+    }
+    turn(&mut shown[..n], order);
+    Some(word_of(&shown[..n], order))
+}
+
+// The word, where it is read, how many bits are read then, and where the source stands.
+type Read = (Option<u128>, usize, u64);
+
 fn read_as_word(
     rt: &impl Abort,
     alloc: Global,
@@ -97,15 +117,14 @@ fn read_as_word(
     start: Start,
     n: usize,
     order: Order,
-) -> Result<(u128, usize, u64), DekuError> {
-    assert!(rt; n <= 128);
-    let mut reader = started(rt, alloc, bytes, start)?;
-    let word = reader.read_word(n, order)?;
+) -> Read {
+    let mut reader = Reader::new(alloc, Cursor::new(bytes));
+    begin(rt, &mut reader, start);
+    let word = next_word(rt, &mut reader, n, order);
     let count = reader.bits_read();
-    Ok((word, count, reader.into_inner().position()))
+    (word, count, reader.into_inner().position())
 }
 
-// The word of the bits that are shown, and where the source stands.
 fn read_as_bits(
     rt: &impl Abort,
     alloc: Global,
@@ -113,49 +132,44 @@ fn read_as_bits(
     start: Start,
     n: usize,
     order: Order,
-) -> Result<(u128, u64), DekuError> {
-    assert!(rt; n <= 128);
-    let mut shown = [false; 128];
-    let mut reader = started(rt, alloc, bytes, start)?;
-    reader.read_bits_into(&mut shown[..n], order)?;
-    turn(&mut shown[..n], order);
-    let word = word_of(&shown[..n], order);
-    Ok((word, reader.into_inner().position()))
+) -> Read {
+    let mut reader = Reader::new(alloc, Cursor::new(bytes));
+    begin(rt, &mut reader, start);
+    let word = shown_word(rt, &mut reader, n, order);
+    let count = reader.bits_read();
+    (word, count, reader.into_inner().position())
 }
 
 // Words of all widths in both orders, behind these bits.
-fn expect_words(rt: &impl Abort, alloc: Global, bytes: &[u8], start: Start) -> Result<(), Fail> {
+fn expect_words(rt: &impl Abort, alloc: Global, bytes: &[u8], start: Start) {
     for n in 0..=128 {
         for order in ORDERS {
-            expect_word(rt, alloc, bytes, start, n, order)?;
+            expect_word(rt, alloc, bytes, start, n, order);
         }
     }
-    Ok(())
 }
 
 // Words of these bytes, behind each offset, and behind a look for the end.
-fn expect_sample(rt: &impl Abort, alloc: Global, bytes: &[u8]) -> Result<(), Fail> {
+fn expect_sample(rt: &impl Abort, alloc: Global, bytes: &[u8]) {
     let mut start = Start {
         offset: 0,
         order: Msb0,
         looks: true,
     };
-    expect_words(rt, alloc, bytes, start)?;
+    expect_words(rt, alloc, bytes, start);
     start.looks = false;
     for offset in 0..8 {
         for order in ORDERS {
             start.offset = offset;
             start.order = order;
-            expect_words(rt, alloc, bytes, start)?;
+            expect_words(rt, alloc, bytes, start);
         }
     }
-    Ok(())
 }
 
 #[test]
-fn reads_words_of_each_width(rt: HostRuntime) -> Result<(), Fail> {
+fn reads_words_of_each_width(rt: HostRuntime) {
     for bytes in samples() {
-        expect_sample(&rt, rt.alloc(), &bytes)?;
+        expect_sample(&rt, rt.alloc(), &bytes);
     }
-    Ok(())
 }

@@ -1,14 +1,12 @@
 //! Runs of bytes behind a partly read byte.
 
 use super::slow::{ORDERS, Slow, samples, word_of};
-use crate::same::same_bytes;
+use crate::same::same;
 use deku_bits::ctx::Order;
-use deku_bits::error::DekuError;
 use deku_bits::reader::Reader;
 use std::alloc::Global;
 use std::io::Cursor;
 use std::process::Abort;
-use std::test::Fail;
 
 // Around the eight bytes that are turned at a time.
 const LENGTHS: [usize; 5] = [7, 8, 9, 16, 17];
@@ -32,7 +30,7 @@ fn met_run(
     }
 }
 
-// The bytes that a reader reads behind so many bits of the first order.
+// The bytes that a reader reads behind so many bits of the first order, and whether it reads them.
 fn read_run(
     rt: &impl Abort,
     alloc: Global,
@@ -41,13 +39,12 @@ fn read_run(
     first: Order,
     run: &mut [u8],
     order: Order,
-) -> Result<(), DekuError> {
+) -> bool {
     let mut front = [false; 8];
     assert!(rt; offset <= 8);
     let mut reader = Reader::new(alloc, Cursor::new(bytes));
-    reader.read_bits_into(&mut front[..offset], first)?;
-    reader.read_bytes(run.len(), run, order)?;
-    Ok(())
+    reader.read_bits_into(&mut front[..offset], first).is_ok()
+        && reader.read_bytes(run.len(), run, order).is_ok()
 }
 
 // A run of n bytes is that of the bits that are met.
@@ -59,48 +56,38 @@ fn expect_run(
     first: Order,
     n: usize,
     order: Order,
-) -> Result<(), Fail> {
+) {
     let mut want = [0; 17];
     let mut got = [0; 17];
     assert!(rt; n <= 17);
     met_run(rt, bytes, offset, first, &mut want[..n], order);
-    read_run(rt, alloc, bytes, offset, first, &mut got[..n], order)?;
-    same_bytes(rt, (offset, n), &got, &want);
-    Ok(())
+    let is_read = read_run(rt, alloc, bytes, offset, first, &mut got[..n], order);
+    same(rt, (offset, n), &(is_read, got), &(true, want));
 }
 
 // Runs of each length in both orders, behind these bits.
-fn expect_runs(
-    rt: &impl Abort,
-    alloc: Global,
-    bytes: &[u8],
-    offset: usize,
-    first: Order,
-) -> Result<(), Fail> {
+fn expect_runs(rt: &impl Abort, alloc: Global, bytes: &[u8], offset: usize, first: Order) {
     for n in LENGTHS {
         for order in ORDERS {
-            expect_run(rt, alloc, bytes, offset, first, n, order)?;
+            expect_run(rt, alloc, bytes, offset, first, n, order);
         }
     }
-    Ok(())
 }
 
 // Runs of these bytes and one more, behind each offset.
-fn expect_sample(rt: &impl Abort, alloc: Global, sample: &[u8; 17]) -> Result<(), Fail> {
+fn expect_sample(rt: &impl Abort, alloc: Global, sample: &[u8; 17]) {
     let mut bytes = [0xA6; 18];
     bytes[..17].copy_from_slice(sample);
     for offset in 1..8 {
         for first in ORDERS {
-            expect_runs(rt, alloc, &bytes, offset, first)?;
+            expect_runs(rt, alloc, &bytes, offset, first);
         }
     }
-    Ok(())
 }
 
 #[test]
-fn reads_runs_of_bytes_behind_bits(rt: HostRuntime) -> Result<(), Fail> {
+fn reads_runs_of_bytes_behind_bits(rt: HostRuntime) {
     for bytes in samples() {
-        expect_sample(&rt, rt.alloc(), &bytes)?;
+        expect_sample(&rt, rt.alloc(), &bytes);
     }
-    Ok(())
 }
