@@ -81,11 +81,6 @@ module _ (from to : Order) (h hs bits : List Bool) (out : List ℕ) (less : leng
   pub onto_rest : length hs ≡ (length h + length bits) % 8
   onto_rest = omega (arith, onto_all, f.short)
 
--- how many bits are held where a sink took the bytes
-pub pushed_rest : (a b : SinkTold) (from to : Order) (h hs bits : List Bool) → length h < 8 → PushedOnto a b from to h hs bits → length hs ≡ (length h + length bits) % 8
-pushed_rest a b from to h hs bits less p =
-    onto_rest from to h hs bits (append to bits (held from h)).bytes less (record { bytes = refl; rest = p.rest; short = p.short })
-
 -- ---- bits that went out to room that has enough of it
 front_again : (n : ℕ) (xs : List ℕ) → take (length (take n xs)) xs ≡ take n xs
 front_again zero xs = refl

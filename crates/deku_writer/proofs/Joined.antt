@@ -1,8 +1,8 @@
 -- A word and the bits in front of it as one number of at most 64 bits, and the bytes of that number.
 use Rattle.std.proofs.Common.{◌≡◌, ℕ, zero, suc, ◌+◌, ◌*◌, ◌-◌, ◌/◌, ◌%◌, ◌^◌, ◌<◌, ◌≤◌, Bool, List, [], ◌∷◌, ◌++◌, reverse, length, take, drop, All, arith, refl, sym, ap, ap₂, ◌∙◌, append_assoc, mod-lt, take-append-drop, subst}
-use Rattle.std.proofs.Math.Pow.{pow_mono, mod-mod-pow}
+use Rattle.std.proofs.Math.Pow.{pow_mono}
 use Rattle.std.proofs.Math.Nat.{pow-suc}
-use Rattle.std.proofs.lemmas.Nat.{shr-shr, shr_below, shr_split, shl_below, shl_whole, pow-add, pow_pos, mod-mul-add, be_bytes_8}
+use Rattle.std.proofs.lemmas.Nat.{shr-shr, shr_below, shl_whole, pow-add, pow_pos, be_bytes_8}
 use Rattle.std.proofs.lemmas.List.{take_at, reverse-append, length-take-le}
 use Rattle.std.proofs.lemmas.List.Elements.{All-nil, All-cons, All-head, All-tail}
 use Rattle.std.specs.Int.{w64, w128, to_le_bytes, to_be_bytes, swap_bytes, byte_at, bytes_low_first, bytes_high_first}
@@ -196,6 +196,13 @@ fills_whole Msb0 [] n w none whole = fills_bytes Msb0 [] [] (word_bits Msb0 n w)
 fills_whole Lsb0 [] n w none whole = fills_bytes Lsb0 [] [] (word_bits Lsb0 n w) (low_bytes (n / 8) w) (whole_word Lsb0 n w whole) (small_low (n / 8) w) (omega arith)
 fills_whole o (x ∷ h) n w none whole = absurd (omega arith)
 
+-- whole bytes of a number from the highest down, where nothing is held
+pub fills_high : (n k last : ℕ) (out : List ℕ) → n % 8 ≡ 0 → facing Msb0 (bits_of n k) ≡ flow Msb0 out ++ facing Msb0 (bits_of (n % 8) last) → All IsByte out → Fills Msb0 [] [] (bits_of n k) out
+unfolding bits_of
+fills_high n k last out whole e small =
+    let none : bits_of n k ≡ flow Msb0 out ++ [] = e ∙ ap (λ r. flow Msb0 out ++ bits_of r last) whole in
+    fills_bytes Msb0 [] [] (bits_of n k) out none small (omega arith)
+
 -- ---- as the code shifts
 -- a word's number
 module _ (n w x : ℕ) (most : n ≤ 64) (inside : w < 2 ^ n) (wide : x < 2 ^ 64) where
@@ -227,51 +234,3 @@ fits_word v n h l = let p : 2 ^ n ≤ 2 ^ 64 = pow_mono {i = n} {j = 64} l in om
 pub none_in_front : (a n first number : ℕ) (s : List Bool) → a ≡ 0 → bits_of n number ≡ s → bits_of (a + n) number ≡ bits_of a first ++ s
 unfolding bits_of
 none_in_front a n first number s e m = let z : 0 + n ≡ n = omega arith in rw (e, z) m
-
--- ---- numbers of which only the lowest bits count
--- of the low bits of 64, shifted up
-low_shifted : (v b : ℕ) → b ≤ 64 → v * 2 ^ (64 - b) % 2 ^ 64 ≡ v % 2 ^ b * 2 ^ (64 - b)
-low_shifted v b few =
-    let a : ℕ = 64 - b in
-    let all : b + a ≡ 64 = omega arith in
-    let whole : 2 ^ b * 2 ^ a ≡ 2 ^ 64 = sym (pow-add 2 b a) ∙ ap (λ k. 2 ^ k) all in
-    let parts : v * 2 ^ a ≡ v / 2 ^ b * 2 ^ 64 + v % 2 ^ b * 2 ^ a =
-    ap (λ x. x * 2 ^ a) (sym (shr_split v b)) ∙ spread (v / 2 ^ b) (2 ^ b) (v % 2 ^ b) (2 ^ a) ∙ ap (λ x. v / 2 ^ b * x + v % 2 ^ b * 2 ^ a) whole in
-    let small : v % 2 ^ b * 2 ^ a < 2 ^ 64 = subst (λ k. v % 2 ^ b * 2 ^ a < 2 ^ k) all (shl_below (v % 2 ^ b) b a (mod-lt v (pow_pos b))) in
-    ap (λ x. x % 2 ^ 64) parts ∙ mod-mul-add (v / 2 ^ b) (2 ^ 64) (v % 2 ^ b * 2 ^ a) small
-  where
-    spread : (x p y q : ℕ) → (x * p + y) * q ≡ x * (p * q) + y * q
-    spread x p y q = omega arith
-
--- the lowest bits, where more of them are kept
-lowest : (k m v : ℕ) → k ≤ m → bits_of k (v % 2 ^ m) ≡ bits_of k v
-lowest k m v l =
-    let e : m - k + k ≡ m = omega arith in
-    let same : v % 2 ^ m % 2 ^ k ≡ v % 2 ^ k = subst (λ i. v % 2 ^ i % 2 ^ k ≡ v % 2 ^ k) e (mod-mod-pow v (m - k) k) in
-    sym (bits_of-low k (v % 2 ^ m)) ∙ ap (bits_of k) same ∙ bits_of-low k v
-
-module _ (a n first number : ℕ) (some : 0 < n) (most : a + n ≤ 64) (inside : number < 2 ^ n) (short : n < 64) where
-  pushed_up : first * 2 ^ n % 2 ^ 64 ≡ first % 2 ^ (64 - n) * 2 ^ n
-  pushed_up = let e : 64 - (64 - n) ≡ n = omega arith in subst (λ k. first * 2 ^ k % 2 ^ 64 ≡ first % 2 ^ (64 - n) * 2 ^ k) e (low_shifted first (64 - n) (omega arith))
-
-  pub joined_fits : first * 2 ^ n % 2 ^ 64 + number < 2 ^ 64
-  joined_fits =
-      let e : 64 - n + n ≡ 64 = omega arith in
-      rw pushed_up (subst (λ k. first % 2 ^ (64 - n) * 2 ^ n + number < 2 ^ k) e (joined_below (64 - n) n (first % 2 ^ (64 - n)) number (mod-lt first (pow_pos (64 - n))) inside))
-
-  pub joined_bits : bits_of (a + n) (first * 2 ^ n % 2 ^ 64 + number) ≡ bits_of a first ++ bits_of n number
-  joined_bits =
-      rw pushed_up (sym (bits_of-join a n (first % 2 ^ (64 - n)) number inside) ∙ ap (λ s. s ++ bits_of n number) (lowest a (64 - n) first (omega arith)))
-
--- where 64 come behind none
-pub joined_none : (a n first number : ℕ) → a + n ≤ 64 → n ≡ 64 → bits_of (a + n) number ≡ bits_of a first ++ bits_of n number
-joined_none a n first number most all = none_in_front a n first number (bits_of n number) (omega (arith, most, all)) refl
-
-pub cut_lowest : (n v : ℕ) → 0 < n → n ≤ 64
-    → bits_of n v ≡ flow Msb0 (take (n / 8) (to_be_bytes w64 (v * 2 ^ (64 - n) % 2 ^ 64))) ++ bits_of (n % 8) v
-cut_lowest n v some most =
-    let r : ℕ = n % 8 in
-    let u : ℕ = v % 2 ^ n in
-    let cut = cut_high n u some most (mod-lt v (pow_pos n)) in
-    rw (low_shifted v n most)
-    (sym (bits_of-low n v) ∙ cut ∙ ap (λ s. flow Msb0 (take (n / 8) (to_be_bytes w64 (u * 2 ^ (64 - n)))) ++ s) (bits_of-low r u ∙ lowest r n v (omega arith)))

@@ -9,4 +9,3 @@ pub mod WholeBytes
 pub mod Joined
 pub mod LongWords
 pub mod Filling
-pub mod Keeps

@@ -12,5 +12,4 @@ pub use Rattle.deku_stream.specs.Faults
 pub use Rattle.deku_stream.specs.Kept
 pub use Rattle.deku_stream.specs.Moving
 pub mod Pushing
-pub mod Keeping
 pub mod WriterCalls

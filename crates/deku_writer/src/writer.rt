@@ -13,8 +13,8 @@ ghost use Rattle.deku_writer.specs.WriterCalls.{Writes, WritesAt, WritesBits, Wr
 
 mod bytes;
 mod held;
+mod high;
 mod joined;
-mod kept;
 mod pushing;
 mod seek;
 mod way;
@@ -22,13 +22,13 @@ mod words;
 
 use self::bytes::push_bytes_onto;
 use self::held::Held;
-use self::kept::Kept;
+use self::high::lay_high;
 use self::pushing::push_onto;
 use self::words::push_word_onto;
 use deku_device::device::Sink;
 use deku_stream::bounded::BoundedBitVec;
 use deku_stream::ctx::Order;
-use deku_stream::error::DekuError;
+use deku_stream::error::{DekuError, Fault};
 use std::alloc::Global;
 use std::io::ErrorKind;
 use std::marker::Model;
@@ -54,7 +54,10 @@ pub struct Writer<W> {
 /// How far a writer has come.
 #[derive(Drop)]
 pub struct Progress {
-    kept: Kept,
+    held: Held,
+    order: Order,
+    bits_written: usize,
+    fault: Option<Fault>,
 }
 
 impl Model for Progress {
@@ -65,9 +68,9 @@ impl Model for Progress {
 
     ghost Value = { Standing Pending };
 
-    ghost view = { λ a. standing_of (pending_in a.kept.order a.kept.held) a.kept.fault a.kept.count };
+    ghost view = { λ a. standing_of (pending_in a.order a.held) a.fault a.bits_written };
 
-    ghost invariant = { λ a. length a.kept.held < 8 };
+    ghost invariant = { λ a. length a.held < 8 };
 }
 
 impl<W: Sink> Writer<W> {
@@ -79,7 +82,7 @@ impl<W: Sink> Writer<W> {
     {
         Writer {
             sink: inner,
-            state: Progress::new(),
+            state: Progress::going(0),
         }
     }
 
@@ -230,35 +233,37 @@ impl<W: Sink> Writer<W> {
 }
 
 impl Progress {
-    // Nothing is written.
+    // So many bits are written, and nothing is pending.
     #[inline(always)]
-    fn new() -> Progress
-        ensures { result ≡ Going Nothing 0 }
+    fn going(bits_written: usize) -> Progress
+        ensures { result ≡ Going Nothing bits_written }
     {
-        Progress { kept: Kept::new() }
+        Progress {
+            held: Held::new(),
+            order: Order::Msb0,
+            bits_written,
+            fault: None,
+        }
     }
 
-    // It goes on with its count, and nothing is pending.
+    // Stopped by this fault of the sink, with this count: nothing is pending.
     #[inline(always)]
-    pub(crate) fn restart(&mut self)
-        ensures { self.new ≡ Going Nothing (count_of self.old) }
+    fn stopped(kind: ErrorKind, count: usize) -> Progress
+        ensures { result ≡ Stopped (Io kind) count }
     {
-        self.kept.restart();
-    }
-
-    // It has stopped by this fault of the sink, with its count: nothing is pending.
-    #[inline(always)]
-    pub(crate) fn stop(&mut self, kind: ErrorKind)
-        ensures { self.new ≡ Stopped (Io kind) (count_of self.old) }
-    {
-        self.kept.stop(kind);
+        Progress {
+            held: Held::new(),
+            order: Order::Msb0,
+            bits_written: count,
+            fault: Some(Fault::Io(kind)),
+        }
     }
 
     #[inline(always)]
     fn bits_written(&self) -> usize
         ensures { result ≡ count_of self.now }
     {
-        self.kept.count()
+        self.bits_written
     }
 
     // The pending bits, highest first.
@@ -267,20 +272,20 @@ impl Progress {
         ensures few { length result < 8 }
         ensures nothing { length result ≡ 0 → pending_of self.now ≡ Nothing }
     {
-        if self.kept.fault().is_some() {
+        if self.fault.is_some() {
             return Held::new();
         }
-        self.kept.held()
+        self.held.copy()
     }
 
     // The order of the pending bits.
     fn pending_order(&self) -> Order
         ensures { result ≡ order_of (pending_of self.now) }
     {
-        if self.kept.fault().is_some() || self.kept.len() == 0 {
+        if self.fault.is_some() || self.held.len() == 0 {
             return Order::Msb0;
         }
-        self.kept.order()
+        self.order
     }
 
     // Writes the bits to this sink.
@@ -288,23 +293,24 @@ impl Progress {
         ensures writes { WritesAt (WritesBits order bits.now) (W.told sink.old) self.old result (W.told sink.new) self.new }
         ensures stopped { Untouched self.old sink.old sink.new }
     {
-        if let Some(fault) = self.kept.fault() {
+        if let Some(fault) = self.fault {
             return Err(fault.error());
         }
         if bits.is_empty() {
             return Ok(());
         }
-        if !self.kept.has_room(bits.len()) {
+        let bytes = whole_bytes(self.held.len(), bits.len());
+        if bytes > (usize::MAX - self.bits_written) / 8 {
             return Err(DekuError::InvalidParam("count past usize"));
         }
-        let mut held = self.kept.held();
-        match push_onto(sink, &mut held, self.kept.order(), order, bits) {
+        match push_onto(sink, &mut self.held, self.order, order, bits) {
             Ok(()) => {
-                self.kept.follow(held, bits.len(), order);
+                self.order = order;
+                self.bits_written += 8 * bytes;
                 Ok(())
             }
             Err(kind) => {
-                self.kept.stop(kind);
+                *self = Progress::stopped(kind, self.bits_written);
                 Err(DekuError::Io(kind))
             }
         }
@@ -315,23 +321,23 @@ impl Progress {
         ensures writes { WritesAt (WritesBits Msb0 (bits_in bytes.now)) (W.told sink.old) self.old result (W.told sink.new) self.new }
         ensures stopped { Untouched self.old sink.old sink.new }
     {
-        if let Some(kept) = self.kept.fault() {
+        if let Some(kept) = self.fault {
             return Err(kept.error());
         }
         if bytes.is_empty() {
             return Ok(());
         }
-        if !self.kept.has_room_for_bytes(bytes.len()) {
+        if bytes.len() > (usize::MAX - self.bits_written) / 8 {
             return Err(DekuError::InvalidParam("count past usize"));
         }
-        let mut held = self.kept.held();
-        match push_bytes_onto(sink, &mut held, self.kept.order(), bytes) {
+        match push_bytes_onto(sink, &mut self.held, self.order, bytes) {
             Ok(()) => {
-                self.kept.follow(held, 8 * bytes.len(), Order::Msb0);
+                self.order = Order::Msb0;
+                self.bits_written += 8 * bytes.len();
                 Ok(())
             }
             Err(kind) => {
-                self.kept.stop(kind);
+                *self = Progress::stopped(kind, self.bits_written);
                 Err(DekuError::Io(kind))
             }
         }
@@ -351,69 +357,24 @@ impl Progress {
         ensures writes { WritesAt (WritesWord order n word) (W.told sink.old) self.old result (W.told sink.new) self.new }
         ensures stopped { Untouched self.old sink.old sink.new }
     {
-        if 0 < n && n <= 57 && self.word_laid(sink, word as u64, n, order) {
-            return Ok(());
-        }
-        self.push_word(sink, word, n, order)
-    }
-
-    // Writes a word of at most 57 bits to this sink, where nothing refuses them, their order is that of the pending bits, and they are laid, and whether
-    // it did.
-    #[inline(always)]
-    fn word_laid<W: Sink>(&mut self, sink: &mut W, word: u64, n: usize, order: Order) -> bool
-        requires some { 0 < n }
-        requires most { n ≤ 57 }
-        requires inside { word < 2 ^ n }
-        ensures writes { IsTrue result → WritesAt (WritesWord order n word) (W.told sink.old) self.old (Ok tt) (W.told sink.new) self.new }
-        ensures stays { IsFalse result → (self.new ≡ self.old) × (sink.new ≡ sink.old) }
-        ensures stopped { Untouched self.old sink.old sink.new }
-    {
-        if !self.kept.goes_on(order) {
-            return false;
-        }
-        let Some(total) = self.kept.ahead(n) else {
-            return false;
-        };
-        let mut next = self.kept.held();
-        let (eight, count) = next.fill(order, word, n);
-        let laid = sink.lay(eight, count);
-        if laid {
-            self.kept.advance(next, n, total);
-        }
-        laid
-    }
-
-    // Writes a word of n bits to this sink, in any way.
-    #[inline(always)]
-    fn push_word<W: Sink>(
-        &mut self,
-        sink: &mut W,
-        word: u128,
-        n: usize,
-        order: Order,
-    ) -> Result<(), DekuError>
-        requires most { n ≤ 128 }
-        requires inside { word < 2 ^ n }
-        ensures writes { WritesAt (WritesWord order n word) (W.told sink.old) self.old result (W.told sink.new) self.new }
-        ensures stopped { Untouched self.old sink.old sink.new }
-    {
-        if let Some(reason) = self.kept.fault() {
+        if let Some(reason) = self.fault {
             return Err(reason.error());
         }
         if n == 0 {
             return Ok(());
         }
-        if !self.kept.has_room(n) {
+        let filled = whole_bytes(self.held.len(), n);
+        if filled > (usize::MAX - self.bits_written) / 8 {
             return Err(DekuError::InvalidParam("count past usize"));
         }
-        let mut held = self.kept.held();
-        match push_word_onto(sink, &mut held, self.kept.order(), order, word, n) {
+        match push_word_onto(sink, &mut self.held, self.order, order, word, n) {
             Ok(()) => {
-                self.kept.follow(held, n, order);
+                self.order = order;
+                self.bits_written += 8 * filled;
                 Ok(())
             }
             Err(kind) => {
-                self.kept.stop(kind);
+                *self = Progress::stopped(kind, self.bits_written);
                 Err(DekuError::Io(kind))
             }
         }
@@ -428,20 +389,20 @@ impl Progress {
         ensures stays { IsFalse result → (self.new ≡ self.old) × (sink.new ≡ sink.old) }
         ensures stopped { Untouched self.old sink.old sink.new }
     {
-        if n == 0 || !self.kept.goes_on(Order::Msb0) {
+        if let Some(_) = self.fault {
             return false;
         }
-        let Some(total) = self.kept.ahead(n) else {
-            return false;
-        };
-        let mut next = self.kept.held();
-        if next.len() + n > 64 {
+        if n == 0 {
             return false;
         }
-        let (eight, count) = next.fill_high(number, n);
-        let laid = sink.lay(eight, count);
+        let made = whole_bytes(self.held.len(), n);
+        if made > (usize::MAX - self.bits_written) / 8 {
+            return false;
+        }
+        let laid = lay_high(sink, &mut self.held, self.order, number, n);
         if laid {
-            self.kept.advance(next, n, total);
+            self.order = Order::Msb0;
+            self.bits_written += 8 * made;
         }
         laid
     }
@@ -452,8 +413,17 @@ impl Progress {
         ensures writes { WritesAt Finalizes (W.told sink.old) self.old result (W.told sink.new) self.new }
         ensures stopped { Untouched self.old sink.old sink.new }
     {
-        let lacking = (8 - self.kept.len()) % 8;
-        let order = self.kept.order();
+        let lacking = (8 - self.held.len()) % 8;
+        let order = self.order;
         self.write_word(sink, 0, lacking, order)
     }
+}
+
+// How many whole bytes so many held bits and bits more make.
+#[inline(always)]
+fn whole_bytes(held: usize, more: usize) -> usize
+    requires { held ≤ 8 }
+    ensures { result ≡ (held + more) / 8 }
+{
+    more / 8 + (held + more % 8) / 8
 }

@@ -1,31 +1,31 @@
 //! Up to seven bits, packed.
 
 ghost use Rattle.std.specs.Prelude.{◌≡◌, ◌+◌, ◌-◌, ◌/◌, ◌%◌, ◌^◌, ◌<◌, ◌≤◌, [], ◌∷◌, ◌++◌, length, take};
-ghost use Rattle.deku_stream.specs.declared.ctx.Order.TheVariants.{Msb0, Lsb0};
+ghost use Rattle.deku_stream.specs.declared.ctx.Order.TheVariants.{Msb0};
 ghost use Rattle.deku_stream.specs.Bits.{bits_of, byte_bits, facing};
 ghost use Rattle.deku_writer.specs.Pushing.{word_bits, Fills, given};
 
-use super::joined::{cut_high, cut_low, high_number, join_high, join_low};
+use super::joined::{cut_word, join_high, join_word};
 use deku_stream::byte::bits_of_byte;
 use deku_stream::ctx::Order;
 use std::marker::Model;
 
-/// Up to seven bits, packed into the lowest bits of a number, the first the highest. What is above them in it says nothing: so no field has to mask it.
+/// Up to seven bits, packed into the number that they make, the first the highest.
 #[derive(Drop)]
 pub struct Held {
-    number: u64,
+    number: u8,
     len: usize,
 }
 
 impl Model for Held {
-    ghost use Rattle.std.specs.Prelude.{◌<◌, List, Bool};
+    ghost use Rattle.std.specs.Prelude.{◌<◌, ◌^◌, List, Bool};
     ghost use Rattle.deku_stream.specs.Bits.{bits_of};
 
     ghost Value = { List Bool };
 
     ghost view = { λ a. bits_of a.len a.number };
 
-    ghost invariant = { λ a. a.len < 8 };
+    ghost invariant = { λ a. (a.len < 8) × (a.number < 2 ^ a.len) };
 }
 
 impl Held {
@@ -36,23 +36,6 @@ impl Held {
         ensures { result ≡ [] }
     {
         Held { number: 0, len: 0 }
-    }
-
-    /// So many of a number's lowest bits. The caller's condition: they are fewer than eight.
-    #[inline(always)]
-    pub fn of_number(number: u64, len: usize) -> Held
-        requires { len < 8 }
-        ensures { result ≡ bits_of len number }
-    {
-        Held { number, len }
-    }
-
-    /// A number whose lowest bits they are.
-    #[inline(always)]
-    pub fn number(&self) -> u64
-        ensures { self.now ≡ bits_of (length self.now) result }
-    {
-        self.number
     }
 
     /// How many there are. They are below eight, as is said to the compiler too: so it knows how many bytes a field of whole bytes fills.
@@ -91,7 +74,7 @@ impl Held {
     pub fn bits(&self) -> [bool; 8]
         ensures { take (length self.now) result ≡ self.now }
     {
-        bits_of_byte(((low_bits(self.number, self.len) as u16) << (8 - self.len)) as u8)
+        bits_of_byte(((self.number as u16) << (8 - self.len)) as u8)
     }
 
     /// A whole byte, as the order meets it behind the bits that are held. The first eight go out as a byte, and as many are held as before.
@@ -99,9 +82,9 @@ impl Held {
         ensures fills { Fills order self.old self.new (facing order (byte_bits byte)) (result ∷ []) }
         ensures len { length self.new ≡ length self.old }
     {
-        let joined = join(order, low_bits(self.number, self.len), self.len, byte, 8);
+        let joined = join(order, self.number, self.len, byte, 8);
         let (first, behind) = split(order, joined, self.len + 8);
-        self.number = behind as u64;
+        self.number = behind;
         first
     }
 
@@ -116,27 +99,11 @@ impl Held {
         ensures count { result.1 ≡ (length self.old + n) / 8 }
         ensures rest { length self.new ≡ (length self.old + n) % 8 }
     {
-        match order {
-            Order::Msb0 => self.fill_high(high_number(word, n), n),
-            Order::Lsb0 => self.fill_low(word, n),
-        }
-    }
-
-    // The same, in `Lsb0`.
-    #[inline(always)]
-    fn fill_low(&mut self, word: u64, n: usize) -> ([u8; 8], usize)
-        requires some { 0 < n }
-        requires most { length self.old + n ≤ 64 }
-        requires inside { word < 2 ^ n }
-        ensures fills { Fills Lsb0 self.old self.new (word_bits Lsb0 n word) (take result.1 result.0) }
-        ensures count { result.1 ≡ (length self.old + n) / 8 }
-        ensures rest { length self.new ≡ (length self.old + n) % 8 }
-    {
         let held = self.len();
         let len = held + n;
-        let joined = join_low(low_bits(self.number, held), held, word, n);
-        let (eight, behind) = cut_low(joined, len);
-        self.number = behind as u64;
+        let joined = join_word(order, self.number, held, word, n);
+        let (eight, behind) = cut_word(order, joined, len);
+        self.number = behind;
         self.len = len % 8;
         (eight, len / 8)
     }
@@ -155,9 +122,10 @@ impl Held {
         let before = self.len();
         let all = before + n;
         let joined = join_high(self.number, before, number, n);
-        self.number = joined;
+        let (eight, last) = cut_word(Order::Msb0, joined, all);
+        self.number = last;
         self.len = all % 8;
-        (cut_high(joined, all), all / 8)
+        (eight, all / 8)
     }
 
     /// A group of at most eight bits, as the order meets it behind those that are held. Where there are eight then, the first eight go out as
@@ -167,28 +135,18 @@ impl Held {
         requires inside { group < 2 ^ n }
         ensures { Fills order self.old self.new (facing order (bits_of n group)) (given result) }
     {
-        let joined = join(order, low_bits(self.number, self.len), self.len, group, n);
+        let joined = join(order, self.number, self.len, group, n);
         let len = self.len + n;
         if len < 8 {
-            self.number = joined as u64;
+            self.number = joined as u8;
             self.len = len;
             return None;
         }
         let (byte, behind) = split(order, joined, len);
-        self.number = behind as u64;
+        self.number = behind;
         self.len = len - 8;
         Some(byte)
     }
-}
-
-// The number of so many of a number's lowest bits.
-#[inline(always)]
-fn low_bits(number: u64, len: usize) -> u8
-    requires { len < 8 }
-    ensures inside { result < 2 ^ len }
-    ensures bits { bits_of len result ≡ bits_of len number }
-{
-    (number % (1 << len)) as u8
 }
 
 // The number of two groups of bits, as the order meets the one behind the other.

@@ -10,7 +10,7 @@ ghost use Rattle.deku_device.specs.Seeking.{Seeks, RefusedSeek, StandsAt, toward
 ghost use Rattle.deku_stream.specs.Standings.{Going, Stopped, count_of};
 ghost use Rattle.deku_stream.specs.Writers.{Nothing};
 
-use crate::writer::Writer;
+use crate::writer::{Progress, Writer};
 use deku_device::device::Sink;
 use std::io;
 use std::io::{Seek, SeekFrom};
@@ -43,11 +43,11 @@ impl<W: Sink> Seek for Writer<W> {
     {
         match Sink::go(&mut self.sink, to) {
             Ok(place) => {
-                self.state.restart();
+                self.state = Progress::going(self.state.bits_written());
                 Ok(place)
             }
             Err(error) => {
-                self.state.stop(error.kind());
+                self.state = Progress::stopped(error.kind(), self.state.bits_written());
                 Err(error)
             }
         }

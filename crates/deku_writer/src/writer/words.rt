@@ -186,8 +186,8 @@ fn lay_whole<W: Sink>(sink: &mut W, word: u64, n: usize) -> bool
     sink.lay(word.to_le_bytes(), n / 8)
 }
 
-/// A word of n bits onto the held bits of an order. Where it has more than 57, they have at most 64 together, and the sink has room for eight bytes at
-/// hand, they are laid there; shorter ones were laid before where they could be. Longer words of whole bytes that meet none held are given as they are.
+/// A word of n bits onto the held bits of an order. Where they have at most 64 bits together, and the sink has room for eight bytes at hand, they
+/// are laid there. Longer words of whole bytes that meet none held are given as they are.
 #[inline(always)]
 pub fn push_word_onto<W: Sink>(
     sink: &mut W,
@@ -204,9 +204,6 @@ pub fn push_word_onto<W: Sink>(
     ensures pushed { OnOk result (PushedOnto (W.told sink.old) (W.told sink.new) from to held.old held.new (shown to (word_bits to n word))) }
     ensures fault { IfErr result (GaveUp (W.told sink.old) (W.told sink.new) ((length held.old + n) / 8)) }
 {
-    if n <= 57 {
-        return push_long_word(sink, held, from, to, word, n);
-    }
     if held.len() == 0 && n % 8 == 0 {
         if n > 64 {
             return give_whole(sink, word, n);

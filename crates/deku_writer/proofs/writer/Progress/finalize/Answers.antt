@@ -4,9 +4,7 @@ use Rattle.deku_writer.proofs.writer.Progress.finalize.Goals as goal
 
 pub returns-clause-writes : goal.returns-clause-writes
 returns-clause-writes g c =
-    let kept = c.self.inside.kept in
     let l = c.len.ensures.length in
-    let writes = rw c.order-order.ensures at c.write_word.ensures.writes in
-    let m = zeros_written kept.order ((8 - c.len.result) % 8) _ _ _ _ _ (omega arith) writes in
+    let m = zeros_written c.self.inside.order ((8 - c.len.result) % 8) _ _ _ _ _ (omega arith) c.write_word.ensures.writes in
     let n = rw l at m in
-    rw (← c.self.view_is) (finalizes kept.order kept.held _ kept.fault _ _ _ _ c.self.invariant (rw (← c.self.view_is) at n))
+    rw (← c.self.view_is) (finalizes c.self.inside.order c.self.inside.held _ c.self.inside.fault _ _ _ _ c.self.invariant (rw (← c.self.view_is) at n))

@@ -7,9 +7,14 @@ use Rattle.deku_stream.proofs.Bytes.{IsByte}
 use Rattle.deku_writer.proofs.Joined.{fills_bytes}
 use Rattle.deku_writer.proofs.writer.held.Held.fill_high.Goals as goal
 
+pub join_high-joined-requires-clause-first : goal.join_high-joined-requires-clause-first
+join_high-joined-requires-clause-first c =
+    let l : c.self.inside.len ≡ c.len-before.result = sym (length-bits_of c.self.inside.len c.self.inside.number) ∙ ap length c.self.view_is ∙ sym c.len-before.ensures.length in
+    rw (← l) c.self.invariant.1
+
 pub returns-clause-rest : goal.returns-clause-rest
 returns-clause-rest c =
-    length-bits_of ((c.len-before.result + c.args.n) % 8) c.join_high-joined.result ∙ ap (λ x. (x + c.args.n) % 8) c.len-before.ensures.length
+    length-bits_of ((c.len-before.result + c.args.n) % 8) c.cut_word-last.result.1 ∙ ap (λ x. (x + c.args.n) % 8) c.len-before.ensures.length
 
 pub returns-clause-fills : goal.returns-clause-fills
 returns-clause-fills c =
@@ -17,7 +22,7 @@ returns-clause-fills c =
     let r = (c.len-before.result + c.args.n) % 8 in
     let l : c.self.inside.len ≡ c.len-before.result = sym (length-bits_of c.self.inside.len c.self.inside.number) ∙ ap length c.self.view_is ∙ sym c.len-before.ensures.length in
     let front : bits_of c.len-before.result c.self.inside.number ≡ c.args.self.now = ap (λ i. bits_of i c.self.inside.number) (sym l) ∙ c.self.view_is in
-    let short : length (bits_of r c.join_high-joined.result) < 8 = rw length-bits_of (mod-lt (c.len-before.result + c.args.n) (omega arith)) in
+    let short : length (bits_of r c.cut_word-last.result.1) < 8 = rw length-bits_of (mod-lt (c.len-before.result + c.args.n) (omega arith)) in
     rw (← front)
-    (fills_bytes Msb0 _ _ _ (take k c.cut_high.result) (sym c.join_high-joined.ensures ∙ c.cut_high.ensures.bits)
-    (All-take IsByte k c.cut_high.result c.cut_high.ensures.bytes) short)
+    (fills_bytes Msb0 _ _ _ (take k c.cut_word-last.result.0) (sym c.join_high-joined.ensures.bits ∙ c.cut_word-last.ensures.bits)
+    (All-take IsByte k c.cut_word-last.result.0 c.cut_word-last.ensures.bytes) short)

@@ -1,0 +1,53 @@
+//! Numbers whose bits go out from the highest down, where the sink has room at hand.
+
+ghost use Rattle.std.specs.Prelude.{◌≡◌, ◌<◌, ◌≤◌, ◌%◌, ◌^◌, [], length, IsTrue, IsFalse};
+ghost use Rattle.deku_stream.specs.declared.ctx.Order.TheVariants.{Msb0};
+ghost use Rattle.deku_stream.specs.Bits.{bits_of};
+ghost use Rattle.deku_writer.specs.Pushing.{Pushed, PushedOnto};
+
+use super::held::Held;
+use super::joined::cut_word;
+use super::words::is_behind;
+use deku_device::device::Sink;
+use deku_stream::ctx::Order;
+
+// The bits of a number that are whole bytes, where the sink has room for eight bytes at hand, and whether it has.
+#[inline(always)]
+fn lay_bytes<W: Sink>(sink: &mut W, number: u64, n: usize) -> bool
+    requires some { 0 < n }
+    requires whole { n % 8 ≡ 0 }
+    requires most { n ≤ 64 }
+    requires inside { number < 2 ^ n }
+    ensures pushed { IsTrue result → Pushed (W.told sink.old) (W.told sink.new) Msb0 [] [] (bits_of n number) }
+    ensures stays { IsFalse result → sink.new ≡ sink.old }
+{
+    let (eight, _) = cut_word(Order::Msb0, number, n);
+    sink.lay(eight, n / 8)
+}
+
+/// The bits of a number, from the highest down, onto the held bits of an order, where they follow these as they are, have at most 64 bits with them, and
+/// the sink has room for eight bytes at hand, and whether all this is so. Else nothing changes.
+#[inline(always)]
+pub fn lay_high<W: Sink>(sink: &mut W, held: &mut Held, from: Order, number: u64, n: usize) -> bool
+    requires some { 0 < n }
+    requires short { length held.old < 8 }
+    requires most { n ≤ 64 }
+    requires inside { number < 2 ^ n }
+    ensures pushed { IsTrue result → PushedOnto (W.told sink.old) (W.told sink.new) from Msb0 held.old held.new (bits_of n number) }
+    ensures stays { IsFalse result → (sink.new ≡ sink.old) × (held.new ≡ held.old) }
+{
+    if held.len() == 0 && n % 8 == 0 {
+        return lay_bytes(sink, number, n);
+    }
+    if held.len() + n > 64 || !is_behind(held, from, Order::Msb0) {
+        return false;
+    }
+    let left = (held.len() + n % 8) % 8;
+    let mut next = held.copy();
+    let (eight, count) = next.fill_high(number, n);
+    let laid = sink.lay(eight, count);
+    if laid {
+        held.follow(next, left);
+    }
+    laid
+}
