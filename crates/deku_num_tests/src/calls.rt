@@ -108,14 +108,15 @@ fn refuses_to_read(rt: HostRuntime) {
 fn refuses_to_write(rt: HostRuntime) -> Result<(), Fail> {
     let mut writer = Writer::new(Cursor::new(Vec::new(rt.alloc())));
     let misfit = "bit size of input is larger than requested size";
+    let too_long = "byte size is larger than input";
     let two_bytes = (Endian::Big, ByteSize(2)).parts();
+    let (four_bits, no_bytes, three_bytes) = (
+        BitSize(4).parts(),
+        ByteSize(0).parts(),
+        ByteSize(3).parts(),
+    );
     let rows = [
-        (
-            Value::Unsigned(16),
-            NumberType::U8,
-            BitSize(4).parts(),
-            misfit,
-        ),
+        (Value::Unsigned(16), NumberType::U8, four_bits, misfit),
         (
             Value::Unsigned(0x01020304),
             NumberType::U32,
@@ -123,18 +124,8 @@ fn refuses_to_write(rt: HostRuntime) -> Result<(), Fail> {
             misfit,
         ),
         (Value::Signed(32768), NumberType::I32, two_bytes, misfit),
-        (
-            Value::Unsigned(1),
-            NumberType::U16,
-            ByteSize(0).parts(),
-            misfit,
-        ),
-        (
-            Value::Signed(0),
-            NumberType::I16,
-            ByteSize(3).parts(),
-            "byte size is larger than input",
-        ),
+        (Value::Unsigned(1), NumberType::U16, no_bytes, misfit),
+        (Value::Signed(0), NumberType::I16, three_bytes, too_long),
     ];
     for (value, number_type, layout, refusal) in rows {
         let written = write_value(&rt, &mut writer, value, number_type, layout);
