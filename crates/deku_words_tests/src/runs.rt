@@ -1,7 +1,7 @@
 //! Runs of bytes behind a partly read byte.
 
-use super::slow::{ORDERS, Slow, samples, word_of};
 use crate::same::same;
+use crate::slow::{ORDERS, Slow, samples, word_of};
 use deku_bits::ctx::Order;
 use deku_bits::reader::Reader;
 use std::alloc::Global;

@@ -1,6 +1,6 @@
 //! What words are, by their definition: slow, over lists of truth values.
 
-ghost use Rattle.std.specs.Prelude.{◌<◌, ◌≤◌};
+ghost use Rattle.std.specs.Prelude.{◌<◌, ◌≤◌, ◌^◌};
 
 use deku_bits::ctx::Order;
 use deku_bits::ctx::Order::{Lsb0, Msb0};
@@ -69,6 +69,37 @@ pub fn word_of(met: &[bool], order: Order) -> u128 {
             .wrapping_add(number_of(&met[start..end], order));
     }
     word
+}
+
+// Makes a group the bits of a number.
+fn put_number(number: u128, group: &mut [bool], order: Order) {
+    let mut rest = number;
+    for at in 0..group.len() {
+        let place = match order {
+            Msb0 => group.len() - 1 - at,
+            Lsb0 => at,
+        };
+        group[place] = rest % 2 == 1;
+        rest /= 2;
+    }
+}
+
+/// Makes at most 128 bits those of a word, in the order in which they are met.
+pub fn put_word(word: u128, met: &mut [bool], order: Order) {
+    let mut rest = word;
+    for group in 0..16 {
+        let (start, end) = group_of(group, met.len());
+        put_number(rest % 256, &mut met[start..end], order);
+        rest /= 256;
+    }
+}
+
+/// The word in n bits.
+pub fn fitting(word: u128, n: usize) -> u128
+    requires { n ≤ 128 }
+    ensures { result < 2 ^ n }
+{
+    if n == 128 { word } else { word % (1 << n) }
 }
 
 /// Turns bits that an order met to those that are shown, highest first, and back: whole bytes each by itself, others as one.

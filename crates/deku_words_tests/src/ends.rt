@@ -1,7 +1,7 @@
 //! Words near the end of the bytes, where the next eight are at hand or no more, against a source that has none at hand.
 
-use super::slow::{ORDERS, Slow, samples, word_of};
 use crate::same::{FAILED, Refusal, same, wanted};
+use crate::slow::{ORDERS, Slow, samples, word_of};
 use deku_bits::ctx::Order;
 use deku_bits::ctx::Order::Msb0;
 use deku_bits::device::Source;
@@ -184,18 +184,21 @@ const HIGH: [(usize, Option<u64>); 7] = [
     (8, None),
 ];
 
-#[test]
-fn reads_high_bits_at_hand(rt: HostRuntime) -> Result<(), Fail> {
-    let bytes = [
-        0xAB, 0xCD, 0xEF, 0x01, 0x23, 0x45, 0x67, 0x89, 0x0A, 0xBC, 0xDE, 0xF0,
-    ];
-    let mut reader = Reader::new(rt.alloc(), Cursor::new(bytes.as_slice()));
+// Bits are read as the rows say, and forty in all.
+fn expect_high<R: Source>(rt: &impl Abort, reader: &mut Reader<R>) {
     for (n, want) in HIGH {
         assert!(rt; n <= 64);
-        let got = reader.high_at_hand(n);
-        assert!(rt; got == want, "{n} bits: {got:?}, and not {want:?}");
+        same(rt, (0, n), &reader.high_at_hand(n), &want);
     }
-    assert!(rt; reader.bits_read() == 40);
-    assert!(rt; reader.read_word(8, Msb0) == Ok(0x45));
+    same(rt, (0, HIGH.len()), &reader.bits_read(), &40);
+    same(rt, (1, 8), &reader.read_word(8, Msb0), &Ok(0x45));
+}
+
+#[test]
+fn reads_high_bits_at_hand(rt: HostRuntime) -> Result<(), Fail> {
+    let bytes: &[u8] = &[
+        0xAB, 0xCD, 0xEF, 0x01, 0x23, 0x45, 0x67, 0x89, 0x0A, 0xBC, 0xDE, 0xF0,
+    ];
+    expect_high(&rt, &mut Reader::new(rt.alloc(), Cursor::new(bytes)));
     Ok(())
 }

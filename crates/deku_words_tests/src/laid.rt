@@ -1,11 +1,9 @@
 //! Words where eight bytes of room are left, where fewer are, and onto a sink that never lays them at once.
 
-use super::slow::{ORDERS, put_word, turn, word_of};
-use crate::given::fitting;
-use crate::same::{same, same_bytes};
+use crate::same::same;
+use crate::slow::{ORDERS, fitting, put_word, turn, word_of};
 use deku_bits::ctx::Order;
 use deku_bits::device::Sink;
-use deku_bits::error::DekuError;
 use deku_bits::writer::Writer;
 use std::io;
 use std::io::{Cursor, Seek, SeekFrom, Write};
@@ -60,8 +58,11 @@ const FRONT: [bool; 7] = [true, false, true, true, false, false, true];
 
 const WORD: u128 = 0x9E37_79B9_7F4A_7C15_F39C_C060_5CED_C834;
 
-// The bytes of the slice, or the refusal; how many bits were counted, and how many are pending.
-type Made = ([u8; 12], bool, usize, usize);
+// Whether both were written, how many bits were counted, and how many are pending.
+type Left = (bool, usize, usize);
+
+// The bytes of the slice, and the rest.
+type Made = ([u8; 12], Left);
 
 // So many bits in front of a word of so many, in this order.
 #[derive(Clone, Copy)]
@@ -72,13 +73,18 @@ struct Row {
     order: Order,
 }
 
-// Writes both into what is left of a slice.
-fn write_both<S: Sink>(rt: &impl Abort, writer: &mut Writer<S>, row: Row) -> Result<(), DekuError> {
+// Writes both into what is left of a slice: whether they were written, how many bits were counted, and how many are pending.
+fn write_both<S: Sink>(rt: &impl Abort, writer: &mut Writer<S>, row: Row) -> Left {
     let mut front = FRONT;
     assert!(rt; row.front <= 7 && row.n <= 128);
     turn(&mut front[..row.front], row.order);
-    writer.write_bits_order(&front[..row.front], row.order)?;
-    writer.write_word(fitting(WORD, row.n), row.n, row.order)
+    let is_ok = writer
+        .write_bits_order(&front[..row.front], row.order)
+        .is_ok()
+        && writer
+            .write_word(fitting(WORD, row.n), row.n, row.order)
+            .is_ok();
+    (is_ok, writer.bits_written(), writer.leftover().0.len())
 }
 
 // By a cursor over the last bytes of a slice.
@@ -86,10 +92,8 @@ fn make_laid(rt: &impl Abort, row: Row) -> Made {
     let mut slice = [THERE; 12];
     assert!(rt; row.room <= 12);
     let mut writer = Writer::new(Cursor::new(&mut slice[12 - row.room..]));
-    let is_ok = write_both(rt, &mut writer, row).is_ok();
-    let count = writer.bits_written();
-    let pending = writer.leftover().0.len();
-    (slice, is_ok, count, pending)
+    let left = write_both(rt, &mut writer, row);
+    (slice, left)
 }
 
 // By a sink that only gives.
@@ -98,10 +102,8 @@ fn make_given(rt: &impl Abort, row: Row) -> Made {
     assert!(rt; row.room <= 12);
     let cursor = Cursor::new(&mut slice[12 - row.room..]);
     let mut writer = Writer::new(Giving { inner: cursor });
-    let is_ok = write_both(rt, &mut writer, row).is_ok();
-    let count = writer.bits_written();
-    let pending = writer.leftover().0.len();
-    (slice, is_ok, count, pending)
+    let left = write_both(rt, &mut writer, row);
+    (slice, left)
 }
 
 // The whole bytes of the bits that the order meets, behind what lies there, and in front of it.
@@ -117,7 +119,7 @@ fn make_wanted(rt: &impl Abort, row: Row) -> Made {
         *place = (rest % 256) as u8;
         rest /= 256;
     }
-    (slice, true, end / 8 * 8, end % 8)
+    (slice, (true, end / 8 * 8, end % 8))
 }
 
 // What both sinks leave is what the slow functions want, or both lack the room.
@@ -125,26 +127,13 @@ fn expect_made(rt: &impl Abort, row: Row) {
     let laid = make_laid(rt, row);
     let given = make_given(rt, row);
     let at = (row.room, row.n);
-    same_bytes(rt, at, &laid.0, &given.0);
-    same(
-        rt,
-        at,
-        &(laid.1, laid.2, laid.3),
-        &(given.1, given.2, given.3),
-    );
+    same(rt, at, &laid, &given);
     assert!(rt; row.front <= 7 && row.n <= 64);
     if (row.front + row.n) / 8 > row.room {
-        same(rt, at, &(laid.1, laid.2, laid.3), &(false, 0, 0));
+        same(rt, at, &laid.1, &(false, 0, 0));
         return;
     }
-    let wanted = make_wanted(rt, row);
-    same_bytes(rt, at, &laid.0, &wanted.0);
-    same(
-        rt,
-        at,
-        &(laid.1, laid.2, laid.3),
-        &(wanted.1, wanted.2, wanted.3),
-    );
+    same(rt, at, &laid, &make_wanted(rt, row));
 }
 
 // How many bytes are left: more than eight, the last eight, the last seven, and too few.

@@ -1,71 +1,15 @@
 //! Words that are written.
 
-use super::slow::{ORDERS, Slow, put_word, samples, turn, word_of};
-use crate::given::{Grown, Put, fitting, give_bounded, give_tables};
-use crate::same::{Refusal, same, same_bytes};
+use crate::same::{same, same_bytes};
+use crate::slow::{ORDERS, Slow, fitting, put_word, samples, turn, word_of};
 use deku_bits::ctx::Order;
 use deku_bits::ctx::Order::{Lsb0, Msb0};
+use deku_bits::device::Sink;
 use deku_bits::error::DekuError;
 use deku_bits::writer::Writer;
-use std::io::{Cursor, ErrorKind, SeekFrom};
+use std::io::Cursor;
 use std::process::Abort;
 use std::test::Fail;
-
-const WORKED: [Grown; 3] = [
-    // Its lowest byte, and what is above it.
-    (
-        &[
-            Put::Word(0x0201, 12, Msb0, Ok(())),
-            Put::Count(8),
-            Put::Left("0010", 0x20, Msb0),
-        ],
-        &[0x01],
-    ),
-    (
-        &[
-            Put::Word(0xCAB, 12, Msb0, Ok(())),
-            Put::Word(0xD, 4, Msb0, Ok(())),
-            Put::Count(16),
-        ],
-        &[0xAB, 0xCD],
-    ),
-    (
-        &[
-            Put::Word(0x01, 5, Lsb0, Ok(())),
-            Put::Word(0x91A5, 16, Lsb0, Ok(())),
-            Put::Word(0x0, 3, Lsb0, Ok(())),
-            Put::Count(24),
-        ],
-        &[0xA1, 0x34, 0x12],
-    ),
-];
-
-#[test]
-fn writes_the_worked_words(rt: HostRuntime) -> Result<(), Fail> {
-    give_tables(&rt, rt.alloc(), &[&WORKED])
-}
-
-const FULL: Refusal = Refusal(ErrorKind::WriteZero);
-
-// A sink without room for all bytes of a word stops the writer until a seek succeeds.
-const ROOM: [Grown; 1] = [(
-    &[
-        Put::Word(0xBBAA, 16, Msb0, Err(FULL)),
-        Put::Word(0, 0, Lsb0, Err(FULL)),
-        Put::Word(0xAA, 8, Lsb0, Err(FULL)),
-        Put::Kept(FULL),
-        Put::Count(0),
-        Put::Seek(SeekFrom::Start(0), Ok(0)),
-        Put::Word(0xAA, 8, Lsb0, Ok(())),
-        Put::Count(8),
-    ],
-    &[0xAA],
-)];
-
-#[test]
-fn keeps_the_end_of_room(rt: HostRuntime) -> Result<(), Fail> {
-    give_bounded(&rt, rt.alloc(), &ROOM)
-}
 
 // Bits that are written in front of a word.
 const FRONT: [bool; 8] = [true, false, true, true, false, false, true, true];
@@ -80,7 +24,40 @@ struct Start {
 // The bytes that a writer made, how many bits were counted, and how many were pending before the last byte was filled.
 type Made = ([u8; 18], usize, usize);
 
-// Writes bits and then a word.
+// Writes bits and then a word, and what is pending: how many bits were counted, and how many were pending.
+fn put_word_behind<W: Sink>(
+    rt: &impl Abort,
+    writer: &mut Writer<W>,
+    start: Start,
+    word: u128,
+    n: usize,
+    order: Order,
+) -> Result<(usize, usize), DekuError> {
+    assert!(rt; start.offset <= 8 && n <= 128);
+    writer.write_bits_order(&FRONT[..start.offset], start.order)?;
+    writer.write_word(fitting(word, n), n, order)?;
+    let pending = writer.leftover().0.len();
+    writer.finalize()?;
+    Ok((writer.bits_written(), pending))
+}
+
+// The same of bits and more of them, as they are shown.
+fn put_bits_behind<W: Sink>(
+    rt: &impl Abort,
+    writer: &mut Writer<W>,
+    start: Start,
+    shown: &[bool],
+    order: Order,
+) -> Result<(usize, usize), DekuError> {
+    assert!(rt; start.offset <= 8);
+    writer.write_bits_order(&FRONT[..start.offset], start.order)?;
+    writer.write_bits_order(shown, order)?;
+    let pending = writer.leftover().0.len();
+    writer.finalize()?;
+    Ok((writer.bits_written(), pending))
+}
+
+// What a word makes behind bits.
 fn write_as_word(
     rt: &impl Abort,
     start: Start,
@@ -90,16 +67,13 @@ fn write_as_word(
 ) -> Result<Made, DekuError> {
     let mut slice = [0; 18];
     let mut writer = Writer::new(Cursor::new(slice.as_mut_slice()));
-    assert!(rt; start.offset <= 8 && n <= 128);
-    writer.write_bits_order(&FRONT[..start.offset], start.order)?;
-    writer.write_word(fitting(word, n), n, order)?;
-    let pending = writer.leftover().0.len();
-    writer.finalize()?;
-    let count = writer.bits_written();
-    Ok((slice, count, pending))
+    match put_word_behind(rt, &mut writer, start, word, n, order) {
+        Ok((count, pending)) => Ok((slice, count, pending)),
+        Err(error) => Err(error),
+    }
 }
 
-// Writes bits and then more of them, as they are shown.
+// What bits make behind others.
 fn write_as_bits(
     rt: &impl Abort,
     start: Start,
@@ -108,13 +82,10 @@ fn write_as_bits(
 ) -> Result<Made, DekuError> {
     let mut slice = [0; 18];
     let mut writer = Writer::new(Cursor::new(slice.as_mut_slice()));
-    assert!(rt; start.offset <= 8);
-    writer.write_bits_order(&FRONT[..start.offset], start.order)?;
-    writer.write_bits_order(shown, order)?;
-    let pending = writer.leftover().0.len();
-    writer.finalize()?;
-    let count = writer.bits_written();
-    Ok((slice, count, pending))
+    match put_bits_behind(rt, &mut writer, start, shown, order) {
+        Ok((count, pending)) => Ok((slice, count, pending)),
+        Err(error) => Err(error),
+    }
 }
 
 // In one order throughout, the bits that the order meets behind the first ones are those of the word.
