@@ -16,3 +16,4 @@ pub mod WholeBytes
 pub mod HighFirst
 pub mod Heads
 pub mod Passing
+pub mod Scattering

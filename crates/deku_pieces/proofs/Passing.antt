@@ -3,17 +3,19 @@ use Rattle.std.proofs.Common.{◌≡◌, ℕ, ◌+◌, Bool, true, false, List, 
 use Rattle.deku_bits.specs.Streams.{Stream}
 use Rattle.deku_bits.specs.Pieces.{Piece}
 use Rattle.deku_bits.specs.Standings.{Standing, Going, Output}
+use Rattle.std.specs.Prelude.{⊤}
 use Rattle.std.specs.Borrow.{Bor}
 use Rattle.deku_bits.specs.declared.error.DekuError.{DekuError}
 use Rattle.deku_bits.specs.declared.error.DekuError.TheVariants.{Assertion}
 use Rattle.deku_bits.specs.Devices.{Health}
-use Rattle.deku_bits.specs.Outcomes.{Meaning, Outcome, Quiet}
+use Rattle.deku_bits.specs.Outcomes.{Meaning, Outcome, Quiet, Refuses}
 use Rattle.deku_bits.proofs.Handing.{weaker, no_fewer_same}
-use Rattle.deku_num.specs.NumberCalls.{Refused, Passed}
-use Rattle.deku.specs.Composing.{Answer, Then, Second, First}
+use Rattle.deku_num.specs.NumberCalls.{Checked, Refused, Passed}
+use Rattle.deku.specs.Composing.{Answer, Second, First}
 use Rattle.deku_pieces.specs.declared.asserted.Asserted.{Asserted}
 use Rattle.deku_pieces.specs.Symmetric.{breadth, IsWrittenAs, IsReadBack, TakenAs, IsSymmetric}
-use Rattle.deku_pieces.specs.Asserting.{OfPassing, IfPasses, ReadsAsserted, WritesAsserted}
+use Rattle.deku_pieces.specs.declared.fixed.Fixed.{Fixed}
+use Rattle.deku_pieces.specs.Asserting.{OfPassing, IfPasses, ReadsAsserted, WritesAsserted, ReadsFixed}
 use Rattle.deku_pieces.proofs.Answering.{answer_is, answer_must, then_must, Must}
 
 -- ---- calls
@@ -57,3 +59,35 @@ module _ {V C : Type 0} {P : V → List Piece → Type 0} {same : V → V → Ty
 
   pub asserted_symmetric : IsSymmetric (OfPassing passes P) Same (WritesAsserted passes text writes) (ReadsAsserted passes text m)
   asserted_symmetric = record { one = λ v ps qs p q. A.one v.part ps qs p.1 q.1; written = passing_written; read_back = passing_back; read = passing_read }
+
+-- ---- one value alone
+-- another value is refused
+pub not_value : {A V C : Type 0} (value : V) {text : List ℕ} (v : V) (m : Meaning A C) {s : Standing A} {f : Health} (words : Bor (List ℕ))
+    → words.now ≡ text → (v ≡ value → ⊥) → Outcome (Checked (λ s r u. (v ≡ value → ⊥) × Refuses Assertion text s r u) (λ b s r u. (v ≡ value) × m b s r u)) s f (Err (Assertion words)) s f
+not_value value v m {f} words e d = Quiet (Refused refl (d, (words, e, refl, refl))) (no_fewer_same f)
+
+module _ {V C : Type 0} {P : V → List Piece → Type 0} {same : V → V → Type 0} {writes : V → Meaning Output (Unit {0})} {m : Meaning (Option Stream) V}
+    (value : V) (text : List ℕ) (alike : (v : V) → same value v → v ≡ value) (A : IsSymmetric P same writes m) where
+  abbrev Made : Meaning (Option Stream) (Fixed V C)
+  Made = ReadsFixed value text m
+
+  value_must : (x : Fixed V C) (w : V) (T : Stream) (n : ℕ) → same value w
+      → Must (Checked (λ s r u. (w ≡ value → ⊥) × Refuses Assertion text s r u) (λ b s r u. (w ≡ value) × Answer x b s r u)) (Going (Some T) n) (λ _. ⊤) T n
+  value_must x w T n f r u (Refused b q) = absurd (q.0 (alike w f))
+  value_must x w T n f r u (Passed q) = answer_must x (λ _. ⊤) T n tt r u q.1
+
+  fixed_back : (v : Fixed V C) (ps : List Piece) → P value ps → IsReadBack ps (λ _. ⊤) Made
+  fixed_back v ps p S T n r u takes room =
+      then_must m _ (Going (Some S) n) (same value) T (n + breadth ps) (λ _. ⊤) T (n + breadth ps)
+      (λ r u. A.read_back value ps p S T n r u takes room) (λ w f. value_must _ w T (n + breadth ps) f) r u
+
+  fixed_read : (v : Fixed V C) (S : Stream) (n : ℕ) (u : Standing (Option Stream)) → Made false (Going (Some S) n) (Ok v) u → TakenAs (λ _. P value) v S n u
+  fixed_read v S n u (First e p is) = absurd (cc)
+  fixed_read v S n u (Second w t p (Refused b q)) = let e = q.1.2 in absurd (cc)
+  fixed_read v S n u (Second w t p (Passed q)) =
+      let d = answer_is _ v t u q.1 in
+      let a = A.read w S n t p in
+      record { taken = a.taken; has = subst (λ x. P x a.taken) q.0 a.has; rest = a.rest; takes = a.takes; stands = d.1 ∙ a.stands }
+
+  pub fixed_symmetric : IsSymmetric (λ (v : Fixed V C). P value) (λ v w. ⊤) (λ v. writes value) Made
+  fixed_symmetric = record { one = λ v. A.one value; written = λ v. A.written value; read_back = fixed_back; read = fixed_read }

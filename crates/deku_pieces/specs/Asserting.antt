@@ -8,6 +8,7 @@ use Rattle.deku_bits.specs.Outcomes.{Meaning, Refuses}
 use Rattle.deku_num.specs.NumberCalls.{Checked}
 use Rattle.deku.specs.Composing.{Answer, Then}
 use Rattle.deku_pieces.specs.declared.asserted.Asserted.{Asserted}
+use Rattle.deku_pieces.specs.declared.fixed.Fixed.{Fixed}
 
 -- those of a part that passes; another has none
 abbrev pub OfPassing : {V C : Type 0} → (V → Bool) → (V → List Piece → Type 0) → Asserted V C → List Piece → Type 0
@@ -24,3 +25,8 @@ ReadsAsserted passes text m = Then m (λ v. IfPasses passes text v (Answer (reco
 -- a part is written where it passes
 abbrev pub WritesAsserted : {V C : Type 0} → (V → Bool) → List ℕ → (V → Meaning Output (Unit {0})) → Asserted V C → Meaning Output (Unit {0})
 WritesAsserted passes text writes v = IfPasses passes text v.part (writes v.part)
+
+-- ---- one value alone
+-- a part is read, and another value than this one is refused with this text
+abbrev pub ReadsFixed : {V C : Type 0} → V → List ℕ → Meaning (Option Stream) V → Meaning (Option Stream) (Fixed V C)
+ReadsFixed value text m = Then m (λ v. Checked (λ s r u. (v ≡ value → ⊥) × Refuses Assertion text s r u) (λ b s r u. (v ≡ value) × Answer (record { part = record {}; constant = record {} }) b s r u))

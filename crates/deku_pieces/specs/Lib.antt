@@ -4,3 +4,4 @@ pub mod Packs
 pub mod Choices
 pub mod Leading
 pub mod Asserting
+pub mod Scattered

@@ -2,8 +2,9 @@
 
 ghost use Rattle.std.specs.Prelude.{◌≡◌, ℕ, Option, length, OnOk, MatchBool};
 ghost use Rattle.deku_bits.specs.ReaderCalls.{Reads};
+ghost use Rattle.deku_bits.specs.WriterCalls.{Writes};
 ghost use Rattle.deku.specs.Early.{Promptly};
-ghost use Rattle.deku_pieces.specs.Leading.{ReadsCounted, IsCounted};
+ghost use Rattle.deku_pieces.specs.Leading.{ReadsCounted, IsCounted, WritesLed};
 
 use deku::ctx::Limit;
 use deku::device::{Sink, Source};
@@ -97,20 +98,40 @@ impl<H: Counts + DekuWriter<()>, T: DekuWriter<()>> DekuWriter<()> for Led<H, T>
     ghost meaning = { λ v _. WritesLed H.Counts.count_of (λ h. H.DekuWriter.meaning h tt) (λ x. T.meaning x tt) v };
 
     fn to_writer<W: Sink>(&self, writer: &mut Writer<W>, _ctx: ()) -> Result<(), DekuError> {
-        if !in_step(self) {
-            return Err(DekuError::Assertion("count out of step with items"));
-        }
-        self.head.to_writer(writer, ())?;
-        self.items.to_writer(writer, ())
+        write_led(&self.head, &self.items, writer)
     }
 }
 
-// Whether there are as many items as the head says.
-fn in_step<H: Counts, T>(led: &Led<H, T>) -> bool
-    ensures { MatchBool result (IsCounted (H.count_of led.now.head) (length led.now.items.items)) (IsCounted (H.count_of led.now.head) (length led.now.items.items) → ⊥) }
+/// Writes a head and the items behind it, as a `Led` of both is written.
+///
+/// A head that names another count than that of the items, or none, is refused with `Assertion("count out of step with items")`, and nothing moves. Else it is refused
+/// as the head is, and then as the first of the items is. The caller's condition: both may be written.
+///
+/// ```text
+/// write_led(&2u8, &items, writer)?                            // 02 68 69, of the items 68 and 69
+/// ```
+pub fn write_led<H: Counts + DekuWriter<()>, T: DekuWriter<()>, W: Sink>(
+    head: &H,
+    items: &Vec<T>,
+    writer: &mut Writer<W>,
+) -> Result<(), DekuError>
+    requires head { H.DekuWriter.accepts tt }
+    requires items { T.accepts tt }
+    ensures { Writes W.told (WritesLed H.Counts.count_of (λ h. H.DekuWriter.meaning h tt) (λ x. T.meaning x tt) (record { head = head.now; items = items.now })) writer.old result writer.new }
 {
-    match led.head.count() {
-        Some(count) => led.items.len() == count,
+    if !in_step(head, items) {
+        return Err(DekuError::Assertion("count out of step with items"));
+    }
+    head.to_writer(writer, ())?;
+    items.to_writer(writer, ())
+}
+
+// Whether there are as many items as the head says.
+fn in_step<H: Counts, T>(head: &H, items: &Vec<T>) -> bool
+    ensures { MatchBool result (IsCounted (H.count_of head.now) (length items.now.items)) (IsCounted (H.count_of head.now) (length items.now.items) → ⊥) }
+{
+    match head.count() {
+        Some(count) => items.len() == count,
         None => false,
     }
 }

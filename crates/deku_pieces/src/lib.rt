@@ -3,10 +3,14 @@
 
 pub mod asserted;
 pub mod choice;
+pub mod fixed;
 pub mod led;
+pub mod scattered;
 mod whole;
 
 pub use asserted::{Asserted, Check};
 pub use choice::{Choice, LsbTagged, MsbTagged, Named, Only, Tagged};
-pub use led::{Counts, Led};
+pub use fixed::{Constant, Fixed};
+pub use led::{Counts, Led, write_led};
+pub use scattered::{high_bits, low_bits};
 pub use whole::{padded_bytes, read_whole};

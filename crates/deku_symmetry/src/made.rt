@@ -4,6 +4,7 @@ ghost use Rattle.std.specs.Prelude.{◌≡◌};
 
 use crate::traits::Symmetric;
 use deku_pieces::asserted::{Asserted, Check};
+use deku_pieces::fixed::{Constant, Fixed};
 use deku_pieces::led::{Counts, Led};
 
 /// A head that says how many items lie behind it: the same heads say the same.
@@ -46,4 +47,22 @@ impl<P: Symmetric<()>, C: Checks<P>> Symmetric<()> for Asserted<P, C> {
     ghost same = { λ v w. P.Symmetric.same v.part w.part };
 
     ghost symmetric = { λ _. asserted_symmetric C.Check.passes C.Check.text C.Checks.alike (P.Symmetric.symmetric tt) };
+}
+
+/// A constant that the same parts are: they are the value itself.
+pub trait Constants<P: Symmetric<()>>: Constant<P> {
+    // What is the same as the value is the value.
+    ghost alike: { (v : P) → P.Symmetric.same Self.Constant.value v → v ≡ Self.Constant.value };
+}
+
+/// The pieces of the value.
+impl<P: Symmetric<()>, C: Constants<P>> Symmetric<()> for Fixed<P, C> {
+    ghost use Rattle.std.specs.Prelude.{⊤};
+    ghost use Rattle.deku_pieces.proofs.Passing.{fixed_symmetric};
+
+    ghost pieces = { λ _ _. P.Symmetric.pieces C.Constant.value tt };
+
+    ghost same = { λ v w. ⊤ };
+
+    ghost symmetric = { λ _. fixed_symmetric C.Constant.value C.Constant.text C.Constants.alike (P.Symmetric.symmetric tt) };
 }

@@ -9,8 +9,10 @@ ghost use Rattle.deku_bits.specs.Outcomes.{Mapped};
 ghost use Rattle.deku_bits.specs.ReaderCalls.{Reads};
 ghost use Rattle.deku_bits.specs.WriterCalls.{Writes};
 ghost use Rattle.deku.specs.Early.{Promptly};
+ghost use Rattle.deku_num.specs.declared.ctx.Endian.{Endian};
 
 use crate::traits::Symmetric;
+use deku::ctx::Endian;
 use deku::device::{Sink, Source};
 use deku::reader::Reader;
 use deku::writer::Writer;
@@ -31,10 +33,6 @@ pub trait Parted<Ctx>: Drop {
     // The record of parts.
     ghost record_of: { Self.Parts → Self };
 
-    /// The parts of the record.
-    fn parts(&self) -> Self::Parts
-        ensures { result ≡ parts_of self.now };
-
     /// The record of parts.
     fn from_parts(parts: Self::Parts) -> Self
     where
@@ -48,6 +46,19 @@ pub trait Parted<Ctx>: Drop {
     ghost there: { (v : Self) → record_of (parts_of v) ≡ v };
 }
 
+/// A record whose parts can be had without its memory: its fields are copied.
+///
+/// ```text
+/// fn parts(&self) -> Self::Parts {
+///     (Msb(self.sensor), Msb(self.state), Be(self.value))
+/// }
+/// ```
+pub trait ToParts<Ctx>: Parted<Ctx> {
+    /// The parts of the record.
+    fn parts(&self) -> Self::Parts
+        ensures { result ≡ Self.Parted.parts_of self.now };
+}
+
 /// A record whose reader and writer are those of its parts: it is `Symmetric<()>`. The page `docs/RECORDS.md` has one whole, and says what a record under
 /// another context states in its place.
 pub trait Record: Parted<()> + DekuReader<()> + DekuWriter<()> {
@@ -58,6 +69,26 @@ pub trait Record: Parted<()> + DekuReader<()> + DekuWriter<()> {
     // Nothing is written but the parts.
     ghost writes: { (v : Self) (b : Bool) (s : Standing Output) (r : Result (Unit {0}) Refusal) (u : Standing Output)
         → Self.DekuWriter.meaning v tt b s r u → Self.Parts.DekuWriter.meaning (Self.parts_of v) tt b s r u };
+}
+
+/// A record whose reader and writer are those of its parts under an endian that is chosen where it is read or written: it is `Symmetric<Endian>`. It states the
+/// same as `Record` does, for each endian.
+///
+/// ```text
+/// impl EndianRecord for Fields {
+///     ghost reads = { λ c b s r u m. m };
+///
+///     ghost writes = { λ c v b s r u m. m };
+/// }
+/// ```
+pub trait EndianRecord: Parted<Endian> + DekuReader<Endian> + DekuWriter<Endian> {
+    // Nothing is read but the parts.
+    ghost reads: { (c : Endian) (b : Bool) (s : Standing (Option Stream)) (r : Result Self Refusal) (u : Standing (Option Stream))
+        → Self.DekuReader.meaning c b s r u → Mapped Self.record_of (Self.Parts.DekuReader.meaning c) b s r u };
+
+    // Nothing is written but the parts.
+    ghost writes: { (c : Endian) (v : Self) (b : Bool) (s : Standing Output) (r : Result (Unit {0}) Refusal) (u : Standing Output)
+        → Self.DekuWriter.meaning v c b s r u → Self.Parts.DekuWriter.meaning (Self.parts_of v) c b s r u };
 }
 
 /// Reads the parts, and is the record of them: the body of a record's `from_reader_with_ctx`.
@@ -79,20 +110,20 @@ pub fn read_record<Ctx, T: Parted<Ctx>, R: Source>(
     Ok(T::from_parts(parts))
 }
 
-/// Writes the parts of the record: the body of a record's `to_writer`.
+/// Writes the parts of the record: the body of a record's `to_writer`. A record that holds memory has its parts written where they lie, as by `write_led`.
 ///
 /// The caller's condition: the parts may be written. It is refused as they are, and what was written before stays written.
 ///
 /// ```text
 /// write_record(self, writer, ())
 /// ```
-pub fn write_record<Ctx, T: Parted<Ctx>, W: Sink>(
+pub fn write_record<Ctx, T: ToParts<Ctx>, W: Sink>(
     value: &T,
     writer: &mut Writer<W>,
     ctx: Ctx,
 ) -> Result<(), DekuError>
     requires { T.Parts.DekuWriter.accepts ctx }
-    ensures { Writes W.told (T.Parts.DekuWriter.meaning (T.parts_of value.now) ctx) writer.old result writer.new }
+    ensures { Writes W.told (T.Parts.DekuWriter.meaning (T.Parted.parts_of value.now) ctx) writer.old result writer.new }
 {
     value.parts().to_writer(writer, ctx)
 }
@@ -106,4 +137,15 @@ impl<R: Record> Symmetric<()> for R {
     ghost same = { λ v w. R.Parts.same (R.parts_of v) (R.parts_of w) };
 
     ghost symmetric = { λ c. told_symmetric R.record_of R.parts_of (λ p ps h. R.back p c ps h) (R.Parts.symmetric c) R.writes R.reads };
+}
+
+/// The pieces of the parts, under the endian.
+impl<R: EndianRecord> Symmetric<Endian> for R {
+    ghost use Rattle.deku_pieces.proofs.Turned.{told_symmetric};
+
+    ghost pieces = { λ v c. R.Parts.pieces (R.parts_of v) c };
+
+    ghost same = { λ v w. R.Parts.same (R.parts_of v) (R.parts_of w) };
+
+    ghost symmetric = { λ c. told_symmetric R.record_of R.parts_of (λ p ps h. R.back p c ps h) (R.Parts.symmetric c) (R.writes c) (R.reads c) };
 }

@@ -4,7 +4,7 @@ use deku::device::{Sink, Source};
 use deku::prelude::{
     DekuContainerRead, DekuContainerWrite, DekuError, DekuReader, DekuWriter, Reader, Writer,
 };
-use deku_symmetry::{Lsb, Parted, Record, read_record, write_record};
+use deku_symmetry::{Lsb, Parted, Record, ToParts, read_record, write_record};
 
 /// The signals: torques in percent above -125, the speed in eighths of a turn a minute.
 #[derive(Debug, PartialEq, Eq, Drop)]
@@ -50,14 +50,6 @@ impl Parted<()> for Engine {
       demand = p.2.2.0;
     } };
 
-    fn parts(&self) -> Self::Parts {
-        (
-            (Lsb(self.mode), Lsb(self.fraction), Lsb(self.demanded)),
-            (Lsb(self.actual), Lsb(self.speed), Lsb(self.controller)),
-            (Lsb(self.starter), Lsb(self.spare), Lsb(self.demand)),
-        )
-    }
-
     fn from_parts(parts: Self::Parts) -> Self {
         let (first, second, third) = parts;
         let (Lsb(mode), Lsb(fraction), Lsb(demanded)) = first;
@@ -79,6 +71,16 @@ impl Parted<()> for Engine {
     ghost back = { λ p c ps h. refl };
 
     ghost there = { λ r. refl };
+}
+
+impl ToParts<()> for Engine {
+    fn parts(&self) -> Self::Parts {
+        (
+            (Lsb(self.mode), Lsb(self.fraction), Lsb(self.demanded)),
+            (Lsb(self.actual), Lsb(self.speed), Lsb(self.controller)),
+            (Lsb(self.starter), Lsb(self.spare), Lsb(self.demand)),
+        )
+    }
 }
 
 impl Record for Engine {

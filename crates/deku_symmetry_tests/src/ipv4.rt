@@ -4,7 +4,7 @@ use deku::device::{Sink, Source};
 use deku::prelude::{
     DekuContainerRead, DekuContainerWrite, DekuError, DekuReader, DekuWriter, Reader, Writer,
 };
-use deku_symmetry::{Be, Msb, Parted, Record, read_record, write_record};
+use deku_symmetry::{Be, Msb, Parted, Record, ToParts, read_record, write_record};
 
 /// The header.
 #[derive(Debug, PartialEq, Eq, Drop)]
@@ -62,17 +62,6 @@ impl Parted<()> for Ipv4Header {
       target = p.4.1.0;
     } };
 
-    fn parts(&self) -> Self::Parts {
-        let h = self;
-        (
-            (Msb(h.version), Msb(h.words), Msb(h.service)),
-            (Msb(h.congestion), Be(h.length), Be(h.identification)),
-            (Msb(h.flags), Msb(h.offset), Be(h.time_to_live)),
-            (Be(h.protocol), Be(h.checksum)),
-            (Be(h.source), Be(h.target)),
-        )
-    }
-
     fn from_parts(parts: Self::Parts) -> Self {
         let (first, second, third, fourth, last) = parts;
         let (Msb(version), Msb(words), Msb(service)) = first;
@@ -100,6 +89,19 @@ impl Parted<()> for Ipv4Header {
     ghost back = { λ p c ps h. refl };
 
     ghost there = { λ h. refl };
+}
+
+impl ToParts<()> for Ipv4Header {
+    fn parts(&self) -> Self::Parts {
+        let h = self;
+        (
+            (Msb(h.version), Msb(h.words), Msb(h.service)),
+            (Msb(h.congestion), Be(h.length), Be(h.identification)),
+            (Msb(h.flags), Msb(h.offset), Be(h.time_to_live)),
+            (Be(h.protocol), Be(h.checksum)),
+            (Be(h.source), Be(h.target)),
+        )
+    }
 }
 
 impl Record for Ipv4Header {

@@ -5,7 +5,7 @@ use deku::prelude::{
     DekuContainerRead, DekuContainerWrite, DekuError, DekuReader, DekuWriter, Reader, Writer,
 };
 use deku_symmetry::{
-    Be, Choice, Msb, MsbTagged, Only, Parted, Record, Tagged, read_record, write_record,
+    Be, Choice, Msb, MsbTagged, Only, Parted, Record, Tagged, ToParts, read_record, write_record,
 };
 
 /// A message.
@@ -44,16 +44,6 @@ impl Parted<()> for Message {
       | first.Other rest ↦ elim rest [ second.This place ↦ Move place.0.0 place.1.0 | second.Other none ↦ Stop ]
     ] };
 
-    fn parts(&self) -> Self::Parts {
-        match self {
-            Message::Tone(height) => Tagged::This(Be(*height)),
-            Message::Move { across, up } => {
-                Tagged::Other(Choice::This((Msb(*across), Msb(*up))))
-            }
-            Message::Stop => Tagged::Other(Choice::Other(Only(()))),
-        }
-    }
-
     fn from_parts(parts: Self::Parts) -> Self {
         match parts {
             Tagged::This(Be(height)) => Message::Tone(height),
@@ -69,6 +59,18 @@ impl Parted<()> for Message {
     ] };
 
     ghost there = { elim [ Tone height ↦ refl | Move across up ↦ refl | Stop ↦ refl ] };
+}
+
+impl ToParts<()> for Message {
+    fn parts(&self) -> Self::Parts {
+        match self {
+            Message::Tone(height) => Tagged::This(Be(*height)),
+            Message::Move { across, up } => {
+                Tagged::Other(Choice::This((Msb(*across), Msb(*up))))
+            }
+            Message::Stop => Tagged::Other(Choice::Other(Only(()))),
+        }
+    }
 }
 
 impl Record for Message {

@@ -4,7 +4,9 @@ use deku::device::{Sink, Source};
 use deku::prelude::{
     DekuContainerRead, DekuContainerWrite, DekuError, DekuReader, DekuWriter, Reader, Writer,
 };
-use deku_symmetry::{Be, Le, Lsb, LsbBe, Msb, MsbLe, Parted, Record, read_record, write_record};
+use deku_symmetry::{
+    Be, Le, Lsb, LsbBe, Msb, MsbLe, Parted, Record, ToParts, read_record, write_record,
+};
 
 /// A place: two signed numbers of twelve bits.
 #[derive(Debug, PartialEq, Eq, Drop)]
@@ -25,10 +27,6 @@ impl Parted<()> for Place {
 
     ghost record_of = { λ p. record { across = p.0.0; up = p.1.0 } };
 
-    fn parts(&self) -> Self::Parts {
-        (Msb(self.across), Msb(self.up))
-    }
-
     fn from_parts(parts: Self::Parts) -> Self {
         let (Msb(across), Msb(up)) = parts;
         Place { across, up }
@@ -37,6 +35,12 @@ impl Parted<()> for Place {
     ghost back = { λ p c ps h. refl };
 
     ghost there = { λ p. refl };
+}
+
+impl ToParts<()> for Place {
+    fn parts(&self) -> Self::Parts {
+        (Msb(self.across), Msb(self.up))
+    }
 }
 
 impl Record for Place {
@@ -124,19 +128,6 @@ impl Parted<()> for Report {
       quality = p.3.1.0;
     } };
 
-    fn parts(&self) -> Self::Parts {
-        let place = Place {
-            across: self.place.across,
-            up: self.place.up,
-        };
-        (
-            (Lsb(self.kind), Lsb(self.serial)),
-            (Le(self.time), Be(self.level), self.fresh, place),
-            (MsbLe(self.reading), Msb(self.spare)),
-            (LsbBe(self.stamp), LsbBe(self.quality)),
-        )
-    }
-
     fn from_parts(parts: Self::Parts) -> Self {
         let (first, second, third, fourth) = parts;
         let (Lsb(kind), Lsb(serial)) = first;
@@ -160,6 +151,21 @@ impl Parted<()> for Report {
     ghost back = { λ p c ps h. refl };
 
     ghost there = { λ r. refl };
+}
+
+impl ToParts<()> for Report {
+    fn parts(&self) -> Self::Parts {
+        let place = Place {
+            across: self.place.across,
+            up: self.place.up,
+        };
+        (
+            (Lsb(self.kind), Lsb(self.serial)),
+            (Le(self.time), Be(self.level), self.fresh, place),
+            (MsbLe(self.reading), Msb(self.spare)),
+            (LsbBe(self.stamp), LsbBe(self.quality)),
+        )
+    }
 }
 
 impl Record for Report {

@@ -4,7 +4,7 @@ use deku::device::{Sink, Source};
 use deku::prelude::{
     DekuContainerRead, DekuContainerWrite, DekuError, DekuReader, DekuWriter, Reader, Writer,
 };
-use deku_symmetry::{Be, Parted, Record, read_record, write_record};
+use deku_symmetry::{Be, Parted, Record, ToParts, read_record, write_record};
 
 /// The header.
 #[derive(Debug, PartialEq, Eq, Drop)]
@@ -27,15 +27,6 @@ impl Parted<()> for UdpHeader {
 
     ghost record_of = { λ p. record { source = p.0.0; target = p.1.0; length = p.2.0; checksum = p.3.0 } };
 
-    fn parts(&self) -> Self::Parts {
-        (
-            Be(self.source),
-            Be(self.target),
-            Be(self.length),
-            Be(self.checksum),
-        )
-    }
-
     fn from_parts(parts: Self::Parts) -> Self {
         let (Be(source), Be(target), Be(length), Be(checksum)) = parts;
         UdpHeader {
@@ -49,6 +40,17 @@ impl Parted<()> for UdpHeader {
     ghost back = { λ p c ps h. refl };
 
     ghost there = { λ r. refl };
+}
+
+impl ToParts<()> for UdpHeader {
+    fn parts(&self) -> Self::Parts {
+        (
+            Be(self.source),
+            Be(self.target),
+            Be(self.length),
+            Be(self.checksum),
+        )
+    }
 }
 
 impl Record for UdpHeader {

@@ -1,4 +1,3 @@
-use Rattle.std.proofs.Common.{ap, Some}
 use Rattle.deku_bits.proofs.Handing.{weaker}
 use Rattle.deku_pieces.specs.Leading.{Counted}
 use Rattle.deku_pieces.proofs.led.read_counted.Goals as goal
