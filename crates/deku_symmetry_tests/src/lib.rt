@@ -13,6 +13,8 @@ mod message;
 #[cfg(test)]
 mod packing;
 #[cfg(test)]
+mod parts;
+#[cfg(test)]
 mod records;
 #[cfg(test)]
 mod report;

@@ -1,0 +1,231 @@
+//! Parts that are always one value, records that hold memory or are read under an endian, and numbers whose bits lie apart.
+
+use crate::expecting::expect_packed;
+use deku::ctx::Endian;
+use deku::device::{Sink, Source};
+use deku::prelude::{DekuError, DekuReader, DekuWriter, Reader, Writer};
+use deku_symmetry::scattered::{high_bits, low_bits};
+use deku_symmetry::{
+    Be, Constant, Constants, EndianRecord, Fixed, Le, Led, Parted, Record, ToParts, read_record,
+    write_led, write_record,
+};
+use std::io::Cursor;
+use std::test::Fail;
+
+// Two bytes that are always the same.
+#[derive(Debug, PartialEq, Eq, Drop)]
+struct Magic;
+
+impl Constant<Be<u16>> for Magic {
+    ghost use Rattle.std.specs.Prelude.{codes};
+
+    ghost value = { record { 0 = 0x4D5A } };
+
+    ghost text = { codes "magic" };
+
+    fn value() -> Be<u16> {
+        Be(0x4D5A)
+    }
+
+    fn is_value(part: &Be<u16>) -> bool {
+        part.0 == 0x4D5A
+    }
+
+    fn text() -> &'static str {
+        "magic"
+    }
+}
+
+impl Constants<Be<u16>> for Magic {
+    ghost use Rattle.std.specs.Prelude.{refl};
+
+    ghost alike = { λ v e. rw e refl };
+}
+
+#[test]
+fn one_value(rt: HostRuntime) -> Result<(), Fail> {
+    let alloc = rt.alloc();
+    let start: (Fixed<Be<u16>, Magic>, u8) = (Fixed::new(), 7);
+    expect_packed(&rt, alloc, (), &start, 24, &[0x4D, 0x5A, 0x07])?;
+    let bytes: &[u8] = &[0x4D, 0x5B, 0x07];
+    let mut reader = Reader::new(alloc, Cursor::new(bytes));
+    let refusal = DekuError::Assertion("magic");
+    assert_eq!(rt;
+        Fixed::<Be<u16>, Magic>::from_reader_with_ctx(&mut reader, ()),
+        Err(refusal)
+    );
+    assert_eq!(rt; reader.bits_read(), 16);
+    Ok(())
+}
+
+// A record that holds memory: a text, and in front of it how many bytes it has.
+#[derive(Debug, PartialEq, Eq, Drop)]
+struct Text {
+    length: u8,
+    bytes: Vec<u8>,
+}
+
+impl Parted<()> for Text {
+    ghost use Rattle.std.specs.Prelude.{refl};
+
+    type Parts = Led<u8, u8>;
+
+    ghost parts_of = { λ t. record { head = t.length; items = t.bytes } };
+
+    ghost record_of = { λ p. record { length = p.head; bytes = p.items } };
+
+    fn from_parts(parts: Self::Parts) -> Self {
+        Text {
+            length: parts.head,
+            bytes: parts.items,
+        }
+    }
+
+    ghost back = { λ p c ps h. refl };
+
+    ghost there = { λ t. refl };
+}
+
+impl Record for Text {
+    ghost reads = { λ b s r u m. m };
+
+    ghost writes = { λ v b s r u m. m };
+}
+
+impl DekuReader<()> for Text {
+    ghost use Rattle.deku.specs.Outcomes.{Mapped};
+
+    ghost accepts = { ⟦<Led<u8, u8> as DekuReader<()>>⟧.accepts };
+
+    ghost prompt = { ⟦<Led<u8, u8> as DekuReader<()>>⟧.prompt };
+
+    ghost meaning = { λ _. Mapped ⟦<Text as Parted<()>>⟧.record_of (⟦<Led<u8, u8> as DekuReader<()>>⟧.meaning tt) };
+
+    fn from_reader_with_ctx<R: Source>(
+        reader: &mut Reader<R>,
+        _ctx: (),
+    ) -> Result<Self, DekuError> {
+        read_record(reader, ())
+    }
+}
+
+impl DekuWriter<()> for Text {
+    ghost accepts = { ⟦<Led<u8, u8> as DekuWriter<()>>⟧.accepts };
+
+    ghost meaning = { λ v _. ⟦<Led<u8, u8> as DekuWriter<()>>⟧.meaning (⟦<Text as Parted<()>>⟧.parts_of v) tt };
+
+    fn to_writer<W: Sink>(&self, writer: &mut Writer<W>, _ctx: ()) -> Result<(), DekuError> {
+        write_led(&self.length, &self.bytes, writer)
+    }
+}
+
+#[test]
+fn a_record_that_holds_memory(rt: HostRuntime) -> Result<(), Fail> {
+    let alloc = rt.alloc();
+    let text = Text {
+        length: 2,
+        bytes: [0x68u8, 0x69].to_vec(alloc)?,
+    };
+    expect_packed(&rt, alloc, (), &text, 24, &[0x02, 0x68, 0x69])
+}
+
+// A record whose endian comes from outside.
+#[derive(Debug, Clone, Copy, PartialEq, Eq)]
+struct Pair {
+    first: u16,
+    second: u32,
+}
+
+// Its fields as they lie.
+type PairParts = (u16, u32);
+
+impl Parted<Endian> for Pair {
+    ghost use Rattle.std.specs.Prelude.{refl};
+
+    type Parts = PairParts;
+
+    ghost parts_of = { λ p. (p.first, p.second) };
+
+    ghost record_of = { λ p. record { first = p.0; second = p.1 } };
+
+    fn from_parts(parts: Self::Parts) -> Self {
+        let (first, second) = parts;
+        Pair { first, second }
+    }
+
+    ghost back = { λ p c ps h. refl };
+
+    ghost there = { λ p. refl };
+}
+
+impl ToParts<Endian> for Pair {
+    fn parts(&self) -> Self::Parts {
+        (self.first, self.second)
+    }
+}
+
+impl EndianRecord for Pair {
+    ghost reads = { λ c b s r u m. m };
+
+    ghost writes = { λ c v b s r u m. m };
+}
+
+impl DekuReader<Endian> for Pair {
+    ghost use Rattle.deku.specs.Outcomes.{Mapped};
+
+    ghost accepts = { ⟦<PairParts as DekuReader<Endian>>⟧.accepts };
+
+    ghost prompt = { ⟦<PairParts as DekuReader<Endian>>⟧.prompt };
+
+    ghost meaning = { λ c. Mapped ⟦<Pair as Parted<Endian>>⟧.record_of (⟦<PairParts as DekuReader<Endian>>⟧.meaning c) };
+
+    fn from_reader_with_ctx<R: Source>(
+        reader: &mut Reader<R>,
+        ctx: Endian,
+    ) -> Result<Self, DekuError> {
+        read_record(reader, ctx)
+    }
+}
+
+impl DekuWriter<Endian> for Pair {
+    ghost accepts = { ⟦<PairParts as DekuWriter<Endian>>⟧.accepts };
+
+    ghost meaning = { λ v c. ⟦<PairParts as DekuWriter<Endian>>⟧.meaning (⟦<Pair as Parted<Endian>>⟧.parts_of v) c };
+
+    fn to_writer<W: Sink>(&self, writer: &mut Writer<W>, ctx: Endian) -> Result<(), DekuError> {
+        write_record(self, writer, ctx)
+    }
+}
+
+#[test]
+fn a_record_under_an_endian(rt: HostRuntime) -> Result<(), Fail> {
+    let alloc = rt.alloc();
+    let pair = Pair {
+        first: 0x0102,
+        second: 0x03040506,
+    };
+    let high = [0x01, 0x02, 0x03, 0x04, 0x05, 0x06];
+    let low = [0x02, 0x01, 0x06, 0x05, 0x04, 0x03];
+    expect_packed(&rt, alloc, Endian::Big, &pair, 48, &high)?;
+    expect_packed(&rt, alloc, Endian::Little, &pair, 48, &low)?;
+    expect_packed(&rt, alloc, (), &Le(pair), 48, &low)
+}
+
+// A number, how many bits are low ones, these, and the high ones.
+const PARTED: [(i32, u32, u32, i32); 6] = [
+    (-2, 5, 30, -1),
+    (2047, 5, 31, 63),
+    (-2048, 5, 0, -64),
+    (-1, 11, 2047, -1),
+    (i32::MIN, 30, 0, -2),
+    (i32::MAX, 30, 0x3FFF_FFFF, 1),
+];
+
+#[test]
+fn bits_that_lie_apart(rt: HostRuntime) {
+    for (value, bits, low, high) in PARTED {
+        assert!(rt; bits <= 30);
+        let parted = (low_bits(value, bits), high_bits(value, bits));
+        assert!(rt; parted == (low, high), "{value}: {parted:?}");
+    }
+}
