@@ -13,3 +13,5 @@ mod kept_in_step;
 mod own_devices;
 #[cfg(test)]
 mod records;
+#[cfg(test)]
+mod sample;

@@ -69,7 +69,7 @@ takes_from_reads (i ∷ is) S T r =
     )
 
 -- pieces have the shapes of their fields
-shapes : (items : List Item) (ps : List Piece) → ArePieces items ps → map shape ps ≡ map field_shape (fields_of items)
+pub shapes : (items : List Item) (ps : List Piece) → ArePieces items ps → map shape ps ≡ map field_shape (fields_of items)
 shapes [] [] a = refl
 shapes [] (p ∷ ps) a = absurd a
 shapes (i ∷ is) [] a = absurd a

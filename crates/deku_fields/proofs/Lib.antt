@@ -22,3 +22,10 @@ pub mod Cuts
 pub mod Giving
 pub mod Causes
 pub mod Cutting
+pub mod OneBit
+pub mod Printing
+pub mod Meeting
+pub mod Lying
+pub mod Showing
+pub mod Marking
+pub mod Drawing

@@ -9,3 +9,4 @@ pub mod Naming
 pub mod Runs
 pub mod Cuts
 pub mod Cutting
+pub mod Places

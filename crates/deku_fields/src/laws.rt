@@ -3,6 +3,7 @@
 ghost use Rattle.deku_fields.specs.Cutting.{CutLaw, CutItemsLaw};
 ghost use Rattle.deku_fields.specs.Cuts.{WriteCutLaw, WriteCallsLaw, WritePartsLaw, ReadCutLaw, ReadCallsLaw, LookLaw, ReadPartsLaw};
 ghost use Rattle.deku_fields.specs.Headline.{PieceLaw, LayoutLaw, ThereLaw, BackLaw, CallsLaw};
+ghost use Rattle.deku_fields.specs.Places.{PlaceLaw};
 ghost use Rattle.deku_fields.specs.Promise.{PaddedLaw};
 ghost use Rattle.deku_fields.specs.Rows.{ListRows, PromiseRows, TurnedRows, MisfitRows, CutRows};
 
@@ -81,6 +82,11 @@ pub fn cut_law()
 /// Items whose values were cut have the pieces, and so the bytes, that they were written as while each size in bytes cut.
 pub fn cut_items_law()
     ensures { CutItemsLaw }
+{}
+
+/// Each bit that aligned fitting items lay out is that bit of the value of the item that has it, or zero where no item has one.
+pub fn place_law()
+    ensures { PlaceLaw }
 {}
 
 /// Worked examples of lists of fields, read and written.

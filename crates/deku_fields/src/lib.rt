@@ -4,6 +4,7 @@
 mod cut;
 pub mod laws;
 mod list;
+mod picture;
 mod program;
 mod read;
 mod words;
@@ -12,6 +13,7 @@ mod write;
 pub use cut::cut_to_bytes;
 pub use deku_frame::frame;
 pub use list::{Field, Item, Kind, Number};
+pub use picture::{Place, places};
 pub use program::run;
 pub use read::{list_from_bytes, read_list, read_list_into};
 pub use words::{parse_field, parse_item};

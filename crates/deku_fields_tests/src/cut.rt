@@ -86,6 +86,15 @@ fn leaves_nothing(rt: HostRuntime) {
     expect_left(&rt, &rows);
 }
 
+// What an item was written as before its size in bytes was strict.
+fn cut(item: &mut Item) -> Result<(), DekuError> {
+    let Some(kept) = cut_to_bytes(item.value, item.field) else {
+        return Err(DekuError::InvalidParam("value outside type"));
+    };
+    item.value = kept;
+    Ok(())
+}
+
 // The number is refused in the field, unless it fits, and what is left of it is written as the bytes.
 fn expect_bytes(
     rt: &impl Abort,
@@ -100,8 +109,9 @@ fn expect_bytes(
     }
     let refused = if fits { None } else { Some(MISFIT) };
     assert!(rt; refusal == refused, "{item:?}: {refusal:?}");
-    let value = cut_to_bytes(item.value, item.field).unwrap_or(item.value);
-    let written = list_to_bytes(alloc, &[Item { value, ..item }])?;
+    let mut item = item;
+    cut(&mut item)?;
+    let written = list_to_bytes(alloc, &[item])?;
     assert!(rt;
         written.as_slice() == want,
         "{item:?} cut: {written:?}, and not {want:?}"

@@ -10,6 +10,8 @@ mod items;
 #[cfg(test)]
 mod list;
 #[cfg(test)]
+mod picture;
+#[cfg(test)]
 mod program;
 #[cfg(test)]
 mod rewriting;

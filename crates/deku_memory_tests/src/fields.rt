@@ -2,8 +2,10 @@
 
 use crate::expecting::{NO_MEMORY, reader_of, same};
 use deku::ctx::{Endian, Layout, Order, Size};
+use deku::error::DekuError;
 use deku_fields::{
-    Field, Item, Kind, Number, list_from_bytes, list_to_bytes, read_list, read_list_into,
+    Field, Item, Kind, Number, Place, list_from_bytes, list_to_bytes, places, read_list,
+    read_list_into,
 };
 use std::test::Fail;
 
@@ -83,5 +85,31 @@ fn to_bytes_or_no_memory(rt: HostRuntime) {
     match list_to_bytes(rt.alloc(), &items) {
         Ok(bytes) => same(&rt, &"bytes", &bytes.as_slice(), &BYTES.as_slice()),
         Err(refusal) => same(&rt, &"refused", &refusal, &NO_MEMORY),
+    }
+}
+
+#[test]
+fn drawn_or_no_memory(rt: HostRuntime) {
+    match places(rt.alloc(), &fields()) {
+        Ok(picture) => {
+            let (first, last) = (Place { field: 0, bit: 3 }, Place { field: 2, bit: 0 });
+            let ends = (picture.first().copied(), picture.last().copied());
+            same(&rt, &"places", &picture.len(), &24);
+            same(&rt, &"ends", &ends, &(Some(Some(first)), Some(Some(last))));
+        }
+        Err(refusal) => same(&rt, &"refused", &refusal, &NO_MEMORY),
+    }
+}
+
+// What has no picture is told so before memory is asked for.
+#[test]
+fn refused_before_memory(rt: HostRuntime) {
+    let [first, second, _] = fields();
+    let mut turned = second;
+    turned.layout.order = Order::Lsb0;
+    let want = DekuError::InvalidParam("order changes inside a byte");
+    match places(rt.alloc(), &[first, turned]) {
+        Ok(picture) => assert!(&rt; false, "drawn: {picture:?}"),
+        Err(refusal) => same(&rt, &"refused", &refusal, &want),
     }
 }

@@ -25,7 +25,7 @@ use deku::{DekuError, DekuReader, DekuWriter};
 /// ```
 pub trait Parted<Ctx>: Drop {
     /// The parts, in the order in which they lie.
-    type Parts: Symmetric<Ctx>;
+    type Parts: Drop;
 
     // The parts of a record.
     ghost parts_of: { Self → Self.Parts };
@@ -38,9 +38,6 @@ pub trait Parted<Ctx>: Drop {
     where
         Self: Sized,
         ensures { result ≡ record_of parts };
-
-    // Parts that have pieces are those of their record.
-    ghost back: { (p : Self.Parts) (c : Ctx) (ps : List Piece) → Self.Parts.pieces p c ps → parts_of (record_of p) ≡ p };
 
     // A record is that of its parts: no field is left out of them.
     ghost there: { (v : Self) → record_of (parts_of v) ≡ v };
@@ -61,7 +58,13 @@ pub trait ToParts<Ctx>: Parted<Ctx> {
 
 /// A record whose reader and writer are those of its parts: it is `Symmetric<()>`. The page `docs/RECORDS.md` has one whole, and says what a record under
 /// another context states in its place.
-pub trait Record: Parted<()> + DekuReader<()> + DekuWriter<()> {
+pub trait Record: Parted<()> + DekuReader<()> + DekuWriter<()>
+where
+    Self::Parts: Symmetric<()>,
+{
+    // Parts that have pieces are those of their record.
+    ghost back: { (p : Self.Parts) (ps : List Piece) → Self.Parts.pieces p tt ps → Self.parts_of (Self.record_of p) ≡ p };
+
     // Nothing is read but the parts.
     ghost reads: { (b : Bool) (s : Standing (Option Stream)) (r : Result Self Refusal) (u : Standing (Option Stream))
         → Self.DekuReader.meaning tt b s r u → Mapped Self.record_of (Self.Parts.DekuReader.meaning tt) b s r u };
@@ -81,7 +84,13 @@ pub trait Record: Parted<()> + DekuReader<()> + DekuWriter<()> {
 ///     ghost writes = { λ c v b s r u m. m };
 /// }
 /// ```
-pub trait EndianRecord: Parted<Endian> + DekuReader<Endian> + DekuWriter<Endian> {
+pub trait EndianRecord: Parted<Endian> + DekuReader<Endian> + DekuWriter<Endian>
+where
+    Self::Parts: Symmetric<Endian>,
+{
+    // Parts that have pieces are those of their record.
+    ghost back: { (p : Self.Parts) (c : Endian) (ps : List Piece) → Self.Parts.pieces p c ps → Self.parts_of (Self.record_of p) ≡ p };
+
     // Nothing is read but the parts.
     ghost reads: { (c : Endian) (b : Bool) (s : Standing (Option Stream)) (r : Result Self Refusal) (u : Standing (Option Stream))
         → Self.DekuReader.meaning c b s r u → Mapped Self.record_of (Self.Parts.DekuReader.meaning c) b s r u };
@@ -102,6 +111,8 @@ pub fn read_record<Ctx, T: Parted<Ctx>, R: Source>(
     reader: &mut Reader<R>,
     ctx: Ctx,
 ) -> Result<T, DekuError>
+where
+    T::Parts: DekuReader<Ctx>,
     requires { T.Parts.DekuReader.accepts ctx }
     ensures reads { Reads R.told (Mapped T.record_of (T.Parts.DekuReader.meaning ctx)) reader.old result reader.new }
     ensures early { OnOk result (T.Parts.DekuReader.prompt ctx → Promptly R.told reader.old reader.new) }
@@ -122,6 +133,8 @@ pub fn write_record<Ctx, T: ToParts<Ctx>, W: Sink>(
     writer: &mut Writer<W>,
     ctx: Ctx,
 ) -> Result<(), DekuError>
+where
+    T::Parts: DekuWriter<Ctx>,
     requires { T.Parts.DekuWriter.accepts ctx }
     ensures { Writes W.told (T.Parts.DekuWriter.meaning (T.Parted.parts_of value.now) ctx) writer.old result writer.new }
 {
@@ -129,18 +142,24 @@ pub fn write_record<Ctx, T: ToParts<Ctx>, W: Sink>(
 }
 
 /// The pieces of the parts.
-impl<R: Record> Symmetric<()> for R {
+impl<R: Record> Symmetric<()> for R
+where
+    R::Parts: Symmetric<()>,
+{
     ghost use Rattle.deku_pieces.proofs.Turned.{told_symmetric};
 
     ghost pieces = { λ v c. R.Parts.pieces (R.parts_of v) c };
 
     ghost same = { λ v w. R.Parts.same (R.parts_of v) (R.parts_of w) };
 
-    ghost symmetric = { λ c. told_symmetric R.record_of R.parts_of (λ p ps h. R.back p c ps h) (R.Parts.symmetric c) R.writes R.reads };
+    ghost symmetric = { λ c. told_symmetric R.record_of R.parts_of (λ p ps h. R.back p ps h) (R.Parts.symmetric c) R.writes R.reads };
 }
 
 /// The pieces of the parts, under the endian.
-impl<R: EndianRecord> Symmetric<Endian> for R {
+impl<R: EndianRecord> Symmetric<Endian> for R
+where
+    R::Parts: Symmetric<Endian>,
+{
     ghost use Rattle.deku_pieces.proofs.Turned.{told_symmetric};
 
     ghost pieces = { λ v c. R.Parts.pieces (R.parts_of v) c };

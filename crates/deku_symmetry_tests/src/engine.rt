@@ -68,8 +68,6 @@ impl Parted<()> for Engine {
         }
     }
 
-    ghost back = { λ p c ps h. refl };
-
     ghost there = { λ r. refl };
 }
 
@@ -84,6 +82,10 @@ impl ToParts<()> for Engine {
 }
 
 impl Record for Engine {
+    ghost use Rattle.std.specs.Prelude.{refl};
+
+    ghost back = { λ p ps h. refl };
+
     ghost reads = { λ b s r u m. m };
 
     ghost writes = { λ v b s r u m. m };

@@ -86,8 +86,6 @@ impl Parted<()> for Ipv4Header {
         }
     }
 
-    ghost back = { λ p c ps h. refl };
-
     ghost there = { λ h. refl };
 }
 
@@ -105,6 +103,10 @@ impl ToParts<()> for Ipv4Header {
 }
 
 impl Record for Ipv4Header {
+    ghost use Rattle.std.specs.Prelude.{refl};
+
+    ghost back = { λ p ps h. refl };
+
     ghost reads = { λ b s r u m. m };
 
     ghost writes = { λ v b s r u m. m };

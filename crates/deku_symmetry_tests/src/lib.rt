@@ -5,7 +5,8 @@
 mod engine;
 #[cfg(test)]
 mod expecting;
-pub mod ipv4;
+#[cfg(test)]
+mod ipv4;
 #[cfg(test)]
 mod made;
 #[cfg(test)]
@@ -18,6 +19,9 @@ mod parts;
 mod records;
 #[cfg(test)]
 mod report;
-pub mod udp;
+#[cfg(test)]
+mod sample;
+#[cfg(test)]
+mod udp;
 #[cfg(test)]
 mod worked;

@@ -52,12 +52,6 @@ impl Parted<()> for Message {
         }
     }
 
-    ghost back = { elim [
-      | first.This tone ↦ λ c ps h. refl
-      | first.Other (second.This place) ↦ λ c ps h. refl
-      | first.Other (second.Other none) ↦ λ c ps h. refl
-    ] };
-
     ghost there = { elim [ Tone height ↦ refl | Move across up ↦ refl | Stop ↦ refl ] };
 }
 
@@ -74,6 +68,16 @@ impl ToParts<()> for Message {
 }
 
 impl Record for Message {
+    ghost use Rattle.std.specs.Prelude.{refl};
+    ghost use Rattle.deku_symmetry.specs.declared.choice.Tagged.TheVariants as first;
+    ghost use Rattle.deku_symmetry.specs.declared.choice.Choice.TheVariants as second;
+
+    ghost back = { elim [
+      | first.This tone ↦ λ ps h. refl
+      | first.Other (second.This place) ↦ λ ps h. refl
+      | first.Other (second.Other none) ↦ λ ps h. refl
+    ] };
+
     ghost reads = { λ b s r u m. m };
 
     ghost writes = { λ v b s r u m. m };

@@ -4,7 +4,8 @@ use crate::expecting::expect_packed;
 use deku::cstring::CString;
 use deku::ctx::{BitSize, ByteSize, Endian, Order};
 use deku::prelude::DekuError;
-use deku_symmetry::Symmetric;
+use deku_symmetry::{Be, Msb, Symmetric};
+use std::alloc::Global;
 use std::net::{Ipv4Addr, Ipv6Addr};
 use std::num::{NonZeroI8, NonZeroU16};
 use std::test::Fail;
@@ -12,6 +13,27 @@ use std::test::Fail;
 const BIG: Endian = Endian::Big;
 
 const LITTLE: Endian = Endian::Little;
+
+type Header = (Msb<u8, 4>, Msb<u8, 4>, Be<u16>);
+
+// A header as bytes, and what is read from them: how many bits, and the header.
+fn header_again(alloc: Global) -> Result<(usize, Header), DekuError> {
+    let header: Header = (Msb(6), Msb(9), Be(0xC0FE));
+    let bytes = header.pack(alloc, ())?; // 69 C0 FE
+    let (bits, again) = Header::unpack(alloc, bytes.as_slice(), ())?; // 24, and the same header
+    Ok((bits, again))
+}
+
+#[test]
+fn a_header_of_three_numbers(rt: HostRuntime) -> Result<(), Fail> {
+    let alloc = rt.alloc();
+    let header: Header = (Msb(6), Msb(9), Be(0xC0FE));
+    expect_packed(&rt, alloc, (), &header, 24, &[0x69, 0xC0, 0xFE])?;
+    let (bits, again) = header_again(alloc)?;
+    assert_eq!(rt; bits, 24);
+    assert_eq!(rt; (again.0.0, again.1.0, again.2.0), (6, 9, 0xC0FE));
+    Ok(())
+}
 
 #[test]
 fn numbers(rt: HostRuntime) -> Result<(), Fail> {

@@ -81,12 +81,14 @@ impl Parted<()> for Text {
         }
     }
 
-    ghost back = { λ p c ps h. refl };
-
     ghost there = { λ t. refl };
 }
 
 impl Record for Text {
+    ghost use Rattle.std.specs.Prelude.{refl};
+
+    ghost back = { λ p ps h. refl };
+
     ghost reads = { λ b s r u m. m };
 
     ghost writes = { λ v b s r u m. m };
@@ -153,8 +155,6 @@ impl Parted<Endian> for Pair {
         Pair { first, second }
     }
 
-    ghost back = { λ p c ps h. refl };
-
     ghost there = { λ p. refl };
 }
 
@@ -165,6 +165,10 @@ impl ToParts<Endian> for Pair {
 }
 
 impl EndianRecord for Pair {
+    ghost use Rattle.std.specs.Prelude.{refl};
+
+    ghost back = { λ p c ps h. refl };
+
     ghost reads = { λ c b s r u m. m };
 
     ghost writes = { λ c v b s r u m. m };

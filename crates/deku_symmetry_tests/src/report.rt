@@ -32,8 +32,6 @@ impl Parted<()> for Place {
         Place { across, up }
     }
 
-    ghost back = { λ p c ps h. refl };
-
     ghost there = { λ p. refl };
 }
 
@@ -44,6 +42,10 @@ impl ToParts<()> for Place {
 }
 
 impl Record for Place {
+    ghost use Rattle.std.specs.Prelude.{refl};
+
+    ghost back = { λ p ps h. refl };
+
     ghost reads = { λ b s r u m. m };
 
     ghost writes = { λ v b s r u m. m };
@@ -148,8 +150,6 @@ impl Parted<()> for Report {
         }
     }
 
-    ghost back = { λ p c ps h. refl };
-
     ghost there = { λ r. refl };
 }
 
@@ -169,6 +169,10 @@ impl ToParts<()> for Report {
 }
 
 impl Record for Report {
+    ghost use Rattle.std.specs.Prelude.{refl};
+
+    ghost back = { λ p ps h. refl };
+
     ghost reads = { λ b s r u m. m };
 
     ghost writes = { λ v b s r u m. m };

@@ -37,8 +37,6 @@ impl Parted<()> for UdpHeader {
         }
     }
 
-    ghost back = { λ p c ps h. refl };
-
     ghost there = { λ r. refl };
 }
 
@@ -54,6 +52,10 @@ impl ToParts<()> for UdpHeader {
 }
 
 impl Record for UdpHeader {
+    ghost use Rattle.std.specs.Prelude.{refl};
+
+    ghost back = { λ p ps h. refl };
+
     ghost reads = { λ b s r u m. m };
 
     ghost writes = { λ v b s r u m. m };

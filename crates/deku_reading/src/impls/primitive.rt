@@ -14,6 +14,17 @@ use deku_num::calls::{read_signed, read_unsigned};
 use deku_num::ctx::NumberCtx;
 use deku_num::kind::NumberType;
 
+/// Reads a `u8` as its context says: the whole eight bits, or as many as a `BitSize` says; under a `ByteSize` they are eight.
+///
+/// It is refused, in this order,
+///
+/// - with `Parse("too much data")` where the size is beyond eight bits; nothing changes, also where the reader has stopped;
+/// - with `Incomplete` where the input ends before the last of the bits, or `Io` where the source fails: the reader has stopped then, and counts
+///   what it did before.
+///
+/// ```text
+/// u8::from_reader_with_ctx(&mut reader, BitSize(4))?                          // 6 from 69
+/// ```
 impl<C: NumberCtx> DekuReader<C> for u8 {
     ghost use Rattle.std.specs.Prelude.{◌≡◌};
     ghost use Rattle.deku_num.specs.Numbers.{byte};
@@ -37,6 +48,17 @@ impl<C: NumberCtx> DekuReader<C> for u8 {
     }
 }
 
+/// Reads a `u16` as its context says: the whole 16 bits, or as many bits or bytes as a size says.
+///
+/// It is refused, in this order,
+///
+/// - with `Parse("too much data")` where the size is beyond 16 bits; nothing changes, also where the reader has stopped;
+/// - with `Incomplete` where the input ends before the last of the bits, or `Io` where the source fails: the reader has stopped then, and counts
+///   what it did before.
+///
+/// ```text
+/// u16::from_reader_with_ctx(&mut reader, Endian::Big)?                        // 0xC0FE from C0 FE
+/// ```
 impl<C: NumberCtx> DekuReader<C> for u16 {
     ghost use Rattle.std.specs.Prelude.{◌≡◌};
     ghost use Rattle.deku_num.specs.Numbers.{unsigned};
@@ -60,6 +82,17 @@ impl<C: NumberCtx> DekuReader<C> for u16 {
     }
 }
 
+/// Reads a `u32` as its context says: the whole 32 bits, or as many bits or bytes as a size says.
+///
+/// It is refused, in this order,
+///
+/// - with `Parse("too much data")` where the size is beyond 32 bits; nothing changes, also where the reader has stopped;
+/// - with `Incomplete` where the input ends before the last of the bits, or `Io` where the source fails: the reader has stopped then, and counts
+///   what it did before.
+///
+/// ```text
+/// u32::from_reader_with_ctx(&mut reader, ByteSize(3))?                        // 0x030201 from 01 02 03
+/// ```
 impl<C: NumberCtx> DekuReader<C> for u32 {
     ghost use Rattle.std.specs.Prelude.{◌≡◌};
     ghost use Rattle.deku_num.specs.Numbers.{unsigned};
@@ -83,6 +116,17 @@ impl<C: NumberCtx> DekuReader<C> for u32 {
     }
 }
 
+/// Reads a `u64` as its context says: the whole 64 bits, or as many bits or bytes as a size says.
+///
+/// It is refused, in this order,
+///
+/// - with `Parse("too much data")` where the size is beyond 64 bits; nothing changes, also where the reader has stopped;
+/// - with `Incomplete` where the input ends before the last of the bits, or `Io` where the source fails: the reader has stopped then, and counts
+///   what it did before.
+///
+/// ```text
+/// u64::from_reader_with_ctx(&mut reader, (Endian::Big, ByteSize(5)))?         // 1 from 00 00 00 00 01
+/// ```
 impl<C: NumberCtx> DekuReader<C> for u64 {
     ghost use Rattle.std.specs.Prelude.{◌≡◌};
     ghost use Rattle.deku_num.specs.Numbers.{unsigned};
@@ -106,6 +150,17 @@ impl<C: NumberCtx> DekuReader<C> for u64 {
     }
 }
 
+/// Reads a `u128` as its context says: the whole 128 bits, or as many bits or bytes as a size says.
+///
+/// It is refused, in this order,
+///
+/// - with `Parse("too much data")` where the size is beyond 128 bits; nothing changes, also where the reader has stopped;
+/// - with `Incomplete` where the input ends before the last of the bits, or `Io` where the source fails: the reader has stopped then, and counts
+///   what it did before.
+///
+/// ```text
+/// u128::from_reader_with_ctx(&mut reader, (Endian::Little, ByteSize(9)))?     // 2 from 02 and eight bytes of zeros
+/// ```
 impl<C: NumberCtx> DekuReader<C> for u128 {
     ghost use Rattle.std.specs.Prelude.{◌≡◌};
     ghost use Rattle.deku_num.specs.Numbers.{unsigned};
@@ -129,6 +184,17 @@ impl<C: NumberCtx> DekuReader<C> for u128 {
     }
 }
 
+/// Reads a `usize` as its context says: the whole 64 bits, or as many bits or bytes as a size says.
+///
+/// It is refused, in this order,
+///
+/// - with `Parse("too much data")` where the size is beyond 64 bits; nothing changes, also where the reader has stopped;
+/// - with `Incomplete` where the input ends before the last of the bits, or `Io` where the source fails: the reader has stopped then, and counts
+///   what it did before.
+///
+/// ```text
+/// usize::from_reader_with_ctx(&mut reader, (Endian::Big, BitSize(16)))?       // 258 from 01 02
+/// ```
 impl<C: NumberCtx> DekuReader<C> for usize {
     ghost use Rattle.std.specs.Prelude.{◌≡◌};
     ghost use Rattle.deku_num.specs.Numbers.{unsigned};
@@ -152,6 +218,17 @@ impl<C: NumberCtx> DekuReader<C> for usize {
     }
 }
 
+/// Reads a `i8` as its context says: the whole eight bits, or as many bits or bytes as a size says; in two's complement.
+///
+/// It is refused, in this order,
+///
+/// - with `Parse("too much data")` where the size is beyond eight bits; nothing changes, also where the reader has stopped;
+/// - with `Incomplete` where the input ends before the last of the bits, or `Io` where the source fails: the reader has stopped then, and counts
+///   what it did before.
+///
+/// ```text
+/// i8::from_reader_with_ctx(&mut reader, Endian::Little)?                      // -1 from FF
+/// ```
 impl<C: NumberCtx> DekuReader<C> for i8 {
     ghost use Rattle.std.specs.Prelude.{◌≡◌};
     ghost use Rattle.deku_num.specs.Numbers.{signed};
@@ -175,6 +252,19 @@ impl<C: NumberCtx> DekuReader<C> for i8 {
     }
 }
 
+/// Reads a `i16` as its context says: the whole 16 bits, or as many bits or bytes as a size says; in two's complement.
+///
+/// It is refused, in this order,
+///
+/// - with `Parse("too much data")` where the size is beyond 16 bits; nothing changes, also where the reader has stopped;
+/// - with `InvalidParam("signed big Lsb0 field of this width")` where the field is big and `Lsb0`, of more than eight bits and no whole bytes;
+///   nothing changes;
+/// - with `Incomplete` where the input ends before the last of the bits, or `Io` where the source fails: the reader has stopped then, and counts
+///   what it did before.
+///
+/// ```text
+/// i16::from_reader_with_ctx(&mut reader, Endian::Big)?                        // -2 from FF FE
+/// ```
 impl<C: NumberCtx> DekuReader<C> for i16 {
     ghost use Rattle.std.specs.Prelude.{◌≡◌};
     ghost use Rattle.deku_num.specs.Numbers.{signed};
@@ -198,6 +288,19 @@ impl<C: NumberCtx> DekuReader<C> for i16 {
     }
 }
 
+/// Reads a `i32` as its context says: the whole 32 bits, or as many bits or bytes as a size says; in two's complement.
+///
+/// It is refused, in this order,
+///
+/// - with `Parse("too much data")` where the size is beyond 32 bits; nothing changes, also where the reader has stopped;
+/// - with `InvalidParam("signed big Lsb0 field of this width")` where the field is big and `Lsb0`, of more than eight bits and no whole bytes;
+///   nothing changes;
+/// - with `Incomplete` where the input ends before the last of the bits, or `Io` where the source fails: the reader has stopped then, and counts
+///   what it did before.
+///
+/// ```text
+/// i32::from_reader_with_ctx(&mut reader, (Endian::Big, ByteSize(2)))?         // -2 from FF FE
+/// ```
 impl<C: NumberCtx> DekuReader<C> for i32 {
     ghost use Rattle.std.specs.Prelude.{◌≡◌};
     ghost use Rattle.deku_num.specs.Numbers.{signed};
@@ -221,6 +324,19 @@ impl<C: NumberCtx> DekuReader<C> for i32 {
     }
 }
 
+/// Reads a `i64` as its context says: the whole 64 bits, or as many bits or bytes as a size says; in two's complement.
+///
+/// It is refused, in this order,
+///
+/// - with `Parse("too much data")` where the size is beyond 64 bits; nothing changes, also where the reader has stopped;
+/// - with `InvalidParam("signed big Lsb0 field of this width")` where the field is big and `Lsb0`, of more than eight bits and no whole bytes;
+///   nothing changes;
+/// - with `Incomplete` where the input ends before the last of the bits, or `Io` where the source fails: the reader has stopped then, and counts
+///   what it did before.
+///
+/// ```text
+/// i64::from_reader_with_ctx(&mut reader, (Endian::Little, ByteSize(2)))?      // -2 from FE FF
+/// ```
 impl<C: NumberCtx> DekuReader<C> for i64 {
     ghost use Rattle.std.specs.Prelude.{◌≡◌};
     ghost use Rattle.deku_num.specs.Numbers.{signed};
@@ -244,6 +360,19 @@ impl<C: NumberCtx> DekuReader<C> for i64 {
     }
 }
 
+/// Reads a `i128` as its context says: the whole 128 bits, or as many bits or bytes as a size says; in two's complement.
+///
+/// It is refused, in this order,
+///
+/// - with `Parse("too much data")` where the size is beyond 128 bits; nothing changes, also where the reader has stopped;
+/// - with `InvalidParam("signed big Lsb0 field of this width")` where the field is big and `Lsb0`, of more than eight bits and no whole bytes;
+///   nothing changes;
+/// - with `Incomplete` where the input ends before the last of the bits, or `Io` where the source fails: the reader has stopped then, and counts
+///   what it did before.
+///
+/// ```text
+/// i128::from_reader_with_ctx(&mut reader, (Endian::Big, BitSize(12)))?        // -1 from FF F0
+/// ```
 impl<C: NumberCtx> DekuReader<C> for i128 {
     ghost use Rattle.std.specs.Prelude.{◌≡◌};
     ghost use Rattle.deku_num.specs.Numbers.{signed};
@@ -267,6 +396,19 @@ impl<C: NumberCtx> DekuReader<C> for i128 {
     }
 }
 
+/// Reads a `isize` as its context says: the whole 64 bits, or as many bits or bytes as a size says; in two's complement.
+///
+/// It is refused, in this order,
+///
+/// - with `Parse("too much data")` where the size is beyond 64 bits; nothing changes, also where the reader has stopped;
+/// - with `InvalidParam("signed big Lsb0 field of this width")` where the field is big and `Lsb0`, of more than eight bits and no whole bytes;
+///   nothing changes;
+/// - with `Incomplete` where the input ends before the last of the bits, or `Io` where the source fails: the reader has stopped then, and counts
+///   what it did before.
+///
+/// ```text
+/// isize::from_reader_with_ctx(&mut reader, (Endian::Big, BitSize(16)))?       // 258 from 01 02
+/// ```
 impl<C: NumberCtx> DekuReader<C> for isize {
     ghost use Rattle.std.specs.Prelude.{◌≡◌};
     ghost use Rattle.deku_num.specs.Numbers.{signed};

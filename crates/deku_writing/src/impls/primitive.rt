@@ -8,6 +8,18 @@ use deku_num::calls::{write_signed, write_unsigned};
 use deku_num::ctx::NumberCtx;
 use deku_num::kind::NumberType;
 
+/// Writes a `u8` as its context says: the whole eight bits, or as many as a `BitSize` says; under a `ByteSize` they are eight.
+///
+/// It is refused, in this order,
+///
+/// - with `InvalidParam("bit size is larger than input")` where the size is beyond eight bits; nothing changes, also where the writer has
+///   stopped;
+/// - with `InvalidParam("bit size of input is larger than requested size")` where the value does not fit the bits; nothing changes;
+/// - with `Io` where the sink fails: the writer has stopped then.
+///
+/// ```text
+/// 6u8.to_writer(&mut writer, BitSize(4))?                                    // the four bits 0110
+/// ```
 impl<C: NumberCtx> DekuWriter<C> for u8 {
     ghost use Rattle.std.specs.Prelude.{◌≡◌, pos};
     ghost use Rattle.deku_num.specs.Numbers.{byte};
@@ -23,6 +35,18 @@ impl<C: NumberCtx> DekuWriter<C> for u8 {
     }
 }
 
+/// Writes a `u16` as its context says: the whole 16 bits, or as many bits or bytes as a size says.
+///
+/// It is refused, in this order,
+///
+/// - with `InvalidParam("bit size is larger than input")`, or `"byte size .."`, where the size is beyond 16 bits; nothing changes, also where
+///   the writer has stopped;
+/// - with `InvalidParam("bit size of input is larger than requested size")` where the value does not fit the bits; nothing changes;
+/// - with `Io` where the sink fails: the writer has stopped then.
+///
+/// ```text
+/// 0xC0FEu16.to_writer(&mut writer, Endian::Big)?                             // C0 FE
+/// ```
 impl<C: NumberCtx> DekuWriter<C> for u16 {
     ghost use Rattle.std.specs.Prelude.{◌≡◌, pos};
     ghost use Rattle.deku_num.specs.Numbers.{unsigned};
@@ -38,6 +62,18 @@ impl<C: NumberCtx> DekuWriter<C> for u16 {
     }
 }
 
+/// Writes a `u32` as its context says: the whole 32 bits, or as many bits or bytes as a size says.
+///
+/// It is refused, in this order,
+///
+/// - with `InvalidParam("bit size is larger than input")`, or `"byte size .."`, where the size is beyond 32 bits; nothing changes, also where
+///   the writer has stopped;
+/// - with `InvalidParam("bit size of input is larger than requested size")` where the value does not fit the bits; nothing changes;
+/// - with `Io` where the sink fails: the writer has stopped then.
+///
+/// ```text
+/// 0x030201u32.to_writer(&mut writer, ByteSize(3))?                           // 01 02 03
+/// ```
 impl<C: NumberCtx> DekuWriter<C> for u32 {
     ghost use Rattle.std.specs.Prelude.{◌≡◌, pos};
     ghost use Rattle.deku_num.specs.Numbers.{unsigned};
@@ -53,6 +89,18 @@ impl<C: NumberCtx> DekuWriter<C> for u32 {
     }
 }
 
+/// Writes a `u64` as its context says: the whole 64 bits, or as many bits or bytes as a size says.
+///
+/// It is refused, in this order,
+///
+/// - with `InvalidParam("bit size is larger than input")`, or `"byte size .."`, where the size is beyond 64 bits; nothing changes, also where
+///   the writer has stopped;
+/// - with `InvalidParam("bit size of input is larger than requested size")` where the value does not fit the bits; nothing changes;
+/// - with `Io` where the sink fails: the writer has stopped then.
+///
+/// ```text
+/// 1u64.to_writer(&mut writer, (Endian::Big, ByteSize(5)))?                   // 00 00 00 00 01
+/// ```
 impl<C: NumberCtx> DekuWriter<C> for u64 {
     ghost use Rattle.std.specs.Prelude.{◌≡◌, pos};
     ghost use Rattle.deku_num.specs.Numbers.{unsigned};
@@ -68,6 +116,18 @@ impl<C: NumberCtx> DekuWriter<C> for u64 {
     }
 }
 
+/// Writes a `u128` as its context says: the whole 128 bits, or as many bits or bytes as a size says.
+///
+/// It is refused, in this order,
+///
+/// - with `InvalidParam("bit size is larger than input")`, or `"byte size .."`, where the size is beyond 128 bits; nothing changes, also where
+///   the writer has stopped;
+/// - with `InvalidParam("bit size of input is larger than requested size")` where the value does not fit the bits; nothing changes;
+/// - with `Io` where the sink fails: the writer has stopped then.
+///
+/// ```text
+/// 2u128.to_writer(&mut writer, (Endian::Little, ByteSize(9)))?               // 02 and eight bytes of zeros
+/// ```
 impl<C: NumberCtx> DekuWriter<C> for u128 {
     ghost use Rattle.std.specs.Prelude.{◌≡◌, pos};
     ghost use Rattle.deku_num.specs.Numbers.{unsigned};
@@ -83,6 +143,18 @@ impl<C: NumberCtx> DekuWriter<C> for u128 {
     }
 }
 
+/// Writes a `usize` as its context says: the whole 64 bits, or as many bits or bytes as a size says.
+///
+/// It is refused, in this order,
+///
+/// - with `InvalidParam("bit size is larger than input")`, or `"byte size .."`, where the size is beyond 64 bits; nothing changes, also where
+///   the writer has stopped;
+/// - with `InvalidParam("bit size of input is larger than requested size")` where the value does not fit the bits; nothing changes;
+/// - with `Io` where the sink fails: the writer has stopped then.
+///
+/// ```text
+/// 258usize.to_writer(&mut writer, (Endian::Big, BitSize(16)))?               // 01 02
+/// ```
 impl<C: NumberCtx> DekuWriter<C> for usize {
     ghost use Rattle.std.specs.Prelude.{◌≡◌, pos};
     ghost use Rattle.deku_num.specs.Numbers.{unsigned};
@@ -98,6 +170,18 @@ impl<C: NumberCtx> DekuWriter<C> for usize {
     }
 }
 
+/// Writes a `i8` as its context says: the whole eight bits, or as many bits or bytes as a size says; in two's complement.
+///
+/// It is refused, in this order,
+///
+/// - with `InvalidParam("bit size is larger than input")`, or `"byte size .."`, where the size is beyond eight bits; nothing changes, also where
+///   the writer has stopped;
+/// - with `InvalidParam("bit size of input is larger than requested size")` where the value does not fit the bits; nothing changes;
+/// - with `Io` where the sink fails: the writer has stopped then.
+///
+/// ```text
+/// (-1i8).to_writer(&mut writer, Endian::Little)?                             // FF
+/// ```
 impl<C: NumberCtx> DekuWriter<C> for i8 {
     ghost use Rattle.std.specs.Prelude.{◌≡◌};
     ghost use Rattle.deku_num.specs.Numbers.{signed};
@@ -113,6 +197,20 @@ impl<C: NumberCtx> DekuWriter<C> for i8 {
     }
 }
 
+/// Writes a `i16` as its context says: the whole 16 bits, or as many bits or bytes as a size says; in two's complement.
+///
+/// It is refused, in this order,
+///
+/// - with `InvalidParam("bit size is larger than input")`, or `"byte size .."`, where the size is beyond 16 bits; nothing changes, also where
+///   the writer has stopped;
+/// - with `InvalidParam("signed big Lsb0 field of this width")` where the field is big and `Lsb0`, of more than eight bits and no whole bytes;
+///   nothing changes;
+/// - with `InvalidParam("bit size of input is larger than requested size")` where the value does not fit the bits; nothing changes;
+/// - with `Io` where the sink fails: the writer has stopped then.
+///
+/// ```text
+/// (-2i16).to_writer(&mut writer, Endian::Big)?                               // FF FE
+/// ```
 impl<C: NumberCtx> DekuWriter<C> for i16 {
     ghost use Rattle.std.specs.Prelude.{◌≡◌};
     ghost use Rattle.deku_num.specs.Numbers.{signed};
@@ -128,6 +226,20 @@ impl<C: NumberCtx> DekuWriter<C> for i16 {
     }
 }
 
+/// Writes a `i32` as its context says: the whole 32 bits, or as many bits or bytes as a size says; in two's complement.
+///
+/// It is refused, in this order,
+///
+/// - with `InvalidParam("bit size is larger than input")`, or `"byte size .."`, where the size is beyond 32 bits; nothing changes, also where
+///   the writer has stopped;
+/// - with `InvalidParam("signed big Lsb0 field of this width")` where the field is big and `Lsb0`, of more than eight bits and no whole bytes;
+///   nothing changes;
+/// - with `InvalidParam("bit size of input is larger than requested size")` where the value does not fit the bits; nothing changes;
+/// - with `Io` where the sink fails: the writer has stopped then.
+///
+/// ```text
+/// (-2i32).to_writer(&mut writer, (Endian::Big, ByteSize(2)))?                // FF FE
+/// ```
 impl<C: NumberCtx> DekuWriter<C> for i32 {
     ghost use Rattle.std.specs.Prelude.{◌≡◌};
     ghost use Rattle.deku_num.specs.Numbers.{signed};
@@ -143,6 +255,20 @@ impl<C: NumberCtx> DekuWriter<C> for i32 {
     }
 }
 
+/// Writes a `i64` as its context says: the whole 64 bits, or as many bits or bytes as a size says; in two's complement.
+///
+/// It is refused, in this order,
+///
+/// - with `InvalidParam("bit size is larger than input")`, or `"byte size .."`, where the size is beyond 64 bits; nothing changes, also where
+///   the writer has stopped;
+/// - with `InvalidParam("signed big Lsb0 field of this width")` where the field is big and `Lsb0`, of more than eight bits and no whole bytes;
+///   nothing changes;
+/// - with `InvalidParam("bit size of input is larger than requested size")` where the value does not fit the bits; nothing changes;
+/// - with `Io` where the sink fails: the writer has stopped then.
+///
+/// ```text
+/// (-2i64).to_writer(&mut writer, (Endian::Little, ByteSize(2)))?             // FE FF
+/// ```
 impl<C: NumberCtx> DekuWriter<C> for i64 {
     ghost use Rattle.std.specs.Prelude.{◌≡◌};
     ghost use Rattle.deku_num.specs.Numbers.{signed};
@@ -158,6 +284,20 @@ impl<C: NumberCtx> DekuWriter<C> for i64 {
     }
 }
 
+/// Writes a `i128` as its context says: the whole 128 bits, or as many bits or bytes as a size says; in two's complement.
+///
+/// It is refused, in this order,
+///
+/// - with `InvalidParam("bit size is larger than input")`, or `"byte size .."`, where the size is beyond 128 bits; nothing changes, also where
+///   the writer has stopped;
+/// - with `InvalidParam("signed big Lsb0 field of this width")` where the field is big and `Lsb0`, of more than eight bits and no whole bytes;
+///   nothing changes;
+/// - with `InvalidParam("bit size of input is larger than requested size")` where the value does not fit the bits; nothing changes;
+/// - with `Io` where the sink fails: the writer has stopped then.
+///
+/// ```text
+/// (-1i128).to_writer(&mut writer, (Endian::Big, BitSize(12)))?               // twelve bits that are set
+/// ```
 impl<C: NumberCtx> DekuWriter<C> for i128 {
     ghost use Rattle.std.specs.Prelude.{◌≡◌};
     ghost use Rattle.deku_num.specs.Numbers.{signed};
@@ -173,6 +313,20 @@ impl<C: NumberCtx> DekuWriter<C> for i128 {
     }
 }
 
+/// Writes a `isize` as its context says: the whole 64 bits, or as many bits or bytes as a size says; in two's complement.
+///
+/// It is refused, in this order,
+///
+/// - with `InvalidParam("bit size is larger than input")`, or `"byte size .."`, where the size is beyond 64 bits; nothing changes, also where
+///   the writer has stopped;
+/// - with `InvalidParam("signed big Lsb0 field of this width")` where the field is big and `Lsb0`, of more than eight bits and no whole bytes;
+///   nothing changes;
+/// - with `InvalidParam("bit size of input is larger than requested size")` where the value does not fit the bits; nothing changes;
+/// - with `Io` where the sink fails: the writer has stopped then.
+///
+/// ```text
+/// 258isize.to_writer(&mut writer, (Endian::Big, BitSize(16)))?               // 01 02
+/// ```
 impl<C: NumberCtx> DekuWriter<C> for isize {
     ghost use Rattle.std.specs.Prelude.{◌≡◌};
     ghost use Rattle.deku_num.specs.Numbers.{signed};

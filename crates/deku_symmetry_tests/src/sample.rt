@@ -1,0 +1,89 @@
+//! One sample.
+
+use deku::device::{Sink, Source};
+use deku::prelude::{
+    DekuContainerRead, DekuContainerWrite, DekuError, DekuReader, DekuWriter, Reader, Writer,
+};
+use deku_symmetry::{Be, Msb, Parted, Record, ToParts, read_record, write_record};
+
+/// Four bits of a sensor's number, four of its state, and two bytes of a value, all with their high bits first.
+#[derive(Debug, PartialEq, Eq, Drop)]
+pub struct Sample {
+    pub sensor: u8,
+    pub state: u8,
+    pub value: u16,
+}
+
+// The fields as they lie.
+type Parts = (Msb<u8, 4>, Msb<u8, 4>, Be<u16>);
+
+impl Parted<()> for Sample {
+    ghost use Rattle.std.specs.Prelude.{refl};
+
+    type Parts = Parts;
+
+    ghost parts_of = { λ s. (record { 0 = s.sensor }, record { 0 = s.state }, record { 0 = s.value }) };
+
+    ghost record_of = { λ p. record { sensor = p.0.0; state = p.1.0; value = p.2.0 } };
+
+    fn from_parts(parts: Self::Parts) -> Self {
+        let (Msb(sensor), Msb(state), Be(value)) = parts;
+        Sample {
+            sensor,
+            state,
+            value,
+        }
+    }
+
+    ghost there = { λ s. refl };
+}
+
+impl ToParts<()> for Sample {
+    fn parts(&self) -> Self::Parts {
+        (Msb(self.sensor), Msb(self.state), Be(self.value))
+    }
+}
+
+impl Record for Sample {
+    ghost use Rattle.std.specs.Prelude.{refl};
+
+    ghost back = { λ p ps h. refl };
+
+    ghost reads = { λ b s r u m. m };
+
+    ghost writes = { λ v b s r u m. m };
+}
+
+impl DekuReader<()> for Sample {
+    ghost use Rattle.deku.specs.Outcomes.{Mapped};
+
+    ghost accepts = { ⟦<Parts as DekuReader<()>>⟧.accepts };
+
+    ghost prompt = { ⟦<Parts as DekuReader<()>>⟧.prompt };
+
+    ghost meaning = { λ _. Mapped ⟦<Sample as Parted<()>>⟧.record_of (⟦<Parts as DekuReader<()>>⟧.meaning tt) };
+
+    fn from_reader_with_ctx<R: Source>(
+        reader: &mut Reader<R>,
+        _ctx: (),
+    ) -> Result<Self, DekuError> {
+        read_record(reader, ())
+    }
+}
+
+impl DekuWriter<()> for Sample {
+    ghost accepts = { ⟦<Parts as DekuWriter<()>>⟧.accepts };
+
+    ghost meaning = { λ v _. ⟦<Parts as DekuWriter<()>>⟧.meaning (⟦<Sample as Parted<()>>⟧.parts_of v) tt };
+
+    fn to_writer<W: Sink>(&self, writer: &mut Writer<W>, _ctx: ()) -> Result<(), DekuError> {
+        write_record(self, writer, ())
+    }
+}
+
+impl DekuContainerRead for Sample {}
+
+impl DekuContainerWrite for Sample {}
+
+#[cfg(test)]
+mod tests;
