@@ -5,8 +5,7 @@
 mod engine;
 #[cfg(test)]
 mod expecting;
-#[cfg(test)]
-mod ipv4;
+pub mod ipv4;
 #[cfg(test)]
 mod made;
 #[cfg(test)]
@@ -21,7 +20,6 @@ mod records;
 mod report;
 #[cfg(test)]
 mod sample;
-#[cfg(test)]
-mod udp;
+pub mod udp;
 #[cfg(test)]
 mod worked;
