@@ -8,25 +8,48 @@ use deku::prelude::{
 use deku_fields::frame::Frame;
 use deku_symmetry::Symmetric;
 use std::alloc::Global;
+use std::fmt::Debug;
 use std::io::Cursor;
 use std::process::Abort;
 use std::test::Fail;
 
+// The two are the same.
+fn expect_same<T: PartialEq + Debug>(rt: &impl Abort, found: &T, wanted: &T) {
+    assert!(rt; *found == *wanted, "{found:?}, and not {wanted:?}");
+}
+
 // A frame lies as these bytes, and these bytes are read as the frame, with what follows them left.
 fn lies_as(rt: &impl Abort, alloc: Global, frame: Frame, bytes: &[u8]) -> Result<(), Fail> {
-    assert_eq!(rt; frame.to_bytes(alloc)?.as_slice(), bytes);
-    assert_eq!(rt; frame.pack(alloc, ())?.as_slice(), bytes);
+    let (written, packed) = (frame.to_bytes(alloc)?, frame.pack(alloc, ())?);
+    assert!(rt;
+        written.as_slice() == bytes && packed.as_slice() == bytes,
+        "{frame:?}: {written:?}, {packed:?}"
+    );
     let mut more = bytes.to_vec(alloc)?;
     more.push(0x99)?;
     let ((rest, bits), read) = Frame::from_bytes(alloc, (more.as_slice(), 0))?;
-    assert_eq!(rt; read, frame);
-    assert_eq!(rt; rest, [0x99].as_slice());
-    assert_eq!(rt; bits, 0);
+    assert!(rt;
+        read == frame && rest == [0x99].as_slice() && bits == 0,
+        "{frame:?}: {read:?}, {rest:?}"
+    );
     let (count, unpacked) = Frame::unpack(alloc, more.as_slice(), ())?;
-    assert_eq!(rt; count / 8, bytes.len());
-    assert_eq!(rt; count % 8, 0);
-    assert_eq!(rt; unpacked, frame);
+    assert!(rt;
+        unpacked == frame && count / 8 == bytes.len() && count % 8 == 0,
+        "{frame:?}: {unpacked:?}, {count}"
+    );
     Ok(())
+}
+
+// Bytes are refused so, also by a reader, which stands behind so many bits then.
+fn is_refused(rt: &impl Abort, alloc: Global, bytes: &[u8], refusal: DekuError, bits: usize) {
+    let whole = Frame::from_bytes(alloc, (bytes, 0));
+    let mut reader = Reader::new(alloc, Cursor::new(bytes));
+    let answer = Frame::from_reader_with_ctx(&mut reader, ());
+    assert!(rt;
+        whole == Err(refusal) && answer == Err(refusal) && reader.bits_read() == bits,
+        "{bytes:?}: {answer:?}, {}",
+        reader.bits_read()
+    );
 }
 
 #[test]
@@ -48,38 +71,47 @@ fn frames_lie(rt: HostRuntime) -> Result<(), Fail> {
     )
 }
 
+// After either refusal the reader stands behind the eight bits.
 #[test]
-fn bytes_are_refused(rt: HostRuntime) -> Result<(), Fail> {
-    let unknown: &[u8] = &[0x41, 0x00];
-    assert_eq!(rt;
-        Frame::from_bytes(rt.alloc(), (unknown, 0)),
-        Err(DekuError::IdVariantNotFound)
-    );
-    let version: &[u8] = &[0x12, 0xBE, 0xEF];
+fn bytes_are_refused(rt: HostRuntime) {
     let failed = DekuError::Assertion("Field failed assertion");
-    assert_eq!(rt; Frame::from_bytes(rt.alloc(), (version, 0)), Err(failed));
-    let both: &[u8] = &[0x42, 0x00];
-    assert_eq!(rt; Frame::from_bytes(rt.alloc(), (both, 0)), Err(failed));
-    // After either refusal the reader stands behind the eight bits.
-    let mut reader = Reader::new(rt.alloc(), Cursor::new(both));
-    assert_eq!(rt; Frame::from_reader_with_ctx(&mut reader, ()), Err(failed));
-    assert_eq!(rt; reader.bits_read(), 8);
-    assert_eq!(rt; u8::from_reader_with_ctx(&mut reader, ()), Ok(0));
-    Ok(())
+    let rows: [(&[u8], DekuError); 3] = [
+        (&[0x41, 0x00], DekuError::IdVariantNotFound),
+        (&[0x12, 0xBE, 0xEF], failed),
+        (&[0x42, 0x00], failed),
+    ];
+    for (bytes, refusal) in rows {
+        is_refused(&rt, rt.alloc(), bytes, refusal, 8);
+    }
 }
 
+// It goes on behind the bits of what was refused.
 #[test]
-fn short_input(rt: HostRuntime) -> Result<(), Fail> {
+fn behind_a_refusal(rt: HostRuntime) {
+    let bytes: &[u8] = &[0x42, 0x00];
+    let failed = DekuError::Assertion("Field failed assertion");
+    let mut reader = Reader::new(rt.alloc(), Cursor::new(bytes));
+    expect_same(
+        &rt,
+        &Frame::from_reader_with_ctx(&mut reader, ()),
+        &Err(failed),
+    );
+    expect_same(&rt, &u8::from_reader_with_ctx(&mut reader, ()), &Ok(0));
+}
+
+// The reader has failed, and says so again.
+#[test]
+fn short_input(rt: HostRuntime) {
     let bytes: &[u8] = &[0x21, 0x02, 0xAA];
     let short = DekuError::Incomplete(NeedSize::new(8));
     let mut reader = Reader::new(rt.alloc(), Cursor::new(bytes));
-    assert_eq!(rt; Frame::from_reader_with_ctx(&mut reader, ()), Err(short));
-    // The reader has failed, and says so again.
-    assert_eq!(rt;
-        u8::from_reader_with_ctx(&mut reader, BitSize(1)),
-        Err(short)
+    expect_same(
+        &rt,
+        &Frame::from_reader_with_ctx(&mut reader, ()),
+        &Err(short),
     );
-    Ok(())
+    let bit = u8::from_reader_with_ctx(&mut reader, BitSize(1));
+    expect_same(&rt, &bit, &Err(short));
 }
 
 #[test]
@@ -88,9 +120,13 @@ fn out_of_step(rt: HostRuntime) -> Result<(), Fail> {
     let mut frame = Frame::Data { length: 1, payload };
     let mut writer = Writer::new(Cursor::new(Vec::new(rt.alloc())));
     let failed = DekuError::Assertion("Field failed assertion");
-    assert_eq!(rt; frame.to_writer(&mut writer, ()), Err(failed));
-    assert_eq!(rt; writer.bits_written(), 0);
-    assert_eq!(rt; writer.into_inner().into_inner().len(), 0);
+    expect_same(&rt, &frame.to_writer(&mut writer, ()), &Err(failed));
+    let bits = writer.bits_written();
+    expect_same(
+        &rt,
+        &(bits, writer.into_inner().into_inner().len()),
+        &(0, 0),
+    );
     frame.update()?;
     lies_as(&rt, rt.alloc(), frame, &[0x21, 0x02, 0xAA, 0xBB])
 }
@@ -98,23 +134,24 @@ fn out_of_step(rt: HostRuntime) -> Result<(), Fail> {
 #[test]
 fn constructors(rt: HostRuntime) -> Result<(), Fail> {
     let wide = DekuError::InvalidParam("bit size of input is larger than requested size");
-    assert_eq!(rt; Frame::pair(32, 0), Err(wide));
-    assert_eq!(rt; Frame::pair(0, 2048), Err(wide));
-    assert_eq!(rt;
-        Frame::pair(31, 2047),
-        Ok(Frame::Pair {
-            left: 31,
-            right: 2047
-        })
-    );
+    let most = Frame::Pair {
+        left: 31,
+        right: 2047,
+    };
+    let rows = [
+        (32, 0, Err(wide)),
+        (0, 2048, Err(wide)),
+        (31, 2047, Ok(most)),
+    ];
+    for (left, right, pair) in rows {
+        expect_same(&rt, &Frame::pair(left, right), &pair);
+    }
     let most = vec![in rt.alloc(); 7; 255]?;
-    let frame = Frame::data(most)?;
-    assert_eq!(rt; frame.to_bytes(rt.alloc())?.len(), 257);
+    let bytes = Frame::data(most)?.to_bytes(rt.alloc())?;
+    expect_same(&rt, &bytes.len(), &257);
     let more = vec![in rt.alloc(); 7; 256]?;
-    assert_eq!(rt;
-        Frame::data(more),
-        Err(DekuError::Parse("error parsing int"))
-    );
+    let refusal = DekuError::Parse("error parsing int");
+    expect_same(&rt, &Frame::data(more), &Err(refusal));
     Ok(())
 }
 
@@ -126,37 +163,42 @@ fn too_wide_to_write(rt: HostRuntime) -> Result<(), Fail> {
     };
     let mut writer = Writer::new(Cursor::new(Vec::new(rt.alloc())));
     let wide = DekuError::InvalidParam("bit size of input is larger than requested size");
-    assert_eq!(rt; frame.to_writer(&mut writer, ()), Err(wide));
-    assert_eq!(rt; writer.bits_written(), 8);
+    expect_same(&rt, &frame.to_writer(&mut writer, ()), &Err(wide));
+    expect_same(&rt, &writer.bits_written(), &8);
     let rest = writer.rest(rt.alloc())?;
-    assert_eq!(rt;
-        rest.as_slice(),
-        [false, false, false, false, true].as_slice()
+    expect_same(
+        &rt,
+        &rest.as_slice(),
+        &[false, false, false, false, true].as_slice(),
     );
     Ok(())
 }
 
 #[test]
 fn ids(rt: HostRuntime) -> Result<(), Fail> {
-    assert_eq!(rt; Frame::ping(0xBEEF).deku_id(), Ok(1));
-    assert_eq!(rt;
-        Frame::data([0xAA, 0xBB].to_vec(rt.alloc())?)?.deku_id(),
-        Ok(2)
-    );
-    assert_eq!(rt; Frame::pair(5, 0x2A7)?.deku_id(), Ok(3));
+    let data = Frame::data([0xAA, 0xBB].to_vec(rt.alloc())?)?;
+    let rows = [
+        (Frame::ping(0xBEEF), 1),
+        (data, 2),
+        (Frame::pair(5, 0x2A7)?, 3),
+    ];
+    for (frame, id) in rows {
+        expect_same(&rt, &frame.deku_id(), &Ok(id));
+    }
     Ok(())
 }
 
 #[test]
 fn updates(rt: HostRuntime) -> Result<(), Fail> {
     let mut ping = Frame::ping(1);
-    assert_eq!(rt; ping.update(), Ok(()));
-    assert_eq!(rt; ping, Frame::Ping { token: 1 });
+    expect_same(&rt, &ping.update(), &Ok(()));
+    expect_same(&rt, &ping, &Frame::Ping { token: 1 });
     let mut long = Frame::Data {
         length: 3,
         payload: vec![in rt.alloc(); 0; 256]?,
     };
-    assert_eq!(rt; long.update(), Err(DekuError::Parse("error parsing int")));
-    assert_eq!(rt; matches!(&long, Frame::Data { length: 3, .. }), true);
+    let refusal = DekuError::Parse("error parsing int");
+    expect_same(&rt, &long.update(), &Err(refusal));
+    assert!(rt; matches!(&long, Frame::Data { length: 3, .. }), "{long:?}");
     Ok(())
 }
