@@ -1,12 +1,11 @@
 //! Parts that other parts depend on: counted items, checks, and ids in low bits.
 
-use crate::expecting::expect_packed;
+use crate::expecting::{expect_packed, expect_refusal, expect_same};
 use crate::report::Place;
-use deku::prelude::{DekuError, DekuReader, NeedSize, Reader};
+use deku::prelude::{DekuError, NeedSize};
 use deku_symmetry::{
     Asserted, Check, Checks, Counts, Led, Lsb, LsbTagged, Msb, Only, Symmetric, Tagged,
 };
-use std::io::Cursor;
 use std::test::Fail;
 
 // The version is 4.
@@ -62,27 +61,21 @@ fn counted_items(rt: HostRuntime) -> Result<(), Fail> {
     expect_packed(&rt, alloc, (), &two, 24, &[0x02, 0x68, 0x69])?;
     let short: &[u8] = &[0x03, 0x68];
     let ended = DekuError::Incomplete(NeedSize::new(8));
-    assert_eq!(rt; Led::<u8, u8>::unpack(alloc, short, ()), Err(ended));
+    expect_same(&rt, &Led::<u8, u8>::unpack(alloc, short, ()), &Err(ended));
     let out_of_step = Led {
         head: 3u8,
         items: [1u8].to_vec(alloc)?,
     };
     let refusal = DekuError::Assertion("count out of step with items");
-    assert_eq!(rt; out_of_step.pack(alloc, ()), Err(refusal));
+    expect_same(&rt, &out_of_step.pack(alloc, ()), &Err(refusal));
     Ok(())
 }
 
 #[test]
-fn a_head_without_a_count(rt: HostRuntime) -> Result<(), Fail> {
+fn a_head_without_a_count(rt: HostRuntime) {
     let bytes: &[u8] = &[0xFF, 0xF1, 0x23, 0x69];
-    let mut reader = Reader::new(rt.alloc(), Cursor::new(bytes));
     let refusal = DekuError::Parse("head without a count");
-    assert_eq!(rt;
-        Led::<Place, u8>::from_reader_with_ctx(&mut reader, ()),
-        Err(refusal)
-    );
-    assert_eq!(rt; reader.bits_read(), 24);
-    Ok(())
+    expect_refusal::<Led<Place, u8>>(&rt, rt.alloc(), bytes, refusal, 24);
 }
 
 #[test]
@@ -92,11 +85,8 @@ fn what_passes(rt: HostRuntime) -> Result<(), Fail> {
     expect_packed(&rt, alloc, (), &four, 8, &[0x45])?;
     let six: Front = (Asserted::new(Msb(6)), Msb(5));
     let refusal = DekuError::Assertion("version");
-    assert_eq!(rt; six.pack(alloc, ()), Err(refusal));
-    let bytes: &[u8] = &[0x65];
-    let mut reader = Reader::new(alloc, Cursor::new(bytes));
-    assert_eq!(rt; Front::from_reader_with_ctx(&mut reader, ()), Err(refusal));
-    assert_eq!(rt; reader.bits_read(), 4);
+    expect_same(&rt, &six.pack(alloc, ()), &Err(refusal));
+    expect_refusal::<Front>(&rt, alloc, &[0x65], refusal, 4);
     Ok(())
 }
 

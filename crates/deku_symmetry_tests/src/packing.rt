@@ -1,6 +1,6 @@
 //! Values packed and unpacked: each kind of type that is symmetric.
 
-use crate::expecting::expect_packed;
+use crate::expecting::{expect_packed, expect_same};
 use deku::cstring::CString;
 use deku::ctx::{BitSize, ByteSize, Endian, Order};
 use deku::prelude::DekuError;
@@ -30,8 +30,7 @@ fn a_header_of_three_numbers(rt: HostRuntime) -> Result<(), Fail> {
     let header: Header = (Msb(6), Msb(9), Be(0xC0FE));
     expect_packed(&rt, alloc, (), &header, 24, &[0x69, 0xC0, 0xFE])?;
     let (bits, again) = header_again(alloc)?;
-    assert_eq!(rt; bits, 24);
-    assert_eq!(rt; (again.0.0, again.1.0, again.2.0), (6, 9, 0xC0FE));
+    expect_same(&rt, &(bits, again), &(24, header));
     Ok(())
 }
 
@@ -61,7 +60,7 @@ fn numbers(rt: HostRuntime) -> Result<(), Fail> {
     expect_packed(&rt, alloc, low, &0x1001u32, 13, &[0x10, 0x01])?;
     expect_packed(&rt, alloc, BitSize(0), &0u64, 0, &[])?;
     let wide = DekuError::InvalidParam("bit size of input is larger than requested size");
-    assert_eq!(rt; 0x400u16.pack(alloc, BitSize(10)), Err(wide));
+    expect_same(&rt, &0x400u16.pack(alloc, BitSize(10)), &Err(wide));
     Ok(())
 }
 
@@ -76,10 +75,8 @@ fn what_stands_for_numbers(rt: HostRuntime) -> Result<(), Fail> {
     let local = Ipv6Addr::new(0, 0, 0, 0, 0, 0, 0, 1);
     expect_packed(&rt, alloc, (BIG, BitSize(1)), &local, 1, &[0x80])?;
     let two: &[u8] = &[2];
-    assert_eq!(rt;
-        bool::unpack(alloc, two, ()),
-        Err(DekuError::Parse("cannot parse bool value"))
-    );
+    let refusal = DekuError::Parse("cannot parse bool value");
+    expect_same(&rt, &bool::unpack(alloc, two, ()), &Err(refusal));
     Ok(())
 }
 
@@ -109,7 +106,7 @@ fn composites(rt: HostRuntime) -> Result<(), Fail> {
         &[0xEF, 0xBE],
     )?;
     let none: Option<u8> = None;
-    assert_eq!(rt; none.pack(alloc, ())?.len(), 0);
+    expect_same(&rt, &none.pack(alloc, ())?.len(), &0);
     Ok(())
 }
 
@@ -139,9 +136,8 @@ fn texts(rt: HostRuntime) -> Result<(), Fail> {
     let alloc = rt.alloc();
     let bytes: &[u8] = &[0x61, 0x62, 0x00, 0x63];
     let (count, text) = CString::unpack(alloc, bytes, ())?;
-    assert_eq!(rt; count, 24);
-    assert_eq!(rt; text.as_bytes(), [0x61, 0x62].as_slice());
-    assert_eq!(rt; text.pack(alloc, ())?.as_slice(), &bytes[..3]);
+    expect_same(&rt, &(count, text.as_bytes()), &(24, &bytes[..2]));
+    expect_same(&rt, &text.pack(alloc, ())?.as_slice(), &&bytes[..3]);
     Ok(())
 }
 
@@ -151,12 +147,8 @@ fn unread_bits(rt: HostRuntime) -> Result<(), Fail> {
     let ctx = (BIG, BitSize(4), Order::Lsb0);
     let bytes: &[u8] = &[0x15, 0xF2];
     let (count, value) = <(u8, [u16; 2])>::unpack(rt.alloc(), bytes, ctx)?;
-    assert_eq!(rt; count, 12);
-    assert_eq!(rt; value.0, 5);
-    assert_eq!(rt; value.1, [1, 2]);
-    assert_eq!(rt;
-        value.pack(rt.alloc(), ctx)?.as_slice(),
-        [0x15, 0x02].as_slice()
-    );
+    expect_same(&rt, &(count, value), &(12, (5, [1, 2])));
+    let again = value.pack(rt.alloc(), ctx)?;
+    expect_same(&rt, &again.as_slice(), &[0x15, 0x02].as_slice());
     Ok(())
 }

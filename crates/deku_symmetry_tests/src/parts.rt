@@ -1,6 +1,6 @@
 //! Parts that are always one value, records that hold memory or are read under an endian, and numbers whose bits lie apart.
 
-use crate::expecting::expect_packed;
+use crate::expecting::{expect_packed, expect_refusal};
 use deku::ctx::Endian;
 use deku::device::{Sink, Source};
 use deku::prelude::{DekuError, DekuReader, DekuWriter, Reader, Writer};
@@ -9,7 +9,6 @@ use deku_symmetry::{
     Be, Constant, Constants, EndianRecord, Fixed, Le, Led, Parted, Record, ToParts, read_record,
     write_led, write_record,
 };
-use std::io::Cursor;
 use std::test::Fail;
 
 // Two bytes that are always the same.
@@ -48,13 +47,8 @@ fn one_value(rt: HostRuntime) -> Result<(), Fail> {
     let start: (Fixed<Be<u16>, Magic>, u8) = (Fixed::new(), 7);
     expect_packed(&rt, alloc, (), &start, 24, &[0x4D, 0x5A, 0x07])?;
     let bytes: &[u8] = &[0x4D, 0x5B, 0x07];
-    let mut reader = Reader::new(alloc, Cursor::new(bytes));
     let refusal = DekuError::Assertion("magic");
-    assert_eq!(rt;
-        Fixed::<Be<u16>, Magic>::from_reader_with_ctx(&mut reader, ()),
-        Err(refusal)
-    );
-    assert_eq!(rt; reader.bits_read(), 16);
+    expect_refusal::<Fixed<Be<u16>, Magic>>(&rt, alloc, bytes, refusal, 16);
     Ok(())
 }
 

@@ -1,7 +1,7 @@
 //! Records both ways: headers and messages as they came over a wire.
 
 use crate::engine::Engine;
-use crate::expecting::expect_record;
+use crate::expecting::{expect_record, expect_same};
 use crate::ipv4::Ipv4Header;
 use crate::message::Message;
 use crate::report::{Place, Report};
@@ -137,17 +137,16 @@ fn messages(rt: HostRuntime) -> Result<(), Fail> {
 
 // An id that no kind has is refused, and the reader stands behind it.
 #[test]
-fn an_unknown_id(rt: HostRuntime) -> Result<(), Fail> {
+fn an_unknown_id(rt: HostRuntime) {
     let bytes: &[u8] = &[0x09, 0x69];
     let unknown = DekuError::IdVariantNotFound;
-    assert_eq!(rt; Message::unpack(rt.alloc(), bytes, ()), Err(unknown));
-    assert_eq!(rt; Message::from_bytes(rt.alloc(), (bytes, 0)), Err(unknown));
+    expect_same(&rt, &Message::unpack(rt.alloc(), bytes, ()), &Err(unknown));
+    let whole = Message::from_bytes(rt.alloc(), (bytes, 0));
+    expect_same(&rt, &whole, &Err(unknown));
     let mut reader = Reader::new(rt.alloc(), Cursor::new(bytes));
-    assert_eq!(rt;
-        Message::from_reader_with_ctx(&mut reader, ()),
-        Err(unknown)
-    );
-    assert_eq!(rt; reader.bits_read(), 8);
-    assert_eq!(rt; u8::from_reader_with_ctx(&mut reader, ()), Ok(0x69));
-    Ok(())
+    let message = Message::from_reader_with_ctx(&mut reader, ());
+    expect_same(&rt, &message, &Err(unknown));
+    expect_same(&rt, &reader.bits_read(), &8);
+    let next = u8::from_reader_with_ctx(&mut reader, ());
+    expect_same(&rt, &next, &Ok(0x69));
 }

@@ -4,6 +4,7 @@ ghost use Rattle.std.specs.Prelude.{◌≡◌, take, IfOk, MatchResult};
 ghost use Rattle.std.specs.declared.io.ErrorKind.TheVariants.{OutOfMemory};
 ghost use Rattle.deku.specs.declared.error.DekuError.TheVariants.{Io};
 
+use crate::expecting::expect_same;
 use crate::ipv4::Ipv4Header;
 use crate::udp::UdpHeader;
 use deku::prelude::{DekuContainerRead, DekuContainerWrite, DekuError};
@@ -48,8 +49,12 @@ fn a_header_there_and_back(rt: HostRuntime) -> Result<(), Fail> {
         checksum: 0xABB4,
     };
     let read = there_and_back(rt.alloc(), header)?;
-    assert_eq!(rt; (read.source, read.target), (1161, 53));
-    assert_eq!(rt; (read.length, read.checksum), (44, 0xABB4));
+    let ports = (read.source, read.target);
+    expect_same(
+        &rt,
+        &(ports, read.length, read.checksum),
+        &((1161, 53), 44, 0xABB4),
+    );
     Ok(())
 }
 
@@ -60,6 +65,6 @@ fn a_header_rewritten(rt: HostRuntime) -> Result<(), Fail> {
         0x63, 0xAC, 0x10, 0x0A, 0x0C, 0xFF, 0x01,
     ];
     let written = rewritten(rt.alloc(), &bytes)?;
-    assert_eq!(rt; written.as_slice(), &bytes[..20]);
+    expect_same(&rt, &written.as_slice(), &&bytes[..20]);
     Ok(())
 }

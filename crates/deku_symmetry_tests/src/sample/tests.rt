@@ -1,6 +1,7 @@
 //! A sample from bytes, and back.
 
 use super::Sample;
+use crate::expecting::expect_same;
 use deku::prelude::{DekuContainerRead, DekuContainerWrite};
 use std::test::Fail;
 
@@ -8,9 +9,13 @@ use std::test::Fail;
 fn both_ways(rt: HostRuntime) -> Result<(), Fail> {
     let bytes: &[u8] = &[0x69, 0xC0, 0xFE, 0x01];
     let ((rest, bits), sample) = Sample::from_bytes(rt.alloc(), (bytes, 0))?;
-    assert_eq!(rt; (sample.sensor, sample.state, sample.value), (6, 9, 0xC0FE));
-    assert_eq!(rt; rest, [0x01].as_slice());
-    assert_eq!(rt; bits, 0);
-    assert_eq!(rt; sample.to_bytes(rt.alloc())?.as_slice(), &bytes[..3]);
+    expect_same(
+        &rt,
+        &(sample.sensor, sample.state, sample.value),
+        &(6, 9, 0xC0FE),
+    );
+    expect_same(&rt, &(rest, bits), &(&bytes[3..], 0));
+    let again = sample.to_bytes(rt.alloc())?;
+    expect_same(&rt, &again.as_slice(), &&bytes[..3]);
     Ok(())
 }
