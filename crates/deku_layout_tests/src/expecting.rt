@@ -1,5 +1,6 @@
 //! What values and their bytes are expected to be to one another.
 
+use deku::device::{Sink, Source};
 use deku::prelude::{DekuError, DekuReader, DekuWriter, Reader, Writer};
 use std::alloc::Global;
 use std::fmt::Debug;
@@ -18,7 +19,7 @@ pub fn reader_of<'b>(alloc: Global, bytes: &'b [u8]) -> Reader<Cursor<&'b [u8]>>
 }
 
 // What is read next, under this context.
-pub fn next<T: DekuReader<C>, C>(reader: &mut Reader<Cursor<&[u8]>>, ctx: C) -> Result<T, DekuError>
+pub fn next<T: DekuReader<C>, C, R: Source>(reader: &mut Reader<R>, ctx: C) -> Result<T, DekuError>
     requires { T.accepts ctx }
 {
     T::from_reader_with_ctx(reader, ctx)
@@ -30,8 +31,8 @@ pub fn writer_in(alloc: Global) -> Writer<Cursor<Vec<u8>>> {
 }
 
 // The value is written behind what is written, under this context.
-pub fn put<T: DekuWriter<C>, C>(
-    writer: &mut Writer<Cursor<Vec<u8>>>,
+pub fn put<T: DekuWriter<C>, C, W: Sink>(
+    writer: &mut Writer<W>,
     value: &T,
     ctx: C,
 ) -> Result<(), DekuError>
@@ -53,16 +54,16 @@ pub fn expect_bytes(
 }
 
 // The next value, under this context, is this one, and then so many bits are read.
-pub fn expect_next<T: DekuReader<C> + PartialEq + Debug, C>(
+pub fn expect_next<T: DekuReader<C> + PartialEq + Debug, C, R: Source>(
     rt: &impl Abort,
-    reader: &mut Reader<Cursor<&[u8]>>,
+    reader: &mut Reader<R>,
     ctx: C,
     want: T,
     bits: usize,
 ) -> Result<(), Fail>
     requires { T.accepts ctx }
 {
-    let value = next::<T, C>(reader, ctx)?;
+    let value = next::<T, C, R>(reader, ctx)?;
     same(rt, &bits, &(value, reader.bits_read()), &(want, bits));
     Ok(())
 }

@@ -4,6 +4,7 @@ ghost use Rattle.std.specs.Prelude.{◌≤◌};
 
 use super::expecting::{expect_bytes, next, put, reader_of, same, writer_in};
 use deku::ctx::{Endian, Layout, Order, Size};
+use deku::device::{Sink, Source};
 use deku::prelude::{DekuError, DekuReader, DekuWriter, Reader, Writer};
 use std::alloc::Global;
 use std::fmt::Debug;
@@ -62,7 +63,7 @@ fn expect_reads<T: DekuReader<Layout> + PartialEq + Debug>(
             size: *size,
         };
         let mut reader = reader_of(alloc, &bytes[..len]);
-        let value = next::<T, Layout>(&mut reader, layout)?;
+        let value = next::<T, Layout, _>(&mut reader, layout)?;
         same(rt, &(digits, layout), &value, want);
         let read = reader.bits_read().div_ceil(8);
         same(rt, &(digits, layout), &read, &len);
@@ -70,18 +71,18 @@ fn expect_reads<T: DekuReader<Layout> + PartialEq + Debug>(
     Ok(())
 }
 
-// Writes the value over a page, fills the last byte, and tells how many bytes it took.
-fn written_over<T: DekuWriter<Layout>>(
-    page: &mut [u8; 16],
+// Writes the value from nothing, fills the last byte, and gives the sink back.
+fn written_padded<T: DekuWriter<Layout>, W: Sink + Drop>(
+    sink: W,
     value: &T,
     layout: Layout,
-) -> Result<u64, DekuError>
+) -> Result<W, DekuError>
     requires { (layout : Layout) → T.accepts layout }
 {
-    let mut writer = Writer::new(Cursor::new(page.as_mut_slice()));
+    let mut writer = Writer::new(sink);
     value.to_writer(&mut writer, layout)?;
     writer.finalize()?;
-    Ok(writer.into_inner().position())
+    Ok(writer.into_inner())
 }
 
 // Each row's value is written as its bytes.
@@ -99,7 +100,8 @@ fn expect_writes<T: DekuWriter<Layout> + Debug>(
             size: *size,
         };
         let mut page = [0xA5; 16];
-        let end = written_over(&mut page, value, layout)?;
+        let over = Cursor::new(page.as_mut_slice());
+        let end = written_padded(over, value, layout)?.position();
         let want = (len as u64, &bytes[..len]);
         same(rt, &(value, layout), &(end, &page[..len]), &want);
     }
@@ -126,7 +128,7 @@ fn expect_misfits<T: DekuWriter<Layout> + Debug>(
 }
 
 // The next byte.
-fn next_byte(reader: &mut Reader<Cursor<&[u8]>>) -> Result<u8, DekuError> {
+fn next_byte<R: Source>(reader: &mut Reader<R>) -> Result<u8, DekuError> {
     let mut byte = [0];
     reader.read_bytes_const_into(&mut byte, Order::Msb0)?;
     Ok(byte[0])
@@ -142,7 +144,7 @@ fn expect_unread<T: DekuReader<Layout> + Debug>(
     requires { (layout : Layout) → T.accepts layout }
 {
     let mut reader = reader_of(alloc, &[0xA5; 24]);
-    let refusal = next::<T, Layout>(&mut reader, layout).err();
+    let refusal = next::<T, Layout, _>(&mut reader, layout).err();
     let read = reader.bits_read();
     same(rt, &layout, &(refusal, read), &(Some(error), 0));
     let byte = next_byte(&mut reader)?;

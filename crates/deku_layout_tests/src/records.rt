@@ -5,14 +5,14 @@ use super::numbers::{MISFIT, expect_beyond};
 use deku::ctx::Endian::{Big, Little};
 use deku::ctx::Order::{Lsb0, Msb0};
 use deku::ctx::{BitSize, ByteSize, Endian, Layout, NumberCtx, Order, Size};
+use deku::device::{Sink, Source};
 use deku::prelude::{DekuError, NeedSize, Reader, Writer};
 use std::alloc::Global;
-use std::io::Cursor;
 use std::process::Abort;
 use std::test::Fail;
 
 // A number of a type.
-#[derive(Clone, Copy, Debug)]
+#[derive(Clone, Copy, Debug, PartialEq)]
 enum Number {
     U8(u8),
     U16(u16),
@@ -40,52 +40,50 @@ enum Under {
 
 type Field = (Number, Under);
 
-// The number is read under the context.
-fn expect_number<C: NumberCtx>(
-    rt: &impl Abort,
-    row: &(&str, &Field),
-    reader: &mut Reader<Cursor<&[u8]>>,
+// The number of the same type as another that is read under the context.
+fn read_number<C: NumberCtx, R: Source>(
+    reader: &mut Reader<R>,
+    like: Number,
     ctx: C,
-) -> Result<(), Fail> {
-    match &row.1.0 {
-        Number::U8(want) => same(rt, row, &next::<u8, C>(reader, ctx)?, want),
-        Number::U16(want) => same(rt, row, &next::<u16, C>(reader, ctx)?, want),
-        Number::U32(want) => same(rt, row, &next::<u32, C>(reader, ctx)?, want),
-        Number::I32(want) => same(rt, row, &next::<i32, C>(reader, ctx)?, want),
+) -> Result<Number, DekuError> {
+    match like {
+        Number::U8(_) => Ok(Number::U8(next(reader, ctx)?)),
+        Number::U16(_) => Ok(Number::U16(next(reader, ctx)?)),
+        Number::U32(_) => Ok(Number::U32(next(reader, ctx)?)),
+        Number::I32(_) => Ok(Number::I32(next(reader, ctx)?)),
     }
-    Ok(())
 }
 
-fn expect_field(
-    rt: &impl Abort,
-    row: &(&str, &Field),
-    reader: &mut Reader<Cursor<&[u8]>>,
-) -> Result<(), Fail> {
-    match row.1.1 {
-        Under::Nothing => expect_number(rt, row, reader, ()),
-        Under::One(endian) => expect_number(rt, row, reader, endian),
-        Under::Turned(order) => expect_number(rt, row, reader, order),
-        Under::Sized(size) => expect_number(rt, row, reader, size),
-        Under::Bytes(n) => expect_number(rt, row, reader, ByteSize(n)),
-        Under::Bits(n) => expect_number(rt, row, reader, BitSize(n)),
-        Under::OneTurned(endian, order) => expect_number(rt, row, reader, (endian, order)),
-        Under::OneBytes(endian, n) => expect_number(rt, row, reader, (endian, ByteSize(n))),
-        Under::OneBits(endian, n) => expect_number(rt, row, reader, (endian, BitSize(n))),
-        Under::BitsTurned(n, order) => expect_number(rt, row, reader, (BitSize(n), order)),
+// The number that is read in the place of a field.
+fn read_field<R: Source>(reader: &mut Reader<R>, field: &Field) -> Result<Number, DekuError> {
+    let number = field.0;
+    match field.1 {
+        Under::Nothing => read_number(reader, number, ()),
+        Under::One(endian) => read_number(reader, number, endian),
+        Under::Turned(order) => read_number(reader, number, order),
+        Under::Sized(size) => read_number(reader, number, size),
+        Under::Bytes(n) => read_number(reader, number, ByteSize(n)),
+        Under::Bits(n) => read_number(reader, number, BitSize(n)),
+        Under::OneTurned(endian, order) => read_number(reader, number, (endian, order)),
+        Under::OneBytes(endian, n) => read_number(reader, number, (endian, ByteSize(n))),
+        Under::OneBits(endian, n) => read_number(reader, number, (endian, BitSize(n))),
+        Under::BitsTurned(n, order) => read_number(reader, number, (BitSize(n), order)),
         Under::OneBytesTurned(endian, n, order) => {
-            expect_number(rt, row, reader, (endian, ByteSize(n), order))
+            read_number(reader, number, (endian, ByteSize(n), order))
         }
         Under::OneBitsTurned(endian, n, order) => {
-            expect_number(rt, row, reader, (endian, BitSize(n), order))
+            read_number(reader, number, (endian, BitSize(n), order))
         }
-        Under::Laid(layout) => expect_number(rt, row, reader, layout),
+        Under::Laid(layout) => read_number(reader, number, layout),
     }
 }
 
-type Page = Writer<Cursor<Vec<u8>>>;
-
 // Writes the number under the context.
-fn write_number<C: NumberCtx>(writer: &mut Page, number: Number, ctx: C) -> Result<(), DekuError> {
+fn write_number<C: NumberCtx, W: Sink>(
+    writer: &mut Writer<W>,
+    number: Number,
+    ctx: C,
+) -> Result<(), DekuError> {
     match number {
         Number::U8(value) => put(writer, &value, ctx),
         Number::U16(value) => put(writer, &value, ctx),
@@ -94,7 +92,7 @@ fn write_number<C: NumberCtx>(writer: &mut Page, number: Number, ctx: C) -> Resu
     }
 }
 
-fn write_field(writer: &mut Page, field: &Field) -> Result<(), DekuError> {
+fn write_field<W: Sink>(writer: &mut Writer<W>, field: &Field) -> Result<(), DekuError> {
     let number = field.0;
     match field.1 {
         Under::Nothing => write_number(writer, number, ()),
@@ -131,7 +129,8 @@ fn expect_read(rt: &impl Abort, alloc: Global, records: &[Record]) -> Result<(),
     for (name, bytes, fields, bits, rest) in records {
         let mut reader = reader_of(alloc, bytes);
         for field in *fields {
-            expect_field(rt, &(*name, field), &mut reader)?;
+            let number = read_field(&mut reader, field)?;
+            same(rt, &(*name, field), &number, &field.0);
         }
         let left = reader.rest()?;
         let seen = (reader.bits_read(), left.as_slice());
@@ -158,7 +157,7 @@ const BEEF: Number = Number::U16(0xBEEF);
 const TEN: Number = Number::U16(0x3AB);
 
 // Number of sixteen bits, under a context of each type.
-const CONTEXTS: [Record; 13] = [
+static CONTEXTS: [Record; 13] = [
     ("none", &[0xEF, 0xBE], &[(BEEF, Under::Nothing)], 16, &[]),
     ("endian", &[0xBE, 0xEF], &[(BEEF, Under::One(Big))], 16, &[]),
     (
@@ -260,7 +259,7 @@ const BIT: Under = Under::OneBits(Big, 1);
 
 const LOW: Under = Under::Turned(Lsb0);
 
-const BOTH_WAYS: [Record; 5] = [
+static BOTH_WAYS: [Record; 5] = [
     (
         "low bits first",
         &[0x31, 0x12, 0x04, 0x05, 0x06, 0, 0, 0, 0x07, 0, 0, 0],
@@ -331,7 +330,7 @@ fn both_ways(rt: HostRuntime) -> Result<(), Fail> {
     expect_records_written(&rt, rt.alloc(), records)
 }
 
-const READ: [Record; 7] = [
+static READ: [Record; 7] = [
     (
         "nibbles before a number",
         &[0x69, 0xBE, 0xEF],
@@ -403,7 +402,7 @@ fn read(rt: HostRuntime) -> Result<(), Fail> {
     expect_read(&rt, rt.alloc(), &READ)
 }
 
-const WRITTEN: [Record; 2] = [
+static WRITTEN: [Record; 2] = [
     (
         "nibbles before a number",
         &[0x69, 0xC0, 0xFE],
@@ -494,10 +493,10 @@ fn pairs(rt: HostRuntime) -> Result<(), Fail> {
 fn half_a_pair(rt: HostRuntime) -> Result<(), Fail> {
     let mut reader = reader_of(rt.alloc(), &[0x69]);
     let ended = DekuError::Incomplete(NeedSize::new(16));
-    let answer = next::<(u8, u16), Endian>(&mut reader, Big);
+    let answer = next::<(u8, u16), Endian, _>(&mut reader, Big);
     let seen = (answer, reader.bits_read(), reader.rest()?.len());
     same(&rt, &"half", &seen, &(Err(ended), 8, 0));
-    let answer = next::<u8, BitSize>(&mut reader, BitSize(0));
+    let answer = next::<u8, BitSize, _>(&mut reader, BitSize(0));
     same(&rt, &"behind it", &answer, &Err(ended));
     let mut writer = writer_in(rt.alloc());
     let answer = put(&mut writer, &(5u8, 16u8), BitSize(4));

@@ -6,7 +6,8 @@ use super::slow::{Bits, list_of, page_of, places_of, power, with_sign, worth};
 use deku::ctx::Endian::{Big, Little};
 use deku::ctx::Order::{Lsb0, Msb0};
 use deku::ctx::{Endian, Layout, Order, Size};
-use deku::prelude::{DekuError, DekuReader, DekuWriter, Writer};
+use deku::device::{Sink, Source};
+use deku::prelude::{DekuError, DekuReader, DekuWriter, Reader, Writer};
 use std::alloc::Global;
 use std::fmt::Debug;
 use std::io::Cursor;
@@ -122,14 +123,26 @@ fn written<T: DekuWriter<Layout>>(
 ) -> Result<(), DekuError>
     requires { (layout : Layout) → T.accepts layout }
 {
+    let mut writer = Writer::new(Cursor::new(page.as_mut_slice()));
+    write_behind(&mut writer, value, field, behind)
+}
+
+// Writes the value behind so many bits, and fills the last byte.
+fn write_behind<T: DekuWriter<Layout>, W: Sink>(
+    writer: &mut Writer<W>,
+    value: &T,
+    field: &Field,
+    behind: usize,
+) -> Result<(), DekuError>
+    requires { (layout : Layout) → T.accepts layout }
+{
     let mut front = FRONT;
     let front = &mut front[..behind.min(7)];
     if matches!(field.order, Lsb0) {
         front.reverse();
     }
-    let mut writer = Writer::new(Cursor::new(page.as_mut_slice()));
     writer.write_bits_order(front, field.order)?;
-    value.to_writer(&mut writer, field.layout())?;
+    value.to_writer(writer, field.layout())?;
     writer.finalize()
 }
 
@@ -142,9 +155,19 @@ fn read<T: DekuReader<Layout>>(
 ) -> (Result<T, DekuError>, usize)
     requires { (layout : Layout) → T.accepts layout }
 {
-    let mut reader = reader_of(alloc, page);
+    read_behind(&mut reader_of(alloc, page), field, front)
+}
+
+// Reads the value behind so many bits, and how many bits are read then.
+fn read_behind<T: DekuReader<Layout>, R: Source>(
+    reader: &mut Reader<R>,
+    field: &Field,
+    front: usize,
+) -> (Result<T, DekuError>, usize)
+    requires { (layout : Layout) → T.accepts layout }
+{
     let skipped = reader.skip_bits(front, field.order);
-    let answer = next::<T, Layout>(&mut reader, field.layout());
+    let answer = next::<T, Layout, R>(reader, field.layout());
     match skipped {
         Ok(()) => (answer, reader.bits_read()),
         Err(refusal) => (Err(refusal), 0),
