@@ -12,7 +12,7 @@ use std::test::Fail;
 // In the folder where the tests run.
 const PATH: &str = "record_read.bin";
 
-const READ: [Step; 17] = [
+static READ: [Step; 17] = [
     Step::Into(4, Msb0, Ok("1010")),
     Step::Into(4, Lsb0, Ok("0101")),
     Step::Into(3, Lsb0, Ok("101")),

@@ -2,14 +2,13 @@
 
 use crate::same::FAILED;
 use crate::streams::{Get, get_steps};
-use crate::taken::{Step, take_steps};
+use crate::taken::{Step, handed, walk_source};
 use deku_bits::ctx::Order::Msb0;
 use deku_bits::noseek::NoSeek;
-use deku_bits::reader::Reader;
 use std::io::{ErrorKind, SeekFrom};
 use std::test::Fail;
 
-const READS: [(&[u8], &[Step]); 2] = [
+static READS: [(&[u8], &[Step]); 2] = [
     // No byte is passed, and none is lost.
     (
         &[0x01, 0x02, 0x03],
@@ -41,14 +40,14 @@ const READS: [(&[u8], &[Step]); 2] = [
 #[test]
 fn refuses_to_pass_bytes_and_to_seek(rt: HostRuntime) -> Result<(), Fail> {
     for (case, (bytes, steps)) in READS.iter().enumerate() {
-        let mut reader = Reader::new(rt.alloc(), NoSeek::new(*bytes));
-        take_steps(&rt, case, &mut reader, steps)?;
+        let (lacks, _) = walk_source(&rt, rt.alloc(), case, NoSeek::new(*bytes), steps);
+        handed(lacks)?;
     }
     Ok(())
 }
 
 // Its place is the count of the bytes that it moved, and only a seek to it succeeds.
-const PLACES: [Get; 14] = [
+static PLACES: [Get; 14] = [
     Get::Place(0),
     Get::Some(2, Ok(&[0x01, 0x02])),
     Get::Seek(SeekFrom::Current(0), Ok(2)),

@@ -299,18 +299,34 @@ fn kept_by_end<R: Source>(reader: &mut Reader<R>) -> Option<DekuError> {
     reader.end().err()
 }
 
-// One step that takes no memory; `walk_steps` has the others.
+// One read that takes no memory; `walk_steps` has those that do.
 fn take_plain<R: Source>(rt: &impl Abort, row: Row, reader: &mut Reader<R>, step: &Step) {
     match step {
         Step::Into(amt, order, want) => read_into(rt, row, reader, (*amt, *order), want),
         Step::Bytes(amt, order, want) => read_front(rt, row, reader, (*amt, *order), want),
         Step::Const(amt, order, want) => read_array(rt, row, reader, *amt, (false, *order), want),
         Step::Fill(amt, order, want) => read_array(rt, row, reader, *amt, (true, *order), want),
-        Step::Word(amt, order, want) => {
-            assert!(rt; *amt <= 128);
-            let answer = reader.read_word(*amt, *order);
-            same(rt, row, &answer, &wanted(want));
-        }
+        Step::Word(amt, order, want) => read_number(rt, row, reader, (*amt, *order), want),
+        _ => take_place(rt, row, reader, step),
+    }
+}
+
+// A word.
+fn read_number<R: Source>(
+    rt: &impl Abort,
+    row: Row,
+    reader: &mut Reader<R>,
+    asked: (usize, Order),
+    want: &Result<u128, Refusal>,
+) {
+    let (amt, order) = asked;
+    assert!(rt; amt <= 128);
+    same(rt, row, &reader.read_word(amt, order), &wanted(want));
+}
+
+// One step that reads nothing.
+fn take_place<R: Source>(rt: &impl Abort, row: Row, reader: &mut Reader<R>, step: &Step) {
+    match step {
         Step::Skip(amt, order, want) => {
             same(rt, row, &reader.skip_bits(*amt, *order), &wanted(want));
         }
@@ -370,17 +386,17 @@ pub fn handed(lacking: bool) -> Result<(), Fail> {
 /// Bytes, the steps of a reader over a cursor on them, and where the cursor stands then.
 pub type Case = (&'static [u8], &'static [Step], u64);
 
-// The steps show what they say; whether memory was refused, and where the cursor stands then.
-fn walk_bytes(
+/// The steps of a reader over a source show what they say; whether memory was refused, and the source then.
+pub fn walk_source<R: Source>(
     rt: &impl Abort,
     alloc: Global,
     case: usize,
-    bytes: &[u8],
+    source: R,
     steps: &[Step],
-) -> (bool, u64) {
-    let mut reader = Reader::new(alloc, Cursor::new(bytes));
+) -> (bool, R) {
+    let mut reader = Reader::new(alloc, source);
     let lacks = walk_steps(rt, case, &mut reader, steps);
-    (lacks, reader.into_inner().position())
+    (lacks, reader.into_inner())
 }
 
 // These cases of the nth table show what they say. It answers whether memory was refused.
@@ -388,8 +404,8 @@ fn walk_cases(rt: &impl Abort, alloc: Global, table: usize, cases: &[Case]) -> b
     let mut lacking = false;
     for (at, (bytes, steps, place)) in cases.iter().enumerate() {
         let case = table.wrapping_mul(100).wrapping_add(at);
-        let (lacks, stands) = walk_bytes(rt, alloc, case, bytes, steps);
-        same(rt, (case, steps.len()), &stands, place);
+        let (lacks, source) = walk_source(rt, alloc, case, Cursor::new(*bytes), steps);
+        same(rt, (case, steps.len()), &source.position(), place);
         lacking = lacks || lacking;
     }
     lacking

@@ -57,6 +57,17 @@ pub fn fitting(word: u128, n: usize) -> u128
     if n == 128 { word } else { word % (1 << n) }
 }
 
+/// The bits of these digits are written in this order.
+pub fn write_ordered<W: Sink>(
+    rt: &impl Abort,
+    writer: &mut Writer<W>,
+    order: Order,
+    digits: &str,
+) -> Result<(), DekuError> {
+    let (list, len) = bits_of(rt, digits);
+    writer.write_bits_order(&list[..len], order)
+}
+
 // A write, and what it answers.
 fn write_step<W: Sink>(
     rt: &impl Abort,
@@ -69,10 +80,7 @@ fn write_step<W: Sink>(
             let (list, len) = bits_of(rt, digits);
             writer.write_bits(&list[..len])
         }
-        Put::Ordered(order, digits, _) => {
-            let (list, len) = bits_of(rt, digits);
-            writer.write_bits_order(&list[..len], *order)
-        }
+        Put::Ordered(order, digits, _) => write_ordered(rt, writer, *order, digits),
         Put::Bytes(bytes, _) => writer.write_bytes(bytes),
         Put::Word(word, n, order, _) => {
             assert!(rt; *n <= 128);
@@ -126,13 +134,12 @@ fn expect_left<W: Sink>(rt: &impl Abort, row: Row, writer: &Writer<W>, want: (&s
     let (pending, order) = writer.leftover();
     let (digits, byte, wanted) = want;
     let (list, len) = bits_of(rt, digits);
-    same(rt, row, &pending.len(), &len);
-    same(rt, row, &pending.is_empty(), &digits.is_empty());
+    let seen = (pending.len(), pending.is_empty(), order);
+    same(rt, row, &seen, &(len, digits.is_empty(), wanted));
     for (at, bit) in list[..len].iter().enumerate() {
         same(rt, row, &pending.get(at), &Some(*bit));
     }
     same_bytes(rt, row, pending.as_raw_slice(), &[byte]);
-    same(rt, row, &order, &wanted);
 }
 
 /// The writer has stopped with this error. It answers whether memory was refused.
@@ -144,15 +151,17 @@ pub fn expect_kept<W: Sink>(
     error: DekuError,
 ) -> bool {
     let count = writer.bits_written();
-    let kept = Err(error);
-    same(rt, row, &writer.write_bits(&[]), &kept);
-    same(rt, row, &writer.write_bits(&[true; 12]), &kept);
-    same(rt, row, &writer.write_bits_order(&[], Lsb0), &kept);
-    same(rt, row, &writer.write_bits_order(&[true; 5], Lsb0), &kept);
-    same(rt, row, &writer.write_bytes(&[]), &kept);
-    same(rt, row, &writer.write_bytes(&[0xAA]), &kept);
-    same(rt, row, &writer.write_word(0, 0, Msb0), &kept);
-    same(rt, row, &writer.finalize(), &kept);
+    let seen = [
+        writer.write_bits(&[]),
+        writer.write_bits(&[true; 12]),
+        writer.write_bits_order(&[], Lsb0),
+        writer.write_bits_order(&[true; 5], Lsb0),
+        writer.write_bytes(&[]),
+        writer.write_bytes(&[0xAA]),
+        writer.write_word(0, 0, Msb0),
+        writer.finalize(),
+    ];
+    same(rt, row, &seen, &[Err(error); 8]);
     expect_left(rt, row, writer, ("", 0, Msb0));
     same(rt, row, &writer.bits_written(), &count);
     expect_rest(rt, alloc, row, writer, "")
@@ -196,10 +205,28 @@ pub fn give_steps<W: Sink>(
         let lacks = give_step(rt, alloc, (case, at), writer, step)?;
         lacking = lacking || lacks;
     }
+    handed(lacking)
+}
+
+/// Memory that was refused is handed on.
+pub fn handed(lacking: bool) -> Result<(), Fail> {
     if lacking {
         return Err(NO_MEMORY.error())?;
     }
     Ok(())
+}
+
+/// The steps of a writer over a sink show what they say; the sink then. Memory that was refused is handed on.
+pub fn give_sink<W: Sink + Drop>(
+    rt: &impl Abort,
+    alloc: Global,
+    case: usize,
+    sink: W,
+    steps: &[Put],
+) -> Result<W, Fail> {
+    let mut writer = Writer::new(sink);
+    give_steps(rt, alloc, case, &mut writer, steps)?;
+    Ok(writer.into_inner())
 }
 
 /// The steps of a writer over a vector, and the bytes that it has then.
@@ -209,9 +236,8 @@ pub type Grown = (&'static [Put], &'static [u8]);
 fn give_grown(rt: &impl Abort, alloc: Global, table: usize, cases: &[Grown]) -> Result<(), Fail> {
     for (at, (steps, want)) in cases.iter().enumerate() {
         let case = table.wrapping_mul(100).wrapping_add(at);
-        let mut writer = Writer::new(Cursor::new(Vec::new(alloc)));
-        give_steps(rt, alloc, case, &mut writer, steps)?;
-        let bytes = writer.into_inner().into_inner();
+        let vector = Cursor::new(Vec::new(alloc));
+        let bytes = give_sink(rt, alloc, case, vector, steps)?.into_inner();
         same_bytes(rt, (case, steps.len()), bytes.as_slice(), want);
     }
     Ok(())
@@ -231,8 +257,7 @@ pub fn give_bounded(rt: &impl Abort, alloc: Global, cases: &[Grown]) -> Result<(
         let mut slice = [0; 8];
         let room = want.len();
         assert!(rt; room <= 8);
-        let mut writer = Writer::new(Cursor::new(&mut slice[..room]));
-        give_steps(rt, alloc, case, &mut writer, steps)?;
+        give_sink(rt, alloc, case, Cursor::new(&mut slice[..room]), steps)?;
         same_bytes(rt, (case, steps.len()), &slice[..room], want);
     }
     Ok(())

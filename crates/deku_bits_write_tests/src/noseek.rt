@@ -1,10 +1,9 @@
 //! Streams that cannot seek, written.
 
-use crate::given::{Put, give_steps};
+use crate::given::{Put, give_sink};
 use crate::same::{FAILED, kind_of, same, same_bytes};
 use crate::streams::{Set, set_steps};
 use deku_bits::noseek::NoSeek;
-use deku_bits::writer::Writer;
 use std::io::{BufWriter, ErrorKind, SeekFrom, Write};
 use std::test::Fail;
 
@@ -31,9 +30,8 @@ const MORE: [Set; 5] = [
 
 #[test]
 fn writes_without_a_seek(rt: HostRuntime) -> Result<(), Fail> {
-    let mut writer = Writer::new(NoSeek::new(Vec::new(rt.alloc())));
-    give_steps(&rt, rt.alloc(), 0, &mut writer, &WRITES)?;
-    let mut stream = writer.into_inner();
+    let stream = NoSeek::new(Vec::new(rt.alloc()));
+    let mut stream = give_sink(&rt, rt.alloc(), 0, stream, &WRITES)?;
     same_bytes(
         &rt,
         (1, 0),

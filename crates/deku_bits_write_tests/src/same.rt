@@ -11,25 +11,19 @@ pub type Row = (usize, usize);
 
 /// What was answered is what was wanted.
 pub fn same<T: PartialEq + Debug>(rt: &impl Abort, row: Row, got: &T, want: &T) {
-    assert_eq!(rt; *got, *want, "in case {}, step {}", row.0, row.1);
+    assert!(rt; *got == *want, "{row:?}: {got:?}, and not {want:?}");
 }
 
 /// These are the wanted bytes.
 pub fn same_bytes(rt: &impl Abort, row: Row, got: &[u8], want: &[u8]) {
-    assert_eq!(rt; got, want, "in case {}, step {}", row.0, row.1);
+    assert!(rt; got == want, "{row:?}: {got:?}, and not {want:?}");
 }
 
 /// The bits are these digits. It takes no memory.
 pub fn same_digits(rt: &impl Abort, row: Row, bits: &[bool], want: &str) {
     same(rt, row, &bits.len(), &want.len());
     for (bit, digit) in bits.iter().zip(want.as_bytes().iter()) {
-        assert_eq!(rt;
-            *bit,
-            *digit == b'1',
-            "a bit of {want} in case {}, step {}",
-            row.0,
-            row.1
-        );
+        assert!(rt; *bit == (*digit == b'1'), "{row:?}: a bit of {want}");
     }
 }
 

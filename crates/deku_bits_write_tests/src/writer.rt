@@ -10,7 +10,7 @@ mod failing;
 mod memory;
 mod seek;
 
-use crate::given::{Grown, Put, bits_of, give_bounded, give_tables};
+use crate::given::{Grown, Put, give_bounded, give_tables, write_ordered};
 use crate::same::{Refusal, same, same_bytes};
 use deku_bits::ctx::Order;
 use deku_bits::ctx::Order::{Lsb0, Msb0};
@@ -25,30 +25,29 @@ use std::test::Fail;
 // Lists of bits, each in its order, and the bytes that they make once the last byte is filled.
 type Lists = (&'static [(Order, &'static str)], &'static [u8]);
 
-// Writes the lists, fills the last byte, and answers how many bits were counted.
-fn write_lists<S: Sink>(
+// Writes the lists and fills the last byte: how many bits were counted, and the sink.
+fn write_lists<S: Sink + Drop>(
     rt: &impl Abort,
-    sink: &mut S,
+    sink: S,
     lists: &[(Order, &str)],
-) -> Result<usize, Fail> {
+) -> Result<(usize, S), DekuError> {
     let mut writer = Writer::new(sink);
     for (order, digits) in lists {
-        let (list, len) = bits_of(rt, digits);
-        writer.write_bits_order(&list[..len], *order)?;
+        write_ordered(rt, &mut writer, *order, digits)?;
     }
     writer.finalize()?;
-    Ok(writer.bits_written())
+    let count = writer.bits_written();
+    Ok((count, writer.into_inner()))
 }
 
 // The lists make these bytes, in a vector and in a slice.
 fn expect_lists(rt: &impl Abort, alloc: Global, cases: &[Lists]) -> Result<(), Fail> {
     for (case, (lists, want)) in cases.iter().enumerate() {
-        let mut vector = Cursor::new(Vec::new(alloc));
-        let count = write_lists(rt, &mut vector, lists)?;
+        let (count, vector) = write_lists(rt, Cursor::new(Vec::new(alloc)), lists)?;
         same_bytes(rt, (case, 0), vector.into_inner().as_slice(), want);
         same(rt, (case, 1), &(count / 8), &want.len());
         let mut slice = [0; 8];
-        write_lists(rt, &mut Cursor::new(slice.as_mut_slice()), lists)?;
+        write_lists(rt, Cursor::new(slice.as_mut_slice()), lists)?;
         assert!(rt; want.len() <= 8);
         same_bytes(rt, (case, 2), &slice[..want.len()], want);
     }

@@ -204,8 +204,9 @@ fn a_record_under_an_endian(rt: HostRuntime) -> Result<(), Fail> {
     };
     let high = [0x01, 0x02, 0x03, 0x04, 0x05, 0x06];
     let low = [0x02, 0x01, 0x06, 0x05, 0x04, 0x03];
-    expect_packed(&rt, alloc, Endian::Big, &pair, 48, &high)?;
-    expect_packed(&rt, alloc, Endian::Little, &pair, 48, &low)?;
+    for (endian, bytes) in [(Endian::Big, high), (Endian::Little, low)] {
+        expect_packed(&rt, alloc, endian, &pair, 48, &bytes)?;
+    }
     expect_packed(&rt, alloc, (), &Le(pair), 48, &low)
 }
 

@@ -14,7 +14,7 @@ pub const MISFIT: DekuError = DekuError::InvalidParam(
 pub const NO_MEMORY: DekuError = DekuError::Io(ErrorKind::OutOfMemory);
 
 // A refusal in a table: the end of input, where so many bits were wanted, or another one.
-#[derive(Clone, Copy, Debug)]
+#[derive(Clone, Copy)]
 pub enum Refusal {
     Ended(usize),
     Said(DekuError),

@@ -21,7 +21,6 @@ type Map<K, V> = HashMap<K, V, Hasher>;
 type Set<T> = HashSet<T, Hasher>;
 
 // Where a map ends, and under what.
-#[derive(Debug)]
 enum Stop {
     // Behind two pairs, each of two numbers of six bits, and of two bytes.
     TwoOfSixBits,

@@ -20,7 +20,7 @@ const NO_WIDTH: Refusal = Said(DekuError::Parse("item without width"));
 const PAST_COUNT: Refusal = Said(DekuError::InvalidParam("count past usize"));
 
 // Where a list ends.
-#[derive(Clone, Copy, Debug)]
+#[derive(Clone, Copy)]
 enum Stop {
     Count(usize),
     Bytes(usize),
@@ -40,7 +40,6 @@ impl Stop {
 }
 
 // A call on a reader, and what it answers.
-#[derive(Debug)]
 enum Step {
     // Bytes, under the limit alone, and numbers of so many bits, with and without an endian.
     Octets(Stop, Answer<u8>),
@@ -61,50 +60,64 @@ enum Step {
     Rest(&'static [bool]),
 }
 
-fn take_list(rt: &impl Abort, run: &str, step: &Step, reader: &mut Reader<Cursor<&[u8]>>) {
+// The step of that number, on a list.
+fn take_list(
+    rt: &impl Abort,
+    run: &str,
+    at: usize,
+    step: &Step,
+    reader: &mut Reader<Cursor<&[u8]>>,
+) {
     match step {
         Step::Octets(stop, want) => {
             let list = next(reader, stop.limit::<u8>());
-            expect_answer(rt, run, step, list, want)
+            expect_answer(rt, run, &at, list, want)
         }
         Step::Sized(stop, bits, want) => {
             let list = next(reader, (stop.limit::<u8>(), BitSize(*bits)));
-            expect_answer(rt, run, step, list, want)
+            expect_answer(rt, run, &at, list, want)
         }
         Step::SizedLittle(stop, bits, want) => {
             let ctx = (stop.limit::<u8>(), (Little, BitSize(*bits)));
-            expect_answer(rt, run, step, next(reader, ctx), want)
+            expect_answer(rt, run, &at, next(reader, ctx), want)
         }
         Step::Wides(stop, want) => {
             let list = next(reader, (stop.limit::<u16>(), Big));
-            expect_answer(rt, run, step, list, want)
+            expect_answer(rt, run, &at, list, want)
         }
         Step::Units(stop, want) => {
             let list = next(reader, stop.limit::<()>());
-            expect_answer(rt, run, step, list, want)
+            expect_answer(rt, run, &at, list, want)
         }
         Step::Hollows(stop, want) => {
             let list = next(reader, stop.limit::<[u8; 0]>());
-            expect_answer(rt, run, step, list, want)
+            expect_answer(rt, run, &at, list, want)
         }
-        _ => take_place(rt, run, step, reader),
+        _ => take_place(rt, run, at, step, reader),
     }
 }
 
-fn take_place(rt: &impl Abort, run: &str, step: &Step, reader: &mut Reader<Cursor<&[u8]>>) {
+// So on what is not a list under a limit.
+fn take_place(
+    rt: &impl Abort,
+    run: &str,
+    at: usize,
+    step: &Step,
+    reader: &mut Reader<Cursor<&[u8]>>,
+) {
     match step {
         Step::AtOnce(count, want) => {
             let bytes = next::<Vec<u8>, ReadExact>(reader, ReadExact(*count));
-            expect_answer(rt, run, step, bytes, want);
+            expect_answer(rt, run, &at, bytes, want);
         }
-        Step::Next(want) => same_at(rt, run, step, &next_byte(reader), &Ok(*want)),
+        Step::Next(want) => same_at(rt, run, &at, &next_byte(reader), &Ok(*want)),
         Step::NextSized(bits, want) => {
             let byte = next::<u8, BitSize>(reader, BitSize(*bits));
-            same_at(rt, run, step, &byte, &Ok(*want));
+            same_at(rt, run, &at, &byte, &Ok(*want));
         }
-        Step::Read(want) => same_at(rt, run, step, &reader.bits_read(), want),
-        Step::Rest(want) => expect_rest(rt, run, step, reader, want),
-        _ => assert!(rt; false, "{run}: {step:?} is no step of a place"),
+        Step::Read(want) => same_at(rt, run, &at, &reader.bits_read(), want),
+        Step::Rest(want) => expect_rest(rt, run, at, reader, want),
+        _ => assert!(rt; false, "{run}: {at} is no step of a place"),
     }
 }
 
@@ -112,13 +125,13 @@ fn take_place(rt: &impl Abort, run: &str, step: &Step, reader: &mut Reader<Curso
 fn expect_rest(
     rt: &impl Abort,
     run: &str,
-    step: &Step,
+    at: usize,
     reader: &Reader<Cursor<&[u8]>>,
     want: &[bool],
 ) {
     match rest_of(reader) {
-        Ok(bits) => same_at(rt, run, step, &bits.as_slice(), &want),
-        Err(refusal) => assert!(rt; false, "{run}: {step:?}: {refusal:?}"),
+        Ok(bits) => same_at(rt, run, &at, &bits.as_slice(), &want),
+        Err(refusal) => assert!(rt; false, "{run}: {at}: {refusal:?}"),
     }
 }
 
@@ -234,8 +247,8 @@ fn up_to_an_end(rt: HostRuntime) {
 }
 
 fn take_lists(rt: &impl Abort, run: &str, reader: &mut Reader<Cursor<&[u8]>>, steps: &[Step]) {
-    for step in steps {
-        take_list(rt, run, step, reader);
+    for (at, step) in steps.iter().enumerate() {
+        take_list(rt, run, at, step, reader);
     }
 }
 
@@ -256,7 +269,7 @@ fn expect_third(rt: &impl Abort, alloc: Global) {
     let items: Result<Vec<u8>, DekuError> = next(&mut reader, third);
     expect_answer(rt, "up to an item", &"the third", items, &Ok(&[5, 5, 5]));
     same(rt, &"calls for the third", &calls, &3);
-    take_place(rt, "the third", &Step::Next(5), &mut reader);
+    take_place(rt, "the third", 0, &Step::Next(5), &mut reader);
 }
 
 fn expect_second(rt: &impl Abort, alloc: Global) {
@@ -268,7 +281,7 @@ fn expect_second(rt: &impl Abort, alloc: Global) {
     });
     let items: Result<Vec<u8>, DekuError> = next(&mut reader, turns);
     expect_answer(rt, "up to an item", &"each second", items, &Ok(&[1, 2]));
-    take_place(rt, "each second", &Step::Next(3), &mut reader);
+    take_place(rt, "each second", 0, &Step::Next(3), &mut reader);
 }
 
 // The bytes of a reader, what they are up to a zero, and the next step.
@@ -281,12 +294,12 @@ const ZEROS: [Zero; 2] = [
 
 #[test]
 fn up_to_a_zero(rt: HostRuntime) {
-    for (bytes, want, behind) in &ZEROS {
+    for (at, (bytes, want, behind)) in ZEROS.iter().enumerate() {
         let mut reader = reader_of(rt.alloc(), bytes);
         let zero = Limit::new_until(|byte: &u8| *byte == 0);
         let items: Result<Vec<u8>, DekuError> = next(&mut reader, zero);
         expect_answer(&rt, "up to a zero", bytes, items, want);
-        take_place(&rt, "up to a zero", behind, &mut reader);
+        take_place(&rt, "up to a zero", at, behind, &mut reader);
     }
 }
 
@@ -297,9 +310,10 @@ fn items_without_width_up_to_an_item(rt: HostRuntime) -> Result<(), Fail> {
         let limit = Limit::new_until(|_: &()| always);
         let items: Result<Vec<()>, DekuError> = next(&mut reader, limit);
         expect_answer(&rt, "without width", &always, items, &want);
-        take_place(&rt, "without width", &Step::Read(0), &mut reader);
+        let at = usize::from(always);
+        take_place(&rt, "without width", at, &Step::Read(0), &mut reader);
     }
-    take_place(&rt, "without width", &Step::Next(1), &mut reader);
+    take_place(&rt, "without width", 2, &Step::Next(1), &mut reader);
     Ok(())
 }
 

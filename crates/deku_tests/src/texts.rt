@@ -66,7 +66,6 @@ fn compared(rt: HostRuntime) -> Result<(), Fail> {
 }
 
 // A call on a reader, and what it answers.
-#[derive(Debug)]
 enum Step {
     // A text up to a zero, and one of so many bytes.
     UpToZero(Answer<u8>),
@@ -86,23 +85,30 @@ fn gone_to(reader: &mut Reader<Cursor<&[u8]>>, place: u64) -> Result<u64, ErrorK
     }
 }
 
-fn take_step(rt: &impl Abort, run: &str, step: &Step, reader: &mut Reader<Cursor<&[u8]>>) {
+// The step of that number.
+fn take_step(
+    rt: &impl Abort,
+    run: &str,
+    at: usize,
+    step: &Step,
+    reader: &mut Reader<Cursor<&[u8]>>,
+) {
     match step {
         Step::UpToZero(want) => {
             let answer = next(reader, ());
-            expect_text(rt, run, step, answer, want);
+            expect_text(rt, run, at, answer, want);
         }
         Step::Within(bytes, want) => {
             let answer = next(reader, ByteSize(*bytes));
-            expect_text(rt, run, step, answer, want);
+            expect_text(rt, run, at, answer, want);
         }
-        Step::Byte(want) => same_at(rt, run, step, &next_byte(reader), &Ok(*want)),
+        Step::Byte(want) => same_at(rt, run, &at, &next_byte(reader), &Ok(*want)),
         Step::Number(want) => {
             let answer = next::<u16, Endian>(reader, Big);
-            same_at(rt, run, step, &answer, &number_wanted(want));
+            same_at(rt, run, &at, &answer, &number_wanted(want));
         }
-        Step::Read(want) => same_at(rt, run, step, &reader.bits_read(), want),
-        Step::Seek(place) => same_at(rt, run, step, &gone_to(reader, *place), &Ok(*place)),
+        Step::Read(want) => same_at(rt, run, &at, &reader.bits_read(), want),
+        Step::Seek(place) => same_at(rt, run, &at, &gone_to(reader, *place), &Ok(*place)),
     }
 }
 
@@ -117,14 +123,14 @@ fn number_wanted(want: &Result<u16, Refusal>) -> Result<u16, DekuError> {
 fn expect_text(
     rt: &impl Abort,
     run: &str,
-    step: &Step,
+    at: usize,
     answer: Result<CString, DekuError>,
     want: &Answer<u8>,
 ) {
     match (answer, want) {
-        (Ok(got), Ok(want)) => same_at(rt, run, step, &got.as_bytes(), want),
-        (Ok(got), Err(_)) => assert!(rt; false, "{run}: {step:?} answers {got:?}"),
-        (Err(refusal), want) => expect_refusal(rt, run, step, refusal, want.as_ref().err()),
+        (Ok(got), Ok(want)) => same_at(rt, run, &at, &got.as_bytes(), want),
+        (Ok(got), Err(_)) => assert!(rt; false, "{run}: {at} answers {got:?}"),
+        (Err(refusal), want) => expect_refusal(rt, run, &at, refusal, want.as_ref().err()),
     }
 }
 
@@ -186,8 +192,8 @@ fn from_a_reader(rt: HostRuntime) {
 }
 
 fn take_steps(rt: &impl Abort, run: &str, reader: &mut Reader<Cursor<&[u8]>>, steps: &[Step]) {
-    for step in steps {
-        take_step(rt, run, step, reader);
+    for (at, step) in steps.iter().enumerate() {
+        take_step(rt, run, at, step, reader);
     }
 }
 

@@ -3,9 +3,10 @@
 use super::BITS;
 use crate::same::{FAILED, Row, kind_of, same};
 use crate::streams::{Get, get_steps};
-use crate::taken::{Left, Step, handed, take_steps, walk_steps};
+use crate::taken::{Left, Step, handed, walk_source, walk_steps};
 use deku_bits::ctx::Order;
 use deku_bits::ctx::Order::{Lsb0, Msb0};
+use deku_bits::device::Source;
 use deku_bits::error::DekuError;
 use deku_bits::probe::{FailAt, Trickle};
 use deku_bits::reader::Reader;
@@ -51,19 +52,13 @@ const FAULTS: [Fault; 2] = [
     ),
 ];
 
-// The steps show what they say; whether memory was refused, and where the cursor stands then.
-fn walk_failing(rt: &impl Abort, alloc: Global, case: usize, fault: &Fault) -> (bool, u64) {
-    let (bytes, n, steps, _) = fault;
-    let mut reader = Reader::new(alloc, FailAt::new(Cursor::new(*bytes), *n));
-    let lacks = walk_steps(rt, case, &mut reader, steps);
-    (lacks, reader.into_inner().into_inner().position())
-}
-
 #[test]
 fn keeps_a_fault(rt: HostRuntime) -> Result<(), Fail> {
     let mut lacking = false;
     for (case, fault) in FAULTS.iter().enumerate() {
-        let (lacks, place) = walk_failing(&rt, rt.alloc(), case, fault);
+        let failing = FailAt::new(Cursor::new(fault.0), fault.1);
+        let (lacks, source) = walk_source(&rt, rt.alloc(), case, failing, fault.2);
+        let place = source.into_inner().position();
         same(&rt, (case, fault.2.len()), &place, &fault.3);
         lacking = lacks || lacking;
     }
@@ -91,10 +86,10 @@ const WAYS: [(Way, usize); 7] = [
 ];
 
 // Takes BB CC DD in this way.
-fn take_three(
+fn take_three<R: Source>(
     rt: &impl Abort,
     row: Row,
-    reader: &mut Reader<FailAt<&[u8]>>,
+    reader: &mut Reader<R>,
     way: Way,
 ) -> Result<(), DekuError> {
     match way {
@@ -111,10 +106,10 @@ fn take_three(
     }
 }
 
-fn take_bits(
+fn take_bits<R: Source>(
     rt: &impl Abort,
     row: Row,
-    reader: &mut Reader<FailAt<&[u8]>>,
+    reader: &mut Reader<R>,
     order: Order,
 ) -> Result<(), DekuError> {
     let mut bits = [false; 24];
@@ -125,10 +120,10 @@ fn take_bits(
     answer
 }
 
-fn take_bytes(
+fn take_bytes<R: Source>(
     rt: &impl Abort,
     row: Row,
-    reader: &mut Reader<FailAt<&[u8]>>,
+    reader: &mut Reader<R>,
     order: Order,
 ) -> Result<(), DekuError> {
     let mut bytes = [0; 3];
@@ -141,10 +136,10 @@ fn take_bytes(
     }
 }
 
-fn fill_bytes(
+fn fill_bytes<R: Source>(
     rt: &impl Abort,
     row: Row,
-    reader: &mut Reader<FailAt<&[u8]>>,
+    reader: &mut Reader<R>,
 ) -> Result<(), DekuError> {
     let mut bytes = [0; 3];
     let answer = reader.read_bytes_const_into(&mut bytes, Msb0);
@@ -170,10 +165,20 @@ const STOPPED: [Step; 7] = [
 // Takes three bytes behind one, where the nth call behind that one fails: it is answered and kept until a seek. It answers whether memory
 // was refused.
 fn expect_taken(rt: &impl Abort, alloc: Global, case: (Way, usize), n: usize) -> bool {
-    let (way, calls) = case;
-    let row = (calls, n);
     let bytes: &[u8] = &[0xAA, 0xBB, 0xCC, 0xDD];
     let source = FailAt::new(Cursor::new(bytes), n.saturating_add(1));
+    expect_taken_from(rt, alloc, source, case, n)
+}
+
+fn expect_taken_from<R: Source + Drop>(
+    rt: &impl Abort,
+    alloc: Global,
+    source: R,
+    case: (Way, usize),
+    n: usize,
+) -> bool {
+    let (way, calls) = case;
+    let row = (calls, n);
     let mut reader = Reader::new(alloc, source);
     let mut lacks = walk_steps(rt, n, &mut reader, &AA);
     if n <= calls {
@@ -186,7 +191,7 @@ fn expect_taken(rt: &impl Abort, alloc: Global, case: (Way, usize), n: usize) ->
 
 // The reader fails in this way and stops with the fault, at the place behind the calls that succeeded, until a seek. It answers whether
 // memory was refused.
-fn expect_failed(rt: &impl Abort, row: Row, reader: &mut Reader<FailAt<&[u8]>>, way: Way) -> bool {
+fn expect_failed<R: Source>(rt: &impl Abort, row: Row, reader: &mut Reader<R>, way: Way) -> bool {
     let failed = Err(FAILED.error());
     let once = take_three(rt, row, reader, way);
     let twice = take_three(rt, row, reader, way);
@@ -199,7 +204,7 @@ fn expect_failed(rt: &impl Abort, row: Row, reader: &mut Reader<FailAt<&[u8]>>, 
     lacks
 }
 
-fn gone_to(reader: &mut Reader<FailAt<&[u8]>>, to: SeekFrom) -> Result<u64, ErrorKind> {
+fn gone_to<R: Source>(reader: &mut Reader<R>, to: SeekFrom) -> Result<u64, ErrorKind> {
     kind_of(reader.seek(to))
 }
 
@@ -266,5 +271,5 @@ fn trickles(rt: HostRuntime) -> Result<(), Fail> {
     let bytes = [0xA1, 0x34, 0x12];
     let mut source = Trickle::new(bytes.as_slice());
     get_steps(&rt, 0, &mut source, &FIRST);
-    take_steps(&rt, 1, &mut Reader::new(rt.alloc(), source), &THREE)
+    handed(walk_source(&rt, rt.alloc(), 1, source, &THREE).0)
 }

@@ -1,7 +1,7 @@
 //! Reads over a source that fails in the middle, and how often it is asked for bytes and for seeks.
 
 use crate::same::{FAILED, same};
-use crate::taken::{Left, Step, handed, walk_steps};
+use crate::taken::{Left, Step, handed, walk_source, walk_steps};
 use deku_bits::ctx::Order::{Lsb0, Msb0};
 use deku_bits::device::Source;
 use deku_bits::reader::Reader;
@@ -222,9 +222,8 @@ fn count_fetches(rt: &impl Abort, alloc: Global, case: usize, steps: &[Step]) ->
         fetches: 0,
         seeks: 0,
     };
-    let mut reader = Reader::new(alloc, counting);
-    let lacks = walk_steps(rt, case, &mut reader, steps);
-    (lacks, reader.into_inner().fetches)
+    let (lacks, source) = walk_source(rt, alloc, case, counting, steps);
+    (lacks, source.fetches)
 }
 
 #[test]

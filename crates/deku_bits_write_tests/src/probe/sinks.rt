@@ -1,11 +1,12 @@
 //! Sinks that fail once.
 
 use super::BITS;
-use crate::given::{Put, expect_kept, give_steps};
-use crate::same::{FAILED, NO_MEMORY, Row, same, same_bytes};
+use crate::given::{Put, expect_kept, give_sink, give_steps, handed};
+use crate::same::{FAILED, Row, kind_of, same, same_bytes};
 use crate::streams::{Set, set_steps};
 use deku_bits::ctx::Order;
 use deku_bits::ctx::Order::{Lsb0, Msb0};
+use deku_bits::device::Sink;
 use deku_bits::error::DekuError;
 use deku_bits::probe::FailAt;
 use deku_bits::writer::Writer;
@@ -13,8 +14,6 @@ use std::alloc::Global;
 use std::io::{Cursor, ErrorKind, Seek, SeekFrom};
 use std::process::Abort;
 use std::test::Fail;
-
-type Sink<'a> = FailAt<&'a mut [u8]>;
 
 // A way to write.
 #[derive(Clone, Copy)]
@@ -35,7 +34,7 @@ const WAYS: [(Way, usize, [u8; 3]); 5] = [
 ];
 
 // Writes in this way.
-fn write(writer: &mut Writer<Sink>, way: Way) -> Result<(), DekuError> {
+fn write<W: Sink>(writer: &mut Writer<W>, way: Way) -> Result<(), DekuError> {
     match way {
         Way::Bits(order) => writer.write_bits_order(&BITS, order),
         Way::Bytes => writer.write_bytes(&[0xBB, 0xCC, 0xDD]),
@@ -48,31 +47,48 @@ fn write(writer: &mut Writer<Sink>, way: Way) -> Result<(), DekuError> {
 
 // The writer fails in this way and stops with the fault, at the place behind the calls that succeeded, until a seek. It answers whether
 // memory was refused.
-fn expect_failed(
+fn expect_failed<W: Sink>(
     rt: &impl Abort,
     alloc: Global,
     row: Row,
-    writer: &mut Writer<Sink>,
+    writer: &mut Writer<W>,
     way: Way,
-) -> Result<bool, Fail> {
+) -> bool {
     let failed = Err(FAILED.error());
-    same(rt, row, &write(writer, way), &failed);
-    same(rt, row, &write(writer, way), &failed);
+    let seen = (write(writer, way), write(writer, way));
+    same(rt, row, &seen, &(failed, failed));
     let lacks = expect_kept(rt, alloc, row, writer, FAILED.error());
-    same(rt, row, &writer.bits_written(), &8);
-    same(
-        rt,
-        row,
-        &writer.seek(SeekFrom::Current(0))?,
-        &(row.1 as u64),
-    );
-    same(rt, row, &writer.seek(SeekFrom::Start(1))?, &1);
-    Ok(lacks)
+    let count = writer.bits_written();
+    let place = kind_of(writer.seek(SeekFrom::Current(0)));
+    let back = kind_of(writer.seek(SeekFrom::Start(1)));
+    let want = (8, Ok(row.1 as u64), Ok(1));
+    same(rt, row, &(count, place, back), &want);
+    lacks
 }
 
 const AA: [Put; 2] = [Put::Bytes(&[0xAA], Ok(())), Put::Count(8)];
 
-// Writes behind one byte, where the nth call behind that one fails: it is answered and kept until a seek.
+// Writes behind one byte, where the nth of so many calls behind that one fails: it is answered and kept until a seek. It answers whether
+// memory was refused.
+fn write_failing<W: Sink + Drop>(
+    rt: &impl Abort,
+    alloc: Global,
+    sink: W,
+    way: Way,
+    row: Row,
+) -> Result<bool, Fail> {
+    let (calls, n) = row;
+    let mut writer = Writer::new(sink);
+    give_steps(rt, alloc, n, &mut writer, &AA)?;
+    let lacks = n <= calls && expect_failed(rt, alloc, row, &mut writer, way);
+    let answer = write(&mut writer, way);
+    let count = writer.bits_written();
+    let want = (Ok(()), calls.saturating_add(1), 0);
+    same(rt, row, &(answer, count / 8, count % 8), &want);
+    Ok(lacks)
+}
+
+// So over a slice that fails once, which holds what it should then.
 fn expect_written(
     rt: &impl Abort,
     alloc: Global,
@@ -81,22 +97,9 @@ fn expect_written(
 ) -> Result<bool, Fail> {
     let (way, calls, bytes) = case;
     let row = (calls, n);
-    let mut lacks = false;
     let mut slice = [0; 4];
     let sink = FailAt::new(Cursor::new(slice.as_mut_slice()), n.saturating_add(1));
-    let mut writer = Writer::new(sink);
-    give_steps(rt, alloc, n, &mut writer, &AA)?;
-    if n <= calls {
-        lacks = expect_failed(rt, alloc, row, &mut writer, way)?;
-    }
-    same(rt, row, &write(&mut writer, way), &Ok(()));
-    same(
-        rt,
-        row,
-        &(writer.bits_written() / 8),
-        &calls.saturating_add(1),
-    );
-    same(rt, row, &(writer.bits_written() % 8), &0);
+    let lacks = write_failing(rt, alloc, sink, way, row)?;
     same(rt, row, &slice[0], &0xAA);
     same_bytes(rt, row, &slice[1..], &bytes);
     Ok(lacks)
@@ -111,10 +114,7 @@ fn keeps_a_fault_at_each_call(rt: HostRuntime) -> Result<(), Fail> {
             lacking = lacking || lacks;
         }
     }
-    if lacking {
-        return Err(NO_MEMORY.error())?;
-    }
-    Ok(())
+    handed(lacking)
 }
 
 // Seeks behind one byte and four bits, where the nth call behind that byte fails.
@@ -163,8 +163,8 @@ fn keeps_a_refused_seek(rt: HostRuntime) -> Result<(), Fail> {
     for (case, steps) in SOUGHT.iter().enumerate() {
         let mut slice = [0; 3];
         let cursor = Cursor::new(slice.as_mut_slice());
-        let mut writer = Writer::new(FailAt::new(cursor, case.saturating_add(2)));
-        give_steps(&rt, rt.alloc(), case, &mut writer, steps)?;
+        let failing = FailAt::new(cursor, case.saturating_add(2));
+        give_sink(&rt, rt.alloc(), case, failing, steps)?;
         same_bytes(&rt, (case, steps.len()), &slice, &[0xAA, 0x00, 0xBB]);
     }
     Ok(())

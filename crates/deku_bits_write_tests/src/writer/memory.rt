@@ -1,10 +1,13 @@
 //! Writes where memory may be refused: to a vector that has to grow, and of the pending bits into a new one.
 
-use crate::given::{Put, expect_kept, give_steps};
+use crate::given::{Put, expect_kept, give_sink, give_steps, handed};
 use crate::same::{NO_MEMORY, same, same_bytes};
 use deku_bits::ctx::Order::Msb0;
+use deku_bits::device::Sink;
 use deku_bits::writer::Writer;
+use std::alloc::Global;
 use std::io::Cursor;
+use std::process::Abort;
 use std::test::Fail;
 
 // Twelve bits: two of them are the bytes A5 CA 5C.
@@ -12,35 +15,37 @@ const TWELVE: [bool; 12] = [
     true, false, true, false, false, true, false, true, true, true, false, false,
 ];
 
-// Where memory is refused the writer has stopped.
-#[test]
-fn grows_its_sink_or_wants_memory(rt: HostRuntime) -> Result<(), Fail> {
-    let mut writer = Writer::new(Cursor::new(Vec::new(rt.alloc())));
+// The twelve bits are written forty times, or until memory is refused, and then the writer has stopped: how many bits are counted, whether
+// memory was refused, and the sink.
+fn write_forty<S: Sink>(rt: &impl Abort, alloc: Global, sink: S) -> (usize, bool, S) {
+    let mut writer = Writer::new(sink);
     let mut count = 0;
     let mut lacking = false;
     for calls in 1..=40 {
         let row = (0, calls);
-        match writer.write_bits(&TWELVE) {
-            Ok(()) => count = calls * 12 / 8 * 8,
-            Err(error) => {
-                same(&rt, row, &error, &NO_MEMORY.error());
-                expect_kept(&rt, rt.alloc(), row, &mut writer, error);
-                lacking = true;
-                break;
-            }
+        if let Err(error) = writer.write_bits(&TWELVE) {
+            same(rt, row, &error, &NO_MEMORY.error());
+            expect_kept(rt, alloc, row, &mut writer, error);
+            lacking = true;
+            break;
         }
-        same(&rt, row, &writer.bits_written(), &count);
+        count = calls * 12 / 8 * 8;
+        same(rt, row, &writer.bits_written(), &count);
     }
-    same(&rt, (1, 0), &writer.bits_written(), &count);
-    let bytes = writer.into_inner().into_inner();
+    same(rt, (1, 0), &writer.bits_written(), &count);
+    (count, lacking, writer.into_inner())
+}
+
+#[test]
+fn grows_its_sink_or_wants_memory(rt: HostRuntime) -> Result<(), Fail> {
+    let vector = Cursor::new(Vec::new(rt.alloc()));
+    let (count, lacking, sink) = write_forty(&rt, rt.alloc(), vector);
+    let bytes = sink.into_inner();
     assert!(&rt; bytes.len() >= count / 8);
     for (at, byte) in bytes.iter().take(count / 8).enumerate() {
         same(&rt, (2, at), byte, &[0xA5, 0xCA, 0x5C][at % 3]);
     }
-    if lacking {
-        return Err(NO_MEMORY.error())?;
-    }
-    Ok(())
+    handed(lacking)
 }
 
 const FAR: [Put; 4] = [

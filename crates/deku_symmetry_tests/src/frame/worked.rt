@@ -3,6 +3,7 @@
 ghost use Rattle.std.specs.Prelude.{◌≡◌, ◌++◌, ℕ, List, IfOk};
 ghost use Rattle.deku_fields.specs.Frames.{SameFrame};
 
+use crate::expecting::expect_same;
 use deku::prelude::{DekuContainerRead, DekuContainerWrite, DekuError};
 use deku_fields::frame::Frame;
 use deku_fields::frame::laws::{read_law, rewrite_law, write_law};
@@ -42,19 +43,18 @@ fn rewritten(alloc: Global, bytes: &[u8]) -> Result<Vec<u8>, DekuError>
 #[test]
 fn a_pair_there_and_back(rt: HostRuntime) -> Result<(), Fail> {
     let frame = pair_there_and_back(rt.alloc(), 5, 0x2A7)?;
-    assert_eq!(rt;
-        frame,
-        Frame::Pair {
-            left: 5,
-            right: 0x2A7
-        }
-    );
+    let want = Frame::Pair {
+        left: 5,
+        right: 0x2A7,
+    };
+    expect_same(&rt, &frame, &want);
     Ok(())
 }
 
 #[test]
 fn a_frame_rewritten(rt: HostRuntime) -> Result<(), Fail> {
     let bytes: &[u8] = &[0x21, 0x02, 0xAA, 0xBB, 0x99];
-    assert_eq!(rt; rewritten(rt.alloc(), bytes)?.as_slice(), &bytes[..4]);
+    let again = rewritten(rt.alloc(), bytes)?;
+    expect_same(&rt, &again.as_slice(), &&bytes[..4]);
     Ok(())
 }

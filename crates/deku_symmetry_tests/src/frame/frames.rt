@@ -1,5 +1,6 @@
 //! Frames as bytes and from bytes, and each refusal.
 
+use crate::expecting::{expect_record, expect_same};
 use deku::ctx::BitSize;
 use deku::prelude::{
     DekuContainerRead, DekuContainerWrite, DekuEnumExt, DekuError, DekuReader, DekuUpdate,
@@ -8,36 +9,13 @@ use deku::prelude::{
 use deku_fields::frame::Frame;
 use deku_symmetry::Symmetric;
 use std::alloc::Global;
-use std::fmt::Debug;
 use std::io::Cursor;
 use std::process::Abort;
 use std::test::Fail;
 
-// The two are the same.
-fn expect_same<T: PartialEq + Debug>(rt: &impl Abort, found: &T, wanted: &T) {
-    assert!(rt; *found == *wanted, "{found:?}, and not {wanted:?}");
-}
-
 // A frame lies as these bytes, and these bytes are read as the frame, with what follows them left.
 fn lies_as(rt: &impl Abort, alloc: Global, frame: Frame, bytes: &[u8]) -> Result<(), Fail> {
-    let (written, packed) = (frame.to_bytes(alloc)?, frame.pack(alloc, ())?);
-    assert!(rt;
-        written.as_slice() == bytes && packed.as_slice() == bytes,
-        "{frame:?}: {written:?}, {packed:?}"
-    );
-    let mut more = bytes.to_vec(alloc)?;
-    more.push(0x99)?;
-    let ((rest, bits), read) = Frame::from_bytes(alloc, (more.as_slice(), 0))?;
-    assert!(rt;
-        read == frame && rest == [0x99].as_slice() && bits == 0,
-        "{frame:?}: {read:?}, {rest:?}"
-    );
-    let (count, unpacked) = Frame::unpack(alloc, more.as_slice(), ())?;
-    assert!(rt;
-        unpacked == frame && count / 8 == bytes.len() && count % 8 == 0,
-        "{frame:?}: {unpacked:?}, {count}"
-    );
-    Ok(())
+    expect_record(rt, alloc, &frame, bytes)
 }
 
 // Bytes are refused so, also by a reader, which stands behind so many bits then.

@@ -1,8 +1,8 @@
 use Rattle.std.proofs.Common.{◌<◌, All, rules}
 use Rattle.std.proofs.lemmas.List.Elements.{All-from_get_or}
 use Rattle.deku_bits.specs.Pieces.{laid_out}
-use Rattle.deku_frame_tests.proofs.Beginnings.{begins}
-use Rattle.deku_frame_tests.proofs.worked.rewritten.Goals as goal
+use Rattle.deku_symmetry_tests.proofs.Beginnings.{begins}
+use Rattle.deku_symmetry_tests.proofs.frame.worked.rewritten.Goals as goal
 
 pub returns-in-Ok : goal.returns-in-Ok
 returns-in-Ok c =

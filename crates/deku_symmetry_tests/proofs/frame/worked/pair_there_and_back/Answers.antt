@@ -1,7 +1,7 @@
 use Rattle.std.proofs.Common.{[], Ok, sym, subst, ◌∙◌, append-nil}
 use Rattle.deku_bits.specs.Pieces.{laid_out}
 use Rattle.deku_fields.specs.Frames.{SameFrame}
-use Rattle.deku_frame_tests.proofs.worked.pair_there_and_back.Goals as goal
+use Rattle.deku_symmetry_tests.proofs.frame.worked.pair_there_and_back.Goals as goal
 
 pub returns-in-Ok-from_bytes : goal.returns-in-Ok-from_bytes
 returns-in-Ok-from_bytes c =

@@ -1,0 +1,4 @@
+//! `deku_fields::frame`, by the paths that users name.
+
+mod frames;
+mod worked;
