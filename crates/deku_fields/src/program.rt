@@ -125,8 +125,13 @@ fn complain<E: Write>(errors: &mut E, failure: &Failure) -> io::Result<()>
     }
 }
 
-// Gives the whole text. Where the output fails, it has not taken the text to its end.
-fn give_text<W: Write>(output: &mut W, text: &[u8]) -> io::Result<()>
+/// Gives the whole text to an output, which may take it in parts; an interrupted write is tried again. Where the output fails, or takes no
+/// more, that is the error, and the text was not taken to its end.
+///
+/// ```text
+/// give_text(&mut output, b"69c0fe\n")?
+/// ```
+pub fn give_text<W: Write>(output: &mut W, text: &[u8]) -> io::Result<()>
     ensures given { OnOk result (Appends (W.contents output.old) (W.contents output.new) text.now) }
     ensures cut { OnErr result (IsCutShort (W.contents output.old) (W.contents output.new) text.now) }
 {

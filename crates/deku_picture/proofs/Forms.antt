@@ -1,0 +1,120 @@
+-- The forms of the words: what stands in front of the fields, and what a run ends with.
+use Rattle.std.proofs.Common.{ℕ, ◌<◌, ◌≡◌, ◌≢◌, ◌⊎◌, List, [], ◌∷◌, length, codes, refl, ap, sym, ◌∙◌, subst, inl, inr, arith, Bor}
+use Rattle.std.proofs.lemmas.List.{length-map}
+use Rattle.std.specs.List.{AllZip}
+use Rattle.std.specs.Prelude.{String, string_bytes}
+use Rattle.std.specs.declared.io.ErrorKind.TheVariants.{OutOfMemory}
+use Rattle.deku_bits.specs.declared.error.DekuError.TheVariants.{Io}
+use Rattle.deku_fields.specs.declared.list.Field.{Field}
+use Rattle.deku_fields.specs.Runs.{words_of}
+use Rattle.deku_picture.specs.declared.program.Form.{Form}
+use Rattle.deku_picture.specs.declared.program.Form.TheVariants.{Table, Svg, Bytes}
+use Rattle.deku_picture.specs.declared.program.Failure.{Failure}
+use Rattle.deku_picture.specs.declared.program.Failure.TheVariants.{Usage, NoField, BadText, Fault}
+use Rattle.deku_picture.specs.Names.{Names, HasSpecs, AreNamed, AreNoForm}
+use Rattle.deku_picture.specs.Drawn.{AsksForBytes, IsForm, HasValues, HasShown, HasNotShown, Stops, IsFailure, status_of}
+
+-- the two options are two words
+two_words : (word : List ℕ) → word ≡ codes "--svg" → word ≡ codes "--bytes" → ⊥
+two_words word svg bytes = let lengths : ◌≡◌ {A = ℕ} 5 7 = ap length (sym svg ∙ bytes) in absurd (omega arith)
+
+-- words have one form
+pub one_form : (words a b : List (List ℕ)) → HasSpecs words a → HasSpecs words b → a ≡ b
+one_form [] a b h k = absurd h
+one_form (word ∷ words) a b (inl p) (inl q) = p.1 ∙ sym q.1
+one_form (word ∷ words) a b (inl p) (inr (inl q)) = absurd (two_words word p.0 q.0)
+one_form (word ∷ words) a b (inl p) (inr (inr q)) = absurd (q.0 p.0)
+one_form (word ∷ words) a b (inr (inl p)) (inl q) = absurd (two_words word q.0 p.0)
+one_form (word ∷ words) a b (inr (inl p)) (inr (inl q)) = let first = p.2 in let second = q.2 in cc
+one_form (word ∷ words) a b (inr (inl p)) (inr (inr q)) = absurd (q.1 p.0)
+one_form (word ∷ words) a b (inr (inr p)) (inl q) = absurd (p.0 q.0)
+one_form (word ∷ words) a b (inr (inr p)) (inr (inl q)) = absurd (p.1 q.0)
+one_form (word ∷ words) a b (inr (inr p)) (inr (inr q)) = p.2 ∙ sym q.2
+
+-- no words
+pub none_form : {S : Type 0} (args : List (String S)) → length args ≡ 0 → (specs : List (List ℕ)) → HasSpecs (words_of args) specs → ⊥
+none_form [] e specs h = h
+none_form (a ∷ args) e specs h = omega arith
+
+-- ---- the three forms
+pub svg_form : {S : Type 0} (args rest : List (String S)) (first : String S) → args ≡ first ∷ rest → string_bytes first ≡ codes "--svg" → IsForm (words_of args) Svg × HasSpecs (words_of args) (words_of rest)
+svg_form args rest first e named = subst (λ xs. IsForm (words_of xs) Svg × HasSpecs (words_of xs) (words_of rest)) (sym e)
+    (λ text asked. let same : string_bytes first ≡ codes "--bytes" = let h = asked.1 in cc in two_words (string_bytes first) named same, inl (named, refl))
+
+pub bytes_form : {S : Type 0} (args rest specs : List (String S)) (first text : String S) (shown : Bor (List ℕ)) → args ≡ first ∷ rest → string_bytes first ≡ codes "--bytes" → rest ≡ text ∷ specs → shown.now ≡ string_bytes text
+    → IsForm (words_of args) (Bytes shown) × HasSpecs (words_of args) (words_of specs)
+bytes_form args rest specs first text shown e named more is =
+    let whole : args ≡ first ∷ text ∷ specs = e ∙ ap (λ xs. first ∷ xs) more in
+    let words : words_of args ≡ codes "--bytes" ∷ shown.now ∷ words_of specs = ap words_of whole ∙ ap (λ w. w ∷ string_bytes text ∷ words_of specs) named ∙ ap (λ t. codes "--bytes" ∷ t ∷ words_of specs) (sym is) in
+    ((words_of specs, words), subst (λ ws. HasSpecs ws (words_of specs)) (sym words) (inr (inl (refl, shown.now, refl))))
+
+pub table_form : {S : Type 0} (args rest : List (String S)) (first : String S) → args ≡ first ∷ rest → string_bytes first ≢ codes "--svg" → string_bytes first ≢ codes "--bytes" → IsForm (words_of args) Table × HasSpecs (words_of args) (words_of args)
+table_form args rest first e svg bytes = subst (λ xs. IsForm (words_of xs) Table × HasSpecs (words_of xs) (words_of xs)) (sym e)
+    (λ text asked. let same : string_bytes first ≡ codes "--bytes" = let h = asked.1 in cc in bytes same, inr (inr (svg, bytes, refl)))
+
+pub no_bytes_form : {S : Type 0} (args rest : List (String S)) (first : String S) → args ≡ first ∷ rest → string_bytes first ≡ codes "--bytes" → length rest ≡ 0 → (specs : List (List ℕ)) → HasSpecs (words_of args) specs → ⊥
+no_bytes_form args [] first e named none specs h = go (subst (λ xs. HasSpecs (words_of xs) specs) e h)
+  where
+    go : HasSpecs (string_bytes first ∷ []) specs → ⊥
+    go (inl p) = two_words (string_bytes first) p.0 named
+    go (inr (inl p)) = let more = p.2 in absurd (cc)
+    go (inr (inr p)) = p.1 named
+no_bytes_form args (a ∷ rest) first e named none specs h = omega arith
+
+-- ---- what the words name
+pub are_named : {S : Type 0} (words : List (List ℕ)) (specs : List (String S)) (fields : List Field) → HasSpecs words (words_of specs) → 0 < length specs → AllZip Names (words_of specs) fields → AreNamed words fields
+are_named words specs fields h some named = record { specs = words_of specs; behind = h; some = omega (arith, length-map specs string_bytes); named = named }
+
+pub none_named : (words specs : List (List ℕ)) → HasSpecs words specs → ((fields : List Field) → AllZip Names specs fields → ⊥) → AreNoForm words
+none_named words specs h none fields named = none fields (subst (λ ws. AllZip Names ws fields) (one_form words named.specs specs named.behind h) named.named)
+
+pub empty_named : (words specs : List (List ℕ)) → HasSpecs words specs → length specs ≡ 0 → AreNoForm words
+empty_named words specs h none fields named = let same = ap length (one_form words named.specs specs named.behind h) in omega (arith, same, named.some)
+
+-- ---- what is shown
+pub shown_by : (words : List (List ℕ)) (form : Form) (fields : List Field) → IsForm words form → HasShown form fields → (text : List ℕ) → AsksForBytes words text → HasValues fields text
+shown_by words Table fields is h text asked = absurd (is text asked)
+shown_by words Svg fields is h text asked = absurd (is text asked)
+shown_by words (Bytes t) fields is h text asked = let same : t.now ≡ text = let a = is.1 in let b = asked.1 in cc in subst (λ x. HasValues fields x) same h
+
+pub stopped_by : (words : List (List ℕ)) (form : Form) (fields : List Field) (e : Failure) → AreNamed words fields → IsForm words form → HasNotShown form fields e → IsFailure words e
+stopped_by words Table fields e named is h = absurd h
+stopped_by words Svg fields e named is h = absurd h
+stopped_by words (Bytes t) fields Usage named is (inl h) = let e = h.0 in absurd (cc)
+stopped_by words (Bytes t) fields Usage named is (inr (inl h)) = let e = h.is in absurd (cc)
+stopped_by words (Bytes t) fields Usage named is (inr (inr h)) = absurd (cc)
+stopped_by words (Bytes t) fields (NoField w) named is (inl h) = let e = h.0 in absurd (cc)
+stopped_by words (Bytes t) fields (NoField w) named is (inr (inl h)) = let e = h.is in absurd (cc)
+stopped_by words (Bytes t) fields (NoField w) named is (inr (inr h)) = absurd (cc)
+stopped_by words (Bytes t) fields BadText named is h = inr (inl (record { fields = fields; named = named; text = t.now; asked = is; stop = h }))
+stopped_by words (Bytes t) fields (Fault f) named is h = inr (inl (record { fields = fields; named = named; text = t.now; asked = is; stop = h }))
+
+-- ---- statuses
+pub no_form : (words : List (List ℕ)) (e : Failure) → IsFailure words e → status_of e ≡ 2 → AreNoForm words
+no_form words Usage h two = h
+no_form words (NoField w) h two = h
+no_form words BadText h two = absurd (omega arith)
+no_form words (Fault f) h two = absurd (omega arith)
+
+pub stops_one : (words : List (List ℕ)) (e : Failure) → IsFailure words e → status_of e ≡ 1 → Stops words e
+stops_one words Usage h one = absurd (omega arith)
+stops_one words (NoField w) h one = absurd (omega arith)
+stops_one words BadText h one = h
+stops_one words (Fault f) h one = h
+
+pub some_status : (e : Failure) → status_of e ≡ 0 → ⊥
+some_status Usage z = omega arith
+some_status (NoField w) z = omega arith
+some_status BadText z = omega arith
+some_status (Fault f) z = omega arith
+
+-- words that name no fields, or no memory for those that they name
+pub named_stop : (words specs : List (List ℕ)) (e : Failure) → HasSpecs words specs → ((status_of e ≡ 2) × ((fields : List Field) → AllZip Names specs fields → ⊥)) ⊎ (e ≡ Fault (Io OutOfMemory)) → IsFailure words e
+named_stop words specs Usage h (inl none) = none_named words specs h none.1
+named_stop words specs Usage h (inr full) = absurd (cc)
+named_stop words specs (NoField w) h (inl none) = none_named words specs h none.1
+named_stop words specs (NoField w) h (inr full) = absurd (cc)
+named_stop words specs BadText h (inl none) = let two = none.0 in absurd (omega arith)
+named_stop words specs BadText h (inr full) = absurd (cc)
+named_stop words specs (Fault f) h (inl none) = let two = none.0 in absurd (omega arith)
+named_stop words specs (Fault f) h (inr full) = inr (inr (inl full))

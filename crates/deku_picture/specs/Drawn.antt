@@ -1,0 +1,129 @@
+-- What a run of the program does: the words that it is given, and what it draws of them.
+use Rattle.std.specs.Prelude.{◌≡◌, ◌⊎◌, ℕ, List, ◌∷◌, Ok, Err, Option, Some, None, IfSome, codes, ⊤}
+use Rattle.std.specs.Global.{Vec}
+use Rattle.std.specs.Io.KnownBytes.{Appends}
+use Rattle.std.specs.declared.io.ErrorKind.{ErrorKind}
+use Rattle.std.specs.declared.io.ErrorKind.TheVariants.{OutOfMemory}
+use Rattle.hex.specs.Hex.{decode_of}
+use Rattle.hex.specs.declared.error.FromHexError.{FromHexError}
+use Rattle.deku_bits.specs.declared.error.DekuError.{DekuError}
+use Rattle.deku_bits.specs.declared.error.DekuError.TheVariants.{Io}
+use Rattle.deku_fields.specs.declared.list.Field.{Field}
+use Rattle.deku_fields.specs.declared.list.Number.{Number}
+use Rattle.deku_fields.specs.ListCalls.{ListFrom}
+use Rattle.deku_fields.specs.Places.{AreDrawable, IsUndrawable}
+use Rattle.deku_fields.specs.Runs.{line, IsBegun, IsCutShort}
+use Rattle.deku_picture.specs.declared.program.Failure.{Failure}
+use Rattle.deku_picture.specs.declared.program.Failure.TheVariants.{Usage, NoField, BadText, Fault}
+use Rattle.deku_picture.specs.declared.program.Form.{Form}
+use Rattle.deku_picture.specs.declared.program.Form.TheVariants.{Bytes}
+use Rattle.deku_picture.specs.Names.{AreNamed, AreNoForm}
+
+-- the words ask for the bits of the bytes that this text names
+abbrev pub AsksForBytes : List (List ℕ) → List ℕ → Type 0
+AsksForBytes words text = (specs : List (List ℕ)) × (words ≡ codes "--bytes" ∷ text ∷ specs)
+
+-- what is drawn is what the words ask for: the bits of these bytes, or no bytes
+abbrev pub IsForm : List (List ℕ) → Form → Type 0
+IsForm words (Bytes text) = AsksForBytes words text.now
+IsForm words form = (text : List ℕ) → AsksForBytes words text → ⊥
+
+-- the text names these bytes in hexadecimal, and the fields read these values from them
+pub record IsSample (fields : List Field) (text bytes : List ℕ) (values : Vec Number) : Type 0 where
+  pub decoded : decode_of text ≡ Ok bytes
+  pub bits : ℕ
+  pub read : ListFrom fields bytes (Ok (bits, values))
+
+-- the text names bytes from which the fields read values
+abbrev pub HasValues : List Field → List ℕ → Type 0
+HasValues fields text = (bytes : List ℕ) × (values : Vec Number) × IsSample fields text bytes values
+
+-- the fields have values in the bytes to be drawn, where there are some
+abbrev pub HasShown : Form → List Field → Type 0
+HasShown (Bytes text) fields = HasValues fields text.now
+HasShown form fields = ⊤
+
+-- The words name fields that have a picture. Where they name bytes too, the fields read values from these.
+pub record AreDrawn (words : List (List ℕ)) : Type 0 where
+  pub fields : List Field
+  pub named : AreNamed words fields
+  pub drawable : AreDrawable fields
+  pub shown : (text : List ℕ) → AsksForBytes words text → HasValues fields text
+
+-- the words are drawn, and their picture was given to the output
+pub record IsDone (words : List (List ℕ)) (before after : Option (List ℕ)) : Type 0 where
+  pub drawn : AreDrawn words
+  pub text : List ℕ
+  pub given : Appends before after text
+
+-- the words are drawn, and their picture was not given to the output to its end
+pub record IsUnfinished (words : List (List ℕ)) (before after : Option (List ℕ)) : Type 0 where
+  pub drawn : AreDrawn words
+  pub text : List ℕ
+  pub cut : IsCutShort before after text
+
+-- ---- what stands in the way
+-- the fields have no picture, for this reason
+pub record HaveNoPicture (words : List (List ℕ)) (e : Failure) : Type 0 where
+  pub fields : List Field
+  pub named : AreNamed words fields
+  pub fault : DekuError
+  pub refused : IsUndrawable fields fault
+  pub is : e ≡ Fault fault
+
+-- the fields are refused so, read from the bytes that the text names
+pub record AreRefused (fields : List Field) (text : List ℕ) (e : Failure) : Type 0 where
+  pub bytes : List ℕ
+  pub decoded : decode_of text ≡ Ok bytes
+  pub fault : DekuError
+  pub refused : ListFrom fields bytes (Err fault)
+  pub is : e ≡ Fault fault
+
+-- the text is not hexadecimal, the fields are refused so, or no memory is found
+abbrev pub HasNoValues : List Field → List ℕ → Failure → Type 0
+HasNoValues fields text e = ((e ≡ BadText) × (error : FromHexError) × (decode_of text ≡ Err error)) ⊎ AreRefused fields text e ⊎ (e ≡ Fault (Io OutOfMemory))
+
+-- the fields have no values in the bytes to be drawn
+abbrev pub HasNotShown : Form → List Field → Failure → Type 0
+HasNotShown (Bytes text) fields e = HasNoValues fields text.now e
+HasNotShown form fields e = ⊥
+
+-- the words ask for the bits of bytes, and the fields have no values in them
+pub record BytesStop (words : List (List ℕ)) (e : Failure) : Type 0 where
+  pub fields : List Field
+  pub named : AreNamed words fields
+  pub text : List ℕ
+  pub asked : AsksForBytes words text
+  pub stop : HasNoValues fields text e
+
+-- what a run ends with 1 for: the fields, the bytes, the memory, or the output when the picture is known
+abbrev pub Stops : List (List ℕ) → Failure → Type 0
+Stops words e = HaveNoPicture words e ⊎ BytesStop words e ⊎ (e ≡ Fault (Io OutOfMemory))
+    ⊎ ((kind : ErrorKind) × (e ≡ Fault (Io kind)) × AreDrawn words)
+
+-- what ends a run ends it with 2, since the words are of no form, or with 1
+abbrev pub IsFailure : List (List ℕ) → Failure → Type 0
+IsFailure words Usage = AreNoForm words
+IsFailure words (NoField word) = AreNoForm words
+IsFailure words e = Stops words e
+
+-- the status of a run that ends so: 2 where the words are of no form, else 1
+abbrev pub status_of : Failure → ℕ
+status_of Usage = 2
+status_of (NoField word) = 2
+status_of BadText = 1
+status_of (Fault fault) = 1
+
+-- what it is told as; the words and the text of a fault are left open
+abbrev pub message : Failure → Option (List ℕ)
+message Usage = Some (line (codes "usage: layout [--svg|--bytes HEX] [NAME:]SPEC.."))
+message (NoField word) = None
+message BadText = Some (line (codes "error: bad hexadecimal text"))
+message (Fault fault) = None
+
+-- Something stands in the way of the words that a run ends with 1 for; and what was told of it, where its text is fixed, is a beginning of its line.
+pub record IsStopped (words : List (List ℕ)) (before after : Option (List ℕ)) : Type 0 where
+  pub failure : Failure
+  pub stops : Stops words failure
+  pub one : status_of failure ≡ 1
+  pub told : IfSome (message failure) (IsBegun before after)

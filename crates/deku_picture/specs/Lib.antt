@@ -1,0 +1,3 @@
+pub mod Cells
+pub mod Names
+pub mod Drawn

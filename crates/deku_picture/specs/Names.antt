@@ -1,0 +1,40 @@
+-- The words of fields with names in front of them.
+use Rattle.std.specs.Prelude.{◌≡◌, ◌≢◌, ◌⊎◌, ℕ, ◌<◌, List, [], ◌∷◌, ◌++◌, length, All, codes}
+use Rattle.std.specs.Char.{IsAsciiAlphanumeric}
+use Rattle.std.specs.List.{AllZip}
+use Rattle.deku_fields.specs.declared.list.Field.{Field}
+use Rattle.deku_fields.specs.Naming.{NamesField}
+
+-- a letter, a digit, `_`, which is 95, or `-`, which is 45
+abbrev pub IsNameByte : ℕ → Type 0
+IsNameByte c = IsAsciiAlphanumeric c ⊎ (c ≡ 95) ⊎ (c ≡ 45)
+
+-- a name: such bytes, and one of them at least
+abbrev pub IsName : List ℕ → Type 0
+IsName text = (0 < length text) × All IsNameByte text
+
+-- a field's word, with nothing in front of it, or with a name and a colon
+abbrev pub IsNamed : List ℕ → List ℕ → List ℕ → Field → Type 0
+IsNamed word name spec f = (((name ≡ []) × (word ≡ spec)) ⊎ (IsName name × (word ≡ name ++ (codes ":" ++ spec)))) × NamesField spec f
+
+-- a word names a field, with a name or without one
+abbrev pub Names : List ℕ → Field → Type 0
+Names word f = (name : List ℕ) × (spec : List ℕ) × IsNamed word name spec f
+
+-- the words of the fields: behind `--svg`, behind `--bytes` and the bytes, or all words
+abbrev pub HasSpecs : List (List ℕ) → List (List ℕ) → Type 0
+HasSpecs [] specs = ⊥
+HasSpecs (word ∷ words) specs = ((word ≡ codes "--svg") × (specs ≡ words))
+    ⊎ ((word ≡ codes "--bytes") × (text : List ℕ) × (words ≡ text ∷ specs))
+    ⊎ ((word ≢ codes "--svg") × (word ≢ codes "--bytes") × (specs ≡ word ∷ words))
+
+-- the words name fields, and one at least
+pub record AreNamed (words : List (List ℕ)) (fields : List Field) : Type 0 where
+  pub specs : List (List ℕ)
+  pub behind : HasSpecs words specs
+  pub some : 0 < length specs
+  pub named : AllZip Names specs fields
+
+-- the words name no fields
+abbrev pub AreNoForm : List (List ℕ) → Type 0
+AreNoForm words = (fields : List Field) → AreNamed words fields → ⊥

@@ -1,0 +1,257 @@
+//! The program: from words on a command line to a picture.
+
+ghost use Rattle.std.specs.Prelude.{◌≡◌, ◌⊎◌, ◌≤◌, ◌<◌, ℕ, List, [], map, length, IfSome, IfOk, IfErr, OnOk, OnErr, MatchOption};
+ghost use Rattle.std.specs.List.{AllZip};
+ghost use Rattle.std.specs.Io.KnownBytes.{Appends};
+ghost use Rattle.std.specs.IoError.{error_kind};
+ghost use Rattle.std.specs.declared.io.ErrorKind.TheVariants.{OutOfMemory};
+ghost use Rattle.deku_bits.specs.declared.error.DekuError.TheVariants.{Io};
+ghost use Rattle.deku_fields.specs.declared.list.Field.{Field as ListField};
+ghost use Rattle.deku_fields.specs.Runs.{words_of, IsBegun};
+ghost use Rattle.deku_picture.specs.declared.program.Failure.TheVariants.{Usage, Fault};
+ghost use Rattle.deku_picture.specs.Names.{Names, HasSpecs, AreNoForm};
+ghost use Rattle.deku_picture.specs.Drawn.{status_of, message, AreDrawn, IsForm, IsSample, HasNoValues, HasShown, HasNotShown, IsDone, IsUnfinished, IsStopped, IsFailure};
+
+use crate::cell::rows;
+use crate::drawing::{Drawing, Sample};
+use crate::svg::svg;
+use crate::table::table;
+use crate::words::{Named, parse_named};
+use deku::DekuError;
+use deku_fields::{Field, give_text, list_from_bytes, places};
+use hex::FromHexError;
+use std::alloc::{AllocError, AllocFailed, Global};
+use std::fmt::Write as _;
+use std::io;
+use std::io::{ErrorKind, Write};
+
+/// Why a run ends without a picture.
+#[derive(Drop)]
+enum Failure<'a> {
+    /// The arguments are not of a form that the program knows.
+    Usage,
+    /// This word names no field.
+    NoField(&'a str),
+    /// The bytes are not hexadecimal text.
+    BadText,
+    /// The fields, the output or the memory stood in the way.
+    Fault(DekuError),
+}
+
+impl From<DekuError> for Failure<'_> {
+    ghost from_gives = { λ fault e. e ≡ Fault fault };
+
+    fn from(fault: DekuError) -> Self {
+        Failure::Fault(fault)
+    }
+}
+
+impl From<io::Error> for Failure<'_> {
+    ghost from_gives = { λ error e. e ≡ Fault (Io (error_kind error)) };
+
+    fn from(error: io::Error) -> Self {
+        Failure::Fault(DekuError::Io(error.kind()))
+    }
+}
+
+impl<T: Drop> From<AllocFailed<T>> for Failure<'_> {
+    ghost from_gives = { λ _ e. e ≡ Fault (Io OutOfMemory) };
+
+    fn from(_failed: AllocFailed<T>) -> Self {
+        Failure::Fault(DekuError::Io(ErrorKind::OutOfMemory))
+    }
+}
+
+impl From<AllocError> for Failure<'_> {
+    ghost from_gives = { λ _ e. e ≡ Fault (Io OutOfMemory) };
+
+    fn from(_error: AllocError) -> Self {
+        Failure::Fault(DekuError::Io(ErrorKind::OutOfMemory))
+    }
+}
+
+/// What is drawn.
+#[derive(Clone, Copy)]
+enum Form<'a> {
+    /// A table.
+    Table,
+    /// An SVG.
+    Svg,
+    /// A table with the bits of bytes, which the text names in hexadecimal.
+    Bytes(&'a str),
+}
+
+/// Runs the program on the arguments after its name, and answers its status: 0 where it is done, 1 where the fields, the bytes, the output or the
+/// memory stood in the way, and 2 where the arguments are not of a form that it knows.
+///
+/// `SPEC..` prints the picture of the fields as a table, `--svg SPEC..` as an SVG, and `--bytes HEX SPEC..` as a table with the bits of these
+/// bytes and the values that the fields have in them. Each SPEC may have a name in front of it, as `name:SPEC`.
+///
+/// A run that is not done is told of in one line on `errors`: the usage with status 2, and the word that names no field where there is one; and
+/// with status 1 `error: bad hexadecimal text`, or `error: ` and the text of the fault. The words are looked at before the bytes, and nothing goes
+/// to the output until all of the picture is known, so it gains nothing then but what a failing output took. A fault of `errors` changes nothing.
+///
+/// ```text
+/// a:u8,lsb,bits4 b:u16,lsb,bits12                   // prints cells `b 3..0`, `a 3..0` and `b 11..4`, status 0
+/// u8 u9                                             // tells usage: layout .., and "u9" is no field, status 2
+/// u8,big,bits3 u8,lsb,bits3                         // tells error: Invalid param error: order changes inside a byte, status 1
+/// ```
+pub fn run<W: Write, E: Write>(alloc: Global, args: &[String], output: &mut W, errors: &mut E) -> u8
+    ensures status { result ≤ 2 }
+    ensures done { result ≡ 0 → IsDone (words_of args.now) (W.contents output.old) (W.contents output.new) }
+    ensures quiet { result ≡ 0 → errors.new ≡ errors.old }
+    ensures usage { result ≡ 2 → AreNoForm (words_of args.now) × (output.new ≡ output.old) }
+    ensures stopped { result ≡ 1 → IsStopped (words_of args.now) (E.contents errors.old) (E.contents errors.new) }
+    ensures kept { result ≡ 1 → (output.new ≡ output.old) ⊎ IsUnfinished (words_of args.now) (W.contents output.old) (W.contents output.new) }
+{
+    let Err(failure) = command(alloc, args, output) else {
+        return 0;
+    };
+    let _ = complain(errors, &failure);
+    status_of(&failure)
+}
+
+// The status of a run that ends so.
+fn status_of(failure: &Failure) -> u8
+    ensures { result ≡ status_of failure.now }
+{
+    match failure {
+        Failure::Usage | Failure::NoField(_) => 2,
+        Failure::BadText | Failure::Fault(_) => 1,
+    }
+}
+
+// Tells of a failure in a line, of which `errors` takes a beginning where it fails.
+fn complain<E: Write>(errors: &mut E, failure: &Failure) -> io::Result<()>
+    ensures told { OnOk result (IfSome (message failure.now) (Appends (E.contents errors.old) (E.contents errors.new))) }
+    ensures begun { IfSome (message failure.now) (IsBegun (E.contents errors.old) (E.contents errors.new)) }
+{
+    match failure {
+        Failure::Usage => {
+            give_text(errors, b"usage: layout [--svg|--bytes HEX] [NAME:]SPEC..\n")
+        }
+        Failure::NoField(word) => writeln!(
+            errors,
+            "usage: layout [--svg|--bytes HEX] [NAME:]SPEC.., and {word:?} is no field"
+        ),
+        Failure::BadText => give_text(errors, b"error: bad hexadecimal text\n"),
+        Failure::Fault(fault) => writeln!(errors, "error: {fault}"),
+    }
+}
+
+fn command<'a, W: Write>(
+    alloc: Global,
+    args: &'a [String],
+    output: &mut W,
+) -> Result<(), Failure<'a>>
+    ensures done { OnOk result (IsDone (words_of args.now) (W.contents output.old) (W.contents output.new)) }
+    ensures stops { IfErr result (IsFailure (words_of args.now)) }
+    ensures usage { IfErr result (λ e. status_of e ≡ 2 → output.new ≡ output.old) }
+    ensures kept { OnErr result ((output.new ≡ output.old) ⊎ IsUnfinished (words_of args.now) (W.contents output.old) (W.contents output.new)) }
+{
+    let text = drawn(alloc, args)?;
+    give_text(output, text.as_bytes())?;
+    Ok(())
+}
+
+// The picture that the words ask for.
+fn drawn(alloc: Global, args: &[String]) -> Result<String, Failure<'_>>
+    ensures drawn { OnOk result (AreDrawn (words_of args.now)) }
+    ensures stops { IfErr result (IsFailure (words_of args.now)) }
+{
+    let Some((form, specs)) = split_form(args) else {
+        return Err(Failure::Usage);
+    };
+    if specs.is_empty() {
+        return Err(Failure::Usage);
+    }
+    let named = fields_named(alloc, specs)?;
+    let fields = fields_of(alloc, named.as_slice())?;
+    let picture = places(alloc, fields.as_slice())?;
+    let rows = rows(alloc, picture.as_slice())?;
+    let sample = sample_of(alloc, form, fields.as_slice())?;
+    let drawing = Drawing {
+        fields: named,
+        rows,
+        sample,
+    };
+    let text = match form {
+        Form::Svg => svg(alloc, &drawing)?,
+        Form::Table | Form::Bytes(_) => table(alloc, &drawing)?,
+    };
+    Ok(text)
+}
+
+// What is drawn, and the words of the fields; none where there are none.
+fn split_form(args: &[String]) -> Option<(Form<'_>, &[String])>
+    ensures { MatchOption result ((specs : List (List ℕ)) → HasSpecs (words_of args.now) specs → ⊥) (λ p. IsForm (words_of args.now) p.0 × HasSpecs (words_of args.now) (words_of p.1.now)) }
+{
+    let Some((first, rest)) = args.split_first() else {
+        return None;
+    };
+    match first.as_str() {
+        "--svg" => Some((Form::Svg, rest)),
+        "--bytes" => match rest.split_first() {
+            Some((text, specs)) => Some((Form::Bytes(text.as_str()), specs)),
+            None => None,
+        },
+        _ => Some((Form::Table, args)),
+    }
+}
+
+// The fields that the words name, with their names.
+fn fields_named(alloc: Global, specs: &[String]) -> Result<Vec<Named<'_>>, Failure<'_>>
+    ensures named { IfOk result (λ v. AllZip Names (words_of specs.now) (map (λ n. n.field) v.items)) }
+    ensures stops { IfErr result (λ e. ((status_of e ≡ 2) × ((fields : List ListField) → AllZip Names (words_of specs.now) fields → ⊥)) ⊎ (e ≡ Fault (Io OutOfMemory))) }
+{
+    let mut fields: Vec<Named> = Vec::new(alloc);
+    for word in specs {
+        let Some(field) = parse_named(word.as_str()) else {
+            return Err(Failure::NoField(word.as_str()));
+        };
+        fields.push(field)?;
+    }
+    Ok(fields)
+}
+
+// The fields without their names.
+fn fields_of(alloc: Global, named: &[Named]) -> Result<Vec<Field>, AllocError>
+    ensures { IfOk result (λ v. v.items ≡ map (λ n. n.field) named.now) }
+{
+    let mut fields: Vec<Field> = Vec::new(alloc);
+    for each in named {
+        fields.push(each.field)?;
+    }
+    Ok(fields)
+}
+
+// The bytes to be drawn and the values in them, where the form has bytes.
+fn sample_of<'a>(alloc: Global, form: Form, fields: &[Field]) -> Result<Option<Sample>, Failure<'a>>
+    ensures shown { OnOk result (HasShown form.entry fields.now) }
+    ensures stops { IfErr result (HasNotShown form.entry fields.now) }
+{
+    match form {
+        Form::Bytes(text) => match sample(alloc, text, fields) {
+            Ok(sample) => Ok(Some(sample)),
+            Err(failure) => Err(failure),
+        },
+        Form::Table => Ok(None),
+        Form::Svg => Ok(None),
+    }
+}
+
+// The bytes that hexadecimal text names, and the values that the fields read from them.
+fn sample<'a>(alloc: Global, text: &str, fields: &[Field]) -> Result<Sample, Failure<'a>>
+    ensures read { IfOk result (λ s. IsSample fields.now text.now s.bytes.items s.values) }
+    ensures stops { IfErr result (HasNoValues fields.now text.now) }
+{
+    let bytes = match hex::decode(alloc, text.as_bytes()) {
+        Ok(bytes) => bytes,
+        Err(FromHexError::OutOfMemory) => {
+            return Err(Failure::Fault(DekuError::Io(ErrorKind::OutOfMemory)));
+        }
+        Err(_) => return Err(Failure::BadText),
+    };
+    let (_, values) = list_from_bytes(alloc, bytes.as_slice(), fields)?;
+    Ok(Sample { bytes, values })
+}

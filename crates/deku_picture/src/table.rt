@@ -1,0 +1,145 @@
+//! Pictures as text.
+
+use crate::cell::Cell;
+use crate::drawing::{Drawing, Sample, byte_count, byte_number, push_fields, push_many};
+use crate::label::{Label, labels, line_of, lines_of};
+use crate::words::Named;
+use std::alloc::{AllocError, Global};
+use std::fmt::Write as _;
+
+/// A picture as text: for each row the numbers of its bytes and of their bits, its cells, and the bits of the bytes where there are some; and
+/// then a line for each field. A row is 65 letters wide.
+pub fn table(alloc: Global, drawing: &Drawing) -> Result<String, AllocError> {
+    let mut text = String::new(alloc);
+    for (index, row) in drawing.rows.iter().enumerate() {
+        let row = row.as_slice();
+        push_numbers(&mut text, index, byte_count(row))?;
+        push_cells(
+            alloc,
+            &mut text,
+            drawing.fields.as_slice(),
+            row,
+            &bits_of(alloc, &drawing.sample, index, byte_count(row))?,
+        )?;
+        text.push('\n')?;
+    }
+    push_fields(alloc, &mut text, drawing, "", "\n")?;
+    Ok(text)
+}
+
+// The numbers of the bytes of a row, and of the bits of each.
+fn push_numbers(text: &mut String, row: usize, bytes: usize) -> Result<(), AllocError> {
+    for n in 0..bytes {
+        let number = byte_number(row, n);
+        if n + 1 < bytes {
+            write!(text, " byte {number:<10}")?;
+        } else {
+            writeln!(text, " byte {number}")?;
+        }
+    }
+    for _ in 0..bytes {
+        text.push_str(" 7 6 5 4 3 2 1 0")?;
+    }
+    text.push('\n')
+}
+
+// The cells of a row, with the bits in them where there are some.
+fn push_cells(
+    alloc: Global,
+    text: &mut String,
+    fields: &[Named],
+    row: &[Cell],
+    bits: &String,
+) -> Result<(), AllocError> {
+    let labels = labels(alloc, fields, row, 2, 1)?;
+    let labels = labels.as_slice();
+    let lines = lines_of(labels);
+    push_border(text, labels)?;
+    for n in 0..lines.names {
+        push_line(text, labels, n, Part::Name)?;
+    }
+    for n in 0..lines.weights {
+        push_line(text, labels, n, Part::Weights)?;
+    }
+    if !bits.is_empty() {
+        push_bits(text, labels, bits)?;
+    }
+    push_border(text, labels)
+}
+
+fn push_border(text: &mut String, labels: &[Label]) -> Result<(), AllocError> {
+    for label in labels {
+        text.push('+')?;
+        push_many(text, '-', label.columns)?;
+    }
+    text.push_str("+\n")
+}
+
+// A part of a label.
+#[derive(Clone, Copy)]
+enum Part {
+    Name,
+    Weights,
+}
+
+// The n-th line of that part of all labels.
+fn push_line(text: &mut String, labels: &[Label], n: usize, part: Part) -> Result<(), AllocError> {
+    for label in labels {
+        let word = match part {
+            Part::Name => &label.name,
+            Part::Weights => &label.weights,
+        };
+        text.push('|')?;
+        push_centred(text, line_of(word, label.columns, n), label.columns)?;
+    }
+    text.push_str("|\n")
+}
+
+// Letters in the middle of so many columns.
+fn push_centred(text: &mut String, letters: &[u8], columns: usize) -> Result<(), AllocError> {
+    let gap = columns.saturating_sub(letters.len());
+    push_many(text, ' ', gap / 2)?;
+    push_letters(text, letters)?;
+    push_many(text, ' ', gap - gap / 2)
+}
+
+/// Puts letters, each of them ASCII.
+pub fn push_letters(text: &mut String, letters: &[u8]) -> Result<(), AllocError> {
+    for letter in letters {
+        text.push(char::from(*letter))?;
+    }
+    Ok(())
+}
+
+// The bits of the bytes of a row, as they are printed; none where there are no bytes.
+fn bits_of(
+    alloc: Global,
+    sample: &Option<Sample>,
+    row: usize,
+    bytes: usize,
+) -> Result<String, AllocError> {
+    let mut bits = String::new(alloc);
+    if let Some(sample) = sample {
+        for n in 0..bytes {
+            let byte = sample.bytes.get(byte_number(row, n)).copied().unwrap_or(0);
+            write!(bits, "{byte:08b}")?;
+        }
+    }
+    Ok(bits)
+}
+
+// The bits of a row, in its cells.
+fn push_bits(text: &mut String, labels: &[Label], bits: &String) -> Result<(), AllocError> {
+    let mut rest = bits.as_bytes();
+    for label in labels {
+        let (here, behind) = rest.split_at(label.width.min(rest.len()));
+        let mut mark = '|';
+        for bit in here {
+            text.push(mark)?;
+            text.push(char::from(*bit))?;
+            mark = ' ';
+        }
+        rest = behind;
+    }
+    text.push_str("|\n")
+}
