@@ -19,12 +19,12 @@ fn expect_both_ways(rt: &impl Abort, alloc: Global, row: &Row) -> Result<(), Fai
     let (number_type, layout, bytes, value) = *row;
     let mut reader = Reader::new(alloc, Cursor::new(bytes));
     let read = read_value(rt, &mut reader, number_type, layout);
-    assert_eq!(rt; read, Ok(value), "{row:?}");
+    assert!(rt; read == Ok(value), "{row:?}: {read:?}");
     let mut writer = Writer::new(Cursor::new(Vec::new(alloc)));
     write_value(rt, &mut writer, value, number_type, layout)?;
     writer.finalize()?;
     let written = writer.into_inner().into_inner();
-    assert_eq!(rt; written.as_slice(), bytes, "{row:?}");
+    assert!(rt; written.as_slice() == bytes, "{row:?}: {written:?}");
     Ok(())
 }
 
@@ -100,7 +100,10 @@ fn refuses_to_read(rt: HostRuntime) {
     ];
     for (number_type, layout, refusal) in rows {
         let read = read_value(&rt, &mut reader, number_type, layout);
-        assert_eq!(rt; read, Err(refusal), "{number_type:?} {layout:?}");
+        assert!(rt;
+            read == Err(refusal),
+            "{number_type:?} {layout:?}: {read:?}"
+        );
     }
 }
 
@@ -129,11 +132,8 @@ fn refuses_to_write(rt: HostRuntime) -> Result<(), Fail> {
     ];
     for (value, number_type, layout, refusal) in rows {
         let written = write_value(&rt, &mut writer, value, number_type, layout);
-        assert_eq!(rt;
-            written,
-            Err(DekuError::InvalidParam(refusal)),
-            "{value:?} {layout:?}"
-        );
+        let wanted = Err(DekuError::InvalidParam(refusal));
+        assert!(rt; written == wanted, "{value:?} {layout:?}: {written:?}");
     }
     writer.finalize()?;
     assert!(rt; writer.into_inner().into_inner().is_empty());

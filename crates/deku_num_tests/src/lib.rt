@@ -1,4 +1,4 @@
-//! Tests of `deku_num`, through its public calls.
+//! Tests of `deku_num`, and of the words of `deku_bits`, through their public calls.
 #![tactic(auto)]
 
 #[cfg(test)]
@@ -11,3 +11,5 @@ mod slow;
 mod sweep;
 #[cfg(test)]
 mod values;
+#[cfg(test)]
+mod words;

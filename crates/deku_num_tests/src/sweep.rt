@@ -4,6 +4,7 @@ use crate::random::Random;
 use crate::slow;
 use crate::values::{Value, read_value, write_value};
 use deku_bits::ctx::Order;
+use deku_bits::device::{Sink, Source};
 use deku_bits::error::DekuError;
 use deku_bits::reader::Reader;
 use deku_bits::writer::Writer;
@@ -293,7 +294,7 @@ fn expect_read(
         fetched: count.div_ceil(8).max(peeks as usize) as u64,
     };
     let seen = read_field(rt, alloc, row, front.len(), peeks, &bytes);
-    assert_eq!(rt; seen, want, "{row:?} behind {front:?}");
+    assert!(rt; seen == want, "{row:?} behind {front:?}: {seen:?}");
 }
 
 // What is seen where the field is read.
@@ -305,7 +306,26 @@ fn read_field(
     peeks: bool,
     bytes: &[u8],
 ) -> Reading {
-    let mut reader = Reader::new(alloc, Cursor::new(bytes));
+    let source = Cursor::new(bytes);
+    let (front, answer, bits_read, source) = read_from(rt, alloc, source, row, offset, peeks);
+    Reading {
+        front,
+        answer,
+        bits_read,
+        fetched: source.position(),
+    }
+}
+
+// The bits in front as they are shown, what the number's read answers, the bits counted, and the source then.
+fn read_from<R: Source>(
+    rt: &impl Abort,
+    alloc: Global,
+    source: R,
+    row: &Row,
+    offset: usize,
+    peeks: bool,
+) -> ([bool; 8], Result<Value, DekuError>, usize, R) {
+    let mut reader = Reader::new(alloc, source);
     if peeks {
         assert!(rt; reader.end() == Ok(false), "{row:?}");
     }
@@ -314,12 +334,8 @@ fn read_field(
     let read = reader.read_bits_into(&mut front[..offset], row.layout.order);
     assert!(rt; read.is_ok(), "{row:?}");
     let answer = read_value(rt, &mut reader, row.number_type, row.layout);
-    Reading {
-        front,
-        answer,
-        bits_read: reader.bits_read(),
-        fetched: reader.into_inner().position(),
-    }
+    let count = reader.bits_read();
+    (front, answer, count, reader.into_inner())
 }
 
 // The value is written as the row says: as the list, or as nothing at all.
@@ -333,13 +349,28 @@ fn expect_written(rt: &impl Abort, row: &Row, front: &[bool], list: &[bool]) {
         page: slow::bytes_of(order, front, moved, false),
     };
     let seen = write_field(rt, row, front);
-    assert_eq!(rt; seen, want, "{row:?} behind {front:?}");
+    assert!(rt; seen == want, "{row:?} behind {front:?}: {seen:?}");
 }
 
 // What is seen where the value is written and padded.
 fn write_field(rt: &impl Abort, row: &Row, front: &[bool]) -> Writing {
     let mut page = [0; slow::PAGE];
-    let mut writer = Writer::new(Cursor::new(page.as_mut_slice()));
+    let (answer, bits_written) = write_onto(rt, Cursor::new(page.as_mut_slice()), row, front);
+    Writing {
+        answer,
+        bits_written,
+        page,
+    }
+}
+
+// What the number's write answers, and the bits counted.
+fn write_onto<W: Sink + Drop>(
+    rt: &impl Abort,
+    sink: W,
+    row: &Row,
+    front: &[bool],
+) -> (Result<(), DekuError>, usize) {
+    let mut writer = Writer::new(sink);
     let bits = slow::shown(row.layout.order, front);
     assert!(rt; front.len() <= bits.len());
     let begun = writer.write_bits_order(&bits[..front.len()], row.layout.order);
@@ -347,10 +378,5 @@ fn write_field(rt: &impl Abort, row: &Row, front: &[bool]) -> Writing {
     let answer = write_value(rt, &mut writer, row.value, row.number_type, row.layout);
     let ended = writer.finalize();
     assert!(rt; ended.is_ok(), "{row:?}");
-    let bits_written = writer.bits_written();
-    Writing {
-        answer,
-        bits_written,
-        page,
-    }
+    (answer, writer.bits_written())
 }

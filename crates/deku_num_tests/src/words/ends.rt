@@ -1,7 +1,7 @@
 //! Words near the end of the bytes, where the next eight are at hand or no more, against a source that has none at hand.
 
-use crate::same::{FAILED, Refusal, same, wanted};
-use crate::slow::{ORDERS, Slow, samples, word_of};
+use super::same::{FAILED, Refusal, same, wanted};
+use super::slow::{ORDERS, Slow, samples, word_of};
 use deku_bits::ctx::Order;
 use deku_bits::ctx::Order::Msb0;
 use deku_bits::device::Source;

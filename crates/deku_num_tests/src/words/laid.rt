@@ -1,7 +1,7 @@
 //! Words where eight bytes of room are left, where fewer are, and onto a sink that never lays them at once.
 
-use crate::same::same;
-use crate::slow::{ORDERS, fitting, put_word, turn, word_of};
+use super::same::same;
+use super::slow::{ORDERS, fitting, put_word, turn, word_of};
 use deku_bits::ctx::Order;
 use deku_bits::device::Sink;
 use deku_bits::writer::Writer;
@@ -74,7 +74,8 @@ struct Row {
 }
 
 // Writes both into what is left of a slice: whether they were written, how many bits were counted, and how many are pending.
-fn write_both<S: Sink>(rt: &impl Abort, writer: &mut Writer<S>, row: Row) -> Left {
+fn write_both<S: Sink + Drop>(rt: &impl Abort, sink: S, row: Row) -> Left {
+    let mut writer = Writer::new(sink);
     let mut front = FRONT;
     assert!(rt; row.front <= 7 && row.n <= 128);
     turn(&mut front[..row.front], row.order);
@@ -91,8 +92,7 @@ fn write_both<S: Sink>(rt: &impl Abort, writer: &mut Writer<S>, row: Row) -> Lef
 fn make_laid(rt: &impl Abort, row: Row) -> Made {
     let mut slice = [THERE; 12];
     assert!(rt; row.room <= 12);
-    let mut writer = Writer::new(Cursor::new(&mut slice[12 - row.room..]));
-    let left = write_both(rt, &mut writer, row);
+    let left = write_both(rt, Cursor::new(&mut slice[12 - row.room..]), row);
     (slice, left)
 }
 
@@ -101,8 +101,7 @@ fn make_given(rt: &impl Abort, row: Row) -> Made {
     let mut slice = [THERE; 12];
     assert!(rt; row.room <= 12);
     let cursor = Cursor::new(&mut slice[12 - row.room..]);
-    let mut writer = Writer::new(Giving { inner: cursor });
-    let left = write_both(rt, &mut writer, row);
+    let left = write_both(rt, Giving { inner: cursor }, row);
     (slice, left)
 }
 

@@ -1,6 +1,6 @@
 //! Numbers that are laid from the highest bit down, where eight bytes of room are at hand.
 
-use crate::same::{same, same_bytes};
+use super::same::{same, same_bytes};
 use deku_bits::ctx::Order::Lsb0;
 use deku_bits::device::Sink;
 use deku_bits::writer::Writer;

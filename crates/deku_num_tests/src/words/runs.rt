@@ -1,8 +1,9 @@
 //! Runs of bytes behind a partly read byte.
 
-use crate::same::same;
-use crate::slow::{ORDERS, Slow, samples, word_of};
+use super::same::same;
+use super::slow::{ORDERS, Slow, samples, word_of};
 use deku_bits::ctx::Order;
+use deku_bits::device::Source;
 use deku_bits::reader::Reader;
 use std::alloc::Global;
 use std::io::Cursor;
@@ -31,10 +32,10 @@ fn met_run(
 }
 
 // The bytes that a reader reads behind so many bits of the first order, and whether it reads them.
-fn read_run(
+fn read_run<R: Source + Drop>(
     rt: &impl Abort,
     alloc: Global,
-    bytes: &[u8],
+    source: R,
     offset: usize,
     first: Order,
     run: &mut [u8],
@@ -42,7 +43,7 @@ fn read_run(
 ) -> bool {
     let mut front = [false; 8];
     assert!(rt; offset <= 8);
-    let mut reader = Reader::new(alloc, Cursor::new(bytes));
+    let mut reader = Reader::new(alloc, source);
     reader.read_bits_into(&mut front[..offset], first).is_ok()
         && reader.read_bytes(run.len(), run, order).is_ok()
 }
@@ -61,7 +62,8 @@ fn expect_run(
     let mut got = [0; 17];
     assert!(rt; n <= 17);
     met_run(rt, bytes, offset, first, &mut want[..n], order);
-    let is_read = read_run(rt, alloc, bytes, offset, first, &mut got[..n], order);
+    let source = Cursor::new(bytes);
+    let is_read = read_run(rt, alloc, source, offset, first, &mut got[..n], order);
     same(rt, (offset, n), &(is_read, got), &(true, want));
 }
 

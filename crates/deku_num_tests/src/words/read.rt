@@ -1,7 +1,7 @@
 //! Words that are read.
 
-use crate::same::same;
-use crate::slow::{ORDERS, Slow, samples, turn, word_of};
+use super::same::same;
+use super::slow::{ORDERS, Slow, samples, turn, word_of};
 use deku_bits::ctx::Order;
 use deku_bits::ctx::Order::{Lsb0, Msb0};
 use deku_bits::device::Source;
@@ -44,10 +44,10 @@ fn slow_word(rt: &impl Abort, bytes: &[u8], start: Start, n: usize, order: Order
 fn expect_word(rt: &impl Abort, alloc: Global, bytes: &[u8], start: Start, n: usize, order: Order) {
     let row = (start.offset, n);
     let want = slow_word(rt, bytes, start, n, order);
-    let read = read_as_word(rt, alloc, bytes, start, n, order);
+    let read = read_bytes(rt, alloc, bytes, start, n, order, false);
     let seen = (read.0, read.1);
     same(rt, row, &seen, &(Some(want), start.offset.wrapping_add(n)));
-    let shown = read_as_bits(rt, alloc, bytes, start, n, order);
+    let shown = read_bytes(rt, alloc, bytes, start, n, order, true);
     same(rt, row, &shown, &read);
 }
 
@@ -80,34 +80,38 @@ fn shown_word<R: Source>(
 // The word, where it is read, how many bits are read then, and where the source stands.
 type Read = (Option<u128>, usize, u64);
 
-fn read_as_word(
+// A reader over the source reads the word, or its bits as they are shown.
+fn read_from<R: Source>(
     rt: &impl Abort,
-    alloc: Global,
-    bytes: &[u8],
+    mut reader: Reader<R>,
     start: Start,
     n: usize,
     order: Order,
-) -> Read {
-    let mut reader = Reader::new(alloc, Cursor::new(bytes));
+    shows: bool,
+) -> (Option<u128>, usize, R) {
     begin(rt, &mut reader, start);
-    let word = next_word(rt, &mut reader, n, order);
+    let word = if shows {
+        shown_word(rt, &mut reader, n, order)
+    } else {
+        next_word(rt, &mut reader, n, order)
+    };
     let count = reader.bits_read();
-    (word, count, reader.into_inner().position())
+    (word, count, reader.into_inner())
 }
 
-fn read_as_bits(
+// So from these bytes.
+fn read_bytes(
     rt: &impl Abort,
     alloc: Global,
     bytes: &[u8],
     start: Start,
     n: usize,
     order: Order,
+    shows: bool,
 ) -> Read {
-    let mut reader = Reader::new(alloc, Cursor::new(bytes));
-    begin(rt, &mut reader, start);
-    let word = shown_word(rt, &mut reader, n, order);
-    let count = reader.bits_read();
-    (word, count, reader.into_inner().position())
+    let reader = Reader::new(alloc, Cursor::new(bytes));
+    let (word, count, cursor) = read_from(rt, reader, start, n, order, shows);
+    (word, count, cursor.position())
 }
 
 // Words of all widths in both orders, behind these bits.

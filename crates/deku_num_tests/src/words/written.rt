@@ -1,7 +1,7 @@
 //! Words that are written.
 
-use crate::same::{same, same_bytes};
-use crate::slow::{ORDERS, Slow, fitting, put_word, samples, turn, word_of};
+use super::same::{same, same_bytes};
+use super::slow::{ORDERS, Slow, fitting, put_word, samples, turn, word_of};
 use deku_bits::ctx::Order;
 use deku_bits::ctx::Order::{Lsb0, Msb0};
 use deku_bits::device::Sink;
@@ -25,15 +25,16 @@ struct Start {
 type Made = ([u8; 18], usize, usize);
 
 // Writes bits and then a word, and what is pending: how many bits were counted, and how many were pending.
-fn put_word_behind<W: Sink>(
+fn put_word_behind<W: Sink + Drop>(
     rt: &impl Abort,
-    writer: &mut Writer<W>,
+    sink: W,
     start: Start,
     word: u128,
     n: usize,
     order: Order,
 ) -> Result<(usize, usize), DekuError> {
     assert!(rt; start.offset <= 8 && n <= 128);
+    let mut writer = Writer::new(sink);
     writer.write_bits_order(&FRONT[..start.offset], start.order)?;
     writer.write_word(fitting(word, n), n, order)?;
     let pending = writer.leftover().0.len();
@@ -42,14 +43,15 @@ fn put_word_behind<W: Sink>(
 }
 
 // The same of bits and more of them, as they are shown.
-fn put_bits_behind<W: Sink>(
+fn put_bits_behind<W: Sink + Drop>(
     rt: &impl Abort,
-    writer: &mut Writer<W>,
+    sink: W,
     start: Start,
     shown: &[bool],
     order: Order,
 ) -> Result<(usize, usize), DekuError> {
     assert!(rt; start.offset <= 8);
+    let mut writer = Writer::new(sink);
     writer.write_bits_order(&FRONT[..start.offset], start.order)?;
     writer.write_bits_order(shown, order)?;
     let pending = writer.leftover().0.len();
@@ -66,8 +68,8 @@ fn write_as_word(
     order: Order,
 ) -> Result<Made, DekuError> {
     let mut slice = [0; 18];
-    let mut writer = Writer::new(Cursor::new(slice.as_mut_slice()));
-    match put_word_behind(rt, &mut writer, start, word, n, order) {
+    let cursor = Cursor::new(slice.as_mut_slice());
+    match put_word_behind(rt, cursor, start, word, n, order) {
         Ok((count, pending)) => Ok((slice, count, pending)),
         Err(error) => Err(error),
     }
@@ -81,8 +83,8 @@ fn write_as_bits(
     order: Order,
 ) -> Result<Made, DekuError> {
     let mut slice = [0; 18];
-    let mut writer = Writer::new(Cursor::new(slice.as_mut_slice()));
-    match put_bits_behind(rt, &mut writer, start, shown, order) {
+    let cursor = Cursor::new(slice.as_mut_slice());
+    match put_bits_behind(rt, cursor, start, shown, order) {
         Ok((count, pending)) => Ok((slice, count, pending)),
         Err(error) => Err(error),
     }
