@@ -85,10 +85,11 @@ impl ToParts<()> for Header {
 
 /// Four samples for each eleven bytes; other counts of bytes name none.
 impl Counts for Header {
-    ghost use Rattle.std.specs.Prelude.{◌+◌, ◌*◌, ◌/◌, ◌%◌, nat_eq, cond, Some, None};
+    ghost use Rattle.deku_formats.specs.Ccsds.{samples_behind};
 
-    ghost count_of = { λ h. cond (nat_eq ((h.length + 1) % 11) 0) (Some ((h.length + 1) / 11 * 4)) None };
+    ghost count_of = { λ h. samples_behind h.length };
 
+    #[tactic(auto, unfolding(crate::specs::Ccsds::samples_behind))]
     fn count(&self) -> Option<usize> {
         let bytes = self.length as usize + 1;
         if bytes % 11 == 0 {
