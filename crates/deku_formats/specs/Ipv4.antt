@@ -1,0 +1,37 @@
+-- The lengths that an IPv4 header names.
+use Rattle.std.specs.Prelude.{◌≡◌, ◌⊎◌, ◌<◌, ◌≤◌, ◌+◌, ◌-◌, ◌*◌, ◌/◌, ◌%◌, ◌^◌, ℕ, List, length, codes, Result, Ok, Err}
+use Rattle.deku.specs.declared.error.DekuError.{DekuError}
+use Rattle.deku.specs.declared.error.DekuError.TheVariants.{Parse}
+use Rattle.deku.specs.Faults.{Tells}
+use Rattle.deku_formats.specs.declared.ipv4.Ipv4.{Ipv4}
+
+-- the bytes of the options
+abbrev pub option_count : Ipv4 → ℕ
+option_count h = length h.options.items
+
+-- the options are whole words, ten at most
+abbrev pub HasWholeWords : Ipv4 → Type 0
+HasWholeWords h = (option_count h ≤ 40) × (option_count h % 4 ≡ 0)
+
+-- the header's bytes are among those that the total counts
+abbrev pub CountsItself : Ipv4 → Type 0
+CountsItself h = 4 * h.front.words ≤ h.front.total
+
+-- the total with the header that the options make, and what was carried
+abbrev pub next_total : Ipv4 → ℕ
+next_total h = h.front.total - 4 * h.front.words + 20 + option_count h
+
+-- the header with its two lengths
+abbrev pub counted : Ipv4 → Ipv4
+counted h = record h { front = record h.front { words = 5 + option_count h / 4; total = next_total h } }
+
+-- it is refused for this cause, and stays
+abbrev pub StaysFor : List ℕ → Ipv4 → Result (Unit {0}) DekuError → Ipv4 → Type 0
+StaysFor cause h r g = ((e : DekuError) × (r ≡ Err e) × Tells Parse cause e) × (g ≡ h)
+
+-- a header gets its two lengths, where its options are whole words, it counts itself and 16 bits count all
+abbrev pub Updates : Ipv4 → Result (Unit {0}) DekuError → Ipv4 → Type 0
+Updates h r g = (HasWholeWords h × CountsItself h × (next_total h < 2 ^ 16) × (r ≡ Ok tt) × (g ≡ counted h))
+    ⊎ ((HasWholeWords h → ⊥) × StaysFor (codes "options of no whole words") h r g)
+    ⊎ ((CountsItself h → ⊥) × StaysFor (codes "total below header") h r g)
+    ⊎ ((2 ^ 16 ≤ next_total h) × StaysFor (codes "packet too long") h r g)

@@ -1,0 +1,3 @@
+pub mod Ccsds
+pub mod Checksum
+pub mod Ipv4

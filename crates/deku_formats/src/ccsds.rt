@@ -1,0 +1,95 @@
+//! A CCSDS space packet with telemetry: the primary header of CCSDS 133.0-B-2, section 4.1.3, and samples of 10 and 12 bits behind it.
+//!
+//! ```text
+//! version      3 bits     0
+//! kind         1 bit      0: telemetry, 1: command
+//! secondary    1 bit      whether a secondary header follows
+//! application 11 bits     the application process identifier
+//! grouping     2 bits     3: a packet that stands alone
+//! count       14 bits     the sequence count
+//! length      16 bits     the bytes behind the header, less one
+//! samples     22 bits each: a voltage of 10 bits and a current of 12, the high bits first; four of them fill eleven bytes
+//! ```
+
+pub mod header;
+pub mod sample;
+
+use deku::device::{Sink, Source};
+use deku::prelude::{
+    DekuContainerRead, DekuContainerWrite, DekuError, DekuReader, DekuWriter, Reader, Writer,
+};
+use deku_symmetry::{Led, Parted, Record, read_record, write_led};
+use header::Header;
+use sample::Sample;
+
+/// A packet of samples.
+#[derive(Debug, PartialEq, Eq, Drop)]
+pub struct Telemetry {
+    /// The primary header, whose length says how many samples there are.
+    pub header: Header,
+    /// The samples, four for each eleven bytes.
+    pub samples: Vec<Sample>,
+}
+
+// The header, and as many samples as it says.
+type Parts = Led<Header, Sample>;
+
+impl Parted<()> for Telemetry {
+    ghost use Rattle.std.specs.Prelude.{refl};
+
+    type Parts = Parts;
+
+    ghost parts_of = { λ r. record { head = r.header; items = r.samples } };
+
+    ghost record_of = { λ p. record { header = p.head; samples = p.items } };
+
+    fn from_parts(parts: Self::Parts) -> Self {
+        Telemetry {
+            header: parts.head,
+            samples: parts.items,
+        }
+    }
+
+    ghost there = { λ r. refl };
+}
+
+impl Record for Telemetry {
+    ghost use Rattle.std.specs.Prelude.{refl};
+
+    ghost back = { λ p ps h. refl };
+
+    ghost reads = { λ b s r u m. m };
+
+    ghost writes = { λ v b s r u m. m };
+}
+
+impl DekuReader<()> for Telemetry {
+    ghost use Rattle.deku.specs.Outcomes.{Mapped};
+
+    ghost accepts = { ⟦<Parts as DekuReader<()>>⟧.accepts };
+
+    ghost prompt = { ⟦<Parts as DekuReader<()>>⟧.prompt };
+
+    ghost meaning = { λ _. Mapped ⟦<Telemetry as Parted<()>>⟧.record_of (⟦<Parts as DekuReader<()>>⟧.meaning tt) };
+
+    fn from_reader_with_ctx<R: Source>(
+        reader: &mut Reader<R>,
+        _ctx: (),
+    ) -> Result<Self, DekuError> {
+        read_record(reader, ())
+    }
+}
+
+impl DekuWriter<()> for Telemetry {
+    ghost accepts = { ⟦<Parts as DekuWriter<()>>⟧.accepts };
+
+    ghost meaning = { λ v _. ⟦<Parts as DekuWriter<()>>⟧.meaning (⟦<Telemetry as Parted<()>>⟧.parts_of v) tt };
+
+    fn to_writer<W: Sink>(&self, writer: &mut Writer<W>, _ctx: ()) -> Result<(), DekuError> {
+        write_led(&self.header, &self.samples, writer)
+    }
+}
+
+impl DekuContainerRead for Telemetry {}
+
+impl DekuContainerWrite for Telemetry {}

@@ -1,0 +1,144 @@
+//! The primary header of a packet.
+
+use deku::device::{Sink, Source};
+use deku::prelude::{DekuError, DekuReader, DekuWriter, Reader, Writer};
+use deku_symmetry::{Counts, Leads, Msb, Parted, Record, ToParts, read_record, write_record};
+
+/// The primary header.
+#[derive(Debug, PartialEq, Eq, Drop)]
+pub struct Header {
+    /// The version of the packet, 3 bits.
+    pub version: u8,
+    /// Telemetry or a command, 1 bit.
+    pub kind: u8,
+    /// Whether a secondary header follows, 1 bit.
+    pub secondary: u8,
+    /// The application process identifier, 11 bits.
+    pub application: u16,
+    /// How the packet stands in a group, 2 bits.
+    pub grouping: u8,
+    /// The sequence count, 14 bits.
+    pub count: u16,
+    /// The bytes behind the header, less one.
+    pub length: u16,
+}
+
+// The fields as they lie.
+type Parts = (
+    (Msb<u8, 3>, Msb<u8, 1>, Msb<u8, 1>, Msb<u16, 11>),
+    (Msb<u8, 2>, Msb<u16, 14>),
+    Msb<u16, 16>,
+);
+
+impl Parted<()> for Header {
+    ghost use Rattle.std.specs.Prelude.{refl};
+
+    type Parts = Parts;
+
+    ghost parts_of = { λ r. (
+      (record { 0 = r.version }, record { 0 = r.kind }, record { 0 = r.secondary }, record { 0 = r.application }),
+      (record { 0 = r.grouping }, record { 0 = r.count }),
+      record { 0 = r.length },
+    ) };
+
+    ghost record_of = { λ p. record {
+      version = p.0.0.0;
+      kind = p.0.1.0;
+      secondary = p.0.2.0;
+      application = p.0.3.0;
+      grouping = p.1.0.0;
+      count = p.1.1.0;
+      length = p.2.0;
+    } };
+
+    fn from_parts(parts: Self::Parts) -> Self {
+        let (identification, (Msb(grouping), Msb(count)), Msb(length)) = parts;
+        let (Msb(version), Msb(kind), Msb(secondary), Msb(application)) = identification;
+        Header {
+            version,
+            kind,
+            secondary,
+            application,
+            grouping,
+            count,
+            length,
+        }
+    }
+
+    ghost there = { λ r. refl };
+}
+
+impl ToParts<()> for Header {
+    fn parts(&self) -> Self::Parts {
+        (
+            (
+                Msb(self.version),
+                Msb(self.kind),
+                Msb(self.secondary),
+                Msb(self.application),
+            ),
+            (Msb(self.grouping), Msb(self.count)),
+            Msb(self.length),
+        )
+    }
+}
+
+/// Four samples for each eleven bytes; other counts of bytes name none.
+impl Counts for Header {
+    ghost use Rattle.deku_formats.specs.Ccsds.{samples_behind};
+
+    ghost count_of = { λ h. samples_behind h.length };
+
+    #[tactic(auto, unfolding(crate::specs::Ccsds::samples_behind))]
+    fn count(&self) -> Option<usize> {
+        let bytes = self.length as usize + 1;
+        if bytes % 11 == 0 {
+            Some(bytes / 11 * 4)
+        } else {
+            None
+        }
+    }
+}
+
+impl Leads for Header {
+    ghost use Rattle.std.specs.Prelude.{refl};
+
+    ghost alike = { λ v w e. rw e.1.1 refl };
+}
+
+impl Record for Header {
+    ghost use Rattle.std.specs.Prelude.{refl};
+
+    ghost back = { λ p ps h. refl };
+
+    ghost reads = { λ b s r u m. m };
+
+    ghost writes = { λ v b s r u m. m };
+}
+
+impl DekuReader<()> for Header {
+    ghost use Rattle.deku.specs.Outcomes.{Mapped};
+
+    ghost accepts = { ⟦<Parts as DekuReader<()>>⟧.accepts };
+
+    ghost prompt = { ⟦<Parts as DekuReader<()>>⟧.prompt };
+
+    ghost meaning = { λ _. Mapped ⟦<Header as Parted<()>>⟧.record_of (⟦<Parts as DekuReader<()>>⟧.meaning tt) };
+
+    fn from_reader_with_ctx<R: Source>(
+        reader: &mut Reader<R>,
+        _ctx: (),
+    ) -> Result<Self, DekuError> {
+        read_record(reader, ())
+    }
+}
+
+impl DekuWriter<()> for Header {
+    ghost accepts = { ⟦<Parts as DekuWriter<()>>⟧.accepts };
+
+    ghost meaning = { λ v _. ⟦<Parts as DekuWriter<()>>⟧.meaning (⟦<Header as Parted<()>>⟧.parts_of v) tt };
+
+    fn to_writer<W: Sink>(&self, writer: &mut Writer<W>, _ctx: ()) -> Result<(), DekuError> {
+        write_record(self, writer, ())
+    }
+}

@@ -1,0 +1,77 @@
+//! A sample of telemetry.
+
+use deku::device::{Sink, Source};
+use deku::prelude::{DekuError, DekuReader, DekuWriter, Reader, Writer};
+use deku_symmetry::{Msb, Parted, Record, ToParts, read_record, write_record};
+
+/// A voltage and a current.
+#[derive(Debug, PartialEq, Eq, Drop)]
+pub struct Sample {
+    /// 10 bits.
+    pub voltage: u16,
+    /// 12 bits.
+    pub current: u16,
+}
+
+// The fields as they lie.
+type Parts = (Msb<u16, 10>, Msb<u16, 12>);
+
+impl Parted<()> for Sample {
+    ghost use Rattle.std.specs.Prelude.{refl};
+
+    type Parts = Parts;
+
+    ghost parts_of = { λ r. (record { 0 = r.voltage }, record { 0 = r.current }) };
+
+    ghost record_of = { λ p. record { voltage = p.0.0; current = p.1.0 } };
+
+    fn from_parts(parts: Self::Parts) -> Self {
+        let (Msb(voltage), Msb(current)) = parts;
+        Sample { voltage, current }
+    }
+
+    ghost there = { λ r. refl };
+}
+
+impl ToParts<()> for Sample {
+    fn parts(&self) -> Self::Parts {
+        (Msb(self.voltage), Msb(self.current))
+    }
+}
+
+impl Record for Sample {
+    ghost use Rattle.std.specs.Prelude.{refl};
+
+    ghost back = { λ p ps h. refl };
+
+    ghost reads = { λ b s r u m. m };
+
+    ghost writes = { λ v b s r u m. m };
+}
+
+impl DekuReader<()> for Sample {
+    ghost use Rattle.deku.specs.Outcomes.{Mapped};
+
+    ghost accepts = { ⟦<Parts as DekuReader<()>>⟧.accepts };
+
+    ghost prompt = { ⟦<Parts as DekuReader<()>>⟧.prompt };
+
+    ghost meaning = { λ _. Mapped ⟦<Sample as Parted<()>>⟧.record_of (⟦<Parts as DekuReader<()>>⟧.meaning tt) };
+
+    fn from_reader_with_ctx<R: Source>(
+        reader: &mut Reader<R>,
+        _ctx: (),
+    ) -> Result<Self, DekuError> {
+        read_record(reader, ())
+    }
+}
+
+impl DekuWriter<()> for Sample {
+    ghost accepts = { ⟦<Parts as DekuWriter<()>>⟧.accepts };
+
+    ghost meaning = { λ v _. ⟦<Parts as DekuWriter<()>>⟧.meaning (⟦<Sample as Parted<()>>⟧.parts_of v) tt };
+
+    fn to_writer<W: Sink>(&self, writer: &mut Writer<W>, _ctx: ()) -> Result<(), DekuError> {
+        write_record(self, writer, ())
+    }
+}

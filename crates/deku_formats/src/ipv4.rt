@@ -1,0 +1,164 @@
+//! The header of an IPv4 packet with its options, as RFC 791, section 3.1, has it; the byte behind the length is that of RFC 2474 and RFC 3168.
+//!
+//! ```text
+//!  0       4       8              14  16                           31
+//! +-------+-------+--------------+---+------------------------------+
+//! |   4   | words |   service    |con|            total             |
+//! +-------+-------+--------------+---+------+-----------------------+
+//! |          identification          |flags |        offset         |
+//! +---------------+------------------+------+-----------------------+
+//! |     life      |     protocol     |           checksum           |
+//! +---------------+------------------+------------------------------+
+//! |                              source                             |
+//! +-----------------------------------------------------------------+
+//! |                              target                             |
+//! +-----------------------------------------------------------------+
+//! |          options, four bytes for each word beyond the fifth     |
+//! +-----------------------------------------------------------------+
+//! ```
+
+pub mod front;
+
+use deku::device::{Sink, Source};
+use deku::prelude::{
+    DekuContainerRead, DekuContainerWrite, DekuError, DekuReader, DekuUpdate, DekuWriter, Reader,
+    Writer,
+};
+use deku_symmetry::{Constant, Constants, Led, Msb, Parted, Record, read_record, write_led};
+use front::Front;
+
+/// The header with its options.
+#[derive(Debug, PartialEq, Eq, Drop)]
+pub struct Ipv4 {
+    /// The first twenty bytes.
+    pub front: Front,
+    /// The options, of whole words.
+    pub options: Vec<u8>,
+}
+
+// The first twenty bytes, and as many options as they say.
+type Parts = Led<Front, u8>;
+
+impl Parted<()> for Ipv4 {
+    ghost use Rattle.std.specs.Prelude.{refl};
+
+    type Parts = Parts;
+
+    ghost parts_of = { λ r. record { head = r.front; items = r.options } };
+
+    ghost record_of = { λ p. record { front = p.head; options = p.items } };
+
+    fn from_parts(parts: Self::Parts) -> Self {
+        Ipv4 {
+            front: parts.head,
+            options: parts.items,
+        }
+    }
+
+    ghost there = { λ r. refl };
+}
+
+impl Record for Ipv4 {
+    ghost use Rattle.std.specs.Prelude.{refl};
+
+    ghost back = { λ p ps h. refl };
+
+    ghost reads = { λ b s r u m. m };
+
+    ghost writes = { λ v b s r u m. m };
+}
+
+impl DekuReader<()> for Ipv4 {
+    ghost use Rattle.deku.specs.Outcomes.{Mapped};
+
+    ghost accepts = { ⟦<Parts as DekuReader<()>>⟧.accepts };
+
+    ghost prompt = { ⟦<Parts as DekuReader<()>>⟧.prompt };
+
+    ghost meaning = { λ _. Mapped ⟦<Ipv4 as Parted<()>>⟧.record_of (⟦<Parts as DekuReader<()>>⟧.meaning tt) };
+
+    fn from_reader_with_ctx<R: Source>(
+        reader: &mut Reader<R>,
+        _ctx: (),
+    ) -> Result<Self, DekuError> {
+        read_record(reader, ())
+    }
+}
+
+impl DekuWriter<()> for Ipv4 {
+    ghost accepts = { ⟦<Parts as DekuWriter<()>>⟧.accepts };
+
+    ghost meaning = { λ v _. ⟦<Parts as DekuWriter<()>>⟧.meaning (⟦<Ipv4 as Parted<()>>⟧.parts_of v) tt };
+
+    fn to_writer<W: Sink>(&self, writer: &mut Writer<W>, _ctx: ()) -> Result<(), DekuError> {
+        write_led(&self.front, &self.options, writer)
+    }
+}
+
+impl DekuContainerRead for Ipv4 {}
+
+impl DekuContainerWrite for Ipv4 {}
+
+/// The length of the header becomes that of the options, and the total follows it: what is carried behind the header stays as long as it was.
+///
+/// It is refused, and nothing changes, with `Parse("options of no whole words")` where the options are not at most ten words of four bytes, with `Parse("total below header")` where
+/// the total was less than the header, and with `Parse("packet too long")` where 16 bits do not count it then.
+///
+/// ```text
+/// header.options.extend_from_slice(&[0x94, 0x04, 0x00, 0x00])?;
+/// header.update()?;                                           // `words` is one more, `total` four
+/// ```
+impl DekuUpdate for Ipv4 {
+    ghost use Rattle.deku_formats.specs.Ipv4.{Updates};
+
+    ghost updates = { Updates };
+
+    fn update(&mut self) -> Result<(), DekuError> {
+        let options = self.options.len();
+        if options > 40 || options % 4 != 0 {
+            return Err(DekuError::Parse("options of no whole words"));
+        }
+        let before = 4 * self.front.words as usize;
+        let total = self.front.total as usize;
+        if total < before {
+            return Err(DekuError::Parse("total below header"));
+        }
+        let after = total - before + 20 + options;
+        if after > 65535 {
+            return Err(DekuError::Parse("packet too long"));
+        }
+        self.front.words = (5 + options / 4) as u8;
+        self.front.total = after as u16;
+        Ok(())
+    }
+}
+
+/// The version of the protocol is 4.
+#[derive(Debug, PartialEq, Eq, Drop)]
+pub struct Version;
+
+impl Constant<Msb<u8, 4>> for Version {
+    ghost use Rattle.std.specs.Prelude.{codes};
+
+    ghost value = { record { 0 = 4 } };
+
+    ghost text = { codes "version" };
+
+    fn value() -> Msb<u8, 4> {
+        Msb(4)
+    }
+
+    fn is_value(part: &Msb<u8, 4>) -> bool {
+        part.0 == 4
+    }
+
+    fn text() -> &'static str {
+        "version"
+    }
+}
+
+impl Constants<Msb<u8, 4>> for Version {
+    ghost use Rattle.std.proofs.Common.{ap, sym};
+
+    ghost alike = { λ v e. ap (λ n. record { 0 = n }) (sym e) };
+}

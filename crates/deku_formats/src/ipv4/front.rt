@@ -1,0 +1,179 @@
+//! The header of an IPv4 packet without its options.
+
+use crate::ipv4::Version;
+use deku::device::{Sink, Source};
+use deku::prelude::{DekuError, DekuReader, DekuWriter, Reader, Writer};
+use deku_symmetry::{
+    Be, Counts, Fixed, Leads, Msb, Parted, Record, ToParts, read_record, write_record,
+};
+use std::net::Ipv4Addr;
+
+/// The first twenty bytes, without the version, which is 4.
+#[derive(Debug, PartialEq, Eq, Drop)]
+pub struct Front {
+    /// The length of the header in words of four bytes, 4 bits.
+    pub words: u8,
+    /// The class of service, 6 bits.
+    pub service: u8,
+    /// The notice of congestion, 2 bits.
+    pub congestion: u8,
+    /// The bytes of the header and of what it carries.
+    pub total: u16,
+    /// Which fragments belong together.
+    pub identification: u16,
+    /// 3 bits: 2 forbids fragments, 1 says that more follow.
+    pub flags: u8,
+    /// Where the fragment lies, in units of eight bytes, 13 bits.
+    pub offset: u16,
+    /// How many hops are left.
+    pub life: u8,
+    /// What is carried: 6 TCP, 17 UDP.
+    pub protocol: u8,
+    /// The check sum of the header.
+    pub checksum: u16,
+    /// Where it comes from.
+    pub source: Ipv4Addr,
+    /// Where it goes to.
+    pub target: Ipv4Addr,
+}
+
+// The fields as they lie.
+type Parts = (
+    (
+        Fixed<Msb<u8, 4>, Version>,
+        Msb<u8, 4>,
+        Msb<u8, 6>,
+        Msb<u8, 2>,
+        Be<u16>,
+    ),
+    (Be<u16>, Msb<u8, 3>, Msb<u16, 13>),
+    (u8, u8, Be<u16>),
+    (Be<Ipv4Addr>, Be<Ipv4Addr>),
+);
+
+impl Parted<()> for Front {
+    ghost use Rattle.std.specs.Prelude.{refl};
+
+    type Parts = Parts;
+
+    ghost parts_of = { λ r. (
+      (record { part = record {}; constant = record {} }, record { 0 = r.words }, record { 0 = r.service }, record { 0 = r.congestion }, record { 0 = r.total }),
+      (record { 0 = r.identification }, record { 0 = r.flags }, record { 0 = r.offset }),
+      (r.life, r.protocol, record { 0 = r.checksum }),
+      (record { 0 = r.source }, record { 0 = r.target }),
+    ) };
+
+    ghost record_of = { λ p. record {
+      words = p.0.1.0;
+      service = p.0.2.0;
+      congestion = p.0.3.0;
+      total = p.0.4.0;
+      identification = p.1.0.0;
+      flags = p.1.1.0;
+      offset = p.1.2.0;
+      life = p.2.0;
+      protocol = p.2.1;
+      checksum = p.2.2.0;
+      source = p.3.0.0;
+      target = p.3.1.0;
+    } };
+
+    fn from_parts(parts: Self::Parts) -> Self {
+        let (first, second, third, addresses) = parts;
+        let (_, Msb(words), Msb(service), Msb(congestion), Be(total)) = first;
+        let (Be(identification), Msb(flags), Msb(offset)) = second;
+        let (life, protocol, Be(checksum)) = third;
+        let (Be(source), Be(target)) = addresses;
+        Front {
+            words,
+            service,
+            congestion,
+            total,
+            identification,
+            flags,
+            offset,
+            life,
+            protocol,
+            checksum,
+            source,
+            target,
+        }
+    }
+
+    ghost there = { λ r. refl };
+}
+
+impl ToParts<()> for Front {
+    fn parts(&self) -> Self::Parts {
+        (
+            (
+                Fixed::new(),
+                Msb(self.words),
+                Msb(self.service),
+                Msb(self.congestion),
+                Be(self.total),
+            ),
+            (Be(self.identification), Msb(self.flags), Msb(self.offset)),
+            (self.life, self.protocol, Be(self.checksum)),
+            (Be(self.source), Be(self.target)),
+        )
+    }
+}
+
+/// Four bytes of options for each word beyond the fifth; a header of fewer than five words names no count.
+impl Counts for Front {
+    ghost use Rattle.std.specs.Prelude.{◌-◌, ◌*◌, nat_lt, cond, Some, None};
+
+    ghost count_of = { λ h. cond (nat_lt h.words 5) None (Some (4 * (h.words - 5))) };
+
+    fn count(&self) -> Option<usize> {
+        if self.words < 5 {
+            None
+        } else {
+            Some(4 * (self.words as usize - 5))
+        }
+    }
+}
+
+impl Leads for Front {
+    ghost use Rattle.std.specs.Prelude.{refl};
+
+    ghost alike = { λ v w e. rw e.0.1.0 refl };
+}
+
+impl Record for Front {
+    ghost use Rattle.std.specs.Prelude.{refl};
+
+    ghost back = { λ p ps h. refl };
+
+    ghost reads = { λ b s r u m. m };
+
+    ghost writes = { λ v b s r u m. m };
+}
+
+impl DekuReader<()> for Front {
+    ghost use Rattle.deku.specs.Outcomes.{Mapped};
+
+    ghost accepts = { ⟦<Parts as DekuReader<()>>⟧.accepts };
+
+    ghost prompt = { ⟦<Parts as DekuReader<()>>⟧.prompt };
+
+    ghost meaning = { λ _. Mapped ⟦<Front as Parted<()>>⟧.record_of (⟦<Parts as DekuReader<()>>⟧.meaning tt) };
+
+    fn from_reader_with_ctx<R: Source>(
+        reader: &mut Reader<R>,
+        _ctx: (),
+    ) -> Result<Self, DekuError> {
+        read_record(reader, ())
+    }
+}
+
+impl DekuWriter<()> for Front {
+    ghost accepts = { ⟦<Parts as DekuWriter<()>>⟧.accepts };
+
+    ghost meaning = { λ v _. ⟦<Parts as DekuWriter<()>>⟧.meaning (⟦<Front as Parted<()>>⟧.parts_of v) tt };
+
+    fn to_writer<W: Sink>(&self, writer: &mut Writer<W>, _ctx: ()) -> Result<(), DekuError> {
+        write_record(self, writer, ())
+    }
+}

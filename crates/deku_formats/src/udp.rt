@@ -1,0 +1,106 @@
+//! The header of a UDP datagram, as RFC 768 has it: four numbers of two bytes, the high byte first.
+//!
+//! ```text
+//!  0      7 8     15 16    23 24    31
+//! +--------+--------+--------+--------+
+//! |     source      |     target      |
+//! +--------+--------+--------+--------+
+//! |     length      |    checksum     |
+//! +--------+--------+--------+--------+
+//! ```
+
+use deku::device::{Sink, Source};
+use deku::prelude::{
+    DekuContainerRead, DekuContainerWrite, DekuError, DekuReader, DekuWriter, Reader, Writer,
+};
+use deku_symmetry::{Be, Parted, Record, ToParts, read_record, write_record};
+
+/// The header of a datagram.
+#[derive(Debug, PartialEq, Eq, Drop)]
+pub struct Udp {
+    /// The port that it comes from, or 0.
+    pub source: u16,
+    /// The port that it goes to.
+    pub target: u16,
+    /// The bytes of the header and of what it carries.
+    pub length: u16,
+    /// The check sum, or 0 where there is none.
+    pub checksum: u16,
+}
+
+// The fields as they lie.
+type Parts = (Be<u16>, Be<u16>, Be<u16>, Be<u16>);
+
+impl Parted<()> for Udp {
+    ghost use Rattle.std.specs.Prelude.{refl};
+
+    type Parts = Parts;
+
+    ghost parts_of = { λ r. (record { 0 = r.source }, record { 0 = r.target }, record { 0 = r.length }, record { 0 = r.checksum }) };
+
+    ghost record_of = { λ p. record { source = p.0.0; target = p.1.0; length = p.2.0; checksum = p.3.0 } };
+
+    fn from_parts(parts: Self::Parts) -> Self {
+        let (Be(source), Be(target), Be(length), Be(checksum)) = parts;
+        Udp {
+            source,
+            target,
+            length,
+            checksum,
+        }
+    }
+
+    ghost there = { λ r. refl };
+}
+
+impl ToParts<()> for Udp {
+    fn parts(&self) -> Self::Parts {
+        (
+            Be(self.source),
+            Be(self.target),
+            Be(self.length),
+            Be(self.checksum),
+        )
+    }
+}
+
+impl Record for Udp {
+    ghost use Rattle.std.specs.Prelude.{refl};
+
+    ghost back = { λ p ps h. refl };
+
+    ghost reads = { λ b s r u m. m };
+
+    ghost writes = { λ v b s r u m. m };
+}
+
+impl DekuReader<()> for Udp {
+    ghost use Rattle.deku.specs.Outcomes.{Mapped};
+
+    ghost accepts = { ⟦<Parts as DekuReader<()>>⟧.accepts };
+
+    ghost prompt = { ⟦<Parts as DekuReader<()>>⟧.prompt };
+
+    ghost meaning = { λ _. Mapped ⟦<Udp as Parted<()>>⟧.record_of (⟦<Parts as DekuReader<()>>⟧.meaning tt) };
+
+    fn from_reader_with_ctx<R: Source>(
+        reader: &mut Reader<R>,
+        _ctx: (),
+    ) -> Result<Self, DekuError> {
+        read_record(reader, ())
+    }
+}
+
+impl DekuWriter<()> for Udp {
+    ghost accepts = { ⟦<Parts as DekuWriter<()>>⟧.accepts };
+
+    ghost meaning = { λ v _. ⟦<Parts as DekuWriter<()>>⟧.meaning (⟦<Udp as Parted<()>>⟧.parts_of v) tt };
+
+    fn to_writer<W: Sink>(&self, writer: &mut Writer<W>, _ctx: ()) -> Result<(), DekuError> {
+        write_record(self, writer, ())
+    }
+}
+
+impl DekuContainerRead for Udp {}
+
+impl DekuContainerWrite for Udp {}

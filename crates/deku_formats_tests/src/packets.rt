@@ -1,0 +1,159 @@
+//! Headers of packets as Linux sent them over its loopback device, read from a raw socket: what was asked for is known, and the kernel made the rest.
+
+use crate::expecting::{expect_record, expect_refusal};
+use deku::prelude::{DekuError, DekuUpdate, NeedSize};
+use deku_formats::checksum::{is_intact, ones_sum};
+use deku_formats::ipv4::Ipv4;
+use deku_formats::ipv4::front::Front;
+use deku_formats::udp::Udp;
+use std::net::Ipv4Addr;
+use std::test::Fail;
+
+// A datagram of the two bytes "hi", from port 40123 to port 53535 of 127.0.0.1.
+#[test]
+fn a_datagram(rt: HostRuntime) -> Result<(), Fail> {
+    let header = Udp {
+        source: 40123,
+        target: 53535,
+        length: 10,
+        checksum: 0xFE1D,
+    };
+    let bytes = [0x9C, 0xBB, 0xD1, 0x1F, 0x00, 0x0A, 0xFE, 0x1D];
+    expect_record(&rt, rt.alloc(), &header, &bytes)
+}
+
+// The header in front of it.
+const HEADER: [u8; 20] = [
+    0x45, 0x00, 0x00, 0x1E, 0x4F, 0x0B, 0x40, 0x00, 0x40, 0x11, 0xED, 0xC1, 0x7F, 0x00, 0x00, 0x01,
+    0x7F, 0x00, 0x00, 0x01,
+];
+
+// What it says.
+fn front() -> Front {
+    Front {
+        words: 5,
+        service: 0,
+        congestion: 0,
+        total: 30,
+        identification: 0x4F0B,
+        flags: 2,
+        offset: 0,
+        life: 64,
+        protocol: 17,
+        checksum: 0xEDC1,
+        source: Ipv4Addr::new(127, 0, 0, 1),
+        target: Ipv4Addr::new(127, 0, 0, 1),
+    }
+}
+
+#[test]
+fn a_header(rt: HostRuntime) -> Result<(), Fail> {
+    let options = Vec::new(rt.alloc());
+    let header = Ipv4 {
+        front: front(),
+        options,
+    };
+    expect_record(&rt, rt.alloc(), &header, &HEADER)
+}
+
+// A report of membership, with the option that routers look at it.
+const REPORT: [u8; 24] = [
+    0x46, 0xC0, 0x00, 0x28, 0x00, 0x00, 0x40, 0x00, 0x01, 0x02, 0x03, 0xFA, 0x00, 0x00, 0x00, 0x00,
+    0xE0, 0x00, 0x00, 0x16, 0x94, 0x04, 0x00, 0x00,
+];
+
+#[test]
+fn a_packet_with_an_option(rt: HostRuntime) -> Result<(), Fail> {
+    let front = Front {
+        words: 6,
+        service: 48,
+        congestion: 0,
+        total: 40,
+        identification: 0,
+        flags: 2,
+        offset: 0,
+        life: 1,
+        protocol: 2,
+        checksum: 0x03FA,
+        source: Ipv4Addr::new(0, 0, 0, 0),
+        target: Ipv4Addr::new(224, 0, 0, 22),
+    };
+    let options = [0x94u8, 0x04, 0x00, 0x00].to_vec(rt.alloc())?;
+    expect_record(&rt, rt.alloc(), &Ipv4 { front, options }, &REPORT)
+}
+
+// What an update answers and leaves in the two lengths of the header, where its total is this one before and there are so many bytes of options: ten bytes are carried.
+type Row = (u16, usize, Result<(), DekuError>, (u8, u16));
+
+const ROWS: [Row; 7] = [
+    (30, 0, Ok(()), (5, 30)),
+    (30, 4, Ok(()), (6, 34)),
+    (
+        65535,
+        40,
+        Err(DekuError::Parse("packet too long")),
+        (5, 65535),
+    ),
+    (65495, 40, Ok(()), (15, 65535)),
+    (
+        30,
+        3,
+        Err(DekuError::Parse("options of no whole words")),
+        (5, 30),
+    ),
+    (
+        60,
+        44,
+        Err(DekuError::Parse("options of no whole words")),
+        (5, 60),
+    ),
+    (19, 0, Err(DekuError::Parse("total below header")), (5, 19)),
+];
+
+#[test]
+fn updates(rt: HostRuntime) -> Result<(), Fail> {
+    for (total, options, want, lengths) in ROWS {
+        let mut header = Ipv4 {
+            front: front(),
+            options: vec![in rt.alloc(); 0u8; options]?,
+        };
+        header.front.total = total;
+        let answer = header.update();
+        assert!(rt; answer == want, "{total}, {options}: {answer:?}");
+        assert_eq!(rt; (header.front.words, header.front.total), lengths);
+    }
+    Ok(())
+}
+
+// Bytes, and what is left of their sum: the example of RFC 1071, section 3, with and without its last byte, a carry that carries, none, and headers as they were sent.
+#[test]
+fn check_sums(rt: HostRuntime) {
+    let rows: [(&[u8], u16); 7] = [
+        (&[0x00, 0x01, 0xF2, 0x03, 0xF4, 0xF5, 0xF6, 0xF7], 0xDDF2),
+        (&[0x00, 0x01, 0xF2, 0x03, 0xF4, 0xF5, 0xF6], 0xDCFB),
+        (&[0xFF, 0xFF, 0x00, 0x01], 0x0001),
+        (&[], 0x0000),
+        (&[0x00, 0x00], 0x0000),
+        (&HEADER, 0xFFFF),
+        (&REPORT, 0xFFFF),
+    ];
+    for (bytes, want) in rows {
+        let sum = ones_sum(bytes);
+        assert!(rt; sum == want, "{bytes:?}: {sum}");
+        assert!(rt; is_intact(bytes) == (want == 0xFFFF), "{bytes:?}");
+    }
+}
+
+#[test]
+fn refusals(rt: HostRuntime) {
+    let short = DekuError::Incomplete(NeedSize::new(16));
+    expect_refusal::<Udp>(&rt, rt.alloc(), &[0x9C, 0xBB, 0xD1], short, 16);
+    let version = DekuError::Assertion("version");
+    expect_refusal::<Ipv4>(&rt, rt.alloc(), &[0x65, 0x00], version, 4);
+    let bytes = [
+        0x44, 0x00, 0x00, 0x1E, 0x4F, 0x0B, 0x40, 0x00, 0x40, 0x11, 0xED, 0xC1, 0x7F, 0x00, 0x00,
+        0x01, 0x7F, 0x00, 0x00, 0x01,
+    ];
+    let words = DekuError::Parse("head without a count");
+    expect_refusal::<Ipv4>(&rt, rt.alloc(), &bytes, words, 160);
+}
