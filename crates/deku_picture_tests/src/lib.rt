@@ -15,3 +15,5 @@ mod svg;
 mod tables;
 #[cfg(test)]
 mod words;
+#[cfg(test)]
+mod worked;
