@@ -9,7 +9,7 @@ pub mod Unpacking
 pub mod Counted
 pub mod Tuples
 pub mod StandIns
-pub mod Ended
+pub mod Texts
 pub mod Chosen
 pub mod Choices
 pub mod WholeBytes
@@ -17,3 +17,4 @@ pub mod HighFirst
 pub mod Heads
 pub mod Passing
 pub mod Scattering
+pub mod Ending

@@ -3,6 +3,7 @@
 
 pub mod asserted;
 pub mod choice;
+pub mod ended;
 pub mod fixed;
 pub mod led;
 pub mod scattered;

@@ -1,9 +1,12 @@
 //! Parts that other parts depend on.
 
-ghost use Rattle.std.specs.Prelude.{◌≡◌};
+ghost use Rattle.std.specs.Prelude.{◌≡◌, ◌<◌, ℕ, List};
+ghost use Rattle.deku_bits.specs.Pieces.{Piece};
+ghost use Rattle.deku_pieces.specs.Symmetric.{breadth};
 
 use crate::traits::Symmetric;
 use deku_pieces::asserted::{Asserted, Check};
+use deku_pieces::ended::{Ended, Ends};
 use deku_pieces::fixed::{Constant, Fixed};
 use deku_pieces::led::{Counts, Led};
 
@@ -29,6 +32,28 @@ impl<H: Leads, T: Symmetric<()>> Symmetric<()> for Led<H, T> {
     ghost same = { SameLed H.Symmetric.same T.same };
 
     ghost symmetric = { λ _. led_symmetric H.Counts.count_of H.Leads.alike (H.Symmetric.symmetric tt) (T.symmetric tt) };
+}
+
+/// An item that may end its list: the same items end it alike, and each has a bit at least.
+pub trait EndsAlike: Ends + Symmetric<()> {
+    // The same items end their lists alike.
+    ghost alike: { (v w : Self) → Self.Symmetric.same v w → Self.Ends.ends_of v ≡ Self.Ends.ends_of w };
+
+    // What has pieces has a bit.
+    ghost wide: { (v : Self) (ps : List Piece) → Self.Symmetric.pieces v tt ps → 0 < breadth ps };
+}
+
+/// The pieces of the items, where the first that ends them is the last one.
+impl<T: EndsAlike> Symmetric<()> for Ended<T> {
+    ghost use Rattle.deku_pieces.specs.Pieces.{SameEach};
+    ghost use Rattle.deku_pieces.specs.Ending.{OfEnded};
+    ghost use Rattle.deku_pieces.proofs.Ending.{ended_symmetric};
+
+    ghost pieces = { λ v _. OfEnded T.Ends.ends_of (λ x. T.Symmetric.pieces x tt) v.items.items };
+
+    ghost same = { λ v w. SameEach T.Symmetric.same v.items.items w.items.items };
+
+    ghost symmetric = { λ _. ended_symmetric T.Ends.ends_of T.EndsAlike.alike T.EndsAlike.wide (T.Symmetric.symmetric tt) };
 }
 
 /// A check that the same parts pass alike.
