@@ -1,5 +1,5 @@
 -- Lists of symmetric items that end with an item are symmetric.
-use Rattle.std.proofs.Common.{◌≡◌, ℕ, ◌+◌, ◌<◌, ◌^◌, Bool, true, false, List, [], ◌∷◌, ◌++◌, Option, Some, Ok, Err, refl, ap, sym, ◌∙◌, subst, inl, inr, arith}
+use Rattle.std.proofs.Common.{◌≡◌, ℕ, ◌+◌, ◌<◌, ◌^◌, Bool, true, false, List, [], ◌∷◌, ◌++◌, length, Option, Some, ℤ, Ok, Err, refl, ap, sym, ◌∙◌, subst, inl, inr, arith}
 use Rattle.std.specs.Global.{Vec}
 use Rattle.std.specs.List.{FoldsTo}
 use Rattle.std.specs.declared.io.ErrorKind.TheVariants.{OutOfMemory}
@@ -14,7 +14,10 @@ use Rattle.deku_bits.specs.Outcomes.{Meaning, Mapped}
 use Rattle.deku_num.specs.NumberCalls.{Refused, Passed}
 use Rattle.deku.specs.Limits.{Taken, Takes, TakesEach, GoesOn, Widens, items_of, EndsWith, Closes, ItemRefused, WithoutWidth, NoPlace, Held}
 use Rattle.deku_pieces.specs.Symmetric.{breadth, IsWrittenAs, IsReadBack, Answers, TakenAs, IsSymmetric}
-use Rattle.deku_pieces.specs.Pieces.{OfEach, SameEach}
+use Rattle.deku_num.specs.declared.kind.NumberType.{NumberType}
+use Rattle.deku_num.specs.declared.ctx.Layout.{Layout}
+use Rattle.deku_num.specs.Numbers.{width}
+use Rattle.deku_pieces.specs.Pieces.{OfNumber, InTurn, OfEach, SameEach}
 use Rattle.deku_pieces.proofs.Answering.{ok_is}
 use Rattle.deku_pieces.proofs.Turns.{breadth-append, takes_apart, takes_together}
 use Rattle.deku_pieces.proofs.Times.{each_one, each_written}
@@ -217,3 +220,18 @@ module _ {V : Type 0} (ends : V → Bool) {P : V → List Piece → Type 0} {sam
   pub ended_symmetric : IsSymmetric (λ (w : Ended V) ps. OfEnded ends P w.items.items ps) (λ w x. SameEach same w.items.items x.items.items) (λ w. WritesEnded ends writes w.items.items)
       (Mapped (λ v. record { items = v }) (Held (λ xs v. v.items ≡ xs) (ReadsEnded ends m)))
   ended_symmetric = mapped_symmetric (λ (v : Vec V). record { items = v }) (λ (w : Ended V). w.items) _ _ _ _ (λ v. refl) (holder_symmetric (λ (v : Vec V). v.items) _ _ _ _ items_symmetric)
+
+-- ---- that what has pieces has a bit
+-- a number of some bits
+pub number_wide : (t : NumberType) (l : Layout) (v : ℤ) → 0 < width t l → (ps : List Piece) → OfNumber t l v ps → 0 < breadth ps
+number_wide t l v some ps (ok, (bits, f, e)) =
+    let long : length bits ≡ width t l = f.wide in
+    let is : breadth ps ≡ length bits + 0 = ap breadth e in
+    omega (arith, some, long, is)
+
+-- what begins with something that has a bit
+pub first_wide : {P Q : List Piece → Type 0} → ((ps : List Piece) → P ps → 0 < breadth ps) → (ps : List Piece) → InTurn P Q ps → 0 < breadth ps
+first_wide some ps (a, b, p, q, e) =
+    let first = some a p in
+    let is : breadth ps ≡ breadth a + breadth b = ap breadth e ∙ breadth-append a b in
+    omega (arith, first, is)

@@ -1,0 +1,178 @@
+//! The header of a message: RFC 1035, section 4.1.1.
+//!
+//! ```text
+//!  0  1           4  5  6  7  8  9          11 12          15
+//! +--+-----------+--+--+--+--+-----------+-------------+
+//! |                    identification                   |
+//! |QR|  opcode   |AA|TC|RD|RA|  reserved |     code     |
+//! |                      questions                      |
+//! |                       answers                       |
+//! |                     authorities                     |
+//! |                     additionals                     |
+//! +-----------------------------------------------------+
+//! ```
+
+use deku::device::{Sink, Source};
+use deku::prelude::{
+    DekuContainerRead, DekuContainerWrite, DekuError, DekuReader, DekuWriter, Reader, Writer,
+};
+use deku_symmetry::{Be, Msb, Parted, Record, ToParts, read_record, write_record};
+
+/// The header of a message.
+#[derive(Debug, PartialEq, Eq, Drop)]
+pub struct Header {
+    /// What the answer to a question repeats.
+    pub identification: u16,
+    /// 0: a question, 1: an answer, 1 bit.
+    pub response: u8,
+    /// What kind of question, 4 bits; 0 is the usual one.
+    pub opcode: u8,
+    /// Whether the answer has authority, 1 bit.
+    pub authoritative: u8,
+    /// Whether the message was cut off, 1 bit.
+    pub truncated: u8,
+    /// Whether recursion is wanted, 1 bit.
+    pub desired: u8,
+    /// Whether recursion is to be had, 1 bit.
+    pub available: u8,
+    /// 3 bits for later uses.
+    pub reserved: u8,
+    /// How the question was answered, 4 bits; 0 is without error.
+    pub code: u8,
+    /// How many questions follow.
+    pub questions: u16,
+    /// How many answers follow.
+    pub answers: u16,
+    /// How many records of authorities follow.
+    pub authorities: u16,
+    /// How many additional records follow.
+    pub additionals: u16,
+}
+
+/// The fields as they lie.
+pub type Parts = (
+    Be<u16>,
+    (Msb<u8, 1>, Msb<u8, 4>, Msb<u8, 1>, Msb<u8, 1>),
+    (Msb<u8, 1>, Msb<u8, 1>, Msb<u8, 3>, Msb<u8, 4>),
+    (Be<u16>, Be<u16>, Be<u16>, Be<u16>),
+);
+
+impl Parted<()> for Header {
+    ghost use Rattle.std.specs.Prelude.{refl};
+
+    type Parts = Parts;
+
+    ghost parts_of = { λ r. (
+      record { 0 = r.identification },
+      (record { 0 = r.response }, record { 0 = r.opcode }, record { 0 = r.authoritative }, record { 0 = r.truncated }),
+      (record { 0 = r.desired }, record { 0 = r.available }, record { 0 = r.reserved }, record { 0 = r.code }),
+      (record { 0 = r.questions }, record { 0 = r.answers }, record { 0 = r.authorities }, record { 0 = r.additionals }),
+    ) };
+
+    ghost record_of = { λ p. record {
+      identification = p.0.0;
+      response = p.1.0.0;
+      opcode = p.1.1.0;
+      authoritative = p.1.2.0;
+      truncated = p.1.3.0;
+      desired = p.2.0.0;
+      available = p.2.1.0;
+      reserved = p.2.2.0;
+      code = p.2.3.0;
+      questions = p.3.0.0;
+      answers = p.3.1.0;
+      authorities = p.3.2.0;
+      additionals = p.3.3.0;
+    } };
+
+    fn from_parts(parts: Self::Parts) -> Self {
+        let (Be(identification), first, second, counts) = parts;
+        let (Msb(response), Msb(opcode), Msb(authoritative), Msb(truncated)) = first;
+        let (Msb(desired), Msb(available), Msb(reserved), Msb(code)) = second;
+        let (Be(questions), Be(answers), Be(authorities), Be(additionals)) = counts;
+        Header {
+            identification,
+            response,
+            opcode,
+            authoritative,
+            truncated,
+            desired,
+            available,
+            reserved,
+            code,
+            questions,
+            answers,
+            authorities,
+            additionals,
+        }
+    }
+
+    ghost there = { λ r. refl };
+}
+
+impl ToParts<()> for Header {
+    fn parts(&self) -> Self::Parts {
+        (
+            Be(self.identification),
+            (
+                Msb(self.response),
+                Msb(self.opcode),
+                Msb(self.authoritative),
+                Msb(self.truncated),
+            ),
+            (
+                Msb(self.desired),
+                Msb(self.available),
+                Msb(self.reserved),
+                Msb(self.code),
+            ),
+            (
+                Be(self.questions),
+                Be(self.answers),
+                Be(self.authorities),
+                Be(self.additionals),
+            ),
+        )
+    }
+}
+
+impl Record for Header {
+    ghost use Rattle.std.specs.Prelude.{refl};
+
+    ghost back = { λ p ps h. refl };
+
+    ghost reads = { λ b s r u m. m };
+
+    ghost writes = { λ v b s r u m. m };
+}
+
+impl DekuReader<()> for Header {
+    ghost use Rattle.deku.specs.Outcomes.{Mapped};
+
+    ghost accepts = { ⟦<Parts as DekuReader<()>>⟧.accepts };
+
+    ghost prompt = { ⟦<Parts as DekuReader<()>>⟧.prompt };
+
+    ghost meaning = { λ _. Mapped ⟦<Header as Parted<()>>⟧.record_of (⟦<Parts as DekuReader<()>>⟧.meaning tt) };
+
+    fn from_reader_with_ctx<R: Source>(
+        reader: &mut Reader<R>,
+        _ctx: (),
+    ) -> Result<Self, DekuError> {
+        read_record(reader, ())
+    }
+}
+
+impl DekuWriter<()> for Header {
+    ghost accepts = { ⟦<Parts as DekuWriter<()>>⟧.accepts };
+
+    ghost meaning = { λ v _. ⟦<Parts as DekuWriter<()>>⟧.meaning (⟦<Header as Parted<()>>⟧.parts_of v) tt };
+
+    fn to_writer<W: Sink>(&self, writer: &mut Writer<W>, _ctx: ()) -> Result<(), DekuError> {
+        write_record(self, writer, ())
+    }
+}
+
+impl DekuContainerRead for Header {}
+
+impl DekuContainerWrite for Header {}

@@ -1,0 +1,194 @@
+//! The labels of a name: RFC 1035, section 3.1.
+//!
+//! ```text
+//! length  8 bits  0 to 63; 0 is the empty label, which ends the name
+//! bytes   as many bytes
+//! ```
+
+use deku::device::{Sink, Source};
+use deku::prelude::{
+    DekuContainerRead, DekuContainerWrite, DekuError, DekuReader, DekuWriter, Reader, Writer,
+};
+use deku_symmetry::{
+    Counts, Ends, EndsAlike, Leads, Led, Parted, Record, ToParts, read_record, write_led,
+    write_record,
+};
+
+/// The length of a label: a byte. More than 63 is no length: so a pointer to another name is refused.
+#[derive(Debug, PartialEq, Eq, Drop)]
+pub struct Length(pub u8);
+
+impl Parted<()> for Length {
+    ghost use Rattle.std.specs.Prelude.{refl};
+
+    type Parts = u8;
+
+    ghost parts_of = { λ r. r.0 };
+
+    ghost record_of = { λ p. record { 0 = p } };
+
+    fn from_parts(parts: Self::Parts) -> Self {
+        Length(parts)
+    }
+
+    ghost there = { λ r. refl };
+}
+
+impl ToParts<()> for Length {
+    fn parts(&self) -> Self::Parts {
+        self.0
+    }
+}
+
+/// As many bytes as it says, where they are at most 63.
+impl Counts for Length {
+    ghost use Rattle.std.specs.Prelude.{nat_lt, cond, Some, None};
+
+    ghost count_of = { λ l. cond (nat_lt l.0 64) (Some l.0) None };
+
+    fn count(&self) -> Option<usize> {
+        if self.0 < 64 {
+            Some(self.0 as usize)
+        } else {
+            None
+        }
+    }
+}
+
+impl Leads for Length {
+    ghost use Rattle.std.specs.Prelude.{refl};
+
+    ghost alike = { λ v w e. rw e refl };
+}
+
+impl Record for Length {
+    ghost use Rattle.std.specs.Prelude.{refl};
+
+    ghost back = { λ p ps h. refl };
+
+    ghost reads = { λ b s r u m. m };
+
+    ghost writes = { λ v b s r u m. m };
+}
+
+impl DekuReader<()> for Length {
+    ghost use Rattle.deku.specs.Outcomes.{Mapped};
+
+    ghost accepts = { ⟦<u8 as DekuReader<()>>⟧.accepts };
+
+    ghost prompt = { ⟦<u8 as DekuReader<()>>⟧.prompt };
+
+    ghost meaning = { λ _. Mapped ⟦<Length as Parted<()>>⟧.record_of (⟦<u8 as DekuReader<()>>⟧.meaning tt) };
+
+    fn from_reader_with_ctx<R: Source>(
+        reader: &mut Reader<R>,
+        _ctx: (),
+    ) -> Result<Self, DekuError> {
+        read_record(reader, ())
+    }
+}
+
+impl DekuWriter<()> for Length {
+    ghost accepts = { ⟦<u8 as DekuWriter<()>>⟧.accepts };
+
+    ghost meaning = { λ v _. ⟦<u8 as DekuWriter<()>>⟧.meaning (⟦<Length as Parted<()>>⟧.parts_of v) tt };
+
+    fn to_writer<W: Sink>(&self, writer: &mut Writer<W>, _ctx: ()) -> Result<(), DekuError> {
+        write_record(self, writer, ())
+    }
+}
+
+/// A label: at most 63 bytes, and how many they are.
+#[derive(Debug, PartialEq, Eq, Drop)]
+pub struct Label {
+    /// How many bytes there are, 0 to 63.
+    pub length: u8,
+    /// The bytes.
+    pub bytes: Vec<u8>,
+}
+
+// The length, and as many bytes as it says.
+type Parts = Led<Length, u8>;
+
+impl Parted<()> for Label {
+    ghost use Rattle.std.specs.Prelude.{refl};
+
+    type Parts = Parts;
+
+    ghost parts_of = { λ r. record { head = record { 0 = r.length }; items = r.bytes } };
+
+    ghost record_of = { λ p. record { length = p.head.0; bytes = p.items } };
+
+    fn from_parts(parts: Self::Parts) -> Self {
+        Label {
+            length: parts.head.0,
+            bytes: parts.items,
+        }
+    }
+
+    ghost there = { λ r. refl };
+}
+
+impl Record for Label {
+    ghost use Rattle.std.specs.Prelude.{refl};
+
+    ghost back = { λ p ps h. refl };
+
+    ghost reads = { λ b s r u m. m };
+
+    ghost writes = { λ v b s r u m. m };
+}
+
+impl DekuReader<()> for Label {
+    ghost use Rattle.deku.specs.Outcomes.{Mapped};
+
+    ghost accepts = { ⟦<Parts as DekuReader<()>>⟧.accepts };
+
+    ghost prompt = { ⟦<Parts as DekuReader<()>>⟧.prompt };
+
+    ghost meaning = { λ _. Mapped ⟦<Label as Parted<()>>⟧.record_of (⟦<Parts as DekuReader<()>>⟧.meaning tt) };
+
+    fn from_reader_with_ctx<R: Source>(
+        reader: &mut Reader<R>,
+        _ctx: (),
+    ) -> Result<Self, DekuError> {
+        read_record(reader, ())
+    }
+}
+
+impl DekuWriter<()> for Label {
+    ghost accepts = { ⟦<Parts as DekuWriter<()>>⟧.accepts };
+
+    ghost meaning = { λ v _. ⟦<Parts as DekuWriter<()>>⟧.meaning (⟦<Label as Parted<()>>⟧.parts_of v) tt };
+
+    fn to_writer<W: Sink>(&self, writer: &mut Writer<W>, _ctx: ()) -> Result<(), DekuError> {
+        write_led(&Length(self.length), &self.bytes, writer)
+    }
+}
+
+/// The empty label ends a name.
+impl Ends for Label {
+    ghost use Rattle.std.specs.Prelude.{nat_eq};
+
+    ghost ends_of = { λ l. nat_eq l.length 0 };
+
+    fn ends(&self) -> bool {
+        self.length == 0
+    }
+}
+
+impl EndsAlike for Label {
+    ghost use Rattle.std.specs.Prelude.{refl, pos};
+    ghost use Rattle.std.proofs.Common.{arith};
+    ghost use Rattle.deku_num.specs.Numbers.{byte};
+    ghost use Rattle.deku_pieces.specs.Pieces.{plain};
+    ghost use Rattle.deku_pieces.proofs.Ending.{first_wide, number_wide};
+
+    ghost alike = { λ v w e. rw e.0 refl };
+
+    ghost wide = { λ v ps p. first_wide (λ qs q. number_wide byte plain (pos v.length) (omega (arith)) qs q) ps p };
+}
+
+impl DekuContainerRead for Label {}
+
+impl DekuContainerWrite for Label {}

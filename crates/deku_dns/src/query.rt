@@ -1,0 +1,82 @@
+//! A message that asks one question.
+
+use crate::header::{self, Header};
+use crate::question::{self, Question};
+use deku::device::{Sink, Source};
+use deku::prelude::{
+    DekuContainerRead, DekuContainerWrite, DekuError, DekuReader, DekuWriter, Reader, Writer,
+};
+use deku_symmetry::{Parted, Record, read_record};
+
+/// A header, and a question behind it.
+#[derive(Debug, PartialEq, Eq, Drop)]
+pub struct Query {
+    /// The header.
+    pub header: Header,
+    /// The question.
+    pub question: Question,
+}
+
+// The fields as they lie.
+type Parts = (header::Parts, question::Parts);
+
+impl Parted<()> for Query {
+    ghost use Rattle.std.specs.Prelude.{refl};
+
+    type Parts = Parts;
+
+    ghost parts_of = { λ r. (⟦<Header as Parted<()>>⟧.parts_of r.header, ⟦<Question as Parted<()>>⟧.parts_of r.question) };
+
+    ghost record_of = { λ p. record { header = ⟦<Header as Parted<()>>⟧.record_of p.0; question = ⟦<Question as Parted<()>>⟧.record_of p.1 } };
+
+    fn from_parts(parts: Self::Parts) -> Self {
+        let (header, question) = parts;
+        Query {
+            header: Header::from_parts(header),
+            question: Question::from_parts(question),
+        }
+    }
+
+    ghost there = { λ r. refl };
+}
+
+impl Record for Query {
+    ghost use Rattle.std.specs.Prelude.{refl};
+
+    ghost back = { λ p ps h. refl };
+
+    ghost reads = { λ b s r u m. m };
+
+    ghost writes = { λ v b s r u m. m };
+}
+
+impl DekuReader<()> for Query {
+    ghost use Rattle.deku.specs.Outcomes.{Mapped};
+
+    ghost accepts = { ⟦<Parts as DekuReader<()>>⟧.accepts };
+
+    ghost prompt = { ⟦<Parts as DekuReader<()>>⟧.prompt };
+
+    ghost meaning = { λ _. Mapped ⟦<Query as Parted<()>>⟧.record_of (⟦<Parts as DekuReader<()>>⟧.meaning tt) };
+
+    fn from_reader_with_ctx<R: Source>(
+        reader: &mut Reader<R>,
+        _ctx: (),
+    ) -> Result<Self, DekuError> {
+        read_record(reader, ())
+    }
+}
+
+impl DekuWriter<()> for Query {
+    ghost accepts = { ⟦<Parts as DekuWriter<()>>⟧.accepts };
+
+    ghost meaning = { λ v _. ⟦<Parts as DekuWriter<()>>⟧.meaning (⟦<Query as Parted<()>>⟧.parts_of v) tt };
+
+    fn to_writer<W: Sink>(&self, writer: &mut Writer<W>, _ctx: ()) -> Result<(), DekuError> {
+        (&self.header, &self.question).to_writer(writer, ())
+    }
+}
+
+impl DekuContainerRead for Query {}
+
+impl DekuContainerWrite for Query {}
