@@ -6,6 +6,8 @@ mod expecting;
 #[cfg(test)]
 mod files;
 #[cfg(test)]
+mod names;
+#[cfg(test)]
 mod packets;
 #[cfg(test)]
 mod signals;
