@@ -41,7 +41,7 @@ fn name(alloc: Global, labels: &[&[u8]]) -> Result<Ended<Label>, Fail> {
     let mut items = Vec::new(alloc);
     for bytes in labels {
         let label = Label {
-            length: bytes.len() as u8,
+            length: bytes.len().min(63) as u8,
             bytes: bytes.to_vec(alloc)?,
         };
         items.push(label)?;
