@@ -1,10 +1,12 @@
-//! Tests of `deku_formats`, through its public calls: bytes that other tools made, both ways, and what is refused.
+//! Tests of `deku_formats` and `deku_instructions`, through their public calls: bytes that other tools made, both ways, and what is refused.
 #![tactic(auto)]
 
 #[cfg(test)]
 mod expecting;
 #[cfg(test)]
 mod files;
+#[cfg(test)]
+mod instructions;
 #[cfg(test)]
 mod names;
 #[cfg(test)]

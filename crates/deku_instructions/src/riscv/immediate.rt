@@ -1,0 +1,101 @@
+//! Words of a source register and a number.
+
+use deku::device::{Sink, Source};
+use deku::prelude::{
+    DekuContainerRead, DekuContainerWrite, DekuError, DekuReader, DekuWriter, Reader, Writer,
+};
+use deku_symmetry::{Lsb, Parted, Record, ToParts, read_record, write_record};
+
+/// The operands of an operation on a register and a number (I).
+#[derive(Debug, Clone, Copy, PartialEq, Eq)]
+pub struct Immediate {
+    /// What it is, 7 bits: 0x03 a load, 0x0F a fence, 0x13 an operation, 0x67 `jalr`, 0x73 a call of the system.
+    pub code: u8,
+    /// The register that is written, 5 bits.
+    pub target: u8,
+    /// Which operation, 3 bits.
+    pub function: u8,
+    /// The register that is read, 5 bits.
+    pub base: u8,
+    /// The number, 12 bits with its sign.
+    pub value: i16,
+}
+
+// The fields as they lie.
+type Parts = (Lsb<u8, 7>, Lsb<u8, 5>, Lsb<u8, 3>, Lsb<u8, 5>, Lsb<i16, 12>);
+
+impl Parted<()> for Immediate {
+    ghost use Rattle.std.specs.Prelude.{refl};
+
+    type Parts = Parts;
+
+    ghost parts_of = { λ r. (record { 0 = r.code }, record { 0 = r.target }, record { 0 = r.function }, record { 0 = r.base }, record { 0 = r.value }) };
+
+    ghost record_of = { λ p. record { code = p.0.0; target = p.1.0; function = p.2.0; base = p.3.0; value = p.4.0 } };
+
+    fn from_parts(parts: Self::Parts) -> Self {
+        let (Lsb(code), Lsb(target), Lsb(function), Lsb(base), Lsb(value)) = parts;
+        Immediate {
+            code,
+            target,
+            function,
+            base,
+            value,
+        }
+    }
+
+    ghost there = { λ r. refl };
+}
+
+impl ToParts<()> for Immediate {
+    fn parts(&self) -> Self::Parts {
+        (
+            Lsb(self.code),
+            Lsb(self.target),
+            Lsb(self.function),
+            Lsb(self.base),
+            Lsb(self.value),
+        )
+    }
+}
+
+impl Record for Immediate {
+    ghost use Rattle.std.specs.Prelude.{refl};
+
+    ghost back = { λ p ps h. refl };
+
+    ghost reads = { λ b s r u m. m };
+
+    ghost writes = { λ v b s r u m. m };
+}
+
+impl DekuReader<()> for Immediate {
+    ghost use Rattle.deku.specs.Outcomes.{Mapped};
+
+    ghost accepts = { ⟦<Parts as DekuReader<()>>⟧.accepts };
+
+    ghost prompt = { ⟦<Parts as DekuReader<()>>⟧.prompt };
+
+    ghost meaning = { λ _. Mapped ⟦<Immediate as Parted<()>>⟧.record_of (⟦<Parts as DekuReader<()>>⟧.meaning tt) };
+
+    fn from_reader_with_ctx<R: Source>(
+        reader: &mut Reader<R>,
+        _ctx: (),
+    ) -> Result<Self, DekuError> {
+        read_record(reader, ())
+    }
+}
+
+impl DekuWriter<()> for Immediate {
+    ghost accepts = { ⟦<Parts as DekuWriter<()>>⟧.accepts };
+
+    ghost meaning = { λ v _. ⟦<Parts as DekuWriter<()>>⟧.meaning (⟦<Immediate as Parted<()>>⟧.parts_of v) tt };
+
+    fn to_writer<W: Sink>(&self, writer: &mut Writer<W>, _ctx: ()) -> Result<(), DekuError> {
+        write_record(self, writer, ())
+    }
+}
+
+impl DekuContainerRead for Immediate {}
+
+impl DekuContainerWrite for Immediate {}

@@ -1,0 +1,154 @@
+//! Words that go elsewhere.
+
+ghost use Rattle.std.specs.Prelude.{◌≡◌, ◌<◌, ◌/◌, ◌%◌, ◌^◌};
+ghost use Rattle.deku_instructions.specs.Riscv.{jump_bits_below, jump_of};
+ghost use Rattle.deku_pieces.specs.Scattered.{low_of, high_of};
+
+use crate::riscv::Code;
+use deku::device::{Sink, Source};
+use deku::prelude::{
+    DekuContainerRead, DekuContainerWrite, DekuError, DekuReader, DekuWriter, Reader, Writer,
+};
+use deku_symmetry::scattered::{high_bits, low_bits};
+use deku_symmetry::{Fixed, Lsb, Parted, Record, ToParts, read_record, write_record};
+
+/// The operands of a jump (J). The way lies in four places: `halves` joins them.
+#[derive(Debug, Clone, Copy, PartialEq, Eq)]
+pub struct Jump {
+    /// The register that the place behind the jump is written to, 5 bits.
+    pub target: u8,
+    /// The bits of the way above the lowest eleven, 8 bits.
+    pub high: u32,
+    /// The bit 10 of the way.
+    pub middle: u32,
+    /// The lowest bits of the way, 10 bits.
+    pub low: u32,
+    /// The highest bit of the way, its sign.
+    pub sign: i32,
+}
+
+impl Jump {
+    /// The jump by so many units of two bytes. A way of more than 20 bits with its sign is refused where the jump is written.
+    ///
+    /// ```text
+    /// Jump::new(1, 0x400)                                         // jal ra, 0x800 bytes on
+    /// ```
+    #[tactic(auto, using(deku_pieces::proofs::Scattering::joined_again))]
+    pub fn new(target: u8, halves: i32) -> Jump
+        ensures high { result.high ≡ low_of 19 halves / 2048 }
+        ensures middle { result.middle ≡ low_of 19 halves / 1024 % 2 }
+        ensures low { result.low ≡ low_of 19 halves % 1024 }
+        ensures sign { result.sign ≡ high_of 19 halves }
+        ensures halves { jump_of result ≡ halves }
+        ensures target { result.target ≡ target }
+    {
+        let rest = low_bits(halves, 19);
+        Jump {
+            target,
+            high: rest / 2048,
+            middle: rest / 1024 % 2,
+            low: rest % 1024,
+            sign: high_bits(halves, 19),
+        }
+    }
+
+    /// By how many units of two bytes it goes, where the bits below its sign fit.
+    ///
+    /// ```text
+    /// jump.halves()                                               // 0x400, of jal ra, 0x800 bytes on
+    /// ```
+    #[tactic(auto, using(crate::proofs::Joined::on_nineteen))]
+    pub fn halves(&self) -> i64
+        ensures { jump_bits_below self.now < 2 ^ 19 → result ≡ jump_of self.now }
+    {
+        let below = self.high as u64 * 2048 + self.middle as u64 * 1024 + self.low as u64;
+        self.sign as i64 * 0x80000 + below as i64
+    }
+}
+
+// The fields as they lie.
+type Parts = (
+    Fixed<Lsb<u8, 7>, Code<0x6F>>,
+    Lsb<u8, 5>,
+    Lsb<u32, 8>,
+    Lsb<u32, 1>,
+    Lsb<u32, 10>,
+    Lsb<i32, 1>,
+);
+
+impl Parted<()> for Jump {
+    ghost use Rattle.std.specs.Prelude.{refl};
+
+    type Parts = Parts;
+
+    ghost parts_of = { λ r. (record { part = record {}; constant = record {} }, record { 0 = r.target }, record { 0 = r.high }, record { 0 = r.middle }, record { 0 = r.low }, record { 0 = r.sign }) };
+
+    ghost record_of = { λ p. record { target = p.1.0; high = p.2.0; middle = p.3.0; low = p.4.0; sign = p.5.0 } };
+
+    fn from_parts(parts: Self::Parts) -> Self {
+        let (_, Lsb(target), Lsb(high), Lsb(middle), Lsb(low), Lsb(sign)) = parts;
+        Jump {
+            target,
+            high,
+            middle,
+            low,
+            sign,
+        }
+    }
+
+    ghost there = { λ r. refl };
+}
+
+impl ToParts<()> for Jump {
+    fn parts(&self) -> Self::Parts {
+        (
+            Fixed::new(),
+            Lsb(self.target),
+            Lsb(self.high),
+            Lsb(self.middle),
+            Lsb(self.low),
+            Lsb(self.sign),
+        )
+    }
+}
+
+impl Record for Jump {
+    ghost use Rattle.std.specs.Prelude.{refl};
+
+    ghost back = { λ p ps h. refl };
+
+    ghost reads = { λ b s r u m. m };
+
+    ghost writes = { λ v b s r u m. m };
+}
+
+impl DekuReader<()> for Jump {
+    ghost use Rattle.deku.specs.Outcomes.{Mapped};
+
+    ghost accepts = { ⟦<Parts as DekuReader<()>>⟧.accepts };
+
+    ghost prompt = { ⟦<Parts as DekuReader<()>>⟧.prompt };
+
+    ghost meaning = { λ _. Mapped ⟦<Jump as Parted<()>>⟧.record_of (⟦<Parts as DekuReader<()>>⟧.meaning tt) };
+
+    fn from_reader_with_ctx<R: Source>(
+        reader: &mut Reader<R>,
+        _ctx: (),
+    ) -> Result<Self, DekuError> {
+        read_record(reader, ())
+    }
+}
+
+impl DekuWriter<()> for Jump {
+    ghost accepts = { ⟦<Parts as DekuWriter<()>>⟧.accepts };
+
+    ghost meaning = { λ v _. ⟦<Parts as DekuWriter<()>>⟧.meaning (⟦<Jump as Parted<()>>⟧.parts_of v) tt };
+
+    fn to_writer<W: Sink>(&self, writer: &mut Writer<W>, _ctx: ()) -> Result<(), DekuError> {
+        write_record(self, writer, ())
+    }
+}
+
+impl DekuContainerRead for Jump {}
+
+impl DekuContainerWrite for Jump {}

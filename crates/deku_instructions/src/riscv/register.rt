@@ -1,0 +1,110 @@
+//! Words of two source registers.
+
+use crate::riscv::Code;
+use deku::device::{Sink, Source};
+use deku::prelude::{
+    DekuContainerRead, DekuContainerWrite, DekuError, DekuReader, DekuWriter, Reader, Writer,
+};
+use deku_symmetry::{Fixed, Lsb, Parted, Record, ToParts, read_record, write_record};
+
+/// The operands of an operation on two registers (R).
+#[derive(Debug, Clone, Copy, PartialEq, Eq)]
+pub struct Register {
+    /// The register that is written, 5 bits.
+    pub target: u8,
+    /// Which operation, 3 bits.
+    pub function: u8,
+    /// The first register that is read, 5 bits.
+    pub first: u8,
+    /// The second register that is read, 5 bits.
+    pub second: u8,
+    /// Which variant of the operation, 7 bits.
+    pub variant: u8,
+}
+
+// The fields as they lie.
+type Parts = (
+    Fixed<Lsb<u8, 7>, Code<0x33>>,
+    Lsb<u8, 5>,
+    Lsb<u8, 3>,
+    Lsb<u8, 5>,
+    Lsb<u8, 5>,
+    Lsb<u8, 7>,
+);
+
+impl Parted<()> for Register {
+    ghost use Rattle.std.specs.Prelude.{refl};
+
+    type Parts = Parts;
+
+    ghost parts_of = { λ r. (record { part = record {}; constant = record {} }, record { 0 = r.target }, record { 0 = r.function }, record { 0 = r.first }, record { 0 = r.second }, record { 0 = r.variant }) };
+
+    ghost record_of = { λ p. record { target = p.1.0; function = p.2.0; first = p.3.0; second = p.4.0; variant = p.5.0 } };
+
+    fn from_parts(parts: Self::Parts) -> Self {
+        let (_, Lsb(target), Lsb(function), Lsb(first), Lsb(second), Lsb(variant)) = parts;
+        Register {
+            target,
+            function,
+            first,
+            second,
+            variant,
+        }
+    }
+
+    ghost there = { λ r. refl };
+}
+
+impl ToParts<()> for Register {
+    fn parts(&self) -> Self::Parts {
+        (
+            Fixed::new(),
+            Lsb(self.target),
+            Lsb(self.function),
+            Lsb(self.first),
+            Lsb(self.second),
+            Lsb(self.variant),
+        )
+    }
+}
+
+impl Record for Register {
+    ghost use Rattle.std.specs.Prelude.{refl};
+
+    ghost back = { λ p ps h. refl };
+
+    ghost reads = { λ b s r u m. m };
+
+    ghost writes = { λ v b s r u m. m };
+}
+
+impl DekuReader<()> for Register {
+    ghost use Rattle.deku.specs.Outcomes.{Mapped};
+
+    ghost accepts = { ⟦<Parts as DekuReader<()>>⟧.accepts };
+
+    ghost prompt = { ⟦<Parts as DekuReader<()>>⟧.prompt };
+
+    ghost meaning = { λ _. Mapped ⟦<Register as Parted<()>>⟧.record_of (⟦<Parts as DekuReader<()>>⟧.meaning tt) };
+
+    fn from_reader_with_ctx<R: Source>(
+        reader: &mut Reader<R>,
+        _ctx: (),
+    ) -> Result<Self, DekuError> {
+        read_record(reader, ())
+    }
+}
+
+impl DekuWriter<()> for Register {
+    ghost accepts = { ⟦<Parts as DekuWriter<()>>⟧.accepts };
+
+    ghost meaning = { λ v _. ⟦<Parts as DekuWriter<()>>⟧.meaning (⟦<Register as Parted<()>>⟧.parts_of v) tt };
+
+    fn to_writer<W: Sink>(&self, writer: &mut Writer<W>, _ctx: ()) -> Result<(), DekuError> {
+        write_record(self, writer, ())
+    }
+}
+
+impl DekuContainerRead for Register {}
+
+impl DekuContainerWrite for Register {}

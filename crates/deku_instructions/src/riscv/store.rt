@@ -1,0 +1,152 @@
+//! Words that store a register.
+
+ghost use Rattle.std.specs.Prelude.{◌≡◌, ◌<◌, ◌^◌};
+ghost use Rattle.deku_instructions.specs.Riscv.{offset_of};
+ghost use Rattle.deku_pieces.specs.Scattered.{low_of, high_of};
+
+use crate::riscv::Code;
+use deku::device::{Sink, Source};
+use deku::prelude::{
+    DekuContainerRead, DekuContainerWrite, DekuError, DekuReader, DekuWriter, Reader, Writer,
+};
+use deku_symmetry::scattered::{high_bits, low_bits};
+use deku_symmetry::{Fixed, Lsb, Parted, Record, ToParts, read_record, write_record};
+
+/// The operands of a store (S). The offset lies in two places: `offset` joins them.
+#[derive(Debug, Clone, Copy, PartialEq, Eq)]
+pub struct Store {
+    /// The low bits of the offset, 5 bits.
+    pub low: u32,
+    /// How many bytes, 3 bits.
+    pub function: u8,
+    /// The register that the address counts from, 5 bits.
+    pub base: u8,
+    /// The register that is stored, 5 bits.
+    pub source: u8,
+    /// The high bits of the offset, 7 bits with its sign.
+    pub high: i32,
+}
+
+impl Store {
+    /// The store at so many bytes behind the address in a register. An offset of more than 12 bits with its sign is refused where the store is written.
+    ///
+    /// ```text
+    /// Store::new(2, 8, 1, -20)                                    // sw ra, -20(s0)
+    /// ```
+    #[tactic(auto, using(deku_pieces::proofs::Scattering::joined_again))]
+    pub fn new(function: u8, base: u8, source: u8, offset: i32) -> Store
+        ensures low { result.low ≡ low_of 5 offset }
+        ensures high { result.high ≡ high_of 5 offset }
+        ensures offset { offset_of result ≡ offset }
+        ensures function { result.function ≡ function }
+        ensures base { result.base ≡ base }
+        ensures source { result.source ≡ source }
+    {
+        Store {
+            low: low_bits(offset, 5),
+            function,
+            base,
+            source,
+            high: high_bits(offset, 5),
+        }
+    }
+
+    /// By how many bytes it goes behind the address in its register, where its low bits fit.
+    ///
+    /// ```text
+    /// store.offset()                                              // -20, of sw ra, -20(s0)
+    /// ```
+    #[tactic(auto, using(crate::proofs::Joined::on_five))]
+    pub fn offset(&self) -> i64
+        ensures { self.now.low < 2 ^ 5 → result ≡ offset_of self.now }
+    {
+        self.high as i64 * 32 + self.low as i64
+    }
+}
+
+// The fields as they lie.
+type Parts = (
+    Fixed<Lsb<u8, 7>, Code<0x23>>,
+    Lsb<u32, 5>,
+    Lsb<u8, 3>,
+    Lsb<u8, 5>,
+    Lsb<u8, 5>,
+    Lsb<i32, 7>,
+);
+
+impl Parted<()> for Store {
+    ghost use Rattle.std.specs.Prelude.{refl};
+
+    type Parts = Parts;
+
+    ghost parts_of = { λ r. (record { part = record {}; constant = record {} }, record { 0 = r.low }, record { 0 = r.function }, record { 0 = r.base }, record { 0 = r.source }, record { 0 = r.high }) };
+
+    ghost record_of = { λ p. record { low = p.1.0; function = p.2.0; base = p.3.0; source = p.4.0; high = p.5.0 } };
+
+    fn from_parts(parts: Self::Parts) -> Self {
+        let (_, Lsb(low), Lsb(function), Lsb(base), Lsb(source), Lsb(high)) = parts;
+        Store {
+            low,
+            function,
+            base,
+            source,
+            high,
+        }
+    }
+
+    ghost there = { λ r. refl };
+}
+
+impl ToParts<()> for Store {
+    fn parts(&self) -> Self::Parts {
+        (
+            Fixed::new(),
+            Lsb(self.low),
+            Lsb(self.function),
+            Lsb(self.base),
+            Lsb(self.source),
+            Lsb(self.high),
+        )
+    }
+}
+
+impl Record for Store {
+    ghost use Rattle.std.specs.Prelude.{refl};
+
+    ghost back = { λ p ps h. refl };
+
+    ghost reads = { λ b s r u m. m };
+
+    ghost writes = { λ v b s r u m. m };
+}
+
+impl DekuReader<()> for Store {
+    ghost use Rattle.deku.specs.Outcomes.{Mapped};
+
+    ghost accepts = { ⟦<Parts as DekuReader<()>>⟧.accepts };
+
+    ghost prompt = { ⟦<Parts as DekuReader<()>>⟧.prompt };
+
+    ghost meaning = { λ _. Mapped ⟦<Store as Parted<()>>⟧.record_of (⟦<Parts as DekuReader<()>>⟧.meaning tt) };
+
+    fn from_reader_with_ctx<R: Source>(
+        reader: &mut Reader<R>,
+        _ctx: (),
+    ) -> Result<Self, DekuError> {
+        read_record(reader, ())
+    }
+}
+
+impl DekuWriter<()> for Store {
+    ghost accepts = { ⟦<Parts as DekuWriter<()>>⟧.accepts };
+
+    ghost meaning = { λ v _. ⟦<Parts as DekuWriter<()>>⟧.meaning (⟦<Store as Parted<()>>⟧.parts_of v) tt };
+
+    fn to_writer<W: Sink>(&self, writer: &mut Writer<W>, _ctx: ()) -> Result<(), DekuError> {
+        write_record(self, writer, ())
+    }
+}
+
+impl DekuContainerRead for Store {}
+
+impl DekuContainerWrite for Store {}

@@ -1,0 +1,89 @@
+//! Words of the high bits of a number.
+
+use deku::device::{Sink, Source};
+use deku::prelude::{
+    DekuContainerRead, DekuContainerWrite, DekuError, DekuReader, DekuWriter, Reader, Writer,
+};
+use deku_symmetry::{Lsb, Parted, Record, ToParts, read_record, write_record};
+
+/// The operands of a load of the high bits of a register (U).
+#[derive(Debug, Clone, Copy, PartialEq, Eq)]
+pub struct Upper {
+    /// What it is, 7 bits: 0x17 `auipc`, 0x37 `lui`.
+    pub code: u8,
+    /// The register that is written, 5 bits.
+    pub target: u8,
+    /// The high 20 bits of the number, with their sign: the number is 4096 times as much.
+    pub value: i32,
+}
+
+// The fields as they lie.
+type Parts = (Lsb<u8, 7>, Lsb<u8, 5>, Lsb<i32, 20>);
+
+impl Parted<()> for Upper {
+    ghost use Rattle.std.specs.Prelude.{refl};
+
+    type Parts = Parts;
+
+    ghost parts_of = { λ r. (record { 0 = r.code }, record { 0 = r.target }, record { 0 = r.value }) };
+
+    ghost record_of = { λ p. record { code = p.0.0; target = p.1.0; value = p.2.0 } };
+
+    fn from_parts(parts: Self::Parts) -> Self {
+        let (Lsb(code), Lsb(target), Lsb(value)) = parts;
+        Upper {
+            code,
+            target,
+            value,
+        }
+    }
+
+    ghost there = { λ r. refl };
+}
+
+impl ToParts<()> for Upper {
+    fn parts(&self) -> Self::Parts {
+        (Lsb(self.code), Lsb(self.target), Lsb(self.value))
+    }
+}
+
+impl Record for Upper {
+    ghost use Rattle.std.specs.Prelude.{refl};
+
+    ghost back = { λ p ps h. refl };
+
+    ghost reads = { λ b s r u m. m };
+
+    ghost writes = { λ v b s r u m. m };
+}
+
+impl DekuReader<()> for Upper {
+    ghost use Rattle.deku.specs.Outcomes.{Mapped};
+
+    ghost accepts = { ⟦<Parts as DekuReader<()>>⟧.accepts };
+
+    ghost prompt = { ⟦<Parts as DekuReader<()>>⟧.prompt };
+
+    ghost meaning = { λ _. Mapped ⟦<Upper as Parted<()>>⟧.record_of (⟦<Parts as DekuReader<()>>⟧.meaning tt) };
+
+    fn from_reader_with_ctx<R: Source>(
+        reader: &mut Reader<R>,
+        _ctx: (),
+    ) -> Result<Self, DekuError> {
+        read_record(reader, ())
+    }
+}
+
+impl DekuWriter<()> for Upper {
+    ghost accepts = { ⟦<Parts as DekuWriter<()>>⟧.accepts };
+
+    ghost meaning = { λ v _. ⟦<Parts as DekuWriter<()>>⟧.meaning (⟦<Upper as Parted<()>>⟧.parts_of v) tt };
+
+    fn to_writer<W: Sink>(&self, writer: &mut Writer<W>, _ctx: ()) -> Result<(), DekuError> {
+        write_record(self, writer, ())
+    }
+}
+
+impl DekuContainerRead for Upper {}
+
+impl DekuContainerWrite for Upper {}
