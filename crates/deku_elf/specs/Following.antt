@@ -1,0 +1,29 @@
+-- What is read from a place that is sought first.
+use Rattle.std.specs.Prelude.{◌≡◌, ℕ, [], drop, Option, Some, Result, Err, IfSome}
+use Rattle.std.specs.Global.{Vec}
+use Rattle.std.specs.declared.io.ErrorKind.{ErrorKind}
+use Rattle.std.specs.Io.Seek.{IsSeekTarget}
+use Rattle.std.specs.declared.io.SeekFrom.TheVariants.{Start}
+use Rattle.deku_bits.specs.declared.error.DekuError.{DekuError}
+use Rattle.deku_bits.specs.declared.error.DekuError.TheVariants.{Io}
+use Rattle.deku_bits.specs.declared.reader.Reader.{Reader}
+use Rattle.deku_bits.specs.Devices.{SourceTold}
+use Rattle.deku_bits.specs.Seeking.{count_after, RefusedSeek}
+use Rattle.deku_bits.specs.Streams.{Stream}
+use Rattle.deku_bits.specs.Standings.{Going, Stopped, count_of}
+use Rattle.deku_bits.specs.Outcomes.{Meaning}
+use Rattle.deku_bits.specs.ReaderCalls.{Reads}
+use Rattle.deku.specs.Limits.{ReadsCount, Held}
+
+-- A place is sought, and m is read from there: where all bytes are told, those from the place on are to come. Or the source refuses the seek, which stops the
+-- reader; where all bytes are told, only for a call that fails.
+pub data ReadsFrom {R V : Type 0} (told : R → SourceTold) (place : ℕ) (m : Meaning (Option Stream) V) (old : Reader R) (r : Result V DekuError) (new : Reader R) : Type 0 where
+  Sought : (at : Reader R) (n : ℕ) → at.state ≡ Going [] (count_after (Start place) (count_of old.state))
+      → IfSome (told old.source).health.whole (λ w. IsSeekTarget w.place (Some w.bytes) (Start place) n) → IfSome (told old.source).health.whole (λ w. (told at.source).coming ≡ Some (drop n w.bytes))
+      → Reads told m at r new → ReadsFrom told place m old r new
+  NotSought : (kind : ErrorKind) → r ≡ Err (Io kind) → new.state ≡ Stopped (Io kind) (count_of old.state) → RefusedSeek (told old.source).health (told new.source).health (Start place) (Err (Io kind))
+      → ReadsFrom told place m old r new
+
+-- so many items are read into a vector
+abbrev pub ReadsSegments : {V : Type 0} → ℕ → Meaning (Option Stream) V → Meaning (Option Stream) (Vec V)
+ReadsSegments count m = Held (λ xs v. v.items ≡ xs) (ReadsCount count m)

@@ -1,0 +1,156 @@
+//! The fields of the file header, under the endian that the file names.
+
+use deku::ctx::Endian;
+use deku::device::{Sink, Source};
+use deku::prelude::{DekuError, DekuReader, DekuWriter, Reader, Writer};
+use deku_symmetry::{EndianRecord, Parted, ToParts, read_record, write_record};
+
+/// The fields of the file header behind the byte that says its endian.
+#[derive(Debug, Clone, Copy, PartialEq, Eq)]
+pub struct Fields {
+    /// The version of the identification, 1; which operating system, 0 System V, 3 Linux; the version of that; and seven bytes that say nothing.
+    pub identification: [u8; 10],
+    /// 1 relocatable, 2 executable, 3 shared.
+    pub kind: u16,
+    /// 62 x86-64, 183 AArch64, 243 RISC-V.
+    pub machine: u16,
+    /// The version of the object: 1.
+    pub version: u32,
+    /// Where it starts.
+    pub entry: u64,
+    /// Where the program headers lie in the file, in bytes.
+    pub segments_at: u64,
+    /// Where the section headers lie in the file, in bytes.
+    pub sections_at: u64,
+    /// What the processor is told.
+    pub flags: u32,
+    /// The bytes of this header, 64, and of a program header, 56.
+    pub sizes: [u16; 2],
+    /// How many program headers there are.
+    pub segment_count: u16,
+    /// The bytes of a section header, 64; how many there are; and which of the sections has the names of the others.
+    pub sections: [u16; 3],
+}
+
+// The fields as they lie.
+type Parts = (
+    [u8; 10],
+    u16,
+    u16,
+    u32,
+    u64,
+    u64,
+    u64,
+    u32,
+    [u16; 2],
+    u16,
+    [u16; 3],
+);
+
+impl Parted<Endian> for Fields {
+    ghost use Rattle.std.specs.Prelude.{refl};
+
+    type Parts = Parts;
+
+    ghost parts_of = { λ r. (r.identification, r.kind, r.machine, r.version, r.entry, r.segments_at, r.sections_at, r.flags, r.sizes, r.segment_count, r.sections) };
+
+    ghost record_of = { λ p. record {
+      identification = p.0;
+      kind = p.1;
+      machine = p.2;
+      version = p.3;
+      entry = p.4;
+      segments_at = p.5;
+      sections_at = p.6;
+      flags = p.7;
+      sizes = p.8;
+      segment_count = p.9;
+      sections = p.10;
+    } };
+
+    fn from_parts(parts: Self::Parts) -> Self {
+        let (
+            identification,
+            kind,
+            machine,
+            version,
+            entry,
+            segments_at,
+            sections_at,
+            flags,
+            sizes,
+            segment_count,
+            sections,
+        ) = parts;
+        Fields {
+            identification,
+            kind,
+            machine,
+            version,
+            entry,
+            segments_at,
+            sections_at,
+            flags,
+            sizes,
+            segment_count,
+            sections,
+        }
+    }
+
+    ghost there = { λ r. refl };
+}
+
+impl ToParts<Endian> for Fields {
+    fn parts(&self) -> Self::Parts {
+        (
+            self.identification,
+            self.kind,
+            self.machine,
+            self.version,
+            self.entry,
+            self.segments_at,
+            self.sections_at,
+            self.flags,
+            self.sizes,
+            self.segment_count,
+            self.sections,
+        )
+    }
+}
+
+impl EndianRecord for Fields {
+    ghost use Rattle.std.specs.Prelude.{refl};
+
+    ghost back = { λ p c ps h. refl };
+
+    ghost reads = { λ c b s r u m. m };
+
+    ghost writes = { λ c v b s r u m. m };
+}
+
+impl DekuReader<Endian> for Fields {
+    ghost use Rattle.deku.specs.Outcomes.{Mapped};
+
+    ghost accepts = { ⟦<Parts as DekuReader<Endian>>⟧.accepts };
+
+    ghost prompt = { ⟦<Parts as DekuReader<Endian>>⟧.prompt };
+
+    ghost meaning = { λ c. Mapped ⟦<Fields as Parted<Endian>>⟧.record_of (⟦<Parts as DekuReader<Endian>>⟧.meaning c) };
+
+    fn from_reader_with_ctx<R: Source>(
+        reader: &mut Reader<R>,
+        ctx: Endian,
+    ) -> Result<Self, DekuError> {
+        read_record(reader, ctx)
+    }
+}
+
+impl DekuWriter<Endian> for Fields {
+    ghost accepts = { ⟦<Parts as DekuWriter<Endian>>⟧.accepts };
+
+    ghost meaning = { λ v c. ⟦<Parts as DekuWriter<Endian>>⟧.meaning (⟦<Fields as Parted<Endian>>⟧.parts_of v) c };
+
+    fn to_writer<W: Sink>(&self, writer: &mut Writer<W>, ctx: Endian) -> Result<(), DekuError> {
+        write_record(self, writer, ctx)
+    }
+}

@@ -1,0 +1,246 @@
+//! The file header of an ELF64 file and its program headers, as the System V ABI has them in its chapters on object files.
+//!
+//! ```text
+//! magic         32 bits     7F 45 4C 46
+//! class          8 bits     2: 64 bits
+//! endian         8 bits     1: the low byte of each number first; 2: the high one
+//! version        8 bits     1
+//! abi            8 bits     0 System V, 3 Linux
+//! abi version    8 bits
+//! padding       56 bits
+//! kind, machine                   16 bits each
+//! version                         32 bits
+//! entry, segments, sections       64 bits each: an address, and two places in the file
+//! flags                           32 bits
+//! six sizes and counts            16 bits each
+//! ```
+//!
+//! The program headers lie where `segments_at` says, 56 bytes each.
+
+#![tactic(auto)]
+
+ghost use Rattle.std.specs.Prelude.{◌≡◌, ◌≤◌, ◌<◌, ◌^◌, Err};
+ghost use Rattle.std.specs.declared.io.ErrorKind.TheVariants.{InvalidInput};
+ghost use Rattle.std.specs.declared.io.SeekFrom.TheVariants.{Start};
+ghost use Rattle.deku_bits.specs.declared.error.DekuError.TheVariants.{Io};
+ghost use Rattle.deku_bits.specs.Seeking.{count_after};
+ghost use Rattle.deku_bits.specs.Standings.{count_of};
+ghost use Rattle.deku_elf.specs.Elf.{endian_of, fields_of};
+ghost use Rattle.deku_elf.specs.Following.{ReadsFrom, ReadsSegments};
+
+pub mod fields;
+pub mod segment;
+
+use crate::fields::Fields;
+use crate::segment::Segment;
+use deku::ctx::{Endian, Limit};
+use deku::device::{Sink, Source};
+use deku::prelude::{
+    DekuContainerRead, DekuContainerWrite, DekuError, DekuReader, DekuWriter, Reader, Writer,
+};
+use deku_symmetry::{
+    Be, Constant, Constants, Fixed, Le, Msb, MsbTagged, Only, Parted, Record, Tagged, ToParts,
+    read_record, write_record,
+};
+use std::io::{Seek, SeekFrom};
+
+/// The file header: its fields, under one endian or the other.
+#[derive(Debug, Clone, Copy, PartialEq, Eq)]
+pub enum Elf {
+    /// The byte of the endian is 1: the low byte of each number first.
+    Little(Fields),
+    /// The byte of the endian is 2: the high byte of each number first.
+    Big(Fields),
+}
+
+impl Elf {
+    /// The endian that the file names.
+    ///
+    /// ```text
+    /// elf.endian()                                                     // Endian::Little, on x86-64
+    /// ```
+    pub fn endian(&self) -> Endian
+        ensures { result ≡ endian_of self.now }
+    {
+        match self {
+            Elf::Little(_) => Endian::Little,
+            Elf::Big(_) => Endian::Big,
+        }
+    }
+
+    /// The fields.
+    ///
+    /// ```text
+    /// elf.fields().machine                                             // 62, on x86-64
+    /// ```
+    pub fn fields(&self) -> &Fields
+        ensures { result.now ≡ fields_of self.now }
+    {
+        match self {
+            Elf::Little(fields) => fields,
+            Elf::Big(fields) => fields,
+        }
+    }
+}
+
+/// The program headers of a file whose header was read, from where it says.
+///
+/// It is refused with `Io(InvalidInput)`, and nothing changes, where a `usize` does not count the bits before their place; then as the source refuses the seek, which stops
+/// the reader; and then as the first of them is that is refused, or with `Io(OutOfMemory)`, behind those before it. That a program header has 56 bytes is not looked at.
+///
+/// ```text
+/// let elf = Elf::from_reader_with_ctx(&mut reader, ())?;
+/// let segments = segments(&mut reader, &elf)?;
+/// ```
+pub fn segments<R: Source>(reader: &mut Reader<R>, elf: &Elf) -> Result<Vec<Segment>, DekuError>
+    // A place that the count of bits does not reach.
+    ensures past { 2 ^ 64 ≤ count_after (Start (fields_of elf.now).segments_at) (count_of reader.old.state) → (result ≡ Err (Io InvalidInput)) × (reader.new ≡ reader.old) }
+    // Else as many as the header says, from the place that it says, under its endian.
+    ensures reads { count_after (Start (fields_of elf.now).segments_at) (count_of reader.old.state) < 2 ^ 64 → ReadsFrom R.told (fields_of elf.now).segments_at (ReadsSegments (fields_of elf.now).segment_count (⟦<Segment as DekuReader<Endian>>⟧.meaning (endian_of elf.now))) reader.old result reader.new }
+{
+    let fields = elf.fields();
+    reader.seek(SeekFrom::Start(fields.segments_at))?;
+    let limit = Limit::new_count(fields.segment_count as usize);
+    Vec::from_reader_with_ctx(reader, (limit, elf.endian()))
+}
+
+/// The first four bytes of each ELF file.
+#[derive(Debug, PartialEq, Eq, Drop)]
+pub struct Magic;
+
+impl Constant<Be<u32>> for Magic {
+    ghost use Rattle.std.specs.Prelude.{codes};
+
+    ghost value = { record { 0 = 0x7F454C46 } };
+
+    ghost text = { codes "magic" };
+
+    fn value() -> Be<u32> {
+        Be(0x7F454C46)
+    }
+
+    fn is_value(part: &Be<u32>) -> bool {
+        part.0 == 0x7F454C46
+    }
+
+    fn text() -> &'static str {
+        "magic"
+    }
+}
+
+impl Constants<Be<u32>> for Magic {
+    ghost use Rattle.std.specs.Prelude.{refl};
+
+    ghost alike = { λ v e. rw e refl };
+}
+
+/// The file has addresses of 64 bits.
+#[derive(Debug, PartialEq, Eq, Drop)]
+pub struct Class;
+
+impl Constant<Msb<u8, 8>> for Class {
+    ghost use Rattle.std.specs.Prelude.{codes};
+
+    ghost value = { record { 0 = 2 } };
+
+    ghost text = { codes "class" };
+
+    fn value() -> Msb<u8, 8> {
+        Msb(2)
+    }
+
+    fn is_value(part: &Msb<u8, 8>) -> bool {
+        part.0 == 2
+    }
+
+    fn text() -> &'static str {
+        "class"
+    }
+}
+
+impl Constants<Msb<u8, 8>> for Class {
+    ghost use Rattle.std.proofs.Common.{ap, sym};
+
+    ghost alike = { λ v e. ap (λ n. record { 0 = n }) (sym e) };
+}
+
+// What each file has, the byte of the endian, and the fields under it.
+type Parts = (
+    Fixed<Be<u32>, Magic>,
+    Fixed<Msb<u8, 8>, Class>,
+    MsbTagged<Le<Fields>, Only<Be<Fields>, 2>, 1, 8>,
+);
+
+impl Parted<()> for Elf {
+    ghost use Rattle.std.specs.Prelude.{refl};
+    ghost use Rattle.deku_elf.specs.declared.Elf.TheVariants.{Little, Big};
+    ghost use Rattle.deku_elf.specs.Elf.{tagged_of, elf_of};
+
+    type Parts = Parts;
+
+    ghost parts_of = { λ r. (record { part = record {}; constant = record {} }, record { part = record {}; constant = record {} }, tagged_of r) };
+
+    ghost record_of = { λ p. elf_of p.2 };
+
+    fn from_parts(parts: Self::Parts) -> Self {
+        let (_, _, tagged) = parts;
+        match tagged {
+            Tagged::This(Le(fields)) => Elf::Little(fields),
+            Tagged::Other(Only(Be(fields))) => Elf::Big(fields),
+        }
+    }
+
+    ghost there = { elim [ Little f ↦ refl | Big f ↦ refl ] };
+}
+
+impl ToParts<()> for Elf {
+    fn parts(&self) -> Self::Parts {
+        let tagged = match self {
+            Elf::Little(fields) => Tagged::This(Le(*fields)),
+            Elf::Big(fields) => Tagged::Other(Only(Be(*fields))),
+        };
+        (Fixed::new(), Fixed::new(), tagged)
+    }
+}
+
+impl Record for Elf {
+    ghost use Rattle.std.proofs.Common.{ap};
+    ghost use Rattle.deku_elf.specs.Elf.{tagged_back};
+
+    ghost back = { λ p ps h. ap (λ t. (p.0, p.1, t)) (tagged_back p.2) };
+
+    ghost reads = { λ b s r u m. m };
+
+    ghost writes = { λ v b s r u m. m };
+}
+
+impl DekuReader<()> for Elf {
+    ghost use Rattle.deku.specs.Outcomes.{Mapped};
+
+    ghost accepts = { ⟦<Parts as DekuReader<()>>⟧.accepts };
+
+    ghost prompt = { ⟦<Parts as DekuReader<()>>⟧.prompt };
+
+    ghost meaning = { λ _. Mapped ⟦<Elf as Parted<()>>⟧.record_of (⟦<Parts as DekuReader<()>>⟧.meaning tt) };
+
+    fn from_reader_with_ctx<R: Source>(
+        reader: &mut Reader<R>,
+        _ctx: (),
+    ) -> Result<Self, DekuError> {
+        read_record(reader, ())
+    }
+}
+
+impl DekuWriter<()> for Elf {
+    ghost accepts = { ⟦<Parts as DekuWriter<()>>⟧.accepts };
+
+    ghost meaning = { λ v _. ⟦<Parts as DekuWriter<()>>⟧.meaning (⟦<Elf as Parted<()>>⟧.parts_of v) tt };
+
+    fn to_writer<W: Sink>(&self, writer: &mut Writer<W>, _ctx: ()) -> Result<(), DekuError> {
+        write_record(self, writer, ())
+    }
+}
+
+impl DekuContainerRead for Elf {}
+
+impl DekuContainerWrite for Elf {}
