@@ -1,0 +1,3 @@
+pub mod Forms
+pub mod Shown
+pub mod Runs

@@ -1,0 +1,65 @@
+-- What a run of the program does: the words that it is given, the text that it reads and the text that it writes.
+use Rattle.std.specs.Prelude.{◌≡◌, ◌⊎◌, ℕ, List, [], ◌∷◌, flat_map, Option, Some, None, IfSome, codes, ⊤}
+use Rattle.std.specs.Io.KnownBytes.{Appends}
+use Rattle.std.specs.declared.io.ErrorKind.{ErrorKind}
+use Rattle.deku_bits.specs.declared.error.DekuError.TheVariants.{Io}
+use Rattle.deku_fields.specs.Runs.{line, IsHexText, IsNoHexText}
+use Rattle.deku_formats_program.specs.declared.words.Format.{Format}
+use Rattle.deku_formats_program.specs.declared.words.Asked.{Asked}
+use Rattle.deku_formats_program.specs.declared.words.Asked.TheVariants.{Names, Help, Record}
+use Rattle.deku_formats_program.specs.declared.program.Failure.{Failure}
+use Rattle.deku_formats_program.specs.declared.program.Failure.TheVariants.{Usage, BadText, Fault, Refused}
+use Rattle.deku_formats_program.specs.Forms.{AskFor}
+use Rattle.deku_formats_program.specs.Shown.{IsTold}
+
+-- the names of the formats
+abbrev pub names : List (List ℕ)
+names = codes "can" ∷ codes "ccsds" ∷ codes "ipv4" ∷ codes "png" ∷ codes "udp" ∷ []
+
+-- the input shows bytes in hexadecimal, where it is known, and the text tells of the first of them
+pub record TellsInput (input : Option (List ℕ)) (text : List ℕ) : Type 0 where
+  pub bytes : List ℕ
+  pub given : IfSome input (λ shown. IsHexText shown bytes)
+  pub told : IsTold bytes text
+
+-- the text is what is asked for; that of the help is left open
+abbrev pub IsShown : Asked → Option (List ℕ) → List ℕ → Type 0
+IsShown Names input text = text ≡ flat_map line names
+IsShown Help input text = ⊤
+IsShown (Record format) input text = TellsInput input text
+
+-- the words ask for a text, and it was given to the output
+pub record IsDone (words : List (List ℕ)) (input before after : Option (List ℕ)) : Type 0 where
+  pub asked : Asked
+  pub form : AskFor words asked
+  pub text : List ℕ
+  pub shown : IsShown asked input text
+  pub given : Appends before after text
+
+-- a record is asked for
+abbrev pub IsRecord : Asked → Type 0
+IsRecord Names = ⊥
+IsRecord Help = ⊥
+IsRecord (Record format) = ⊤
+
+-- the words ask for a record
+abbrev pub AsksForRecord : List (List ℕ) → Type 0
+AsksForRecord words = (f : Format) × AskFor words (Record f)
+
+-- the input shows no bytes, where it is known, or it or the memory failed
+abbrev pub InputStops : Option (List ℕ) → Failure → Type 0
+InputStops input e = ((e ≡ BadText) × IfSome input IsNoHexText) ⊎ ((kind : ErrorKind) × (e ≡ Fault (Io kind)))
+
+-- the status of a run that ends so: 2 where the words are of no form, else 1
+abbrev pub status_of : Failure → ℕ
+status_of Usage = 2
+status_of BadText = 1
+status_of (Fault fault) = 1
+status_of (Refused fault field bit) = 1
+
+-- what it is told as; the text of a fault is left open
+abbrev pub message : Failure → Option (List ℕ)
+message Usage = Some (line (codes "usage: formats [NAME]"))
+message BadText = Some (line (codes "error: bad hexadecimal text"))
+message (Fault fault) = None
+message (Refused fault field bit) = None

@@ -1,0 +1,10 @@
+//! The program `formats`: the fields of records of real formats, from hexadecimal text and back.
+#![tactic(auto)]
+
+mod compared;
+mod places;
+mod program;
+mod shown;
+mod words;
+
+pub use program::run;

@@ -1,0 +1,70 @@
+//! Which field of a record has a bit.
+
+/// The name of a field, and its bits.
+pub type Place = (&'static str, usize);
+
+/// The fields in front of the last one, or of those that they lead, as they lie in the signals of a CAN data frame.
+pub const CAN: [Place; 5] = [
+    ("wheel", 12),
+    ("gear", 4),
+    ("torque", 16),
+    ("flags", 3),
+    ("padding", 5),
+];
+
+/// The same in a space packet.
+pub const CCSDS: [Place; 7] = [
+    ("version", 3),
+    ("kind", 1),
+    ("secondary", 1),
+    ("application", 11),
+    ("grouping", 2),
+    ("count", 14),
+    ("length", 16),
+];
+
+/// The same in the header of an IPv4 packet.
+pub const IPV4: [Place; 13] = [
+    ("version", 4),
+    ("words", 4),
+    ("service", 6),
+    ("congestion", 2),
+    ("total", 16),
+    ("identification", 16),
+    ("flags", 3),
+    ("offset", 13),
+    ("life", 8),
+    ("protocol", 8),
+    ("checksum", 16),
+    ("source", 32),
+    ("target", 32),
+];
+
+/// The same at the beginning of a PNG file.
+pub const PNG: [Place; 10] = [
+    ("signature", 64),
+    ("length", 32),
+    ("type", 32),
+    ("width", 32),
+    ("height", 32),
+    ("depth", 8),
+    ("colour", 8),
+    ("compression", 8),
+    ("filter", 8),
+    ("interlace", 8),
+];
+
+/// The same in the header of a UDP datagram.
+pub const UDP: [Place; 3] = [("source", 16), ("target", 16), ("length", 16)];
+
+/// The name of the field that has this bit; behind all of them, the last one.
+pub fn name_at(places: &[Place], bit: usize, last: &'static str) -> &'static str {
+    let mut left = bit;
+    for (name, bits) in places {
+        if left < *bits {
+            return *name;
+        }
+        left -= *bits;
+    }
+    last
+}

@@ -1,0 +1,263 @@
+//! The program: from the name of a format and hexadecimal text to the fields of a record, and back to its bytes.
+
+ghost use Rattle.std.specs.Prelude.{◌≡◌, ◌⊎◌, ◌≤◌, IfSome, IfOk, OnOk, IfErr, string_bytes};
+ghost use Rattle.std.specs.Io.KnownBytes.{Appends};
+ghost use Rattle.std.specs.IoError.{error_kind};
+ghost use Rattle.std.specs.declared.io.ErrorKind.TheVariants.{OutOfMemory};
+ghost use Rattle.deku_bits.specs.declared.error.DekuError.TheVariants.{Io};
+ghost use Rattle.deku_fields.specs.Runs.{words_of, IsHexText, LosesNewline, IsBegun};
+ghost use Rattle.deku_formats_program.specs.declared.program.Failure.TheVariants.{Fault, Usage};
+ghost use Rattle.deku_formats_program.specs.Forms.{AreNoForm};
+ghost use Rattle.deku_formats_program.specs.Shown.{Ends, IsTold, TellsOf};
+ghost use Rattle.deku_formats_program.specs.Runs.{status_of, message, IsDone, IsShown, IsRecord, AsksForRecord, InputStops};
+
+use crate::compared::first_difference;
+use crate::shown::Shown;
+use crate::words::{Asked, Format, parse_words};
+use deku::prelude::{DekuError, DekuReader, Reader};
+use deku_fields::give_text;
+use deku_formats::can::Chassis;
+use deku_formats::ccsds::Telemetry;
+use deku_formats::ipv4::Ipv4;
+use deku_formats::png::Png;
+use deku_formats::udp::Udp;
+use deku_symmetry::Symmetric;
+use hex::FromHexError;
+use std::alloc::{AllocError, AllocFailed, Global};
+use std::fmt::Write as _;
+use std::io;
+use std::io::{Cursor, ErrorKind, Read, Write};
+
+/// Why a run ends without what was asked for.
+#[derive(Drop)]
+enum Failure {
+    /// The arguments are not of a form that the program knows.
+    Usage,
+    /// The input is not hexadecimal text.
+    BadText,
+    /// The input, the output or the memory failed, or the record was not written.
+    Fault(DekuError),
+    /// The record was refused in this field, when so many bits were read.
+    Refused(DekuError, &'static str, usize),
+}
+
+impl From<DekuError> for Failure {
+    ghost from_gives = { λ fault e. e ≡ Fault fault };
+
+    fn from(fault: DekuError) -> Failure {
+        Failure::Fault(fault)
+    }
+}
+
+impl From<io::Error> for Failure {
+    ghost from_gives = { λ error e. e ≡ Fault (Io (error_kind error)) };
+
+    fn from(error: io::Error) -> Failure {
+        Failure::Fault(DekuError::Io(error.kind()))
+    }
+}
+
+impl<T: Drop> From<AllocFailed<T>> for Failure {
+    ghost from_gives = { λ _ e. e ≡ Fault (Io OutOfMemory) };
+
+    fn from(_failed: AllocFailed<T>) -> Failure {
+        Failure::Fault(DekuError::Io(ErrorKind::OutOfMemory))
+    }
+}
+
+impl From<AllocError> for Failure {
+    ghost from_gives = { λ _ e. e ≡ Fault (Io OutOfMemory) };
+
+    fn from(_error: AllocError) -> Failure {
+        Failure::Fault(DekuError::Io(ErrorKind::OutOfMemory))
+    }
+}
+
+const NAMES: &str = "can\nccsds\nipv4\npng\nudp\n";
+
+const HELP: &str = "formats         prints the names of the formats
+formats NAME    reads hexadecimal text, prints the fields of the record that it begins with,
+                writes them back, and says whether that is what was read
+formats --help  prints this
+";
+
+/// Runs the program on the arguments after its name, and answers its status: 0 where it is done, 1 where the input, the output, the memory or the record stood in the way, and 2
+/// where the arguments are not of a form that it knows.
+///
+/// Without an argument it prints the names of the formats. With a name it reads hexadecimal text, of either case and without one newline at its end, and prints a line for each field
+/// of the record that the bytes begin with, its name and its value. Then it writes the record, and prints `same` where its bytes are those that were read, or `differs at byte` and
+/// the first of them; and at last `left` and how many bytes stand behind the record.
+///
+/// A run that is not done is told of in one line on `errors`: the usage with status 2, and with status 1 `error: bad hexadecimal text`, or `error: ` and the text of the fault;
+/// where a record is refused that line has the field and how many bits were read. The arguments are looked at before the input, and nothing goes to the output until all of the text
+/// is known, so it gains nothing then but what a failing output took. A fault of `errors` changes nothing.
+///
+/// ```text
+/// udp     // on 9cbbd11f000afe1d prints source 40123, .., same and left 0; status 0
+/// udp     // on 9cbbd1 tells error: Not enough data, need 16 bits (or 2 bytes), in target, at bit 16; status 1
+/// ```
+pub fn run<R: Read, W: Write, E: Write>(
+    alloc: Global,
+    args: &[String],
+    input: &mut R,
+    output: &mut W,
+    errors: &mut E,
+) -> u8
+    ensures status { result ≤ 2 }
+    ensures done { result ≡ 0 → IsDone (words_of args.now) (R.remaining input.old) (W.contents output.old) (W.contents output.new) }
+    ensures quiet { result ≡ 0 → errors.new ≡ errors.old }
+    ensures usage { result ≡ 2 → AreNoForm (words_of args.now) × (input.new ≡ input.old) × (output.new ≡ output.old) }
+    ensures told { result ≡ 2 → IfSome (message Usage) (IsBegun (E.contents errors.old) (E.contents errors.new)) }
+    ensures unread { AsksForRecord (words_of args.now) ⊎ (input.new ≡ input.old) }
+{
+    let Err(failure) = command(alloc, args, input, output) else {
+        return 0;
+    };
+    let _ = complain(errors, &failure);
+    status_of(&failure)
+}
+
+// The status of a run that ends so.
+fn status_of(failure: &Failure) -> u8
+    ensures { result ≡ status_of failure.now }
+{
+    match failure {
+        Failure::Usage => 2,
+        Failure::BadText | Failure::Fault(_) | Failure::Refused(_, _, _) => 1,
+    }
+}
+
+// Tells of a failure in a line, of which `errors` takes a beginning where it fails.
+fn complain<E: Write>(errors: &mut E, failure: &Failure) -> io::Result<()>
+    ensures told { OnOk result (IfSome (message failure.now) (Appends (E.contents errors.old) (E.contents errors.new))) }
+    ensures begun { IfSome (message failure.now) (IsBegun (E.contents errors.old) (E.contents errors.new)) }
+{
+    match failure {
+        Failure::Usage => give_text(errors, b"usage: formats [NAME]\n"),
+        Failure::BadText => give_text(errors, b"error: bad hexadecimal text\n"),
+        Failure::Fault(fault) => writeln!(errors, "error: {fault}"),
+        Failure::Refused(fault, field, bit) => {
+            writeln!(errors, "error: {fault}, in {field}, at bit {bit}")
+        }
+    }
+}
+
+fn command<R: Read, W: Write>(
+    alloc: Global,
+    args: &[String],
+    input: &mut R,
+    output: &mut W,
+) -> Result<(), Failure>
+    ensures done { OnOk result (IsDone (words_of args.now) (R.remaining input.old) (W.contents output.old) (W.contents output.new)) }
+    ensures usage { IfErr result (λ e. e ≡ Usage → AreNoForm (words_of args.now) × (input.new ≡ input.old) × (output.new ≡ output.old)) }
+    ensures unread { AsksForRecord (words_of args.now) ⊎ (input.new ≡ input.old) }
+{
+    let Some(form) = parse_words(args) else {
+        return Err(Failure::Usage);
+    };
+    let text = text_of(alloc, form, input)?;
+    give_text(output, text.as_bytes())?;
+    Ok(())
+}
+
+// The text that is asked for.
+fn text_of<R: Read>(alloc: Global, form: Asked, input: &mut R) -> Result<String, Failure>
+    ensures shown { IfOk result (λ text. IsShown form (R.remaining input.old) (string_bytes text)) }
+    ensures usage { IfErr result (λ e. e ≡ Usage → ⊥) }
+    ensures unread { IsRecord form ⊎ (input.new ≡ input.old) }
+{
+    match form {
+        Asked::Names => Ok(String::from_str(alloc, NAMES)?),
+        Asked::Help => Ok(String::from_str(alloc, HELP)?),
+        Asked::Record(format) => {
+            let bytes = read_bytes(alloc, input)?;
+            record_text(alloc, format, bytes.as_slice())
+        }
+    }
+}
+
+// The text of the record of this format that the bytes begin with.
+fn record_text(alloc: Global, format: Format, bytes: &[u8]) -> Result<String, Failure>
+    ensures told { IfOk result (λ text. IsTold bytes.now (string_bytes text)) }
+    ensures usage { IfErr result (λ e. e ≡ Usage → ⊥) }
+{
+    match format {
+        Format::Can => shown::<Chassis>(alloc, bytes),
+        Format::Ccsds => shown::<Telemetry>(alloc, bytes),
+        Format::Ipv4 => shown::<Ipv4>(alloc, bytes),
+        Format::Png => shown::<Png>(alloc, bytes),
+        Format::Udp => shown::<Udp>(alloc, bytes),
+    }
+}
+
+// The fields of the record that the bytes begin with, whether it is written as it was read, and how many bytes stand behind it.
+fn shown<T: Symmetric<()> + Shown>(alloc: Global, bytes: &[u8]) -> Result<String, Failure>
+    requires reads { T.DekuReader.accepts tt }
+    requires writes { T.DekuWriter.accepts tt }
+    ensures taken { IfOk result (λ text. TellsOf (λ v. T.pieces v tt) bytes.now (string_bytes text)) }
+    ensures told { IfOk result (λ text. IsTold bytes.now (string_bytes text)) }
+    ensures usage { IfErr result (λ e. e ≡ Usage → ⊥) }
+{
+    let (bits, record) = match T::unpack(alloc, bytes, ()) {
+        Ok(read) => read,
+        Err(fault) => return Err(refused::<T>(alloc, bytes, fault)),
+    };
+    let written = record.pack(alloc, ())?;
+    let (read, rest) = bytes.split_at(bits.div_ceil(8).min(bytes.len()));
+    let mut text = String::new(alloc);
+    record.show(&mut text)?;
+    end(&mut text, read, written.as_slice(), rest.len())?;
+    Ok(text)
+}
+
+// Gives whether the bytes that were read are those that were written, and how many are left.
+fn end(text: &mut String, read: &[u8], written: &[u8], left: usize) -> Result<(), AllocError>
+    ensures { OnOk result (Ends read.now written.now left (string_bytes text.old) (string_bytes text.new)) }
+{
+    match first_difference(read, written) {
+        None => writeln!(text, "same")?,
+        Some(index) => writeln!(text, "differs at byte {index}")?,
+    }
+    writeln!(text, "left {left}")
+}
+
+// This refusal of the bytes, with the field where it came and how many bits were read then: a check is one of the field that was read, and else it came before the field was known.
+fn refused<T: DekuReader<()> + Shown>(alloc: Global, bytes: &[u8], fault: DekuError) -> Failure
+    requires { T.accepts tt }
+    ensures { result ≡ Usage → ⊥ }
+{
+    let mut reader = Reader::new(alloc, Cursor::new(bytes));
+    let _ = T::from_reader_with_ctx(&mut reader, ());
+    let bits = reader.bits_read();
+    let bit = match fault {
+        DekuError::Assertion(_) => bits.saturating_sub(1),
+        _ => bits,
+    };
+    Failure::Refused(fault, T::field_at(bit), bits)
+}
+
+// The bytes that hexadecimal text names, without one last newline.
+fn read_bytes<R: Read>(alloc: Global, input: &mut R) -> Result<Vec<u8>, Failure>
+    ensures shown { IfOk result (λ bytes. IfSome (R.remaining input.old) (λ text. IsHexText text bytes.items)) }
+    ensures stops { IfErr result (InputStops (R.remaining input.old)) }
+{
+    let mut text: Vec<u8> = Vec::new(alloc);
+    input.read_to_end(&mut text)?;
+    match hex::decode(alloc, without_newline(text.as_slice())) {
+        Ok(bytes) => Ok(bytes),
+        Err(FromHexError::OutOfMemory) => {
+            Err(Failure::Fault(DekuError::Io(ErrorKind::OutOfMemory)))
+        }
+        Err(_) => Err(Failure::BadText),
+    }
+}
+
+// The text without one last newline.
+fn without_newline(text: &[u8]) -> &[u8]
+    ensures { LosesNewline text.now result.now }
+{
+    match text {
+        [inner @ .., b'\n'] => inner,
+        _ => text,
+    }
+}
