@@ -1,7 +1,7 @@
 -- The words that the program knows.
 use Rattle.std.specs.Prelude.{◌≡◌, ℕ, List, [], ◌∷◌, codes}
 use Rattle.deku_formats_program.specs.declared.words.Format.{Format}
-use Rattle.deku_formats_program.specs.declared.words.Format.TheVariants.{Can, Ccsds, Ipv4, Png, Udp}
+use Rattle.deku_formats_program.specs.declared.words.Format.TheVariants.{Can, Ccsds, Dns, Elf, Ipv4, Png, Udp}
 use Rattle.deku_formats_program.specs.declared.words.Asked.{Asked}
 use Rattle.deku_formats_program.specs.declared.words.Asked.TheVariants.{Names, Help, Record}
 
@@ -9,6 +9,8 @@ use Rattle.deku_formats_program.specs.declared.words.Asked.TheVariants.{Names, H
 abbrev pub name_of : Format → List ℕ
 name_of Can = codes "can"
 name_of Ccsds = codes "ccsds"
+name_of Dns = codes "dns"
+name_of Elf = codes "elf"
 name_of Ipv4 = codes "ipv4"
 name_of Png = codes "png"
 name_of Udp = codes "udp"

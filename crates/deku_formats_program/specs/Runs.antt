@@ -14,7 +14,7 @@ use Rattle.deku_formats_program.specs.Shown.{IsTold}
 
 -- the names of the formats
 abbrev pub names : List (List ℕ)
-names = codes "can" ∷ codes "ccsds" ∷ codes "ipv4" ∷ codes "png" ∷ codes "udp" ∷ []
+names = codes "can" ∷ codes "ccsds" ∷ codes "dns" ∷ codes "elf" ∷ codes "ipv4" ∷ codes "png" ∷ codes "udp" ∷ []
 
 -- the input shows bytes in hexadecimal, where it is known, and the text tells of the first of them
 pub record TellsInput (input : Option (List ℕ)) (text : List ℕ) : Type 0 where

@@ -23,6 +23,46 @@ pub const CCSDS: [Place; 7] = [
     ("length", 16),
 ];
 
+/// The same in a question of the domain name system.
+pub const DNS: [Place; 13] = [
+    ("identification", 16),
+    ("response", 1),
+    ("opcode", 4),
+    ("authoritative", 1),
+    ("truncated", 1),
+    ("desired", 1),
+    ("available", 1),
+    ("reserved", 3),
+    ("code", 4),
+    ("questions", 16),
+    ("answers", 16),
+    ("authorities", 16),
+    ("additionals", 16),
+];
+
+/// The same in the file header of an ELF64 file.
+pub const ELF: [Place; 19] = [
+    ("magic", 32),
+    ("class", 8),
+    ("endian", 8),
+    ("identification", 8),
+    ("abi", 8),
+    ("abi_version", 8),
+    ("padding", 56),
+    ("kind", 16),
+    ("machine", 16),
+    ("version", 32),
+    ("entry", 64),
+    ("segments_at", 64),
+    ("sections_at", 64),
+    ("flags", 32),
+    ("header_size", 16),
+    ("segment_size", 16),
+    ("segment_count", 16),
+    ("section_size", 16),
+    ("section_count", 16),
+];
+
 /// The same in the header of an IPv4 packet.
 pub const IPV4: [Place; 13] = [
     ("version", 4),

@@ -15,6 +15,8 @@ use crate::compared::first_difference;
 use crate::shown::Shown;
 use crate::words::{Asked, Format, parse_words};
 use deku::prelude::{DekuError, DekuReader, Reader};
+use deku_dns::query::Query;
+use deku_elf::Elf;
 use deku_fields::give_text;
 use deku_formats::can::Chassis;
 use deku_formats::ccsds::Telemetry;
@@ -73,7 +75,7 @@ impl From<AllocError> for Failure {
     }
 }
 
-const NAMES: &str = "can\nccsds\nipv4\npng\nudp\n";
+const NAMES: &str = "can\nccsds\ndns\nelf\nipv4\npng\nudp\n";
 
 const HELP: &str = "formats         prints the names of the formats
 formats NAME    reads hexadecimal text, prints the fields of the record that it begins with,
@@ -184,6 +186,8 @@ fn record_text(alloc: Global, format: Format, bytes: &[u8]) -> Result<String, Fa
     match format {
         Format::Can => shown::<Chassis>(alloc, bytes),
         Format::Ccsds => shown::<Telemetry>(alloc, bytes),
+        Format::Dns => shown::<Query>(alloc, bytes),
+        Format::Elf => shown::<Elf>(alloc, bytes),
         Format::Ipv4 => shown::<Ipv4>(alloc, bytes),
         Format::Png => shown::<Png>(alloc, bytes),
         Format::Udp => shown::<Udp>(alloc, bytes),
@@ -221,7 +225,7 @@ fn end(text: &mut String, read: &[u8], written: &[u8], left: usize) -> Result<()
     writeln!(text, "left {left}")
 }
 
-// This refusal of the bytes, with the field where it came and how many bits were read then: a check is one of the field that was read, and else it came before the field was known.
+// This refusal of the bytes, with the field where it came and how many bits were read then: a check and an unknown id are of the field that was read, and else it came before the field was known.
 fn refused<T: DekuReader<()> + Shown>(alloc: Global, bytes: &[u8], fault: DekuError) -> Failure
     requires { T.accepts tt }
     ensures { result ≡ Usage → ⊥ }
@@ -230,7 +234,7 @@ fn refused<T: DekuReader<()> + Shown>(alloc: Global, bytes: &[u8], fault: DekuEr
     let _ = T::from_reader_with_ctx(&mut reader, ());
     let bits = reader.bits_read();
     let bit = match fault {
-        DekuError::Assertion(_) => bits.saturating_sub(1),
+        DekuError::Assertion(_) | DekuError::IdVariantNotFound => bits.saturating_sub(1),
         _ => bits,
     };
     Failure::Refused(fault, T::field_at(bit), bits)

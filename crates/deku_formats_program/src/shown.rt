@@ -1,6 +1,12 @@
 //! Records field by field.
 
-use crate::places::{CAN, CCSDS, IPV4, PNG, UDP, name_at};
+use crate::places::{CAN, CCSDS, DNS, ELF, IPV4, PNG, UDP, name_at};
+use deku::ctx::Endian;
+use deku_dns::header::Header;
+use deku_dns::label::Label;
+use deku_dns::query::Query;
+use deku_elf::Elf;
+use deku_elf::fields::Fields;
 use deku_formats::can::Chassis;
 use deku_formats::ccsds::Telemetry;
 use deku_formats::ipv4::Ipv4;
@@ -53,6 +59,102 @@ impl Shown for Telemetry {
     fn field_at(bit: usize) -> &'static str {
         name_at(&CCSDS, bit, "samples")
     }
+}
+
+impl Shown for Query {
+    fn show(&self, text: &mut String) -> Result<(), AllocError> {
+        show_header(&self.header, text)?;
+        show_name(self.question.name.items.as_slice(), text)?;
+        writeln!(text, "kind {}", self.question.kind)?;
+        writeln!(text, "class {}", self.question.class)
+    }
+
+    fn field_at(bit: usize) -> &'static str {
+        name_at(&DNS, bit, "question")
+    }
+}
+
+// The lines of a message's header.
+fn show_header(header: &Header, text: &mut String) -> Result<(), AllocError> {
+    writeln!(text, "identification {}", header.identification)?;
+    writeln!(text, "response {}", header.response)?;
+    writeln!(text, "opcode {}", header.opcode)?;
+    writeln!(text, "authoritative {}", header.authoritative)?;
+    writeln!(text, "truncated {}", header.truncated)?;
+    writeln!(text, "desired {}", header.desired)?;
+    writeln!(text, "available {}", header.available)?;
+    writeln!(text, "reserved {}", header.reserved)?;
+    writeln!(text, "code {}", header.code)?;
+    writeln!(text, "questions {}", header.questions)?;
+    writeln!(text, "answers {}", header.answers)?;
+    writeln!(text, "authorities {}", header.authorities)?;
+    writeln!(text, "additionals {}", header.additionals)
+}
+
+// The line of a name: a point behind each label but the empty one, and a point alone where there is no other.
+fn show_name(labels: &[Label], text: &mut String) -> Result<(), AllocError> {
+    write!(text, "name ")?;
+    if labels.len() < 2 {
+        write!(text, ".")?;
+    }
+    for label in labels {
+        show_label(label.bytes.as_slice(), text)?;
+    }
+    writeln!(text)
+}
+
+// A label and its point: letters, digits and hyphens as they are, and another byte as three digits behind a backslash.
+fn show_label(bytes: &[u8], text: &mut String) -> Result<(), AllocError> {
+    for byte in bytes {
+        if byte.is_ascii_alphanumeric() || *byte == b'-' {
+            write!(text, "{}", *byte as char)?;
+        } else {
+            write!(text, "\\{byte:03}")?;
+        }
+    }
+    if bytes.is_empty() {
+        Ok(())
+    } else {
+        write!(text, ".")
+    }
+}
+
+impl Shown for Elf {
+    fn show(&self, text: &mut String) -> Result<(), AllocError> {
+        match self.endian() {
+            Endian::Little => writeln!(text, "endian little")?,
+            Endian::Big => writeln!(text, "endian big")?,
+        }
+        show_fields(self.fields(), text)
+    }
+
+    fn field_at(bit: usize) -> &'static str {
+        name_at(&ELF, bit, "section_names")
+    }
+}
+
+// The lines of the fields behind the endian.
+fn show_fields(fields: &Fields, text: &mut String) -> Result<(), AllocError> {
+    let [version, abi, abi_version, padding @ ..] = &fields.identification;
+    writeln!(text, "identification {version}")?;
+    writeln!(text, "abi {abi}")?;
+    writeln!(text, "abi_version {abi_version}")?;
+    for byte in padding {
+        writeln!(text, "padding {byte}")?;
+    }
+    writeln!(text, "kind {}", fields.kind)?;
+    writeln!(text, "machine {}", fields.machine)?;
+    writeln!(text, "version {}", fields.version)?;
+    writeln!(text, "entry {}", fields.entry)?;
+    writeln!(text, "segments_at {}", fields.segments_at)?;
+    writeln!(text, "sections_at {}", fields.sections_at)?;
+    writeln!(text, "flags {}", fields.flags)?;
+    writeln!(text, "header_size {}", fields.sizes[0])?;
+    writeln!(text, "segment_size {}", fields.sizes[1])?;
+    writeln!(text, "segment_count {}", fields.segment_count)?;
+    writeln!(text, "section_size {}", fields.sections[0])?;
+    writeln!(text, "section_count {}", fields.sections[1])?;
+    writeln!(text, "section_names {}", fields.sections[2])
 }
 
 impl Shown for Ipv4 {

@@ -12,6 +12,10 @@ pub enum Format {
     Can,
     /// A space packet of telemetry.
     Ccsds,
+    /// A question of the domain name system.
+    Dns,
+    /// The file header of an ELF64 file.
+    Elf,
     /// The header of an IPv4 packet.
     Ipv4,
     /// The beginning of a PNG file.
@@ -38,6 +42,8 @@ pub fn format_named(name: &str) -> Option<Format>
     match name {
         "can" => Some(Format::Can),
         "ccsds" => Some(Format::Ccsds),
+        "dns" => Some(Format::Dns),
+        "elf" => Some(Format::Elf),
         "ipv4" => Some(Format::Ipv4),
         "png" => Some(Format::Png),
         "udp" => Some(Format::Udp),

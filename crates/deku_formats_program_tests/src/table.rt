@@ -8,7 +8,7 @@ pub type Run = (
 );
 
 /// One record of each format, as it was sent, encoded or worked out.
-pub const RECORDS: [Run; 6] = [
+pub const RECORDS: [Run; 9] = [
     (
         &["udp"],
         "9cbbd11f000afe1d6869\n",
@@ -63,13 +63,40 @@ pub const RECORDS: [Run; 6] = [
             "",
         ),
     ),
+    (
+        &["dns"],
+        "50650100000100000000000003777777076578616d706c6503636f6d0000010001",
+        (
+            0,
+            "identification 20581\nresponse 0\nopcode 0\nauthoritative 0\ntruncated 0\ndesired 1\navailable 0\nreserved 0\ncode 0\nquestions 1\nanswers 0\nauthorities 0\nadditionals 0\nname www.example.com.\nkind 1\nclass 1\nsame\nleft 0\n",
+            "",
+        ),
+    ),
+    (
+        &["dns"],
+        "0000000000010000000000000361205c00000200010c",
+        (
+            0,
+            "identification 0\nresponse 0\nopcode 0\nauthoritative 0\ntruncated 0\ndesired 0\navailable 0\nreserved 0\ncode 0\nquestions 1\nanswers 0\nauthorities 0\nadditionals 0\nname a\\032\\092.\nkind 2\nclass 1\nsame\nleft 1\n",
+            "",
+        ),
+    ),
+    (
+        &["elf"],
+        "7f454c4602010100000000000000000003003e0001000000d0230000000000004000000000000000908300000000000000000000400038000d0040001f001e00",
+        (
+            0,
+            "endian little\nidentification 1\nabi 0\nabi_version 0\npadding 0\npadding 0\npadding 0\npadding 0\npadding 0\npadding 0\npadding 0\nkind 3\nmachine 62\nversion 1\nentry 9168\nsegments_at 64\nsections_at 33680\nflags 0\nheader_size 64\nsegment_size 56\nsegment_count 13\nsection_size 64\nsection_count 31\nsection_names 30\nsame\nleft 0\n",
+            "",
+        ),
+    ),
 ];
 
 const USAGE: &str = "usage: formats [NAME]\n";
 
 /// Words that ask for no record.
 pub const WORDS: [Run; 8] = [
-    (&[], "zz", (0, "can\nccsds\nipv4\npng\nudp\n", "")),
+    (&[], "zz", (0, "can\nccsds\ndns\nelf\nipv4\npng\nudp\n", "")),
     (&["--help"], "zz", (0, HELP, "")),
     (&["elf64"], "zz", (2, "", USAGE)),
     (&["UDP"], "zz", (2, "", USAGE)),
@@ -88,7 +115,7 @@ formats --help  prints this
 const BAD_TEXT: &str = "error: bad hexadecimal text\n";
 
 /// What is refused, with the field and the bit of a record.
-pub const REFUSED: [Run; 10] = [
+pub const REFUSED: [Run; 14] = [
     (&["udp"], "9cbbd11", (1, "", BAD_TEXT)),
     (&["udp"], "9c bb", (1, "", BAD_TEXT)),
     (&["udp"], "9cbb\n\n", (1, "", BAD_TEXT)),
@@ -146,5 +173,33 @@ pub const REFUSED: [Run; 10] = [
         &["png"],
         "89504e470a1a0a00",
         (1, "", "error: signature, in signature, at bit 64\n"),
+    ),
+    (
+        &["dns"],
+        "506501000001000000000000c00c00010001",
+        (
+            1,
+            "",
+            "error: Parse error: head without a count, in question, at bit 104\n",
+        ),
+    ),
+    (
+        &["elf"],
+        "4d5a",
+        (
+            1,
+            "",
+            "error: Not enough data, need 32 bits (or 4 bytes), in magic, at bit 0\n",
+        ),
+    ),
+    (
+        &["elf"],
+        "7f454c4601",
+        (1, "", "error: class, in class, at bit 40\n"),
+    ),
+    (
+        &["elf"],
+        "7f454c460203",
+        (1, "", "error: Could not resolve `id` for variant, in endian, at bit 48\n"),
     ),
 ];
