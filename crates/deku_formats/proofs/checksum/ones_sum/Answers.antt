@@ -1,5 +1,6 @@
 use Rattle.std.proofs.Common.{◌∙◌, sym}
-use Rattle.deku_formats.proofs.Carrying.{stepped, ended, whole}
+use Rattle.deku_formats.proofs.Carrying.{stepped}
+use Rattle.deku_formats.proofs.LastByte.{ended, whole}
 use Rattle.deku_formats.proofs.checksum.ones_sum.Goals as goal
 
 pub loop-rest-preserved : goal.loop-rest-preserved
