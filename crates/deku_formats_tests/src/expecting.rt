@@ -18,17 +18,21 @@ pub fn expect_record<T: Symmetric<()> + DekuContainerRead + DekuContainerWrite +
     requires reads { T.DekuReader.accepts tt }
     requires writes { T.DekuWriter.accepts tt }
 {
-    assert_eq!(rt; value.pack(alloc, ())?.as_slice(), bytes);
-    assert_eq!(rt; value.to_bytes(alloc)?.as_slice(), bytes);
+    let (packed, whole) = (value.pack(alloc, ())?, value.to_bytes(alloc)?);
+    assert!(rt;
+        packed.as_slice() == bytes && whole.as_slice() == bytes,
+        "{packed:?}, {whole:?}"
+    );
     let mut more = bytes.to_vec(alloc)?;
     more.push(0x99)?;
     let (count, unpacked) = T::unpack(alloc, more.as_slice(), ())?;
-    assert_eq!(rt; unpacked, *value);
-    assert_eq!(rt; (count / 8, count % 8), (bytes.len(), 0));
     let ((rest, bits), read) = T::from_bytes(alloc, (more.as_slice(), 0))?;
-    assert_eq!(rt; read, *value);
-    assert_eq!(rt; rest, [0x99].as_slice());
-    assert_eq!(rt; bits, 0);
+    assert!(rt;
+        unpacked == *value && read == *value,
+        "{unpacked:?}, {read:?}"
+    );
+    assert!(rt; count / 8 == bytes.len() && count % 8 == 0, "{count} bits");
+    assert!(rt; rest == [0x99].as_slice() && bits == 0, "{rest:?}");
     Ok(())
 }
 

@@ -1,4 +1,4 @@
-//! Tests of `deku_formats`, `deku_dns` and `deku_instructions`, through their public calls: bytes that other tools made, and a packet of telemetry that was worked out by hand from the standard, both ways, and what is refused.
+//! Tests of `deku_formats`, `deku_dns`, `deku_elf` and `deku_instructions`, through their public calls: bytes that other tools made, and a packet of telemetry that was worked out by hand from the standard, both ways, and what is refused.
 #![tactic(auto)]
 
 #[cfg(test)]
@@ -9,6 +9,8 @@ mod files;
 mod instructions;
 #[cfg(test)]
 mod names;
+#[cfg(test)]
+mod objects;
 #[cfg(test)]
 mod packets;
 #[cfg(test)]

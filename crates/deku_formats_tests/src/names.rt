@@ -69,11 +69,7 @@ fn names_refused(rt: HostRuntime) {
     let rows: [(&[u8], DekuError, usize); 4] = [
         (&[0x01, b'a', 0xC0, 0x0C], no_label, 24),
         (&[0x40, b'a'], no_label, 8),
-        (
-            &[0x01, b'a'],
-            DekuError::Incomplete(NeedSize::new(8)),
-            16,
-        ),
+        (&[0x01, b'a'], DekuError::Incomplete(NeedSize::new(8)), 16),
         (
             &[0x00, 0x00, 0x01, 0x00],
             DekuError::Incomplete(NeedSize::new(16)),
@@ -92,7 +88,10 @@ const NO_NAMES: [&[&[u8]]; 3] = [&[], &[b"com"], &[b"", b"com", b""]];
 fn no_names(rt: HostRuntime) -> Result<(), Fail> {
     for labels in NO_NAMES {
         let answer = name(rt.alloc(), labels)?.pack(rt.alloc(), ());
-        assert!(&rt; answer == Err(DekuError::Assertion("items out of step with their end")), "{answer:?}");
+        assert!(&rt;
+            answer == Err(DekuError::Assertion("items out of step with their end")),
+            "{answer:?}"
+        );
     }
     Ok(())
 }
