@@ -135,11 +135,10 @@ impl Shown for Elf {
 
 // The lines of the fields behind the endian.
 fn show_fields(fields: &Fields, text: &mut String) -> Result<(), AllocError> {
-    let [version, abi, abi_version, padding @ ..] = &fields.identification;
-    writeln!(text, "identification {version}")?;
-    writeln!(text, "abi {abi}")?;
-    writeln!(text, "abi_version {abi_version}")?;
-    for byte in padding {
+    writeln!(text, "identification {}", fields.identification[0])?;
+    writeln!(text, "abi {}", fields.identification[1])?;
+    writeln!(text, "abi_version {}", fields.identification[2])?;
+    for byte in &fields.identification[3..] {
         writeln!(text, "padding {byte}")?;
     }
     writeln!(text, "kind {}", fields.kind)?;
