@@ -4,13 +4,12 @@ ghost use Rattle.std.specs.Prelude.{◌≡◌, ◌<◌, ◌/◌, ◌%◌, ◌^�
 ghost use Rattle.deku_instructions.specs.Riscv.{bits_below, halves_of};
 ghost use Rattle.deku_pieces.specs.Scattered.{low_of, high_of};
 
-use crate::riscv::Code;
 use deku::device::{Sink, Source};
 use deku::prelude::{
     DekuContainerRead, DekuContainerWrite, DekuError, DekuReader, DekuWriter, Reader, Writer,
 };
 use deku_symmetry::scattered::{high_bits, low_bits};
-use deku_symmetry::{Fixed, Lsb, Parted, Record, ToParts, read_record, write_record};
+use deku_symmetry::{Lsb, Parted, Record, ToParts, read_record, write_record};
 
 /// The operands of a branch (B). The way lies in four places: `halves` joins them.
 #[derive(Debug, Clone, Copy, PartialEq, Eq)]
@@ -76,7 +75,6 @@ impl Branch {
 
 // The fields as they lie.
 type Parts = (
-    Fixed<Lsb<u8, 7>, Code<0x63>>,
     Lsb<u32, 1>,
     Lsb<u32, 4>,
     Lsb<u8, 3>,
@@ -91,21 +89,13 @@ impl Parted<()> for Branch {
 
     type Parts = Parts;
 
-    ghost parts_of = { λ r. (record { part = record {}; constant = record {} }, record { 0 = r.top }, record { 0 = r.low }, record { 0 = r.function }, record { 0 = r.first }, record { 0 = r.second }, record { 0 = r.middle }, record { 0 = r.sign }) };
+    ghost parts_of = { λ r. (record { 0 = r.top }, record { 0 = r.low }, record { 0 = r.function }, record { 0 = r.first }, record { 0 = r.second }, record { 0 = r.middle }, record { 0 = r.sign }) };
 
-    ghost record_of = { λ p. record { top = p.1.0; low = p.2.0; function = p.3.0; first = p.4.0; second = p.5.0; middle = p.6.0; sign = p.7.0 } };
+    ghost record_of = { λ p. record { top = p.0.0; low = p.1.0; function = p.2.0; first = p.3.0; second = p.4.0; middle = p.5.0; sign = p.6.0 } };
 
     fn from_parts(parts: Self::Parts) -> Self {
-        let (
-            _,
-            Lsb(top),
-            Lsb(low),
-            Lsb(function),
-            Lsb(first),
-            Lsb(second),
-            Lsb(middle),
-            Lsb(sign),
-        ) = parts;
+        let (Lsb(top), Lsb(low), Lsb(function), Lsb(first), Lsb(second), Lsb(middle), Lsb(sign)) =
+            parts;
         Branch {
             top,
             low,
@@ -123,7 +113,6 @@ impl Parted<()> for Branch {
 impl ToParts<()> for Branch {
     fn parts(&self) -> Self::Parts {
         (
-            Fixed::new(),
             Lsb(self.top),
             Lsb(self.low),
             Lsb(self.function),

@@ -9,8 +9,6 @@ use deku_symmetry::{Lsb, Parted, Record, ToParts, read_record, write_record};
 /// The operands of an operation on a register and a number (I).
 #[derive(Debug, Clone, Copy, PartialEq, Eq)]
 pub struct Immediate {
-    /// What it is, 7 bits: 0x03 a load, 0x0F a fence, 0x13 an operation, 0x67 `jalr`, 0x73 a call of the system.
-    pub code: u8,
     /// The register that is written, 5 bits.
     pub target: u8,
     /// Which operation, 3 bits.
@@ -22,21 +20,20 @@ pub struct Immediate {
 }
 
 // The fields as they lie.
-type Parts = (Lsb<u8, 7>, Lsb<u8, 5>, Lsb<u8, 3>, Lsb<u8, 5>, Lsb<i16, 12>);
+type Parts = (Lsb<u8, 5>, Lsb<u8, 3>, Lsb<u8, 5>, Lsb<i16, 12>);
 
 impl Parted<()> for Immediate {
     ghost use Rattle.std.specs.Prelude.{refl};
 
     type Parts = Parts;
 
-    ghost parts_of = { λ r. (record { 0 = r.code }, record { 0 = r.target }, record { 0 = r.function }, record { 0 = r.base }, record { 0 = r.value }) };
+    ghost parts_of = { λ r. (record { 0 = r.target }, record { 0 = r.function }, record { 0 = r.base }, record { 0 = r.value }) };
 
-    ghost record_of = { λ p. record { code = p.0.0; target = p.1.0; function = p.2.0; base = p.3.0; value = p.4.0 } };
+    ghost record_of = { λ p. record { target = p.0.0; function = p.1.0; base = p.2.0; value = p.3.0 } };
 
     fn from_parts(parts: Self::Parts) -> Self {
-        let (Lsb(code), Lsb(target), Lsb(function), Lsb(base), Lsb(value)) = parts;
+        let (Lsb(target), Lsb(function), Lsb(base), Lsb(value)) = parts;
         Immediate {
-            code,
             target,
             function,
             base,
@@ -50,7 +47,6 @@ impl Parted<()> for Immediate {
 impl ToParts<()> for Immediate {
     fn parts(&self) -> Self::Parts {
         (
-            Lsb(self.code),
             Lsb(self.target),
             Lsb(self.function),
             Lsb(self.base),

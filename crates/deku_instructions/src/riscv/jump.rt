@@ -4,13 +4,12 @@ ghost use Rattle.std.specs.Prelude.{◌≡◌, ◌<◌, ◌/◌, ◌%◌, ◌^�
 ghost use Rattle.deku_instructions.specs.Riscv.{jump_bits_below, jump_of};
 ghost use Rattle.deku_pieces.specs.Scattered.{low_of, high_of};
 
-use crate::riscv::Code;
 use deku::device::{Sink, Source};
 use deku::prelude::{
     DekuContainerRead, DekuContainerWrite, DekuError, DekuReader, DekuWriter, Reader, Writer,
 };
 use deku_symmetry::scattered::{high_bits, low_bits};
-use deku_symmetry::{Fixed, Lsb, Parted, Record, ToParts, read_record, write_record};
+use deku_symmetry::{Lsb, Parted, Record, ToParts, read_record, write_record};
 
 /// The operands of a jump (J). The way lies in four places: `halves` joins them.
 #[derive(Debug, Clone, Copy, PartialEq, Eq)]
@@ -68,7 +67,6 @@ impl Jump {
 
 // The fields as they lie.
 type Parts = (
-    Fixed<Lsb<u8, 7>, Code<0x6F>>,
     Lsb<u8, 5>,
     Lsb<u32, 8>,
     Lsb<u32, 1>,
@@ -81,12 +79,12 @@ impl Parted<()> for Jump {
 
     type Parts = Parts;
 
-    ghost parts_of = { λ r. (record { part = record {}; constant = record {} }, record { 0 = r.target }, record { 0 = r.high }, record { 0 = r.middle }, record { 0 = r.low }, record { 0 = r.sign }) };
+    ghost parts_of = { λ r. (record { 0 = r.target }, record { 0 = r.high }, record { 0 = r.middle }, record { 0 = r.low }, record { 0 = r.sign }) };
 
-    ghost record_of = { λ p. record { target = p.1.0; high = p.2.0; middle = p.3.0; low = p.4.0; sign = p.5.0 } };
+    ghost record_of = { λ p. record { target = p.0.0; high = p.1.0; middle = p.2.0; low = p.3.0; sign = p.4.0 } };
 
     fn from_parts(parts: Self::Parts) -> Self {
-        let (_, Lsb(target), Lsb(high), Lsb(middle), Lsb(low), Lsb(sign)) = parts;
+        let (Lsb(target), Lsb(high), Lsb(middle), Lsb(low), Lsb(sign)) = parts;
         Jump {
             target,
             high,
@@ -102,7 +100,6 @@ impl Parted<()> for Jump {
 impl ToParts<()> for Jump {
     fn parts(&self) -> Self::Parts {
         (
-            Fixed::new(),
             Lsb(self.target),
             Lsb(self.high),
             Lsb(self.middle),

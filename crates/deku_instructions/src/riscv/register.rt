@@ -1,11 +1,10 @@
 //! Words of two source registers.
 
-use crate::riscv::Code;
 use deku::device::{Sink, Source};
 use deku::prelude::{
     DekuContainerRead, DekuContainerWrite, DekuError, DekuReader, DekuWriter, Reader, Writer,
 };
-use deku_symmetry::{Fixed, Lsb, Parted, Record, ToParts, read_record, write_record};
+use deku_symmetry::{Lsb, Parted, Record, ToParts, read_record, write_record};
 
 /// The operands of an operation on two registers (R).
 #[derive(Debug, Clone, Copy, PartialEq, Eq)]
@@ -23,26 +22,19 @@ pub struct Register {
 }
 
 // The fields as they lie.
-type Parts = (
-    Fixed<Lsb<u8, 7>, Code<0x33>>,
-    Lsb<u8, 5>,
-    Lsb<u8, 3>,
-    Lsb<u8, 5>,
-    Lsb<u8, 5>,
-    Lsb<u8, 7>,
-);
+type Parts = (Lsb<u8, 5>, Lsb<u8, 3>, Lsb<u8, 5>, Lsb<u8, 5>, Lsb<u8, 7>);
 
 impl Parted<()> for Register {
     ghost use Rattle.std.specs.Prelude.{refl};
 
     type Parts = Parts;
 
-    ghost parts_of = { λ r. (record { part = record {}; constant = record {} }, record { 0 = r.target }, record { 0 = r.function }, record { 0 = r.first }, record { 0 = r.second }, record { 0 = r.variant }) };
+    ghost parts_of = { λ r. (record { 0 = r.target }, record { 0 = r.function }, record { 0 = r.first }, record { 0 = r.second }, record { 0 = r.variant }) };
 
-    ghost record_of = { λ p. record { target = p.1.0; function = p.2.0; first = p.3.0; second = p.4.0; variant = p.5.0 } };
+    ghost record_of = { λ p. record { target = p.0.0; function = p.1.0; first = p.2.0; second = p.3.0; variant = p.4.0 } };
 
     fn from_parts(parts: Self::Parts) -> Self {
-        let (_, Lsb(target), Lsb(function), Lsb(first), Lsb(second), Lsb(variant)) = parts;
+        let (Lsb(target), Lsb(function), Lsb(first), Lsb(second), Lsb(variant)) = parts;
         Register {
             target,
             function,
@@ -58,7 +50,6 @@ impl Parted<()> for Register {
 impl ToParts<()> for Register {
     fn parts(&self) -> Self::Parts {
         (
-            Fixed::new(),
             Lsb(self.target),
             Lsb(self.function),
             Lsb(self.first),

@@ -4,13 +4,12 @@ ghost use Rattle.std.specs.Prelude.{◌≡◌, ◌<◌, ◌^◌};
 ghost use Rattle.deku_instructions.specs.Riscv.{offset_of};
 ghost use Rattle.deku_pieces.specs.Scattered.{low_of, high_of};
 
-use crate::riscv::Code;
 use deku::device::{Sink, Source};
 use deku::prelude::{
     DekuContainerRead, DekuContainerWrite, DekuError, DekuReader, DekuWriter, Reader, Writer,
 };
 use deku_symmetry::scattered::{high_bits, low_bits};
-use deku_symmetry::{Fixed, Lsb, Parted, Record, ToParts, read_record, write_record};
+use deku_symmetry::{Lsb, Parted, Record, ToParts, read_record, write_record};
 
 /// The operands of a store (S). The offset lies in two places: `offset` joins them.
 #[derive(Debug, Clone, Copy, PartialEq, Eq)]
@@ -65,26 +64,19 @@ impl Store {
 }
 
 // The fields as they lie.
-type Parts = (
-    Fixed<Lsb<u8, 7>, Code<0x23>>,
-    Lsb<u32, 5>,
-    Lsb<u8, 3>,
-    Lsb<u8, 5>,
-    Lsb<u8, 5>,
-    Lsb<i32, 7>,
-);
+type Parts = (Lsb<u32, 5>, Lsb<u8, 3>, Lsb<u8, 5>, Lsb<u8, 5>, Lsb<i32, 7>);
 
 impl Parted<()> for Store {
     ghost use Rattle.std.specs.Prelude.{refl};
 
     type Parts = Parts;
 
-    ghost parts_of = { λ r. (record { part = record {}; constant = record {} }, record { 0 = r.low }, record { 0 = r.function }, record { 0 = r.base }, record { 0 = r.source }, record { 0 = r.high }) };
+    ghost parts_of = { λ r. (record { 0 = r.low }, record { 0 = r.function }, record { 0 = r.base }, record { 0 = r.source }, record { 0 = r.high }) };
 
-    ghost record_of = { λ p. record { low = p.1.0; function = p.2.0; base = p.3.0; source = p.4.0; high = p.5.0 } };
+    ghost record_of = { λ p. record { low = p.0.0; function = p.1.0; base = p.2.0; source = p.3.0; high = p.4.0 } };
 
     fn from_parts(parts: Self::Parts) -> Self {
-        let (_, Lsb(low), Lsb(function), Lsb(base), Lsb(source), Lsb(high)) = parts;
+        let (Lsb(low), Lsb(function), Lsb(base), Lsb(source), Lsb(high)) = parts;
         Store {
             low,
             function,
@@ -100,7 +92,6 @@ impl Parted<()> for Store {
 impl ToParts<()> for Store {
     fn parts(&self) -> Self::Parts {
         (
-            Fixed::new(),
             Lsb(self.low),
             Lsb(self.function),
             Lsb(self.base),

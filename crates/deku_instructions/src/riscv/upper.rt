@@ -9,8 +9,6 @@ use deku_symmetry::{Lsb, Parted, Record, ToParts, read_record, write_record};
 /// The operands of a load of the high bits of a register (U).
 #[derive(Debug, Clone, Copy, PartialEq, Eq)]
 pub struct Upper {
-    /// What it is, 7 bits: 0x17 `auipc`, 0x37 `lui`.
-    pub code: u8,
     /// The register that is written, 5 bits.
     pub target: u8,
     /// The high 20 bits of the number, with their sign: the number is 4096 times as much.
@@ -18,24 +16,20 @@ pub struct Upper {
 }
 
 // The fields as they lie.
-type Parts = (Lsb<u8, 7>, Lsb<u8, 5>, Lsb<i32, 20>);
+type Parts = (Lsb<u8, 5>, Lsb<i32, 20>);
 
 impl Parted<()> for Upper {
     ghost use Rattle.std.specs.Prelude.{refl};
 
     type Parts = Parts;
 
-    ghost parts_of = { λ r. (record { 0 = r.code }, record { 0 = r.target }, record { 0 = r.value }) };
+    ghost parts_of = { λ r. (record { 0 = r.target }, record { 0 = r.value }) };
 
-    ghost record_of = { λ p. record { code = p.0.0; target = p.1.0; value = p.2.0 } };
+    ghost record_of = { λ p. record { target = p.0.0; value = p.1.0 } };
 
     fn from_parts(parts: Self::Parts) -> Self {
-        let (Lsb(code), Lsb(target), Lsb(value)) = parts;
-        Upper {
-            code,
-            target,
-            value,
-        }
+        let (Lsb(target), Lsb(value)) = parts;
+        Upper { target, value }
     }
 
     ghost there = { λ r. refl };
@@ -43,7 +37,7 @@ impl Parted<()> for Upper {
 
 impl ToParts<()> for Upper {
     fn parts(&self) -> Self::Parts {
-        (Lsb(self.code), Lsb(self.target), Lsb(self.value))
+        (Lsb(self.target), Lsb(self.value))
     }
 }
 
