@@ -4,37 +4,26 @@ use crate::expecting::{expect_record, expect_refusal};
 use deku::prelude::{DekuContainerWrite, DekuError};
 use deku_instructions::riscv::branch::Branch;
 use deku_instructions::riscv::immediate::Immediate;
+use deku_instructions::riscv::instruction::Instruction;
 use deku_instructions::riscv::jump::Jump;
 use deku_instructions::riscv::register::Register;
 use deku_instructions::riscv::store::Store;
 use deku_instructions::riscv::upper::Upper;
+use deku_symmetry::{Choice, LsbTagged, Only, Symmetric, Tagged};
 use std::test::Fail;
 
-fn register(target: u8, first: u8, second: u8, variant: u8) -> Register {
-    Register {
+fn register(target: u8, first: u8, second: u8, variant: u8) -> Instruction {
+    Instruction::Operate(Register {
         target,
         function: 0,
         first,
         second,
         variant,
-    }
+    })
 }
 
-#[test]
-fn of_registers(rt: HostRuntime) -> Result<(), Fail> {
-    let rows: [(u32, Register); 2] = [
-        (0x007302B3, register(5, 6, 7, 0)), // add x5,x6,x7
-        (0x40C58533, register(10, 11, 12, 32)), // sub x10,x11,x12
-    ];
-    for (word, instruction) in rows {
-        expect_record(&rt, rt.alloc(), &instruction, &word.to_le_bytes())?;
-    }
-    Ok(())
-}
-
-fn immediate(code: u8, target: u8, function: u8, base: u8, value: i16) -> Immediate {
+fn immediate(target: u8, function: u8, base: u8, value: i16) -> Immediate {
     Immediate {
-        code,
         target,
         function,
         base,
@@ -42,14 +31,27 @@ fn immediate(code: u8, target: u8, function: u8, base: u8, value: i16) -> Immedi
     }
 }
 
+fn upper(target: u8, value: i32) -> Upper {
+    Upper { target, value }
+}
+
+// Each code, and the lowest and the highest numbers.
 #[test]
-fn of_numbers(rt: HostRuntime) -> Result<(), Fail> {
-    let rows: [(u32, Immediate); 5] = [
-        (0xFE010113, immediate(0x13, 2, 0, 2, -32)), // addi x2,x2,-32
-        (0xFEC42783, immediate(0x03, 15, 2, 8, -20)), // lw x15,-20(x8)
-        (0x010300E7, immediate(0x67, 1, 0, 6, 16)), // jalr x1,16(x6)
-        (0x00000073, immediate(0x73, 0, 0, 0, 0)), // ecall
-        (0x0FF0000F, immediate(0x0F, 0, 0, 0, 255)), // fence iorw,iorw
+fn words(rt: HostRuntime) -> Result<(), Fail> {
+    let rows: [(u32, Instruction); 13] = [
+        (0x007302B3, register(5, 6, 7, 0)), // add x5,x6,x7
+        (0x40C58533, register(10, 11, 12, 32)), // sub x10,x11,x12
+        (0xFE010113, Instruction::OperateImmediate(immediate(2, 0, 2, -32))), // addi x2,x2,-32
+        (0x12345537, Instruction::LoadUpper(upper(10, 0x12345))), // lui x10,0x12345
+        (0xFFFFF537, Instruction::LoadUpper(upper(10, -1))), // lui x10,0xfffff
+        (0xFE142623, Instruction::Store(Store::new(2, 8, 1, -20))), // sw x1,-20(x8)
+        (0x7EA58FA3, Instruction::Store(Store::new(0, 11, 10, 2047))), // sb x10,2047(x11)
+        (0xFE029CE3, Instruction::Branch(Branch::new(1, 5, 0, -4))), // bne x5,x0, eight bytes back
+        (0x7EB57FE3, Instruction::Branch(Branch::new(7, 10, 11, 2047))), // bgeu x10,x11, 4094 on
+        (0x80B50063, Instruction::Branch(Branch::new(0, 10, 11, -2048))), // beq x10,x11, 4096 back
+        (0x001000EF, Instruction::Jump(Jump::new(1, 0x400))), // jal x1, 0x800 on
+        (0xFFFFF06F, Instruction::Jump(Jump::new(0, -1))), // jal x0, two back
+        (0x800000EF, Instruction::Jump(Jump::new(1, -0x80000))), // jal x1, 0x100000 back
     ];
     for (word, instruction) in rows {
         expect_record(&rt, rt.alloc(), &instruction, &word.to_le_bytes())?;
@@ -57,102 +59,59 @@ fn of_numbers(rt: HostRuntime) -> Result<(), Fail> {
     Ok(())
 }
 
-fn upper(code: u8, target: u8, value: i32) -> Upper {
-    Upper {
-        code,
-        target,
-        value,
-    }
-}
+// The same forms under other codes: loads, jumps by a register, calls to the system, and what is added to the place of the word.
+type Others = LsbTagged<
+    Immediate,
+    Choice<Immediate, Choice<Immediate, Only<Upper, 0x17>, 0x73>, 0x67>,
+    0x03,
+    7,
+>;
 
 #[test]
-fn of_high_bits(rt: HostRuntime) -> Result<(), Fail> {
-    let rows: [(u32, Upper); 3] = [
-        (0x12345537, upper(0x37, 10, 0x12345)), // lui x10,0x12345
-        (0xFFFFF537, upper(0x37, 10, -1)), // lui x10,0xfffff
-        (0x00002197, upper(0x17, 3, 2)), // auipc x3,0x2
+fn other_codes(rt: HostRuntime) -> Result<(), Fail> {
+    let rows: [(u32, Others); 4] = [
+        (0xFEC42783, Tagged::This(immediate(15, 2, 8, -20))), // lw x15,-20(x8)
+        (0x010300E7, Tagged::Other(Choice::This(immediate(1, 0, 6, 16)))), // jalr x1,16(x6)
+        (0x00000073, Tagged::Other(Choice::Other(Choice::This(immediate(0, 0, 0, 0))))), // ecall
+        (0x00002197, Tagged::Other(Choice::Other(Choice::Other(Only(upper(3, 2)))))), // auipc x3,0x2
     ];
-    for (word, instruction) in rows {
-        expect_record(&rt, rt.alloc(), &instruction, &word.to_le_bytes())?;
+    for (word, others) in rows {
+        let bytes = word.to_le_bytes();
+        let (bits, read) = Others::unpack(rt.alloc(), bytes.as_slice(), ())?;
+        assert!(rt; read == others && bits == 32, "{read:?} of {bits} bits");
+        let written = read.pack(rt.alloc(), ())?;
+        assert!(rt; written.as_slice() == bytes.as_slice(), "{read:?}");
     }
     Ok(())
 }
 
-// Stores, branches and jumps, whose numbers lie in several places.
+// The numbers that lie in several places, joined again.
 #[test]
-fn of_stores(rt: HostRuntime) -> Result<(), Fail> {
-    let rows: [(u32, Store, i64); 2] = [
-        (0xFE142623, Store::new(2, 8, 1, -20), -20), // sw x1,-20(x8)
-        (0x7EA58FA3, Store::new(0, 11, 10, 2047), 2047), // sb x10,2047(x11)
-    ];
-    for (word, instruction, offset) in rows {
-        expect_record(&rt, rt.alloc(), &instruction, &word.to_le_bytes())?;
-        assert!(rt; instruction.offset() == offset, "{instruction:?}");
+fn numbers(rt: HostRuntime) {
+    for value in [-2048i32, -20, -1, 0, 31, 32, 2047] {
+        assert!(rt; Store::new(2, 8, 1, value).offset() == value as i64, "{value}");
+        assert!(rt; Branch::new(0, 8, 1, value).halves() == value as i64, "{value}");
+        assert!(rt; Jump::new(1, value).halves() == value as i64, "{value}");
     }
-    Ok(())
 }
 
-#[test]
-fn of_branches(rt: HostRuntime) -> Result<(), Fail> {
-    let rows: [(u32, Branch, i64); 3] = [
-        (0xFE029CE3, Branch::new(1, 5, 0, -4), -4), // bne x5,x0, eight bytes back
-        (0x7EB57FE3, Branch::new(7, 10, 11, 2047), 2047), // bgeu x10,x11, 4094 on
-        (0x80B50063, Branch::new(0, 10, 11, -2048), -2048), // beq x10,x11, 4096 back
-    ];
-    for (word, instruction, halves) in rows {
-        expect_record(&rt, rt.alloc(), &instruction, &word.to_le_bytes())?;
-        assert!(rt; instruction.halves() == halves, "{instruction:?}");
-    }
-    Ok(())
-}
-
-#[test]
-fn of_jumps(rt: HostRuntime) -> Result<(), Fail> {
-    let rows: [(u32, Jump, i64); 3] = [
-        (0x001000EF, Jump::new(1, 0x400), 0x400), // jal x1, 0x800 on
-        (0xFFFFF06F, Jump::new(0, -1), -1), // jal x0, two back
-        (0x800000EF, Jump::new(1, -0x80000), -0x80000), // jal x1, 0x100000 back
-    ];
-    for (word, instruction, halves) in rows {
-        expect_record(&rt, rt.alloc(), &instruction, &word.to_le_bytes())?;
-        assert!(rt; instruction.halves() == halves, "{instruction:?}");
-    }
-    Ok(())
-}
-
-// Words of another code, and ways that no word holds.
+// Words of another code, as loads are: the reader stands behind the code. And numbers that no word holds.
 #[test]
 fn refusals(rt: HostRuntime) {
     let alloc = rt.alloc();
-    expect_refusal::<Register>(
-        &rt,
-        alloc,
-        &[0x13, 0, 0, 0],
-        DekuError::Assertion("code"),
-        7,
-    );
-    expect_refusal::<Store>(
-        &rt,
-        alloc,
-        &[0x63, 0, 0, 0],
-        DekuError::Assertion("code"),
-        7,
-    );
-    expect_refusal::<Branch>(
-        &rt,
-        alloc,
-        &[0x23, 0, 0, 0],
-        DekuError::Assertion("code"),
-        7,
-    );
-    expect_refusal::<Jump>(
-        &rt,
-        alloc,
-        &[0x67, 0, 0, 0],
-        DekuError::Assertion("code"),
-        7,
-    );
-    assert!(rt; Store::new(0, 11, 10, -2049).to_bytes(alloc).is_err());
-    assert!(rt; Branch::new(0, 10, 11, 2048).to_bytes(alloc).is_err());
-    assert!(rt; Jump::new(0, 0x80000).to_bytes(alloc).is_err());
+    for code in [0x03u8, 0x0F, 0x17, 0x67, 0x73, 0x7F] {
+        let bytes = [code, 0, 0, 0];
+        expect_refusal::<Instruction>(&rt, alloc, &bytes, DekuError::IdVariantNotFound, 7);
+    }
+    let refused = [
+        Instruction::Store(Store::new(0, 11, 10, -2049)),
+        Instruction::Branch(Branch::new(0, 10, 11, 2048)),
+        Instruction::Jump(Jump::new(0, 0x80000)),
+        Instruction::OperateImmediate(immediate(2, 0, 2, 2048)),
+        Instruction::LoadUpper(upper(10, -0x80001)),
+        register(32, 0, 0, 0),
+    ];
+    for instruction in refused {
+        assert!(rt; instruction.to_bytes(alloc).is_err(), "{instruction:?}");
+    }
 }

@@ -15,39 +15,8 @@
 
 pub mod branch;
 pub mod immediate;
+pub mod instruction;
 pub mod jump;
 pub mod register;
 pub mod store;
 pub mod upper;
-
-use deku_symmetry::{Constant, Constants, Lsb};
-
-/// The lowest seven bits of a word that is laid in one way alone: another code is refused with `Assertion("code")`.
-#[derive(Debug, PartialEq, Eq, Drop)]
-pub struct Code<const ID: u8>;
-
-impl<const ID: u8> Constant<Lsb<u8, 7>> for Code<ID> {
-    ghost use Rattle.std.specs.Prelude.{codes};
-
-    ghost value = { record { 0 = ID } };
-
-    ghost text = { codes "code" };
-
-    fn value() -> Lsb<u8, 7> {
-        Lsb(ID)
-    }
-
-    fn is_value(part: &Lsb<u8, 7>) -> bool {
-        part.0 == ID
-    }
-
-    fn text() -> &'static str {
-        "code"
-    }
-}
-
-impl<const ID: u8> Constants<Lsb<u8, 7>> for Code<ID> {
-    ghost use Rattle.std.proofs.Common.{ap, sym};
-
-    ghost alike = { λ v e. ap (λ n. record { 0 = n }) (sym e) };
-}

@@ -4,13 +4,13 @@ ghost use Rattle.std.specs.Prelude.{◌≡◌, ◌<◌, ◌/◌, ◌%◌, ◌^�
 ghost use Rattle.deku_instructions.specs.Riscv.{bits_below, halves_of};
 ghost use Rattle.deku_pieces.specs.Scattered.{low_of, high_of};
 
-use crate::riscv::Code;
+use deku::ctx::{BitSize, Endian, NumberCtx, Order};
 use deku::device::{Sink, Source};
 use deku::prelude::{
     DekuContainerRead, DekuContainerWrite, DekuError, DekuReader, DekuWriter, Reader, Writer,
 };
 use deku_symmetry::scattered::{high_bits, low_bits};
-use deku_symmetry::{Fixed, Lsb, Parted, Record, ToParts, read_record, write_record};
+use deku_symmetry::{Lsb, Parted, Symmetric, ToParts, read_record, write_record};
 
 /// The operands of a branch (B). The way lies in four places: `halves` joins them.
 #[derive(Debug, Clone, Copy, PartialEq, Eq)]
@@ -76,7 +76,6 @@ impl Branch {
 
 // The fields as they lie.
 type Parts = (
-    Fixed<Lsb<u8, 7>, Code<0x63>>,
     Lsb<u32, 1>,
     Lsb<u32, 4>,
     Lsb<u8, 3>,
@@ -91,21 +90,13 @@ impl Parted<()> for Branch {
 
     type Parts = Parts;
 
-    ghost parts_of = { λ r. (record { part = record {}; constant = record {} }, record { 0 = r.top }, record { 0 = r.low }, record { 0 = r.function }, record { 0 = r.first }, record { 0 = r.second }, record { 0 = r.middle }, record { 0 = r.sign }) };
+    ghost parts_of = { λ r. (record { 0 = r.top }, record { 0 = r.low }, record { 0 = r.function }, record { 0 = r.first }, record { 0 = r.second }, record { 0 = r.middle }, record { 0 = r.sign }) };
 
-    ghost record_of = { λ p. record { top = p.1.0; low = p.2.0; function = p.3.0; first = p.4.0; second = p.5.0; middle = p.6.0; sign = p.7.0 } };
+    ghost record_of = { λ p. record { top = p.0.0; low = p.1.0; function = p.2.0; first = p.3.0; second = p.4.0; middle = p.5.0; sign = p.6.0 } };
 
     fn from_parts(parts: Self::Parts) -> Self {
-        let (
-            _,
-            Lsb(top),
-            Lsb(low),
-            Lsb(function),
-            Lsb(first),
-            Lsb(second),
-            Lsb(middle),
-            Lsb(sign),
-        ) = parts;
+        let (Lsb(top), Lsb(low), Lsb(function), Lsb(first), Lsb(second), Lsb(middle), Lsb(sign)) =
+            parts;
         Branch {
             top,
             low,
@@ -123,7 +114,6 @@ impl Parted<()> for Branch {
 impl ToParts<()> for Branch {
     fn parts(&self) -> Self::Parts {
         (
-            Fixed::new(),
             Lsb(self.top),
             Lsb(self.low),
             Lsb(self.function),
@@ -133,16 +123,6 @@ impl ToParts<()> for Branch {
             Lsb(self.sign),
         )
     }
-}
-
-impl Record for Branch {
-    ghost use Rattle.std.specs.Prelude.{refl};
-
-    ghost back = { λ p ps h. refl };
-
-    ghost reads = { λ b s r u m. m };
-
-    ghost writes = { λ v b s r u m. m };
 }
 
 impl DekuReader<()> for Branch {
@@ -170,6 +150,35 @@ impl DekuWriter<()> for Branch {
     fn to_writer<W: Sink>(&self, writer: &mut Writer<W>, _ctx: ()) -> Result<(), DekuError> {
         write_record(self, writer, ())
     }
+}
+
+/// The pieces of the parts.
+impl Symmetric<()> for Branch {
+    ghost use Rattle.std.specs.Prelude.{refl};
+    ghost use Rattle.deku_num.specs.Numbers.{byte, unsigned, signed};
+    ghost use Rattle.deku_num.specs.declared.ctx.Endian.TheVariants.{Little};
+    ghost use Rattle.deku_bits.specs.declared.ctx.Order.TheVariants.{Lsb0};
+    ghost use Rattle.deku_pieces.proofs.Tuples.{pair_symmetric, longer_symmetric};
+    ghost use Rattle.deku_pieces.proofs.Turned.{told_symmetric};
+    ghost use Rattle.deku_instructions.specs.Fields.{low, signed_low};
+
+    ghost pieces = { λ v _. ⟦<Parts as Symmetric<()>>⟧.pieces (⟦<Branch as Parted<()>>⟧.parts_of v) tt };
+
+    ghost same = { λ v w. ⟦<Parts as Symmetric<()>>⟧.same (⟦<Branch as Parted<()>>⟧.parts_of v) (⟦<Branch as Parted<()>>⟧.parts_of w) };
+
+    ghost symmetric = { λ _. told_symmetric ⟦<Branch as Parted<()>>⟧.record_of ⟦<Branch as Parted<()>>⟧.parts_of (λ p ps h. refl)
+        (longer_symmetric (low 1 (unsigned 32) (⟦<(Endian, BitSize, Order) as NumberCtx>⟧.parts_of (Little, record { 0 = 1 }, Lsb0)))
+        (longer_symmetric (low 4 (unsigned 32) (⟦<(Endian, BitSize, Order) as NumberCtx>⟧.parts_of (Little, record { 0 = 4 }, Lsb0)))
+        (longer_symmetric (low 3 byte (⟦<(Endian, BitSize, Order) as NumberCtx>⟧.parts_of (Little, record { 0 = 3 }, Lsb0)))
+        (longer_symmetric (low 5 byte (⟦<(Endian, BitSize, Order) as NumberCtx>⟧.parts_of (Little, record { 0 = 5 }, Lsb0)))
+        (longer_symmetric (low 5 byte (⟦<(Endian, BitSize, Order) as NumberCtx>⟧.parts_of (Little, record { 0 = 5 }, Lsb0)))
+        (pair_symmetric (low 6 (unsigned 32) (⟦<(Endian, BitSize, Order) as NumberCtx>⟧.parts_of (Little, record { 0 = 6 }, Lsb0))) (signed_low 1 (signed 32) (⟦<(Endian, BitSize, Order) as NumberCtx>⟧.parts_of (Little, record { 0 = 1 }, Lsb0))))
+        (λ a rest. (a, rest.0, rest.1)) (λ v. v.0) (λ v. (v.1, v.2)) (λ a rest. refl) (λ a rest. refl))
+        (λ a rest. (a, rest.0, rest.1, rest.2)) (λ v. v.0) (λ v. (v.1, v.2, v.3)) (λ a rest. refl) (λ a rest. refl))
+        (λ a rest. (a, rest.0, rest.1, rest.2, rest.3)) (λ v. v.0) (λ v. (v.1, v.2, v.3, v.4)) (λ a rest. refl) (λ a rest. refl))
+        (λ a rest. (a, rest.0, rest.1, rest.2, rest.3, rest.4)) (λ v. v.0) (λ v. (v.1, v.2, v.3, v.4, v.5)) (λ a rest. refl) (λ a rest. refl))
+        (λ a rest. (a, rest.0, rest.1, rest.2, rest.3, rest.4, rest.5)) (λ v. v.0) (λ v. (v.1, v.2, v.3, v.4, v.5, v.6)) (λ a rest. refl) (λ a rest. refl))
+        (λ v b s r u m. m) (λ b s r u m. m) };
 }
 
 impl DekuContainerRead for Branch {}

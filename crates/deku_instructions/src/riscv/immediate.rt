@@ -1,16 +1,15 @@
 //! Words of a source register and a number.
 
+use deku::ctx::{BitSize, Endian, NumberCtx, Order};
 use deku::device::{Sink, Source};
 use deku::prelude::{
     DekuContainerRead, DekuContainerWrite, DekuError, DekuReader, DekuWriter, Reader, Writer,
 };
-use deku_symmetry::{Lsb, Parted, Record, ToParts, read_record, write_record};
+use deku_symmetry::{Lsb, Parted, Symmetric, ToParts, read_record, write_record};
 
 /// The operands of an operation on a register and a number (I).
 #[derive(Debug, Clone, Copy, PartialEq, Eq)]
 pub struct Immediate {
-    /// What it is, 7 bits: 0x03 a load, 0x0F a fence, 0x13 an operation, 0x67 `jalr`, 0x73 a call of the system.
-    pub code: u8,
     /// The register that is written, 5 bits.
     pub target: u8,
     /// Which operation, 3 bits.
@@ -22,21 +21,20 @@ pub struct Immediate {
 }
 
 // The fields as they lie.
-type Parts = (Lsb<u8, 7>, Lsb<u8, 5>, Lsb<u8, 3>, Lsb<u8, 5>, Lsb<i16, 12>);
+type Parts = (Lsb<u8, 5>, Lsb<u8, 3>, Lsb<u8, 5>, Lsb<i16, 12>);
 
 impl Parted<()> for Immediate {
     ghost use Rattle.std.specs.Prelude.{refl};
 
     type Parts = Parts;
 
-    ghost parts_of = { λ r. (record { 0 = r.code }, record { 0 = r.target }, record { 0 = r.function }, record { 0 = r.base }, record { 0 = r.value }) };
+    ghost parts_of = { λ r. (record { 0 = r.target }, record { 0 = r.function }, record { 0 = r.base }, record { 0 = r.value }) };
 
-    ghost record_of = { λ p. record { code = p.0.0; target = p.1.0; function = p.2.0; base = p.3.0; value = p.4.0 } };
+    ghost record_of = { λ p. record { target = p.0.0; function = p.1.0; base = p.2.0; value = p.3.0 } };
 
     fn from_parts(parts: Self::Parts) -> Self {
-        let (Lsb(code), Lsb(target), Lsb(function), Lsb(base), Lsb(value)) = parts;
+        let (Lsb(target), Lsb(function), Lsb(base), Lsb(value)) = parts;
         Immediate {
-            code,
             target,
             function,
             base,
@@ -50,23 +48,12 @@ impl Parted<()> for Immediate {
 impl ToParts<()> for Immediate {
     fn parts(&self) -> Self::Parts {
         (
-            Lsb(self.code),
             Lsb(self.target),
             Lsb(self.function),
             Lsb(self.base),
             Lsb(self.value),
         )
     }
-}
-
-impl Record for Immediate {
-    ghost use Rattle.std.specs.Prelude.{refl};
-
-    ghost back = { λ p ps h. refl };
-
-    ghost reads = { λ b s r u m. m };
-
-    ghost writes = { λ v b s r u m. m };
 }
 
 impl DekuReader<()> for Immediate {
@@ -94,6 +81,29 @@ impl DekuWriter<()> for Immediate {
     fn to_writer<W: Sink>(&self, writer: &mut Writer<W>, _ctx: ()) -> Result<(), DekuError> {
         write_record(self, writer, ())
     }
+}
+
+/// The pieces of the parts.
+impl Symmetric<()> for Immediate {
+    ghost use Rattle.std.specs.Prelude.{refl};
+    ghost use Rattle.deku_num.specs.Numbers.{byte, signed};
+    ghost use Rattle.deku_num.specs.declared.ctx.Endian.TheVariants.{Little};
+    ghost use Rattle.deku_bits.specs.declared.ctx.Order.TheVariants.{Lsb0};
+    ghost use Rattle.deku_pieces.proofs.Tuples.{pair_symmetric, longer_symmetric};
+    ghost use Rattle.deku_pieces.proofs.Turned.{told_symmetric};
+    ghost use Rattle.deku_instructions.specs.Fields.{low, signed_low};
+
+    ghost pieces = { λ v _. ⟦<Parts as Symmetric<()>>⟧.pieces (⟦<Immediate as Parted<()>>⟧.parts_of v) tt };
+
+    ghost same = { λ v w. ⟦<Parts as Symmetric<()>>⟧.same (⟦<Immediate as Parted<()>>⟧.parts_of v) (⟦<Immediate as Parted<()>>⟧.parts_of w) };
+
+    ghost symmetric = { λ _. told_symmetric ⟦<Immediate as Parted<()>>⟧.record_of ⟦<Immediate as Parted<()>>⟧.parts_of (λ p ps h. refl)
+        (longer_symmetric (low 5 byte (⟦<(Endian, BitSize, Order) as NumberCtx>⟧.parts_of (Little, record { 0 = 5 }, Lsb0)))
+        (longer_symmetric (low 3 byte (⟦<(Endian, BitSize, Order) as NumberCtx>⟧.parts_of (Little, record { 0 = 3 }, Lsb0)))
+        (pair_symmetric (low 5 byte (⟦<(Endian, BitSize, Order) as NumberCtx>⟧.parts_of (Little, record { 0 = 5 }, Lsb0))) (signed_low 12 (signed 16) (⟦<(Endian, BitSize, Order) as NumberCtx>⟧.parts_of (Little, record { 0 = 12 }, Lsb0))))
+        (λ a rest. (a, rest.0, rest.1)) (λ v. v.0) (λ v. (v.1, v.2)) (λ a rest. refl) (λ a rest. refl))
+        (λ a rest. (a, rest.0, rest.1, rest.2)) (λ v. v.0) (λ v. (v.1, v.2, v.3)) (λ a rest. refl) (λ a rest. refl))
+        (λ v b s r u m. m) (λ b s r u m. m) };
 }
 
 impl DekuContainerRead for Immediate {}

@@ -4,13 +4,13 @@ ghost use Rattle.std.specs.Prelude.{◌≡◌, ◌<◌, ◌/◌, ◌%◌, ◌^�
 ghost use Rattle.deku_instructions.specs.Riscv.{jump_bits_below, jump_of};
 ghost use Rattle.deku_pieces.specs.Scattered.{low_of, high_of};
 
-use crate::riscv::Code;
+use deku::ctx::{BitSize, Endian, NumberCtx, Order};
 use deku::device::{Sink, Source};
 use deku::prelude::{
     DekuContainerRead, DekuContainerWrite, DekuError, DekuReader, DekuWriter, Reader, Writer,
 };
 use deku_symmetry::scattered::{high_bits, low_bits};
-use deku_symmetry::{Fixed, Lsb, Parted, Record, ToParts, read_record, write_record};
+use deku_symmetry::{Lsb, Parted, Symmetric, ToParts, read_record, write_record};
 
 /// The operands of a jump (J). The way lies in four places: `halves` joins them.
 #[derive(Debug, Clone, Copy, PartialEq, Eq)]
@@ -68,7 +68,6 @@ impl Jump {
 
 // The fields as they lie.
 type Parts = (
-    Fixed<Lsb<u8, 7>, Code<0x6F>>,
     Lsb<u8, 5>,
     Lsb<u32, 8>,
     Lsb<u32, 1>,
@@ -81,12 +80,12 @@ impl Parted<()> for Jump {
 
     type Parts = Parts;
 
-    ghost parts_of = { λ r. (record { part = record {}; constant = record {} }, record { 0 = r.target }, record { 0 = r.high }, record { 0 = r.middle }, record { 0 = r.low }, record { 0 = r.sign }) };
+    ghost parts_of = { λ r. (record { 0 = r.target }, record { 0 = r.high }, record { 0 = r.middle }, record { 0 = r.low }, record { 0 = r.sign }) };
 
-    ghost record_of = { λ p. record { target = p.1.0; high = p.2.0; middle = p.3.0; low = p.4.0; sign = p.5.0 } };
+    ghost record_of = { λ p. record { target = p.0.0; high = p.1.0; middle = p.2.0; low = p.3.0; sign = p.4.0 } };
 
     fn from_parts(parts: Self::Parts) -> Self {
-        let (_, Lsb(target), Lsb(high), Lsb(middle), Lsb(low), Lsb(sign)) = parts;
+        let (Lsb(target), Lsb(high), Lsb(middle), Lsb(low), Lsb(sign)) = parts;
         Jump {
             target,
             high,
@@ -102,7 +101,6 @@ impl Parted<()> for Jump {
 impl ToParts<()> for Jump {
     fn parts(&self) -> Self::Parts {
         (
-            Fixed::new(),
             Lsb(self.target),
             Lsb(self.high),
             Lsb(self.middle),
@@ -110,16 +108,6 @@ impl ToParts<()> for Jump {
             Lsb(self.sign),
         )
     }
-}
-
-impl Record for Jump {
-    ghost use Rattle.std.specs.Prelude.{refl};
-
-    ghost back = { λ p ps h. refl };
-
-    ghost reads = { λ b s r u m. m };
-
-    ghost writes = { λ v b s r u m. m };
 }
 
 impl DekuReader<()> for Jump {
@@ -147,6 +135,31 @@ impl DekuWriter<()> for Jump {
     fn to_writer<W: Sink>(&self, writer: &mut Writer<W>, _ctx: ()) -> Result<(), DekuError> {
         write_record(self, writer, ())
     }
+}
+
+/// The pieces of the parts.
+impl Symmetric<()> for Jump {
+    ghost use Rattle.std.specs.Prelude.{refl};
+    ghost use Rattle.deku_num.specs.Numbers.{byte, unsigned, signed};
+    ghost use Rattle.deku_num.specs.declared.ctx.Endian.TheVariants.{Little};
+    ghost use Rattle.deku_bits.specs.declared.ctx.Order.TheVariants.{Lsb0};
+    ghost use Rattle.deku_pieces.proofs.Tuples.{pair_symmetric, longer_symmetric};
+    ghost use Rattle.deku_pieces.proofs.Turned.{told_symmetric};
+    ghost use Rattle.deku_instructions.specs.Fields.{low, signed_low};
+
+    ghost pieces = { λ v _. ⟦<Parts as Symmetric<()>>⟧.pieces (⟦<Jump as Parted<()>>⟧.parts_of v) tt };
+
+    ghost same = { λ v w. ⟦<Parts as Symmetric<()>>⟧.same (⟦<Jump as Parted<()>>⟧.parts_of v) (⟦<Jump as Parted<()>>⟧.parts_of w) };
+
+    ghost symmetric = { λ _. told_symmetric ⟦<Jump as Parted<()>>⟧.record_of ⟦<Jump as Parted<()>>⟧.parts_of (λ p ps h. refl)
+        (longer_symmetric (low 5 byte (⟦<(Endian, BitSize, Order) as NumberCtx>⟧.parts_of (Little, record { 0 = 5 }, Lsb0)))
+        (longer_symmetric (low 8 (unsigned 32) (⟦<(Endian, BitSize, Order) as NumberCtx>⟧.parts_of (Little, record { 0 = 8 }, Lsb0)))
+        (longer_symmetric (low 1 (unsigned 32) (⟦<(Endian, BitSize, Order) as NumberCtx>⟧.parts_of (Little, record { 0 = 1 }, Lsb0)))
+        (pair_symmetric (low 10 (unsigned 32) (⟦<(Endian, BitSize, Order) as NumberCtx>⟧.parts_of (Little, record { 0 = 10 }, Lsb0))) (signed_low 1 (signed 32) (⟦<(Endian, BitSize, Order) as NumberCtx>⟧.parts_of (Little, record { 0 = 1 }, Lsb0))))
+        (λ a rest. (a, rest.0, rest.1)) (λ v. v.0) (λ v. (v.1, v.2)) (λ a rest. refl) (λ a rest. refl))
+        (λ a rest. (a, rest.0, rest.1, rest.2)) (λ v. v.0) (λ v. (v.1, v.2, v.3)) (λ a rest. refl) (λ a rest. refl))
+        (λ a rest. (a, rest.0, rest.1, rest.2, rest.3)) (λ v. v.0) (λ v. (v.1, v.2, v.3, v.4)) (λ a rest. refl) (λ a rest. refl))
+        (λ v b s r u m. m) (λ b s r u m. m) };
 }
 
 impl DekuContainerRead for Jump {}

@@ -1,11 +1,11 @@
 //! Words of two source registers.
 
-use crate::riscv::Code;
+use deku::ctx::{BitSize, Endian, NumberCtx, Order};
 use deku::device::{Sink, Source};
 use deku::prelude::{
     DekuContainerRead, DekuContainerWrite, DekuError, DekuReader, DekuWriter, Reader, Writer,
 };
-use deku_symmetry::{Fixed, Lsb, Parted, Record, ToParts, read_record, write_record};
+use deku_symmetry::{Lsb, Parted, Symmetric, ToParts, read_record, write_record};
 
 /// The operands of an operation on two registers (R).
 #[derive(Debug, Clone, Copy, PartialEq, Eq)]
@@ -23,26 +23,19 @@ pub struct Register {
 }
 
 // The fields as they lie.
-type Parts = (
-    Fixed<Lsb<u8, 7>, Code<0x33>>,
-    Lsb<u8, 5>,
-    Lsb<u8, 3>,
-    Lsb<u8, 5>,
-    Lsb<u8, 5>,
-    Lsb<u8, 7>,
-);
+type Parts = (Lsb<u8, 5>, Lsb<u8, 3>, Lsb<u8, 5>, Lsb<u8, 5>, Lsb<u8, 7>);
 
 impl Parted<()> for Register {
     ghost use Rattle.std.specs.Prelude.{refl};
 
     type Parts = Parts;
 
-    ghost parts_of = { λ r. (record { part = record {}; constant = record {} }, record { 0 = r.target }, record { 0 = r.function }, record { 0 = r.first }, record { 0 = r.second }, record { 0 = r.variant }) };
+    ghost parts_of = { λ r. (record { 0 = r.target }, record { 0 = r.function }, record { 0 = r.first }, record { 0 = r.second }, record { 0 = r.variant }) };
 
-    ghost record_of = { λ p. record { target = p.1.0; function = p.2.0; first = p.3.0; second = p.4.0; variant = p.5.0 } };
+    ghost record_of = { λ p. record { target = p.0.0; function = p.1.0; first = p.2.0; second = p.3.0; variant = p.4.0 } };
 
     fn from_parts(parts: Self::Parts) -> Self {
-        let (_, Lsb(target), Lsb(function), Lsb(first), Lsb(second), Lsb(variant)) = parts;
+        let (Lsb(target), Lsb(function), Lsb(first), Lsb(second), Lsb(variant)) = parts;
         Register {
             target,
             function,
@@ -58,7 +51,6 @@ impl Parted<()> for Register {
 impl ToParts<()> for Register {
     fn parts(&self) -> Self::Parts {
         (
-            Fixed::new(),
             Lsb(self.target),
             Lsb(self.function),
             Lsb(self.first),
@@ -66,16 +58,6 @@ impl ToParts<()> for Register {
             Lsb(self.variant),
         )
     }
-}
-
-impl Record for Register {
-    ghost use Rattle.std.specs.Prelude.{refl};
-
-    ghost back = { λ p ps h. refl };
-
-    ghost reads = { λ b s r u m. m };
-
-    ghost writes = { λ v b s r u m. m };
 }
 
 impl DekuReader<()> for Register {
@@ -103,6 +85,31 @@ impl DekuWriter<()> for Register {
     fn to_writer<W: Sink>(&self, writer: &mut Writer<W>, _ctx: ()) -> Result<(), DekuError> {
         write_record(self, writer, ())
     }
+}
+
+/// The pieces of the parts.
+impl Symmetric<()> for Register {
+    ghost use Rattle.std.specs.Prelude.{refl};
+    ghost use Rattle.deku_num.specs.Numbers.{byte};
+    ghost use Rattle.deku_num.specs.declared.ctx.Endian.TheVariants.{Little};
+    ghost use Rattle.deku_bits.specs.declared.ctx.Order.TheVariants.{Lsb0};
+    ghost use Rattle.deku_pieces.proofs.Tuples.{pair_symmetric, longer_symmetric};
+    ghost use Rattle.deku_pieces.proofs.Turned.{told_symmetric};
+    ghost use Rattle.deku_instructions.specs.Fields.{low};
+
+    ghost pieces = { λ v _. ⟦<Parts as Symmetric<()>>⟧.pieces (⟦<Register as Parted<()>>⟧.parts_of v) tt };
+
+    ghost same = { λ v w. ⟦<Parts as Symmetric<()>>⟧.same (⟦<Register as Parted<()>>⟧.parts_of v) (⟦<Register as Parted<()>>⟧.parts_of w) };
+
+    ghost symmetric = { λ _. told_symmetric ⟦<Register as Parted<()>>⟧.record_of ⟦<Register as Parted<()>>⟧.parts_of (λ p ps h. refl)
+        (longer_symmetric (low 5 byte (⟦<(Endian, BitSize, Order) as NumberCtx>⟧.parts_of (Little, record { 0 = 5 }, Lsb0)))
+        (longer_symmetric (low 3 byte (⟦<(Endian, BitSize, Order) as NumberCtx>⟧.parts_of (Little, record { 0 = 3 }, Lsb0)))
+        (longer_symmetric (low 5 byte (⟦<(Endian, BitSize, Order) as NumberCtx>⟧.parts_of (Little, record { 0 = 5 }, Lsb0)))
+        (pair_symmetric (low 5 byte (⟦<(Endian, BitSize, Order) as NumberCtx>⟧.parts_of (Little, record { 0 = 5 }, Lsb0))) (low 7 byte (⟦<(Endian, BitSize, Order) as NumberCtx>⟧.parts_of (Little, record { 0 = 7 }, Lsb0))))
+        (λ a rest. (a, rest.0, rest.1)) (λ v. v.0) (λ v. (v.1, v.2)) (λ a rest. refl) (λ a rest. refl))
+        (λ a rest. (a, rest.0, rest.1, rest.2)) (λ v. v.0) (λ v. (v.1, v.2, v.3)) (λ a rest. refl) (λ a rest. refl))
+        (λ a rest. (a, rest.0, rest.1, rest.2, rest.3)) (λ v. v.0) (λ v. (v.1, v.2, v.3, v.4)) (λ a rest. refl) (λ a rest. refl))
+        (λ v b s r u m. m) (λ b s r u m. m) };
 }
 
 impl DekuContainerRead for Register {}

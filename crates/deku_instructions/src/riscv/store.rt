@@ -4,13 +4,13 @@ ghost use Rattle.std.specs.Prelude.{◌≡◌, ◌<◌, ◌^◌};
 ghost use Rattle.deku_instructions.specs.Riscv.{offset_of};
 ghost use Rattle.deku_pieces.specs.Scattered.{low_of, high_of};
 
-use crate::riscv::Code;
+use deku::ctx::{BitSize, Endian, NumberCtx, Order};
 use deku::device::{Sink, Source};
 use deku::prelude::{
     DekuContainerRead, DekuContainerWrite, DekuError, DekuReader, DekuWriter, Reader, Writer,
 };
 use deku_symmetry::scattered::{high_bits, low_bits};
-use deku_symmetry::{Fixed, Lsb, Parted, Record, ToParts, read_record, write_record};
+use deku_symmetry::{Lsb, Parted, Symmetric, ToParts, read_record, write_record};
 
 /// The operands of a store (S). The offset lies in two places: `offset` joins them.
 #[derive(Debug, Clone, Copy, PartialEq, Eq)]
@@ -65,26 +65,19 @@ impl Store {
 }
 
 // The fields as they lie.
-type Parts = (
-    Fixed<Lsb<u8, 7>, Code<0x23>>,
-    Lsb<u32, 5>,
-    Lsb<u8, 3>,
-    Lsb<u8, 5>,
-    Lsb<u8, 5>,
-    Lsb<i32, 7>,
-);
+type Parts = (Lsb<u32, 5>, Lsb<u8, 3>, Lsb<u8, 5>, Lsb<u8, 5>, Lsb<i32, 7>);
 
 impl Parted<()> for Store {
     ghost use Rattle.std.specs.Prelude.{refl};
 
     type Parts = Parts;
 
-    ghost parts_of = { λ r. (record { part = record {}; constant = record {} }, record { 0 = r.low }, record { 0 = r.function }, record { 0 = r.base }, record { 0 = r.source }, record { 0 = r.high }) };
+    ghost parts_of = { λ r. (record { 0 = r.low }, record { 0 = r.function }, record { 0 = r.base }, record { 0 = r.source }, record { 0 = r.high }) };
 
-    ghost record_of = { λ p. record { low = p.1.0; function = p.2.0; base = p.3.0; source = p.4.0; high = p.5.0 } };
+    ghost record_of = { λ p. record { low = p.0.0; function = p.1.0; base = p.2.0; source = p.3.0; high = p.4.0 } };
 
     fn from_parts(parts: Self::Parts) -> Self {
-        let (_, Lsb(low), Lsb(function), Lsb(base), Lsb(source), Lsb(high)) = parts;
+        let (Lsb(low), Lsb(function), Lsb(base), Lsb(source), Lsb(high)) = parts;
         Store {
             low,
             function,
@@ -100,7 +93,6 @@ impl Parted<()> for Store {
 impl ToParts<()> for Store {
     fn parts(&self) -> Self::Parts {
         (
-            Fixed::new(),
             Lsb(self.low),
             Lsb(self.function),
             Lsb(self.base),
@@ -108,16 +100,6 @@ impl ToParts<()> for Store {
             Lsb(self.high),
         )
     }
-}
-
-impl Record for Store {
-    ghost use Rattle.std.specs.Prelude.{refl};
-
-    ghost back = { λ p ps h. refl };
-
-    ghost reads = { λ b s r u m. m };
-
-    ghost writes = { λ v b s r u m. m };
 }
 
 impl DekuReader<()> for Store {
@@ -145,6 +127,31 @@ impl DekuWriter<()> for Store {
     fn to_writer<W: Sink>(&self, writer: &mut Writer<W>, _ctx: ()) -> Result<(), DekuError> {
         write_record(self, writer, ())
     }
+}
+
+/// The pieces of the parts.
+impl Symmetric<()> for Store {
+    ghost use Rattle.std.specs.Prelude.{refl};
+    ghost use Rattle.deku_num.specs.Numbers.{byte, unsigned, signed};
+    ghost use Rattle.deku_num.specs.declared.ctx.Endian.TheVariants.{Little};
+    ghost use Rattle.deku_bits.specs.declared.ctx.Order.TheVariants.{Lsb0};
+    ghost use Rattle.deku_pieces.proofs.Tuples.{pair_symmetric, longer_symmetric};
+    ghost use Rattle.deku_pieces.proofs.Turned.{told_symmetric};
+    ghost use Rattle.deku_instructions.specs.Fields.{low, signed_low};
+
+    ghost pieces = { λ v _. ⟦<Parts as Symmetric<()>>⟧.pieces (⟦<Store as Parted<()>>⟧.parts_of v) tt };
+
+    ghost same = { λ v w. ⟦<Parts as Symmetric<()>>⟧.same (⟦<Store as Parted<()>>⟧.parts_of v) (⟦<Store as Parted<()>>⟧.parts_of w) };
+
+    ghost symmetric = { λ _. told_symmetric ⟦<Store as Parted<()>>⟧.record_of ⟦<Store as Parted<()>>⟧.parts_of (λ p ps h. refl)
+        (longer_symmetric (low 5 (unsigned 32) (⟦<(Endian, BitSize, Order) as NumberCtx>⟧.parts_of (Little, record { 0 = 5 }, Lsb0)))
+        (longer_symmetric (low 3 byte (⟦<(Endian, BitSize, Order) as NumberCtx>⟧.parts_of (Little, record { 0 = 3 }, Lsb0)))
+        (longer_symmetric (low 5 byte (⟦<(Endian, BitSize, Order) as NumberCtx>⟧.parts_of (Little, record { 0 = 5 }, Lsb0)))
+        (pair_symmetric (low 5 byte (⟦<(Endian, BitSize, Order) as NumberCtx>⟧.parts_of (Little, record { 0 = 5 }, Lsb0))) (signed_low 7 (signed 32) (⟦<(Endian, BitSize, Order) as NumberCtx>⟧.parts_of (Little, record { 0 = 7 }, Lsb0))))
+        (λ a rest. (a, rest.0, rest.1)) (λ v. v.0) (λ v. (v.1, v.2)) (λ a rest. refl) (λ a rest. refl))
+        (λ a rest. (a, rest.0, rest.1, rest.2)) (λ v. v.0) (λ v. (v.1, v.2, v.3)) (λ a rest. refl) (λ a rest. refl))
+        (λ a rest. (a, rest.0, rest.1, rest.2, rest.3)) (λ v. v.0) (λ v. (v.1, v.2, v.3, v.4)) (λ a rest. refl) (λ a rest. refl))
+        (λ v b s r u m. m) (λ b s r u m. m) };
 }
 
 impl DekuContainerRead for Store {}

@@ -1,16 +1,15 @@
 //! Words of the high bits of a number.
 
+use deku::ctx::{BitSize, Endian, NumberCtx, Order};
 use deku::device::{Sink, Source};
 use deku::prelude::{
     DekuContainerRead, DekuContainerWrite, DekuError, DekuReader, DekuWriter, Reader, Writer,
 };
-use deku_symmetry::{Lsb, Parted, Record, ToParts, read_record, write_record};
+use deku_symmetry::{Lsb, Parted, Symmetric, ToParts, read_record, write_record};
 
 /// The operands of a load of the high bits of a register (U).
 #[derive(Debug, Clone, Copy, PartialEq, Eq)]
 pub struct Upper {
-    /// What it is, 7 bits: 0x17 `auipc`, 0x37 `lui`.
-    pub code: u8,
     /// The register that is written, 5 bits.
     pub target: u8,
     /// The high 20 bits of the number, with their sign: the number is 4096 times as much.
@@ -18,24 +17,20 @@ pub struct Upper {
 }
 
 // The fields as they lie.
-type Parts = (Lsb<u8, 7>, Lsb<u8, 5>, Lsb<i32, 20>);
+type Parts = (Lsb<u8, 5>, Lsb<i32, 20>);
 
 impl Parted<()> for Upper {
     ghost use Rattle.std.specs.Prelude.{refl};
 
     type Parts = Parts;
 
-    ghost parts_of = { λ r. (record { 0 = r.code }, record { 0 = r.target }, record { 0 = r.value }) };
+    ghost parts_of = { λ r. (record { 0 = r.target }, record { 0 = r.value }) };
 
-    ghost record_of = { λ p. record { code = p.0.0; target = p.1.0; value = p.2.0 } };
+    ghost record_of = { λ p. record { target = p.0.0; value = p.1.0 } };
 
     fn from_parts(parts: Self::Parts) -> Self {
-        let (Lsb(code), Lsb(target), Lsb(value)) = parts;
-        Upper {
-            code,
-            target,
-            value,
-        }
+        let (Lsb(target), Lsb(value)) = parts;
+        Upper { target, value }
     }
 
     ghost there = { λ r. refl };
@@ -43,18 +38,8 @@ impl Parted<()> for Upper {
 
 impl ToParts<()> for Upper {
     fn parts(&self) -> Self::Parts {
-        (Lsb(self.code), Lsb(self.target), Lsb(self.value))
+        (Lsb(self.target), Lsb(self.value))
     }
-}
-
-impl Record for Upper {
-    ghost use Rattle.std.specs.Prelude.{refl};
-
-    ghost back = { λ p ps h. refl };
-
-    ghost reads = { λ b s r u m. m };
-
-    ghost writes = { λ v b s r u m. m };
 }
 
 impl DekuReader<()> for Upper {
@@ -82,6 +67,25 @@ impl DekuWriter<()> for Upper {
     fn to_writer<W: Sink>(&self, writer: &mut Writer<W>, _ctx: ()) -> Result<(), DekuError> {
         write_record(self, writer, ())
     }
+}
+
+/// The pieces of the parts.
+impl Symmetric<()> for Upper {
+    ghost use Rattle.std.specs.Prelude.{refl};
+    ghost use Rattle.deku_num.specs.Numbers.{byte, signed};
+    ghost use Rattle.deku_num.specs.declared.ctx.Endian.TheVariants.{Little};
+    ghost use Rattle.deku_bits.specs.declared.ctx.Order.TheVariants.{Lsb0};
+    ghost use Rattle.deku_pieces.proofs.Tuples.{pair_symmetric};
+    ghost use Rattle.deku_pieces.proofs.Turned.{told_symmetric};
+    ghost use Rattle.deku_instructions.specs.Fields.{low, signed_low};
+
+    ghost pieces = { λ v _. ⟦<Parts as Symmetric<()>>⟧.pieces (⟦<Upper as Parted<()>>⟧.parts_of v) tt };
+
+    ghost same = { λ v w. ⟦<Parts as Symmetric<()>>⟧.same (⟦<Upper as Parted<()>>⟧.parts_of v) (⟦<Upper as Parted<()>>⟧.parts_of w) };
+
+    ghost symmetric = { λ _. told_symmetric ⟦<Upper as Parted<()>>⟧.record_of ⟦<Upper as Parted<()>>⟧.parts_of (λ p ps h. refl)
+        (pair_symmetric (low 5 byte (⟦<(Endian, BitSize, Order) as NumberCtx>⟧.parts_of (Little, record { 0 = 5 }, Lsb0))) (signed_low 20 (signed 32) (⟦<(Endian, BitSize, Order) as NumberCtx>⟧.parts_of (Little, record { 0 = 20 }, Lsb0))))
+        (λ v b s r u m. m) (λ b s r u m. m) };
 }
 
 impl DekuContainerRead for Upper {}
