@@ -1,0 +1,3 @@
+pub mod Beginnings
+pub mod Headers
+pub mod Taken
