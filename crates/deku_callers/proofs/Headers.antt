@@ -1,5 +1,5 @@
 -- The pieces of headers, and what the laws of symmetric types say of them.
-use Rattle.std.proofs.Common.{◌≡◌, ℕ, ◌+◌, ◌*◌, ◌/◌, ◌<◌, ◌^◌, List, [], ◌++◌, length, map, take, All, Option, Result, Ok, Err, MatchResult, IfOk, ap, sym, ◌∙◌, arith, append-nil}
+use Rattle.std.proofs.Common.{◌≡◌, ℕ, ◌*◌, ◌<◌, ◌^◌, List, [], length, map, take, All, Option, Result, Ok, Err, MatchResult, IfOk, ap, sym, ◌∙◌, arith, append-nil}
 use Rattle.std.specs.Borrow.{Bor}
 use Rattle.std.specs.Global.{Vec}
 use Rattle.std.specs.declared.io.ErrorKind.TheVariants.{OutOfMemory}
@@ -17,7 +17,7 @@ use Rattle.deku.specs.Wholes.{Behind, ReadsBytesOnce, WritesOnce}
 use Rattle.deku_symmetry.specs.Symmetric.{breadth}
 use Rattle.deku_symmetry.specs.Pieces.{OfUnsigned, InTurn, high_first}
 use Rattle.deku_symmetry.specs.Packs.{InStep, ToBytesLaw, FromBytesLaw, FoundLaw, WholeBytesLaw}
-use Rattle.deku_symmetry.proofs.HighFirst.{Has, Lies, Lying, in_step, number_lies, turns_lie, unsigned_has, turns_have}
+use Rattle.deku_symmetry.proofs.HighFirst.{Has, Lies, in_step, number_lies, turns_lie, unsigned_has, turns_have}
 use Rattle.deku_formats.specs.declared.udp.Udp.{Udp}
 
 -- aligned pieces of few bits lay out few bytes
@@ -58,7 +58,7 @@ udp_has h (a, b, c, d) =
 word_lies : (n : ℕ) → Lies (Word n) 16
 word_lies n = number_lies (unsigned 16) Whole n
 
-udp_lies : (h : Udp) → Lies (OfUdp h) 64
+pub udp_lies : (h : Udp) → Lies (OfUdp h) 64
 udp_lies h = turns_lie {m = 16} {n = 48} (word_lies h.source) (turns_lie {m = 16} {n = 32} (word_lies h.target) (turns_lie {m = 16} {n = 16} (word_lies h.length) (word_lies h.checksum)))
 
 module _ {W : Udp → Meaning Output (Unit {0})} {R : Meaning (Option Stream) Udp} (to : ToBytesLaw OfUdp W) (from : FromBytesLaw OfUdp SameUdp R) (long : LengthLaw) (h : Udp) (fits : IsOfType h) where

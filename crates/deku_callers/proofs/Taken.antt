@@ -12,7 +12,7 @@ use Rattle.deku_fields.specs.declared.list.Field.{Field}
 use Rattle.deku_fields.specs.declared.list.Item.{Item}
 use Rattle.deku_fields.specs.Items.{IsFitting, IsAllowedField, ArePieces, AlignedFields, Reads, field_shape, fields_of, values_of}
 use Rattle.deku_fields.specs.Headline.{LayoutLaw, BackLaw}
-use Rattle.deku_fields.specs.Promise.{FindsIn, IsCountable, WritesBack}
+use Rattle.deku_fields.specs.Promise.{IsCountable, WritesBack}
 use Rattle.deku_callers.specs.Rewriting.{WritesTaken}
 
 length-cleared : (o : Order) (n : ℕ) (bs : List ℕ) → length (cleared o n bs) ≡ length bs

@@ -8,3 +8,4 @@ pub mod offset;
 pub mod record;
 #[cfg(test)]
 mod same;
+pub mod source;

@@ -4,8 +4,8 @@ ghost use Rattle.std.specs.Prelude.{◌≡◌, take, IfOk, MatchResult};
 ghost use Rattle.std.specs.declared.io.ErrorKind.TheVariants.{OutOfMemory};
 ghost use Rattle.deku.specs.declared.error.DekuError.TheVariants.{Io};
 
-use deku_bits::laws::length_law;
 use deku::prelude::{DekuContainerRead, DekuContainerWrite, DekuError};
+use deku_bits::laws::length_law;
 use deku_formats::udp::Udp;
 use deku_symmetry::laws::{from_bytes_law, to_bytes_law, whole_bytes_law};
 use std::alloc::Global;

@@ -15,12 +15,7 @@ const RECORDS: [(&[u8], &[u8]); 3] = [
 fn patches_a_length(rt: HostRuntime) -> Result<(), Fail> {
     for (row, (payload, record)) in RECORDS.iter().enumerate() {
         if payload.len() < 256 {
-            same_bytes(
-                &rt,
-                row,
-                record_of(rt.alloc(), payload)?.as_slice(),
-                record,
-            );
+            same_bytes(&rt, row, record_of(rt.alloc(), payload)?.as_slice(), record);
         }
     }
     Ok(())

@@ -1,9 +1,9 @@
 //! Lists of fields both ways, run.
 
-use super::rewritten;
-use crate::same::same_bytes;
+use super::{five_there_and_back, rewritten};
+use crate::same::{same, same_bytes};
 use deku::ctx::{Endian, Layout, Order, Size};
-use deku_fields::{Field, Kind};
+use deku_fields::{Field, Kind, Number};
 use std::test::Fail;
 
 // A field, big in `Msb0`.
@@ -45,6 +45,36 @@ fn writes_the_bytes_that_it_took(rt: HostRuntime) -> Result<(), Fail> {
     for (row, (fields, bytes, want)) in rows.iter().enumerate() {
         let written = rewritten(rt.alloc(), bytes, fields)?;
         same_bytes(&rt, row, written.as_slice(), want);
+    }
+    Ok(())
+}
+
+#[test]
+fn five_values_come_back(rt: HostRuntime) -> Result<(), Fail> {
+    let rows: [(u8, u8, u16, u8, i16); 3] = [
+        (0, 0, 0, 0, 0),
+        (4, 9, 0x1001, 5, -2),
+        (15, 15, 0x1FFF, 7, i16::MIN),
+    ];
+    for (row, (version, kind, span, flags, heat)) in rows.iter().enumerate() {
+        if *version < 16 && *kind < 16 && *span < 8192 && *flags < 8 {
+            let (bits, values) = five_there_and_back(
+                rt.alloc(),
+                *version,
+                *kind,
+                *span,
+                *flags,
+                *heat,
+            )?;
+            let want = [
+                Number::Unsigned(*version as u128),
+                Number::Unsigned(*kind as u128),
+                Number::Unsigned(*span as u128),
+                Number::Unsigned(*flags as u128),
+                Number::Signed(*heat as i128),
+            ];
+            same(&rt, row, &(bits, values.as_slice()), &(40, want.as_slice()));
+        }
     }
     Ok(())
 }

@@ -1,9 +1,8 @@
-use Rattle.std.proofs.Common.{◌≡◌, ◌+◌, ◌≤◌, ◌<◌, ℕ, List, [], ◌∷◌, ◌++◌, All, Some, take, drop, length, get_or, arith, refl, ap, sym, ◌∙◌, rules, append-nil}
+use Rattle.std.proofs.Common.{◌≡◌, ◌<◌, ℕ, List, [], ◌∷◌, ◌++◌, All, Some, drop, length, arith, ap, ◌∙◌, rules, append-nil}
 use Rattle.std.proofs.lemmas.List.Elements.{All-from_get_or}
 use Rattle.std.specs.Io.Cursor.{cursor_position, cursor_inner}
 use Rattle.deku_bits.specs.Devices.{Whole, Grows}
 use Rattle.deku_bits.specs.Cursors.{vector_told}
-
 use Rattle.deku_bits.proofs.Handing.{no_fewer_on}
 use Rattle.deku_bits.proofs.WholeLaws.{plain_gave, holds, none_before, one_byte}
 use Rattle.deku_callers.proofs.length.record_of.Goals as goal

@@ -1,4 +1,4 @@
-use Rattle.std.proofs.Common.{◌≡◌, ◌<◌, All, rules, sym, subst}
+use Rattle.std.proofs.Common.{◌<◌, All, rules, sym, subst}
 use Rattle.std.proofs.lemmas.List.Elements.{All-from_get_or}
 use Rattle.deku_bits.specs.Streams.{fresh}
 use Rattle.deku_fields.specs.Items.{Reads}

@@ -1,4 +1,4 @@
-use Rattle.std.proofs.Common.{◌≡◌, ◌+◌, ◌*◌, ◌≤◌, ◌<◌, ℕ, List, All, Some, take, drop, length, get_or, arith, refl, ap, ap₂, sym, ◌∙◌, rules}
+use Rattle.std.proofs.Common.{◌≡◌, ◌+◌, ◌*◌, ◌<◌, ℕ, List, All, Some, drop, get_or, arith, refl, ap, ap₂, ◌∙◌, rules}
 use Rattle.std.proofs.lemmas.List.Elements.{All-drop, All-from_get_or}
 use Rattle.std.specs.Io.Cursor.{cursor_position, cursor_inner}
 use Rattle.deku_bits.specs.declared.ctx.Order.TheVariants.{Msb0}
