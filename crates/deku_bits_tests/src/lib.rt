@@ -17,5 +17,3 @@ mod streams;
 mod taken;
 #[cfg(test)]
 mod words;
-#[cfg(test)]
-mod worked;

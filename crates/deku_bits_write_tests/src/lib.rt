@@ -20,6 +20,4 @@ mod streams;
 #[cfg(test)]
 mod words;
 #[cfg(test)]
-mod worked;
-#[cfg(test)]
 mod writer;

@@ -14,6 +14,4 @@ mod picture;
 #[cfg(test)]
 mod program;
 #[cfg(test)]
-mod rewriting;
-#[cfg(test)]
 mod words;

@@ -1,4 +1,3 @@
 //! `deku_fields::frame`, by the paths that users name.
 
 mod frames;
-mod worked;

@@ -23,5 +23,3 @@ mod report;
 #[cfg(test)]
 mod sample;
 pub mod udp;
-#[cfg(test)]
-mod worked;

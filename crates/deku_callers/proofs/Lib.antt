@@ -1,0 +1,5 @@
+pub mod Beginnings
+pub mod Fronts
+pub mod Headers
+pub mod Returning
+pub mod Taken

@@ -1,0 +1,42 @@
+//! Frames both ways.
+
+ghost use Rattle.std.specs.Prelude.{◌≡◌, ◌++◌, ℕ, List, IfOk};
+ghost use Rattle.deku_fields.specs.Frames.{SameFrame};
+
+use deku::prelude::{DekuContainerRead, DekuContainerWrite, DekuError};
+use deku_fields::frame::Frame;
+use deku_fields::frame::laws::{read_law, rewrite_law, write_law};
+use std::alloc::Global;
+
+/// A frame of two numbers as bytes, and read from them again: it is that frame.
+pub fn pair_there_and_back(alloc: Global, left: u8, right: u16) -> Result<Frame, DekuError>
+    ensures { IfOk result (λ f. SameFrame (Frame.Pair left right) f) }
+{
+    write_law();
+    read_law();
+    match Frame::pair(left, right) {
+        Ok(frame) => match frame.to_bytes(alloc) {
+            Ok(bytes) => match Frame::from_bytes(alloc, (bytes.as_slice(), 0)) {
+                Ok((_rest, read)) => Ok(read),
+                Err(refusal) => Err(refusal),
+            },
+            Err(refusal) => Err(refusal),
+        },
+        Err(refusal) => Err(refusal),
+    }
+}
+
+/// The frame that is read from any bytes, as bytes again: the bytes begin with them.
+pub fn rewritten(alloc: Global, bytes: &[u8]) -> Result<Vec<u8>, DekuError>
+    ensures { IfOk result (λ v. (after : List ℕ) × (bytes.now ≡ v.items ++ after)) }
+{
+    write_law();
+    rewrite_law();
+    match Frame::from_bytes(alloc, (bytes, 0)) {
+        Ok((_rest, frame)) => frame.to_bytes(alloc),
+        Err(refusal) => Err(refusal),
+    }
+}
+
+#[cfg(test)]
+mod tests;

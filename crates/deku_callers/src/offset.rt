@@ -1,0 +1,32 @@
+//! An offset that is followed.
+
+ghost use Rattle.std.specs.Prelude.{◌≡◌, ◌+◌, ◌*◌, get_or, IfOk};
+
+use deku_bits::ctx::Order;
+use deku_bits::error::DekuError;
+use deku_bits::reader::Reader;
+use std::alloc::Global;
+use std::io::{Cursor, Seek, SeekFrom};
+
+/// The first byte of the record whose place stands in the first two bytes, the high one first.
+///
+/// It is refused with `Incomplete` where the bytes end before it.
+///
+/// ```text
+/// byte_of_record(alloc, &[0x00, 0x04, 0xAA, 0xBB, 0xCC])?    // 0xCC
+/// ```
+pub fn byte_of_record(alloc: Global, bytes: &[u8]) -> Result<u8, DekuError>
+    ensures { IfOk result (λ b. b ≡ get_or bytes.now (256 * get_or bytes.now 0 0 + get_or bytes.now 1 0) 0) }
+{
+    let mut reader = Reader::new(alloc, Cursor::new(bytes));
+    let mut head = [0; 2];
+    reader.read_bytes_const_into(&mut head, Order::Msb0)?;
+    let place = 256 * (head[0] as u64) + (head[1] as u64);
+    reader.seek(SeekFrom::Start(place))?;
+    let mut byte = [0; 1];
+    reader.read_bytes_const_into(&mut byte, Order::Msb0)?;
+    Ok(byte[0])
+}
+
+#[cfg(test)]
+mod tests;

@@ -1,0 +1,44 @@
+//! Records both ways.
+
+ghost use Rattle.std.specs.Prelude.{◌≡◌, take, IfOk, MatchResult};
+ghost use Rattle.std.specs.declared.io.ErrorKind.TheVariants.{OutOfMemory};
+ghost use Rattle.deku.specs.declared.error.DekuError.TheVariants.{Io};
+
+use deku::prelude::{DekuContainerRead, DekuContainerWrite, DekuError};
+use deku_bits::laws::length_law;
+use deku_formats::udp::Udp;
+use deku_symmetry::laws::{from_bytes_law, to_bytes_law, whole_bytes_law};
+use std::alloc::Global;
+
+/// Any header of a datagram as bytes, and read from them again: it is the header, or no memory was found.
+pub fn there_and_back(alloc: Global, header: Udp) -> Result<Udp, DekuError>
+    ensures { MatchResult result (λ h. h ≡ header) (λ e. e ≡ Io OutOfMemory) }
+{
+    to_bytes_law::<Udp>();
+    from_bytes_law::<Udp>();
+    length_law();
+    match header.to_bytes(alloc) {
+        Ok(bytes) => match Udp::from_bytes(alloc, (bytes.as_slice(), 0)) {
+            Ok((_rest, read)) => Ok(read),
+            Err(refusal) => Err(refusal),
+        },
+        Err(refusal) => Err(refusal),
+    }
+}
+
+/// The header that is read from any bytes, as bytes again: they are the first eight of those.
+pub fn rewritten(alloc: Global, bytes: &[u8]) -> Result<Vec<u8>, DekuError>
+    ensures { IfOk result (λ v. v.items ≡ take 8 bytes.now) }
+{
+    to_bytes_law::<Udp>();
+    from_bytes_law::<Udp>();
+    length_law();
+    whole_bytes_law();
+    match Udp::from_bytes(alloc, (bytes, 0)) {
+        Ok((_rest, header)) => header.to_bytes(alloc),
+        Err(refusal) => Err(refusal),
+    }
+}
+
+#[cfg(test)]
+mod tests;
