@@ -200,6 +200,10 @@ pub const REFUSED: [Run; 14] = [
     (
         &["elf"],
         "7f454c460203",
-        (1, "", "error: Could not resolve `id` for variant, in endian, at bit 48\n"),
+        (
+            1,
+            "",
+            "error: Could not resolve `id` for variant, in endian, at bit 48\n",
+        ),
     ),
 ];

@@ -41,14 +41,23 @@ fn words(rt: HostRuntime) -> Result<(), Fail> {
     let rows: [(u32, Instruction); 13] = [
         (0x007302B3, register(5, 6, 7, 0)), // add x5,x6,x7
         (0x40C58533, register(10, 11, 12, 32)), // sub x10,x11,x12
-        (0xFE010113, Instruction::OperateImmediate(immediate(2, 0, 2, -32))), // addi x2,x2,-32
+        (
+            0xFE010113,
+            Instruction::OperateImmediate(immediate(2, 0, 2, -32)),
+        ), // addi x2,x2,-32
         (0x12345537, Instruction::LoadUpper(upper(10, 0x12345))), // lui x10,0x12345
         (0xFFFFF537, Instruction::LoadUpper(upper(10, -1))), // lui x10,0xfffff
         (0xFE142623, Instruction::Store(Store::new(2, 8, 1, -20))), // sw x1,-20(x8)
         (0x7EA58FA3, Instruction::Store(Store::new(0, 11, 10, 2047))), // sb x10,2047(x11)
         (0xFE029CE3, Instruction::Branch(Branch::new(1, 5, 0, -4))), // bne x5,x0, eight bytes back
-        (0x7EB57FE3, Instruction::Branch(Branch::new(7, 10, 11, 2047))), // bgeu x10,x11, 4094 on
-        (0x80B50063, Instruction::Branch(Branch::new(0, 10, 11, -2048))), // beq x10,x11, 4096 back
+        (
+            0x7EB57FE3,
+            Instruction::Branch(Branch::new(7, 10, 11, 2047)),
+        ), // bgeu x10,x11, 4094 on
+        (
+            0x80B50063,
+            Instruction::Branch(Branch::new(0, 10, 11, -2048)),
+        ), // beq x10,x11, 4096 back
         (0x001000EF, Instruction::Jump(Jump::new(1, 0x400))), // jal x1, 0x800 on
         (0xFFFFF06F, Instruction::Jump(Jump::new(0, -1))), // jal x0, two back
         (0x800000EF, Instruction::Jump(Jump::new(1, -0x80000))), // jal x1, 0x100000 back
@@ -71,9 +80,18 @@ type Others = LsbTagged<
 fn other_codes(rt: HostRuntime) -> Result<(), Fail> {
     let rows: [(u32, Others); 4] = [
         (0xFEC42783, Tagged::This(immediate(15, 2, 8, -20))), // lw x15,-20(x8)
-        (0x010300E7, Tagged::Other(Choice::This(immediate(1, 0, 6, 16)))), // jalr x1,16(x6)
-        (0x00000073, Tagged::Other(Choice::Other(Choice::This(immediate(0, 0, 0, 0))))), // ecall
-        (0x00002197, Tagged::Other(Choice::Other(Choice::Other(Only(upper(3, 2)))))), // auipc x3,0x2
+        (
+            0x010300E7,
+            Tagged::Other(Choice::This(immediate(1, 0, 6, 16))),
+        ), // jalr x1,16(x6)
+        (
+            0x00000073,
+            Tagged::Other(Choice::Other(Choice::This(immediate(0, 0, 0, 0)))),
+        ), // ecall
+        (
+            0x00002197,
+            Tagged::Other(Choice::Other(Choice::Other(Only(upper(3, 2))))),
+        ), // auipc x3,0x2
     ];
     for (word, others) in rows {
         let bytes = word.to_le_bytes();
@@ -89,8 +107,14 @@ fn other_codes(rt: HostRuntime) -> Result<(), Fail> {
 #[test]
 fn numbers(rt: HostRuntime) {
     for value in [-2048i32, -20, -1, 0, 31, 32, 2047] {
-        assert!(rt; Store::new(2, 8, 1, value).offset() == value as i64, "{value}");
-        assert!(rt; Branch::new(0, 8, 1, value).halves() == value as i64, "{value}");
+        assert!(rt;
+            Store::new(2, 8, 1, value).offset() == value as i64,
+            "{value}"
+        );
+        assert!(rt;
+            Branch::new(0, 8, 1, value).halves() == value as i64,
+            "{value}"
+        );
         assert!(rt; Jump::new(1, value).halves() == value as i64, "{value}");
     }
 }
