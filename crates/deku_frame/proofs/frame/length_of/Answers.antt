@@ -7,3 +7,6 @@ returns-clause-octets c = All-from_get_or (λ b. b < 256) c.args.bytes.now 0 (λ
 
 pub returns-in_err-length-clause-octets : goal.returns-in_err-length-clause-octets
 returns-in_err-length-clause-octets c = All-from_get_or (λ b. b < 256) c.args.bytes.now 0 (λ i inside. search (rules, c.type_inv.bytes i))
+
+pub returns-clause-ok : goal.returns-clause-ok
+returns-clause-ok c = search rules
