@@ -1,7 +1,7 @@
 -- The words that the program knows.
 use Rattle.std.specs.Prelude.{◌≡◌, ℕ, List, [], ◌∷◌, codes}
 use Rattle.deku_formats_program.specs.declared.words.Format.{Format}
-use Rattle.deku_formats_program.specs.declared.words.Format.TheVariants.{Can, Ccsds, Dns, Elf, Ipv4, Png, Udp}
+use Rattle.deku_formats_program.specs.declared.words.Format.TheVariants.{Can, Ccsds, Dns, Elf, Ipv4, Png, Riscv, Udp}
 use Rattle.deku_formats_program.specs.declared.words.Asked.{Asked}
 use Rattle.deku_formats_program.specs.declared.words.Asked.TheVariants.{Names, Help, Record}
 
@@ -13,6 +13,7 @@ name_of Dns = codes "dns"
 name_of Elf = codes "elf"
 name_of Ipv4 = codes "ipv4"
 name_of Png = codes "png"
+name_of Riscv = codes "riscv"
 name_of Udp = codes "udp"
 
 -- the words ask for this: no word, `--help`, or the name of a format

@@ -2,19 +2,20 @@
 use Rattle.std.specs.Prelude.{◌≡◌, ◌⊎◌, ℕ, List, [], ◌∷◌, flat_map, Option, Some, None, IfSome, codes, ⊤}
 use Rattle.std.specs.Io.KnownBytes.{Appends}
 use Rattle.std.specs.declared.io.ErrorKind.{ErrorKind}
+use Rattle.std.specs.declared.io.ErrorKind.TheVariants.{OutOfMemory}
 use Rattle.deku_bits.specs.declared.error.DekuError.TheVariants.{Io}
-use Rattle.deku_fields.specs.Runs.{line, IsHexText, IsNoHexText}
+use Rattle.deku_fields.specs.Runs.{line, IsHexText, IsNoHexText, IsBegun, IsCutShort}
 use Rattle.deku_formats_program.specs.declared.words.Format.{Format}
 use Rattle.deku_formats_program.specs.declared.words.Asked.{Asked}
 use Rattle.deku_formats_program.specs.declared.words.Asked.TheVariants.{Names, Help, Record}
 use Rattle.deku_formats_program.specs.declared.program.Failure.{Failure}
 use Rattle.deku_formats_program.specs.declared.program.Failure.TheVariants.{Usage, BadText, Fault, Refused}
-use Rattle.deku_formats_program.specs.Forms.{AskFor}
+use Rattle.deku_formats_program.specs.Forms.{AskFor, AreNoForm}
 use Rattle.deku_formats_program.specs.Shown.{IsTold}
 
 -- the names of the formats
 abbrev pub names : List (List ℕ)
-names = codes "can" ∷ codes "ccsds" ∷ codes "dns" ∷ codes "elf" ∷ codes "ipv4" ∷ codes "png" ∷ codes "udp" ∷ []
+names = codes "can" ∷ codes "ccsds" ∷ codes "dns" ∷ codes "elf" ∷ codes "ipv4" ∷ codes "png" ∷ codes "riscv" ∷ codes "udp" ∷ []
 
 -- the input shows bytes in hexadecimal, where it is known, and the text tells of the first of them
 pub record TellsInput (input : Option (List ℕ)) (text : List ℕ) : Type 0 where
@@ -28,13 +29,25 @@ IsShown Names input text = text ≡ flat_map line names
 IsShown Help input text = ⊤
 IsShown (Record format) input text = TellsInput input text
 
+-- the words ask for this text
+abbrev pub Asks : List (List ℕ) → Option (List ℕ) → List ℕ → Type 0
+Asks words input text = (asked : Asked) × AskFor words asked × IsShown asked input text
+
 -- the words ask for a text, and it was given to the output
 pub record IsDone (words : List (List ℕ)) (input before after : Option (List ℕ)) : Type 0 where
-  pub asked : Asked
-  pub form : AskFor words asked
   pub text : List ℕ
-  pub shown : IsShown asked input text
+  pub asked : Asks words input text
   pub given : Appends before after text
+
+-- the text that the words ask for was known, and was not given to the output to its end
+pub record IsUnfinished (words : List (List ℕ)) (input before after : Option (List ℕ)) : Type 0 where
+  pub text : List ℕ
+  pub asked : Asks words input text
+  pub cut : IsCutShort before after text
+
+-- the text that the words ask for was known
+abbrev pub IsKnown : List (List ℕ) → Option (List ℕ) → Type 0
+IsKnown words input = (text : List ℕ) × Asks words input text
 
 -- a record is asked for
 abbrev pub IsRecord : Asked → Type 0
@@ -50,6 +63,29 @@ AsksForRecord words = (f : Format) × AskFor words (Record f)
 abbrev pub InputStops : Option (List ℕ) → Failure → Type 0
 InputStops input e = ((e ≡ BadText) × IfSome input IsNoHexText) ⊎ ((kind : ErrorKind) × (e ≡ Fault (Io kind)))
 
+-- a failure of a record, or of memory for it
+abbrev pub IsOfRecord : Failure → Type 0
+IsOfRecord Usage = ⊥
+IsOfRecord BadText = ⊥
+IsOfRecord (Fault fault) = ⊤
+IsOfRecord (Refused fault field bit) = ⊤
+
+-- the input shows bytes, where it is known, and their record or the memory failed
+abbrev pub RecordStops : Option (List ℕ) → Failure → Type 0
+RecordStops input e = (bytes : List ℕ) × IfSome input (λ shown. IsHexText shown bytes) × IsOfRecord e
+
+-- what stands in the way of a text: the memory, and of a record the input or the record itself
+abbrev pub TextStops : Asked → Option (List ℕ) → Failure → Type 0
+TextStops Names input e = e ≡ Fault (Io OutOfMemory)
+TextStops Help input e = e ≡ Fault (Io OutOfMemory)
+TextStops (Record format) input e = InputStops input e ⊎ RecordStops input e
+
+-- what stands in the way of the words: that they are of no form, what they ask for, or the output, when the text is known
+abbrev pub Stops : List (List ℕ) → Option (List ℕ) → Failure → Type 0
+Stops words input e = ((e ≡ Usage) × AreNoForm words)
+    ⊎ ((asked : Asked) × AskFor words asked × TextStops asked input e)
+    ⊎ ((kind : ErrorKind) × (e ≡ Fault (Io kind)) × IsKnown words input)
+
 -- the status of a run that ends so: 2 where the words are of no form, else 1
 abbrev pub status_of : Failure → ℕ
 status_of Usage = 2
@@ -63,3 +99,11 @@ message Usage = Some (line (codes "usage: formats [NAME]"))
 message BadText = Some (line (codes "error: bad hexadecimal text"))
 message (Fault fault) = None
 message (Refused fault field bit) = None
+
+-- Something stands in the way of the words that a run ends with 1 for, so not their form; and what was told of it, where its text is fixed, is a
+-- beginning of its line.
+pub record IsStopped (words : List (List ℕ)) (input before after : Option (List ℕ)) : Type 0 where
+  pub failure : Failure
+  pub stops : Stops words input failure
+  pub one : status_of failure ≡ 1
+  pub told : IfSome (message failure) (IsBegun before after)

@@ -2,6 +2,7 @@
 #![tactic(auto)]
 
 mod compared;
+mod operands;
 mod places;
 mod program;
 mod shown;

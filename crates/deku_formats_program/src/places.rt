@@ -94,6 +94,9 @@ pub const PNG: [Place; 10] = [
     ("interlace", 8),
 ];
 
+/// The same in an instruction word, whose operands lie as its code says.
+pub const RISCV: [Place; 1] = [("code", 7)];
+
 /// The same in the header of a UDP datagram.
 pub const UDP: [Place; 3] = [("source", 16), ("target", 16), ("length", 16)];
 

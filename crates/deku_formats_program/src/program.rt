@@ -1,6 +1,6 @@
 //! The program: from the name of a format and hexadecimal text to the fields of a record, and back to its bytes.
 
-ghost use Rattle.std.specs.Prelude.{◌≡◌, ◌⊎◌, ◌≤◌, IfSome, IfOk, OnOk, IfErr, string_bytes};
+ghost use Rattle.std.specs.Prelude.{◌≡◌, ◌⊎◌, ◌≤◌, IfSome, IfOk, OnOk, IfErr, OnErr, string_bytes};
 ghost use Rattle.std.specs.Io.KnownBytes.{Appends};
 ghost use Rattle.std.specs.IoError.{error_kind};
 ghost use Rattle.std.specs.declared.io.ErrorKind.TheVariants.{OutOfMemory};
@@ -9,7 +9,7 @@ ghost use Rattle.deku_fields.specs.Runs.{words_of, IsHexText, LosesNewline, IsBe
 ghost use Rattle.deku_formats_program.specs.declared.program.Failure.TheVariants.{Fault, Usage};
 ghost use Rattle.deku_formats_program.specs.Forms.{AreNoForm};
 ghost use Rattle.deku_formats_program.specs.Shown.{Ends, IsTold, TellsOf};
-ghost use Rattle.deku_formats_program.specs.Runs.{status_of, message, IsDone, IsShown, IsRecord, AsksForRecord, InputStops};
+ghost use Rattle.deku_formats_program.specs.Runs.{status_of, message, IsDone, IsUnfinished, IsShown, IsRecord, IsOfRecord, AsksForRecord, InputStops, TextStops, Stops, IsStopped};
 
 use crate::compared::first_difference;
 use crate::shown::Shown;
@@ -23,6 +23,7 @@ use deku_formats::ccsds::Telemetry;
 use deku_formats::ipv4::Ipv4;
 use deku_formats::png::Png;
 use deku_formats::udp::Udp;
+use deku_instructions::riscv::instruction::Instruction;
 use deku_symmetry::Symmetric;
 use hex::FromHexError;
 use std::alloc::{AllocError, AllocFailed, Global};
@@ -75,7 +76,7 @@ impl From<AllocError> for Failure {
     }
 }
 
-const NAMES: &str = "can\nccsds\ndns\nelf\nipv4\npng\nudp\n";
+const NAMES: &str = "can\nccsds\ndns\nelf\nipv4\npng\nriscv\nudp\n";
 
 const HELP: &str = "formats         prints the names of the formats
 formats NAME    reads hexadecimal text, prints the fields of the record that it begins with,
@@ -110,6 +111,8 @@ pub fn run<R: Read, W: Write, E: Write>(
     ensures quiet { result ≡ 0 → errors.new ≡ errors.old }
     ensures usage { result ≡ 2 → AreNoForm (words_of args.now) × (input.new ≡ input.old) × (output.new ≡ output.old) }
     ensures told { result ≡ 2 → IfSome (message Usage) (IsBegun (E.contents errors.old) (E.contents errors.new)) }
+    ensures stopped { result ≡ 1 → IsStopped (words_of args.now) (R.remaining input.old) (E.contents errors.old) (E.contents errors.new) }
+    ensures kept { result ≡ 1 → (output.new ≡ output.old) ⊎ IsUnfinished (words_of args.now) (R.remaining input.old) (W.contents output.old) (W.contents output.new) }
     ensures unread { AsksForRecord (words_of args.now) ⊎ (input.new ≡ input.old) }
 {
     let Err(failure) = command(alloc, args, input, output) else {
@@ -151,7 +154,9 @@ fn command<R: Read, W: Write>(
     output: &mut W,
 ) -> Result<(), Failure>
     ensures done { OnOk result (IsDone (words_of args.now) (R.remaining input.old) (W.contents output.old) (W.contents output.new)) }
+    ensures stops { IfErr result (Stops (words_of args.now) (R.remaining input.old)) }
     ensures usage { IfErr result (λ e. e ≡ Usage → AreNoForm (words_of args.now) × (input.new ≡ input.old) × (output.new ≡ output.old)) }
+    ensures kept { OnErr result ((output.new ≡ output.old) ⊎ IsUnfinished (words_of args.now) (R.remaining input.old) (W.contents output.old) (W.contents output.new)) }
     ensures unread { AsksForRecord (words_of args.now) ⊎ (input.new ≡ input.old) }
 {
     let Some(form) = parse_words(args) else {
@@ -165,6 +170,7 @@ fn command<R: Read, W: Write>(
 // The text that is asked for.
 fn text_of<R: Read>(alloc: Global, form: Asked, input: &mut R) -> Result<String, Failure>
     ensures shown { IfOk result (λ text. IsShown form (R.remaining input.old) (string_bytes text)) }
+    ensures stops { IfErr result (TextStops form (R.remaining input.old)) }
     ensures usage { IfErr result (λ e. e ≡ Usage → ⊥) }
     ensures unread { IsRecord form ⊎ (input.new ≡ input.old) }
 {
@@ -181,7 +187,7 @@ fn text_of<R: Read>(alloc: Global, form: Asked, input: &mut R) -> Result<String,
 // The text of the record of this format that the bytes begin with.
 fn record_text(alloc: Global, format: Format, bytes: &[u8]) -> Result<String, Failure>
     ensures told { IfOk result (λ text. IsTold bytes.now (string_bytes text)) }
-    ensures usage { IfErr result (λ e. e ≡ Usage → ⊥) }
+    ensures stops { IfErr result IsOfRecord }
 {
     match format {
         Format::Can => shown::<Chassis>(alloc, bytes),
@@ -190,6 +196,7 @@ fn record_text(alloc: Global, format: Format, bytes: &[u8]) -> Result<String, Fa
         Format::Elf => shown::<Elf>(alloc, bytes),
         Format::Ipv4 => shown::<Ipv4>(alloc, bytes),
         Format::Png => shown::<Png>(alloc, bytes),
+        Format::Riscv => shown::<Instruction>(alloc, bytes),
         Format::Udp => shown::<Udp>(alloc, bytes),
     }
 }
@@ -200,7 +207,7 @@ fn shown<T: Symmetric<()> + Shown>(alloc: Global, bytes: &[u8]) -> Result<String
     requires writes { T.DekuWriter.accepts tt }
     ensures taken { IfOk result (λ text. TellsOf (λ v. T.pieces v tt) bytes.now (string_bytes text)) }
     ensures told { IfOk result (λ text. IsTold bytes.now (string_bytes text)) }
-    ensures usage { IfErr result (λ e. e ≡ Usage → ⊥) }
+    ensures stops { IfErr result IsOfRecord }
 {
     let (bits, record) = match T::unpack(alloc, bytes, ()) {
         Ok(read) => read,
@@ -228,7 +235,7 @@ fn end(text: &mut String, read: &[u8], written: &[u8], left: usize) -> Result<()
 // This refusal of the bytes, with the field where it came and how many bits were read then: a check and an unknown id are of the field that was read, and else it came before the field was known.
 fn refused<T: DekuReader<()> + Shown>(alloc: Global, bytes: &[u8], fault: DekuError) -> Failure
     requires { T.accepts tt }
-    ensures { result ≡ Usage → ⊥ }
+    ensures { IsOfRecord result }
 {
     let mut reader = Reader::new(alloc, Cursor::new(bytes));
     let _ = T::from_reader_with_ctx(&mut reader, ());

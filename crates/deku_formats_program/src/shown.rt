@@ -1,6 +1,7 @@
 //! Records field by field.
 
-use crate::places::{CAN, CCSDS, DNS, ELF, IPV4, PNG, UDP, name_at};
+use crate::operands::{kind_of, show_operands};
+use crate::places::{CAN, CCSDS, DNS, ELF, IPV4, PNG, RISCV, UDP, name_at};
 use deku::ctx::Endian;
 use deku_dns::header::Header;
 use deku_dns::label::Label;
@@ -12,6 +13,7 @@ use deku_formats::ccsds::Telemetry;
 use deku_formats::ipv4::Ipv4;
 use deku_formats::png::Png;
 use deku_formats::udp::Udp;
+use deku_instructions::riscv::instruction::Instruction;
 use std::alloc::AllocError;
 use std::fmt::Write;
 
@@ -196,6 +198,17 @@ impl Shown for Png {
 
     fn field_at(bit: usize) -> &'static str {
         name_at(&PNG, bit, "crc")
+    }
+}
+
+impl Shown for Instruction {
+    fn show(&self, text: &mut String) -> Result<(), AllocError> {
+        writeln!(text, "kind {}", kind_of(self))?;
+        show_operands(self, text)
+    }
+
+    fn field_at(bit: usize) -> &'static str {
+        name_at(&RISCV, bit, "operands")
     }
 }
 

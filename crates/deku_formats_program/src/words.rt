@@ -20,6 +20,8 @@ pub enum Format {
     Ipv4,
     /// The beginning of a PNG file.
     Png,
+    /// An instruction word of RV32I.
+    Riscv,
     /// The header of a UDP datagram.
     Udp,
 }
@@ -46,6 +48,7 @@ pub fn format_named(name: &str) -> Option<Format>
         "elf" => Some(Format::Elf),
         "ipv4" => Some(Format::Ipv4),
         "png" => Some(Format::Png),
+        "riscv" => Some(Format::Riscv),
         "udp" => Some(Format::Udp),
         _ => None,
     }

@@ -9,7 +9,6 @@ use deku_instructions::riscv::jump::Jump;
 use deku_instructions::riscv::register::Register;
 use deku_instructions::riscv::store::Store;
 use deku_instructions::riscv::upper::Upper;
-use deku_symmetry::{Choice, LsbTagged, Only, Symmetric, Tagged};
 use std::test::Fail;
 
 fn register(target: u8, first: u8, second: u8, variant: u8) -> Instruction {
@@ -38,13 +37,16 @@ fn upper(target: u8, value: i32) -> Upper {
 // Each code, and the lowest and the highest numbers.
 #[test]
 fn words(rt: HostRuntime) -> Result<(), Fail> {
-    let rows: [(u32, Instruction); 13] = [
+    let rows: [(u32, Instruction); 19] = [
+        (0xFEC42783, Instruction::Load(immediate(15, 2, 8, -20))), // lw x15,-20(x8)
+        (0x0FF0000F, Instruction::Fence(immediate(0, 0, 0, 255))), // fence iorw,iorw
         (0x007302B3, register(5, 6, 7, 0)), // add x5,x6,x7
         (0x40C58533, register(10, 11, 12, 32)), // sub x10,x11,x12
         (
             0xFE010113,
             Instruction::OperateImmediate(immediate(2, 0, 2, -32)),
         ), // addi x2,x2,-32
+        (0x00002197, Instruction::AddUpper(upper(3, 2))), // auipc x3,0x2
         (0x12345537, Instruction::LoadUpper(upper(10, 0x12345))), // lui x10,0x12345
         (0xFFFFF537, Instruction::LoadUpper(upper(10, -1))), // lui x10,0xfffff
         (0xFE142623, Instruction::Store(Store::new(2, 8, 1, -20))), // sw x1,-20(x8)
@@ -58,47 +60,18 @@ fn words(rt: HostRuntime) -> Result<(), Fail> {
             0x80B50063,
             Instruction::Branch(Branch::new(0, 10, 11, -2048)),
         ), // beq x10,x11, 4096 back
+        (
+            0x010300E7,
+            Instruction::JumpRegister(immediate(1, 0, 6, 16)),
+        ), // jalr x1,16(x6)
         (0x001000EF, Instruction::Jump(Jump::new(1, 0x400))), // jal x1, 0x800 on
         (0xFFFFF06F, Instruction::Jump(Jump::new(0, -1))), // jal x0, two back
         (0x800000EF, Instruction::Jump(Jump::new(1, -0x80000))), // jal x1, 0x100000 back
+        (0x00000073, Instruction::System(immediate(0, 0, 0, 0))), // ecall
+        (0x00100073, Instruction::System(immediate(0, 0, 0, 1))), // ebreak
     ];
     for (word, instruction) in rows {
         expect_record(&rt, rt.alloc(), &instruction, &word.to_le_bytes())?;
-    }
-    Ok(())
-}
-
-// The same forms under other codes: loads, jumps by a register, calls to the system, and what is added to the place of the word.
-type Others = LsbTagged<
-    Immediate,
-    Choice<Immediate, Choice<Immediate, Only<Upper, 0x17>, 0x73>, 0x67>,
-    0x03,
-    7,
->;
-
-#[test]
-fn other_codes(rt: HostRuntime) -> Result<(), Fail> {
-    let rows: [(u32, Others); 4] = [
-        (0xFEC42783, Tagged::This(immediate(15, 2, 8, -20))), // lw x15,-20(x8)
-        (
-            0x010300E7,
-            Tagged::Other(Choice::This(immediate(1, 0, 6, 16))),
-        ), // jalr x1,16(x6)
-        (
-            0x00000073,
-            Tagged::Other(Choice::Other(Choice::This(immediate(0, 0, 0, 0)))),
-        ), // ecall
-        (
-            0x00002197,
-            Tagged::Other(Choice::Other(Choice::Other(Only(upper(3, 2))))),
-        ), // auipc x3,0x2
-    ];
-    for (word, others) in rows {
-        let bytes = word.to_le_bytes();
-        let (bits, read) = Others::unpack(rt.alloc(), bytes.as_slice(), ())?;
-        assert!(rt; read == others && bits == 32, "{read:?} of {bits} bits");
-        let written = read.pack(rt.alloc(), ())?;
-        assert!(rt; written.as_slice() == bytes.as_slice(), "{read:?}");
     }
     Ok(())
 }
@@ -119,11 +92,11 @@ fn numbers(rt: HostRuntime) {
     }
 }
 
-// Words of another code, as loads are: the reader stands behind the code. And numbers that no word holds.
+// Words of a code that RV32I has not, as those of floating point: the reader stands behind the code. And numbers that no word holds.
 #[test]
 fn refusals(rt: HostRuntime) {
     let alloc = rt.alloc();
-    for code in [0x03u8, 0x0F, 0x17, 0x67, 0x73, 0x7F] {
+    for code in [0x00u8, 0x02, 0x07, 0x27, 0x2F, 0x53, 0x6B, 0x7F] {
         let bytes = [code, 0, 0, 0];
         expect_refusal::<Instruction>(&rt, alloc, &bytes, DekuError::IdVariantNotFound, 7);
     }

@@ -19,4 +19,5 @@ pub mod instruction;
 pub mod jump;
 pub mod register;
 pub mod store;
+pub mod tails;
 pub mod upper;

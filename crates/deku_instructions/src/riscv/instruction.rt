@@ -1,17 +1,14 @@
 //! Whole words: a code, and the operands that it chooses.
-//!
-//! Six codes of RV32I are here, one for each form. Not among them are loads (0x03), `fence` (0x0F), `auipc` (0x17), `jalr` (0x67) and `system` (0x73). A form has no code of its own, so that they are read by another choice of
-//! the same forms, which is `Symmetric<()>` as it stands:
-//!
-//! ```text
-//! type Others = LsbTagged<Immediate, Choice<Immediate, Only<Upper, 0x17>, 0x67>, 0x03, 7>;    // loads, jalr, auipc
-//! ```
+
+ghost use Rattle.std.specs.Prelude.{◌≡◌};
+ghost use Rattle.deku_instructions.specs.Words.{word_gone, word_reckoned, reckoned, gone};
 
 use crate::riscv::branch::Branch;
 use crate::riscv::immediate::Immediate;
 use crate::riscv::jump::Jump;
 use crate::riscv::register::Register;
 use crate::riscv::store::Store;
+use crate::riscv::tails::{Going, Gone, Reckoned, Reckoning};
 use crate::riscv::upper::Upper;
 use deku::device::{Sink, Source};
 use deku::prelude::{
@@ -21,16 +18,22 @@ use deku_symmetry::{
     Choice, LsbTagged, Only, Parted, Record, Tagged, ToParts, read_record, write_record,
 };
 
-/// An instruction word, by its code. Another code is refused with `IdVariantNotFound`, and the reader stands behind the seven bits of the code. A number
-/// that its field does not hold is refused where the word is written, and what was written before stays written.
+/// An instruction word, by its code: the eleven of RV32I. Another code is refused with `IdVariantNotFound`, and the reader stands behind the seven bits of the code. A number
+/// that its field does not hold is refused where the word is written, and what was written before stays written. Which operations there are under a code is not looked at.
 ///
 /// ```text
 /// Instruction::Store(Store::new(2, 8, 1, -20)).to_bytes(alloc)?   // 23 26 14 FE, sw ra, -20(s0)
 /// ```
 #[derive(Debug, Clone, Copy, PartialEq, Eq)]
 pub enum Instruction {
+    /// A load into a register, under 0x03.
+    Load(Immediate),
+    /// An order among loads and stores, under 0x0F.
+    Fence(Immediate),
     /// An operation on a register and a number, under 0x13.
     OperateImmediate(Immediate),
+    /// What is added to the place of the word, as high bits, under 0x17.
+    AddUpper(Upper),
     /// A store of a register, under 0x23.
     Store(Store),
     /// An operation on two registers, under 0x33.
@@ -39,98 +42,115 @@ pub enum Instruction {
     LoadUpper(Upper),
     /// A branch under a condition, under 0x63.
     Branch(Branch),
+    /// A jump to where a register says, under 0x67.
+    JumpRegister(Immediate),
     /// A jump, under 0x6F.
     Jump(Jump),
+    /// A call to the system, under 0x73.
+    System(Immediate),
 }
 
 // A code of seven bits, and what lies under each.
-type Parts = LsbTagged<
-    Immediate,
-    Choice<
-        Store,
-        Choice<Register, Choice<Upper, Choice<Branch, Only<Jump, 0x6F>, 0x63>, 0x37>, 0x33>,
-        0x23,
-    >,
-    0x13,
-    7,
->;
+type Parts = LsbTagged<Immediate, Choice<Immediate, Choice<Store, Reckoning, 0x23>, 0x0F>, 0x03, 7>;
 
 impl Parted<()> for Instruction {
     ghost use Rattle.std.specs.Prelude.{refl};
-    ghost use Rattle.deku_instructions.specs.declared.riscv.instruction.Instruction.TheVariants as word;
-    ghost use Rattle.deku_symmetry.specs.declared.choice.Tagged.TheVariants as first;
-    ghost use Rattle.deku_symmetry.specs.declared.choice.Choice.TheVariants as second;
+    ghost use Rattle.deku_instructions.specs.Words.{parts_of_word, word_of_parts};
+    ghost use Rattle.deku_instructions.specs.declared.riscv.instruction.Instruction.TheVariants.{Load, Fence, OperateImmediate, AddUpper, Store, Operate, LoadUpper, Branch, JumpRegister, Jump, System};
 
     type Parts = Parts;
 
-    ghost parts_of = { elim [
-      | word.OperateImmediate x ↦ first.This x
-      | word.Store x ↦ first.Other (second.This x)
-      | word.Operate x ↦ first.Other (second.Other (second.This x))
-      | word.LoadUpper x ↦ first.Other (second.Other (second.Other (second.This x)))
-      | word.Branch x ↦ first.Other (second.Other (second.Other (second.Other (second.This x))))
-      | word.Jump x ↦ first.Other (second.Other (second.Other (second.Other (second.Other (record { 0 = x })))))
-    ] };
+    ghost parts_of = { parts_of_word };
 
-    ghost record_of = { elim [
-      | first.This x ↦ word.OperateImmediate x
-      | first.Other (second.This x) ↦ word.Store x
-      | first.Other (second.Other (second.This x)) ↦ word.Operate x
-      | first.Other (second.Other (second.Other (second.This x))) ↦ word.LoadUpper x
-      | first.Other (second.Other (second.Other (second.Other (second.This x)))) ↦ word.Branch x
-      | first.Other (second.Other (second.Other (second.Other (second.Other x)))) ↦ word.Jump x.0
-    ] };
+    ghost record_of = { word_of_parts };
 
     fn from_parts(parts: Self::Parts) -> Self {
         match parts {
-            Tagged::This(x) => Instruction::OperateImmediate(x),
-            Tagged::Other(Choice::This(x)) => Instruction::Store(x),
-            Tagged::Other(Choice::Other(Choice::This(x))) => Instruction::Operate(x),
-            Tagged::Other(Choice::Other(Choice::Other(Choice::This(x)))) => Instruction::LoadUpper(
-                x,
-            ),
-            Tagged::Other(Choice::Other(Choice::Other(Choice::Other(Choice::This(x))))) =>
-                Instruction::Branch(x),
-            Tagged::Other(Choice::Other(Choice::Other(Choice::Other(Choice::Other(Only(x)))))) =>
-                Instruction::Jump(x),
+            Tagged::This(x) => Instruction::Load(x),
+            Tagged::Other(Choice::This(x)) => Instruction::Fence(x),
+            Tagged::Other(Choice::Other(Choice::This(x))) => Instruction::Store(x),
+            Tagged::Other(Choice::Other(Choice::Other(Reckoning(x)))) => reckoning(x),
         }
     }
 
-    ghost there = { elim [ word.OperateImmediate x ↦ refl | word.Store x ↦ refl | word.Operate x ↦ refl | word.LoadUpper x ↦ refl | word.Branch x ↦ refl | word.Jump x ↦ refl ] };
+    ghost there = { elim [
+      | Load x ↦ refl
+      | Fence x ↦ refl
+      | OperateImmediate x ↦ refl
+      | AddUpper x ↦ refl
+      | Store x ↦ refl
+      | Operate x ↦ refl
+      | LoadUpper x ↦ refl
+      | Branch x ↦ refl
+      | JumpRegister x ↦ refl
+      | Jump x ↦ refl
+      | System x ↦ refl
+    ] };
+}
+
+// The word of what reckons, or goes elsewhere.
+fn reckoning(parts: Reckoned) -> Instruction
+    ensures { result ≡ word_reckoned parts }
+{
+    match parts {
+        Choice::This(x) => Instruction::OperateImmediate(x),
+        Choice::Other(Choice::This(x)) => Instruction::AddUpper(x),
+        Choice::Other(Choice::Other(Choice::This(x))) => Instruction::Operate(x),
+        Choice::Other(Choice::Other(Choice::Other(Choice::This(x)))) => Instruction::LoadUpper(x),
+        Choice::Other(Choice::Other(Choice::Other(Choice::Other(Going(x))))) => going(x),
+    }
+}
+
+// The word of what goes elsewhere.
+fn going(parts: Gone) -> Instruction
+    ensures { result ≡ word_gone parts }
+{
+    match parts {
+        Choice::This(x) => Instruction::Branch(x),
+        Choice::Other(Choice::This(x)) => Instruction::JumpRegister(x),
+        Choice::Other(Choice::Other(Choice::This(x))) => Instruction::Jump(x),
+        Choice::Other(Choice::Other(Choice::Other(Only(x)))) => Instruction::System(x),
+    }
+}
+
+// The parts of what reckons, or goes elsewhere.
+fn reckoned(parts: Reckoned) -> Parts
+    ensures { result ≡ reckoned parts }
+{
+    Tagged::Other(Choice::Other(Choice::Other(Reckoning(parts))))
+}
+
+// The parts of what goes elsewhere.
+fn gone(parts: Gone) -> Parts
+    ensures { result ≡ gone parts }
+{
+    reckoned(Choice::Other(Choice::Other(Choice::Other(Choice::Other(Going(parts))))))
 }
 
 impl ToParts<()> for Instruction {
     fn parts(&self) -> Self::Parts {
         match *self {
-            Instruction::OperateImmediate(x) => Tagged::This(x),
-            Instruction::Store(x) => Tagged::Other(Choice::This(x)),
-            Instruction::Operate(x) => Tagged::Other(Choice::Other(Choice::This(x))),
-            Instruction::LoadUpper(x) => Tagged::Other(Choice::Other(Choice::Other(Choice::This(
-                x,
-            )))),
-            Instruction::Branch(x) => Tagged::Other(Choice::Other(Choice::Other(Choice::Other(
-                Choice::This(x),
-            )))),
-            Instruction::Jump(x) => Tagged::Other(Choice::Other(Choice::Other(Choice::Other(
-                Choice::Other(Only(x)),
-            )))),
+            Instruction::Load(x) => Tagged::This(x),
+            Instruction::Fence(x) => Tagged::Other(Choice::This(x)),
+            Instruction::Store(x) => Tagged::Other(Choice::Other(Choice::This(x))),
+            Instruction::OperateImmediate(x) => reckoned(Choice::This(x)),
+            Instruction::AddUpper(x) => reckoned(Choice::Other(Choice::This(x))),
+            Instruction::Operate(x) => reckoned(Choice::Other(Choice::Other(Choice::This(x)))),
+            Instruction::LoadUpper(x) => {
+                reckoned(Choice::Other(Choice::Other(Choice::Other(Choice::This(x)))))
+            }
+            Instruction::Branch(x) => gone(Choice::This(x)),
+            Instruction::JumpRegister(x) => gone(Choice::Other(Choice::This(x))),
+            Instruction::Jump(x) => gone(Choice::Other(Choice::Other(Choice::This(x)))),
+            Instruction::System(x) => gone(Choice::Other(Choice::Other(Choice::Other(Only(x))))),
         }
     }
 }
 
 impl Record for Instruction {
-    ghost use Rattle.std.specs.Prelude.{refl};
-    ghost use Rattle.deku_symmetry.specs.declared.choice.Tagged.TheVariants as first;
-    ghost use Rattle.deku_symmetry.specs.declared.choice.Choice.TheVariants as second;
+    ghost use Rattle.deku_instructions.specs.Words.{parts_back};
 
-    ghost back = { elim [
-      | first.This x ↦ λ ps h. refl
-      | first.Other (second.This x) ↦ λ ps h. refl
-      | first.Other (second.Other (second.This x)) ↦ λ ps h. refl
-      | first.Other (second.Other (second.Other (second.This x))) ↦ λ ps h. refl
-      | first.Other (second.Other (second.Other (second.Other (second.This x)))) ↦ λ ps h. refl
-      | first.Other (second.Other (second.Other (second.Other (second.Other x)))) ↦ λ ps h. refl
-    ] };
+    ghost back = { λ p ps h. parts_back p };
 
     ghost reads = { λ b s r u m. m };
 

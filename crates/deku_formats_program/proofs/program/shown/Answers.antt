@@ -1,4 +1,4 @@
-use Rattle.std.proofs.Common.{rules, ◌≡◌, length}
+use Rattle.std.proofs.Common.{rules, length}
 use Rattle.std.specs.Prelude.{string_bytes, min}
 use Rattle.std.specs.Int.{div_ceil}
 use Rattle.deku_formats_program.specs.Shown.{Tells}
