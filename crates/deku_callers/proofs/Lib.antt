@@ -1,5 +1,6 @@
 pub mod Beginnings
 pub mod Fronts
 pub mod Headers
+pub mod InThree
 pub mod Returning
 pub mod Taken

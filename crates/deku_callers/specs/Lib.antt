@@ -1,2 +1,3 @@
+pub mod InThree
 pub mod Returning
 pub mod Rewriting

@@ -1,6 +1,7 @@
 //! What callers conclude from the contracts of public calls alone: each function here is a small program, and what it ensures is what its user wants to know.
 #![tactic(auto)]
 
+pub mod calls;
 pub mod frame;
 pub mod length;
 pub mod list;
