@@ -1,4 +1,5 @@
 pub mod Beginnings
+pub mod Counting
 pub mod Fronts
 pub mod Headers
 pub mod InThree

@@ -2,6 +2,7 @@
 #![tactic(auto)]
 
 pub mod calls;
+pub mod counted;
 pub mod frame;
 pub mod length;
 pub mod list;
