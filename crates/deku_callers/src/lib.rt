@@ -6,6 +6,7 @@ pub mod counted;
 pub mod frame;
 pub mod length;
 pub mod list;
+pub mod maps;
 pub mod offset;
 pub mod record;
 #[cfg(test)]
