@@ -1,5 +1,6 @@
 -- Many items: their pieces, and what is made of as many that are read under a count, from the laws of symmetric items.
-use Rattle.std.proofs.Common.{◌≡◌, ℕ, ◌+◌, ◌*◌, ◌<◌, ◌^◌, Bool, List, [], ◌∷◌, length, All, Option, Result, Ok, Err, MatchResult, refl, ap, ap₂, sym, ◌∙◌, subst, arith, append-nil}
+use Rattle.std.proofs.Common.{◌≡◌, ℕ, ◌+◌, ◌*◌, ◌<◌, ◌^◌, Bool, List, [], ◌∷◌, length, take, drop, get_or, All, Option, Result, Ok, Err, MatchResult, refl, ap, ap₂, sym, ◌∙◌, subst, arith, append-nil}
+use Rattle.std.specs.Global.{Vec}
 use Rattle.std.specs.declared.io.ErrorKind.TheVariants.{OutOfMemory}
 use Rattle.deku_bits.specs.declared.error.DekuError.{DekuError}
 use Rattle.deku_bits.specs.declared.error.DekuError.TheVariants.{Io}
@@ -15,6 +16,7 @@ use Rattle.deku_symmetry.specs.Pieces.{OfEach, SameEach}
 use Rattle.deku_symmetry.specs.Packs.{InStep, Unpacks}
 use Rattle.deku_symmetry.specs.Counting.{CountedUnpackLaw}
 use Rattle.deku_symmetry.proofs.HighFirst.{Has, Lies, Lying, bytes_lie, each_has, in_step, turns_lie}
+use Rattle.deku_callers.specs.CountedNumbers.{IsRecordOf}
 use Rattle.deku_callers.proofs.Headers.{Word, few, word_has, word_lies}
 
 -- what of each item lies in n bits lies, of all of them, in as many times n bits
@@ -39,13 +41,18 @@ pub record AreLaid {V : Type 0} (P : V → List Piece → Type 0) (vs : List V) 
   pub small : breadth pieces < 2 ^ 64
   pub few : 8 * length (laid_out pieces) < 2 ^ 64
 
+-- items of given pieces
+pub laid_from : LengthLaw → {V : Type 0} (P : V → List Piece → Type 0) (n : ℕ) → ((v : V) → Lies (P v) n) → (vs : List V) (ps : List Piece) → OfEach P vs ps → n * length vs + 7 < 2 ^ 64
+    → (laid : AreLaid P vs) × (laid.pieces ≡ ps)
+laid_from long P n lies vs ps has room =
+    let l = each_lies P n lies vs ps has in
+    let wide : breadth ps ≡ n * length vs = l.wide in
+    (record { pieces = ps; has = has; in_turn = in_step l; small = omega (arith, wide, room); few = few long ps (n * length vs) (in_step l) l.wide room }, refl)
+
+-- items that are in the ranges of their types
 pub are_laid : LengthLaw → {V : Type 0} (P : V → List Piece → Type 0) (n : ℕ) (good : V → Type 0) → ((v : V) → good v → Has (P v)) → ((v : V) → Lies (P v) n)
     → (vs : List V) → All good vs → n * length vs + 7 < 2 ^ 64 → AreLaid P vs
-are_laid long P n good has lies vs all room =
-    let k = each_has P good has vs all in
-    let l = each_lies P n lies vs k.0 k.1 in
-    let wide : breadth k.0 ≡ n * length vs = l.wide in
-    record { pieces = k.0; has = k.1; in_turn = in_step l; small = omega (arith, wide, room); few = few long k.0 (n * length vs) (in_step l) l.wide room }
+are_laid long P n good has lies vs all room = let k = each_has P good has vs all in (laid_from long P n lies vs k.0 k.1 room).0
 
 -- ---- numbers of 16 bits, high byte first
 pub words_laid : LengthLaw → (ns : List ℕ) → All (λ n. n < 2 ^ 16) ns → 16 * length ns < 2 ^ 64 → AreLaid Word ns
@@ -81,3 +88,16 @@ module _ {V C : Type 0} (P : V → List Piece → Type 0) (same : V → V → Ty
   made {Q} answers ended limit n vs laid bytes counts many is r unpacks =
       let count : limit ≡ Count (length vs) = counts ∙ ap (λ k. Count k) many in
       collected vs laid bytes is r (subst (λ l. Unpacks (Held makes (ReadsUnder answers ended l m)) bytes r) count unpacks)
+
+-- ---- numbers behind a byte that counts them
+-- such bytes are a record of the numbers
+pub recorded : (ns : List ℕ) (laid : AreLaid Word ns) (count : ℕ) (bytes : List ℕ) → count ≡ length ns → bytes ≡ laid_out laid.pieces → (r : Result (Vec ℕ) DekuError)
+    → MatchResult r (λ v. v.items ≡ count ∷ bytes) (λ e. e ≡ Io OutOfMemory) → MatchResult r (λ v. IsRecordOf ns v.items) (λ e. e ≡ Io OutOfMemory)
+recorded ns laid count bytes many laid_is (Ok v) same = record { behind = bytes; numbers = (laid.pieces, laid.has, laid_is); is = same ∙ ap (λ n. n ∷ bytes) many }
+recorded ns laid count bytes many laid_is (Err e) same = same
+
+pub first_is : (first bytes behind : List ℕ) (n : ℕ) → first ≡ take 1 bytes → bytes ≡ n ∷ behind → get_or first 0 0 ≡ n
+first_is first bytes behind n front is = ap (λ x. get_or x 0 0) (front ∙ ap (λ x. take 1 x) is)
+
+pub rest_is : (rest bytes behind : List ℕ) (n : ℕ) → rest ≡ drop 1 bytes → bytes ≡ n ∷ behind → rest ≡ behind
+rest_is rest bytes behind n back is = back ∙ ap (λ x. drop 1 x) is

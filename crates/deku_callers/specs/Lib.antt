@@ -1,3 +1,4 @@
+pub mod CountedNumbers
 pub mod InThree
 pub mod LastValues
 pub mod Returning
