@@ -1,5 +1,5 @@
 -- The pieces of headers, and what the laws of symmetric types say of them.
-use Rattle.std.proofs.Common.{◌≡◌, ℕ, ◌*◌, ◌<◌, ◌^◌, List, [], length, map, take, All, Option, Result, Ok, Err, MatchResult, IfOk, ap, sym, ◌∙◌, arith, append-nil}
+use Rattle.std.proofs.Common.{◌≡◌, ℕ, ◌+◌, ◌*◌, ◌<◌, ◌^◌, List, [], length, map, take, All, Option, Result, Ok, Err, MatchResult, IfOk, ap, sym, ◌∙◌, arith, append-nil}
 use Rattle.std.specs.Borrow.{Bor}
 use Rattle.std.specs.Global.{Vec}
 use Rattle.std.specs.declared.io.ErrorKind.TheVariants.{OutOfMemory}
@@ -21,7 +21,7 @@ use Rattle.deku_symmetry.proofs.HighFirst.{Has, Lies, in_step, number_lies, turn
 use Rattle.deku_formats.specs.declared.udp.Udp.{Udp}
 
 -- aligned pieces of few bits lay out few bytes
-few : LengthLaw → (ps : List Piece) (n : ℕ) → InStep ps → breadth ps ≡ n → n < 2 ^ 60 → 8 * length (laid_out ps) < 2 ^ 64
+pub few : LengthLaw → (ps : List Piece) (n : ℕ) → InStep ps → breadth ps ≡ n → n + 7 < 2 ^ 64 → 8 * length (laid_out ps) < 2 ^ 64
 few long ps n aligned w small = let t : total (map shape ps) ≡ n = w in omega (arith, t, small, long ps aligned)
 
 -- ---- a datagram's header
@@ -46,7 +46,7 @@ is_same h g (a, (b, (c, d))) =
     ap (λ x. made x g.target g.length g.checksum) (sym a) ∙ ap (λ x. made h.source x g.length g.checksum) (sym b) ∙ ap (λ x. made h.source h.target x g.checksum) (sym c)
     ∙ ap (λ x. made h.source h.target h.length x) (sym d)
 
-word_has : (n : ℕ) → n < 2 ^ 16 → Has (Word n)
+pub word_has : (n : ℕ) → n < 2 ^ 16 → Has (Word n)
 word_has n small = unsigned_has 16 Whole n (omega arith) small
 
 pub udp_has : (h : Udp) → IsOfType h → Has (OfUdp h)
@@ -55,7 +55,7 @@ udp_has h (a, b, c, d) =
     (turns_have {P = Word h.target} {Q = InTurn (Word h.length) (Word h.checksum)} (word_has h.target b)
     (turns_have {P = Word h.length} {Q = Word h.checksum} (word_has h.length c) (word_has h.checksum d)))
 
-word_lies : (n : ℕ) → Lies (Word n) 16
+pub word_lies : (n : ℕ) → Lies (Word n) 16
 word_lies n = number_lies (unsigned 16) Whole n
 
 pub udp_lies : (h : Udp) → Lies (OfUdp h) 64

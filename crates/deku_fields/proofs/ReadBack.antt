@@ -38,7 +38,7 @@ reads_count (f ∷ fs) (n ∷ ns) S T r =
     omega (arith, first, others)
 
 -- what is read before bytes that begin with a layout
-read_back : (fs : List Field) (r : Result (List Number) DekuError) (s u : Standing (Option Stream)) → ReadsFields fs false s r u → ReadsBack fs s r u
+pub read_back : (fs : List Field) (r : Result (List Number) DekuError) (s u : Standing (Option Stream)) → ReadsFields fs false s r u → ReadsBack fs s r u
 read_back fs r s u m items bytes after c b e room =
     let T = (there_law items b.laid.pieces (b.fitting) (subst AlignedFields (sym b.of_fields) b.aligned) b.laid.are).1 after in
     let whole : bytes ≡ laid_out b.laid.pieces ++ after = b.begins ∙ ap (λ x. x ++ after) b.laid.is in

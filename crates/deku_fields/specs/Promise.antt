@@ -18,7 +18,7 @@ use Rattle.deku_fields.specs.declared.list.Number.{Number}
 use Rattle.deku_fields.specs.declared.list.Field.{Field}
 use Rattle.deku_fields.specs.declared.list.Item.{Item}
 use Rattle.deku_fields.specs.Items.{field_shape, IsAllowedField, IsFitting, AlignedFields, LaysOut, Reads, fields_of, values_of}
-use Rattle.deku_fields.specs.ListCalls.{WritesItems}
+use Rattle.deku_fields.specs.ListCalls.{ReadsFields, WritesItems}
 
 -- ---- devices that do not fail
 -- a device tells of its failures, and none came
@@ -64,7 +64,12 @@ abbrev pub ReadsBack : List Field → Standing (Option Stream) → Result (List 
 ReadsBack fs s r u = (items : List Item) (bytes after : List ℕ) (c : ℕ) → Begins fs items bytes after → s ≡ Going (Some (fresh bytes)) c
     → c + total (map field_shape fs) < 2 ^ 64 → (r ≡ Ok (values_of items)) × HasRead fs bytes (values_of items) c after u
 
--- the same in memory that is found first, or it is refused and nothing changed
+-- Fields that are read, in one call or in several, where the bytes to come are told and no device fails: before bytes that begin with what aligned fitting items
+-- lay out, whatever follows, they read exactly the items' values.
+abbrev pub ReadBackLaw : Type 0
+ReadBackLaw = (fs : List Field) (r : Result (List Number) DekuError) (s u : Standing (Option Stream)) → ReadsFields fs false s r u → ReadsBack fs s r u
+
+-- what `ReadsBack` says, in memory that is found first, or it is refused and nothing changed
 abbrev pub ReadsBackVec : List Field → Standing (Option Stream) → Result (List Number) DekuError → Standing (Option Stream) → Type 0
 ReadsBackVec fs s r u = ((r ≡ Err (Io OutOfMemory)) × (u ≡ s)) ⊎ ReadsBack fs s r u
 

@@ -4,7 +4,7 @@ ghost use Rattle.deku_fields.specs.Cutting.{CutLaw, CutItemsLaw};
 ghost use Rattle.deku_fields.specs.Cuts.{WriteCutLaw, WriteCallsLaw, WritePartsLaw, ReadCutLaw, ReadCallsLaw, LookLaw, ReadPartsLaw};
 ghost use Rattle.deku_fields.specs.Headline.{PieceLaw, LayoutLaw, ThereLaw, BackLaw, CallsLaw};
 ghost use Rattle.deku_fields.specs.Places.{PlaceLaw};
-ghost use Rattle.deku_fields.specs.Promise.{PaddedLaw};
+ghost use Rattle.deku_fields.specs.Promise.{PaddedLaw, ReadBackLaw};
 ghost use Rattle.deku_fields.specs.Rows.{ListRows, PromiseRows, TurnedRows, MisfitRows, CutRows};
 
 /// Fitting items have pieces, and these pieces alone.
@@ -26,6 +26,12 @@ pub fn there_law()
 /// the memory.
 pub fn padded_law()
     ensures { PaddedLaw }
+{}
+
+/// Fields read by `read_list` or `read_list_into`, in one call or in several, from bytes that begin with what aligned fitting items lay out, give exactly
+/// the items' values.
+pub fn read_back_law()
+    ensures { ReadBackLaw }
 {}
 
 /// What aligned fields read from a boundary is written as the bytes taken, unread bits zero.

@@ -2,3 +2,4 @@ pub use Rattle.deku_pieces.specs.Symmetric
 pub use Rattle.deku_pieces.specs.Pieces
 pub use Rattle.deku_pieces.specs.Packs
 pub use Rattle.deku_pieces.specs.Choices
+pub mod Counting

@@ -1,0 +1,107 @@
+//! Numbers under a count of them, and behind a byte that counts them.
+
+ghost use Rattle.std.specs.Prelude.{◌≡◌, ◌*◌, ◌<◌, ◌^◌, ◌∷◌, length, MatchResult};
+ghost use Rattle.std.specs.declared.io.ErrorKind.TheVariants.{OutOfMemory};
+ghost use Rattle.deku.specs.declared.error.DekuError.TheVariants.{Io};
+ghost use Rattle.deku_callers.specs.CountedNumbers.{IsRecordOf, ReadsRecord};
+
+use deku::ctx::{Endian, Limit, Never};
+use deku::error::{DekuError, NeedSize};
+use deku_bits::laws::length_law;
+use deku_pieces::{padded_bytes, read_whole};
+use deku_symmetry::laws::counted_law;
+use std::alloc::Global;
+use std::io::ErrorKind;
+
+/// Numbers as bytes, the high byte of each first, and read from these under a count of as many: they are the same numbers, or no memory was found.
+///
+/// The caller's condition: the bits of the numbers can be counted.
+pub fn there_and_back(alloc: Global, numbers: &Vec<u16>) -> Result<Vec<u16>, DekuError>
+    requires { 16 * length numbers.now.items < 2 ^ 64 }
+    ensures { MatchResult result (λ v. v.items ≡ numbers.now.items) (λ e. e ≡ Io OutOfMemory) }
+{
+    counted_law::<Endian, u16>();
+    length_law();
+    match padded_bytes(numbers, alloc, Endian::Big) {
+        Ok(bytes) => match read_whole::<(Limit<u16, Never>, Endian), Vec<u16>>(
+            alloc,
+            bytes.as_slice(),
+            (Limit::new_count(numbers.len()), Endian::Big),
+        ) {
+            Ok((_bits, read)) => Ok(read),
+            Err(refusal) => Err(refusal),
+        },
+        Err(refusal) => Err(refusal),
+    }
+}
+
+/// A byte that counts numbers, and behind it these as bytes, the high byte of each first.
+///
+/// It is refused with `Io` where no memory is found. The caller's condition: a byte can count the numbers.
+///
+/// ```text
+/// record_of(alloc, &numbers)?                                // 02 C0 FE 00 01, of the numbers C0FE and 1
+/// ```
+pub fn record_of(alloc: Global, numbers: &Vec<u16>) -> Result<Vec<u8>, DekuError>
+    requires { length numbers.now.items < 256 }
+    ensures { MatchResult result (λ v. IsRecordOf numbers.now.items v.items) (λ e. e ≡ Io OutOfMemory) }
+{
+    counted_law::<Endian, u16>();
+    length_law();
+    match padded_bytes(numbers, alloc, Endian::Big) {
+        Ok(bytes) => behind(alloc, numbers.len() as u8, bytes.as_slice()),
+        Err(refusal) => Err(refusal),
+    }
+}
+
+// A byte, and others behind it.
+fn behind(alloc: Global, first: u8, bytes: &[u8]) -> Result<Vec<u8>, DekuError>
+    ensures { MatchResult result (λ v. v.items ≡ first ∷ bytes.now) (λ e. e ≡ Io OutOfMemory) }
+{
+    let mut all = Vec::new(alloc);
+    if all.push(first).is_err() {
+        return Err(DekuError::Io(ErrorKind::OutOfMemory));
+    }
+    if all.extend_from_slice(bytes).is_err() {
+        return Err(DekuError::Io(ErrorKind::OutOfMemory));
+    }
+    Ok(all)
+}
+
+/// The numbers behind a byte that counts them: they are read under a count of that byte.
+///
+/// It is refused with `Incomplete` where the bytes end before the last of the numbers, and with `Io` where no memory is found.
+pub fn numbers_of(alloc: Global, bytes: &[u8]) -> Result<Vec<u16>, DekuError>
+    ensures { ReadsRecord bytes.now result }
+{
+    counted_law::<Endian, u16>();
+    length_law();
+    let Some((first, rest)) = bytes.split_first_chunk::<1>() else {
+        return Err(DekuError::Incomplete(NeedSize::new(8)));
+    };
+    let count = first[0] as usize;
+    match read_whole::<(Limit<u16, Never>, Endian), Vec<u16>>(
+        alloc,
+        rest,
+        (Limit::new_count(count), Endian::Big),
+    ) {
+        Ok((_bits, numbers)) => Ok(numbers),
+        Err(refusal) => Err(refusal),
+    }
+}
+
+/// Numbers as the record of them, and read from this: they are the same numbers, or no memory was found.
+///
+/// The caller's condition: a byte can count the numbers.
+pub fn record_there_and_back(alloc: Global, numbers: &Vec<u16>) -> Result<Vec<u16>, DekuError>
+    requires { length numbers.now.items < 256 }
+    ensures { MatchResult result (λ v. v.items ≡ numbers.now.items) (λ e. e ≡ Io OutOfMemory) }
+{
+    match record_of(alloc, numbers) {
+        Ok(record) => numbers_of(alloc, record.as_slice()),
+        Err(refusal) => Err(refusal),
+    }
+}
+
+#[cfg(test)]
+mod tests;

@@ -1,0 +1,87 @@
+//! Maps and sets under a count.
+
+ghost use Rattle.std.specs.Prelude.{◌≡◌, ◌*◌, ◌<◌, ◌^◌, ◌∷◌, [], length, nat_eq, MatchResult};
+ghost use Rattle.std.specs.Set.{is_member, distinct_count};
+ghost use Rattle.std.specs.declared.io.ErrorKind.TheVariants.{OutOfMemory};
+ghost use Rattle.deku.specs.declared.error.DekuError.TheVariants.{Io};
+ghost use Rattle.deku_callers.specs.LastValues.{last_value};
+
+use deku::ctx::{Endian, Limit, Never};
+use deku::error::DekuError;
+use deku_bits::laws::length_law;
+use deku_pieces::{padded_bytes, read_whole};
+use deku_symmetry::laws::counted_law;
+use std::alloc::Global;
+use std::collections::{HashMap, HashSet};
+use std::hash::{BuildHasherDefault, FoldHasher};
+
+/// A map of numbers by bytes.
+pub type Map = HashMap<u8, u16, BuildHasherDefault<FoldHasher>>;
+
+/// A set of bytes.
+pub type Set = HashSet<u8, BuildHasherDefault<FoldHasher>>;
+
+/// Three pairs of a key and a value as bytes, and the value at a key of the map that is read from these under a count of three: it is the value of the last pair that has the key, and none where no
+/// pair has it; or no memory was found.
+pub fn value_at(
+    alloc: Global,
+    first: (u8, u16),
+    second: (u8, u16),
+    third: (u8, u16),
+    key: u8,
+) -> Result<Option<u16>, DekuError>
+    ensures { MatchResult result (λ v. v ≡ last_value key (first ∷ second ∷ third ∷ [])) (λ e. e ≡ Io OutOfMemory) }
+{
+    counted_law::<Endian, (u8, u16)>();
+    length_law();
+    match padded_bytes(&[first, second, third], alloc, Endian::Big) {
+        Ok(bytes) => match read_whole::<(Limit<(u8, u16), Never>, Endian), Map>(
+            alloc,
+            bytes.as_slice(),
+            (Limit::new_count(3), Endian::Big),
+        ) {
+            Ok((_bits, map)) => Ok(map.get(&key).copied()),
+            Err(refusal) => Err(refusal),
+        },
+        Err(refusal) => Err(refusal),
+    }
+}
+
+/// A key with two values, and a pair between them, as bytes and read as a map: at the key it has the last value, whatever the pair is; or no memory was found.
+pub fn last_of_two(
+    alloc: Global,
+    key: u8,
+    value: u16,
+    between: (u8, u16),
+    last: u16,
+) -> Result<Option<u16>, DekuError>
+    ensures { MatchResult result (λ v. v ≡ Some last) (λ e. e ≡ Io OutOfMemory) }
+{
+    value_at(alloc, (key, value), between, (key, last), key)
+}
+
+/// Bytes written one after the other, and of the set that is read from these under a count of as many whether it has a byte, and how many it has: it has those that were written, and of equal ones
+/// one; or no memory was found.
+///
+/// The caller's condition: the bits of the bytes can be counted.
+pub fn kept_once(alloc: Global, items: &Vec<u8>, byte: u8) -> Result<(bool, usize), DekuError>
+    requires { 8 * length items.now.items < 2 ^ 64 }
+    ensures { MatchResult result (λ v. (v.0 ≡ is_member nat_eq items.now.items byte) × (v.1 ≡ distinct_count nat_eq items.now.items)) (λ e. e ≡ Io OutOfMemory) }
+{
+    counted_law::<Endian, u8>();
+    length_law();
+    match padded_bytes(items, alloc, Endian::Big) {
+        Ok(bytes) => match read_whole::<(Limit<u8, Never>, Endian), Set>(
+            alloc,
+            bytes.as_slice(),
+            (Limit::new_count(items.len()), Endian::Big),
+        ) {
+            Ok((_bits, set)) => Ok((set.contains(&byte), set.len())),
+            Err(refusal) => Err(refusal),
+        },
+        Err(refusal) => Err(refusal),
+    }
+}
+
+#[cfg(test)]
+mod tests;
