@@ -85,8 +85,9 @@ impl Elf {
 
 /// The program headers of a file whose header was read, from where it says.
 ///
-/// It is refused with `Io(InvalidInput)`, and nothing changes, where a `usize` does not count the bits before their place; then as the source refuses the seek, which stops
-/// the reader; and then as the first of them is that is refused, or with `Io(OutOfMemory)`, behind those before it. That a program header has 56 bytes is not looked at.
+/// It is refused with `Io(InvalidInput)`, and nothing changes, where a `usize` does not count the bits before their place. Then it is refused as the source refuses the seek, which stops
+/// the reader. Then as the first program header is that is refused, or with `Io(OutOfMemory)` where no memory is found for one; the reader stays behind those before it. That a program header has 56 bytes is not
+/// looked at.
 ///
 /// ```text
 /// let elf = Elf::from_reader_with_ctx(&mut reader, ())?;

@@ -41,7 +41,7 @@ fn is_lower(first: Place, next: Place, by: usize) -> bool
     first.bit - next.bit == by
 }
 
-/// The cells of the places of a row, from left to right, each as long as it can be: laid end to end they are these places again.
+/// The cells of the places of a row, from left to right, each as long as it can be: laid end to end they are these places again. It is refused where no memory is found for them.
 ///
 /// ```text
 /// // twelve bits, little and `Msb0`, and four bits of padding
@@ -81,7 +81,7 @@ fn joined(
     Ok(cells)
 }
 
-/// The places of a picture in rows of 32, each row as its cells; the last row may have fewer places.
+/// The places of a picture in rows of 32, each row as its cells; the last row may have fewer places. It is refused where no memory is found for them.
 ///
 /// ```text
 /// rows(alloc, &places(alloc, &fields)?)?     // of 40 bits: a row of four bytes, and one of a byte

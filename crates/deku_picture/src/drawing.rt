@@ -32,8 +32,8 @@ pub fn name_of(alloc: Global, fields: &[Named], index: usize) -> Result<String, 
     }
 }
 
-/// The longest name of the fields and the longest of their words, in letters.
-pub fn widest(alloc: Global, fields: &[Named]) -> Result<(usize, usize), AllocError> {
+// The longest name of the fields and the longest of their words, in letters.
+fn widest(alloc: Global, fields: &[Named]) -> Result<(usize, usize), AllocError> {
     let (mut name, mut spec) = (0, 0);
     for (index, field) in fields.iter().enumerate() {
         name = name_of(alloc, fields, index)?.len().max(name);
@@ -99,8 +99,8 @@ fn push_number(text: &mut String, value: Number) -> Result<(), AllocError> {
     }
 }
 
-/// Puts a text, and spaces behind it up to a width.
-pub fn push_padded(text: &mut String, word: &str, width: usize) -> Result<(), AllocError> {
+// Puts a text, and spaces behind it up to a width.
+fn push_padded(text: &mut String, word: &str, width: usize) -> Result<(), AllocError> {
     text.push_str(word)?;
     push_many(text, ' ', width.saturating_sub(word.len()))
 }

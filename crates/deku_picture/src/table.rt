@@ -14,6 +14,7 @@ pub fn table(alloc: Global, drawing: &Drawing) -> Result<String, AllocError> {
     for (index, row) in drawing.rows.iter().enumerate() {
         let row = row.as_slice();
         push_numbers(&mut text, index, byte_count(row))?;
+        push_bit_numbers(&mut text, byte_count(row))?;
         push_cells(
             alloc,
             &mut text,
@@ -27,7 +28,7 @@ pub fn table(alloc: Global, drawing: &Drawing) -> Result<String, AllocError> {
     Ok(text)
 }
 
-// The numbers of the bytes of a row, and of the bits of each.
+// The numbers of the bytes of a row.
 fn push_numbers(text: &mut String, row: usize, bytes: usize) -> Result<(), AllocError> {
     for n in 0..bytes {
         let number = byte_number(row, n);
@@ -37,6 +38,11 @@ fn push_numbers(text: &mut String, row: usize, bytes: usize) -> Result<(), Alloc
             writeln!(text, " byte {number}")?;
         }
     }
+    Ok(())
+}
+
+// The numbers of the bits of so many bytes.
+fn push_bit_numbers(text: &mut String, bytes: usize) -> Result<(), AllocError> {
     for _ in 0..bytes {
         text.push_str(" 7 6 5 4 3 2 1 0")?;
     }
@@ -55,12 +61,8 @@ fn push_cells(
     let labels = labels.as_slice();
     let lines = lines_of(labels);
     push_border(text, labels)?;
-    for n in 0..lines.names {
-        push_line(text, labels, n, Part::Name)?;
-    }
-    for n in 0..lines.weights {
-        push_line(text, labels, n, Part::Weights)?;
-    }
+    push_lines(text, labels, lines.names, Part::Name)?;
+    push_lines(text, labels, lines.weights, Part::Weights)?;
     if !bits.is_empty() {
         push_bits(text, labels, bits)?;
     }
@@ -80,6 +82,19 @@ fn push_border(text: &mut String, labels: &[Label]) -> Result<(), AllocError> {
 enum Part {
     Name,
     Weights,
+}
+
+// So many lines of that part of all labels.
+fn push_lines(
+    text: &mut String,
+    labels: &[Label],
+    count: usize,
+    part: Part,
+) -> Result<(), AllocError> {
+    for n in 0..count {
+        push_line(text, labels, n, part)?;
+    }
+    Ok(())
 }
 
 // The n-th line of that part of all labels.
@@ -133,13 +148,19 @@ fn push_bits(text: &mut String, labels: &[Label], bits: &String) -> Result<(), A
     let mut rest = bits.as_bytes();
     for label in labels {
         let (here, behind) = rest.split_at(label.width.min(rest.len()));
-        let mut mark = '|';
-        for bit in here {
-            text.push(mark)?;
-            text.push(char::from(*bit))?;
-            mark = ' ';
-        }
+        push_cell_bits(text, here)?;
         rest = behind;
     }
     text.push_str("|\n")
+}
+
+// The bits of a cell, behind its left border.
+fn push_cell_bits(text: &mut String, bits: &[u8]) -> Result<(), AllocError> {
+    let mut mark = '|';
+    for bit in bits {
+        text.push(mark)?;
+        text.push(char::from(*bit))?;
+        mark = ' ';
+    }
+    Ok(())
 }
