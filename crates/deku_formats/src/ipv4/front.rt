@@ -11,11 +11,11 @@ use std::net::Ipv4Addr;
 /// The first twenty bytes, without the version, which is 4.
 #[derive(Debug, PartialEq, Eq, Drop)]
 pub struct Front {
-    /// The length of the header in words of four bytes, 4 bits.
+    /// The length of the header in words of four bytes (IHL), 4 bits.
     pub words: u8,
-    /// The class of service, 6 bits.
+    /// The class of service (DSCP), 6 bits.
     pub service: u8,
-    /// The notice of congestion, 2 bits.
+    /// The notice of congestion (ECN), 2 bits.
     pub congestion: u8,
     /// The bytes of the header and of what it carries.
     pub total: u16,
@@ -25,7 +25,7 @@ pub struct Front {
     pub flags: u8,
     /// Where the fragment lies, in units of eight bytes, 13 bits.
     pub offset: u16,
-    /// How many hops are left.
+    /// How many hops are left (TTL).
     pub life: u8,
     /// What is carried: 6 TCP, 17 UDP.
     pub protocol: u8,
