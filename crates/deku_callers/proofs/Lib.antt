@@ -1,5 +1,6 @@
 pub mod Beginnings
 pub mod Counting
+pub mod Five
 pub mod Fronts
 pub mod Headers
 pub mod InThree

@@ -1,6 +1,9 @@
 //! Lists of fields in three calls, cut between any two items, also inside a byte.
 
-ghost use Rattle.std.specs.Prelude.{◌++◌};
+ghost use Rattle.std.specs.Prelude.{◌≡◌, ◌<◌, ◌∷◌, [], ◌++◌, MatchResult};
+ghost use Rattle.std.specs.declared.io.ErrorKind.TheVariants.{OutOfMemory};
+ghost use Rattle.deku.specs.declared.error.DekuError.TheVariants.{Io};
+ghost use Rattle.deku_fields.specs.declared.list.Number.TheVariants.{Unsigned, Signed};
 ghost use Rattle.deku_bits.specs.ReaderCalls.{Reads, Ending};
 ghost use Rattle.deku_bits.specs.WriterCalls.{Writes};
 ghost use Rattle.deku.specs.Composing.{Then};
@@ -8,12 +11,16 @@ ghost use Rattle.deku_fields.specs.ListCalls.{ReadsVec, WritesItems, items_of};
 ghost use Rattle.deku_fields.specs.Promise.{LaidOut};
 ghost use Rattle.deku_callers.specs.InThree.{ReadsInThree};
 
+use crate::list::{high, low, signed};
+use deku::ctx::Size;
 use deku::device::{Sink, Source};
 use deku::error::DekuError;
 use deku::reader::Reader;
 use deku::writer::Writer;
+use deku_bits::laws::length_law;
 use deku_fields::laws::{layout_law, padded_law, read_back_law, read_parts_law, write_calls_law};
-use deku_fields::{Field, Item, Number, read_list, write_list};
+use deku_fields::{Field, Item, Kind, Number, read_list, write_list};
+use deku_num::laws::field_law;
 use std::alloc::Global;
 use std::io::Cursor;
 
@@ -88,6 +95,43 @@ pub fn write_in_three<W: Sink>(
             Ok(()) => write_list(writer, third),
             Err(refusal) => Err(refusal),
         },
+        Err(refusal) => Err(refusal),
+    }
+}
+
+/// Five values in fields of mixed orders, written in three calls and read in three: four bits and four, high bits first, then thirteen and three, low bits first, and then two bytes with a sign, high
+/// byte first. They are the same values; or no memory was found.
+///
+/// The caller's conditions: each value has no more bits than its field.
+pub fn five_in_three(
+    alloc: Global,
+    version: u8,
+    kind: u8,
+    span: u16,
+    flags: u8,
+    heat: i16,
+) -> Result<(Vec<Number>, Vec<Number>, Vec<Number>), DekuError>
+    requires version { version < 16 }
+    requires kind { kind < 16 }
+    requires span { span < 8192 }
+    requires flags { flags < 8 }
+    ensures { MatchResult result (λ v. v.0.items ++ (v.1.items ++ v.2.items) ≡ Unsigned version ∷ Unsigned kind ∷ Unsigned span ∷ Unsigned flags ∷ Signed heat ∷ []) (λ e. e ≡ Io OutOfMemory) }
+{
+    field_law();
+    length_law();
+    let four = high(Kind::U8, Size::Bits(4), Number::Unsigned(version as u128));
+    let next = high(Kind::U8, Size::Bits(4), Number::Unsigned(kind as u128));
+    let thirteen = low(Kind::U16, Size::Bits(13), Number::Unsigned(span as u128));
+    let three = low(Kind::U8, Size::Bits(3), Number::Unsigned(flags as u128));
+    let last = high(Kind::I16, Size::Whole, signed(heat));
+    match bytes_in_three(alloc, &[four, next], &[thirteen, three], &[last]) {
+        Ok(bytes) => read_in_three(
+            alloc,
+            bytes.as_slice(),
+            &[four.field, next.field],
+            &[thirteen.field, three.field],
+            &[last.field],
+        ),
         Err(refusal) => Err(refusal),
     }
 }

@@ -75,14 +75,14 @@ pub fn five_there_and_back(
 }
 
 // A number with a sign.
-fn signed(value: i16) -> Number
+pub(crate) fn signed(value: i16) -> Number
     ensures { result ≡ Signed value }
 {
     Number::Signed(value as i128)
 }
 
 // A value in a field with its high bits first.
-fn high(kind: Kind, size: Size, value: Number) -> Item
+pub(crate) fn high(kind: Kind, size: Size, value: Number) -> Item
     ensures { result ≡ record { field = record { kind = kind; layout = record { endian = Endian.Big; order = Order.Msb0; size = size } }; value = value } }
 {
     let layout = Layout {
@@ -95,7 +95,7 @@ fn high(kind: Kind, size: Size, value: Number) -> Item
 }
 
 // A value in a field with its low bits first.
-fn low(kind: Kind, size: Size, value: Number) -> Item
+pub(crate) fn low(kind: Kind, size: Size, value: Number) -> Item
     ensures { result ≡ record { field = record { kind = kind; layout = record { endian = Endian.Little; order = Order.Lsb0; size = size } }; value = value } }
 {
     let layout = Layout {

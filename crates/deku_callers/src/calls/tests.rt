@@ -1,6 +1,6 @@
 //! Lists of fields in three calls, run: each row says behind how many fields the second call begins, and the third.
 
-use super::{bytes_in_three, read_in_three};
+use super::{bytes_in_three, five_in_three, read_in_three};
 use crate::same::{same, same_bytes};
 use deku::ctx::{Endian, Layout, Order, Size};
 use deku_fields::{Field, Item, Kind, Number};
@@ -84,6 +84,39 @@ fn writes_five_in_three(rt: HostRuntime) -> Result<(), Fail> {
                 &items[*third..],
             )?;
             same_bytes(&rt, row, bytes.as_slice(), &BYTES);
+        }
+    }
+    Ok(())
+}
+
+#[test]
+fn five_values_come_back(rt: HostRuntime) -> Result<(), Fail> {
+    let rows: [(u8, u8, u16, u8, i16); 2] = [(4, 9, 0x1001, 5, -2), (15, 0, 0x1FFF, 7, i16::MIN)];
+    for (row, (version, kind, span, flags, heat)) in rows.iter().enumerate() {
+        if *version < 16 && *kind < 16 && *span < 8192 && *flags < 8 {
+            let (one, two, three) = five_in_three(
+                rt.alloc(),
+                *version,
+                *kind,
+                *span,
+                *flags,
+                *heat,
+            )?;
+            let first = [
+                Number::Unsigned(*version as u128),
+                Number::Unsigned(*kind as u128),
+            ];
+            let second = [
+                Number::Unsigned(*span as u128),
+                Number::Unsigned(*flags as u128),
+            ];
+            let third = [Number::Signed(*heat as i128)];
+            same(
+                &rt,
+                row,
+                &(one.as_slice(), two.as_slice(), three.as_slice()),
+                &(first.as_slice(), second.as_slice(), third.as_slice()),
+            );
         }
     }
     Ok(())
