@@ -8,8 +8,8 @@ use Rattle.deku_instructions.specs.declared.riscv.jump.Jump.{Jump}
 use Rattle.deku_instructions.specs.declared.riscv.register.Register.{Register}
 use Rattle.deku_instructions.specs.declared.riscv.store.Store.{Store}
 use Rattle.deku_instructions.specs.declared.riscv.upper.Upper.{Upper}
-use Rattle.deku_instructions.specs.declared.riscv.tails.Going.{Going}
-use Rattle.deku_instructions.specs.declared.riscv.tails.Reckoning.{Reckoning}
+use Rattle.deku_instructions.specs.declared.riscv.tails.Transfer.{Transfer}
+use Rattle.deku_instructions.specs.declared.riscv.tails.Computation.{Computation}
 use Rattle.deku_instructions.specs.declared.riscv.instruction.Instruction.{Instruction}
 use Rattle.deku_instructions.specs.declared.riscv.instruction.Instruction.TheVariants as word
 use Rattle.deku_symmetry.specs.declared.choice.Choice.{Choice}
@@ -18,93 +18,93 @@ use Rattle.deku_symmetry.specs.declared.choice.Only.{Only}
 use Rattle.deku_symmetry.specs.declared.choice.Tagged.{Tagged}
 use Rattle.deku_symmetry.specs.declared.choice.Tagged.TheVariants as tagged
 
--- what goes elsewhere, by its code
-abbrev pub Gone : Type 0
-Gone = Choice Branch (Choice Immediate (Choice Jump (Only Immediate 0x73) 0x6F) 0x67) 0x63
+-- transfers of control, by their codes
+abbrev pub Transfers : Type 0
+Transfers = Choice Branch (Choice Immediate (Choice Jump (Only Immediate 0x73) 0x6F) 0x67) 0x63
 
--- what reckons or goes elsewhere, by its code
-abbrev pub Reckoned : Type 0
-Reckoned = Choice Immediate (Choice Upper (Choice Register (Choice Upper Going 0x37) 0x33) 0x17) 0x13
+-- computations or transfers of control, by their codes
+abbrev pub Computations : Type 0
+Computations = Choice Immediate (Choice Upper (Choice Register (Choice Upper Transfer 0x37) 0x33) 0x17) 0x13
 
 -- the code, and what lies under it
 abbrev pub InWord : Type 0
-InWord = Tagged Immediate (Choice Immediate (Choice Store Reckoning 0x23) 0x0F) 0x03 7 1
+InWord = Tagged Immediate (Choice Immediate (Choice Store Computation 0x23) 0x0F) 0x03 7 1
 
 -- ---- the parts of a word
-abbrev pub reckoned : Reckoned → InWord
-reckoned c = tagged.Other (Other (Other (record { 0 = c })))
+abbrev pub computation_parts : Computations → InWord
+computation_parts c = tagged.Other (Other (Other (record { 0 = c })))
 
-abbrev pub gone : Gone → InWord
-gone c = reckoned (Other (Other (Other (Other (record { 0 = c })))))
+abbrev pub transfer_parts : Transfers → InWord
+transfer_parts c = computation_parts (Other (Other (Other (Other (record { 0 = c })))))
 
 abbrev pub parts_of_word : Instruction → InWord
 parts_of_word (word.Load x) = tagged.This x
 parts_of_word (word.Fence x) = tagged.Other (This x)
 parts_of_word (word.Store x) = tagged.Other (Other (This x))
-parts_of_word (word.OperateImmediate x) = reckoned (This x)
-parts_of_word (word.AddUpper x) = reckoned (Other (This x))
-parts_of_word (word.Operate x) = reckoned (Other (Other (This x)))
-parts_of_word (word.LoadUpper x) = reckoned (Other (Other (Other (This x))))
-parts_of_word (word.Branch x) = gone (This x)
-parts_of_word (word.JumpRegister x) = gone (Other (This x))
-parts_of_word (word.Jump x) = gone (Other (Other (This x)))
-parts_of_word (word.System x) = gone (Other (Other (Other (record { 0 = x }))))
+parts_of_word (word.OperateImmediate x) = computation_parts (This x)
+parts_of_word (word.AddUpper x) = computation_parts (Other (This x))
+parts_of_word (word.Operate x) = computation_parts (Other (Other (This x)))
+parts_of_word (word.LoadUpper x) = computation_parts (Other (Other (Other (This x))))
+parts_of_word (word.Branch x) = transfer_parts (This x)
+parts_of_word (word.JumpRegister x) = transfer_parts (Other (This x))
+parts_of_word (word.Jump x) = transfer_parts (Other (Other (This x)))
+parts_of_word (word.System x) = transfer_parts (Other (Other (Other (record { 0 = x }))))
 
 -- ---- the word of parts
-abbrev pub word_gone : Gone → Instruction
-word_gone (This x) = word.Branch x
-word_gone (Other (This x)) = word.JumpRegister x
-word_gone (Other (Other (This x))) = word.Jump x
-word_gone (Other (Other (Other x))) = word.System x.0
+abbrev pub word_of_transfer : Transfers → Instruction
+word_of_transfer (This x) = word.Branch x
+word_of_transfer (Other (This x)) = word.JumpRegister x
+word_of_transfer (Other (Other (This x))) = word.Jump x
+word_of_transfer (Other (Other (Other x))) = word.System x.0
 
-abbrev pub word_reckoned : Reckoned → Instruction
-word_reckoned (This x) = word.OperateImmediate x
-word_reckoned (Other (This x)) = word.AddUpper x
-word_reckoned (Other (Other (This x))) = word.Operate x
-word_reckoned (Other (Other (Other (This x)))) = word.LoadUpper x
-word_reckoned (Other (Other (Other (Other x)))) = word_gone x.0
+abbrev pub word_of_computation : Computations → Instruction
+word_of_computation (This x) = word.OperateImmediate x
+word_of_computation (Other (This x)) = word.AddUpper x
+word_of_computation (Other (Other (This x))) = word.Operate x
+word_of_computation (Other (Other (Other (This x)))) = word.LoadUpper x
+word_of_computation (Other (Other (Other (Other x)))) = word_of_transfer x.0
 
 abbrev pub word_of_parts : InWord → Instruction
 word_of_parts (tagged.This x) = word.Load x
 word_of_parts (tagged.Other (This x)) = word.Fence x
 word_of_parts (tagged.Other (Other (This x))) = word.Store x
-word_of_parts (tagged.Other (Other (Other x))) = word_reckoned x.0
+word_of_parts (tagged.Other (Other (Other x))) = word_of_computation x.0
 
 -- ---- parts are those of their word
-gone_back : (c : Gone) → parts_of_word (word_gone c) ≡ gone c
-gone_back (This x) = refl
-gone_back (Other (This x)) = refl
-gone_back (Other (Other (This x))) = refl
-gone_back (Other (Other (Other x))) = refl
+transfers_back : (c : Transfers) → parts_of_word (word_of_transfer c) ≡ transfer_parts c
+transfers_back (This x) = refl
+transfers_back (Other (This x)) = refl
+transfers_back (Other (Other (This x))) = refl
+transfers_back (Other (Other (Other x))) = refl
 
-reckoned_back : (c : Reckoned) → parts_of_word (word_reckoned c) ≡ reckoned c
-reckoned_back (This x) = refl
-reckoned_back (Other (This x)) = refl
-reckoned_back (Other (Other (This x))) = refl
-reckoned_back (Other (Other (Other (This x)))) = refl
-reckoned_back (Other (Other (Other (Other x)))) = gone_back x.0
+computations_back : (c : Computations) → parts_of_word (word_of_computation c) ≡ computation_parts c
+computations_back (This x) = refl
+computations_back (Other (This x)) = refl
+computations_back (Other (Other (This x))) = refl
+computations_back (Other (Other (Other (This x)))) = refl
+computations_back (Other (Other (Other (Other x)))) = transfers_back x.0
 
 pub parts_back : (p : InWord) → parts_of_word (word_of_parts p) ≡ p
 parts_back (tagged.This x) = refl
 parts_back (tagged.Other (This x)) = refl
 parts_back (tagged.Other (Other (This x))) = refl
-parts_back (tagged.Other (Other (Other x))) = reckoned_back x.0
+parts_back (tagged.Other (Other (Other x))) = computations_back x.0
 
 -- ---- what has pieces under an id has this id
-pub gone_own : (id : ℕ) (B : Branch → List Piece → Type 0) (I : Immediate → List Piece → Type 0) (J : Jump → List Piece → Type 0) (c : Gone) (ps : List Piece)
+pub transfers_own : (id : ℕ) (B : Branch → List Piece → Type 0) (I : Immediate → List Piece → Type 0) (J : Jump → List Piece → Type 0) (c : Transfers) (ps : List Piece)
     → OfChoice 0x63 id B (λ w. OfChoice 0x67 id I (λ w. OfChoice 0x6F id J (λ w. UnderId 0x73 id (I w.0)) w) w) c ps
     → id ≡ id_chosen 0x63 (id_chosen 0x67 (id_chosen 0x6F (λ w. 0x73))) c
-gone_own id B I J (This x) ps p = p.0
-gone_own id B I J (Other (This x)) ps p = p.1.0
-gone_own id B I J (Other (Other (This x))) ps p = p.1.1.0
-gone_own id B I J (Other (Other (Other x))) ps p = p.1.1.1.0
+transfers_own id B I J (This x) ps p = p.0
+transfers_own id B I J (Other (This x)) ps p = p.1.0
+transfers_own id B I J (Other (Other (This x))) ps p = p.1.1.0
+transfers_own id B I J (Other (Other (Other x))) ps p = p.1.1.1.0
 
-pub reckoned_own : (id : ℕ) (I : Immediate → List Piece → Type 0) (U : Upper → List Piece → Type 0) (R : Register → List Piece → Type 0) (G : Going → List Piece → Type 0) (id_of : Going → ℕ)
-    → ((g : Going) (ps : List Piece) → G g ps → id ≡ id_of g) → (c : Reckoned) (ps : List Piece)
+pub computations_own : (id : ℕ) (I : Immediate → List Piece → Type 0) (U : Upper → List Piece → Type 0) (R : Register → List Piece → Type 0) (G : Transfer → List Piece → Type 0) (id_of : Transfer → ℕ)
+    → ((g : Transfer) (ps : List Piece) → G g ps → id ≡ id_of g) → (c : Computations) (ps : List Piece)
     → OfChoice 0x13 id I (λ w. OfChoice 0x17 id U (λ w. OfChoice 0x33 id R (λ w. OfChoice 0x37 id U G w) w) w) c ps
     → id ≡ id_chosen 0x13 (id_chosen 0x17 (id_chosen 0x33 (id_chosen 0x37 id_of))) c
-reckoned_own id I U R G id_of own (This x) ps p = p.0
-reckoned_own id I U R G id_of own (Other (This x)) ps p = p.1.0
-reckoned_own id I U R G id_of own (Other (Other (This x))) ps p = p.1.1.0
-reckoned_own id I U R G id_of own (Other (Other (Other (This x)))) ps p = p.1.1.1.0
-reckoned_own id I U R G id_of own (Other (Other (Other (Other x)))) ps p = own x ps p.1.1.1.1
+computations_own id I U R G id_of own (This x) ps p = p.0
+computations_own id I U R G id_of own (Other (This x)) ps p = p.1.0
+computations_own id I U R G id_of own (Other (Other (This x))) ps p = p.1.1.0
+computations_own id I U R G id_of own (Other (Other (Other (This x)))) ps p = p.1.1.1.0
+computations_own id I U R G id_of own (Other (Other (Other (Other x)))) ps p = own x ps p.1.1.1.1

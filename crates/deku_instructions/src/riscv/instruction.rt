@@ -1,14 +1,14 @@
 //! Whole words: a code, and the operands that it chooses.
 
 ghost use Rattle.std.specs.Prelude.{◌≡◌};
-ghost use Rattle.deku_instructions.specs.Words.{word_gone, word_reckoned, reckoned, gone};
+ghost use Rattle.deku_instructions.specs.Words.{word_of_transfer, word_of_computation, computation_parts, transfer_parts};
 
 use crate::riscv::branch::Branch;
 use crate::riscv::immediate::Immediate;
 use crate::riscv::jump::Jump;
 use crate::riscv::register::Register;
 use crate::riscv::store::Store;
-use crate::riscv::tails::{Going, Gone, Reckoned, Reckoning};
+use crate::riscv::tails::{Computation, Computations, Transfer, Transfers};
 use crate::riscv::upper::Upper;
 use deku::device::{Sink, Source};
 use deku::prelude::{
@@ -51,7 +51,12 @@ pub enum Instruction {
 }
 
 // A code of seven bits, and what lies under each.
-type Parts = LsbTagged<Immediate, Choice<Immediate, Choice<Store, Reckoning, 0x23>, 0x0F>, 0x03, 7>;
+type Parts = LsbTagged<
+    Immediate,
+    Choice<Immediate, Choice<Store, Computation, 0x23>, 0x0F>,
+    0x03,
+    7,
+>;
 
 impl Parted<()> for Instruction {
     ghost use Rattle.std.specs.Prelude.{refl};
@@ -69,7 +74,7 @@ impl Parted<()> for Instruction {
             Tagged::This(x) => Instruction::Load(x),
             Tagged::Other(Choice::This(x)) => Instruction::Fence(x),
             Tagged::Other(Choice::Other(Choice::This(x))) => Instruction::Store(x),
-            Tagged::Other(Choice::Other(Choice::Other(Reckoning(x)))) => reckoning(x),
+            Tagged::Other(Choice::Other(Choice::Other(Computation(x)))) => computation(x),
         }
     }
 
@@ -88,22 +93,22 @@ impl Parted<()> for Instruction {
     ] };
 }
 
-// The word of what reckons, or goes elsewhere.
-fn reckoning(parts: Reckoned) -> Instruction
-    ensures { result ≡ word_reckoned parts }
+// The word of a computation, or of a transfer of control.
+fn computation(parts: Computations) -> Instruction
+    ensures { result ≡ word_of_computation parts }
 {
     match parts {
         Choice::This(x) => Instruction::OperateImmediate(x),
         Choice::Other(Choice::This(x)) => Instruction::AddUpper(x),
         Choice::Other(Choice::Other(Choice::This(x))) => Instruction::Operate(x),
         Choice::Other(Choice::Other(Choice::Other(Choice::This(x)))) => Instruction::LoadUpper(x),
-        Choice::Other(Choice::Other(Choice::Other(Choice::Other(Going(x))))) => going(x),
+        Choice::Other(Choice::Other(Choice::Other(Choice::Other(Transfer(x))))) => transfer(x),
     }
 }
 
-// The word of what goes elsewhere.
-fn going(parts: Gone) -> Instruction
-    ensures { result ≡ word_gone parts }
+// The word of a transfer of control.
+fn transfer(parts: Transfers) -> Instruction
+    ensures { result ≡ word_of_transfer parts }
 {
     match parts {
         Choice::This(x) => Instruction::Branch(x),
@@ -113,18 +118,18 @@ fn going(parts: Gone) -> Instruction
     }
 }
 
-// The parts of what reckons, or goes elsewhere.
-fn reckoned(parts: Reckoned) -> Parts
-    ensures { result ≡ reckoned parts }
+// The parts of a computation, or of a transfer of control.
+fn computation_parts(parts: Computations) -> Parts
+    ensures { result ≡ computation_parts parts }
 {
-    Tagged::Other(Choice::Other(Choice::Other(Reckoning(parts))))
+    Tagged::Other(Choice::Other(Choice::Other(Computation(parts))))
 }
 
-// The parts of what goes elsewhere.
-fn gone(parts: Gone) -> Parts
-    ensures { result ≡ gone parts }
+// The parts of a transfer of control.
+fn transfer_parts(parts: Transfers) -> Parts
+    ensures { result ≡ transfer_parts parts }
 {
-    reckoned(Choice::Other(Choice::Other(Choice::Other(Choice::Other(Going(parts))))))
+    computation_parts(Choice::Other(Choice::Other(Choice::Other(Choice::Other(Transfer(parts))))))
 }
 
 impl ToParts<()> for Instruction {
@@ -133,16 +138,20 @@ impl ToParts<()> for Instruction {
             Instruction::Load(x) => Tagged::This(x),
             Instruction::Fence(x) => Tagged::Other(Choice::This(x)),
             Instruction::Store(x) => Tagged::Other(Choice::Other(Choice::This(x))),
-            Instruction::OperateImmediate(x) => reckoned(Choice::This(x)),
-            Instruction::AddUpper(x) => reckoned(Choice::Other(Choice::This(x))),
-            Instruction::Operate(x) => reckoned(Choice::Other(Choice::Other(Choice::This(x)))),
+            Instruction::OperateImmediate(x) => computation_parts(Choice::This(x)),
+            Instruction::AddUpper(x) => computation_parts(Choice::Other(Choice::This(x))),
+            Instruction::Operate(x) => computation_parts(Choice::Other(Choice::Other(Choice::This(
+                x,
+            )))),
             Instruction::LoadUpper(x) => {
-                reckoned(Choice::Other(Choice::Other(Choice::Other(Choice::This(x)))))
+                computation_parts(Choice::Other(Choice::Other(Choice::Other(Choice::This(x)))))
             }
-            Instruction::Branch(x) => gone(Choice::This(x)),
-            Instruction::JumpRegister(x) => gone(Choice::Other(Choice::This(x))),
-            Instruction::Jump(x) => gone(Choice::Other(Choice::Other(Choice::This(x)))),
-            Instruction::System(x) => gone(Choice::Other(Choice::Other(Choice::Other(Only(x))))),
+            Instruction::Branch(x) => transfer_parts(Choice::This(x)),
+            Instruction::JumpRegister(x) => transfer_parts(Choice::Other(Choice::This(x))),
+            Instruction::Jump(x) => transfer_parts(Choice::Other(Choice::Other(Choice::This(x)))),
+            Instruction::System(x) => transfer_parts(Choice::Other(Choice::Other(Choice::Other(Only(
+                x,
+            ))))),
         }
     }
 }
