@@ -1,4 +1,4 @@
--- Which parts a word has: its code chooses one of eleven kinds, behind the first three in tails with names of their own.
+-- Which parts a word has: its code chooses one of eleven kinds, behind the first three in two tails with names of their own.
 use Rattle.std.specs.Prelude.{◌≡◌, ℕ, List, refl}
 use Rattle.deku_bits.specs.Pieces.{Piece}
 use Rattle.deku_pieces.specs.Choices.{UnderId, OfChoice, id_chosen}
@@ -8,8 +8,8 @@ use Rattle.deku_instructions.specs.declared.riscv.jump.Jump.{Jump}
 use Rattle.deku_instructions.specs.declared.riscv.register.Register.{Register}
 use Rattle.deku_instructions.specs.declared.riscv.store.Store.{Store}
 use Rattle.deku_instructions.specs.declared.riscv.upper.Upper.{Upper}
-use Rattle.deku_instructions.specs.declared.riscv.tails.Transfer.{Transfer}
-use Rattle.deku_instructions.specs.declared.riscv.tails.Computation.{Computation}
+use Rattle.deku_instructions.specs.declared.riscv.transfer.Transfer.{Transfer}
+use Rattle.deku_instructions.specs.declared.riscv.computation.Computation.{Computation}
 use Rattle.deku_instructions.specs.declared.riscv.instruction.Instruction.{Instruction}
 use Rattle.deku_instructions.specs.declared.riscv.instruction.Instruction.TheVariants as word
 use Rattle.deku_symmetry.specs.declared.choice.Choice.{Choice}

@@ -4,11 +4,12 @@ ghost use Rattle.std.specs.Prelude.{◌≡◌};
 ghost use Rattle.deku_instructions.specs.Words.{word_of_transfer, word_of_computation, computation_parts, transfer_parts};
 
 use crate::riscv::branch::Branch;
+use crate::riscv::computation::{Computation, Computations};
 use crate::riscv::immediate::Immediate;
 use crate::riscv::jump::Jump;
 use crate::riscv::register::Register;
 use crate::riscv::store::Store;
-use crate::riscv::tails::{Computation, Computations, Transfer, Transfers};
+use crate::riscv::transfer::{Transfer, Transfers};
 use crate::riscv::upper::Upper;
 use deku::device::{Sink, Source};
 use deku::prelude::{
