@@ -8,7 +8,8 @@ use deku::device::{Sink, Source};
 use deku::prelude::{DekuError, DekuReader, DekuWriter, Reader, Writer};
 use deku_symmetry::{Choice, Kinds, Named, Parted, Symmetric, read_record};
 
-/// Computations, under 0x13, 0x17, 0x33 and 0x37, or transfers of control.
+/// Computations, under 0x13, 0x17, 0x33 and 0x37, or transfers of control. They are read under a code that was read before; another code than these is refused with
+/// `IdVariantNotFound`, and nothing moves.
 #[derive(Debug, PartialEq, Eq, Drop)]
 pub struct Computation(pub Computations);
 

@@ -7,7 +7,7 @@ use deku::device::{Sink, Source};
 use deku::prelude::{DekuError, DekuReader, DekuWriter, Reader, Writer};
 use deku_symmetry::{Choice, Kinds, Named, Only, Parted, Symmetric, read_record};
 
-/// Transfers of control: branches, jumps and calls to the system, under 0x63, 0x67, 0x6F and 0x73.
+/// Transfers of control: branches, jumps and calls to the system, under 0x63, 0x67, 0x6F and 0x73. They are read as `Computation` is.
 #[derive(Debug, PartialEq, Eq, Drop)]
 pub struct Transfer(pub Transfers);
 
