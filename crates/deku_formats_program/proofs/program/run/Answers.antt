@@ -1,5 +1,5 @@
 use Rattle.std.proofs.Common.{rules, sym, ◌∙◌}
-use Rattle.deku_formats_program.proofs.Asking.{usage_told}
+use Rattle.deku_formats_program.proofs.Telling.{usage_told}
 use Rattle.deku_formats_program.proofs.program.run.Goals as goal
 
 pub returns-clause-told : goal.returns-clause-told
