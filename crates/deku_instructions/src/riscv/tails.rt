@@ -9,7 +9,8 @@ use deku::device::{Sink, Source};
 use deku::prelude::{DekuError, DekuReader, DekuWriter, Reader, Writer};
 use deku_symmetry::{Choice, Kinds, Named, Only, Parted, Symmetric, read_record};
 
-/// What reckons, in registers, under 0x13, 0x17, 0x33 and 0x37, or what goes elsewhere.
+/// What reckons, in registers, under 0x13, 0x17, 0x33 and 0x37, or what goes elsewhere. It is read and written under a code that was before; under another code than these it is
+/// refused with `IdVariantNotFound`, and nothing moves.
 #[derive(Debug, PartialEq, Eq, Drop)]
 pub struct Reckoning(pub Reckoned);
 
@@ -20,7 +21,7 @@ pub type Reckoned = Choice<
     0x13,
 >;
 
-/// What goes elsewhere, under 0x63, 0x67, 0x6F and 0x73.
+/// What goes elsewhere, under 0x63, 0x67, 0x6F and 0x73. It is read and written as `Reckoning` is.
 #[derive(Debug, PartialEq, Eq, Drop)]
 pub struct Going(pub Gone);
 
