@@ -18,6 +18,14 @@ use std::alloc::Global;
 use std::io::ErrorKind;
 
 /// The items as bytes, and read from these under the same fields: how many bits they took, and their values.
+///
+/// It is refused as the first item is that is refused, written or read, or with `Io(OutOfMemory)` where no memory is found. Of fitting items whose order changes only at byte boundaries the latter is the one
+/// refusal.
+///
+/// ```text
+/// // 6 and 9 in four bits each, big and `Msb0`
+/// there_and_back(alloc, &items)?                             // (8, [6, 9])
+/// ```
 pub fn there_and_back(alloc: Global, items: &[Item]) -> Result<(usize, Vec<Number>), DekuError>
     ensures { ComesBack items.now result }
 {
@@ -49,6 +57,10 @@ fn fields_of(alloc: Global, items: &[Item]) -> Result<Vec<Field>, DekuError>
 /// a sign, high byte first. They are the same values, and forty bits are counted; or no memory was found.
 ///
 /// The caller's conditions: each value has no more bits than its field.
+///
+/// ```text
+/// five_there_and_back(alloc, 6, 9, 0x1001, 4, -2)?           // (40, [6, 9, 0x1001, 4, -2])
+/// ```
 pub fn five_there_and_back(
     alloc: Global,
     version: u8,
@@ -108,6 +120,13 @@ pub(crate) fn low(kind: Kind, size: Size, value: Number) -> Item
 }
 
 /// The values that the fields read from any bytes, written under the same fields: they are the bytes taken, unread bits zero.
+///
+/// It is refused as the first field is that is refused where it is read, or with `Io(OutOfMemory)` where no memory is found.
+///
+/// ```text
+/// // four bits, big and `Msb0`
+/// rewritten(alloc, &[0x6F, 0x99], &fields)?                  // 60
+/// ```
 pub fn rewritten(alloc: Global, bytes: &[u8], fields: &[Field]) -> Result<Vec<u8>, DekuError>
     ensures { WritesTaken fields.now bytes.now result }
 {

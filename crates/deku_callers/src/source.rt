@@ -10,7 +10,7 @@ use deku_symmetry::Symmetric;
 use std::alloc::Global;
 
 /// The header of a datagram from the front of a source, and how many bits it has. Where the source tells its bytes, these are 64, and it tells then those behind
-/// the first eight: no byte is fetched too early.
+/// the first eight: no byte is fetched too early. It is refused as the header is where it is read.
 ///
 /// ```text
 /// let mut source = Cursor::new(bytes);
