@@ -16,51 +16,53 @@ fn tells_the_usage(rt: HostRuntime) -> Result<(), Fail> {
     expect_runs(&rt, rt.alloc(), &runs)
 }
 
+// Each with a word that is no field, which is told.
+const WRONG_WORDS: [Run; 5] = [
+    (
+        &["u8", "u9", "u7"],
+        (
+            2,
+            "",
+            "usage: layout [--svg|--bytes HEX] [NAME:]SPEC.., and \"u9\" is no field\n",
+        ),
+    ),
+    (
+        &["--svg", "a:u8,bits4,big"],
+        (
+            2,
+            "",
+            "usage: layout [--svg|--bytes HEX] [NAME:]SPEC.., and \"a:u8,bits4,big\" is no field\n",
+        ),
+    ),
+    (
+        &["--bytes", "6g", "u8", "--svg"],
+        (
+            2,
+            "",
+            "usage: layout [--svg|--bytes HEX] [NAME:]SPEC.., and \"--svg\" is no field\n",
+        ),
+    ),
+    (
+        &["u8", "--bytes"],
+        (
+            2,
+            "",
+            "usage: layout [--svg|--bytes HEX] [NAME:]SPEC.., and \"--bytes\" is no field\n",
+        ),
+    ),
+    (
+        &["u8\n"],
+        (
+            2,
+            "",
+            "usage: layout [--svg|--bytes HEX] [NAME:]SPEC.., and \"u8\\n\" is no field\n",
+        ),
+    ),
+];
+
 #[test]
 fn names_a_wrong_word(rt: HostRuntime) -> Result<(), Fail> {
-    let runs: [Run; 5] = [
-        (
-            &["u8", "u9", "u7"],
-            (
-                2,
-                "",
-                "usage: layout [--svg|--bytes HEX] [NAME:]SPEC.., and \"u9\" is no field\n",
-            ),
-        ),
-        (
-            &["--svg", "a:u8,bits4,big"],
-            (
-                2,
-                "",
-                "usage: layout [--svg|--bytes HEX] [NAME:]SPEC.., and \"a:u8,bits4,big\" is no field\n",
-            ),
-        ),
-        (
-            &["--bytes", "6g", "u8", "--svg"],
-            (
-                2,
-                "",
-                "usage: layout [--svg|--bytes HEX] [NAME:]SPEC.., and \"--svg\" is no field\n",
-            ),
-        ),
-        (
-            &["u8", "--bytes"],
-            (
-                2,
-                "",
-                "usage: layout [--svg|--bytes HEX] [NAME:]SPEC.., and \"--bytes\" is no field\n",
-            ),
-        ),
-        (
-            &["u8\n"],
-            (
-                2,
-                "",
-                "usage: layout [--svg|--bytes HEX] [NAME:]SPEC.., and \"u8\\n\" is no field\n",
-            ),
-        ),
-    ];
-    expect_runs(&rt, rt.alloc(), &runs)
+    expect_runs(&rt, rt.alloc(), &WRONG_WORDS)
 }
 
 #[test]
