@@ -82,8 +82,10 @@ Reads [] S [] T = S ≡ T
 Reads (f ∷ fs) S (n ∷ ns) T = Has (field_width f) S × IsWorth f (taken f.layout.order (field_width f) S) n × Reads fs (left f.layout.order (field_width f) S) ns T
 Reads _ S _ T = ⊥
 
+-- the fields of items
 abbrev pub fields_of : List Item → List Field
 fields_of items = map (λ i. i.field) items
 
+-- the values of items
 abbrev pub values_of : List Item → List Number
 values_of items = map (λ i. i.value) items

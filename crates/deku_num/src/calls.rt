@@ -24,6 +24,8 @@ use deku_bits::writer::Writer;
 ///
 /// - with `Parse("too much data")` where the size is beyond the type; nothing changes, also where the reader has stopped;
 /// - as `Reader::read_bits_into` refuses to read the bits of the field, and what is left then is said there.
+///
+/// The caller's conditions: the type has no sign, and at most 128 bits.
 #[inline(always)]
 pub fn read_unsigned<R: Source>(
     reader: &mut Reader<R>,
@@ -52,6 +54,8 @@ pub fn read_unsigned<R: Source>(
 /// - with `InvalidParam("signed big Lsb0 field of this width")` where the field is big and `Lsb0`, of more than eight bits and no whole
 ///   bytes; nothing changes;
 /// - as `Reader::read_bits_into` refuses to read the bits of the field, and what is left then is said there.
+///
+/// The caller's conditions: the type has a sign, and at most 128 bits.
 #[inline(always)]
 pub fn read_signed<R: Source>(
     reader: &mut Reader<R>,
@@ -118,6 +122,8 @@ fn readable_width(number_type: NumberType, layout: Layout) -> Result<usize, Deku
 ///   the writer has stopped;
 /// - with `InvalidParam("bit size of input is larger than requested size")` where the number does not fit the bits; nothing changes;
 /// - as `Writer::write_bits_order` refuses to write the bits of the field, and what is left then is said there.
+///
+/// The caller's conditions: the type has no sign, and at most 128 bits.
 #[inline(always)]
 pub fn write_unsigned<W: Sink>(
     writer: &mut Writer<W>,
@@ -149,6 +155,8 @@ pub fn write_unsigned<W: Sink>(
 ///   bytes; nothing changes;
 /// - with `InvalidParam("bit size of input is larger than requested size")` where the number does not fit the bits; nothing changes;
 /// - as `Writer::write_bits_order` refuses to write the bits of the field, and what is left then is said there.
+///
+/// The caller's conditions: the type has a sign, and at most 128 bits.
 #[inline(always)]
 pub fn write_signed<W: Sink>(
     writer: &mut Writer<W>,

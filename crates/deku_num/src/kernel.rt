@@ -72,7 +72,9 @@ fn is_even_where(signed: bool, endian: Endian, order: Order, width: usize) -> bo
     }
 }
 
-/// The number of a field's bits, without a sign, from their word, as `Reader::read_word` answers it. There are at most 128.
+/// The number of a field's bits, without a sign, from their word, as `Reader::read_word` answers it.
+///
+/// The caller's conditions: there are at most 128 bits, and the word has no more.
 #[inline(always)]
 pub fn number_of_word(word: u128, width: usize, endian: Endian, order: Order) -> u128
     requires wide { width ≤ 128 }
@@ -153,6 +155,8 @@ fn turned(number: u128, count: usize) -> u128
 }
 
 /// What a number of n bits is worth in two's complement.
+///
+/// The caller's conditions: there are at most 128 bits, and the number has no more.
 #[inline(always)]
 pub fn signed_of(number: u128, n: usize) -> i128
     requires wide { n ≤ 128 }

@@ -9,6 +9,7 @@ pub record Piece : Type 0 where
   pub order : Order
   pub bits : List Bool
 
+-- the piece of these bits in this order
 abbrev pub piece : Order → List Bool → Piece
 piece o s = record { order = o; bits = s }
 
@@ -16,6 +17,7 @@ piece o s = record { order = o; bits = s }
 abbrev pub shape : Piece → Order × ℕ
 shape p = (p.order, length p.bits)
 
+-- whether two orders are the same
 abbrev pub same_order : Order → Order → Bool
 same_order Msb0 Msb0 = true
 same_order Lsb0 Lsb0 = true

@@ -1,5 +1,5 @@
 -- Bits that go out through a byte that fills.
-use Rattle.std.specs.Prelude.{◌≡◌, ℕ, zero, suc, ◌*◌, ◌/◌, ◌%◌, ◌^◌, ◌<◌, List, Bool, true, false, Option, None, Some, [], ◌∷◌, ◌++◌, length, reverse, flat_map, ⊤}
+use Rattle.std.specs.Prelude.{◌≡◌, ℕ, zero, suc, ◌*◌, ◌/◌, ◌%◌, ◌^◌, ◌<◌, List, Bool, Option, None, Some, [], ◌∷◌, ◌++◌, length, reverse, flat_map, ⊤}
 use Rattle.std.specs.declared.io.ErrorKind.{ErrorKind}
 use Rattle.deku_stream.specs.declared.ctx.Order.{Order}
 use Rattle.deku_writer.specs.declared.writer.way.Way.{Way}
@@ -15,11 +15,6 @@ along Forward s = s
 along Backward s = reverse s
 along TurnedBytes s = flat_map reverse (chunks s)
 along BytesBackward s = reverse (flat_map reverse (chunks s))
-
--- a list from its first item on, or from its last on
-abbrev pub turned_where : Bool → List ℕ → List ℕ
-turned_where true bytes = reverse bytes
-turned_where false bytes = bytes
 
 -- a way over bytes goes over whole ones
 abbrev pub IsFor : Way → ℕ → Type 0

@@ -68,7 +68,7 @@ fn push_bit<W: Sink>(
 }
 
 /// The bits, on a way through them.
-pub fn push_along<W: Sink>(
+fn push_along<W: Sink>(
     sink: &mut W,
     held: &mut Held,
     order: Order,
@@ -91,7 +91,7 @@ pub fn push_along<W: Sink>(
 }
 
 /// Bits onto bits of the same order.
-pub fn push_same<W: Sink>(
+fn push_same<W: Sink>(
     sink: &mut W,
     held: &mut Held,
     order: Order,
@@ -130,7 +130,7 @@ fn push_three<W: Sink>(
 }
 
 /// `Lsb0` bits into `Msb0` bits.
-pub fn push_into<W: Sink>(sink: &mut W, held: &mut Held, bits: &[bool]) -> Result<(), ErrorKind>
+fn push_into<W: Sink>(sink: &mut W, held: &mut Held, bits: &[bool]) -> Result<(), ErrorKind>
     requires { length held.old < 8 }
     ensures pushed { OnOk result (Pushed (W.told sink.old) (W.told sink.new) Msb0 [] held.new
         (take (min (8 - length bits.now % 8) (length held.old)) held.old ++ bits.now ++ drop (min (8 - length bits.now % 8) (length held.old)) held.old)) }
@@ -151,7 +151,7 @@ pub fn push_into<W: Sink>(sink: &mut W, held: &mut Held, bits: &[bool]) -> Resul
 }
 
 /// `Msb0` bits above `Lsb0` bits.
-pub fn push_above<W: Sink>(sink: &mut W, held: &mut Held, bits: &[bool]) -> Result<(), ErrorKind>
+fn push_above<W: Sink>(sink: &mut W, held: &mut Held, bits: &[bool]) -> Result<(), ErrorKind>
     requires { length held.old < 8 }
     ensures pushed { OnOk result (Pushed (W.told sink.old) (W.told sink.new) Msb0 [] held.new
         (along BytesBackward (drop (length bits.now % 8) bits.now) ++ take (length bits.now % 8) bits.now ++ held.old)) }
