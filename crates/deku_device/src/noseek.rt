@@ -31,6 +31,10 @@ pub struct NoSeek<T> {
 
 impl<T> NoSeek<T> {
     /// At position 0.
+    ///
+    /// ```text
+    /// let source = NoSeek::new(stream);                          // reads from a stream that cannot seek
+    /// ```
     pub fn new(inner: T) -> NoSeek<T>
         ensures inner { result.inner ≡ inner }
         ensures position { result.position ≡ 0 }
@@ -39,6 +43,10 @@ impl<T> NoSeek<T> {
     }
 
     /// The stream inside. What is moved by it is not counted.
+    ///
+    /// ```text
+    /// source.get_ref().is_terminal()                             // asks the stream inside
+    /// ```
     pub fn get_ref(&self) -> &T
         ensures { result.now ≡ self.now.inner }
     {
@@ -46,6 +54,10 @@ impl<T> NoSeek<T> {
     }
 
     /// The stream inside, to be changed. What is moved by it is not counted.
+    ///
+    /// ```text
+    /// sink.get_mut().flush()?;                                   // told to the stream inside
+    /// ```
     pub fn get_mut(&mut self) -> &mut T
         ensures value { result.now ≡ self.old.inner }
         ensures* writes_back { sem 𝓛 (Lends (stream-row T.row) T.row self.entry result (λ x. record self.old { inner = x })) }
@@ -54,6 +66,10 @@ impl<T> NoSeek<T> {
     }
 
     /// The stream inside, given back.
+    ///
+    /// ```text
+    /// let stream = source.into_inner();                          // behind what was read
+    /// ```
     pub fn into_inner(self) -> T
         ensures { result ≡ self.inner }
     {

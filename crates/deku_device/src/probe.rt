@@ -36,6 +36,10 @@ pub struct FailAt<B> {
 
 impl<B> FailAt<B> {
     /// It fails at the nth call, counted from 1; for 0 it never fails.
+    ///
+    /// ```text
+    /// let source = FailAt::new(Cursor::new(bytes), 2);           // gives a byte, refuses the second call with Other, and goes on
+    /// ```
     pub fn new(inner: Cursor<B>, n: usize) -> FailAt<B>
         ensures inner { result.inner ≡ inner }
         ensures left { result.left ≡ n }
@@ -44,6 +48,10 @@ impl<B> FailAt<B> {
     }
 
     /// The cursor inside.
+    ///
+    /// ```text
+    /// sink.into_inner().position()                               // how far it came
+    /// ```
     pub fn into_inner(self) -> Cursor<B>
         ensures { result ≡ self.inner }
     {

@@ -27,6 +27,10 @@ pub enum Kind {
 
 impl Kind {
     /// The type that it names.
+    ///
+    /// ```text
+    /// Kind::I16.number_type()                                    // 16 bits, with a sign
+    /// ```
     #[inline(always)]
     pub fn number_type(self) -> NumberType
         ensures { result ≡ number_type self }
@@ -70,6 +74,10 @@ impl Kind {
     }
 
     /// Whether a number is one of its own: with a sign or without, as it has one or not, and in its range.
+    ///
+    /// ```text
+    /// Kind::U8.holds(Number::Unsigned(256))                      // false
+    /// ```
     #[inline(always)]
     pub fn holds(self, number: Number) -> bool
         ensures { IsTrue result ↔ IsOfKind self number }
@@ -82,6 +90,10 @@ impl Kind {
     }
 
     /// Whether its numbers have a sign.
+    ///
+    /// ```text
+    /// Kind::I16.is_signed()                                      // true
+    /// ```
     #[inline(always)]
     pub fn is_signed(self) -> bool
         ensures { result ≡ (number_type self).signed }

@@ -29,6 +29,11 @@ use std::io::{Cursor, ErrorKind};
 /// As many bytes of the source are fetched as the fields' bits need behind the unread ones, and none behind the last one that a field touches.
 ///
 /// The caller's condition: `out` has one place for each field.
+///
+/// ```text
+/// let mut values = [Number::Unsigned(0); 2];
+/// read_list_into(&mut reader, &[four, twelve], &mut values)?; // 6 and 0x9C0, of the bytes 69 C0
+/// ```
 pub fn read_list_into<R: Source>(
     reader: &mut Reader<R>,
     fields: &[Field],
@@ -103,6 +108,10 @@ fn read_checked<R: Source>(reader: &mut Reader<R>, field: &Field) -> Result<Numb
 /// One value for each field, in order. It is `read_list_into` a vector, whose memory is found first.
 ///
 /// Where no memory is found it is refused with `Io(OutOfMemory)`, and nothing moves.
+///
+/// ```text
+/// read_list(&mut reader, &[four, twelve])?                   // 6 and 0x9C0, of the bytes 69 C0
+/// ```
 pub fn read_list<R: Source>(
     reader: &mut Reader<R>,
     fields: &[Field],

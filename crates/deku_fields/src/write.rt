@@ -29,6 +29,10 @@ use std::io::Cursor;
 /// An item is refused with `InvalidParam("value outside type")` where its value is none of its kind, then as its number is: where
 /// the size is beyond the kind, where a signed big `Lsb0` field has such a width, where the value does not fit; and then as `Writer`
 /// refuses to write its bits. What the items before it moved stays moved. Without items no call is made on the writer.
+///
+/// ```text
+/// write_list(&mut writer, &[six_in_four, nine_in_four])?;    // the byte 69
+/// ```
 pub fn write_list<W: Sink>(writer: &mut Writer<W>, items: &[Item]) -> Result<(), DekuError>
     ensures meaning { Writes W.told (WritesItems items.now) writer.old result writer.new }
     ensures laid_out { WritesWhereSound W.told (WritesLaid items.now) writer.old result writer.new }

@@ -92,6 +92,10 @@ pub enum Limit<T, P: Predicate<T>> {
 
 impl<T, P: FnMut(&T) -> bool + Drop> Limit<T, P> {
     /// Behind the first item of which the predicate is true. It is asked about each item once, in order.
+    ///
+    /// ```text
+    /// let limit = Limit::new_until(|byte: &u8| *byte == 0);      // up to the first zero, and with it
+    /// ```
     pub fn new_until(predicate: P) -> Self
         ensures { result ≡ Limit.Until predicate (record {}) }
     {
@@ -101,6 +105,10 @@ impl<T, P: FnMut(&T) -> bool + Drop> Limit<T, P> {
 
 impl<T> Limit<T, Never> {
     /// Behind so many items.
+    ///
+    /// ```text
+    /// let limit = Limit::<u16, Never>::new_count(3);             // three numbers
+    /// ```
     pub fn new_count(count: usize) -> Self
         ensures { result ≡ Limit.Count count }
     {
@@ -108,6 +116,10 @@ impl<T> Limit<T, Never> {
     }
 
     /// Behind the item with which exactly so many bits are read; items that step over that are read on. Nothing is read for 0 bits.
+    ///
+    /// ```text
+    /// let limit = Limit::<u8, Never>::new_bit_size(BitSize(16)); // two bytes
+    /// ```
     pub fn new_bit_size(size: BitSize) -> Self
         ensures { result ≡ Limit.BitSize size }
     {
@@ -115,6 +127,10 @@ impl<T> Limit<T, Never> {
     }
 
     /// Behind the item with which exactly so many bytes are read; items that step over that are read on. Nothing is read for 0 bytes.
+    ///
+    /// ```text
+    /// let limit = Limit::<u16, Never>::new_byte_size(ByteSize(4)); // two numbers
+    /// ```
     pub fn new_byte_size(size: ByteSize) -> Self
         ensures { result ≡ Limit.ByteSize size }
     {
@@ -122,6 +138,10 @@ impl<T> Limit<T, Never> {
     }
 
     /// Where the stream ends.
+    ///
+    /// ```text
+    /// let limit = Limit::<u8, Never>::end();                     // all bytes that are left
+    /// ```
     pub fn end() -> Self
         ensures { result ≡ Limit.End }
     {

@@ -26,6 +26,10 @@ use deku_bits::writer::Writer;
 /// - as `Reader::read_bits_into` refuses to read the bits of the field, and what is left then is said there.
 ///
 /// The caller's conditions: the type has no sign, and at most 128 bits.
+///
+/// ```text
+/// read_unsigned(&mut reader, u16_type, layout)?              // 0xABCD, of the bytes AB CD under a big layout
+/// ```
 #[inline(always)]
 pub fn read_unsigned<R: Source>(
     reader: &mut Reader<R>,
@@ -56,6 +60,10 @@ pub fn read_unsigned<R: Source>(
 /// - as `Reader::read_bits_into` refuses to read the bits of the field, and what is left then is said there.
 ///
 /// The caller's conditions: the type has a sign, and at most 128 bits.
+///
+/// ```text
+/// read_signed(&mut reader, i8_type, layout)?                 // -3, of the bits 1, 0, 1 under a layout of three
+/// ```
 #[inline(always)]
 pub fn read_signed<R: Source>(
     reader: &mut Reader<R>,
@@ -124,6 +132,10 @@ fn readable_width(number_type: NumberType, layout: Layout) -> Result<usize, Deku
 /// - as `Writer::write_bits_order` refuses to write the bits of the field, and what is left then is said there.
 ///
 /// The caller's conditions: the type has no sign, and at most 128 bits.
+///
+/// ```text
+/// write_unsigned(&mut writer, 5, u8_type, layout)?;          // the bits 1, 0, 1 under a layout of three
+/// ```
 #[inline(always)]
 pub fn write_unsigned<W: Sink>(
     writer: &mut Writer<W>,
@@ -157,6 +169,10 @@ pub fn write_unsigned<W: Sink>(
 /// - as `Writer::write_bits_order` refuses to write the bits of the field, and what is left then is said there.
 ///
 /// The caller's conditions: the type has a sign, and at most 128 bits.
+///
+/// ```text
+/// write_signed(&mut writer, -3, i8_type, layout)?;           // the bits 1, 0, 1 under a layout of three
+/// ```
 #[inline(always)]
 pub fn write_signed<W: Sink>(
     writer: &mut Writer<W>,

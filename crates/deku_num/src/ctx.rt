@@ -25,6 +25,10 @@ impl Endian {
     }
 
     /// Whether the first group has the lowest bits.
+    ///
+    /// ```text
+    /// Endian::Little.is_le()                                     // true
+    /// ```
     pub fn is_le(self) -> bool
         ensures { IsTrue result ↔ (self ≡ Endian.Little) }
     {
@@ -32,6 +36,10 @@ impl Endian {
     }
 
     /// Whether the first group has the highest bits.
+    ///
+    /// ```text
+    /// Endian::Big.is_be()                                        // true
+    /// ```
     pub fn is_be(self) -> bool
         ensures { IsTrue result ↔ (self ≡ Endian.Big) }
     {
@@ -103,6 +111,10 @@ pub struct BitSize(pub usize);
 
 impl BitSize {
     /// The bits that each value of the type takes; none where they are not known or do not fit `usize`.
+    ///
+    /// ```text
+    /// BitSize::of::<(u8, [u16; 3])>()                            // Some(BitSize(56))
+    /// ```
     pub fn of<T: DekuSize>() -> Option<BitSize>
         ensures { result ≡ option_map (λ n. record { 0 = n }) (fitting T.bits) }
     {

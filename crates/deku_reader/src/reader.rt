@@ -72,6 +72,10 @@ pub struct Reader<R: Source> {
 
 impl<R: Source> Reader<R> {
     /// A reader that begins at the source's next byte, with no bits read. The vectors that it answers are made by `alloc`.
+    ///
+    /// ```text
+    /// let mut reader = Reader::new(alloc, Cursor::new(bytes));   // nothing is fetched yet
+    /// ```
     pub fn new(alloc: Global, inner: R) -> Reader<R>
         ensures source { result.source ≡ inner }
         ensures alloc { result.alloc ≡ alloc }
@@ -85,6 +89,10 @@ impl<R: Source> Reader<R> {
     }
 
     /// The allocator that it was given.
+    ///
+    /// ```text
+    /// let vector: Vec<u8> = Vec::new(reader.alloc());            // beside those that the reader answers
+    /// ```
     pub fn alloc(&self) -> Global
         ensures { result ≡ self.now.alloc }
     {
@@ -92,6 +100,10 @@ impl<R: Source> Reader<R> {
     }
 
     /// The source, behind the last byte that was fetched. Bits of that byte that were not read yet are lost.
+    ///
+    /// ```text
+    /// reader.into_inner().position()                             // 2, where nine bits were read
+    /// ```
     pub fn into_inner(self) -> R
         ensures { result ≡ self.source }
     {
@@ -114,6 +126,10 @@ impl<R: Source> Reader<R> {
     }
 
     /// The unread bits of the byte that was fetched last, where there are any; none after a fault.
+    ///
+    /// ```text
+    /// reader.leftover()                                          // Some(Leftover::Bits(0, 1)), where the last two bits of a byte are unread
+    /// ```
     pub fn leftover(&self) -> Option<Leftover>
         ensures { IsLeftover (window_of self.now.state) result }
     {
@@ -130,6 +146,10 @@ impl<R: Source> Reader<R> {
     }
 
     /// How many bits were read, by reads that succeeded.
+    ///
+    /// ```text
+    /// reader.bits_read()                                         // 12, behind reads of 8 and of 4 bits
+    /// ```
     pub fn bits_read(&self) -> usize
         ensures { result ≡ count_of self.now.state }
     {

@@ -32,6 +32,10 @@ impl<const N: usize> Model for BoundedBitVec<N> {
 
 impl<const N: usize> BoundedBitVec<N> {
     /// The empty list. The caller's condition: `8 * N` fits `usize`.
+    ///
+    /// ```text
+    /// let bits: BoundedBitVec<1> = BoundedBitVec::new();         // room for eight bits
+    /// ```
     pub fn new() -> Self
         requires { 8 * N < 2 ^ 64 }
         ensures { result ≡ [] }
@@ -43,6 +47,11 @@ impl<const N: usize> BoundedBitVec<N> {
     }
 
     /// These bits. The caller's condition: they are at most `8 * N`, which fits `usize`.
+    ///
+    /// ```text
+    /// let bits: BoundedBitVec<1> = BoundedBitVec::from_bits(&[true, false, true]);
+    /// bits.as_raw_slice()                                        // A0
+    /// ```
     pub fn from_bits(bits: &[bool]) -> Self
         requires size { 8 * N < 2 ^ 64 }
         requires room { length bits.now ≤ 8 * N }
@@ -57,6 +66,11 @@ impl<const N: usize> BoundedBitVec<N> {
     }
 
     /// All bits of these bytes. The caller's condition: `8 * N` fits `usize`.
+    ///
+    /// ```text
+    /// let bits = BoundedBitVec::from_array([0xA0]);
+    /// bits.len()                                                 // 8
+    /// ```
     pub fn from_array(bytes: [u8; N]) -> Self
         requires { 8 * N < 2 ^ 64 }
         ensures { result ≡ bits_in bytes.entry }
@@ -66,6 +80,10 @@ impl<const N: usize> BoundedBitVec<N> {
     }
 
     /// How many bits there are.
+    ///
+    /// ```text
+    /// BoundedBitVec::from_array([0xA0, 0x01]).len()              // 16
+    /// ```
     pub fn len(&self) -> usize
         ensures len { result ≡ length self.now }
         ensures room { result ≤ 8 * N }
@@ -74,6 +92,10 @@ impl<const N: usize> BoundedBitVec<N> {
     }
 
     /// Whether there is no bit.
+    ///
+    /// ```text
+    /// BoundedBitVec::from_array([0xA0]).is_empty()               // false
+    /// ```
     pub fn is_empty(&self) -> bool
         ensures { IsTrue result ↔ (length self.now ≡ 0) }
     {
@@ -81,6 +103,10 @@ impl<const N: usize> BoundedBitVec<N> {
     }
 
     /// Whether no bit can be added.
+    ///
+    /// ```text
+    /// BoundedBitVec::from_array([0xA0]).is_full()                // true
+    /// ```
     pub fn is_full(&self) -> bool
         ensures { IsTrue result ↔ (length self.now ≡ 8 * N) }
     {
@@ -88,6 +114,10 @@ impl<const N: usize> BoundedBitVec<N> {
     }
 
     /// How many bits there can be.
+    ///
+    /// ```text
+    /// BoundedBitVec::from_array([0xA0, 0x01]).capacity()         // 16
+    /// ```
     pub fn capacity(&self) -> usize
         ensures { result ≡ 8 * N }
     {
@@ -95,6 +125,10 @@ impl<const N: usize> BoundedBitVec<N> {
     }
 
     /// The bit at a place, where there is one.
+    ///
+    /// ```text
+    /// BoundedBitVec::from_array([0xA0]).get(2)                   // Some(true); at 8 there is none
+    /// ```
     pub fn get(&self, at: usize) -> Option<bool>
         ensures { result ≡ slice_get self.now at }
     {
@@ -106,6 +140,10 @@ impl<const N: usize> BoundedBitVec<N> {
     }
 
     /// Adds a bit. The caller's condition: there is room.
+    ///
+    /// ```text
+    /// bits.push(true);                                           // 1, 0 becomes 1, 0, 1
+    /// ```
     pub fn push(&mut self, bit: bool)
         requires { length self.old < 8 * N }
         ensures { self.new ≡ self.old ++ bit ∷ [] }
@@ -115,6 +153,10 @@ impl<const N: usize> BoundedBitVec<N> {
     }
 
     /// Adds bits, one after the other. The caller's condition: there is room.
+    ///
+    /// ```text
+    /// bits.extend(&[true, true]);                                // 1, 0 becomes 1, 0, 1, 1
+    /// ```
     pub fn extend(&mut self, bits: &[bool])
         requires { length self.old + length bits.now ≤ 8 * N }
         ensures { self.new ≡ self.old ++ bits.now }
@@ -124,6 +166,10 @@ impl<const N: usize> BoundedBitVec<N> {
     }
 
     /// Puts a bit before that at a place. The caller's conditions: there is one, and there is room.
+    ///
+    /// ```text
+    /// bits.insert(1, true);                                      // 1, 0 becomes 1, 1, 0
+    /// ```
     pub fn insert(&mut self, at: usize, bit: bool)
         requires within { at < length self.old }
         requires room { length self.old < 8 * N }
@@ -134,6 +180,10 @@ impl<const N: usize> BoundedBitVec<N> {
     }
 
     /// Takes the bits from a place on, and leaves those before it. The caller's condition: there is one at the place.
+    ///
+    /// ```text
+    /// let behind = bits.split_off(1);                            // 1, 0, 1 becomes 1, and behind is 0, 1
+    /// ```
     pub fn split_off(&mut self, at: usize) -> Self
         requires { at < length self.old }
         ensures taken { result ≡ drop at self.old }
@@ -148,6 +198,10 @@ impl<const N: usize> BoundedBitVec<N> {
     }
 
     /// Takes all bits away.
+    ///
+    /// ```text
+    /// bits.clear();                                              // no bit is left, and the room stays
+    /// ```
     pub fn clear(&mut self)
         ensures { self.new ≡ [] }
     {
@@ -156,6 +210,10 @@ impl<const N: usize> BoundedBitVec<N> {
     }
 
     /// The `N` bytes: the bits, highest first, and zeros behind them.
+    ///
+    /// ```text
+    /// bits.as_raw_slice()                                        // of 1, 0, 1 in one byte: A0
+    /// ```
     pub fn as_raw_slice(&self) -> &[u8]
         ensures count { length result.now ≡ N }
         ensures bits { bits_in result.now ≡ self.now ++ replicate (8 * N - length self.now) false }

@@ -17,6 +17,10 @@ pub struct NeedSize {
 
 impl NeedSize {
     /// So many bits.
+    ///
+    /// ```text
+    /// DekuError::Incomplete(NeedSize::new(12))                   // twelve more bits were wanted
+    /// ```
     pub fn new(bits: usize) -> NeedSize
         ensures { result.bits ≡ bits }
     {
@@ -24,6 +28,10 @@ impl NeedSize {
     }
 
     /// The bits wanted.
+    ///
+    /// ```text
+    /// NeedSize::new(12).bit_size()                               // 12
+    /// ```
     pub fn bit_size(&self) -> usize
         ensures { result ≡ self.now.bits }
     {
@@ -31,6 +39,10 @@ impl NeedSize {
     }
 
     /// The bytes that the bits wanted need: an eighth of them, rounded up.
+    ///
+    /// ```text
+    /// NeedSize::new(12).byte_size()                              // 2
+    /// ```
     pub fn byte_size(&self) -> usize
         ensures { result ≡ (self.now.bits + 7) / 8 }
     {

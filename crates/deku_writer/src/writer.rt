@@ -75,6 +75,10 @@ impl Model for Progress {
 
 impl<W: Sink> Writer<W> {
     /// A writer onto this sink, with nothing pending and no bit written. Nothing is given to the sink.
+    ///
+    /// ```text
+    /// let mut writer = Writer::new(Cursor::new(Vec::new(alloc))); // writes into a vector
+    /// ```
     #[inline(always)]
     pub fn new(inner: W) -> Writer<W>
         ensures sink { result.sink ≡ inner }
@@ -87,6 +91,11 @@ impl<W: Sink> Writer<W> {
     }
 
     /// The sink, with the bytes that it was given. Pending bits are lost: call `finalize` first.
+    ///
+    /// ```text
+    /// writer.finalize()?;
+    /// let bytes = writer.into_inner().into_inner();              // the vector
+    /// ```
     #[inline(always)]
     pub fn into_inner(self) -> W
         ensures { result ≡ self.sink }
@@ -95,6 +104,10 @@ impl<W: Sink> Writer<W> {
     }
 
     /// How many bits were given to the sink: eight for each byte. Pending bits are not counted, nor are those of a write that failed.
+    ///
+    /// ```text
+    /// writer.bits_written()                                      // 8, behind a write of 12 bits; 16 when it is padded
+    /// ```
     #[inline(always)]
     pub fn bits_written(&self) -> usize
         ensures { result ≡ count_of self.now.state }
@@ -160,6 +173,11 @@ impl<W: Sink> Writer<W> {
     }
 
     /// Writes bits in `Msb0`, as `write_bits_order` does.
+    ///
+    /// ```text
+    /// writer.write_bits(&[true, false, true])?;
+    /// writer.finalize()?;                                        // the byte 0xA0
+    /// ```
     pub fn write_bits(&mut self, bits: &[bool]) -> Result<(), DekuError>
         ensures writes { Writes W.told (WritesBits Msb0 bits.now) self.old result self.new }
         ensures stopped { Untouched self.old.state self.old.sink self.new.sink }
@@ -223,6 +241,11 @@ impl<W: Sink> Writer<W> {
     /// nothing is pending it changes nothing.
     ///
     /// Fails as `write_bits_order` does, and leaves the same.
+    ///
+    /// ```text
+    /// writer.write_bits(&[true, true])?;
+    /// writer.finalize()?;                                        // the byte 0xC0, and 8 bits are counted
+    /// ```
     #[inline(always)]
     pub fn finalize(&mut self) -> Result<(), DekuError>
         ensures writes { Writes W.told Finalizes self.old result self.new }

@@ -59,6 +59,10 @@ impl Eq for CString {
 
 impl CString {
     /// These bytes; none where a zero is among them.
+    ///
+    /// ```text
+    /// CString::new(bytes)                                        // none of 61 00 62, since a zero is among them
+    /// ```
     pub fn new(bytes: Vec<u8>) -> Option<CString>
         ensures { MatchOption result (Contains bytes.items 0) (λ text. (text ≡ bytes.items) × NoZeros bytes.items) }
     {
@@ -70,6 +74,10 @@ impl CString {
     }
 
     /// The bytes, without the zero.
+    ///
+    /// ```text
+    /// text.as_bytes()                                            // 61 62, of ab
+    /// ```
     pub fn as_bytes(&self) -> &[u8]
         ensures value { result.now ≡ self.now }
         ensures no_zeros { NoZeros self.now }
@@ -79,6 +87,10 @@ impl CString {
 
     /// The bytes and a zero behind them, in memory of `alloc`. It is refused with `Io(OutOfMemory)` where there is none, and with
     /// nothing else.
+    ///
+    /// ```text
+    /// text.as_bytes_with_nul(alloc)?                             // 61 62 00, of ab
+    /// ```
     pub fn as_bytes_with_nul(&self, alloc: Global) -> Result<Vec<u8>, DekuError>
         ensures ok { IfOk result (λ v. v.items ≡ self.now ++ 0 ∷ []) }
         ensures err { IfErr result (λ e. e ≡ DekuError.Io ErrorKind.OutOfMemory) }

@@ -29,6 +29,10 @@ pub struct Trickle<'a> {
 
 impl<'a> Trickle<'a> {
     /// It begins at the first byte.
+    ///
+    /// ```text
+    /// let mut reader = Reader::new(alloc, Trickle::new(bytes));  // each transfer gives one byte
+    /// ```
     pub fn new(bytes: &'a [u8]) -> Trickle<'a>
         ensures bytes { cursor_inner result.inner ≡ bytes.entry }
         ensures place { cursor_position result.inner ≡ 0 }
