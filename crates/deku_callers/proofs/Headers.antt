@@ -29,37 +29,37 @@ abbrev pub Word : ℕ → List Piece → Type 0
 Word = OfUnsigned (unsigned 16) (high_first Whole)
 
 abbrev pub OfUdp : Udp → List Piece → Type 0
-OfUdp h = InTurn (Word h.source) (InTurn (Word h.target) (InTurn (Word h.length) (Word h.checksum)))
+OfUdp h = InTurn (Word h.source) (InTurn (Word h.destination) (InTurn (Word h.length) (Word h.checksum)))
 
 abbrev pub SameUdp : Udp → Udp → Type 0
-SameUdp h g = (h.source ≡ g.source) × ((h.target ≡ g.target) × ((h.length ≡ g.length) × (h.checksum ≡ g.checksum)))
+SameUdp h g = (h.source ≡ g.source) × ((h.destination ≡ g.destination) × ((h.length ≡ g.length) × (h.checksum ≡ g.checksum)))
 
 -- its numbers are those of their type
 abbrev pub IsOfType : Udp → Type 0
-IsOfType h = (h.source < 2 ^ 16) × (h.target < 2 ^ 16) × (h.length < 2 ^ 16) × (h.checksum < 2 ^ 16)
+IsOfType h = (h.source < 2 ^ 16) × (h.destination < 2 ^ 16) × (h.length < 2 ^ 16) × (h.checksum < 2 ^ 16)
 
 abbrev made : ℕ → ℕ → ℕ → ℕ → Udp
-made a b c d = record { source = a; target = b; length = c; checksum = d }
+made a b c d = record { source = a; destination = b; length = c; checksum = d }
 
 is_same : (h g : Udp) → SameUdp h g → g ≡ h
 is_same h g (a, (b, (c, d))) =
-    ap (λ x. made x g.target g.length g.checksum) (sym a) ∙ ap (λ x. made h.source x g.length g.checksum) (sym b) ∙ ap (λ x. made h.source h.target x g.checksum) (sym c)
-    ∙ ap (λ x. made h.source h.target h.length x) (sym d)
+    ap (λ x. made x g.destination g.length g.checksum) (sym a) ∙ ap (λ x. made h.source x g.length g.checksum) (sym b) ∙ ap (λ x. made h.source h.destination x g.checksum) (sym c)
+    ∙ ap (λ x. made h.source h.destination h.length x) (sym d)
 
 pub word_has : (n : ℕ) → n < 2 ^ 16 → Has (Word n)
 word_has n small = unsigned_has 16 Whole n (omega arith) small
 
 pub udp_has : (h : Udp) → IsOfType h → Has (OfUdp h)
 udp_has h (a, b, c, d) =
-    turns_have {P = Word h.source} {Q = InTurn (Word h.target) (InTurn (Word h.length) (Word h.checksum))} (word_has h.source a)
-    (turns_have {P = Word h.target} {Q = InTurn (Word h.length) (Word h.checksum)} (word_has h.target b)
+    turns_have {P = Word h.source} {Q = InTurn (Word h.destination) (InTurn (Word h.length) (Word h.checksum))} (word_has h.source a)
+    (turns_have {P = Word h.destination} {Q = InTurn (Word h.length) (Word h.checksum)} (word_has h.destination b)
     (turns_have {P = Word h.length} {Q = Word h.checksum} (word_has h.length c) (word_has h.checksum d)))
 
 pub word_lies : (n : ℕ) → Lies (Word n) 16
 word_lies n = number_lies (unsigned 16) Whole n
 
 pub udp_lies : (h : Udp) → Lies (OfUdp h) 64
-udp_lies h = turns_lie {m = 16} {n = 48} (word_lies h.source) (turns_lie {m = 16} {n = 32} (word_lies h.target) (turns_lie {m = 16} {n = 16} (word_lies h.length) (word_lies h.checksum)))
+udp_lies h = turns_lie {m = 16} {n = 48} (word_lies h.source) (turns_lie {m = 16} {n = 32} (word_lies h.destination) (turns_lie {m = 16} {n = 16} (word_lies h.length) (word_lies h.checksum)))
 
 module _ {W : Udp → Meaning Output (Unit {0})} {R : Meaning (Option Stream) Udp} (to : ToBytesLaw OfUdp W) (from : FromBytesLaw OfUdp SameUdp R) (long : LengthLaw) (h : Udp) (fits : IsOfType h) where
   pub udp_written : (r : Result (Vec ℕ) DekuError) → WritesOnce (Both (W h) Finalizes) r → MatchResult r (λ v. v.items ≡ laid_out (udp_has h fits).0) (λ e. e ≡ Io OutOfMemory)

@@ -4,7 +4,7 @@
 //!  0  1           4  5  6  7  8  9          11 12          15
 //! +--+-----------+--+--+--+--+-----------+-------------+
 //! |                    identification                   |
-//! |QR|  opcode   |AA|TC|RD|RA|  reserved |     code     |
+//! |QR|  opcode   |AA|TC|RD|RA|  reserved | response code|
 //! |                      questions                      |
 //! |                       answers                       |
 //! |                     authorities                     |
@@ -32,13 +32,13 @@ pub struct Header {
     /// Whether the message was cut off, 1 bit.
     pub truncated: u8,
     /// Whether recursion is wanted, 1 bit.
-    pub desired: u8,
+    pub recursion_desired: u8,
     /// Whether recursion is to be had, 1 bit.
-    pub available: u8,
+    pub recursion_available: u8,
     /// 3 bits for later uses.
     pub reserved: u8,
     /// How the question was answered, 4 bits; 0 is without error.
-    pub code: u8,
+    pub response_code: u8,
     /// How many questions follow.
     pub questions: u16,
     /// How many answers follow.
@@ -65,7 +65,7 @@ impl Parted<()> for Header {
     ghost parts_of = { λ r. (
       record { 0 = r.identification },
       (record { 0 = r.response }, record { 0 = r.opcode }, record { 0 = r.authoritative }, record { 0 = r.truncated }),
-      (record { 0 = r.desired }, record { 0 = r.available }, record { 0 = r.reserved }, record { 0 = r.code }),
+      (record { 0 = r.recursion_desired }, record { 0 = r.recursion_available }, record { 0 = r.reserved }, record { 0 = r.response_code }),
       (record { 0 = r.questions }, record { 0 = r.answers }, record { 0 = r.authorities }, record { 0 = r.additionals }),
     ) };
 
@@ -75,10 +75,10 @@ impl Parted<()> for Header {
       opcode = p.1.1.0;
       authoritative = p.1.2.0;
       truncated = p.1.3.0;
-      desired = p.2.0.0;
-      available = p.2.1.0;
+      recursion_desired = p.2.0.0;
+      recursion_available = p.2.1.0;
       reserved = p.2.2.0;
-      code = p.2.3.0;
+      response_code = p.2.3.0;
       questions = p.3.0.0;
       answers = p.3.1.0;
       authorities = p.3.2.0;
@@ -88,7 +88,8 @@ impl Parted<()> for Header {
     fn from_parts(parts: Self::Parts) -> Self {
         let (Be(identification), first, second, counts) = parts;
         let (Msb(response), Msb(opcode), Msb(authoritative), Msb(truncated)) = first;
-        let (Msb(desired), Msb(available), Msb(reserved), Msb(code)) = second;
+        let (Msb(recursion_desired), Msb(recursion_available), Msb(reserved), Msb(response_code)) =
+            second;
         let (Be(questions), Be(answers), Be(authorities), Be(additionals)) = counts;
         Header {
             identification,
@@ -96,10 +97,10 @@ impl Parted<()> for Header {
             opcode,
             authoritative,
             truncated,
-            desired,
-            available,
+            recursion_desired,
+            recursion_available,
             reserved,
-            code,
+            response_code,
             questions,
             answers,
             authorities,
@@ -121,10 +122,10 @@ impl ToParts<()> for Header {
                 Msb(self.truncated),
             ),
             (
-                Msb(self.desired),
-                Msb(self.available),
+                Msb(self.recursion_desired),
+                Msb(self.recursion_available),
                 Msb(self.reserved),
-                Msb(self.code),
+                Msb(self.response_code),
             ),
             (
                 Be(self.questions),

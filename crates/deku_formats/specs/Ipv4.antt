@@ -15,15 +15,15 @@ HasWholeWords h = (option_count h ≤ 40) × (option_count h % 4 ≡ 0)
 
 -- the header's bytes are among those that the total counts
 abbrev pub CountsItself : Ipv4 → Type 0
-CountsItself h = 4 * h.front.words ≤ h.front.total
+CountsItself h = 4 * h.front.words ≤ h.front.total_length
 
 -- the total with the header that the options make, and what was carried
 abbrev pub next_total : Ipv4 → ℕ
-next_total h = h.front.total - 4 * h.front.words + 20 + option_count h
+next_total h = h.front.total_length - 4 * h.front.words + 20 + option_count h
 
 -- the header with its two lengths
 abbrev pub counted : Ipv4 → Ipv4
-counted h = record h { front = record h.front { words = 5 + option_count h / 4; total = next_total h } }
+counted h = record h { front = record h.front { words = 5 + option_count h / 4; total_length = next_total h } }
 
 -- it is refused for this cause, and stays
 abbrev pub StaysFor : List ℕ → Ipv4 → Result (Unit {0}) DekuError → Ipv4 → Type 0

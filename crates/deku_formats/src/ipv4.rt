@@ -3,15 +3,15 @@
 //! ```text
 //!  0       4       8              14  16                           31
 //! +-------+-------+--------------+---+------------------------------+
-//! |   4   | words |   service    |con|            total             |
+//! |   4   | words |   service    |con|         total length         |
 //! +-------+-------+--------------+---+------+-----------------------+
-//! |          identification          |flags |        offset         |
+//! |          identification          |flags |    fragment offset    |
 //! +---------------+------------------+------+-----------------------+
-//! |     life      |     protocol     |           checksum           |
+//! | time to live  |     protocol     |           checksum           |
 //! +---------------+------------------+------------------------------+
 //! |                              source                             |
 //! +-----------------------------------------------------------------+
-//! |                              target                             |
+//! |                           destination                           |
 //! +-----------------------------------------------------------------+
 //! |          options, four bytes for each word beyond the fifth     |
 //! +-----------------------------------------------------------------+
@@ -106,7 +106,7 @@ impl DekuContainerWrite for Ipv4 {}
 ///
 /// ```text
 /// header.options.extend_from_slice(&[0x94, 0x04, 0x00, 0x00])?;
-/// header.update()?;                                           // `words` is one more, `total` four
+/// header.update()?;                                           // `words` is one more, `total_length` four
 /// ```
 impl DekuUpdate for Ipv4 {
     ghost use Rattle.deku_formats.specs.Ipv4.{Updates};
@@ -119,7 +119,7 @@ impl DekuUpdate for Ipv4 {
             return Err(DekuError::Parse("options of no whole words"));
         }
         let before = 4 * self.front.words as usize;
-        let total = self.front.total as usize;
+        let total = self.front.total_length as usize;
         if total < before {
             return Err(DekuError::Parse("total below header"));
         }
@@ -128,7 +128,7 @@ impl DekuUpdate for Ipv4 {
             return Err(DekuError::Parse("packet too long"));
         }
         self.front.words = (5 + options / 4) as u8;
-        self.front.total = after as u16;
+        self.front.total_length = after as u16;
         Ok(())
     }
 }

@@ -3,7 +3,7 @@
 //! ```text
 //!  0      7 8     15 16    23 24    31
 //! +--------+--------+--------+--------+
-//! |     source      |     target      |
+//! |     source      |   destination   |
 //! +--------+--------+--------+--------+
 //! |     length      |    checksum     |
 //! +--------+--------+--------+--------+
@@ -21,7 +21,7 @@ pub struct Udp {
     /// The port that it comes from, or 0.
     pub source: u16,
     /// The port that it goes to.
-    pub target: u16,
+    pub destination: u16,
     /// The bytes of the header and of what it carries.
     pub length: u16,
     /// The check sum, or 0 where there is none.
@@ -36,15 +36,15 @@ impl Parted<()> for Udp {
 
     type Parts = Parts;
 
-    ghost parts_of = { λ r. (record { 0 = r.source }, record { 0 = r.target }, record { 0 = r.length }, record { 0 = r.checksum }) };
+    ghost parts_of = { λ r. (record { 0 = r.source }, record { 0 = r.destination }, record { 0 = r.length }, record { 0 = r.checksum }) };
 
-    ghost record_of = { λ p. record { source = p.0.0; target = p.1.0; length = p.2.0; checksum = p.3.0 } };
+    ghost record_of = { λ p. record { source = p.0.0; destination = p.1.0; length = p.2.0; checksum = p.3.0 } };
 
     fn from_parts(parts: Self::Parts) -> Self {
-        let (Be(source), Be(target), Be(length), Be(checksum)) = parts;
+        let (Be(source), Be(destination), Be(length), Be(checksum)) = parts;
         Udp {
             source,
-            target,
+            destination,
             length,
             checksum,
         }
@@ -57,7 +57,7 @@ impl ToParts<()> for Udp {
     fn parts(&self) -> Self::Parts {
         (
             Be(self.source),
-            Be(self.target),
+            Be(self.destination),
             Be(self.length),
             Be(self.checksum),
         )

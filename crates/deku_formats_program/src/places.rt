@@ -30,10 +30,10 @@ pub const DNS: [Place; 13] = [
     ("opcode", 4),
     ("authoritative", 1),
     ("truncated", 1),
-    ("desired", 1),
-    ("available", 1),
+    ("recursion_desired", 1),
+    ("recursion_available", 1),
     ("reserved", 3),
-    ("code", 4),
+    ("response_code", 4),
     ("questions", 16),
     ("answers", 16),
     ("authorities", 16),
@@ -69,15 +69,15 @@ pub const IPV4: [Place; 13] = [
     ("words", 4),
     ("service", 6),
     ("congestion", 2),
-    ("total", 16),
+    ("total_length", 16),
     ("identification", 16),
     ("flags", 3),
-    ("offset", 13),
-    ("life", 8),
+    ("fragment_offset", 13),
+    ("time_to_live", 8),
     ("protocol", 8),
     ("checksum", 16),
     ("source", 32),
-    ("target", 32),
+    ("destination", 32),
 ];
 
 /// The same at the beginning of a PNG file.
@@ -98,7 +98,7 @@ pub const PNG: [Place; 10] = [
 pub const RISCV: [Place; 1] = [("code", 7)];
 
 /// The same in the header of a UDP datagram.
-pub const UDP: [Place; 3] = [("source", 16), ("target", 16), ("length", 16)];
+pub const UDP: [Place; 3] = [("source", 16), ("destination", 16), ("length", 16)];
 
 /// The name of the field that has this bit; behind all of them, the last one.
 pub fn name_at(places: &[Place], bit: usize, last: &'static str) -> &'static str {

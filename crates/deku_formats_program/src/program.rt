@@ -97,7 +97,7 @@ formats --help  prints this
 ///
 /// ```text
 /// udp     // on 9cbbd11f000afe1d prints source 40123, .., same and left 0; status 0
-/// udp     // on 9cbbd1 tells error: Not enough data, need 16 bits (or 2 bytes), in target, at bit 16; status 1
+/// udp     // on 9cbbd1 tells error: Not enough data, need 16 bits (or 2 bytes), in destination, at bit 16; status 1
 /// ```
 pub fn run<R: Read, W: Write, E: Write>(
     alloc: Global,

@@ -83,10 +83,10 @@ fn show_header(header: &Header, text: &mut String) -> Result<(), AllocError> {
     writeln!(text, "opcode {}", header.opcode)?;
     writeln!(text, "authoritative {}", header.authoritative)?;
     writeln!(text, "truncated {}", header.truncated)?;
-    writeln!(text, "desired {}", header.desired)?;
-    writeln!(text, "available {}", header.available)?;
+    writeln!(text, "recursion_desired {}", header.recursion_desired)?;
+    writeln!(text, "recursion_available {}", header.recursion_available)?;
     writeln!(text, "reserved {}", header.reserved)?;
-    writeln!(text, "code {}", header.code)?;
+    writeln!(text, "response_code {}", header.response_code)?;
     writeln!(text, "questions {}", header.questions)?;
     writeln!(text, "answers {}", header.answers)?;
     writeln!(text, "authorities {}", header.authorities)?;
@@ -164,15 +164,15 @@ impl Shown for Ipv4 {
         writeln!(text, "words {}", front.words)?;
         writeln!(text, "service {}", front.service)?;
         writeln!(text, "congestion {}", front.congestion)?;
-        writeln!(text, "total {}", front.total)?;
+        writeln!(text, "total_length {}", front.total_length)?;
         writeln!(text, "identification {}", front.identification)?;
         writeln!(text, "flags {}", front.flags)?;
-        writeln!(text, "offset {}", front.offset)?;
-        writeln!(text, "life {}", front.life)?;
+        writeln!(text, "fragment_offset {}", front.fragment_offset)?;
+        writeln!(text, "time_to_live {}", front.time_to_live)?;
         writeln!(text, "protocol {}", front.protocol)?;
         writeln!(text, "checksum {}", front.checksum)?;
         writeln!(text, "source {}", front.source)?;
-        writeln!(text, "target {}", front.target)?;
+        writeln!(text, "destination {}", front.destination)?;
         for byte in &self.options {
             writeln!(text, "option {}", byte)?;
         }
@@ -215,7 +215,7 @@ impl Shown for Instruction {
 impl Shown for Udp {
     fn show(&self, text: &mut String) -> Result<(), AllocError> {
         writeln!(text, "source {}", self.source)?;
-        writeln!(text, "target {}", self.target)?;
+        writeln!(text, "destination {}", self.destination)?;
         writeln!(text, "length {}", self.length)?;
         writeln!(text, "checksum {}", self.checksum)
     }

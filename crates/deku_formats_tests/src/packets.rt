@@ -14,7 +14,7 @@ use std::test::Fail;
 fn a_datagram(rt: HostRuntime) -> Result<(), Fail> {
     let header = Udp {
         source: 40123,
-        target: 53535,
+        destination: 53535,
         length: 10,
         checksum: 0xFE1D,
     };
@@ -34,15 +34,15 @@ fn front() -> Front {
         words: 5,
         service: 0,
         congestion: 0,
-        total: 30,
+        total_length: 30,
         identification: 0x4F0B,
         flags: 2,
-        offset: 0,
-        life: 64,
+        fragment_offset: 0,
+        time_to_live: 64,
         protocol: 17,
         checksum: 0xEDC1,
         source: Ipv4Addr::new(127, 0, 0, 1),
-        target: Ipv4Addr::new(127, 0, 0, 1),
+        destination: Ipv4Addr::new(127, 0, 0, 1),
     }
 }
 
@@ -68,15 +68,15 @@ fn a_packet_with_an_option(rt: HostRuntime) -> Result<(), Fail> {
         words: 6,
         service: 48,
         congestion: 0,
-        total: 40,
+        total_length: 40,
         identification: 0,
         flags: 2,
-        offset: 0,
-        life: 1,
+        fragment_offset: 0,
+        time_to_live: 1,
         protocol: 2,
         checksum: 0x03FA,
         source: Ipv4Addr::new(0, 0, 0, 0),
-        target: Ipv4Addr::new(224, 0, 0, 22),
+        destination: Ipv4Addr::new(224, 0, 0, 22),
     };
     let options = [0x94u8, 0x04, 0x00, 0x00].to_vec(rt.alloc())?;
     expect_record(&rt, rt.alloc(), &Ipv4 { front, options }, &REPORT)
@@ -117,10 +117,10 @@ fn updates(rt: HostRuntime) -> Result<(), Fail> {
             front: front(),
             options: vec![in rt.alloc(); 0u8; options]?,
         };
-        header.front.total = total;
+        header.front.total_length = total;
         let answer = header.update();
         assert!(rt; answer == want, "{total}, {options}: {answer:?}");
-        assert_eq!(rt; (header.front.words, header.front.total), lengths);
+        assert_eq!(rt; (header.front.words, header.front.total_length), lengths);
     }
     Ok(())
 }

@@ -9,12 +9,12 @@ use std::test::Fail;
 fn a_header_there_and_back(rt: HostRuntime) -> Result<(), Fail> {
     let header = Udp {
         source: 1161,
-        target: 53,
+        destination: 53,
         length: 44,
         checksum: 0xABB4,
     };
     let read = there_and_back(rt.alloc(), header)?;
-    let ports = (read.source, read.target);
+    let ports = (read.source, read.destination);
     same(
         &rt,
         0,

@@ -18,15 +18,15 @@ pub struct Front {
     /// The notice of congestion (ECN), 2 bits.
     pub congestion: u8,
     /// The bytes of the header and of what it carries.
-    pub total: u16,
+    pub total_length: u16,
     /// Which fragments belong together.
     pub identification: u16,
     /// 3 bits: 2 forbids fragments, 1 says that more follow.
     pub flags: u8,
     /// Where the fragment lies, in units of eight bytes, 13 bits.
-    pub offset: u16,
+    pub fragment_offset: u16,
     /// How many hops are left (TTL).
-    pub life: u8,
+    pub time_to_live: u8,
     /// What is carried: 6 TCP, 17 UDP.
     pub protocol: u8,
     /// The check sum of the header.
@@ -34,7 +34,7 @@ pub struct Front {
     /// Where it comes from.
     pub source: Ipv4Addr,
     /// Where it goes to.
-    pub target: Ipv4Addr,
+    pub destination: Ipv4Addr,
 }
 
 // The fields as they lie.
@@ -57,46 +57,46 @@ impl Parted<()> for Front {
     type Parts = Parts;
 
     ghost parts_of = { λ r. (
-      (record { part = record {}; constant = record {} }, record { 0 = r.words }, record { 0 = r.service }, record { 0 = r.congestion }, record { 0 = r.total }),
-      (record { 0 = r.identification }, record { 0 = r.flags }, record { 0 = r.offset }),
-      (r.life, r.protocol, record { 0 = r.checksum }),
-      (record { 0 = r.source }, record { 0 = r.target }),
+      (record { part = record {}; constant = record {} }, record { 0 = r.words }, record { 0 = r.service }, record { 0 = r.congestion }, record { 0 = r.total_length }),
+      (record { 0 = r.identification }, record { 0 = r.flags }, record { 0 = r.fragment_offset }),
+      (r.time_to_live, r.protocol, record { 0 = r.checksum }),
+      (record { 0 = r.source }, record { 0 = r.destination }),
     ) };
 
     ghost record_of = { λ p. record {
       words = p.0.1.0;
       service = p.0.2.0;
       congestion = p.0.3.0;
-      total = p.0.4.0;
+      total_length = p.0.4.0;
       identification = p.1.0.0;
       flags = p.1.1.0;
-      offset = p.1.2.0;
-      life = p.2.0;
+      fragment_offset = p.1.2.0;
+      time_to_live = p.2.0;
       protocol = p.2.1;
       checksum = p.2.2.0;
       source = p.3.0.0;
-      target = p.3.1.0;
+      destination = p.3.1.0;
     } };
 
     fn from_parts(parts: Self::Parts) -> Self {
         let (first, second, third, addresses) = parts;
-        let (_, Msb(words), Msb(service), Msb(congestion), Be(total)) = first;
-        let (Be(identification), Msb(flags), Msb(offset)) = second;
-        let (life, protocol, Be(checksum)) = third;
-        let (Be(source), Be(target)) = addresses;
+        let (_, Msb(words), Msb(service), Msb(congestion), Be(total_length)) = first;
+        let (Be(identification), Msb(flags), Msb(fragment_offset)) = second;
+        let (time_to_live, protocol, Be(checksum)) = third;
+        let (Be(source), Be(destination)) = addresses;
         Front {
             words,
             service,
             congestion,
-            total,
+            total_length,
             identification,
             flags,
-            offset,
-            life,
+            fragment_offset,
+            time_to_live,
             protocol,
             checksum,
             source,
-            target,
+            destination,
         }
     }
 
@@ -111,11 +111,15 @@ impl ToParts<()> for Front {
                 Msb(self.words),
                 Msb(self.service),
                 Msb(self.congestion),
-                Be(self.total),
+                Be(self.total_length),
             ),
-            (Be(self.identification), Msb(self.flags), Msb(self.offset)),
-            (self.life, self.protocol, Be(self.checksum)),
-            (Be(self.source), Be(self.target)),
+            (
+                Be(self.identification),
+                Msb(self.flags),
+                Msb(self.fragment_offset),
+            ),
+            (self.time_to_live, self.protocol, Be(self.checksum)),
+            (Be(self.source), Be(self.destination)),
         )
     }
 }
