@@ -20,7 +20,8 @@ use Rattle.deku_stream.proofs.Packing.{join_law}
 use Rattle.deku_stream.proofs.Handing.{mapped_ok}
 use Rattle.std.specs.Io.KnownBytes.{Consumes}
 use Rattle.deku_reader.proofs.Moving.{fetched as fetched_behind, fewer_behind, moves_more, moves_keep, moves_inside, moved_loses, takes_ok}
-use Rattle.deku_stream.proofs.Across.{bits_of-bin, below_64, low_eight, little-lt, little-append}
+use Rattle.deku_stream.proofs.Across.{below_64}
+use Rattle.deku_stream.proofs.EightBytes.{bits_of-bin, low_eight, little-lt, little-append}
 use Rattle.deku_stream.proofs.Bytes.{IsByte}
 use Rattle.deku_stream.proofs.Words.{byte_groups, one_group, word_of-short, word_of-full, little-filled, little_sixteen}
 

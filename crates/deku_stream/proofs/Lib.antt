@@ -17,4 +17,7 @@ pub mod Words
 pub mod BitPlaces
 pub mod Overlays
 pub mod Holding
+pub mod EightBytes
+pub mod HighWords
 pub mod Across
+pub mod Through

@@ -1,5 +1,5 @@
 use Rattle.std.proofs.Common.{rules}
-use Rattle.deku_stream.proofs.Across.{word_high, word_high_short}
+use Rattle.deku_stream.proofs.HighWords.{word_high, word_high_short}
 use Rattle.deku_stream.proofs.window.word_of_high.Goals as goal
 
 pub returns-then-count-lt8 : goal.returns-then-count-lt8

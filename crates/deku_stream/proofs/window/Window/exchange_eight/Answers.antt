@@ -1,5 +1,5 @@
 use Rattle.std.proofs.Common.{rules}
-use Rattle.deku_stream.proofs.Across.{low_first_bytes}
+use Rattle.deku_stream.proofs.EightBytes.{low_first_bytes}
 use Rattle.deku_stream.proofs.window.Window.exchange_eight.Goals as goal
 
 pub returns-clause-bits : goal.returns-clause-bits

@@ -1,7 +1,7 @@
 use Rattle.std.proofs.Common.{rules, arith, ◌∙◌}
 use Rattle.deku_stream.proofs.Binary.{length-bits_of}
 use Rattle.deku_stream.proofs.Windows.{how_many}
-use Rattle.deku_stream.proofs.Across.{through_high_is}
+use Rattle.deku_stream.proofs.Through.{through_high_is}
 use Rattle.deku_stream.proofs.window.Window.through_high.Goals as goal
 
 pub overflow_add-result : goal.overflow_add-result

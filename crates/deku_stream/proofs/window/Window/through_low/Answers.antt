@@ -1,7 +1,7 @@
 use Rattle.std.proofs.Common.{arith, rules, ◌∙◌}
 use Rattle.deku_stream.proofs.Binary.{length-bits_of}
 use Rattle.deku_stream.proofs.Windows.{how_many}
-use Rattle.deku_stream.proofs.Across.{through_low_is, byte_masked}
+use Rattle.deku_stream.proofs.Through.{through_low_is, byte_masked}
 use Rattle.deku_stream.proofs.window.Window.through_low.Goals as goal
 
 pub overflow_add-number : goal.overflow_add-number

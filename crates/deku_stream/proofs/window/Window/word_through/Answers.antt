@@ -3,7 +3,8 @@ use Rattle.std.proofs.lemmas.List.Elements.{All-from_get_or}
 use Rattle.deku_stream.specs.declared.ctx.Order.TheVariants.{Msb0}
 use Rattle.deku_stream.specs.Streams.{flow}
 use Rattle.deku_stream.proofs.Bytes.{IsByte}
-use Rattle.deku_stream.proofs.Across.{eight_through_high, eight_through_low, low_swapped}
+use Rattle.deku_stream.proofs.EightBytes.{low_swapped}
+use Rattle.deku_stream.proofs.Through.{eight_through_high, eight_through_low}
 use Rattle.deku_stream.proofs.window.Window.word_through.Goals as goal
 
 pub returns-in-Msb0-clause-bits : goal.returns-in-Msb0-clause-bits
