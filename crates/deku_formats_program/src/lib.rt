@@ -2,6 +2,7 @@
 #![tactic(auto)]
 
 mod compared;
+mod lines;
 mod operands;
 mod places;
 mod program;

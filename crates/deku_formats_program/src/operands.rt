@@ -1,5 +1,6 @@
 //! The operands of an instruction word, field by field.
 
+use crate::lines::show_numbers;
 use deku_instructions::riscv::branch::Branch;
 use deku_instructions::riscv::immediate::Immediate;
 use deku_instructions::riscv::instruction::Instruction;
@@ -8,7 +9,6 @@ use deku_instructions::riscv::register::Register;
 use deku_instructions::riscv::store::Store;
 use deku_instructions::riscv::upper::Upper;
 use std::alloc::AllocError;
-use std::fmt::Write;
 
 /// What the code of a word asks for, as the specification names it.
 pub fn kind_of(word: &Instruction) -> &'static str {
@@ -45,55 +45,82 @@ pub fn show_operands(word: &Instruction, text: &mut String) -> Result<(), AllocE
 
 // I.
 fn show_immediate(x: &Immediate, text: &mut String) -> Result<(), AllocError> {
-    writeln!(text, "target {}", x.target)?;
-    writeln!(text, "function {}", x.function)?;
-    writeln!(text, "base {}", x.base)?;
-    writeln!(text, "value {}", x.value)
+    show_numbers(
+        &[
+            ("target", x.target as i128),
+            ("function", x.function as i128),
+            ("base", x.base as i128),
+            ("value", x.value as i128),
+        ],
+        text,
+    )
 }
 
 // U.
 fn show_upper(x: &Upper, text: &mut String) -> Result<(), AllocError> {
-    writeln!(text, "target {}", x.target)?;
-    writeln!(text, "value {}", x.value)
+    show_numbers(
+        &[("target", x.target as i128), ("value", x.value as i128)],
+        text,
+    )
 }
 
 // S: bytes behind the address in the base.
 fn show_store(x: &Store, text: &mut String) -> Result<(), AllocError> {
-    writeln!(text, "low {}", x.low)?;
-    writeln!(text, "function {}", x.function)?;
-    writeln!(text, "base {}", x.base)?;
-    writeln!(text, "source {}", x.source)?;
-    writeln!(text, "high {}", x.high)?;
-    writeln!(text, "offset {}", x.offset())
+    show_numbers(
+        &[
+            ("low", x.low as i128),
+            ("function", x.function as i128),
+            ("base", x.base as i128),
+            ("source", x.source as i128),
+            ("high", x.high as i128),
+            ("offset", x.offset() as i128),
+        ],
+        text,
+    )
 }
 
 // R.
 fn show_register(x: &Register, text: &mut String) -> Result<(), AllocError> {
-    writeln!(text, "target {}", x.target)?;
-    writeln!(text, "function {}", x.function)?;
-    writeln!(text, "first {}", x.first)?;
-    writeln!(text, "second {}", x.second)?;
-    writeln!(text, "variant {}", x.variant)
+    show_numbers(
+        &[
+            ("target", x.target as i128),
+            ("function", x.function as i128),
+            ("first", x.first as i128),
+            ("second", x.second as i128),
+            ("variant", x.variant as i128),
+        ],
+        text,
+    )
 }
 
 // B: units of two bytes from the place of the word.
 fn show_branch(x: &Branch, text: &mut String) -> Result<(), AllocError> {
-    writeln!(text, "top {}", x.top)?;
-    writeln!(text, "low {}", x.low)?;
-    writeln!(text, "function {}", x.function)?;
-    writeln!(text, "first {}", x.first)?;
-    writeln!(text, "second {}", x.second)?;
-    writeln!(text, "middle {}", x.middle)?;
-    writeln!(text, "sign {}", x.sign)?;
-    writeln!(text, "halves {}", x.halves())
+    show_numbers(
+        &[
+            ("top", x.top as i128),
+            ("low", x.low as i128),
+            ("function", x.function as i128),
+            ("first", x.first as i128),
+            ("second", x.second as i128),
+            ("middle", x.middle as i128),
+            ("sign", x.sign as i128),
+            ("halves", x.halves() as i128),
+        ],
+        text,
+    )
 }
 
 // J: units of two bytes from the place of the word.
 fn show_jump(x: &Jump, text: &mut String) -> Result<(), AllocError> {
-    writeln!(text, "target {}", x.target)?;
-    writeln!(text, "high {}", x.high)?;
-    writeln!(text, "middle {}", x.middle)?;
-    writeln!(text, "low {}", x.low)?;
-    writeln!(text, "sign {}", x.sign)?;
-    writeln!(text, "halves {}", x.halves())
+    show_numbers(
+        &[
+            ("target", x.target as i128),
+            ("high", x.high as i128),
+            ("middle", x.middle as i128),
+            ("low", x.low as i128),
+            ("sign", x.sign as i128),
+            ("halves", x.halves() as i128),
+        ],
+        text,
+    )
 }

@@ -1,5 +1,6 @@
 //! Records field by field.
 
+use crate::lines::show_numbers;
 use crate::operands::{kind_of, show_operands};
 use crate::places::{CAN, CCSDS, DNS, ELF, IPV4, PNG, RISCV, UDP, name_at};
 use deku::ctx::Endian;
@@ -28,12 +29,17 @@ pub trait Shown {
 
 impl Shown for Chassis {
     fn show(&self, text: &mut String) -> Result<(), AllocError> {
-        writeln!(text, "wheel {}", self.wheel)?;
-        writeln!(text, "gear {}", self.gear)?;
-        writeln!(text, "torque {}", self.torque)?;
-        writeln!(text, "flags {}", self.flags)?;
-        writeln!(text, "padding {}", self.padding)?;
-        writeln!(text, "yaw {}", self.yaw)
+        show_numbers(
+            &[
+                ("wheel", self.wheel as i128),
+                ("gear", self.gear as i128),
+                ("torque", self.torque as i128),
+                ("flags", self.flags as i128),
+                ("padding", self.padding as i128),
+                ("yaw", self.yaw as i128),
+            ],
+            text,
+        )
     }
 
     fn field_at(bit: usize) -> &'static str {
@@ -44,16 +50,26 @@ impl Shown for Chassis {
 impl Shown for Telemetry {
     fn show(&self, text: &mut String) -> Result<(), AllocError> {
         let header = &self.header;
-        writeln!(text, "version {}", header.version)?;
-        writeln!(text, "kind {}", header.kind)?;
-        writeln!(text, "secondary {}", header.secondary)?;
-        writeln!(text, "application {}", header.application)?;
-        writeln!(text, "grouping {}", header.grouping)?;
-        writeln!(text, "count {}", header.count)?;
-        writeln!(text, "length {}", header.length)?;
+        show_numbers(
+            &[
+                ("version", header.version as i128),
+                ("kind", header.kind as i128),
+                ("secondary", header.secondary as i128),
+                ("application", header.application as i128),
+                ("grouping", header.grouping as i128),
+                ("count", header.count as i128),
+                ("length", header.length as i128),
+            ],
+            text,
+        )?;
         for sample in &self.samples {
-            writeln!(text, "voltage {}", sample.voltage)?;
-            writeln!(text, "current {}", sample.current)?;
+            show_numbers(
+                &[
+                    ("voltage", sample.voltage as i128),
+                    ("current", sample.current as i128),
+                ],
+                text,
+            )?;
         }
         Ok(())
     }
@@ -67,8 +83,13 @@ impl Shown for Query {
     fn show(&self, text: &mut String) -> Result<(), AllocError> {
         show_header(&self.header, text)?;
         show_name(self.question.name.items.as_slice(), text)?;
-        writeln!(text, "kind {}", self.question.kind)?;
-        writeln!(text, "class {}", self.question.class)
+        show_numbers(
+            &[
+                ("kind", self.question.kind as i128),
+                ("class", self.question.class as i128),
+            ],
+            text,
+        )
     }
 
     fn field_at(bit: usize) -> &'static str {
@@ -78,19 +99,24 @@ impl Shown for Query {
 
 // The lines of a message's header.
 fn show_header(header: &Header, text: &mut String) -> Result<(), AllocError> {
-    writeln!(text, "identification {}", header.identification)?;
-    writeln!(text, "response {}", header.response)?;
-    writeln!(text, "opcode {}", header.opcode)?;
-    writeln!(text, "authoritative {}", header.authoritative)?;
-    writeln!(text, "truncated {}", header.truncated)?;
-    writeln!(text, "recursion_desired {}", header.recursion_desired)?;
-    writeln!(text, "recursion_available {}", header.recursion_available)?;
-    writeln!(text, "reserved {}", header.reserved)?;
-    writeln!(text, "response_code {}", header.response_code)?;
-    writeln!(text, "questions {}", header.questions)?;
-    writeln!(text, "answers {}", header.answers)?;
-    writeln!(text, "authorities {}", header.authorities)?;
-    writeln!(text, "additionals {}", header.additionals)
+    show_numbers(
+        &[
+            ("identification", header.identification as i128),
+            ("response", header.response as i128),
+            ("opcode", header.opcode as i128),
+            ("authoritative", header.authoritative as i128),
+            ("truncated", header.truncated as i128),
+            ("recursion_desired", header.recursion_desired as i128),
+            ("recursion_available", header.recursion_available as i128),
+            ("reserved", header.reserved as i128),
+            ("response_code", header.response_code as i128),
+            ("questions", header.questions as i128),
+            ("answers", header.answers as i128),
+            ("authorities", header.authorities as i128),
+            ("additionals", header.additionals as i128),
+        ],
+        text,
+    )
 }
 
 // The line of a name: a point behind each label but the empty one, and a point alone where there is no other.
@@ -137,44 +163,59 @@ impl Shown for Elf {
 
 // The lines of the fields behind the endian.
 fn show_fields(fields: &Fields, text: &mut String) -> Result<(), AllocError> {
-    writeln!(text, "identification {}", fields.identification[0])?;
-    writeln!(text, "abi {}", fields.identification[1])?;
-    writeln!(text, "abi_version {}", fields.identification[2])?;
+    show_numbers(
+        &[
+            ("identification", fields.identification[0] as i128),
+            ("abi", fields.identification[1] as i128),
+            ("abi_version", fields.identification[2] as i128),
+        ],
+        text,
+    )?;
     for byte in &fields.identification[3..] {
         writeln!(text, "padding {byte}")?;
     }
-    writeln!(text, "kind {}", fields.kind)?;
-    writeln!(text, "machine {}", fields.machine)?;
-    writeln!(text, "version {}", fields.version)?;
-    writeln!(text, "entry {}", fields.entry)?;
-    writeln!(text, "segments_at {}", fields.segments_at)?;
-    writeln!(text, "sections_at {}", fields.sections_at)?;
-    writeln!(text, "flags {}", fields.flags)?;
-    writeln!(text, "header_size {}", fields.sizes[0])?;
-    writeln!(text, "segment_size {}", fields.sizes[1])?;
-    writeln!(text, "segment_count {}", fields.segment_count)?;
-    writeln!(text, "section_size {}", fields.sections[0])?;
-    writeln!(text, "section_count {}", fields.sections[1])?;
-    writeln!(text, "section_names {}", fields.sections[2])
+    show_numbers(
+        &[
+            ("kind", fields.kind as i128),
+            ("machine", fields.machine as i128),
+            ("version", fields.version as i128),
+            ("entry", fields.entry as i128),
+            ("segments_at", fields.segments_at as i128),
+            ("sections_at", fields.sections_at as i128),
+            ("flags", fields.flags as i128),
+            ("header_size", fields.sizes[0] as i128),
+            ("segment_size", fields.sizes[1] as i128),
+            ("segment_count", fields.segment_count as i128),
+            ("section_size", fields.sections[0] as i128),
+            ("section_count", fields.sections[1] as i128),
+            ("section_names", fields.sections[2] as i128),
+        ],
+        text,
+    )
 }
 
 impl Shown for Ipv4 {
     fn show(&self, text: &mut String) -> Result<(), AllocError> {
         let front = &self.front;
-        writeln!(text, "words {}", front.words)?;
-        writeln!(text, "service {}", front.service)?;
-        writeln!(text, "congestion {}", front.congestion)?;
-        writeln!(text, "total_length {}", front.total_length)?;
-        writeln!(text, "identification {}", front.identification)?;
-        writeln!(text, "flags {}", front.flags)?;
-        writeln!(text, "fragment_offset {}", front.fragment_offset)?;
-        writeln!(text, "time_to_live {}", front.time_to_live)?;
-        writeln!(text, "protocol {}", front.protocol)?;
-        writeln!(text, "checksum {}", front.checksum)?;
+        show_numbers(
+            &[
+                ("words", front.words as i128),
+                ("service", front.service as i128),
+                ("congestion", front.congestion as i128),
+                ("total_length", front.total_length as i128),
+                ("identification", front.identification as i128),
+                ("flags", front.flags as i128),
+                ("fragment_offset", front.fragment_offset as i128),
+                ("time_to_live", front.time_to_live as i128),
+                ("protocol", front.protocol as i128),
+                ("checksum", front.checksum as i128),
+            ],
+            text,
+        )?;
         writeln!(text, "source {}", front.source)?;
         writeln!(text, "destination {}", front.destination)?;
         for byte in &self.options {
-            writeln!(text, "option {}", byte)?;
+            writeln!(text, "option {byte}")?;
         }
         Ok(())
     }
@@ -186,14 +227,19 @@ impl Shown for Ipv4 {
 
 impl Shown for Png {
     fn show(&self, text: &mut String) -> Result<(), AllocError> {
-        writeln!(text, "width {}", self.width)?;
-        writeln!(text, "height {}", self.height)?;
-        writeln!(text, "depth {}", self.depth)?;
-        writeln!(text, "colour {}", self.colour)?;
-        writeln!(text, "compression {}", self.compression)?;
-        writeln!(text, "filter {}", self.filter)?;
-        writeln!(text, "interlace {}", self.interlace)?;
-        writeln!(text, "crc {}", self.crc)
+        show_numbers(
+            &[
+                ("width", self.width as i128),
+                ("height", self.height as i128),
+                ("depth", self.depth as i128),
+                ("colour", self.colour as i128),
+                ("compression", self.compression as i128),
+                ("filter", self.filter as i128),
+                ("interlace", self.interlace as i128),
+                ("crc", self.crc as i128),
+            ],
+            text,
+        )
     }
 
     fn field_at(bit: usize) -> &'static str {
@@ -214,10 +260,15 @@ impl Shown for Instruction {
 
 impl Shown for Udp {
     fn show(&self, text: &mut String) -> Result<(), AllocError> {
-        writeln!(text, "source {}", self.source)?;
-        writeln!(text, "destination {}", self.destination)?;
-        writeln!(text, "length {}", self.length)?;
-        writeln!(text, "checksum {}", self.checksum)
+        show_numbers(
+            &[
+                ("source", self.source as i128),
+                ("destination", self.destination as i128),
+                ("length", self.length as i128),
+                ("checksum", self.checksum as i128),
+            ],
+            text,
+        )
     }
 
     fn field_at(bit: usize) -> &'static str {
