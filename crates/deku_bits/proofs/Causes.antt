@@ -9,7 +9,7 @@ use Rattle.deku_stream.specs.Standings.{Standing, Going, Stopped}
 use Rattle.deku_stream.specs.Streams.{Stream}
 use Rattle.deku_stream.specs.Writers.{Pending, Written, append, finalized}
 use Rattle.deku_stream.specs.Outcomes.{Meaning, Outcome, Quiet, Broken, UnlessStopped, Counted, Reserving, Mapped, Value, Refusal}
-use Rattle.deku_reader.specs.ReaderCalls.{Ends, Transfers, Takes, Peeks, Skipping}
+use Rattle.deku_reader.specs.ReaderCalls.{Ends, Transfers, Takes, ReadsVec, Peeks, Skipping}
 use Rattle.deku_writer.specs.WriterCalls.{GivesOut, Emits, WritesWord}
 use Rattle.deku_bits.specs.Causes.{KeepsIo, NoKind, WantsMemory, WantsPlace, OwnFaults, Caused, CauseLaw}
 
@@ -63,6 +63,9 @@ mapped own h m f s r u k (Refusal x p e) (inr q) = f s (Err x) u k p (inr q)
 takes : (o : Order) (n : ℕ) → OwnFaults NoKind (Takes o n)
 takes o n = unless_stopped NoKind _ (counted NoKind n (Transfers o n) (transfers NoKind o n))
 
+vecs : (o : Order) (n : ℕ) → OwnFaults WantsMemory (ReadsVec o n)
+vecs o n = mapped WantsMemory _ _ (unless_stopped WantsMemory _ (counted WantsMemory n _ (reserving _ (transfers WantsMemory o n))))
+
 peeks : (own : ErrorKind → Type 0) → OwnMoves own Peeks
 peeks own (Some S) c r u k p q = ⊎_elim (λ h. goes_on _ _ _ r u k own h.1 p.1 q) (λ h. goes_on _ _ _ r u k own h.1 p.1 q) p.0
 peeks own None c r u k p q = goes_on _ _ _ r u k own p.2 p.3 q
@@ -94,10 +97,11 @@ cause_law = (
   λ o n. (
     takes o n,
     mapped NoKind _ _ (takes o n),
-    mapped WantsMemory _ _ (unless_stopped WantsMemory _ (counted WantsMemory n _ (reserving _ (transfers WantsMemory o n)))),
+    vecs o n,
     mapped NoKind _ _ (mapped NoKind _ _ (takes o (8 * n))),
     mapped NoKind _ _ (takes o n),
     unless_stopped NoKind _ (counted NoKind n _ (skipping NoKind o n)),
+    mapped WantsMemory _ _ (vecs o (8 * n)),
   ),
   unless_stopped NoKind _ (peeks NoKind),
   λ o bits. emits (append o bits),

@@ -20,7 +20,7 @@ pub fn cut_law()
     ensures { CutLaw }
 {}
 
-/// A skip leaves what a read of as many bits leaves.
+/// A skip of no more bits than there are leaves what a read of as many leaves.
 pub fn skip_law()
     ensures { SkipLaw }
 {}
@@ -35,7 +35,7 @@ pub fn end_law()
     ensures { EndLaw }
 {}
 
-/// A skip leaves the stream and the count of a read of as many bits that succeeds.
+/// A skip of no more bits than there are succeeds, and leaves the stream and the count of a read of as many that succeeds.
 pub fn skip_read_law()
     ensures { SkipReadLaw }
 {}
@@ -50,17 +50,17 @@ pub fn append_law()
     ensures { AppendLaw }
 {}
 
-/// On a reader that was fresh, reads fetch the bytes that the bits read fill, and a look at the end one byte more at most.
+/// On a reader that was fresh, reads that succeed fetch the bytes that the bits read fill, and a look at the end one byte more at most.
 pub fn fetch_law()
     ensures { FetchLaw }
 {}
 
-/// A write loses no bit, and padding makes one byte of at most seven pending bits.
+/// Behind a write as many bits are given out and pending as were pending and written, and the padding adds fewer than eight.
 pub fn count_law()
     ensures { CountLaw }
 {}
 
-/// Pieces may be written in several calls.
+/// Pieces may be written in two calls.
 pub fn calls_law()
     ensures { CallsLaw }
 {}
@@ -80,7 +80,7 @@ pub fn rewrite_law()
     ensures { RewriteLaw }
 {}
 
-/// Aligned pieces lay out their width divided by eight, rounded up.
+/// Aligned pieces lay out as many bytes as their width divided by eight, rounded up.
 pub fn length_law()
     ensures { LengthLaw }
 {}
@@ -105,7 +105,7 @@ pub fn skip_rows()
     ensures { SkipRows }
 {}
 
-/// Worked examples of reads that find too few bits.
+/// Worked examples of reads that find too few bits, or just enough.
 pub fn short_rows()
     ensures { ShortRows }
 {}
@@ -125,7 +125,7 @@ pub fn plain_law()
     ensures { PlainLaw }
 {}
 
-/// An `Io` comes only where a device fails, from want of memory, for want of room where bits are written, or where it was kept.
+/// Where no device fails, an `Io` comes only from want of memory, for want of room where bits are written, or where it was kept.
 pub fn cause_law()
     ensures { CauseLaw }
 {}

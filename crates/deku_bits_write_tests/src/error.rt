@@ -105,14 +105,24 @@ const SLICES: [(&[u8], Result<[u8; 3], DekuError>); 2] = [
     (&[1, 2], Err(DekuError::Parse("error parsing from slice"))),
 ];
 
+// Each number is a byte, or is refused.
+fn expect_bytes(rt: &impl Abort) {
+    for (case, (number, want)) in NUMBERS.iter().enumerate() {
+        same(rt, (0, case), &byte_of(*number), want);
+    }
+}
+
+// Each slice is three bytes, or is refused.
+fn expect_threes(rt: &impl Abort) {
+    for (case, (bytes, want)) in SLICES.iter().enumerate() {
+        same(rt, (1, case), &three_of(bytes), want);
+    }
+}
+
 #[test]
 fn is_made_from_other_errors(rt: HostRuntime) {
-    for (case, (number, want)) in NUMBERS.iter().enumerate() {
-        same(&rt, (0, case), &byte_of(*number), want);
-    }
-    for (case, (bytes, want)) in SLICES.iter().enumerate() {
-        same(&rt, (1, case), &three_of(bytes), want);
-    }
+    expect_bytes(&rt);
+    expect_threes(&rt);
     let broken = io::Error::new(ErrorKind::BrokenPipe, "the pipe is gone");
     let want = Err(DekuError::Io(ErrorKind::BrokenPipe));
     same(&rt, (2, 0), &after(Err(broken)), &want);

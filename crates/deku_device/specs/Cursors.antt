@@ -8,20 +8,20 @@ use Rattle.deku_device.specs.declared.probe.FailAt.{FailAt}
 use Rattle.deku_device.specs.declared.probe.trickle.Trickle.{Trickle}
 use Rattle.deku_device.specs.Devices.{SourceTold, SinkTold, Whole, ReadOnly, Overwritten, Grows, bytes_before}
 
--- the bytes from the place on, where all bytes are known
+-- where all bytes are known, a cursor tells those from its place on
 pub cursor_told : {T : Type 0} (bytes : T → Option (List ℕ)) (c : Cursor T) (at : ℕ) (all : List ℕ) → Some (cursor_position c) ≡ Some at → bytes (cursor_inner c) ≡ Some all → cursor_remaining bytes c ≡ Some (drop at all)
 cursor_told bytes c at all p q = rw q (cc)
 
--- all bytes of a cursor that is read, where they are known
+-- all bytes of a cursor that is read, with its place, where they are known
 abbrev pub read_whole : ℕ → Option (List ℕ) → Option Whole
 read_whole at None = None
 read_whole at (Some all) = Some (record { place = at; bytes = all; access = ReadOnly })
 
--- all bytes of a cursor over a slice that is written
+-- all bytes of a cursor over a slice that is written, with its place
 abbrev pub slice_whole : Cursor (MutBor (List ℕ)) → Option Whole
 slice_whole c = Some (record { place = cursor_position c; bytes = (cursor_inner c).now; access = Overwritten })
 
--- all bytes of a cursor over a vector that is written
+-- all bytes of a cursor over a vector that is written, with its place
 abbrev pub vector_whole : Cursor (Vec ℕ) → Option Whole
 vector_whole c = Some (record { place = cursor_position c; bytes = (cursor_inner c).items; access = Grows })
 
@@ -39,7 +39,7 @@ trickling s = record {
   health = record { failures = Some 0; lenders = []; whole = read_whole (cursor_position s.inner) (Some (cursor_inner s.inner).now) };
 }
 
--- how many calls failed, where so many are left up to the one that fails
+-- how many calls failed, where so many are left up to the one that fails; none is left behind it
 abbrev pub failures_at : ℕ → ℕ
 failures_at zero = 1
 failures_at (suc n) = 0
@@ -83,6 +83,6 @@ laid_over all place bytes = take place all ++ bytes ++ drop (place + length byte
 abbrev pub fitting : List ℕ → ℕ → List ℕ → List ℕ
 fitting all place bytes = take (length all - place) bytes
 
--- bytes that reach up to a place, by zeros
+-- bytes with zeros behind them, as many as they lack up to a place
 abbrev pub reaching : ℕ → List ℕ → List ℕ
 reaching place all = all ++ replicate (place - length all) 0

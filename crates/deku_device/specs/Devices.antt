@@ -5,7 +5,7 @@ use Rattle.std.specs.Io.KnownBytes.{Appends}
 use Rattle.std.specs.declared.io.ErrorKind.{ErrorKind}
 use Rattle.std.specs.declared.io.ErrorKind.TheVariants.{WriteZero, OutOfMemory}
 
--- how transfers may change the bytes of a device: not at all, those that are there, or as many as there are bytes given
+-- how transfers may change the bytes of a device: none of them, those that are there, or those and others behind the end
 pub data Access : Type 0 where
   ReadOnly : Access
   Overwritten : Access
@@ -47,13 +47,13 @@ More None new = ⊤
 More (Some m) None = ⊥
 More (Some m) (Some n) = m < n
 
--- what a transfer leaves of the bytes
+-- what a transfer may make of all bytes: the same, as many, or any
 abbrev pub Changes : Access → List ℕ → List ℕ → Type 0
 Changes ReadOnly old new = new ≡ old
 Changes Overwritten old new = length new ≡ length old
 Changes Grows old new = ⊤
 
--- a transfer goes on from its place: the bytes in front of it stay, and so do those behind the new place
+-- a transfer goes on from its place: the bytes in front of it stay, so do those behind the new place, and the size changes only as it may
 pub record Onward (old new : Whole) : Type 0 where
   pub access : new.access ≡ old.access
   pub place : old.place ≤ new.place
@@ -71,13 +71,13 @@ Transferred (Some w) (Some v) = Onward w v
 abbrev pub GoesOnward : Option Whole → Option Whole → Type 0
 GoesOnward old new = (new ≡ old) ⊎ Transferred old new
 
--- no failure is forgotten, the references stay, and the bytes beside those transferred
+-- no failure is forgotten, and the references stay, and so do the bytes beside those transferred
 pub record NoFewerFailures (old new : Health) : Type 0 where
   pub failures : NotFewer old.failures new.failures
   pub lenders : new.lenders ≡ old.lenders
   pub whole : GoesOnward old.whole new.whole
 
--- a call failed, the references stay, and the bytes beside those transferred
+-- a call failed, and the references stay, and so do the bytes beside those transferred
 pub record MoreFailures (old new : Health) : Type 0 where
   pub failures : More old.failures new.failures
   pub lenders : new.lenders ≡ old.lenders
@@ -97,7 +97,7 @@ abbrev pub FewerThan : ℕ → Option (List ℕ) → Type 0
 FewerThan n None = ⊤
 FewerThan n (Some bs) = length bs < n
 
--- bytes that are told lose n of them, or all
+-- bytes that are told lose the first n of them, or all where there are fewer
 abbrev pub Passes : ℕ → Option (List ℕ) → Option (List ℕ) → Type 0
 Passes n None new = ⊤
 Passes n (Some bs) None = ⊥
@@ -114,7 +114,7 @@ abbrev pub BeginsWith : List ℕ → Option (List ℕ) → Type 0
 BeginsWith bytes None = ⊤
 BeginsWith bytes (Some coming) = take (length bytes) coming ≡ bytes
 
--- where no byte was to come, none is
+-- where it was told that no byte is to come, it is told again
 abbrev pub StaysEmpty : Option (List ℕ) → Option (List ℕ) → Type 0
 StaysEmpty None new = ⊤
 StaysEmpty (Some bs) new = length bs ≡ 0 → new ≡ Some bs
@@ -135,7 +135,7 @@ Shrinks None (Some s) n = ⊥
 Shrinks (Some r) None n = ⊥
 Shrinks (Some r) (Some s) n = (n ≤ length r) × (s ≡ drop n r)
 
--- the room is too small for n bytes, or no memory is found where no room is told
+-- the kind of the refusal, where the room is too small for n bytes, or where no room is told and no memory is found
 abbrev pub LacksRoom : Option (List ℕ) → ℕ → ErrorKind → Type 0
 LacksRoom None n kind = kind ≡ OutOfMemory
 LacksRoom (Some r) n kind = (kind ≡ WriteZero) × (length r < n)

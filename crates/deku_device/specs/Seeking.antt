@@ -5,7 +5,8 @@ use Rattle.std.specs.declared.io.SeekFrom.{SeekFrom}
 use Rattle.std.specs.declared.io.SeekFrom.TheVariants.{Start, End, Current}
 use Rattle.deku_device.specs.Devices.{Access, ReadOnly, Overwritten, Grows, Whole, Health, NotFewer, More, SourceTold, SinkTold, bytes_before}
 
--- the count after a seek that succeeds: from the start that of the bytes before the place, from the place in front what is left out more, and else the same
+-- the count after a seek that succeeds: by `Start` that of the bytes before the place, but the same for place 0; by `Current` forward, the bits that are
+-- left out more; and else the same
 abbrev pub count_after : SeekFrom → ℕ → ℕ
 count_after (Start zero) count = count
 count_after (Start (suc n)) count = 8 * suc n
@@ -40,7 +41,7 @@ abbrev pub Lands : {E : Type 0} → Option Whole → Option Whole → Result ℕ
 Lands None new r = ⊤
 Lands (Some w) new r = new ≡ Some (at_place w r)
 
--- a seek: no failure is forgotten, the references stay, and all bytes, at the place that it answers, which is its target
+-- a seek: no failure is forgotten, and the references stay, and so do all bytes, at the place that it answers, which is its target
 pub record Seeks {E : Type 0} (old new : Health) (to : SeekFrom) (r : Result ℕ E) : Type 0 where
   pub failures : NotFewer old.failures new.failures
   pub lenders : new.lenders ≡ old.lenders
@@ -60,7 +61,7 @@ toward n (Err e) = Err e
 abbrev pub ComesFrom : {E : Type 0} → Option Whole → Result ℕ E → SourceTold → Type 0
 ComesFrom w r told = IfSome w (λ w. IfOk r (λ n. told.coming ≡ Some (drop n w.bytes)))
 
--- the room by the bytes behind a place, but for what grows
+-- the room by the bytes behind a place; what grows tells none
 abbrev pub room_at : Access → ℕ → List ℕ → Option (List ℕ)
 room_at Grows at all = None
 room_at Overwritten at all = Some (drop at all)

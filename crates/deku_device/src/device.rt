@@ -29,7 +29,13 @@ pub trait Source: Read + Seek {
 
     /// Fills the buffer with the next bytes.
     ///
-    /// Fails with `UnexpectedEof` only where fewer bytes are to come, and else only where the device fails.
+    /// Fails with `UnexpectedEof` only where fewer bytes are to come, and else only where the device fails. Then it is open what the buffer
+    /// holds, and how many bytes are still to come.
+    ///
+    /// ```text
+    /// let mut buf = [0; 2];
+    /// source.fetch(&mut buf)?;             // from 01 02 03: 01 02; the next byte to come is 03
+    /// ```
     fn fetch(&mut self, buf: &mut [u8]) -> io::Result<()>
         ensures bytes { OnOk result (Consumes (told self.old).coming (told self.new).coming buf.new) }
         ensures short { IfErr result (λ e. error_kind e ≡ ErrorKind.UnexpectedEof → FewerThan (length buf.old) (told self.old).coming) }
@@ -37,7 +43,13 @@ pub trait Source: Read + Seek {
         ensures failed { IfErr result (λ e. error_kind e ≢ ErrorKind.UnexpectedEof → MoreFailures (told self.old).health (told self.new).health) }
         ensures kept { NoFewerFailures (told self.old).health (told self.new).health };
 
-    /// Leaves out the next `n` bytes, or all where fewer are to come.
+    /// Leaves out the next `n` bytes, or all where fewer are to come. The caller's condition: `n` is at most `i64::MAX`, since it is a seek.
+    ///
+    /// Fails only where the device fails.
+    ///
+    /// ```text
+    /// source.pass(2)?;                     // from 01 02 03; the next byte to come is 03
+    /// ```
     fn pass(&mut self, n: u64) -> io::Result<()>
         requires { n < 2 ^ 63 }
         ensures bytes { OnOk result (Passes n (told self.old).coming (told self.new).coming) }
@@ -93,7 +105,12 @@ pub trait Source: Read + Seek {
 
     /// Seeks, as `seek` does.
     ///
-    /// Where all bytes are told, it leads to its target and is refused only where there is none or the device fails.
+    /// Where all bytes are told, it leads to its target and is refused only where there is none or the device fails; those from there on are to
+    /// come then.
+    ///
+    /// ```text
+    /// source.go(SeekFrom::Start(2))?;      // from 01 02 03: 2; the next byte to come is 03
+    /// ```
     fn go(&mut self, to: SeekFrom) -> io::Result<u64>
         ensures moves { SeekMoves (Self.stream_position self.old) (Self.stream_position self.new) (Self.stream_bytes self.old) to result }
         ensures all { Keeps (Self.stream_bytes self.old) (Self.stream_bytes self.new) }
@@ -115,6 +132,13 @@ pub trait Sink: Write + Seek {
     ghost told: { Self → SinkTold };
 
     /// Gives all the bytes.
+    ///
+    /// Fails with `WriteZero` where the room that is told is too small, with `OutOfMemory` where no room is told and no memory is found, and else
+    /// only where the device fails. Then it is open how many of them it took.
+    ///
+    /// ```text
+    /// sink.give(&[1, 2])?;                 // a slice with one byte of room refuses it with WriteZero
+    /// ```
     fn give(&mut self, bytes: &[u8]) -> io::Result<()>
         ensures ok { OnOk result (Gave (told self.old) (told self.new) bytes.now) }
         ensures err { IfErr result (λ e. Declined (told self.old) (told self.new) (length bytes.now) (error_kind e)) };
@@ -138,7 +162,12 @@ pub trait Sink: Write + Seek {
 
     /// Seeks, as `seek` does.
     ///
-    /// Where all bytes are told, it leads to its target and is refused only where there is none or the device fails.
+    /// Where all bytes are told, it leads to its target and is refused only where there is none or the device fails; those before it are taken
+    /// then, and those from there on lie in the room.
+    ///
+    /// ```text
+    /// sink.go(SeekFrom::Start(0))?;        // 0; the next bytes are laid over the first
+    /// ```
     fn go(&mut self, to: SeekFrom) -> io::Result<u64>
         ensures moves { SeekMoves (Self.stream_position self.old) (Self.stream_position self.new) (Self.stream_bytes self.old) to result }
         ensures all { Keeps (Self.stream_bytes self.old) (Self.stream_bytes self.new) }

@@ -35,7 +35,7 @@ pub struct FailAt<B> {
 }
 
 impl<B> FailAt<B> {
-    /// It fails at the nth call, counted from 1; for 0 it never fails.
+    /// It fails at the nth call, counted from 1. For 0 it never fails, and tells that a call failed, as it does behind one.
     ///
     /// ```text
     /// let source = FailAt::new(Cursor::new(bytes), 2);           // gives a byte, refuses the second call with Other, and goes on

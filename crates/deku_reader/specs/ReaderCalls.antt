@@ -85,7 +85,7 @@ abbrev pub window_of : Standing (List Bool) → List Bool
 window_of (Going window c) = window
 window_of (Stopped e c) = []
 
--- no byte is fetched too early: fewer than eight bits of the last one are unread, or nothing changed
+-- no byte is fetched too early: fewer than eight bits of the last one are unread, or what the reader keeps has not changed
 abbrev pub NoneEarly : Standing (List Bool) → Standing (List Bool) → Type 0
 NoneEarly s u = (length (window_of u) < 8) ⊎ (u ≡ s)
 
@@ -93,7 +93,7 @@ NoneEarly s u = (length (window_of u) < 8) ⊎ (u ≡ s)
 abbrev pub NeedsNone : ℕ → Standing (List Bool) → Type 0
 NeedsNone n s = (n ≤ length (window_of s)) ⊎ (2 ^ 64 ≤ count_of s + n)
 
--- the end of input that a skip of n bits finds is of the bits behind the unread ones and the whole bytes
+-- the end of input that a skip of n bits finds names the bits behind the unread ones and the whole bytes
 abbrev pub NamesRest : ℕ → Standing (List Bool) → Result (Unit {0}) DekuError → Type 0
 NamesRest n (Going w c) r = (m : ℕ) → r ≡ Err (Incomplete (record { bits = m })) → m ≡ (n - length w) % 8
 NamesRest n (Stopped e c) r = ⊤

@@ -51,8 +51,8 @@ pub enum ReaderRet {
 /// - with `Incomplete` of the bits that were asked for, where the input ends before the last of them;
 /// - with `Io` of the fault's kind, where the source fails.
 ///
-/// The last two stop the reader: it answers the same to each further read, also to one of no bits, it has no bits left over, and
-/// the count of bits read stays what it was before the read that failed. A seek that succeeds lets it go on.
+/// The last two stop the reader: it answers the same to each further read, skip and look for the end, also to one of no bits, it has
+/// no bits left over, and the count of bits read stays what it was before the read that failed. A seek that succeeds lets it go on.
 ///
 /// ```text
 /// let mut reader = Reader::new(alloc, Cursor::new(bytes)); // 6D BE EF
@@ -145,7 +145,7 @@ impl<R: Source> Reader<R> {
         Some(Leftover::Bits(bits))
     }
 
-    /// How many bits were read, by reads that succeeded.
+    /// How many bits were read or skipped, by calls that succeeded. A seek sets it, as is said there.
     ///
     /// ```text
     /// reader.bits_read()                                         // 12, behind reads of 8 and of 4 bits
@@ -158,7 +158,7 @@ impl<R: Source> Reader<R> {
 
     /// The unread bits of the byte that was fetched last, high bit first: at most eight, and none after a fault.
     ///
-    /// It is refused with `Io(OutOfMemory)` where no memory is found, and with nothing else. Nothing changes.
+    /// It is refused with `Io(OutOfMemory)` where no memory is found, and with nothing else, also by a reader that has stopped. Nothing changes.
     ///
     /// ```text
     /// reader.read_bits(13, Order::Lsb0)?; // from 10 81
@@ -308,7 +308,7 @@ impl<R: Source> Reader<R> {
     ///
     /// Of the bits that the order takes, each eight from the first on make a group, and the last group may be shorter. A group's number has its
     /// first bit as the highest in `Msb0`, and as the lowest in `Lsb0`. In the word the first group's number counts once, each further
-    /// one 256 times as much. It takes no memory. What is refused, and what is left then, is said at `Reader`.
+    /// one 256 times as much as the one before it. It takes no memory. What is refused, and what is left then, is said at `Reader`.
     ///
     /// ```text
     /// reader.read_word(12, Order::Msb0)?; // from AB CD: 0xCAB
@@ -329,7 +329,7 @@ impl<R: Source> Reader<R> {
     /// The number of the next `amt` bits in `Msb0`, the first the highest, where it has them without a call on the source that may fail: they are unread,
     /// or at hand as `Source::at_hand` says. The caller's condition: they are at most 64.
     ///
-    /// It is a read of as many bits, which rises the count. It answers none where `read_word` refuses as many, and may do so where it does not; then nothing
+    /// It is a read of as many bits, which raises the count. It answers none where `read_word` refuses as many, and may do so where it does not; then nothing
     /// moves.
     ///
     /// ```text
@@ -410,7 +410,7 @@ impl<R: Source> Reader<R> {
         }
     }
 
-    /// Fills the buffer with bytes, as `read_bytes` reads as many as it is long.
+    /// Fills the buffer with bytes, as `read_bytes` reads as many as it is long, and is refused as that is.
     ///
     /// ```text
     /// let mut bytes = [0; 2];
@@ -432,7 +432,7 @@ impl<R: Source> Reader<R> {
         Ok(ReaderRet::Bytes)
     }
 
-    /// Fills the buffer with bytes, as `read_bytes` reads as many as it is long.
+    /// Fills the buffer with bytes, as `read_bytes` reads as many as it is long, and is refused as that is.
     ///
     /// ```text
     /// let mut byte = [0; 1];

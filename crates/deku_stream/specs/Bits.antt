@@ -40,7 +40,7 @@ chunks s = s ∷ []
 abbrev pub bytes_of : List Bool → List ℕ
 bytes_of s = map bin (chunks s)
 
--- how many groups of eight n bits make
+-- how many groups of eight n bits make, the last of which may be short
 abbrev pub groups : ℕ → ℕ
 groups n = (n + 7) / 8
 
@@ -48,16 +48,16 @@ groups n = (n + 7) / 8
 abbrev pub group_number : Order → List Bool → ℕ
 group_number o g = bin (facing o g)
 
--- the first number counts once, each further one 256 times as much
+-- the first number counts once, each further one 256 times as much as the one before it
 abbrev pub little : List ℕ → ℕ
 little [] = 0
 little (c ∷ cs) = c + 256 * little cs
 
--- the word of a list: the number of its first group counts once, that of each further one 256 times as much
+-- the word of a list: the number of its first group counts once, that of each further one 256 times as much as that before it
 abbrev pub word_of : Order → List Bool → ℕ
 word_of o s = little (map (group_number o) (chunks s))
 
--- what a read shows of the list that it took: in `Lsb0` it is reversed, and where it is whole bytes, byte by byte
+-- what a read shows of the list that it took: in `Lsb0` whole bytes are reversed each by itself, and any other list as one; shown twice, it is itself
 unfoldable pub shown : Order → List Bool → List Bool
 shown Msb0 s = s
 shown Lsb0 s = cond (eqb (length s % 8) 0) (flat_map reverse (chunks s)) (reverse s)

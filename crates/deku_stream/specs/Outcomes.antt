@@ -40,7 +40,7 @@ UnlessStopped moves true (Stopped e c) r u = ⊥
 abbrev pub Refuses : {A V : Type 0} → (Bor (List ℕ) → DekuError) → List ℕ → Standing A → Result V DekuError → Standing A → Type 0
 Refuses refusal text s r u = (words : Bor (List ℕ)) × (words.now ≡ text) × (r ≡ Err (refusal words)) × (u ≡ s)
 
--- n bits more are counted, where the count has room for them
+-- n bits more are counted; where the count has no room for them it is refused, and nothing changed
 abbrev pub Counted : {A V : Type 0} → ℕ → (A → ℕ → Result V DekuError → Standing A → Type 0) → A → ℕ → Result V DekuError → Standing A → Type 0
 Counted n moves a c r u = ((2 ^ 64 ≤ c + n) × Refuses InvalidParam (codes "count past usize") (Going a c) r u) ⊎ ((c + n < 2 ^ 64) × moves a c r u)
 

@@ -35,7 +35,7 @@ seen o S = facing o S.window ++ flow o S.bytes
 abbrev pub bit_count : Stream → ℕ
 bit_count S = length S.window + 8 * length S.bytes
 
--- there are n bits to take
+-- there are n bits to take, or more
 abbrev pub Has : ℕ → Stream → Type 0
 Has n S = n ≤ bit_count S
 
@@ -66,13 +66,13 @@ last_part n S = (n - min n (length S.window)) % 8
 abbrev pub without : ℕ → Stream → Stream
 without k S = record S { bytes = drop k S.bytes }
 
--- before its last part: what the window has of the n bits is taken, and whole bytes are left out
+-- a skip before its last part: what the window has of the n bits is taken, and whole bytes are left out
 abbrev pub passed : Order → ℕ → Stream → Stream
 passed o n S =
     let c : ℕ = min n (length S.window) in
     without ((n - c) / 8) (left o c S)
 
--- a skip: what the window has of the n bits, whole bytes, and the remaining bits
+-- a skip: what the window has of the n bits, whole bytes, and the remaining bits, fewer than eight
 unfoldable pub skipped : Order → ℕ → Stream → Stream
 skipped o n S = left o (last_part n S) (passed o n S)
 

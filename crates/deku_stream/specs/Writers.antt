@@ -40,11 +40,12 @@ cut o t = record {
   pending = held o (facing o (remainder t));
 }
 
--- bits behind pending bits of the same order, or behind none
+-- bits behind pending bits of the same order, or behind none: the list that a read shows as these bits follows
 abbrev pub same_append : Order → List Bool → List Bool → Written
 same_append o bits L = cut o (facing o L ++ shown o bits)
 
--- `Lsb0` bits into pending `Msb0` bits, and `Msb0` bits above pending `Lsb0` bits
+-- `Lsb0` bits go behind as many of the pending `Msb0` bits as make whole bytes with them, or all, and before the others; of `Msb0` bits the whole bytes at
+-- the end go out, the last one first, and those before them go above the pending `Lsb0` bits
 abbrev pub cross_append : Order → List Bool → List Bool → Written
 cross_append Lsb0 bits L =
     let c : ℕ = min (8 - length bits % 8) (length L) in
@@ -85,8 +86,8 @@ AppendLaw = (o : Order) (s t : List Bool) (P : Pending) → Meets o P
     let second : Written = append o (shown o t) first.pending in
     append o (shown o (s ++ t)) P ≡ record { bytes = first.bytes ++ second.bytes; pending = second.pending }
 
--- A write in any order loses no bit: those of the bytes given out and those pending then are those pending before and those written.
--- The padding makes one byte of at most seven pending bits.
+-- Behind a write in any order as many bits are given out and pending as were pending and written, and fewer than eight are pending.
+-- The padding adds fewer than eight bits.
 abbrev pub CountLaw : Type 0
 CountLaw = ((o : Order) (bits : List Bool) (P : Pending) → length (pending_bits P) < 8
     → (8 * length (append o bits P).bytes + length (pending_bits (append o bits P).pending) ≡ length (pending_bits P) + length bits)

@@ -4,6 +4,10 @@ ghost use Rattle.std.specs.Prelude.{◌≡◌};
 ghost use Rattle.deku_stream.specs.Bits.{byte_bits};
 
 /// The eight bits of a byte, highest first.
+///
+/// ```text
+/// bits_of_byte(0xA0)                                             // 1, 0, 1, 0, 0, 0, 0, 0
+/// ```
 #[tactic(auto, unfolding(crate::specs::Bits::byte_bits, crate::specs::Bits::bits_of))]
 pub fn bits_of_byte(byte: u8) -> [bool; 8]
     ensures { result ≡ byte_bits byte }

@@ -9,7 +9,7 @@ use std::io::ErrorKind;
 use std::num::TryFromIntError;
 use thiserror::Error;
 
-/// How much more a read wanted.
+/// How many bits a read asked for that found the end of input.
 #[derive(Debug, Clone, Copy, PartialEq, Eq)]
 pub struct NeedSize {
     bits: usize,
@@ -19,7 +19,7 @@ impl NeedSize {
     /// So many bits.
     ///
     /// ```text
-    /// DekuError::Incomplete(NeedSize::new(12))                   // twelve more bits were wanted
+    /// DekuError::Incomplete(NeedSize::new(12))                   // a read of twelve bits found the end of input
     /// ```
     pub fn new(bits: usize) -> NeedSize
         ensures { result.bits ≡ bits }
@@ -27,7 +27,7 @@ impl NeedSize {
         NeedSize { bits }
     }
 
-    /// The bits wanted.
+    /// The bits that were asked for.
     ///
     /// ```text
     /// NeedSize::new(12).bit_size()                               // 12
@@ -38,7 +38,7 @@ impl NeedSize {
         self.bits
     }
 
-    /// The bytes that the bits wanted need: an eighth of them, rounded up.
+    /// The bytes that these bits need: an eighth of them, rounded up.
     ///
     /// ```text
     /// NeedSize::new(12).byte_size()                              // 2
@@ -53,7 +53,7 @@ impl NeedSize {
 /// Why a read or a write was refused.
 #[derive(Debug, Clone, Copy, PartialEq, Eq, Error)]
 pub enum DekuError {
-    /// The input ended before all bits wanted were read.
+    /// The input ended before the last of the bits that were asked for.
     #[error("Not enough data, need {} bits (or {} bytes)", .0.bit_size(), .0.byte_size())]
     Incomplete(NeedSize),
     /// What was read is no value of the type.
@@ -68,7 +68,7 @@ pub enum DekuError {
     /// No variant has the id that was read.
     #[error("Could not resolve `id` for variant")]
     IdVariantNotFound,
-    /// The source, the sink or the memory failed.
+    /// The source or the sink failed, or no memory was found.
     #[error("io errorr: {0:?}")]
     Io(ErrorKind),
 }
@@ -135,12 +135,18 @@ impl From<io::Error> for DekuError {
 /// What stops a reader or a writer: the end of input, or a fault of its device. It is kept, and answered again.
 #[derive(Clone, Copy)]
 pub enum Fault {
+    /// The input ended before the last of the bits that were asked for.
     Incomplete(NeedSize),
+    /// The source or the sink failed.
     Io(ErrorKind),
 }
 
 impl Fault {
     /// The fault as a refusal.
+    ///
+    /// ```text
+    /// Fault::Io(ErrorKind::Other).error()                        // DekuError::Io(ErrorKind::Other)
+    /// ```
     pub fn error(self) -> DekuError
         ensures { result ≡ error_of self }
     {

@@ -7,6 +7,10 @@ use crate::ctx::Order;
 
 /// Turns bits that an order met in turn, so that the highest stands first, and back. In `Msb0` they stay. In `Lsb0` whole bytes are turned each by
 /// itself, and any other number of bits as one.
+///
+/// ```text
+/// show(&mut bits, Order::Lsb0)                                   // 1, 0, 0 becomes 0, 0, 1
+/// ```
 #[tactic(auto, using(crate::proofs::Shown::shown_high))]
 pub fn show(bits: &mut [bool], order: Order)
     ensures { bits.new ≡ shown order bits.old }

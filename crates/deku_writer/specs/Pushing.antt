@@ -38,7 +38,7 @@ pub record Pushed (old new : SinkTold) (o : Order) (before after bits : List Boo
   pub gave : Gave old new (cut o (facing o before ++ bits)).bytes
   pub rest : facing o after ≡ remainder (facing o before ++ bits)
 
--- of n bytes, and at least one, the sink did not take all
+-- the sink did not take all of n bytes, which are one at least
 pub record GaveUp (old new : SinkTold) (n : ℕ) (kind : ErrorKind) : Type 0 where
   pub some : 0 < n
   pub declined : Declined old new n kind

@@ -27,12 +27,12 @@ pub record Took (w : Written) (old new : Output) : Type 0 where
   pub room : Shrinks old.room new.room (length w.bytes)
   pub pending : new.pending ≡ w.pending
 
--- bytes are given out: the sink takes them, each counts eight bits, and the bits are pending; or it lacks the room, which is kept
+-- bytes are given out: the sink takes them, each counts eight bits, and the bits are pending; or it lacks the room, which stops the writer, and the count stays
 abbrev pub GivesOut : Written → Output → ℕ → Result (Unit {0}) DekuError → Standing Output → Type 0
 GivesOut w out c r u = ((after : Output) × Took w out after × (r ≡ Ok tt) × (u ≡ Going after (c + 8 * length w.bytes)))
     ⊎ ((kind : ErrorKind) × (0 < length w.bytes) × LacksRoom out.room (length w.bytes) kind × (r ≡ Err (Io kind)) × (u ≡ Stopped (Io kind) c))
 
--- what writing makes of the pending bits is given out, where the count has room for the bytes
+-- what writing makes of the pending bits is given out; where the count has no room for the bytes it is refused, and nothing changed
 abbrev pub Emits : (Pending → Written) → Meaning Output (Unit {0})
 Emits write = UnlessStopped (λ out. Counted (8 * length (write out.pending).bytes) (GivesOut (write out.pending)) out)
 

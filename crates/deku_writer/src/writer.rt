@@ -36,7 +36,8 @@ use std::marker::Model;
 /// Gives whole bytes to a sink, and keeps the bits that do not fill one: at most seven, of one order.
 ///
 /// Bits in `Msb0` fill a byte from its highest bit down, and bits in `Lsb0` from its lowest bit up. A fault of the sink stops the
-/// writer: it is kept, nothing is pending, and each later write answers the fault again. What the sink took of the failed call is not known.
+/// writer: it is kept, nothing is pending, and each later write answers the fault again, also one of no bits, until a seek succeeds. What
+/// the sink took of the failed call is not known.
 ///
 /// ```text
 /// let mut writer = Writer::new(Cursor::new(Vec::new(alloc)));
@@ -158,8 +159,9 @@ impl<W: Sink> Writer<W> {
     /// In `Msb0` they follow the pending bits. In `Lsb0` they go above them, the last bit first, or, where the list is whole bytes, byte by
     /// byte, the last bit of each first. `Lsb0` bits go into pending `Msb0` bits, and `Msb0` bits above pending `Lsb0` bits. No bits change nothing.
     ///
-    /// Fails, in this order: with the fault that stopped the writer; with `InvalidParam` where the count would pass `usize`, and nothing changes;
-    /// with `Io` of the sink's fault, as `WriteZero` where it lacks room. The fault is kept, nothing is pending then, and the count stays.
+    /// It takes no memory but what the sink takes. Fails, in this order: with the fault that stopped the writer; with
+    /// `InvalidParam("count past usize")` where the count would pass `usize`, and nothing changes; with `Io` of the sink's fault, as `WriteZero`
+    /// where it lacks room, and `OutOfMemory` where a vector finds no memory. That fault is kept, nothing is pending then, and the count stays.
     ///
     /// ```text
     /// writer.write_bits_order(&[true, false, true], Order::Lsb0)?;
@@ -172,7 +174,7 @@ impl<W: Sink> Writer<W> {
         self.state.write(&mut self.sink, bits, order)
     }
 
-    /// Writes bits in `Msb0`, as `write_bits_order` does.
+    /// Writes bits in `Msb0`, as `write_bits_order` does, and fails as that does.
     ///
     /// ```text
     /// writer.write_bits(&[true, false, true])?;
@@ -186,7 +188,7 @@ impl<W: Sink> Writer<W> {
     }
 
     /// Writes the bits of bytes in `Msb0`, each byte high bit first, as one `write_bits` of all of them does. Where nothing is pending the sink
-    /// is given the bytes at once. It takes no memory but what the sink takes.
+    /// is given the bytes at once. It takes no memory but what the sink takes, and fails as `write_bits_order` does.
     ///
     /// ```text
     /// writer.write_bits(&[true, false, true, false])?;   // 1, 0, 1, 0 are pending
@@ -200,8 +202,8 @@ impl<W: Sink> Writer<W> {
     }
 
     /// Writes a word of at most 128 bits in an order, as one `write_bits_order` of its bits does: eight bits for each byte of the word, the
-    /// lowest byte first, and what is above the whole bytes last. It takes no memory but what the sink takes, and gives the sink its bytes at
-    /// once, but for bits of the other order that are pending. The caller's conditions: `n` is at most 128, and the word has no more bits.
+    /// lowest byte first, and what is above the whole bytes last. The sink is given the bytes at once. It takes no memory but what the sink
+    /// takes, and fails as `write_bits_order` does. The caller's conditions: `n` is at most 128, and the word has no more bits.
     ///
     /// ```text
     /// writer.write_word(0x0201, 12, Order::Msb0)?;       // the byte 0x01; 0, 0, 1, 0 are pending

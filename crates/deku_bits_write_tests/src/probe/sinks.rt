@@ -105,14 +105,22 @@ fn expect_written(
     Ok(lacks)
 }
 
+// So in each way. It answers whether memory was refused.
+fn expect_each_way(rt: &impl Abort, alloc: Global, n: usize) -> Result<bool, Fail> {
+    let mut lacking = false;
+    for case in WAYS {
+        let lacks = expect_written(rt, alloc, case, n)?;
+        lacking = lacking || lacks;
+    }
+    Ok(lacking)
+}
+
 #[test]
 fn keeps_a_fault_at_each_call(rt: HostRuntime) -> Result<(), Fail> {
     let mut lacking = false;
     for n in 1..=5 {
-        for case in WAYS {
-            let lacks = expect_written(&rt, rt.alloc(), case, n)?;
-            lacking = lacking || lacks;
-        }
+        let lacks = expect_each_way(&rt, rt.alloc(), n)?;
+        lacking = lacking || lacks;
     }
     handed(lacking)
 }

@@ -31,7 +31,7 @@ impl<'a> Trickle<'a> {
     /// It begins at the first byte.
     ///
     /// ```text
-    /// let mut reader = Reader::new(alloc, Trickle::new(bytes));  // each transfer gives one byte
+    /// let mut reader = Reader::new(alloc, Trickle::new(bytes));  // each read gives one byte
     /// ```
     pub fn new(bytes: &'a [u8]) -> Trickle<'a>
         ensures bytes { cursor_inner result.inner ≡ bytes.entry }

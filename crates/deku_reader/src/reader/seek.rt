@@ -18,9 +18,9 @@ use std::io::{ErrorKind, Seek, SeekFrom};
 
 /// Seeks the source. No bit of the byte that was fetched last is unread then, also where that byte was fetched by `end`.
 ///
-/// A seek that succeeds ends what a fault has stopped. The count of bits read is then that of the bytes before the place for
-/// `Start`, but for place 0, and is raised by the bits of the bytes in front for `Current`. It stays for `Start(0)`, for `End`, and
-/// for `Current` backwards.
+/// A seek that succeeds lets a reader go on that a fault had stopped. For `Start` of a place other than 0 the count of bits read is then
+/// that of the bytes before the place; for `Current` forward it is raised by the bits of the bytes that are left out. It stays for
+/// `Start(0)`, for `End`, and for `Current` backward.
 ///
 /// It is refused
 ///

@@ -67,7 +67,7 @@ fn push_bit<W: Sink>(
     }
 }
 
-/// The bits, on a way through them.
+// The bits, on a way through them.
 fn push_along<W: Sink>(
     sink: &mut W,
     held: &mut Held,
@@ -90,7 +90,7 @@ fn push_along<W: Sink>(
     Ok(())
 }
 
-/// Bits onto bits of the same order.
+// Bits onto bits of the same order.
 fn push_same<W: Sink>(
     sink: &mut W,
     held: &mut Held,
@@ -129,7 +129,7 @@ fn push_three<W: Sink>(
     push_along(sink, held, Order::Msb0, Way::Forward, third)
 }
 
-/// `Lsb0` bits into `Msb0` bits.
+// `Lsb0` bits into `Msb0` bits.
 fn push_into<W: Sink>(sink: &mut W, held: &mut Held, bits: &[bool]) -> Result<(), ErrorKind>
     requires { length held.old < 8 }
     ensures pushed { OnOk result (Pushed (W.told sink.old) (W.told sink.new) Msb0 [] held.new
@@ -150,7 +150,7 @@ fn push_into<W: Sink>(sink: &mut W, held: &mut Held, bits: &[bool]) -> Result<()
     )
 }
 
-/// `Msb0` bits above `Lsb0` bits.
+// `Msb0` bits above `Lsb0` bits.
 fn push_above<W: Sink>(sink: &mut W, held: &mut Held, bits: &[bool]) -> Result<(), ErrorKind>
     requires { length held.old < 8 }
     ensures pushed { OnOk result (Pushed (W.told sink.old) (W.told sink.new) Msb0 [] held.new

@@ -17,8 +17,8 @@ use std::io::{Seek, SeekFrom};
 
 /// Seeks the sink. Pending bits are lost: call `finalize` first. The count of bits written stays.
 ///
-/// A seek that succeeds ends what a fault has stopped. It is refused with the sink's error, where that refuses: the writer stops with `Io` of the
-/// error's kind.
+/// A seek that succeeds lets a writer go on that a fault had stopped. It is refused with the sink's error, where that refuses: the writer stops
+/// with `Io` of the error's kind.
 ///
 /// ```text
 /// writer.write_bits(&[true, false, true, false])?;   // onto a vector: nothing is given to it yet
