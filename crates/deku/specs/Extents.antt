@@ -28,7 +28,7 @@ pub record IsSized (n : ℕ) (m : Meaning Output (Unit {0})) : Type 0 where
 abbrev pub NumberSizeLaw : Type 0
 NumberSizeLaw = (t : NumberType) (l : Layout) (v : ℤ) → IsWhole t l v → IsSized t.bits (WritesNumber t l v)
 
--- where a type's size is answered by a call, m writes exactly so many bits
+-- where a call answers n as the size of a type, m writes exactly n bits
 pub record KeepsSize (size : Option ℕ) (m : Meaning Output (Unit {0})) : Type 0 where
   pub answered : (n : ℕ) → fitting size ≡ Some n → IsSized n m
 

@@ -21,7 +21,7 @@ use Rattle.deku_reading.specs.Lists.{on_value}
 abbrev pub Behind : {V : Type 0} → ℕ → Meaning (Option Stream) V → Meaning (Option Stream) V
 Behind n m = Then (Skips Msb0 n) (λ _. m)
 
--- a reader that is made for one call does m, and its count is answered beside the value: what the source tells then is where that reader stands
+-- a reader that is made for one call does m, and its count is answered beside the value; what the source tells then is what that reader leaves
 pub record ReadsOnce {R V : Type 0} (told : R → SourceTold) (m : Meaning (Option Stream) V) (old : R) (r : Result (ℕ × V) DekuError) (new : R) : Type 0 where
   pub stands : Standing (List Bool)
   pub reads : ReadsAt m (told old) (Going [] 0) (on_value (λ p. p.1) r) (told new) stands
@@ -66,7 +66,7 @@ abbrev pub WritesOver : Meaning Output (Unit {0}) → List ℕ → Result ℕ De
 WritesOver m old (Ok n) new = (out : Output) × (c : ℕ) × m false (Going (over old) 0) (Ok tt) (Going out c) × (out.taken ≡ bytes_before n new) × (out.room ≡ Some (drop n new))
 WritesOver m old (Err e) new = (u : Standing Output) × m false (Going (over old) 0) (Err e) u
 
--- the bits that m gives from nothing written: those of the bytes that were taken, where they are told, and the pending ones
+-- the bits that m gives from nothing written: those of the bytes taken, where they are told, and the pending ones; or m's refusal, a fault that m only kept, or want of memory
 abbrev pub WritesBare : Meaning Output (Unit {0}) → Result (Vec Bool) DekuError → Type 0
 WritesBare m (Ok v) = (out : Output) × (c : ℕ) × m false (Going in_memory 0) (Ok tt) (Going out c)
     × IfSome out.taken (λ bytes. v.items ≡ bits_in bytes ++ pending_bits out.pending)

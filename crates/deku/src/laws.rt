@@ -83,8 +83,8 @@ pub fn number_extent_law()
     ensures of_bool { (v : Bool) → KeepsSize ⟦<bool as DekuSize>⟧.bits (⟦<bool as DekuWriter<()>>⟧.meaning v tt) }
 {}
 
-/// Where `size_bits` of a tuple answers n, it is written under `()` as exactly n bits, if its first item and the tuple of the rest are written as
-/// exactly the bits that their own sizes answer. So with each length, up to eleven items.
+/// Where `size_bits` of a tuple answers n, it is written under `()` as exactly n bits, if its first item and the tuple of the rest are
+/// written as exactly the bits that their own sizes answer. So with each length, up to eleven items.
 pub fn tuple_extent_law<
     A: DekuSize + DekuWriter<()>,
     B: DekuSize + DekuWriter<()>,
@@ -111,14 +111,15 @@ pub fn tuple_extent_law<
     ensures eleven { (a : A) (b : B) (c : C) (d : D) (e : E) (f : F) (g : G) (h : H) (i : I) (j : J) (k : K) → KeepsSize A.bits (A.meaning a tt) → KeepsSize ⟦<(B, C, D, E, F, G, H, I, J, K) as DekuSize>⟧.bits (⟦<(B, C, D, E, F, G, H, I, J, K) as DekuWriter<()>>⟧.meaning (b, c, d, e, f, g, h, i, j, k) tt) → KeepsSize ⟦<(A, B, C, D, E, F, G, H, I, J, K) as DekuSize>⟧.bits (⟦<(A, B, C, D, E, F, G, H, I, J, K) as DekuWriter<()>>⟧.meaning (a, b, c, d, e, f, g, h, i, j, k) tt) }
 {}
 
-/// Where `size_bits` of an array answers n, it is written under `()` as exactly n bits, if its items are each written as exactly the bits that their
-/// size answers.
+/// Where `size_bits` of an array answers n, it is written under `()` as exactly n bits, if its items are each written as exactly the bits
+/// that their size answers.
 pub fn array_extent_law<T: DekuSize + DekuWriter<()>, const N: usize>()
     ensures { (vs : List T) → length vs ≡ N → All (λ v. KeepsSize T.bits (T.meaning v tt)) vs → KeepsSize ⟦<[T; N] as DekuSize>⟧.bits (⟦<[T; N] as DekuWriter<()>>⟧.meaning vs tt) }
 {}
 
-/// A vector of whole numbers of any of the twelve types, whose values fit, written from a byte's boundary under one context whose layout is not refused, and
-/// padded once, is read with a count of its length as itself, whatever follows; the one refusal is that no memory is found.
+/// A vector of whole numbers of any of the twelve types, whose values fit, written from a byte's boundary under one context whose layout
+/// is not refused, and padded once, is read with a count of its length as itself, whatever follows, as far as the bits can be counted; the
+/// one refusal is that no memory is found.
 pub fn vector_law<C: NumberCtx>()
     ensures of_u8 { (c : C) → ReadsAsWritten byte (C.parts_of c) pos (λ n. ⟦<Vec<u8> as DekuReader<(Limit<u8, Never>, C)>>⟧.meaning (Count n, c)) (λ v. ⟦<Vec<u8> as DekuWriter<C>>⟧.meaning v c) }
     ensures of_u16 { (c : C) → ReadsAsWritten (unsigned 16) (C.parts_of c) pos (λ n. ⟦<Vec<u16> as DekuReader<(Limit<u16, Never>, C)>>⟧.meaning (Count n, c)) (λ v. ⟦<Vec<u16> as DekuWriter<C>>⟧.meaning v c) }
@@ -145,8 +146,8 @@ pub fn number_cause_law()
     ensures writes { (t : FieldType) (l : FieldLayout) (v : ℤ) → OwnFaults WantsPlace (WritesNumber t l v) }
 {}
 
-/// What is made of items has no `Io` of its own, if its items have none: two items as one value, and arrays; or none but want of memory, and vectors under
-/// any limit have none but that. So are tuples, whose items are the first one and those behind it.
+/// What is made of items has no `Io` of its own, if its items have none: two items as one value, and arrays; or none but want of memory,
+/// and vectors under any limit have none but that. So are tuples, whose items are the first one and those behind it.
 pub fn items_cause_law<
     Ctx: Copy,
     A: DekuReader<Ctx>,
@@ -212,8 +213,8 @@ pub fn written_cause_law<Ctx: Copy, A: DekuWriter<Ctx>, B: DekuWriter<Ctx>>()
     ensures each { (vs : List A) (c : Ctx) → ((v : A) → OwnFaults WantsPlace (A.meaning v c)) → OwnFaults WantsPlace (WritesEach (λ v. A.meaning v c) vs) }
 {}
 
-/// The calls on whole values answer an `Io` only of the value's own kinds: slices and memory do not fail. `from_reader` answers one too where the source that
-/// it was lent fails, and tells so by its count.
+/// The calls on whole values answer an `Io` only of the value's own kinds: slices and memory do not fail. `from_reader` answers one too
+/// where the source that it was lent fails, and tells so by its count.
 pub fn whole_cause_law<T: DekuReader<()> + DekuWriter<()>, R: Source>()
     ensures from_reader { (n : ℕ) (old new : R) (k : ErrorKind) → OwnFaults WantsMemory (T.DekuReader.meaning tt) → ReadsOnce R.told (Behind n (T.DekuReader.meaning tt)) old (Err (Io k)) new → MoreFailures (R.told old).health (R.told new).health ⊎ WantsMemory k }
     ensures from_bytes { (n : ℕ) (bytes : List ℕ) (k : ErrorKind) → OwnFaults WantsMemory (T.DekuReader.meaning tt) → ReadsBytesOnce (Behind n (T.DekuReader.meaning tt)) bytes (Err (Io k)) → WantsMemory k }

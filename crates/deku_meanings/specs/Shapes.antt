@@ -1,4 +1,4 @@
--- How tuples and the types that hold one item stand on their items.
+-- How tuples, types that hold one item, and types that stand for a number are made of these.
 use Rattle.std.specs.Prelude.{◌≡◌, ℕ, Bool, false, cond, List, Option, None, Some, Result, Ok, Err, pos}
 use Rattle.std.specs.declared.io.ErrorKind.TheVariants.{OutOfMemory}
 use Rattle.std.specs.declared.net.ip_addr.IpAddr.{IpAddr}
@@ -17,7 +17,7 @@ use Rattle.deku_meanings.specs.Composing.{Answer, Then}
 abbrev pub JoinedBy : {A V W X : Type 0} → (V → W → X) → Meaning A V → Meaning A W → Meaning A X
 JoinedBy h m n = Then m (λ v. Then n (λ w. Answer (h v w)))
 
--- what there is of an item; nothing moves where there is none
+-- m of the item, where there is one; where there is none, nothing moves
 abbrev pub IfHeld : {A T : Type 0} → (T → Meaning A (Unit {0})) → Option T → Meaning A (Unit {0})
 IfHeld m None = Answer tt
 IfHeld m (Some v) = m v

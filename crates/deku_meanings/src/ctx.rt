@@ -7,7 +7,7 @@ pub use deku_num::ctx::{
 };
 use std::marker::PhantomData;
 
-/// So many bytes, read at once.
+/// So many bytes, which are read at once, as the context of a vector of bytes.
 #[derive(Drop)]
 pub struct ReadExact(pub usize);
 
@@ -25,6 +25,8 @@ pub trait Predicate<T>: Drop {
     ghost ended: { Self → Type 0 };
 
     /// Whether it is true of the item.
+    ///
+    /// The caller's condition: it may be asked about every item; so it may then, too.
     fn test(&mut self, item: &T) -> bool
         requires { asks_all self.old }
         ensures answered { answers self.old item.now result self.new }

@@ -10,13 +10,17 @@ use Rattle.deku_num.specs.declared.ctx.Endian.{Endian}
 use Rattle.deku_num.specs.declared.ctx.Endian.TheVariants.{Little, Big}
 use Rattle.deku_bits.specs.Bits.{chunks, bits_of, group_number}
 use Rattle.deku_bits.specs.Bits.{groups}
-pub use Rattle.deku_num.specs.NumberLaws.{weight}
 use Rattle.deku_num.specs.NumberLaws.{Within}
 use Rattle.deku_num.specs.Numbers.{number}
 use Rattle.deku_bits.proofs.Binary.{bin-lt, bin-append, group_number-lt, group_number-inj, group_of, length-group_of, group_number-group_of, length-bits_of, bin-bits_of}
 use Rattle.deku_bits.proofs.Groups.{chunks-full, chunks-short, by_eights, by_groups, groups-more, groups_short, length-chunks}
 
 -- ---- a group in front, and a short group alone
+-- how often the number of a group of eight counts in big, in front of n bits
+abbrev pub weight : Order → ℕ → ℕ
+weight Msb0 n = 2 ^ n
+weight Lsb0 n = 256 ^ groups n
+
 pub little-full : (o : Order) (g t : List Bool) → length g ≡ 8 → number Little o (g ++ t) ≡ group_number o g + 256 * number Little o t
 unfolding number
 little-full o g t l = rw (chunks-full g t l) refl

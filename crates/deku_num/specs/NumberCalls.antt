@@ -16,7 +16,7 @@ use Rattle.deku_num.specs.declared.ctx.Layout.{Layout}
 use Rattle.deku_num.specs.NumberLaws.{InType}
 use Rattle.deku_num.specs.Numbers.{NumberType, width, IsEvenWhere, IsAllowed, value, IsFieldOf}
 
--- a check comes first: where it refuses, nothing changes; else m follows
+-- a check comes first: it refuses, as `refuses` says, and no device fails; or m follows, which has to say itself what the check let pass
 pub data Checked {A V : Type 0} (refuses : Standing A → Result V DekuError → Standing A → Type 0) (m : Meaning A V) (b : Bool) (s : Standing A) (r : Result V DekuError) (u : Standing A) : Type 0 where
   Refused : b ≡ false → refuses s r u → Checked refuses m b s r u
   Passed : m b s r u → Checked refuses m b s r u
@@ -35,7 +35,7 @@ abbrev pub beyond : Size → List ℕ
 beyond (Bytes n) = codes "byte size is larger than input"
 beyond _ = codes "bit size is larger than input"
 
--- no list is worth v
+-- the layout is not refused, but no list of the field is worth v, which is refused
 abbrev pub RefusesValue : {A V : Type 0} → NumberType → Layout → ℤ → Standing A → Result V DekuError → Standing A → Type 0
 RefusesValue t l v s r u = ((bits : List Bool) → IsFieldOf t l v bits → ⊥) × IsAllowed t l × Refuses InvalidParam (codes "bit size of input is larger than requested size") s r u
 
@@ -44,12 +44,12 @@ abbrev pub WritesNumber : NumberType → Layout → ℤ → Meaning Output (Unit
 WritesNumber t l v = Checked (RefusesLayout InvalidParam (beyond l.size) t l)
     (Checked (RefusesValue t l v) (λ b s r u. IsAllowed t l × ((bits : List Bool) × IsFieldOf t l v bits × WritesBits l.order (shown l.order bits) b s r u)))
 
--- a number without a sign, as an integer
+-- the answer of a number without a sign, as an integer
 abbrev pub integers : Result ℕ DekuError → Result ℤ DekuError
 integers (Ok n) = Ok (pos n)
 integers (Err e) = Err e
 
--- the refusal of a layout, as told for a size beyond the type
+-- why a layout is refused: with this text for a size beyond the type, or as signed, big, `Lsb0`, wider than 8 and no multiple of 8
 abbrev pub IsLayoutRefusal : (Bor (List ℕ) → DekuError) → List ℕ → NumberType → Layout → DekuError → Type 0
 IsLayoutRefusal refusal text t l e = ((t.bits < width t l) × Tells refusal text e)
     ⊎ ((width t l ≤ t.bits) × (IsEvenWhere t.signed l.endian l.order (width t l) → ⊥) × Tells InvalidParam (codes "signed big Lsb0 field of this width") e)

@@ -8,12 +8,7 @@ use Rattle.deku_num.specs.declared.ctx.Endian.TheVariants.{Little, Big}
 use Rattle.deku_num.specs.declared.ctx.Layout.{Layout}
 use Rattle.deku_num.specs.Numbers.{NumberType, width, IsAllowed, number, value, IsFieldOf, Fits}
 
--- what the bits in front of n more weigh, in big
-abbrev pub weight : Order → ℕ → ℕ
-weight Msb0 n = 2 ^ n
-weight Lsb0 n = 256 ^ groups n
-
--- the numbers of n bits, without a sign: in big `Lsb0` the last group may be short, and its number is small
+-- the numbers of n bits, without a sign: in big `Lsb0` the last group, which counts once, may be short, and its number has no more bits than it
 abbrev pub Within : Endian → Order → ℕ → ℕ → Type 0
 Within Big Lsb0 n m = (m < 256 ^ groups n) × (m % 256 < 2 ^ (n - 8 * (groups n - 1)))
 Within _ _ n m = m < 2 ^ n
@@ -35,7 +30,7 @@ abbrev pub InType : Bool → ℕ → ℤ → Type 0
 InType false n v = (m : ℕ) × (v ≡ pos m) × (m < 2 ^ n)
 InType true n v = (neg_ℤ (pos (2 ^ (n - 1))) ≤ℤ v) × (v <ℤ pos (2 ^ (n - 1)))
 
--- What a field reads under a layout that is not refused is a value of its type of whole bytes.
+-- What a field reads under a layout that is not refused is a value of its type, where that has whole bytes.
 abbrev pub TypeLaw : Type 0
 TypeLaw = (t : NumberType) (l : Layout) → t.bits % 8 ≡ 0 → IsAllowed t l → (s : List Bool) → length s ≡ width t l
     → InType t.signed t.bits (value t l s)
@@ -45,14 +40,14 @@ abbrev pub ByteLaw : Type 0
 ByteLaw = (e : Endian) (o : Order) (n m : ℕ) → n % 8 ≡ 0 → m < 2 ^ n
     → (s : List Bool) × (length s ≡ n) × (number e o s ≡ m) × ((t : List Bool) → length t ≡ n → number e o t ≡ m → t ≡ s)
 
--- The number of whole groups and of bits behind them: a reader adds group by group, a writer takes group by group off.
+-- The number of whole groups of eight and bits behind them, from the numbers of both.
 abbrev pub SplitLaw : Type 0
 SplitLaw = (o : Order) (s t : List Bool) → length s % 8 ≡ 0
     → (number Little o (s ++ t) ≡ number Little o s + number Little o t * 2 ^ length s)
     × (number Big Msb0 (s ++ t) ≡ number Big Msb0 s * 2 ^ length t + number Big Msb0 t)
     × (number Big Lsb0 (s ++ t) ≡ number Big Lsb0 s * 256 ^ groups (length t) + number Big Lsb0 t)
 
--- One group alone has its own number, in every endian.
+-- One group alone has its own number, in every endian, and that has no more bits than the group.
 abbrev pub GroupLaw : Type 0
 GroupLaw = (e : Endian) (o : Order) (g : List Bool) → 0 < length g → length g ≤ 8
     → (number e o g ≡ group_number o g) × (group_number o g < 2 ^ length g)

@@ -10,11 +10,11 @@ use Rattle.deku_num.specs.declared.ctx.Size.TheVariants.{Whole, Bits, Bytes}
 use Rattle.deku_num.specs.declared.ctx.Layout.{Layout}
 pub use Rattle.deku_num.specs.declared.kind.NumberType.{NumberType}
 
--- an unsigned type wider than a byte
+-- an unsigned type of n bits, wider than `u8`
 abbrev pub unsigned : ℕ → NumberType
 unsigned n = record { bits = n; signed = false; one_byte = false }
 
--- a signed type
+-- a signed type of n bits
 abbrev pub signed : ℕ → NumberType
 signed n = record { bits = n; signed = true; one_byte = false }
 
@@ -22,13 +22,13 @@ signed n = record { bits = n; signed = true; one_byte = false }
 abbrev pub byte : NumberType
 byte = record { bits = 8; signed = false; one_byte = true }
 
--- the bits of the type, the bit size, or eight times the byte size
+-- the bits of the type, the bit size, or eight times the byte size; of `u8` under any byte size they are eight
 abbrev pub sized_width : NumberType → Size → ℕ
 sized_width t Whole = t.bits
 sized_width t (Bits n) = n
 sized_width t (Bytes n) = cond t.one_byte 8 (8 * n)
 
--- how many bits a number of the type takes
+-- how many bits a number of the type takes under a layout
 abbrev pub width : NumberType → Layout → ℕ
 width t l = sized_width t l.size
 
@@ -47,13 +47,13 @@ abbrev pub big : List ℕ → ℕ
 big [] = 0
 big (c ∷ cs) = c * 256 ^ length cs + big cs
 
--- the number of a list of bits
+-- the number of a list of bits: in big `Msb0` its binary number; else that of its groups of eight, of which in little the first and in big the last counts once
 unfoldable pub number : Endian → Order → List Bool → ℕ
 number Little o s = word_of o s
 number Big Msb0 s = bin s
 number Big Lsb0 s = big (map (group_number Lsb0) (chunks s))
 
--- a number of n bits in two's complement, where there is a sign
+-- what a number of n bits is worth: where there is a sign it is less by 2 ^ n, if it is half of that or more
 abbrev pub with_sign : Bool → ℕ → ℕ → ℤ
 with_sign true (suc n) m = cond (leb (2 ^ n) m) (pos m -ℤ pos (2 ^ suc n)) (pos m)
 with_sign _ _ m = pos m
@@ -71,7 +71,7 @@ pub record IsFieldOf (t : NumberType) (l : Layout) (v : ℤ) (s : List Bool) : T
 abbrev pub Fits : NumberType → Layout → ℤ → Type 0
 Fits t l v = (s : List Bool) × IsFieldOf t l v s
 
--- the word of the list that is worth v: it is one of the width, and the list of the width that has it is worth v
+-- the word of the list that is worth v: a word of the width, and the list of the width that has it is worth v
 pub record IsWordFor (t : NumberType) (l : Layout) (v : ℤ) (w : ℕ) : Type 0 where
   pub below : w < 2 ^ width t l
   pub list : (s : List Bool) → length s ≡ width t l → word_of l.order s ≡ w → IsFieldOf t l v s

@@ -1,7 +1,7 @@
 -- Sizes of types, as calls answer them.
 use Rattle.std.specs.Prelude.{ℕ, zero, suc, ◌+◌, ◌*◌, ◌/◌, ◌%◌, ◌^◌, Option, None, Some, ltb, eqb, cond}
 
--- bits that a usize holds
+-- so many bits, where a `usize` can tell them
 abbrev pub fitting : Option ℕ → Option ℕ
 fitting None = None
 fitting (Some n) = cond (ltb n (2 ^ 64)) (Some n) None

@@ -88,7 +88,8 @@ pub fn read_signed<R: Source>(
     Ok(signed_of(number, width))
 }
 
-// The number of so many bits that go from the highest down, where the layout is big and they are at hand. It answers none else, and then nothing moves.
+// The number of so many bits that go from the highest down, where the layout is big and they are at hand. It answers none else, and then
+// nothing moves.
 #[inline(always)]
 fn number_at_hand<R: Source>(reader: &mut Reader<R>, layout: Layout, width: usize) -> Option<u64>
     ensures big { IfSome result (λ n. layout.endian ≡ Endian.Big) }

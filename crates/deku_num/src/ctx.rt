@@ -17,7 +17,7 @@ pub enum Endian {
 }
 
 impl Endian {
-    /// Little, the order where none is given.
+    /// Little, which is meant where no endian is given.
     pub fn new() -> Endian
         ensures { result ≡ Endian.Little }
     {
@@ -62,7 +62,7 @@ impl Default for Endian {
 #[derive(Debug, Clone, Copy, PartialEq, Eq)]
 pub struct ParseEndianError {}
 
-/// From `little` or `big`; any other text is refused.
+/// From `little` or `big`; any other text is refused with `ParseEndianError`.
 impl FromStr for Endian {
     type Err = ParseEndianError;
 
@@ -79,7 +79,7 @@ impl FromStr for Endian {
     }
 }
 
-/// How many bits a number takes.
+/// How many bits a number takes. It is a context too.
 #[derive(Debug, Clone, Copy, PartialEq, Eq)]
 pub enum Size {
     /// All bits of its type.
@@ -90,7 +90,7 @@ pub enum Size {
     Bytes(usize),
 }
 
-/// How a number lies in a stream.
+/// How a number lies in a stream. It is a context too.
 #[derive(Debug, Clone, Copy, PartialEq, Eq)]
 pub struct Layout {
     /// The order of its groups of eight bits.
@@ -130,6 +130,10 @@ pub trait NumberCtx: Copy {
     ghost parts_of: { Self → Layout };
 
     /// The layout that the context stands for.
+    ///
+    /// ```text
+    /// (Endian::Big, BitSize(4)).parts()                          // big, `Msb0`, four bits
+    /// ```
     fn parts(self) -> Layout
         ensures { result ≡ parts_of self };
 }

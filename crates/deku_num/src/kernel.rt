@@ -25,6 +25,10 @@ pub enum Misfit {
 ///
 /// Refused are a size beyond the type, as `TooWide`, and otherwise a signed field that is big and `Lsb0`, of more than eight bits and no
 /// whole bytes, as `Uneven`.
+///
+/// ```text
+/// allowed_width(NumberType::U16, ByteSize(1).parts())                        // Ok(8)
+/// ```
 #[inline(always)]
 pub fn allowed_width(number_type: NumberType, layout: Layout) -> Result<usize, Misfit>
     ensures allowed { IsOk result ↔ IsAllowed number_type layout }
@@ -75,6 +79,10 @@ fn is_even_where(signed: bool, endian: Endian, order: Order, width: usize) -> bo
 /// The number of a field's bits, without a sign, from their word, as `Reader::read_word` answers it.
 ///
 /// The caller's conditions: there are at most 128 bits, and the word has no more.
+///
+/// ```text
+/// number_of_word(0xCAB, 12, Endian::Big, Order::Msb0)                        // 0xABC, of the groups AB and C
+/// ```
 #[inline(always)]
 pub fn number_of_word(word: u128, width: usize, endian: Endian, order: Order) -> u128
     requires wide { width ≤ 128 }
@@ -108,7 +116,14 @@ fn number_of_high(word: u128, width: usize) -> u128
     (turned(low, count) << behind) + (word >> whole)
 }
 
-/// The word of a field's bits, as `Writer::write_word` takes it, from their number without a sign. There are at most 128.
+/// The word of a field's bits, as `Writer::write_word` takes it, from their number without a sign. Of a number that no bits of the width
+/// have, what is answered is open.
+///
+/// The caller's condition: there are at most 128 bits.
+///
+/// ```text
+/// word_of_number(0xABC, 12, Endian::Big, Order::Msb0)                        // 0xCAB
+/// ```
 #[inline(always)]
 pub fn word_of_number(number: u128, width: usize, endian: Endian, order: Order) -> u128
     requires wide { width ≤ 128 }
@@ -157,6 +172,10 @@ fn turned(number: u128, count: usize) -> u128
 /// What a number of n bits is worth in two's complement.
 ///
 /// The caller's conditions: there are at most 128 bits, and the number has no more.
+///
+/// ```text
+/// signed_of(0b101, 3)                                                        // -3
+/// ```
 #[inline(always)]
 pub fn signed_of(number: u128, n: usize) -> i128
     requires wide { n ≤ 128 }
@@ -188,7 +207,13 @@ fn with_sign(sum: u128, half: u128) -> i128
     }
 }
 
-/// The word of the bits of an unsigned value, as `Writer::write_word` takes it; none where the value does not fit. The layout is one that `allowed_width` admits, and `width` is the one that it answers.
+/// The word of the bits of an unsigned value, as `Writer::write_word` takes it; none where the value does not fit.
+///
+/// The caller's conditions: the type has no sign, and at most 128 bits; `allowed_width` admits the layout, and `width` is what it answers.
+///
+/// ```text
+/// unsigned_word(16, NumberType::U8, BitSize(4).parts(), 4)                   // none: 16 has five bits
+/// ```
 #[inline(always)]
 pub fn unsigned_word(
     value: u128,
@@ -210,6 +235,12 @@ pub fn unsigned_word(
 }
 
 /// The word of the bits of a signed value, as `unsigned_word` answers it.
+///
+/// The caller's conditions: the type has a sign, and at most 128 bits; `allowed_width` admits the layout, and `width` is what it answers.
+///
+/// ```text
+/// signed_word(-3, NumberType::I8, BitSize(3).parts(), 3)                     // Some(0b101)
+/// ```
 #[inline(always)]
 pub fn signed_word(
     value: i128,
@@ -258,7 +289,13 @@ fn is_below(value: u128, n: usize) -> bool
     n == 128 || value < 1 << n
 }
 
-/// A value modulo two to the power of n, which is at most 128.
+/// A value modulo two to the power of n.
+///
+/// The caller's condition: n is at most 128.
+///
+/// ```text
+/// residue_of(-1, 4)                                                          // 15
+/// ```
 #[inline(always)]
 pub fn residue_of(value: i128, n: usize) -> u128
     requires { n ≤ 128 }
@@ -280,7 +317,13 @@ fn below_zero(value: i128) -> u128
     (-(value + 1)) as u128
 }
 
-/// A number modulo two to the power of n, which is at most 128: its n lowest bits.
+/// A number modulo two to the power of n: its n lowest bits.
+///
+/// The caller's condition: n is at most 128.
+///
+/// ```text
+/// low_bits(0x2B, 4)                                                          // 11
+/// ```
 #[inline(always)]
 pub fn low_bits(sum: u128, n: usize) -> u128
     requires { n ≤ 128 }

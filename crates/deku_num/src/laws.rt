@@ -4,27 +4,27 @@ ghost use Rattle.deku_num.specs.NumberCalls.{SizeLaw};
 ghost use Rattle.deku_num.specs.NumberLaws.{FieldLaw, TypeLaw, ByteLaw, SplitLaw, GroupLaw, BitLaw, ResidueLaw};
 ghost use Rattle.deku_num.specs.Rows.{RecordRows, NumberRows, PartRows, FitRows};
 
-/// The values that fit a field are those in range, and each has one list of bits alone.
+/// The values that fit a field whose layout is not refused are those in range, and each has one list of bits alone.
 pub fn field_law()
     ensures { FieldLaw }
 {}
 
-/// What a field reads is a value of its type.
+/// What a field reads under a layout that is not refused is a value of its type, where that has whole bytes.
 pub fn type_law()
     ensures { TypeLaw }
 {}
 
-/// A value of a type is written under a layout of its whole size, so under `()`, as exactly the bits of its type.
+/// A value of a type of whole bytes is written under a layout of its whole size, so under `()`, as exactly the bits of its type.
 pub fn size_law()
     ensures { SizeLaw }
 {}
 
-/// In whole bytes, each number below two to the width has one list of bits.
+/// In whole bytes, each number below two to the width has one list of bits alone, in every endian and order.
 pub fn byte_law()
     ensures { ByteLaw }
 {}
 
-/// The number of whole groups of eight and of the bits behind them.
+/// The number of whole groups of eight and bits behind them, from the numbers of both.
 pub fn split_law()
     ensures { SplitLaw }
 {}

@@ -10,10 +10,18 @@ pub trait DekuSize {
     ghost bits: { Option ℕ };
 
     /// The bits that each value takes; none where they are not known or do not fit `usize`.
+    ///
+    /// ```text
+    /// <(u8, [u16; 3])>::size_bits()                              // Some(56)
+    /// ```
     fn size_bits() -> Option<usize>
         ensures { result ≡ fitting bits };
 
     /// The bytes that each value takes; none where the bits are not known, do not fit `usize` or make no whole bytes.
+    ///
+    /// ```text
+    /// <(u8, [u16; 3])>::size_bytes()                             // Some(7)
+    /// ```
     final fn size_bytes() -> Option<usize>
         ensures { result ≡ eighth (fitting bits) }
     {

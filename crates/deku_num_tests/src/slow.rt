@@ -169,14 +169,11 @@ pub fn bytes_of(order: Order, front: &[bool], list: &[bool], behind: bool) -> [u
 /// A list of fewer than eight bits as a read shows it: reversed in `Lsb0`.
 pub fn shown(order: Order, list: &[bool]) -> [bool; 8] {
     let mut bits = [false; 8];
-    if order == Order::Lsb0 {
-        for (place, bit) in bits.iter_mut().zip(list.iter().rev()) {
-            *place = *bit;
-        }
-    } else {
-        for (place, bit) in bits.iter_mut().zip(list) {
-            *place = *bit;
-        }
+    for i in 0..list.len().min(8) {
+        bits[i] = match order {
+            Order::Msb0 => list[i],
+            Order::Lsb0 => list[list.len() - 1 - i],
+        };
     }
     bits
 }

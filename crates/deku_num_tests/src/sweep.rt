@@ -132,7 +132,7 @@ fn sweep_sizes(
     }
 }
 
-// The types of so many bits, with a sign and without: whole in each place, and with all their bits and one more.
+// The types of so many bits, without a sign and with one.
 fn sweep_width(
     rt: &impl Abort,
     alloc: Global,
@@ -142,23 +142,36 @@ fn sweep_width(
     random: &mut Random,
 ) {
     for signed in [false, true] {
-        for size in [
-            Size::Whole,
-            Size::Bits(bits),
-            Size::Bits(bits.saturating_add(1)),
-        ] {
-            let number_type = NumberType {
-                bits,
-                signed,
-                one_byte: false,
-            };
-            let layout = Layout {
-                endian,
-                order,
-                size,
-            };
-            sweep_values(rt, alloc, number_type, layout, random, size == Size::Whole);
-        }
+        let number_type = NumberType {
+            bits,
+            signed,
+            one_byte: false,
+        };
+        sweep_full(rt, alloc, number_type, endian, order, random);
+    }
+}
+
+// A type whole, in each place; and with all its bits, and one more.
+fn sweep_full(
+    rt: &impl Abort,
+    alloc: Global,
+    number_type: NumberType,
+    endian: Endian,
+    order: Order,
+    random: &mut Random,
+) {
+    let bits = number_type.bits;
+    for size in [
+        Size::Whole,
+        Size::Bits(bits),
+        Size::Bits(bits.saturating_add(1)),
+    ] {
+        let layout = Layout {
+            endian,
+            order,
+            size,
+        };
+        sweep_values(rt, alloc, number_type, layout, random, size == Size::Whole);
     }
 }
 

@@ -83,7 +83,7 @@ ReadsToEnd m = Judged {J = Unit {0}} (λ _ _ v _. v ≡ false) (λ t u. Ending f
 abbrev pub ReadsCount : {A T : Type 0} → ℕ → Meaning A T → Meaning A (List T)
 ReadsCount n m = Runs (λ vs. length vs < n) (λ vs. length vs ≡ n) (Stored m)
 
--- a size of n bytes has more bits than a count can tell
+-- a size of n bytes has more bits than a count can tell, and is refused
 abbrev pub PastCount : {A V : Type 0} → ℕ → Standing A → Result V DekuError → Standing A → Type 0
 PastCount n s r u = (2 ^ 64 ≤ 8 * n) × Refuses InvalidParam (codes "count past usize") s r u
 

@@ -26,6 +26,12 @@ pub trait DekuReader<Ctx>: Drop {
     ghost meaning: { Ctx → Meaning (Option Stream) Self };
 
     /// Reads a value. What is refused is stated by the type; what it moved before a refusal stays moved.
+    ///
+    /// The caller's condition: the type may be read under the context.
+    ///
+    /// ```text
+    /// u16::from_reader_with_ctx(&mut reader, Endian::Big)?    // 0xC0FE from C0 FE
+    /// ```
     fn from_reader_with_ctx<R: Source>(reader: &mut Reader<R>, ctx: Ctx) -> Result<Self, DekuError>
     where
         Self: Sized,

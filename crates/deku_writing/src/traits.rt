@@ -22,6 +22,12 @@ pub trait DekuWriter<Ctx> {
     ghost meaning: { Self → Ctx → Meaning Output (Unit {0}) };
 
     /// Writes the value. What is refused is stated by the type; what it moved before a refusal stays moved.
+    ///
+    /// The caller's condition: the type may be written under the context.
+    ///
+    /// ```text
+    /// 0xC0FEu16.to_writer(&mut writer, Endian::Big)?          // C0 FE
+    /// ```
     fn to_writer<W: Sink>(&self, writer: &mut Writer<W>, ctx: Ctx) -> Result<(), DekuError>
         requires { accepts ctx }
         ensures { Writes W.told (meaning self.now ctx) writer.old result writer.new };

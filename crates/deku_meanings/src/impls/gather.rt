@@ -12,13 +12,20 @@ pub trait Gather<T>: Drop {
     // What putting an item into it makes of it.
     ghost puts: { Self → T → Self → Type 0 };
 
-    /// Puts the item into it. It is refused with `Io(OutOfMemory)` where no memory is found for it.
+    /// Puts the item into it. It is refused with `Io(OutOfMemory)` where no memory is found for it; what the collection holds then is open.
     fn put(&mut self, item: T) -> Result<(), DekuError>
         ensures ok { OnOk result (puts self.old item self.new) }
         ensures err { IfErr result (λ e. e ≡ DekuError.Io ErrorKind.OutOfMemory) };
 }
 
 /// Puts an item into its place where it has width, which the counts of bits before and after it tell, or ends the list.
+///
+/// Another item is refused with `Parse("item without width")`, and one for which no memory is found with `Io(OutOfMemory)`; what the
+/// collection holds then is open.
+///
+/// ```text
+/// keep(&mut items, item, false, 8, 8)                        // refused: the item has no width, and does not end the list
+/// ```
 pub fn keep<B: Gather<T>, T: Drop>(
     collection: &mut B,
     item: T,
@@ -37,6 +44,10 @@ pub fn keep<B: Gather<T>, T: Drop>(
 }
 
 /// Whether `after` is exactly so many bits behind `start`.
+///
+/// ```text
+/// is_past_by(8, 24, 16)                                      // true
+/// ```
 pub fn is_past_by(start: usize, after: usize, bits: usize) -> bool
     ensures { (result ≡ true) ↔ (after ≡ start + bits) }
 {

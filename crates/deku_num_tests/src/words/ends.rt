@@ -1,9 +1,9 @@
 //! Words near the end of the bytes, where the next eight are at hand or no more, against a source that has none at hand.
 
 use super::same::{FAILED, Refusal, same, wanted};
-use super::slow::{ORDERS, Slow, samples, word_of};
+use super::slow::{OFFSETS, Slow, samples, word_of};
 use deku_bits::ctx::Order;
-use deku_bits::ctx::Order::Msb0;
+use deku_bits::ctx::Order::{Lsb0, Msb0};
 use deku_bits::device::Source;
 use deku_bits::error::DekuError;
 use deku_bits::probe::{FailAt, Trickle};
@@ -123,33 +123,39 @@ fn expect_words(
     same(rt, row, &(at_hand, fetched, called), &(want, want, want));
 }
 
-// Words of 1 to 64 bits in both orders, behind 0 to 7 bits of a byte.
+// Words of 1 to 64 bits in both orders, behind these bits.
+fn expect_widths(rt: &impl Abort, alloc: Global, bytes: &[u8], start: Start) {
+    for n in 1..=64 {
+        expect_words(rt, alloc, bytes, start, n, Msb0);
+        expect_words(rt, alloc, bytes, start, n, Lsb0);
+    }
+}
+
+// Words behind so many bytes, and 0 to 7 bits of the next one.
 fn expect_end(rt: &impl Abort, alloc: Global, bytes: &[u8], front: usize) {
-    for offset in 0..8 {
-        for first in ORDERS {
-            let start = Start {
-                bytes: front,
-                offset,
-                order: first,
-            };
-            for n in 1..=64 {
-                for order in ORDERS {
-                    expect_words(rt, alloc, bytes, start, n, order);
-                }
-            }
-        }
+    for (offset, order) in OFFSETS {
+        let start = Start {
+            bytes: front,
+            offset,
+            order,
+        };
+        expect_widths(rt, alloc, bytes, start);
+    }
+}
+
+// Words near each of the ends of these bytes.
+fn expect_sample(rt: &impl Abort, alloc: Global, sample: &[u8; 17]) {
+    for (len, front) in ENDS {
+        assert!(rt; len <= 17);
+        expect_end(rt, alloc, &sample[..len], front);
     }
 }
 
 #[test]
-fn reads_words_up_to_the_last_bytes(rt: HostRuntime) -> Result<(), Fail> {
+fn reads_words_up_to_the_last_bytes(rt: HostRuntime) {
     for bytes in samples()[4..6].iter() {
-        for (len, front) in ENDS {
-            assert!(rt; len <= 17);
-            expect_end(&rt, rt.alloc(), &bytes[..len], front);
-        }
+        expect_sample(&rt, rt.alloc(), bytes);
     }
-    Ok(())
 }
 
 // The word of sixteen bits over a source whose nth call fails.

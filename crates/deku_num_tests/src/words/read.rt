@@ -1,7 +1,7 @@
 //! Words that are read.
 
 use super::same::same;
-use super::slow::{ORDERS, Slow, samples, turn, word_of};
+use super::slow::{OFFSETS, Slow, samples, turn, word_of};
 use deku_bits::ctx::Order;
 use deku_bits::ctx::Order::{Lsb0, Msb0};
 use deku_bits::device::Source;
@@ -117,9 +117,8 @@ fn read_bytes(
 // Words of all widths in both orders, behind these bits.
 fn expect_words(rt: &impl Abort, alloc: Global, bytes: &[u8], start: Start) {
     for n in 0..=128 {
-        for order in ORDERS {
-            expect_word(rt, alloc, bytes, start, n, order);
-        }
+        expect_word(rt, alloc, bytes, start, n, Msb0);
+        expect_word(rt, alloc, bytes, start, n, Lsb0);
     }
 }
 
@@ -132,12 +131,10 @@ fn expect_sample(rt: &impl Abort, alloc: Global, bytes: &[u8]) {
     };
     expect_words(rt, alloc, bytes, start);
     start.looks = false;
-    for offset in 0..8 {
-        for order in ORDERS {
-            start.offset = offset;
-            start.order = order;
-            expect_words(rt, alloc, bytes, start);
-        }
+    for (offset, order) in OFFSETS {
+        start.offset = offset;
+        start.order = order;
+        expect_words(rt, alloc, bytes, start);
     }
 }
 

@@ -2,36 +2,49 @@
 
 ghost use Rattle.std.specs.Prelude.{◌<◌, ◌≤◌, ◌^◌};
 
+use crate::random::Random;
 use deku_bits::ctx::Order;
 use deku_bits::ctx::Order::{Lsb0, Msb0};
 use std::process::Abort;
 
-/// Both orders.
-pub const ORDERS: [Order; 2] = [Msb0, Lsb0];
+/// Each number of bits of a byte that may lie in front, in both orders.
+pub const OFFSETS: [(usize, Order); 16] = [
+    (0, Msb0),
+    (0, Lsb0),
+    (1, Msb0),
+    (1, Lsb0),
+    (2, Msb0),
+    (2, Lsb0),
+    (3, Msb0),
+    (3, Lsb0),
+    (4, Msb0),
+    (4, Lsb0),
+    (5, Msb0),
+    (5, Lsb0),
+    (6, Msb0),
+    (6, Lsb0),
+    (7, Msb0),
+    (7, Lsb0),
+];
 
 /// Seventeen bytes: all zeros, all ones, a high and a low bit at the edges, and four that look like chance.
 pub fn samples() -> [[u8; 17]; 8] {
-    let mut state = 0x9E3779B97F4A7C15;
+    let mut random = Random::new();
     let mut all = [[0; 17]; 8];
     all[1] = [0xFF; 17];
     all[2] = [0x80; 17];
     all[3] = [0x01; 17];
     for bytes in all[4..].iter_mut() {
-        for byte in bytes.iter_mut() {
-            state = next(state);
-            *byte = (state % 256) as u8;
-        }
+        fill(bytes, &mut random);
     }
     all
 }
 
-// The next number that looks like chance.
-fn next(state: u64) -> u64 {
-    let mut state = state;
-    state ^= state << 13;
-    state ^= state >> 7;
-    state ^= state << 17;
-    state
+// Each byte is the lowest of the next number.
+fn fill(bytes: &mut [u8; 17], random: &mut Random) {
+    for byte in bytes.iter_mut() {
+        *byte = (random.next() % 256) as u8;
+    }
 }
 
 // The number of a group: its first bit is the highest in `Msb0`, and the lowest in `Lsb0`.

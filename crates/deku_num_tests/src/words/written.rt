@@ -1,7 +1,7 @@
 //! Words that are written.
 
 use super::same::{same, same_bytes};
-use super::slow::{ORDERS, Slow, fitting, put_word, samples, turn, word_of};
+use super::slow::{OFFSETS, Slow, fitting, put_word, samples, turn, word_of};
 use deku_bits::ctx::Order;
 use deku_bits::ctx::Order::{Lsb0, Msb0};
 use deku_bits::device::Sink;
@@ -130,19 +130,16 @@ fn expect_word(
 // Words of all widths in both orders, behind these bits.
 fn expect_words(rt: &impl Abort, start: Start, word: u128) -> Result<(), Fail> {
     for n in 0..=128 {
-        for order in ORDERS {
-            expect_word(rt, start, word, n, order)?;
-        }
+        expect_word(rt, start, word, n, Msb0)?;
+        expect_word(rt, start, word, n, Lsb0)?;
     }
     Ok(())
 }
 
 // This word, behind each offset.
 fn expect_sample(rt: &impl Abort, word: u128) -> Result<(), Fail> {
-    for offset in 0..8 {
-        for order in ORDERS {
-            expect_words(rt, Start { offset, order }, word)?;
-        }
+    for (offset, order) in OFFSETS {
+        expect_words(rt, Start { offset, order }, word)?;
     }
     Ok(())
 }

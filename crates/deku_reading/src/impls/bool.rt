@@ -6,7 +6,8 @@ use deku_bits::error::DekuError;
 use deku_bits::reader::Reader;
 use deku_num::ctx::NumberCtx;
 
-/// Read as a `u8`: 0 is false and 1 is true. Another number is refused with `Parse("cannot parse bool value")`, and its bits stay read.
+/// Read as a `u8`, and refused as that is: 0 is false and 1 is true. Another number is refused with `Parse("cannot parse bool value")`, and its
+/// bits stay read.
 impl<C: NumberCtx> DekuReader<C> for bool {
     ghost use Rattle.std.specs.Prelude.{◌≡◌, ◌<◌, codes};
     ghost use Rattle.deku_num.specs.Numbers.{byte};

@@ -115,7 +115,10 @@ fn gather_to_end<B: Gather<T>, T: DekuReader<C>, C: Copy, R: Source>(
     Ok(into)
 }
 
-/// Reads items, and puts each into the collection when it is read.
+/// Reads items as long as the limit says, and puts each into the collection when it is read.
+///
+/// The caller's conditions: the items may be read under the context, and the limit's predicate, where it has one, may be asked about
+/// every item.
 pub fn gather_under<B: Gather<T>, T: DekuReader<C>, C: Copy, R: Source, P: Predicate<T>>(
     into: B,
     reader: &mut Reader<R>,

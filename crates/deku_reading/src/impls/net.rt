@@ -7,7 +7,7 @@ use deku_bits::reader::Reader;
 use deku_num::ctx::NumberCtx;
 use std::net::{Ipv4Addr, Ipv6Addr};
 
-/// Read as a `u32`, whose highest byte is the first octet.
+/// Read as a `u32`, whose highest byte is the first octet, and refused as that is.
 impl<C: NumberCtx> DekuReader<C> for Ipv4Addr {
     ghost use Rattle.std.specs.Prelude.{◌≡◌};
     ghost use Rattle.std.specs.Net.Addr.{ipv4_bits};
@@ -29,7 +29,7 @@ impl<C: NumberCtx> DekuReader<C> for Ipv4Addr {
     }
 }
 
-/// Read as a `u128`, whose highest byte is the first octet.
+/// Read as a `u128`, whose highest byte is the first octet, and refused as that is.
 impl<C: NumberCtx> DekuReader<C> for Ipv6Addr {
     ghost use Rattle.std.specs.Prelude.{◌≡◌};
     ghost use Rattle.std.specs.Net.Addr.{ipv6_bits};

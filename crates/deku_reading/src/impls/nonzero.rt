@@ -10,7 +10,8 @@ use std::num::{
     NonZeroU16, NonZeroU32, NonZeroU64, NonZeroU128, NonZeroUsize,
 };
 
-/// Read as its number. 0 is refused with `Parse("NonZero assertion")`, and its bits stay read.
+/// Read as its number, and refused as that is. 0 is refused with `Parse("NonZero assertion")`, and its bits stay read. So with each type
+/// below.
 impl<C: NumberCtx> DekuReader<C> for NonZeroU8 {
     ghost use Rattle.std.specs.Prelude.{◌≡◌, codes};
     ghost use Rattle.std.specs.Int.NonZero.{non_zero_u8_get};

@@ -19,6 +19,8 @@ use deku_num::kind::NumberType;
 /// It is refused, in this order,
 ///
 /// - with `Parse("too much data")` where the size is beyond eight bits; nothing changes, also where the reader has stopped;
+/// - with the fault that the reader kept, where it has stopped, or with `InvalidParam("count past usize")` where a `usize` cannot count
+///   the bits; nothing changes;
 /// - with `Incomplete` where the input ends before the last of the bits, or `Io` where the source fails: the reader has stopped then, and counts
 ///   what it did before.
 ///
@@ -53,6 +55,8 @@ impl<C: NumberCtx> DekuReader<C> for u8 {
 /// It is refused, in this order,
 ///
 /// - with `Parse("too much data")` where the size is beyond 16 bits; nothing changes, also where the reader has stopped;
+/// - with the fault that the reader kept, where it has stopped, or with `InvalidParam("count past usize")` where a `usize` cannot count
+///   the bits; nothing changes;
 /// - with `Incomplete` where the input ends before the last of the bits, or `Io` where the source fails: the reader has stopped then, and counts
 ///   what it did before.
 ///
@@ -87,6 +91,8 @@ impl<C: NumberCtx> DekuReader<C> for u16 {
 /// It is refused, in this order,
 ///
 /// - with `Parse("too much data")` where the size is beyond 32 bits; nothing changes, also where the reader has stopped;
+/// - with the fault that the reader kept, where it has stopped, or with `InvalidParam("count past usize")` where a `usize` cannot count
+///   the bits; nothing changes;
 /// - with `Incomplete` where the input ends before the last of the bits, or `Io` where the source fails: the reader has stopped then, and counts
 ///   what it did before.
 ///
@@ -121,6 +127,8 @@ impl<C: NumberCtx> DekuReader<C> for u32 {
 /// It is refused, in this order,
 ///
 /// - with `Parse("too much data")` where the size is beyond 64 bits; nothing changes, also where the reader has stopped;
+/// - with the fault that the reader kept, where it has stopped, or with `InvalidParam("count past usize")` where a `usize` cannot count
+///   the bits; nothing changes;
 /// - with `Incomplete` where the input ends before the last of the bits, or `Io` where the source fails: the reader has stopped then, and counts
 ///   what it did before.
 ///
@@ -155,6 +163,8 @@ impl<C: NumberCtx> DekuReader<C> for u64 {
 /// It is refused, in this order,
 ///
 /// - with `Parse("too much data")` where the size is beyond 128 bits; nothing changes, also where the reader has stopped;
+/// - with the fault that the reader kept, where it has stopped, or with `InvalidParam("count past usize")` where a `usize` cannot count
+///   the bits; nothing changes;
 /// - with `Incomplete` where the input ends before the last of the bits, or `Io` where the source fails: the reader has stopped then, and counts
 ///   what it did before.
 ///
@@ -189,6 +199,8 @@ impl<C: NumberCtx> DekuReader<C> for u128 {
 /// It is refused, in this order,
 ///
 /// - with `Parse("too much data")` where the size is beyond 64 bits; nothing changes, also where the reader has stopped;
+/// - with the fault that the reader kept, where it has stopped, or with `InvalidParam("count past usize")` where a `usize` cannot count
+///   the bits; nothing changes;
 /// - with `Incomplete` where the input ends before the last of the bits, or `Io` where the source fails: the reader has stopped then, and counts
 ///   what it did before.
 ///
@@ -218,11 +230,13 @@ impl<C: NumberCtx> DekuReader<C> for usize {
     }
 }
 
-/// Reads a `i8` as its context says: the whole eight bits, or as many bits or bytes as a size says; in two's complement.
+/// Reads an `i8` as its context says: the whole eight bits, or as many bits or bytes as a size says; in two's complement.
 ///
 /// It is refused, in this order,
 ///
 /// - with `Parse("too much data")` where the size is beyond eight bits; nothing changes, also where the reader has stopped;
+/// - with the fault that the reader kept, where it has stopped, or with `InvalidParam("count past usize")` where a `usize` cannot count
+///   the bits; nothing changes;
 /// - with `Incomplete` where the input ends before the last of the bits, or `Io` where the source fails: the reader has stopped then, and counts
 ///   what it did before.
 ///
@@ -252,13 +266,15 @@ impl<C: NumberCtx> DekuReader<C> for i8 {
     }
 }
 
-/// Reads a `i16` as its context says: the whole 16 bits, or as many bits or bytes as a size says; in two's complement.
+/// Reads an `i16` as its context says: the whole 16 bits, or as many bits or bytes as a size says; in two's complement.
 ///
 /// It is refused, in this order,
 ///
 /// - with `Parse("too much data")` where the size is beyond 16 bits; nothing changes, also where the reader has stopped;
 /// - with `InvalidParam("signed big Lsb0 field of this width")` where the field is big and `Lsb0`, of more than eight bits and no whole bytes;
 ///   nothing changes;
+/// - with the fault that the reader kept, where it has stopped, or with `InvalidParam("count past usize")` where a `usize` cannot count
+///   the bits; nothing changes;
 /// - with `Incomplete` where the input ends before the last of the bits, or `Io` where the source fails: the reader has stopped then, and counts
 ///   what it did before.
 ///
@@ -288,13 +304,15 @@ impl<C: NumberCtx> DekuReader<C> for i16 {
     }
 }
 
-/// Reads a `i32` as its context says: the whole 32 bits, or as many bits or bytes as a size says; in two's complement.
+/// Reads an `i32` as its context says: the whole 32 bits, or as many bits or bytes as a size says; in two's complement.
 ///
 /// It is refused, in this order,
 ///
 /// - with `Parse("too much data")` where the size is beyond 32 bits; nothing changes, also where the reader has stopped;
 /// - with `InvalidParam("signed big Lsb0 field of this width")` where the field is big and `Lsb0`, of more than eight bits and no whole bytes;
 ///   nothing changes;
+/// - with the fault that the reader kept, where it has stopped, or with `InvalidParam("count past usize")` where a `usize` cannot count
+///   the bits; nothing changes;
 /// - with `Incomplete` where the input ends before the last of the bits, or `Io` where the source fails: the reader has stopped then, and counts
 ///   what it did before.
 ///
@@ -324,13 +342,15 @@ impl<C: NumberCtx> DekuReader<C> for i32 {
     }
 }
 
-/// Reads a `i64` as its context says: the whole 64 bits, or as many bits or bytes as a size says; in two's complement.
+/// Reads an `i64` as its context says: the whole 64 bits, or as many bits or bytes as a size says; in two's complement.
 ///
 /// It is refused, in this order,
 ///
 /// - with `Parse("too much data")` where the size is beyond 64 bits; nothing changes, also where the reader has stopped;
 /// - with `InvalidParam("signed big Lsb0 field of this width")` where the field is big and `Lsb0`, of more than eight bits and no whole bytes;
 ///   nothing changes;
+/// - with the fault that the reader kept, where it has stopped, or with `InvalidParam("count past usize")` where a `usize` cannot count
+///   the bits; nothing changes;
 /// - with `Incomplete` where the input ends before the last of the bits, or `Io` where the source fails: the reader has stopped then, and counts
 ///   what it did before.
 ///
@@ -360,13 +380,15 @@ impl<C: NumberCtx> DekuReader<C> for i64 {
     }
 }
 
-/// Reads a `i128` as its context says: the whole 128 bits, or as many bits or bytes as a size says; in two's complement.
+/// Reads an `i128` as its context says: the whole 128 bits, or as many bits or bytes as a size says; in two's complement.
 ///
 /// It is refused, in this order,
 ///
 /// - with `Parse("too much data")` where the size is beyond 128 bits; nothing changes, also where the reader has stopped;
 /// - with `InvalidParam("signed big Lsb0 field of this width")` where the field is big and `Lsb0`, of more than eight bits and no whole bytes;
 ///   nothing changes;
+/// - with the fault that the reader kept, where it has stopped, or with `InvalidParam("count past usize")` where a `usize` cannot count
+///   the bits; nothing changes;
 /// - with `Incomplete` where the input ends before the last of the bits, or `Io` where the source fails: the reader has stopped then, and counts
 ///   what it did before.
 ///
@@ -396,13 +418,15 @@ impl<C: NumberCtx> DekuReader<C> for i128 {
     }
 }
 
-/// Reads a `isize` as its context says: the whole 64 bits, or as many bits or bytes as a size says; in two's complement.
+/// Reads an `isize` as its context says: the whole 64 bits, or as many bits or bytes as a size says; in two's complement.
 ///
 /// It is refused, in this order,
 ///
 /// - with `Parse("too much data")` where the size is beyond 64 bits; nothing changes, also where the reader has stopped;
 /// - with `InvalidParam("signed big Lsb0 field of this width")` where the field is big and `Lsb0`, of more than eight bits and no whole bytes;
 ///   nothing changes;
+/// - with the fault that the reader kept, where it has stopped, or with `InvalidParam("count past usize")` where a `usize` cannot count
+///   the bits; nothing changes;
 /// - with `Incomplete` where the input ends before the last of the bits, or `Io` where the source fails: the reader has stopped then, and counts
 ///   what it did before.
 ///

@@ -1,10 +1,11 @@
-//! Tuples: their items in order.
+//! Tuples: their items in order. One of three or more is read as its first item and the tuple of the rest.
 
 use crate::traits::DekuReader;
 use deku_bits::device::Source;
 use deku_bits::error::DekuError;
 use deku_bits::reader::Reader;
 
+/// Its one item, under the item's context.
 impl<Ctx: Copy, A: DekuReader<Ctx>> DekuReader<Ctx> for (A,) {
     ghost use Rattle.deku_bits.specs.Outcomes.{Mapped};
 
@@ -24,6 +25,8 @@ impl<Ctx: Copy, A: DekuReader<Ctx>> DekuReader<Ctx> for (A,) {
     }
 }
 
+/// The items in order, all under one context. The refusal is that of the first item that is refused, and what the items before it moved
+/// stays moved. So with each tuple below.
 impl<Ctx: Copy, A: DekuReader<Ctx>, B: DekuReader<Ctx>> DekuReader<Ctx> for (A, B) {
     ghost use Rattle.deku_meanings.specs.Composing.{PairOf};
 

@@ -6,7 +6,7 @@ use deku_bits::error::DekuError;
 use deku_bits::writer::Writer;
 use deku_num::ctx::NumberCtx;
 
-/// Written as the `u8` 0 or 1.
+/// Written as the `u8` 0 or 1, and refused as that is: in no bits, true does not fit.
 impl<C: NumberCtx> DekuWriter<C> for bool {
     ghost use Rattle.std.specs.Prelude.{◌≡◌, pos};
     ghost use Rattle.deku_num.specs.Numbers.{byte};

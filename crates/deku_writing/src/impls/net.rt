@@ -7,7 +7,7 @@ use deku_bits::writer::Writer;
 use deku_num::ctx::NumberCtx;
 use std::net::{IpAddr, Ipv4Addr, Ipv6Addr};
 
-/// Written as the `u32` that it is read from.
+/// Written as the `u32` that it is read from, and refused as that is.
 impl<C: NumberCtx> DekuWriter<C> for Ipv4Addr {
     ghost use Rattle.std.specs.Prelude.{◌≡◌, pos};
     ghost use Rattle.std.specs.Net.Addr.{ipv4_bits};
@@ -25,7 +25,7 @@ impl<C: NumberCtx> DekuWriter<C> for Ipv4Addr {
     }
 }
 
-/// Written as the `u128` that it is read from.
+/// Written as the `u128` that it is read from, and refused as that is.
 impl<C: NumberCtx> DekuWriter<C> for Ipv6Addr {
     ghost use Rattle.std.specs.Prelude.{◌≡◌, pos};
     ghost use Rattle.std.specs.Net.Addr.{ipv6_bits};

@@ -10,7 +10,7 @@ use std::num::{
     NonZeroU16, NonZeroU32, NonZeroU64, NonZeroU128, NonZeroUsize,
 };
 
-/// Written as its number.
+/// Written as its number, and refused as that is. So with each type below.
 impl<C: NumberCtx> DekuWriter<C> for NonZeroU8 {
     ghost use Rattle.std.specs.Prelude.{◌≡◌, pos};
     ghost use Rattle.std.specs.Int.NonZero.{non_zero_u8_get};

@@ -15,7 +15,9 @@ use deku_num::kind::NumberType;
 /// - with `InvalidParam("bit size is larger than input")` where the size is beyond eight bits; nothing changes, also where the writer has
 ///   stopped;
 /// - with `InvalidParam("bit size of input is larger than requested size")` where the value does not fit the bits; nothing changes;
-/// - with `Io` where the sink fails: the writer has stopped then.
+/// - with the fault that the writer kept, where it has stopped, or with `InvalidParam("count past usize")` where a `usize` cannot count
+///   the bits; nothing changes;
+/// - with `Io` where the sink fails or has no room for the bytes: the writer has stopped then, and counts what it did before.
 ///
 /// ```text
 /// 6u8.to_writer(&mut writer, BitSize(4))?                                    // the four bits 0110
@@ -42,7 +44,9 @@ impl<C: NumberCtx> DekuWriter<C> for u8 {
 /// - with `InvalidParam("bit size is larger than input")`, or `"byte size .."`, where the size is beyond 16 bits; nothing changes, also where
 ///   the writer has stopped;
 /// - with `InvalidParam("bit size of input is larger than requested size")` where the value does not fit the bits; nothing changes;
-/// - with `Io` where the sink fails: the writer has stopped then.
+/// - with the fault that the writer kept, where it has stopped, or with `InvalidParam("count past usize")` where a `usize` cannot count
+///   the bits; nothing changes;
+/// - with `Io` where the sink fails or has no room for the bytes: the writer has stopped then, and counts what it did before.
 ///
 /// ```text
 /// 0xC0FEu16.to_writer(&mut writer, Endian::Big)?                             // C0 FE
@@ -69,7 +73,9 @@ impl<C: NumberCtx> DekuWriter<C> for u16 {
 /// - with `InvalidParam("bit size is larger than input")`, or `"byte size .."`, where the size is beyond 32 bits; nothing changes, also where
 ///   the writer has stopped;
 /// - with `InvalidParam("bit size of input is larger than requested size")` where the value does not fit the bits; nothing changes;
-/// - with `Io` where the sink fails: the writer has stopped then.
+/// - with the fault that the writer kept, where it has stopped, or with `InvalidParam("count past usize")` where a `usize` cannot count
+///   the bits; nothing changes;
+/// - with `Io` where the sink fails or has no room for the bytes: the writer has stopped then, and counts what it did before.
 ///
 /// ```text
 /// 0x030201u32.to_writer(&mut writer, ByteSize(3))?                           // 01 02 03
@@ -96,7 +102,9 @@ impl<C: NumberCtx> DekuWriter<C> for u32 {
 /// - with `InvalidParam("bit size is larger than input")`, or `"byte size .."`, where the size is beyond 64 bits; nothing changes, also where
 ///   the writer has stopped;
 /// - with `InvalidParam("bit size of input is larger than requested size")` where the value does not fit the bits; nothing changes;
-/// - with `Io` where the sink fails: the writer has stopped then.
+/// - with the fault that the writer kept, where it has stopped, or with `InvalidParam("count past usize")` where a `usize` cannot count
+///   the bits; nothing changes;
+/// - with `Io` where the sink fails or has no room for the bytes: the writer has stopped then, and counts what it did before.
 ///
 /// ```text
 /// 1u64.to_writer(&mut writer, (Endian::Big, ByteSize(5)))?                   // 00 00 00 00 01
@@ -123,7 +131,9 @@ impl<C: NumberCtx> DekuWriter<C> for u64 {
 /// - with `InvalidParam("bit size is larger than input")`, or `"byte size .."`, where the size is beyond 128 bits; nothing changes, also where
 ///   the writer has stopped;
 /// - with `InvalidParam("bit size of input is larger than requested size")` where the value does not fit the bits; nothing changes;
-/// - with `Io` where the sink fails: the writer has stopped then.
+/// - with the fault that the writer kept, where it has stopped, or with `InvalidParam("count past usize")` where a `usize` cannot count
+///   the bits; nothing changes;
+/// - with `Io` where the sink fails or has no room for the bytes: the writer has stopped then, and counts what it did before.
 ///
 /// ```text
 /// 2u128.to_writer(&mut writer, (Endian::Little, ByteSize(9)))?               // 02 and eight bytes of zeros
@@ -150,7 +160,9 @@ impl<C: NumberCtx> DekuWriter<C> for u128 {
 /// - with `InvalidParam("bit size is larger than input")`, or `"byte size .."`, where the size is beyond 64 bits; nothing changes, also where
 ///   the writer has stopped;
 /// - with `InvalidParam("bit size of input is larger than requested size")` where the value does not fit the bits; nothing changes;
-/// - with `Io` where the sink fails: the writer has stopped then.
+/// - with the fault that the writer kept, where it has stopped, or with `InvalidParam("count past usize")` where a `usize` cannot count
+///   the bits; nothing changes;
+/// - with `Io` where the sink fails or has no room for the bytes: the writer has stopped then, and counts what it did before.
 ///
 /// ```text
 /// 258usize.to_writer(&mut writer, (Endian::Big, BitSize(16)))?               // 01 02
@@ -170,14 +182,16 @@ impl<C: NumberCtx> DekuWriter<C> for usize {
     }
 }
 
-/// Writes a `i8` as its context says: the whole eight bits, or as many bits or bytes as a size says; in two's complement.
+/// Writes an `i8` as its context says: the whole eight bits, or as many bits or bytes as a size says; in two's complement.
 ///
 /// It is refused, in this order,
 ///
 /// - with `InvalidParam("bit size is larger than input")`, or `"byte size .."`, where the size is beyond eight bits; nothing changes, also where
 ///   the writer has stopped;
 /// - with `InvalidParam("bit size of input is larger than requested size")` where the value does not fit the bits; nothing changes;
-/// - with `Io` where the sink fails: the writer has stopped then.
+/// - with the fault that the writer kept, where it has stopped, or with `InvalidParam("count past usize")` where a `usize` cannot count
+///   the bits; nothing changes;
+/// - with `Io` where the sink fails or has no room for the bytes: the writer has stopped then, and counts what it did before.
 ///
 /// ```text
 /// (-1i8).to_writer(&mut writer, Endian::Little)?                             // FF
@@ -197,7 +211,7 @@ impl<C: NumberCtx> DekuWriter<C> for i8 {
     }
 }
 
-/// Writes a `i16` as its context says: the whole 16 bits, or as many bits or bytes as a size says; in two's complement.
+/// Writes an `i16` as its context says: the whole 16 bits, or as many bits or bytes as a size says; in two's complement.
 ///
 /// It is refused, in this order,
 ///
@@ -206,7 +220,9 @@ impl<C: NumberCtx> DekuWriter<C> for i8 {
 /// - with `InvalidParam("signed big Lsb0 field of this width")` where the field is big and `Lsb0`, of more than eight bits and no whole bytes;
 ///   nothing changes;
 /// - with `InvalidParam("bit size of input is larger than requested size")` where the value does not fit the bits; nothing changes;
-/// - with `Io` where the sink fails: the writer has stopped then.
+/// - with the fault that the writer kept, where it has stopped, or with `InvalidParam("count past usize")` where a `usize` cannot count
+///   the bits; nothing changes;
+/// - with `Io` where the sink fails or has no room for the bytes: the writer has stopped then, and counts what it did before.
 ///
 /// ```text
 /// (-2i16).to_writer(&mut writer, Endian::Big)?                               // FF FE
@@ -226,7 +242,7 @@ impl<C: NumberCtx> DekuWriter<C> for i16 {
     }
 }
 
-/// Writes a `i32` as its context says: the whole 32 bits, or as many bits or bytes as a size says; in two's complement.
+/// Writes an `i32` as its context says: the whole 32 bits, or as many bits or bytes as a size says; in two's complement.
 ///
 /// It is refused, in this order,
 ///
@@ -235,7 +251,9 @@ impl<C: NumberCtx> DekuWriter<C> for i16 {
 /// - with `InvalidParam("signed big Lsb0 field of this width")` where the field is big and `Lsb0`, of more than eight bits and no whole bytes;
 ///   nothing changes;
 /// - with `InvalidParam("bit size of input is larger than requested size")` where the value does not fit the bits; nothing changes;
-/// - with `Io` where the sink fails: the writer has stopped then.
+/// - with the fault that the writer kept, where it has stopped, or with `InvalidParam("count past usize")` where a `usize` cannot count
+///   the bits; nothing changes;
+/// - with `Io` where the sink fails or has no room for the bytes: the writer has stopped then, and counts what it did before.
 ///
 /// ```text
 /// (-2i32).to_writer(&mut writer, (Endian::Big, ByteSize(2)))?                // FF FE
@@ -255,7 +273,7 @@ impl<C: NumberCtx> DekuWriter<C> for i32 {
     }
 }
 
-/// Writes a `i64` as its context says: the whole 64 bits, or as many bits or bytes as a size says; in two's complement.
+/// Writes an `i64` as its context says: the whole 64 bits, or as many bits or bytes as a size says; in two's complement.
 ///
 /// It is refused, in this order,
 ///
@@ -264,7 +282,9 @@ impl<C: NumberCtx> DekuWriter<C> for i32 {
 /// - with `InvalidParam("signed big Lsb0 field of this width")` where the field is big and `Lsb0`, of more than eight bits and no whole bytes;
 ///   nothing changes;
 /// - with `InvalidParam("bit size of input is larger than requested size")` where the value does not fit the bits; nothing changes;
-/// - with `Io` where the sink fails: the writer has stopped then.
+/// - with the fault that the writer kept, where it has stopped, or with `InvalidParam("count past usize")` where a `usize` cannot count
+///   the bits; nothing changes;
+/// - with `Io` where the sink fails or has no room for the bytes: the writer has stopped then, and counts what it did before.
 ///
 /// ```text
 /// (-2i64).to_writer(&mut writer, (Endian::Little, ByteSize(2)))?             // FE FF
@@ -284,7 +304,7 @@ impl<C: NumberCtx> DekuWriter<C> for i64 {
     }
 }
 
-/// Writes a `i128` as its context says: the whole 128 bits, or as many bits or bytes as a size says; in two's complement.
+/// Writes an `i128` as its context says: the whole 128 bits, or as many bits or bytes as a size says; in two's complement.
 ///
 /// It is refused, in this order,
 ///
@@ -293,7 +313,9 @@ impl<C: NumberCtx> DekuWriter<C> for i64 {
 /// - with `InvalidParam("signed big Lsb0 field of this width")` where the field is big and `Lsb0`, of more than eight bits and no whole bytes;
 ///   nothing changes;
 /// - with `InvalidParam("bit size of input is larger than requested size")` where the value does not fit the bits; nothing changes;
-/// - with `Io` where the sink fails: the writer has stopped then.
+/// - with the fault that the writer kept, where it has stopped, or with `InvalidParam("count past usize")` where a `usize` cannot count
+///   the bits; nothing changes;
+/// - with `Io` where the sink fails or has no room for the bytes: the writer has stopped then, and counts what it did before.
 ///
 /// ```text
 /// (-1i128).to_writer(&mut writer, (Endian::Big, BitSize(12)))?               // twelve bits that are set
@@ -313,7 +335,7 @@ impl<C: NumberCtx> DekuWriter<C> for i128 {
     }
 }
 
-/// Writes a `isize` as its context says: the whole 64 bits, or as many bits or bytes as a size says; in two's complement.
+/// Writes an `isize` as its context says: the whole 64 bits, or as many bits or bytes as a size says; in two's complement.
 ///
 /// It is refused, in this order,
 ///
@@ -322,7 +344,9 @@ impl<C: NumberCtx> DekuWriter<C> for i128 {
 /// - with `InvalidParam("signed big Lsb0 field of this width")` where the field is big and `Lsb0`, of more than eight bits and no whole bytes;
 ///   nothing changes;
 /// - with `InvalidParam("bit size of input is larger than requested size")` where the value does not fit the bits; nothing changes;
-/// - with `Io` where the sink fails: the writer has stopped then.
+/// - with the fault that the writer kept, where it has stopped, or with `InvalidParam("count past usize")` where a `usize` cannot count
+///   the bits; nothing changes;
+/// - with `Io` where the sink fails or has no room for the bytes: the writer has stopped then, and counts what it did before.
 ///
 /// ```text
 /// 258isize.to_writer(&mut writer, (Endian::Big, BitSize(16)))?               // 01 02

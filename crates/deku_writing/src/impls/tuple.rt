@@ -5,6 +5,7 @@ use deku_bits::device::Sink;
 use deku_bits::error::DekuError;
 use deku_bits::writer::Writer;
 
+/// Its one item, under the item's context.
 impl<Ctx: Copy, A: DekuWriter<Ctx>> DekuWriter<Ctx> for (A,) {
     ghost accepts = { A.accepts };
 
@@ -16,6 +17,8 @@ impl<Ctx: Copy, A: DekuWriter<Ctx>> DekuWriter<Ctx> for (A,) {
     }
 }
 
+/// The items in order, all under one context. The refusal is that of the first item that is refused, and what the items before it moved
+/// stays moved. So with each tuple below.
 impl<Ctx: Copy, A: DekuWriter<Ctx>, B: DekuWriter<Ctx>> DekuWriter<Ctx> for (A, B) {
     ghost use Rattle.deku_meanings.specs.Composing.{Both};
 
