@@ -124,17 +124,36 @@ type Record = (
     &'static [bool],
 );
 
+// Fields that are read one after the other.
+fn expect_fields<R: Source>(
+    rt: &impl Abort,
+    reader: &mut Reader<R>,
+    name: &'static str,
+    fields: &[Field],
+) -> Result<(), Fail> {
+    for field in fields {
+        let number = read_field(reader, field)?;
+        same(rt, &(name, field), &number, &field.0);
+    }
+    Ok(())
+}
+
 // Records that are read.
 fn expect_read(rt: &impl Abort, alloc: Global, records: &[Record]) -> Result<(), Fail> {
     for (name, bytes, fields, bits, rest) in records {
         let mut reader = reader_of(alloc, bytes);
-        for field in *fields {
-            let number = read_field(&mut reader, field)?;
-            same(rt, &(*name, field), &number, &field.0);
-        }
+        expect_fields(rt, &mut reader, *name, *fields)?;
         let left = reader.rest()?;
         let seen = (reader.bits_read(), left.as_slice());
         same(rt, name, &seen, &(*bits, *rest));
+    }
+    Ok(())
+}
+
+// Writes fields one after the other.
+fn write_fields<W: Sink>(writer: &mut Writer<W>, fields: &[Field]) -> Result<(), DekuError> {
+    for field in fields {
+        write_field(writer, field)?;
     }
     Ok(())
 }
@@ -143,9 +162,7 @@ fn expect_read(rt: &impl Abort, alloc: Global, records: &[Record]) -> Result<(),
 fn expect_records_written(rt: &impl Abort, alloc: Global, records: &[Record]) -> Result<(), Fail> {
     for (name, bytes, fields, bits, _) in records {
         let mut writer = writer_in(alloc);
-        for field in *fields {
-            write_field(&mut writer, field)?;
-        }
+        write_fields(&mut writer, *fields)?;
         same(rt, name, &writer.bits_written(), &(bits / 8 * 8));
         expect_bytes(rt, name, writer, bytes)?;
     }
