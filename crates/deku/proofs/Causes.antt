@@ -19,7 +19,7 @@ use Rattle.deku_meanings.specs.declared.ctx.Limit.{Limit}
 use Rattle.deku_meanings.specs.declared.ctx.Limit.TheVariants.{Count, Until, ByteSize, BitSize, End}
 use Rattle.deku_meanings.specs.Composing.{Answer, Answered, Then, Second, First, Both}
 use Rattle.deku_meanings.specs.Shapes.{JoinedBy, Shows, Shown, ShowsUnless, LacksMemory}
-use Rattle.deku_reading.specs.Lists.{ReadsTimes, Seen, InTurn, Runs, Ended, Refused as NextRefused, InPlace, Put, NoMemory, Stored}
+use Rattle.deku_reading.specs.Lists.{ReadsTimes, Seen, AnswersEach, Runs, Ended, Refused as NextRefused, InPlace, Put, NoMemory, Stored}
 use Rattle.deku_reading.specs.Limits.{Taken, TakesEach, Judge, Judged, EndsWith, Closes, ItemRefused, WithoutWidth, NoPlace, ReadsUntil, ReadsBitsOf, NoBits, SomeBits, MoreToCome, ReadsToEnd, ReadsCount, ReadsUnder, Held, Holds, NotHeld}
 use Rattle.deku_writing.specs.Composing.{WritesEach}
 use Rattle.deku_bits.specs.declared.ctx.Order.{Order}
@@ -29,7 +29,7 @@ use Rattle.deku_num.specs.declared.ctx.Endian.TheVariants.{Little}
 use Rattle.deku_num.specs.declared.ctx.Size.TheVariants.{Whole}
 use Rattle.deku_num.specs.Numbers.{byte}
 use Rattle.deku_bits.specs.WriterCalls.{Finalizes}
-use Rattle.deku.specs.Texts.{Unended, Text, NoText, ReadsByte, ReadsEnded, ReadsWithin}
+use Rattle.deku.specs.Texts.{Unended, Text, NoText, ReadsByte, ReadsTerminated, ReadsWithin}
 use Rattle.deku.specs.Wholes.{Behind, ReadsOnce, ReadsBytesOnce, WritesOnce, WritesOver, WritesBare}
 
 -- ---- one after the other
@@ -99,7 +99,7 @@ writes_number t l v = checked WantsPlace _ _ (layout WantsPlace InvalidParam _ t
     (checked WantsPlace _ _ (λ s r u k p q. inr (texted InvalidParam _ no_param s r u k p.2 q)) (λ s r u k p q. cause_law.2 _ _ s r u k p.1.2 q))
 
 -- ---- lists that end by a limit
-in_turn : {A V : Type 0} (own : ErrorKind → Type 0) (m : Meaning A V) → OwnFaults own m → (vs : List V) (s u : Standing A) (k : ErrorKind) → InTurn m vs s u → KeepsIo k u → own k ⊎ KeepsIo k s
+in_turn : {A V : Type 0} (own : ErrorKind → Type 0) (m : Meaning A V) → OwnFaults own m → (vs : List V) (s u : Standing A) (k : ErrorKind) → AnswersEach m vs s u → KeepsIo k u → own k ⊎ KeepsIo k s
 in_turn own m f [] s u k p q = inr (rw p at q)
 in_turn own m f (v ∷ vs) s u k p q = ⊎_elim (λ o. inl o) (λ kept. f s (Ok v) p.0 k p.1 (inr kept)) (in_turn own m f vs p.0 u k p.2 q)
 
@@ -197,7 +197,7 @@ read_byte =
     let m = ReadsUnsigned byte (record { endian = Little; order = Msb0; size = Whole }) in
     stored m (wider WantsMemory m (reads_unsigned byte (record { endian = Little; order = Msb0; size = Whole })))
 
-pub text_to_zero : OwnFaults WantsMemory ReadsEnded
+pub text_to_zero : OwnFaults WantsMemory ReadsTerminated
 text_to_zero = then WantsMemory _ _ (runs WantsMemory _ _ ReadsByte read_byte) unended
 
 pub text_within : (n : ℕ) → OwnFaults WantsMemory (ReadsWithin n)

@@ -9,10 +9,10 @@ use Rattle.deku_bits.specs.Standings.{Standing}
 use Rattle.deku_bits.specs.Outcomes.{Outcome, Quiet}
 use Rattle.deku_bits.proofs.Handing.{no_fewer_same}
 use Rattle.std.specs.Prelude.{codes}
-use Rattle.deku.specs.Texts.{IsEnded, Unended, Text, NoText}
+use Rattle.deku.specs.Texts.{IsTerminated, Unended, Text, NoText}
 
 pub unended : {A : Type 0} (bytes : List ℕ) (r : Result (List ℕ) DekuError) (s : Standing A) (f : Health)
-    → IfOk r (λ text. IsEnded text bytes) → IfErr r (λ e. ((text : List ℕ) → IsEnded text bytes → ⊥) × Tells Parse (codes "Failed to convert Vec to CString") e)
+    → IfOk r (λ text. IsTerminated text bytes) → IfErr r (λ e. ((text : List ℕ) → IsTerminated text bytes → ⊥) × Tells Parse (codes "Failed to convert Vec to CString") e)
     → Outcome (Unended bytes) s f r s f
 unended bytes (Ok text) s f p q = Quiet (Text text p) (no_fewer_same f)
 unended bytes (Err e) s f p q = let t = q.1 in Quiet (NoText q.0 (t.words, t.told, ap Err t.is, refl)) (no_fewer_same f)

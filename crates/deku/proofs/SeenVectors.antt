@@ -17,7 +17,7 @@ use Rattle.deku_num.specs.NumberCalls.{ReadsNumber, ReadsUnsigned, WritesNumber}
 use Rattle.deku_meanings.specs.Composing.{Second, First}
 use Rattle.deku_writing.specs.Composing.{WritesEach}
 use Rattle.deku_reading.specs.Lists as lists
-use Rattle.deku_reading.specs.Lists.{InTurn, Stored, InPlace, Put, NoMemory, Ended, on_value}
+use Rattle.deku_reading.specs.Lists.{AnswersEach, Stored, InPlace, Put, NoMemory, Ended, on_value}
 use Rattle.deku_reading.specs.Limits.{ReadsCount, Held, Holds, NotHeld}
 use Rattle.deku.specs.VectorLaws.{GivesBytes, ReadsAsWritten}
 use Rattle.deku.proofs.Vectors.{vector_law}
@@ -41,7 +41,7 @@ module _ {V : Type 0} (t : NumberType) (l : Layout) (h : V → ℤ) (m : Meaning
       placed v b w r u NoMemory = NoMemory
   stored_seen b s r u (First e p k) = First e (same b s (Err e) u p) (ap (on_value h) k)
 
-  turn_seen : (vs : List V) (s u : Standing (Option Stream)) → InTurn (Stored m) vs s u → InTurn (Stored (ReadsNumber t l)) (map h vs) s u
+  turn_seen : (vs : List V) (s u : Standing (Option Stream)) → AnswersEach (Stored m) vs s u → AnswersEach (Stored (ReadsNumber t l)) (map h vs) s u
   turn_seen [] s u e = e
   turn_seen (v ∷ vs) s u (w, first, others) = (w, stored_seen false s (Ok v) w first, turn_seen vs w u others)
 

@@ -26,7 +26,7 @@ use Rattle.deku_num.proofs.FieldBits.{one_list}
 use Rattle.deku_meanings.specs.Composing.{Answered, Second, First}
 use Rattle.deku_writing.specs.Composing.{WritesEach}
 use Rattle.deku_reading.specs.Lists as lists
-use Rattle.deku_reading.specs.Lists.{InTurn, Runs, Ended, Stored, Put, NoMemory}
+use Rattle.deku_reading.specs.Lists.{AnswersEach, Runs, Ended, Stored, Put, NoMemory}
 use Rattle.deku_reading.specs.Limits.{ReadsCount}
 use Rattle.deku.specs.VectorLaws.{GivesBytes}
 use Rattle.deku.proofs.Emitting.{Wrote, Done, Lacking, Full, emitted, followed_wrote}
@@ -142,7 +142,7 @@ module _ (t : NumberType) (l : Layout) (ok : IsAllowed t l) where
       (ok_is x _ gives.0 ∙ ap (value t l) bits ∙ a.1.worth, (left l.order n S, next, gives.1))
 
   taken_in_turn : (vs : List ℤ) (ps : List Piece) (S T : Stream) (c : ℕ) (xs : List ℤ) (u : Standing (Option Stream)) → ArePiecesOf vs ps → Takes ps S T
-      → c + length vs * width t l < 2 ^ 64 → length xs ≤ length vs → InTurn (Stored (ReadsNumber t l)) xs (Going (Some S) c) u → TakenTo vs ps T xs u
+      → c + length vs * width t l < 2 ^ 64 → length xs ≤ length vs → AnswersEach (Stored (ReadsNumber t l)) xs (Going (Some S) c) u → TakenTo vs ps T xs u
   taken_in_turn vs ps S T c [] u a takes room less turn = record { values = vs; rest = ps; at = S; count = c; split = refl; are = a; takes = takes; stands = turn; room = room }
   taken_in_turn [] ps S T c (x ∷ xs) u a takes room less turn = absurd (omega (arith, less))
   taken_in_turn (v ∷ vs) [] S T c (x ∷ xs) u a takes room less turn = absurd a
@@ -152,14 +152,14 @@ module _ (t : NumberType) (l : Layout) (ok : IsAllowed t l) where
       n : ℕ
       n = width t l
 
-      on : ((S : Stream) (d : ℕ) → Takes ps S T → d + length vs * width t l < 2 ^ 64 → InTurn (Stored (ReadsNumber t l)) xs (Going (Some S) d) u → TakenTo vs ps T xs u)
+      on : ((S : Stream) (d : ℕ) → Takes ps S T → d + length vs * width t l < 2 ^ 64 → AnswersEach (Stored (ReadsNumber t l)) xs (Going (Some S) d) u → TakenTo vs ps T xs u)
           → Stored (ReadsNumber t l) false (Going (Some S) c) (Ok x) y → TakenTo (v ∷ vs) (p ∷ ps) T (x ∷ xs) u
       on go (First e m q) = absurd (cc)
       on go (Second w z m Put) =
           let here : c + n < 2 ^ 64 = omega (arith, room) in
           let it = next_is v p ps S T c x y a.0 here takes m in
           let after : c + n + length vs * n < 2 ^ 64 = omega (arith, room) in
-          let others = go it.1.0 (c + n) it.1.1 after (subst (λ k. InTurn (Stored (ReadsNumber t l)) xs k u) it.1.2 turn) in
+          let others = go it.1.0 (c + n) it.1.1 after (subst (λ k. AnswersEach (Stored (ReadsNumber t l)) xs k u) it.1.2 turn) in
           record {
             values = others.values;
             rest = others.rest;

@@ -19,21 +19,21 @@ abbrev pub NoZeros : List ℕ → Type 0
 NoZeros = All (λ b. b ≢ 0)
 
 -- these bytes, none of them zero, and one zero behind them
-abbrev pub IsEnded : List ℕ → List ℕ → Type 0
-IsEnded text bytes = NoZeros text × (bytes ≡ text ++ 0 ∷ [])
+abbrev pub IsTerminated : List ℕ → List ℕ → Type 0
+IsTerminated text bytes = NoZeros text × (bytes ≡ text ++ 0 ∷ [])
 
 -- the text before the zero, where bytes are one and a zero; or they are refused; nothing moves
 pub data Unended {A : Type 0} (bytes : List ℕ) : Bool → Standing A → Result (List ℕ) DekuError → Standing A → Type 0 where
-  Text : {s : Standing A} (text : List ℕ) → IsEnded text bytes → Unended bytes false s (Ok text) s
-  NoText : {s u : Standing A} {r : Result (List ℕ) DekuError} → ((text : List ℕ) → IsEnded text bytes → ⊥) → Refuses Parse (codes "Failed to convert Vec to CString") s r u → Unended bytes false s r u
+  Text : {s : Standing A} (text : List ℕ) → IsTerminated text bytes → Unended bytes false s (Ok text) s
+  NoText : {s u : Standing A} {r : Result (List ℕ) DekuError} → ((text : List ℕ) → IsTerminated text bytes → ⊥) → Refuses Parse (codes "Failed to convert Vec to CString") s r u → Unended bytes false s r u
 
 -- a byte is read, and put in its place
 abbrev pub ReadsByte : Meaning (Option Stream) ℕ
 ReadsByte = Stored (ReadsUnsigned byte (record { endian = Little; order = Msb0; size = Whole }))
 
 -- bytes are read up to the first zero, and are the text before it
-abbrev pub ReadsEnded : Meaning (Option Stream) (List ℕ)
-ReadsEnded = Then (Runs NoZeros (λ bytes. (text : List ℕ) × IsEnded text bytes) ReadsByte) Unended
+abbrev pub ReadsTerminated : Meaning (Option Stream) (List ℕ)
+ReadsTerminated = Then (Runs NoZeros (λ bytes. (text : List ℕ) × IsTerminated text bytes) ReadsByte) Unended
 
 -- n bytes are read, and are the text before a zero at their end
 abbrev pub ReadsWithin : ℕ → Meaning (Option Stream) (List ℕ)

@@ -135,7 +135,7 @@ promise_rows =
     law.2 bytes l ∙ sym (law.2 (0x69 ∷ 0xC0 ∷ 0xFE ∷ []) row.laid) in
     record {
       begins = record { of_fields = refl; fitting = row.fitting; aligned = row.aligned; written = 0x69 ∷ 0xC0 ∷ 0xFE ∷ []; laid = row.laid; begins = refl };
-      fills = record { fitting = row.fitting; aligned = row.aligned; laid = row.laid; none = refl; room = omega arith; countable = omega arith };
+      writable = record { fitting = row.fitting; aligned = row.aligned; laid = row.laid; none = refl; room = omega arith; countable = omega arith };
       countable = λ bytes l. let n : length bytes ≡ 3 = ap length (same bytes l) in omega (arith, n);
     }
 

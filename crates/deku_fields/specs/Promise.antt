@@ -111,8 +111,8 @@ abbrev pub FindsNoMemory : Option (List ℕ) → Result (Unit {0}) DekuError →
 FindsNoMemory None r = r ≡ Err (Io OutOfMemory)
 FindsNoMemory (Some room) r = ⊥
 
--- bytes that aligned fitting items lay out, which go to a sink that has the room, where nothing is pending; and their bits can be counted
-pub record Fills (items : List Item) (bytes : List ℕ) (out : Output) (c : ℕ) : Type 0 where
+-- aligned fitting items can be written as the bytes that they lay out: nothing is pending, the sink has the room, and their bits can be counted
+pub record AreWritable (items : List Item) (bytes : List ℕ) (out : Output) (c : ℕ) : Type 0 where
   pub fitting : All IsFitting items
   pub aligned : AlignedFields (fields_of items)
   pub laid : LaysOut items bytes
@@ -130,13 +130,13 @@ pub record HasWritten (bytes : List ℕ) (out : Output) (c : ℕ) (u : Standing 
 
 -- aligned fitting items are written where nothing is pending and there is room: padded once, they are exactly what they lay out
 abbrev pub WritesLaid : List Item → Standing Output → Result (Unit {0}) DekuError → Standing Output → Type 0
-WritesLaid items s r u = (bytes : List ℕ) (out : Output) (c : ℕ) → Fills items bytes out c → s ≡ Going out c
+WritesLaid items s r u = (bytes : List ℕ) (out : Output) (c : ℕ) → AreWritable items bytes out c → s ≡ Going out c
     → ((r ≡ Ok tt) × HasWritten bytes out c u) ⊎ FindsNoMemory out.room r
 
 -- Where nothing is pending and there is room, aligned fitting items that are written and padded once give the sink exactly what they lay out,
 -- or a sink that grows finds no memory.
 abbrev pub PaddedLaw : Type 0
-PaddedLaw = (items : List Item) (bytes : List ℕ) (out : Output) (c : ℕ) (r : Result (Unit {0}) DekuError) (u : Standing Output) → Fills items bytes out c
+PaddedLaw = (items : List Item) (bytes : List ℕ) (out : Output) (c : ℕ) (r : Result (Unit {0}) DekuError) (u : Standing Output) → AreWritable items bytes out c
     → Both (WritesItems items) Finalizes false (Going out c) r u
     → ((r ≡ Ok tt) × ((after : Output) × Took (record { bytes = bytes; pending = Nothing }) out after × (u ≡ Going after (c + 8 * length bytes))))
     ⊎ FindsNoMemory out.room r

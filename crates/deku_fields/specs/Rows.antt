@@ -16,7 +16,7 @@ use Rattle.deku_fields.specs.declared.list.Number.TheVariants.{Unsigned, Signed}
 use Rattle.deku_fields.specs.declared.list.Item.{Item}
 use Rattle.deku_fields.specs.Items.{IsFitting, ArePieces, LaysOut, AlignedFields, Reads, fields_of, values_of}
 use Rattle.deku_fields.specs.Cutting.{IsCutTo}
-use Rattle.deku_fields.specs.Promise.{Begins, Fills, IsCountable}
+use Rattle.deku_fields.specs.Promise.{Begins, AreWritable, IsCountable}
 
 -- a field with its value
 abbrev pub item : Kind → Layout → Number → Item
@@ -106,7 +106,7 @@ pub record PromiseRows : Type 0 where
   -- bytes that begin with a layout, and one behind them
   pub begins : Begins (fields_of word_items) word_items (0x69 ∷ 0xC0 ∷ 0xFE ∷ 0xAA ∷ []) (0xAA ∷ [])
   -- a slice of four bytes has the room for it
-  pub fills : Fills word_items (0x69 ∷ 0xC0 ∷ 0xFE ∷ []) (record { taken = Some []; room = Some (0 ∷ 0 ∷ 0 ∷ 0 ∷ []); pending = Nothing }) 0
+  pub writable : AreWritable word_items (0x69 ∷ 0xC0 ∷ 0xFE ∷ []) (record { taken = Some []; room = Some (0 ∷ 0 ∷ 0 ∷ 0 ∷ []); pending = Nothing }) 0
   -- its bits can be counted
   pub countable : IsCountable word_items
 

@@ -152,6 +152,7 @@ pub fn give_text<W: Write>(output: &mut W, text: &[u8]) -> io::Result<()>
     Ok(())
 }
 
+// Gives the output the text that the words ask for.
 fn command<R: Read, W: Write>(
     alloc: Global,
     args: &[String],

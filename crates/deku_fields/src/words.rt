@@ -48,6 +48,7 @@ pub fn parse_item(word: &str) -> Option<Item>
     Some(Item { field, value })
 }
 
+// The kind of this name.
 fn parse_kind(name: &str) -> Option<Kind>
     ensures { MatchOption result ((k : FieldKind) → name.now ≡ kind_name k → ⊥) (λ k. name.now ≡ kind_name k) }
 {
@@ -162,6 +163,7 @@ fn parse_number(text: &str, kind: Kind) -> Option<Number>
     }
 }
 
+// Whether a text is decimal digits alone, and one of them at least.
 fn is_digits(text: &str) -> bool
     ensures { IsTrue result ↔ IsNumeral 10 text.now }
 {

@@ -8,11 +8,11 @@ use Rattle.deku_bits.specs.declared.error.DekuError.{DekuError}
 use Rattle.deku_bits.specs.declared.error.DekuError.TheVariants.{Io}
 use Rattle.deku_bits.specs.Streams.{Stream}
 use Rattle.deku_bits.specs.Pieces.{Piece}
-use Rattle.deku_bits.specs.Symmetry.{Takes as TakesPieces}
+use Rattle.deku_bits.specs.Symmetry.{Takes}
 use Rattle.deku_bits.specs.Standings.{Standing, Going, Output, count_of}
 use Rattle.deku_bits.specs.Outcomes.{Meaning, Mapped}
 use Rattle.deku_num.specs.NumberCalls.{Refused, Passed}
-use Rattle.deku.specs.Limits.{Taken, Takes, TakesEach, GoesOn, Widens, items_of, EndsWith, Closes, ItemRefused, WithoutWidth, NoPlace, Held}
+use Rattle.deku.specs.Limits.{Taken, TakesItem, TakesEach, GoesOn, Widens, items_of, EndsWith, Closes, ItemRefused, WithoutWidth, NoPlace, Held}
 use Rattle.deku_pieces.specs.Symmetric.{breadth, IsWrittenAs, IsReadBack, Answers, TakenAs, IsSymmetric}
 use Rattle.deku_num.specs.declared.kind.NumberType.{NumberType}
 use Rattle.deku_num.specs.declared.ctx.Layout.{Layout}
@@ -54,7 +54,7 @@ module _ {V : Type 0} (ends : V → Bool) {P : V → List Piece → Type 0} {sam
     alike_front : SameEach same front ws
     ended : IsEnded ends others
     are : OfEach P others pieces
-    takes : TakesPieces pieces at T
+    takes : Takes pieces at T
     stands : u ≡ Going (Some at) count
     sum : count + breadth pieces ≡ end
 
@@ -64,8 +64,8 @@ module _ {V : Type 0} (ends : V → Bool) {P : V → List Piece → Type 0} {sam
     left : u ≡ Going (Some U) (c + breadth own)
     widens : Widens x
 
-  next : (v : V) (own : List Piece) (S U : Stream) (c : ℕ) (x : Item) (u : Standing (Option Stream)) → P v own → TakesPieces own S U → c + breadth own < 2 ^ 64
-      → Takes m (Going (Some S) c) x u → Next v x S c u own U
+  next : (v : V) (own : List Piece) (S U : Stream) (c : ℕ) (x : Item) (u : Standing (Option Stream)) → P v own → Takes own S U → c + breadth own < 2 ^ 64
+      → TakesItem m (Going (Some S) c) x u → Next v x S c u own U
   next v own S U c x u p takes room t = go (A.read_back v own p S U c (Ok x.item) u takes room t.read)
     where
       go : Answers (same v) U (c + breadth own) (Ok x.item) u → Next v x S c u own U
@@ -86,7 +86,7 @@ module _ {V : Type 0} (ends : V → Bool) {P : V → List Piece → Type 0} {sam
   last_ended v (w ∷ vs) is last = let goes = is.0 in absurd (cc)
 
   partway : (vs : List V) (ps : List Piece) (S T : Stream) (c end : ℕ) (xs : List Item) (j k : AtEnd) (u : Standing (Option Stream)) → IsEnded ends vs → OfEach P vs ps
-      → TakesPieces ps S T → c + breadth ps ≡ end → end < 2 ^ 64 → TakesEach m (Going (Some S) c) xs u → GoesOn judge j xs k → Partway vs T (items_of xs) end u
+      → Takes ps S T → c + breadth ps ≡ end → end < 2 ^ 64 → TakesEach m (Going (Some S) c) xs u → GoesOn judge j xs k → Partway vs T (items_of xs) end u
   partway vs ps S T c end [] j k u is are takes sum room turn on =
       record { front = []; others = vs; pieces = ps; at = S; count = c; split = refl; alike_front = tt; ended = is; are = are; takes = takes; stands = sym turn; sum = sum }
   partway [] ps S T c end (x ∷ xs) j k u is are takes sum room turn on = absurd is
@@ -111,14 +111,14 @@ module _ {V : Type 0} (ends : V → Bool) {P : V → List Piece → Type 0} {sam
         sum = f.sum;
       }
 
-  none_behind : (others : List V) (pieces : List Piece) (S T : Stream) → others ≡ [] → OfEach P others pieces → TakesPieces pieces S T → (S ≡ T) × (breadth pieces ≡ 0)
+  none_behind : (others : List V) (pieces : List Piece) (S T : Stream) → others ≡ [] → OfEach P others pieces → Takes pieces S T → (S ≡ T) × (breadth pieces ≡ 0)
   none_behind others pieces S T e are takes =
       let none : pieces ≡ [] = rw e at are in
       (rw none at takes, ap breadth none)
 
   -- the item that ends what was read ends what is left
-  last_back : (others : List V) (ps : List Piece) (S T : Stream) (c end : ℕ) (x : Item) (u : Standing (Option Stream)) → IsEnded ends others → OfEach P others ps → TakesPieces ps S T
-      → c + breadth ps ≡ end → end < 2 ^ 64 → Takes m (Going (Some S) c) x u → true ≡ ends x.item → SameEach same others (x.item ∷ []) × (u ≡ Going (Some T) end)
+  last_back : (others : List V) (ps : List Piece) (S T : Stream) (c end : ℕ) (x : Item) (u : Standing (Option Stream)) → IsEnded ends others → OfEach P others ps → Takes ps S T
+      → c + breadth ps ≡ end → end < 2 ^ 64 → TakesItem m (Going (Some S) c) x u → true ≡ ends x.item → SameEach same others (x.item ∷ []) × (u ≡ Going (Some T) end)
   last_back [] ps S T c end x u is are takes sum room taken last = absurd is
   last_back (v ∷ vs) ps S T c end x u is (a, b, p, q, e) takes sum room taken last =
       let w : breadth ps ≡ breadth a + breadth b = ap breadth e ∙ breadth-append a b in
@@ -130,8 +130,8 @@ module _ {V : Type 0} (ends : V → Bool) {P : V → List Piece → Type 0} {sam
       (subst (λ ys. SameEach same (v ∷ ys) (x.item ∷ [])) (sym alone) (n.like, tt), n.left ∙ ap (λ y. Going (Some y) (c + breadth a)) none.0 ∙ ap (λ y. Going (Some T) y) count)
 
   -- the next item has width, and is refused for want of memory alone
-  next_widens : (others : List V) (ps : List Piece) (S T : Stream) (c : ℕ) (x : Item) (u : Standing (Option Stream)) → IsEnded ends others → OfEach P others ps → TakesPieces ps S T
-      → c + breadth ps < 2 ^ 64 → Takes m (Going (Some S) c) x u → Widens x
+  next_widens : (others : List V) (ps : List Piece) (S T : Stream) (c : ℕ) (x : Item) (u : Standing (Option Stream)) → IsEnded ends others → OfEach P others ps → Takes ps S T
+      → c + breadth ps < 2 ^ 64 → TakesItem m (Going (Some S) c) x u → Widens x
   next_widens [] ps S T c x u is are takes room taken = absurd is
   next_widens (v ∷ vs) ps S T c x u is (a, b, p, q, e) takes room taken =
       let w : breadth ps ≡ breadth a + breadth b = ap breadth e ∙ breadth-append a b in
@@ -139,7 +139,7 @@ module _ {V : Type 0} (ends : V → Bool) {P : V → List Piece → Type 0} {sam
       let n = next v a S cut.0 c x u p cut.1 (omega (arith, room, w)) taken in
       n.widens
 
-  next_refused : (others : List V) (ps : List Piece) (S T : Stream) (c : ℕ) (d : DekuError) (u : Standing (Option Stream)) → IsEnded ends others → OfEach P others ps → TakesPieces ps S T
+  next_refused : (others : List V) (ps : List Piece) (S T : Stream) (c : ℕ) (d : DekuError) (u : Standing (Option Stream)) → IsEnded ends others → OfEach P others ps → Takes ps S T
       → c + breadth ps < 2 ^ 64 → m false (Going (Some S) c) (Err d) u → d ≡ Io OutOfMemory
   next_refused [] ps S T c d u is are takes room k = absurd is
   next_refused (v ∷ vs) ps S T c d u is (a, b, p, q, e) takes room k =
@@ -159,9 +159,9 @@ module _ {V : Type 0} (ends : V → Bool) {P : V → List Piece → Type 0} {sam
 
   ended_back : (vs : List V) (ps : List Piece) → OfEnded ends P vs ps → IsReadBack ps (SameEach same vs) (ReadsEnded ends m)
   ended_back vs ps p S T c r u takes room (EndsWith xs x k l turn on last over b e) =
-      let cut = last_step (Takes m) (Going (Some S) c) xs x u turn in
+      let cut = last_step (TakesItem m) (Going (Some S) c) xs x u turn in
       let f = partway vs ps S T c (c + breadth ps) xs (record {}) k cut.0 p.0 p.1 takes refl room cut.1 on in
-      let behind = last_back f.others f.pieces f.at T f.count (c + breadth ps) x u f.ended f.are f.takes f.sum room (subst (λ s. Takes m s x u) f.stands cut.2) last in
+      let behind = last_back f.others f.pieces f.at T f.count (c + breadth ps) x u f.ended f.are f.takes f.sum room (subst (λ s. TakesItem m s x u) f.stands cut.2) last in
       let alike_all = same_append f.front (items_of xs) f.others (x.item ∷ []) f.alike_front behind.0 in
       let split = f.split in
       let joined : items_of (xs ++ x ∷ []) ≡ items_of xs ++ x.item ∷ [] = map-append (λ y. y.item) xs (x ∷ []) in
@@ -173,10 +173,10 @@ module _ {V : Type 0} (ends : V → Bool) {P : V → List Piece → Type 0} {sam
       let none = next_refused f.others f.pieces f.at T f.count d u f.ended f.are f.takes (omega (arith, sum, room)) (subst (λ s. m false s (Err d) u) f.stands refusal) in
       inr (e ∙ ap Err none)
   ended_back vs ps p S T c r u takes room (WithoutWidth xs x k l d turn on judged none tells over b e) =
-      let cut = last_step (Takes m) (Going (Some S) c) xs x u turn in
+      let cut = last_step (TakesItem m) (Going (Some S) c) xs x u turn in
       let f = partway vs ps S T c (c + breadth ps) xs (record {}) k cut.0 p.0 p.1 takes refl room cut.1 on in
       let sum = f.sum in
-      absurd (none (next_widens f.others f.pieces f.at T f.count x u f.ended f.are f.takes (omega (arith, sum, room)) (subst (λ s. Takes m s x u) f.stands cut.2)))
+      absurd (none (next_widens f.others f.pieces f.at T f.count x u f.ended f.are f.takes (omega (arith, sum, room)) (subst (λ s. TakesItem m s x u) f.stands cut.2)))
   ended_back vs ps p S T c r u takes room (NoPlace xs x v k l turn on judged wide_or over b e) = inr e
 
   -- ---- what is read

@@ -13,10 +13,10 @@ use Rattle.deku_num.specs.Numbers.{byte}
 use Rattle.deku_num.specs.NumberCalls.{WritesNumber}
 use Rattle.deku.specs.Composing.{Then, Second, First, Both, WritesEach}
 use Rattle.deku.specs.Lists as lists
-use Rattle.deku.specs.Lists.{Runs, Stored, Ended}
-use Rattle.deku.specs.Texts.{NoZeros, IsEnded, Unended, Text, NoText, ReadsEnded}
+use Rattle.deku.specs.Lists.{AnswersEach, Runs, Stored, Ended}
+use Rattle.deku.specs.Texts.{NoZeros, IsTerminated, Unended, Text, NoText, ReadsTerminated}
 use Rattle.deku_pieces.specs.Symmetric.{breadth, IsWrittenAs, IsReadBack, TakenAs, IsSymmetric}
-use Rattle.deku_pieces.specs.Pieces.{OfUnsigned, InTurn, OfEach, OfEnded, OfText, plain}
+use Rattle.deku_pieces.specs.Pieces.{OfUnsigned, InTurn, OfEach, OfTerminated, OfText, plain}
 use Rattle.deku_pieces.proofs.Answering.{ok_is}
 use Rattle.deku_pieces.proofs.Turns.{breadth-append, takes_apart, written_together}
 use Rattle.deku_pieces.proofs.Times.{each_one, each_written}
@@ -34,10 +34,10 @@ module _ (P : ℕ → List Piece → Type 0) (writes : ℕ → Meaning Output (U
       let k = last_apart vs z y q in
       (x ++ k.0, k.1, (x, k.0, p, k.2, refl), k.3, e ∙ ap (λ i. x ++ i) k.4 ∙ sym (append_assoc x k.0 k.1))
 
-  ended_one : (vs : List ℕ) (ps qs : List Piece) → OfEnded P vs ps → OfEnded P vs qs → qs ≡ ps
+  ended_one : (vs : List ℕ) (ps qs : List Piece) → OfTerminated P vs ps → OfTerminated P vs qs → qs ≡ ps
   ended_one vs ps qs p q = each_one P _ writes m A (vs ++ 0 ∷ []) ps qs p.1 q.1
 
-  ended_written : (vs : List ℕ) (ps : List Piece) → OfEnded P vs ps → IsWrittenAs ps (Both (WritesEach writes vs) (writes 0))
+  ended_written : (vs : List ℕ) (ps : List Piece) → OfTerminated P vs ps → IsWrittenAs ps (Both (WritesEach writes vs) (writes 0))
   ended_written vs ps p =
       let k = last_apart vs 0 ps p.1 in
       subst (λ y. IsWrittenAs y (Both (WritesEach writes vs) (writes 0))) (sym k.4)
@@ -49,7 +49,7 @@ module _ (P : ℕ → List Piece → Type 0) (writes : ℕ → Meaning Output (U
 
   -- a text that is read is the one whose pieces are taken
   texts_back : (vs ws : List ℕ) (ps : List Piece) (S T : Stream) (c : ℕ) (u : Standing (Option Stream)) → NoZeros vs → NoZeros ws → OfEach P (vs ++ 0 ∷ []) ps → Takes ps S T
-      → c + breadth ps < 2 ^ 64 → lists.InTurn (Stored m) (ws ++ 0 ∷ []) (Going (Some S) c) u → (vs ≡ ws) × (u ≡ Going (Some T) (c + breadth ps))
+      → c + breadth ps < 2 ^ 64 → AnswersEach (Stored m) (ws ++ 0 ∷ []) (Going (Some S) c) u → (vs ≡ ws) × (u ≡ Going (Some T) (c + breadth ps))
   texts_back [] [] ps S T c u f g (x, y, p, q, e) takes room (t, stored, turn) =
       let wide : breadth ps ≡ breadth x + breadth y = ap breadth e ∙ breadth-append x y in
       let cut = takes_apart x y S T (rw e at takes) in
@@ -72,13 +72,13 @@ module _ (P : ℕ → List Piece → Type 0) (writes : ℕ → Meaning Output (U
       let cut = takes_apart x y S T (rw e at takes) in
       let it = next_back P _ writes m A v x S cut.0 c w t p cut.1 (omega (arith, room, wide)) stored in
       let k = texts_back vs ws y cut.0 T (c + breadth x) u (All-tail (λ (b : ℕ). b ≢ 0) v vs f) (All-tail (λ (b : ℕ). b ≢ 0) w ws g) q cut.2 (omega (arith, room, wide))
-      (subst (λ s. lists.InTurn (Stored m) (ws ++ 0 ∷ []) s u) it.1 turn) in
+      (subst (λ s. AnswersEach (Stored m) (ws ++ 0 ∷ []) s u) it.1 turn) in
       let count : c + breadth x + breadth y ≡ c + breadth ps = omega (arith, wide) in
       (ap (λ i. i ∷ vs) it.0 ∙ ap (λ i. w ∷ i) k.0, k.1 ∙ ap (λ i. Going (Some T) i) count)
 
   -- a refusal behind some bytes of it is want of memory
   texts_refused : (vs ws : List ℕ) (ps : List Piece) (S T : Stream) (c : ℕ) (t u : Standing (Option Stream)) (d : DekuError) → NoZeros ws → OfEach P (vs ++ 0 ∷ []) ps → Takes ps S T
-      → c + breadth ps < 2 ^ 64 → lists.InTurn (Stored m) ws (Going (Some S) c) t → Stored m false t (Err d) u → d ≡ Io OutOfMemory
+      → c + breadth ps < 2 ^ 64 → AnswersEach (Stored m) ws (Going (Some S) c) t → Stored m false t (Err d) u → d ≡ Io OutOfMemory
   texts_refused vs [] ps S T c t u d g are takes room turn refusal =
       next_refused P _ writes m A (vs ++ 0 ∷ []) ps S T c d u (omega (arith, length-append vs (0 ∷ []))) are takes room (subst (λ s. Stored m false s (Err d) u) turn refusal)
   texts_refused [] (w ∷ ws) ps S T c t u d g (x, y, p, q, e) takes room (k, stored, turn) refusal =
@@ -90,17 +90,17 @@ module _ (P : ℕ → List Piece → Type 0) (writes : ℕ → Meaning Output (U
       let wide : breadth ps ≡ breadth x + breadth y = ap breadth e ∙ breadth-append x y in
       let cut = takes_apart x y S T (rw e at takes) in
       let it = next_back P _ writes m A v x S cut.0 c w k p cut.1 (omega (arith, room, wide)) stored in
-      texts_refused vs ws y cut.0 T (c + breadth x) t u d (All-tail (λ (b : ℕ). b ≢ 0) w ws g) q cut.2 (omega (arith, room, wide)) (subst (λ s. lists.InTurn (Stored m) ws s t) it.1 turn) refusal
+      texts_refused vs ws y cut.0 T (c + breadth x) t u d (All-tail (λ (b : ℕ). b ≢ 0) w ws g) q cut.2 (omega (arith, room, wide)) (subst (λ s. AnswersEach (Stored m) ws s t) it.1 turn) refusal
 
   abbrev ReadsText : Meaning (Option Stream) (List ℕ)
-  ReadsText = Then (Runs NoZeros (λ bytes. (text : List ℕ) × IsEnded text bytes) (Stored m)) Unended
+  ReadsText = Then (Runs NoZeros (λ bytes. (text : List ℕ) × IsTerminated text bytes) (Stored m)) Unended
 
   -- bytes that are a text and a zero are that text
-  shown_text : (vs bytes : List ℕ) (s u : Standing (Option Stream)) (r : Result (List ℕ) DekuError) → IsEnded vs bytes → Unended bytes false s r u → (text : List ℕ) × (r ≡ Ok text) × (u ≡ s) × IsEnded text bytes
+  shown_text : (vs bytes : List ℕ) (s u : Standing (Option Stream)) (r : Result (List ℕ) DekuError) → IsTerminated vs bytes → Unended bytes false s r u → (text : List ℕ) × (r ≡ Ok text) × (u ≡ s) × IsTerminated text bytes
   shown_text vs bytes s u r is (Text text e) = (text, refl, refl, e)
   shown_text vs bytes s u r is (NoText none f) = absurd (none vs is)
 
-  ended_back : (vs : List ℕ) (ps : List Piece) → OfEnded P vs ps → IsReadBack ps (λ w. vs ≡ w) ReadsText
+  ended_back : (vs : List ℕ) (ps : List Piece) → OfTerminated P vs ps → IsReadBack ps (λ w. vs ≡ w) ReadsText
   ended_back vs ps p S T c r u takes room (First d (Ended ws turn k b e) q) = absurd (cc)
   ended_back vs ps p S T c r u takes room (First d (lists.Refused ws t x turn none refusal e) q) =
       let same : x ≡ d = err_is d x e in
@@ -111,13 +111,13 @@ module _ (P : ℕ → List Piece → Type 0) (writes : ℕ → Meaning Output (U
   ended_back vs ps p S T c r u takes room (Second bytes t (lists.Refused ws k x turn none refusal e) q) = absurd (cc)
   ended_back vs ps p S T c r u takes room (Second bytes t (Ended ws turn (text, (none, is)) b e) q) =
       let same : bytes ≡ ws = ok_is bytes ws e in
-      let k = texts_back vs text ps S T c t p.0 none p.1 takes room (subst (λ i. lists.InTurn (Stored m) i (Going (Some S) c) t) is turn) in
+      let k = texts_back vs text ps S T c t p.0 none p.1 takes room (subst (λ i. AnswersEach (Stored m) i (Going (Some S) c) t) is turn) in
       let it = shown_text text bytes t u r (none, same ∙ is) q in
-      let again = texts_back vs it.0 ps S T c t p.0 it.3.0 p.1 takes room (subst (λ i. lists.InTurn (Stored m) i (Going (Some S) c) t) (sym same ∙ it.3.1) turn) in
+      let again = texts_back vs it.0 ps S T c t p.0 it.3.0 p.1 takes room (subst (λ i. AnswersEach (Stored m) i (Going (Some S) c) t) (sym same ∙ it.3.1) turn) in
       inl (it.0, again.0, it.1, it.2 ∙ k.1)
 
   -- ---- what is read
-  ended_read : (vs : List ℕ) (S : Stream) (c : ℕ) (u : Standing (Option Stream)) → ReadsText false (Going (Some S) c) (Ok vs) u → TakenAs (OfEnded P) vs S c u
+  ended_read : (vs : List ℕ) (S : Stream) (c : ℕ) (u : Standing (Option Stream)) → ReadsText false (Going (Some S) c) (Ok vs) u → TakenAs (OfTerminated P) vs S c u
   ended_read vs S c u (First d k q) = absurd (cc)
   ended_read vs S c u (Second bytes t (lists.Refused ws k x turn none refusal e) q) = absurd (cc)
   ended_read vs S c u (Second bytes t (Ended ws turn (text, (none, is)) b e) q) =
@@ -125,12 +125,12 @@ module _ (P : ℕ → List Piece → Type 0) (writes : ℕ → Meaning Output (U
       let it = shown_text text bytes t u (Ok vs) (none, same ∙ is) q in
       let all : vs ≡ it.0 = ok_is vs it.0 it.1 in
       let a = each_read P _ writes m A (vs ++ 0 ∷ []) S c u
-      (subst (λ i. lists.InTurn (Stored m) (i ++ 0 ∷ []) (Going (Some S) c) u) (sym all)
-      (subst (λ i. lists.InTurn (Stored m) i (Going (Some S) c) u) (sym same ∙ it.3.1) (subst (λ i. lists.InTurn (Stored m) ws (Going (Some S) c) i) (sym it.2) turn))) in
+      (subst (λ i. AnswersEach (Stored m) (i ++ 0 ∷ []) (Going (Some S) c) u) (sym all)
+      (subst (λ i. AnswersEach (Stored m) i (Going (Some S) c) u) (sym same ∙ it.3.1) (subst (λ i. AnswersEach (Stored m) ws (Going (Some S) c) i) (sym it.2) turn))) in
       record { taken = a.taken; has = (subst NoZeros (sym all) it.3.0, a.has); rest = a.rest; takes = a.takes; stands = a.stands }
 
-  pub ended_symmetric : IsSymmetric (OfEnded P) (λ v w. v ≡ w) (λ vs. Both (WritesEach writes vs) (writes 0)) ReadsText
+  pub ended_symmetric : IsSymmetric (OfTerminated P) (λ v w. v ≡ w) (λ vs. Both (WritesEach writes vs) (writes 0)) ReadsText
   ended_symmetric = record { one = ended_one; written = ended_written; read_back = ended_back; read = ended_read }
 
-pub text_symmetric : IsSymmetric OfText (λ v w. v ≡ w) (λ text. Both (WritesEach (λ b. WritesNumber byte plain (pos b)) text) (WritesNumber byte plain (pos 0))) ReadsEnded
+pub text_symmetric : IsSymmetric OfText (λ v w. v ≡ w) (λ text. Both (WritesEach (λ b. WritesNumber byte plain (pos b)) text) (WritesNumber byte plain (pos 0))) ReadsTerminated
 text_symmetric = ended_symmetric (OfUnsigned byte plain) (λ b. WritesNumber byte plain (pos b)) _ (unsigned_symmetric byte plain)

@@ -17,7 +17,7 @@ use Rattle.deku_bits.proofs.Taking.{skip_law}
 use Rattle.deku.specs.Composing.{Second, First}
 use Rattle.deku.specs.Wholes.{Behind, FromFirst, IsRest, ReadsBytesOnce}
 use Rattle.deku_pieces.specs.Symmetric.{breadth, Answers, IsSymmetric}
-use Rattle.deku_pieces.specs.Packs.{InStep, Unpacks, ReadsBack, TakesIts, WasTaken, LeavesRest, TakesFront}
+use Rattle.deku_pieces.specs.Packs.{InStep, Unpacks, UnpacksBack, TakesIts, WasTaken, LeavesRest, TakesFront}
 use Rattle.deku_pieces.proofs.Answering.{ok_is}
 
 err_is : {V : Type 0} (e d : DekuError) → ◌≡◌ {A = Result V DekuError} (Err e) (Err d) → e ≡ d
@@ -59,7 +59,7 @@ module _ {V : Type 0} (pieces : V → List Piece → Type 0) (same : V → V →
       let none : 0 + breadth ps ≡ breadth ps = omega arith in
       (t.0, subst (λ n. Answers (same v) t.0 n r u) none (A.read_back v ps p (fresh (laid_out ps ++ after)) t.0 0 r u t.1 (omega (arith, room)) (subst (λ x. FromFirst m x r u) begins w)))
 
-  pub unpacked_back : (r : Result (ℕ × V) DekuError) → Unpacks m bytes r → ReadsBack pieces same bytes r
+  pub unpacked_back : (r : Result (ℕ × V) DekuError) → Unpacks m bytes r → UnpacksBack pieces same bytes r
   unpacked_back (Ok p) (u, w, c) v ps after h aligned begins room =
       let b = back v ps after h aligned begins room (Ok p.1) u w in
       answered_value v p.1 b.0 (breadth ps) p.0 u c b.1

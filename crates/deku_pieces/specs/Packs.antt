@@ -34,8 +34,8 @@ Unpacks m bytes (Err e) = (u : Standing (Option Stream)) × FromFirst m bytes (E
 
 -- from bytes that begin with what the aligned pieces of a value lay out, whatever follows, it is that value and the width of its pieces; or no memory
 -- was found
-abbrev pub ReadsBack : {V : Type 0} → (V → List Piece → Type 0) → (V → V → Type 0) → List ℕ → Result (ℕ × V) DekuError → Type 0
-ReadsBack {V} pieces same bytes r = (v : V) (ps : List Piece) (after : List ℕ) → pieces v ps → InStep ps → bytes ≡ laid_out ps ++ after → breadth ps < 2 ^ 64
+abbrev pub UnpacksBack : {V : Type 0} → (V → List Piece → Type 0) → (V → V → Type 0) → List ℕ → Result (ℕ × V) DekuError → Type 0
+UnpacksBack {V} pieces same bytes r = (v : V) (ps : List Piece) (after : List ℕ) → pieces v ps → InStep ps → bytes ≡ laid_out ps ++ after → breadth ps < 2 ^ 64
     → MatchResult r (λ p. (p.0 ≡ breadth ps) × same v p.1) (λ e. e ≡ Io OutOfMemory)
 
 -- v has pieces of n bits that were taken in turn from the bytes; aligned ones lay out the bytes taken, unread bits zero

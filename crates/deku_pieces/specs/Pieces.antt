@@ -41,8 +41,8 @@ OfHeld pieces None ps = ⊥
 OfHeld pieces (Some v) ps = pieces v ps
 
 -- those of numbers, none of them zero, and of a zero behind them
-abbrev pub OfEnded : (ℕ → List Piece → Type 0) → List ℕ → List Piece → Type 0
-OfEnded pieces vs ps = NoZeros vs × OfEach pieces (vs ++ 0 ∷ []) ps
+abbrev pub OfTerminated : (ℕ → List Piece → Type 0) → List ℕ → List Piece → Type 0
+OfTerminated pieces vs ps = NoZeros vs × OfEach pieces (vs ++ 0 ∷ []) ps
 
 -- the layout of `()`
 abbrev pub plain : Layout
@@ -54,7 +54,7 @@ high_first size = record { endian = Big; order = Msb0; size = size }
 
 -- those of the bytes of a text, and of the zero that ends it
 abbrev pub OfText : List ℕ → List Piece → Type 0
-OfText = OfEnded (OfUnsigned byte plain)
+OfText = OfTerminated (OfUnsigned byte plain)
 
 -- ---- the same values
 -- items that are the same, one by one

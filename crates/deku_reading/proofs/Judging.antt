@@ -14,7 +14,7 @@ use Rattle.deku_bits.specs.Devices.{Health, NoFewerFailures}
 use Rattle.deku_bits.specs.Standings.{Standing, Going, Stopped, count_of, reader_state}
 use Rattle.deku_bits.specs.Outcomes.{Meaning, Outcome, Quiet, Broken}
 use Rattle.deku_bits.proofs.Handing.{no_ok, broken_at, meant, no_fewer_on, more_on, no_fewer_same}
-use Rattle.deku_reading.specs.Limits.{Taken, items_of, Widens, Takes, TakesEach, Judge, GoesOn, Judged, EndsWith, Closes, ItemRefused, WithoutWidth, NoPlace, Held, Holds, NotHeld, ReadsBitsOf, NoBits, SomeBits, MoreToCome, PastCount}
+use Rattle.deku_reading.specs.Limits.{Taken, items_of, Widens, TakesItem, TakesEach, Judge, GoesOn, Judged, EndsWith, Closes, ItemRefused, WithoutWidth, NoPlace, Held, Holds, NotHeld, ReadsBitsOf, NoBits, SomeBits, MoreToCome, PastCount}
 use Rattle.deku_meanings.specs.Composing.{Answered}
 use Rattle.deku_bits.specs.Streams.{Stream}
 use Rattle.deku_bits.specs.ReaderCalls.{Ending}
@@ -71,7 +71,7 @@ none_gathered puts judge m j b s f = record { items = []; turn = refl; on = refl
 module _ {A T B J : Type 0} {puts : B → T → B → Type 0} {judge : Judge A T J} {m : Meaning A T} {j k : J} {b c : B} {s0 : Standing A} {f0 : Health} {s : Standing A} {f : Health} (h : Gathering puts judge m j k b c s0 f0 s f) where
   -- one item more was read
   turn_on : {v : T} {t : Standing A} → m false s (Ok v) t → TakesEach m s0 (h.items ++ taken_at v s t ∷ []) t
-  turn_on {v} {t} p = FoldsTo-push (Takes m) s0 h.items s (taken_at v s t) t h.turn (record { from = refl; read = p; left = refl })
+  turn_on {v} {t} p = FoldsTo-push (TakesItem m) s0 h.items s (taken_at v s t) t h.turn (record { from = refl; read = p; left = refl })
 
   -- and put in its place
   put_on : {v : T} (t : Standing A) {d : B} → puts c v d → FoldsTo puts b (items_of (h.items ++ taken_at v s t ∷ [])) d

@@ -6,7 +6,7 @@ use Rattle.deku_bits.specs.Standings.{Standing}
 use Rattle.deku_bits.specs.Outcomes.{Meaning, Outcome, Quiet, Broken}
 use Rattle.deku_bits.proofs.Handing.{broken_at, meant, no_fewer_on, more_on, no_fewer_same}
 use Rattle.deku_reading.specs.Lists as lists
-use Rattle.deku_reading.specs.Lists.{InTurn, Runs, Ended, Put, Stored}
+use Rattle.deku_reading.specs.Lists.{AnswersEach, Runs, Ended, Put, Stored}
 use Rattle.deku_meanings.proofs.Joining.{then_on}
 
 -- ---- one item
@@ -15,13 +15,13 @@ pub stored : {A V : Type 0} {m : Meaning A V} {s : Standing A} {f : Health} {v :
 stored {g} o = then_on o (Quiet Put (no_fewer_same g))
 
 -- ---- items
-in_turn_on : {A V : Type 0} (m : Meaning A V) (vs : List V) (v : V) (s t u : Standing A) → InTurn m vs s t → m false t (Ok v) u → InTurn m (vs ++ v ∷ []) s u
+in_turn_on : {A V : Type 0} (m : Meaning A V) (vs : List V) (v : V) (s t u : Standing A) → AnswersEach m vs s t → m false t (Ok v) u → AnswersEach m (vs ++ v ∷ []) s u
 in_turn_on m [] v s t u p q = (u, subst (λ x. m false x (Ok v) u) p q, refl)
 in_turn_on m (w ∷ vs) v s t u p q = (p.0, p.1, in_turn_on m vs v p.0 t u p.2 q)
 
 -- these were read
 pub record SoFar {A V : Type 0} (m : Meaning A V) (vs : List V) (s0 : Standing A) (f0 : Health) (s : Standing A) (f : Health) : Type 0 where
-  pub turn : InTurn m vs s0 s
+  pub turn : AnswersEach m vs s0 s
   pub calm : NoFewerFailures f0 f
 
 pub none_so_far : {A V : Type 0} (m : Meaning A V) (s : Standing A) (f : Health) → SoFar m [] s f s f

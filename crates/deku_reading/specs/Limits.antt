@@ -30,14 +30,14 @@ abbrev pub Widens : {A T : Type 0} → Taken A T → Type 0
 Widens x = count_of x.before < count_of x.after
 
 -- the item x is read from s, and u is left
-pub record Takes {A T : Type 0} (m : Meaning A T) (s : Standing A) (x : Taken A T) (u : Standing A) : Type 0 where
+pub record TakesItem {A T : Type 0} (m : Meaning A T) (s : Standing A) (x : Taken A T) (u : Standing A) : Type 0 where
   pub from : x.before ≡ s
   pub read : m false s (Ok x.item) u
   pub left : x.after ≡ u
 
 -- these items are read one after the other
 abbrev pub TakesEach : {A T : Type 0} → Meaning A T → Standing A → List (Taken A T) → Standing A → Type 0
-TakesEach m s xs u = FoldsTo (Takes m) s xs u
+TakesEach m s xs u = FoldsTo (TakesItem m) s xs u
 
 -- what a limit says of an item, whether the list ends with it, and what the limit is then
 abbrev pub Judge : Type 0 → Type 0 → Type 0 → Type 1

@@ -22,14 +22,14 @@ abbrev pub Seen : {A V W : Type 0} → (V → W) → Meaning A W → Meaning A V
 Seen h m b s r u = m b s (on_value h r) u
 
 -- these items are answered one after the other
-abbrev pub InTurn : {A V : Type 0} → Meaning A V → List V → Standing A → Standing A → Type 0
-InTurn m [] s u = u ≡ s
-InTurn {A} m (v ∷ vs) s u = (t : Standing A) × m false s (Ok v) t × InTurn m vs t u
+abbrev pub AnswersEach : {A V : Type 0} → Meaning A V → List V → Standing A → Standing A → Type 0
+AnswersEach m [] s u = u ≡ s
+AnswersEach {A} m (v ∷ vs) s u = (t : Standing A) × m false s (Ok v) t × AnswersEach m vs t u
 
 -- items are read one after the other: a list that ends; or the next item is refused, behind a list that goes on
 pub data Runs {A V : Type 0} (goes ends : List V → Type 0) (m : Meaning A V) (b : Bool) (s : Standing A) (r : Result (List V) DekuError) (u : Standing A) : Type 0 where
-  Ended : (vs : List V) → InTurn m vs s u → ends vs → b ≡ false → r ≡ Ok vs → Runs goes ends m b s r u
-  Refused : (vs : List V) (t : Standing A) (e : DekuError) → InTurn m vs s t → goes vs → m b t (Err e) u → r ≡ Err e → Runs goes ends m b s r u
+  Ended : (vs : List V) → AnswersEach m vs s u → ends vs → b ≡ false → r ≡ Ok vs → Runs goes ends m b s r u
+  Refused : (vs : List V) (t : Standing A) (e : DekuError) → AnswersEach m vs s t → goes vs → m b t (Err e) u → r ≡ Err e → Runs goes ends m b s r u
 
 -- the value is put in its place, or no memory is found for it; nothing moves
 pub data InPlace {A V : Type 0} (v : V) : Bool → Standing A → Result V DekuError → Standing A → Type 0 where

@@ -9,12 +9,12 @@ use Rattle.deku.specs.Composing.{WritesEach}
 use Rattle.deku.specs.Limits.{ReadsCount}
 use Rattle.deku_pieces.specs.Symmetric.{IsSymmetric}
 use Rattle.deku_pieces.specs.Pieces.{OfEach, OfTimes, SameEach}
-use Rattle.deku_pieces.specs.Packs.{Unpacks, ReadsBack, ToBytesLaw}
+use Rattle.deku_pieces.specs.Packs.{Unpacks, UnpacksBack, ToBytesLaw}
 
 -- From bytes that begin with what the aligned pieces of a value lay out, whatever follows, a read answers that value and the width of its pieces; or no memory
 -- is found.
 abbrev pub UnpackLaw : {V : Type 0} → (V → List Piece → Type 0) → (V → V → Type 0) → Meaning (Option Stream) V → Type 0
-UnpackLaw {V} pieces same reads = (bytes : List ℕ) (r : Result (ℕ × V) DekuError) → Unpacks reads bytes r → ReadsBack pieces same bytes r
+UnpackLaw {V} pieces same reads = (bytes : List ℕ) (r : Result (ℕ × V) DekuError) → Unpacks reads bytes r → UnpacksBack pieces same bytes r
 
 -- A list of symmetric items that are read under a count of n, and written one after the other, is symmetric.
 abbrev pub CountedLaw : {V : Type 0} → (V → List Piece → Type 0) → (V → V → Type 0) → (V → Meaning Output (Unit {0})) → Meaning (Option Stream) V → Type 0

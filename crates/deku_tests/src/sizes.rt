@@ -1,6 +1,7 @@
 //! Sizes of truth values, of tuples and of arrays.
 
 use super::expecting::same;
+use deku::ctx::BitSize;
 use deku::size::{DekuSize, DekuSizeConst};
 use std::process::Abort;
 
@@ -33,6 +34,7 @@ impl DekuSize for Open {
 // So many bits, and so many bytes where these are whole.
 fn expect_size<T: DekuSize>(rt: &impl Abort, row: &str, bits: Option<usize>, bytes: Option<usize>) {
     same(rt, &row, &(T::size_bits(), T::size_bytes()), &(bits, bytes));
+    same(rt, &row, &BitSize::of::<T>(), &bits.map(BitSize));
 }
 
 #[test]

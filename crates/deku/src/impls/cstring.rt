@@ -7,7 +7,7 @@ ghost use Rattle.deku_bits.specs.ReaderCalls.{Reads};
 ghost use Rattle.deku_bits.specs.Faults.{Tells};
 ghost use Rattle.deku_reading.specs.Early.{Promptly};
 ghost use Rattle.deku_reading.specs.Lists.{Runs, on_value};
-ghost use Rattle.deku.specs.Texts.{NoZeros, IsEnded, ReadsByte};
+ghost use Rattle.deku.specs.Texts.{NoZeros, IsTerminated, ReadsByte};
 
 use deku_bits::device::{Sink, Source};
 use deku_bits::error::DekuError;
@@ -122,7 +122,7 @@ fn read_byte<R: Source>(reader: &mut Reader<R>, bytes: &mut Vec<u8>) -> Result<u
 
 // Reads bytes up to the first zero, and that.
 fn read_to_zero<R: Source>(reader: &mut Reader<R>) -> Result<Vec<u8>, DekuError>
-    ensures reads { Reads R.told (Runs NoZeros (λ bytes. (text : List ℕ) × IsEnded text bytes) ReadsByte) reader.old (on_value (λ v. v.items) result) reader.new }
+    ensures reads { Reads R.told (Runs NoZeros (λ bytes. (text : List ℕ) × IsTerminated text bytes) ReadsByte) reader.old (on_value (λ v. v.items) result) reader.new }
     ensures early { OnOk result (Promptly R.told reader.old reader.new) }
 {
     let mut bytes = Vec::new(reader.alloc());
@@ -155,8 +155,8 @@ fn read_count<R: Source>(reader: &mut Reader<R>, count: usize) -> Result<Vec<u8>
 
 // The text before a zero at the end of bytes, where there is no other zero.
 fn unended(bytes: Vec<u8>) -> Result<CString, DekuError>
-    ensures ok { IfOk result (λ text. IsEnded text bytes.items) }
-    ensures err { IfErr result (λ e. ((text : List ℕ) → IsEnded text bytes.items → ⊥) × Tells Parse (codes "Failed to convert Vec to CString") e) }
+    ensures ok { IfOk result (λ text. IsTerminated text bytes.items) }
+    ensures err { IfErr result (λ e. ((text : List ℕ) → IsTerminated text bytes.items → ⊥) × Tells Parse (codes "Failed to convert Vec to CString") e) }
 {
     let mut text = bytes;
     if let Some(0) = text.pop() {
@@ -173,13 +173,13 @@ fn unended(bytes: Vec<u8>) -> Result<CString, DekuError>
 /// behind that byte then.
 impl DekuReader<()> for CString {
     ghost use Rattle.std.specs.Prelude.{◌≡◌};
-    ghost use Rattle.deku.specs.Texts.{ReadsEnded};
+    ghost use Rattle.deku.specs.Texts.{ReadsTerminated};
 
     ghost accepts = { λ c. c ≡ c };
 
     ghost prompt = { λ c. c ≡ c };
 
-    ghost meaning = { λ _. ReadsEnded };
+    ghost meaning = { λ _. ReadsTerminated };
 
     fn from_reader_with_ctx<R: Source>(reader: &mut Reader<R>, ctx: ()) -> Result<Self, DekuError> {
         match read_to_zero(reader) {
