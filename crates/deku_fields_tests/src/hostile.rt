@@ -11,6 +11,7 @@ use deku::probe::{FailAt, Trickle};
 use deku::reader::Reader;
 use deku::writer::Writer;
 use deku_fields::{Item, read_list_into, write_list};
+use std::alloc::Global;
 use std::fmt::Debug;
 use std::io::{Cursor, ErrorKind, Seek, SeekFrom};
 use std::process::Abort;
@@ -199,24 +200,25 @@ impl Lists {
     }
 }
 
+// The list is read from each of its beginnings: from a slice, byte after byte, and from a source whose next call fails.
+fn expect_stops(rt: &impl Abort, alloc: Global, sample: &Sample) -> Result<(), Fail> {
+    for (at, _) in sample.bytes.iter().enumerate() {
+        let bytes = &sample.bytes[..at];
+        let mut slice = Reader::new(alloc, Cursor::new(bytes));
+        expect_stop(rt, sample, at, &mut slice, false)?;
+        let mut slow = Reader::new(alloc, Trickle::new(bytes));
+        expect_stop(rt, sample, at, &mut slow, false)?;
+        let failing = FailAt::new(Cursor::new(sample.bytes), at.saturating_add(1));
+        let mut broken = Reader::new(alloc, failing);
+        expect_stop(rt, sample, at, &mut broken, true)?;
+    }
+    Ok(())
+}
+
 #[test]
 fn reads_from_every_beginning(rt: HostRuntime) -> Result<(), Fail> {
     for sample in Lists::new().samples() {
-        for (at, _) in sample.bytes.iter().enumerate() {
-            let bytes = &sample.bytes[..at];
-            let mut slice = Reader::new(rt.alloc(), Cursor::new(bytes));
-            expect_stop(&rt, &sample, at, &mut slice, false)?;
-            let mut slow = Reader::new(rt.alloc(), Trickle::new(bytes));
-            expect_stop(&rt, &sample, at, &mut slow, false)?;
-            let failing = FailAt::new(Cursor::new(sample.bytes), at.saturating_add(1));
-            expect_stop(
-                &rt,
-                &sample,
-                at,
-                &mut Reader::new(rt.alloc(), failing),
-                true,
-            )?;
-        }
+        expect_stops(&rt, rt.alloc(), &sample)?;
     }
     Ok(())
 }
@@ -275,21 +277,45 @@ fn expect_full<W: Sink>(
     count
 }
 
+// The list is written to each slice that is shorter than it: behind a seek to the start a byte is written where the slice has one.
+fn expect_full_slices(rt: &impl Abort, sample: &Sample) -> Result<(), Fail> {
+    for (at, _) in sample.written.iter().enumerate() {
+        let mut page = [0u8; BYTES];
+        assert!(rt; at <= page.len());
+        let (over, _) = page.split_at_mut(at);
+        let mut writer = Writer::new(Cursor::new(over));
+        let bits = expect_full(rt, sample, at, &mut writer, FULL);
+        let row = (sample.name, at);
+        same(rt, row, &writer.seek(SeekFrom::Start(0))?, &0);
+        let (want, more) = if at == 0 { (Err(FULL), 0) } else { (Ok(()), 8) };
+        same(rt, row, &writer.write_bytes(&[0xAA]), &want);
+        same(rt, row, &writer.bits_written(), &bits.saturating_add(more));
+    }
+    Ok(())
+}
+
 #[test]
 fn writes_to_every_shorter_slice(rt: HostRuntime) -> Result<(), Fail> {
     for sample in Lists::new().samples() {
-        for (at, _) in sample.written.iter().enumerate() {
-            let mut page = [0u8; BYTES];
-            assert!(&rt; at <= page.len());
-            let (over, _) = page.split_at_mut(at);
-            let mut writer = Writer::new(Cursor::new(over));
-            let bits = expect_full(&rt, &sample, at, &mut writer, FULL);
-            let row = (sample.name, at);
-            same(&rt, row, &writer.seek(SeekFrom::Start(0))?, &0);
-            let (want, more) = if at == 0 { (Err(FULL), 0) } else { (Ok(()), 8) };
-            same(&rt, row, &writer.write_bytes(&[0xAA]), &want);
-            same(&rt, row, &writer.bits_written(), &bits.saturating_add(more));
-        }
+        expect_full_slices(&rt, &sample)?;
+    }
+    Ok(())
+}
+
+// The list is written to a sink that fails at each of its bytes in turn, and behind a seek to the start it is written whole.
+fn expect_written_again(rt: &impl Abort, sample: &Sample) -> Result<(), Fail> {
+    for (at, _) in sample.written.iter().enumerate() {
+        let mut page = [0u8; BYTES];
+        let n = at.saturating_add(1);
+        let mut writer = Writer::new(FailAt::new(Cursor::new(page.as_mut_slice()), n));
+        let bits = expect_full(rt, sample, at, &mut writer, FAILED);
+        let row = (sample.name, at);
+        same(rt, row, &writer.seek(SeekFrom::Start(0))?, &0);
+        let written = write_list(&mut writer, sample.items);
+        same(rt, row, &(written, writer.finalize()), &(Ok(()), Ok(())));
+        let all = sample.written.len().saturating_mul(8);
+        same(rt, row, &writer.bits_written(), &bits.saturating_add(all));
+        assert!(rt; page.starts_with(sample.written), "{} at {at}", sample.name);
     }
     Ok(())
 }
@@ -297,19 +323,7 @@ fn writes_to_every_shorter_slice(rt: HostRuntime) -> Result<(), Fail> {
 #[test]
 fn writes_behind_each_failure(rt: HostRuntime) -> Result<(), Fail> {
     for sample in Lists::new().samples() {
-        for (at, _) in sample.written.iter().enumerate() {
-            let mut page = [0u8; BYTES];
-            let n = at.saturating_add(1);
-            let mut writer = Writer::new(FailAt::new(Cursor::new(page.as_mut_slice()), n));
-            let bits = expect_full(&rt, &sample, at, &mut writer, FAILED);
-            let row = (sample.name, at);
-            same(&rt, row, &writer.seek(SeekFrom::Start(0))?, &0);
-            let written = write_list(&mut writer, sample.items);
-            same(&rt, row, &(written, writer.finalize()), &(Ok(()), Ok(())));
-            let all = sample.written.len().saturating_mul(8);
-            same(&rt, row, &writer.bits_written(), &bits.saturating_add(all));
-            assert!(&rt; page.starts_with(sample.written), "{} at {at}", sample.name);
-        }
+        expect_written_again(&rt, &sample)?;
     }
     Ok(())
 }

@@ -111,6 +111,19 @@ fn refuses_what_has_no_picture(rt: HostRuntime) -> Result<(), Fail> {
     Ok(())
 }
 
+// The items that words name, and their fields.
+fn items_of(alloc: Global, words: &[&str]) -> Result<(Vec<Item>, Vec<Field>), AllocError> {
+    let mut items = Vec::new(alloc);
+    let mut fields = Vec::new(alloc);
+    for word in words {
+        if let Some(item) = parse_item(word) {
+            items.push(item)?;
+            fields.push(item.field)?;
+        }
+    }
+    Ok((items, fields))
+}
+
 // Whether a bit of a number is set, in two's complement where there is a sign.
 fn is_set(number: Number, bit: usize) -> bool {
     let Ok(bit) = u32::try_from(bit) else {
@@ -162,14 +175,7 @@ fn shows_what_is_written(rt: HostRuntime) -> Result<(), Fail> {
         &["i128,big,lsb=-170141183460469231731687303715884105727"],
     ];
     for words in rows {
-        let mut items = Vec::new(rt.alloc());
-        let mut fields = Vec::new(rt.alloc());
-        for word in words {
-            if let Some(item) = parse_item(word) {
-                items.push(item)?;
-                fields.push(item.field)?;
-            }
-        }
+        let (items, fields) = items_of(rt.alloc(), words)?;
         assert!(&rt; items.len() == words.len(), "{words:?}: no items");
         let bytes = list_to_bytes(rt.alloc(), items.as_slice())?;
         let picture = places(rt.alloc(), fields.as_slice())?;

@@ -3,7 +3,7 @@ use Rattle.std.specs.Prelude.{◌≡◌, ◌⊎◌, ◌+◌, ◌-◌, ℕ, List,
 use Rattle.std.specs.Global.{Vec}
 use Rattle.std.specs.Int.{div_ceil}
 use Rattle.deku_bits.specs.Pieces.{Piece}
-use Rattle.deku_pieces.specs.Packs.{WasTaken, LaidOut}
+use Rattle.deku_pieces.specs.Packs.{WasTaken, PacksLaid}
 use Rattle.deku_fields.specs.Runs.{line}
 
 -- the first n bytes of both are the same, and one more are not
@@ -16,18 +16,18 @@ IsVerdict read written text = ((read ≡ written) × (text ≡ line (codes "same
     ⊎ ((n : ℕ) × IsFirstDifference read written n × (text ≡ line (codes "differs at byte " ++ decimal n)))
 
 -- The text gains whether the bytes that were read are those that were written, and how many are left.
-pub record Ends (read written : List ℕ) (left : ℕ) (before after : List ℕ) : Type 0 where
+pub record GainsVerdict (read written : List ℕ) (left : ℕ) (before after : List ℕ) : Type 0 where
   pub verdict : List ℕ
   pub judged : IsVerdict read written verdict
   pub shown : after ≡ before ++ (verdict ++ line (codes "left " ++ decimal left))
 
 -- behind the lines of the fields the text says whether the first k bytes are those that were written, and how many more there are
-abbrev pub Tells : List ℕ → ℕ → List ℕ → List ℕ → Type 0
-Tells bytes k written text = (fields : List ℕ) × Ends (take k bytes) written (length bytes - k) fields text
+abbrev pub TellsVerdict : List ℕ → ℕ → List ℕ → List ℕ → Type 0
+TellsVerdict bytes k written text = (fields : List ℕ) × GainsVerdict (take k bytes) written (length bytes - k) fields text
 
 -- the text tells of some of the bytes, from the first one on
 abbrev pub IsTold : List ℕ → List ℕ → Type 0
-IsTold bytes text = (k : ℕ) × (written : List ℕ) × Tells bytes k written text
+IsTold bytes text = (k : ℕ) × (written : List ℕ) × TellsVerdict bytes k written text
 
 -- the text tells of a value that was taken from the bytes, and of the bytes that it is written as
 pub record TellsOf {V : Type 0} (pieces : V → List Piece → Type 0) (bytes text : List ℕ) : Type 0 where
@@ -35,5 +35,5 @@ pub record TellsOf {V : Type 0} (pieces : V → List Piece → Type 0) (bytes te
   pub bits : ℕ
   pub taken : WasTaken pieces bytes bits value
   pub written : Vec ℕ
-  pub laid : LaidOut (pieces value) (Ok written)
-  pub tells : Tells bytes (min (div_ceil bits 8) (length bytes)) written.items text
+  pub laid : PacksLaid (pieces value) (Ok written)
+  pub tells : TellsVerdict bytes (min (div_ceil bits 8) (length bytes)) written.items text

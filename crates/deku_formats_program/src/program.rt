@@ -8,7 +8,7 @@ ghost use Rattle.deku_bits.specs.declared.error.DekuError.TheVariants.{Io};
 ghost use Rattle.deku_fields.specs.Runs.{words_of, IsHexText, LosesNewline, IsBegun};
 ghost use Rattle.deku_formats_program.specs.declared.program.Failure.TheVariants.{Fault, Usage};
 ghost use Rattle.deku_formats_program.specs.Forms.{AreNoForm};
-ghost use Rattle.deku_formats_program.specs.Shown.{Ends, IsTold, TellsOf};
+ghost use Rattle.deku_formats_program.specs.Shown.{GainsVerdict, IsTold, TellsOf};
 ghost use Rattle.deku_formats_program.specs.Runs.{status_of, message, IsDone, IsUnfinished, IsShown, IsRecord, IsOfRecord, AsksForRecord, InputStops, TextStops, Stops, IsStopped};
 
 use crate::compared::first_difference;
@@ -147,6 +147,7 @@ fn complain<E: Write>(errors: &mut E, failure: &Failure) -> io::Result<()>
     }
 }
 
+// Gives the output the text that the words ask for.
 fn command<R: Read, W: Write>(
     alloc: Global,
     args: &[String],
@@ -223,7 +224,7 @@ fn shown<T: Symmetric<()> + Shown>(alloc: Global, bytes: &[u8]) -> Result<String
 
 // Gives whether the bytes that were read are those that were written, and how many are left.
 fn end(text: &mut String, read: &[u8], written: &[u8], left: usize) -> Result<(), AllocError>
-    ensures { OnOk result (Ends read.now written.now left (string_bytes text.old) (string_bytes text.new)) }
+    ensures { OnOk result (GainsVerdict read.now written.now left (string_bytes text.old) (string_bytes text.new)) }
 {
     match first_difference(read, written) {
         None => writeln!(text, "same")?,

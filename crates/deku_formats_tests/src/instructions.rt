@@ -92,14 +92,19 @@ fn numbers(rt: HostRuntime) {
     }
 }
 
-// Words of a code that RV32I has not, as those of floating point: the reader stands behind the code. And numbers that no word holds.
+// Words of a code that RV32I has not, as those of floating point: the reader stands behind the code.
+#[test]
+fn other_codes(rt: HostRuntime) {
+    for code in [0x00u8, 0x02, 0x07, 0x27, 0x2F, 0x53, 0x6B, 0x7F] {
+        let bytes = [code, 0, 0, 0];
+        expect_refusal::<Instruction>(&rt, rt.alloc(), &bytes, DekuError::IdVariantNotFound, 7);
+    }
+}
+
+// Numbers that no word holds.
 #[test]
 fn refusals(rt: HostRuntime) {
     let alloc = rt.alloc();
-    for code in [0x00u8, 0x02, 0x07, 0x27, 0x2F, 0x53, 0x6B, 0x7F] {
-        let bytes = [code, 0, 0, 0];
-        expect_refusal::<Instruction>(&rt, alloc, &bytes, DekuError::IdVariantNotFound, 7);
-    }
     let refused = [
         Instruction::Store(Store::new(0, 11, 10, -2049)),
         Instruction::Branch(Branch::new(0, 10, 11, 2048)),

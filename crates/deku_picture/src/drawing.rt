@@ -92,6 +92,7 @@ fn value_of(sample: &Option<Sample>, index: usize) -> Option<Number> {
     }
 }
 
+// Puts a number in decimal digits.
 fn push_number(text: &mut String, value: Number) -> Result<(), AllocError> {
     match value {
         Number::Unsigned(value) => write!(text, "{value}"),

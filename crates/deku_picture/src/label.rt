@@ -41,6 +41,7 @@ pub fn labels(
     Ok(labels)
 }
 
+// The label of a cell whose lines have so many letters.
 fn label_of(
     alloc: Global,
     fields: &[Named],
@@ -84,6 +85,7 @@ pub fn lines_of(labels: &[Label]) -> Lines {
     lines
 }
 
+// How many lines a text has that is broken behind so many letters.
 fn line_count(text: &String, columns: usize) -> usize {
     text.len().div_ceil(columns.max(1))
 }

@@ -139,6 +139,7 @@ fn complain<E: Write>(errors: &mut E, failure: &Failure) -> io::Result<()>
     }
 }
 
+// Gives the output the picture that the words ask for.
 fn command<'a, W: Write>(
     alloc: Global,
     args: &'a [String],

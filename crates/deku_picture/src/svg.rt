@@ -31,6 +31,7 @@ struct Point {
 }
 
 impl Point {
+    // The place so far to the right of this one.
     fn right(self, by: usize) -> Point {
         Point {
             x: self.x.saturating_add(by),
@@ -38,6 +39,7 @@ impl Point {
         }
     }
 
+    // The place so far below this one.
     fn down(self, by: usize) -> Point {
         Point {
             x: self.x,

@@ -69,6 +69,7 @@ fn push_cells(
     push_border(text, labels)
 }
 
+// The line above the cells of a row, and below them.
 fn push_border(text: &mut String, labels: &[Label]) -> Result<(), AllocError> {
     for label in labels {
         text.push('+')?;

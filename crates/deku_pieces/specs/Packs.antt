@@ -22,8 +22,8 @@ InStep ps = Aligned (map shape ps)
 
 -- ---- as bytes
 -- the bytes are what aligned pieces lay out, whose bits can be counted; or no memory was found
-abbrev pub LaidOut : (List Piece → Type 0) → Result (Vec ℕ) DekuError → Type 0
-LaidOut pieces r = (ps : List Piece) → pieces ps → InStep ps → 8 * length (laid_out ps) < 2 ^ 64
+abbrev pub PacksLaid : (List Piece → Type 0) → Result (Vec ℕ) DekuError → Type 0
+PacksLaid pieces r = (ps : List Piece) → pieces ps → InStep ps → 8 * length (laid_out ps) < 2 ^ 64
     → MatchResult r (λ v. v.items ≡ laid_out ps) (λ e. e ≡ Io OutOfMemory)
 
 -- ---- from bytes
@@ -65,7 +65,7 @@ TakesFront pieces bytes r = IfOk r (λ p. (n : ℕ) × WasTaken pieces bytes n p
 
 -- `to_bytes` of a value is what its aligned pieces lay out, or no memory is found.
 abbrev pub ToBytesLaw : {V : Type 0} → (V → List Piece → Type 0) → (V → Meaning Output (Unit {0})) → Type 0
-ToBytesLaw {V} pieces writes = (v : V) (r : Result (Vec ℕ) DekuError) → WritesOnce (Both (writes v) Finalizes) r → LaidOut (pieces v) r
+ToBytesLaw {V} pieces writes = (v : V) (r : Result (Vec ℕ) DekuError) → WritesOnce (Both (writes v) Finalizes) r → PacksLaid (pieces v) r
 
 -- `from_bytes`, at bit 0, reads a value back from what its aligned pieces lay out.
 abbrev pub FromBytesLaw : {V : Type 0} → (V → List Piece → Type 0) → (V → V → Type 0) → Meaning (Option Stream) V → Type 0

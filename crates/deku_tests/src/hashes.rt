@@ -139,12 +139,17 @@ fn sets(rt: HostRuntime) -> Result<(), Fail> {
     Ok(())
 }
 
-// The items of a set, from the bytes that it was written as: none is left out, and none is there twice.
-fn expect_each_once(rt: &impl Abort, alloc: Global, want: &[u8]) -> Result<(), Fail> {
+fn set_of(alloc: Global, items: &[u8]) -> Result<Set<u8>, Fail> {
     let mut set: Set<u8> = HashSet::with_hasher(alloc, Hasher::default());
-    for item in want {
+    for item in items {
         set.insert(*item)?;
     }
+    Ok(set)
+}
+
+// The items of a set, from the bytes that it was written as: none is left out, and none is there twice.
+fn expect_each_once(rt: &impl Abort, alloc: Global, want: &[u8]) -> Result<(), Fail> {
+    let set = set_of(alloc, want)?;
     let bytes = written(alloc, &set, ())?;
     same(rt, &want, &bytes.len(), &want.len());
     for item in want {
