@@ -1,5 +1,5 @@
 -- Where faults of the kind `Io` come from in what is made of other calls.
-use Rattle.std.proofs.Common.{◌≡◌, ◌⊎◌, ℕ, zero, suc, Bool, true, List, [], ◌∷◌, Option, Result, Ok, Err, ℤ, refl, sym, inl, inr, ⊎_elim, subst}
+use Rattle.std.proofs.Common.{◌≡◌, ◌⊎◌, ℕ, zero, suc, Bool, true, List, [], ◌∷◌, Option, Result, Ok, Err, ℤ, refl, ap, sym, ◌∙◌, inl, inr, ⊎_elim, subst}
 use Rattle.std.specs.Borrow.{Bor}
 use Rattle.std.specs.declared.io.ErrorKind.{ErrorKind}
 use Rattle.std.specs.declared.io.ErrorKind.TheVariants.{OutOfMemory}
@@ -9,7 +9,7 @@ use Rattle.deku_bits.specs.Streams.{Stream}
 use Rattle.deku_bits.specs.Standings.{Standing, Output}
 use Rattle.deku_bits.specs.Bits.{bytes_of}
 use Rattle.deku_bits.specs.Outcomes.{Meaning, Refuses, Mapped}
-use Rattle.deku_bits.specs.ReaderCalls.{Takes, ReadsVec, Ending, Skips}
+use Rattle.deku_bits.specs.ReaderCalls.{TakesBits, ReadsVec, Ending, Skips}
 use Rattle.deku_bits.specs.Causes.{KeepsIo, NoKind, WantsMemory, WantsPlace, OwnFaults}
 use Rattle.deku_bits.proofs.Causes.{mapped, wider, caused, cause_law}
 use Rattle.deku_num.specs.declared.ctx.Layout.{Layout}
@@ -17,10 +17,10 @@ use Rattle.deku_num.specs.declared.kind.NumberType.{NumberType}
 use Rattle.deku_num.specs.NumberCalls.{Checked, Refused, Passed, RefusesLayout, ReadsNumber, ReadsUnsigned, WritesNumber, integers}
 use Rattle.deku_meanings.specs.declared.ctx.Limit.{Limit}
 use Rattle.deku_meanings.specs.declared.ctx.Limit.TheVariants.{Count, Until, ByteSize, BitSize, End}
-use Rattle.deku_meanings.specs.Composing.{Answer, Answered, Then, Second, First, Both}
-use Rattle.deku_meanings.specs.Shapes.{JoinedBy, Shows, Shown, ShowsUnless, LacksMemory}
-use Rattle.deku_reading.specs.Lists.{ReadsTimes, Seen, AnswersEach, Runs, Ended, Refused as NextRefused, InPlace, Put, NoMemory, Stored}
-use Rattle.deku_reading.specs.Limits.{Taken, TakesEach, Judge, Judged, EndsWith, Closes, ItemRefused, WithoutWidth, NoPlace, ReadsUntil, ReadsBitsOf, NoBits, SomeBits, MoreToCome, ReadsToEnd, ReadsCount, ReadsUnder, Held, Holds, NotHeld}
+use Rattle.deku_meanings.specs.Composing.{Answer, Answered, Then, Second, First, Both, JoinedBy}
+use Rattle.deku_meanings.specs.Shapes.{Shows, Shown, ShowsUnless, LacksMemory}
+use Rattle.deku_reading.specs.Lists.{ReadsTimes, Seen, AnswersEach, Runs, Ended, NextRefused, Stored}
+use Rattle.deku_reading.specs.Limits.{Taken, TakesEach, Judge, Judged, EndsWith, Closes, ItemRefused, WithoutWidth, Unplaced, ReadsUntil, ReadsBitsOf, NoBits, SomeBits, MoreToCome, ReadsToEnd, ReadsCount, ReadsUnder, MappedBy, ValueBy, RefusalBy}
 use Rattle.deku_writing.specs.Composing.{WritesEach}
 use Rattle.deku_bits.specs.declared.ctx.Order.{Order}
 use Rattle.deku_bits.specs.declared.ctx.Order.TheVariants.{Msb0}
@@ -59,11 +59,11 @@ seen own h m f s (Err e) u k p (inl q) = f s (Err e) u k p (inl cc)
 seen own h m f s (Ok v) u k p (inr q) = f s (Ok (h v)) u k p (inr q)
 seen own h m f s (Err e) u k p (inr q) = f s (Err e) u k p (inr q)
 
-pub held : {A V W : Type 0} (own : ErrorKind → Type 0) (h : V → W → Type 0) (m : Meaning A V) → OwnFaults own m → OwnFaults own (Held h m)
-held own h m f s r u k (Holds v w p x d) (inl q) = absurd cc
-held own h m f s r u k (Holds v w p x d) (inr q) = f s (Ok v) u k p (inr q)
-held own h m f s r u k (NotHeld e p d) (inl q) = f s (Err e) u k p (inl cc)
-held own h m f s r u k (NotHeld e p d) (inr q) = f s (Err e) u k p (inr q)
+pub held : {A V W : Type 0} (own : ErrorKind → Type 0) (h : V → W → Type 0) (m : Meaning A V) → OwnFaults own m → OwnFaults own (MappedBy h m)
+held own h m f s r u k (ValueBy v w p x d) (inl q) = absurd cc
+held own h m f s r u k (ValueBy v w p x d) (inr q) = f s (Ok v) u k p (inr q)
+held own h m f s r u k (RefusalBy e p d) (inl q) = f s (Err e) u k p (inl cc)
+held own h m f s r u k (RefusalBy e p d) (inr q) = f s (Err e) u k p (inr q)
 
 -- ---- checks
 pub checked : {A V : Type 0} (own : ErrorKind → Type 0) (refuses : Standing A → Result V DekuError → Standing A → Type 0) (m : Meaning A V)
@@ -71,6 +71,11 @@ pub checked : {A V : Type 0} (own : ErrorKind → Type 0) (refuses : Standing A 
     → OwnFaults own m → OwnFaults own (Checked refuses m)
 checked own refuses m h f s r u k (Refused b p) q = h s r u k p q
 checked own refuses m h f s r u k (Passed p) q = f s r u k p q
+
+-- no memory is found
+lacking : {A V : Type 0} (s : Standing A) (r : Result V DekuError) (u : Standing A) (k : ErrorKind) → LacksMemory s r u → (r ≡ Err (Io k)) ⊎ KeepsIo k u → WantsMemory k ⊎ KeepsIo k s
+lacking s r u k p (inl q) = let d = p.0 in let e : OutOfMemory ≡ k = cc in inl (sym e)
+lacking s r u k p (inr q) = inr (rw p.1 at q)
 
 -- a refusal with a text, of another kind
 pub texted : {A V : Type 0} (refusal : Bor (List ℕ) → DekuError) (text : List ℕ) → ((w : Bor (List ℕ)) (k : ErrorKind) → refusal w ≡ Io k → ⊥)
@@ -86,13 +91,13 @@ no_param w k e = cc
 
 layout : {A V : Type 0} (own : ErrorKind → Type 0) (refusal : Bor (List ℕ) → DekuError) (text : List ℕ) (t : NumberType) (l : Layout) → ((w : Bor (List ℕ)) (k : ErrorKind) → refusal w ≡ Io k → ⊥)
     → (s : Standing A) (r : Result V DekuError) (u : Standing A) (k : ErrorKind) → RefusesLayout refusal text t l s r u → (r ≡ Err (Io k)) ⊎ KeepsIo k u → own k ⊎ KeepsIo k s
-layout own refusal text t l h s r u k (inl p) q = inr (texted refusal text h s r u k p.1 q)
-layout own refusal text t l h s r u k (inr p) q = inr (texted InvalidParam _ no_param s r u k p.2 q)
+layout own refusal text t l h s r u k (e, inl p, is, stays) q = inr (texted refusal text h s r u k (p.1.words, p.1.told, is ∙ ap Err p.1.is, stays) q)
+layout own refusal text t l h s r u k (e, inr p, is, stays) q = inr (texted InvalidParam _ no_param s r u k (p.2.words, p.2.told, is ∙ ap Err p.2.is, stays) q)
 
 -- ---- numbers
 pub reads_number : (t : NumberType) (l : Layout) → OwnFaults NoKind (ReadsNumber t l)
 reads_number t l = checked NoKind _ _ (layout NoKind Parse _ t l no_parse)
-    (λ s r u k p q. mapped NoKind _ (Takes _ _) ((cause_law.0 _ _).0) s r u k p.1 q)
+    (λ s r u k p q. mapped NoKind _ (TakesBits _ _) ((cause_law.0 _ _).0) s r u k p.1 q)
 
 pub writes_number : (t : NumberType) (l : Layout) (v : ℤ) → OwnFaults WantsPlace (WritesNumber t l v)
 writes_number t l v = checked WantsPlace _ _ (layout WantsPlace InvalidParam _ t l no_param)
@@ -109,14 +114,8 @@ runs own goes ends m f s r u k (Ended vs p e b d) (inr q) = in_turn own m f vs s
 runs own goes ends m f s r u k (NextRefused vs t e p g n d) (inl q) = ⊎_elim (λ o. inl o) (λ kept. in_turn own m f vs s t k p kept) (f t (Err e) u k n (inl cc))
 runs own goes ends m f s r u k (NextRefused vs t e p g n d) (inr q) = ⊎_elim (λ o. inl o) (λ kept. in_turn own m f vs s t k p kept) (f t (Err e) u k n (inr q))
 
-in_place : {A V : Type 0} (v : V) → OwnFaults {A = A} WantsMemory (InPlace v)
-in_place v s r u k Put (inl q) = absurd cc
-in_place v s r u k Put (inr q) = inr q
-in_place v s r u k NoMemory (inl q) = inl (let e : OutOfMemory ≡ k = cc in sym e)
-in_place v s r u k NoMemory (inr q) = inr q
-
 pub stored : {A V : Type 0} (m : Meaning A V) → OwnFaults WantsMemory m → OwnFaults WantsMemory (Stored m)
-stored m f = then WantsMemory m InPlace f in_place
+stored m f = then WantsMemory m _ f (λ v. checked WantsMemory LacksMemory (Answer v) lacking (answer WantsMemory v))
 
 takes_each : {A T : Type 0} (own : ErrorKind → Type 0) (m : Meaning A T) → OwnFaults own m → (xs : List (Taken A T)) (s u : Standing A) (k : ErrorKind) → TakesEach m s xs u → KeepsIo k u → own k ⊎ KeepsIo k s
 takes_each own m f [] s u k p q = inr (subst (λ t. KeepsIo k t) (sym p) q)
@@ -138,8 +137,8 @@ judged judge closes ended j m h f s r u k (ItemRefused xs i t e p g n o d) (inl 
 judged judge closes ended j m h f s r u k (ItemRefused xs i t e p g n o d) (inr q) = behind WantsMemory m f xs s t k p (f t (Err e) u k n (inr q))
 judged judge closes ended j m h f s r u k (WithoutWidth xs x i l e p g v w t o b d) (inl q) = let y = t.is in absurd cc
 judged judge closes ended j m h f s r u k (WithoutWidth xs x i l e p g v w t o b d) (inr q) = takes_each WantsMemory m f _ s u k p q
-judged judge closes ended j m h f s r u k (NoPlace xs x v i l p g w y o b d) (inl q) = inl (let e : OutOfMemory ≡ k = cc in sym e)
-judged judge closes ended j m h f s r u k (NoPlace xs x v i l p g w y o b d) (inr q) = takes_each WantsMemory m f _ s u k p q
+judged judge closes ended j m h f s r u k (Unplaced xs x v i l p g w y o b d) (inl q) = inl (let e : OutOfMemory ≡ k = cc in sym e)
+judged judge closes ended j m h f s r u k (Unplaced xs x v i l p g w y o b d) (inr q) = takes_each WantsMemory m f _ s u k p q
 
 until : {A T P : Type 0} (answers : P → T → Bool → P → Type 0) (ended : P → Type 0) (p : P) (m : Meaning A T) → OwnFaults WantsMemory m → OwnFaults WantsMemory (ReadsUntil answers ended p m)
 until answers ended p m f = judged _ _ ended p m (λ t u k c q. absurd c) f
@@ -166,10 +165,6 @@ under answers ended End m f = to_end m f
 shows : {A V W : Type 0} (own : ErrorKind → Type 0) (h : W → V) (v : V) → OwnFaults {A = A} own (Shows h v)
 shows own h v s r u k (Shown e) (inl q) = absurd cc
 shows own h v s r u k (Shown e) (inr q) = inr q
-
-lacking : {A V : Type 0} (s : Standing A) (r : Result V DekuError) (u : Standing A) (k : ErrorKind) → LacksMemory s r u → (r ≡ Err (Io k)) ⊎ KeepsIo k u → WantsMemory k ⊎ KeepsIo k s
-lacking s r u k p (inl q) = let d = p.0 in let e : OutOfMemory ≡ k = cc in inl (sym e)
-lacking s r u k p (inr q) = inr (rw p.1 at q)
 
 pub boxed : {A V W : Type 0} (h : W → V) (m : Meaning A V) → OwnFaults WantsMemory m → OwnFaults WantsMemory (Then m (λ v. Checked LacksMemory (Shows h v)))
 boxed h m f = then WantsMemory m _ f (λ v. checked WantsMemory LacksMemory (Shows h v) lacking (shows WantsMemory h v))

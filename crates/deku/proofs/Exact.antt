@@ -4,7 +4,7 @@ use Rattle.deku_bits.specs.declared.ctx.Order.{Order}
 use Rattle.deku_bits.specs.Streams.{Stream, Has, taken, left}
 use Rattle.deku_bits.specs.Standings.{Standing, Going}
 use Rattle.deku_bits.specs.Outcomes.{Meaning, Mapped, Value, Refusal}
-use Rattle.deku_bits.specs.ReaderCalls.{Takes}
+use Rattle.deku_bits.specs.ReaderCalls.{TakesBits}
 use Rattle.deku_num.specs.declared.kind.NumberType.{NumberType}
 use Rattle.deku_num.specs.declared.ctx.Layout.{Layout}
 use Rattle.deku_num.specs.Numbers.{width, value, IsAllowed}
@@ -16,7 +16,7 @@ ok_is : {V E : Type 0} (v x : V) → ◌≡◌ {A = Result V E} (Ok v) (Ok x) �
 ok_is v x e = cc
 
 -- bits are taken where there are as many
-pub takes_gives : (o : Order) (n : ℕ) (S : Stream) (c : ℕ) → c + n < 2 ^ 64 → Has n S → Gives (Takes o n) (Going (Some S) c) (taken o n S) (Going (Some (left o n S)) (c + n))
+pub takes_gives : (o : Order) (n : ℕ) (S : Stream) (c : ℕ) → c + n < 2 ^ 64 → Has n S → Gives (TakesBits o n) (Going (Some S) c) (taken o n S) (Going (Some (left o n S)) (c + n))
 takes_gives o n S c room enough r u (inl p) = absurd (omega arith)
 takes_gives o n S c room enough r u (inr (a, inl p)) = (p.1, p.2)
 takes_gives o n S c room enough r u (inr (a, inr p)) = absurd (omega arith)
@@ -36,6 +36,6 @@ answer_gives v s r u Answered = (refl, refl)
 -- a number is read where its layout is not refused and the stream has its bits
 pub number_gives : (t : NumberType) (l : Layout) (S : Stream) (c : ℕ) → IsAllowed t l → c + width t l < 2 ^ 64 → Has (width t l) S
     → Gives (ReadsNumber t l) (Going (Some S) c) (value t l (taken l.order (width t l) S)) (Going (Some (left l.order (width t l) S)) (c + width t l))
-number_gives t l S c ok room enough r u (Refused b (inl p)) = absurd (omega (arith, ok.within))
-number_gives t l S c ok room enough r u (Refused b (inr p)) = absurd (p.1 ok.even)
-number_gives t l S c ok room enough r u (Passed p) = mapped_gives (value t l) (Takes l.order (width t l)) _ _ _ (takes_gives l.order (width t l) S c room enough) r u p.1
+number_gives t l S c ok room enough r u (Refused b (x, inl p, y)) = absurd (omega (arith, ok.within))
+number_gives t l S c ok room enough r u (Refused b (x, inr p, y)) = absurd (p.1 ok.even)
+number_gives t l S c ok room enough r u (Passed p) = mapped_gives (value t l) (TakesBits l.order (width t l)) _ _ _ (takes_gives l.order (width t l) S c room enough) r u p.1

@@ -13,12 +13,13 @@ use Rattle.deku_bits.specs.Outcomes.{Meaning}
 use Rattle.deku_num.specs.declared.kind.NumberType.{NumberType}
 use Rattle.deku_num.specs.declared.ctx.Layout.{Layout}
 use Rattle.deku_num.specs.Numbers.{width, Fits, IsAllowed}
-use Rattle.deku_num.specs.NumberCalls.{ReadsNumber, ReadsUnsigned, WritesNumber}
-use Rattle.deku_meanings.specs.Composing.{Second, First}
+use Rattle.deku_num.specs.NumberCalls.{Checked, Refused, Passed, ReadsNumber, ReadsUnsigned, WritesNumber}
+use Rattle.deku_meanings.specs.Composing.{Answer, Answered, Second, First}
+use Rattle.deku_meanings.specs.Shapes.{LacksMemory}
 use Rattle.deku_writing.specs.Composing.{WritesEach}
 use Rattle.deku_reading.specs.Lists as lists
-use Rattle.deku_reading.specs.Lists.{AnswersEach, Stored, InPlace, Put, NoMemory, Ended, on_value}
-use Rattle.deku_reading.specs.Limits.{ReadsCount, Held, Holds, NotHeld}
+use Rattle.deku_reading.specs.Lists.{AnswersEach, Stored, Ended, on_value}
+use Rattle.deku_reading.specs.Limits.{ReadsCount, MappedBy, ValueBy, RefusalBy}
 use Rattle.deku.specs.VectorLaws.{GivesBytes, ReadsAsWritten}
 use Rattle.deku.proofs.Vectors.{vector_law}
 
@@ -36,9 +37,9 @@ module _ {V : Type 0} (t : NumberType) (l : Layout) (h : V → ℤ) (m : Meaning
   stored_seen : (b : Bool) (s : Standing (Option Stream)) (r : Result V DekuError) (u : Standing (Option Stream)) → Stored m b s r u → Stored (ReadsNumber t l) b s (on_value h r) u
   stored_seen b s r u (Second v w p q) = Second (h v) w (same false s (Ok v) w p) (placed v b w r u q)
     where
-      placed : (v : V) (b : Bool) (w : Standing (Option Stream)) (r : Result V DekuError) (u : Standing (Option Stream)) → InPlace v b w r u → InPlace (h v) b w (on_value h r) u
-      placed v b w r u Put = Put
-      placed v b w r u NoMemory = NoMemory
+      placed : (v : V) (b : Bool) (w : Standing (Option Stream)) (r : Result V DekuError) (u : Standing (Option Stream)) → Checked LacksMemory (Answer v) b w r u → Checked LacksMemory (Answer (h v)) b w (on_value h r) u
+      placed v b w r u (Refused quiet none) = Refused quiet (ap (on_value h) none.0, none.1)
+      placed v b w r u (Passed Answered) = Passed Answered
   stored_seen b s r u (First e p k) = First e (same b s (Err e) u p) (ap (on_value h) k)
 
   turn_seen : (vs : List V) (s u : Standing (Option Stream)) → AnswersEach (Stored m) vs s u → AnswersEach (Stored (ReadsNumber t l)) (map h vs) s u
@@ -48,8 +49,8 @@ module _ {V : Type 0} (t : NumberType) (l : Layout) (h : V → ℤ) (m : Meaning
   count_seen : (n : ℕ) (b : Bool) (s : Standing (Option Stream)) (r : Result (List V) DekuError) (u : Standing (Option Stream)) → ReadsCount n m b s r u
       → ReadsCount n (ReadsNumber t l) b s (on_value (map h) r) u
   count_seen n b s r u (Ended vs turn long quiet e) = Ended (map h vs) (turn_seen vs s u turn) (length-mapped h vs ∙ long) quiet (ap (on_value (map h)) e)
-  count_seen n b s r u (lists.Refused vs w e turn less refused k) =
-      lists.Refused (map h vs) w e (turn_seen vs s w turn) (omega (arith, less, length-mapped h vs)) (stored_seen b w (Err e) u refused) (ap (on_value (map h)) k)
+  count_seen n b s r u (lists.NextRefused vs w e turn less refused k) =
+      lists.NextRefused (map h vs) w e (turn_seen vs s w turn) (omega (arith, less, length-mapped h vs)) (stored_seen b w (Err e) u refused) (ap (on_value (map h)) k)
 
   -- ---- writing
   each_seen : (vs : List V) (b : Bool) (s : Standing Output) (r : Result (Unit {0}) DekuError) (u : Standing Output) → WritesEach (λ x. WritesNumber t l (h x)) vs b s r u
@@ -110,14 +111,14 @@ module _ {V : Type 0} (t : NumberType) (l : Layout) (h : V → ℤ) (m : Meaning
       answer (Err x) (inl e) = absurd (cc)
       answer (Err x) (inr e) = cc
 
-  pub read_as_written : ReadsAsWritten t l h (λ n. Held (λ xs v. v.items ≡ xs) (ReadsCount n m)) (λ v. WritesEach (λ x. WritesNumber t l (h x)) v.items)
-  read_as_written v bytes behind c (Err x) u ok fits gives room (Holds xs w p is k) = absurd (cc)
-  read_as_written v bytes behind c (Ok w) u ok fits gives room (NotHeld e p k) = absurd (cc)
-  read_as_written v bytes behind c (Err x) u ok fits gives room (NotHeld e p k) = let d = found v bytes behind c (Err e) u ok fits gives room p in refused e x k d
+  pub read_as_written : ReadsAsWritten t l h (λ n. MappedBy (λ xs v. v.items ≡ xs) (ReadsCount n m)) (λ v. WritesEach (λ x. WritesNumber t l (h x)) v.items)
+  read_as_written v bytes behind c (Err x) u ok fits gives room (ValueBy xs w p is k) = absurd (cc)
+  read_as_written v bytes behind c (Ok w) u ok fits gives room (RefusalBy e p k) = absurd (cc)
+  read_as_written v bytes behind c (Err x) u ok fits gives room (RefusalBy e p k) = let d = found v bytes behind c (Err e) u ok fits gives room p in refused e x k d
     where
       refused : (e x : DekuError) → ◌≡◌ {A = Result (Vec V) DekuError} (Err x) (Err e) → e ≡ Io OutOfMemory → x ≡ Io OutOfMemory
       refused e x k d = cc
-  read_as_written v bytes behind c (Ok y) u ok fits gives room (Holds xs w p is k) = ap (λ z. z.items) (ok_is y w k) ∙ is ∙ found v bytes behind c (Ok xs) u ok fits gives room p
+  read_as_written v bytes behind c (Ok y) u ok fits gives room (ValueBy xs w p is k) = ap (λ z. z.items) (ok_is y w k) ∙ is ∙ found v bytes behind c (Ok xs) u ok fits gives room p
 
 -- ---- numbers without a sign
 pub unsigned_one : (m n : ℕ) → pos m ≡ pos n → m ≡ n

@@ -4,7 +4,7 @@ use Rattle.std.proofs.lemmas.Bool.{lt-ltb}
 use Rattle.std.specs.List.{All}
 use Rattle.deku_bits.specs.Standings.{Output}
 use Rattle.deku_bits.specs.Outcomes.{Meaning}
-use Rattle.deku_num.specs.Sizes.{fitting, both, bits_times}
+use Rattle.deku_num.specs.Sizes.{within_usize, both, bits_times}
 use Rattle.deku_num.specs.declared.kind.NumberType.{NumberType}
 use Rattle.deku_num.specs.declared.ctx.Layout.{Layout}
 use Rattle.deku_num.specs.NumberCalls.{WritesNumber, IsWhole}
@@ -19,7 +19,7 @@ fitted : (x n : ℕ) (p : Bool) → ltb x (2 ^ 64) ≡ p → cond p (Some x) Non
 fitted x n true a e = (cc, ltb-true x (2 ^ 64) a)
 fitted x n false a e = absurd (cc)
 
-fits : (x : ℕ) → x < 2 ^ 64 → fitting (Some x) ≡ Some x
+fits : (x : ℕ) → x < 2 ^ 64 → within_usize (Some x) ≡ Some x
 fits x h = ap (λ t. cond t (Some x) None) (lt-ltb x (2 ^ 64) h)
 
 -- so many bits, where they fit, are the size that is answered

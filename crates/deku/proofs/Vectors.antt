@@ -26,7 +26,7 @@ use Rattle.deku_num.proofs.FieldBits.{one_list}
 use Rattle.deku_meanings.specs.Composing.{Answered, Second, First}
 use Rattle.deku_writing.specs.Composing.{WritesEach}
 use Rattle.deku_reading.specs.Lists as lists
-use Rattle.deku_reading.specs.Lists.{AnswersEach, Runs, Ended, Stored, Put, NoMemory}
+use Rattle.deku_reading.specs.Lists.{AnswersEach, Runs, Ended, Stored}
 use Rattle.deku_reading.specs.Limits.{ReadsCount}
 use Rattle.deku.specs.VectorLaws.{GivesBytes}
 use Rattle.deku.proofs.Emitting.{Wrote, Done, Lacking, Full, emitted, followed_wrote}
@@ -71,8 +71,8 @@ module _ (t : NumberType) (l : Layout) (ok : IsAllowed t l) where
   -- ---- writing
   number_wrote : (v : ℤ) (p : Piece) → p.order ≡ l.order → IsFieldOf t l v p.bits → (out : Output) (c : ℕ) (r : Result (Unit {0}) DekuError) (u : Standing Output)
       → WritesNumber t l v false (Going out c) r u → Wrote (append p.order (shown p.order p.bits) out.pending) out c r u
-  number_wrote v p o f out c r u (Refused b (inl q)) = absurd (omega (arith, q.0, ok.within))
-  number_wrote v p o f out c r u (Refused b (inr q)) = absurd (q.1 ok.even)
+  number_wrote v p o f out c r u (Refused b (x, inl q, y)) = absurd (omega (arith, q.0, ok.within))
+  number_wrote v p o f out c r u (Refused b (x, inr q, y)) = absurd (q.1 ok.even)
   number_wrote v p o f out c r u (Passed (Refused b q)) = absurd (q.0 p.bits f)
   number_wrote v p o f out c r u (Passed (Passed q)) =
       let same : q.1.0 ≡ p.bits = one_list t l v q.1.0 p.bits ok q.1.1 f in
@@ -155,7 +155,8 @@ module _ (t : NumberType) (l : Layout) (ok : IsAllowed t l) where
       on : ((S : Stream) (d : ℕ) → Takes ps S T → d + length vs * width t l < 2 ^ 64 → AnswersEach (Stored (ReadsNumber t l)) xs (Going (Some S) d) u → TakenTo vs ps T xs u)
           → Stored (ReadsNumber t l) false (Going (Some S) c) (Ok x) y → TakenTo (v ∷ vs) (p ∷ ps) T (x ∷ xs) u
       on go (First e m q) = absurd (cc)
-      on go (Second w z m Put) =
+      on go (Second w z m (Refused b none)) = let d = none.0 in absurd (cc)
+      on go (Second w z m (Passed Answered)) =
           let here : c + n < 2 ^ 64 = omega (arith, room) in
           let it = next_is v p ps S T c x y a.0 here takes m in
           let after : c + n + length vs * n < 2 ^ 64 = omega (arith, room) in
@@ -188,14 +189,14 @@ module _ (t : NumberType) (l : Layout) (ok : IsAllowed t l) where
       let has : Has (width t l) S = subst (λ k. Has k S) (a.0.1.wide) takes.0 in
       let gives = number_gives t l S c ok (omega (arith, room)) has (Err x) u m in
       let no : Err x ≡ Ok _ = gives.0 in absurd (cc)
-  refused_for_memory (v ∷ vs) (p ∷ ps) T S c e u a takes some room (Second w z m NoMemory) = refl
+  refused_for_memory (v ∷ vs) (p ∷ ps) T S c e u a takes some room (Second w z m (Refused b none)) = let d = none.0 in cc
 
   read_back : (vs : List ℤ) (ps : List Piece) (S T : Stream) (c : ℕ) (r : Result (List ℤ) DekuError) (u : Standing (Option Stream)) → ArePiecesOf vs ps → Takes ps S T
       → c + length vs * width t l < 2 ^ 64 → ReadsCount (length vs) (ReadsNumber t l) false (Going (Some S) c) r u → (r ≡ Ok vs) ⊎ (r ≡ Err (Io OutOfMemory))
   read_back vs ps S T c r u a takes room (Ended xs turn long b e) =
       let it = taken_in_turn vs ps S T c xs u a takes room (omega (arith, long)) turn in
       inl (e ∙ ap (λ k. Ok k) (sym (all_of vs xs it.values (it.split) long)))
-  read_back vs ps S T c r u a takes room (lists.Refused xs y e turn less m q) =
+  read_back vs ps S T c r u a takes room (lists.NextRefused xs y e turn less m q) =
       let it = taken_in_turn vs ps S T c xs y a takes room (omega (arith, less)) turn in
       let none = refused_for_memory it.values it.rest T it.at it.count e u (it.are) (it.takes) (some_left vs xs it.values (it.split) less) (it.room)
       (subst (λ k. Stored (ReadsNumber t l) false k (Err e) u) (it.stands) m) in

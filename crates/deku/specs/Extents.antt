@@ -10,7 +10,7 @@ use Rattle.deku_num.specs.declared.kind.NumberType.{NumberType}
 use Rattle.deku_num.specs.declared.ctx.Layout.{Layout}
 use Rattle.deku_num.specs.NumberLaws.{InType}
 use Rattle.deku_num.specs.NumberCalls.{WritesNumber, IsWhole}
-use Rattle.deku_num.specs.Sizes.{fitting}
+use Rattle.deku_num.specs.Sizes.{within_usize}
 use Rattle.deku_meanings.specs.Composing.{Answer, Both}
 
 -- pieces are written one after the other
@@ -30,7 +30,7 @@ NumberSizeLaw = (t : NumberType) (l : Layout) (v : ℤ) → IsWhole t l v → Is
 
 -- where a call answers n as the size of a type, m writes exactly n bits
 pub record KeepsSize (size : Option ℕ) (m : Meaning Output (Unit {0})) : Type 0 where
-  pub answered : (n : ℕ) → fitting size ≡ Some n → IsSized n m
+  pub answered : (n : ℕ) → within_usize size ≡ Some n → IsSized n m
 
 -- each value of a number type, standing for an integer, is written as exactly the bits that its size answers
 abbrev pub NumbersKeepSize : {V : Type 0} → NumberType → (V → ℤ) → Option ℕ → (V → Meaning Output (Unit {0})) → Type 0

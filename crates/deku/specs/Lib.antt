@@ -10,6 +10,7 @@ pub use Rattle.deku_bits.specs.ReaderCalls
 pub use Rattle.deku_bits.specs.WriterCalls
 pub use Rattle.deku_bits.specs.Faults
 pub use Rattle.deku_bits.specs.Cursors
+pub use Rattle.deku_bits.specs.Overlays
 pub use Rattle.deku_bits.specs.Seeking
 pub use Rattle.deku_num.specs.Numbers
 pub use Rattle.deku_num.specs.NumberLaws

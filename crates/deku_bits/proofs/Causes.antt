@@ -9,7 +9,7 @@ use Rattle.deku_stream.specs.Standings.{Standing, Going, Stopped}
 use Rattle.deku_stream.specs.Streams.{Stream}
 use Rattle.deku_stream.specs.Writers.{Pending, Written, append, finalized}
 use Rattle.deku_stream.specs.Outcomes.{Meaning, Outcome, Quiet, Broken, UnlessStopped, Counted, Reserving, Mapped, Value, Refusal}
-use Rattle.deku_reader.specs.ReaderCalls.{Ends, Transfers, Takes, ReadsVec, Peeks, Skipping}
+use Rattle.deku_reader.specs.ReaderCalls.{Ends, Transfers, TakesBits, ReadsVec, Peeks, Skipping}
 use Rattle.deku_writer.specs.WriterCalls.{GivesOut, Emits, WritesWord}
 use Rattle.deku_bits.specs.Causes.{KeepsIo, NoKind, WantsMemory, WantsPlace, OwnFaults, Caused, CauseLaw}
 
@@ -60,7 +60,7 @@ mapped own h m f s r u k (Value v p e) (inr q) = f s (Ok v) u k p (inr q)
 mapped own h m f s r u k (Refusal x p e) (inl q) = f s (Err x) u k p (inl cc)
 mapped own h m f s r u k (Refusal x p e) (inr q) = f s (Err x) u k p (inr q)
 
-takes : (o : Order) (n : ℕ) → OwnFaults NoKind (Takes o n)
+takes : (o : Order) (n : ℕ) → OwnFaults NoKind (TakesBits o n)
 takes o n = unless_stopped NoKind _ (counted NoKind n (Transfers o n) (transfers NoKind o n))
 
 vecs : (o : Order) (n : ℕ) → OwnFaults WantsMemory (ReadsVec o n)

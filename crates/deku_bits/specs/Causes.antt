@@ -8,7 +8,7 @@ use Rattle.deku_stream.specs.declared.error.DekuError.{DekuError}
 use Rattle.deku_device.specs.Devices.{Health, MoreFailures}
 use Rattle.deku_stream.specs.Standings.{Standing, Going, Stopped}
 use Rattle.deku_stream.specs.Outcomes.{Meaning}
-use Rattle.deku_reader.specs.ReaderCalls.{Takes, ReadsBits, ReadsVec, ReadsBytes, ReadsByteVec, ReadsWord, Ending, Skips}
+use Rattle.deku_reader.specs.ReaderCalls.{TakesBits, ReadsBits, ReadsVec, ReadsBytes, ReadsByteVec, ReadsWord, Ending, Skips}
 use Rattle.deku_writer.specs.WriterCalls.{WritesBits, WritesWord, Finalizes}
 
 -- it has stopped by a fault of this kind
@@ -39,7 +39,7 @@ Caused own s f r g = (k : ErrorKind) → r ≡ Err (Io k) → MoreFailures f g �
 
 -- The calls of a reader have no `Io` of their own, but that those that take memory may want it; and those of a writer none but want of memory and of room.
 abbrev pub CauseLaw : Type 0
-CauseLaw = ((o : Order) (n : ℕ) → OwnFaults NoKind (Takes o n) × OwnFaults NoKind (ReadsBits o n) × OwnFaults WantsMemory (ReadsVec o n)
+CauseLaw = ((o : Order) (n : ℕ) → OwnFaults NoKind (TakesBits o n) × OwnFaults NoKind (ReadsBits o n) × OwnFaults WantsMemory (ReadsVec o n)
     × OwnFaults NoKind (ReadsBytes o n) × OwnFaults NoKind (ReadsWord o n) × OwnFaults NoKind (Skips o n) × OwnFaults WantsMemory (ReadsByteVec o n))
     × OwnFaults NoKind Ending
     × ((o : Order) (bits : List Bool) → OwnFaults WantsPlace (WritesBits o bits))

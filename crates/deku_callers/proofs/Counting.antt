@@ -10,7 +10,7 @@ use Rattle.deku_bits.specs.Standings.{count_of}
 use Rattle.deku_bits.specs.Outcomes.{Meaning}
 use Rattle.deku.specs.declared.ctx.Limit.{Limit}
 use Rattle.deku.specs.declared.ctx.Limit.TheVariants.{Count}
-use Rattle.deku.specs.Limits.{ReadsCount, ReadsUnder, Held, Holds, NotHeld}
+use Rattle.deku.specs.Limits.{ReadsCount, ReadsUnder, MappedBy, ValueBy, RefusalBy}
 use Rattle.deku_symmetry.specs.Symmetric.{breadth}
 use Rattle.deku_symmetry.specs.Pieces.{OfEach, SameEach}
 use Rattle.deku_symmetry.specs.Packs.{InStep, Unpacks}
@@ -71,23 +71,23 @@ module _ {V C : Type 0} (P : V → List Piece → Type 0) (same : V → V → Ty
   ok_is : (c d : C) → ◌≡◌ {A = Result C DekuError} (Ok c) (Ok d) → c ≡ d
   ok_is c d q = cc
 
-  collected : (vs : List V) (laid : AreLaid P vs) (bytes : List ℕ) → bytes ≡ laid_out laid.pieces → (r : Result (ℕ × C) DekuError) → Unpacks (Held makes (ReadsCount (length vs) m)) bytes r
+  collected : (vs : List V) (laid : AreLaid P vs) (bytes : List ℕ) → bytes ≡ laid_out laid.pieces → (r : Result (ℕ × C) DekuError) → Unpacks (MappedBy makes (ReadsCount (length vs) m)) bytes r
       → MatchResult r (λ p. makes vs p.1) (λ e. e ≡ Io OutOfMemory)
-  collected vs laid bytes is (Ok p) (u, Holds xs c read made q, count) =
+  collected vs laid bytes is (Ok p) (u, ValueBy xs c read made q, count) =
       let found = back (length vs) bytes (Ok (count_of u, xs)) (u, read, refl) vs laid.pieces [] (refl, laid.has) laid.in_turn (is ∙ sym (append-nil (laid_out laid.pieces))) laid.small in
       let here : makes xs p.1 = subst (makes xs) (sym (ok_is p.1 c q)) made in
       subst (λ ys. makes ys p.1) (same_list same equal vs xs found.1) here
-  collected vs laid bytes is (Ok p) (u, NotHeld e refused q, count) = absurd (cc)
-  collected vs laid bytes is (Err e) (u, Holds xs c read made q) = absurd (cc)
-  collected vs laid bytes is (Err e) (u, NotHeld d refused q) =
+  collected vs laid bytes is (Ok p) (u, RefusalBy e refused q, count) = absurd (cc)
+  collected vs laid bytes is (Err e) (u, ValueBy xs c read made q) = absurd (cc)
+  collected vs laid bytes is (Err e) (u, RefusalBy d refused q) =
       let none = back (length vs) bytes (Err d) (u, refused) vs laid.pieces [] (refl, laid.has) laid.in_turn (is ∙ sym (append-nil (laid_out laid.pieces))) laid.small in
       err_is e d q ∙ none
 
   pub made : {Q : Type 0} (answers : Q → V → Bool → Q → Type 0) (ended : Q → Type 0) (limit : Limit V Q) (n : ℕ) (vs : List V) (laid : AreLaid P vs) (bytes : List ℕ) → limit ≡ Count n → n ≡ length vs
-      → bytes ≡ laid_out laid.pieces → (r : Result (ℕ × C) DekuError) → Unpacks (Held makes (ReadsUnder answers ended limit m)) bytes r → MatchResult r (λ p. makes vs p.1) (λ e. e ≡ Io OutOfMemory)
+      → bytes ≡ laid_out laid.pieces → (r : Result (ℕ × C) DekuError) → Unpacks (MappedBy makes (ReadsUnder answers ended limit m)) bytes r → MatchResult r (λ p. makes vs p.1) (λ e. e ≡ Io OutOfMemory)
   made {Q} answers ended limit n vs laid bytes counts many is r unpacks =
       let count : limit ≡ Count (length vs) = counts ∙ ap (λ k. Count k) many in
-      collected vs laid bytes is r (subst (λ l. Unpacks (Held makes (ReadsUnder answers ended l m)) bytes r) count unpacks)
+      collected vs laid bytes is r (subst (λ l. Unpacks (MappedBy makes (ReadsUnder answers ended l m)) bytes r) count unpacks)
 
 -- ---- numbers behind a byte that counts them
 -- such bytes are a record of the numbers

@@ -20,7 +20,7 @@ use Rattle.deku_fields.specs.declared.list.Number.{Number}
 use Rattle.deku_fields.specs.declared.list.Field.{Field}
 use Rattle.deku_fields.specs.declared.list.Item.{Item}
 use Rattle.deku_fields.specs.Items.{IsFitting, AlignedFields, LaysOut, field_shape, fields_of, values_of}
-use Rattle.deku_fields.specs.ListCalls.{ReadsFields, ReadsVec, WritesItems}
+use Rattle.deku_fields.specs.ListCalls.{ReadsFields, ReadsList, WritesItems}
 use Rattle.deku_fields.specs.Cuts.{Looking, ReadsParts, ReadPartsLaw}
 use Rattle.deku_fields.specs.Headline.{LayoutLaw}
 use Rattle.deku_fields.specs.Promise.{Begins, IsCountable, ReadBackLaw, PaddedLaw}
@@ -41,12 +41,12 @@ values_are : (x y : List Number) → ◌≡◌ {A = Result (List Number) DekuErr
 values_are x y e = cc
 
 -- values that are answered are those of fields that were read
-got : (fs : List Field) (s u : Standing (Option Stream)) (ns : List Number) → ReadsVec fs false s (Ok ns) u → ReadsFields fs false s (Ok ns) u
+got : (fs : List Field) (s u : Standing (Option Stream)) (ns : List Number) → ReadsList fs false s (Ok ns) u → ReadsFields fs false s (Ok ns) u
 got fs s u ns (inl p) = let other = p.1 in absurd (cc)
 got fs s u ns (inr m) = m
 
 -- behind a look fields are read, or no memory is found
-looked : (fs : List Field) (s u : Standing (Option Stream)) (r : Result (List Number) DekuError) → Then Ending (λ _. ReadsVec fs) false s r u
+looked : (fs : List Field) (s u : Standing (Option Stream)) (r : Result (List Number) DekuError) → Then Ending (λ _. ReadsList fs) false s r u
     → (r ≡ Err (Io OutOfMemory)) ⊎ Looking 1 (ReadsFields fs) false s r u
 looked fs s u r (Second end t look (inl p)) = inl p.1
 looked fs s u r (Second end t look (inr m)) = inr (Second end t look m)
@@ -73,8 +73,8 @@ module _ (parts_law : ReadPartsLaw) (back : ReadBackLaw) (fs gs hs : List Field)
       → ReadsParts parts false start (Err e) u → e ≡ Io OutOfMemory
   none_refused items after b room e u m = let other = answer items after b room (Err e) u m in absurd (cc)
 
-  pub all_read : (v : Vec Number × Vec Number × Vec Number) (s t u : Standing (Option Stream)) → ReadsVec fs false start (Ok v.0.items) s
-      → Then Ending (λ _. ReadsVec gs) false s (Ok v.1.items) t → Then Ending (λ _. ReadsVec hs) false t (Ok v.2.items) u → ReadsInThree all bytes (Ok v)
+  pub all_read : (v : Vec Number × Vec Number × Vec Number) (s t u : Standing (Option Stream)) → ReadsList fs false start (Ok v.0.items) s
+      → Then Ending (λ _. ReadsList gs) false s (Ok v.1.items) t → Then Ending (λ _. ReadsList hs) false t (Ok v.2.items) u → ReadsInThree all bytes (Ok v)
   all_read v s t u one two three items after b room =
       let first : ReadsFields fs false start (Ok v.0.items) s = got fs start s v.0.items one in
       elim (looked gs s t (Ok v.1.items) two) [
@@ -89,19 +89,19 @@ module _ (parts_law : ReadPartsLaw) (back : ReadBackLaw) (fs gs hs : List Field)
         ]
       ]
 
-  pub first_refused : (e : DekuError) (u : Standing (Option Stream)) → ReadsVec fs false start (Err e) u → ReadsInThree all bytes (Err e)
+  pub first_refused : (e : DekuError) (u : Standing (Option Stream)) → ReadsList fs false start (Err e) u → ReadsInThree all bytes (Err e)
   first_refused e u (inl p) items after b room = let is = p.1 in cc
   first_refused e u (inr m) items after b room = none_refused items after b room e u (First e m refl)
 
-  pub second_refused : (ns : List Number) (s : Standing (Option Stream)) (e : DekuError) (u : Standing (Option Stream)) → ReadsVec fs false start (Ok ns) s
-      → Then Ending (λ _. ReadsVec gs) false s (Err e) u → ReadsInThree all bytes (Err e)
+  pub second_refused : (ns : List Number) (s : Standing (Option Stream)) (e : DekuError) (u : Standing (Option Stream)) → ReadsList fs false start (Ok ns) s
+      → Then Ending (λ _. ReadsList gs) false s (Err e) u → ReadsInThree all bytes (Err e)
   second_refused ns s e u one two items after b room = elim (looked gs s u (Err e) two) [
     | inl is ↦ cc
     | inr m ↦ none_refused items after b room e u (Second ns s (got fs start s ns one) (Refusal e (First e m refl) refl))
   ]
 
-  pub third_refused : (ns ms : List Number) (s t : Standing (Option Stream)) (e : DekuError) (u : Standing (Option Stream)) → ReadsVec fs false start (Ok ns) s
-      → Then Ending (λ _. ReadsVec gs) false s (Ok ms) t → Then Ending (λ _. ReadsVec hs) false t (Err e) u → ReadsInThree all bytes (Err e)
+  pub third_refused : (ns ms : List Number) (s t : Standing (Option Stream)) (e : DekuError) (u : Standing (Option Stream)) → ReadsList fs false start (Ok ns) s
+      → Then Ending (λ _. ReadsList gs) false s (Ok ms) t → Then Ending (λ _. ReadsList hs) false t (Err e) u → ReadsInThree all bytes (Err e)
   third_refused ns ms s t e u one two three items after b room = elim (looked gs s t (Ok ms) two) [
     | inl other ↦ absurd (cc)
     | inr second ↦ elim (looked hs t u (Err e) three) [

@@ -10,7 +10,7 @@ use Rattle.deku_bits.specs.Pieces.{Piece, cleared, last_order}
 use Rattle.deku_fields.specs.declared.list.Number.{Number}
 use Rattle.deku_fields.specs.declared.list.Field.{Field}
 use Rattle.deku_fields.specs.declared.list.Item.{Item}
-use Rattle.deku_fields.specs.Items.{IsFitting, IsAllowedField, ArePieces, AlignedFields, Reads, field_shape, fields_of, values_of}
+use Rattle.deku_fields.specs.Items.{IsFitting, IsAllowedField, ArePieces, AlignedFields, ReadsValues, field_shape, fields_of, values_of}
 use Rattle.deku_fields.specs.Headline.{LayoutLaw, BackLaw}
 use Rattle.deku_fields.specs.Promise.{IsCountable, WritesBack}
 use Rattle.deku_callers.specs.Rewriting.{WritesTaken}
@@ -39,7 +39,7 @@ fitting (i ∷ is) (p ∷ ps) allowed are =
 
 -- the bits of what was read can be counted, where those of the bytes can
 countable : BackLaw → LayoutLaw → (items : List Item) (bytes : List ℕ) (T : Stream) → All IsAllowedField (fields_of items) → AlignedFields (fields_of items)
-    → All (λ b. b < 256) bytes → Reads (fields_of items) (fresh bytes) (values_of items) T → 8 * length bytes < 2 ^ 64 → IsCountable items
+    → All (λ b. b < 256) bytes → ReadsValues (fields_of items) (fresh bytes) (values_of items) T → 8 * length bytes < 2 ^ 64 → IsCountable items
 countable back layout items bytes T allowed aligned bounded reads room out laid =
     let b = back items bytes T aligned bounded reads in
     let l = layout items (fitting items b.0 allowed b.1) in
@@ -50,21 +50,21 @@ countable back layout items bytes T allowed aligned bounded reads room out laid 
 
 -- items of fields and of the values that they found are written as the bytes taken
 items_taken : BackLaw → LayoutLaw → (items : List Item) (bytes : List ℕ) (r : Result (Vec ℕ) DekuError) → All (λ b. b < 256) bytes → All IsAllowedField (fields_of items)
-    → (T : Stream) → Reads (fields_of items) (fresh bytes) (values_of items) T → WritesBack items r → WritesTaken (fields_of items) bytes r
+    → (T : Stream) → ReadsValues (fields_of items) (fresh bytes) (values_of items) T → WritesBack items r → WritesTaken (fields_of items) bytes r
 items_taken back layout items bytes (Err e) bounded allowed T reads writes aligned room = tt
 items_taken back layout items bytes (Ok v) bounded allowed T reads writes aligned room =
     let small : IsCountable items = countable back layout items bytes T allowed aligned bounded reads room in
     record { values = values_of items; rest = T; read = reads; same = writes bytes T allowed aligned small bounded reads }
 
 pub written_again : BackLaw → LayoutLaw → (fs : List Field) (bytes : List ℕ) (values : List Number) (items : List Item) (r : Result (Vec ℕ) DekuError) → All (λ b. b < 256) bytes
-    → fields_of items ≡ fs → values_of items ≡ values → All IsAllowedField fs → (T : Stream) → Reads fs (fresh bytes) values T → WritesBack items r → WritesTaken fs bytes r
+    → fields_of items ≡ fs → values_of items ≡ values → All IsAllowedField fs → (T : Stream) → ReadsValues fs (fresh bytes) values T → WritesBack items r → WritesTaken fs bytes r
 written_again back layout fs bytes values items r bounded same_fields same_values allowed T reads writes =
     subst (λ x. WritesTaken x bytes r) same_fields
     (items_taken back layout items bytes r bounded (subst (All IsAllowedField) (sym same_fields) allowed) T
-    (subst (λ x. Reads x (fresh bytes) (values_of items) T) (sym same_fields) (subst (λ x. Reads fs (fresh bytes) x T) (sym same_values) reads)) writes)
+    (subst (λ x. ReadsValues x (fresh bytes) (values_of items) T) (sym same_fields) (subst (λ x. ReadsValues fs (fresh bytes) x T) (sym same_values) reads)) writes)
 
 -- as many values are read as there are fields
-pub read_length : (fs : List Field) (S : Stream) (ns : List Number) (T : Stream) → Reads fs S ns T → length ns ≡ length fs
+pub read_length : (fs : List Field) (S : Stream) (ns : List Number) (T : Stream) → ReadsValues fs S ns T → length ns ≡ length fs
 read_length [] S [] T r = refl
 read_length [] S (n ∷ ns) T r = absurd r
 read_length (f ∷ fs) S [] T r = absurd r

@@ -7,13 +7,13 @@ use Rattle.deku_bits.specs.Streams.{Stream, fresh}
 use Rattle.deku_bits.specs.Pieces.{cleared, last_order}
 use Rattle.deku_fields.specs.declared.list.Number.{Number}
 use Rattle.deku_fields.specs.declared.list.Field.{Field}
-use Rattle.deku_fields.specs.Items.{AlignedFields, Reads, field_shape}
+use Rattle.deku_fields.specs.Items.{AlignedFields, ReadsValues, field_shape}
 
 -- these bytes are those that the fields took from others, unread bits zero
 pub record AreTaken (fs : List Field) (bytes out : List ℕ) : Type 0 where
   pub values : List Number
   pub rest : Stream
-  pub read : Reads fs (fresh bytes) values rest
+  pub read : ReadsValues fs (fresh bytes) values rest
   pub same : out ≡ cleared (last_order Msb0 (map field_shape fs)) (length rest.window) (take (length bytes - length rest.bytes) bytes)
 
 -- fields whose orders change only at byte boundaries, and bytes whose bits can be counted: what was read and written is the bytes taken

@@ -7,7 +7,7 @@ ghost use Rattle.deku_fields.specs.declared.list.Number.TheVariants.{Unsigned, S
 ghost use Rattle.deku_bits.specs.ReaderCalls.{Reads, Ending};
 ghost use Rattle.deku_bits.specs.WriterCalls.{Writes};
 ghost use Rattle.deku.specs.Composing.{Then};
-ghost use Rattle.deku_fields.specs.ListCalls.{ReadsVec, WritesItems, items_of};
+ghost use Rattle.deku_fields.specs.ListCalls.{ReadsList, WritesItems};
 ghost use Rattle.deku_fields.specs.Promise.{LaidOut};
 ghost use Rattle.deku_callers.specs.InThree.{ReadsInThree};
 
@@ -51,7 +51,7 @@ fn look_and_read<R: Source>(
     reader: &mut Reader<R>,
     fields: &[Field],
 ) -> Result<Vec<Number>, DekuError>
-    ensures { Reads R.told (Then Ending (λ _. ReadsVec fields.now)) reader.old (items_of result) reader.new }
+    ensures { Reads R.told (Then Ending (λ _. ReadsList fields.now)) reader.old (items_of result) reader.new }
 {
     match reader.end() {
         Ok(_at_end) => read_list(reader, fields),

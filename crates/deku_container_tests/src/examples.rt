@@ -20,7 +20,7 @@ pub struct Node {
 impl DekuReader<()> for Node {
     ghost use Rattle.std.specs.Prelude.{◌≡◌};
     ghost use Rattle.deku.specs.declared.ctx.Order.TheVariants.{Lsb0};
-    ghost use Rattle.deku.specs.Composing.{Answer, Then};
+    ghost use Rattle.deku.specs.Composing.{Answer, Then, JoinedBy};
 
     ghost accepts = { λ c. c ≡ c };
 
@@ -200,7 +200,6 @@ pub struct LsbField {
 impl DekuReader<()> for LsbField {
     ghost use Rattle.std.specs.Prelude.{◌≡◌};
     ghost use Rattle.deku.specs.declared.ctx.Order.TheVariants.{Lsb0};
-    ghost use Rattle.deku.specs.Shapes.{JoinedBy};
 
     ghost accepts = { λ c. c ≡ c };
 

@@ -152,7 +152,6 @@ pub struct Nine {
 
 impl DekuReader<()> for Nine {
     ghost use Rattle.std.specs.Prelude.{◌≡◌};
-    ghost use Rattle.deku.specs.Shapes.{JoinedBy};
 
     ghost accepts = { λ c. c ≡ c };
 
@@ -172,7 +171,7 @@ impl DekuReader<()> for Nine {
 
 impl DekuWriter<()> for Nine {
     ghost use Rattle.std.specs.Prelude.{◌≡◌};
-    ghost use Rattle.deku.specs.Composing.{Both};
+    ghost use Rattle.deku.specs.Composing.{Both, JoinedBy};
 
     ghost accepts = { λ c. c ≡ c };
 

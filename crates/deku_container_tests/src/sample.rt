@@ -17,7 +17,6 @@ pub struct Sample {
 
 impl DekuReader<()> for Sample {
     ghost use Rattle.std.specs.Prelude.{◌≡◌};
-    ghost use Rattle.deku.specs.Shapes.{JoinedBy};
     ghost use Rattle.deku.specs.declared.ctx.Endian.TheVariants.{Big};
 
     ghost accepts = { λ c. c ≡ c };
@@ -44,7 +43,7 @@ impl DekuReader<()> for Sample {
 
 impl DekuWriter<()> for Sample {
     ghost use Rattle.std.specs.Prelude.{◌≡◌};
-    ghost use Rattle.deku.specs.Composing.{Both};
+    ghost use Rattle.deku.specs.Composing.{Both, JoinedBy};
     ghost use Rattle.deku.specs.declared.ctx.Endian.TheVariants.{Big};
 
     ghost accepts = { λ c. c ≡ c };

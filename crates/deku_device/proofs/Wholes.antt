@@ -10,7 +10,8 @@ use Rattle.std.specs.Io.Cursor.{IsSeekResult, IsSeekFromEnd}
 use Rattle.std.specs.declared.io.SeekFrom.{SeekFrom}
 use Rattle.std.specs.declared.io.SeekFrom.TheVariants.{Start, End, Current}
 use Rattle.deku_device.specs.Seeking.{LeadsNowhere}
-use Rattle.deku_device.specs.Cursors.{read_whole, laid_over, fitting, reaching, failures_at}
+use Rattle.deku_device.specs.Cursors.{read_whole, fitting_front, reaching, failures_at}
+use Rattle.deku_device.specs.Overlays.{overlaid}
 
 changes_on : (a : Access) (x y z : List ℕ) → Changes a x y → Changes a y z → Changes a x z
 changes_on ReadOnly x y z p q = q ∙ p
@@ -92,27 +93,27 @@ read_onward p q (Some x) (Some y) e le = let same : y ≡ x = cc in inr (record 
 })
 
 -- bytes over a slice
-over_slice : (a : List ℕ) (p : ℕ) (bytes : List ℕ) → (length (laid_over a p (fitting a p bytes)) ≡ length a)
-    × (drop (p + length (fitting a p bytes)) (laid_over a p (fitting a p bytes)) ≡ drop (p + length (fitting a p bytes)) a)
+over_slice : (a : List ℕ) (p : ℕ) (bytes : List ℕ) → (length (overlaid a p (fitting_front a p bytes)) ≡ length a)
+    × (drop (p + length (fitting_front a p bytes)) (overlaid a p (fitting_front a p bytes)) ≡ drop (p + length (fitting_front a p bytes)) a)
 over_slice a p bytes =
-    let n : length (fitting a p bytes) ≡ min (length a - p) (length bytes) = length-take (length a - p) bytes in
-    let all : length (laid_over a p (fitting a p bytes)) ≡ length a = simp (length-append, length-take, length-drop) (omega arith) in (
+    let n : length (fitting_front a p bytes) ≡ min (length a - p) (length bytes) = length-take (length a - p) bytes in
+    let all : length (overlaid a p (fitting_front a p bytes)) ≡ length a = simp (length-append, length-take, length-drop) (omega arith) in (
       all,
       ⊎_elim
-          (λ (past : length a < p). let none : length (fitting a p bytes) ≡ 0 = omega arith in
-          drop_all (p + length (fitting a p bytes)) (laid_over a p (fitting a p bytes)) (omega arith) ∙ sym (drop_all (p + length (fitting a p bytes)) a (omega arith)))
-          (λ (inside : p ≤ length a). let front : length (take p a ++ fitting a p bytes) ≡ p + length (fitting a p bytes) = length-append (take p a) (fitting a p bytes) ∙ ap (λ k. k + length (fitting a p bytes)) (length-take-le p a inside) in
-          drop_at (take p a ++ fitting a p bytes) (drop (p + length (fitting a p bytes)) a) (p + length (fitting a p bytes)) front)
+          (λ (past : length a < p). let none : length (fitting_front a p bytes) ≡ 0 = omega arith in
+          drop_all (p + length (fitting_front a p bytes)) (overlaid a p (fitting_front a p bytes)) (omega arith) ∙ sym (drop_all (p + length (fitting_front a p bytes)) a (omega arith)))
+          (λ (inside : p ≤ length a). let front : length (take p a ++ fitting_front a p bytes) ≡ p + length (fitting_front a p bytes) = length-append (take p a) (fitting_front a p bytes) ∙ ap (λ k. k + length (fitting_front a p bytes)) (length-take-le p a inside) in
+          drop_at (take p a ++ fitting_front a p bytes) (drop (p + length (fitting_front a p bytes)) a) (p + length (fitting_front a p bytes)) front)
           (cases_lt (length a) p),
     )
 
 -- as many bytes as fit were laid over a slice
-pub slice_onward : (a b : List ℕ) (p q : ℕ) (bytes : List ℕ) → b ≡ laid_over a p (fitting a p bytes) → q ≡ p + length (fitting a p bytes)
+pub slice_onward : (a b : List ℕ) (p q : ℕ) (bytes : List ℕ) → b ≡ overlaid a p (fitting_front a p bytes) → q ≡ p + length (fitting_front a p bytes)
     → GoesOnward (Some (record { place = p; bytes = a; access = Overwritten })) (Some (record { place = q; bytes = b; access = Overwritten }))
 slice_onward a b p q bytes e n = let over = over_slice a p bytes in inr (record {
   access = refl;
   place = omega arith;
-  front = (fitting a p bytes ++ drop (p + length (fitting a p bytes)) a, e ∙ append_assoc (take p a) (fitting a p bytes) (drop (p + length (fitting a p bytes)) a));
+  front = (fitting_front a p bytes ++ drop (p + length (fitting_front a p bytes)) a, e ∙ append_assoc (take p a) (fitting_front a p bytes) (drop (p + length (fitting_front a p bytes)) a));
   back = rw (e, n) (over.1);
   size = rw e (over.0);
 })
@@ -136,13 +137,13 @@ behind_reached a p n = ⊎_elim
     (cases_lt (length a) p)
 
 -- bytes were laid over a vector
-pub vector_onward : (a b : List ℕ) (p q : ℕ) (bytes : List ℕ) → b ≡ laid_over (reaching p a) p bytes → q ≡ p + length bytes
+pub vector_onward : (a b : List ℕ) (p q : ℕ) (bytes : List ℕ) → b ≡ overlaid (reaching p a) p bytes → q ≡ p + length bytes
     → GoesOnward (Some (record { place = p; bytes = a; access = Grows })) (Some (record { place = q; bytes = b; access = Grows }))
 vector_onward a b p q bytes e n =
     let r = reached a p in
     let front : length (take p (reaching p a) ++ bytes) ≡ p + length bytes = length-append (take p (reaching p a)) bytes ∙ ap (λ k. k + length bytes) (r.0) in
     let tail : List ℕ = drop (p + length bytes) (reaching p a) in
-    let back : drop (p + length bytes) (laid_over (reaching p a) p bytes) ≡ drop (p + length bytes) a =
+    let back : drop (p + length bytes) (overlaid (reaching p a) p bytes) ≡ drop (p + length bytes) a =
     drop_at (take p (reaching p a) ++ bytes) tail (p + length bytes) front ∙ behind_reached a p (length bytes) in
     inr (record {
       access = refl;
@@ -176,14 +177,14 @@ at_end (Some all) p i q xs k n c f =
     omega (arith, k, n, whole, f, length-drop p all)
 
 -- no bytes are laid over nothing
-laid_nil : (a : List ℕ) (p : ℕ) (f : List ℕ) → f ≡ [] → laid_over a p f ≡ a
+laid_nil : (a : List ℕ) (p : ℕ) (f : List ℕ) → f ≡ [] → overlaid a p f ≡ a
 laid_nil a p f e = let past : p + 0 ≡ p = omega arith in rw (e, past, append-nil (take p a)) (take-append-drop p a)
 
 -- neither is a byte that does not fit
-pub laid_none : (a : List ℕ) (p b : ℕ) → length (drop p a) < 1 → laid_over a p (fitting a p (b ∷ [])) ≡ a
+pub laid_none : (a : List ℕ) (p b : ℕ) → length (drop p a) < 1 → overlaid a p (fitting_front a p (b ∷ [])) ≡ a
 laid_none a p b short =
-    let none : length (fitting a p (b ∷ [])) ≡ 0 = omega (arith, short, length-drop p a, length-take (length a - p) (b ∷ [])) in
-    laid_nil a p (fitting a p (b ∷ [])) (nil_from_length (fitting a p (b ∷ [])) none)
+    let none : length (fitting_front a p (b ∷ [])) ≡ 0 = omega (arith, short, length-drop p a, length-take (length a - p) (b ∷ [])) in
+    laid_nil a p (fitting_front a p (b ∷ [])) (nil_from_length (fitting_front a p (b ∷ [])) none)
 
 -- how many bytes fitted, where i were given and none is left to fit
 pub fitted : (a x : List ℕ) (p i n : ℕ) → n ≡ i → n ≤ length (drop p a) → x ≡ drop n (drop p a) → length x < 1 → length a - p ≡ i

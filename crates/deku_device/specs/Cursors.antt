@@ -75,13 +75,9 @@ vector_told c = record {
   health = record { failures = Some 0; lenders = []; whole = vector_whole c };
 }
 
--- bytes with others laid over those from a place on
-abbrev pub laid_over : List ℕ → ℕ → List ℕ → List ℕ
-laid_over all place bytes = take place all ++ bytes ++ drop (place + length bytes) all
-
--- as many of the bytes as fit behind a place
-abbrev pub fitting : List ℕ → ℕ → List ℕ → List ℕ
-fitting all place bytes = take (length all - place) bytes
+-- the front of the bytes, as many as fit behind a place
+abbrev pub fitting_front : List ℕ → ℕ → List ℕ → List ℕ
+fitting_front all place bytes = take (length all - place) bytes
 
 -- bytes with zeros behind them, as many as they lack up to a place
 abbrev pub reaching : ℕ → List ℕ → List ℕ

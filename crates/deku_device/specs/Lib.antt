@@ -1,3 +1,4 @@
 pub mod Devices
+pub mod Overlays
 pub mod Cursors
 pub mod Seeking

@@ -10,7 +10,8 @@ ghost use Rattle.std.specs.IoError.{error_kind};
 ghost use Rattle.std.specs.Vec.{vec_len, vec_capacity};
 ghost use Rattle.std.specs.Io.Seek.{SeekMoves};
 ghost use Rattle.deku_device.specs.Devices.{SourceTold, SinkTold, untold_source, untold_sink, NoFewerFailures, MoreFailures, FewerThan, Passes, StaysEmpty, BeginsWith, bytes_before, Gave, Declined};
-ghost use Rattle.deku_device.specs.Cursors.{cursor_told, cursor_source, slice_told, vector_told, laid_over, fitting, reaching};
+ghost use Rattle.deku_device.specs.Cursors.{cursor_told, cursor_source, slice_told, vector_told, fitting_front, reaching};
+ghost use Rattle.deku_device.specs.Overlays.{overlaid};
 ghost use Rattle.deku_device.specs.Seeking.{place_on, Seeks, RefusedSeek, ComesFrom, StandsAt};
 
 use std::alloc::AllocError;
@@ -427,8 +428,8 @@ impl Sink for Cursor<&mut [u8]> {
         ensures ok { OnOk result (Gave (slice_told self.old) (slice_told self.new) bytes.now) }
         ensures err { IfErr result (λ e. Declined (slice_told self.old) (slice_told self.new) (length bytes.now) (error_kind e)) }
         // As many of the bytes as fit are laid over those that lie there, also where it is refused.
-        ensures written { (cursor_inner self.new).now ≡ laid_over (cursor_inner self.old).now (cursor_position self.old) (fitting (cursor_inner self.old).now (cursor_position self.old) bytes.now) }
-        ensures place { cursor_position self.new ≡ cursor_position self.old + length (fitting (cursor_inner self.old).now (cursor_position self.old) bytes.now) }
+        ensures written { (cursor_inner self.new).now ≡ overlaid (cursor_inner self.old).now (cursor_position self.old) (fitting_front (cursor_inner self.old).now (cursor_position self.old) bytes.now) }
+        ensures place { cursor_position self.new ≡ cursor_position self.old + length (fitting_front (cursor_inner self.old).now (cursor_position self.old) bytes.now) }
     {
         let place = self.position();
         let all = self.get_mut();
@@ -446,7 +447,7 @@ impl Sink for Cursor<&mut [u8]> {
         ensures gave { IsTrue result → Gave (slice_told self.old) (slice_told self.new) (take n eight) }
         ensures stays { IsFalse result → self.new ≡ self.old }
         // The bytes are laid over those that lie there.
-        ensures written { IsTrue result → (cursor_inner self.new).now ≡ laid_over (cursor_inner self.old).now (cursor_position self.old) (take n eight) }
+        ensures written { IsTrue result → (cursor_inner self.new).now ≡ overlaid (cursor_inner self.old).now (cursor_position self.old) (take n eight) }
         ensures place { IsTrue result → cursor_position self.new ≡ cursor_position self.old + n }
         ensures room { IsTrue result ↔ (cursor_position self.old + 8 ≤ length (cursor_inner self.old).now) }
     {
@@ -479,7 +480,7 @@ impl Sink for Cursor<Vec<u8>> {
         ensures ok { OnOk result (Gave (vector_told self.old) (vector_told self.new) bytes.now) }
         ensures err { IfErr result (λ e. error_kind e ≡ ErrorKind.OutOfMemory) }
         // The bytes are laid over those that lie there, behind zeros where the place is past the end; what is behind them stays.
-        ensures written { OnOk result ((cursor_inner self.new).items ≡ laid_over (reaching (cursor_position self.old) (cursor_inner self.old).items) (cursor_position self.old) bytes.now) }
+        ensures written { OnOk result ((cursor_inner self.new).items ≡ overlaid (reaching (cursor_position self.old) (cursor_inner self.old).items) (cursor_position self.old) bytes.now) }
         ensures place { OnOk result (cursor_position self.new ≡ place_on (cursor_position self.old) (length bytes.now)) }
         ensures kept { NoFewerFailures (vector_told self.old).health (vector_told self.new).health }
         // Where no memory is found, it holds the same bytes, at the same place.
@@ -499,7 +500,7 @@ impl Sink for Cursor<Vec<u8>> {
         ensures gave { IsTrue result → Gave (vector_told self.old) (vector_told self.new) (take n eight) }
         ensures stays { IsFalse result → self.new ≡ self.old }
         // The bytes are laid over those that lie there.
-        ensures written { IsTrue result → (cursor_inner self.new).items ≡ laid_over (cursor_inner self.old).items (cursor_position self.old) (take n eight) }
+        ensures written { IsTrue result → (cursor_inner self.new).items ≡ overlaid (cursor_inner self.old).items (cursor_position self.old) (take n eight) }
         ensures place { IsTrue result → cursor_position self.new ≡ cursor_position self.old + n }
         ensures room { IsTrue result ↔ (cursor_position self.old + 8 ≤ length (cursor_inner self.old).items) }
     {
@@ -527,7 +528,7 @@ impl Sink for Cursor<Vec<u8>> {
 
 // Lays bytes over those of a vector from a place on, behind zeros where it is past the end; where no memory is found, nothing changes.
 fn put_over(all: &mut Vec<u8>, place: usize, bytes: &[u8]) -> Result<(), AllocError>
-    ensures written { OnOk result (all.new.items ≡ laid_over (reaching place all.old.items) place bytes.now) }
+    ensures written { OnOk result (all.new.items ≡ overlaid (reaching place all.old.items) place bytes.now) }
     ensures fits { OnOk result (place + length bytes.now < 2 ^ 63) }
     ensures holds { OnErr result (all.new.items ≡ all.old.items) }
 {
@@ -577,7 +578,7 @@ fn has_eight(length: usize, place: u64) -> bool
 fn lay_over(all: &mut [u8], place: usize, eight: [u8; 8], n: usize)
     requires few { n ≤ 8 }
     requires room { place + 8 ≤ length all.old }
-    ensures { all.new ≡ laid_over all.old place (take n eight) }
+    ensures { all.new ≡ overlaid all.old place (take n eight) }
 {
     match n {
         1 => lay_first(all, place, &eight, 1),
@@ -597,7 +598,7 @@ fn lay_over(all: &mut [u8], place: usize, eight: [u8; 8], n: usize)
 fn lay_first(all: &mut [u8], place: usize, bytes: &[u8], n: usize)
     requires few { n ≤ length bytes.now }
     requires room { place + n ≤ length all.old }
-    ensures { all.new ≡ laid_over all.old place (take n bytes.now) }
+    ensures { all.new ≡ overlaid all.old place (take n bytes.now) }
 {
     let first = &bytes[..n];
     all[place..place + n].copy_from_slice(first);

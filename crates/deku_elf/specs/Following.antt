@@ -13,7 +13,7 @@ use Rattle.deku_bits.specs.Streams.{Stream}
 use Rattle.deku_bits.specs.Standings.{Going, Stopped, count_of}
 use Rattle.deku_bits.specs.Outcomes.{Meaning}
 use Rattle.deku_bits.specs.ReaderCalls.{Reads}
-use Rattle.deku.specs.Limits.{ReadsCount, Held}
+use Rattle.deku.specs.Limits.{ReadsCount, MappedBy}
 
 -- A place is sought, and m is read from there: where all bytes are told, those from the place on are to come. Or the source refuses the seek, which stops the
 -- reader; where all bytes are told, only for a call that fails.
@@ -26,4 +26,4 @@ pub data ReadsFrom {R V : Type 0} (told : R → SourceTold) (place : ℕ) (m : M
 
 -- so many items are read into a vector
 abbrev pub ReadsSegments : {V : Type 0} → ℕ → Meaning (Option Stream) V → Meaning (Option Stream) (Vec V)
-ReadsSegments count m = Held (λ xs v. v.items ≡ xs) (ReadsCount count m)
+ReadsSegments count m = MappedBy (λ xs v. v.items ≡ xs) (ReadsCount count m)

@@ -17,14 +17,14 @@ use Rattle.deku.specs.Composing.{Both}
 use Rattle.deku.proofs.Causes.{answer, then, checked, texted, no_param, reads_number, writes_number}
 use Rattle.deku_fields.specs.declared.list.Field.{Field}
 use Rattle.deku_fields.specs.declared.list.Item.{Item}
-use Rattle.deku_fields.specs.ListCalls.{ReadsField, ReadsFields, ReadsVec, WritesItem, WritesItems, WritesWhole, ListFrom}
+use Rattle.deku_fields.specs.ListCalls.{ReadsField, ReadsFields, ReadsList, WritesItem, WritesItems, WritesWhole, ListFrom}
 
 -- ---- reading
 fields : (fs : List Field) → OwnFaults NoKind (ReadsFields fs)
 fields [] = answer NoKind []
 fields (f ∷ fs) = then NoKind (ReadsField f) _ (mapped NoKind _ (ReadsNumber _ _) (reads_number _ _)) (λ n. mapped NoKind (λ ns. n ∷ ns) (ReadsFields fs) (fields fs))
 
-fields_vec : (fs : List Field) → OwnFaults WantsMemory (ReadsVec fs)
+fields_vec : (fs : List Field) → OwnFaults WantsMemory (ReadsList fs)
 fields_vec fs s r u k (inl p) (inl q) = let d = p.1 in inl (let e : OutOfMemory ≡ k = cc in sym e)
 fields_vec fs s r u k (inl p) (inr q) = inr (rw p.2 at q)
 fields_vec fs s r u k (inr p) q = wider WantsMemory (ReadsFields fs) (fields fs) s r u k p q
@@ -43,8 +43,8 @@ pub list_caused : {W : Type 0} (fs : List Field) (coming : Option (List ℕ)) (s
 list_caused fs coming s f e u g o = reads_caused NoKind (ReadsFields fs) coming s f e u g (fields fs) o
 
 pub vec_caused : {W : Type 0} (fs : List Field) (coming : Option (List ℕ)) (s : Standing (List Bool)) (f : Health) (e : DekuError) (u : Standing (Option Stream)) (g : Health)
-    → Outcome (ReadsVec fs) (reader_state coming s) f (Err e) u g → Caused {V = W} WantsMemory s f (Err e) g
-vec_caused fs coming s f e u g o = reads_caused WantsMemory (ReadsVec fs) coming s f e u g (fields_vec fs) o
+    → Outcome (ReadsList fs) (reader_state coming s) f (Err e) u g → Caused {V = W} WantsMemory s f (Err e) g
+vec_caused fs coming s f e u g o = reads_caused WantsMemory (ReadsList fs) coming s f e u g (fields_vec fs) o
 
 -- nothing was kept before
 pub bytes_caused : (fs : List Field) (bytes : List ℕ) (e : DekuError) → ListFrom fs bytes (Err e) → (k : ErrorKind) → e ≡ Io k → WantsMemory k

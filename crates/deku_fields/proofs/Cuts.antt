@@ -169,8 +169,7 @@ record Told (u : Standing (Option Stream)) : Type 0 where
   is : u ≡ Going (Some stream) count
 
 field_told : (f : Field) (S : Stream) (c : ℕ) (n : Number) (u : Standing (Option Stream)) → ReadsField f false (Going (Some S) c) (Ok n) u → Told u
-field_told f S c n u (Value v (Refused b (inl p)) e) = let g = p.1.2 in absurd (cc)
-field_told f S c n u (Value v (Refused b (inr p)) e) = let g = p.2.2 in absurd (cc)
+field_told f S c n u (Value v (Refused b p) e) = let g = p.2 in absurd (cc)
 field_told f S c n u (Value v (Passed (k, Value bits (inl p) z)) e) = let g = p.1.2 in absurd (cc)
 field_told f S c n u (Value v (Passed (k, Value bits (inr (l, inl p)) z)) e) = record { stream = _; count = _; is = p.2 }
 field_told f S c n u (Value v (Passed (k, Value bits (inr (l, inr p)) z)) e) = let g = p.1 in absurd (cc)

@@ -20,7 +20,7 @@ use Rattle.deku_fields.specs.declared.list.Field.{Field}
 use Rattle.deku_fields.specs.declared.list.Item.{Item}
 use Rattle.deku_fields.specs.Items.{IsNumber, number_type, field_width, IsAllowedField, IsWorth, IsPieceOf}
 use Rattle.deku_fields.specs.ListCalls.{integer_of, has_sign}
-use Rattle.deku_fields.specs.Cutting.{Admits, IsCut, cuts, IsLeft, IsCutTo, AreLowest, WereWritten, CutLaw, IsAdmitted, IsCutItem, WasPieceOf, CutItemsLaw}
+use Rattle.deku_fields.specs.Cutting.{AdmitsCut, IsCut, cuts, IsLeft, IsCutTo, AreLowest, WereWritten, CutLaw, IsAdmitted, IsCutItem, WasPieceOf, CutItemsLaw}
 use Rattle.deku_fields.proofs.WritingLists.{integer_is, whole_kind}
 
 -- ---- in whole bytes
@@ -50,11 +50,11 @@ fitting_in_type t l w ok d f = subst (λ x. InType t.signed t.bits x) f.1.worth 
 
 -- ---- what is left of a number that a field admits
 -- where it is not cut, the number
-pub uncut : (f : Field) (n : Number) → Admits f n → cuts (number_type f.kind) f.layout.size ≡ false → IsCutTo f n n
+pub uncut : (f : Field) (n : Number) → AdmitsCut f n → cuts (number_type f.kind) f.layout.size ≡ false → IsCutTo f n n
 uncut f n a c = record { kind = a.kind; left = subst (λ b. IsLeft b (number_type f.kind) f.layout (integer_of n) (integer_of n)) (sym c) refl }
 
 -- where it is cut, a number with the sign of the kind
-kept_number : (f : Field) (n kept : Number) → Admits f n → cuts (number_type f.kind) f.layout.size ≡ true → has_sign kept ≡ (number_type f.kind).signed
+kept_number : (f : Field) (n kept : Number) → AdmitsCut f n → cuts (number_type f.kind) f.layout.size ≡ true → has_sign kept ≡ (number_type f.kind).signed
     → kept_of (number_type f.kind) f.layout (integer_of n) ≡ integer_of kept → IsCutTo f n kept
 kept_number f n kept a c s e =
     let t : NumberType = number_type f.kind in
@@ -64,7 +64,7 @@ kept_number f n kept a c s e =
       left = subst (λ b. IsLeft b t f.layout (integer_of n) (integer_of kept)) (sym c) k;
     }
 
-pub unsigned_kept : (f : Field) (v m n : ℕ) → Admits f (Unsigned v) → cuts (number_type f.kind) f.layout.size ≡ true → n ≡ field_width f → m ≡ v % 2 ^ n
+pub unsigned_kept : (f : Field) (v m n : ℕ) → AdmitsCut f (Unsigned v) → cuts (number_type f.kind) f.layout.size ≡ true → n ≡ field_width f → m ≡ v % 2 ^ n
     → IsCutTo f (Unsigned v) (Unsigned m)
 unsigned_kept f v m n a c w e =
     let t : NumberType = number_type f.kind in
@@ -72,7 +72,7 @@ unsigned_kept f v m n a c w e =
     ap (λ b. with_sign b (width t f.layout) (v % 2 ^ width t f.layout)) (sym a.kind.0) ∙ ap (λ k. pos (v % 2 ^ k)) (sym w) ∙ ap pos (sym e) in
     kept_number f (Unsigned v) (Unsigned m) a c a.kind.0 worth
 
-pub signed_kept : (f : Field) (v z : ℤ) (m n : ℕ) → Admits f (Signed v) → cuts (number_type f.kind) f.layout.size ≡ true → n ≡ field_width f → m ≡ residue v n
+pub signed_kept : (f : Field) (v z : ℤ) (m n : ℕ) → AdmitsCut f (Signed v) → cuts (number_type f.kind) f.layout.size ≡ true → n ≡ field_width f → m ≡ residue v n
     → z ≡ with_sign true n m → IsCutTo f (Signed v) (Signed z)
 signed_kept f v z m n a c w e q =
     let t : NumberType = number_type f.kind in

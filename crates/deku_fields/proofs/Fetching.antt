@@ -9,7 +9,7 @@ use Rattle.deku_bits.specs.Streams.{Stream}
 use Rattle.deku_bits.specs.Devices.{SourceTold, Loses}
 use Rattle.deku_bits.specs.Standings.{Standing, Going, count_of, reader_state}
 use Rattle.deku_bits.specs.Outcomes.{Quiet, Value, Refusal}
-use Rattle.deku_bits.specs.ReaderCalls.{ReadsAt, Takes, FetchesFor, NoneEarly, window_of}
+use Rattle.deku_bits.specs.ReaderCalls.{ReadsAt, TakesBits, FetchesFor, NoneEarly, window_of}
 use Rattle.deku_bits.proofs.Handing.{meant}
 use Rattle.deku_bits.proofs.Fetched.{takes_bits, takes_counted, loses_on, balance}
 use Rattle.deku_num.specs.NumberCalls.{ReadsNumber, Refused, Passed}
@@ -17,21 +17,20 @@ use Rattle.deku.specs.Composing.{Answered, Second, First}
 use Rattle.deku_fields.specs.declared.list.Number.{Number}
 use Rattle.deku_fields.specs.declared.list.Field.{Field}
 use Rattle.deku_fields.specs.Items.{number_type, field_width, field_shape}
-use Rattle.deku_fields.specs.ListCalls.{ReadsField, ReadsFields, ReadsVec}
+use Rattle.deku_fields.specs.ListCalls.{ReadsField, ReadsFields, ReadsList}
 
 -- ---- one field
 -- the bits that a number took
 number_took : (f : Field) (v : ℤ) (s u : Standing (Option Stream)) → ReadsNumber (number_type f.kind) f.layout false s (Ok v) u
-    → (bits : List Bool) × Takes f.layout.order (field_width f) false s (Ok bits) u
-number_took f v s u (Refused b (inl p)) = let e = p.1.2 in absurd (cc)
-number_took f v s u (Refused b (inr p)) = let e = p.2.2 in absurd (cc)
+    → (bits : List Bool) × TakesBits f.layout.order (field_width f) false s (Ok bits) u
+number_took f v s u (Refused b p) = let e = p.2 in absurd (cc)
 number_took f v s u (Passed p) = elim p.1 [
   | Value bits took e ↦ (bits, took)
   | Refusal x refused e ↦ absurd (cc)
 ]
 
 -- the bits that a field took
-pub field_took : (f : Field) (n : Number) (s u : Standing (Option Stream)) → ReadsField f false s (Ok n) u → (bits : List Bool) × Takes f.layout.order (field_width f) false s (Ok bits) u
+pub field_took : (f : Field) (n : Number) (s u : Standing (Option Stream)) → ReadsField f false s (Ok n) u → (bits : List Bool) × TakesBits f.layout.order (field_width f) false s (Ok bits) u
 field_took f n s u (Value v read e) = number_took f v s u read
 field_took f n s u (Refusal x refused e) = absurd (cc)
 
@@ -126,7 +125,7 @@ fields_counted (f ∷ fs) ns s u (Second n t p (Value ms q e)) =
 
 -- a list that is read from the first byte on counts the bits of its fields, and the bytes have them
 pub bits_found : (fs : List Field) (ns : List Number) (bytes : List ℕ) (n : ℕ) (first after : Option (List ℕ)) (s : Standing (List Bool)) (t u : Standing (Option Stream))
-    → ReadsVec fs false t (Ok ns) u → count_of t ≡ 0 → n ≡ count_of u → first ≡ Some bytes → s ≡ Going [] 0
+    → ReadsList fs false t (Ok ns) u → count_of t ≡ 0 → n ≡ count_of u → first ≡ Some bytes → s ≡ Going [] 0
     → Loses (groups (total (map field_shape fs) - length (window_of s))) first after
     → (n ≡ total (map field_shape fs)) × (n ≤ 8 * length bytes)
 bits_found fs ns bytes n first after s t u (inl refused) start counted tells new fetched = let e = refused.1 in absurd (cc)

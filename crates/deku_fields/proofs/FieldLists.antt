@@ -16,7 +16,7 @@ use Rattle.deku_fields.specs.declared.list.Field.{Field}
 use Rattle.deku_fields.specs.declared.list.Item.{Item}
 use Rattle.deku_fields.specs.declared.list.Number.{Number}
 use Rattle.deku_fields.specs.declared.list.Number.TheVariants.{Unsigned, Signed}
-use Rattle.deku_fields.specs.Items.{IsNumber, number_type, field_width, field_shape, AlignedFields, IsWorth, IsPieceOf, ArePieces, IsFitting, Reads, fields_of, values_of}
+use Rattle.deku_fields.specs.Items.{IsNumber, number_type, field_width, field_shape, AlignedFields, IsWorth, IsPieceOf, ArePieces, IsFitting, ReadsValues, fields_of, values_of}
 use Rattle.deku_fields.specs.Headline.{PieceLaw, LayoutLaw, ThereLaw, BackLaw, CallsLaw}
 
 -- one whole number has one number of a kind
@@ -36,7 +36,7 @@ value_one true v w (Unsigned n) p q = absurd p
 value_one true v w (Signed n) p q = p ∙ sym q
 
 -- fields read one list of numbers, and leave one stream
-reads_one : (fs : List Field) (S T U : Stream) (vs us : List Number) → Reads fs S vs T → Reads fs S us U → (us ≡ vs) × (U ≡ T)
+reads_one : (fs : List Field) (S T U : Stream) (vs us : List Number) → ReadsValues fs S vs T → ReadsValues fs S us U → (us ≡ vs) × (U ≡ T)
 reads_one [] S T U [] [] r q = (refl, sym q ∙ r)
 reads_one [] S T U [] (u ∷ us) r q = absurd q
 reads_one [] S T U (v ∷ vs) us r q = absurd r
@@ -47,16 +47,16 @@ reads_one (f ∷ fs) S T U (v ∷ vs) (u ∷ us) r q =
     (ap₂ (λ x y. x ∷ y) (number_one (number_type f.kind).signed _ u v q.1.worth r.1.worth) k.0, k.1)
 
 -- taking the pieces of items is reading their fields
-reads_from_takes : (items : List Item) (ps : List Piece) (S T : Stream) → ArePieces items ps → Takes ps S T → Reads (fields_of items) S (values_of items) T
+reads_from_takes : (items : List Item) (ps : List Piece) (S T : Stream) → ArePieces items ps → Takes ps S T → ReadsValues (fields_of items) S (values_of items) T
 reads_from_takes [] [] S T a t = t
 reads_from_takes [] (p ∷ ps) S T a t = absurd a
 reads_from_takes (i ∷ is) [] S T a t = absurd a
 reads_from_takes (i ∷ is) (p ∷ ps) S T a t =
-    subst₂ (λ o n. Has n S × IsWorth i.field (taken o n S) i.value × Reads (fields_of is) (left o n S) (values_of is) T)
+    subst₂ (λ o n. Has n S × IsWorth i.field (taken o n S) i.value × ReadsValues (fields_of is) (left o n S) (values_of is) T)
     (a.0.same_order) (a.0.worth.wide)
     (t.0, subst (λ s. IsWorth i.field s i.value) (sym t.1) (a.0.worth), reads_from_takes is ps (left p.order (length p.bits) S) T a.1 t.2)
 
-takes_from_reads : (items : List Item) (S T : Stream) → Reads (fields_of items) S (values_of items) T → (ps : List Piece) × ArePieces items ps × Takes ps S T
+takes_from_reads : (items : List Item) (S T : Stream) → ReadsValues (fields_of items) S (values_of items) T → (ps : List Piece) × ArePieces items ps × Takes ps S T
 takes_from_reads [] S T r = ([], tt, r)
 takes_from_reads (i ∷ is) S T r =
     let o : Order = i.field.layout.order in
@@ -127,9 +127,9 @@ back_law items bytes T h all r =
 
 -- ---- several calls
 abbrev Both : List Field → List Field → List Number → List Number → Stream → Stream → Type 0
-Both fs gs vs us S T = (U : Stream) × Reads fs S vs U × Reads gs U us T
+Both fs gs vs us S T = (U : Stream) × ReadsValues fs S vs U × ReadsValues gs U us T
 
-reads_apart : (fs gs : List Field) (vs us : List Number) (S T : Stream) → length vs ≡ length fs → Reads (fs ++ gs) S (vs ++ us) T → Both fs gs vs us S T
+reads_apart : (fs gs : List Field) (vs us : List Number) (S T : Stream) → length vs ≡ length fs → ReadsValues (fs ++ gs) S (vs ++ us) T → Both fs gs vs us S T
 reads_apart [] gs [] us S T l r = (S, refl, r)
 reads_apart [] gs (v ∷ vs) us S T l r = absurd (omega arith)
 reads_apart (f ∷ fs) gs [] us S T l r = absurd (omega arith)
@@ -137,8 +137,8 @@ reads_apart (f ∷ fs) gs (v ∷ vs) us S T l r =
     let k = reads_apart fs gs vs us (left f.layout.order (field_width f) S) T (omega arith) r.2 in
     (k.0, (r.0, r.1, k.1), k.2)
 
-reads_together : (fs gs : List Field) (vs us : List Number) (S T : Stream) → Both fs gs vs us S T → Reads (fs ++ gs) S (vs ++ us) T
-reads_together [] gs [] us S T b = subst (λ X. Reads gs X us T) (sym b.1) b.2
+reads_together : (fs gs : List Field) (vs us : List Number) (S T : Stream) → Both fs gs vs us S T → ReadsValues (fs ++ gs) S (vs ++ us) T
+reads_together [] gs [] us S T b = subst (λ X. ReadsValues gs X us T) (sym b.1) b.2
 reads_together [] gs (v ∷ vs) us S T b = absurd b.1
 reads_together (f ∷ fs) gs [] us S T b = absurd b.1
 reads_together (f ∷ fs) gs (v ∷ vs) us S T b =

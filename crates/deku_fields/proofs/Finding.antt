@@ -8,7 +8,7 @@ use Rattle.deku_bits.specs.Pieces.{total}
 use Rattle.deku_bits.specs.Devices.{Health}
 use Rattle.deku_bits.specs.Standings.{Standing, Going}
 use Rattle.deku_bits.specs.Outcomes.{Outcome, Value, Refusal}
-use Rattle.deku_bits.specs.ReaderCalls.{Takes}
+use Rattle.deku_bits.specs.ReaderCalls.{TakesBits}
 use Rattle.deku_bits.proofs.Handing.{meant}
 use Rattle.deku_bits.proofs.ReaderLaws.{taken_length}
 use Rattle.deku_num.specs.Numbers.{value, number, with_sign}
@@ -16,8 +16,8 @@ use Rattle.deku_num.specs.NumberCalls.{Refused, Passed}
 use Rattle.deku.specs.Composing.{Answered, Second, First}
 use Rattle.deku_fields.specs.declared.list.Number.{Number}
 use Rattle.deku_fields.specs.declared.list.Field.{Field}
-use Rattle.deku_fields.specs.Items.{IsNumber, IsWorth, IsAllowedField, Reads, number_type, field_width, field_shape}
-use Rattle.deku_fields.specs.ListCalls.{ReadsField, ReadsFields, ReadsVec, number_of}
+use Rattle.deku_fields.specs.Items.{IsNumber, IsWorth, IsAllowedField, ReadsValues, number_type, field_width, field_shape}
+use Rattle.deku_fields.specs.ListCalls.{ReadsField, ReadsFields, ReadsList, number_of}
 use Rattle.deku_fields.specs.Promise.{HasFound, FindsAny}
 
 ok_is : {V E : Type 0} (v x : V) → ◌≡◌ {A = Result V E} (Ok v) (Ok x) → v ≡ x
@@ -29,7 +29,7 @@ worth_of false w n = refl
 worth_of true w n = refl
 
 -- bits that were taken from a stream that is told
-took_here : (o : Order) (n : ℕ) (S : Stream) (c : ℕ) (bits : List Bool) (u : Standing (Option Stream)) → Takes o n false (Going (Some S) c) (Ok bits) u
+took_here : (o : Order) (n : ℕ) (S : Stream) (c : ℕ) (bits : List Bool) (u : Standing (Option Stream)) → TakesBits o n false (Going (Some S) c) (Ok bits) u
     → Has n S × (bits ≡ taken o n S) × (u ≡ Going (Some (left o n S)) (c + n))
 took_here o n S c bits u (inl refused) = let e = refused.1.2 in absurd (cc)
 took_here o n S c bits u (inr (a, inl p)) = (p.0, ok_is bits (taken o n S) p.1, p.2)
@@ -40,8 +40,7 @@ field_found : (f : Field) (n : Number) (S : Stream) (c : ℕ) (u : Standing (Opt
     → IsAllowedField f × Has (field_width f) S × IsWorth f (taken f.layout.order (field_width f) S) n × (u ≡ Going (Some (left f.layout.order (field_width f) S)) (c + field_width f))
 unfolding value
 field_found f n S c u (Refusal x refused e) = absurd (cc)
-field_found f n S c u (Value v (Refused b (inl p)) e) = let d = p.1.2 in absurd (cc)
-field_found f n S c u (Value v (Refused b (inr p)) e) = let d = p.2.2 in absurd (cc)
+field_found f n S c u (Value v (Refused b p) e) = let d = p.2 in absurd (cc)
 field_found f n S c u (Value v (Passed (ok, Refusal x refused d)) e) = absurd (cc)
 field_found f n S c u (Value v (Passed (ok, Value bits took d)) e) =
     let b : Bool = (number_type f.kind).signed in
@@ -68,7 +67,7 @@ fields_found (f ∷ fs) ns S c u (Second n t p (Value ms q e)) =
     record {
       allowed = All-cons IsAllowedField f fs first.0 others.allowed;
       rest = others.rest;
-      read = subst (λ x. Reads (f ∷ fs) S x others.rest) (sym (ok_is ns (n ∷ ms) e)) (first.1, first.2, others.read);
+      read = subst (λ x. ReadsValues (f ∷ fs) S x others.rest) (sym (ok_is ns (n ∷ ms) e)) (first.1, first.2, others.read);
       stands = others.stands ∙ ap (λ k. Going (Some others.rest) k) sum;
     }
 
@@ -78,7 +77,7 @@ finds_any fs (Err x) s o S c e = tt
 finds_any fs (Ok ns) s {u} o S c e = fields_found fs ns S c u (subst (λ x. ReadsFields fs false x (Ok ns) u) e (meant o).0)
 
 -- the same in memory that is found first
-pub vec_finds : (fs : List Field) (r : Result (List Number) DekuError) (s : Standing (Option Stream)) {u : Standing (Option Stream)} {f g : Health} → Outcome (ReadsVec fs) s f r u g → FindsAny fs s r u
+pub vec_finds : (fs : List Field) (r : Result (List Number) DekuError) (s : Standing (Option Stream)) {u : Standing (Option Stream)} {f g : Health} → Outcome (ReadsList fs) s f r u g → FindsAny fs s r u
 vec_finds fs (Err x) s o S c e = tt
 vec_finds fs (Ok ns) s {u} o S c e = elim (meant o).0 [
   | inl refused ↦ let d = refused.0 in absurd (cc)

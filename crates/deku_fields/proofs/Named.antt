@@ -11,7 +11,7 @@ use Rattle.deku_num.specs.declared.ctx.Size.{Size}
 use Rattle.deku_num.specs.declared.ctx.Size.TheVariants.{Bits, Bytes}
 use Rattle.deku_fields.specs.declared.list.Kind.{Kind}
 use Rattle.deku_fields.specs.declared.list.Field.{Field}
-use Rattle.deku_fields.specs.Naming.{kind_name, NamesOption, NamesEndian, NamesOrder, CountsBehind, NamesSize, NamesField, BeginsOption, Lacks, SplitsOption, SplitsEndian, SplitsOrder}
+use Rattle.deku_fields.specs.Naming.{kind_name, NamesOption, NamesEndian, NamesOrder, CountsBehind, NamesSize, NamesField, BeginsOption, LacksFront, SplitsOption, SplitsEndian, SplitsOrder}
 use Rattle.deku_fields.proofs.FirstComma.{kind_cut}
 
 -- ---- texts that differ
@@ -35,7 +35,7 @@ apart_lacks (x ∷ xs) (y ∷ ys) p us vs e =
 
 -- ---- options
 -- no size begins with another word
-size_lacks : (word text : List ℕ) (s : Size) → apart word (codes ",bits") ≡ true → apart word (codes ",bytes") ≡ true → NamesSize text s → Lacks word text
+size_lacks : (word text : List ℕ) (s : Size) → apart word (codes ",bits") ≡ true → apart word (codes ",bytes") ≡ true → NamesSize text s → LacksFront word text
 size_lacks [] text s p q n = absurd (true≢false (sym p))
 size_lacks (x ∷ xs) text s p q (inl n) = λ rest e. let f : [] ≡ (x ∷ xs) ++ rest = sym (n.0) ∙ e in absurd (cc)
 size_lacks (x ∷ xs) text s p q (inr (inl n)) = λ rest e. apart_lacks (x ∷ xs) (codes ",bits") p rest n.1.0 (sym e ∙ n.1.1)
@@ -43,18 +43,18 @@ size_lacks (x ∷ xs) text s p q (inr (inr n)) = λ rest e. apart_lacks (x ∷ x
 
 -- nor does an option before what does not, where the option does not
 option_lacks : {T : Type 0} (first second : List ℕ) (a b x : T) (word part tail : List ℕ) → apart word first ≡ true → apart word second ≡ true
-    → NamesOption first a second b part x → Lacks word tail → Lacks word (part ++ tail)
+    → NamesOption first a second b part x → LacksFront word tail → LacksFront word (part ++ tail)
 option_lacks first second a b x word part tail p q (inl n) lacks = λ rest e. apart_lacks word first p rest tail (sym e ∙ ap (λ y. y ++ tail) n.0)
 option_lacks first second a b x word part tail p q (inr (inl n, m)) lacks = λ rest e. apart_lacks word second q rest tail (sym e ∙ ap (λ y. y ++ tail) n)
 option_lacks first second a b x word part tail p q (inr (inr n, m)) lacks = λ rest e. lacks rest (sym (ap (λ y. y ++ tail) n) ∙ e)
 
 -- no order with a size begins with another word
 tail_lacks : (word part size : List ℕ) (o : Order) (s : Size) → apart word (codes ",lsb") ≡ true → apart word (codes ",msb") ≡ true → apart word (codes ",bits") ≡ true
-    → apart word (codes ",bytes") ≡ true → NamesOrder part o → NamesSize size s → Lacks word (part ++ size)
+    → apart word (codes ",bytes") ≡ true → NamesOrder part o → NamesSize size s → LacksFront word (part ++ size)
 tail_lacks word part size o s p q v w m n = option_lacks (codes ",lsb") (codes ",msb") Lsb0 Msb0 o word part size p q m (size_lacks word size s v w n)
 
 -- an option that is named is the one in front, and behind it stands the rest
-option_ahead : {T : Type 0} (first second : List ℕ) (a b t x : T) (text part tail rest : List ℕ) → apart first second ≡ true → Lacks first tail → Lacks second tail
+option_ahead : {T : Type 0} (first second : List ℕ) (a b t x : T) (text part tail rest : List ℕ) → apart first second ≡ true → LacksFront first tail → LacksFront second tail
     → SplitsOption first a second b text t rest → text ≡ part ++ tail → NamesOption first a second b part x → (t ≡ x) × (rest ≡ tail)
 option_ahead first second a b t x text part tail rest p k l (inl s) e (inl n) =
     (s.1 ∙ sym (n.1), append_cancel_left first rest tail (sym (s.0) ∙ e ∙ ap (λ y. y ++ tail) n.0))
@@ -157,10 +157,10 @@ agrees word size k e o f c n =
     let tail = n.order ++ n.size in
     let begins : BeginsOption (n.endian ++ tail) =
     endian_begins n.endian tail f.layout.endian (n.endian_named) (order_begins n.order n.size f.layout.order (n.order_named) (size_begins n.size f.layout.size (n.size_named))) in
-    let no_big : Lacks (codes ",big") tail = tail_lacks (codes ",big") n.order n.size f.layout.order f.layout.size refl refl refl refl (n.order_named) (n.size_named) in
-    let no_little : Lacks (codes ",little") tail = tail_lacks (codes ",little") n.order n.size f.layout.order f.layout.size refl refl refl refl (n.order_named) (n.size_named) in
-    let no_lsb : Lacks (codes ",lsb") n.size = size_lacks (codes ",lsb") n.size f.layout.size refl refl (n.size_named) in
-    let no_msb : Lacks (codes ",msb") n.size = size_lacks (codes ",msb") n.size f.layout.size refl refl (n.size_named) in
+    let no_big : LacksFront (codes ",big") tail = tail_lacks (codes ",big") n.order n.size f.layout.order f.layout.size refl refl refl refl (n.order_named) (n.size_named) in
+    let no_little : LacksFront (codes ",little") tail = tail_lacks (codes ",little") n.order n.size f.layout.order f.layout.size refl refl refl refl (n.order_named) (n.size_named) in
+    let no_lsb : LacksFront (codes ",lsb") n.size = size_lacks (codes ",lsb") n.size f.layout.size refl refl (n.size_named) in
+    let no_msb : LacksFront (codes ",msb") n.size = size_lacks (codes ",msb") n.size f.layout.size refl refl (n.size_named) in
     let a = kind_cut k f.kind c.options (n.endian ++ tail) (sym (c.starts) ∙ n.parts) (c.begins) begins in
     let b = option_ahead (codes ",big") (codes ",little") Big Little e f.layout.endian c.options n.endian tail c.behind refl no_big no_little (c.ends) a.1 (n.endian_named) in
     let d = option_ahead (codes ",lsb") (codes ",msb") Lsb0 Msb0 o f.layout.order c.behind n.order n.size size refl no_lsb no_msb (c.last) b.1 (n.order_named) in

@@ -4,7 +4,7 @@ use Rattle.deku_bits.specs.Devices.{Health}
 use Rattle.deku_bits.specs.Streams.{Stream}
 use Rattle.deku_bits.specs.Standings.{Standing, Output}
 use Rattle.deku_bits.specs.Outcomes.{Outcome}
-use Rattle.deku_bits.specs.ReaderCalls.{Takes}
+use Rattle.deku_bits.specs.ReaderCalls.{TakesBits}
 use Rattle.deku_bits.specs.WriterCalls.{WritesBits}
 use Rattle.deku_bits.proofs.Binary.{length-bits_of}
 use Rattle.deku_bits.proofs.Handing.{weaker}
@@ -64,12 +64,12 @@ kind_of_word i {v} {w} is g ok h = rw is (
 -- a field without a sign that is big and `Msb0`, whose bits were taken
 pub high_field : (f : Field) (n k : ℕ) {s : Standing (Option Stream)} {h : Health} {u : Standing (Option Stream)} {g : Health}
     → (number_type f.kind).signed ≡ false → f.layout.endian ≡ Big → f.layout.order ≡ Msb0 → n ≡ field_width f → IsAllowedField f → k < 2 ^ n
-    → Outcome (Takes Msb0 n) s h (Ok (bits_of n k)) u g → Outcome (ReadsField f) s h (Ok (Unsigned k)) u g
+    → Outcome (TakesBits Msb0 n) s h (Ok (bits_of n k)) u g → Outcome (ReadsField f) s h (Ok (Unsigned k)) u g
 high_field f n k {s} {h} {u} {g} plain big high wide ok small o =
     let t : NumberType = number_type f.kind in
     let l : Layout = f.layout in
     let is : k ≡ number l.endian l.order (bits_of n k) = high_in f.layout n k big high small in
-    let taken : Outcome (Takes l.order n) s h (Ok (bits_of n k)) u g = rw high o in
+    let taken : Outcome (TakesBits l.order n) s h (Ok (bits_of n k)) u g = rw high o in
     unsigned_field f plain (rw (unsigned_worth t l (bits_of n k) k plain is) (number_read t l n ok taken wide))
 
 -- an item without a sign that is big and `Msb0`, whose bits were written

@@ -15,8 +15,8 @@ use Rattle.deku_bits.proofs.Handing.{weaker}
 use Rattle.deku_fields.specs.declared.list.Number.{Number}
 use Rattle.deku_fields.specs.declared.list.Field.{Field}
 use Rattle.deku_fields.specs.declared.list.Item.{Item}
-use Rattle.deku_fields.specs.Items.{IsFitting, IsAllowedField, AlignedFields, Reads, fields_of, values_of, field_shape, field_width}
-use Rattle.deku_fields.specs.ListCalls.{ReadsFields, ReadsVec, filling}
+use Rattle.deku_fields.specs.Items.{IsFitting, IsAllowedField, AlignedFields, ReadsValues, fields_of, values_of, field_shape, field_width}
+use Rattle.deku_fields.specs.ListCalls.{ReadsFields, ReadsList}
 use Rattle.deku_fields.specs.Promise.{Unfailing, Begins, ReadsBack, ReadsBackVec}
 use Rattle.deku_fields.proofs.Sound.{sound}
 use Rattle.deku_fields.proofs.FieldLists.{there_law}
@@ -27,7 +27,7 @@ allowed_all [] all = All-nil IsAllowedField
 allowed_all (i ∷ is) all = All-cons IsAllowedField i.field (fields_of is) (All-head IsFitting i is all).allowed (allowed_all is (All-tail IsFitting i is all))
 
 -- what fields leave of a stream has the bits that they did not take
-reads_count : (fs : List Field) (ns : List Number) (S T : Stream) → Reads fs S ns T → total (map field_shape fs) + bit_count T ≡ bit_count S
+reads_count : (fs : List Field) (ns : List Number) (S T : Stream) → ReadsValues fs S ns T → total (map field_shape fs) + bit_count T ≡ bit_count S
 reads_count [] [] S T r = let same : bit_count T ≡ bit_count S = ap bit_count (sym r) in omega (arith, same)
 reads_count [] (n ∷ ns) S T r = absurd r
 reads_count (f ∷ fs) [] S T r = absurd r
@@ -42,8 +42,8 @@ pub read_back : (fs : List Field) (r : Result (List Number) DekuError) (s u : St
 read_back fs r s u m items bytes after c b e room =
     let T = (there_law items b.laid.pieces (b.fitting) (subst AlignedFields (sym b.of_fields) b.aligned) b.laid.are).1 after in
     let whole : bytes ≡ laid_out b.laid.pieces ++ after = b.begins ∙ ap (λ x. x ++ after) b.laid.is in
-    let reads : Reads fs (fresh bytes) (values_of items) T.0 =
-    subst (λ x. Reads x (fresh bytes) (values_of items) T.0) (b.of_fields) (subst (λ x. Reads (fields_of items) (fresh x) (values_of items) T.0) (sym whole) T.1) in
+    let reads : ReadsValues fs (fresh bytes) (values_of items) T.0 =
+    subst (λ x. ReadsValues x (fresh bytes) (values_of items) T.0) (b.of_fields) (subst (λ x. ReadsValues (fields_of items) (fresh x) (values_of items) T.0) (sym whole) T.1) in
     let allowed : All IsAllowedField fs = subst (All IsAllowedField) (b.of_fields) (allowed_all items b.fitting) in
     let d = fields_give fs (values_of items) (fresh bytes) T.0 c allowed reads room r u (subst (λ x. ReadsFields fs false x r u) e m) in
     let count : total (map field_shape fs) + bit_count T.0 ≡ bit_count (fresh bytes) = reads_count fs (values_of items) (fresh bytes) T.0 reads in
@@ -57,7 +57,7 @@ fields_back fs o calm = read_back fs _ _ _ (sound o calm)
 
 -- the same in memory that is found first
 pub vec_back : (fs : List Field) {r : Result (List Number) DekuError} {s u : Standing (Option Stream)} {f g : Health}
-    → Outcome (ReadsVec fs) s f r u g → Unfailing f g → ReadsBackVec fs s r u
+    → Outcome (ReadsList fs) s f r u g → Unfailing f g → ReadsBackVec fs s r u
 vec_back fs {r} {s} {u} o calm = elim (sound o calm) [
   | inl p ↦ inl (p.1, p.2)
   | inr m ↦ inr (read_back fs r s u m)
@@ -65,8 +65,8 @@ vec_back fs {r} {s} {u} o calm = elim (sound o calm) [
 
 -- fields that are read are read into memory that was found
 pub found : (fs : List Field) {r : Result (List Number) DekuError} {s u : Standing (Option Stream)} {f g : Health}
-    → Outcome (ReadsFields fs) s f r u g → Outcome (ReadsVec fs) s f r u g
-found fs {r} {s} {u} {f} {g} o = weaker (ReadsFields fs) (ReadsVec fs) s f r u g (λ b m. inr m) o
+    → Outcome (ReadsFields fs) s f r u g → Outcome (ReadsList fs) s f r u g
+found fs {r} {s} {u} {f} {g} o = weaker (ReadsFields fs) (ReadsList fs) s f r u g (λ b m. inr m) o
 
 -- ---- the bytes behind
 normal_short : (S : Stream) → length S.window < 8 → normal S ≡ S
@@ -129,5 +129,5 @@ back_err fs bytes x s u e (inr b) items after begins room = let f = (b items byt
 
 -- what is read from where a reader stands is read from the first byte on
 pub from_first : (fs : List Field) (bytes : List ℕ) (r : Result (List Number) DekuError) (s u : Standing (Option Stream))
-    → s ≡ Going (Some (fresh bytes)) 0 → ReadsVec fs false s r u → ReadsVec fs false (Going (Some (fresh bytes)) 0) r u
-from_first fs bytes r s u e m = subst (λ x. ReadsVec fs false x r u) e m
+    → s ≡ Going (Some (fresh bytes)) 0 → ReadsList fs false s r u → ReadsList fs false (Going (Some (fresh bytes)) 0) r u
+from_first fs bytes r s u e m = subst (λ x. ReadsList fs false x r u) e m

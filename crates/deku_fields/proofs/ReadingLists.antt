@@ -12,7 +12,7 @@ use Rattle.deku.proofs.Exact.{mapped_gives, then_gives, answer_gives, number_giv
 use Rattle.deku_fields.specs.declared.list.Number.{Number}
 use Rattle.deku_fields.specs.declared.list.Number.TheVariants.{Unsigned, Signed}
 use Rattle.deku_fields.specs.declared.list.Field.{Field}
-use Rattle.deku_fields.specs.Items.{IsNumber, number_type, field_width, field_shape, IsAllowedField, IsWorth, Reads}
+use Rattle.deku_fields.specs.Items.{IsNumber, number_type, field_width, field_shape, IsAllowedField, IsWorth, ReadsValues}
 use Rattle.deku_fields.specs.ListCalls.{number_of, ReadsField, ReadsFields}
 
 -- the number of an integer is the one that it is
@@ -33,7 +33,7 @@ field_gives f S n c ok has worth room =
     (number_is (number_type f.kind).signed v n (worth.worth)) g
 
 -- fields that are not refused give the numbers that they read, and leave what is left of the stream
-pub fields_give : (fs : List Field) (ns : List Number) (S T : Stream) (c : ℕ) → All IsAllowedField fs → Reads fs S ns T → c + total (map field_shape fs) < 2 ^ 64
+pub fields_give : (fs : List Field) (ns : List Number) (S T : Stream) (c : ℕ) → All IsAllowedField fs → ReadsValues fs S ns T → c + total (map field_shape fs) < 2 ^ 64
     → Gives (ReadsFields fs) (Going (Some S) c) ns (Going (Some T) (c + total (map field_shape fs)))
 fields_give [] [] S T c ok r room =
     let n : c + 0 ≡ c = omega arith in

@@ -43,8 +43,7 @@ no_item i e c u (Refused b p) = let bad = p.1.2 in cc
 no_item i e c u (Passed p) = no_number p.1
   where
     no_number : WritesNumber (number_type i.field.kind) i.field.layout (integer_of i.value) false (Stopped e c) (Ok tt) u → ⊥
-    no_number (Refused b (inl p)) = let bad = p.1.2 in cc
-    no_number (Refused b (inr p)) = let bad = p.2.2 in cc
+    no_number (Refused b p) = let bad = p.2 in cc
     no_number (Passed (Refused b p)) = let bad = p.2.2 in cc
     no_number (Passed (Passed p)) = let bad = p.1.2.0 in cc
 

@@ -46,8 +46,7 @@ emits_tell write out c xs u e (inr (a, inr p)) = let f = p.3 in absurd (cc)
 
 item_tells : (i : Item) (out : Output) (c : ℕ) (xs : List ℕ) (u : Standing Output) → out.taken ≡ Some xs → WritesItem i false (Going out c) (Ok tt) u → Tells u
 item_tells i out c xs u e (Refused b p) = let f = p.1.2 in absurd (cc)
-item_tells i out c xs u e (Passed (k, Refused b (inl p))) = let f = p.1.2 in absurd (cc)
-item_tells i out c xs u e (Passed (k, Refused b (inr p))) = let f = p.2.2 in absurd (cc)
+item_tells i out c xs u e (Passed (k, Refused b p)) = let f = p.2 in absurd (cc)
 item_tells i out c xs u e (Passed (k, Passed (Refused b p))) = let f = p.2.2 in absurd (cc)
 item_tells i out c xs u e (Passed (k, Passed (Passed p))) = emits_tell (append i.field.layout.order (shown i.field.layout.order p.1.0)) out c xs u e p.1.2
 

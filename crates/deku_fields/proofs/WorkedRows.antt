@@ -17,7 +17,7 @@ use Rattle.deku_num.proofs.WorkedRows.{plain, allowed_all}
 use Rattle.deku_fields.specs.declared.list.Number.{Number}
 use Rattle.deku_fields.specs.declared.list.Field.{Field}
 use Rattle.deku_fields.specs.declared.list.Item.{Item}
-use Rattle.deku_fields.specs.Items.{IsNumber, number_type, field_width, IsWorth, IsPieceOf, IsFitting, ArePieces, LaysOut, AlignedFields, Reads, fields_of, values_of}
+use Rattle.deku_fields.specs.Items.{IsNumber, number_type, field_width, IsWorth, IsPieceOf, IsFitting, ArePieces, LaysOut, AlignedFields, ReadsValues, fields_of, values_of}
 use Rattle.deku_fields.specs.Rows.{BothWays, ListRows, PromiseRows, TurnedRows, MisfitRows, CutRows, word_items}
 use Rattle.deku_fields.proofs.FieldLists.{layout_law}
 
@@ -46,7 +46,7 @@ fitting_all (i ∷ is) (q ∷ qs) a p =
 both_ways : {items : List Item} {bytes : List ℕ} → plain (places items) ≡ true → AlignedFields (fields_of items)
     → ArePieces items (pieces_taken (places items) (fresh bytes))
     → bytes ≡ laid_out (pieces_taken (places items) (fresh bytes)) → bytes ≡ packed (pieces_taken (places items) (fresh bytes))
-    → (T : Stream) → Reads (fields_of items) (fresh bytes) (values_of items) T → T.bytes ≡ [] → BothWays items bytes
+    → (T : Stream) → ReadsValues (fields_of items) (fresh bytes) (values_of items) T → T.bytes ≡ [] → BothWays items bytes
 both_ways {items} {bytes} p a are l w T r t =
     let ps : List Piece = pieces_taken (places items) (fresh bytes) in
     record {

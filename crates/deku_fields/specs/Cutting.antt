@@ -15,7 +15,7 @@ use Rattle.deku_fields.specs.Items.{number_type, IsAllowedField, IsWorth, ArePie
 use Rattle.deku_fields.specs.ListCalls.{IsOfKind, integer_of}
 
 -- a number is one of the field's kind, and the field's layout is not refused
-pub record Admits (f : Field) (n : Number) : Type 0 where
+pub record AdmitsCut (f : Field) (n : Number) : Type 0 where
   pub kind : IsOfKind f.kind n
   pub allowed : IsAllowedField f
 
@@ -53,14 +53,14 @@ WereWritten _ t l v s = IsFieldOf t l v s
 
 -- One number alone is left of a number that a field admits, and the bits that are worth it are those that the number was written as.
 abbrev pub CutLaw : Type 0
-CutLaw = (f : Field) (n kept : Number) → Admits f n → IsCutTo f n kept
+CutLaw = (f : Field) (n kept : Number) → AdmitsCut f n → IsCutTo f n kept
     → ((other : Number) → IsCutTo f n other → other ≡ kept)
     × ((s : List Bool) → WereWritten f.layout.size (number_type f.kind) f.layout (integer_of n) s ↔ IsWorth f s kept)
 
 -- ---- lists
 -- an item whose field admits its value
 abbrev pub IsAdmitted : Item → Type 0
-IsAdmitted i = Admits i.field i.value
+IsAdmitted i = AdmitsCut i.field i.value
 
 -- an item with what is left of another's value, in the same field
 pub record IsCutItem (i j : Item) : Type 0 where

@@ -7,7 +7,7 @@ use Rattle.deku_bits.specs.Symmetry.{packed}
 use Rattle.deku_fields.specs.declared.list.Number.{Number}
 use Rattle.deku_fields.specs.declared.list.Field.{Field}
 use Rattle.deku_fields.specs.declared.list.Item.{Item}
-use Rattle.deku_fields.specs.Items.{IsFitting, ArePieces, LaysOut, AlignedFields, Reads, field_shape, fields_of, values_of}
+use Rattle.deku_fields.specs.Items.{IsFitting, ArePieces, LaysOut, AlignedFields, ReadsValues, field_shape, fields_of, values_of}
 
 -- Fitting items have pieces, and these pieces alone.
 abbrev pub PieceLaw : Type 0
@@ -24,17 +24,17 @@ LayoutLaw = (items : List Item) → All IsFitting items
 abbrev pub ThereLaw : Type 0
 ThereLaw = (items : List Item) (ps : List Piece) → All IsFitting items → AlignedFields (fields_of items) → ArePieces items ps
     → (packed ps ≡ laid_out ps)
-    × ((after : List ℕ) → (T : Stream) × Reads (fields_of items) (fresh (laid_out ps ++ after)) (values_of items) T × (T.bytes ≡ after)
-    × ((ns : List Number) (U : Stream) → Reads (fields_of items) (fresh (laid_out ps ++ after)) ns U → (ns ≡ values_of items) × (U ≡ T)))
+    × ((after : List ℕ) → (T : Stream) × ReadsValues (fields_of items) (fresh (laid_out ps ++ after)) (values_of items) T × (T.bytes ≡ after)
+    × ((ns : List Number) (U : Stream) → ReadsValues (fields_of items) (fresh (laid_out ps ++ after)) ns U → (ns ≡ values_of items) × (U ≡ T)))
 
 -- What the fields of aligned items read from bytes has pieces, and these lay out the bytes taken, unread bits zero.
 abbrev pub BackLaw : Type 0
 BackLaw = (items : List Item) (bytes : List ℕ) (T : Stream) → AlignedFields (fields_of items) → All (λ b. b < 256) bytes
-    → Reads (fields_of items) (fresh bytes) (values_of items) T
+    → ReadsValues (fields_of items) (fresh bytes) (values_of items) T
     → (ps : List Piece) × ArePieces items ps
     × (laid_out ps ≡ cleared (last_order Msb0 (map field_shape (fields_of items))) (length T.window) (take (length bytes - length T.bytes) bytes))
 
 -- Fields may be read in two calls.
 abbrev pub CallsLaw : Type 0
 CallsLaw = (fs gs : List Field) (ns ms : List Number) (S T : Stream) → length ns ≡ length fs
-    → (Reads (fs ++ gs) S (ns ++ ms) T ↔ ((U : Stream) × Reads fs S ns U × Reads gs U ms T))
+    → (ReadsValues (fs ++ gs) S (ns ++ ms) T ↔ ((U : Stream) × ReadsValues fs S ns U × ReadsValues gs U ms T))

@@ -77,10 +77,10 @@ pub record LaysOut (items : List Item) (bytes : List ℕ) : Type 0 where
   pub is : bytes ≡ laid_out pieces
 
 -- fields read one after the other from a stream: the numbers, and the stream left
-abbrev pub Reads : List Field → Stream → List Number → Stream → Type 0
-Reads [] S [] T = S ≡ T
-Reads (f ∷ fs) S (n ∷ ns) T = Has (field_width f) S × IsWorth f (taken f.layout.order (field_width f) S) n × Reads fs (left f.layout.order (field_width f) S) ns T
-Reads _ S _ T = ⊥
+abbrev pub ReadsValues : List Field → Stream → List Number → Stream → Type 0
+ReadsValues [] S [] T = S ≡ T
+ReadsValues (f ∷ fs) S (n ∷ ns) T = Has (field_width f) S × IsWorth f (taken f.layout.order (field_width f) S) n × ReadsValues fs (left f.layout.order (field_width f) S) ns T
+ReadsValues _ S _ T = ⊥
 
 -- the fields of items
 abbrev pub fields_of : List Item → List Field

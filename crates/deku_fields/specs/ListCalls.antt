@@ -34,11 +34,6 @@ abbrev pub ReadsFields : List Field → Meaning (Option Stream) (List Number)
 ReadsFields [] = Answer []
 ReadsFields (f ∷ fs) = Then (ReadsField f) (λ n. Mapped (λ ns. n ∷ ns) (ReadsFields fs))
 
--- what was put into a buffer, where the call succeeds
-abbrev pub filling : Result (Unit {0}) DekuError → List Number → Result (List Number) DekuError
-filling (Ok v) numbers = Ok numbers
-filling (Err e) numbers = Err e
-
 -- ---- writing
 -- a number as an integer
 abbrev pub integer_of : Number → ℤ
@@ -70,15 +65,10 @@ WritesWhole m (Ok v) = (out : Output) × (c : ℕ) × m false (Going in_memory 0
 WritesWhole m (Err e) = (u : Standing Output) × m false (Going in_memory 0) (Err e) u
 
 -- fields are read into memory that is found first, or it is refused and nothing changed
-abbrev pub ReadsVec : List Field → Meaning (Option Stream) (List Number)
-ReadsVec fs b s r u = ((b ≡ false) × (r ≡ Err (Io OutOfMemory)) × (u ≡ s)) ⊎ ReadsFields fs b s r u
+abbrev pub ReadsList : List Field → Meaning (Option Stream) (List Number)
+ReadsList fs b s r u = ((b ≡ false) × (r ≡ Err (Io OutOfMemory)) × (u ≡ s)) ⊎ ReadsFields fs b s r u
 
 -- how many bits fields read from bytes, and their values, in memory that is found first
 abbrev pub ListFrom : List Field → List ℕ → Result (ℕ × Vec Number) DekuError → Type 0
-ListFrom fs bytes (Ok v) = (u : Standing (Option Stream)) × ReadsVec fs false (Going (Some (fresh bytes)) 0) (Ok v.1.items) u × (v.0 ≡ count_of u)
-ListFrom fs bytes (Err e) = (u : Standing (Option Stream)) × ReadsVec fs false (Going (Some (fresh bytes)) 0) (Err e) u
-
--- what was read, where the call succeeds
-abbrev pub items_of : Result (Vec Number) DekuError → Result (List Number) DekuError
-items_of (Ok v) = Ok v.items
-items_of (Err e) = Err e
+ListFrom fs bytes (Ok v) = (u : Standing (Option Stream)) × ReadsList fs false (Going (Some (fresh bytes)) 0) (Ok v.1.items) u × (v.0 ≡ count_of u)
+ListFrom fs bytes (Err e) = (u : Standing (Option Stream)) × ReadsList fs false (Going (Some (fresh bytes)) 0) (Err e) u

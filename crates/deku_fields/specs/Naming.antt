@@ -88,13 +88,13 @@ BeginsOption [] = ⊤
 BeginsOption (c ∷ cs) = codes "," ≡ c ∷ []
 
 -- the text does not begin with the other
-abbrev pub Lacks : List ℕ → List ℕ → Type 0
-Lacks front text = (rest : List ℕ) → text ≡ front ++ rest → ⊥
+abbrev pub LacksFront : List ℕ → List ℕ → Type 0
+LacksFront front text = (rest : List ℕ) → text ≡ front ++ rest → ⊥
 
 -- One of two options is in front of the rest. Or none is, and the second is meant.
 abbrev pub SplitsOption : {T : Type 0} → List ℕ → T → List ℕ → T → List ℕ → T → List ℕ → Type 0
 SplitsOption first a second b text t rest = ((text ≡ first ++ rest) × (t ≡ a)) ⊎ ((text ≡ second ++ rest) × (t ≡ b))
-    ⊎ ((text ≡ rest) × (t ≡ b) × Lacks first text × Lacks second text)
+    ⊎ ((text ≡ rest) × (t ≡ b) × LacksFront first text × LacksFront second text)
 
 -- an endian is in front of the rest, or none is and it is little
 abbrev pub SplitsEndian : List ℕ → Endian → List ℕ → Type 0

@@ -17,7 +17,7 @@ use Rattle.deku.specs.Composing.{Both}
 use Rattle.deku_fields.specs.declared.list.Number.{Number}
 use Rattle.deku_fields.specs.declared.list.Field.{Field}
 use Rattle.deku_fields.specs.declared.list.Item.{Item}
-use Rattle.deku_fields.specs.Items.{field_shape, IsAllowedField, IsFitting, AlignedFields, LaysOut, Reads, fields_of, values_of}
+use Rattle.deku_fields.specs.Items.{field_shape, IsAllowedField, IsFitting, AlignedFields, LaysOut, ReadsValues, fields_of, values_of}
 use Rattle.deku_fields.specs.ListCalls.{ReadsFields, WritesItems}
 
 -- ---- devices that do not fail
@@ -54,7 +54,7 @@ pub record Begins (fs : List Field) (items : List Item) (bytes after : List ℕ)
 -- fields were read from bytes: these values; their bits are counted from c on, and the unread bits of the last byte and the bytes behind are still to come
 pub record HasRead (fs : List Field) (bytes : List ℕ) (values : List Number) (c : ℕ) (after : List ℕ) (u : Standing (Option Stream)) : Type 0 where
   pub rest : Stream
-  pub read : Reads fs (fresh bytes) values rest
+  pub read : ReadsValues fs (fresh bytes) values rest
   pub behind : rest.bytes ≡ after
   pub unread : total (map field_shape fs) + length rest.window + 8 * length after ≡ 8 * length bytes
   pub stands : u ≡ Going (Some rest) (c + total (map field_shape fs))
@@ -89,7 +89,7 @@ ReadsBackFrom fs bytes r = (items : List Item) (after : List ℕ) → Begins fs 
 pub record HasFound (fs : List Field) (S : Stream) (c : ℕ) (values : List Number) (u : Standing (Option Stream)) : Type 0 where
   pub allowed : All IsAllowedField fs
   pub rest : Stream
-  pub read : Reads fs S values rest
+  pub read : ReadsValues fs S values rest
   pub stands : u ≡ Going (Some rest) (c + total (map field_shape fs))
 
 -- from any stream that is told, values that are answered are those that the fields read from it
@@ -98,7 +98,7 @@ FindsAny fs s r u = (S : Stream) (c : ℕ) → s ≡ Going (Some S) c → IfOk r
 
 -- from any bytes, values that are answered are those that the fields read from them
 abbrev pub FindsIn : List Field → List ℕ → Result (ℕ × Vec Number) DekuError → Type 0
-FindsIn fs bytes r = IfOk r (λ v. All IsAllowedField fs × ((rest : Stream) × Reads fs (fresh bytes) v.1.items rest))
+FindsIn fs bytes r = IfOk r (λ v. All IsAllowedField fs × ((rest : Stream) × ReadsValues fs (fresh bytes) v.1.items rest))
 
 -- ---- writing
 -- n bytes are not more than the room, where it is told
@@ -152,5 +152,5 @@ LaidOut items r = All IsFitting items → AlignedFields (fields_of items) → Is
 -- items whose aligned fields read their values from bytes are written as the bytes taken, unread bits zero
 abbrev pub WritesBack : List Item → Result (Vec ℕ) DekuError → Type 0
 WritesBack items r = (bytes : List ℕ) (T : Stream) → All IsAllowedField (fields_of items) → AlignedFields (fields_of items) → IsCountable items
-    → All (λ b. b < 256) bytes → Reads (fields_of items) (fresh bytes) (values_of items) T
+    → All (λ b. b < 256) bytes → ReadsValues (fields_of items) (fresh bytes) (values_of items) T
     → MatchResult r (λ v. v.items ≡ cleared (last_order Msb0 (map field_shape (fields_of items))) (length T.window) (take (length bytes - length T.bytes) bytes)) (λ e. e ≡ Io OutOfMemory)

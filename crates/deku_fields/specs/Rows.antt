@@ -14,7 +14,7 @@ use Rattle.deku_fields.specs.declared.list.Kind.TheVariants.{U8, U16, U32, U128,
 use Rattle.deku_fields.specs.declared.list.Number.{Number}
 use Rattle.deku_fields.specs.declared.list.Number.TheVariants.{Unsigned, Signed}
 use Rattle.deku_fields.specs.declared.list.Item.{Item}
-use Rattle.deku_fields.specs.Items.{IsFitting, ArePieces, LaysOut, AlignedFields, Reads, fields_of, values_of}
+use Rattle.deku_fields.specs.Items.{IsFitting, ArePieces, LaysOut, AlignedFields, ReadsValues, fields_of, values_of}
 use Rattle.deku_fields.specs.Cutting.{IsCutTo}
 use Rattle.deku_fields.specs.Promise.{Begins, AreWritable, IsCountable}
 
@@ -35,7 +35,7 @@ pub record BothWays (items : List Item) (bytes : List ℕ) : Type 0 where
   pub laid : LaysOut items bytes
   pub written : WrittenAs items bytes
   pub rest : Stream
-  pub read : Reads (fields_of items) (fresh bytes) (values_of items) rest
+  pub read : ReadsValues (fields_of items) (fresh bytes) (values_of items) rest
   pub touched : rest.bytes ≡ []
 
 -- two halves of a byte and two bytes
@@ -99,7 +99,7 @@ pub record TurnedRows : Type 0 where
   -- it is written
   pub written : WrittenAs turned_items (0xB0 ∷ 0x01 ∷ [])
   -- other numbers are read from the bytes
-  pub read : Reads (fields_of turned_items) (fresh (0xB0 ∷ 0x01 ∷ [])) (Unsigned 5 ∷ Unsigned 48 ∷ []) (stream (bits_of 4 0b0000) [])
+  pub read : ReadsValues (fields_of turned_items) (fresh (0xB0 ∷ 0x01 ∷ [])) (Unsigned 5 ∷ Unsigned 48 ∷ []) (stream (bits_of 4 0b0000) [])
 
 -- What the promises ask for is met.
 pub record PromiseRows : Type 0 where

@@ -2,7 +2,7 @@
 
 ghost use Rattle.std.specs.Prelude.{◌≡◌, ◌↔◌, IsSome, IfSome};
 ghost use Rattle.deku_fields.specs.Items.{field_width};
-ghost use Rattle.deku_fields.specs.Cutting.{Admits, IsCutTo, cuts};
+ghost use Rattle.deku_fields.specs.Cutting.{AdmitsCut, IsCutTo, cuts};
 
 use crate::list::{Field, Number};
 use deku::ctx::Size;
@@ -20,7 +20,7 @@ use deku_num::kernel::{allowed_width, low_bits, residue_of, signed_of};
 /// cut_to_bytes(Number::Unsigned(0x01020304), field)      // Some(Number::Unsigned(0x0304))
 /// ```
 pub fn cut_to_bytes(number: Number, field: Field) -> Option<Number>
-    ensures some { IsSome result ↔ Admits field number }
+    ensures some { IsSome result ↔ AdmitsCut field number }
     ensures cut { IfSome result (λ kept. IsCutTo field number kept) }
 {
     if !field.kind.holds(number) {
@@ -34,7 +34,7 @@ pub fn cut_to_bytes(number: Number, field: Field) -> Option<Number>
 
 // What is left of a number that a field of so many bits admits.
 fn kept(number: Number, field: Field, width: usize) -> Number
-    requires admits { Admits field number }
+    requires admits { AdmitsCut field number }
     requires wide { width ≡ field_width field }
     ensures { IsCutTo field number result }
 {

@@ -9,7 +9,7 @@ ghost use Rattle.deku_bits.specs.ReaderCalls.{Reads, FetchesFor, NoneEarly};
 ghost use Rattle.deku_bits.specs.Causes.{NoKind, WantsMemory, Caused};
 ghost use Rattle.deku_fields.specs.declared.list.Number.TheVariants.{Unsigned};
 ghost use Rattle.deku_fields.specs.Items.{number_type, field_shape, field_width, IsAllowedField};
-ghost use Rattle.deku_fields.specs.ListCalls.{ListFrom, ReadsField, ReadsFields, ReadsVec, filling, items_of};
+ghost use Rattle.deku_fields.specs.ListCalls.{ListFrom, ReadsField, ReadsFields, ReadsList};
 ghost use Rattle.deku_fields.specs.Promise.{FindsAny, FindsIn, LeavesBehind, ReadsBack, ReadsBackVec, ReadsBackFrom, ReadsWhereSound, ReadsWhereTold};
 
 use crate::list::{Field, Number, high_width};
@@ -116,7 +116,7 @@ pub fn read_list<R: Source>(
     reader: &mut Reader<R>,
     fields: &[Field],
 ) -> Result<Vec<Number>, DekuError>
-    ensures meaning { Reads R.told (ReadsVec fields.now) reader.old (items_of result) reader.new }
+    ensures meaning { Reads R.told (ReadsList fields.now) reader.old (items_of result) reader.new }
     ensures values { ReadsWhereSound R.told (ReadsBackVec fields.now) reader.old (items_of result) reader.new }
     ensures found { ReadsWhereTold R.told (FindsAny fields.now) reader.old (items_of result) reader.new }
     ensures behind { LeavesBehind R.told fields.now reader.old (items_of result) reader.new }

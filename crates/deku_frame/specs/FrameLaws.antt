@@ -91,8 +91,8 @@ halves_symmetric = pair_symmetric (unsigned_symmetric byte (high_first (Bits 5))
 
 -- ---- behind the id and the version
 -- the pieces of a frame's fields under its own id and version; under others it has none
-abbrev Behind : ℕ × ℕ → Frame → List Piece → Type 0
-Behind h x ps = (head_of x ≡ h) × OfBody x ps
+abbrev OfBodyUnder : ℕ × ℕ → Frame → List Piece → Type 0
+OfBodyUnder h x ps = (head_of x ≡ h) × OfBody x ps
 
 body_one : (x : Frame) (ps qs : List Piece) → OfBody x ps → OfBody x qs → qs ≡ ps
 body_one (Ping t) ps qs p q = ping_symmetric.one t ps qs p q
@@ -107,7 +107,7 @@ body_written (Pair k l) ps p b s r u m = halves_symmetric.written (k, l) ps p b 
 first_of : (g h : ℕ × ℕ) → g ≡ h → g.0 ≡ h.0
 first_of g h e = ap (λ y. y.0) e
 
-body_back : (h : ℕ × ℕ) (x : Frame) (ps : List Piece) → Behind h x ps → IsReadBack ps (SameFrame x) (ReadsBody h)
+body_back : (h : ℕ × ℕ) (x : Frame) (ps : List Piece) → OfBodyUnder h x ps → IsReadBack ps (SameFrame x) (ReadsBody h)
 body_back h x ps q S T n r u takes room (OtherVersion b wrong k) = absurd (wrong (ap (λ y. y.1) (sym q.0)))
 body_back h (Ping t) ps q S T n r u takes room (OtherId b a1 a2 a3 e f) = absurd (a1 (first_of h (1, 1) (sym q.0)))
 body_back h (Data k v) ps q S T n r u takes room (OtherId b a1 a2 a3 e f) = absurd (a2 (first_of h (2, 1) (sym q.0)))
@@ -123,19 +123,19 @@ body_back h (Data k v) ps q S T n r u takes room (IsPair e m) = absurd (not_abov
 body_back h (Pair k l) ps q S T n r u takes room (IsPair e m) = named_back (λ (p : ℕ × ℕ). Pair p.0 p.1) _ _ _ _ halves_symmetric (λ v w f. f) (k, l) ps q.1 S T n r u takes room m
 
 behind_taken : {V : Type 0} (f : V → Frame) (P : V → List Piece → Type 0) (h : ℕ × ℕ) (x : Frame) (S : Stream) (n : ℕ) (u : Standing (Option Stream))
-    → ((v : V) (ps : List Piece) → P v ps → Behind h (f v) ps) → TakenAs (Named f P) x S n u → TakenAs (Behind h) x S n u
+    → ((v : V) (ps : List Piece) → P v ps → OfBodyUnder h (f v) ps) → TakenAs (Named f P) x S n u → TakenAs (OfBodyUnder h) x S n u
 behind_taken f P h x S n u to a =
     let k = a.has in
-    record { taken = a.taken; has = subst (λ y. Behind h y a.taken) k.1 (to k.0 a.taken k.2); rest = a.rest; takes = a.takes; stands = a.stands }
+    record { taken = a.taken; has = subst (λ y. OfBodyUnder h y a.taken) k.1 (to k.0 a.taken k.2); rest = a.rest; takes = a.takes; stands = a.stands }
 
-body_read : (h : ℕ × ℕ) (x : Frame) (S : Stream) (n : ℕ) (u : Standing (Option Stream)) → ReadsBody h false (Going (Some S) n) (Ok x) u → TakenAs (Behind h) x S n u
+body_read : (h : ℕ × ℕ) (x : Frame) (S : Stream) (n : ℕ) (u : Standing (Option Stream)) → ReadsBody h false (Going (Some S) n) (Ok x) u → TakenAs (OfBodyUnder h) x S n u
 body_read h x S n u (OtherVersion b wrong k) = absurd (no_refusal x _ k.2)
 body_read h x S n u (OtherId b a1 a2 a3 e f) = absurd (no_refusal x _ e)
 body_read h x S n u (IsPing e m) = behind_taken Ping _ h x S n u (λ v ps p. (sym e, p)) (named_read Ping _ _ _ _ ping_symmetric (λ v w f. f) x S n u m)
 body_read h x S n u (IsData e m) = behind_taken (λ (p : Sized). Data p.0 p.1) _ h x S n u (λ v ps p. (sym e, p)) (named_read (λ (p : Sized). Data p.0 p.1) _ _ _ _ sized_symmetric (λ v w f. f) x S n u m)
 body_read h x S n u (IsPair e m) = behind_taken (λ (p : ℕ × ℕ). Pair p.0 p.1) _ h x S n u (λ v ps p. (sym e, p)) (named_read (λ (p : ℕ × ℕ). Pair p.0 p.1) _ _ _ _ halves_symmetric (λ v w f. f) x S n u m)
 
-body_symmetric : (h : ℕ × ℕ) → IsSymmetric (Behind h) SameFrame WritesBody (ReadsBody h)
+body_symmetric : (h : ℕ × ℕ) → IsSymmetric (OfBodyUnder h) SameFrame WritesBody (ReadsBody h)
 body_symmetric h = record {
   one = λ x ps qs p q. body_one x ps qs p.1 q.1;
   written = λ x ps p. body_written x ps p.1;

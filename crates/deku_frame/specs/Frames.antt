@@ -13,7 +13,7 @@ use Rattle.deku_num.specs.declared.ctx.Size.TheVariants.{Whole, Bits}
 use Rattle.deku_num.specs.Numbers.{byte, unsigned}
 use Rattle.deku_num.specs.NumberCalls.{Checked, ReadsUnsigned, WritesNumber}
 use Rattle.deku.specs.Composing.{Then, Both, PairOf, WritesEach}
-use Rattle.deku.specs.Limits.{ReadsCount, Held}
+use Rattle.deku.specs.Limits.{ReadsCount, MappedBy}
 use Rattle.deku_pieces.specs.Pieces.{OfUnsigned, OfTimes, InTurn, SameEach, high_first}
 use Rattle.deku_frame.specs.declared.frame.Frame.{Frame}
 use Rattle.deku_frame.specs.declared.frame.Frame.TheVariants.{Ping, Data, Pair}
@@ -52,16 +52,16 @@ SameFrame _ _ = ⊥
 
 -- ---- reading
 -- a byte of so many bits is read
-abbrev pub ReadsByte : Size → Meaning (Option Stream) ℕ
-ReadsByte size = ReadsUnsigned byte (high_first size)
+abbrev pub ReadsByteBits : Size → Meaning (Option Stream) ℕ
+ReadsByteBits size = ReadsUnsigned byte (high_first size)
 
 -- the id and the version are read
 abbrev pub ReadsHead : Meaning (Option Stream) (ℕ × ℕ)
-ReadsHead = PairOf (ReadsByte (Bits 4)) (ReadsByte (Bits 4))
+ReadsHead = PairOf (ReadsByteBits (Bits 4)) (ReadsByteBits (Bits 4))
 
 -- so many bytes are read, one by one
 abbrev pub ReadsPayload : ℕ → Meaning (Option Stream) (Vec ℕ)
-ReadsPayload n = Held (λ xs v. v.items ≡ xs) (ReadsCount n (ReadsByte Whole))
+ReadsPayload n = MappedBy (λ xs v. v.items ≡ xs) (ReadsCount n (ReadsByteBits Whole))
 
 -- a token is read
 abbrev pub ReadsPing : Meaning (Option Stream) Frame
@@ -69,7 +69,7 @@ ReadsPing = Mapped Ping (ReadsUnsigned (unsigned 16) (high_first Whole))
 
 -- a length and so many bytes are read
 abbrev pub ReadsSized : Meaning (Option Stream) (ℕ × Vec ℕ)
-ReadsSized = Then (ReadsByte Whole) (λ n. Mapped (λ v. (n, v)) (ReadsPayload n))
+ReadsSized = Then (ReadsByteBits Whole) (λ n. Mapped (λ v. (n, v)) (ReadsPayload n))
 
 -- so is a frame of them
 abbrev pub ReadsData : Meaning (Option Stream) Frame
@@ -77,7 +77,7 @@ ReadsData = Mapped {V = ℕ × Vec ℕ} (λ p. Data p.0 p.1) ReadsSized
 
 -- five bits and eleven are read
 abbrev pub ReadsHalves : Meaning (Option Stream) (ℕ × ℕ)
-ReadsHalves = PairOf (ReadsByte (Bits 5)) (ReadsUnsigned (unsigned 16) (high_first (Bits 11)))
+ReadsHalves = PairOf (ReadsByteBits (Bits 5)) (ReadsUnsigned (unsigned 16) (high_first (Bits 11)))
 
 -- so is a frame of them
 abbrev pub ReadsPair : Meaning (Option Stream) Frame

@@ -19,8 +19,8 @@ use Rattle.deku_symmetry.specs.declared.choice.Tagged.{Tagged}
 use Rattle.deku_symmetry.specs.declared.choice.Tagged.TheVariants as tagged
 
 -- transfers of control, by their codes
-abbrev pub Transfers : Type 0
-Transfers = Choice Branch (Choice Immediate (Choice Jump (Only Immediate 0x73) 0x6F) 0x67) 0x63
+abbrev pub ControlTransfers : Type 0
+ControlTransfers = Choice Branch (Choice Immediate (Choice Jump (Only Immediate 0x73) 0x6F) 0x67) 0x63
 
 -- computations or transfers of control, by their codes
 abbrev pub Computations : Type 0
@@ -34,7 +34,7 @@ InWord = Tagged Immediate (Choice Immediate (Choice Store Computation 0x23) 0x0F
 abbrev pub computation_parts : Computations → InWord
 computation_parts c = tagged.Other (Other (Other (record { 0 = c })))
 
-abbrev pub transfer_parts : Transfers → InWord
+abbrev pub transfer_parts : ControlTransfers → InWord
 transfer_parts c = computation_parts (Other (Other (Other (Other (record { 0 = c })))))
 
 abbrev pub parts_of_word : Instruction → InWord
@@ -51,7 +51,7 @@ parts_of_word (word.Jump x) = transfer_parts (Other (Other (This x)))
 parts_of_word (word.System x) = transfer_parts (Other (Other (Other (record { 0 = x }))))
 
 -- ---- the word of parts
-abbrev pub word_of_transfer : Transfers → Instruction
+abbrev pub word_of_transfer : ControlTransfers → Instruction
 word_of_transfer (This x) = word.Branch x
 word_of_transfer (Other (This x)) = word.JumpRegister x
 word_of_transfer (Other (Other (This x))) = word.Jump x
@@ -71,7 +71,7 @@ word_of_parts (tagged.Other (Other (This x))) = word.Store x
 word_of_parts (tagged.Other (Other (Other x))) = word_of_computation x.0
 
 -- ---- parts are those of their word
-transfers_back : (c : Transfers) → parts_of_word (word_of_transfer c) ≡ transfer_parts c
+transfers_back : (c : ControlTransfers) → parts_of_word (word_of_transfer c) ≡ transfer_parts c
 transfers_back (This x) = refl
 transfers_back (Other (This x)) = refl
 transfers_back (Other (Other (This x))) = refl
@@ -91,7 +91,7 @@ parts_back (tagged.Other (Other (This x))) = refl
 parts_back (tagged.Other (Other (Other x))) = computations_back x.0
 
 -- ---- what has pieces under an id has this id
-pub transfers_own : (id : ℕ) (B : Branch → List Piece → Type 0) (I : Immediate → List Piece → Type 0) (J : Jump → List Piece → Type 0) (c : Transfers) (ps : List Piece)
+pub transfers_own : (id : ℕ) (B : Branch → List Piece → Type 0) (I : Immediate → List Piece → Type 0) (J : Jump → List Piece → Type 0) (c : ControlTransfers) (ps : List Piece)
     → OfChoice 0x63 id B (λ w. OfChoice 0x67 id I (λ w. OfChoice 0x6F id J (λ w. UnderId 0x73 id (I w.0)) w) w) c ps
     → id ≡ id_chosen 0x63 (id_chosen 0x67 (id_chosen 0x6F (λ w. 0x73))) c
 transfers_own id B I J (This x) ps p = p.0

@@ -13,9 +13,13 @@ pub data Then {A V W : Type 0} (m : Meaning A V) (k : V → Meaning A W) (b : Bo
   Second : (v : V) (t : Standing A) → m false s (Ok v) t → k v b t r u → Then m k b s r u
   First : (e : DekuError) → m b s (Err e) u → r ≡ Err e → Then m k b s r u
 
+-- two values, the first read first, and h of them
+abbrev pub JoinedBy : {A V W X : Type 0} → (V → W → X) → Meaning A V → Meaning A W → Meaning A X
+JoinedBy h m n = Then m (λ v. Then n (λ w. Answer (h v w)))
+
 -- two values, the first read first
 abbrev pub PairOf : {A V W : Type 0} → Meaning A V → Meaning A W → Meaning A (V × W)
-PairOf m n = Then m (λ v. Then n (λ w. Answer (v, w)))
+PairOf m n = JoinedBy (λ v w. (v, w)) m n
 
 -- two calls without a value, the first first
 abbrev pub Both : {A : Type 0} → Meaning A (Unit {0}) → Meaning A (Unit {0}) → Meaning A (Unit {0})

@@ -11,11 +11,7 @@ use Rattle.deku_bits.specs.Outcomes.{Meaning, Refuses}
 use Rattle.deku_num.specs.declared.ctx.Layout.{Layout}
 use Rattle.deku_num.specs.Numbers.{unsigned}
 use Rattle.deku_num.specs.NumberCalls.{Checked, WritesNumber}
-use Rattle.deku_meanings.specs.Composing.{Answer, Then}
-
--- two values, the first read first, and h of them
-abbrev pub JoinedBy : {A V W X : Type 0} → (V → W → X) → Meaning A V → Meaning A W → Meaning A X
-JoinedBy h m n = Then m (λ v. Then n (λ w. Answer (h v w)))
+use Rattle.deku_meanings.specs.Composing.{Answer}
 
 -- m of the item, where there is one; where there is none, nothing moves
 abbrev pub IfHeld : {A T : Type 0} → (T → Meaning A (Unit {0})) → Option T → Meaning A (Unit {0})

@@ -8,7 +8,7 @@ use Rattle.deku_bits.specs.Streams.{Stream}
 use Rattle.deku_bits.specs.Devices.{Health}
 use Rattle.deku_bits.specs.Standings.{Standing, Output}
 use Rattle.deku_bits.specs.Outcomes.{Outcome, Quiet, Broken, Mapped, Value, Refusal}
-use Rattle.deku_bits.specs.ReaderCalls.{Takes, ReadsWord}
+use Rattle.deku_bits.specs.ReaderCalls.{TakesBits, ReadsWord}
 use Rattle.deku_bits.proofs.ReaderLaws.{taken_length}
 use Rattle.deku_bits.specs.WriterCalls.{WritesWord}
 use Rattle.deku_bits.proofs.Handing.{no_ok, broken_at, mapped_ok, mapped_err, weaker}
@@ -26,7 +26,7 @@ pub record WordRead (o : Order) (n k : ℕ) (s : Standing (Option Stream)) (f : 
   pub bits : List Bool
   pub long : length bits ≡ n
   pub worth : k ≡ word_of o bits
-  pub taken : Outcome (Takes o n) s f (Ok bits) u g
+  pub taken : Outcome (TakesBits o n) s f (Ok bits) u g
 
 pub word_read : (o : Order) (n : ℕ) {k : ℕ} {s : Standing (Option Stream)} {f : Health} {u : Standing (Option Stream)} {g : Health} → Outcome (ReadsWord o n) s f (Ok k) u g → WordRead o n k s f u g
 word_read o n {k} {s} {f} {u} {g} (Quiet (Value v p e) q) = record {
@@ -39,25 +39,25 @@ word_read o n (Quiet (Refusal d p e) q) = absurd (cc)
 word_read o n (Broken a p q) = absurd (no_ok a)
 
 -- a refusal of a word is one of its bits
-pub word_refused : (o : Order) (n : ℕ) {e : DekuError} {s : Standing (Option Stream)} {f : Health} {u : Standing (Option Stream)} {g : Health} → Outcome (ReadsWord o n) s f (Err e) u g → Outcome (Takes o n) s f (Err e) u g
-word_refused o n {e} {s} {f} {u} {g} (Quiet (Refusal d p x) q) = let same : e ≡ d = cc in Quiet (subst (λ y. Takes o n false s (Err y) u) (sym same) p) q
+pub word_refused : (o : Order) (n : ℕ) {e : DekuError} {s : Standing (Option Stream)} {f : Health} {u : Standing (Option Stream)} {g : Health} → Outcome (ReadsWord o n) s f (Err e) u g → Outcome (TakesBits o n) s f (Err e) u g
+word_refused o n {e} {s} {f} {u} {g} (Quiet (Refusal d p x) q) = let same : e ≡ d = cc in Quiet (subst (λ y. TakesBits o n false s (Err y) u) (sym same) p) q
 word_refused o n (Quiet (Value v p x) q) = absurd (cc)
-word_refused o n {e} {s} {f} {u} {g} (Broken a (Refusal d p x) q) = let same : e ≡ d = cc in Broken (broken_at a) (subst (λ y. Takes o n true s (Err y) u) (sym same) p) q
+word_refused o n {e} {s} {f} {u} {g} (Broken a (Refusal d p x) q) = let same : e ≡ d = cc in Broken (broken_at a) (subst (λ y. TakesBits o n true s (Err y) u) (sym same) p) q
 word_refused o n (Broken a (Value v p x) q) = absurd (cc)
 
 -- the bits of a field were taken
 pub number_read : (t : NumberType) (l : Layout) (n : ℕ) {s : Standing (Option Stream)} {f : Health} {bits : List Bool} {u : Standing (Option Stream)} {g : Health}
-    → IsAllowed t l → Outcome (Takes l.order n) s f (Ok bits) u g → n ≡ width t l → Outcome (ReadsNumber t l) s f (Ok (value t l bits)) u g
+    → IsAllowed t l → Outcome (TakesBits l.order n) s f (Ok bits) u g → n ≡ width t l → Outcome (ReadsNumber t l) s f (Ok (value t l bits)) u g
 number_read t l n {s} {f} {bits} {u} {g} ok o w =
-    weaker (Mapped (value t l) (Takes l.order (width t l))) (ReadsNumber t l) s f (Ok (value t l bits)) u g (λ b m. Passed (ok, m))
-    (mapped_ok (value t l) (subst (λ k. Outcome (Takes l.order k) s f (Ok bits) u g) w o))
+    weaker (Mapped (value t l) (TakesBits l.order (width t l))) (ReadsNumber t l) s f (Ok (value t l bits)) u g (λ b m. Passed (ok, m))
+    (mapped_ok (value t l) (subst (λ k. Outcome (TakesBits l.order k) s f (Ok bits) u g) w o))
 
 -- they were refused
 pub number_refused : (t : NumberType) (l : Layout) (n : ℕ) {s : Standing (Option Stream)} {f : Health} {e : DekuError} {u : Standing (Option Stream)} {g : Health}
-    → IsAllowed t l → Outcome (Takes l.order n) s f (Err e) u g → n ≡ width t l → Outcome (ReadsNumber t l) s f (Err e) u g
+    → IsAllowed t l → Outcome (TakesBits l.order n) s f (Err e) u g → n ≡ width t l → Outcome (ReadsNumber t l) s f (Err e) u g
 number_refused t l n {s} {f} {e} {u} {g} ok o w =
-    weaker (Mapped (value t l) (Takes l.order (width t l))) (ReadsNumber t l) s f (Err e) u g (λ b m. Passed (ok, m))
-    (mapped_err (value t l) (subst (λ k. Outcome (Takes l.order k) s f (Err e) u g) w o))
+    weaker (Mapped (value t l) (TakesBits l.order (width t l))) (ReadsNumber t l) s f (Err e) u g (λ b m. Passed (ok, m))
+    (mapped_err (value t l) (subst (λ k. Outcome (TakesBits l.order k) s f (Err e) u g) w o))
 
 -- the word of a value was written
 pub word_written : (t : NumberType) (l : Layout) (v : ℤ) (n w : ℕ) {s : Standing Output} {f : Health} {r : Result (Unit {0}) DekuError} {u : Standing Output} {g : Health}

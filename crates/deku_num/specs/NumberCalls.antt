@@ -8,7 +8,7 @@ use Rattle.deku_bits.specs.Bits.{shown}
 use Rattle.deku_bits.specs.Streams.{Stream}
 use Rattle.deku_bits.specs.Standings.{Standing, Output}
 use Rattle.deku_bits.specs.Outcomes.{Meaning, Refuses, Mapped}
-use Rattle.deku_bits.specs.ReaderCalls.{Takes}
+use Rattle.deku_bits.specs.ReaderCalls.{TakesBits}
 use Rattle.deku_bits.specs.WriterCalls.{WritesBits}
 use Rattle.deku_num.specs.declared.ctx.Size.{Size}
 use Rattle.deku_num.specs.declared.ctx.Size.TheVariants.{Whole, Bytes}
@@ -21,14 +21,18 @@ pub data Checked {A V : Type 0} (refuses : Standing A → Result V DekuError →
   Refused : b ≡ false → refuses s r u → Checked refuses m b s r u
   Passed : m b s r u → Checked refuses m b s r u
 
--- the size is beyond the type, refused as told; or the field is signed, big, `Lsb0`, wider than 8 and no multiple of 8
+-- why a layout is refused: with this text for a size beyond the type, or as signed, big, `Lsb0`, wider than 8 and no multiple of 8
+abbrev pub IsLayoutRefusal : (Bor (List ℕ) → DekuError) → List ℕ → NumberType → Layout → DekuError → Type 0
+IsLayoutRefusal refusal text t l e = ((t.bits < width t l) × Tells refusal text e)
+    ⊎ ((width t l ≤ t.bits) × (IsEvenWhere t.signed l.endian l.order (width t l) → ⊥) × Tells InvalidParam (codes "signed big Lsb0 field of this width") e)
+
+-- the layout is refused, and nothing changed
 abbrev pub RefusesLayout : {A V : Type 0} → (Bor (List ℕ) → DekuError) → List ℕ → NumberType → Layout → Standing A → Result V DekuError → Standing A → Type 0
-RefusesLayout refusal text t l s r u = ((t.bits < width t l) × Refuses refusal text s r u)
-    ⊎ ((width t l ≤ t.bits) × (IsEvenWhere t.signed l.endian l.order (width t l) → ⊥) × Refuses InvalidParam (codes "signed big Lsb0 field of this width") s r u)
+RefusesLayout refusal text t l s r u = (e : DekuError) × IsLayoutRefusal refusal text t l e × (r ≡ Err e) × (u ≡ s)
 
 -- a number is read: its layout is looked at, so many bits are taken, and it is what they are worth
 abbrev pub ReadsNumber : NumberType → Layout → Meaning (Option Stream) ℤ
-ReadsNumber t l = Checked (RefusesLayout Parse (codes "too much data") t l) (λ b s r u. IsAllowed t l × Mapped (value t l) (Takes l.order (width t l)) b s r u)
+ReadsNumber t l = Checked (RefusesLayout Parse (codes "too much data") t l) (λ b s r u. IsAllowed t l × Mapped (value t l) (TakesBits l.order (width t l)) b s r u)
 
 -- the text for a size beyond the type, where a number is written
 abbrev pub beyond : Size → List ℕ
@@ -48,11 +52,6 @@ WritesNumber t l v = Checked (RefusesLayout InvalidParam (beyond l.size) t l)
 abbrev pub integers : Result ℕ DekuError → Result ℤ DekuError
 integers (Ok n) = Ok (pos n)
 integers (Err e) = Err e
-
--- why a layout is refused: with this text for a size beyond the type, or as signed, big, `Lsb0`, wider than 8 and no multiple of 8
-abbrev pub IsLayoutRefusal : (Bor (List ℕ) → DekuError) → List ℕ → NumberType → Layout → DekuError → Type 0
-IsLayoutRefusal refusal text t l e = ((t.bits < width t l) × Tells refusal text e)
-    ⊎ ((width t l ≤ t.bits) × (IsEvenWhere t.signed l.endian l.order (width t l) → ⊥) × Tells InvalidParam (codes "signed big Lsb0 field of this width") e)
 
 -- a number without a sign is read
 abbrev pub ReadsUnsigned : NumberType → Layout → Meaning (Option Stream) ℕ

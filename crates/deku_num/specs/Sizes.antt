@@ -2,9 +2,9 @@
 use Rattle.std.specs.Prelude.{ℕ, zero, suc, ◌+◌, ◌*◌, ◌/◌, ◌%◌, ◌^◌, Option, None, Some, ltb, eqb, cond}
 
 -- so many bits, where a `usize` can tell them
-abbrev pub fitting : Option ℕ → Option ℕ
-fitting None = None
-fitting (Some n) = cond (ltb n (2 ^ 64)) (Some n) None
+abbrev pub within_usize : Option ℕ → Option ℕ
+within_usize None = None
+within_usize (Some n) = cond (ltb n (2 ^ 64)) (Some n) None
 
 -- as many bytes, where they are whole
 abbrev pub eighth : Option ℕ → Option ℕ

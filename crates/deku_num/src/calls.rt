@@ -4,7 +4,7 @@ ghost use Rattle.std.specs.Prelude.{◌≡◌, ◌<◌, ◌≤◌, ◌%◌, ◌^
 ghost use Rattle.deku_bits.specs.declared.error.DekuError.TheVariants.{Parse, InvalidParam};
 ghost use Rattle.deku_bits.specs.Standings.{Untouched};
 ghost use Rattle.deku_bits.specs.Bits.{bits_of};
-ghost use Rattle.deku_bits.specs.ReaderCalls.{Reads, Takes, FetchesFor, NoneEarly};
+ghost use Rattle.deku_bits.specs.ReaderCalls.{Reads, TakesBits, FetchesFor, NoneEarly};
 ghost use Rattle.deku_bits.specs.WriterCalls.{Writes};
 ghost use Rattle.deku_num.specs.NumberLaws.{InType};
 ghost use Rattle.deku_num.specs.Numbers.{width, IsAllowed, IsFieldOf};
@@ -94,7 +94,7 @@ pub fn read_signed<R: Source>(
 fn number_at_hand<R: Source>(reader: &mut Reader<R>, layout: Layout, width: usize) -> Option<u64>
     ensures big { IfSome result (λ n. layout.endian ≡ Endian.Big) }
     ensures high { IfSome result (λ n. layout.order ≡ Order.Msb0) }
-    ensures takes { IfSome result (λ n. Reads R.told (Takes Order.Msb0 width) reader.old (Ok (bits_of width n)) reader.new) }
+    ensures takes { IfSome result (λ n. Reads R.told (TakesBits Order.Msb0 width) reader.old (Ok (bits_of width n)) reader.new) }
     ensures below { IfSome result (λ n. n < 2 ^ width) }
     ensures fetched { IfSome result (λ n. FetchesFor width reader.old.state (R.told reader.old.source) (R.told reader.new.source)) }
     ensures early { NoneEarly reader.old.state reader.new.state }

@@ -1,7 +1,7 @@
 //! How a whole number lies in a stream: its byte order, its bit order and its size.
 
 ghost use Rattle.std.specs.Prelude.{◌≡◌, ◌↔◌, IsTrue, option_map};
-ghost use Rattle.deku_num.specs.Sizes.{fitting};
+ghost use Rattle.deku_num.specs.Sizes.{within_usize};
 
 use crate::size::DekuSize;
 pub use deku_bits::ctx::Order;
@@ -116,7 +116,7 @@ impl BitSize {
     /// BitSize::of::<(u8, [u16; 3])>()                            // Some(BitSize(56))
     /// ```
     pub fn of<T: DekuSize>() -> Option<BitSize>
-        ensures { result ≡ option_map (λ n. record { 0 = n }) (fitting T.bits) }
+        ensures { result ≡ option_map (λ n. record { 0 = n }) (within_usize T.bits) }
     {
         T::size_bits().map(BitSize)
     }

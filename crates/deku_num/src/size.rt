@@ -1,7 +1,7 @@
 //! Types whose values all take the same bits.
 
 ghost use Rattle.std.specs.Prelude.{◌≡◌, ℕ, Option, Some, refl};
-ghost use Rattle.deku_num.specs.Sizes.{fitting, eighth};
+ghost use Rattle.deku_num.specs.Sizes.{within_usize, eighth};
 
 mod shapes;
 
@@ -15,7 +15,7 @@ pub trait DekuSize {
     /// <(u8, [u16; 3])>::size_bits()                              // Some(56)
     /// ```
     fn size_bits() -> Option<usize>
-        ensures { result ≡ fitting bits };
+        ensures { result ≡ within_usize bits };
 
     /// The bytes that each value takes; none where the bits are not known, do not fit `usize` or make no whole bytes.
     ///
@@ -23,7 +23,7 @@ pub trait DekuSize {
     /// <(u8, [u16; 3])>::size_bytes()                             // Some(7)
     /// ```
     final fn size_bytes() -> Option<usize>
-        ensures { result ≡ eighth (fitting bits) }
+        ensures { result ≡ eighth (within_usize bits) }
     {
         match Self::size_bits() {
             Some(bits) if bits % 8 == 0 => Some(bits / 8),
@@ -38,9 +38,9 @@ pub trait DekuSizeConst: DekuSize {
 
     ghost SIZE_BYTES: { Option ℕ };
 
-    ghost bits_known: { fitting Self.bits ≡ Some SIZE_BITS };
+    ghost bits_known: { within_usize Self.bits ≡ Some SIZE_BITS };
 
-    ghost bytes_known: { eighth (fitting Self.bits) ≡ SIZE_BYTES };
+    ghost bytes_known: { eighth (within_usize Self.bits) ≡ SIZE_BYTES };
 
     /// The bits that each value takes.
     const SIZE_BITS: usize;

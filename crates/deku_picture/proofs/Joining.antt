@@ -5,7 +5,7 @@ use Rattle.std.proofs.lemmas.List.{flat_map_more, take_at, take_more, take_min, 
 use Rattle.std.proofs.lemmas.List.Elements.{All-push, All-take, All-cons, All-nil}
 use Rattle.deku_fields.specs.declared.picture.Place.{Place}
 use Rattle.deku_picture.specs.declared.cell.Cell.{Cell}
-use Rattle.deku_picture.specs.Cells.{behind, run, places_of, IsRun, GoesOn, AreApart, AreCells, AreRows, places_in}
+use Rattle.deku_picture.specs.Cells.{behind, run, places_of, IsRun, Extends, AreApart, AreCells, AreRows, places_in}
 
 -- the cell of one place
 abbrev pub one_place : Option Place → Cell
@@ -23,7 +23,7 @@ place_here (Some p) = let e : p.bit - 0 ≡ p.bit = omega arith in ap (λ b. Som
 pub one_laid : (p : Option Place) → places_of (one_place p) ≡ p ∷ []
 one_laid p = ap (λ q. q ∷ []) (place_here p)
 
-next_place : (n : ℕ) (p q : Option Place) → GoesOn n p q → behind n p ≡ q
+next_place : (n : ℕ) (p q : Option Place) → Extends n p q → behind n p ≡ q
 next_place n None None h = refl
 next_place n None (Some q) h = absurd h
 next_place n (Some p) None h = absurd h
@@ -42,10 +42,10 @@ one_run : (p : Option Place) → IsRun (one_place p)
 one_run None = record { some = omega arith; low = tt }
 one_run (Some p) = record { some = omega arith; low = omega arith }
 
-wider_run : (c : Cell) (q : Option Place) → GoesOn c.width c.first q → IsRun (wider c)
+wider_run : (c : Cell) (q : Option Place) → Extends c.width c.first q → IsRun (wider c)
 wider_run c q h = record { some = omega arith; low = low c.first q h }
   where
-    low : (p q : Option Place) → GoesOn c.width p q → IfSome p (λ p. c.width + 1 ≤ p.bit + 1)
+    low : (p q : Option Place) → Extends c.width p q → IfSome p (λ p. c.width + 1 ≤ p.bit + 1)
     low None q h = tt
     low (Some p) None h = absurd h
     low (Some p) (Some q) h = omega (arith, h.1)
@@ -59,7 +59,7 @@ apart_wider [] c a = tt
 apart_wider (b ∷ []) c a = (a.0, tt)
 apart_wider (b ∷ d ∷ cs) c a = (a.0, apart_wider (d ∷ cs) c a.1)
 
-apart_more : (cs : List Cell) (c : Cell) (q : Option Place) → AreApart (cs ++ c ∷ []) → (GoesOn c.width c.first q → ⊥) → AreApart ((cs ++ c ∷ []) ++ one_place q ∷ [])
+apart_more : (cs : List Cell) (c : Cell) (q : Option Place) → AreApart (cs ++ c ∷ []) → (Extends c.width c.first q → ⊥) → AreApart ((cs ++ c ∷ []) ++ one_place q ∷ [])
 apart_more [] c q a h = (h, tt)
 apart_more (b ∷ []) c q a h = (a.0, (h, tt))
 apart_more (b ∷ d ∷ cs) c q a h = (a.0, apart_more (d ∷ cs) c q a.1 h)
@@ -72,7 +72,7 @@ first_cell p = record {
   apart = tt;
 }
 
-pub goes_on : (ps : List (Option Place)) (cs : List Cell) (c : Cell) (q : Option Place) → AreCells ps (cs ++ c ∷ []) → GoesOn c.width c.first q → AreCells (ps ++ q ∷ []) (cs ++ wider c ∷ [])
+pub goes_on : (ps : List (Option Place)) (cs : List Cell) (c : Cell) (q : Option Place) → AreCells ps (cs ++ c ∷ []) → Extends c.width c.first q → AreCells (ps ++ q ∷ []) (cs ++ wider c ∷ [])
 goes_on ps cs c q h on = record {
   laid = laid_more cs (wider c) ∙ ap (λ x. flat_map places_of cs ++ x) (run_more c.width c.first ∙ ap (λ x. places_of c ++ x ∷ []) (next_place c.width c.first q on))
       ∙ sym (append_assoc (flat_map places_of cs) (places_of c) (q ∷ [])) ∙ ap (λ x. x ++ q ∷ []) (sym (laid_more cs c) ∙ h.laid);
@@ -80,7 +80,7 @@ goes_on ps cs c q h on = record {
   apart = apart_wider cs c h.apart;
 }
 
-pub begins : (ps : List (Option Place)) (cs : List Cell) (c : Cell) (q : Option Place) → AreCells ps (cs ++ c ∷ []) → (GoesOn c.width c.first q → ⊥) → AreCells (ps ++ q ∷ []) ((cs ++ c ∷ []) ++ one_place q ∷ [])
+pub begins : (ps : List (Option Place)) (cs : List Cell) (c : Cell) (q : Option Place) → AreCells ps (cs ++ c ∷ []) → (Extends c.width c.first q → ⊥) → AreCells (ps ++ q ∷ []) ((cs ++ c ∷ []) ++ one_place q ∷ [])
 begins ps cs c q h off = record {
   laid = laid_more (cs ++ c ∷ []) (one_place q) ∙ ap (λ x. flat_map places_of (cs ++ c ∷ []) ++ x) (one_laid q) ∙ ap (λ x. x ++ q ∷ []) h.laid;
   runs = All-push IsRun (cs ++ c ∷ []) (one_place q) h.runs (one_run q);

@@ -26,16 +26,16 @@ pub record IsRun (c : Cell) : Type 0 where
   pub low : IfSome c.first (λ p. c.width ≤ p.bit + 1)
 
 -- a place goes on with a run of n places: both are padding, or it is the same field's next lower bit
-abbrev pub GoesOn : ℕ → Option Place → Option Place → Type 0
-GoesOn n None None = ⊤
-GoesOn n (Some p) (Some q) = (p.field ≡ q.field) × (p.bit ≡ q.bit + n)
-GoesOn n _ _ = ⊥
+abbrev pub Extends : ℕ → Option Place → Option Place → Type 0
+Extends n None None = ⊤
+Extends n (Some p) (Some q) = (p.field ≡ q.field) × (p.bit ≡ q.bit + n)
+Extends n _ _ = ⊥
 
 -- no cell goes on with the one before it
 abbrev pub AreApart : List Cell → Type 0
 AreApart [] = ⊤
 AreApart (c ∷ []) = ⊤
-AreApart (c ∷ d ∷ cells) = (GoesOn c.width c.first d.first → ⊥) × AreApart (d ∷ cells)
+AreApart (c ∷ d ∷ cells) = (Extends c.width c.first d.first → ⊥) × AreApart (d ∷ cells)
 
 -- the cells of places: laid end to end they are these places, each of them is a run, and each is as long as it can be
 pub record AreCells (places : List (Option Place)) (cells : List Cell) : Type 0 where

@@ -1,7 +1,7 @@
 //! Cells: runs of neighbouring places that belong together.
 
 ghost use Rattle.std.specs.Prelude.{◌≡◌, ◌↔◌, ◌+◌, ◌∷◌, IsTrue, IfOk};
-ghost use Rattle.deku_picture.specs.Cells.{GoesOn, AreCells, AreRows, places_in};
+ghost use Rattle.deku_picture.specs.Cells.{Extends, AreCells, AreRows, places_in};
 
 use deku_fields::Place;
 use std::alloc::{AllocError, Global};
@@ -21,7 +21,7 @@ pub struct Cell {
 impl Cell {
     // Whether a place that stands behind this run goes on with it.
     fn is_continued_by(&self, place: Option<Place>) -> bool
-        ensures { IsTrue result ↔ GoesOn self.now.width self.now.first place }
+        ensures { IsTrue result ↔ Extends self.now.width self.now.first place }
     {
         match (self.first, place) {
             (None, None) => true,

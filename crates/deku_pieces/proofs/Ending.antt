@@ -12,7 +12,7 @@ use Rattle.deku_bits.specs.Symmetry.{Takes}
 use Rattle.deku_bits.specs.Standings.{Standing, Going, Output, count_of}
 use Rattle.deku_bits.specs.Outcomes.{Meaning, Mapped}
 use Rattle.deku_num.specs.NumberCalls.{Refused, Passed}
-use Rattle.deku.specs.Limits.{Taken, TakesItem, TakesEach, GoesOn, Widens, items_of, EndsWith, Closes, ItemRefused, WithoutWidth, NoPlace, Held}
+use Rattle.deku.specs.Limits.{Taken, TakesItem, TakesEach, GoesOn, Widens, taken_items, EndsWith, Closes, ItemRefused, WithoutWidth, Unplaced, MappedBy}
 use Rattle.deku_pieces.specs.Symmetric.{breadth, IsWrittenAs, IsReadBack, Answers, TakenAs, IsSymmetric}
 use Rattle.deku_num.specs.declared.kind.NumberType.{NumberType}
 use Rattle.deku_num.specs.declared.ctx.Layout.{Layout}
@@ -86,7 +86,7 @@ module _ {V : Type 0} (ends : V → Bool) {P : V → List Piece → Type 0} {sam
   last_ended v (w ∷ vs) is last = let goes = is.0 in absurd (cc)
 
   partway : (vs : List V) (ps : List Piece) (S T : Stream) (c end : ℕ) (xs : List Item) (j k : AtEnd) (u : Standing (Option Stream)) → IsEnded ends vs → OfEach P vs ps
-      → Takes ps S T → c + breadth ps ≡ end → end < 2 ^ 64 → TakesEach m (Going (Some S) c) xs u → GoesOn judge j xs k → Partway vs T (items_of xs) end u
+      → Takes ps S T → c + breadth ps ≡ end → end < 2 ^ 64 → TakesEach m (Going (Some S) c) xs u → GoesOn judge j xs k → Partway vs T (taken_items xs) end u
   partway vs ps S T c end [] j k u is are takes sum room turn on =
       record { front = []; others = vs; pieces = ps; at = S; count = c; split = refl; alike_front = tt; ended = is; are = are; takes = takes; stands = sym turn; sum = sum }
   partway [] ps S T c end (x ∷ xs) j k u is are takes sum room turn on = absurd is
@@ -162,10 +162,10 @@ module _ {V : Type 0} (ends : V → Bool) {P : V → List Piece → Type 0} {sam
       let cut = last_step (TakesItem m) (Going (Some S) c) xs x u turn in
       let f = partway vs ps S T c (c + breadth ps) xs (record {}) k cut.0 p.0 p.1 takes refl room cut.1 on in
       let behind = last_back f.others f.pieces f.at T f.count (c + breadth ps) x u f.ended f.are f.takes f.sum room (subst (λ s. TakesItem m s x u) f.stands cut.2) last in
-      let alike_all = same_append f.front (items_of xs) f.others (x.item ∷ []) f.alike_front behind.0 in
+      let alike_all = same_append f.front (taken_items xs) f.others (x.item ∷ []) f.alike_front behind.0 in
       let split = f.split in
-      let joined : items_of (xs ++ x ∷ []) ≡ items_of xs ++ x.item ∷ [] = map-append (λ y. y.item) xs (x ∷ []) in
-      inl (items_of (xs ++ x ∷ []), subst (SameEach same vs) (sym joined) (subst (λ ys. SameEach same ys (items_of xs ++ x.item ∷ [])) (sym split) alike_all), e, behind.1)
+      let joined : taken_items (xs ++ x ∷ []) ≡ taken_items xs ++ x.item ∷ [] = map-append (λ y. y.item) xs (x ∷ []) in
+      inl (taken_items (xs ++ x ∷ []), subst (SameEach same vs) (sym joined) (subst (λ ys. SameEach same ys (taken_items xs ++ x.item ∷ [])) (sym split) alike_all), e, behind.1)
   ended_back vs ps p S T c r u takes room (Closes xs k t turn on closed over b e) = absurd closed
   ended_back vs ps p S T c r u takes room (ItemRefused xs k t d turn on refusal over e) =
       let f = partway vs ps S T c (c + breadth ps) xs (record {}) k t p.0 p.1 takes refl room turn on in
@@ -177,10 +177,10 @@ module _ {V : Type 0} (ends : V → Bool) {P : V → List Piece → Type 0} {sam
       let f = partway vs ps S T c (c + breadth ps) xs (record {}) k cut.0 p.0 p.1 takes refl room cut.1 on in
       let sum = f.sum in
       absurd (none (next_widens f.others f.pieces f.at T f.count x u f.ended f.are f.takes (omega (arith, sum, room)) (subst (λ s. TakesItem m s x u) f.stands cut.2)))
-  ended_back vs ps p S T c r u takes room (NoPlace xs x v k l turn on judged wide_or over b e) = inr e
+  ended_back vs ps p S T c r u takes room (Unplaced xs x v k l turn on judged wide_or over b e) = inr e
 
   -- ---- what is read
-  each_taken : (xs : List Item) (S : Stream) (c : ℕ) (u : Standing (Option Stream)) → TakesEach m (Going (Some S) c) xs u → TakenAs (OfEach P) (items_of xs) S c u
+  each_taken : (xs : List Item) (S : Stream) (c : ℕ) (u : Standing (Option Stream)) → TakesEach m (Going (Some S) c) xs u → TakenAs (OfEach P) (taken_items xs) S c u
   each_taken [] S c u turn = record { taken = []; has = refl; rest = S; takes = refl; stands = sym turn ∙ ap (λ n. Going (Some S) n) (omega arith) }
   each_taken (x ∷ xs) S c u (t, taken, turn) =
       let a = A.read x.item S c t taken.read in
@@ -194,20 +194,20 @@ module _ {V : Type 0} (ends : V → Bool) {P : V → List Piece → Type 0} {sam
         stands = b.stands ∙ ap (λ n. Going (Some b.rest) n) sum;
       }
 
-  are_ended : (xs : List Item) (x : Item) (j k : AtEnd) → GoesOn judge j xs k → true ≡ ends x.item → IsEnded ends (items_of (xs ++ x ∷ []))
+  are_ended : (xs : List Item) (x : Item) (j k : AtEnd) → GoesOn judge j xs k → true ≡ ends x.item → IsEnded ends (taken_items (xs ++ x ∷ []))
   are_ended [] x j k on last = sym last
   are_ended (y ∷ []) x j k (i, judged, on) last = (sym judged.0, sym last)
   are_ended (y ∷ z ∷ zs) x j k (i, judged, on) last = (sym judged.0, are_ended (z ∷ zs) x i k on last)
 
   ended_read : (vs : List V) (S : Stream) (c : ℕ) (u : Standing (Option Stream)) → ReadsEnded ends m false (Going (Some S) c) (Ok vs) u → TakenAs (OfEnded ends P) vs S c u
   ended_read vs S c u (EndsWith xs x k l turn on last over b e) =
-      let all : vs ≡ items_of (xs ++ x ∷ []) = ok_is vs (items_of (xs ++ x ∷ [])) e in
+      let all : vs ≡ taken_items (xs ++ x ∷ []) = ok_is vs (taken_items (xs ++ x ∷ [])) e in
       let a = each_taken (xs ++ x ∷ []) S c u turn in
       record { taken = a.taken; has = subst (λ ys. OfEnded ends P ys a.taken) (sym all) (are_ended xs x (record {}) k on last, a.has); rest = a.rest; takes = a.takes; stands = a.stands }
   ended_read vs S c u (Closes xs k t turn on closed over b e) = absurd closed
   ended_read vs S c u (ItemRefused xs k t d turn on refusal over e) = absurd (cc)
   ended_read vs S c u (WithoutWidth xs x k l d turn on judged none tells over b e) = absurd (cc)
-  ended_read vs S c u (NoPlace xs x v k l turn on judged wide_or over b e) = absurd (cc)
+  ended_read vs S c u (Unplaced xs x v k l turn on judged wide_or over b e) = absurd (cc)
 
   ended_written : (vs : List V) (ps : List Piece) → OfEnded ends P vs ps → IsWrittenAs ps (WritesEnded ends writes vs)
   ended_written vs ps p b s r u (Refused f d) = absurd (d.0 p.0)
@@ -218,7 +218,7 @@ module _ {V : Type 0} (ends : V → Bool) {P : V → List Piece → Type 0} {sam
 
   -- symmetric items up to and including the first that ends them, in memory that grows
   pub ended_symmetric : IsSymmetric (λ (w : Ended V) ps. OfEnded ends P w.items.items ps) (λ w x. SameEach same w.items.items x.items.items) (λ w. WritesEnded ends writes w.items.items)
-      (Mapped (λ v. record { items = v }) (Held (λ xs v. v.items ≡ xs) (ReadsEnded ends m)))
+      (Mapped (λ v. record { items = v }) (MappedBy (λ xs v. v.items ≡ xs) (ReadsEnded ends m)))
   ended_symmetric = mapped_symmetric (λ (v : Vec V). record { items = v }) (λ (w : Ended V). w.items) _ _ _ _ (λ v. refl) (holder_symmetric (λ (v : Vec V). v.items) _ _ _ _ items_symmetric)
 
 -- ---- that what has pieces has a bit

@@ -10,11 +10,11 @@ use Rattle.deku_bits.specs.Outcomes.{Meaning, Outcome, Mapped, Value, Refusal}
 use Rattle.deku_bits.proofs.Handing.{weaker}
 use Rattle.deku_num.specs.NumberCalls.{Refused, Passed}
 use Rattle.deku.specs.Composing.{Then, Second, First, Both, WritesEach}
-use Rattle.deku.specs.Limits.{Held}
+use Rattle.deku.specs.Limits.{MappedBy}
 use Rattle.deku_pieces.specs.declared.led.Led.{Led}
 use Rattle.deku_pieces.specs.Symmetric.{breadth, IsWrittenAs, IsReadBack, TakenAs, IsSymmetric}
 use Rattle.deku_pieces.specs.Pieces.{InTurn, SameEach}
-use Rattle.deku_pieces.specs.Leading.{IsCounted, OfCounted, OfLed, SameLed, ReadsCounted, Uncounted, Counted, ReadsLed, WritesLed}
+use Rattle.deku_pieces.specs.Leading.{IsCounted, OfCounted, OfLed, SameLed, ReadsCounted, Uncounted, CountedItems, ReadsLed, WritesLed}
 use Rattle.deku_pieces.proofs.Answering.{ok_is, mapped_must, then_must, Must}
 use Rattle.deku_pieces.proofs.Turns.{breadth-append, takes_apart, takes_together, written_together, turns_one}
 use Rattle.deku_pieces.proofs.Counted.{counted_symmetric, holder_symmetric}
@@ -86,7 +86,7 @@ module _ {I V W X : Type 0} (h : V → W → X) (first : X → V) (second : X �
 -- ---- as many items as are counted
 module _ {V : Type 0} {P : V → List Piece → Type 0} {same : V → V → Type 0} {writes : V → Meaning Output (Unit {0})} {m : Meaning (Option Stream) V} (A : IsSymmetric P same writes m) where
   items_symmetric : (n : ℕ) → IsSymmetric (λ (w : Vec V) ps. (length w.items ≡ n) × Rattle.deku_pieces.specs.Pieces.OfEach P w.items ps) (λ w x. SameEach same w.items x.items) (λ w. WritesEach writes w.items)
-      (Held (λ xs v. v.items ≡ xs) (Rattle.deku.specs.Limits.ReadsCount n m))
+      (MappedBy (λ xs v. v.items ≡ xs) (Rattle.deku.specs.Limits.ReadsCount n m))
   items_symmetric n = holder_symmetric (λ (w : Vec V). w.items) _ _ _ _ (counted_symmetric P same writes m A n)
 
   counted_one : (count : Option ℕ) (w : Vec V) (ps qs : List Piece) → OfCounted count P w ps → OfCounted count P w qs → qs ≡ ps
@@ -94,13 +94,13 @@ module _ {V : Type 0} {P : V → List Piece → Type 0} {same : V → V → Type
 
   counted_back : (count : Option ℕ) (w : Vec V) (ps : List Piece) → OfCounted count P w ps → IsReadBack ps (λ x. SameEach same w.items x.items) (ReadsCounted count m)
   counted_back count w ps (n, is, p) S T c r u takes room (Uncounted b none refused) = absurd (cc)
-  counted_back count w ps (n, is, p) S T c r u takes room (Counted k other q) =
+  counted_back count w ps (n, is, p) S T c r u takes room (CountedItems k other q) =
       (items_symmetric n).read_back w ps p S T c r u takes room
-      (subst (λ i. Held (λ xs v. v.items ≡ xs) (Rattle.deku.specs.Limits.ReadsCount i m) false (Going (Some S) c) r u) (some_is k n (sym other ∙ is)) q)
+      (subst (λ i. MappedBy (λ xs v. v.items ≡ xs) (Rattle.deku.specs.Limits.ReadsCount i m) false (Going (Some S) c) r u) (some_is k n (sym other ∙ is)) q)
 
   counted_read : (count : Option ℕ) (w : Vec V) (S : Stream) (c : ℕ) (u : Standing (Option Stream)) → ReadsCounted count m false (Going (Some S) c) (Ok w) u → TakenAs (OfCounted count P) w S c u
   counted_read count w S c u (Uncounted b none refused) = let e = refused.1 in absurd (cc)
-  counted_read count w S c u (Counted n is q) =
+  counted_read count w S c u (CountedItems n is q) =
       let a = (items_symmetric n).read w S c u q in
       record { taken = a.taken; has = (n, is, a.has); rest = a.rest; takes = a.takes; stands = a.stands }
 

@@ -102,13 +102,13 @@ module _ (P : ℕ → List Piece → Type 0) (writes : ℕ → Meaning Output (U
 
   ended_back : (vs : List ℕ) (ps : List Piece) → OfTerminated P vs ps → IsReadBack ps (λ w. vs ≡ w) ReadsText
   ended_back vs ps p S T c r u takes room (First d (Ended ws turn k b e) q) = absurd (cc)
-  ended_back vs ps p S T c r u takes room (First d (lists.Refused ws t x turn none refusal e) q) =
+  ended_back vs ps p S T c r u takes room (First d (lists.NextRefused ws t x turn none refusal e) q) =
       let same : x ≡ d = err_is d x e in
       inr (q ∙ ap (λ i. Err i) (sym same ∙ texts_refused vs ws ps S T c t u x none p.1 takes room turn refusal))
     where
       err_is : (a b : DekuError) → ◌≡◌ {A = Result (List ℕ) DekuError} (Err a) (Err b) → b ≡ a
       err_is a b h = cc
-  ended_back vs ps p S T c r u takes room (Second bytes t (lists.Refused ws k x turn none refusal e) q) = absurd (cc)
+  ended_back vs ps p S T c r u takes room (Second bytes t (lists.NextRefused ws k x turn none refusal e) q) = absurd (cc)
   ended_back vs ps p S T c r u takes room (Second bytes t (Ended ws turn (text, (none, is)) b e) q) =
       let same : bytes ≡ ws = ok_is bytes ws e in
       let k = texts_back vs text ps S T c t p.0 none p.1 takes room (subst (λ i. AnswersEach (Stored m) i (Going (Some S) c) t) is turn) in
@@ -119,7 +119,7 @@ module _ (P : ℕ → List Piece → Type 0) (writes : ℕ → Meaning Output (U
   -- ---- what is read
   ended_read : (vs : List ℕ) (S : Stream) (c : ℕ) (u : Standing (Option Stream)) → ReadsText false (Going (Some S) c) (Ok vs) u → TakenAs (OfTerminated P) vs S c u
   ended_read vs S c u (First d k q) = absurd (cc)
-  ended_read vs S c u (Second bytes t (lists.Refused ws k x turn none refusal e) q) = absurd (cc)
+  ended_read vs S c u (Second bytes t (lists.NextRefused ws k x turn none refusal e) q) = absurd (cc)
   ended_read vs S c u (Second bytes t (Ended ws turn (text, (none, is)) b e) q) =
       let same : bytes ≡ ws = ok_is bytes ws e in
       let it = shown_text text bytes t u (Ok vs) (none, same ∙ is) q in

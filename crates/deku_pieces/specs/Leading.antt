@@ -9,7 +9,7 @@ use Rattle.deku_bits.specs.Standings.{Standing, Output}
 use Rattle.deku_bits.specs.Outcomes.{Meaning, Refuses, Mapped}
 use Rattle.deku_num.specs.NumberCalls.{Checked}
 use Rattle.deku.specs.Composing.{Then, Both, WritesEach}
-use Rattle.deku.specs.Limits.{ReadsCount, Held}
+use Rattle.deku.specs.Limits.{ReadsCount, MappedBy}
 use Rattle.deku_pieces.specs.Pieces.{OfTimes, InTurn, SameEach}
 use Rattle.deku_pieces.specs.declared.led.Led.{Led}
 
@@ -34,7 +34,7 @@ SameLed same_head same_item v w = same_head v.head w.head × SameEach same_item 
 -- as many items as are counted are read into a vector; where no count is named it is refused, and nothing moves
 pub data ReadsCounted {V : Type 0} (count : Option ℕ) (m : Meaning (Option Stream) V) (b : Bool) (s : Standing (Option Stream)) (r : Result (Vec V) DekuError) (u : Standing (Option Stream)) : Type 0 where
   Uncounted : b ≡ false → count ≡ None → Refuses Parse (codes "head without a count") s r u → ReadsCounted count m b s r u
-  Counted : (n : ℕ) → count ≡ Some n → Held (λ xs v. v.items ≡ xs) (ReadsCount n m) b s r u → ReadsCounted count m b s r u
+  CountedItems : (n : ℕ) → count ≡ Some n → MappedBy (λ xs v. v.items ≡ xs) (ReadsCount n m) b s r u → ReadsCounted count m b s r u
 
 -- a head is read, and then as many items as it counts
 abbrev pub ReadsLed : {V W : Type 0} → (V → Option ℕ) → Meaning (Option Stream) V → Meaning (Option Stream) W → Meaning (Option Stream) (Led V W)

@@ -19,8 +19,8 @@ abbrev pub OfUnsigned : NumberType → Layout → ℕ → List Piece → Type 0
 OfUnsigned t l n = OfNumber t l (pos n)
 
 -- no piece
-abbrev pub Nothing : List Piece → Type 0
-Nothing ps = ps ≡ []
+abbrev pub NoPieces : List Piece → Type 0
+NoPieces ps = ps ≡ []
 
 -- pieces of one, and then of another
 abbrev pub InTurn : (List Piece → Type 0) → (List Piece → Type 0) → List Piece → Type 0
@@ -28,7 +28,7 @@ InTurn first second ps = (xs : List Piece) × (ys : List Piece) × first xs × s
 
 -- those of items, one after the other
 abbrev pub OfEach : {V : Type 0} → (V → List Piece → Type 0) → List V → List Piece → Type 0
-OfEach pieces [] = Nothing
+OfEach pieces [] = NoPieces
 OfEach pieces (v ∷ vs) = InTurn (pieces v) (OfEach pieces vs)
 
 -- those of n items

@@ -67,14 +67,14 @@ pub struct Ended<T> {
 
 impl<T: Ends + DekuReader<()>> DekuReader<()> for Ended<T> {
     ghost use Rattle.deku_bits.specs.Outcomes.{Mapped};
-    ghost use Rattle.deku.specs.Limits.{Held};
+    ghost use Rattle.deku.specs.Limits.{MappedBy};
     ghost use Rattle.deku_pieces.specs.Ending.{ReadsEnded};
 
     ghost accepts = { λ _. T.DekuReader.accepts tt };
 
     ghost prompt = { λ _. T.DekuReader.prompt tt };
 
-    ghost meaning = { λ _. Mapped (λ v. record { items = v }) (Held (λ xs v. v.items ≡ xs) (ReadsEnded T.Ends.ends_of (T.DekuReader.meaning tt))) };
+    ghost meaning = { λ _. Mapped (λ v. record { items = v }) (MappedBy (λ xs v. v.items ≡ xs) (ReadsEnded T.Ends.ends_of (T.DekuReader.meaning tt))) };
 
     fn from_reader_with_ctx<R: Source>(
         reader: &mut Reader<R>,

@@ -13,7 +13,7 @@ use Rattle.deku_stream.specs.Standings.{Standing, Going, Stopped, stream_of}
 use Rattle.deku_stream.specs.Outcomes.{Outcome, Quiet, Broken, Value, Refusal}
 use Rattle.deku_stream.specs.Faults.{error_of}
 use Rattle.deku_stream.specs.Moving.{Moves, FewerBits}
-use Rattle.deku_reader.specs.ReaderCalls.{Transfers, Takes, ReadsBytes, ReadsByteVec}
+use Rattle.deku_reader.specs.ReaderCalls.{Transfers, TakesBits, ReadsBytes, ReadsByteVec}
 use Rattle.deku_stream.proofs.Cuts.{length-flow, flow-append}
 use Rattle.deku_stream.proofs.Handing.{mapped_ok, mapped_err, mapped_memory_found}
 use Rattle.deku_reader.proofs.Moving.{takes_ok, takes_err, moves_more}
@@ -36,7 +36,7 @@ bytes_ok o w t c n bs v u f g len l room moved short none all kept =
     let wide : length bits ≡ 8 * n = length-flow o bs ∙ ap (λ k. 8 * k) len in
     let taken = takes_ok o w t c (8 * n) bits v u wide l room moved (λ p. short (omega (arith, wide, len))) (λ z. none (omega (arith, wide, len))) in
     let same : bytes_of (shown o bits) ≡ bs = ap bytes_of (shown-flow o bs) ∙ bytes_of-bits_in bs all in
-    let counted = subst (λ k. Takes o (8 * n) false (Going (stream_of w t) c) (Ok bits) (Going (stream_of v u) (c + k))) wide taken in
+    let counted = subst (λ k. TakesBits o (8 * n) false (Going (stream_of w t) c) (Ok bits) (Going (stream_of v u) (c + k))) wide taken in
     subst (λ xs. Outcome (ReadsBytes o n) (Going (stream_of w t) c) f (Ok xs) (Going (stream_of v u) (c + 8 * n)) g) same
     (mapped_ok bytes_of (mapped_ok (shown o) (Quiet counted kept)))
 

@@ -5,7 +5,7 @@ use Rattle.deku_stream.specs.declared.ctx.Order.{Order}
 use Rattle.deku_stream.specs.Streams.{Stream, bit_count, left, normal}
 use Rattle.deku_device.specs.Devices.{SourceTold, Loses}
 use Rattle.deku_stream.specs.Standings.{Standing, Going, Stopped, count_of, stream_of, reader_state}
-use Rattle.deku_reader.specs.ReaderCalls.{ReadsAt, Transfers, Takes, Peeks, Ending, HasFetched, FetchLaw, window_of}
+use Rattle.deku_reader.specs.ReaderCalls.{ReadsAt, Transfers, TakesBits, Peeks, Ending, HasFetched, FetchLaw, window_of}
 use Rattle.deku_stream.proofs.Handing.{meant}
 use Rattle.deku_reader.proofs.Moving.{at, normal-count}
 use Rattle.deku_reader.proofs.Skips.{left_count}
@@ -32,12 +32,12 @@ transfer_counted o n c (Some S) bits u (inr ended) = let e = ended.1.0 in absurd
 transfer_counted o n c None bits u (inl took) = ap count_of took.4
 transfer_counted o n c None bits u (inr ended) = let e = ended.0 in absurd (cc)
 
-pub takes_counted : (o : Order) (n : ℕ) (bits : List Bool) (s u : Standing (Option Stream)) → Takes o n false s (Ok bits) u → count_of u ≡ count_of s + n
+pub takes_counted : (o : Order) (n : ℕ) (bits : List Bool) (s u : Standing (Option Stream)) → TakesBits o n false s (Ok bits) u → count_of u ≡ count_of s + n
 takes_counted o n bits (Stopped f c) u took = let e = took.0 in absurd (cc)
 takes_counted o n bits (Going S c) u (inl refused) = let e = refused.1.2 in absurd (cc)
 takes_counted o n bits (Going S c) u (inr may) = transfer_counted o n c S bits u may.1
 
-reads_counted : (o : Order) (n : ℕ) (bits : List Bool) (told after : SourceTold) (s u : Standing (List Bool)) → ReadsAt (Takes o n) told s (Ok bits) after u → count_of u ≡ count_of s + n
+reads_counted : (o : Order) (n : ℕ) (bits : List Bool) (told after : SourceTold) (s u : Standing (List Bool)) → ReadsAt (TakesBits o n) told s (Ok bits) after u → count_of u ≡ count_of s + n
 reads_counted o n bits told after s u reads =
     sym (same_count after.coming u) ∙ takes_counted o n bits (reader_state told.coming s) (reader_state after.coming u) (meant reads).0 ∙ ap (λ k. k + n) (same_count told.coming s)
 
@@ -50,7 +50,7 @@ transfer_bits o n c w xs ys bits u (inl took) =
     omega (arith, normal-count (at w xs), left_count o n S took.0, stream_bits ys u (left o n S) (c + n) took.2)
 
 pub takes_bits : (o : Order) (n : ℕ) (bits : List Bool) (told after : SourceTold) (s u : Standing (List Bool)) (xs ys : List ℕ) → told.coming ≡ Some xs → after.coming ≡ Some ys
-    → ReadsAt (Takes o n) told s (Ok bits) after u → length (window_of s) + 8 * length xs ≡ n + (length (window_of u) + 8 * length ys)
+    → ReadsAt (TakesBits o n) told s (Ok bits) after u → length (window_of s) + 8 * length xs ≡ n + (length (window_of u) + 8 * length ys)
 takes_bits o n bits told after (Stopped f c) u xs ys e d reads = let x = (meant reads).0.0 in absurd (cc)
 takes_bits o n bits told after (Going w c) u xs ys e d reads = elim (meant reads).0 [
   | inl refused ↦ let x = refused.1.2 in absurd (cc)
@@ -94,17 +94,17 @@ fetched_on bytes k j n told after s u has lost count bits = fetched_at told.comi
   where
     fetched_at : (b d : Option (List ℕ)) → HasFetched bytes k b s → Loses j b d → ((xs ys : List ℕ) → b ≡ Some xs → d ≡ Some ys → length (window_of s) + 8 * length xs ≡ n + (length (window_of u) + 8 * length ys))
         → HasFetched bytes (k + j) d u
-    fetched_at None d has lost bits = absurd (has.0)
+    fetched_at None d has lost bits = let none = has.1.0 in absurd (cc)
     fetched_at (Some xs) None has lost bits = absurd lost
-    fetched_at (Some xs) (Some ys) has lost bits = (
-      loses_on k j (Some bytes) (Some xs) (Some ys) has.0 lost,
-      omega (arith, has.1, count, balance n j xs ys (window_of s) (window_of u) lost (bits xs ys refl refl)),
-    )
+    fetched_at (Some xs) (Some ys) has lost bits =
+        let told = has.1.0 in
+        let all = loses_on k j (Some bytes) (Some xs) (Some ys) (has.0, cc) lost in
+        (all.0, (ap (λ x. Some x) all.1, omega (arith, has.1.1, count, balance n j xs ys (window_of s) (window_of u) lost (bits xs ys refl refl))))
 
 pub fetch_law : FetchLaw
 fetch_law bytes = (
-  ((omega arith, refl), refl),
+  (omega arith, (refl, refl)),
   (λ o k n bits told after s u has reads fetches. fetched_on bytes k _ n told after s u has fetches (reads_counted o n bits told after s u reads) (λ xs ys e d. takes_bits o n bits told after s u xs ys e d reads)),
   (λ k at_end told after s u has reads fetches. fetched_on bytes k _ 0 told after s u has fetches (looks_counted at_end told after s u reads ∙ omega arith) (λ xs ys e d. looks_bits at_end told after s u xs ys e d reads ∙ omega arith)),
-  (λ k coming s has. (λ few. omega (arith, has.1), λ most. omega (arith, has.1))),
+  (λ k coming s has. (λ few. omega (arith, has.1.1), λ most. omega (arith, has.1.1))),
 )

@@ -19,7 +19,7 @@ use Rattle.deku_stream.specs.Outcomes.{Outcome, Quiet, Broken}
 use Rattle.deku_stream.specs.Faults.{error_of}
 use Rattle.deku_stream.specs.Kept.{Admits, standing_of}
 use Rattle.deku_stream.specs.Moving.{Moves, FewerBits}
-use Rattle.deku_reader.specs.ReaderCalls.{Takes, NeedsNone}
+use Rattle.deku_reader.specs.ReaderCalls.{TakesBits, NeedsNone}
 use Rattle.deku_stream.proofs.Binary.{length-facing, facing-facing}
 use Rattle.deku_stream.proofs.Cuts.{flow, length-flow, flow-append}
 use Rattle.deku_stream.proofs.Reading.{facing_nil, left_none}
@@ -204,7 +204,7 @@ first_bits o S a b e = ap (take (length a)) e ∙ take_at a b (length a) refl
 -- bits were taken
 pub takes_ok : (o : Order) (w : List Bool) (t : Option (List ℕ)) (c n : ℕ) (bs v : List Bool) (u : Option (List ℕ))
     → length bs ≡ n → length w ≤ 8 → c + n < 2 ^ 64 → Moves o w t bs v u → (0 < length bs → length v < 8) → (length bs ≡ 0 → (v ≡ w) × (u ≡ t))
-    → Takes o n false (Going (stream_of w t) c) (Ok bs) (Going (stream_of v u) (c + length bs))
+    → TakesBits o n false (Going (stream_of w t) c) (Ok bs) (Going (stream_of v u) (c + length bs))
 takes_ok o w None c n bs v u len l room moved short none = inr (room, inl (bs, stream_of v u, len, refl, ap (λ k. Going (stream_of v u) (c + k)) len))
 takes_ok o w (Some xs) c n bs v None len l room moved short none = absurd moved
 takes_ok o w (Some xs) c n bs v (Some ys) len l room moved short none =
@@ -223,7 +223,7 @@ takes_ok o w (Some xs) c n bs v (Some ys) len l room moved short none =
 pub takes_err : (o : Order) (w : List Bool) (t : Option (List ℕ)) (c n : ℕ) (f g : Health) (kind : ErrorKind) (stop : Fault)
     → ((kind ≡ UnexpectedEof) × (stop ≡ fault.Incomplete (record { bits = n }))) ⊎ ((kind ≢ UnexpectedEof) × (stop ≡ fault.Io kind))
     → c + n < 2 ^ 64 → (kind ≡ UnexpectedEof → FewerBits n w t) → (kind ≢ UnexpectedEof → MoreFailures f g) → NoFewerFailures f g
-    → Outcome (Takes o n) (Going (stream_of w t) c) f (Err (error_of stop)) (Stopped (error_of stop) c) g
+    → Outcome (TakesBits o n) (Going (stream_of w t) c) f (Err (error_of stop)) (Stopped (error_of stop) c) g
 takes_err o w t c n f g kind stop (inr p) room ended failed kept =
     let e : error_of stop ≡ error.Io kind = ap error_of p.1 in
     let answered = ap Err e in

@@ -10,7 +10,7 @@ use Rattle.deku_stream.specs.Bits.{shown, bits_in, bytes_of}
 use Rattle.deku_stream.specs.Streams.{Stream, Has, bit_count, seen, taken, left, normal, peeked, skipped, fresh, EndLaw}
 use Rattle.deku_stream.specs.Standings.{Standing, Going, Stopped}
 use Rattle.deku_stream.specs.Outcomes.{Value, Refusal, UnlessStopped, Counted, Reserving}
-use Rattle.deku_reader.specs.ReaderCalls.{Takes, Transfers, ReadsBytes, ReadsVec, SkipReadLaw, BytesLaw}
+use Rattle.deku_reader.specs.ReaderCalls.{TakesBits, Transfers, ReadsBytes, ReadsVec, SkipReadLaw, BytesLaw}
 use Rattle.deku_stream.proofs.Cuts.{length-byte_bits}
 use Rattle.deku_stream.proofs.Shown.{length-shown}
 use Rattle.deku_stream.proofs.Taking.{peek_law, skip_law}
@@ -79,7 +79,7 @@ unreserved moves n false (Stopped e c) r u p = inl p
 unreserved moves n true (Stopped e c) r u p = absurd p
 
 -- as many bits are taken as were asked for
-pub taken_length : (o : Order) (n : ℕ) (b : Bool) (s : Standing (Option Stream)) (bits : List Bool) (u : Standing (Option Stream)) → Takes o n b s (Ok bits) u → length bits ≡ n
+pub taken_length : (o : Order) (n : ℕ) (b : Bool) (s : Standing (Option Stream)) (bits : List Bool) (u : Standing (Option Stream)) → TakesBits o n b s (Ok bits) u → length bits ≡ n
 taken_length o n false (Going a c) bits u (inl p) = let h = p.1.2 in absurd (cc)
 taken_length o n false (Going (Some S) c) bits u (inr (room, inl p)) = ap length (ok_is bits (taken o n S) p.1) ∙ length-taken o n S p.0
 taken_length o n false (Going (Some S) c) bits u (inr (room, inr p)) = let h = p.1.0 in absurd (cc)
@@ -104,7 +104,7 @@ bytes_from o n b s u bytes (Value x (Value v p q) r) =
 bits_of : (o : Order) (n : ℕ) (b : Bool) (s u : Standing (Option Stream)) (bits : List Bool) → ReadsVec o (8 * n) b s (Ok bits) u → ReadsBytes o n b s (Ok (bytes_of bits)) u
 bits_of o n b s u bits (Refusal e p q) = absurd (cc)
 bits_of o n b s u bits (Value v p q) = ⊎_elim
-    (λ (t : Takes o (8 * n) b s (Ok v) u). Value bits (Value v t q) refl)
+    (λ (t : TakesBits o (8 * n) b s (Ok v) u). Value bits (Value v t q) refl)
     (λ (m : (◌≡◌ {A = Result (List Bool) DekuError} (Ok v) (Err (Io OutOfMemory))) × (u ≡ s)). let h = m.0 in absurd (cc))
     (unreserved (Transfers o (8 * n)) (8 * n) b s (Ok v) u p)
 
@@ -117,7 +117,7 @@ bits_refused : (o : Order) (n : ℕ) (b : Bool) (s u : Standing (Option Stream))
     → ReadsBytes o n b s (Err e) u ⊎ ((e ≡ Io OutOfMemory) × (u ≡ s))
 bits_refused o n b s u e (Value v p q) = absurd (cc)
 bits_refused o n b s u e (Refusal x p q) = ⊎_elim
-    (λ (t : Takes o (8 * n) b s (Err x) u). inl (Refusal x (Refusal x t refl) (cc)))
+    (λ (t : TakesBits o (8 * n) b s (Err x) u). inl (Refusal x (Refusal x t refl) (cc)))
     (λ (m : (◌≡◌ {A = Result (List Bool) DekuError} (Err x) (Err (Io OutOfMemory))) × (u ≡ s)). let h = m.0 in inr (cc, m.1))
     (unreserved (Transfers o (8 * n)) (8 * n) b s (Err x) u p)
 

@@ -10,7 +10,7 @@ use Rattle.deku_stream.specs.Streams.{flow}
 use Rattle.deku_device.specs.Devices.{Health, NoFewerFailures, Loses}
 use Rattle.deku_stream.specs.Standings.{Going, stream_of}
 use Rattle.deku_stream.specs.Outcomes.{Outcome, Quiet}
-use Rattle.deku_reader.specs.ReaderCalls.{Takes, ReadsWord}
+use Rattle.deku_reader.specs.ReaderCalls.{TakesBits, ReadsWord}
 use Rattle.deku_stream.specs.Moving.{Moves, FewerBits, GivesGroup, TakesGroups, TakesWord, MovesWord}
 use Rattle.deku_stream.proofs.Binary.{length-bits_of, length-facing, facing-facing, group_number-lt}
 use Rattle.deku_stream.proofs.Packed.{pow_byte}
@@ -243,7 +243,7 @@ pub word_ok : (o : Order) (w : List Bool) (t : Option (List ℕ)) (c n k : ℕ) 
 word_ok o w t c n k v u f g l room m short none kept =
     let bits : List Bool = m.bits in
     let taken = takes_ok o w t c n bits v u (m.long) l room (m.moved) (λ p. short (omega (arith, p, m.long))) (λ z. none (omega (arith, z, m.long))) in
-    let counted = subst (λ x. Takes o n false (Going (stream_of w t) c) (Ok bits) (Going (stream_of v u) (c + x))) (m.long) taken in
+    let counted = subst (λ x. TakesBits o n false (Going (stream_of w t) c) (Ok bits) (Going (stream_of v u) (c + x))) (m.long) taken in
     subst (λ x. Outcome (ReadsWord o n) (Going (stream_of w t) c) f (Ok x) (Going (stream_of v u) (c + n)) g) (sym (m.worth)) (mapped_ok (word_of o) (Quiet counted kept))
 
 -- and as many bytes as they need were fetched
@@ -271,11 +271,11 @@ high_short w v n k eight size wide short more cut =
 -- a read of them
 pub high_ok : (w : List Bool) (t : Option (List ℕ)) (c n k : ℕ) (v : List Bool) (u : Option (List ℕ)) (f g : Health) → length w ≤ 8 → c + n < 2 ^ 64
     → Moves Msb0 w t (bits_of n k) v u → (0 < n → length v < 8) → (n ≡ 0 → (v ≡ w) × (u ≡ t)) → NoFewerFailures f g
-    → Outcome (Takes Msb0 n) (Going (stream_of w t) c) f (Ok (bits_of n k)) (Going (stream_of v u) (c + n)) g
+    → Outcome (TakesBits Msb0 n) (Going (stream_of w t) c) f (Ok (bits_of n k)) (Going (stream_of v u) (c + n)) g
 high_ok w t c n k v u f g l room moved short none kept =
     let long : length (bits_of n k) ≡ n = length-bits_of n k in
     let taken = takes_ok Msb0 w t c n (bits_of n k) v u long l room moved (λ p. short (omega (arith, p, long))) (λ z. none (omega (arith, z, long))) in
-    Quiet (subst (λ x. Takes Msb0 n false (Going (stream_of w t) c) (Ok (bits_of n k)) (Going (stream_of v u) (c + x))) long taken) kept
+    Quiet (subst (λ x. TakesBits Msb0 n false (Going (stream_of w t) c) (Ok (bits_of n k)) (Going (stream_of v u) (c + x))) long taken) kept
 
 -- as many bytes as they need were fetched
 pub high_loses : (w : List Bool) (t : Option (List ℕ)) (n k : ℕ) (v : List Bool) (u : Option (List ℕ)) → length w ≤ 8

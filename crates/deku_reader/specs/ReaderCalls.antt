@@ -1,5 +1,5 @@
 -- What the calls of a reader do.
-use Rattle.std.specs.Prelude.{◌≡◌, ◌⊎◌, ⊤, ℕ, ◌+◌, ◌*◌, ◌-◌, ◌%◌, ◌^◌, ◌<◌, ◌≤◌, Bool, true, false, List, [], length, Option, None, Some, Result, Ok, Err}
+use Rattle.std.specs.Prelude.{◌≡◌, ◌⊎◌, ⊤, ℕ, ◌+◌, ◌*◌, ◌-◌, ◌%◌, ◌^◌, ◌<◌, ◌≤◌, Bool, true, false, List, [], length, drop, Option, None, Some, Result, Ok, Err}
 use Rattle.std.specs.Global.{Vec}
 use Rattle.std.specs.declared.io.ErrorKind.TheVariants.{OutOfMemory}
 use Rattle.deku_stream.specs.declared.ctx.Order.{Order}
@@ -32,12 +32,12 @@ Transfers o n (Some S) c r u = (Has n S × (r ≡ Ok (taken o n S)) × (u ≡ Go
 Transfers o n None c r u = ((bits : List Bool) × (after : Option Stream) × (length bits ≡ n) × (r ≡ Ok bits) × (u ≡ Going after (c + n))) ⊎ Ends n c r u
 
 -- n bits are taken in an order
-abbrev pub Takes : Order → ℕ → Meaning (Option Stream) (List Bool)
-Takes o n = UnlessStopped (Counted n (Transfers o n))
+abbrev pub TakesBits : Order → ℕ → Meaning (Option Stream) (List Bool)
+TakesBits o n = UnlessStopped (Counted n (Transfers o n))
 
 -- n bits are taken in an order and shown
 abbrev pub ReadsBits : Order → ℕ → Meaning (Option Stream) (List Bool)
-ReadsBits o n = Mapped (shown o) (Takes o n)
+ReadsBits o n = Mapped (shown o) (TakesBits o n)
 
 -- n bits are taken in an order and shown, in memory that is found first
 abbrev pub ReadsVec : Order → ℕ → Meaning (Option Stream) (List Bool)
@@ -53,7 +53,7 @@ ReadsByteVec o n = Mapped bytes_of (ReadsVec o (8 * n))
 
 -- n bits are taken in an order, as their word
 abbrev pub ReadsWord : Order → ℕ → Meaning (Option Stream) ℕ
-ReadsWord o n = Mapped (word_of o) (Takes o n)
+ReadsWord o n = Mapped (word_of o) (TakesBits o n)
 
 -- whether the end of input is reached: over a stream that is told, where no bit is left; the stream is the same
 abbrev pub Peeks : Option Stream → ℕ → Result Bool DekuError → Standing (Option Stream) → Type 0
@@ -106,19 +106,18 @@ FetchesFor n s old new = Loses (groups (n - length (window_of s))) old.coming ne
 abbrev pub FetchesAhead : Standing (List Bool) → Standing (List Bool) → SourceTold → SourceTold → Type 0
 FetchesAhead s u old new = Loses (groups (length (window_of u) - length (window_of s))) old.coming new.coming
 
--- Of the bytes that a source told, k were fetched since: their bits are those that were counted and those that are unread.
-abbrev pub HasFetched : List ℕ → ℕ → Option (List ℕ) → Standing (List Bool) → Type 0
-HasFetched bytes k coming s = Loses k (Some bytes) coming × (8 * k ≡ count_of s + length (window_of s))
+-- the source tells the bytes behind the first k, whose bits are those that were counted and those that are unread
+abbrev pub IsBehind : List ℕ → ℕ → Option (List ℕ) → Standing (List Bool) → Type 0
+IsBehind bytes k coming s = (coming ≡ Some (drop k bytes)) × (8 * k ≡ count_of s + length (window_of s))
 
--- what was read, where the call succeeds
-abbrev pub items_of : Result (Vec Bool) DekuError → Result (List Bool) DekuError
+-- Of the bytes that a source told, k were fetched since; a skip past their end would leave more behind.
+abbrev pub HasFetched : List ℕ → ℕ → Option (List ℕ) → Standing (List Bool) → Type 0
+HasFetched bytes k coming s = (k ≤ length bytes) × IsBehind bytes k coming s
+
+-- the items of the vector that was read, where the call succeeds
+abbrev pub items_of : {V : Type 0} → Result (Vec V) DekuError → Result (List V) DekuError
 items_of (Ok v) = Ok v.items
 items_of (Err e) = Err e
-
--- the bytes that were read, where the call succeeds
-abbrev pub bytes_in_vec : Result (Vec ℕ) DekuError → Result (List ℕ) DekuError
-bytes_in_vec (Ok v) = Ok v.items
-bytes_in_vec (Err e) = Err e
 
 -- the leftover that shows a window: none, one whole byte, or fewer than eight bits
 abbrev pub IsLeftover : List Bool → Option Leftover → Type 0
@@ -146,7 +145,7 @@ abbrev pub FetchLaw : Type 0
 FetchLaw = (bytes : List ℕ)
     → HasFetched bytes 0 (Some bytes) (Going [] 0)
     × ((o : Order) (k n : ℕ) (bits : List Bool) (told after : SourceTold) (s u : Standing (List Bool)) → HasFetched bytes k told.coming s
-    → ReadsAt (Takes o n) told s (Ok bits) after u → FetchesFor n s told after → HasFetched bytes (k + groups (n - length (window_of s))) after.coming u)
+    → ReadsAt (TakesBits o n) told s (Ok bits) after u → FetchesFor n s told after → HasFetched bytes (k + groups (n - length (window_of s))) after.coming u)
     × ((k : ℕ) (at_end : Bool) (told after : SourceTold) (s u : Standing (List Bool)) → HasFetched bytes k told.coming s
     → ReadsAt Ending told s (Ok at_end) after u → FetchesAhead s u told after → HasFetched bytes (k + groups (length (window_of u) - length (window_of s))) after.coming u)
     × ((k : ℕ) (coming : Option (List ℕ)) (s : Standing (List Bool)) → HasFetched bytes k coming s

@@ -6,7 +6,7 @@ ghost use Rattle.deku_stream.specs.declared.ctx.Order.TheVariants.{Msb0};
 ghost use Rattle.deku_stream.specs.Bits.{bits_of};
 ghost use Rattle.deku_stream.specs.Kept.{Admits};
 ghost use Rattle.deku_stream.specs.Standings.{Going, Untouched, count_of};
-ghost use Rattle.deku_reader.specs.ReaderCalls.{Reads, Takes, Ending, Skips, ReadsBits, ReadsVec, ReadsBytes, ReadsByteVec, ReadsWord, FetchesFor, FetchesAhead, NoneEarly, NeedsNone, NamesRest, IsLeftover, filling, items_of, bytes_in_vec, window_of};
+ghost use Rattle.deku_reader.specs.ReaderCalls.{Reads, TakesBits, Ending, Skips, ReadsBits, ReadsVec, ReadsBytes, ReadsByteVec, ReadsWord, FetchesFor, FetchesAhead, NoneEarly, NeedsNone, NamesRest, IsLeftover, filling, items_of, window_of};
 ghost use Rattle.deku_reader.specs.contracts.reader.Reader.{the_row as reader-row};
 
 mod progress;
@@ -246,7 +246,7 @@ impl<R: Source> Reader<R> {
 
     /// Takes as many bits as the buffer is long, as the order meets them.
     pub(crate) fn take_bits(&mut self, dst: &mut [bool], order: Order) -> Result<(), DekuError>
-        ensures takes { Reads R.told (Takes order (length dst.old)) self.old (filling result dst.new) self.new }
+        ensures takes { Reads R.told (TakesBits order (length dst.old)) self.old (filling result dst.new) self.new }
         ensures fetched { OnOk result (FetchesFor (length dst.old) self.old.state (R.told self.old.source) (R.told self.new.source)) }
         ensures early { NoneEarly self.old.state self.new.state }
         ensures still { NeedsNone (length dst.old) self.old.state → self.new.source ≡ self.old.source }
@@ -338,10 +338,11 @@ impl<R: Source> Reader<R> {
     #[inline(always)]
     pub fn high_at_hand(&mut self, amt: usize) -> Option<u64>
         requires { amt ≤ 64 }
-        ensures takes { IfSome result (λ number. Reads R.told (Takes Msb0 amt) self.old (Ok (bits_of amt number)) self.new) }
+        ensures takes { IfSome result (λ number. Reads R.told (TakesBits Msb0 amt) self.old (Ok (bits_of amt number)) self.new) }
         ensures below { IfSome result (λ number. number < 2 ^ amt) }
         ensures fetched { IfSome result (λ number. FetchesFor amt self.old.state (R.told self.old.source) (R.told self.new.source)) }
         ensures early { NoneEarly self.old.state self.new.state }
+        ensures still { NeedsNone amt self.old.state → self.new.source ≡ self.old.source }
         ensures stays { IsNone result → self.new ≡ self.old }
         ensures stopped { Untouched self.old.state self.old.source self.new.source }
         ensures alloc { self.new.alloc ≡ self.old.alloc }
@@ -392,7 +393,7 @@ impl<R: Source> Reader<R> {
     /// reader.read_bytes_vec(2, Order::Lsb0)?;   // DB FC
     /// ```
     pub fn read_bytes_vec(&mut self, amt: usize, order: Order) -> Result<Vec<u8>, DekuError>
-        ensures reads { Reads R.told (ReadsByteVec order amt) self.old (bytes_in_vec result) self.new }
+        ensures reads { Reads R.told (ReadsByteVec order amt) self.old (items_of result) self.new }
         ensures fetched { OnOk result (FetchesFor (8 * amt) self.old.state (R.told self.old.source) (R.told self.new.source)) }
         ensures early { NoneEarly self.old.state self.new.state }
         ensures still { NeedsNone (8 * amt) self.old.state → self.new.source ≡ self.old.source }

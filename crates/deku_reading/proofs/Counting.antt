@@ -8,12 +8,12 @@ use Rattle.deku_bits.specs.declared.error.DekuError.{DekuError}
 use Rattle.deku_bits.specs.declared.error.DekuError.TheVariants.{Io}
 use Rattle.deku_bits.specs.Devices.{Health}
 use Rattle.deku_bits.specs.Standings.{Standing}
-use Rattle.deku_bits.specs.Outcomes.{Meaning, Outcome, Quiet}
-use Rattle.deku_bits.proofs.Handing.{no_fewer_same}
-use Rattle.deku_reading.specs.Lists.{Stored, NoMemory}
-use Rattle.deku_reading.specs.Limits.{ReadsCount, Held}
+use Rattle.deku_bits.specs.Outcomes.{Meaning, Outcome}
+use Rattle.deku_reading.specs.Lists.{Stored}
+use Rattle.deku_reading.specs.Limits.{ReadsCount, MappedBy}
 use Rattle.deku_meanings.proofs.Joining.{first_refused, then_on}
 use Rattle.deku_reading.proofs.Runs.{SoFar, none_so_far, one_more, run_ended, run_refused, stored}
+use Rattle.deku_reading.proofs.Holding.{no_memory}
 use Rattle.deku_reading.proofs.Judging.{held_ok, held_err}
 
 -- n items were read and put in their places
@@ -36,12 +36,12 @@ module _ {A T B : Type 0} {puts : B → T → B → Type 0} {m : Meaning A T} {n
   }
 
   -- the next item is refused
-  pub count_refused : {e : DekuError} {t : Standing A} {g : Health} (k : ℕ) → n < k → Outcome m s f (Err e) t g → Outcome (Held (λ xs z. FoldsTo puts b xs z) (ReadsCount k m)) s0 f0 (Err e) t g
+  pub count_refused : {e : DekuError} {t : Standing A} {g : Health} (k : ℕ) → n < k → Outcome m s f (Err e) t g → Outcome (MappedBy (λ xs z. FoldsTo puts b xs z) (ReadsCount k m)) s0 f0 (Err e) t g
   count_refused k l o = held_err (run_refused h.far (rw h.long l) (first_refused o))
 
   -- no memory is found for the next item
-  pub count_no_place : {v : T} {e : DekuError} {t : Standing A} {g : Health} (k : ℕ) → n < k → Outcome m s f (Ok v) t g → e ≡ Io OutOfMemory → Outcome (Held (λ xs z. FoldsTo puts b xs z) (ReadsCount k m)) s0 f0 (Err e) t g
-  count_no_place {g} k l o e = rw e (held_err (run_refused h.far (rw h.long l) (then_on o (Quiet NoMemory (no_fewer_same g)))))
+  pub count_no_place : {v : T} {e : DekuError} {t : Standing A} {g : Health} (k : ℕ) → n < k → Outcome m s f (Ok v) t g → e ≡ Io OutOfMemory → Outcome (MappedBy (λ xs z. FoldsTo puts b xs z) (ReadsCount k m)) s0 f0 (Err e) t g
+  count_no_place k l o e = rw e (held_err (run_refused h.far (rw h.long l) (then_on o no_memory)))
 
-  pub all_counted : (k : ℕ) → n ≡ k → Outcome (Held (λ xs z. FoldsTo puts b xs z) (ReadsCount k m)) s0 f0 (Ok c) s f
+  pub all_counted : (k : ℕ) → n ≡ k → Outcome (MappedBy (λ xs z. FoldsTo puts b xs z) (ReadsCount k m)) s0 f0 (Ok c) s f
   all_counted k e = held_ok (run_ended h.far (h.long ∙ e)) h.put

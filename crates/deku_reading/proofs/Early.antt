@@ -10,7 +10,7 @@ use Rattle.deku_bits.specs.Streams.{Stream, Has, normal, left, touched, last_par
 use Rattle.deku_bits.specs.Devices.{SourceTold, Loses}
 use Rattle.deku_bits.specs.Standings.{Standing, Going, Stopped, count_of, reader_state, stream_of}
 use Rattle.deku_bits.specs.Outcomes.{Quiet, Value, Refusal, UnlessStopped, Counted, Reserving}
-use Rattle.deku_bits.specs.ReaderCalls.{ReadsAt, Transfers, Takes, ReadsBytes, ReadsByteVec, FetchesFor, NoneEarly, bytes_in_vec, window_of, Skipping, Skips}
+use Rattle.deku_bits.specs.ReaderCalls.{ReadsAt, Transfers, TakesBits, ReadsBytes, ReadsByteVec, FetchesFor, NoneEarly, IsBehind, items_of, window_of, Skipping, Skips}
 use Rattle.deku_bits.proofs.Handing.{meant}
 use Rattle.deku_bits.proofs.Fetched.{takes_bits, takes_counted, balance}
 use Rattle.deku_num.specs.declared.kind.NumberType.{NumberType}
@@ -19,7 +19,7 @@ use Rattle.deku_num.specs.Numbers.{width}
 use Rattle.deku_num.specs.NumberCalls.{ReadsNumber, Refused, Passed}
 use Rattle.deku_bits.proofs.Moving.{at}
 use Rattle.deku_bits.proofs.Skips.{left_count}
-use Rattle.deku_reading.specs.Early.{IsBehind, PromptlyAt}
+use Rattle.deku_reading.specs.Early.{PromptlyAt}
 
 -- ---- calls one after the other
 -- no byte is fetched too early in two calls
@@ -50,7 +50,7 @@ same_count : (now : Option (List ℕ)) (s : Standing (List Bool)) → count_of (
 same_count now (Going w c) = refl
 same_count now (Stopped f c) = refl
 
-took_step : (o : Order) (n : ℕ) (bits : List Bool) (told after : SourceTold) (s u : Standing (List Bool)) → ReadsAt (Takes o n) told s (Ok bits) after u → FetchesFor n s told after
+took_step : (o : Order) (n : ℕ) (bits : List Bool) (told after : SourceTold) (s u : Standing (List Bool)) → ReadsAt (TakesBits o n) told s (Ok bits) after u → FetchesFor n s told after
     → (bytes : List ℕ) (k : ℕ) → IsBehind bytes k told.coming s → (j : ℕ) × IsBehind bytes j after.coming u
 took_step o n bits told after s u reads fetches bytes k is =
     let count : count_of u ≡ count_of s + n =
@@ -64,15 +64,14 @@ took_step o n bits told after s u reads fetches bytes k is =
         balance n j (drop k bytes) ys (window_of s) (window_of u) l (takes_bits o n bits told after s u (drop k bytes) ys is.0 (sym e) reads) in
         (k + j, (sym e ∙ ap (λ x. Some x) (l.1 ∙ drop-drop j k bytes), omega (arith, is.1, count, even)))
 
-pub took_promptly : (o : Order) (n : ℕ) (bits : List Bool) (told after : SourceTold) (s u : Standing (List Bool)) → ReadsAt (Takes o n) told s (Ok bits) after u → FetchesFor n s told after → NoneEarly s u
+pub took_promptly : (o : Order) (n : ℕ) (bits : List Bool) (told after : SourceTold) (s u : Standing (List Bool)) → ReadsAt (TakesBits o n) told s (Ok bits) after u → FetchesFor n s told after → NoneEarly s u
     → PromptlyAt told s after u
 took_promptly o n bits told after s u reads fetches early = record { few = early; step = took_step o n bits told after s u reads fetches }
 
 -- ---- numbers
 -- the bits that a number took
-number_took : (t : NumberType) (l : Layout) (v : ℤ) (s u : Standing (Option Stream)) → ReadsNumber t l false s (Ok v) u → (bits : List Bool) × Takes l.order (width t l) false s (Ok bits) u
-number_took t l v s u (Refused b (inl p)) = let e = p.1.2 in absurd (cc)
-number_took t l v s u (Refused b (inr p)) = let e = p.2.2 in absurd (cc)
+number_took : (t : NumberType) (l : Layout) (v : ℤ) (s u : Standing (Option Stream)) → ReadsNumber t l false s (Ok v) u → (bits : List Bool) × TakesBits l.order (width t l) false s (Ok bits) u
+number_took t l v s u (Refused b p) = let e = p.2 in absurd (cc)
 number_took t l v s u (Passed p) = elim p.1 [
   | Value bits took e ↦ (bits, took)
   | Refusal x refused e ↦ absurd (cc)
@@ -87,7 +86,7 @@ number_promptly {t} {l} {v} {told} {after} {s} {u} read fetches early =
 
 -- ---- bytes
 -- the bits that bytes took
-bytes_took : (o : Order) (n : ℕ) (bytes : List ℕ) (s u : Standing (Option Stream)) → ReadsBytes o n false s (Ok bytes) u → (bits : List Bool) × Takes o (8 * n) false s (Ok bits) u
+bytes_took : (o : Order) (n : ℕ) (bytes : List ℕ) (s u : Standing (Option Stream)) → ReadsBytes o n false s (Ok bytes) u → (bits : List Bool) × TakesBits o (8 * n) false s (Ok bits) u
 bytes_took o n bytes s u (Value v p e) = elim p [
   | Value bits took d ↦ (bits, took)
   | Refusal x refused d ↦ absurd (cc)
@@ -110,14 +109,14 @@ unreserved moves n (Going a c) v u (inr (room, inr p)) = inr (room, p)
 unreserved moves n (Stopped e c) v u p = p
 
 -- the bits that the bytes of a vector took
-vec_took : (o : Order) (n : ℕ) (bytes : List ℕ) (s u : Standing (Option Stream)) → ReadsByteVec o n false s (Ok bytes) u → (bits : List Bool) × Takes o (8 * n) false s (Ok bits) u
+vec_took : (o : Order) (n : ℕ) (bytes : List ℕ) (s u : Standing (Option Stream)) → ReadsByteVec o n false s (Ok bytes) u → (bits : List Bool) × TakesBits o (8 * n) false s (Ok bits) u
 vec_took o n bytes s u (Value v p e) = elim p [
   | Value bits took d ↦ (bits, unreserved (Transfers o (8 * n)) (8 * n) s bits u took)
   | Refusal x refused d ↦ absurd (cc)
 ]
 vec_took o n bytes s u (Refusal x p e) = absurd (cc)
 
-pub vec_promptly : (o : Order) (n : ℕ) (r : Result (Vec ℕ) DekuError) (told after : SourceTold) {s u : Standing (List Bool)} → ReadsAt (ReadsByteVec o n) told s (bytes_in_vec r) after u
+pub vec_promptly : (o : Order) (n : ℕ) (r : Result (Vec ℕ) DekuError) (told after : SourceTold) {s u : Standing (List Bool)} → ReadsAt (ReadsByteVec o n) told s (items_of r) after u
     → OnOk r (FetchesFor (8 * n) s told after) → NoneEarly s u → OnOk r (PromptlyAt told s after u)
 vec_promptly o n (Ok v) told after {s} {u} read fetches early =
     let m = meant read in

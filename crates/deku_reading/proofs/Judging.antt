@@ -14,43 +14,43 @@ use Rattle.deku_bits.specs.Devices.{Health, NoFewerFailures}
 use Rattle.deku_bits.specs.Standings.{Standing, Going, Stopped, count_of, reader_state}
 use Rattle.deku_bits.specs.Outcomes.{Meaning, Outcome, Quiet, Broken}
 use Rattle.deku_bits.proofs.Handing.{no_ok, broken_at, meant, no_fewer_on, more_on, no_fewer_same}
-use Rattle.deku_reading.specs.Limits.{Taken, items_of, Widens, TakesItem, TakesEach, Judge, GoesOn, Judged, EndsWith, Closes, ItemRefused, WithoutWidth, NoPlace, Held, Holds, NotHeld, ReadsBitsOf, NoBits, SomeBits, MoreToCome, PastCount}
+use Rattle.deku_reading.specs.Limits.{Taken, taken_items, Widens, TakesItem, TakesEach, Judge, GoesOn, Judged, EndsWith, Closes, ItemRefused, WithoutWidth, Unplaced, MappedBy, ValueBy, RefusalBy, ReadsBitsOf, NoBits, SomeBits, MoreToCome, PastCount}
 use Rattle.deku_meanings.specs.Composing.{Answered}
 use Rattle.deku_bits.specs.Streams.{Stream}
 use Rattle.deku_bits.specs.ReaderCalls.{Ending}
 
 -- ---- what stands for a value
 pub held_ok : {A V W : Type 0} {h : V → W → Type 0} {m : Meaning A V} {s : Standing A} {f : Health} {v : V} {w : W} {u : Standing A} {g : Health}
-    → Outcome m s f (Ok v) u g → h v w → Outcome (Held h m) s f (Ok w) u g
-held_ok {v} {w} (Quiet p q) k = Quiet (Holds v w p k refl) q
+    → Outcome m s f (Ok v) u g → h v w → Outcome (MappedBy h m) s f (Ok w) u g
+held_ok {v} {w} (Quiet p q) k = Quiet (ValueBy v w p k refl) q
 held_ok (Broken a p q) k = absurd (no_ok a)
 
 pub held_err : {A V W : Type 0} {h : V → W → Type 0} {m : Meaning A V} {s : Standing A} {f : Health} {e : DekuError} {u : Standing A} {g : Health}
-    → Outcome m s f (Err e) u g → Outcome (Held h m) s f (Err e) u g
-held_err {e} (Quiet p q) = Quiet (NotHeld e p refl) q
-held_err {e} (Broken a p q) = Broken (broken_at a) (NotHeld e p refl) q
+    → Outcome m s f (Err e) u g → Outcome (MappedBy h m) s f (Err e) u g
+held_err {e} (Quiet p q) = Quiet (RefusalBy e p refl) q
+held_err {e} (Broken a p q) = Broken (broken_at a) (RefusalBy e p refl) q
 
 -- the same stands for more
 pub held_as : {A V W : Type 0} {h : V → W → Type 0} (k : V → W → Type 0) {m : Meaning A V} {s : Standing A} {f : Health} {r : Result W DekuError} {u : Standing A} {g : Health}
-    → ((v : V) (w : W) → h v w → k v w) → Outcome (Held h m) s f r u g → Outcome (Held k m) s f r u g
-held_as k i (Quiet (Holds v w p h e) q) = Quiet (Holds v w p (i v w h) e) q
-held_as k i (Quiet (NotHeld x p e) q) = Quiet (NotHeld x p e) q
-held_as k i (Broken a (Holds v w p h e) q) = Broken a (Holds v w p (i v w h) e) q
-held_as k i (Broken a (NotHeld x p e) q) = Broken a (NotHeld x p e) q
+    → ((v : V) (w : W) → h v w → k v w) → Outcome (MappedBy h m) s f r u g → Outcome (MappedBy k m) s f r u g
+held_as k i (Quiet (ValueBy v w p h e) q) = Quiet (ValueBy v w p (i v w h) e) q
+held_as k i (Quiet (RefusalBy x p e) q) = Quiet (RefusalBy x p e) q
+held_as k i (Broken a (ValueBy v w p h e) q) = Broken a (ValueBy v w p (i v w h) e) q
+held_as k i (Broken a (RefusalBy x p e) q) = Broken a (RefusalBy x p e) q
 
 -- another value stands for it
 pub held_other_ok : {A V W X : Type 0} {h : V → W → Type 0} (k : V → X → Type 0) {m : Meaning A V} {s : Standing A} {f : Health} {w : W} {x : X} {u : Standing A} {g : Health}
-    → ((v : V) → h v w → k v x) → Outcome (Held h m) s f (Ok w) u g → Outcome (Held k m) s f (Ok x) u g
-held_other_ok k {w = w} {x = x} i (Quiet (Holds v z p h e) q) = let same : w ≡ z = cc in Quiet (Holds v x p (i v (rw same h)) refl) q
-held_other_ok k i (Quiet (NotHeld y p e) q) = absurd (cc)
+    → ((v : V) → h v w → k v x) → Outcome (MappedBy h m) s f (Ok w) u g → Outcome (MappedBy k m) s f (Ok x) u g
+held_other_ok k {w = w} {x = x} i (Quiet (ValueBy v z p h e) q) = let same : w ≡ z = cc in Quiet (ValueBy v x p (i v (rw same h)) refl) q
+held_other_ok k i (Quiet (RefusalBy y p e) q) = absurd (cc)
 held_other_ok k i (Broken a p q) = absurd (no_ok a)
 
 pub held_other_err : {A V W X : Type 0} {h : V → W → Type 0} (k : V → X → Type 0) {m : Meaning A V} {s : Standing A} {f : Health} {d : DekuError} {u : Standing A} {g : Health}
-    → Outcome (Held h m) s f (Err d) u g → Outcome (Held k m) s f (Err d) u g
-held_other_err k (Quiet (Holds v z p h e) q) = absurd (cc)
-held_other_err k {d = d} (Quiet (NotHeld y p e) q) = let same : d ≡ y = cc in Quiet (NotHeld d (rw same p) refl) q
-held_other_err k (Broken a (Holds v z p h e) q) = absurd (cc)
-held_other_err k {d = d} (Broken a (NotHeld y p e) q) = let same : d ≡ y = cc in Broken (broken_at a) (NotHeld d (rw same p) refl) q
+    → Outcome (MappedBy h m) s f (Err d) u g → Outcome (MappedBy k m) s f (Err d) u g
+held_other_err k (Quiet (ValueBy v z p h e) q) = absurd (cc)
+held_other_err k {d = d} (Quiet (RefusalBy y p e) q) = let same : d ≡ y = cc in Quiet (RefusalBy d (rw same p) refl) q
+held_other_err k (Broken a (ValueBy v z p h e) q) = absurd (cc)
+held_other_err k {d = d} (Broken a (RefusalBy y p e) q) = let same : d ≡ y = cc in Broken (broken_at a) (RefusalBy d (rw same p) refl) q
 
 -- ---- items on the way
 -- the item v, read from s to u
@@ -62,7 +62,7 @@ pub record Gathering {A T B J : Type 0} (puts : B → T → B → Type 0) (judge
   pub items : List (Taken A T)
   pub turn : TakesEach m s0 items s
   pub on : GoesOn judge j items k
-  pub put : FoldsTo puts b (items_of items) c
+  pub put : FoldsTo puts b (taken_items items) c
   pub calm : NoFewerFailures f0 f
 
 pub none_gathered : {A T B J : Type 0} (puts : B → T → B → Type 0) (judge : Judge A T J) (m : Meaning A T) (j : J) (b : B) (s : Standing A) (f : Health) → Gathering puts judge m j j b b s f s f
@@ -74,8 +74,8 @@ module _ {A T B J : Type 0} {puts : B → T → B → Type 0} {judge : Judge A T
   turn_on {v} {t} p = FoldsTo-push (TakesItem m) s0 h.items s (taken_at v s t) t h.turn (record { from = refl; read = p; left = refl })
 
   -- and put in its place
-  put_on : {v : T} (t : Standing A) {d : B} → puts c v d → FoldsTo puts b (items_of (h.items ++ taken_at v s t ∷ [])) d
-  put_on {v} t {d} p = rw (map-append (λ x. x.item) h.items (taken_at v s t ∷ [])) (FoldsTo-push puts b (items_of h.items) c v d h.put p)
+  put_on : {v : T} (t : Standing A) {d : B} → puts c v d → FoldsTo puts b (taken_items (h.items ++ taken_at v s t ∷ [])) d
+  put_on {v} t {d} p = rw (map-append (λ x. x.item) h.items (taken_at v s t ∷ [])) (FoldsTo-push puts b (taken_items h.items) c v d h.put p)
 
   pub goes_on : {v : T} {t : Standing A} {g : Health} {d : B} {l : J} → Outcome m s f (Ok v) t g → judge k (taken_at v s t) false l → count_of s < count_of t → puts c v d
       → Gathering puts judge m j l b d s0 f0 t g
@@ -91,27 +91,27 @@ module _ {A T B J : Type 0} {puts : B → T → B → Type 0} {judge : Judge A T
     (closes : Standing A → Standing A → Type 0) (ended : J → Type 0) (h : Gathering puts judge m j k b c s0 f0 s f) where
   -- the list ends with this item
   pub ends_with : {v : T} {t : Standing A} {g : Health} {d : B} {l : J} → Outcome m s f (Ok v) t g → judge k (taken_at v s t) true l → ended l → puts c v d
-      → Outcome (Held (λ xs z. FoldsTo puts b xs z) (Judged judge closes ended j m)) s0 f0 (Ok d) t g
+      → Outcome (MappedBy (λ xs z. FoldsTo puts b xs z) (Judged judge closes ended j m)) s0 f0 (Ok d) t g
   ends_with {v} {t} {g} {d} {l} o y z p = let a = meant o in
       held_ok (Quiet (EndsWith h.items (taken_at v s t) k l (turn_on h a.0) h.on y z refl refl) (no_fewer_on f0 f g h.calm a.1)) (put_on h t p)
 
   -- it closes before the next item
-  pub closed : {t : Standing A} {g : Health} → closes s t → ended k → NoFewerFailures f g → Outcome (Held (λ xs z. FoldsTo puts b xs z) (Judged judge closes ended j m)) s0 f0 (Ok c) t g
+  pub closed : {t : Standing A} {g : Health} → closes s t → ended k → NoFewerFailures f g → Outcome (MappedBy (λ xs z. FoldsTo puts b xs z) (Judged judge closes ended j m)) s0 f0 (Ok c) t g
   closed {t} {g} p z q = held_ok (Quiet (Closes h.items k s h.turn h.on p z refl refl) (no_fewer_on f0 f g h.calm q)) h.put
 
   -- the next item is refused
-  pub item_refused : {e : DekuError} {t : Standing A} {g : Health} → Outcome m s f (Err e) t g → ended k → Outcome (Held (λ xs z. FoldsTo puts b xs z) (Judged judge closes ended j m)) s0 f0 (Err e) t g
+  pub item_refused : {e : DekuError} {t : Standing A} {g : Health} → Outcome m s f (Err e) t g → ended k → Outcome (MappedBy (λ xs z. FoldsTo puts b xs z) (Judged judge closes ended j m)) s0 f0 (Err e) t g
   item_refused {e} {g} (Quiet p q) z = held_err (Quiet (ItemRefused h.items k s e h.turn h.on p z refl) (no_fewer_on f0 f g h.calm q))
   item_refused {e} {g} (Broken a p q) z = held_err (Broken (broken_at a) (ItemRefused h.items k s e h.turn h.on p z refl) (more_on f0 f g h.calm q))
 
   -- it is not put in its place: it has no width and does not end the list, or no memory is found
   pub not_kept : {v : T} {t : Standing A} {g : Health} {l : J} {e : DekuError} (x : Bool) (n o : ℕ) → n ≡ count_of s → o ≡ count_of t → Outcome m s f (Ok v) t g → judge k (taken_at v s t) x l → ended l
       → ((x ≡ false) × (o ≤ n) × Tells Parse (codes "item without width") e) ⊎ (((x ≡ true) ⊎ (n < o)) × (e ≡ Io OutOfMemory))
-      → Outcome (Held (λ xs z. FoldsTo puts b xs z) (Judged judge closes ended j m)) s0 f0 (Err e) t g
+      → Outcome (MappedBy (λ xs z. FoldsTo puts b xs z) (Judged judge closes ended j m)) s0 f0 (Err e) t g
   not_kept {v} {t} {g} {l} {e} x n o before after q y z (inl p) = let a = meant q in
       held_err (Quiet (WithoutWidth h.items (taken_at v s t) k l e (turn_on h a.0) h.on (rw p.0 at y) (λ w. omega (arith, before, after, p.1, w)) p.2 z refl refl) (no_fewer_on f0 f g h.calm a.1))
   not_kept {v} {t} {g} {l} {e} x n o before after q y z (inr p) = let a = meant q in rw p.1
-      (held_err (Quiet (NoPlace h.items (taken_at v s t) x k l (turn_on h a.0) h.on y (wide p.0) z refl refl) (no_fewer_on f0 f g h.calm a.1)))
+      (held_err (Quiet (Unplaced h.items (taken_at v s t) x k l (turn_on h a.0) h.on y (wide p.0) z refl refl) (no_fewer_on f0 f g h.calm a.1)))
     where
       wide : (x ≡ true) ⊎ (n < o) → (x ≡ true) ⊎ (count_of s < count_of t)
       wide (inl w) = inl w
@@ -124,14 +124,14 @@ let_go ended last h (EndsWith xs x k l p q y z e i) = EndsWith xs x k l p q y (r
 let_go ended last h (Closes xs k t p q c z e i) = Closes xs k t p q c (rw z h) e i
 let_go ended last h (ItemRefused xs k t e p q y z i) = ItemRefused xs k t e p q y (rw z h) i
 let_go ended last h (WithoutWidth xs x k l e p q y w o z i v) = WithoutWidth xs x k l e p q y w o (rw z h) i v
-let_go ended last h (NoPlace xs x v k l p q y w z i e) = NoPlace xs x v k l p q y w (rw z h) i e
+let_go ended last h (Unplaced xs x v k l p q y w z i e) = Unplaced xs x v k l p q y w (rw z h) i e
 
 pub held_let_go : {A T B J : Type 0} {h : List T → B → Type 0} {judge : Judge A T J} {closes : Standing A → Standing A → Type 0} {j : J} {m : Meaning A T} {s : Standing A} {f : Health} {r : Result B DekuError} {u : Standing A} {g : Health}
-    (ended : J → Type 0) (last : J) → ended last → Outcome (Held h (Judged judge closes (λ k. k ≡ last) j m)) s f r u g → Outcome (Held h (Judged judge closes ended j m)) s f r u g
-held_let_go ended last k (Quiet (Holds v w p h e) q) = Quiet (Holds v w (let_go ended last k p) h e) q
-held_let_go ended last k (Quiet (NotHeld x p e) q) = Quiet (NotHeld x (let_go ended last k p) e) q
-held_let_go ended last k (Broken a (Holds v w p h e) q) = Broken a (Holds v w (let_go ended last k p) h e) q
-held_let_go ended last k (Broken a (NotHeld x p e) q) = Broken a (NotHeld x (let_go ended last k p) e) q
+    (ended : J → Type 0) (last : J) → ended last → Outcome (MappedBy h (Judged judge closes (λ k. k ≡ last) j m)) s f r u g → Outcome (MappedBy h (Judged judge closes ended j m)) s f r u g
+held_let_go ended last k (Quiet (ValueBy v w p h e) q) = Quiet (ValueBy v w (let_go ended last k p) h e) q
+held_let_go ended last k (Quiet (RefusalBy x p e) q) = Quiet (RefusalBy x (let_go ended last k p) e) q
+held_let_go ended last k (Broken a (ValueBy v w p h e) q) = Broken a (ValueBy v w (let_go ended last k p) h e) q
+held_let_go ended last k (Broken a (RefusalBy x p e) q) = Broken a (RefusalBy x (let_go ended last k p) e) q
 
 -- an item that is kept and does not end the list has width
 pub wide_of_kept : (x : Bool) (n o p q : ℕ) → n ≡ p → o ≡ q → x ≡ false → (x ≡ true) ⊎ (n < o) → p < q
@@ -150,29 +150,29 @@ pub judged_by_counts : (x : Bool) (start after n p q : ℕ) → start ≡ p → 
 judged_by_counts x start after n p q e f h = rw (e, f) at h
 
 pub some_bits : {A T B : Type 0} {h : List T → B → Type 0} {m : Meaning A T} {s : Standing A} {f : Health} {r : Result B DekuError} {u : Standing A} {g : Health} (n : ℕ) → 0 < n
-    → Outcome (Held h (Judged {J = Unit {0}} (λ _ x v _. (v ≡ true) ↔ (count_of x.after ≡ count_of s + n)) (λ _ _. ⊥) (λ _. ⊤) tt m)) s f r u g → Outcome (Held h (ReadsBitsOf n m)) s f r u g
-some_bits n l (Quiet (Holds v w p k e) q) = Quiet (Holds v w (SomeBits l p) k e) q
-some_bits n l (Quiet (NotHeld e p i) q) = Quiet (NotHeld e (SomeBits l p) i) q
-some_bits n l (Broken a (Holds v w p k e) q) = Broken a (Holds v w (SomeBits l p) k e) q
-some_bits n l (Broken a (NotHeld e p i) q) = Broken a (NotHeld e (SomeBits l p) i) q
+    → Outcome (MappedBy h (Judged {J = Unit {0}} (λ _ x v _. (v ≡ true) ↔ (count_of x.after ≡ count_of s + n)) (λ _ _. ⊥) (λ _. ⊤) tt m)) s f r u g → Outcome (MappedBy h (ReadsBitsOf n m)) s f r u g
+some_bits n l (Quiet (ValueBy v w p k e) q) = Quiet (ValueBy v w (SomeBits l p) k e) q
+some_bits n l (Quiet (RefusalBy e p i) q) = Quiet (RefusalBy e (SomeBits l p) i) q
+some_bits n l (Broken a (ValueBy v w p k e) q) = Broken a (ValueBy v w (SomeBits l p) k e) q
+some_bits n l (Broken a (RefusalBy e p i) q) = Broken a (RefusalBy e (SomeBits l p) i) q
 
 pub no_bits : {A T B : Type 0} {puts : B → T → B → Type 0} {m : Meaning A T} {b : B} {s : Standing A} {f : Health} (n : ℕ) → n ≡ 0
-    → Outcome (Held (λ xs z. FoldsTo puts b xs z) (ReadsBitsOf n m)) s f (Ok b) s f
+    → Outcome (MappedBy (λ xs z. FoldsTo puts b xs z) (ReadsBitsOf n m)) s f (Ok b) s f
 no_bits {f} n e = held_ok (Quiet (NoBits e Answered) (no_fewer_same f)) refl
 
 -- a size of bytes whose bits can be counted
 pub within_count : {T B : Type 0} {h : List T → B → Type 0} {m : Meaning (Option Stream) T} {s : Standing (Option Stream)} {f : Health} {r : Result B DekuError} {u : Standing (Option Stream)} {g : Health}
-    (n bits : ℕ) → bits < 2 ^ 64 → bits ≡ 8 * n → Outcome (Held h (ReadsBitsOf bits m)) s f r u g
-    → Outcome (Held h (Checked (PastCount n) (λ b s r u. (8 * n < 2 ^ 64) × ReadsBitsOf (8 * n) m b s r u))) s f r u g
-within_count n bits l e (Quiet (Holds v w p k i) q) = Quiet (Holds v w (Passed (rw e at l, rw e at p)) k i) q
-within_count n bits l e (Quiet (NotHeld x p i) q) = Quiet (NotHeld x (Passed (rw e at l, rw e at p)) i) q
-within_count n bits l e (Broken a (Holds v w p k i) q) = Broken a (Holds v w (Passed (rw e at l, rw e at p)) k i) q
-within_count n bits l e (Broken a (NotHeld x p i) q) = Broken a (NotHeld x (Passed (rw e at l, rw e at p)) i) q
+    (n bits : ℕ) → bits < 2 ^ 64 → bits ≡ 8 * n → Outcome (MappedBy h (ReadsBitsOf bits m)) s f r u g
+    → Outcome (MappedBy h (Checked (PastCount n) (λ b s r u. (8 * n < 2 ^ 64) × ReadsBitsOf (8 * n) m b s r u))) s f r u g
+within_count n bits l e (Quiet (ValueBy v w p k i) q) = Quiet (ValueBy v w (Passed (rw e at l, rw e at p)) k i) q
+within_count n bits l e (Quiet (RefusalBy x p i) q) = Quiet (RefusalBy x (Passed (rw e at l, rw e at p)) i) q
+within_count n bits l e (Broken a (ValueBy v w p k i) q) = Broken a (ValueBy v w (Passed (rw e at l, rw e at p)) k i) q
+within_count n bits l e (Broken a (RefusalBy x p i) q) = Broken a (RefusalBy x (Passed (rw e at l, rw e at p)) i) q
 
 -- a size of bytes whose bits cannot
 pub past_count : {T B : Type 0} {h : List T → B → Type 0} {m : Meaning (Option Stream) T} {s : Standing (Option Stream)} {f : Health}
     (n : ℕ) (words : Bor (List ℕ)) → words.now ≡ codes "count past usize" → 2 ^ 64 ≤ 8 * n
-    → Outcome (Held h (Checked (PastCount n) (λ b s r u. (8 * n < 2 ^ 64) × ReadsBitsOf (8 * n) m b s r u))) s f (Err (InvalidParam words)) s f
+    → Outcome (MappedBy h (Checked (PastCount n) (λ b s r u. (8 * n < 2 ^ 64) × ReadsBitsOf (8 * n) m b s r u))) s f (Err (InvalidParam words)) s f
 past_count {f} n words e l = held_err (Quiet (Refused refl (l, (words, e, refl, refl))) (no_fewer_same f))
 
 -- ---- the end of the stream

@@ -5,14 +5,16 @@ use Rattle.deku_bits.specs.Devices.{Health, NoFewerFailures}
 use Rattle.deku_bits.specs.Standings.{Standing}
 use Rattle.deku_bits.specs.Outcomes.{Meaning, Outcome, Quiet, Broken}
 use Rattle.deku_bits.proofs.Handing.{broken_at, meant, no_fewer_on, more_on, no_fewer_same}
+use Rattle.deku_num.specs.NumberCalls.{Passed}
+use Rattle.deku_meanings.specs.Composing.{Answered}
 use Rattle.deku_reading.specs.Lists as lists
-use Rattle.deku_reading.specs.Lists.{AnswersEach, Runs, Ended, Put, Stored}
+use Rattle.deku_reading.specs.Lists.{AnswersEach, Runs, Ended, Stored}
 use Rattle.deku_meanings.proofs.Joining.{then_on}
 
 -- ---- one item
 pub stored : {A V : Type 0} {m : Meaning A V} {s : Standing A} {f : Health} {v : V} {t : Standing A} {g : Health}
     → Outcome m s f (Ok v) t g → Outcome (Stored m) s f (Ok v) t g
-stored {g} o = then_on o (Quiet Put (no_fewer_same g))
+stored {g} o = then_on o (Quiet (Passed Answered) (no_fewer_same g))
 
 -- ---- items
 in_turn_on : {A V : Type 0} (m : Meaning A V) (vs : List V) (v : V) (s t u : Standing A) → AnswersEach m vs s t → m false t (Ok v) u → AnswersEach m (vs ++ v ∷ []) s u
@@ -37,5 +39,5 @@ run_ended {vs} k e = Quiet (Ended vs k.turn e refl refl) k.calm
 
 pub run_refused : {A V : Type 0} {goes ends : List V → Type 0} {m : Meaning A V} {vs : List V} {e : DekuError} {s0 : Standing A} {f0 : Health} {s : Standing A} {f : Health} {t : Standing A} {g : Health}
     → SoFar m vs s0 f0 s f → goes vs → Outcome m s f (Err e) t g → Outcome (Runs goes ends m) s0 f0 (Err e) t g
-run_refused {vs} {e} {f0} {s} {f} {g} k l (Quiet p q) = Quiet (lists.Refused vs s e k.turn l p refl) (no_fewer_on f0 f g k.calm q)
-run_refused {vs} {e} {f0} {s} {f} {g} k l (Broken a p q) = Broken (broken_at a) (lists.Refused vs s e k.turn l p refl) (more_on f0 f g k.calm q)
+run_refused {vs} {e} {f0} {s} {f} {g} k l (Quiet p q) = Quiet (lists.NextRefused vs s e k.turn l p refl) (no_fewer_on f0 f g k.calm q)
+run_refused {vs} {e} {f0} {s} {f} {g} k l (Broken a p q) = Broken (broken_at a) (lists.NextRefused vs s e k.turn l p refl) (more_on f0 f g k.calm q)

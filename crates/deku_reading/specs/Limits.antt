@@ -22,8 +22,8 @@ pub record Taken (A T : Type 0) : Type 0 where
   pub after : Standing A
 
 -- the items alone
-abbrev pub items_of : {A T : Type 0} → List (Taken A T) → List T
-items_of xs = map (λ x. x.item) xs
+abbrev pub taken_items : {A T : Type 0} → List (Taken A T) → List T
+taken_items xs = map (λ x. x.item) xs
 
 -- the item raised the count of bits read
 abbrev pub Widens : {A T : Type 0} → Taken A T → Type 0
@@ -52,14 +52,14 @@ GoesOn judge j xs k = FoldsTo (λ i x l. judge i x false l × Widens x) j xs k
 -- or where no memory is found for it. However it ends, the limit is let go as it is behind the last item.
 pub data Judged {A T J : Type 0} (judge : Judge A T J) (closes : Standing A → Standing A → Type 0) (ended : J → Type 0) (j : J) (m : Meaning A T) (b : Bool) (s : Standing A) (r : Result (List T) DekuError) (u : Standing A) : Type 0 where
   EndsWith : (xs : List (Taken A T)) (x : Taken A T) (k l : J) → TakesEach m s (xs ++ x ∷ []) u → GoesOn judge j xs k → judge k x true l → ended l
-      → b ≡ false → r ≡ Ok (items_of (xs ++ x ∷ [])) → Judged judge closes ended j m b s r u
+      → b ≡ false → r ≡ Ok (taken_items (xs ++ x ∷ [])) → Judged judge closes ended j m b s r u
   Closes : (xs : List (Taken A T)) (k : J) (t : Standing A) → TakesEach m s xs t → GoesOn judge j xs k → closes t u → ended k
-      → b ≡ false → r ≡ Ok (items_of xs) → Judged judge closes ended j m b s r u
+      → b ≡ false → r ≡ Ok (taken_items xs) → Judged judge closes ended j m b s r u
   ItemRefused : (xs : List (Taken A T)) (k : J) (t : Standing A) (e : DekuError) → TakesEach m s xs t → GoesOn judge j xs k → m b t (Err e) u → ended k
       → r ≡ Err e → Judged judge closes ended j m b s r u
   WithoutWidth : (xs : List (Taken A T)) (x : Taken A T) (k l : J) (e : DekuError) → TakesEach m s (xs ++ x ∷ []) u → GoesOn judge j xs k → judge k x false l → (Widens x → ⊥)
       → Tells Parse (codes "item without width") e → ended l → b ≡ false → r ≡ Err e → Judged judge closes ended j m b s r u
-  NoPlace : (xs : List (Taken A T)) (x : Taken A T) (v : Bool) (k l : J) → TakesEach m s (xs ++ x ∷ []) u → GoesOn judge j xs k → judge k x v l → (v ≡ true) ⊎ Widens x → ended l
+  Unplaced : (xs : List (Taken A T)) (x : Taken A T) (v : Bool) (k l : J) → TakesEach m s (xs ++ x ∷ []) u → GoesOn judge j xs k → judge k x v l → (v ≡ true) ⊎ Widens x → ended l
       → b ≡ false → r ≡ Err (Io OutOfMemory) → Judged judge closes ended j m b s r u
 
 -- up to and including the first item of which a predicate is true; it is asked about each item once, in order, and then let go
@@ -106,6 +106,6 @@ EndsItself End = ⊥
 EndsItself _ = ⊤
 
 -- m, with what h says stands for its values
-pub data Held {A V W : Type 0} (h : V → W → Type 0) (m : Meaning A V) (b : Bool) (s : Standing A) (r : Result W DekuError) (u : Standing A) : Type 0 where
-  Holds : (v : V) (w : W) → m b s (Ok v) u → h v w → r ≡ Ok w → Held h m b s r u
-  NotHeld : (e : DekuError) → m b s (Err e) u → r ≡ Err e → Held h m b s r u
+pub data MappedBy {A V W : Type 0} (h : V → W → Type 0) (m : Meaning A V) (b : Bool) (s : Standing A) (r : Result W DekuError) (u : Standing A) : Type 0 where
+  ValueBy : (v : V) (w : W) → m b s (Ok v) u → h v w → r ≡ Ok w → MappedBy h m b s r u
+  RefusalBy : (e : DekuError) → m b s (Err e) u → r ≡ Err e → MappedBy h m b s r u

@@ -1,11 +1,11 @@
 -- How lists of items are read.
 use Rattle.std.specs.Prelude.{◌≡◌, ℕ, zero, suc, Bool, false, List, [], ◌∷◌, Result, Ok, Err}
-use Rattle.std.specs.declared.io.ErrorKind.TheVariants.{OutOfMemory}
 use Rattle.deku_bits.specs.declared.error.DekuError.{DekuError}
-use Rattle.deku_bits.specs.declared.error.DekuError.TheVariants.{Io}
 use Rattle.deku_bits.specs.Standings.{Standing}
 use Rattle.deku_bits.specs.Outcomes.{Meaning, Mapped}
+use Rattle.deku_num.specs.NumberCalls.{Checked}
 use Rattle.deku_meanings.specs.Composing.{Answer, Then}
+use Rattle.deku_meanings.specs.Shapes.{LacksMemory}
 
 -- n items are read one after the other
 abbrev pub ReadsTimes : {A V : Type 0} → ℕ → Meaning A V → Meaning A (List V)
@@ -29,13 +29,8 @@ AnswersEach {A} m (v ∷ vs) s u = (t : Standing A) × m false s (Ok v) t × Ans
 -- items are read one after the other: a list that ends; or the next item is refused, behind a list that goes on
 pub data Runs {A V : Type 0} (goes ends : List V → Type 0) (m : Meaning A V) (b : Bool) (s : Standing A) (r : Result (List V) DekuError) (u : Standing A) : Type 0 where
   Ended : (vs : List V) → AnswersEach m vs s u → ends vs → b ≡ false → r ≡ Ok vs → Runs goes ends m b s r u
-  Refused : (vs : List V) (t : Standing A) (e : DekuError) → AnswersEach m vs s t → goes vs → m b t (Err e) u → r ≡ Err e → Runs goes ends m b s r u
+  NextRefused : (vs : List V) (t : Standing A) (e : DekuError) → AnswersEach m vs s t → goes vs → m b t (Err e) u → r ≡ Err e → Runs goes ends m b s r u
 
--- the value is put in its place, or no memory is found for it; nothing moves
-pub data InPlace {A V : Type 0} (v : V) : Bool → Standing A → Result V DekuError → Standing A → Type 0 where
-  Put : {s : Standing A} → InPlace v false s (Ok v) s
-  NoMemory : {s : Standing A} → InPlace v false s (Err (Io OutOfMemory)) s
-
--- m, and then its value is put in its place in memory that grows
+-- m, and then its value is put in its place in memory that grows, or none is found
 abbrev pub Stored : {A V : Type 0} → Meaning A V → Meaning A V
-Stored m = Then m InPlace
+Stored m = Then m (λ v. Checked LacksMemory (Answer v))

@@ -1,7 +1,8 @@
 -- Bytes that hold a list of bits, and zeros behind it.
-use Rattle.std.proofs.Common.{ℕ, zero, suc, ◌+◌, ◌*◌, ◌-◌, ◌^◌, ◌<◌, ◌≤◌, ◌≡◌, Bool, false, List, [], ◌∷◌, ◌++◌, length, drop, take, replicate, refl, ap, sym, ◌∙◌, subst, arith, length-append, length-drop}
+use Rattle.std.proofs.Common.{ℕ, zero, suc, ◌+◌, ◌*◌, ◌-◌, ◌^◌, ◌<◌, ◌≤◌, ◌≡◌, Bool, false, List, [], ◌∷◌, ◌++◌, length, drop, take, replicate, refl, ap, sym, ◌∙◌, subst, arith, append_assoc, length-append, length-drop}
 use Rattle.std.proofs.lemmas.List.{length-take-le, take_all, drop_all, length-replicate, drop-drop, drop_at, replicate-append-replicate}
-use Rattle.deku_stream.specs.Bits.{bits_of, byte_bits, bits_in, overlaid}
+use Rattle.deku_stream.specs.Bits.{bits_of, byte_bits, bits_in}
+use Rattle.deku_device.specs.Overlays.{overlaid}
 use Rattle.deku_stream.proofs.BitPlaces.{length-bits_in}
 use Rattle.deku_stream.proofs.Overlays.{take-overlaid, drop-overlaid, take_front-overlaid}
 
@@ -52,8 +53,8 @@ laid bs cs n N s at bits h e low high room =
 
     length_laid : (xs : List Bool) (i : ℕ) (ys : List Bool) → i + length ys ≤ length xs → length (overlaid xs i ys) ≡ length xs
     length_laid xs i ys l =
-        length-append (take i xs) (ys ++ drop (i + length ys) xs)
-        ∙ omega (arith, length-append ys (drop (i + length ys) xs), length-take-le i xs (omega arith), length-drop (i + length ys) xs)
+        length-append (take i xs ++ ys) (drop (i + length ys) xs)
+        ∙ omega (arith, length-append (take i xs) ys, length-take-le i xs (omega arith), length-drop (i + length ys) xs)
 
     drop_zeros : (i j : ℕ) → drop i (replicate j false) ≡ replicate (j - i) false
     drop_zeros zero j = ap (λ x. replicate x false) (let k : j ≡ j - 0 = omega arith in k)
@@ -74,7 +75,8 @@ cleared bs cs n N s at h e low =
       within = omega (arith, h.within);
       fits = h.fits;
       is = ap (take at) e ∙ take_front-overlaid (bits_in bs) at zs (omega (arith, h.all, h.within)) ∙ front_is;
-      zeros = ap (drop at) e ∙ drop_at (take at (bits_in bs)) (zs ++ drop (at + length zs) (bits_in bs)) at (length-take-le at (bits_in bs) (omega (arith, h.all, h.within)))
+      zeros = ap (drop at) e ∙ ap (drop at) (append_assoc (take at (bits_in bs)) zs (drop (at + length zs) (bits_in bs)))
+          ∙ drop_at (take at (bits_in bs)) (zs ++ drop (at + length zs) (bits_in bs)) at (length-take-le at (bits_in bs) (omega (arith, h.all, h.within)))
           ∙ ap (λ x. zs ++ drop x (bits_in bs)) end ∙ ap (λ x. zs ++ x) (h.zeros)
           ∙ replicate-append-replicate (n - at) (8 * N - n) false
           ∙ ap (λ x. replicate x false) (let q : n - at + (8 * N - n) ≡ 8 * N - at = omega (arith, h.within) in q);

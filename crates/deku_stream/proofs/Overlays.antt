@@ -1,7 +1,7 @@
 -- Bits laid over others, one at a time.
 use Rattle.std.proofs.Common.{ℕ, zero, suc, ◌+◌, ◌-◌, ◌<◌, ◌≤◌, ◌≡◌, Bool, false, List, [], ◌∷◌, ◌++◌, length, set, get_or, drop, take, refl, ap, sym, ◌∙◌, arith, append_assoc, length-append}
-use Rattle.std.proofs.lemmas.List.{length-take-le, take_more, drop_more, take-append-drop, drop_at, take_at, get_or-append-add, get_or-drop}
-use Rattle.deku_stream.specs.Bits.{overlaid}
+use Rattle.std.proofs.lemmas.List.{length-take-le, take_more, drop_more, take-append-drop, append-nil, drop_at, take_at, get_or-append-add, get_or-drop}
+use Rattle.deku_device.specs.Overlays.{overlaid}
 
 -- a list, with the element behind a front replaced
 set_behind : (s t : List Bool) (a b : Bool) (n : ℕ) → length s ≡ n → set (s ++ a ∷ t) n b ≡ s ++ b ∷ t
@@ -19,19 +19,18 @@ overlaid-more s at bits k l h =
     let lf : length front ≡ at + k = length-append (take at s) (take k bits) ∙ omega (arith, lk, length-take-le at s (omega arith)) in
     let lm : length (take (k + 1) bits) ≡ k + 1 = length-take-le (k + 1) bits (omega arith) in
     let next : at + (k + 1) ≡ at + k + 1 = omega arith in
-    ap (λ x. set (take at s ++ (take k bits ++ drop (at + x) s)) (at + k) (get_or bits k false)) lk
-    ∙ ap (λ x. set (take at s ++ (take k bits ++ x)) (at + k) (get_or bits k false)) (drop_more s (at + k) false h)
-    ∙ ap (λ x. set x (at + k) (get_or bits k false)) (sym (append_assoc (take at s) (take k bits) _))
+    ap (λ x. set (front ++ drop (at + x) s) (at + k) (get_or bits k false)) lk
+    ∙ ap (λ x. set (front ++ x) (at + k) (get_or bits k false)) (drop_more s (at + k) false h)
     ∙ set_behind front (drop (at + k + 1) s) (get_or s (at + k) false) (get_or bits k false) (at + k) lf
-    ∙ append_assoc (take at s) (take k bits) _
-    ∙ ap (λ x. take at s ++ x) (sym (append_assoc (take k bits) (get_or bits k false ∷ []) (drop (at + k + 1) s)))
-    ∙ ap (λ x. take at s ++ (x ++ drop (at + k + 1) s)) (sym (take_more bits k false l))
-    ∙ ap (λ x. take at s ++ (take (k + 1) bits ++ drop x s)) (sym (ap (λ x. at + x) lm ∙ next))
+    ∙ sym (append_assoc front (get_or bits k false ∷ []) (drop (at + k + 1) s))
+    ∙ ap (λ x. x ++ drop (at + k + 1) s) (append_assoc (take at s) (take k bits) (get_or bits k false ∷ []))
+    ∙ ap (λ x. take at s ++ x ++ drop (at + k + 1) s) (sym (take_more bits k false l))
+    ∙ ap (λ x. take at s ++ take (k + 1) bits ++ drop x s) (sym (ap (λ x. at + x) lm ∙ next))
 
 pub overlaid-none : (s : List Bool) (at : ℕ) → overlaid s at [] ≡ s
 overlaid-none s at =
     let n : at + 0 ≡ at = omega arith in
-    rw n (take-append-drop at s)
+    rw (n, append-nil (take at s)) (take-append-drop at s)
 
 pub overlaid-start : (s : List Bool) (at : ℕ) (bits : List Bool) → overlaid s at (take 0 bits) ≡ s
 overlaid-start s at bits = overlaid-none s at
@@ -41,18 +40,17 @@ pub take-overlaid : (s : List Bool) (at : ℕ) (bits : List Bool) → at + lengt
 take-overlaid s at bits h =
     let front : List Bool = take at s ++ bits in
     let lf : length front ≡ at + length bits = length-append (take at s) bits ∙ omega (arith, length-take-le at s (omega arith)) in
-    ap (take (at + length bits)) (sym (append_assoc (take at s) bits (drop (at + length bits) s)))
-    ∙ take_at front (drop (at + length bits) s) (at + length bits) lf
+    take_at front (drop (at + length bits) s) (at + length bits) lf
 
 pub drop-overlaid : (s : List Bool) (at : ℕ) (bits : List Bool) → at + length bits ≤ length s → drop (at + length bits) (overlaid s at bits) ≡ drop (at + length bits) s
 drop-overlaid s at bits h =
     let front : List Bool = take at s ++ bits in
     let lf : length front ≡ at + length bits = length-append (take at s) bits ∙ omega (arith, length-take-le at s (omega arith)) in
-    ap (drop (at + length bits)) (sym (append_assoc (take at s) bits (drop (at + length bits) s)))
-    ∙ drop_at front (drop (at + length bits) s) (at + length bits) lf
+    drop_at front (drop (at + length bits) s) (at + length bits) lf
 
 pub take_front-overlaid : (s : List Bool) (at : ℕ) (bits : List Bool) → at ≤ length s → take at (overlaid s at bits) ≡ take at s
-take_front-overlaid s at bits h = take_at (take at s) (bits ++ drop (at + length bits) s) at (length-take-le at s h)
+take_front-overlaid s at bits h =
+    ap (take at) (append_assoc (take at s) bits (drop (at + length bits) s)) ∙ take_at (take at s) (bits ++ drop (at + length bits) s) at (length-take-le at s h)
 
 -- a turn of a loop that lays bits, one at a place
 pub lays_more : (s : List Bool) (at : ℕ) (bits : List Bool) (k place : ℕ) (old new : List Bool) (bit : Bool) → old ≡ overlaid s at (take k bits)
@@ -67,8 +65,7 @@ get_or-overlaid s at bits k h l =
     let m : ℕ = k - length front in
     let e : k ≡ length front + m = omega arith in
     let f : at + length bits + m ≡ k = omega arith in
-    ap (λ x. get_or x k false) (sym (append_assoc (take at s) bits (drop (at + length bits) s)))
-    ∙ ap (λ x. get_or (front ++ drop (at + length bits) s) x false) e
+    ap (λ x. get_or (front ++ drop (at + length bits) s) x false) e
     ∙ get_or-append-add front (drop (at + length bits) s) m false
     ∙ get_or-drop (at + length bits) s m false
     ∙ ap (λ x. get_or s x false) f

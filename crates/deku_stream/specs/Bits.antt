@@ -21,10 +21,6 @@ byte_bits b = bits_of 8 b
 abbrev pub bits_in : List ℕ → List Bool
 bits_in bs = flat_map byte_bits bs
 
--- a list with bits laid over those from a place on
-abbrev pub overlaid : List Bool → ℕ → List Bool → List Bool
-overlaid s at bits = take at s ++ (bits ++ drop (at + length bits) s)
-
 -- a list as an order meets it: from its front in `Msb0`, from its end in `Lsb0`
 abbrev pub facing : Order → List Bool → List Bool
 facing Msb0 s = s

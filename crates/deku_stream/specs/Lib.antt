@@ -1,5 +1,6 @@
 pub use Rattle.deku_device.specs.Devices
 pub use Rattle.deku_device.specs.Cursors
+pub use Rattle.deku_device.specs.Overlays
 pub use Rattle.deku_device.specs.Seeking
 pub mod Bits
 pub mod Streams

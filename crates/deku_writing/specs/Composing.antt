@@ -1,5 +1,5 @@
 -- How the meanings of items make that of a composite, and that of a list that is written.
-pub use Rattle.deku_meanings.specs.Composing.{Answer, Answered, Then, Second, First, PairOf, Both}
+pub use Rattle.deku_meanings.specs.Composing.{Answer, Answered, Then, Second, First, JoinedBy, PairOf, Both}
 use Rattle.std.specs.Prelude.{List, [], ◌∷◌}
 use Rattle.deku_bits.specs.Outcomes.{Meaning}
 

@@ -1,13 +1,13 @@
 //! Sizes of truth values and of tuples.
 
 ghost use Rattle.std.specs.Prelude.{◌≡◌};
-ghost use Rattle.deku_num.specs.Sizes.{fitting, both};
+ghost use Rattle.deku_num.specs.Sizes.{within_usize, both};
 
 use crate::size::{DekuSize, DekuSizeConst};
 
 // The bits of both, where these are known and fit `usize` together.
 fn sum(first: Option<usize>, second: Option<usize>) -> Option<usize>
-    ensures { result ≡ fitting (both first second) }
+    ensures { result ≡ within_usize (both first second) }
 {
     match (first, second) {
         (Some(bits), Some(more)) => bits.checked_add(more),

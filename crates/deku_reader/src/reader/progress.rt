@@ -13,7 +13,7 @@ ghost use Rattle.deku_device.specs.Devices.{NoFewerFailures, MoreFailures, Fewer
 ghost use Rattle.deku_stream.specs.Kept.{Admits};
 ghost use Rattle.deku_stream.specs.Moving.{Moves, FewerBits};
 ghost use Rattle.deku_stream.specs.Faults.{error_of};
-ghost use Rattle.deku_reader.specs.ReaderCalls.{ReadsAt, Takes, Ending, Skips, ReadsBytes, ReadsWord, FetchesFor, FetchesAhead, NoneEarly, NeedsNone, NamesRest, filling, window_of};
+ghost use Rattle.deku_reader.specs.ReaderCalls.{ReadsAt, TakesBits, Ending, Skips, ReadsBytes, ReadsWord, FetchesFor, FetchesAhead, NoneEarly, NeedsNone, NamesRest, filling, window_of};
 ghost use Rattle.deku_stream.specs.Standings.{Going, Stopped, Untouched, count_of};
 
 mod bits;
@@ -139,7 +139,7 @@ impl Progress {
         dst: &mut [bool],
         order: Order,
     ) -> Result<(), DekuError>
-        ensures takes { ReadsAt (Takes order (length dst.old)) (R.told source.old) self.old (filling result dst.new) (R.told source.new) self.new }
+        ensures takes { ReadsAt (TakesBits order (length dst.old)) (R.told source.old) self.old (filling result dst.new) (R.told source.new) self.new }
         ensures fetched { OnOk result (FetchesFor (length dst.old) self.old (R.told source.old) (R.told source.new)) }
         ensures early { NoneEarly self.old self.new }
         ensures still { NeedsNone (length dst.old) self.old → source.new ≡ source.old }
@@ -193,10 +193,11 @@ impl Progress {
     #[inline(always)]
     pub fn high_at_hand<R: Source>(&mut self, source: &mut R, amt: usize) -> Option<u64>
         requires { amt ≤ 64 }
-        ensures takes { IfSome result (λ number. ReadsAt (Takes Msb0 amt) (R.told source.old) self.old (Ok (bits_of amt number)) (R.told source.new) self.new) }
+        ensures takes { IfSome result (λ number. ReadsAt (TakesBits Msb0 amt) (R.told source.old) self.old (Ok (bits_of amt number)) (R.told source.new) self.new) }
         ensures below { IfSome result (λ number. number < 2 ^ amt) }
         ensures fetched { IfSome result (λ number. FetchesFor amt self.old (R.told source.old) (R.told source.new)) }
         ensures early { NoneEarly self.old self.new }
+        ensures still { NeedsNone amt self.old → source.new ≡ source.old }
         ensures stays { IsNone result → (self.new ≡ self.old) × (source.new ≡ source.old) }
         ensures stopped { Untouched self.old source.old source.new }
     {

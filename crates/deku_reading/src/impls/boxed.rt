@@ -38,13 +38,13 @@ impl<T: DekuReader<Ctx>, P: Predicate<T>, Ctx: Copy> DekuReader<(Limit<T, P>, Ct
     for BoxedSlice<T> {
     ghost use Rattle.std.specs.Prelude.{◌≡◌};
     ghost use Rattle.std.specs.Box.{boxed_slice_items};
-    ghost use Rattle.deku_reading.specs.Limits.{ReadsUnder, AsksAll, EndsItself, Held};
+    ghost use Rattle.deku_reading.specs.Limits.{ReadsUnder, AsksAll, EndsItself, MappedBy};
 
     ghost accepts = { λ c. T.accepts c.1 × AsksAll P.asks_all c.0 };
 
     ghost prompt = { λ c. T.prompt c.1 × EndsItself c.0 };
 
-    ghost meaning = { λ c. Held (λ xs b. boxed_slice_items b ≡ xs) (ReadsUnder P.answers P.ended c.0 (T.meaning c.1)) };
+    ghost meaning = { λ c. MappedBy (λ xs b. boxed_slice_items b ≡ xs) (ReadsUnder P.answers P.ended c.0 (T.meaning c.1)) };
 
     fn from_reader_with_ctx<R: Source>(
         reader: &mut Reader<R>,

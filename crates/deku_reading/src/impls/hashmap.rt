@@ -27,13 +27,13 @@ impl<
 > DekuReader<(Limit<(K, V), P>, Ctx)> for HashMap<K, V, S> {
     ghost use Rattle.std.specs.HashMap.{hasher_of, IsFromIterResult};
     ghost use Rattle.deku_meanings.specs.Collected.{IsMapOf};
-    ghost use Rattle.deku_reading.specs.Limits.{ReadsUnder, AsksAll, EndsItself, Held};
+    ghost use Rattle.deku_reading.specs.Limits.{ReadsUnder, AsksAll, EndsItself, MappedBy};
 
     ghost accepts = { λ c. ⟦<(K, V) as DekuReader<Ctx>>⟧.accepts c.1 × AsksAll P.asks_all c.0 };
 
     ghost prompt = { λ c. ⟦<(K, V) as DekuReader<Ctx>>⟧.prompt c.1 × EndsItself c.0 };
 
-    ghost meaning = { λ c. Held (λ xs m. IsFromIterResult K.eq xs m × IsMapOf K.eq xs m × S.is_default (hasher_of m)) (ReadsUnder P.answers P.ended c.0 (⟦<(K, V) as DekuReader<Ctx>>⟧.meaning c.1)) };
+    ghost meaning = { λ c. MappedBy (λ xs m. IsFromIterResult K.eq xs m × IsMapOf K.eq xs m × S.is_default (hasher_of m)) (ReadsUnder P.answers P.ended c.0 (⟦<(K, V) as DekuReader<Ctx>>⟧.meaning c.1)) };
 
     fn from_reader_with_ctx<R: Source>(
         reader: &mut Reader<R>,

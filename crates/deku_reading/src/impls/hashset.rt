@@ -25,13 +25,13 @@ impl<
 > DekuReader<(Limit<T, P>, Ctx)> for HashSet<T, S> {
     ghost use Rattle.std.specs.HashSet.{hasher_of, IsFromIterResult};
     ghost use Rattle.deku_meanings.specs.Collected.{IsSetOf};
-    ghost use Rattle.deku_reading.specs.Limits.{ReadsUnder, AsksAll, EndsItself, Held};
+    ghost use Rattle.deku_reading.specs.Limits.{ReadsUnder, AsksAll, EndsItself, MappedBy};
 
     ghost accepts = { λ c. T.accepts c.1 × AsksAll P.asks_all c.0 };
 
     ghost prompt = { λ c. T.prompt c.1 × EndsItself c.0 };
 
-    ghost meaning = { λ c. Held (λ xs m. IsFromIterResult T.eq xs m × IsSetOf T.eq xs m × S.is_default (hasher_of m)) (ReadsUnder P.answers P.ended c.0 (T.meaning c.1)) };
+    ghost meaning = { λ c. MappedBy (λ xs m. IsFromIterResult T.eq xs m × IsSetOf T.eq xs m × S.is_default (hasher_of m)) (ReadsUnder P.answers P.ended c.0 (T.meaning c.1)) };
 
     fn from_reader_with_ctx<R: Source>(
         reader: &mut Reader<R>,

@@ -28,7 +28,7 @@ impl<Ctx: Copy, A: DekuReader<Ctx>> DekuReader<Ctx> for (A,) {
 /// The items in order, all under one context. The refusal is that of the first item that is refused, and what the items before it moved
 /// stays moved. So with each tuple below.
 impl<Ctx: Copy, A: DekuReader<Ctx>, B: DekuReader<Ctx>> DekuReader<Ctx> for (A, B) {
-    ghost use Rattle.deku_meanings.specs.Composing.{PairOf};
+    ghost use Rattle.deku_meanings.specs.Composing.{PairOf, JoinedBy};
 
     ghost accepts = { λ c. A.accepts c × B.accepts c };
 
@@ -49,7 +49,6 @@ impl<Ctx: Copy, A: DekuReader<Ctx>, B: DekuReader<Ctx>> DekuReader<Ctx> for (A, 
 
 impl<Ctx: Copy, A: DekuReader<Ctx>, B: DekuReader<Ctx>, C: DekuReader<Ctx>> DekuReader<Ctx>
     for (A, B, C) {
-    ghost use Rattle.deku_meanings.specs.Shapes.{JoinedBy};
 
     ghost accepts = { λ c. A.accepts c × ⟦<(B, C) as DekuReader<Ctx>>⟧.accepts c };
 

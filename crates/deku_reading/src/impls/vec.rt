@@ -22,13 +22,13 @@ use std::alloc::Global;
 /// Vec::<u8>::from_reader_with_ctx(&mut reader, (limit, BitSize(6)))?; // 0x1A, 0x1E
 /// ```
 impl<T: DekuReader<Ctx>, P: Predicate<T>, Ctx: Copy> DekuReader<(Limit<T, P>, Ctx)> for Vec<T> {
-    ghost use Rattle.deku_reading.specs.Limits.{ReadsUnder, AsksAll, EndsItself, Held};
+    ghost use Rattle.deku_reading.specs.Limits.{ReadsUnder, AsksAll, EndsItself, MappedBy};
 
     ghost accepts = { λ c. T.accepts c.1 × AsksAll P.asks_all c.0 };
 
     ghost prompt = { λ c. T.prompt c.1 × EndsItself c.0 };
 
-    ghost meaning = { λ c. Held (λ xs v. v.items ≡ xs) (ReadsUnder P.answers P.ended c.0 (T.meaning c.1)) };
+    ghost meaning = { λ c. MappedBy (λ xs v. v.items ≡ xs) (ReadsUnder P.answers P.ended c.0 (T.meaning c.1)) };
 
     fn from_reader_with_ctx<R: Source>(
         reader: &mut Reader<R>,

@@ -5,7 +5,7 @@ use mir.Val.{SFits}
 use Rattle.std.proofs.lemmas.Int.{to_z-of_z}
 use Rattle.deku_num.specs.NumberLaws.{residue}
 use Rattle.deku_fields.specs.Items.{number_type}
-use Rattle.deku_fields.specs.Cutting.{Admits, cuts}
+use Rattle.deku_fields.specs.Cutting.{AdmitsCut, cuts}
 use Rattle.deku_fields.specs.declared.list.Number.TheVariants.{Unsigned, Signed}
 use Rattle.deku_fields.proofs.Cutting.{uncut, unsigned_kept, signed_kept, few_bits}
 use Rattle.deku_fields.proofs.cut.kept.Goals as goal
@@ -18,7 +18,7 @@ returns-then-not-is_cut c =
 pub returns-in-Unsigned : goal.returns-in-Unsigned
 returns-in-Unsigned c =
     let cut : cuts (number_type c.args.field.kind) c.args.field.layout.size ≡ true = search rules in
-    let admits : Admits c.args.field (Unsigned c.in-Unsigned.value) = search rules in
+    let admits : AdmitsCut c.args.field (Unsigned c.in-Unsigned.value) = search rules in
     rw c.in-Unsigned.is (unsigned_kept c.args.field c.in-Unsigned.value _ c.args.width admits cut c.requires.wide c.low_bits.ensures)
 
 pub low_bits-requires : goal.low_bits-requires
@@ -33,7 +33,7 @@ signed_of-requires-clause-wide c = let few = few_bits c.args.field c.args.width 
 pub returns-in-Signed : goal.returns-in-Signed
 returns-in-Signed c =
     let cut : cuts (number_type c.args.field.kind) c.args.field.layout.size ≡ true = search rules in
-    let admits : Admits c.args.field (Signed c.in-Signed.value) = search rules in
+    let admits : AdmitsCut c.args.field (Signed c.in-Signed.value) = search rules in
     let fits : SFits w128 c.in-Signed.value = search rules in
     let worth : SFits w128 c.signed_of.result = search rules in
     rw (c.in-Signed.is, to_z-of_z w128 c.signed_of.result worth)

@@ -80,6 +80,7 @@ pub fn high_at_hand<R: Source>(source: &mut R, window: &mut Window, count: usize
     requires few { count ≤ 64 }
     ensures short { IfSome result (λ number. 0 < count → length window.new < 8) }
     ensures none { IfSome result (λ number. count ≡ 0 → (window.new ≡ window.old) × ((R.told source.new).coming ≡ (R.told source.old).coming)) }
+    ensures still { count ≤ length window.old → source.new ≡ source.old }
     ensures moved { IfSome result (λ number. Moves Msb0 window.old (R.told source.old).coming (bits_of count number) window.new (R.told source.new).coming) }
     ensures below { IfSome result (λ number. number < 2 ^ count) }
     ensures stays { IsNone result → (window.new ≡ window.old) × (source.new ≡ source.old) }

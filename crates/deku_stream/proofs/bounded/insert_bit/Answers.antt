@@ -1,7 +1,8 @@
 use Rattle.std.proofs.lemmas.Grind.{common_steps}
 use Rattle.std.proofs.Common.{Bool, List, ap, arith, drop, false, get_or, length, length-drop, refl, rules, suc, sym, take, ◌*◌, ◌+◌, ◌-◌, ◌∙◌, ◌∷◌, ◌≡◌}
 use Rattle.std.proofs.lemmas.List.{length-take-le, get_or-take, get_or-drop, take_all}
-use Rattle.deku_stream.specs.Bits.{bits_in, overlaid}
+use Rattle.deku_stream.specs.Bits.{bits_in}
+use Rattle.deku_device.specs.Overlays.{overlaid}
 use Rattle.deku_stream.proofs.BitPlaces.{length-bits_in}
 use Rattle.deku_stream.proofs.Overlays.{lays_more, get_or-overlaid}
 use Rattle.deku_stream.proofs.bounded.insert_bit.Goals as goal

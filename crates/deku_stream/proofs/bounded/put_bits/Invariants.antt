@@ -1,5 +1,6 @@
 use Rattle.std.proofs.Common.{◌≡◌, length, take}
-use Rattle.deku_stream.specs.Bits.{bits_in, overlaid}
+use Rattle.deku_stream.specs.Bits.{bits_in}
+use Rattle.deku_device.specs.Overlays.{overlaid}
 use Rattle.deku_stream.proofs.bounded.put_bits.Given as goal
 
 abbrev pub invariant-loop-i : goal.invariant-loop-i

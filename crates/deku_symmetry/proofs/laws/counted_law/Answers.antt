@@ -1,6 +1,6 @@
 use Rattle.std.proofs.Common.{◌≡◌}
 use Rattle.deku.specs.Composing.{WritesEach}
-use Rattle.deku.specs.Limits.{ReadsCount, Held}
+use Rattle.deku.specs.Limits.{ReadsCount, MappedBy}
 use Rattle.deku_pieces.specs.Pieces.{OfEach, OfTimes, SameEach}
 use Rattle.deku_pieces.proofs.Counted.{counted_symmetric, holder_symmetric}
 use Rattle.deku_pieces.proofs.Packing.{laid_once}
@@ -25,6 +25,6 @@ returns-clause-back g c = λ x n bytes r w.
 pub returns-clause-vector : goal.returns-clause-vector
 returns-clause-vector g c = λ x n bytes r w.
     unpacked_back (λ v. OfTimes n (λ y. g.T.Symmetric.pieces y x) v.items) (λ v w. SameEach g.T.Symmetric.same v.items w.items) (λ v. WritesEach (λ y. g.T.DekuWriter.meaning y x) v.items)
-    (Held (λ xs v. v.items ≡ xs) (ReadsCount n (g.T.DekuReader.meaning x)))
+    (MappedBy (λ xs v. v.items ≡ xs) (ReadsCount n (g.T.DekuReader.meaning x)))
     (holder_symmetric (λ v. v.items) (OfTimes n (λ y. g.T.Symmetric.pieces y x)) (SameEach g.T.Symmetric.same) (WritesEach (λ y. g.T.DekuWriter.meaning y x)) (ReadsCount n (g.T.DekuReader.meaning x))
     (returns-clause-items g c x n)) bytes r w

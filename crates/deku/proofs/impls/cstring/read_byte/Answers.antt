@@ -1,8 +1,6 @@
 use Rattle.std.proofs.Common.{rules}
-use Rattle.deku_bits.specs.Outcomes.{Quiet}
-use Rattle.deku_bits.proofs.Handing.{no_fewer_same}
-use Rattle.deku_reading.specs.Lists.{NoMemory}
 use Rattle.deku_meanings.proofs.Joining.{first_refused, then_on}
+use Rattle.deku_reading.proofs.Holding.{no_memory}
 use Rattle.deku_reading.proofs.Runs.{stored}
 use Rattle.deku.proofs.impls.cstring.read_byte.Goals as goal
 
@@ -10,7 +8,7 @@ pub returns-in-Ok-push-clause-reads : goal.returns-in-Ok-push-clause-reads
 returns-in-Ok-push-clause-reads g c = stored c.in-Ok.ensures.reads
 
 pub returns-in-Err-push-clause-reads : goal.returns-in-Err-push-clause-reads
-returns-in-Err-push-clause-reads g c = then_on c.in-Ok.ensures.reads (Quiet NoMemory (no_fewer_same _))
+returns-in-Err-push-clause-reads g c = then_on c.in-Ok.ensures.reads no_memory
 
 pub returns-in-Err-clause-reads : goal.returns-in-Err-clause-reads
 returns-in-Err-clause-reads g c = first_refused c.in-Err.ensures.reads

@@ -13,6 +13,9 @@ returns-clause-fetched g c = search rules
 pub returns-clause-early : goal.returns-clause-early
 returns-clause-early g c = search rules
 
+pub returns-clause-still : goal.returns-clause-still
+returns-clause-still g c = search rules
+
 pub returns-clause-stays : goal.returns-clause-stays
 returns-clause-stays g c = search rules
 

@@ -1,4 +1,4 @@
-use Rattle.deku_reader.proofs.Moving.{admitted}
+use Rattle.deku_reader.proofs.Moving.{admitted, needs_none}
 use Rattle.deku_reader.proofs.WordsRead.{high_ok, high_loses}
 use Rattle.deku_reader.proofs.reader.progress.Progress.high_at_hand.Goals as goal
 
@@ -19,3 +19,10 @@ returns-clause-fetched g c =
     rw (← c.self.view_is, may.0)
     (high_loses p.window (told c.args.source.now).coming c.args.amt c.in_ok-number.number c.high_at_hand.new.window (told c.high_at_hand.new.source).coming
     c.self.invariant c.in_ok-number.ensures.moved c.in_ok-number.ensures.short c.in_ok-number.ensures.none)
+
+pub returns-clause-still : goal.returns-clause-still
+returns-clause-still g c =
+    let p = c.self.inside in
+    let n = c.args.amt in
+    let may = admitted p.window p.tally.fault p.tally.count n (rw (← c.self.view_is) at c.in-Ok.ensures) in
+    rw (← c.self.view_is, may.0) (needs_none p.window p.tally.count n _ _ may.1 c.high_at_hand.ensures.still)
