@@ -36,6 +36,6 @@ answer_gives v s r u Answered = (refl, refl)
 -- a number is read where its layout is not refused and the stream has its bits
 pub number_gives : (t : NumberType) (l : Layout) (S : Stream) (c : ℕ) → IsAllowed t l → c + width t l < 2 ^ 64 → Has (width t l) S
     → Gives (ReadsNumber t l) (Going (Some S) c) (value t l (taken l.order (width t l) S)) (Going (Some (left l.order (width t l) S)) (c + width t l))
-number_gives t l S c ok room enough r u (Refused b (x, inl p, y)) = absurd (omega (arith, ok.within))
-number_gives t l S c ok room enough r u (Refused b (x, inr p, y)) = absurd (p.1 ok.even)
+number_gives t l S c ok room enough r u (Refused b (x, inl p, y, z)) = absurd (omega (arith, ok.within))
+number_gives t l S c ok room enough r u (Refused b (x, inr p, y, z)) = absurd (p.1 ok.even)
 number_gives t l S c ok room enough r u (Passed p) = mapped_gives (value t l) (TakesBits l.order (width t l)) _ _ _ (takes_gives l.order (width t l) S c room enough) r u p.1

@@ -71,8 +71,8 @@ module _ (t : NumberType) (l : Layout) (ok : IsAllowed t l) where
   -- ---- writing
   number_wrote : (v : ℤ) (p : Piece) → p.order ≡ l.order → IsFieldOf t l v p.bits → (out : Output) (c : ℕ) (r : Result (Unit {0}) DekuError) (u : Standing Output)
       → WritesNumber t l v false (Going out c) r u → Wrote (append p.order (shown p.order p.bits) out.pending) out c r u
-  number_wrote v p o f out c r u (Refused b (x, inl q, y)) = absurd (omega (arith, q.0, ok.within))
-  number_wrote v p o f out c r u (Refused b (x, inr q, y)) = absurd (q.1 ok.even)
+  number_wrote v p o f out c r u (Refused b (x, inl q, y, z)) = absurd (omega (arith, q.0, ok.within))
+  number_wrote v p o f out c r u (Refused b (x, inr q, y, z)) = absurd (q.1 ok.even)
   number_wrote v p o f out c r u (Passed (Refused b q)) = absurd (q.0 p.bits f)
   number_wrote v p o f out c r u (Passed (Passed q)) =
       let same : q.1.0 ≡ p.bits = one_list t l v q.1.0 p.bits ok q.1.1 f in

@@ -20,7 +20,7 @@ pub struct Node {
 impl DekuReader<()> for Node {
     ghost use Rattle.std.specs.Prelude.{◌≡◌};
     ghost use Rattle.deku.specs.declared.ctx.Order.TheVariants.{Lsb0};
-    ghost use Rattle.deku.specs.Composing.{Answer, Then, JoinedBy};
+    ghost use Rattle.deku.specs.Composing.{Answer, Then};
 
     ghost accepts = { λ c. c ≡ c };
 
@@ -200,6 +200,7 @@ pub struct LsbField {
 impl DekuReader<()> for LsbField {
     ghost use Rattle.std.specs.Prelude.{◌≡◌};
     ghost use Rattle.deku.specs.declared.ctx.Order.TheVariants.{Lsb0};
+    ghost use Rattle.deku.specs.Composing.{JoinedBy};
 
     ghost accepts = { λ c. c ≡ c };
 
@@ -248,7 +249,7 @@ pub struct Bytes {
 
 impl DekuReader<()> for Bytes {
     ghost use Rattle.std.specs.Prelude.{◌≡◌};
-    ghost use Rattle.deku.specs.Shapes.{JoinedBy};
+    ghost use Rattle.deku.specs.Composing.{JoinedBy};
 
     ghost accepts = { λ c. c ≡ c };
 

@@ -152,6 +152,7 @@ pub struct Nine {
 
 impl DekuReader<()> for Nine {
     ghost use Rattle.std.specs.Prelude.{◌≡◌};
+    ghost use Rattle.deku.specs.Composing.{JoinedBy};
 
     ghost accepts = { λ c. c ≡ c };
 
@@ -171,7 +172,7 @@ impl DekuReader<()> for Nine {
 
 impl DekuWriter<()> for Nine {
     ghost use Rattle.std.specs.Prelude.{◌≡◌};
-    ghost use Rattle.deku.specs.Composing.{Both, JoinedBy};
+    ghost use Rattle.deku.specs.Composing.{Both};
 
     ghost accepts = { λ c. c ≡ c };
 
@@ -197,7 +198,7 @@ pub struct Head {
 impl DekuReader<()> for Head {
     ghost use Rattle.std.specs.Prelude.{◌≡◌};
     ghost use Rattle.deku.specs.declared.ctx.Endian.TheVariants.{Big};
-    ghost use Rattle.deku.specs.Shapes.{JoinedBy};
+    ghost use Rattle.deku.specs.Composing.{JoinedBy};
 
     ghost accepts = { λ c. c ≡ c };
 

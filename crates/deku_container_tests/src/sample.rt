@@ -17,6 +17,7 @@ pub struct Sample {
 
 impl DekuReader<()> for Sample {
     ghost use Rattle.std.specs.Prelude.{◌≡◌};
+    ghost use Rattle.deku.specs.Composing.{JoinedBy};
     ghost use Rattle.deku.specs.declared.ctx.Endian.TheVariants.{Big};
 
     ghost accepts = { λ c. c ≡ c };
@@ -43,7 +44,7 @@ impl DekuReader<()> for Sample {
 
 impl DekuWriter<()> for Sample {
     ghost use Rattle.std.specs.Prelude.{◌≡◌};
-    ghost use Rattle.deku.specs.Composing.{Both, JoinedBy};
+    ghost use Rattle.deku.specs.Composing.{Both};
     ghost use Rattle.deku.specs.declared.ctx.Endian.TheVariants.{Big};
 
     ghost accepts = { λ c. c ≡ c };

@@ -87,8 +87,8 @@ item_wrote i p f a out c r u (Passed (k, w)) = number w
     listed = piece_is i p a
 
     number : WritesNumber t l v false (Going out c) r u → Wrote (append p.order (shown p.order p.bits) out.pending) out c r u
-    number (Refused b (x, inl q, y)) = absurd (omega (arith, q.0, f.allowed.within))
-    number (Refused b (x, inr q, y)) = absurd (q.1 f.allowed.even)
+    number (Refused b (x, inl q, y, z)) = absurd (omega (arith, q.0, f.allowed.within))
+    number (Refused b (x, inr q, y, z)) = absurd (q.1 f.allowed.even)
     number (Passed (Refused b q)) = absurd (q.0 p.bits listed)
     number (Passed (Passed q)) =
         let same : q.1.0 ≡ p.bits = one_list t l v q.1.0 p.bits (f.allowed) q.1.1 listed in

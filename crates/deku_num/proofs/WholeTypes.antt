@@ -46,8 +46,8 @@ size_law t l v i = (field.0, field.1.wide ∙ wide, written)
 
     written : (b : Bool) (s : Standing Output) (r : Result (Unit {0}) DekuError) (u : Standing Output) → WritesNumber t l v b s r u
         → WritesBits l.order (shown l.order field.0) b s r u
-    written b s r u (Refused q (x, inl k, y)) = absurd (omega (arith, k.0, wide))
-    written b s r u (Refused q (x, inr k, y)) = absurd (k.1 allowed.even)
+    written b s r u (Refused q (x, inl k, y, z)) = absurd (omega (arith, k.0, wide))
+    written b s r u (Refused q (x, inr k, y, z)) = absurd (k.1 allowed.even)
     written b s r u (Passed (Refused q k)) = absurd (k.0 field.0 field.1)
     written b s r u (Passed (Passed k)) =
         let same : k.1.0 ≡ field.0 = one_list t l v k.1.0 field.0 allowed k.1.1 field.1 in

@@ -28,7 +28,7 @@ impl<Ctx: Copy, A: DekuReader<Ctx>> DekuReader<Ctx> for (A,) {
 /// The items in order, all under one context. The refusal is that of the first item that is refused, and what the items before it moved
 /// stays moved. So with each tuple below.
 impl<Ctx: Copy, A: DekuReader<Ctx>, B: DekuReader<Ctx>> DekuReader<Ctx> for (A, B) {
-    ghost use Rattle.deku_meanings.specs.Composing.{PairOf, JoinedBy};
+    ghost use Rattle.deku_meanings.specs.Composing.{PairOf};
 
     ghost accepts = { λ c. A.accepts c × B.accepts c };
 
@@ -49,6 +49,7 @@ impl<Ctx: Copy, A: DekuReader<Ctx>, B: DekuReader<Ctx>> DekuReader<Ctx> for (A, 
 
 impl<Ctx: Copy, A: DekuReader<Ctx>, B: DekuReader<Ctx>, C: DekuReader<Ctx>> DekuReader<Ctx>
     for (A, B, C) {
+    ghost use Rattle.deku_meanings.specs.Composing.{JoinedBy};
 
     ghost accepts = { λ c. A.accepts c × ⟦<(B, C) as DekuReader<Ctx>>⟧.accepts c };
 
@@ -74,7 +75,7 @@ impl<
     C: DekuReader<Ctx>,
     D: DekuReader<Ctx>,
 > DekuReader<Ctx> for (A, B, C, D) {
-    ghost use Rattle.deku_meanings.specs.Shapes.{JoinedBy};
+    ghost use Rattle.deku_meanings.specs.Composing.{JoinedBy};
 
     ghost accepts = { λ c. A.accepts c × ⟦<(B, C, D) as DekuReader<Ctx>>⟧.accepts c };
 
@@ -101,7 +102,7 @@ impl<
     D: DekuReader<Ctx>,
     E: DekuReader<Ctx>,
 > DekuReader<Ctx> for (A, B, C, D, E) {
-    ghost use Rattle.deku_meanings.specs.Shapes.{JoinedBy};
+    ghost use Rattle.deku_meanings.specs.Composing.{JoinedBy};
 
     ghost accepts = { λ c. A.accepts c × ⟦<(B, C, D, E) as DekuReader<Ctx>>⟧.accepts c };
 
@@ -129,7 +130,7 @@ impl<
     E: DekuReader<Ctx>,
     F: DekuReader<Ctx>,
 > DekuReader<Ctx> for (A, B, C, D, E, F) {
-    ghost use Rattle.deku_meanings.specs.Shapes.{JoinedBy};
+    ghost use Rattle.deku_meanings.specs.Composing.{JoinedBy};
 
     ghost accepts = { λ c. A.accepts c × ⟦<(B, C, D, E, F) as DekuReader<Ctx>>⟧.accepts c };
 
@@ -158,7 +159,7 @@ impl<
     F: DekuReader<Ctx>,
     G: DekuReader<Ctx>,
 > DekuReader<Ctx> for (A, B, C, D, E, F, G) {
-    ghost use Rattle.deku_meanings.specs.Shapes.{JoinedBy};
+    ghost use Rattle.deku_meanings.specs.Composing.{JoinedBy};
 
     ghost accepts = { λ c. A.accepts c × ⟦<(B, C, D, E, F, G) as DekuReader<Ctx>>⟧.accepts c };
 
@@ -188,7 +189,7 @@ impl<
     G: DekuReader<Ctx>,
     H: DekuReader<Ctx>,
 > DekuReader<Ctx> for (A, B, C, D, E, F, G, H) {
-    ghost use Rattle.deku_meanings.specs.Shapes.{JoinedBy};
+    ghost use Rattle.deku_meanings.specs.Composing.{JoinedBy};
 
     ghost accepts = { λ c. A.accepts c × ⟦<(B, C, D, E, F, G, H) as DekuReader<Ctx>>⟧.accepts c };
 
@@ -219,7 +220,7 @@ impl<
     H: DekuReader<Ctx>,
     I: DekuReader<Ctx>,
 > DekuReader<Ctx> for (A, B, C, D, E, F, G, H, I) {
-    ghost use Rattle.deku_meanings.specs.Shapes.{JoinedBy};
+    ghost use Rattle.deku_meanings.specs.Composing.{JoinedBy};
 
     ghost accepts = { λ c. A.accepts c × ⟦<(B, C, D, E, F, G, H, I) as DekuReader<Ctx>>⟧.accepts c };
 
@@ -253,7 +254,7 @@ impl<
     I: DekuReader<Ctx>,
     J: DekuReader<Ctx>,
 > DekuReader<Ctx> for (A, B, C, D, E, F, G, H, I, J) {
-    ghost use Rattle.deku_meanings.specs.Shapes.{JoinedBy};
+    ghost use Rattle.deku_meanings.specs.Composing.{JoinedBy};
 
     ghost accepts = { λ c. A.accepts c × ⟦<(B, C, D, E, F, G, H, I, J) as DekuReader<Ctx>>⟧.accepts c };
 
@@ -288,7 +289,7 @@ impl<
     J: DekuReader<Ctx>,
     K: DekuReader<Ctx>,
 > DekuReader<Ctx> for (A, B, C, D, E, F, G, H, I, J, K) {
-    ghost use Rattle.deku_meanings.specs.Shapes.{JoinedBy};
+    ghost use Rattle.deku_meanings.specs.Composing.{JoinedBy};
 
     ghost accepts = { λ c. A.accepts c × ⟦<(B, C, D, E, F, G, H, I, J, K) as DekuReader<Ctx>>⟧.accepts c };
 
