@@ -306,6 +306,7 @@ const PAST: [Case; 2] = [
         &[
             Step::Fill(1, Msb0, Ok(&[0x01])),
             Step::Skip(usize::MAX, Msb0, Err(Refusal::Past)),
+            Step::Bits(usize::MAX, Msb0, Err(Refusal::Past)),
             Step::Count(8),
             Step::Fill(1, Msb0, Ok(&[0x02])),
         ],
