@@ -18,10 +18,6 @@ pub enum Endian {
 
 impl Endian {
     /// Little, which is meant where no endian is given.
-    ///
-    /// ```text
-    /// Endian::new().is_le()                                      // true
-    /// ```
     pub fn new() -> Endian
         ensures { result ≡ Endian.Little }
     {
