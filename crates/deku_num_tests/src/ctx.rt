@@ -17,7 +17,7 @@ const NAMES: [(&str, Result<Endian, ParseEndianError>); 6] = [
 fn endians_by_name(rt: HostRuntime) {
     for (text, want) in &NAMES {
         let named = Endian::from_str(text);
-        assert!(rt; named == *want, "{text}: {named:?}");
+        assert!(rt; named == *want, "{text:?}: {named:?}");
     }
 }
 
