@@ -272,7 +272,7 @@ const PEEKS: [Case; 5] = [
 ];
 
 // A seek moves the source and drops what is unread.
-const SEEKS: [Case; 2] = [
+const SEEKS: [Case; 3] = [
     (
         &[0x01, 0x02, 0x03, 0x04],
         &[
@@ -297,6 +297,24 @@ const SEEKS: [Case; 2] = [
         ],
         1,
     ),
+    // The other calls that seek are the seek that each stands for.
+    (
+        &[0x01, 0x02, 0x03, 0x04],
+        &[
+            Step::Fill(1, Msb0, Ok(&[0x01])),
+            Step::By(1, Ok(())),
+            Step::Count(16),
+            Step::Fill(1, Msb0, Ok(&[0x03])),
+            Step::Into(4, Msb0, Ok("0000")),
+            Step::Place(Ok(4)),
+            Step::Count(28),
+            Step::Rest(""),
+            Step::Rewind(Ok(())),
+            Step::Count(28),
+            Step::Fill(1, Msb0, Ok(&[0x01])),
+        ],
+        1,
+    ),
 ];
 
 // A count past `usize` is refused, and nothing changes.
@@ -306,6 +324,9 @@ const PAST: [Case; 2] = [
         &[
             Step::Fill(1, Msb0, Ok(&[0x01])),
             Step::Skip(usize::MAX, Msb0, Err(Refusal::Past)),
+            Step::Bits(usize::MAX, Msb0, Err(Refusal::Past)),
+            Step::Admits(usize::MAX, Err(Refusal::Past)),
+            Step::Admits(2, Ok(())),
             Step::Count(8),
             Step::Fill(1, Msb0, Ok(&[0x02])),
         ],

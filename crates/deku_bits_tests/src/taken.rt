@@ -50,6 +50,14 @@ pub enum Step {
     Skip(usize, Order, Result<(), Refusal>),
     End(Result<bool, Refusal>),
     Seek(SeekFrom, Result<u64, ErrorKind>),
+    /// `seek_relative`
+    By(i64, Result<(), ErrorKind>),
+    /// `rewind`
+    Rewind(Result<(), ErrorKind>),
+    /// `stream_position`
+    Place(Result<u64, ErrorKind>),
+    /// `admits_bytes`
+    Admits(usize, Result<(), Refusal>),
     Rest(&'static str),
     Left(Left),
     /// `bits_read`
@@ -332,6 +340,10 @@ fn take_place<R: Source>(rt: &impl Abort, row: Row, reader: &mut Reader<R>, step
         }
         Step::End(want) => same(rt, row, &reader.end(), &wanted(want)),
         Step::Seek(to, want) => same(rt, row, &kind_of(reader.seek(*to)), want),
+        Step::By(offset, want) => same(rt, row, &kind_of(reader.seek_relative(*offset)), want),
+        Step::Rewind(want) => same(rt, row, &kind_of(reader.rewind()), want),
+        Step::Place(want) => same(rt, row, &kind_of(reader.stream_position()), want),
+        Step::Admits(amt, want) => same(rt, row, &reader.admits_bytes(*amt), &wanted(want)),
         Step::Left(want) => same(rt, row, &left_of(reader), want),
         Step::Count(want) => same(rt, row, &reader.bits_read(), want),
         _ => {}

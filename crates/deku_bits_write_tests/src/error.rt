@@ -42,6 +42,18 @@ fn prints_what_is_wanted(rt: HostRuntime) -> Result<(), Fail> {
     Ok(())
 }
 
+// Bits that were asked for, and the bytes that they need.
+const NEEDS: [(usize, usize); 4] = [(0, 0), (8, 1), (9, 2), (usize::MAX, 2305843009213693952)];
+
+#[test]
+fn counts_the_bytes_that_bits_need(rt: HostRuntime) {
+    for (case, (bits, bytes)) in NEEDS.iter().enumerate() {
+        let need = NeedSize::new(*bits);
+        let seen = (need.bit_size(), need.byte_size());
+        same(&rt, (case, 0), &seen, &(*bits, *bytes));
+    }
+}
+
 const PRINTED: [(DekuError, &str, ErrorKind); 6] = [
     (
         DekuError::Parse("t"),

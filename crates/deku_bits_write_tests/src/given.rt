@@ -28,6 +28,12 @@ pub enum Put {
     Word(u128, usize, Order, Answer),
     Finalize(Answer),
     Seek(SeekFrom, Result<u64, ErrorKind>),
+    /// `seek_relative`
+    By(i64, Result<(), ErrorKind>),
+    /// `rewind`
+    Rewind(Result<(), ErrorKind>),
+    /// `stream_position`
+    Place(Result<u64, ErrorKind>),
     Rest(&'static str),
     /// `leftover`: the bits, the same as the high bits of a byte, and their order
     Left(&'static str, u8, Order),
@@ -184,6 +190,9 @@ fn give_step<W: Sink>(
         Put::Seek(to, want) => {
             same(rt, row, &kind_of(writer.seek(*to)), want);
         }
+        Put::By(offset, want) => same(rt, row, &kind_of(writer.seek_relative(*offset)), want),
+        Put::Rewind(want) => same(rt, row, &kind_of(writer.rewind()), want),
+        Put::Place(want) => same(rt, row, &kind_of(writer.stream_position()), want),
         Put::Rest(want) => return Ok(expect_rest(rt, alloc, row, writer, want)),
         Put::Left(digits, byte, order) => expect_left(rt, row, writer, (digits, *byte, *order)),
         Put::Count(want) => same(rt, row, &writer.bits_written(), want),

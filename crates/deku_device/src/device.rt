@@ -144,8 +144,8 @@ pub trait Sink: Write + Seek {
         ensures ok { OnOk result (Gave (told self.old) (told self.new) bytes.now) }
         ensures err { IfErr result (λ e. Declined (told self.old) (told self.new) (length bytes.now) (error_kind e)) };
 
-    /// Gives the first `n` of eight bytes, at most all of them, where it has room for eight at hand, and answers whether it did. Its place moves
-    /// by `n`, and what lies behind them stays. Where it answers `false` nothing is given and nothing changes, and `give` says more.
+    /// Gives the first `n` of eight bytes, where it has room for eight at hand, and answers whether it did. The caller's condition: `n` is at most 8.
+    /// Its place moves by `n`, and what lies behind them stays. Where it answers `false` nothing is given and nothing changes, and `give` says more.
     ///
     /// ```text
     /// let mut sink = Cursor::new(&mut room[..]);         // nine bytes of room

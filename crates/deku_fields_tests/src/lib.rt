@@ -8,6 +8,8 @@ mod hostile;
 #[cfg(test)]
 mod items;
 #[cfg(test)]
+mod kinds;
+#[cfg(test)]
 mod list;
 #[cfg(test)]
 mod picture;

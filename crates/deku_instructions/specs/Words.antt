@@ -30,13 +30,15 @@ Computations = Choice Immediate (Choice Upper (Choice Register (Choice Upper Tra
 abbrev pub InWord : Type 0
 InWord = Tagged Immediate (Choice Immediate (Choice Store Computation 0x23) 0x0F) 0x03 7 1
 
--- ---- the parts of a word
+-- the parts of a word whose code is that of a computation, or of a transfer behind them
 abbrev pub computation_parts : Computations → InWord
 computation_parts c = tagged.Other (Other (Other (record { 0 = c })))
 
+-- the parts of a word whose code is that of a transfer
 abbrev pub transfer_parts : ControlTransfers → InWord
 transfer_parts c = computation_parts (Other (Other (Other (Other (record { 0 = c })))))
 
+-- the parts of a word
 abbrev pub parts_of_word : Instruction → InWord
 parts_of_word (word.Load x) = tagged.This x
 parts_of_word (word.Fence x) = tagged.Other (This x)
@@ -50,13 +52,14 @@ parts_of_word (word.JumpRegister x) = transfer_parts (Other (This x))
 parts_of_word (word.Jump x) = transfer_parts (Other (Other (This x)))
 parts_of_word (word.System x) = transfer_parts (Other (Other (Other (record { 0 = x }))))
 
--- ---- the word of parts
+-- the word of a transfer
 abbrev pub word_of_transfer : ControlTransfers → Instruction
 word_of_transfer (This x) = word.Branch x
 word_of_transfer (Other (This x)) = word.JumpRegister x
 word_of_transfer (Other (Other (This x))) = word.Jump x
 word_of_transfer (Other (Other (Other x))) = word.System x.0
 
+-- the word of a computation, or of a transfer behind them
 abbrev pub word_of_computation : Computations → Instruction
 word_of_computation (This x) = word.OperateImmediate x
 word_of_computation (Other (This x)) = word.AddUpper x
@@ -64,19 +67,21 @@ word_of_computation (Other (Other (This x))) = word.Operate x
 word_of_computation (Other (Other (Other (This x)))) = word.LoadUpper x
 word_of_computation (Other (Other (Other (Other x)))) = word_of_transfer x.0
 
+-- the word of its parts
 abbrev pub word_of_parts : InWord → Instruction
 word_of_parts (tagged.This x) = word.Load x
 word_of_parts (tagged.Other (This x)) = word.Fence x
 word_of_parts (tagged.Other (Other (This x))) = word.Store x
 word_of_parts (tagged.Other (Other (Other x))) = word_of_computation x.0
 
--- ---- parts are those of their word
+-- the parts of a transfer's word are those of the transfer
 transfers_back : (c : ControlTransfers) → parts_of_word (word_of_transfer c) ≡ transfer_parts c
 transfers_back (This x) = refl
 transfers_back (Other (This x)) = refl
 transfers_back (Other (Other (This x))) = refl
 transfers_back (Other (Other (Other x))) = refl
 
+-- the parts of a computation's word are those of the computation
 computations_back : (c : Computations) → parts_of_word (word_of_computation c) ≡ computation_parts c
 computations_back (This x) = refl
 computations_back (Other (This x)) = refl
@@ -84,13 +89,14 @@ computations_back (Other (Other (This x))) = refl
 computations_back (Other (Other (Other (This x)))) = refl
 computations_back (Other (Other (Other (Other x)))) = transfers_back x.0
 
+-- parts are those of their word
 pub parts_back : (p : InWord) → parts_of_word (word_of_parts p) ≡ p
 parts_back (tagged.This x) = refl
 parts_back (tagged.Other (This x)) = refl
 parts_back (tagged.Other (Other (This x))) = refl
 parts_back (tagged.Other (Other (Other x))) = computations_back x.0
 
--- ---- what has pieces under an id has this id
+-- a transfer that has pieces under an id has this id
 pub transfers_own : (id : ℕ) (B : Branch → List Piece → Type 0) (I : Immediate → List Piece → Type 0) (J : Jump → List Piece → Type 0) (c : ControlTransfers) (ps : List Piece)
     → OfChoice 0x63 id B (λ w. OfChoice 0x67 id I (λ w. OfChoice 0x6F id J (λ w. UnderId 0x73 id (I w.0)) w) w) c ps
     → id ≡ id_chosen 0x63 (id_chosen 0x67 (id_chosen 0x6F (λ w. 0x73))) c
@@ -99,6 +105,7 @@ transfers_own id B I J (Other (This x)) ps p = p.1.0
 transfers_own id B I J (Other (Other (This x))) ps p = p.1.1.0
 transfers_own id B I J (Other (Other (Other x))) ps p = p.1.1.1.0
 
+-- a computation that has pieces under an id has this id
 pub computations_own : (id : ℕ) (I : Immediate → List Piece → Type 0) (U : Upper → List Piece → Type 0) (R : Register → List Piece → Type 0) (G : Transfer → List Piece → Type 0) (id_of : Transfer → ℕ)
     → ((g : Transfer) (ps : List Piece) → G g ps → id ≡ id_of g) → (c : Computations) (ps : List Piece)
     → OfChoice 0x13 id I (λ w. OfChoice 0x17 id U (λ w. OfChoice 0x33 id R (λ w. OfChoice 0x37 id U G w) w) w) c ps

@@ -1,4 +1,6 @@
 //! What rows of worked examples expect of numbers.
+//!
+//! Of deku's own tests of numbers, `test_f32` and `test_f64` have no counterpart: no number with a point is read or written.
 
 ghost use Rattle.std.specs.Prelude.{◌≤◌};
 

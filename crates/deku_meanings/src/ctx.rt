@@ -14,6 +14,10 @@ pub struct ReadExact(pub usize);
 /// What is asked about each item of a list, one after the other. It may change its own state.
 ///
 /// Each closure `FnMut(&T) -> bool` that may be called on every item is one.
+///
+/// ```text
+/// let zero = Limit::new_until(|byte: &u8| *byte == 0);           // its predicate is true of a zero
+/// ```
 pub trait Predicate<T>: Drop {
     // It may be asked about every item.
     ghost asks_all: { Self → Type 0 };

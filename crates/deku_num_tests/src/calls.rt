@@ -2,12 +2,13 @@
 
 use crate::values::{Value, read_value, write_value};
 use deku_bits::error::DekuError;
+use deku_bits::probe::FailAt;
 use deku_bits::reader::Reader;
 use deku_bits::writer::Writer;
 use deku_num::ctx::{BitSize, ByteSize, Endian, Layout, NumberCtx, Order};
 use deku_num::kind::NumberType;
 use std::alloc::Global;
-use std::io::Cursor;
+use std::io::{Cursor, ErrorKind};
 use std::process::Abort;
 use std::test::Fail;
 
@@ -105,6 +106,16 @@ fn refuses_to_read(rt: HostRuntime) {
             "{number_type:?} {layout:?}: {read:?}"
         );
     }
+}
+
+// A source that fails at the second byte of a number: that is answered, and no bit is counted.
+#[test]
+fn fails_inside_a_number(rt: HostRuntime) {
+    let bytes: &[u8] = &[0xBE, 0xEF];
+    let mut reader = Reader::new(rt.alloc(), FailAt::new(Cursor::new(bytes), 2));
+    let read = read_value(&rt, &mut reader, NumberType::U16, Endian::Big.parts());
+    let want = Err(DekuError::Io(ErrorKind::Other));
+    assert!(rt; read == want && reader.bits_read() == 0, "{read:?}");
 }
 
 #[test]

@@ -4,6 +4,8 @@
 #[cfg(test)]
 mod calls;
 #[cfg(test)]
+mod ctx;
+#[cfg(test)]
 mod random;
 #[cfg(test)]
 mod slow;

@@ -67,6 +67,10 @@ fn order_of(low: bool) -> Order
 }
 
 /// What has an id: the kinds that an id chooses from.
+///
+/// ```text
+/// Only::<u8, 3>(7).id()                                       // 3
+/// ```
 pub trait Named {
     // Its id.
     ghost id_of: { Self → ℕ };

@@ -113,6 +113,7 @@ count_law = (
       let k = keeps_append o bits P l in
       (k.all, k.few),
   λ o s l. padding o s l,
+  λ P. refl,
 )
   where
     padding : (o : Order) (s : List Bool) → length s < 8 → 8 * length (padded (held o s)) < length s + 8

@@ -87,9 +87,10 @@ AppendLaw = (o : Order) (s t : List Bool) (P : Pending) → Meets o P
     append o (shown o (s ++ t)) P ≡ record { bytes = first.bytes ++ second.bytes; pending = second.pending }
 
 -- Behind a write in any order as many bits are given out and pending as were pending and written, and fewer than eight are pending.
--- The padding adds fewer than eight bits.
+-- The padding adds fewer than eight bits, and a second one adds nothing.
 abbrev pub CountLaw : Type 0
 CountLaw = ((o : Order) (bits : List Bool) (P : Pending) → length (pending_bits P) < 8
     → (8 * length (append o bits P).bytes + length (pending_bits (append o bits P).pending) ≡ length (pending_bits P) + length bits)
     × (length (pending_bits (append o bits P).pending) < 8))
     × ((o : Order) (s : List Bool) → length s < 8 → 8 * length (padded (held o s)) < length s + 8)
+    × ((P : Pending) → padded (finalized P).pending ≡ [])

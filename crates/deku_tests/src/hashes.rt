@@ -1,4 +1,6 @@
 //! Maps and sets under limits.
+//!
+//! Of deku's own tests of maps, `test_hashmap_write` has no counterpart: it pins the order in which another hasher walks.
 
 use super::expecting::Refusal::Ended;
 use super::expecting::{

@@ -1,4 +1,6 @@
 //! Items that may be absent, on the heap, borrowed or behind a reference.
+//!
+//! deku's own two tests of `Arc` have no counterpart: it is not read or written.
 
 use super::expecting::{
     NO_MEMORY, expect_next, expect_whole, expect_written, next, reader_of, same,

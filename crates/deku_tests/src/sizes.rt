@@ -2,7 +2,8 @@
 
 use super::expecting::same;
 use deku::ctx::BitSize;
-use deku::size::{DekuSize, DekuSizeConst};
+use deku::prelude::DekuSize;
+use deku::size::DekuSizeConst;
 use std::process::Abort;
 
 // A type of as many bits as a usize counts.
