@@ -55,7 +55,7 @@ pub fn fetch_law()
     ensures { FetchLaw }
 {}
 
-/// Behind a write as many bits are given out and pending as were pending and written, and the padding adds fewer than eight.
+/// Behind a write as many bits are given out and pending as were pending and written; the padding adds fewer than eight, and a second one none.
 pub fn count_law()
     ensures { CountLaw }
 {}
