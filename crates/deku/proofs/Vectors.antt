@@ -190,6 +190,7 @@ module _ (t : NumberType) (l : Layout) (ok : IsAllowed t l) where
       let gives = number_gives t l S c ok (omega (arith, room)) has (Err x) u m in
       let no : Err x ≡ Ok _ = gives.0 in absurd (cc)
   refused_for_memory (v ∷ vs) (p ∷ ps) T S c e u a takes some room (Second w z m (Refused b none)) = let d = none.0 in cc
+  refused_for_memory (v ∷ vs) (p ∷ ps) T S c e u a takes some room (Second w z m (Passed put)) = elim put [ ]
 
   read_back : (vs : List ℤ) (ps : List Piece) (S T : Stream) (c : ℕ) (r : Result (List ℤ) DekuError) (u : Standing (Option Stream)) → ArePiecesOf vs ps → Takes ps S T
       → c + length vs * width t l < 2 ^ 64 → ReadsCount (length vs) (ReadsNumber t l) false (Going (Some S) c) r u → (r ≡ Ok vs) ⊎ (r ≡ Err (Io OutOfMemory))
