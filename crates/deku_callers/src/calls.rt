@@ -4,7 +4,7 @@ ghost use Rattle.std.specs.Prelude.{◌≡◌, ◌<◌, ◌∷◌, [], ◌++◌,
 ghost use Rattle.std.specs.declared.io.ErrorKind.TheVariants.{OutOfMemory};
 ghost use Rattle.deku.specs.declared.error.DekuError.TheVariants.{Io};
 ghost use Rattle.deku_fields.specs.declared.list.Number.TheVariants.{Unsigned, Signed};
-ghost use Rattle.deku_bits.specs.ReaderCalls.{Reads, Ending};
+ghost use Rattle.deku_bits.specs.ReaderCalls.{Reads, Ending, items_of};
 ghost use Rattle.deku_bits.specs.WriterCalls.{Writes};
 ghost use Rattle.deku.specs.Composing.{Then};
 ghost use Rattle.deku_fields.specs.ListCalls.{ReadsList, WritesItems};

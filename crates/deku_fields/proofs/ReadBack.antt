@@ -10,7 +10,7 @@ use Rattle.deku_bits.specs.Pieces.{laid_out, total}
 use Rattle.deku_bits.specs.Devices.{Health}
 use Rattle.deku_bits.specs.Outcomes.{Outcome}
 use Rattle.deku_bits.specs.Standings.{Standing, Going, Stopped, reader_state, count_of}
-use Rattle.deku_bits.specs.ReaderCalls.{NoneEarly, window_of}
+use Rattle.deku_bits.specs.ReaderCalls.{NoneEarly, filling, window_of}
 use Rattle.deku_bits.proofs.Handing.{weaker}
 use Rattle.deku_fields.specs.declared.list.Number.{Number}
 use Rattle.deku_fields.specs.declared.list.Field.{Field}

@@ -5,7 +5,7 @@ ghost use Rattle.std.specs.declared.io.ErrorKind.{ErrorKind as IoKind};
 ghost use Rattle.deku_bits.specs.declared.error.DekuError.TheVariants.{Io};
 ghost use Rattle.deku_bits.specs.Pieces.{total};
 ghost use Rattle.deku_bits.specs.Standings.{Untouched};
-ghost use Rattle.deku_bits.specs.ReaderCalls.{Reads, FetchesFor, NoneEarly};
+ghost use Rattle.deku_bits.specs.ReaderCalls.{Reads, FetchesFor, NoneEarly, filling, items_of};
 ghost use Rattle.deku_bits.specs.Causes.{NoKind, WantsMemory, Caused};
 ghost use Rattle.deku_fields.specs.declared.list.Number.TheVariants.{Unsigned};
 ghost use Rattle.deku_fields.specs.Items.{number_type, field_shape, field_width, IsAllowedField};
