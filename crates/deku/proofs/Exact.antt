@@ -12,7 +12,8 @@ use Rattle.deku_num.specs.NumberCalls.{Refused, Passed, ReadsNumber}
 use Rattle.deku_meanings.specs.Composing.{Answer, Answered, Then, Second, First}
 use Rattle.deku.specs.Giving.{Gives}
 
-ok_is : {V E : Type 0} (v x : V) → ◌≡◌ {A = Result V E} (Ok v) (Ok x) → v ≡ x
+-- what two equal answers hold is equal
+pub ok_is : {V E : Type 0} (v x : V) → ◌≡◌ {A = Result V E} (Ok v) (Ok x) → v ≡ x
 ok_is v x e = cc
 
 -- bits are taken where there are as many

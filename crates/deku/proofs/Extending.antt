@@ -15,14 +15,14 @@ joined_wide [] qs = omega arith
 joined_wide (p ∷ ps) qs = omega (arith, joined_wide ps qs)
 
 -- some pieces and then others
-joined_ok : (ps qs : List Piece) (b : Bool) (s t : Standing Output) (r : Result (Unit {0}) DekuError) (u : Standing Output)
+pub joined_ok : (ps qs : List Piece) (b : Bool) (s t : Standing Output) (r : Result (Unit {0}) DekuError) (u : Standing Output)
     → WritesPieces ps false s (Ok tt) t → WritesPieces qs b t r u → WritesPieces (ps ++ qs) b s r u
 joined_ok [] qs b s t r u Answered k = k
 joined_ok (p ∷ ps) qs b s t r u (Second v w m n) k = Second v w m (joined_ok ps qs b w t r u n k)
 joined_ok (p ∷ ps) qs b s t r u (First e m q) k = absurd (cc)
 
 -- some pieces are refused, and then so are all
-joined_err : (ps qs : List Piece) (b : Bool) (s : Standing Output) (e : DekuError) (u : Standing Output)
+pub joined_err : (ps qs : List Piece) (b : Bool) (s : Standing Output) (e : DekuError) (u : Standing Output)
     → WritesPieces ps b s (Err e) u → WritesPieces (ps ++ qs) b s (Err e) u
 joined_err [] qs b s e u k = elim k [ ]
 joined_err (p ∷ ps) qs b s e u (Second v w m n) = Second v w m (joined_err ps qs b w e u n)

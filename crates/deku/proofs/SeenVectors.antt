@@ -21,10 +21,8 @@ use Rattle.deku_reading.specs.Lists as lists
 use Rattle.deku_reading.specs.Lists.{AnswersEach, Stored, Ended, on_value}
 use Rattle.deku_reading.specs.Limits.{ReadsCount, MappedBy, ValueBy, RefusalBy}
 use Rattle.deku.specs.VectorLaws.{GivesBytes, ReadsAsWritten}
+use Rattle.deku.proofs.Exact.{ok_is}
 use Rattle.deku.proofs.Vectors.{vector_law}
-
-ok_is : {V E : Type 0} (v w : V) → ◌≡◌ {A = Result V E} (Ok v) (Ok w) → v ≡ w
-ok_is v w e = cc
 
 length-mapped : {V : Type 0} (h : V → ℤ) (vs : List V) → length (map h vs) ≡ length vs
 length-mapped h [] = refl

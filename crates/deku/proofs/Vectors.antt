@@ -30,10 +30,7 @@ use Rattle.deku_reading.specs.Lists.{AnswersEach, Runs, Ended, Stored}
 use Rattle.deku_reading.specs.Limits.{ReadsCount}
 use Rattle.deku.specs.VectorLaws.{GivesBytes}
 use Rattle.deku.proofs.Emitting.{Wrote, Done, Lacking, Full, emitted, followed_wrote}
-use Rattle.deku.proofs.Exact.{number_gives}
-
-ok_is : {V E : Type 0} (v w : V) → ◌≡◌ {A = Result V E} (Ok v) (Ok w) → v ≡ w
-ok_is v w e = cc
+use Rattle.deku.proofs.Exact.{ok_is, number_gives}
 
 module _ (t : NumberType) (l : Layout) (ok : IsAllowed t l) where
   -- the pieces of numbers

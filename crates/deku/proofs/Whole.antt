@@ -12,7 +12,7 @@ use Rattle.deku_meanings.specs.Shapes.{numeral}
 use Rattle.deku.specs.Extents.{NumberSizeLaw}
 
 -- one write alone
-alone : (o : Order) (bits : List Bool) (b : Bool) (s : Standing Output) (r : Result (Unit {0}) DekuError) (u : Standing Output)
+pub alone : (o : Order) (bits : List Bool) (b : Bool) (s : Standing Output) (r : Result (Unit {0}) DekuError) (u : Standing Output)
     → WritesBits o bits b s r u → Both (WritesBits o bits) (Answer tt) b s r u
 alone o bits b s (Err e) u p = First e p refl
 alone o bits false s (Ok v) u p = Second v u p Answered

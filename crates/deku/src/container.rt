@@ -123,11 +123,7 @@ pub trait DekuContainerWrite: DekuWriter<()> {
         requires { Self.accepts tt }
         ensures { WritesOnce (Both (Self.meaning self.now tt) Finalizes) result }
     {
-        let mut cursor = Cursor::new(Vec::new(alloc));
-        match write_whole(self, &mut cursor) {
-            Ok(()) => Ok(taken_bytes(cursor)),
-            Err(refusal) => Err(refusal),
-        }
+        padded_bytes(self, alloc, ())
     }
 
     /// Writes the bytes of the value to the front of a slice, the last one filled with zeros, and answers how many they are. What is behind
@@ -145,7 +141,7 @@ pub trait DekuContainerWrite: DekuWriter<()> {
         ensures { WritesOver (Both (Self.meaning self.now tt) Finalizes) out.old result out.new }
     {
         let mut cursor = Cursor::new(out);
-        match write_whole(self, &mut cursor) {
+        match write_whole(self, &mut cursor, ()) {
             Ok(()) => Ok(cursor.position() as usize),
             Err(refusal) => Err(refusal),
         }
@@ -175,31 +171,64 @@ pub trait DekuContainerWrite: DekuWriter<()> {
     }
 }
 
-// Writes the value by a writer of its own, and fills the last byte with zeros.
-fn write_whole<T: DekuWriter<()>, W: Sink>(value: &T, sink: &mut W) -> Result<(), DekuError>
-    requires { T.accepts tt }
-    ensures { (u : Standing Pending) × WritesAt (Both (T.meaning value.now tt) Finalizes) (W.told sink.old) (Going Nothing 0) result (W.told sink.new) u }
+/// The bytes of a value under a context, with the last one filled with zeros.
+///
+/// The caller's condition: the type may be written under the context. It is refused as the type is, or with `Io(OutOfMemory)` where no memory
+/// is found for the bytes.
+///
+/// ```text
+/// padded_bytes(&5u8, alloc, BitSize(4))?                      // 50
+/// ```
+pub fn padded_bytes<Ctx, T: DekuWriter<Ctx>>(
+    value: &T,
+    alloc: Global,
+    ctx: Ctx,
+) -> Result<Vec<u8>, DekuError>
+    requires { T.accepts ctx }
+    ensures { WritesOnce (Both (T.meaning value.now ctx) Finalizes) result }
 {
-    let mut writer = Writer::new(sink);
-    write_padded(value, &mut writer)
+    let mut cursor = Cursor::new(Vec::new(alloc));
+    match write_whole(value, &mut cursor, ctx) {
+        Ok(()) => Ok(taken_bytes(cursor)),
+        Err(refusal) => Err(refusal),
+    }
 }
 
-// Writes the value and fills the last byte with zeros.
-fn write_padded<T: DekuWriter<()>, W: Sink>(
+// Writes a value by a writer of its own, and fills the last byte with zeros.
+fn write_whole<Ctx, T: DekuWriter<Ctx>, W: Sink>(
+    value: &T,
+    sink: &mut W,
+    ctx: Ctx,
+) -> Result<(), DekuError>
+    requires { T.accepts ctx }
+    ensures { (u : Standing Pending) × WritesAt (Both (T.meaning value.now ctx) Finalizes) (W.told sink.old) (Going Nothing 0) result (W.told sink.new) u }
+{
+    let mut writer = Writer::new(sink);
+    write_padded(value, &mut writer, ctx)
+}
+
+// Writes a value and fills the last byte with zeros.
+fn write_padded<Ctx, T: DekuWriter<Ctx>, W: Sink>(
     value: &T,
     writer: &mut Writer<W>,
+    ctx: Ctx,
 ) -> Result<(), DekuError>
-    requires { T.accepts tt }
-    ensures { Writes W.told (Both (T.meaning value.now tt) Finalizes) writer.old result writer.new }
+    requires { T.accepts ctx }
+    ensures { Writes W.told (Both (T.meaning value.now ctx) Finalizes) writer.old result writer.new }
 {
-    match value.to_writer(writer, ()) {
+    match value.to_writer(writer, ctx) {
         Ok(()) => writer.finalize(),
         Err(refusal) => Err(refusal),
     }
 }
 
-// The bytes before the cursor's place.
-fn taken_bytes(cursor: Cursor<Vec<u8>>) -> Vec<u8>
+/// The bytes before a cursor's place, as those that a writer gave to one over a vector: those behind it are let go. It refuses nothing.
+///
+/// ```text
+/// writer.finalize()?;
+/// taken_bytes(writer.into_inner())                            // of 6 and 9 in four bits each: 69
+/// ```
+pub fn taken_bytes(cursor: Cursor<Vec<u8>>) -> Vec<u8>
     ensures { result.items ≡ take (cursor_position cursor) (cursor_inner cursor).items }
 {
     let end = cursor.position();

@@ -82,6 +82,16 @@ pub fn number_extent_law()
     ensures of_bool { (v : Bool) → KeepsSize ⟦<bool as DekuSize>⟧.bits (⟦<bool as DekuWriter<()>>⟧.meaning v tt) }
 {}
 
+/// A type that has a size and is written under `()`: each type that has both.
+pub trait Extent: DekuSize + DekuWriter<()> {
+    // Where `size_bits` answers n, the value is written under `()` as exactly n bits.
+    ghost keeps_size: { Self → Type 0 };
+}
+
+impl<T: DekuSize + DekuWriter<()>> Extent for T {
+    ghost keeps_size = { λ v. KeepsSize T.bits (T.meaning v tt) };
+}
+
 /// Where `size_bits` of a tuple answers n, it is written under `()` as exactly n bits, if its first item and the tuple of the rest are
 /// written as exactly the bits that their own sizes answer. So with each length, up to eleven items.
 pub fn tuple_extent_law<
@@ -97,17 +107,17 @@ pub fn tuple_extent_law<
     J: DekuSize + DekuWriter<()>,
     K: DekuSize + DekuWriter<()>,
 >()
-    ensures one { (a : A) → KeepsSize A.bits (A.meaning a tt) → KeepsSize ⟦<(A,) as DekuSize>⟧.bits (⟦<(A,) as DekuWriter<()>>⟧.meaning (record { 0 = a }) tt) }
-    ensures two { (a : A) (b : B) → KeepsSize A.bits (A.meaning a tt) → KeepsSize B.bits (B.meaning b tt) → KeepsSize ⟦<(A, B) as DekuSize>⟧.bits (⟦<(A, B) as DekuWriter<()>>⟧.meaning (a, b) tt) }
-    ensures three { (a : A) (b : B) (c : C) → KeepsSize A.bits (A.meaning a tt) → KeepsSize ⟦<(B, C) as DekuSize>⟧.bits (⟦<(B, C) as DekuWriter<()>>⟧.meaning (b, c) tt) → KeepsSize ⟦<(A, B, C) as DekuSize>⟧.bits (⟦<(A, B, C) as DekuWriter<()>>⟧.meaning (a, b, c) tt) }
-    ensures four { (a : A) (b : B) (c : C) (d : D) → KeepsSize A.bits (A.meaning a tt) → KeepsSize ⟦<(B, C, D) as DekuSize>⟧.bits (⟦<(B, C, D) as DekuWriter<()>>⟧.meaning (b, c, d) tt) → KeepsSize ⟦<(A, B, C, D) as DekuSize>⟧.bits (⟦<(A, B, C, D) as DekuWriter<()>>⟧.meaning (a, b, c, d) tt) }
-    ensures five { (a : A) (b : B) (c : C) (d : D) (e : E) → KeepsSize A.bits (A.meaning a tt) → KeepsSize ⟦<(B, C, D, E) as DekuSize>⟧.bits (⟦<(B, C, D, E) as DekuWriter<()>>⟧.meaning (b, c, d, e) tt) → KeepsSize ⟦<(A, B, C, D, E) as DekuSize>⟧.bits (⟦<(A, B, C, D, E) as DekuWriter<()>>⟧.meaning (a, b, c, d, e) tt) }
-    ensures six { (a : A) (b : B) (c : C) (d : D) (e : E) (f : F) → KeepsSize A.bits (A.meaning a tt) → KeepsSize ⟦<(B, C, D, E, F) as DekuSize>⟧.bits (⟦<(B, C, D, E, F) as DekuWriter<()>>⟧.meaning (b, c, d, e, f) tt) → KeepsSize ⟦<(A, B, C, D, E, F) as DekuSize>⟧.bits (⟦<(A, B, C, D, E, F) as DekuWriter<()>>⟧.meaning (a, b, c, d, e, f) tt) }
-    ensures seven { (a : A) (b : B) (c : C) (d : D) (e : E) (f : F) (g : G) → KeepsSize A.bits (A.meaning a tt) → KeepsSize ⟦<(B, C, D, E, F, G) as DekuSize>⟧.bits (⟦<(B, C, D, E, F, G) as DekuWriter<()>>⟧.meaning (b, c, d, e, f, g) tt) → KeepsSize ⟦<(A, B, C, D, E, F, G) as DekuSize>⟧.bits (⟦<(A, B, C, D, E, F, G) as DekuWriter<()>>⟧.meaning (a, b, c, d, e, f, g) tt) }
-    ensures eight { (a : A) (b : B) (c : C) (d : D) (e : E) (f : F) (g : G) (h : H) → KeepsSize A.bits (A.meaning a tt) → KeepsSize ⟦<(B, C, D, E, F, G, H) as DekuSize>⟧.bits (⟦<(B, C, D, E, F, G, H) as DekuWriter<()>>⟧.meaning (b, c, d, e, f, g, h) tt) → KeepsSize ⟦<(A, B, C, D, E, F, G, H) as DekuSize>⟧.bits (⟦<(A, B, C, D, E, F, G, H) as DekuWriter<()>>⟧.meaning (a, b, c, d, e, f, g, h) tt) }
-    ensures nine { (a : A) (b : B) (c : C) (d : D) (e : E) (f : F) (g : G) (h : H) (i : I) → KeepsSize A.bits (A.meaning a tt) → KeepsSize ⟦<(B, C, D, E, F, G, H, I) as DekuSize>⟧.bits (⟦<(B, C, D, E, F, G, H, I) as DekuWriter<()>>⟧.meaning (b, c, d, e, f, g, h, i) tt) → KeepsSize ⟦<(A, B, C, D, E, F, G, H, I) as DekuSize>⟧.bits (⟦<(A, B, C, D, E, F, G, H, I) as DekuWriter<()>>⟧.meaning (a, b, c, d, e, f, g, h, i) tt) }
-    ensures ten { (a : A) (b : B) (c : C) (d : D) (e : E) (f : F) (g : G) (h : H) (i : I) (j : J) → KeepsSize A.bits (A.meaning a tt) → KeepsSize ⟦<(B, C, D, E, F, G, H, I, J) as DekuSize>⟧.bits (⟦<(B, C, D, E, F, G, H, I, J) as DekuWriter<()>>⟧.meaning (b, c, d, e, f, g, h, i, j) tt) → KeepsSize ⟦<(A, B, C, D, E, F, G, H, I, J) as DekuSize>⟧.bits (⟦<(A, B, C, D, E, F, G, H, I, J) as DekuWriter<()>>⟧.meaning (a, b, c, d, e, f, g, h, i, j) tt) }
-    ensures eleven { (a : A) (b : B) (c : C) (d : D) (e : E) (f : F) (g : G) (h : H) (i : I) (j : J) (k : K) → KeepsSize A.bits (A.meaning a tt) → KeepsSize ⟦<(B, C, D, E, F, G, H, I, J, K) as DekuSize>⟧.bits (⟦<(B, C, D, E, F, G, H, I, J, K) as DekuWriter<()>>⟧.meaning (b, c, d, e, f, g, h, i, j, k) tt) → KeepsSize ⟦<(A, B, C, D, E, F, G, H, I, J, K) as DekuSize>⟧.bits (⟦<(A, B, C, D, E, F, G, H, I, J, K) as DekuWriter<()>>⟧.meaning (a, b, c, d, e, f, g, h, i, j, k) tt) }
+    ensures one { (a : A) → ⟦<A as Extent>⟧.keeps_size a → ⟦<(A,) as Extent>⟧.keeps_size (record { 0 = a }) }
+    ensures two { (v : A × B) → ⟦<A as Extent>⟧.keeps_size v.0 → ⟦<B as Extent>⟧.keeps_size v.1 → ⟦<(A, B) as Extent>⟧.keeps_size v }
+    ensures three { (v : A × B × C) → ⟦<A as Extent>⟧.keeps_size v.0 → ⟦<(B, C) as Extent>⟧.keeps_size (v.1, v.2) → ⟦<(A, B, C) as Extent>⟧.keeps_size v }
+    ensures four { (v : A × B × C × D) → ⟦<A as Extent>⟧.keeps_size v.0 → ⟦<(B, C, D) as Extent>⟧.keeps_size (v.1, v.2, v.3) → ⟦<(A, B, C, D) as Extent>⟧.keeps_size v }
+    ensures five { (v : A × B × C × D × E) → ⟦<A as Extent>⟧.keeps_size v.0 → ⟦<(B, C, D, E) as Extent>⟧.keeps_size (v.1, v.2, v.3, v.4) → ⟦<(A, B, C, D, E) as Extent>⟧.keeps_size v }
+    ensures six { (v : A × B × C × D × E × F) → ⟦<A as Extent>⟧.keeps_size v.0 → ⟦<(B, C, D, E, F) as Extent>⟧.keeps_size (v.1, v.2, v.3, v.4, v.5) → ⟦<(A, B, C, D, E, F) as Extent>⟧.keeps_size v }
+    ensures seven { (v : A × B × C × D × E × F × G) → ⟦<A as Extent>⟧.keeps_size v.0 → ⟦<(B, C, D, E, F, G) as Extent>⟧.keeps_size (v.1, v.2, v.3, v.4, v.5, v.6) → ⟦<(A, B, C, D, E, F, G) as Extent>⟧.keeps_size v }
+    ensures eight { (v : A × B × C × D × E × F × G × H) → ⟦<A as Extent>⟧.keeps_size v.0 → ⟦<(B, C, D, E, F, G, H) as Extent>⟧.keeps_size (v.1, v.2, v.3, v.4, v.5, v.6, v.7) → ⟦<(A, B, C, D, E, F, G, H) as Extent>⟧.keeps_size v }
+    ensures nine { (v : A × B × C × D × E × F × G × H × I) → ⟦<A as Extent>⟧.keeps_size v.0 → ⟦<(B, C, D, E, F, G, H, I) as Extent>⟧.keeps_size (v.1, v.2, v.3, v.4, v.5, v.6, v.7, v.8) → ⟦<(A, B, C, D, E, F, G, H, I) as Extent>⟧.keeps_size v }
+    ensures ten { (v : A × B × C × D × E × F × G × H × I × J) → ⟦<A as Extent>⟧.keeps_size v.0 → ⟦<(B, C, D, E, F, G, H, I, J) as Extent>⟧.keeps_size (v.1, v.2, v.3, v.4, v.5, v.6, v.7, v.8, v.9) → ⟦<(A, B, C, D, E, F, G, H, I, J) as Extent>⟧.keeps_size v }
+    ensures eleven { (v : A × B × C × D × E × F × G × H × I × J × K) → ⟦<A as Extent>⟧.keeps_size v.0 → ⟦<(B, C, D, E, F, G, H, I, J, K) as Extent>⟧.keeps_size (v.1, v.2, v.3, v.4, v.5, v.6, v.7, v.8, v.9, v.10) → ⟦<(A, B, C, D, E, F, G, H, I, J, K) as Extent>⟧.keeps_size v }
 {}
 
 /// Where `size_bits` of an array answers n, it is written under `()` as exactly n bits, if its items are each written as exactly the bits

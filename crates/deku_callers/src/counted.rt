@@ -7,8 +7,9 @@ ghost use Rattle.deku_callers.specs.CountedNumbers.{IsRecordOf, ReadsRecord};
 
 use deku::ctx::{Endian, Limit, Never};
 use deku::error::{DekuError, NeedSize};
+use deku::padded_bytes;
 use deku_bits::laws::length_law;
-use deku_pieces::{padded_bytes, read_whole};
+use deku_pieces::read_whole;
 use deku_symmetry::laws::counted_law;
 use std::alloc::Global;
 use std::io::ErrorKind;

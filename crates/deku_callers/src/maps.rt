@@ -8,8 +8,9 @@ ghost use Rattle.deku_callers.specs.LastValues.{last_value};
 
 use deku::ctx::{Endian, Limit, Never};
 use deku::error::DekuError;
+use deku::padded_bytes;
 use deku_bits::laws::length_law;
-use deku_pieces::{padded_bytes, read_whole};
+use deku_pieces::read_whole;
 use deku_symmetry::laws::counted_law;
 use std::alloc::Global;
 use std::collections::{HashMap, HashSet};

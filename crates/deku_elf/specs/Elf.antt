@@ -1,5 +1,5 @@
 -- What an ELF file says of itself.
-use Rattle.std.specs.Prelude.{◌≡◌, refl}
+use Rattle.std.specs.Prelude.{◌≡◌, ℕ, refl}
 use Rattle.deku_num.specs.declared.ctx.Endian.{Endian}
 use Rattle.deku_num.specs.declared.ctx.Endian.TheVariants as endian
 use Rattle.deku_elf.specs.declared.Elf.{Elf}
@@ -20,6 +20,10 @@ endian_of (Big f) = endian.Big
 abbrev pub fields_of : Elf → Fields
 fields_of (Little f) = f
 fields_of (Big f) = f
+
+-- where its program headers begin
+abbrev pub segments_at : Elf → ℕ
+segments_at elf = (fields_of elf).segments_at
 
 -- the byte of the endian, and the fields under it
 abbrev pub InFile : Type 0

@@ -14,6 +14,9 @@ use Rattle.deku_bits.specs.Standings.{Going, Stopped, count_of}
 use Rattle.deku_bits.specs.Outcomes.{Meaning}
 use Rattle.deku_bits.specs.ReaderCalls.{Reads}
 use Rattle.deku.specs.Limits.{ReadsCount, MappedBy}
+use Rattle.deku_num.specs.declared.ctx.Endian.{Endian}
+use Rattle.deku_elf.specs.declared.Elf.{Elf}
+use Rattle.deku_elf.specs.Elf.{endian_of, fields_of, segments_at}
 
 -- A place is sought, and m is read from there: where all bytes are told, those from the place on are to come. Or the source refuses the seek, which stops the
 -- reader; where all bytes are told, only for a call that fails.
@@ -24,6 +27,10 @@ pub data ReadsFrom {R V : Type 0} (told : R → SourceTold) (place : ℕ) (m : M
   NotSought : (kind : ErrorKind) → r ≡ Err (Io kind) → new.state ≡ Stopped (Io kind) (count_of old.state) → RefusedSeek (told old.source).health (told new.source).health (Start place) (Err (Io kind))
       → ReadsFrom told place m old r new
 
--- so many items are read into a vector
-abbrev pub ReadsSegments : {V : Type 0} → ℕ → Meaning (Option Stream) V → Meaning (Option Stream) (Vec V)
-ReadsSegments count m = MappedBy (λ xs v. v.items ≡ xs) (ReadsCount count m)
+-- as many program headers are read into a vector as the file's header says, each as m reads one under the endian that the file names
+abbrev pub ReadsSegments : {V : Type 0} → Elf → (Endian → Meaning (Option Stream) V) → Meaning (Option Stream) (Vec V)
+ReadsSegments elf m = MappedBy (λ xs v. v.items ≡ xs) (ReadsCount (fields_of elf).segment_count (m (endian_of elf)))
+
+-- how many bits stand before the place of the program headers
+abbrev pub bits_before : {R : Type 0} → Elf → Reader R → ℕ
+bits_before elf reader = count_after (Start (segments_at elf)) (count_of reader.state)

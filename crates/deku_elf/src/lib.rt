@@ -21,12 +21,9 @@
 
 ghost use Rattle.std.specs.Prelude.{◌≡◌, ◌≤◌, ◌<◌, ◌^◌, Err};
 ghost use Rattle.std.specs.declared.io.ErrorKind.TheVariants.{InvalidInput};
-ghost use Rattle.std.specs.declared.io.SeekFrom.TheVariants.{Start};
 ghost use Rattle.deku_bits.specs.declared.error.DekuError.TheVariants.{Io};
-ghost use Rattle.deku_bits.specs.Seeking.{count_after};
-ghost use Rattle.deku_bits.specs.Standings.{count_of};
-ghost use Rattle.deku_elf.specs.Elf.{endian_of, fields_of};
-ghost use Rattle.deku_elf.specs.Following.{ReadsFrom, ReadsSegments};
+ghost use Rattle.deku_elf.specs.Elf.{endian_of, fields_of, segments_at};
+ghost use Rattle.deku_elf.specs.Following.{ReadsFrom, ReadsSegments, bits_before};
 
 pub mod fields;
 pub mod segment;
@@ -95,9 +92,9 @@ impl Elf {
 /// ```
 pub fn segments<R: Source>(reader: &mut Reader<R>, elf: &Elf) -> Result<Vec<Segment>, DekuError>
     // A place that the count of bits does not reach.
-    ensures past { 2 ^ 64 ≤ count_after (Start (fields_of elf.now).segments_at) (count_of reader.old.state) → (result ≡ Err (Io InvalidInput)) × (reader.new ≡ reader.old) }
+    ensures past { 2 ^ 64 ≤ bits_before elf.now reader.old → (result ≡ Err (Io InvalidInput)) × (reader.new ≡ reader.old) }
     // Else as many as the header says, from the place that it says, under its endian.
-    ensures reads { count_after (Start (fields_of elf.now).segments_at) (count_of reader.old.state) < 2 ^ 64 → ReadsFrom R.told (fields_of elf.now).segments_at (ReadsSegments (fields_of elf.now).segment_count (⟦<Segment as DekuReader<Endian>>⟧.meaning (endian_of elf.now))) reader.old result reader.new }
+    ensures reads { bits_before elf.now reader.old < 2 ^ 64 → ReadsFrom R.told (segments_at elf.now) (ReadsSegments elf.now ⟦<Segment as DekuReader<Endian>>⟧.meaning) reader.old result reader.new }
 {
     let fields = elf.fields();
     reader.seek(SeekFrom::Start(fields.segments_at))?;

@@ -9,6 +9,7 @@ use Rattle.deku_bits.specs.ReaderCalls.{Ending}
 use Rattle.deku_bits.proofs.Handing.{mapped_ok, mapped_err, meant, no_fewer_on, more_on}
 use Rattle.deku_num.specs.NumberCalls.{Refused, Passed}
 use Rattle.deku.specs.Composing.{Answer, Answered, Then, Second, First, Both}
+use Rattle.deku.proofs.Exact.{ok_is}
 use Rattle.deku.proofs.Joining.{first_refused, then_on}
 use Rattle.deku_fields.specs.declared.list.Number.{Number}
 use Rattle.deku_fields.specs.declared.list.Field.{Field}
@@ -40,13 +41,10 @@ onward b s r u h (First e p q) = First e p q
 answer_is : {A V : Type 0} {v : V} {b : Bool} {s : Standing A} {r : Result V DekuError} {u : Standing A} → Answer v b s r u → (r ≡ Ok v) × (u ≡ s)
 answer_is Answered = (refl, refl)
 
-ok_is : {V : Type 0} {v w : V} → ◌≡◌ {A = Result V DekuError} (Ok v) (Ok w) → v ≡ w
-ok_is e = cc
-
 after_nothing : {A V W : Type 0} {v : V} {k : V → Meaning A W} (b : Bool) (s : Standing A) (r : Result W DekuError) (u : Standing A) → Then (Answer v) k b s r u → k v b s r u
 after_nothing {v} {k} b s r u (Second w t p q) =
     let a = answer_is p in
-    subst (λ x. k x b s r u) (ok_is (a.0)) (subst (λ x. k w b x r u) a.1 q)
+    subst (λ x. k x b s r u) (ok_is _ _ (a.0)) (subst (λ x. k w b x r u) a.1 q)
 after_nothing b s r u (First e p q) = let a = (answer_is p).0 in absurd (cc)
 
 -- ---- writing
@@ -85,7 +83,7 @@ Joins gs ns = Mapped (λ ms. ns ++ ms) (ReadsFields gs)
 -- a value in front of values that are read in two parts
 parted : {m : Meaning (Option Stream) (List Number)} (n : Number) (gs : List Field) (b : Bool) (s : Standing (Option Stream)) (r : Result (List Number) DekuError) (u : Standing (Option Stream))
     → Mapped (λ ns. n ∷ ns) (Then m (Joins gs)) b s r u → Then (Mapped (λ ns. n ∷ ns) m) (Joins gs) b s r u
-parted n gs b s r u (Value x (Second w t p (Value y q e)) z) = Second (n ∷ w) t (Value w p refl) (Value y q (let f : x ≡ w ++ y = ok_is e in cc))
+parted n gs b s r u (Value x (Second w t p (Value y q e)) z) = Second (n ∷ w) t (Value w p refl) (Value y q (let f : x ≡ w ++ y = ok_is _ _ e in cc))
 parted n gs b s r u (Value x (Second w t p (Refusal d q e)) z) = absurd (cc)
 parted n gs b s r u (Value x (First d p e) z) = absurd (cc)
 parted n gs b s r u (Refusal d (Second w t p (Value y q e)) z) = absurd (cc)
@@ -94,7 +92,7 @@ parted n gs b s r u (Refusal d (First x p e) z) = First x (Refusal x p refl) (le
 
 united : {m : Meaning (Option Stream) (List Number)} (n : Number) (gs : List Field) (b : Bool) (s : Standing (Option Stream)) (r : Result (List Number) DekuError) (u : Standing (Option Stream))
     → Then (Mapped (λ ns. n ∷ ns) m) (Joins gs) b s r u → Mapped (λ ns. n ∷ ns) (Then m (Joins gs)) b s r u
-united n gs b s r u (Second v t (Value w p e) (Value x q z)) = Value (w ++ x) (Second w t p (Value x q refl)) (let f : v ≡ n ∷ w = ok_is e in subst (λ y. r ≡ Ok (y ++ x)) f z)
+united n gs b s r u (Second v t (Value w p e) (Value x q z)) = Value (w ++ x) (Second w t p (Value x q refl)) (let f : v ≡ n ∷ w = ok_is _ _ e in subst (λ y. r ≡ Ok (y ++ x)) f z)
 united n gs b s r u (Second v t (Value w p e) (Refusal d q z)) = Refusal d (Second w t p (Refusal d q refl)) z
 united n gs b s r u (Second v t (Refusal d p e) q) = absurd (cc)
 united n gs b s r u (First d (Value w p e) z) = absurd (cc)

@@ -14,14 +14,12 @@ use Rattle.deku_bits.proofs.ReaderLaws.{taken_length}
 use Rattle.deku_num.specs.Numbers.{value, number, with_sign}
 use Rattle.deku_num.specs.NumberCalls.{Refused, Passed}
 use Rattle.deku.specs.Composing.{Answered, Second, First}
+use Rattle.deku.proofs.Exact.{ok_is}
 use Rattle.deku_fields.specs.declared.list.Number.{Number}
 use Rattle.deku_fields.specs.declared.list.Field.{Field}
 use Rattle.deku_fields.specs.Items.{IsNumber, IsWorth, IsAllowedField, ReadsValues, number_type, field_width, field_shape}
 use Rattle.deku_fields.specs.ListCalls.{ReadsField, ReadsFields, ReadsList, number_of}
 use Rattle.deku_fields.specs.Promise.{HasFound, FindsAny}
-
-ok_is : {V E : Type 0} (v x : V) → ◌≡◌ {A = Result V E} (Ok v) (Ok x) → v ≡ x
-ok_is v x e = cc
 
 -- the number that is made of what a list of bits is worth is that
 worth_of : (b : Bool) (w n : ℕ) → IsNumber b (with_sign b w n) (number_of b (with_sign b w n))

@@ -11,28 +11,18 @@ use Rattle.deku_bits.specs.Bits.{byte_bits, facing, groups, group_number}
 use Rattle.deku_bits.specs.Streams.{Stream, flow, seen, Has, taken, left, fresh}
 use Rattle.deku_bits.specs.Pieces.{Piece, piece, shape, Aligned, AlignedFrom, total, last_order, filled, run_bytes, runs, laid_out, cleared}
 use Rattle.deku_bits.specs.Symmetry.{Takes}
-use Rattle.deku_bits.proofs.Reading.{read_law}
+use Rattle.deku_bits.proofs.Binary.{length-facing, facing-facing}
+use Rattle.deku_bits.proofs.Cuts.{length-flow}
+use Rattle.deku_bits.proofs.Reading.{read_law, left_none}
 use Rattle.deku_bits.proofs.Rewriting.{rewrite_law}
 use Rattle.deku_fields.specs.Places.{printed_at, printed}
 use Rattle.deku_fields.proofs.Printing.{eight, flow_bit, cleared_bit, filled_below}
 use Rattle.deku_fields.proofs.Meeting.{printed_twice}
 
 -- ---- facing and flowing
-length-facing : (o : Order) (s : List Bool) → length (facing o s) ≡ length s
-length-facing Msb0 s = refl
-length-facing Lsb0 s = length-reverse s
-
-facing-facing : (o : Order) (s : List Bool) → facing o (facing o s) ≡ s
-facing-facing Msb0 s = refl
-facing-facing Lsb0 s = reverse-reverse s
-
 facing_none : (o : Order) → facing o [] ≡ []
 facing_none Msb0 = refl
 facing_none Lsb0 = refl
-
-length-flow : (o : Order) (bs : List ℕ) → length (flow o bs) ≡ 8 * length bs
-length-flow o [] = refl
-length-flow o (b ∷ bs) = omega (arith, length-append (facing o (byte_bits b)) (flow o bs), eight o b, length-flow o bs)
 
 flow-drop : (o : Order) (n : ℕ) (bs : List ℕ) → flow o (drop n bs) ≡ drop (8 * n) (flow o bs)
 flow-drop o zero bs = refl
@@ -90,15 +80,6 @@ stepped n w o B S h a =
           ∙ drop-drop w n (flow o B);
     }
 
--- nothing is taken
-left_whole : (o : Order) (S : Stream) → left o 0 S ≡ S
-unfolding left
-left_whole o S =
-    let e : groups (0 - length S.window) ≡ 0 = omega arith in
-    ap (λ t. record { window = facing o (facing o S.window ++ flow o (take t S.bytes)); bytes = drop t S.bytes }) e
-    ∙ ap (λ x. record { window = facing o x; bytes = S.bytes }) (append-nil (facing o S.window))
-    ∙ ap (λ x. record { window = x; bytes = S.bytes }) (facing-facing o S.window)
-
 -- ---- aligned pieces
 turned_to : (n w : ℕ) (o q : Order) (fs : List (Order × ℕ)) (B : List ℕ) (S : Stream) → 0 < w → AlignedFrom n o ((q, w) ∷ fs) → At n o B S → At n q B S
 turned_to n zero o q fs B S p h a = absurd (omega arith)
@@ -116,7 +97,7 @@ further n zero o q fs B S a h k =
     let e : n ≡ n + zero = omega arith in
     record {
       order = o;
-      at_next = subst (λ x. At x o B (left q zero S)) e (subst (λ X. At n o B X) (sym (left_whole q S)) a);
+      at_next = subst (λ x. At x o B (left q zero S)) e (subst (λ X. At n o B X) (sym (left_none q S)) a);
       aligned = subst (λ x. AlignedFrom x o fs) e h;
       last = refl;
     }

@@ -2,6 +2,7 @@
 use Rattle.std.proofs.Common.{◌≡◌, ℕ, Bool, true, false, true≢false, cond, eqb, List, [], ◌∷◌, ◌++◌, codes, refl, ap, sym, ◌∙◌, subst, inl, inr, Option, Some, None}
 use Rattle.std.proofs.lemmas.Bool.{eq-eqb}
 use Rattle.std.proofs.lemmas.List.{append_cancel_left}
+use Rattle.std.proofs.lemmas.Option.{same_Some}
 use Rattle.std.specs.Str.Parse.{digits_value}
 use Rattle.deku_bits.specs.declared.ctx.Order.{Order}
 use Rattle.deku_bits.specs.declared.ctx.Order.TheVariants.{Msb0, Lsb0}
@@ -171,14 +172,11 @@ agrees word size k e o f c n =
       size_named = subst (λ x. NamesSize x f.layout.size) (sym d.1) (n.size_named);
     }
 
-some_is : {A : Type 0} {x y : A} → ◌≡◌ {A = Option A} (Some x) (Some y) → x ≡ y
-some_is e = cc
-
 -- the word names the field of its parts, and no other
 pub one_named : (word size : List ℕ) (k : Kind) (e : Endian) (o : Order) (s : Size) → Cut word k e o size → NamesSize size s → (f : Field)
     → (◌≡◌ {A = Option Field} (Some (field_of k e o s)) (Some f) → NamesField word f) × (NamesField word f → ◌≡◌ {A = Option Field} (Some (field_of k e o s)) (Some f))
 one_named word size k e o s c n f = (
-  λ same. subst (λ x. NamesField word x) (some_is same) (named word size k e o s c n),
+  λ same. subst (λ x. NamesField word x) (same_Some _ _ same) (named word size k e o s c n),
   λ m.
       let a = agrees word size k e o f c m in
       let i : s ≡ f.layout.size = size_one size s f.layout.size n (a.size_named) in

@@ -1,6 +1,7 @@
 -- What a word for an item names: a field, `=` and a value.
 use Rattle.std.proofs.Common.{◌≡◌, ◌≢◌, ℕ, zero, suc, ◌<◌, Bool, true, false, cond, eqb, get_or, List, [], ◌∷◌, ◌++◌, length, codes, refl, sym, ◌∙◌, subst, inl, inr, arith, Option, Some, None}
 use Rattle.std.proofs.lemmas.Bool.{ne_eqb}
+use Rattle.std.proofs.lemmas.Option.{same_Some}
 use Rattle.std.proofs.lemmas.Str.Parse.{tells_digits}
 use Rattle.std.specs.Str.Parse.{AllDigits}
 use Rattle.deku_bits.specs.declared.ctx.Order.TheVariants.{Msb0, Lsb0}
@@ -90,9 +91,6 @@ item_parts word front back cuts i n =
     let p = cuts n.field n.value (n.parts) (plain_at n.field (plain_field n.field i.field (n.field_named))) in
     (subst (λ x. NamesField x i.field) (sym p.0) (n.field_named), subst (λ x. NamesNumber i.field.kind x i.value) (sym p.1) (n.value_named))
 
-pub some_is : {A : Type 0} {x y : A} → ◌≡◌ {A = Option A} (Some x) (Some y) → x ≡ y
-some_is e = cc
-
 pub none_is : {A : Type 0} {x : A} → ◌≡◌ {A = Option A} None (Some x) → ⊥
 none_is e = absurd (cc)
 
@@ -105,10 +103,10 @@ pub one_item : (word front back : List ℕ) (f : Field) (v : Number) → word �
     → ((g : Field) → (◌≡◌ {A = Option Field} (Some f) (Some g) → NamesField front g) × (NamesField front g → ◌≡◌ {A = Option Field} (Some f) (Some g))) → NamesNumber f.kind back v
     → (i : Item) → (◌≡◌ {A = Option Item} (Some (record { field = f; value = v })) (Some i) → NamesItem word i) × (NamesItem word i → ◌≡◌ {A = Option Item} (Some (record { field = f; value = v })) (Some i))
 one_item word front back f v whole cuts field number i = (
-  λ same. subst (λ x. NamesItem word x) (some_is same) (record { field = front; value = back; parts = whole; field_named = (field f).0 refl; value_named = number }),
+  λ same. subst (λ x. NamesItem word x) (same_Some _ _ same) (record { field = front; value = back; parts = whole; field_named = (field f).0 refl; value_named = number }),
   λ n.
       let p = item_parts word front back cuts i n in
-      let e : f ≡ i.field = some_is ((field i.field).1 p.0) in
+      let e : f ≡ i.field = same_Some _ _ ((field i.field).1 p.0) in
       let w : v ≡ i.value = number_one f.kind back v i.value number (subst (λ g. NamesNumber g.kind back i.value) (sym e) p.1) in
       rw (e, w) refl,
 )

@@ -27,6 +27,7 @@ use Rattle.deku_fields.specs.declared.list.Field.{Field}
 use Rattle.deku_fields.specs.Items.{number_type, field_width, IsAllowedField}
 use Rattle.deku_fields.specs.ListCalls.{IsOfKind, ReadsField, WritesItem}
 use Rattle.deku_fields.proofs.Stepping.{unsigned_field, item_passed}
+use Rattle.deku_fields.proofs.WritingLists.{whole_kind}
 
 -- a value that has a word is of its type
 word_in_type : (t : NumberType) (l : Layout) (v w : ℕ) → t.signed ≡ false → IsAllowed t l → t.bits % 8 ≡ 0 → IsWordFor t l (pos v) w → v < 2 ^ t.bits
@@ -34,21 +35,6 @@ word_in_type t l v w g ok d h =
     let r = listed Little l.order (width t l) w h.below in
     let f = h.list r.0 r.1 (word_is l.order r.0 ∙ r.2) in
     unsigned_in_type t l r.0 v g ok r.1 (sym f.worth) d
-
--- each kind has whole bytes
-whole_kind : (k : Kind) → (number_type k).bits % 8 ≡ 0
-whole_kind U8 = refl
-whole_kind U16 = refl
-whole_kind U32 = refl
-whole_kind U64 = refl
-whole_kind U128 = refl
-whole_kind Usize = refl
-whole_kind I8 = refl
-whole_kind I16 = refl
-whole_kind I32 = refl
-whole_kind I64 = refl
-whole_kind I128 = refl
-whole_kind Isize = refl
 
 in_unsigned : (b : Bool) (n v : ℕ) → b ≡ false → v < 2 ^ n → InType b n (pos v)
 in_unsigned b n v e h = subst (λ x. InType x n (pos v)) (sym e) (v, refl, h)

@@ -7,6 +7,7 @@ use Rattle.deku_bits.specs.declared.ctx.Order.TheVariants.{Msb0, Lsb0}
 use Rattle.deku_bits.specs.Bits.{bits_of, byte_bits, facing, group_number}
 use Rattle.deku_bits.specs.Streams.{flow}
 use Rattle.deku_bits.specs.Pieces.{filled, cleared}
+use Rattle.deku_bits.proofs.Cuts.{length-filled}
 use Rattle.deku_num.specs.declared.ctx.Endian.TheVariants.{Little}
 use Rattle.deku_num.specs.Numbers.{number}
 use Rattle.deku_num.specs.NumberLaws.{place}
@@ -98,9 +99,6 @@ group_bit o g r l h =
     ∙ ap (λ n. number Little o g / 2 ^ n % 2) (group_place o (length g) r l h) ∙ number_bit Little o g r (omega arith)
 
 -- a group that is filled up has eight bits, and so its byte is one
-length-filled : (g : List Bool) → length g ≤ 8 → length (filled g) ≡ 8
-length-filled g l = omega (arith, length-append g (replicate (8 - length g) false), length-replicate (8 - length g) false)
-
 pub filled_below : (o : Order) (g : List Bool) → length g ≤ 8 → group_number o (filled g) < 256
 filled_below o g l =
     let full : length (filled g) ≡ 8 = length-filled g l in

@@ -12,6 +12,7 @@ use Rattle.deku_bits.specs.Outcomes.{Outcome}
 use Rattle.deku_bits.specs.Standings.{Standing, Going, Stopped, reader_state, count_of}
 use Rattle.deku_bits.specs.ReaderCalls.{NoneEarly, filling, window_of}
 use Rattle.deku_bits.proofs.Handing.{weaker}
+use Rattle.deku.proofs.Exact.{ok_is}
 use Rattle.deku_fields.specs.declared.list.Number.{Number}
 use Rattle.deku_fields.specs.declared.list.Field.{Field}
 use Rattle.deku_fields.specs.declared.list.Item.{Item}
@@ -101,9 +102,6 @@ left_behind fs (Ok ns) before now s t items bytes after c begins stands tells ro
 left_behind fs (Ok ns) before now s t items bytes after c begins stands tells room early (inr b) =
     let d = (b items bytes after c begins (starts_at before bytes s c tells stands) room).1 in
     source_tells now t d.rest (c + total (map field_shape fs)) (no_whole_byte s t c stands early) d.stands ∙ ap Some d.behind
-
-ok_is : (x y : List Number) → ◌≡◌ {A = Result (List Number) DekuError} (Ok x) (Ok y) → x ≡ y
-ok_is x y e = cc
 
 -- a buffer that was filled holds what was read
 pub filled : (r : Result (Unit {0}) DekuError) (ns vs : List Number) → filling r ns ≡ Ok vs → (r ≡ Ok tt) × (ns ≡ vs)

@@ -31,11 +31,6 @@ unsigned_field f {v} {s} {h} {u} {g} e o =
     subst (λ n. Outcome (ReadsField f) s h (Ok n) u g) (ap (λ b. number_of b (pos v)) e) (mapped_ok (number_of (number_type f.kind).signed) o)
 
 -- ---- fields
--- no byte is fetched too early in two calls
-pub early_on : {s t u : Standing (List Bool)} → NoneEarly s t → NoneEarly t u → NoneEarly s u
-early_on p (inl q) = inl q
-early_on {s} p (inr e) = subst (NoneEarly s) (sym e) p
-
 -- numbers in front of those that are answered
 abbrev pub with_front : List Number → Result (List Number) DekuError → Result (List Number) DekuError
 with_front ns (Ok ms) = Ok (ns ++ ms)

@@ -34,6 +34,7 @@ integer_is false v (Signed z) e = absurd e
 integer_is true v (Unsigned n) e = absurd e
 integer_is true v (Signed z) e = e
 
+-- each kind has whole bytes
 pub whole_kind : (k : Kind) → (number_type k).bits % 8 ≡ 0
 whole_kind U8 = refl
 whole_kind U16 = refl

@@ -133,6 +133,10 @@ pub record IsNoHexText (text : List ℕ) : Type 0 where
   pub error : FromHexError
   pub refused : decode_of digits ≡ Err error
 
+-- a fault of the input, or of the memory
+abbrev pub IsOfInput : DekuError → Type 0
+IsOfInput e = (kind : ErrorKind) × (e ≡ Io kind)
+
 -- the input shows no bytes, where it is known, or it or the memory failed
 abbrev pub InputStops : Option (List ℕ) → Failure → Type 0
 InputStops input e = ((e ≡ BadText) × IfSome input IsNoHexText) ⊎ ((kind : ErrorKind) × (e ≡ Fault (Io kind)))

@@ -2,6 +2,7 @@
 #![tactic(auto)]
 
 mod cut;
+mod input;
 pub mod laws;
 mod list;
 mod picture;
@@ -12,6 +13,7 @@ mod write;
 
 pub use cut::cut_to_bytes;
 pub use deku_frame::frame;
+pub use input::read_hex_text;
 pub use list::{Field, Item, Kind, Number};
 pub use picture::{Place, places};
 pub use program::{give_text, run};

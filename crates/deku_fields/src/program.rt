@@ -9,14 +9,14 @@ ghost use Rattle.deku_bits.specs.declared.error.DekuError.TheVariants.{Io};
 ghost use Rattle.deku_fields.specs.declared.program.Failure.TheVariants.{Fault, Usage};
 ghost use Rattle.deku_fields.specs.declared.list.Field.{Field as ListField};
 ghost use Rattle.deku_fields.specs.Naming.{NamesField};
-ghost use Rattle.deku_fields.specs.Runs.{words_of, line, number_text, status_of, message, IsHexText, LosesNewline, IsDone, Asks, AsksToRead, AreNoForm, ShowsRead, ShowsWritten, InputStops, ReadingStops, WritingStops, Stops, IsStopped, IsBegun, IsCutShort, IsUnfinished};
+ghost use Rattle.deku_fields.specs.Runs.{words_of, line, number_text, status_of, message, IsDone, Asks, AsksToRead, AreNoForm, ShowsRead, ShowsWritten, ReadingStops, WritingStops, Stops, IsStopped, IsBegun, IsCutShort, IsUnfinished};
 
+use crate::input::read_hex_text;
 use crate::list::{Field, Item, Number};
 use crate::read::list_from_bytes;
 use crate::words::{parse_field, parse_item};
 use crate::write::list_to_bytes;
 use deku::DekuError;
-use hex::FromHexError;
 use std::alloc::{AllocError, AllocFailed, Global};
 use std::fmt::Write as _;
 use std::io;
@@ -212,7 +212,9 @@ fn read<R: Read>(alloc: Global, specs: &[String], input: &mut R) -> Result<Strin
     ensures unread { IfErr result (λ e. e ≡ Usage → input.new ≡ input.old) }
 {
     let fields = fields_named(alloc, specs)?;
-    let bytes = read_bytes(alloc, input)?;
+    let Some(bytes) = read_hex_text(alloc, input)? else {
+        return Err(Failure::BadText);
+    };
     let (bits, numbers) = list_from_bytes(alloc, bytes.as_slice(), fields.as_slice())?;
     let mut text = number_lines(alloc, numbers.as_slice())?;
     writeln!(text, "bits {bits}")?;
@@ -248,30 +250,4 @@ fn number_lines(alloc: Global, numbers: &[Number]) -> Result<String, Failure>
         }
     }
     Ok(text)
-}
-
-// The bytes that hexadecimal text names, without one last newline.
-fn read_bytes<R: Read>(alloc: Global, input: &mut R) -> Result<Vec<u8>, Failure>
-    ensures shown { IfOk result (λ bytes. IfSome (R.remaining input.old) (λ text. IsHexText text bytes.items)) }
-    ensures stops { IfErr result (InputStops (R.remaining input.old)) }
-{
-    let mut text: Vec<u8> = Vec::new(alloc);
-    input.read_to_end(&mut text)?;
-    match hex::decode(alloc, without_newline(text.as_slice())) {
-        Ok(bytes) => Ok(bytes),
-        Err(FromHexError::OutOfMemory) => {
-            Err(Failure::Fault(DekuError::Io(ErrorKind::OutOfMemory)))
-        }
-        Err(_) => Err(Failure::BadText),
-    }
-}
-
-// The text without one last newline.
-fn without_newline(text: &[u8]) -> &[u8]
-    ensures { LosesNewline text.now result.now }
-{
-    match text {
-        [inner @ .., b'\n'] => inner,
-        _ => text,
-    }
 }

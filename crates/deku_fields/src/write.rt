@@ -1,9 +1,8 @@
 //! Writing lists of items.
 
-ghost use Rattle.std.specs.Prelude.{◌≡◌, ◌<◌, ◌≤◌, ◌^◌, [], take, false, Ok, IfErr, IfSome, IsTrue, IsFalse};
+ghost use Rattle.std.specs.Prelude.{◌≡◌, ◌<◌, ◌≤◌, ◌^◌, [], false, Ok, IfErr, IfSome, IsTrue, IsFalse};
 ghost use Rattle.std.specs.declared.io.ErrorKind.{ErrorKind as IoKind};
 ghost use Rattle.deku_bits.specs.declared.error.DekuError.TheVariants.{Io};
-ghost use Rattle.std.specs.Io.Cursor.{cursor_position, cursor_inner};
 ghost use Rattle.deku_bits.specs.Causes.{WantsPlace, Caused};
 ghost use Rattle.deku_bits.specs.Standings.{Untouched};
 ghost use Rattle.deku_bits.specs.WriterCalls.{Writes, Finalizes};
@@ -19,6 +18,7 @@ use deku::calls::{write_signed, write_unsigned};
 use deku::ctx::{Endian, Order};
 use deku::device::Sink;
 use deku::error::DekuError;
+use deku::taken_bytes;
 use deku::writer::Writer;
 use deku_num::kernel::unsigned_word;
 use std::alloc::Global;
@@ -177,14 +177,4 @@ fn write_padded<W: Sink>(writer: &mut Writer<W>, items: &[Item]) -> Result<(), D
         Ok(()) => writer.finalize(),
         Err(refusal) => Err(refusal),
     }
-}
-
-// The bytes before the cursor's place.
-fn taken_bytes(cursor: Cursor<Vec<u8>>) -> Vec<u8>
-    ensures { result.items ≡ take (cursor_position cursor) (cursor_inner cursor).items }
-{
-    let end = cursor.position();
-    let mut bytes = cursor.into_inner();
-    bytes.truncate(end as usize);
-    bytes
 }

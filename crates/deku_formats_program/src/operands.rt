@@ -1,6 +1,7 @@
 //! The operands of an instruction word, field by field.
 
 use crate::lines::show_numbers;
+use crate::places::Place;
 use deku_instructions::riscv::branch::Branch;
 use deku_instructions::riscv::immediate::Immediate;
 use deku_instructions::riscv::instruction::Instruction;
@@ -9,6 +10,53 @@ use deku_instructions::riscv::register::Register;
 use deku_instructions::riscv::store::Store;
 use deku_instructions::riscv::upper::Upper;
 use std::alloc::AllocError;
+
+// The fields of I behind the code, and their bits.
+const IMMEDIATE: [Place; 4] = [("target", 5), ("function", 3), ("base", 5), ("value", 12)];
+
+// Those of U.
+const UPPER: [Place; 2] = [("target", 5), ("value", 20)];
+
+// Those of S, and at last the number that lies in two of them.
+const STORE: [Place; 6] = [
+    ("low", 5),
+    ("function", 3),
+    ("base", 5),
+    ("source", 5),
+    ("high", 7),
+    ("offset", 12),
+];
+
+// Those of R.
+const REGISTER: [Place; 5] = [
+    ("target", 5),
+    ("function", 3),
+    ("first", 5),
+    ("second", 5),
+    ("variant", 7),
+];
+
+// Those of B, and the number that lies in four of them.
+const BRANCH: [Place; 8] = [
+    ("top", 1),
+    ("low", 4),
+    ("function", 3),
+    ("first", 5),
+    ("second", 5),
+    ("middle", 6),
+    ("sign", 1),
+    ("halves", 12),
+];
+
+// Those of J, and the number that lies in four of them.
+const JUMP: [Place; 6] = [
+    ("target", 5),
+    ("high", 8),
+    ("middle", 1),
+    ("low", 10),
+    ("sign", 1),
+    ("halves", 20),
+];
 
 /// What the code of a word asks for, as the specification names it.
 pub fn kind_of(word: &Instruction) -> &'static str {
@@ -46,11 +94,12 @@ pub fn show_operands(word: &Instruction, text: &mut String) -> Result<(), AllocE
 // I.
 fn show_immediate(x: &Immediate, text: &mut String) -> Result<(), AllocError> {
     show_numbers(
+        &IMMEDIATE,
         &[
-            ("target", x.target as i128),
-            ("function", x.function as i128),
-            ("base", x.base as i128),
-            ("value", x.value as i128),
+            x.target as i128,
+            x.function as i128,
+            x.base as i128,
+            x.value as i128,
         ],
         text,
     )
@@ -58,22 +107,20 @@ fn show_immediate(x: &Immediate, text: &mut String) -> Result<(), AllocError> {
 
 // U.
 fn show_upper(x: &Upper, text: &mut String) -> Result<(), AllocError> {
-    show_numbers(
-        &[("target", x.target as i128), ("value", x.value as i128)],
-        text,
-    )
+    show_numbers(&UPPER, &[x.target as i128, x.value as i128], text)
 }
 
 // S: bytes behind the address in the base.
 fn show_store(x: &Store, text: &mut String) -> Result<(), AllocError> {
     show_numbers(
+        &STORE,
         &[
-            ("low", x.low as i128),
-            ("function", x.function as i128),
-            ("base", x.base as i128),
-            ("source", x.source as i128),
-            ("high", x.high as i128),
-            ("offset", x.offset() as i128),
+            x.low as i128,
+            x.function as i128,
+            x.base as i128,
+            x.source as i128,
+            x.high as i128,
+            x.offset() as i128,
         ],
         text,
     )
@@ -82,12 +129,13 @@ fn show_store(x: &Store, text: &mut String) -> Result<(), AllocError> {
 // R.
 fn show_register(x: &Register, text: &mut String) -> Result<(), AllocError> {
     show_numbers(
+        &REGISTER,
         &[
-            ("target", x.target as i128),
-            ("function", x.function as i128),
-            ("first", x.first as i128),
-            ("second", x.second as i128),
-            ("variant", x.variant as i128),
+            x.target as i128,
+            x.function as i128,
+            x.first as i128,
+            x.second as i128,
+            x.variant as i128,
         ],
         text,
     )
@@ -96,15 +144,16 @@ fn show_register(x: &Register, text: &mut String) -> Result<(), AllocError> {
 // B: units of two bytes from the place of the word.
 fn show_branch(x: &Branch, text: &mut String) -> Result<(), AllocError> {
     show_numbers(
+        &BRANCH,
         &[
-            ("top", x.top as i128),
-            ("low", x.low as i128),
-            ("function", x.function as i128),
-            ("first", x.first as i128),
-            ("second", x.second as i128),
-            ("middle", x.middle as i128),
-            ("sign", x.sign as i128),
-            ("halves", x.halves() as i128),
+            x.top as i128,
+            x.low as i128,
+            x.function as i128,
+            x.first as i128,
+            x.second as i128,
+            x.middle as i128,
+            x.sign as i128,
+            x.halves() as i128,
         ],
         text,
     )
@@ -113,13 +162,14 @@ fn show_branch(x: &Branch, text: &mut String) -> Result<(), AllocError> {
 // J: units of two bytes from the place of the word.
 fn show_jump(x: &Jump, text: &mut String) -> Result<(), AllocError> {
     show_numbers(
+        &JUMP,
         &[
-            ("target", x.target as i128),
-            ("high", x.high as i128),
-            ("middle", x.middle as i128),
-            ("low", x.low as i128),
-            ("sign", x.sign as i128),
-            ("halves", x.halves() as i128),
+            x.target as i128,
+            x.high as i128,
+            x.middle as i128,
+            x.low as i128,
+            x.sign as i128,
+            x.halves() as i128,
         ],
         text,
     )

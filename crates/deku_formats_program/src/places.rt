@@ -1,15 +1,16 @@
-//! Which field of a record has a bit.
+//! The fields of records: their names, as they lie, and which of them has a bit.
 
 /// The name of a field, and its bits.
 pub type Place = (&'static str, usize);
 
-/// The fields in front of the last one, or of those that they lead, as they lie in the signals of a CAN data frame.
-pub const CAN: [Place; 5] = [
+/// The fields of fixed places, as they lie in the signals of a CAN data frame.
+pub const CAN: [Place; 6] = [
     ("wheel", 12),
     ("gear", 4),
     ("torque", 16),
     ("flags", 3),
     ("padding", 5),
+    ("yaw", 24),
 ];
 
 /// The same in a space packet.
@@ -23,7 +24,10 @@ pub const CCSDS: [Place; 7] = [
     ("length", 16),
 ];
 
-/// The same in a question of the domain name system.
+/// The same in a sample of its telemetry.
+pub const SAMPLE: [Place; 2] = [("voltage", 12), ("current", 12)];
+
+/// The same in a message of the domain name system.
 pub const DNS: [Place; 13] = [
     ("identification", 16),
     ("response", 1),
@@ -40,8 +44,11 @@ pub const DNS: [Place; 13] = [
     ("additionals", 16),
 ];
 
+/// The same in its question, behind the name.
+pub const QUESTION: [Place; 2] = [("kind", 16), ("class", 16)];
+
 /// The same in the file header of an ELF64 file.
-pub const ELF: [Place; 19] = [
+pub const ELF: [Place; 20] = [
     ("magic", 32),
     ("class", 8),
     ("endian", 8),
@@ -61,6 +68,7 @@ pub const ELF: [Place; 19] = [
     ("segment_count", 16),
     ("section_size", 16),
     ("section_count", 16),
+    ("section_names", 16),
 ];
 
 /// The same in the header of an IPv4 packet.
@@ -81,7 +89,7 @@ pub const IPV4: [Place; 13] = [
 ];
 
 /// The same at the beginning of a PNG file.
-pub const PNG: [Place; 10] = [
+pub const PNG: [Place; 11] = [
     ("signature", 64),
     ("length", 32),
     ("type", 32),
@@ -92,15 +100,21 @@ pub const PNG: [Place; 10] = [
     ("compression", 8),
     ("filter", 8),
     ("interlace", 8),
+    ("crc", 32),
 ];
 
 /// The same in an instruction word, whose operands lie as its code says.
 pub const RISCV: [Place; 1] = [("code", 7)];
 
 /// The same in the header of a UDP datagram.
-pub const UDP: [Place; 3] = [("source", 16), ("destination", 16), ("length", 16)];
+pub const UDP: [Place; 4] = [
+    ("source", 16),
+    ("destination", 16),
+    ("length", 16),
+    ("checksum", 16),
+];
 
-/// The name of the field that has this bit; behind all of them, the last one.
+/// The name of the field that has this bit; behind all of them, what stands there.
 pub fn name_at(places: &[Place], bit: usize, last: &'static str) -> &'static str {
     let mut left = bit;
     for (name, bits) in places {

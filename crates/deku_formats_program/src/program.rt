@@ -5,11 +5,11 @@ ghost use Rattle.std.specs.Io.KnownBytes.{Appends};
 ghost use Rattle.std.specs.IoError.{error_kind};
 ghost use Rattle.std.specs.declared.io.ErrorKind.TheVariants.{OutOfMemory};
 ghost use Rattle.deku_bits.specs.declared.error.DekuError.TheVariants.{Io};
-ghost use Rattle.deku_fields.specs.Runs.{words_of, IsHexText, LosesNewline, IsBegun};
+ghost use Rattle.deku_fields.specs.Runs.{words_of, IsBegun};
 ghost use Rattle.deku_formats_program.specs.declared.program.Failure.TheVariants.{Fault, Usage};
 ghost use Rattle.deku_formats_program.specs.Forms.{AreNoForm};
 ghost use Rattle.deku_formats_program.specs.Shown.{GainsVerdict, IsTold, TellsOf};
-ghost use Rattle.deku_formats_program.specs.Runs.{status_of, message, IsDone, IsUnfinished, IsShown, IsRecord, IsOfRecord, AsksForRecord, InputStops, TextStops, Stops, IsStopped};
+ghost use Rattle.deku_formats_program.specs.Runs.{status_of, message, IsDone, IsUnfinished, IsShown, IsRecord, IsOfRecord, AsksForRecord, TextStops, Stops, IsStopped};
 
 use crate::compared::first_difference;
 use crate::shown::Shown;
@@ -17,7 +17,7 @@ use crate::words::{Asked, Format, parse_words};
 use deku::prelude::{DekuError, DekuReader, Reader};
 use deku_dns::query::Query;
 use deku_elf::Elf;
-use deku_fields::give_text;
+use deku_fields::{give_text, read_hex_text};
 use deku_formats::can::Chassis;
 use deku_formats::ccsds::Telemetry;
 use deku_formats::ipv4::Ipv4;
@@ -25,7 +25,6 @@ use deku_formats::png::Png;
 use deku_formats::udp::Udp;
 use deku_instructions::riscv::instruction::Instruction;
 use deku_symmetry::Symmetric;
-use hex::FromHexError;
 use std::alloc::{AllocError, AllocFailed, Global};
 use std::fmt::Write as _;
 use std::io;
@@ -179,7 +178,9 @@ fn text_of<R: Read>(alloc: Global, form: Asked, input: &mut R) -> Result<String,
         Asked::Names => Ok(String::from_str(alloc, NAMES)?),
         Asked::Help => Ok(String::from_str(alloc, HELP)?),
         Asked::Record(format) => {
-            let bytes = read_bytes(alloc, input)?;
+            let Some(bytes) = read_hex_text(alloc, input)? else {
+                return Err(Failure::BadText);
+            };
             record_text(alloc, format, bytes.as_slice())
         }
     }
@@ -246,30 +247,4 @@ fn refused<T: DekuReader<()> + Shown>(alloc: Global, bytes: &[u8], fault: DekuEr
         _ => bits,
     };
     Failure::Refused(fault, T::field_at(bit), bits)
-}
-
-// The bytes that hexadecimal text names, without one last newline.
-fn read_bytes<R: Read>(alloc: Global, input: &mut R) -> Result<Vec<u8>, Failure>
-    ensures shown { IfOk result (λ bytes. IfSome (R.remaining input.old) (λ text. IsHexText text bytes.items)) }
-    ensures stops { IfErr result (InputStops (R.remaining input.old)) }
-{
-    let mut text: Vec<u8> = Vec::new(alloc);
-    input.read_to_end(&mut text)?;
-    match hex::decode(alloc, without_newline(text.as_slice())) {
-        Ok(bytes) => Ok(bytes),
-        Err(FromHexError::OutOfMemory) => {
-            Err(Failure::Fault(DekuError::Io(ErrorKind::OutOfMemory)))
-        }
-        Err(_) => Err(Failure::BadText),
-    }
-}
-
-// The text without one last newline.
-fn without_newline(text: &[u8]) -> &[u8]
-    ensures { LosesNewline text.now result.now }
-{
-    match text {
-        [inner @ .., b'\n'] => inner,
-        _ => text,
-    }
 }

@@ -2,7 +2,7 @@
 
 use crate::lines::show_numbers;
 use crate::operands::{kind_of, show_operands};
-use crate::places::{CAN, CCSDS, DNS, ELF, IPV4, PNG, RISCV, UDP, name_at};
+use crate::places::{CAN, CCSDS, DNS, ELF, IPV4, PNG, QUESTION, RISCV, SAMPLE, UDP, name_at};
 use deku::ctx::Endian;
 use deku_dns::header::Header;
 use deku_dns::label::Label;
@@ -30,13 +30,14 @@ pub trait Shown {
 impl Shown for Chassis {
     fn show(&self, text: &mut String) -> Result<(), AllocError> {
         show_numbers(
+            &CAN,
             &[
-                ("wheel", self.wheel as i128),
-                ("gear", self.gear as i128),
-                ("torque", self.torque as i128),
-                ("flags", self.flags as i128),
-                ("padding", self.padding as i128),
-                ("yaw", self.yaw as i128),
+                self.wheel as i128,
+                self.gear as i128,
+                self.torque as i128,
+                self.flags as i128,
+                self.padding as i128,
+                self.yaw as i128,
             ],
             text,
         )
@@ -51,23 +52,22 @@ impl Shown for Telemetry {
     fn show(&self, text: &mut String) -> Result<(), AllocError> {
         let header = &self.header;
         show_numbers(
+            &CCSDS,
             &[
-                ("version", header.version as i128),
-                ("kind", header.kind as i128),
-                ("secondary", header.secondary as i128),
-                ("application", header.application as i128),
-                ("grouping", header.grouping as i128),
-                ("count", header.count as i128),
-                ("length", header.length as i128),
+                header.version as i128,
+                header.kind as i128,
+                header.secondary as i128,
+                header.application as i128,
+                header.grouping as i128,
+                header.count as i128,
+                header.length as i128,
             ],
             text,
         )?;
         for sample in &self.samples {
             show_numbers(
-                &[
-                    ("voltage", sample.voltage as i128),
-                    ("current", sample.current as i128),
-                ],
+                &SAMPLE,
+                &[sample.voltage as i128, sample.current as i128],
                 text,
             )?;
         }
@@ -84,10 +84,8 @@ impl Shown for Query {
         show_header(&self.header, text)?;
         show_name(self.question.name.items.as_slice(), text)?;
         show_numbers(
-            &[
-                ("kind", self.question.kind as i128),
-                ("class", self.question.class as i128),
-            ],
+            &QUESTION,
+            &[self.question.kind as i128, self.question.class as i128],
             text,
         )
     }
@@ -100,20 +98,21 @@ impl Shown for Query {
 // The lines of a message's header.
 fn show_header(header: &Header, text: &mut String) -> Result<(), AllocError> {
     show_numbers(
+        &DNS,
         &[
-            ("identification", header.identification as i128),
-            ("response", header.response as i128),
-            ("opcode", header.opcode as i128),
-            ("authoritative", header.authoritative as i128),
-            ("truncated", header.truncated as i128),
-            ("recursion_desired", header.recursion_desired as i128),
-            ("recursion_available", header.recursion_available as i128),
-            ("reserved", header.reserved as i128),
-            ("response_code", header.response_code as i128),
-            ("questions", header.questions as i128),
-            ("answers", header.answers as i128),
-            ("authorities", header.authorities as i128),
-            ("additionals", header.additionals as i128),
+            header.identification as i128,
+            header.response as i128,
+            header.opcode as i128,
+            header.authoritative as i128,
+            header.truncated as i128,
+            header.recursion_desired as i128,
+            header.recursion_available as i128,
+            header.reserved as i128,
+            header.response_code as i128,
+            header.questions as i128,
+            header.answers as i128,
+            header.authorities as i128,
+            header.additionals as i128,
         ],
         text,
     )
@@ -164,10 +163,11 @@ impl Shown for Elf {
 // The lines of the fields behind the endian.
 fn show_fields(fields: &Fields, text: &mut String) -> Result<(), AllocError> {
     show_numbers(
+        &ELF[3..6],
         &[
-            ("identification", fields.identification[0] as i128),
-            ("abi", fields.identification[1] as i128),
-            ("abi_version", fields.identification[2] as i128),
+            fields.identification[0] as i128,
+            fields.identification[1] as i128,
+            fields.identification[2] as i128,
         ],
         text,
     )?;
@@ -175,20 +175,21 @@ fn show_fields(fields: &Fields, text: &mut String) -> Result<(), AllocError> {
         writeln!(text, "padding {byte}")?;
     }
     show_numbers(
+        &ELF[7..],
         &[
-            ("kind", fields.kind as i128),
-            ("machine", fields.machine as i128),
-            ("version", fields.version as i128),
-            ("entry", fields.entry as i128),
-            ("segments_at", fields.segments_at as i128),
-            ("sections_at", fields.sections_at as i128),
-            ("flags", fields.flags as i128),
-            ("header_size", fields.sizes[0] as i128),
-            ("segment_size", fields.sizes[1] as i128),
-            ("segment_count", fields.segment_count as i128),
-            ("section_size", fields.sections[0] as i128),
-            ("section_count", fields.sections[1] as i128),
-            ("section_names", fields.sections[2] as i128),
+            fields.kind as i128,
+            fields.machine as i128,
+            fields.version as i128,
+            fields.entry as i128,
+            fields.segments_at as i128,
+            fields.sections_at as i128,
+            fields.flags as i128,
+            fields.sizes[0] as i128,
+            fields.sizes[1] as i128,
+            fields.segment_count as i128,
+            fields.sections[0] as i128,
+            fields.sections[1] as i128,
+            fields.sections[2] as i128,
         ],
         text,
     )
@@ -198,17 +199,18 @@ impl Shown for Ipv4 {
     fn show(&self, text: &mut String) -> Result<(), AllocError> {
         let front = &self.front;
         show_numbers(
+            &IPV4[1..11],
             &[
-                ("words", front.words as i128),
-                ("service", front.service as i128),
-                ("congestion", front.congestion as i128),
-                ("total_length", front.total_length as i128),
-                ("identification", front.identification as i128),
-                ("flags", front.flags as i128),
-                ("fragment_offset", front.fragment_offset as i128),
-                ("time_to_live", front.time_to_live as i128),
-                ("protocol", front.protocol as i128),
-                ("checksum", front.checksum as i128),
+                front.words as i128,
+                front.service as i128,
+                front.congestion as i128,
+                front.total_length as i128,
+                front.identification as i128,
+                front.flags as i128,
+                front.fragment_offset as i128,
+                front.time_to_live as i128,
+                front.protocol as i128,
+                front.checksum as i128,
             ],
             text,
         )?;
@@ -228,15 +230,16 @@ impl Shown for Ipv4 {
 impl Shown for Png {
     fn show(&self, text: &mut String) -> Result<(), AllocError> {
         show_numbers(
+            &PNG[3..],
             &[
-                ("width", self.width as i128),
-                ("height", self.height as i128),
-                ("depth", self.depth as i128),
-                ("colour", self.colour as i128),
-                ("compression", self.compression as i128),
-                ("filter", self.filter as i128),
-                ("interlace", self.interlace as i128),
-                ("crc", self.crc as i128),
+                self.width as i128,
+                self.height as i128,
+                self.depth as i128,
+                self.colour as i128,
+                self.compression as i128,
+                self.filter as i128,
+                self.interlace as i128,
+                self.crc as i128,
             ],
             text,
         )
@@ -261,11 +264,12 @@ impl Shown for Instruction {
 impl Shown for Udp {
     fn show(&self, text: &mut String) -> Result<(), AllocError> {
         show_numbers(
+            &UDP,
             &[
-                ("source", self.source as i128),
-                ("destination", self.destination as i128),
-                ("length", self.length as i128),
-                ("checksum", self.checksum as i128),
+                self.source as i128,
+                self.destination as i128,
+                self.length as i128,
+                self.checksum as i128,
             ],
             text,
         )

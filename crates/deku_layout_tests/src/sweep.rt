@@ -291,9 +291,6 @@ fn expect_field<T: Swept + DekuReader<Layout> + DekuWriter<Layout> + PartialEq +
     }
 }
 
-// The orders and endians that there are.
-const TURNS: [(Endian, Order); 4] = [(Big, Msb0), (Big, Lsb0), (Little, Msb0), (Little, Lsb0)];
-
 // The next of a row of pseudo-random numbers.
 fn next_any(any: u128) -> u128 {
     any.wrapping_mul(0x2360ED051FC65DA44385DF649FCCF645)
@@ -324,42 +321,73 @@ fn expect_widths<T: Swept + DekuReader<Layout> + DekuWriter<Layout> + PartialEq 
     }
 }
 
-// Fields of a type.
+// Fields of a type under an order.
 fn expect_type<T: Swept + DekuReader<Layout> + DekuWriter<Layout> + PartialEq + Debug>(
     rt: &impl Abort,
     alloc: Global,
     shape: (usize, bool),
+    order: Order,
 )
     requires reads { (layout : Layout) → T.DekuReader.accepts layout }
     requires writes { (layout : Layout) → T.DekuWriter.accepts layout }
 {
-    for turn in TURNS {
-        expect_widths::<T>(rt, alloc, shape, turn);
+    for endian in [Big, Little] {
+        expect_widths::<T>(rt, alloc, shape, (endian, order));
     }
 }
 
-#[test]
-fn unsigned_up_to_64_bits(rt: HostRuntime) {
-    expect_type::<u8>(&rt, rt.alloc(), (8, false));
-    expect_type::<u16>(&rt, rt.alloc(), (16, false));
-    expect_type::<u32>(&rt, rt.alloc(), (32, false));
-    expect_type::<u64>(&rt, rt.alloc(), (64, false));
+// Fields without a sign, of at most 64 bits, under an order.
+fn expect_unsigned(rt: &impl Abort, alloc: Global, order: Order) {
+    expect_type::<u8>(rt, alloc, (8, false), order);
+    expect_type::<u16>(rt, alloc, (16, false), order);
+    expect_type::<u32>(rt, alloc, (32, false), order);
+    expect_type::<u64>(rt, alloc, (64, false), order);
+}
+
+// Fields with a sign, of at most 64 bits, under an order.
+fn expect_signed(rt: &impl Abort, alloc: Global, order: Order) {
+    expect_type::<i8>(rt, alloc, (8, true), order);
+    expect_type::<i16>(rt, alloc, (16, true), order);
+    expect_type::<i32>(rt, alloc, (32, true), order);
+    expect_type::<i64>(rt, alloc, (64, true), order);
 }
 
 #[test]
-fn unsigned_of_128_bits(rt: HostRuntime) {
-    expect_type::<u128>(&rt, rt.alloc(), (128, false));
+fn unsigned_up_to_64_bits_in_msb0(rt: HostRuntime) {
+    expect_unsigned(&rt, rt.alloc(), Msb0);
 }
 
 #[test]
-fn signed_up_to_64_bits(rt: HostRuntime) {
-    expect_type::<i8>(&rt, rt.alloc(), (8, true));
-    expect_type::<i16>(&rt, rt.alloc(), (16, true));
-    expect_type::<i32>(&rt, rt.alloc(), (32, true));
-    expect_type::<i64>(&rt, rt.alloc(), (64, true));
+fn unsigned_up_to_64_bits_in_lsb0(rt: HostRuntime) {
+    expect_unsigned(&rt, rt.alloc(), Lsb0);
 }
 
 #[test]
-fn signed_of_128_bits(rt: HostRuntime) {
-    expect_type::<i128>(&rt, rt.alloc(), (128, true));
+fn unsigned_of_128_bits_in_msb0(rt: HostRuntime) {
+    expect_type::<u128>(&rt, rt.alloc(), (128, false), Msb0);
+}
+
+#[test]
+fn unsigned_of_128_bits_in_lsb0(rt: HostRuntime) {
+    expect_type::<u128>(&rt, rt.alloc(), (128, false), Lsb0);
+}
+
+#[test]
+fn signed_up_to_64_bits_in_msb0(rt: HostRuntime) {
+    expect_signed(&rt, rt.alloc(), Msb0);
+}
+
+#[test]
+fn signed_up_to_64_bits_in_lsb0(rt: HostRuntime) {
+    expect_signed(&rt, rt.alloc(), Lsb0);
+}
+
+#[test]
+fn signed_of_128_bits_in_msb0(rt: HostRuntime) {
+    expect_type::<i128>(&rt, rt.alloc(), (128, true), Msb0);
+}
+
+#[test]
+fn signed_of_128_bits_in_lsb0(rt: HostRuntime) {
+    expect_type::<i128>(&rt, rt.alloc(), (128, true), Lsb0);
 }

@@ -1,4 +1,5 @@
 -- Reads that cannot but answer one of some values, one after the other.
+pub use Rattle.deku.proofs.Exact.{ok_is}
 use Rattle.std.proofs.Common.{◌≡◌, ℕ, false, Option, Some, Result, Ok, Err, refl, ap, ◌∙◌, inl, inr}
 use Rattle.std.specs.declared.io.ErrorKind.TheVariants.{OutOfMemory}
 use Rattle.deku_bits.specs.declared.error.DekuError.{DekuError}
@@ -8,9 +9,6 @@ use Rattle.deku_bits.specs.Standings.{Standing, Going}
 use Rattle.deku_bits.specs.Outcomes.{Meaning, Mapped, Value, Refusal}
 use Rattle.deku.specs.Composing.{Answer, Answered, Then, Second, First}
 use Rattle.deku_pieces.specs.Symmetric.{Answers}
-
-pub ok_is : {V E : Type 0} (v x : V) → ◌≡◌ {A = Result V E} (Ok v) (Ok x) → v ≡ x
-ok_is v x e = cc
 
 -- a value is no refusal
 pub no_refusal : {V E : Type 0} (v : V) (e : E) → ◌≡◌ {A = Result V E} (Ok v) (Err e) → ⊥

@@ -1,4 +1,4 @@
-//! When reading and writing a type are symmetric: the definitions, the laws of what is made of symmetric parts, and whole values under a context.
+//! When reading and writing a type are symmetric: the definitions, the laws of what is made of symmetric parts, and whole values that are read under a context.
 #![tactic(auto)]
 
 pub mod asserted;
@@ -14,4 +14,4 @@ pub use choice::{Choice, LsbTagged, MsbTagged, Named, Only, Tagged};
 pub use fixed::{Constant, Fixed};
 pub use led::{Counts, Led, write_led};
 pub use scattered::{high_bits, low_bits};
-pub use whole::{padded_bytes, read_whole};
+pub use whole::read_whole;

@@ -11,6 +11,6 @@ returns g c =
     let t = g.W.Sink.told c.args.sink.now in
     let after = g.W.Sink.told c.write_padded.new.writer.sink.now in
     let u = c.write_padded.new.writer.state in
-    let meant = Both (g.T.DekuWriter.meaning c.args.value.now tt) Finalizes in
+    let meant = Both (g.T.DekuWriter.meaning c.args.value.now c.args.ctx) Finalizes in
     let is = c.sink-1.given.1 (lender_stays meant t after _ _ (Going Nothing 0) c.write_padded.result u m) in
     (u, rw is (lent_through meant t after _ _ (Going Nothing 0) c.write_padded.result u m))

@@ -1,7 +1,8 @@
 use Rattle.std.proofs.Common.{◌≡◌, ◌+◌, length, ap, refl, inr, ◌∙◌, arith, rules}
 use Rattle.std.proofs.lemmas.List.{length-set}
 use Rattle.deku_fields.proofs.Resting.{rests, rests_in, rests_on, field_going}
-use Rattle.deku_fields.proofs.Stepping.{early_on, started, field_read, field_refused, fields_read}
+use Rattle.deku.proofs.Early.{early_on}
+use Rattle.deku_fields.proofs.Stepping.{started, field_read, field_refused, fields_read}
 use Rattle.deku_fields.proofs.ReadBack.{fields_back, left_behind}
 use Rattle.deku_fields.proofs.Finding.{finds_any}
 use Rattle.deku_fields.proofs.Fetching.{tally_none, tally_more, tally_whole}

@@ -1,8 +1,9 @@
 use Rattle.std.proofs.Common.{◌≡◌, ◌++◌, ◌∷◌, arith, None, Some, Option, Bor, List, ℕ, subst, sym}
+use Rattle.std.proofs.lemmas.Option.{same_Some}
 use Rattle.std.proofs.lemmas.Str.Pattern.{split_after, split_parts}
 use Rattle.deku_fields.specs.declared.list.Field.{Field}
 use Rattle.deku_fields.specs.Naming.{NamesNumber}
-use Rattle.deku_fields.proofs.NamedItems.{no_item, item_parts, not_named, one_item, CutsAt, some_is, none_is}
+use Rattle.deku_fields.proofs.NamedItems.{no_item, item_parts, not_named, one_item, CutsAt, none_is}
 use Rattle.deku_fields.proofs.words.parse_item.Goals as goal
 
 pub returns-in_err-field : goal.returns-in_err-field
@@ -25,7 +26,7 @@ returns-in_err-value c =
     let value = c.in_ok-field.value.now in
     not_named word _ c.from_residual-in_err-value.ensures (λ i n.
     let p = item_parts word _ _ cuts i n in
-    let same : c.in_ok-field-2.field ≡ i.field = some_is ((c.in_ok-field-2.ensures i.field).1 p.0) in
+    let same : c.in_ok-field-2.field ≡ i.field = same_Some _ _ ((c.in_ok-field-2.ensures i.field).1 p.0) in
     c.in_err-value.ensures i.value (subst (λ (f : Field). NamesNumber f.kind value i.value) (sym same) p.1))
 
 pub returns : goal.returns

@@ -1,15 +1,5 @@
-use Rattle.std.proofs.Common.{refl, ap, ◌∙◌, None}
-use Rattle.deku_bits.proofs.Handing.{unbroken}
-use Rattle.deku.proofs.Containers.{starts_empty, padded_from, refused_from, taken_before, items_in, steady, tells}
+use Rattle.std.proofs.Common.{rules}
 use Rattle.deku.proofs.container.DekuContainerWrite.to_bytes.Goals as goal
 
-pub returns-in-Ok : goal.returns-in-Ok
-returns-in-Ok g c =
-    let begin = starts_empty _ _ (steady None) _ c.new-cursor.ensures.position (ap items_in c.new-cursor.ensures.inner ∙ c.new.ensures.items) refl in
-    let w = padded_from (g.Self.DekuWriter.meaning c.args.self.now tt) _ _ (tells c.write_whole.new.sink) c.in-Ok.ensures.0 begin (unbroken refl refl c.in-Ok.ensures.1) in
-    (w.0, w.1, w.2, taken_before _ _ _ _ w.3 c.taken_bytes.ensures)
-
-pub returns-in-Err : goal.returns-in-Err
-returns-in-Err g c =
-    let begin = starts_empty _ _ (steady None) _ c.new-cursor.ensures.position (ap items_in c.new-cursor.ensures.inner ∙ c.new.ensures.items) refl in
-    refused_from (g.Self.DekuWriter.meaning c.args.self.now tt) _ _ c.in-Err.refusal _ begin (unbroken refl refl c.in-Err.ensures.1)
+pub returns : goal.returns
+returns g c = search rules

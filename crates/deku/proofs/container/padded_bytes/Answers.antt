@@ -1,7 +1,7 @@
 use Rattle.std.proofs.Common.{refl, ap, ◌∙◌, None}
 use Rattle.deku_bits.proofs.Handing.{unbroken}
 use Rattle.deku.proofs.Containers.{starts_empty, padded_from, refused_from, taken_before, items_in, steady, tells}
-use Rattle.deku_pieces.proofs.whole.padded_bytes.Goals as goal
+use Rattle.deku.proofs.container.padded_bytes.Goals as goal
 
 pub returns-in-Ok : goal.returns-in-Ok
 returns-in-Ok g c =
