@@ -2,7 +2,7 @@
 use Rattle.std.proofs.Common.{ℕ, zero, suc, ◌+◌, ◌*◌, ◌-◌, ◌%◌, ◌<◌, ◌≤◌, ◌≡◌, ◌⊎◌, Bool, false, cond, List, [], ◌∷◌, ◌++◌, length, map, take, drop, get_or, All, Some, refl, ap, sym, ◌∙◌, subst, ⊎_elim, arith, append_assoc, append-nil, length-append, length-drop, length-take-le, take-append-drop}
 use Rattle.std.specs.List.{slice_get, flat_map}
 use Rattle.std.proofs.lemmas.Option.{same_Some}
-use Rattle.std.proofs.lemmas.List.{length-reverse, reverse-reverse, nil_from_length, drop-drop, drop-append-le, drop_at, get_or-take, get_or-drop, take_all}
+use Rattle.std.proofs.lemmas.List.{nil_from_length, drop-drop, drop-append-le, drop_at, get_or-take, get_or-drop, take_all}
 use Rattle.std.proofs.lemmas.List.Concat.{flat_map-append}
 use Rattle.std.proofs.lemmas.List.Elements.{All-nil, All-cons, All-append}
 use Rattle.deku_bits.specs.declared.ctx.Order.{Order}

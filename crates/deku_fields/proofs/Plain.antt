@@ -19,8 +19,6 @@ use Rattle.deku_num.specs.NumberCalls.{WritesNumber, Passed}
 use Rattle.deku_num.proofs.Chunked.{listed}
 use Rattle.deku_num.proofs.Turned.{word_is}
 use Rattle.deku_num.proofs.Carrying.{high_in, unsigned_in_type, unsigned_worth, number_read}
-use Rattle.deku_fields.specs.declared.list.Kind.{Kind}
-use Rattle.deku_fields.specs.declared.list.Kind.TheVariants.{U8, U16, U32, U64, U128, Usize, I8, I16, I32, I64, I128, Isize}
 use Rattle.deku_fields.specs.declared.list.Number.TheVariants.{Unsigned}
 use Rattle.deku_fields.specs.declared.list.Item.{Item}
 use Rattle.deku_fields.specs.declared.list.Field.{Field}

@@ -1,7 +1,7 @@
 -- One bit of bytes as they are printed.
-use Rattle.std.proofs.Common.{ℕ, zero, suc, ◌+◌, ◌*◌, ◌-◌, ◌/◌, ◌%◌, ◌^◌, ◌<◌, ◌≤◌, ◌≡◌, Bool, false, cond, eqb, List, [], ◌∷◌, reverse, length, take, get_or, replicate, refl, ap, ap₂, sym, ◌∙◌, subst, ⊎_elim, arith, length-append, length-take-le, mod-lt}
+use Rattle.std.proofs.Common.{ℕ, zero, suc, ◌+◌, ◌*◌, ◌-◌, ◌/◌, ◌%◌, ◌^◌, ◌<◌, ◌≤◌, ◌≡◌, Bool, false, cond, eqb, List, [], ◌∷◌, reverse, length, take, get_or, replicate, refl, ap, ap₂, sym, ◌∙◌, subst, ⊎_elim, arith, length-take-le, mod-lt}
 use Rattle.std.proofs.lemmas.Bool.{cases_lt}
-use Rattle.std.proofs.lemmas.List.{length-reverse, length-replicate, get_or-reverse, get_or_append_left, get_or-append_right, get_or-replicate}
+use Rattle.std.proofs.lemmas.List.{length-reverse, get_or-reverse, get_or_append_left, get_or-append_right, get_or-replicate}
 use Rattle.deku_bits.specs.declared.ctx.Order.{Order}
 use Rattle.deku_bits.specs.declared.ctx.Order.TheVariants.{Msb0, Lsb0}
 use Rattle.deku_bits.specs.Bits.{bits_of, byte_bits, facing, group_number}

@@ -1,12 +1,11 @@
 -- Lists of fields and items, one after the other: what is known on the way.
-use Rattle.std.proofs.Common.{◌≡◌, ℕ, ◌+◌, ◌<◌, ◌≤◌, Bool, true, false, inl, inr, Result, Ok, Err, Option, List, [], ◌∷◌, ◌++◌, length, get_or, set, take, drop, ℤ, pos, refl, ap, sym, ◌∙◌, subst, append_assoc, append-nil}
+use Rattle.std.proofs.Common.{◌≡◌, ℕ, ◌+◌, ◌<◌, ◌≤◌, true, false, Result, Ok, Err, Option, List, [], ◌∷◌, ◌++◌, length, get_or, set, take, drop, ℤ, pos, refl, ap, sym, ◌∙◌, subst, append_assoc, append-nil}
 use Rattle.std.proofs.lemmas.List.{drop_more, drop_all, take_all, take_more_set}
 use Rattle.deku_bits.specs.declared.error.DekuError.{DekuError}
 use Rattle.deku_bits.specs.Streams.{Stream}
 use Rattle.deku_bits.specs.Devices.{Health}
 use Rattle.deku_bits.specs.Standings.{Standing, Output}
 use Rattle.deku_bits.specs.Outcomes.{Meaning, Outcome, Mapped}
-use Rattle.deku_bits.specs.ReaderCalls.{NoneEarly}
 use Rattle.deku_bits.proofs.Handing.{mapped_ok, mapped_err, weaker}
 use Rattle.deku_num.specs.declared.kind.NumberType.{NumberType}
 use Rattle.deku_num.specs.NumberCalls.{ReadsNumber, WritesNumber, Passed}

@@ -1,5 +1,5 @@
 use Rattle.std.proofs.lemmas.Grind.{common_steps}
-use Rattle.std.proofs.Common.{rules, tests, arith}
+use Rattle.std.proofs.Common.{rules, arith}
 use Rattle.deku_fields.proofs.input.without_newline.Goals as goal
 
 pub overflow_sub-text : goal.overflow_sub-text
