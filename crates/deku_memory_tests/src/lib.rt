@@ -9,6 +9,10 @@ mod expecting;
 #[cfg(test)]
 mod fields;
 #[cfg(test)]
+mod programs;
+#[cfg(test)]
+mod symmetric;
+#[cfg(test)]
 mod texts;
 #[cfg(test)]
 mod values;

@@ -1,0 +1,125 @@
+//! Runs of `fields` and `layout`: where no memory is found a run ends with 1 and says so, and its output is as it was.
+
+use crate::expecting::same;
+use deku_picture::{Cell, rows};
+use std::alloc::{AllocError, Global};
+use std::io::Cursor;
+use std::process::Abort;
+use std::test::Fail;
+
+const NOTHING: &[u8] = &[];
+
+const NO_MEMORY: &[u8] = b"error: io errorr: OutOfMemory\n";
+
+const MINUS_TWO: &str = " byte 0          byte 1
+ 7 6 5 4 3 2 1 0 7 6 5 4 3 2 1 0
++-------------------------------+
+|              f1               |
+|             15..0             |
+|1 1 1 1 1 1 1 1 1 1 1 1 1 1 1 0|
++-------------------------------+
+
+f1 i32,big,bytes2 -2
+";
+
+// Room for what a run prints, and for what it tells.
+const PAGE: usize = 512;
+
+// A cell of padding.
+fn padding(width: usize) -> Cell {
+    Cell { first: None, width }
+}
+
+// Words as arguments.
+fn arguments(alloc: Global, words: &[&str]) -> Result<Vec<String>, AllocError> {
+    let mut args: Vec<String> = Vec::new(alloc);
+    for word in words {
+        args.push(String::from_str(alloc, word)?)?;
+    }
+    Ok(args)
+}
+
+// A run's status, output and complaints: it gave all of the text, or it found no memory, and then gave nothing.
+fn expect_end(rt: &impl Abort, words: &[&str], seen: (u8, &[u8], &[u8]), text: &str) {
+    match seen {
+        (0, given, told) => same(rt, &words, &(given, told), &(text.as_bytes(), NOTHING)),
+        _ => same(rt, &words, &seen, &(1, NOTHING, NO_MEMORY)),
+    }
+}
+
+// The program `fields`, run on words over an input.
+fn expect_fields(
+    rt: &impl Abort,
+    alloc: Global,
+    words: &[&str],
+    input: &str,
+    text: &str,
+) -> Result<(), Fail> {
+    let args = arguments(alloc, words)?;
+    let (mut page, mut complaints) = ([0; PAGE], [0; PAGE]);
+    let mut output = Cursor::new(page.as_mut_slice());
+    let mut errors = Cursor::new(complaints.as_mut_slice());
+    let mut bytes = input.as_bytes();
+    let status = deku_fields::run(alloc, args.as_slice(), &mut bytes, &mut output, &mut errors);
+    let (given, told) = (output.position() as usize, errors.position() as usize);
+    assert!(rt; given <= PAGE && told <= PAGE);
+    expect_end(
+        rt,
+        words,
+        (status, &page[..given], &complaints[..told]),
+        text,
+    );
+    Ok(())
+}
+
+// The program `layout`, run on words.
+fn expect_layout(rt: &impl Abort, alloc: Global, words: &[&str], text: &str) -> Result<(), Fail> {
+    let args = arguments(alloc, words)?;
+    let (mut page, mut complaints) = ([0; PAGE], [0; PAGE]);
+    let mut output = Cursor::new(page.as_mut_slice());
+    let mut errors = Cursor::new(complaints.as_mut_slice());
+    let status = deku_picture::run(alloc, args.as_slice(), &mut output, &mut errors);
+    let (given, told) = (output.position() as usize, errors.position() as usize);
+    assert!(rt; given <= PAGE && told <= PAGE);
+    expect_end(
+        rt,
+        words,
+        (status, &page[..given], &complaints[..told]),
+        text,
+    );
+    Ok(())
+}
+
+#[test]
+fn writes_or_no_memory(rt: HostRuntime) -> Result<(), Fail> {
+    let words = ["write", "u8,big,bits4=6", "u8,big,bits4=9", "u16,big=49406"];
+    expect_fields(&rt, rt.alloc(), &words, "", "69c0fe\n")
+}
+
+#[test]
+fn reads_or_no_memory(rt: HostRuntime) -> Result<(), Fail> {
+    let words = ["read", "u8,big,bits4", "u8,big,bits4", "u16,big"];
+    expect_fields(
+        &rt,
+        rt.alloc(),
+        &words,
+        "69c0fe\n",
+        "6\n9\n49406\nbits 24\n",
+    )
+}
+
+#[test]
+fn draws_or_no_memory(rt: HostRuntime) -> Result<(), Fail> {
+    let words = ["--bytes", "fffe", "i32,big,bytes2"];
+    expect_layout(&rt, rt.alloc(), &words, MINUS_TWO)
+}
+
+// Rows and cells have no other refusal, so it is handed on.
+#[test]
+fn rows_or_no_memory(rt: HostRuntime) -> Result<(), Fail> {
+    let seen = rows(rt.alloc(), &[None; 40])?;
+    assert_eq!(rt; seen.len(), 2);
+    assert_eq!(rt; seen[0].as_slice(), [padding(32)].as_slice());
+    assert_eq!(rt; seen[1].as_slice(), [padding(8)].as_slice());
+    Ok(())
+}
