@@ -47,71 +47,70 @@ fn expect_end(rt: &impl Abort, words: &[&str], seen: (u8, &[u8], &[u8]), text: &
     }
 }
 
-// The program `fields`, run on words over an input.
-fn expect_fields(
+// A program that is run.
+#[derive(Clone, Copy)]
+enum Program {
+    // `fields`, over this input.
+    Fields(&'static str),
+    Layout,
+}
+
+impl Program {
+    // The status of a run.
+    fn run(
+        &self,
+        alloc: Global,
+        args: &[String],
+        output: &mut Cursor<&mut [u8]>,
+        errors: &mut Cursor<&mut [u8]>,
+    ) -> u8 {
+        match self {
+            Program::Fields(input) => {
+                let mut bytes = input.as_bytes();
+                deku_fields::run(alloc, args, &mut bytes, output, errors)
+            }
+            Program::Layout => deku_picture::run(alloc, args, output, errors),
+        }
+    }
+}
+
+// The program, run on words, gives this text, or there was no memory for it.
+fn expect_run(
     rt: &impl Abort,
     alloc: Global,
+    program: Program,
     words: &[&str],
-    input: &str,
     text: &str,
 ) -> Result<(), Fail> {
     let args = arguments(alloc, words)?;
     let (mut page, mut complaints) = ([0; PAGE], [0; PAGE]);
     let mut output = Cursor::new(page.as_mut_slice());
     let mut errors = Cursor::new(complaints.as_mut_slice());
-    let mut bytes = input.as_bytes();
-    let status = deku_fields::run(alloc, args.as_slice(), &mut bytes, &mut output, &mut errors);
+    let status = program.run(alloc, args.as_slice(), &mut output, &mut errors);
     let (given, told) = (output.position() as usize, errors.position() as usize);
     assert!(rt; given <= PAGE && told <= PAGE);
-    expect_end(
-        rt,
-        words,
-        (status, &page[..given], &complaints[..told]),
-        text,
-    );
-    Ok(())
-}
-
-// The program `layout`, run on words.
-fn expect_layout(rt: &impl Abort, alloc: Global, words: &[&str], text: &str) -> Result<(), Fail> {
-    let args = arguments(alloc, words)?;
-    let (mut page, mut complaints) = ([0; PAGE], [0; PAGE]);
-    let mut output = Cursor::new(page.as_mut_slice());
-    let mut errors = Cursor::new(complaints.as_mut_slice());
-    let status = deku_picture::run(alloc, args.as_slice(), &mut output, &mut errors);
-    let (given, told) = (output.position() as usize, errors.position() as usize);
-    assert!(rt; given <= PAGE && told <= PAGE);
-    expect_end(
-        rt,
-        words,
-        (status, &page[..given], &complaints[..told]),
-        text,
-    );
+    let seen = (status, &page[..given], &complaints[..told]);
+    expect_end(rt, words, seen, text);
     Ok(())
 }
 
 #[test]
 fn writes_or_no_memory(rt: HostRuntime) -> Result<(), Fail> {
     let words = ["write", "u8,big,bits4=6", "u8,big,bits4=9", "u16,big=49406"];
-    expect_fields(&rt, rt.alloc(), &words, "", "69c0fe\n")
+    expect_run(&rt, rt.alloc(), Program::Fields(""), &words, "69c0fe\n")
 }
 
 #[test]
 fn reads_or_no_memory(rt: HostRuntime) -> Result<(), Fail> {
+    let fields = Program::Fields("69c0fe\n");
     let words = ["read", "u8,big,bits4", "u8,big,bits4", "u16,big"];
-    expect_fields(
-        &rt,
-        rt.alloc(),
-        &words,
-        "69c0fe\n",
-        "6\n9\n49406\nbits 24\n",
-    )
+    expect_run(&rt, rt.alloc(), fields, &words, "6\n9\n49406\nbits 24\n")
 }
 
 #[test]
 fn draws_or_no_memory(rt: HostRuntime) -> Result<(), Fail> {
     let words = ["--bytes", "fffe", "i32,big,bytes2"];
-    expect_layout(&rt, rt.alloc(), &words, MINUS_TWO)
+    expect_run(&rt, rt.alloc(), Program::Layout, &words, MINUS_TWO)
 }
 
 // Rows and cells have no other refusal, so it is handed on.
