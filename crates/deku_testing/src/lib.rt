@@ -1,0 +1,4 @@
+//! What crates of tests share: slow models, numbers without a pattern, and runners of tables.
+#![tactic(auto)]
+
+pub mod random;
