@@ -1,16 +1,14 @@
-//! Fields as lists of truth values, as they are defined: slow, and with nothing of the library's but the names of types and layouts.
+//! Numbers as lists of truth values, as they are defined: slow, with nothing of the library's but the names of types and layouts.
 //!
 //! Values are numbers modulo two to the power of 128, so that those below zero have a place beside those without a sign.
 
+use crate::bits::{group_number, word_of};
 use deku_bits::error::DekuError;
 use deku_num::ctx::{Endian, Layout, Order, Size};
 use deku_num::kind::NumberType;
 
 /// The most bits of a field.
 pub const MOST: usize = 128;
-
-/// The bytes that a field takes at most, with those bits of its first byte that lie in front of it.
-pub const PAGE: usize = 17;
 
 /// Two to the power of n.
 pub fn two_to(n: usize) -> u128 {
@@ -19,31 +17,6 @@ pub fn two_to(n: usize) -> u128 {
         power = power.wrapping_add(power);
     }
     power
-}
-
-// ---- what a list is worth
-// The number of a list whose first bit counts highest in `Msb0`, and whose last one does in `Lsb0`.
-fn group_number(order: Order, bits: &[bool]) -> u128 {
-    let mut number: u128 = 0;
-    for i in 0..bits.len() {
-        let bit = match order {
-            Order::Msb0 => bits[i],
-            Order::Lsb0 => bits[bits.len() - 1 - i],
-        };
-        number = number.wrapping_add(number).wrapping_add(bit as u128);
-    }
-    number
-}
-
-// The first group of eight counts once, each further one 256 times as much.
-fn little(order: Order, bits: &[bool]) -> u128 {
-    let mut number: u128 = 0;
-    let mut weight: u128 = 1;
-    for group in bits.chunks(8) {
-        number = number.wrapping_add(group_number(order, group).wrapping_mul(weight));
-        weight = weight.wrapping_mul(256);
-    }
-    number
 }
 
 // The last group of eight counts once, each earlier one 256 times as much.
@@ -60,7 +33,7 @@ fn big(order: Order, bits: &[bool]) -> u128 {
 /// The number of a list of bits, without a sign.
 pub fn number(endian: Endian, order: Order, bits: &[bool]) -> u128 {
     match (endian, order) {
-        (Endian::Little, _) => little(order, bits),
+        (Endian::Little, _) => word_of(order, bits),
         (Endian::Big, Order::Msb0) => group_number(Order::Msb0, bits),
         (Endian::Big, Order::Lsb0) => big(Order::Lsb0, bits),
     }
@@ -75,8 +48,7 @@ pub fn worth(signed: bool, endian: Endian, order: Order, bits: &[bool]) -> u128 
     number.wrapping_sub(two_to(bits.len()))
 }
 
-// ---- the list of a number
-/// What each bit of a list of the width counts: the number of the list in which it alone is set. Behind the width it counts nothing.
+/// What each bit of a list of the width counts: the number of the list in which it alone is set. After the width it counts nothing.
 pub fn weights(endian: Endian, order: Order, width: usize) -> [u128; MOST] {
     let mut weights = [0; MOST];
     let mut bits = [false; MOST];
@@ -100,7 +72,6 @@ pub fn list_of(number: u128, weights: &[u128; MOST]) -> [bool; MOST] {
     bits
 }
 
-// ---- widths and refusals
 /// The bits of the type, the bit size, or eight times the byte size, which is one for a type that takes any byte size as one.
 pub fn width(number_type: NumberType, size: Size) -> usize {
     match size {
@@ -141,39 +112,4 @@ pub fn refused_to_write(number_type: NumberType, layout: Layout) -> Option<DekuE
         });
     }
     refused_to_read(number_type, layout)
-}
-
-// ---- streams
-/// The bytes of a front and then a list, and of one bit again and again behind them. A byte's bits are met from the highest down in `Msb0`,
-/// and from the lowest up in `Lsb0`.
-pub fn bytes_of(order: Order, front: &[bool], list: &[bool], behind: bool) -> [u8; PAGE] {
-    let mut bytes = [0; PAGE];
-    for i in 0..8 * PAGE {
-        let bit = if i < front.len() {
-            front[i]
-        } else if i - front.len() < list.len() {
-            list[i - front.len()]
-        } else {
-            behind
-        };
-        if bit {
-            bytes[i / 8] |= match order {
-                Order::Msb0 => 0x80 >> (i % 8),
-                Order::Lsb0 => 1 << (i % 8),
-            };
-        }
-    }
-    bytes
-}
-
-/// A list of fewer than eight bits as a read shows it: reversed in `Lsb0`.
-pub fn shown(order: Order, list: &[bool]) -> [bool; 8] {
-    let mut bits = [false; 8];
-    for i in 0..list.len().min(8) {
-        bits[i] = match order {
-            Order::Msb0 => list[i],
-            Order::Lsb0 => list[list.len() - 1 - i],
-        };
-    }
-    bits
 }
