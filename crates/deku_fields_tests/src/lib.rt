@@ -14,6 +14,4 @@ mod list;
 #[cfg(test)]
 mod picture;
 #[cfg(test)]
-mod program;
-#[cfg(test)]
 mod words;

@@ -18,17 +18,11 @@ use deku_fields::{
     Field, Item, Kind, Number, list_from_bytes, list_to_bytes, read_list, read_list_into,
     write_list,
 };
+use deku_testing::expecting::{MISFIT, NO_MEMORY, reader_of, same};
 use std::alloc::Global;
-use std::fmt::Debug;
 use std::io::{Cursor, ErrorKind};
 use std::process::Abort;
 use std::test::Fail;
-
-const NO_MEMORY: DekuError = DekuError::Io(ErrorKind::OutOfMemory);
-
-const MISFIT: DekuError = DekuError::InvalidParam(
-    "bit size of input is larger than requested size",
-);
 
 const TOO_WIDE: DekuError = DekuError::InvalidParam("bit size is larger than input");
 
@@ -43,17 +37,7 @@ struct Sample<'n, 'i, 'b> {
     bits: usize,
 }
 
-// What was seen is what was wanted, in the row of that name.
-fn same<T: PartialEq + Debug>(rt: &impl Abort, name: &str, seen: &T, want: &T) {
-    assert!(rt; *seen == *want, "{name}: {seen:?}, and not {want:?}");
-}
-
 // ---- single calls
-// A reader of these bytes.
-fn reader_of<'b>(alloc: Global, bytes: &'b [u8]) -> Reader<Cursor<&'b [u8]>> {
-    Reader::new(alloc, Cursor::new(bytes))
-}
-
 // Whether the end is reached.
 fn ends(reader: &mut Reader<Cursor<&[u8]>>) -> Result<bool, DekuError> {
     reader.end()
@@ -115,16 +99,13 @@ fn write_over(items: &[Item], all: &mut [u8]) -> Result<(), DekuError>
 
 // ---- lists that are read and written
 // The items are written as the bytes, by each of the calls.
-fn expect_written(rt: &impl Abort, alloc: Global, sample: &Sample) -> Result<(), Fail> {
-    let name = sample.name;
+fn expect_written(alloc: Global, sample: &Sample) -> Result<(), Fail> {
     let written = list_to_bytes(alloc, sample.items)?;
-    same(rt, name, &written.as_slice(), &sample.bytes);
     let mut page = [0u8; MOST];
-    assert!(rt; sample.bytes.len() <= page.len());
-    let (over, _) = page.split_at_mut(sample.bytes.len());
-    same(rt, name, &write_over(sample.items, over), &Ok(()));
-    assert!(rt; page.starts_with(sample.bytes), "{name}");
-    Ok(())
+    let (over, _) = page.split_at_mut(sample.bytes.len().min(MOST));
+    let answer = write_over(sample.items, over);
+    let seen = (written.as_slice(), answer, &*over);
+    same(&sample.name, &seen, &(sample.bytes, Ok(()), sample.bytes))
 }
 
 // Their fields read their values from the bytes, by each of the calls.
@@ -133,21 +114,15 @@ fn expect_read(rt: &impl Abort, alloc: Global, sample: &Sample) -> Result<(), Fa
     assert!(rt; count <= MOST);
     let (all_fields, all_values) = (fields_of(sample.items), values_of(sample.items));
     let (fields, values) = (&all_fields[..count], &all_values[..count]);
-    let (bits, numbers) = list_from_bytes(alloc, sample.bytes, fields)?;
-    same(
-        rt,
-        name,
-        &(bits, numbers.as_slice()),
-        &(sample.bits, values),
-    );
+    let (bits, whole) = list_from_bytes(alloc, sample.bytes, fields)?;
     let mut reader = reader_of(alloc, sample.bytes);
-    let numbers = read_list(&mut reader, fields)?;
-    let seen = (numbers.as_slice(), reader.bits_read());
-    same(rt, name, &seen, &(values, sample.bits));
+    let list = read_list(&mut reader, fields)?;
     let mut out = [NONE_YET; MOST];
-    let read = read_from(alloc, sample.bytes, fields, &mut out[..count]);
-    same(rt, name, &(read, out), &(Ok(()), all_values));
-    Ok(())
+    read_from(alloc, sample.bytes, fields, &mut out[..count])?;
+    let seen = (whole.as_slice(), bits, list.as_slice(), reader.bits_read());
+    let wanted = (values, sample.bits, values, sample.bits);
+    let wanted = (wanted, all_values.as_slice());
+    same(&name, &(seen, out.as_slice()), &wanted)
 }
 
 // A field is read, behind a look whether the end is reached.
@@ -160,13 +135,13 @@ fn expect_item(rt: &impl Abort, name: &str, reader: &mut Reader<Cursor<&[u8]>>, 
 }
 
 // The fields are read one by one.
-fn expect_each(rt: &impl Abort, alloc: Global, sample: &Sample) {
+fn expect_each(rt: &impl Abort, alloc: Global, sample: &Sample) -> Result<(), Fail> {
     let mut reader = reader_of(alloc, sample.bytes);
     for item in sample.items {
         expect_item(rt, sample.name, &mut reader, item);
     }
     let seen = (ends(&mut reader), reader.bits_read());
-    same(rt, sample.name, &seen, &(Ok(true), sample.bits));
+    same(&sample.name, &seen, &(Ok(true), sample.bits))
 }
 
 // The items are written in two calls as in one.
@@ -257,9 +232,9 @@ fn read_cut(
 
 // A list in each of these ways, cut between any two items.
 fn expect_all(rt: &impl Abort, alloc: Global, sample: &Sample) -> Result<(), Fail> {
-    expect_written(rt, alloc, sample)?;
+    expect_written(alloc, sample)?;
     expect_read(rt, alloc, sample)?;
-    expect_each(rt, alloc, sample);
+    expect_each(rt, alloc, sample)?;
     for cut in 0..=sample.items.len() {
         expect_cut_written(rt, sample, cut);
         expect_cut_read(rt, alloc, sample, cut);
@@ -370,16 +345,15 @@ fn refuses_lists(rt: HostRuntime) -> Result<(), Fail> {
 }
 
 #[test]
-fn fills_a_slice(rt: HostRuntime) {
+fn fills_a_slice(_rt: HostRuntime) -> Result<(), Fail> {
     let full = Err(DekuError::Io(ErrorKind::WriteZero));
     let mut page = [0u8; 1];
     let mut writer = writer_over(page.as_mut_slice());
     let written = write_next(&mut writer, &halves_and_word());
     let bits = writer.bits_written();
     let ended = filled(&mut writer);
-    let seen = (written, bits, ended, writer.bits_written());
-    same(&rt, "a full slice", &seen, &(full, 8, full, 8));
-    same(&rt, "a full slice", &page, &[0x69]);
+    let seen = (written, bits, ended, writer.bits_written(), page);
+    same(&"a full slice", &seen, &(full, 8, full, 8, [0x69]))
 }
 
 // What the first of two calls that is refused answers, the bits written, and the last byte's filling.
@@ -410,47 +384,4 @@ fn refuses_cut_lists(rt: HostRuntime) {
         let want = (Err(MISFIT), 0, Ok(()), [0x60]);
         assert!(rt; seen == want, "cut at {cut}: {seen:?}");
     }
-}
-
-// ---- where a request for memory may be refused
-#[test]
-fn reads_a_list_or_finds_no_memory(rt: HostRuntime) -> Result<(), Fail> {
-    let name = "a word inside";
-    let items = word_inside();
-    let (fields, values) = (fields_of(&items), values_of(&items));
-    let (three, three_values) = (&fields[..3], &values[..3]);
-    let bytes = [0xA1, 0x34, 0x12];
-    let mut reader = reader_of(rt.alloc(), &bytes);
-    match read_list(&mut reader, three) {
-        Ok(numbers) => same(&rt, name, &numbers.as_slice(), &three_values),
-        Err(refusal) => {
-            same(&rt, name, &(refusal, reader.bits_read()), &(NO_MEMORY, 0));
-            let mut out = [NONE_YET; MOST];
-            let read = read_into(&rt, &mut reader, three, &mut out[..3]);
-            same(&rt, name, &(read, out), &(Ok(()), values));
-        }
-    }
-    same(&rt, name, &reader.bits_read(), &24);
-    Ok(())
-}
-
-#[test]
-fn turns_lists_into_bytes_or_finds_no_memory(rt: HostRuntime) -> Result<(), Fail> {
-    let name = "halves and a word";
-    let items = halves_and_word();
-    let (fields, values) = (fields_of(&items), values_of(&items));
-    let (three, three_values) = (&fields[..3], &values[..3]);
-    let bytes = [0x69, 0xBE, 0xEF];
-    match list_to_bytes(rt.alloc(), &items) {
-        Ok(written) => same(&rt, name, &written.as_slice(), &bytes.as_slice()),
-        Err(refusal) => same(&rt, name, &refusal, &NO_MEMORY),
-    }
-    match list_from_bytes(rt.alloc(), &bytes, three) {
-        Ok((count, numbers)) => {
-            same(&rt, name, &count, &24);
-            same(&rt, name, &numbers.as_slice(), &three_values);
-        }
-        Err(refusal) => same(&rt, name, &refusal, &NO_MEMORY),
-    }
-    Ok(())
 }

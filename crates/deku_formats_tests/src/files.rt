@@ -1,8 +1,8 @@
 //! The first bytes of files.
 
-use crate::expecting::{expect_record, expect_refusal};
 use deku::prelude::DekuError;
 use deku_formats::png::Png;
+use deku_testing::records::{expect_record, expect_refusal};
 use std::test::Fail;
 
 // The signature and the first chunk of `collapsed-trait-impls.png` in the documentation of Rust 1.95; `file` prints 608 x 275, 8-bit/color RGB, non-interlaced.
@@ -23,11 +23,11 @@ fn a_picture(rt: HostRuntime) -> Result<(), Fail> {
         0x52, 0x00, 0x00, 0x02, 0x60, 0x00, 0x00, 0x01, 0x13, 0x08, 0x02, 0x00, 0x00, 0x00, 0x1E,
         0x57, 0x2D, 0x75,
     ];
-    expect_record(&rt, rt.alloc(), &png, &bytes)
+    expect_record(rt.alloc(), &png, &bytes)
 }
 
 #[test]
-fn refusals(rt: HostRuntime) {
+fn refusals(rt: HostRuntime) -> Result<(), Fail> {
     let signature = DekuError::Assertion("signature");
-    expect_refusal::<Png>(&rt, rt.alloc(), b"\x89PNG\n\x1A\n\0", signature, 64);
+    expect_refusal::<Png>(rt.alloc(), b"\x89PNG\n\x1A\n\0", signature, 64)
 }

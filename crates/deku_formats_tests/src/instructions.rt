@@ -1,6 +1,5 @@
 //! Instruction words as GNU as 2.40 for RISC-V (`-march=rv32i`) makes them, and what `objdump -d -M no-aliases,numeric` prints of each.
 
-use crate::expecting::{expect_record, expect_refusal};
 use deku::prelude::{DekuContainerWrite, DekuError};
 use deku_instructions::riscv::branch::Branch;
 use deku_instructions::riscv::immediate::Immediate;
@@ -9,6 +8,7 @@ use deku_instructions::riscv::jump::Jump;
 use deku_instructions::riscv::register::Register;
 use deku_instructions::riscv::store::Store;
 use deku_instructions::riscv::upper::Upper;
+use deku_testing::records::{expect_record, expect_refusal};
 use std::test::Fail;
 
 fn register(target: u8, first: u8, second: u8, variant: u8) -> Instruction {
@@ -71,7 +71,7 @@ fn words(rt: HostRuntime) -> Result<(), Fail> {
         (0x00100073, Instruction::System(immediate(0, 0, 0, 1))), // ebreak
     ];
     for (word, instruction) in rows {
-        expect_record(&rt, rt.alloc(), &instruction, &word.to_le_bytes())?;
+        expect_record(rt.alloc(), &instruction, &word.to_le_bytes())?;
     }
     Ok(())
 }
@@ -94,11 +94,12 @@ fn numbers(rt: HostRuntime) {
 
 // Words of a code that RV32I has not, as those of floating point: the reader stands behind the code.
 #[test]
-fn other_codes(rt: HostRuntime) {
+fn other_codes(rt: HostRuntime) -> Result<(), Fail> {
     for code in [0x00u8, 0x02, 0x07, 0x27, 0x2F, 0x53, 0x6B, 0x7F] {
         let bytes = [code, 0, 0, 0];
-        expect_refusal::<Instruction>(&rt, rt.alloc(), &bytes, DekuError::IdVariantNotFound, 7);
+        expect_refusal::<Instruction>(rt.alloc(), &bytes, DekuError::IdVariantNotFound, 7)?;
     }
+    Ok(())
 }
 
 // Numbers that no word holds.

@@ -1,12 +1,12 @@
 //! A question about a name, as glibc's resolver sent it to a server on the loopback device.
 
-use crate::expecting::{expect_record, expect_refusal};
 use deku::prelude::{DekuError, NeedSize};
 use deku_dns::header::Header;
 use deku_dns::label::Label;
 use deku_dns::query::Query;
 use deku_dns::question::Question;
 use deku_symmetry::{Ended, Symmetric};
+use deku_testing::records::{expect_record, expect_refusal};
 use std::alloc::Global;
 use std::test::Fail;
 
@@ -59,12 +59,12 @@ fn a_question(rt: HostRuntime) -> Result<(), Fail> {
             class: 1,
         },
     };
-    expect_record(&rt, rt.alloc(), &query, &QUERY)
+    expect_record(rt.alloc(), &query, &QUERY)
 }
 
 // A pointer in the place of a label, a length of 64, a name without its end, and one without its class; and what refuses them behind how many bits.
 #[test]
-fn names_refused(rt: HostRuntime) {
+fn names_refused(rt: HostRuntime) -> Result<(), Fail> {
     let no_label = DekuError::Parse("head without a count");
     let rows: [(&[u8], DekuError, usize); 4] = [
         (&[0x01, b'a', 0xC0, 0x0C], no_label, 24),
@@ -77,8 +77,9 @@ fn names_refused(rt: HostRuntime) {
         ),
     ];
     for (bytes, refusal, bits) in rows {
-        expect_refusal::<Question>(&rt, rt.alloc(), bytes, refusal, bits);
+        expect_refusal::<Question>(rt.alloc(), bytes, refusal, bits)?;
     }
+    Ok(())
 }
 
 // Labels that make no name: none, none that is empty, and an empty one before the last.

@@ -1,10 +1,10 @@
 //! The file header and the program headers of two files, both ways, and what is refused.
 
-use crate::expecting::{expect_record, expect_refusal};
 use deku::prelude::{DekuError, DekuReader, NeedSize, Reader};
 use deku_elf::fields::Fields;
 use deku_elf::segment::Segment;
 use deku_elf::{Elf, segments};
+use deku_testing::records::{expect_record, expect_refusal};
 use std::io::Cursor;
 use std::test::Fail;
 
@@ -92,7 +92,7 @@ fn file_headers(rt: HostRuntime) -> Result<(), Fail> {
         (Elf::Big(OBJECT_FIELDS), &OBJECT),
     ];
     for (elf, bytes) in rows {
-        expect_record(&rt, rt.alloc(), &elf, bytes)?;
+        expect_record(rt.alloc(), &elf, bytes)?;
     }
     Ok(())
 }
@@ -122,11 +122,11 @@ fn too_few_program_headers(rt: HostRuntime) -> Result<(), Fail> {
 }
 
 #[test]
-fn refusals(rt: HostRuntime) {
+fn refusals(rt: HostRuntime) -> Result<(), Fail> {
     let magic = DekuError::Assertion("magic");
-    expect_refusal::<Elf>(&rt, rt.alloc(), b"\x7FELD", magic, 32);
+    expect_refusal::<Elf>(rt.alloc(), b"\x7FELD", magic, 32)?;
     let class = DekuError::Assertion("class");
-    expect_refusal::<Elf>(&rt, rt.alloc(), b"\x7FELF\x01\x01", class, 40);
+    expect_refusal::<Elf>(rt.alloc(), b"\x7FELF\x01\x01", class, 40)?;
     let endian = DekuError::IdVariantNotFound;
-    expect_refusal::<Elf>(&rt, rt.alloc(), b"\x7FELF\x02\x03", endian, 48);
+    expect_refusal::<Elf>(rt.alloc(), b"\x7FELF\x02\x03", endian, 48)
 }

@@ -1,25 +1,39 @@
 //! Headers of packets as Linux sent them over its loopback device, read from a raw socket: what was asked for is known, and the kernel made the rest.
 
-use crate::expecting::{expect_record, expect_refusal};
 use deku::prelude::{DekuError, DekuUpdate, NeedSize};
 use deku_formats::checksum::{is_intact, ones_sum};
 use deku_formats::ipv4::Ipv4;
 use deku_formats::ipv4::front::Front;
 use deku_formats::udp::Udp;
+use deku_testing::records::{expect_record, expect_refusal};
 use std::net::Ipv4Addr;
 use std::test::Fail;
 
-// A datagram of the two bytes "hi", from port 40123 to port 53535 of 127.0.0.1.
+// Source and destination, length and check sum, and the bytes: of a datagram of the two bytes "hi", from
+// port 40123 to port 53535 of 127.0.0.1, and of a question from port 1161.
+const DATAGRAMS: [([u16; 4], [u8; 8]); 2] = [
+    (
+        [40123, 53535, 10, 0xFE1D],
+        [0x9C, 0xBB, 0xD1, 0x1F, 0x00, 0x0A, 0xFE, 0x1D],
+    ),
+    (
+        [1161, 53, 44, 0xABB4],
+        [0x04, 0x89, 0x00, 0x35, 0x00, 0x2C, 0xAB, 0xB4],
+    ),
+];
+
 #[test]
-fn a_datagram(rt: HostRuntime) -> Result<(), Fail> {
-    let header = Udp {
-        source: 40123,
-        destination: 53535,
-        length: 10,
-        checksum: 0xFE1D,
-    };
-    let bytes = [0x9C, 0xBB, 0xD1, 0x1F, 0x00, 0x0A, 0xFE, 0x1D];
-    expect_record(&rt, rt.alloc(), &header, &bytes)
+fn datagrams(rt: HostRuntime) -> Result<(), Fail> {
+    for ([source, destination, length, checksum], bytes) in DATAGRAMS {
+        let header = Udp {
+            source,
+            destination,
+            length,
+            checksum,
+        };
+        expect_record(rt.alloc(), &header, &bytes)?;
+    }
+    Ok(())
 }
 
 // The header in front of it.
@@ -46,14 +60,32 @@ fn front() -> Front {
     }
 }
 
+// A segment of TCP between two addresses, as packets are shown by analysers.
+const SEGMENT: [u8; 20] = [
+    0x45, 0x00, 0x00, 0x3C, 0x1C, 0x46, 0x40, 0x00, 0x40, 0x06, 0xB1, 0xE6, 0xAC, 0x10, 0x0A, 0x63,
+    0xAC, 0x10, 0x0A, 0x0C,
+];
+
+// What its header says.
+fn segment_front() -> Front {
+    Front {
+        total_length: 60,
+        identification: 0x1C46,
+        protocol: 6,
+        checksum: 0xB1E6,
+        source: Ipv4Addr::new(172, 16, 10, 99),
+        destination: Ipv4Addr::new(172, 16, 10, 12),
+        ..front()
+    }
+}
+
 #[test]
-fn a_header(rt: HostRuntime) -> Result<(), Fail> {
-    let options = Vec::new(rt.alloc());
-    let header = Ipv4 {
-        front: front(),
-        options,
-    };
-    expect_record(&rt, rt.alloc(), &header, &HEADER)
+fn headers(rt: HostRuntime) -> Result<(), Fail> {
+    for (front, bytes) in [(front(), HEADER), (segment_front(), SEGMENT)] {
+        let options = Vec::new(rt.alloc());
+        expect_record(rt.alloc(), &Ipv4 { front, options }, &bytes)?;
+    }
+    Ok(())
 }
 
 // A report of membership, with the option that routers look at it.
@@ -67,19 +99,17 @@ fn a_packet_with_an_option(rt: HostRuntime) -> Result<(), Fail> {
     let front = Front {
         words: 6,
         service: 48,
-        congestion: 0,
         total_length: 40,
         identification: 0,
-        flags: 2,
-        fragment_offset: 0,
         time_to_live: 1,
         protocol: 2,
         checksum: 0x03FA,
         source: Ipv4Addr::new(0, 0, 0, 0),
         destination: Ipv4Addr::new(224, 0, 0, 22),
+        ..front()
     };
     let options = [0x94u8, 0x04, 0x00, 0x00].to_vec(rt.alloc())?;
-    expect_record(&rt, rt.alloc(), &Ipv4 { front, options }, &REPORT)
+    expect_record(rt.alloc(), &Ipv4 { front, options }, &REPORT)
 }
 
 // What an update answers and leaves in the two lengths of the header, where its total is this one before and there are so many bytes of options: ten bytes are carried.
@@ -128,13 +158,14 @@ fn updates(rt: HostRuntime) -> Result<(), Fail> {
 // Bytes, and what is left of their sum: the example of RFC 1071, section 3, with and without its last byte, a carry that carries, none, and headers as they were sent.
 #[test]
 fn check_sums(rt: HostRuntime) {
-    let rows: [(&[u8], u16); 7] = [
+    let rows: [(&[u8], u16); 8] = [
         (&[0x00, 0x01, 0xF2, 0x03, 0xF4, 0xF5, 0xF6, 0xF7], 0xDDF2),
         (&[0x00, 0x01, 0xF2, 0x03, 0xF4, 0xF5, 0xF6], 0xDCFB),
         (&[0xFF, 0xFF, 0x00, 0x01], 0x0001),
         (&[], 0x0000),
         (&[0x00, 0x00], 0x0000),
         (&HEADER, 0xFFFF),
+        (&SEGMENT, 0xFFFF),
         (&REPORT, 0xFFFF),
     ];
     for (bytes, want) in rows {
@@ -145,15 +176,15 @@ fn check_sums(rt: HostRuntime) {
 }
 
 #[test]
-fn refusals(rt: HostRuntime) {
+fn refusals(rt: HostRuntime) -> Result<(), Fail> {
     let short = DekuError::Incomplete(NeedSize::new(16));
-    expect_refusal::<Udp>(&rt, rt.alloc(), &[0x9C, 0xBB, 0xD1], short, 16);
+    expect_refusal::<Udp>(rt.alloc(), &[0x9C, 0xBB, 0xD1], short, 16)?;
     let version = DekuError::Assertion("version");
-    expect_refusal::<Ipv4>(&rt, rt.alloc(), &[0x65, 0x00], version, 4);
+    expect_refusal::<Ipv4>(rt.alloc(), &[0x65, 0x00], version, 4)?;
     let bytes = [
         0x44, 0x00, 0x00, 0x1E, 0x4F, 0x0B, 0x40, 0x00, 0x40, 0x11, 0xED, 0xC1, 0x7F, 0x00, 0x00,
         0x01, 0x7F, 0x00, 0x00, 0x01,
     ];
     let words = DekuError::Parse("head without a count");
-    expect_refusal::<Ipv4>(&rt, rt.alloc(), &bytes, words, 160);
+    expect_refusal::<Ipv4>(rt.alloc(), &bytes, words, 160)
 }

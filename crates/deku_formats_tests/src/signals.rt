@@ -1,11 +1,11 @@
 //! Signals of buses and of telemetry.
 
-use crate::expecting::{expect_record, expect_refusal};
 use deku::prelude::{DekuError, NeedSize};
 use deku_formats::can::Chassis;
 use deku_formats::ccsds::Telemetry;
 use deku_formats::ccsds::header::Header;
 use deku_formats::ccsds::sample::Sample;
+use deku_testing::records::{expect_record, expect_refusal};
 use std::test::Fail;
 
 // As the Python package cantools 37.2 encodes it, from the DBC text that stands in the module.
@@ -20,7 +20,7 @@ fn a_frame(rt: HostRuntime) -> Result<(), Fail> {
         yaw: -100000,
     };
     let bytes = [0x44, 0x5D, 0xFB, 0x2E, 0x05, 0xFE, 0x79, 0x60];
-    expect_record(&rt, rt.alloc(), &chassis, &bytes)
+    expect_record(rt.alloc(), &chassis, &bytes)
 }
 
 // Four samples: eleven bytes, so the length is 10. Worked out by hand from the tables of the standard.
@@ -47,20 +47,14 @@ fn a_packet_of_samples(rt: HostRuntime) -> Result<(), Fail> {
         0x01, 0x23, 0xC0, 0x2A, 0x00, 0x0A, 0x00, 0x40, 0x0B, 0xFF, 0xFF, 0xF8, 0x02, 0x00, 0x00,
         0x00, 0x00,
     ];
-    expect_record(&rt, rt.alloc(), &packet, &bytes)
+    expect_record(rt.alloc(), &packet, &bytes)
 }
 
 #[test]
-fn refusals(rt: HostRuntime) {
+fn refusals(rt: HostRuntime) -> Result<(), Fail> {
     let short = DekuError::Incomplete(NeedSize::new(24));
-    expect_refusal::<Chassis>(
-        &rt,
-        rt.alloc(),
-        &[0x44, 0x5D, 0xFB, 0x2E, 0x05, 0xFE],
-        short,
-        40,
-    );
+    expect_refusal::<Chassis>(rt.alloc(), &[0x44, 0x5D, 0xFB, 0x2E, 0x05, 0xFE], short, 40)?;
     let bytes = [0x01, 0x23, 0xC0, 0x2A, 0x00, 0x0B, 0x00];
     let length = DekuError::Parse("head without a count");
-    expect_refusal::<Telemetry>(&rt, rt.alloc(), &bytes, length, 48);
+    expect_refusal::<Telemetry>(rt.alloc(), &bytes, length, 48)
 }

@@ -2,12 +2,7 @@
 #![tactic(auto)]
 
 #[cfg(test)]
-mod engine;
-#[cfg(test)]
-mod expecting;
-#[cfg(test)]
 mod frame;
-pub mod ipv4;
 #[cfg(test)]
 mod made;
 #[cfg(test)]
@@ -19,7 +14,4 @@ mod parts;
 #[cfg(test)]
 mod records;
 #[cfg(test)]
-mod report;
-#[cfg(test)]
 mod sample;
-pub mod udp;

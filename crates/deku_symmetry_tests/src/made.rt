@@ -1,11 +1,12 @@
 //! Parts that other parts depend on: counted items, checks, and ids in low bits.
 
-use crate::expecting::{expect_packed, expect_refusal, expect_same};
-use crate::report::Place;
+use crate::sample::Sample;
 use deku::prelude::{DekuError, NeedSize};
 use deku_symmetry::{
     Asserted, Check, Checks, Counts, Led, Lsb, LsbTagged, Msb, Only, Symmetric, Tagged,
 };
+use deku_testing::expecting::same;
+use deku_testing::records::{expect_packed, expect_refusal};
 use std::test::Fail;
 
 // The version is 4.
@@ -34,8 +35,8 @@ impl Checks<Msb<u8, 4>> for Version {
     ghost alike = { λ v w e. rw e refl };
 }
 
-// A place counts nothing.
-impl Counts for Place {
+// A sample counts nothing.
+impl Counts for Sample {
     ghost use Rattle.std.specs.Prelude.{None};
 
     ghost count_of = { λ _. None };
@@ -58,36 +59,38 @@ fn counted_items(rt: HostRuntime) -> Result<(), Fail> {
         head: 2u8,
         items: [0x68u8, 0x69].to_vec(alloc)?,
     };
-    expect_packed(&rt, alloc, (), &two, 24, &[0x02, 0x68, 0x69])?;
+    expect_packed(alloc, (), &two, 24, &[0x02, 0x68, 0x69])?;
     let short: &[u8] = &[0x03, 0x68];
     let ended = DekuError::Incomplete(NeedSize::new(8));
-    expect_same(&rt, &Led::<u8, u8>::unpack(alloc, short, ()), &Err(ended));
+    same(
+        &short,
+        &Led::<u8, u8>::unpack(alloc, short, ()),
+        &Err(ended),
+    )?;
     let out_of_step = Led {
         head: 3u8,
         items: [1u8].to_vec(alloc)?,
     };
     let refusal = DekuError::Assertion("count out of step with items");
-    expect_same(&rt, &out_of_step.pack(alloc, ()), &Err(refusal));
-    Ok(())
+    same(&3, &out_of_step.pack(alloc, ()), &Err(refusal))
 }
 
 #[test]
-fn a_head_without_a_count(rt: HostRuntime) {
+fn a_head_without_a_count(rt: HostRuntime) -> Result<(), Fail> {
     let bytes: &[u8] = &[0xFF, 0xF1, 0x23, 0x69];
     let refusal = DekuError::Parse("head without a count");
-    expect_refusal::<Led<Place, u8>>(&rt, rt.alloc(), bytes, refusal, 24);
+    expect_refusal::<Led<Sample, u8>>(rt.alloc(), bytes, refusal, 24)
 }
 
 #[test]
 fn what_passes(rt: HostRuntime) -> Result<(), Fail> {
     let alloc = rt.alloc();
     let four: Front = (Asserted::new(Msb(4)), Msb(5));
-    expect_packed(&rt, alloc, (), &four, 8, &[0x45])?;
+    expect_packed(alloc, (), &four, 8, &[0x45])?;
     let six: Front = (Asserted::new(Msb(6)), Msb(5));
     let refusal = DekuError::Assertion("version");
-    expect_same(&rt, &six.pack(alloc, ()), &Err(refusal));
-    expect_refusal::<Front>(&rt, alloc, &[0x65], refusal, 4);
-    Ok(())
+    same(&6, &six.pack(alloc, ()), &Err(refusal))?;
+    expect_refusal::<Front>(alloc, &[0x65], refusal, 4)
 }
 
 // 3 + 0x1FF * 128 is 0xFF83, its low byte first.
@@ -95,7 +98,7 @@ fn what_passes(rt: HostRuntime) -> Result<(), Fail> {
 fn ids_in_low_bits(rt: HostRuntime) -> Result<(), Fail> {
     let alloc = rt.alloc();
     let one: Word = Tagged::This(Lsb(1));
-    expect_packed(&rt, alloc, (), &one, 8, &[0x85])?;
+    expect_packed(alloc, (), &one, 8, &[0x85])?;
     let nine: Word = Tagged::Other(Only(Lsb(0x1FF)));
-    expect_packed(&rt, alloc, (), &nine, 16, &[0x83, 0xFF])
+    expect_packed(alloc, (), &nine, 16, &[0x83, 0xFF])
 }

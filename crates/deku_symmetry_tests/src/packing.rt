@@ -1,10 +1,11 @@
 //! Values packed and unpacked: each kind of type that is symmetric.
 
-use crate::expecting::{expect_packed, expect_same};
 use deku::cstring::CString;
 use deku::ctx::{BitSize, ByteSize, Endian, Order};
 use deku::prelude::DekuError;
 use deku_symmetry::{Be, Msb, Symmetric};
+use deku_testing::expecting::{MISFIT, same};
+use deku_testing::records::expect_packed;
 use std::alloc::Global;
 use std::net::{Ipv4Addr, Ipv6Addr};
 use std::num::{NonZeroI8, NonZeroU16};
@@ -28,97 +29,69 @@ fn header_again(alloc: Global) -> Result<(usize, Header), DekuError> {
 fn a_header_of_three_numbers(rt: HostRuntime) -> Result<(), Fail> {
     let alloc = rt.alloc();
     let header: Header = (Msb(6), Msb(9), Be(0xC0FE));
-    expect_packed(&rt, alloc, (), &header, 24, &[0x69, 0xC0, 0xFE])?;
-    let (bits, again) = header_again(alloc)?;
-    expect_same(&rt, &(bits, again), &(24, header));
-    Ok(())
+    expect_packed(alloc, (), &header, 24, &[0x69, 0xC0, 0xFE])?;
+    same(&"again", &header_again(alloc)?, &(24, header))
 }
 
 #[test]
 fn numbers(rt: HostRuntime) -> Result<(), Fail> {
     let alloc = rt.alloc();
-    expect_packed(&rt, alloc, (), &0xABu8, 8, &[0xAB])?;
-    expect_packed(&rt, alloc, BIG, &0xBEEFu16, 16, &[0xBE, 0xEF])?;
-    expect_packed(
-        &rt,
-        alloc,
-        (LITTLE, BitSize(10)),
-        &0x3ABu16,
-        10,
-        &[0xAB, 0xC0],
-    )?;
-    expect_packed(
-        &rt,
-        alloc,
-        (LITTLE, ByteSize(3)),
-        &0x030201u32,
-        24,
-        &[1, 2, 3],
-    )?;
-    expect_packed(&rt, alloc, (BIG, ByteSize(2)), &-2i32, 16, &[0xFF, 0xFE])?;
+    expect_packed(alloc, (), &0xABu8, 8, &[0xAB])?;
+    expect_packed(alloc, BIG, &0xBEEFu16, 16, &[0xBE, 0xEF])?;
+    expect_packed(alloc, (LITTLE, BitSize(10)), &0x3ABu16, 10, &[0xAB, 0xC0])?;
+    expect_packed(alloc, (LITTLE, ByteSize(3)), &0x030201u32, 24, &[1, 2, 3])?;
+    expect_packed(alloc, (BIG, ByteSize(2)), &-2i32, 16, &[0xFF, 0xFE])?;
     let low = (BIG, BitSize(13), Order::Lsb0);
-    expect_packed(&rt, alloc, low, &0x1001u32, 13, &[0x10, 0x01])?;
-    expect_packed(&rt, alloc, BitSize(0), &0u64, 0, &[])?;
-    let wide = DekuError::InvalidParam("bit size of input is larger than requested size");
-    expect_same(&rt, &0x400u16.pack(alloc, BitSize(10)), &Err(wide));
-    Ok(())
+    expect_packed(alloc, low, &0x1001u32, 13, &[0x10, 0x01])?;
+    expect_packed(alloc, BitSize(0), &0u64, 0, &[])?;
+    same(&"wide", &0x400u16.pack(alloc, BitSize(10)), &Err(MISFIT))
 }
 
 #[test]
 fn what_stands_for_numbers(rt: HostRuntime) -> Result<(), Fail> {
     let alloc = rt.alloc();
-    expect_packed(&rt, alloc, (BIG, BitSize(2)), &true, 2, &[0x40])?;
-    expect_packed(&rt, alloc, BIG, &NonZeroU16::new(0xBEEF), 16, &[0xBE, 0xEF])?;
-    expect_packed(&rt, alloc, (), &NonZeroI8::new(-1), 8, &[0xFF])?;
+    expect_packed(alloc, (BIG, BitSize(2)), &true, 2, &[0x40])?;
+    expect_packed(alloc, BIG, &NonZeroU16::new(0xBEEF), 16, &[0xBE, 0xEF])?;
+    expect_packed(alloc, (), &NonZeroI8::new(-1), 8, &[0xFF])?;
     let address = Ipv4Addr::new(145, 254, 160, 237);
-    expect_packed(&rt, alloc, LITTLE, &address, 32, &[0xED, 0xA0, 0xFE, 0x91])?;
+    expect_packed(alloc, LITTLE, &address, 32, &[0xED, 0xA0, 0xFE, 0x91])?;
     let local = Ipv6Addr::new(0, 0, 0, 0, 0, 0, 0, 1);
-    expect_packed(&rt, alloc, (BIG, BitSize(1)), &local, 1, &[0x80])?;
+    expect_packed(alloc, (BIG, BitSize(1)), &local, 1, &[0x80])?;
     let two: &[u8] = &[2];
     let refusal = DekuError::Parse("cannot parse bool value");
-    expect_same(&rt, &bool::unpack(alloc, two, ()), &Err(refusal));
-    Ok(())
+    same(&two, &bool::unpack(alloc, two, ()), &Err(refusal))
 }
 
 #[test]
 fn composites(rt: HostRuntime) -> Result<(), Fail> {
     let alloc = rt.alloc();
     let low = (BIG, BitSize(4), Order::Lsb0);
-    expect_packed(&rt, alloc, low, &(5u8, [1u16, 2]), 12, &[0x15, 0x02])?;
-    expect_packed(&rt, alloc, (), &(), 0, &[])?;
-    expect_packed(&rt, alloc, (), &(7u8,), 8, &[7])?;
+    expect_packed(alloc, low, &(5u8, [1u16, 2]), 12, &[0x15, 0x02])?;
+    expect_packed(alloc, (), &(), 0, &[])?;
+    expect_packed(alloc, (), &(7u8,), 8, &[7])?;
     expect_packed(
-        &rt,
         alloc,
         (),
         &(true, 0x829824u32),
         40,
         &[0x01, 0x24, 0x98, 0x82, 0x00],
     )?;
-    expect_packed(&rt, alloc, BitSize(4), &(1u8, 2u8, 3u8), 12, &[0x12, 0x30])?;
-    expect_packed(&rt, alloc, (), &Some(0xBEEFu16), 16, &[0xEF, 0xBE])?;
-    expect_packed(
-        &rt,
-        alloc,
-        (),
-        &Box::new(alloc, 0xBEEFu16)?,
-        16,
-        &[0xEF, 0xBE],
-    )?;
+    expect_packed(alloc, BitSize(4), &(1u8, 2u8, 3u8), 12, &[0x12, 0x30])?;
+    expect_packed(alloc, (), &Some(0xBEEFu16), 16, &[0xEF, 0xBE])?;
+    expect_packed(alloc, (), &Box::new(alloc, 0xBEEFu16)?, 16, &[0xEF, 0xBE])?;
     let none: Option<u8> = None;
-    expect_same(&rt, &none.pack(alloc, ())?.len(), &0);
-    Ok(())
+    same(&none, &none.pack(alloc, ())?.len(), &0)
 }
 
 #[test]
 fn long_tuples(rt: HostRuntime) -> Result<(), Fail> {
     let alloc = rt.alloc();
     let four = (1u8, 2u8, 3u8, 4u8);
-    expect_packed(&rt, alloc, (), &four, 32, &[1, 2, 3, 4])?;
+    expect_packed(alloc, (), &four, 32, &[1, 2, 3, 4])?;
     let five = (1u8, 2u8, 3u8, 4u8, 5u8);
-    expect_packed(&rt, alloc, (), &five, 40, &[1, 2, 3, 4, 5])?;
+    expect_packed(alloc, (), &five, 40, &[1, 2, 3, 4, 5])?;
     let six = (1u8, 2u8, 3u8, 4u8, 5u8, 6u8);
-    expect_packed(&rt, alloc, (), &six, 48, &[1, 2, 3, 4, 5, 6])
+    expect_packed(alloc, (), &six, 48, &[1, 2, 3, 4, 5, 6])
 }
 
 #[test]
@@ -126,9 +99,9 @@ fn the_longest_tuples(rt: HostRuntime) -> Result<(), Fail> {
     let alloc = rt.alloc();
     let bytes: &[u8] = &[0x12, 0x34, 0x56, 0x78, 0x9A, 0xB0];
     let ten = (1u8, 2u8, 3u8, 4u8, 5u8, 6u8, 7u8, 8u8, 9u8, 10u8);
-    expect_packed(&rt, alloc, BitSize(4), &ten, 40, &bytes[..5])?;
+    expect_packed(alloc, BitSize(4), &ten, 40, &bytes[..5])?;
     let eleven = (1u8, 2u8, 3u8, 4u8, 5u8, 6u8, 7u8, 8u8, 9u8, 10u8, 11u8);
-    expect_packed(&rt, alloc, BitSize(4), &eleven, 44, bytes)
+    expect_packed(alloc, BitSize(4), &eleven, 44, bytes)
 }
 
 #[test]
@@ -136,9 +109,8 @@ fn texts(rt: HostRuntime) -> Result<(), Fail> {
     let alloc = rt.alloc();
     let bytes: &[u8] = &[0x61, 0x62, 0x00, 0x63];
     let (count, text) = CString::unpack(alloc, bytes, ())?;
-    expect_same(&rt, &(count, text.as_bytes()), &(24, &bytes[..2]));
-    expect_same(&rt, &text.pack(alloc, ())?.as_slice(), &&bytes[..3]);
-    Ok(())
+    same(&"read", &(count, text.as_bytes()), &(24, &bytes[..2]))?;
+    same(&"packed", &text.pack(alloc, ())?.as_slice(), &&bytes[..3])
 }
 
 // Bits that were not read are zero where the value is packed again.
@@ -147,8 +119,7 @@ fn unread_bits(rt: HostRuntime) -> Result<(), Fail> {
     let ctx = (BIG, BitSize(4), Order::Lsb0);
     let bytes: &[u8] = &[0x15, 0xF2];
     let (count, value) = <(u8, [u16; 2])>::unpack(rt.alloc(), bytes, ctx)?;
-    expect_same(&rt, &(count, value), &(12, (5, [1, 2])));
     let again = value.pack(rt.alloc(), ctx)?;
-    expect_same(&rt, &again.as_slice(), &[0x15, 0x02].as_slice());
-    Ok(())
+    let seen = (count, value, again.as_slice());
+    same(&bytes, &seen, &(12, (5, [1, 2]), &[0x15, 0x02]))
 }

@@ -1,6 +1,5 @@
 //! Parts that are always one value, records that hold memory or are read under an endian, and numbers whose bits lie apart.
 
-use crate::expecting::{expect_packed, expect_refusal};
 use deku::ctx::Endian;
 use deku::device::{Sink, Source};
 use deku::prelude::{DekuError, DekuReader, DekuWriter, Reader, Writer};
@@ -9,6 +8,7 @@ use deku_symmetry::{
     Be, Constant, Constants, EndianRecord, Fixed, Le, Led, Parted, Record, ToParts, read_record,
     write_led, write_record,
 };
+use deku_testing::records::{expect_packed, expect_refusal};
 use std::test::Fail;
 
 // Two bytes that are always the same.
@@ -45,11 +45,10 @@ impl Constants<Be<u16>> for Magic {
 fn one_value(rt: HostRuntime) -> Result<(), Fail> {
     let alloc = rt.alloc();
     let start: (Fixed<Be<u16>, Magic>, u8) = (Fixed::new(), 7);
-    expect_packed(&rt, alloc, (), &start, 24, &[0x4D, 0x5A, 0x07])?;
+    expect_packed(alloc, (), &start, 24, &[0x4D, 0x5A, 0x07])?;
     let bytes: &[u8] = &[0x4D, 0x5B, 0x07];
     let refusal = DekuError::Assertion("magic");
-    expect_refusal::<Fixed<Be<u16>, Magic>>(&rt, alloc, bytes, refusal, 16);
-    Ok(())
+    expect_refusal::<Fixed<Be<u16>, Magic>>(alloc, bytes, refusal, 16)
 }
 
 // A record that holds memory: a text, and in front of it how many bytes it has.
@@ -122,7 +121,7 @@ fn a_record_that_holds_memory(rt: HostRuntime) -> Result<(), Fail> {
         length: 2,
         bytes: [0x68u8, 0x69].to_vec(alloc)?,
     };
-    expect_packed(&rt, alloc, (), &text, 24, &[0x02, 0x68, 0x69])
+    expect_packed(alloc, (), &text, 24, &[0x02, 0x68, 0x69])
 }
 
 // A record whose endian comes from outside.
@@ -205,9 +204,9 @@ fn a_record_under_an_endian(rt: HostRuntime) -> Result<(), Fail> {
     let high = [0x01, 0x02, 0x03, 0x04, 0x05, 0x06];
     let low = [0x02, 0x01, 0x06, 0x05, 0x04, 0x03];
     for (endian, bytes) in [(Endian::Big, high), (Endian::Little, low)] {
-        expect_packed(&rt, alloc, endian, &pair, 48, &bytes)?;
+        expect_packed(alloc, endian, &pair, 48, &bytes)?;
     }
-    expect_packed(&rt, alloc, (), &Le(pair), 48, &low)
+    expect_packed(alloc, (), &Le(pair), 48, &low)
 }
 
 // A number, how many bits are low ones, these, and the high ones.

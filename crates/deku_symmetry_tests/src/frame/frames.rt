@@ -1,95 +1,58 @@
 //! Frames as bytes and from bytes, and each refusal.
 
-use crate::expecting::{expect_record, expect_same};
 use deku::ctx::BitSize;
 use deku::prelude::{
     DekuContainerRead, DekuContainerWrite, DekuEnumExt, DekuError, DekuReader, DekuUpdate,
     DekuWriter, NeedSize, Reader, Writer,
 };
 use deku_fields::frame::Frame;
-use deku_symmetry::Symmetric;
-use std::alloc::Global;
+use deku_testing::expecting::{MISFIT, expect_denied, same};
+use deku_testing::records::expect_record;
 use std::io::Cursor;
-use std::process::Abort;
 use std::test::Fail;
 
-// A frame lies as these bytes, and these bytes are read as the frame, with what follows them left.
-fn lies_as(rt: &impl Abort, alloc: Global, frame: Frame, bytes: &[u8]) -> Result<(), Fail> {
-    expect_record(rt, alloc, &frame, bytes)
-}
-
-// Bytes are refused so, also by a reader, which stands behind so many bits then.
-fn is_refused(rt: &impl Abort, alloc: Global, bytes: &[u8], refusal: DekuError, bits: usize) {
-    let whole = Frame::from_bytes(alloc, (bytes, 0));
-    let mut reader = Reader::new(alloc, Cursor::new(bytes));
-    let answer = Frame::from_reader_with_ctx(&mut reader, ());
-    assert!(rt;
-        whole == Err(refusal) && answer == Err(refusal) && reader.bits_read() == bits,
-        "{bytes:?}: {answer:?}, {}",
-        reader.bits_read()
-    );
-}
+const FAILED: DekuError = DekuError::Assertion("Field failed assertion");
 
 #[test]
-fn frames_lie(rt: HostRuntime) -> Result<(), Fail> {
-    lies_as(&rt, rt.alloc(), Frame::ping(0xBEEF), &[0x11, 0xBE, 0xEF])?;
-    let payload = [0xAA, 0xBB].to_vec(rt.alloc())?;
-    lies_as(
-        &rt,
-        rt.alloc(),
-        Frame::data(payload)?,
-        &[0x21, 0x02, 0xAA, 0xBB],
-    )?;
-    lies_as(&rt, rt.alloc(), Frame::pair(5, 0x2A7)?, &[0x31, 0x2A, 0xA7])?;
-    lies_as(
-        &rt,
-        rt.alloc(),
-        Frame::data(Vec::new(rt.alloc()))?,
-        &[0x21, 0x00],
-    )
-}
-
-// After either refusal the reader stands behind the eight bits.
-#[test]
-fn bytes_are_refused(rt: HostRuntime) {
-    let failed = DekuError::Assertion("Field failed assertion");
-    let rows: [(&[u8], DekuError); 3] = [
-        (&[0x41, 0x00], DekuError::IdVariantNotFound),
-        (&[0x12, 0xBE, 0xEF], failed),
-        (&[0x42, 0x00], failed),
+fn are_written_and_read(rt: HostRuntime) -> Result<(), Fail> {
+    let alloc = rt.alloc();
+    let payload = [0xAA, 0xBB].to_vec(alloc)?;
+    let rows: [(Frame, &[u8]); 4] = [
+        (Frame::ping(0xBEEF), &[0x11, 0xBE, 0xEF]),
+        (Frame::data(payload)?, &[0x21, 0x02, 0xAA, 0xBB]),
+        (Frame::pair(5, 0x2A7)?, &[0x31, 0x2A, 0xA7]),
+        (Frame::data(Vec::new(alloc))?, &[0x21, 0x00]),
     ];
-    for (bytes, refusal) in rows {
-        is_refused(&rt, rt.alloc(), bytes, refusal, 8);
+    for (frame, bytes) in &rows {
+        expect_record(alloc, frame, bytes)?;
     }
+    Ok(())
 }
 
-// It goes on behind the bits of what was refused.
+// Bytes, their refusal, and the byte after the eight bits that are read then.
 #[test]
-fn behind_a_refusal(rt: HostRuntime) {
-    let bytes: &[u8] = &[0x42, 0x00];
-    let failed = DekuError::Assertion("Field failed assertion");
-    let mut reader = Reader::new(rt.alloc(), Cursor::new(bytes));
-    expect_same(
-        &rt,
-        &Frame::from_reader_with_ctx(&mut reader, ()),
-        &Err(failed),
-    );
-    expect_same(&rt, &u8::from_reader_with_ctx(&mut reader, ()), &Ok(0));
+fn bytes_are_refused(rt: HostRuntime) -> Result<(), Fail> {
+    let rows: [(&[u8], DekuError, u8); 3] = [
+        (&[0x41, 0x00], DekuError::IdVariantNotFound, 0x00),
+        (&[0x12, 0xBE, 0xEF], FAILED, 0xBE),
+        (&[0x42, 0x00], FAILED, 0x00),
+    ];
+    for (bytes, refusal, next) in rows {
+        expect_denied::<Frame, ()>(rt.alloc(), (), bytes, (refusal, 8, next))?;
+        let whole = Frame::from_bytes(rt.alloc(), (bytes, 0)).err();
+        same(&bytes, &whole, &Some(refusal))?;
+    }
+    Ok(())
 }
 
 // The reader has failed, and says so again.
 #[test]
-fn short_input(rt: HostRuntime) {
-    let bytes: &[u8] = &[0x21, 0x02, 0xAA];
+fn short_input(rt: HostRuntime) -> Result<(), Fail> {
     let short = DekuError::Incomplete(NeedSize::new(8));
-    let mut reader = Reader::new(rt.alloc(), Cursor::new(bytes));
-    expect_same(
-        &rt,
-        &Frame::from_reader_with_ctx(&mut reader, ()),
-        &Err(short),
-    );
-    let bit = u8::from_reader_with_ctx(&mut reader, BitSize(1));
-    expect_same(&rt, &bit, &Err(short));
+    let mut reader = Reader::new(rt.alloc(), Cursor::new([0x21u8, 0x02, 0xAA].as_slice()));
+    let frame = Frame::from_reader_with_ctx(&mut reader, ()).err();
+    let bit = u8::from_reader_with_ctx(&mut reader, BitSize(1)).err();
+    same(&"short", &(frame, bit), &(Some(short), Some(short)))
 }
 
 #[test]
@@ -97,40 +60,34 @@ fn out_of_step(rt: HostRuntime) -> Result<(), Fail> {
     let payload = [0xAA, 0xBB].to_vec(rt.alloc())?;
     let mut frame = Frame::Data { length: 1, payload };
     let mut writer = Writer::new(Cursor::new(Vec::new(rt.alloc())));
-    let failed = DekuError::Assertion("Field failed assertion");
-    expect_same(&rt, &frame.to_writer(&mut writer, ()), &Err(failed));
-    let bits = writer.bits_written();
-    expect_same(
-        &rt,
-        &(bits, writer.into_inner().into_inner().len()),
-        &(0, 0),
-    );
+    let written = frame.to_writer(&mut writer, ());
+    let seen = (written, writer.bits_written());
+    same(&"out of step", &seen, &(Err(FAILED), 0))?;
+    same(&"bytes", &writer.into_inner().into_inner().len(), &0)?;
     frame.update()?;
-    lies_as(&rt, rt.alloc(), frame, &[0x21, 0x02, 0xAA, 0xBB])
+    expect_record(rt.alloc(), &frame, &[0x21, 0x02, 0xAA, 0xBB])
 }
 
 #[test]
 fn constructors(rt: HostRuntime) -> Result<(), Fail> {
-    let wide = DekuError::InvalidParam("bit size of input is larger than requested size");
+    for (left, right, refusal) in [
+        (32, 0, Some(MISFIT)),
+        (0, 2048, Some(MISFIT)),
+        (31, 2047, None),
+    ] {
+        same(&(left, right), &Frame::pair(left, right).err(), &refusal)?;
+    }
     let most = Frame::Pair {
         left: 31,
         right: 2047,
     };
-    let rows = [
-        (32, 0, Err(wide)),
-        (0, 2048, Err(wide)),
-        (31, 2047, Ok(most)),
-    ];
-    for (left, right, pair) in rows {
-        expect_same(&rt, &Frame::pair(left, right), &pair);
-    }
+    same(&"the widest", &Frame::pair(31, 2047)?, &most)?;
     let most = vec![in rt.alloc(); 7; 255]?;
     let bytes = Frame::data(most)?.to_bytes(rt.alloc())?;
-    expect_same(&rt, &bytes.len(), &257);
+    same(&"255 bytes", &bytes.len(), &257)?;
     let more = vec![in rt.alloc(); 7; 256]?;
     let refusal = DekuError::Parse("error parsing int");
-    expect_same(&rt, &Frame::data(more), &Err(refusal));
-    Ok(())
+    same(&"256 bytes", &Frame::data(more).err(), &Some(refusal))
 }
 
 #[test]
@@ -140,16 +97,12 @@ fn too_wide_to_write(rt: HostRuntime) -> Result<(), Fail> {
         right: 2048,
     };
     let mut writer = Writer::new(Cursor::new(Vec::new(rt.alloc())));
-    let wide = DekuError::InvalidParam("bit size of input is larger than requested size");
-    expect_same(&rt, &frame.to_writer(&mut writer, ()), &Err(wide));
-    expect_same(&rt, &writer.bits_written(), &8);
+    let written = frame.to_writer(&mut writer, ());
+    let seen = (written, writer.bits_written());
+    same(&"too wide", &seen, &(Err(MISFIT), 8))?;
     let rest = writer.rest(rt.alloc())?;
-    expect_same(
-        &rt,
-        &rest.as_slice(),
-        &[false, false, false, false, true].as_slice(),
-    );
-    Ok(())
+    let left: &[bool] = &[false, false, false, false, true];
+    same(&"left", &rest.as_slice(), &left)
 }
 
 #[test]
@@ -160,8 +113,8 @@ fn ids(rt: HostRuntime) -> Result<(), Fail> {
         (data, 2),
         (Frame::pair(5, 0x2A7)?, 3),
     ];
-    for (frame, id) in rows {
-        expect_same(&rt, &frame.deku_id(), &Ok(id));
+    for (frame, id) in &rows {
+        same(frame, &frame.deku_id(), &Ok(*id))?;
     }
     Ok(())
 }
@@ -169,14 +122,18 @@ fn ids(rt: HostRuntime) -> Result<(), Fail> {
 #[test]
 fn updates(rt: HostRuntime) -> Result<(), Fail> {
     let mut ping = Frame::ping(1);
-    expect_same(&rt, &ping.update(), &Ok(()));
-    expect_same(&rt, &ping, &Frame::Ping { token: 1 });
+    let updated = ping.update();
+    same(
+        &"ping",
+        &(updated, ping),
+        &(Ok(()), Frame::Ping { token: 1 }),
+    )?;
     let mut long = Frame::Data {
         length: 3,
         payload: vec![in rt.alloc(); 0; 256]?,
     };
     let refusal = DekuError::Parse("error parsing int");
-    expect_same(&rt, &long.update(), &Err(refusal));
+    same(&"256 bytes", &long.update(), &Err(refusal))?;
     assert!(rt; matches!(&long, Frame::Data { length: 3, .. }), "{long:?}");
     Ok(())
 }

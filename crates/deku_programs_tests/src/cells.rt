@@ -1,7 +1,7 @@
 //! Runs of places.
 
 use deku_fields::Place;
-use deku_picture::{Cell, cells, rows};
+use deku_picture::{Cell, cells};
 use std::alloc::Global;
 use std::process::Abort;
 use std::test::Fail;
@@ -58,14 +58,4 @@ fn joins_places(rt: HostRuntime) -> Result<(), Fail> {
             run_of(at(3, 6), 1),
         ],
     )
-}
-
-#[test]
-fn breaks_rows(rt: HostRuntime) -> Result<(), Fail> {
-    let places = vec![in rt.alloc(); None; 40]?;
-    let seen = rows(rt.alloc(), places.as_slice())?;
-    assert_eq!(rt; seen.len(), 2);
-    assert_eq!(rt; seen[0].as_slice(), [run_of(None, 32)].as_slice());
-    assert_eq!(rt; seen[1].as_slice(), [run_of(None, 8)].as_slice());
-    Ok(())
 }

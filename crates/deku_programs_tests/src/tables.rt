@@ -1,6 +1,7 @@
 //! Pictures as tables, against tables drawn by hand.
 
-use crate::runs::{Run, expect_runs};
+use crate::runs::expect_runs;
+use deku_testing::runs::Run;
 use std::test::Fail;
 
 const SPLIT: &str = " byte 0          byte 1          byte 2
@@ -46,25 +47,14 @@ rest u8,big,bits5
 #[test]
 fn draws_worked_lists(rt: HostRuntime) -> Result<(), Fail> {
     let runs: [Run; 3] = [
-        (&["u8,big,bits4", "u8,big,bits4", "u16,big"], (0, SPLIT, "")),
-        (
-            &["a:u8,lsb,bits5", "b:u16,lsb", "c:u8,lsb,bits3"],
-            (0, LOW_FIRST, ""),
-        ),
-        (
-            &[
-                "imm:u16,big,lsb,bits13",
-                "fn:u8,big,lsb,bits3",
-                "op:u8,big",
-                "x:u8,big,bits1",
-                "y:u8,big,bits1",
-                "z:u8,big,bits1",
-                "rest:u8,big,bits5",
-            ],
-            (0, INSTRUCTION, ""),
+        Run::printing("/u8,big,bits4/u8,big,bits4/u16,big", SPLIT),
+        Run::printing("/a:u8,lsb,bits5/b:u16,lsb/c:u8,lsb,bits3", LOW_FIRST),
+        Run::printing(
+            "/imm:u16,big,lsb,bits13/fn:u8,big,lsb,bits3/op:u8,big/x:u8,big,bits1/y:u8,big,bits1/z:u8,big,bits1/rest:u8,big,bits5",
+            INSTRUCTION,
         ),
     ];
-    expect_runs(&rt, rt.alloc(), &runs)
+    expect_runs(rt.alloc(), &runs)
 }
 
 const TEN_LITTLE: &str = " byte 0          byte 1
@@ -123,13 +113,13 @@ f2 u8
 #[test]
 fn draws_numbers_across_bytes(rt: HostRuntime) -> Result<(), Fail> {
     let runs: [Run; 5] = [
-        (&["u16,bits10"], (0, TEN_LITTLE, "")),
-        (&["u16,big,bits10"], (0, TEN_BIG, "")),
-        (&["u16,lsb,bits10"], (0, TEN_LOW, "")),
-        (&["u32"], (0, LITTLE, "")),
-        (&["u32,bytes2", "u8"], (0, LITTLE_AND_BYTE, "")),
+        Run::printing("/u16,bits10", TEN_LITTLE),
+        Run::printing("/u16,big,bits10", TEN_BIG),
+        Run::printing("/u16,lsb,bits10", TEN_LOW),
+        Run::printing("/u32", LITTLE),
+        Run::printing("/u32,bytes2/u8", LITTLE_AND_BYTE),
     ];
-    expect_runs(&rt, rt.alloc(), &runs)
+    expect_runs(rt.alloc(), &runs)
 }
 
 const WIDE: &str = " byte 0          byte 1          byte 2          byte 3
@@ -191,16 +181,13 @@ b    u8,big,bits4
 #[test]
 fn draws_rows_and_padding(rt: HostRuntime) -> Result<(), Fail> {
     let runs: [Run; 5] = [
-        (&["port:u8", "n:u32,big", "end:i8,big,bits2"], (0, WIDE, "")),
-        (&["flag:u8,big,bits1", "rest:u8,big,bits7"], (0, NARROW, "")),
-        (&["u8,lsb,bits3"], (0, PADDED_LOW, "")),
-        (
-            &["a:u8,big,bits4", "none:u8,bits0", "b:u8,big,bits4"],
-            (0, BETWEEN, ""),
-        ),
-        (&["u8,bits0"], (0, "f1 u8,bits0\n", "")),
+        Run::printing("/port:u8/n:u32,big/end:i8,big,bits2", WIDE),
+        Run::printing("/flag:u8,big,bits1/rest:u8,big,bits7", NARROW),
+        Run::printing("/u8,lsb,bits3", PADDED_LOW),
+        Run::printing("/a:u8,big,bits4/none:u8,bits0/b:u8,big,bits4", BETWEEN),
+        Run::printing("/u8,bits0", "f1 u8,bits0\n"),
     ];
-    expect_runs(&rt, rt.alloc(), &runs)
+    expect_runs(rt.alloc(), &runs)
 }
 
 const SPLIT_BYTES: &str = " byte 0          byte 1          byte 2
@@ -243,27 +230,15 @@ n i16,bits12 -2
 #[test]
 fn draws_bytes(rt: HostRuntime) -> Result<(), Fail> {
     let runs: [Run; 3] = [
-        (
-            &[
-                "--bytes",
-                "69C0fe",
-                "u8,big,bits4",
-                "u8,big,bits4",
-                "u16,big",
-            ],
-            (0, SPLIT_BYTES, ""),
+        Run::printing(
+            "/--bytes/69C0fe/u8,big,bits4/u8,big,bits4/u16,big",
+            SPLIT_BYTES,
         ),
-        (
-            &[
-                "--bytes",
-                "a1341207",
-                "a:u8,lsb,bits5",
-                "b:u16,lsb",
-                "c:u8,lsb,bits3",
-            ],
-            (0, LOW_FIRST_BYTES, ""),
+        Run::printing(
+            "/--bytes/a1341207/a:u8,lsb,bits5/b:u16,lsb/c:u8,lsb,bits3",
+            LOW_FIRST_BYTES,
         ),
-        (&["--bytes", "fef3", "n:i16,bits12"], (0, SIGNED_BYTES, "")),
+        Run::printing("/--bytes/fef3/n:i16,bits12", SIGNED_BYTES),
     ];
-    expect_runs(&rt, rt.alloc(), &runs)
+    expect_runs(rt.alloc(), &runs)
 }

@@ -1,6 +1,7 @@
 //! Pictures of worked lists, against tables drawn by hand.
 
-use crate::runs::{Run, expect_runs};
+use crate::runs::expect_runs;
+use deku_testing::runs::Run;
 use std::test::Fail;
 
 const LOW_BITS: &str = " byte 0          byte 1          byte 2          byte 3
@@ -126,40 +127,21 @@ f2 u128,lsb
 #[test]
 fn draws_lists_with_their_bytes(rt: HostRuntime) -> Result<(), Fail> {
     let runs: [Run; 6] = [
-        (
-            &[
-                "--bytes",
-                "311204050600000007000000",
-                "a:u8,lsb,bits4",
-                "b:u16,lsb,bits12",
-                "c:u8,lsb",
-                "d:u8,lsb",
-                "e:u32,lsb",
-                "g:u32,lsb",
-            ],
-            (0, LOW_BITS, ""),
+        Run::printing(
+            "/--bytes/311204050600000007000000/a:u8,lsb,bits4/b:u16,lsb,bits12/c:u8,lsb/d:u8,lsb/e:u32,lsb/g:u32,lsb",
+            LOW_BITS,
         ),
-        (
-            &["--bytes", "1081", "u32,big,lsb,bits13"],
-            (0, THIRTEEN, ""),
+        Run::printing("/--bytes/1081/u32,big,lsb,bits13", THIRTEEN),
+        Run::printing(
+            "/--bytes/ffff/u16,big,lsb,bits13/u8,big,lsb,bits3",
+            THIRTEEN_AND_THREE,
         ),
-        (
-            &["--bytes", "ffff", "u16,big,lsb,bits13", "u8,big,lsb,bits3"],
-            (0, THIRTEEN_AND_THREE, ""),
+        Run::printing("/--bytes/fffe/i32,big,bytes2", MINUS_TWO),
+        Run::printing(
+            "/--bytes/312aa7/u8,big,bits4/u8,big,bits4/u8,big,bits5/u16,big,bits11",
+            PAIR,
         ),
-        (&["--bytes", "fffe", "i32,big,bytes2"], (0, MINUS_TWO, "")),
-        (
-            &[
-                "--bytes",
-                "312aa7",
-                "u8,big,bits4",
-                "u8,big,bits4",
-                "u8,big,bits5",
-                "u16,big,bits11",
-            ],
-            (0, PAIR, ""),
-        ),
-        (&["u8,lsb,bits3", "u128,lsb"], (0, WIDE_INSIDE, "")),
+        Run::printing("/u8,lsb,bits3/u128,lsb", WIDE_INSIDE),
     ];
-    expect_runs(&rt, rt.alloc(), &runs)
+    expect_runs(rt.alloc(), &runs)
 }

@@ -1,10 +1,15 @@
-//! Tests of `deku_picture`, through its public calls.
+//! Tests of `deku_picture`, through its public calls, and runs of the programs `fields`, `layout` and
+//! `formats`.
 #![tactic(auto)]
 
 #[cfg(test)]
 mod cells;
 #[cfg(test)]
 mod failing;
+#[cfg(test)]
+mod fields;
+#[cfg(test)]
+mod formats;
 #[cfg(test)]
 mod refused;
 #[cfg(test)]

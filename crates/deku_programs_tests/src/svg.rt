@@ -1,6 +1,7 @@
 //! Pictures as SVG, against one that was drawn by hand.
 
-use crate::runs::{Run, expect_runs};
+use crate::runs::expect_runs;
+use deku_testing::runs::Run;
 use std::test::Fail;
 
 const PICTURE: &str =
@@ -33,9 +34,6 @@ const PICTURE: &str =
 
 #[test]
 fn draws_a_picture(rt: HostRuntime) -> Result<(), Fail> {
-    let runs: [Run; 1] = [(
-        &["--svg", "flag:u8,big,bits1", "i8,big,bits3"],
-        (0, PICTURE, ""),
-    )];
-    expect_runs(&rt, rt.alloc(), &runs)
+    let runs: [Run; 1] = [Run::printing("/--svg/flag:u8,big,bits1/i8,big,bits3", PICTURE)];
+    expect_runs(rt.alloc(), &runs)
 }

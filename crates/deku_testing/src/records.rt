@@ -1,0 +1,75 @@
+//! What records and their bytes are expected to be to one another, and what is refused.
+
+use deku::prelude::{DekuContainerRead, DekuContainerWrite, DekuError, DekuReader, Reader};
+use deku_symmetry::Symmetric;
+use std::alloc::Global;
+use std::fmt::Debug;
+use std::io::Cursor;
+use std::test::Fail;
+
+/// The value is packed as these bytes, and unpacked from them and what follows, with so many bits
+/// counted.
+pub fn expect_packed<T: Symmetric<C> + PartialEq + Debug, C: Copy>(
+    alloc: Global,
+    ctx: C,
+    value: &T,
+    bits: usize,
+    bytes: &[u8],
+) -> Result<(), Fail>
+    requires reads { T.DekuReader.accepts ctx }
+    requires writes { T.DekuWriter.accepts ctx }
+{
+    let packed = value.pack(alloc, ctx)?;
+    let mut more = bytes.to_vec(alloc)?;
+    more.push(0xF2)?;
+    let (count, read) = T::unpack(alloc, more.as_slice(), ctx)?;
+    if packed.as_slice() == bytes && count == bits && read == *value {
+        return Ok(());
+    }
+    Err(Fail::new(format_args!(
+        "{value:?}: packed as {packed:?}, and unpacked as {read:?} of {count} bits"
+    )))
+}
+
+/// The record is written as these bytes, whichever call writes it, and read from them and what
+/// follows, whichever call reads it: the bytes are whole, and what follows is left.
+pub fn expect_record<T: Symmetric<()> + DekuContainerRead + DekuContainerWrite + PartialEq + Debug>(
+    alloc: Global,
+    value: &T,
+    bytes: &[u8],
+) -> Result<(), Fail>
+    requires reads { T.DekuReader.accepts tt }
+    requires writes { T.DekuWriter.accepts tt }
+{
+    expect_packed(alloc, (), value, bytes.len().saturating_mul(8), bytes)?;
+    let whole = value.to_bytes(alloc)?;
+    let mut more = bytes.to_vec(alloc)?;
+    more.push(0x99)?;
+    let ((rest, bits), read) = T::from_bytes(alloc, (more.as_slice(), 0))?;
+    if whole.as_slice() == bytes && read == *value && rest == [0x99].as_slice() && bits == 0 {
+        return Ok(());
+    }
+    Err(Fail::new(format_args!(
+        "{value:?}: written as {whole:?}, and read as {read:?}, with {rest:?} left"
+    )))
+}
+
+/// The bytes are refused so, after so many bits of them.
+pub fn expect_refusal<T: DekuReader<()> + PartialEq + Debug + Drop>(
+    alloc: Global,
+    bytes: &[u8],
+    refusal: DekuError,
+    bits: usize,
+) -> Result<(), Fail>
+    requires { T.accepts tt }
+{
+    let mut reader = Reader::new(alloc, Cursor::new(bytes));
+    let answer = T::from_reader_with_ctx(&mut reader, ());
+    let count = reader.bits_read();
+    if answer == Err(refusal) && count == bits {
+        return Ok(());
+    }
+    Err(Fail::new(format_args!(
+        "{bytes:?}: {answer:?} after {count} bits, and not {refusal:?} after {bits}"
+    )))
+}
