@@ -11,43 +11,43 @@ use Rattle.deku_formats_program.specs.declared.words.Asked.TheVariants.{Names, H
 use Rattle.deku_formats_program.specs.declared.program.Failure.{Failure}
 use Rattle.deku_formats_program.specs.declared.program.Failure.TheVariants.{Usage, BadText, Fault, Refused}
 use Rattle.deku_formats_program.specs.Forms.{AskFor, AreNoForm}
-use Rattle.deku_formats_program.specs.Shown.{IsTold}
+use Rattle.deku_formats_program.specs.Shown.{Telling}
 
 -- the names of the formats
 abbrev pub names : List (List ℕ)
 names = codes "can" ∷ codes "ccsds" ∷ codes "dns" ∷ codes "elf" ∷ codes "ipv4" ∷ codes "png" ∷ codes "riscv" ∷ codes "udp" ∷ []
 
--- the input shows bytes in hexadecimal, where it is known, and the text tells of the first of them
-pub record TellsInput (input : Option (List ℕ)) (text : List ℕ) : Type 0 where
+-- the input shows bytes in hexadecimal, where it is known, and the text tells of the record that they begin with
+pub record TellsInput (tells : Telling) (input : Option (List ℕ)) (text : List ℕ) : Type 0 where
   pub bytes : List ℕ
   pub given : IfSome input (λ shown. IsHexText shown bytes)
-  pub told : IsTold bytes text
+  pub told : tells bytes text
 
--- the text is what is asked for; that of the help is left open
-abbrev pub IsShown : Asked → Option (List ℕ) → List ℕ → Type 0
-IsShown Names input text = text ≡ flat_map line names
-IsShown Help input text = ⊤
-IsShown (Record format) input text = TellsInput input text
+-- the text is what is asked for, by what is told of each format's records; that of the help is left open
+abbrev pub IsShown : (Format → Telling) → Asked → Option (List ℕ) → List ℕ → Type 0
+IsShown tells Names input text = text ≡ flat_map line names
+IsShown tells Help input text = ⊤
+IsShown tells (Record format) input text = TellsInput (tells format) input text
 
 -- the words ask for this text
-abbrev pub Asks : List (List ℕ) → Option (List ℕ) → List ℕ → Type 0
-Asks words input text = (asked : Asked) × AskFor words asked × IsShown asked input text
+abbrev pub Asks : (Format → Telling) → List (List ℕ) → Option (List ℕ) → List ℕ → Type 0
+Asks tells words input text = (asked : Asked) × AskFor words asked × IsShown tells asked input text
 
 -- the words ask for a text, and it was given to the output
-pub record IsDone (words : List (List ℕ)) (input before after : Option (List ℕ)) : Type 0 where
+pub record IsDone (tells : Format → Telling) (words : List (List ℕ)) (input before after : Option (List ℕ)) : Type 0 where
   pub text : List ℕ
-  pub asked : Asks words input text
+  pub asked : Asks tells words input text
   pub given : Appends before after text
 
 -- the text that the words ask for was known, and was not given to the output to its end
-pub record IsUnfinished (words : List (List ℕ)) (input before after : Option (List ℕ)) : Type 0 where
+pub record IsUnfinished (tells : Format → Telling) (words : List (List ℕ)) (input before after : Option (List ℕ)) : Type 0 where
   pub text : List ℕ
-  pub asked : Asks words input text
+  pub asked : Asks tells words input text
   pub cut : IsCutShort before after text
 
 -- the text that the words ask for was known
-abbrev pub IsKnown : List (List ℕ) → Option (List ℕ) → Type 0
-IsKnown words input = (text : List ℕ) × Asks words input text
+abbrev pub IsKnown : (Format → Telling) → List (List ℕ) → Option (List ℕ) → Type 0
+IsKnown tells words input = (text : List ℕ) × Asks tells words input text
 
 -- a record is asked for
 abbrev pub IsRecord : Asked → Type 0
@@ -81,10 +81,10 @@ TextStops Help input e = e ≡ Fault (Io OutOfMemory)
 TextStops (Record format) input e = InputStops input e ⊎ RecordStops input e
 
 -- what stands in the way of the words: that they are of no form, what they ask for, or the output, when the text is known
-abbrev pub Stops : List (List ℕ) → Option (List ℕ) → Failure → Type 0
-Stops words input e = ((e ≡ Usage) × AreNoForm words)
+abbrev pub Stops : (Format → Telling) → List (List ℕ) → Option (List ℕ) → Failure → Type 0
+Stops tells words input e = ((e ≡ Usage) × AreNoForm words)
     ⊎ ((asked : Asked) × AskFor words asked × TextStops asked input e)
-    ⊎ ((kind : ErrorKind) × (e ≡ Fault (Io kind)) × IsKnown words input)
+    ⊎ ((kind : ErrorKind) × (e ≡ Fault (Io kind)) × IsKnown tells words input)
 
 -- the status of a run that ends so: 2 where the words are of no form, else 1
 abbrev pub status_of : Failure → ℕ
@@ -102,8 +102,8 @@ message (Refused fault field bit) = None
 
 -- Something stands in the way of the words that a run ends with 1 for, so not their form; and what was told of it, where its text is fixed, is a
 -- beginning of its line.
-pub record IsStopped (words : List (List ℕ)) (input before after : Option (List ℕ)) : Type 0 where
+pub record IsStopped (tells : Format → Telling) (words : List (List ℕ)) (input before after : Option (List ℕ)) : Type 0 where
   pub failure : Failure
-  pub stops : Stops words input failure
+  pub stops : Stops tells words input failure
   pub one : status_of failure ≡ 1
   pub told : IfSome (message failure) (IsBegun before after)

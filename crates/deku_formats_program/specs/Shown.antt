@@ -5,6 +5,8 @@ use Rattle.std.specs.Int.{div_ceil}
 use Rattle.deku_bits.specs.Pieces.{Piece}
 use Rattle.deku_pieces.specs.Packs.{WasTaken, PacksLaid}
 use Rattle.deku_fields.specs.Runs.{line}
+use Rattle.deku_formats_program.specs.declared.words.Format.{Format}
+use Rattle.deku_formats_program.specs.declared.words.Format.TheVariants.{Can, Ccsds, Dns, Elf, Ipv4, Png, Riscv, Udp}
 
 -- the first n bytes of both are the same, and one more are not
 abbrev pub IsFirstDifference : List ℕ → List ℕ → ℕ → Type 0
@@ -25,10 +27,6 @@ pub record GainsVerdict (read written : List ℕ) (left : ℕ) (before after : L
 abbrev pub TellsVerdict : List ℕ → ℕ → List ℕ → List ℕ → Type 0
 TellsVerdict bytes k written text = (fields : List ℕ) × GainsVerdict (take k bytes) written (length bytes - k) fields text
 
--- the text tells of some of the bytes, from the first one on
-abbrev pub IsTold : List ℕ → List ℕ → Type 0
-IsTold bytes text = (k : ℕ) × (written : List ℕ) × TellsVerdict bytes k written text
-
 -- the text tells of a value that was taken from the bytes, and of the bytes that it is written as
 pub record TellsOf {V : Type 0} (pieces : V → List Piece → Type 0) (bytes text : List ℕ) : Type 0 where
   pub value : V
@@ -37,3 +35,18 @@ pub record TellsOf {V : Type 0} (pieces : V → List Piece → Type 0) (bytes te
   pub written : Vec ℕ
   pub laid : PacksLaid (pieces value) (Ok written)
   pub tells : TellsVerdict bytes (min (div_ceil bits 8) (length bytes)) written.items text
+
+-- bytes, and a text that tells of the record that they begin with
+abbrev pub Telling : Type 1
+Telling = List ℕ → List ℕ → Type 0
+
+-- of what is told of each format's records, that of this format
+abbrev pub of_format : (can ccsds dns elf ipv4 png riscv udp : Telling) → Format → Telling
+of_format can ccsds dns elf ipv4 png riscv udp Can = can
+of_format can ccsds dns elf ipv4 png riscv udp Ccsds = ccsds
+of_format can ccsds dns elf ipv4 png riscv udp Dns = dns
+of_format can ccsds dns elf ipv4 png riscv udp Elf = elf
+of_format can ccsds dns elf ipv4 png riscv udp Ipv4 = ipv4
+of_format can ccsds dns elf ipv4 png riscv udp Png = png
+of_format can ccsds dns elf ipv4 png riscv udp Riscv = riscv
+of_format can ccsds dns elf ipv4 png riscv udp Udp = udp

@@ -25,7 +25,7 @@ pub const CCSDS: [Place; 7] = [
 ];
 
 /// The same in a sample of its telemetry.
-pub const SAMPLE: [Place; 2] = [("voltage", 12), ("current", 12)];
+pub const SAMPLE: [Place; 2] = [("voltage", 10), ("current", 12)];
 
 /// The same in a message of the domain name system.
 pub const DNS: [Place; 13] = [

@@ -6,9 +6,10 @@ ghost use Rattle.std.specs.IoError.{error_kind};
 ghost use Rattle.std.specs.declared.io.ErrorKind.TheVariants.{OutOfMemory};
 ghost use Rattle.deku_bits.specs.declared.error.DekuError.TheVariants.{Io};
 ghost use Rattle.deku_fields.specs.Runs.{words_of, IsBegun};
+ghost use Rattle.deku_formats_program.specs.declared.words.Format.{Format as KnownFormat};
 ghost use Rattle.deku_formats_program.specs.declared.program.Failure.TheVariants.{Fault, Usage};
 ghost use Rattle.deku_formats_program.specs.Forms.{AreNoForm};
-ghost use Rattle.deku_formats_program.specs.Shown.{GainsVerdict, IsTold, TellsOf};
+ghost use Rattle.deku_formats_program.specs.Shown.{GainsVerdict, Telling, TellsOf, of_format};
 ghost use Rattle.deku_formats_program.specs.Runs.{status_of, message, IsDone, IsUnfinished, IsShown, IsRecord, IsOfRecord, AsksForRecord, TextStops, Stops, IsStopped};
 
 use crate::compared::first_difference;
@@ -75,6 +76,27 @@ impl From<AllocError> for Failure {
     }
 }
 
+/// What is told of the records of each format.
+pub trait Told {
+    // Which text tells of the record of this format that bytes begin with.
+    ghost tells: { KnownFormat → Telling };
+}
+
+/// The records that the program knows.
+pub struct Records;
+
+impl Told for Records {
+    ghost tells = { of_format
+        (TellsOf (λ v. ⟦<Chassis as Symmetric<()>>⟧.pieces v tt))
+        (TellsOf (λ v. ⟦<Telemetry as Symmetric<()>>⟧.pieces v tt))
+        (TellsOf (λ v. ⟦<Query as Symmetric<()>>⟧.pieces v tt))
+        (TellsOf (λ v. ⟦<Elf as Symmetric<()>>⟧.pieces v tt))
+        (TellsOf (λ v. ⟦<Ipv4 as Symmetric<()>>⟧.pieces v tt))
+        (TellsOf (λ v. ⟦<Png as Symmetric<()>>⟧.pieces v tt))
+        (TellsOf (λ v. ⟦<Instruction as Symmetric<()>>⟧.pieces v tt))
+        (TellsOf (λ v. ⟦<Udp as Symmetric<()>>⟧.pieces v tt)) };
+}
+
 const NAMES: &str = "can\nccsds\ndns\nelf\nipv4\npng\nriscv\nudp\n";
 
 const HELP: &str = "formats         prints the names of the formats
@@ -106,12 +128,12 @@ pub fn run<R: Read, W: Write, E: Write>(
     errors: &mut E,
 ) -> u8
     ensures status { result ≤ 2 }
-    ensures done { result ≡ 0 → IsDone (words_of args.now) (R.remaining input.old) (W.contents output.old) (W.contents output.new) }
+    ensures done { result ≡ 0 → IsDone ⟦<Records as Told>⟧.tells (words_of args.now) (R.remaining input.old) (W.contents output.old) (W.contents output.new) }
     ensures quiet { result ≡ 0 → errors.new ≡ errors.old }
     ensures usage { result ≡ 2 → AreNoForm (words_of args.now) × (input.new ≡ input.old) × (output.new ≡ output.old) }
     ensures told { result ≡ 2 → IfSome (message Usage) (IsBegun (E.contents errors.old) (E.contents errors.new)) }
-    ensures stopped { result ≡ 1 → IsStopped (words_of args.now) (R.remaining input.old) (E.contents errors.old) (E.contents errors.new) }
-    ensures kept { result ≡ 1 → (output.new ≡ output.old) ⊎ IsUnfinished (words_of args.now) (R.remaining input.old) (W.contents output.old) (W.contents output.new) }
+    ensures stopped { result ≡ 1 → IsStopped ⟦<Records as Told>⟧.tells (words_of args.now) (R.remaining input.old) (E.contents errors.old) (E.contents errors.new) }
+    ensures kept { result ≡ 1 → (output.new ≡ output.old) ⊎ IsUnfinished ⟦<Records as Told>⟧.tells (words_of args.now) (R.remaining input.old) (W.contents output.old) (W.contents output.new) }
     ensures unread { AsksForRecord (words_of args.now) ⊎ (input.new ≡ input.old) }
 {
     let Err(failure) = command(alloc, args, input, output) else {
@@ -153,10 +175,10 @@ fn command<R: Read, W: Write>(
     input: &mut R,
     output: &mut W,
 ) -> Result<(), Failure>
-    ensures done { OnOk result (IsDone (words_of args.now) (R.remaining input.old) (W.contents output.old) (W.contents output.new)) }
-    ensures stops { IfErr result (Stops (words_of args.now) (R.remaining input.old)) }
+    ensures done { OnOk result (IsDone ⟦<Records as Told>⟧.tells (words_of args.now) (R.remaining input.old) (W.contents output.old) (W.contents output.new)) }
+    ensures stops { IfErr result (Stops ⟦<Records as Told>⟧.tells (words_of args.now) (R.remaining input.old)) }
     ensures usage { IfErr result (λ e. e ≡ Usage → AreNoForm (words_of args.now) × (input.new ≡ input.old) × (output.new ≡ output.old)) }
-    ensures kept { OnErr result ((output.new ≡ output.old) ⊎ IsUnfinished (words_of args.now) (R.remaining input.old) (W.contents output.old) (W.contents output.new)) }
+    ensures kept { OnErr result ((output.new ≡ output.old) ⊎ IsUnfinished ⟦<Records as Told>⟧.tells (words_of args.now) (R.remaining input.old) (W.contents output.old) (W.contents output.new)) }
     ensures unread { AsksForRecord (words_of args.now) ⊎ (input.new ≡ input.old) }
 {
     let Some(form) = parse_words(args) else {
@@ -169,7 +191,7 @@ fn command<R: Read, W: Write>(
 
 // The text that is asked for.
 fn text_of<R: Read>(alloc: Global, form: Asked, input: &mut R) -> Result<String, Failure>
-    ensures shown { IfOk result (λ text. IsShown form (R.remaining input.old) (string_bytes text)) }
+    ensures shown { IfOk result (λ text. IsShown ⟦<Records as Told>⟧.tells form (R.remaining input.old) (string_bytes text)) }
     ensures stops { IfErr result (TextStops form (R.remaining input.old)) }
     ensures usage { IfErr result (λ e. e ≡ Usage → ⊥) }
     ensures unread { IsRecord form ⊎ (input.new ≡ input.old) }
@@ -188,7 +210,7 @@ fn text_of<R: Read>(alloc: Global, form: Asked, input: &mut R) -> Result<String,
 
 // The text of the record of this format that the bytes begin with.
 fn record_text(alloc: Global, format: Format, bytes: &[u8]) -> Result<String, Failure>
-    ensures told { IfOk result (λ text. IsTold bytes.now (string_bytes text)) }
+    ensures told { IfOk result (λ text. ⟦<Records as Told>⟧.tells format bytes.now (string_bytes text)) }
     ensures stops { IfErr result IsOfRecord }
 {
     match format {
@@ -208,7 +230,6 @@ fn shown<T: Symmetric<()> + Shown>(alloc: Global, bytes: &[u8]) -> Result<String
     requires reads { T.DekuReader.accepts tt }
     requires writes { T.DekuWriter.accepts tt }
     ensures taken { IfOk result (λ text. TellsOf (λ v. T.pieces v tt) bytes.now (string_bytes text)) }
-    ensures told { IfOk result (λ text. IsTold bytes.now (string_bytes text)) }
     ensures stops { IfErr result IsOfRecord }
 {
     let (bits, record) = match T::unpack(alloc, bytes, ()) {
@@ -234,7 +255,8 @@ fn end(text: &mut String, read: &[u8], written: &[u8], left: usize) -> Result<()
     writeln!(text, "left {left}")
 }
 
-// This refusal of the bytes, with the field where it came and how many bits were read then: a check and an unknown id are of the field that was read, and else it came before the field was known.
+// This refusal of the bytes, with the field where it came and how many bits were read then: a check and an unknown id are of the field that was read, a count that is none is of the
+// field that says it, and else it came before the field was known.
 fn refused<T: DekuReader<()> + Shown>(alloc: Global, bytes: &[u8], fault: DekuError) -> Failure
     requires { T.accepts tt }
     ensures { IsOfRecord result }
@@ -242,9 +264,12 @@ fn refused<T: DekuReader<()> + Shown>(alloc: Global, bytes: &[u8], fault: DekuEr
     let mut reader = Reader::new(alloc, Cursor::new(bytes));
     let _ = T::from_reader_with_ctx(&mut reader, ());
     let bits = reader.bits_read();
-    let bit = match fault {
-        DekuError::Assertion(_) | DekuError::IdVariantNotFound => bits.saturating_sub(1),
-        _ => bits,
+    let field = match fault {
+        DekuError::Assertion(_) | DekuError::IdVariantNotFound => {
+            T::field_at(bits.saturating_sub(1))
+        }
+        DekuError::Parse(_) => T::counting().unwrap_or(T::field_at(bits)),
+        _ => T::field_at(bits),
     };
-    Failure::Refused(fault, T::field_at(bit), bits)
+    Failure::Refused(fault, field, bits)
 }

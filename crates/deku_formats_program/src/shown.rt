@@ -23,8 +23,13 @@ pub trait Shown {
     /// Gives a line for each field: its name, and its value.
     fn show(&self, text: &mut String) -> Result<(), AllocError>;
 
-    /// The name of the field that has this bit of the record; behind the fields of fixed places, the name of what they lead.
+    /// The name of the field that has this bit of the record; after the fields of fixed places, the name of what they lead.
     fn field_at(bit: usize) -> &'static str;
+
+    /// The name of the field that says how many items follow it, where there is one.
+    fn counting() -> Option<&'static str> {
+        None
+    }
 }
 
 impl Shown for Chassis {
@@ -76,6 +81,10 @@ impl Shown for Telemetry {
 
     fn field_at(bit: usize) -> &'static str {
         name_at(&CCSDS, bit, "samples")
+    }
+
+    fn counting() -> Option<&'static str> {
+        Some("length")
     }
 }
 
@@ -224,6 +233,10 @@ impl Shown for Ipv4 {
 
     fn field_at(bit: usize) -> &'static str {
         name_at(&IPV4, bit, "options")
+    }
+
+    fn counting() -> Option<&'static str> {
+        Some("words")
     }
 }
 

@@ -21,10 +21,15 @@ pub struct Drawing<'a> {
     pub sample: Option<Sample>,
 }
 
-/// The name of a field, or `f` and its number, from one on, where it has none.
+// How many letters of a name are shown.
+const LETTERS: usize = 64;
+
+/// The first 64 letters of the name of a field, or `f` and its number, from one on, where it has none.
 pub fn name_of(alloc: Global, fields: &[Named], index: usize) -> Result<String, AllocError> {
     match fields.get(index) {
-        Some(field) if !field.name.is_empty() => String::from_str(alloc, field.name),
+        Some(field) if !field.name.is_empty() => {
+            String::from_str(alloc, field.name.get(..LETTERS).unwrap_or(field.name))
+        }
         _ => {
             let number = index.saturating_add(1);
             format!(in alloc; "f{number}")

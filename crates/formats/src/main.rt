@@ -17,11 +17,15 @@ fn main(rt: HostRuntime) -> io::Result<ExitCode> {
     Ok(ExitCode::from(status))
 }
 
-// The arguments after the program's name. Where one of them is not UTF-8 there are none: they are of no form then.
+// The arguments after the program's name. Where one of them is not UTF-8 they are one word that names no format.
 fn arguments(rt: &HostRuntime) -> io::Result<Vec<String>> {
     match env::args(rt) {
         Ok(args) => Ok(args.skip(1).collect(rt.alloc())?),
-        Err(error) if error.kind() == ErrorKind::InvalidData => Ok(Vec::new(rt.alloc())),
+        Err(error) if error.kind() == ErrorKind::InvalidData => {
+            let mut args = Vec::new(rt.alloc());
+            args.push(String::from_str(rt.alloc(), "\u{FFFD}")?)?;
+            Ok(args)
+        }
         Err(error) => Err(error),
     }
 }

@@ -39,7 +39,7 @@ pub const RUNS: &str =
 /udp||1||error: Not enough data, need 16 bits (or 2 bytes), in source, at bit 0;
 /udp|9cbbd1|1||error: Not enough data, need 16 bits (or 2 bytes), in destination, at bit 16;
 /ipv4|6500|1||error: version, in version, at bit 4;
-/ipv4|4400001e4f0b40004011edc17f0000017f000001|1||error: Parse error: head without a count, in options, at bit 160;
+/ipv4|4400001e4f0b40004011edc17f0000017f000001|1||error: Parse error: head without a count, in words, at bit 160;
 /can|445dfb2e05fe|1||error: Not enough data, need 24 bits (or 3 bytes), in yaw, at bit 40;
 /ccsds|0123c02a000b00|1||error: Parse error: head without a count, in samples, at bit 48;
 /png|89504e470a1a0a00|1||error: signature, in signature, at bit 64;

@@ -2,6 +2,7 @@ use Rattle.std.proofs.Common.{rules, inl, inr}
 use Rattle.std.specs.Prelude.{string_bytes}
 use Rattle.deku_fields.specs.Runs.{words_of}
 use Rattle.deku_formats_program.specs.Runs.{Stops, IsKnown}
+use Rattle.deku_formats_program.specs.contracts.program.RecordsTold.TheImpl.{ghosts}
 use Rattle.deku_formats_program.proofs.Asking.{record_asked}
 use Rattle.deku_formats_program.proofs.program.command.Goals as goal
 
@@ -16,10 +17,10 @@ returns-clause-unread g c = record_asked (words_of c.args.args.now) c.in-Some.fo
 
 pub returns-in_err-text-clause-stops : goal.returns-in_err-text-clause-stops
 returns-in_err-text-clause-stops g c =
-    let stops : Stops (words_of c.args.args.now) (g.R.Read.remaining c.args.input.now) c.in_err-text.field-0.0 = inr (inl (c.in-Some.form, c.in-Some.ensures, c.in_err-text.ensures.stops)) in
+    let stops : Stops ghosts.tells (words_of c.args.args.now) (g.R.Read.remaining c.args.input.now) c.in_err-text.field-0.0 = inr (inl (c.in-Some.form, c.in-Some.ensures, c.in_err-text.ensures.stops)) in
     search (rules, stops)
 
 pub returns-in_err-give_text-clause-stops : goal.returns-in_err-give_text-clause-stops
 returns-in_err-give_text-clause-stops g c =
-    let known : IsKnown (words_of c.args.args.now) (g.R.Read.remaining c.args.input.now) = (string_bytes c.in_ok-text.text, (c.in-Some.form, c.in-Some.ensures, c.in_ok-text.ensures.shown)) in
+    let known : IsKnown ghosts.tells (words_of c.args.args.now) (g.R.Read.remaining c.args.input.now) = (string_bytes c.in_ok-text.text, (c.in-Some.form, c.in-Some.ensures, c.in_ok-text.ensures.shown)) in
     search (rules, known)
