@@ -57,6 +57,30 @@ fn draws_worked_lists(rt: HostRuntime) -> Result<(), Fail> {
     expect_runs(rt.alloc(), &runs)
 }
 
+const LONG_NAME: &str = " byte 0
+ 7 6 5 4 3 2 1 0
++---------------+
+|aaaaaaaaaaaaaaa|
+|aaaaaaaaaaaaaaa|
+|aaaaaaaaaaaaaaa|
+|aaaaaaaaaaaaaaa|
+|     aaaa      |
+|     7..0      |
++---------------+
+
+aaaaaaaaaaaaaaaaaaaaaaaaaaaaaaaaaaaaaaaaaaaaaaaaaaaaaaaaaaaaaaaa u8
+";
+
+// A name of 64 letters and six others, of which the first 64 are shown.
+#[test]
+fn draws_the_front_of_a_long_name(rt: HostRuntime) -> Result<(), Fail> {
+    let runs: [Run; 1] = [Run::printing(
+        "/aaaaaaaaaaaaaaaaaaaaaaaaaaaaaaaaaaaaaaaaaaaaaaaaaaaaaaaaaaaaaaaabbbbbb:u8",
+        LONG_NAME,
+    )];
+    expect_runs(rt.alloc(), &runs)
+}
+
 const TEN_LITTLE: &str = " byte 0          byte 1
  7 6 5 4 3 2 1 0 7 6 5 4 3 2 1 0
 +---------------+---+-----------+

@@ -41,7 +41,7 @@ pub const RUNS: &str =
 /ipv4|6500|1||error: version, in version, at bit 4;
 /ipv4|4400001e4f0b40004011edc17f0000017f000001|1||error: Parse error: head without a count, in words, at bit 160;
 /can|445dfb2e05fe|1||error: Not enough data, need 24 bits (or 3 bytes), in yaw, at bit 40;
-/ccsds|0123c02a000b00|1||error: Parse error: head without a count, in samples, at bit 48;
+/ccsds|0123c02a000b00|1||error: Parse error: head without a count, in length, at bit 48;
 /png|89504e470a1a0a00|1||error: signature, in signature, at bit 64;
 /dns|506501000001000000000000c00c00010001|1||error: Parse error: head without a count, in question, at bit 104;
 /elf|4d5a|1||error: Not enough data, need 32 bits (or 4 bytes), in magic, at bit 0;
