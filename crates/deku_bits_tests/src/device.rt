@@ -1,9 +1,8 @@
 //! A record that is read from a file.
 
-use crate::same::Refusal;
-use crate::taken::{Step, take_steps};
+use crate::taken::{Step, walk_source};
 use deku_bits::ctx::Order::{Lsb0, Msb0};
-use deku_bits::reader::Reader;
+use deku_testing::refusals::{Refusal, handed};
 use std::fs;
 use std::fs::File;
 use std::io::{SeekFrom, Write};
@@ -37,7 +36,8 @@ static READ: [Step; 17] = [
 fn reads_a_record(rt: HostRuntime) -> Result<(), Fail> {
     let mut file = File::create(&rt, PATH)?;
     file.write_all(&[0xA5, 0x05, 0x1C, 0xDE])?;
-    let mut reader = Reader::new(rt.alloc(), File::open(&rt, PATH)?);
+    let source = File::open(&rt, PATH)?;
     fs::remove_file(&rt, PATH)?;
-    take_steps(&rt, 0, &mut reader, &READ)
+    let (lacks, _file) = walk_source(&rt, rt.alloc(), 0, source, &READ);
+    handed(lacks)
 }

@@ -1,10 +1,10 @@
 //! Streams that cannot seek, read.
 
-use crate::same::FAILED;
 use crate::streams::{Get, get_steps};
-use crate::taken::{Step, handed, walk_source};
+use crate::taken::{Step, walk_source};
 use deku_bits::ctx::Order::Msb0;
 use deku_bits::noseek::NoSeek;
+use deku_testing::refusals::{FAILED, handed};
 use std::io::{ErrorKind, SeekFrom};
 use std::test::Fail;
 

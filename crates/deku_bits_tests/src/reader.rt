@@ -8,15 +8,16 @@ mod failing;
 mod memory;
 mod seek;
 
-use crate::same::{Refusal, same, same_bytes, same_digits};
-use crate::taken::{Case, Left, Step, take_steps, take_tables};
+use crate::same::{same, same_bytes, same_digits};
+use crate::taken::{Case, Left, Step, take_tables, walk_steps};
 use deku_bits::ctx::Order;
 use deku_bits::ctx::Order::{Lsb0, Msb0};
 use deku_bits::device::Source;
 use deku_bits::error::DekuError;
 use deku_bits::reader::Reader;
+use deku_testing::refusals::{Refusal, handed, kind_of};
 use std::alloc::Global;
-use std::io::{Cursor, ErrorKind, SeekFrom};
+use std::io::{Cursor, ErrorKind, Seek, SeekFrom};
 use std::process::Abort;
 use std::test::Fail;
 
@@ -420,13 +421,18 @@ fn shows_what_each_call_meets(rt: HostRuntime) -> Result<(), Fail> {
 
 const BEHIND: [Step; 1] = [Step::Const(1, Msb0, Ok(&[0x03]))];
 
-// What is done to the source through a reader is done to the reader's source.
+// What is done to the source through a reader is done to the reader's source. It returns whether memory was refused.
+fn expect_sought<R: Source + Drop>(rt: &impl Abort, alloc: Global, source: R) -> bool {
+    let mut reader = Reader::new(alloc, source);
+    let answer = kind_of(reader.as_mut().seek(SeekFrom::Start(2)));
+    same(rt, (0, 0), &answer, &Ok(2));
+    walk_steps(rt, 1, &mut reader, &BEHIND)
+}
+
 #[test]
 fn lends_its_source(rt: HostRuntime) -> Result<(), Fail> {
     let bytes: &[u8] = &[0x01, 0x02, 0x03];
-    let mut reader = Reader::new(rt.alloc(), Cursor::new(bytes));
-    reader.as_mut().set_position(2);
-    take_steps(&rt, 0, &mut reader, &BEHIND)
+    handed(expect_sought(&rt, rt.alloc(), Cursor::new(bytes)))
 }
 
 // A reader over a source that is lent gives all of it back.
@@ -437,14 +443,14 @@ fn read_lent<R: Source>(alloc: Global, source: &mut R, dst: &mut [bool]) -> Resu
     reader.read_bits_into(dst, Msb0)
 }
 
-// A lent source stands behind the last byte that was fetched.
+// A lent source is left after the last byte that was fetched.
 #[test]
 fn reads_a_lent_vector(rt: HostRuntime) -> Result<(), Fail> {
     let bytes = [0xA5, 0x3C, 0xFF].to_vec(rt.alloc())?;
     let mut cursor = Cursor::new(bytes);
     expect_lent(&rt, rt.alloc(), &mut cursor);
     same(&rt, (0, 2), &cursor.position(), &2);
-    let more = end_of(&mut Reader::new(rt.alloc(), cursor))?;
+    let more = end_of(rt.alloc(), cursor)?;
     same_bytes(&rt, (0, 3), more.as_slice(), &[0]);
     Ok(())
 }
@@ -456,8 +462,9 @@ fn expect_lent<R: Source>(rt: &impl Abort, alloc: Global, source: &mut R) {
     same_digits(rt, (0, 1), &bits, "101001010");
 }
 
-// Whether the reader is at the end, as a number in memory of the reader's own allocator.
-fn end_of<R: Source>(reader: &mut Reader<R>) -> Result<Vec<u8>, Fail> {
+// Whether a reader is at the end, as a number in memory of the reader's own allocator.
+fn end_of<R: Source + Drop>(alloc: Global, source: R) -> Result<Vec<u8>, Fail> {
+    let mut reader = Reader::new(alloc, source);
     let mut more = Vec::new(reader.alloc());
     more.push(u8::from(reader.end()?))?;
     Ok(more)

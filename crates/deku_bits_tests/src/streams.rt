@@ -1,6 +1,7 @@
 //! Steps of a stream of bytes that is read, in tables.
 
-use crate::same::{Row, kind_of, same};
+use crate::same::{Row, same};
+use deku_testing::refusals::kind_of;
 use std::io::{ErrorKind, Read, Seek, SeekFrom};
 use std::process::Abort;
 

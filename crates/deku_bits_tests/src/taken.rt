@@ -2,14 +2,13 @@
 
 ghost use Rattle.std.specs.Prelude.{◌≤◌};
 
-use crate::same::{
-    NO_MEMORY, Refusal, Row, kind_of, refused, same, same_bytes, same_digits, wanted,
-};
+use crate::same::{Row, same, same_bytes, same_digits};
 use deku_bits::ctx::Order;
 use deku_bits::ctx::Order::{Lsb0, Msb0};
 use deku_bits::device::Source;
 use deku_bits::error::DekuError;
 use deku_bits::reader::{Leftover, Reader};
+use deku_testing::refusals::{NO_MEMORY, Refusal, handed, kind_of, refused, wanted};
 use std::alloc::Global;
 use std::io::{Cursor, ErrorKind, Seek, SeekFrom};
 use std::process::Abort;
@@ -30,7 +29,7 @@ pub enum Left {
     Bits(usize, u8),
 }
 
-/// What is done with a reader, and what it answers. A number in front is how many bits or bytes are asked for.
+/// What is done with a reader, and what it returns. A number in front is how many bits or bytes are asked for.
 pub enum Step {
     /// `read_bits`
     Bits(usize, Order, Digits),
@@ -62,8 +61,30 @@ pub enum Step {
     Left(Left),
     /// `bits_read`
     Count(usize),
-    /// The reader has stopped with this: so each call answers, no bit is left over, and the count stays.
+    /// The reader has stopped with this: so each call returns, no bit is left over, and the count stays.
     Kept(Refusal),
+}
+
+// Bits are these digits, or they are refused so.
+fn expect_digits(
+    rt: &impl Abort,
+    row: Row,
+    error: Option<DekuError>,
+    bits: &[bool],
+    want: &Digits,
+) {
+    same(rt, row, &error, &refused(want));
+    if let Ok(digits) = want {
+        same_digits(rt, row, bits, digits);
+    }
+}
+
+// These are the bytes, or they are refused so.
+fn expect_bytes(rt: &impl Abort, row: Row, error: Option<DekuError>, all: &[u8], want: &Bytes) {
+    same(rt, row, &error, &refused(want));
+    if let Ok(bytes) = want {
+        same_bytes(rt, row, all, bytes);
+    }
 }
 
 // The bits in a buffer, where no more than 24 are asked for.
@@ -75,16 +96,37 @@ fn read_into<R: Source>(
     want: &Digits,
 ) {
     let mut all = [true; 24];
-    let (amt, order) = asked;
-    assert!(rt; amt <= 24);
-    let answer = reader.read_bits_into(&mut all[..amt], order);
-    same(rt, row, &answer.err(), &refused(want));
-    if let Ok(digits) = want {
-        same_digits(rt, row, &all[..amt], digits);
-    }
+    assert!(rt; asked.0 <= 24);
+    let bits = &mut all[..asked.0];
+    let error = reader.read_bits_into(bits, asked.1).err();
+    expect_digits(rt, row, error, bits, want);
 }
 
-// The bits in a vector. Where its memory is refused nothing has moved, and they are read into a buffer; it answers whether.
+// Whether memory was refused where that is not wanted; else the bits are these, or they are refused so.
+fn lacks_bits(
+    rt: &impl Abort,
+    row: Row,
+    answer: Result<Vec<bool>, DekuError>,
+    want: &Digits,
+) -> bool {
+    match answer {
+        Ok(bits) => expect_digits(rt, row, None, &bits, want),
+        Err(error) => {
+            if is_lacking(error, refused(want)) {
+                return true;
+            }
+            expect_digits(rt, row, Some(error), &[], want);
+        }
+    }
+    false
+}
+
+// Memory was refused, and something else was wanted.
+fn is_lacking(error: DekuError, want: Option<DekuError>) -> bool {
+    error == NO_MEMORY.error() && want != Some(error)
+}
+
+// The bits in a vector. Where its memory is refused nothing has moved, and they are read into a buffer; it returns whether.
 fn read_vector<R: Source>(
     rt: &impl Abort,
     row: Row,
@@ -93,28 +135,16 @@ fn read_vector<R: Source>(
     want: &Digits,
 ) -> bool {
     let count = reader.bits_read();
-    let wanted = refused(want);
-    match reader.read_bits(asked.0, asked.1) {
-        Ok(bits) => {
-            same(rt, row, &None, &wanted);
-            if let Ok(digits) = want {
-                same_digits(rt, row, &bits, digits);
-            }
-            false
-        }
-        Err(error) => {
-            if error != NO_MEMORY.error() || wanted == Some(error) {
-                same(rt, row, &Some(error), &wanted);
-                return false;
-            }
-            same(rt, row, &reader.bits_read(), &count);
-            read_into(rt, row, reader, asked, want);
-            true
-        }
+    let answer = reader.read_bits(asked.0, asked.1);
+    let lacks = lacks_bits(rt, row, answer, want);
+    if lacks {
+        same(rt, row, &reader.bits_read(), &count);
+        read_into(rt, row, reader, asked, want);
     }
+    lacks
 }
 
-// The bytes in the front of four; those behind stay.
+// The bytes in the front of four; those after them stay.
 fn read_front<R: Source>(
     rt: &impl Abort,
     row: Row,
@@ -123,14 +153,11 @@ fn read_front<R: Source>(
     want: &Bytes,
 ) {
     let mut all = [0x5A; 4];
-    let (amt, order) = asked;
-    assert!(rt; amt <= 4);
-    let answer = reader.read_bytes(amt, &mut all, order);
-    same(rt, row, &answer.err(), &refused(want));
-    if let Ok(bytes) = want {
-        same_bytes(rt, row, &all[..amt], bytes);
-    }
-    same_bytes(rt, row, &all[amt..], &[0x5A; 4][amt..]);
+    assert!(rt; asked.0 <= 4);
+    let error = reader.read_bytes(asked.0, &mut all, asked.1).err();
+    let (front, rest) = all.split_at(asked.0);
+    expect_bytes(rt, row, error, front, want);
+    same_bytes(rt, row, rest, &[0x5A; 4][asked.0..]);
 }
 
 fn vector_of<R: Source>(
@@ -141,7 +168,26 @@ fn vector_of<R: Source>(
     reader.read_bytes_vec(amt, order)
 }
 
-// The bytes in a vector. Where its memory is refused nothing has moved, and they are read into a buffer; it answers whether.
+// Whether memory was refused where that is not wanted; else the bytes are these, or they are refused so.
+fn lacks_bytes(
+    rt: &impl Abort,
+    row: Row,
+    answer: Result<Vec<u8>, DekuError>,
+    want: &Bytes,
+) -> bool {
+    match answer {
+        Ok(all) => expect_bytes(rt, row, None, all.as_slice(), want),
+        Err(error) => {
+            if is_lacking(error, refused(want)) {
+                return true;
+            }
+            expect_bytes(rt, row, Some(error), &[], want);
+        }
+    }
+    false
+}
+
+// The bytes in a vector. Where its memory is refused nothing has moved, and they are read into a buffer; it returns whether.
 fn read_byte_vector<R: Source>(
     rt: &impl Abort,
     row: Row,
@@ -150,25 +196,13 @@ fn read_byte_vector<R: Source>(
     want: &Bytes,
 ) -> bool {
     let count = reader.bits_read();
-    let wanted = refused(want);
-    match vector_of(reader, asked.0, asked.1) {
-        Ok(all) => {
-            same(rt, row, &None, &wanted);
-            if let Ok(bytes) = want {
-                same_bytes(rt, row, all.as_slice(), bytes);
-            }
-            false
-        }
-        Err(error) => {
-            if error != NO_MEMORY.error() || wanted == Some(error) {
-                same(rt, row, &Some(error), &wanted);
-                return false;
-            }
-            same(rt, row, &reader.bits_read(), &count);
-            read_front(rt, row, reader, asked, want);
-            true
-        }
+    let answer = vector_of(reader, asked.0, asked.1);
+    let lacks = lacks_bytes(rt, row, answer, want);
+    if lacks {
+        same(rt, row, &reader.bits_read(), &count);
+        read_front(rt, row, reader, asked, want);
     }
+    lacks
 }
 
 // Why an array of bytes is refused, where it is: it is filled or answered.
@@ -198,10 +232,7 @@ fn read_const<R: Source, const N: usize>(
 {
     let mut all = [0; N];
     let error = const_refused(reader, &mut all, asked);
-    same(rt, row, &error, &refused(want));
-    if let Ok(bytes) = want {
-        same_bytes(rt, row, &all, bytes);
-    }
+    expect_bytes(rt, row, error, &all, want);
 }
 
 // The array of as many bytes as are asked for.
@@ -221,7 +252,7 @@ fn read_array<R: Source>(
     }
 }
 
-// The unread bits of the last byte, or their memory is refused; it answers whether.
+// The unread bits of the last byte, or their memory is refused; it returns whether.
 fn expect_rest<R: Source>(rt: &impl Abort, row: Row, reader: &Reader<R>, want: &str) -> bool {
     match reader.rest() {
         Ok(bits) => {
@@ -350,7 +381,7 @@ fn take_place<R: Source>(rt: &impl Abort, row: Row, reader: &mut Reader<R>, step
     }
 }
 
-/// These steps, one after the other, show what they say. It answers whether memory was refused.
+/// These steps, one after the other, show what they say. It returns whether memory was refused.
 pub fn walk_steps<R: Source>(
     rt: &impl Abort,
     case: usize,
@@ -377,24 +408,6 @@ pub fn walk_steps<R: Source>(
     lacking
 }
 
-/// These steps, one after the other, show what they say. Memory that was refused is handed on at the end.
-pub fn take_steps<R: Source>(
-    rt: &impl Abort,
-    case: usize,
-    reader: &mut Reader<R>,
-    steps: &[Step],
-) -> Result<(), Fail> {
-    handed(walk_steps(rt, case, reader, steps))
-}
-
-/// Memory that was refused is handed on.
-pub fn handed(lacking: bool) -> Result<(), Fail> {
-    if lacking {
-        return Err(NO_MEMORY.error())?;
-    }
-    Ok(())
-}
-
 /// Bytes, the steps of a reader over a cursor on them, and where the cursor stands then.
 pub type Case = (&'static [u8], &'static [Step], u64);
 
@@ -411,7 +424,7 @@ pub fn walk_source<R: Source>(
     (lacks, reader.into_inner())
 }
 
-// These cases of the nth table show what they say. It answers whether memory was refused.
+// These cases of the nth table show what they say. It returns whether memory was refused.
 fn walk_cases(rt: &impl Abort, alloc: Global, table: usize, cases: &[Case]) -> bool {
     let mut lacking = false;
     for (at, (bytes, steps, place)) in cases.iter().enumerate() {

@@ -1,26 +1,26 @@
 //! Lists of bits in whole bytes, against worked examples.
 
-use crate::given::bits_of;
-use crate::same::{Row, same, same_bytes};
+use crate::Row;
 use deku_bits::bounded::BoundedBitVec;
+use deku_testing::bits::bits_of;
+use deku_testing::same::{same, same_bytes};
 use std::process::Abort;
+use std::test::Fail;
 
 // The bits of a list, and its bytes.
 type Shown = (&'static str, [u8; 2]);
 
 // The list has these bits and no more, and these are its bytes.
-fn expect(rt: &impl Abort, row: Row, bits: &BoundedBitVec<2>, shown: Shown) {
+fn expect(row: Row, bits: &BoundedBitVec<2>, shown: Shown) -> Result<(), Fail> {
     let (want, bytes) = shown;
-    let (list, len) = bits_of(rt, want);
-    same(rt, row, &bits.len(), &len);
+    let (list, len) = bits_of(want);
+    let seen = (bits.len(), bits.is_empty(), bits.is_full(), bits.capacity());
+    same(&row, &seen, &(len, want.is_empty(), len == 16, 16))?;
     for at in 0..24 {
         let bit = if at < len { Some(list[at]) } else { None };
-        same(rt, row, &bits.get(at), &bit);
+        same(&row, &bits.get(at), &bit)?;
     }
-    same(rt, row, &bits.is_empty(), &want.is_empty());
-    same(rt, row, &bits.is_full(), &(len == 16));
-    same(rt, row, &bits.capacity(), &16);
-    same_bytes(rt, row, bits.as_raw_slice(), &bytes);
+    same_bytes(&row, bits.as_raw_slice(), &bytes)
 }
 
 // What makes a list, or changes it. The digits are those of the bits.
@@ -37,11 +37,11 @@ enum Op {
 }
 
 // One change.
-fn change(rt: &impl Abort, row: Row, bits: &mut BoundedBitVec<2>, op: &Op) {
+fn change(rt: &impl Abort, row: Row, bits: &mut BoundedBitVec<2>, op: &Op) -> Result<(), Fail> {
     match op {
         Op::New => *bits = BoundedBitVec::new(),
         Op::FromBits(digits) => {
-            let (list, len) = bits_of(rt, digits);
+            let (list, len) = bits_of(digits);
             assert!(rt; len <= 16);
             *bits = BoundedBitVec::from_bits(&list[..len]);
         }
@@ -51,7 +51,7 @@ fn change(rt: &impl Abort, row: Row, bits: &mut BoundedBitVec<2>, op: &Op) {
             bits.push(*bit);
         }
         Op::Extend(digits) => {
-            let (list, len) = bits_of(rt, digits);
+            let (list, len) = bits_of(digits);
             assert!(rt; len <= 16 - bits.len());
             bits.extend(&list[..len]);
         }
@@ -61,19 +61,21 @@ fn change(rt: &impl Abort, row: Row, bits: &mut BoundedBitVec<2>, op: &Op) {
         }
         Op::SplitOff(at, behind) => {
             assert!(rt; *at < bits.len());
-            expect(rt, row, &bits.split_off(*at), *behind);
+            expect(row, &bits.split_off(*at), *behind)?;
         }
         Op::Clear => bits.clear(),
     }
+    Ok(())
 }
 
 // These changes, one after the other, show what they say.
-fn expect_changes(rt: &impl Abort, case: usize, changes: &[(Op, Shown)]) {
+fn expect_changes(rt: &impl Abort, case: usize, changes: &[(Op, Shown)]) -> Result<(), Fail> {
     let mut bits = BoundedBitVec::new();
     for (at, (op, shown)) in changes.iter().enumerate() {
-        change(rt, (case, at), &mut bits, op);
-        expect(rt, (case, at), &bits, *shown);
+        change(rt, (case, at), &mut bits, op)?;
+        expect((case, at), &bits, *shown)?;
     }
+    Ok(())
 }
 
 const BEGINS: [(Op, Shown); 5] = [
@@ -89,14 +91,14 @@ const BEGINS: [(Op, Shown); 5] = [
 
 // A list of no bytes is empty and full.
 #[test]
-fn has_no_bytes(rt: HostRuntime) {
+fn has_no_bytes(_rt: HostRuntime) -> Result<(), Fail> {
     let mut none: BoundedBitVec<0> = BoundedBitVec::new();
     none.extend(&[]);
     none.clear();
     let shown = (none.is_empty(), none.is_full(), none.capacity());
-    same(&rt, (0, 0), &shown, &(true, true, 0));
-    same(&rt, (0, 1), &none.get(0), &None);
-    same(&rt, (0, 2), &none.as_raw_slice().is_empty(), &true);
+    same(&(0, 0), &shown, &(true, true, 0))?;
+    same(&(0, 1), &none.get(0), &None)?;
+    same(&(0, 2), &none.as_raw_slice().is_empty(), &true)
 }
 
 const GROWS: [(Op, Shown); 7] = [
@@ -147,8 +149,9 @@ const CLEARS: [(Op, Shown); 4] = [
 const CHANGES: [&[(Op, Shown)]; 5] = [&BEGINS, &GROWS, &INSERTS, &SPLITS, &CLEARS];
 
 #[test]
-fn begins_grows_inserts_splits_and_clears(rt: HostRuntime) {
+fn begins_grows_inserts_splits_and_clears(rt: HostRuntime) -> Result<(), Fail> {
     for (case, changes) in CHANGES.iter().enumerate() {
-        expect_changes(&rt, case, changes);
+        expect_changes(&rt, case, changes)?;
     }
+    Ok(())
 }

@@ -1,9 +1,8 @@
 //! A record that is written to a file.
 
-use crate::given::{Put, give_steps};
-use crate::same::{same, same_bytes};
+use crate::given::{Put, give_sink};
 use deku_bits::ctx::Order::Lsb0;
-use deku_bits::writer::Writer;
+use deku_testing::same::{same, same_bytes};
 use std::fs;
 use std::fs::File;
 use std::io::{Read, SeekFrom};
@@ -29,14 +28,12 @@ const WRITTEN: [Put; 10] = [
 // The file has the record, and no more.
 #[test]
 fn writes_a_record(rt: HostRuntime) -> Result<(), Fail> {
-    let mut writer = Writer::new(File::create(&rt, PATH)?);
-    give_steps(&rt, rt.alloc(), 0, &mut writer, &WRITTEN)?;
-    let _file = writer.into_inner();
+    let _file = give_sink(&rt, rt.alloc(), 0, File::create(&rt, PATH)?, &WRITTEN)?;
     let mut file = File::open(&rt, PATH)?;
     fs::remove_file(&rt, PATH)?;
     let mut bytes = [0; 4];
     file.read_exact(&mut bytes)?;
-    same_bytes(&rt, (1, 0), &bytes, &[0xA5, 0x05, 0x1C, 0xDE]);
-    same(&rt, (1, 1), &file.read(&mut bytes)?, &0);
+    same_bytes(&(1, 0), &bytes, &[0xA5, 0x05, 0x1C, 0xDE])?;
+    same(&(1, 1), &file.read(&mut bytes)?, &0)?;
     Ok(())
 }

@@ -1,30 +1,22 @@
 //! What refusals print, and what they are made from.
 
-use crate::same::same;
 use deku_bits::error::{DekuError, NeedSize};
+use deku_testing::same::same;
 use std::alloc::Global;
 use std::io;
 use std::io::ErrorKind;
-use std::process::Abort;
 use std::test::Fail;
 
 // The refusal prints this text, and says the same as this kind of io error.
 fn expect_printed(
-    rt: &impl Abort,
     alloc: Global,
     case: usize,
     error: DekuError,
     text: &str,
     kind: ErrorKind,
 ) -> Result<(), Fail> {
-    same(
-        rt,
-        (case, 0),
-        &format!(in alloc; "{error}")?.as_str(),
-        &text,
-    );
-    same(rt, (case, 1), &error.io_kind(), &kind);
-    Ok(())
+    same(&(case, 0), &format!(in alloc; "{error}")?.as_str(), &text)?;
+    same(&(case, 1), &error.io_kind(), &kind)
 }
 
 const WANTED: [(usize, &str); 3] = [
@@ -37,7 +29,7 @@ const WANTED: [(usize, &str); 3] = [
 fn prints_what_is_wanted(rt: HostRuntime) -> Result<(), Fail> {
     for (case, (bits, text)) in WANTED.iter().enumerate() {
         let error = DekuError::Incomplete(NeedSize::new(*bits));
-        expect_printed(&rt, rt.alloc(), case, error, text, ErrorKind::UnexpectedEof)?;
+        expect_printed(rt.alloc(), case, error, text, ErrorKind::UnexpectedEof)?;
     }
     Ok(())
 }
@@ -46,12 +38,13 @@ fn prints_what_is_wanted(rt: HostRuntime) -> Result<(), Fail> {
 const NEEDS: [(usize, usize); 4] = [(0, 0), (8, 1), (9, 2), (usize::MAX, 2305843009213693952)];
 
 #[test]
-fn counts_the_bytes_that_bits_need(rt: HostRuntime) {
+fn counts_the_bytes_that_bits_need(_rt: HostRuntime) -> Result<(), Fail> {
     for (case, (bits, bytes)) in NEEDS.iter().enumerate() {
         let need = NeedSize::new(*bits);
         let seen = (need.bit_size(), need.byte_size());
-        same(&rt, (case, 0), &seen, &(*bits, *bytes));
+        same(&(case, 0), &seen, &(*bits, *bytes))?;
     }
+    Ok(())
 }
 
 const PRINTED: [(DekuError, &str, ErrorKind); 6] = [
@@ -86,7 +79,7 @@ const PRINTED: [(DekuError, &str, ErrorKind); 6] = [
 #[test]
 fn prints_what_is_wrong_or_failed(rt: HostRuntime) -> Result<(), Fail> {
     for (case, (error, text, kind)) in PRINTED.iter().enumerate() {
-        expect_printed(&rt, rt.alloc(), case, *error, text, *kind)?;
+        expect_printed(rt.alloc(), case, *error, text, *kind)?;
     }
     Ok(())
 }
@@ -118,24 +111,26 @@ const SLICES: [(&[u8], Result<[u8; 3], DekuError>); 2] = [
 ];
 
 // Each number is a byte, or is refused.
-fn expect_bytes(rt: &impl Abort) {
+fn expect_bytes() -> Result<(), Fail> {
     for (case, (number, want)) in NUMBERS.iter().enumerate() {
-        same(rt, (0, case), &byte_of(*number), want);
+        same(&(0, case), &byte_of(*number), want)?;
     }
+    Ok(())
 }
 
 // Each slice is three bytes, or is refused.
-fn expect_threes(rt: &impl Abort) {
+fn expect_threes() -> Result<(), Fail> {
     for (case, (bytes, want)) in SLICES.iter().enumerate() {
-        same(rt, (1, case), &three_of(bytes), want);
+        same(&(1, case), &three_of(bytes), want)?;
     }
+    Ok(())
 }
 
 #[test]
-fn is_made_from_other_errors(rt: HostRuntime) {
-    expect_bytes(&rt);
-    expect_threes(&rt);
+fn is_made_from_other_errors(_rt: HostRuntime) -> Result<(), Fail> {
+    expect_bytes()?;
+    expect_threes()?;
     let broken = io::Error::new(ErrorKind::BrokenPipe, "the pipe is gone");
     let want = Err(DekuError::Io(ErrorKind::BrokenPipe));
-    same(&rt, (2, 0), &after(Err(broken)), &want);
+    same(&(2, 0), &after(Err(broken)), &want)
 }

@@ -1,22 +1,23 @@
 //! Steps of a writer, in tables.
 
-ghost use Rattle.std.specs.Prelude.{◌^◌, ◌<◌, ◌≤◌};
-
-use crate::same::{NO_MEMORY, Refusal, Row, kind_of, refused, same, same_bytes, same_digits};
+use crate::Row;
 use deku_bits::ctx::Order;
 use deku_bits::ctx::Order::{Lsb0, Msb0};
 use deku_bits::device::Sink;
 use deku_bits::error::DekuError;
 use deku_bits::writer::Writer;
+use deku_testing::bits::{bits_of, fitting};
+use deku_testing::refusals::{NO_MEMORY, Refusal, handed, kind_of, refused};
+use deku_testing::same::{same, same_bytes, same_digits};
 use std::alloc::Global;
 use std::io::{Cursor, ErrorKind, Seek, SeekFrom};
 use std::process::Abort;
 use std::test::Fail;
 
-/// What a write answers.
+/// What a write returns.
 pub type Answer = Result<(), Refusal>;
 
-/// What is done with a writer, and what it answers.
+/// What is done with a writer, and what it returns.
 pub enum Put {
     /// `write_bits`
     Bits(&'static str, Answer),
@@ -39,66 +40,46 @@ pub enum Put {
     Left(&'static str, u8, Order),
     /// `bits_written`
     Count(usize),
-    /// The writer has stopped with this: so each call answers, nothing is pending, and the count stays.
+    /// The writer has stopped with this: so each call returns, nothing is pending, and the count stays.
     Kept(Refusal),
-}
-
-/// Bits from digits, and how many there are. It takes no memory.
-pub fn bits_of(rt: &impl Abort, digits: &str) -> ([bool; 24], usize)
-    ensures { result.1 ≤ 24 }
-{
-    let mut bits = [false; 24];
-    for (bit, digit) in bits.iter_mut().zip(digits.as_bytes().iter()) {
-        *bit = *digit == b'1';
-    }
-    assert!(rt; digits.len() <= 24, "{digits}");
-    (bits, digits.len())
-}
-
-/// The word, where it has no more than so many bits.
-pub fn fitting(word: u128, n: usize) -> u128
-    requires { n ≤ 128 }
-    ensures { result < 2 ^ n }
-{
-    if n == 128 { word } else { word % (1 << n) }
 }
 
 /// The bits of these digits are written in this order.
 pub fn write_ordered<W: Sink>(
-    rt: &impl Abort,
     writer: &mut Writer<W>,
     order: Order,
     digits: &str,
 ) -> Result<(), DekuError> {
-    let (list, len) = bits_of(rt, digits);
+    let (list, len) = bits_of(digits);
     writer.write_bits_order(&list[..len], order)
 }
 
-// A write, and what it answers.
+// A write, and what it returns.
 fn write_step<W: Sink>(
     rt: &impl Abort,
-    row: Row,
     writer: &mut Writer<W>,
     step: &Put,
 ) -> Result<(), DekuError> {
     match step {
         Put::Bits(digits, _) => {
-            let (list, len) = bits_of(rt, digits);
+            let (list, len) = bits_of(digits);
             writer.write_bits(&list[..len])
         }
-        Put::Ordered(order, digits, _) => write_ordered(rt, writer, *order, digits),
+        Put::Ordered(order, digits, _) => write_ordered(writer, *order, digits),
         Put::Bytes(bytes, _) => writer.write_bytes(bytes),
         Put::Word(word, n, order, _) => {
             assert!(rt; *n <= 128);
             let fits = fitting(*word, *n);
-            same(rt, row, &fits, word);
+            if fits != *word {
+                return Err(DekuError::Assertion("a word beyond its bits"));
+            }
             writer.write_word(fits, *n, *order)
         }
         _ => writer.finalize(),
     }
 }
 
-// A write answers what it should. Memory that was refused is handed on.
+// A write returns what it should. Memory that was refused is handed on.
 fn expect_put<W: Sink>(
     rt: &impl Abort,
     row: Row,
@@ -106,56 +87,53 @@ fn expect_put<W: Sink>(
     step: &Put,
     want: &Answer,
 ) -> Result<(), Fail> {
-    let answer = write_step(rt, row, writer, step).err();
+    let answer = write_step(rt, writer, step).err();
     let want = refused(want);
     if answer != want && answer == Some(NO_MEMORY.error()) {
         return Err(NO_MEMORY.error())?;
     }
-    same(rt, row, &answer, &want);
-    Ok(())
+    same(&row, &answer, &want)
 }
 
-// The pending bits, or their memory is refused; it answers whether.
+// The pending bits, or their memory is refused; it returns whether.
 fn expect_rest<W: Sink>(
-    rt: &impl Abort,
     alloc: Global,
     row: Row,
     writer: &Writer<W>,
     want: &str,
-) -> bool {
+) -> Result<bool, Fail> {
     match writer.rest(alloc) {
         Ok(bits) => {
-            same_digits(rt, row, &bits, want);
-            false
+            same_digits(&row, &bits, want)?;
+            Ok(false)
         }
         Err(error) => {
-            same(rt, row, &error, &NO_MEMORY.error());
-            true
+            same(&row, &error, &NO_MEMORY.error())?;
+            Ok(true)
         }
     }
 }
 
 // The pending bits, as the high bits of a byte, and their order.
-fn expect_left<W: Sink>(rt: &impl Abort, row: Row, writer: &Writer<W>, want: (&str, u8, Order)) {
+fn expect_left<W: Sink>(row: Row, writer: &Writer<W>, want: (&str, u8, Order)) -> Result<(), Fail> {
     let (pending, order) = writer.leftover();
     let (digits, byte, wanted) = want;
-    let (list, len) = bits_of(rt, digits);
+    let (list, len) = bits_of(digits);
     let seen = (pending.len(), pending.is_empty(), order);
-    same(rt, row, &seen, &(len, digits.is_empty(), wanted));
+    same(&row, &seen, &(len, digits.is_empty(), wanted))?;
     for (at, bit) in list[..len].iter().enumerate() {
-        same(rt, row, &pending.get(at), &Some(*bit));
+        same(&row, &pending.get(at), &Some(*bit))?;
     }
-    same_bytes(rt, row, pending.as_raw_slice(), &[byte]);
+    same_bytes(&row, pending.as_raw_slice(), &[byte])
 }
 
-/// The writer has stopped with this error. It answers whether memory was refused.
+/// The writer has stopped with this error. It returns whether memory was refused.
 pub fn expect_kept<W: Sink>(
-    rt: &impl Abort,
     alloc: Global,
     row: Row,
     writer: &mut Writer<W>,
     error: DekuError,
-) -> bool {
+) -> Result<bool, Fail> {
     let count = writer.bits_written();
     let seen = [
         writer.write_bits(&[]),
@@ -167,13 +145,13 @@ pub fn expect_kept<W: Sink>(
         writer.write_word(0, 0, Msb0),
         writer.finalize(),
     ];
-    same(rt, row, &seen, &[Err(error); 8]);
-    expect_left(rt, row, writer, ("", 0, Msb0));
-    same(rt, row, &writer.bits_written(), &count);
-    expect_rest(rt, alloc, row, writer, "")
+    same(&row, &seen, &[Err(error); 8])?;
+    expect_left(row, writer, ("", 0, Msb0))?;
+    same(&row, &writer.bits_written(), &count)?;
+    expect_rest(alloc, row, writer, "")
 }
 
-// One step. It answers whether memory for an answer was refused.
+// One step. It returns whether memory for an answer was refused.
 fn give_step<W: Sink>(
     rt: &impl Abort,
     alloc: Global,
@@ -188,15 +166,15 @@ fn give_step<W: Sink>(
         | Put::Word(_, _, _, want)
         | Put::Finalize(want) => expect_put(rt, row, writer, step, want)?,
         Put::Seek(to, want) => {
-            same(rt, row, &kind_of(writer.seek(*to)), want);
+            same(&row, &kind_of(writer.seek(*to)), want)?;
         }
-        Put::By(offset, want) => same(rt, row, &kind_of(writer.seek_relative(*offset)), want),
-        Put::Rewind(want) => same(rt, row, &kind_of(writer.rewind()), want),
-        Put::Place(want) => same(rt, row, &kind_of(writer.stream_position()), want),
-        Put::Rest(want) => return Ok(expect_rest(rt, alloc, row, writer, want)),
-        Put::Left(digits, byte, order) => expect_left(rt, row, writer, (digits, *byte, *order)),
-        Put::Count(want) => same(rt, row, &writer.bits_written(), want),
-        Put::Kept(refusal) => return Ok(expect_kept(rt, alloc, row, writer, refusal.error())),
+        Put::By(offset, want) => same(&row, &kind_of(writer.seek_relative(*offset)), want)?,
+        Put::Rewind(want) => same(&row, &kind_of(writer.rewind()), want)?,
+        Put::Place(want) => same(&row, &kind_of(writer.stream_position()), want)?,
+        Put::Rest(want) => return expect_rest(alloc, row, writer, want),
+        Put::Left(digits, byte, order) => expect_left(row, writer, (digits, *byte, *order))?,
+        Put::Count(want) => same(&row, &writer.bits_written(), want)?,
+        Put::Kept(refusal) => return expect_kept(alloc, row, writer, refusal.error()),
     }
     Ok(false)
 }
@@ -215,14 +193,6 @@ pub fn give_steps<W: Sink>(
         lacking = lacking || lacks;
     }
     handed(lacking)
-}
-
-/// Memory that was refused is handed on.
-pub fn handed(lacking: bool) -> Result<(), Fail> {
-    if lacking {
-        return Err(NO_MEMORY.error())?;
-    }
-    Ok(())
 }
 
 /// The steps of a writer over a sink show what they say; the sink then. Memory that was refused is handed on.
@@ -247,7 +217,7 @@ fn give_grown(rt: &impl Abort, alloc: Global, table: usize, cases: &[Grown]) -> 
         let case = table.wrapping_mul(100).wrapping_add(at);
         let vector = Cursor::new(Vec::new(alloc));
         let bytes = give_sink(rt, alloc, case, vector, steps)?.into_inner();
-        same_bytes(rt, (case, steps.len()), bytes.as_slice(), want);
+        same_bytes(&(case, steps.len()), bytes.as_slice(), want)?;
     }
     Ok(())
 }
@@ -267,7 +237,7 @@ pub fn give_bounded(rt: &impl Abort, alloc: Global, cases: &[Grown]) -> Result<(
         let room = want.len();
         assert!(rt; room <= 8);
         give_sink(rt, alloc, case, Cursor::new(&mut slice[..room]), steps)?;
-        same_bytes(rt, (case, steps.len()), &slice[..room], want);
+        same_bytes(&(case, steps.len()), &slice[..room], want)?;
     }
     Ok(())
 }

@@ -14,10 +14,12 @@ mod noseek;
 #[cfg(test)]
 mod probe;
 #[cfg(test)]
-mod same;
-#[cfg(test)]
 mod streams;
 #[cfg(test)]
 mod words;
 #[cfg(test)]
 mod writer;
+
+/// A case of a table, and a step of it. A case of several tables has the number of its table in front, times a hundred.
+#[cfg(test)]
+type Row = (usize, usize);

@@ -1,8 +1,8 @@
 //! Words, by worked rows, and where room ends.
 
 use crate::given::{Grown, Put, give_bounded, give_tables};
-use crate::same::Refusal;
 use deku_bits::ctx::Order::{Lsb0, Msb0};
+use deku_testing::refusals::Refusal;
 use std::io::{ErrorKind, SeekFrom};
 use std::test::Fail;
 
@@ -40,7 +40,7 @@ fn writes_the_worked_words(rt: HostRuntime) -> Result<(), Fail> {
     give_tables(&rt, rt.alloc(), &[&WORKED])
 }
 
-const FULL: Refusal = Refusal(ErrorKind::WriteZero);
+const FULL: Refusal = Refusal::Io(ErrorKind::WriteZero);
 
 // A sink without room for all bytes of a word stops the writer until a seek succeeds.
 const ROOM: [Grown; 1] = [(

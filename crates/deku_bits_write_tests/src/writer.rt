@@ -11,12 +11,13 @@ mod memory;
 mod seek;
 
 use crate::given::{Grown, Put, give_bounded, give_tables, write_ordered};
-use crate::same::{Refusal, same, same_bytes};
 use deku_bits::ctx::Order;
 use deku_bits::ctx::Order::{Lsb0, Msb0};
 use deku_bits::device::Sink;
 use deku_bits::error::DekuError;
 use deku_bits::writer::Writer;
+use deku_testing::refusals::Refusal;
+use deku_testing::same::{same, same_bytes};
 use std::alloc::Global;
 use std::io::{Cursor, ErrorKind};
 use std::process::Abort;
@@ -26,14 +27,10 @@ use std::test::Fail;
 type Lists = (&'static [(Order, &'static str)], &'static [u8]);
 
 // Writes the lists and fills the last byte: how many bits were counted, and the sink.
-fn write_lists<S: Sink + Drop>(
-    rt: &impl Abort,
-    sink: S,
-    lists: &[(Order, &str)],
-) -> Result<(usize, S), DekuError> {
+fn write_lists<S: Sink + Drop>(sink: S, lists: &[(Order, &str)]) -> Result<(usize, S), DekuError> {
     let mut writer = Writer::new(sink);
     for (order, digits) in lists {
-        write_ordered(rt, &mut writer, *order, digits)?;
+        write_ordered(&mut writer, *order, digits)?;
     }
     writer.finalize()?;
     let count = writer.bits_written();
@@ -43,13 +40,13 @@ fn write_lists<S: Sink + Drop>(
 // The lists make these bytes, in a vector and in a slice.
 fn expect_lists(rt: &impl Abort, alloc: Global, cases: &[Lists]) -> Result<(), Fail> {
     for (case, (lists, want)) in cases.iter().enumerate() {
-        let (count, vector) = write_lists(rt, Cursor::new(Vec::new(alloc)), lists)?;
-        same_bytes(rt, (case, 0), vector.into_inner().as_slice(), want);
-        same(rt, (case, 1), &(count / 8), &want.len());
+        let (count, vector) = write_lists(Cursor::new(Vec::new(alloc)), lists)?;
+        same_bytes(&(case, 0), vector.into_inner().as_slice(), want)?;
+        same(&(case, 1), &(count / 8), &want.len())?;
         let mut slice = [0; 8];
-        write_lists(rt, Cursor::new(slice.as_mut_slice()), lists)?;
+        write_lists(Cursor::new(slice.as_mut_slice()), lists)?;
         assert!(rt; want.len() <= 8);
-        same_bytes(rt, (case, 2), &slice[..want.len()], want);
+        same_bytes(&(case, 2), &slice[..want.len()], want)?;
     }
     Ok(())
 }
@@ -136,7 +133,7 @@ fn writes_and_shows_what_is_pending(rt: HostRuntime) -> Result<(), Fail> {
     give_tables(&rt, rt.alloc(), &[&STEPS])
 }
 
-const FULL: Refusal = Refusal(ErrorKind::WriteZero);
+const FULL: Refusal = Refusal::Io(ErrorKind::WriteZero);
 
 const FAULT: [Grown; 1] = [(
     &[
@@ -158,17 +155,16 @@ fn keeps_a_fault(rt: HostRuntime) -> Result<(), Fail> {
 }
 
 #[test]
-fn writes_over_a_slice(rt: HostRuntime) {
+fn writes_over_a_slice(_rt: HostRuntime) -> Result<(), Fail> {
     let list = [true, false, true, false, false, true, false, true];
     let mut slice = [1, 2];
     let row = (0, 0);
     let full = Err(FULL.error());
     same(
-        &rt,
-        row,
+        &row,
         &write_over(slice.as_mut_slice(), &list, Msb0),
         &Ok(()),
-    );
-    same_bytes(&rt, row, &slice, &[0xA5, 2]);
-    same(&rt, row, &write_over(&mut slice[..0], &list, Msb0), &full);
+    )?;
+    same_bytes(&row, &slice, &[0xA5, 2])?;
+    same(&row, &write_over(&mut slice[..0], &list, Msb0), &full)
 }

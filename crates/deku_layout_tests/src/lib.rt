@@ -2,16 +2,14 @@
 #![tactic(auto)]
 
 #[cfg(test)]
-mod expecting;
-#[cfg(test)]
 mod numbers;
 #[cfg(test)]
 mod records;
 #[cfg(test)]
 mod signed;
 #[cfg(test)]
-mod slow;
-#[cfg(test)]
 mod sweep;
 #[cfg(test)]
 mod unsigned;
+#[cfg(test)]
+mod values;

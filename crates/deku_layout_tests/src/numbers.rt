@@ -4,10 +4,10 @@
 
 ghost use Rattle.std.specs.Prelude.{◌≤◌};
 
-use super::expecting::{expect_bytes, next, put, reader_of, same, writer_in};
 use deku::ctx::{Endian, Layout, Order, Size};
 use deku::device::{Sink, Source};
 use deku::prelude::{DekuError, DekuReader, DekuWriter, Reader, Writer};
+use deku_testing::same::same;
 use std::alloc::Global;
 use std::fmt::Debug;
 use std::io::Cursor;
@@ -24,6 +24,9 @@ pub type Row<T> = (Endian, Order, Size, &'static str, T);
 // How a number lies, and a value that does not fit there.
 pub type Misfit<T> = (Endian, Order, Size, T);
 
+// What lies in a page before.
+const THERE: u8 = 0xA5;
+
 // What a hexadecimal digit counts.
 fn digit(code: u8) -> u8
     ensures { result ≤ 15 }
@@ -35,51 +38,47 @@ fn digit(code: u8) -> u8
     }
 }
 
-// The bytes that pairs of hexadecimal digits name.
-fn bytes_of(rt: &impl Abort, digits: &str) -> ([u8; 16], usize)
+// The bytes that pairs of hexadecimal digits name, at most sixteen, in front of what lies there; and how many they are.
+fn bytes_of(digits: &str) -> ([u8; 16], usize)
     ensures { result.1 ≤ 16 }
 {
-    let mut bytes = [0; 16];
+    let mut bytes = [THERE; 16];
     for (byte, pair) in bytes.iter_mut().zip(digits.as_bytes().chunks(2)) {
         if let [high, low] = pair {
             *byte = 16 * digit(*high) + digit(*low);
         }
     }
-    assert!(rt; digits.len() <= 32, "{digits}");
-    (bytes, digits.len() / 2)
+    (bytes, (digits.len() / 2).min(16))
 }
 
-// Each row's bytes are read as its value, to the last byte.
-fn expect_reads<T: DekuReader<Layout> + PartialEq + Debug>(
-    rt: &impl Abort,
-    alloc: Global,
-    rows: &[Row<T>],
-) -> Result<(), Fail>
-    requires { (layout : Layout) → T.accepts layout }
-{
-    for (endian, order, size, digits, want) in rows {
-        let (bytes, len) = bytes_of(rt, digits);
-        let layout = Layout {
-            endian: *endian,
-            order: *order,
-            size: *size,
-        };
-        let mut reader = reader_of(alloc, &bytes[..len]);
-        let value = next::<T, Layout, _>(&mut reader, layout)?;
-        same(rt, &(digits, layout), &value, want);
-        let read = reader.bits_read().div_ceil(8);
-        same(rt, &(digits, layout), &read, &len);
+fn layout_of(endian: Endian, order: Order, size: Size) -> Layout {
+    Layout {
+        endian,
+        order,
+        size,
     }
-    Ok(())
+}
+
+// Reads the value from a source, and counts the bytes that it touched.
+fn read_one<T: DekuReader<Layout>, R: Source + Drop>(
+    alloc: Global,
+    source: R,
+    layout: Layout,
+) -> Result<(T, usize), DekuError>
+    requires { T.accepts layout }
+{
+    let mut reader = Reader::new(alloc, source);
+    let value = T::from_reader_with_ctx(&mut reader, layout)?;
+    Ok((value, reader.bits_read().div_ceil(8)))
 }
 
 // Writes the value from nothing, fills the last byte, and gives the sink back.
-fn written_padded<T: DekuWriter<Layout>, W: Sink + Drop>(
+fn write_one<T: DekuWriter<Layout>, W: Sink + Drop>(
     sink: W,
     value: &T,
     layout: Layout,
 ) -> Result<W, DekuError>
-    requires { (layout : Layout) → T.accepts layout }
+    requires { T.accepts layout }
 {
     let mut writer = Writer::new(sink);
     value.to_writer(&mut writer, layout)?;
@@ -87,108 +86,130 @@ fn written_padded<T: DekuWriter<Layout>, W: Sink + Drop>(
     Ok(writer.into_inner())
 }
 
-// Each row's value is written as its bytes.
-fn expect_writes<T: DekuWriter<Layout> + Debug>(
+// The row's bytes are read as its value, to the last byte, and the value is written as its bytes.
+fn expect_row<T: DekuReader<Layout> + DekuWriter<Layout> + PartialEq + Debug>(
     rt: &impl Abort,
+    alloc: Global,
+    row: &Row<T>,
+) -> Result<(), Fail>
+    requires reads { (layout : Layout) → T.DekuReader.accepts layout }
+    requires writes { (layout : Layout) → T.DekuWriter.accepts layout }
+{
+    let (endian, order, size, digits, value) = row;
+    let layout = layout_of(*endian, *order, *size);
+    let (bytes, len) = bytes_of(digits);
+    let (read, count) = read_one::<T, _>(alloc, Cursor::new(&bytes[..len]), layout)?;
+    let mut page = [THERE; 16];
+    let end = write_one(Cursor::new(page.as_mut_slice()), value, layout)?.position();
+    let seen = (count, end, page);
+    let is_same = read == *value && seen == (len, len as u64, bytes);
+    assert!(rt; is_same, "{row:?}: {read:?}, {seen:?}");
+    Ok(())
+}
+
+// Each row both ways.
+fn expect_both_ways<T: DekuReader<Layout> + DekuWriter<Layout> + PartialEq + Debug>(
+    rt: &impl Abort,
+    alloc: Global,
     rows: &[Row<T>],
 ) -> Result<(), Fail>
-    requires { (layout : Layout) → T.accepts layout }
+    requires reads { (layout : Layout) → T.DekuReader.accepts layout }
+    requires writes { (layout : Layout) → T.DekuWriter.accepts layout }
 {
-    for (endian, order, size, digits, value) in rows {
-        let (bytes, len) = bytes_of(rt, digits);
-        let layout = Layout {
-            endian: *endian,
-            order: *order,
-            size: *size,
-        };
-        let mut page = [0xA5; 16];
-        let over = Cursor::new(page.as_mut_slice());
-        let end = written_padded(over, value, layout)?.position();
-        let want = (len as u64, &bytes[..len]);
-        same(rt, &(value, layout), &(end, &page[..len]), &want);
+    for row in rows {
+        expect_row(rt, alloc, row)?;
     }
     Ok(())
 }
 
 // The values do not fit, and nothing is written.
-fn expect_misfits<T: DekuWriter<Layout> + Debug>(
-    rt: &impl Abort,
-    alloc: Global,
-    rows: &[Misfit<T>],
-) -> Result<(), Fail>
+fn expect_misfits<T: DekuWriter<Layout> + Debug>(rows: &[Misfit<T>]) -> Result<(), Fail>
     requires { (layout : Layout) → T.accepts layout }
 {
     for (endian, order, size, value) in rows {
-        let layout = Layout {
-            endian: *endian,
-            order: *order,
-            size: *size,
-        };
-        expect_unwritten(rt, alloc, value, layout, MISFIT)?;
+        let layout = layout_of(*endian, *order, *size);
+        expect_unwritten(value, layout, MISFIT)?;
     }
     Ok(())
 }
 
-// The next byte.
-fn next_byte<R: Source>(reader: &mut Reader<R>) -> Result<u8, DekuError> {
+// Why the layout is refused where it is read; how many bits are read then, the next byte, and the source after that.
+fn read_refused<T: DekuReader<Layout>, R: Source + Drop>(
+    alloc: Global,
+    source: R,
+    layout: Layout,
+) -> Result<(Option<DekuError>, usize, [u8; 1], R), DekuError>
+    requires { T.accepts layout }
+{
+    let mut reader = Reader::new(alloc, source);
+    let refusal = T::from_reader_with_ctx(&mut reader, layout).err();
+    let read = reader.bits_read();
     let mut byte = [0];
     reader.read_bytes_const_into(&mut byte, Order::Msb0)?;
-    Ok(byte[0])
+    Ok((refusal, read, byte, reader.into_inner()))
 }
 
-// A layout refuses to be read with this error, and the reader stands where it stood.
+// A layout refuses to be read with this error, and the reader stays where it was.
 fn expect_unread<T: DekuReader<Layout> + Debug>(
-    rt: &impl Abort,
     alloc: Global,
     layout: Layout,
     error: DekuError,
 ) -> Result<(), Fail>
     requires { (layout : Layout) → T.accepts layout }
 {
-    let mut reader = reader_of(alloc, &[0xA5; 24]);
-    let refusal = next::<T, Layout, _>(&mut reader, layout).err();
-    let read = reader.bits_read();
-    same(rt, &layout, &(refusal, read), &(Some(error), 0));
-    let byte = next_byte(&mut reader)?;
-    let place = reader.into_inner().position();
-    same(rt, &layout, &(byte, place), &(0xA5, 1));
-    Ok(())
+    let page = [THERE; 16];
+    let source = Cursor::new(page.as_slice());
+    let (refusal, read, byte, source) = read_refused::<T, _>(alloc, source, layout)?;
+    let seen = (refusal, read, byte, source.position());
+    same(&layout, &seen, &(Some(error), 0, [THERE], 1))
+}
+
+// Why the value is refused where it is written; and the sink after the last byte is filled.
+fn write_refused<T: DekuWriter<Layout>, W: Sink + Drop>(
+    sink: W,
+    value: &T,
+    layout: Layout,
+) -> Result<(Option<DekuError>, W), DekuError>
+    requires { T.accepts layout }
+{
+    let mut writer = Writer::new(sink);
+    let refusal = value.to_writer(&mut writer, layout).err();
+    writer.finalize()?;
+    Ok((refusal, writer.into_inner()))
 }
 
 // A layout refuses to be written with this error, and nothing is written.
 fn expect_unwritten<T: DekuWriter<Layout> + Debug>(
-    rt: &impl Abort,
-    alloc: Global,
     value: &T,
     layout: Layout,
     error: DekuError,
 ) -> Result<(), Fail>
     requires { (layout : Layout) → T.accepts layout }
 {
-    let mut writer = writer_in(alloc);
-    let refusal = put(&mut writer, value, layout).err();
-    same(rt, &(value, layout), &refusal, &Some(error));
-    expect_bytes(rt, &(value, layout), writer, &[])
+    let mut page = [THERE; 16];
+    let sink = Cursor::new(page.as_mut_slice());
+    let (refusal, sink) = write_refused(sink, value, layout)?;
+    let end = sink.position();
+    let want = (Some(error), 0, [THERE; 16]);
+    same(&(value, layout), &(refusal, end, page), &want)
 }
 
 // A layout refuses to be read and to be written with these errors, and nothing moves.
 pub fn expect_beyond<T: DekuReader<Layout> + DekuWriter<Layout> + Debug>(
-    rt: &impl Abort,
     alloc: Global,
-    value: T,
+    value: &T,
     layout: Layout,
     errors: (DekuError, DekuError),
 ) -> Result<(), Fail>
     requires reads { (layout : Layout) → T.DekuReader.accepts layout }
     requires writes { (layout : Layout) → T.DekuWriter.accepts layout }
 {
-    expect_unread::<T>(rt, alloc, layout, errors.0)?;
-    expect_unwritten(rt, alloc, &value, layout, errors.1)
+    expect_unread::<T>(alloc, layout, errors.0)?;
+    expect_unwritten(value, layout, errors.1)
 }
 
 // One bit more than a type has, one byte more, and as many bytes as can be counted are refused.
-pub fn expect_one_beyond<T: Copy + DekuReader<Layout> + DekuWriter<Layout> + Debug>(
-    rt: &impl Abort,
+pub fn expect_one_beyond<T: DekuReader<Layout> + DekuWriter<Layout> + Debug>(
     alloc: Global,
     value: T,
     bits: usize,
@@ -196,29 +217,18 @@ pub fn expect_one_beyond<T: Copy + DekuReader<Layout> + DekuWriter<Layout> + Deb
     requires reads { (layout : Layout) → T.DekuReader.accepts layout }
     requires writes { (layout : Layout) → T.DekuWriter.accepts layout }
 {
-    let (endian, order) = (Endian::Big, Order::Lsb0);
     let read = DekuError::Parse("too much data");
-    let size = Size::Bits(bits.saturating_add(1));
-    let written = DekuError::InvalidParam("bit size is larger than input");
-    expect_beyond(
-        rt,
-        alloc,
-        value,
-        Layout {
-            endian,
-            order,
-            size,
-        },
-        (read, written),
-    )?;
-    let written = DekuError::InvalidParam("byte size is larger than input");
-    for bytes in [bits / 8 + 1, usize::MAX] {
-        let layout = Layout {
-            endian,
-            order,
-            size: Size::Bytes(bytes),
-        };
-        expect_beyond(rt, alloc, value, layout, (read, written))?;
+    let (bit, byte) = (
+        DekuError::InvalidParam("bit size is larger than input"),
+        DekuError::InvalidParam("byte size is larger than input"),
+    );
+    for (size, written) in [
+        (Size::Bits(bits.saturating_add(1)), bit),
+        (Size::Bytes(bits / 8 + 1), byte),
+        (Size::Bytes(usize::MAX), byte),
+    ] {
+        let layout = layout_of(Endian::Big, Order::Lsb0, size);
+        expect_beyond(alloc, &value, layout, (read, written))?;
     }
     Ok(())
 }
@@ -233,7 +243,6 @@ pub fn expect_rows<T: DekuReader<Layout> + DekuWriter<Layout> + PartialEq + Debu
     requires reads { (layout : Layout) → T.DekuReader.accepts layout }
     requires writes { (layout : Layout) → T.DekuWriter.accepts layout }
 {
-    expect_reads(rt, alloc, rows)?;
-    expect_writes(rt, rows)?;
-    expect_misfits(rt, alloc, misfits)
+    expect_both_ways(rt, alloc, rows)?;
+    expect_misfits(misfits)
 }

@@ -1,13 +1,16 @@
 //! Records: numbers and pairs, one after the other, each under a context of its own.
 
-use super::expecting::{expect_bytes, expect_next, next, put, reader_of, same, writer_in};
 use super::numbers::{MISFIT, expect_beyond};
 use deku::ctx::Endian::{Big, Little};
 use deku::ctx::Order::{Lsb0, Msb0};
 use deku::ctx::{BitSize, ByteSize, Endian, Layout, NumberCtx, Order, Size};
 use deku::device::{Sink, Source};
 use deku::prelude::{DekuError, NeedSize, Reader, Writer};
+use deku::probe::FailAt;
+use deku_testing::calls::{next, put};
+use deku_testing::same::same;
 use std::alloc::Global;
+use std::io::{Cursor, ErrorKind};
 use std::process::Abort;
 use std::test::Fail;
 
@@ -21,7 +24,7 @@ enum Number {
 }
 
 // A context of each type that there is.
-#[derive(Clone, Copy, Debug)]
+#[derive(Clone, Copy)]
 enum Under {
     Nothing,
     One(Endian),
@@ -124,47 +127,51 @@ type Record = (
     &'static [bool],
 );
 
-// Fields that are read one after the other.
-fn expect_fields<R: Source>(
+// A record is read from a source.
+fn expect_read_from<R: Source + Drop>(
     rt: &impl Abort,
-    reader: &mut Reader<R>,
-    name: &'static str,
-    fields: &[Field],
+    alloc: Global,
+    source: R,
+    record: &Record,
 ) -> Result<(), Fail> {
-    for field in fields {
-        let number = read_field(reader, field)?;
-        same(rt, &(name, field), &number, &field.0);
+    let (name, _, fields, bits, rest) = record;
+    let mut reader = Reader::new(alloc, source);
+    for (at, field) in fields.iter().enumerate() {
+        let number = read_field(&mut reader, field)?;
+        assert!(rt; number == field.0, "{name}, field {at}: {number:?}");
     }
+    let left = reader.rest()?;
+    let is_same = reader.bits_read() == *bits && left.as_slice() == *rest;
+    assert!(rt; is_same, "{name}: {left:?} is left");
     Ok(())
 }
 
 // Records that are read.
 fn expect_read(rt: &impl Abort, alloc: Global, records: &[Record]) -> Result<(), Fail> {
-    for (name, bytes, fields, bits, rest) in records {
-        let mut reader = reader_of(alloc, bytes);
-        expect_fields(rt, &mut reader, *name, *fields)?;
-        let left = reader.rest()?;
-        let seen = (reader.bits_read(), left.as_slice());
-        same(rt, name, &seen, &(*bits, *rest));
+    for record in records {
+        expect_read_from(rt, alloc, Cursor::new(record.1), record)?;
     }
     Ok(())
 }
 
-// Writes fields one after the other.
-fn write_fields<W: Sink>(writer: &mut Writer<W>, fields: &[Field]) -> Result<(), DekuError> {
+// Writes fields one after the other: how many bits are counted, and the sink after the last byte is filled.
+fn write_fields<W: Sink + Drop>(sink: W, fields: &[Field]) -> Result<(usize, W), DekuError> {
+    let mut writer = Writer::new(sink);
     for field in fields {
-        write_field(writer, field)?;
+        write_field(&mut writer, field)?;
     }
-    Ok(())
+    let count = writer.bits_written();
+    writer.finalize()?;
+    Ok((count, writer.into_inner()))
 }
 
 // Records that are written.
 fn expect_records_written(rt: &impl Abort, alloc: Global, records: &[Record]) -> Result<(), Fail> {
     for (name, bytes, fields, bits, _) in records {
-        let mut writer = writer_in(alloc);
-        write_fields(&mut writer, *fields)?;
-        same(rt, name, &writer.bits_written(), &(bits / 8 * 8));
-        expect_bytes(rt, name, writer, bytes)?;
+        let (count, sink) = write_fields(Cursor::new(Vec::new(alloc)), fields)?;
+        let written = sink.into_inner();
+        let is_same = count == bits / 8 * 8 && written.as_slice() == *bytes;
+        assert!(rt; is_same, "{name}: {written:?}, of {count} bits");
     }
     Ok(())
 }
@@ -455,68 +462,122 @@ fn written(rt: HostRuntime) -> Result<(), Fail> {
 fn too_many_bits(rt: HostRuntime) -> Result<(), Fail> {
     let read = DekuError::Parse("too much data");
     let written = DekuError::InvalidParam("bit size is larger than input");
-    expect_beyond(&rt, rt.alloc(), 0u8, BitSize(9).parts(), (read, written))
+    expect_beyond(rt.alloc(), &0u8, BitSize(9).parts(), (read, written))
 }
 
-// What does not fit leaves what was pending, and the next field is behind that.
+// What calls return, and how many bits are counted then.
+type Answer<T> = (Result<T, DekuError>, usize);
+
+// Ten bits, numbers that do not fit in bits and in bytes, and four bits more: what the misfits return, and the sink after the last byte is
+// filled.
+fn write_misfits<W: Sink + Drop>(sink: W) -> Result<([Answer<()>; 2], W), DekuError> {
+    let ten = (Little, BitSize(10));
+    let mut writer = Writer::new(sink);
+    put(&mut writer, &0x3ABu16, ten)?;
+    let bits = put(&mut writer, &0x400u16, ten);
+    let bits = (bits, writer.bits_written());
+    let bytes = put(&mut writer, &0x01020304u32, (Big, ByteSize(2)));
+    let bytes = (bytes, writer.bits_written());
+    put(&mut writer, &15u8, BitSize(4))?;
+    writer.finalize()?;
+    Ok(([bits, bytes], writer.into_inner()))
+}
+
+// What does not fit leaves what was pending, and the next field is after that.
 #[test]
 fn a_misfit_between_fields(rt: HostRuntime) -> Result<(), Fail> {
-    let ten = (Little, BitSize(10));
-    let mut writer = writer_in(rt.alloc());
-    put(&mut writer, &0x3ABu16, ten)?;
-    let answer = put(&mut writer, &0x400u16, ten);
-    same(
-        &rt,
-        &"misfit",
-        &(answer, writer.bits_written()),
-        &(Err(MISFIT), 8),
-    );
-    let answer = put(&mut writer, &0x01020304u32, (Big, ByteSize(2)));
-    same(
-        &rt,
-        &"misfit in bytes",
-        &(answer, writer.bits_written()),
-        &(Err(MISFIT), 8),
-    );
-    put(&mut writer, &15u8, BitSize(4))?;
-    expect_bytes(&rt, &"around the misfit", writer, &[0xAB, 0xFC])
+    let mut page = [0; 2];
+    let (answers, sink) = write_misfits(Cursor::new(page.as_mut_slice()))?;
+    let end = sink.position();
+    let want = ([(Err(MISFIT), 8); 2], 2, [0xAB, 0xFC]);
+    same(&"misfits", &(answers, end, page), &want)
+}
+
+// The bytes of pairs, and of two bits.
+const PAIRS: [u8; 7] = [0x04, 0xF0, 0x80, 0x69, 0xBE, 0xEF, 0x1B];
+
+// Bytes of six bits, one of eight with a number of sixteen, and three of two bits: each with the bits that are read then; and the bits that
+// are left.
+fn expect_pairs<R: Source + Drop>(alloc: Global, source: R) -> Result<(), Fail> {
+    let mut reader = Reader::new(alloc, source);
+    let first: (u8, u8) = next(&mut reader, BitSize(6))?;
+    same(&"first", &(first, reader.bits_read()), &((1, 15), 12))?;
+    let second: (u8, u8) = next(&mut reader, BitSize(6))?;
+    same(&"second", &(second, reader.bits_read()), &((2, 0), 24))?;
+    let third: (u8, u16) = next(&mut reader, Big)?;
+    let want = ((0x69, 0xBEEF), 48);
+    same(&"third", &(third, reader.bits_read()), &want)?;
+    let last: ((u8, u8), u8) = next(&mut reader, BitSize(2))?;
+    let left = reader.rest()?;
+    let seen = (last, reader.bits_read(), left.as_slice());
+    same(&"last", &seen, &(((0, 1), 2), 54, &[true, true]))
+}
+
+fn write_pairs<W: Sink + Drop>(sink: W) -> Result<W, DekuError> {
+    let mut writer = Writer::new(sink);
+    put(&mut writer, &(1u8, 15u8), BitSize(6))?;
+    put(&mut writer, &(2u8, 0u8), BitSize(6))?;
+    put(&mut writer, &(0x69u8, 0xBEEFu16), Big)?;
+    put(&mut writer, &((0u8, 1u8), (2u8, 3u8)), BitSize(2))?;
+    writer.finalize()?;
+    Ok(writer.into_inner())
 }
 
 // A pair is its first, then its second, under one context.
 #[test]
 fn pairs(rt: HostRuntime) -> Result<(), Fail> {
-    let bytes: &[u8] = &[0x04, 0xF0, 0x80, 0x69, 0xBE, 0xEF, 0x1B];
-    let mut reader = reader_of(rt.alloc(), bytes);
-    expect_next(&rt, &mut reader, BitSize(6), (1u8, 15u8), 12)?;
-    expect_next(&rt, &mut reader, BitSize(6), (2u8, 0u8), 24)?;
-    expect_next(&rt, &mut reader, Big, (0x69u8, 0xBEEFu16), 48)?;
-    expect_next(&rt, &mut reader, BitSize(2), ((0u8, 1u8), 2u8), 54)?;
-    same(
-        &rt,
-        &"left",
-        &reader.rest()?.as_slice(),
-        &[true, true].as_slice(),
-    );
-    let mut writer = writer_in(rt.alloc());
-    put(&mut writer, &(1u8, 15u8), BitSize(6))?;
-    put(&mut writer, &(2u8, 0u8), BitSize(6))?;
-    put(&mut writer, &(0x69u8, 0xBEEFu16), Big)?;
-    put(&mut writer, &((0u8, 1u8), (2u8, 3u8)), BitSize(2))?;
-    expect_bytes(&rt, &"pairs", writer, bytes)
+    expect_pairs(rt.alloc(), Cursor::new(PAIRS.as_slice()))?;
+    let mut page = [0; 7];
+    write_pairs(Cursor::new(page.as_mut_slice()))?;
+    same(&"pairs", &page, &PAIRS)
+}
+
+// Half a pair is read, and then nothing: what the first returns, and how many bits are read and left then; and what the second returns.
+fn read_half<R: Source + Drop>(
+    alloc: Global,
+    source: R,
+) -> Result<(Answer<(u8, u16)>, usize, Result<u8, DekuError>), DekuError> {
+    let mut reader = Reader::new(alloc, source);
+    let answer = next(&mut reader, Big);
+    let count = reader.bits_read();
+    let left = reader.rest()?.len();
+    let then = next(&mut reader, BitSize(0));
+    Ok(((answer, count), left, then))
+}
+
+// A pair whose second does not fit is written: what that returns, and the sink after the last byte is filled.
+fn write_half<W: Sink + Drop>(sink: W) -> Result<(Result<(), DekuError>, W), DekuError> {
+    let mut writer = Writer::new(sink);
+    let answer = put(&mut writer, &(5u8, 16u8), BitSize(4));
+    writer.finalize()?;
+    Ok((answer, writer.into_inner()))
 }
 
 // A pair whose second is refused has moved its first.
 #[test]
 fn half_a_pair(rt: HostRuntime) -> Result<(), Fail> {
-    let mut reader = reader_of(rt.alloc(), &[0x69]);
+    let seen = read_half(rt.alloc(), Cursor::new([0x69].as_slice()))?;
     let ended = DekuError::Incomplete(NeedSize::new(16));
-    let answer = next::<(u8, u16), Endian, _>(&mut reader, Big);
-    let seen = (answer, reader.bits_read(), reader.rest()?.len());
-    same(&rt, &"half", &seen, &(Err(ended), 8, 0));
-    let answer = next::<u8, BitSize, _>(&mut reader, BitSize(0));
-    same(&rt, &"behind it", &answer, &Err(ended));
-    let mut writer = writer_in(rt.alloc());
-    let answer = put(&mut writer, &(5u8, 16u8), BitSize(4));
-    same(&rt, &"misfit", &answer, &Err(MISFIT));
-    expect_bytes(&rt, &"before the misfit", writer, &[0x50])
+    same(&"read", &seen, &((Err(ended), 8), 0, Err(ended)))?;
+    let mut page = [0; 2];
+    let (answer, sink) = write_half(Cursor::new(page.as_mut_slice()))?;
+    let end = sink.position();
+    let want = (Err(MISFIT), 1, [0x50, 0]);
+    same(&"written", &(answer, end, page), &want)
+}
+
+// A big number of sixteen bits, and how many bits are read then.
+fn read_number_of<R: Source + Drop>(alloc: Global, source: R) -> Answer<u16> {
+    let mut reader = Reader::new(alloc, source);
+    let answer = next(&mut reader, Big);
+    (answer, reader.bits_read())
+}
+
+// A source that fails at the second byte of a number: that is returned, and no bit is counted.
+#[test]
+fn fails_inside_a_number(rt: HostRuntime) -> Result<(), Fail> {
+    let failing = FailAt::new(Cursor::new([0xBE, 0xEF].as_slice()), 2);
+    let seen = read_number_of(rt.alloc(), failing);
+    let want = (Err(DekuError::Io(ErrorKind::Other)), 0);
+    same(&"failing", &seen, &want)
 }

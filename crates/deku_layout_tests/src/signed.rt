@@ -14,13 +14,14 @@ const LEAST: i128 = -0x8000000000000000000000000;
 
 const GREATEST: i128 = 0x7FFFFFFFFFFFFFFFFFFFFFFFF;
 
-const I8_ROWS: [Row<i8>; 17] = [
+const I8_ROWS: [Row<i8>; 18] = [
     (Big, Msb0, Whole, "00", 0),
     (Little, Msb0, Whole, "01", 1),
     (Big, Lsb0, Whole, "FF", -1),
     (Little, Lsb0, Whole, "7F", 127),
     (Big, Msb0, Whole, "80", -128),
     (Big, Msb0, Bits(3), "A0", -3),
+    (Little, Msb0, Bits(3), "A0", -3),
     (Big, Msb0, Bits(3), "60", 3),
     (Little, Msb0, Bits(3), "80", -4),
     (Big, Lsb0, Bits(3), "05", -3),
@@ -51,7 +52,7 @@ const I8_MISFITS: [Misfit<i8>; 11] = [
 #[test]
 fn of_8_bits(rt: HostRuntime) -> Result<(), Fail> {
     expect_rows(&rt, rt.alloc(), &I8_ROWS, &I8_MISFITS)?;
-    expect_one_beyond(&rt, rt.alloc(), 0i8, 8)
+    expect_one_beyond(rt.alloc(), 0i8, 8)
 }
 
 const I16_ROWS: [Row<i16>; 21] = [
@@ -94,13 +95,13 @@ const I16_MISFITS: [Misfit<i16>; 10] = [
 #[test]
 fn of_16_bits(rt: HostRuntime) -> Result<(), Fail> {
     expect_rows(&rt, rt.alloc(), &I16_ROWS, &I16_MISFITS)?;
-    expect_one_beyond(&rt, rt.alloc(), 0i16, 16)?;
+    expect_one_beyond(rt.alloc(), 0i16, 16)?;
     let uneven = Layout {
         endian: Big,
         order: Lsb0,
         size: Bits(13),
     };
-    expect_beyond(&rt, rt.alloc(), 0i16, uneven, (UNEVEN, UNEVEN))
+    expect_beyond(rt.alloc(), &0i16, uneven, (UNEVEN, UNEVEN))
 }
 
 const I32_ROWS: [Row<i32>; 18] = [
@@ -140,13 +141,13 @@ const I32_MISFITS: [Misfit<i32>; 10] = [
 #[test]
 fn of_32_bits(rt: HostRuntime) -> Result<(), Fail> {
     expect_rows(&rt, rt.alloc(), &I32_ROWS, &I32_MISFITS)?;
-    expect_one_beyond(&rt, rt.alloc(), 0i32, 32)?;
+    expect_one_beyond(rt.alloc(), 0i32, 32)?;
     let uneven = Layout {
         endian: Big,
         order: Lsb0,
         size: Bits(9),
     };
-    expect_beyond(&rt, rt.alloc(), 0i32, uneven, (UNEVEN, UNEVEN))
+    expect_beyond(rt.alloc(), &0i32, uneven, (UNEVEN, UNEVEN))
 }
 
 const I64_ROWS: [Row<i64>; 15] = [
@@ -180,7 +181,7 @@ const I64_MISFITS: [Misfit<i64>; 7] = [
 #[test]
 fn of_64_bits(rt: HostRuntime) -> Result<(), Fail> {
     expect_rows(&rt, rt.alloc(), &I64_ROWS, &I64_MISFITS)?;
-    expect_one_beyond(&rt, rt.alloc(), 0i64, 64)
+    expect_one_beyond(rt.alloc(), 0i64, 64)
 }
 
 const ISIZE_ROWS: [Row<isize>; 11] = [
@@ -219,7 +220,7 @@ const ISIZE_MISFITS: [Misfit<isize>; 4] = [
 #[test]
 fn of_the_size_of_places(rt: HostRuntime) -> Result<(), Fail> {
     expect_rows(&rt, rt.alloc(), &ISIZE_ROWS, &ISIZE_MISFITS)?;
-    expect_one_beyond(&rt, rt.alloc(), 0isize, 64)
+    expect_one_beyond(rt.alloc(), 0isize, 64)
 }
 
 const I128_ROWS: [Row<i128>; 12] = [
@@ -265,5 +266,5 @@ const I128_MISFITS: [Misfit<i128>; 4] = [
 #[test]
 fn of_128_bits(rt: HostRuntime) -> Result<(), Fail> {
     expect_rows(&rt, rt.alloc(), &I128_ROWS, &I128_MISFITS)?;
-    expect_one_beyond(&rt, rt.alloc(), 0i128, 128)
+    expect_one_beyond(rt.alloc(), 0i128, 128)
 }

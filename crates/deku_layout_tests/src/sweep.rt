@@ -1,393 +1,389 @@
-//! A sweep over numbers: all types, widths, endians, orders and places in a byte, against slow functions over lists of truth values.
+//! Numbers of each type and each width, in both endians and orders, from each bit of a byte on, against the slow ones.
 
-use super::expecting::{next, reader_of, same};
 use super::numbers::MISFIT;
-use super::slow::{Bits, list_of, page_of, places_of, power, with_sign, worth};
-use deku::ctx::Endian::{Big, Little};
-use deku::ctx::Order::{Lsb0, Msb0};
+use super::values::{KINDS, Kind, Value, read_value, write_value};
 use deku::ctx::{Endian, Layout, Order, Size};
 use deku::device::{Sink, Source};
-use deku::prelude::{DekuError, DekuReader, DekuWriter, Reader, Writer};
+use deku::prelude::{DekuError, Reader, Writer};
+use deku_num::kind::NumberType;
+use deku_testing::bits::{bytes_of, shown};
+use deku_testing::numbers::{
+    MOST, list_of, refused_to_read, refused_to_write, two_to, weights, width, worth,
+};
+use deku_testing::random::Random;
 use std::alloc::Global;
-use std::fmt::Debug;
 use std::io::Cursor;
 use std::process::Abort;
-use std::test::Fail;
 
-const UNEVEN: DekuError = DekuError::InvalidParam("signed big Lsb0 field of this width");
+// The whole type, and sizes far beyond each type: eight times one of them is past 64 bits.
+const OTHER_SIZES: [Size; 5] = [
+    Size::Whole,
+    Size::Bits(usize::MAX),
+    Size::Bytes(usize::MAX),
+    Size::Bytes(0x2000_0000_0000_0000),
+    Size::Bytes(0x2000_0000_0000_0001),
+];
 
-// A value of a number type, from its two's complement in 128 bits.
-trait Swept {
-    fn of(pattern: u128) -> Self;
+// Ones and zeros in turn, the lowest bit being one.
+const IN_TURN: u128 = 0x5555_5555_5555_5555_5555_5555_5555_5555;
+
+// The bytes that a field takes at most, with those bits of its first byte that lie in front of it.
+const PAGE: usize = 17;
+
+// A field, a value to be written, and what the slow ones say: the bits of the field, what they are worth or why that is not read, and why
+// the value is not written.
+#[derive(Debug, Clone, Copy)]
+struct Row {
+    kind: Kind,
+    layout: Layout,
+    value: Value,
+    read: Result<Value, DekuError>,
+    written: Result<(), DekuError>,
 }
 
-fn signed(pattern: u128) -> i128 {
-    i128::from_le_bytes(pattern.to_le_bytes())
+// What is seen of a read: the bits in front as they are shown, what the number's read answers, the bits counted and the bytes fetched.
+#[derive(Debug, Clone, Copy, PartialEq, Eq)]
+struct Reading {
+    front: [bool; 8],
+    answer: Result<Value, DekuError>,
+    bits_read: usize,
+    fetched: u64,
 }
 
-impl Swept for u8 {
-    fn of(pattern: u128) -> u8 {
-        u8::try_from(pattern).unwrap_or(0)
+// What is seen of a write: what the number's write answers, the bits counted and the bytes.
+#[derive(Debug, Clone, Copy, PartialEq, Eq)]
+struct Writing {
+    answer: Result<(), DekuError>,
+    bits_written: usize,
+    page: [u8; PAGE],
+}
+
+#[test]
+fn little_msb0(rt: HostRuntime) {
+    sweep(&rt, rt.alloc(), Endian::Little, Order::Msb0);
+}
+
+#[test]
+fn little_lsb0(rt: HostRuntime) {
+    sweep(&rt, rt.alloc(), Endian::Little, Order::Lsb0);
+}
+
+#[test]
+fn big_msb0(rt: HostRuntime) {
+    sweep(&rt, rt.alloc(), Endian::Big, Order::Msb0);
+}
+
+#[test]
+fn big_lsb0(rt: HostRuntime) {
+    sweep(&rt, rt.alloc(), Endian::Big, Order::Lsb0);
+}
+
+fn sweep(rt: &impl Abort, alloc: Global, endian: Endian, order: Order) {
+    let mut random = Random::new();
+    sweep_kinds(rt, alloc, endian, order, &mut random);
+    sweep_widths(rt, alloc, endian, order, &mut random);
+}
+
+// Each type that has the traits.
+fn sweep_kinds(rt: &impl Abort, alloc: Global, endian: Endian, order: Order, random: &mut Random) {
+    for kind in KINDS {
+        sweep_sizes(rt, alloc, kind, endian, order, random);
     }
 }
 
-impl Swept for u16 {
-    fn of(pattern: u128) -> u16 {
-        u16::try_from(pattern).unwrap_or(0)
+// Types of each width up to 128 bits, without a sign and with one.
+fn sweep_widths(rt: &impl Abort, alloc: Global, endian: Endian, order: Order, random: &mut Random) {
+    for n in 0..258 {
+        let number_type = NumberType {
+            bits: n / 2,
+            signed: n % 2 == 1,
+            one_byte: false,
+        };
+        sweep_whole(rt, alloc, number_type, endian, order, random);
     }
 }
 
-impl Swept for u32 {
-    fn of(pattern: u128) -> u32 {
-        u32::try_from(pattern).unwrap_or(0)
+// The sizes of up to 130 bits, of up to 18 bytes, and the others.
+fn size_at(n: usize) -> Size {
+    if n < 131 {
+        Size::Bits(n)
+    } else if n < 150 {
+        Size::Bytes(n - 131)
+    } else {
+        OTHER_SIZES[(n - 150) % 5]
     }
 }
 
-impl Swept for u64 {
-    fn of(pattern: u128) -> u64 {
-        u64::try_from(pattern).unwrap_or(0)
-    }
-}
-
-impl Swept for u128 {
-    fn of(pattern: u128) -> u128 {
-        pattern
-    }
-}
-
-impl Swept for i8 {
-    fn of(pattern: u128) -> i8 {
-        i8::try_from(signed(pattern)).unwrap_or(0)
-    }
-}
-
-impl Swept for i16 {
-    fn of(pattern: u128) -> i16 {
-        i16::try_from(signed(pattern)).unwrap_or(0)
-    }
-}
-
-impl Swept for i32 {
-    fn of(pattern: u128) -> i32 {
-        i32::try_from(signed(pattern)).unwrap_or(0)
-    }
-}
-
-impl Swept for i64 {
-    fn of(pattern: u128) -> i64 {
-        i64::try_from(signed(pattern)).unwrap_or(0)
-    }
-}
-
-impl Swept for i128 {
-    fn of(pattern: u128) -> i128 {
-        signed(pattern)
-    }
-}
-
-// A field: its type has so many bits, with a sign or without, and it is so wide, under an endian and an order.
-#[derive(Clone, Copy, Debug)]
-struct Field {
-    type_bits: usize,
-    signed: bool,
-    width: usize,
+// A type under each of these sizes: under those in bits that it has in each place, but for the types that are as wide as `u64` and `i64`.
+fn sweep_sizes(
+    rt: &impl Abort,
+    alloc: Global,
+    kind: Kind,
     endian: Endian,
     order: Order,
+    random: &mut Random,
+) {
+    for n in 0..155 {
+        let layout = Layout {
+            endian,
+            order,
+            size: size_at(n),
+        };
+        let in_type = n <= kind.number_type().bits;
+        let everywhere = in_type && !matches!(kind, Kind::Usize | Kind::Isize);
+        sweep_field(rt, alloc, kind, layout, random, everywhere);
+    }
 }
 
-impl Field {
-    fn layout(&self) -> Layout {
-        Layout {
-            endian: self.endian,
-            order: self.order,
-            size: Size::Bits(self.width),
+// A type whole, with all its bits, and with one more.
+fn sweep_whole(
+    rt: &impl Abort,
+    alloc: Global,
+    number_type: NumberType,
+    endian: Endian,
+    order: Order,
+    random: &mut Random,
+) {
+    let bits = number_type.bits;
+    for size in [
+        Size::Whole,
+        Size::Bits(bits),
+        Size::Bits(bits.saturating_add(1)),
+    ] {
+        let layout = Layout {
+            endian,
+            order,
+            size,
+        };
+        let everywhere = size == Size::Whole;
+        sweep_field(rt, alloc, Kind::Of(number_type), layout, random, everywhere);
+    }
+}
+
+// A field of the type under the layout, with values at the edges and others: each in each place, or in one.
+fn sweep_field(
+    rt: &impl Abort,
+    alloc: Global,
+    kind: Kind,
+    layout: Layout,
+    random: &mut Random,
+    everywhere: bool,
+) {
+    let number_type = kind.number_type();
+    let width = match refused_to_read(number_type, layout) {
+        None => width(number_type, layout.size).min(MOST),
+        Some(_) => 0,
+    };
+    let weights = weights(layout.endian, layout.order, width);
+    for pattern in patterns(width, &weights, random) {
+        let bits = list_of(pattern, &weights);
+        let (list, _) = bits.split_at(width);
+        let row = row_of(kind, layout, pattern, list);
+        let noise = random.next();
+        if everywhere {
+            sweep_places(rt, alloc, &row, list, noise);
+        } else {
+            expect_place(rt, alloc, &row, list, noise, noise as usize % 8);
         }
     }
-
-    // A number with a sign, big and in `Lsb0`, is refused where its groups above the first are not whole.
-    fn is_refused(&self) -> bool {
-        let turned = matches!((self.endian, self.order), (Big, Lsb0));
-        self.signed && turned && self.width > 8 && self.width % 8 != 0
-    }
 }
 
-// Bits in front of a field, in the order in which they are met. A writer is given the last one first in `Lsb0`.
-const FRONT: [bool; 7] = [true, true, false, true, false, false, true];
-
-// What is written for the value behind so many bits, over a page.
-fn written<T: DekuWriter<Layout>>(
-    page: &mut [u8; 24],
-    value: &T,
-    field: &Field,
-    behind: usize,
-) -> Result<(), DekuError>
-    requires { (layout : Layout) → T.accepts layout }
-{
-    let mut writer = Writer::new(Cursor::new(page.as_mut_slice()));
-    write_behind(&mut writer, value, field, behind)
-}
-
-// Writes the value behind so many bits, and fills the last byte.
-fn write_behind<T: DekuWriter<Layout>, W: Sink>(
-    writer: &mut Writer<W>,
-    value: &T,
-    field: &Field,
-    behind: usize,
-) -> Result<(), DekuError>
-    requires { (layout : Layout) → T.accepts layout }
-{
-    let mut front = FRONT;
-    let front = &mut front[..behind.min(7)];
-    if matches!(field.order, Lsb0) {
-        front.reverse();
-    }
-    writer.write_bits_order(front, field.order)?;
-    value.to_writer(writer, field.layout())?;
-    writer.finalize()
-}
-
-// What is read behind so many bits, and how many bits are read then.
-fn read<T: DekuReader<Layout>>(
-    alloc: Global,
-    page: &[u8; 24],
-    field: &Field,
-    front: usize,
-) -> (Result<T, DekuError>, usize)
-    requires { (layout : Layout) → T.accepts layout }
-{
-    read_behind(&mut reader_of(alloc, page), field, front)
-}
-
-// Reads the value behind so many bits, and how many bits are read then.
-fn read_behind<T: DekuReader<Layout>, R: Source>(
-    reader: &mut Reader<R>,
-    field: &Field,
-    front: usize,
-) -> (Result<T, DekuError>, usize)
-    requires { (layout : Layout) → T.accepts layout }
-{
-    let skipped = reader.skip_bits(front, field.order);
-    let answer = next::<T, Layout, R>(reader, field.layout());
-    match skipped {
-        Ok(()) => (answer, reader.bits_read()),
-        Err(refusal) => (Err(refusal), 0),
-    }
-}
-
-// The value is written as the list, behind bits of each number below eight, and read from it, with other bits behind.
-fn expect_list<T: Swept + DekuReader<Layout> + DekuWriter<Layout> + PartialEq + Debug>(
-    rt: &impl Abort,
-    alloc: Global,
-    field: &Field,
-    list: &Bits,
-    pattern: u128,
-)
-    requires reads { (layout : Layout) → T.DekuReader.accepts layout }
-    requires writes { (layout : Layout) → T.DekuWriter.accepts layout }
-{
-    let value = T::of(pattern);
-    for count in 0..8usize {
-        let front = &FRONT[..count];
-        let mut page = [0; 24];
-        let answer = written(&mut page, &value, field, count);
-        let want = page_of(field.order, front, list, field.width, false);
-        same(
-            rt,
-            &(field, count, pattern),
-            &(answer, page),
-            &(Ok(()), want),
-        );
-        let page = page_of(field.order, front, list, field.width, true);
-        let answer = read::<T>(alloc, &page, field, count);
-        same(
-            rt,
-            &(field, count, pattern),
-            &answer,
-            &(Ok(T::of(pattern)), count.saturating_add(field.width)),
-        );
-    }
-}
-
-// A value that no list of the width is worth is refused, and nothing is written; so is each value where the layout is refused.
-fn expect_refused<T: Swept + DekuWriter<Layout> + Drop>(
-    rt: &impl Abort,
-    field: &Field,
-    pattern: u128,
-    want: DekuError,
-)
-    requires { (layout : Layout) → T.accepts layout }
-{
-    let mut page = [0xA5; 24];
-    let answer = written(&mut page, &T::of(pattern), field, 0);
-    same(
-        rt,
-        &(field, pattern),
-        &(answer, page),
-        &(Err(want), [0xA5; 24]),
-    );
-}
-
-// The value is written and read where a list is worth it, and else refused; and what its bits are worth is written and read.
-fn expect_value<T: Swept + DekuReader<Layout> + DekuWriter<Layout> + PartialEq + Debug>(
-    rt: &impl Abort,
-    alloc: Global,
-    field: &Field,
-    places: &[u128; 128],
-    pattern: u128,
-)
-    requires reads { (layout : Layout) → T.DekuReader.accepts layout }
-    requires writes { (layout : Layout) → T.DekuWriter.accepts layout }
-{
-    let list = list_of(places, pattern);
-    let found = worth(field.signed, field.endian, field.order, &list, field.width);
-    if found != pattern {
-        expect_refused::<T>(rt, field, pattern, MISFIT);
-    }
-    expect_list::<T>(rt, alloc, field, &list, found);
-}
-
-// Nothing, one, the least and the greatest of the width and those beyond them, less than nothing, in turns, and any.
-fn edges(width: usize, any: u128) -> [u128; 14] {
-    let (all, half) = (power(width), power(width.saturating_sub(1)));
-    let turns = 0xAAAAAAAAAAAAAAAAAAAAAAAAAAAAAAAAu128;
+// Numbers at the edges of a width, with a sign and without, and some that look like chance.
+fn patterns(width: usize, weights: &[u128; MOST], random: &mut Random) -> [u128; 16] {
+    let ones = two_to(width).wrapping_sub(1);
+    let half = ones / 2;
+    let all = weights
+        .iter()
+        .fold(0u128, |sum, weight| sum.wrapping_add(*weight));
     [
         0,
         1,
-        all.wrapping_sub(1),
-        all,
-        half.wrapping_sub(1),
-        half,
-        half.wrapping_neg(),
-        half.wrapping_neg().wrapping_sub(1),
         u128::MAX,
-        turns & all.wrapping_sub(1),
-        (turns >> 1) & all.wrapping_sub(1),
-        any & all.wrapping_sub(1),
-        any.wrapping_mul(0x9E3779B97F4A7C15) & all.wrapping_sub(1),
-        any,
+        ones,
+        ones.wrapping_add(1),
+        half,
+        half.wrapping_add(1),
+        !half,
+        (!half).wrapping_sub(1),
+        all,
+        IN_TURN & ones,
+        !IN_TURN & ones,
+        random.next_wide(),
+        random.next_wide() & ones,
+        random.next_wide() & half,
+        !(random.next_wide() & half),
     ]
 }
 
-// A field is written and read at each of its edges.
-fn expect_field<T: Swept + DekuReader<Layout> + DekuWriter<Layout> + PartialEq + Debug>(
+// What the slow ones say of a field and a value. It fits where the list of its bits is worth it.
+fn row_of(kind: Kind, layout: Layout, pattern: u128, list: &[bool]) -> Row {
+    let number_type = kind.number_type();
+    let worth = worth(number_type.signed, layout.endian, layout.order, list);
+    let read = match refused_to_read(number_type, layout) {
+        Some(refusal) => Err(refusal),
+        None => Ok(value_of(number_type, worth)),
+    };
+    let written = match refused_to_write(number_type, layout) {
+        Some(refusal) => Err(refusal),
+        None if worth == pattern => Ok(()),
+        None => Err(MISFIT),
+    };
+    Row {
+        kind,
+        layout,
+        value: value_of(number_type, pattern),
+        read,
+        written,
+    }
+}
+
+// The value that a number modulo two to the power of 128 stands for.
+fn value_of(number_type: NumberType, pattern: u128) -> Value {
+    if number_type.signed {
+        Value::Signed(pattern.cast_signed())
+    } else {
+        Value::Unsigned(pattern)
+    }
+}
+
+// The field from each bit of a byte on, and from its first one also after a look for the end. A value that does not fit is refused in one
+// place, and what its list is worth is written in each.
+fn sweep_places(rt: &impl Abort, alloc: Global, row: &Row, list: &[bool], noise: u64) {
+    expect_read(rt, alloc, row, &[], true, list, noise % 2 == 1);
+    let mut row = *row;
+    if let (Ok(value), Err(_)) = (row.read, row.written) {
+        expect_place(rt, alloc, &row, list, noise, noise as usize % 8);
+        row.value = value;
+        row.written = Ok(());
+    }
+    for offset in 0..8 {
+        expect_place(rt, alloc, &row, list, noise, offset);
+    }
+}
+
+// The field is read and written from this bit of a byte on, after other bits of it.
+fn expect_place(
     rt: &impl Abort,
     alloc: Global,
-    field: &Field,
-    any: u128,
-)
-    requires reads { (layout : Layout) → T.DekuReader.accepts layout }
-    requires writes { (layout : Layout) → T.DekuWriter.accepts layout }
-{
-    if field.is_refused() {
-        let answer = read::<T>(alloc, &[0xA5; 24], field, 0);
-        same(rt, field, &answer, &(Err(UNEVEN), 0));
-        return expect_refused::<T>(rt, field, any, UNEVEN);
+    row: &Row,
+    list: &[bool],
+    noise: u64,
+    offset: usize,
+) {
+    let mut bits = [false; 8];
+    for i in 0..8 {
+        bits[i] = (noise >> i) % 2 == 1;
     }
-    let places = places_of(field.endian, field.order, field.width);
-    for edge in edges(field.width, any) {
-        let cut = edge & power(field.type_bits).wrapping_sub(1);
-        let pattern = with_sign(field.signed, field.type_bits, cut);
-        expect_value::<T>(rt, alloc, field, &places, pattern);
-    }
+    assert!(rt; offset < bits.len());
+    let (front, _) = bits.split_at(offset);
+    expect_read(rt, alloc, row, front, false, list, bits[7]);
+    expect_written(rt, row, front, list);
 }
 
-// The next of a row of pseudo-random numbers.
-fn next_any(any: u128) -> u128 {
-    any.wrapping_mul(0x2360ED051FC65DA44385DF649FCCF645)
-        .wrapping_add(0x5851F42D4C957F2D14057B7EF767814F)
-}
-
-// Fields of each width of a type, under an endian and an order.
-fn expect_widths<T: Swept + DekuReader<Layout> + DekuWriter<Layout> + PartialEq + Debug>(
+// The field is read from the bytes of the front and the list as the row says, and no byte is fetched that was not needed.
+fn expect_read(
     rt: &impl Abort,
     alloc: Global,
-    shape: (usize, bool),
-    turn: (Endian, Order),
-)
-    requires reads { (layout : Layout) → T.DekuReader.accepts layout }
-    requires writes { (layout : Layout) → T.DekuWriter.accepts layout }
-{
-    let mut any = 1;
-    for width in 0..shape.0.saturating_add(1) {
-        any = next_any(any);
-        let field = Field {
-            type_bits: shape.0,
-            signed: shape.1,
-            width,
-            endian: turn.0,
-            order: turn.1,
-        };
-        expect_field::<T>(rt, alloc, &field, any);
-    }
+    row: &Row,
+    front: &[bool],
+    peeks: bool,
+    list: &[bool],
+    behind: bool,
+) {
+    let order = row.layout.order;
+    let bytes = bytes_of(order, front, list, behind);
+    let moved = if row.read.is_ok() { list.len() } else { 0 };
+    let count = front.len().saturating_add(moved);
+    let want = Reading {
+        front: shown(order, front),
+        answer: row.read,
+        bits_read: count,
+        fetched: count.div_ceil(8).max(peeks as usize) as u64,
+    };
+    let seen = read_field(rt, alloc, row, front.len(), peeks, &bytes);
+    assert!(rt; seen == want, "{row:?} behind {front:?}: {seen:?}");
 }
 
-// Fields of a type under an order.
-fn expect_type<T: Swept + DekuReader<Layout> + DekuWriter<Layout> + PartialEq + Debug>(
+// What is seen where the field is read.
+fn read_field(
     rt: &impl Abort,
     alloc: Global,
-    shape: (usize, bool),
-    order: Order,
-)
-    requires reads { (layout : Layout) → T.DekuReader.accepts layout }
-    requires writes { (layout : Layout) → T.DekuWriter.accepts layout }
-{
-    for endian in [Big, Little] {
-        expect_widths::<T>(rt, alloc, shape, (endian, order));
+    row: &Row,
+    offset: usize,
+    peeks: bool,
+    bytes: &[u8],
+) -> Reading {
+    let source = Cursor::new(bytes);
+    let (front, answer, bits_read, source) = read_from(rt, alloc, source, row, offset, peeks);
+    Reading {
+        front,
+        answer,
+        bits_read,
+        fetched: source.position(),
     }
 }
 
-// Fields without a sign, of at most 64 bits, under an order.
-fn expect_unsigned(rt: &impl Abort, alloc: Global, order: Order) {
-    expect_type::<u8>(rt, alloc, (8, false), order);
-    expect_type::<u16>(rt, alloc, (16, false), order);
-    expect_type::<u32>(rt, alloc, (32, false), order);
-    expect_type::<u64>(rt, alloc, (64, false), order);
+// The bits in front as they are shown, what the number's read answers, the bits counted, and the source then.
+fn read_from<R: Source>(
+    rt: &impl Abort,
+    alloc: Global,
+    source: R,
+    row: &Row,
+    offset: usize,
+    peeks: bool,
+) -> ([bool; 8], Result<Value, DekuError>, usize, R) {
+    let mut reader = Reader::new(alloc, source);
+    if peeks {
+        assert!(rt; reader.end() == Ok(false), "{row:?}");
+    }
+    let mut front = [false; 8];
+    assert!(rt; offset <= front.len());
+    let read = reader.read_bits_into(&mut front[..offset], row.layout.order);
+    assert!(rt; read.is_ok(), "{row:?}");
+    let answer = read_value(rt, &mut reader, row.kind, row.layout);
+    let count = reader.bits_read();
+    (front, answer, count, reader.into_inner())
 }
 
-// Fields with a sign, of at most 64 bits, under an order.
-fn expect_signed(rt: &impl Abort, alloc: Global, order: Order) {
-    expect_type::<i8>(rt, alloc, (8, true), order);
-    expect_type::<i16>(rt, alloc, (16, true), order);
-    expect_type::<i32>(rt, alloc, (32, true), order);
-    expect_type::<i64>(rt, alloc, (64, true), order);
+// The value is written as the row says: as the list, or as nothing at all.
+fn expect_written(rt: &impl Abort, row: &Row, front: &[bool], list: &[bool]) {
+    let order = row.layout.order;
+    let moved: &[bool] = if row.written.is_ok() { list } else { &[] };
+    let count = front.len().saturating_add(moved.len());
+    let want = Writing {
+        answer: row.written,
+        bits_written: count.div_ceil(8).saturating_mul(8),
+        page: bytes_of(order, front, moved, false),
+    };
+    let seen = write_field(rt, row, front);
+    assert!(rt; seen == want, "{row:?} behind {front:?}: {seen:?}");
 }
 
-#[test]
-fn unsigned_up_to_64_bits_in_msb0(rt: HostRuntime) {
-    expect_unsigned(&rt, rt.alloc(), Msb0);
+// What is seen where the value is written and padded.
+fn write_field(rt: &impl Abort, row: &Row, front: &[bool]) -> Writing {
+    let mut page = [0; PAGE];
+    let (answer, bits_written) = write_onto(rt, Cursor::new(page.as_mut_slice()), row, front);
+    Writing {
+        answer,
+        bits_written,
+        page,
+    }
 }
 
-#[test]
-fn unsigned_up_to_64_bits_in_lsb0(rt: HostRuntime) {
-    expect_unsigned(&rt, rt.alloc(), Lsb0);
-}
-
-#[test]
-fn unsigned_of_128_bits_in_msb0(rt: HostRuntime) {
-    expect_type::<u128>(&rt, rt.alloc(), (128, false), Msb0);
-}
-
-#[test]
-fn unsigned_of_128_bits_in_lsb0(rt: HostRuntime) {
-    expect_type::<u128>(&rt, rt.alloc(), (128, false), Lsb0);
-}
-
-#[test]
-fn signed_up_to_64_bits_in_msb0(rt: HostRuntime) {
-    expect_signed(&rt, rt.alloc(), Msb0);
-}
-
-#[test]
-fn signed_up_to_64_bits_in_lsb0(rt: HostRuntime) {
-    expect_signed(&rt, rt.alloc(), Lsb0);
-}
-
-#[test]
-fn signed_of_128_bits_in_msb0(rt: HostRuntime) {
-    expect_type::<i128>(&rt, rt.alloc(), (128, true), Msb0);
-}
-
-#[test]
-fn signed_of_128_bits_in_lsb0(rt: HostRuntime) {
-    expect_type::<i128>(&rt, rt.alloc(), (128, true), Lsb0);
+// What the number's write answers, and the bits counted.
+fn write_onto<W: Sink + Drop>(
+    rt: &impl Abort,
+    sink: W,
+    row: &Row,
+    front: &[bool],
+) -> (Result<(), DekuError>, usize) {
+    let mut writer = Writer::new(sink);
+    let bits = shown(row.layout.order, front);
+    assert!(rt; front.len() <= bits.len());
+    let begun = writer.write_bits_order(&bits[..front.len()], row.layout.order);
+    assert!(rt; begun.is_ok(), "{row:?}");
+    let answer = write_value(rt, &mut writer, row.kind, row.value, row.layout);
+    let ended = writer.finalize();
+    assert!(rt; ended.is_ok(), "{row:?}");
+    (answer, writer.bits_written())
 }

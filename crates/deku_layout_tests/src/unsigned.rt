@@ -15,7 +15,7 @@ const COUNTED: u128 = 0x000102030405060708090A0B0C0D0E0F;
 
 const GREATEST: u128 = 0xFFFFFFFFFFFFFFFFFFFFFFFFF;
 
-const U8_ROWS: [Row<u8>; 16] = [
+const U8_ROWS: [Row<u8>; 17] = [
     (Big, Msb0, Whole, "00", 0),
     (Little, Msb0, Whole, "01", 1),
     (Big, Lsb0, Whole, "FF", 0xFF),
@@ -24,6 +24,7 @@ const U8_ROWS: [Row<u8>; 16] = [
     (Big, Msb0, Bits(3), "00", 0),
     (Big, Msb0, Bits(3), "20", 1),
     (Big, Msb0, Bits(3), "E0", 7),
+    (Big, Msb0, Bits(3), "A0", 5),
     (Little, Msb0, Bits(3), "A0", 5),
     (Big, Lsb0, Bits(3), "05", 5),
     (Little, Lsb0, Bits(3), "01", 1),
@@ -34,10 +35,11 @@ const U8_ROWS: [Row<u8>; 16] = [
     (Little, Msb0, Bytes(9), "AB", 0xAB),
 ];
 
-const U8_MISFITS: [Misfit<u8>; 5] = [
+const U8_MISFITS: [Misfit<u8>; 6] = [
     (Big, Msb0, Bits(0), 1),
     (Big, Msb0, Bits(3), 8),
     (Little, Msb0, Bits(3), 8),
+    (Little, Msb0, Bits(4), 16),
     (Big, Lsb0, Bits(3), 8),
     (Little, Lsb0, Bits(3), 0xFF),
 ];
@@ -47,7 +49,7 @@ fn of_8_bits(rt: HostRuntime) -> Result<(), Fail> {
     expect_rows(&rt, rt.alloc(), &U8_ROWS, &U8_MISFITS)
 }
 
-const U16_ROWS: [Row<u16>; 26] = [
+const U16_ROWS: [Row<u16>; 27] = [
     (Big, Msb0, Whole, "0000", 0),
     (Big, Msb0, Whole, "0001", 1),
     (Big, Msb0, Whole, "BEEF", 0xBEEF),
@@ -72,6 +74,7 @@ const U16_ROWS: [Row<u16>; 26] = [
     (Big, Lsb0, Bits(13), "FF1F", 0xFF1F),
     (Big, Msb0, Bits(0), "", 0),
     (Big, Msb0, Bytes(0), "", 0),
+    (Little, Msb0, Bytes(0), "", 0),
     (Little, Lsb0, Bytes(1), "CD", 0xCD),
     (Big, Msb0, Bytes(2), "ABCD", 0xABCD),
 ];
@@ -92,7 +95,7 @@ const U16_MISFITS: [Misfit<u16>; 10] = [
 #[test]
 fn of_16_bits(rt: HostRuntime) -> Result<(), Fail> {
     expect_rows(&rt, rt.alloc(), &U16_ROWS, &U16_MISFITS)?;
-    expect_one_beyond(&rt, rt.alloc(), 0u16, 16)
+    expect_one_beyond(rt.alloc(), 0u16, 16)
 }
 
 const U32_ROWS: [Row<u32>; 25] = [
@@ -137,7 +140,7 @@ const U32_MISFITS: [Misfit<u32>; 8] = [
 #[test]
 fn of_32_bits(rt: HostRuntime) -> Result<(), Fail> {
     expect_rows(&rt, rt.alloc(), &U32_ROWS, &U32_MISFITS)?;
-    expect_one_beyond(&rt, rt.alloc(), 0u32, 32)
+    expect_one_beyond(rt.alloc(), 0u32, 32)
 }
 
 const U64_ROWS: [Row<u64>; 17] = [
@@ -173,7 +176,7 @@ const U64_MISFITS: [Misfit<u64>; 7] = [
 #[test]
 fn of_64_bits(rt: HostRuntime) -> Result<(), Fail> {
     expect_rows(&rt, rt.alloc(), &U64_ROWS, &U64_MISFITS)?;
-    expect_one_beyond(&rt, rt.alloc(), 0u64, 64)
+    expect_one_beyond(rt.alloc(), 0u64, 64)
 }
 
 const USIZE_ROWS: [Row<usize>; 11] = [
@@ -212,7 +215,7 @@ const USIZE_MISFITS: [Misfit<usize>; 4] = [
 #[test]
 fn of_the_size_of_places(rt: HostRuntime) -> Result<(), Fail> {
     expect_rows(&rt, rt.alloc(), &USIZE_ROWS, &USIZE_MISFITS)?;
-    expect_one_beyond(&rt, rt.alloc(), 0usize, 64)
+    expect_one_beyond(rt.alloc(), 0usize, 64)
 }
 
 const U128_ROWS: [Row<u128>; 16] = [
@@ -268,5 +271,5 @@ const U128_MISFITS: [Misfit<u128>; 4] = [
 #[test]
 fn of_128_bits(rt: HostRuntime) -> Result<(), Fail> {
     expect_rows(&rt, rt.alloc(), &U128_ROWS, &U128_MISFITS)?;
-    expect_one_beyond(&rt, rt.alloc(), 0u128, 128)
+    expect_one_beyond(rt.alloc(), 0u128, 128)
 }

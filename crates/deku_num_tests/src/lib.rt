@@ -1,17 +1,7 @@
-//! Tests of `deku_num`, and of the words of `deku_bits`, through their public calls.
+//! Tests of the words of `deku_bits`, and of the contexts of `deku_num`, through their public calls.
 #![tactic(auto)]
 
 #[cfg(test)]
-mod calls;
-#[cfg(test)]
 mod ctx;
-#[cfg(test)]
-mod random;
-#[cfg(test)]
-mod slow;
-#[cfg(test)]
-mod sweep;
-#[cfg(test)]
-mod values;
 #[cfg(test)]
 mod words;

@@ -5,6 +5,4 @@ mod high;
 mod laid;
 mod read;
 mod runs;
-mod same;
-mod slow;
 mod written;

@@ -1,5 +1,6 @@
 //! What values and their bytes are expected to be to one another.
 
+pub use crate::same::same;
 use deku::device::{Sink, Source};
 use deku::prelude::{DekuError, DekuReader, DekuWriter, Reader, Writer};
 use std::alloc::Global;
@@ -14,14 +15,6 @@ pub const NO_MEMORY: DekuError = DekuError::Io(ErrorKind::OutOfMemory);
 pub const MISFIT: DekuError = DekuError::InvalidParam(
     "bit size of input is larger than requested size",
 );
-
-/// What was seen is what was wanted, in the row of this name.
-pub fn same<T: PartialEq + Debug>(row: &impl Debug, seen: &T, wanted: &T) -> Result<(), Fail> {
-    if *seen == *wanted {
-        return Ok(());
-    }
-    Err(Fail::new(format_args!("{row:?}: {seen:?}, and not {wanted:?}")))
-}
 
 /// A reader of these bytes.
 pub fn reader_of<'b>(alloc: Global, bytes: &'b [u8]) -> Reader<Cursor<&'b [u8]>> {

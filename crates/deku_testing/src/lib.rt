@@ -1,7 +1,12 @@
-//! What crates of tests share: slow models, numbers without a pattern, and runners of tables.
+//! What crates of tests share: slow models, numbers without a pattern, refusals in tables, calls by name, and what records and runs are expected to be.
 #![tactic(auto)]
 
+pub mod bits;
+pub mod calls;
 pub mod expecting;
+pub mod numbers;
 pub mod random;
 pub mod records;
+pub mod refusals;
 pub mod runs;
+pub mod same;

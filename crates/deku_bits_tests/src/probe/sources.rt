@@ -1,15 +1,16 @@
 //! Sources that fail once.
 
-use super::BITS;
-use crate::same::{FAILED, Row, kind_of, same};
+use crate::same::{Row, same};
 use crate::streams::{Get, get_steps};
-use crate::taken::{Left, Step, handed, walk_source, walk_steps};
+use crate::taken::{Left, Step, walk_source, walk_steps};
 use deku_bits::ctx::Order;
 use deku_bits::ctx::Order::{Lsb0, Msb0};
 use deku_bits::device::Source;
 use deku_bits::error::DekuError;
 use deku_bits::probe::{FailAt, Trickle};
 use deku_bits::reader::Reader;
+use deku_testing::bits::THREE_BYTES;
+use deku_testing::refusals::{FAILED, handed, kind_of};
 use std::alloc::Global;
 use std::io::{Cursor, ErrorKind, Seek, SeekFrom};
 use std::process::Abort;
@@ -115,7 +116,7 @@ fn take_bits<R: Source>(
     let mut bits = [false; 24];
     let answer = reader.read_bits_into(&mut bits, order);
     if answer.is_ok() {
-        same(rt, row, &bits, &BITS);
+        same(rt, row, &bits, &THREE_BYTES);
     }
     answer
 }

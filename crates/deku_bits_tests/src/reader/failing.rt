@@ -1,21 +1,23 @@
 //! Reads over a source that fails in the middle, and how often it is asked for bytes and for seeks.
 
-use crate::same::{FAILED, same};
-use crate::taken::{Left, Step, handed, walk_source, walk_steps};
+use crate::same::same;
+use crate::taken::{Left, Step, walk_source};
 use deku_bits::ctx::Order::{Lsb0, Msb0};
 use deku_bits::device::Source;
-use deku_bits::reader::Reader;
+use deku_testing::refusals::{FAILED, handed};
 use std::alloc::Global;
 use std::io;
 use std::io::{Cursor, Error, ErrorKind, Read, Seek, SeekFrom};
 use std::process::Abort;
 use std::test::Fail;
 
-// A source that gives so many bytes and then fails, passes none, and counts the fetches and the seeks that it is asked for.
+// A source that gives so many bytes, then fails, and after each fault gives so many more. It passes none, and counts the fetches and the
+// seeks that it is asked for.
 #[derive(Drop)]
 struct Failing<'a> {
     bytes: Cursor<&'a [u8]>,
     good: usize,
+    more: usize,
     fetches: usize,
     seeks: usize,
 }
@@ -44,6 +46,7 @@ impl<'a> Source for Failing<'a> {
     fn fetch(&mut self, buf: &mut [u8]) -> io::Result<()> {
         self.fetches = self.fetches.saturating_add(1);
         if buf.len() > self.good {
+            self.good = self.more;
             return Err(Error::from(ErrorKind::Other));
         }
         self.good -= buf.len();
@@ -59,12 +62,11 @@ impl<'a> Source for Failing<'a> {
     }
 }
 
-// Bytes; how many are given before a fault, the steps then, how many are given afterwards, and the steps then; how many fetches and how many
-// seeks were asked for, and where the source stands.
+// Bytes; how many are given before a fault, and after it; the steps; how many fetches and how many seeks were asked for, and where the
+// source is left.
 type Fault = (
     &'static [u8],
     usize,
-    &'static [Step],
     usize,
     &'static [Step],
     usize,
@@ -72,22 +74,19 @@ type Fault = (
     u64,
 );
 
-// A case shows what it says. It answers whether memory was refused.
+// A case shows what it says. It returns whether memory was refused.
 fn expect_fault(rt: &impl Abort, alloc: Global, at: usize, case: &Fault) -> bool {
-    let (bytes, good, first, more, then, fetches, seeks, place) = case;
+    let (bytes, good, more, steps, fetches, seeks, place) = case;
     let failing = Failing {
         bytes: Cursor::new(*bytes),
         good: *good,
+        more: *more,
         fetches: 0,
         seeks: 0,
     };
-    let mut reader = Reader::new(alloc, failing);
-    let mut lacks = walk_steps(rt, at, &mut reader, first);
-    reader.as_mut().good = *more;
-    lacks = walk_steps(rt, at.saturating_add(100), &mut reader, then) || lacks;
-    let source = reader.into_inner();
+    let (lacks, source) = walk_source(rt, alloc, at, failing, steps);
     let seen = (source.fetches, source.seeks, source.bytes.position());
-    same(rt, (at, 1000), &seen, &(*fetches, *seeks, *place));
+    same(rt, (at, steps.len()), &seen, &(*fetches, *seeks, *place));
     lacks
 }
 
@@ -96,13 +95,11 @@ const FAULTS: [Fault; 4] = [
     (
         &[0xBE, 0xEF, 0xAD],
         2,
+        1,
         &[
             Step::Vector(2, Lsb0, Ok(&[0xBE, 0xEF])),
             Step::Vector(1, Msb0, Err(FAILED)),
             Step::Count(16),
-        ],
-        1,
-        &[
             Step::Vector(0, Msb0, Err(FAILED)),
             Step::Seek(SeekFrom::Start(2), Ok(2)),
             Step::Into(4, Msb0, Ok("1010")),
@@ -116,13 +113,11 @@ const FAULTS: [Fault; 4] = [
     (
         &[0xBE, 0xEF],
         1,
+        2,
         &[
             Step::Into(16, Msb0, Err(FAILED)),
             Step::Count(0),
             Step::Left(Left::Nothing),
-        ],
-        2,
-        &[
             Step::Bits(0, Msb0, Err(FAILED)),
             Step::Fill(2, Lsb0, Err(FAILED)),
             Step::End(Err(FAILED)),
@@ -139,13 +134,11 @@ const FAULTS: [Fault; 4] = [
     (
         &[0x01, 0x02, 0x03],
         3,
+        3,
         &[
             Step::Skip(16, Msb0, Err(FAILED)),
             Step::Count(0),
             Step::Skip(0, Lsb0, Err(FAILED)),
-        ],
-        3,
-        &[
             Step::Seek(SeekFrom::Current(0), Ok(0)),
             Step::Fill(1, Msb0, Ok(&[0x01])),
             Step::Skip(7, Msb0, Ok(())),
@@ -159,12 +152,12 @@ const FAULTS: [Fault; 4] = [
     (
         &[0x01, 0x02, 0x03],
         3,
+        3,
         &[
             Step::Seek(SeekFrom::Start(2), Ok(2)),
             Step::Seek(SeekFrom::Start(u64::MAX), Err(ErrorKind::InvalidInput)),
+            Step::Seek(SeekFrom::Current(-3), Err(ErrorKind::InvalidInput)),
         ],
-        3,
-        &[Step::Seek(SeekFrom::Current(-3), Err(ErrorKind::InvalidInput))],
         0,
         2,
         2,
@@ -219,6 +212,7 @@ fn count_fetches(rt: &impl Abort, alloc: Global, case: usize, steps: &[Step]) ->
     let counting = Failing {
         bytes: Cursor::new(BYTES.as_slice()),
         good: 17,
+        more: 0,
         fetches: 0,
         seeks: 0,
     };

@@ -1,8 +1,8 @@
 //! Reads where memory may be refused: each shows what it would, or answers that there is none, and then nothing has moved.
 
-use crate::same::{NO_MEMORY, Refusal};
 use crate::taken::{Case, Left, Step, take_tables};
 use deku_bits::ctx::Order::{Lsb0, Msb0};
+use deku_testing::refusals::{NO_MEMORY, Refusal};
 use std::test::Fail;
 
 // More bits than memory is found for.

@@ -1,8 +1,8 @@
 //! The count of bits read at its largest.
 
-use crate::same::Refusal;
 use crate::taken::{Case, Left, Step, take_tables};
 use deku_bits::ctx::Order::Msb0;
+use deku_testing::refusals::Refusal;
 use std::io::{ErrorKind, SeekFrom};
 use std::test::Fail;
 

@@ -1,8 +1,7 @@
 //! Sinks that fail once.
 
-use super::BITS;
-use crate::given::{Put, expect_kept, give_sink, give_steps, handed};
-use crate::same::{FAILED, Row, kind_of, same, same_bytes};
+use crate::Row;
+use crate::given::{Put, expect_kept, give_sink, give_steps};
 use crate::streams::{Set, set_steps};
 use deku_bits::ctx::Order;
 use deku_bits::ctx::Order::{Lsb0, Msb0};
@@ -10,6 +9,9 @@ use deku_bits::device::Sink;
 use deku_bits::error::DekuError;
 use deku_bits::probe::FailAt;
 use deku_bits::writer::Writer;
+use deku_testing::bits::THREE_BYTES;
+use deku_testing::refusals::{FAILED, handed, kind_of};
+use deku_testing::same::{same, same_bytes};
 use std::alloc::Global;
 use std::io::{Cursor, ErrorKind, Seek, SeekFrom};
 use std::process::Abort;
@@ -36,10 +38,10 @@ const WAYS: [(Way, usize, [u8; 3]); 5] = [
 // Writes in this way.
 fn write<W: Sink>(writer: &mut Writer<W>, way: Way) -> Result<(), DekuError> {
     match way {
-        Way::Bits(order) => writer.write_bits_order(&BITS, order),
+        Way::Bits(order) => writer.write_bits_order(&THREE_BYTES, order),
         Way::Bytes => writer.write_bytes(&[0xBB, 0xCC, 0xDD]),
         Way::Padding(order) => {
-            writer.write_bits_order(&BITS[..4], order)?;
+            writer.write_bits_order(&THREE_BYTES[..4], order)?;
             writer.finalize()
         }
     }
@@ -48,22 +50,21 @@ fn write<W: Sink>(writer: &mut Writer<W>, way: Way) -> Result<(), DekuError> {
 // The writer fails in this way and stops with the fault, at the place behind the calls that succeeded, until a seek. It answers whether
 // memory was refused.
 fn expect_failed<W: Sink>(
-    rt: &impl Abort,
     alloc: Global,
     row: Row,
     writer: &mut Writer<W>,
     way: Way,
-) -> bool {
+) -> Result<bool, Fail> {
     let failed = Err(FAILED.error());
     let seen = (write(writer, way), write(writer, way));
-    same(rt, row, &seen, &(failed, failed));
-    let lacks = expect_kept(rt, alloc, row, writer, FAILED.error());
+    same(&row, &seen, &(failed, failed))?;
+    let lacks = expect_kept(alloc, row, writer, FAILED.error())?;
     let count = writer.bits_written();
     let place = kind_of(writer.seek(SeekFrom::Current(0)));
     let back = kind_of(writer.seek(SeekFrom::Start(1)));
     let want = (8, Ok(row.1 as u64), Ok(1));
-    same(rt, row, &(count, place, back), &want);
-    lacks
+    same(&row, &(count, place, back), &want)?;
+    Ok(lacks)
 }
 
 const AA: [Put; 2] = [Put::Bytes(&[0xAA], Ok(())), Put::Count(8)];
@@ -80,11 +81,11 @@ fn write_failing<W: Sink + Drop>(
     let (calls, n) = row;
     let mut writer = Writer::new(sink);
     give_steps(rt, alloc, n, &mut writer, &AA)?;
-    let lacks = n <= calls && expect_failed(rt, alloc, row, &mut writer, way);
+    let lacks = n <= calls && expect_failed(alloc, row, &mut writer, way)?;
     let answer = write(&mut writer, way);
     let count = writer.bits_written();
     let want = (Ok(()), calls.saturating_add(1), 0);
-    same(rt, row, &(answer, count / 8, count % 8), &want);
+    same(&row, &(answer, count / 8, count % 8), &want)?;
     Ok(lacks)
 }
 
@@ -100,8 +101,8 @@ fn expect_written(
     let mut slice = [0; 4];
     let sink = FailAt::new(Cursor::new(slice.as_mut_slice()), n.saturating_add(1));
     let lacks = write_failing(rt, alloc, sink, way, row)?;
-    same(rt, row, &slice[0], &0xAA);
-    same_bytes(rt, row, &slice[1..], &bytes);
+    same(&row, &slice[0], &0xAA)?;
+    same_bytes(&row, &slice[1..], &bytes)?;
     Ok(lacks)
 }
 
@@ -173,7 +174,7 @@ fn keeps_a_refused_seek(rt: HostRuntime) -> Result<(), Fail> {
         let cursor = Cursor::new(slice.as_mut_slice());
         let failing = FailAt::new(cursor, case.saturating_add(2));
         give_sink(&rt, rt.alloc(), case, failing, steps)?;
-        same_bytes(&rt, (case, steps.len()), &slice, &[0xAA, 0x00, 0xBB]);
+        same_bytes(&(case, steps.len()), &slice, &[0xAA, 0x00, 0xBB])?;
     }
     Ok(())
 }
@@ -183,7 +184,7 @@ const ONCE: [Set; 5] = [
     Set::Some(&[0xAA, 0xBB], Ok(1)),
     Set::Some(&[0xBB], Err(ErrorKind::Other)),
     Set::All(&[0xCC, 0xDD], Ok(())),
-    Set::Flush,
+    Set::Flush(Ok(())),
     Set::All(&[0xEE], Err(ErrorKind::WriteZero)),
 ];
 
@@ -191,7 +192,7 @@ const ONCE: [Set; 5] = [
 fn fails_once(rt: HostRuntime) -> Result<(), Fail> {
     let mut slice = [0; 3];
     let mut sink = FailAt::new(Cursor::new(slice.as_mut_slice()), 2);
-    set_steps(&rt, 0, &mut sink, &ONCE)?;
-    same_bytes(&rt, (0, 5), &slice, &[0xAA, 0xCC, 0xDD]);
+    set_steps(0, &mut sink, &ONCE)?;
+    same_bytes(&(0, 5), &slice, &[0xAA, 0xCC, 0xDD])?;
     Ok(())
 }

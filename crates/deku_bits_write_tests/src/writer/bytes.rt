@@ -1,8 +1,8 @@
 //! Whole bytes that are written, against worked examples.
 
 use crate::given::{Grown, Put, give_bounded, give_tables};
-use crate::same::Refusal;
 use deku_bits::ctx::Order::{Lsb0, Msb0};
+use deku_testing::refusals::Refusal;
 use std::io::{ErrorKind, SeekFrom};
 use std::test::Fail;
 
@@ -82,7 +82,7 @@ fn writes_bytes_among_bits_and_onto_them(rt: HostRuntime) -> Result<(), Fail> {
     give_tables(&rt, rt.alloc(), &[&AMONG, &ONTO, &BEHIND])
 }
 
-const FULL: Refusal = Refusal(ErrorKind::WriteZero);
+const FULL: Refusal = Refusal::Io(ErrorKind::WriteZero);
 
 // A sink without room for all bytes stops the writer until a seek succeeds.
 const ROOM: [Grown; 1] = [(

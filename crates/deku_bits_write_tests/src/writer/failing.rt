@@ -1,10 +1,10 @@
 //! Writes to a sink that counts its calls, and that may fail in the middle.
 
-use crate::given::{Put, give_steps};
-use crate::same::{FAILED, same};
+use crate::given::{Put, give_sink};
 use deku_bits::ctx::Order::{Lsb0, Msb0};
 use deku_bits::device::Sink;
-use deku_bits::writer::Writer;
+use deku_testing::refusals::FAILED;
+use deku_testing::same::same;
 use std::io;
 use std::io::{Error, ErrorKind, Seek, SeekFrom, Write};
 use std::test::Fail;
@@ -113,13 +113,12 @@ const CALLS: [Calls; 8] = [
 #[test]
 fn asks_its_sink_once_for_each_run(rt: HostRuntime) -> Result<(), Fail> {
     for (case, (good, steps, calls)) in CALLS.iter().enumerate() {
-        let mut writer = Writer::new(Failing {
+        let failing = Failing {
             good: *good,
             calls: 0,
-        });
-        give_steps(&rt, rt.alloc(), case, &mut writer, steps)?;
-        let row = (case, steps.len());
-        same(&rt, row, &writer.into_inner().calls, calls);
+        };
+        let sink = give_sink(&rt, rt.alloc(), case, failing, steps)?;
+        same(&(case, steps.len()), &sink.calls, calls)?;
     }
     Ok(())
 }

@@ -1,8 +1,8 @@
 //! Seeks of a writer.
 
 use crate::given::{Grown, Put, give_bounded, give_tables};
-use crate::same::Refusal;
 use deku_bits::ctx::Order::{Lsb0, Msb0};
+use deku_testing::refusals::Refusal;
 use std::io::{ErrorKind, SeekFrom};
 use std::test::Fail;
 
@@ -50,7 +50,7 @@ fn drops_what_is_pending(rt: HostRuntime) -> Result<(), Fail> {
     give_tables(&rt, rt.alloc(), &[&DROPS])
 }
 
-const KEPT: Refusal = Refusal(ErrorKind::InvalidInput);
+const KEPT: Refusal = Refusal::Io(ErrorKind::InvalidInput);
 
 // The sink's refusal of a seek is kept until a seek succeeds.
 const REFUSED: [Grown; 1] = [(

@@ -1,13 +1,14 @@
 //! Words where eight bytes of room are left, where fewer are, and onto a sink that never lays them at once.
 
-use super::same::same;
-use super::slow::{OFFSETS, fitting, put_word, turn, word_of};
 use deku_bits::ctx::Order;
 use deku_bits::device::Sink;
 use deku_bits::writer::Writer;
+use deku_testing::bits::{OFFSETS, fitting, put_word, turn, word_of};
+use deku_testing::same::same;
 use std::io;
 use std::io::{Cursor, Seek, SeekFrom, Write};
 use std::process::Abort;
+use std::test::Fail;
 
 // A sink that only gives: it has `lay` as the trait has it.
 #[derive(Drop)]
@@ -31,7 +32,7 @@ impl<S: Seek> Seek for Giving<S> {
     }
 }
 
-// It tells nothing.
+// It says nothing of itself.
 impl<S: Sink> Sink for Giving<S> {
     ghost use Rattle.deku_bits.specs.Devices.{untold_sink};
 
@@ -77,7 +78,7 @@ fn write_both<S: Sink + Drop>(rt: &impl Abort, sink: S, row: Row) -> Left {
     let mut writer = Writer::new(sink);
     let mut front = FRONT;
     assert!(rt; row.front <= 7 && row.n <= 128);
-    turn(&mut front[..row.front], row.order);
+    turn(row.order, &mut front[..row.front]);
     let is_ok = writer
         .write_bits_order(&front[..row.front], row.order)
         .is_ok()
@@ -104,15 +105,15 @@ fn make_given(rt: &impl Abort, row: Row) -> Made {
     (slice, left)
 }
 
-// The whole bytes of the bits that the order meets, behind what lies there, and in front of it.
+// The whole bytes of the bits that the order meets, after what lies there, and in front of it.
 fn make_wanted(rt: &impl Abort, row: Row) -> Made {
     let mut slice = [THERE; 12];
     let mut met = [false; 128];
     assert!(rt; row.front <= 7 && row.n <= 64 && row.room <= 12);
     met[..row.front].copy_from_slice(&FRONT[..row.front]);
     let end = row.front + row.n;
-    put_word(fitting(WORD, row.n), &mut met[row.front..end], row.order);
-    let mut rest = word_of(&met[..end / 8 * 8], row.order);
+    put_word(row.order, fitting(WORD, row.n), &mut met[row.front..end]);
+    let mut rest = word_of(row.order, &met[..end / 8 * 8]);
     for place in slice[12 - row.room..].iter_mut().take(end / 8) {
         *place = (rest % 256) as u8;
         rest /= 256;
@@ -121,17 +122,16 @@ fn make_wanted(rt: &impl Abort, row: Row) -> Made {
 }
 
 // What both sinks leave is what the slow functions want, or both lack the room.
-fn expect_made(rt: &impl Abort, row: Row) {
+fn expect_made(rt: &impl Abort, row: Row) -> Result<(), Fail> {
     let laid = make_laid(rt, row);
     let given = make_given(rt, row);
     let at = (row.room, row.n);
-    same(rt, at, &laid, &given);
+    same(&at, &laid, &given)?;
     assert!(rt; row.front <= 7 && row.n <= 64);
     if (row.front + row.n) / 8 > row.room {
-        same(rt, at, &laid.1, &(false, 0, 0));
-        return;
+        return same(&at, &laid.1, &(false, 0, 0));
     }
-    same(rt, at, &laid, &make_wanted(rt, row));
+    same(&at, &laid, &make_wanted(rt, row))
 }
 
 // How many bytes are left: more than eight, the last eight, the last seven, and too few.
@@ -139,8 +139,8 @@ const ROOMS: [usize; 6] = [12, 9, 8, 7, 1, 0];
 
 const WIDTHS: [usize; 14] = [1, 5, 7, 8, 9, 10, 13, 16, 24, 31, 32, 57, 63, 64];
 
-// Words behind so many bits, into so much room, in this order.
-fn expect_widths(rt: &impl Abort, room: usize, front: usize, order: Order) {
+// Words after so many bits, into so much room, in this order.
+fn expect_widths(rt: &impl Abort, room: usize, front: usize, order: Order) -> Result<(), Fail> {
     for n in WIDTHS {
         let row = Row {
             room,
@@ -148,20 +148,23 @@ fn expect_widths(rt: &impl Abort, room: usize, front: usize, order: Order) {
             n,
             order,
         };
-        expect_made(rt, row);
+        expect_made(rt, row)?;
     }
+    Ok(())
 }
 
-// Words behind 0 to 7 bits, into so much room.
-fn expect_room(rt: &impl Abort, room: usize) {
+// Words after 0 to 7 bits, into so much room.
+fn expect_room(rt: &impl Abort, room: usize) -> Result<(), Fail> {
     for (front, order) in OFFSETS {
-        expect_widths(rt, room, front, order);
+        expect_widths(rt, room, front, order)?;
     }
+    Ok(())
 }
 
 #[test]
-fn lays_words_and_no_more(rt: HostRuntime) {
+fn lays_words_and_no_more(rt: HostRuntime) -> Result<(), Fail> {
     for room in ROOMS {
-        expect_room(&rt, room);
+        expect_room(&rt, room)?;
     }
+    Ok(())
 }

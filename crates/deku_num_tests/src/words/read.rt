@@ -1,16 +1,17 @@
 //! Words that are read.
 
-use super::same::same;
-use super::slow::{OFFSETS, Slow, samples, turn, word_of};
 use deku_bits::ctx::Order;
 use deku_bits::ctx::Order::{Lsb0, Msb0};
 use deku_bits::device::Source;
+use deku_bits::error::DekuError;
 use deku_bits::reader::Reader;
+use deku_testing::bits::{OFFSETS, Slow, samples, turn, word_of};
+use deku_testing::same::same;
 use std::alloc::Global;
 use std::io::Cursor;
-use std::process::Abort;
+use std::test::Fail;
 
-// How a word is read: behind so many bits of an order, or behind a look for the end.
+// How a word is read: after so many bits of an order, or after a look for the end.
 #[derive(Clone, Copy)]
 struct Start {
     offset: usize,
@@ -18,129 +19,98 @@ struct Start {
     looks: bool,
 }
 
-// A reader looks for the end, or reads so many bits.
-fn begin<R: Source>(rt: &impl Abort, reader: &mut Reader<R>, start: Start) {
-    let mut front = [false; 8];
-    assert!(rt; start.offset <= 8);
-    if start.looks {
-        same(rt, (0, 0), &reader.end(), &Ok(false));
-    }
-    let answer = reader.read_bits_into(&mut front[..start.offset], start.order);
-    same(rt, (0, start.offset), &answer, &Ok(()));
-}
-
-// The word of the bits that are met.
-fn slow_word(rt: &impl Abort, bytes: &[u8], start: Start, n: usize, order: Order) -> u128 {
-    let mut slow = Slow::new();
-    let mut front = [false; 8];
-    let mut met = [false; 128];
-    assert!(rt; start.offset <= 8 && n <= 128);
-    slow.take(rt, bytes, start.order, &mut front[..start.offset]);
-    slow.take(rt, bytes, order, &mut met[..n]);
-    word_of(&met[..n], order)
-}
-
-// A word of n bits is that of the bits that are met, and of those that a read of as many bits shows.
-fn expect_word(rt: &impl Abort, alloc: Global, bytes: &[u8], start: Start, n: usize, order: Order) {
-    let row = (start.offset, n);
-    let want = slow_word(rt, bytes, start, n, order);
-    let read = read_bytes(rt, alloc, bytes, start, n, order, false);
-    let seen = (read.0, read.1);
-    same(rt, row, &seen, &(Some(want), start.offset.wrapping_add(n)));
-    let shown = read_bytes(rt, alloc, bytes, start, n, order, true);
-    same(rt, row, &shown, &read);
-}
-
-fn next_word<R: Source>(
-    rt: &impl Abort,
-    reader: &mut Reader<R>,
-    n: usize,
-    order: Order,
-) -> Option<u128> {
-    assert!(rt; n <= 128);
-    reader.read_word(n, order).ok()
-}
-
-// The word of the bits that are shown.
-fn shown_word<R: Source>(
-    rt: &impl Abort,
-    reader: &mut Reader<R>,
-    n: usize,
-    order: Order,
-) -> Option<u128> {
-    let mut shown = [false; 128];
-    assert!(rt; n <= 128);
-    if reader.read_bits_into(&mut shown[..n], order).is_err() {
-        return None;
-    }
-    turn(&mut shown[..n], order);
-    Some(word_of(&shown[..n], order))
-}
-
-// The word, where it is read, how many bits are read then, and where the source stands.
-type Read = (Option<u128>, usize, u64);
-
-// A reader over the source reads the word, or its bits as they are shown.
-fn read_from<R: Source>(
-    rt: &impl Abort,
-    mut reader: Reader<R>,
+// A reader over the source looks for the end or reads so many bits; then it reads the word, or its bits as they are shown: the word, how
+// many bits are read then, and the source.
+fn read_from<R: Source + Drop>(
+    alloc: Global,
+    source: R,
     start: Start,
     n: usize,
     order: Order,
     shows: bool,
-) -> (Option<u128>, usize, R) {
-    begin(rt, &mut reader, start);
+) -> Result<(u128, usize, R), DekuError> {
+    let mut reader = Reader::new(alloc, source);
+    let mut bits = [false; 128];
+    if start.looks && reader.end()? {
+        return Err(DekuError::Assertion("the end"));
+    }
+    reader.read_bits_into(&mut bits[..start.offset.min(8)], start.order)?;
+    let n = n.min(128);
     let word = if shows {
-        shown_word(rt, &mut reader, n, order)
+        let shown = &mut bits[..n];
+        reader.read_bits_into(shown, order)?;
+        turn(order, shown);
+        word_of(order, shown)
     } else {
-        next_word(rt, &mut reader, n, order)
+        reader.read_word(n, order)?
     };
     let count = reader.bits_read();
-    (word, count, reader.into_inner())
+    Ok((word, count, reader.into_inner()))
 }
 
-// So from these bytes.
+// The word, how many bits are read then, and where the source stands.
 fn read_bytes(
-    rt: &impl Abort,
     alloc: Global,
     bytes: &[u8],
     start: Start,
     n: usize,
     order: Order,
     shows: bool,
-) -> Read {
-    let reader = Reader::new(alloc, Cursor::new(bytes));
-    let (word, count, cursor) = read_from(rt, reader, start, n, order, shows);
-    (word, count, cursor.position())
+) -> Result<(u128, usize, u64), DekuError> {
+    let source = Cursor::new(bytes);
+    let (word, count, source) = read_from(alloc, source, start, n, order, shows)?;
+    Ok((word, count, source.position()))
 }
 
-// Words of all widths in both orders, behind these bits.
-fn expect_words(rt: &impl Abort, alloc: Global, bytes: &[u8], start: Start) {
+// A word of n bits is that of the bits that are met, and of those that a read of as many bits shows.
+fn expect_word(
+    alloc: Global,
+    bytes: &[u8],
+    start: Start,
+    n: usize,
+    order: Order,
+) -> Result<(), Fail> {
+    let mut slow = Slow::new(bytes);
+    slow.take_word(start.order, start.offset)?;
+    let word = slow.take_word(order, n)?;
+    let count = start.offset.wrapping_add(n);
+    let place = count.div_ceil(8).max(start.looks as usize) as u64;
+    let want = (word, count, place);
+    let read = read_bytes(alloc, bytes, start, n, order, false)?;
+    let shown = read_bytes(alloc, bytes, start, n, order, true)?;
+    same(&(start.offset, n), &(read, shown), &(want, want))
+}
+
+// Words of all widths in both orders, after these bits.
+fn expect_words(alloc: Global, bytes: &[u8], start: Start) -> Result<(), Fail> {
     for n in 0..=128 {
-        expect_word(rt, alloc, bytes, start, n, Msb0);
-        expect_word(rt, alloc, bytes, start, n, Lsb0);
+        expect_word(alloc, bytes, start, n, Msb0)?;
+        expect_word(alloc, bytes, start, n, Lsb0)?;
     }
+    Ok(())
 }
 
-// Words of these bytes, behind each offset, and behind a look for the end.
-fn expect_sample(rt: &impl Abort, alloc: Global, bytes: &[u8]) {
+// Words of these bytes, after each offset, and after a look for the end.
+fn expect_sample(alloc: Global, bytes: &[u8]) -> Result<(), Fail> {
     let mut start = Start {
         offset: 0,
         order: Msb0,
         looks: true,
     };
-    expect_words(rt, alloc, bytes, start);
+    expect_words(alloc, bytes, start)?;
     start.looks = false;
     for (offset, order) in OFFSETS {
         start.offset = offset;
         start.order = order;
-        expect_words(rt, alloc, bytes, start);
+        expect_words(alloc, bytes, start)?;
     }
+    Ok(())
 }
 
 #[test]
-fn reads_words_of_each_width(rt: HostRuntime) {
+fn reads_words_of_each_width(rt: HostRuntime) -> Result<(), Fail> {
     for bytes in samples() {
-        expect_sample(&rt, rt.alloc(), &bytes);
+        expect_sample(rt.alloc(), &bytes)?;
     }
+    Ok(())
 }
