@@ -3,60 +3,11 @@
 use super::examples::{Bytes, Child, LsbField, Node, Parent};
 use super::records::{Empty, Head, Low, Nine, Octet, Pair};
 use deku::prelude::{DekuContainerRead, DekuContainerWrite, DekuError, NeedSize};
+use deku_testing::expecting::same;
 use std::alloc::Global;
 use std::fmt::Debug;
 use std::io::{Cursor, ErrorKind};
-use std::process::Abort;
 use std::test::Fail;
-
-// What was got is what was wanted, in the row of this name.
-pub fn same<T: PartialEq + Debug>(rt: &impl Abort, row: &impl Debug, got: &T, want: &T) {
-    assert!(rt; *got == *want, "{row:?}: {got:?}, and not {want:?}");
-}
-
-// ---- single calls
-// What is left of these bytes behind so many bits, and what was read.
-type Parsed<'b, T> = ((&'b [u8], usize), T);
-
-fn parsed<'b, T: DekuContainerRead>(
-    alloc: Global,
-    input: (&'b [u8], usize),
-) -> Result<Parsed<'b, T>, DekuError>
-    requires { T.accepts tt }
-{
-    T::from_bytes(alloc, input)
-}
-
-// How many bits were taken from the source, and what was read.
-fn taken<T: DekuContainerRead>(
-    alloc: Global,
-    source: &mut Cursor<&[u8]>,
-    bits: usize,
-) -> Result<(usize, T), DekuError>
-    requires { T.accepts tt }
-{
-    T::from_reader(alloc, (source, bits))
-}
-
-fn bytes_of<T: DekuContainerWrite>(alloc: Global, value: &T) -> Result<Vec<u8>, DekuError>
-    requires { T.accepts tt }
-{
-    value.to_bytes(alloc)
-}
-
-fn bits_of<T: DekuContainerWrite>(alloc: Global, value: &T) -> Result<Vec<bool>, DekuError>
-    requires { T.accepts tt }
-{
-    value.to_bits(alloc)
-}
-
-fn over<T: DekuContainerWrite>(value: &T, page: &mut [u8]) -> Result<usize, DekuError>
-    requires { T.accepts tt }
-{
-    value.to_slice(page)
-}
-
-// ---- expectations
 
 // The input ended where so many bits were wanted.
 fn incomplete(bits: usize) -> DekuError {
@@ -65,7 +16,6 @@ fn incomplete(bits: usize) -> DekuError {
 
 // From these bytes, behind so many bits, this is read, and the rest is left.
 fn expect_rest<T: DekuContainerRead + PartialEq + Debug>(
-    rt: &impl Abort,
     alloc: Global,
     input: (&[u8], usize),
     want: T,
@@ -73,29 +23,26 @@ fn expect_rest<T: DekuContainerRead + PartialEq + Debug>(
 ) -> Result<(), Fail>
     requires { T.accepts tt }
 {
-    let seen = parsed::<T>(alloc, input)?;
-    same(rt, &input, &seen, &(rest, want));
-    Ok(())
+    let seen = T::from_bytes(alloc, input)?;
+    same(&input, &seen, &(rest, want))
 }
 
 // These bytes are refused behind so many bits.
 fn expect_refused<T: DekuContainerRead>(
-    rt: &impl Abort,
     alloc: Global,
     input: (&[u8], usize),
     want: DekuError,
-)
+) -> Result<(), Fail>
     requires { T.accepts tt }
 {
-    match parsed::<T>(alloc, input) {
-        Ok(_) => assert!(rt; false, "{input:?} is read, and not refused with {want:?}"),
-        Err(refusal) => same(rt, &input, &refusal, &want),
+    match T::from_bytes(alloc, input) {
+        Ok(_) => Err(Fail::new(format_args!("{input:?} is read, and not refused"))),
+        Err(refusal) => same(&input, &refusal, &want),
     }
 }
 
 // The source is read behind so many bits: so many were taken, this is read, and the source is at this place then.
 fn expect_taken<T: DekuContainerRead + PartialEq + Debug>(
-    rt: &impl Abort,
     alloc: Global,
     source: &mut Cursor<&[u8]>,
     bits: usize,
@@ -104,14 +51,12 @@ fn expect_taken<T: DekuContainerRead + PartialEq + Debug>(
 ) -> Result<(), Fail>
     requires { T.accepts tt }
 {
-    let read = taken::<T>(alloc, source, bits)?;
-    same(rt, &bits, &(read, source.position()), &(want, place));
-    Ok(())
+    let read = T::from_reader(alloc, (source, bits))?;
+    same(&bits, &(read, source.position()), &(want, place))
 }
 
 // The value is written as these bytes, in a vector and over a slice, and as these bits.
 fn expect_written<T: DekuContainerWrite + Debug>(
-    rt: &impl Abort,
     alloc: Global,
     value: &T,
     bytes: &[u8],
@@ -119,27 +64,23 @@ fn expect_written<T: DekuContainerWrite + Debug>(
 ) -> Result<(), Fail>
     requires { T.accepts tt }
 {
-    same(rt, value, &bytes_of(alloc, value)?.as_slice(), &bytes);
-    same(rt, value, &bits_of(alloc, value)?.as_slice(), &bits);
-    expect_over(rt, value, bytes)
+    let (whole, each) = (value.to_bytes(alloc)?, value.to_bits(alloc)?);
+    let seen = (whole.as_slice(), each.as_slice());
+    same(value, &seen, &(bytes, bits))?;
+    expect_over(value, bytes)
 }
 
 // The value is written as these bytes over a slice, and what is behind them stays.
-fn expect_over<T: DekuContainerWrite + Debug>(
-    rt: &impl Abort,
-    value: &T,
-    bytes: &[u8],
-) -> Result<(), Fail>
+fn expect_over<T: DekuContainerWrite + Debug>(value: &T, bytes: &[u8]) -> Result<(), Fail>
     requires { T.accepts tt }
 {
     let mut page = [0xA5; 4];
-    assert!(rt; bytes.len() <= 4);
-    let answer = over(value, &mut page);
-    let (front, behind) = page.split_at(bytes.len());
-    let rest = &[0xA5u8; 4][bytes.len()..];
-    let want = (Ok(bytes.len()), bytes, rest);
-    same(rt, value, &(answer, front, behind), &want);
-    Ok(())
+    let answer = value.to_slice(&mut page);
+    let (front, after) = page.split_at(bytes.len().min(4));
+    let rest = [0xA5u8; 4];
+    let (_, kept) = rest.split_at(front.len());
+    let want = (Ok(bytes.len()), bytes, kept);
+    same(value, &(answer, front, after), &want)
 }
 
 // How many bits of 12 34 are left out, the byte behind them, and the rest.
@@ -155,10 +96,9 @@ const OCTETS: [Behind; 3] = [
 fn reads_from_bytes(rt: HostRuntime) -> Result<(), Fail> {
     let alloc = rt.alloc();
     for (bits, value, rest) in OCTETS {
-        expect_rest(&rt, alloc, (&[0x12, 0x34], bits), Octet { value }, rest)?;
+        expect_rest(alloc, (&[0x12, 0x34], bits), Octet { value }, rest)?;
     }
     expect_rest(
-        &rt,
         alloc,
         (&[0xF1, 0x80], 0),
         Nine {
@@ -168,7 +108,6 @@ fn reads_from_bytes(rt: HostRuntime) -> Result<(), Fail> {
         (&[0x80], 1),
     )?;
     expect_rest(
-        &rt,
         alloc,
         (&[0x69, 0xBE, 0xEF], 0),
         Head {
@@ -178,25 +117,24 @@ fn reads_from_bytes(rt: HostRuntime) -> Result<(), Fail> {
         (&[], 0),
     )?;
     expect_rest(
-        &rt,
         alloc,
         (&[0xBE, 0xEF, 1], 0),
         Pair { value: 0xBEEF },
         (&[1], 0),
     )?;
-    expect_rest(&rt, alloc, (&[0x05], 0), Low { value: 5 }, (&[0x05], 3))?;
-    expect_rest(&rt, alloc, (&[0x12], 3), Empty {}, (&[0x12], 3))?;
-    expect_rest(&rt, alloc, (&[0x12], 8), Empty {}, (&[], 0))
+    expect_rest(alloc, (&[0x05], 0), Low { value: 5 }, (&[0x05], 3))?;
+    expect_rest(alloc, (&[0x12], 3), Empty {}, (&[0x12], 3))?;
+    expect_rest(alloc, (&[0x12], 8), Empty {}, (&[], 0))
 }
 
 #[test]
-fn refuses_short_bytes(rt: HostRuntime) {
+fn refuses_short_bytes(rt: HostRuntime) -> Result<(), Fail> {
     let alloc = rt.alloc();
     for (bits, wanted) in [(12, 4), (16, 8), (1, 8)] {
-        expect_refused::<Octet>(&rt, alloc, (&[0x12], bits), incomplete(wanted));
+        expect_refused::<Octet>(alloc, (&[0x12], bits), incomplete(wanted))?;
     }
-    expect_refused::<Empty>(&rt, alloc, (&[], 8), incomplete(8));
-    expect_refused::<Pair>(&rt, alloc, (&[0xBE], 0), incomplete(16));
+    expect_refused::<Empty>(alloc, (&[], 8), incomplete(8))?;
+    expect_refused::<Pair>(alloc, (&[0xBE], 0), incomplete(16))
 }
 
 // Where the source of 12 34 56 stands, how many bits are left out, how many were taken, the byte, and where the source stands then.
@@ -219,79 +157,52 @@ fn reads_from_a_source(rt: HostRuntime) -> Result<(), Fail> {
             source.set_position(from);
         }
         let want = (count, Octet { value });
-        expect_taken(&rt, alloc, &mut source, bits, want, place)?;
+        expect_taken(alloc, &mut source, bits, want, place)?;
     }
     source.set_position(0);
-    expect_taken(&rt, alloc, &mut source, 9, (9, Empty {}), 2)?;
+    expect_taken(alloc, &mut source, 9, (9, Empty {}), 2)?;
     source.set_position(0);
-    match taken::<Octet>(alloc, &mut source, 20) {
-        Ok(_) => assert!(rt; false, "read behind 20 bits"),
-        Err(refusal) => same(&rt, &"behind 20 bits", &refusal, &incomplete(8)),
-    }
-    Ok(())
+    let refusal = Octet::from_reader(alloc, (&mut source, 20)).err();
+    same(&"after 20 bits", &refusal, &Some(incomplete(8)))
 }
 
 #[test]
 fn writes_bytes_and_bits(rt: HostRuntime) -> Result<(), Fail> {
     let alloc = rt.alloc();
     let (i, o) = (true, false);
-    expect_written(&rt, alloc, &Low { value: 5 }, &[0x05], &[i, o, i])?;
+    expect_written(alloc, &Low { value: 5 }, &[0x05], &[i, o, i])?;
     let nine = Nine {
         halves: (15, 1),
         flag: 1,
     };
+    expect_written(alloc, &nine, &[0xF1, 0x80], &[i, i, i, i, o, o, o, i, i])?;
     expect_written(
-        &rt,
-        alloc,
-        &nine,
-        &[0xF1, 0x80],
-        &[i, i, i, i, o, o, o, i, i],
-    )?;
-    expect_written(
-        &rt,
         alloc,
         &Octet { value: 0x12 },
         &[0x12],
         &[o, o, o, i, o, o, i, o],
     )?;
-    expect_written(&rt, alloc, &Empty {}, &[], &[])?;
+    expect_written(alloc, &Empty {}, &[], &[])?;
     let head = Head {
         halves: (6, 9),
         number: 0xC0FE,
     };
-    let bytes = bytes_of(alloc, &head)?;
-    same(
-        &rt,
-        &head,
-        &bytes.as_slice(),
-        &[0x69, 0xC0, 0xFE].as_slice(),
-    );
-    Ok(())
+    let bytes = head.to_bytes(alloc)?;
+    same(&head, &bytes.as_slice(), &[0x69, 0xC0, 0xFE].as_slice())
 }
 
 #[test]
 fn writes_over_slices(rt: HostRuntime) {
     let number = Pair { value: 0xBEEF };
     let mut page = [0xA5; 3];
-    let answer = over(&number, &mut page[..1]);
-    same(
-        &rt,
-        &"one byte",
-        &answer,
-        &Err(DekuError::Io(ErrorKind::WriteZero)),
-    );
-    let answer = over(&number, &mut page);
-    same(
-        &rt,
-        &"three bytes",
-        &(answer, page),
-        &(Ok(2), [0xBE, 0xEF, 0xA5]),
-    );
+    let full = number.to_slice(&mut page[..1]);
+    assert_eq!(rt; full, Err(DekuError::Io(ErrorKind::WriteZero)));
+    let answer = number.to_slice(&mut page);
+    assert_eq!(rt; (answer, page), (Ok(2), [0xBE, 0xEF, 0xA5]));
 }
 
 // The bytes are read as the value, to the last one, and it is written as them.
 fn expect_both_ways<T: DekuContainerRead + DekuContainerWrite + PartialEq + Debug>(
-    rt: &impl Abort,
     alloc: Global,
     bytes: &[u8],
     want: T,
@@ -299,12 +210,10 @@ fn expect_both_ways<T: DekuContainerRead + DekuContainerWrite + PartialEq + Debu
     requires reads { T.DekuReader.accepts tt }
     requires writes { T.DekuWriter.accepts tt }
 {
-    let (left, value) = parsed::<T>(alloc, (bytes, 0))?;
-    let seen = (value, left.0.len(), left.1);
-    same(rt, &bytes, &seen, &(want, 0, 0));
-    let written = bytes_of(alloc, &seen.0)?;
-    same(rt, &seen.0, &written.as_slice(), &bytes);
-    Ok(())
+    let ((rest, bits), value) = T::from_bytes(alloc, (bytes, 0))?;
+    let written = value.to_bytes(alloc)?;
+    let seen = (value, rest.len(), bits, written.as_slice());
+    same(&bytes, &seen, &(want, 0, 0, bytes))
 }
 
 #[test]
@@ -317,7 +226,7 @@ fn records_of_the_examples(rt: HostRuntime) -> Result<(), Fail> {
         numbers: (6, 7),
     };
     let bytes: &[u8] = &[0x31, 0x12, 4, 5, 6, 0, 0, 0, 7, 0, 0, 0];
-    expect_both_ways(&rt, alloc, bytes, node)?;
+    expect_both_ways(alloc, bytes, node)?;
     let child = Child {
         byte: 0xAB,
         flags: (1, 0, 0),
@@ -328,15 +237,15 @@ fn records_of_the_examples(rt: HostRuntime) -> Result<(), Fail> {
         narrow: 4,
         child,
     };
-    expect_both_ways(&rt, alloc, &[0x10, 0x81, 0xAB, 0x96], parent)?;
+    expect_both_ways(alloc, &[0x10, 0x81, 0xAB, 0x96], parent)?;
     let field = LsbField {
         thirteen: 0x40,
         three: 2,
     };
-    expect_both_ways(&rt, alloc, &[0x40, 0x40], field)?;
+    expect_both_ways(alloc, &[0x40, 0x40], field)?;
     let bytes = Bytes {
         two: 0xCDAB,
         one: 0xFF,
     };
-    expect_both_ways(&rt, alloc, &[0xAB, 0xCD, 0xFF], bytes)
+    expect_both_ways(alloc, &[0xAB, 0xCD, 0xFF], bytes)
 }

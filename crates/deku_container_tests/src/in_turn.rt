@@ -6,9 +6,9 @@ ghost use Rattle.deku.specs.Streams.{Stream};
 ghost use Rattle.deku.specs.Standings.{Standing, count_of};
 ghost use Rattle.deku.specs.Wholes.{Behind, FromFirst};
 
-use super::container::same;
 use super::records::{Head, Nine};
 use deku::prelude::{DekuContainerRead, DekuError};
+use deku_testing::expecting::same;
 use std::alloc::Global;
 use std::io::Cursor;
 use std::test::Fail;
@@ -33,23 +33,15 @@ fn in_turn<A: DekuContainerRead, B: DekuContainerRead>(
 #[test]
 fn begins_at_the_next_byte(rt: HostRuntime) -> Result<(), Fail> {
     let (nine, head) = in_turn::<Nine, Head>(rt.alloc(), &[0xF1, 0x80, 0x69, 0xBE, 0xEF])?;
-    same(
-        &rt,
-        &"nine bits",
-        &nine,
-        &Nine {
+    let wanted = (
+        Nine {
             halves: (15, 1),
             flag: 1,
         },
-    );
-    same(
-        &rt,
-        &"a head",
-        &head,
-        &Head {
+        Head {
             halves: (6, 9),
             number: 0xBEEF,
         },
     );
-    Ok(())
+    same(&"nine bits and a head", &(nine, head), &wanted)
 }

@@ -1,7 +1,7 @@
 //! Records that update themselves, and enums whose variants have ids.
 
-use super::container::same;
 use deku::prelude::{DekuEnumExt, DekuError, DekuUpdate};
+use deku_testing::expecting::same;
 use std::test::Fail;
 
 // A list of bytes, and how many they are.
@@ -63,20 +63,16 @@ fn updates(rt: HostRuntime) -> Result<(), Fail> {
     let mut counted = Counted { length: 1, payload };
     for (count, want, length) in ROWS {
         counted.payload.resize(count, 0)?;
-        same(&rt, &count, &counted.update(), &want);
-        let lengths = (counted.length, counted.payload.len());
-        same(&rt, &count, &lengths, &(length, count));
+        let updated = counted.update();
+        let seen = (updated, counted.length, counted.payload.len());
+        same(&count, &seen, &(want, length, count))?;
     }
     Ok(())
 }
 
 #[test]
 fn names_variants(rt: HostRuntime) {
-    same(&rt, &"point", &Shape::Point.deku_id(), &Ok(1));
-    same(
-        &rt,
-        &"circle",
-        &Shape::Circle { radius: 3 }.deku_id(),
-        &Ok(2),
-    );
+    let circle = Shape::Circle { radius: 3 };
+    let ids = (Shape::Point.deku_id(), circle.deku_id());
+    assert_eq!(rt; ids, (Ok(1), Ok(2)));
 }

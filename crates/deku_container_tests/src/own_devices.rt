@@ -2,14 +2,13 @@
 
 ghost use Rattle.deku.specs.Devices.{untold_source};
 
-use super::container::same;
 use deku::ctx::BitSize;
 use deku::device::{Sink, Source};
-use deku::prelude::{DekuError, DekuReader, DekuWriter, Reader, Writer};
+use deku::prelude::{Reader, Writer};
+use deku_testing::expecting::{next, put, same};
 use std::alloc::Global;
 use std::io;
 use std::io::{BufReader, Cursor, Read, Seek, SeekFrom, Write};
-use std::process::Abort;
 use std::test::Fail;
 
 // A buffered reader. It tells nothing of its bytes, as a file.
@@ -99,7 +98,7 @@ type Row = ((u8, u8), u8, [u8; 2]);
 const ROWS: [Row; 2] = [((6, 9), 0xBE, [0x69, 0xBE]), ((0, 15), 1, [0x0F, 0x01])];
 
 // They are written.
-fn expect_written(rt: &impl Abort, alloc: Global, row: &Row) -> Result<(), Fail> {
+fn expect_written(alloc: Global, row: &Row) -> Result<(), Fail> {
     let (halves, number, bytes) = row;
     let own = Counted {
         inner: Cursor::new(Vec::new(alloc)),
@@ -110,43 +109,25 @@ fn expect_written(rt: &impl Abort, alloc: Global, row: &Row) -> Result<(), Fail>
     put(&mut writer, number, ())?;
     let own = writer.into_inner();
     let seen = (own.bytes, own.inner.get_ref().as_slice());
-    same(rt, row, &seen, &(2, bytes.as_slice()));
-    Ok(())
-}
-
-fn put<T: DekuWriter<C>, C, W: Sink>(
-    writer: &mut Writer<W>,
-    value: &T,
-    ctx: C,
-) -> Result<(), DekuError>
-    requires { T.accepts ctx }
-{
-    value.to_writer(writer, ctx)
+    same(row, &seen, &(2, bytes.as_slice()))
 }
 
 // They are read.
-fn expect_read(rt: &impl Abort, alloc: Global, row: &Row) -> Result<(), Fail> {
+fn expect_read(alloc: Global, row: &Row) -> Result<(), Fail> {
     let (halves, number, bytes) = row;
     let inner = BufReader::new(alloc, Cursor::new(bytes.as_slice()))?;
     let mut reader = Reader::new(alloc, Buffered { inner });
     let read = next::<(u8, u8), BitSize, Buffered<_>>(&mut reader, BitSize(4))?;
     let behind = next::<u8, (), Buffered<_>>(&mut reader, ())?;
     let seen = (read, behind, reader.end()?);
-    same(rt, row, &seen, &(*halves, *number, true));
-    Ok(())
-}
-
-fn next<T: DekuReader<C>, C, R: Source>(reader: &mut Reader<R>, ctx: C) -> Result<T, DekuError>
-    requires { T.accepts ctx }
-{
-    T::from_reader_with_ctx(reader, ctx)
+    same(row, &seen, &(*halves, *number, true))
 }
 
 #[test]
 fn through_own_devices(rt: HostRuntime) -> Result<(), Fail> {
     for row in &ROWS {
-        expect_written(&rt, rt.alloc(), row)?;
-        expect_read(&rt, rt.alloc(), row)?;
+        expect_written(rt.alloc(), row)?;
+        expect_read(rt.alloc(), row)?;
     }
     Ok(())
 }

@@ -1,8 +1,9 @@
 //! Runs of `fields` and `layout`: where no memory is found a run ends with 1 and says so, and its output is as it was.
 
-use crate::expecting::same;
 use deku_picture::{Cell, rows};
-use std::alloc::{AllocError, Global};
+use deku_testing::expecting::same;
+use deku_testing::runs::arguments;
+use std::alloc::Global;
 use std::io::Cursor;
 use std::process::Abort;
 use std::test::Fail;
@@ -11,39 +12,26 @@ const NOTHING: &[u8] = &[];
 
 const NO_MEMORY: &[u8] = b"error: io errorr: OutOfMemory\n";
 
-const MINUS_TWO: &str = " byte 0          byte 1
- 7 6 5 4 3 2 1 0 7 6 5 4 3 2 1 0
-+-------------------------------+
-|              f1               |
-|             15..0             |
-|1 1 1 1 1 1 1 1 1 1 1 1 1 1 1 0|
-+-------------------------------+
+const TWO_HALVES: &str = " byte 0
+ 7 6 5 4 3 2 1 0
++-------+-------+
+|  f1   |  f2   |
+| 3..0  | 3..0  |
+|0 1 1 0|1 0 0 1|
++-------+-------+
 
-f1 i32,big,bytes2 -2
+f1 u8,big,bits4 6
+f2 u8,big,bits4 9
 ";
 
 // Room for what a run prints, and for what it tells.
 const PAGE: usize = 512;
 
-// A cell of padding.
-fn padding(width: usize) -> Cell {
-    Cell { first: None, width }
-}
-
-// Words as arguments.
-fn arguments(alloc: Global, words: &[&str]) -> Result<Vec<String>, AllocError> {
-    let mut args: Vec<String> = Vec::new(alloc);
-    for word in words {
-        args.push(String::from_str(alloc, word)?)?;
-    }
-    Ok(args)
-}
-
 // A run's status, output and complaints: it gave all of the text, or it found no memory, and then gave nothing.
-fn expect_end(rt: &impl Abort, words: &[&str], seen: (u8, &[u8], &[u8]), text: &str) {
+fn expect_end(words: &str, seen: (u8, &[u8], &[u8]), text: &str) -> Result<(), Fail> {
     match seen {
-        (0, given, told) => same(rt, &words, &(given, told), &(text.as_bytes(), NOTHING)),
-        _ => same(rt, &words, &seen, &(1, NOTHING, NO_MEMORY)),
+        (0, given, told) => same(&words, &(given, told), &(text.as_bytes(), NOTHING)),
+        _ => same(&words, &seen, &(1, NOTHING, NO_MEMORY)),
     }
 }
 
@@ -79,7 +67,7 @@ fn expect_run(
     rt: &impl Abort,
     alloc: Global,
     program: Program,
-    words: &[&str],
+    words: &str,
     text: &str,
 ) -> Result<(), Fail> {
     let args = arguments(alloc, words)?;
@@ -90,27 +78,31 @@ fn expect_run(
     let (given, told) = (output.position() as usize, errors.position() as usize);
     assert!(rt; given <= PAGE && told <= PAGE);
     let seen = (status, &page[..given], &complaints[..told]);
-    expect_end(rt, words, seen, text);
-    Ok(())
+    expect_end(words, seen, text)
 }
 
 #[test]
 fn writes_or_no_memory(rt: HostRuntime) -> Result<(), Fail> {
-    let words = ["write", "u8,big,bits4=6", "u8,big,bits4=9", "u16,big=49406"];
-    expect_run(&rt, rt.alloc(), Program::Fields(""), &words, "69c0fe\n")
+    let words = "/write/u8,big,bits4=6/u8,big,bits4=9/u16,big=49406";
+    expect_run(&rt, rt.alloc(), Program::Fields(""), words, "69c0fe\n")
 }
 
 #[test]
 fn reads_or_no_memory(rt: HostRuntime) -> Result<(), Fail> {
     let fields = Program::Fields("69c0fe\n");
-    let words = ["read", "u8,big,bits4", "u8,big,bits4", "u16,big"];
-    expect_run(&rt, rt.alloc(), fields, &words, "6\n9\n49406\nbits 24\n")
+    let words = "/read/u8,big,bits4/u8,big,bits4/u16,big";
+    expect_run(&rt, rt.alloc(), fields, words, "6\n9\n49406\nbits 24\n")
 }
 
 #[test]
 fn draws_or_no_memory(rt: HostRuntime) -> Result<(), Fail> {
-    let words = ["--bytes", "fffe", "i32,big,bytes2"];
-    expect_run(&rt, rt.alloc(), Program::Layout, &words, MINUS_TWO)
+    let words = "/--bytes/69/u8,big,bits4/u8,big,bits4";
+    expect_run(&rt, rt.alloc(), Program::Layout, words, TWO_HALVES)
+}
+
+// A cell of padding.
+fn padding(width: usize) -> Cell {
+    Cell { first: None, width }
 }
 
 // Rows and cells have no other refusal, so it is handed on.
@@ -118,7 +110,7 @@ fn draws_or_no_memory(rt: HostRuntime) -> Result<(), Fail> {
 fn rows_or_no_memory(rt: HostRuntime) -> Result<(), Fail> {
     let seen = rows(rt.alloc(), &[None; 40])?;
     assert_eq!(rt; seen.len(), 2);
-    assert_eq!(rt; seen[0].as_slice(), [padding(32)].as_slice());
-    assert_eq!(rt; seen[1].as_slice(), [padding(8)].as_slice());
-    Ok(())
+    let (first, second) = ([padding(32)], [padding(8)]);
+    let cells = (seen[0].as_slice(), seen[1].as_slice());
+    same(&"rows", &cells, &(first.as_slice(), second.as_slice()))
 }

@@ -1,8 +1,7 @@
-//! What crates of tests share: slow models, numbers without a pattern, refusals in tables, calls by name, and what records and runs are expected to be.
+//! What crates of tests share: slow models, numbers without a pattern, refusals in tables, and what records and runs are expected to be.
 #![tactic(auto)]
 
 pub mod bits;
-pub mod calls;
 pub mod expecting;
 pub mod numbers;
 pub mod random;

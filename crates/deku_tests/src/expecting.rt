@@ -1,17 +1,11 @@
 //! What values and their bytes are expected to be to one another.
 
 use deku::prelude::{DekuError, DekuReader, DekuWriter, NeedSize, Reader, Writer};
+use deku_testing::expecting::{next, put, reader_of, writer_in};
 use std::alloc::Global;
 use std::fmt::Debug;
-use std::io::{Cursor, ErrorKind};
+use std::io::Cursor;
 use std::process::Abort;
-use std::test::Fail;
-
-pub const MISFIT: DekuError = DekuError::InvalidParam(
-    "bit size of input is larger than requested size",
-);
-
-pub const NO_MEMORY: DekuError = DekuError::Io(ErrorKind::OutOfMemory);
 
 // A refusal in a table: the end of input, where so many bits were wanted, or another one.
 #[derive(Clone, Copy)]
@@ -48,18 +42,6 @@ pub fn same_at<T: PartialEq + Debug>(
     assert!(rt; *got == *want, "{run}: {step:?}: {got:?}, and not {want:?}");
 }
 
-// A reader of these bytes.
-pub fn reader_of<'b>(alloc: Global, bytes: &'b [u8]) -> Reader<Cursor<&'b [u8]>> {
-    Reader::new(alloc, Cursor::new(bytes))
-}
-
-// What is read next, under this context.
-pub fn next<T: DekuReader<C>, C>(reader: &mut Reader<Cursor<&[u8]>>, ctx: C) -> Result<T, DekuError>
-    requires { T.accepts ctx }
-{
-    T::from_reader_with_ctx(reader, ctx)
-}
-
 // The next byte.
 pub fn next_byte(reader: &mut Reader<Cursor<&[u8]>>) -> Result<u8, DekuError> {
     next(reader, ())
@@ -68,22 +50,6 @@ pub fn next_byte(reader: &mut Reader<Cursor<&[u8]>>) -> Result<u8, DekuError> {
 // The bits that are left of the last byte.
 pub fn rest_of(reader: &Reader<Cursor<&[u8]>>) -> Result<Vec<bool>, DekuError> {
     reader.rest()
-}
-
-// A writer into memory.
-pub fn writer_in(alloc: Global) -> Writer<Cursor<Vec<u8>>> {
-    Writer::new(Cursor::new(Vec::new(alloc)))
-}
-
-// The value is written behind what is written, under this context.
-pub fn put<T: DekuWriter<C>, C>(
-    writer: &mut Writer<Cursor<Vec<u8>>>,
-    value: &T,
-    ctx: C,
-) -> Result<(), DekuError>
-    requires { T.accepts ctx }
-{
-    value.to_writer(writer, ctx)
 }
 
 // The bytes of the value, under this context.
@@ -133,7 +99,7 @@ pub fn expect_next<T: DekuReader<C> + PartialEq + Debug, C>(
 )
     requires { T.accepts ctx }
 {
-    let value = next::<T, C>(reader, ctx);
+    let value = next::<T, C, _>(reader, ctx);
     same(rt, &bits, &(value, reader.bits_read()), &(Ok(want), bits));
 }
 
@@ -149,7 +115,7 @@ pub fn expect_whole<T: DekuReader<C> + DekuWriter<C> + PartialEq + Debug, C: Cop
     requires writes { T.DekuWriter.accepts ctx }
 {
     let mut reader = reader_of(alloc, bytes);
-    let answer = next::<T, C>(&mut reader, ctx);
+    let answer = next::<T, C, _>(&mut reader, ctx);
     let read = reader.bits_read().div_ceil(8);
     expect_written(rt, alloc, ctx, &want, bytes);
     same(rt, &bytes, &(answer, read), &(Ok(want), bytes.len()));
@@ -166,7 +132,7 @@ pub fn expect_denied<T: DekuReader<C> + PartialEq + Debug, C: Copy>(
     requires { T.accepts ctx }
 {
     let mut reader = reader_of(alloc, bytes);
-    let answer = next::<T, C>(&mut reader, ctx);
+    let answer = next::<T, C, _>(&mut reader, ctx);
     let read = reader.bits_read();
     let seen = (answer, read, next_byte(&mut reader));
     same(rt, &bytes, &seen, &(Err(want.0), want.1, Ok(want.2)));

@@ -4,11 +4,12 @@
 
 use super::expecting::Refusal::Ended;
 use super::expecting::{
-    Refusal, expect_refusal, expect_written, next, next_byte, reader_of, rest_of, same, written,
+    Refusal, expect_refusal, expect_written, next_byte, rest_of, same, written,
 };
 use deku::ctx::Endian::Little;
 use deku::ctx::{BitSize, Limit};
 use deku::prelude::{DekuError, Reader};
+use deku_testing::expecting::{next, reader_of};
 use std::alloc::Global;
 use std::collections::{HashMap, HashSet};
 use std::hash::{BuildHasherDefault, FoldHasher};

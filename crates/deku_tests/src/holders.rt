@@ -2,12 +2,11 @@
 //!
 //! deku's own two tests of `Arc` have no counterpart: it is not read or written.
 
-use super::expecting::{
-    NO_MEMORY, expect_next, expect_whole, expect_written, next, reader_of, same,
-};
+use super::expecting::{expect_whole, expect_written, same};
 use deku::ctx::BitSize;
 use deku::ctx::Endian::{Big, Little};
 use deku::prelude::{DekuError, NeedSize};
+use deku_testing::expecting::{next, reader_of};
 use std::borrow::Cow;
 use std::test::Fail;
 
@@ -22,7 +21,7 @@ fn options(rt: HostRuntime) {
     expect_written(&rt, alloc, (), &(1u8, nothing, 2u8), &[1, 2]);
     let mut reader = reader_of(alloc, &[]);
     let ended = DekuError::Incomplete(NeedSize::new(8));
-    let answer = next::<Option<u8>, ()>(&mut reader, ());
+    let answer = next::<Option<u8>, (), _>(&mut reader, ());
     same(&rt, &"nothing to read", &answer, &Err(ended));
 }
 
@@ -39,17 +38,6 @@ fn boxes(rt: HostRuntime) -> Result<(), Fail> {
         Box::new(alloc, (1u8, 2u8))?,
     );
     Ok(())
-}
-
-// With memory or without it, the reader is behind the item.
-#[test]
-fn memory_for_a_box(rt: HostRuntime) {
-    let mut reader = reader_of(rt.alloc(), &[0xEF, 0xBE, 0x69]);
-    match next::<Box<u16>, ()>(&mut reader, ()) {
-        Ok(held) => same(&rt, &"held", &*held, &0xBEEF),
-        Err(refusal) => same(&rt, &"refused", &refusal, &NO_MEMORY),
-    }
-    expect_next(&rt, &mut reader, (), 0x69u8, 24);
 }
 
 // It is read as one that owns its item, and written whether it owns it or not.

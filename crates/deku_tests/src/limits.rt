@@ -2,13 +2,13 @@
 
 use super::expecting::Refusal::{Ended, Said};
 use super::expecting::{
-    Answer, Refusal, expect_answer, expect_bytes, expect_written, next, next_byte, put, reader_of,
-    rest_of, same, same_at, writer_in,
+    Answer, Refusal, expect_answer, expect_bytes, expect_written, next_byte, rest_of, same, same_at,
 };
 use deku::ctx::Endian::{Big, Little};
 use deku::ctx::Order::{Lsb0, Msb0};
 use deku::ctx::{BitSize, ByteSize, Limit, Never, ReadExact};
 use deku::prelude::{DekuError, Reader};
+use deku_testing::expecting::{next, put, reader_of, writer_in};
 use std::alloc::Global;
 use std::boxed::BoxedSlice;
 use std::io::Cursor;
@@ -107,12 +107,12 @@ fn take_place(
 ) {
     match step {
         Step::AtOnce(count, want) => {
-            let bytes = next::<Vec<u8>, ReadExact>(reader, ReadExact(*count));
+            let bytes = next::<Vec<u8>, ReadExact, _>(reader, ReadExact(*count));
             expect_answer(rt, run, &at, bytes, want);
         }
         Step::Next(want) => same_at(rt, run, &at, &next_byte(reader), &Ok(*want)),
         Step::NextSized(bits, want) => {
-            let byte = next::<u8, BitSize>(reader, BitSize(*bits));
+            let byte = next::<u8, BitSize, _>(reader, BitSize(*bits));
             same_at(rt, run, &at, &byte, &Ok(*want));
         }
         Step::Read(want) => same_at(rt, run, &at, &reader.bits_read(), want),

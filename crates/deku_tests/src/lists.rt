@@ -1,12 +1,10 @@
 //! Arrays and slices: their items, one after the other.
 
-use super::expecting::{
-    MISFIT, expect_bytes, expect_next, expect_whole, expect_written, next, put, reader_of, same,
-    writer_in,
-};
+use super::expecting::{expect_bytes, expect_next, expect_whole, expect_written, same};
 use deku::ctx::Endian::{Big, Little};
 use deku::ctx::{BitSize, Endian};
 use deku::prelude::{DekuError, NeedSize};
+use deku_testing::expecting::{MISFIT, next, put, reader_of, writer_in};
 use std::test::Fail;
 
 #[test]
@@ -24,7 +22,7 @@ fn arrays(rt: HostRuntime) {
 fn half_an_array(rt: HostRuntime) {
     let mut reader = reader_of(rt.alloc(), &[0xDD, 0xCC]);
     let ended = DekuError::Incomplete(NeedSize::new(16));
-    let answer = next::<[u16; 2], Endian>(&mut reader, Big);
+    let answer = next::<[u16; 2], Endian, _>(&mut reader, Big);
     same(
         &rt,
         &"read",

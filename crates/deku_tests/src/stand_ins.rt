@@ -1,12 +1,11 @@
 //! Truth values, numbers other than 0 and addresses, which stand for numbers.
 
-use super::expecting::{
-    expect_bytes, expect_denied, expect_whole, expect_written, put, same, writer_in,
-};
+use super::expecting::{expect_bytes, expect_denied, expect_whole, expect_written, same};
 use deku::ctx::Endian::{Big, Little};
 use deku::ctx::Order::Lsb0;
 use deku::ctx::{BitSize, ByteSize};
 use deku::prelude::DekuError;
+use deku_testing::expecting::{MISFIT, put, writer_in};
 use std::net::{IpAddr, Ipv4Addr, Ipv6Addr};
 use std::num::{
     NonZeroI8, NonZeroI16, NonZeroI32, NonZeroI64, NonZeroI128, NonZeroIsize, NonZeroU8,
@@ -17,10 +16,6 @@ use std::test::Fail;
 const UNTRUE: DekuError = DekuError::Parse("cannot parse bool value");
 
 const ZERO: DekuError = DekuError::Parse("NonZero assertion");
-
-const MISFIT: DekuError = DekuError::InvalidParam(
-    "bit size of input is larger than requested size",
-);
 
 #[test]
 fn truth_values(rt: HostRuntime) {

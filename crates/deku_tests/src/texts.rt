@@ -2,14 +2,14 @@
 
 use super::expecting::Refusal::{Ended, Said};
 use super::expecting::{
-    Answer, NO_MEMORY, Refusal, expect_bytes, expect_refusal, expect_written, next, next_byte, put,
-    reader_of, same, same_at, writer_in,
+    Answer, Refusal, expect_bytes, expect_refusal, expect_written, next_byte, same, same_at,
 };
 use deku::cstring::CString;
 use deku::ctx::Endian::Big;
 use deku::ctx::Order::Lsb0;
 use deku::ctx::{BitSize, ByteSize, Endian};
 use deku::prelude::{DekuError, Reader};
+use deku_testing::expecting::{next, put, reader_of, writer_in};
 use std::alloc::Global;
 use std::io::{Cursor, ErrorKind, Seek, SeekFrom};
 use std::process::Abort;
@@ -104,7 +104,7 @@ fn take_step(
         }
         Step::Byte(want) => same_at(rt, run, &at, &next_byte(reader), &Ok(*want)),
         Step::Number(want) => {
-            let answer = next::<u16, Endian>(reader, Big);
+            let answer = next::<u16, Endian, _>(reader, Big);
             same_at(rt, run, &at, &answer, &number_wanted(want));
         }
         Step::Read(want) => same_at(rt, run, &at, &reader.bits_read(), want),
@@ -206,48 +206,5 @@ fn written_behind_bits(rt: HostRuntime) -> Result<(), Fail> {
     put(&mut writer, &ab, ())?;
     expect_bytes(&rt, &"behind bits", writer, &[0x61, 0xAC, 0x40, 0x00]);
     expect_written(&rt, alloc, (Big, ByteSize(1)), &ab, &[0x61, 0x62, 0x00]);
-    Ok(())
-}
-
-// The reader has read this text, or no memory was found for a byte that was read: it is behind that byte then.
-fn expect_test_read(
-    rt: &impl Abort,
-    reader: &mut Reader<Cursor<&[u8]>>,
-    answer: Result<CString, DekuError>,
-) {
-    let read = reader.bits_read() / 8;
-    match answer {
-        Ok(test) => same(rt, &"read", &(test.as_bytes(), read), &(b"test", 5)),
-        Err(refusal) => same(rt, &"refused", &refusal, &NO_MEMORY),
-    }
-    assert!(rt; read >= 1 && read <= 5);
-    same(rt, &read, &next_byte(reader), &Ok(TEST[read]));
-}
-
-#[test]
-fn read_or_wanting_memory(rt: HostRuntime) {
-    let mut reader = reader_of(rt.alloc(), &TEST);
-    let answer = next(&mut reader, ());
-    expect_test_read(&rt, &mut reader, answer);
-    let mut reader = reader_of(rt.alloc(), &TEST);
-    let answer = next(&mut reader, ByteSize(5));
-    expect_test_read(&rt, &mut reader, answer);
-}
-
-// The bytes and the zero stand in memory of their own, or none is found for them; the text stays.
-#[test]
-fn with_its_zero_or_wanting_memory(rt: HostRuntime) -> Result<(), Fail> {
-    let alloc = rt.alloc();
-    let ab = text(&rt, alloc, b"ab")?;
-    match ab.as_bytes_with_nul(alloc) {
-        Ok(bytes) => same(
-            &rt,
-            &"with its zero",
-            &bytes.as_slice(),
-            &[0x61, 0x62, 0x00].as_slice(),
-        ),
-        Err(refusal) => same(&rt, &"refused", &refusal, &NO_MEMORY),
-    }
-    same(&rt, &"the text", &ab.as_bytes(), &b"ab".as_slice());
     Ok(())
 }

@@ -1,14 +1,14 @@
 //! Nothing, and tuples.
 
 use super::expecting::{
-    MISFIT, expect_bytes, expect_denied, expect_whole, expect_written, next, next_byte, put,
-    reader_of, same, writer_in,
+    expect_bytes, expect_denied, expect_whole, expect_written, next_byte, same,
 };
 use deku::ctx::Endian::{Big, Little};
 use deku::ctx::Order::Lsb0;
 use deku::ctx::{BitSize, ByteSize, Order};
 use deku::device::Sink;
 use deku::prelude::{DekuError, DekuWriter, NeedSize, Writer};
+use deku_testing::expecting::{MISFIT, next, put, reader_of, writer_in};
 use std::io::Cursor;
 use std::test::Fail;
 
@@ -23,7 +23,7 @@ fn nothing(rt: HostRuntime) {
     let mut reader = reader_of(alloc, &[]);
     for turn in [1, 2] {
         let byte = next_byte(&mut reader);
-        let seen = (byte, next::<(), ()>(&mut reader, ()));
+        let seen = (byte, next::<(), (), _>(&mut reader, ()));
         same(&rt, &turn, &seen, &(Err(ended), Ok(())));
     }
 }
