@@ -28,6 +28,7 @@ impl DekuUpdate for Counted {
 }
 
 // A point, or a circle around it.
+#[derive(Drop)]
 enum Shape {
     Point,
     Circle { radius: u8 },
