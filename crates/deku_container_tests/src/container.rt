@@ -3,7 +3,7 @@
 use super::examples::{Bytes, Child, LsbField, Node, Parent};
 use super::records::{Empty, Head, Low, Nine, Octet, Pair};
 use deku::prelude::{DekuContainerRead, DekuContainerWrite, DekuError, NeedSize};
-use deku_testing::expecting::same;
+use deku_testing_values::expecting::same;
 use std::alloc::Global;
 use std::fmt::Debug;
 use std::io::{Cursor, ErrorKind};

@@ -8,7 +8,7 @@ ghost use Rattle.deku.specs.Wholes.{Behind, FromFirst};
 
 use super::records::{Head, Nine};
 use deku::prelude::{DekuContainerRead, DekuError};
-use deku_testing::expecting::same;
+use deku_testing_values::expecting::same;
 use std::alloc::Global;
 use std::io::Cursor;
 use std::test::Fail;

@@ -1,7 +1,7 @@
 //! Records that update themselves, and enums whose variants have ids.
 
 use deku::prelude::{DekuEnumExt, DekuError, DekuUpdate};
-use deku_testing::expecting::same;
+use deku_testing_values::expecting::same;
 use std::test::Fail;
 
 // A list of bytes, and how many they are.

@@ -5,7 +5,7 @@ ghost use Rattle.deku.specs.Devices.{untold_source};
 use deku::ctx::BitSize;
 use deku::device::{Sink, Source};
 use deku::prelude::{Reader, Writer};
-use deku_testing::expecting::{next, put, same};
+use deku_testing_values::expecting::{next, put, same};
 use std::alloc::Global;
 use std::io;
 use std::io::{BufReader, Cursor, Read, Seek, SeekFrom, Write};

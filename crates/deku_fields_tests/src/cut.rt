@@ -5,7 +5,7 @@ use deku::error::DekuError;
 use deku_fields::Kind::{I8, I16, I32, I128, U8, U16, U32, U128};
 use deku_fields::Number::{Signed, Unsigned};
 use deku_fields::{Field, Item, Kind, Number, cut_to_bytes, list_to_bytes};
-use deku_testing::expecting::{MISFIT, NO_MEMORY};
+use deku_testing_values::expecting::{MISFIT, NO_MEMORY};
 use std::alloc::Global;
 use std::process::Abort;
 use std::test::Fail;

@@ -18,7 +18,7 @@ use deku_fields::{
     Field, Item, Kind, Number, list_from_bytes, list_to_bytes, read_list, read_list_into,
     write_list,
 };
-use deku_testing::expecting::{MISFIT, NO_MEMORY, reader_of, same};
+use deku_testing_values::expecting::{MISFIT, NO_MEMORY, reader_of, same};
 use std::alloc::Global;
 use std::io::{Cursor, ErrorKind};
 use std::process::Abort;

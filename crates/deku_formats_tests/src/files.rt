@@ -2,7 +2,7 @@
 
 use deku::prelude::DekuError;
 use deku_formats::png::Png;
-use deku_testing::records::{expect_record, expect_refusal};
+use deku_testing_values::records::{expect_record, expect_refusal};
 use std::test::Fail;
 
 // The signature and the first chunk of `collapsed-trait-impls.png` in the documentation of Rust 1.95; `file` prints 608 x 275, 8-bit/color RGB, non-interlaced.

@@ -8,7 +8,7 @@ use deku_instructions::riscv::jump::Jump;
 use deku_instructions::riscv::register::Register;
 use deku_instructions::riscv::store::Store;
 use deku_instructions::riscv::upper::Upper;
-use deku_testing::records::{expect_record, expect_refusal};
+use deku_testing_values::records::{expect_record, expect_refusal};
 use std::test::Fail;
 
 fn register(target: u8, first: u8, second: u8, variant: u8) -> Instruction {

@@ -6,7 +6,7 @@ use deku_dns::label::Label;
 use deku_dns::query::Query;
 use deku_dns::question::Question;
 use deku_symmetry::{Ended, Symmetric};
-use deku_testing::records::{expect_record, expect_refusal};
+use deku_testing_values::records::{expect_record, expect_refusal};
 use std::alloc::Global;
 use std::test::Fail;
 

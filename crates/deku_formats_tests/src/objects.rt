@@ -4,7 +4,7 @@ use deku::prelude::{DekuError, DekuReader, NeedSize, Reader};
 use deku_elf::fields::Fields;
 use deku_elf::segment::Segment;
 use deku_elf::{Elf, segments};
-use deku_testing::records::{expect_record, expect_refusal};
+use deku_testing_values::records::{expect_record, expect_refusal};
 use std::io::Cursor;
 use std::test::Fail;
 

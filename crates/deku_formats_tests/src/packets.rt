@@ -5,7 +5,7 @@ use deku_formats::checksum::{is_intact, ones_sum};
 use deku_formats::ipv4::Ipv4;
 use deku_formats::ipv4::front::Front;
 use deku_formats::udp::Udp;
-use deku_testing::records::{expect_record, expect_refusal};
+use deku_testing_values::records::{expect_record, expect_refusal};
 use std::net::Ipv4Addr;
 use std::test::Fail;
 

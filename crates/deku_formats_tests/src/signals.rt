@@ -5,7 +5,7 @@ use deku_formats::can::Chassis;
 use deku_formats::ccsds::Telemetry;
 use deku_formats::ccsds::header::Header;
 use deku_formats::ccsds::sample::Sample;
-use deku_testing::records::{expect_record, expect_refusal};
+use deku_testing_values::records::{expect_record, expect_refusal};
 use std::test::Fail;
 
 // As the Python package cantools 37.2 encodes it, from the DBC text that stands in the module.

@@ -7,7 +7,7 @@ use deku::ctx::{BitSize, ByteSize, Endian, Layout, NumberCtx, Order, Size};
 use deku::device::{Sink, Source};
 use deku::prelude::{DekuError, NeedSize, Reader, Writer};
 use deku::probe::FailAt;
-use deku_testing::expecting::{next, put};
+use deku_testing_values::expecting::{next, put};
 use deku_testing::same::same;
 use std::alloc::Global;
 use std::io::{Cursor, ErrorKind};

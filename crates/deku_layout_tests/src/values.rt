@@ -5,7 +5,7 @@ use deku::device::{Sink, Source};
 use deku::prelude::{DekuError, DekuWriter, Reader, Writer};
 use deku_num::calls::{read_signed, read_unsigned, write_signed, write_unsigned};
 use deku_num::kind::NumberType;
-use deku_testing::expecting::next;
+use deku_testing_values::expecting::next;
 use std::process::Abort;
 
 /// A type of numbers.

@@ -3,7 +3,7 @@
 use crate::expecting::expect_items;
 use deku::ctx::Order::{self, Lsb0, Msb0};
 use deku::prelude::{Reader, Writer};
-use deku_testing::expecting::{NO_MEMORY, reader_of, same};
+use deku_testing_values::expecting::{NO_MEMORY, reader_of, same};
 use std::io::Cursor;
 use std::test::Fail;
 

@@ -1,7 +1,7 @@
 //! What is expected of calls that take memory.
 
 use deku::prelude::{DekuError, DekuReader, Reader};
-use deku_testing::expecting::{NO_MEMORY, reader_of, same};
+use deku_testing_values::expecting::{NO_MEMORY, reader_of, same};
 use std::alloc::Global;
 use std::fmt::Debug;
 use std::io::Cursor;

@@ -7,7 +7,7 @@ use deku_fields::{
     Field, Item, Kind, Number, Place, list_from_bytes, list_to_bytes, places, read_list,
     read_list_into,
 };
-use deku_testing::expecting::{NO_MEMORY, reader_of, same};
+use deku_testing_values::expecting::{NO_MEMORY, reader_of, same};
 use std::test::Fail;
 
 const BYTES: [u8; 3] = [0x69, 0xC0, 0xFE];

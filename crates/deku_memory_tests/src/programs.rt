@@ -1,7 +1,7 @@
 //! Runs of `fields` and `layout`: where no memory is found a run ends with 1 and says so, and its output is as it was.
 
 use deku_picture::{Cell, rows};
-use deku_testing::expecting::same;
+use deku_testing_values::expecting::same;
 use deku_testing::runs::arguments;
 use std::alloc::Global;
 use std::io::Cursor;

@@ -4,7 +4,7 @@ use crate::expecting::{expect_items, read_first};
 use deku::prelude::{DekuContainerRead, DekuContainerWrite};
 use deku_fields::frame::Frame;
 use deku_symmetry::{Be, Led, Msb, Symmetric};
-use deku_testing::expecting::{NO_MEMORY, same};
+use deku_testing_values::expecting::{NO_MEMORY, same};
 use std::test::Fail;
 
 type Header = (Msb<u8, 4>, Msb<u8, 4>, Be<u16>);

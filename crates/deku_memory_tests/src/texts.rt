@@ -4,7 +4,7 @@ use crate::expecting::expect_items;
 use deku::cstring::CString;
 use deku::ctx::ByteSize;
 use deku::prelude::{DekuError, DekuReader, Reader};
-use deku_testing::expecting::{NO_MEMORY, next, reader_of, same};
+use deku_testing_values::expecting::{NO_MEMORY, next, reader_of, same};
 use std::io::Cursor;
 use std::test::Fail;
 

@@ -3,7 +3,7 @@
 
 use crate::expecting::read_first;
 use deku::ctx::{BitSize, Limit, ReadExact};
-use deku_testing::expecting::{NO_MEMORY, next, reader_of, same};
+use deku_testing_values::expecting::{NO_MEMORY, next, reader_of, same};
 use std::boxed::BoxedSlice;
 use std::collections::{HashMap, HashSet};
 use std::hash::{BuildHasherDefault, FoldHasher};

@@ -2,7 +2,7 @@
 
 use deku::ctx::Endian;
 use deku::prelude::{DekuWriter, Writer};
-use deku_testing::expecting::{NO_MEMORY, same, writer_in};
+use deku_testing_values::expecting::{NO_MEMORY, same, writer_in};
 use std::io::Cursor;
 use std::test::Fail;
 

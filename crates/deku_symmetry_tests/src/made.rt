@@ -5,8 +5,8 @@ use deku::prelude::{DekuError, NeedSize};
 use deku_symmetry::{
     Asserted, Check, Checks, Counts, Led, Lsb, LsbTagged, Msb, Only, Symmetric, Tagged,
 };
-use deku_testing::expecting::same;
-use deku_testing::records::{expect_packed, expect_refusal};
+use deku_testing_values::expecting::same;
+use deku_testing_values::records::{expect_packed, expect_refusal};
 use std::test::Fail;
 
 // The version is 4.

@@ -8,7 +8,7 @@ use deku_symmetry::{
     Be, Constant, Constants, EndianRecord, Fixed, Le, Led, Parted, Record, ToParts, read_record,
     write_led, write_record,
 };
-use deku_testing::records::{expect_packed, expect_refusal};
+use deku_testing_values::records::{expect_packed, expect_refusal};
 use std::test::Fail;
 
 // Two bytes that are always the same.

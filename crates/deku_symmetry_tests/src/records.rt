@@ -4,8 +4,8 @@ use crate::message::Message;
 use crate::sample::Sample;
 use deku::prelude::{DekuContainerRead, DekuError};
 use deku_symmetry::{Be, Le, Lsb, LsbBe, Msb, MsbLe, Symmetric};
-use deku_testing::expecting::{expect_denied, same};
-use deku_testing::records::{expect_packed, expect_record};
+use deku_testing_values::expecting::{expect_denied, same};
+use deku_testing_values::records::{expect_packed, expect_record};
 use std::test::Fail;
 
 // Signals of an engine: two of four bits and one of a byte; a byte, two bytes, and a byte; and

@@ -1,7 +1,7 @@
 //! What values and their bytes are expected to be to one another.
 
 use deku::prelude::{DekuError, DekuReader, DekuWriter, NeedSize, Reader, Writer};
-use deku_testing::expecting::{next, put, reader_of, writer_in};
+use deku_testing_values::expecting::{next, put, reader_of, writer_in};
 use std::alloc::Global;
 use std::fmt::Debug;
 use std::io::Cursor;

@@ -9,7 +9,7 @@ use super::expecting::{
 use deku::ctx::Endian::Little;
 use deku::ctx::{BitSize, Limit};
 use deku::prelude::{DekuError, Reader};
-use deku_testing::expecting::{next, reader_of};
+use deku_testing_values::expecting::{next, reader_of};
 use std::alloc::Global;
 use std::collections::{HashMap, HashSet};
 use std::hash::{BuildHasherDefault, FoldHasher};

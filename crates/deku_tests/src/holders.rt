@@ -6,7 +6,7 @@ use super::expecting::{expect_whole, expect_written, same};
 use deku::ctx::BitSize;
 use deku::ctx::Endian::{Big, Little};
 use deku::prelude::{DekuError, NeedSize};
-use deku_testing::expecting::{next, reader_of};
+use deku_testing_values::expecting::{next, reader_of};
 use std::borrow::Cow;
 use std::test::Fail;
 

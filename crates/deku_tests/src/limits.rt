@@ -8,7 +8,7 @@ use deku::ctx::Endian::{Big, Little};
 use deku::ctx::Order::{Lsb0, Msb0};
 use deku::ctx::{BitSize, ByteSize, Limit, Never, ReadExact};
 use deku::prelude::{DekuError, Reader};
-use deku_testing::expecting::{next, put, reader_of, writer_in};
+use deku_testing_values::expecting::{next, put, reader_of, writer_in};
 use std::alloc::Global;
 use std::boxed::BoxedSlice;
 use std::io::Cursor;

@@ -4,7 +4,7 @@ use super::expecting::{expect_bytes, expect_next, expect_whole, expect_written, 
 use deku::ctx::Endian::{Big, Little};
 use deku::ctx::{BitSize, Endian};
 use deku::prelude::{DekuError, NeedSize};
-use deku_testing::expecting::{MISFIT, next, put, reader_of, writer_in};
+use deku_testing_values::expecting::{MISFIT, next, put, reader_of, writer_in};
 use std::test::Fail;
 
 #[test]

@@ -5,7 +5,7 @@ use deku::ctx::Endian::{Big, Little};
 use deku::ctx::Order::Lsb0;
 use deku::ctx::{BitSize, ByteSize};
 use deku::prelude::DekuError;
-use deku_testing::expecting::{MISFIT, put, writer_in};
+use deku_testing_values::expecting::{MISFIT, put, writer_in};
 use std::net::{IpAddr, Ipv4Addr, Ipv6Addr};
 use std::num::{
     NonZeroI8, NonZeroI16, NonZeroI32, NonZeroI64, NonZeroI128, NonZeroIsize, NonZeroU8,

@@ -9,7 +9,7 @@ use deku::ctx::Endian::Big;
 use deku::ctx::Order::Lsb0;
 use deku::ctx::{BitSize, ByteSize, Endian};
 use deku::prelude::{DekuError, Reader};
-use deku_testing::expecting::{next, put, reader_of, writer_in};
+use deku_testing_values::expecting::{next, put, reader_of, writer_in};
 use std::alloc::Global;
 use std::io::{Cursor, ErrorKind, Seek, SeekFrom};
 use std::process::Abort;

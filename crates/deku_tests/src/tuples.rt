@@ -8,7 +8,7 @@ use deku::ctx::Order::Lsb0;
 use deku::ctx::{BitSize, ByteSize, Order};
 use deku::device::Sink;
 use deku::prelude::{DekuError, DekuWriter, NeedSize, Writer};
-use deku_testing::expecting::{MISFIT, next, put, reader_of, writer_in};
+use deku_testing_values::expecting::{MISFIT, next, put, reader_of, writer_in};
 use std::io::Cursor;
 use std::test::Fail;
 

@@ -6,8 +6,8 @@ use deku::prelude::{
     DekuWriter, NeedSize, Reader, Writer,
 };
 use deku_fields::frame::Frame;
-use deku_testing::expecting::{MISFIT, expect_denied, same};
-use deku_testing::records::expect_record;
+use deku_testing_values::expecting::{MISFIT, expect_denied, same};
+use deku_testing_values::records::expect_record;
 use std::io::Cursor;
 use std::test::Fail;
 

@@ -1,7 +1,7 @@
 //! A sample from bytes, and back.
 
 use super::Sample;
-use deku_testing::records::expect_record;
+use deku_testing_values::records::expect_record;
 use std::test::Fail;
 
 #[test]

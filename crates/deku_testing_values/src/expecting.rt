@@ -1,6 +1,6 @@
 //! What values and their bytes are expected to be to one another.
 
-pub use crate::same::same;
+pub use deku_testing::same::same;
 use deku::device::{Sink, Source};
 use deku::prelude::{DekuError, DekuReader, DekuWriter, Reader, Writer};
 use std::alloc::Global;
