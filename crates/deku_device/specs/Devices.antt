@@ -1,5 +1,5 @@
 -- What sources and sinks tell of themselves, and what a transfer does to it.
-use Rattle.std.specs.Prelude.{◌≡◌, ◌⊎◌, ℕ, ◌<◌, ◌≤◌, List, [], ◌++◌, length, drop, take, Option, None, Some, ⊤, nat_le, if◌then◌else◌}
+use Rattle.std.specs.Prelude.{◌≡◌, ◌⊎◌, ℕ, ◌-◌, ◌<◌, ◌≤◌, List, [], ◌++◌, length, drop, take, Option, None, Some, ⊤, nat_le, if◌then◌else◌}
 use Rattle.std.specs.Borrow.{GName}
 use Rattle.std.specs.Io.KnownBytes.{Appends}
 use Rattle.std.specs.declared.io.ErrorKind.{ErrorKind}
@@ -146,7 +146,14 @@ pub record Gave (old new : SinkTold) (bytes : List ℕ) : Type 0 where
   pub room : Shrinks old.room new.room (length bytes)
   pub health : NoFewerFailures old.health new.health
 
--- the sink did not take all of n bytes: a call failed, or it lacks the room
-pub record Declined (old new : SinkTold) (n : ℕ) (kind : ErrorKind) : Type 0 where
-  pub cause : MoreFailures old.health new.health ⊎ LacksRoom old.room n kind
+-- taken bytes that are told are the old ones and a beginning of these
+abbrev pub TakesSome : Option (List ℕ) → Option (List ℕ) → List ℕ → Type 0
+TakesSome None new bytes = ⊤
+TakesSome (Some taken) None bytes = ⊥
+TakesSome (Some taken) (Some all) bytes = all ≡ taken ++ take (length all - length taken) bytes
+
+-- the sink did not take all of the bytes, but a beginning of them: a call failed, or it lacks the room
+pub record Declined (old new : SinkTold) (bytes : List ℕ) (kind : ErrorKind) : Type 0 where
+  pub cause : MoreFailures old.health new.health ⊎ LacksRoom old.room (length bytes) kind
+  pub taken : TakesSome old.taken new.taken bytes
   pub health : NoFewerFailures old.health new.health

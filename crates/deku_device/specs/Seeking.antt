@@ -41,9 +41,10 @@ abbrev pub Lands : {E : Type 0} → Option Whole → Option Whole → Result ℕ
 Lands None new r = ⊤
 Lands (Some w) new r = new ≡ Some (at_place w r)
 
--- a seek: no failure is forgotten, and the references stay, and so do all bytes, at the place that it answers, which is its target
+-- a seek: no failure is forgotten, and none is added where it succeeds; the references stay, and so do all bytes, at the place that it answers, which is its target
 pub record Seeks {E : Type 0} (old new : Health) (to : SeekFrom) (r : Result ℕ E) : Type 0 where
   pub failures : NotFewer old.failures new.failures
+  pub none : IfOk r (λ n. new.failures ≡ old.failures)
   pub lenders : new.lenders ≡ old.lenders
   pub whole : Lands old.whole new.whole r
   pub target : IfSome old.whole (λ w. IfOk r (IsSeekTarget w.place (Some w.bytes) to))

@@ -135,14 +135,14 @@ pub trait Sink: Write + Seek {
     /// Gives all the bytes.
     ///
     /// Fails with `WriteZero` where the room that is told is too small, with `OutOfMemory` where no room is told and no memory is found, and else
-    /// only where the device fails. Then it is open how many of them it took.
+    /// only where the device fails. Then it took a beginning of them, and it is open how many.
     ///
     /// ```text
     /// sink.give(&[1, 2])?;                 // a slice with one byte of room refuses it with WriteZero
     /// ```
     fn give(&mut self, bytes: &[u8]) -> io::Result<()>
         ensures ok { OnOk result (Gave (told self.old) (told self.new) bytes.now) }
-        ensures err { IfErr result (λ e. Declined (told self.old) (told self.new) (length bytes.now) (error_kind e)) };
+        ensures err { IfErr result (λ e. Declined (told self.old) (told self.new) bytes.now (error_kind e)) };
 
     /// Gives the first `n` of eight bytes, where it has room for eight at hand, and answers whether it did. The caller's condition: `n` is at most 8.
     /// Its place moves by `n`, and what lies behind them stays. Where it answers `false` nothing is given and nothing changes, and `give` says more.
@@ -426,7 +426,7 @@ impl Sink for Cursor<&mut [u8]> {
     #[inline(always)]
     fn give(&mut self, bytes: &[u8]) -> io::Result<()>
         ensures ok { OnOk result (Gave (slice_told self.old) (slice_told self.new) bytes.now) }
-        ensures err { IfErr result (λ e. Declined (slice_told self.old) (slice_told self.new) (length bytes.now) (error_kind e)) }
+        ensures err { IfErr result (λ e. Declined (slice_told self.old) (slice_told self.new) bytes.now (error_kind e)) }
         // As many of the bytes as fit are laid over those that lie there, also where it is refused.
         ensures written { (cursor_inner self.new).now ≡ overlaid (cursor_inner self.old).now (cursor_position self.old) (fitting_front (cursor_inner self.old).now (cursor_position self.old) bytes.now) }
         ensures place { cursor_position self.new ≡ cursor_position self.old + length (fitting_front (cursor_inner self.old).now (cursor_position self.old) bytes.now) }

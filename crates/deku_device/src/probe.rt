@@ -226,7 +226,7 @@ impl Write for FailAt<&mut [u8]> {
 // Gives one byte, by one call.
 fn give_byte(sink: &mut FailAt<&mut [u8]>, byte: u8) -> io::Result<()>
     ensures ok { OnOk result (Gave (failing_sink sink.old) (failing_sink sink.new) (byte ∷ [])) }
-    ensures err { IfErr result (λ e. Declined (failing_sink sink.old) (failing_sink sink.new) 1 (error_kind e)) }
+    ensures err { IfErr result (λ e. Declined (failing_sink sink.old) (failing_sink sink.new) (byte ∷ []) (error_kind e)) }
     ensures counted { sink.new.left ≡ sink.old.left - 1 }
     ensures fails { OnOk result (sink.old.left ≢ 1) }
     ensures kind { IfErr result (λ e. sink.old.left ≡ 1 → error_kind e ≡ ErrorKind.Other) }
@@ -245,7 +245,7 @@ impl Sink for FailAt<&mut [u8]> {
 
     fn give(&mut self, bytes: &[u8]) -> io::Result<()>
         ensures ok { OnOk result (Gave (failing_sink self.old) (failing_sink self.new) bytes.now) }
-        ensures err { IfErr result (λ e. Declined (failing_sink self.old) (failing_sink self.new) (length bytes.now) (error_kind e)) }
+        ensures err { IfErr result (λ e. Declined (failing_sink self.old) (failing_sink self.new) bytes.now (error_kind e)) }
         // A call for each byte: those in front of the one that fails give a byte each, and that one gives none.
         ensures counted { OnOk result (self.new.left ≡ self.old.left - length bytes.now) }
         ensures fails { OnOk result (0 < self.old.left → length bytes.now < self.old.left) }

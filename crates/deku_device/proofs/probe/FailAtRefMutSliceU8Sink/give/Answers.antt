@@ -1,9 +1,9 @@
 use Rattle.std.proofs.lemmas.Grind.{common_steps}
-use Rattle.std.proofs.Common.{rules, arith, ◌≡◌, ◌-◌, ◌+◌, ◌≤◌, length, take, inl, inr}
+use Rattle.std.proofs.Common.{rules, arith, ◌≡◌, ◌-◌, length, take, inl, inr}
 use Rattle.std.proofs.lemmas.List.{take_more, length-take}
 use Rattle.std.proofs.lemmas.Result.{err_from_is_err_and}
 use Rattle.deku_device.specs.Cursors.{failing_sink}
-use Rattle.deku_device.proofs.Transfers.{Gave-trans, Declined-after, Declined-more}
+use Rattle.deku_device.proofs.Transfers.{Gave-trans, Declined-at}
 use Rattle.deku_device.proofs.Wholes.{only_at_one, fitted}
 use Rattle.std.specs.Io.Cursor.{cursor_position, cursor_inner}
 use Rattle.deku_device.proofs.probe.FailAtRefMutSliceU8Sink.give.Goals as goal
@@ -11,11 +11,9 @@ use Rattle.deku_device.proofs.probe.FailAtRefMutSliceU8Sink.give.Goals as goal
 pub returns-in_err-give_byte-clause-err : goal.returns-in_err-give_byte-clause-err
 returns-in_err-give_byte-clause-err c =
     let p = err_from_is_err_and c.from_residual.result c.from_residual.ensures.1 in
-    let given = take c.loop-byte.byte-index c.args.bytes.now in
-    let more : length given + 1 ≤ length c.args.bytes.now = simp length-take (omega arith) in
     rw (p.1, p.2)
-    (Declined-more _ _ (length given + 1) (length c.args.bytes.now) _ more
-    (Declined-after (failing_sink c.args.self.now) (failing_sink c.loop-byte.self) (failing_sink c.give_byte.new.sink) given 1 _ c.loop-byte.invariant.given c.in_err-give_byte.ensures.err))
+    (Declined-at (failing_sink c.args.self.now) (failing_sink c.loop-byte.self) (failing_sink c.give_byte.new.sink) c.args.bytes.now c.loop-byte.byte-index _
+    (omega arith) c.loop-byte.invariant.given c.in_err-give_byte.ensures.err)
 
 pub returns-in_err-give_byte-clause-still : goal.returns-in_err-give_byte-clause-still
 returns-in_err-give_byte-clause-still c =
