@@ -41,10 +41,10 @@ bytes_ok o w t c n bs v u f g len l room moved short none all kept =
     (mapped_ok bytes_of (mapped_ok (shown o) (Quiet counted kept)))
 
 -- a transfer failed
-pub bytes_err : (o : Order) (w : List Bool) (t : Option (List ℕ)) (c n : ℕ) (f g : Health) (kind : ErrorKind) (stop : Fault)
+pub bytes_err : {after : Option Stream} (o : Order) (w : List Bool) (t : Option (List ℕ)) (c n : ℕ) (f g : Health) (kind : ErrorKind) (stop : Fault)
     → ((kind ≡ UnexpectedEof) × (stop ≡ fault.Incomplete (record { bits = 8 * n }))) ⊎ ((kind ≢ UnexpectedEof) × (stop ≡ fault.Io kind))
     → c + 8 * n < 2 ^ 64 → (kind ≡ UnexpectedEof → FewerBits (8 * n) w t) → (kind ≢ UnexpectedEof → MoreFailures f g) → NoFewerFailures f g
-    → Outcome (ReadsBytes o n) (Going (stream_of w t) c) f (Err (error_of stop)) (Stopped (error_of stop) c) g
+    → Outcome (ReadsBytes o n) (Going (stream_of w t) c) f (Err (error_of stop)) (Stopped after (error_of stop) c) g
 bytes_err o w t c n f g kind stop cause room ended failed kept =
     mapped_err bytes_of (mapped_err (shown o) (takes_err o w t c (8 * n) f g kind stop cause room ended failed kept))
 

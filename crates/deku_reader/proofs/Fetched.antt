@@ -14,12 +14,12 @@ use Rattle.deku_reader.proofs.Skips.{left_count}
 -- the count of a reader is that of its state
 same_count : (now : Option (List ℕ)) (s : Standing (List Bool)) → count_of (reader_state now s) ≡ count_of s
 same_count now (Going w c) = refl
-same_count now (Stopped f c) = refl
+same_count now (Stopped v f c) = refl
 
 -- the bits of its stream are those unread and those to come
 stream_bits : (ys : List ℕ) (u : Standing (List Bool)) (T : Stream) (c : ℕ) → reader_state (Some ys) u ≡ Going (Some T) c
     → length (window_of u) + 8 * length ys ≡ bit_count T
-stream_bits ys (Stopped f k) T c e = absurd (cc)
+stream_bits ys (Stopped v f k) T c e = absurd (cc)
 stream_bits ys (Going w k) T c e =
     let same : normal (at w ys) ≡ T = cc in
     sym (normal-count (at w ys)) ∙ ap bit_count same
@@ -33,7 +33,7 @@ transfer_counted o n c None bits u (inl took) = ap count_of took.4
 transfer_counted o n c None bits u (inr ended) = let e = ended.0 in absurd (cc)
 
 pub takes_counted : (o : Order) (n : ℕ) (bits : List Bool) (s u : Standing (Option Stream)) → TakesBits o n false s (Ok bits) u → count_of u ≡ count_of s + n
-takes_counted o n bits (Stopped f c) u took = let e = took.0 in absurd (cc)
+takes_counted o n bits (Stopped v f c) u took = let e = took.0 in absurd (cc)
 takes_counted o n bits (Going S c) u (inl refused) = let e = refused.1.2 in absurd (cc)
 takes_counted o n bits (Going S c) u (inr may) = transfer_counted o n c S bits u may.1
 
@@ -51,7 +51,7 @@ transfer_bits o n c w xs ys bits u (inl took) =
 
 pub takes_bits : (o : Order) (n : ℕ) (bits : List Bool) (told after : SourceTold) (s u : Standing (List Bool)) (xs ys : List ℕ) → told.coming ≡ Some xs → after.coming ≡ Some ys
     → ReadsAt (TakesBits o n) told s (Ok bits) after u → length (window_of s) + 8 * length xs ≡ n + (length (window_of u) + 8 * length ys)
-takes_bits o n bits told after (Stopped f c) u xs ys e d reads = let x = (meant reads).0.0 in absurd (cc)
+takes_bits o n bits told after (Stopped v f c) u xs ys e d reads = let x = (meant reads).0.0 in absurd (cc)
 takes_bits o n bits told after (Going w c) u xs ys e d reads = elim (meant reads).0 [
   | inl refused ↦ let x = refused.1.2 in absurd (cc)
   | inr may ↦ transfer_bits o n c w xs ys bits u (subst (λ t. Transfers o n (stream_of w (Some xs)) c (Ok bits) (reader_state t u)) d (subst (λ t. Transfers o n (stream_of w t) c (Ok bits) (reader_state after.coming u)) e may.1))
@@ -63,12 +63,12 @@ looked_counted c (Some S) at_end u p = ap count_of p.1
 looked_counted c None at_end u p = ap count_of p.3
 
 looks_counted : (at_end : Bool) (told after : SourceTold) (s u : Standing (List Bool)) → ReadsAt Ending told s (Ok at_end) after u → count_of u ≡ count_of s
-looks_counted at_end told after (Stopped f c) u reads = let e = (meant reads).0.0 in absurd (cc)
+looks_counted at_end told after (Stopped v f c) u reads = let e = (meant reads).0.0 in absurd (cc)
 looks_counted at_end told after (Going w c) u reads = sym (same_count after.coming u) ∙ looked_counted c (stream_of w told.coming) at_end (reader_state after.coming u) (meant reads).0
 
 looks_bits : (at_end : Bool) (told after : SourceTold) (s u : Standing (List Bool)) (xs ys : List ℕ) → told.coming ≡ Some xs → after.coming ≡ Some ys
     → ReadsAt Ending told s (Ok at_end) after u → length (window_of s) + 8 * length xs ≡ length (window_of u) + 8 * length ys
-looks_bits at_end told after (Stopped f c) u xs ys e d reads = let x = (meant reads).0.0 in absurd (cc)
+looks_bits at_end told after (Stopped v f c) u xs ys e d reads = let x = (meant reads).0.0 in absurd (cc)
 looks_bits at_end told after (Going w c) u xs ys e d reads =
     let p : Peeks (stream_of w (Some xs)) c (Ok at_end) (reader_state (Some ys) u) =
     subst (λ t. Peeks (stream_of w (Some xs)) c (Ok at_end) (reader_state t u)) d (subst (λ t. Peeks (stream_of w t) c (Ok at_end) (reader_state after.coming u)) e (meant reads).0) in

@@ -220,29 +220,29 @@ takes_ok o w (Some xs) c n bs v (Some ys) len l room moved short none =
     rw (← len) (inr (rw len room, inl (has, ap Ok values, ap (λ T. Going (Some T) (c + m)) streams)))
 
 -- a transfer failed
-pub takes_err : (o : Order) (w : List Bool) (t : Option (List ℕ)) (c n : ℕ) (f g : Health) (kind : ErrorKind) (stop : Fault)
+pub takes_err : {after : Option Stream} (o : Order) (w : List Bool) (t : Option (List ℕ)) (c n : ℕ) (f g : Health) (kind : ErrorKind) (stop : Fault)
     → ((kind ≡ UnexpectedEof) × (stop ≡ fault.Incomplete (record { bits = n }))) ⊎ ((kind ≢ UnexpectedEof) × (stop ≡ fault.Io kind))
     → c + n < 2 ^ 64 → (kind ≡ UnexpectedEof → FewerBits n w t) → (kind ≢ UnexpectedEof → MoreFailures f g) → NoFewerFailures f g
-    → Outcome (TakesBits o n) (Going (stream_of w t) c) f (Err (error_of stop)) (Stopped (error_of stop) c) g
-takes_err o w t c n f g kind stop (inr p) room ended failed kept =
+    → Outcome (TakesBits o n) (Going (stream_of w t) c) f (Err (error_of stop)) (Stopped after (error_of stop) c) g
+takes_err {after} o w t c n f g kind stop (inr p) room ended failed kept =
     let e : error_of stop ≡ error.Io kind = ap error_of p.1 in
     let answered = ap Err e in
-    let stays = ap (λ x. Stopped x c) e in
-    Broken (record { kind = kind; count = c; answered = answered; kept = stays }) (kind, answered, stays) (failed p.0)
-takes_err o w None c n f g kind stop (inl p) room ended failed kept =
+    let stays = ap (λ x. Stopped after x c) e in
+    Broken (record { kind = kind; count = c; left = after; answered = answered; kept = stays }) (kind, answered, after, tt, stays) (failed p.0)
+takes_err {after} o w None c n f g kind stop (inl p) room ended failed kept =
     let e : error_of stop ≡ error.Incomplete (record { bits = n }) = ap error_of p.1 in
-    Quiet (inr (room, inr (ap Err e, ap (λ x. Stopped x c) e))) kept
-takes_err o w (Some xs) c n f g kind stop (inl p) room ended failed kept =
+    Quiet (inr (room, inr (ap Err e, after, ap (λ x. Stopped after x c) e))) kept
+takes_err {after} o w (Some xs) c n f g kind stop (inl p) room ended failed kept =
     let e : error_of stop ≡ error.Incomplete (record { bits = n }) = ap error_of p.1 in
     let S : Stream = at w xs in
     let few : length (normal S).window + 8 * length (normal S).bytes < n = omega (arith, normal-count S, ended p.0) in
-    Quiet (inr (room, inr (few, (ap Err e, ap (λ x. Stopped x c) e)))) kept
+    Quiet (inr (room, inr (few, (ap Err e, after, ap (λ x. Stopped after x c) e)))) kept
 
 -- ---- what is admitted
 -- a reader's standing admits what the state does that it is seen as
 pub reader_admits : (t : Option (List ℕ)) (s : Standing (List Bool)) (n : ℕ) (r : Result (Unit {0}) DekuError) → Admits n s r → Admits n (reader_state t s) r
 reader_admits t (Going w c) n r p = p
-reader_admits t (Stopped e c) n r p = p
+reader_admits t (Stopped w e c) n r p = p
 
 -- what goes on has no kept fault, and room for the count
 pub admitted : {A : Type 0} (a : A) (f : Option Fault) (c n : ℕ) → Admits n (standing_of a f c) (Ok tt) → (f ≡ None) × (c + n < 2 ^ 64)

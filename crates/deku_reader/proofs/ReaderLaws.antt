@@ -9,7 +9,7 @@ use Rattle.deku_stream.specs.declared.error.DekuError.TheVariants.{Io}
 use Rattle.deku_stream.specs.Bits.{shown, bits_in, bytes_of}
 use Rattle.deku_stream.specs.Streams.{Stream, Has, bit_count, seen, taken, left, normal, peeked, skipped, fresh, EndLaw}
 use Rattle.deku_stream.specs.Standings.{Standing, Going, Stopped}
-use Rattle.deku_stream.specs.Outcomes.{Value, Refusal, UnlessStopped, Counted, Reserving}
+use Rattle.deku_stream.specs.Outcomes.{Value, Refusal, Unknown, UnlessStopped, Counted, Reserving}
 use Rattle.deku_reader.specs.ReaderCalls.{TakesBits, Transfers, ReadsBytes, ReadsVec, SkipReadLaw, BytesLaw}
 use Rattle.deku_stream.proofs.Cuts.{length-byte_bits}
 use Rattle.deku_stream.proofs.Shown.{length-shown}
@@ -70,13 +70,13 @@ skip_read_law o n c S l has bits u v r (Value s (inr (room, inr (inl p))) e) (in
 -- ---- a read of bytes and a read of bits
 -- what is reserved is answered without memory, or memory is not found
 unreserved : {A V : Type 0} (moves : A → ℕ → Result V DekuError → Standing A → Type 0) (n : ℕ) (b : Bool) (s : Standing A) (r : Result V DekuError) (u : Standing A)
-    → UnlessStopped (Counted n (Reserving moves)) b s r u → UnlessStopped (Counted n moves) b s r u ⊎ ((r ≡ Err (Io OutOfMemory)) × (u ≡ s))
+    → UnlessStopped Unknown (Counted n (Reserving moves)) b s r u → UnlessStopped Unknown (Counted n moves) b s r u ⊎ ((r ≡ Err (Io OutOfMemory)) × (u ≡ s))
 unreserved moves n false (Going a c) r u (inl p) = inl (inl p)
 unreserved moves n false (Going a c) r u (inr (room, inl p)) = inr p
 unreserved moves n false (Going a c) r u (inr (room, inr p)) = inl (inr (room, p))
 unreserved moves n true (Going a c) r u p = inl p
-unreserved moves n false (Stopped e c) r u p = inl p
-unreserved moves n true (Stopped e c) r u p = absurd p
+unreserved moves n false (Stopped a e c) r u p = inl p
+unreserved moves n true (Stopped a e c) r u p = absurd p
 
 -- as many bits are taken as were asked for
 pub taken_length : (o : Order) (n : ℕ) (b : Bool) (s : Standing (Option Stream)) (bits : List Bool) (u : Standing (Option Stream)) → TakesBits o n b s (Ok bits) u → length bits ≡ n
@@ -86,8 +86,8 @@ taken_length o n false (Going (Some S) c) bits u (inr (room, inr p)) = let h = p
 taken_length o n false (Going None c) bits u (inr (room, inl (x, after, len, is, left))) = ap length (ok_is bits x is) ∙ len
 taken_length o n false (Going None c) bits u (inr (room, inr p)) = let h = p.0 in absurd (cc)
 taken_length o n true (Going a c) bits u p = let h = p.1 in absurd (cc)
-taken_length o n false (Stopped e c) bits u p = let h = p.0 in absurd (cc)
-taken_length o n true (Stopped e c) bits u p = absurd p
+taken_length o n false (Stopped S e c) bits u p = let h = p.0 in absurd (cc)
+taken_length o n true (Stopped S e c) bits u p = absurd p
 
 -- bytes that are answered are those of the bits that are shown
 bytes_from : (o : Order) (n : ℕ) (b : Bool) (s u : Standing (Option Stream)) (bytes : List ℕ) → ReadsBytes o n b s (Ok bytes) u

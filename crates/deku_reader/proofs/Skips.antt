@@ -16,7 +16,7 @@ use Rattle.deku_stream.specs.Bits.{bin, byte_bits, facing}
 use Rattle.deku_stream.specs.Streams.{Stream, bit_count, Has, Lacks, fresh, left, normal, touched, last_part, without, passed, skipped, PeekSkipLaw}
 use Rattle.deku_device.specs.Devices.{Health, FewerThan, Passes, StaysEmpty, NoFewerFailures, MoreFailures}
 use Rattle.deku_stream.specs.Standings.{Standing, Going, Stopped, stream_of}
-use Rattle.deku_stream.specs.Outcomes.{Outcome, Quiet, Broken, UnlessStopped}
+use Rattle.deku_stream.specs.Outcomes.{Outcome, Quiet, Broken, Unknown, UnlessStopped}
 use Rattle.deku_stream.specs.Faults.{error_of}
 use Rattle.deku_stream.specs.Kept.{Admits}
 use Rattle.deku_stream.specs.Moving.{Moves, FewerBits}
@@ -206,27 +206,27 @@ skips_ok o w (Some xs) c n v (Some ys) x (Some zs) l room h passes moved short n
     inr (room, inl (law.1 has, refl, ap (λ T. Going (Some T) (c + n)) (ap normal (sym (skipped_is o S (at v ys) (at x zs) n (length bits) first part rest)) ∙ law.0)))
 
 -- a fault of the device, which is answered and kept
-pub breaks : {A V : Type 0} (moves : A → ℕ → Result V DekuError → Standing A → Type 0) (a : A) (c : ℕ) (f g : Health) (kind : ErrorKind)
-    → MoreFailures f g → Outcome (UnlessStopped moves) (Going a c) f (Err (error.Io kind)) (Stopped (error.Io kind) c) g
-breaks moves a c f g kind more = Broken (record { kind = kind; count = c; answered = refl; kept = refl }) (kind, refl, refl) more
+pub breaks : {A V : Type 0} {after : A} (moves : A → ℕ → Result V DekuError → Standing A → Type 0) (a : A) (c : ℕ) (f g : Health) (kind : ErrorKind)
+    → MoreFailures f g → Outcome (UnlessStopped Unknown moves) (Going a c) f (Err (error.Io kind)) (Stopped after (error.Io kind) c) g
+breaks {after = after} moves a c f g kind more = Broken (record { kind = kind; count = c; left = after; answered = refl; kept = refl }) (kind, refl, after, tt, refl) more
 
 -- the last part failed
-pub skips_err : (o : Order) (w : List Bool) (t : Option (List ℕ)) (c n : ℕ) (v : List Bool) (t1 : Option (List ℕ)) (f g : Health) (kind : ErrorKind) (stop : Fault)
+pub skips_err : {after : Option Stream} (o : Order) (w : List Bool) (t : Option (List ℕ)) (c n : ℕ) (v : List Bool) (t1 : Option (List ℕ)) (f g : Health) (kind : ErrorKind) (stop : Fault)
     → length w ≤ 8 → c + n < 2 ^ 64 → Forgets o w (min n (length w)) v → Passes (behind n w / 8) t t1 → 0 < behind n w % 8
     → ((kind ≡ UnexpectedEof) × (stop ≡ fault.Incomplete (record { bits = behind n w % 8 }))) ⊎ ((kind ≢ UnexpectedEof) × (stop ≡ fault.Io kind))
     → (kind ≡ UnexpectedEof → FewerBits (behind n w % 8) v t1) → (kind ≢ UnexpectedEof → MoreFailures f g) → NoFewerFailures f g
-    → Outcome (Skips o n) (Going (stream_of w t) c) f (Err (error_of stop)) (Stopped (error_of stop) c) g
+    → Outcome (Skips o n) (Going (stream_of w t) c) f (Err (error_of stop)) (Stopped after (error_of stop) c) g
 skips_err o w t c n v t1 f g kind stop l room h passes some (inr p) ended failed kept =
     rw p.1 (breaks _ (stream_of w t) c f g kind (failed p.0))
-skips_err o w None c n v t1 f g kind stop l room h passes some (inl p) ended failed kept =
-    rw p.1 (Quiet (inr (room, inr (behind n w % 8, some, omega arith, omega arith, (refl, refl)))) kept)
+skips_err {after} o w None c n v t1 f g kind stop l room h passes some (inl p) ended failed kept =
+    rw p.1 (Quiet (inr (room, inr (behind n w % 8, some, omega arith, omega arith, (refl, after, refl)))) kept)
 skips_err o w (Some xs) c n v None f g kind stop l room h passes some (inl p) ended failed kept = absurd passes
-skips_err o w (Some xs) c n v (Some ys) f g kind stop l room h passes some (inl p) ended failed kept =
+skips_err {after} o w (Some xs) c n v (Some ys) f g kind stop l room h passes some (inl p) ended failed kept =
     let S : Stream = at w xs in
     let first : passed o n S ≡ at v ys = passed_is o w v n xs ys l h passes in
     let lacks : Lacks (last_part n S) (passed o n S) = subst (λ T. Lacks (last_part n S) T) (sym first) (ended p.0) in
     let law = (peek_skip_law o n S l).2 lacks in
-    rw (p.1, ← law.1) (Quiet (inr (room, inr (law.0, (refl, refl)))) kept)
+    rw (p.1, ← law.1) (Quiet (inr (room, inr (law.0, (refl, after, refl)))) kept)
 
 -- ---- which bits a skip names
 same_need : (x y : NeedSize) → ◌≡◌ {A = Result (Unit {0}) DekuError} (Err (error.Incomplete x)) (Err (error.Incomplete y)) → x ≡ y
@@ -246,7 +246,7 @@ names_none n c w kind = λ m e. absurd (cc)
 pub names_away : (n : ℕ) (s : Standing (List Bool)) (e : DekuError) → Admits n s (Err e) → NamesRest n s (Err e)
 names_away n (Going w c) e (inl p) = let k = p.1.2 in λ m q. absurd (cc)
 names_away n (Going w c) e (inr p) = let k = p.1 in absurd (cc)
-names_away n (Stopped d c) e p = tt
+names_away n (Stopped w d c) e p = tt
 
 -- ---- what a look at the end answers
 -- bits are unread

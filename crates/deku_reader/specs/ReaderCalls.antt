@@ -12,7 +12,7 @@ use Rattle.deku_stream.specs.Bits.{byte_bits, shown, bits_in, bytes_of, groups, 
 use Rattle.deku_stream.specs.Streams.{Stream, bit_count, Has, Lacks, taken, left, last_part, passed, skipped}
 use Rattle.deku_device.specs.Devices.{SourceTold, Loses}
 use Rattle.deku_stream.specs.Standings.{Standing, Going, Stopped, count_of, reader_state}
-use Rattle.deku_stream.specs.Outcomes.{Meaning, Outcome, UnlessStopped, Counted, Reserving, Mapped}
+use Rattle.deku_stream.specs.Outcomes.{Meaning, Outcome, Unknown, UnlessStopped, Counted, Reserving, Mapped}
 
 -- a call on a source and what a reader keeps beside it
 abbrev pub ReadsAt : {V : Type 0} → Meaning (Option Stream) V → SourceTold → Standing (List Bool) → Result V DekuError → SourceTold → Standing (List Bool) → Type 0
@@ -24,7 +24,7 @@ Reads told m old r new = ReadsAt m (told old.source) old.state r (told new.sourc
 
 -- the end of input, which is kept, where n bits were asked
 abbrev pub Ends : {V : Type 0} → ℕ → ℕ → Result V DekuError → Standing (Option Stream) → Type 0
-Ends n c r u = (r ≡ Err (Incomplete (record { bits = n }))) × (u ≡ Stopped (Incomplete (record { bits = n })) c)
+Ends n c r u = (r ≡ Err (Incomplete (record { bits = n }))) × (left : Option Stream) × (u ≡ Stopped left (Incomplete (record { bits = n })) c)
 
 -- n bits are taken from a stream: from one that is told exactly those, or the end of input where it has too few
 abbrev pub Transfers : Order → ℕ → Option Stream → ℕ → Result (List Bool) DekuError → Standing (Option Stream) → Type 0
@@ -33,7 +33,7 @@ Transfers o n None c r u = ((bits : List Bool) × (after : Option Stream) × (le
 
 -- n bits are taken in an order
 abbrev pub TakesBits : Order → ℕ → Meaning (Option Stream) (List Bool)
-TakesBits o n = UnlessStopped (Counted n (Transfers o n))
+TakesBits o n = UnlessStopped Unknown (Counted n (Transfers o n))
 
 -- n bits are taken in an order and shown
 abbrev pub ReadsBits : Order → ℕ → Meaning (Option Stream) (List Bool)
@@ -41,7 +41,7 @@ ReadsBits o n = Mapped (shown o) (TakesBits o n)
 
 -- n bits are taken in an order and shown, in memory that is found first
 abbrev pub ReadsVec : Order → ℕ → Meaning (Option Stream) (List Bool)
-ReadsVec o n = Mapped (shown o) (UnlessStopped (Counted n (Reserving (Transfers o n))))
+ReadsVec o n = Mapped (shown o) (UnlessStopped Unknown (Counted n (Reserving (Transfers o n))))
 
 -- n bytes are read: eight times as many bits, taken in an order and shown, as bytes
 abbrev pub ReadsBytes : Order → ℕ → Meaning (Option Stream) (List ℕ)
@@ -62,7 +62,7 @@ Peeks None c r u = (at_end : Bool) × (after : Option Stream) × (r ≡ Ok at_en
 
 -- a look whether the end of input is reached
 abbrev pub Ending : Meaning (Option Stream) Bool
-Ending = UnlessStopped Peeks
+Ending = UnlessStopped Unknown Peeks
 
 -- n bits are left out: from a stream that is told what a skip leaves, or the end of input where its last part has too few bits
 abbrev pub Skipping : Order → ℕ → Option Stream → ℕ → Result (Unit {0}) DekuError → Standing (Option Stream) → Type 0
@@ -73,7 +73,7 @@ Skipping o n None c r u = ((after : Option Stream) × (r ≡ Ok tt) × (u ≡ Go
 
 -- n bits are left out in an order
 abbrev pub Skips : Order → ℕ → Meaning (Option Stream) (Unit {0})
-Skips o n = UnlessStopped (Counted n (Skipping o n))
+Skips o n = UnlessStopped Unknown (Counted n (Skipping o n))
 
 -- what was put into a buffer, where the call succeeds
 abbrev pub filling : {V W : Type 0} → Result V DekuError → W → Result W DekuError
@@ -83,7 +83,7 @@ filling (Err e) items = Err e
 -- the unread bits of a byte; none where the reader has stopped
 abbrev pub window_of : Standing (List Bool) → List Bool
 window_of (Going window c) = window
-window_of (Stopped e c) = []
+window_of (Stopped window e c) = []
 
 -- no byte is fetched too early: fewer than eight bits of the last one are unread, or what the reader keeps has not changed
 abbrev pub NoneEarly : Standing (List Bool) → Standing (List Bool) → Type 0
@@ -96,7 +96,7 @@ NeedsNone n s = (n ≤ length (window_of s)) ⊎ (2 ^ 64 ≤ count_of s + n)
 -- the end of input that a skip of n bits finds names the bits behind the unread ones and the whole bytes
 abbrev pub NamesRest : ℕ → Standing (List Bool) → Result (Unit {0}) DekuError → Type 0
 NamesRest n (Going w c) r = (m : ℕ) → r ≡ Err (Incomplete (record { bits = m })) → m ≡ (n - length w) % 8
-NamesRest n (Stopped e c) r = ⊤
+NamesRest n (Stopped w e c) r = ⊤
 
 -- as many bytes were fetched as n bits need behind the unread ones, and no more
 abbrev pub FetchesFor : ℕ → Standing (List Bool) → SourceTold → SourceTold → Type 0

@@ -7,7 +7,7 @@ use Rattle.deku_stream.specs.declared.error.DekuError.{DekuError}
 use Rattle.deku_stream.specs.declared.error.DekuError.TheVariants.{Io}
 use Rattle.deku_device.specs.Devices.{Health, NoFewerFailures}
 use Rattle.deku_stream.specs.Standings.{Standing, Going, Stopped}
-use Rattle.deku_stream.specs.Outcomes.{Meaning, Faults, Outcome, Quiet, Broken, UnlessStopped, Counted, Reserving, Mapped, Value, Refusal}
+use Rattle.deku_stream.specs.Outcomes.{Meaning, Faults, Outcome, Quiet, Broken, Unknown, UnlessStopped, Counted, Reserving, Mapped, Value, Refusal}
 use Rattle.deku_stream.specs.Kept.{Admits}
 pub use Rattle.deku_device.proofs.Failures.{no_fewer_on, more_on, no_fewer_same}
 
@@ -18,7 +18,7 @@ no_ok a = let e = a.answered in cc
 
 -- the same fault of the device, at another type of values
 pub broken_at : {A V W : Type 0} {e : DekuError} {u : Standing A} → Faults {V = V} (Err e) u → Faults {V = W} (Err e) u
-broken_at a = let e = a.answered in record { kind = a.kind; count = a.count; answered = cc; kept = a.kept }
+broken_at a = let e = a.answered in record { kind = a.kind; count = a.count; left = a.left; answered = cc; kept = a.kept }
 
 -- what a `?` hands on
 pub passed_on : {A V : Type 0} {m : Meaning A V} {s : Standing A} {f : Health} {e : DekuError} {u : Standing A} {g : Health} (r : Result V DekuError)
@@ -86,17 +86,17 @@ behind f g n k (Broken a p q) = Broken a p (record { failures = q.failures; lend
 -- ---- what is refused before anything moves
 -- a kept fault, or a count without room
 pub turned_away : {A V : Type 0} (moves : A → ℕ → Result V DekuError → Standing A → Type 0) (n : ℕ) (s : Standing A) (e : DekuError) (f : Health)
-    → Admits n s (Err e) → Outcome (UnlessStopped (Counted n moves)) s f (Err e) s f
+    → Admits n s (Err e) → Outcome (UnlessStopped Unknown (Counted n moves)) s f (Err e) s f
 turned_away moves n (Going a c) e f (inl p) = let h = p.1.2 in Quiet (inl (p.0, (p.1.0, p.1.1, cc, refl))) (no_fewer_same f)
 turned_away moves n (Going a c) e f (inr p) = let h = p.1 in absurd (cc)
-turned_away moves n (Stopped fault c) e f p = Quiet (cc, refl) (no_fewer_same f)
+turned_away moves n (Stopped a fault c) e f p = Quiet (cc, refl) (no_fewer_same f)
 
 -- memory that is not found
 pub no_memory : {A V : Type 0} (moves : A → ℕ → Result V DekuError → Standing A → Type 0) (n : ℕ) (s : Standing A) (f : Health)
-    → Admits n s (Ok tt) → Outcome (UnlessStopped (Counted n (Reserving moves))) s f (Err (Io OutOfMemory)) s f
+    → Admits n s (Ok tt) → Outcome (UnlessStopped Unknown (Counted n (Reserving moves))) s f (Err (Io OutOfMemory)) s f
 no_memory moves n (Going a c) f (inl p) = let h = p.1.2 in absurd (cc)
 no_memory moves n (Going a c) f (inr p) = Quiet (inr (p.0, inl (refl, refl))) (no_fewer_same f)
-no_memory moves n (Stopped fault c) f p = absurd (cc)
+no_memory moves n (Stopped a fault c) f p = absurd (cc)
 
 -- memory that is found
 counted_found : {A V : Type 0} (moves : A → ℕ → Result V DekuError → Standing A → Type 0) (n : ℕ) (a : A) (c : ℕ) (r : Result V DekuError) (u : Standing A)
@@ -105,14 +105,14 @@ counted_found moves n a c r u (inl p) = inl p
 counted_found moves n a c r u (inr p) = inr (p.0, inr p.1)
 
 pub memory_found : {A V : Type 0} (moves : A → ℕ → Result V DekuError → Standing A → Type 0) (n : ℕ) (b : Bool) (s : Standing A) (r : Result V DekuError) (u : Standing A)
-    → UnlessStopped (Counted n moves) b s r u → UnlessStopped (Counted n (Reserving moves)) b s r u
+    → UnlessStopped Unknown (Counted n moves) b s r u → UnlessStopped Unknown (Counted n (Reserving moves)) b s r u
 memory_found moves n false (Going a c) r u p = counted_found moves n a c r u p
 memory_found moves n true (Going a c) r u p = p
-memory_found moves n false (Stopped e c) r u p = p
-memory_found moves n true (Stopped e c) r u p = p
+memory_found moves n false (Stopped a e c) r u p = p
+memory_found moves n true (Stopped a e c) r u p = p
 
 -- the same, with h on the values
 pub mapped_memory_found : {A V W : Type 0} (h : V → W) (moves : A → ℕ → Result V DekuError → Standing A → Type 0) (n : ℕ) (b : Bool) (s : Standing A) (r : Result W DekuError) (u : Standing A)
-    → Mapped h (UnlessStopped (Counted n moves)) b s r u → Mapped h (UnlessStopped (Counted n (Reserving moves))) b s r u
+    → Mapped h (UnlessStopped Unknown (Counted n moves)) b s r u → Mapped h (UnlessStopped Unknown (Counted n (Reserving moves))) b s r u
 mapped_memory_found h moves n b s r u (Value v p e) = Value v (memory_found moves n b s (Ok v) u p) e
 mapped_memory_found h moves n b s r u (Refusal x p e) = Refusal x (memory_found moves n b s (Err x) u p) e

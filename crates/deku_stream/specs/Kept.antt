@@ -7,12 +7,12 @@ use Rattle.deku_stream.specs.declared.error.Fault.{Fault}
 use Rattle.deku_stream.specs.Faults.{error_of}
 use Rattle.deku_stream.specs.Standings.{Standing, Going, Stopped}
 
--- it goes on with an A, or it has stopped by the fault that is kept
+-- it goes on with an A, or it has stopped with it, by the fault that is kept
 abbrev pub standing_of : {A : Type 0} → A → Option Fault → ℕ → Standing A
 standing_of a None count = Going a count
-standing_of a (Some fault) count = Stopped (error_of fault) count
+standing_of a (Some fault) count = Stopped a (error_of fault) count
 
 -- whether n bits more may be counted: else the kept fault is answered, or that the count has no room for them
 abbrev pub Admits : {A : Type 0} → ℕ → Standing A → Result (Unit {0}) DekuError → Type 0
-Admits n (Stopped fault count) r = r ≡ Err fault
+Admits n (Stopped a fault count) r = r ≡ Err fault
 Admits n (Going a count) r = ((2 ^ 64 ≤ count + n) × ((words : Bor (List ℕ)) × (words.now ≡ codes "count past usize") × (r ≡ Err (InvalidParam words)))) ⊎ ((count + n < 2 ^ 64) × (r ≡ Ok tt))

@@ -1,5 +1,5 @@
 -- What a call on a reader or a writer may answer, and what it leaves.
-use Rattle.std.specs.Prelude.{◌≡◌, ◌⊎◌, ℕ, ◌+◌, ◌<◌, ◌≤◌, ◌^◌, Bool, true, false, List, Result, Ok, Err, codes}
+use Rattle.std.specs.Prelude.{◌≡◌, ◌⊎◌, ⊤, ℕ, ◌+◌, ◌<◌, ◌≤◌, ◌^◌, Bool, true, false, List, Result, Ok, Err, codes}
 use Rattle.std.specs.Borrow.{Bor}
 use Rattle.std.specs.declared.io.ErrorKind.{ErrorKind}
 use Rattle.std.specs.declared.io.ErrorKind.TheVariants.{OutOfMemory}
@@ -17,24 +17,29 @@ Meaning A V = Bool → Standing A → Result V DekuError → Standing A → Type
 pub record Faults {A V : Type 0} (r : Result V DekuError) (u : Standing A) : Type 0 where
   pub kind : ErrorKind
   pub count : ℕ
+  pub left : A
   pub answered : r ≡ Err (Io kind)
-  pub kept : u ≡ Stopped (Io kind) count
+  pub kept : u ≡ Stopped left (Io kind) count
 
 -- an answer of the meaning; or a fault of the device, which the meaning lets come, and the count of failures rises where it is told
 pub data Outcome {A V : Type 0} (m : Meaning A V) (s : Standing A) (f : Health) (r : Result V DekuError) (u : Standing A) (g : Health) : Type 0 where
   Quiet : m false s r u → NoFewerFailures f g → Outcome m s f r u g
   Broken : Faults r u → m true s r u → MoreFailures f g → Outcome m s f r u g
 
--- a fault of the device, which keeps this count
-abbrev pub Breaks : {A V : Type 0} → ℕ → Result V DekuError → Standing A → Type 0
-Breaks c r u = (kind : ErrorKind) × (r ≡ Err (Io kind)) × (u ≡ Stopped (Io kind) c)
+-- a fault of the device, which keeps this count, and leaves what it may
+abbrev pub Breaks : {A V : Type 0} → (A → Type 0) → ℕ → Result V DekuError → Standing A → Type 0
+Breaks {A = A} leaves c r u = (kind : ErrorKind) × (r ≡ Err (Io kind)) × (left : A) × leaves left × (u ≡ Stopped left (Io kind) c)
 
--- what goes on moves as told; what has stopped answers its fault again, and stays
-abbrev pub UnlessStopped : {A V : Type 0} → (A → ℕ → Result V DekuError → Standing A → Type 0) → Meaning A V
-UnlessStopped moves false (Going a c) r u = moves a c r u
-UnlessStopped moves true (Going a c) r u = Breaks c r u
-UnlessStopped moves false (Stopped e c) r u = (r ≡ Err e) × (u ≡ Stopped e c)
-UnlessStopped moves true (Stopped e c) r u = ⊥
+-- what a fault leaves is not known
+abbrev pub Unknown : {A : Type 0} → A → A → Type 0
+Unknown a left = ⊤
+
+-- what goes on moves as told, or a fault of the device leaves what it may; what has stopped answers its fault again, and stays
+abbrev pub UnlessStopped : {A V : Type 0} → (A → A → Type 0) → (A → ℕ → Result V DekuError → Standing A → Type 0) → Meaning A V
+UnlessStopped leaves moves false (Going a c) r u = moves a c r u
+UnlessStopped leaves moves true (Going a c) r u = Breaks (leaves a) c r u
+UnlessStopped leaves moves false (Stopped a e c) r u = (r ≡ Err e) × (u ≡ Stopped a e c)
+UnlessStopped leaves moves true (Stopped a e c) r u = ⊥
 
 -- refused with this text, and nothing changed
 abbrev pub Refuses : {A V : Type 0} → (Bor (List ℕ) → DekuError) → List ℕ → Standing A → Result V DekuError → Standing A → Type 0

@@ -13,11 +13,11 @@ use Rattle.deku_stream.specs.Bits.{bin, group_number, word_of, facing, shown}
 use Rattle.deku_stream.specs.Pieces.{filled}
 use Rattle.deku_stream.specs.Writers.{Pending, Nothing, held, pending_bits, Written, cut, append, padded, finalized}
 use Rattle.deku_device.specs.Devices.{SinkTold, Gave, LacksRoom, More}
-use Rattle.deku_stream.specs.Standings.{Standing, Going, Stopped, writer_state}
-use Rattle.deku_stream.specs.Outcomes.{Quiet, Broken, Counted}
-use Rattle.deku_writer.specs.WriterCalls.{WritesAt, GivesOut, Emits, WritesBits, WritesWord, Finalizes}
+use Rattle.deku_stream.specs.Standings.{Standing, Going, Stopped, Output, output_of, writer_state}
+use Rattle.deku_stream.specs.Outcomes.{Quiet, Broken, Breaks, Counted}
+use Rattle.deku_writer.specs.WriterCalls.{WritesAt, TookSome, GivesOut, Emits, WritesBits, WritesWord, Finalizes}
 use Rattle.deku_stream.specs.Kept.{standing_of}
-use Rattle.deku_writer.specs.Pushing.{GaveUp, PushedOnto}
+use Rattle.deku_writer.specs.Pushing.{onto_bytes, GaveUp, PushedOnto}
 use Rattle.deku_stream.proofs.Binary.{length-facing, group_number-inj}
 use Rattle.deku_stream.proofs.Handing.{weaker}
 use Rattle.deku_stream.proofs.Shown.{shown_odd}
@@ -41,12 +41,15 @@ module _ (write : Pending → Written) (t : SinkTold) (P : Pending) (c : ℕ) wh
       (inr (fits, inl (record { taken = after.taken; room = after.room; pending = Q }, record { taken = g.taken; room = g.room; pending = p }, refl, ap (Going (record { taken = after.taken; room = after.room; pending = Q })) e)))
       g.health
 
-  emits_stopped : (after : SinkTold) (k : ErrorKind) → c + 8 * length (write P).bytes < 2 ^ 64 → GaveUp t after (length (write P).bytes) k
-      → WritesAt (Emits write) t (Going P c) (Err (Io k)) after (Stopped (Io k) c)
-  emits_stopped after k fits f = elim f.declined.cause [
-    | inl more ↦ Broken (record { kind = k; count = c; answered = refl; kept = refl }) (k, refl, refl) more
-    | inr lacks ↦ Quiet (inr (fits, inr (k, f.some, lacks, refl, refl))) f.declined.health
-  ]
+  emits_stopped : (after : SinkTold) (k : ErrorKind) → c + 8 * length (write P).bytes < 2 ^ 64 → GaveUp t after (write P).bytes k
+      → WritesAt (Emits write) t (Going P c) (Err (Io k)) after (Stopped Nothing (Io k) c)
+  emits_stopped after k fits f =
+      let left : Output = output_of after Nothing in
+      let some : TookSome (write P).bytes (output_of t P) left = record { taken = f.declined.taken; pending = refl } in
+      elim f.declined.cause [
+        | inl more ↦ Broken (record { kind = k; count = c; left = left; answered = refl; kept = refl }) (k, refl, left, some, refl) more
+        | inr lacks ↦ Quiet (inr (fits, inr (k, f.some, lacks, refl, left, some, refl))) f.declined.health
+      ]
 
 -- ---- a write
 -- the bytes that the code counts
@@ -74,10 +77,10 @@ write_done t after from to h hs bits w n l e fits s m =
     emits_done (append to bits) t (held from h) w after (held to hs) (w + 8 * n) (rw b (omega arith)) m.gave m.rest (rw b refl)
 
 pub write_stopped : (t after : SinkTold) (from to : Order) (h bits : List Bool) (w n : ℕ) (k : ErrorKind) → length h < 8 → n ≡ (length h + length bits) / 8 → n ≤ (2 ^ 64 - 1 - w) / 8 → w < 2 ^ 64
-    → GaveUp t after ((length h + length bits) / 8) k → WritesAt (WritesBits to bits) t (standing_of (held from h) None w) (Err (Io k)) after (Stopped (Io k) w)
+    → GaveUp t after (onto_bytes from to h bits) k → WritesAt (WritesBits to bits) t (standing_of (held from h) None w) (Err (Io k)) after (Stopped Nothing (Io k) w)
 write_stopped t after from to h bits w n k l e fits s f =
     let b : length (append to bits (held from h)).bytes ≡ n = counted from to h bits l ∙ sym e in
-    emits_stopped (append to bits) t (held from h) w after k (rw b (omega arith)) (rw (counted from to h bits l) f)
+    emits_stopped (append to bits) t (held from h) w after k (rw b (omega arith)) f
 
 pub some_bits : (s : List Bool) → false ≡ (length s == 0) → 0 < length s
 some_bits [] e = cc
@@ -120,8 +123,8 @@ finalized_is o (b ∷ s) l =
 same_emits : (write other : Pending → Written) (t after : SinkTold) (P : Pending) (c : ℕ) (r : Result (Unit {0}) DekuError) (u : Standing Pending) → write P ≡ other P
     → WritesAt (Emits write) t (Going P c) r after u → WritesAt (Emits other) t (Going P c) r after u
 same_emits write other t after P c r u e m = elim m [
-  | Quiet q h ↦ Quiet (subst (λ W. Counted (8 * length W.bytes) (GivesOut W) (record { taken = t.taken; room = t.room; pending = P }) c r (writer_state after u)) e q) h
-  | Broken f b h ↦ Broken f b h
+  | Quiet q h ↦ Quiet (subst (λ W. Counted (8 * length W.bytes) (GivesOut W) (output_of t P) c r (writer_state after u)) e q) h
+  | Broken f b h ↦ Broken f (subst (λ W. Breaks (TookSome W.bytes (output_of t P)) c r (writer_state after u)) e b) h
 ]
 
 -- a word of no more than seven bits that is 0

@@ -1,17 +1,18 @@
 -- Bits onto held bits, without a sink: the bytes that fill, and a sink that takes them then.
-use Rattle.std.proofs.Common.{◌≡◌, ◌⊎◌, ⊎_elim, ℕ, zero, suc, ◌+◌, ◌*◌, ◌/◌, ◌%◌, ◌<◌, Bool, true, false, List, [], ◌∷◌, ◌++◌, length, take, MutBor, Some, None, nat_le, if◌then◌else◌, refl, sym, ap, ap₂, ◌∙◌, arith, subst}
+use Rattle.std.proofs.Common.{◌≡◌, ◌⊎◌, ⊎_elim, ℕ, zero, suc, ◌+◌, ◌*◌, ◌/◌, ◌%◌, ◌<◌, ◌≤◌, Bool, true, false, List, [], ◌∷◌, ◌++◌, length, take, drop, MutBor, inl, inr, Some, None, nat_le, if◌then◌else◌, refl, sym, ap, ap₂, ◌∙◌, arith, subst}
 use Rattle.std.proofs.Math.Dec.{leb-zero}
 use Rattle.std.specs.Borrow.{GName}
 use Rattle.std.specs.Io.KnownBytes.{Appends}
 use Rattle.std.specs.Io.Cursor.{cursor_position, cursor_inner}
 use Rattle.std.specs.declared.io.Cursor.{Cursor}
+use Rattle.std.specs.declared.io.ErrorKind.{ErrorKind}
 use Rattle.deku_stream.specs.declared.ctx.Order.{Order}
 use Rattle.deku_stream.specs.declared.ctx.Order.TheVariants.{Msb0}
 use Rattle.deku_stream.specs.Bits.{bits_of, facing, shown}
 use Rattle.deku_stream.specs.Writers.{held, pending_bits, cut, append}
 use Rattle.deku_device.specs.Cursors.{slice_told}
 use Rattle.deku_device.specs.Devices.{SinkTold, Gave, bytes_before}
-use Rattle.deku_writer.specs.Pushing.{word_bits, Fills, FillsOnto, Pushed, PushedOnto}
+use Rattle.deku_writer.specs.Pushing.{onto_bytes, word_bits, Fills, FillsOnto, Pushed, GaveUp, PushedOnto}
 use Rattle.deku_stream.proofs.Appends.{count_law}
 use Rattle.deku_stream.proofs.Binary.{facing-facing, length-bits_of}
 use Rattle.deku_stream.proofs.Shown.{shown-shown}
@@ -65,6 +66,23 @@ high_behind_none a b from (x ∷ h) n k none some m = absurd (omega arith)
 -- a sink took the bytes
 pub onto_given : (a b : SinkTold) (from to : Order) (h hs bits : List Bool) (out : List ℕ) → FillsOnto from to h hs bits out → Gave a b out → PushedOnto a b from to h hs bits
 onto_given a b from to h hs bits out f g = record { gave = subst (λ x. Gave a b x) f.bytes g; rest = f.rest; short = f.short }
+
+-- a sink gave up
+pub onto_declined : (a b : SinkTold) (from to : Order) (h hs bits : List Bool) (out : List ℕ) (k : ErrorKind) → FillsOnto from to h hs bits out → GaveUp a b out k
+    → GaveUp a b (onto_bytes from to h bits) k
+onto_declined a b from to h hs bits out k f g = subst (λ x. GaveUp a b x k) f.bytes g
+
+-- a slice that has room for them does not
+pub room_enough : (c d : Cursor (MutBor (List ℕ))) (from to : Order) (h bits : List Bool) (k : ErrorKind) → cursor_position c ≡ 0 → length h < 8
+    → (length h + length bits) / 8 ≤ length (cursor_inner c).now → GaveUp (slice_told c) (slice_told d) (onto_bytes from to h bits) k → ⊥
+room_enough c d from to h bits k begins less room f =
+    let few : length (pending_bits (held from h)) < 8 = rw pending_bits-held less in
+    let all = count_law.0 to bits (held from h) few in
+    let behind : length (drop (cursor_position c) (cursor_inner c).now) ≡ length (cursor_inner c).now = rw begins refl in
+    elim f.declined.cause [
+      | inl more ↦ let l = more.failures in omega (arith, l)
+      | inr lacks ↦ omega (arith, lacks.1, behind, room, all.0, all.1, ap length (pending_bits-held from h))
+    ]
 
 -- how many bytes fill, and how many bits are held then
 module _ (from to : Order) (h hs bits : List Bool) (out : List ℕ) (less : length h < 8) (f : FillsOnto from to h hs bits out) where

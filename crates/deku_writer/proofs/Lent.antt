@@ -20,7 +20,7 @@ rest x y xs ys e = cc
 
 state_lent : (a : GName) (t : SinkTold) (u : Standing Pending) → writer_state (lent a t) u ≡ writer_state t u
 state_lent a t (Going p c) = refl
-state_lent a t (Stopped e c) = refl
+state_lent a t (Stopped p e c) = refl
 
 module _ (m : Meaning Output (Unit {0})) (t after : SinkTold) (a b : GName) (s : Standing Pending) (r : Result (Unit {0}) DekuError) (u : Standing Pending) where
   -- the reference is the same

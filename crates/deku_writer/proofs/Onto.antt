@@ -1,13 +1,14 @@
 -- Bits onto held bits, by the orders of both.
 use Rattle.std.proofs.Common.{◌≡◌, ℕ, ◌-◌, ◌%◌, ◌<◌, min, Bool, List, [], ◌∷◌, ◌++◌, length, map, take, drop, reverse, refl, sym, ap, ◌∙◌, arith, append_assoc, length-append, length-drop, subst}
 use Rattle.std.proofs.lemmas.List.{reverse-reverse, reverse-append, length-reverse, nil_from_length}
+use Rattle.std.specs.declared.io.ErrorKind.{ErrorKind}
 use Rattle.deku_stream.specs.declared.ctx.Order.{Order}
 use Rattle.deku_stream.specs.declared.ctx.Order.TheVariants.{Msb0, Lsb0}
 use Rattle.deku_writer.specs.declared.writer.way.Way.TheVariants.{BytesBackward}
 use Rattle.deku_stream.specs.Bits.{bin, chunks, facing, shown}
 use Rattle.deku_stream.specs.Writers.{held, Written, remainder, cut, cross_append, append}
 use Rattle.deku_device.specs.Devices.{SinkTold, Gave}
-use Rattle.deku_writer.specs.Pushing.{along, Pushed, PushedOnto}
+use Rattle.deku_writer.specs.Pushing.{along, full_bytes, onto_bytes, Pushed, GaveUp, PushedOnto}
 use Rattle.deku_stream.proofs.Binary.{facing-facing}
 use Rattle.deku_stream.proofs.Groups.{by_groups, chunks-full}
 use Rattle.deku_stream.proofs.Cuts.{emitted, length-remainder}
@@ -18,7 +19,7 @@ use Rattle.deku_writer.proofs.Pushes.{emitted_one, Pushed-short}
 
 pushed_onto : (a b : SinkTold) (from to : Order) (h hs bits : List Bool) (W : Written) → append to bits (held from h) ≡ W → Gave a b W.bytes → held to hs ≡ W.pending → length hs < 8
     → PushedOnto a b from to h hs bits
-pushed_onto a b from to h hs bits W e g p l = record { gave = rw e g; rest = rw e p; short = l }
+pushed_onto a b from to h hs bits W e g p l = record { gave = subst (λ V. Gave a b V.bytes) (sym e) g; rest = p ∙ sym (ap (λ V. V.pending) e); short = l }
 
 -- ---- the same order
 pub append_same : (o : Order) (h bits : List Bool) → 0 < length bits → append o bits (held o h) ≡ cut o (facing o h ++ shown o bits)
@@ -32,6 +33,15 @@ left_over {a} {b} {o} {h} {hs} {xs} m = ap (held o) (sym (facing-facing o hs) �
 pub same_onto : (a b : SinkTold) (o : Order) (h hs bits : List Bool) → 0 < length bits → Pushed a b o h hs (shown o bits) → PushedOnto a b o o h hs bits
 same_onto a b o h hs bits s m =
     pushed_onto a b o o h hs bits (cut o (facing o h ++ shown o bits)) (append_same o h bits s) m.gave (left_over m) (Pushed-short m)
+
+pub same_stopped : (a b : SinkTold) (o : Order) (h bits : List Bool) (k : ErrorKind) → 0 < length bits → GaveUp a b (full_bytes o h (shown o bits)) k
+    → GaveUp a b (onto_bytes o o h bits) k
+same_stopped a b o h bits k s f = subst (λ W. GaveUp a b W.bytes k) (sym (append_same o h bits s)) f
+
+pub empty_stopped : (a b : SinkTold) (from to : Order) (h bits : List Bool) (k : ErrorKind) → length h ≡ 0 → 0 < length bits → GaveUp a b (full_bytes to h (shown to bits)) k
+    → GaveUp a b (onto_bytes from to h bits) k
+empty_stopped a b from to [] bits k n s f = subst (λ W. GaveUp a b W.bytes k) (sym (append_same to [] bits s)) f
+empty_stopped a b from to (x ∷ h) bits k n s f = absurd (omega arith)
 
 pub empty_onto : (a b : SinkTold) (from to : Order) (h hs bits : List Bool) → length h ≡ 0 → 0 < length bits → Pushed a b to h hs (shown to bits) → PushedOnto a b from to h hs bits
 empty_onto a b from to [] hs bits n s m =
@@ -49,6 +59,11 @@ pub into_onto : (a b : SinkTold) (h hs bits : List Bool) → 0 < length h → 0 
     → Pushed a b Msb0 [] hs (take (min (8 - length bits % 8) (length h)) h ++ bits ++ drop (min (8 - length bits % 8) (length h)) h) → PushedOnto a b Msb0 Lsb0 h hs bits
 into_onto a b h hs bits p s m =
     pushed_onto a b Msb0 Lsb0 h hs bits (cross_append Lsb0 bits h) (append_into h bits p s) m.gave (ap (held Lsb0) m.rest) (Pushed-short m)
+
+pub into_stopped : (a b : SinkTold) (h bits : List Bool) (k : ErrorKind) → 0 < length h → 0 < length bits
+    → GaveUp a b (full_bytes Msb0 [] (take (min (8 - length bits % 8) (length h)) h ++ bits ++ drop (min (8 - length bits % 8) (length h)) h)) k
+    → GaveUp a b (onto_bytes Msb0 Lsb0 h bits) k
+into_stopped a b h bits k p s f = subst (λ W. GaveUp a b W.bytes k) (sym (append_into h bits p s)) f
 
 -- ---- `Msb0` bits above `Lsb0` bits
 -- whole bytes, the last one first
@@ -70,20 +85,46 @@ unfolding append
 append_above h [] p s = absurd (omega arith)
 append_above h (b ∷ bits) p s = ap (append Msb0 (b ∷ bits)) (held_some Lsb0 h p)
 
+-- what goes out, the last bytes first, and what is left
+module _ (h bits : List Bool) (p : 0 < length h) (s : 0 < length bits) where
+  abbrev low : List Bool
+  low = take (length bits % 8) bits ++ h
+
+  abbrev turned_back : List Bool
+  turned_back = along BytesBackward (drop (length bits % 8) bits)
+
+  none_left : remainder turned_back ≡ []
+  none_left =
+      let d : List Bool = drop (length bits % 8) bits in
+      let w : length d % 8 ≡ 0 = omega (arith, length-drop (length bits % 8) bits) in
+      let lx : length turned_back ≡ length d = length-reverse (turned d) ∙ length-turned d in
+      nil_from_length (remainder turned_back) (length-remainder turned_back ∙ ap (λ k. k % 8) lx ∙ w)
+
+  parts : (turned_back ++ take (length bits % 8) bits) ++ h ≡ turned_back ++ low
+  parts = append_assoc turned_back (take (length bits % 8) bits) h
+
+  pub above_bytes_out : full_bytes Msb0 [] (turned_back ++ take (length bits % 8) bits ++ h) ≡ onto_bytes Lsb0 Msb0 h bits
+  above_bytes_out =
+      let d : List Bool = drop (length bits % 8) bits in
+      let w : length d % 8 ≡ 0 = omega (arith, length-drop (length bits % 8) bits) in
+      ap (emitted Msb0) parts ∙ emitted-append Msb0 turned_back low ∙ ap (λ l. emitted Msb0 turned_back ++ emitted Msb0 (l ++ low)) none_left ∙ ap (λ l. l ++ emitted Msb0 low) (emitted-backward d w)
+      ∙ sym (ap (λ W. W.bytes) (append_above h bits p s))
+
+  pub above_left : remainder (turned_back ++ take (length bits % 8) bits ++ h) ≡ remainder low
+  above_left = ap remainder parts ∙ remainder-append turned_back low ∙ ap (λ l. remainder (l ++ low)) none_left
+
 pub above_onto : (a b : SinkTold) (h hs bits : List Bool) → 0 < length h → 0 < length bits
     → Pushed a b Msb0 [] hs (along BytesBackward (drop (length bits % 8) bits) ++ take (length bits % 8) bits ++ h) → PushedOnto a b Lsb0 Msb0 h hs bits
-above_onto a b h hs bits p s m =
-    let r : ℕ = length bits % 8 in
-    let d : List Bool = drop r bits in
-    let x : List Bool = reverse (turned d) in
-    let t : List Bool = take r bits ++ h in
-    let w : length d % 8 ≡ 0 = omega (arith, length-drop r bits) in
-    let lx : length x ≡ length d = length-reverse (turned d) ∙ length-turned d in
-    let z : remainder x ≡ [] = nil_from_length (remainder x) (length-remainder x ∙ ap (λ k. k % 8) lx ∙ w) in
-    let all : (x ++ take r bits) ++ h ≡ x ++ t = append_assoc x (take r bits) h in
-    let bytes : emitted Msb0 ((x ++ take r bits) ++ h) ≡ reverse (map bin (chunks d)) ++ emitted Msb0 t =
-    ap (emitted Msb0) all ∙ emitted-append Msb0 x t ∙ ap (λ l. emitted Msb0 x ++ emitted Msb0 (l ++ t)) z ∙ ap (λ l. l ++ emitted Msb0 t) (emitted-backward d w) in
-    let left : hs ≡ remainder t = m.rest ∙ ap remainder all ∙ remainder-append x t ∙ ap (λ l. remainder (l ++ t)) z in
-    pushed_onto a b Lsb0 Msb0 h hs bits (cross_append Msb0 bits h) (append_above h bits p s) (subst (λ l. Gave a b l) bytes m.gave) (ap (held Msb0) left) (Pushed-short m)
+above_onto a b h hs bits p s m = record {
+  gave = subst (λ l. Gave a b l) (above_bytes_out h bits p s) m.gave;
+  rest = ap (held Msb0) (m.rest ∙ above_left h bits p s) ∙ sym (ap (λ W. W.pending) (append_above h bits p s));
+  short = Pushed-short m;
+}
+
+pub above_stopped_onto : (a b : SinkTold) (h bits : List Bool) (k : ErrorKind) → 0 < length h → 0 < length bits
+    → GaveUp a b (full_bytes Msb0 [] (along BytesBackward (drop (length bits % 8) bits) ++ take (length bits % 8) bits ++ h)) k → GaveUp a b (onto_bytes Lsb0 Msb0 h bits) k
+above_stopped_onto a b h bits k p s f = subst (λ l. GaveUp a b l k) (above_bytes_out h bits p s) f
 
 pub ruleset onto = (same_onto, empty_onto, into_onto, above_onto)
+
+pub ruleset stopped_onto = (same_stopped, empty_stopped, into_stopped, above_stopped_onto)

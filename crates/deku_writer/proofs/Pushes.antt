@@ -1,8 +1,8 @@
 -- Bits that go out one after the other; ways through a list.
-use Rattle.std.proofs.Common.{◌≡◌, ℕ, ◌+◌, ◌-◌, ◌*◌, ◌/◌, ◌%◌, ◌<◌, ◌≤◌, Bool, false, List, [], ◌∷◌, ◌++◌, length, get_or, take, reverse, refl, sym, ap, ◌∙◌, append_assoc, append-nil, arith, length-append, subst, ⊎_elim}
+use Rattle.std.proofs.Common.{◌≡◌, ℕ, ◌+◌, ◌-◌, ◌*◌, ◌/◌, ◌%◌, ◌<◌, ◌≤◌, Bool, false, List, [], ◌∷◌, ◌++◌, length, get_or, take, drop, reverse, refl, sym, ap, ◌∙◌, append_assoc, append-nil, arith, length-append, subst, ⊎_elim}
 use Rattle.std.proofs.Math.ListN.{get_or-append}
 use Rattle.std.proofs.lemmas.Bool.{cases_lt}
-use Rattle.std.proofs.lemmas.List.{take_more, take_all, length-reverse, length-take, get_or-reverse, get_or-append_right, reverse-append, nil_from_length}
+use Rattle.std.proofs.lemmas.List.{take_more, take_all, take-append-drop, length-reverse, length-take, get_or-reverse, get_or-append_right, reverse-append, nil_from_length}
 use Rattle.std.specs.declared.io.ErrorKind.{ErrorKind}
 use Rattle.deku_stream.specs.declared.ctx.Order.{Order}
 use Rattle.deku_stream.specs.declared.ctx.Order.TheVariants.{Msb0, Lsb0}
@@ -11,7 +11,7 @@ use Rattle.deku_writer.specs.declared.writer.way.Way.TheVariants.{Forward, Backw
 use Rattle.deku_stream.specs.Bits.{group_number, facing, shown}
 use Rattle.deku_stream.specs.Writers.{remainder}
 use Rattle.deku_device.specs.Devices.{SinkTold, Gave}
-use Rattle.deku_writer.specs.Pushing.{along, Fills, Pushed, GaveUp}
+use Rattle.deku_writer.specs.Pushing.{along, full_bytes, Fills, Pushed, GaveUp}
 use Rattle.deku_stream.proofs.Binary.{length-facing}
 use Rattle.deku_stream.proofs.Groups.{by_groups}
 use Rattle.deku_stream.proofs.Cuts.{emitted, emitted-full, emitted-short, remainder-full, remainder-short, length-remainder, length-emitted}
@@ -91,13 +91,17 @@ pub Pushed-short : {a b : SinkTold} {o : Order} {h hs xs : List Bool} → Pushed
 Pushed-short {a} {b} {o} {h} {hs} {xs} m = omega (arith, length-facing o hs, ap length m.rest, length-remainder (facing o h ++ xs))
 
 -- bits went out, and then the sink gave up
-pub Pushed-gave_up : (a b c : SinkTold) (o : Order) (h hs xs : List Bool) (n m : ℕ) (k : ErrorKind) → Pushed a b o h hs xs → GaveUp b c ((length hs + n) / 8) k
-    → length h + length xs + n ≤ m → GaveUp a c (m / 8) k
-Pushed-gave_up a b c o h hs xs n m k p f l =
-    let all : length (facing o h ++ xs) ≡ length h + length xs = length-append (facing o h) xs ∙ ap (λ x. x + length xs) (length-facing o h) in
-    let e : length hs ≡ length (facing o h ++ xs) % 8 = sym (length-facing o hs) ∙ ap length p.rest ∙ length-remainder (facing o h ++ xs) in
-    let w = length-emitted o (facing o h ++ xs) in
-    gave_up-more a c (length (emitted o (facing o h ++ xs)) + (length hs + n) / 8) (m / 8) k (omega arith) (gave_up-after a b c _ _ k p.gave f)
+pub Pushed-gave_up : (a b c : SinkTold) (o : Order) (h hs xs ys : List Bool) (k : ErrorKind) → Pushed a b o h hs xs → GaveUp b c (full_bytes o hs ys) k
+    → GaveUp a c (full_bytes o h (xs ++ ys)) k
+Pushed-gave_up a b c o h hs xs ys k p f =
+    subst (λ l. GaveUp a c l k) (sym (split_bytes o (facing o h) (facing o hs) xs ys p.rest)) (gave_up-after a b c (full_bytes o h xs) (full_bytes o hs ys) k p.gave f)
+
+-- where more bits were to go out
+pub gave_up-longer : (a b : SinkTold) (o : Order) (h xs ys : List Bool) (k : ErrorKind) → GaveUp a b (full_bytes o h xs) k → GaveUp a b (full_bytes o h (xs ++ ys)) k
+gave_up-longer a b o h xs ys k f =
+    let all : full_bytes o h (xs ++ ys) ≡ full_bytes o h xs ++ emitted o (remainder (facing o h ++ xs) ++ ys) =
+    ap (emitted o) (sym (append_assoc (facing o h) xs ys)) ∙ emitted-append o (facing o h ++ xs) ys in
+    subst (λ l. GaveUp a b l k) (sym all) (gave_up-more a b (full_bytes o h xs) (emitted o (remainder (facing o h ++ xs) ++ ys)) k f)
 
 -- ---- a way, bit after bit
 module _ (a b c : SinkTold) (o : Order) (w : Way) (h hs bits : List Bool) (i : ℕ) (x : Bool) (inside : i < length bits) (is : x ≡ get_or (along w bits) i false)
@@ -107,10 +111,14 @@ module _ (a b c : SinkTold) (o : Order) (w : Way) (h hs bits : List Bool) (i : �
       let l : i < length (along w bits) = rw length-along inside in
       rw (take_more (along w bits) i false l, ← is) (Pushed-trans a b c o h hs hs2 (take i (along w bits)) (x ∷ []) so_far m)
 
-  pub along_stopped : (k : ErrorKind) → GaveUp b c ((length hs + 1) / 8) k → GaveUp a c ((length h + length bits) / 8) k
+  pub along_stopped : (k : ErrorKind) → GaveUp b c (full_bytes o hs (x ∷ [])) k → GaveUp a c (full_bytes o h (along w bits)) k
   along_stopped k f =
-      Pushed-gave_up a b c o h hs (take i (along w bits)) 1 (length h + length bits) k so_far f
-      (omega (arith, length-take i (along w bits), length-along w bits))
+      let all : List Bool = along w bits in
+      let l : i < length all = rw length-along inside in
+      let next : take i all ++ x ∷ [] ≡ take (i + 1) all = ap (λ y. take i all ++ y ∷ []) is ∙ sym (take_more all i false l) in
+      let tried = Pushed-gave_up a b c o h hs (take i all) (x ∷ []) k so_far f in
+      subst (λ y. GaveUp a c (full_bytes o h y) k) (ap (λ y. y ++ drop (i + 1) all) next ∙ take-append-drop (i + 1) all)
+      (gave_up-longer a c o h (take i all ++ x ∷ []) (drop (i + 1) all) k tried)
 
 pub along_all : (a b : SinkTold) (o : Order) (w : Way) (h hs bits : List Bool) (i : ℕ) → length bits ≤ i → Pushed a b o h hs (take i (along w bits)) → Pushed a b o h hs (along w bits)
 along_all a b o w h hs bits i l m = let e : length (along w bits) ≤ i = rw length-along l in rw (take_all i (along w bits) e) at m
@@ -123,20 +131,21 @@ module _ (o : Order) (w : Way) (xs ys zs : List Bool) where
       subst (λ x. Pushed a d o x h3 (along w xs ++ ys ++ zs)) e
       (Pushed-trans a c d o h h2 h3 (along w xs ++ ys) zs (Pushed-trans a b c o h h1 h2 (along w xs) ys l m) n)
 
-  pub first_stopped : (a b : SinkTold) (h : List Bool) (k : ErrorKind) → h ≡ [] → GaveUp a b ((length h + length xs) / 8) k → GaveUp a b ((length xs + length ys + length zs) / 8) k
-  first_stopped a b h k e f = gave_up-more a b ((length h + length xs) / 8) ((length xs + length ys + length zs) / 8) k (let z : length h ≡ 0 = ap length e in omega arith) f
+  pub first_stopped : (a b : SinkTold) (h : List Bool) (k : ErrorKind) → h ≡ [] → GaveUp a b (full_bytes o h (along w xs)) k
+      → GaveUp a b (full_bytes o [] (along w xs ++ ys ++ zs)) k
+  first_stopped a b h k e f = subst (λ x. GaveUp a b (full_bytes o x (along w xs ++ ys ++ zs)) k) e (gave_up-longer a b o h (along w xs ++ ys) zs k (gave_up-longer a b o h (along w xs) ys k f))
 
-  pub second_stopped : (a b c : SinkTold) (h h1 : List Bool) (k : ErrorKind) → h ≡ [] → Pushed a b o h h1 (along w xs) → GaveUp b c ((length h1 + length ys) / 8) k
-      → GaveUp a c ((length xs + length ys + length zs) / 8) k
+  pub second_stopped : (a b c : SinkTold) (h h1 : List Bool) (k : ErrorKind) → h ≡ [] → Pushed a b o h h1 (along w xs) → GaveUp b c (full_bytes o h1 ys) k
+      → GaveUp a c (full_bytes o [] (along w xs ++ ys ++ zs)) k
   second_stopped a b c h h1 k e l f =
-      Pushed-gave_up a b c o h h1 (along w xs) (length ys) (length xs + length ys + length zs) k l f
-      (let z : length h ≡ 0 = ap length e in omega (arith, length-along w xs))
+      subst (λ x. GaveUp a c (full_bytes o x (along w xs ++ ys ++ zs)) k) e
+      (gave_up-longer a c o h (along w xs ++ ys) zs k (Pushed-gave_up a b c o h h1 (along w xs) ys k l f))
 
-  pub third_stopped : (a b c d : SinkTold) (h h1 h2 : List Bool) (k : ErrorKind) → h ≡ [] → Pushed a b o h h1 (along w xs) → Pushed b c o h1 h2 ys → GaveUp c d ((length h2 + length zs) / 8) k
-      → GaveUp a d ((length xs + length ys + length zs) / 8) k
+  pub third_stopped : (a b c d : SinkTold) (h h1 h2 : List Bool) (k : ErrorKind) → h ≡ [] → Pushed a b o h h1 (along w xs) → Pushed b c o h1 h2 ys → GaveUp c d (full_bytes o h2 zs) k
+      → GaveUp a d (full_bytes o [] (along w xs ++ ys ++ zs)) k
   third_stopped a b c d h h1 h2 k e l m f =
-      Pushed-gave_up a c d o h h2 (along w xs ++ ys) (length zs) (length xs + length ys + length zs) k (Pushed-trans a b c o h h1 h2 (along w xs) ys l m) f
-      (let z : length h ≡ 0 = ap length e in omega (arith, length-append (along w xs) ys, length-along w xs))
+      subst (λ x. GaveUp a d (full_bytes o x (along w xs ++ ys ++ zs)) k) e
+      (Pushed-gave_up a c d o h h2 (along w xs ++ ys) zs k (Pushed-trans a b c o h h1 h2 (along w xs) ys l m) f)
 
 pub ruleset ways = (turned_at, length-turned, get_or-reverse)
 
@@ -148,6 +157,10 @@ filled_none a o h hs xs f = record { gave = rw (← f.bytes) (Gave-nil a); rest 
 
 pub filled_given : (a b : SinkTold) (o : Order) (h hs xs : List Bool) (out : List ℕ) → Fills o h hs xs out → Gave a b out → Pushed a b o h hs xs
 filled_given a b o h hs xs out f g = record { gave = rw (← f.bytes) g; rest = f.rest }
+
+-- where the sink gave up
+pub filled_declined : (a b : SinkTold) (o : Order) (h hs xs : List Bool) (out : List ℕ) (k : ErrorKind) → Fills o h hs xs out → GaveUp a b out k → GaveUp a b (full_bytes o h xs) k
+filled_declined a b o h hs xs out k f g = subst (λ l. GaveUp a b l k) f.bytes g
 
 -- how many bytes fill
 pub filled_count : (o : Order) (h hs xs : List Bool) (out : List ℕ) → Fills o h hs xs out → length out ≡ (length h + length xs) / 8

@@ -2,7 +2,7 @@
 use Rattle.std.proofs.Common.{◌≡◌, ℕ, ◌+◌, ◌-◌, ◌*◌, ◌/◌, ◌%◌, ◌<◌, ◌≤◌, min, Bool, List, [], ◌∷◌, ◌++◌, length, get_or, set, take, drop, reverse, All, refl, sym, ap, ap₂, ◌∙◌, append-nil, arith, subst, ⊎_elim, length-drop}
 use Rattle.std.proofs.Math.Seq.{take-add}
 use Rattle.std.proofs.lemmas.Bool.{cases_lt}
-use Rattle.std.proofs.lemmas.List.{take_more, take_all, drop_all, length-take, length-reverse, reverse-append}
+use Rattle.std.proofs.lemmas.List.{take_more, take_all, take-append-drop, drop_all, length-take, length-reverse, nil_from_length, reverse-append}
 use Rattle.std.proofs.lemmas.List.Concat.{flat_map-append}
 use Rattle.std.proofs.lemmas.List.Elements.{All-head, All-tail}
 use Rattle.std.specs.declared.io.ErrorKind.{ErrorKind}
@@ -11,7 +11,7 @@ use Rattle.deku_stream.specs.declared.ctx.Order.TheVariants.{Msb0, Lsb0}
 use Rattle.deku_stream.specs.Bits.{byte_bits, bits_in, shown}
 use Rattle.deku_stream.specs.Writers.{held, remainder, append, cross_append}
 use Rattle.deku_device.specs.Devices.{SinkTold, Gave}
-use Rattle.deku_writer.specs.Pushing.{Fills, Pushed, GaveUp, PushedOnto}
+use Rattle.deku_writer.specs.Pushing.{full_bytes, onto_bytes, Fills, Pushed, GaveUp, PushedOnto}
 use Rattle.deku_stream.proofs.BitPlaces.{length-bits_in}
 use Rattle.deku_stream.proofs.Bytes.{IsByte, bytes_of-bits_in}
 use Rattle.deku_stream.proofs.Cuts.{emitted, emitted-full, emitted-short, remainder-full, remainder-short, length-byte_bits, byte-of}
@@ -19,8 +19,8 @@ use Rattle.deku_writer.proofs.Gives.{gave_up-after, gave_up-more}
 use Rattle.deku_device.proofs.Transfers.{Gave-trans}
 use Rattle.deku_device.proofs.Parts.{cut_part}
 use Rattle.deku_writer.proofs.Fills.{fills_more}
-use Rattle.deku_writer.proofs.Pushes.{Pushed-trans, Pushed-short, Pushed-gave_up}
-use Rattle.deku_writer.proofs.Onto.{same_onto, empty_onto, append_above}
+use Rattle.deku_writer.proofs.Pushes.{Pushed-trans, Pushed-short, Pushed-gave_up, gave_up-longer}
+use Rattle.deku_writer.proofs.Onto.{same_onto, empty_onto, append_above, same_stopped, empty_stopped}
 
 -- ---- bytes as bits, cut in eights again
 pub emitted-bytes : (bs : List ℕ) → All IsByte bs → emitted Msb0 (bits_in bs) ≡ bs
@@ -77,15 +77,14 @@ module _ (a b c : SinkTold) (h hs : List Bool) (bs : List ℕ) (i : ℕ) (inside
       subst (λ x. Pushed a c Msb0 h hs2 x) (sym (ap bits_in (run_more bs i inside) ∙ flat_map-append byte_bits (take (64 * i) bs) run))
       (Pushed-trans a b c Msb0 h hs hs2 (bits_in (take (64 * i) bs)) (bits_in run) so_far m)
 
-  pub runs_stopped : (k : ErrorKind) → GaveUp b c (length run) k → GaveUp a c (length bs) k
+  pub runs_stopped : (k : ErrorKind) → GaveUp b c (full_bytes Msb0 hs (bits_in run)) k → GaveUp a c (full_bytes Msb0 h (bits_in bs)) k
   runs_stopped k f =
-      let l : length hs < 8 = Pushed-short so_far in
-      let n : length run ≡ (length hs + 8 * length run) / 8 = omega arith in
-      let m : (length h + 8 * length bs) / 8 ≡ length bs = omega arith in
-      let w : length run ≤ length bs - 64 * i = omega (arith, length-take (64 * i + min 64 (length bs - 64 * i) - 64 * i) (drop (64 * i) bs), length-drop (64 * i) bs) in
-      let room : length h + length (bits_in (take (64 * i) bs)) + 8 * length run ≤ length h + 8 * length bs =
-      omega (arith, length-bits_in (take (64 * i) bs), length-take (64 * i) bs) in
-      subst (λ x. GaveUp a c x k) m (Pushed-gave_up a b c Msb0 h hs (bits_in (take (64 * i) bs)) (8 * length run) (length h + 8 * length bs) k so_far (subst (λ x. GaveUp b c x k) n f) room)
+      let n : ℕ = 64 * (i + 1) in
+      let tried : GaveUp a c (full_bytes Msb0 h (bits_in (take n bs))) k =
+      subst (λ x. GaveUp a c (full_bytes Msb0 h x) k) (sym (ap bits_in (run_more bs i inside) ∙ flat_map-append byte_bits (take (64 * i) bs) run))
+      (Pushed-gave_up a b c Msb0 h hs (bits_in (take (64 * i) bs)) (bits_in run) k so_far f) in
+      subst (λ x. GaveUp a c (full_bytes Msb0 h x) k) (sym (flat_map-append byte_bits (take n bs) (drop n bs)) ∙ ap bits_in (take-append-drop n bs))
+      (gave_up-longer a c Msb0 h (bits_in (take n bs)) (bits_in (drop n bs)) k tried)
 
 pub runs_all : (a b : SinkTold) (h hs : List Bool) (bs : List ℕ) (i : ℕ) → length bs ≤ 64 * i → Pushed a b Msb0 h hs (bits_in (take (64 * i) bs)) → Pushed a b Msb0 h hs (bits_in bs)
 runs_all a b h hs bs i l m = rw (take_all (64 * i) bs l) at m
@@ -110,11 +109,12 @@ module _ (a b c : SinkTold) (bs : List ℕ) (i : ℕ) (inside : 64 * i < length 
   pub above_more : Gave b c (reverse back) → Gave a c (reverse (drop (length bs - 64 * (i + 1)) bs))
   above_more g = rw turned_run (Gave-trans a b c (reverse (drop end bs)) (reverse back) so_far g)
 
-  pub above_stopped : (k : ErrorKind) → GaveUp b c (length back) k → GaveUp a c (length bs) k
+  pub above_stopped : (k : ErrorKind) → GaveUp b c (reverse back) k → GaveUp a c (reverse bs) k
   above_stopped k f =
-      gave_up-more a c (length (reverse (drop end bs)) + length back) (length bs) k
-      (omega (arith, length-reverse (drop end bs), length-drop end bs, length-take (end - begin) (drop begin bs), length-drop begin bs))
-      (gave_up-after a b c (reverse (drop end bs)) (length back) k so_far f)
+      let n : ℕ = length bs - 64 * (i + 1) in
+      let tried : GaveUp a c (reverse (drop n bs)) k = subst (λ x. GaveUp a c x k) (sym turned_run) (gave_up-after a b c (reverse (drop end bs)) (reverse back) k so_far f) in
+      subst (λ x. GaveUp a c x k) (sym (reverse-append (take n bs) (drop n bs)) ∙ ap reverse (take-append-drop n bs))
+      (gave_up-more a c (reverse (drop n bs)) (reverse (take n bs)) k tried)
 
 pub above_none : (a : SinkTold) (bs : List ℕ) → Gave a a [] → Gave a a (reverse (drop (length bs - 64 * 0) bs))
 above_none a bs g = rw (drop_all (length bs - 64 * 0) bs (omega arith)) g
@@ -149,7 +149,23 @@ pub bytes_onto_other : (a b : SinkTold) (h : List Bool) (bs : List ℕ) → 0 < 
     → PushedOnto a b Lsb0 Msb0 h h (bits_in bs)
 bytes_onto_other a b h bs q l p all g =
     let e : append Msb0 (bits_in bs) (held Lsb0 h) ≡ record { bytes = reverse bs; pending = held Msb0 h } = append_above h (bits_in bs) q (some_bits bs p) ∙ above_bytes bs h all l in
-    record { gave = rw e g; rest = sym (ap (λ W. W.pending) e); short = l }
+    record { gave = subst (λ W. Gave a b W.bytes) (sym e) g; rest = sym (ap (λ W. W.pending) e); short = l }
+
+-- where the sink gave up
+pub bytes_stopped_none : (a b : SinkTold) (from : Order) (h : List Bool) (bs : List ℕ) (k : ErrorKind) → length h ≡ 0 → 0 < length bs → All IsByte bs → GaveUp a b bs k
+    → GaveUp a b (onto_bytes from Msb0 h (bits_in bs)) k
+unfolding shown
+bytes_stopped_none a b from h bs k n p all f =
+    empty_stopped a b from Msb0 h (bits_in bs) k n (some_bits bs p) (subst (λ x. GaveUp a b x k) (sym (ap (λ x. full_bytes Msb0 x (bits_in bs)) (nil_from_length h n) ∙ emitted-bytes bs all)) f)
+
+pub bytes_stopped_same : (a b : SinkTold) (h : List Bool) (bs : List ℕ) (k : ErrorKind) → 0 < length bs → GaveUp a b (full_bytes Msb0 h (bits_in bs)) k
+    → GaveUp a b (onto_bytes Msb0 Msb0 h (bits_in bs)) k
+unfolding shown
+bytes_stopped_same a b h bs k p f = same_stopped a b Msb0 h (bits_in bs) k (some_bits bs p) f
+
+pub bytes_stopped_other : (a b : SinkTold) (h : List Bool) (bs : List ℕ) (k : ErrorKind) → 0 < length h → length h < 8 → 0 < length bs → All IsByte bs → GaveUp a b (reverse bs) k
+    → GaveUp a b (onto_bytes Lsb0 Msb0 h (bits_in bs)) k
+bytes_stopped_other a b h bs k q l p all f = subst (λ W. GaveUp a b W.bytes k) (sym (append_above h (bits_in bs) q (some_bits bs p) ∙ above_bytes bs h all l)) f
 
 -- how many bytes they make with the held bits
 pub whole_count : (h : List Bool) (bs : List ℕ) → length h < 8 → length bs ≡ (length h + length (bits_in bs)) / 8

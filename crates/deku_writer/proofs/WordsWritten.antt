@@ -10,10 +10,10 @@ use Rattle.deku_stream.specs.Kept.{standing_of}
 use Rattle.deku_stream.specs.Bits.{bin, bits_of, byte_bits, facing, group_number, word_of, shown}
 use Rattle.deku_device.specs.Devices.{SinkTold}
 use Rattle.deku_stream.specs.Standings.{Standing, Stopped, writer_state}
-use Rattle.deku_stream.specs.Writers.{Pending, held}
+use Rattle.deku_stream.specs.Writers.{Nothing, Pending, held}
 use Rattle.deku_writer.specs.WriterCalls.{WritesAt, WritesBits, WritesWord}
 use Rattle.deku_stream.specs.Streams.{flow}
-use Rattle.deku_writer.specs.Pushing.{low_bytes, word_bits, Fills, GaveUp, PushedOnto}
+use Rattle.deku_writer.specs.Pushing.{onto_bytes, low_bytes, word_bits, Fills, GaveUp, PushedOnto}
 use Rattle.deku_stream.proofs.Binary.{bin-bits_of, length-bits_of, length-facing, facing-facing}
 use Rattle.deku_stream.proofs.Cuts.{length-byte_bits, length-flow, byte-of, flow-append}
 use Rattle.deku_writer.proofs.Emits.{write_nothing, write_full, write_done, write_stopped}
@@ -131,12 +131,11 @@ module _ (t after : SinkTold) (from to : Order) (h : List Bool) (n w c m : ℕ) 
       word_written to n w t (standing_of (held from h) None c) (Ok tt) after (standing_of (held to hs) None (c + 8 * m)) inside
       (write_done t after from to h hs (shown to (word_bits to n w)) c m short (bytes_made to n w h m made) fits l p)
 
-  pub word_stopped : (k : ErrorKind) → m ≤ (2 ^ 64 - 1 - c) / 8 → c < 2 ^ 64 → GaveUp t after ((length h + n) / 8) k
-      → WritesAt (WritesWord to n w) t (standing_of (held from h) None c) (Err (Io k)) after (Stopped (Io k) c)
+  pub word_stopped : (k : ErrorKind) → m ≤ (2 ^ 64 - 1 - c) / 8 → c < 2 ^ 64 → GaveUp t after (onto_bytes from to h (shown to (word_bits to n w))) k
+      → WritesAt (WritesWord to n w) t (standing_of (held from h) None c) (Err (Io k)) after (Stopped Nothing (Io k) c)
   word_stopped k fits l f =
-      word_written to n w t (standing_of (held from h) None c) (Err (Io k)) after (Stopped (Io k) c) inside
-      (write_stopped t after from to h (shown to (word_bits to n w)) c m k short (bytes_made to n w h m made) fits l
-      (subst (λ x. GaveUp t after ((length h + x) / 8) k) (sym (length-shown_word to n w)) f))
+      word_written to n w t (standing_of (held from h) None c) (Err (Io k)) after (Stopped Nothing (Io k) c) inside
+      (write_stopped t after from to h (shown to (word_bits to n w)) c m k short (bytes_made to n w h m made) fits l f)
 
   pub word_full : (words : Bor (List ℕ)) → (2 ^ 64 - 1 - c) / 8 < m → words.now ≡ codes "count past usize"
       → WritesAt (WritesWord to n w) t (standing_of (held from h) None c) (Err (InvalidParam words)) t (standing_of (held from h) None c)

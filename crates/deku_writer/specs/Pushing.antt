@@ -23,9 +23,13 @@ IsFor Backward n = ⊤
 IsFor TurnedBytes n = n % 8 ≡ 0
 IsFor BytesBackward n = n % 8 ≡ 0
 
+-- the bytes that fill, where the held bits, high bit first, and then these, as the order meets both, are cut in eights
+abbrev pub full_bytes : Order → List Bool → List Bool → List ℕ
+full_bytes o before bits = (cut o (facing o before ++ bits)).bytes
+
 -- the held bits, high bit first, and then these, as the order meets both, are cut in eights: these bytes go out, and the rest is held
 pub record Fills (o : Order) (before after bits : List Bool) (out : List ℕ) : Type 0 where
-  pub bytes : out ≡ (cut o (facing o before ++ bits)).bytes
+  pub bytes : out ≡ full_bytes o before bits
   pub rest : facing o after ≡ remainder (facing o before ++ bits)
 
 -- the byte that goes out, where there is one
@@ -35,23 +39,27 @@ given (Some byte) = byte ∷ []
 
 -- the held bits, high bit first, and then these, as the order meets both, were cut in eights: the sink took the bytes, and the rest is held
 pub record Pushed (old new : SinkTold) (o : Order) (before after bits : List Bool) : Type 0 where
-  pub gave : Gave old new (cut o (facing o before ++ bits)).bytes
+  pub gave : Gave old new (full_bytes o before bits)
   pub rest : facing o after ≡ remainder (facing o before ++ bits)
 
--- the sink did not take all of n bytes, which are one at least
-pub record GaveUp (old new : SinkTold) (n : ℕ) (kind : ErrorKind) : Type 0 where
-  pub some : 0 < n
-  pub declined : Declined old new n kind
+-- the sink did not take all of the bytes, which are one at least, but a beginning of them
+pub record GaveUp (old new : SinkTold) (bytes : List ℕ) (kind : ErrorKind) : Type 0 where
+  pub some : 0 < length bytes
+  pub declined : Declined old new bytes kind
+
+-- the bytes that fill, where bits are written to the held bits of an order
+abbrev pub onto_bytes : Order → Order → List Bool → List Bool → List ℕ
+onto_bytes from to before bits = (append to bits (held from before)).bytes
 
 -- bits were written to the held bits of an order: the sink took the bytes, and the rest is held in the order of the bits
 pub record PushedOnto (old new : SinkTold) (from to : Order) (before after bits : List Bool) : Type 0 where
-  pub gave : Gave old new (append to bits (held from before)).bytes
+  pub gave : Gave old new (onto_bytes from to before bits)
   pub rest : held to after ≡ (append to bits (held from before)).pending
   pub short : length after < 8
 
 -- bits were written to the held bits of an order: these bytes go out, and the rest is held in the order of the bits
 pub record FillsOnto (from to : Order) (before after bits : List Bool) (out : List ℕ) : Type 0 where
-  pub bytes : out ≡ (append to bits (held from before)).bytes
+  pub bytes : out ≡ onto_bytes from to before bits
   pub rest : held to after ≡ (append to bits (held from before)).pending
   pub short : length after < 8
 

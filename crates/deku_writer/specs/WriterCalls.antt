@@ -9,7 +9,7 @@ use Rattle.deku_stream.specs.declared.error.DekuError.TheVariants.{Io}
 use Rattle.deku_writer.specs.declared.writer.Writer.{Writer}
 use Rattle.deku_stream.specs.Bits.{word_of, shown}
 use Rattle.deku_stream.specs.Writers.{Pending, Nothing, Held, Written, append, finalized}
-use Rattle.deku_device.specs.Devices.{SinkTold, Shrinks, LacksRoom}
+use Rattle.deku_device.specs.Devices.{SinkTold, Shrinks, LacksRoom, TakesSome}
 use Rattle.deku_stream.specs.Standings.{Standing, Going, Stopped, Output, writer_state}
 use Rattle.deku_stream.specs.Outcomes.{Meaning, Outcome, UnlessStopped, Counted}
 
@@ -27,14 +27,21 @@ pub record Took (w : Written) (old new : Output) : Type 0 where
   pub room : Shrinks old.room new.room (length w.bytes)
   pub pending : new.pending ≡ w.pending
 
+-- the sink took a beginning of the bytes, and nothing is pending
+pub record TookSome (bytes : List ℕ) (old new : Output) : Type 0 where
+  pub taken : TakesSome old.taken new.taken bytes
+  pub pending : new.pending ≡ Nothing
+
 -- bytes are given out: the sink takes them, each counts eight bits, and the bits are pending; or it lacks the room, which stops the writer, and the count stays
 abbrev pub GivesOut : Written → Output → ℕ → Result (Unit {0}) DekuError → Standing Output → Type 0
 GivesOut w out c r u = ((after : Output) × Took w out after × (r ≡ Ok tt) × (u ≡ Going after (c + 8 * length w.bytes)))
-    ⊎ ((kind : ErrorKind) × (0 < length w.bytes) × LacksRoom out.room (length w.bytes) kind × (r ≡ Err (Io kind)) × (u ≡ Stopped (Io kind) c))
+    ⊎ ((kind : ErrorKind) × (0 < length w.bytes) × LacksRoom out.room (length w.bytes) kind × (r ≡ Err (Io kind))
+    × (left : Output) × TookSome w.bytes out left × (u ≡ Stopped left (Io kind) c))
 
--- what writing makes of the pending bits is given out; where the count has no room for the bytes it is refused, and nothing changed
+-- what writing makes of the pending bits is given out; where the count has no room for the bytes it is refused, and nothing changed; a fault leaves a beginning
+-- of the bytes with the sink
 abbrev pub Emits : (Pending → Written) → Meaning Output (Unit {0})
-Emits write = UnlessStopped (λ out. Counted (8 * length (write out.pending).bytes) (GivesOut (write out.pending)) out)
+Emits write = UnlessStopped (λ out. TookSome (write out.pending).bytes out) (λ out. Counted (8 * length (write out.pending).bytes) (GivesOut (write out.pending)) out)
 
 -- bits are written in an order
 abbrev pub WritesBits : Order → List Bool → Meaning Output (Unit {0})
@@ -51,7 +58,7 @@ Finalizes = Emits finalized
 -- what is pending; nothing where the writer has stopped
 abbrev pub pending_of : Standing Pending → Pending
 pending_of (Going pending c) = pending
-pending_of (Stopped e c) = Nothing
+pending_of (Stopped pending e c) = Nothing
 
 -- the order of pending bits; `Msb0` where nothing is pending
 abbrev pub order_of : Pending → Order

@@ -36,8 +36,8 @@ use std::marker::Model;
 /// Gives whole bytes to a sink, and keeps the bits that do not fill one: at most seven, of one order.
 ///
 /// Bits in `Msb0` fill a byte from its highest bit down, and bits in `Lsb0` from its lowest bit up. A fault of the sink stops the
-/// writer: it is kept, nothing is pending, and each later write answers the fault again, also one of no bits, until a seek succeeds. What
-/// the sink took of the failed call is not known.
+/// writer: it is kept, nothing is pending, and each later write answers the fault again, also one of no bits, until a seek succeeds. Of the
+/// bytes of the failed call the sink took a beginning, and it is open how many.
 ///
 /// ```text
 /// let mut writer = Writer::new(Cursor::new(Vec::new(alloc)));
@@ -274,7 +274,7 @@ impl Progress {
     // Stopped by this fault of the sink, with this count: nothing is pending.
     #[inline(always)]
     fn stopped(kind: ErrorKind, count: usize) -> Progress
-        ensures { result ≡ Stopped (Io kind) count }
+        ensures { result ≡ Stopped Nothing (Io kind) count }
     {
         Progress {
             held: Held::new(),

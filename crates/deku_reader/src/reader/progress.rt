@@ -75,7 +75,7 @@ impl Progress {
 
     /// So many bits are read, and this fault is kept.
     pub fn stopped(fault: Fault, bits_read: usize) -> Progress
-        ensures { result ≡ Stopped (error_of fault) bits_read }
+        ensures { result ≡ Stopped [] (error_of fault) bits_read }
     {
         Progress {
             window: Window::empty(),

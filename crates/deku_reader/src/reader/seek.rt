@@ -38,7 +38,7 @@ impl<R: Source> Seek for Reader<R> {
     fn seek(&mut self, to: SeekFrom) -> io::Result<u64>
         ensures ok { OnOk result (self.new.state ≡ Going [] (count_after to (count_of self.old.state))) }
         ensures refused { 2 ^ 64 ≤ count_after to (count_of self.old.state) → IsErrAnd result (λ e. error_kind e ≡ ErrorKind.InvalidInput) × (self.new ≡ self.old) }
-        ensures err { count_after to (count_of self.old.state) < 2 ^ 64 → IfErr result (λ e. self.new.state ≡ Stopped (DekuError.Io (error_kind e)) (count_of self.old.state)) }
+        ensures err { count_after to (count_of self.old.state) < 2 ^ 64 → IfErr result (λ e. self.new.state ≡ Stopped [] (DekuError.Io (error_kind e)) (count_of self.old.state)) }
         // Where the source knows its place and its bytes, it is where its own seek leaves it.
         ensures place { SeekMoves (R.stream_position self.old.source) (R.stream_position self.new.source) (R.stream_bytes self.old.source) to result }
         ensures source_bytes { Keeps (R.stream_bytes self.old.source) (R.stream_bytes self.new.source) }
@@ -70,7 +70,7 @@ impl<R: Source> Seek for Reader<R> {
     /// Seeks to the start, as `seek(SeekFrom::Start(0))` does.
     fn rewind(&mut self) -> io::Result<()>
         ensures ok { OnOk result (self.new.state ≡ Going [] (count_of self.old.state)) }
-        ensures err { IfErr result (λ e. self.new.state ≡ Stopped (DekuError.Io (error_kind e)) (count_of self.old.state)) }
+        ensures err { IfErr result (λ e. self.new.state ≡ Stopped [] (DekuError.Io (error_kind e)) (count_of self.old.state)) }
         ensures place { MovesTo (R.stream_position self.old.source) (R.stream_position self.new.source) 0 result }
         ensures source_bytes { Keeps (R.stream_bytes self.old.source) (R.stream_bytes self.new.source) }
         ensures sought { Seeks (R.told self.old.source).health (R.told self.new.source).health (Start 0) (toward 0 result) }
@@ -88,7 +88,7 @@ impl<R: Source> Seek for Reader<R> {
     /// The place of the source, as `seek(SeekFrom::Current(0))` answers it: so it leaves no bit unread.
     fn stream_position(&mut self) -> io::Result<u64>
         ensures ok { OnOk result (self.new.state ≡ Going [] (count_of self.old.state)) }
-        ensures err { IfErr result (λ e. self.new.state ≡ Stopped (DekuError.Io (error_kind e)) (count_of self.old.state)) }
+        ensures err { IfErr result (λ e. self.new.state ≡ Stopped [] (DekuError.Io (error_kind e)) (count_of self.old.state)) }
         ensures place { SeekMoves (R.stream_position self.old.source) (R.stream_position self.new.source) (R.stream_bytes self.old.source) (Current (pos 0)) result }
         ensures source_bytes { Keeps (R.stream_bytes self.old.source) (R.stream_bytes self.new.source) }
         ensures sought { Seeks (R.told self.old.source).health (R.told self.new.source).health (Current (pos 0)) result }
@@ -106,7 +106,7 @@ impl<R: Source> Seek for Reader<R> {
     fn seek_relative(&mut self, offset: i64) -> io::Result<()>
         ensures ok { OnOk result (self.new.state ≡ Going [] (count_after (Current offset) (count_of self.old.state))) }
         ensures refused { 2 ^ 64 ≤ count_after (Current offset) (count_of self.old.state) → IsErrAnd result (λ e. error_kind e ≡ ErrorKind.InvalidInput) × (self.new ≡ self.old) }
-        ensures err { count_after (Current offset) (count_of self.old.state) < 2 ^ 64 → IfErr result (λ e. self.new.state ≡ Stopped (DekuError.Io (error_kind e)) (count_of self.old.state)) }
+        ensures err { count_after (Current offset) (count_of self.old.state) < 2 ^ 64 → IfErr result (λ e. self.new.state ≡ Stopped [] (DekuError.Io (error_kind e)) (count_of self.old.state)) }
         ensures place { MovesBy (R.stream_position self.old.source) (R.stream_position self.new.source) offset result }
         ensures source_bytes { Keeps (R.stream_bytes self.old.source) (R.stream_bytes self.new.source) }
         ensures sought { (n : ℕ) × Seeks (R.told self.old.source).health (R.told self.new.source).health (Current offset) (toward n result)

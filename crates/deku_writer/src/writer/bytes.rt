@@ -4,7 +4,7 @@ ghost use Rattle.std.specs.Prelude.{◌≡◌, ◌<◌, ◌≤◌, length, take,
 ghost use Rattle.deku_stream.specs.declared.ctx.Order.TheVariants.{Msb0};
 ghost use Rattle.deku_stream.specs.Bits.{bits_in};
 ghost use Rattle.deku_device.specs.Devices.{Gave};
-ghost use Rattle.deku_writer.specs.Pushing.{Fills, Pushed, GaveUp, PushedOnto};
+ghost use Rattle.deku_writer.specs.Pushing.{full_bytes, onto_bytes, Fills, Pushed, GaveUp, PushedOnto};
 
 use super::held::Held;
 use super::pushing::give_out;
@@ -33,7 +33,7 @@ fn push_run<W: Sink>(sink: &mut W, held: &mut Held, bytes: &[u8]) -> Result<(), 
     requires some { 0 < length bytes.now }
     requires most { length bytes.now ≤ 64 }
     ensures pushed { OnOk result (Pushed (W.told sink.old) (W.told sink.new) Msb0 held.old held.new (bits_in bytes.now)) }
-    ensures fault { IfErr result (GaveUp (W.told sink.old) (W.told sink.new) (length bytes.now)) }
+    ensures fault { IfErr result (GaveUp (W.told sink.old) (W.told sink.new) (full_bytes Msb0 held.old (bits_in bytes.now))) }
 {
     let mut out = [0; RUN];
     shift(&mut out, held, bytes);
@@ -44,7 +44,7 @@ fn push_run<W: Sink>(sink: &mut W, held: &mut Held, bytes: &[u8]) -> Result<(), 
 fn push_bytes<W: Sink>(sink: &mut W, held: &mut Held, bytes: &[u8]) -> Result<(), ErrorKind>
     requires { length held.old < 8 }
     ensures pushed { OnOk result (Pushed (W.told sink.old) (W.told sink.new) Msb0 held.old held.new (bits_in bytes.now)) }
-    ensures fault { IfErr result (GaveUp (W.told sink.old) (W.told sink.new) (length bytes.now)) }
+    ensures fault { IfErr result (GaveUp (W.told sink.old) (W.told sink.new) (full_bytes Msb0 held.old (bits_in bytes.now))) }
 {
     for i in 0..bytes.len().div_ceil(RUN) {
         let begin = RUN * i;
@@ -62,7 +62,7 @@ fn give_turned<W: Sink>(sink: &mut W, bytes: &[u8]) -> Result<(), ErrorKind>
     requires some { 0 < length bytes.now }
     requires most { length bytes.now ≤ 64 }
     ensures gave { OnOk result (Gave (W.told sink.old) (W.told sink.new) (reverse bytes.now)) }
-    ensures fault { IfErr result (GaveUp (W.told sink.old) (W.told sink.new) (length bytes.now)) }
+    ensures fault { IfErr result (GaveUp (W.told sink.old) (W.told sink.new) (reverse bytes.now)) }
 {
     let mut out = [0; RUN];
     let run = &mut out[..bytes.len()];
@@ -74,7 +74,7 @@ fn give_turned<W: Sink>(sink: &mut W, bytes: &[u8]) -> Result<(), ErrorKind>
 // Bytes above `Lsb0` bits: the last byte goes out first, and the bits stay.
 fn give_above<W: Sink>(sink: &mut W, bytes: &[u8]) -> Result<(), ErrorKind>
     ensures gave { OnOk result (Gave (W.told sink.old) (W.told sink.new) (reverse bytes.now)) }
-    ensures fault { IfErr result (GaveUp (W.told sink.old) (W.told sink.new) (length bytes.now)) }
+    ensures fault { IfErr result (GaveUp (W.told sink.old) (W.told sink.new) (reverse bytes.now)) }
 {
     for i in 0..bytes.len().div_ceil(RUN) {
         let end = bytes.len() - RUN * i;
@@ -97,7 +97,7 @@ pub fn push_bytes_onto<W: Sink>(
     requires short { length held.old < 8 }
     requires some { 0 < length bytes.now }
     ensures pushed { OnOk result (PushedOnto (W.told sink.old) (W.told sink.new) from Msb0 held.old held.new (bits_in bytes.now)) }
-    ensures fault { IfErr result (GaveUp (W.told sink.old) (W.told sink.new) (length bytes.now)) }
+    ensures fault { IfErr result (GaveUp (W.told sink.old) (W.told sink.new) (onto_bytes from Msb0 held.old (bits_in bytes.now))) }
 {
     if held.len() == 0 {
         return give_out(sink, bytes);

@@ -8,7 +8,7 @@ ghost use Rattle.deku_stream.specs.declared.ctx.Order.TheVariants.{Msb0, Lsb0};
 ghost use Rattle.deku_writer.specs.declared.writer.way.Way.TheVariants.{BytesBackward};
 ghost use Rattle.deku_stream.specs.Bits.{shown};
 ghost use Rattle.deku_device.specs.Devices.{Gave};
-ghost use Rattle.deku_writer.specs.Pushing.{along, IsFor, Pushed, GaveUp, PushedOnto};
+ghost use Rattle.deku_writer.specs.Pushing.{along, full_bytes, onto_bytes, IsFor, Pushed, GaveUp, PushedOnto};
 
 use super::held::Held;
 use super::way::Way;
@@ -21,7 +21,7 @@ use std::io::{Error, ErrorKind};
 pub fn give_out<W: Sink>(sink: &mut W, bytes: &[u8]) -> Result<(), ErrorKind>
     requires { 0 < length bytes.now }
     ensures gave { OnOk result (Gave (W.told sink.old) (W.told sink.new) bytes.now) }
-    ensures fault { IfErr result (GaveUp (W.told sink.old) (W.told sink.new) (length bytes.now)) }
+    ensures fault { IfErr result (GaveUp (W.told sink.old) (W.told sink.new) bytes.now) }
 {
     match sink.give(bytes) {
         Ok(()) => Ok(()),
@@ -42,7 +42,7 @@ fn kind_of(error: Error) -> ErrorKind
 #[inline(always)]
 pub fn give_any<W: Sink>(sink: &mut W, bytes: &[u8]) -> Result<(), ErrorKind>
     ensures gave { OnOk result (Gave (W.told sink.old) (W.told sink.new) bytes.now) }
-    ensures fault { IfErr result (GaveUp (W.told sink.old) (W.told sink.new) (length bytes.now)) }
+    ensures fault { IfErr result (GaveUp (W.told sink.old) (W.told sink.new) bytes.now) }
 {
     if bytes.is_empty() {
         return Ok(());
@@ -59,7 +59,7 @@ fn push_bit<W: Sink>(
 ) -> Result<(), ErrorKind>
     requires { length held.old < 8 }
     ensures pushed { OnOk result (Pushed (W.told sink.old) (W.told sink.new) order held.old held.new (bit ∷ [])) }
-    ensures fault { IfErr result (GaveUp (W.told sink.old) (W.told sink.new) ((length held.old + 1) / 8)) }
+    ensures fault { IfErr result (GaveUp (W.told sink.old) (W.told sink.new) (full_bytes order held.old (bit ∷ []))) }
 {
     match held.push(order, u8::from(bit), 1) {
         None => Ok(()),
@@ -78,7 +78,7 @@ fn push_along<W: Sink>(
     requires short { length held.old < 8 }
     requires whole { IsFor way (length bits.now) }
     ensures pushed { OnOk result (Pushed (W.told sink.old) (W.told sink.new) order held.old held.new (along way bits.now)) }
-    ensures fault { IfErr result (GaveUp (W.told sink.old) (W.told sink.new) ((length held.old + length bits.now) / 8)) }
+    ensures fault { IfErr result (GaveUp (W.told sink.old) (W.told sink.new) (full_bytes order held.old (along way bits.now))) }
 {
     let n = bits.len();
     for i in 0..n {
@@ -99,7 +99,7 @@ fn push_same<W: Sink>(
 ) -> Result<(), ErrorKind>
     requires { length held.old < 8 }
     ensures pushed { OnOk result (Pushed (W.told sink.old) (W.told sink.new) order held.old held.new (shown order bits.now)) }
-    ensures fault { IfErr result (GaveUp (W.told sink.old) (W.told sink.new) ((length held.old + length bits.now) / 8)) }
+    ensures fault { IfErr result (GaveUp (W.told sink.old) (W.told sink.new) (full_bytes order held.old (shown order bits.now))) }
 {
     push_along(sink, held, order, Way::shown(order, bits.len()), bits)
 }
@@ -116,7 +116,7 @@ fn push_three<W: Sink>(
     requires empty { held.old ≡ [] }
     requires whole { IsFor way (length first.now) }
     ensures pushed { OnOk result (Pushed (W.told sink.old) (W.told sink.new) Msb0 [] held.new (along way first.now ++ second.now ++ third.now)) }
-    ensures fault { IfErr result (GaveUp (W.told sink.old) (W.told sink.new) ((length first.now + length second.now + length third.now) / 8)) }
+    ensures fault { IfErr result (GaveUp (W.told sink.old) (W.told sink.new) (full_bytes Msb0 [] (along way first.now ++ second.now ++ third.now))) }
 {
     match push_along(sink, held, Order::Msb0, way, first) {
         Ok(()) => {}
@@ -134,7 +134,8 @@ fn push_into<W: Sink>(sink: &mut W, held: &mut Held, bits: &[bool]) -> Result<()
     requires { length held.old < 8 }
     ensures pushed { OnOk result (Pushed (W.told sink.old) (W.told sink.new) Msb0 [] held.new
         (take (min (8 - length bits.now % 8) (length held.old)) held.old ++ bits.now ++ drop (min (8 - length bits.now % 8) (length held.old)) held.old)) }
-    ensures fault { IfErr result (GaveUp (W.told sink.old) (W.told sink.new) ((length held.old + length bits.now) / 8)) }
+    ensures fault { IfErr result (GaveUp (W.told sink.old) (W.told sink.new) (full_bytes Msb0 []
+        (take (min (8 - length bits.now % 8) (length held.old)) held.old ++ bits.now ++ drop (min (8 - length bits.now % 8) (length held.old)) held.old))) }
 {
     let pending = held.bits();
     let pending = &pending[..held.len()];
@@ -155,7 +156,8 @@ fn push_above<W: Sink>(sink: &mut W, held: &mut Held, bits: &[bool]) -> Result<(
     requires { length held.old < 8 }
     ensures pushed { OnOk result (Pushed (W.told sink.old) (W.told sink.new) Msb0 [] held.new
         (along BytesBackward (drop (length bits.now % 8) bits.now) ++ take (length bits.now % 8) bits.now ++ held.old)) }
-    ensures fault { IfErr result (GaveUp (W.told sink.old) (W.told sink.new) ((length held.old + length bits.now) / 8)) }
+    ensures fault { IfErr result (GaveUp (W.told sink.old) (W.told sink.new) (full_bytes Msb0 []
+        (along BytesBackward (drop (length bits.now % 8) bits.now) ++ take (length bits.now % 8) bits.now ++ held.old))) }
 {
     let pending = held.bits();
     let pending = &pending[..held.len()];
@@ -183,7 +185,7 @@ pub fn push_onto<W: Sink>(
     requires short { length held.old < 8 }
     requires some { 0 < length bits.now }
     ensures pushed { OnOk result (PushedOnto (W.told sink.old) (W.told sink.new) from to held.old held.new bits.now) }
-    ensures fault { IfErr result (GaveUp (W.told sink.old) (W.told sink.new) ((length held.old + length bits.now) / 8)) }
+    ensures fault { IfErr result (GaveUp (W.told sink.old) (W.told sink.new) (onto_bytes from to held.old bits.now)) }
 {
     if held.len() == 0 {
         return push_same(sink, held, to, bits);

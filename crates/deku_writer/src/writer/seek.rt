@@ -29,7 +29,7 @@ use std::io::{Seek, SeekFrom};
 impl<W: Sink> Seek for Writer<W> {
     fn seek(&mut self, to: SeekFrom) -> io::Result<u64>
         ensures ok { OnOk result (self.new.state ≡ Going Nothing (count_of self.old.state)) }
-        ensures err { IfErr result (λ e. self.new.state ≡ Stopped (DekuError.Io (error_kind e)) (count_of self.old.state)) }
+        ensures err { IfErr result (λ e. self.new.state ≡ Stopped Nothing (DekuError.Io (error_kind e)) (count_of self.old.state)) }
         // Where the sink knows its place and its bytes, it is where its own seek leaves it.
         ensures place { SeekMoves (W.stream_position self.old.sink) (W.stream_position self.new.sink) (W.stream_bytes self.old.sink) to result }
         ensures sink_bytes { Keeps (W.stream_bytes self.old.sink) (W.stream_bytes self.new.sink) }
@@ -56,7 +56,7 @@ impl<W: Sink> Seek for Writer<W> {
     /// Seeks to the start, as `seek(SeekFrom::Start(0))` does.
     fn rewind(&mut self) -> io::Result<()>
         ensures ok { OnOk result (self.new.state ≡ Going Nothing (count_of self.old.state)) }
-        ensures err { IfErr result (λ e. self.new.state ≡ Stopped (DekuError.Io (error_kind e)) (count_of self.old.state)) }
+        ensures err { IfErr result (λ e. self.new.state ≡ Stopped Nothing (DekuError.Io (error_kind e)) (count_of self.old.state)) }
         ensures place { MovesTo (W.stream_position self.old.sink) (W.stream_position self.new.sink) 0 result }
         ensures sink_bytes { Keeps (W.stream_bytes self.old.sink) (W.stream_bytes self.new.sink) }
         ensures sought { Seeks (W.told self.old.sink).health (W.told self.new.sink).health (Start 0) (toward 0 result) }
@@ -72,7 +72,7 @@ impl<W: Sink> Seek for Writer<W> {
     /// The place of the sink, as `seek(SeekFrom::Current(0))` answers it: so it drops pending bits.
     fn stream_position(&mut self) -> io::Result<u64>
         ensures ok { OnOk result (self.new.state ≡ Going Nothing (count_of self.old.state)) }
-        ensures err { IfErr result (λ e. self.new.state ≡ Stopped (DekuError.Io (error_kind e)) (count_of self.old.state)) }
+        ensures err { IfErr result (λ e. self.new.state ≡ Stopped Nothing (DekuError.Io (error_kind e)) (count_of self.old.state)) }
         ensures place { SeekMoves (W.stream_position self.old.sink) (W.stream_position self.new.sink) (W.stream_bytes self.old.sink) (Current (pos 0)) result }
         ensures sink_bytes { Keeps (W.stream_bytes self.old.sink) (W.stream_bytes self.new.sink) }
         ensures sought { Seeks (W.told self.old.sink).health (W.told self.new.sink).health (Current (pos 0)) result }
@@ -87,7 +87,7 @@ impl<W: Sink> Seek for Writer<W> {
     /// Seeks from its place, as `seek(SeekFrom::Current(offset))` does.
     fn seek_relative(&mut self, offset: i64) -> io::Result<()>
         ensures ok { OnOk result (self.new.state ≡ Going Nothing (count_of self.old.state)) }
-        ensures err { IfErr result (λ e. self.new.state ≡ Stopped (DekuError.Io (error_kind e)) (count_of self.old.state)) }
+        ensures err { IfErr result (λ e. self.new.state ≡ Stopped Nothing (DekuError.Io (error_kind e)) (count_of self.old.state)) }
         ensures place { MovesBy (W.stream_position self.old.sink) (W.stream_position self.new.sink) offset result }
         ensures sink_bytes { Keeps (W.stream_bytes self.old.sink) (W.stream_bytes self.new.sink) }
         ensures sought { (n : ℕ) × Seeks (W.told self.old.sink).health (W.told self.new.sink).health (Current offset) (toward n result)

@@ -4,7 +4,7 @@ ghost use Rattle.std.specs.Prelude.{◌≡◌, ◌↔◌, ◌<◌, ◌≤◌, �
 ghost use Rattle.deku_device.specs.Devices.{Gave};
 ghost use Rattle.deku_stream.specs.Bits.{bits_of, facing, shown};
 ghost use Rattle.deku_stream.specs.Streams.{flow};
-ghost use Rattle.deku_writer.specs.Pushing.{low_bytes, word_bits, Fills, FillsOnto, GaveUp, PushedOnto};
+ghost use Rattle.deku_writer.specs.Pushing.{low_bytes, onto_bytes, word_bits, Fills, FillsOnto, GaveUp, PushedOnto};
 
 use super::held::Held;
 use super::pushing::{give_any, give_out, push_onto};
@@ -154,7 +154,7 @@ fn push_long_word<W: Sink>(
     requires most { n ≤ 128 }
     requires inside { word < 2 ^ n }
     ensures pushed { OnOk result (PushedOnto (W.told sink.old) (W.told sink.new) from to held.old held.new (shown to (word_bits to n word))) }
-    ensures fault { IfErr result (GaveUp (W.told sink.old) (W.told sink.new) ((length held.old + n) / 8)) }
+    ensures fault { IfErr result (GaveUp (W.told sink.old) (W.told sink.new) (onto_bytes from to held.old (shown to (word_bits to n word)))) }
 {
     let filled = (held.len() + n) / 8;
     let behind = (held.len() + n % 8) % 8;
@@ -170,7 +170,7 @@ fn give_whole<W: Sink>(sink: &mut W, word: u128, n: usize) -> Result<(), ErrorKi
     requires whole { n % 8 ≡ 0 }
     requires most { n ≤ 128 }
     ensures gave { OnOk result (Gave (W.told sink.old) (W.told sink.new) (low_bytes (n / 8) word)) }
-    ensures fault { IfErr result (GaveUp (W.told sink.old) (W.told sink.new) (n / 8)) }
+    ensures fault { IfErr result (GaveUp (W.told sink.old) (W.told sink.new) (low_bytes (n / 8) word)) }
 {
     give_out(sink, &word.to_le_bytes()[..n / 8])
 }
@@ -202,7 +202,7 @@ pub fn push_word_onto<W: Sink>(
     requires most { n ≤ 128 }
     requires inside { word < 2 ^ n }
     ensures pushed { OnOk result (PushedOnto (W.told sink.old) (W.told sink.new) from to held.old held.new (shown to (word_bits to n word))) }
-    ensures fault { IfErr result (GaveUp (W.told sink.old) (W.told sink.new) ((length held.old + n) / 8)) }
+    ensures fault { IfErr result (GaveUp (W.told sink.old) (W.told sink.new) (onto_bytes from to held.old (shown to (word_bits to n word)))) }
 {
     if held.len() == 0 && n % 8 == 0 {
         if n > 64 {

@@ -34,7 +34,6 @@ returns-in-Err-clause-writes g c =
     let w : c.self.inside.bits_written < 2 ^ 64 = search rules in
     let h = c.self.inside.held in
     let bytes = c.args.bytes.now in
-    let fault = rw (whole_count h bytes c.self.invariant) at c.in-Err.ensures.fault in
     let at_end = c.self-in-Err.view_is ∙ c.stopped.ensures in
     rw (← c.self.view_is, c.in_default.is, at_end)
-    (write_stopped _ _ c.self.inside.order Msb0 h (bits_in bytes) _ (length bytes) c.in-Err.kind c.self.invariant (whole_count h bytes c.self.invariant) c.if-bytes-self.false w fault)
+    (write_stopped _ _ c.self.inside.order Msb0 h (bits_in bytes) _ (length bytes) c.in-Err.kind c.self.invariant (whole_count h bytes c.self.invariant) c.if-bytes-self.false w c.in-Err.ensures.fault)

@@ -1,7 +1,11 @@
 use Rattle.std.proofs.lemmas.Result.{on_ok_weaker, IfErr-weaker}
 use Rattle.deku_stream.specs.declared.ctx.Order.TheVariants.{Msb0}
-use Rattle.deku_writer.proofs.Pushes.{three_pushed, second_stopped, third_stopped}
+use Rattle.deku_writer.proofs.Pushes.{three_pushed, first_stopped, second_stopped, third_stopped}
 use Rattle.deku_writer.proofs.writer.pushing.push_three.Goals as goal
+
+pub returns-in-Err-clause-fault : goal.returns-in-Err-clause-fault
+returns-in-Err-clause-fault g c =
+    first_stopped Msb0 c.args.way c.args.first.now c.args.second.now c.args.third.now _ _ c.args.held.now c.in-Err.kind c.requires.empty c.in-Err.ensures.fault
 
 pub returns-in-Err-push_along-clause-fault : goal.returns-in-Err-push_along-clause-fault
 returns-in-Err-push_along-clause-fault g c =

@@ -1,6 +1,6 @@
-use Rattle.std.proofs.Common.{◌≡◌, ◌⊎◌, inl, ◌+◌, ◌/◌, length, arith, rules}
-use Rattle.std.proofs.lemmas.Result.{on_ok_weaker}
-use Rattle.deku_writer.proofs.Filling.{word_behind, onto_given}
+use Rattle.std.proofs.Common.{◌≡◌, ◌⊎◌, inl, length, rules}
+use Rattle.std.proofs.lemmas.Result.{on_ok_weaker, IfErr-weaker}
+use Rattle.deku_writer.proofs.Filling.{word_behind, onto_given, onto_declined}
 use Rattle.deku_writer.proofs.Joined.{fills_whole}
 use Rattle.deku_writer.proofs.writer.words.push_word_onto.Goals as goal
 
@@ -21,8 +21,9 @@ returns-then-n-gt64-clause-pushed g c =
 pub returns-then-n-gt64-clause-fault : goal.returns-then-n-gt64-clause-fault
 returns-then-n-gt64-clause-fault g c =
     let none : length c.args.held.now ≡ 0 = search rules in
-    let e : (length c.args.held.now + c.args.n) / 8 ≡ c.args.n / 8 = omega (arith, none) in
-    rw e c.give_whole.ensures.fault
+    let h = c.args.held.now in
+    let fills = word_behind c.args.from c.args.to h h c.args.n c.args.word _ (inl none) c.requires.some (fills_whole c.args.to h c.args.n c.args.word none (search rules)) in
+    IfErr-weaker c.give_whole.result _ _ (λ k f. onto_declined _ _ c.args.from c.args.to h h _ _ k fills f) c.give_whole.ensures.fault
 
 pub returns-then-lay-clause-pushed : goal.returns-then-lay-clause-pushed
 returns-then-lay-clause-pushed g c =
