@@ -222,5 +222,5 @@ to_slice m old new k f p = ⊎_elim (λ o. o) (λ kept. absurd kept) (then Wants
 
 pub to_bits : (m : Meaning Output (Unit {0})) (k : ErrorKind) → OwnFaults WantsPlace m → WritesBare m (Err (Io k)) → WantsPlace k
 to_bits m k f (inl p) = ⊎_elim (λ o. o) (λ kept. absurd kept) (f _ _ p.0 k p.1 (inl refl))
-to_bits m k f (inr (inl p)) = ⊎_elim (λ o. o) (λ kept. absurd kept) (f _ _ _ k p.1 (inr refl))
+to_bits m k f (inr (inl p)) = ⊎_elim (λ o. o) (λ kept. absurd kept) (f _ _ _ k p.2 (inr refl))
 to_bits m k f (inr (inr p)) = inl (let e = p.3 in cc)

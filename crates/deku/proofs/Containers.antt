@@ -25,7 +25,7 @@ use Rattle.deku_bits.proofs.Handing.{by_name}
 use Rattle.deku_meanings.specs.Composing.{Both, Second, First}
 use Rattle.deku_reading.specs.Early.{PromptlyAt}
 use Rattle.deku_reading.proofs.Early.{whole_behind}
-use Rattle.deku.specs.Wholes.{Behind, FromFirst, TellsBehind, ReadsBytesOnce, WritesBare, in_memory, over}
+use Rattle.deku.specs.Wholes.{Behind, FromFirst, TellsBehind, ReadsBytesOnce, WritesOver, WritesBare, in_memory, output_in, over}
 
 -- ---- what a source tells
 -- a reader that was made for one call and fetched no byte too early
@@ -78,7 +78,7 @@ taken_before place xs ys (Some bytes) e f = f ∙ before_is place xs bytes (sym 
 -- ---- what was padded
 goes_on : (m : Meaning Output (Unit {0})) (s u : Standing Output) → Both m Finalizes false s (Ok tt) u → (out : Output) × (c : ℕ) × (u ≡ Going out c)
 goes_on m s u (First e p q) = absurd (cc)
-goes_on m s u (Second v (Stopped e c) p q) = let f = q.0 in absurd (cc)
+goes_on m s u (Second v (Stopped a e c) p q) = let f = q.0 in absurd (cc)
 goes_on m s u (Second v (Going a c) p (inl q)) = let f = q.1.2 in absurd (cc)
 goes_on m s u (Second v (Going a c) p (inr (h, inl q))) = (q.0, _, q.3)
 goes_on m s u (Second v (Going a c) p (inr (h, inr q))) = let f = q.3 in absurd (cc)
@@ -87,7 +87,7 @@ goes_on m s u (Second v (Going a c) p (inr (h, inr q))) = let f = q.3 in absurd 
 pub padded_on : (m : Meaning Output (Unit {0})) (s : Standing Output) (told : SinkTold) (st : Standing Pending) → Both m Finalizes false s (Ok tt) (writer_state told st)
     → (out : Output) × (c : ℕ) × Both m Finalizes false s (Ok tt) (Going out c) × (out.taken ≡ told.taken) × (out.room ≡ told.room)
 padded_on m s told (Going pending count) w = (record { taken = told.taken; room = told.room; pending = pending }, count, w, refl, refl)
-padded_on m s told (Stopped e c) w = let k = goes_on m s (Stopped e c) w in let f = k.2 in absurd (cc)
+padded_on m s told (Stopped p e c) w = let k = goes_on m s (writer_state told (Stopped p e c)) w in let f = k.2 in absurd (cc)
 
 -- the same from where a writer stood
 pub padded_from : (m : Meaning Output (Unit {0})) (s t : Standing Output) (told : SinkTold) (st : Standing Pending) → s ≡ t → Both m Finalizes false s (Ok tt) (writer_state told st)
@@ -116,7 +116,7 @@ starts_fresh coming bytes st e f = rw (e, f) refl
 -- the count of a reader is that of its state
 pub counted_state : (coming : Option (List ℕ)) (st : Standing (List Bool)) (n : ℕ) → n ≡ count_of st → n ≡ count_of (reader_state coming st)
 counted_state coming (Going window count) n e = e
-counted_state coming (Stopped fault count) n e = e
+counted_state coming (Stopped window fault count) n e = e
 
 module _ {V : Type 0} (n : ℕ) (m : Meaning (Option Stream) V) (bytes : List ℕ) (s u : Standing (Option Stream)) (start : s ≡ Going (Some (fresh bytes)) 0) where
   -- from the first byte on
@@ -162,11 +162,23 @@ place_over k = cursor_position k
 abbrev pub bytes_over : Cursor (MutBor (List ℕ)) → List ℕ
 bytes_over k = (cursor_inner k).now
 
+-- what a writer that was refused goes on, or has stopped, with is what its sink tells
+told_out : (told : SinkTold) (st : Standing Pending) → ((output_in (writer_state told st)).taken ≡ told.taken) × ((output_in (writer_state told st)).room ≡ told.room)
+told_out told (Going p c) = (refl, refl)
+told_out told (Stopped p e c) = (refl, refl)
+
+-- a refusal, and the slice
+pub refused_over : (m : Meaning Output (Unit {0})) (s : Standing Output) (old : List ℕ) (e : DekuError) (k : Cursor (MutBor (List ℕ))) (st : Standing Pending) → s ≡ Going (over old) 0
+    → Both m Finalizes false s (Err e) (writer_state (tells_over k) st) → WritesOver (Both m Finalizes) old (Err e) (cursor_inner k).now
+refused_over m s old e k st start w =
+    let told = told_out (tells_over k) st in
+    (writer_state (tells_over k) st, subst (λ x. Both m Finalizes false x (Err e) (writer_state (tells_over k) st)) start w, cursor_position k, told.0, told.1)
+
 -- ---- what is not padded
 -- an empty write is refused by a kept fault alone
-pub empty_refused : (s u : Standing Output) (e : DekuError) → count_of s < 2 ^ 64 → WritesBits Msb0 [] false s (Err e) u → (c : ℕ) × (s ≡ Stopped e c)
+pub empty_refused : (s u : Standing Output) (e : DekuError) → count_of s < 2 ^ 64 → WritesBits Msb0 [] false s (Err e) u → (left : Output) × (c : ℕ) × (s ≡ Stopped left e c)
 unfolding append
-empty_refused (Stopped d c) u e l p = (c, let f : e ≡ d = cc in ap (λ x. Stopped x c) (sym f))
+empty_refused (Stopped out d c) u e l p = (out, c, let f : e ≡ d = cc in ap (λ x. Stopped out x c) (sym f))
 empty_refused (Going a c) u e l (inl p) = absurd (let h = p.0 in omega arith)
 empty_refused (Going a c) u e l (inr (h, inl p)) = let f = p.2 in absurd (cc)
 empty_refused (Going a c) u e l (inr (h, inr p)) = absurd (let k = p.1 in omega arith)
@@ -184,7 +196,7 @@ record Unchanged (s u : Standing Output) : Type 0 where
 
 empty_written : (s u : Standing Output) → WritesBits Msb0 [] false s (Ok tt) u → Unchanged s u
 unfolding append
-empty_written (Stopped d c) u p = let f = p.0 in absurd (cc)
+empty_written (Stopped out d c) u p = let f = p.0 in absurd (cc)
 empty_written (Going a c) u (inl p) = let f = p.1.2 in absurd (cc)
 empty_written (Going a c) u (inr (h, inl p)) =
     record { out = a; count = c; after = p.0; count_after = _; goes = refl; goes_on = p.3; taken = p.1.taken; pending = p.1.pending }
@@ -202,13 +214,13 @@ module _ (m : Meaning Output (Unit {0})) (s t : Standing Output) (start : s ≡ 
 
   -- the writer was stopped by a fault that was not handed on
   pub bare_stopped : (u : Standing Output) (e : DekuError) (r : Result (Vec Bool) DekuError) → IsErrAnd r (λ x. x ≡ e) → count_of t < 2 ^ 64 → WritesBits Msb0 [] false t (Err e) u → WritesBare m r
-  bare_stopped u e r h l w = let k = err_from_is_err_and r h in let d = empty_refused t u e l w in rw (k.1, k.2) (inr (inl (d.0, from_nothing (Stopped e d.0) d.1)))
+  bare_stopped u e r h l w = let k = err_from_is_err_and r h in let d = empty_refused t u e l w in rw (k.1, k.2) (inr (inl (d.0, d.1, from_nothing (Stopped d.0 e d.1) d.2)))
 
   -- the bits were put together, or no memory was found for them
   pub bare_written : (told : SinkTold) (p : Standing Pending) (ys : List ℕ) (last : List Bool) → WritesBits Msb0 [] false t (Ok tt) (writer_state told p)
       → IfSome told.taken (λ bytes. ys ≡ bytes) → last ≡ pending_bits (pending_of p)
       → (r : Result (Vec Bool) DekuError) → IfOk r (λ v. v.items ≡ bits_in ys ++ last) → IfErr r (λ e. e ≡ Io OutOfMemory) → WritesBare m r
-  bare_written told (Stopped e c) ys last w a l r ok err = let d = empty_written t (Stopped e c) w in let f = d.goes_on in absurd (cc)
+  bare_written told (Stopped q e c) ys last w a l r ok err = let d = empty_written t (writer_state told (Stopped q e c)) w in let f = d.goes_on in absurd (cc)
   bare_written told (Going q c) ys last w a l (Err e) ok err =
       let d = empty_written t (writer_state told (Going q c)) w in inr (inr (d.out, d.count, from_nothing (Going d.out d.count) d.goes, err))
   bare_written told (Going q c) ys last w a l (Ok v) ok err =
@@ -229,4 +241,4 @@ bare_refused m s t e r start h w = let k = err_from_is_err_and r h in rw (k.1, k
 -- the count of a writer is below what a `usize` counts
 pub counted_writer : (told : SinkTold) (st : Standing Pending) (n : ℕ) → n ≡ count_of st → n < 2 ^ 64 → count_of (writer_state told st) < 2 ^ 64
 counted_writer told (Going pending count) n e l = omega (arith, e)
-counted_writer told (Stopped fault count) n e l = omega (arith, e)
+counted_writer told (Stopped pending fault count) n e l = omega (arith, e)

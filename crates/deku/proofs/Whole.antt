@@ -17,7 +17,7 @@ pub alone : (o : Order) (bits : List Bool) (b : Bool) (s : Standing Output) (r :
 alone o bits b s (Err e) u p = First e p refl
 alone o bits false s (Ok v) u p = Second v u p Answered
 alone o bits true (Going a c) (Ok v) u p = let e = p.1 in absurd (cc)
-alone o bits true (Stopped e c) (Ok v) u p = absurd p
+alone o bits true (Stopped a e c) (Ok v) u p = absurd p
 
 pub number_sized : NumberSizeLaw
 number_sized t l v i =

@@ -61,15 +61,22 @@ abbrev pub WritesOnce : Meaning Output (Unit {0}) → Result (Vec ℕ) DekuError
 WritesOnce m (Ok v) = (out : Output) × (c : ℕ) × m false (Going in_memory 0) (Ok tt) (Going out c) × IfSome out.taken (λ bytes. v.items ≡ bytes)
 WritesOnce m (Err e) = (u : Standing Output) × m false (Going in_memory 0) (Err e) u
 
--- what m gives from nothing written, over a slice: how many bytes were taken, which the slice has in front, and those in its room behind them
+-- what a writer goes on with, or has stopped with
+abbrev pub output_in : Standing Output → Output
+output_in (Going out c) = out
+output_in (Stopped out e c) = out
+
+-- what m gives from nothing written, over a slice: how many bytes were taken, which the slice has in front, and those in its room behind them; also where
+-- m is refused
 abbrev pub WritesOver : Meaning Output (Unit {0}) → List ℕ → Result ℕ DekuError → List ℕ → Type 0
 WritesOver m old (Ok n) new = (out : Output) × (c : ℕ) × m false (Going (over old) 0) (Ok tt) (Going out c) × (out.taken ≡ bytes_before n new) × (out.room ≡ Some (drop n new))
 WritesOver m old (Err e) new = (u : Standing Output) × m false (Going (over old) 0) (Err e) u
+    × (n : ℕ) × ((output_in u).taken ≡ bytes_before n new) × ((output_in u).room ≡ Some (drop n new))
 
 -- the bits that m gives from nothing written: those of the bytes taken, where they are told, and the pending ones; or m's refusal, a fault that m only kept, or want of memory
 abbrev pub WritesBare : Meaning Output (Unit {0}) → Result (Vec Bool) DekuError → Type 0
 WritesBare m (Ok v) = (out : Output) × (c : ℕ) × m false (Going in_memory 0) (Ok tt) (Going out c)
     × IfSome out.taken (λ bytes. v.items ≡ bits_in bytes ++ pending_bits out.pending)
 WritesBare m (Err e) = ((u : Standing Output) × m false (Going in_memory 0) (Err e) u)
-    ⊎ ((c : ℕ) × m false (Going in_memory 0) (Ok tt) (Stopped e c))
+    ⊎ ((left : Output) × (c : ℕ) × m false (Going in_memory 0) (Ok tt) (Stopped left e c))
     ⊎ ((out : Output) × (c : ℕ) × m false (Going in_memory 0) (Ok tt) (Going out c) × (e ≡ Io OutOfMemory))

@@ -130,7 +130,7 @@ pub trait DekuContainerWrite: DekuWriter<()> {
     /// them in the slice stays. It takes no memory.
     ///
     /// The caller's condition: the type may be written under `()`. It is refused as the type is, or with `Io(WriteZero)` where the slice is
-    /// too short; what the slice holds is then open.
+    /// too short. Then the slice has a beginning of the bytes in front, and behind them what it held.
     ///
     /// ```text
     /// let mut out = [0; 3];

@@ -8,9 +8,9 @@ use Rattle.deku_device.specs.Devices.{Health, LacksRoom}
 use Rattle.deku_stream.specs.Standings.{Standing, Going, Stopped}
 use Rattle.deku_stream.specs.Streams.{Stream}
 use Rattle.deku_stream.specs.Writers.{Pending, Written, append, finalized}
-use Rattle.deku_stream.specs.Outcomes.{Meaning, Outcome, Quiet, Broken, UnlessStopped, Counted, Reserving, Mapped, Value, Refusal}
+use Rattle.deku_stream.specs.Outcomes.{Meaning, Outcome, Quiet, Broken, Unknown, UnlessStopped, Counted, Reserving, Mapped, Value, Refusal}
 use Rattle.deku_reader.specs.ReaderCalls.{Ends, Transfers, TakesBits, ReadsVec, Peeks, Skipping}
-use Rattle.deku_writer.specs.WriterCalls.{GivesOut, Emits, WritesWord}
+use Rattle.deku_writer.specs.WriterCalls.{TookSome, GivesOut, Emits, WritesWord}
 use Rattle.deku_bits.specs.Causes.{KeepsIo, NoKind, WantsMemory, WantsPlace, OwnFaults, Caused, CauseLaw}
 
 -- what an outcome of such a meaning says of an `Io`
@@ -23,10 +23,10 @@ caused own m s f r u g h (Broken a p q) = λ k e. inl q
 abbrev OwnMoves : {A V : Type 0} → (ErrorKind → Type 0) → (A → ℕ → Result V DekuError → Standing A → Type 0) → Type 0
 OwnMoves {A} {V} own moves = (a : A) (c : ℕ) (r : Result V DekuError) (u : Standing A) (k : ErrorKind) → moves a c r u → (r ≡ Err (Io k)) ⊎ KeepsIo k u → own k
 
-unless_stopped : {A V : Type 0} (own : ErrorKind → Type 0) (moves : A → ℕ → Result V DekuError → Standing A → Type 0) → OwnMoves own moves → OwnFaults own (UnlessStopped moves)
-unless_stopped own moves h (Going a c) r u k p q = inl (h a c r u k p q)
-unless_stopped own moves h (Stopped e c) r u k p (inl q) = let d = p.0 in inr cc
-unless_stopped own moves h (Stopped e c) r u k p (inr q) = inr (rw p.1 at q)
+unless_stopped : {A V : Type 0} (leaves : A → A → Type 0) (own : ErrorKind → Type 0) (moves : A → ℕ → Result V DekuError → Standing A → Type 0) → OwnMoves own moves → OwnFaults own (UnlessStopped leaves moves)
+unless_stopped leaves own moves h (Going a c) r u k p q = inl (h a c r u k p q)
+unless_stopped leaves own moves h (Stopped a e c) r u k p (inl q) = let d = p.0 in inr cc
+unless_stopped leaves own moves h (Stopped a e c) r u k p (inr q) = inr (rw p.1 at q)
 
 counted : {A V : Type 0} (own : ErrorKind → Type 0) (n : ℕ) (moves : A → ℕ → Result V DekuError → Standing A → Type 0) → OwnMoves own moves → OwnMoves own (Counted n moves)
 counted own n moves h a c r u k (inl p) (inl q) = let d = p.1.2 in absurd cc
@@ -35,7 +35,7 @@ counted own n moves h a c r u k (inr p) q = h a c r u k p.1 q
 
 ends : {V : Type 0} (own : ErrorKind → Type 0) (n c : ℕ) (r : Result V DekuError) (u : Standing (Option Stream)) (k : ErrorKind) → Ends n c r u → (r ≡ Err (Io k)) ⊎ KeepsIo k u → own k
 ends own n c r u k p (inl q) = let d = p.0 in absurd cc
-ends own n c r u k p (inr q) = let d : Incomplete (record { bits = n }) ≡ Io k = rw p.1 at q in absurd cc
+ends own n c r u k p (inr q) = let d : Incomplete (record { bits = n }) ≡ Io k = rw p.2 at q in absurd cc
 
 -- a value was answered, and it goes on
 goes_on : {A V : Type 0} (v : V) (a : A) (c : ℕ) (r : Result V DekuError) (u : Standing A) (k : ErrorKind) (own : ErrorKind → Type 0)
@@ -61,10 +61,10 @@ mapped own h m f s r u k (Refusal x p e) (inl q) = f s (Err x) u k p (inl cc)
 mapped own h m f s r u k (Refusal x p e) (inr q) = f s (Err x) u k p (inr q)
 
 takes : (o : Order) (n : ℕ) → OwnFaults NoKind (TakesBits o n)
-takes o n = unless_stopped NoKind _ (counted NoKind n (Transfers o n) (transfers NoKind o n))
+takes o n = unless_stopped Unknown NoKind _ (counted NoKind n (Transfers o n) (transfers NoKind o n))
 
 vecs : (o : Order) (n : ℕ) → OwnFaults WantsMemory (ReadsVec o n)
-vecs o n = mapped WantsMemory _ _ (unless_stopped WantsMemory _ (counted WantsMemory n _ (reserving _ (transfers WantsMemory o n))))
+vecs o n = mapped WantsMemory _ _ (unless_stopped Unknown WantsMemory _ (counted WantsMemory n _ (reserving _ (transfers WantsMemory o n))))
 
 peeks : (own : ErrorKind → Type 0) → OwnMoves own Peeks
 peeks own (Some S) c r u k p q = ⊎_elim (λ h. goes_on _ _ _ r u k own h.1 p.1 q) (λ h. goes_on _ _ _ r u k own h.1 p.1 q) p.0
@@ -84,10 +84,10 @@ room (Some r) n k p = inr p.0
 gives_out : (w : Written) → OwnMoves WantsPlace (GivesOut w)
 gives_out w out c r u k (inl p) q = goes_on _ _ _ r u k WantsPlace p.2 p.3 q
 gives_out w out c r u k (inr p) (inl q) = let d = p.3 in let e : p.0 ≡ k = cc in subst WantsPlace e (room out.room _ p.0 p.2)
-gives_out w out c r u k (inr p) (inr q) = let d : Io p.0 ≡ Io k = rw p.4 at q in let e : p.0 ≡ k = cc in subst WantsPlace e (room out.room _ p.0 p.2)
+gives_out w out c r u k (inr p) (inr q) = let d : Io p.0 ≡ Io k = rw p.6 at q in let e : p.0 ≡ k = cc in subst WantsPlace e (room out.room _ p.0 p.2)
 
 emits : (write : Pending → Written) → OwnFaults WantsPlace (Emits write)
-emits write = unless_stopped WantsPlace _ (λ out. counted WantsPlace _ (GivesOut (write out.pending)) (gives_out (write out.pending)) out)
+emits write = unless_stopped (λ out. TookSome (write out.pending).bytes out) WantsPlace _ (λ out. counted WantsPlace _ (GivesOut (write out.pending)) (gives_out (write out.pending)) out)
 
 words : (o : Order) (n word : ℕ) → OwnFaults WantsPlace (WritesWord o n word)
 words o n word s r u k p q = emits (append o _) s r u k p.3 q
@@ -100,10 +100,10 @@ cause_law = (
     vecs o n,
     mapped NoKind _ _ (mapped NoKind _ _ (takes o (8 * n))),
     mapped NoKind _ _ (takes o n),
-    unless_stopped NoKind _ (counted NoKind n _ (skipping NoKind o n)),
+    unless_stopped Unknown NoKind _ (counted NoKind n _ (skipping NoKind o n)),
     mapped WantsMemory _ _ (vecs o (8 * n)),
   ),
-  unless_stopped NoKind _ (peeks NoKind),
+  unless_stopped Unknown NoKind _ (peeks NoKind),
   λ o bits. emits (append o bits),
   words,
   emits finalized,

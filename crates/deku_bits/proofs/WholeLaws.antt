@@ -124,7 +124,7 @@ appended xs bs (Some ys) g = ap Some g
 
 took_all : (t t2 : SinkTold) (bs prior : List ℕ) (w : Written) (c n : ℕ) (u : Standing Pending) (out after : Output) → w ≡ record { bytes = bs; pending = Nothing } → out.taken ≡ Some prior
     → Took w out after → writer_state t2 u ≡ Going after n → NoFewerFailures t.health t2.health → Plainly t t2 (prior ++ bs) u
-took_all t t2 bs prior w c n (Stopped e d) out after is first k same kept = absurd (cc)
+took_all t t2 bs prior w c n (Stopped P e d) out after is first k same kept = absurd (cc)
 took_all t t2 bs prior w c n (Going P d) out after is first k same kept =
     let q : after.pending ≡ Nothing = k.pending ∙ ap (λ x. x.pending) is in
     let g : Appends (Some prior) after.taken bs = subst₂ (λ x y. Appends x after.taken y) first (ap (λ x. x.bytes) is) k.taken in
@@ -140,7 +140,7 @@ plain_gave t t2 bs prior c s u e first h m =
     elim d.0 [
       | inl p ↦ let k = p.1.2 in absurd (cc)
       | inr (room, inl (after, took, r, same)) ↦ took_all t t2 bs prior (append Msb0 (bits_in bs) Nothing) c _ u (record { taken = t.taken; room = t.room; pending = Nothing }) after (plain_write bs h) first took same d.1
-      | inr (room, inr (kind, some, lacks, r, same)) ↦ absurd (cc)
+      | inr (room, inr (kind, some, lacks, r, left, took, same)) ↦ absurd (cc)
     ]
 
 -- before the first place nothing is taken

@@ -14,7 +14,7 @@ use Rattle.deku_writer.specs.WriterCalls.{WritesBits, WritesWord, Finalizes}
 -- it has stopped by a fault of this kind
 abbrev pub KeepsIo : {A : Type 0} → ErrorKind → Standing A → Type 0
 KeepsIo k (Going a c) = ⊥
-KeepsIo k (Stopped e c) = e ≡ Io k
+KeepsIo k (Stopped a e c) = e ≡ Io k
 
 -- no kind
 abbrev pub NoKind : ErrorKind → Type 0

@@ -5,7 +5,7 @@ use Rattle.std.specs.Prelude.{get_or}
 use Rattle.std.proofs.KnownBytes.{Appends-nil, Appends-trans}
 use Rattle.std.specs.Io.KnownBytes.{Appends}
 use Rattle.std.specs.declared.io.ErrorKind.{ErrorKind}
-use Rattle.deku_device.specs.Devices.{SinkTold, Shrinks, LacksRoom, Gave, TakesSome, Declined}
+use Rattle.deku_device.specs.Devices.{SinkTold, Shrinks, LacksRoom, Gave, TakesSome, ShrinksSome, Declined}
 use Rattle.deku_device.proofs.Failures.{no_fewer_same, no_fewer_on, more_on}
 
 -- ---- room
@@ -81,6 +81,24 @@ TakesSome-more (Some s) (Some t) xs ys p =
     let within : k ≤ length xs = omega (arith, t_long, length-take k xs) in
     p ∙ ap (λ l. s ++ l) (sym (take-append-le k xs ys within))
 
+-- an end of an end
+ShrinksSome-after : (a b c : Option (List ℕ)) (n : ℕ) → Shrinks a b n → ShrinksSome b c → ShrinksSome a c
+ShrinksSome-after None None None n p q = tt
+ShrinksSome-after None None (Some z) n p q = absurd q
+ShrinksSome-after None (Some y) c n p q = absurd p
+ShrinksSome-after (Some x) None c n p q = absurd p
+ShrinksSome-after (Some x) (Some y) None n p q = absurd q
+ShrinksSome-after (Some x) (Some y) (Some z) n p q =
+    let y_long : length y ≡ length x - n = ap length p.1 ∙ length-drop n x in
+    let z_long : length z ≡ length y - (length y - length z) = ap length q ∙ length-drop (length y - length z) y in
+    let more : n + (length y - length z) ≡ length x - length z = omega (arith, p.0, y_long, z_long) in
+    q ∙ ap (drop (length y - length z)) p.1 ∙ drop-drop (length y - length z) n x ∙ ap (λ k. drop k x) more
+
+-- the same room
+pub ShrinksSome-same : (a : Option (List ℕ)) → ShrinksSome a a
+ShrinksSome-same None = tt
+ShrinksSome-same (Some x) = let none : length x - length x ≡ 0 = omega arith in rw none refl
+
 -- nothing taken is a beginning
 pub TakesSome-none : (a : Option (List ℕ)) (xs : List ℕ) → TakesSome a a xs
 TakesSome-none None xs = tt
@@ -94,6 +112,7 @@ Declined-after a b c xs ys k p q = record {
     | inr r ↦ inr (rw length-append (LacksRoom-after a.room b.room (length xs) (length ys) k p.room r))
   ];
   taken = TakesSome-after a.taken b.taken c.taken xs ys p.taken q.taken;
+  room = ShrinksSome-after a.room b.room c.room (length xs) p.room q.room;
   health = no_fewer_on a.health b.health c.health p.health q.health;
 }
 
@@ -105,6 +124,7 @@ Declined-more a b xs ys k q = record {
     | inr r ↦ inr (LacksRoom-more a.room (length xs) (length (xs ++ ys)) k (simp length-append (omega arith)) r)
   ];
   taken = TakesSome-more a.taken b.taken xs ys q.taken;
+  room = q.room;
   health = q.health;
 }
 

@@ -1,5 +1,5 @@
 -- What a cursor tells by its place, and what one that fails once tells.
-use Rattle.std.specs.Prelude.{◌≡◌, ℕ, zero, suc, ◌+◌, ◌-◌, List, [], ◌∷◌, ◌++◌, length, take, drop, replicate, Option, None, Some}
+use Rattle.std.specs.Prelude.{◌≡◌, ℕ, zero, suc, ◌-◌, List, [], ◌∷◌, ◌++◌, length, take, drop, replicate, Option, None, Some}
 use Rattle.std.specs.Global.{Vec}
 use Rattle.std.specs.Borrow.{MutBor}
 use Rattle.std.specs.Io.Cursor.{cursor_remaining, cursor_position, cursor_inner}

@@ -152,8 +152,16 @@ TakesSome None new bytes = ⊤
 TakesSome (Some taken) None bytes = ⊥
 TakesSome (Some taken) (Some all) bytes = all ≡ taken ++ take (length all - length taken) bytes
 
+-- a room that is told is an end of the old one, and one that is not told stays untold
+abbrev pub ShrinksSome : Option (List ℕ) → Option (List ℕ) → Type 0
+ShrinksSome None None = ⊤
+ShrinksSome None (Some s) = ⊥
+ShrinksSome (Some r) None = ⊥
+ShrinksSome (Some r) (Some s) = s ≡ drop (length r - length s) r
+
 -- the sink did not take all of the bytes, but a beginning of them: a call failed, or it lacks the room
 pub record Declined (old new : SinkTold) (bytes : List ℕ) (kind : ErrorKind) : Type 0 where
   pub cause : MoreFailures old.health new.health ⊎ LacksRoom old.room (length bytes) kind
   pub taken : TakesSome old.taken new.taken bytes
+  pub room : ShrinksSome old.room new.room
   pub health : NoFewerFailures old.health new.health

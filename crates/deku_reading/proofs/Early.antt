@@ -9,7 +9,7 @@ use Rattle.deku_bits.specs.Bits.{groups}
 use Rattle.deku_bits.specs.Streams.{Stream, Has, normal, left, touched, last_part, passed, skipped}
 use Rattle.deku_bits.specs.Devices.{SourceTold, Loses}
 use Rattle.deku_bits.specs.Standings.{Standing, Going, Stopped, count_of, reader_state, stream_of}
-use Rattle.deku_bits.specs.Outcomes.{Quiet, Value, Refusal, UnlessStopped, Counted, Reserving}
+use Rattle.deku_bits.specs.Outcomes.{Quiet, Value, Refusal, Unknown, UnlessStopped, Counted, Reserving}
 use Rattle.deku_bits.specs.ReaderCalls.{ReadsAt, Transfers, TakesBits, ReadsBytes, ReadsByteVec, FetchesFor, NoneEarly, IsBehind, items_of, window_of, Skipping, Skips}
 use Rattle.deku_bits.proofs.Handing.{meant}
 use Rattle.deku_bits.proofs.Fetched.{takes_bits, takes_counted, balance}
@@ -48,7 +48,7 @@ then_ok (Err e) h p = tt
 -- ---- bits that are taken
 same_count : (now : Option (List ℕ)) (s : Standing (List Bool)) → count_of (reader_state now s) ≡ count_of s
 same_count now (Going w c) = refl
-same_count now (Stopped f c) = refl
+same_count now (Stopped w f c) = refl
 
 took_step : (o : Order) (n : ℕ) (bits : List Bool) (told after : SourceTold) (s u : Standing (List Bool)) → ReadsAt (TakesBits o n) told s (Ok bits) after u → FetchesFor n s told after
     → (bytes : List ℕ) (k : ℕ) → IsBehind bytes k told.coming s → (j : ℕ) × IsBehind bytes j after.coming u
@@ -102,11 +102,11 @@ bytes_promptly o n {bytes} {told} {after} {s} {u} read fetches early =
 
 -- what was answered behind memory that was found
 unreserved : {A V : Type 0} (moves : A → ℕ → Result V DekuError → Standing A → Type 0) (n : ℕ) (s : Standing A) (v : V) (u : Standing A)
-    → UnlessStopped (Counted n (Reserving moves)) false s (Ok v) u → UnlessStopped (Counted n moves) false s (Ok v) u
+    → UnlessStopped Unknown (Counted n (Reserving moves)) false s (Ok v) u → UnlessStopped Unknown (Counted n moves) false s (Ok v) u
 unreserved moves n (Going a c) v u (inl p) = inl p
 unreserved moves n (Going a c) v u (inr (room, inl p)) = let e = p.0 in absurd (cc)
 unreserved moves n (Going a c) v u (inr (room, inr p)) = inr (room, p)
-unreserved moves n (Stopped e c) v u p = p
+unreserved moves n (Stopped a e c) v u p = p
 
 -- the bits that the bytes of a vector took
 vec_took : (o : Order) (n : ℕ) (bytes : List ℕ) (s u : Standing (Option Stream)) → ReadsByteVec o n false s (Ok bytes) u → (bits : List Bool) × TakesBits o (8 * n) false s (Ok bits) u
@@ -151,7 +151,7 @@ skip_leaves o n w xs has =
 -- what is known of a reader whose stream is this
 stands_at : (T : Stream) (c : ℕ) (now : Option (List ℕ)) (u : Standing (List Bool)) → reader_state now u ≡ Going (Some T) c → length (window_of u) < 8
     → (now ≡ Some T.bytes) × (length (window_of u) ≡ length T.window) × (count_of u ≡ c)
-stands_at T c now (Stopped f d) e l = absurd (cc)
+stands_at T c now (Stopped w f d) e l = absurd (cc)
 stands_at T c None (Going v d) e l = absurd (cc)
 stands_at T c (Some ys) (Going v d) e l =
     let same : normal (at v ys) ≡ T = cc in
@@ -165,7 +165,7 @@ still_short s u (inr e) k = subst (λ x. length (window_of x) < 8) (sym e) k
 -- a skip, where no whole byte was looked at
 pub skip_promptly : (o : Order) (n : ℕ) (told after : SourceTold) (s u : Standing (List Bool)) → ReadsAt (Skips o n) told s (Ok tt) after u → NoneEarly s u → length (window_of s) < 8
     → PromptlyAt told s after u
-skip_promptly o n told after (Stopped f c) u reads early short = let e = (meant reads).0.0 in absurd (cc)
+skip_promptly o n told after (Stopped w f c) u reads early short = let e = (meant reads).0.0 in absurd (cc)
 skip_promptly o n told after (Going w c) u reads early short = record { few = early; step = step }
   where
     left_out : (bytes : List ℕ) (k : ℕ) → 8 * k ≡ c + length w → Skipping o n (Some (normal (at w (drop k bytes)))) c (Ok tt) (reader_state after.coming u) → (j : ℕ) × IsBehind bytes j after.coming u

@@ -142,7 +142,7 @@ wide_of_kept x n o p q a b e (inr h) = omega (arith, a, b, h)
 -- what a reader counts
 pub counted : (coming : Option (List ℕ)) (s : Standing (List Bool)) (n : ℕ) → n ≡ count_of s → n ≡ count_of (reader_state coming s)
 counted coming (Going window count) n e = e
-counted coming (Stopped fault count) n e = e
+counted coming (Stopped window fault count) n e = e
 
 -- ---- bits
 -- the counts of a reader tell whether so many bits are read
@@ -190,4 +190,4 @@ look_refused (Broken a p q) = Broken (broken_at a) p q
 pub look_counts_nothing : (s : Standing (Option Stream)) (x : Bool) (u : Standing (Option Stream)) → Ending false s (Ok x) u → count_of u ≡ count_of s
 look_counts_nothing (Going None c) x u p = let e = p.3 in rw e refl
 look_counts_nothing (Going (Some S) c) x u p = let e = p.1 in rw e refl
-look_counts_nothing (Stopped fault c) x u p = let e = p.1 in rw e refl
+look_counts_nothing (Stopped S fault c) x u p = let e = p.1 in rw e refl

@@ -45,7 +45,7 @@ module _ (write : Pending → Written) (t : SinkTold) (P : Pending) (c : ℕ) wh
       → WritesAt (Emits write) t (Going P c) (Err (Io k)) after (Stopped Nothing (Io k) c)
   emits_stopped after k fits f =
       let left : Output = output_of after Nothing in
-      let some : TookSome (write P).bytes (output_of t P) left = record { taken = f.declined.taken; pending = refl } in
+      let some : TookSome (write P).bytes (output_of t P) left = record { taken = f.declined.taken; room = f.declined.room; pending = refl } in
       elim f.declined.cause [
         | inl more ↦ Broken (record { kind = k; count = c; left = left; answered = refl; kept = refl }) (k, refl, left, some, refl) more
         | inr lacks ↦ Quiet (inr (fits, inr (k, f.some, lacks, refl, left, some, refl))) f.declined.health

@@ -1,5 +1,5 @@
 -- What a sink took, and what it declined after that.
-use Rattle.std.proofs.Common.{List, ◌++◌, length, length-append, arith, ℕ}
+use Rattle.std.proofs.Common.{List, ◌++◌, length-append, arith, ℕ}
 use Rattle.std.specs.declared.io.ErrorKind.{ErrorKind}
 use Rattle.deku_device.specs.Devices.{SinkTold, Gave}
 use Rattle.deku_writer.specs.Pushing.{GaveUp}

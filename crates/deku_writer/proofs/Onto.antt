@@ -1,5 +1,5 @@
 -- Bits onto held bits, by the orders of both.
-use Rattle.std.proofs.Common.{◌≡◌, ℕ, ◌-◌, ◌%◌, ◌<◌, min, Bool, List, [], ◌∷◌, ◌++◌, length, map, take, drop, reverse, refl, sym, ap, ◌∙◌, arith, append_assoc, length-append, length-drop, subst}
+use Rattle.std.proofs.Common.{◌≡◌, ◌-◌, ◌%◌, ◌<◌, min, Bool, List, [], ◌∷◌, ◌++◌, length, map, take, drop, reverse, refl, sym, ap, ◌∙◌, arith, append_assoc, length-append, length-drop, subst}
 use Rattle.std.proofs.lemmas.List.{reverse-reverse, reverse-append, length-reverse, nil_from_length}
 use Rattle.std.specs.declared.io.ErrorKind.{ErrorKind}
 use Rattle.deku_stream.specs.declared.ctx.Order.{Order}

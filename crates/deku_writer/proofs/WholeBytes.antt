@@ -2,7 +2,7 @@
 use Rattle.std.proofs.Common.{◌≡◌, ℕ, ◌+◌, ◌-◌, ◌*◌, ◌/◌, ◌%◌, ◌<◌, ◌≤◌, min, Bool, List, [], ◌∷◌, ◌++◌, length, get_or, set, take, drop, reverse, All, refl, sym, ap, ap₂, ◌∙◌, append-nil, arith, subst, ⊎_elim, length-drop}
 use Rattle.std.proofs.Math.Seq.{take-add}
 use Rattle.std.proofs.lemmas.Bool.{cases_lt}
-use Rattle.std.proofs.lemmas.List.{take_more, take_all, take-append-drop, drop_all, length-take, length-reverse, nil_from_length, reverse-append}
+use Rattle.std.proofs.lemmas.List.{take_more, take_all, take-append-drop, drop_all, nil_from_length, reverse-append}
 use Rattle.std.proofs.lemmas.List.Concat.{flat_map-append}
 use Rattle.std.proofs.lemmas.List.Elements.{All-head, All-tail}
 use Rattle.std.specs.declared.io.ErrorKind.{ErrorKind}
@@ -19,7 +19,7 @@ use Rattle.deku_writer.proofs.Gives.{gave_up-after, gave_up-more}
 use Rattle.deku_device.proofs.Transfers.{Gave-trans}
 use Rattle.deku_device.proofs.Parts.{cut_part}
 use Rattle.deku_writer.proofs.Fills.{fills_more}
-use Rattle.deku_writer.proofs.Pushes.{Pushed-trans, Pushed-short, Pushed-gave_up, gave_up-longer}
+use Rattle.deku_writer.proofs.Pushes.{Pushed-trans, Pushed-gave_up, gave_up-longer}
 use Rattle.deku_writer.proofs.Onto.{same_onto, empty_onto, append_above, same_stopped, empty_stopped}
 
 -- ---- bytes as bits, cut in eights again

@@ -1,5 +1,5 @@
 -- Words that are written: their lists, and what they fill behind held bits.
-use Rattle.std.proofs.Common.{refl, ℕ, zero, suc, ◌+◌, ◌*◌, ◌-◌, ◌/◌, ◌%◌, ◌^◌, ◌<◌, ◌≤◌, ◌≡◌, Bool, List, [], ◌∷◌, ◌++◌, length, take, Result, Ok, Err, Bor, codes, None, sym, ap, ap₂, ◌∙◌, append_assoc, append-nil, arith, length-append, mod-lt, mod-eq_of_lt, subst}
+use Rattle.std.proofs.Common.{refl, ℕ, zero, suc, ◌+◌, ◌*◌, ◌-◌, ◌/◌, ◌%◌, ◌^◌, ◌<◌, ◌≤◌, ◌≡◌, Bool, List, [], ◌∷◌, ◌++◌, length, take, Result, Ok, Err, Bor, codes, None, sym, ap, ap₂, ◌∙◌, append_assoc, append-nil, arith, length-append, mod-lt, mod-eq_of_lt}
 use Rattle.std.proofs.lemmas.List.{take_at, length-take-le}
 use Rattle.std.proofs.lemmas.Nat.{shr-shr, shr_below}
 use Rattle.deku_stream.specs.declared.ctx.Order.{Order}

@@ -9,7 +9,7 @@ use Rattle.deku_stream.specs.declared.error.DekuError.TheVariants.{Io}
 use Rattle.deku_writer.specs.declared.writer.Writer.{Writer}
 use Rattle.deku_stream.specs.Bits.{word_of, shown}
 use Rattle.deku_stream.specs.Writers.{Pending, Nothing, Held, Written, append, finalized}
-use Rattle.deku_device.specs.Devices.{SinkTold, Shrinks, LacksRoom, TakesSome}
+use Rattle.deku_device.specs.Devices.{SinkTold, Shrinks, LacksRoom, TakesSome, ShrinksSome}
 use Rattle.deku_stream.specs.Standings.{Standing, Going, Stopped, Output, writer_state}
 use Rattle.deku_stream.specs.Outcomes.{Meaning, Outcome, UnlessStopped, Counted}
 
@@ -30,6 +30,7 @@ pub record Took (w : Written) (old new : Output) : Type 0 where
 -- the sink took a beginning of the bytes, and nothing is pending
 pub record TookSome (bytes : List ℕ) (old new : Output) : Type 0 where
   pub taken : TakesSome old.taken new.taken bytes
+  pub room : ShrinksSome old.room new.room
   pub pending : new.pending ≡ Nothing
 
 -- bytes are given out: the sink takes them, each counts eight bits, and the bits are pending; or it lacks the room, which stops the writer, and the count stays

@@ -1,7 +1,7 @@
 use Rattle.std.proofs.Common.{rules, refl, ap}
 use Rattle.deku_bits.specs.Cursors.{slice_whole}
 use Rattle.deku_bits.proofs.Handing.{unbroken, name_stays}
-use Rattle.deku.proofs.Containers.{starts_over, padded_from, refused_from, steady, tells_over}
+use Rattle.deku.proofs.Containers.{starts_over, padded_from, refused_over, steady, tells_over}
 use Rattle.deku.proofs.container.DekuContainerWrite.to_slice.Goals as goal
 
 pub returns-in-Ok : goal.returns-in-Ok
@@ -15,4 +15,7 @@ returns-in-Ok g c =
 pub returns-in-Err : goal.returns-in-Err
 returns-in-Err g c =
     let begin = starts_over _ _ c.args.out.now (tells_over c.new-cursor.result).health _ c.new-cursor.ensures.position (ap (λ r. r.now) c.new-cursor.ensures.inner) refl in
-    refused_from (g.Self.DekuWriter.meaning c.args.self.now tt) _ _ c.in-Err.refusal _ begin (unbroken refl refl c.in-Err.ensures.1)
+    let w = refused_over (g.Self.DekuWriter.meaning c.args.self.now tt) _ c.args.out.now c.in-Err.refusal c.write_whole.new.sink _ begin (unbroken refl refl c.in-Err.ensures.1) in
+    let same = name_stays (steady (slice_whole c.new-cursor.result)) (steady (slice_whole c.write_whole.new.sink)) _ _ c.in-Err.ensures.1 in
+    let tie = c.out-1.given.1.1 (search (rules, same)) in
+    rw tie w
