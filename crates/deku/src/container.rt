@@ -141,8 +141,10 @@ pub trait DekuContainerWrite: DekuWriter<()> {
         ensures { WritesOver (Both (Self.meaning self.now tt) Finalizes) out.old result out.new }
     {
         let mut cursor = Cursor::new(out);
-        match write_whole(self, &mut cursor, ()) {
-            Ok(()) => Ok(cursor.position() as usize),
+        let written = write_whole(self, &mut cursor, ());
+        let count = cursor.position() as usize;
+        match written {
+            Ok(()) => Ok(count),
             Err(refusal) => Err(refusal),
         }
     }

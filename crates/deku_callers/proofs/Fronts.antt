@@ -17,7 +17,7 @@ use Rattle.deku_symmetry.specs.Symmetric.{IsSymmetric, breadth}
 -- a reader counts what its state does
 counts_same : (coming : Option (List ℕ)) (s : Standing (List Bool)) → count_of (reader_state coming s) ≡ count_of s
 counts_same coming (Going w c) = refl
-counts_same coming (Stopped e c) = refl
+counts_same coming (Stopped w e c) = refl
 
 module _ {V : Type 0} {pieces : V → List Piece → Type 0} {same : V → V → Type 0} {writes : V → Meaning Output (Unit {0})} {m : Meaning (Option Stream) V} (A : IsSymmetric pieces same writes m)
     (wide : ℕ) (all : (v : V) (ps : List Piece) → pieces v ps → breadth ps ≡ wide) where

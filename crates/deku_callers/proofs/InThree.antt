@@ -117,7 +117,7 @@ appended bytes (Some ys) g = ap Some g
 
 -- what a sink tells that it took is where its writer stands
 tells : (told : SinkTold) (state : Standing Pending) (after : Output) (c : ℕ) → writer_state told state ≡ Going after c → told.taken ≡ after.taken
-tells told (Stopped e d) after c is = absurd (cc)
+tells told (Stopped p e d) after c is = absurd (cc)
 tells told (Going pending d) after c is = cc
 
 nothing_behind : (n : ℕ) → ◌≡◌ {A = List ℕ} (drop n []) []

@@ -1,14 +1,14 @@
 -- What is read from a place that is sought first.
-use Rattle.std.specs.Prelude.{◌≡◌, ℕ, [], drop, Option, Some, Result, Err, IfSome}
+use Rattle.std.specs.Prelude.{◌≡◌, ℕ, [], Option, Result, Ok, Err}
 use Rattle.std.specs.Global.{Vec}
-use Rattle.std.specs.declared.io.ErrorKind.{ErrorKind}
-use Rattle.std.specs.Io.Seek.{IsSeekTarget}
+use Rattle.std.specs.declared.io.Error.{Error}
+use Rattle.std.specs.IoError.{error_kind}
 use Rattle.std.specs.declared.io.SeekFrom.TheVariants.{Start}
 use Rattle.deku_bits.specs.declared.error.DekuError.{DekuError}
 use Rattle.deku_bits.specs.declared.error.DekuError.TheVariants.{Io}
 use Rattle.deku_bits.specs.declared.reader.Reader.{Reader}
 use Rattle.deku_bits.specs.Devices.{SourceTold}
-use Rattle.deku_bits.specs.Seeking.{count_after, RefusedSeek}
+use Rattle.deku_bits.specs.Seeking.{count_after, Seeks, RefusedSeek, ComesFrom}
 use Rattle.deku_bits.specs.Streams.{Stream}
 use Rattle.deku_bits.specs.Standings.{Going, Stopped, count_of}
 use Rattle.deku_bits.specs.Outcomes.{Meaning}
@@ -19,12 +19,13 @@ use Rattle.deku_elf.specs.declared.Elf.{Elf}
 use Rattle.deku_elf.specs.Elf.{endian_of, fields_of, segments_at}
 
 -- A place is sought, and m is read from there: where all bytes are told, those from the place on are to come. Or the source refuses the seek, which stops the
--- reader; where all bytes are told, only for a call that fails.
+-- reader; where all bytes are told, only for a call that fails. The seek itself forgets no failure, adds none where it succeeds, and leaves all bytes.
 pub data ReadsFrom {R V : Type 0} (told : R → SourceTold) (place : ℕ) (m : Meaning (Option Stream) V) (old : Reader R) (r : Result V DekuError) (new : Reader R) : Type 0 where
   Sought : (at : Reader R) (n : ℕ) → at.state ≡ Going [] (count_after (Start place) (count_of old.state))
-      → IfSome (told old.source).health.whole (λ w. IsSeekTarget w.place (Some w.bytes) (Start place) n) → IfSome (told old.source).health.whole (λ w. (told at.source).coming ≡ Some (drop n w.bytes))
+      → Seeks {E = Error} (told old.source).health (told at.source).health (Start place) (Ok n) → ComesFrom {E = Error} (told old.source).health.whole (Ok n) (told at.source)
       → Reads told m at r new → ReadsFrom told place m old r new
-  NotSought : (kind : ErrorKind) → r ≡ Err (Io kind) → new.state ≡ Stopped (Io kind) (count_of old.state) → RefusedSeek (told old.source).health (told new.source).health (Start place) (Err (Io kind))
+  NotSought : (error : Error) → r ≡ Err (Io (error_kind error)) → new.state ≡ Stopped [] (Io (error_kind error)) (count_of old.state)
+      → Seeks (told old.source).health (told new.source).health (Start place) (Err error) → RefusedSeek (told old.source).health (told new.source).health (Start place) (Err error)
       → ReadsFrom told place m old r new
 
 -- as many program headers are read into a vector as the file's header says, each as m reads one under the endian that the file names

@@ -62,9 +62,9 @@ items_tell (i ∷ is) out c xs u e (Second v t p q) =
 pub whole_written : (is : List Item) (t : Standing Output) (told : SinkTold) (st : Standing Pending)
     → WritesItems is false (Going in_memory 0) (Ok tt) t → Finalizes false t (Ok tt) (writer_state told st)
     → (bytes : List ℕ) × (told.taken ≡ Some bytes) × ((out : Output) × (c : ℕ) × Both (WritesItems is) Finalizes false (Going in_memory 0) (Ok tt) (Going out c) × (out.taken ≡ Some bytes))
-whole_written is t told (Stopped e c) p q =
+whole_written is t told (Stopped w e c) p q =
     let k = items_tell is in_memory 0 [] t refl p in
-    let m = emits_tell finalized k.out k.count k.bytes _ k.told (subst (λ x. Finalizes false x (Ok tt) (Stopped e c)) k.goes q) in
+    let m = emits_tell finalized k.out k.count k.bytes _ k.told (subst (λ x. Finalizes false x (Ok tt) (writer_state told (Stopped w e c))) k.goes q) in
     let f = m.goes in absurd (cc)
 whole_written is t told (Going pending c) p q =
     let k = items_tell is in_memory 0 [] t refl p in

@@ -1,5 +1,5 @@
 -- One list alone is worth a value; and in whole bytes its number is the value modulo two to the width.
-use Rattle.std.proofs.Common.{ℕ, ◌%◌, ◌^◌, ◌<◌, ◌≡◌, Bool, true, false, List, length, ℤ, refl, ap, ap₂, sym, ◌∙◌, arith, mod-eq_of_lt}
+use Rattle.std.proofs.Common.{ℕ, ◌%◌, ◌^◌, ◌<◌, ◌≡◌, Bool, true, false, List, length, ℤ, ap, ap₂, sym, ◌∙◌, arith, mod-eq_of_lt}
 use Rattle.deku_num.specs.declared.kind.NumberType.{NumberType}
 use Rattle.deku_num.specs.declared.ctx.Layout.{Layout}
 use Rattle.deku_num.specs.Numbers.{width, IsAllowed, number, with_sign, value, IsFieldOf}
@@ -7,7 +7,7 @@ use Rattle.deku_num.specs.NumberLaws.{residue}
 use Rattle.deku_num.proofs.Chunked.{within}
 use Rattle.deku_num.proofs.Ranges.{below_type}
 use Rattle.deku_num.proofs.Values.{field_law}
-use Rattle.deku_num.proofs.Listing.{residue-lt, residue-with_sign}
+use Rattle.deku_num.proofs.Listing.{residue-with_sign}
 
 -- one list is worth v
 pub one_list : (t : NumberType) (l : Layout) (v : ℤ) (r s : List Bool) → IsAllowed t l → IsFieldOf t l v r → IsFieldOf t l v s → r ≡ s

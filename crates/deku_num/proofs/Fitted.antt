@@ -1,5 +1,5 @@
 -- Numbers that fit a field: the word that is written for a value, and where there is none.
-use Rattle.std.proofs.Common.{ℕ, zero, suc, true, false, ℤ, pos, ◌-ℤ◌, subst, ◌*◌, ◌-◌, ◌%◌, ◌^◌, ◌<◌, ◌≤◌, ◌≡◌, Bool, List, length, refl, sym, ap, ap₂, ◌∙◌, arith, pow-suc}
+use Rattle.std.proofs.Common.{ℕ, zero, suc, true, false, ℤ, pos, ◌-ℤ◌, subst, ◌*◌, ◌-◌, ◌%◌, ◌^◌, ◌<◌, ◌≤◌, ◌≡◌, Bool, List, length, sym, ap, ap₂, ◌∙◌, arith, pow-suc}
 use Rattle.deku_bits.specs.declared.ctx.Order.{Order}
 use Rattle.deku_bits.specs.declared.ctx.Order.TheVariants.{Lsb0}
 use Rattle.deku_bits.specs.Bits.{groups, word_of}

@@ -1,5 +1,5 @@
 -- The list that is worth a value: its number; and values modulo two to the power of n.
-use Rattle.std.proofs.Common.{pos, negsuc, ℕ, zero, suc, ◌+◌, ◌*◌, ◌-◌, ◌/◌, ◌%◌, ◌^◌, ◌<◌, ◌≤◌, ◌≡◌, Bool, true, false, cond, List, length, ℤ, refl, ap, ap₂, sym, ◌∙◌, arith, subst, pow-suc, ◌-ℤ◌, inl, inr, ⊎_elim, mod-eq_of_lt, mod-lt}
+use Rattle.std.proofs.Common.{pos, negsuc, ℕ, zero, suc, ◌+◌, ◌*◌, ◌-◌, ◌/◌, ◌%◌, ◌^◌, ◌<◌, ◌≤◌, ◌≡◌, Bool, true, false, List, length, ℤ, ap, ap₂, sym, ◌∙◌, arith, pow-suc, ◌-ℤ◌, inl, inr, ⊎_elim, mod-eq_of_lt, mod-lt}
 use Rattle.std.proofs.Math.Nat.{mod-add-div}
 use Rattle.std.proofs.lemmas.Nat.{pow_pos, pow-add}
 use Rattle.std.proofs.lemmas.Int.{ints}

@@ -1,5 +1,5 @@
 -- Worked examples of numbers that are read and written, as theorems that compute.
-use Rattle.std.specs.Prelude.{ℕ, ◌+◌, ◌*◌, ◌-◌, ◌%◌, ◌^◌, ◌≡◌, List, [], ◌∷◌, ℤ, pos, neg_ℤ, ⊤}
+use Rattle.std.specs.Prelude.{ℕ, ◌+◌, ◌*◌, ◌-◌, ◌^◌, ◌≡◌, List, [], ◌∷◌, ℤ, pos, neg_ℤ, ⊤}
 use Rattle.deku_bits.specs.declared.ctx.Order.TheVariants.{Msb0, Lsb0}
 use Rattle.deku_bits.specs.Bits.{bits_of}
 use Rattle.deku_bits.specs.Streams.{Stream, fresh, Has, taken, left, skipped}

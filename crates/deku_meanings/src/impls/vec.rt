@@ -1,6 +1,6 @@
 //! Vectors, as collections.
 
-ghost use Rattle.std.specs.Prelude.{◌≡◌, [], ◌∷◌, ◌++◌};
+ghost use Rattle.std.specs.Prelude.{◌≡◌, ⊤, [], ◌∷◌, ◌++◌};
 
 use crate::impls::gather::Gather;
 use deku_bits::error::DekuError;
@@ -8,6 +8,8 @@ use std::io::ErrorKind;
 
 impl<T: Drop> Gather<T> for Vec<T> {
     ghost puts = { λ v x w. w.items ≡ v.items ++ x ∷ [] };
+
+    ghost grows = { λ v x. ⊤ };
 
     fn put(&mut self, item: T) -> Result<(), DekuError> {
         match self.push(item) {

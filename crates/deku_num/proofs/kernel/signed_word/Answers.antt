@@ -1,5 +1,5 @@
 -- The word is that of the value's residue, which is worth the value where it fits.
-use Rattle.std.proofs.Common.{◌≡◌, ℤ, true, false, sym, ◌∙◌, ap, ap₂, rules}
+use Rattle.std.proofs.Common.{◌≡◌, ℤ, true, sym, ◌∙◌, ap, ap₂, rules}
 use mir.Syntax.{w128}
 use mir.Val.{SFits, of_z, to_z}
 use Rattle.std.proofs.lemmas.Int.{to_z-of_z}
