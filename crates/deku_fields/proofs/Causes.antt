@@ -32,7 +32,7 @@ fields_vec fs s r u k (inr p) q = wider WantsMemory (ReadsFields fs) (fields fs)
 -- what a reader keeps, it keeps whatever its source tells
 kept_reader : (coming : Option (List ℕ)) (s : Standing (List Bool)) (k : ErrorKind) → KeepsIo k (reader_state coming s) → KeepsIo k s
 kept_reader coming (Going w c) k p = p
-kept_reader coming (Stopped e c) k p = p
+kept_reader coming (Stopped a e c) k p = p
 
 reads_caused : {V W : Type 0} (own : ErrorKind → Type 0) (m : Meaning (Option Stream) V) (coming : Option (List ℕ)) (s : Standing (List Bool)) (f : Health) (e : DekuError) (u : Standing (Option Stream)) (g : Health)
     → OwnFaults own m → Outcome m (reader_state coming s) f (Err e) u g → Caused {V = W} own s f (Err e) g
@@ -60,7 +60,7 @@ items (i ∷ is) = then WantsPlace (WritesItem i) _ (item i) (λ _. items is)
 
 kept_writer : (told : SinkTold) (s : Standing Pending) (k : ErrorKind) → KeepsIo k (writer_state told s) → KeepsIo k s
 kept_writer told (Going w c) k p = p
-kept_writer told (Stopped e c) k p = p
+kept_writer told (Stopped a e c) k p = p
 
 pub items_caused : (is : List Item) (told : SinkTold) (s : Standing Pending) (f : Health) (r : Result (Unit {0}) DekuError) (u : Standing Output) (g : Health)
     → Outcome (WritesItems is) (writer_state told s) f r u g → Caused WantsPlace s f r g

@@ -77,7 +77,7 @@ normal_short S l = rw (ne_eqb (length S.window) 8 (λ (e : length S.window ≡ 8
 -- a source tells the bytes of the stream, where no whole byte is unread
 source_tells : (coming : Option (List ℕ)) (st : Standing (List Bool)) (rest : Stream) (c : ℕ) → length (window_of st) < 8
     → reader_state coming st ≡ Going (Some rest) c → coming ≡ Some rest.bytes
-source_tells coming (Stopped e k) rest c l q = absurd (cc)
+source_tells coming (Stopped w e k) rest c l q = absurd (cc)
 source_tells None (Going w k) rest c l q = absurd (cc)
 source_tells (Some ys) (Going w k) rest c l q =
     let S : Stream = record { window = w; bytes = ys } in
