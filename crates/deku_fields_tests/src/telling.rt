@@ -6,6 +6,7 @@ use deku_fields::tell_fault;
 use std::alloc::Global;
 use std::io;
 use std::io::ErrorKind;
+use std::process::Abort;
 
 // Each kind of io error.
 const KINDS: [ErrorKind; 42] = [
