@@ -1,9 +1,11 @@
 -- Words of a command line, one after the other.
-use Rattle.std.proofs.Common.{◌≡◌, ℕ, zero, suc, ◌+◌, ◌<◌, List, [], ◌∷◌, ◌++◌, length, take, get_or, ap, sym, ◌∙◌, subst, arith}
+use Rattle.std.proofs.Common.{◌≡◌, ℕ, zero, suc, ◌+◌, ◌<◌, List, [], ◌∷◌, ◌++◌, length, take, get_or, refl, ap, sym, ◌∙◌, subst, inl, inr, arith, Option}
 use Rattle.std.proofs.lemmas.List.{take_more, map-append, get_or-map}
 use Rattle.std.specs.List.{AllZip}
 use Rattle.std.specs.Prelude.{String, string_bytes}
-use Rattle.deku_fields.specs.Runs.{words_of}
+use Rattle.deku_fields.specs.declared.program.Failure.{Failure}
+use Rattle.deku_fields.specs.declared.program.Failure.TheVariants.{Usage, BadText, Fault}
+use Rattle.deku_fields.specs.Runs.{words_of, AreForm, AreNoForm, IsBegun, status_of, message}
 
 zip_more : {A B : Type 0} (P : A → B → Type 0) (xs : List A) (ys : List B) (x : A) (y : B) → AllZip P xs ys → P x y → AllZip P (xs ++ x ∷ []) (ys ++ y ∷ [])
 zip_more P [] [] x y z p = (p, tt)
@@ -35,3 +37,26 @@ no_list P texts i d word l e nothing ys z =
     length_words : {S : Type 0} (texts : List (String S)) → length (words_of texts) ≡ length texts
     length_words [] = omega arith
     length_words (t ∷ ts) = ap suc (length_words ts)
+
+-- ---- forms
+-- words of a form are not of none
+pub not_both : (words : List (List ℕ)) → AreForm words → AreNoForm words → ⊥
+not_both [] form none = form
+not_both (name ∷ words) (inl form) none = none.0 form.0 form.1.0 form.1.1
+not_both (name ∷ words) (inr form) none = none.1 form.0 form.1.0 form.1.1
+
+-- words that are not of a form are of none
+pub of_none : (words : List (List ℕ)) → (AreForm words → ⊥) → AreNoForm words
+of_none [] h = tt
+of_none (name ∷ words) h = (λ is items named. h (inl (is, (items, named))), λ is fields named. h (inr (is, (fields, named))))
+
+-- ---- statuses
+-- the status is 2 for the usage alone
+pub usage_is : (f : Failure) → status_of f ≡ 2 → f ≡ Usage
+usage_is Usage e = refl
+usage_is BadText e = absurd (omega (arith, e))
+usage_is (Fault fault) e = absurd (omega (arith, e))
+
+-- the usage is told where the status is 2
+pub usage_told : (f : Failure) (a b : Option (List ℕ)) → status_of f ≡ 2 → IsBegun a b (message f) → IsBegun a b (message Usage)
+usage_told f a b e told = subst (λ x. IsBegun a b (message x)) (usage_is f e) told

@@ -1,5 +1,5 @@
 -- What a run of the program does: the words that it is given, the text that it reads and the text that it writes.
-use Rattle.std.specs.Prelude.{◌≡◌, ◌⊎◌, ℕ, ◌<◌, List, [], ◌∷◌, ◌++◌, length, map, flat_map, Ok, Err, Option, Some, None, IfSome, String, string_bytes, decimal, codes, ⊤}
+use Rattle.std.specs.Prelude.{◌≡◌, ◌⊎◌, ℕ, ◌<◌, List, [], ◌∷◌, ◌++◌, length, map, flat_map, Ok, Err, Option, IfSome, String, string_bytes, decimal, codes, ⊤}
 use Rattle.std.specs.Fmt.{signed_decimal}
 use Rattle.std.specs.List.{AllZip}
 use Rattle.std.specs.Global.{Vec}
@@ -21,6 +21,7 @@ use Rattle.deku_fields.specs.declared.list.Number.TheVariants.{Unsigned, Signed}
 use Rattle.deku_fields.specs.ListCalls.{ListFrom, WritesItems, WritesWhole}
 use Rattle.deku_fields.specs.Naming.{NamesField, NamesItem}
 use Rattle.deku_fields.specs.Promise.{LaidOut, ReadsBackFrom}
+use Rattle.deku_fields.specs.Told.{fault_text}
 
 -- the bytes of texts
 abbrev pub words_of : {A : Type 0} → List (String A) → List (List ℕ)
@@ -47,6 +48,10 @@ number_text (Signed z) = signed_decimal z
 -- the inner text is the text without one newline at its end, where it has one
 abbrev pub LosesNewline : List ℕ → List ℕ → Type 0
 LosesNewline text inner = (text ≡ line inner) ⊎ ((text ≡ inner) × ((front : List ℕ) → text ≡ line front → ⊥))
+
+-- the line of a fault, with more after its text
+abbrev pub fault_line : DekuError → List ℕ → List ℕ
+fault_line fault more = line (codes "error: " ++ (fault_text fault ++ more))
 
 -- the text shows bytes in hexadecimal
 pub record IsHexText (text bytes : List ℕ) : Type 0 where
@@ -98,14 +103,23 @@ pub record IsUnfinished (words : List (List ℕ)) (input before after : Option (
   pub asked : Asks words input text
   pub cut : IsCutShort before after text
 
--- the text that the words ask for was known
-abbrev pub IsKnown : List (List ℕ) → Option (List ℕ) → Type 0
-IsKnown words input = (text : List ℕ) × Asks words input text
-
 -- the first word is `read`
 abbrev pub AsksToRead : List (List ℕ) → Type 0
 AsksToRead [] = ⊥
 AsksToRead (name ∷ words) = name ≡ codes "read"
+
+-- the words name items, one each
+abbrev pub AreItems : List (List ℕ) → Type 0
+AreItems words = (items : List Item) × AllZip NamesItem words items
+
+-- the words name fields, one each
+abbrev pub AreFields : List (List ℕ) → Type 0
+AreFields words = (fields : List Field) × AllZip NamesField words fields
+
+-- the words are `write` and items, or `read` and fields
+abbrev pub AreForm : List (List ℕ) → Type 0
+AreForm [] = ⊥
+AreForm (name ∷ words) = ((name ≡ codes "write") × AreItems words) ⊎ ((name ≡ codes "read") × AreFields words)
 
 -- the words are neither `write` and items nor `read` and fields
 abbrev pub AreNoForm : List (List ℕ) → Type 0
@@ -159,12 +173,19 @@ pub record FieldsStop (words : List (List ℕ)) (input : Option (List ℕ)) (e :
 abbrev pub ReadingStops : List (List ℕ) → Option (List ℕ) → Failure → Type 0
 ReadingStops words input e = ((e ≡ Usage) × ((fields : List Field) → AllZip NamesField words fields → ⊥)) ⊎ (e ≡ Fault (Io OutOfMemory)) ⊎ FieldsStop words input e
 
--- what stands in the way of the words: that they are of no form, what they ask for, or the output, when the text is known
+-- what stands in the way of the words: that they are of no form, or what they ask for
 abbrev pub Stops : List (List ℕ) → Option (List ℕ) → Failure → Type 0
 Stops words input e = ((e ≡ Usage) × AreNoForm words)
     ⊎ ((names : List (List ℕ)) × (words ≡ codes "write" ∷ names) × WritingStops names e)
     ⊎ ((names : List (List ℕ)) × (words ≡ codes "read" ∷ names) × ReadingStops names input e)
-    ⊎ ((kind : ErrorKind) × (e ≡ Fault (Io kind)) × IsKnown words input)
+
+-- the output failed, and was not given the text that the words ask for to its end
+abbrev pub OutputStops : List (List ℕ) → Option (List ℕ) → Option (List ℕ) → Option (List ℕ) → Failure → Type 0
+OutputStops words input before after e = (kind : ErrorKind) × (e ≡ Fault (Io kind)) × IsUnfinished words input before after
+
+-- something stands in the way before the output is given any text, or the output fails
+abbrev pub RunEnds : List (List ℕ) → Option (List ℕ) → Option (List ℕ) → Option (List ℕ) → Failure → Type 0
+RunEnds words input before after e = (Stops words input e × (after ≡ before)) ⊎ OutputStops words input before after e
 
 -- the status of a run that ends so: 2 where the words are of no form, else 1
 abbrev pub status_of : Failure → ℕ
@@ -172,16 +193,15 @@ status_of Usage = 2
 status_of BadText = 1
 status_of (Fault fault) = 1
 
--- what it is told as; the text of a fault is left open
-abbrev pub message : Failure → Option (List ℕ)
-message Usage = Some (line (codes "usage: fields read|write SPEC.."))
-message BadText = Some (line (codes "error: bad hexadecimal text"))
-message (Fault fault) = None
+-- the line that it is told as
+abbrev pub message : Failure → List ℕ
+message Usage = line (codes "usage: fields read|write SPEC..")
+message BadText = line (codes "error: bad hexadecimal text")
+message (Fault fault) = fault_line fault []
 
--- Something stands in the way of the words that a run ends with 1 for, so not their form; and what was told of it, where its text is fixed, is a
--- beginning of its line.
-pub record IsStopped (words : List (List ℕ)) (input before after : Option (List ℕ)) : Type 0 where
+-- A run ends with 1 for this failure, by what its output held before and after it; and what `errors` took is a beginning of the line of that failure.
+pub record IsStopped (words : List (List ℕ)) (input out_before out_after errors_before errors_after : Option (List ℕ)) : Type 0 where
   pub failure : Failure
-  pub stops : Stops words input failure
+  pub ends : RunEnds words input out_before out_after failure
   pub one : status_of failure ≡ 1
-  pub told : IfSome (message failure) (IsBegun before after)
+  pub told : IsBegun errors_before errors_after (message failure)

@@ -8,6 +8,7 @@ mod list;
 mod picture;
 mod program;
 mod read;
+mod telling;
 mod words;
 mod write;
 
@@ -18,5 +19,6 @@ pub use list::{Field, Item, Kind, Number};
 pub use picture::{Place, places};
 pub use program::{give_text, run};
 pub use read::{list_from_bytes, read_list, read_list_into};
+pub use telling::{give_parts, tell_fault};
 pub use words::{parse_field, parse_item};
 pub use write::{list_to_bytes, write_list};

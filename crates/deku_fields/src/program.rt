@@ -1,6 +1,6 @@
 //! The program: from words on a command line to bytes and back.
 
-ghost use Rattle.std.specs.Prelude.{◌≡◌, ◌⊎◌, ◌≤◌, List, flat_map, IfSome, IfOk, OnOk, IfErr, OnErr, string_bytes};
+ghost use Rattle.std.specs.Prelude.{◌≡◌, ◌⊎◌, ◌↔◌, ◌≤◌, List, flat_map, Err, IfOk, OnOk, IfErr, OnErr, IsTrue, string_bytes};
 ghost use Rattle.std.specs.List.{AllZip};
 ghost use Rattle.std.specs.Io.KnownBytes.{Appends};
 ghost use Rattle.std.specs.IoError.{error_kind};
@@ -9,11 +9,12 @@ ghost use Rattle.deku_bits.specs.declared.error.DekuError.TheVariants.{Io};
 ghost use Rattle.deku_fields.specs.declared.program.Failure.TheVariants.{Fault, Usage};
 ghost use Rattle.deku_fields.specs.declared.list.Field.{Field as ListField};
 ghost use Rattle.deku_fields.specs.Naming.{NamesField};
-ghost use Rattle.deku_fields.specs.Runs.{words_of, line, number_text, status_of, message, IsDone, Asks, AsksToRead, AreNoForm, ShowsRead, ShowsWritten, ReadingStops, WritingStops, Stops, IsStopped, IsBegun, IsCutShort, IsUnfinished};
+ghost use Rattle.deku_fields.specs.Runs.{words_of, line, number_text, status_of, message, IsDone, Asks, AsksToRead, AreItems, AreFields, AreForm, AreNoForm, ShowsRead, ShowsWritten, ReadingStops, WritingStops, Stops, RunEnds, IsStopped, IsBegun, IsCutShort, IsUnfinished};
 
 use crate::input::read_hex_text;
 use crate::list::{Field, Item, Number};
 use crate::read::list_from_bytes;
+use crate::telling::tell_fault;
 use crate::words::{parse_field, parse_item};
 use crate::write::list_to_bytes;
 use deku::DekuError;
@@ -72,8 +73,8 @@ impl From<AllocError> for Failure {
 /// newline at its end, and prints the value of each field on a line of its own, and then how many bits were read.
 ///
 /// A run that is not done is told of in one line on `errors`: the usage with status 2, and with status 1 `error: bad hexadecimal text`
-/// or `error: ` and the text of the fault. The arguments are looked at before the input, and nothing goes to the output until all of the
-/// text is known, so it gains nothing then but what a failing output took. A fault of `errors` changes nothing.
+/// or `error: ` and the text of the fault. The arguments are looked at before the input and before any memory is taken, and nothing goes to
+/// the output until all of the text is known, so it gains nothing then but what a failing output took. A fault of `errors` changes nothing.
 ///
 /// ```text
 /// write u8,big,bits4=6 u8,big,bits4=9 u16,big=49406   // prints 69c0fe, status 0
@@ -91,8 +92,9 @@ pub fn run<R: Read, W: Write, E: Write>(
     ensures done { result ≡ 0 → IsDone (words_of args.now) (R.remaining input.old) (W.contents output.old) (W.contents output.new) }
     ensures quiet { result ≡ 0 → errors.new ≡ errors.old }
     ensures usage { result ≡ 2 → AreNoForm (words_of args.now) × (input.new ≡ input.old) × (output.new ≡ output.old) }
-    ensures told { result ≡ 2 → IfSome (message Usage) (IsBegun (E.contents errors.old) (E.contents errors.new)) }
-    ensures stopped { result ≡ 1 → IsStopped (words_of args.now) (R.remaining input.old) (E.contents errors.old) (E.contents errors.new) }
+    ensures formed { AreNoForm (words_of args.now) → result ≡ 2 }
+    ensures told { result ≡ 2 → IsBegun (E.contents errors.old) (E.contents errors.new) (message Usage) }
+    ensures stopped { result ≡ 1 → IsStopped (words_of args.now) (R.remaining input.old) (W.contents output.old) (W.contents output.new) (E.contents errors.old) (E.contents errors.new) }
     ensures kept { result ≡ 1 → (output.new ≡ output.old) ⊎ IsUnfinished (words_of args.now) (R.remaining input.old) (W.contents output.old) (W.contents output.new) }
     ensures unread { AsksToRead (words_of args.now) ⊎ (input.new ≡ input.old) }
 {
@@ -115,13 +117,13 @@ fn status_of(failure: &Failure) -> u8
 
 // Tells of a failure in a line, of which `errors` takes a beginning where it fails.
 fn complain<E: Write>(errors: &mut E, failure: &Failure) -> io::Result<()>
-    ensures told { OnOk result (IfSome (message failure.now) (Appends (E.contents errors.old) (E.contents errors.new))) }
-    ensures begun { IfSome (message failure.now) (IsBegun (E.contents errors.old) (E.contents errors.new)) }
+    ensures told { OnOk result (Appends (E.contents errors.old) (E.contents errors.new) (message failure.now)) }
+    ensures begun { IsBegun (E.contents errors.old) (E.contents errors.new) (message failure.now) }
 {
     match failure {
         Failure::Usage => give_text(errors, b"usage: fields read|write SPEC..\n"),
         Failure::BadText => give_text(errors, b"error: bad hexadecimal text\n"),
-        Failure::Fault(fault) => writeln!(errors, "error: {fault}"),
+        Failure::Fault(fault) => tell_fault(errors, fault, &[]),
     }
 }
 
@@ -160,14 +162,56 @@ fn command<R: Read, W: Write>(
     output: &mut W,
 ) -> Result<(), Failure>
     ensures done { OnOk result (IsDone (words_of args.now) (R.remaining input.old) (W.contents output.old) (W.contents output.new)) }
-    ensures stops { IfErr result (λ e. Stops (words_of args.now) (R.remaining input.old) e) }
+    ensures formed { AreNoForm (words_of args.now) → result ≡ Err Usage }
+    ensures ends { IfErr result (RunEnds (words_of args.now) (R.remaining input.old) (W.contents output.old) (W.contents output.new)) }
     ensures usage { IfErr result (λ e. e ≡ Usage → AreNoForm (words_of args.now) × (input.new ≡ input.old) × (output.new ≡ output.old)) }
     ensures kept { OnErr result ((output.new ≡ output.old) ⊎ IsUnfinished (words_of args.now) (R.remaining input.old) (W.contents output.old) (W.contents output.new)) }
     ensures unread { AsksToRead (words_of args.now) ⊎ (input.new ≡ input.old) }
 {
+    if !are_form(args) {
+        return Err(Failure::Usage);
+    }
     let text = asked(alloc, args, input)?;
     give_text(output, text.as_bytes())?;
     Ok(())
+}
+
+// Whether the words are of a form that the program knows. This takes no memory, so that words of no form are told as such whatever memory there is.
+fn are_form(args: &[String]) -> bool
+    ensures { IsTrue result ↔ AreForm (words_of args.now) }
+{
+    let [name, specs @ ..] = args else {
+        return false;
+    };
+    match name.as_str() {
+        "write" => are_items(specs),
+        "read" => are_fields(specs),
+        _ => false,
+    }
+}
+
+// Whether each word names an item.
+fn are_items(specs: &[String]) -> bool
+    ensures { IsTrue result ↔ AreItems (words_of specs.now) }
+{
+    for word in specs {
+        let Some(_) = parse_item(word.as_str()) else {
+            return false;
+        };
+    }
+    true
+}
+
+// Whether each word names a field.
+fn are_fields(specs: &[String]) -> bool
+    ensures { IsTrue result ↔ AreFields (words_of specs.now) }
+{
+    for word in specs {
+        let Some(_) = parse_field(word.as_str()) else {
+            return false;
+        };
+    }
+    true
 }
 
 // The text that the words ask for.

@@ -14,4 +14,6 @@ mod list;
 #[cfg(test)]
 mod picture;
 #[cfg(test)]
+mod telling;
+#[cfg(test)]
 mod words;

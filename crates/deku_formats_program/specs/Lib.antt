@@ -1,3 +1,4 @@
 pub mod Forms
 pub mod Shown
+pub mod Refusals
 pub mod Runs

@@ -1,10 +1,10 @@
 -- What a run of the program does: the words that it is given, the text that it reads and the text that it writes.
-use Rattle.std.specs.Prelude.{◌≡◌, ◌⊎◌, ℕ, List, [], ◌∷◌, flat_map, Option, Some, None, IfSome, codes, ⊤}
+use Rattle.std.specs.Prelude.{◌≡◌, ◌⊎◌, ℕ, List, [], ◌∷◌, flat_map, Option, IfSome, codes, decimal, ⊤, ◌++◌}
 use Rattle.std.specs.Io.KnownBytes.{Appends}
 use Rattle.std.specs.declared.io.ErrorKind.{ErrorKind}
 use Rattle.std.specs.declared.io.ErrorKind.TheVariants.{OutOfMemory}
 use Rattle.deku_bits.specs.declared.error.DekuError.TheVariants.{Io}
-use Rattle.deku_fields.specs.Runs.{line, IsHexText, IsNoHexText, IsBegun, IsCutShort}
+use Rattle.deku_fields.specs.Runs.{line, fault_line, IsHexText, IsNoHexText, IsBegun, IsCutShort}
 use Rattle.deku_formats_program.specs.declared.words.Format.{Format}
 use Rattle.deku_formats_program.specs.declared.words.Asked.{Asked}
 use Rattle.deku_formats_program.specs.declared.words.Asked.TheVariants.{Names, Help, Record}
@@ -12,10 +12,18 @@ use Rattle.deku_formats_program.specs.declared.program.Failure.{Failure}
 use Rattle.deku_formats_program.specs.declared.program.Failure.TheVariants.{Usage, BadText, Fault, Refused}
 use Rattle.deku_formats_program.specs.Forms.{AskFor, AreNoForm}
 use Rattle.deku_formats_program.specs.Shown.{Telling}
+use Rattle.deku_formats_program.specs.Refusals.{Stopping}
 
 -- the names of the formats
 abbrev pub names : List (List ℕ)
 names = codes "can" ∷ codes "ccsds" ∷ codes "dns" ∷ codes "elf" ∷ codes "ipv4" ∷ codes "png" ∷ codes "riscv" ∷ codes "udp" ∷ []
+
+-- the lines of the help
+abbrev pub help : List (List ℕ)
+help = codes "formats         prints the names of the formats"
+    ∷ codes "formats NAME    reads hexadecimal text, prints the fields of the record that it begins with,"
+    ∷ codes "                writes them back, and says whether that is what was read"
+    ∷ codes "formats --help  prints this" ∷ []
 
 -- the input shows bytes in hexadecimal, where it is known, and the text tells of the record that they begin with
 pub record TellsInput (tells : Telling) (input : Option (List ℕ)) (text : List ℕ) : Type 0 where
@@ -23,10 +31,10 @@ pub record TellsInput (tells : Telling) (input : Option (List ℕ)) (text : List
   pub given : IfSome input (λ shown. IsHexText shown bytes)
   pub told : tells bytes text
 
--- the text is what is asked for, by what is told of each format's records; that of the help is left open
+-- the text is what is asked for, by what is told of each format's records
 abbrev pub IsShown : (Format → Telling) → Asked → Option (List ℕ) → List ℕ → Type 0
 IsShown tells Names input text = text ≡ flat_map line names
-IsShown tells Help input text = ⊤
+IsShown tells Help input text = text ≡ flat_map line help
 IsShown tells (Record format) input text = TellsInput (tells format) input text
 
 -- the words ask for this text
@@ -45,10 +53,6 @@ pub record IsUnfinished (tells : Format → Telling) (words : List (List ℕ)) (
   pub asked : Asks tells words input text
   pub cut : IsCutShort before after text
 
--- the text that the words ask for was known
-abbrev pub IsKnown : (Format → Telling) → List (List ℕ) → Option (List ℕ) → Type 0
-IsKnown tells words input = (text : List ℕ) × Asks tells words input text
-
 -- a record is asked for
 abbrev pub IsRecord : Asked → Type 0
 IsRecord Names = ⊥
@@ -63,28 +67,27 @@ AsksForRecord words = (f : Format) × AskFor words (Record f)
 abbrev pub InputStops : Option (List ℕ) → Failure → Type 0
 InputStops input e = ((e ≡ BadText) × IfSome input IsNoHexText) ⊎ ((kind : ErrorKind) × (e ≡ Fault (Io kind)))
 
--- a failure of a record, or of memory for it
-abbrev pub IsOfRecord : Failure → Type 0
-IsOfRecord Usage = ⊥
-IsOfRecord BadText = ⊥
-IsOfRecord (Fault fault) = ⊤
-IsOfRecord (Refused fault field bit) = ⊤
+-- the input shows bytes, where it is known, and this stands in the way of the record that they begin with
+abbrev pub RecordStops : Stopping → Option (List ℕ) → Failure → Type 0
+RecordStops stops input e = (bytes : List ℕ) × IfSome input (λ shown. IsHexText shown bytes) × stops bytes e
 
--- the input shows bytes, where it is known, and their record or the memory failed
-abbrev pub RecordStops : Option (List ℕ) → Failure → Type 0
-RecordStops input e = (bytes : List ℕ) × IfSome input (λ shown. IsHexText shown bytes) × IsOfRecord e
+-- what stands in the way of a text: the memory, and of a record the input or what stands in the way of that format's records
+abbrev pub TextStops : (Format → Stopping) → Asked → Option (List ℕ) → Failure → Type 0
+TextStops stops Names input e = e ≡ Fault (Io OutOfMemory)
+TextStops stops Help input e = e ≡ Fault (Io OutOfMemory)
+TextStops stops (Record format) input e = InputStops input e ⊎ RecordStops (stops format) input e
 
--- what stands in the way of a text: the memory, and of a record the input or the record itself
-abbrev pub TextStops : Asked → Option (List ℕ) → Failure → Type 0
-TextStops Names input e = e ≡ Fault (Io OutOfMemory)
-TextStops Help input e = e ≡ Fault (Io OutOfMemory)
-TextStops (Record format) input e = InputStops input e ⊎ RecordStops input e
+-- what stands in the way of the words: that they are of no form, or what they ask for
+abbrev pub Stops : (Format → Stopping) → List (List ℕ) → Option (List ℕ) → Failure → Type 0
+Stops stops words input e = ((e ≡ Usage) × AreNoForm words) ⊎ ((asked : Asked) × AskFor words asked × TextStops stops asked input e)
 
--- what stands in the way of the words: that they are of no form, what they ask for, or the output, when the text is known
-abbrev pub Stops : (Format → Telling) → List (List ℕ) → Option (List ℕ) → Failure → Type 0
-Stops tells words input e = ((e ≡ Usage) × AreNoForm words)
-    ⊎ ((asked : Asked) × AskFor words asked × TextStops asked input e)
-    ⊎ ((kind : ErrorKind) × (e ≡ Fault (Io kind)) × IsKnown tells words input)
+-- the output failed, and was not given the text that the words ask for to its end
+abbrev pub OutputStops : (Format → Telling) → List (List ℕ) → Option (List ℕ) → Option (List ℕ) → Option (List ℕ) → Failure → Type 0
+OutputStops tells words input before after e = (kind : ErrorKind) × (e ≡ Fault (Io kind)) × IsUnfinished tells words input before after
+
+-- something stands in the way before the output is given any text, or the output fails
+abbrev pub RunEnds : (Format → Telling) → (Format → Stopping) → List (List ℕ) → Option (List ℕ) → Option (List ℕ) → Option (List ℕ) → Failure → Type 0
+RunEnds tells stops words input before after e = (Stops stops words input e × (after ≡ before)) ⊎ OutputStops tells words input before after e
 
 -- the status of a run that ends so: 2 where the words are of no form, else 1
 abbrev pub status_of : Failure → ℕ
@@ -93,17 +96,16 @@ status_of BadText = 1
 status_of (Fault fault) = 1
 status_of (Refused fault field bit) = 1
 
--- what it is told as; the text of a fault is left open
-abbrev pub message : Failure → Option (List ℕ)
-message Usage = Some (line (codes "usage: formats [NAME]"))
-message BadText = Some (line (codes "error: bad hexadecimal text"))
-message (Fault fault) = None
-message (Refused fault field bit) = None
+-- the line that it is told as
+abbrev pub message : Failure → List ℕ
+message Usage = line (codes "usage: formats [NAME]")
+message BadText = line (codes "error: bad hexadecimal text")
+message (Fault fault) = fault_line fault []
+message (Refused fault field bit) = fault_line fault (codes ", in " ++ (field.now ++ (codes ", at bit " ++ decimal bit)))
 
--- Something stands in the way of the words that a run ends with 1 for, so not their form; and what was told of it, where its text is fixed, is a
--- beginning of its line.
-pub record IsStopped (tells : Format → Telling) (words : List (List ℕ)) (input before after : Option (List ℕ)) : Type 0 where
+-- A run ends with 1 for this failure, by what its output held before and after it; and what `errors` took is a beginning of the line of that failure.
+pub record IsStopped (tells : Format → Telling) (stops : Format → Stopping) (words : List (List ℕ)) (input out_before out_after errors_before errors_after : Option (List ℕ)) : Type 0 where
   pub failure : Failure
-  pub stops : Stops tells words input failure
+  pub ends : RunEnds tells stops words input out_before out_after failure
   pub one : status_of failure ≡ 1
-  pub told : IfSome (message failure) (IsBegun before after)
+  pub told : IsBegun errors_before errors_after (message failure)

@@ -40,8 +40,8 @@ pub record TellsOf {V : Type 0} (pieces : V → List Piece → Type 0) (bytes te
 abbrev pub Telling : Type 1
 Telling = List ℕ → List ℕ → Type 0
 
--- of what is told of each format's records, that of this format
-abbrev pub of_format : (can ccsds dns elf ipv4 png riscv udp : Telling) → Format → Telling
+-- of what is so of each format's records, that of this format
+abbrev pub of_format : {A : Type 1} → (can ccsds dns elf ipv4 png riscv udp : A) → Format → A
 of_format can ccsds dns elf ipv4 png riscv udp Can = can
 of_format can ccsds dns elf ipv4 png riscv udp Ccsds = ccsds
 of_format can ccsds dns elf ipv4 png riscv udp Dns = dns

@@ -1,6 +1,6 @@
 //! The program: from the name of a format and hexadecimal text to the fields of a record, and back to its bytes.
 
-ghost use Rattle.std.specs.Prelude.{◌≡◌, ◌⊎◌, ◌≤◌, IfSome, IfOk, OnOk, IfErr, OnErr, string_bytes};
+ghost use Rattle.std.specs.Prelude.{◌≡◌, ◌⊎◌, ◌≤◌, Err, IfOk, OnOk, IfErr, OnErr, string_bytes};
 ghost use Rattle.std.specs.Io.KnownBytes.{Appends};
 ghost use Rattle.std.specs.IoError.{error_kind};
 ghost use Rattle.std.specs.declared.io.ErrorKind.TheVariants.{OutOfMemory};
@@ -10,15 +10,16 @@ ghost use Rattle.deku_formats_program.specs.declared.words.Format.{Format as Kno
 ghost use Rattle.deku_formats_program.specs.declared.program.Failure.TheVariants.{Fault, Usage};
 ghost use Rattle.deku_formats_program.specs.Forms.{AreNoForm};
 ghost use Rattle.deku_formats_program.specs.Shown.{GainsVerdict, Telling, TellsOf, of_format};
-ghost use Rattle.deku_formats_program.specs.Runs.{status_of, message, IsDone, IsUnfinished, IsShown, IsRecord, IsOfRecord, AsksForRecord, TextStops, Stops, IsStopped};
+ghost use Rattle.deku_formats_program.specs.Refusals.{IsRefused, Stopping, StopsOf};
+ghost use Rattle.deku_formats_program.specs.Runs.{status_of, message, IsDone, IsUnfinished, IsShown, IsRecord, AsksForRecord, TextStops, RunEnds, IsStopped};
 
 use crate::compared::first_difference;
 use crate::shown::Shown;
 use crate::words::{Asked, Format, parse_words};
-use deku::prelude::{DekuError, DekuReader, Reader};
+use deku::prelude::{DekuError, DekuReader, DekuWriter, Reader};
 use deku_dns::query::Query;
 use deku_elf::Elf;
-use deku_fields::{give_text, read_hex_text};
+use deku_fields::{give_text, read_hex_text, tell_fault};
 use deku_formats::can::Chassis;
 use deku_formats::ccsds::Telemetry;
 use deku_formats::ipv4::Ipv4;
@@ -26,6 +27,7 @@ use deku_formats::png::Png;
 use deku_formats::udp::Udp;
 use deku_instructions::riscv::instruction::Instruction;
 use deku_symmetry::Symmetric;
+use itoa::Buffer;
 use std::alloc::{AllocError, AllocFailed, Global};
 use std::fmt::Write as _;
 use std::io;
@@ -80,6 +82,9 @@ impl From<AllocError> for Failure {
 pub trait Told {
     // Which text tells of the record of this format that bytes begin with.
     ghost tells: { KnownFormat → Telling };
+
+    // What stands in the way of the record of this format that bytes begin with.
+    ghost stops: { KnownFormat → Stopping };
 }
 
 /// The records that the program knows.
@@ -95,6 +100,16 @@ impl Told for Records {
         (TellsOf (λ v. ⟦<Png as Symmetric<()>>⟧.pieces v tt))
         (TellsOf (λ v. ⟦<Instruction as Symmetric<()>>⟧.pieces v tt))
         (TellsOf (λ v. ⟦<Udp as Symmetric<()>>⟧.pieces v tt)) };
+
+    ghost stops = { of_format
+        (StopsOf (⟦<Chassis as DekuReader<()>>⟧.meaning tt) (λ v. ⟦<Chassis as Symmetric<()>>⟧.pieces v tt) (λ v. ⟦<Chassis as DekuWriter<()>>⟧.meaning v tt))
+        (StopsOf (⟦<Telemetry as DekuReader<()>>⟧.meaning tt) (λ v. ⟦<Telemetry as Symmetric<()>>⟧.pieces v tt) (λ v. ⟦<Telemetry as DekuWriter<()>>⟧.meaning v tt))
+        (StopsOf (⟦<Query as DekuReader<()>>⟧.meaning tt) (λ v. ⟦<Query as Symmetric<()>>⟧.pieces v tt) (λ v. ⟦<Query as DekuWriter<()>>⟧.meaning v tt))
+        (StopsOf (⟦<Elf as DekuReader<()>>⟧.meaning tt) (λ v. ⟦<Elf as Symmetric<()>>⟧.pieces v tt) (λ v. ⟦<Elf as DekuWriter<()>>⟧.meaning v tt))
+        (StopsOf (⟦<Ipv4 as DekuReader<()>>⟧.meaning tt) (λ v. ⟦<Ipv4 as Symmetric<()>>⟧.pieces v tt) (λ v. ⟦<Ipv4 as DekuWriter<()>>⟧.meaning v tt))
+        (StopsOf (⟦<Png as DekuReader<()>>⟧.meaning tt) (λ v. ⟦<Png as Symmetric<()>>⟧.pieces v tt) (λ v. ⟦<Png as DekuWriter<()>>⟧.meaning v tt))
+        (StopsOf (⟦<Instruction as DekuReader<()>>⟧.meaning tt) (λ v. ⟦<Instruction as Symmetric<()>>⟧.pieces v tt) (λ v. ⟦<Instruction as DekuWriter<()>>⟧.meaning v tt))
+        (StopsOf (⟦<Udp as DekuReader<()>>⟧.meaning tt) (λ v. ⟦<Udp as Symmetric<()>>⟧.pieces v tt) (λ v. ⟦<Udp as DekuWriter<()>>⟧.meaning v tt)) };
 }
 
 const NAMES: &str = "can\nccsds\ndns\nelf\nipv4\npng\nriscv\nudp\n";
@@ -131,8 +146,9 @@ pub fn run<R: Read, W: Write, E: Write>(
     ensures done { result ≡ 0 → IsDone ⟦<Records as Told>⟧.tells (words_of args.now) (R.remaining input.old) (W.contents output.old) (W.contents output.new) }
     ensures quiet { result ≡ 0 → errors.new ≡ errors.old }
     ensures usage { result ≡ 2 → AreNoForm (words_of args.now) × (input.new ≡ input.old) × (output.new ≡ output.old) }
-    ensures told { result ≡ 2 → IfSome (message Usage) (IsBegun (E.contents errors.old) (E.contents errors.new)) }
-    ensures stopped { result ≡ 1 → IsStopped ⟦<Records as Told>⟧.tells (words_of args.now) (R.remaining input.old) (E.contents errors.old) (E.contents errors.new) }
+    ensures formed { AreNoForm (words_of args.now) → result ≡ 2 }
+    ensures told { result ≡ 2 → IsBegun (E.contents errors.old) (E.contents errors.new) (message Usage) }
+    ensures stopped { result ≡ 1 → IsStopped ⟦<Records as Told>⟧.tells ⟦<Records as Told>⟧.stops (words_of args.now) (R.remaining input.old) (W.contents output.old) (W.contents output.new) (E.contents errors.old) (E.contents errors.new) }
     ensures kept { result ≡ 1 → (output.new ≡ output.old) ⊎ IsUnfinished ⟦<Records as Told>⟧.tells (words_of args.now) (R.remaining input.old) (W.contents output.old) (W.contents output.new) }
     ensures unread { AsksForRecord (words_of args.now) ⊎ (input.new ≡ input.old) }
 {
@@ -155,15 +171,17 @@ fn status_of(failure: &Failure) -> u8
 
 // Tells of a failure in a line, of which `errors` takes a beginning where it fails.
 fn complain<E: Write>(errors: &mut E, failure: &Failure) -> io::Result<()>
-    ensures told { OnOk result (IfSome (message failure.now) (Appends (E.contents errors.old) (E.contents errors.new))) }
-    ensures begun { IfSome (message failure.now) (IsBegun (E.contents errors.old) (E.contents errors.new)) }
+    ensures told { OnOk result (Appends (E.contents errors.old) (E.contents errors.new) (message failure.now)) }
+    ensures begun { IsBegun (E.contents errors.old) (E.contents errors.new) (message failure.now) }
 {
     match failure {
         Failure::Usage => give_text(errors, b"usage: formats [NAME]\n"),
         Failure::BadText => give_text(errors, b"error: bad hexadecimal text\n"),
-        Failure::Fault(fault) => writeln!(errors, "error: {fault}"),
+        Failure::Fault(fault) => tell_fault(errors, fault, &[]),
         Failure::Refused(fault, field, bit) => {
-            writeln!(errors, "error: {fault}, in {field}, at bit {bit}")
+            let mut digits = Buffer::new();
+            let bit = digits.format(*bit);
+            tell_fault(errors, fault, &[", in ", *field, ", at bit ", bit])
         }
     }
 }
@@ -176,7 +194,8 @@ fn command<R: Read, W: Write>(
     output: &mut W,
 ) -> Result<(), Failure>
     ensures done { OnOk result (IsDone ⟦<Records as Told>⟧.tells (words_of args.now) (R.remaining input.old) (W.contents output.old) (W.contents output.new)) }
-    ensures stops { IfErr result (Stops ⟦<Records as Told>⟧.tells (words_of args.now) (R.remaining input.old)) }
+    ensures formed { AreNoForm (words_of args.now) → result ≡ Err Usage }
+    ensures ends { IfErr result (RunEnds ⟦<Records as Told>⟧.tells ⟦<Records as Told>⟧.stops (words_of args.now) (R.remaining input.old) (W.contents output.old) (W.contents output.new)) }
     ensures usage { IfErr result (λ e. e ≡ Usage → AreNoForm (words_of args.now) × (input.new ≡ input.old) × (output.new ≡ output.old)) }
     ensures kept { OnErr result ((output.new ≡ output.old) ⊎ IsUnfinished ⟦<Records as Told>⟧.tells (words_of args.now) (R.remaining input.old) (W.contents output.old) (W.contents output.new)) }
     ensures unread { AsksForRecord (words_of args.now) ⊎ (input.new ≡ input.old) }
@@ -192,7 +211,7 @@ fn command<R: Read, W: Write>(
 // The text that is asked for.
 fn text_of<R: Read>(alloc: Global, form: Asked, input: &mut R) -> Result<String, Failure>
     ensures shown { IfOk result (λ text. IsShown ⟦<Records as Told>⟧.tells form (R.remaining input.old) (string_bytes text)) }
-    ensures stops { IfErr result (TextStops form (R.remaining input.old)) }
+    ensures stops { IfErr result (TextStops ⟦<Records as Told>⟧.stops form (R.remaining input.old)) }
     ensures usage { IfErr result (λ e. e ≡ Usage → ⊥) }
     ensures unread { IsRecord form ⊎ (input.new ≡ input.old) }
 {
@@ -211,7 +230,7 @@ fn text_of<R: Read>(alloc: Global, form: Asked, input: &mut R) -> Result<String,
 // The text of the record of this format that the bytes begin with.
 fn record_text(alloc: Global, format: Format, bytes: &[u8]) -> Result<String, Failure>
     ensures told { IfOk result (λ text. ⟦<Records as Told>⟧.tells format bytes.now (string_bytes text)) }
-    ensures stops { IfErr result IsOfRecord }
+    ensures stops { IfErr result (⟦<Records as Told>⟧.stops format bytes.now) }
 {
     match format {
         Format::Can => shown::<Chassis>(alloc, bytes),
@@ -230,7 +249,7 @@ fn shown<T: Symmetric<()> + Shown>(alloc: Global, bytes: &[u8]) -> Result<String
     requires reads { T.DekuReader.accepts tt }
     requires writes { T.DekuWriter.accepts tt }
     ensures taken { IfOk result (λ text. TellsOf (λ v. T.pieces v tt) bytes.now (string_bytes text)) }
-    ensures stops { IfErr result IsOfRecord }
+    ensures stops { IfErr result (StopsOf (T.DekuReader.meaning tt) (λ v. T.pieces v tt) (λ v. T.DekuWriter.meaning v tt) bytes.now) }
 {
     let (bits, record) = match T::unpack(alloc, bytes, ()) {
         Ok(read) => read,
@@ -255,21 +274,27 @@ fn end(text: &mut String, read: &[u8], written: &[u8], left: usize) -> Result<()
     writeln!(text, "left {left}")
 }
 
-// This refusal of the bytes, with the field where it came and how many bits were read then: a check and an unknown id are of the field that was read, a count that is none is of the
-// field that says it, and else it came before the field was known.
-fn refused<T: DekuReader<()> + Shown>(alloc: Global, bytes: &[u8], fault: DekuError) -> Failure
+// This refusal of the bytes, read once more for the field where it comes and for how many bits are read then: a check and an unknown id are of the field that was read, a count that is
+// none is of the field that says it, and else it comes before the field is known. Where it does not come once more it is told alone.
+fn refused<T: DekuReader<()> + Shown>(alloc: Global, bytes: &[u8], refusal: DekuError) -> Failure
     requires { T.accepts tt }
-    ensures { IsOfRecord result }
+    ensures { (result ≡ Fault refusal) ⊎ IsRefused (T.meaning tt) bytes.now result }
 {
     let mut reader = Reader::new(alloc, Cursor::new(bytes));
-    let _ = T::from_reader_with_ctx(&mut reader, ());
+    let Err(fault) = T::from_reader_with_ctx(&mut reader, ()) else {
+        return Failure::Fault(refusal);
+    };
     let bits = reader.bits_read();
-    let field = match fault {
+    Failure::Refused(fault, field_of::<T>(fault, bits), bits)
+}
+
+// The field of a refusal that comes when so many bits are read.
+fn field_of<T: Shown>(fault: DekuError, bits: usize) -> &'static str {
+    match fault {
         DekuError::Assertion(_) | DekuError::IdVariantNotFound => {
             T::field_at(bits.saturating_sub(1))
         }
         DekuError::Parse(_) => T::counting().unwrap_or(T::field_at(bits)),
         _ => T::field_at(bits),
-    };
-    Failure::Refused(fault, field, bits)
+    }
 }

@@ -1,7 +1,6 @@
 -- The forms of the words: what stands in front of the fields, and what a run ends with.
-use Rattle.std.proofs.Common.{ℕ, ◌<◌, ◌≡◌, ◌≢◌, ◌⊎◌, List, [], ◌∷◌, length, codes, refl, ap, sym, ◌∙◌, subst, inl, inr, arith, Bor}
-use Rattle.std.proofs.lemmas.List.{length-map}
-use Rattle.std.specs.List.{AllZip}
+use Rattle.std.proofs.Common.{ℕ, zero, suc, get_or, slice_index_or, ◌<◌, ◌≡◌, ◌≢◌, ◌⊎◌, List, [], ◌∷◌, length, codes, refl, ap, sym, ◌∙◌, subst, inl, inr, arith, Bor, Option}
+use Rattle.std.specs.List.{AllZip, Contains}
 use Rattle.std.specs.Prelude.{String, string_bytes}
 use Rattle.std.specs.declared.io.ErrorKind.TheVariants.{OutOfMemory}
 use Rattle.deku_bits.specs.declared.error.DekuError.TheVariants.{Io}
@@ -11,8 +10,8 @@ use Rattle.deku_picture.specs.declared.program.Form.{Form}
 use Rattle.deku_picture.specs.declared.program.Form.TheVariants.{Table, Svg, Bytes}
 use Rattle.deku_picture.specs.declared.program.Failure.{Failure}
 use Rattle.deku_picture.specs.declared.program.Failure.TheVariants.{Usage, NoField, BadText, Fault}
-use Rattle.deku_picture.specs.Names.{Names, HasSpecs, AreNamed, AreNoForm}
-use Rattle.deku_picture.specs.Drawn.{AsksForBytes, IsForm, HasValues, HasShown, HasNotShown, Stops, IsFailure, status_of}
+use Rattle.deku_picture.specs.Names.{Names, HasSpecs, AreNamed, NameFields, AreNoForm, IsUnnamed}
+use Rattle.deku_picture.specs.Drawn.{AsksForBytes, IsForm, IsSplit, HasValues, HasShown, HasNotShown, IsFailure, RunEnds, status_of}
 
 -- the two options are two words
 two_words : (word : List ℕ) → word ≡ codes "--svg" → word ≡ codes "--bytes" → ⊥
@@ -62,8 +61,8 @@ no_bytes_form args [] first e named none specs h = go (subst (λ xs. HasSpecs (w
 no_bytes_form args (a ∷ rest) first e named none specs h = omega arith
 
 -- ---- what the words name
-pub are_named : {S : Type 0} (words : List (List ℕ)) (specs : List (String S)) (fields : List Field) → HasSpecs words (words_of specs) → 0 < length specs → AllZip Names (words_of specs) fields → AreNamed words fields
-are_named words specs fields h some named = record { specs = words_of specs; behind = h; some = omega (arith, length-map specs string_bytes); named = named }
+pub are_named : (words specs : List (List ℕ)) (fields : List Field) → HasSpecs words specs → 0 < length specs → AllZip Names specs fields → AreNamed words fields
+are_named words specs fields h some named = record { specs = specs; behind = h; some = some; named = named }
 
 pub none_named : (words specs : List (List ℕ)) → HasSpecs words specs → ((fields : List Field) → AllZip Names specs fields → ⊥) → AreNoForm words
 none_named words specs h none fields named = none fields (subst (λ ws. AllZip Names ws fields) (one_form words named.specs specs named.behind h) named.named)
@@ -90,17 +89,15 @@ stopped_by words (Bytes t) fields BadText named is h = inr (inl (record { fields
 stopped_by words (Bytes t) fields (Fault f) named is h = inr (inl (record { fields = fields; named = named; text = t.now; asked = is; stop = h }))
 
 -- ---- statuses
+pub fails : (words : List (List ℕ)) (a b : Option (List ℕ)) (e : Failure) → RunEnds words a b e → status_of e ≡ 2 → IsFailure words e
+fails words a b e (inl h) two = h.0
+fails words a b e (inr h) two = let one : status_of e ≡ 1 = ap status_of h.1 in absurd (omega (arith, one, two))
+
 pub no_form : (words : List (List ℕ)) (e : Failure) → IsFailure words e → status_of e ≡ 2 → AreNoForm words
 no_form words Usage h two = h
-no_form words (NoField w) h two = h
+no_form words (NoField w) h two = h.0
 no_form words BadText h two = absurd (omega arith)
 no_form words (Fault f) h two = absurd (omega arith)
-
-pub stops_one : (words : List (List ℕ)) (e : Failure) → IsFailure words e → status_of e ≡ 1 → Stops words e
-stops_one words Usage h one = absurd (omega arith)
-stops_one words (NoField w) h one = absurd (omega arith)
-stops_one words BadText h one = h
-stops_one words (Fault f) h one = h
 
 pub some_status : (e : Failure) → status_of e ≡ 0 → ⊥
 some_status Usage z = omega arith
@@ -108,13 +105,35 @@ some_status (NoField w) z = omega arith
 some_status BadText z = omega arith
 some_status (Fault f) z = omega arith
 
--- words that name no fields, or no memory for those that they name
-pub named_stop : (words specs : List (List ℕ)) (e : Failure) → HasSpecs words specs → ((status_of e ≡ 2) × ((fields : List Field) → AllZip Names specs fields → ⊥)) ⊎ (e ≡ Fault (Io OutOfMemory)) → IsFailure words e
-named_stop words specs Usage h (inl none) = none_named words specs h none.1
-named_stop words specs Usage h (inr full) = absurd (cc)
-named_stop words specs (NoField w) h (inl none) = none_named words specs h none.1
-named_stop words specs (NoField w) h (inr full) = absurd (cc)
-named_stop words specs BadText h (inl none) = let two = none.0 in absurd (omega arith)
-named_stop words specs BadText h (inr full) = absurd (cc)
-named_stop words specs (Fault f) h (inl none) = let two = none.0 in absurd (omega arith)
-named_stop words specs (Fault f) h (inr full) = inr (inr (inl full))
+-- fields that the words name, and no memory for them
+pub named_stop : (words specs : List (List ℕ)) (e : Failure) → NameFields specs → ((status_of e ≡ 2) × ((fields : List Field) → AllZip Names specs fields → ⊥)) ⊎ (e ≡ Fault (Io OutOfMemory)) → IsFailure words e
+named_stop words specs e are (inl none) = absurd (none.1 are.0 are.1)
+named_stop words specs e are (inr full) = subst (IsFailure words) (sym full) (inr (inr refl))
+
+-- words that are split into a form and fields are not of no form
+pub split_named : (words specs : List (List ℕ)) (form : Form) → IsSplit words specs form → AreNoForm words → ⊥
+split_named words specs form split none = none split.named.0 (record { specs = specs; behind = split.behind; some = split.some; named = split.named.1 })
+
+-- ---- words
+-- a text is one of the words
+pub contains_word : {S : Type 0} (texts : List (String S)) (i : ℕ) (d : String S) → i < length texts → Contains (words_of texts) (string_bytes (get_or texts i d))
+contains_word [] i d l = absurd (omega arith)
+contains_word (t ∷ texts) zero d l = (0, omega arith, refl)
+contains_word (t ∷ texts) (suc i) d l = let k = contains_word texts i d (omega arith) in (suc k.0, omega (arith, k.1), k.2)
+
+-- a word of those of the fields is one of all words
+contains_specs : (words specs : List (List ℕ)) (w : List ℕ) → HasSpecs words specs → Contains specs w → Contains words w
+contains_specs [] specs w h k = absurd h
+contains_specs (word ∷ words) specs w (inl p) k = let k = subst (λ ws. Contains ws w) p.1 k in (suc k.0, omega (arith, k.1), k.2)
+contains_specs (word ∷ words) specs w (inr (inl p)) k = subst (λ ws. Contains (word ∷ ws) w) (sym p.2) (suc (suc k.0), omega (arith, k.1), k.2)
+contains_specs (word ∷ words) specs w (inr (inr p)) k = subst (λ ws. Contains ws w) p.2 k
+
+-- where one of the words names no field, the words name no fields
+none_at : (specs : List (List ℕ)) (fields : List Field) (w : List ℕ) (k : ℕ) → k < length specs → slice_index_or specs k w ≡ w → ((f : Field) → Names w f → ⊥) → AllZip Names specs fields → ⊥
+none_at [] fields w k l e none named = absurd (omega arith)
+none_at (s ∷ specs) [] w k l e none named = absurd named
+none_at (s ∷ specs) (f ∷ fields) w zero l e none named = none f (subst (λ x. Names x f) e named.0)
+none_at (s ∷ specs) (f ∷ fields) w (suc k) l e none named = none_at specs fields w k (omega arith) e none named.1
+
+pub unnamed_form : (words specs : List (List ℕ)) (w : List ℕ) → HasSpecs words specs → IsUnnamed specs w → AreNoForm words × IsUnnamed words w
+unnamed_form words specs w h un = (none_named words specs h (λ fields named. none_at specs fields w un.0.0 un.0.1 un.0.2 un.1 named), (contains_specs words specs w h un.0, un.1))

@@ -1,5 +1,6 @@
 -- What a run of the program does: the words that it is given, and what it draws of them.
-use Rattle.std.specs.Prelude.{◌≡◌, ◌⊎◌, ℕ, List, ◌∷◌, Ok, Err, Option, Some, None, IfSome, codes, ⊤}
+use Rattle.std.specs.Prelude.{◌≡◌, ◌⊎◌, ℕ, ◌<◌, List, [], ◌∷◌, ◌++◌, length, Ok, Err, Option, IfSome, codes, ⊤}
+use Rattle.std.specs.Fmt.{debug_str}
 use Rattle.std.specs.Global.{Vec}
 use Rattle.std.specs.Io.KnownBytes.{Appends}
 use Rattle.std.specs.declared.io.ErrorKind.{ErrorKind}
@@ -12,12 +13,12 @@ use Rattle.deku_fields.specs.declared.list.Field.{Field}
 use Rattle.deku_fields.specs.declared.list.Number.{Number}
 use Rattle.deku_fields.specs.ListCalls.{ListFrom}
 use Rattle.deku_fields.specs.Places.{AreDrawable, IsUndrawable}
-use Rattle.deku_fields.specs.Runs.{line, IsBegun, IsCutShort}
+use Rattle.deku_fields.specs.Runs.{line, fault_line, IsBegun, IsCutShort}
 use Rattle.deku_picture.specs.declared.program.Failure.{Failure}
 use Rattle.deku_picture.specs.declared.program.Failure.TheVariants.{Usage, NoField, BadText, Fault}
 use Rattle.deku_picture.specs.declared.program.Form.{Form}
 use Rattle.deku_picture.specs.declared.program.Form.TheVariants.{Bytes}
-use Rattle.deku_picture.specs.Names.{AreNamed, AreNoForm}
+use Rattle.deku_picture.specs.Names.{HasSpecs, AreNamed, AreNoForm, NameFields, IsUnnamed}
 
 -- the words ask for the bits of the bytes that this text names
 abbrev pub AsksForBytes : List (List ℕ) → List ℕ → Type 0
@@ -27,6 +28,13 @@ AsksForBytes words text = (specs : List (List ℕ)) × (words ≡ codes "--bytes
 abbrev pub IsForm : List (List ℕ) → Form → Type 0
 IsForm words (Bytes text) = AsksForBytes words text.now
 IsForm words form = (text : List ℕ) → AsksForBytes words text → ⊥
+
+-- what is drawn, and the words of the fields, of which there is one at least, and each of which names one
+pub record IsSplit (words specs : List (List ℕ)) (form : Form) : Type 0 where
+  pub asked : IsForm words form
+  pub behind : HasSpecs words specs
+  pub some : 0 < length specs
+  pub named : NameFields specs
 
 -- the text names these bytes in hexadecimal, and the fields read these values from them
 pub record IsSample (fields : List Field) (text bytes : List ℕ) (values : Vec Number) : Type 0 where
@@ -96,16 +104,23 @@ pub record BytesStop (words : List (List ℕ)) (e : Failure) : Type 0 where
   pub asked : AsksForBytes words text
   pub stop : HasNoValues fields text e
 
--- what a run ends with 1 for: the fields, the bytes, the memory, or the output when the picture is known
+-- what a run ends with 1 for, but for the output: the fields, the bytes or the memory
 abbrev pub Stops : List (List ℕ) → Failure → Type 0
 Stops words e = HaveNoPicture words e ⊎ BytesStop words e ⊎ (e ≡ Fault (Io OutOfMemory))
-    ⊎ ((kind : ErrorKind) × (e ≡ Fault (Io kind)) × AreDrawn words)
 
--- what ends a run ends it with 2, since the words are of no form, or with 1
+-- what ends a run before the output ends it with 2, since the words are of no form, or with 1; a word that is told names no field
 abbrev pub IsFailure : List (List ℕ) → Failure → Type 0
 IsFailure words Usage = AreNoForm words
-IsFailure words (NoField word) = AreNoForm words
+IsFailure words (NoField word) = AreNoForm words × IsUnnamed words word.now
 IsFailure words e = Stops words e
+
+-- the output failed, and was not given the picture to its end
+abbrev pub OutputStops : List (List ℕ) → Option (List ℕ) → Option (List ℕ) → Failure → Type 0
+OutputStops words before after e = (kind : ErrorKind) × (e ≡ Fault (Io kind)) × IsUnfinished words before after
+
+-- something stands in the way before the output is given any text, or the output fails
+abbrev pub RunEnds : List (List ℕ) → Option (List ℕ) → Option (List ℕ) → Failure → Type 0
+RunEnds words before after e = (IsFailure words e × (after ≡ before)) ⊎ OutputStops words before after e
 
 -- the status of a run that ends so: 2 where the words are of no form, else 1
 abbrev pub status_of : Failure → ℕ
@@ -114,16 +129,44 @@ status_of (NoField word) = 2
 status_of BadText = 1
 status_of (Fault fault) = 1
 
--- what it is told as; the words and the text of a fault are left open
-abbrev pub message : Failure → Option (List ℕ)
-message Usage = Some (line (codes "usage: layout [--svg|--bytes HEX] [NAME:]SPEC.."))
-message (NoField word) = None
-message BadText = Some (line (codes "error: bad hexadecimal text"))
-message (Fault fault) = None
+-- the usage
+abbrev pub usage : List ℕ
+usage = codes "usage: layout [--svg|--bytes HEX] [NAME:]SPEC.."
 
--- Something stands in the way of the words that a run ends with 1 for; and what was told of it, where its text is fixed, is a beginning of its line.
-pub record IsStopped (words : List (List ℕ)) (before after : Option (List ℕ)) : Type 0 where
+-- the text is the usage and a word, as `{:?}` shows it; how that shows words that are not ASCII is left open
+abbrev pub ShowsWord : List ℕ → List ℕ → Type 0
+ShowsWord word text = (shown : List ℕ) × IfSome (debug_str word) (λ escaped. shown ≡ escaped)
+    × (text ≡ line (usage ++ (codes ", and " ++ (shown ++ codes " is no field"))))
+
+-- the text is the usage and a word that names no field, or the usage alone, where no memory is found to show the word
+abbrev pub IsUsageOf : List ℕ → List ℕ → Type 0
+IsUsageOf word text = (text ≡ line usage) ⊎ ShowsWord word text
+
+-- what was given is a beginning of such a text
+abbrev pub TellsWord : List ℕ → Option (List ℕ) → Option (List ℕ) → Type 0
+TellsWord word before after = (text : List ℕ) × IsUsageOf word text × IsBegun before after text
+
+-- the text is the line that it is told as
+abbrev pub IsMessage : Failure → List ℕ → Type 0
+IsMessage Usage text = text ≡ line usage
+IsMessage (NoField word) text = IsUsageOf word.now text
+IsMessage BadText text = text ≡ line (codes "error: bad hexadecimal text")
+IsMessage (Fault fault) text = text ≡ fault_line fault []
+
+-- what was given is a beginning of such a line
+abbrev pub IsTold : Failure → Option (List ℕ) → Option (List ℕ) → Type 0
+IsTold e before after = (text : List ℕ) × IsMessage e text × IsBegun before after text
+
+-- the words are of no form, and what `errors` took is a beginning of the usage; it may go on with one of the words that names no field
+pub record IsUsageTold (words : List (List ℕ)) (before after : Option (List ℕ)) : Type 0 where
   pub failure : Failure
-  pub stops : Stops words failure
+  pub fails : IsFailure words failure
+  pub two : status_of failure ≡ 2
+  pub told : IsTold failure before after
+
+-- A run ends with 1 for this failure, by what its output held before and after it; and what `errors` took is a beginning of the line of that failure.
+pub record IsStopped (words : List (List ℕ)) (out_before out_after errors_before errors_after : Option (List ℕ)) : Type 0 where
+  pub failure : Failure
+  pub ends : RunEnds words out_before out_after failure
   pub one : status_of failure ≡ 1
-  pub told : IfSome (message failure) (IsBegun before after)
+  pub told : IsTold failure errors_before errors_after

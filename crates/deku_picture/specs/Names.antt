@@ -1,7 +1,7 @@
 -- The words of fields with names in front of them.
 use Rattle.std.specs.Prelude.{◌≡◌, ◌≢◌, ◌⊎◌, ℕ, ◌<◌, List, [], ◌∷◌, ◌++◌, length, All, codes}
 use Rattle.std.specs.Char.{IsAsciiAlphanumeric}
-use Rattle.std.specs.List.{AllZip}
+use Rattle.std.specs.List.{AllZip, Contains}
 use Rattle.deku_fields.specs.declared.list.Field.{Field}
 use Rattle.deku_fields.specs.Naming.{NamesField}
 
@@ -38,3 +38,11 @@ pub record AreNamed (words : List (List ℕ)) (fields : List Field) : Type 0 whe
 -- the words name no fields
 abbrev pub AreNoForm : List (List ℕ) → Type 0
 AreNoForm words = (fields : List Field) → AreNamed words fields → ⊥
+
+-- the words name fields, one each
+abbrev pub NameFields : List (List ℕ) → Type 0
+NameFields words = (fields : List Field) × AllZip Names words fields
+
+-- the word is one of the words, and names no field
+abbrev pub IsUnnamed : List (List ℕ) → List ℕ → Type 0
+IsUnnamed words word = Contains words word × ((f : Field) → Names word f → ⊥)

@@ -1,16 +1,16 @@
 //! The program: from words on a command line to a picture.
 
-ghost use Rattle.std.specs.Prelude.{◌≡◌, ◌⊎◌, ◌≤◌, ◌<◌, ℕ, List, [], map, length, IfSome, IfOk, IfErr, OnOk, OnErr, MatchOption};
+ghost use Rattle.std.specs.Prelude.{◌≡◌, ◌⊎◌, ◌≤◌, ◌<◌, ℕ, List, [], map, length, IfOk, IfErr, OnOk, OnErr, MatchOption};
+ghost use Rattle.std.specs.Result.{IsErrAnd};
 ghost use Rattle.std.specs.List.{AllZip};
-ghost use Rattle.std.specs.Io.KnownBytes.{Appends};
 ghost use Rattle.std.specs.IoError.{error_kind};
 ghost use Rattle.std.specs.declared.io.ErrorKind.TheVariants.{OutOfMemory};
 ghost use Rattle.deku_bits.specs.declared.error.DekuError.TheVariants.{Io};
 ghost use Rattle.deku_fields.specs.declared.list.Field.{Field as ListField};
-ghost use Rattle.deku_fields.specs.Runs.{words_of, IsBegun};
-ghost use Rattle.deku_picture.specs.declared.program.Failure.TheVariants.{Usage, Fault};
-ghost use Rattle.deku_picture.specs.Names.{Names, HasSpecs, AreNoForm};
-ghost use Rattle.deku_picture.specs.Drawn.{status_of, message, AreDrawn, IsForm, IsSample, HasNoValues, HasShown, HasNotShown, IsDone, IsUnfinished, IsStopped, IsFailure};
+ghost use Rattle.deku_fields.specs.Runs.{words_of};
+ghost use Rattle.deku_picture.specs.declared.program.Failure.TheVariants.{Fault};
+ghost use Rattle.deku_picture.specs.Names.{Names, HasSpecs, NameFields, AreNoForm, IsUnnamed};
+ghost use Rattle.deku_picture.specs.Drawn.{status_of, AreDrawn, IsForm, IsSplit, IsSample, HasNoValues, HasShown, HasNotShown, IsDone, IsUnfinished, IsStopped, IsFailure, RunEnds, TellsWord, IsTold, IsUsageTold};
 
 use crate::cell::rows;
 use crate::drawing::{Drawing, Sample};
@@ -18,7 +18,7 @@ use crate::svg::svg;
 use crate::table::table;
 use crate::words::{Named, parse_named};
 use deku::DekuError;
-use deku_fields::{Field, give_text, list_from_bytes, places};
+use deku_fields::{Field, give_parts, give_text, list_from_bytes, places, tell_fault};
 use hex::FromHexError;
 use std::alloc::{AllocError, AllocFailed, Global};
 use std::fmt::Write as _;
@@ -87,9 +87,10 @@ enum Form<'a> {
 /// `SPEC..` prints the picture of the fields as a table, `--svg SPEC..` as an SVG, and `--bytes HEX SPEC..` as a table with the bits of these
 /// bytes and the values that the fields have in them. Each SPEC may have a name in front of it, as `name:SPEC`.
 ///
-/// A run that is not done is told of in one line on `errors`: the usage with status 2, and the word that names no field where there is one; and
-/// with status 1 `error: bad hexadecimal text`, or `error: ` and the text of the fault. The words are looked at before the bytes, and nothing goes
-/// to the output until all of the picture is known, so it gains nothing then but what a failing output took. A fault of `errors` changes nothing.
+/// A run that is not done is told of in one line on `errors`: the usage with status 2, and the word that names no field where there is one, and
+/// memory to show it; and with status 1 `error: bad hexadecimal text`, or `error: ` and the text of the fault. The words are looked at before the
+/// bytes and before any memory is taken, and nothing goes to the output until all of the picture is known, so it gains nothing then but what a
+/// failing output took. A fault of `errors` changes nothing.
 ///
 /// ```text
 /// a:u8,lsb,bits4 b:u16,lsb,bits12                   // prints cells `b 3..0`, `a 3..0` and `b 11..4`, status 0
@@ -101,13 +102,15 @@ pub fn run<W: Write, E: Write>(alloc: Global, args: &[String], output: &mut W, e
     ensures done { result ≡ 0 → IsDone (words_of args.now) (W.contents output.old) (W.contents output.new) }
     ensures quiet { result ≡ 0 → errors.new ≡ errors.old }
     ensures usage { result ≡ 2 → AreNoForm (words_of args.now) × (output.new ≡ output.old) }
-    ensures stopped { result ≡ 1 → IsStopped (words_of args.now) (E.contents errors.old) (E.contents errors.new) }
+    ensures formed { AreNoForm (words_of args.now) → result ≡ 2 }
+    ensures told { result ≡ 2 → IsUsageTold (words_of args.now) (E.contents errors.old) (E.contents errors.new) }
+    ensures stopped { result ≡ 1 → IsStopped (words_of args.now) (W.contents output.old) (W.contents output.new) (E.contents errors.old) (E.contents errors.new) }
     ensures kept { result ≡ 1 → (output.new ≡ output.old) ⊎ IsUnfinished (words_of args.now) (W.contents output.old) (W.contents output.new) }
 {
     let Err(failure) = command(alloc, args, output) else {
         return 0;
     };
-    let _ = complain(errors, &failure);
+    let _ = complain(alloc, errors, &failure);
     status_of(&failure)
 }
 
@@ -122,20 +125,31 @@ fn status_of(failure: &Failure) -> u8
 }
 
 // Tells of a failure in a line, of which `errors` takes a beginning where it fails.
-fn complain<E: Write>(errors: &mut E, failure: &Failure) -> io::Result<()>
-    ensures told { OnOk result (IfSome (message failure.now) (Appends (E.contents errors.old) (E.contents errors.new))) }
-    ensures begun { IfSome (message failure.now) (IsBegun (E.contents errors.old) (E.contents errors.new)) }
+fn complain<E: Write>(alloc: Global, errors: &mut E, failure: &Failure) -> io::Result<()>
+    ensures { IsTold failure.now (E.contents errors.old) (E.contents errors.new) }
 {
     match failure {
-        Failure::Usage => {
-            give_text(errors, b"usage: layout [--svg|--bytes HEX] [NAME:]SPEC..\n")
-        }
-        Failure::NoField(word) => writeln!(
-            errors,
-            "usage: layout [--svg|--bytes HEX] [NAME:]SPEC.., and {word:?} is no field"
-        ),
+        Failure::Usage => give_text(errors, b"usage: layout [--svg|--bytes HEX] [NAME:]SPEC..\n"),
+        Failure::NoField(word) => complain_of(alloc, errors, word),
         Failure::BadText => give_text(errors, b"error: bad hexadecimal text\n"),
-        Failure::Fault(fault) => writeln!(errors, "error: {fault}"),
+        Failure::Fault(fault) => tell_fault(errors, fault, &[]),
+    }
+}
+
+// Tells of a word that names no field, or gives the usage alone where no memory is found to show it.
+fn complain_of<E: Write>(alloc: Global, errors: &mut E, word: &str) -> io::Result<()>
+    ensures { TellsWord word.now (E.contents errors.old) (E.contents errors.new) }
+{
+    match format!(in alloc; "{word:?}") {
+        Ok(shown) => give_parts(
+            errors,
+            &[
+                "usage: layout [--svg|--bytes HEX] [NAME:]SPEC.., and ",
+                shown.as_str(),
+                " is no field\n",
+            ],
+        ),
+        Err(_) => give_text(errors, b"usage: layout [--svg|--bytes HEX] [NAME:]SPEC..\n"),
     }
 }
 
@@ -146,7 +160,8 @@ fn command<'a, W: Write>(
     output: &mut W,
 ) -> Result<(), Failure<'a>>
     ensures done { OnOk result (IsDone (words_of args.now) (W.contents output.old) (W.contents output.new)) }
-    ensures stops { IfErr result (IsFailure (words_of args.now)) }
+    ensures formed { AreNoForm (words_of args.now) → IsErrAnd result (λ e. status_of e ≡ 2) }
+    ensures ends { IfErr result (RunEnds (words_of args.now) (W.contents output.old) (W.contents output.new)) }
     ensures usage { IfErr result (λ e. status_of e ≡ 2 → output.new ≡ output.old) }
     ensures kept { OnErr result ((output.new ≡ output.old) ⊎ IsUnfinished (words_of args.now) (W.contents output.old) (W.contents output.new)) }
 {
@@ -158,14 +173,10 @@ fn command<'a, W: Write>(
 // The picture that the words ask for.
 fn drawn(alloc: Global, args: &[String]) -> Result<String, Failure<'_>>
     ensures drawn { OnOk result (AreDrawn (words_of args.now)) }
+    ensures formed { AreNoForm (words_of args.now) → IsErrAnd result (λ e. status_of e ≡ 2) }
     ensures stops { IfErr result (IsFailure (words_of args.now)) }
 {
-    let Some((form, specs)) = split_form(args) else {
-        return Err(Failure::Usage);
-    };
-    if specs.is_empty() {
-        return Err(Failure::Usage);
-    }
+    let (form, specs) = split_words(args)?;
     let named = fields_named(alloc, specs)?;
     let fields = fields_of(alloc, named.as_slice())?;
     let picture = places(alloc, fields.as_slice())?;
@@ -181,6 +192,36 @@ fn drawn(alloc: Global, args: &[String]) -> Result<String, Failure<'_>>
         Form::Table | Form::Bytes(_) => table(alloc, &drawing)?,
     };
     Ok(text)
+}
+
+// What is drawn, and the words of the fields, each of which names one. This takes no memory, so that words of no form are told as such whatever memory there is.
+fn split_words(args: &[String]) -> Result<(Form<'_>, &[String]), Failure<'_>>
+    ensures split { IfOk result (λ p. IsSplit (words_of args.now) (words_of p.1.now) p.0) }
+    ensures stops { IfErr result (λ e. (status_of e ≡ 2) × IsFailure (words_of args.now) e) }
+{
+    let Some((form, specs)) = split_form(args) else {
+        return Err(Failure::Usage);
+    };
+    if specs.is_empty() {
+        return Err(Failure::Usage);
+    }
+    match first_unnamed(specs) {
+        Some(word) => Err(Failure::NoField(word)),
+        None => Ok((form, specs)),
+    }
+}
+
+// The first word that names no field; none where each names one.
+fn first_unnamed(specs: &[String]) -> Option<&str>
+    ensures { MatchOption result (NameFields (words_of specs.now)) (λ word. IsUnnamed (words_of specs.now) word.now) }
+{
+    for word in specs {
+        let text = word.as_str();
+        let Some(_) = parse_named(text) else {
+            return Some(text);
+        };
+    }
+    None
 }
 
 // What is drawn, and the words of the fields; none where there are none.

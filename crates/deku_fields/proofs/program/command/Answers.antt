@@ -1,9 +1,6 @@
 use Rattle.std.proofs.Common.{rules}
 use Rattle.deku_fields.proofs.program.command.Goals as goal
 
-pub returns-in_err-give_text-clause-stops : goal.returns-in_err-give_text-clause-stops
-returns-in_err-give_text-clause-stops g c = search rules
-
 pub returns-in_err-give_text-clause-kept : goal.returns-in_err-give_text-clause-kept
 returns-in_err-give_text-clause-kept g c = search rules
 

@@ -1,5 +1,5 @@
 use Rattle.std.proofs.Common.{sym, subst}
-use Rattle.std.specs.Prelude.{IfOk, string_bytes}
+use Rattle.std.specs.Prelude.{IfOk, IfErr, string_bytes}
 use Rattle.deku_formats_program.proofs.program.record_text.Goals as goal
 use Rattle.deku_formats_program.specs.contracts.program.RecordsTold.TheImpl.{ghosts}
 
@@ -26,3 +26,27 @@ returns-in-Riscv-clause-told c = subst (λ f. IfOk c.shown-in-Riscv.result (λ t
 
 pub returns-in-Udp-clause-told : goal.returns-in-Udp-clause-told
 returns-in-Udp-clause-told c = subst (λ f. IfOk c.shown-in-Udp.result (λ text. ghosts.tells f c.args.bytes.now (string_bytes text))) (sym c.in-Udp.is) c.shown-in-Udp.ensures.taken
+
+pub returns-in-Can-clause-stops : goal.returns-in-Can-clause-stops
+returns-in-Can-clause-stops c = subst (λ f. IfErr c.shown.result (ghosts.stops f c.args.bytes.now)) (sym c.in-Can.is) c.shown.ensures.stops
+
+pub returns-in-Ccsds-clause-stops : goal.returns-in-Ccsds-clause-stops
+returns-in-Ccsds-clause-stops c = subst (λ f. IfErr c.shown-in-Ccsds.result (ghosts.stops f c.args.bytes.now)) (sym c.in-Ccsds.is) c.shown-in-Ccsds.ensures.stops
+
+pub returns-in-Dns-clause-stops : goal.returns-in-Dns-clause-stops
+returns-in-Dns-clause-stops c = subst (λ f. IfErr c.shown-in-Dns.result (ghosts.stops f c.args.bytes.now)) (sym c.in-Dns.is) c.shown-in-Dns.ensures.stops
+
+pub returns-in-Elf-clause-stops : goal.returns-in-Elf-clause-stops
+returns-in-Elf-clause-stops c = subst (λ f. IfErr c.shown-in-Elf.result (ghosts.stops f c.args.bytes.now)) (sym c.in-Elf.is) c.shown-in-Elf.ensures.stops
+
+pub returns-in-Ipv4-clause-stops : goal.returns-in-Ipv4-clause-stops
+returns-in-Ipv4-clause-stops c = subst (λ f. IfErr c.shown-in-Ipv4.result (ghosts.stops f c.args.bytes.now)) (sym c.in-Ipv4.is) c.shown-in-Ipv4.ensures.stops
+
+pub returns-in-Png-clause-stops : goal.returns-in-Png-clause-stops
+returns-in-Png-clause-stops c = subst (λ f. IfErr c.shown-in-Png.result (ghosts.stops f c.args.bytes.now)) (sym c.in-Png.is) c.shown-in-Png.ensures.stops
+
+pub returns-in-Riscv-clause-stops : goal.returns-in-Riscv-clause-stops
+returns-in-Riscv-clause-stops c = subst (λ f. IfErr c.shown-in-Riscv.result (ghosts.stops f c.args.bytes.now)) (sym c.in-Riscv.is) c.shown-in-Riscv.ensures.stops
+
+pub returns-in-Udp-clause-stops : goal.returns-in-Udp-clause-stops
+returns-in-Udp-clause-stops c = subst (λ f. IfErr c.shown-in-Udp.result (ghosts.stops f c.args.bytes.now)) (sym c.in-Udp.is) c.shown-in-Udp.ensures.stops

@@ -4,9 +4,6 @@ use Rattle.deku_picture.proofs.program.command.Goals as goal
 pub returns-in_err-text-clause-done : goal.returns-in_err-text-clause-done
 returns-in_err-text-clause-done g c = search rules
 
-pub returns-in_err-text-clause-stops : goal.returns-in_err-text-clause-stops
-returns-in_err-text-clause-stops g c = search rules
-
 pub returns-in_err-text-clause-usage : goal.returns-in_err-text-clause-usage
 returns-in_err-text-clause-usage g c = search rules
 
@@ -16,9 +13,6 @@ returns-in_err-text-clause-kept g c = search rules
 pub returns-in_err-give_text-clause-done : goal.returns-in_err-give_text-clause-done
 returns-in_err-give_text-clause-done g c = search rules
 
-pub returns-in_err-give_text-clause-stops : goal.returns-in_err-give_text-clause-stops
-returns-in_err-give_text-clause-stops g c = search rules
-
 pub returns-in_err-give_text-clause-usage : goal.returns-in_err-give_text-clause-usage
 returns-in_err-give_text-clause-usage g c = search rules
 
@@ -27,9 +21,6 @@ returns-in_err-give_text-clause-kept g c = search rules
 
 pub returns-clause-done : goal.returns-clause-done
 returns-clause-done g c = search rules
-
-pub returns-clause-stops : goal.returns-clause-stops
-returns-clause-stops g c = search rules
 
 pub returns-clause-usage : goal.returns-clause-usage
 returns-clause-usage g c = search rules

@@ -1,20 +1,15 @@
-use Rattle.std.proofs.Common.{rules}
+use Rattle.std.proofs.Common.{refl}
+use Rattle.deku_fields.proofs.Giving.{begun_either}
 use Rattle.deku_picture.proofs.program.complain.Goals as goal
 
-pub returns-in-Usage-clause-begun : goal.returns-in-Usage-clause-begun
-returns-in-Usage-clause-begun g c = search rules
+pub returns-in-Usage : goal.returns-in-Usage
+returns-in-Usage g c = rw c.in-Usage.is (_, refl, begun_either c.give_text.result _ _ _ c.give_text.ensures.given c.give_text.ensures.cut)
 
-pub returns-in-NoField-clause-told : goal.returns-in-NoField-clause-told
-returns-in-NoField-clause-told g c = search rules
+pub returns-in-NoField : goal.returns-in-NoField
+returns-in-NoField g c = rw c.in-NoField.is c.complain_of.ensures
 
-pub returns-in-NoField-clause-begun : goal.returns-in-NoField-clause-begun
-returns-in-NoField-clause-begun g c = search rules
+pub returns-in-BadText : goal.returns-in-BadText
+returns-in-BadText g c = rw c.in-BadText.is (_, refl, begun_either c.give_text-in-BadText.result _ _ _ c.give_text-in-BadText.ensures.given c.give_text-in-BadText.ensures.cut)
 
-pub returns-in-BadText-clause-begun : goal.returns-in-BadText-clause-begun
-returns-in-BadText-clause-begun g c = search rules
-
-pub returns-in-Fault-clause-told : goal.returns-in-Fault-clause-told
-returns-in-Fault-clause-told g c = search rules
-
-pub returns-in-Fault-clause-begun : goal.returns-in-Fault-clause-begun
-returns-in-Fault-clause-begun g c = search rules
+pub returns-in-Fault : goal.returns-in-Fault
+returns-in-Fault g c = rw c.in-Fault.is (_, refl, c.tell_fault.ensures.begun)
