@@ -173,7 +173,7 @@ pub record FieldsStop (words : List (List ℕ)) (input : Option (List ℕ)) (e :
 abbrev pub ReadingStops : List (List ℕ) → Option (List ℕ) → Failure → Type 0
 ReadingStops words input e = ((e ≡ Usage) × ((fields : List Field) → AllZip NamesField words fields → ⊥)) ⊎ (e ≡ Fault (Io OutOfMemory)) ⊎ FieldsStop words input e
 
--- what stands in the way of the words: that they are of no form, or what they ask for
+-- what prevents what the words ask for: that they are of no form, or a fault on the way
 abbrev pub Stops : List (List ℕ) → Option (List ℕ) → Failure → Type 0
 Stops words input e = ((e ≡ Usage) × AreNoForm words)
     ⊎ ((names : List (List ℕ)) × (words ≡ codes "write" ∷ names) × WritingStops names e)
@@ -183,7 +183,7 @@ Stops words input e = ((e ≡ Usage) × AreNoForm words)
 abbrev pub OutputStops : List (List ℕ) → Option (List ℕ) → Option (List ℕ) → Option (List ℕ) → Failure → Type 0
 OutputStops words input before after e = (kind : ErrorKind) × (e ≡ Fault (Io kind)) × IsUnfinished words input before after
 
--- something stands in the way before the output is given any text, or the output fails
+-- the run is prevented before the output is given any text, or the output fails
 abbrev pub RunEnds : List (List ℕ) → Option (List ℕ) → Option (List ℕ) → Option (List ℕ) → Failure → Type 0
 RunEnds words input before after e = (Stops words input e × (after ≡ before)) ⊎ OutputStops words input before after e
 

@@ -18,7 +18,7 @@ record_asked words Help asked (inl h) = absurd h
 record_asked words (Record f) asked (inl h) = inl (f, asked)
 record_asked words a asked (inr same) = inr same
 
--- what stands in the way of the record of the bytes that the input shows stands in the way of its text
+-- what prevents the record of the bytes that the input shows prevents its text
 pub record_stops : {T : Type 0} (stops : Format → Stopping) (format : Format) (input : Option (List ℕ)) (bytes : List ℕ) (r : Result T Failure) → IfSome input (λ shown. IsHexText shown bytes) → IfErr r (stops format bytes)
     → IfErr r (TextStops stops (Record format) input)
 record_stops stops format input bytes (Ok t) given h = h

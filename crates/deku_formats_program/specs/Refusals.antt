@@ -1,4 +1,4 @@
--- What stands in the way of a record: the bytes that it is read from, what it is written as, or the memory.
+-- What prevents that a record is shown: the bytes that it is read from, what it is written as, or the memory.
 use Rattle.std.specs.Prelude.{◌≡◌, ◌⊎◌, ℕ, List, Option, Err}
 use Rattle.std.specs.Borrow.{Bor}
 use Rattle.std.specs.declared.io.ErrorKind.TheVariants.{OutOfMemory}
@@ -42,6 +42,6 @@ pub record IsNotWritten {V : Type 0} (pieces : V → List Piece → Type 0) (wri
 abbrev pub StopsOf : {V : Type 0} → Meaning (Option Stream) V → (V → List Piece → Type 0) → (V → Meaning Output (Unit {0})) → List ℕ → Failure → Type 0
 StopsOf reads pieces writes bytes e = IsRefused reads bytes e ⊎ IsRefusedOnce reads bytes e ⊎ IsNotWritten pieces writes bytes e ⊎ (e ≡ Fault (Io OutOfMemory))
 
--- bytes, and what stands in the way of the record that they begin with
+-- bytes, and what prevents that the record that they begin with is shown
 abbrev pub Stopping : Type 1
 Stopping = List ℕ → Failure → Type 0

@@ -67,17 +67,17 @@ AsksForRecord words = (f : Format) × AskFor words (Record f)
 abbrev pub InputStops : Option (List ℕ) → Failure → Type 0
 InputStops input e = ((e ≡ BadText) × IfSome input IsNoHexText) ⊎ ((kind : ErrorKind) × (e ≡ Fault (Io kind)))
 
--- the input shows bytes, where it is known, and this stands in the way of the record that they begin with
+-- the input shows bytes, where it is known, and this prevents that the record that they begin with is shown
 abbrev pub RecordStops : Stopping → Option (List ℕ) → Failure → Type 0
 RecordStops stops input e = (bytes : List ℕ) × IfSome input (λ shown. IsHexText shown bytes) × stops bytes e
 
--- what stands in the way of a text: the memory, and of a record the input or what stands in the way of that format's records
+-- what prevents a text: the memory, and of a record the input, or what prevents that format's records
 abbrev pub TextStops : (Format → Stopping) → Asked → Option (List ℕ) → Failure → Type 0
 TextStops stops Names input e = e ≡ Fault (Io OutOfMemory)
 TextStops stops Help input e = e ≡ Fault (Io OutOfMemory)
 TextStops stops (Record format) input e = InputStops input e ⊎ RecordStops (stops format) input e
 
--- what stands in the way of the words: that they are of no form, or what they ask for
+-- what prevents what the words ask for: that they are of no form, or a fault on the way
 abbrev pub Stops : (Format → Stopping) → List (List ℕ) → Option (List ℕ) → Failure → Type 0
 Stops stops words input e = ((e ≡ Usage) × AreNoForm words) ⊎ ((asked : Asked) × AskFor words asked × TextStops stops asked input e)
 
@@ -85,7 +85,7 @@ Stops stops words input e = ((e ≡ Usage) × AreNoForm words) ⊎ ((asked : Ask
 abbrev pub OutputStops : (Format → Telling) → List (List ℕ) → Option (List ℕ) → Option (List ℕ) → Option (List ℕ) → Failure → Type 0
 OutputStops tells words input before after e = (kind : ErrorKind) × (e ≡ Fault (Io kind)) × IsUnfinished tells words input before after
 
--- something stands in the way before the output is given any text, or the output fails
+-- the run is prevented before the output is given any text, or the output fails
 abbrev pub RunEnds : (Format → Telling) → (Format → Stopping) → List (List ℕ) → Option (List ℕ) → Option (List ℕ) → Option (List ℕ) → Failure → Type 0
 RunEnds tells stops words input before after e = (Stops stops words input e × (after ≡ before)) ⊎ OutputStops tells words input before after e
 

@@ -83,7 +83,7 @@ pub trait Told {
     // Which text tells of the record of this format that bytes begin with.
     ghost tells: { KnownFormat → Telling };
 
-    // What stands in the way of the record of this format that bytes begin with.
+    // What prevents that the record of this format that bytes begin with is shown.
     ghost stops: { KnownFormat → Stopping };
 }
 

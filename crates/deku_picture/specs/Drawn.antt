@@ -118,7 +118,7 @@ IsFailure words e = Stops words e
 abbrev pub OutputStops : List (List ℕ) → Option (List ℕ) → Option (List ℕ) → Failure → Type 0
 OutputStops words before after e = (kind : ErrorKind) × (e ≡ Fault (Io kind)) × IsUnfinished words before after
 
--- something stands in the way before the output is given any text, or the output fails
+-- the run is prevented before the output is given any text, or the output fails
 abbrev pub RunEnds : List (List ℕ) → Option (List ℕ) → Option (List ℕ) → Failure → Type 0
 RunEnds words before after e = (IsFailure words e × (after ≡ before)) ⊎ OutputStops words before after e
 
