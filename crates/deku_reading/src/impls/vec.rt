@@ -17,6 +17,8 @@ use std::alloc::Global;
 /// bits than a `usize` counts is refused with `InvalidParam("count past usize")`, and nothing is read. Else the refusal is that of the
 /// first item that is refused; what the items before it moved stays moved.
 ///
+/// No room is made before the first item is read, so a count that the input does not have costs nothing.
+///
 /// ```text
 /// let limit = Limit::new_count(2);                         // from 69 E9
 /// Vec::<u8>::from_reader_with_ctx(&mut reader, (limit, BitSize(6)))?; // 0x1A, 0x1E
@@ -35,24 +37,8 @@ impl<T: DekuReader<Ctx>, P: Predicate<T>, Ctx: Copy> DekuReader<(Limit<T, P>, Ct
         ctx: (Limit<T, P>, Ctx),
     ) -> Result<Self, DekuError> {
         let (limit, items) = ctx;
-        let empty = empty_for(reader.alloc(), &limit);
-        gather_under(empty, reader, limit, items)
+        gather_under(Vec::new(reader.alloc()), reader, limit, items)
     }
-}
-
-// For how many items room is made, at most, before the first is read: a count that no input has is to cost nothing.
-const ROOM: usize = 64;
-
-// An empty vector; where a count says how many items come, with room for the first of them, if memory is found.
-fn empty_for<T, P: Predicate<T>>(alloc: Global, limit: &Limit<T, P>) -> Vec<T>
-    ensures { result.items ≡ [] }
-{
-    if let Limit::Count(count) = limit {
-        if let Ok(roomy) = Vec::with_capacity(alloc, (*count).min(ROOM)) {
-            return roomy;
-        }
-    }
-    Vec::new(alloc)
 }
 
 /// The items that the limit says, each under `()`.
