@@ -1,8 +1,8 @@
 //! Runs of `fields` and `layout`: where no memory is found a run ends with 1 and says so, and its output is as it was.
 
 use deku_picture::{Cell, rows};
-use deku_testing_values::expecting::same;
 use deku_testing::runs::arguments;
+use deku_testing_values::expecting::same;
 use std::alloc::Global;
 use std::io::Cursor;
 use std::process::Abort;

@@ -1,8 +1,8 @@
 //! What values and their bytes are expected to be to one another.
 
-pub use deku_testing::same::same;
 use deku::device::{Sink, Source};
 use deku::prelude::{DekuError, DekuReader, DekuWriter, Reader, Writer};
+pub use deku_testing::same::same;
 use std::alloc::Global;
 use std::fmt::Debug;
 use std::io::{Cursor, ErrorKind};
