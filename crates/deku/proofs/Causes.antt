@@ -19,12 +19,12 @@ use Rattle.deku_meanings.specs.declared.ctx.Limit.{Limit}
 use Rattle.deku_meanings.specs.declared.ctx.Limit.TheVariants.{Count, Until, ByteSize, BitSize, End}
 use Rattle.deku_meanings.specs.Composing.{Answer, Answered, Then, Second, First, Both, JoinedBy}
 use Rattle.deku_meanings.specs.Shapes.{Shows, Shown, ShowsUnless, LacksMemory}
-use Rattle.deku_reading.specs.Lists.{ReadsTimes, Seen, AnswersEach, Runs, Ended, NextRefused, Stored}
+use Rattle.deku_reading.specs.Lists.{ReadsTimes, Seen, AnswersEach, Runs, Until, NextRefused, Stored}
 use Rattle.deku_reading.specs.Limits.{Taken, TakesEach, Judge, Judged, EndsWith, Closes, ItemRefused, WithoutWidth, Unplaced, ReadsUntil, ReadsBitsOf, NoBits, SomeBits, MoreToCome, ReadsToEnd, ReadsCount, ReadsUnder, MappedBy, ValueBy, RefusalBy}
 use Rattle.deku_writing.specs.Composing.{WritesEach}
 use Rattle.deku_bits.specs.declared.ctx.Order.{Order}
 use Rattle.deku_bits.specs.declared.ctx.Order.TheVariants.{Msb0}
-use Rattle.deku_bits.specs.Devices.{SourceTold, MoreFailures}
+use Rattle.deku_bits.specs.Devices.{KnownSource, DeviceFailed}
 use Rattle.deku_num.specs.declared.ctx.Endian.TheVariants.{Little}
 use Rattle.deku_num.specs.declared.ctx.Size.TheVariants.{Whole}
 use Rattle.deku_num.specs.Numbers.{byte}
@@ -109,8 +109,8 @@ in_turn own m f [] s u k p q = inr (rw p at q)
 in_turn own m f (v ∷ vs) s u k p q = ⊎_elim (λ o. inl o) (λ kept. f s (Ok v) p.0 k p.1 (inr kept)) (in_turn own m f vs p.0 u k p.2 q)
 
 pub runs : {A V : Type 0} (own : ErrorKind → Type 0) (goes ends : List V → Type 0) (m : Meaning A V) → OwnFaults own m → OwnFaults own (Runs goes ends m)
-runs own goes ends m f s r u k (Ended vs p e b d) (inl q) = absurd cc
-runs own goes ends m f s r u k (Ended vs p e b d) (inr q) = in_turn own m f vs s u k p q
+runs own goes ends m f s r u k (Until vs p e b d) (inl q) = absurd cc
+runs own goes ends m f s r u k (Until vs p e b d) (inr q) = in_turn own m f vs s u k p q
 runs own goes ends m f s r u k (NextRefused vs t e p g n d) (inl q) = ⊎_elim (λ o. inl o) (λ kept. in_turn own m f vs s t k p kept) (f t (Err e) u k n (inl cc))
 runs own goes ends m f s r u k (NextRefused vs t e p g n d) (inr q) = ⊎_elim (λ o. inl o) (λ kept. in_turn own m f vs s t k p kept) (f t (Err e) u k n (inr q))
 
@@ -210,9 +210,9 @@ from_bytes n m bytes k f (inl p) = ⊎_elim (λ o. o) (λ kept. absurd kept) (fr
 from_bytes n m bytes k f (inr p) = let e = p.4 in absurd cc
 
 -- the source that was lent may be one that fails
-pub from_reader : {R V : Type 0} (told : R → SourceTold) (n : ℕ) (m : Meaning (Option Stream) V) (old new : R) (k : ErrorKind) → OwnFaults WantsMemory m
-    → ReadsOnce told (Behind n m) old (Err (Io k)) new → MoreFailures (told old).health (told new).health ⊎ WantsMemory k
-from_reader told n m old new k f p = ⊎_elim (λ o. inl o) (λ h. ⊎_elim (λ o. inr o) (λ kept. absurd kept) h) (caused WantsMemory _ _ _ _ _ _ (from_first n m f) p.reads k refl)
+pub from_reader : {R V : Type 0} (known : R → KnownSource) (n : ℕ) (m : Meaning (Option Stream) V) (old new : R) (k : ErrorKind) → OwnFaults WantsMemory m
+    → ReadsOnce known (Behind n m) old (Err (Io k)) new → DeviceFailed (known old).health (known new).health ⊎ WantsMemory k
+from_reader known n m old new k f p = ⊎_elim (λ o. inl o) (λ h. ⊎_elim (λ o. inr o) (λ kept. absurd kept) h) (caused WantsMemory _ _ _ _ _ _ (from_first n m f) p.reads k refl)
 
 pub to_bytes : (m : Meaning Output (Unit {0})) (k : ErrorKind) → OwnFaults WantsPlace m → WritesOnce (Both m Finalizes) (Err (Io k)) → WantsPlace k
 to_bytes m k f p = ⊎_elim (λ o. o) (λ kept. absurd kept) (then WantsPlace m _ f (λ _. cause_law.4) _ _ p.0 k p.1 (inl refl))

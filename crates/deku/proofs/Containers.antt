@@ -16,7 +16,7 @@ use Rattle.deku_bits.specs.declared.error.DekuError.TheVariants.{Incomplete, Io}
 use Rattle.deku_bits.specs.Bits.{bits_in, groups}
 use Rattle.deku_bits.specs.Streams.{Stream, fresh, normal}
 use Rattle.deku_bits.specs.Writers.{Pending, Nothing, append, pending_bits}
-use Rattle.deku_bits.specs.Devices.{Health, Whole, SourceTold, SinkTold, bytes_before}
+use Rattle.deku_bits.specs.Devices.{Health, Whole, KnownSource, KnownSink, bytes_before}
 use Rattle.deku_bits.specs.Cursors.{slice_whole, vector_whole}
 use Rattle.deku_bits.specs.Standings.{Standing, Going, Stopped, Output, count_of, reader_state, writer_state}
 use Rattle.deku_bits.specs.Outcomes.{Meaning}
@@ -29,12 +29,12 @@ use Rattle.deku.specs.Wholes.{Behind, FromFirst, TellsBehind, ReadsBytesOnce, Wr
 
 -- ---- what a source tells
 -- a reader that was made for one call and fetched no byte too early
-pub told_behind : {told after : SourceTold} {u : Standing (List Bool)} → PromptlyAt told (Going [] 0) after u → TellsBehind (count_of u) told after
-told_behind {told} {after} {u} p = by_told told.coming refl
+pub told_behind : {known after : KnownSource} {u : Standing (List Bool)} → PromptlyAt known (Going [] 0) after u → TellsBehind (count_of u) known after
+told_behind {known} {after} {u} p = by_told known.remaining refl
   where
-    by_told : (now : Option (List ℕ)) → told.coming ≡ now → IfSome now (λ bytes. after.coming ≡ Some (drop (groups (count_of u)) bytes))
+    by_told : (now : Option (List ℕ)) → known.remaining ≡ now → IfSome now (λ bytes. after.remaining ≡ Some (drop (groups (count_of u)) bytes))
     by_told None e = tt
-    by_told (Some bytes) e = whole_behind told after u p bytes e
+    by_told (Some bytes) e = whole_behind known after u p bytes e
 
 -- ---- memory as a sink
 -- a fresh writer onto an empty vector
@@ -60,10 +60,10 @@ abbrev pub steady : Option Whole → Health
 steady w = record { failures = Some 0; lenders = []; whole = w }
 
 -- what a cursor over a vector tells
-abbrev pub tells : Cursor (Vec ℕ) → SinkTold
+abbrev pub tells : Cursor (Vec ℕ) → KnownSink
 tells k = record { taken = before k; room = None; health = steady (vector_whole k) }
 
--- the bytes before a place, where they are told
+-- the bytes before a place, where they are known
 pub before_is : (place : ℕ) (xs bytes : List ℕ) → bytes_before place xs ≡ Some bytes → take place xs ≡ bytes
 before_is place xs bytes = go (nat_le place (length xs))
   where
@@ -84,15 +84,15 @@ goes_on m s u (Second v (Going a c) p (inr (h, inl q))) = (q.0, _, q.3)
 goes_on m s u (Second v (Going a c) p (inr (h, inr q))) = let f = q.3 in absurd (cc)
 
 -- a writer that was padded goes on, with what its sink tells
-pub padded_on : (m : Meaning Output (Unit {0})) (s : Standing Output) (told : SinkTold) (st : Standing Pending) → Both m Finalizes false s (Ok tt) (writer_state told st)
-    → (out : Output) × (c : ℕ) × Both m Finalizes false s (Ok tt) (Going out c) × (out.taken ≡ told.taken) × (out.room ≡ told.room)
-padded_on m s told (Going pending count) w = (record { taken = told.taken; room = told.room; pending = pending }, count, w, refl, refl)
-padded_on m s told (Stopped p e c) w = let k = goes_on m s (writer_state told (Stopped p e c)) w in let f = k.2 in absurd (cc)
+pub padded_on : (m : Meaning Output (Unit {0})) (s : Standing Output) (known : KnownSink) (st : Standing Pending) → Both m Finalizes false s (Ok tt) (writer_state known st)
+    → (out : Output) × (c : ℕ) × Both m Finalizes false s (Ok tt) (Going out c) × (out.taken ≡ known.taken) × (out.room ≡ known.room)
+padded_on m s known (Going pending count) w = (record { taken = known.taken; room = known.room; pending = pending }, count, w, refl, refl)
+padded_on m s known (Stopped p e c) w = let k = goes_on m s (writer_state known (Stopped p e c)) w in let f = k.2 in absurd (cc)
 
 -- the same from where a writer stood
-pub padded_from : (m : Meaning Output (Unit {0})) (s t : Standing Output) (told : SinkTold) (st : Standing Pending) → s ≡ t → Both m Finalizes false s (Ok tt) (writer_state told st)
-    → (out : Output) × (c : ℕ) × Both m Finalizes false t (Ok tt) (Going out c) × (out.taken ≡ told.taken) × (out.room ≡ told.room)
-padded_from m s t told st e w = padded_on m t told st (subst (λ x. Both m Finalizes false x (Ok tt) (writer_state told st)) e w)
+pub padded_from : (m : Meaning Output (Unit {0})) (s t : Standing Output) (known : KnownSink) (st : Standing Pending) → s ≡ t → Both m Finalizes false s (Ok tt) (writer_state known st)
+    → (out : Output) × (c : ℕ) × Both m Finalizes false t (Ok tt) (Going out c) × (out.taken ≡ known.taken) × (out.room ≡ known.room)
+padded_from m s t known st e w = padded_on m t known st (subst (λ x. Both m Finalizes false x (Ok tt) (writer_state known st)) e w)
 
 -- a refusal from where a writer stood
 pub refused_from : (m : Meaning Output (Unit {0})) (s t : Standing Output) (e : DekuError) (u : Standing Output) → s ≡ t → Both m Finalizes false s (Err e) u
@@ -109,14 +109,14 @@ pub new_source : (k : Cursor (Bor (List ℕ))) (b : Bor (List ℕ)) → cursor_i
 new_source k b e f = rw (e, f) refl
 
 -- a fresh reader stands before the bytes that its source tells
-pub starts_fresh : (coming : Option (List ℕ)) (bytes : List ℕ) (st : Standing (List Bool)) → coming ≡ Some bytes → st ≡ Going [] 0 → reader_state coming st ≡ Going (Some (fresh bytes)) 0
+pub starts_fresh : (remaining : Option (List ℕ)) (bytes : List ℕ) (st : Standing (List Bool)) → remaining ≡ Some bytes → st ≡ Going [] 0 → reader_state remaining st ≡ Going (Some (fresh bytes)) 0
 unfolding normal
-starts_fresh coming bytes st e f = rw (e, f) refl
+starts_fresh remaining bytes st e f = rw (e, f) refl
 
 -- the count of a reader is that of its state
-pub counted_state : (coming : Option (List ℕ)) (st : Standing (List Bool)) (n : ℕ) → n ≡ count_of st → n ≡ count_of (reader_state coming st)
-counted_state coming (Going window count) n e = e
-counted_state coming (Stopped window fault count) n e = e
+pub counted_state : (remaining : Option (List ℕ)) (st : Standing (List Bool)) (n : ℕ) → n ≡ count_of st → n ≡ count_of (reader_state remaining st)
+counted_state remaining (Going window count) n e = e
+counted_state remaining (Stopped window fault count) n e = e
 
 module _ {V : Type 0} (n : ℕ) (m : Meaning (Option Stream) V) (bytes : List ℕ) (s u : Standing (Option Stream)) (start : s ≡ Going (Some (fresh bytes)) 0) where
   -- from the first byte on
@@ -149,7 +149,7 @@ starts_over place xs ys h st p e s = rw (p, s) (
     ∙ ap (λ zs. Going (record { taken = Some []; room = Some zs; pending = Nothing }) 0) e)
 
 -- what a cursor over a slice tells
-abbrev pub tells_over : Cursor (MutBor (List ℕ)) → SinkTold
+abbrev pub tells_over : Cursor (MutBor (List ℕ)) → KnownSink
 tells_over k = record {
   taken = bytes_before (cursor_position k) (cursor_inner k).now;
   room = Some (drop (cursor_position k) (cursor_inner k).now);
@@ -163,16 +163,16 @@ abbrev pub bytes_over : Cursor (MutBor (List ℕ)) → List ℕ
 bytes_over k = (cursor_inner k).now
 
 -- what a writer that was refused goes on, or has stopped, with is what its sink tells
-told_out : (told : SinkTold) (st : Standing Pending) → ((output_in (writer_state told st)).taken ≡ told.taken) × ((output_in (writer_state told st)).room ≡ told.room)
-told_out told (Going p c) = (refl, refl)
-told_out told (Stopped p e c) = (refl, refl)
+told_out : (known : KnownSink) (st : Standing Pending) → ((output_in (writer_state known st)).taken ≡ known.taken) × ((output_in (writer_state known st)).room ≡ known.room)
+told_out known (Going p c) = (refl, refl)
+told_out known (Stopped p e c) = (refl, refl)
 
 -- a refusal, and the slice
 pub refused_over : (m : Meaning Output (Unit {0})) (s : Standing Output) (old : List ℕ) (e : DekuError) (k : Cursor (MutBor (List ℕ))) (st : Standing Pending) → s ≡ Going (over old) 0
     → Both m Finalizes false s (Err e) (writer_state (tells_over k) st) → WritesOver (Both m Finalizes) old (Err e) (cursor_inner k).now
 refused_over m s old e k st start w =
-    let told = told_out (tells_over k) st in
-    (writer_state (tells_over k) st, subst (λ x. Both m Finalizes false x (Err e) (writer_state (tells_over k) st)) start w, cursor_position k, told.0, told.1)
+    let known = told_out (tells_over k) st in
+    (writer_state (tells_over k) st, subst (λ x. Both m Finalizes false x (Err e) (writer_state (tells_over k) st)) start w, cursor_position k, known.0, known.1)
 
 -- ---- what is not padded
 -- an empty write is refused by a kept fault alone
@@ -217,19 +217,19 @@ module _ (m : Meaning Output (Unit {0})) (s t : Standing Output) (start : s ≡ 
   bare_stopped u e r h l w = let k = err_from_is_err_and r h in let d = empty_refused t u e l w in rw (k.1, k.2) (inr (inl (d.0, d.1, from_nothing (Stopped d.0 e d.1) d.2)))
 
   -- the bits were put together, or no memory was found for them
-  pub bare_written : (told : SinkTold) (p : Standing Pending) (ys : List ℕ) (last : List Bool) → WritesBits Msb0 [] false t (Ok tt) (writer_state told p)
-      → IfSome told.taken (λ bytes. ys ≡ bytes) → last ≡ pending_bits (pending_of p)
+  pub bare_written : (known : KnownSink) (p : Standing Pending) (ys : List ℕ) (last : List Bool) → WritesBits Msb0 [] false t (Ok tt) (writer_state known p)
+      → IfSome known.taken (λ bytes. ys ≡ bytes) → last ≡ pending_bits (pending_of p)
       → (r : Result (Vec Bool) DekuError) → IfOk r (λ v. v.items ≡ bits_in ys ++ last) → IfErr r (λ e. e ≡ Io OutOfMemory) → WritesBare m r
-  bare_written told (Stopped q e c) ys last w a l r ok err = let d = empty_written t (writer_state told (Stopped q e c)) w in let f = d.goes_on in absurd (cc)
-  bare_written told (Going q c) ys last w a l (Err e) ok err =
-      let d = empty_written t (writer_state told (Going q c)) w in inr (inr (d.out, d.count, from_nothing (Going d.out d.count) d.goes, err))
-  bare_written told (Going q c) ys last w a l (Ok v) ok err =
-      let d = empty_written t (writer_state told (Going q c)) w in
-      let out : Output = record { taken = told.taken; room = told.room; pending = q } in
+  bare_written known (Stopped q e c) ys last w a l r ok err = let d = empty_written t (writer_state known (Stopped q e c)) w in let f = d.goes_on in absurd (cc)
+  bare_written known (Going q c) ys last w a l (Err e) ok err =
+      let d = empty_written t (writer_state known (Going q c)) w in inr (inr (d.out, d.count, from_nothing (Going d.out d.count) d.goes, err))
+  bare_written known (Going q c) ys last w a l (Ok v) ok err =
+      let d = empty_written t (writer_state known (Going q c)) w in
+      let out : Output = record { taken = known.taken; room = known.room; pending = q } in
       let same : out ≡ d.after = going (Going out c) out d.after c d.count_after refl d.goes_on in
       let kept : q ≡ d.out.pending = ap (λ o. o.pending) same ∙ d.pending in
       let bits : v.items ≡ bits_in ys ++ pending_bits d.out.pending = ok ∙ ap (λ b. bits_in ys ++ b) (l ∙ ap pending_bits kept) in
-      (d.out, d.count, from_nothing (Going d.out d.count) d.goes, bits_taken d.out.taken told.taken ys v.items (pending_bits d.out.pending) (subst (λ o. Appends d.out.taken o.taken []) (sym same) d.taken) a bits)
+      (d.out, d.count, from_nothing (Going d.out d.count) d.goes, bits_taken d.out.taken known.taken ys v.items (pending_bits d.out.pending) (subst (λ o. Appends d.out.taken o.taken []) (sym same) d.taken) a bits)
     where
       going : (u : Standing Output) (a b : Output) (m n : ℕ) → u ≡ Going a m → u ≡ Going b n → a ≡ b
       going u a b m n e f = cc
@@ -239,6 +239,6 @@ pub bare_refused : (m : Meaning Output (Unit {0})) (s t : Standing Output) (e : 
 bare_refused m s t e r start h w = let k = err_from_is_err_and r h in rw (k.1, k.2) (inl (t, subst (λ x. m false x (Err e) t) start w))
 
 -- the count of a writer is below what a `usize` counts
-pub counted_writer : (told : SinkTold) (st : Standing Pending) (n : ℕ) → n ≡ count_of st → n < 2 ^ 64 → count_of (writer_state told st) < 2 ^ 64
-counted_writer told (Going pending count) n e l = omega (arith, e)
-counted_writer told (Stopped pending fault count) n e l = omega (arith, e)
+pub counted_writer : (known : KnownSink) (st : Standing Pending) (n : ℕ) → n ≡ count_of st → n < 2 ^ 64 → count_of (writer_state known st) < 2 ^ 64
+counted_writer known (Going pending count) n e l = omega (arith, e)
+counted_writer known (Stopped pending fault count) n e l = omega (arith, e)

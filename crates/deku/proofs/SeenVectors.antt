@@ -18,7 +18,7 @@ use Rattle.deku_meanings.specs.Composing.{Answer, Answered, Second, First}
 use Rattle.deku_meanings.specs.Shapes.{LacksMemory}
 use Rattle.deku_writing.specs.Composing.{WritesEach}
 use Rattle.deku_reading.specs.Lists as lists
-use Rattle.deku_reading.specs.Lists.{AnswersEach, Stored, Ended, on_value}
+use Rattle.deku_reading.specs.Lists.{AnswersEach, Stored, Until, on_value}
 use Rattle.deku_reading.specs.Limits.{ReadsCount, MappedBy, ValueBy, RefusalBy}
 use Rattle.deku.specs.VectorLaws.{GivesBytes, ReadsAsWritten}
 use Rattle.deku.proofs.Exact.{ok_is}
@@ -46,7 +46,7 @@ module _ {V : Type 0} (t : NumberType) (l : Layout) (h : V → ℤ) (m : Meaning
 
   count_seen : (n : ℕ) (b : Bool) (s : Standing (Option Stream)) (r : Result (List V) DekuError) (u : Standing (Option Stream)) → ReadsCount n m b s r u
       → ReadsCount n (ReadsNumber t l) b s (on_value (map h) r) u
-  count_seen n b s r u (Ended vs turn long quiet e) = Ended (map h vs) (turn_seen vs s u turn) (length-mapped h vs ∙ long) quiet (ap (on_value (map h)) e)
+  count_seen n b s r u (Until vs turn long quiet e) = Until (map h vs) (turn_seen vs s u turn) (length-mapped h vs ∙ long) quiet (ap (on_value (map h)) e)
   count_seen n b s r u (lists.NextRefused vs w e turn less refused k) =
       lists.NextRefused (map h vs) w e (turn_seen vs s w turn) (omega (arith, less, length-mapped h vs)) (stored_seen b w (Err e) u refused) (ap (on_value (map h)) k)
 

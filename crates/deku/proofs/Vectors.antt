@@ -26,7 +26,7 @@ use Rattle.deku_num.proofs.FieldBits.{one_list}
 use Rattle.deku_meanings.specs.Composing.{Answered, Second, First}
 use Rattle.deku_writing.specs.Composing.{WritesEach}
 use Rattle.deku_reading.specs.Lists as lists
-use Rattle.deku_reading.specs.Lists.{AnswersEach, Runs, Ended, Stored}
+use Rattle.deku_reading.specs.Lists.{AnswersEach, Runs, Until, Stored}
 use Rattle.deku_reading.specs.Limits.{ReadsCount}
 use Rattle.deku.specs.VectorLaws.{GivesBytes}
 use Rattle.deku.proofs.Emitting.{Wrote, Done, Lacking, Full, emitted, followed_wrote}
@@ -191,7 +191,7 @@ module _ (t : NumberType) (l : Layout) (ok : IsAllowed t l) where
 
   read_back : (vs : List ℤ) (ps : List Piece) (S T : Stream) (c : ℕ) (r : Result (List ℤ) DekuError) (u : Standing (Option Stream)) → ArePiecesOf vs ps → Takes ps S T
       → c + length vs * width t l < 2 ^ 64 → ReadsCount (length vs) (ReadsNumber t l) false (Going (Some S) c) r u → (r ≡ Ok vs) ⊎ (r ≡ Err (Io OutOfMemory))
-  read_back vs ps S T c r u a takes room (Ended xs turn long b e) =
+  read_back vs ps S T c r u a takes room (Until xs turn long b e) =
       let it = taken_in_turn vs ps S T c xs u a takes room (omega (arith, long)) turn in
       inl (e ∙ ap (λ k. Ok k) (sym (all_of vs xs it.values (it.split) long)))
   read_back vs ps S T c r u a takes room (lists.NextRefused xs y e turn less m q) =

@@ -9,7 +9,7 @@ use Rattle.deku_bits.specs.declared.error.DekuError.TheVariants.{Incomplete, Io}
 use Rattle.deku_bits.specs.Bits.{bits_in, groups}
 use Rattle.deku_bits.specs.Streams.{Stream, fresh}
 use Rattle.deku_bits.specs.Writers.{Nothing, pending_bits}
-use Rattle.deku_bits.specs.Devices.{SourceTold, bytes_before}
+use Rattle.deku_bits.specs.Devices.{KnownSource, bytes_before}
 use Rattle.deku_bits.specs.Standings.{Standing, Going, Stopped, Output, count_of}
 use Rattle.deku_bits.specs.Outcomes.{Meaning}
 use Rattle.deku_bits.specs.ReaderCalls.{ReadsAt, Skips}
@@ -22,14 +22,14 @@ abbrev pub Behind : {V : Type 0} → ℕ → Meaning (Option Stream) V → Meani
 Behind n m = Then (Skips Msb0 n) (λ _. m)
 
 -- a reader that is made for one call does m, and its count is answered beside the value; what the source tells then is what that reader leaves
-pub record ReadsOnce {R V : Type 0} (told : R → SourceTold) (m : Meaning (Option Stream) V) (old : R) (r : Result (ℕ × V) DekuError) (new : R) : Type 0 where
+pub record ReadsOnce {R V : Type 0} (known : R → KnownSource) (m : Meaning (Option Stream) V) (old : R) (r : Result (ℕ × V) DekuError) (new : R) : Type 0 where
   pub stands : Standing (List Bool)
-  pub reads : ReadsAt m (told old) (Going [] 0) (on_value (λ p. p.1) r) (told new) stands
+  pub reads : ReadsAt m (known old) (Going [] 0) (on_value (λ p. p.1) r) (known new) stands
   pub counts : IfOk r (λ p. p.0 ≡ count_of stands)
 
 -- where a source told its bytes, it tells those behind the ones that n bits fill
-abbrev pub TellsBehind : ℕ → SourceTold → SourceTold → Type 0
-TellsBehind n old new = IfSome old.coming (λ bytes. new.coming ≡ Some (drop (groups n) bytes))
+abbrev pub TellsBehind : ℕ → KnownSource → KnownSource → Type 0
+TellsBehind n old new = IfSome old.remaining (λ bytes. new.remaining ≡ Some (drop (groups n) bytes))
 
 -- what m gives from bytes of which nothing is read
 abbrev pub FromFirst : {V : Type 0} → Meaning (Option Stream) V → List ℕ → Result V DekuError → Standing (Option Stream) → Type 0
@@ -56,7 +56,7 @@ in_memory = record { taken = Some []; room = None; pending = Nothing }
 abbrev pub over : List ℕ → Output
 over bytes = record { taken = Some []; room = Some bytes; pending = Nothing }
 
--- what m gives from nothing written, to memory that grows: the bytes that were taken, where they are told
+-- what m gives from nothing written, to memory that grows: the bytes that were taken, where they are known
 abbrev pub WritesOnce : Meaning Output (Unit {0}) → Result (Vec ℕ) DekuError → Type 0
 WritesOnce m (Ok v) = (out : Output) × (c : ℕ) × m false (Going in_memory 0) (Ok tt) (Going out c) × IfSome out.taken (λ bytes. v.items ≡ bytes)
 WritesOnce m (Err e) = (u : Standing Output) × m false (Going in_memory 0) (Err e) u
@@ -73,7 +73,7 @@ WritesOver m old (Ok n) new = (out : Output) × (c : ℕ) × m false (Going (ove
 WritesOver m old (Err e) new = (u : Standing Output) × m false (Going (over old) 0) (Err e) u
     × (n : ℕ) × ((output_in u).taken ≡ bytes_before n new) × ((output_in u).room ≡ Some (drop n new))
 
--- the bits that m gives from nothing written: those of the bytes taken, where they are told, and the pending ones; or m's refusal, a fault that m only kept, or want of memory
+-- the bits that m gives from nothing written: those of the bytes taken, where they are known, and the pending ones; or m's refusal, a fault that m only kept, or want of memory
 abbrev pub WritesBare : Meaning Output (Unit {0}) → Result (Vec Bool) DekuError → Type 0
 WritesBare m (Ok v) = (out : Output) × (c : ℕ) × m false (Going in_memory 0) (Ok tt) (Going out c)
     × IfSome out.taken (λ bytes. v.items ≡ bits_in bytes ++ pending_bits out.pending)

@@ -10,7 +10,7 @@ ghost use Rattle.deku_bits.specs.Writers.{Pending, Nothing};
 ghost use Rattle.deku_bits.specs.Standings.{Standing, Going};
 ghost use Rattle.deku_bits.specs.WriterCalls.{Writes, WritesAt, Finalizes};
 ghost use Rattle.deku_meanings.specs.Composing.{Both};
-ghost use Rattle.deku_reading.specs.Early.{Promptly};
+ghost use Rattle.deku_reading.specs.Early.{NoReadAhead};
 ghost use Rattle.deku.specs.Wholes.{Behind, ReadsOnce, TellsBehind, ReadsBytesOnce, WritesOnce, WritesOver, WritesBare};
 
 use deku_bits::bounded::BoundedBitVec;
@@ -50,8 +50,8 @@ pub trait DekuContainerRead: DekuReader<()> {
     where
         Self: Sized,
         requires { Self.accepts tt }
-        ensures reads { ReadsOnce R.told (Behind input.entry.1 (Self.meaning tt)) input.entry.0.now result input.exit.0.now }
-        ensures behind { IfOk result (λ p. Self.prompt tt → TellsBehind p.0 (R.told input.entry.0.now) (R.told input.exit.0.now)) }
+        ensures reads { ReadsOnce R.known (Behind input.entry.1 (Self.meaning tt)) input.entry.0.now result input.exit.0.now }
+        ensures behind { IfOk result (λ p. Self.no_read_ahead tt → TellsBehind p.0 (R.known input.entry.0.now) (R.known input.exit.0.now)) }
     {
         let bits = input.1;
         let mut reader = Reader::new(alloc, &mut *input.0);
@@ -98,8 +98,8 @@ fn read_behind<T: DekuReader<()>, R: Source>(
     bits: usize,
 ) -> Result<T, DekuError>
     requires { T.accepts tt }
-    ensures reads { Reads R.told (Behind bits (T.meaning tt)) reader.old result reader.new }
-    ensures early { OnOk result (T.prompt tt → length (window_of reader.old.state) < 8 → Promptly R.told reader.old reader.new) }
+    ensures reads { Reads R.known (Behind bits (T.meaning tt)) reader.old result reader.new }
+    ensures early { OnOk result (T.no_read_ahead tt → length (window_of reader.old.state) < 8 → NoReadAhead R.known reader.old reader.new) }
 {
     match reader.skip_bits(bits, Order::Msb0) {
         Ok(()) => T::from_reader_with_ctx(reader, ()),
@@ -203,7 +203,7 @@ fn write_whole<Ctx, T: DekuWriter<Ctx>, W: Sink>(
     ctx: Ctx,
 ) -> Result<(), DekuError>
     requires { T.accepts ctx }
-    ensures { (u : Standing Pending) × WritesAt (Both (T.meaning value.now ctx) Finalizes) (W.told sink.old) (Going Nothing 0) result (W.told sink.new) u }
+    ensures { (u : Standing Pending) × WritesAt (Both (T.meaning value.now ctx) Finalizes) (W.known sink.old) (Going Nothing 0) result (W.known sink.new) u }
 {
     let mut writer = Writer::new(sink);
     write_padded(value, &mut writer, ctx)
@@ -216,7 +216,7 @@ fn write_padded<Ctx, T: DekuWriter<Ctx>, W: Sink>(
     ctx: Ctx,
 ) -> Result<(), DekuError>
     requires { T.accepts ctx }
-    ensures { Writes W.told (Both (T.meaning value.now ctx) Finalizes) writer.old result writer.new }
+    ensures { Writes W.known (Both (T.meaning value.now ctx) Finalizes) writer.old result writer.new }
 {
     match value.to_writer(writer, ctx) {
         Ok(()) => writer.finalize(),

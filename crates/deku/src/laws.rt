@@ -4,7 +4,7 @@ ghost use Rattle.std.specs.Prelude.{◌≡◌, ◌⊎◌, ℕ, ◌+◌, ◌*◌,
 ghost use Rattle.std.specs.List.{All};
 ghost use Rattle.std.specs.declared.io.ErrorKind.{ErrorKind};
 ghost use Rattle.deku_bits.specs.declared.error.DekuError.TheVariants.{Io};
-ghost use Rattle.deku_bits.specs.Devices.{MoreFailures};
+ghost use Rattle.deku_bits.specs.Devices.{DeviceFailed};
 ghost use Rattle.deku_num.specs.declared.ctx.ByteSize.{ByteSize as ByteCount};
 ghost use Rattle.deku_meanings.specs.declared.ctx.ReadExact.{ReadExact as ExactCount};
 ghost use Rattle.deku_bits.specs.Causes.{OwnFaults, NoKind, WantsMemory, WantsPlace};
@@ -130,18 +130,18 @@ pub fn array_extent_law<T: DekuSize + DekuWriter<()>, const N: usize>()
 /// is not refused, and padded once, is read with a count of its length as itself, whatever follows, as far as the bits can be counted; the
 /// one refusal is that no memory is found.
 pub fn vector_law<C: NumberCtx>()
-    ensures of_u8 { (c : C) → ReadsAsWritten byte (C.parts_of c) pos (λ n. ⟦<Vec<u8> as DekuReader<(Limit<u8, Never>, C)>>⟧.meaning (Count n, c)) (λ v. ⟦<Vec<u8> as DekuWriter<C>>⟧.meaning v c) }
-    ensures of_u16 { (c : C) → ReadsAsWritten (unsigned 16) (C.parts_of c) pos (λ n. ⟦<Vec<u16> as DekuReader<(Limit<u16, Never>, C)>>⟧.meaning (Count n, c)) (λ v. ⟦<Vec<u16> as DekuWriter<C>>⟧.meaning v c) }
-    ensures of_u32 { (c : C) → ReadsAsWritten (unsigned 32) (C.parts_of c) pos (λ n. ⟦<Vec<u32> as DekuReader<(Limit<u32, Never>, C)>>⟧.meaning (Count n, c)) (λ v. ⟦<Vec<u32> as DekuWriter<C>>⟧.meaning v c) }
-    ensures of_u64 { (c : C) → ReadsAsWritten (unsigned 64) (C.parts_of c) pos (λ n. ⟦<Vec<u64> as DekuReader<(Limit<u64, Never>, C)>>⟧.meaning (Count n, c)) (λ v. ⟦<Vec<u64> as DekuWriter<C>>⟧.meaning v c) }
-    ensures of_u128 { (c : C) → ReadsAsWritten (unsigned 128) (C.parts_of c) pos (λ n. ⟦<Vec<u128> as DekuReader<(Limit<u128, Never>, C)>>⟧.meaning (Count n, c)) (λ v. ⟦<Vec<u128> as DekuWriter<C>>⟧.meaning v c) }
-    ensures of_usize { (c : C) → ReadsAsWritten (unsigned 64) (C.parts_of c) pos (λ n. ⟦<Vec<usize> as DekuReader<(Limit<usize, Never>, C)>>⟧.meaning (Count n, c)) (λ v. ⟦<Vec<usize> as DekuWriter<C>>⟧.meaning v c) }
-    ensures of_i8 { (c : C) → ReadsAsWritten (signed 8) (C.parts_of c) (λ v. v) (λ n. ⟦<Vec<i8> as DekuReader<(Limit<i8, Never>, C)>>⟧.meaning (Count n, c)) (λ v. ⟦<Vec<i8> as DekuWriter<C>>⟧.meaning v c) }
-    ensures of_i16 { (c : C) → ReadsAsWritten (signed 16) (C.parts_of c) (λ v. v) (λ n. ⟦<Vec<i16> as DekuReader<(Limit<i16, Never>, C)>>⟧.meaning (Count n, c)) (λ v. ⟦<Vec<i16> as DekuWriter<C>>⟧.meaning v c) }
-    ensures of_i32 { (c : C) → ReadsAsWritten (signed 32) (C.parts_of c) (λ v. v) (λ n. ⟦<Vec<i32> as DekuReader<(Limit<i32, Never>, C)>>⟧.meaning (Count n, c)) (λ v. ⟦<Vec<i32> as DekuWriter<C>>⟧.meaning v c) }
-    ensures of_i64 { (c : C) → ReadsAsWritten (signed 64) (C.parts_of c) (λ v. v) (λ n. ⟦<Vec<i64> as DekuReader<(Limit<i64, Never>, C)>>⟧.meaning (Count n, c)) (λ v. ⟦<Vec<i64> as DekuWriter<C>>⟧.meaning v c) }
-    ensures of_i128 { (c : C) → ReadsAsWritten (signed 128) (C.parts_of c) (λ v. v) (λ n. ⟦<Vec<i128> as DekuReader<(Limit<i128, Never>, C)>>⟧.meaning (Count n, c)) (λ v. ⟦<Vec<i128> as DekuWriter<C>>⟧.meaning v c) }
-    ensures of_isize { (c : C) → ReadsAsWritten (signed 64) (C.parts_of c) (λ v. v) (λ n. ⟦<Vec<isize> as DekuReader<(Limit<isize, Never>, C)>>⟧.meaning (Count n, c)) (λ v. ⟦<Vec<isize> as DekuWriter<C>>⟧.meaning v c) }
+    ensures of_u8 { (c : C) → ReadsAsWritten byte (C.layout_of c) pos (λ n. ⟦<Vec<u8> as DekuReader<(Limit<u8, Never>, C)>>⟧.meaning (Count n, c)) (λ v. ⟦<Vec<u8> as DekuWriter<C>>⟧.meaning v c) }
+    ensures of_u16 { (c : C) → ReadsAsWritten (unsigned 16) (C.layout_of c) pos (λ n. ⟦<Vec<u16> as DekuReader<(Limit<u16, Never>, C)>>⟧.meaning (Count n, c)) (λ v. ⟦<Vec<u16> as DekuWriter<C>>⟧.meaning v c) }
+    ensures of_u32 { (c : C) → ReadsAsWritten (unsigned 32) (C.layout_of c) pos (λ n. ⟦<Vec<u32> as DekuReader<(Limit<u32, Never>, C)>>⟧.meaning (Count n, c)) (λ v. ⟦<Vec<u32> as DekuWriter<C>>⟧.meaning v c) }
+    ensures of_u64 { (c : C) → ReadsAsWritten (unsigned 64) (C.layout_of c) pos (λ n. ⟦<Vec<u64> as DekuReader<(Limit<u64, Never>, C)>>⟧.meaning (Count n, c)) (λ v. ⟦<Vec<u64> as DekuWriter<C>>⟧.meaning v c) }
+    ensures of_u128 { (c : C) → ReadsAsWritten (unsigned 128) (C.layout_of c) pos (λ n. ⟦<Vec<u128> as DekuReader<(Limit<u128, Never>, C)>>⟧.meaning (Count n, c)) (λ v. ⟦<Vec<u128> as DekuWriter<C>>⟧.meaning v c) }
+    ensures of_usize { (c : C) → ReadsAsWritten (unsigned 64) (C.layout_of c) pos (λ n. ⟦<Vec<usize> as DekuReader<(Limit<usize, Never>, C)>>⟧.meaning (Count n, c)) (λ v. ⟦<Vec<usize> as DekuWriter<C>>⟧.meaning v c) }
+    ensures of_i8 { (c : C) → ReadsAsWritten (signed 8) (C.layout_of c) (λ v. v) (λ n. ⟦<Vec<i8> as DekuReader<(Limit<i8, Never>, C)>>⟧.meaning (Count n, c)) (λ v. ⟦<Vec<i8> as DekuWriter<C>>⟧.meaning v c) }
+    ensures of_i16 { (c : C) → ReadsAsWritten (signed 16) (C.layout_of c) (λ v. v) (λ n. ⟦<Vec<i16> as DekuReader<(Limit<i16, Never>, C)>>⟧.meaning (Count n, c)) (λ v. ⟦<Vec<i16> as DekuWriter<C>>⟧.meaning v c) }
+    ensures of_i32 { (c : C) → ReadsAsWritten (signed 32) (C.layout_of c) (λ v. v) (λ n. ⟦<Vec<i32> as DekuReader<(Limit<i32, Never>, C)>>⟧.meaning (Count n, c)) (λ v. ⟦<Vec<i32> as DekuWriter<C>>⟧.meaning v c) }
+    ensures of_i64 { (c : C) → ReadsAsWritten (signed 64) (C.layout_of c) (λ v. v) (λ n. ⟦<Vec<i64> as DekuReader<(Limit<i64, Never>, C)>>⟧.meaning (Count n, c)) (λ v. ⟦<Vec<i64> as DekuWriter<C>>⟧.meaning v c) }
+    ensures of_i128 { (c : C) → ReadsAsWritten (signed 128) (C.layout_of c) (λ v. v) (λ n. ⟦<Vec<i128> as DekuReader<(Limit<i128, Never>, C)>>⟧.meaning (Count n, c)) (λ v. ⟦<Vec<i128> as DekuWriter<C>>⟧.meaning v c) }
+    ensures of_isize { (c : C) → ReadsAsWritten (signed 64) (C.layout_of c) (λ v. v) (λ n. ⟦<Vec<isize> as DekuReader<(Limit<isize, Never>, C)>>⟧.meaning (Count n, c)) (λ v. ⟦<Vec<isize> as DekuWriter<C>>⟧.meaning v c) }
 {}
 
 /// Worked examples of vectors that are written.
@@ -225,7 +225,7 @@ pub fn written_cause_law<Ctx: Copy, A: DekuWriter<Ctx>, B: DekuWriter<Ctx>>()
 /// The calls on whole values answer an `Io` only of the value's own kinds: slices and memory do not fail. `from_reader` answers one too
 /// where the source that it was lent fails, and tells so by its count.
 pub fn whole_cause_law<T: DekuReader<()> + DekuWriter<()>, R: Source>()
-    ensures from_reader { (n : ℕ) (old new : R) (k : ErrorKind) → OwnFaults WantsMemory (T.DekuReader.meaning tt) → ReadsOnce R.told (Behind n (T.DekuReader.meaning tt)) old (Err (Io k)) new → MoreFailures (R.told old).health (R.told new).health ⊎ WantsMemory k }
+    ensures from_reader { (n : ℕ) (old new : R) (k : ErrorKind) → OwnFaults WantsMemory (T.DekuReader.meaning tt) → ReadsOnce R.known (Behind n (T.DekuReader.meaning tt)) old (Err (Io k)) new → DeviceFailed (R.known old).health (R.known new).health ⊎ WantsMemory k }
     ensures from_bytes { (n : ℕ) (bytes : List ℕ) (k : ErrorKind) → OwnFaults WantsMemory (T.DekuReader.meaning tt) → ReadsBytesOnce (Behind n (T.DekuReader.meaning tt)) bytes (Err (Io k)) → WantsMemory k }
     ensures to_bytes { (v : T) (k : ErrorKind) → OwnFaults WantsPlace (T.DekuWriter.meaning v tt) → WritesOnce (Both (T.DekuWriter.meaning v tt) Finalizes) (Err (Io k)) → WantsPlace k }
     ensures to_slice { (v : T) (old new : List ℕ) (k : ErrorKind) → OwnFaults WantsPlace (T.DekuWriter.meaning v tt) → WritesOver (Both (T.DekuWriter.meaning v tt) Finalizes) old (Err (Io k)) new → WantsPlace k }

@@ -8,7 +8,7 @@ use Rattle.deku_device.specs.Devices.{Health, LacksRoom}
 use Rattle.deku_stream.specs.Standings.{Standing, Going, Stopped}
 use Rattle.deku_stream.specs.Streams.{Stream}
 use Rattle.deku_stream.specs.Writers.{Pending, Written, append, finalized}
-use Rattle.deku_stream.specs.Outcomes.{Meaning, Outcome, Quiet, Broken, Unknown, UnlessStopped, Counted, Reserving, Mapped, Value, Refusal}
+use Rattle.deku_stream.specs.Outcomes.{Meaning, Outcome, Quiet, Broken, Unknown, UnlessStopped, CountsBits, Reserving, Mapped, Value, Refusal}
 use Rattle.deku_reader.specs.ReaderCalls.{Ends, Transfers, TakesBits, ReadsVec, Peeks, Skipping}
 use Rattle.deku_writer.specs.WriterCalls.{TookSome, GivesOut, Emits, WritesWord}
 use Rattle.deku_bits.specs.Causes.{KeepsIo, NoKind, WantsMemory, WantsPlace, OwnFaults, Caused, CauseLaw}
@@ -28,7 +28,7 @@ unless_stopped leaves own moves h (Going a c) r u k p q = inl (h a c r u k p q)
 unless_stopped leaves own moves h (Stopped a e c) r u k p (inl q) = let d = p.0 in inr cc
 unless_stopped leaves own moves h (Stopped a e c) r u k p (inr q) = inr (rw p.1 at q)
 
-counted : {A V : Type 0} (own : ErrorKind → Type 0) (n : ℕ) (moves : A → ℕ → Result V DekuError → Standing A → Type 0) → OwnMoves own moves → OwnMoves own (Counted n moves)
+counted : {A V : Type 0} (own : ErrorKind → Type 0) (n : ℕ) (moves : A → ℕ → Result V DekuError → Standing A → Type 0) → OwnMoves own moves → OwnMoves own (CountsBits n moves)
 counted own n moves h a c r u k (inl p) (inl q) = let d = p.1.2 in absurd cc
 counted own n moves h a c r u k (inl p) (inr q) = absurd (rw p.1.3 at q)
 counted own n moves h a c r u k (inr p) q = h a c r u k p.1 q

@@ -10,7 +10,7 @@ use Rattle.deku_stream.specs.Bits.{bits_in, bytes_of, shown}
 use Rattle.deku_stream.specs.Streams.{Stream, fresh, normal, flow, seen, taken, bit_count}
 use Rattle.deku_stream.specs.Writers.{Pending, Nothing, Written, append, cut, held}
 use Rattle.std.specs.Io.KnownBytes.{Appends}
-use Rattle.deku_device.specs.Devices.{SourceTold, SinkTold, NoFewerFailures, Whole, ReadOnly, Onward, GoesOnward, bytes_before}
+use Rattle.deku_device.specs.Devices.{KnownSource, KnownSink, DeviceKept, Whole, ReadOnly, Onward, GoesOnward, bytes_before}
 use Rattle.deku_stream.specs.Standings.{Standing, Going, Stopped, Output, reader_state, writer_state}
 use Rattle.deku_stream.specs.Outcomes.{Value, Refusal}
 use Rattle.deku_reader.specs.ReaderCalls.{ReadsAt, ReadsBytes}
@@ -105,35 +105,35 @@ plain_read o n c bs (Err e) u h l fits (Refusal d (Refusal f (inr (room, inr p))
 
 -- ---- calls
 -- a read of bytes at a byte's front
-pub plain_got : (t t2 : SourceTold) (o : Order) (n c : ℕ) (all xs : List ℕ) (s u : Standing (List Bool)) → s ≡ Going [] c → t.coming ≡ Some all → All IsByte all
-    → ReadsAt (ReadsBytes o n) t s (Ok xs) t2 u → ((n ≤ length all) × (xs ≡ take n all)) × NoFewerFailures t.health t2.health
+pub plain_got : (t t2 : KnownSource) (o : Order) (n c : ℕ) (all xs : List ℕ) (s u : Standing (List Bool)) → s ≡ Going [] c → t.remaining ≡ Some all → All IsByte all
+    → ReadsAt (ReadsBytes o n) t s (Ok xs) t2 u → ((n ≤ length all) × (xs ≡ take n all)) × DeviceKept t.health t2.health
 plain_got t t2 o n c all xs s u e f h m =
     let d = meant (rw (e, f) at m) in
-    (plain_answer o n c all xs (reader_state t2.coming u) h d.0, d.1)
+    (plain_answer o n c all xs (reader_state t2.remaining u) h d.0, d.1)
 
 -- what a write of bytes leaves, where nothing is pending
-pub record Plainly (t t2 : SinkTold) (taken : List ℕ) (u : Standing Pending) : Type 0 where
+pub record Plainly (t t2 : KnownSink) (taken : List ℕ) (u : Standing Pending) : Type 0 where
   pub count : ℕ
   pub taken_is : t2.taken ≡ Some taken
   pub state_is : u ≡ Going Nothing count
-  pub kept : NoFewerFailures t.health t2.health
+  pub kept : DeviceKept t.health t2.health
 
 appended : (xs bs : List ℕ) (t : Option (List ℕ)) → Appends (Some xs) t bs → t ≡ Some (xs ++ bs)
 appended xs bs None g = absurd g
 appended xs bs (Some ys) g = ap Some g
 
-took_all : (t t2 : SinkTold) (bs prior : List ℕ) (w : Written) (c n : ℕ) (u : Standing Pending) (out after : Output) → w ≡ record { bytes = bs; pending = Nothing } → out.taken ≡ Some prior
-    → Took w out after → writer_state t2 u ≡ Going after n → NoFewerFailures t.health t2.health → Plainly t t2 (prior ++ bs) u
+took_all : (t t2 : KnownSink) (bs prior : List ℕ) (w : Written) (c n : ℕ) (u : Standing Pending) (out after : Output) → w ≡ record { bytes = bs; pending = Nothing } → out.taken ≡ Some prior
+    → Took w out after → writer_state t2 u ≡ Going after n → DeviceKept t.health t2.health → Plainly t t2 (prior ++ bs) u
 took_all t t2 bs prior w c n (Stopped P e d) out after is first k same kept = absurd (cc)
 took_all t t2 bs prior w c n (Going P d) out after is first k same kept =
     let q : after.pending ≡ Nothing = k.pending ∙ ap (λ x. x.pending) is in
     let g : Appends (Some prior) after.taken bs = subst₂ (λ x y. Appends x after.taken y) first (ap (λ x. x.bytes) is) k.taken in
     let held : P ≡ after.pending = cc in
-    let told : t2.taken ≡ after.taken = cc in
-    record { count = d; taken_is = told ∙ appended prior bs after.taken g; state_is = ap (λ p. Going p d) (held ∙ q); kept = kept }
+    let known : t2.taken ≡ after.taken = cc in
+    record { count = d; taken_is = known ∙ appended prior bs after.taken g; state_is = ap (λ p. Going p d) (held ∙ q); kept = kept }
 
 -- a write of bytes where nothing is pending
-pub plain_gave : (t t2 : SinkTold) (bs prior : List ℕ) (c : ℕ) (s u : Standing Pending) → s ≡ Going Nothing c → t.taken ≡ Some prior → All IsByte bs
+pub plain_gave : (t t2 : KnownSink) (bs prior : List ℕ) (c : ℕ) (s u : Standing Pending) → s ≡ Going Nothing c → t.taken ≡ Some prior → All IsByte bs
     → WritesAt (WritesBits Msb0 (bits_in bs)) t s (Ok tt) t2 u → Plainly t t2 (prior ++ bs) u
 plain_gave t t2 bs prior c s u e first h m =
     let d = meant (rw e at m) in

@@ -5,7 +5,7 @@ use Rattle.std.specs.declared.io.ErrorKind.TheVariants.{OutOfMemory, WriteZero}
 use Rattle.deku_stream.specs.declared.ctx.Order.{Order}
 use Rattle.deku_stream.specs.declared.error.DekuError.TheVariants.{Io}
 use Rattle.deku_stream.specs.declared.error.DekuError.{DekuError}
-use Rattle.deku_device.specs.Devices.{Health, MoreFailures}
+use Rattle.deku_device.specs.Devices.{Health, DeviceFailed}
 use Rattle.deku_stream.specs.Standings.{Standing, Going, Stopped}
 use Rattle.deku_stream.specs.Outcomes.{Meaning}
 use Rattle.deku_reader.specs.ReaderCalls.{TakesBits, ReadsBits, ReadsVec, ReadsBytes, ReadsByteVec, ReadsWord, Ending, Skips}
@@ -33,9 +33,9 @@ abbrev pub OwnFaults : {A V : Type 0} → (ErrorKind → Type 0) → Meaning A V
 OwnFaults {A} {V} own m = (s : Standing A) (r : Result V DekuError) (u : Standing A) (k : ErrorKind)
     → m false s r u → (r ≡ Err (Io k)) ⊎ KeepsIo k u → own k ⊎ KeepsIo k s
 
--- an `Io` is answered only where the count of failures rose, if it is told, or of the call's own kinds, or kept before
+-- an `Io` is answered only where the count of failures rose, if it is known, or of the call's own kinds, or kept before
 abbrev pub Caused : {A V : Type 0} → (ErrorKind → Type 0) → Standing A → Health → Result V DekuError → Health → Type 0
-Caused own s f r g = (k : ErrorKind) → r ≡ Err (Io k) → MoreFailures f g ⊎ own k ⊎ KeepsIo k s
+Caused own s f r g = (k : ErrorKind) → r ≡ Err (Io k) → DeviceFailed f g ⊎ own k ⊎ KeepsIo k s
 
 -- The calls of a reader have no `Io` of their own, but that those that take memory may want it; and those of a writer none but want of memory and of room.
 abbrev pub CauseLaw : Type 0

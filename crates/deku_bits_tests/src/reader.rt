@@ -88,9 +88,9 @@ const ENDS: [Case; 4] = [
     (
         &[],
         &[
-            Step::Bits(4, Msb0, Err(Refusal::Ended(4))),
+            Step::Bits(4, Msb0, Err(Refusal::Until(4))),
             Step::Count(0),
-            Step::Kept(Refusal::Ended(4)),
+            Step::Kept(Refusal::Until(4)),
         ],
         0,
     ),
@@ -99,9 +99,9 @@ const ENDS: [Case; 4] = [
         &[
             Step::Bits(4, Msb0, Ok("0110")),
             Step::Bits(4, Msb0, Ok("1001")),
-            Step::Bits(16, Msb0, Err(Refusal::Ended(16))),
+            Step::Bits(16, Msb0, Err(Refusal::Until(16))),
             Step::Count(8),
-            Step::Kept(Refusal::Ended(16)),
+            Step::Kept(Refusal::Until(16)),
         ],
         1,
     ),
@@ -110,9 +110,9 @@ const ENDS: [Case; 4] = [
         &[
             Step::Bits(4, Msb0, Ok("0110")),
             Step::Bits(4, Msb0, Ok("1001")),
-            Step::Bits(16, Msb0, Err(Refusal::Ended(16))),
+            Step::Bits(16, Msb0, Err(Refusal::Until(16))),
             Step::Count(8),
-            Step::Kept(Refusal::Ended(16)),
+            Step::Kept(Refusal::Until(16)),
         ],
         1,
     ),
@@ -122,9 +122,9 @@ const ENDS: [Case; 4] = [
             Step::Bits(13, Msb0, Ok("0001000010000")),
             Step::Bits(3, Msb0, Ok("001")),
             Step::Bits(8, Msb0, Ok("10101011")),
-            Step::Bits(1, Msb0, Err(Refusal::Ended(1))),
+            Step::Bits(1, Msb0, Err(Refusal::Until(1))),
             Step::Count(24),
-            Step::Kept(Refusal::Ended(1)),
+            Step::Kept(Refusal::Until(1)),
         ],
         3,
     ),
@@ -368,7 +368,7 @@ const VECTORS: [Case; 4] = [
             Step::Count(16),
             Step::Vector(1, Msb0, Ok(&[0x03])),
             Step::Vector(0, Lsb0, Ok(&[])),
-            Step::Vector(2, Msb0, Err(Refusal::Ended(16))),
+            Step::Vector(2, Msb0, Err(Refusal::Until(16))),
             Step::Count(24),
         ],
         3,
@@ -380,8 +380,8 @@ const VECTORS: [Case; 4] = [
             Step::Vector(2, Lsb0, Ok(&[0xDB, 0xFC])),
             Step::Count(20),
             Step::Rest("1110"),
-            Step::Vector(1, Msb0, Err(Refusal::Ended(8))),
-            Step::Kept(Refusal::Ended(8)),
+            Step::Vector(1, Msb0, Err(Refusal::Until(8))),
+            Step::Kept(Refusal::Until(8)),
         ],
         3,
     ),
@@ -391,7 +391,7 @@ const VECTORS: [Case; 4] = [
             Step::Into(4, Msb0, Ok("1010")),
             Step::Vector(0, Lsb0, Ok(&[])),
             Step::Vector(1, Msb0, Ok(&[0xBC])),
-            Step::Vector(2, Msb0, Err(Refusal::Ended(16))),
+            Step::Vector(2, Msb0, Err(Refusal::Until(16))),
             Step::Count(12),
         ],
         2,
@@ -437,7 +437,7 @@ fn lends_its_source(rt: HostRuntime) -> Result<(), Fail> {
 
 // A reader over a source that is lent gives all of it back.
 fn read_lent<R: Source>(alloc: Global, source: &mut R, dst: &mut [bool]) -> Result<(), DekuError>
-    ensures { (after : Standing (List Bool)) × ReadsAt (ReadsBits Order.Msb0 (length dst.old)) (R.told source.old) (Going [] 0) (filling result dst.new) (R.told source.new) after }
+    ensures { (after : Standing (List Bool)) × ReadsAt (ReadsBits Order.Msb0 (length dst.old)) (R.known source.old) (Going [] 0) (filling result dst.new) (R.known source.new) after }
 {
     let mut reader = Reader::new(alloc, source);
     reader.read_bits_into(dst, Msb0)

@@ -53,7 +53,7 @@ fn expect_lists(rt: &impl Abort, alloc: Global, cases: &[Lists]) -> Result<(), F
 
 // Writes a list of bits to a sink that is lent: its caller has all of what was written.
 fn write_lent<S: Sink>(sink: &mut S, list: &[bool], order: Order) -> Result<(), DekuError>
-    ensures { (u : Standing Pending) × WritesAt (WritesBits order list.now) (S.told sink.old) (Going Nothing 0) result (S.told sink.new) u }
+    ensures { (u : Standing Pending) × WritesAt (WritesBits order list.now) (S.known sink.old) (Going Nothing 0) result (S.known sink.new) u }
 {
     let mut writer = Writer::new(sink);
     writer.write_bits_order(list, order)

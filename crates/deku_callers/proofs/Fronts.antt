@@ -6,7 +6,7 @@ use Rattle.deku_bits.specs.declared.ctx.Order.TheVariants.{Msb0}
 use Rattle.deku_bits.specs.Bits.{groups}
 use Rattle.deku_bits.specs.Streams.{Stream, skipped}
 use Rattle.deku_bits.specs.Pieces.{Piece}
-use Rattle.deku_bits.specs.Devices.{SourceTold}
+use Rattle.deku_bits.specs.Devices.{KnownSource}
 use Rattle.deku_bits.specs.Standings.{Standing, Going, Stopped, Output, count_of, stream_of, reader_state}
 use Rattle.deku_bits.specs.Outcomes.{Meaning}
 use Rattle.deku_bits.proofs.Handing.{meant}
@@ -15,9 +15,9 @@ use Rattle.deku.specs.Wholes.{Behind, ReadsOnce, TellsBehind}
 use Rattle.deku_symmetry.specs.Symmetric.{IsSymmetric, breadth}
 
 -- a reader counts what its state does
-counts_same : (coming : Option (List ℕ)) (s : Standing (List Bool)) → count_of (reader_state coming s) ≡ count_of s
-counts_same coming (Going w c) = refl
-counts_same coming (Stopped w e c) = refl
+counts_same : (remaining : Option (List ℕ)) (s : Standing (List Bool)) → count_of (reader_state remaining s) ≡ count_of s
+counts_same remaining (Going w c) = refl
+counts_same remaining (Stopped w e c) = refl
 
 module _ {V : Type 0} {pieces : V → List Piece → Type 0} {same : V → V → Type 0} {writes : V → Meaning Output (Unit {0})} {m : Meaning (Option Stream) V} (A : IsSymmetric pieces same writes m)
     (wide : ℕ) (all : (v : V) (ps : List Piece) → pieces v ps → breadth ps ≡ wide) where
@@ -38,8 +38,8 @@ module _ {V : Type 0} {pieces : V → List Piece → Type 0} {same : V → V →
       let is : n ≡ wide = c ∙ sym (counts_same new s) ∙ count _ v _ w in
       (is, subst (λ k. new ≡ Some (drop (groups k) bytes)) is tells)
 
-  pub front : {R P : Type 0} (told : R → SourceTold) (old new : R) (r : Result (ℕ × V) DekuError) → ReadsOnce told (Behind 0 m) old r new → P
-      → IfOk r (λ p. P → TellsBehind p.0 (told old) (told new))
-      → IfOk r (λ p. IfSome (told old).coming (λ bytes. (p.0 ≡ wide) × ((told new).coming ≡ Some (drop (groups wide) bytes))))
-  front told old new (Err e) w prompt tells = tt
-  front told old new (Ok p) w prompt tells = behind (told old).coming (told new).coming p.1 p.0 w.stands (meant w.reads).0 w.counts (tells prompt)
+  pub front : {R P : Type 0} (known : R → KnownSource) (old new : R) (r : Result (ℕ × V) DekuError) → ReadsOnce known (Behind 0 m) old r new → P
+      → IfOk r (λ p. P → TellsBehind p.0 (known old) (known new))
+      → IfOk r (λ p. IfSome (known old).remaining (λ bytes. (p.0 ≡ wide) × ((known new).remaining ≡ Some (drop (groups wide) bytes))))
+  front known old new (Err e) w no_read_ahead tells = tt
+  front known old new (Ok p) w no_read_ahead tells = behind (known old).remaining (known new).remaining p.1 p.0 w.stands (meant w.reads).0 w.counts (tells no_read_ahead)

@@ -8,7 +8,7 @@ use Rattle.deku_bits.specs.declared.error.DekuError.TheVariants.{Io}
 use Rattle.deku_bits.specs.Pieces.{total}
 use Rattle.deku_bits.specs.Streams.{Stream, fresh, normal}
 use Rattle.deku_bits.specs.Writers.{Pending}
-use Rattle.deku_bits.specs.Devices.{SinkTold, Whole, GoesOnward, bytes_before}
+use Rattle.deku_bits.specs.Devices.{KnownSink, Whole, GoesOnward, bytes_before}
 use Rattle.deku_bits.specs.Standings.{Standing, Going, Stopped, Output, reader_state, writer_state}
 use Rattle.deku_bits.specs.Outcomes.{Value, Refusal}
 use Rattle.deku_bits.specs.ReaderCalls.{Ending}
@@ -33,9 +33,9 @@ handed P (Err x) e same p = subst (λ y. P (Err y)) (sym same) p
 
 -- ---- reading
 -- a reader over bytes of which nothing is read
-pub starts : (bytes : List ℕ) (coming : Option (List ℕ)) (state : Standing (List Bool)) → coming ≡ Some bytes → state ≡ Going [] 0 → reader_state coming state ≡ Going (Some (fresh bytes)) 0
+pub starts : (bytes : List ℕ) (remaining : Option (List ℕ)) (state : Standing (List Bool)) → remaining ≡ Some bytes → state ≡ Going [] 0 → reader_state remaining state ≡ Going (Some (fresh bytes)) 0
 unfolding normal
-starts bytes coming state e f = rw (e, f) refl
+starts bytes remaining state e f = rw (e, f) refl
 
 values_are : (x y : List Number) → ◌≡◌ {A = Result (List Number) DekuError} (Ok x) (Ok y) → x ≡ y
 values_are x y e = cc
@@ -116,9 +116,9 @@ appended bytes None g = absurd g
 appended bytes (Some ys) g = ap Some g
 
 -- what a sink tells that it took is where its writer stands
-tells : (told : SinkTold) (state : Standing Pending) (after : Output) (c : ℕ) → writer_state told state ≡ Going after c → told.taken ≡ after.taken
-tells told (Stopped p e d) after c is = absurd (cc)
-tells told (Going pending d) after c is = cc
+tells : (known : KnownSink) (state : Standing Pending) (after : Output) (c : ℕ) → writer_state known state ≡ Going after c → known.taken ≡ after.taken
+tells known (Stopped p e d) after c is = absurd (cc)
+tells known (Going pending d) after c is = cc
 
 nothing_behind : (n : ℕ) → ◌≡◌ {A = List ℕ} (drop n []) []
 nothing_behind zero = refl
@@ -126,14 +126,14 @@ nothing_behind (suc n) = refl
 
 module _ (layout : LayoutLaw) (padded : PaddedLaw) (items : List Item) (fitting : All IsFitting items) (aligned : AlignedFields (fields_of items)) (small : IsCountable items) where
   -- items that are written from nothing and padded are what they lay out, as the sink tells
-  pub laid : (start : Standing Output) (told : SinkTold) (state : Standing Pending) → start ≡ Going in_memory 0
-      → Both (WritesItems items) Finalizes false start (Ok tt) (writer_state told state) → (bytes : List ℕ) × LaysOut items bytes × (told.taken ≡ Some bytes)
-  laid start told state begin m =
+  pub laid : (start : Standing Output) (known : KnownSink) (state : Standing Pending) → start ≡ Going in_memory 0
+      → Both (WritesItems items) Finalizes false start (Ok tt) (writer_state known state) → (bytes : List ℕ) × LaysOut items bytes × (known.taken ≡ Some bytes)
+  laid start known state begin m =
       let l = layout items fitting in
       let room : 0 + 8 * length l.0 < 2 ^ 64 = omega (arith, small l.0 l.1) in
-      let from = subst (λ s. Both (WritesItems items) Finalizes false s (Ok tt) (writer_state told state)) begin m in
-      elim (padded items l.0 in_memory 0 (Ok tt) (writer_state told state) (record { fitting = fitting; aligned = aligned; laid = l.1; none = refl; room = tt; countable = room }) from) [
-        | inl p ↦ (l.0, l.1, tells told state p.1.0 _ p.1.2 ∙ appended l.0 p.1.0.taken p.1.1.taken)
+      let from = subst (λ s. Both (WritesItems items) Finalizes false s (Ok tt) (writer_state known state)) begin m in
+      elim (padded items l.0 in_memory 0 (Ok tt) (writer_state known state) (record { fitting = fitting; aligned = aligned; laid = l.1; none = refl; room = tt; countable = room }) from) [
+        | inl p ↦ (l.0, l.1, tells known state p.1.0 _ p.1.2 ∙ appended l.0 p.1.0.taken p.1.1.taken)
         | inr other ↦ absurd (cc)
       ]
 
@@ -150,4 +150,4 @@ module _ (layout : LayoutLaw) (padded : PaddedLaw) (items : List Item) (fitting 
 
 -- a vector that was empty holds what its sink took
 pub held : (w v : Whole) (bytes : List ℕ) → w.bytes ≡ [] → GoesOnward (Some w) (Some v) → bytes_before v.place v.bytes ≡ Some bytes → v.bytes ≡ bytes
-held w v bytes empty on told = holds w v bytes on told ∙ ap (λ x. bytes ++ drop (length bytes) x) empty ∙ ap (λ x. bytes ++ x) (nothing_behind (length bytes)) ∙ append-nil bytes
+held w v bytes empty on known = holds w v bytes on known ∙ ap (λ x. bytes ++ drop (length bytes) x) empty ∙ ap (λ x. bytes ++ x) (nothing_behind (length bytes)) ∙ append-nil bytes

@@ -51,7 +51,7 @@ fn look_and_read<R: Source>(
     reader: &mut Reader<R>,
     fields: &[Field],
 ) -> Result<Vec<Number>, DekuError>
-    ensures { Reads R.told (Then Ending (λ _. ReadsList fields.now)) reader.old (items_of result) reader.new }
+    ensures { Reads R.known (Then Ending (λ _. ReadsList fields.now)) reader.old (items_of result) reader.new }
 {
     match reader.end() {
         Ok(_at_end) => read_list(reader, fields),
@@ -87,7 +87,7 @@ pub fn write_in_three<W: Sink>(
     second: &[Item],
     third: &[Item],
 ) -> Result<(), DekuError>
-    ensures { Writes W.told (WritesItems (first.now ++ (second.now ++ third.now))) writer.old result writer.new }
+    ensures { Writes W.known (WritesItems (first.now ++ (second.now ++ third.now))) writer.old result writer.new }
 {
     write_calls_law();
     match write_list(writer, first) {

@@ -17,7 +17,7 @@ use std::alloc::Global;
 /// let (bits, header) = header_of(alloc, &mut source)?;       // the source is at what the header carries
 /// ```
 pub fn header_of<R: Source>(alloc: Global, source: &mut R) -> Result<(usize, Udp), DekuError>
-    ensures { IfOk result (λ p. IfSome (R.told source.old).coming (λ bytes. (p.0 ≡ 64) × ((R.told source.new).coming ≡ Some (drop 8 bytes)))) }
+    ensures { IfOk result (λ p. IfSome (R.known source.old).remaining (λ bytes. (p.0 ≡ 64) × ((R.known source.new).remaining ≡ Some (drop 8 bytes)))) }
 {
     symmetric_law::<Udp>();
     Udp::from_reader(alloc, (source, 0))

@@ -13,10 +13,10 @@ pub second_behind : {A B : Type 0} (m : Meaning (Option Stream) A) (k : Meaning 
     → m false (reader_state now (Going [] 0)) (Ok a) (reader_state next s) → k false (reader_state next (Going [] 0)) (Ok b) v
     → (u : Standing (Option Stream)) × (w : Standing (Option Stream)) × FromFirst m bytes (Ok a) u × FromFirst k (drop (groups (count_of u)) bytes) (Ok b) w
 second_behind m k bytes now next s v n a b start behind count first second =
-    let told : next ≡ Some (drop (groups n) bytes) = subst (λ x. IfSome x (λ bs. next ≡ Some (drop (groups n) bs))) start behind in
+    let known : next ≡ Some (drop (groups n) bytes) = subst (λ x. IfSome x (λ bs. next ≡ Some (drop (groups n) bs))) start behind in
     let far : n ≡ count_of (reader_state next s) = counted_state next s n count in (
       reader_state next s,
       v,
       subst (λ x. m false x (Ok a) (reader_state next s)) (starts_fresh now bytes (Going [] 0) start refl) first,
-      subst (λ x. k false x (Ok b) v) (starts_fresh next _ (Going [] 0) (told ∙ ap (λ i. Some (drop (groups i) bytes)) far) refl) second,
+      subst (λ x. k false x (Ok b) v) (starts_fresh next _ (Going [] 0) (known ∙ ap (λ i. Some (drop (groups i) bytes)) far) refl) second,
     )

@@ -24,7 +24,7 @@ impl DekuReader<()> for Node {
 
     ghost accepts = { λ c. c ≡ c };
 
-    ghost prompt = { λ c. c ≡ c };
+    ghost no_read_ahead = { λ c. c ≡ c };
 
     ghost meaning = { λ _.
         Then (⟦<u8 as DekuReader<(BitSize, Order)>>⟧.meaning (record { 0 = 4 }, Lsb0)) (λ kind.
@@ -90,7 +90,7 @@ impl DekuReader<Endian> for Child {
 
     ghost accepts = { λ c. c ≡ c };
 
-    ghost prompt = { λ c. c ≡ c };
+    ghost no_read_ahead = { λ c. c ≡ c };
 
     ghost meaning = { λ endian.
         Then (⟦<u8 as DekuReader<Endian>>⟧.meaning endian) (λ byte.
@@ -143,7 +143,7 @@ impl DekuReader<()> for Parent {
 
     ghost accepts = { λ c. c ≡ c };
 
-    ghost prompt = { λ c. c ≡ c };
+    ghost no_read_ahead = { λ c. c ≡ c };
 
     ghost meaning = { λ _.
         Then (⟦<u16 as DekuReader<(Endian, BitSize, Order)>>⟧.meaning (Big, record { 0 = 13 }, Lsb0)) (λ wide.
@@ -204,7 +204,7 @@ impl DekuReader<()> for LsbField {
 
     ghost accepts = { λ c. c ≡ c };
 
-    ghost prompt = { λ c. c ≡ c };
+    ghost no_read_ahead = { λ c. c ≡ c };
 
     ghost meaning = { λ _. JoinedBy (λ a b. record { thirteen = a; three = b })
         (⟦<u16 as DekuReader<(BitSize, Order)>>⟧.meaning (record { 0 = 13 }, Lsb0))
@@ -253,7 +253,7 @@ impl DekuReader<()> for Bytes {
 
     ghost accepts = { λ c. c ≡ c };
 
-    ghost prompt = { λ c. c ≡ c };
+    ghost no_read_ahead = { λ c. c ≡ c };
 
     ghost meaning = { λ _. JoinedBy (λ a b. record { two = a; one = b }) (⟦<u32 as DekuReader<ByteSize>>⟧.meaning (record { 0 = 2 })) (⟦<u8 as DekuReader<()>>⟧.meaning tt) };
 

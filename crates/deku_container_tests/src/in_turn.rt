@@ -21,7 +21,7 @@ fn in_turn<A: DekuContainerRead, B: DekuContainerRead>(
 ) -> Result<(A, B), DekuError>
     requires first { A.accepts tt }
     requires second { B.accepts tt }
-    ensures { IfOk result (λ p. A.prompt tt → (u : Standing (Option Stream)) × (v : Standing (Option Stream)) × FromFirst (Behind 0 (A.meaning tt)) bytes.now (Ok p.0) u
+    ensures { IfOk result (λ p. A.no_read_ahead tt → (u : Standing (Option Stream)) × (v : Standing (Option Stream)) × FromFirst (Behind 0 (A.meaning tt)) bytes.now (Ok p.0) u
         × FromFirst (Behind 0 (B.meaning tt)) (drop (groups (count_of u)) bytes.now) (Ok p.1) v) }
 {
     let mut input = Cursor::new(bytes);

@@ -1,6 +1,6 @@
 //! A source and a sink that a user writes, and what is read and written through them.
 
-ghost use Rattle.deku.specs.Devices.{untold_source};
+ghost use Rattle.deku.specs.Devices.{unknown_source};
 
 use deku::ctx::BitSize;
 use deku::device::{Sink, Source};
@@ -30,9 +30,9 @@ impl<R: Seek> Seek for Buffered<R> {
 }
 
 impl<R: Read + Seek> Source for Buffered<R> {
-    ghost told = { λ _. untold_source };
+    ghost known = { λ _. unknown_source };
 
-    ghost told_by_place = { λ s at all p. Prim.cc };
+    ghost known_by_place = { λ s at all p. Prim.cc };
 
     fn fetch(&mut self, buf: &mut [u8]) -> io::Result<()> {
         self.inner.read_exact(buf)
@@ -43,7 +43,7 @@ impl<R: Read + Seek> Source for Buffered<R> {
         Ok(())
     }
 
-    fn go(&mut self, to: SeekFrom) -> io::Result<u64> {
+    fn seek_to(&mut self, to: SeekFrom) -> io::Result<u64> {
         self.seek(to)
     }
 }
@@ -80,15 +80,15 @@ impl<W: Seek> Seek for Counted<W> {
 }
 
 impl<W: Sink> Sink for Counted<W> {
-    ghost told = { λ s. W.told s.inner };
+    ghost known = { λ s. W.known s.inner };
 
     fn give(&mut self, bytes: &[u8]) -> io::Result<()> {
         self.bytes = self.bytes.wrapping_add(bytes.len() as u64);
         self.inner.give(bytes)
     }
 
-    fn go(&mut self, to: SeekFrom) -> io::Result<u64> {
-        self.inner.go(to)
+    fn seek_to(&mut self, to: SeekFrom) -> io::Result<u64> {
+        self.inner.seek_to(to)
     }
 }
 

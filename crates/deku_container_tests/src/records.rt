@@ -20,7 +20,7 @@ impl DekuReader<()> for Octet {
 
     ghost accepts = { λ c. c ≡ c };
 
-    ghost prompt = { λ c. c ≡ c };
+    ghost no_read_ahead = { λ c. c ≡ c };
 
     ghost meaning = { λ _. Mapped (λ v. record { value = v }) (⟦<u8 as DekuReader<()>>⟧.meaning tt) };
 
@@ -62,7 +62,7 @@ impl DekuReader<()> for Pair {
 
     ghost accepts = { λ c. c ≡ c };
 
-    ghost prompt = { λ c. c ≡ c };
+    ghost no_read_ahead = { λ c. c ≡ c };
 
     ghost meaning = { λ _. Mapped (λ v. record { value = v }) (⟦<u16 as DekuReader<Endian>>⟧.meaning Big) };
 
@@ -109,7 +109,7 @@ impl DekuReader<()> for Low {
 
     ghost accepts = { λ c. c ≡ c };
 
-    ghost prompt = { λ c. c ≡ c };
+    ghost no_read_ahead = { λ c. c ≡ c };
 
     ghost meaning = { λ _. Mapped (λ v. record { value = v }) (ReadsUnsigned byte (record { endian = Little; order = Lsb0; size = Bits 3 })) };
 
@@ -156,7 +156,7 @@ impl DekuReader<()> for Nine {
 
     ghost accepts = { λ c. c ≡ c };
 
-    ghost prompt = { λ c. c ≡ c };
+    ghost no_read_ahead = { λ c. c ≡ c };
 
     ghost meaning = { λ _. JoinedBy (λ a b. record { halves = a; flag = b }) (⟦<(u8, u8) as DekuReader<BitSize>>⟧.meaning (record { 0 = 4 })) (⟦<u8 as DekuReader<BitSize>>⟧.meaning (record { 0 = 1 })) };
 
@@ -202,7 +202,7 @@ impl DekuReader<()> for Head {
 
     ghost accepts = { λ c. c ≡ c };
 
-    ghost prompt = { λ c. c ≡ c };
+    ghost no_read_ahead = { λ c. c ≡ c };
 
     ghost meaning = { λ _. JoinedBy (λ a b. record { halves = a; number = b }) (⟦<(u8, u8) as DekuReader<(Endian, BitSize)>>⟧.meaning (Big, record { 0 = 4 })) (⟦<u16 as DekuReader<Endian>>⟧.meaning Big) };
 
@@ -245,7 +245,7 @@ impl DekuReader<()> for Empty {
 
     ghost accepts = { λ c. c ≡ c };
 
-    ghost prompt = { λ c. c ≡ c };
+    ghost no_read_ahead = { λ c. c ≡ c };
 
     ghost meaning = { λ _. Answer (record {}) };
 

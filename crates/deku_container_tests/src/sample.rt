@@ -22,7 +22,7 @@ impl DekuReader<()> for Sample {
 
     ghost accepts = { λ c. c ≡ c };
 
-    ghost prompt = { λ c. c ≡ c };
+    ghost no_read_ahead = { λ c. c ≡ c };
 
     ghost meaning = { λ _. JoinedBy (λ halves value. record { sensor = halves.0; state = halves.1; value = value })
         (⟦<(u8, u8) as DekuReader<(Endian, BitSize)>>⟧.meaning (Big, record { 0 = 4 }))

@@ -5,7 +5,7 @@ use Rattle.std.specs.Prelude.{get_or}
 use Rattle.std.proofs.KnownBytes.{Appends-nil, Appends-trans}
 use Rattle.std.specs.Io.KnownBytes.{Appends}
 use Rattle.std.specs.declared.io.ErrorKind.{ErrorKind}
-use Rattle.deku_device.specs.Devices.{SinkTold, Shrinks, LacksRoom, Gave, TakesSome, ShrinksSome, Declined}
+use Rattle.deku_device.specs.Devices.{KnownSink, Shrinks, LacksRoom, Gave, TakesSome, ShrinksSome, Declined}
 use Rattle.deku_device.proofs.Failures.{no_fewer_same, no_fewer_on, more_on}
 
 -- ---- room
@@ -34,10 +34,10 @@ LacksRoom-more None m n k l p = p
 LacksRoom-more (Some x) m n k l p = (p.0, omega (arith, p.1))
 
 -- ---- transfers
-pub Gave-nil : (a : SinkTold) → Gave a a []
+pub Gave-nil : (a : KnownSink) → Gave a a []
 Gave-nil a = record { taken = Appends-nil a.taken; room = Shrinks-none a.room; health = no_fewer_same a.health }
 
-pub Gave-trans : (a b c : SinkTold) (xs ys : List ℕ) → Gave a b xs → Gave b c ys → Gave a c (xs ++ ys)
+pub Gave-trans : (a b c : KnownSink) (xs ys : List ℕ) → Gave a b xs → Gave b c ys → Gave a c (xs ++ ys)
 Gave-trans a b c xs ys p q = record {
   taken = Appends-trans a.taken b.taken c.taken xs ys p.taken q.taken;
   room = rw length-append (Shrinks-trans a.room b.room c.room (length xs) (length ys) p.room q.room);
@@ -105,7 +105,7 @@ TakesSome-none None xs = tt
 TakesSome-none (Some s) xs = let none : length s - length s ≡ 0 = omega arith in rw none (sym (append-nil s))
 
 -- bytes were taken, and then not all of the others
-pub Declined-after : (a b c : SinkTold) (xs ys : List ℕ) (k : ErrorKind) → Gave a b xs → Declined b c ys k → Declined a c (xs ++ ys) k
+pub Declined-after : (a b c : KnownSink) (xs ys : List ℕ) (k : ErrorKind) → Gave a b xs → Declined b c ys k → Declined a c (xs ++ ys) k
 Declined-after a b c xs ys k p q = record {
   cause = elim q.cause [
     | inl r ↦ inl (more_on a.health b.health c.health p.health r)
@@ -117,7 +117,7 @@ Declined-after a b c xs ys k p q = record {
 }
 
 -- where more bytes were to be taken
-pub Declined-more : (a b : SinkTold) (xs ys : List ℕ) (k : ErrorKind) → Declined a b xs k → Declined a b (xs ++ ys) k
+pub Declined-more : (a b : KnownSink) (xs ys : List ℕ) (k : ErrorKind) → Declined a b xs k → Declined a b (xs ++ ys) k
 Declined-more a b xs ys k q = record {
   cause = elim q.cause [
     | inl r ↦ inl r
@@ -129,7 +129,7 @@ Declined-more a b xs ys k q = record {
 }
 
 -- the first i bytes were taken, and then not the next one
-pub Declined-at : (a b c : SinkTold) (bytes : List ℕ) (i : ℕ) (k : ErrorKind) → i < length bytes → Gave a b (take i bytes) → Declined b c (get_or bytes i 0 ∷ []) k → Declined a c bytes k
+pub Declined-at : (a b c : KnownSink) (bytes : List ℕ) (i : ℕ) (k : ErrorKind) → i < length bytes → Gave a b (take i bytes) → Declined b c (get_or bytes i 0 ∷ []) k → Declined a c bytes k
 Declined-at a b c bytes i k l p q =
     let tried : Declined a c (take (i + 1) bytes) k = subst (λ x. Declined a c x k) (sym (take_more bytes i 0 l)) (Declined-after a b c (take i bytes) (get_or bytes i 0 ∷ []) k p q) in
     subst (λ x. Declined a c x k) (take-append-drop (i + 1) bytes) (Declined-more a c (take (i + 1) bytes) (drop (i + 1) bytes) k tried)

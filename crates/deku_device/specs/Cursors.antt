@@ -6,11 +6,11 @@ use Rattle.std.specs.Io.Cursor.{cursor_remaining, cursor_position, cursor_inner}
 use Rattle.std.specs.declared.io.Cursor.{Cursor}
 use Rattle.deku_device.specs.declared.probe.FailAt.{FailAt}
 use Rattle.deku_device.specs.declared.probe.trickle.Trickle.{Trickle}
-use Rattle.deku_device.specs.Devices.{SourceTold, SinkTold, Whole, ReadOnly, Overwritten, Grows, bytes_before}
+use Rattle.deku_device.specs.Devices.{KnownSource, KnownSink, Whole, ReadOnly, Overwritten, Grows, bytes_before}
 
 -- where all bytes are known, a cursor tells those from its place on
-pub cursor_told : {T : Type 0} (bytes : T → Option (List ℕ)) (c : Cursor T) (at : ℕ) (all : List ℕ) → Some (cursor_position c) ≡ Some at → bytes (cursor_inner c) ≡ Some all → cursor_remaining bytes c ≡ Some (drop at all)
-cursor_told bytes c at all p q = rw q (cc)
+pub cursor_known : {T : Type 0} (bytes : T → Option (List ℕ)) (c : Cursor T) (at : ℕ) (all : List ℕ) → Some (cursor_position c) ≡ Some at → bytes (cursor_inner c) ≡ Some all → cursor_remaining bytes c ≡ Some (drop at all)
+cursor_known bytes c at all p q = rw q (cc)
 
 -- all bytes of a cursor that is read, with its place, where they are known
 abbrev pub read_whole : ℕ → Option (List ℕ) → Option Whole
@@ -26,16 +26,16 @@ abbrev pub vector_whole : Cursor (Vec ℕ) → Option Whole
 vector_whole c = Some (record { place = cursor_position c; bytes = (cursor_inner c).items; access = Grows })
 
 -- what a cursor over bytes tells, where they are known
-abbrev pub cursor_source : {T : Type 0} → (T → Option (List ℕ)) → Cursor T → SourceTold
+abbrev pub cursor_source : {T : Type 0} → (T → Option (List ℕ)) → Cursor T → KnownSource
 cursor_source bytes c = record {
-  coming = cursor_remaining bytes c;
+  remaining = cursor_remaining bytes c;
   health = record { failures = Some 0; lenders = []; whole = read_whole (cursor_position c) (bytes (cursor_inner c)) };
 }
 
 -- what a source that gives one byte at a time tells
-abbrev pub trickling : Trickle → SourceTold
+abbrev pub trickling : Trickle → KnownSource
 trickling s = record {
-  coming = cursor_remaining (λ b. Some b.now) s.inner;
+  remaining = cursor_remaining (λ b. Some b.now) s.inner;
   health = record { failures = Some 0; lenders = []; whole = read_whole (cursor_position s.inner) (Some (cursor_inner s.inner).now) };
 }
 
@@ -45,14 +45,14 @@ failures_at zero = 1
 failures_at (suc n) = 0
 
 -- what a source that fails once tells
-abbrev pub failing_source : {B : Type 0} → (B → Option (List ℕ)) → FailAt B → SourceTold
+abbrev pub failing_source : {B : Type 0} → (B → Option (List ℕ)) → FailAt B → KnownSource
 failing_source bytes s = record {
-  coming = cursor_remaining bytes s.inner;
+  remaining = cursor_remaining bytes s.inner;
   health = record { failures = Some (failures_at s.left); lenders = []; whole = read_whole (cursor_position s.inner) (bytes (cursor_inner s.inner)) };
 }
 
 -- what a sink that fails once tells
-abbrev pub failing_sink : FailAt (MutBor (List ℕ)) → SinkTold
+abbrev pub failing_sink : FailAt (MutBor (List ℕ)) → KnownSink
 failing_sink s = record {
   taken = bytes_before (cursor_position s.inner) (cursor_inner s.inner).now;
   room = Some (drop (cursor_position s.inner) (cursor_inner s.inner).now);
@@ -60,16 +60,16 @@ failing_sink s = record {
 }
 
 -- what a cursor over a slice tells: the bytes before its place, and its room by those behind
-abbrev pub slice_told : Cursor (MutBor (List ℕ)) → SinkTold
-slice_told c = record {
+abbrev pub known_slice : Cursor (MutBor (List ℕ)) → KnownSink
+known_slice c = record {
   taken = bytes_before (cursor_position c) (cursor_inner c).now;
   room = Some (drop (cursor_position c) (cursor_inner c).now);
   health = record { failures = Some 0; lenders = (cursor_inner c).ghost_name ∷ []; whole = slice_whole c };
 }
 
 -- what a cursor over a vector tells: the bytes before its place; its room is what memory is found
-abbrev pub vector_told : Cursor (Vec ℕ) → SinkTold
-vector_told c = record {
+abbrev pub known_vector : Cursor (Vec ℕ) → KnownSink
+known_vector c = record {
   taken = bytes_before (cursor_position c) (cursor_inner c).items;
   room = None;
   health = record { failures = Some 0; lenders = []; whole = vector_whole c };

@@ -25,12 +25,12 @@ pub record Health : Type 0 where
   pub whole : Option Whole
 
 -- what a source tells: the bytes to come, where they are known
-pub record SourceTold : Type 0 where
-  pub coming : Option (List ℕ)
+pub record KnownSource : Type 0 where
+  pub remaining : Option (List ℕ)
   pub health : Health
 
 -- what a sink tells: the bytes that it took, and the room that it has left, by the bytes that lie there, where they are known
-pub record SinkTold : Type 0 where
+pub record KnownSink : Type 0 where
   pub taken : Option (List ℕ)
   pub room : Option (List ℕ)
   pub health : Health
@@ -72,13 +72,13 @@ abbrev pub GoesOnward : Option Whole → Option Whole → Type 0
 GoesOnward old new = (new ≡ old) ⊎ Transferred old new
 
 -- no failure is forgotten, and the references stay, and so do the bytes beside those transferred
-pub record NoFewerFailures (old new : Health) : Type 0 where
+pub record DeviceKept (old new : Health) : Type 0 where
   pub failures : NotFewer old.failures new.failures
   pub lenders : new.lenders ≡ old.lenders
   pub whole : GoesOnward old.whole new.whole
 
 -- a call failed, and the references stay, and so do the bytes beside those transferred
-pub record MoreFailures (old new : Health) : Type 0 where
+pub record DeviceFailed (old new : Health) : Type 0 where
   pub failures : More old.failures new.failures
   pub lenders : new.lenders ≡ old.lenders
   pub whole : GoesOnward old.whole new.whole
@@ -89,8 +89,8 @@ unknown = record { failures = None; lenders = []; whole = None }
 
 -- ---- sources
 -- a source that tells nothing
-abbrev pub untold_source : SourceTold
-untold_source = record { coming = None; health = unknown }
+abbrev pub unknown_source : KnownSource
+unknown_source = record { remaining = None; health = unknown }
 
 -- bytes that are told are fewer than n
 abbrev pub FewerThan : ℕ → Option (List ℕ) → Type 0
@@ -112,7 +112,7 @@ Loses n (Some bs) (Some cs) = (n ≤ length bs) × (cs ≡ drop n bs)
 -- bytes that are told begin with these
 abbrev pub BeginsWith : List ℕ → Option (List ℕ) → Type 0
 BeginsWith bytes None = ⊤
-BeginsWith bytes (Some coming) = take (length bytes) coming ≡ bytes
+BeginsWith bytes (Some remaining) = take (length bytes) remaining ≡ bytes
 
 -- where it was told that no byte is to come, it is told again
 abbrev pub StaysEmpty : Option (List ℕ) → Option (List ℕ) → Type 0
@@ -121,8 +121,8 @@ StaysEmpty (Some bs) new = length bs ≡ 0 → new ≡ Some bs
 
 -- ---- sinks
 -- a sink that tells nothing
-abbrev pub untold_sink : SinkTold
-untold_sink = record { taken = None; room = None; health = unknown }
+abbrev pub unknown_sink : KnownSink
+unknown_sink = record { taken = None; room = None; health = unknown }
 
 -- the bytes before a place, where the place is not past the end
 abbrev pub bytes_before : ℕ → List ℕ → Option (List ℕ)
@@ -141,10 +141,10 @@ LacksRoom None n kind = kind ≡ OutOfMemory
 LacksRoom (Some r) n kind = (kind ≡ WriteZero) × (length r < n)
 
 -- the sink took these bytes
-pub record Gave (old new : SinkTold) (bytes : List ℕ) : Type 0 where
+pub record Gave (old new : KnownSink) (bytes : List ℕ) : Type 0 where
   pub taken : Appends old.taken new.taken bytes
   pub room : Shrinks old.room new.room (length bytes)
-  pub health : NoFewerFailures old.health new.health
+  pub health : DeviceKept old.health new.health
 
 -- taken bytes that are told are the old ones and a beginning of these
 abbrev pub TakesSome : Option (List ℕ) → Option (List ℕ) → List ℕ → Type 0
@@ -160,8 +160,8 @@ ShrinksSome (Some r) None = ⊥
 ShrinksSome (Some r) (Some s) = s ≡ drop (length r - length s) r
 
 -- the sink did not take all of the bytes, but a beginning of them: a call failed, or it lacks the room
-pub record Declined (old new : SinkTold) (bytes : List ℕ) (kind : ErrorKind) : Type 0 where
-  pub cause : MoreFailures old.health new.health ⊎ LacksRoom old.room (length bytes) kind
+pub record Declined (old new : KnownSink) (bytes : List ℕ) (kind : ErrorKind) : Type 0 where
+  pub cause : DeviceFailed old.health new.health ⊎ LacksRoom old.room (length bytes) kind
   pub taken : TakesSome old.taken new.taken bytes
   pub room : ShrinksSome old.room new.room
-  pub health : NoFewerFailures old.health new.health
+  pub health : DeviceKept old.health new.health

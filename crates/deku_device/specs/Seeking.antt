@@ -3,7 +3,7 @@ use Rattle.std.specs.Prelude.{◌≡◌, ◌⊎◌, ⊤, ℕ, ℤ, zero, suc, �
 use Rattle.std.specs.Io.Seek.{IsSeekTarget}
 use Rattle.std.specs.declared.io.SeekFrom.{SeekFrom}
 use Rattle.std.specs.declared.io.SeekFrom.TheVariants.{Start, End, Current}
-use Rattle.deku_device.specs.Devices.{Access, ReadOnly, Overwritten, Grows, Whole, Health, NotFewer, More, SourceTold, SinkTold, bytes_before}
+use Rattle.deku_device.specs.Devices.{Access, ReadOnly, Overwritten, Grows, Whole, Health, NotFewer, More, KnownSource, KnownSink, bytes_before}
 
 -- the count after a seek that succeeds: by `Start` that of the bytes before the place, but the same for place 0; by `Current` forward, the bits that are
 -- left out more; and else the same
@@ -36,7 +36,7 @@ abbrev pub at_place : {E : Type 0} → Whole → Result ℕ E → Whole
 at_place w (Ok n) = record w { place = n }
 at_place w (Err e) = w
 
--- bytes that are told stay, at the place that the seek answers
+-- bytes that are known stay, at the place that the seek answers
 abbrev pub Lands : {E : Type 0} → Option Whole → Option Whole → Result ℕ E → Type 0
 Lands None new r = ⊤
 Lands (Some w) new r = new ≡ Some (at_place w r)
@@ -49,18 +49,18 @@ pub record Seeks {E : Type 0} (old new : Health) (to : SeekFrom) (r : Result ℕ
   pub whole : Lands old.whole new.whole r
   pub target : IfSome old.whole (λ w. IfOk r (IsSeekTarget w.place (Some w.bytes) to))
 
--- where all bytes are told, a seek is refused only where it leads nowhere, or where a call fails
+-- where all bytes are known, a seek is refused only where it leads nowhere, or where a call fails
 abbrev pub RefusedSeek : {E : Type 0} → Health → Health → SeekFrom → Result ℕ E → Type 0
 RefusedSeek old new to r = IfSome old.whole (λ w. IfErr r (λ e. LeadsNowhere w to ⊎ More old.failures new.failures))
 
--- what a seek to n answers, where only its success is told
+-- what a seek to n answers, where only its success is known
 abbrev pub toward : {E : Type 0} → ℕ → Result (Unit {0}) E → Result ℕ E
 toward n (Ok u) = Ok n
 toward n (Err e) = Err e
 
--- where all bytes are told, those from the place on are to come
-abbrev pub ComesFrom : {E : Type 0} → Option Whole → Result ℕ E → SourceTold → Type 0
-ComesFrom w r told = IfSome w (λ w. IfOk r (λ n. told.coming ≡ Some (drop n w.bytes)))
+-- where all bytes are known, those from the place on are to come
+abbrev pub ComesFrom : {E : Type 0} → Option Whole → Result ℕ E → KnownSource → Type 0
+ComesFrom w r known = IfSome w (λ w. IfOk r (λ n. known.remaining ≡ Some (drop n w.bytes)))
 
 -- the room by the bytes behind a place; what grows tells none
 abbrev pub room_at : Access → ℕ → List ℕ → Option (List ℕ)
@@ -68,9 +68,9 @@ room_at Grows at all = None
 room_at Overwritten at all = Some (drop at all)
 room_at ReadOnly at all = Some (drop at all)
 
--- where all bytes are told, those before the place are taken, and those behind lie in the room
-abbrev pub StandsAt : {E : Type 0} → Option Whole → Result ℕ E → SinkTold → Type 0
-StandsAt w r told = IfSome w (λ w. IfOk r (λ n. (told.taken ≡ bytes_before n w.bytes) × (told.room ≡ room_at w.access n w.bytes)))
+-- where all bytes are known, those before the place are taken, and those behind lie in the room
+abbrev pub StandsAt : {E : Type 0} → Option Whole → Result ℕ E → KnownSink → Type 0
+StandsAt w r known = IfSome w (λ w. IfOk r (λ n. (known.taken ≡ bytes_before n w.bytes) × (known.room ≡ room_at w.access n w.bytes)))
 
 -- a place, n bytes further on, as far as a `u64` counts
 abbrev pub place_on : ℕ → ℕ → ℕ

@@ -9,8 +9,8 @@ ghost use Rattle.std.specs.Io.Cursor.{cursor_position, cursor_inner, cursor_rema
 ghost use Rattle.std.specs.IoError.{error_kind};
 ghost use Rattle.std.specs.Vec.{vec_len, vec_capacity};
 ghost use Rattle.std.specs.Io.Seek.{SeekMoves};
-ghost use Rattle.deku_device.specs.Devices.{SourceTold, SinkTold, untold_source, untold_sink, NoFewerFailures, MoreFailures, FewerThan, Passes, StaysEmpty, BeginsWith, bytes_before, Gave, Declined};
-ghost use Rattle.deku_device.specs.Cursors.{cursor_told, cursor_source, slice_told, vector_told, fitting_front, reaching};
+ghost use Rattle.deku_device.specs.Devices.{KnownSource, KnownSink, unknown_source, unknown_sink, DeviceKept, DeviceFailed, FewerThan, Passes, StaysEmpty, BeginsWith, bytes_before, Gave, Declined};
+ghost use Rattle.deku_device.specs.Cursors.{cursor_known, cursor_source, known_slice, known_vector, fitting_front, reaching};
 ghost use Rattle.deku_device.specs.Overlays.{overlaid};
 ghost use Rattle.deku_device.specs.Seeking.{place_on, Seeks, RefusedSeek, ComesFrom, StandsAt};
 
@@ -22,11 +22,11 @@ use std::io::{AsBytes, Cursor, Error, ErrorKind, Read, Seek, SeekFrom, Write};
 /// A reader that can seek, whose bytes to come and whose count of failures may be known.
 ///
 /// `fetch` is `read_exact` and `pass` is `seek(SeekFrom::Current(n))`, under laws: what is told stays true, and a call fails
-/// only where a told count of failures rises, but for the end of input. `at_hand` is a look at eight bytes that lie in memory and a `pass` of some of
+/// only where a told count of failures rises, but for the end of input. `try_take` is a look at eight bytes that lie in memory and a `pass` of some of
 /// them; a source that has none at hand is read by `fetch` alone.
 pub trait Source: Read + Seek {
     // What it tells: the bytes to come, the count of failures, the references on the way.
-    ghost told: { Self → SourceTold };
+    ghost known: { Self → KnownSource };
 
     /// Fills the buffer with the next bytes.
     ///
@@ -38,11 +38,11 @@ pub trait Source: Read + Seek {
     /// source.fetch(&mut buf)?;             // from 01 02 03: 01 02; the next byte to come is 03
     /// ```
     fn fetch(&mut self, buf: &mut [u8]) -> io::Result<()>
-        ensures bytes { OnOk result (Consumes (told self.old).coming (told self.new).coming buf.new) }
-        ensures short { IfErr result (λ e. error_kind e ≡ ErrorKind.UnexpectedEof → FewerThan (length buf.old) (told self.old).coming) }
-        ensures ended { IfErr result (λ e. error_kind e ≡ ErrorKind.UnexpectedEof → StaysEmpty (told self.old).coming (told self.new).coming) }
-        ensures failed { IfErr result (λ e. error_kind e ≢ ErrorKind.UnexpectedEof → MoreFailures (told self.old).health (told self.new).health) }
-        ensures kept { NoFewerFailures (told self.old).health (told self.new).health };
+        ensures bytes { OnOk result (Consumes (known self.old).remaining (known self.new).remaining buf.new) }
+        ensures short { IfErr result (λ e. error_kind e ≡ ErrorKind.UnexpectedEof → FewerThan (length buf.old) (known self.old).remaining) }
+        ensures ended { IfErr result (λ e. error_kind e ≡ ErrorKind.UnexpectedEof → StaysEmpty (known self.old).remaining (known self.new).remaining) }
+        ensures failed { IfErr result (λ e. error_kind e ≢ ErrorKind.UnexpectedEof → DeviceFailed (known self.old).health (known self.new).health) }
+        ensures kept { DeviceKept (known self.old).health (known self.new).health };
 
     /// Leaves out the next `n` bytes, or all where fewer are to come. The caller's condition: `n` is at most `i64::MAX`, since it is a seek.
     ///
@@ -53,9 +53,9 @@ pub trait Source: Read + Seek {
     /// ```
     fn pass(&mut self, n: u64) -> io::Result<()>
         requires { n < 2 ^ 63 }
-        ensures bytes { OnOk result (Passes n (told self.old).coming (told self.new).coming) }
-        ensures failed { IfErr result (λ e. MoreFailures (told self.old).health (told self.new).health) }
-        ensures kept { NoFewerFailures (told self.old).health (told self.new).health };
+        ensures bytes { OnOk result (Passes n (known self.old).remaining (known self.new).remaining) }
+        ensures failed { IfErr result (λ e. DeviceFailed (known self.old).health (known self.new).health) }
+        ensures kept { DeviceKept (known self.old).health (known self.new).health };
 
     /// The next eight bytes, where they are at hand, of which the first `n` are passed. The caller's condition: `n` is at most 8.
     ///
@@ -64,15 +64,15 @@ pub trait Source: Read + Seek {
     ///
     /// ```text
     /// let mut source = Cursor::new(bytes); // 01 02 03 04 05 06 07 08 09
-    /// source.at_hand(2);                   // Some of 01 02 03 04 05 06 07 08; the next byte to come is 03
-    /// source.at_hand(2);                   // None: seven bytes are to come, from 03 on
+    /// source.try_take(2);                   // Some of 01 02 03 04 05 06 07 08; the next byte to come is 03
+    /// source.try_take(2);                   // None: seven bytes are to come, from 03 on
     /// ```
-    fn at_hand(&mut self, n: usize) -> Option<[u8; 8]>
+    fn try_take(&mut self, n: usize) -> Option<[u8; 8]>
         requires { n ≤ 8 }
-        ensures bytes { IfSome result (λ eight. Consumes (told self.old).coming (told self.new).coming (take n eight)) }
-        ensures ahead { IfSome result (λ eight. BeginsWith (drop n eight) (told self.new).coming) }
+        ensures bytes { IfSome result (λ eight. Consumes (known self.old).remaining (known self.new).remaining (take n eight)) }
+        ensures ahead { IfSome result (λ eight. BeginsWith (drop n eight) (known self.new).remaining) }
         ensures none { IsNone result → self.new ≡ self.old }
-        ensures kept { NoFewerFailures (told self.old).health (told self.new).health }
+        ensures kept { DeviceKept (known self.old).health (known self.new).health }
     {
         let _passed = n;
         None
@@ -89,13 +89,13 @@ pub trait Source: Read + Seek {
     /// ```
     fn fetch_onto(&mut self, bytes: &mut Vec<u8>, n: usize) -> io::Result<()>
         requires { vec_len bytes.old + n ≤ vec_capacity bytes.old }
-        ensures bytes { OnOk result (Consumes (told self.old).coming (told self.new).coming (drop (vec_len bytes.old) bytes.new.items)) }
+        ensures bytes { OnOk result (Consumes (known self.old).remaining (known self.new).remaining (drop (vec_len bytes.old) bytes.new.items)) }
         ensures held { OnOk result (take (vec_len bytes.old) bytes.new.items ≡ bytes.old.items) }
         ensures count { OnOk result (vec_len bytes.new ≡ vec_len bytes.old + n) }
-        ensures short { IfErr result (λ e. error_kind e ≡ ErrorKind.UnexpectedEof → FewerThan n (told self.old).coming) }
-        ensures ended { IfErr result (λ e. error_kind e ≡ ErrorKind.UnexpectedEof → StaysEmpty (told self.old).coming (told self.new).coming) }
-        ensures failed { IfErr result (λ e. error_kind e ≢ ErrorKind.UnexpectedEof → MoreFailures (told self.old).health (told self.new).health) }
-        ensures kept { NoFewerFailures (told self.old).health (told self.new).health }
+        ensures short { IfErr result (λ e. error_kind e ≡ ErrorKind.UnexpectedEof → FewerThan n (known self.old).remaining) }
+        ensures ended { IfErr result (λ e. error_kind e ≡ ErrorKind.UnexpectedEof → StaysEmpty (known self.old).remaining (known self.new).remaining) }
+        ensures failed { IfErr result (λ e. error_kind e ≢ ErrorKind.UnexpectedEof → DeviceFailed (known self.old).health (known self.new).health) }
+        ensures kept { DeviceKept (known self.old).health (known self.new).health }
     {
         let held = bytes.len();
         match bytes.resize(held + n, 0) {
@@ -110,27 +110,27 @@ pub trait Source: Read + Seek {
     /// come then.
     ///
     /// ```text
-    /// source.go(SeekFrom::Start(2))?;      // from 01 02 03: 2; the next byte to come is 03
+    /// source.seek_to(SeekFrom::Start(2))?;      // from 01 02 03: 2; the next byte to come is 03
     /// ```
-    fn go(&mut self, to: SeekFrom) -> io::Result<u64>
+    fn seek_to(&mut self, to: SeekFrom) -> io::Result<u64>
         ensures moves { SeekMoves (Self.stream_position self.old) (Self.stream_position self.new) (Self.stream_bytes self.old) to result }
         ensures all { Keeps (Self.stream_bytes self.old) (Self.stream_bytes self.new) }
-        ensures sought { Seeks (told self.old).health (told self.new).health to result }
-        ensures refused { RefusedSeek (told self.old).health (told self.new).health to result }
-        ensures coming { ComesFrom (told self.old).health.whole result (told self.new) };
+        ensures sought { Seeks (known self.old).health (known self.new).health to result }
+        ensures refused { RefusedSeek (known self.old).health (known self.new).health to result }
+        ensures remaining { ComesFrom (known self.old).health.whole result (known self.new) };
 
     // Where all its bytes and its place among them are known, it tells those from there on.
-    ghost told_by_place: { (s : Self) (at : ℕ) (all : List ℕ) → Self.stream_position s ≡ Some at → Self.stream_bytes s ≡ Some all → (told s).coming ≡ Some (drop at all) };
+    ghost known_by_place: { (s : Self) (at : ℕ) (all : List ℕ) → Self.stream_position s ≡ Some at → Self.stream_bytes s ≡ Some all → (known s).remaining ≡ Some (drop at all) };
 }
 
 /// A writer that can seek, whose bytes taken, whose room and whose count of failures may be known.
 ///
 /// `give` is `write_all`, under laws: what is told stays true, and a call fails only where a told count of failures rises, where
-/// the room that is told is too small, or, where no room is told, where no memory is found. `lay` gives at most eight bytes in one
+/// the room that is told is too small, or, where no room is told, where no memory is found. `try_put` gives at most eight bytes in one
 /// step where memory has room for eight, and is never refused: a sink that has no such room, or no memory, leaves it as it is.
 pub trait Sink: Write + Seek {
     // What it tells: the bytes taken, those that lie in the room left, the count of failures, the references on the way.
-    ghost told: { Self → SinkTold };
+    ghost known: { Self → KnownSink };
 
     /// Gives all the bytes.
     ///
@@ -141,20 +141,20 @@ pub trait Sink: Write + Seek {
     /// sink.give(&[1, 2])?;                 // a slice with one byte of room refuses it with WriteZero
     /// ```
     fn give(&mut self, bytes: &[u8]) -> io::Result<()>
-        ensures ok { OnOk result (Gave (told self.old) (told self.new) bytes.now) }
-        ensures err { IfErr result (λ e. Declined (told self.old) (told self.new) bytes.now (error_kind e)) };
+        ensures ok { OnOk result (Gave (known self.old) (known self.new) bytes.now) }
+        ensures err { IfErr result (λ e. Declined (known self.old) (known self.new) bytes.now (error_kind e)) };
 
     /// Gives the first `n` of eight bytes, where it has room for eight at hand, and answers whether it did. The caller's condition: `n` is at most 8.
     /// Its place moves by `n`, and what lies behind them stays. Where it answers `false` nothing is given and nothing changes, and `give` says more.
     ///
     /// ```text
     /// let mut sink = Cursor::new(&mut room[..]);         // nine bytes of room
-    /// sink.lay([1, 2, 3, 4, 5, 6, 7, 8], 2)              // true: the bytes 1 and 2 are given, and seven bytes of room are left
-    /// sink.lay([3, 4, 5, 6, 7, 8, 9, 10], 2)             // false: nothing is given
+    /// sink.try_put([1, 2, 3, 4, 5, 6, 7, 8], 2)              // true: the bytes 1 and 2 are given, and seven bytes of room are left
+    /// sink.try_put([3, 4, 5, 6, 7, 8, 9, 10], 2)             // false: nothing is given
     /// ```
-    fn lay(&mut self, eight: [u8; 8], n: usize) -> bool
+    fn try_put(&mut self, eight: [u8; 8], n: usize) -> bool
         requires { n ≤ 8 }
-        ensures gave { IsTrue result → Gave (told self.old) (told self.new) (take n eight) }
+        ensures gave { IsTrue result → Gave (known self.old) (known self.new) (take n eight) }
         ensures stays { IsFalse result → self.new ≡ self.old }
     {
         let _unused = (eight, n);
@@ -167,23 +167,23 @@ pub trait Sink: Write + Seek {
     /// then, and those from there on lie in the room.
     ///
     /// ```text
-    /// sink.go(SeekFrom::Start(0))?;        // 0; the next bytes are laid over the first
+    /// sink.seek_to(SeekFrom::Start(0))?;        // 0; the next bytes are laid over the first
     /// ```
-    fn go(&mut self, to: SeekFrom) -> io::Result<u64>
+    fn seek_to(&mut self, to: SeekFrom) -> io::Result<u64>
         ensures moves { SeekMoves (Self.stream_position self.old) (Self.stream_position self.new) (Self.stream_bytes self.old) to result }
         ensures all { Keeps (Self.stream_bytes self.old) (Self.stream_bytes self.new) }
-        ensures sought { Seeks (told self.old).health (told self.new).health to result }
-        ensures refused { RefusedSeek (told self.old).health (told self.new).health to result }
-        ensures stands { StandsAt (told self.old).health.whole result (told self.new) };
+        ensures sought { Seeks (known self.old).health (known self.new).health to result }
+        ensures refused { RefusedSeek (known self.old).health (known self.new).health to result }
+        ensures stands { StandsAt (known self.old).health.whole result (known self.new) };
 }
 
 impl<S: Source> Source for &mut S {
-    ghost told = { λ s. record {
-      coming = (S.told s.now).coming;
-      health = record { failures = (S.told s.now).health.failures; lenders = s.ghost_name ∷ (S.told s.now).health.lenders; whole = (S.told s.now).health.whole };
+    ghost known = { λ s. record {
+      remaining = (S.known s.now).remaining;
+      health = record { failures = (S.known s.now).health.failures; lenders = s.ghost_name ∷ (S.known s.now).health.lenders; whole = (S.known s.now).health.whole };
     } };
 
-    ghost told_by_place = { λ s. S.told_by_place s.now };
+    ghost known_by_place = { λ s. S.known_by_place s.now };
 
     #[inline(always)]
     fn fetch(&mut self, buf: &mut [u8]) -> io::Result<()> {
@@ -195,8 +195,8 @@ impl<S: Source> Source for &mut S {
     }
 
     #[inline(always)]
-    fn at_hand(&mut self, n: usize) -> Option<[u8; 8]> {
-        Source::at_hand(&mut **self, n)
+    fn try_take(&mut self, n: usize) -> Option<[u8; 8]> {
+        Source::try_take(&mut **self, n)
     }
 
     #[inline(always)]
@@ -204,16 +204,16 @@ impl<S: Source> Source for &mut S {
         Source::fetch_onto(&mut **self, bytes, n)
     }
 
-    fn go(&mut self, to: SeekFrom) -> io::Result<u64> {
-        Source::go(&mut **self, to)
+    fn seek_to(&mut self, to: SeekFrom) -> io::Result<u64> {
+        Source::seek_to(&mut **self, to)
     }
 }
 
 impl<S: Sink> Sink for &mut S {
-    ghost told = { λ s. record {
-      taken = (S.told s.now).taken;
-      room = (S.told s.now).room;
-      health = record { failures = (S.told s.now).health.failures; lenders = s.ghost_name ∷ (S.told s.now).health.lenders; whole = (S.told s.now).health.whole };
+    ghost known = { λ s. record {
+      taken = (S.known s.now).taken;
+      room = (S.known s.now).room;
+      health = record { failures = (S.known s.now).health.failures; lenders = s.ghost_name ∷ (S.known s.now).health.lenders; whole = (S.known s.now).health.whole };
     } };
 
     #[inline(always)]
@@ -222,20 +222,20 @@ impl<S: Sink> Sink for &mut S {
     }
 
     #[inline(always)]
-    fn lay(&mut self, eight: [u8; 8], n: usize) -> bool {
-        Sink::lay(&mut **self, eight, n)
+    fn try_put(&mut self, eight: [u8; 8], n: usize) -> bool {
+        Sink::try_put(&mut **self, eight, n)
     }
 
-    fn go(&mut self, to: SeekFrom) -> io::Result<u64> {
-        Sink::go(&mut **self, to)
+    fn seek_to(&mut self, to: SeekFrom) -> io::Result<u64> {
+        Sink::seek_to(&mut **self, to)
     }
 }
 
 // A file tells nothing.
 impl Source for File {
-    ghost told = { λ _. untold_source };
+    ghost known = { λ _. unknown_source };
 
-    ghost told_by_place = { λ s at all p. Prim.cc };
+    ghost known_by_place = { λ s at all p. Prim.cc };
 
     fn fetch(&mut self, buf: &mut [u8]) -> io::Result<()> {
         self.read_exact(buf)
@@ -246,28 +246,28 @@ impl Source for File {
         Ok(())
     }
 
-    fn go(&mut self, to: SeekFrom) -> io::Result<u64> {
+    fn seek_to(&mut self, to: SeekFrom) -> io::Result<u64> {
         self.seek(to)
     }
 }
 
 impl Sink for File {
-    ghost told = { λ _. untold_sink };
+    ghost known = { λ _. unknown_sink };
 
     fn give(&mut self, bytes: &[u8]) -> io::Result<()> {
         self.write_all(bytes)
     }
 
-    fn go(&mut self, to: SeekFrom) -> io::Result<u64> {
+    fn seek_to(&mut self, to: SeekFrom) -> io::Result<u64> {
         self.seek(to)
     }
 }
 
 // A cursor over bytes in memory tells those from its place on, and all of them, and does not fail.
 impl<T: AsBytes> Source for Cursor<T> {
-    ghost told = { λ s. cursor_source T.bytes s };
+    ghost known = { λ s. cursor_source T.bytes s };
 
-    ghost told_by_place = { λ s at all. cursor_told T.bytes s at all };
+    ghost known_by_place = { λ s at all. cursor_known T.bytes s at all };
 
     #[inline(always)]
     fn fetch(&mut self, buf: &mut [u8]) -> io::Result<()>
@@ -275,7 +275,7 @@ impl<T: AsBytes> Source for Cursor<T> {
         ensures short { IfErr result (λ e. (error_kind e ≡ ErrorKind.UnexpectedEof) × FewerThan (length buf.old) (cursor_remaining T.bytes self.old)) }
         ensures place { OnOk result (cursor_position self.new ≡ cursor_position self.old + length buf.new) }
         ensures inner { cursor_inner self.new ≡ cursor_inner self.old }
-        ensures kept { NoFewerFailures (cursor_source T.bytes self.old).health (cursor_source T.bytes self.new).health }
+        ensures kept { DeviceKept (cursor_source T.bytes self.old).health (cursor_source T.bytes self.new).health }
         // A fetch that is refused moves nothing.
         ensures stays { OnErr result (self.new ≡ self.old) }
     {
@@ -294,7 +294,7 @@ impl<T: AsBytes> Source for Cursor<T> {
         // It may pass the end, as a seek does.
         ensures place { cursor_position self.new ≡ place_on (cursor_position self.old) n }
         ensures inner { cursor_inner self.new ≡ cursor_inner self.old }
-        ensures kept { NoFewerFailures (cursor_source T.bytes self.old).health (cursor_source T.bytes self.new).health }
+        ensures kept { DeviceKept (cursor_source T.bytes self.old).health (cursor_source T.bytes self.new).health }
     {
         let at = self.position();
         let end = place_after(self.get_ref().as_byte_slice(), at, n);
@@ -303,7 +303,7 @@ impl<T: AsBytes> Source for Cursor<T> {
     }
 
     #[inline(always)]
-    fn at_hand(&mut self, n: usize) -> Option<[u8; 8]>
+    fn try_take(&mut self, n: usize) -> Option<[u8; 8]>
         requires { n ≤ 8 }
         ensures bytes { IfSome result (λ eight. Consumes (cursor_remaining T.bytes self.old) (cursor_remaining T.bytes self.new) (take n eight)) }
         ensures ahead { IfSome result (λ eight. BeginsWith (drop n eight) (cursor_remaining T.bytes self.new)) }
@@ -312,7 +312,7 @@ impl<T: AsBytes> Source for Cursor<T> {
         ensures short { IsNone result → FewerThan 8 (cursor_remaining T.bytes self.old) }
         ensures place { IfSome result (λ eight. cursor_position self.new ≡ cursor_position self.old + n) }
         ensures inner { cursor_inner self.new ≡ cursor_inner self.old }
-        ensures kept { NoFewerFailures (cursor_source T.bytes self.old).health (cursor_source T.bytes self.new).health }
+        ensures kept { DeviceKept (cursor_source T.bytes self.old).health (cursor_source T.bytes self.new).health }
     {
         let at = self.position();
         let eight = eight_at(self.get_ref().as_byte_slice(), at, n)?;
@@ -329,7 +329,7 @@ impl<T: AsBytes> Source for Cursor<T> {
         ensures short { IfErr result (λ e. (error_kind e ≡ ErrorKind.UnexpectedEof) × FewerThan n (cursor_remaining T.bytes self.old)) }
         ensures place { OnOk result (cursor_position self.new ≡ cursor_position self.old + n) }
         ensures inner { cursor_inner self.new ≡ cursor_inner self.old }
-        ensures kept { NoFewerFailures (cursor_source T.bytes self.old).health (cursor_source T.bytes self.new).health }
+        ensures kept { DeviceKept (cursor_source T.bytes self.old).health (cursor_source T.bytes self.new).health }
         // One that is refused moves nothing, and leaves the vector's bytes.
         ensures stays { OnErr result (self.new ≡ self.old) }
         ensures same { OnErr result (bytes.new.items ≡ bytes.old.items) }
@@ -342,12 +342,12 @@ impl<T: AsBytes> Source for Cursor<T> {
         Ok(())
     }
 
-    fn go(&mut self, to: SeekFrom) -> io::Result<u64>
+    fn seek_to(&mut self, to: SeekFrom) -> io::Result<u64>
         ensures moves { SeekMoves (Some (cursor_position self.old)) (Some (cursor_position self.new)) (T.bytes (cursor_inner self.old)) to result }
         ensures all { Keeps (T.bytes (cursor_inner self.old)) (T.bytes (cursor_inner self.new)) }
         ensures sought { Seeks (cursor_source T.bytes self.old).health (cursor_source T.bytes self.new).health to result }
         ensures refused { RefusedSeek (cursor_source T.bytes self.old).health (cursor_source T.bytes self.new).health to result }
-        ensures coming { ComesFrom (cursor_source T.bytes self.old).health.whole result (cursor_source T.bytes self.new) }
+        ensures remaining { ComesFrom (cursor_source T.bytes self.old).health.whole result (cursor_source T.bytes self.new) }
         ensures inner { cursor_inner self.new ≡ cursor_inner self.old }
     {
         self.seek(to)
@@ -421,12 +421,12 @@ fn append_at(all: &[u8], at: u64, bytes: &mut Vec<u8>, n: usize) -> bool
 
 // A cursor over a slice tells the bytes before its place, and its room by those behind.
 impl Sink for Cursor<&mut [u8]> {
-    ghost told = { λ c. slice_told c };
+    ghost known = { λ c. known_slice c };
 
     #[inline(always)]
     fn give(&mut self, bytes: &[u8]) -> io::Result<()>
-        ensures ok { OnOk result (Gave (slice_told self.old) (slice_told self.new) bytes.now) }
-        ensures err { IfErr result (λ e. Declined (slice_told self.old) (slice_told self.new) bytes.now (error_kind e)) }
+        ensures ok { OnOk result (Gave (known_slice self.old) (known_slice self.new) bytes.now) }
+        ensures err { IfErr result (λ e. Declined (known_slice self.old) (known_slice self.new) bytes.now (error_kind e)) }
         // As many of the bytes as fit are laid over those that lie there, also where it is refused.
         ensures written { (cursor_inner self.new).now ≡ overlaid (cursor_inner self.old).now (cursor_position self.old) (fitting_front (cursor_inner self.old).now (cursor_position self.old) bytes.now) }
         ensures place { cursor_position self.new ≡ cursor_position self.old + length (fitting_front (cursor_inner self.old).now (cursor_position self.old) bytes.now) }
@@ -442,9 +442,9 @@ impl Sink for Cursor<&mut [u8]> {
     }
 
     #[inline(always)]
-    fn lay(&mut self, eight: [u8; 8], n: usize) -> bool
+    fn try_put(&mut self, eight: [u8; 8], n: usize) -> bool
         requires { n ≤ 8 }
-        ensures gave { IsTrue result → Gave (slice_told self.old) (slice_told self.new) (take n eight) }
+        ensures gave { IsTrue result → Gave (known_slice self.old) (known_slice self.new) (take n eight) }
         ensures stays { IsFalse result → self.new ≡ self.old }
         // The bytes are laid over those that lie there.
         ensures written { IsTrue result → (cursor_inner self.new).now ≡ overlaid (cursor_inner self.old).now (cursor_position self.old) (take n eight) }
@@ -460,12 +460,12 @@ impl Sink for Cursor<&mut [u8]> {
         true
     }
 
-    fn go(&mut self, to: SeekFrom) -> io::Result<u64>
+    fn seek_to(&mut self, to: SeekFrom) -> io::Result<u64>
         ensures moves { SeekMoves (Some (cursor_position self.old)) (Some (cursor_position self.new)) (Some (cursor_inner self.old).now) to result }
         ensures all { Keeps (Some (cursor_inner self.old).now) (Some (cursor_inner self.new).now) }
-        ensures sought { Seeks (slice_told self.old).health (slice_told self.new).health to result }
-        ensures refused { RefusedSeek (slice_told self.old).health (slice_told self.new).health to result }
-        ensures stands { StandsAt (slice_told self.old).health.whole result (slice_told self.new) }
+        ensures sought { Seeks (known_slice self.old).health (known_slice self.new).health to result }
+        ensures refused { RefusedSeek (known_slice self.old).health (known_slice self.new).health to result }
+        ensures stands { StandsAt (known_slice self.old).health.whole result (known_slice self.new) }
         ensures inner { cursor_inner self.new ≡ cursor_inner self.old }
     {
         self.seek(to)
@@ -474,15 +474,15 @@ impl Sink for Cursor<&mut [u8]> {
 
 // A cursor over a vector tells the bytes before its place. Its room is what memory is found.
 impl Sink for Cursor<Vec<u8>> {
-    ghost told = { λ c. vector_told c };
+    ghost known = { λ c. known_vector c };
 
     fn give(&mut self, bytes: &[u8]) -> io::Result<()>
-        ensures ok { OnOk result (Gave (vector_told self.old) (vector_told self.new) bytes.now) }
+        ensures ok { OnOk result (Gave (known_vector self.old) (known_vector self.new) bytes.now) }
         ensures err { IfErr result (λ e. error_kind e ≡ ErrorKind.OutOfMemory) }
         // The bytes are laid over those that lie there, behind zeros where the place is past the end; what is behind them stays.
         ensures written { OnOk result ((cursor_inner self.new).items ≡ overlaid (reaching (cursor_position self.old) (cursor_inner self.old).items) (cursor_position self.old) bytes.now) }
         ensures place { OnOk result (cursor_position self.new ≡ place_on (cursor_position self.old) (length bytes.now)) }
-        ensures kept { NoFewerFailures (vector_told self.old).health (vector_told self.new).health }
+        ensures kept { DeviceKept (known_vector self.old).health (known_vector self.new).health }
         // Where no memory is found, it holds the same bytes, at the same place.
         ensures stays { OnErr result (cursor_position self.new ≡ cursor_position self.old) }
         ensures holds { OnErr result ((cursor_inner self.new).items ≡ (cursor_inner self.old).items) }
@@ -495,9 +495,9 @@ impl Sink for Cursor<Vec<u8>> {
     }
 
     #[inline(always)]
-    fn lay(&mut self, eight: [u8; 8], n: usize) -> bool
+    fn try_put(&mut self, eight: [u8; 8], n: usize) -> bool
         requires { n ≤ 8 }
-        ensures gave { IsTrue result → Gave (vector_told self.old) (vector_told self.new) (take n eight) }
+        ensures gave { IsTrue result → Gave (known_vector self.old) (known_vector self.new) (take n eight) }
         ensures stays { IsFalse result → self.new ≡ self.old }
         // The bytes are laid over those that lie there.
         ensures written { IsTrue result → (cursor_inner self.new).items ≡ overlaid (cursor_inner self.old).items (cursor_position self.old) (take n eight) }
@@ -514,12 +514,12 @@ impl Sink for Cursor<Vec<u8>> {
         true
     }
 
-    fn go(&mut self, to: SeekFrom) -> io::Result<u64>
+    fn seek_to(&mut self, to: SeekFrom) -> io::Result<u64>
         ensures moves { SeekMoves (Some (cursor_position self.old)) (Some (cursor_position self.new)) (Some (cursor_inner self.old).items) to result }
         ensures all { Keeps (Some (cursor_inner self.old).items) (Some (cursor_inner self.new).items) }
-        ensures sought { Seeks (vector_told self.old).health (vector_told self.new).health to result }
-        ensures refused { RefusedSeek (vector_told self.old).health (vector_told self.new).health to result }
-        ensures stands { StandsAt (vector_told self.old).health.whole result (vector_told self.new) }
+        ensures sought { Seeks (known_vector self.old).health (known_vector self.new).health to result }
+        ensures refused { RefusedSeek (known_vector self.old).health (known_vector self.new).health to result }
+        ensures stands { StandsAt (known_vector self.old).health.whole result (known_vector self.new) }
         ensures inner { cursor_inner self.new ≡ cursor_inner self.old }
     {
         self.seek(to)

@@ -6,7 +6,7 @@ ghost use Rattle.std.specs.Io.KnownBytes.{Appends, Consumes, Keeps, ReadConsumes
 ghost use Rattle.std.specs.Io.Seek.{SeekMoves, StaysAt};
 ghost use Rattle.std.specs.IoError.{error_kind};
 ghost use Rattle.std.specs.Borrow.{Lends, sem};
-ghost use Rattle.deku_device.specs.Devices.{untold_source, untold_sink};
+ghost use Rattle.deku_device.specs.Devices.{unknown_source, unknown_sink};
 ghost use Rattle.deku_device.specs.Seeking.{IsHere, place_on};
 ghost use Rattle.deku_device.specs.contracts.noseek.NoSeek.{the_row as stream-row};
 
@@ -170,9 +170,9 @@ impl<T> Seek for NoSeek<T> {
 
 // It tells nothing: a reader inside may answer the end of input and go on.
 impl<T: Read> Source for NoSeek<T> {
-    ghost told = { λ _. untold_source };
+    ghost known = { λ _. unknown_source };
 
-    ghost told_by_place = { λ s at all p q. Prim.cc };
+    ghost known_by_place = { λ s at all p q. Prim.cc };
 
     fn fetch(&mut self, buf: &mut [u8]) -> io::Result<()>
         ensures bytes { OnOk result (Consumes (T.remaining self.old.inner) (T.remaining self.new.inner) buf.new) }
@@ -192,7 +192,7 @@ impl<T: Read> Source for NoSeek<T> {
         Ok(())
     }
 
-    fn go(&mut self, to: SeekFrom) -> io::Result<u64>
+    fn seek_to(&mut self, to: SeekFrom) -> io::Result<u64>
         ensures here { IfOk result (λ n. (n ≡ self.old.position) × IsHere self.old.position to) }
         ensures refused { IfErr result (λ e. (error_kind e ≡ ErrorKind.Other) × (IsHere self.old.position to → ⊥)) }
         ensures stays { self.new ≡ self.old }
@@ -204,7 +204,7 @@ impl<T: Read> Source for NoSeek<T> {
 }
 
 impl<T: Write> Sink for NoSeek<T> {
-    ghost told = { λ _. untold_sink };
+    ghost known = { λ _. unknown_sink };
 
     fn give(&mut self, bytes: &[u8]) -> io::Result<()>
         ensures bytes { OnOk result (Appends (T.contents self.old.inner) (T.contents self.new.inner) bytes.now) }
@@ -214,7 +214,7 @@ impl<T: Write> Sink for NoSeek<T> {
         self.write_all(bytes)
     }
 
-    fn go(&mut self, to: SeekFrom) -> io::Result<u64>
+    fn seek_to(&mut self, to: SeekFrom) -> io::Result<u64>
         ensures here { IfOk result (λ n. (n ≡ self.old.position) × IsHere self.old.position to) }
         ensures refused { IfErr result (λ e. (error_kind e ≡ ErrorKind.Other) × (IsHere self.old.position to → ⊥)) }
         ensures stays { self.new ≡ self.old }

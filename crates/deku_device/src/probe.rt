@@ -8,9 +8,9 @@ ghost use Rattle.std.specs.Io.Cursor.{cursor_position, cursor_inner, cursor_rema
 ghost use Rattle.std.specs.Io.KnownBytes.{Appends, Consumes, Keeps, ReadConsumes, WriteAppends};
 ghost use Rattle.std.specs.Io.Seek.{SeekMoves};
 ghost use Rattle.std.specs.IoError.{error_kind};
-ghost use Rattle.deku_device.specs.Cursors.{cursor_told, failing_source, failing_sink};
+ghost use Rattle.deku_device.specs.Cursors.{cursor_known, failing_source, failing_sink};
 ghost use Rattle.deku_device.specs.Seeking.{place_on, Seeks, RefusedSeek, ComesFrom, StandsAt};
-ghost use Rattle.deku_device.specs.Devices.{NoFewerFailures, MoreFailures, FewerThan, Passes, StaysEmpty, Gave, Declined};
+ghost use Rattle.deku_device.specs.Devices.{DeviceKept, DeviceFailed, FewerThan, Passes, StaysEmpty, Gave, Declined};
 
 mod trickle;
 
@@ -118,11 +118,11 @@ impl<B: AsBytes> Seek for FailAt<B> {
 
 // Fetches one byte, by one call.
 fn fetch_byte<B: AsBytes>(source: &mut FailAt<B>) -> io::Result<u8>
-    ensures bytes { IfOk result (λ b. Consumes (failing_source B.bytes source.old).coming (failing_source B.bytes source.new).coming (b ∷ [])) }
-    ensures short { IfErr result (λ e. error_kind e ≡ ErrorKind.UnexpectedEof → FewerThan 1 (failing_source B.bytes source.old).coming) }
-    ensures ended { IfErr result (λ e. error_kind e ≡ ErrorKind.UnexpectedEof → StaysEmpty (failing_source B.bytes source.old).coming (failing_source B.bytes source.new).coming) }
-    ensures failed { IfErr result (λ e. error_kind e ≢ ErrorKind.UnexpectedEof → MoreFailures (failing_source B.bytes source.old).health (failing_source B.bytes source.new).health) }
-    ensures kept { NoFewerFailures (failing_source B.bytes source.old).health (failing_source B.bytes source.new).health }
+    ensures bytes { IfOk result (λ b. Consumes (failing_source B.bytes source.old).remaining (failing_source B.bytes source.new).remaining (b ∷ [])) }
+    ensures short { IfErr result (λ e. error_kind e ≡ ErrorKind.UnexpectedEof → FewerThan 1 (failing_source B.bytes source.old).remaining) }
+    ensures ended { IfErr result (λ e. error_kind e ≡ ErrorKind.UnexpectedEof → StaysEmpty (failing_source B.bytes source.old).remaining (failing_source B.bytes source.new).remaining) }
+    ensures failed { IfErr result (λ e. error_kind e ≢ ErrorKind.UnexpectedEof → DeviceFailed (failing_source B.bytes source.old).health (failing_source B.bytes source.new).health) }
+    ensures kept { DeviceKept (failing_source B.bytes source.old).health (failing_source B.bytes source.new).health }
     ensures counted { source.new.left ≡ source.old.left - 1 }
     ensures fails { OnOk result (source.old.left ≢ 1) }
     ensures kind { IfErr result (λ e. source.old.left ≡ 1 → error_kind e ≡ ErrorKind.Other) }
@@ -138,21 +138,21 @@ fn fetch_byte<B: AsBytes>(source: &mut FailAt<B>) -> io::Result<u8>
 }
 
 impl<B: AsBytes> Source for FailAt<B> {
-    ghost told = { λ s. failing_source B.bytes s };
+    ghost known = { λ s. failing_source B.bytes s };
 
-    ghost told_by_place = { λ s at all. cursor_told B.bytes s.inner at all };
+    ghost known_by_place = { λ s at all. cursor_known B.bytes s.inner at all };
 
     fn fetch(&mut self, buf: &mut [u8]) -> io::Result<()>
-        ensures bytes { OnOk result (Consumes (failing_source B.bytes self.old).coming (failing_source B.bytes self.new).coming buf.new) }
-        ensures short { IfErr result (λ e. error_kind e ≡ ErrorKind.UnexpectedEof → FewerThan (length buf.old) (failing_source B.bytes self.old).coming) }
-        ensures ended { IfErr result (λ e. error_kind e ≡ ErrorKind.UnexpectedEof → StaysEmpty (failing_source B.bytes self.old).coming (failing_source B.bytes self.new).coming) }
-        ensures failed { IfErr result (λ e. error_kind e ≢ ErrorKind.UnexpectedEof → MoreFailures (failing_source B.bytes self.old).health (failing_source B.bytes self.new).health) }
-        ensures kept { NoFewerFailures (failing_source B.bytes self.old).health (failing_source B.bytes self.new).health }
+        ensures bytes { OnOk result (Consumes (failing_source B.bytes self.old).remaining (failing_source B.bytes self.new).remaining buf.new) }
+        ensures short { IfErr result (λ e. error_kind e ≡ ErrorKind.UnexpectedEof → FewerThan (length buf.old) (failing_source B.bytes self.old).remaining) }
+        ensures ended { IfErr result (λ e. error_kind e ≡ ErrorKind.UnexpectedEof → StaysEmpty (failing_source B.bytes self.old).remaining (failing_source B.bytes self.new).remaining) }
+        ensures failed { IfErr result (λ e. error_kind e ≢ ErrorKind.UnexpectedEof → DeviceFailed (failing_source B.bytes self.old).health (failing_source B.bytes self.new).health) }
+        ensures kept { DeviceKept (failing_source B.bytes self.old).health (failing_source B.bytes self.new).health }
         // A call for each byte: those in front of the one that fails move a byte each, and that one moves none.
         ensures counted { OnOk result (self.new.left ≡ self.old.left - length buf.new) }
         ensures fails { OnOk result (0 < self.old.left → length buf.new < self.old.left) }
         ensures kind { IfErr result (λ e. error_kind e ≢ ErrorKind.UnexpectedEof → error_kind e ≡ ErrorKind.Other) }
-        ensures still { IfErr result (λ e. error_kind e ≡ ErrorKind.Other → Passes (self.old.left - 1) (failing_source B.bytes self.old).coming (failing_source B.bytes self.new).coming) }
+        ensures still { IfErr result (λ e. error_kind e ≡ ErrorKind.Other → Passes (self.old.left - 1) (failing_source B.bytes self.old).remaining (failing_source B.bytes self.new).remaining) }
         // It stands behind the bytes that were fetched: up to the call that fails, or all where the input ends.
         ensures place { OnOk result (cursor_position self.new.inner ≡ cursor_position self.old.inner + length buf.new) }
         ensures failed_place { IfErr result (λ e. error_kind e ≡ ErrorKind.Other → cursor_position self.new.inner ≡ cursor_position self.old.inner + (self.old.left - 1)) }
@@ -170,9 +170,9 @@ impl<B: AsBytes> Source for FailAt<B> {
 
     fn pass(&mut self, n: u64) -> io::Result<()>
         requires { n < 2 ^ 63 }
-        ensures bytes { OnOk result (Passes n (failing_source B.bytes self.old).coming (failing_source B.bytes self.new).coming) }
-        ensures failed { IfErr result (λ e. MoreFailures (failing_source B.bytes self.old).health (failing_source B.bytes self.new).health) }
-        ensures kept { NoFewerFailures (failing_source B.bytes self.old).health (failing_source B.bytes self.new).health }
+        ensures bytes { OnOk result (Passes n (failing_source B.bytes self.old).remaining (failing_source B.bytes self.new).remaining) }
+        ensures failed { IfErr result (λ e. DeviceFailed (failing_source B.bytes self.old).health (failing_source B.bytes self.new).health) }
+        ensures kept { DeviceKept (failing_source B.bytes self.old).health (failing_source B.bytes self.new).health }
         ensures counted { self.new.left ≡ self.old.left - 1 }
         ensures fails { OnOk result (self.old.left ≢ 1) }
         ensures kind { IfErr result (λ e. error_kind e ≡ ErrorKind.Other) }
@@ -185,12 +185,12 @@ impl<B: AsBytes> Source for FailAt<B> {
         self.inner.pass(n)
     }
 
-    fn go(&mut self, to: SeekFrom) -> io::Result<u64>
+    fn seek_to(&mut self, to: SeekFrom) -> io::Result<u64>
         ensures moves { SeekMoves (Some (cursor_position self.old.inner)) (Some (cursor_position self.new.inner)) (B.bytes (cursor_inner self.old.inner)) to result }
         ensures all { Keeps (B.bytes (cursor_inner self.old.inner)) (B.bytes (cursor_inner self.new.inner)) }
         ensures sought { Seeks (failing_source B.bytes self.old).health (failing_source B.bytes self.new).health to result }
         ensures refused { RefusedSeek (failing_source B.bytes self.old).health (failing_source B.bytes self.new).health to result }
-        ensures coming { ComesFrom (failing_source B.bytes self.old).health.whole result (failing_source B.bytes self.new) }
+        ensures remaining { ComesFrom (failing_source B.bytes self.old).health.whole result (failing_source B.bytes self.new) }
         ensures counted { self.new.left ≡ self.old.left - 1 }
         ensures still { OnErr result (self.new.inner ≡ self.old.inner) }
         ensures inner { cursor_inner self.new.inner ≡ cursor_inner self.old.inner }
@@ -241,7 +241,7 @@ fn give_byte(sink: &mut FailAt<&mut [u8]>, byte: u8) -> io::Result<()>
 }
 
 impl Sink for FailAt<&mut [u8]> {
-    ghost told = { λ s. failing_sink s };
+    ghost known = { λ s. failing_sink s };
 
     fn give(&mut self, bytes: &[u8]) -> io::Result<()>
         ensures ok { OnOk result (Gave (failing_sink self.old) (failing_sink self.new) bytes.now) }
@@ -267,7 +267,7 @@ impl Sink for FailAt<&mut [u8]> {
         Ok(())
     }
 
-    fn go(&mut self, to: SeekFrom) -> io::Result<u64>
+    fn seek_to(&mut self, to: SeekFrom) -> io::Result<u64>
         ensures moves { SeekMoves (Some (cursor_position self.old.inner)) (Some (cursor_position self.new.inner)) (Some (cursor_inner self.old.inner).now) to result }
         ensures all { Keeps (Some (cursor_inner self.old.inner).now) (Some (cursor_inner self.new.inner).now) }
         ensures sought { Seeks (failing_sink self.old).health (failing_sink self.new).health to result }

@@ -16,7 +16,7 @@ use deku::device::{Sink, Source};
 use deku::prelude::{
     DekuContainerRead, DekuContainerWrite, DekuError, DekuReader, DekuWriter, Reader, Writer,
 };
-use deku_symmetry::{Be, Msb, Parted, Record, ToParts, read_record, write_record};
+use deku_symmetry::{Be, Msb, FromParts, Record, ToParts, read_record, write_record};
 
 /// The header of a message.
 #[derive(Debug, PartialEq, Eq, Drop)]
@@ -57,7 +57,7 @@ pub type Parts = (
     (Be<u16>, Be<u16>, Be<u16>, Be<u16>),
 );
 
-impl Parted<()> for Header {
+impl FromParts<()> for Header {
     ghost use Rattle.std.specs.Prelude.{refl};
 
     type Parts = Parts;
@@ -152,9 +152,9 @@ impl DekuReader<()> for Header {
 
     ghost accepts = { ⟦<Parts as DekuReader<()>>⟧.accepts };
 
-    ghost prompt = { ⟦<Parts as DekuReader<()>>⟧.prompt };
+    ghost no_read_ahead = { ⟦<Parts as DekuReader<()>>⟧.no_read_ahead };
 
-    ghost meaning = { λ _. Mapped ⟦<Header as Parted<()>>⟧.record_of (⟦<Parts as DekuReader<()>>⟧.meaning tt) };
+    ghost meaning = { λ _. Mapped ⟦<Header as FromParts<()>>⟧.record_of (⟦<Parts as DekuReader<()>>⟧.meaning tt) };
 
     fn from_reader_with_ctx<R: Source>(
         reader: &mut Reader<R>,
@@ -167,7 +167,7 @@ impl DekuReader<()> for Header {
 impl DekuWriter<()> for Header {
     ghost accepts = { ⟦<Parts as DekuWriter<()>>⟧.accepts };
 
-    ghost meaning = { λ v _. ⟦<Parts as DekuWriter<()>>⟧.meaning (⟦<Header as Parted<()>>⟧.parts_of v) tt };
+    ghost meaning = { λ v _. ⟦<Parts as DekuWriter<()>>⟧.meaning (⟦<Header as FromParts<()>>⟧.parts_of v) tt };
 
     fn to_writer<W: Sink>(&self, writer: &mut Writer<W>, _ctx: ()) -> Result<(), DekuError> {
         write_record(self, writer, ())

@@ -10,7 +10,7 @@ use deku::prelude::{
     DekuContainerRead, DekuContainerWrite, DekuError, DekuReader, DekuWriter, Reader, Writer,
 };
 use deku_symmetry::{
-    Counts, Ends, EndsAlike, Leads, Led, Parted, Record, ToParts, read_record, write_led,
+    ItemCount, Last, LastLaw, ItemCountLaw, Counted, FromParts, Record, ToParts, read_record, write_counted,
     write_record,
 };
 
@@ -18,7 +18,7 @@ use deku_symmetry::{
 #[derive(Debug, PartialEq, Eq, Drop)]
 pub struct Length(pub u8);
 
-impl Parted<()> for Length {
+impl FromParts<()> for Length {
     ghost use Rattle.std.specs.Prelude.{refl};
 
     type Parts = u8;
@@ -41,7 +41,7 @@ impl ToParts<()> for Length {
 }
 
 /// As many bytes as it says, where they are at most 63.
-impl Counts for Length {
+impl ItemCount for Length {
     ghost use Rattle.std.specs.Prelude.{nat_lt, cond, Some, None};
 
     ghost count_of = { λ l. cond (nat_lt l.0 64) (Some l.0) None };
@@ -55,7 +55,7 @@ impl Counts for Length {
     }
 }
 
-impl Leads for Length {
+impl ItemCountLaw for Length {
     ghost use Rattle.std.specs.Prelude.{refl};
 
     ghost alike = { λ v w e. rw e refl };
@@ -76,9 +76,9 @@ impl DekuReader<()> for Length {
 
     ghost accepts = { ⟦<u8 as DekuReader<()>>⟧.accepts };
 
-    ghost prompt = { ⟦<u8 as DekuReader<()>>⟧.prompt };
+    ghost no_read_ahead = { ⟦<u8 as DekuReader<()>>⟧.no_read_ahead };
 
-    ghost meaning = { λ _. Mapped ⟦<Length as Parted<()>>⟧.record_of (⟦<u8 as DekuReader<()>>⟧.meaning tt) };
+    ghost meaning = { λ _. Mapped ⟦<Length as FromParts<()>>⟧.record_of (⟦<u8 as DekuReader<()>>⟧.meaning tt) };
 
     fn from_reader_with_ctx<R: Source>(
         reader: &mut Reader<R>,
@@ -91,7 +91,7 @@ impl DekuReader<()> for Length {
 impl DekuWriter<()> for Length {
     ghost accepts = { ⟦<u8 as DekuWriter<()>>⟧.accepts };
 
-    ghost meaning = { λ v _. ⟦<u8 as DekuWriter<()>>⟧.meaning (⟦<Length as Parted<()>>⟧.parts_of v) tt };
+    ghost meaning = { λ v _. ⟦<u8 as DekuWriter<()>>⟧.meaning (⟦<Length as FromParts<()>>⟧.parts_of v) tt };
 
     fn to_writer<W: Sink>(&self, writer: &mut Writer<W>, _ctx: ()) -> Result<(), DekuError> {
         write_record(self, writer, ())
@@ -108,9 +108,9 @@ pub struct Label {
 }
 
 // The length, and as many bytes as it says.
-type Parts = Led<Length, u8>;
+type Parts = Counted<Length, u8>;
 
-impl Parted<()> for Label {
+impl FromParts<()> for Label {
     ghost use Rattle.std.specs.Prelude.{refl};
 
     type Parts = Parts;
@@ -144,9 +144,9 @@ impl DekuReader<()> for Label {
 
     ghost accepts = { ⟦<Parts as DekuReader<()>>⟧.accepts };
 
-    ghost prompt = { ⟦<Parts as DekuReader<()>>⟧.prompt };
+    ghost no_read_ahead = { ⟦<Parts as DekuReader<()>>⟧.no_read_ahead };
 
-    ghost meaning = { λ _. Mapped ⟦<Label as Parted<()>>⟧.record_of (⟦<Parts as DekuReader<()>>⟧.meaning tt) };
+    ghost meaning = { λ _. Mapped ⟦<Label as FromParts<()>>⟧.record_of (⟦<Parts as DekuReader<()>>⟧.meaning tt) };
 
     fn from_reader_with_ctx<R: Source>(
         reader: &mut Reader<R>,
@@ -159,25 +159,25 @@ impl DekuReader<()> for Label {
 impl DekuWriter<()> for Label {
     ghost accepts = { ⟦<Parts as DekuWriter<()>>⟧.accepts };
 
-    ghost meaning = { λ v _. ⟦<Parts as DekuWriter<()>>⟧.meaning (⟦<Label as Parted<()>>⟧.parts_of v) tt };
+    ghost meaning = { λ v _. ⟦<Parts as DekuWriter<()>>⟧.meaning (⟦<Label as FromParts<()>>⟧.parts_of v) tt };
 
     fn to_writer<W: Sink>(&self, writer: &mut Writer<W>, _ctx: ()) -> Result<(), DekuError> {
-        write_led(&Length(self.length), &self.bytes, writer)
+        write_counted(&Length(self.length), &self.bytes, writer)
     }
 }
 
 /// The empty label ends a name.
-impl Ends for Label {
+impl Last for Label {
     ghost use Rattle.std.specs.Prelude.{nat_eq};
 
-    ghost ends_of = { λ l. nat_eq l.length 0 };
+    ghost last_of = { λ l. nat_eq l.length 0 };
 
-    fn ends(&self) -> bool {
+    fn is_last(&self) -> bool {
         self.length == 0
     }
 }
 
-impl EndsAlike for Label {
+impl LastLaw for Label {
     ghost use Rattle.std.specs.Prelude.{refl, pos};
     ghost use Rattle.std.proofs.Common.{arith};
     ghost use Rattle.deku_num.specs.Numbers.{byte};

@@ -6,7 +6,7 @@ use deku::device::{Sink, Source};
 use deku::prelude::{
     DekuContainerRead, DekuContainerWrite, DekuError, DekuReader, DekuWriter, Reader, Writer,
 };
-use deku_symmetry::{Parted, Record, read_record};
+use deku_symmetry::{FromParts, Record, read_record};
 
 /// A header, and a question behind it.
 #[derive(Debug, PartialEq, Eq, Drop)]
@@ -20,14 +20,14 @@ pub struct Query {
 // The fields as they lie.
 type Parts = (header::Parts, question::Parts);
 
-impl Parted<()> for Query {
+impl FromParts<()> for Query {
     ghost use Rattle.std.specs.Prelude.{refl};
 
     type Parts = Parts;
 
-    ghost parts_of = { λ r. (⟦<Header as Parted<()>>⟧.parts_of r.header, ⟦<Question as Parted<()>>⟧.parts_of r.question) };
+    ghost parts_of = { λ r. (⟦<Header as FromParts<()>>⟧.parts_of r.header, ⟦<Question as FromParts<()>>⟧.parts_of r.question) };
 
-    ghost record_of = { λ p. record { header = ⟦<Header as Parted<()>>⟧.record_of p.0; question = ⟦<Question as Parted<()>>⟧.record_of p.1 } };
+    ghost record_of = { λ p. record { header = ⟦<Header as FromParts<()>>⟧.record_of p.0; question = ⟦<Question as FromParts<()>>⟧.record_of p.1 } };
 
     fn from_parts(parts: Self::Parts) -> Self {
         let (header, question) = parts;
@@ -55,9 +55,9 @@ impl DekuReader<()> for Query {
 
     ghost accepts = { ⟦<Parts as DekuReader<()>>⟧.accepts };
 
-    ghost prompt = { ⟦<Parts as DekuReader<()>>⟧.prompt };
+    ghost no_read_ahead = { ⟦<Parts as DekuReader<()>>⟧.no_read_ahead };
 
-    ghost meaning = { λ _. Mapped ⟦<Query as Parted<()>>⟧.record_of (⟦<Parts as DekuReader<()>>⟧.meaning tt) };
+    ghost meaning = { λ _. Mapped ⟦<Query as FromParts<()>>⟧.record_of (⟦<Parts as DekuReader<()>>⟧.meaning tt) };
 
     fn from_reader_with_ctx<R: Source>(
         reader: &mut Reader<R>,
@@ -70,7 +70,7 @@ impl DekuReader<()> for Query {
 impl DekuWriter<()> for Query {
     ghost accepts = { ⟦<Parts as DekuWriter<()>>⟧.accepts };
 
-    ghost meaning = { λ v _. ⟦<Parts as DekuWriter<()>>⟧.meaning (⟦<Query as Parted<()>>⟧.parts_of v) tt };
+    ghost meaning = { λ v _. ⟦<Parts as DekuWriter<()>>⟧.meaning (⟦<Query as FromParts<()>>⟧.parts_of v) tt };
 
     fn to_writer<W: Sink>(&self, writer: &mut Writer<W>, _ctx: ()) -> Result<(), DekuError> {
         (&self.header, &self.question).to_writer(writer, ())

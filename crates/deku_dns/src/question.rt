@@ -11,13 +11,13 @@ use deku::device::{Sink, Source};
 use deku::prelude::{
     DekuContainerRead, DekuContainerWrite, DekuError, DekuReader, DekuWriter, Reader, Writer,
 };
-use deku_symmetry::{Be, Ended, Parted, Record, read_record};
+use deku_symmetry::{Be, Until, FromParts, Record, read_record};
 
 /// A question.
 #[derive(Debug, PartialEq, Eq, Drop)]
 pub struct Question {
     /// The name: its labels, with the empty one that ends it.
-    pub name: Ended<Label>,
+    pub name: Until<Label>,
     /// What is asked about it.
     pub kind: u16,
     /// The class of the name.
@@ -25,9 +25,9 @@ pub struct Question {
 }
 
 /// The fields as they lie.
-pub type Parts = (Ended<Label>, Be<u16>, Be<u16>);
+pub type Parts = (Until<Label>, Be<u16>, Be<u16>);
 
-impl Parted<()> for Question {
+impl FromParts<()> for Question {
     ghost use Rattle.std.specs.Prelude.{refl};
 
     type Parts = Parts;
@@ -59,9 +59,9 @@ impl DekuReader<()> for Question {
 
     ghost accepts = { ⟦<Parts as DekuReader<()>>⟧.accepts };
 
-    ghost prompt = { ⟦<Parts as DekuReader<()>>⟧.prompt };
+    ghost no_read_ahead = { ⟦<Parts as DekuReader<()>>⟧.no_read_ahead };
 
-    ghost meaning = { λ _. Mapped ⟦<Question as Parted<()>>⟧.record_of (⟦<Parts as DekuReader<()>>⟧.meaning tt) };
+    ghost meaning = { λ _. Mapped ⟦<Question as FromParts<()>>⟧.record_of (⟦<Parts as DekuReader<()>>⟧.meaning tt) };
 
     fn from_reader_with_ctx<R: Source>(
         reader: &mut Reader<R>,
@@ -74,7 +74,7 @@ impl DekuReader<()> for Question {
 impl DekuWriter<()> for Question {
     ghost accepts = { ⟦<Parts as DekuWriter<()>>⟧.accepts };
 
-    ghost meaning = { λ v _. ⟦<Parts as DekuWriter<()>>⟧.meaning (⟦<Question as Parted<()>>⟧.parts_of v) tt };
+    ghost meaning = { λ v _. ⟦<Parts as DekuWriter<()>>⟧.meaning (⟦<Question as FromParts<()>>⟧.parts_of v) tt };
 
     fn to_writer<W: Sink>(&self, writer: &mut Writer<W>, _ctx: ()) -> Result<(), DekuError> {
         (&self.name, Be(self.kind), Be(self.class)).to_writer(writer, ())

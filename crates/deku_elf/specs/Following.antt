@@ -7,7 +7,7 @@ use Rattle.std.specs.declared.io.SeekFrom.TheVariants.{Start}
 use Rattle.deku_bits.specs.declared.error.DekuError.{DekuError}
 use Rattle.deku_bits.specs.declared.error.DekuError.TheVariants.{Io}
 use Rattle.deku_bits.specs.declared.reader.Reader.{Reader}
-use Rattle.deku_bits.specs.Devices.{SourceTold}
+use Rattle.deku_bits.specs.Devices.{KnownSource}
 use Rattle.deku_bits.specs.Seeking.{count_after, Seeks, RefusedSeek, ComesFrom}
 use Rattle.deku_bits.specs.Streams.{Stream}
 use Rattle.deku_bits.specs.Standings.{Going, Stopped, count_of}
@@ -18,15 +18,15 @@ use Rattle.deku_num.specs.declared.ctx.Endian.{Endian}
 use Rattle.deku_elf.specs.declared.Elf.{Elf}
 use Rattle.deku_elf.specs.Elf.{endian_of, fields_of, segments_at}
 
--- A place is sought, and m is read from there: where all bytes are told, those from the place on are to come. Or the source refuses the seek, which stops the
--- reader; where all bytes are told, only for a call that fails. The seek itself forgets no failure, adds none where it succeeds, and leaves all bytes.
-pub data ReadsFrom {R V : Type 0} (told : R → SourceTold) (place : ℕ) (m : Meaning (Option Stream) V) (old : Reader R) (r : Result V DekuError) (new : Reader R) : Type 0 where
+-- A place is sought, and m is read from there: where all bytes are known, those from the place on are to come. Or the source refuses the seek, which stops the
+-- reader; where all bytes are known, only for a call that fails. The seek itself forgets no failure, adds none where it succeeds, and leaves all bytes.
+pub data ReadsFrom {R V : Type 0} (known : R → KnownSource) (place : ℕ) (m : Meaning (Option Stream) V) (old : Reader R) (r : Result V DekuError) (new : Reader R) : Type 0 where
   Sought : (at : Reader R) (n : ℕ) → at.state ≡ Going [] (count_after (Start place) (count_of old.state))
-      → Seeks {E = Error} (told old.source).health (told at.source).health (Start place) (Ok n) → ComesFrom {E = Error} (told old.source).health.whole (Ok n) (told at.source)
-      → Reads told m at r new → ReadsFrom told place m old r new
+      → Seeks {E = Error} (known old.source).health (known at.source).health (Start place) (Ok n) → ComesFrom {E = Error} (known old.source).health.whole (Ok n) (known at.source)
+      → Reads known m at r new → ReadsFrom known place m old r new
   NotSought : (error : Error) → r ≡ Err (Io (error_kind error)) → new.state ≡ Stopped [] (Io (error_kind error)) (count_of old.state)
-      → Seeks (told old.source).health (told new.source).health (Start place) (Err error) → RefusedSeek (told old.source).health (told new.source).health (Start place) (Err error)
-      → ReadsFrom told place m old r new
+      → Seeks (known old.source).health (known new.source).health (Start place) (Err error) → RefusedSeek (known old.source).health (known new.source).health (Start place) (Err error)
+      → ReadsFrom known place m old r new
 
 -- as many program headers are read into a vector as the file's header says, each as m reads one under the endian that the file names
 abbrev pub ReadsSegments : {V : Type 0} → Elf → (Endian → Meaning (Option Stream) V) → Meaning (Option Stream) (Vec V)

@@ -3,7 +3,7 @@
 use deku::ctx::Endian;
 use deku::device::{Sink, Source};
 use deku::prelude::{DekuError, DekuReader, DekuWriter, Reader, Writer};
-use deku_symmetry::{EndianRecord, Parted, ToParts, read_record, write_record};
+use deku_symmetry::{EndianRecord, FromParts, ToParts, read_record, write_record};
 
 /// The fields of the file header behind the byte that says its endian.
 #[derive(Debug, Clone, Copy, PartialEq, Eq)]
@@ -47,7 +47,7 @@ type Parts = (
     [u16; 3],
 );
 
-impl Parted<Endian> for Fields {
+impl FromParts<Endian> for Fields {
     ghost use Rattle.std.specs.Prelude.{refl};
 
     type Parts = Parts;
@@ -133,9 +133,9 @@ impl DekuReader<Endian> for Fields {
 
     ghost accepts = { ⟦<Parts as DekuReader<Endian>>⟧.accepts };
 
-    ghost prompt = { ⟦<Parts as DekuReader<Endian>>⟧.prompt };
+    ghost no_read_ahead = { ⟦<Parts as DekuReader<Endian>>⟧.no_read_ahead };
 
-    ghost meaning = { λ c. Mapped ⟦<Fields as Parted<Endian>>⟧.record_of (⟦<Parts as DekuReader<Endian>>⟧.meaning c) };
+    ghost meaning = { λ c. Mapped ⟦<Fields as FromParts<Endian>>⟧.record_of (⟦<Parts as DekuReader<Endian>>⟧.meaning c) };
 
     fn from_reader_with_ctx<R: Source>(
         reader: &mut Reader<R>,
@@ -148,7 +148,7 @@ impl DekuReader<Endian> for Fields {
 impl DekuWriter<Endian> for Fields {
     ghost accepts = { ⟦<Parts as DekuWriter<Endian>>⟧.accepts };
 
-    ghost meaning = { λ v c. ⟦<Parts as DekuWriter<Endian>>⟧.meaning (⟦<Fields as Parted<Endian>>⟧.parts_of v) c };
+    ghost meaning = { λ v c. ⟦<Parts as DekuWriter<Endian>>⟧.meaning (⟦<Fields as FromParts<Endian>>⟧.parts_of v) c };
 
     fn to_writer<W: Sink>(&self, writer: &mut Writer<W>, ctx: Endian) -> Result<(), DekuError> {
         write_record(self, writer, ctx)

@@ -36,7 +36,7 @@ use deku::prelude::{
     DekuContainerRead, DekuContainerWrite, DekuError, DekuReader, DekuWriter, Reader, Writer,
 };
 use deku_symmetry::{
-    Be, Constant, Constants, Fixed, Le, Msb, MsbTagged, Only, Parted, Record, Tagged, ToParts,
+    Be, Constant, ConstantLaw, Magic, Le, Msb, MsbTagged, Only, FromParts, Record, Tagged, ToParts,
     read_record, write_record,
 };
 use std::io::{Seek, SeekFrom};
@@ -94,7 +94,7 @@ pub fn segments<R: Source>(reader: &mut Reader<R>, elf: &Elf) -> Result<Vec<Segm
     // A place that the count of bits does not reach.
     ensures past { 2 ^ 64 ≤ bits_before elf.now reader.old → (result ≡ Err (Io InvalidInput)) × (reader.new ≡ reader.old) }
     // Else as many as the header says, from the place that it says, under its endian.
-    ensures reads { bits_before elf.now reader.old < 2 ^ 64 → ReadsFrom R.told (segments_at elf.now) (ReadsSegments elf.now ⟦<Segment as DekuReader<Endian>>⟧.meaning) reader.old result reader.new }
+    ensures reads { bits_before elf.now reader.old < 2 ^ 64 → ReadsFrom R.known (segments_at elf.now) (ReadsSegments elf.now ⟦<Segment as DekuReader<Endian>>⟧.meaning) reader.old result reader.new }
 {
     let fields = elf.fields();
     reader.seek(SeekFrom::Start(fields.segments_at))?;
@@ -104,9 +104,9 @@ pub fn segments<R: Source>(reader: &mut Reader<R>, elf: &Elf) -> Result<Vec<Segm
 
 /// The first four bytes of each ELF file.
 #[derive(Debug, PartialEq, Eq, Drop)]
-pub struct Magic;
+pub struct Signature;
 
-impl Constant<Be<u32>> for Magic {
+impl Constant<Be<u32>> for Signature {
     ghost use Rattle.std.specs.Prelude.{codes};
 
     ghost value = { record { 0 = 0x7F454C46 } };
@@ -126,7 +126,7 @@ impl Constant<Be<u32>> for Magic {
     }
 }
 
-impl Constants<Be<u32>> for Magic {
+impl ConstantLaw<Be<u32>> for Signature {
     ghost use Rattle.std.specs.Prelude.{refl};
 
     ghost alike = { λ v e. rw e refl };
@@ -156,7 +156,7 @@ impl Constant<Msb<u8, 8>> for Class {
     }
 }
 
-impl Constants<Msb<u8, 8>> for Class {
+impl ConstantLaw<Msb<u8, 8>> for Class {
     ghost use Rattle.std.proofs.Common.{ap, sym};
 
     ghost alike = { λ v e. ap (λ n. record { 0 = n }) (sym e) };
@@ -164,12 +164,12 @@ impl Constants<Msb<u8, 8>> for Class {
 
 // What each file has, the byte of the endian, and the fields under it.
 type Parts = (
-    Fixed<Be<u32>, Magic>,
-    Fixed<Msb<u8, 8>, Class>,
+    Magic<Be<u32>, Signature>,
+    Magic<Msb<u8, 8>, Class>,
     MsbTagged<Le<Fields>, Only<Be<Fields>, 2>, 1, 8>,
 );
 
-impl Parted<()> for Elf {
+impl FromParts<()> for Elf {
     ghost use Rattle.std.specs.Prelude.{refl};
     ghost use Rattle.deku_elf.specs.declared.Elf.TheVariants.{Little, Big};
     ghost use Rattle.deku_elf.specs.Elf.{tagged_of, elf_of};
@@ -197,7 +197,7 @@ impl ToParts<()> for Elf {
             Elf::Little(fields) => Tagged::This(Le(*fields)),
             Elf::Big(fields) => Tagged::Other(Only(Be(*fields))),
         };
-        (Fixed::new(), Fixed::new(), tagged)
+        (Magic::new(), Magic::new(), tagged)
     }
 }
 
@@ -217,9 +217,9 @@ impl DekuReader<()> for Elf {
 
     ghost accepts = { ⟦<Parts as DekuReader<()>>⟧.accepts };
 
-    ghost prompt = { ⟦<Parts as DekuReader<()>>⟧.prompt };
+    ghost no_read_ahead = { ⟦<Parts as DekuReader<()>>⟧.no_read_ahead };
 
-    ghost meaning = { λ _. Mapped ⟦<Elf as Parted<()>>⟧.record_of (⟦<Parts as DekuReader<()>>⟧.meaning tt) };
+    ghost meaning = { λ _. Mapped ⟦<Elf as FromParts<()>>⟧.record_of (⟦<Parts as DekuReader<()>>⟧.meaning tt) };
 
     fn from_reader_with_ctx<R: Source>(
         reader: &mut Reader<R>,
@@ -232,7 +232,7 @@ impl DekuReader<()> for Elf {
 impl DekuWriter<()> for Elf {
     ghost accepts = { ⟦<Parts as DekuWriter<()>>⟧.accepts };
 
-    ghost meaning = { λ v _. ⟦<Parts as DekuWriter<()>>⟧.meaning (⟦<Elf as Parted<()>>⟧.parts_of v) tt };
+    ghost meaning = { λ v _. ⟦<Parts as DekuWriter<()>>⟧.meaning (⟦<Elf as FromParts<()>>⟧.parts_of v) tt };
 
     fn to_writer<W: Sink>(&self, writer: &mut Writer<W>, _ctx: ()) -> Result<(), DekuError> {
         write_record(self, writer, ())

@@ -3,7 +3,7 @@
 use deku::ctx::Endian;
 use deku::device::{Sink, Source};
 use deku::prelude::{DekuError, DekuReader, DekuWriter, Reader, Writer};
-use deku_symmetry::{EndianRecord, Parted, ToParts, read_record, write_record};
+use deku_symmetry::{EndianRecord, FromParts, ToParts, read_record, write_record};
 
 /// A program header: what of the file is loaded, and where.
 #[derive(Debug, Clone, Copy, PartialEq, Eq)]
@@ -29,7 +29,7 @@ pub struct Segment {
 // The fields as they lie.
 type Parts = ((u32, u32), (u64, u64, u64), (u64, u64, u64));
 
-impl Parted<Endian> for Segment {
+impl FromParts<Endian> for Segment {
     ghost use Rattle.std.specs.Prelude.{refl};
 
     type Parts = Parts;
@@ -96,9 +96,9 @@ impl DekuReader<Endian> for Segment {
 
     ghost accepts = { ⟦<Parts as DekuReader<Endian>>⟧.accepts };
 
-    ghost prompt = { ⟦<Parts as DekuReader<Endian>>⟧.prompt };
+    ghost no_read_ahead = { ⟦<Parts as DekuReader<Endian>>⟧.no_read_ahead };
 
-    ghost meaning = { λ c. Mapped ⟦<Segment as Parted<Endian>>⟧.record_of (⟦<Parts as DekuReader<Endian>>⟧.meaning c) };
+    ghost meaning = { λ c. Mapped ⟦<Segment as FromParts<Endian>>⟧.record_of (⟦<Parts as DekuReader<Endian>>⟧.meaning c) };
 
     fn from_reader_with_ctx<R: Source>(
         reader: &mut Reader<R>,
@@ -111,7 +111,7 @@ impl DekuReader<Endian> for Segment {
 impl DekuWriter<Endian> for Segment {
     ghost accepts = { ⟦<Parts as DekuWriter<Endian>>⟧.accepts };
 
-    ghost meaning = { λ v c. ⟦<Parts as DekuWriter<Endian>>⟧.meaning (⟦<Segment as Parted<Endian>>⟧.parts_of v) c };
+    ghost meaning = { λ v c. ⟦<Parts as DekuWriter<Endian>>⟧.meaning (⟦<Segment as FromParts<Endian>>⟧.parts_of v) c };
 
     fn to_writer<W: Sink>(&self, writer: &mut Writer<W>, ctx: Endian) -> Result<(), DekuError> {
         write_record(self, writer, ctx)

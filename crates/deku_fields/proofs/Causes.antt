@@ -5,7 +5,7 @@ use Rattle.std.specs.declared.io.ErrorKind.TheVariants.{OutOfMemory}
 use Rattle.deku_bits.specs.declared.error.DekuError.{DekuError}
 use Rattle.deku_bits.specs.declared.error.DekuError.TheVariants.{Io, InvalidParam}
 use Rattle.deku_bits.specs.Streams.{Stream}
-use Rattle.deku_bits.specs.Devices.{Health, SinkTold}
+use Rattle.deku_bits.specs.Devices.{Health, KnownSink}
 use Rattle.deku_bits.specs.Writers.{Pending}
 use Rattle.deku_bits.specs.Standings.{Standing, Going, Stopped, Output, reader_state, writer_state}
 use Rattle.deku_bits.specs.Outcomes.{Meaning, Outcome}
@@ -30,21 +30,21 @@ fields_vec fs s r u k (inl p) (inr q) = inr (rw p.2 at q)
 fields_vec fs s r u k (inr p) q = wider WantsMemory (ReadsFields fs) (fields fs) s r u k p q
 
 -- what a reader keeps, it keeps whatever its source tells
-kept_reader : (coming : Option (List ℕ)) (s : Standing (List Bool)) (k : ErrorKind) → KeepsIo k (reader_state coming s) → KeepsIo k s
-kept_reader coming (Going w c) k p = p
-kept_reader coming (Stopped a e c) k p = p
+kept_reader : (remaining : Option (List ℕ)) (s : Standing (List Bool)) (k : ErrorKind) → KeepsIo k (reader_state remaining s) → KeepsIo k s
+kept_reader remaining (Going w c) k p = p
+kept_reader remaining (Stopped a e c) k p = p
 
-reads_caused : {V W : Type 0} (own : ErrorKind → Type 0) (m : Meaning (Option Stream) V) (coming : Option (List ℕ)) (s : Standing (List Bool)) (f : Health) (e : DekuError) (u : Standing (Option Stream)) (g : Health)
-    → OwnFaults own m → Outcome m (reader_state coming s) f (Err e) u g → Caused {V = W} own s f (Err e) g
-reads_caused own m coming s f e u g h o = λ k d. ⊎_elim (λ more. inl more) (λ x. inr (⊎_elim (λ y. inl y) (λ kept. inr (kept_reader coming s k kept)) x)) (caused own m _ f (Err e) u g h o k cc)
+reads_caused : {V W : Type 0} (own : ErrorKind → Type 0) (m : Meaning (Option Stream) V) (remaining : Option (List ℕ)) (s : Standing (List Bool)) (f : Health) (e : DekuError) (u : Standing (Option Stream)) (g : Health)
+    → OwnFaults own m → Outcome m (reader_state remaining s) f (Err e) u g → Caused {V = W} own s f (Err e) g
+reads_caused own m remaining s f e u g h o = λ k d. ⊎_elim (λ more. inl more) (λ x. inr (⊎_elim (λ y. inl y) (λ kept. inr (kept_reader remaining s k kept)) x)) (caused own m _ f (Err e) u g h o k cc)
 
-pub list_caused : {W : Type 0} (fs : List Field) (coming : Option (List ℕ)) (s : Standing (List Bool)) (f : Health) (e : DekuError) (u : Standing (Option Stream)) (g : Health)
-    → Outcome (ReadsFields fs) (reader_state coming s) f (Err e) u g → Caused {V = W} NoKind s f (Err e) g
-list_caused fs coming s f e u g o = reads_caused NoKind (ReadsFields fs) coming s f e u g (fields fs) o
+pub list_caused : {W : Type 0} (fs : List Field) (remaining : Option (List ℕ)) (s : Standing (List Bool)) (f : Health) (e : DekuError) (u : Standing (Option Stream)) (g : Health)
+    → Outcome (ReadsFields fs) (reader_state remaining s) f (Err e) u g → Caused {V = W} NoKind s f (Err e) g
+list_caused fs remaining s f e u g o = reads_caused NoKind (ReadsFields fs) remaining s f e u g (fields fs) o
 
-pub vec_caused : {W : Type 0} (fs : List Field) (coming : Option (List ℕ)) (s : Standing (List Bool)) (f : Health) (e : DekuError) (u : Standing (Option Stream)) (g : Health)
-    → Outcome (ReadsList fs) (reader_state coming s) f (Err e) u g → Caused {V = W} WantsMemory s f (Err e) g
-vec_caused fs coming s f e u g o = reads_caused WantsMemory (ReadsList fs) coming s f e u g (fields_vec fs) o
+pub vec_caused : {W : Type 0} (fs : List Field) (remaining : Option (List ℕ)) (s : Standing (List Bool)) (f : Health) (e : DekuError) (u : Standing (Option Stream)) (g : Health)
+    → Outcome (ReadsList fs) (reader_state remaining s) f (Err e) u g → Caused {V = W} WantsMemory s f (Err e) g
+vec_caused fs remaining s f e u g o = reads_caused WantsMemory (ReadsList fs) remaining s f e u g (fields_vec fs) o
 
 -- nothing was kept before
 pub bytes_caused : (fs : List Field) (bytes : List ℕ) (e : DekuError) → ListFrom fs bytes (Err e) → (k : ErrorKind) → e ≡ Io k → WantsMemory k
@@ -58,11 +58,11 @@ items : (is : List Item) → OwnFaults WantsPlace (WritesItems is)
 items [] = answer WantsPlace tt
 items (i ∷ is) = then WantsPlace (WritesItem i) _ (item i) (λ _. items is)
 
-kept_writer : (told : SinkTold) (s : Standing Pending) (k : ErrorKind) → KeepsIo k (writer_state told s) → KeepsIo k s
+kept_writer : (told : KnownSink) (s : Standing Pending) (k : ErrorKind) → KeepsIo k (writer_state told s) → KeepsIo k s
 kept_writer told (Going w c) k p = p
 kept_writer told (Stopped a e c) k p = p
 
-pub items_caused : (is : List Item) (told : SinkTold) (s : Standing Pending) (f : Health) (r : Result (Unit {0}) DekuError) (u : Standing Output) (g : Health)
+pub items_caused : (is : List Item) (told : KnownSink) (s : Standing Pending) (f : Health) (r : Result (Unit {0}) DekuError) (u : Standing Output) (g : Health)
     → Outcome (WritesItems is) (writer_state told s) f r u g → Caused WantsPlace s f r g
 items_caused is told s f r u g o = λ k d. ⊎_elim (λ more. inl more) (λ x. inr (⊎_elim (λ y. inl y) (λ kept. inr (kept_writer told s k kept)) x))
     (caused WantsPlace (WritesItems is) _ f r u g (items is) o k d)

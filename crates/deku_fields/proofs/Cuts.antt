@@ -2,7 +2,7 @@
 use Rattle.std.proofs.Common.{◌≡◌, ℕ, zero, suc, flat_map, inl, inr, Bool, true, false, List, [], ◌∷◌, ◌++◌, Option, Some, Result, Ok, Err, refl, sym, subst}
 use Rattle.deku_bits.specs.declared.error.DekuError.{DekuError}
 use Rattle.deku_bits.specs.Streams.{Stream}
-use Rattle.deku_bits.specs.Devices.{Health, NoFewerFailures}
+use Rattle.deku_bits.specs.Devices.{Health, DeviceKept}
 use Rattle.deku_bits.specs.Standings.{Standing, Going, Output}
 use Rattle.deku_bits.specs.Outcomes.{Meaning, Outcome, Quiet, Broken, Mapped, Value, Refusal}
 use Rattle.deku_bits.specs.ReaderCalls.{Ending}
@@ -138,7 +138,7 @@ read_calls = record {
 
 -- ---- looks between reads
 later : (gs : List Field) (s t u : Standing (Option Stream)) (f g h : Health) (r : Result (List Number) DekuError)
-    → t ≡ s → NoFewerFailures f g → Outcome (ReadsFields gs) t g r u h → Outcome (ReadsFields gs) s f r u h
+    → t ≡ s → DeviceKept f g → Outcome (ReadsFields gs) t g r u h → Outcome (ReadsFields gs) s f r u h
 later gs s t u f g h r e n (Quiet p q) = Quiet (subst (λ x. ReadsFields gs false x r u) e p) (no_fewer_on f g h n q)
 later gs s t u f g h r e n (Broken a p q) = Broken a (subst (λ x. ReadsFields gs true x r u) e p) (more_on f g h n q)
 

@@ -6,7 +6,7 @@ use Rattle.std.proofs.lemmas.List.{take_more, take_all}
 use Rattle.deku_bits.specs.Bits.{groups}
 use Rattle.deku_bits.specs.Pieces.{total}
 use Rattle.deku_bits.specs.Streams.{Stream}
-use Rattle.deku_bits.specs.Devices.{SourceTold, Loses}
+use Rattle.deku_bits.specs.Devices.{KnownSource, Loses}
 use Rattle.deku_bits.specs.Standings.{Standing, Going, count_of, reader_state}
 use Rattle.deku_bits.specs.Outcomes.{Quiet, Value, Refusal}
 use Rattle.deku_bits.specs.ReaderCalls.{ReadsAt, TakesBits, FetchesFor, NoneEarly, window_of}
@@ -35,11 +35,11 @@ field_took f n s u (Value v read e) = number_took f v s u read
 field_took f n s u (Refusal x refused e) = absurd (cc)
 
 -- the bits to come are fewer by those of the field
-field_bits : (f : Field) (n : Number) (told after : SourceTold) (s u : Standing (List Bool)) (xs ys : List ℕ) → told.coming ≡ Some xs → after.coming ≡ Some ys
+field_bits : (f : Field) (n : Number) (told after : KnownSource) (s u : Standing (List Bool)) (xs ys : List ℕ) → told.remaining ≡ Some xs → after.remaining ≡ Some ys
     → ReadsAt (ReadsField f) told s (Ok n) after u → length (window_of s) + 8 * length xs ≡ field_width f + (length (window_of u) + 8 * length ys)
 field_bits f n told after s u xs ys d e read =
     let m = meant read in
-    let took = field_took f n (reader_state told.coming s) (reader_state after.coming u) m.0 in
+    let took = field_took f n (reader_state told.remaining s) (reader_state after.remaining u) m.0 in
     takes_bits f.layout.order (field_width f) took.0 told after s u xs ys d e (Quiet took.1 m.1)
 
 -- ---- fields
@@ -84,25 +84,25 @@ tally_on m n (Some bytes) (Some xs) (Some ys) s t u before lost early bits =
         (short_window (window_of t) m n before.0 _ before.3 (omega (arith, even, ap length w)) refl)
 
 -- one field more
-pub tally_more : (fs : List Field) (i : ℕ) (d : Field) (n : Number) (first told after : SourceTold) (s t u : Standing (List Bool)) → i < length fs
-    → Tally (total (map field_shape (take i fs))) s first.coming t told.coming → ReadsAt (ReadsField (get_or fs i d)) told t (Ok n) after u
-    → FetchesFor (field_width (get_or fs i d)) t told after → NoneEarly t u → Tally (total (map field_shape (take (i + 1) fs))) s first.coming u after.coming
+pub tally_more : (fs : List Field) (i : ℕ) (d : Field) (n : Number) (first told after : KnownSource) (s t u : Standing (List Bool)) → i < length fs
+    → Tally (total (map field_shape (take i fs))) s first.remaining t told.remaining → ReadsAt (ReadsField (get_or fs i d)) told t (Ok n) after u
+    → FetchesFor (field_width (get_or fs i d)) t told after → NoneEarly t u → Tally (total (map field_shape (take (i + 1) fs))) s first.remaining u after.remaining
 tally_more fs i d n first told after s t u l before read fetched early =
     let f : Field = get_or fs i d in
     let sum : total (map field_shape (take i fs)) + field_width f ≡ total (map field_shape (take (i + 1) fs)) =
     sym (total_last (take i fs) f) ∙ ap (λ x. total (map field_shape x)) (sym (take_more fs i d l)) in
-    subst (λ x. Tally x s first.coming u after.coming) sum
-    (tally_on (field_width f) _ first.coming told.coming after.coming s t u before fetched early (λ xs ys e g. field_bits f n told after t u xs ys e g read))
+    subst (λ x. Tally x s first.remaining u after.remaining) sum
+    (tally_on (field_width f) _ first.remaining told.remaining after.remaining s t u before fetched early (λ xs ys e g. field_bits f n told after t u xs ys e g read))
   where
     total_last : (fs : List Field) (f : Field) → total (map field_shape (fs ++ f ∷ [])) ≡ total (map field_shape fs) + field_width f
     total_last [] f = omega arith
     total_last (g ∷ gs) f = let more = total_last gs f in omega (arith, more)
 
 -- all fields: as many bytes were fetched as their bits need
-pub tally_whole : (fs : List Field) (i : ℕ) (first after : SourceTold) (s u : Standing (List Bool)) → length fs ≤ i → Tally (total (map field_shape (take i fs))) s first.coming u after.coming
+pub tally_whole : (fs : List Field) (i : ℕ) (first after : KnownSource) (s u : Standing (List Bool)) → length fs ≤ i → Tally (total (map field_shape (take i fs))) s first.remaining u after.remaining
     → FetchesFor (total (map field_shape fs)) s first after
 tally_whole fs i first after s u l tally =
-    whole (total (map field_shape fs)) first.coming after.coming (subst (λ x. Tally (total (map field_shape x)) s first.coming u after.coming) (take_all i fs l) tally)
+    whole (total (map field_shape fs)) first.remaining after.remaining (subst (λ x. Tally (total (map field_shape x)) s first.remaining u after.remaining) (take_all i fs l) tally)
   where
     whole : (n : ℕ) (b d : Option (List ℕ)) → Tally n s b u d → Loses (groups (n - length (window_of s))) b d
     whole n None d t = tt

@@ -75,9 +75,9 @@ unfolding normal
 normal_short S l = rw (ne_eqb (length S.window) 8 (λ (e : length S.window ≡ 8). omega arith)) refl
 
 -- a source tells the bytes of the stream, where no whole byte is unread
-source_tells : (coming : Option (List ℕ)) (st : Standing (List Bool)) (rest : Stream) (c : ℕ) → length (window_of st) < 8
-    → reader_state coming st ≡ Going (Some rest) c → coming ≡ Some rest.bytes
-source_tells coming (Stopped w e k) rest c l q = absurd (cc)
+source_tells : (remaining : Option (List ℕ)) (st : Standing (List Bool)) (rest : Stream) (c : ℕ) → length (window_of st) < 8
+    → reader_state remaining st ≡ Going (Some rest) c → remaining ≡ Some rest.bytes
+source_tells remaining (Stopped w e k) rest c l q = absurd (cc)
 source_tells None (Going w k) rest c l q = absurd (cc)
 source_tells (Some ys) (Going w k) rest c l q =
     let S : Stream = record { window = w; bytes = ys } in
@@ -88,10 +88,10 @@ no_whole_byte : (s t : Standing (List Bool)) (c : ℕ) → s ≡ Going [] c → 
 no_whole_byte s t c e (inl l) = l
 no_whole_byte s t c e (inr same) = rw (same, e) (omega arith)
 
-starts_at : (coming : Option (List ℕ)) (bytes : List ℕ) (st : Standing (List Bool)) (c : ℕ) → coming ≡ Some bytes → st ≡ Going [] c
-    → reader_state coming st ≡ Going (Some (fresh bytes)) c
+starts_at : (remaining : Option (List ℕ)) (bytes : List ℕ) (st : Standing (List Bool)) (c : ℕ) → remaining ≡ Some bytes → st ≡ Going [] c
+    → reader_state remaining st ≡ Going (Some (fresh bytes)) c
 unfolding normal
-starts_at coming bytes st c e f = rw (e, f) refl
+starts_at remaining bytes st c e f = rw (e, f) refl
 
 -- the bytes behind a list that was read are those that its source tells
 pub left_behind : (fs : List Field) (r : Result (List Number) DekuError) (before now : Option (List ℕ)) (s t : Standing (List Bool)) (items : List Item) (bytes after : List ℕ) (c : ℕ)

@@ -2,7 +2,7 @@
 use Rattle.std.proofs.Common.{◌≡◌, ℕ, Bool, false, List, Ok, ap, ◌∙◌, subst, inl, inr}
 use Rattle.deku_bits.specs.declared.error.DekuError.{DekuError}
 use Rattle.deku_bits.specs.Writers.{Pending}
-use Rattle.deku_bits.specs.Devices.{SourceTold, SinkTold}
+use Rattle.deku_bits.specs.Devices.{KnownSource, KnownSink}
 use Rattle.deku_bits.specs.Standings.{Standing, Going, Stopped, Output, output_of, Untouched, reader_state, writer_state}
 use Rattle.deku_bits.specs.ReaderCalls.{ReadsAt}
 use Rattle.deku_bits.specs.WriterCalls.{WritesAt}
@@ -31,10 +31,10 @@ rests_on (Going a c) t x y z k p q = tt
 rests_on {A} (Stopped a f c) t x y z k p q = let r : Untouched {A = A} (Stopped a f c) y z = subst (λ w. Untouched {A = A} w y z) k q in r ∙ p
 
 -- what reads a field has not stopped
-pub field_going : {D : Type 0} (f : Field) (n : Number) (told after : SourceTold) (s t u : Standing (List Bool)) (x y : D) → Untouched s s t → ReadsAt (ReadsField f) told t (Ok n) after u → Untouched s x y
+pub field_going : {D : Type 0} (f : Field) (n : Number) (told after : KnownSource) (s t u : Standing (List Bool)) (x y : D) → Untouched s s t → ReadsAt (ReadsField f) told t (Ok n) after u → Untouched s x y
 field_going f n told after (Going w c) t u x y k reads = tt
 field_going f n told after (Stopped w e c) t u x y k reads =
-    let took = field_took f n (reader_state told.coming (Stopped w e c)) (reader_state after.coming u) (subst (λ z. ReadsField f false (reader_state told.coming z) (Ok n) (reader_state after.coming u)) k (meant reads).0) in
+    let took = field_took f n (reader_state told.remaining (Stopped w e c)) (reader_state after.remaining u) (subst (λ z. ReadsField f false (reader_state told.remaining z) (Ok n) (reader_state after.remaining u)) k (meant reads).0) in
     let bad = took.1.0 in absurd (cc)
 
 -- what writes an item has not stopped
@@ -47,7 +47,7 @@ no_item i out e c u (Passed p) = no_number p.1
     no_number (Passed (Refused b p)) = let bad = p.2.2 in cc
     no_number (Passed (Passed p)) = let bad = p.1.2.0 in cc
 
-pub item_going : {D : Type 0} (i : Item) (told after : SinkTold) (s t u : Standing Pending) (x y : D) → Untouched s s t → WritesAt (WritesItem i) told t (Ok tt) after u → Untouched s x y
+pub item_going : {D : Type 0} (i : Item) (told after : KnownSink) (s t u : Standing Pending) (x y : D) → Untouched s s t → WritesAt (WritesItem i) told t (Ok tt) after u → Untouched s x y
 item_going i told after (Going w c) t u x y k writes = tt
 item_going i told after (Stopped w e c) t u x y k writes =
     absurd (no_item i (output_of told w) e c (writer_state after u) (subst (λ z. WritesItem i false (writer_state told z) (Ok tt) (writer_state after u)) k (meant writes).0))

@@ -9,7 +9,7 @@ use Rattle.deku_bits.specs.Bits.{shown}
 use Rattle.deku_bits.specs.Pieces.{laid_out}
 use Rattle.deku_bits.specs.Writers.{Pending, Nothing, Written, append, finalized, padded}
 use Rattle.deku_bits.specs.Symmetry.{appended, packed}
-use Rattle.deku_bits.specs.Devices.{SinkTold, bytes_before}
+use Rattle.deku_bits.specs.Devices.{KnownSink, bytes_before}
 use Rattle.deku_bits.specs.Standings.{Standing, Going, Stopped, Output, writer_state}
 use Rattle.deku_bits.specs.WriterCalls.{Emits, Finalizes}
 use Rattle.deku_num.specs.NumberCalls.{Refused, Passed}
@@ -59,7 +59,7 @@ items_tell (i ∷ is) out c xs u e (Second v t p q) =
 
 -- ---- the whole
 -- what was written to memory, where all of it was
-pub whole_written : (is : List Item) (t : Standing Output) (told : SinkTold) (st : Standing Pending)
+pub whole_written : (is : List Item) (t : Standing Output) (told : KnownSink) (st : Standing Pending)
     → WritesItems is false (Going in_memory 0) (Ok tt) t → Finalizes false t (Ok tt) (writer_state told st)
     → (bytes : List ℕ) × (told.taken ≡ Some bytes) × ((out : Output) × (c : ℕ) × Both (WritesItems is) Finalizes false (Going in_memory 0) (Ok tt) (Going out c) × (out.taken ≡ Some bytes))
 whole_written is t told (Stopped w e c) p q =
@@ -112,13 +112,13 @@ laid_whole is r u all aligned small w =
 pub handed_on : {V : Type 0} (e : DekuError) (r : Result V DekuError) → IsErrAnd r (λ x. x ≡ e) → r ≡ Err e
 handed_on e r h = let p = err_from_is_err_and r h in p.1 ∙ ap Err p.2
 
-pub whole_both : (is : List Item) (told : SinkTold) (st : Standing Pending) → Both (WritesItems is) Finalizes false (Going in_memory 0) (Ok tt) (writer_state told st)
+pub whole_both : (is : List Item) (told : KnownSink) (st : Standing Pending) → Both (WritesItems is) Finalizes false (Going in_memory 0) (Ok tt) (writer_state told st)
     → (bytes : List ℕ) × (told.taken ≡ Some bytes) × ((out : Output) × (c : ℕ) × Both (WritesItems is) Finalizes false (Going in_memory 0) (Ok tt) (Going out c) × (out.taken ≡ Some bytes))
 whole_both is told st (First e p q) = absurd (cc)
 whole_both is told st (Second v t p q) = whole_written is t told st p q
 
 -- the bytes before the place of a cursor, where items were written from its start
-pub written_whole : (is : List Item) (place : ℕ) (xs ys : List ℕ) (told : SinkTold) (st : Standing Pending) → told.taken ≡ bytes_before place xs → ys ≡ take place xs
+pub written_whole : (is : List Item) (place : ℕ) (xs ys : List ℕ) (told : KnownSink) (st : Standing Pending) → told.taken ≡ bytes_before place xs → ys ≡ take place xs
     → Both (WritesItems is) Finalizes false (Going in_memory 0) (Ok tt) (writer_state told st)
     → (out : Output) × (c : ℕ) × Both (WritesItems is) Finalizes false (Going in_memory 0) (Ok tt) (Going out c) × (out.taken ≡ Some ys)
 written_whole is place xs ys told st e f w =

@@ -10,7 +10,7 @@ use Rattle.deku_bits.specs.declared.writer.Writer.{Writer}
 use Rattle.deku_bits.specs.Streams.{Stream, fresh}
 use Rattle.deku_bits.specs.Pieces.{total, cleared, last_order}
 use Rattle.deku_bits.specs.Writers.{Nothing, Written, padded}
-use Rattle.deku_bits.specs.Devices.{Health, SourceTold, SinkTold}
+use Rattle.deku_bits.specs.Devices.{Health, KnownSource, KnownSink}
 use Rattle.deku_bits.specs.Standings.{Standing, Going, Output, reader_state, writer_state}
 use Rattle.deku_bits.specs.WriterCalls.{Took, Finalizes}
 use Rattle.deku.specs.Composing.{Both}
@@ -28,16 +28,16 @@ pub record Unfailing (before after : Health) : Type 0 where
   pub still : after.failures ≡ Some count
 
 -- a call on a reader does what m says, where its source tells of its failures and none comes
-abbrev pub ReadsWhereSound : {R V : Type 0} → (R → SourceTold) → (Standing (Option Stream) → Result V DekuError → Standing (Option Stream) → Type 0) → Reader R → Result V DekuError → Reader R → Type 0
+abbrev pub ReadsWhereSound : {R V : Type 0} → (R → KnownSource) → (Standing (Option Stream) → Result V DekuError → Standing (Option Stream) → Type 0) → Reader R → Result V DekuError → Reader R → Type 0
 ReadsWhereSound told m old r new = Unfailing (told old.source).health (told new.source).health
-    → m (reader_state (told old.source).coming old.state) r (reader_state (told new.source).coming new.state)
+    → m (reader_state (told old.source).remaining old.state) r (reader_state (told new.source).remaining new.state)
 
 -- a call on a reader does what m says of what its source tells
-abbrev pub ReadsWhereTold : {R V : Type 0} → (R → SourceTold) → (Standing (Option Stream) → Result V DekuError → Standing (Option Stream) → Type 0) → Reader R → Result V DekuError → Reader R → Type 0
-ReadsWhereTold told m old r new = m (reader_state (told old.source).coming old.state) r (reader_state (told new.source).coming new.state)
+abbrev pub ReadsWhereTold : {R V : Type 0} → (R → KnownSource) → (Standing (Option Stream) → Result V DekuError → Standing (Option Stream) → Type 0) → Reader R → Result V DekuError → Reader R → Type 0
+ReadsWhereTold told m old r new = m (reader_state (told old.source).remaining old.state) r (reader_state (told new.source).remaining new.state)
 
 -- a call on a writer does what m says, where its sink tells of its failures and none comes
-abbrev pub WritesWhereSound : {W : Type 0} → (W → SinkTold) → (Standing Output → Result (Unit {0}) DekuError → Standing Output → Type 0) → Writer W → Result (Unit {0}) DekuError → Writer W → Type 0
+abbrev pub WritesWhereSound : {W : Type 0} → (W → KnownSink) → (Standing Output → Result (Unit {0}) DekuError → Standing Output → Type 0) → Writer W → Result (Unit {0}) DekuError → Writer W → Type 0
 WritesWhereSound told m old r new = Unfailing (told old.sink).health (told new.sink).health
     → m (writer_state (told old.sink) old.state) r (writer_state (told new.sink) new.state)
 
@@ -75,10 +75,10 @@ ReadsBackVec fs s r u = ((r ≡ Err (Io OutOfMemory)) × (u ≡ s)) ⊎ ReadsBac
 
 -- Where no bit of a byte was unread and the source told bytes that begin with what aligned fitting items lay out, it tells exactly those behind,
 -- when the fields were read.
-abbrev pub LeavesBehind : {R : Type 0} → (R → SourceTold) → List Field → Reader R → Result (List Number) DekuError → Reader R → Type 0
+abbrev pub LeavesBehind : {R : Type 0} → (R → KnownSource) → List Field → Reader R → Result (List Number) DekuError → Reader R → Type 0
 LeavesBehind told fs old r new = (items : List Item) (bytes after : List ℕ) (c : ℕ) → Unfailing (told old.source).health (told new.source).health
-    → Begins fs items bytes after → old.state ≡ Going [] c → (told old.source).coming ≡ Some bytes → c + total (map field_shape fs) < 2 ^ 64
-    → OnOk r ((told new.source).coming ≡ Some after)
+    → Begins fs items bytes after → old.state ≡ Going [] c → (told old.source).remaining ≡ Some bytes → c + total (map field_shape fs) < 2 ^ 64
+    → OnOk r ((told new.source).remaining ≡ Some after)
 
 -- from bytes that begin with what aligned fitting items lay out, whatever follows, the fields read exactly the items' values, and their width
 abbrev pub ReadsBackFrom : List Field → List ℕ → Result (ℕ × Vec Number) DekuError → Type 0

@@ -7,7 +7,7 @@ ghost use Rattle.deku_fields.specs.Cutting.{AdmitsCut, IsCutTo, cuts};
 use crate::list::{Field, Number};
 use deku::ctx::Size;
 use deku::kind::NumberType;
-use deku_num::kernel::{allowed_width, low_bits, residue_of, signed_of};
+use deku_num::kernel::{allowed_width, low_bits, residue_of, sign_extend};
 
 /// What is left of a number in a field whose size is in bytes: the one number that fits and is equal to it modulo two to the bits of the field. So
 /// items whose values are cut first are written as the lowest bits of these.
@@ -43,7 +43,7 @@ fn kept(number: Number, field: Field, width: usize) -> Number
     }
     match number {
         Number::Unsigned(value) => Number::Unsigned(low_bits(value, width)),
-        Number::Signed(value) => Number::Signed(signed_of(residue_of(value, width), width)),
+        Number::Signed(value) => Number::Signed(sign_extend(residue_of(value, width), width)),
     }
 }
 

@@ -40,15 +40,15 @@ pub fn read_list_into<R: Source>(
     out: &mut [Number],
 ) -> Result<(), DekuError>
     requires { length out.old ≡ length fields.now }
-    ensures meaning { Reads R.told (ReadsFields fields.now) reader.old (filling result out.new) reader.new }
-    ensures values { ReadsWhereSound R.told (ReadsBack fields.now) reader.old (filling result out.new) reader.new }
-    ensures found { ReadsWhereTold R.told (FindsAny fields.now) reader.old (filling result out.new) reader.new }
-    ensures behind { LeavesBehind R.told fields.now reader.old (filling result out.new) reader.new }
-    ensures fetched { OnOk result (FetchesFor (total (map field_shape fields.now)) reader.old.state (R.told reader.old.source) (R.told reader.new.source)) }
+    ensures meaning { Reads R.known (ReadsFields fields.now) reader.old (filling result out.new) reader.new }
+    ensures values { ReadsWhereSound R.known (ReadsBack fields.now) reader.old (filling result out.new) reader.new }
+    ensures found { ReadsWhereTold R.known (FindsAny fields.now) reader.old (filling result out.new) reader.new }
+    ensures behind { LeavesBehind R.known fields.now reader.old (filling result out.new) reader.new }
+    ensures fetched { OnOk result (FetchesFor (total (map field_shape fields.now)) reader.old.state (R.known reader.old.source) (R.known reader.new.source)) }
     ensures early { NoneEarly reader.old.state reader.new.state }
     ensures stopped { Untouched reader.old.state reader.old.source reader.new.source }
     ensures none { fields.now ≡ [] → reader.new ≡ reader.old }
-    ensures cause { Caused NoKind reader.old.state (R.told reader.old.source).health result (R.told reader.new.source).health }
+    ensures cause { Caused NoKind reader.old.state (R.known reader.old.source).health result (R.known reader.new.source).health }
 {
     for (place, field) in fields.iter().enumerate() {
         match read_field(reader, field) {
@@ -62,8 +62,8 @@ pub fn read_list_into<R: Source>(
 // Reads the value of a field: at once, where nothing refuses it and its bits are at hand.
 #[inline(always)]
 fn read_field<R: Source>(reader: &mut Reader<R>, field: &Field) -> Result<Number, DekuError>
-    ensures reads { Reads R.told (ReadsField field.now) reader.old result reader.new }
-    ensures fetched { OnOk result (FetchesFor (field_width field.now) reader.old.state (R.told reader.old.source) (R.told reader.new.source)) }
+    ensures reads { Reads R.known (ReadsField field.now) reader.old result reader.new }
+    ensures fetched { OnOk result (FetchesFor (field_width field.now) reader.old.state (R.known reader.old.source) (R.known reader.new.source)) }
     ensures early { NoneEarly reader.old.state reader.new.state }
     ensures stopped { Untouched reader.old.state reader.old.source reader.new.source }
 {
@@ -76,22 +76,22 @@ fn read_field<R: Source>(reader: &mut Reader<R>, field: &Field) -> Result<Number
 // The number of a field of bits that go from the highest down, where nothing refuses it and they are at hand. It answers none else, and then nothing moves.
 #[inline(always)]
 fn plain_number<R: Source>(reader: &mut Reader<R>, field: &Field) -> Option<u64>
-    ensures reads { IfSome result (λ n. Reads R.told (ReadsField field.now) reader.old (Ok (Unsigned n)) reader.new) }
-    ensures fetched { IfSome result (λ n. FetchesFor (field_width field.now) reader.old.state (R.told reader.old.source) (R.told reader.new.source)) }
+    ensures reads { IfSome result (λ n. Reads R.known (ReadsField field.now) reader.old (Ok (Unsigned n)) reader.new) }
+    ensures fetched { IfSome result (λ n. FetchesFor (field_width field.now) reader.old.state (R.known reader.old.source) (R.known reader.new.source)) }
     ensures early { NoneEarly reader.old.state reader.new.state }
     ensures stays { IsNone result → reader.new ≡ reader.old }
     ensures stopped { Untouched reader.old.state reader.old.source reader.new.source }
 {
     let width = high_width(field)?;
-    let number = reader.high_at_hand(width)?;
+    let number = reader.try_read_msb(width)?;
     Some(number)
 }
 
 // Reads the value of a field, and looks at all that may refuse it.
 #[inline(always)]
 fn read_checked<R: Source>(reader: &mut Reader<R>, field: &Field) -> Result<Number, DekuError>
-    ensures reads { Reads R.told (ReadsField field.now) reader.old result reader.new }
-    ensures fetched { OnOk result (FetchesFor (field_width field.now) reader.old.state (R.told reader.old.source) (R.told reader.new.source)) }
+    ensures reads { Reads R.known (ReadsField field.now) reader.old result reader.new }
+    ensures fetched { OnOk result (FetchesFor (field_width field.now) reader.old.state (R.known reader.old.source) (R.known reader.new.source)) }
     ensures early { NoneEarly reader.old.state reader.new.state }
     ensures stopped { Untouched reader.old.state reader.old.source reader.new.source }
 {
@@ -116,15 +116,15 @@ pub fn read_list<R: Source>(
     reader: &mut Reader<R>,
     fields: &[Field],
 ) -> Result<Vec<Number>, DekuError>
-    ensures meaning { Reads R.told (ReadsList fields.now) reader.old (items_of result) reader.new }
-    ensures values { ReadsWhereSound R.told (ReadsBackVec fields.now) reader.old (items_of result) reader.new }
-    ensures found { ReadsWhereTold R.told (FindsAny fields.now) reader.old (items_of result) reader.new }
-    ensures behind { LeavesBehind R.told fields.now reader.old (items_of result) reader.new }
-    ensures fetched { OnOk result (FetchesFor (total (map field_shape fields.now)) reader.old.state (R.told reader.old.source) (R.told reader.new.source)) }
+    ensures meaning { Reads R.known (ReadsList fields.now) reader.old (items_of result) reader.new }
+    ensures values { ReadsWhereSound R.known (ReadsBackVec fields.now) reader.old (items_of result) reader.new }
+    ensures found { ReadsWhereTold R.known (FindsAny fields.now) reader.old (items_of result) reader.new }
+    ensures behind { LeavesBehind R.known fields.now reader.old (items_of result) reader.new }
+    ensures fetched { OnOk result (FetchesFor (total (map field_shape fields.now)) reader.old.state (R.known reader.old.source) (R.known reader.new.source)) }
     ensures early { NoneEarly reader.old.state reader.new.state }
     ensures stopped { Untouched reader.old.state reader.old.source reader.new.source }
     ensures none { fields.now ≡ [] → reader.new ≡ reader.old }
-    ensures cause { Caused WantsMemory reader.old.state (R.told reader.old.source).health result (R.told reader.new.source).health }
+    ensures cause { Caused WantsMemory reader.old.state (R.known reader.old.source).health result (R.known reader.new.source).health }
 {
     let Ok(mut numbers) = vec![in reader.alloc(); Number::Unsigned(0); fields.len()] else {
         return Err(DekuError::Io(ErrorKind::OutOfMemory));

@@ -34,11 +34,11 @@ use std::io::Cursor;
 /// write_list(&mut writer, &[six_in_four, nine_in_four])?;    // the byte 69
 /// ```
 pub fn write_list<W: Sink>(writer: &mut Writer<W>, items: &[Item]) -> Result<(), DekuError>
-    ensures meaning { Writes W.told (WritesItems items.now) writer.old result writer.new }
-    ensures laid_out { WritesWhereSound W.told (WritesLaid items.now) writer.old result writer.new }
+    ensures meaning { Writes W.known (WritesItems items.now) writer.old result writer.new }
+    ensures laid_out { WritesWhereSound W.known (WritesLaid items.now) writer.old result writer.new }
     ensures stopped { Untouched writer.old.state writer.old.sink writer.new.sink }
     ensures none { items.now ≡ [] → writer.new ≡ writer.old }
-    ensures cause { Caused WantsPlace writer.old.state (W.told writer.old.sink).health result (W.told writer.new.sink).health }
+    ensures cause { Caused WantsPlace writer.old.state (W.known writer.old.sink).health result (W.known writer.new.sink).health }
 {
     for item in items {
         match write_item(writer, item) {
@@ -52,7 +52,7 @@ pub fn write_list<W: Sink>(writer: &mut Writer<W>, items: &[Item]) -> Result<(),
 // Writes the value of an item: where nothing refuses it for what it is, at once.
 #[inline(always)]
 fn write_item<W: Sink>(writer: &mut Writer<W>, item: &Item) -> Result<(), DekuError>
-    ensures writes { Writes W.told (WritesItem item.now) writer.old result writer.new }
+    ensures writes { Writes W.known (WritesItem item.now) writer.old result writer.new }
     ensures stopped { Untouched writer.old.state writer.old.sink writer.new.sink }
 {
     if laid_high(writer, item) {
@@ -68,12 +68,12 @@ fn write_item<W: Sink>(writer: &mut Writer<W>, item: &Item) -> Result<(), DekuEr
 // changes.
 #[inline(always)]
 fn laid_high<W: Sink>(writer: &mut Writer<W>, item: &Item) -> bool
-    ensures writes { IsTrue result → Writes W.told (WritesItem item.now) writer.old (Ok tt) writer.new }
+    ensures writes { IsTrue result → Writes W.known (WritesItem item.now) writer.old (Ok tt) writer.new }
     ensures stays { IsFalse result → writer.new ≡ writer.old }
     ensures stopped { Untouched writer.old.state writer.old.sink writer.new.sink }
 {
     match plain_high(item) {
-        Some((number, width)) => writer.high_laid(number, width),
+        Some((number, width)) => writer.try_write_msb(number, width),
         None => false,
     }
 }
@@ -135,7 +135,7 @@ fn plain_word(item: &Item) -> Option<(u128, usize)>
 // Writes the value of an item, and looks at all that may refuse it. It is inlined, so that no call has the writer by reference.
 #[inline(always)]
 fn write_checked<W: Sink>(writer: &mut Writer<W>, item: &Item) -> Result<(), DekuError>
-    ensures writes { Writes W.told (WritesItem item.now) writer.old result writer.new }
+    ensures writes { Writes W.known (WritesItem item.now) writer.old result writer.new }
     ensures stopped { Untouched writer.old.state writer.old.sink writer.new.sink }
 {
     if !item.field.kind.holds(item.value) {
@@ -171,7 +171,7 @@ pub fn list_to_bytes(alloc: Global, items: &[Item]) -> Result<Vec<u8>, DekuError
 
 // Writes the items and fills the last byte with zeros.
 fn write_padded<W: Sink>(writer: &mut Writer<W>, items: &[Item]) -> Result<(), DekuError>
-    ensures { Writes W.told (Both (WritesItems items.now) Finalizes) writer.old result writer.new }
+    ensures { Writes W.known (Both (WritesItems items.now) Finalizes) writer.old result writer.new }
 {
     match write_list(writer, items) {
         Ok(()) => writer.finalize(),

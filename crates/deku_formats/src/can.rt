@@ -13,7 +13,7 @@ use deku::device::{Sink, Source};
 use deku::prelude::{
     DekuContainerRead, DekuContainerWrite, DekuError, DekuReader, DekuWriter, Reader, Writer,
 };
-use deku_symmetry::{Lsb, LsbBe, Parted, Record, ToParts, read_record, write_record};
+use deku_symmetry::{Lsb, LsbBe, FromParts, Record, ToParts, read_record, write_record};
 
 /// The signals.
 #[derive(Debug, PartialEq, Eq, Drop)]
@@ -40,7 +40,7 @@ type Parts = (
     LsbBe<i32, 24>,
 );
 
-impl Parted<()> for Chassis {
+impl FromParts<()> for Chassis {
     ghost use Rattle.std.specs.Prelude.{refl};
 
     type Parts = Parts;
@@ -103,9 +103,9 @@ impl DekuReader<()> for Chassis {
 
     ghost accepts = { ⟦<Parts as DekuReader<()>>⟧.accepts };
 
-    ghost prompt = { ⟦<Parts as DekuReader<()>>⟧.prompt };
+    ghost no_read_ahead = { ⟦<Parts as DekuReader<()>>⟧.no_read_ahead };
 
-    ghost meaning = { λ _. Mapped ⟦<Chassis as Parted<()>>⟧.record_of (⟦<Parts as DekuReader<()>>⟧.meaning tt) };
+    ghost meaning = { λ _. Mapped ⟦<Chassis as FromParts<()>>⟧.record_of (⟦<Parts as DekuReader<()>>⟧.meaning tt) };
 
     fn from_reader_with_ctx<R: Source>(
         reader: &mut Reader<R>,
@@ -118,7 +118,7 @@ impl DekuReader<()> for Chassis {
 impl DekuWriter<()> for Chassis {
     ghost accepts = { ⟦<Parts as DekuWriter<()>>⟧.accepts };
 
-    ghost meaning = { λ v _. ⟦<Parts as DekuWriter<()>>⟧.meaning (⟦<Chassis as Parted<()>>⟧.parts_of v) tt };
+    ghost meaning = { λ v _. ⟦<Parts as DekuWriter<()>>⟧.meaning (⟦<Chassis as FromParts<()>>⟧.parts_of v) tt };
 
     fn to_writer<W: Sink>(&self, writer: &mut Writer<W>, _ctx: ()) -> Result<(), DekuError> {
         write_record(self, writer, ())

@@ -18,7 +18,7 @@ use deku::device::{Sink, Source};
 use deku::prelude::{
     DekuContainerRead, DekuContainerWrite, DekuError, DekuReader, DekuWriter, Reader, Writer,
 };
-use deku_symmetry::{Led, Parted, Record, read_record, write_led};
+use deku_symmetry::{Counted, FromParts, Record, read_record, write_counted};
 use header::Header;
 use sample::Sample;
 
@@ -32,9 +32,9 @@ pub struct Telemetry {
 }
 
 // The header, and as many samples as it says.
-type Parts = Led<Header, Sample>;
+type Parts = Counted<Header, Sample>;
 
-impl Parted<()> for Telemetry {
+impl FromParts<()> for Telemetry {
     ghost use Rattle.std.specs.Prelude.{refl};
 
     type Parts = Parts;
@@ -68,9 +68,9 @@ impl DekuReader<()> for Telemetry {
 
     ghost accepts = { ⟦<Parts as DekuReader<()>>⟧.accepts };
 
-    ghost prompt = { ⟦<Parts as DekuReader<()>>⟧.prompt };
+    ghost no_read_ahead = { ⟦<Parts as DekuReader<()>>⟧.no_read_ahead };
 
-    ghost meaning = { λ _. Mapped ⟦<Telemetry as Parted<()>>⟧.record_of (⟦<Parts as DekuReader<()>>⟧.meaning tt) };
+    ghost meaning = { λ _. Mapped ⟦<Telemetry as FromParts<()>>⟧.record_of (⟦<Parts as DekuReader<()>>⟧.meaning tt) };
 
     fn from_reader_with_ctx<R: Source>(
         reader: &mut Reader<R>,
@@ -83,10 +83,10 @@ impl DekuReader<()> for Telemetry {
 impl DekuWriter<()> for Telemetry {
     ghost accepts = { ⟦<Parts as DekuWriter<()>>⟧.accepts };
 
-    ghost meaning = { λ v _. ⟦<Parts as DekuWriter<()>>⟧.meaning (⟦<Telemetry as Parted<()>>⟧.parts_of v) tt };
+    ghost meaning = { λ v _. ⟦<Parts as DekuWriter<()>>⟧.meaning (⟦<Telemetry as FromParts<()>>⟧.parts_of v) tt };
 
     fn to_writer<W: Sink>(&self, writer: &mut Writer<W>, _ctx: ()) -> Result<(), DekuError> {
-        write_led(&self.header, &self.samples, writer)
+        write_counted(&self.header, &self.samples, writer)
     }
 }
 

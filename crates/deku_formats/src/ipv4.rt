@@ -24,7 +24,7 @@ use deku::prelude::{
     DekuContainerRead, DekuContainerWrite, DekuError, DekuReader, DekuUpdate, DekuWriter, Reader,
     Writer,
 };
-use deku_symmetry::{Constant, Constants, Led, Msb, Parted, Record, read_record, write_led};
+use deku_symmetry::{Constant, ConstantLaw, Counted, Msb, FromParts, Record, read_record, write_counted};
 use front::Front;
 
 /// The header with its options.
@@ -37,9 +37,9 @@ pub struct Ipv4 {
 }
 
 // The first twenty bytes, and as many options as they say.
-type Parts = Led<Front, u8>;
+type Parts = Counted<Front, u8>;
 
-impl Parted<()> for Ipv4 {
+impl FromParts<()> for Ipv4 {
     ghost use Rattle.std.specs.Prelude.{refl};
 
     type Parts = Parts;
@@ -73,9 +73,9 @@ impl DekuReader<()> for Ipv4 {
 
     ghost accepts = { ⟦<Parts as DekuReader<()>>⟧.accepts };
 
-    ghost prompt = { ⟦<Parts as DekuReader<()>>⟧.prompt };
+    ghost no_read_ahead = { ⟦<Parts as DekuReader<()>>⟧.no_read_ahead };
 
-    ghost meaning = { λ _. Mapped ⟦<Ipv4 as Parted<()>>⟧.record_of (⟦<Parts as DekuReader<()>>⟧.meaning tt) };
+    ghost meaning = { λ _. Mapped ⟦<Ipv4 as FromParts<()>>⟧.record_of (⟦<Parts as DekuReader<()>>⟧.meaning tt) };
 
     fn from_reader_with_ctx<R: Source>(
         reader: &mut Reader<R>,
@@ -88,10 +88,10 @@ impl DekuReader<()> for Ipv4 {
 impl DekuWriter<()> for Ipv4 {
     ghost accepts = { ⟦<Parts as DekuWriter<()>>⟧.accepts };
 
-    ghost meaning = { λ v _. ⟦<Parts as DekuWriter<()>>⟧.meaning (⟦<Ipv4 as Parted<()>>⟧.parts_of v) tt };
+    ghost meaning = { λ v _. ⟦<Parts as DekuWriter<()>>⟧.meaning (⟦<Ipv4 as FromParts<()>>⟧.parts_of v) tt };
 
     fn to_writer<W: Sink>(&self, writer: &mut Writer<W>, _ctx: ()) -> Result<(), DekuError> {
-        write_led(&self.front, &self.options, writer)
+        write_counted(&self.front, &self.options, writer)
     }
 }
 
@@ -157,7 +157,7 @@ impl Constant<Msb<u8, 4>> for Version {
     }
 }
 
-impl Constants<Msb<u8, 4>> for Version {
+impl ConstantLaw<Msb<u8, 4>> for Version {
     ghost use Rattle.std.proofs.Common.{ap, sym};
 
     ghost alike = { λ v e. ap (λ n. record { 0 = n }) (sym e) };

@@ -13,7 +13,7 @@ use deku::device::{Sink, Source};
 use deku::prelude::{
     DekuContainerRead, DekuContainerWrite, DekuError, DekuReader, DekuWriter, Reader, Writer,
 };
-use deku_symmetry::{Be, Parted, Record, ToParts, read_record, write_record};
+use deku_symmetry::{Be, FromParts, Record, ToParts, read_record, write_record};
 
 /// The header of a datagram.
 #[derive(Debug, PartialEq, Eq, Drop)]
@@ -31,7 +31,7 @@ pub struct Udp {
 // The fields as they lie.
 type Parts = (Be<u16>, Be<u16>, Be<u16>, Be<u16>);
 
-impl Parted<()> for Udp {
+impl FromParts<()> for Udp {
     ghost use Rattle.std.specs.Prelude.{refl};
 
     type Parts = Parts;
@@ -79,9 +79,9 @@ impl DekuReader<()> for Udp {
 
     ghost accepts = { ⟦<Parts as DekuReader<()>>⟧.accepts };
 
-    ghost prompt = { ⟦<Parts as DekuReader<()>>⟧.prompt };
+    ghost no_read_ahead = { ⟦<Parts as DekuReader<()>>⟧.no_read_ahead };
 
-    ghost meaning = { λ _. Mapped ⟦<Udp as Parted<()>>⟧.record_of (⟦<Parts as DekuReader<()>>⟧.meaning tt) };
+    ghost meaning = { λ _. Mapped ⟦<Udp as FromParts<()>>⟧.record_of (⟦<Parts as DekuReader<()>>⟧.meaning tt) };
 
     fn from_reader_with_ctx<R: Source>(
         reader: &mut Reader<R>,
@@ -94,7 +94,7 @@ impl DekuReader<()> for Udp {
 impl DekuWriter<()> for Udp {
     ghost accepts = { ⟦<Parts as DekuWriter<()>>⟧.accepts };
 
-    ghost meaning = { λ v _. ⟦<Parts as DekuWriter<()>>⟧.meaning (⟦<Udp as Parted<()>>⟧.parts_of v) tt };
+    ghost meaning = { λ v _. ⟦<Parts as DekuWriter<()>>⟧.meaning (⟦<Udp as FromParts<()>>⟧.parts_of v) tt };
 
     fn to_writer<W: Sink>(&self, writer: &mut Writer<W>, _ctx: ()) -> Result<(), DekuError> {
         write_record(self, writer, ())

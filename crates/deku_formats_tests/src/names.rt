@@ -5,7 +5,7 @@ use deku_dns::header::Header;
 use deku_dns::label::Label;
 use deku_dns::query::Query;
 use deku_dns::question::Question;
-use deku_symmetry::{Ended, Symmetric};
+use deku_symmetry::{Until, Symmetric};
 use deku_testing_values::records::{expect_record, expect_refusal};
 use std::alloc::Global;
 use std::test::Fail;
@@ -37,7 +37,7 @@ fn header() -> Header {
 }
 
 // A name of these labels, and no other.
-fn name(alloc: Global, labels: &[&[u8]]) -> Result<Ended<Label>, Fail> {
+fn name(alloc: Global, labels: &[&[u8]]) -> Result<Until<Label>, Fail> {
     let mut items = Vec::new(alloc);
     for bytes in labels {
         let label = Label {
@@ -46,7 +46,7 @@ fn name(alloc: Global, labels: &[&[u8]]) -> Result<Ended<Label>, Fail> {
         };
         items.push(label)?;
     }
-    Ok(Ended { items })
+    Ok(Until { items })
 }
 
 #[test]

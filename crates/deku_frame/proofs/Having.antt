@@ -39,4 +39,4 @@ pair_has l r a b =
 
 pub update_law : UpdateLaw
 update_law n v f all (inl (small, ok, is)) = subst (λ x. Has (OfFrame x)) (sym is) (data_has v small all)
-update_law n v f all (inr (large, (e, is, told), same)) = absurd (cc)
+update_law n v f all (inr (large, (e, is, known), same)) = absurd (cc)

@@ -14,7 +14,7 @@ use Rattle.deku_pieces.specs.Symmetric.{IsWrittenAs, IsReadBack, TakenAs, IsSymm
 use Rattle.deku_pieces.specs.Pieces.{OfUnsigned, OfTimes, InTurn, SameEach, high_first}
 use Rattle.deku_pieces.proofs.Numbers.{unsigned_symmetric}
 use Rattle.deku_pieces.proofs.Tuples.{pair_symmetric}
-use Rattle.deku_pieces.proofs.Counted.{counted_symmetric, holder_symmetric}
+use Rattle.deku_pieces.proofs.UnderCount.{counted_symmetric, holder_symmetric}
 use Rattle.deku_pieces.proofs.Answering.{no_refusal}
 use Rattle.deku_pieces.proofs.Chosen.{not_above, chosen_symmetric, variant_back, variant_read}
 use Rattle.deku_frame.specs.declared.frame.Frame.{Frame}

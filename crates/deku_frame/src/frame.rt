@@ -7,7 +7,7 @@ ghost use Rattle.deku_bits.specs.Faults.{Tells};
 ghost use Rattle.deku_bits.specs.Pieces.{Piece};
 ghost use Rattle.deku_bits.specs.ReaderCalls.{Reads};
 ghost use Rattle.deku_bits.specs.WriterCalls.{Writes};
-ghost use Rattle.deku.specs.Early.{Promptly};
+ghost use Rattle.deku.specs.Early.{NoReadAhead};
 ghost use Rattle.deku_frame.specs.Frames.{OfFrame, ReadsPing, ReadsSized, ReadsData, ReadsHalves, ReadsPair, ReadsBody, WritesBody, IsInStep, id_of};
 
 use deku::ctx::Endian::Big;
@@ -113,8 +113,8 @@ fn length_of(bytes: &[u8]) -> Result<u8, DekuError>
 
 // Reads a token.
 fn read_ping<R: Source>(reader: &mut Reader<R>) -> Result<Frame, DekuError>
-    ensures reads { Reads R.told ReadsPing reader.old result reader.new }
-    ensures early { OnOk result (Promptly R.told reader.old reader.new) }
+    ensures reads { Reads R.known ReadsPing reader.old result reader.new }
+    ensures early { OnOk result (NoReadAhead R.known reader.old reader.new) }
 {
     let token = u16::from_reader_with_ctx(reader, Big)?;
     Ok(Frame::Ping { token })
@@ -122,8 +122,8 @@ fn read_ping<R: Source>(reader: &mut Reader<R>) -> Result<Frame, DekuError>
 
 // Reads a length and so many bytes.
 fn read_sized<R: Source>(reader: &mut Reader<R>) -> Result<(u8, Vec<u8>), DekuError>
-    ensures reads { Reads R.told ReadsSized reader.old result reader.new }
-    ensures early { OnOk result (Promptly R.told reader.old reader.new) }
+    ensures reads { Reads R.known ReadsSized reader.old result reader.new }
+    ensures early { OnOk result (NoReadAhead R.known reader.old reader.new) }
 {
     let length = u8::from_reader_with_ctx(reader, Big)?;
     let payload = Vec::<u8>::from_reader_with_ctx(
@@ -135,8 +135,8 @@ fn read_sized<R: Source>(reader: &mut Reader<R>) -> Result<(u8, Vec<u8>), DekuEr
 
 // Reads a length and so many bytes, as a frame.
 fn read_data<R: Source>(reader: &mut Reader<R>) -> Result<Frame, DekuError>
-    ensures reads { Reads R.told ReadsData reader.old result reader.new }
-    ensures early { OnOk result (Promptly R.told reader.old reader.new) }
+    ensures reads { Reads R.known ReadsData reader.old result reader.new }
+    ensures early { OnOk result (NoReadAhead R.known reader.old reader.new) }
 {
     let (length, payload) = read_sized(reader)?;
     Ok(Frame::Data { length, payload })
@@ -144,8 +144,8 @@ fn read_data<R: Source>(reader: &mut Reader<R>) -> Result<Frame, DekuError>
 
 // Reads two numbers.
 fn read_halves<R: Source>(reader: &mut Reader<R>) -> Result<(u8, u16), DekuError>
-    ensures reads { Reads R.told ReadsHalves reader.old result reader.new }
-    ensures early { OnOk result (Promptly R.told reader.old reader.new) }
+    ensures reads { Reads R.known ReadsHalves reader.old result reader.new }
+    ensures early { OnOk result (NoReadAhead R.known reader.old reader.new) }
 {
     let left = u8::from_reader_with_ctx(reader, (Big, BitSize(5)))?;
     let right = u16::from_reader_with_ctx(reader, (Big, BitSize(11)))?;
@@ -154,8 +154,8 @@ fn read_halves<R: Source>(reader: &mut Reader<R>) -> Result<(u8, u16), DekuError
 
 // Reads two numbers, as a frame.
 fn read_pair<R: Source>(reader: &mut Reader<R>) -> Result<Frame, DekuError>
-    ensures reads { Reads R.told ReadsPair reader.old result reader.new }
-    ensures early { OnOk result (Promptly R.told reader.old reader.new) }
+    ensures reads { Reads R.known ReadsPair reader.old result reader.new }
+    ensures early { OnOk result (NoReadAhead R.known reader.old reader.new) }
 {
     let (left, right) = read_halves(reader)?;
     Ok(Frame::Pair { left, right })
@@ -163,8 +163,8 @@ fn read_pair<R: Source>(reader: &mut Reader<R>) -> Result<Frame, DekuError>
 
 // Reads what is behind an id and a version.
 fn read_body<R: Source>(reader: &mut Reader<R>, id: u8, version: u8) -> Result<Frame, DekuError>
-    ensures reads { Reads R.told (ReadsBody (id, version)) reader.old result reader.new }
-    ensures early { OnOk result (Promptly R.told reader.old reader.new) }
+    ensures reads { Reads R.known (ReadsBody (id, version)) reader.old result reader.new }
+    ensures early { OnOk result (NoReadAhead R.known reader.old reader.new) }
 {
     if version != 1 {
         return Err(DekuError::Assertion("Field failed assertion"));
@@ -179,7 +179,7 @@ fn read_body<R: Source>(reader: &mut Reader<R>, id: u8, version: u8) -> Result<F
 
 // Writes the fields behind the id and the version.
 fn write_body<W: Sink>(frame: &Frame, writer: &mut Writer<W>) -> Result<(), DekuError>
-    ensures { Writes W.told (WritesBody frame.now) writer.old result writer.new }
+    ensures { Writes W.known (WritesBody frame.now) writer.old result writer.new }
 {
     match frame {
         Frame::Ping { token } => token.to_writer(writer, Big),
@@ -204,7 +204,7 @@ impl DekuReader<()> for Frame {
 
     ghost accepts = { λ c. c ≡ c };
 
-    ghost prompt = { λ c. c ≡ c };
+    ghost no_read_ahead = { λ c. c ≡ c };
 
     ghost meaning = { λ _. ReadsFrame };
 

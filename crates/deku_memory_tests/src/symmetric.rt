@@ -3,7 +3,7 @@
 use crate::expecting::{expect_items, read_first};
 use deku::prelude::{DekuContainerRead, DekuContainerWrite};
 use deku_fields::frame::Frame;
-use deku_symmetry::{Be, Led, Msb, Symmetric};
+use deku_symmetry::{Be, Counted, Msb, Symmetric};
 use deku_testing_values::expecting::{NO_MEMORY, same};
 use std::test::Fail;
 
@@ -23,7 +23,7 @@ fn a_header_or_no_memory(rt: HostRuntime) -> Result<(), Fail> {
 // A byte that counts three, and these.
 #[test]
 fn counted_items_or_no_memory(rt: HostRuntime) -> Result<(), Fail> {
-    let first = read_first::<([u8; 2], Led<u8, u8>), _>(rt.alloc(), &BYTES, (), 1, 6)?;
+    let first = read_first::<([u8; 2], Counted<u8, u8>), _>(rt.alloc(), &BYTES, (), 1, 6)?;
     match first {
         Some((_, led)) => expect_items("counted", led.pack(rt.alloc(), ()), &BYTES[2..6]),
         None => Ok(()),

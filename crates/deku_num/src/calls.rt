@@ -11,7 +11,7 @@ ghost use Rattle.deku_num.specs.Numbers.{width, IsAllowed, IsFieldOf};
 ghost use Rattle.deku_num.specs.NumberCalls.{ReadsNumber, WritesNumber, IsLayoutRefusal, beyond, integers};
 
 use crate::ctx::{Endian, Layout, Order, Size};
-use crate::kernel::{Misfit, allowed_width, number_of_word, signed_of, signed_word, unsigned_word};
+use crate::kernel::{Misfit, allowed_width, number_of_word, sign_extend, signed_word, unsigned_word};
 use crate::kind::NumberType;
 use deku_bits::device::{Sink, Source};
 use deku_bits::error::DekuError;
@@ -38,8 +38,8 @@ pub fn read_unsigned<R: Source>(
 ) -> Result<u128, DekuError>
     requires unsigned { number_type.signed ≡ false }
     requires within { number_type.bits ≤ 128 }
-    ensures reads { Reads R.told (ReadsNumber number_type layout) reader.old (integers result) reader.new }
-    ensures fetched { OnOk result (FetchesFor (width number_type layout) reader.old.state (R.told reader.old.source) (R.told reader.new.source)) }
+    ensures reads { Reads R.known (ReadsNumber number_type layout) reader.old (integers result) reader.new }
+    ensures fetched { OnOk result (FetchesFor (width number_type layout) reader.old.state (R.known reader.old.source) (R.known reader.new.source)) }
     ensures early { NoneEarly reader.old.state reader.new.state }
     ensures stopped { Untouched reader.old.state reader.old.source reader.new.source }
     ensures refused { (IsAllowed number_type layout → ⊥) → reader.new ≡ reader.old }
@@ -72,8 +72,8 @@ pub fn read_signed<R: Source>(
 ) -> Result<i128, DekuError>
     requires signed { number_type.signed ≡ true }
     requires within { number_type.bits ≤ 128 }
-    ensures reads { Reads R.told (ReadsNumber number_type layout) reader.old result reader.new }
-    ensures fetched { OnOk result (FetchesFor (width number_type layout) reader.old.state (R.told reader.old.source) (R.told reader.new.source)) }
+    ensures reads { Reads R.known (ReadsNumber number_type layout) reader.old result reader.new }
+    ensures fetched { OnOk result (FetchesFor (width number_type layout) reader.old.state (R.known reader.old.source) (R.known reader.new.source)) }
     ensures early { NoneEarly reader.old.state reader.new.state }
     ensures stopped { Untouched reader.old.state reader.old.source reader.new.source }
     ensures refused { (IsAllowed number_type layout → ⊥) → reader.new ≡ reader.old }
@@ -81,11 +81,11 @@ pub fn read_signed<R: Source>(
 {
     let width = readable_width(number_type, layout)?;
     if let Some(high) = number_at_hand(reader, layout, width) {
-        return Ok(signed_of(high as u128, width));
+        return Ok(sign_extend(high as u128, width));
     }
     let word = reader.read_word(width, layout.order)?;
     let number = number_of_word(word, width, layout.endian, layout.order);
-    Ok(signed_of(number, width))
+    Ok(sign_extend(number, width))
 }
 
 // The number of so many bits that go from the highest down, where the layout is big and they are at hand. It answers none else, and then
@@ -94,9 +94,9 @@ pub fn read_signed<R: Source>(
 fn number_at_hand<R: Source>(reader: &mut Reader<R>, layout: Layout, width: usize) -> Option<u64>
     ensures big { IfSome result (λ n. layout.endian ≡ Endian.Big) }
     ensures high { IfSome result (λ n. layout.order ≡ Order.Msb0) }
-    ensures takes { IfSome result (λ n. Reads R.told (TakesBits Order.Msb0 width) reader.old (Ok (bits_of width n)) reader.new) }
+    ensures takes { IfSome result (λ n. Reads R.known (TakesBits Order.Msb0 width) reader.old (Ok (bits_of width n)) reader.new) }
     ensures below { IfSome result (λ n. n < 2 ^ width) }
-    ensures fetched { IfSome result (λ n. FetchesFor width reader.old.state (R.told reader.old.source) (R.told reader.new.source)) }
+    ensures fetched { IfSome result (λ n. FetchesFor width reader.old.state (R.known reader.old.source) (R.known reader.new.source)) }
     ensures early { NoneEarly reader.old.state reader.new.state }
     ensures stays { IsNone result → reader.new ≡ reader.old }
     ensures stopped { Untouched reader.old.state reader.old.source reader.new.source }
@@ -107,7 +107,7 @@ fn number_at_hand<R: Source>(reader: &mut Reader<R>, layout: Layout, width: usiz
     if width > 64 {
         return None;
     }
-    reader.high_at_hand(width)
+    reader.try_read_msb(width)
 }
 
 // The bits of a field that is read.
@@ -146,7 +146,7 @@ pub fn write_unsigned<W: Sink>(
 ) -> Result<(), DekuError>
     requires unsigned { number_type.signed ≡ false }
     requires within { number_type.bits ≤ 128 }
-    ensures writes { Writes W.told (WritesNumber number_type layout (pos value)) writer.old result writer.new }
+    ensures writes { Writes W.known (WritesNumber number_type layout (pos value)) writer.old result writer.new }
     ensures stopped { Untouched writer.old.state writer.old.sink writer.new.sink }
     ensures refused { (IsAllowed number_type layout → ⊥) → writer.new ≡ writer.old }
     ensures unfit { ((bits : List Bool) → IsFieldOf number_type layout (pos value) bits → ⊥) → writer.new ≡ writer.old }
@@ -183,7 +183,7 @@ pub fn write_signed<W: Sink>(
 ) -> Result<(), DekuError>
     requires signed { number_type.signed ≡ true }
     requires within { number_type.bits ≤ 128 }
-    ensures writes { Writes W.told (WritesNumber number_type layout value) writer.old result writer.new }
+    ensures writes { Writes W.known (WritesNumber number_type layout value) writer.old result writer.new }
     ensures stopped { Untouched writer.old.state writer.old.sink writer.new.sink }
     ensures refused { (IsAllowed number_type layout → ⊥) → writer.new ≡ writer.old }
     ensures unfit { ((bits : List Bool) → IsFieldOf number_type layout value bits → ⊥) → writer.new ≡ writer.old }

@@ -127,7 +127,7 @@ impl BitSize {
 pub trait NumberCtx: Copy {
     ghost use Rattle.deku_num.specs.declared.ctx.Layout.{Layout};
 
-    ghost parts_of: { Self → Layout };
+    ghost layout_of: { Self → Layout };
 
     /// The layout that the context stands for.
     ///
@@ -135,12 +135,12 @@ pub trait NumberCtx: Copy {
     /// (Endian::Big, BitSize(4)).parts()                          // big, `Msb0`, four bits
     /// ```
     fn parts(self) -> Layout
-        ensures { result ≡ parts_of self };
+        ensures { result ≡ layout_of self };
 }
 
 /// The layout itself.
 impl NumberCtx for Layout {
-    ghost parts_of = { λ c. c };
+    ghost layout_of = { λ c. c };
 
     fn parts(self) -> Layout {
         Layout {
@@ -157,7 +157,7 @@ impl NumberCtx for () {
     ghost use Rattle.deku_bits.specs.declared.ctx.Order.TheVariants.{Msb0};
     ghost use Rattle.deku_num.specs.declared.ctx.Size.TheVariants.{Whole};
 
-    ghost parts_of = { λ _. record { endian = Little; order = Msb0; size = Whole } };
+    ghost layout_of = { λ _. record { endian = Little; order = Msb0; size = Whole } };
 
     fn parts(self) -> Layout {
         Endian::default().parts()
@@ -169,7 +169,7 @@ impl NumberCtx for Endian {
     ghost use Rattle.deku_bits.specs.declared.ctx.Order.TheVariants.{Msb0};
     ghost use Rattle.deku_num.specs.declared.ctx.Size.TheVariants.{Whole};
 
-    ghost parts_of = { λ c. record { endian = c; order = Msb0; size = Whole } };
+    ghost layout_of = { λ c. record { endian = c; order = Msb0; size = Whole } };
 
     fn parts(self) -> Layout {
         Layout {
@@ -185,7 +185,7 @@ impl NumberCtx for Order {
     ghost use Rattle.deku_num.specs.declared.ctx.Endian.TheVariants.{Little};
     ghost use Rattle.deku_num.specs.declared.ctx.Size.TheVariants.{Whole};
 
-    ghost parts_of = { λ c. record { endian = Little; order = c; size = Whole } };
+    ghost layout_of = { λ c. record { endian = Little; order = c; size = Whole } };
 
     fn parts(self) -> Layout {
         Layout {
@@ -201,7 +201,7 @@ impl NumberCtx for Size {
     ghost use Rattle.deku_num.specs.declared.ctx.Endian.TheVariants.{Little};
     ghost use Rattle.deku_bits.specs.declared.ctx.Order.TheVariants.{Msb0};
 
-    ghost parts_of = { λ c. record { endian = Little; order = Msb0; size = c } };
+    ghost layout_of = { λ c. record { endian = Little; order = Msb0; size = c } };
 
     fn parts(self) -> Layout {
         Layout {
@@ -218,7 +218,7 @@ impl NumberCtx for ByteSize {
     ghost use Rattle.deku_bits.specs.declared.ctx.Order.TheVariants.{Msb0};
     ghost use Rattle.deku_num.specs.declared.ctx.Size.TheVariants.{Bytes};
 
-    ghost parts_of = { λ c. record { endian = Little; order = Msb0; size = Bytes c.0 } };
+    ghost layout_of = { λ c. record { endian = Little; order = Msb0; size = Bytes c.0 } };
 
     fn parts(self) -> Layout {
         Layout {
@@ -235,7 +235,7 @@ impl NumberCtx for BitSize {
     ghost use Rattle.deku_bits.specs.declared.ctx.Order.TheVariants.{Msb0};
     ghost use Rattle.deku_num.specs.declared.ctx.Size.TheVariants.{Bits};
 
-    ghost parts_of = { λ c. record { endian = Little; order = Msb0; size = Bits c.0 } };
+    ghost layout_of = { λ c. record { endian = Little; order = Msb0; size = Bits c.0 } };
 
     fn parts(self) -> Layout {
         Layout {
@@ -250,7 +250,7 @@ impl NumberCtx for BitSize {
 impl NumberCtx for (Endian, Order) {
     ghost use Rattle.deku_num.specs.declared.ctx.Size.TheVariants.{Whole};
 
-    ghost parts_of = { λ c. record { endian = c.0; order = c.1; size = Whole } };
+    ghost layout_of = { λ c. record { endian = c.0; order = c.1; size = Whole } };
 
     fn parts(self) -> Layout {
         let (endian, order) = self;
@@ -267,7 +267,7 @@ impl NumberCtx for (Endian, ByteSize) {
     ghost use Rattle.deku_bits.specs.declared.ctx.Order.TheVariants.{Msb0};
     ghost use Rattle.deku_num.specs.declared.ctx.Size.TheVariants.{Bytes};
 
-    ghost parts_of = { λ c. record { endian = c.0; order = Msb0; size = Bytes c.1.0 } };
+    ghost layout_of = { λ c. record { endian = c.0; order = Msb0; size = Bytes c.1.0 } };
 
     fn parts(self) -> Layout {
         let (endian, ByteSize(bytes)) = self;
@@ -284,7 +284,7 @@ impl NumberCtx for (Endian, BitSize) {
     ghost use Rattle.deku_bits.specs.declared.ctx.Order.TheVariants.{Msb0};
     ghost use Rattle.deku_num.specs.declared.ctx.Size.TheVariants.{Bits};
 
-    ghost parts_of = { λ c. record { endian = c.0; order = Msb0; size = Bits c.1.0 } };
+    ghost layout_of = { λ c. record { endian = c.0; order = Msb0; size = Bits c.1.0 } };
 
     fn parts(self) -> Layout {
         let (endian, BitSize(bits)) = self;
@@ -301,7 +301,7 @@ impl NumberCtx for (BitSize, Order) {
     ghost use Rattle.deku_num.specs.declared.ctx.Endian.TheVariants.{Little};
     ghost use Rattle.deku_num.specs.declared.ctx.Size.TheVariants.{Bits};
 
-    ghost parts_of = { λ c. record { endian = Little; order = c.1; size = Bits c.0.0 } };
+    ghost layout_of = { λ c. record { endian = Little; order = c.1; size = Bits c.0.0 } };
 
     fn parts(self) -> Layout {
         let (BitSize(bits), order) = self;
@@ -317,7 +317,7 @@ impl NumberCtx for (BitSize, Order) {
 impl NumberCtx for (Endian, BitSize, Order) {
     ghost use Rattle.deku_num.specs.declared.ctx.Size.TheVariants.{Bits};
 
-    ghost parts_of = { λ c. record { endian = c.0; order = c.2; size = Bits c.1.0 } };
+    ghost layout_of = { λ c. record { endian = c.0; order = c.2; size = Bits c.1.0 } };
 
     fn parts(self) -> Layout {
         let (endian, BitSize(bits), order) = self;
@@ -333,7 +333,7 @@ impl NumberCtx for (Endian, BitSize, Order) {
 impl NumberCtx for (Endian, ByteSize, Order) {
     ghost use Rattle.deku_num.specs.declared.ctx.Size.TheVariants.{Bytes};
 
-    ghost parts_of = { λ c. record { endian = c.0; order = c.2; size = Bytes c.1.0 } };
+    ghost layout_of = { λ c. record { endian = c.0; order = c.2; size = Bytes c.1.0 } };
 
     fn parts(self) -> Layout {
         let (endian, ByteSize(bytes), order) = self;

@@ -174,10 +174,10 @@ fn turned(number: u128, count: usize) -> u128
 /// The caller's conditions: there are at most 128 bits, and the number has no more.
 ///
 /// ```text
-/// signed_of(0b101, 3)                                                        // -3
+/// sign_extend(0b101, 3)                                                        // -3
 /// ```
 #[inline(always)]
-pub fn signed_of(number: u128, n: usize) -> i128
+pub fn sign_extend(number: u128, n: usize) -> i128
     requires wide { n ≤ 128 }
     requires below { number < 2 ^ n }
     ensures { result ≡ signed_worth true n number }
@@ -256,7 +256,7 @@ pub fn signed_word(
     ensures none { IsNone result → (s : List Bool) → IsFieldOf number_type layout value s → ⊥ }
 {
     let wanted = residue_of(value, width);
-    if signed_of(wanted, width) != value {
+    if sign_extend(wanted, width) != value {
         return None;
     }
     Some(word_of_number(wanted, width, layout.endian, layout.order))

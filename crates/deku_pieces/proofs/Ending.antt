@@ -21,10 +21,10 @@ use Rattle.deku_pieces.specs.Pieces.{OfNumber, InTurn, OfEach, SameEach}
 use Rattle.deku_pieces.proofs.Answering.{ok_is}
 use Rattle.deku_pieces.proofs.Turns.{breadth-append, takes_apart, takes_together}
 use Rattle.deku_pieces.proofs.Times.{each_one, each_written}
-use Rattle.deku_pieces.proofs.Counted.{holder_symmetric}
+use Rattle.deku_pieces.proofs.UnderCount.{holder_symmetric}
 use Rattle.deku_pieces.proofs.Turned.{mapped_symmetric}
-use Rattle.deku_pieces.specs.declared.ended.AtEnd.{AtEnd}
-use Rattle.deku_pieces.specs.declared.ended.Ended.{Ended}
+use Rattle.deku_pieces.specs.declared.until.AtEnd.{AtEnd}
+use Rattle.deku_pieces.specs.declared.until.Until.{Until}
 use Rattle.deku_pieces.specs.Ending.{IsEnded, OfEnded, ReadsEnded, WritesEnded}
 
 -- a run of steps, and its last step
@@ -217,9 +217,9 @@ module _ {V : Type 0} (ends : V → Bool) {P : V → List Piece → Type 0} {sam
   items_symmetric = record { one = λ vs ps qs p q. each_one P same writes m A vs ps qs p.1 q.1; written = ended_written; read_back = ended_back; read = ended_read }
 
   -- symmetric items up to and including the first that ends them, in memory that grows
-  pub ended_symmetric : IsSymmetric (λ (w : Ended V) ps. OfEnded ends P w.items.items ps) (λ w x. SameEach same w.items.items x.items.items) (λ w. WritesEnded ends writes w.items.items)
+  pub ended_symmetric : IsSymmetric (λ (w : Until V) ps. OfEnded ends P w.items.items ps) (λ w x. SameEach same w.items.items x.items.items) (λ w. WritesEnded ends writes w.items.items)
       (Mapped (λ v. record { items = v }) (MappedBy (λ xs v. v.items ≡ xs) (ReadsEnded ends m)))
-  ended_symmetric = mapped_symmetric (λ (v : Vec V). record { items = v }) (λ (w : Ended V). w.items) _ _ _ _ (λ v. refl) (holder_symmetric (λ (v : Vec V). v.items) _ _ _ _ items_symmetric)
+  ended_symmetric = mapped_symmetric (λ (v : Vec V). record { items = v }) (λ (w : Until V). w.items) _ _ _ _ (λ v. refl) (holder_symmetric (λ (v : Vec V). v.items) _ _ _ _ items_symmetric)
 
 -- ---- that what has pieces has a bit
 -- a number of some bits

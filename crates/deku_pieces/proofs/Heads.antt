@@ -11,13 +11,13 @@ use Rattle.deku_bits.proofs.Handing.{weaker}
 use Rattle.deku_num.specs.NumberCalls.{Refused, Passed}
 use Rattle.deku.specs.Composing.{Then, Second, First, Both, WritesEach}
 use Rattle.deku.specs.Limits.{MappedBy}
-use Rattle.deku_pieces.specs.declared.led.Led.{Led}
+use Rattle.deku_pieces.specs.declared.counted.Counted.{Counted}
 use Rattle.deku_pieces.specs.Symmetric.{breadth, IsWrittenAs, IsReadBack, TakenAs, IsSymmetric}
 use Rattle.deku_pieces.specs.Pieces.{InTurn, SameEach}
-use Rattle.deku_pieces.specs.Leading.{IsCounted, OfCounted, OfLed, SameLed, ReadsCounted, Uncounted, CountedItems, ReadsLed, WritesLed}
+use Rattle.deku_pieces.specs.Leading.{IsCounted, OfCounted, OfCountedBy, SameCountedBy, ReadsCounted, Uncounted, CountedItems, ReadsCountedBy, WritesCountedBy}
 use Rattle.deku_pieces.proofs.Answering.{ok_is, mapped_must, then_must, Must}
 use Rattle.deku_pieces.proofs.Turns.{breadth-append, takes_apart, takes_together, written_together, turns_one}
-use Rattle.deku_pieces.proofs.Counted.{counted_symmetric, holder_symmetric}
+use Rattle.deku_pieces.proofs.UnderCount.{counted_symmetric, holder_symmetric}
 
 -- equal items where they are some
 some_is : {V : Type 0} (v w : V) → ◌≡◌ {A = Option V} (Some v) (Some w) → v ≡ w
@@ -116,25 +116,25 @@ module _ {V : Type 0} {P : V → List Piece → Type 0} {same : V → V → Type
 module _ {V W : Type 0} {P : V → List Piece → Type 0} {Q : W → List Piece → Type 0} {same_head : V → V → Type 0} {same_item : W → W → Type 0}
     {write_head : V → Meaning Output (Unit {0})} {write_item : W → Meaning Output (Unit {0})} {m : Meaning (Option Stream) V} {k : Meaning (Option Stream) W}
     (count_of : V → Option ℕ) (alike : (v w : V) → same_head v w → count_of v ≡ count_of w) (A : IsSymmetric P same_head write_head m) (B : IsSymmetric Q same_item write_item k) where
-  abbrev made : V → Vec W → Led V W
+  abbrev made : V → Vec W → Counted V W
   made h xs = record { head = h; items = xs }
 
-  whole_symmetric : IsSymmetric (OfLed count_of P Q) (SameLed same_head same_item) (λ x. Both (write_head x.head) (WritesEach write_item x.items.items)) (ReadsLed count_of m k)
+  whole_symmetric : IsSymmetric (OfCountedBy count_of P Q) (SameCountedBy same_head same_item) (λ x. Both (write_head x.head) (WritesEach write_item x.items.items)) (ReadsCountedBy count_of m k)
   whole_symmetric =
-      indexed_symmetric made (λ x. x.head) (λ x. x.items) count_of P (λ count. OfCounted count Q) same_head _ (SameLed same_head same_item)
+      indexed_symmetric made (λ x. x.head) (λ x. x.items) count_of P (λ count. OfCounted count Q) same_head _ (SameCountedBy same_head same_item)
       write_head _ m _ (λ v w. refl) (λ v w. refl) (λ x v w f g. (f, g)) alike A (counted_items_symmetric B)
 
-  led_written : (x : Led V W) (ps : List Piece) → OfLed count_of P Q x ps → IsWrittenAs ps (WritesLed count_of write_head write_item x)
+  led_written : (x : Counted V W) (ps : List Piece) → OfCountedBy count_of P Q x ps → IsWrittenAs ps (WritesCountedBy count_of write_head write_item x)
   led_written x ps (a, c, p, (n, is, q), e) b s r u (Refused f d) = absurd (d.0 (is ∙ ap (λ i. Some i) (sym q.0)))
   led_written x ps p b s r u (Passed w) = whole_symmetric.written x ps p b s r u w.1
 
-  pub led_symmetric : IsSymmetric (OfLed count_of P Q) (SameLed same_head same_item) (WritesLed count_of write_head write_item) (ReadsLed count_of m k)
-  led_symmetric = record { one = whole_symmetric.one; written = led_written; read_back = whole_symmetric.read_back; read = whole_symmetric.read }
+  pub counted_by_symmetric : IsSymmetric (OfCountedBy count_of P Q) (SameCountedBy same_head same_item) (WritesCountedBy count_of write_head write_item) (ReadsCountedBy count_of m k)
+  counted_by_symmetric = record { one = whole_symmetric.one; written = led_written; read_back = whole_symmetric.read_back; read = whole_symmetric.read }
 
 -- ---- calls
 -- items that are as many as the head says are written behind it
-pub written_in_step : {V W : Type 0} (count_of : V → Option ℕ) (write_head : V → Meaning Output (Unit {0})) (write_item : W → Meaning Output (Unit {0})) (v : Led V W)
+pub written_in_step : {V W : Type 0} (count_of : V → Option ℕ) (write_head : V → Meaning Output (Unit {0})) (write_item : W → Meaning Output (Unit {0})) (v : Counted V W)
     {s : Standing Output} {a : Health} {r : Result (Unit {0}) DekuError} {u : Standing Output} {z : Health}
     → IsCounted (count_of v.head) (length v.items.items) → Outcome (Both (write_head v.head) (WritesEach write_item v.items.items)) s a r u z
-    → Outcome (WritesLed count_of write_head write_item v) s a r u z
+    → Outcome (WritesCountedBy count_of write_head write_item v) s a r u z
 written_in_step count_of write_head write_item v e o = weaker _ _ _ _ _ _ _ (λ b m. Passed (e, m)) o

@@ -6,7 +6,7 @@ pub mod Times
 pub mod Turned
 pub mod Packing
 pub mod Unpacking
-pub mod Counted
+pub mod UnderCount
 pub mod Tuples
 pub mod StandIns
 pub mod Texts

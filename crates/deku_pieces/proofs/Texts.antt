@@ -13,14 +13,14 @@ use Rattle.deku_num.specs.Numbers.{byte}
 use Rattle.deku_num.specs.NumberCalls.{WritesNumber}
 use Rattle.deku.specs.Composing.{Then, Second, First, Both, WritesEach}
 use Rattle.deku.specs.Lists as lists
-use Rattle.deku.specs.Lists.{AnswersEach, Runs, Stored, Ended}
+use Rattle.deku.specs.Lists.{AnswersEach, Runs, Stored, Until}
 use Rattle.deku.specs.Texts.{NoZeros, IsTerminated, Unended, Text, NoText, ReadsTerminated}
 use Rattle.deku_pieces.specs.Symmetric.{breadth, IsWrittenAs, IsReadBack, TakenAs, IsSymmetric}
 use Rattle.deku_pieces.specs.Pieces.{OfUnsigned, InTurn, OfEach, OfTerminated, OfText, plain}
 use Rattle.deku_pieces.proofs.Answering.{ok_is}
 use Rattle.deku_pieces.proofs.Turns.{breadth-append, takes_apart, written_together}
 use Rattle.deku_pieces.proofs.Times.{each_one, each_written}
-use Rattle.deku_pieces.proofs.Counted.{next_back, next_refused, each_read}
+use Rattle.deku_pieces.proofs.UnderCount.{next_back, next_refused, each_read}
 use Rattle.deku_pieces.proofs.Numbers.{unsigned_symmetric}
 
 no_memory : (e d : DekuError) (r : Result (List ℕ) DekuError) → r ≡ Err e → e ≡ d → r ≡ Err d
@@ -101,7 +101,7 @@ module _ (P : ℕ → List Piece → Type 0) (writes : ℕ → Meaning Output (U
   shown_text vs bytes s u r is (NoText none f) = absurd (none vs is)
 
   ended_back : (vs : List ℕ) (ps : List Piece) → OfTerminated P vs ps → IsReadBack ps (λ w. vs ≡ w) ReadsText
-  ended_back vs ps p S T c r u takes room (First d (Ended ws turn k b e) q) = absurd (cc)
+  ended_back vs ps p S T c r u takes room (First d (Until ws turn k b e) q) = absurd (cc)
   ended_back vs ps p S T c r u takes room (First d (lists.NextRefused ws t x turn none refusal e) q) =
       let same : x ≡ d = err_is d x e in
       inr (q ∙ ap (λ i. Err i) (sym same ∙ texts_refused vs ws ps S T c t u x none p.1 takes room turn refusal))
@@ -109,7 +109,7 @@ module _ (P : ℕ → List Piece → Type 0) (writes : ℕ → Meaning Output (U
       err_is : (a b : DekuError) → ◌≡◌ {A = Result (List ℕ) DekuError} (Err a) (Err b) → b ≡ a
       err_is a b h = cc
   ended_back vs ps p S T c r u takes room (Second bytes t (lists.NextRefused ws k x turn none refusal e) q) = absurd (cc)
-  ended_back vs ps p S T c r u takes room (Second bytes t (Ended ws turn (text, (none, is)) b e) q) =
+  ended_back vs ps p S T c r u takes room (Second bytes t (Until ws turn (text, (none, is)) b e) q) =
       let same : bytes ≡ ws = ok_is bytes ws e in
       let k = texts_back vs text ps S T c t p.0 none p.1 takes room (subst (λ i. AnswersEach (Stored m) i (Going (Some S) c) t) is turn) in
       let it = shown_text text bytes t u r (none, same ∙ is) q in
@@ -120,7 +120,7 @@ module _ (P : ℕ → List Piece → Type 0) (writes : ℕ → Meaning Output (U
   ended_read : (vs : List ℕ) (S : Stream) (c : ℕ) (u : Standing (Option Stream)) → ReadsText false (Going (Some S) c) (Ok vs) u → TakenAs (OfTerminated P) vs S c u
   ended_read vs S c u (First d k q) = absurd (cc)
   ended_read vs S c u (Second bytes t (lists.NextRefused ws k x turn none refusal e) q) = absurd (cc)
-  ended_read vs S c u (Second bytes t (Ended ws turn (text, (none, is)) b e) q) =
+  ended_read vs S c u (Second bytes t (Until ws turn (text, (none, is)) b e) q) =
       let same : bytes ≡ ws = ok_is bytes ws e in
       let it = shown_text text bytes t u (Ok vs) (none, same ∙ is) q in
       let all : vs ≡ it.0 = ok_is vs it.0 it.1 in

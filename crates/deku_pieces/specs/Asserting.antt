@@ -7,11 +7,11 @@ use Rattle.deku_bits.specs.Standings.{Output}
 use Rattle.deku_bits.specs.Outcomes.{Meaning, Refuses}
 use Rattle.deku_num.specs.NumberCalls.{Checked}
 use Rattle.deku.specs.Composing.{Answer, Then}
-use Rattle.deku_pieces.specs.declared.asserted.Asserted.{Asserted}
-use Rattle.deku_pieces.specs.declared.fixed.Fixed.{Fixed}
+use Rattle.deku_pieces.specs.declared.assertion.Assert.{Assert}
+use Rattle.deku_pieces.specs.declared.magic.Magic.{Magic}
 
 -- those of a part that passes; another has none
-abbrev pub OfPassing : {V C : Type 0} → (V → Bool) → (V → List Piece → Type 0) → Asserted V C → List Piece → Type 0
+abbrev pub OfPassing : {V C : Type 0} → (V → Bool) → (V → List Piece → Type 0) → Assert V C → List Piece → Type 0
 OfPassing passes pieces v ps = (passes v.part ≡ true) × pieces v.part ps
 
 -- m where v passes; else it is refused with this text, and nothing moves
@@ -19,14 +19,14 @@ abbrev pub IfPasses : {A V W : Type 0} → (V → Bool) → List ℕ → V → M
 IfPasses passes text v m = Checked (λ s r u. (passes v ≡ false) × Refuses Assertion text s r u) (λ b s r u. (passes v ≡ true) × m b s r u)
 
 -- a part is read, and refused with this text where it does not pass
-abbrev pub ReadsAsserted : {V C : Type 0} → (V → Bool) → List ℕ → Meaning (Option Stream) V → Meaning (Option Stream) (Asserted V C)
+abbrev pub ReadsAsserted : {V C : Type 0} → (V → Bool) → List ℕ → Meaning (Option Stream) V → Meaning (Option Stream) (Assert V C)
 ReadsAsserted passes text m = Then m (λ v. IfPasses passes text v (Answer (record { part = v; check = record {} })))
 
 -- a part is written where it passes
-abbrev pub WritesAsserted : {V C : Type 0} → (V → Bool) → List ℕ → (V → Meaning Output (Unit {0})) → Asserted V C → Meaning Output (Unit {0})
+abbrev pub WritesAsserted : {V C : Type 0} → (V → Bool) → List ℕ → (V → Meaning Output (Unit {0})) → Assert V C → Meaning Output (Unit {0})
 WritesAsserted passes text writes v = IfPasses passes text v.part (writes v.part)
 
 -- ---- one value alone
 -- a part is read, and another value than this one is refused with this text
-abbrev pub ReadsFixed : {V C : Type 0} → V → List ℕ → Meaning (Option Stream) V → Meaning (Option Stream) (Fixed V C)
-ReadsFixed value text m = Then m (λ v. Checked (λ s r u. (v ≡ value → ⊥) × Refuses Assertion text s r u) (λ b s r u. (v ≡ value) × Answer (record { part = record {}; constant = record {} }) b s r u))
+abbrev pub ReadsMagic : {V C : Type 0} → V → List ℕ → Meaning (Option Stream) V → Meaning (Option Stream) (Magic V C)
+ReadsMagic value text m = Then m (λ v. Checked (λ s r u. (v ≡ value → ⊥) × Refuses Assertion text s r u) (λ b s r u. (v ≡ value) × Answer (record { part = record {}; constant = record {} }) b s r u))

@@ -9,7 +9,7 @@ use Rattle.deku_num.specs.NumberCalls.{Checked}
 use Rattle.deku.specs.Composing.{WritesEach}
 use Rattle.deku.specs.Limits.{ReadsUntil}
 use Rattle.deku_pieces.specs.Pieces.{OfEach}
-use Rattle.deku_pieces.specs.declared.ended.AtEnd.{AtEnd}
+use Rattle.deku_pieces.specs.declared.until.AtEnd.{AtEnd}
 
 -- the first item that ends the list is its last one
 abbrev pub IsEnded : {V : Type 0} → (V → Bool) → List V → Type 0

@@ -11,7 +11,7 @@ use Rattle.deku_num.specs.NumberCalls.{Checked}
 use Rattle.deku.specs.Composing.{Then, Both, WritesEach}
 use Rattle.deku.specs.Limits.{ReadsCount, MappedBy}
 use Rattle.deku_pieces.specs.Pieces.{OfTimes, InTurn, SameEach}
-use Rattle.deku_pieces.specs.declared.led.Led.{Led}
+use Rattle.deku_pieces.specs.declared.counted.Counted.{Counted}
 
 -- this count is named, and there are so many items
 abbrev pub IsCounted : Option ℕ → ℕ → Type 0
@@ -23,12 +23,12 @@ abbrev pub OfCounted : {V : Type 0} → Option ℕ → (V → List Piece → Typ
 OfCounted count pieces items ps = (n : ℕ) × (count ≡ Some n) × OfTimes n pieces items.items ps
 
 -- those of the head, and then of the items
-abbrev pub OfLed : {V W : Type 0} → (V → Option ℕ) → (V → List Piece → Type 0) → (W → List Piece → Type 0) → Led V W → List Piece → Type 0
-OfLed count_of of_head of_item v = InTurn (of_head v.head) (OfCounted (count_of v.head) of_item v.items)
+abbrev pub OfCountedBy : {V W : Type 0} → (V → Option ℕ) → (V → List Piece → Type 0) → (W → List Piece → Type 0) → Counted V W → List Piece → Type 0
+OfCountedBy count_of of_head of_item v = InTurn (of_head v.head) (OfCounted (count_of v.head) of_item v.items)
 
 -- the same head and the same items
-abbrev pub SameLed : {V W : Type 0} → (V → V → Type 0) → (W → W → Type 0) → Led V W → Led V W → Type 0
-SameLed same_head same_item v w = same_head v.head w.head × SameEach same_item v.items.items w.items.items
+abbrev pub SameCountedBy : {V W : Type 0} → (V → V → Type 0) → (W → W → Type 0) → Counted V W → Counted V W → Type 0
+SameCountedBy same_head same_item v w = same_head v.head w.head × SameEach same_item v.items.items w.items.items
 
 -- ---- reading and writing
 -- as many items as are counted are read into a vector; where no count is named it is refused, and nothing moves
@@ -37,11 +37,11 @@ pub data ReadsCounted {V : Type 0} (count : Option ℕ) (m : Meaning (Option Str
   CountedItems : (n : ℕ) → count ≡ Some n → MappedBy (λ xs v. v.items ≡ xs) (ReadsCount n m) b s r u → ReadsCounted count m b s r u
 
 -- a head is read, and then as many items as it counts
-abbrev pub ReadsLed : {V W : Type 0} → (V → Option ℕ) → Meaning (Option Stream) V → Meaning (Option Stream) W → Meaning (Option Stream) (Led V W)
-ReadsLed count_of m k = Then m (λ h. Mapped (λ xs. record { head = h; items = xs }) (ReadsCounted (count_of h) k))
+abbrev pub ReadsCountedBy : {V W : Type 0} → (V → Option ℕ) → Meaning (Option Stream) V → Meaning (Option Stream) W → Meaning (Option Stream) (Counted V W)
+ReadsCountedBy count_of m k = Then m (λ h. Mapped (λ xs. record { head = h; items = xs }) (ReadsCounted (count_of h) k))
 
 -- a head is written, and then the items; where they are not as many as it counts it is refused first, and nothing moves
-abbrev pub WritesLed : {V W : Type 0} → (V → Option ℕ) → (V → Meaning Output (Unit {0})) → (W → Meaning Output (Unit {0})) → Led V W → Meaning Output (Unit {0})
-WritesLed count_of write_head write_item v = Checked
+abbrev pub WritesCountedBy : {V W : Type 0} → (V → Option ℕ) → (V → Meaning Output (Unit {0})) → (W → Meaning Output (Unit {0})) → Counted V W → Meaning Output (Unit {0})
+WritesCountedBy count_of write_head write_item v = Checked
     (λ s r u. (IsCounted (count_of v.head) (length v.items.items) → ⊥) × Refuses Assertion (codes "count out of step with items") s r u)
     (λ b s r u. IsCounted (count_of v.head) (length v.items.items) × Both (write_head v.head) (WritesEach write_item v.items.items) b s r u)

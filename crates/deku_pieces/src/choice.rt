@@ -3,7 +3,7 @@
 ghost use Rattle.std.specs.Prelude.{◌≡◌, ℕ, OnOk};
 ghost use Rattle.deku_bits.specs.ReaderCalls.{Reads};
 ghost use Rattle.deku.specs.Composing.{Then};
-ghost use Rattle.deku.specs.Early.{Promptly};
+ghost use Rattle.deku.specs.Early.{NoReadAhead};
 ghost use Rattle.deku_num.specs.declared.ctx.Endian.TheVariants.{Big};
 ghost use Rattle.deku_pieces.specs.Choices.{order_where};
 
@@ -71,7 +71,7 @@ fn order_of(low: bool) -> Order
 /// ```text
 /// Only::<u8, 3>(7).id()                                       // 3
 /// ```
-pub trait Named {
+pub trait HasId {
     // Its id.
     ghost id_of: { Self → ℕ };
 
@@ -80,7 +80,7 @@ pub trait Named {
         ensures { result ≡ id_of self.now };
 }
 
-impl<A, const ID: u8> Named for Only<A, ID> {
+impl<A, const ID: u8> HasId for Only<A, ID> {
     ghost id_of = { λ _. ID };
 
     fn id(&self) -> u8 {
@@ -88,7 +88,7 @@ impl<A, const ID: u8> Named for Only<A, ID> {
     }
 }
 
-impl<A, B: Named, const ID: u8> Named for Choice<A, B, ID> {
+impl<A, B: HasId, const ID: u8> HasId for Choice<A, B, ID> {
     ghost use Rattle.deku_pieces.specs.Choices.{id_chosen};
 
     ghost id_of = { id_chosen ID B.id_of };
@@ -107,7 +107,7 @@ impl<A: DekuReader<()>, const ID: u8> DekuReader<u8> for Only<A, ID> {
 
     ghost accepts = { λ _. A.accepts tt };
 
-    ghost prompt = { λ _. A.prompt tt };
+    ghost no_read_ahead = { λ _. A.no_read_ahead tt };
 
     ghost meaning = { λ id. ChoosesOnly ID id (Mapped (λ a. record { 0 = a }) (A.meaning tt)) };
 
@@ -125,7 +125,7 @@ impl<A: DekuReader<()>, B: DekuReader<u8>, const ID: u8> DekuReader<u8> for Choi
 
     ghost accepts = { λ id. A.accepts tt × B.accepts id };
 
-    ghost prompt = { λ id. A.prompt tt × B.prompt id };
+    ghost no_read_ahead = { λ id. A.no_read_ahead tt × B.no_read_ahead id };
 
     ghost meaning = { λ id. Chooses ID id (A.meaning tt) (B.meaning id) };
 
@@ -152,7 +152,7 @@ impl<
 
     ghost accepts = { λ _. A.accepts tt × ((id : ℕ) → B.accepts id) };
 
-    ghost prompt = { λ _. A.prompt tt × ((id : ℕ) → B.prompt id) };
+    ghost no_read_ahead = { λ _. A.no_read_ahead tt × ((id : ℕ) → B.no_read_ahead id) };
 
     ghost meaning = { λ _. ReadsTagged ID N (⟦<u8 as DekuReader<(Endian, BitSize, Order)>>⟧.meaning (Big, record { 0 = N }, order_where LOW)) (A.meaning tt) B.meaning };
 
@@ -174,8 +174,8 @@ fn read_chosen<C: DekuReader<u8>, R: Source>(
     order: Order,
 ) -> Result<C, DekuError>
     requires { (id : ℕ) → C.accepts id }
-    ensures reads { Reads R.told (Then (⟦<u8 as DekuReader<(Endian, BitSize, Order)>>⟧.meaning (Big, record { 0 = bits }, order)) C.meaning) reader.old result reader.new }
-    ensures early { OnOk result (((id : ℕ) → C.prompt id) → Promptly R.told reader.old reader.new) }
+    ensures reads { Reads R.known (Then (⟦<u8 as DekuReader<(Endian, BitSize, Order)>>⟧.meaning (Big, record { 0 = bits }, order)) C.meaning) reader.old result reader.new }
+    ensures early { OnOk result (((id : ℕ) → C.no_read_ahead id) → NoReadAhead R.known reader.old reader.new) }
 {
     let id = u8::from_reader_with_ctx(reader, (Endian::Big, BitSize(bits), order))?;
     C::from_reader_with_ctx(reader, id)
@@ -208,7 +208,7 @@ impl<A: DekuWriter<()>, B: DekuWriter<u8>, const ID: u8> DekuWriter<u8> for Choi
 
 impl<
     A: DekuWriter<()>,
-    B: Named + DekuWriter<u8>,
+    B: HasId + DekuWriter<u8>,
     const ID: u8,
     const N: usize,
     const LOW: bool,
@@ -219,7 +219,7 @@ impl<
 
     ghost accepts = { λ _. A.accepts tt × ((id : ℕ) → B.DekuWriter.accepts id) };
 
-    ghost meaning = { λ v _. WritesTagged (λ id. ⟦<u8 as DekuWriter<(Endian, BitSize, Order)>>⟧.meaning id (Big, record { 0 = N }, order_where LOW)) B.Named.id_of (λ a. A.meaning a tt) B.DekuWriter.meaning v };
+    ghost meaning = { λ v _. WritesTagged (λ id. ⟦<u8 as DekuWriter<(Endian, BitSize, Order)>>⟧.meaning id (Big, record { 0 = N }, order_where LOW)) B.HasId.id_of (λ a. A.meaning a tt) B.DekuWriter.meaning v };
 
     fn to_writer<W: Sink>(&self, writer: &mut Writer<W>, _ctx: ()) -> Result<(), DekuError> {
         match self {

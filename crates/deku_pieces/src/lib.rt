@@ -1,17 +1,17 @@
 //! When reading and writing a type are symmetric: the definitions, the laws of what is made of symmetric parts, and whole values that are read under a context.
 #![tactic(auto)]
 
-pub mod asserted;
+pub mod assertion;
 pub mod choice;
-pub mod ended;
-pub mod fixed;
-pub mod led;
+pub mod until;
+pub mod magic;
+pub mod counted;
 pub mod scattered;
 mod whole;
 
-pub use asserted::{Asserted, Check};
-pub use choice::{Choice, LsbTagged, MsbTagged, Named, Only, Tagged};
-pub use fixed::{Constant, Fixed};
-pub use led::{Counts, Led, write_led};
+pub use assertion::{Assert, Check};
+pub use choice::{Choice, LsbTagged, MsbTagged, HasId, Only, Tagged};
+pub use magic::{Constant, Magic};
+pub use counted::{ItemCount, Counted, write_counted};
 pub use scattered::{high_bits, low_bits};
 pub use whole::read_whole;

@@ -8,7 +8,7 @@ use Rattle.deku_stream.specs.declared.error.Fault.{Fault}
 use Rattle.deku_stream.specs.declared.error.Fault.TheVariants as fault
 use Rattle.deku_stream.specs.Bits.{byte_bits, bytes_of, facing, shown}
 use Rattle.deku_stream.specs.Streams.{Stream, flow}
-use Rattle.deku_device.specs.Devices.{Health, NoFewerFailures, MoreFailures}
+use Rattle.deku_device.specs.Devices.{Health, DeviceKept, DeviceFailed}
 use Rattle.deku_stream.specs.Standings.{Standing, Going, Stopped, stream_of}
 use Rattle.deku_stream.specs.Outcomes.{Outcome, Quiet, Broken, Value, Refusal}
 use Rattle.deku_stream.specs.Faults.{error_of}
@@ -30,7 +30,7 @@ bytes_more o w t bs v u b x k p q =
 -- bytes were taken
 pub bytes_ok : (o : Order) (w : List Bool) (t : Option (List ℕ)) (c n : ℕ) (bs : List ℕ) (v : List Bool) (u : Option (List ℕ)) (f g : Health)
     → length bs ≡ n → length w ≤ 8 → c + 8 * n < 2 ^ 64 → Moves o w t (flow o bs) v u → (0 < length bs → length v < 8) → (length bs ≡ 0 → (v ≡ w) × (u ≡ t)) → All IsByte bs
-    → NoFewerFailures f g → Outcome (ReadsBytes o n) (Going (stream_of w t) c) f (Ok bs) (Going (stream_of v u) (c + 8 * n)) g
+    → DeviceKept f g → Outcome (ReadsBytes o n) (Going (stream_of w t) c) f (Ok bs) (Going (stream_of v u) (c + 8 * n)) g
 bytes_ok o w t c n bs v u f g len l room moved short none all kept =
     let bits : List Bool = flow o bs in
     let wide : length bits ≡ 8 * n = length-flow o bs ∙ ap (λ k. 8 * k) len in
@@ -43,7 +43,7 @@ bytes_ok o w t c n bs v u f g len l room moved short none all kept =
 -- a transfer failed
 pub bytes_err : {after : Option Stream} (o : Order) (w : List Bool) (t : Option (List ℕ)) (c n : ℕ) (f g : Health) (kind : ErrorKind) (stop : Fault)
     → ((kind ≡ UnexpectedEof) × (stop ≡ fault.Incomplete (record { bits = 8 * n }))) ⊎ ((kind ≢ UnexpectedEof) × (stop ≡ fault.Io kind))
-    → c + 8 * n < 2 ^ 64 → (kind ≡ UnexpectedEof → FewerBits (8 * n) w t) → (kind ≢ UnexpectedEof → MoreFailures f g) → NoFewerFailures f g
+    → c + 8 * n < 2 ^ 64 → (kind ≡ UnexpectedEof → FewerBits (8 * n) w t) → (kind ≢ UnexpectedEof → DeviceFailed f g) → DeviceKept f g
     → Outcome (ReadsBytes o n) (Going (stream_of w t) c) f (Err (error_of stop)) (Stopped after (error_of stop) c) g
 bytes_err o w t c n f g kind stop cause room ended failed kept =
     mapped_err bytes_of (mapped_err (shown o) (takes_err o w t c (8 * n) f g kind stop cause room ended failed kept))

@@ -13,7 +13,7 @@ use Rattle.deku_stream.specs.declared.error.Fault.{Fault}
 use Rattle.deku_stream.specs.declared.error.Fault.TheVariants as fault
 use Rattle.deku_stream.specs.Bits.{byte_bits, facing, groups}
 use Rattle.deku_stream.specs.Streams.{Stream, Has, seen, taken, left, normal, touched}
-use Rattle.deku_device.specs.Devices.{Health, FewerThan, Loses, NoFewerFailures, MoreFailures}
+use Rattle.deku_device.specs.Devices.{Health, FewerThan, Loses, DeviceKept, DeviceFailed}
 use Rattle.deku_stream.specs.Standings.{Standing, Going, Stopped, stream_of, reader_state}
 use Rattle.deku_stream.specs.Outcomes.{Outcome, Quiet, Broken}
 use Rattle.deku_stream.specs.Faults.{error_of}
@@ -222,7 +222,7 @@ takes_ok o w (Some xs) c n bs v (Some ys) len l room moved short none =
 -- a transfer failed
 pub takes_err : {after : Option Stream} (o : Order) (w : List Bool) (t : Option (List ℕ)) (c n : ℕ) (f g : Health) (kind : ErrorKind) (stop : Fault)
     → ((kind ≡ UnexpectedEof) × (stop ≡ fault.Incomplete (record { bits = n }))) ⊎ ((kind ≢ UnexpectedEof) × (stop ≡ fault.Io kind))
-    → c + n < 2 ^ 64 → (kind ≡ UnexpectedEof → FewerBits n w t) → (kind ≢ UnexpectedEof → MoreFailures f g) → NoFewerFailures f g
+    → c + n < 2 ^ 64 → (kind ≡ UnexpectedEof → FewerBits n w t) → (kind ≢ UnexpectedEof → DeviceFailed f g) → DeviceKept f g
     → Outcome (TakesBits o n) (Going (stream_of w t) c) f (Err (error_of stop)) (Stopped after (error_of stop) c) g
 takes_err {after} o w t c n f g kind stop (inr p) room ended failed kept =
     let e : error_of stop ≡ error.Io kind = ap error_of p.1 in

@@ -9,7 +9,7 @@ use Rattle.deku_stream.specs.declared.error.DekuError.TheVariants.{Io}
 use Rattle.deku_stream.specs.Bits.{shown, bits_in, bytes_of}
 use Rattle.deku_stream.specs.Streams.{Stream, Has, bit_count, seen, taken, left, normal, peeked, skipped, fresh, EndLaw}
 use Rattle.deku_stream.specs.Standings.{Standing, Going, Stopped}
-use Rattle.deku_stream.specs.Outcomes.{Value, Refusal, Unknown, UnlessStopped, Counted, Reserving}
+use Rattle.deku_stream.specs.Outcomes.{Value, Refusal, Unknown, UnlessStopped, CountsBits, Reserving}
 use Rattle.deku_reader.specs.ReaderCalls.{TakesBits, Transfers, ReadsBytes, ReadsVec, SkipReadLaw, BytesLaw}
 use Rattle.deku_stream.proofs.Cuts.{length-byte_bits}
 use Rattle.deku_stream.proofs.Shown.{length-shown}
@@ -70,7 +70,7 @@ skip_read_law o n c S l has bits u v r (Value s (inr (room, inr (inl p))) e) (in
 -- ---- a read of bytes and a read of bits
 -- what is reserved is answered without memory, or memory is not found
 unreserved : {A V : Type 0} (moves : A → ℕ → Result V DekuError → Standing A → Type 0) (n : ℕ) (b : Bool) (s : Standing A) (r : Result V DekuError) (u : Standing A)
-    → UnlessStopped Unknown (Counted n (Reserving moves)) b s r u → UnlessStopped Unknown (Counted n moves) b s r u ⊎ ((r ≡ Err (Io OutOfMemory)) × (u ≡ s))
+    → UnlessStopped Unknown (CountsBits n (Reserving moves)) b s r u → UnlessStopped Unknown (CountsBits n moves) b s r u ⊎ ((r ≡ Err (Io OutOfMemory)) × (u ≡ s))
 unreserved moves n false (Going a c) r u (inl p) = inl (inl p)
 unreserved moves n false (Going a c) r u (inr (room, inl p)) = inr p
 unreserved moves n false (Going a c) r u (inr (room, inr p)) = inl (inr (room, p))

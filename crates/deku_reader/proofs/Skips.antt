@@ -14,7 +14,7 @@ use Rattle.deku_stream.specs.declared.error.NeedSize.{NeedSize}
 use Rattle.deku_stream.specs.declared.error.Fault.TheVariants as fault
 use Rattle.deku_stream.specs.Bits.{bin, byte_bits, facing}
 use Rattle.deku_stream.specs.Streams.{Stream, bit_count, Has, Lacks, fresh, left, normal, touched, last_part, without, passed, skipped, PeekSkipLaw}
-use Rattle.deku_device.specs.Devices.{Health, FewerThan, Passes, StaysEmpty, NoFewerFailures, MoreFailures}
+use Rattle.deku_device.specs.Devices.{Health, FewerThan, Passes, StaysEmpty, DeviceKept, DeviceFailed}
 use Rattle.deku_stream.specs.Standings.{Standing, Going, Stopped, stream_of}
 use Rattle.deku_stream.specs.Outcomes.{Outcome, Quiet, Broken, Unknown, UnlessStopped}
 use Rattle.deku_stream.specs.Faults.{error_of}
@@ -207,14 +207,14 @@ skips_ok o w (Some xs) c n v (Some ys) x (Some zs) l room h passes moved short n
 
 -- a fault of the device, which is answered and kept
 pub breaks : {A V : Type 0} {after : A} (moves : A → ℕ → Result V DekuError → Standing A → Type 0) (a : A) (c : ℕ) (f g : Health) (kind : ErrorKind)
-    → MoreFailures f g → Outcome (UnlessStopped Unknown moves) (Going a c) f (Err (error.Io kind)) (Stopped after (error.Io kind) c) g
+    → DeviceFailed f g → Outcome (UnlessStopped Unknown moves) (Going a c) f (Err (error.Io kind)) (Stopped after (error.Io kind) c) g
 breaks {after = after} moves a c f g kind more = Broken (record { kind = kind; count = c; left = after; answered = refl; kept = refl }) (kind, refl, after, tt, refl) more
 
 -- the last part failed
 pub skips_err : {after : Option Stream} (o : Order) (w : List Bool) (t : Option (List ℕ)) (c n : ℕ) (v : List Bool) (t1 : Option (List ℕ)) (f g : Health) (kind : ErrorKind) (stop : Fault)
     → length w ≤ 8 → c + n < 2 ^ 64 → Forgets o w (min n (length w)) v → Passes (behind n w / 8) t t1 → 0 < behind n w % 8
     → ((kind ≡ UnexpectedEof) × (stop ≡ fault.Incomplete (record { bits = behind n w % 8 }))) ⊎ ((kind ≢ UnexpectedEof) × (stop ≡ fault.Io kind))
-    → (kind ≡ UnexpectedEof → FewerBits (behind n w % 8) v t1) → (kind ≢ UnexpectedEof → MoreFailures f g) → NoFewerFailures f g
+    → (kind ≡ UnexpectedEof → FewerBits (behind n w % 8) v t1) → (kind ≢ UnexpectedEof → DeviceFailed f g) → DeviceKept f g
     → Outcome (Skips o n) (Going (stream_of w t) c) f (Err (error_of stop)) (Stopped after (error_of stop) c) g
 skips_err o w t c n v t1 f g kind stop l room h passes some (inr p) ended failed kept =
     rw p.1 (breaks _ (stream_of w t) c f g kind (failed p.0))
@@ -255,7 +255,7 @@ peeks_some w None c f h = Quiet (false, None, refl, refl) (no_fewer_same f)
 peeks_some w (Some xs) c f h = Quiet (inr (omega (arith, normal-count (at w xs)), refl), refl) (no_fewer_same f)
 
 -- the next byte is unread
-pub peeks_byte : (w : List Bool) (t : Option (List ℕ)) (c b : ℕ) (u : Option (List ℕ)) (f g : Health) → w ≡ [] → b < 256 → Consumes t u (b ∷ []) → NoFewerFailures f g
+pub peeks_byte : (w : List Bool) (t : Option (List ℕ)) (c b : ℕ) (u : Option (List ℕ)) (f g : Health) → w ≡ [] → b < 256 → Consumes t u (b ∷ []) → DeviceKept f g
     → Outcome Ending (Going (stream_of w t) c) f (Ok false) (Going (stream_of (byte_bits b) u) c) g
 peeks_byte w None c b u f g e h took kept = Quiet (false, stream_of (byte_bits b) u, refl, refl) kept
 peeks_byte w (Some xs) c b None f g e h took kept = absurd took
@@ -266,7 +266,7 @@ peeks_byte w (Some xs) c b (Some ys) f g e h took kept =
     Quiet (inr (omega arith, refl), ap (λ T. Going (Some T) c) same) kept
 
 -- no byte is to come
-pub peeks_end : (w : List Bool) (t : Option (List ℕ)) (c : ℕ) (u : Option (List ℕ)) (f g : Health) → w ≡ [] → FewerThan 1 t → StaysEmpty t u → NoFewerFailures f g
+pub peeks_end : (w : List Bool) (t : Option (List ℕ)) (c : ℕ) (u : Option (List ℕ)) (f g : Health) → w ≡ [] → FewerThan 1 t → StaysEmpty t u → DeviceKept f g
     → Outcome Ending (Going (stream_of w t) c) f (Ok true) (Going (stream_of w u) c) g
 peeks_end w None c u f g e few stays kept = Quiet (true, stream_of w u, refl, refl) kept
 peeks_end w (Some xs) c u f g e few stays kept =

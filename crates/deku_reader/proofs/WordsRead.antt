@@ -7,7 +7,7 @@ use Rattle.deku_stream.specs.declared.ctx.Order.{Order}
 use Rattle.deku_stream.specs.declared.ctx.Order.TheVariants.{Msb0, Lsb0}
 use Rattle.deku_stream.specs.Bits.{bits_of, byte_bits, chunks, facing, group_number, groups, little, word_of}
 use Rattle.deku_stream.specs.Streams.{flow}
-use Rattle.deku_device.specs.Devices.{Health, NoFewerFailures, Loses}
+use Rattle.deku_device.specs.Devices.{Health, DeviceKept, Loses}
 use Rattle.deku_stream.specs.Standings.{Going, stream_of}
 use Rattle.deku_stream.specs.Outcomes.{Outcome, Quiet}
 use Rattle.deku_reader.specs.ReaderCalls.{TakesBits, ReadsWord}
@@ -238,7 +238,7 @@ fewer_behind_eight o w u t y a n eight first sum l m consumed cut f =
 -- ---- what a read of a word answers
 -- bits were taken
 pub word_ok : (o : Order) (w : List Bool) (t : Option (List ℕ)) (c n k : ℕ) (v : List Bool) (u : Option (List ℕ)) (f g : Health) → length w ≤ 8 → c + n < 2 ^ 64
-    → MovesWord o w t n k v u → (0 < n → length v < 8) → (n ≡ 0 → (v ≡ w) × (u ≡ t)) → NoFewerFailures f g
+    → MovesWord o w t n k v u → (0 < n → length v < 8) → (n ≡ 0 → (v ≡ w) × (u ≡ t)) → DeviceKept f g
     → Outcome (ReadsWord o n) (Going (stream_of w t) c) f (Ok k) (Going (stream_of v u) (c + n)) g
 word_ok o w t c n k v u f g l room m short none kept =
     let bits : List Bool = m.bits in
@@ -270,7 +270,7 @@ high_short w v n k eight size wide short more cut =
 
 -- a read of them
 pub high_ok : (w : List Bool) (t : Option (List ℕ)) (c n k : ℕ) (v : List Bool) (u : Option (List ℕ)) (f g : Health) → length w ≤ 8 → c + n < 2 ^ 64
-    → Moves Msb0 w t (bits_of n k) v u → (0 < n → length v < 8) → (n ≡ 0 → (v ≡ w) × (u ≡ t)) → NoFewerFailures f g
+    → Moves Msb0 w t (bits_of n k) v u → (0 < n → length v < 8) → (n ≡ 0 → (v ≡ w) × (u ≡ t)) → DeviceKept f g
     → Outcome (TakesBits Msb0 n) (Going (stream_of w t) c) f (Ok (bits_of n k)) (Going (stream_of v u) (c + n)) g
 high_ok w t c n k v u f g l room moved short none kept =
     let long : length (bits_of n k) ≡ n = length-bits_of n k in

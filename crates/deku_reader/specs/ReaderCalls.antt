@@ -10,30 +10,30 @@ use Rattle.deku_reader.specs.declared.reader.Leftover.{Leftover}
 use Rattle.deku_reader.specs.declared.reader.Leftover.TheVariants.{Byte, Bits}
 use Rattle.deku_stream.specs.Bits.{byte_bits, shown, bits_in, bytes_of, groups, word_of}
 use Rattle.deku_stream.specs.Streams.{Stream, bit_count, Has, Lacks, taken, left, last_part, passed, skipped}
-use Rattle.deku_device.specs.Devices.{SourceTold, Loses}
+use Rattle.deku_device.specs.Devices.{KnownSource, Loses}
 use Rattle.deku_stream.specs.Standings.{Standing, Going, Stopped, count_of, reader_state}
-use Rattle.deku_stream.specs.Outcomes.{Meaning, Outcome, Unknown, UnlessStopped, Counted, Reserving, Mapped}
+use Rattle.deku_stream.specs.Outcomes.{Meaning, Outcome, Unknown, UnlessStopped, CountsBits, Reserving, Mapped}
 
 -- a call on a source and what a reader keeps beside it
-abbrev pub ReadsAt : {V : Type 0} → Meaning (Option Stream) V → SourceTold → Standing (List Bool) → Result V DekuError → SourceTold → Standing (List Bool) → Type 0
-ReadsAt m told s r told_after u = Outcome m (reader_state told.coming s) told.health r (reader_state told_after.coming u) told_after.health
+abbrev pub ReadsAt : {V : Type 0} → Meaning (Option Stream) V → KnownSource → Standing (List Bool) → Result V DekuError → KnownSource → Standing (List Bool) → Type 0
+ReadsAt m known s r told_after u = Outcome m (reader_state known.remaining s) known.health r (reader_state told_after.remaining u) told_after.health
 
 -- a call on a reader
-abbrev pub Reads : {R V : Type 0} → (R → SourceTold) → Meaning (Option Stream) V → Reader R → Result V DekuError → Reader R → Type 0
-Reads told m old r new = ReadsAt m (told old.source) old.state r (told new.source) new.state
+abbrev pub Reads : {R V : Type 0} → (R → KnownSource) → Meaning (Option Stream) V → Reader R → Result V DekuError → Reader R → Type 0
+Reads known m old r new = ReadsAt m (known old.source) old.state r (known new.source) new.state
 
 -- the end of input, which is kept, where n bits were asked
 abbrev pub Ends : {V : Type 0} → ℕ → ℕ → Result V DekuError → Standing (Option Stream) → Type 0
 Ends n c r u = (r ≡ Err (Incomplete (record { bits = n }))) × (left : Option Stream) × (u ≡ Stopped left (Incomplete (record { bits = n })) c)
 
--- n bits are taken from a stream: from one that is told exactly those, or the end of input where it has too few
+-- n bits are taken from a stream: from one that is known exactly those, or the end of input where it has too few
 abbrev pub Transfers : Order → ℕ → Option Stream → ℕ → Result (List Bool) DekuError → Standing (Option Stream) → Type 0
 Transfers o n (Some S) c r u = (Has n S × (r ≡ Ok (taken o n S)) × (u ≡ Going (Some (left o n S)) (c + n))) ⊎ (Lacks n S × Ends n c r u)
 Transfers o n None c r u = ((bits : List Bool) × (after : Option Stream) × (length bits ≡ n) × (r ≡ Ok bits) × (u ≡ Going after (c + n))) ⊎ Ends n c r u
 
 -- n bits are taken in an order
 abbrev pub TakesBits : Order → ℕ → Meaning (Option Stream) (List Bool)
-TakesBits o n = UnlessStopped Unknown (Counted n (Transfers o n))
+TakesBits o n = UnlessStopped Unknown (CountsBits n (Transfers o n))
 
 -- n bits are taken in an order and shown
 abbrev pub ReadsBits : Order → ℕ → Meaning (Option Stream) (List Bool)
@@ -41,7 +41,7 @@ ReadsBits o n = Mapped (shown o) (TakesBits o n)
 
 -- n bits are taken in an order and shown, in memory that is found first
 abbrev pub ReadsVec : Order → ℕ → Meaning (Option Stream) (List Bool)
-ReadsVec o n = Mapped (shown o) (UnlessStopped Unknown (Counted n (Reserving (Transfers o n))))
+ReadsVec o n = Mapped (shown o) (UnlessStopped Unknown (CountsBits n (Reserving (Transfers o n))))
 
 -- n bytes are read: eight times as many bits, taken in an order and shown, as bytes
 abbrev pub ReadsBytes : Order → ℕ → Meaning (Option Stream) (List ℕ)
@@ -55,7 +55,7 @@ ReadsByteVec o n = Mapped bytes_of (ReadsVec o (8 * n))
 abbrev pub ReadsWord : Order → ℕ → Meaning (Option Stream) ℕ
 ReadsWord o n = Mapped (word_of o) (TakesBits o n)
 
--- whether the end of input is reached: over a stream that is told, where no bit is left; the stream is the same
+-- whether the end of input is reached: over a stream that is known, where no bit is left; the stream is the same
 abbrev pub Peeks : Option Stream → ℕ → Result Bool DekuError → Standing (Option Stream) → Type 0
 Peeks (Some S) c r u = (((bit_count S ≡ 0) × (r ≡ Ok true)) ⊎ ((0 < bit_count S) × (r ≡ Ok false))) × (u ≡ Going (Some S) c)
 Peeks None c r u = (at_end : Bool) × (after : Option Stream) × (r ≡ Ok at_end) × (u ≡ Going after c)
@@ -64,7 +64,7 @@ Peeks None c r u = (at_end : Bool) × (after : Option Stream) × (r ≡ Ok at_en
 abbrev pub Ending : Meaning (Option Stream) Bool
 Ending = UnlessStopped Unknown Peeks
 
--- n bits are left out: from a stream that is told what a skip leaves, or the end of input where its last part has too few bits
+-- n bits are left out: from a stream that is known what a skip leaves, or the end of input where its last part has too few bits
 abbrev pub Skipping : Order → ℕ → Option Stream → ℕ → Result (Unit {0}) DekuError → Standing (Option Stream) → Type 0
 Skipping o n (Some S) c r u = (Has (last_part n S) (passed o n S) × (r ≡ Ok tt) × (u ≡ Going (Some (skipped o n S)) (c + n)))
     ⊎ (Lacks (last_part n S) (passed o n S) × Ends (last_part n S) c r u)
@@ -73,7 +73,7 @@ Skipping o n None c r u = ((after : Option Stream) × (r ≡ Ok tt) × (u ≡ Go
 
 -- n bits are left out in an order
 abbrev pub Skips : Order → ℕ → Meaning (Option Stream) (Unit {0})
-Skips o n = UnlessStopped Unknown (Counted n (Skipping o n))
+Skips o n = UnlessStopped Unknown (CountsBits n (Skipping o n))
 
 -- what was put into a buffer, where the call succeeds
 abbrev pub filling : {V W : Type 0} → Result V DekuError → W → Result W DekuError
@@ -99,20 +99,20 @@ NamesRest n (Going w c) r = (m : ℕ) → r ≡ Err (Incomplete (record { bits =
 NamesRest n (Stopped w e c) r = ⊤
 
 -- as many bytes were fetched as n bits need behind the unread ones, and no more
-abbrev pub FetchesFor : ℕ → Standing (List Bool) → SourceTold → SourceTold → Type 0
-FetchesFor n s old new = Loses (groups (n - length (window_of s))) old.coming new.coming
+abbrev pub FetchesFor : ℕ → Standing (List Bool) → KnownSource → KnownSource → Type 0
+FetchesFor n s old new = Loses (groups (n - length (window_of s))) old.remaining new.remaining
 
 -- as many bytes were fetched as the unread bits that came need, and no more
-abbrev pub FetchesAhead : Standing (List Bool) → Standing (List Bool) → SourceTold → SourceTold → Type 0
-FetchesAhead s u old new = Loses (groups (length (window_of u) - length (window_of s))) old.coming new.coming
+abbrev pub FetchesAhead : Standing (List Bool) → Standing (List Bool) → KnownSource → KnownSource → Type 0
+FetchesAhead s u old new = Loses (groups (length (window_of u) - length (window_of s))) old.remaining new.remaining
 
 -- the source tells the bytes behind the first k, whose bits are those that were counted and those that are unread
 abbrev pub IsBehind : List ℕ → ℕ → Option (List ℕ) → Standing (List Bool) → Type 0
-IsBehind bytes k coming s = (coming ≡ Some (drop k bytes)) × (8 * k ≡ count_of s + length (window_of s))
+IsBehind bytes k remaining s = (remaining ≡ Some (drop k bytes)) × (8 * k ≡ count_of s + length (window_of s))
 
 -- Of the bytes that a source told, k were fetched since; a skip past their end would leave more behind.
 abbrev pub HasFetched : List ℕ → ℕ → Option (List ℕ) → Standing (List Bool) → Type 0
-HasFetched bytes k coming s = (k ≤ length bytes) × IsBehind bytes k coming s
+HasFetched bytes k remaining s = (k ≤ length bytes) × IsBehind bytes k remaining s
 
 -- the items of the vector that was read, where the call succeeds
 abbrev pub items_of : {V : Type 0} → Result (Vec V) DekuError → Result (List V) DekuError
@@ -125,7 +125,7 @@ IsLeftover w None = w ≡ []
 IsLeftover w (Some (Byte b)) = w ≡ byte_bits b
 IsLeftover w (Some (Bits v)) = (v ≡ w) × (0 < length w) × (length w < 8)
 
--- A skip of no more bits than a stream that is told has leaves the stream and the count that a read of as many leaves, where that succeeds.
+-- A skip of no more bits than a stream that is known has leaves the stream and the count that a read of as many leaves, where that succeeds.
 abbrev pub SkipReadLaw : Type 0
 SkipReadLaw = (o : Order) (n c : ℕ) (S : Stream) → length S.window ≤ 8 → Has n S
     → (bits : List Bool) (u v : Standing (Option Stream)) (r : Result (Unit {0}) DekuError)
@@ -144,9 +144,9 @@ BytesLaw = (o : Order) (n : ℕ) (breaks : Bool) (s u : Standing (Option Stream)
 abbrev pub FetchLaw : Type 0
 FetchLaw = (bytes : List ℕ)
     → HasFetched bytes 0 (Some bytes) (Going [] 0)
-    × ((o : Order) (k n : ℕ) (bits : List Bool) (told after : SourceTold) (s u : Standing (List Bool)) → HasFetched bytes k told.coming s
-    → ReadsAt (TakesBits o n) told s (Ok bits) after u → FetchesFor n s told after → HasFetched bytes (k + groups (n - length (window_of s))) after.coming u)
-    × ((k : ℕ) (at_end : Bool) (told after : SourceTold) (s u : Standing (List Bool)) → HasFetched bytes k told.coming s
-    → ReadsAt Ending told s (Ok at_end) after u → FetchesAhead s u told after → HasFetched bytes (k + groups (length (window_of u) - length (window_of s))) after.coming u)
-    × ((k : ℕ) (coming : Option (List ℕ)) (s : Standing (List Bool)) → HasFetched bytes k coming s
+    × ((o : Order) (k n : ℕ) (bits : List Bool) (known after : KnownSource) (s u : Standing (List Bool)) → HasFetched bytes k known.remaining s
+    → ReadsAt (TakesBits o n) known s (Ok bits) after u → FetchesFor n s known after → HasFetched bytes (k + groups (n - length (window_of s))) after.remaining u)
+    × ((k : ℕ) (at_end : Bool) (known after : KnownSource) (s u : Standing (List Bool)) → HasFetched bytes k known.remaining s
+    → ReadsAt Ending known s (Ok at_end) after u → FetchesAhead s u known after → HasFetched bytes (k + groups (length (window_of u) - length (window_of s))) after.remaining u)
+    × ((k : ℕ) (remaining : Option (List ℕ)) (s : Standing (List Bool)) → HasFetched bytes k remaining s
     → (length (window_of s) < 8 → k ≡ groups (count_of s)) × (length (window_of s) ≤ 8 → k ≤ groups (count_of s) + 1))

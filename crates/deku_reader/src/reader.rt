@@ -12,7 +12,7 @@ ghost use Rattle.deku_reader.specs.contracts.reader.Reader.{the_row as reader-ro
 mod progress;
 mod seek;
 
-use crate::reader::progress::Progress;
+use crate::reader::progress::ReaderState;
 use deku_device::device::Source;
 use deku_stream::bounded::BoundedBitVec;
 use deku_stream::ctx::Order;
@@ -66,7 +66,7 @@ pub enum ReaderRet {
 #[derive(Drop)]
 pub struct Reader<R: Source> {
     source: R,
-    state: Progress,
+    state: ReaderState,
     alloc: Global,
 }
 
@@ -83,7 +83,7 @@ impl<R: Source> Reader<R> {
     {
         Reader {
             source: inner,
-            state: Progress::start(),
+            state: ReaderState::start(),
             alloc,
         }
     }
@@ -192,8 +192,8 @@ impl<R: Source> Reader<R> {
     /// reader.end()?;                      // true
     /// ```
     pub fn end(&mut self) -> Result<bool, DekuError>
-        ensures reads { Reads R.told Ending self.old result self.new }
-        ensures fetched { OnOk result (FetchesAhead self.old.state self.new.state (R.told self.old.source) (R.told self.new.source)) }
+        ensures reads { Reads R.known Ending self.old result self.new }
+        ensures fetched { OnOk result (FetchesAhead self.old.state self.new.state (R.known self.old.source) (R.known self.new.source)) }
         ensures held { OnOk result (length (window_of self.new.state) ≤ 8) }
         // Where bits are unread, it moves nothing, whatever the source tells.
         ensures unread { 0 < length (window_of self.old.state) → (result ≡ Ok false) × (self.new ≡ self.old) }
@@ -222,7 +222,7 @@ impl<R: Source> Reader<R> {
     /// reader.bits_read();                // 96
     /// ```
     pub fn skip_bits(&mut self, amt: usize, order: Order) -> Result<(), DekuError>
-        ensures skips { Reads R.told (Skips order amt) self.old result self.new }
+        ensures skips { Reads R.known (Skips order amt) self.old result self.new }
         ensures early { NoneEarly self.old.state self.new.state }
         ensures still { NeedsNone amt self.old.state → self.new.source ≡ self.old.source }
         ensures named { NamesRest amt self.old.state result }
@@ -246,8 +246,8 @@ impl<R: Source> Reader<R> {
 
     /// Takes as many bits as the buffer is long, as the order meets them.
     pub(crate) fn take_bits(&mut self, dst: &mut [bool], order: Order) -> Result<(), DekuError>
-        ensures takes { Reads R.told (TakesBits order (length dst.old)) self.old (filling result dst.new) self.new }
-        ensures fetched { OnOk result (FetchesFor (length dst.old) self.old.state (R.told self.old.source) (R.told self.new.source)) }
+        ensures takes { Reads R.known (TakesBits order (length dst.old)) self.old (filling result dst.new) self.new }
+        ensures fetched { OnOk result (FetchesFor (length dst.old) self.old.state (R.known self.old.source) (R.known self.new.source)) }
         ensures early { NoneEarly self.old.state self.new.state }
         ensures still { NeedsNone (length dst.old) self.old.state → self.new.source ≡ self.old.source }
         ensures stopped { Untouched self.old.state self.old.source self.new.source }
@@ -267,8 +267,8 @@ impl<R: Source> Reader<R> {
     /// reader.read_bits_into(&mut bits, Order::Lsb0)?; // from A1: 0, 0, 0, 0, 1
     /// ```
     pub fn read_bits_into(&mut self, dst: &mut [bool], order: Order) -> Result<(), DekuError>
-        ensures reads { Reads R.told (ReadsBits order (length dst.old)) self.old (filling result dst.new) self.new }
-        ensures fetched { OnOk result (FetchesFor (length dst.old) self.old.state (R.told self.old.source) (R.told self.new.source)) }
+        ensures reads { Reads R.known (ReadsBits order (length dst.old)) self.old (filling result dst.new) self.new }
+        ensures fetched { OnOk result (FetchesFor (length dst.old) self.old.state (R.known self.old.source) (R.known self.new.source)) }
         ensures early { NoneEarly self.old.state self.new.state }
         ensures still { NeedsNone (length dst.old) self.old.state → self.new.source ≡ self.old.source }
         ensures stopped { Untouched self.old.state self.old.source self.new.source }
@@ -289,8 +289,8 @@ impl<R: Source> Reader<R> {
     /// reader.read_bits(4, Order::Msb0)?; // 1, 1, 0, 0
     /// ```
     pub fn read_bits(&mut self, amt: usize, order: Order) -> Result<Vec<bool>, DekuError>
-        ensures reads { Reads R.told (ReadsVec order amt) self.old (items_of result) self.new }
-        ensures fetched { OnOk result (FetchesFor amt self.old.state (R.told self.old.source) (R.told self.new.source)) }
+        ensures reads { Reads R.known (ReadsVec order amt) self.old (items_of result) self.new }
+        ensures fetched { OnOk result (FetchesFor amt self.old.state (R.known self.old.source) (R.known self.new.source)) }
         ensures early { NoneEarly self.old.state self.new.state }
         ensures still { NeedsNone amt self.old.state → self.new.source ≡ self.old.source }
         ensures stopped { Untouched self.old.state self.old.source self.new.source }
@@ -316,8 +316,8 @@ impl<R: Source> Reader<R> {
     #[inline(always)]
     pub fn read_word(&mut self, amt: usize, order: Order) -> Result<u128, DekuError>
         requires { amt ≤ 128 }
-        ensures reads { Reads R.told (ReadsWord order amt) self.old result self.new }
-        ensures fetched { OnOk result (FetchesFor amt self.old.state (R.told self.old.source) (R.told self.new.source)) }
+        ensures reads { Reads R.known (ReadsWord order amt) self.old result self.new }
+        ensures fetched { OnOk result (FetchesFor amt self.old.state (R.known self.old.source) (R.known self.new.source)) }
         ensures early { NoneEarly self.old.state self.new.state }
         ensures still { NeedsNone amt self.old.state → self.new.source ≡ self.old.source }
         ensures stopped { Untouched self.old.state self.old.source self.new.source }
@@ -327,27 +327,27 @@ impl<R: Source> Reader<R> {
     }
 
     /// The number of the next `amt` bits in `Msb0`, the first the highest, where it has them without a call on the source that may fail: they are unread,
-    /// or at hand as `Source::at_hand` says. The caller's condition: they are at most 64.
+    /// or at hand as `Source::try_take` says. The caller's condition: they are at most 64.
     ///
     /// It is a read of as many bits, which raises the count. It answers none where `read_word` refuses as many, and may do so where it does not; then nothing
     /// moves.
     ///
     /// ```text
-    /// reader.high_at_hand(12); // from AB CD EF 01 23 45 67 89: Some of 0xABC
+    /// reader.try_read_msb(12); // from AB CD EF 01 23 45 67 89: Some of 0xABC
     /// ```
     #[inline(always)]
-    pub fn high_at_hand(&mut self, amt: usize) -> Option<u64>
+    pub fn try_read_msb(&mut self, amt: usize) -> Option<u64>
         requires { amt ≤ 64 }
-        ensures takes { IfSome result (λ number. Reads R.told (TakesBits Msb0 amt) self.old (Ok (bits_of amt number)) self.new) }
+        ensures takes { IfSome result (λ number. Reads R.known (TakesBits Msb0 amt) self.old (Ok (bits_of amt number)) self.new) }
         ensures below { IfSome result (λ number. number < 2 ^ amt) }
-        ensures fetched { IfSome result (λ number. FetchesFor amt self.old.state (R.told self.old.source) (R.told self.new.source)) }
+        ensures fetched { IfSome result (λ number. FetchesFor amt self.old.state (R.known self.old.source) (R.known self.new.source)) }
         ensures early { NoneEarly self.old.state self.new.state }
         ensures still { NeedsNone amt self.old.state → self.new.source ≡ self.old.source }
         ensures stays { IsNone result → self.new ≡ self.old }
         ensures stopped { Untouched self.old.state self.old.source self.new.source }
         ensures alloc { self.new.alloc ≡ self.old.alloc }
     {
-        self.state.high_at_hand(&mut self.source, amt)
+        self.state.try_read_msb(&mut self.source, amt)
     }
 
     /// Reads `amt` bytes into the front of the buffer; what is behind them in it stays. The caller's condition: the buffer is as
@@ -370,9 +370,9 @@ impl<R: Source> Reader<R> {
         order: Order,
     ) -> Result<ReaderRet, DekuError>
         requires { amt ≤ length buf.old }
-        ensures front { Reads R.told (ReadsBytes order amt) self.old (filling result (take amt buf.new)) self.new }
+        ensures front { Reads R.known (ReadsBytes order amt) self.old (filling result (take amt buf.new)) self.new }
         ensures behind { drop amt buf.new ≡ drop amt buf.old }
-        ensures fetched { OnOk result (FetchesFor (8 * amt) self.old.state (R.told self.old.source) (R.told self.new.source)) }
+        ensures fetched { OnOk result (FetchesFor (8 * amt) self.old.state (R.known self.old.source) (R.known self.new.source)) }
         ensures early { NoneEarly self.old.state self.new.state }
         ensures still { NeedsNone (8 * amt) self.old.state → self.new.source ≡ self.old.source }
         ensures stopped { Untouched self.old.state self.old.source self.new.source }
@@ -393,8 +393,8 @@ impl<R: Source> Reader<R> {
     /// reader.read_bytes_vec(2, Order::Lsb0)?;   // DB FC
     /// ```
     pub fn read_bytes_vec(&mut self, amt: usize, order: Order) -> Result<Vec<u8>, DekuError>
-        ensures reads { Reads R.told (ReadsByteVec order amt) self.old (items_of result) self.new }
-        ensures fetched { OnOk result (FetchesFor (8 * amt) self.old.state (R.told self.old.source) (R.told self.new.source)) }
+        ensures reads { Reads R.known (ReadsByteVec order amt) self.old (items_of result) self.new }
+        ensures fetched { OnOk result (FetchesFor (8 * amt) self.old.state (R.known self.old.source) (R.known self.new.source)) }
         ensures early { NoneEarly self.old.state self.new.state }
         ensures still { NeedsNone (8 * amt) self.old.state → self.new.source ≡ self.old.source }
         ensures stopped { Untouched self.old.state self.old.source self.new.source }
@@ -422,8 +422,8 @@ impl<R: Source> Reader<R> {
         buf: &mut [u8; N],
         order: Order,
     ) -> Result<ReaderRet, DekuError>
-        ensures reads { Reads R.told (ReadsBytes order N) self.old (filling result buf.new) self.new }
-        ensures fetched { OnOk result (FetchesFor (8 * N) self.old.state (R.told self.old.source) (R.told self.new.source)) }
+        ensures reads { Reads R.known (ReadsBytes order N) self.old (filling result buf.new) self.new }
+        ensures fetched { OnOk result (FetchesFor (8 * N) self.old.state (R.known self.old.source) (R.known self.new.source)) }
         ensures early { NoneEarly self.old.state self.new.state }
         ensures still { NeedsNone (8 * N) self.old.state → self.new.source ≡ self.old.source }
         ensures stopped { Untouched self.old.state self.old.source self.new.source }
@@ -444,8 +444,8 @@ impl<R: Source> Reader<R> {
         buf: &mut [u8; N],
         order: Order,
     ) -> Result<(), DekuError>
-        ensures reads { Reads R.told (ReadsBytes order N) self.old (filling result buf.new) self.new }
-        ensures fetched { OnOk result (FetchesFor (8 * N) self.old.state (R.told self.old.source) (R.told self.new.source)) }
+        ensures reads { Reads R.known (ReadsBytes order N) self.old (filling result buf.new) self.new }
+        ensures fetched { OnOk result (FetchesFor (8 * N) self.old.state (R.known self.old.source) (R.known self.new.source)) }
         ensures early { NoneEarly self.old.state self.new.state }
         ensures still { NeedsNone (8 * N) self.old.state → self.new.source ≡ self.old.source }
         ensures stopped { Untouched self.old.state self.old.source self.new.source }

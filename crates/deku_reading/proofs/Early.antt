@@ -7,9 +7,9 @@ use Rattle.deku_bits.specs.declared.ctx.Order.{Order}
 use Rattle.deku_bits.specs.declared.error.DekuError.{DekuError}
 use Rattle.deku_bits.specs.Bits.{groups}
 use Rattle.deku_bits.specs.Streams.{Stream, Has, normal, left, touched, last_part, passed, skipped}
-use Rattle.deku_bits.specs.Devices.{SourceTold, Loses}
+use Rattle.deku_bits.specs.Devices.{KnownSource, Loses}
 use Rattle.deku_bits.specs.Standings.{Standing, Going, Stopped, count_of, reader_state, stream_of}
-use Rattle.deku_bits.specs.Outcomes.{Quiet, Value, Refusal, Unknown, UnlessStopped, Counted, Reserving}
+use Rattle.deku_bits.specs.Outcomes.{Quiet, Value, Refusal, Unknown, UnlessStopped, CountsBits, Reserving}
 use Rattle.deku_bits.specs.ReaderCalls.{ReadsAt, Transfers, TakesBits, ReadsBytes, ReadsByteVec, FetchesFor, NoneEarly, IsBehind, items_of, window_of, Skipping, Skips}
 use Rattle.deku_bits.proofs.Handing.{meant}
 use Rattle.deku_bits.proofs.Fetched.{takes_bits, takes_counted, balance}
@@ -28,11 +28,11 @@ early_on p (inl q) = inl q
 early_on {s} p (inr e) = subst (NoneEarly s) (sym e) p
 
 -- nothing is done
-pub promptly_none : {told : SourceTold} {s : Standing (List Bool)} → PromptlyAt told s told s
+pub promptly_none : {told : KnownSource} {s : Standing (List Bool)} → PromptlyAt told s told s
 promptly_none = record { few = inr refl; step = λ bytes k is. (k, is) }
 
 -- one call, and then another
-pub promptly_on : {told mid after : SourceTold} {s t u : Standing (List Bool)} → PromptlyAt told s mid t → PromptlyAt mid t after u → PromptlyAt told s after u
+pub promptly_on : {told mid after : KnownSource} {s t u : Standing (List Bool)} → PromptlyAt told s mid t → PromptlyAt mid t after u → PromptlyAt told s after u
 promptly_on p q = record { few = early_on p.few q.few; step = λ bytes k is. let m = p.step bytes k is in q.step bytes m.0 m.1 }
 
 -- what holds whatever was answered holds of a value
@@ -50,21 +50,21 @@ same_count : (now : Option (List ℕ)) (s : Standing (List Bool)) → count_of (
 same_count now (Going w c) = refl
 same_count now (Stopped w f c) = refl
 
-took_step : (o : Order) (n : ℕ) (bits : List Bool) (told after : SourceTold) (s u : Standing (List Bool)) → ReadsAt (TakesBits o n) told s (Ok bits) after u → FetchesFor n s told after
-    → (bytes : List ℕ) (k : ℕ) → IsBehind bytes k told.coming s → (j : ℕ) × IsBehind bytes j after.coming u
+took_step : (o : Order) (n : ℕ) (bits : List Bool) (told after : KnownSource) (s u : Standing (List Bool)) → ReadsAt (TakesBits o n) told s (Ok bits) after u → FetchesFor n s told after
+    → (bytes : List ℕ) (k : ℕ) → IsBehind bytes k told.remaining s → (j : ℕ) × IsBehind bytes j after.remaining u
 took_step o n bits told after s u reads fetches bytes k is =
     let count : count_of u ≡ count_of s + n =
-    sym (same_count after.coming u) ∙ takes_counted o n bits (reader_state told.coming s) (reader_state after.coming u) (meant reads).0 ∙ ap (λ c. c + n) (same_count told.coming s) in
-    lost (groups (n - length (window_of s))) after.coming refl (subst (λ x. Loses (groups (n - length (window_of s))) x after.coming) is.0 fetches) count
+    sym (same_count after.remaining u) ∙ takes_counted o n bits (reader_state told.remaining s) (reader_state after.remaining u) (meant reads).0 ∙ ap (λ c. c + n) (same_count told.remaining s) in
+    lost (groups (n - length (window_of s))) after.remaining refl (subst (λ x. Loses (groups (n - length (window_of s))) x after.remaining) is.0 fetches) count
   where
-    lost : (j : ℕ) (now : Option (List ℕ)) → now ≡ after.coming → Loses j (Some (drop k bytes)) now → count_of u ≡ count_of s + n → (i : ℕ) × IsBehind bytes i after.coming u
+    lost : (j : ℕ) (now : Option (List ℕ)) → now ≡ after.remaining → Loses j (Some (drop k bytes)) now → count_of u ≡ count_of s + n → (i : ℕ) × IsBehind bytes i after.remaining u
     lost j None e l count = absurd l
     lost j (Some ys) e l count =
         let even : length (window_of s) + 8 * j ≡ n + length (window_of u) =
         balance n j (drop k bytes) ys (window_of s) (window_of u) l (takes_bits o n bits told after s u (drop k bytes) ys is.0 (sym e) reads) in
         (k + j, (sym e ∙ ap (λ x. Some x) (l.1 ∙ drop-drop j k bytes), omega (arith, is.1, count, even)))
 
-pub took_promptly : (o : Order) (n : ℕ) (bits : List Bool) (told after : SourceTold) (s u : Standing (List Bool)) → ReadsAt (TakesBits o n) told s (Ok bits) after u → FetchesFor n s told after → NoneEarly s u
+pub took_promptly : (o : Order) (n : ℕ) (bits : List Bool) (told after : KnownSource) (s u : Standing (List Bool)) → ReadsAt (TakesBits o n) told s (Ok bits) after u → FetchesFor n s told after → NoneEarly s u
     → PromptlyAt told s after u
 took_promptly o n bits told after s u reads fetches early = record { few = early; step = took_step o n bits told after s u reads fetches }
 
@@ -77,11 +77,11 @@ number_took t l v s u (Passed p) = elim p.1 [
   | Refusal x refused e ↦ absurd (cc)
 ]
 
-pub number_promptly : {t : NumberType} {l : Layout} {v : ℤ} {told after : SourceTold} {s u : Standing (List Bool)} → ReadsAt (ReadsNumber t l) told s (Ok v) after u → FetchesFor (width t l) s told after → NoneEarly s u
+pub number_promptly : {t : NumberType} {l : Layout} {v : ℤ} {told after : KnownSource} {s u : Standing (List Bool)} → ReadsAt (ReadsNumber t l) told s (Ok v) after u → FetchesFor (width t l) s told after → NoneEarly s u
     → PromptlyAt told s after u
 number_promptly {t} {l} {v} {told} {after} {s} {u} read fetches early =
     let m = meant read in
-    let took = number_took t l v (reader_state told.coming s) (reader_state after.coming u) m.0 in
+    let took = number_took t l v (reader_state told.remaining s) (reader_state after.remaining u) m.0 in
     took_promptly l.order (width t l) took.0 told after s u (Quiet took.1 m.1) fetches early
 
 -- ---- bytes
@@ -93,16 +93,16 @@ bytes_took o n bytes s u (Value v p e) = elim p [
 ]
 bytes_took o n bytes s u (Refusal x p e) = absurd (cc)
 
-pub bytes_promptly : (o : Order) (n : ℕ) {bytes : List ℕ} {told after : SourceTold} {s u : Standing (List Bool)} → ReadsAt (ReadsBytes o n) told s (Ok bytes) after u → FetchesFor (8 * n) s told after → NoneEarly s u
+pub bytes_promptly : (o : Order) (n : ℕ) {bytes : List ℕ} {told after : KnownSource} {s u : Standing (List Bool)} → ReadsAt (ReadsBytes o n) told s (Ok bytes) after u → FetchesFor (8 * n) s told after → NoneEarly s u
     → PromptlyAt told s after u
 bytes_promptly o n {bytes} {told} {after} {s} {u} read fetches early =
     let m = meant read in
-    let took = bytes_took o n bytes (reader_state told.coming s) (reader_state after.coming u) m.0 in
+    let took = bytes_took o n bytes (reader_state told.remaining s) (reader_state after.remaining u) m.0 in
     took_promptly o (8 * n) took.0 told after s u (Quiet took.1 m.1) fetches early
 
 -- what was answered behind memory that was found
 unreserved : {A V : Type 0} (moves : A → ℕ → Result V DekuError → Standing A → Type 0) (n : ℕ) (s : Standing A) (v : V) (u : Standing A)
-    → UnlessStopped Unknown (Counted n (Reserving moves)) false s (Ok v) u → UnlessStopped Unknown (Counted n moves) false s (Ok v) u
+    → UnlessStopped Unknown (CountsBits n (Reserving moves)) false s (Ok v) u → UnlessStopped Unknown (CountsBits n moves) false s (Ok v) u
 unreserved moves n (Going a c) v u (inl p) = inl p
 unreserved moves n (Going a c) v u (inr (room, inl p)) = let e = p.0 in absurd (cc)
 unreserved moves n (Going a c) v u (inr (room, inr p)) = inr (room, p)
@@ -116,11 +116,11 @@ vec_took o n bytes s u (Value v p e) = elim p [
 ]
 vec_took o n bytes s u (Refusal x p e) = absurd (cc)
 
-pub vec_promptly : (o : Order) (n : ℕ) (r : Result (Vec ℕ) DekuError) (told after : SourceTold) {s u : Standing (List Bool)} → ReadsAt (ReadsByteVec o n) told s (items_of r) after u
+pub vec_promptly : (o : Order) (n : ℕ) (r : Result (Vec ℕ) DekuError) (told after : KnownSource) {s u : Standing (List Bool)} → ReadsAt (ReadsByteVec o n) told s (items_of r) after u
     → OnOk r (FetchesFor (8 * n) s told after) → NoneEarly s u → OnOk r (PromptlyAt told s after u)
 vec_promptly o n (Ok v) told after {s} {u} read fetches early =
     let m = meant read in
-    let took = vec_took o n v.items (reader_state told.coming s) (reader_state after.coming u) m.0 in
+    let took = vec_took o n v.items (reader_state told.remaining s) (reader_state after.remaining u) m.0 in
     took_promptly o (8 * n) took.0 told after s u (Quiet took.1 m.1) fetches early
 vec_promptly o n (Err e) told after read fetches early = tt
 
@@ -163,35 +163,35 @@ still_short s u (inl l) k = l
 still_short s u (inr e) k = subst (λ x. length (window_of x) < 8) (sym e) k
 
 -- a skip, where no whole byte was looked at
-pub skip_promptly : (o : Order) (n : ℕ) (told after : SourceTold) (s u : Standing (List Bool)) → ReadsAt (Skips o n) told s (Ok tt) after u → NoneEarly s u → length (window_of s) < 8
+pub skip_promptly : (o : Order) (n : ℕ) (told after : KnownSource) (s u : Standing (List Bool)) → ReadsAt (Skips o n) told s (Ok tt) after u → NoneEarly s u → length (window_of s) < 8
     → PromptlyAt told s after u
 skip_promptly o n told after (Stopped w f c) u reads early short = let e = (meant reads).0.0 in absurd (cc)
 skip_promptly o n told after (Going w c) u reads early short = record { few = early; step = step }
   where
-    left_out : (bytes : List ℕ) (k : ℕ) → 8 * k ≡ c + length w → Skipping o n (Some (normal (at w (drop k bytes)))) c (Ok tt) (reader_state after.coming u) → (j : ℕ) × IsBehind bytes j after.coming u
+    left_out : (bytes : List ℕ) (k : ℕ) → 8 * k ≡ c + length w → Skipping o n (Some (normal (at w (drop k bytes)))) c (Ok tt) (reader_state after.remaining u) → (j : ℕ) × IsBehind bytes j after.remaining u
     left_out bytes k even (inr lacks) = let e = lacks.1.0 in absurd (cc)
     left_out bytes k even (inl took) =
         let xs : List ℕ = drop k bytes in
-        let whole = subst (λ S. Has (last_part n S) (passed o n S) × (reader_state after.coming u ≡ Going (Some (skipped o n S)) (c + n))) (normal_short w xs short) (took.0, took.2) in
+        let whole = subst (λ S. Has (last_part n S) (passed o n S) × (reader_state after.remaining u ≡ Going (Some (skipped o n S)) (c + n))) (normal_short w xs short) (took.0, took.2) in
         let left = skip_leaves o n w xs whole.0 in
-        let at_end = stands_at (skipped o n (at w xs)) (c + n) after.coming u whole.1 (still_short (Going w c) u early short) in
+        let at_end = stands_at (skipped o n (at w xs)) (c + n) after.remaining u whole.1 (still_short (Going w c) u early short) in
         (k + left.0, (at_end.0 ∙ ap (λ x. Some x) (left.1 ∙ drop-drop left.0 k bytes), omega (arith, even, left.2, at_end.1, at_end.2)))
 
-    skips : (bytes : List ℕ) (k : ℕ) → 8 * k ≡ c + length w → Counted n (Skipping o n) (Some (normal (at w (drop k bytes)))) c (Ok tt) (reader_state after.coming u) → (j : ℕ) × IsBehind bytes j after.coming u
+    skips : (bytes : List ℕ) (k : ℕ) → 8 * k ≡ c + length w → CountsBits n (Skipping o n) (Some (normal (at w (drop k bytes)))) c (Ok tt) (reader_state after.remaining u) → (j : ℕ) × IsBehind bytes j after.remaining u
     skips bytes k even (inl refused) = let e = refused.1.2 in absurd (cc)
     skips bytes k even (inr may) = left_out bytes k even may.1
 
-    step : (bytes : List ℕ) (k : ℕ) → IsBehind bytes k told.coming (Going w c) → (j : ℕ) × IsBehind bytes j after.coming u
-    step bytes k is = skips bytes k is.1 (subst (λ x. Counted n (Skipping o n) (stream_of w x) c (Ok tt) (reader_state after.coming u)) is.0 (meant reads).0)
+    step : (bytes : List ℕ) (k : ℕ) → IsBehind bytes k told.remaining (Going w c) → (j : ℕ) × IsBehind bytes j after.remaining u
+    step bytes k is = skips bytes k is.1 (subst (λ x. CountsBits n (Skipping o n) (stream_of w x) c (Ok tt) (reader_state after.remaining u)) is.0 (meant reads).0)
 
 -- a skip, and then another call
-pub skip_on : (o : Order) (n : ℕ) (told mid after : SourceTold) (s t u : Standing (List Bool)) → ReadsAt (Skips o n) told s (Ok tt) mid t → NoneEarly s t → length (window_of s) < 8 → PromptlyAt mid t after u
+pub skip_on : (o : Order) (n : ℕ) (told mid after : KnownSource) (s t u : Standing (List Bool)) → ReadsAt (Skips o n) told s (Ok tt) mid t → NoneEarly s t → length (window_of s) < 8 → PromptlyAt mid t after u
     → PromptlyAt told s after u
 skip_on o n told mid after s t u skips early short p = promptly_on (skip_promptly o n told mid s t skips early short) p
 
 -- ---- a reader that was made for one call
 -- its source tells the bytes behind those that the counted bits fill
-pub whole_behind : (told after : SourceTold) (u : Standing (List Bool)) → PromptlyAt told (Going [] 0) after u → (bytes : List ℕ) → told.coming ≡ Some bytes → after.coming ≡ Some (drop (groups (count_of u)) bytes)
+pub whole_behind : (told after : KnownSource) (u : Standing (List Bool)) → PromptlyAt told (Going [] 0) after u → (bytes : List ℕ) → told.remaining ≡ Some bytes → after.remaining ≡ Some (drop (groups (count_of u)) bytes)
 whole_behind told after u p bytes e =
     let far = p.step bytes 0 (e, omega arith) in
     let short = still_short (Going [] 0) u p.few (omega arith) in

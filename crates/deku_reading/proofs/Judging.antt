@@ -10,7 +10,7 @@ use Rattle.deku_bits.specs.declared.error.DekuError.TheVariants.{Parse, InvalidP
 use Rattle.std.specs.Borrow.{Bor}
 use Rattle.deku_num.specs.NumberCalls.{Checked, Refused, Passed}
 use Rattle.deku_bits.specs.Faults.{Tells}
-use Rattle.deku_bits.specs.Devices.{Health, NoFewerFailures}
+use Rattle.deku_bits.specs.Devices.{Health, DeviceKept}
 use Rattle.deku_bits.specs.Standings.{Standing, Going, Stopped, count_of, reader_state}
 use Rattle.deku_bits.specs.Outcomes.{Meaning, Outcome, Quiet, Broken}
 use Rattle.deku_bits.proofs.Handing.{no_ok, broken_at, meant, no_fewer_on, more_on, no_fewer_same}
@@ -63,7 +63,7 @@ pub record Gathering {A T B J : Type 0} (puts : B → T → B → Type 0) (judge
   pub turn : TakesEach m s0 items s
   pub on : GoesOn judge j items k
   pub put : FoldsTo puts b (taken_items items) c
-  pub calm : NoFewerFailures f0 f
+  pub calm : DeviceKept f0 f
 
 pub none_gathered : {A T B J : Type 0} (puts : B → T → B → Type 0) (judge : Judge A T J) (m : Meaning A T) (j : J) (b : B) (s : Standing A) (f : Health) → Gathering puts judge m j j b b s f s f
 none_gathered puts judge m j b s f = record { items = []; turn = refl; on = refl; put = refl; calm = no_fewer_same f }
@@ -96,7 +96,7 @@ module _ {A T B J : Type 0} {puts : B → T → B → Type 0} {judge : Judge A T
       held_ok (Quiet (EndsWith h.items (taken_at v s t) k l (turn_on h a.0) h.on y z refl refl) (no_fewer_on f0 f g h.calm a.1)) (put_on h t p)
 
   -- it closes before the next item
-  pub closed : {t : Standing A} {g : Health} → closes s t → ended k → NoFewerFailures f g → Outcome (MappedBy (λ xs z. FoldsTo puts b xs z) (Judged judge closes ended j m)) s0 f0 (Ok c) t g
+  pub closed : {t : Standing A} {g : Health} → closes s t → ended k → DeviceKept f g → Outcome (MappedBy (λ xs z. FoldsTo puts b xs z) (Judged judge closes ended j m)) s0 f0 (Ok c) t g
   closed {t} {g} p z q = held_ok (Quiet (Closes h.items k s h.turn h.on p z refl refl) (no_fewer_on f0 f g h.calm q)) h.put
 
   -- the next item is refused
@@ -140,9 +140,9 @@ wide_of_kept x n o p q a b e (inr h) = omega (arith, a, b, h)
 
 -- ---- counts
 -- what a reader counts
-pub counted : (coming : Option (List ℕ)) (s : Standing (List Bool)) (n : ℕ) → n ≡ count_of s → n ≡ count_of (reader_state coming s)
-counted coming (Going window count) n e = e
-counted coming (Stopped window fault count) n e = e
+pub counted : (remaining : Option (List ℕ)) (s : Standing (List Bool)) (n : ℕ) → n ≡ count_of s → n ≡ count_of (reader_state remaining s)
+counted remaining (Going window count) n e = e
+counted remaining (Stopped window fault count) n e = e
 
 -- ---- bits
 -- the counts of a reader tell whether so many bits are read

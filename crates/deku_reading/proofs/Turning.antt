@@ -33,10 +33,10 @@ module _ {F T : Type 0} (v : F → List (Option T)) (g : Mut F (ℕ × Unit {0})
   read_from : (m i : ℕ) (p : F) (ys : List T) → IsFromFnResultFrom g p ys i m → (k : ℕ) (d : T) → i ≤ k → k < i + m → get_or (v p) k None ≡ Some (get_or ys k d)
   read_from zero i p ys h k d a b = absurd (omega arith)
   read_from (suc m) i p ys h k d a b =
-      let told = does p i h.1 h.0 h.3 in
+      let known = does p i h.1 h.0 h.3 in
       ⊎_elim
-      (λ (e : k ≡ i). rw (e, told.0, h.2.1 d) refl)
-      (λ (ne : k ≢ i). sym (ap (λ l. get_or l k None) told.1 ∙ get_or-set_other (v p) i k None None ne) ∙ read_from m (i + 1) h.0 ys h.4 k d (omega arith) (omega arith))
+      (λ (e : k ≡ i). rw (e, known.0, h.2.1 d) refl)
+      (λ (ne : k ≢ i). sym (ap (λ l. get_or l k None) known.1 ∙ get_or-set_other (v p) i k None None ne) ∙ read_from m (i + 1) h.0 ys h.4 k d (omega arith) (omega arith))
       (cases_eq k i)
 
   pub turned_all : (f : F) (ys : List T) → length (v f) ≡ n → IsFromFnResult g f ys n → v f ≡ map (λ y. Some y) ys

@@ -28,7 +28,7 @@ AnswersEach {A} m (v ∷ vs) s u = (t : Standing A) × m false s (Ok v) t × Ans
 
 -- items are read one after the other: a list that ends; or the next item is refused, behind a list that goes on
 pub data Runs {A V : Type 0} (goes ends : List V → Type 0) (m : Meaning A V) (b : Bool) (s : Standing A) (r : Result (List V) DekuError) (u : Standing A) : Type 0 where
-  Ended : (vs : List V) → AnswersEach m vs s u → ends vs → b ≡ false → r ≡ Ok vs → Runs goes ends m b s r u
+  Until : (vs : List V) → AnswersEach m vs s u → ends vs → b ≡ false → r ≡ Ok vs → Runs goes ends m b s r u
   NextRefused : (vs : List V) (t : Standing A) (e : DekuError) → AnswersEach m vs s t → goes vs → m b t (Err e) u → r ≡ Err e → Runs goes ends m b s r u
 
 -- m, and then its value is put in its place in memory that grows, or none is found

@@ -4,7 +4,7 @@ ghost use Rattle.std.specs.Prelude.{Option, Result, OnOk};
 ghost use Rattle.deku_bits.specs.Streams.{Stream};
 ghost use Rattle.deku_bits.specs.Outcomes.{Meaning};
 ghost use Rattle.deku_bits.specs.ReaderCalls.{Reads};
-ghost use Rattle.deku_reading.specs.Early.{Promptly};
+ghost use Rattle.deku_reading.specs.Early.{NoReadAhead};
 
 use deku_bits::device::Source;
 use deku_bits::error::DekuError;
@@ -20,7 +20,7 @@ pub trait DekuReader<Ctx>: Drop {
     ghost accepts: { Ctx → Type 0 };
 
     // The contexts under which it fetches no byte too early.
-    ghost prompt: { Ctx → Type 0 };
+    ghost no_read_ahead: { Ctx → Type 0 };
 
     // What reading it answers and leaves; at `true` where the device fails in it.
     ghost meaning: { Ctx → Meaning (Option Stream) Self };
@@ -36,6 +36,6 @@ pub trait DekuReader<Ctx>: Drop {
     where
         Self: Sized,
         requires { accepts ctx }
-        ensures reads { Reads R.told (meaning ctx) reader.old result reader.new }
-        ensures early { OnOk result (prompt ctx → Promptly R.told reader.old reader.new) };
+        ensures reads { Reads R.known (meaning ctx) reader.old result reader.new }
+        ensures early { OnOk result (no_read_ahead ctx → NoReadAhead R.known reader.old reader.new) };
 }

@@ -5,9 +5,9 @@ use Rattle.std.specs.Borrow.{GName}
 use Rattle.std.specs.declared.io.ErrorKind.TheVariants.{OutOfMemory}
 use Rattle.deku_stream.specs.declared.error.DekuError.{DekuError}
 use Rattle.deku_stream.specs.declared.error.DekuError.TheVariants.{Io}
-use Rattle.deku_device.specs.Devices.{Health, NoFewerFailures}
+use Rattle.deku_device.specs.Devices.{Health, DeviceKept}
 use Rattle.deku_stream.specs.Standings.{Standing, Going, Stopped}
-use Rattle.deku_stream.specs.Outcomes.{Meaning, Faults, Outcome, Quiet, Broken, Unknown, UnlessStopped, Counted, Reserving, Mapped, Value, Refusal}
+use Rattle.deku_stream.specs.Outcomes.{Meaning, Faults, Outcome, Quiet, Broken, Unknown, UnlessStopped, CountsBits, Reserving, Mapped, Value, Refusal}
 use Rattle.deku_stream.specs.Kept.{Admits}
 pub use Rattle.deku_device.proofs.Failures.{no_fewer_on, more_on, no_fewer_same}
 
@@ -39,7 +39,7 @@ mapped_err h {e} (Broken a p q) = Broken (broken_at a) (Refusal e p refl) q
 
 -- what was answered by the meaning where a value was
 pub meant : {A V : Type 0} {m : Meaning A V} {s : Standing A} {f : Health} {v : V} {u : Standing A} {g : Health}
-    → Outcome m s f (Ok v) u g → m false s (Ok v) u × NoFewerFailures f g
+    → Outcome m s f (Ok v) u g → m false s (Ok v) u × DeviceKept f g
 meant (Quiet p q) = (p, q)
 meant (Broken a p q) = absurd (no_ok a)
 
@@ -86,26 +86,26 @@ behind f g n k (Broken a p q) = Broken a p (record { failures = q.failures; lend
 -- ---- what is refused before anything moves
 -- a kept fault, or a count without room
 pub turned_away : {A V : Type 0} (moves : A → ℕ → Result V DekuError → Standing A → Type 0) (n : ℕ) (s : Standing A) (e : DekuError) (f : Health)
-    → Admits n s (Err e) → Outcome (UnlessStopped Unknown (Counted n moves)) s f (Err e) s f
+    → Admits n s (Err e) → Outcome (UnlessStopped Unknown (CountsBits n moves)) s f (Err e) s f
 turned_away moves n (Going a c) e f (inl p) = let h = p.1.2 in Quiet (inl (p.0, (p.1.0, p.1.1, cc, refl))) (no_fewer_same f)
 turned_away moves n (Going a c) e f (inr p) = let h = p.1 in absurd (cc)
 turned_away moves n (Stopped a fault c) e f p = Quiet (cc, refl) (no_fewer_same f)
 
 -- memory that is not found
 pub no_memory : {A V : Type 0} (moves : A → ℕ → Result V DekuError → Standing A → Type 0) (n : ℕ) (s : Standing A) (f : Health)
-    → Admits n s (Ok tt) → Outcome (UnlessStopped Unknown (Counted n (Reserving moves))) s f (Err (Io OutOfMemory)) s f
+    → Admits n s (Ok tt) → Outcome (UnlessStopped Unknown (CountsBits n (Reserving moves))) s f (Err (Io OutOfMemory)) s f
 no_memory moves n (Going a c) f (inl p) = let h = p.1.2 in absurd (cc)
 no_memory moves n (Going a c) f (inr p) = Quiet (inr (p.0, inl (refl, refl))) (no_fewer_same f)
 no_memory moves n (Stopped a fault c) f p = absurd (cc)
 
 -- memory that is found
 counted_found : {A V : Type 0} (moves : A → ℕ → Result V DekuError → Standing A → Type 0) (n : ℕ) (a : A) (c : ℕ) (r : Result V DekuError) (u : Standing A)
-    → Counted n moves a c r u → Counted n (Reserving moves) a c r u
+    → CountsBits n moves a c r u → CountsBits n (Reserving moves) a c r u
 counted_found moves n a c r u (inl p) = inl p
 counted_found moves n a c r u (inr p) = inr (p.0, inr p.1)
 
 pub memory_found : {A V : Type 0} (moves : A → ℕ → Result V DekuError → Standing A → Type 0) (n : ℕ) (b : Bool) (s : Standing A) (r : Result V DekuError) (u : Standing A)
-    → UnlessStopped Unknown (Counted n moves) b s r u → UnlessStopped Unknown (Counted n (Reserving moves)) b s r u
+    → UnlessStopped Unknown (CountsBits n moves) b s r u → UnlessStopped Unknown (CountsBits n (Reserving moves)) b s r u
 memory_found moves n false (Going a c) r u p = counted_found moves n a c r u p
 memory_found moves n true (Going a c) r u p = p
 memory_found moves n false (Stopped a e c) r u p = p
@@ -113,6 +113,6 @@ memory_found moves n true (Stopped a e c) r u p = p
 
 -- the same, with h on the values
 pub mapped_memory_found : {A V W : Type 0} (h : V → W) (moves : A → ℕ → Result V DekuError → Standing A → Type 0) (n : ℕ) (b : Bool) (s : Standing A) (r : Result W DekuError) (u : Standing A)
-    → Mapped h (UnlessStopped Unknown (Counted n moves)) b s r u → Mapped h (UnlessStopped Unknown (Counted n (Reserving moves))) b s r u
+    → Mapped h (UnlessStopped Unknown (CountsBits n moves)) b s r u → Mapped h (UnlessStopped Unknown (CountsBits n (Reserving moves))) b s r u
 mapped_memory_found h moves n b s r u (Value v p e) = Value v (memory_found moves n b s (Ok v) u p) e
 mapped_memory_found h moves n b s r u (Refusal x p e) = Refusal x (memory_found moves n b s (Err x) u p) e

@@ -4,7 +4,7 @@ use Rattle.deku_stream.specs.declared.ctx.Order.{Order}
 use Rattle.deku_stream.specs.Bits.{chunks, facing, group_number, word_of}
 use Rattle.deku_stream.specs.Streams.{flow, seen}
 
--- A window and the bytes to come, where they are told, give these bits and are then another window and the bytes behind.
+-- A window and the bytes to come, where they are known, give these bits and are then another window and the bytes behind.
 abbrev pub Moves : Order → List Bool → Option (List ℕ) → List Bool → List Bool → Option (List ℕ) → Type 0
 Moves o window None bits rest after = ⊤
 Moves o window (Some bytes) bits rest None = ⊥
@@ -12,7 +12,7 @@ Moves o window (Some bytes) bits rest (Some after) =
     (seen o (record { window = window; bytes = bytes }) ≡ bits ++ seen o (record { window = rest; bytes = after }))
     × ((run : List ℕ) × (bytes ≡ run ++ after))
 
--- a window and the bytes to come, where they are told, have fewer than n bits
+-- a window and the bytes to come, where they are known, have fewer than n bits
 abbrev pub FewerBits : ℕ → List Bool → Option (List ℕ) → Type 0
 FewerBits n window None = ⊤
 FewerBits n window (Some bytes) = length window + 8 * length bytes < n

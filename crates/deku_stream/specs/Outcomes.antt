@@ -5,7 +5,7 @@ use Rattle.std.specs.declared.io.ErrorKind.{ErrorKind}
 use Rattle.std.specs.declared.io.ErrorKind.TheVariants.{OutOfMemory}
 use Rattle.deku_stream.specs.declared.error.DekuError.{DekuError}
 use Rattle.deku_stream.specs.declared.error.DekuError.TheVariants.{InvalidParam, Io}
-use Rattle.deku_device.specs.Devices.{Health, NoFewerFailures, MoreFailures}
+use Rattle.deku_device.specs.Devices.{Health, DeviceKept, DeviceFailed}
 use Rattle.deku_stream.specs.Standings.{Standing, Going, Stopped}
 
 -- which answers each standing allows, and where each leads: at `false` what may come where no device fails, at `true` what may come
@@ -23,8 +23,8 @@ pub record Faults {A V : Type 0} (r : Result V DekuError) (u : Standing A) : Typ
 
 -- an answer of the meaning; or a fault of the device, which the meaning lets come, and the count of failures rises where it is told
 pub data Outcome {A V : Type 0} (m : Meaning A V) (s : Standing A) (f : Health) (r : Result V DekuError) (u : Standing A) (g : Health) : Type 0 where
-  Quiet : m false s r u → NoFewerFailures f g → Outcome m s f r u g
-  Broken : Faults r u → m true s r u → MoreFailures f g → Outcome m s f r u g
+  Quiet : m false s r u → DeviceKept f g → Outcome m s f r u g
+  Broken : Faults r u → m true s r u → DeviceFailed f g → Outcome m s f r u g
 
 -- a fault of the device, which keeps this count, and leaves what it may
 abbrev pub Breaks : {A V : Type 0} → (A → Type 0) → ℕ → Result V DekuError → Standing A → Type 0
@@ -46,8 +46,8 @@ abbrev pub Refuses : {A V : Type 0} → (Bor (List ℕ) → DekuError) → List 
 Refuses refusal text s r u = (words : Bor (List ℕ)) × (words.now ≡ text) × (r ≡ Err (refusal words)) × (u ≡ s)
 
 -- n bits more are counted; where the count has no room for them it is refused, and nothing changed
-abbrev pub Counted : {A V : Type 0} → ℕ → (A → ℕ → Result V DekuError → Standing A → Type 0) → A → ℕ → Result V DekuError → Standing A → Type 0
-Counted n moves a c r u = ((2 ^ 64 ≤ c + n) × Refuses InvalidParam (codes "count past usize") (Going a c) r u) ⊎ ((c + n < 2 ^ 64) × moves a c r u)
+abbrev pub CountsBits : {A V : Type 0} → ℕ → (A → ℕ → Result V DekuError → Standing A → Type 0) → A → ℕ → Result V DekuError → Standing A → Type 0
+CountsBits n moves a c r u = ((2 ^ 64 ≤ c + n) × Refuses InvalidParam (codes "count past usize") (Going a c) r u) ⊎ ((c + n < 2 ^ 64) × moves a c r u)
 
 -- memory is found first, or it is refused and nothing changed
 abbrev pub Reserving : {A V : Type 0} → (A → ℕ → Result V DekuError → Standing A → Type 0) → A → ℕ → Result V DekuError → Standing A → Type 0

@@ -3,7 +3,7 @@ use Rattle.std.specs.Prelude.{◌≡◌, ⊤, ℕ, Bool, List, Option, None, Som
 use Rattle.deku_stream.specs.declared.error.DekuError.{DekuError}
 use Rattle.deku_stream.specs.Streams.{Stream, normal}
 use Rattle.deku_stream.specs.Writers.{Pending}
-use Rattle.deku_device.specs.Devices.{SinkTold}
+use Rattle.deku_device.specs.Devices.{KnownSink}
 
 -- it goes on with an A, or it has stopped with an A, by a fault that it keeps; both know how many bits were moved
 pub data Standing (A : Type 0) : Type 0 where
@@ -15,30 +15,30 @@ abbrev pub count_of : {A : Type 0} → Standing A → ℕ
 count_of (Going a count) = count
 count_of (Stopped a fault count) = count
 
--- the stream of a window and the bytes to come, where these are told, in normal form
+-- the stream of a window and the bytes to come, where these are known, in normal form
 abbrev pub stream_of : List Bool → Option (List ℕ) → Option Stream
 stream_of window None = None
 stream_of window (Some bytes) = Some (normal (record { window = window; bytes = bytes }))
 
 -- the state of a reader: its window with the bytes that its source tells
 abbrev pub reader_state : Option (List ℕ) → Standing (List Bool) → Standing (Option Stream)
-reader_state coming (Going window count) = Going (stream_of window coming) count
-reader_state coming (Stopped window fault count) = Stopped (stream_of window coming) fault count
+reader_state remaining (Going window count) = Going (stream_of window remaining) count
+reader_state remaining (Stopped window fault count) = Stopped (stream_of window remaining) fault count
 
--- what a writer goes on with, or has stopped with: what its sink took and the bytes that lie in its room, where these are told, and the pending bits
+-- what a writer goes on with, or has stopped with: what its sink took and the bytes that lie in its room, where these are known, and the pending bits
 pub record Output : Type 0 where
   pub taken : Option (List ℕ)
   pub room : Option (List ℕ)
   pub pending : Pending
 
 -- pending bits with what a sink tells
-abbrev pub output_of : SinkTold → Pending → Output
-output_of told pending = record { taken = told.taken; room = told.room; pending = pending }
+abbrev pub output_of : KnownSink → Pending → Output
+output_of known pending = record { taken = known.taken; room = known.room; pending = pending }
 
 -- the state of a writer: its pending bits with what its sink tells
-abbrev pub writer_state : SinkTold → Standing Pending → Standing Output
-writer_state told (Going pending count) = Going (output_of told pending) count
-writer_state told (Stopped pending fault count) = Stopped (output_of told pending) fault count
+abbrev pub writer_state : KnownSink → Standing Pending → Standing Output
+writer_state known (Going pending count) = Going (output_of known pending) count
+writer_state known (Stopped pending fault count) = Stopped (output_of known pending) fault count
 
 -- where it has stopped, its device stays as it was
 abbrev pub Untouched : {A D : Type 0} → Standing A → D → D → Type 0

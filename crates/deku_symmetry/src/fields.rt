@@ -21,7 +21,7 @@ impl<T: DekuReader<(Endian, BitSize)>, const N: usize> DekuReader<()> for Msb<T,
 
     ghost accepts = { λ _. T.accepts (Big, record { 0 = N }) };
 
-    ghost prompt = { λ _. T.prompt (Big, record { 0 = N }) };
+    ghost no_read_ahead = { λ _. T.no_read_ahead (Big, record { 0 = N }) };
 
     ghost meaning = { λ _. Mapped (λ v. record { 0 = v }) (T.meaning (Big, record { 0 = N })) };
 
@@ -74,7 +74,7 @@ impl<T: DekuReader<(Endian, BitSize, Order)>, const N: usize> DekuReader<()> for
 
     ghost accepts = { λ _. T.accepts (Little, record { 0 = N }, Lsb0) };
 
-    ghost prompt = { λ _. T.prompt (Little, record { 0 = N }, Lsb0) };
+    ghost no_read_ahead = { λ _. T.no_read_ahead (Little, record { 0 = N }, Lsb0) };
 
     ghost meaning = { λ _. Mapped (λ v. record { 0 = v }) (T.meaning (Little, record { 0 = N }, Lsb0)) };
 
@@ -129,7 +129,7 @@ impl<T: DekuReader<(Endian, BitSize)>, const N: usize> DekuReader<()> for MsbLe<
 
     ghost accepts = { λ _. T.accepts (Little, record { 0 = N }) };
 
-    ghost prompt = { λ _. T.prompt (Little, record { 0 = N }) };
+    ghost no_read_ahead = { λ _. T.no_read_ahead (Little, record { 0 = N }) };
 
     ghost meaning = { λ _. Mapped (λ v. record { 0 = v }) (T.meaning (Little, record { 0 = N })) };
 
@@ -183,7 +183,7 @@ impl<T: DekuReader<(Endian, BitSize, Order)>, const N: usize> DekuReader<()> for
 
     ghost accepts = { λ _. T.accepts (Big, record { 0 = N }, Lsb0) };
 
-    ghost prompt = { λ _. T.prompt (Big, record { 0 = N }, Lsb0) };
+    ghost no_read_ahead = { λ _. T.no_read_ahead (Big, record { 0 = N }, Lsb0) };
 
     ghost meaning = { λ _. Mapped (λ v. record { 0 = v }) (T.meaning (Big, record { 0 = N }, Lsb0)) };
 
@@ -238,7 +238,7 @@ impl<T: DekuReader<Endian>> DekuReader<()> for Be<T> {
 
     ghost accepts = { λ _. T.accepts Big };
 
-    ghost prompt = { λ _. T.prompt Big };
+    ghost no_read_ahead = { λ _. T.no_read_ahead Big };
 
     ghost meaning = { λ _. Mapped (λ v. record { 0 = v }) (T.meaning Big) };
 
@@ -290,7 +290,7 @@ impl<T: DekuReader<Endian>> DekuReader<()> for Le<T> {
 
     ghost accepts = { λ _. T.accepts Little };
 
-    ghost prompt = { λ _. T.prompt Little };
+    ghost no_read_ahead = { λ _. T.no_read_ahead Little };
 
     ghost meaning = { λ _. Mapped (λ v. record { 0 = v }) (T.meaning Little) };
 

@@ -5,65 +5,65 @@ ghost use Rattle.deku_bits.specs.Pieces.{Piece};
 ghost use Rattle.deku_pieces.specs.Symmetric.{breadth};
 
 use crate::traits::Symmetric;
-use deku_pieces::asserted::{Asserted, Check};
-use deku_pieces::ended::{Ended, Ends};
-use deku_pieces::fixed::{Constant, Fixed};
-use deku_pieces::led::{Counts, Led};
+use deku_pieces::assertion::{Assert, Check};
+use deku_pieces::until::{Until, Last};
+use deku_pieces::magic::{Constant, Magic};
+use deku_pieces::counted::{ItemCount, Counted};
 
 /// A head that says how many items lie behind it: the same heads say the same.
-pub trait Leads: Counts + Symmetric<()> {
+pub trait ItemCountLaw: ItemCount + Symmetric<()> {
     // The same heads count the same.
-    ghost alike: { (v w : Self) → Self.Symmetric.same v w → Self.Counts.count_of v ≡ Self.Counts.count_of w };
+    ghost alike: { (v w : Self) → Self.Symmetric.same v w → Self.ItemCount.count_of v ≡ Self.ItemCount.count_of w };
 }
 
-impl Leads for u8 {
+impl ItemCountLaw for u8 {
     ghost use Rattle.std.specs.Prelude.{refl};
 
     ghost alike = { λ v w e. rw e refl };
 }
 
 /// The pieces of the head, and then those of its items; items that are not as many as the head says have none.
-impl<H: Leads, T: Symmetric<()>> Symmetric<()> for Led<H, T> {
-    ghost use Rattle.deku_pieces.specs.Leading.{OfLed, SameLed};
-    ghost use Rattle.deku_pieces.proofs.Heads.{led_symmetric};
+impl<H: ItemCountLaw, T: Symmetric<()>> Symmetric<()> for Counted<H, T> {
+    ghost use Rattle.deku_pieces.specs.Leading.{OfCountedBy, SameCountedBy};
+    ghost use Rattle.deku_pieces.proofs.Heads.{counted_by_symmetric};
 
-    ghost pieces = { λ v _. OfLed H.Counts.count_of (λ h. H.Symmetric.pieces h tt) (λ x. T.pieces x tt) v };
+    ghost pieces = { λ v _. OfCountedBy H.ItemCount.count_of (λ h. H.Symmetric.pieces h tt) (λ x. T.pieces x tt) v };
 
-    ghost same = { SameLed H.Symmetric.same T.same };
+    ghost same = { SameCountedBy H.Symmetric.same T.same };
 
-    ghost symmetric = { λ _. led_symmetric H.Counts.count_of H.Leads.alike (H.Symmetric.symmetric tt) (T.symmetric tt) };
+    ghost symmetric = { λ _. counted_by_symmetric H.ItemCount.count_of H.ItemCountLaw.alike (H.Symmetric.symmetric tt) (T.symmetric tt) };
 }
 
 /// An item that may end its list: the same items end it alike, and each has a bit at least.
-pub trait EndsAlike: Ends + Symmetric<()> {
+pub trait LastLaw: Last + Symmetric<()> {
     // The same items end their lists alike.
-    ghost alike: { (v w : Self) → Self.Symmetric.same v w → Self.Ends.ends_of v ≡ Self.Ends.ends_of w };
+    ghost alike: { (v w : Self) → Self.Symmetric.same v w → Self.Last.last_of v ≡ Self.Last.last_of w };
 
     // What has pieces has a bit.
     ghost wide: { (v : Self) (ps : List Piece) → Self.Symmetric.pieces v tt ps → 0 < breadth ps };
 }
 
 /// The pieces of the items, where the first that ends them is the last one.
-impl<T: EndsAlike> Symmetric<()> for Ended<T> {
+impl<T: LastLaw> Symmetric<()> for Until<T> {
     ghost use Rattle.deku_pieces.specs.Pieces.{SameEach};
     ghost use Rattle.deku_pieces.specs.Ending.{OfEnded};
     ghost use Rattle.deku_pieces.proofs.Ending.{ended_symmetric};
 
-    ghost pieces = { λ v _. OfEnded T.Ends.ends_of (λ x. T.Symmetric.pieces x tt) v.items.items };
+    ghost pieces = { λ v _. OfEnded T.Last.last_of (λ x. T.Symmetric.pieces x tt) v.items.items };
 
     ghost same = { λ v w. SameEach T.Symmetric.same v.items.items w.items.items };
 
-    ghost symmetric = { λ _. ended_symmetric T.Ends.ends_of T.EndsAlike.alike T.EndsAlike.wide (T.Symmetric.symmetric tt) };
+    ghost symmetric = { λ _. ended_symmetric T.Last.last_of T.LastLaw.alike T.LastLaw.wide (T.Symmetric.symmetric tt) };
 }
 
 /// A check that the same parts pass alike.
-pub trait Checks<P: Symmetric<()>>: Check<P> {
+pub trait CheckLaw<P: Symmetric<()>>: Check<P> {
     // The same parts pass alike.
     ghost alike: { (v w : P) → P.Symmetric.same v w → Self.Check.passes v ≡ Self.Check.passes w };
 }
 
 /// The pieces of the part, where it passes.
-impl<P: Symmetric<()>, C: Checks<P>> Symmetric<()> for Asserted<P, C> {
+impl<P: Symmetric<()>, C: CheckLaw<P>> Symmetric<()> for Assert<P, C> {
     ghost use Rattle.deku_pieces.specs.Asserting.{OfPassing};
     ghost use Rattle.deku_pieces.proofs.Passing.{asserted_symmetric};
 
@@ -71,23 +71,23 @@ impl<P: Symmetric<()>, C: Checks<P>> Symmetric<()> for Asserted<P, C> {
 
     ghost same = { λ v w. P.Symmetric.same v.part w.part };
 
-    ghost symmetric = { λ _. asserted_symmetric C.Check.passes C.Check.text C.Checks.alike (P.Symmetric.symmetric tt) };
+    ghost symmetric = { λ _. asserted_symmetric C.Check.passes C.Check.text C.CheckLaw.alike (P.Symmetric.symmetric tt) };
 }
 
 /// A constant that the same parts are: they are the value itself.
-pub trait Constants<P: Symmetric<()>>: Constant<P> {
+pub trait ConstantLaw<P: Symmetric<()>>: Constant<P> {
     // What is the same as the value is the value.
     ghost alike: { (v : P) → P.Symmetric.same Self.Constant.value v → v ≡ Self.Constant.value };
 }
 
 /// The pieces of the value.
-impl<P: Symmetric<()>, C: Constants<P>> Symmetric<()> for Fixed<P, C> {
+impl<P: Symmetric<()>, C: ConstantLaw<P>> Symmetric<()> for Magic<P, C> {
     ghost use Rattle.std.specs.Prelude.{⊤};
-    ghost use Rattle.deku_pieces.proofs.Passing.{fixed_symmetric};
+    ghost use Rattle.deku_pieces.proofs.Passing.{magic_symmetric};
 
     ghost pieces = { λ _ _. P.Symmetric.pieces C.Constant.value tt };
 
     ghost same = { λ v w. ⊤ };
 
-    ghost symmetric = { λ _. fixed_symmetric C.Constant.value C.Constant.text C.Constants.alike (P.Symmetric.symmetric tt) };
+    ghost symmetric = { λ _. magic_symmetric C.Constant.value C.Constant.text C.ConstantLaw.alike (P.Symmetric.symmetric tt) };
 }

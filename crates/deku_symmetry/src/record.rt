@@ -8,7 +8,7 @@ ghost use Rattle.deku_bits.specs.Standings.{Standing, Output};
 ghost use Rattle.deku_bits.specs.Outcomes.{Mapped};
 ghost use Rattle.deku_bits.specs.ReaderCalls.{Reads};
 ghost use Rattle.deku_bits.specs.WriterCalls.{Writes};
-ghost use Rattle.deku.specs.Early.{Promptly};
+ghost use Rattle.deku.specs.Early.{NoReadAhead};
 ghost use Rattle.deku_num.specs.declared.ctx.Endian.{Endian};
 
 use crate::traits::Symmetric;
@@ -23,7 +23,7 @@ use deku::{DekuError, DekuReader, DekuWriter};
 /// ```text
 /// type Parts = (Msb<u8, 4>, Msb<u8, 4>, Be<u16>);             // of a record of three fields, under ()
 /// ```
-pub trait Parted<Ctx>: Drop {
+pub trait FromParts<Ctx>: Drop {
     /// The parts, in the order in which they lie.
     type Parts: Drop;
 
@@ -50,15 +50,15 @@ pub trait Parted<Ctx>: Drop {
 ///     (Msb(self.sensor), Msb(self.state), Be(self.value))
 /// }
 /// ```
-pub trait ToParts<Ctx>: Parted<Ctx> {
+pub trait ToParts<Ctx>: FromParts<Ctx> {
     /// The parts of the record.
     fn parts(&self) -> Self::Parts
-        ensures { result ≡ Self.Parted.parts_of self.now };
+        ensures { result ≡ Self.FromParts.parts_of self.now };
 }
 
 /// A record whose reader and writer are those of its parts: it is `Symmetric<()>`. The page `docs/RECORDS.md` has one whole, and says what a record under
 /// another context states in its place.
-pub trait Record: Parted<()> + DekuReader<()> + DekuWriter<()>
+pub trait Record: FromParts<()> + DekuReader<()> + DekuWriter<()>
 where
     Self::Parts: Symmetric<()>,
 {
@@ -84,7 +84,7 @@ where
 ///     ghost writes = { λ c v b s r u m. m };
 /// }
 /// ```
-pub trait EndianRecord: Parted<Endian> + DekuReader<Endian> + DekuWriter<Endian>
+pub trait EndianRecord: FromParts<Endian> + DekuReader<Endian> + DekuWriter<Endian>
 where
     Self::Parts: Symmetric<Endian>,
 {
@@ -107,21 +107,21 @@ where
 /// ```text
 /// read_record(reader, ())
 /// ```
-pub fn read_record<Ctx, T: Parted<Ctx>, R: Source>(
+pub fn read_record<Ctx, T: FromParts<Ctx>, R: Source>(
     reader: &mut Reader<R>,
     ctx: Ctx,
 ) -> Result<T, DekuError>
 where
     T::Parts: DekuReader<Ctx>,
     requires { T.Parts.DekuReader.accepts ctx }
-    ensures reads { Reads R.told (Mapped T.record_of (T.Parts.DekuReader.meaning ctx)) reader.old result reader.new }
-    ensures early { OnOk result (T.Parts.DekuReader.prompt ctx → Promptly R.told reader.old reader.new) }
+    ensures reads { Reads R.known (Mapped T.record_of (T.Parts.DekuReader.meaning ctx)) reader.old result reader.new }
+    ensures early { OnOk result (T.Parts.DekuReader.no_read_ahead ctx → NoReadAhead R.known reader.old reader.new) }
 {
     let parts = T::Parts::from_reader_with_ctx(reader, ctx)?;
     Ok(T::from_parts(parts))
 }
 
-/// Writes the parts of the record: the body of a record's `to_writer`. A record that holds memory has its parts written where they lie, as by `write_led`.
+/// Writes the parts of the record: the body of a record's `to_writer`. A record that holds memory has its parts written where they lie, as by `write_counted`.
 ///
 /// The caller's condition: the parts may be written. It is refused as they are, and what was written before stays written.
 ///
@@ -136,7 +136,7 @@ pub fn write_record<Ctx, T: ToParts<Ctx>, W: Sink>(
 where
     T::Parts: DekuWriter<Ctx>,
     requires { T.Parts.DekuWriter.accepts ctx }
-    ensures { Writes W.told (T.Parts.DekuWriter.meaning (T.Parted.parts_of value.now) ctx) writer.old result writer.new }
+    ensures { Writes W.known (T.Parts.DekuWriter.meaning (T.FromParts.parts_of value.now) ctx) writer.old result writer.new }
 {
     value.parts().to_writer(writer, ctx)
 }

@@ -3,7 +3,7 @@
 use crate::sample::Sample;
 use deku::prelude::{DekuError, NeedSize};
 use deku_symmetry::{
-    Asserted, Check, Checks, Counts, Led, Lsb, LsbTagged, Msb, Only, Symmetric, Tagged,
+    Assert, Check, CheckLaw, ItemCount, Counted, Lsb, LsbTagged, Msb, Only, Symmetric, Tagged,
 };
 use deku_testing_values::expecting::same;
 use deku_testing_values::records::{expect_packed, expect_refusal};
@@ -29,14 +29,14 @@ impl Check<Msb<u8, 4>> for Version {
     }
 }
 
-impl Checks<Msb<u8, 4>> for Version {
+impl CheckLaw<Msb<u8, 4>> for Version {
     ghost use Rattle.std.specs.Prelude.{refl};
 
     ghost alike = { λ v w e. rw e refl };
 }
 
 // A sample counts nothing.
-impl Counts for Sample {
+impl ItemCount for Sample {
     ghost use Rattle.std.specs.Prelude.{None};
 
     ghost count_of = { λ _. None };
@@ -47,7 +47,7 @@ impl Counts for Sample {
 }
 
 // A version of four bits, and a length.
-type Front = (Asserted<Msb<u8, 4>, Version>, Msb<u8, 4>);
+type Front = (Assert<Msb<u8, 4>, Version>, Msb<u8, 4>);
 
 // A bit behind the id 5, or nine behind the id 3.
 type Word = LsbTagged<Lsb<u8, 1>, Only<Lsb<u16, 9>, 3>, 5, 7>;
@@ -55,7 +55,7 @@ type Word = LsbTagged<Lsb<u8, 1>, Only<Lsb<u16, 9>, 3>, 5, 7>;
 #[test]
 fn counted_items(rt: HostRuntime) -> Result<(), Fail> {
     let alloc = rt.alloc();
-    let two = Led {
+    let two = Counted {
         head: 2u8,
         items: [0x68u8, 0x69].to_vec(alloc)?,
     };
@@ -64,10 +64,10 @@ fn counted_items(rt: HostRuntime) -> Result<(), Fail> {
     let ended = DekuError::Incomplete(NeedSize::new(8));
     same(
         &short,
-        &Led::<u8, u8>::unpack(alloc, short, ()),
+        &Counted::<u8, u8>::unpack(alloc, short, ()),
         &Err(ended),
     )?;
-    let out_of_step = Led {
+    let out_of_step = Counted {
         head: 3u8,
         items: [1u8].to_vec(alloc)?,
     };
@@ -79,15 +79,15 @@ fn counted_items(rt: HostRuntime) -> Result<(), Fail> {
 fn a_head_without_a_count(rt: HostRuntime) -> Result<(), Fail> {
     let bytes: &[u8] = &[0xFF, 0xF1, 0x23, 0x69];
     let refusal = DekuError::Parse("head without a count");
-    expect_refusal::<Led<Sample, u8>>(rt.alloc(), bytes, refusal, 24)
+    expect_refusal::<Counted<Sample, u8>>(rt.alloc(), bytes, refusal, 24)
 }
 
 #[test]
 fn what_passes(rt: HostRuntime) -> Result<(), Fail> {
     let alloc = rt.alloc();
-    let four: Front = (Asserted::new(Msb(4)), Msb(5));
+    let four: Front = (Assert::new(Msb(4)), Msb(5));
     expect_packed(alloc, (), &four, 8, &[0x45])?;
-    let six: Front = (Asserted::new(Msb(6)), Msb(5));
+    let six: Front = (Assert::new(Msb(6)), Msb(5));
     let refusal = DekuError::Assertion("version");
     same(&6, &six.pack(alloc, ()), &Err(refusal))?;
     expect_refusal::<Front>(alloc, &[0x65], refusal, 4)

@@ -5,7 +5,7 @@ use deku::prelude::{
     DekuContainerRead, DekuContainerWrite, DekuError, DekuReader, DekuWriter, Reader, Writer,
 };
 use deku_symmetry::{
-    Be, Choice, Msb, MsbTagged, Only, Parted, Record, Tagged, ToParts, read_record, write_record,
+    Be, Choice, Msb, MsbTagged, Only, FromParts, Record, Tagged, ToParts, read_record, write_record,
 };
 
 /// A message.
@@ -25,7 +25,7 @@ type Place = (Msb<i16, 12>, Msb<i16, 12>);
 // An id of eight bits, and what lies under 1, under 2, and under 3.
 type Parts = MsbTagged<Be<u16>, Choice<Place, Only<(), 3>, 2>, 1, 8>;
 
-impl Parted<()> for Message {
+impl FromParts<()> for Message {
     ghost use Rattle.std.specs.Prelude.{refl};
     ghost use Rattle.deku_symmetry_tests.specs.declared.message.Message.TheVariants.{Tone, Move, Stop};
     ghost use Rattle.deku_symmetry.specs.declared.choice.Tagged.TheVariants as first;
@@ -88,9 +88,9 @@ impl DekuReader<()> for Message {
 
     ghost accepts = { ⟦<Parts as DekuReader<()>>⟧.accepts };
 
-    ghost prompt = { ⟦<Parts as DekuReader<()>>⟧.prompt };
+    ghost no_read_ahead = { ⟦<Parts as DekuReader<()>>⟧.no_read_ahead };
 
-    ghost meaning = { λ _. Mapped ⟦<Message as Parted<()>>⟧.record_of (⟦<Parts as DekuReader<()>>⟧.meaning tt) };
+    ghost meaning = { λ _. Mapped ⟦<Message as FromParts<()>>⟧.record_of (⟦<Parts as DekuReader<()>>⟧.meaning tt) };
 
     fn from_reader_with_ctx<R: Source>(
         reader: &mut Reader<R>,
@@ -103,7 +103,7 @@ impl DekuReader<()> for Message {
 impl DekuWriter<()> for Message {
     ghost accepts = { ⟦<Parts as DekuWriter<()>>⟧.accepts };
 
-    ghost meaning = { λ v _. ⟦<Parts as DekuWriter<()>>⟧.meaning (⟦<Message as Parted<()>>⟧.parts_of v) tt };
+    ghost meaning = { λ v _. ⟦<Parts as DekuWriter<()>>⟧.meaning (⟦<Message as FromParts<()>>⟧.parts_of v) tt };
 
     fn to_writer<W: Sink>(&self, writer: &mut Writer<W>, _ctx: ()) -> Result<(), DekuError> {
         write_record(self, writer, ())

@@ -5,17 +5,17 @@ use deku::device::{Sink, Source};
 use deku::prelude::{DekuError, DekuReader, DekuWriter, Reader, Writer};
 use deku_symmetry::scattered::{high_bits, low_bits};
 use deku_symmetry::{
-    Be, Constant, Constants, EndianRecord, Fixed, Le, Led, Parted, Record, ToParts, read_record,
-    write_led, write_record,
+    Be, Constant, ConstantLaw, EndianRecord, Magic, Le, Counted, FromParts, Record, ToParts, read_record,
+    write_counted, write_record,
 };
 use deku_testing_values::records::{expect_packed, expect_refusal};
 use std::test::Fail;
 
 // Two bytes that are always the same.
 #[derive(Debug, PartialEq, Eq, Drop)]
-struct Magic;
+struct Signature;
 
-impl Constant<Be<u16>> for Magic {
+impl Constant<Be<u16>> for Signature {
     ghost use Rattle.std.specs.Prelude.{codes};
 
     ghost value = { record { 0 = 0x4D5A } };
@@ -35,7 +35,7 @@ impl Constant<Be<u16>> for Magic {
     }
 }
 
-impl Constants<Be<u16>> for Magic {
+impl ConstantLaw<Be<u16>> for Signature {
     ghost use Rattle.std.specs.Prelude.{refl};
 
     ghost alike = { λ v e. rw e refl };
@@ -44,11 +44,11 @@ impl Constants<Be<u16>> for Magic {
 #[test]
 fn one_value(rt: HostRuntime) -> Result<(), Fail> {
     let alloc = rt.alloc();
-    let start: (Fixed<Be<u16>, Magic>, u8) = (Fixed::new(), 7);
+    let start: (Magic<Be<u16>, Signature>, u8) = (Magic::new(), 7);
     expect_packed(alloc, (), &start, 24, &[0x4D, 0x5A, 0x07])?;
     let bytes: &[u8] = &[0x4D, 0x5B, 0x07];
     let refusal = DekuError::Assertion("magic");
-    expect_refusal::<Fixed<Be<u16>, Magic>>(alloc, bytes, refusal, 16)
+    expect_refusal::<Magic<Be<u16>, Signature>>(alloc, bytes, refusal, 16)
 }
 
 // A record that holds memory: a text, and in front of it how many bytes it has.
@@ -58,10 +58,10 @@ struct Text {
     bytes: Vec<u8>,
 }
 
-impl Parted<()> for Text {
+impl FromParts<()> for Text {
     ghost use Rattle.std.specs.Prelude.{refl};
 
-    type Parts = Led<u8, u8>;
+    type Parts = Counted<u8, u8>;
 
     ghost parts_of = { λ t. record { head = t.length; items = t.bytes } };
 
@@ -90,11 +90,11 @@ impl Record for Text {
 impl DekuReader<()> for Text {
     ghost use Rattle.deku.specs.Outcomes.{Mapped};
 
-    ghost accepts = { ⟦<Led<u8, u8> as DekuReader<()>>⟧.accepts };
+    ghost accepts = { ⟦<Counted<u8, u8> as DekuReader<()>>⟧.accepts };
 
-    ghost prompt = { ⟦<Led<u8, u8> as DekuReader<()>>⟧.prompt };
+    ghost no_read_ahead = { ⟦<Counted<u8, u8> as DekuReader<()>>⟧.no_read_ahead };
 
-    ghost meaning = { λ _. Mapped ⟦<Text as Parted<()>>⟧.record_of (⟦<Led<u8, u8> as DekuReader<()>>⟧.meaning tt) };
+    ghost meaning = { λ _. Mapped ⟦<Text as FromParts<()>>⟧.record_of (⟦<Counted<u8, u8> as DekuReader<()>>⟧.meaning tt) };
 
     fn from_reader_with_ctx<R: Source>(
         reader: &mut Reader<R>,
@@ -105,12 +105,12 @@ impl DekuReader<()> for Text {
 }
 
 impl DekuWriter<()> for Text {
-    ghost accepts = { ⟦<Led<u8, u8> as DekuWriter<()>>⟧.accepts };
+    ghost accepts = { ⟦<Counted<u8, u8> as DekuWriter<()>>⟧.accepts };
 
-    ghost meaning = { λ v _. ⟦<Led<u8, u8> as DekuWriter<()>>⟧.meaning (⟦<Text as Parted<()>>⟧.parts_of v) tt };
+    ghost meaning = { λ v _. ⟦<Counted<u8, u8> as DekuWriter<()>>⟧.meaning (⟦<Text as FromParts<()>>⟧.parts_of v) tt };
 
     fn to_writer<W: Sink>(&self, writer: &mut Writer<W>, _ctx: ()) -> Result<(), DekuError> {
-        write_led(&self.length, &self.bytes, writer)
+        write_counted(&self.length, &self.bytes, writer)
     }
 }
 
@@ -134,7 +134,7 @@ struct Pair {
 // Its fields as they lie.
 type PairParts = (u16, u32);
 
-impl Parted<Endian> for Pair {
+impl FromParts<Endian> for Pair {
     ghost use Rattle.std.specs.Prelude.{refl};
 
     type Parts = PairParts;
@@ -172,9 +172,9 @@ impl DekuReader<Endian> for Pair {
 
     ghost accepts = { ⟦<PairParts as DekuReader<Endian>>⟧.accepts };
 
-    ghost prompt = { ⟦<PairParts as DekuReader<Endian>>⟧.prompt };
+    ghost no_read_ahead = { ⟦<PairParts as DekuReader<Endian>>⟧.no_read_ahead };
 
-    ghost meaning = { λ c. Mapped ⟦<Pair as Parted<Endian>>⟧.record_of (⟦<PairParts as DekuReader<Endian>>⟧.meaning c) };
+    ghost meaning = { λ c. Mapped ⟦<Pair as FromParts<Endian>>⟧.record_of (⟦<PairParts as DekuReader<Endian>>⟧.meaning c) };
 
     fn from_reader_with_ctx<R: Source>(
         reader: &mut Reader<R>,
@@ -187,7 +187,7 @@ impl DekuReader<Endian> for Pair {
 impl DekuWriter<Endian> for Pair {
     ghost accepts = { ⟦<PairParts as DekuWriter<Endian>>⟧.accepts };
 
-    ghost meaning = { λ v c. ⟦<PairParts as DekuWriter<Endian>>⟧.meaning (⟦<Pair as Parted<Endian>>⟧.parts_of v) c };
+    ghost meaning = { λ v c. ⟦<PairParts as DekuWriter<Endian>>⟧.meaning (⟦<Pair as FromParts<Endian>>⟧.parts_of v) c };
 
     fn to_writer<W: Sink>(&self, writer: &mut Writer<W>, ctx: Endian) -> Result<(), DekuError> {
         write_record(self, writer, ctx)

@@ -9,7 +9,7 @@ use std::test::Fail;
 #[derive(Clone, Copy)]
 pub enum Refusal {
     /// The input ended before so many bits.
-    Ended(usize),
+    Until(usize),
     /// The count would be past its type.
     Past,
     /// The device or the memory failed.
@@ -26,7 +26,7 @@ impl Refusal {
     /// The error that says so.
     pub fn error(self) -> DekuError {
         match self {
-            Refusal::Ended(bits) => DekuError::Incomplete(NeedSize::new(bits)),
+            Refusal::Until(bits) => DekuError::Incomplete(NeedSize::new(bits)),
             Refusal::Past => DekuError::InvalidParam("count past usize"),
             Refusal::Io(kind) => DekuError::Io(kind),
         }

@@ -10,14 +10,14 @@ use std::process::Abort;
 // A refusal in a table: the end of input, where so many bits were wanted, or another one.
 #[derive(Clone, Copy)]
 pub enum Refusal {
-    Ended(usize),
+    Until(usize),
     Said(DekuError),
 }
 
 impl Refusal {
     pub fn error(self) -> DekuError {
         match self {
-            Refusal::Ended(bits) => DekuError::Incomplete(NeedSize::new(bits)),
+            Refusal::Until(bits) => DekuError::Incomplete(NeedSize::new(bits)),
             Refusal::Said(error) => error,
         }
     }

@@ -2,7 +2,7 @@
 //!
 //! Of deku's own tests of maps, `test_hashmap_write` has no counterpart: it pins the order in which another hasher walks.
 
-use super::expecting::Refusal::Ended;
+use super::expecting::Refusal::Until;
 use super::expecting::{
     Refusal, expect_refusal, expect_written, next_byte, rest_of, same, written,
 };
@@ -81,7 +81,7 @@ const ROWS: [Row; 4] = [
         32,
     ),
     // A map refused in a pair is refused behind what of it was read.
-    (&[1, 2, 3], Stop::End, Err(Ended(8)), 24),
+    (&[1, 2, 3], Stop::End, Err(Until(8)), 24),
 ];
 
 // The map has these pairs, and no others.

@@ -1,6 +1,6 @@
 //! Lists under limits.
 
-use super::expecting::Refusal::{Ended, Said};
+use super::expecting::Refusal::{Until, Said};
 use super::expecting::{
     Answer, Refusal, expect_answer, expect_bytes, expect_written, next_byte, rest_of, same, same_at,
 };
@@ -162,7 +162,7 @@ const RUNS: [Run; 10] = [
         "up to a count that is not there",
         &[1, 2],
         &[
-            Step::Octets(Stop::Count(usize::MAX), Err(Ended(8))),
+            Step::Octets(Stop::Count(usize::MAX), Err(Until(8))),
             Step::Read(16),
         ],
     ),
@@ -181,7 +181,7 @@ const RUNS: [Run; 10] = [
     (
         "over so many bits",
         &[1, 2, 3],
-        &[Step::Octets(Stop::Bits(12), Err(Ended(8))), Step::Read(24)],
+        &[Step::Octets(Stop::Bits(12), Err(Until(8))), Step::Read(24)],
     ),
     (
         "over more bits than can be counted",
@@ -220,7 +220,7 @@ const RUNS: [Run; 10] = [
         &[
             Step::AtOnce(2, Ok(&[1, 2])),
             Step::AtOnce(0, Ok(&[])),
-            Step::AtOnce(2, Err(Ended(16))),
+            Step::AtOnce(2, Err(Until(16))),
             Step::Read(16),
         ],
     ),
@@ -233,8 +233,8 @@ const RUNS: [Run; 10] = [
             Step::Rest(&[true, true, true, false]),
             Step::AtOnce(usize::MAX, Err(PAST_COUNT)),
             Step::Read(20),
-            Step::AtOnce(2, Err(Ended(16))),
-            Step::AtOnce(0, Err(Ended(16))),
+            Step::AtOnce(2, Err(Until(16))),
+            Step::AtOnce(0, Err(Until(16))),
         ],
     ),
 ];
@@ -289,7 +289,7 @@ type Zero = (&'static [u8], Answer<u8>, Step);
 
 const ZEROS: [Zero; 2] = [
     (&[0xAA, 0x00, 0xBB], Ok(&[0xAA, 0x00]), Step::Next(0xBB)),
-    (&[1, 2], Err(Ended(8)), Step::Read(16)),
+    (&[1, 2], Err(Until(8)), Step::Read(16)),
 ];
 
 #[test]

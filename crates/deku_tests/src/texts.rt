@@ -1,6 +1,6 @@
 //! Texts that end with a zero.
 
-use super::expecting::Refusal::{Ended, Said};
+use super::expecting::Refusal::{Until, Said};
 use super::expecting::{
     Answer, Refusal, expect_bytes, expect_refusal, expect_written, next_byte, same, same_at,
 };
@@ -147,7 +147,7 @@ const RUNS: [(&str, &[u8], &[Step]); 6] = [
     (
         "up to a zero that is not there",
         b"test",
-        &[Step::UpToZero(Err(Ended(8))), Step::Read(32)],
+        &[Step::UpToZero(Err(Until(8))), Step::Read(32)],
     ),
     (
         "within five bytes, and none",
@@ -174,10 +174,10 @@ const RUNS: [(&str, &[u8], &[Step]); 6] = [
         "behind the end",
         b"test",
         &[
-            Step::Within(5, Err(Ended(8))),
+            Step::Within(5, Err(Until(8))),
             Step::Read(32),
-            Step::Number(Err(Ended(8))),
-            Step::UpToZero(Err(Ended(8))),
+            Step::Number(Err(Until(8))),
+            Step::UpToZero(Err(Until(8))),
             Step::Seek(2),
             Step::Number(Ok(0x7374)),
         ],

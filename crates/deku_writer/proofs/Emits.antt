@@ -12,9 +12,9 @@ use Rattle.deku_stream.specs.declared.error.Fault.{Fault}
 use Rattle.deku_stream.specs.Bits.{bin, group_number, word_of, facing, shown}
 use Rattle.deku_stream.specs.Pieces.{filled}
 use Rattle.deku_stream.specs.Writers.{Pending, Nothing, held, pending_bits, Written, cut, append, padded, finalized}
-use Rattle.deku_device.specs.Devices.{SinkTold, Gave, LacksRoom, More}
+use Rattle.deku_device.specs.Devices.{KnownSink, Gave, LacksRoom, More}
 use Rattle.deku_stream.specs.Standings.{Standing, Going, Stopped, Output, output_of, writer_state}
-use Rattle.deku_stream.specs.Outcomes.{Quiet, Broken, Breaks, Counted}
+use Rattle.deku_stream.specs.Outcomes.{Quiet, Broken, Breaks, CountsBits}
 use Rattle.deku_writer.specs.WriterCalls.{WritesAt, TookSome, GivesOut, Emits, WritesBits, WritesWord, Finalizes}
 use Rattle.deku_stream.specs.Kept.{standing_of}
 use Rattle.deku_writer.specs.Pushing.{onto_bytes, GaveUp, PushedOnto}
@@ -30,18 +30,18 @@ use Rattle.deku_writer.proofs.Pushes.{emitted_one, remainder_one}
 use Rattle.deku_writer.proofs.Onto.{append_same}
 
 -- ---- a call that gives out what writing makes
-module _ (write : Pending → Written) (t : SinkTold) (P : Pending) (c : ℕ) where
+module _ (write : Pending → Written) (t : KnownSink) (P : Pending) (c : ℕ) where
   emits_full : (words : Bor (List ℕ)) → 2 ^ 64 ≤ c + 8 * length (write P).bytes → words.now ≡ codes "count past usize"
       → WritesAt (Emits write) t (Going P c) (Err (InvalidParam words)) t (Going P c)
   emits_full words past says = Quiet (inl (past, (words, says, refl, refl))) (no_fewer_same t.health)
 
-  emits_done : (after : SinkTold) (Q : Pending) (d : ℕ) → c + 8 * length (write P).bytes < 2 ^ 64 → Gave t after (write P).bytes → Q ≡ (write P).pending → d ≡ c + 8 * length (write P).bytes
+  emits_done : (after : KnownSink) (Q : Pending) (d : ℕ) → c + 8 * length (write P).bytes < 2 ^ 64 → Gave t after (write P).bytes → Q ≡ (write P).pending → d ≡ c + 8 * length (write P).bytes
       → WritesAt (Emits write) t (Going P c) (Ok tt) after (Going Q d)
   emits_done after Q d fits g p e = Quiet
       (inr (fits, inl (record { taken = after.taken; room = after.room; pending = Q }, record { taken = g.taken; room = g.room; pending = p }, refl, ap (Going (record { taken = after.taken; room = after.room; pending = Q })) e)))
       g.health
 
-  emits_stopped : (after : SinkTold) (k : ErrorKind) → c + 8 * length (write P).bytes < 2 ^ 64 → GaveUp t after (write P).bytes k
+  emits_stopped : (after : KnownSink) (k : ErrorKind) → c + 8 * length (write P).bytes < 2 ^ 64 → GaveUp t after (write P).bytes k
       → WritesAt (Emits write) t (Going P c) (Err (Io k)) after (Stopped Nothing (Io k) c)
   emits_stopped after k fits f =
       let left : Output = output_of after Nothing in
@@ -59,24 +59,24 @@ counted from to h bits l =
     let k = count_law.0 to bits (held from h) (omega arith) in
     omega (arith, k.0, k.1)
 
-pub write_nothing : (t : SinkTold) (from to : Order) (h bits : List Bool) (w : ℕ) → length bits ≡ 0 → w < 2 ^ 64
+pub write_nothing : (t : KnownSink) (from to : Order) (h bits : List Bool) (w : ℕ) → length bits ≡ 0 → w < 2 ^ 64
     → WritesAt (WritesBits to bits) t (standing_of (held from h) None w) (Ok tt) t (standing_of (held from h) None w)
 unfolding append
 write_nothing t from to h [] w n s = emits_done (append to []) t (held from h) w t (held from h) w (omega arith) (Gave-nil t) refl (omega arith)
 write_nothing t from to h (b ∷ bits) w n s = absurd (omega arith)
 
-pub write_full : (t : SinkTold) (from to : Order) (h bits : List Bool) (w n : ℕ) (words : Bor (List ℕ)) → length h < 8 → n ≡ (length h + length bits) / 8 → (2 ^ 64 - 1 - w) / 8 < n
+pub write_full : (t : KnownSink) (from to : Order) (h bits : List Bool) (w n : ℕ) (words : Bor (List ℕ)) → length h < 8 → n ≡ (length h + length bits) / 8 → (2 ^ 64 - 1 - w) / 8 < n
     → words.now ≡ codes "count past usize" → WritesAt (WritesBits to bits) t (standing_of (held from h) None w) (Err (InvalidParam words)) t (standing_of (held from h) None w)
 write_full t from to h bits w n words l e past says =
     emits_full (append to bits) t (held from h) w words (rw (counted from to h bits l, ← e) (omega arith)) says
 
-pub write_done : (t after : SinkTold) (from to : Order) (h hs bits : List Bool) (w n : ℕ) → length h < 8 → n ≡ (length h + length bits) / 8 → n ≤ (2 ^ 64 - 1 - w) / 8 → w < 2 ^ 64
+pub write_done : (t after : KnownSink) (from to : Order) (h hs bits : List Bool) (w n : ℕ) → length h < 8 → n ≡ (length h + length bits) / 8 → n ≤ (2 ^ 64 - 1 - w) / 8 → w < 2 ^ 64
     → PushedOnto t after from to h hs bits → WritesAt (WritesBits to bits) t (standing_of (held from h) None w) (Ok tt) after (standing_of (held to hs) None (w + 8 * n))
 write_done t after from to h hs bits w n l e fits s m =
     let b : length (append to bits (held from h)).bytes ≡ n = counted from to h bits l ∙ sym e in
     emits_done (append to bits) t (held from h) w after (held to hs) (w + 8 * n) (rw b (omega arith)) m.gave m.rest (rw b refl)
 
-pub write_stopped : (t after : SinkTold) (from to : Order) (h bits : List Bool) (w n : ℕ) (k : ErrorKind) → length h < 8 → n ≡ (length h + length bits) / 8 → n ≤ (2 ^ 64 - 1 - w) / 8 → w < 2 ^ 64
+pub write_stopped : (t after : KnownSink) (from to : Order) (h bits : List Bool) (w n : ℕ) (k : ErrorKind) → length h < 8 → n ≡ (length h + length bits) / 8 → n ≤ (2 ^ 64 - 1 - w) / 8 → w < 2 ^ 64
     → GaveUp t after (onto_bytes from to h bits) k → WritesAt (WritesBits to bits) t (standing_of (held from h) None w) (Err (Io k)) after (Stopped Nothing (Io k) w)
 write_stopped t after from to h bits w n k l e fits s f =
     let b : length (append to bits (held from h)).bytes ≡ n = counted from to h bits l ∙ sym e in
@@ -120,10 +120,10 @@ finalized_is o (b ∷ s) l =
     none Msb0 = refl
     none Lsb0 = refl
 
-same_emits : (write other : Pending → Written) (t after : SinkTold) (P : Pending) (c : ℕ) (r : Result (Unit {0}) DekuError) (u : Standing Pending) → write P ≡ other P
+same_emits : (write other : Pending → Written) (t after : KnownSink) (P : Pending) (c : ℕ) (r : Result (Unit {0}) DekuError) (u : Standing Pending) → write P ≡ other P
     → WritesAt (Emits write) t (Going P c) r after u → WritesAt (Emits other) t (Going P c) r after u
 same_emits write other t after P c r u e m = elim m [
-  | Quiet q h ↦ Quiet (subst (λ W. Counted (8 * length W.bytes) (GivesOut W) (output_of t P) c r (writer_state after u)) e q) h
+  | Quiet q h ↦ Quiet (subst (λ W. CountsBits (8 * length W.bytes) (GivesOut W) (output_of t P) c r (writer_state after u)) e q) h
   | Broken f b h ↦ Broken f (subst (λ W. Breaks (TookSome W.bytes (output_of t P)) c r (writer_state after u)) e b) h
 ]
 
@@ -150,7 +150,7 @@ any_zeros : (o : Order) (n : ℕ) → n < 8 → shown o (replicate n false) ≡ 
 any_zeros o zero l = shown_none o
 any_zeros o (suc n) l = shown_zeros o (suc n) (omega arith) l
 
-pub zeros_written : (o : Order) (n : ℕ) (t : SinkTold) (s : Standing Pending) (r : Result (Unit {0}) DekuError) (after : SinkTold) (u : Standing Pending) → n < 8
+pub zeros_written : (o : Order) (n : ℕ) (t : KnownSink) (s : Standing Pending) (r : Result (Unit {0}) DekuError) (after : KnownSink) (u : Standing Pending) → n < 8
     → WritesAt (WritesWord o n 0) t s r after u → WritesAt (WritesBits o (replicate n false)) t s r after u
 zeros_written o n t s r after u l m =
     weaker (WritesWord o n 0) (WritesBits o (replicate n false)) (writer_state t s) t.health r (writer_state after u) after.health
@@ -158,13 +158,13 @@ zeros_written o n t s r after u l m =
     let zeros : shown o x.0 ≡ replicate n false = ap (shown o) (only_zeros o n x.0 l x.1 x.2) ∙ any_zeros o n l in
     subst (λ bits. WritesBits o bits b (writer_state t s) r (writer_state after u)) zeros x.3) m
 
-pub finalizes : (o : Order) (h : List Bool) (w : ℕ) (f : Option Fault) (t after : SinkTold) (r : Result (Unit {0}) DekuError) (u : Standing Pending) → length h < 8
+pub finalizes : (o : Order) (h : List Bool) (w : ℕ) (f : Option Fault) (t after : KnownSink) (r : Result (Unit {0}) DekuError) (u : Standing Pending) → length h < 8
     → WritesAt (WritesBits o (replicate ((8 - length h) % 8) false)) t (standing_of (held o h) f w) r after u → WritesAt Finalizes t (standing_of (held o h) f w) r after u
 finalizes o h w None t after r u l m = same_emits (append o (replicate ((8 - length h) % 8) false)) finalized t after (held o h) w r u (finalized_is o h l) m
 finalizes o h w (Some f) t after r u l m = elim m [ Quiet q n ↦ Quiet q n | Broken b q n ↦ Broken b q n ]
 
 -- ---- a sink that has room, and whose calls do not fail
-pub succeeds_with_room : (write : Pending → Written) (t after : SinkTold) (P : Pending) (c : ℕ) (room : List ℕ) (r : Result (Unit {0}) DekuError) (u : Standing Pending)
+pub succeeds_with_room : (write : Pending → Written) (t after : KnownSink) (P : Pending) (c : ℕ) (room : List ℕ) (r : Result (Unit {0}) DekuError) (u : Standing Pending)
     → t.room ≡ Some room → t.health.failures ≡ Some 0 → after.health.failures ≡ Some 0 → c + 8 * length (write P).bytes < 2 ^ 64 → length (write P).bytes ≤ length room
     → WritesAt (Emits write) t (Going P c) r after u → r ≡ Ok tt
 succeeds_with_room write t after P c room r u has none still fits enough m = elim m [

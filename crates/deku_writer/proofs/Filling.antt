@@ -10,8 +10,8 @@ use Rattle.deku_stream.specs.declared.ctx.Order.{Order}
 use Rattle.deku_stream.specs.declared.ctx.Order.TheVariants.{Msb0}
 use Rattle.deku_stream.specs.Bits.{bits_of, facing, shown}
 use Rattle.deku_stream.specs.Writers.{held, pending_bits, cut, append}
-use Rattle.deku_device.specs.Cursors.{slice_told}
-use Rattle.deku_device.specs.Devices.{SinkTold, Gave, bytes_before}
+use Rattle.deku_device.specs.Cursors.{known_slice}
+use Rattle.deku_device.specs.Devices.{KnownSink, Gave, bytes_before}
 use Rattle.deku_writer.specs.Pushing.{onto_bytes, word_bits, Fills, FillsOnto, Pushed, GaveUp, PushedOnto}
 use Rattle.deku_stream.proofs.Appends.{count_law}
 use Rattle.deku_stream.proofs.Binary.{facing-facing, length-bits_of}
@@ -58,23 +58,23 @@ high_behind from h hs n k out behind some f =
     ⊎_elim (λ none. none_filled from Msb0 h hs (bits_of n k) out none long f) (λ same. rw same (same_filled Msb0 h hs (bits_of n k) out long f)) behind
 
 -- that are whole bytes, behind none
-pub high_behind_none : (a b : SinkTold) (from : Order) (h : List Bool) (n k : ℕ) → length h ≡ 0 → 0 < n → Pushed a b Msb0 [] [] (bits_of n k) → PushedOnto a b from Msb0 h h (bits_of n k)
+pub high_behind_none : (a b : KnownSink) (from : Order) (h : List Bool) (n k : ℕ) → length h ≡ 0 → 0 < n → Pushed a b Msb0 [] [] (bits_of n k) → PushedOnto a b from Msb0 h h (bits_of n k)
 unfolding shown
 high_behind_none a b from [] n k none some m = empty_onto a b from Msb0 [] [] (bits_of n k) none (rw length-bits_of some) m
 high_behind_none a b from (x ∷ h) n k none some m = absurd (omega arith)
 
 -- a sink took the bytes
-pub onto_given : (a b : SinkTold) (from to : Order) (h hs bits : List Bool) (out : List ℕ) → FillsOnto from to h hs bits out → Gave a b out → PushedOnto a b from to h hs bits
+pub onto_given : (a b : KnownSink) (from to : Order) (h hs bits : List Bool) (out : List ℕ) → FillsOnto from to h hs bits out → Gave a b out → PushedOnto a b from to h hs bits
 onto_given a b from to h hs bits out f g = record { gave = subst (λ x. Gave a b x) f.bytes g; rest = f.rest; short = f.short }
 
 -- a sink gave up
-pub onto_declined : (a b : SinkTold) (from to : Order) (h hs bits : List Bool) (out : List ℕ) (k : ErrorKind) → FillsOnto from to h hs bits out → GaveUp a b out k
+pub onto_declined : (a b : KnownSink) (from to : Order) (h hs bits : List Bool) (out : List ℕ) (k : ErrorKind) → FillsOnto from to h hs bits out → GaveUp a b out k
     → GaveUp a b (onto_bytes from to h bits) k
 onto_declined a b from to h hs bits out k f g = subst (λ x. GaveUp a b x k) f.bytes g
 
 -- a slice that has room for them does not
 pub room_enough : (c d : Cursor (MutBor (List ℕ))) (from to : Order) (h bits : List Bool) (k : ErrorKind) → cursor_position c ≡ 0 → length h < 8
-    → (length h + length bits) / 8 ≤ length (cursor_inner c).now → GaveUp (slice_told c) (slice_told d) (onto_bytes from to h bits) k → ⊥
+    → (length h + length bits) / 8 ≤ length (cursor_inner c).now → GaveUp (known_slice c) (known_slice d) (onto_bytes from to h bits) k → ⊥
 room_enough c d from to h bits k begins less room f =
     let few : length (pending_bits (held from h)) < 8 = rw pending_bits-held less in
     let all = count_law.0 to bits (held from h) few in
@@ -116,13 +116,13 @@ one_name : (k n : GName) → k ∷ [] ≡ n ∷ [] → k ≡ n
 one_name k n e = cc
 
 module _ (c d : Cursor (MutBor (List ℕ))) (begins : cursor_position c ≡ 0) where
-  laid_first : (bytes : List ℕ) → Gave (slice_told c) (slice_told d) bytes → take (length bytes) (cursor_inner d).now ≡ bytes
+  laid_first : (bytes : List ℕ) → Gave (known_slice c) (known_slice d) bytes → take (length bytes) (cursor_inner d).now ≡ bytes
   laid_first bytes g =
       let none : bytes_before (cursor_position c) (cursor_inner c).now ≡ Some [] = rw begins (rw (leb-zero (length (cursor_inner c).now)) refl) in
       first_taken (cursor_position d) (cursor_inner d).now bytes (subst (λ t. Appends t (bytes_before (cursor_position d) (cursor_inner d).now) bytes) none g.taken)
 
   pub filled_room : (from to : Order) (h hs bits : List Bool) (n : ℕ) (out : List ℕ) → length h < 8 → length bits ≡ n → out ≡ (cursor_inner d).now
-      → PushedOnto (slice_told c) (slice_told d) from to h hs bits → FillsOnto from to h hs bits (take ((length h + n) / 8) out)
+      → PushedOnto (known_slice c) (known_slice d) from to h hs bits → FillsOnto from to h hs bits (take ((length h + n) / 8) out)
   filled_room from to h hs bits n out less long is p =
       let bytes : List ℕ = (append to bits (held from h)).bytes in
       let f : FillsOnto from to h hs bits bytes = record { bytes = refl; rest = p.rest; short = p.short } in
@@ -130,5 +130,5 @@ module _ (c d : Cursor (MutBor (List ℕ))) (begins : cursor_position c ≡ 0) w
       let same : take ((length h + n) / 8) out ≡ bytes = ap₂ (λ k l. take k l) count is ∙ laid_first bytes p.gave in
       subst (λ x. FillsOnto from to h hs bits x) (sym same) f
 
-  pub same_room : (bytes : List ℕ) → Gave (slice_told c) (slice_told d) bytes → (cursor_inner d).ghost_name ≡ (cursor_inner c).ghost_name
+  pub same_room : (bytes : List ℕ) → Gave (known_slice c) (known_slice d) bytes → (cursor_inner d).ghost_name ≡ (cursor_inner c).ghost_name
   same_room bytes g = one_name (cursor_inner d).ghost_name (cursor_inner c).ghost_name g.health.lenders

@@ -1,15 +1,15 @@
--- What is told through a reference is told of what it refers to.
+-- What is known through a reference is known of what it refers to.
 use Rattle.std.proofs.Common.{◌≡◌, List, ◌∷◌, refl, sym, Result}
 use Rattle.std.specs.Borrow.{GName}
 use Rattle.deku_stream.specs.declared.error.DekuError.{DekuError}
-use Rattle.deku_device.specs.Devices.{SinkTold}
+use Rattle.deku_device.specs.Devices.{KnownSink}
 use Rattle.deku_stream.specs.Writers.{Pending}
 use Rattle.deku_stream.specs.Standings.{Standing, Going, Stopped, Output, writer_state}
 use Rattle.deku_stream.specs.Outcomes.{Meaning, Quiet, Broken}
 use Rattle.deku_writer.specs.WriterCalls.{WritesAt}
 
--- what is told through a reference
-abbrev pub lent : GName → SinkTold → SinkTold
+-- what is known through a reference
+abbrev pub lent : GName → KnownSink → KnownSink
 lent a t = record { taken = t.taken; room = t.room; health = record { failures = t.health.failures; lenders = a ∷ t.health.lenders; whole = t.health.whole } }
 
 first : {A : Type 0} (x y : A) (xs ys : List A) → x ∷ xs ≡ y ∷ ys → x ≡ y
@@ -18,11 +18,11 @@ first x y xs ys e = cc
 rest : {A : Type 0} (x y : A) (xs ys : List A) → x ∷ xs ≡ y ∷ ys → xs ≡ ys
 rest x y xs ys e = cc
 
-state_lent : (a : GName) (t : SinkTold) (u : Standing Pending) → writer_state (lent a t) u ≡ writer_state t u
+state_lent : (a : GName) (t : KnownSink) (u : Standing Pending) → writer_state (lent a t) u ≡ writer_state t u
 state_lent a t (Going p c) = refl
 state_lent a t (Stopped p e c) = refl
 
-module _ (m : Meaning Output (Unit {0})) (t after : SinkTold) (a b : GName) (s : Standing Pending) (r : Result (Unit {0}) DekuError) (u : Standing Pending) where
+module _ (m : Meaning Output (Unit {0})) (t after : KnownSink) (a b : GName) (s : Standing Pending) (r : Result (Unit {0}) DekuError) (u : Standing Pending) where
   -- the reference is the same
   pub lender_stays : WritesAt m (lent a t) s r (lent b after) u → a ≡ b
   lender_stays o = elim o [

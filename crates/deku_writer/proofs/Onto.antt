@@ -7,7 +7,7 @@ use Rattle.deku_stream.specs.declared.ctx.Order.TheVariants.{Msb0, Lsb0}
 use Rattle.deku_writer.specs.declared.writer.way.Way.TheVariants.{BytesBackward}
 use Rattle.deku_stream.specs.Bits.{bin, chunks, facing, shown}
 use Rattle.deku_stream.specs.Writers.{held, Written, remainder, cut, cross_append, append}
-use Rattle.deku_device.specs.Devices.{SinkTold, Gave}
+use Rattle.deku_device.specs.Devices.{KnownSink, Gave}
 use Rattle.deku_writer.specs.Pushing.{along, full_bytes, onto_bytes, Pushed, GaveUp, PushedOnto}
 use Rattle.deku_stream.proofs.Binary.{facing-facing}
 use Rattle.deku_stream.proofs.Groups.{by_groups, chunks-full}
@@ -17,7 +17,7 @@ use Rattle.deku_stream.proofs.Writing.{append_some, held_some, pending_bits-held
 use Rattle.deku_stream.proofs.Appends.{emitted-append, remainder-append}
 use Rattle.deku_writer.proofs.Pushes.{emitted_one, Pushed-short}
 
-pushed_onto : (a b : SinkTold) (from to : Order) (h hs bits : List Bool) (W : Written) → append to bits (held from h) ≡ W → Gave a b W.bytes → held to hs ≡ W.pending → length hs < 8
+pushed_onto : (a b : KnownSink) (from to : Order) (h hs bits : List Bool) (W : Written) → append to bits (held from h) ≡ W → Gave a b W.bytes → held to hs ≡ W.pending → length hs < 8
     → PushedOnto a b from to h hs bits
 pushed_onto a b from to h hs bits W e g p l = record { gave = subst (λ V. Gave a b V.bytes) (sym e) g; rest = p ∙ sym (ap (λ V. V.pending) e); short = l }
 
@@ -27,23 +27,23 @@ append_same o h bits s =
     append_some o bits (held o h) s (meets_held o h) ∙ ap (λ l. cut o (facing o l ++ shown o bits)) (pending_bits-held o h)
 
 -- what is left of a cut is pending, high bit first
-left_over : {a b : SinkTold} {o : Order} {h hs xs : List Bool} → Pushed a b o h hs xs → held o hs ≡ (cut o (facing o h ++ xs)).pending
+left_over : {a b : KnownSink} {o : Order} {h hs xs : List Bool} → Pushed a b o h hs xs → held o hs ≡ (cut o (facing o h ++ xs)).pending
 left_over {a} {b} {o} {h} {hs} {xs} m = ap (held o) (sym (facing-facing o hs) ∙ ap (facing o) m.rest)
 
-pub same_onto : (a b : SinkTold) (o : Order) (h hs bits : List Bool) → 0 < length bits → Pushed a b o h hs (shown o bits) → PushedOnto a b o o h hs bits
+pub same_onto : (a b : KnownSink) (o : Order) (h hs bits : List Bool) → 0 < length bits → Pushed a b o h hs (shown o bits) → PushedOnto a b o o h hs bits
 same_onto a b o h hs bits s m =
     pushed_onto a b o o h hs bits (cut o (facing o h ++ shown o bits)) (append_same o h bits s) m.gave (left_over m) (Pushed-short m)
 
-pub same_stopped : (a b : SinkTold) (o : Order) (h bits : List Bool) (k : ErrorKind) → 0 < length bits → GaveUp a b (full_bytes o h (shown o bits)) k
+pub same_stopped : (a b : KnownSink) (o : Order) (h bits : List Bool) (k : ErrorKind) → 0 < length bits → GaveUp a b (full_bytes o h (shown o bits)) k
     → GaveUp a b (onto_bytes o o h bits) k
 same_stopped a b o h bits k s f = subst (λ W. GaveUp a b W.bytes k) (sym (append_same o h bits s)) f
 
-pub empty_stopped : (a b : SinkTold) (from to : Order) (h bits : List Bool) (k : ErrorKind) → length h ≡ 0 → 0 < length bits → GaveUp a b (full_bytes to h (shown to bits)) k
+pub empty_stopped : (a b : KnownSink) (from to : Order) (h bits : List Bool) (k : ErrorKind) → length h ≡ 0 → 0 < length bits → GaveUp a b (full_bytes to h (shown to bits)) k
     → GaveUp a b (onto_bytes from to h bits) k
 empty_stopped a b from to [] bits k n s f = subst (λ W. GaveUp a b W.bytes k) (sym (append_same to [] bits s)) f
 empty_stopped a b from to (x ∷ h) bits k n s f = absurd (omega arith)
 
-pub empty_onto : (a b : SinkTold) (from to : Order) (h hs bits : List Bool) → length h ≡ 0 → 0 < length bits → Pushed a b to h hs (shown to bits) → PushedOnto a b from to h hs bits
+pub empty_onto : (a b : KnownSink) (from to : Order) (h hs bits : List Bool) → length h ≡ 0 → 0 < length bits → Pushed a b to h hs (shown to bits) → PushedOnto a b from to h hs bits
 empty_onto a b from to [] hs bits n s m =
     pushed_onto a b from to [] hs bits (cut to (facing to [] ++ shown to bits)) (append_same to [] bits s) m.gave (left_over m) (Pushed-short m)
 empty_onto a b from to (x ∷ h) hs bits n s m = absurd (omega arith)
@@ -55,12 +55,12 @@ append_into [] bits p s = absurd (omega arith)
 append_into (x ∷ h) [] p s = absurd (omega arith)
 append_into (x ∷ h) (b ∷ bits) p s = refl
 
-pub into_onto : (a b : SinkTold) (h hs bits : List Bool) → 0 < length h → 0 < length bits
+pub into_onto : (a b : KnownSink) (h hs bits : List Bool) → 0 < length h → 0 < length bits
     → Pushed a b Msb0 [] hs (take (min (8 - length bits % 8) (length h)) h ++ bits ++ drop (min (8 - length bits % 8) (length h)) h) → PushedOnto a b Msb0 Lsb0 h hs bits
 into_onto a b h hs bits p s m =
     pushed_onto a b Msb0 Lsb0 h hs bits (cross_append Lsb0 bits h) (append_into h bits p s) m.gave (ap (held Lsb0) m.rest) (Pushed-short m)
 
-pub into_stopped : (a b : SinkTold) (h bits : List Bool) (k : ErrorKind) → 0 < length h → 0 < length bits
+pub into_stopped : (a b : KnownSink) (h bits : List Bool) (k : ErrorKind) → 0 < length h → 0 < length bits
     → GaveUp a b (full_bytes Msb0 [] (take (min (8 - length bits % 8) (length h)) h ++ bits ++ drop (min (8 - length bits % 8) (length h)) h)) k
     → GaveUp a b (onto_bytes Msb0 Lsb0 h bits) k
 into_stopped a b h bits k p s f = subst (λ W. GaveUp a b W.bytes k) (sym (append_into h bits p s)) f
@@ -113,7 +113,7 @@ module _ (h bits : List Bool) (p : 0 < length h) (s : 0 < length bits) where
   pub above_left : remainder (turned_back ++ take (length bits % 8) bits ++ h) ≡ remainder low
   above_left = ap remainder parts ∙ remainder-append turned_back low ∙ ap (λ l. remainder (l ++ low)) none_left
 
-pub above_onto : (a b : SinkTold) (h hs bits : List Bool) → 0 < length h → 0 < length bits
+pub above_onto : (a b : KnownSink) (h hs bits : List Bool) → 0 < length h → 0 < length bits
     → Pushed a b Msb0 [] hs (along BytesBackward (drop (length bits % 8) bits) ++ take (length bits % 8) bits ++ h) → PushedOnto a b Lsb0 Msb0 h hs bits
 above_onto a b h hs bits p s m = record {
   gave = subst (λ l. Gave a b l) (above_bytes_out h bits p s) m.gave;
@@ -121,7 +121,7 @@ above_onto a b h hs bits p s m = record {
   short = Pushed-short m;
 }
 
-pub above_stopped_onto : (a b : SinkTold) (h bits : List Bool) (k : ErrorKind) → 0 < length h → 0 < length bits
+pub above_stopped_onto : (a b : KnownSink) (h bits : List Bool) (k : ErrorKind) → 0 < length h → 0 < length bits
     → GaveUp a b (full_bytes Msb0 [] (along BytesBackward (drop (length bits % 8) bits) ++ take (length bits % 8) bits ++ h)) k → GaveUp a b (onto_bytes Lsb0 Msb0 h bits) k
 above_stopped_onto a b h bits k p s f = subst (λ l. GaveUp a b l k) (above_bytes_out h bits p s) f
 

@@ -10,7 +10,7 @@ use Rattle.deku_stream.specs.declared.ctx.Order.{Order}
 use Rattle.deku_stream.specs.declared.ctx.Order.TheVariants.{Msb0, Lsb0}
 use Rattle.deku_stream.specs.Bits.{byte_bits, bits_in, shown}
 use Rattle.deku_stream.specs.Writers.{held, remainder, append, cross_append}
-use Rattle.deku_device.specs.Devices.{SinkTold, Gave}
+use Rattle.deku_device.specs.Devices.{KnownSink, Gave}
 use Rattle.deku_writer.specs.Pushing.{full_bytes, onto_bytes, Fills, Pushed, GaveUp, PushedOnto}
 use Rattle.deku_stream.proofs.BitPlaces.{length-bits_in}
 use Rattle.deku_stream.proofs.Bytes.{IsByte, bytes_of-bits_in}
@@ -34,7 +34,7 @@ remainder-bytes [] = refl
 remainder-bytes (b ∷ bs) = remainder-full (byte_bits b) (bits_in bs) (length-byte_bits b) ∙ remainder-bytes bs
 
 -- bytes given at once went out as their bits
-pub given_at_once : (a b : SinkTold) (bs : List ℕ) → All IsByte bs → Gave a b bs → Pushed a b Msb0 [] [] (bits_in bs)
+pub given_at_once : (a b : KnownSink) (bs : List ℕ) → All IsByte bs → Gave a b bs → Pushed a b Msb0 [] [] (bits_in bs)
 given_at_once a b bs h g = record { gave = rw (emitted-bytes bs h) g; rest = sym (remainder-bytes bs) }
 
 -- ---- one byte after the other
@@ -68,7 +68,7 @@ run_more bs i l =
     let m : 64 * i + min 64 (length bs - 64 * i) - 64 * i ≡ min 64 (length (drop (64 * i) bs)) = omega (arith, length-drop (64 * i) bs) in
     rw (n, m, take_within (drop (64 * i) bs) 64) (take-add (64 * i) 64 bs)
 
-module _ (a b c : SinkTold) (h hs : List Bool) (bs : List ℕ) (i : ℕ) (inside : 64 * i < length bs) (short : length h < 8) (so_far : Pushed a b Msb0 h hs (bits_in (take (64 * i) bs))) where
+module _ (a b c : KnownSink) (h hs : List Bool) (bs : List ℕ) (i : ℕ) (inside : 64 * i < length bs) (short : length h < 8) (so_far : Pushed a b Msb0 h hs (bits_in (take (64 * i) bs))) where
   abbrev run : List ℕ
   run = take (64 * i + min 64 (length bs - 64 * i) - 64 * i) (drop (64 * i) bs)
 
@@ -86,11 +86,11 @@ module _ (a b c : SinkTold) (h hs : List Bool) (bs : List ℕ) (i : ℕ) (inside
       subst (λ x. GaveUp a c (full_bytes Msb0 h x) k) (sym (flat_map-append byte_bits (take n bs) (drop n bs)) ∙ ap bits_in (take-append-drop n bs))
       (gave_up-longer a c Msb0 h (bits_in (take n bs)) (bits_in (drop n bs)) k tried)
 
-pub runs_all : (a b : SinkTold) (h hs : List Bool) (bs : List ℕ) (i : ℕ) → length bs ≤ 64 * i → Pushed a b Msb0 h hs (bits_in (take (64 * i) bs)) → Pushed a b Msb0 h hs (bits_in bs)
+pub runs_all : (a b : KnownSink) (h hs : List Bool) (bs : List ℕ) (i : ℕ) → length bs ≤ 64 * i → Pushed a b Msb0 h hs (bits_in (take (64 * i) bs)) → Pushed a b Msb0 h hs (bits_in bs)
 runs_all a b h hs bs i l m = rw (take_all (64 * i) bs l) at m
 
 -- ---- run by run, the last byte first
-module _ (a b c : SinkTold) (bs : List ℕ) (i : ℕ) (inside : 64 * i < length bs) (so_far : Gave a b (reverse (drop (length bs - 64 * i) bs))) where
+module _ (a b c : KnownSink) (bs : List ℕ) (i : ℕ) (inside : 64 * i < length bs) (so_far : Gave a b (reverse (drop (length bs - 64 * i) bs))) where
   abbrev end : ℕ
   end = length bs - 64 * i
 
@@ -116,23 +116,23 @@ module _ (a b c : SinkTold) (bs : List ℕ) (i : ℕ) (inside : 64 * i < length 
       subst (λ x. GaveUp a c x k) (sym (reverse-append (take n bs) (drop n bs)) ∙ ap reverse (take-append-drop n bs))
       (gave_up-more a c (reverse (drop n bs)) (reverse (take n bs)) k tried)
 
-pub above_none : (a : SinkTold) (bs : List ℕ) → Gave a a [] → Gave a a (reverse (drop (length bs - 64 * 0) bs))
+pub above_none : (a : KnownSink) (bs : List ℕ) → Gave a a [] → Gave a a (reverse (drop (length bs - 64 * 0) bs))
 above_none a bs g = rw (drop_all (length bs - 64 * 0) bs (omega arith)) g
 
-pub above_all : (a b : SinkTold) (bs : List ℕ) (i : ℕ) → length bs ≤ 64 * i → Gave a b (reverse (drop (length bs - 64 * i) bs)) → Gave a b (reverse bs)
+pub above_all : (a b : KnownSink) (bs : List ℕ) (i : ℕ) → length bs ≤ 64 * i → Gave a b (reverse (drop (length bs - 64 * i) bs)) → Gave a b (reverse bs)
 above_all a b bs i l g = let e : length bs - 64 * i ≡ 0 = omega arith in rw e at g
 
 -- ---- onto held bits
 some_bits : (bs : List ℕ) → 0 < length bs → 0 < length (bits_in bs)
 some_bits bs p = omega (arith, length-bits_in bs)
 
-pub bytes_onto_none : (a b : SinkTold) (from : Order) (h : List Bool) (bs : List ℕ) → length h ≡ 0 → 0 < length bs → Pushed a b Msb0 [] [] (bits_in bs)
+pub bytes_onto_none : (a b : KnownSink) (from : Order) (h : List Bool) (bs : List ℕ) → length h ≡ 0 → 0 < length bs → Pushed a b Msb0 [] [] (bits_in bs)
     → PushedOnto a b from Msb0 h h (bits_in bs)
 unfolding shown
 bytes_onto_none a b from [] bs n p m = empty_onto a b from Msb0 [] [] (bits_in bs) n (some_bits bs p) m
 bytes_onto_none a b from (x ∷ h) bs n p m = absurd (omega arith)
 
-pub bytes_onto_same : (a b : SinkTold) (h hs : List Bool) (bs : List ℕ) → 0 < length bs → Pushed a b Msb0 h hs (bits_in bs) → PushedOnto a b Msb0 Msb0 h hs (bits_in bs)
+pub bytes_onto_same : (a b : KnownSink) (h hs : List Bool) (bs : List ℕ) → 0 < length bs → Pushed a b Msb0 h hs (bits_in bs) → PushedOnto a b Msb0 Msb0 h hs (bits_in bs)
 unfolding shown
 bytes_onto_same a b h hs bs p m = same_onto a b Msb0 h hs (bits_in bs) (some_bits bs p) m
 
@@ -145,25 +145,25 @@ above_bytes bs h all l =
     (ap (λ x. reverse x ++ emitted Msb0 h) (bytes_of-bits_in bs all) ∙ ap (λ x. reverse bs ++ x) (emitted-short Msb0 h l) ∙ append-nil (reverse bs))
     (remainder-short h l))
 
-pub bytes_onto_other : (a b : SinkTold) (h : List Bool) (bs : List ℕ) → 0 < length h → length h < 8 → 0 < length bs → All IsByte bs → Gave a b (reverse bs)
+pub bytes_onto_other : (a b : KnownSink) (h : List Bool) (bs : List ℕ) → 0 < length h → length h < 8 → 0 < length bs → All IsByte bs → Gave a b (reverse bs)
     → PushedOnto a b Lsb0 Msb0 h h (bits_in bs)
 bytes_onto_other a b h bs q l p all g =
     let e : append Msb0 (bits_in bs) (held Lsb0 h) ≡ record { bytes = reverse bs; pending = held Msb0 h } = append_above h (bits_in bs) q (some_bits bs p) ∙ above_bytes bs h all l in
     record { gave = subst (λ W. Gave a b W.bytes) (sym e) g; rest = sym (ap (λ W. W.pending) e); short = l }
 
 -- where the sink gave up
-pub bytes_stopped_none : (a b : SinkTold) (from : Order) (h : List Bool) (bs : List ℕ) (k : ErrorKind) → length h ≡ 0 → 0 < length bs → All IsByte bs → GaveUp a b bs k
+pub bytes_stopped_none : (a b : KnownSink) (from : Order) (h : List Bool) (bs : List ℕ) (k : ErrorKind) → length h ≡ 0 → 0 < length bs → All IsByte bs → GaveUp a b bs k
     → GaveUp a b (onto_bytes from Msb0 h (bits_in bs)) k
 unfolding shown
 bytes_stopped_none a b from h bs k n p all f =
     empty_stopped a b from Msb0 h (bits_in bs) k n (some_bits bs p) (subst (λ x. GaveUp a b x k) (sym (ap (λ x. full_bytes Msb0 x (bits_in bs)) (nil_from_length h n) ∙ emitted-bytes bs all)) f)
 
-pub bytes_stopped_same : (a b : SinkTold) (h : List Bool) (bs : List ℕ) (k : ErrorKind) → 0 < length bs → GaveUp a b (full_bytes Msb0 h (bits_in bs)) k
+pub bytes_stopped_same : (a b : KnownSink) (h : List Bool) (bs : List ℕ) (k : ErrorKind) → 0 < length bs → GaveUp a b (full_bytes Msb0 h (bits_in bs)) k
     → GaveUp a b (onto_bytes Msb0 Msb0 h (bits_in bs)) k
 unfolding shown
 bytes_stopped_same a b h bs k p f = same_stopped a b Msb0 h (bits_in bs) k (some_bits bs p) f
 
-pub bytes_stopped_other : (a b : SinkTold) (h : List Bool) (bs : List ℕ) (k : ErrorKind) → 0 < length h → length h < 8 → 0 < length bs → All IsByte bs → GaveUp a b (reverse bs) k
+pub bytes_stopped_other : (a b : KnownSink) (h : List Bool) (bs : List ℕ) (k : ErrorKind) → 0 < length h → length h < 8 → 0 < length bs → All IsByte bs → GaveUp a b (reverse bs) k
     → GaveUp a b (onto_bytes Lsb0 Msb0 h (bits_in bs)) k
 bytes_stopped_other a b h bs k q l p all f = subst (λ W. GaveUp a b W.bytes k) (sym (append_above h (bits_in bs) q (some_bits bs p) ∙ above_bytes bs h all l)) f
 

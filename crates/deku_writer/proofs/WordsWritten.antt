@@ -8,7 +8,7 @@ use Rattle.deku_stream.specs.declared.error.DekuError.{DekuError}
 use Rattle.deku_stream.specs.declared.error.DekuError.TheVariants.{InvalidParam, Io}
 use Rattle.deku_stream.specs.Kept.{standing_of}
 use Rattle.deku_stream.specs.Bits.{bin, bits_of, byte_bits, facing, group_number, word_of, shown}
-use Rattle.deku_device.specs.Devices.{SinkTold}
+use Rattle.deku_device.specs.Devices.{KnownSink}
 use Rattle.deku_stream.specs.Standings.{Standing, Stopped, writer_state}
 use Rattle.deku_stream.specs.Writers.{Nothing, Pending, held}
 use Rattle.deku_writer.specs.WriterCalls.{WritesAt, WritesBits, WritesWord}
@@ -92,7 +92,7 @@ pub word_count : (o : Order) (h hs : List Bool) (n w : ℕ) (out : List ℕ) →
 word_count o h hs n w out f = filled_count o h hs (word_bits o n w) out f ∙ ap (λ x. (length h + x) / 8) (length-word_bits o n w)
 
 -- ---- a call that writes a word
-pub word_written : (o : Order) (n w : ℕ) (t : SinkTold) (s : Standing Pending) (r : Result (Unit {0}) DekuError) (after : SinkTold) (u : Standing Pending) → w < 2 ^ n
+pub word_written : (o : Order) (n w : ℕ) (t : KnownSink) (s : Standing Pending) (r : Result (Unit {0}) DekuError) (after : KnownSink) (u : Standing Pending) → w < 2 ^ n
     → WritesAt (WritesBits o (shown o (word_bits o n w))) t s r after u → WritesAt (WritesWord o n w) t s r after u
 word_written o n w t s r after u h m =
     weaker (WritesBits o (shown o (word_bits o n w))) (WritesWord o n w) (writer_state t s) t.health r (writer_state after u) after.health
@@ -124,7 +124,7 @@ bits_all o n w rest xs ys zs l e b h =
 bytes_made : (o : Order) (n w : ℕ) (h : List Bool) (m : ℕ) → m ≡ (length h + n) / 8 → m ≡ (length h + length (shown o (word_bits o n w))) / 8
 bytes_made o n w h m e = e ∙ ap (λ x. (length h + x) / 8) (sym (length-shown_word o n w))
 
-module _ (t after : SinkTold) (from to : Order) (h : List Bool) (n w c m : ℕ) (short : length h < 8) (inside : w < 2 ^ n) (made : m ≡ (length h + n) / 8) where
+module _ (t after : KnownSink) (from to : Order) (h : List Bool) (n w c m : ℕ) (short : length h < 8) (inside : w < 2 ^ n) (made : m ≡ (length h + n) / 8) where
   pub word_done : (hs : List Bool) → m ≤ (2 ^ 64 - 1 - c) / 8 → c < 2 ^ 64 → PushedOnto t after from to h hs (shown to (word_bits to n w))
       → WritesAt (WritesWord to n w) t (standing_of (held from h) None c) (Ok tt) after (standing_of (held to hs) None (c + 8 * m))
   word_done hs fits l p =
@@ -143,7 +143,7 @@ module _ (t after : SinkTold) (from to : Order) (h : List Bool) (n w c m : ℕ) 
       word_written to n w t (standing_of (held from h) None c) (Err (InvalidParam words)) t (standing_of (held from h) None c) inside
       (write_full t from to h (shown to (word_bits to n w)) c m words short (bytes_made to n w h m made) past says)
 
-pub word_nothing : (t : SinkTold) (from to : Order) (h : List Bool) (n w c : ℕ) → w < 2 ^ n → n ≡ 0 → c < 2 ^ 64
+pub word_nothing : (t : KnownSink) (from to : Order) (h : List Bool) (n w c : ℕ) → w < 2 ^ n → n ≡ 0 → c < 2 ^ 64
     → WritesAt (WritesWord to n w) t (standing_of (held from h) None c) (Ok tt) t (standing_of (held from h) None c)
 word_nothing t from to h n w c inside none l =
     word_written to n w t (standing_of (held from h) None c) (Ok tt) t (standing_of (held from h) None c) inside

@@ -7,7 +7,7 @@ use Rattle.deku_writer.specs.declared.writer.way.Way.TheVariants.{Forward, Backw
 use Rattle.deku_stream.specs.Bits.{bits_of, chunks, facing}
 use Rattle.deku_stream.specs.Streams.{flow}
 use Rattle.deku_stream.specs.Writers.{held, remainder, cut, append}
-use Rattle.deku_device.specs.Devices.{SinkTold, Gave, Declined}
+use Rattle.deku_device.specs.Devices.{KnownSink, Gave, Declined}
 
 -- the bits of a list on a way through it
 abbrev pub along : Way → List Bool → List Bool
@@ -38,12 +38,12 @@ given None = []
 given (Some byte) = byte ∷ []
 
 -- the held bits, high bit first, and then these, as the order meets both, were cut in eights: the sink took the bytes, and the rest is held
-pub record Pushed (old new : SinkTold) (o : Order) (before after bits : List Bool) : Type 0 where
+pub record Pushed (old new : KnownSink) (o : Order) (before after bits : List Bool) : Type 0 where
   pub gave : Gave old new (full_bytes o before bits)
   pub rest : facing o after ≡ remainder (facing o before ++ bits)
 
 -- the sink did not take all of the bytes, which are one at least, but a beginning of them
-pub record GaveUp (old new : SinkTold) (bytes : List ℕ) (kind : ErrorKind) : Type 0 where
+pub record GaveUp (old new : KnownSink) (bytes : List ℕ) (kind : ErrorKind) : Type 0 where
   pub some : 0 < length bytes
   pub declined : Declined old new bytes kind
 
@@ -52,7 +52,7 @@ abbrev pub onto_bytes : Order → Order → List Bool → List Bool → List ℕ
 onto_bytes from to before bits = (append to bits (held from before)).bytes
 
 -- bits were written to the held bits of an order: the sink took the bytes, and the rest is held in the order of the bits
-pub record PushedOnto (old new : SinkTold) (from to : Order) (before after bits : List Bool) : Type 0 where
+pub record PushedOnto (old new : KnownSink) (from to : Order) (before after bits : List Bool) : Type 0 where
   pub gave : Gave old new (onto_bytes from to before bits)
   pub rest : held to after ≡ (append to bits (held from before)).pending
   pub short : length after < 8

@@ -9,17 +9,17 @@ use Rattle.deku_stream.specs.declared.error.DekuError.TheVariants.{Io}
 use Rattle.deku_writer.specs.declared.writer.Writer.{Writer}
 use Rattle.deku_stream.specs.Bits.{word_of, shown}
 use Rattle.deku_stream.specs.Writers.{Pending, Nothing, Held, Written, append, finalized}
-use Rattle.deku_device.specs.Devices.{SinkTold, Shrinks, LacksRoom, TakesSome, ShrinksSome}
+use Rattle.deku_device.specs.Devices.{KnownSink, Shrinks, LacksRoom, TakesSome, ShrinksSome}
 use Rattle.deku_stream.specs.Standings.{Standing, Going, Stopped, Output, writer_state}
-use Rattle.deku_stream.specs.Outcomes.{Meaning, Outcome, UnlessStopped, Counted}
+use Rattle.deku_stream.specs.Outcomes.{Meaning, Outcome, UnlessStopped, CountsBits}
 
 -- a call on a sink and what a writer keeps beside it
-abbrev pub WritesAt : Meaning Output (Unit {0}) → SinkTold → Standing Pending → Result (Unit {0}) DekuError → SinkTold → Standing Pending → Type 0
-WritesAt m told s r told_after u = Outcome m (writer_state told s) told.health r (writer_state told_after u) told_after.health
+abbrev pub WritesAt : Meaning Output (Unit {0}) → KnownSink → Standing Pending → Result (Unit {0}) DekuError → KnownSink → Standing Pending → Type 0
+WritesAt m known s r told_after u = Outcome m (writer_state known s) known.health r (writer_state told_after u) told_after.health
 
 -- a call on a writer
-abbrev pub Writes : {W : Type 0} → (W → SinkTold) → Meaning Output (Unit {0}) → Writer W → Result (Unit {0}) DekuError → Writer W → Type 0
-Writes told m old r new = WritesAt m (told old.sink) old.state r (told new.sink) new.state
+abbrev pub Writes : {W : Type 0} → (W → KnownSink) → Meaning Output (Unit {0}) → Writer W → Result (Unit {0}) DekuError → Writer W → Type 0
+Writes known m old r new = WritesAt m (known old.sink) old.state r (known new.sink) new.state
 
 -- the sink took the bytes, and the bits are pending
 pub record Took (w : Written) (old new : Output) : Type 0 where
@@ -42,7 +42,7 @@ GivesOut w out c r u = ((after : Output) × Took w out after × (r ≡ Ok tt) ×
 -- what writing makes of the pending bits is given out; where the count has no room for the bytes it is refused, and nothing changed; a fault leaves a beginning
 -- of the bytes with the sink
 abbrev pub Emits : (Pending → Written) → Meaning Output (Unit {0})
-Emits write = UnlessStopped (λ out. TookSome (write out.pending).bytes out) (λ out. Counted (8 * length (write out.pending).bytes) (GivesOut (write out.pending)) out)
+Emits write = UnlessStopped (λ out. TookSome (write out.pending).bytes out) (λ out. CountsBits (8 * length (write out.pending).bytes) (GivesOut (write out.pending)) out)
 
 -- bits are written in an order
 abbrev pub WritesBits : Order → List Bool → Meaning Output (Unit {0})

@@ -49,19 +49,19 @@ use std::marker::Model;
 #[derive(Drop)]
 pub struct Writer<W> {
     pub(crate) sink: W,
-    pub(crate) state: Progress,
+    pub(crate) state: WriterState,
 }
 
 /// How far a writer has come.
 #[derive(Drop)]
-pub struct Progress {
+pub struct WriterState {
     held: Held,
     order: Order,
     bits_written: usize,
     fault: Option<Fault>,
 }
 
-impl Model for Progress {
+impl Model for WriterState {
     ghost use Rattle.std.specs.Prelude.{◌<◌, length};
     ghost use Rattle.deku_stream.specs.Writers.{Pending, held as pending_in};
     ghost use Rattle.deku_stream.specs.Standings.{Standing};
@@ -87,7 +87,7 @@ impl<W: Sink> Writer<W> {
     {
         Writer {
             sink: inner,
-            state: Progress::going(0),
+            state: WriterState::going(0),
         }
     }
 
@@ -168,7 +168,7 @@ impl<W: Sink> Writer<W> {
     /// writer.finalize()?;                                // the byte 0x05
     /// ```
     pub fn write_bits_order(&mut self, bits: &[bool], order: Order) -> Result<(), DekuError>
-        ensures writes { Writes W.told (WritesBits order bits.now) self.old result self.new }
+        ensures writes { Writes W.known (WritesBits order bits.now) self.old result self.new }
         ensures stopped { Untouched self.old.state self.old.sink self.new.sink }
     {
         self.state.write(&mut self.sink, bits, order)
@@ -181,7 +181,7 @@ impl<W: Sink> Writer<W> {
     /// writer.finalize()?;                                        // the byte 0xA0
     /// ```
     pub fn write_bits(&mut self, bits: &[bool]) -> Result<(), DekuError>
-        ensures writes { Writes W.told (WritesBits Msb0 bits.now) self.old result self.new }
+        ensures writes { Writes W.known (WritesBits Msb0 bits.now) self.old result self.new }
         ensures stopped { Untouched self.old.state self.old.sink self.new.sink }
     {
         self.write_bits_order(bits, Order::Msb0)
@@ -195,7 +195,7 @@ impl<W: Sink> Writer<W> {
     /// writer.write_bytes(&[0xBB])?;                      // the byte 0xAB; 1, 0, 1, 1 are pending
     /// ```
     pub fn write_bytes(&mut self, buf: &[u8]) -> Result<(), DekuError>
-        ensures writes { Writes W.told (WritesBits Msb0 (bits_in buf.now)) self.old result self.new }
+        ensures writes { Writes W.known (WritesBits Msb0 (bits_in buf.now)) self.old result self.new }
         ensures stopped { Untouched self.old.state self.old.sink self.new.sink }
     {
         self.state.write_bytes(&mut self.sink, buf)
@@ -212,7 +212,7 @@ impl<W: Sink> Writer<W> {
     pub fn write_word(&mut self, word: u128, n: usize, order: Order) -> Result<(), DekuError>
         requires most { n ≤ 128 }
         requires inside { word < 2 ^ n }
-        ensures writes { Writes W.told (WritesWord order n word) self.old result self.new }
+        ensures writes { Writes W.known (WritesWord order n word) self.old result self.new }
         ensures stopped { Untouched self.old.state self.old.sink self.new.sink }
     {
         self.state.write_word(&mut self.sink, word, n, order)
@@ -226,17 +226,17 @@ impl<W: Sink> Writer<W> {
     /// changes.
     ///
     /// ```text
-    /// writer.high_laid(0xABC, 12)                        // true, where eight bytes of room are at hand: the byte 0xAB; 1, 1, 0, 0 are pending
+    /// writer.try_write_msb(0xABC, 12)                        // true, where eight bytes of room are at hand: the byte 0xAB; 1, 1, 0, 0 are pending
     /// ```
     #[inline(always)]
-    pub fn high_laid(&mut self, number: u64, n: usize) -> bool
+    pub fn try_write_msb(&mut self, number: u64, n: usize) -> bool
         requires most { n ≤ 64 }
         requires inside { number < 2 ^ n }
-        ensures writes { IsTrue result → Writes W.told (WritesBits Msb0 (bits_of n number)) self.old (Ok tt) self.new }
+        ensures writes { IsTrue result → Writes W.known (WritesBits Msb0 (bits_of n number)) self.old (Ok tt) self.new }
         ensures stays { IsFalse result → self.new ≡ self.old }
         ensures stopped { Untouched self.old.state self.old.sink self.new.sink }
     {
-        self.state.high_laid(&mut self.sink, number, n)
+        self.state.try_write_msb(&mut self.sink, number, n)
     }
 
     /// Fills pending bits with zeros to a byte, behind `Msb0` bits and above `Lsb0` bits, and gives it to the sink. It counts eight bits. Where
@@ -250,20 +250,20 @@ impl<W: Sink> Writer<W> {
     /// ```
     #[inline(always)]
     pub fn finalize(&mut self) -> Result<(), DekuError>
-        ensures writes { Writes W.told Finalizes self.old result self.new }
+        ensures writes { Writes W.known Finalizes self.old result self.new }
         ensures stopped { Untouched self.old.state self.old.sink self.new.sink }
     {
         self.state.finalize(&mut self.sink)
     }
 }
 
-impl Progress {
+impl WriterState {
     // So many bits are written, and nothing is pending.
     #[inline(always)]
-    fn going(bits_written: usize) -> Progress
+    fn going(bits_written: usize) -> WriterState
         ensures { result ≡ Going Nothing bits_written }
     {
-        Progress {
+        WriterState {
             held: Held::new(),
             order: Order::Msb0,
             bits_written,
@@ -273,10 +273,10 @@ impl Progress {
 
     // Stopped by this fault of the sink, with this count: nothing is pending.
     #[inline(always)]
-    fn stopped(kind: ErrorKind, count: usize) -> Progress
+    fn stopped(kind: ErrorKind, count: usize) -> WriterState
         ensures { result ≡ Stopped Nothing (Io kind) count }
     {
-        Progress {
+        WriterState {
             held: Held::new(),
             order: Order::Msb0,
             bits_written: count,
@@ -315,7 +315,7 @@ impl Progress {
 
     // Writes the bits to this sink.
     fn write<W: Sink>(&mut self, sink: &mut W, bits: &[bool], order: Order) -> Result<(), DekuError>
-        ensures writes { WritesAt (WritesBits order bits.now) (W.told sink.old) self.old result (W.told sink.new) self.new }
+        ensures writes { WritesAt (WritesBits order bits.now) (W.known sink.old) self.old result (W.known sink.new) self.new }
         ensures stopped { Untouched self.old sink.old sink.new }
     {
         if let Some(fault) = self.fault {
@@ -335,7 +335,7 @@ impl Progress {
                 Ok(())
             }
             Err(kind) => {
-                *self = Progress::stopped(kind, self.bits_written);
+                *self = WriterState::stopped(kind, self.bits_written);
                 Err(DekuError::Io(kind))
             }
         }
@@ -343,7 +343,7 @@ impl Progress {
 
     // Writes the bytes to this sink, in `Msb0`.
     fn write_bytes<W: Sink>(&mut self, sink: &mut W, bytes: &[u8]) -> Result<(), DekuError>
-        ensures writes { WritesAt (WritesBits Msb0 (bits_in bytes.now)) (W.told sink.old) self.old result (W.told sink.new) self.new }
+        ensures writes { WritesAt (WritesBits Msb0 (bits_in bytes.now)) (W.known sink.old) self.old result (W.known sink.new) self.new }
         ensures stopped { Untouched self.old sink.old sink.new }
     {
         if let Some(kept) = self.fault {
@@ -362,7 +362,7 @@ impl Progress {
                 Ok(())
             }
             Err(kind) => {
-                *self = Progress::stopped(kind, self.bits_written);
+                *self = WriterState::stopped(kind, self.bits_written);
                 Err(DekuError::Io(kind))
             }
         }
@@ -379,7 +379,7 @@ impl Progress {
     ) -> Result<(), DekuError>
         requires most { n ≤ 128 }
         requires inside { word < 2 ^ n }
-        ensures writes { WritesAt (WritesWord order n word) (W.told sink.old) self.old result (W.told sink.new) self.new }
+        ensures writes { WritesAt (WritesWord order n word) (W.known sink.old) self.old result (W.known sink.new) self.new }
         ensures stopped { Untouched self.old sink.old sink.new }
     {
         if let Some(reason) = self.fault {
@@ -399,7 +399,7 @@ impl Progress {
                 Ok(())
             }
             Err(kind) => {
-                *self = Progress::stopped(kind, self.bits_written);
+                *self = WriterState::stopped(kind, self.bits_written);
                 Err(DekuError::Io(kind))
             }
         }
@@ -407,10 +407,10 @@ impl Progress {
 
     // Writes the bits of a number to this sink, the highest first, where nothing refuses them and they are laid, and whether it did.
     #[inline(always)]
-    fn high_laid<W: Sink>(&mut self, sink: &mut W, number: u64, n: usize) -> bool
+    fn try_write_msb<W: Sink>(&mut self, sink: &mut W, number: u64, n: usize) -> bool
         requires most { n ≤ 64 }
         requires inside { number < 2 ^ n }
-        ensures writes { IsTrue result → WritesAt (WritesBits Msb0 (bits_of n number)) (W.told sink.old) self.old (Ok tt) (W.told sink.new) self.new }
+        ensures writes { IsTrue result → WritesAt (WritesBits Msb0 (bits_of n number)) (W.known sink.old) self.old (Ok tt) (W.known sink.new) self.new }
         ensures stays { IsFalse result → (self.new ≡ self.old) × (sink.new ≡ sink.old) }
         ensures stopped { Untouched self.old sink.old sink.new }
     {
@@ -435,7 +435,7 @@ impl Progress {
     // Writes as many zeros as the pending bits lack to a byte.
     #[inline(always)]
     fn finalize<W: Sink>(&mut self, sink: &mut W) -> Result<(), DekuError>
-        ensures writes { WritesAt Finalizes (W.told sink.old) self.old result (W.told sink.new) self.new }
+        ensures writes { WritesAt Finalizes (W.known sink.old) self.old result (W.known sink.new) self.new }
         ensures stopped { Untouched self.old sink.old sink.new }
     {
         let lacking = (8 - self.held.len()) % 8;

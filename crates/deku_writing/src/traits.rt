@@ -30,5 +30,5 @@ pub trait DekuWriter<Ctx> {
     /// ```
     fn to_writer<W: Sink>(&self, writer: &mut Writer<W>, ctx: Ctx) -> Result<(), DekuError>
         requires { accepts ctx }
-        ensures { Writes W.told (meaning self.now ctx) writer.old result writer.new };
+        ensures { Writes W.known (meaning self.now ctx) writer.old result writer.new };
 }

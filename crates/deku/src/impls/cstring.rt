@@ -5,7 +5,7 @@ ghost use Rattle.std.specs.List.{Contains};
 ghost use Rattle.deku_bits.specs.declared.error.DekuError.TheVariants.{Parse};
 ghost use Rattle.deku_bits.specs.ReaderCalls.{Reads};
 ghost use Rattle.deku_bits.specs.Faults.{Tells};
-ghost use Rattle.deku_reading.specs.Early.{Promptly};
+ghost use Rattle.deku_reading.specs.Early.{NoReadAhead};
 ghost use Rattle.deku_reading.specs.Lists.{Runs, on_value};
 ghost use Rattle.deku.specs.Texts.{NoZeros, IsTerminated, ReadsByte};
 
@@ -107,9 +107,9 @@ impl CString {
 
 // Reads a byte, and puts it behind those that were read.
 fn read_byte<R: Source>(reader: &mut Reader<R>, bytes: &mut Vec<u8>) -> Result<u8, DekuError>
-    ensures reads { Reads R.told ReadsByte reader.old result reader.new }
+    ensures reads { Reads R.known ReadsByte reader.old result reader.new }
     ensures put { IfOk result (λ b. bytes.new.items ≡ bytes.old.items ++ b ∷ []) }
-    ensures early { OnOk result (Promptly R.told reader.old reader.new) }
+    ensures early { OnOk result (NoReadAhead R.known reader.old reader.new) }
 {
     match u8::from_reader_with_ctx(reader, ()) {
         Ok(byte) => match bytes.push(byte) {
@@ -122,8 +122,8 @@ fn read_byte<R: Source>(reader: &mut Reader<R>, bytes: &mut Vec<u8>) -> Result<u
 
 // Reads bytes up to the first zero, and that.
 fn read_to_zero<R: Source>(reader: &mut Reader<R>) -> Result<Vec<u8>, DekuError>
-    ensures reads { Reads R.told (Runs NoZeros (λ bytes. (text : List ℕ) × IsTerminated text bytes) ReadsByte) reader.old (on_value (λ v. v.items) result) reader.new }
-    ensures early { OnOk result (Promptly R.told reader.old reader.new) }
+    ensures reads { Reads R.known (Runs NoZeros (λ bytes. (text : List ℕ) × IsTerminated text bytes) ReadsByte) reader.old (on_value (λ v. v.items) result) reader.new }
+    ensures early { OnOk result (NoReadAhead R.known reader.old reader.new) }
 {
     let mut bytes = Vec::new(reader.alloc());
     loop {
@@ -140,8 +140,8 @@ fn read_to_zero<R: Source>(reader: &mut Reader<R>) -> Result<Vec<u8>, DekuError>
 
 // Reads so many bytes.
 fn read_count<R: Source>(reader: &mut Reader<R>, count: usize) -> Result<Vec<u8>, DekuError>
-    ensures reads { Reads R.told (Runs (λ bytes. length bytes < count) (λ bytes. length bytes ≡ count) ReadsByte) reader.old (on_value (λ v. v.items) result) reader.new }
-    ensures early { OnOk result (Promptly R.told reader.old reader.new) }
+    ensures reads { Reads R.known (Runs (λ bytes. length bytes < count) (λ bytes. length bytes ≡ count) ReadsByte) reader.old (on_value (λ v. v.items) result) reader.new }
+    ensures early { OnOk result (NoReadAhead R.known reader.old reader.new) }
 {
     let mut bytes = Vec::new(reader.alloc());
     for _ in 0..count {
@@ -177,7 +177,7 @@ impl DekuReader<()> for CString {
 
     ghost accepts = { λ c. c ≡ c };
 
-    ghost prompt = { λ c. c ≡ c };
+    ghost no_read_ahead = { λ c. c ≡ c };
 
     ghost meaning = { λ _. ReadsTerminated };
 
@@ -200,7 +200,7 @@ impl DekuReader<ByteSize> for CString {
 
     ghost accepts = { λ c. c ≡ c };
 
-    ghost prompt = { λ c. c ≡ c };
+    ghost no_read_ahead = { λ c. c ≡ c };
 
     ghost meaning = { λ c. ReadsWithin c.0 };
 
@@ -226,7 +226,7 @@ impl<C: NumberCtx> DekuWriter<C> for CString {
 
     ghost accepts = { λ c. c ≡ c };
 
-    ghost meaning = { λ text c. Both (WritesEach (λ b. WritesNumber byte (C.parts_of c) (pos b)) text) (WritesNumber byte (C.parts_of c) (pos 0)) };
+    ghost meaning = { λ text c. Both (WritesEach (λ b. WritesNumber byte (C.layout_of c) (pos b)) text) (WritesNumber byte (C.layout_of c) (pos 0)) };
 
     fn to_writer<W: Sink>(&self, writer: &mut Writer<W>, ctx: C) -> Result<(), DekuError> {
         match self.as_bytes().to_writer(writer, ctx) {

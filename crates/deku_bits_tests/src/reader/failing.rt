@@ -37,11 +37,11 @@ impl<'a> Seek for Failing<'a> {
 
 // It tells nothing.
 impl<'a> Source for Failing<'a> {
-    ghost use Rattle.deku_bits.specs.Devices.{untold_source};
+    ghost use Rattle.deku_bits.specs.Devices.{unknown_source};
 
-    ghost told = { λ _. untold_source };
+    ghost known = { λ _. unknown_source };
 
-    ghost told_by_place = { λ s at all p. Prim.cc };
+    ghost known_by_place = { λ s at all p. Prim.cc };
 
     fn fetch(&mut self, buf: &mut [u8]) -> io::Result<()> {
         self.fetches = self.fetches.saturating_add(1);
@@ -57,7 +57,7 @@ impl<'a> Source for Failing<'a> {
         Err(Error::from(ErrorKind::Other))
     }
 
-    fn go(&mut self, to: SeekFrom) -> io::Result<u64> {
+    fn seek_to(&mut self, to: SeekFrom) -> io::Result<u64> {
         self.seek(to)
     }
 }

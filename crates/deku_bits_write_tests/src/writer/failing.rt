@@ -34,9 +34,9 @@ impl Seek for Failing {
 
 // It tells nothing.
 impl Sink for Failing {
-    ghost use Rattle.deku_bits.specs.Devices.{untold_sink};
+    ghost use Rattle.deku_bits.specs.Devices.{unknown_sink};
 
-    ghost told = { λ _. untold_sink };
+    ghost known = { λ _. unknown_sink };
 
     fn give(&mut self, bytes: &[u8]) -> io::Result<()> {
         self.calls = self.calls.saturating_add(1);
@@ -48,7 +48,7 @@ impl Sink for Failing {
         Ok(())
     }
 
-    fn go(&mut self, to: SeekFrom) -> io::Result<u64> {
+    fn seek_to(&mut self, to: SeekFrom) -> io::Result<u64> {
         self.seek(to)
     }
 }

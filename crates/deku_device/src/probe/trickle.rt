@@ -8,9 +8,9 @@ ghost use Rattle.std.specs.Io.Cursor.{cursor_position, cursor_inner, IsSeekResul
 ghost use Rattle.std.specs.Io.KnownBytes.{Consumes, Keeps, ReadConsumes};
 ghost use Rattle.std.specs.Io.Seek.{SeekMoves};
 ghost use Rattle.std.specs.IoError.{error_kind};
-ghost use Rattle.deku_device.specs.Cursors.{cursor_told, trickling};
+ghost use Rattle.deku_device.specs.Cursors.{cursor_known, trickling};
 ghost use Rattle.deku_device.specs.Seeking.{place_on, Seeks, RefusedSeek, ComesFrom};
-ghost use Rattle.deku_device.specs.Devices.{NoFewerFailures, MoreFailures, FewerThan, Passes, StaysEmpty};
+ghost use Rattle.deku_device.specs.Devices.{DeviceKept, DeviceFailed, FewerThan, Passes, StaysEmpty};
 
 use crate::device::Source;
 use std::io;
@@ -44,11 +44,11 @@ impl<'a> Trickle<'a> {
 }
 
 impl<'a> Read for Trickle<'a> {
-    ghost remaining = { λ s. (trickling s).coming };
+    ghost remaining = { λ s. (trickling s).remaining };
 
     fn read(&mut self, buf: &mut [u8]) -> io::Result<usize>
         ensures bound { ReadsAtMost result buf.new }
-        ensures bytes { ReadConsumes (trickling self.old).coming (trickling self.new).coming result buf.new }
+        ensures bytes { ReadConsumes (trickling self.old).remaining (trickling self.new).remaining result buf.new }
         ensures one { IfOk result (λ n. n ≤ 1) }
         ensures ok { IsOk result }
     {
@@ -75,9 +75,9 @@ impl<'a> Seek for Trickle<'a> {
 
 // Fetches one byte of the cursor.
 fn trickled_byte(source: &mut Trickle<'_>) -> io::Result<u8>
-    ensures bytes { IfOk result (λ b. Consumes (trickling source.old).coming (trickling source.new).coming (b ∷ [])) }
-    ensures err { IfErr result (λ e. (error_kind e ≡ ErrorKind.UnexpectedEof) × FewerThan 1 (trickling source.old).coming × StaysEmpty (trickling source.old).coming (trickling source.new).coming) }
-    ensures kept { NoFewerFailures (trickling source.old).health (trickling source.new).health }
+    ensures bytes { IfOk result (λ b. Consumes (trickling source.old).remaining (trickling source.new).remaining (b ∷ [])) }
+    ensures err { IfErr result (λ e. (error_kind e ≡ ErrorKind.UnexpectedEof) × FewerThan 1 (trickling source.old).remaining × StaysEmpty (trickling source.old).remaining (trickling source.new).remaining) }
+    ensures kept { DeviceKept (trickling source.old).health (trickling source.new).health }
     ensures inner { cursor_inner source.new.inner ≡ cursor_inner source.old.inner }
 {
     let mut byte = [0];
@@ -86,18 +86,18 @@ fn trickled_byte(source: &mut Trickle<'_>) -> io::Result<u8>
 }
 
 impl<'a> Source for Trickle<'a> {
-    ghost told = { λ s. trickling s };
+    ghost known = { λ s. trickling s };
 
-    ghost told_by_place = { λ s at all. cursor_told (λ b. Some b.now) s.inner at all };
+    ghost known_by_place = { λ s at all. cursor_known (λ b. Some b.now) s.inner at all };
 
     fn fetch(&mut self, buf: &mut [u8]) -> io::Result<()>
-        ensures bytes { OnOk result (Consumes (trickling self.old).coming (trickling self.new).coming buf.new) }
-        ensures short { IfErr result (λ e. error_kind e ≡ ErrorKind.UnexpectedEof → FewerThan (length buf.old) (trickling self.old).coming) }
-        ensures ended { IfErr result (λ e. error_kind e ≡ ErrorKind.UnexpectedEof → StaysEmpty (trickling self.old).coming (trickling self.new).coming) }
-        ensures failed { IfErr result (λ e. error_kind e ≢ ErrorKind.UnexpectedEof → MoreFailures (trickling self.old).health (trickling self.new).health) }
-        ensures kept { NoFewerFailures (trickling self.old).health (trickling self.new).health }
+        ensures bytes { OnOk result (Consumes (trickling self.old).remaining (trickling self.new).remaining buf.new) }
+        ensures short { IfErr result (λ e. error_kind e ≡ ErrorKind.UnexpectedEof → FewerThan (length buf.old) (trickling self.old).remaining) }
+        ensures ended { IfErr result (λ e. error_kind e ≡ ErrorKind.UnexpectedEof → StaysEmpty (trickling self.old).remaining (trickling self.new).remaining) }
+        ensures failed { IfErr result (λ e. error_kind e ≢ ErrorKind.UnexpectedEof → DeviceFailed (trickling self.old).health (trickling self.new).health) }
+        ensures kept { DeviceKept (trickling self.old).health (trickling self.new).health }
         // Where it is refused, each byte is given.
-        ensures spent { OnErr result ((trickling self.new).coming ≡ Some []) }
+        ensures spent { OnErr result ((trickling self.new).remaining ≡ Some []) }
     {
         for place in buf.iter_mut() {
             *place = trickled_byte(self)?;
@@ -107,9 +107,9 @@ impl<'a> Source for Trickle<'a> {
 
     fn pass(&mut self, n: u64) -> io::Result<()>
         requires { n < 2 ^ 63 }
-        ensures bytes { OnOk result (Passes n (trickling self.old).coming (trickling self.new).coming) }
-        ensures failed { IfErr result (λ e. MoreFailures (trickling self.old).health (trickling self.new).health) }
-        ensures kept { NoFewerFailures (trickling self.old).health (trickling self.new).health }
+        ensures bytes { OnOk result (Passes n (trickling self.old).remaining (trickling self.new).remaining) }
+        ensures failed { IfErr result (λ e. DeviceFailed (trickling self.old).health (trickling self.new).health) }
+        ensures kept { DeviceKept (trickling self.old).health (trickling self.new).health }
         ensures ok { IsOk result }
         // It may pass the end, as a seek does.
         ensures place { cursor_position self.new.inner ≡ place_on (cursor_position self.old.inner) n }
@@ -118,12 +118,12 @@ impl<'a> Source for Trickle<'a> {
         self.inner.pass(n)
     }
 
-    fn go(&mut self, to: SeekFrom) -> io::Result<u64>
+    fn seek_to(&mut self, to: SeekFrom) -> io::Result<u64>
         ensures moves { SeekMoves (Some (cursor_position self.old.inner)) (Some (cursor_position self.new.inner)) (Some (cursor_inner self.old.inner).now) to result }
         ensures all { Keeps (Some (cursor_inner self.old.inner).now) (Some (cursor_inner self.new.inner).now) }
         ensures sought { Seeks (trickling self.old).health (trickling self.new).health to result }
         ensures refused { RefusedSeek (trickling self.old).health (trickling self.new).health to result }
-        ensures coming { ComesFrom (trickling self.old).health.whole result (trickling self.new) }
+        ensures remaining { ComesFrom (trickling self.old).health.whole result (trickling self.new) }
         ensures inner { cursor_inner self.new.inner ≡ cursor_inner self.old.inner }
     {
         self.seek(to)

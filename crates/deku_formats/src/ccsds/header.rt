@@ -2,7 +2,7 @@
 
 use deku::device::{Sink, Source};
 use deku::prelude::{DekuError, DekuReader, DekuWriter, Reader, Writer};
-use deku_symmetry::{Counts, Leads, Msb, Parted, Record, ToParts, read_record, write_record};
+use deku_symmetry::{ItemCount, ItemCountLaw, Msb, FromParts, Record, ToParts, read_record, write_record};
 
 /// The primary header.
 #[derive(Debug, PartialEq, Eq, Drop)]
@@ -30,7 +30,7 @@ type Parts = (
     Msb<u16, 16>,
 );
 
-impl Parted<()> for Header {
+impl FromParts<()> for Header {
     ghost use Rattle.std.specs.Prelude.{refl};
 
     type Parts = Parts;
@@ -84,7 +84,7 @@ impl ToParts<()> for Header {
 }
 
 /// Four samples for each eleven bytes; other counts of bytes name none.
-impl Counts for Header {
+impl ItemCount for Header {
     ghost use Rattle.deku_formats.specs.Ccsds.{samples_behind};
 
     ghost count_of = { λ h. samples_behind h.length };
@@ -100,7 +100,7 @@ impl Counts for Header {
     }
 }
 
-impl Leads for Header {
+impl ItemCountLaw for Header {
     ghost use Rattle.std.specs.Prelude.{refl};
 
     ghost alike = { λ v w e. rw e.1.1 refl };
@@ -121,9 +121,9 @@ impl DekuReader<()> for Header {
 
     ghost accepts = { ⟦<Parts as DekuReader<()>>⟧.accepts };
 
-    ghost prompt = { ⟦<Parts as DekuReader<()>>⟧.prompt };
+    ghost no_read_ahead = { ⟦<Parts as DekuReader<()>>⟧.no_read_ahead };
 
-    ghost meaning = { λ _. Mapped ⟦<Header as Parted<()>>⟧.record_of (⟦<Parts as DekuReader<()>>⟧.meaning tt) };
+    ghost meaning = { λ _. Mapped ⟦<Header as FromParts<()>>⟧.record_of (⟦<Parts as DekuReader<()>>⟧.meaning tt) };
 
     fn from_reader_with_ctx<R: Source>(
         reader: &mut Reader<R>,
@@ -136,7 +136,7 @@ impl DekuReader<()> for Header {
 impl DekuWriter<()> for Header {
     ghost accepts = { ⟦<Parts as DekuWriter<()>>⟧.accepts };
 
-    ghost meaning = { λ v _. ⟦<Parts as DekuWriter<()>>⟧.meaning (⟦<Header as Parted<()>>⟧.parts_of v) tt };
+    ghost meaning = { λ v _. ⟦<Parts as DekuWriter<()>>⟧.meaning (⟦<Header as FromParts<()>>⟧.parts_of v) tt };
 
     fn to_writer<W: Sink>(&self, writer: &mut Writer<W>, _ctx: ()) -> Result<(), DekuError> {
         write_record(self, writer, ())

@@ -2,7 +2,7 @@
 
 use deku::device::{Sink, Source};
 use deku::prelude::{DekuError, DekuReader, DekuWriter, Reader, Writer};
-use deku_symmetry::{Msb, Parted, Record, ToParts, read_record, write_record};
+use deku_symmetry::{Msb, FromParts, Record, ToParts, read_record, write_record};
 
 /// A voltage and a current.
 #[derive(Debug, PartialEq, Eq, Drop)]
@@ -16,7 +16,7 @@ pub struct Sample {
 // The fields as they lie.
 type Parts = (Msb<u16, 10>, Msb<u16, 12>);
 
-impl Parted<()> for Sample {
+impl FromParts<()> for Sample {
     ghost use Rattle.std.specs.Prelude.{refl};
 
     type Parts = Parts;
@@ -54,9 +54,9 @@ impl DekuReader<()> for Sample {
 
     ghost accepts = { ⟦<Parts as DekuReader<()>>⟧.accepts };
 
-    ghost prompt = { ⟦<Parts as DekuReader<()>>⟧.prompt };
+    ghost no_read_ahead = { ⟦<Parts as DekuReader<()>>⟧.no_read_ahead };
 
-    ghost meaning = { λ _. Mapped ⟦<Sample as Parted<()>>⟧.record_of (⟦<Parts as DekuReader<()>>⟧.meaning tt) };
+    ghost meaning = { λ _. Mapped ⟦<Sample as FromParts<()>>⟧.record_of (⟦<Parts as DekuReader<()>>⟧.meaning tt) };
 
     fn from_reader_with_ctx<R: Source>(
         reader: &mut Reader<R>,
@@ -69,7 +69,7 @@ impl DekuReader<()> for Sample {
 impl DekuWriter<()> for Sample {
     ghost accepts = { ⟦<Parts as DekuWriter<()>>⟧.accepts };
 
-    ghost meaning = { λ v _. ⟦<Parts as DekuWriter<()>>⟧.meaning (⟦<Sample as Parted<()>>⟧.parts_of v) tt };
+    ghost meaning = { λ v _. ⟦<Parts as DekuWriter<()>>⟧.meaning (⟦<Sample as FromParts<()>>⟧.parts_of v) tt };
 
     fn to_writer<W: Sink>(&self, writer: &mut Writer<W>, _ctx: ()) -> Result<(), DekuError> {
         write_record(self, writer, ())

@@ -4,7 +4,7 @@ use crate::ipv4::Version;
 use deku::device::{Sink, Source};
 use deku::prelude::{DekuError, DekuReader, DekuWriter, Reader, Writer};
 use deku_symmetry::{
-    Be, Counts, Fixed, Leads, Msb, Parted, Record, ToParts, read_record, write_record,
+    Be, ItemCount, Magic, ItemCountLaw, Msb, FromParts, Record, ToParts, read_record, write_record,
 };
 use std::net::Ipv4Addr;
 
@@ -40,7 +40,7 @@ pub struct Front {
 // The fields as they lie.
 type Parts = (
     (
-        Fixed<Msb<u8, 4>, Version>,
+        Magic<Msb<u8, 4>, Version>,
         Msb<u8, 4>,
         Msb<u8, 6>,
         Msb<u8, 2>,
@@ -51,7 +51,7 @@ type Parts = (
     (Be<Ipv4Addr>, Be<Ipv4Addr>),
 );
 
-impl Parted<()> for Front {
+impl FromParts<()> for Front {
     ghost use Rattle.std.specs.Prelude.{refl};
 
     type Parts = Parts;
@@ -107,7 +107,7 @@ impl ToParts<()> for Front {
     fn parts(&self) -> Self::Parts {
         (
             (
-                Fixed::new(),
+                Magic::new(),
                 Msb(self.words),
                 Msb(self.service),
                 Msb(self.congestion),
@@ -125,7 +125,7 @@ impl ToParts<()> for Front {
 }
 
 /// Four bytes of options for each word beyond the fifth; a header of fewer than five words names no count.
-impl Counts for Front {
+impl ItemCount for Front {
     ghost use Rattle.std.specs.Prelude.{◌-◌, ◌*◌, nat_lt, cond, Some, None};
 
     ghost count_of = { λ h. cond (nat_lt h.words 5) None (Some (4 * (h.words - 5))) };
@@ -139,7 +139,7 @@ impl Counts for Front {
     }
 }
 
-impl Leads for Front {
+impl ItemCountLaw for Front {
     ghost use Rattle.std.specs.Prelude.{refl};
 
     ghost alike = { λ v w e. rw e.0.1.0 refl };
@@ -160,9 +160,9 @@ impl DekuReader<()> for Front {
 
     ghost accepts = { ⟦<Parts as DekuReader<()>>⟧.accepts };
 
-    ghost prompt = { ⟦<Parts as DekuReader<()>>⟧.prompt };
+    ghost no_read_ahead = { ⟦<Parts as DekuReader<()>>⟧.no_read_ahead };
 
-    ghost meaning = { λ _. Mapped ⟦<Front as Parted<()>>⟧.record_of (⟦<Parts as DekuReader<()>>⟧.meaning tt) };
+    ghost meaning = { λ _. Mapped ⟦<Front as FromParts<()>>⟧.record_of (⟦<Parts as DekuReader<()>>⟧.meaning tt) };
 
     fn from_reader_with_ctx<R: Source>(
         reader: &mut Reader<R>,
@@ -175,7 +175,7 @@ impl DekuReader<()> for Front {
 impl DekuWriter<()> for Front {
     ghost accepts = { ⟦<Parts as DekuWriter<()>>⟧.accepts };
 
-    ghost meaning = { λ v _. ⟦<Parts as DekuWriter<()>>⟧.meaning (⟦<Front as Parted<()>>⟧.parts_of v) tt };
+    ghost meaning = { λ v _. ⟦<Parts as DekuWriter<()>>⟧.meaning (⟦<Front as FromParts<()>>⟧.parts_of v) tt };
 
     fn to_writer<W: Sink>(&self, writer: &mut Writer<W>, _ctx: ()) -> Result<(), DekuError> {
         write_record(self, writer, ())

@@ -10,7 +10,7 @@ use deku::prelude::{
     DekuContainerRead, DekuContainerWrite, DekuError, DekuReader, DekuWriter, Reader, Writer,
 };
 use deku_symmetry::scattered::{high_bits, low_bits};
-use deku_symmetry::{Lsb, Parted, Symmetric, ToParts, read_record, write_record};
+use deku_symmetry::{Lsb, FromParts, Symmetric, ToParts, read_record, write_record};
 
 /// The operands of a branch (B). The way lies in four places: `halves` joins them.
 #[derive(Debug, Clone, Copy, PartialEq, Eq)]
@@ -85,7 +85,7 @@ type Parts = (
     Lsb<i32, 1>,
 );
 
-impl Parted<()> for Branch {
+impl FromParts<()> for Branch {
     ghost use Rattle.std.specs.Prelude.{refl};
 
     type Parts = Parts;
@@ -130,9 +130,9 @@ impl DekuReader<()> for Branch {
 
     ghost accepts = { ⟦<Parts as DekuReader<()>>⟧.accepts };
 
-    ghost prompt = { ⟦<Parts as DekuReader<()>>⟧.prompt };
+    ghost no_read_ahead = { ⟦<Parts as DekuReader<()>>⟧.no_read_ahead };
 
-    ghost meaning = { λ _. Mapped ⟦<Branch as Parted<()>>⟧.record_of (⟦<Parts as DekuReader<()>>⟧.meaning tt) };
+    ghost meaning = { λ _. Mapped ⟦<Branch as FromParts<()>>⟧.record_of (⟦<Parts as DekuReader<()>>⟧.meaning tt) };
 
     fn from_reader_with_ctx<R: Source>(
         reader: &mut Reader<R>,
@@ -145,7 +145,7 @@ impl DekuReader<()> for Branch {
 impl DekuWriter<()> for Branch {
     ghost accepts = { ⟦<Parts as DekuWriter<()>>⟧.accepts };
 
-    ghost meaning = { λ v _. ⟦<Parts as DekuWriter<()>>⟧.meaning (⟦<Branch as Parted<()>>⟧.parts_of v) tt };
+    ghost meaning = { λ v _. ⟦<Parts as DekuWriter<()>>⟧.meaning (⟦<Branch as FromParts<()>>⟧.parts_of v) tt };
 
     fn to_writer<W: Sink>(&self, writer: &mut Writer<W>, _ctx: ()) -> Result<(), DekuError> {
         write_record(self, writer, ())
@@ -162,17 +162,17 @@ impl Symmetric<()> for Branch {
     ghost use Rattle.deku_pieces.proofs.Turned.{told_symmetric};
     ghost use Rattle.deku_instructions.specs.Fields.{low, signed_low};
 
-    ghost pieces = { λ v _. ⟦<Parts as Symmetric<()>>⟧.pieces (⟦<Branch as Parted<()>>⟧.parts_of v) tt };
+    ghost pieces = { λ v _. ⟦<Parts as Symmetric<()>>⟧.pieces (⟦<Branch as FromParts<()>>⟧.parts_of v) tt };
 
-    ghost same = { λ v w. ⟦<Parts as Symmetric<()>>⟧.same (⟦<Branch as Parted<()>>⟧.parts_of v) (⟦<Branch as Parted<()>>⟧.parts_of w) };
+    ghost same = { λ v w. ⟦<Parts as Symmetric<()>>⟧.same (⟦<Branch as FromParts<()>>⟧.parts_of v) (⟦<Branch as FromParts<()>>⟧.parts_of w) };
 
-    ghost symmetric = { λ _. told_symmetric ⟦<Branch as Parted<()>>⟧.record_of ⟦<Branch as Parted<()>>⟧.parts_of (λ p ps h. refl)
-        (longer_symmetric (low 1 (unsigned 32) (⟦<(Endian, BitSize, Order) as NumberCtx>⟧.parts_of (Little, record { 0 = 1 }, Lsb0)))
-        (longer_symmetric (low 4 (unsigned 32) (⟦<(Endian, BitSize, Order) as NumberCtx>⟧.parts_of (Little, record { 0 = 4 }, Lsb0)))
-        (longer_symmetric (low 3 byte (⟦<(Endian, BitSize, Order) as NumberCtx>⟧.parts_of (Little, record { 0 = 3 }, Lsb0)))
-        (longer_symmetric (low 5 byte (⟦<(Endian, BitSize, Order) as NumberCtx>⟧.parts_of (Little, record { 0 = 5 }, Lsb0)))
-        (longer_symmetric (low 5 byte (⟦<(Endian, BitSize, Order) as NumberCtx>⟧.parts_of (Little, record { 0 = 5 }, Lsb0)))
-        (pair_symmetric (low 6 (unsigned 32) (⟦<(Endian, BitSize, Order) as NumberCtx>⟧.parts_of (Little, record { 0 = 6 }, Lsb0))) (signed_low 1 (signed 32) (⟦<(Endian, BitSize, Order) as NumberCtx>⟧.parts_of (Little, record { 0 = 1 }, Lsb0))))
+    ghost symmetric = { λ _. told_symmetric ⟦<Branch as FromParts<()>>⟧.record_of ⟦<Branch as FromParts<()>>⟧.parts_of (λ p ps h. refl)
+        (longer_symmetric (low 1 (unsigned 32) (⟦<(Endian, BitSize, Order) as NumberCtx>⟧.layout_of (Little, record { 0 = 1 }, Lsb0)))
+        (longer_symmetric (low 4 (unsigned 32) (⟦<(Endian, BitSize, Order) as NumberCtx>⟧.layout_of (Little, record { 0 = 4 }, Lsb0)))
+        (longer_symmetric (low 3 byte (⟦<(Endian, BitSize, Order) as NumberCtx>⟧.layout_of (Little, record { 0 = 3 }, Lsb0)))
+        (longer_symmetric (low 5 byte (⟦<(Endian, BitSize, Order) as NumberCtx>⟧.layout_of (Little, record { 0 = 5 }, Lsb0)))
+        (longer_symmetric (low 5 byte (⟦<(Endian, BitSize, Order) as NumberCtx>⟧.layout_of (Little, record { 0 = 5 }, Lsb0)))
+        (pair_symmetric (low 6 (unsigned 32) (⟦<(Endian, BitSize, Order) as NumberCtx>⟧.layout_of (Little, record { 0 = 6 }, Lsb0))) (signed_low 1 (signed 32) (⟦<(Endian, BitSize, Order) as NumberCtx>⟧.layout_of (Little, record { 0 = 1 }, Lsb0))))
         (λ a rest. (a, rest.0, rest.1)) (λ v. v.0) (λ v. (v.1, v.2)) (λ a rest. refl) (λ a rest. refl))
         (λ a rest. (a, rest.0, rest.1, rest.2)) (λ v. v.0) (λ v. (v.1, v.2, v.3)) (λ a rest. refl) (λ a rest. refl))
         (λ a rest. (a, rest.0, rest.1, rest.2, rest.3)) (λ v. v.0) (λ v. (v.1, v.2, v.3, v.4)) (λ a rest. refl) (λ a rest. refl))

@@ -6,7 +6,7 @@ use crate::riscv::transfer::Transfer;
 use crate::riscv::upper::Upper;
 use deku::device::{Sink, Source};
 use deku::prelude::{DekuError, DekuReader, DekuWriter, Reader, Writer};
-use deku_symmetry::{Choice, Kinds, Named, Parted, Symmetric, read_record};
+use deku_symmetry::{Choice, HasIdLaw, HasId, FromParts, Symmetric, read_record};
 
 /// Computations, under 0x13, 0x17, 0x33 and 0x37, or transfers of control. They are read under a code that was read before; another code than these is refused with
 /// `IdVariantNotFound`, and nothing moves.
@@ -20,15 +20,15 @@ pub type Computations = Choice<
     0x13,
 >;
 
-impl Named for Computation {
-    ghost id_of = { λ v. ⟦<Computations as Named>⟧.id_of v.0 };
+impl HasId for Computation {
+    ghost id_of = { λ v. ⟦<Computations as HasId>⟧.id_of v.0 };
 
     fn id(&self) -> u8 {
         self.0.id()
     }
 }
 
-impl Parted<u8> for Computation {
+impl FromParts<u8> for Computation {
     ghost use Rattle.std.specs.Prelude.{refl};
 
     type Parts = Computations;
@@ -49,7 +49,7 @@ impl DekuReader<u8> for Computation {
 
     ghost accepts = { ⟦<Computations as DekuReader<u8>>⟧.accepts };
 
-    ghost prompt = { ⟦<Computations as DekuReader<u8>>⟧.prompt };
+    ghost no_read_ahead = { ⟦<Computations as DekuReader<u8>>⟧.no_read_ahead };
 
     ghost meaning = { λ id. Mapped (λ k. record { 0 = k }) (⟦<Computations as DekuReader<u8>>⟧.meaning id) };
 
@@ -86,10 +86,10 @@ impl Symmetric<u8> for Computation {
         (choice_symmetric 0x13 id (immediate tt) (choice_symmetric 0x17 id (upper tt) (choice_symmetric 0x33 id (register tt) (choice_symmetric 0x37 id (upper tt) (transfer id))))) };
 }
 
-impl Kinds for Computation {
+impl HasIdLaw for Computation {
     ghost use Rattle.deku_instructions.specs.Words.{computations_own};
     ghost use Rattle.deku_instructions.specs.contracts.riscv.transfer.TransferKinds.TheImpl.Laws.{own-law as transfer};
 
     ghost own = { λ v id ps p. computations_own id (λ a. ⟦<Immediate as Symmetric<()>>⟧.pieces a tt) (λ a. ⟦<Upper as Symmetric<()>>⟧.pieces a tt) (λ a. ⟦<Register as Symmetric<()>>⟧.pieces a tt)
-        (λ g. ⟦<Transfer as Symmetric<u8>>⟧.pieces g id) ⟦<Transfer as Named>⟧.id_of (λ g. transfer g id) v.0 ps p };
+        (λ g. ⟦<Transfer as Symmetric<u8>>⟧.pieces g id) ⟦<Transfer as HasId>⟧.id_of (λ g. transfer g id) v.0 ps p };
 }

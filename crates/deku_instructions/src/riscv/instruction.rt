@@ -16,7 +16,7 @@ use deku::prelude::{
     DekuContainerRead, DekuContainerWrite, DekuError, DekuReader, DekuWriter, Reader, Writer,
 };
 use deku_symmetry::{
-    Choice, LsbTagged, Only, Parted, Record, Tagged, ToParts, read_record, write_record,
+    Choice, LsbTagged, Only, FromParts, Record, Tagged, ToParts, read_record, write_record,
 };
 
 /// An instruction word, by its code: the eleven of RV32I. Another code is refused with `IdVariantNotFound`, and the reader stands behind the seven bits of the code. A number
@@ -59,7 +59,7 @@ type Parts = LsbTagged<
     7,
 >;
 
-impl Parted<()> for Instruction {
+impl FromParts<()> for Instruction {
     ghost use Rattle.std.specs.Prelude.{refl};
     ghost use Rattle.deku_instructions.specs.Words.{parts_of_word, word_of_parts};
     ghost use Rattle.deku_instructions.specs.declared.riscv.instruction.Instruction.TheVariants.{Load, Fence, OperateImmediate, AddUpper, Store, Operate, LoadUpper, Branch, JumpRegister, Jump, System};
@@ -172,9 +172,9 @@ impl DekuReader<()> for Instruction {
 
     ghost accepts = { ⟦<Parts as DekuReader<()>>⟧.accepts };
 
-    ghost prompt = { ⟦<Parts as DekuReader<()>>⟧.prompt };
+    ghost no_read_ahead = { ⟦<Parts as DekuReader<()>>⟧.no_read_ahead };
 
-    ghost meaning = { λ _. Mapped ⟦<Instruction as Parted<()>>⟧.record_of (⟦<Parts as DekuReader<()>>⟧.meaning tt) };
+    ghost meaning = { λ _. Mapped ⟦<Instruction as FromParts<()>>⟧.record_of (⟦<Parts as DekuReader<()>>⟧.meaning tt) };
 
     fn from_reader_with_ctx<R: Source>(
         reader: &mut Reader<R>,
@@ -187,7 +187,7 @@ impl DekuReader<()> for Instruction {
 impl DekuWriter<()> for Instruction {
     ghost accepts = { ⟦<Parts as DekuWriter<()>>⟧.accepts };
 
-    ghost meaning = { λ v _. ⟦<Parts as DekuWriter<()>>⟧.meaning (⟦<Instruction as Parted<()>>⟧.parts_of v) tt };
+    ghost meaning = { λ v _. ⟦<Parts as DekuWriter<()>>⟧.meaning (⟦<Instruction as FromParts<()>>⟧.parts_of v) tt };
 
     fn to_writer<W: Sink>(&self, writer: &mut Writer<W>, _ctx: ()) -> Result<(), DekuError> {
         write_record(self, writer, ())

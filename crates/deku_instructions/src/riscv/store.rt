@@ -10,7 +10,7 @@ use deku::prelude::{
     DekuContainerRead, DekuContainerWrite, DekuError, DekuReader, DekuWriter, Reader, Writer,
 };
 use deku_symmetry::scattered::{high_bits, low_bits};
-use deku_symmetry::{Lsb, Parted, Symmetric, ToParts, read_record, write_record};
+use deku_symmetry::{Lsb, FromParts, Symmetric, ToParts, read_record, write_record};
 
 /// The operands of a store (S). The offset lies in two places: `offset` joins them.
 #[derive(Debug, Clone, Copy, PartialEq, Eq)]
@@ -67,7 +67,7 @@ impl Store {
 // The fields as they lie.
 type Parts = (Lsb<u32, 5>, Lsb<u8, 3>, Lsb<u8, 5>, Lsb<u8, 5>, Lsb<i32, 7>);
 
-impl Parted<()> for Store {
+impl FromParts<()> for Store {
     ghost use Rattle.std.specs.Prelude.{refl};
 
     type Parts = Parts;
@@ -107,9 +107,9 @@ impl DekuReader<()> for Store {
 
     ghost accepts = { ⟦<Parts as DekuReader<()>>⟧.accepts };
 
-    ghost prompt = { ⟦<Parts as DekuReader<()>>⟧.prompt };
+    ghost no_read_ahead = { ⟦<Parts as DekuReader<()>>⟧.no_read_ahead };
 
-    ghost meaning = { λ _. Mapped ⟦<Store as Parted<()>>⟧.record_of (⟦<Parts as DekuReader<()>>⟧.meaning tt) };
+    ghost meaning = { λ _. Mapped ⟦<Store as FromParts<()>>⟧.record_of (⟦<Parts as DekuReader<()>>⟧.meaning tt) };
 
     fn from_reader_with_ctx<R: Source>(
         reader: &mut Reader<R>,
@@ -122,7 +122,7 @@ impl DekuReader<()> for Store {
 impl DekuWriter<()> for Store {
     ghost accepts = { ⟦<Parts as DekuWriter<()>>⟧.accepts };
 
-    ghost meaning = { λ v _. ⟦<Parts as DekuWriter<()>>⟧.meaning (⟦<Store as Parted<()>>⟧.parts_of v) tt };
+    ghost meaning = { λ v _. ⟦<Parts as DekuWriter<()>>⟧.meaning (⟦<Store as FromParts<()>>⟧.parts_of v) tt };
 
     fn to_writer<W: Sink>(&self, writer: &mut Writer<W>, _ctx: ()) -> Result<(), DekuError> {
         write_record(self, writer, ())
@@ -139,15 +139,15 @@ impl Symmetric<()> for Store {
     ghost use Rattle.deku_pieces.proofs.Turned.{told_symmetric};
     ghost use Rattle.deku_instructions.specs.Fields.{low, signed_low};
 
-    ghost pieces = { λ v _. ⟦<Parts as Symmetric<()>>⟧.pieces (⟦<Store as Parted<()>>⟧.parts_of v) tt };
+    ghost pieces = { λ v _. ⟦<Parts as Symmetric<()>>⟧.pieces (⟦<Store as FromParts<()>>⟧.parts_of v) tt };
 
-    ghost same = { λ v w. ⟦<Parts as Symmetric<()>>⟧.same (⟦<Store as Parted<()>>⟧.parts_of v) (⟦<Store as Parted<()>>⟧.parts_of w) };
+    ghost same = { λ v w. ⟦<Parts as Symmetric<()>>⟧.same (⟦<Store as FromParts<()>>⟧.parts_of v) (⟦<Store as FromParts<()>>⟧.parts_of w) };
 
-    ghost symmetric = { λ _. told_symmetric ⟦<Store as Parted<()>>⟧.record_of ⟦<Store as Parted<()>>⟧.parts_of (λ p ps h. refl)
-        (longer_symmetric (low 5 (unsigned 32) (⟦<(Endian, BitSize, Order) as NumberCtx>⟧.parts_of (Little, record { 0 = 5 }, Lsb0)))
-        (longer_symmetric (low 3 byte (⟦<(Endian, BitSize, Order) as NumberCtx>⟧.parts_of (Little, record { 0 = 3 }, Lsb0)))
-        (longer_symmetric (low 5 byte (⟦<(Endian, BitSize, Order) as NumberCtx>⟧.parts_of (Little, record { 0 = 5 }, Lsb0)))
-        (pair_symmetric (low 5 byte (⟦<(Endian, BitSize, Order) as NumberCtx>⟧.parts_of (Little, record { 0 = 5 }, Lsb0))) (signed_low 7 (signed 32) (⟦<(Endian, BitSize, Order) as NumberCtx>⟧.parts_of (Little, record { 0 = 7 }, Lsb0))))
+    ghost symmetric = { λ _. told_symmetric ⟦<Store as FromParts<()>>⟧.record_of ⟦<Store as FromParts<()>>⟧.parts_of (λ p ps h. refl)
+        (longer_symmetric (low 5 (unsigned 32) (⟦<(Endian, BitSize, Order) as NumberCtx>⟧.layout_of (Little, record { 0 = 5 }, Lsb0)))
+        (longer_symmetric (low 3 byte (⟦<(Endian, BitSize, Order) as NumberCtx>⟧.layout_of (Little, record { 0 = 3 }, Lsb0)))
+        (longer_symmetric (low 5 byte (⟦<(Endian, BitSize, Order) as NumberCtx>⟧.layout_of (Little, record { 0 = 5 }, Lsb0)))
+        (pair_symmetric (low 5 byte (⟦<(Endian, BitSize, Order) as NumberCtx>⟧.layout_of (Little, record { 0 = 5 }, Lsb0))) (signed_low 7 (signed 32) (⟦<(Endian, BitSize, Order) as NumberCtx>⟧.layout_of (Little, record { 0 = 7 }, Lsb0))))
         (λ a rest. (a, rest.0, rest.1)) (λ v. v.0) (λ v. (v.1, v.2)) (λ a rest. refl) (λ a rest. refl))
         (λ a rest. (a, rest.0, rest.1, rest.2)) (λ v. v.0) (λ v. (v.1, v.2, v.3)) (λ a rest. refl) (λ a rest. refl))
         (λ a rest. (a, rest.0, rest.1, rest.2, rest.3)) (λ v. v.0) (λ v. (v.1, v.2, v.3, v.4)) (λ a rest. refl) (λ a rest. refl))

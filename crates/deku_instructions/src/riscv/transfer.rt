@@ -5,7 +5,7 @@ use crate::riscv::immediate::Immediate;
 use crate::riscv::jump::Jump;
 use deku::device::{Sink, Source};
 use deku::prelude::{DekuError, DekuReader, DekuWriter, Reader, Writer};
-use deku_symmetry::{Choice, Kinds, Named, Only, Parted, Symmetric, read_record};
+use deku_symmetry::{Choice, HasIdLaw, HasId, Only, FromParts, Symmetric, read_record};
 
 /// Transfers of control: branches, jumps and calls to the system, under 0x63, 0x67, 0x6F and 0x73. They are read as `Computation` is.
 #[derive(Debug, PartialEq, Eq, Drop)]
@@ -18,15 +18,15 @@ pub type Transfers = Choice<
     0x63,
 >;
 
-impl Named for Transfer {
-    ghost id_of = { λ v. ⟦<Transfers as Named>⟧.id_of v.0 };
+impl HasId for Transfer {
+    ghost id_of = { λ v. ⟦<Transfers as HasId>⟧.id_of v.0 };
 
     fn id(&self) -> u8 {
         self.0.id()
     }
 }
 
-impl Parted<u8> for Transfer {
+impl FromParts<u8> for Transfer {
     ghost use Rattle.std.specs.Prelude.{refl};
 
     type Parts = Transfers;
@@ -47,7 +47,7 @@ impl DekuReader<u8> for Transfer {
 
     ghost accepts = { ⟦<Transfers as DekuReader<u8>>⟧.accepts };
 
-    ghost prompt = { ⟦<Transfers as DekuReader<u8>>⟧.prompt };
+    ghost no_read_ahead = { ⟦<Transfers as DekuReader<u8>>⟧.no_read_ahead };
 
     ghost meaning = { λ id. Mapped (λ k. record { 0 = k }) (⟦<Transfers as DekuReader<u8>>⟧.meaning id) };
 
@@ -84,7 +84,7 @@ impl Symmetric<u8> for Transfer {
         (only_symmetric 0x73 id (mapped_symmetric (λ a. record { 0 = a }) (λ v. v.0) _ _ _ _ (λ a. refl) (immediate tt)))))) };
 }
 
-impl Kinds for Transfer {
+impl HasIdLaw for Transfer {
     ghost use Rattle.deku_instructions.specs.Words.{transfers_own};
 
     ghost own = { λ v id ps p. transfers_own id (λ a. ⟦<Branch as Symmetric<()>>⟧.pieces a tt) (λ a. ⟦<Immediate as Symmetric<()>>⟧.pieces a tt) (λ a. ⟦<Jump as Symmetric<()>>⟧.pieces a tt) v.0 ps p };

@@ -5,7 +5,7 @@ use deku::device::{Sink, Source};
 use deku::prelude::{
     DekuContainerRead, DekuContainerWrite, DekuError, DekuReader, DekuWriter, Reader, Writer,
 };
-use deku_symmetry::{Lsb, Parted, Symmetric, ToParts, read_record, write_record};
+use deku_symmetry::{Lsb, FromParts, Symmetric, ToParts, read_record, write_record};
 
 /// The operands of a load of the high bits of a register (U).
 #[derive(Debug, Clone, Copy, PartialEq, Eq)]
@@ -19,7 +19,7 @@ pub struct Upper {
 // The fields as they lie.
 type Parts = (Lsb<u8, 5>, Lsb<i32, 20>);
 
-impl Parted<()> for Upper {
+impl FromParts<()> for Upper {
     ghost use Rattle.std.specs.Prelude.{refl};
 
     type Parts = Parts;
@@ -47,9 +47,9 @@ impl DekuReader<()> for Upper {
 
     ghost accepts = { ⟦<Parts as DekuReader<()>>⟧.accepts };
 
-    ghost prompt = { ⟦<Parts as DekuReader<()>>⟧.prompt };
+    ghost no_read_ahead = { ⟦<Parts as DekuReader<()>>⟧.no_read_ahead };
 
-    ghost meaning = { λ _. Mapped ⟦<Upper as Parted<()>>⟧.record_of (⟦<Parts as DekuReader<()>>⟧.meaning tt) };
+    ghost meaning = { λ _. Mapped ⟦<Upper as FromParts<()>>⟧.record_of (⟦<Parts as DekuReader<()>>⟧.meaning tt) };
 
     fn from_reader_with_ctx<R: Source>(
         reader: &mut Reader<R>,
@@ -62,7 +62,7 @@ impl DekuReader<()> for Upper {
 impl DekuWriter<()> for Upper {
     ghost accepts = { ⟦<Parts as DekuWriter<()>>⟧.accepts };
 
-    ghost meaning = { λ v _. ⟦<Parts as DekuWriter<()>>⟧.meaning (⟦<Upper as Parted<()>>⟧.parts_of v) tt };
+    ghost meaning = { λ v _. ⟦<Parts as DekuWriter<()>>⟧.meaning (⟦<Upper as FromParts<()>>⟧.parts_of v) tt };
 
     fn to_writer<W: Sink>(&self, writer: &mut Writer<W>, _ctx: ()) -> Result<(), DekuError> {
         write_record(self, writer, ())
@@ -79,12 +79,12 @@ impl Symmetric<()> for Upper {
     ghost use Rattle.deku_pieces.proofs.Turned.{told_symmetric};
     ghost use Rattle.deku_instructions.specs.Fields.{low, signed_low};
 
-    ghost pieces = { λ v _. ⟦<Parts as Symmetric<()>>⟧.pieces (⟦<Upper as Parted<()>>⟧.parts_of v) tt };
+    ghost pieces = { λ v _. ⟦<Parts as Symmetric<()>>⟧.pieces (⟦<Upper as FromParts<()>>⟧.parts_of v) tt };
 
-    ghost same = { λ v w. ⟦<Parts as Symmetric<()>>⟧.same (⟦<Upper as Parted<()>>⟧.parts_of v) (⟦<Upper as Parted<()>>⟧.parts_of w) };
+    ghost same = { λ v w. ⟦<Parts as Symmetric<()>>⟧.same (⟦<Upper as FromParts<()>>⟧.parts_of v) (⟦<Upper as FromParts<()>>⟧.parts_of w) };
 
-    ghost symmetric = { λ _. told_symmetric ⟦<Upper as Parted<()>>⟧.record_of ⟦<Upper as Parted<()>>⟧.parts_of (λ p ps h. refl)
-        (pair_symmetric (low 5 byte (⟦<(Endian, BitSize, Order) as NumberCtx>⟧.parts_of (Little, record { 0 = 5 }, Lsb0))) (signed_low 20 (signed 32) (⟦<(Endian, BitSize, Order) as NumberCtx>⟧.parts_of (Little, record { 0 = 20 }, Lsb0))))
+    ghost symmetric = { λ _. told_symmetric ⟦<Upper as FromParts<()>>⟧.record_of ⟦<Upper as FromParts<()>>⟧.parts_of (λ p ps h. refl)
+        (pair_symmetric (low 5 byte (⟦<(Endian, BitSize, Order) as NumberCtx>⟧.layout_of (Little, record { 0 = 5 }, Lsb0))) (signed_low 20 (signed 32) (⟦<(Endian, BitSize, Order) as NumberCtx>⟧.layout_of (Little, record { 0 = 20 }, Lsb0))))
         (λ v b s r u m. m) (λ b s r u m. m) };
 }
 

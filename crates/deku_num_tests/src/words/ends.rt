@@ -77,14 +77,14 @@ fn expect_words(
     let want = if start.bits().wrapping_add(n) <= bytes.len().wrapping_mul(8) {
         Ok(slow_words(bytes, start, n, order)?)
     } else {
-        Err(Refusal::Ended(n).error())
+        Err(Refusal::Until(n).error())
     };
-    let at_hand = words_of(alloc, Cursor::new(bytes), start, n, order);
+    let try_take = words_of(alloc, Cursor::new(bytes), start, n, order);
     let fetched = words_of(alloc, Trickle::new(bytes), start, n, order);
     let never = FailAt::new(Cursor::new(bytes), 0);
     let called = words_of(alloc, never, start, n, order);
     let row = (start.bits(), n);
-    same(&row, &(at_hand, fetched, called), &(want, want, want))
+    same(&row, &(try_take, fetched, called), &(want, want, want))
 }
 
 // Words of 1 to 64 bits in both orders, after these bits.
@@ -155,7 +155,7 @@ const HIGH: [(usize, Option<u64>); 7] = [
 fn expect_high<R: Source + Drop>(alloc: Global, source: R) -> Result<(), Fail> {
     let mut reader = Reader::new(alloc, source);
     for (n, want) in HIGH {
-        same(&(0, n), &reader.high_at_hand(n.min(64)), &want)?;
+        same(&(0, n), &reader.try_read_msb(n.min(64)), &want)?;
     }
     let seen = (reader.bits_read(), reader.read_word(8, Msb0));
     same(&(1, 8), &seen, &(40, Ok(0x45)))

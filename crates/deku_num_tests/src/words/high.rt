@@ -41,7 +41,7 @@ fn lay_numbers<W: Sink + Drop>(rt: &impl Abort, sink: W, row: &Row) -> Result<W,
     writer.write_bits_order(front, Lsb0)?;
     for (number, n, is_laid) in *numbers {
         assert!(rt; *n < 64 && *number < 1 << *n);
-        same(&(front.len(), *n), &writer.high_laid(*number, *n), is_laid)?;
+        same(&(front.len(), *n), &writer.try_write_msb(*number, *n), is_laid)?;
     }
     let left = (writer.bits_written(), writer.leftover().0.len());
     same(&(front.len(), 64), &left, &(*count, *pending))?;

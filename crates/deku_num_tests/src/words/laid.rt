@@ -10,7 +10,7 @@ use std::io::{Cursor, Seek, SeekFrom, Write};
 use std::process::Abort;
 use std::test::Fail;
 
-// A sink that only gives: it has `lay` as the trait has it.
+// A sink that only gives: it has `try_put` as the trait has it.
 #[derive(Drop)]
 struct Giving<S> {
     inner: S,
@@ -34,9 +34,9 @@ impl<S: Seek> Seek for Giving<S> {
 
 // It says nothing of itself.
 impl<S: Sink> Sink for Giving<S> {
-    ghost use Rattle.deku_bits.specs.Devices.{untold_sink};
+    ghost use Rattle.deku_bits.specs.Devices.{unknown_sink};
 
-    ghost told = { λ _. untold_sink };
+    ghost known = { λ _. unknown_sink };
 
     fn give(&mut self, bytes: &[u8]) -> io::Result<()> {
         match self.inner.give(bytes) {
@@ -45,7 +45,7 @@ impl<S: Sink> Sink for Giving<S> {
         }
     }
 
-    fn go(&mut self, to: SeekFrom) -> io::Result<u64> {
+    fn seek_to(&mut self, to: SeekFrom) -> io::Result<u64> {
         self.seek(to)
     }
 }

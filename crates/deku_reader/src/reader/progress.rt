@@ -9,7 +9,7 @@ ghost use Rattle.std.specs.Vec.{vec_len, vec_capacity};
 ghost use Rattle.deku_stream.specs.declared.ctx.Order.{Order as BitOrder};
 ghost use Rattle.deku_stream.specs.declared.ctx.Order.TheVariants.{Msb0};
 ghost use Rattle.deku_stream.specs.Bits.{bits_of};
-ghost use Rattle.deku_device.specs.Devices.{NoFewerFailures, MoreFailures, FewerThan, StaysEmpty};
+ghost use Rattle.deku_device.specs.Devices.{DeviceKept, DeviceFailed, FewerThan, StaysEmpty};
 ghost use Rattle.deku_stream.specs.Kept.{Admits};
 ghost use Rattle.deku_stream.specs.Moving.{Moves, FewerBits};
 ghost use Rattle.deku_stream.specs.Faults.{error_of};
@@ -27,7 +27,7 @@ use crate::reader::progress::bits::bits_into;
 use crate::reader::progress::bytes::{bytes_into, bytes_onto};
 use crate::reader::progress::skips::{drop_bits, pass_bytes, pop_bits};
 use crate::reader::progress::tally::Tally;
-use crate::reader::progress::words::{high_at_hand, word_from};
+use crate::reader::progress::words::{try_read_msb, word_from};
 use deku_device::device::Source;
 use deku_stream::ctx::Order;
 use deku_stream::error::{DekuError, Fault, NeedSize};
@@ -38,12 +38,12 @@ use std::marker::Model;
 
 /// The unread bits of a byte, the fault that stopped the reader, if any, and how many bits were read.
 #[derive(Drop)]
-pub struct Progress {
+pub struct ReaderState {
     window: Window,
     tally: Tally,
 }
 
-impl Model for Progress {
+impl Model for ReaderState {
     ghost use Rattle.std.specs.Prelude.{◌≤◌, Bool, List, length};
     ghost use Rattle.deku_stream.specs.Standings.{Standing};
     ghost use Rattle.deku_stream.specs.Kept.{standing_of};
@@ -55,29 +55,29 @@ impl Model for Progress {
     ghost invariant = { λ p. length p.window ≤ 8 };
 }
 
-impl Progress {
+impl ReaderState {
     /// Nothing is read.
-    pub fn start() -> Progress
+    pub fn start() -> ReaderState
         ensures { result ≡ Going [] 0 }
     {
-        Progress::going(0)
+        ReaderState::going(0)
     }
 
     /// So many bits are read, and no bits of a byte are unread.
-    pub fn going(bits_read: usize) -> Progress
+    pub fn going(bits_read: usize) -> ReaderState
         ensures { result ≡ Going [] bits_read }
     {
-        Progress {
+        ReaderState {
             window: Window::empty(),
             tally: Tally::going(bits_read),
         }
     }
 
     /// So many bits are read, and this fault is kept.
-    pub fn stopped(fault: Fault, bits_read: usize) -> Progress
+    pub fn stopped(fault: Fault, bits_read: usize) -> ReaderState
         ensures { result ≡ Stopped [] (error_of fault) bits_read }
     {
-        Progress {
+        ReaderState {
             window: Window::empty(),
             tally: Tally::stopped(fault, bits_read),
         }
@@ -139,8 +139,8 @@ impl Progress {
         dst: &mut [bool],
         order: Order,
     ) -> Result<(), DekuError>
-        ensures takes { ReadsAt (TakesBits order (length dst.old)) (R.told source.old) self.old (filling result dst.new) (R.told source.new) self.new }
-        ensures fetched { OnOk result (FetchesFor (length dst.old) self.old (R.told source.old) (R.told source.new)) }
+        ensures takes { ReadsAt (TakesBits order (length dst.old)) (R.known source.old) self.old (filling result dst.new) (R.known source.new) self.new }
+        ensures fetched { OnOk result (FetchesFor (length dst.old) self.old (R.known source.old) (R.known source.new)) }
         ensures early { NoneEarly self.old self.new }
         ensures still { NeedsNone (length dst.old) self.old → source.new ≡ source.old }
         ensures stopped { Untouched self.old source.old source.new }
@@ -153,7 +153,7 @@ impl Progress {
             }
             Err(error) => {
                 let fault = fault_of(&error, dst.len());
-                *self = Progress::stopped(fault, self.tally.count());
+                *self = ReaderState::stopped(fault, self.tally.count());
                 Err(fault.error())
             }
         }
@@ -168,8 +168,8 @@ impl Progress {
         order: Order,
     ) -> Result<u128, DekuError>
         requires { amt ≤ 128 }
-        ensures reads { ReadsAt (ReadsWord order amt) (R.told source.old) self.old result (R.told source.new) self.new }
-        ensures fetched { OnOk result (FetchesFor amt self.old (R.told source.old) (R.told source.new)) }
+        ensures reads { ReadsAt (ReadsWord order amt) (R.known source.old) self.old result (R.known source.new) self.new }
+        ensures fetched { OnOk result (FetchesFor amt self.old (R.known source.old) (R.known source.new)) }
         ensures early { NoneEarly self.old self.new }
         ensures still { NeedsNone amt self.old → source.new ≡ source.old }
         ensures stopped { Untouched self.old source.old source.new }
@@ -182,7 +182,7 @@ impl Progress {
             }
             Err(kind) => {
                 let fault = fault_of_kind(kind, amt);
-                *self = Progress::stopped(fault, self.tally.count());
+                *self = ReaderState::stopped(fault, self.tally.count());
                 Err(fault.error())
             }
         }
@@ -191,11 +191,11 @@ impl Progress {
     /// Takes at most 64 bits from the highest down, where nothing refuses them and they are unread or at hand, as their number. It answers none else, and
     /// then nothing moves.
     #[inline(always)]
-    pub fn high_at_hand<R: Source>(&mut self, source: &mut R, amt: usize) -> Option<u64>
+    pub fn try_read_msb<R: Source>(&mut self, source: &mut R, amt: usize) -> Option<u64>
         requires { amt ≤ 64 }
-        ensures takes { IfSome result (λ number. ReadsAt (TakesBits Msb0 amt) (R.told source.old) self.old (Ok (bits_of amt number)) (R.told source.new) self.new) }
+        ensures takes { IfSome result (λ number. ReadsAt (TakesBits Msb0 amt) (R.known source.old) self.old (Ok (bits_of amt number)) (R.known source.new) self.new) }
         ensures below { IfSome result (λ number. number < 2 ^ amt) }
-        ensures fetched { IfSome result (λ number. FetchesFor amt self.old (R.told source.old) (R.told source.new)) }
+        ensures fetched { IfSome result (λ number. FetchesFor amt self.old (R.known source.old) (R.known source.new)) }
         ensures early { NoneEarly self.old self.new }
         ensures still { NeedsNone amt self.old → source.new ≡ source.old }
         ensures stays { IsNone result → (self.new ≡ self.old) × (source.new ≡ source.old) }
@@ -204,7 +204,7 @@ impl Progress {
         let Ok(()) = self.admits(amt) else {
             return None;
         };
-        let number = high_at_hand(source, &mut self.window, amt)?;
+        let number = try_read_msb(source, &mut self.window, amt)?;
         self.tally.add(amt);
         Some(number)
     }
@@ -217,8 +217,8 @@ impl Progress {
         dst: &mut [u8],
         order: Order,
     ) -> Result<(), DekuError>
-        ensures reads { ReadsAt (ReadsBytes order (length dst.old)) (R.told source.old) self.old (filling result dst.new) (R.told source.new) self.new }
-        ensures fetched { OnOk result (FetchesFor (8 * length dst.old) self.old (R.told source.old) (R.told source.new)) }
+        ensures reads { ReadsAt (ReadsBytes order (length dst.old)) (R.known source.old) self.old (filling result dst.new) (R.known source.new) self.new }
+        ensures fetched { OnOk result (FetchesFor (8 * length dst.old) self.old (R.known source.old) (R.known source.new)) }
         ensures early { NoneEarly self.old self.new }
         ensures still { NeedsNone (8 * length dst.old) self.old → source.new ≡ source.old }
         ensures stopped { Untouched self.old source.old source.new }
@@ -232,7 +232,7 @@ impl Progress {
             }
             Err(kind) => {
                 let fault = fault_of_kind(kind, bits);
-                *self = Progress::stopped(fault, self.tally.count());
+                *self = ReaderState::stopped(fault, self.tally.count());
                 Err(fault.error())
             }
         }
@@ -249,8 +249,8 @@ impl Progress {
     ) -> Result<(), DekuError>
         requires empty { vec_len bytes.old ≡ 0 }
         requires room { amt ≤ vec_capacity bytes.old }
-        ensures reads { ReadsAt (ReadsBytes order amt) (R.told source.old) self.old (filling result bytes.new.items) (R.told source.new) self.new }
-        ensures fetched { OnOk result (FetchesFor (8 * amt) self.old (R.told source.old) (R.told source.new)) }
+        ensures reads { ReadsAt (ReadsBytes order amt) (R.known source.old) self.old (filling result bytes.new.items) (R.known source.new) self.new }
+        ensures fetched { OnOk result (FetchesFor (8 * amt) self.old (R.known source.old) (R.known source.new)) }
         ensures early { NoneEarly self.old self.new }
         ensures still { NeedsNone (8 * amt) self.old → source.new ≡ source.old }
         ensures stopped { Untouched self.old source.old source.new }
@@ -263,7 +263,7 @@ impl Progress {
             }
             Err(kind) => {
                 let fault = fault_of_kind(kind, 8 * amt);
-                *self = Progress::stopped(fault, self.tally.count());
+                *self = ReaderState::stopped(fault, self.tally.count());
                 Err(fault.error())
             }
         }
@@ -271,8 +271,8 @@ impl Progress {
 
     /// Whether the end of input is reached: fetches a byte where no bit is unread, and does not count it.
     pub fn end<R: Source>(&mut self, source: &mut R) -> Result<bool, DekuError>
-        ensures reads { ReadsAt Ending (R.told source.old) self.old result (R.told source.new) self.new }
-        ensures fetched { OnOk result (FetchesAhead self.old self.new (R.told source.old) (R.told source.new)) }
+        ensures reads { ReadsAt Ending (R.known source.old) self.old result (R.known source.new) self.new }
+        ensures fetched { OnOk result (FetchesAhead self.old self.new (R.known source.old) (R.known source.new)) }
         ensures held { OnOk result (length (window_of self.new) ≤ 8) }
         ensures unread { 0 < length (window_of self.old) → (result ≡ Ok false) × (self.new ≡ self.old) × (source.new ≡ source.old) }
         ensures stopped { Untouched self.old source.old source.new }
@@ -291,7 +291,7 @@ impl Progress {
             Err(error) => match fault_of(&error, 8) {
                 Fault::Incomplete(_) => Ok(true),
                 fault => {
-                    *self = Progress::stopped(fault, self.tally.count());
+                    *self = ReaderState::stopped(fault, self.tally.count());
                     Err(fault.error())
                 }
             },
@@ -305,7 +305,7 @@ impl Progress {
         amt: usize,
         order: Order,
     ) -> Result<(), DekuError>
-        ensures skips { ReadsAt (Skips order amt) (R.told source.old) self.old result (R.told source.new) self.new }
+        ensures skips { ReadsAt (Skips order amt) (R.known source.old) self.old result (R.known source.new) self.new }
         ensures early { NoneEarly self.old self.new }
         ensures still { NeedsNone amt self.old → source.new ≡ source.old }
         ensures named { NamesRest amt self.old result }
@@ -317,7 +317,7 @@ impl Progress {
         pop_bits(&mut self.window, inside, order);
         if let Err(error) = pass_bytes(source, behind / 8) {
             let fault = Fault::Io(error.kind());
-            *self = Progress::stopped(fault, self.tally.count());
+            *self = ReaderState::stopped(fault, self.tally.count());
             return Err(fault.error());
         }
         match drop_bits(source, &mut self.window, behind % 8, order) {
@@ -327,7 +327,7 @@ impl Progress {
             }
             Err(error) => {
                 let missing = fault_of(&error, behind % 8);
-                *self = Progress::stopped(missing, self.tally.count());
+                *self = ReaderState::stopped(missing, self.tally.count());
                 Err(missing.error())
             }
         }
@@ -336,11 +336,11 @@ impl Progress {
 
 // Fetches one byte.
 fn fetch_byte<R: Source>(source: &mut R) -> io::Result<u8>
-    ensures bytes { IfOk result (λ b. Consumes (R.told source.old).coming (R.told source.new).coming (b ∷ [])) }
-    ensures short { IfErr result (λ e. error_kind e ≡ ErrorKind.UnexpectedEof → FewerThan 1 (R.told source.old).coming) }
-    ensures ended { IfErr result (λ e. error_kind e ≡ ErrorKind.UnexpectedEof → StaysEmpty (R.told source.old).coming (R.told source.new).coming) }
-    ensures failed { IfErr result (λ e. error_kind e ≢ ErrorKind.UnexpectedEof → MoreFailures (R.told source.old).health (R.told source.new).health) }
-    ensures kept { NoFewerFailures (R.told source.old).health (R.told source.new).health }
+    ensures bytes { IfOk result (λ b. Consumes (R.known source.old).remaining (R.known source.new).remaining (b ∷ [])) }
+    ensures short { IfErr result (λ e. error_kind e ≡ ErrorKind.UnexpectedEof → FewerThan 1 (R.known source.old).remaining) }
+    ensures ended { IfErr result (λ e. error_kind e ≡ ErrorKind.UnexpectedEof → StaysEmpty (R.known source.old).remaining (R.known source.new).remaining) }
+    ensures failed { IfErr result (λ e. error_kind e ≢ ErrorKind.UnexpectedEof → DeviceFailed (R.known source.old).health (R.known source.new).health) }
+    ensures kept { DeviceKept (R.known source.old).health (R.known source.new).health }
 {
     let mut buf = [0u8; 1];
     source.fetch(&mut buf)?;

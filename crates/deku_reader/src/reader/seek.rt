@@ -10,7 +10,7 @@ ghost use Rattle.deku_device.specs.Seeking.{count_after, Seeks, RefusedSeek, Com
 ghost use Rattle.deku_stream.specs.Standings.{Going, Stopped, count_of};
 
 use crate::reader::Reader;
-use crate::reader::progress::Progress;
+use crate::reader::progress::ReaderState;
 use deku_device::device::Source;
 use deku_stream::error::Fault;
 use std::io;
@@ -43,9 +43,9 @@ impl<R: Source> Seek for Reader<R> {
         ensures place { SeekMoves (R.stream_position self.old.source) (R.stream_position self.new.source) (R.stream_bytes self.old.source) to result }
         ensures source_bytes { Keeps (R.stream_bytes self.old.source) (R.stream_bytes self.new.source) }
         // Where the source tells all its bytes, those from there on are to come.
-        ensures sought { Seeks (R.told self.old.source).health (R.told self.new.source).health to result }
-        ensures coming { ComesFrom (R.told self.old.source).health.whole result (R.told self.new.source) }
-        ensures nowhere { count_after to (count_of self.old.state) < 2 ^ 64 → RefusedSeek (R.told self.old.source).health (R.told self.new.source).health to result }
+        ensures sought { Seeks (R.known self.old.source).health (R.known self.new.source).health to result }
+        ensures remaining { ComesFrom (R.known self.old.source).health.whole result (R.known self.new.source) }
+        ensures nowhere { count_after to (count_of self.old.state) < 2 ^ 64 → RefusedSeek (R.known self.old.source).health (R.known self.new.source).health to result }
         ensures alloc { self.new.alloc ≡ self.old.alloc }
         // What the trait asks of a stream whose own place is not known.
         ensures moves { SeekMoves None None None to result }
@@ -54,14 +54,14 @@ impl<R: Source> Seek for Reader<R> {
         let Some(count) = count_for(to, self.state.bits_read()) else {
             return Err(io::Error::new(ErrorKind::InvalidInput, "count past usize"));
         };
-        match Source::go(&mut self.source, to) {
+        match Source::seek_to(&mut self.source, to) {
             Ok(place) => {
-                self.state = Progress::going(count);
+                self.state = ReaderState::going(count);
                 Ok(place)
             }
             Err(error) => {
                 let fault = Fault::Io(error.kind());
-                self.state = Progress::stopped(fault, self.state.bits_read());
+                self.state = ReaderState::stopped(fault, self.state.bits_read());
                 Err(error)
             }
         }
@@ -73,9 +73,9 @@ impl<R: Source> Seek for Reader<R> {
         ensures err { IfErr result (λ e. self.new.state ≡ Stopped [] (DekuError.Io (error_kind e)) (count_of self.old.state)) }
         ensures place { MovesTo (R.stream_position self.old.source) (R.stream_position self.new.source) 0 result }
         ensures source_bytes { Keeps (R.stream_bytes self.old.source) (R.stream_bytes self.new.source) }
-        ensures sought { Seeks (R.told self.old.source).health (R.told self.new.source).health (Start 0) (toward 0 result) }
-        ensures coming { ComesFrom (R.told self.old.source).health.whole (toward 0 result) (R.told self.new.source) }
-        ensures nowhere { RefusedSeek (R.told self.old.source).health (R.told self.new.source).health (Start 0) (toward 0 result) }
+        ensures sought { Seeks (R.known self.old.source).health (R.known self.new.source).health (Start 0) (toward 0 result) }
+        ensures remaining { ComesFrom (R.known self.old.source).health.whole (toward 0 result) (R.known self.new.source) }
+        ensures nowhere { RefusedSeek (R.known self.old.source).health (R.known self.new.source).health (Start 0) (toward 0 result) }
         ensures alloc { self.new.alloc ≡ self.old.alloc }
         ensures moves { MovesTo None None 0 result }
         ensures bytes { Keeps None None }
@@ -91,9 +91,9 @@ impl<R: Source> Seek for Reader<R> {
         ensures err { IfErr result (λ e. self.new.state ≡ Stopped [] (DekuError.Io (error_kind e)) (count_of self.old.state)) }
         ensures place { SeekMoves (R.stream_position self.old.source) (R.stream_position self.new.source) (R.stream_bytes self.old.source) (Current (pos 0)) result }
         ensures source_bytes { Keeps (R.stream_bytes self.old.source) (R.stream_bytes self.new.source) }
-        ensures sought { Seeks (R.told self.old.source).health (R.told self.new.source).health (Current (pos 0)) result }
-        ensures coming { ComesFrom (R.told self.old.source).health.whole result (R.told self.new.source) }
-        ensures nowhere { RefusedSeek (R.told self.old.source).health (R.told self.new.source).health (Current (pos 0)) result }
+        ensures sought { Seeks (R.known self.old.source).health (R.known self.new.source).health (Current (pos 0)) result }
+        ensures remaining { ComesFrom (R.known self.old.source).health.whole result (R.known self.new.source) }
+        ensures nowhere { RefusedSeek (R.known self.old.source).health (R.known self.new.source).health (Current (pos 0)) result }
         ensures alloc { self.new.alloc ≡ self.old.alloc }
         ensures stays { StaysAt None None }
         ensures bytes { Keeps None None }
@@ -109,9 +109,9 @@ impl<R: Source> Seek for Reader<R> {
         ensures err { count_after (Current offset) (count_of self.old.state) < 2 ^ 64 → IfErr result (λ e. self.new.state ≡ Stopped [] (DekuError.Io (error_kind e)) (count_of self.old.state)) }
         ensures place { MovesBy (R.stream_position self.old.source) (R.stream_position self.new.source) offset result }
         ensures source_bytes { Keeps (R.stream_bytes self.old.source) (R.stream_bytes self.new.source) }
-        ensures sought { (n : ℕ) × Seeks (R.told self.old.source).health (R.told self.new.source).health (Current offset) (toward n result)
-            × ComesFrom (R.told self.old.source).health.whole (toward n result) (R.told self.new.source) }
-        ensures nowhere { count_after (Current offset) (count_of self.old.state) < 2 ^ 64 → RefusedSeek (R.told self.old.source).health (R.told self.new.source).health (Current offset) (toward 0 result) }
+        ensures sought { (n : ℕ) × Seeks (R.known self.old.source).health (R.known self.new.source).health (Current offset) (toward n result)
+            × ComesFrom (R.known self.old.source).health.whole (toward n result) (R.known self.new.source) }
+        ensures nowhere { count_after (Current offset) (count_of self.old.state) < 2 ^ 64 → RefusedSeek (R.known self.old.source).health (R.known self.new.source).health (Current offset) (toward 0 result) }
         ensures alloc { self.new.alloc ≡ self.old.alloc }
         ensures moves { MovesBy None None offset result }
         ensures bytes { Keeps None None }

@@ -2,7 +2,7 @@
 
 ghost use Rattle.std.specs.Prelude.{◌≡◌, ℕ, ◌<◌, List, Option, Some, None, map, length, slice_index_or, slice_set, IsSome, OnOk, IfOk};
 ghost use Rattle.deku_bits.specs.ReaderCalls.{Reads, filling};
-ghost use Rattle.deku_reading.specs.Early.{Promptly};
+ghost use Rattle.deku_reading.specs.Early.{NoReadAhead};
 ghost use Rattle.deku_reading.specs.Lists.{ReadsTimes};
 
 use crate::traits::DekuReader;
@@ -12,7 +12,7 @@ use deku_bits::reader::Reader;
 use std::array;
 
 /// A type that is read as a fixed number of elements, by way of slots for them.
-pub trait Fixed: Drop {
+pub trait ArrayLike: Drop {
     /// An element.
     type Element: Drop;
 
@@ -40,9 +40,9 @@ pub trait Fixed: Drop {
         Self::Element: DekuReader<C>,
         requires readable { Self.Element.DekuReader.accepts ctx }
         requires slots { length (slots_of slots.old) ≡ count }
-        ensures reads { (xs : List Self.Element) × Reads R.told (ReadsTimes count (Self.Element.DekuReader.meaning ctx)) reader.old (filling result xs) reader.new
+        ensures reads { (xs : List Self.Element) × Reads R.known (ReadsTimes count (Self.Element.DekuReader.meaning ctx)) reader.old (filling result xs) reader.new
             × IfOk result (λ _. (length xs ≡ count) × (slots_of slots.new ≡ map Some xs)) }
-        ensures early { OnOk result (Self.Element.DekuReader.prompt ctx → Promptly R.told reader.old reader.new) };
+        ensures early { OnOk result (Self.Element.DekuReader.no_read_ahead ctx → NoReadAhead R.known reader.old reader.new) };
 
     /// The elements in slots that are full.
     fn turned(slots: Self::Slots) -> Self
@@ -54,7 +54,7 @@ pub trait Fixed: Drop {
 
 /// The elements in order, under the elements' context. The refusal is that of the first element that is refused, and what the elements
 /// before it moved stays moved.
-impl<C: Copy, X: Fixed> DekuReader<C> for X
+impl<C: Copy, X: ArrayLike> DekuReader<C> for X
 where
     X::Element: DekuReader<C>,
 {
@@ -62,7 +62,7 @@ where
 
     ghost accepts = { X.Element.accepts };
 
-    ghost prompt = { X.Element.prompt };
+    ghost no_read_ahead = { X.Element.no_read_ahead };
 
     ghost meaning = { λ c. Seen X.elements_of (ReadsTimes X.count (X.Element.meaning c)) };
 
@@ -82,9 +82,9 @@ fn fill_slots<C: Copy, T: DekuReader<C>, R: Source>(
     ctx: C,
 ) -> Result<(), DekuError>
     requires { T.accepts ctx }
-    ensures reads { (xs : List T) × Reads R.told (ReadsTimes (length slots.old) (T.meaning ctx)) reader.old (filling result xs) reader.new
+    ensures reads { (xs : List T) × Reads R.known (ReadsTimes (length slots.old) (T.meaning ctx)) reader.old (filling result xs) reader.new
         × IfOk result (λ _. (length xs ≡ length slots.old) × (slots.new ≡ map Some xs)) }
-    ensures early { OnOk result (T.prompt ctx → Promptly R.told reader.old reader.new) }
+    ensures early { OnOk result (T.no_read_ahead ctx → NoReadAhead R.known reader.old reader.new) }
 {
     for place in 0..slots.len() {
         match T::from_reader_with_ctx(reader, ctx) {
@@ -120,7 +120,7 @@ fn turned_slots<T: Drop, const N: usize>(slots: [Option<T>; N]) -> [T; N]
     array::from_fn(take)
 }
 
-impl<T: Drop, const N: usize> Fixed for [T; N] {
+impl<T: Drop, const N: usize> ArrayLike for [T; N] {
     type Element = T;
 
     type Slots = [Option<T>; N];

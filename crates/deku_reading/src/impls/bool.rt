@@ -17,9 +17,9 @@ impl<C: NumberCtx> DekuReader<C> for bool {
 
     ghost accepts = { λ c. c ≡ c };
 
-    ghost prompt = { λ c. c ≡ c };
+    ghost no_read_ahead = { λ c. c ≡ c };
 
-    ghost meaning = { λ c. Then (ReadsUnsigned byte (C.parts_of c)) (ShowsUnless (λ n. 1 < n) (codes "cannot parse bool value") numeral) };
+    ghost meaning = { λ c. Then (ReadsUnsigned byte (C.layout_of c)) (ShowsUnless (λ n. 1 < n) (codes "cannot parse bool value") numeral) };
 
     #[inline(always)]
     fn from_reader_with_ctx<R: Source>(reader: &mut Reader<R>, ctx: C) -> Result<Self, DekuError> {

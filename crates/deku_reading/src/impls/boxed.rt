@@ -17,7 +17,7 @@ impl<Ctx: Copy, T: DekuReader<Ctx>> DekuReader<Ctx> for Box<T> {
 
     ghost accepts = { T.accepts };
 
-    ghost prompt = { T.prompt };
+    ghost no_read_ahead = { T.no_read_ahead };
 
     ghost meaning = { λ c. Then (T.meaning c) (λ v. Checked LacksMemory (Shows (λ b. b.value) v)) };
 
@@ -42,7 +42,7 @@ impl<T: DekuReader<Ctx>, P: Predicate<T>, Ctx: Copy> DekuReader<(Limit<T, P>, Ct
 
     ghost accepts = { λ c. T.accepts c.1 × AsksAll P.asks_all c.0 };
 
-    ghost prompt = { λ c. T.prompt c.1 × EndsItself c.0 };
+    ghost no_read_ahead = { λ c. T.no_read_ahead c.1 × EndsItself c.0 };
 
     ghost meaning = { λ c. MappedBy (λ xs b. boxed_slice_items b ≡ xs) (ReadsUnder P.answers P.ended c.0 (T.meaning c.1)) };
 
@@ -59,7 +59,7 @@ impl<T: DekuReader<Ctx>, P: Predicate<T>, Ctx: Copy> DekuReader<(Limit<T, P>, Ct
 impl<T: DekuReader<()>, P: Predicate<T>> DekuReader<Limit<T, P>> for BoxedSlice<T> {
     ghost accepts = { λ c. ⟦<BoxedSlice<T> as DekuReader<(Limit<T, P>, ())>>⟧.accepts (c, tt) };
 
-    ghost prompt = { λ c. ⟦<BoxedSlice<T> as DekuReader<(Limit<T, P>, ())>>⟧.prompt (c, tt) };
+    ghost no_read_ahead = { λ c. ⟦<BoxedSlice<T> as DekuReader<(Limit<T, P>, ())>>⟧.no_read_ahead (c, tt) };
 
     ghost meaning = { λ c. ⟦<BoxedSlice<T> as DekuReader<(Limit<T, P>, ())>>⟧.meaning (c, tt) };
 

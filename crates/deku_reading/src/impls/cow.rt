@@ -13,7 +13,7 @@ impl<Ctx: Copy, T: Clone + DekuReader<Ctx>> DekuReader<Ctx> for Cow<'_, T> {
 
     ghost accepts = { T.accepts };
 
-    ghost prompt = { T.prompt };
+    ghost no_read_ahead = { T.no_read_ahead };
 
     ghost meaning = { λ c. Mapped Owned (T.meaning c) };
 

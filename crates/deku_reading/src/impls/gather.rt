@@ -3,7 +3,7 @@
 ghost use Rattle.std.specs.Prelude.{◌≡◌, OnOk};
 ghost use Rattle.std.specs.List.{FoldsTo};
 ghost use Rattle.deku_bits.specs.ReaderCalls.{Reads};
-ghost use Rattle.deku_reading.specs.Early.{Promptly};
+ghost use Rattle.deku_reading.specs.Early.{NoReadAhead};
 ghost use Rattle.deku_reading.specs.Limits.{ReadsCount, ReadsUntil, ReadsBitsOf, ReadsToEnd, ReadsUnder, AsksAll, EndsItself, MappedBy};
 
 use crate::traits::DekuReader;
@@ -21,8 +21,8 @@ fn gather_count<B: Gather<T>, T: DekuReader<C>, C: Copy, R: Source>(
     ctx: C,
 ) -> Result<B, DekuError>
     requires { T.accepts ctx }
-    ensures reads { Reads R.told (MappedBy (λ xs b. FoldsTo B.puts into xs b) (ReadsCount count (T.meaning ctx))) reader.old result reader.new }
-    ensures early { OnOk result (T.prompt ctx → Promptly R.told reader.old reader.new) }
+    ensures reads { Reads R.known (MappedBy (λ xs b. FoldsTo B.puts into xs b) (ReadsCount count (T.meaning ctx))) reader.old result reader.new }
+    ensures early { OnOk result (T.no_read_ahead ctx → NoReadAhead R.known reader.old reader.new) }
 {
     for _ in 0..count {
         let item = T::from_reader_with_ctx(reader, ctx)?;
@@ -40,8 +40,8 @@ fn gather_asking<B: Gather<T>, T: DekuReader<C>, C: Copy, R: Source, P: Predicat
 ) -> Result<B, DekuError>
     requires readable { T.accepts ctx }
     requires askable { P.asks_all predicate.old }
-    ensures reads { Reads R.told (MappedBy (λ xs b. FoldsTo B.puts into xs b) (ReadsUntil P.answers (λ p. p ≡ predicate.new) predicate.old (T.meaning ctx))) reader.old result reader.new }
-    ensures early { OnOk result (T.prompt ctx → Promptly R.told reader.old reader.new) }
+    ensures reads { Reads R.known (MappedBy (λ xs b. FoldsTo B.puts into xs b) (ReadsUntil P.answers (λ p. p ≡ predicate.new) predicate.old (T.meaning ctx))) reader.old result reader.new }
+    ensures early { OnOk result (T.no_read_ahead ctx → NoReadAhead R.known reader.old reader.new) }
 {
     loop {
         let before = reader.bits_read();
@@ -63,8 +63,8 @@ fn gather_until<B: Gather<T>, T: DekuReader<C>, C: Copy, R: Source, P: Predicate
 ) -> Result<B, DekuError>
     requires readable { T.accepts ctx }
     requires askable { P.asks_all predicate }
-    ensures reads { Reads R.told (MappedBy (λ xs b. FoldsTo B.puts into xs b) (ReadsUntil P.answers P.ended predicate (T.meaning ctx))) reader.old result reader.new }
-    ensures early { OnOk result (T.prompt ctx → Promptly R.told reader.old reader.new) }
+    ensures reads { Reads R.known (MappedBy (λ xs b. FoldsTo B.puts into xs b) (ReadsUntil P.answers P.ended predicate (T.meaning ctx))) reader.old result reader.new }
+    ensures early { OnOk result (T.no_read_ahead ctx → NoReadAhead R.known reader.old reader.new) }
 {
     let gathered = gather_asking(into, reader, &mut predicate, ctx);
     predicate.finish();
@@ -79,8 +79,8 @@ fn gather_bits<B: Gather<T>, T: DekuReader<C>, C: Copy, R: Source>(
     ctx: C,
 ) -> Result<B, DekuError>
     requires { T.accepts ctx }
-    ensures reads { Reads R.told (MappedBy (λ xs b. FoldsTo B.puts into xs b) (ReadsBitsOf bits (T.meaning ctx))) reader.old result reader.new }
-    ensures early { OnOk result (T.prompt ctx → Promptly R.told reader.old reader.new) }
+    ensures reads { Reads R.known (MappedBy (λ xs b. FoldsTo B.puts into xs b) (ReadsBitsOf bits (T.meaning ctx))) reader.old result reader.new }
+    ensures early { OnOk result (T.no_read_ahead ctx → NoReadAhead R.known reader.old reader.new) }
 {
     if bits == 0 {
         return Ok(into);
@@ -105,7 +105,7 @@ fn gather_to_end<B: Gather<T>, T: DekuReader<C>, C: Copy, R: Source>(
     ctx: C,
 ) -> Result<B, DekuError>
     requires { T.accepts ctx }
-    ensures { Reads R.told (MappedBy (λ xs b. FoldsTo B.puts into xs b) (ReadsToEnd (T.meaning ctx))) reader.old result reader.new }
+    ensures { Reads R.known (MappedBy (λ xs b. FoldsTo B.puts into xs b) (ReadsToEnd (T.meaning ctx))) reader.old result reader.new }
 {
     while !reader.end()? {
         let before = reader.bits_read();
@@ -127,8 +127,8 @@ pub fn gather_under<B: Gather<T>, T: DekuReader<C>, C: Copy, R: Source, P: Predi
 ) -> Result<B, DekuError>
     requires readable { T.accepts ctx }
     requires askable { AsksAll P.asks_all limit }
-    ensures reads { Reads R.told (MappedBy (λ xs b. FoldsTo B.puts into xs b) (ReadsUnder P.answers P.ended limit (T.meaning ctx))) reader.old result reader.new }
-    ensures early { OnOk result (T.prompt ctx → EndsItself limit → Promptly R.told reader.old reader.new) }
+    ensures reads { Reads R.known (MappedBy (λ xs b. FoldsTo B.puts into xs b) (ReadsUnder P.answers P.ended limit (T.meaning ctx))) reader.old result reader.new }
+    ensures early { OnOk result (T.no_read_ahead ctx → EndsItself limit → NoReadAhead R.known reader.old reader.new) }
 {
     match limit {
         Limit::Count(count) => gather_count(into, reader, count, ctx),

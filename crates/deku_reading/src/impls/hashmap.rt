@@ -31,7 +31,7 @@ impl<
 
     ghost accepts = { λ c. ⟦<(K, V) as DekuReader<Ctx>>⟧.accepts c.1 × AsksAll P.asks_all c.0 };
 
-    ghost prompt = { λ c. ⟦<(K, V) as DekuReader<Ctx>>⟧.prompt c.1 × EndsItself c.0 };
+    ghost no_read_ahead = { λ c. ⟦<(K, V) as DekuReader<Ctx>>⟧.no_read_ahead c.1 × EndsItself c.0 };
 
     ghost meaning = { λ c. MappedBy (λ xs m. IsFromIterResult K.eq xs m × IsMapOf K.eq xs m × S.is_default (hasher_of m)) (ReadsUnder P.answers P.ended c.0 (⟦<(K, V) as DekuReader<Ctx>>⟧.meaning c.1)) };
 
@@ -54,7 +54,7 @@ impl<
 > DekuReader<Limit<(K, V), P>> for HashMap<K, V, S> {
     ghost accepts = { λ c. ⟦<HashMap<K, V, S> as DekuReader<(Limit<(K, V), P>, ())>>⟧.accepts (c, tt) };
 
-    ghost prompt = { λ c. ⟦<HashMap<K, V, S> as DekuReader<(Limit<(K, V), P>, ())>>⟧.prompt (c, tt) };
+    ghost no_read_ahead = { λ c. ⟦<HashMap<K, V, S> as DekuReader<(Limit<(K, V), P>, ())>>⟧.no_read_ahead (c, tt) };
 
     ghost meaning = { λ c. ⟦<HashMap<K, V, S> as DekuReader<(Limit<(K, V), P>, ())>>⟧.meaning (c, tt) };
 

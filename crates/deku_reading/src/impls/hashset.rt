@@ -29,7 +29,7 @@ impl<
 
     ghost accepts = { λ c. T.accepts c.1 × AsksAll P.asks_all c.0 };
 
-    ghost prompt = { λ c. T.prompt c.1 × EndsItself c.0 };
+    ghost no_read_ahead = { λ c. T.no_read_ahead c.1 × EndsItself c.0 };
 
     ghost meaning = { λ c. MappedBy (λ xs m. IsFromIterResult T.eq xs m × IsSetOf T.eq xs m × S.is_default (hasher_of m)) (ReadsUnder P.answers P.ended c.0 (T.meaning c.1)) };
 
@@ -49,7 +49,7 @@ impl<T: DekuReader<()> + Eq + Hash, S: BuildHasher + Default + Drop, P: Predicat
 > for HashSet<T, S> {
     ghost accepts = { λ c. ⟦<HashSet<T, S> as DekuReader<(Limit<T, P>, ())>>⟧.accepts (c, tt) };
 
-    ghost prompt = { λ c. ⟦<HashSet<T, S> as DekuReader<(Limit<T, P>, ())>>⟧.prompt (c, tt) };
+    ghost no_read_ahead = { λ c. ⟦<HashSet<T, S> as DekuReader<(Limit<T, P>, ())>>⟧.no_read_ahead (c, tt) };
 
     ghost meaning = { λ c. ⟦<HashSet<T, S> as DekuReader<(Limit<T, P>, ())>>⟧.meaning (c, tt) };
 

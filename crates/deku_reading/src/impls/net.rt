@@ -18,9 +18,9 @@ impl<C: NumberCtx> DekuReader<C> for Ipv4Addr {
 
     ghost accepts = { λ c. c ≡ c };
 
-    ghost prompt = { λ c. c ≡ c };
+    ghost no_read_ahead = { λ c. c ≡ c };
 
-    ghost meaning = { λ c. Then (ReadsUnsigned (unsigned 32) (C.parts_of c)) (Shows ipv4_bits) };
+    ghost meaning = { λ c. Then (ReadsUnsigned (unsigned 32) (C.layout_of c)) (Shows ipv4_bits) };
 
     #[inline(always)]
     fn from_reader_with_ctx<R: Source>(reader: &mut Reader<R>, ctx: C) -> Result<Self, DekuError> {
@@ -40,9 +40,9 @@ impl<C: NumberCtx> DekuReader<C> for Ipv6Addr {
 
     ghost accepts = { λ c. c ≡ c };
 
-    ghost prompt = { λ c. c ≡ c };
+    ghost no_read_ahead = { λ c. c ≡ c };
 
-    ghost meaning = { λ c. Then (ReadsUnsigned (unsigned 128) (C.parts_of c)) (Shows ipv6_bits) };
+    ghost meaning = { λ c. Then (ReadsUnsigned (unsigned 128) (C.layout_of c)) (Shows ipv6_bits) };
 
     #[inline(always)]
     fn from_reader_with_ctx<R: Source>(reader: &mut Reader<R>, ctx: C) -> Result<Self, DekuError> {

@@ -22,9 +22,9 @@ impl<C: NumberCtx> DekuReader<C> for NonZeroU8 {
 
     ghost accepts = { λ c. c ≡ c };
 
-    ghost prompt = { λ c. c ≡ c };
+    ghost no_read_ahead = { λ c. c ≡ c };
 
-    ghost meaning = { λ c. Then (ReadsUnsigned byte (C.parts_of c)) (ShowsUnless (λ n. n ≡ 0) (codes "NonZero assertion") non_zero_u8_get) };
+    ghost meaning = { λ c. Then (ReadsUnsigned byte (C.layout_of c)) (ShowsUnless (λ n. n ≡ 0) (codes "NonZero assertion") non_zero_u8_get) };
 
     #[inline(always)]
     fn from_reader_with_ctx<R: Source>(reader: &mut Reader<R>, ctx: C) -> Result<Self, DekuError> {
@@ -46,9 +46,9 @@ impl<C: NumberCtx> DekuReader<C> for NonZeroU16 {
 
     ghost accepts = { λ c. c ≡ c };
 
-    ghost prompt = { λ c. c ≡ c };
+    ghost no_read_ahead = { λ c. c ≡ c };
 
-    ghost meaning = { λ c. Then (ReadsUnsigned (unsigned 16) (C.parts_of c)) (ShowsUnless (λ n. n ≡ 0) (codes "NonZero assertion") non_zero_u16_get) };
+    ghost meaning = { λ c. Then (ReadsUnsigned (unsigned 16) (C.layout_of c)) (ShowsUnless (λ n. n ≡ 0) (codes "NonZero assertion") non_zero_u16_get) };
 
     #[inline(always)]
     fn from_reader_with_ctx<R: Source>(reader: &mut Reader<R>, ctx: C) -> Result<Self, DekuError> {
@@ -70,9 +70,9 @@ impl<C: NumberCtx> DekuReader<C> for NonZeroU32 {
 
     ghost accepts = { λ c. c ≡ c };
 
-    ghost prompt = { λ c. c ≡ c };
+    ghost no_read_ahead = { λ c. c ≡ c };
 
-    ghost meaning = { λ c. Then (ReadsUnsigned (unsigned 32) (C.parts_of c)) (ShowsUnless (λ n. n ≡ 0) (codes "NonZero assertion") non_zero_u32_get) };
+    ghost meaning = { λ c. Then (ReadsUnsigned (unsigned 32) (C.layout_of c)) (ShowsUnless (λ n. n ≡ 0) (codes "NonZero assertion") non_zero_u32_get) };
 
     #[inline(always)]
     fn from_reader_with_ctx<R: Source>(reader: &mut Reader<R>, ctx: C) -> Result<Self, DekuError> {
@@ -94,9 +94,9 @@ impl<C: NumberCtx> DekuReader<C> for NonZeroU64 {
 
     ghost accepts = { λ c. c ≡ c };
 
-    ghost prompt = { λ c. c ≡ c };
+    ghost no_read_ahead = { λ c. c ≡ c };
 
-    ghost meaning = { λ c. Then (ReadsUnsigned (unsigned 64) (C.parts_of c)) (ShowsUnless (λ n. n ≡ 0) (codes "NonZero assertion") non_zero_u64_get) };
+    ghost meaning = { λ c. Then (ReadsUnsigned (unsigned 64) (C.layout_of c)) (ShowsUnless (λ n. n ≡ 0) (codes "NonZero assertion") non_zero_u64_get) };
 
     #[inline(always)]
     fn from_reader_with_ctx<R: Source>(reader: &mut Reader<R>, ctx: C) -> Result<Self, DekuError> {
@@ -118,9 +118,9 @@ impl<C: NumberCtx> DekuReader<C> for NonZeroU128 {
 
     ghost accepts = { λ c. c ≡ c };
 
-    ghost prompt = { λ c. c ≡ c };
+    ghost no_read_ahead = { λ c. c ≡ c };
 
-    ghost meaning = { λ c. Then (ReadsUnsigned (unsigned 128) (C.parts_of c)) (ShowsUnless (λ n. n ≡ 0) (codes "NonZero assertion") non_zero_u128_get) };
+    ghost meaning = { λ c. Then (ReadsUnsigned (unsigned 128) (C.layout_of c)) (ShowsUnless (λ n. n ≡ 0) (codes "NonZero assertion") non_zero_u128_get) };
 
     #[inline(always)]
     fn from_reader_with_ctx<R: Source>(reader: &mut Reader<R>, ctx: C) -> Result<Self, DekuError> {
@@ -142,9 +142,9 @@ impl<C: NumberCtx> DekuReader<C> for NonZeroUsize {
 
     ghost accepts = { λ c. c ≡ c };
 
-    ghost prompt = { λ c. c ≡ c };
+    ghost no_read_ahead = { λ c. c ≡ c };
 
-    ghost meaning = { λ c. Then (ReadsUnsigned (unsigned 64) (C.parts_of c)) (ShowsUnless (λ n. n ≡ 0) (codes "NonZero assertion") non_zero_usize_get) };
+    ghost meaning = { λ c. Then (ReadsUnsigned (unsigned 64) (C.layout_of c)) (ShowsUnless (λ n. n ≡ 0) (codes "NonZero assertion") non_zero_usize_get) };
 
     #[inline(always)]
     fn from_reader_with_ctx<R: Source>(reader: &mut Reader<R>, ctx: C) -> Result<Self, DekuError> {
@@ -166,9 +166,9 @@ impl<C: NumberCtx> DekuReader<C> for NonZeroI8 {
 
     ghost accepts = { λ c. c ≡ c };
 
-    ghost prompt = { λ c. c ≡ c };
+    ghost no_read_ahead = { λ c. c ≡ c };
 
-    ghost meaning = { λ c. Then (ReadsNumber (signed 8) (C.parts_of c)) (ShowsUnless (λ n. n ≡ pos 0) (codes "NonZero assertion") non_zero_i8_get) };
+    ghost meaning = { λ c. Then (ReadsNumber (signed 8) (C.layout_of c)) (ShowsUnless (λ n. n ≡ pos 0) (codes "NonZero assertion") non_zero_i8_get) };
 
     #[inline(always)]
     fn from_reader_with_ctx<R: Source>(reader: &mut Reader<R>, ctx: C) -> Result<Self, DekuError> {
@@ -190,9 +190,9 @@ impl<C: NumberCtx> DekuReader<C> for NonZeroI16 {
 
     ghost accepts = { λ c. c ≡ c };
 
-    ghost prompt = { λ c. c ≡ c };
+    ghost no_read_ahead = { λ c. c ≡ c };
 
-    ghost meaning = { λ c. Then (ReadsNumber (signed 16) (C.parts_of c)) (ShowsUnless (λ n. n ≡ pos 0) (codes "NonZero assertion") non_zero_i16_get) };
+    ghost meaning = { λ c. Then (ReadsNumber (signed 16) (C.layout_of c)) (ShowsUnless (λ n. n ≡ pos 0) (codes "NonZero assertion") non_zero_i16_get) };
 
     #[inline(always)]
     fn from_reader_with_ctx<R: Source>(reader: &mut Reader<R>, ctx: C) -> Result<Self, DekuError> {
@@ -214,9 +214,9 @@ impl<C: NumberCtx> DekuReader<C> for NonZeroI32 {
 
     ghost accepts = { λ c. c ≡ c };
 
-    ghost prompt = { λ c. c ≡ c };
+    ghost no_read_ahead = { λ c. c ≡ c };
 
-    ghost meaning = { λ c. Then (ReadsNumber (signed 32) (C.parts_of c)) (ShowsUnless (λ n. n ≡ pos 0) (codes "NonZero assertion") non_zero_i32_get) };
+    ghost meaning = { λ c. Then (ReadsNumber (signed 32) (C.layout_of c)) (ShowsUnless (λ n. n ≡ pos 0) (codes "NonZero assertion") non_zero_i32_get) };
 
     #[inline(always)]
     fn from_reader_with_ctx<R: Source>(reader: &mut Reader<R>, ctx: C) -> Result<Self, DekuError> {
@@ -238,9 +238,9 @@ impl<C: NumberCtx> DekuReader<C> for NonZeroI64 {
 
     ghost accepts = { λ c. c ≡ c };
 
-    ghost prompt = { λ c. c ≡ c };
+    ghost no_read_ahead = { λ c. c ≡ c };
 
-    ghost meaning = { λ c. Then (ReadsNumber (signed 64) (C.parts_of c)) (ShowsUnless (λ n. n ≡ pos 0) (codes "NonZero assertion") non_zero_i64_get) };
+    ghost meaning = { λ c. Then (ReadsNumber (signed 64) (C.layout_of c)) (ShowsUnless (λ n. n ≡ pos 0) (codes "NonZero assertion") non_zero_i64_get) };
 
     #[inline(always)]
     fn from_reader_with_ctx<R: Source>(reader: &mut Reader<R>, ctx: C) -> Result<Self, DekuError> {
@@ -262,9 +262,9 @@ impl<C: NumberCtx> DekuReader<C> for NonZeroI128 {
 
     ghost accepts = { λ c. c ≡ c };
 
-    ghost prompt = { λ c. c ≡ c };
+    ghost no_read_ahead = { λ c. c ≡ c };
 
-    ghost meaning = { λ c. Then (ReadsNumber (signed 128) (C.parts_of c)) (ShowsUnless (λ n. n ≡ pos 0) (codes "NonZero assertion") non_zero_i128_get) };
+    ghost meaning = { λ c. Then (ReadsNumber (signed 128) (C.layout_of c)) (ShowsUnless (λ n. n ≡ pos 0) (codes "NonZero assertion") non_zero_i128_get) };
 
     #[inline(always)]
     fn from_reader_with_ctx<R: Source>(reader: &mut Reader<R>, ctx: C) -> Result<Self, DekuError> {
@@ -286,9 +286,9 @@ impl<C: NumberCtx> DekuReader<C> for NonZeroIsize {
 
     ghost accepts = { λ c. c ≡ c };
 
-    ghost prompt = { λ c. c ≡ c };
+    ghost no_read_ahead = { λ c. c ≡ c };
 
-    ghost meaning = { λ c. Then (ReadsNumber (signed 64) (C.parts_of c)) (ShowsUnless (λ n. n ≡ pos 0) (codes "NonZero assertion") non_zero_isize_get) };
+    ghost meaning = { λ c. Then (ReadsNumber (signed 64) (C.layout_of c)) (ShowsUnless (λ n. n ≡ pos 0) (codes "NonZero assertion") non_zero_isize_get) };
 
     #[inline(always)]
     fn from_reader_with_ctx<R: Source>(reader: &mut Reader<R>, ctx: C) -> Result<Self, DekuError> {

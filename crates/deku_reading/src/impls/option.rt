@@ -12,7 +12,7 @@ impl<Ctx: Copy, T: DekuReader<Ctx>> DekuReader<Ctx> for Option<T> {
 
     ghost accepts = { T.accepts };
 
-    ghost prompt = { T.prompt };
+    ghost no_read_ahead = { T.no_read_ahead };
 
     ghost meaning = { λ c. Mapped Some (T.meaning c) };
 

@@ -4,7 +4,7 @@ ghost use Rattle.std.specs.Prelude.{OnOk};
 ghost use Rattle.deku_bits.specs.Standings.{Untouched};
 ghost use Rattle.deku_bits.specs.ReaderCalls.{Reads, FetchesFor};
 ghost use Rattle.deku_num.specs.Numbers.{width};
-ghost use Rattle.deku_reading.specs.Early.{Promptly};
+ghost use Rattle.deku_reading.specs.Early.{NoReadAhead};
 
 use crate::traits::DekuReader;
 use deku_bits::device::Source;
@@ -34,15 +34,15 @@ impl<C: NumberCtx> DekuReader<C> for u8 {
 
     ghost accepts = { λ c. c ≡ c };
 
-    ghost prompt = { λ c. c ≡ c };
+    ghost no_read_ahead = { λ c. c ≡ c };
 
-    ghost meaning = { λ c. ReadsUnsigned byte (C.parts_of c) };
+    ghost meaning = { λ c. ReadsUnsigned byte (C.layout_of c) };
 
     #[inline(always)]
     fn from_reader_with_ctx<R: Source>(reader: &mut Reader<R>, ctx: C) -> Result<Self, DekuError>
-        ensures reads { Reads R.told (ReadsUnsigned byte (C.parts_of ctx)) reader.old result reader.new }
-        ensures fetched { OnOk result (FetchesFor (width byte (C.parts_of ctx)) reader.old.state (R.told reader.old.source) (R.told reader.new.source)) }
-        ensures early { OnOk result (Promptly R.told reader.old reader.new) }
+        ensures reads { Reads R.known (ReadsUnsigned byte (C.layout_of ctx)) reader.old result reader.new }
+        ensures fetched { OnOk result (FetchesFor (width byte (C.layout_of ctx)) reader.old.state (R.known reader.old.source) (R.known reader.new.source)) }
+        ensures early { OnOk result (NoReadAhead R.known reader.old reader.new) }
         ensures stopped { Untouched reader.old.state reader.old.source reader.new.source }
     {
         let value = read_unsigned(reader, NumberType::U8, ctx.parts())?;
@@ -70,15 +70,15 @@ impl<C: NumberCtx> DekuReader<C> for u16 {
 
     ghost accepts = { λ c. c ≡ c };
 
-    ghost prompt = { λ c. c ≡ c };
+    ghost no_read_ahead = { λ c. c ≡ c };
 
-    ghost meaning = { λ c. ReadsUnsigned (unsigned 16) (C.parts_of c) };
+    ghost meaning = { λ c. ReadsUnsigned (unsigned 16) (C.layout_of c) };
 
     #[inline(always)]
     fn from_reader_with_ctx<R: Source>(reader: &mut Reader<R>, ctx: C) -> Result<Self, DekuError>
-        ensures reads { Reads R.told (ReadsUnsigned (unsigned 16) (C.parts_of ctx)) reader.old result reader.new }
-        ensures fetched { OnOk result (FetchesFor (width (unsigned 16) (C.parts_of ctx)) reader.old.state (R.told reader.old.source) (R.told reader.new.source)) }
-        ensures early { OnOk result (Promptly R.told reader.old reader.new) }
+        ensures reads { Reads R.known (ReadsUnsigned (unsigned 16) (C.layout_of ctx)) reader.old result reader.new }
+        ensures fetched { OnOk result (FetchesFor (width (unsigned 16) (C.layout_of ctx)) reader.old.state (R.known reader.old.source) (R.known reader.new.source)) }
+        ensures early { OnOk result (NoReadAhead R.known reader.old reader.new) }
         ensures stopped { Untouched reader.old.state reader.old.source reader.new.source }
     {
         let value = read_unsigned(reader, NumberType::U16, ctx.parts())?;
@@ -106,15 +106,15 @@ impl<C: NumberCtx> DekuReader<C> for u32 {
 
     ghost accepts = { λ c. c ≡ c };
 
-    ghost prompt = { λ c. c ≡ c };
+    ghost no_read_ahead = { λ c. c ≡ c };
 
-    ghost meaning = { λ c. ReadsUnsigned (unsigned 32) (C.parts_of c) };
+    ghost meaning = { λ c. ReadsUnsigned (unsigned 32) (C.layout_of c) };
 
     #[inline(always)]
     fn from_reader_with_ctx<R: Source>(reader: &mut Reader<R>, ctx: C) -> Result<Self, DekuError>
-        ensures reads { Reads R.told (ReadsUnsigned (unsigned 32) (C.parts_of ctx)) reader.old result reader.new }
-        ensures fetched { OnOk result (FetchesFor (width (unsigned 32) (C.parts_of ctx)) reader.old.state (R.told reader.old.source) (R.told reader.new.source)) }
-        ensures early { OnOk result (Promptly R.told reader.old reader.new) }
+        ensures reads { Reads R.known (ReadsUnsigned (unsigned 32) (C.layout_of ctx)) reader.old result reader.new }
+        ensures fetched { OnOk result (FetchesFor (width (unsigned 32) (C.layout_of ctx)) reader.old.state (R.known reader.old.source) (R.known reader.new.source)) }
+        ensures early { OnOk result (NoReadAhead R.known reader.old reader.new) }
         ensures stopped { Untouched reader.old.state reader.old.source reader.new.source }
     {
         let value = read_unsigned(reader, NumberType::U32, ctx.parts())?;
@@ -142,15 +142,15 @@ impl<C: NumberCtx> DekuReader<C> for u64 {
 
     ghost accepts = { λ c. c ≡ c };
 
-    ghost prompt = { λ c. c ≡ c };
+    ghost no_read_ahead = { λ c. c ≡ c };
 
-    ghost meaning = { λ c. ReadsUnsigned (unsigned 64) (C.parts_of c) };
+    ghost meaning = { λ c. ReadsUnsigned (unsigned 64) (C.layout_of c) };
 
     #[inline(always)]
     fn from_reader_with_ctx<R: Source>(reader: &mut Reader<R>, ctx: C) -> Result<Self, DekuError>
-        ensures reads { Reads R.told (ReadsUnsigned (unsigned 64) (C.parts_of ctx)) reader.old result reader.new }
-        ensures fetched { OnOk result (FetchesFor (width (unsigned 64) (C.parts_of ctx)) reader.old.state (R.told reader.old.source) (R.told reader.new.source)) }
-        ensures early { OnOk result (Promptly R.told reader.old reader.new) }
+        ensures reads { Reads R.known (ReadsUnsigned (unsigned 64) (C.layout_of ctx)) reader.old result reader.new }
+        ensures fetched { OnOk result (FetchesFor (width (unsigned 64) (C.layout_of ctx)) reader.old.state (R.known reader.old.source) (R.known reader.new.source)) }
+        ensures early { OnOk result (NoReadAhead R.known reader.old reader.new) }
         ensures stopped { Untouched reader.old.state reader.old.source reader.new.source }
     {
         let value = read_unsigned(reader, NumberType::U64, ctx.parts())?;
@@ -178,15 +178,15 @@ impl<C: NumberCtx> DekuReader<C> for u128 {
 
     ghost accepts = { λ c. c ≡ c };
 
-    ghost prompt = { λ c. c ≡ c };
+    ghost no_read_ahead = { λ c. c ≡ c };
 
-    ghost meaning = { λ c. ReadsUnsigned (unsigned 128) (C.parts_of c) };
+    ghost meaning = { λ c. ReadsUnsigned (unsigned 128) (C.layout_of c) };
 
     #[inline(always)]
     fn from_reader_with_ctx<R: Source>(reader: &mut Reader<R>, ctx: C) -> Result<Self, DekuError>
-        ensures reads { Reads R.told (ReadsUnsigned (unsigned 128) (C.parts_of ctx)) reader.old result reader.new }
-        ensures fetched { OnOk result (FetchesFor (width (unsigned 128) (C.parts_of ctx)) reader.old.state (R.told reader.old.source) (R.told reader.new.source)) }
-        ensures early { OnOk result (Promptly R.told reader.old reader.new) }
+        ensures reads { Reads R.known (ReadsUnsigned (unsigned 128) (C.layout_of ctx)) reader.old result reader.new }
+        ensures fetched { OnOk result (FetchesFor (width (unsigned 128) (C.layout_of ctx)) reader.old.state (R.known reader.old.source) (R.known reader.new.source)) }
+        ensures early { OnOk result (NoReadAhead R.known reader.old reader.new) }
         ensures stopped { Untouched reader.old.state reader.old.source reader.new.source }
     {
         let value = read_unsigned(reader, NumberType::U128, ctx.parts())?;
@@ -214,15 +214,15 @@ impl<C: NumberCtx> DekuReader<C> for usize {
 
     ghost accepts = { λ c. c ≡ c };
 
-    ghost prompt = { λ c. c ≡ c };
+    ghost no_read_ahead = { λ c. c ≡ c };
 
-    ghost meaning = { λ c. ReadsUnsigned (unsigned 64) (C.parts_of c) };
+    ghost meaning = { λ c. ReadsUnsigned (unsigned 64) (C.layout_of c) };
 
     #[inline(always)]
     fn from_reader_with_ctx<R: Source>(reader: &mut Reader<R>, ctx: C) -> Result<Self, DekuError>
-        ensures reads { Reads R.told (ReadsUnsigned (unsigned 64) (C.parts_of ctx)) reader.old result reader.new }
-        ensures fetched { OnOk result (FetchesFor (width (unsigned 64) (C.parts_of ctx)) reader.old.state (R.told reader.old.source) (R.told reader.new.source)) }
-        ensures early { OnOk result (Promptly R.told reader.old reader.new) }
+        ensures reads { Reads R.known (ReadsUnsigned (unsigned 64) (C.layout_of ctx)) reader.old result reader.new }
+        ensures fetched { OnOk result (FetchesFor (width (unsigned 64) (C.layout_of ctx)) reader.old.state (R.known reader.old.source) (R.known reader.new.source)) }
+        ensures early { OnOk result (NoReadAhead R.known reader.old reader.new) }
         ensures stopped { Untouched reader.old.state reader.old.source reader.new.source }
     {
         let value = read_unsigned(reader, NumberType::USIZE, ctx.parts())?;
@@ -250,15 +250,15 @@ impl<C: NumberCtx> DekuReader<C> for i8 {
 
     ghost accepts = { λ c. c ≡ c };
 
-    ghost prompt = { λ c. c ≡ c };
+    ghost no_read_ahead = { λ c. c ≡ c };
 
-    ghost meaning = { λ c. ReadsNumber (signed 8) (C.parts_of c) };
+    ghost meaning = { λ c. ReadsNumber (signed 8) (C.layout_of c) };
 
     #[inline(always)]
     fn from_reader_with_ctx<R: Source>(reader: &mut Reader<R>, ctx: C) -> Result<Self, DekuError>
-        ensures reads { Reads R.told (ReadsNumber (signed 8) (C.parts_of ctx)) reader.old result reader.new }
-        ensures fetched { OnOk result (FetchesFor (width (signed 8) (C.parts_of ctx)) reader.old.state (R.told reader.old.source) (R.told reader.new.source)) }
-        ensures early { OnOk result (Promptly R.told reader.old reader.new) }
+        ensures reads { Reads R.known (ReadsNumber (signed 8) (C.layout_of ctx)) reader.old result reader.new }
+        ensures fetched { OnOk result (FetchesFor (width (signed 8) (C.layout_of ctx)) reader.old.state (R.known reader.old.source) (R.known reader.new.source)) }
+        ensures early { OnOk result (NoReadAhead R.known reader.old reader.new) }
         ensures stopped { Untouched reader.old.state reader.old.source reader.new.source }
     {
         let value = read_signed(reader, NumberType::I8, ctx.parts())?;
@@ -288,15 +288,15 @@ impl<C: NumberCtx> DekuReader<C> for i16 {
 
     ghost accepts = { λ c. c ≡ c };
 
-    ghost prompt = { λ c. c ≡ c };
+    ghost no_read_ahead = { λ c. c ≡ c };
 
-    ghost meaning = { λ c. ReadsNumber (signed 16) (C.parts_of c) };
+    ghost meaning = { λ c. ReadsNumber (signed 16) (C.layout_of c) };
 
     #[inline(always)]
     fn from_reader_with_ctx<R: Source>(reader: &mut Reader<R>, ctx: C) -> Result<Self, DekuError>
-        ensures reads { Reads R.told (ReadsNumber (signed 16) (C.parts_of ctx)) reader.old result reader.new }
-        ensures fetched { OnOk result (FetchesFor (width (signed 16) (C.parts_of ctx)) reader.old.state (R.told reader.old.source) (R.told reader.new.source)) }
-        ensures early { OnOk result (Promptly R.told reader.old reader.new) }
+        ensures reads { Reads R.known (ReadsNumber (signed 16) (C.layout_of ctx)) reader.old result reader.new }
+        ensures fetched { OnOk result (FetchesFor (width (signed 16) (C.layout_of ctx)) reader.old.state (R.known reader.old.source) (R.known reader.new.source)) }
+        ensures early { OnOk result (NoReadAhead R.known reader.old reader.new) }
         ensures stopped { Untouched reader.old.state reader.old.source reader.new.source }
     {
         let value = read_signed(reader, NumberType::I16, ctx.parts())?;
@@ -326,15 +326,15 @@ impl<C: NumberCtx> DekuReader<C> for i32 {
 
     ghost accepts = { λ c. c ≡ c };
 
-    ghost prompt = { λ c. c ≡ c };
+    ghost no_read_ahead = { λ c. c ≡ c };
 
-    ghost meaning = { λ c. ReadsNumber (signed 32) (C.parts_of c) };
+    ghost meaning = { λ c. ReadsNumber (signed 32) (C.layout_of c) };
 
     #[inline(always)]
     fn from_reader_with_ctx<R: Source>(reader: &mut Reader<R>, ctx: C) -> Result<Self, DekuError>
-        ensures reads { Reads R.told (ReadsNumber (signed 32) (C.parts_of ctx)) reader.old result reader.new }
-        ensures fetched { OnOk result (FetchesFor (width (signed 32) (C.parts_of ctx)) reader.old.state (R.told reader.old.source) (R.told reader.new.source)) }
-        ensures early { OnOk result (Promptly R.told reader.old reader.new) }
+        ensures reads { Reads R.known (ReadsNumber (signed 32) (C.layout_of ctx)) reader.old result reader.new }
+        ensures fetched { OnOk result (FetchesFor (width (signed 32) (C.layout_of ctx)) reader.old.state (R.known reader.old.source) (R.known reader.new.source)) }
+        ensures early { OnOk result (NoReadAhead R.known reader.old reader.new) }
         ensures stopped { Untouched reader.old.state reader.old.source reader.new.source }
     {
         let value = read_signed(reader, NumberType::I32, ctx.parts())?;
@@ -364,15 +364,15 @@ impl<C: NumberCtx> DekuReader<C> for i64 {
 
     ghost accepts = { λ c. c ≡ c };
 
-    ghost prompt = { λ c. c ≡ c };
+    ghost no_read_ahead = { λ c. c ≡ c };
 
-    ghost meaning = { λ c. ReadsNumber (signed 64) (C.parts_of c) };
+    ghost meaning = { λ c. ReadsNumber (signed 64) (C.layout_of c) };
 
     #[inline(always)]
     fn from_reader_with_ctx<R: Source>(reader: &mut Reader<R>, ctx: C) -> Result<Self, DekuError>
-        ensures reads { Reads R.told (ReadsNumber (signed 64) (C.parts_of ctx)) reader.old result reader.new }
-        ensures fetched { OnOk result (FetchesFor (width (signed 64) (C.parts_of ctx)) reader.old.state (R.told reader.old.source) (R.told reader.new.source)) }
-        ensures early { OnOk result (Promptly R.told reader.old reader.new) }
+        ensures reads { Reads R.known (ReadsNumber (signed 64) (C.layout_of ctx)) reader.old result reader.new }
+        ensures fetched { OnOk result (FetchesFor (width (signed 64) (C.layout_of ctx)) reader.old.state (R.known reader.old.source) (R.known reader.new.source)) }
+        ensures early { OnOk result (NoReadAhead R.known reader.old reader.new) }
         ensures stopped { Untouched reader.old.state reader.old.source reader.new.source }
     {
         let value = read_signed(reader, NumberType::I64, ctx.parts())?;
@@ -402,15 +402,15 @@ impl<C: NumberCtx> DekuReader<C> for i128 {
 
     ghost accepts = { λ c. c ≡ c };
 
-    ghost prompt = { λ c. c ≡ c };
+    ghost no_read_ahead = { λ c. c ≡ c };
 
-    ghost meaning = { λ c. ReadsNumber (signed 128) (C.parts_of c) };
+    ghost meaning = { λ c. ReadsNumber (signed 128) (C.layout_of c) };
 
     #[inline(always)]
     fn from_reader_with_ctx<R: Source>(reader: &mut Reader<R>, ctx: C) -> Result<Self, DekuError>
-        ensures reads { Reads R.told (ReadsNumber (signed 128) (C.parts_of ctx)) reader.old result reader.new }
-        ensures fetched { OnOk result (FetchesFor (width (signed 128) (C.parts_of ctx)) reader.old.state (R.told reader.old.source) (R.told reader.new.source)) }
-        ensures early { OnOk result (Promptly R.told reader.old reader.new) }
+        ensures reads { Reads R.known (ReadsNumber (signed 128) (C.layout_of ctx)) reader.old result reader.new }
+        ensures fetched { OnOk result (FetchesFor (width (signed 128) (C.layout_of ctx)) reader.old.state (R.known reader.old.source) (R.known reader.new.source)) }
+        ensures early { OnOk result (NoReadAhead R.known reader.old reader.new) }
         ensures stopped { Untouched reader.old.state reader.old.source reader.new.source }
     {
         let value = read_signed(reader, NumberType::I128, ctx.parts())?;
@@ -440,15 +440,15 @@ impl<C: NumberCtx> DekuReader<C> for isize {
 
     ghost accepts = { λ c. c ≡ c };
 
-    ghost prompt = { λ c. c ≡ c };
+    ghost no_read_ahead = { λ c. c ≡ c };
 
-    ghost meaning = { λ c. ReadsNumber (signed 64) (C.parts_of c) };
+    ghost meaning = { λ c. ReadsNumber (signed 64) (C.layout_of c) };
 
     #[inline(always)]
     fn from_reader_with_ctx<R: Source>(reader: &mut Reader<R>, ctx: C) -> Result<Self, DekuError>
-        ensures reads { Reads R.told (ReadsNumber (signed 64) (C.parts_of ctx)) reader.old result reader.new }
-        ensures fetched { OnOk result (FetchesFor (width (signed 64) (C.parts_of ctx)) reader.old.state (R.told reader.old.source) (R.told reader.new.source)) }
-        ensures early { OnOk result (Promptly R.told reader.old reader.new) }
+        ensures reads { Reads R.known (ReadsNumber (signed 64) (C.layout_of ctx)) reader.old result reader.new }
+        ensures fetched { OnOk result (FetchesFor (width (signed 64) (C.layout_of ctx)) reader.old.state (R.known reader.old.source) (R.known reader.new.source)) }
+        ensures early { OnOk result (NoReadAhead R.known reader.old reader.new) }
         ensures stopped { Untouched reader.old.state reader.old.source reader.new.source }
     {
         let value = read_signed(reader, NumberType::ISIZE, ctx.parts())?;

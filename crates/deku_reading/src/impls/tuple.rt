@@ -11,7 +11,7 @@ impl<Ctx: Copy, A: DekuReader<Ctx>> DekuReader<Ctx> for (A,) {
 
     ghost accepts = { A.accepts };
 
-    ghost prompt = { A.prompt };
+    ghost no_read_ahead = { A.no_read_ahead };
 
     ghost meaning = { λ c. Mapped (λ a. record { 0 = a }) (A.meaning c) };
 
@@ -32,7 +32,7 @@ impl<Ctx: Copy, A: DekuReader<Ctx>, B: DekuReader<Ctx>> DekuReader<Ctx> for (A, 
 
     ghost accepts = { λ c. A.accepts c × B.accepts c };
 
-    ghost prompt = { λ c. A.prompt c × B.prompt c };
+    ghost no_read_ahead = { λ c. A.no_read_ahead c × B.no_read_ahead c };
 
     ghost meaning = { λ c. PairOf (A.meaning c) (B.meaning c) };
 
@@ -53,7 +53,7 @@ impl<Ctx: Copy, A: DekuReader<Ctx>, B: DekuReader<Ctx>, C: DekuReader<Ctx>> Deku
 
     ghost accepts = { λ c. A.accepts c × ⟦<(B, C) as DekuReader<Ctx>>⟧.accepts c };
 
-    ghost prompt = { λ c. A.prompt c × ⟦<(B, C) as DekuReader<Ctx>>⟧.prompt c };
+    ghost no_read_ahead = { λ c. A.no_read_ahead c × ⟦<(B, C) as DekuReader<Ctx>>⟧.no_read_ahead c };
 
     ghost meaning = { λ c. JoinedBy (λ a rest. (a, rest.0, rest.1)) (A.meaning c) (⟦<(B, C) as DekuReader<Ctx>>⟧.meaning c) };
 
@@ -79,7 +79,7 @@ impl<
 
     ghost accepts = { λ c. A.accepts c × ⟦<(B, C, D) as DekuReader<Ctx>>⟧.accepts c };
 
-    ghost prompt = { λ c. A.prompt c × ⟦<(B, C, D) as DekuReader<Ctx>>⟧.prompt c };
+    ghost no_read_ahead = { λ c. A.no_read_ahead c × ⟦<(B, C, D) as DekuReader<Ctx>>⟧.no_read_ahead c };
 
     ghost meaning = { λ c. JoinedBy (λ a rest. (a, rest.0, rest.1, rest.2)) (A.meaning c) (⟦<(B, C, D) as DekuReader<Ctx>>⟧.meaning c) };
 
@@ -106,7 +106,7 @@ impl<
 
     ghost accepts = { λ c. A.accepts c × ⟦<(B, C, D, E) as DekuReader<Ctx>>⟧.accepts c };
 
-    ghost prompt = { λ c. A.prompt c × ⟦<(B, C, D, E) as DekuReader<Ctx>>⟧.prompt c };
+    ghost no_read_ahead = { λ c. A.no_read_ahead c × ⟦<(B, C, D, E) as DekuReader<Ctx>>⟧.no_read_ahead c };
 
     ghost meaning = { λ c. JoinedBy (λ a rest. (a, rest.0, rest.1, rest.2, rest.3)) (A.meaning c) (⟦<(B, C, D, E) as DekuReader<Ctx>>⟧.meaning c) };
 
@@ -134,7 +134,7 @@ impl<
 
     ghost accepts = { λ c. A.accepts c × ⟦<(B, C, D, E, F) as DekuReader<Ctx>>⟧.accepts c };
 
-    ghost prompt = { λ c. A.prompt c × ⟦<(B, C, D, E, F) as DekuReader<Ctx>>⟧.prompt c };
+    ghost no_read_ahead = { λ c. A.no_read_ahead c × ⟦<(B, C, D, E, F) as DekuReader<Ctx>>⟧.no_read_ahead c };
 
     ghost meaning = { λ c. JoinedBy (λ a rest. (a, rest.0, rest.1, rest.2, rest.3, rest.4)) (A.meaning c) (⟦<(B, C, D, E, F) as DekuReader<Ctx>>⟧.meaning c) };
 
@@ -163,7 +163,7 @@ impl<
 
     ghost accepts = { λ c. A.accepts c × ⟦<(B, C, D, E, F, G) as DekuReader<Ctx>>⟧.accepts c };
 
-    ghost prompt = { λ c. A.prompt c × ⟦<(B, C, D, E, F, G) as DekuReader<Ctx>>⟧.prompt c };
+    ghost no_read_ahead = { λ c. A.no_read_ahead c × ⟦<(B, C, D, E, F, G) as DekuReader<Ctx>>⟧.no_read_ahead c };
 
     ghost meaning = { λ c. JoinedBy (λ a rest. (a, rest.0, rest.1, rest.2, rest.3, rest.4, rest.5)) (A.meaning c) (⟦<(B, C, D, E, F, G) as DekuReader<Ctx>>⟧.meaning c) };
 
@@ -193,7 +193,7 @@ impl<
 
     ghost accepts = { λ c. A.accepts c × ⟦<(B, C, D, E, F, G, H) as DekuReader<Ctx>>⟧.accepts c };
 
-    ghost prompt = { λ c. A.prompt c × ⟦<(B, C, D, E, F, G, H) as DekuReader<Ctx>>⟧.prompt c };
+    ghost no_read_ahead = { λ c. A.no_read_ahead c × ⟦<(B, C, D, E, F, G, H) as DekuReader<Ctx>>⟧.no_read_ahead c };
 
     ghost meaning = { λ c. JoinedBy (λ a rest. (a, rest.0, rest.1, rest.2, rest.3, rest.4, rest.5, rest.6)) (A.meaning c) (⟦<(B, C, D, E, F, G, H) as DekuReader<Ctx>>⟧.meaning c) };
 
@@ -224,7 +224,7 @@ impl<
 
     ghost accepts = { λ c. A.accepts c × ⟦<(B, C, D, E, F, G, H, I) as DekuReader<Ctx>>⟧.accepts c };
 
-    ghost prompt = { λ c. A.prompt c × ⟦<(B, C, D, E, F, G, H, I) as DekuReader<Ctx>>⟧.prompt c };
+    ghost no_read_ahead = { λ c. A.no_read_ahead c × ⟦<(B, C, D, E, F, G, H, I) as DekuReader<Ctx>>⟧.no_read_ahead c };
 
     ghost meaning = { λ c. JoinedBy (λ a rest. (a, rest.0, rest.1, rest.2, rest.3, rest.4, rest.5, rest.6, rest.7)) (A.meaning c) (⟦<(B, C, D, E, F, G, H, I) as DekuReader<Ctx>>⟧.meaning c) };
 
@@ -258,7 +258,7 @@ impl<
 
     ghost accepts = { λ c. A.accepts c × ⟦<(B, C, D, E, F, G, H, I, J) as DekuReader<Ctx>>⟧.accepts c };
 
-    ghost prompt = { λ c. A.prompt c × ⟦<(B, C, D, E, F, G, H, I, J) as DekuReader<Ctx>>⟧.prompt c };
+    ghost no_read_ahead = { λ c. A.no_read_ahead c × ⟦<(B, C, D, E, F, G, H, I, J) as DekuReader<Ctx>>⟧.no_read_ahead c };
 
     ghost meaning = { λ c. JoinedBy (λ a rest. (a, rest.0, rest.1, rest.2, rest.3, rest.4, rest.5, rest.6, rest.7, rest.8)) (A.meaning c) (⟦<(B, C, D, E, F, G, H, I, J) as DekuReader<Ctx>>⟧.meaning c) };
 
@@ -293,7 +293,7 @@ impl<
 
     ghost accepts = { λ c. A.accepts c × ⟦<(B, C, D, E, F, G, H, I, J, K) as DekuReader<Ctx>>⟧.accepts c };
 
-    ghost prompt = { λ c. A.prompt c × ⟦<(B, C, D, E, F, G, H, I, J, K) as DekuReader<Ctx>>⟧.prompt c };
+    ghost no_read_ahead = { λ c. A.no_read_ahead c × ⟦<(B, C, D, E, F, G, H, I, J, K) as DekuReader<Ctx>>⟧.no_read_ahead c };
 
     ghost meaning = { λ c. JoinedBy (λ a rest. (a, rest.0, rest.1, rest.2, rest.3, rest.4, rest.5, rest.6, rest.7, rest.8, rest.9)) (A.meaning c) (⟦<(B, C, D, E, F, G, H, I, J, K) as DekuReader<Ctx>>⟧.meaning c) };
 

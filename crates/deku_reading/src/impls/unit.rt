@@ -12,7 +12,7 @@ impl<Ctx: Copy> DekuReader<Ctx> for () {
 
     ghost accepts = { λ c. c ≡ c };
 
-    ghost prompt = { λ c. c ≡ c };
+    ghost no_read_ahead = { λ c. c ≡ c };
 
     ghost meaning = { λ _. Answer tt };
 

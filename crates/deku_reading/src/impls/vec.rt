@@ -28,7 +28,7 @@ impl<T: DekuReader<Ctx>, P: Predicate<T>, Ctx: Copy> DekuReader<(Limit<T, P>, Ct
 
     ghost accepts = { λ c. T.accepts c.1 × AsksAll P.asks_all c.0 };
 
-    ghost prompt = { λ c. T.prompt c.1 × EndsItself c.0 };
+    ghost no_read_ahead = { λ c. T.no_read_ahead c.1 × EndsItself c.0 };
 
     ghost meaning = { λ c. MappedBy (λ xs v. v.items ≡ xs) (ReadsUnder P.answers P.ended c.0 (T.meaning c.1)) };
 
@@ -45,7 +45,7 @@ impl<T: DekuReader<Ctx>, P: Predicate<T>, Ctx: Copy> DekuReader<(Limit<T, P>, Ct
 impl<T: DekuReader<()>, P: Predicate<T>> DekuReader<Limit<T, P>> for Vec<T> {
     ghost accepts = { λ c. ⟦<Vec<T> as DekuReader<(Limit<T, P>, ())>>⟧.accepts (c, tt) };
 
-    ghost prompt = { λ c. ⟦<Vec<T> as DekuReader<(Limit<T, P>, ())>>⟧.prompt (c, tt) };
+    ghost no_read_ahead = { λ c. ⟦<Vec<T> as DekuReader<(Limit<T, P>, ())>>⟧.no_read_ahead (c, tt) };
 
     ghost meaning = { λ c. ⟦<Vec<T> as DekuReader<(Limit<T, P>, ())>>⟧.meaning (c, tt) };
 
@@ -71,7 +71,7 @@ impl DekuReader<ReadExact> for Vec<u8> {
 
     ghost accepts = { λ c. c ≡ c };
 
-    ghost prompt = { λ c. c ≡ c };
+    ghost no_read_ahead = { λ c. c ≡ c };
 
     ghost meaning = { λ c. Seen (λ v. v.items) (Mapped bytes_of (ReadsVec Lsb0 (8 * c.0))) };
 

@@ -18,11 +18,11 @@ fn lay_bytes<W: Sink>(sink: &mut W, number: u64, n: usize) -> bool
     requires whole { n % 8 ≡ 0 }
     requires most { n ≤ 64 }
     requires inside { number < 2 ^ n }
-    ensures pushed { IsTrue result → Pushed (W.told sink.old) (W.told sink.new) Msb0 [] [] (bits_of n number) }
+    ensures pushed { IsTrue result → Pushed (W.known sink.old) (W.known sink.new) Msb0 [] [] (bits_of n number) }
     ensures stays { IsFalse result → sink.new ≡ sink.old }
 {
     let (eight, _) = cut_word(Order::Msb0, number, n);
-    sink.lay(eight, n / 8)
+    sink.try_put(eight, n / 8)
 }
 
 /// The bits of a number, from the highest down, onto the held bits of an order, where they follow these as they are, have at most 64 bits with them, and
@@ -33,7 +33,7 @@ pub fn lay_high<W: Sink>(sink: &mut W, held: &mut Held, from: Order, number: u64
     requires short { length held.old < 8 }
     requires most { n ≤ 64 }
     requires inside { number < 2 ^ n }
-    ensures pushed { IsTrue result → PushedOnto (W.told sink.old) (W.told sink.new) from Msb0 held.old held.new (bits_of n number) }
+    ensures pushed { IsTrue result → PushedOnto (W.known sink.old) (W.known sink.new) from Msb0 held.old held.new (bits_of n number) }
     ensures stays { IsFalse result → (sink.new ≡ sink.old) × (held.new ≡ held.old) }
 {
     if held.len() == 0 && n % 8 == 0 {
@@ -45,7 +45,7 @@ pub fn lay_high<W: Sink>(sink: &mut W, held: &mut Held, from: Order, number: u64
     let left = (held.len() + n % 8) % 8;
     let mut next = held.copy();
     let (eight, count) = next.fill_high(number, n);
-    let laid = sink.lay(eight, count);
+    let laid = sink.try_put(eight, count);
     if laid {
         held.follow(next, left);
     }

@@ -20,8 +20,8 @@ use std::io::{Error, ErrorKind};
 #[inline(always)]
 pub fn give_out<W: Sink>(sink: &mut W, bytes: &[u8]) -> Result<(), ErrorKind>
     requires { 0 < length bytes.now }
-    ensures gave { OnOk result (Gave (W.told sink.old) (W.told sink.new) bytes.now) }
-    ensures fault { IfErr result (GaveUp (W.told sink.old) (W.told sink.new) bytes.now) }
+    ensures gave { OnOk result (Gave (W.known sink.old) (W.known sink.new) bytes.now) }
+    ensures fault { IfErr result (GaveUp (W.known sink.old) (W.known sink.new) bytes.now) }
 {
     match sink.give(bytes) {
         Ok(()) => Ok(()),
@@ -41,8 +41,8 @@ fn kind_of(error: Error) -> ErrorKind
 /// Bytes given to the sink at once, where there are any.
 #[inline(always)]
 pub fn give_any<W: Sink>(sink: &mut W, bytes: &[u8]) -> Result<(), ErrorKind>
-    ensures gave { OnOk result (Gave (W.told sink.old) (W.told sink.new) bytes.now) }
-    ensures fault { IfErr result (GaveUp (W.told sink.old) (W.told sink.new) bytes.now) }
+    ensures gave { OnOk result (Gave (W.known sink.old) (W.known sink.new) bytes.now) }
+    ensures fault { IfErr result (GaveUp (W.known sink.old) (W.known sink.new) bytes.now) }
 {
     if bytes.is_empty() {
         return Ok(());
@@ -58,8 +58,8 @@ fn push_bit<W: Sink>(
     bit: bool,
 ) -> Result<(), ErrorKind>
     requires { length held.old < 8 }
-    ensures pushed { OnOk result (Pushed (W.told sink.old) (W.told sink.new) order held.old held.new (bit ∷ [])) }
-    ensures fault { IfErr result (GaveUp (W.told sink.old) (W.told sink.new) (full_bytes order held.old (bit ∷ []))) }
+    ensures pushed { OnOk result (Pushed (W.known sink.old) (W.known sink.new) order held.old held.new (bit ∷ [])) }
+    ensures fault { IfErr result (GaveUp (W.known sink.old) (W.known sink.new) (full_bytes order held.old (bit ∷ []))) }
 {
     match held.push(order, u8::from(bit), 1) {
         None => Ok(()),
@@ -77,8 +77,8 @@ fn push_along<W: Sink>(
 ) -> Result<(), ErrorKind>
     requires short { length held.old < 8 }
     requires whole { IsFor way (length bits.now) }
-    ensures pushed { OnOk result (Pushed (W.told sink.old) (W.told sink.new) order held.old held.new (along way bits.now)) }
-    ensures fault { IfErr result (GaveUp (W.told sink.old) (W.told sink.new) (full_bytes order held.old (along way bits.now))) }
+    ensures pushed { OnOk result (Pushed (W.known sink.old) (W.known sink.new) order held.old held.new (along way bits.now)) }
+    ensures fault { IfErr result (GaveUp (W.known sink.old) (W.known sink.new) (full_bytes order held.old (along way bits.now))) }
 {
     let n = bits.len();
     for i in 0..n {
@@ -98,8 +98,8 @@ fn push_same<W: Sink>(
     bits: &[bool],
 ) -> Result<(), ErrorKind>
     requires { length held.old < 8 }
-    ensures pushed { OnOk result (Pushed (W.told sink.old) (W.told sink.new) order held.old held.new (shown order bits.now)) }
-    ensures fault { IfErr result (GaveUp (W.told sink.old) (W.told sink.new) (full_bytes order held.old (shown order bits.now))) }
+    ensures pushed { OnOk result (Pushed (W.known sink.old) (W.known sink.new) order held.old held.new (shown order bits.now)) }
+    ensures fault { IfErr result (GaveUp (W.known sink.old) (W.known sink.new) (full_bytes order held.old (shown order bits.now))) }
 {
     push_along(sink, held, order, Way::shown(order, bits.len()), bits)
 }
@@ -115,8 +115,8 @@ fn push_three<W: Sink>(
 ) -> Result<(), ErrorKind>
     requires empty { held.old ≡ [] }
     requires whole { IsFor way (length first.now) }
-    ensures pushed { OnOk result (Pushed (W.told sink.old) (W.told sink.new) Msb0 [] held.new (along way first.now ++ second.now ++ third.now)) }
-    ensures fault { IfErr result (GaveUp (W.told sink.old) (W.told sink.new) (full_bytes Msb0 [] (along way first.now ++ second.now ++ third.now))) }
+    ensures pushed { OnOk result (Pushed (W.known sink.old) (W.known sink.new) Msb0 [] held.new (along way first.now ++ second.now ++ third.now)) }
+    ensures fault { IfErr result (GaveUp (W.known sink.old) (W.known sink.new) (full_bytes Msb0 [] (along way first.now ++ second.now ++ third.now))) }
 {
     match push_along(sink, held, Order::Msb0, way, first) {
         Ok(()) => {}
@@ -132,9 +132,9 @@ fn push_three<W: Sink>(
 // `Lsb0` bits into `Msb0` bits.
 fn push_into<W: Sink>(sink: &mut W, held: &mut Held, bits: &[bool]) -> Result<(), ErrorKind>
     requires { length held.old < 8 }
-    ensures pushed { OnOk result (Pushed (W.told sink.old) (W.told sink.new) Msb0 [] held.new
+    ensures pushed { OnOk result (Pushed (W.known sink.old) (W.known sink.new) Msb0 [] held.new
         (take (min (8 - length bits.now % 8) (length held.old)) held.old ++ bits.now ++ drop (min (8 - length bits.now % 8) (length held.old)) held.old)) }
-    ensures fault { IfErr result (GaveUp (W.told sink.old) (W.told sink.new) (full_bytes Msb0 []
+    ensures fault { IfErr result (GaveUp (W.known sink.old) (W.known sink.new) (full_bytes Msb0 []
         (take (min (8 - length bits.now % 8) (length held.old)) held.old ++ bits.now ++ drop (min (8 - length bits.now % 8) (length held.old)) held.old))) }
 {
     let pending = held.bits();
@@ -154,9 +154,9 @@ fn push_into<W: Sink>(sink: &mut W, held: &mut Held, bits: &[bool]) -> Result<()
 // `Msb0` bits above `Lsb0` bits.
 fn push_above<W: Sink>(sink: &mut W, held: &mut Held, bits: &[bool]) -> Result<(), ErrorKind>
     requires { length held.old < 8 }
-    ensures pushed { OnOk result (Pushed (W.told sink.old) (W.told sink.new) Msb0 [] held.new
+    ensures pushed { OnOk result (Pushed (W.known sink.old) (W.known sink.new) Msb0 [] held.new
         (along BytesBackward (drop (length bits.now % 8) bits.now) ++ take (length bits.now % 8) bits.now ++ held.old)) }
-    ensures fault { IfErr result (GaveUp (W.told sink.old) (W.told sink.new) (full_bytes Msb0 []
+    ensures fault { IfErr result (GaveUp (W.known sink.old) (W.known sink.new) (full_bytes Msb0 []
         (along BytesBackward (drop (length bits.now % 8) bits.now) ++ take (length bits.now % 8) bits.now ++ held.old))) }
 {
     let pending = held.bits();
@@ -184,8 +184,8 @@ pub fn push_onto<W: Sink>(
 ) -> Result<(), ErrorKind>
     requires short { length held.old < 8 }
     requires some { 0 < length bits.now }
-    ensures pushed { OnOk result (PushedOnto (W.told sink.old) (W.told sink.new) from to held.old held.new bits.now) }
-    ensures fault { IfErr result (GaveUp (W.told sink.old) (W.told sink.new) (onto_bytes from to held.old bits.now)) }
+    ensures pushed { OnOk result (PushedOnto (W.known sink.old) (W.known sink.new) from to held.old held.new bits.now) }
+    ensures fault { IfErr result (GaveUp (W.known sink.old) (W.known sink.new) (onto_bytes from to held.old bits.now)) }
 {
     if held.len() == 0 {
         return push_same(sink, held, to, bits);

@@ -10,7 +10,7 @@ ghost use Rattle.deku_device.specs.Seeking.{Seeks, RefusedSeek, StandsAt, toward
 ghost use Rattle.deku_stream.specs.Standings.{Going, Stopped, count_of};
 ghost use Rattle.deku_stream.specs.Writers.{Nothing};
 
-use crate::writer::{Progress, Writer};
+use crate::writer::{WriterState, Writer};
 use deku_device::device::Sink;
 use std::io;
 use std::io::{Seek, SeekFrom};
@@ -34,20 +34,20 @@ impl<W: Sink> Seek for Writer<W> {
         ensures place { SeekMoves (W.stream_position self.old.sink) (W.stream_position self.new.sink) (W.stream_bytes self.old.sink) to result }
         ensures sink_bytes { Keeps (W.stream_bytes self.old.sink) (W.stream_bytes self.new.sink) }
         // Where the sink tells all its bytes, it goes on among them there.
-        ensures sought { Seeks (W.told self.old.sink).health (W.told self.new.sink).health to result }
-        ensures stands { StandsAt (W.told self.old.sink).health.whole result (W.told self.new.sink) }
-        ensures nowhere { RefusedSeek (W.told self.old.sink).health (W.told self.new.sink).health to result }
+        ensures sought { Seeks (W.known self.old.sink).health (W.known self.new.sink).health to result }
+        ensures stands { StandsAt (W.known self.old.sink).health.whole result (W.known self.new.sink) }
+        ensures nowhere { RefusedSeek (W.known self.old.sink).health (W.known self.new.sink).health to result }
         // What the trait asks of a stream whose own place is not known.
         ensures moves { SeekMoves None None None to result }
         ensures bytes { Keeps None None }
     {
-        match Sink::go(&mut self.sink, to) {
+        match Sink::seek_to(&mut self.sink, to) {
             Ok(place) => {
-                self.state = Progress::going(self.state.bits_written());
+                self.state = WriterState::going(self.state.bits_written());
                 Ok(place)
             }
             Err(error) => {
-                self.state = Progress::stopped(error.kind(), self.state.bits_written());
+                self.state = WriterState::stopped(error.kind(), self.state.bits_written());
                 Err(error)
             }
         }
@@ -59,9 +59,9 @@ impl<W: Sink> Seek for Writer<W> {
         ensures err { IfErr result (λ e. self.new.state ≡ Stopped Nothing (DekuError.Io (error_kind e)) (count_of self.old.state)) }
         ensures place { MovesTo (W.stream_position self.old.sink) (W.stream_position self.new.sink) 0 result }
         ensures sink_bytes { Keeps (W.stream_bytes self.old.sink) (W.stream_bytes self.new.sink) }
-        ensures sought { Seeks (W.told self.old.sink).health (W.told self.new.sink).health (Start 0) (toward 0 result) }
-        ensures stands { StandsAt (W.told self.old.sink).health.whole (toward 0 result) (W.told self.new.sink) }
-        ensures nowhere { RefusedSeek (W.told self.old.sink).health (W.told self.new.sink).health (Start 0) (toward 0 result) }
+        ensures sought { Seeks (W.known self.old.sink).health (W.known self.new.sink).health (Start 0) (toward 0 result) }
+        ensures stands { StandsAt (W.known self.old.sink).health.whole (toward 0 result) (W.known self.new.sink) }
+        ensures nowhere { RefusedSeek (W.known self.old.sink).health (W.known self.new.sink).health (Start 0) (toward 0 result) }
         ensures moves { MovesTo None None 0 result }
         ensures bytes { Keeps None None }
     {
@@ -75,9 +75,9 @@ impl<W: Sink> Seek for Writer<W> {
         ensures err { IfErr result (λ e. self.new.state ≡ Stopped Nothing (DekuError.Io (error_kind e)) (count_of self.old.state)) }
         ensures place { SeekMoves (W.stream_position self.old.sink) (W.stream_position self.new.sink) (W.stream_bytes self.old.sink) (Current (pos 0)) result }
         ensures sink_bytes { Keeps (W.stream_bytes self.old.sink) (W.stream_bytes self.new.sink) }
-        ensures sought { Seeks (W.told self.old.sink).health (W.told self.new.sink).health (Current (pos 0)) result }
-        ensures stands { StandsAt (W.told self.old.sink).health.whole result (W.told self.new.sink) }
-        ensures nowhere { RefusedSeek (W.told self.old.sink).health (W.told self.new.sink).health (Current (pos 0)) result }
+        ensures sought { Seeks (W.known self.old.sink).health (W.known self.new.sink).health (Current (pos 0)) result }
+        ensures stands { StandsAt (W.known self.old.sink).health.whole result (W.known self.new.sink) }
+        ensures nowhere { RefusedSeek (W.known self.old.sink).health (W.known self.new.sink).health (Current (pos 0)) result }
         ensures stays { StaysAt None None }
         ensures bytes { Keeps None None }
     {
@@ -90,9 +90,9 @@ impl<W: Sink> Seek for Writer<W> {
         ensures err { IfErr result (λ e. self.new.state ≡ Stopped Nothing (DekuError.Io (error_kind e)) (count_of self.old.state)) }
         ensures place { MovesBy (W.stream_position self.old.sink) (W.stream_position self.new.sink) offset result }
         ensures sink_bytes { Keeps (W.stream_bytes self.old.sink) (W.stream_bytes self.new.sink) }
-        ensures sought { (n : ℕ) × Seeks (W.told self.old.sink).health (W.told self.new.sink).health (Current offset) (toward n result)
-            × StandsAt (W.told self.old.sink).health.whole (toward n result) (W.told self.new.sink) }
-        ensures nowhere { RefusedSeek (W.told self.old.sink).health (W.told self.new.sink).health (Current offset) (toward 0 result) }
+        ensures sought { (n : ℕ) × Seeks (W.known self.old.sink).health (W.known self.new.sink).health (Current offset) (toward n result)
+            × StandsAt (W.known self.old.sink).health.whole (toward n result) (W.known self.new.sink) }
+        ensures nowhere { RefusedSeek (W.known self.old.sink).health (W.known self.new.sink).health (Current offset) (toward 0 result) }
         ensures moves { MovesBy None None offset result }
         ensures bytes { Keeps None None }
     {

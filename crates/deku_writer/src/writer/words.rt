@@ -153,8 +153,8 @@ fn push_long_word<W: Sink>(
     requires short { length held.old < 8 }
     requires most { n ≤ 128 }
     requires inside { word < 2 ^ n }
-    ensures pushed { OnOk result (PushedOnto (W.told sink.old) (W.told sink.new) from to held.old held.new (shown to (word_bits to n word))) }
-    ensures fault { IfErr result (GaveUp (W.told sink.old) (W.told sink.new) (onto_bytes from to held.old (shown to (word_bits to n word)))) }
+    ensures pushed { OnOk result (PushedOnto (W.known sink.old) (W.known sink.new) from to held.old held.new (shown to (word_bits to n word))) }
+    ensures fault { IfErr result (GaveUp (W.known sink.old) (W.known sink.new) (onto_bytes from to held.old (shown to (word_bits to n word)))) }
 {
     let filled = (held.len() + n) / 8;
     let behind = (held.len() + n % 8) % 8;
@@ -169,8 +169,8 @@ fn give_whole<W: Sink>(sink: &mut W, word: u128, n: usize) -> Result<(), ErrorKi
     requires some { 0 < n }
     requires whole { n % 8 ≡ 0 }
     requires most { n ≤ 128 }
-    ensures gave { OnOk result (Gave (W.told sink.old) (W.told sink.new) (low_bytes (n / 8) word)) }
-    ensures fault { IfErr result (GaveUp (W.told sink.old) (W.told sink.new) (low_bytes (n / 8) word)) }
+    ensures gave { OnOk result (Gave (W.known sink.old) (W.known sink.new) (low_bytes (n / 8) word)) }
+    ensures fault { IfErr result (GaveUp (W.known sink.old) (W.known sink.new) (low_bytes (n / 8) word)) }
 {
     give_out(sink, &word.to_le_bytes()[..n / 8])
 }
@@ -180,10 +180,10 @@ fn give_whole<W: Sink>(sink: &mut W, word: u128, n: usize) -> Result<(), ErrorKi
 fn lay_whole<W: Sink>(sink: &mut W, word: u64, n: usize) -> bool
     requires whole { n % 8 ≡ 0 }
     requires most { n ≤ 64 }
-    ensures gave { IsTrue result → Gave (W.told sink.old) (W.told sink.new) (low_bytes (n / 8) word) }
+    ensures gave { IsTrue result → Gave (W.known sink.old) (W.known sink.new) (low_bytes (n / 8) word) }
     ensures stays { IsFalse result → sink.new ≡ sink.old }
 {
-    sink.lay(word.to_le_bytes(), n / 8)
+    sink.try_put(word.to_le_bytes(), n / 8)
 }
 
 /// A word of n bits onto the held bits of an order. Where they have at most 64 bits together, and the sink has room for eight bytes at hand, they
@@ -201,8 +201,8 @@ pub fn push_word_onto<W: Sink>(
     requires short { length held.old < 8 }
     requires most { n ≤ 128 }
     requires inside { word < 2 ^ n }
-    ensures pushed { OnOk result (PushedOnto (W.told sink.old) (W.told sink.new) from to held.old held.new (shown to (word_bits to n word))) }
-    ensures fault { IfErr result (GaveUp (W.told sink.old) (W.told sink.new) (onto_bytes from to held.old (shown to (word_bits to n word)))) }
+    ensures pushed { OnOk result (PushedOnto (W.known sink.old) (W.known sink.new) from to held.old held.new (shown to (word_bits to n word))) }
+    ensures fault { IfErr result (GaveUp (W.known sink.old) (W.known sink.new) (onto_bytes from to held.old (shown to (word_bits to n word)))) }
 {
     if held.len() == 0 && n % 8 == 0 {
         if n > 64 {
@@ -215,7 +215,7 @@ pub fn push_word_onto<W: Sink>(
         let left = (held.len() + n % 8) % 8;
         let mut next = held.copy();
         let (eight, count) = next.fill(to, word as u64, n);
-        if sink.lay(eight, count) {
+        if sink.try_put(eight, count) {
             held.follow(next, left);
             return Ok(());
         }

@@ -15,7 +15,7 @@ impl<C: NumberCtx> DekuWriter<C> for bool {
 
     ghost accepts = { λ c. c ≡ c };
 
-    ghost meaning = { λ v c. WritesNumber byte (C.parts_of c) (pos (numeral v)) };
+    ghost meaning = { λ v c. WritesNumber byte (C.layout_of c) (pos (numeral v)) };
 
     #[inline(always)]
     fn to_writer<W: Sink>(&self, writer: &mut Writer<W>, ctx: C) -> Result<(), DekuError> {

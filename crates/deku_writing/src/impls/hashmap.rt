@@ -37,7 +37,7 @@ fn write_entry<Ctx: Copy, K: DekuWriter<Ctx>, V: DekuWriter<Ctx>, W: Sink>(
     ctx: Ctx,
 ) -> Result<(), DekuError>
     requires { K.accepts ctx × V.accepts ctx }
-    ensures { Writes W.told (Both (K.meaning key.now ctx) (V.meaning value.now ctx)) writer.old result writer.new }
+    ensures { Writes W.known (Both (K.meaning key.now ctx) (V.meaning value.now ctx)) writer.old result writer.new }
 {
     key.to_writer(writer, ctx)?;
     value.to_writer(writer, ctx)

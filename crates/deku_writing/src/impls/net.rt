@@ -16,7 +16,7 @@ impl<C: NumberCtx> DekuWriter<C> for Ipv4Addr {
 
     ghost accepts = { λ c. c ≡ c };
 
-    ghost meaning = { λ v c. WritesNumber (unsigned 32) (C.parts_of c) (pos (ipv4_bits v)) };
+    ghost meaning = { λ v c. WritesNumber (unsigned 32) (C.layout_of c) (pos (ipv4_bits v)) };
 
     #[inline(always)]
     fn to_writer<W: Sink>(&self, writer: &mut Writer<W>, ctx: C) -> Result<(), DekuError> {
@@ -34,7 +34,7 @@ impl<C: NumberCtx> DekuWriter<C> for Ipv6Addr {
 
     ghost accepts = { λ c. c ≡ c };
 
-    ghost meaning = { λ v c. WritesNumber (unsigned 128) (C.parts_of c) (pos (ipv6_bits v)) };
+    ghost meaning = { λ v c. WritesNumber (unsigned 128) (C.layout_of c) (pos (ipv6_bits v)) };
 
     #[inline(always)]
     fn to_writer<W: Sink>(&self, writer: &mut Writer<W>, ctx: C) -> Result<(), DekuError> {
@@ -50,7 +50,7 @@ impl<C: NumberCtx> DekuWriter<C> for IpAddr {
 
     ghost accepts = { λ c. c ≡ c };
 
-    ghost meaning = { λ v c. WritesAddress (C.parts_of c) v };
+    ghost meaning = { λ v c. WritesAddress (C.layout_of c) v };
 
     #[inline(always)]
     fn to_writer<W: Sink>(&self, writer: &mut Writer<W>, ctx: C) -> Result<(), DekuError> {

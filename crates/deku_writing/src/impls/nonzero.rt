@@ -19,7 +19,7 @@ impl<C: NumberCtx> DekuWriter<C> for NonZeroU8 {
 
     ghost accepts = { λ c. c ≡ c };
 
-    ghost meaning = { λ v c. WritesNumber byte (C.parts_of c) (pos (non_zero_u8_get v)) };
+    ghost meaning = { λ v c. WritesNumber byte (C.layout_of c) (pos (non_zero_u8_get v)) };
 
     #[inline(always)]
     fn to_writer<W: Sink>(&self, writer: &mut Writer<W>, ctx: C) -> Result<(), DekuError> {
@@ -36,7 +36,7 @@ impl<C: NumberCtx> DekuWriter<C> for NonZeroU16 {
 
     ghost accepts = { λ c. c ≡ c };
 
-    ghost meaning = { λ v c. WritesNumber (unsigned 16) (C.parts_of c) (pos (non_zero_u16_get v)) };
+    ghost meaning = { λ v c. WritesNumber (unsigned 16) (C.layout_of c) (pos (non_zero_u16_get v)) };
 
     #[inline(always)]
     fn to_writer<W: Sink>(&self, writer: &mut Writer<W>, ctx: C) -> Result<(), DekuError> {
@@ -53,7 +53,7 @@ impl<C: NumberCtx> DekuWriter<C> for NonZeroU32 {
 
     ghost accepts = { λ c. c ≡ c };
 
-    ghost meaning = { λ v c. WritesNumber (unsigned 32) (C.parts_of c) (pos (non_zero_u32_get v)) };
+    ghost meaning = { λ v c. WritesNumber (unsigned 32) (C.layout_of c) (pos (non_zero_u32_get v)) };
 
     #[inline(always)]
     fn to_writer<W: Sink>(&self, writer: &mut Writer<W>, ctx: C) -> Result<(), DekuError> {
@@ -70,7 +70,7 @@ impl<C: NumberCtx> DekuWriter<C> for NonZeroU64 {
 
     ghost accepts = { λ c. c ≡ c };
 
-    ghost meaning = { λ v c. WritesNumber (unsigned 64) (C.parts_of c) (pos (non_zero_u64_get v)) };
+    ghost meaning = { λ v c. WritesNumber (unsigned 64) (C.layout_of c) (pos (non_zero_u64_get v)) };
 
     #[inline(always)]
     fn to_writer<W: Sink>(&self, writer: &mut Writer<W>, ctx: C) -> Result<(), DekuError> {
@@ -87,7 +87,7 @@ impl<C: NumberCtx> DekuWriter<C> for NonZeroU128 {
 
     ghost accepts = { λ c. c ≡ c };
 
-    ghost meaning = { λ v c. WritesNumber (unsigned 128) (C.parts_of c) (pos (non_zero_u128_get v)) };
+    ghost meaning = { λ v c. WritesNumber (unsigned 128) (C.layout_of c) (pos (non_zero_u128_get v)) };
 
     #[inline(always)]
     fn to_writer<W: Sink>(&self, writer: &mut Writer<W>, ctx: C) -> Result<(), DekuError> {
@@ -104,7 +104,7 @@ impl<C: NumberCtx> DekuWriter<C> for NonZeroUsize {
 
     ghost accepts = { λ c. c ≡ c };
 
-    ghost meaning = { λ v c. WritesNumber (unsigned 64) (C.parts_of c) (pos (non_zero_usize_get v)) };
+    ghost meaning = { λ v c. WritesNumber (unsigned 64) (C.layout_of c) (pos (non_zero_usize_get v)) };
 
     #[inline(always)]
     fn to_writer<W: Sink>(&self, writer: &mut Writer<W>, ctx: C) -> Result<(), DekuError> {
@@ -121,7 +121,7 @@ impl<C: NumberCtx> DekuWriter<C> for NonZeroI8 {
 
     ghost accepts = { λ c. c ≡ c };
 
-    ghost meaning = { λ v c. WritesNumber (signed 8) (C.parts_of c) (non_zero_i8_get v) };
+    ghost meaning = { λ v c. WritesNumber (signed 8) (C.layout_of c) (non_zero_i8_get v) };
 
     #[inline(always)]
     fn to_writer<W: Sink>(&self, writer: &mut Writer<W>, ctx: C) -> Result<(), DekuError> {
@@ -138,7 +138,7 @@ impl<C: NumberCtx> DekuWriter<C> for NonZeroI16 {
 
     ghost accepts = { λ c. c ≡ c };
 
-    ghost meaning = { λ v c. WritesNumber (signed 16) (C.parts_of c) (non_zero_i16_get v) };
+    ghost meaning = { λ v c. WritesNumber (signed 16) (C.layout_of c) (non_zero_i16_get v) };
 
     #[inline(always)]
     fn to_writer<W: Sink>(&self, writer: &mut Writer<W>, ctx: C) -> Result<(), DekuError> {
@@ -155,7 +155,7 @@ impl<C: NumberCtx> DekuWriter<C> for NonZeroI32 {
 
     ghost accepts = { λ c. c ≡ c };
 
-    ghost meaning = { λ v c. WritesNumber (signed 32) (C.parts_of c) (non_zero_i32_get v) };
+    ghost meaning = { λ v c. WritesNumber (signed 32) (C.layout_of c) (non_zero_i32_get v) };
 
     #[inline(always)]
     fn to_writer<W: Sink>(&self, writer: &mut Writer<W>, ctx: C) -> Result<(), DekuError> {
@@ -172,7 +172,7 @@ impl<C: NumberCtx> DekuWriter<C> for NonZeroI64 {
 
     ghost accepts = { λ c. c ≡ c };
 
-    ghost meaning = { λ v c. WritesNumber (signed 64) (C.parts_of c) (non_zero_i64_get v) };
+    ghost meaning = { λ v c. WritesNumber (signed 64) (C.layout_of c) (non_zero_i64_get v) };
 
     #[inline(always)]
     fn to_writer<W: Sink>(&self, writer: &mut Writer<W>, ctx: C) -> Result<(), DekuError> {
@@ -189,7 +189,7 @@ impl<C: NumberCtx> DekuWriter<C> for NonZeroI128 {
 
     ghost accepts = { λ c. c ≡ c };
 
-    ghost meaning = { λ v c. WritesNumber (signed 128) (C.parts_of c) (non_zero_i128_get v) };
+    ghost meaning = { λ v c. WritesNumber (signed 128) (C.layout_of c) (non_zero_i128_get v) };
 
     #[inline(always)]
     fn to_writer<W: Sink>(&self, writer: &mut Writer<W>, ctx: C) -> Result<(), DekuError> {
@@ -206,7 +206,7 @@ impl<C: NumberCtx> DekuWriter<C> for NonZeroIsize {
 
     ghost accepts = { λ c. c ≡ c };
 
-    ghost meaning = { λ v c. WritesNumber (signed 64) (C.parts_of c) (non_zero_isize_get v) };
+    ghost meaning = { λ v c. WritesNumber (signed 64) (C.layout_of c) (non_zero_isize_get v) };
 
     #[inline(always)]
     fn to_writer<W: Sink>(&self, writer: &mut Writer<W>, ctx: C) -> Result<(), DekuError> {

@@ -29,7 +29,7 @@ impl<C: NumberCtx> DekuWriter<C> for u8 {
 
     ghost accepts = { λ c. c ≡ c };
 
-    ghost meaning = { λ v c. WritesNumber byte (C.parts_of c) (pos v) };
+    ghost meaning = { λ v c. WritesNumber byte (C.layout_of c) (pos v) };
 
     #[inline(always)]
     fn to_writer<W: Sink>(&self, writer: &mut Writer<W>, ctx: C) -> Result<(), DekuError> {
@@ -58,7 +58,7 @@ impl<C: NumberCtx> DekuWriter<C> for u16 {
 
     ghost accepts = { λ c. c ≡ c };
 
-    ghost meaning = { λ v c. WritesNumber (unsigned 16) (C.parts_of c) (pos v) };
+    ghost meaning = { λ v c. WritesNumber (unsigned 16) (C.layout_of c) (pos v) };
 
     #[inline(always)]
     fn to_writer<W: Sink>(&self, writer: &mut Writer<W>, ctx: C) -> Result<(), DekuError> {
@@ -87,7 +87,7 @@ impl<C: NumberCtx> DekuWriter<C> for u32 {
 
     ghost accepts = { λ c. c ≡ c };
 
-    ghost meaning = { λ v c. WritesNumber (unsigned 32) (C.parts_of c) (pos v) };
+    ghost meaning = { λ v c. WritesNumber (unsigned 32) (C.layout_of c) (pos v) };
 
     #[inline(always)]
     fn to_writer<W: Sink>(&self, writer: &mut Writer<W>, ctx: C) -> Result<(), DekuError> {
@@ -116,7 +116,7 @@ impl<C: NumberCtx> DekuWriter<C> for u64 {
 
     ghost accepts = { λ c. c ≡ c };
 
-    ghost meaning = { λ v c. WritesNumber (unsigned 64) (C.parts_of c) (pos v) };
+    ghost meaning = { λ v c. WritesNumber (unsigned 64) (C.layout_of c) (pos v) };
 
     #[inline(always)]
     fn to_writer<W: Sink>(&self, writer: &mut Writer<W>, ctx: C) -> Result<(), DekuError> {
@@ -145,7 +145,7 @@ impl<C: NumberCtx> DekuWriter<C> for u128 {
 
     ghost accepts = { λ c. c ≡ c };
 
-    ghost meaning = { λ v c. WritesNumber (unsigned 128) (C.parts_of c) (pos v) };
+    ghost meaning = { λ v c. WritesNumber (unsigned 128) (C.layout_of c) (pos v) };
 
     #[inline(always)]
     fn to_writer<W: Sink>(&self, writer: &mut Writer<W>, ctx: C) -> Result<(), DekuError> {
@@ -174,7 +174,7 @@ impl<C: NumberCtx> DekuWriter<C> for usize {
 
     ghost accepts = { λ c. c ≡ c };
 
-    ghost meaning = { λ v c. WritesNumber (unsigned 64) (C.parts_of c) (pos v) };
+    ghost meaning = { λ v c. WritesNumber (unsigned 64) (C.layout_of c) (pos v) };
 
     #[inline(always)]
     fn to_writer<W: Sink>(&self, writer: &mut Writer<W>, ctx: C) -> Result<(), DekuError> {
@@ -203,7 +203,7 @@ impl<C: NumberCtx> DekuWriter<C> for i8 {
 
     ghost accepts = { λ c. c ≡ c };
 
-    ghost meaning = { λ v c. WritesNumber (signed 8) (C.parts_of c) v };
+    ghost meaning = { λ v c. WritesNumber (signed 8) (C.layout_of c) v };
 
     #[inline(always)]
     fn to_writer<W: Sink>(&self, writer: &mut Writer<W>, ctx: C) -> Result<(), DekuError> {
@@ -234,7 +234,7 @@ impl<C: NumberCtx> DekuWriter<C> for i16 {
 
     ghost accepts = { λ c. c ≡ c };
 
-    ghost meaning = { λ v c. WritesNumber (signed 16) (C.parts_of c) v };
+    ghost meaning = { λ v c. WritesNumber (signed 16) (C.layout_of c) v };
 
     #[inline(always)]
     fn to_writer<W: Sink>(&self, writer: &mut Writer<W>, ctx: C) -> Result<(), DekuError> {
@@ -265,7 +265,7 @@ impl<C: NumberCtx> DekuWriter<C> for i32 {
 
     ghost accepts = { λ c. c ≡ c };
 
-    ghost meaning = { λ v c. WritesNumber (signed 32) (C.parts_of c) v };
+    ghost meaning = { λ v c. WritesNumber (signed 32) (C.layout_of c) v };
 
     #[inline(always)]
     fn to_writer<W: Sink>(&self, writer: &mut Writer<W>, ctx: C) -> Result<(), DekuError> {
@@ -296,7 +296,7 @@ impl<C: NumberCtx> DekuWriter<C> for i64 {
 
     ghost accepts = { λ c. c ≡ c };
 
-    ghost meaning = { λ v c. WritesNumber (signed 64) (C.parts_of c) v };
+    ghost meaning = { λ v c. WritesNumber (signed 64) (C.layout_of c) v };
 
     #[inline(always)]
     fn to_writer<W: Sink>(&self, writer: &mut Writer<W>, ctx: C) -> Result<(), DekuError> {
@@ -327,7 +327,7 @@ impl<C: NumberCtx> DekuWriter<C> for i128 {
 
     ghost accepts = { λ c. c ≡ c };
 
-    ghost meaning = { λ v c. WritesNumber (signed 128) (C.parts_of c) v };
+    ghost meaning = { λ v c. WritesNumber (signed 128) (C.layout_of c) v };
 
     #[inline(always)]
     fn to_writer<W: Sink>(&self, writer: &mut Writer<W>, ctx: C) -> Result<(), DekuError> {
@@ -358,7 +358,7 @@ impl<C: NumberCtx> DekuWriter<C> for isize {
 
     ghost accepts = { λ c. c ≡ c };
 
-    ghost meaning = { λ v c. WritesNumber (signed 64) (C.parts_of c) v };
+    ghost meaning = { λ v c. WritesNumber (signed 64) (C.layout_of c) v };
 
     #[inline(always)]
     fn to_writer<W: Sink>(&self, writer: &mut Writer<W>, ctx: C) -> Result<(), DekuError> {

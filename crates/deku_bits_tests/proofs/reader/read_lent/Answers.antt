@@ -6,8 +6,8 @@ pub returns : goal.returns
 returns g c =
     let made = c.new-reader.ensures in
     let left = c.read_bits_into.new.self in
-    let before = (g.R.Source.told c.args.source.now).health in
-    let after = (g.R.Source.told left.source.now).health in
+    let before = (g.R.Source.known c.args.source.now).health in
+    let after = (g.R.Source.known left.source.now).health in
     let h = rw (made.source, made.state) at c.read_bits_into.ensures.reads in
     let same = name_stays before after _ _ h in
     let tie = c.source-1.given.1 (search (rules, same)) in

@@ -25,7 +25,7 @@ returns c =
     let same : after.bytes ≡ all = kept ∙ (rw (c.new-reader.ensures.source, c.new.ensures.inner) refl) in
     let n : ℕ = c.in_ok-seek.field-0 in
     let two = plain_got (cursor_source (λ b. Some b.now) sought.source) (cursor_source (λ b. Some b.now) last.source) Msb0 1 _ (drop n all) byte sought.state last.state c.in_ok-seek.ensures.ok
-    (rw same at c.in_ok-seek.ensures.coming) (All-drop (λ b. b < 256) n all bytes) c.in_ok-read_bytes_const_into-2.ensures.reads in
+    (rw same at c.in_ok-seek.ensures.remaining) (All-drop (λ b. b < 256) n all bytes) c.in_ok-read_bytes_const_into-2.ensures.reads in
     let at : n ≡ 256 * get_or head 0 0 + get_or head 1 0 = c.in_ok-seek.ensures.sought.target in
     let high : get_or head 0 0 ≡ get_or all 0 0 = got_front 2 0 head all (omega arith) one.0.0 one.0.1 in
     let low : get_or head 1 0 ≡ get_or all 1 0 = got_front 2 1 head all (omega arith) one.0.0 one.0.1 in

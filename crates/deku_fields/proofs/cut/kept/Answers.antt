@@ -27,15 +27,15 @@ low_bits-requires c = few_bits c.args.field c.args.width c.requires.admits.allow
 pub residue_of-requires : goal.residue_of-requires
 residue_of-requires c = few_bits c.args.field c.args.width c.requires.admits.allowed c.requires.wide
 
-pub signed_of-requires-clause-wide : goal.signed_of-requires-clause-wide
-signed_of-requires-clause-wide c = let few = few_bits c.args.field c.args.width c.requires.admits.allowed c.requires.wide in omega (arith, few)
+pub sign_extend-requires-clause-wide : goal.sign_extend-requires-clause-wide
+sign_extend-requires-clause-wide c = let few = few_bits c.args.field c.args.width c.requires.admits.allowed c.requires.wide in omega (arith, few)
 
 pub returns-in-Signed : goal.returns-in-Signed
 returns-in-Signed c =
     let cut : cuts (number_type c.args.field.kind) c.args.field.layout.size ≡ true = search rules in
     let admits : AdmitsCut c.args.field (Signed c.in-Signed.value) = search rules in
     let fits : SFits w128 c.in-Signed.value = search rules in
-    let worth : SFits w128 c.signed_of.result = search rules in
-    rw (c.in-Signed.is, to_z-of_z w128 c.signed_of.result worth)
-    (signed_kept c.args.field c.in-Signed.value c.signed_of.result c.residue_of.result c.args.width admits cut c.requires.wide
-    (c.residue_of.ensures ∙ ap (λ v. residue v c.args.width) (to_z-of_z w128 c.in-Signed.value fits)) c.signed_of.ensures)
+    let worth : SFits w128 c.sign_extend.result = search rules in
+    rw (c.in-Signed.is, to_z-of_z w128 c.sign_extend.result worth)
+    (signed_kept c.args.field c.in-Signed.value c.sign_extend.result c.residue_of.result c.args.width admits cut c.requires.wide
+    (c.residue_of.ensures ∙ ap (λ v. residue v c.args.width) (to_z-of_z w128 c.in-Signed.value fits)) c.sign_extend.ensures)

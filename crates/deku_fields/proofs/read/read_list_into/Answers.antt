@@ -20,8 +20,8 @@ loop-place-preserved g c = (
   length-set c.loop-place.out c.loop-place.place c.in-Ok.number ∙ c.loop-place.invariant.0,
   field_read c.args.fields.now c.loop-place.place _ c.loop-place.out c.in-Ok.number _ _ _ _ _ _ (omega arith) (omega (arith, c.loop-place.invariant.0, c.requires)) (c.loop-place.invariant.1) (c.in-Ok.ensures.reads),
   early_on c.loop-place.invariant.2 c.in-Ok.ensures.early,
-  tally_more c.args.fields.now c.loop-place.place _ c.in-Ok.number (g.R.Source.told c.args.reader.now.source) (g.R.Source.told c.loop-place.reader.source) (g.R.Source.told c.read_field.new.reader.source) c.args.reader.now.state c.loop-place.reader.state c.read_field.new.reader.state (omega arith) c.loop-place.invariant.3 c.in-Ok.ensures.reads c.in-Ok.ensures.fetched c.in-Ok.ensures.early,
-  field_going _ c.in-Ok.number (g.R.Source.told c.loop-place.reader.source) (g.R.Source.told c.read_field.new.reader.source) c.args.reader.now.state c.loop-place.reader.state c.read_field.new.reader.state _ _
+  tally_more c.args.fields.now c.loop-place.place _ c.in-Ok.number (g.R.Source.known c.args.reader.now.source) (g.R.Source.known c.loop-place.reader.source) (g.R.Source.known c.read_field.new.reader.source) c.args.reader.now.state c.loop-place.reader.state c.read_field.new.reader.state (omega arith) c.loop-place.invariant.3 c.in-Ok.ensures.reads c.in-Ok.ensures.fetched c.in-Ok.ensures.early,
+  field_going _ c.in-Ok.number (g.R.Source.known c.loop-place.reader.source) (g.R.Source.known c.read_field.new.reader.source) c.args.reader.now.state c.loop-place.reader.state c.read_field.new.reader.state _ _
       (rests_in (λ r. r.state) c.args.reader.now.state c.args.reader.now c.loop-place.reader c.loop-place.invariant.4) c.in-Ok.ensures.reads,
   λ (e : c.loop-place.place + 1 ≡ 0). absurd (omega arith),
 )
@@ -43,7 +43,7 @@ returns-clause-behind g c = λ items bytes after k calm begins stands tells room
     left_behind c.args.fields.now _ _ _ _ _ items bytes after k begins stands tells room c.loop-place.invariant.2 (inr (returns-clause-values g c calm))
 
 pub returns-clause-fetched : goal.returns-clause-fetched
-returns-clause-fetched g c = tally_whole c.args.fields.now c.loop-place.place (g.R.Source.told c.args.reader.now.source) (g.R.Source.told c.loop-place.reader.source) c.args.reader.now.state c.loop-place.reader.state (omega arith) c.loop-place.invariant.3
+returns-clause-fetched g c = tally_whole c.args.fields.now c.loop-place.place (g.R.Source.known c.args.reader.now.source) (g.R.Source.known c.loop-place.reader.source) c.args.reader.now.state c.loop-place.reader.state (omega arith) c.loop-place.invariant.3
 
 pub returns-clause-found : goal.returns-clause-found
 returns-clause-found g c = finds_any c.args.fields.now _ _ (returns-clause-meaning g c)

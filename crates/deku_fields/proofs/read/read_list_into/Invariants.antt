@@ -10,9 +10,9 @@ use Rattle.deku_fields.proofs.read.read_list_into.Given as goal
 abbrev pub invariant-loop-place : goal.invariant-loop-place
 invariant-loop-place g l = (length l.out ≡ length l.initial.out)
     × Continues l.fields l.place (take l.place l.out)
-    (reader_state (g.R.Source.told l.initial.reader.source).coming l.initial.reader.state) (g.R.Source.told l.initial.reader.source).health
-    (reader_state (g.R.Source.told l.reader.source).coming l.reader.state) (g.R.Source.told l.reader.source).health
+    (reader_state (g.R.Source.known l.initial.reader.source).remaining l.initial.reader.state) (g.R.Source.known l.initial.reader.source).health
+    (reader_state (g.R.Source.known l.reader.source).remaining l.reader.state) (g.R.Source.known l.reader.source).health
     × NoneEarly l.initial.reader.state l.reader.state
-    × Tally (total (map field_shape (take l.place l.fields))) l.initial.reader.state (g.R.Source.told l.initial.reader.source).coming l.reader.state (g.R.Source.told l.reader.source).coming
+    × Tally (total (map field_shape (take l.place l.fields))) l.initial.reader.state (g.R.Source.known l.initial.reader.source).remaining l.reader.state (g.R.Source.known l.reader.source).remaining
     × Untouched l.initial.reader.state l.initial.reader l.reader
     × (l.place ≡ 0 → l.reader ≡ l.initial.reader)

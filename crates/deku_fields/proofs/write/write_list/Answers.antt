@@ -14,7 +14,7 @@ returns-in-Err-clause-meaning g c = item_refused c.args.items.now c.loop-item.it
 pub loop-item-preserved : goal.loop-item-preserved
 loop-item-preserved g c = (
   item_written c.args.items.now c.loop-item.item-index _ _ _ _ _ _ _ (omega arith) (c.loop-item.invariant.0) (c.in-Ok.ensures.writes),
-  item_going _ (g.W.Sink.told c.loop-item.writer.sink) (g.W.Sink.told c.write_item.new.writer.sink) c.args.writer.now.state c.loop-item.writer.state c.write_item.new.writer.state _ _
+  item_going _ (g.W.Sink.known c.loop-item.writer.sink) (g.W.Sink.known c.write_item.new.writer.sink) c.args.writer.now.state c.loop-item.writer.state c.write_item.new.writer.state _ _
       (rests_in (λ w. w.state) c.args.writer.now.state c.args.writer.now c.loop-item.writer c.loop-item.invariant.1) c.in-Ok.ensures.writes,
   λ (e : c.loop-item.item-index + 1 ≡ 0). absurd (omega arith),
 )
@@ -44,7 +44,7 @@ pub returns-in-Err-clause-none : goal.returns-in-Err-clause-none
 returns-in-Err-clause-none g c = λ e. absurd (omega (arith, ap length e))
 
 pub returns-in-Err-clause-cause : goal.returns-in-Err-clause-cause
-returns-in-Err-clause-cause g c = items_caused c.args.items.now (g.W.Sink.told c.args.writer.now.sink) c.args.writer.now.state _ _ _ _ (returns-in-Err-clause-meaning g c)
+returns-in-Err-clause-cause g c = items_caused c.args.items.now (g.W.Sink.known c.args.writer.now.sink) c.args.writer.now.state _ _ _ _ (returns-in-Err-clause-meaning g c)
 
 pub returns-clause-cause : goal.returns-clause-cause
 returns-clause-cause g c = search rules

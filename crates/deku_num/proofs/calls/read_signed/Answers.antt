@@ -14,9 +14,9 @@ returns-in-Some-clause-reads g c =
     let n = c.in_ok-width.width in
     let bits = bits_of n c.in-Some.high in
     let is = high_in l n c.in-Some.high c.in-Some.ensures.big c.in-Some.ensures.high c.in-Some.ensures.below in
-    let fits : SFits w128 c.signed_of.result = search rules in
+    let fits : SFits w128 c.sign_extend.result = search rules in
     let taken = rw (← c.in-Some.ensures.high) at c.in-Some.ensures.takes in
-    rw (to_z-of_z w128 c.signed_of.result fits ∙ c.signed_of.ensures ∙ signed_worth c.args.number_type l bits n c.in-Some.high c.requires.signed (length-bits_of n c.in-Some.high) is)
+    rw (to_z-of_z w128 c.sign_extend.result fits ∙ c.sign_extend.ensures ∙ signed_worth c.args.number_type l bits n c.in-Some.high c.requires.signed (length-bits_of n c.in-Some.high) is)
     (number_read c.args.number_type l _ c.in_ok-width.ensures.ok.1 taken c.in_ok-width.ensures.ok.0)
 
 pub returns-in-Some-clause-fetched : goal.returns-in-Some-clause-fetched
@@ -29,15 +29,15 @@ returns-in-Some-clause-in_type g c =
     let bits = bits_of n c.in-Some.high in
     let is = high_in l n c.in-Some.high c.in-Some.ensures.big c.in-Some.ensures.high c.in-Some.ensures.below in
     let long = length-bits_of n c.in-Some.high in
-    let fits : SFits w128 c.signed_of.result = search rules in
+    let fits : SFits w128 c.sign_extend.result = search rules in
     signed_in_type c.args.number_type l bits _ c.requires.signed c.in_ok-width.ensures.ok.1 (long ∙ c.in_ok-width.ensures.ok.0)
-    (to_z-of_z w128 c.signed_of.result fits ∙ c.signed_of.ensures ∙ signed_worth c.args.number_type l bits n c.in-Some.high c.requires.signed long is)
+    (to_z-of_z w128 c.sign_extend.result fits ∙ c.sign_extend.ensures ∙ signed_worth c.args.number_type l bits n c.in-Some.high c.requires.signed long is)
 
 pub number_of_word-number-requires-clause-fits : goal.number_of_word-number-requires-clause-fits
 number_of_word-number-requires-clause-fits g c = word_fits (word_read c.args.layout.order c.in_ok-width.width c.in_ok-word.ensures.reads)
 
-pub signed_of-requires-2-clause-below : goal.signed_of-requires-2-clause-below
-signed_of-requires-2-clause-below g c =
+pub sign_extend-requires-2-clause-below : goal.sign_extend-requires-2-clause-below
+sign_extend-requires-2-clause-below g c =
     let r = word_read c.args.layout.order c.in_ok-width.width c.in_ok-word.ensures.reads in
     number_fits c.args.number_type c.args.layout r.bits c.in_ok-width.width c.number_of_word-number.result c.requires.signed c.in_ok-width.ensures.ok.1 r.long c.in_ok-width.ensures.ok.0
     (c.number_of_word-number.ensures r.bits r.long r.worth)
@@ -52,9 +52,9 @@ returns-in_err-word-clause-reads g c =
 pub returns-clause-reads : goal.returns-clause-reads
 returns-clause-reads g c =
     let r = word_read c.args.layout.order c.in_ok-width.width c.in_ok-word.ensures.reads in
-    let fits : SFits w128 c.signed_of-2.result = search rules in
+    let fits : SFits w128 c.sign_extend-2.result = search rules in
     let same = c.number_at_hand.ensures.stays (search rules) in
-    rw (← same, to_z-of_z w128 c.signed_of-2.result fits ∙ c.signed_of-2.ensures ∙ signed_worth c.args.number_type c.args.layout r.bits c.in_ok-width.width c.number_of_word-number.result c.requires.signed r.long (c.number_of_word-number.ensures r.bits r.long r.worth))
+    rw (← same, to_z-of_z w128 c.sign_extend-2.result fits ∙ c.sign_extend-2.ensures ∙ signed_worth c.args.number_type c.args.layout r.bits c.in_ok-width.width c.number_of_word-number.result c.requires.signed r.long (c.number_of_word-number.ensures r.bits r.long r.worth))
     (number_read c.args.number_type c.args.layout _ c.in_ok-width.ensures.ok.1 r.taken c.in_ok-width.ensures.ok.0)
 
 pub returns-clause-fetched : goal.returns-clause-fetched
@@ -65,6 +65,6 @@ returns-clause-fetched g c =
 pub returns-clause-in_type : goal.returns-clause-in_type
 returns-clause-in_type g c =
     let r = word_read c.args.layout.order c.in_ok-width.width c.in_ok-word.ensures.reads in
-    let fits : SFits w128 c.signed_of-2.result = search rules in
+    let fits : SFits w128 c.sign_extend-2.result = search rules in
     signed_in_type c.args.number_type c.args.layout r.bits _ c.requires.signed c.in_ok-width.ensures.ok.1 (r.long ∙ c.in_ok-width.ensures.ok.0)
-    (to_z-of_z w128 c.signed_of-2.result fits ∙ c.signed_of-2.ensures ∙ signed_worth c.args.number_type c.args.layout r.bits c.in_ok-width.width c.number_of_word-number.result c.requires.signed r.long (c.number_of_word-number.ensures r.bits r.long r.worth))
+    (to_z-of_z w128 c.sign_extend-2.result fits ∙ c.sign_extend-2.ensures ∙ signed_worth c.args.number_type c.args.layout r.bits c.in_ok-width.width c.number_of_word-number.result c.requires.signed r.long (c.number_of_word-number.ensures r.bits r.long r.worth))

@@ -3,7 +3,7 @@
 ghost use Rattle.std.specs.Prelude.{◌≡◌, ◌≢◌, ◌+◌, ◌*◌, ◌<◌, ◌≤◌, ◌++◌, [], length, OnOk, IfErr};
 ghost use Rattle.std.specs.IoError.{error_kind};
 ghost use Rattle.deku_stream.specs.Bits.{facing, groups};
-ghost use Rattle.deku_device.specs.Devices.{NoFewerFailures, MoreFailures};
+ghost use Rattle.deku_device.specs.Devices.{DeviceKept, DeviceFailed};
 ghost use Rattle.deku_stream.specs.Moving.{Moves, FewerBits};
 ghost use Rattle.deku_stream.specs.Streams.{flow};
 
@@ -24,13 +24,13 @@ pub fn bits_into<R: Source>(
     requires { length window.old ≤ 8 }
     ensures bound { OnOk result (length window.new ≤ 8) }
     ensures short { OnOk result (0 < length dst.new → length window.new < 8) }
-    ensures none { OnOk result (length dst.new ≡ 0 → (window.new ≡ window.old) × ((R.told source.new).coming ≡ (R.told source.old).coming)) }
-    ensures moved { OnOk result (Moves order window.old (R.told source.old).coming dst.new window.new (R.told source.new).coming) }
+    ensures none { OnOk result (length dst.new ≡ 0 → (window.new ≡ window.old) × ((R.known source.new).remaining ≡ (R.known source.old).remaining)) }
+    ensures moved { OnOk result (Moves order window.old (R.known source.old).remaining dst.new window.new (R.known source.new).remaining) }
     ensures wanted { IfErr result (λ e. 0 < length dst.old) }
-    ensures ended { IfErr result (λ e. error_kind e ≡ ErrorKind.UnexpectedEof → FewerBits (length dst.old) window.old (R.told source.old).coming) }
-    ensures failed { IfErr result (λ e. error_kind e ≢ ErrorKind.UnexpectedEof → MoreFailures (R.told source.old).health (R.told source.new).health) }
+    ensures ended { IfErr result (λ e. error_kind e ≡ ErrorKind.UnexpectedEof → FewerBits (length dst.old) window.old (R.known source.old).remaining) }
+    ensures failed { IfErr result (λ e. error_kind e ≢ ErrorKind.UnexpectedEof → DeviceFailed (R.known source.old).health (R.known source.new).health) }
     ensures inside { length dst.old ≤ length window.old → source.new ≡ source.old }
-    ensures kept { NoFewerFailures (R.told source.old).health (R.told source.new).health }
+    ensures kept { DeviceKept (R.known source.old).health (R.known source.new).health }
 {
     for run in 0..dst.len().div_ceil(128) {
         let from = 128 * run;
@@ -51,11 +51,11 @@ fn run_into<R: Source>(
     requires some { 0 < length dst.old }
     requires few { length dst.old ≤ 128 }
     ensures short { OnOk result (length window.new < 8) }
-    ensures moved { OnOk result (Moves order window.old (R.told source.old).coming dst.new window.new (R.told source.new).coming) }
-    ensures ended { IfErr result (λ e. error_kind e ≡ ErrorKind.UnexpectedEof → FewerBits (length dst.old) window.old (R.told source.old).coming) }
-    ensures failed { IfErr result (λ e. error_kind e ≢ ErrorKind.UnexpectedEof → MoreFailures (R.told source.old).health (R.told source.new).health) }
+    ensures moved { OnOk result (Moves order window.old (R.known source.old).remaining dst.new window.new (R.known source.new).remaining) }
+    ensures ended { IfErr result (λ e. error_kind e ≡ ErrorKind.UnexpectedEof → FewerBits (length dst.old) window.old (R.known source.old).remaining) }
+    ensures failed { IfErr result (λ e. error_kind e ≢ ErrorKind.UnexpectedEof → DeviceFailed (R.known source.old).health (R.known source.new).health) }
     ensures inside { length dst.old ≤ length window.old → source.new ≡ source.old }
-    ensures kept { NoFewerFailures (R.told source.old).health (R.told source.new).health }
+    ensures kept { DeviceKept (R.known source.old).health (R.known source.new).health }
 {
     let inside = dst.len().min(window.len());
     hand_out(window, &mut dst[..inside], order);

@@ -3,7 +3,7 @@
 ghost use Rattle.std.specs.Prelude.{◌≡◌, ◌≢◌, ◌*◌, ◌%◌, ◌<◌, ◌≤◌, ◌++◌, length, All, OnOk, IfErr};
 ghost use Rattle.std.specs.Vec.{vec_len, vec_capacity};
 ghost use Rattle.deku_stream.specs.Bits.{facing};
-ghost use Rattle.deku_device.specs.Devices.{NoFewerFailures, MoreFailures};
+ghost use Rattle.deku_device.specs.Devices.{DeviceKept, DeviceFailed};
 ghost use Rattle.deku_stream.specs.Moving.{Moves, FewerBits};
 ghost use Rattle.deku_stream.specs.Streams.{flow};
 
@@ -24,13 +24,13 @@ pub fn bytes_into<R: Source>(
 ) -> Result<(), ErrorKind>
     requires { length window.old ≤ 8 }
     ensures short { OnOk result (0 < length dst.new → length window.new < 8) }
-    ensures none { OnOk result (length dst.new ≡ 0 → (window.new ≡ window.old) × ((R.told source.new).coming ≡ (R.told source.old).coming)) }
-    ensures moved { OnOk result (Moves order window.old (R.told source.old).coming (flow order dst.new) window.new (R.told source.new).coming) }
+    ensures none { OnOk result (length dst.new ≡ 0 → (window.new ≡ window.old) × ((R.known source.new).remaining ≡ (R.known source.old).remaining)) }
+    ensures moved { OnOk result (Moves order window.old (R.known source.old).remaining (flow order dst.new) window.new (R.known source.new).remaining) }
     ensures bytes { OnOk result (All (λ b. b < 256) dst.new) }
-    ensures ended { IfErr result (λ e. e ≡ ErrorKind.UnexpectedEof → FewerBits (8 * length dst.old) window.old (R.told source.old).coming) }
-    ensures failed { IfErr result (λ e. e ≢ ErrorKind.UnexpectedEof → MoreFailures (R.told source.old).health (R.told source.new).health) }
+    ensures ended { IfErr result (λ e. e ≡ ErrorKind.UnexpectedEof → FewerBits (8 * length dst.old) window.old (R.known source.old).remaining) }
+    ensures failed { IfErr result (λ e. e ≢ ErrorKind.UnexpectedEof → DeviceFailed (R.known source.old).health (R.known source.new).health) }
     ensures inside { 8 * length dst.old ≤ length window.old → source.new ≡ source.old }
-    ensures kept { NoFewerFailures (R.told source.old).health (R.told source.new).health }
+    ensures kept { DeviceKept (R.known source.old).health (R.known source.new).health }
 {
     if dst.is_empty() {
         return Ok(());
@@ -58,13 +58,13 @@ pub fn bytes_onto<R: Source>(
     requires room { amt ≤ vec_capacity bytes.old }
     ensures count { OnOk result (length bytes.new.items ≡ amt) }
     ensures short { OnOk result (0 < amt → length window.new < 8) }
-    ensures none { OnOk result (amt ≡ 0 → (window.new ≡ window.old) × ((R.told source.new).coming ≡ (R.told source.old).coming)) }
-    ensures moved { OnOk result (Moves order window.old (R.told source.old).coming (flow order bytes.new.items) window.new (R.told source.new).coming) }
+    ensures none { OnOk result (amt ≡ 0 → (window.new ≡ window.old) × ((R.known source.new).remaining ≡ (R.known source.old).remaining)) }
+    ensures moved { OnOk result (Moves order window.old (R.known source.old).remaining (flow order bytes.new.items) window.new (R.known source.new).remaining) }
     ensures bytes { OnOk result (All (λ b. b < 256) bytes.new.items) }
-    ensures ended { IfErr result (λ e. e ≡ ErrorKind.UnexpectedEof → FewerBits (8 * amt) window.old (R.told source.old).coming) }
-    ensures failed { IfErr result (λ e. e ≢ ErrorKind.UnexpectedEof → MoreFailures (R.told source.old).health (R.told source.new).health) }
+    ensures ended { IfErr result (λ e. e ≡ ErrorKind.UnexpectedEof → FewerBits (8 * amt) window.old (R.known source.old).remaining) }
+    ensures failed { IfErr result (λ e. e ≢ ErrorKind.UnexpectedEof → DeviceFailed (R.known source.old).health (R.known source.new).health) }
     ensures inside { 8 * amt ≤ length window.old → source.new ≡ source.old }
-    ensures kept { NoFewerFailures (R.told source.old).health (R.told source.new).health }
+    ensures kept { DeviceKept (R.known source.old).health (R.known source.new).health }
 {
     if amt == 0 {
         return Ok(());

@@ -5,7 +5,7 @@ ghost use Rattle.std.specs.Io.KnownBytes.{Consumes};
 ghost use Rattle.std.specs.IoError.{error_kind};
 ghost use Rattle.deku_stream.specs.declared.ctx.Order.{Order as BitOrder};
 ghost use Rattle.deku_stream.specs.Bits.{facing};
-ghost use Rattle.deku_device.specs.Devices.{NoFewerFailures, MoreFailures, FewerThan};
+ghost use Rattle.deku_device.specs.Devices.{DeviceKept, DeviceFailed, FewerThan};
 ghost use Rattle.deku_stream.specs.Moving.{Moves, FewerBits};
 ghost use Rattle.deku_stream.specs.Streams.{flow};
 
@@ -17,12 +17,12 @@ use std::io::ErrorKind;
 /// Fills the buffer with the next bytes. For none the source is not called.
 #[inline(always)]
 pub fn fetch_bytes<R: Source>(source: &mut R, dst: &mut [u8]) -> io::Result<()>
-    ensures bytes { OnOk result (Consumes (R.told source.old).coming (R.told source.new).coming dst.new) }
+    ensures bytes { OnOk result (Consumes (R.known source.old).remaining (R.known source.new).remaining dst.new) }
     ensures none { length dst.old ≡ 0 → source.new ≡ source.old }
     ensures wanted { IfErr result (λ e. 0 < length dst.old) }
-    ensures short { IfErr result (λ e. error_kind e ≡ ErrorKind.UnexpectedEof → FewerThan (length dst.old) (R.told source.old).coming) }
-    ensures failed { IfErr result (λ e. error_kind e ≢ ErrorKind.UnexpectedEof → MoreFailures (R.told source.old).health (R.told source.new).health) }
-    ensures kept { NoFewerFailures (R.told source.old).health (R.told source.new).health }
+    ensures short { IfErr result (λ e. error_kind e ≡ ErrorKind.UnexpectedEof → FewerThan (length dst.old) (R.known source.old).remaining) }
+    ensures failed { IfErr result (λ e. error_kind e ≢ ErrorKind.UnexpectedEof → DeviceFailed (R.known source.old).health (R.known source.new).health) }
+    ensures kept { DeviceKept (R.known source.old).health (R.known source.new).health }
 {
     if dst.is_empty() {
         return Ok(());
@@ -40,11 +40,11 @@ pub fn fetch_behind<R: Source>(
     requires bound { length window.old ≤ 8 }
     requires some { 0 < length dst.old }
     ensures short { OnOk result (length window.new ≡ length window.old % 8) }
-    ensures moved { OnOk result ((order : BitOrder) → Moves order window.old (R.told source.old).coming (facing order window.new ++ flow order dst.new) [] (R.told source.new).coming) }
-    ensures ended { IfErr result (λ e. error_kind e ≡ ErrorKind.UnexpectedEof → (n : ℕ) → length window.old % 8 + 8 * length dst.old < n + 8 → FewerBits n window.old (R.told source.old).coming) }
-    ensures failed { IfErr result (λ e. error_kind e ≢ ErrorKind.UnexpectedEof → MoreFailures (R.told source.old).health (R.told source.new).health) }
+    ensures moved { OnOk result ((order : BitOrder) → Moves order window.old (R.known source.old).remaining (facing order window.new ++ flow order dst.new) [] (R.known source.new).remaining) }
+    ensures ended { IfErr result (λ e. error_kind e ≡ ErrorKind.UnexpectedEof → (n : ℕ) → length window.old % 8 + 8 * length dst.old < n + 8 → FewerBits n window.old (R.known source.old).remaining) }
+    ensures failed { IfErr result (λ e. error_kind e ≢ ErrorKind.UnexpectedEof → DeviceFailed (R.known source.old).health (R.known source.new).health) }
     ensures inside { 8 * length dst.old ≤ length window.old → source.new ≡ source.old }
-    ensures kept { NoFewerFailures (R.told source.old).health (R.told source.new).health }
+    ensures kept { DeviceKept (R.known source.old).health (R.known source.new).health }
 {
     if window.len() < 8 {
         return fetch_bytes(source, dst);

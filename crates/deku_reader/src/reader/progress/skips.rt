@@ -5,7 +5,7 @@
 ghost use Rattle.std.specs.Prelude.{◌≡◌, ◌≢◌, ◌<◌, ◌≤◌, ◌^◌, ◌++◌, Bool, List, length, OnOk, IfErr};
 ghost use Rattle.std.specs.IoError.{error_kind};
 ghost use Rattle.deku_stream.specs.Bits.{facing};
-ghost use Rattle.deku_device.specs.Devices.{NoFewerFailures, MoreFailures, Passes};
+ghost use Rattle.deku_device.specs.Devices.{DeviceKept, DeviceFailed, Passes};
 ghost use Rattle.deku_stream.specs.Moving.{Moves, FewerBits};
 
 use super::bits::bits_into;
@@ -27,9 +27,9 @@ pub fn pop_bits(window: &mut Window, count: usize, order: Order)
 pub fn pass_bytes<R: Source>(source: &mut R, count: usize) -> io::Result<()>
     requires { count < 2 ^ 63 }
     ensures none { count ≡ 0 → source.new ≡ source.old }
-    ensures bytes { OnOk result (Passes count (R.told source.old).coming (R.told source.new).coming) }
-    ensures failed { IfErr result (λ e. MoreFailures (R.told source.old).health (R.told source.new).health) }
-    ensures kept { NoFewerFailures (R.told source.old).health (R.told source.new).health }
+    ensures bytes { OnOk result (Passes count (R.known source.old).remaining (R.known source.new).remaining) }
+    ensures failed { IfErr result (λ e. DeviceFailed (R.known source.old).health (R.known source.new).health) }
+    ensures kept { DeviceKept (R.known source.old).health (R.known source.new).health }
 {
     if count == 0 {
         return Ok(());
@@ -48,13 +48,13 @@ pub fn drop_bits<R: Source>(
     requires few { count < 8 }
     ensures bound { OnOk result (length window.new ≤ 8) }
     ensures short { OnOk result (0 < count → length window.new < 8) }
-    ensures none { OnOk result (count ≡ 0 → (window.new ≡ window.old) × ((R.told source.new).coming ≡ (R.told source.old).coming)) }
-    ensures moved { OnOk result ((bits : List Bool) × (length bits ≡ count) × Moves order window.old (R.told source.old).coming bits window.new (R.told source.new).coming) }
+    ensures none { OnOk result (count ≡ 0 → (window.new ≡ window.old) × ((R.known source.new).remaining ≡ (R.known source.old).remaining)) }
+    ensures moved { OnOk result ((bits : List Bool) × (length bits ≡ count) × Moves order window.old (R.known source.old).remaining bits window.new (R.known source.new).remaining) }
     ensures wanted { IfErr result (λ e. 0 < count) }
-    ensures ended { IfErr result (λ e. error_kind e ≡ ErrorKind.UnexpectedEof → FewerBits count window.old (R.told source.old).coming) }
-    ensures failed { IfErr result (λ e. error_kind e ≢ ErrorKind.UnexpectedEof → MoreFailures (R.told source.old).health (R.told source.new).health) }
+    ensures ended { IfErr result (λ e. error_kind e ≡ ErrorKind.UnexpectedEof → FewerBits count window.old (R.known source.old).remaining) }
+    ensures failed { IfErr result (λ e. error_kind e ≢ ErrorKind.UnexpectedEof → DeviceFailed (R.known source.old).health (R.known source.new).health) }
     ensures inside { count ≤ length window.old → source.new ≡ source.old }
-    ensures kept { NoFewerFailures (R.told source.old).health (R.told source.new).health }
+    ensures kept { DeviceKept (R.known source.old).health (R.known source.new).health }
 {
     let mut bits = [false; 8];
     bits_into(source, window, &mut bits[..count], order)

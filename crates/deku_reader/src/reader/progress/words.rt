@@ -3,7 +3,7 @@
 ghost use Rattle.std.specs.Prelude.{◌≡◌, ◌≢◌, ◌+◌, ◌-◌, ◌*◌, ◌^◌, ◌<◌, ◌≤◌, ◌∷◌, [], length, take, OnOk, IfOk, IfErr, IfSome, IsNone};
 ghost use Rattle.deku_stream.specs.declared.ctx.Order.TheVariants.{Msb0, Lsb0};
 ghost use Rattle.deku_stream.specs.Bits.{bits_of, groups};
-ghost use Rattle.deku_device.specs.Devices.{NoFewerFailures, MoreFailures};
+ghost use Rattle.deku_device.specs.Devices.{DeviceKept, DeviceFailed};
 ghost use Rattle.deku_stream.specs.Moving.{FewerBits, Moves, MovesWord, TakesGroups};
 
 use super::bytes::exchange_all;
@@ -25,13 +25,13 @@ pub fn word_from<R: Source>(
     requires bound { length window.old ≤ 8 }
     requires few { count ≤ 128 }
     ensures short { OnOk result (0 < count → length window.new < 8) }
-    ensures none { OnOk result (count ≡ 0 → (window.new ≡ window.old) × ((R.told source.new).coming ≡ (R.told source.old).coming)) }
-    ensures moved { IfOk result (λ word. MovesWord order window.old (R.told source.old).coming count word window.new (R.told source.new).coming) }
+    ensures none { OnOk result (count ≡ 0 → (window.new ≡ window.old) × ((R.known source.new).remaining ≡ (R.known source.old).remaining)) }
+    ensures moved { IfOk result (λ word. MovesWord order window.old (R.known source.old).remaining count word window.new (R.known source.new).remaining) }
     ensures wanted { IfErr result (λ e. 0 < count) }
-    ensures ended { IfErr result (λ e. e ≡ ErrorKind.UnexpectedEof → FewerBits count window.old (R.told source.old).coming) }
-    ensures failed { IfErr result (λ e. e ≢ ErrorKind.UnexpectedEof → MoreFailures (R.told source.old).health (R.told source.new).health) }
+    ensures ended { IfErr result (λ e. e ≡ ErrorKind.UnexpectedEof → FewerBits count window.old (R.known source.old).remaining) }
+    ensures failed { IfErr result (λ e. e ≢ ErrorKind.UnexpectedEof → DeviceFailed (R.known source.old).health (R.known source.new).health) }
     ensures inside { count ≤ length window.old → source.new ≡ source.old }
-    ensures kept { NoFewerFailures (R.told source.old).health (R.told source.new).health }
+    ensures kept { DeviceKept (R.known source.old).health (R.known source.new).health }
 {
     if count <= 64 {
         return narrow_from(source, window, count, order);
@@ -50,23 +50,23 @@ fn narrow_from<R: Source>(
     requires bound { length window.old ≤ 8 }
     requires few { count ≤ 64 }
     ensures short { OnOk result (0 < count → length window.new < 8) }
-    ensures none { OnOk result (count ≡ 0 → (window.new ≡ window.old) × ((R.told source.new).coming ≡ (R.told source.old).coming)) }
-    ensures moved { IfOk result (λ word. MovesWord order window.old (R.told source.old).coming count word window.new (R.told source.new).coming) }
+    ensures none { OnOk result (count ≡ 0 → (window.new ≡ window.old) × ((R.known source.new).remaining ≡ (R.known source.old).remaining)) }
+    ensures moved { IfOk result (λ word. MovesWord order window.old (R.known source.old).remaining count word window.new (R.known source.new).remaining) }
     ensures wanted { IfErr result (λ e. 0 < count) }
-    ensures ended { IfErr result (λ e. e ≡ ErrorKind.UnexpectedEof → FewerBits count window.old (R.told source.old).coming) }
-    ensures failed { IfErr result (λ e. e ≢ ErrorKind.UnexpectedEof → MoreFailures (R.told source.old).health (R.told source.new).health) }
+    ensures ended { IfErr result (λ e. e ≡ ErrorKind.UnexpectedEof → FewerBits count window.old (R.known source.old).remaining) }
+    ensures failed { IfErr result (λ e. e ≢ ErrorKind.UnexpectedEof → DeviceFailed (R.known source.old).health (R.known source.new).health) }
     ensures inside { count ≤ length window.old → source.new ≡ source.old }
-    ensures kept { NoFewerFailures (R.told source.old).health (R.told source.new).health }
+    ensures kept { DeviceKept (R.known source.old).health (R.known source.new).health }
 {
     if 0 < count && count % 8 == 0 && window.len() == 0 {
-        if let Some(eight) = source.at_hand(count / 8) {
+        if let Some(eight) = source.try_take(count / 8) {
             return Ok(word_of_front(&eight, count) as u128);
         }
     } else if count <= window.len() {
         return Ok(window.take(count, order) as u128);
     } else if window.len() < 8 {
         let behind = count - window.len();
-        if let Some(eight) = source.at_hand(behind.div_ceil(8)) {
+        if let Some(eight) = source.try_take(behind.div_ceil(8)) {
             return Ok(window.take_across(&eight, count, order) as u128);
         }
     }
@@ -75,20 +75,20 @@ fn narrow_from<R: Source>(
 
 /// Takes at most 64 bits from the highest down, where they are unread or at hand, and answers their number. It answers none else, and then nothing moves.
 #[inline(always)]
-pub fn high_at_hand<R: Source>(source: &mut R, window: &mut Window, count: usize) -> Option<u64>
+pub fn try_read_msb<R: Source>(source: &mut R, window: &mut Window, count: usize) -> Option<u64>
     requires bound { length window.old ≤ 8 }
     requires few { count ≤ 64 }
     ensures short { IfSome result (λ number. 0 < count → length window.new < 8) }
-    ensures none { IfSome result (λ number. count ≡ 0 → (window.new ≡ window.old) × ((R.told source.new).coming ≡ (R.told source.old).coming)) }
+    ensures none { IfSome result (λ number. count ≡ 0 → (window.new ≡ window.old) × ((R.known source.new).remaining ≡ (R.known source.old).remaining)) }
     ensures still { count ≤ length window.old → source.new ≡ source.old }
-    ensures moved { IfSome result (λ number. Moves Msb0 window.old (R.told source.old).coming (bits_of count number) window.new (R.told source.new).coming) }
+    ensures moved { IfSome result (λ number. Moves Msb0 window.old (R.known source.old).remaining (bits_of count number) window.new (R.known source.new).remaining) }
     ensures below { IfSome result (λ number. number < 2 ^ count) }
     ensures stays { IsNone result → (window.new ≡ window.old) × (source.new ≡ source.old) }
-    ensures kept { NoFewerFailures (R.told source.old).health (R.told source.new).health }
+    ensures kept { DeviceKept (R.known source.old).health (R.known source.new).health }
 {
     // Whole bytes at a boundary first: they move nothing but the source's place.
     if window.len() == 0 && count % 8 == 0 && 0 < count {
-        let whole = source.at_hand(count / 8)?;
+        let whole = source.try_take(count / 8)?;
         return Some(window.take_high_across(&whole, count));
     }
     if count <= window.len() {
@@ -98,7 +98,7 @@ pub fn high_at_hand<R: Source>(source: &mut R, window: &mut Window, count: usize
         return None;
     }
     let behind = count - window.len();
-    let eight = source.at_hand(behind.div_ceil(8))?;
+    let eight = source.try_take(behind.div_ceil(8))?;
     Some(window.take_high_across(&eight, count))
 }
 
@@ -114,15 +114,15 @@ fn wide_from<R: Source>(
     requires wide { 64 < count }
     requires few { count ≤ 128 }
     ensures short { OnOk result (length window.new < 8) }
-    ensures moved { IfOk result (λ word. MovesWord order window.old (R.told source.old).coming count word window.new (R.told source.new).coming) }
-    ensures ended { IfErr result (λ e. e ≡ ErrorKind.UnexpectedEof → FewerBits count window.old (R.told source.old).coming) }
-    ensures failed { IfErr result (λ e. e ≢ ErrorKind.UnexpectedEof → MoreFailures (R.told source.old).health (R.told source.new).health) }
-    ensures kept { NoFewerFailures (R.told source.old).health (R.told source.new).health }
+    ensures moved { IfOk result (λ word. MovesWord order window.old (R.known source.old).remaining count word window.new (R.known source.new).remaining) }
+    ensures ended { IfErr result (λ e. e ≡ ErrorKind.UnexpectedEof → FewerBits count window.old (R.known source.old).remaining) }
+    ensures failed { IfErr result (λ e. e ≢ ErrorKind.UnexpectedEof → DeviceFailed (R.known source.old).health (R.known source.new).health) }
+    ensures kept { DeviceKept (R.known source.old).health (R.known source.new).health }
 {
     if window.len() == 8 {
         return word_by_copy(source, window, count, order);
     }
-    let Some(eight) = source.at_hand(8) else {
+    let Some(eight) = source.try_take(8) else {
         return word_by_copy(source, window, count, order);
     };
     let first = u64::from_le_bytes(window.exchange_eight(&eight, order));
@@ -144,10 +144,10 @@ fn word_by_copy<R: Source>(
     requires more { length window.old < count }
     requires few { count ≤ 128 }
     ensures short { OnOk result (length window.new < 8) }
-    ensures moved { IfOk result (λ word. MovesWord order window.old (R.told source.old).coming count word window.new (R.told source.new).coming) }
-    ensures ended { IfErr result (λ e. e ≡ ErrorKind.UnexpectedEof → FewerBits count window.old (R.told source.old).coming) }
-    ensures failed { IfErr result (λ e. e ≢ ErrorKind.UnexpectedEof → MoreFailures (R.told source.old).health (R.told source.new).health) }
-    ensures kept { NoFewerFailures (R.told source.old).health (R.told source.new).health }
+    ensures moved { IfOk result (λ word. MovesWord order window.old (R.known source.old).remaining count word window.new (R.known source.new).remaining) }
+    ensures ended { IfErr result (λ e. e ≡ ErrorKind.UnexpectedEof → FewerBits count window.old (R.known source.old).remaining) }
+    ensures failed { IfErr result (λ e. e ≢ ErrorKind.UnexpectedEof → DeviceFailed (R.known source.old).health (R.known source.new).health) }
+    ensures kept { DeviceKept (R.known source.old).health (R.known source.new).health }
 {
     let mut copy = window.copy();
     let word = word_fetched(source, &mut copy, count, order);
@@ -168,10 +168,10 @@ fn word_fetched<R: Source>(
     requires more { length window.old < count }
     requires few { count ≤ 128 }
     ensures short { OnOk result (length window.new < 8) }
-    ensures moved { IfOk result (λ word. MovesWord order window.old (R.told source.old).coming count word window.new (R.told source.new).coming) }
-    ensures ended { IfErr result (λ e. e ≡ ErrorKind.UnexpectedEof → FewerBits count window.old (R.told source.old).coming) }
-    ensures failed { IfErr result (λ e. e ≢ ErrorKind.UnexpectedEof → MoreFailures (R.told source.old).health (R.told source.new).health) }
-    ensures kept { NoFewerFailures (R.told source.old).health (R.told source.new).health }
+    ensures moved { IfOk result (λ word. MovesWord order window.old (R.known source.old).remaining count word window.new (R.known source.new).remaining) }
+    ensures ended { IfErr result (λ e. e ≡ ErrorKind.UnexpectedEof → FewerBits count window.old (R.known source.old).remaining) }
+    ensures failed { IfErr result (λ e. e ≢ ErrorKind.UnexpectedEof → DeviceFailed (R.known source.old).health (R.known source.new).health) }
+    ensures kept { DeviceKept (R.known source.old).health (R.known source.new).health }
 {
     let mut room = [0; 16];
     let behind = count - window.len() % 8;

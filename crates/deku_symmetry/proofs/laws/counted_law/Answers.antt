@@ -2,7 +2,7 @@ use Rattle.std.proofs.Common.{◌≡◌}
 use Rattle.deku.specs.Composing.{WritesEach}
 use Rattle.deku.specs.Limits.{ReadsCount, MappedBy}
 use Rattle.deku_pieces.specs.Pieces.{OfEach, OfTimes, SameEach}
-use Rattle.deku_pieces.proofs.Counted.{counted_symmetric, holder_symmetric}
+use Rattle.deku_pieces.proofs.UnderCount.{counted_symmetric, holder_symmetric}
 use Rattle.deku_pieces.proofs.Packing.{laid_once}
 use Rattle.deku_pieces.proofs.Times.{each_written}
 use Rattle.deku_pieces.proofs.Unpacking.{unpacked_back}

@@ -7,8 +7,8 @@ pub returns-in-Ok-clause-reads : goal.returns-in-Ok-clause-reads
 returns-in-Ok-clause-reads g c =
     let made = c.new-reader.ensures in
     let left = c.read_behind-answer.new.reader in
-    let before = (g.R.Source.told c.args.input.0.now).health in
-    let after = (g.R.Source.told left.source.now).health in
+    let before = (g.R.Source.known c.args.input.0.now).health in
+    let after = (g.R.Source.known left.source.now).health in
     let h = rw (made.source, made.state) at c.in-Ok.ensures.reads in
     let same = name_stays before after _ _ h in
     let tie = c.input-1.given.1 (search (rules, same)) in
@@ -18,8 +18,8 @@ pub returns-in-Ok-clause-behind : goal.returns-in-Ok-clause-behind
 returns-in-Ok-clause-behind g c =
     let made = c.new-reader.ensures in
     let left = c.read_behind-answer.new.reader in
-    let before = (g.R.Source.told c.args.input.0.now).health in
-    let after = (g.R.Source.told left.source.now).health in
+    let before = (g.R.Source.known c.args.input.0.now).health in
+    let after = (g.R.Source.known left.source.now).health in
     let h = rw (made.source, made.state) at c.in-Ok.ensures.reads in
     let same = name_stays before after _ _ h in
     let tie = c.input-1.given.1 (search (rules, same)) in
@@ -30,8 +30,8 @@ pub returns-in-Err-clause-reads : goal.returns-in-Err-clause-reads
 returns-in-Err-clause-reads g c =
     let made = c.new-reader.ensures in
     let left = c.read_behind-answer.new.reader in
-    let before = (g.R.Source.told c.args.input.0.now).health in
-    let after = (g.R.Source.told left.source.now).health in
+    let before = (g.R.Source.known c.args.input.0.now).health in
+    let after = (g.R.Source.known left.source.now).health in
     let h = rw (made.source, made.state) at c.in-Err.ensures.reads in
     let same = name_stays before after _ _ h in
     let tie = c.input-1.given.1 (search (rules, same)) in

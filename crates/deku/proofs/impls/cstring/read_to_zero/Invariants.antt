@@ -1,16 +1,16 @@
 use Rattle.std.proofs.Common.{◌-◌, ◌^◌}
 use Rattle.deku_bits.specs.Standings.{count_of, reader_state}
 use Rattle.deku.specs.Texts.{NoZeros, ReadsByte}
-use Rattle.deku_reading.specs.Early.{Promptly}
+use Rattle.deku_reading.specs.Early.{NoReadAhead}
 use Rattle.deku_reading.proofs.Runs.{SoFar}
 use Rattle.deku.proofs.impls.cstring.read_to_zero.Given as goal
 
 abbrev pub invariant-loop-byte : goal.invariant-loop-byte
 invariant-loop-byte g l = record {
   far : NoZeros l.bytes.items × SoFar ReadsByte l.bytes.items
-      (reader_state (g.R.Source.told l.initial.reader.source).coming l.initial.reader.state) (g.R.Source.told l.initial.reader.source).health
-      (reader_state (g.R.Source.told l.reader.source).coming l.reader.state) (g.R.Source.told l.reader.source).health;
-  early : Promptly g.R.Source.told l.initial.reader l.reader;
+      (reader_state (g.R.Source.known l.initial.reader.source).remaining l.initial.reader.state) (g.R.Source.known l.initial.reader.source).health
+      (reader_state (g.R.Source.known l.reader.source).remaining l.reader.state) (g.R.Source.known l.reader.source).health;
+  early : NoReadAhead g.R.Source.known l.initial.reader l.reader;
 }
 
 abbrev pub decreases-loop-byte : goal.decreases-loop-byte

@@ -10,16 +10,16 @@ use Rattle.deku_reader.proofs.reader.Reader.read_bits.Goals as goal
 
 pub returns-in_err-admits-clause-reads : goal.returns-in_err-admits-clause-reads
 returns-in_err-admits-clause-reads g c =
-    let told = g.R.Source.told c.args.self.now.source in
+    let known = g.R.Source.known c.args.self.now.source in
     let p = err_from_is_err_and c.from_residual.result c.from_residual.ensures.1 in
-    let away = reader_admits told.coming c.args.self.now.state c.args.amt _ c.in_err-admits.ensures in
-    rw (p.1, p.2) (mapped_err (shown c.args.order) (turned_away (Reserving (Transfers c.args.order c.args.amt)) c.args.amt _ _ told.health away))
+    let away = reader_admits known.remaining c.args.self.now.state c.args.amt _ c.in_err-admits.ensures in
+    rw (p.1, p.2) (mapped_err (shown c.args.order) (turned_away (Reserving (Transfers c.args.order c.args.amt)) c.args.amt _ _ known.health away))
 
 pub returns-in_default-clause-reads : goal.returns-in_default-clause-reads
 returns-in_default-clause-reads g c =
-    let told = g.R.Source.told c.args.self.now.source in
-    let may = reader_admits told.coming c.args.self.now.state c.args.amt _ c.in_ok-admits.ensures in
-    mapped_err (shown c.args.order) (no_memory (Transfers c.args.order c.args.amt) c.args.amt _ told.health may)
+    let known = g.R.Source.known c.args.self.now.source in
+    let may = reader_admits known.remaining c.args.self.now.state c.args.amt _ c.in_ok-admits.ensures in
+    mapped_err (shown c.args.order) (no_memory (Transfers c.args.order c.args.amt) c.args.amt _ known.health may)
 
 pub returns-in_err-read_bits_into-clause-reads : goal.returns-in_err-read_bits_into-clause-reads
 returns-in_err-read_bits_into-clause-reads g c =

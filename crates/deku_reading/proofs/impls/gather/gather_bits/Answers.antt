@@ -12,25 +12,25 @@ returns-in_err-item-clause-reads g c = passed_on _ c.from_residual.ensures.1 (so
 
 pub returns-in_err-keep-clause-reads : goal.returns-in_err-keep-clause-reads
 returns-in_err-keep-clause-reads g c =
-    let start = counted (g.R.Source.told c.args.reader.now.source).coming c.args.reader.now.state _ c.bits_read-start.ensures in
-    let before = counted (g.R.Source.told c.loop-into.reader.source).coming c.loop-into.reader.state _ c.bits_read-before.ensures in
-    let after = counted (g.R.Source.told c.from_reader_with_ctx.new.reader.source).coming c.from_reader_with_ctx.new.reader.state _ c.bits_read-after.ensures in
+    let start = counted (g.R.Source.known c.args.reader.now.source).remaining c.args.reader.now.state _ c.bits_read-start.ensures in
+    let before = counted (g.R.Source.known c.loop-into.reader.source).remaining c.loop-into.reader.state _ c.bits_read-before.ensures in
+    let after = counted (g.R.Source.known c.from_reader_with_ctx.new.reader.source).remaining c.from_reader_with_ctx.new.reader.state _ c.bits_read-after.ensures in
     passed_on _ c.from_residual-in_err-keep.ensures.1 (some_bits c.args.bits (omega arith)
     (not_kept _ _ c.loop-into.invariant.far c.is_past_by-ends.result c.bits_read-before.result c.bits_read-after.result before after c.in_ok-item.ensures.reads
     (judged_by_counts _ _ _ c.args.bits _ _ start after c.is_past_by-ends.ensures) tt c.in_err-keep.ensures.err))
 
 pub returns-then-ends-clause-reads : goal.returns-then-ends-clause-reads
 returns-then-ends-clause-reads g c =
-    let start = counted (g.R.Source.told c.args.reader.now.source).coming c.args.reader.now.state _ c.bits_read-start.ensures in
-    let after = counted (g.R.Source.told c.from_reader_with_ctx.new.reader.source).coming c.from_reader_with_ctx.new.reader.state _ c.bits_read-after.ensures in
+    let start = counted (g.R.Source.known c.args.reader.now.source).remaining c.args.reader.now.state _ c.bits_read-start.ensures in
+    let after = counted (g.R.Source.known c.from_reader_with_ctx.new.reader.source).remaining c.from_reader_with_ctx.new.reader.state _ c.bits_read-after.ensures in
     some_bits c.args.bits (omega arith) (ends_with _ _ c.loop-into.invariant.far c.in_ok-item.ensures.reads
     (rw c.if-ends.true at (judged_by_counts _ _ _ c.args.bits _ _ start after c.is_past_by-ends.ensures)) tt c.in_ok-keep.ensures.placed)
 
 pub loop-into-preserved : goal.loop-into-preserved
 loop-into-preserved g c =
-    let start = counted (g.R.Source.told c.args.reader.now.source).coming c.args.reader.now.state _ c.bits_read-start.ensures in
-    let before = counted (g.R.Source.told c.loop-into.reader.source).coming c.loop-into.reader.state _ c.bits_read-before.ensures in
-    let after = counted (g.R.Source.told c.from_reader_with_ctx.new.reader.source).coming c.from_reader_with_ctx.new.reader.state _ c.bits_read-after.ensures in
+    let start = counted (g.R.Source.known c.args.reader.now.source).remaining c.args.reader.now.state _ c.bits_read-start.ensures in
+    let before = counted (g.R.Source.known c.loop-into.reader.source).remaining c.loop-into.reader.state _ c.bits_read-before.ensures in
+    let after = counted (g.R.Source.known c.from_reader_with_ctx.new.reader.source).remaining c.from_reader_with_ctx.new.reader.state _ c.bits_read-after.ensures in
     record {
       far = goes_on c.loop-into.invariant.far c.in_ok-item.ensures.reads (rw c.if-ends.false at (judged_by_counts _ _ _ c.args.bits _ _ start after c.is_past_by-ends.ensures))
           (wide_of_kept _ _ _ _ _ before after c.if-ends.false c.in_ok-keep.ensures.kept) c.in_ok-keep.ensures.placed;

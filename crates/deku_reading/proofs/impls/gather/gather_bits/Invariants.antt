@@ -1,17 +1,17 @@
 use Rattle.std.proofs.Common.{◌≡◌, ◌↔◌, ◌+◌, ◌-◌, ◌^◌, true}
 use Rattle.deku_bits.specs.Standings.{count_of, reader_state}
-use Rattle.deku_reading.specs.Early.{Promptly}
+use Rattle.deku_reading.specs.Early.{NoReadAhead}
 use Rattle.deku_reading.proofs.Judging.{Gathering}
 use Rattle.deku_reading.proofs.impls.gather.gather_bits.Given as goal
 
 abbrev pub invariant-loop-into : goal.invariant-loop-into
 invariant-loop-into g l = record {
   far : Gathering {J = Unit {0}} g.B.Gather.puts
-      (λ _ x v _. (v ≡ true) ↔ (count_of x.after ≡ count_of (reader_state (g.R.Source.told l.initial.reader.source).coming l.initial.reader.state) + l.bits))
+      (λ _ x v _. (v ≡ true) ↔ (count_of x.after ≡ count_of (reader_state (g.R.Source.known l.initial.reader.source).remaining l.initial.reader.state) + l.bits))
       (g.T.DekuReader.meaning l.ctx) tt tt l.initial.into l.into
-      (reader_state (g.R.Source.told l.initial.reader.source).coming l.initial.reader.state) (g.R.Source.told l.initial.reader.source).health
-      (reader_state (g.R.Source.told l.reader.source).coming l.reader.state) (g.R.Source.told l.reader.source).health;
-  early : g.T.DekuReader.prompt l.ctx → Promptly g.R.Source.told l.initial.reader l.reader;
+      (reader_state (g.R.Source.known l.initial.reader.source).remaining l.initial.reader.state) (g.R.Source.known l.initial.reader.source).health
+      (reader_state (g.R.Source.known l.reader.source).remaining l.reader.state) (g.R.Source.known l.reader.source).health;
+  early : g.T.DekuReader.no_read_ahead l.ctx → NoReadAhead g.R.Source.known l.initial.reader l.reader;
 }
 
 abbrev pub decreases-loop-into : goal.decreases-loop-into

@@ -14,16 +14,16 @@ returns-in_err-item g c =
 pub loop-into-preserved : goal.loop-into-preserved
 loop-into-preserved g c =
     let look = meant c.in_ok-end.ensures.reads in
-    let before = counted (g.R.Source.told c.end.new.self.source).coming c.end.new.self.state _ c.bits_read-before.ensures ∙ look_counts_nothing _ _ _ look.0 in
-    let after = counted (g.R.Source.told c.from_reader_with_ctx.new.reader.source).coming c.from_reader_with_ctx.new.reader.state _ c.bits_read.ensures in
+    let before = counted (g.R.Source.known c.end.new.self.source).remaining c.end.new.self.state _ c.bits_read-before.ensures ∙ look_counts_nothing _ _ _ look.0 in
+    let after = counted (g.R.Source.known c.from_reader_with_ctx.new.reader.source).remaining c.from_reader_with_ctx.new.reader.state _ c.bits_read.ensures in
     goes_on c.loop-into.invariant (then_on (more_to_come (rw c.if-not-branch.true at c.in_ok-end.ensures.reads)) c.in_ok-item.ensures.reads) refl
     (wide_of_kept _ _ _ _ _ before after refl c.in_ok-keep.ensures.kept) c.in_ok-keep.ensures.placed
 
 pub returns-in_err-keep : goal.returns-in_err-keep
 returns-in_err-keep g c =
     let look = meant c.in_ok-end.ensures.reads in
-    let before = counted (g.R.Source.told c.end.new.self.source).coming c.end.new.self.state _ c.bits_read-before.ensures ∙ look_counts_nothing _ _ _ look.0 in
-    let after = counted (g.R.Source.told c.from_reader_with_ctx.new.reader.source).coming c.from_reader_with_ctx.new.reader.state _ c.bits_read.ensures in
+    let before = counted (g.R.Source.known c.end.new.self.source).remaining c.end.new.self.state _ c.bits_read-before.ensures ∙ look_counts_nothing _ _ _ look.0 in
+    let after = counted (g.R.Source.known c.from_reader_with_ctx.new.reader.source).remaining c.from_reader_with_ctx.new.reader.state _ c.bits_read.ensures in
     passed_on _ c.from_residual-in_err-keep.ensures.1 (not_kept _ _ c.loop-into.invariant _ _ _ before after
     (then_on (more_to_come (rw c.if-not-branch.true at c.in_ok-end.ensures.reads)) c.in_ok-item.ensures.reads) refl tt c.in_err-keep.ensures.err)
 

@@ -5,4 +5,4 @@ use Rattle.deku_writer.specs.Pushing.{Pushed}
 use Rattle.deku_writer.proofs.writer.bytes.push_bytes.Given as goal
 
 abbrev pub invariant-loop-i : goal.invariant-loop-i
-invariant-loop-i g l = Pushed (g.W.Sink.told l.initial.sink) (g.W.Sink.told l.sink) Msb0 l.initial.held l.held (bits_in (take (64 * l.i) l.bytes))
+invariant-loop-i g l = Pushed (g.W.Sink.known l.initial.sink) (g.W.Sink.known l.sink) Msb0 l.initial.held l.held (bits_in (take (64 * l.i) l.bytes))

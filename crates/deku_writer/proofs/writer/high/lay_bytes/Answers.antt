@@ -11,6 +11,6 @@ returns-clause-pushed g c laid =
     let f = fills_high c.args.n c.args.number c.cut_word.result.1 (take k c.cut_word.result.0) c.requires.whole c.cut_word.ensures.bits
     (All-take IsByte k c.cut_word.result.0 c.cut_word.ensures.bytes) in
     record {
-      gave = subst (λ x. Gave (g.W.Sink.told c.args.sink.now) (g.W.Sink.told c.lay.new.self) x) f.bytes (c.lay.ensures.gave laid);
+      gave = subst (λ x. Gave (g.W.Sink.known c.args.sink.now) (g.W.Sink.known c.try_put.new.self) x) f.bytes (c.try_put.ensures.gave laid);
       rest = f.rest;
     }

@@ -13,4 +13,4 @@ returns-then-laid-clause-pushed g c = λ laid.
     let behind : (length c.args.held.now ≡ 0) ⊎ (c.args.from ≡ Msb0) = search rules in
     let filled = rw c.copy-next.ensures at c.fill_high-count.ensures.fills in
     let fills = high_behind c.args.from c.args.held.now c.fill_high-count.new.self c.args.n c.args.number _ behind c.requires.some filled in
-    rw c.follow.ensures (onto_given _ _ c.args.from Msb0 c.args.held.now c.fill_high-count.new.self _ _ fills (c.lay-laid.ensures.gave laid))
+    rw c.follow.ensures (onto_given _ _ c.args.from Msb0 c.args.held.now c.fill_high-count.new.self _ _ fills (c.try_put-laid.ensures.gave laid))

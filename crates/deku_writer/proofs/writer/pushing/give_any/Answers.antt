@@ -6,7 +6,7 @@ use Rattle.deku_writer.proofs.writer.pushing.give_any.Goals as goal
 pub returns-then-is_empty-clause-gave : goal.returns-then-is_empty-clause-gave
 returns-then-is_empty-clause-gave g c =
     let none : c.args.bytes.now ≡ [] = nil_from_length c.args.bytes.now (search rules) in
-    rw none (Gave-nil (g.W.Sink.told c.args.sink.now))
+    rw none (Gave-nil (g.W.Sink.known c.args.sink.now))
 
 pub returns-clause-gave : goal.returns-clause-gave
 returns-clause-gave g c = search rules

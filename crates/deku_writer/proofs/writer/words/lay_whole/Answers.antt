@@ -9,4 +9,4 @@ returns-clause-gave g c laid =
     let n = c.args.n / 8 in
     let e : take (c.args.n / 8) c.to_le_bytes.result ≡ low_bytes (c.args.n / 8) c.args.word =
     ap (take n) (c.to_le_bytes.ensures ∙ low_first c.args.word) ∙ first_low 8 n c.args.word (omega (arith, c.requires.most)) in
-    subst (λ x. Gave (g.W.Sink.told c.args.sink.now) (g.W.Sink.told c.lay.new.self) x) e (c.lay.ensures.gave laid)
+    subst (λ x. Gave (g.W.Sink.known c.args.sink.now) (g.W.Sink.known c.try_put.new.self) x) e (c.try_put.ensures.gave laid)

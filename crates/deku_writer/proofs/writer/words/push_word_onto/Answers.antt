@@ -25,12 +25,12 @@ returns-then-n-gt64-clause-fault g c =
     let fills = word_behind c.args.from c.args.to h h c.args.n c.args.word _ (inl none) c.requires.some (fills_whole c.args.to h c.args.n c.args.word none (search rules)) in
     IfErr-weaker c.give_whole.result _ _ (λ k f. onto_declined _ _ c.args.from c.args.to h h _ _ k fills f) c.give_whole.ensures.fault
 
-pub returns-then-lay-clause-pushed : goal.returns-then-lay-clause-pushed
-returns-then-lay-clause-pushed g c =
+pub returns-then-try_put-clause-pushed : goal.returns-then-try_put-clause-pushed
+returns-then-try_put-clause-pushed g c =
     let behind : (length c.args.held.now ≡ 0) ⊎ (c.args.from ≡ c.args.to) = search rules in
     let filled = rw c.copy-next.ensures at c.fill-count.ensures.fills in
     let fills = word_behind c.args.from c.args.to c.args.held.now c.fill-count.new.self c.args.n c.args.word _ behind c.requires.some filled in
-    rw c.follow.ensures (onto_given _ _ c.args.from c.args.to c.args.held.now c.fill-count.new.self _ _ fills (search (rules, c.lay.ensures.gave)))
+    rw c.follow.ensures (onto_given _ _ c.args.from c.args.to c.args.held.now c.fill-count.new.self _ _ fills (search (rules, c.try_put.ensures.gave)))
 
 pub follow-requires : goal.follow-requires
 follow-requires g c = search rules

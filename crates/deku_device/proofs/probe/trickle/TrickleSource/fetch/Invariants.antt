@@ -1,11 +1,11 @@
 use Rattle.std.proofs.Common.{take}
 use Rattle.std.specs.Io.KnownBytes.{Consumes}
 use Rattle.deku_device.specs.Cursors.{trickling}
-use Rattle.deku_device.specs.Devices.{NoFewerFailures}
+use Rattle.deku_device.specs.Devices.{DeviceKept}
 use Rattle.deku_device.proofs.probe.trickle.TrickleSource.fetch.Given as goal
 
 abbrev pub invariant-loop-place : goal.invariant-loop-place
 invariant-loop-place l = record {
-  bytes : Consumes (trickling l.initial.self).coming (trickling l.self).coming (take l.place-index l.buf);
-  kept : NoFewerFailures (trickling l.initial.self).health (trickling l.self).health;
+  bytes : Consumes (trickling l.initial.self).remaining (trickling l.self).remaining (take l.place-index l.buf);
+  kept : DeviceKept (trickling l.initial.self).health (trickling l.self).health;
 }

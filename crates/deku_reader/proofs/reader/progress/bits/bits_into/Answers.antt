@@ -9,7 +9,7 @@ use Rattle.deku_reader.proofs.reader.progress.bits.bits_into.Goals as goal
 
 pub returns-in_err-run_into-clause-ended : goal.returns-in_err-run_into-clause-ended
 returns-in_err-run_into-clause-ended g c =
-    let told = g.R.Source.told in
+    let known = g.R.Source.known in
     let p = err_from_is_err_and c.from_residual.result c.from_residual.ensures.1 in
     let dst = c.loop-run.dst in
     let from = 128 * c.loop-run.run in
@@ -17,12 +17,12 @@ returns-in_err-run_into-clause-ended g c =
     let taken = take from dst in
     let part = part-length dst from to (omega arith) in
     rw (p.1, p.2)
-    (λ eof. fewer_behind c.args.order c.args.window.now (told c.args.source.now).coming taken c.loop-run.window (told c.loop-run.source).coming _ (length c.args.dst.now)
+    (λ eof. fewer_behind c.args.order c.args.window.now (known c.args.source.now).remaining taken c.loop-run.window (known c.loop-run.source).remaining _ (length c.args.dst.now)
     c.loop-run.invariant.moved (c.in_err-run_into.ensures.ended eof) (omega (arith, part, length-take from dst)))
 
 pub loop-run-preserved : goal.loop-run-preserved
 loop-run-preserved g c =
-    let told = g.R.Source.told in
+    let known = g.R.Source.known in
     let dst = c.loop-run.dst in
     let from = 128 * c.loop-run.run in
     let to = c.min-to.result in
@@ -33,9 +33,9 @@ loop-run-preserved g c =
       bound = omega (arith, c.in_ok-run_into.ensures.short);
       short = λ p. c.in_ok-run_into.ensures.short;
       none = λ e. absurd (omega arith);
-      moved = subst (λ s. Moves c.args.order c.args.window.now (told c.args.source.now).coming s c.run_into.new.window (told c.run_into.new.source).coming) (sym done)
-          (moves_more c.args.order c.args.window.now (told c.args.source.now).coming (take from dst) c.loop-run.window (told c.loop-run.source).coming
-          new c.run_into.new.window (told c.run_into.new.source).coming c.loop-run.invariant.moved c.in_ok-run_into.ensures.moved);
+      moved = subst (λ s. Moves c.args.order c.args.window.now (known c.args.source.now).remaining s c.run_into.new.window (known c.run_into.new.source).remaining) (sym done)
+          (moves_more c.args.order c.args.window.now (known c.args.source.now).remaining (take from dst) c.loop-run.window (known c.loop-run.source).remaining
+          new c.run_into.new.window (known c.run_into.new.source).remaining c.loop-run.invariant.moved c.in_ok-run_into.ensures.moved);
       still = λ le.
           let window = (c.loop-run.invariant.none (omega arith)).0 in
           c.run_into.ensures.inside (omega (arith, le, part-length dst from to (omega arith), ap length window)) ∙ c.loop-run.invariant.still le;
@@ -44,10 +44,10 @@ loop-run-preserved g c =
 
 pub returns-in_err-run_into-clause-failed : goal.returns-in_err-run_into-clause-failed
 returns-in_err-run_into-clause-failed g c =
-    let told = g.R.Source.told in
+    let known = g.R.Source.known in
     let p = err_from_is_err_and c.from_residual.result c.from_residual.ensures.1 in
     rw (p.1, p.2)
-    (λ other. more_on (told c.args.source.now).health (told c.loop-run.source).health (told c.run_into.new.source).health c.loop-run.invariant.kept (c.in_err-run_into.ensures.failed other))
+    (λ other. more_on (known c.args.source.now).health (known c.loop-run.source).health (known c.run_into.new.source).health c.loop-run.invariant.kept (c.in_err-run_into.ensures.failed other))
 
 pub returns-in_err-run_into-clause-kept : goal.returns-in_err-run_into-clause-kept
 returns-in_err-run_into-clause-kept g c = no_fewer_on _ _ _ c.loop-run.invariant.kept c.run_into.ensures.kept

@@ -21,12 +21,12 @@ returns-clause-short g c =
 
 pub returns-clause-moved : goal.returns-clause-moved
 returns-clause-moved g c =
-    let told = g.R.Source.told in
+    let known = g.R.Source.known in
     let a = c.min-inside.result in
     let front : length (take a c.args.dst.now) ≡ a = simp length-take (omega arith) in
     let lf : length c.hand_out.new.dst ≡ a = omega (arith, front) in
     rw (two_parts c.args.dst.now c.hand_out.new.dst c.hand_out_bytes.new.dst a (omega arith) lf)
-    (handed c.args.order c.args.window.now c.hand_out.new.window c.hand_out_bytes.new.window (told c.args.source.now).coming (told c.fetch_bytes.new.source).coming c.fetch_bytes.new.dst
+    (handed c.args.order c.args.window.now c.hand_out.new.window c.hand_out_bytes.new.window (known c.args.source.now).remaining (known c.fetch_bytes.new.source).remaining c.fetch_bytes.new.dst
     c.hand_out.new.dst c.hand_out_bytes.new.dst c.in_ok-fetch_bytes.ensures.bytes c.hand_out.ensures c.hand_out_bytes.ensures)
 
 pub returns-in_err-fetch_bytes-clause-inside : goal.returns-in_err-fetch_bytes-clause-inside

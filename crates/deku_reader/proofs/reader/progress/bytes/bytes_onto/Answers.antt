@@ -8,11 +8,11 @@ use Rattle.deku_reader.proofs.reader.progress.bytes.bytes_onto.Goals as goal
 
 pub returns-in-Ok-fetch_onto-clause-moved : goal.returns-in-Ok-fetch_onto-clause-moved
 returns-in-Ok-fetch_onto-clause-moved g c =
-    let told = g.R.Source.told in
+    let known = g.R.Source.known in
     let o = c.args.order in
     let w = c.args.window.now in
-    let t = (told c.args.source.now).coming in
-    let u = (told c.fetch_onto.new.self).coming in
+    let t = (known c.args.source.now).remaining in
+    let u = (known c.fetch_onto.new.self).remaining in
     let bytes = c.fetch_onto.new.bytes in
     let dst = c.exchange_all.new.dst in
     let same : length dst ≡ length c.as_mut_slice-in-Ok-fetch_onto.result.now = omega arith in

@@ -11,19 +11,19 @@ returns-in-Err-clause-ended g c =
 
 pub returns-in-Ok-clause-short : goal.returns-in-Ok-clause-short
 returns-in-Ok-clause-short g c =
-    let told = g.R.Source.told in
+    let known = g.R.Source.known in
     let k = c.div_ceil.result in
     let width : length (take k (replicate {A = ℕ} 16 0)) ≡ k = simp (length-take, length-replicate) (omega arith) in
-    (word_gathered c.args.order c.args.window.now c.fetch_behind.new.window c.gather.new.window (told c.args.source.now).coming (told c.fetch_behind.new.source).coming c.args.count k c.div_ceil-all.result
+    (word_gathered c.args.order c.args.window.now c.fetch_behind.new.window c.gather.new.window (known c.args.source.now).remaining (known c.fetch_behind.new.source).remaining c.args.count k c.div_ceil-all.result
     c.fetch_behind.new.dst c.gather.new.dst (omega arith) (omega arith) c.in-Ok.ensures.short (omega arith) (omega arith) (omega arith) (omega (arith, width))
     (c.in-Ok.ensures.moved c.args.order) c.gather.ensures).1
 
 pub returns-in-Ok-clause-moved : goal.returns-in-Ok-clause-moved
 returns-in-Ok-clause-moved g c =
-    let told = g.R.Source.told in
+    let known = g.R.Source.known in
     let k = c.div_ceil.result in
     let width : length (take k (replicate {A = ℕ} 16 0)) ≡ k = simp (length-take, length-replicate) (omega arith) in
     rw c.from_le_bytes.ensures
-    ((word_gathered c.args.order c.args.window.now c.fetch_behind.new.window c.gather.new.window (told c.args.source.now).coming (told c.fetch_behind.new.source).coming c.args.count k c.div_ceil-all.result
+    ((word_gathered c.args.order c.args.window.now c.fetch_behind.new.window c.gather.new.window (known c.args.source.now).remaining (known c.fetch_behind.new.source).remaining c.args.count k c.div_ceil-all.result
     c.fetch_behind.new.dst c.gather.new.dst (omega arith) (omega arith) c.in-Ok.ensures.short (omega arith) (omega arith) (omega arith) (omega (arith, width))
     (c.in-Ok.ensures.moved c.args.order) c.gather.ensures).0)

@@ -16,8 +16,8 @@ returns-in_err-seek-clause-source_bytes g c = search rules
 pub returns-in_err-seek-clause-sought : goal.returns-in_err-seek-clause-sought
 returns-in_err-seek-clause-sought g c = search rules
 
-pub returns-in_err-seek-clause-coming : goal.returns-in_err-seek-clause-coming
-returns-in_err-seek-clause-coming g c = search rules
+pub returns-in_err-seek-clause-remaining : goal.returns-in_err-seek-clause-remaining
+returns-in_err-seek-clause-remaining g c = search rules
 
 pub returns-in_err-seek-clause-nowhere : goal.returns-in_err-seek-clause-nowhere
 returns-in_err-seek-clause-nowhere g c = search rules
@@ -46,8 +46,8 @@ returns-clause-source_bytes g c = search rules
 pub returns-clause-sought : goal.returns-clause-sought
 returns-clause-sought g c = search rules
 
-pub returns-clause-coming : goal.returns-clause-coming
-returns-clause-coming g c = search rules
+pub returns-clause-remaining : goal.returns-clause-remaining
+returns-clause-remaining g c = search rules
 
 pub returns-clause-nowhere : goal.returns-clause-nowhere
 returns-clause-nowhere g c = search rules

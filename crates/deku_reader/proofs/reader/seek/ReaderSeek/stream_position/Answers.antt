@@ -16,8 +16,8 @@ returns-clause-source_bytes g c = search rules
 pub returns-clause-sought : goal.returns-clause-sought
 returns-clause-sought g c = search rules
 
-pub returns-clause-coming : goal.returns-clause-coming
-returns-clause-coming g c = search rules
+pub returns-clause-remaining : goal.returns-clause-remaining
+returns-clause-remaining g c = search rules
 
 pub returns-clause-nowhere : goal.returns-clause-nowhere
 returns-clause-nowhere g c = search rules

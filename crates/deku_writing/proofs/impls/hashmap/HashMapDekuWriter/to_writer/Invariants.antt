@@ -5,5 +5,5 @@ use Rattle.deku_writing.proofs.impls.hashmap.HashMapDekuWriter.to_writer.Given a
 
 abbrev pub invariant-loop-key : goal.invariant-loop-key
 invariant-loop-key g l = Awaits (λ p. Both (g.K.DekuWriter.meaning p.0 l.ctx) (g.V.DekuWriter.meaning p.1 l.ctx)) l.self.entries l.key-iterator
-    (writer_state (g.W.Sink.told l.initial.writer.sink) l.initial.writer.state) (g.W.Sink.told l.initial.writer.sink).health
-    (writer_state (g.W.Sink.told l.writer.sink) l.writer.state) (g.W.Sink.told l.writer.sink).health
+    (writer_state (g.W.Sink.known l.initial.writer.sink) l.initial.writer.state) (g.W.Sink.known l.initial.writer.sink).health
+    (writer_state (g.W.Sink.known l.writer.sink) l.writer.state) (g.W.Sink.known l.writer.sink).health

@@ -4,5 +4,5 @@ use Rattle.deku_writing.proofs.impls.hashset.HashSetDekuWriter.to_writer.Given a
 
 abbrev pub invariant-loop-item : goal.invariant-loop-item
 invariant-loop-item g l = Awaits (λ x. g.T.DekuWriter.meaning x l.ctx) l.self.keys l.item-iterator
-    (writer_state (g.W.Sink.told l.initial.writer.sink) l.initial.writer.state) (g.W.Sink.told l.initial.writer.sink).health
-    (writer_state (g.W.Sink.told l.writer.sink) l.writer.state) (g.W.Sink.told l.writer.sink).health
+    (writer_state (g.W.Sink.known l.initial.writer.sink) l.initial.writer.state) (g.W.Sink.known l.initial.writer.sink).health
+    (writer_state (g.W.Sink.known l.writer.sink) l.writer.state) (g.W.Sink.known l.writer.sink).health

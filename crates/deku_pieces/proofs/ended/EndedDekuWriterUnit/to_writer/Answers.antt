@@ -1,8 +1,0 @@
-use Rattle.std.proofs.Common.{rules}
-use Rattle.deku_pieces.proofs.ended.EndedDekuWriterUnit.to_writer.Goals as goal
-
-pub returns-then-not-are_ended : goal.returns-then-not-are_ended
-returns-then-not-are_ended g c = search rules
-
-pub returns : goal.returns
-returns g c = search rules

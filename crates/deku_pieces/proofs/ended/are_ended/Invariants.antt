@@ -1,7 +1,0 @@
-use Rattle.std.specs.Prelude.{◌↔◌}
-use Rattle.std.proofs.Common.{drop}
-use Rattle.deku_pieces.specs.Ending.{IsEnded}
-use Rattle.deku_pieces.proofs.ended.are_ended.Given as goal
-
-abbrev pub invariant-loop-place : goal.invariant-loop-place
-invariant-loop-place g l = IsEnded g.T.Ends.ends_of l.items ↔ IsEnded g.T.Ends.ends_of (drop l.place l.items)

@@ -1,0 +1,110 @@
+//! Parts that are looked at when they were read, and before they are written.
+
+ghost use Rattle.std.specs.Prelude.{◌≡◌, ℕ, Bool, List};
+
+use deku::device::{Sink, Source};
+use deku::reader::Reader;
+use deku::writer::Writer;
+use deku::{DekuError, DekuReader, DekuWriter};
+use std::marker::PhantomData;
+
+/// A check of a part: what passes it, and the text with which it refuses the rest.
+///
+/// ```text
+/// impl Check<Msb<u8, 4>> for Version {
+///     ghost passes = { λ part. part.0 ≡ᵇ 4 };
+///
+///     ghost text = { codes "version" };
+///
+///     fn passes(part: &Msb<u8, 4>) -> bool {
+///         part.0 == 4
+///     }
+///
+///     fn text() -> &'static str {
+///         "version"
+///     }
+/// }
+/// ```
+pub trait Check<P> {
+    // What passes.
+    ghost passes: { P → Bool };
+
+    // What is said of the rest.
+    ghost text: { List ℕ };
+
+    /// Whether the part passes.
+    fn passes(part: &P) -> bool
+        ensures { result ≡ passes part.now };
+
+    /// What is said of a part that does not pass: as a rule the name of its field.
+    fn text() -> &'static str
+        ensures { result.now ≡ text };
+}
+
+/// A part that passes a check.
+///
+/// Where it is read, a part that does not pass is refused with `Assertion` and the text of the check, and stays read. Where it is written it is refused so before
+/// anything moves. Else it is refused as the part is.
+///
+/// ```text
+/// type Parts = (Assert<Msb<u8, 4>, Version>, Msb<u8, 4>);   // 45 passes; 65 is refused with Assertion("version")
+/// ```
+#[derive(Debug, PartialEq, Eq, Drop)]
+pub struct Assert<P, C> {
+    /// The part.
+    pub part: P,
+    /// Which check it is.
+    pub check: PhantomData<C>,
+}
+
+impl<P, C> Assert<P, C> {
+    /// The part, to be looked at where it is written.
+    ///
+    /// ```text
+    /// Assert::<_, Version>::new(Msb(4))
+    /// ```
+    pub fn new(part: P) -> Assert<P, C>
+        ensures { result ≡ record { part = part; check = record {} } }
+    {
+        Assert {
+            part,
+            check: PhantomData,
+        }
+    }
+}
+
+impl<P: DekuReader<()>, C: Check<P>> DekuReader<()> for Assert<P, C> {
+    ghost use Rattle.deku_pieces.specs.Asserting.{ReadsAsserted};
+
+    ghost accepts = { λ _. P.accepts tt };
+
+    ghost no_read_ahead = { λ _. P.no_read_ahead tt };
+
+    ghost meaning = { λ _. ReadsAsserted C.passes C.text (P.meaning tt) };
+
+    fn from_reader_with_ctx<R: Source>(
+        reader: &mut Reader<R>,
+        _ctx: (),
+    ) -> Result<Self, DekuError> {
+        let part = P::from_reader_with_ctx(reader, ())?;
+        if !C::passes(&part) {
+            return Err(DekuError::Assertion(C::text()));
+        }
+        Ok(Assert::new(part))
+    }
+}
+
+impl<P: DekuWriter<()>, C: Check<P>> DekuWriter<()> for Assert<P, C> {
+    ghost use Rattle.deku_pieces.specs.Asserting.{WritesAsserted};
+
+    ghost accepts = { λ _. P.accepts tt };
+
+    ghost meaning = { λ v _. WritesAsserted C.passes C.text (λ p. P.meaning p tt) v };
+
+    fn to_writer<W: Sink>(&self, writer: &mut Writer<W>, _ctx: ()) -> Result<(), DekuError> {
+        if !C::passes(&self.part) {
+            return Err(DekuError::Assertion(C::text()));
+        }
+        self.part.to_writer(writer, ())
+    }
+}

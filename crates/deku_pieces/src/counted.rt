@@ -1,0 +1,137 @@
+//! Heads that say how many items lie behind them.
+
+ghost use Rattle.std.specs.Prelude.{◌≡◌, ℕ, Option, length, OnOk, MatchBool};
+ghost use Rattle.deku_bits.specs.ReaderCalls.{Reads};
+ghost use Rattle.deku_bits.specs.WriterCalls.{Writes};
+ghost use Rattle.deku.specs.Early.{NoReadAhead};
+ghost use Rattle.deku_pieces.specs.Leading.{ReadsCounted, IsCounted, WritesCountedBy};
+
+use deku::ctx::Limit;
+use deku::device::{Sink, Source};
+use deku::reader::Reader;
+use deku::writer::Writer;
+use deku::{DekuError, DekuReader, DekuWriter};
+
+/// What says how many items lie behind it.
+///
+/// ```text
+/// fn count(&self) -> Option<usize> {                          // of a header whose length is in words, itself among them
+///     (self.words as usize).checked_sub(5)
+/// }
+/// ```
+pub trait ItemCount {
+    // How many items lie behind it, where it names a count.
+    ghost count_of: { Self → Option ℕ };
+
+    /// How many items lie behind it, or none where it names no count.
+    fn count(&self) -> Option<usize>
+        ensures { result ≡ count_of self.now };
+}
+
+/// A head, and behind it as many items as it says.
+///
+/// Where it is read, a head that names no count is refused with `Parse("head without a count")`, and stays read. Where it is written, a head
+/// that names another count than that of the items, or none, is refused with `Assertion("count out of step with items")`, and nothing moves. Else it is
+/// refused as its head is, and then as the first of its items is, or with `Io(OutOfMemory)` where no memory is found for an item.
+///
+/// ```text
+/// type Text = Counted<u8, u8>;                                    // 02 68 69, where a byte counts those behind it
+/// ```
+#[derive(Debug, PartialEq, Eq, Drop)]
+pub struct Counted<H, T> {
+    /// What says how many items there are.
+    pub head: H,
+    /// The items.
+    pub items: Vec<T>,
+}
+
+/// A byte counts what lies behind it.
+impl ItemCount for u8 {
+    ghost use Rattle.std.specs.Prelude.{Some};
+
+    ghost count_of = { λ n. Some n };
+
+    fn count(&self) -> Option<usize> {
+        Some(*self as usize)
+    }
+}
+
+impl<H: ItemCount + DekuReader<()>, T: DekuReader<()>> DekuReader<()> for Counted<H, T> {
+    ghost use Rattle.deku_pieces.specs.Leading.{ReadsCountedBy};
+
+    ghost accepts = { λ _. H.DekuReader.accepts tt × T.accepts tt };
+
+    ghost no_read_ahead = { λ _. H.DekuReader.no_read_ahead tt × T.no_read_ahead tt };
+
+    ghost meaning = { λ _. ReadsCountedBy H.ItemCount.count_of (H.DekuReader.meaning tt) (T.meaning tt) };
+
+    fn from_reader_with_ctx<R: Source>(
+        reader: &mut Reader<R>,
+        _ctx: (),
+    ) -> Result<Self, DekuError> {
+        let head = H::from_reader_with_ctx(reader, ())?;
+        let items = read_counted::<T, R>(reader, head.count())?;
+        Ok(Counted { head, items })
+    }
+}
+
+// Reads as many items as there are to be.
+fn read_counted<T: DekuReader<()>, R: Source>(
+    reader: &mut Reader<R>,
+    count: Option<usize>,
+) -> Result<Vec<T>, DekuError>
+    requires { T.accepts tt }
+    ensures reads { Reads R.known (ReadsCounted count (T.meaning tt)) reader.old result reader.new }
+    ensures early { OnOk result (T.no_read_ahead tt → NoReadAhead R.known reader.old reader.new) }
+{
+    match count {
+        Some(count) => Vec::from_reader_with_ctx(reader, (Limit::new_count(count), ())),
+        None => Err(DekuError::Parse("head without a count")),
+    }
+}
+
+impl<H: ItemCount + DekuWriter<()>, T: DekuWriter<()>> DekuWriter<()> for Counted<H, T> {
+    ghost use Rattle.deku_pieces.specs.Leading.{WritesCountedBy};
+
+    ghost accepts = { λ _. H.DekuWriter.accepts tt × T.accepts tt };
+
+    ghost meaning = { λ v _. WritesCountedBy H.ItemCount.count_of (λ h. H.DekuWriter.meaning h tt) (λ x. T.meaning x tt) v };
+
+    fn to_writer<W: Sink>(&self, writer: &mut Writer<W>, _ctx: ()) -> Result<(), DekuError> {
+        write_counted(&self.head, &self.items, writer)
+    }
+}
+
+/// Writes a head and the items behind it, as a `Counted` of both is written.
+///
+/// A head that names another count than that of the items, or none, is refused with `Assertion("count out of step with items")`, and nothing moves. Else it is refused
+/// as the head is, and then as the first of the items is. The caller's condition: both may be written.
+///
+/// ```text
+/// write_counted(&2u8, &items, writer)?                            // 02 68 69, of the items 68 and 69
+/// ```
+pub fn write_counted<H: ItemCount + DekuWriter<()>, T: DekuWriter<()>, W: Sink>(
+    head: &H,
+    items: &Vec<T>,
+    writer: &mut Writer<W>,
+) -> Result<(), DekuError>
+    requires head { H.DekuWriter.accepts tt }
+    requires items { T.accepts tt }
+    ensures { Writes W.known (WritesCountedBy H.ItemCount.count_of (λ h. H.DekuWriter.meaning h tt) (λ x. T.meaning x tt) (record { head = head.now; items = items.now })) writer.old result writer.new }
+{
+    if !in_step(head, items) {
+        return Err(DekuError::Assertion("count out of step with items"));
+    }
+    head.to_writer(writer, ())?;
+    items.to_writer(writer, ())
+}
+
+// Whether there are as many items as the head says.
+fn in_step<H: ItemCount, T>(head: &H, items: &Vec<T>) -> bool
+    ensures { MatchBool result (IsCounted (H.count_of head.now) (length items.now.items)) (IsCounted (H.count_of head.now) (length items.now.items) → ⊥) }
+{
+    match head.count() {
+        Some(count) => items.len() == count,
+        None => false,
+    }
+}

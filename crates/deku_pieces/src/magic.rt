@@ -1,0 +1,112 @@
+//! Parts that are always the same: signatures, versions, lengths that a format fixes.
+
+ghost use Rattle.std.specs.Prelude.{◌≡◌, ℕ, List, MatchBool};
+
+use deku::device::{Sink, Source};
+use deku::reader::Reader;
+use deku::writer::Writer;
+use deku::{DekuError, DekuReader, DekuWriter};
+use std::marker::PhantomData;
+
+/// The one value of a part, and the text with which another is refused.
+///
+/// ```text
+/// impl Constant<Be<u32>> for Signature {
+///     ghost value = { record { 0 = 0x7F454C46 } };
+///
+///     ghost text = { codes "ELF magic" };
+///
+///     fn value() -> Be<u32> {
+///         Be(0x7F454C46)
+///     }
+///
+///     fn is_value(part: &Be<u32>) -> bool {
+///         part.0 == 0x7F454C46
+///     }
+///
+///     fn text() -> &'static str {
+///         "ELF magic"
+///     }
+/// }
+/// ```
+pub trait Constant<P> {
+    // The value.
+    ghost value: { P };
+
+    // What is said of another.
+    ghost text: { List ℕ };
+
+    /// The value.
+    fn value() -> P
+        ensures { result ≡ value };
+
+    /// Whether the part is the value.
+    fn is_value(part: &P) -> bool
+        ensures { MatchBool result (part.now ≡ value) (part.now ≡ value → ⊥) };
+
+    /// What is said of another: as a rule the name of the field.
+    fn text() -> &'static str
+        ensures { result.now ≡ text };
+}
+
+/// A part that is always the value of `C`, and so has none of its own.
+///
+/// Where it is read, another value is refused with `Assertion` and the text of the constant, and stays read. Else it is refused, read or written, as the part is.
+///
+/// ```text
+/// type Parts = (Magic<Be<u32>, Signature>, Be<u16>);              // 7F 45 4C 46, and two bytes
+/// ```
+#[derive(Debug, PartialEq, Eq, Drop)]
+pub struct Magic<P, C> {
+    /// What lies there.
+    pub part: PhantomData<P>,
+    /// What it is.
+    pub constant: PhantomData<C>,
+}
+
+impl<P, C> Magic<P, C> {
+    /// The part.
+    ///
+    /// ```text
+    /// (Magic::new(), Be(2u16))                                    // of the parts above
+    /// ```
+    pub fn new() -> Magic<P, C>
+        ensures { result ≡ record { part = record {}; constant = record {} } }
+    {
+        Magic {
+            part: PhantomData,
+            constant: PhantomData,
+        }
+    }
+}
+
+impl<P: DekuReader<()>, C: Constant<P>> DekuReader<()> for Magic<P, C> {
+    ghost use Rattle.deku_pieces.specs.Asserting.{ReadsMagic};
+
+    ghost accepts = { λ _. P.accepts tt };
+
+    ghost no_read_ahead = { λ _. P.no_read_ahead tt };
+
+    ghost meaning = { λ _. ReadsMagic C.value C.text (P.meaning tt) };
+
+    fn from_reader_with_ctx<R: Source>(
+        reader: &mut Reader<R>,
+        _ctx: (),
+    ) -> Result<Self, DekuError> {
+        let part = P::from_reader_with_ctx(reader, ())?;
+        if !C::is_value(&part) {
+            return Err(DekuError::Assertion(C::text()));
+        }
+        Ok(Magic::new())
+    }
+}
+
+impl<P: DekuReader<()> + DekuWriter<()>, C: Constant<P>> DekuWriter<()> for Magic<P, C> {
+    ghost accepts = { λ _. P.DekuWriter.accepts tt };
+
+    ghost meaning = { λ _ _. P.DekuWriter.meaning C.value tt };
+
+    fn to_writer<W: Sink>(&self, writer: &mut Writer<W>, _ctx: ()) -> Result<(), DekuError> {
+        C::value().to_writer(writer, ())
+    }
+}

@@ -1,5 +1,0 @@
-use Rattle.std.proofs.Common.{rules}
-use Rattle.deku_reader.proofs.reader.progress.Progress.bits_read.Goals as goal
-
-pub returns : goal.returns
-returns c = search rules

@@ -1,5 +1,0 @@
-use Rattle.std.proofs.Common.{rules}
-use Rattle.deku_writer.proofs.writer.Progress.bits_written.Goals as goal
-
-pub returns : goal.returns
-returns c = search rules

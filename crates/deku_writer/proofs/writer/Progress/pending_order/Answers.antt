@@ -1,8 +1,0 @@
-use Rattle.std.proofs.Common.{rules}
-use Rattle.deku_writer.proofs.writer.Progress.pending_order.Goals as goal
-
-pub returns-then-is_some : goal.returns-then-is_some
-returns-then-is_some c = search rules
-
-pub returns : goal.returns
-returns c = search rules

@@ -1,0 +1,16 @@
+use Rattle.std.proofs.Common.{◌≡◌, ◌<◌, ◌/◌, ◌+◌, ◌^◌, ◌∙◌, length, ap, sym, rules}
+use Rattle.deku_stream.specs.declared.ctx.Order.TheVariants.{Msb0}
+use Rattle.deku_stream.specs.Bits.{bits_of}
+use Rattle.deku_stream.proofs.Binary.{length-bits_of}
+use Rattle.deku_writer.proofs.Emits.{write_done}
+use Rattle.deku_writer.proofs.writer.WriterState.try_write_msb.Goals as goal
+
+pub returns-then-laid-clause-writes : goal.returns-then-laid-clause-writes
+returns-then-laid-clause-writes g c = λ laid.
+    let w : c.self.inside.bits_written < 2 ^ 64 = search rules in
+    let h = c.self.inside.held in
+    let bits = bits_of c.args.n c.args.number in
+    let made : c.whole_bytes-made.result ≡ (length h + length bits) / 8 =
+    c.whole_bytes-made.ensures ∙ ap (λ x. (x + c.args.n) / 8) c.len.ensures.length ∙ ap (λ x. (length h + x) / 8) (sym (length-bits_of c.args.n c.args.number)) in
+    rw (← c.self.view_is, c.in_default.is)
+    (write_done _ _ c.self.inside.order Msb0 h _ bits _ c.whole_bytes-made.result c.self.invariant made c.if-made-self.false w (c.lay_high-laid.ensures.pushed laid))
