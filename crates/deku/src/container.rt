@@ -28,15 +28,17 @@ use std::io::{Cursor, ErrorKind};
 ///
 /// The calls have their bodies here; a type states `impl DekuContainerRead for Record {}`.
 pub trait DekuContainerRead: DekuReader<()> {
-    /// Leaves out so many bits of a source and reads a value behind them: the count of bits that this took, those left out among them, and
-    /// the value.
+    /// Leaves out so many bits of a source and reads a value behind them: the count of bits that
+    /// this took, those left out among them, and the value.
     ///
-    /// The source is left behind the last byte that was fetched. Bits of that byte that were not read are lost, so the next call begins
-    /// with the byte behind them: where the type fetches no byte too early, that is the one behind those that the counted bits fill. What is
-    /// read takes its memory by `alloc`.
+    /// The source is left behind the last byte that was fetched. Bits of that byte that were not
+    /// read are lost, so the next call begins with the byte behind them: where the type fetches no
+    /// byte too early, that is the one behind those that the counted bits fill. What is read takes
+    /// its memory by `alloc`.
     ///
-    /// The caller's condition: the type may be read under `()`. It is refused as `Reader::skip_bits` in `Msb0` refuses to leave the bits
-    /// out, and then as the type is; the source stays behind what was read until then.
+    /// The caller's condition: the type may be read under `()`. It is refused as
+    /// `Reader::skip_bits` in `Msb0` refuses to leave the bits out, and then as the type is; the
+    /// source stays behind what was read until then.
     ///
     /// ```text
     /// let mut input = Cursor::new(bytes);                     // 12 34 56
@@ -50,8 +52,10 @@ pub trait DekuContainerRead: DekuReader<()> {
     where
         Self: Sized,
         requires { Self.accepts tt }
-        ensures reads { ReadsOnce R.known (Behind input.entry.1 (Self.meaning tt)) input.entry.0.now result input.exit.0.now }
-        ensures behind { IfOk result (λ p. Self.no_read_ahead tt → TellsBehind p.0 (R.known input.entry.0.now) (R.known input.exit.0.now)) }
+        ensures reads { ReadsOnce R.known (Behind input.entry.1 (Self.meaning tt)) input.entry.0.now
+            result input.exit.0.now }
+        ensures behind { IfOk result (λ p. Self.no_read_ahead tt
+            → TellsBehind p.0 (R.known input.entry.0.now) (R.known input.exit.0.now)) }
     {
         let bits = input.1;
         let mut reader = Reader::new(alloc, &mut *input.0);
@@ -64,12 +68,13 @@ pub trait DekuContainerRead: DekuReader<()> {
         }
     }
 
-    /// Leaves out so many bits of some bytes and reads a value behind them: the bytes from that of the first unread bit on with the bits of
-    /// the first one that are read already, and the value.
+    /// Leaves out so many bits of some bytes and reads a value behind them: the bytes from that of
+    /// the first unread bit on with the bits of the first one that are read already, and the value.
     ///
-    /// The caller's condition: the type may be read under `()`. It is refused as `Reader::skip_bits` in `Msb0` refuses to leave the bits
-    /// out, and then as the type is. Bits behind the last byte can be left out: where the whole bytes that were left out or read are more
-    /// than there are, it is refused with `Incomplete` of all those bits.
+    /// The caller's condition: the type may be read under `()`. It is refused as
+    /// `Reader::skip_bits` in `Msb0` refuses to leave the bits out, and then as the type is. Bits
+    /// behind the last byte can be left out: where the whole bytes that were left out or read are
+    /// more than there are, it is refused with `Incomplete` of all those bits.
     ///
     /// ```text
     /// let ((rest, bits), record) = Record::from_bytes(alloc, (&[0x12, 0x34], 4))?;
@@ -99,7 +104,8 @@ fn read_behind<T: DekuReader<()>, R: Source>(
 ) -> Result<T, DekuError>
     requires { T.accepts tt }
     ensures reads { Reads R.known (Behind bits (T.meaning tt)) reader.old result reader.new }
-    ensures early { OnOk result (T.no_read_ahead tt → length (window_of reader.old.state) < 8 → NoReadAhead R.known reader.old reader.new) }
+    ensures early { OnOk result (T.no_read_ahead tt → length (window_of reader.old.state) < 8
+        → NoReadAhead R.known reader.old reader.new) }
 {
     match reader.skip_bits(bits, Order::Msb0) {
         Ok(()) => T::from_reader_with_ctx(reader, ()),
@@ -113,8 +119,8 @@ fn read_behind<T: DekuReader<()>, R: Source>(
 pub trait DekuContainerWrite: DekuWriter<()> {
     /// The bytes of the value, the last one filled with zeros.
     ///
-    /// The caller's condition: the type may be written under `()`. It is refused as the type is, or with `Io(OutOfMemory)` where no memory
-    /// is found for the bytes.
+    /// The caller's condition: the type may be written under `()`. It is refused as the type is, or
+    /// with `Io(OutOfMemory)` where no memory is found for the bytes.
     ///
     /// ```text
     /// record.to_bytes(alloc)?                                 // of 4, 4 and 1 bits: F1 80
@@ -126,11 +132,12 @@ pub trait DekuContainerWrite: DekuWriter<()> {
         padded_bytes(self, alloc, ())
     }
 
-    /// Writes the bytes of the value to the front of a slice, the last one filled with zeros, and answers how many they are. What is behind
-    /// them in the slice stays. It takes no memory.
+    /// Writes the bytes of the value to the front of a slice, the last one filled with zeros, and
+    /// answers how many they are. What is behind them in the slice stays. It takes no memory.
     ///
-    /// The caller's condition: the type may be written under `()`. It is refused as the type is, or with `Io(WriteZero)` where the slice is
-    /// too short. Then the slice has a beginning of the bytes in front, and behind them what it held.
+    /// The caller's condition: the type may be written under `()`. It is refused as the type is, or
+    /// with `Io(WriteZero)` where the slice is too short. Then the slice has a beginning of the
+    /// bytes in front, and behind them what it held.
     ///
     /// ```text
     /// let mut out = [0; 3];
@@ -149,11 +156,12 @@ pub trait DekuContainerWrite: DekuWriter<()> {
         }
     }
 
-    /// The bits of the value, with no padding: those of the bytes that it fills, each high bit first, and then the pending ones, high bit
-    /// first too.
+    /// The bits of the value, with no padding: those of the bytes that it fills, each high bit
+    /// first, and then the pending ones, high bit first too.
     ///
-    /// The caller's condition: the type may be written under `()`. It is refused as the type is, or with `Io(OutOfMemory)` where no memory
-    /// is found for the bits. A fault of its writer that the type did not hand on is answered too.
+    /// The caller's condition: the type may be written under `()`. It is refused as the type is, or
+    /// with `Io(OutOfMemory)` where no memory is found for the bits. A fault of its writer that the
+    /// type did not hand on is answered too.
     ///
     /// ```text
     /// record.to_bits(alloc)?                                  // of 4, 4 and 1 bits: 1, 1, 1, 1, 0, 0, 0, 1, 1
@@ -175,8 +183,8 @@ pub trait DekuContainerWrite: DekuWriter<()> {
 
 /// The bytes of a value under a context, with the last one filled with zeros.
 ///
-/// The caller's condition: the type may be written under the context. It is refused as the type is, or with `Io(OutOfMemory)` where no memory
-/// is found for the bytes.
+/// The caller's condition: the type may be written under the context. It is refused as the type is,
+/// or with `Io(OutOfMemory)` where no memory is found for the bytes.
 ///
 /// ```text
 /// padded_bytes(&5u8, alloc, BitSize(4))?                      // 50
@@ -203,7 +211,8 @@ fn write_whole<Ctx, T: DekuWriter<Ctx>, W: Sink>(
     ctx: Ctx,
 ) -> Result<(), DekuError>
     requires { T.accepts ctx }
-    ensures { (u : Standing Pending) × WritesAt (Both (T.meaning value.now ctx) Finalizes) (W.known sink.old) (Going Nothing 0) result (W.known sink.new) u }
+    ensures { (u : Standing Pending) × WritesAt (Both (T.meaning value.now ctx) Finalizes)
+        (W.known sink.old) (Going Nothing 0) result (W.known sink.new) u }
 {
     let mut writer = Writer::new(sink);
     write_padded(value, &mut writer, ctx)
@@ -216,7 +225,8 @@ fn write_padded<Ctx, T: DekuWriter<Ctx>, W: Sink>(
     ctx: Ctx,
 ) -> Result<(), DekuError>
     requires { T.accepts ctx }
-    ensures { Writes W.known (Both (T.meaning value.now ctx) Finalizes) writer.old result writer.new }
+    ensures { Writes W.known (Both (T.meaning value.now ctx) Finalizes) writer.old result
+        writer.new }
 {
     match value.to_writer(writer, ctx) {
         Ok(()) => writer.finalize(),
@@ -224,7 +234,8 @@ fn write_padded<Ctx, T: DekuWriter<Ctx>, W: Sink>(
     }
 }
 
-/// The bytes before a cursor's place, as those that a writer gave to one over a vector: those behind it are let go. It refuses nothing.
+/// The bytes before a cursor's place, as those that a writer gave to one over a vector: those
+/// behind it are let go. It refuses nothing.
 ///
 /// ```text
 /// writer.finalize()?;

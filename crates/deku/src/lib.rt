@@ -1,7 +1,8 @@
 //! Bit-level reading and writing of binary records.
 //!
-//! A record implements [`DekuReader`] and [`DekuWriter`] by hand, field by field, each under a context that says how it lies; and then, by an
-//! empty `impl`, [`DekuContainerRead`] and [`DekuContainerWrite`], for whole values from bytes and as bytes. Each implementation names its
+//! A record implements [`DekuReader`] and [`DekuWriter`] by hand, field by field, each under a
+//! context that says how it lies; and then, by an empty `impl`, [`DekuContainerRead`] and
+//! [`DekuContainerWrite`], for whole values from bytes and as bytes. Each implementation names its
 //! meaning, made of those of its fields: its contract is then that of its trait.
 //!
 //! ```text
@@ -26,7 +27,8 @@
 //! let ((rest, bits), head) = Head::from_bytes(alloc, (&[0x69, 0xBE, 0xEF, 0x01], 0))?; // (6, 9), 0xBEEF; the rest is 01
 //! ```
 //!
-//! The page `docs/RECORDS.md` goes through it whole, with its proof, which is a line for each field.
+//! The page `docs/RECORDS.md` goes through it whole, with its proof, which is a line for each
+//! field.
 #![tactic(auto)]
 
 mod container;

@@ -10,7 +10,8 @@ pub trait DekuUpdate {
     // What an update of a value may answer, and the value that it leaves.
     ghost updates: { Self → Result (Unit {0}) Refusal → Self → Type 0 };
 
-    /// Brings the parts that follow from others in step with them. When it is refused, and what is left then, is stated by the type.
+    /// Brings the parts that follow from others in step with them. When it is refused, and what is
+    /// left then, is stated by the type.
     ///
     /// ```text
     /// record.payload.push(7)?;

@@ -35,7 +35,8 @@ pub fn end_law()
     ensures { EndLaw }
 {}
 
-/// A skip of no more bits than there are succeeds, and leaves the stream and the count of a read of as many that succeeds.
+/// A skip of no more bits than there are succeeds, and leaves the stream and the count of a read of
+/// as many that succeeds.
 pub fn skip_read_law()
     ensures { SkipReadLaw }
 {}
@@ -50,12 +51,14 @@ pub fn append_law()
     ensures { AppendLaw }
 {}
 
-/// On a reader that was fresh, reads that succeed fetch the bytes that the bits read fill, and a look at the end one byte more at most.
+/// On a reader that was fresh, reads that succeed fetch the bytes that the bits read fill, and a
+/// look at the end one byte more at most.
 pub fn fetch_law()
     ensures { FetchLaw }
 {}
 
-/// Behind a write as many bits are given out and pending as were pending and written; the padding adds fewer than eight, and a second one none.
+/// Behind a write as many bits are given out and pending as were pending and written; the padding
+/// adds fewer than eight, and a second one none.
 pub fn count_law()
     ensures { CountLaw }
 {}
@@ -70,7 +73,8 @@ pub fn write_law()
     ensures { WriteLaw }
 {}
 
-/// From bytes that begin with what aligned pieces lay out, the pieces are taken and the bytes behind are left.
+/// From bytes that begin with what aligned pieces lay out, the pieces are taken and the bytes
+/// behind are left.
 pub fn read_law()
     ensures { ReadLaw }
 {}
@@ -115,17 +119,20 @@ pub fn write_rows()
     ensures { WriteRows }
 {}
 
-/// After transfers a device that tells all its bytes holds what it took, and behind that what it held.
+/// After transfers a device that tells all its bytes holds what it took, and behind that what it
+/// held.
 pub fn whole_law()
     ensures { WholeLaw }
 {}
 
-/// Bytes are written as they are where nothing is pending, and read as they are where no byte is begun.
+/// Bytes are written as they are where nothing is pending, and read as they are where no byte is
+/// begun.
 pub fn plain_law()
     ensures { PlainLaw }
 {}
 
-/// Where no device fails, an `Io` comes only from want of memory, for want of room where bits are written, or where it was kept.
+/// Where no device fails, an `Io` comes only from want of memory, for want of room where bits are
+/// written, or where it was kept.
 pub fn cause_law()
     ensures { CauseLaw }
 {}

@@ -130,8 +130,8 @@ const ENDS: [Case; 4] = [
     ),
 ];
 
-// Bits that fill a whole number of bytes leave nothing, and the source stands behind the last byte touched, also where the end was looked
-// for in front of each read.
+// Bits that fill a whole number of bytes leave nothing, and the source stands behind the last byte
+// touched, also where the end was looked for in front of each read.
 const EARLY: [Case; 6] = [
     (
         &[0xA1, 0x34, 0x12],
@@ -358,7 +358,8 @@ const REFUSED: [Case; 1] = [(
     3,
 )];
 
-// Bytes in a vector: at a boundary, behind bits of a byte in both orders, and behind a look; and more than the source has.
+// Bytes in a vector: at a boundary, behind bits of a byte in both orders, and behind a look; and
+// more than the source has.
 const VECTORS: [Case; 4] = [
     (
         &[0x01, 0x02, 0x03],
@@ -421,7 +422,8 @@ fn shows_what_each_call_meets(rt: HostRuntime) -> Result<(), Fail> {
 
 const BEHIND: [Step; 1] = [Step::Const(1, Msb0, Ok(&[0x03]))];
 
-// What is done to the source through a reader is done to the reader's source. It returns whether memory was refused.
+// What is done to the source through a reader is done to the reader's source. It returns whether
+// memory was refused.
 fn expect_sought<R: Source + Drop>(rt: &impl Abort, alloc: Global, source: R) -> bool {
     let mut reader = Reader::new(alloc, source);
     let answer = kind_of(reader.as_mut().seek(SeekFrom::Start(2)));
@@ -437,7 +439,8 @@ fn lends_its_source(rt: HostRuntime) -> Result<(), Fail> {
 
 // A reader over a source that is lent gives all of it back.
 fn read_lent<R: Source>(alloc: Global, source: &mut R, dst: &mut [bool]) -> Result<(), DekuError>
-    ensures { (after : Standing (List Bool)) × ReadsAt (ReadsBits Order.Msb0 (length dst.old)) (R.known source.old) (Going [] 0) (filling result dst.new) (R.known source.new) after }
+    ensures { (after : Standing (List Bool)) × ReadsAt (ReadsBits Order.Msb0 (length dst.old))
+        (R.known source.old) (Going [] 0) (filling result dst.new) (R.known source.new) after }
 {
     let mut reader = Reader::new(alloc, source);
     reader.read_bits_into(dst, Msb0)

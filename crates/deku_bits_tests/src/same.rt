@@ -4,7 +4,8 @@ use deku_testing::bits::are_digits;
 use std::fmt::Debug;
 use std::process::Abort;
 
-/// A case of a table, and a step of it. A case of several tables has the number of its table in front, times a hundred.
+/// A case of a table, and a step of it. A case of several tables has the number of its table in
+/// front, times a hundred.
 pub type Row = (usize, usize);
 
 /// What was returned is what was wanted.

@@ -5,7 +5,8 @@ use deku_testing::refusals::kind_of;
 use std::io::{ErrorKind, Read, Seek, SeekFrom};
 use std::process::Abort;
 
-/// What is done with a stream that is read, and what it answers. A number in front is how many bytes are asked for, at most four.
+/// What is done with a stream that is read, and what it answers. A number in front is how many
+/// bytes are asked for, at most four.
 pub enum Get {
     /// `read`
     Some(usize, Result<&'static [u8], ErrorKind>),

@@ -29,7 +29,8 @@ pub enum Left {
     Bits(usize, u8),
 }
 
-/// What is done with a reader, and what it returns. A number in front is how many bits or bytes are asked for.
+/// What is done with a reader, and what it returns. A number in front is how many bits or bytes are
+/// asked for.
 pub enum Step {
     /// `read_bits`
     Bits(usize, Order, Digits),
@@ -61,7 +62,8 @@ pub enum Step {
     Left(Left),
     /// `bits_read`
     Count(usize),
-    /// The reader has stopped with this: so each call returns, no bit is left over, and the count stays.
+    /// The reader has stopped with this: so each call returns, no bit is left over, and the count
+    /// stays.
     Kept(Refusal),
 }
 
@@ -102,7 +104,8 @@ fn read_into<R: Source>(
     expect_digits(rt, row, error, bits, want);
 }
 
-// Whether memory was refused where that is not wanted; else the bits are these, or they are refused so.
+// Whether memory was refused where that is not wanted; else the bits are these, or they are refused
+// so.
 fn lacks_bits(
     rt: &impl Abort,
     row: Row,
@@ -126,7 +129,8 @@ fn is_lacking(error: DekuError, want: Option<DekuError>) -> bool {
     error == NO_MEMORY.error() && want != Some(error)
 }
 
-// The bits in a vector. Where its memory is refused nothing has moved, and they are read into a buffer; it returns whether.
+// The bits in a vector. Where its memory is refused nothing has moved, and they are read into a
+// buffer; it returns whether.
 fn read_vector<R: Source>(
     rt: &impl Abort,
     row: Row,
@@ -168,7 +172,8 @@ fn vector_of<R: Source>(
     reader.read_bytes_vec(amt, order)
 }
 
-// Whether memory was refused where that is not wanted; else the bytes are these, or they are refused so.
+// Whether memory was refused where that is not wanted; else the bytes are these, or they are
+// refused so.
 fn lacks_bytes(
     rt: &impl Abort,
     row: Row,
@@ -187,7 +192,8 @@ fn lacks_bytes(
     false
 }
 
-// The bytes in a vector. Where its memory is refused nothing has moved, and they are read into a buffer; it returns whether.
+// The bytes in a vector. Where its memory is refused nothing has moved, and they are read into a
+// buffer; it returns whether.
 fn read_byte_vector<R: Source>(
     rt: &impl Abort,
     row: Row,
@@ -411,7 +417,8 @@ pub fn walk_steps<R: Source>(
 /// Bytes, the steps of a reader over a cursor on them, and where the cursor stands then.
 pub type Case = (&'static [u8], &'static [Step], u64);
 
-/// The steps of a reader over a source show what they say; whether memory was refused, and the source then.
+/// The steps of a reader over a source show what they say; whether memory was refused, and the
+/// source then.
 pub fn walk_source<R: Source>(
     rt: &impl Abort,
     alloc: Global,

@@ -11,7 +11,8 @@ use std::test::Fail;
 // In the folder where the tests run.
 const PATH: &str = "record_written.bin";
 
-// A5 05 1C DE: a byte half from above and half from below, one of three bits, and two, of which the first is written again.
+// A5 05 1C DE: a byte half from above and half from below, one of three bits, and two, of which the
+// first is written again.
 const WRITTEN: [Put; 10] = [
     Put::Bits("1010", Ok(())),
     Put::Ordered(Lsb0, "0101", Ok(())),

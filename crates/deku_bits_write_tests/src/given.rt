@@ -40,7 +40,8 @@ pub enum Put {
     Left(&'static str, u8, Order),
     /// `bits_written`
     Count(usize),
-    /// The writer has stopped with this: so each call returns, nothing is pending, and the count stays.
+    /// The writer has stopped with this: so each call returns, nothing is pending, and the count
+    /// stays.
     Kept(Refusal),
 }
 
@@ -195,7 +196,8 @@ pub fn give_steps<W: Sink>(
     handed(lacking)
 }
 
-/// The steps of a writer over a sink show what they say; the sink then. Memory that was refused is handed on.
+/// The steps of a writer over a sink show what they say; the sink then. Memory that was refused is
+/// handed on.
 pub fn give_sink<W: Sink + Drop>(
     rt: &impl Abort,
     alloc: Global,
@@ -230,7 +232,8 @@ pub fn give_tables(rt: &impl Abort, alloc: Global, tables: &[&[Grown]]) -> Resul
     Ok(())
 }
 
-/// The steps of a writer over the front of a slice of zeros that has room for as many bytes as it has then.
+/// The steps of a writer over the front of a slice of zeros that has room for as many bytes as it
+/// has then.
 pub fn give_bounded(rt: &impl Abort, alloc: Global, cases: &[Grown]) -> Result<(), Fail> {
     for (case, (steps, want)) in cases.iter().enumerate() {
         let mut slice = [0; 8];

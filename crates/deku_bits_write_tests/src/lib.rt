@@ -1,4 +1,5 @@
-//! Tests of `deku_bits`, through its public calls: what is written, lists of bits, and what refusals print.
+//! Tests of `deku_bits`, through its public calls: what is written, lists of bits, and what
+//! refusals print.
 #![tactic(auto)]
 
 #[cfg(test)]
@@ -20,6 +21,7 @@ mod words;
 #[cfg(test)]
 mod writer;
 
-/// A case of a table, and a step of it. A case of several tables has the number of its table in front, times a hundred.
+/// A case of a table, and a step of it. A case of several tables has the number of its table in
+/// front, times a hundred.
 #[cfg(test)]
 type Row = (usize, usize);

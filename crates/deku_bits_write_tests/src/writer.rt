@@ -53,16 +53,19 @@ fn expect_lists(rt: &impl Abort, alloc: Global, cases: &[Lists]) -> Result<(), F
 
 // Writes a list of bits to a sink that is lent: its caller has all of what was written.
 fn write_lent<S: Sink>(sink: &mut S, list: &[bool], order: Order) -> Result<(), DekuError>
-    ensures { (u : Standing Pending) × WritesAt (WritesBits order list.now) (S.known sink.old) (Going Nothing 0) result (S.known sink.new) u }
+    ensures { (u : Standing Pending) × WritesAt (WritesBits order list.now) (S.known sink.old)
+        (Going Nothing 0) result (S.known sink.new) u }
 {
     let mut writer = Writer::new(sink);
     writer.write_bits_order(list, order)
 }
 
-// Writes a list of bits over the front of a slice: where it has room for the bytes, they stand there.
+// Writes a list of bits over the front of a slice: where it has room for the bytes, they stand
+// there.
 fn write_over(all: &mut [u8], list: &[bool], order: Order) -> Result<(), DekuError>
     ensures room { length list.now / 8 ≤ length all.old → result ≡ Ok tt }
-    ensures bytes { OnOk result ((n : ℕ) × (take n all.new ≡ (append order list.now Nothing).bytes)) }
+    ensures bytes { OnOk result ((n : ℕ) × (take n all.new ≡
+        (append order list.now Nothing).bytes)) }
 {
     let mut cursor = Cursor::new(all);
     write_lent(&mut cursor, list, order)

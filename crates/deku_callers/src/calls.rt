@@ -24,8 +24,9 @@ use deku_num::laws::field_law;
 use std::alloc::Global;
 use std::io::Cursor;
 
-/// The values of fields that are read in three calls, with a look whether the bytes end before the second and the third: where the bytes begin with what items of
-/// these fields lay out, they are the items' values, as one call reads them.
+/// The values of fields that are read in three calls, with a look whether the bytes end before the
+/// second and the third: where the bytes begin with what items of these fields lay out, they are
+/// the items' values, as one call reads them.
 ///
 /// It is refused as `read_list` is.
 pub fn read_in_three(
@@ -51,7 +52,8 @@ fn look_and_read<R: Source>(
     reader: &mut Reader<R>,
     fields: &[Field],
 ) -> Result<Vec<Number>, DekuError>
-    ensures { Reads R.known (Then Ending (λ _. ReadsList fields.now)) reader.old (items_of result) reader.new }
+    ensures { Reads R.known (Then Ending (λ _. ReadsList fields.now)) reader.old (items_of result)
+        reader.new }
 {
     match reader.end() {
         Ok(_at_end) => read_list(reader, fields),
@@ -59,7 +61,8 @@ fn look_and_read<R: Source>(
     }
 }
 
-/// The bytes of items that are written in three calls, and padded once: they are what all these items lay out, as one call lays them out.
+/// The bytes of items that are written in three calls, and padded once: they are what all these
+/// items lay out, as one call lays them out.
 ///
 /// It is refused as `write_list` is.
 pub fn bytes_in_three(
@@ -78,7 +81,8 @@ pub fn bytes_in_three(
     Ok(writer.into_inner().into_inner())
 }
 
-/// Writes items in three calls: over any sink, whatever it does, they are one call that writes all these items.
+/// Writes items in three calls: over any sink, whatever it does, they are one call that writes all
+/// these items.
 ///
 /// It is refused as `write_list` is.
 pub fn write_in_three<W: Sink>(
@@ -87,7 +91,8 @@ pub fn write_in_three<W: Sink>(
     second: &[Item],
     third: &[Item],
 ) -> Result<(), DekuError>
-    ensures { Writes W.known (WritesItems (first.now ++ (second.now ++ third.now))) writer.old result writer.new }
+    ensures { Writes W.known (WritesItems (first.now ++ (second.now ++ third.now))) writer.old
+        result writer.new }
 {
     write_calls_law();
     match write_list(writer, first) {
@@ -99,8 +104,9 @@ pub fn write_in_three<W: Sink>(
     }
 }
 
-/// Five values in fields of mixed orders, written in three calls and read in three: four bits and four, high bits first, then thirteen and three, low bits first, and then two bytes with a sign, high
-/// byte first. They are the same values; or no memory was found.
+/// Five values in fields of mixed orders, written in three calls and read in three: four bits and
+/// four, high bits first, then thirteen and three, low bits first, and then two bytes with a sign,
+/// high byte first. They are the same values; or no memory was found.
 ///
 /// The caller's conditions: each value has no more bits than its field.
 pub fn five_in_three(
@@ -115,7 +121,9 @@ pub fn five_in_three(
     requires kind { kind < 16 }
     requires span { span < 8192 }
     requires flags { flags < 8 }
-    ensures { MatchResult result (λ v. v.0.items ++ (v.1.items ++ v.2.items) ≡ Unsigned version ∷ Unsigned kind ∷ Unsigned span ∷ Unsigned flags ∷ Signed heat ∷ []) (λ e. e ≡ Io OutOfMemory) }
+    ensures { MatchResult result (λ v. v.0.items ++ (v.1.items ++ v.2.items) ≡ Unsigned version ∷
+        Unsigned kind ∷ Unsigned span ∷ Unsigned flags ∷ Signed heat ∷ [])
+        (λ e. e ≡ Io OutOfMemory) }
 {
     field_law();
     length_law();

@@ -14,7 +14,8 @@ use deku_symmetry::laws::counted_law;
 use std::alloc::Global;
 use std::io::ErrorKind;
 
-/// Numbers as bytes, the high byte of each first, and read from these under a count of as many: they are the same numbers, or no memory was found.
+/// Numbers as bytes, the high byte of each first, and read from these under a count of as many:
+/// they are the same numbers, or no memory was found.
 ///
 /// The caller's condition: the bits of the numbers can be counted.
 pub fn there_and_back(alloc: Global, numbers: &Vec<u16>) -> Result<Vec<u16>, DekuError>
@@ -38,14 +39,16 @@ pub fn there_and_back(alloc: Global, numbers: &Vec<u16>) -> Result<Vec<u16>, Dek
 
 /// A byte that counts numbers, and behind it these as bytes, the high byte of each first.
 ///
-/// It is refused with `Io` where no memory is found. The caller's condition: a byte can count the numbers.
+/// It is refused with `Io` where no memory is found. The caller's condition: a byte can count the
+/// numbers.
 ///
 /// ```text
 /// record_of(alloc, &numbers)?                                // 02 C0 FE 00 01, of the numbers C0FE and 1
 /// ```
 pub fn record_of(alloc: Global, numbers: &Vec<u16>) -> Result<Vec<u8>, DekuError>
     requires { length numbers.now.items < 256 }
-    ensures { MatchResult result (λ v. IsRecordOf numbers.now.items v.items) (λ e. e ≡ Io OutOfMemory) }
+    ensures { MatchResult result (λ v. IsRecordOf numbers.now.items v.items)
+        (λ e. e ≡ Io OutOfMemory) }
 {
     counted_law::<Endian, u16>();
     length_law();
@@ -71,7 +74,8 @@ fn behind(alloc: Global, first: u8, bytes: &[u8]) -> Result<Vec<u8>, DekuError>
 
 /// The numbers behind a byte that counts them: they are read under a count of that byte.
 ///
-/// It is refused with `Incomplete` where the bytes end before the last of the numbers, and with `Io` where no memory is found.
+/// It is refused with `Incomplete` where the bytes end before the last of the numbers, and with
+/// `Io` where no memory is found.
 pub fn numbers_of(alloc: Global, bytes: &[u8]) -> Result<Vec<u16>, DekuError>
     ensures { ReadsRecord bytes.now result }
 {
@@ -91,7 +95,8 @@ pub fn numbers_of(alloc: Global, bytes: &[u8]) -> Result<Vec<u16>, DekuError>
     }
 }
 
-/// Numbers as the record of them, and read from this: they are the same numbers, or no memory was found.
+/// Numbers as the record of them, and read from this: they are the same numbers, or no memory was
+/// found.
 ///
 /// The caller's condition: a byte can count the numbers.
 pub fn record_there_and_back(alloc: Global, numbers: &Vec<u16>) -> Result<Vec<u16>, DekuError>

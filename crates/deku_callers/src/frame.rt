@@ -10,7 +10,8 @@ use std::alloc::Global;
 
 /// A frame of two numbers as bytes, and read from them again: it is that frame.
 ///
-/// It is refused as `Frame::pair` refuses the numbers, or with `Io(OutOfMemory)` where no memory is found for the bytes.
+/// It is refused as `Frame::pair` refuses the numbers, or with `Io(OutOfMemory)` where no memory is
+/// found for the bytes.
 ///
 /// ```text
 /// pair_there_and_back(alloc, 5, 0x2A7)?                      // Frame::Pair { left: 5, right: 0x2A7 }
@@ -34,7 +35,8 @@ pub fn pair_there_and_back(alloc: Global, left: u8, right: u16) -> Result<Frame,
 
 /// The frame that is read from any bytes, as bytes again: the bytes begin with them.
 ///
-/// It is refused as the frame is where it is read, or with `Io(OutOfMemory)` where no memory is found for the bytes.
+/// It is refused as the frame is where it is read, or with `Io(OutOfMemory)` where no memory is
+/// found for the bytes.
 ///
 /// ```text
 /// rewritten(alloc, &[0x31, 0x2A, 0xA7, 0x99])?               // 31 2A A7

@@ -1,4 +1,5 @@
-//! What callers conclude from the contracts of public calls alone: each function here is a small program, and what it ensures is what its user wants to know.
+//! What callers conclude from the contracts of public calls alone: each function here is a small
+//! program, and what it ensures is what its user wants to know.
 #![tactic(auto)]
 
 pub mod calls;

@@ -17,10 +17,12 @@ use deku_num::laws::field_law;
 use std::alloc::Global;
 use std::io::ErrorKind;
 
-/// The items as bytes, and read from these under the same fields: how many bits they took, and their values.
+/// The items as bytes, and read from these under the same fields: how many bits they took, and
+/// their values.
 ///
-/// It is refused as the first item is that is refused, written or read, or with `Io(OutOfMemory)` where no memory is found. Of fitting items whose order changes only at byte boundaries the latter is the one
-/// refusal.
+/// It is refused as the first item is that is refused, written or read, or with `Io(OutOfMemory)`
+/// where no memory is found. Of fitting items whose order changes only at byte boundaries the
+/// latter is the one refusal.
 ///
 /// ```text
 /// // 6 and 9 in four bits each, big and `Msb0`
@@ -53,8 +55,9 @@ fn fields_of(alloc: Global, items: &[Item]) -> Result<Vec<Field>, DekuError>
     Ok(fields)
 }
 
-/// Five values in fields of mixed orders as bytes, and read from these: four bits and four, high bits first, thirteen and three, low bits first, and two bytes with
-/// a sign, high byte first. They are the same values, and forty bits are counted; or no memory was found.
+/// Five values in fields of mixed orders as bytes, and read from these: four bits and four, high
+/// bits first, thirteen and three, low bits first, and two bytes with a sign, high byte first. They
+/// are the same values, and forty bits are counted; or no memory was found.
 ///
 /// The caller's conditions: each value has no more bits than its field.
 ///
@@ -73,7 +76,9 @@ pub fn five_there_and_back(
     requires kind { kind < 16 }
     requires span { span < 8192 }
     requires flags { flags < 8 }
-    ensures { MatchResult result (λ v. (v.0 ≡ 40) × (v.1.items ≡ Unsigned version ∷ Unsigned kind ∷ Unsigned span ∷ Unsigned flags ∷ Signed heat ∷ [])) (λ e. e ≡ Io OutOfMemory) }
+    ensures { MatchResult result (λ v. (v.0 ≡ 40)
+        × (v.1.items ≡ Unsigned version ∷ Unsigned kind ∷ Unsigned span ∷ Unsigned flags ∷ Signed
+        heat ∷ [])) (λ e. e ≡ Io OutOfMemory) }
 {
     field_law();
     let items = [
@@ -95,7 +100,14 @@ pub(crate) fn signed(value: i16) -> Number
 
 // A value in a field with its high bits first.
 pub(crate) fn high(kind: Kind, size: Size, value: Number) -> Item
-    ensures { result ≡ record { field = record { kind = kind; layout = record { endian = Endian.Big; order = Order.Msb0; size = size } }; value = value } }
+    ensures { result ≡ record {
+      field = record {
+        kind = kind;
+        layout = record
+            { endian = Endian.Big; order = Order.Msb0; size = size };
+      };
+      value = value;
+    } }
 {
     let layout = Layout {
         endian: Endian::Big,
@@ -108,7 +120,14 @@ pub(crate) fn high(kind: Kind, size: Size, value: Number) -> Item
 
 // A value in a field with its low bits first.
 pub(crate) fn low(kind: Kind, size: Size, value: Number) -> Item
-    ensures { result ≡ record { field = record { kind = kind; layout = record { endian = Endian.Little; order = Order.Lsb0; size = size } }; value = value } }
+    ensures { result ≡ record {
+      field = record {
+        kind = kind;
+        layout = record
+            { endian = Endian.Little; order = Order.Lsb0; size = size };
+      };
+      value = value;
+    } }
 {
     let layout = Layout {
         endian: Endian::Little,
@@ -119,9 +138,11 @@ pub(crate) fn low(kind: Kind, size: Size, value: Number) -> Item
     Item { field, value }
 }
 
-/// The values that the fields read from any bytes, written under the same fields: they are the bytes taken, unread bits zero.
+/// The values that the fields read from any bytes, written under the same fields: they are the
+/// bytes taken, unread bits zero.
 ///
-/// It is refused as the first field is that is refused where it is read, or with `Io(OutOfMemory)` where no memory is found.
+/// It is refused as the first field is that is refused where it is read, or with `Io(OutOfMemory)`
+/// where no memory is found.
 ///
 /// ```text
 /// // four bits, big and `Msb0`
@@ -143,7 +164,9 @@ pub fn rewritten(alloc: Global, bytes: &[u8], fields: &[Field]) -> Result<Vec<u8
 
 // An item of each field and its value.
 fn items_of(alloc: Global, fields: &[Field], values: &[Number]) -> Result<Vec<Item>, DekuError>
-    ensures { length values.now ≡ length fields.now → IfOk result (λ v. (list_fields v.items ≡ fields.now) × (list_values v.items ≡ values.now)) }
+    ensures { length values.now ≡ length fields.now
+        → IfOk result (λ v. (list_fields v.items ≡ fields.now)
+        × (list_values v.items ≡ values.now)) }
 {
     let mut items = Vec::new(alloc);
     for (place, field) in fields.iter().enumerate() {

@@ -22,8 +22,9 @@ pub type Map = HashMap<u8, u16, BuildHasherDefault<FoldHasher>>;
 /// A set of bytes.
 pub type Set = HashSet<u8, BuildHasherDefault<FoldHasher>>;
 
-/// Three pairs of a key and a value as bytes, and the value at a key of the map that is read from these under a count of three: it is the value of the last pair that has the key, and none where no
-/// pair has it; or no memory was found.
+/// Three pairs of a key and a value as bytes, and the value at a key of the map that is read from
+/// these under a count of three: it is the value of the last pair that has the key, and none where
+/// no pair has it; or no memory was found.
 pub fn value_at(
     alloc: Global,
     first: (u8, u16),
@@ -31,7 +32,8 @@ pub fn value_at(
     third: (u8, u16),
     key: u8,
 ) -> Result<Option<u16>, DekuError>
-    ensures { MatchResult result (λ v. v ≡ last_value key (first ∷ second ∷ third ∷ [])) (λ e. e ≡ Io OutOfMemory) }
+    ensures { MatchResult result (λ v. v ≡ last_value key (first ∷ second ∷ third ∷ []))
+        (λ e. e ≡ Io OutOfMemory) }
 {
     counted_law::<Endian, (u8, u16)>();
     length_law();
@@ -48,7 +50,8 @@ pub fn value_at(
     }
 }
 
-/// A key with two values, and a pair between them, as bytes and read as a map: at the key it has the last value, whatever the pair is; or no memory was found.
+/// A key with two values, and a pair between them, as bytes and read as a map: at the key it has
+/// the last value, whatever the pair is; or no memory was found.
 pub fn last_of_two(
     alloc: Global,
     key: u8,
@@ -61,13 +64,15 @@ pub fn last_of_two(
     value_at(alloc, (key, value), between, (key, last), key)
 }
 
-/// Bytes written one after the other, and of the set that is read from these under a count of as many whether it has a byte, and how many it has: it has those that were written, and of equal ones
-/// one; or no memory was found.
+/// Bytes written one after the other, and of the set that is read from these under a count of as
+/// many whether it has a byte, and how many it has: it has those that were written, and of equal
+/// ones one; or no memory was found.
 ///
 /// The caller's condition: the bits of the bytes can be counted.
 pub fn kept_once(alloc: Global, items: &Vec<u8>, byte: u8) -> Result<(bool, usize), DekuError>
     requires { 8 * length items.now.items < 2 ^ 64 }
-    ensures { MatchResult result (λ v. (v.0 ≡ is_member nat_eq items.now.items byte) × (v.1 ≡ distinct_count nat_eq items.now.items)) (λ e. e ≡ Io OutOfMemory) }
+    ensures { MatchResult result (λ v. (v.0 ≡ is_member nat_eq items.now.items byte)
+        × (v.1 ≡ distinct_count nat_eq items.now.items)) (λ e. e ≡ Io OutOfMemory) }
 {
     counted_law::<Endian, u8>();
     length_law();

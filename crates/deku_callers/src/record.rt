@@ -10,7 +10,8 @@ use deku_formats::udp::Udp;
 use deku_symmetry::laws::{from_bytes_law, to_bytes_law, whole_bytes_law};
 use std::alloc::Global;
 
-/// Any header of a datagram as bytes, and read from them again: it is the header, or no memory was found.
+/// Any header of a datagram as bytes, and read from them again: it is the header, or no memory was
+/// found.
 ///
 /// ```text
 /// there_and_back(alloc, header)?                             // the header
@@ -32,7 +33,8 @@ pub fn there_and_back(alloc: Global, header: Udp) -> Result<Udp, DekuError>
 
 /// The header that is read from any bytes, as bytes again: they are the first eight of those.
 ///
-/// It is refused with `Incomplete` where there are fewer than eight, or with `Io(OutOfMemory)` where no memory is found.
+/// It is refused with `Incomplete` where there are fewer than eight, or with `Io(OutOfMemory)`
+/// where no memory is found.
 ///
 /// ```text
 /// rewritten(alloc, &[0x9C, 0xBB, 0xD1, 0x1F, 0x00, 0x0A, 0xFE, 0x1D, 0x68])?     // without the last one

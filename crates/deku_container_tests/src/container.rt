@@ -41,7 +41,8 @@ fn expect_refused<T: DekuContainerRead>(
     }
 }
 
-// The source is read behind so many bits: so many were taken, this is read, and the source is at this place then.
+// The source is read behind so many bits: so many were taken, this is read, and the source is at
+// this place then.
 fn expect_taken<T: DekuContainerRead + PartialEq + Debug>(
     alloc: Global,
     source: &mut Cursor<&[u8]>,
@@ -137,7 +138,8 @@ fn refuses_short_bytes(rt: HostRuntime) -> Result<(), Fail> {
     expect_refused::<Pair>(alloc, (&[0xBE], 0), incomplete(16))
 }
 
-// Where the source of 12 34 56 stands, how many bits are left out, how many were taken, the byte, and where the source stands then.
+// Where the source of 12 34 56 stands, how many bits are left out, how many were taken, the byte,
+// and where the source stands then.
 type Taken = (u64, usize, usize, u8, u64);
 
 const TAKEN: [Taken; 5] = [

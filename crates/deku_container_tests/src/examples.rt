@@ -1,5 +1,9 @@
 //! The records of deku's own examples, written by hand.
 
+ghost use Rattle.deku.specs.declared.ctx.Order.TheVariants.{Lsb0};
+ghost use Rattle.deku.specs.Composing.{Answer, Then, Both, JoinedBy};
+ghost use Rattle.deku.specs.declared.ctx.Endian.TheVariants.{Big};
+
 use deku::ctx::Endian::Big;
 use deku::ctx::Order::Lsb0;
 use deku::ctx::{BitSize, ByteSize, Endian, Order};
@@ -18,14 +22,6 @@ pub struct Node {
 }
 
 impl DekuReader<()> for Node {
-    ghost use Rattle.std.specs.Prelude.{◌≡◌};
-    ghost use Rattle.deku.specs.declared.ctx.Order.TheVariants.{Lsb0};
-    ghost use Rattle.deku.specs.Composing.{Answer, Then};
-
-    ghost accepts = { λ c. c ≡ c };
-
-    ghost no_read_ahead = { λ c. c ≡ c };
-
     ghost meaning = { λ _.
         Then (⟦<u8 as DekuReader<(BitSize, Order)>>⟧.meaning (record { 0 = 4 }, Lsb0)) (λ kind.
         Then (⟦<u16 as DekuReader<(BitSize, Order)>>⟧.meaning (record { 0 = 12 }, Lsb0)) (λ mode.
@@ -51,12 +47,6 @@ impl DekuReader<()> for Node {
 }
 
 impl DekuWriter<()> for Node {
-    ghost use Rattle.std.specs.Prelude.{◌≡◌};
-    ghost use Rattle.deku.specs.declared.ctx.Order.TheVariants.{Lsb0};
-    ghost use Rattle.deku.specs.Composing.{Both};
-
-    ghost accepts = { λ c. c ≡ c };
-
     ghost meaning = { λ v _.
         Both (⟦<u8 as DekuWriter<(BitSize, Order)>>⟧.meaning v.kind (record { 0 = 4 }, Lsb0))
         (Both (⟦<u16 as DekuWriter<(BitSize, Order)>>⟧.meaning v.mode (record { 0 = 12 }, Lsb0))
@@ -85,16 +75,10 @@ pub struct Child {
 
 // Its endian is that of the record around it.
 impl DekuReader<Endian> for Child {
-    ghost use Rattle.std.specs.Prelude.{◌≡◌};
-    ghost use Rattle.deku.specs.Composing.{Answer, Then};
-
-    ghost accepts = { λ c. c ≡ c };
-
-    ghost no_read_ahead = { λ c. c ≡ c };
-
     ghost meaning = { λ endian.
         Then (⟦<u8 as DekuReader<Endian>>⟧.meaning endian) (λ byte.
-        Then (⟦<(u8, u8, u8) as DekuReader<(Endian, BitSize)>>⟧.meaning (endian, record { 0 = 1 })) (λ flags.
+        Then (⟦<(u8, u8, u8) as DekuReader<(Endian, BitSize)>>⟧.meaning (endian, record { 0 = 1 }))
+        (λ flags.
         Then (⟦<u8 as DekuReader<(Endian, BitSize)>>⟧.meaning (endian, record { 0 = 5 })) (λ five.
         Answer (record { byte = byte; flags = flags; five = five })))) };
 
@@ -110,14 +94,10 @@ impl DekuReader<Endian> for Child {
 }
 
 impl DekuWriter<Endian> for Child {
-    ghost use Rattle.std.specs.Prelude.{◌≡◌};
-    ghost use Rattle.deku.specs.Composing.{Both};
-
-    ghost accepts = { λ c. c ≡ c };
-
     ghost meaning = { λ v endian.
         Both (⟦<u8 as DekuWriter<Endian>>⟧.meaning v.byte endian)
-        (Both (⟦<(u8, u8, u8) as DekuWriter<(Endian, BitSize)>>⟧.meaning v.flags (endian, record { 0 = 1 }))
+        (Both (⟦<(u8, u8, u8) as DekuWriter<(Endian, BitSize)>>⟧.meaning v.flags
+        (endian, record { 0 = 1 }))
         (⟦<u8 as DekuWriter<(Endian, BitSize)>>⟧.meaning v.five (endian, record { 0 = 5 }))) };
 
     fn to_writer<W: Sink>(&self, writer: &mut Writer<W>, ctx: Endian) -> Result<(), DekuError> {
@@ -136,18 +116,11 @@ pub struct Parent {
 }
 
 impl DekuReader<()> for Parent {
-    ghost use Rattle.std.specs.Prelude.{◌≡◌};
-    ghost use Rattle.deku.specs.declared.ctx.Order.TheVariants.{Lsb0};
-    ghost use Rattle.deku.specs.declared.ctx.Endian.TheVariants.{Big};
-    ghost use Rattle.deku.specs.Composing.{Answer, Then};
-
-    ghost accepts = { λ c. c ≡ c };
-
-    ghost no_read_ahead = { λ c. c ≡ c };
-
     ghost meaning = { λ _.
-        Then (⟦<u16 as DekuReader<(Endian, BitSize, Order)>>⟧.meaning (Big, record { 0 = 13 }, Lsb0)) (λ wide.
-        Then (⟦<u8 as DekuReader<(Endian, BitSize, Order)>>⟧.meaning (Big, record { 0 = 3 }, Lsb0)) (λ narrow.
+        Then (⟦<u16 as DekuReader<(Endian, BitSize, Order)>>⟧.meaning
+        (Big, record { 0 = 13 }, Lsb0)) (λ wide.
+        Then (⟦<u8 as DekuReader<(Endian, BitSize, Order)>>⟧.meaning (Big, record { 0 = 3 }, Lsb0))
+        (λ narrow.
         Then (⟦<Child as DekuReader<Endian>>⟧.meaning Big) (λ child.
         Answer (record { wide = wide; narrow = narrow; child = child })))) };
 
@@ -167,16 +140,11 @@ impl DekuReader<()> for Parent {
 }
 
 impl DekuWriter<()> for Parent {
-    ghost use Rattle.std.specs.Prelude.{◌≡◌};
-    ghost use Rattle.deku.specs.declared.ctx.Order.TheVariants.{Lsb0};
-    ghost use Rattle.deku.specs.declared.ctx.Endian.TheVariants.{Big};
-    ghost use Rattle.deku.specs.Composing.{Both};
-
-    ghost accepts = { λ c. c ≡ c };
-
     ghost meaning = { λ v _.
-        Both (⟦<u16 as DekuWriter<(Endian, BitSize, Order)>>⟧.meaning v.wide (Big, record { 0 = 13 }, Lsb0))
-        (Both (⟦<u8 as DekuWriter<(Endian, BitSize, Order)>>⟧.meaning v.narrow (Big, record { 0 = 3 }, Lsb0))
+        Both (⟦<u16 as DekuWriter<(Endian, BitSize, Order)>>⟧.meaning v.wide
+        (Big, record { 0 = 13 }, Lsb0))
+        (Both (⟦<u8 as DekuWriter<(Endian, BitSize, Order)>>⟧.meaning v.narrow
+        (Big, record { 0 = 3 }, Lsb0))
         (⟦<Child as DekuWriter<Endian>>⟧.meaning v.child Big)) };
 
     fn to_writer<W: Sink>(&self, writer: &mut Writer<W>, _ctx: ()) -> Result<(), DekuError> {
@@ -198,14 +166,6 @@ pub struct LsbField {
 }
 
 impl DekuReader<()> for LsbField {
-    ghost use Rattle.std.specs.Prelude.{◌≡◌};
-    ghost use Rattle.deku.specs.declared.ctx.Order.TheVariants.{Lsb0};
-    ghost use Rattle.deku.specs.Composing.{JoinedBy};
-
-    ghost accepts = { λ c. c ≡ c };
-
-    ghost no_read_ahead = { λ c. c ≡ c };
-
     ghost meaning = { λ _. JoinedBy (λ a b. record { thirteen = a; three = b })
         (⟦<u16 as DekuReader<(BitSize, Order)>>⟧.meaning (record { 0 = 13 }, Lsb0))
         (⟦<u8 as DekuReader<(BitSize, Order)>>⟧.meaning (record { 0 = 3 }, Lsb0)) };
@@ -221,13 +181,8 @@ impl DekuReader<()> for LsbField {
 }
 
 impl DekuWriter<()> for LsbField {
-    ghost use Rattle.std.specs.Prelude.{◌≡◌};
-    ghost use Rattle.deku.specs.declared.ctx.Order.TheVariants.{Lsb0};
-    ghost use Rattle.deku.specs.Composing.{Both};
-
-    ghost accepts = { λ c. c ≡ c };
-
-    ghost meaning = { λ v _. Both (⟦<u16 as DekuWriter<(BitSize, Order)>>⟧.meaning v.thirteen (record { 0 = 13 }, Lsb0))
+    ghost meaning = { λ v _. Both (⟦<u16 as DekuWriter<(BitSize, Order)>>⟧.meaning v.thirteen
+        (record { 0 = 13 }, Lsb0))
         (⟦<u8 as DekuWriter<(BitSize, Order)>>⟧.meaning v.three (record { 0 = 3 }, Lsb0)) };
 
     fn to_writer<W: Sink>(&self, writer: &mut Writer<W>, _ctx: ()) -> Result<(), DekuError> {
@@ -248,14 +203,9 @@ pub struct Bytes {
 }
 
 impl DekuReader<()> for Bytes {
-    ghost use Rattle.std.specs.Prelude.{◌≡◌};
-    ghost use Rattle.deku.specs.Composing.{JoinedBy};
-
-    ghost accepts = { λ c. c ≡ c };
-
-    ghost no_read_ahead = { λ c. c ≡ c };
-
-    ghost meaning = { λ _. JoinedBy (λ a b. record { two = a; one = b }) (⟦<u32 as DekuReader<ByteSize>>⟧.meaning (record { 0 = 2 })) (⟦<u8 as DekuReader<()>>⟧.meaning tt) };
+    ghost meaning = { λ _. JoinedBy (λ a b. record { two = a; one = b })
+        (⟦<u32 as DekuReader<ByteSize>>⟧.meaning (record { 0 = 2 }))
+        (⟦<u8 as DekuReader<()>>⟧.meaning tt) };
 
     fn from_reader_with_ctx<R: Source>(
         reader: &mut Reader<R>,
@@ -268,12 +218,8 @@ impl DekuReader<()> for Bytes {
 }
 
 impl DekuWriter<()> for Bytes {
-    ghost use Rattle.std.specs.Prelude.{◌≡◌};
-    ghost use Rattle.deku.specs.Composing.{Both};
-
-    ghost accepts = { λ c. c ≡ c };
-
-    ghost meaning = { λ v _. Both (⟦<u32 as DekuWriter<ByteSize>>⟧.meaning v.two (record { 0 = 2 })) (⟦<u8 as DekuWriter<()>>⟧.meaning v.one tt) };
+    ghost meaning = { λ v _. Both (⟦<u32 as DekuWriter<ByteSize>>⟧.meaning v.two (record { 0 = 2 }))
+        (⟦<u8 as DekuWriter<()>>⟧.meaning v.one tt) };
 
     fn to_writer<W: Sink>(&self, writer: &mut Writer<W>, _ctx: ()) -> Result<(), DekuError> {
         self.two.to_writer(writer, ByteSize(2))?;

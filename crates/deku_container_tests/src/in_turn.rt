@@ -13,15 +13,16 @@ use std::alloc::Global;
 use std::io::Cursor;
 use std::test::Fail;
 
-// Two values from some bytes: where the first fetches no byte too early, the second begins at the byte behind those that the bits of the first
-// one fill.
+// Two values from some bytes: where the first fetches no byte too early, the second begins at the
+// byte behind those that the bits of the first one fill.
 fn in_turn<A: DekuContainerRead, B: DekuContainerRead>(
     alloc: Global,
     bytes: &[u8],
 ) -> Result<(A, B), DekuError>
     requires first { A.accepts tt }
     requires second { B.accepts tt }
-    ensures { IfOk result (λ p. A.no_read_ahead tt → (u : Standing (Option Stream)) × (v : Standing (Option Stream)) × FromFirst (Behind 0 (A.meaning tt)) bytes.now (Ok p.0) u
+    ensures { IfOk result (λ p. A.no_read_ahead tt → (u : Standing (Option Stream))
+        × (v : Standing (Option Stream)) × FromFirst (Behind 0 (A.meaning tt)) bytes.now (Ok p.0) u
         × FromFirst (Behind 0 (B.meaning tt)) (drop (groups (count_of u)) bytes.now) (Ok p.1) v) }
 {
     let mut input = Cursor::new(bytes);

@@ -1,5 +1,11 @@
 //! Records that update themselves, and enums whose variants have ids.
 
+ghost use Rattle.std.specs.Prelude.{◌≡◌, ◌⊎◌, ◌<◌, ◌≤◌, ◌^◌, length as count, Ok, Err, codes};
+ghost use Rattle.deku.specs.declared.error.DekuError.{DekuError as Refusal};
+ghost use Rattle.deku.specs.declared.error.DekuError.TheVariants.{Parse};
+ghost use Rattle.deku.specs.Faults.{Tells};
+ghost use Rattle.deku_container_tests.specs.declared.kept_in_step.Shape.TheVariants.{Point, Circle};
+
 use deku::prelude::{DekuEnumExt, DekuError, DekuUpdate};
 use deku_testing_values::expecting::same;
 use std::test::Fail;
@@ -11,15 +17,13 @@ struct Counted {
     payload: Vec<u8>,
 }
 
-/// The length is that of the payload. It is refused with `Parse("error parsing int")` where a byte cannot count so many; nothing changes.
+/// The length is that of the payload. It is refused with `Parse("error parsing int")` where a byte
+/// cannot count so many; nothing changes.
 impl DekuUpdate for Counted {
-    ghost use Rattle.std.specs.Prelude.{◌≡◌, ◌⊎◌, ◌<◌, ◌≤◌, ◌^◌, length as count, Ok, Err, codes};
-    ghost use Rattle.deku.specs.declared.error.DekuError.{DekuError as Refusal};
-    ghost use Rattle.deku.specs.declared.error.DekuError.TheVariants.{Parse};
-    ghost use Rattle.deku.specs.Faults.{Tells};
-
-    ghost updates = { λ v r w. ((count v.payload.items < 2 ^ 8) × (r ≡ Ok tt) × (w ≡ record v { length = count v.payload.items }))
-        ⊎ ((2 ^ 8 ≤ count v.payload.items) × ((e : Refusal) × (r ≡ Err e) × Tells Parse (codes "error parsing int") e) × (w ≡ v)) };
+    ghost updates = { λ v r w. ((count v.payload.items < 2 ^ 8) × (r ≡ Ok tt)
+        × (w ≡ record v { length = count v.payload.items }))
+        ⊎ ((2 ^ 8 ≤ count v.payload.items) × ((e : Refusal) × (r ≡ Err e)
+        × Tells Parse (codes "error parsing int") e) × (w ≡ v)) };
 
     fn update(&mut self) -> Result<(), DekuError> {
         self.length = u8::try_from(self.payload.len())?;
@@ -36,9 +40,6 @@ enum Shape {
 
 /// A point is 1, a circle 2.
 impl DekuEnumExt<u8> for Shape {
-    ghost use Rattle.std.specs.Prelude.{◌≡◌, Ok};
-    ghost use Rattle.deku_container_tests.specs.declared.kept_in_step.Shape.TheVariants.{Point, Circle};
-
     ghost has_id = { λ v r. r ≡ Ok (elim v [ Point ↦ 1 | Circle radius ↦ 2 ]) };
 
     fn deku_id(&self) -> Result<u8, DekuError> {
@@ -49,7 +50,8 @@ impl DekuEnumExt<u8> for Shape {
     }
 }
 
-// A count of bytes, what an update answers, and the length then: the one of the row above where it is refused.
+// A count of bytes, what an update answers, and the length then: the one of the row above where it
+// is refused.
 type Row = (usize, Result<(), DekuError>, u8);
 
 const ROWS: [Row; 3] = [

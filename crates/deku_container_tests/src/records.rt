@@ -1,5 +1,14 @@
 //! Records as a user writes them, by hand, with what reading and writing them means.
 
+ghost use Rattle.std.specs.Prelude.{pos};
+ghost use Rattle.deku.specs.Outcomes.{Mapped};
+ghost use Rattle.deku.specs.declared.ctx.Endian.TheVariants.{Big, Little};
+ghost use Rattle.deku.specs.declared.ctx.Order.TheVariants.{Lsb0};
+ghost use Rattle.deku.specs.Numbers.{byte};
+ghost use Rattle.deku.specs.NumberCalls.{ReadsUnsigned, WritesNumber};
+ghost use Rattle.deku.specs.declared.ctx.Size.TheVariants.{Bits};
+ghost use Rattle.deku.specs.Composing.{JoinedBy, Both, Answer};
+
 use deku::ctx::Endian::Big;
 use deku::ctx::Order::Lsb0;
 use deku::ctx::{BitSize, Endian};
@@ -15,14 +24,8 @@ pub struct Octet {
 }
 
 impl DekuReader<()> for Octet {
-    ghost use Rattle.std.specs.Prelude.{◌≡◌};
-    ghost use Rattle.deku.specs.Outcomes.{Mapped};
-
-    ghost accepts = { λ c. c ≡ c };
-
-    ghost no_read_ahead = { λ c. c ≡ c };
-
-    ghost meaning = { λ _. Mapped (λ v. record { value = v }) (⟦<u8 as DekuReader<()>>⟧.meaning tt) };
+    ghost meaning = { λ _. Mapped (λ v. record { value = v })
+        (⟦<u8 as DekuReader<()>>⟧.meaning tt) };
 
     fn from_reader_with_ctx<R: Source>(
         reader: &mut Reader<R>,
@@ -34,10 +37,6 @@ impl DekuReader<()> for Octet {
 }
 
 impl DekuWriter<()> for Octet {
-    ghost use Rattle.std.specs.Prelude.{◌≡◌};
-
-    ghost accepts = { λ c. c ≡ c };
-
     ghost meaning = { λ v _. ⟦<u8 as DekuWriter<()>>⟧.meaning v.value tt };
 
     fn to_writer<W: Sink>(&self, writer: &mut Writer<W>, _ctx: ()) -> Result<(), DekuError> {
@@ -56,15 +55,8 @@ pub struct Pair {
 }
 
 impl DekuReader<()> for Pair {
-    ghost use Rattle.std.specs.Prelude.{◌≡◌};
-    ghost use Rattle.deku.specs.Outcomes.{Mapped};
-    ghost use Rattle.deku.specs.declared.ctx.Endian.TheVariants.{Big};
-
-    ghost accepts = { λ c. c ≡ c };
-
-    ghost no_read_ahead = { λ c. c ≡ c };
-
-    ghost meaning = { λ _. Mapped (λ v. record { value = v }) (⟦<u16 as DekuReader<Endian>>⟧.meaning Big) };
+    ghost meaning = { λ _. Mapped (λ v. record { value = v })
+        (⟦<u16 as DekuReader<Endian>>⟧.meaning Big) };
 
     fn from_reader_with_ctx<R: Source>(
         reader: &mut Reader<R>,
@@ -76,11 +68,6 @@ impl DekuReader<()> for Pair {
 }
 
 impl DekuWriter<()> for Pair {
-    ghost use Rattle.std.specs.Prelude.{◌≡◌};
-    ghost use Rattle.deku.specs.declared.ctx.Endian.TheVariants.{Big};
-
-    ghost accepts = { λ c. c ≡ c };
-
     ghost meaning = { λ v _. ⟦<u16 as DekuWriter<Endian>>⟧.meaning v.value Big };
 
     fn to_writer<W: Sink>(&self, writer: &mut Writer<W>, _ctx: ()) -> Result<(), DekuError> {
@@ -99,19 +86,8 @@ pub struct Low {
 }
 
 impl DekuReader<()> for Low {
-    ghost use Rattle.std.specs.Prelude.{◌≡◌};
-    ghost use Rattle.deku.specs.declared.ctx.Order.TheVariants.{Lsb0};
-    ghost use Rattle.deku.specs.Outcomes.{Mapped};
-    ghost use Rattle.deku.specs.Numbers.{byte};
-    ghost use Rattle.deku.specs.NumberCalls.{ReadsUnsigned};
-    ghost use Rattle.deku.specs.declared.ctx.Endian.TheVariants.{Little};
-    ghost use Rattle.deku.specs.declared.ctx.Size.TheVariants.{Bits};
-
-    ghost accepts = { λ c. c ≡ c };
-
-    ghost no_read_ahead = { λ c. c ≡ c };
-
-    ghost meaning = { λ _. Mapped (λ v. record { value = v }) (ReadsUnsigned byte (record { endian = Little; order = Lsb0; size = Bits 3 })) };
+    ghost meaning = { λ _. Mapped (λ v. record { value = v })
+        (ReadsUnsigned byte (record { endian = Little; order = Lsb0; size = Bits 3 })) };
 
     fn from_reader_with_ctx<R: Source>(
         reader: &mut Reader<R>,
@@ -123,16 +99,8 @@ impl DekuReader<()> for Low {
 }
 
 impl DekuWriter<()> for Low {
-    ghost use Rattle.std.specs.Prelude.{◌≡◌, pos};
-    ghost use Rattle.deku.specs.declared.ctx.Order.TheVariants.{Lsb0};
-    ghost use Rattle.deku.specs.Numbers.{byte};
-    ghost use Rattle.deku.specs.NumberCalls.{WritesNumber};
-    ghost use Rattle.deku.specs.declared.ctx.Endian.TheVariants.{Little};
-    ghost use Rattle.deku.specs.declared.ctx.Size.TheVariants.{Bits};
-
-    ghost accepts = { λ c. c ≡ c };
-
-    ghost meaning = { λ v _. WritesNumber byte (record { endian = Little; order = Lsb0; size = Bits 3 }) (pos v.value) };
+    ghost meaning = { λ v _. WritesNumber byte (record
+        { endian = Little; order = Lsb0; size = Bits 3 }) (pos v.value) };
 
     fn to_writer<W: Sink>(&self, writer: &mut Writer<W>, _ctx: ()) -> Result<(), DekuError> {
         self.value.to_writer(writer, (BitSize(3), Lsb0))
@@ -151,14 +119,9 @@ pub struct Nine {
 }
 
 impl DekuReader<()> for Nine {
-    ghost use Rattle.std.specs.Prelude.{◌≡◌};
-    ghost use Rattle.deku.specs.Composing.{JoinedBy};
-
-    ghost accepts = { λ c. c ≡ c };
-
-    ghost no_read_ahead = { λ c. c ≡ c };
-
-    ghost meaning = { λ _. JoinedBy (λ a b. record { halves = a; flag = b }) (⟦<(u8, u8) as DekuReader<BitSize>>⟧.meaning (record { 0 = 4 })) (⟦<u8 as DekuReader<BitSize>>⟧.meaning (record { 0 = 1 })) };
+    ghost meaning = { λ _. JoinedBy (λ a b. record { halves = a; flag = b })
+        (⟦<(u8, u8) as DekuReader<BitSize>>⟧.meaning (record { 0 = 4 }))
+        (⟦<u8 as DekuReader<BitSize>>⟧.meaning (record { 0 = 1 })) };
 
     fn from_reader_with_ctx<R: Source>(
         reader: &mut Reader<R>,
@@ -171,12 +134,8 @@ impl DekuReader<()> for Nine {
 }
 
 impl DekuWriter<()> for Nine {
-    ghost use Rattle.std.specs.Prelude.{◌≡◌};
-    ghost use Rattle.deku.specs.Composing.{Both};
-
-    ghost accepts = { λ c. c ≡ c };
-
-    ghost meaning = { λ v _. Both (⟦<(u8, u8) as DekuWriter<BitSize>>⟧.meaning v.halves (record { 0 = 4 })) (⟦<u8 as DekuWriter<BitSize>>⟧.meaning v.flag (record { 0 = 1 })) };
+    ghost meaning = { λ v _. Both (⟦<(u8, u8) as DekuWriter<BitSize>>⟧.meaning v.halves
+        (record { 0 = 4 })) (⟦<u8 as DekuWriter<BitSize>>⟧.meaning v.flag (record { 0 = 1 })) };
 
     fn to_writer<W: Sink>(&self, writer: &mut Writer<W>, _ctx: ()) -> Result<(), DekuError> {
         self.halves.to_writer(writer, BitSize(4))?;
@@ -196,15 +155,9 @@ pub struct Head {
 }
 
 impl DekuReader<()> for Head {
-    ghost use Rattle.std.specs.Prelude.{◌≡◌};
-    ghost use Rattle.deku.specs.declared.ctx.Endian.TheVariants.{Big};
-    ghost use Rattle.deku.specs.Composing.{JoinedBy};
-
-    ghost accepts = { λ c. c ≡ c };
-
-    ghost no_read_ahead = { λ c. c ≡ c };
-
-    ghost meaning = { λ _. JoinedBy (λ a b. record { halves = a; number = b }) (⟦<(u8, u8) as DekuReader<(Endian, BitSize)>>⟧.meaning (Big, record { 0 = 4 })) (⟦<u16 as DekuReader<Endian>>⟧.meaning Big) };
+    ghost meaning = { λ _. JoinedBy (λ a b. record { halves = a; number = b })
+        (⟦<(u8, u8) as DekuReader<(Endian, BitSize)>>⟧.meaning (Big, record { 0 = 4 }))
+        (⟦<u16 as DekuReader<Endian>>⟧.meaning Big) };
 
     fn from_reader_with_ctx<R: Source>(
         reader: &mut Reader<R>,
@@ -217,13 +170,8 @@ impl DekuReader<()> for Head {
 }
 
 impl DekuWriter<()> for Head {
-    ghost use Rattle.std.specs.Prelude.{◌≡◌};
-    ghost use Rattle.deku.specs.declared.ctx.Endian.TheVariants.{Big};
-    ghost use Rattle.deku.specs.Composing.{Both};
-
-    ghost accepts = { λ c. c ≡ c };
-
-    ghost meaning = { λ v _. Both (⟦<(u8, u8) as DekuWriter<(Endian, BitSize)>>⟧.meaning v.halves (Big, record { 0 = 4 })) (⟦<u16 as DekuWriter<Endian>>⟧.meaning v.number Big) };
+    ghost meaning = { λ v _. Both (⟦<(u8, u8) as DekuWriter<(Endian, BitSize)>>⟧.meaning v.halves
+        (Big, record { 0 = 4 })) (⟦<u16 as DekuWriter<Endian>>⟧.meaning v.number Big) };
 
     fn to_writer<W: Sink>(&self, writer: &mut Writer<W>, _ctx: ()) -> Result<(), DekuError> {
         self.halves.to_writer(writer, (Big, BitSize(4)))?;
@@ -240,13 +188,6 @@ impl DekuContainerWrite for Head {}
 pub struct Empty {}
 
 impl DekuReader<()> for Empty {
-    ghost use Rattle.std.specs.Prelude.{◌≡◌};
-    ghost use Rattle.deku.specs.Composing.{Answer};
-
-    ghost accepts = { λ c. c ≡ c };
-
-    ghost no_read_ahead = { λ c. c ≡ c };
-
     ghost meaning = { λ _. Answer (record {}) };
 
     fn from_reader_with_ctx<R: Source>(
@@ -258,11 +199,6 @@ impl DekuReader<()> for Empty {
 }
 
 impl DekuWriter<()> for Empty {
-    ghost use Rattle.std.specs.Prelude.{◌≡◌};
-    ghost use Rattle.deku.specs.Composing.{Answer};
-
-    ghost accepts = { λ c. c ≡ c };
-
     ghost meaning = { λ _ _. Answer tt };
 
     fn to_writer<W: Sink>(&self, _writer: &mut Writer<W>, _ctx: ()) -> Result<(), DekuError> {

@@ -1,5 +1,8 @@
 //! One sample.
 
+ghost use Rattle.deku.specs.Composing.{JoinedBy, Both};
+ghost use Rattle.deku.specs.declared.ctx.Endian.TheVariants.{Big};
+
 use deku::ctx::Endian::Big;
 use deku::ctx::{BitSize, Endian};
 use deku::device::{Sink, Source};
@@ -7,7 +10,8 @@ use deku::prelude::{
     DekuContainerRead, DekuContainerWrite, DekuError, DekuReader, DekuWriter, Reader, Writer,
 };
 
-/// Four bits of a sensor's number, four of its state, and two bytes of a value, all with their high bits first.
+/// Four bits of a sensor's number, four of its state, and two bytes of a value, all with their high
+/// bits first.
 #[derive(Debug, PartialEq, Eq, Drop)]
 pub struct Sample {
     pub sensor: u8,
@@ -16,15 +20,8 @@ pub struct Sample {
 }
 
 impl DekuReader<()> for Sample {
-    ghost use Rattle.std.specs.Prelude.{◌≡◌};
-    ghost use Rattle.deku.specs.Composing.{JoinedBy};
-    ghost use Rattle.deku.specs.declared.ctx.Endian.TheVariants.{Big};
-
-    ghost accepts = { λ c. c ≡ c };
-
-    ghost no_read_ahead = { λ c. c ≡ c };
-
-    ghost meaning = { λ _. JoinedBy (λ halves value. record { sensor = halves.0; state = halves.1; value = value })
+    ghost meaning = { λ _. JoinedBy (λ halves value. record
+        { sensor = halves.0; state = halves.1; value = value })
         (⟦<(u8, u8) as DekuReader<(Endian, BitSize)>>⟧.meaning (Big, record { 0 = 4 }))
         (⟦<u16 as DekuReader<Endian>>⟧.meaning Big) };
 
@@ -43,14 +40,9 @@ impl DekuReader<()> for Sample {
 }
 
 impl DekuWriter<()> for Sample {
-    ghost use Rattle.std.specs.Prelude.{◌≡◌};
-    ghost use Rattle.deku.specs.Composing.{Both};
-    ghost use Rattle.deku.specs.declared.ctx.Endian.TheVariants.{Big};
-
-    ghost accepts = { λ c. c ≡ c };
-
     ghost meaning = { λ sample _. Both
-        (⟦<(u8, u8) as DekuWriter<(Endian, BitSize)>>⟧.meaning (sample.sensor, sample.state) (Big, record { 0 = 4 }))
+        (⟦<(u8, u8) as DekuWriter<(Endian, BitSize)>>⟧.meaning (sample.sensor, sample.state)
+        (Big, record { 0 = 4 }))
         (⟦<u16 as DekuWriter<Endian>>⟧.meaning sample.value Big) };
 
     fn to_writer<W: Sink>(&self, writer: &mut Writer<W>, _ctx: ()) -> Result<(), DekuError> {

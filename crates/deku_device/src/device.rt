@@ -21,30 +21,36 @@ use std::io::{AsBytes, Cursor, Error, ErrorKind, Read, Seek, SeekFrom, Write};
 
 /// A reader that can seek, whose bytes to come and whose count of failures may be known.
 ///
-/// `fetch` is `read_exact` and `pass` is `seek(SeekFrom::Current(n))`, under laws: what is told stays true, and a call fails
-/// only where a told count of failures rises, but for the end of input. `try_take` is a look at eight bytes that lie in memory and a `pass` of some of
-/// them; a source that has none at hand is read by `fetch` alone.
+/// `fetch` is `read_exact` and `pass` is `seek(SeekFrom::Current(n))`, under laws: what is told
+/// stays true, and a call fails only where a told count of failures rises, but for the end of
+/// input. `try_take` is a look at eight bytes that lie in memory and a `pass` of some of them; a
+/// source that has none at hand is read by `fetch` alone.
 pub trait Source: Read + Seek {
     // What it tells: the bytes to come, the count of failures, the references on the way.
     ghost known: { Self → KnownSource };
 
     /// Fills the buffer with the next bytes.
     ///
-    /// Fails with `UnexpectedEof` only where fewer bytes are to come, and else only where the device fails. Then it is open what the buffer
-    /// holds, and how many bytes are still to come.
+    /// Fails with `UnexpectedEof` only where fewer bytes are to come, and else only where the
+    /// device fails. Then it is open what the buffer holds, and how many bytes are still to come.
     ///
     /// ```text
     /// let mut buf = [0; 2];
     /// source.fetch(&mut buf)?;             // from 01 02 03: 01 02; the next byte to come is 03
     /// ```
     fn fetch(&mut self, buf: &mut [u8]) -> io::Result<()>
-        ensures bytes { OnOk result (Consumes (known self.old).remaining (known self.new).remaining buf.new) }
-        ensures short { IfErr result (λ e. error_kind e ≡ ErrorKind.UnexpectedEof → FewerThan (length buf.old) (known self.old).remaining) }
-        ensures ended { IfErr result (λ e. error_kind e ≡ ErrorKind.UnexpectedEof → StaysEmpty (known self.old).remaining (known self.new).remaining) }
-        ensures failed { IfErr result (λ e. error_kind e ≢ ErrorKind.UnexpectedEof → DeviceFailed (known self.old).health (known self.new).health) }
+        ensures bytes { OnOk result (Consumes (known self.old).remaining (known self.new).remaining
+            buf.new) }
+        ensures short { IfErr result (λ e. error_kind e ≡ ErrorKind.UnexpectedEof
+            → FewerThan (length buf.old) (known self.old).remaining) }
+        ensures ended { IfErr result (λ e. error_kind e ≡ ErrorKind.UnexpectedEof
+            → StaysEmpty (known self.old).remaining (known self.new).remaining) }
+        ensures failed { IfErr result (λ e. error_kind e ≢ ErrorKind.UnexpectedEof
+            → DeviceFailed (known self.old).health (known self.new).health) }
         ensures kept { DeviceKept (known self.old).health (known self.new).health };
 
-    /// Leaves out the next `n` bytes, or all where fewer are to come. The caller's condition: `n` is at most `i64::MAX`, since it is a seek.
+    /// Leaves out the next `n` bytes, or all where fewer are to come. The caller's condition: `n`
+    /// is at most `i64::MAX`, since it is a seek.
     ///
     /// Fails only where the device fails.
     ///
@@ -53,14 +59,19 @@ pub trait Source: Read + Seek {
     /// ```
     fn pass(&mut self, n: u64) -> io::Result<()>
         requires { n < 2 ^ 63 }
-        ensures bytes { OnOk result (Passes n (known self.old).remaining (known self.new).remaining) }
-        ensures failed { IfErr result (λ e. DeviceFailed (known self.old).health (known self.new).health) }
+        ensures bytes { OnOk result (Passes n (known self.old).remaining
+            (known self.new).remaining) }
+        ensures failed { IfErr result (λ e. DeviceFailed (known self.old).health
+            (known self.new).health) }
         ensures kept { DeviceKept (known self.old).health (known self.new).health };
 
-    /// The next eight bytes, where they are at hand, of which the first `n` are passed. The caller's condition: `n` is at most 8.
+    /// The next eight bytes, where they are at hand, of which the first `n` are passed. The
+    /// caller's condition: `n` is at most 8.
     ///
-    /// The bytes behind the first `n` are still to come. It answers none where the next eight are not at hand, as where fewer are to come, and may
-    /// do so always, as it does where an implementation does not say otherwise. Then nothing moves, and it says nothing of what is to come.
+    /// The bytes behind the first `n` are still to come. It answers none where the next eight are
+    /// not at hand, as where fewer are to come, and may do so always, as it does where an
+    /// implementation does not say otherwise. Then nothing moves, and it says nothing of what is to
+    /// come.
     ///
     /// ```text
     /// let mut source = Cursor::new(bytes); // 01 02 03 04 05 06 07 08 09
@@ -69,8 +80,10 @@ pub trait Source: Read + Seek {
     /// ```
     fn try_take(&mut self, n: usize) -> Option<[u8; 8]>
         requires { n ≤ 8 }
-        ensures bytes { IfSome result (λ eight. Consumes (known self.old).remaining (known self.new).remaining (take n eight)) }
-        ensures ahead { IfSome result (λ eight. BeginsWith (drop n eight) (known self.new).remaining) }
+        ensures bytes { IfSome result (λ eight. Consumes (known self.old).remaining
+            (known self.new).remaining (take n eight)) }
+        ensures ahead { IfSome result (λ eight. BeginsWith (drop n eight)
+            (known self.new).remaining) }
         ensures none { IsNone result → self.new ≡ self.old }
         ensures kept { DeviceKept (known self.old).health (known self.new).health }
     {
@@ -78,7 +91,8 @@ pub trait Source: Read + Seek {
         None
     }
 
-    /// Puts the next `n` bytes behind those of the vector. The caller's condition: the vector has room for them, so no memory is asked for.
+    /// Puts the next `n` bytes behind those of the vector. The caller's condition: the vector has
+    /// room for them, so no memory is asked for.
     ///
     /// It fails as `fetch` does for so many bytes. Then it is open what the vector holds.
     ///
@@ -89,12 +103,16 @@ pub trait Source: Read + Seek {
     /// ```
     fn fetch_onto(&mut self, bytes: &mut Vec<u8>, n: usize) -> io::Result<()>
         requires { vec_len bytes.old + n ≤ vec_capacity bytes.old }
-        ensures bytes { OnOk result (Consumes (known self.old).remaining (known self.new).remaining (drop (vec_len bytes.old) bytes.new.items)) }
+        ensures bytes { OnOk result (Consumes (known self.old).remaining (known self.new).remaining
+            (drop (vec_len bytes.old) bytes.new.items)) }
         ensures held { OnOk result (take (vec_len bytes.old) bytes.new.items ≡ bytes.old.items) }
         ensures count { OnOk result (vec_len bytes.new ≡ vec_len bytes.old + n) }
-        ensures short { IfErr result (λ e. error_kind e ≡ ErrorKind.UnexpectedEof → FewerThan n (known self.old).remaining) }
-        ensures ended { IfErr result (λ e. error_kind e ≡ ErrorKind.UnexpectedEof → StaysEmpty (known self.old).remaining (known self.new).remaining) }
-        ensures failed { IfErr result (λ e. error_kind e ≢ ErrorKind.UnexpectedEof → DeviceFailed (known self.old).health (known self.new).health) }
+        ensures short { IfErr result (λ e. error_kind e ≡ ErrorKind.UnexpectedEof
+            → FewerThan n (known self.old).remaining) }
+        ensures ended { IfErr result (λ e. error_kind e ≡ ErrorKind.UnexpectedEof
+            → StaysEmpty (known self.old).remaining (known self.new).remaining) }
+        ensures failed { IfErr result (λ e. error_kind e ≢ ErrorKind.UnexpectedEof
+            → DeviceFailed (known self.old).health (known self.new).health) }
         ensures kept { DeviceKept (known self.old).health (known self.new).health }
     {
         let held = bytes.len();
@@ -106,46 +124,54 @@ pub trait Source: Read + Seek {
 
     /// Seeks, as `seek` does.
     ///
-    /// Where all bytes are told, it leads to its target and is refused only where there is none or the device fails; those from there on are to
-    /// come then.
+    /// Where all bytes are told, it leads to its target and is refused only where there is none or
+    /// the device fails; those from there on are to come then.
     ///
     /// ```text
     /// source.seek_to(SeekFrom::Start(2))?;      // from 01 02 03: 2; the next byte to come is 03
     /// ```
     fn seek_to(&mut self, to: SeekFrom) -> io::Result<u64>
-        ensures moves { SeekMoves (Self.stream_position self.old) (Self.stream_position self.new) (Self.stream_bytes self.old) to result }
+        ensures moves { SeekMoves (Self.stream_position self.old) (Self.stream_position self.new)
+            (Self.stream_bytes self.old) to result }
         ensures all { Keeps (Self.stream_bytes self.old) (Self.stream_bytes self.new) }
         ensures sought { Seeks (known self.old).health (known self.new).health to result }
         ensures refused { RefusedSeek (known self.old).health (known self.new).health to result }
         ensures remaining { ComesFrom (known self.old).health.whole result (known self.new) };
 
     // Where all its bytes and its place among them are known, it tells those from there on.
-    ghost known_by_place: { (s : Self) (at : ℕ) (all : List ℕ) → Self.stream_position s ≡ Some at → Self.stream_bytes s ≡ Some all → (known s).remaining ≡ Some (drop at all) };
+    ghost known_by_place: { (s : Self) (at : ℕ) (all : List ℕ) → Self.stream_position s ≡ Some at
+        → Self.stream_bytes s ≡ Some all → (known s).remaining ≡ Some (drop at all) };
 }
 
 /// A writer that can seek, whose bytes taken, whose room and whose count of failures may be known.
 ///
-/// `give` is `write_all`, under laws: what is told stays true, and a call fails only where a told count of failures rises, where
-/// the room that is told is too small, or, where no room is told, where no memory is found. `try_put` gives at most eight bytes in one
-/// step where memory has room for eight, and is never refused: a sink that has no such room, or no memory, leaves it as it is.
+/// `give` is `write_all`, under laws: what is told stays true, and a call fails only where a told
+/// count of failures rises, where the room that is told is too small, or, where no room is told,
+/// where no memory is found. `try_put` gives at most eight bytes in one step where memory has room
+/// for eight, and is never refused: a sink that has no such room, or no memory, leaves it as it is.
 pub trait Sink: Write + Seek {
-    // What it tells: the bytes taken, those that lie in the room left, the count of failures, the references on the way.
+    // What it tells: the bytes taken, those that lie in the room left, the count of failures, the
+    // references on the way.
     ghost known: { Self → KnownSink };
 
     /// Gives all the bytes.
     ///
-    /// Fails with `WriteZero` where the room that is told is too small, with `OutOfMemory` where no room is told and no memory is found, and else
-    /// only where the device fails. Then it took a beginning of them, and it is open how many.
+    /// Fails with `WriteZero` where the room that is told is too small, with `OutOfMemory` where no
+    /// room is told and no memory is found, and else only where the device fails. Then it took a
+    /// beginning of them, and it is open how many.
     ///
     /// ```text
     /// sink.give(&[1, 2])?;                 // a slice with one byte of room refuses it with WriteZero
     /// ```
     fn give(&mut self, bytes: &[u8]) -> io::Result<()>
         ensures ok { OnOk result (Gave (known self.old) (known self.new) bytes.now) }
-        ensures err { IfErr result (λ e. Declined (known self.old) (known self.new) bytes.now (error_kind e)) };
+        ensures err { IfErr result (λ e. Declined (known self.old) (known self.new) bytes.now
+            (error_kind e)) };
 
-    /// Gives the first `n` of eight bytes, where it has room for eight at hand, and answers whether it did. The caller's condition: `n` is at most 8.
-    /// Its place moves by `n`, and what lies behind them stays. Where it answers `false` nothing is given and nothing changes, and `give` says more.
+    /// Gives the first `n` of eight bytes, where it has room for eight at hand, and answers whether
+    /// it did. The caller's condition: `n` is at most 8. Its place moves by `n`, and what lies
+    /// behind them stays. Where it answers `false` nothing is given and nothing changes, and `give`
+    /// says more.
     ///
     /// ```text
     /// let mut sink = Cursor::new(&mut room[..]);         // nine bytes of room
@@ -163,14 +189,15 @@ pub trait Sink: Write + Seek {
 
     /// Seeks, as `seek` does.
     ///
-    /// Where all bytes are told, it leads to its target and is refused only where there is none or the device fails; those before it are taken
-    /// then, and those from there on lie in the room.
+    /// Where all bytes are told, it leads to its target and is refused only where there is none or
+    /// the device fails; those before it are taken then, and those from there on lie in the room.
     ///
     /// ```text
     /// sink.seek_to(SeekFrom::Start(0))?;        // 0; the next bytes are laid over the first
     /// ```
     fn seek_to(&mut self, to: SeekFrom) -> io::Result<u64>
-        ensures moves { SeekMoves (Self.stream_position self.old) (Self.stream_position self.new) (Self.stream_bytes self.old) to result }
+        ensures moves { SeekMoves (Self.stream_position self.old) (Self.stream_position self.new)
+            (Self.stream_bytes self.old) to result }
         ensures all { Keeps (Self.stream_bytes self.old) (Self.stream_bytes self.new) }
         ensures sought { Seeks (known self.old).health (known self.new).health to result }
         ensures refused { RefusedSeek (known self.old).health (known self.new).health to result }
@@ -180,7 +207,12 @@ pub trait Sink: Write + Seek {
 impl<S: Source> Source for &mut S {
     ghost known = { λ s. record {
       remaining = (S.known s.now).remaining;
-      health = record { failures = (S.known s.now).health.failures; lenders = s.ghost_name ∷ (S.known s.now).health.lenders; whole = (S.known s.now).health.whole };
+      health = record {
+        failures = (S.known s.now).health.failures;
+        lenders = s.ghost_name ∷
+            (S.known s.now).health.lenders;
+        whole = (S.known s.now).health.whole;
+      };
     } };
 
     ghost known_by_place = { λ s. S.known_by_place s.now };
@@ -213,7 +245,12 @@ impl<S: Sink> Sink for &mut S {
     ghost known = { λ s. record {
       taken = (S.known s.now).taken;
       room = (S.known s.now).room;
-      health = record { failures = (S.known s.now).health.failures; lenders = s.ghost_name ∷ (S.known s.now).health.lenders; whole = (S.known s.now).health.whole };
+      health = record {
+        failures = (S.known s.now).health.failures;
+        lenders = s.ghost_name ∷
+            (S.known s.now).health.lenders;
+        whole = (S.known s.now).health.whole;
+      };
     } };
 
     #[inline(always)]
@@ -271,11 +308,15 @@ impl<T: AsBytes> Source for Cursor<T> {
 
     #[inline(always)]
     fn fetch(&mut self, buf: &mut [u8]) -> io::Result<()>
-        ensures bytes { OnOk result (Consumes (cursor_remaining T.bytes self.old) (cursor_remaining T.bytes self.new) buf.new) }
-        ensures short { IfErr result (λ e. (error_kind e ≡ ErrorKind.UnexpectedEof) × FewerThan (length buf.old) (cursor_remaining T.bytes self.old)) }
-        ensures place { OnOk result (cursor_position self.new ≡ cursor_position self.old + length buf.new) }
+        ensures bytes { OnOk result (Consumes (cursor_remaining T.bytes self.old)
+            (cursor_remaining T.bytes self.new) buf.new) }
+        ensures short { IfErr result (λ e. (error_kind e ≡ ErrorKind.UnexpectedEof)
+            × FewerThan (length buf.old) (cursor_remaining T.bytes self.old)) }
+        ensures place { OnOk result (cursor_position self.new ≡ cursor_position self.old + length
+            buf.new) }
         ensures inner { cursor_inner self.new ≡ cursor_inner self.old }
-        ensures kept { DeviceKept (cursor_source T.bytes self.old).health (cursor_source T.bytes self.new).health }
+        ensures kept { DeviceKept (cursor_source T.bytes self.old).health
+            (cursor_source T.bytes self.new).health }
         // A fetch that is refused moves nothing.
         ensures stays { OnErr result (self.new ≡ self.old) }
     {
@@ -289,12 +330,14 @@ impl<T: AsBytes> Source for Cursor<T> {
 
     fn pass(&mut self, n: u64) -> io::Result<()>
         requires { n < 2 ^ 63 }
-        ensures bytes { Passes n (cursor_remaining T.bytes self.old) (cursor_remaining T.bytes self.new) }
+        ensures bytes { Passes n (cursor_remaining T.bytes self.old)
+            (cursor_remaining T.bytes self.new) }
         ensures ok { IsOk result }
         // It may pass the end, as a seek does.
         ensures place { cursor_position self.new ≡ place_on (cursor_position self.old) n }
         ensures inner { cursor_inner self.new ≡ cursor_inner self.old }
-        ensures kept { DeviceKept (cursor_source T.bytes self.old).health (cursor_source T.bytes self.new).health }
+        ensures kept { DeviceKept (cursor_source T.bytes self.old).health
+            (cursor_source T.bytes self.new).health }
     {
         let at = self.position();
         let end = place_after(self.get_ref().as_byte_slice(), at, n);
@@ -305,14 +348,18 @@ impl<T: AsBytes> Source for Cursor<T> {
     #[inline(always)]
     fn try_take(&mut self, n: usize) -> Option<[u8; 8]>
         requires { n ≤ 8 }
-        ensures bytes { IfSome result (λ eight. Consumes (cursor_remaining T.bytes self.old) (cursor_remaining T.bytes self.new) (take n eight)) }
-        ensures ahead { IfSome result (λ eight. BeginsWith (drop n eight) (cursor_remaining T.bytes self.new)) }
+        ensures bytes { IfSome result (λ eight. Consumes (cursor_remaining T.bytes self.old)
+            (cursor_remaining T.bytes self.new) (take n eight)) }
+        ensures ahead { IfSome result (λ eight. BeginsWith (drop n eight)
+            (cursor_remaining T.bytes self.new)) }
         ensures none { IsNone result → self.new ≡ self.old }
         // None only where fewer than eight bytes are to come.
         ensures short { IsNone result → FewerThan 8 (cursor_remaining T.bytes self.old) }
-        ensures place { IfSome result (λ eight. cursor_position self.new ≡ cursor_position self.old + n) }
+        ensures place { IfSome result (λ eight. cursor_position self.new ≡ cursor_position self.old
+            + n) }
         ensures inner { cursor_inner self.new ≡ cursor_inner self.old }
-        ensures kept { DeviceKept (cursor_source T.bytes self.old).health (cursor_source T.bytes self.new).health }
+        ensures kept { DeviceKept (cursor_source T.bytes self.old).health
+            (cursor_source T.bytes self.new).health }
     {
         let at = self.position();
         let eight = eight_at(self.get_ref().as_byte_slice(), at, n)?;
@@ -323,13 +370,16 @@ impl<T: AsBytes> Source for Cursor<T> {
     #[inline(always)]
     fn fetch_onto(&mut self, bytes: &mut Vec<u8>, n: usize) -> io::Result<()>
         requires { vec_len bytes.old + n ≤ vec_capacity bytes.old }
-        ensures bytes { OnOk result (Consumes (cursor_remaining T.bytes self.old) (cursor_remaining T.bytes self.new) (drop (vec_len bytes.old) bytes.new.items)) }
+        ensures bytes { OnOk result (Consumes (cursor_remaining T.bytes self.old)
+            (cursor_remaining T.bytes self.new) (drop (vec_len bytes.old) bytes.new.items)) }
         ensures held { OnOk result (take (vec_len bytes.old) bytes.new.items ≡ bytes.old.items) }
         ensures count { OnOk result (vec_len bytes.new ≡ vec_len bytes.old + n) }
-        ensures short { IfErr result (λ e. (error_kind e ≡ ErrorKind.UnexpectedEof) × FewerThan n (cursor_remaining T.bytes self.old)) }
+        ensures short { IfErr result (λ e. (error_kind e ≡ ErrorKind.UnexpectedEof)
+            × FewerThan n (cursor_remaining T.bytes self.old)) }
         ensures place { OnOk result (cursor_position self.new ≡ cursor_position self.old + n) }
         ensures inner { cursor_inner self.new ≡ cursor_inner self.old }
-        ensures kept { DeviceKept (cursor_source T.bytes self.old).health (cursor_source T.bytes self.new).health }
+        ensures kept { DeviceKept (cursor_source T.bytes self.old).health
+            (cursor_source T.bytes self.new).health }
         // One that is refused moves nothing, and leaves the vector's bytes.
         ensures stays { OnErr result (self.new ≡ self.old) }
         ensures same { OnErr result (bytes.new.items ≡ bytes.old.items) }
@@ -343,10 +393,13 @@ impl<T: AsBytes> Source for Cursor<T> {
     }
 
     fn seek_to(&mut self, to: SeekFrom) -> io::Result<u64>
-        ensures moves { SeekMoves (Some (cursor_position self.old)) (Some (cursor_position self.new)) (T.bytes (cursor_inner self.old)) to result }
+        ensures moves { SeekMoves (Some (cursor_position self.old))
+            (Some (cursor_position self.new)) (T.bytes (cursor_inner self.old)) to result }
         ensures all { Keeps (T.bytes (cursor_inner self.old)) (T.bytes (cursor_inner self.new)) }
-        ensures sought { Seeks (cursor_source T.bytes self.old).health (cursor_source T.bytes self.new).health to result }
-        ensures refused { RefusedSeek (cursor_source T.bytes self.old).health (cursor_source T.bytes self.new).health to result }
+        ensures sought { Seeks (cursor_source T.bytes self.old).health
+            (cursor_source T.bytes self.new).health to result }
+        ensures refused { RefusedSeek (cursor_source T.bytes self.old).health
+            (cursor_source T.bytes self.new).health to result }
         ensures remaining { ComesFrom (cursor_source T.bytes self.old).health.whole result (cursor_source T.bytes self.new) }
         ensures inner { cursor_inner self.new ≡ cursor_inner self.old }
     {
@@ -359,8 +412,10 @@ impl<T: AsBytes> Source for Cursor<T> {
 fn eight_at(all: &[u8], at: u64, n: usize) -> Option<[u8; 8]>
     requires { n ≤ 8 }
     ensures fits { IfSome result (λ eight. at + n < 2 ^ 64) }
-    ensures bytes { IfSome result (λ eight. drop at all.now ≡ take n eight ++ drop (at + n) all.now) }
-    ensures ahead { IfSome result (λ eight. BeginsWith (drop n eight) (Some (drop (at + n) all.now))) }
+    ensures bytes { IfSome result (λ eight. drop at all.now ≡ take n eight ++ drop (at + n)
+        all.now) }
+    ensures ahead { IfSome result (λ eight. BeginsWith (drop n eight)
+        (Some (drop (at + n) all.now))) }
     ensures short { IsNone result → FewerThan 8 (Some (drop at all.now)) }
 {
     let _passed = n;
@@ -385,7 +440,8 @@ fn place_after(all: &[u8], at: u64, n: u64) -> u64
 fn copy_at(all: &[u8], at: u64, buf: &mut [u8]) -> bool
     ensures fits { IsTrue result → at + length buf.old < 2 ^ 64 }
     ensures short { IsFalse result → FewerThan (length buf.old) (Some (drop at all.now)) }
-    ensures bytes { IsTrue result → drop at all.now ≡ buf.new ++ drop (at + length buf.old) all.now }
+    ensures bytes { IsTrue result → drop at all.now ≡ buf.new ++ drop (at + length buf.old)
+        all.now }
 {
     if buf.is_empty() {
         return true;
@@ -398,14 +454,16 @@ fn copy_at(all: &[u8], at: u64, buf: &mut [u8]) -> bool
     true
 }
 
-// Puts so many of the bytes from this place on behind those of the vector, which has room for them, or answers that they are too few.
+// Puts so many of the bytes from this place on behind those of the vector, which has room for them,
+// or answers that they are too few.
 #[inline(always)]
 fn append_at(all: &[u8], at: u64, bytes: &mut Vec<u8>, n: usize) -> bool
     requires { vec_len bytes.old + n ≤ vec_capacity bytes.old }
     ensures fits { IsTrue result → at + n < 2 ^ 64 }
     ensures short { IsFalse result → FewerThan n (Some (drop at all.now)) }
     ensures same { IsFalse result → bytes.new.items ≡ bytes.old.items }
-    ensures bytes { IsTrue result → drop at all.now ≡ drop (vec_len bytes.old) bytes.new.items ++ drop (at + n) all.now }
+    ensures bytes { IsTrue result → drop at all.now ≡ drop (vec_len bytes.old) bytes.new.items ++
+        drop (at + n) all.now }
     ensures held { IsTrue result → take (vec_len bytes.old) bytes.new.items ≡ bytes.old.items }
     ensures count { IsTrue result → vec_len bytes.new ≡ vec_len bytes.old + n }
 {
@@ -426,10 +484,14 @@ impl Sink for Cursor<&mut [u8]> {
     #[inline(always)]
     fn give(&mut self, bytes: &[u8]) -> io::Result<()>
         ensures ok { OnOk result (Gave (known_slice self.old) (known_slice self.new) bytes.now) }
-        ensures err { IfErr result (λ e. Declined (known_slice self.old) (known_slice self.new) bytes.now (error_kind e)) }
+        ensures err { IfErr result (λ e. Declined (known_slice self.old) (known_slice self.new)
+            bytes.now (error_kind e)) }
         // As many of the bytes as fit are laid over those that lie there, also where it is refused.
-        ensures written { (cursor_inner self.new).now ≡ overlaid (cursor_inner self.old).now (cursor_position self.old) (fitting_front (cursor_inner self.old).now (cursor_position self.old) bytes.now) }
-        ensures place { cursor_position self.new ≡ cursor_position self.old + length (fitting_front (cursor_inner self.old).now (cursor_position self.old) bytes.now) }
+        ensures written { (cursor_inner self.new).now ≡ overlaid (cursor_inner self.old).now
+            (cursor_position self.old) (fitting_front (cursor_inner self.old).now
+            (cursor_position self.old) bytes.now) }
+        ensures place { cursor_position self.new ≡ cursor_position self.old + length
+            (fitting_front (cursor_inner self.old).now (cursor_position self.old) bytes.now) }
     {
         let place = self.position();
         let all = self.get_mut();
@@ -444,12 +506,15 @@ impl Sink for Cursor<&mut [u8]> {
     #[inline(always)]
     fn try_put(&mut self, eight: [u8; 8], n: usize) -> bool
         requires { n ≤ 8 }
-        ensures gave { IsTrue result → Gave (known_slice self.old) (known_slice self.new) (take n eight) }
+        ensures gave { IsTrue result → Gave (known_slice self.old) (known_slice self.new)
+            (take n eight) }
         ensures stays { IsFalse result → self.new ≡ self.old }
         // The bytes are laid over those that lie there.
-        ensures written { IsTrue result → (cursor_inner self.new).now ≡ overlaid (cursor_inner self.old).now (cursor_position self.old) (take n eight) }
+        ensures written { IsTrue result → (cursor_inner self.new).now ≡ overlaid
+            (cursor_inner self.old).now (cursor_position self.old) (take n eight) }
         ensures place { IsTrue result → cursor_position self.new ≡ cursor_position self.old + n }
-        ensures room { IsTrue result ↔ (cursor_position self.old + 8 ≤ length (cursor_inner self.old).now) }
+        ensures room { IsTrue result ↔ (cursor_position self.old + 8 ≤ length
+            (cursor_inner self.old).now) }
     {
         let place = self.position();
         if !has_eight(self.get_ref().len(), place) {
@@ -461,10 +526,13 @@ impl Sink for Cursor<&mut [u8]> {
     }
 
     fn seek_to(&mut self, to: SeekFrom) -> io::Result<u64>
-        ensures moves { SeekMoves (Some (cursor_position self.old)) (Some (cursor_position self.new)) (Some (cursor_inner self.old).now) to result }
+        ensures moves { SeekMoves (Some (cursor_position self.old))
+            (Some (cursor_position self.new)) (Some (cursor_inner self.old).now) to result }
         ensures all { Keeps (Some (cursor_inner self.old).now) (Some (cursor_inner self.new).now) }
-        ensures sought { Seeks (known_slice self.old).health (known_slice self.new).health to result }
-        ensures refused { RefusedSeek (known_slice self.old).health (known_slice self.new).health to result }
+        ensures sought { Seeks (known_slice self.old).health (known_slice self.new).health to
+            result }
+        ensures refused { RefusedSeek (known_slice self.old).health (known_slice self.new).health to
+            result }
         ensures stands { StandsAt (known_slice self.old).health.whole result (known_slice self.new) }
         ensures inner { cursor_inner self.new ≡ cursor_inner self.old }
     {
@@ -479,13 +547,18 @@ impl Sink for Cursor<Vec<u8>> {
     fn give(&mut self, bytes: &[u8]) -> io::Result<()>
         ensures ok { OnOk result (Gave (known_vector self.old) (known_vector self.new) bytes.now) }
         ensures err { IfErr result (λ e. error_kind e ≡ ErrorKind.OutOfMemory) }
-        // The bytes are laid over those that lie there, behind zeros where the place is past the end; what is behind them stays.
-        ensures written { OnOk result ((cursor_inner self.new).items ≡ overlaid (reaching (cursor_position self.old) (cursor_inner self.old).items) (cursor_position self.old) bytes.now) }
-        ensures place { OnOk result (cursor_position self.new ≡ place_on (cursor_position self.old) (length bytes.now)) }
+        // The bytes are laid over those that lie there, behind zeros where the place is past the
+        // end; what is behind them stays.
+        ensures written { OnOk result ((cursor_inner self.new).items ≡ overlaid
+            (reaching (cursor_position self.old) (cursor_inner self.old).items)
+            (cursor_position self.old) bytes.now) }
+        ensures place { OnOk result (cursor_position self.new ≡ place_on (cursor_position self.old)
+            (length bytes.now)) }
         ensures kept { DeviceKept (known_vector self.old).health (known_vector self.new).health }
         // Where no memory is found, it holds the same bytes, at the same place.
         ensures stays { OnErr result (cursor_position self.new ≡ cursor_position self.old) }
-        ensures holds { OnErr result ((cursor_inner self.new).items ≡ (cursor_inner self.old).items) }
+        ensures holds { OnErr result ((cursor_inner self.new).items ≡
+            (cursor_inner self.old).items) }
     {
         let place = self.position();
         let all = self.get_mut();
@@ -497,12 +570,15 @@ impl Sink for Cursor<Vec<u8>> {
     #[inline(always)]
     fn try_put(&mut self, eight: [u8; 8], n: usize) -> bool
         requires { n ≤ 8 }
-        ensures gave { IsTrue result → Gave (known_vector self.old) (known_vector self.new) (take n eight) }
+        ensures gave { IsTrue result → Gave (known_vector self.old) (known_vector self.new)
+            (take n eight) }
         ensures stays { IsFalse result → self.new ≡ self.old }
         // The bytes are laid over those that lie there.
-        ensures written { IsTrue result → (cursor_inner self.new).items ≡ overlaid (cursor_inner self.old).items (cursor_position self.old) (take n eight) }
+        ensures written { IsTrue result → (cursor_inner self.new).items ≡ overlaid
+            (cursor_inner self.old).items (cursor_position self.old) (take n eight) }
         ensures place { IsTrue result → cursor_position self.new ≡ cursor_position self.old + n }
-        ensures room { IsTrue result ↔ (cursor_position self.old + 8 ≤ length (cursor_inner self.old).items) }
+        ensures room { IsTrue result ↔ (cursor_position self.old + 8 ≤ length
+            (cursor_inner self.old).items) }
     {
         let at = self.position();
         if !has_eight(self.get_ref().len(), at) {
@@ -515,10 +591,14 @@ impl Sink for Cursor<Vec<u8>> {
     }
 
     fn seek_to(&mut self, to: SeekFrom) -> io::Result<u64>
-        ensures moves { SeekMoves (Some (cursor_position self.old)) (Some (cursor_position self.new)) (Some (cursor_inner self.old).items) to result }
-        ensures all { Keeps (Some (cursor_inner self.old).items) (Some (cursor_inner self.new).items) }
-        ensures sought { Seeks (known_vector self.old).health (known_vector self.new).health to result }
-        ensures refused { RefusedSeek (known_vector self.old).health (known_vector self.new).health to result }
+        ensures moves { SeekMoves (Some (cursor_position self.old))
+            (Some (cursor_position self.new)) (Some (cursor_inner self.old).items) to result }
+        ensures all { Keeps (Some (cursor_inner self.old).items)
+            (Some (cursor_inner self.new).items) }
+        ensures sought { Seeks (known_vector self.old).health (known_vector self.new).health to
+            result }
+        ensures refused { RefusedSeek (known_vector self.old).health (known_vector self.new).health
+            to result }
         ensures stands { StandsAt (known_vector self.old).health.whole result (known_vector self.new) }
         ensures inner { cursor_inner self.new ≡ cursor_inner self.old }
     {
@@ -528,7 +608,8 @@ impl Sink for Cursor<Vec<u8>> {
 
 // Lays bytes over those of a vector from a place on, behind zeros where it is past the end; where no memory is found, nothing changes.
 fn put_over(all: &mut Vec<u8>, place: usize, bytes: &[u8]) -> Result<(), AllocError>
-    ensures written { OnOk result (all.new.items ≡ overlaid (reaching place all.old.items) place bytes.now) }
+    ensures written { OnOk result (all.new.items ≡ overlaid (reaching place all.old.items) place
+        bytes.now) }
     ensures fits { OnOk result (place + length bytes.now < 2 ^ 63) }
     ensures holds { OnErr result (all.new.items ≡ all.old.items) }
 {
@@ -549,12 +630,13 @@ fn put_over(all: &mut Vec<u8>, place: usize, bytes: &[u8]) -> Result<(), AllocEr
     }
 }
 
-// Writes as many of the bytes as fit over `all` from `place` on, and answers how many. It takes slices alone: so a cursor that gives by it stays in
-// registers.
+// Writes as many of the bytes as fit over `all` from `place` on, and answers how many. It takes
+// slices alone: so a cursor that gives by it stays in registers.
 #[inline(never)]
 fn overwrite(all: &mut [u8], place: usize, bytes: &[u8]) -> usize
     ensures count { result ≡ min (length bytes.now) (length all.old - place) }
-    ensures written { place ≤ length all.old → all.new ≡ take place all.old ++ take result bytes.now ++ drop (place + result) all.old }
+    ensures written { place ≤ length all.old → all.new ≡ take place all.old ++ take result bytes.now
+        ++ drop (place + result) all.old }
     ensures past { length all.old < place → all.new ≡ all.old }
 {
     if place > all.len() {
@@ -573,7 +655,8 @@ fn has_eight(length: usize, place: u64) -> bool
     place < (length as u64).saturating_sub(7)
 }
 
-// Lays the first n of eight bytes over those from a place on. Each length has an arm of its own, so that each is one store or two.
+// Lays the first n of eight bytes over those from a place on. Each length has an arm of its own, so
+// that each is one store or two.
 #[inline(always)]
 fn lay_over(all: &mut [u8], place: usize, eight: [u8; 8], n: usize)
     requires few { n ≤ 8 }

@@ -14,10 +14,12 @@ use crate::device::{Sink, Source};
 use std::io;
 use std::io::{Error, ErrorKind, Read, Seek, SeekFrom, Write};
 
-/// A reader or a writer that cannot seek, as a pipe or a socket, with the count of the bytes that it moved.
+/// A reader or a writer that cannot seek, as a pipe or a socket, with the count of the bytes that
+/// it moved.
 ///
-/// The count is its position. A seek to it, by `Start` of it or `Current(0)`, answers it and moves nothing; any other seek is refused with kind
-/// `Other`. Each transfer that succeeds raises it by its bytes, up to `u64::MAX`.
+/// The count is its position. A seek to it, by `Start` of it or `Current(0)`, answers it and moves
+/// nothing; any other seek is refused with kind `Other`. Each transfer that succeeds raises it by
+/// its bytes, up to `u64::MAX`.
 ///
 /// ```text
 /// let mut reader = Reader::new(alloc, NoSeek::new(stdin));
@@ -60,7 +62,8 @@ impl<T> NoSeek<T> {
     /// ```
     pub fn get_mut(&mut self) -> &mut T
         ensures value { result.now ≡ self.old.inner }
-        ensures* writes_back { sem 𝓛 (Lends (stream-row T.row) T.row self.entry result (λ x. record self.old { inner = x })) }
+        ensures* writes_back { sem 𝓛 (Lends (stream-row T.row) T.row self.entry result
+            (λ x. record self.old { inner = x })) }
     {
         &mut self.inner
     }
@@ -82,7 +85,8 @@ impl<T: Read> Read for NoSeek<T> {
 
     fn read(&mut self, buf: &mut [u8]) -> io::Result<usize>
         ensures bound { ReadsAtMost result buf.new }
-        ensures bytes { ReadConsumes (T.remaining self.old.inner) (T.remaining self.new.inner) result buf.new }
+        ensures bytes { ReadConsumes (T.remaining self.old.inner) (T.remaining self.new.inner)
+            result buf.new }
         ensures counts { IfOk result (λ n. self.new.position ≡ place_on self.old.position n) }
         ensures stays { OnErr result (self.new.position ≡ self.old.position) }
     {
@@ -92,8 +96,10 @@ impl<T: Read> Read for NoSeek<T> {
     }
 
     fn read_exact(&mut self, buf: &mut [u8]) -> io::Result<()>
-        ensures bytes { OnOk result (Consumes (T.remaining self.old.inner) (T.remaining self.new.inner) buf.new) }
-        ensures counts { OnOk result (self.new.position ≡ place_on self.old.position (length buf.new)) }
+        ensures bytes { OnOk result (Consumes (T.remaining self.old.inner)
+            (T.remaining self.new.inner) buf.new) }
+        ensures counts { OnOk result (self.new.position ≡ place_on self.old.position
+            (length buf.new)) }
         ensures stays { OnErr result (self.new.position ≡ self.old.position) }
     {
         self.inner.read_exact(buf)?;
@@ -107,7 +113,8 @@ impl<T: Write> Write for NoSeek<T> {
 
     fn write(&mut self, buf: &[u8]) -> io::Result<usize>
         ensures bound { WritesAtMost result buf.now }
-        ensures bytes { WriteAppends (T.contents self.old.inner) (T.contents self.new.inner) result buf.now }
+        ensures bytes { WriteAppends (T.contents self.old.inner) (T.contents self.new.inner) result
+            buf.now }
         ensures counts { IfOk result (λ n. self.new.position ≡ place_on self.old.position n) }
         ensures stays { OnErr result (self.new.position ≡ self.old.position) }
     {
@@ -124,8 +131,10 @@ impl<T: Write> Write for NoSeek<T> {
     }
 
     fn write_all(&mut self, buf: &[u8]) -> io::Result<()>
-        ensures bytes { OnOk result (Appends (T.contents self.old.inner) (T.contents self.new.inner) buf.now) }
-        ensures counts { OnOk result (self.new.position ≡ place_on self.old.position (length buf.now)) }
+        ensures bytes { OnOk result (Appends (T.contents self.old.inner) (T.contents self.new.inner)
+            buf.now) }
+        ensures counts { OnOk result (self.new.position ≡ place_on self.old.position
+            (length buf.now)) }
         ensures stays { OnErr result (self.new.position ≡ self.old.position) }
     {
         self.inner.write_all(buf)?;
@@ -139,7 +148,8 @@ impl<T> Seek for NoSeek<T> {
 
     fn seek(&mut self, to: SeekFrom) -> io::Result<u64>
         ensures here { IfOk result (λ n. (n ≡ self.old.position) × IsHere self.old.position to) }
-        ensures refused { IfErr result (λ e. (error_kind e ≡ ErrorKind.Other) × (IsHere self.old.position to → ⊥)) }
+        ensures refused { IfErr result (λ e. (error_kind e ≡ ErrorKind.Other)
+            × (IsHere self.old.position to → ⊥)) }
         ensures stays { self.new ≡ self.old }
         // What the trait asks of a stream whose place is known and whose bytes are not.
         ensures moves { SeekMoves (Some self.old.position) (Some self.new.position) None to result }
@@ -175,8 +185,10 @@ impl<T: Read> Source for NoSeek<T> {
     ghost known_by_place = { λ s at all p q. Prim.cc };
 
     fn fetch(&mut self, buf: &mut [u8]) -> io::Result<()>
-        ensures bytes { OnOk result (Consumes (T.remaining self.old.inner) (T.remaining self.new.inner) buf.new) }
-        ensures counts { OnOk result (self.new.position ≡ place_on self.old.position (length buf.new)) }
+        ensures bytes { OnOk result (Consumes (T.remaining self.old.inner)
+            (T.remaining self.new.inner) buf.new) }
+        ensures counts { OnOk result (self.new.position ≡ place_on self.old.position
+            (length buf.new)) }
         ensures stays { OnErr result (self.new.position ≡ self.old.position) }
     {
         self.read_exact(buf)
@@ -194,7 +206,8 @@ impl<T: Read> Source for NoSeek<T> {
 
     fn seek_to(&mut self, to: SeekFrom) -> io::Result<u64>
         ensures here { IfOk result (λ n. (n ≡ self.old.position) × IsHere self.old.position to) }
-        ensures refused { IfErr result (λ e. (error_kind e ≡ ErrorKind.Other) × (IsHere self.old.position to → ⊥)) }
+        ensures refused { IfErr result (λ e. (error_kind e ≡ ErrorKind.Other)
+            × (IsHere self.old.position to → ⊥)) }
         ensures stays { self.new ≡ self.old }
         ensures moves { SeekMoves (Some self.old.position) (Some self.new.position) None to result }
         ensures all { Keeps None None }
@@ -207,8 +220,10 @@ impl<T: Write> Sink for NoSeek<T> {
     ghost known = { λ _. unknown_sink };
 
     fn give(&mut self, bytes: &[u8]) -> io::Result<()>
-        ensures bytes { OnOk result (Appends (T.contents self.old.inner) (T.contents self.new.inner) bytes.now) }
-        ensures counts { OnOk result (self.new.position ≡ place_on self.old.position (length bytes.now)) }
+        ensures bytes { OnOk result (Appends (T.contents self.old.inner) (T.contents self.new.inner)
+            bytes.now) }
+        ensures counts { OnOk result (self.new.position ≡ place_on self.old.position
+            (length bytes.now)) }
         ensures stays { OnErr result (self.new.position ≡ self.old.position) }
     {
         self.write_all(bytes)
@@ -216,7 +231,8 @@ impl<T: Write> Sink for NoSeek<T> {
 
     fn seek_to(&mut self, to: SeekFrom) -> io::Result<u64>
         ensures here { IfOk result (λ n. (n ≡ self.old.position) × IsHere self.old.position to) }
-        ensures refused { IfErr result (λ e. (error_kind e ≡ ErrorKind.Other) × (IsHere self.old.position to → ⊥)) }
+        ensures refused { IfErr result (λ e. (error_kind e ≡ ErrorKind.Other)
+            × (IsHere self.old.position to → ⊥)) }
         ensures stays { self.new ≡ self.old }
         ensures moves { SeekMoves (Some self.old.position) (Some self.new.position) None to result }
         ensures all { Keeps None None }

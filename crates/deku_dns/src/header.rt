@@ -12,11 +12,14 @@
 //! +-----------------------------------------------------+
 //! ```
 
+ghost use Rattle.std.specs.Prelude.{refl};
+ghost use Rattle.deku.specs.Outcomes.{Mapped};
+
 use deku::device::{Sink, Source};
 use deku::prelude::{
     DekuContainerRead, DekuContainerWrite, DekuError, DekuReader, DekuWriter, Reader, Writer,
 };
-use deku_symmetry::{Be, Msb, FromParts, Record, ToParts, read_record, write_record};
+use deku_symmetry::{Be, FromParts, Msb, Record, ToParts, read_record, write_record};
 
 /// The header of a message.
 #[derive(Debug, PartialEq, Eq, Drop)]
@@ -58,15 +61,31 @@ pub type Parts = (
 );
 
 impl FromParts<()> for Header {
-    ghost use Rattle.std.specs.Prelude.{refl};
-
     type Parts = Parts;
 
     ghost parts_of = { λ r. (
       record { 0 = r.identification },
-      (record { 0 = r.response }, record { 0 = r.opcode }, record { 0 = r.authoritative }, record { 0 = r.truncated }),
-      (record { 0 = r.recursion_desired }, record { 0 = r.recursion_available }, record { 0 = r.reserved }, record { 0 = r.response_code }),
-      (record { 0 = r.questions }, record { 0 = r.answers }, record { 0 = r.authorities }, record { 0 = r.additionals }),
+      (
+        record { 0 = r.response },
+        record { 0 = r.opcode },
+        record { 0 = r.authoritative },
+        record
+            { 0 = r.truncated },
+      ),
+      (
+        record { 0 = r.recursion_desired },
+        record { 0 = r.recursion_available },
+        record
+            { 0 = r.reserved },
+        record { 0 = r.response_code },
+      ),
+      (
+        record { 0 = r.questions },
+        record { 0 = r.answers },
+        record { 0 = r.authorities },
+        record
+            { 0 = r.additionals },
+      ),
     ) };
 
     ghost record_of = { λ p. record {
@@ -138,8 +157,6 @@ impl ToParts<()> for Header {
 }
 
 impl Record for Header {
-    ghost use Rattle.std.specs.Prelude.{refl};
-
     ghost back = { λ p ps h. refl };
 
     ghost reads = { λ b s r u m. m };
@@ -148,13 +165,12 @@ impl Record for Header {
 }
 
 impl DekuReader<()> for Header {
-    ghost use Rattle.deku.specs.Outcomes.{Mapped};
-
     ghost accepts = { ⟦<Parts as DekuReader<()>>⟧.accepts };
 
     ghost no_read_ahead = { ⟦<Parts as DekuReader<()>>⟧.no_read_ahead };
 
-    ghost meaning = { λ _. Mapped ⟦<Header as FromParts<()>>⟧.record_of (⟦<Parts as DekuReader<()>>⟧.meaning tt) };
+    ghost meaning = { λ _. Mapped ⟦<Header as FromParts<()>>⟧.record_of
+        (⟦<Parts as DekuReader<()>>⟧.meaning tt) };
 
     fn from_reader_with_ctx<R: Source>(
         reader: &mut Reader<R>,
@@ -167,7 +183,8 @@ impl DekuReader<()> for Header {
 impl DekuWriter<()> for Header {
     ghost accepts = { ⟦<Parts as DekuWriter<()>>⟧.accepts };
 
-    ghost meaning = { λ v _. ⟦<Parts as DekuWriter<()>>⟧.meaning (⟦<Header as FromParts<()>>⟧.parts_of v) tt };
+    ghost meaning = { λ v _. ⟦<Parts as DekuWriter<()>>⟧.meaning
+        (⟦<Header as FromParts<()>>⟧.parts_of v) tt };
 
     fn to_writer<W: Sink>(&self, writer: &mut Writer<W>, _ctx: ()) -> Result<(), DekuError> {
         write_record(self, writer, ())

@@ -5,22 +5,28 @@
 //! bytes   as many bytes
 //! ```
 
+ghost use Rattle.std.specs.Prelude.{refl, nat_lt, cond, Some, None, nat_eq, pos};
+ghost use Rattle.std.proofs.Common.{arith};
+ghost use Rattle.deku.specs.Outcomes.{Mapped};
+ghost use Rattle.deku_num.specs.Numbers.{byte};
+ghost use Rattle.deku_pieces.specs.Pieces.{plain};
+ghost use Rattle.deku_pieces.proofs.Ending.{first_wide, number_wide};
+
 use deku::device::{Sink, Source};
 use deku::prelude::{
     DekuContainerRead, DekuContainerWrite, DekuError, DekuReader, DekuWriter, Reader, Writer,
 };
 use deku_symmetry::{
-    ItemCount, Last, LastLaw, ItemCountLaw, Counted, FromParts, Record, ToParts, read_record, write_counted,
-    write_record,
+    Counted, FromParts, ItemCount, ItemCountLaw, Last, LastLaw, Record, ToParts, read_record,
+    write_counted, write_record,
 };
 
-/// The length of a label: a byte. More than 63 is no length: so a pointer to another name is refused.
+/// The length of a label: a byte. More than 63 is no length: so a pointer to another name is
+/// refused.
 #[derive(Debug, PartialEq, Eq, Drop)]
 pub struct Length(pub u8);
 
 impl FromParts<()> for Length {
-    ghost use Rattle.std.specs.Prelude.{refl};
-
     type Parts = u8;
 
     ghost parts_of = { λ r. r.0 };
@@ -42,8 +48,6 @@ impl ToParts<()> for Length {
 
 /// As many bytes as it says, where they are at most 63.
 impl ItemCount for Length {
-    ghost use Rattle.std.specs.Prelude.{nat_lt, cond, Some, None};
-
     ghost count_of = { λ l. cond (nat_lt l.0 64) (Some l.0) None };
 
     fn count(&self) -> Option<usize> {
@@ -56,14 +60,10 @@ impl ItemCount for Length {
 }
 
 impl ItemCountLaw for Length {
-    ghost use Rattle.std.specs.Prelude.{refl};
-
     ghost alike = { λ v w e. rw e refl };
 }
 
 impl Record for Length {
-    ghost use Rattle.std.specs.Prelude.{refl};
-
     ghost back = { λ p ps h. refl };
 
     ghost reads = { λ b s r u m. m };
@@ -72,13 +72,12 @@ impl Record for Length {
 }
 
 impl DekuReader<()> for Length {
-    ghost use Rattle.deku.specs.Outcomes.{Mapped};
-
     ghost accepts = { ⟦<u8 as DekuReader<()>>⟧.accepts };
 
     ghost no_read_ahead = { ⟦<u8 as DekuReader<()>>⟧.no_read_ahead };
 
-    ghost meaning = { λ _. Mapped ⟦<Length as FromParts<()>>⟧.record_of (⟦<u8 as DekuReader<()>>⟧.meaning tt) };
+    ghost meaning = { λ _. Mapped ⟦<Length as FromParts<()>>⟧.record_of
+        (⟦<u8 as DekuReader<()>>⟧.meaning tt) };
 
     fn from_reader_with_ctx<R: Source>(
         reader: &mut Reader<R>,
@@ -91,7 +90,8 @@ impl DekuReader<()> for Length {
 impl DekuWriter<()> for Length {
     ghost accepts = { ⟦<u8 as DekuWriter<()>>⟧.accepts };
 
-    ghost meaning = { λ v _. ⟦<u8 as DekuWriter<()>>⟧.meaning (⟦<Length as FromParts<()>>⟧.parts_of v) tt };
+    ghost meaning = { λ v _. ⟦<u8 as DekuWriter<()>>⟧.meaning
+        (⟦<Length as FromParts<()>>⟧.parts_of v) tt };
 
     fn to_writer<W: Sink>(&self, writer: &mut Writer<W>, _ctx: ()) -> Result<(), DekuError> {
         write_record(self, writer, ())
@@ -111,8 +111,6 @@ pub struct Label {
 type Parts = Counted<Length, u8>;
 
 impl FromParts<()> for Label {
-    ghost use Rattle.std.specs.Prelude.{refl};
-
     type Parts = Parts;
 
     ghost parts_of = { λ r. record { head = record { 0 = r.length }; items = r.bytes } };
@@ -130,8 +128,6 @@ impl FromParts<()> for Label {
 }
 
 impl Record for Label {
-    ghost use Rattle.std.specs.Prelude.{refl};
-
     ghost back = { λ p ps h. refl };
 
     ghost reads = { λ b s r u m. m };
@@ -140,13 +136,12 @@ impl Record for Label {
 }
 
 impl DekuReader<()> for Label {
-    ghost use Rattle.deku.specs.Outcomes.{Mapped};
-
     ghost accepts = { ⟦<Parts as DekuReader<()>>⟧.accepts };
 
     ghost no_read_ahead = { ⟦<Parts as DekuReader<()>>⟧.no_read_ahead };
 
-    ghost meaning = { λ _. Mapped ⟦<Label as FromParts<()>>⟧.record_of (⟦<Parts as DekuReader<()>>⟧.meaning tt) };
+    ghost meaning = { λ _. Mapped ⟦<Label as FromParts<()>>⟧.record_of
+        (⟦<Parts as DekuReader<()>>⟧.meaning tt) };
 
     fn from_reader_with_ctx<R: Source>(
         reader: &mut Reader<R>,
@@ -159,7 +154,8 @@ impl DekuReader<()> for Label {
 impl DekuWriter<()> for Label {
     ghost accepts = { ⟦<Parts as DekuWriter<()>>⟧.accepts };
 
-    ghost meaning = { λ v _. ⟦<Parts as DekuWriter<()>>⟧.meaning (⟦<Label as FromParts<()>>⟧.parts_of v) tt };
+    ghost meaning = { λ v _. ⟦<Parts as DekuWriter<()>>⟧.meaning
+        (⟦<Label as FromParts<()>>⟧.parts_of v) tt };
 
     fn to_writer<W: Sink>(&self, writer: &mut Writer<W>, _ctx: ()) -> Result<(), DekuError> {
         write_counted(&Length(self.length), &self.bytes, writer)
@@ -168,8 +164,6 @@ impl DekuWriter<()> for Label {
 
 /// The empty label ends a name.
 impl Last for Label {
-    ghost use Rattle.std.specs.Prelude.{nat_eq};
-
     ghost last_of = { λ l. nat_eq l.length 0 };
 
     fn is_last(&self) -> bool {
@@ -178,15 +172,10 @@ impl Last for Label {
 }
 
 impl LastLaw for Label {
-    ghost use Rattle.std.specs.Prelude.{refl, pos};
-    ghost use Rattle.std.proofs.Common.{arith};
-    ghost use Rattle.deku_num.specs.Numbers.{byte};
-    ghost use Rattle.deku_pieces.specs.Pieces.{plain};
-    ghost use Rattle.deku_pieces.proofs.Ending.{first_wide, number_wide};
-
     ghost alike = { λ v w e. rw e.0 refl };
 
-    ghost wide = { λ v ps p. first_wide (λ qs q. number_wide byte plain (pos v.length) (omega (arith)) qs q) ps p };
+    ghost wide = { λ v ps p. first_wide (λ qs q. number_wide byte plain (pos v.length)
+        (omega (arith)) qs q) ps p };
 }
 
 impl DekuContainerRead for Label {}

@@ -1,5 +1,8 @@
 //! A message that asks one question.
 
+ghost use Rattle.std.specs.Prelude.{refl};
+ghost use Rattle.deku.specs.Outcomes.{Mapped};
+
 use crate::header::{self, Header};
 use crate::question::{self, Question};
 use deku::device::{Sink, Source};
@@ -21,13 +24,18 @@ pub struct Query {
 type Parts = (header::Parts, question::Parts);
 
 impl FromParts<()> for Query {
-    ghost use Rattle.std.specs.Prelude.{refl};
-
     type Parts = Parts;
 
-    ghost parts_of = { λ r. (⟦<Header as FromParts<()>>⟧.parts_of r.header, ⟦<Question as FromParts<()>>⟧.parts_of r.question) };
+    ghost parts_of = { λ r. (
+      ⟦<Header as FromParts<()>>⟧.parts_of r.header,
+      ⟦<Question as FromParts<()>>⟧.parts_of r.question,
+    ) };
 
-    ghost record_of = { λ p. record { header = ⟦<Header as FromParts<()>>⟧.record_of p.0; question = ⟦<Question as FromParts<()>>⟧.record_of p.1 } };
+    ghost record_of = { λ p. record {
+      header = ⟦<Header as FromParts<()>>⟧.record_of p.0;
+      question =
+          ⟦<Question as FromParts<()>>⟧.record_of p.1;
+    } };
 
     fn from_parts(parts: Self::Parts) -> Self {
         let (header, question) = parts;
@@ -41,8 +49,6 @@ impl FromParts<()> for Query {
 }
 
 impl Record for Query {
-    ghost use Rattle.std.specs.Prelude.{refl};
-
     ghost back = { λ p ps h. refl };
 
     ghost reads = { λ b s r u m. m };
@@ -51,13 +57,12 @@ impl Record for Query {
 }
 
 impl DekuReader<()> for Query {
-    ghost use Rattle.deku.specs.Outcomes.{Mapped};
-
     ghost accepts = { ⟦<Parts as DekuReader<()>>⟧.accepts };
 
     ghost no_read_ahead = { ⟦<Parts as DekuReader<()>>⟧.no_read_ahead };
 
-    ghost meaning = { λ _. Mapped ⟦<Query as FromParts<()>>⟧.record_of (⟦<Parts as DekuReader<()>>⟧.meaning tt) };
+    ghost meaning = { λ _. Mapped ⟦<Query as FromParts<()>>⟧.record_of
+        (⟦<Parts as DekuReader<()>>⟧.meaning tt) };
 
     fn from_reader_with_ctx<R: Source>(
         reader: &mut Reader<R>,
@@ -70,7 +75,8 @@ impl DekuReader<()> for Query {
 impl DekuWriter<()> for Query {
     ghost accepts = { ⟦<Parts as DekuWriter<()>>⟧.accepts };
 
-    ghost meaning = { λ v _. ⟦<Parts as DekuWriter<()>>⟧.meaning (⟦<Query as FromParts<()>>⟧.parts_of v) tt };
+    ghost meaning = { λ v _. ⟦<Parts as DekuWriter<()>>⟧.meaning
+        (⟦<Query as FromParts<()>>⟧.parts_of v) tt };
 
     fn to_writer<W: Sink>(&self, writer: &mut Writer<W>, _ctx: ()) -> Result<(), DekuError> {
         (&self.header, &self.question).to_writer(writer, ())

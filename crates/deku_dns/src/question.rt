@@ -6,12 +6,15 @@
 //! class  16 bits  1 for the internet
 //! ```
 
+ghost use Rattle.std.specs.Prelude.{refl};
+ghost use Rattle.deku.specs.Outcomes.{Mapped};
+
 use crate::label::Label;
 use deku::device::{Sink, Source};
 use deku::prelude::{
     DekuContainerRead, DekuContainerWrite, DekuError, DekuReader, DekuWriter, Reader, Writer,
 };
-use deku_symmetry::{Be, Until, FromParts, Record, read_record};
+use deku_symmetry::{Be, FromParts, Record, Until, read_record};
 
 /// A question.
 #[derive(Debug, PartialEq, Eq, Drop)]
@@ -28,8 +31,6 @@ pub struct Question {
 pub type Parts = (Until<Label>, Be<u16>, Be<u16>);
 
 impl FromParts<()> for Question {
-    ghost use Rattle.std.specs.Prelude.{refl};
-
     type Parts = Parts;
 
     ghost parts_of = { λ r. (r.name, record { 0 = r.kind }, record { 0 = r.class }) };
@@ -45,8 +46,6 @@ impl FromParts<()> for Question {
 }
 
 impl Record for Question {
-    ghost use Rattle.std.specs.Prelude.{refl};
-
     ghost back = { λ p ps h. refl };
 
     ghost reads = { λ b s r u m. m };
@@ -55,13 +54,12 @@ impl Record for Question {
 }
 
 impl DekuReader<()> for Question {
-    ghost use Rattle.deku.specs.Outcomes.{Mapped};
-
     ghost accepts = { ⟦<Parts as DekuReader<()>>⟧.accepts };
 
     ghost no_read_ahead = { ⟦<Parts as DekuReader<()>>⟧.no_read_ahead };
 
-    ghost meaning = { λ _. Mapped ⟦<Question as FromParts<()>>⟧.record_of (⟦<Parts as DekuReader<()>>⟧.meaning tt) };
+    ghost meaning = { λ _. Mapped ⟦<Question as FromParts<()>>⟧.record_of
+        (⟦<Parts as DekuReader<()>>⟧.meaning tt) };
 
     fn from_reader_with_ctx<R: Source>(
         reader: &mut Reader<R>,
@@ -74,7 +72,8 @@ impl DekuReader<()> for Question {
 impl DekuWriter<()> for Question {
     ghost accepts = { ⟦<Parts as DekuWriter<()>>⟧.accepts };
 
-    ghost meaning = { λ v _. ⟦<Parts as DekuWriter<()>>⟧.meaning (⟦<Question as FromParts<()>>⟧.parts_of v) tt };
+    ghost meaning = { λ v _. ⟦<Parts as DekuWriter<()>>⟧.meaning
+        (⟦<Question as FromParts<()>>⟧.parts_of v) tt };
 
     fn to_writer<W: Sink>(&self, writer: &mut Writer<W>, _ctx: ()) -> Result<(), DekuError> {
         (&self.name, Be(self.kind), Be(self.class)).to_writer(writer, ())

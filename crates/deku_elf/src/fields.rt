@@ -1,5 +1,8 @@
 //! The fields of the file header, under the endian that the file names.
 
+ghost use Rattle.std.specs.Prelude.{refl};
+ghost use Rattle.deku.specs.Outcomes.{Mapped};
+
 use deku::ctx::Endian;
 use deku::device::{Sink, Source};
 use deku::prelude::{DekuError, DekuReader, DekuWriter, Reader, Writer};
@@ -8,7 +11,8 @@ use deku_symmetry::{EndianRecord, FromParts, ToParts, read_record, write_record}
 /// The fields of the file header behind the byte that says its endian.
 #[derive(Debug, Clone, Copy, PartialEq, Eq)]
 pub struct Fields {
-    /// The version of the identification, 1; which operating system, 0 System V, 3 Linux; the version of that; and seven bytes that say nothing.
+    /// The version of the identification, 1; which operating system, 0 System V, 3 Linux; the
+    /// version of that; and seven bytes that say nothing.
     pub identification: [u8; 10],
     /// 1 relocatable, 2 executable, 3 shared.
     pub kind: u16,
@@ -28,7 +32,8 @@ pub struct Fields {
     pub sizes: [u16; 2],
     /// How many program headers there are.
     pub segment_count: u16,
-    /// The bytes of a section header, 64; how many there are; and which of the sections has the names of the others.
+    /// The bytes of a section header, 64; how many there are; and which of the sections has the
+    /// names of the others.
     pub sections: [u16; 3],
 }
 
@@ -48,11 +53,21 @@ type Parts = (
 );
 
 impl FromParts<Endian> for Fields {
-    ghost use Rattle.std.specs.Prelude.{refl};
-
     type Parts = Parts;
 
-    ghost parts_of = { λ r. (r.identification, r.kind, r.machine, r.version, r.entry, r.segments_at, r.sections_at, r.flags, r.sizes, r.segment_count, r.sections) };
+    ghost parts_of = { λ r. (
+      r.identification,
+      r.kind,
+      r.machine,
+      r.version,
+      r.entry,
+      r.segments_at,
+      r.sections_at,
+      r.flags,
+      r.sizes,
+      r.segment_count,
+      r.sections,
+    ) };
 
     ghost record_of = { λ p. record {
       identification = p.0;
@@ -119,8 +134,6 @@ impl ToParts<Endian> for Fields {
 }
 
 impl EndianRecord for Fields {
-    ghost use Rattle.std.specs.Prelude.{refl};
-
     ghost back = { λ p c ps h. refl };
 
     ghost reads = { λ c b s r u m. m };
@@ -129,13 +142,12 @@ impl EndianRecord for Fields {
 }
 
 impl DekuReader<Endian> for Fields {
-    ghost use Rattle.deku.specs.Outcomes.{Mapped};
-
     ghost accepts = { ⟦<Parts as DekuReader<Endian>>⟧.accepts };
 
     ghost no_read_ahead = { ⟦<Parts as DekuReader<Endian>>⟧.no_read_ahead };
 
-    ghost meaning = { λ c. Mapped ⟦<Fields as FromParts<Endian>>⟧.record_of (⟦<Parts as DekuReader<Endian>>⟧.meaning c) };
+    ghost meaning = { λ c. Mapped ⟦<Fields as FromParts<Endian>>⟧.record_of
+        (⟦<Parts as DekuReader<Endian>>⟧.meaning c) };
 
     fn from_reader_with_ctx<R: Source>(
         reader: &mut Reader<R>,
@@ -148,7 +160,8 @@ impl DekuReader<Endian> for Fields {
 impl DekuWriter<Endian> for Fields {
     ghost accepts = { ⟦<Parts as DekuWriter<Endian>>⟧.accepts };
 
-    ghost meaning = { λ v c. ⟦<Parts as DekuWriter<Endian>>⟧.meaning (⟦<Fields as FromParts<Endian>>⟧.parts_of v) c };
+    ghost meaning = { λ v c. ⟦<Parts as DekuWriter<Endian>>⟧.meaning
+        (⟦<Fields as FromParts<Endian>>⟧.parts_of v) c };
 
     fn to_writer<W: Sink>(&self, writer: &mut Writer<W>, ctx: Endian) -> Result<(), DekuError> {
         write_record(self, writer, ctx)

@@ -1,4 +1,5 @@
-//! The file header of an ELF64 file and its program headers, as the System V ABI has them in its chapters on object files.
+//! The file header of an ELF64 file and its program headers, as the System V ABI has them in its
+//! chapters on object files.
 //!
 //! ```text
 //! magic         32 bits     7F 45 4C 46
@@ -19,11 +20,14 @@
 
 #![tactic(auto)]
 
-ghost use Rattle.std.specs.Prelude.{◌≡◌, ◌≤◌, ◌<◌, ◌^◌, Err};
+ghost use Rattle.std.specs.Prelude.{◌≡◌, ◌≤◌, ◌<◌, ◌^◌, Err, codes, refl};
 ghost use Rattle.std.specs.declared.io.ErrorKind.TheVariants.{InvalidInput};
+ghost use Rattle.std.proofs.Common.{ap, sym};
 ghost use Rattle.deku_bits.specs.declared.error.DekuError.TheVariants.{Io};
-ghost use Rattle.deku_elf.specs.Elf.{endian_of, fields_of, segments_at};
+ghost use Rattle.deku_elf.specs.Elf.{endian_of, fields_of, segments_at, tagged_of, elf_of, tagged_back};
 ghost use Rattle.deku_elf.specs.Following.{ReadsFrom, ReadsSegments, bits_before};
+ghost use Rattle.deku_elf.specs.declared.Elf.TheVariants.{Little, Big};
+ghost use Rattle.deku.specs.Outcomes.{Mapped};
 
 pub mod fields;
 pub mod segment;
@@ -36,7 +40,7 @@ use deku::prelude::{
     DekuContainerRead, DekuContainerWrite, DekuError, DekuReader, DekuWriter, Reader, Writer,
 };
 use deku_symmetry::{
-    Be, Constant, ConstantLaw, Magic, Le, Msb, MsbTagged, Only, FromParts, Record, Tagged, ToParts,
+    Be, Constant, ConstantLaw, FromParts, Le, Magic, Msb, MsbTagged, Only, Record, Tagged, ToParts,
     read_record, write_record,
 };
 use std::io::{Seek, SeekFrom};
@@ -82,9 +86,11 @@ impl Elf {
 
 /// The program headers of a file whose header was read, from where it says.
 ///
-/// It is refused with `Io(InvalidInput)`, and nothing changes, where a `usize` does not count the bits before their place. Then it is refused as the source refuses the seek, which stops
-/// the reader. Then as the first program header is that is refused, or with `Io(OutOfMemory)` where no memory is found for one; the reader stays behind those before it. That a program header has 56 bytes is not
-/// looked at.
+/// It is refused with `Io(InvalidInput)`, and nothing changes, where a `usize` does not count the
+/// bits before their place. Then it is refused as the source refuses the seek, which stops the
+/// reader. Then as the first program header is that is refused, or with `Io(OutOfMemory)` where no
+/// memory is found for one; the reader stays behind those before it. That a program header has 56
+/// bytes is not looked at.
 ///
 /// ```text
 /// let elf = Elf::from_reader_with_ctx(&mut reader, ())?;
@@ -92,9 +98,13 @@ impl Elf {
 /// ```
 pub fn segments<R: Source>(reader: &mut Reader<R>, elf: &Elf) -> Result<Vec<Segment>, DekuError>
     // A place that the count of bits does not reach.
-    ensures past { 2 ^ 64 ≤ bits_before elf.now reader.old → (result ≡ Err (Io InvalidInput)) × (reader.new ≡ reader.old) }
+    ensures past { 2 ^ 64 ≤ bits_before elf.now reader.old → (result ≡ Err (Io InvalidInput))
+        × (reader.new ≡ reader.old) }
     // Else as many as the header says, from the place that it says, under its endian.
-    ensures reads { bits_before elf.now reader.old < 2 ^ 64 → ReadsFrom R.known (segments_at elf.now) (ReadsSegments elf.now ⟦<Segment as DekuReader<Endian>>⟧.meaning) reader.old result reader.new }
+    ensures reads { bits_before elf.now reader.old < 2 ^ 64
+        → ReadsFrom R.known (segments_at elf.now)
+        (ReadsSegments elf.now ⟦<Segment as DekuReader<Endian>>⟧.meaning) reader.old result
+        reader.new }
 {
     let fields = elf.fields();
     reader.seek(SeekFrom::Start(fields.segments_at))?;
@@ -107,8 +117,6 @@ pub fn segments<R: Source>(reader: &mut Reader<R>, elf: &Elf) -> Result<Vec<Segm
 pub struct Signature;
 
 impl Constant<Be<u32>> for Signature {
-    ghost use Rattle.std.specs.Prelude.{codes};
-
     ghost value = { record { 0 = 0x7F454C46 } };
 
     ghost text = { codes "magic" };
@@ -127,8 +135,6 @@ impl Constant<Be<u32>> for Signature {
 }
 
 impl ConstantLaw<Be<u32>> for Signature {
-    ghost use Rattle.std.specs.Prelude.{refl};
-
     ghost alike = { λ v e. rw e refl };
 }
 
@@ -137,8 +143,6 @@ impl ConstantLaw<Be<u32>> for Signature {
 pub struct Class;
 
 impl Constant<Msb<u8, 8>> for Class {
-    ghost use Rattle.std.specs.Prelude.{codes};
-
     ghost value = { record { 0 = 2 } };
 
     ghost text = { codes "class" };
@@ -157,8 +161,6 @@ impl Constant<Msb<u8, 8>> for Class {
 }
 
 impl ConstantLaw<Msb<u8, 8>> for Class {
-    ghost use Rattle.std.proofs.Common.{ap, sym};
-
     ghost alike = { λ v e. ap (λ n. record { 0 = n }) (sym e) };
 }
 
@@ -170,13 +172,14 @@ type Parts = (
 );
 
 impl FromParts<()> for Elf {
-    ghost use Rattle.std.specs.Prelude.{refl};
-    ghost use Rattle.deku_elf.specs.declared.Elf.TheVariants.{Little, Big};
-    ghost use Rattle.deku_elf.specs.Elf.{tagged_of, elf_of};
-
     type Parts = Parts;
 
-    ghost parts_of = { λ r. (record { part = record {}; constant = record {} }, record { part = record {}; constant = record {} }, tagged_of r) };
+    ghost parts_of = { λ r. (
+      record { part = record {}; constant = record {} },
+      record
+          { part = record {}; constant = record {} },
+      tagged_of r,
+    ) };
 
     ghost record_of = { λ p. elf_of p.2 };
 
@@ -202,9 +205,6 @@ impl ToParts<()> for Elf {
 }
 
 impl Record for Elf {
-    ghost use Rattle.std.proofs.Common.{ap};
-    ghost use Rattle.deku_elf.specs.Elf.{tagged_back};
-
     ghost back = { λ p ps h. ap (λ t. (p.0, p.1, t)) (tagged_back p.2) };
 
     ghost reads = { λ b s r u m. m };
@@ -213,13 +213,12 @@ impl Record for Elf {
 }
 
 impl DekuReader<()> for Elf {
-    ghost use Rattle.deku.specs.Outcomes.{Mapped};
-
     ghost accepts = { ⟦<Parts as DekuReader<()>>⟧.accepts };
 
     ghost no_read_ahead = { ⟦<Parts as DekuReader<()>>⟧.no_read_ahead };
 
-    ghost meaning = { λ _. Mapped ⟦<Elf as FromParts<()>>⟧.record_of (⟦<Parts as DekuReader<()>>⟧.meaning tt) };
+    ghost meaning = { λ _. Mapped ⟦<Elf as FromParts<()>>⟧.record_of
+        (⟦<Parts as DekuReader<()>>⟧.meaning tt) };
 
     fn from_reader_with_ctx<R: Source>(
         reader: &mut Reader<R>,
@@ -232,7 +231,8 @@ impl DekuReader<()> for Elf {
 impl DekuWriter<()> for Elf {
     ghost accepts = { ⟦<Parts as DekuWriter<()>>⟧.accepts };
 
-    ghost meaning = { λ v _. ⟦<Parts as DekuWriter<()>>⟧.meaning (⟦<Elf as FromParts<()>>⟧.parts_of v) tt };
+    ghost meaning = { λ v _. ⟦<Parts as DekuWriter<()>>⟧.meaning
+        (⟦<Elf as FromParts<()>>⟧.parts_of v) tt };
 
     fn to_writer<W: Sink>(&self, writer: &mut Writer<W>, _ctx: ()) -> Result<(), DekuError> {
         write_record(self, writer, ())

@@ -1,5 +1,8 @@
 //! Program headers.
 
+ghost use Rattle.std.specs.Prelude.{refl};
+ghost use Rattle.deku.specs.Outcomes.{Mapped};
+
 use deku::ctx::Endian;
 use deku::device::{Sink, Source};
 use deku::prelude::{DekuError, DekuReader, DekuWriter, Reader, Writer};
@@ -30,8 +33,6 @@ pub struct Segment {
 type Parts = ((u32, u32), (u64, u64, u64), (u64, u64, u64));
 
 impl FromParts<Endian> for Segment {
-    ghost use Rattle.std.specs.Prelude.{refl};
-
     type Parts = Parts;
 
     ghost parts_of = { λ r. (
@@ -82,8 +83,6 @@ impl ToParts<Endian> for Segment {
 }
 
 impl EndianRecord for Segment {
-    ghost use Rattle.std.specs.Prelude.{refl};
-
     ghost back = { λ p c ps h. refl };
 
     ghost reads = { λ c b s r u m. m };
@@ -92,13 +91,12 @@ impl EndianRecord for Segment {
 }
 
 impl DekuReader<Endian> for Segment {
-    ghost use Rattle.deku.specs.Outcomes.{Mapped};
-
     ghost accepts = { ⟦<Parts as DekuReader<Endian>>⟧.accepts };
 
     ghost no_read_ahead = { ⟦<Parts as DekuReader<Endian>>⟧.no_read_ahead };
 
-    ghost meaning = { λ c. Mapped ⟦<Segment as FromParts<Endian>>⟧.record_of (⟦<Parts as DekuReader<Endian>>⟧.meaning c) };
+    ghost meaning = { λ c. Mapped ⟦<Segment as FromParts<Endian>>⟧.record_of
+        (⟦<Parts as DekuReader<Endian>>⟧.meaning c) };
 
     fn from_reader_with_ctx<R: Source>(
         reader: &mut Reader<R>,
@@ -111,7 +109,8 @@ impl DekuReader<Endian> for Segment {
 impl DekuWriter<Endian> for Segment {
     ghost accepts = { ⟦<Parts as DekuWriter<Endian>>⟧.accepts };
 
-    ghost meaning = { λ v c. ⟦<Parts as DekuWriter<Endian>>⟧.meaning (⟦<Segment as FromParts<Endian>>⟧.parts_of v) c };
+    ghost meaning = { λ v c. ⟦<Parts as DekuWriter<Endian>>⟧.meaning
+        (⟦<Segment as FromParts<Endian>>⟧.parts_of v) c };
 
     fn to_writer<W: Sink>(&self, writer: &mut Writer<W>, ctx: Endian) -> Result<(), DekuError> {
         write_record(self, writer, ctx)

@@ -9,11 +9,13 @@ use deku::ctx::Size;
 use deku::kind::NumberType;
 use deku_num::kernel::{allowed_width, low_bits, residue_of, sign_extend};
 
-/// What is left of a number in a field whose size is in bytes: the one number that fits and is equal to it modulo two to the bits of the field. So
-/// items whose values are cut first are written as the lowest bits of these.
+/// What is left of a number in a field whose size is in bytes: the one number that fits and is
+/// equal to it modulo two to the bits of the field. So items whose values are cut first are written
+/// as the lowest bits of these.
 ///
-/// Where the size is not in bytes it is the number itself, and so for `u8`, which has its eight bits under each size in bytes.
-/// There is none where the number is outside the field's kind, or the field's layout is refused. It takes no memory.
+/// Where the size is not in bytes it is the number itself, and so for `u8`, which has its eight
+/// bits under each size in bytes. There is none where the number is outside the field's kind, or
+/// the field's layout is refused. It takes no memory.
 ///
 /// ```text
 /// // a `u32`, big, in two bytes

@@ -8,15 +8,18 @@ use hex::FromHexError;
 use std::alloc::Global;
 use std::io::{ErrorKind, Read};
 
-/// The bytes that an input shows as hexadecimal text, of either case and without one newline at its end; none where its text shows no bytes.
+/// The bytes that an input shows as hexadecimal text, of either case and without one newline at its
+/// end; none where its text shows no bytes.
 ///
-/// The input is read to its end. It is refused with `Io` as the input fails, or with `Io(OutOfMemory)` where no memory is found; the input stays where it was read to.
+/// The input is read to its end. It is refused with `Io` as the input fails, or with
+/// `Io(OutOfMemory)` where no memory is found; the input stays where it was read to.
 ///
 /// ```text
 /// read_hex_text(alloc, &mut input)?                           // on "69c0FE" and a newline: 69 C0 FE
 /// ```
 pub fn read_hex_text<R: Read>(alloc: Global, input: &mut R) -> Result<Option<Vec<u8>>, DekuError>
-    ensures shown { IfOk result (λ o. IfSome o (λ bytes. IfSome (R.remaining input.old) (λ text. IsHexText text bytes.items))) }
+    ensures shown { IfOk result (λ o. IfSome o (λ bytes. IfSome (R.remaining input.old)
+        (λ text. IsHexText text bytes.items))) }
     ensures none { IfOk result (λ o. IfNone o (IfSome (R.remaining input.old) IsNoHexText)) }
     ensures refused { IfErr result IsOfInput }
 {

@@ -17,19 +17,20 @@ pub fn layout_law()
     ensures { LayoutLaw }
 {}
 
-/// Aligned fitting items are written as their layout, and reading it gives their values and leaves the bytes behind.
+/// Aligned fitting items are written as their layout, and reading it gives their values and leaves
+/// the bytes behind.
 pub fn there_law()
     ensures { ThereLaw }
 {}
 
-/// Items written by `write_list`, and padded once by `finalize`, give the sink exactly what they lay out, where it has the room, or finds
-/// the memory.
+/// Items written by `write_list`, and padded once by `finalize`, give the sink exactly what they
+/// lay out, where it has the room, or finds the memory.
 pub fn padded_law()
     ensures { PaddedLaw }
 {}
 
-/// Fields read by `read_list` or `read_list_into`, in one call or in several, from bytes that begin with what aligned fitting items lay out, give exactly
-/// the items' values.
+/// Fields read by `read_list` or `read_list_into`, in one call or in several, from bytes that begin
+/// with what aligned fitting items lay out, give exactly the items' values.
 pub fn read_back_law()
     ensures { ReadBackLaw }
 {}
@@ -74,23 +75,26 @@ pub fn look_law()
     ensures { LookLaw }
 {}
 
-/// Fields may be read in any number of calls, with any number of looks between them whether the end of input is reached.
+/// Fields may be read in any number of calls, with any number of looks between them whether the end
+/// of input is reached.
 pub fn read_parts_law()
     ensures { ReadPartsLaw }
 {}
 
-/// One number is left of a number that is cut to its field, and its bits are the lowest ones of that number, as which it was written while each
-/// size in bytes cut.
+/// One number is left of a number that is cut to its field, and its bits are the lowest ones of
+/// that number, as which it was written while each size in bytes cut.
 pub fn cut_law()
     ensures { CutLaw }
 {}
 
-/// Items whose values were cut have the pieces, and so the bytes, that they were written as while each size in bytes cut.
+/// Items whose values were cut have the pieces, and so the bytes, that they were written as while
+/// each size in bytes cut.
 pub fn cut_items_law()
     ensures { CutItemsLaw }
 {}
 
-/// Each bit that aligned fitting items lay out is that bit of the value of the item that has it, or zero where no item has one.
+/// Each bit that aligned fitting items lay out is that bit of the value of the item that has it, or
+/// zero where no item has one.
 pub fn place_law()
     ensures { PlaceLaw }
 {}

@@ -1,4 +1,5 @@
-//! Lists of whole-number fields: what they lay out, how they are read and written, and the program over them; and a frame, the pattern of a codec by hand.
+//! Lists of whole-number fields: what they lay out, how they are read and written, and the program
+//! over them; and a frame, the pattern of a codec by hand.
 #![tactic(auto)]
 
 mod cut;

@@ -73,7 +73,8 @@ impl Kind {
         }
     }
 
-    /// Whether a number is one of its own: with a sign or without, as it has one or not, and in its range.
+    /// Whether a number is one of its own: with a sign or without, as it has one or not, and in its
+    /// range.
     ///
     /// ```text
     /// Kind::U8.holds(Number::Unsigned(256))                      // false
@@ -123,7 +124,8 @@ pub(crate) fn is_below(value: u128, bits: usize) -> bool
 fn is_within(value: i128, bits: usize) -> bool
     requires some { 0 < bits }
     requires within { bits ≤ 128 }
-    ensures { IsTrue result ↔ ((neg_ℤ (pos (2 ^ (bits - 1))) ≤ℤ value) × (value <ℤ pos (2 ^ (bits - 1)))) }
+    ensures { IsTrue result ↔ ((neg_ℤ (pos (2 ^ (bits - 1))) ≤ℤ value)
+        × (value <ℤ pos (2 ^ (bits - 1)))) }
 {
     if value >= 0 {
         is_below(value as u128, bits - 1)
@@ -145,7 +147,8 @@ pub(crate) fn plain_width(number_type: NumberType, size: Size) -> Option<usize>
     }
 }
 
-/// How many bits a field without a sign has that is big and `Msb0`, where they are at most 64 and its layout is not refused.
+/// How many bits a field without a sign has that is big and `Msb0`, where they are at most 64 and
+/// its layout is not refused.
 #[inline(always)]
 pub(crate) fn high_width(field: &Field) -> Option<usize>
     ensures unsigned { IfSome result (λ n. (number_type field.now.kind).signed ≡ false) }

@@ -26,15 +26,19 @@ pub struct Place {
     pub bit: usize,
 }
 
-/// The picture of the bytes that the fields lay out: which bit of which field each bit of these bytes is, or that it is padding.
+/// The picture of the bytes that the fields lay out: which bit of which field each bit of these
+/// bytes is, or that it is padding.
 ///
-/// It has eight places for each byte, as bytes are printed, the highest bit of each first: index `k` is the bit of byte `k / 8` that counts
-/// two to the power of `7 - k % 8`. `None` is padding, which is zero. Whatever values the fields have, if they fit, the bytes that these lay
-/// out have at each place that bit of that field's value, in two's complement where there is a sign.
+/// It has eight places for each byte, as bytes are printed, the highest bit of each first: index
+/// `k` is the bit of byte `k / 8` that counts two to the power of `7 - k % 8`. `None` is padding,
+/// which is zero. Whatever values the fields have, if they fit, the bytes that these lay out have
+/// at each place that bit of that field's value, in two's complement where there is a sign.
 ///
-/// The first field that stands in the way refuses it: where its layout is refused, with what `write_list` refuses that with; where its order is
-/// another one inside a byte, with `InvalidParam("order changes inside a byte")`. `write_list` writes such a field too, but nothing is promised
-/// of the way back. Where the fields have a picture and no memory is found for it, it is `Io(OutOfMemory)`; none is asked for before.
+/// The first field that stands in the way refuses it: where its layout is refused, with what
+/// `write_list` refuses that with; where its order is another one inside a byte, with
+/// `InvalidParam("order changes inside a byte")`. `write_list` writes such a field too, but nothing
+/// is promised of the way back. Where the fields have a picture and no memory is found for it, it
+/// is `Io(OutOfMemory)`; none is asked for before.
 ///
 /// ```text
 /// // 4 bits, 4 bits and a `u16`, big and `Msb0`
@@ -43,11 +47,14 @@ pub struct Place {
 /// picture[23]                                    // Some(Place { field: 2, bit: 0 })
 /// ```
 pub fn places(alloc: Global, fields: &[Field]) -> Result<Vec<Option<Place>>, DekuError>
-    ensures size { IfOk result (λ v. length v.items ≡ 8 * groups (total (map field_shape fields.now))) }
-    ensures places { IfOk result (λ v. (k : ℕ) → k < length v.items → IsAt fields.now k (slice_index_or v.items k None)) }
+    ensures size { IfOk result (λ v. length v.items ≡ 8 * groups
+        (total (map field_shape fields.now))) }
+    ensures places { IfOk result (λ v. (k : ℕ) → k < length v.items
+        → IsAt fields.now k (slice_index_or v.items k None)) }
     ensures picture { IfOk result (λ v. IsPicture fields.now v.items) }
     ensures drawable { OnOk result (AreDrawable fields.now) }
-    ensures refused { IfErr result (λ e. IsUndrawable fields.now e ⊎ ((e ≡ Io OutOfMemory) × AreDrawable fields.now)) }
+    ensures refused { IfErr result (λ e. IsUndrawable fields.now e
+        ⊎ ((e ≡ Io OutOfMemory) × AreDrawable fields.now)) }
 {
     let count = drawable_places(fields)?;
     let Ok(mut cells) = vec![in alloc; None; count] else {
@@ -57,11 +64,13 @@ pub fn places(alloc: Global, fields: &[Field]) -> Result<Vec<Option<Place>>, Dek
     Ok(cells)
 }
 
-// How many places the bytes have that the fields lay out, where these have a picture. No memory has more than a `usize` counts.
+// How many places the bytes have that the fields lay out, where these have a picture. No memory has
+// more than a `usize` counts.
 fn drawable_places(fields: &[Field]) -> Result<usize, DekuError>
     ensures count { IfOk result (λ n. n ≡ 8 * groups (total (map field_shape fields.now))) }
     ensures drawable { OnOk result (AreDrawable fields.now) }
-    ensures refused { IfErr result (λ e. IsUndrawable fields.now e ⊎ ((e ≡ Io OutOfMemory) × AreDrawable fields.now)) }
+    ensures refused { IfErr result (λ e. IsUndrawable fields.now e
+        ⊎ ((e ≡ Io OutOfMemory) × AreDrawable fields.now)) }
 {
     let mut bits: u128 = 0;
     let mut order = Order::Msb0;
@@ -86,7 +95,8 @@ fn drawable_width(field: &Field) -> Result<usize, DekuError>
     ensures width { IfOk result (λ n. n ≡ field_width field.now) }
     ensures few { IfOk result (λ n. n ≤ 128) }
     ensures allowed { OnOk result (IsAllowedField field.now) }
-    ensures refused { IfErr result (λ e. IsLayoutRefusal InvalidParam (beyond field.now.layout.size) (number_type field.now.kind) field.now.layout e) }
+    ensures refused { IfErr result (λ e. IsLayoutRefusal InvalidParam (beyond field.now.layout.size)
+        (number_type field.now.kind) field.now.layout e) }
 {
     match allowed_width(field.kind.number_type(), field.layout) {
         Ok(width) => Ok(width),
@@ -111,15 +121,18 @@ fn mark_fields(cells: &mut [Option<Place>], fields: &[Field])
     }
 }
 
-// Puts each bit of one field at its place, the first of them as the bit `at` that is met, and answers which bit is met behind them.
+// Puts each bit of one field at its place, the first of them as the bit `at` that is met, and
+// answers which bit is met behind them.
 fn mark_field(cells: &mut [Option<Place>], fields: &[Field], index: usize, at: usize) -> usize
     requires within { index < length fields.now }
     requires room { length cells.old ≡ 8 * groups (total (map field_shape fields.now)) }
     requires allowed { All IsAllowedField fields.now }
     requires met { at ≡ start fields.now index }
-    requires before { (k : ℕ) → k < length cells.old → IsMarked fields.now index 0 k (slice_index_or cells.old k None) }
+    requires before { (k : ℕ) → k < length cells.old → IsMarked fields.now index 0 k
+        (slice_index_or cells.old k None) }
     ensures met { result ≡ start fields.now (index + 1) }
-    ensures marked { (k : ℕ) → k < length cells.new → IsMarked fields.now (index + 1) 0 k (slice_index_or cells.new k None) }
+    ensures marked { (k : ℕ) → k < length cells.new → IsMarked fields.now (index + 1) 0 k
+        (slice_index_or cells.new k None) }
 {
     let field = fields[index];
     let layout = field.layout;

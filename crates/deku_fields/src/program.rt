@@ -66,15 +66,19 @@ impl From<AllocError> for Failure {
     }
 }
 
-/// Runs the program on the arguments after its name, and answers its status: 0 where it is done, 1 where the input, the output,
-/// the memory or a value stood in the way, and 2 where the arguments are not of a form that it knows.
+/// Runs the program on the arguments after its name, and answers its status: 0 where it is done, 1
+/// where the input, the output, the memory or a value stood in the way, and 2 where the arguments
+/// are not of a form that it knows.
 ///
-/// `write SPEC=VALUE..` prints the bytes of the items in hexadecimal, and `read SPEC..` reads such text, of either case and without one
-/// newline at its end, and prints the value of each field on a line of its own, and then how many bits were read.
+/// `write SPEC=VALUE..` prints the bytes of the items in hexadecimal, and `read SPEC..` reads such
+/// text, of either case and without one newline at its end, and prints the value of each field on a
+/// line of its own, and then how many bits were read.
 ///
-/// A run that is not done is told of in one line on `errors`: the usage with status 2, and with status 1 `error: bad hexadecimal text`
-/// or `error: ` and the text of the fault. The arguments are looked at before the input and before any memory is taken, and nothing goes to
-/// the output until all of the text is known, so it gains nothing then but what a failing output took. A fault of `errors` changes nothing.
+/// A run that is not done is told of in one line on `errors`: the usage with status 2, and with
+/// status 1 `error: bad hexadecimal text` or `error: ` and the text of the fault. The arguments are
+/// looked at before the input and before any memory is taken, and nothing goes to the output until
+/// all of the text is known, so it gains nothing then but what a failing output took. A fault of
+/// `errors` changes nothing.
 ///
 /// ```text
 /// write u8,big,bits4=6 u8,big,bits4=9 u16,big=49406   // prints 69c0fe, status 0
@@ -89,13 +93,20 @@ pub fn run<R: Read, W: Write, E: Write>(
     errors: &mut E,
 ) -> u8
     ensures status { result ≤ 2 }
-    ensures done { result ≡ 0 → IsDone (words_of args.now) (R.remaining input.old) (W.contents output.old) (W.contents output.new) }
+    ensures done { result ≡ 0 → IsDone (words_of args.now) (R.remaining input.old)
+        (W.contents output.old) (W.contents output.new) }
     ensures quiet { result ≡ 0 → errors.new ≡ errors.old }
-    ensures usage { result ≡ 2 → AreNoForm (words_of args.now) × (input.new ≡ input.old) × (output.new ≡ output.old) }
+    ensures usage { result ≡ 2 → AreNoForm (words_of args.now) × (input.new ≡ input.old)
+        × (output.new ≡ output.old) }
     ensures formed { AreNoForm (words_of args.now) → result ≡ 2 }
-    ensures told { result ≡ 2 → IsBegun (E.contents errors.old) (E.contents errors.new) (message Usage) }
-    ensures stopped { result ≡ 1 → IsStopped (words_of args.now) (R.remaining input.old) (W.contents output.old) (W.contents output.new) (E.contents errors.old) (E.contents errors.new) }
-    ensures kept { result ≡ 1 → (output.new ≡ output.old) ⊎ IsUnfinished (words_of args.now) (R.remaining input.old) (W.contents output.old) (W.contents output.new) }
+    ensures told { result ≡ 2 → IsBegun (E.contents errors.old) (E.contents errors.new)
+        (message Usage) }
+    ensures stopped { result ≡ 1 → IsStopped (words_of args.now) (R.remaining input.old)
+        (W.contents output.old) (W.contents output.new) (E.contents errors.old)
+        (E.contents errors.new) }
+    ensures kept { result ≡ 1 → (output.new ≡ output.old)
+        ⊎ IsUnfinished (words_of args.now) (R.remaining input.old) (W.contents output.old)
+        (W.contents output.new) }
     ensures unread { AsksToRead (words_of args.now) ⊎ (input.new ≡ input.old) }
 {
     let Err(failure) = command(alloc, args, input, output) else {
@@ -117,7 +128,8 @@ fn status_of(failure: &Failure) -> u8
 
 // Tells of a failure in a line, of which `errors` takes a beginning where it fails.
 fn complain<E: Write>(errors: &mut E, failure: &Failure) -> io::Result<()>
-    ensures told { OnOk result (Appends (E.contents errors.old) (E.contents errors.new) (message failure.now)) }
+    ensures told { OnOk result (Appends (E.contents errors.old) (E.contents errors.new)
+        (message failure.now)) }
     ensures begun { IsBegun (E.contents errors.old) (E.contents errors.new) (message failure.now) }
 {
     match failure {
@@ -127,15 +139,17 @@ fn complain<E: Write>(errors: &mut E, failure: &Failure) -> io::Result<()>
     }
 }
 
-/// Gives the whole text to an output, which may take it in parts; an interrupted write is tried again. Where the output fails, or takes no
-/// more, that is the error, and the text was not taken to its end.
+/// Gives the whole text to an output, which may take it in parts; an interrupted write is tried
+/// again. Where the output fails, or takes no more, that is the error, and the text was not taken
+/// to its end.
 ///
 /// ```text
 /// give_text(&mut output, b"69c0fe\n")?
 /// ```
 pub fn give_text<W: Write>(output: &mut W, text: &[u8]) -> io::Result<()>
     ensures given { OnOk result (Appends (W.contents output.old) (W.contents output.new) text.now) }
-    ensures cut { OnErr result (IsCutShort (W.contents output.old) (W.contents output.new) text.now) }
+    ensures cut { OnErr result (IsCutShort (W.contents output.old) (W.contents output.new)
+        text.now) }
 {
     let mut rest = text;
     let mut tries = u64::MAX;
@@ -161,11 +175,16 @@ fn command<R: Read, W: Write>(
     input: &mut R,
     output: &mut W,
 ) -> Result<(), Failure>
-    ensures done { OnOk result (IsDone (words_of args.now) (R.remaining input.old) (W.contents output.old) (W.contents output.new)) }
+    ensures done { OnOk result (IsDone (words_of args.now) (R.remaining input.old)
+        (W.contents output.old) (W.contents output.new)) }
     ensures formed { AreNoForm (words_of args.now) → result ≡ Err Usage }
-    ensures ends { IfErr result (RunEnds (words_of args.now) (R.remaining input.old) (W.contents output.old) (W.contents output.new)) }
-    ensures usage { IfErr result (λ e. e ≡ Usage → AreNoForm (words_of args.now) × (input.new ≡ input.old) × (output.new ≡ output.old)) }
-    ensures kept { OnErr result ((output.new ≡ output.old) ⊎ IsUnfinished (words_of args.now) (R.remaining input.old) (W.contents output.old) (W.contents output.new)) }
+    ensures ends { IfErr result (RunEnds (words_of args.now) (R.remaining input.old)
+        (W.contents output.old) (W.contents output.new)) }
+    ensures usage { IfErr result (λ e. e ≡ Usage → AreNoForm (words_of args.now)
+        × (input.new ≡ input.old) × (output.new ≡ output.old)) }
+    ensures kept { OnErr result ((output.new ≡ output.old)
+        ⊎ IsUnfinished (words_of args.now) (R.remaining input.old) (W.contents output.old)
+        (W.contents output.new)) }
     ensures unread { AsksToRead (words_of args.now) ⊎ (input.new ≡ input.old) }
 {
     if !are_form(args) {
@@ -176,7 +195,8 @@ fn command<R: Read, W: Write>(
     Ok(())
 }
 
-// Whether the words are of a form that the program knows. This takes no memory, so that words of no form are told as such whatever memory there is.
+// Whether the words are of a form that the program knows. This takes no memory, so that words of no
+// form are told as such whatever memory there is.
 fn are_form(args: &[String]) -> bool
     ensures { IsTrue result ↔ AreForm (words_of args.now) }
 {
@@ -216,9 +236,11 @@ fn are_fields(specs: &[String]) -> bool
 
 // The text that the words ask for.
 fn asked<R: Read>(alloc: Global, args: &[String], input: &mut R) -> Result<String, Failure>
-    ensures known { IfOk result (λ text. Asks (words_of args.now) (R.remaining input.old) (string_bytes text)) }
+    ensures known { IfOk result (λ text. Asks (words_of args.now) (R.remaining input.old)
+        (string_bytes text)) }
     ensures stops { IfErr result (λ e. Stops (words_of args.now) (R.remaining input.old) e) }
-    ensures usage { IfErr result (λ e. e ≡ Usage → AreNoForm (words_of args.now) × (input.new ≡ input.old)) }
+    ensures usage { IfErr result (λ e. e ≡ Usage → AreNoForm (words_of args.now)
+        × (input.new ≡ input.old)) }
     ensures unread { AsksToRead (words_of args.now) ⊎ (input.new ≡ input.old) }
 {
     let [name, specs @ ..] = args else {
@@ -249,10 +271,13 @@ fn written(alloc: Global, specs: &[String]) -> Result<String, Failure>
     Ok(text)
 }
 
-// The values that the fields named by the words read from the input, and the count of bits, as lines of text.
+// The values that the fields named by the words read from the input, and the count of bits, as
+// lines of text.
 fn read<R: Read>(alloc: Global, specs: &[String], input: &mut R) -> Result<String, Failure>
-    ensures shown { IfOk result (λ text. ShowsRead (words_of specs.now) (R.remaining input.old) (string_bytes text)) }
-    ensures stops { IfErr result (λ e. ReadingStops (words_of specs.now) (R.remaining input.old) e) }
+    ensures shown { IfOk result (λ text. ShowsRead (words_of specs.now) (R.remaining input.old)
+        (string_bytes text)) }
+    ensures stops { IfErr result (λ e. ReadingStops (words_of specs.now) (R.remaining input.old)
+        e) }
     ensures unread { IfErr result (λ e. e ≡ Usage → input.new ≡ input.old) }
 {
     let fields = fields_named(alloc, specs)?;
@@ -268,7 +293,8 @@ fn read<R: Read>(alloc: Global, specs: &[String], input: &mut R) -> Result<Strin
 // The fields that the words name.
 fn fields_named(alloc: Global, specs: &[String]) -> Result<Vec<Field>, Failure>
     ensures named { IfOk result (λ fields. AllZip NamesField (words_of specs.now) fields.items) }
-    ensures usage { IfErr result (λ e. e ≡ Usage → (fields : List ListField) → AllZip NamesField (words_of specs.now) fields → ⊥) }
+    ensures usage { IfErr result (λ e. e ≡ Usage → (fields : List ListField)
+        → AllZip NamesField (words_of specs.now) fields → ⊥) }
     ensures memory { IfErr result (λ e. (e ≡ Usage) ⊎ (e ≡ Fault (Io OutOfMemory))) }
 {
     let mut fields: Vec<Field> = Vec::new(alloc);
@@ -283,7 +309,8 @@ fn fields_named(alloc: Global, specs: &[String]) -> Result<Vec<Field>, Failure>
 
 // The numbers in decimal digits, a line each.
 fn number_lines(alloc: Global, numbers: &[Number]) -> Result<String, Failure>
-    ensures shown { IfOk result (λ text. string_bytes text ≡ flat_map (λ n. line (number_text n)) numbers.now) }
+    ensures shown { IfOk result (λ text. string_bytes text ≡ flat_map (λ n. line (number_text n))
+        numbers.now) }
     ensures memory { IfErr result (λ e. e ≡ Fault (Io OutOfMemory)) }
 {
     let mut text = String::new(alloc);

@@ -22,11 +22,13 @@ use std::io::{Cursor, ErrorKind};
 
 /// Reads one value for each field, in order, into `out`. It takes no memory.
 ///
-/// A field is refused as its number is: with `Parse("too much data")` where its size is beyond its kind, with
-/// `InvalidParam("signed big Lsb0 field of this width")`, and then as `Reader` refuses to read its bits. What the fields before it
-/// moved stays moved, and what `out` holds is then open. Without fields no call is made on the reader.
+/// A field is refused as its number is: with `Parse("too much data")` where its size is beyond its
+/// kind, with `InvalidParam("signed big Lsb0 field of this width")`, and then as `Reader` refuses
+/// to read its bits. What the fields before it moved stays moved, and what `out` holds is then
+/// open. Without fields no call is made on the reader.
 ///
-/// As many bytes of the source are fetched as the fields' bits need behind the unread ones, and none behind the last one that a field touches.
+/// As many bytes of the source are fetched as the fields' bits need behind the unread ones, and
+/// none behind the last one that a field touches.
 ///
 /// The caller's condition: `out` has one place for each field.
 ///
@@ -40,15 +42,21 @@ pub fn read_list_into<R: Source>(
     out: &mut [Number],
 ) -> Result<(), DekuError>
     requires { length out.old ≡ length fields.now }
-    ensures meaning { Reads R.known (ReadsFields fields.now) reader.old (filling result out.new) reader.new }
-    ensures values { ReadsWhereSound R.known (ReadsBack fields.now) reader.old (filling result out.new) reader.new }
-    ensures found { ReadsWhereTold R.known (FindsAny fields.now) reader.old (filling result out.new) reader.new }
-    ensures behind { LeavesBehind R.known fields.now reader.old (filling result out.new) reader.new }
-    ensures fetched { OnOk result (FetchesFor (total (map field_shape fields.now)) reader.old.state (R.known reader.old.source) (R.known reader.new.source)) }
+    ensures meaning { Reads R.known (ReadsFields fields.now) reader.old (filling result out.new)
+        reader.new }
+    ensures values { ReadsWhereSound R.known (ReadsBack fields.now) reader.old
+        (filling result out.new) reader.new }
+    ensures found { ReadsWhereTold R.known (FindsAny fields.now) reader.old (filling result out.new)
+        reader.new }
+    ensures behind { LeavesBehind R.known fields.now reader.old (filling result out.new)
+        reader.new }
+    ensures fetched { OnOk result (FetchesFor (total (map field_shape fields.now)) reader.old.state
+        (R.known reader.old.source) (R.known reader.new.source)) }
     ensures early { NoneEarly reader.old.state reader.new.state }
     ensures stopped { Untouched reader.old.state reader.old.source reader.new.source }
     ensures none { fields.now ≡ [] → reader.new ≡ reader.old }
-    ensures cause { Caused NoKind reader.old.state (R.known reader.old.source).health result (R.known reader.new.source).health }
+    ensures cause { Caused NoKind reader.old.state (R.known reader.old.source).health result
+        (R.known reader.new.source).health }
 {
     for (place, field) in fields.iter().enumerate() {
         match read_field(reader, field) {
@@ -63,7 +71,8 @@ pub fn read_list_into<R: Source>(
 #[inline(always)]
 fn read_field<R: Source>(reader: &mut Reader<R>, field: &Field) -> Result<Number, DekuError>
     ensures reads { Reads R.known (ReadsField field.now) reader.old result reader.new }
-    ensures fetched { OnOk result (FetchesFor (field_width field.now) reader.old.state (R.known reader.old.source) (R.known reader.new.source)) }
+    ensures fetched { OnOk result (FetchesFor (field_width field.now) reader.old.state
+        (R.known reader.old.source) (R.known reader.new.source)) }
     ensures early { NoneEarly reader.old.state reader.new.state }
     ensures stopped { Untouched reader.old.state reader.old.source reader.new.source }
 {
@@ -73,11 +82,14 @@ fn read_field<R: Source>(reader: &mut Reader<R>, field: &Field) -> Result<Number
     }
 }
 
-// The number of a field of bits that go from the highest down, where nothing refuses it and they are at hand. It answers none else, and then nothing moves.
+// The number of a field of bits that go from the highest down, where nothing refuses it and they
+// are at hand. It answers none else, and then nothing moves.
 #[inline(always)]
 fn plain_number<R: Source>(reader: &mut Reader<R>, field: &Field) -> Option<u64>
-    ensures reads { IfSome result (λ n. Reads R.known (ReadsField field.now) reader.old (Ok (Unsigned n)) reader.new) }
-    ensures fetched { IfSome result (λ n. FetchesFor (field_width field.now) reader.old.state (R.known reader.old.source) (R.known reader.new.source)) }
+    ensures reads { IfSome result (λ n. Reads R.known (ReadsField field.now) reader.old
+        (Ok (Unsigned n)) reader.new) }
+    ensures fetched { IfSome result (λ n. FetchesFor (field_width field.now) reader.old.state
+        (R.known reader.old.source) (R.known reader.new.source)) }
     ensures early { NoneEarly reader.old.state reader.new.state }
     ensures stays { IsNone result → reader.new ≡ reader.old }
     ensures stopped { Untouched reader.old.state reader.old.source reader.new.source }
@@ -91,7 +103,8 @@ fn plain_number<R: Source>(reader: &mut Reader<R>, field: &Field) -> Option<u64>
 #[inline(always)]
 fn read_checked<R: Source>(reader: &mut Reader<R>, field: &Field) -> Result<Number, DekuError>
     ensures reads { Reads R.known (ReadsField field.now) reader.old result reader.new }
-    ensures fetched { OnOk result (FetchesFor (field_width field.now) reader.old.state (R.known reader.old.source) (R.known reader.new.source)) }
+    ensures fetched { OnOk result (FetchesFor (field_width field.now) reader.old.state
+        (R.known reader.old.source) (R.known reader.new.source)) }
     ensures early { NoneEarly reader.old.state reader.new.state }
     ensures stopped { Untouched reader.old.state reader.old.source reader.new.source }
 {
@@ -105,7 +118,8 @@ fn read_checked<R: Source>(reader: &mut Reader<R>, field: &Field) -> Result<Numb
     }
 }
 
-/// One value for each field, in order. It is `read_list_into` a vector, whose memory is found first.
+/// One value for each field, in order. It is `read_list_into` a vector, whose memory is found
+/// first.
 ///
 /// Where no memory is found it is refused with `Io(OutOfMemory)`, and nothing moves.
 ///
@@ -117,14 +131,18 @@ pub fn read_list<R: Source>(
     fields: &[Field],
 ) -> Result<Vec<Number>, DekuError>
     ensures meaning { Reads R.known (ReadsList fields.now) reader.old (items_of result) reader.new }
-    ensures values { ReadsWhereSound R.known (ReadsBackVec fields.now) reader.old (items_of result) reader.new }
-    ensures found { ReadsWhereTold R.known (FindsAny fields.now) reader.old (items_of result) reader.new }
+    ensures values { ReadsWhereSound R.known (ReadsBackVec fields.now) reader.old (items_of result)
+        reader.new }
+    ensures found { ReadsWhereTold R.known (FindsAny fields.now) reader.old (items_of result)
+        reader.new }
     ensures behind { LeavesBehind R.known fields.now reader.old (items_of result) reader.new }
-    ensures fetched { OnOk result (FetchesFor (total (map field_shape fields.now)) reader.old.state (R.known reader.old.source) (R.known reader.new.source)) }
+    ensures fetched { OnOk result (FetchesFor (total (map field_shape fields.now)) reader.old.state
+        (R.known reader.old.source) (R.known reader.new.source)) }
     ensures early { NoneEarly reader.old.state reader.new.state }
     ensures stopped { Untouched reader.old.state reader.old.source reader.new.source }
     ensures none { fields.now ≡ [] → reader.new ≡ reader.old }
-    ensures cause { Caused WantsMemory reader.old.state (R.known reader.old.source).health result (R.known reader.new.source).health }
+    ensures cause { Caused WantsMemory reader.old.state (R.known reader.old.source).health result
+        (R.known reader.new.source).health }
 {
     let Ok(mut numbers) = vec![in reader.alloc(); Number::Unsigned(0); fields.len()] else {
         return Err(DekuError::Io(ErrorKind::OutOfMemory));
@@ -151,7 +169,8 @@ pub fn list_from_bytes(
     ensures meaning { ListFrom fields.now bytes.now result }
     ensures values { ReadsBackFrom fields.now bytes.now result }
     ensures found { FindsIn fields.now bytes.now result }
-    ensures fetched { IfOk result (λ v. (v.0 ≡ total (map field_shape fields.now)) × (v.0 ≤ 8 * length bytes.now)) }
+    ensures fetched { IfOk result (λ v. (v.0 ≡ total (map field_shape fields.now))
+        × (v.0 ≤ 8 * length bytes.now)) }
     ensures cause { IfErr result (λ e. (k : IoKind) → e ≡ Io k → WantsMemory k) }
 {
     let mut reader = Reader::new(alloc, Cursor::new(bytes));

@@ -70,8 +70,10 @@ fn io_kind_name(kind: ErrorKind) -> &'static str
 /// give_parts(&mut output, &["bits ", "16", "\n"])?;
 /// ```
 pub fn give_parts<W: Write>(output: &mut W, parts: &[&str]) -> io::Result<()>
-    ensures given { OnOk result (Appends (W.contents output.old) (W.contents output.new) (joined_text parts.now)) }
-    ensures begun { IsBegun (W.contents output.old) (W.contents output.new) (joined_text parts.now) }
+    ensures given { OnOk result (Appends (W.contents output.old) (W.contents output.new)
+        (joined_text parts.now)) }
+    ensures begun { IsBegun (W.contents output.old) (W.contents output.new)
+        (joined_text parts.now) }
 {
     for part in parts {
         give_text(output, part.as_bytes())?;
@@ -81,7 +83,8 @@ pub fn give_parts<W: Write>(output: &mut W, parts: &[&str]) -> io::Result<()>
 
 // Gives the text of a fault to an output, which takes a beginning of it where it fails.
 fn give_fault<W: Write>(output: &mut W, fault: &DekuError) -> io::Result<()>
-    ensures given { OnOk result (Appends (W.contents output.old) (W.contents output.new) (fault_text fault.now)) }
+    ensures given { OnOk result (Appends (W.contents output.old) (W.contents output.new)
+        (fault_text fault.now)) }
     ensures begun { IsBegun (W.contents output.old) (W.contents output.new) (fault_text fault.now) }
 {
     match *fault {
@@ -110,15 +113,17 @@ fn give_fault<W: Write>(output: &mut W, fault: &DekuError) -> io::Result<()>
     }
 }
 
-/// Gives an output the line of a fault: `error: `, its text, and more texts after that. Where the output fails, or takes no more, that is the error, and it took a
-/// beginning of the line.
+/// Gives an output the line of a fault: `error: `, its text, and more texts after that. Where the
+/// output fails, or takes no more, that is the error, and it took a beginning of the line.
 ///
 /// ```text
 /// tell_fault(&mut errors, &DekuError::Assertion("version"), &[", at bit ", "4"])?;   // "error: version, at bit 4" and a newline
 /// ```
 pub fn tell_fault<W: Write>(output: &mut W, fault: &DekuError, more: &[&str]) -> io::Result<()>
-    ensures told { OnOk result (Appends (W.contents output.old) (W.contents output.new) (fault_line fault.now (joined_text more.now))) }
-    ensures begun { IsBegun (W.contents output.old) (W.contents output.new) (fault_line fault.now (joined_text more.now)) }
+    ensures told { OnOk result (Appends (W.contents output.old) (W.contents output.new)
+        (fault_line fault.now (joined_text more.now))) }
+    ensures begun { IsBegun (W.contents output.old) (W.contents output.new)
+        (fault_line fault.now (joined_text more.now)) }
 {
     give_text(output, b"error: ")?;
     give_fault(output, fault)?;

@@ -12,7 +12,8 @@ ghost use Rattle.deku_fields.specs.Naming.{kind_name, BeginsOption, SplitsEndian
 use crate::list::{Field, Item, Kind, Number};
 use deku::ctx::{Endian, Layout, Order, Size};
 
-/// The field that a word names: `kind[,big|,little][,msb|,lsb][,bitsN|,bytesN]`. None where it names no field.
+/// The field that a word names: `kind[,big|,little][,msb|,lsb][,bitsN|,bytesN]`. None where it
+/// names no field.
 ///
 /// ```text
 /// parse_field("u8,big,bits4")       // four bits of a `u8`, big and `Msb0`
@@ -33,7 +34,8 @@ pub fn parse_field(word: &str) -> Option<Field>
     Some(Field { kind, layout })
 }
 
-/// The item that a word names: a field, `=` and a value in decimal digits, with or without a minus. None where it names no item.
+/// The item that a word names: a field, `=` and a value in decimal digits, with or without a minus.
+/// None where it names no item.
 ///
 /// ```text
 /// parse_item("u16,big=49406")       // C0 FE
@@ -50,7 +52,8 @@ pub fn parse_item(word: &str) -> Option<Item>
 
 // The kind of this name.
 fn parse_kind(name: &str) -> Option<Kind>
-    ensures { MatchOption result ((k : FieldKind) → name.now ≡ kind_name k → ⊥) (λ k. name.now ≡ kind_name k) }
+    ensures { MatchOption result ((k : FieldKind) → name.now ≡ kind_name k → ⊥)
+        (λ k. name.now ≡ kind_name k) }
 {
     match name {
         "u8" => Some(Kind::U8),
@@ -71,7 +74,9 @@ fn parse_kind(name: &str) -> Option<Kind>
 
 // The kind in front of the first comma, and what stands from there on.
 fn split_kind(word: &str) -> Option<(Kind, &str)>
-    ensures { MatchOption result ((k : FieldKind) (rest : List ℕ) → word.now ≡ kind_name k ++ rest → BeginsOption rest → ⊥) (λ p. (word.now ≡ kind_name p.0 ++ p.1.now) × BeginsOption p.1.now) }
+    ensures { MatchOption result ((k : FieldKind) (rest : List ℕ) → word.now ≡ kind_name k ++ rest
+        → BeginsOption rest → ⊥) (λ p. (word.now ≡ kind_name p.0 ++ p.1.now)
+        × BeginsOption p.1.now) }
 {
     let end = word.find(',').unwrap_or(word.len());
     match parse_kind(&word[..end]) {
@@ -108,14 +113,16 @@ fn split_order(text: &str) -> (Order, &str)
 
 // The text behind another at its front, where that stands there.
 fn behind<'a>(text: &'a str, front: &str) -> Option<&'a str>
-    ensures { MatchOption result ((rest : List ℕ) → text.now ≡ front.now ++ rest → ⊥) (λ rest. text.now ≡ front.now ++ rest.now) }
+    ensures { MatchOption result ((rest : List ℕ) → text.now ≡ front.now ++ rest → ⊥)
+        (λ rest. text.now ≡ front.now ++ rest.now) }
 {
     text.strip_prefix(front)
 }
 
 // The size that the end of a field's word names.
 fn parse_size(text: &str) -> Option<Size>
-    ensures { MatchOption result ((s : FieldSize) → NamesSize text.now s → ⊥) (λ s. NamesSize text.now s) }
+    ensures { MatchOption result ((s : FieldSize) → NamesSize text.now s → ⊥)
+        (λ s. NamesSize text.now s) }
 {
     if text.is_empty() {
         return Some(Size::Whole);
@@ -128,7 +135,8 @@ fn parse_size(text: &str) -> Option<Size>
 
 // A count in decimal digits alone.
 fn parse_count(digits: &str) -> Option<usize>
-    ensures { SomeIff result (IsNumeral 10 digits.now × (digits_value 10 digits.now < 2 ^ 64)) (digits_value 10 digits.now) }
+    ensures { SomeIff result (IsNumeral 10 digits.now × (digits_value 10 digits.now < 2 ^ 64))
+        (digits_value 10 digits.now) }
 {
     if !is_digits(digits) {
         return None;
@@ -136,9 +144,11 @@ fn parse_count(digits: &str) -> Option<usize>
     digits.parse().ok()
 }
 
-// A number in decimal digits, with or without a minus. Without one it is signed for a signed kind where it can be.
+// A number in decimal digits, with or without a minus. Without one it is signed for a signed kind
+// where it can be.
 fn parse_number(text: &str, kind: Kind) -> Option<Number>
-    ensures { MatchOption result ((n : FieldNumber) → NamesNumber kind text.now n → ⊥) (λ n. NamesNumber kind text.now n) }
+    ensures { MatchOption result ((n : FieldNumber) → NamesNumber kind text.now n → ⊥)
+        (λ n. NamesNumber kind text.now n) }
 {
     if let Some(digits) = behind(text, "-") {
         if !is_digits(digits) {

@@ -24,21 +24,25 @@ use deku_num::kernel::unsigned_word;
 use std::alloc::Global;
 use std::io::Cursor;
 
-/// Writes the items one after the other, without padding. It takes no memory but what the sink takes.
+/// Writes the items one after the other, without padding. It takes no memory but what the sink
+/// takes.
 ///
-/// An item is refused with `InvalidParam("value outside type")` where its value is none of its kind, then as its number is: where
-/// the size is beyond the kind, where a signed big `Lsb0` field has such a width, where the value does not fit; and then as `Writer`
-/// refuses to write its bits. What the items before it moved stays moved. Without items no call is made on the writer.
+/// An item is refused with `InvalidParam("value outside type")` where its value is none of its
+/// kind, then as its number is: where the size is beyond the kind, where a signed big `Lsb0` field
+/// has such a width, where the value does not fit; and then as `Writer` refuses to write its bits.
+/// What the items before it moved stays moved. Without items no call is made on the writer.
 ///
 /// ```text
 /// write_list(&mut writer, &[six_in_four, nine_in_four])?;    // the byte 69
 /// ```
 pub fn write_list<W: Sink>(writer: &mut Writer<W>, items: &[Item]) -> Result<(), DekuError>
     ensures meaning { Writes W.known (WritesItems items.now) writer.old result writer.new }
-    ensures laid_out { WritesWhereSound W.known (WritesLaid items.now) writer.old result writer.new }
+    ensures laid_out { WritesWhereSound W.known (WritesLaid items.now) writer.old result
+        writer.new }
     ensures stopped { Untouched writer.old.state writer.old.sink writer.new.sink }
     ensures none { items.now ≡ [] → writer.new ≡ writer.old }
-    ensures cause { Caused WantsPlace writer.old.state (W.known writer.old.sink).health result (W.known writer.new.sink).health }
+    ensures cause { Caused WantsPlace writer.old.state (W.known writer.old.sink).health result
+        (W.known writer.new.sink).health }
 {
     for item in items {
         match write_item(writer, item) {
@@ -64,11 +68,12 @@ fn write_item<W: Sink>(writer: &mut Writer<W>, item: &Item) -> Result<(), DekuEr
     }
 }
 
-// Writes the value of an item whose bits go from the highest down, where nothing refuses it and they are laid, and answers whether it did. Else nothing
-// changes.
+// Writes the value of an item whose bits go from the highest down, where nothing refuses it and
+// they are laid, and answers whether it did. Else nothing changes.
 #[inline(always)]
 fn laid_high<W: Sink>(writer: &mut Writer<W>, item: &Item) -> bool
-    ensures writes { IsTrue result → Writes W.known (WritesItem item.now) writer.old (Ok tt) writer.new }
+    ensures writes { IsTrue result → Writes W.known (WritesItem item.now) writer.old (Ok tt)
+        writer.new }
     ensures stays { IsFalse result → writer.new ≡ writer.old }
     ensures stopped { Untouched writer.old.state writer.old.sink writer.new.sink }
 {
@@ -78,7 +83,8 @@ fn laid_high<W: Sink>(writer: &mut Writer<W>, item: &Item) -> bool
     }
 }
 
-// The value of an item and how many bits it has, where these go from the highest down, are at most 64, and nothing refuses it.
+// The value of an item and how many bits it has, where these go from the highest down, are at most
+// 64, and nothing refuses it.
 #[inline(always)]
 fn plain_high(item: &Item) -> Option<(u64, usize)>
     ensures value { IfSome result (λ r. item.now.value ≡ Unsigned r.0) }
@@ -112,13 +118,15 @@ fn fitting(value: u128, bits: usize) -> Option<u64>
     }
 }
 
-// The word of an item and how many bits it has, where its kind has no sign, its size is not in bytes, and nothing refuses it.
+// The word of an item and how many bits it has, where its kind has no sign, its size is not in
+// bytes, and nothing refuses it.
 #[inline(always)]
 fn plain_word(item: &Item) -> Option<(u128, usize)>
     ensures kind { IfSome result (λ r. IsOfKind item.now.field.kind item.now.value) }
     ensures allowed { IfSome result (λ r. IsAllowedField item.now.field) }
     ensures wide { IfSome result (λ r. r.1 ≡ field_width item.now.field) }
-    ensures word { IfSome result (λ r. IsWordFor (number_type item.now.field.kind) item.now.field.layout (integer_of item.now.value) r.0) }
+    ensures word { IfSome result (λ r. IsWordFor (number_type item.now.field.kind)
+        item.now.field.layout (integer_of item.now.value) r.0) }
 {
     let number_type = item.field.kind.number_type();
     let Number::Unsigned(value) = item.value else {
@@ -132,7 +140,8 @@ fn plain_word(item: &Item) -> Option<(u128, usize)>
     Some((word, width))
 }
 
-// Writes the value of an item, and looks at all that may refuse it. It is inlined, so that no call has the writer by reference.
+// Writes the value of an item, and looks at all that may refuse it. It is inlined, so that no call
+// has the writer by reference.
 #[inline(always)]
 fn write_checked<W: Sink>(writer: &mut Writer<W>, item: &Item) -> Result<(), DekuError>
     ensures writes { Writes W.known (WritesItem item.now) writer.old result writer.new }
@@ -150,7 +159,8 @@ fn write_checked<W: Sink>(writer: &mut Writer<W>, item: &Item) -> Result<(), Dek
 
 /// The bytes of the items, written one after the other from nothing and padded once with zeros.
 ///
-/// A refusal is that of the first item that is refused, as `write_list` says, or `Io(OutOfMemory)` where no memory is found.
+/// A refusal is that of the first item that is refused, as `write_list` says, or `Io(OutOfMemory)`
+/// where no memory is found.
 ///
 /// ```text
 /// // 4 bits, 4 bits and a `u16`, big and `Msb0`: 6, 9, 49406

@@ -89,7 +89,8 @@ fn cut(item: &mut Item) -> Result<(), DekuError> {
     Ok(())
 }
 
-// The number is refused in the field, unless it fits, and what is left of it is written as the bytes.
+// The number is refused in the field, unless it fits, and what is left of it is written as the
+// bytes.
 fn expect_bytes(
     rt: &impl Abort,
     alloc: Global,

@@ -1,4 +1,5 @@
-//! Lists over devices that end, trickle or fail: what is refused and kept, and how the stream goes on behind a seek.
+//! Lists over devices that end, trickle or fail: what is refused and kept, and how the stream goes
+//! on behind a seek.
 
 use crate::items::{
     MOST, NONE_YET, both_orders, fields_of, halves_and_word, little_words, thirteen_of_a_word,
@@ -39,7 +40,8 @@ fn same<T: PartialEq + Debug>(rt: &impl Abort, row: (&str, usize), seen: &T, wan
     assert_eq!(rt; *seen, *want, "{} at {}", row.0, row.1);
 }
 
-// How many of the first fields end within so many bits, the bits of these, and the bits of the next field.
+// How many of the first fields end within so many bits, the bits of these, and the bits of the next
+// field.
 fn within(widths: &[usize], room: usize) -> (usize, usize, usize) {
     let (mut count, mut bits) = (0usize, 0usize);
     for width in widths {
@@ -68,7 +70,8 @@ fn expect_values<S: Source>(
     same(rt, row, &out, &values_of(items));
 }
 
-// The reader has stopped with this: a read of no bits answers it again, no bit is left over, and the count stays.
+// The reader has stopped with this: a read of no bits answers it again, no bit is left over, and
+// the count stays.
 fn expect_kept<S: Source>(
     rt: &impl Abort,
     row: (&str, usize),
@@ -83,8 +86,9 @@ fn expect_kept<S: Source>(
     Ok(())
 }
 
-// The list is read from a source whose byte at that place is not to be had: the fields in front of it are read, and the one that needs it is refused
-// so, or for the end of input. Behind a seek to the start as many fields as the source has then are read again.
+// The list is read from a source whose byte at that place is not to be had: the fields in front of
+// it are read, and the one that needs it is refused so, or for the end of input. Behind a seek to
+// the start as many fields as the source has then are read again.
 fn expect_stop<S: Source>(
     rt: &impl Abort,
     sample: &Sample,
@@ -200,7 +204,8 @@ impl Lists {
     }
 }
 
-// The list is read from each of its beginnings: from a slice, byte after byte, and from a source whose next call fails.
+// The list is read from each of its beginnings: from a slice, byte after byte, and from a source
+// whose next call fails.
 fn expect_stops(rt: &impl Abort, alloc: Global, sample: &Sample) -> Result<(), Fail> {
     for (at, _) in sample.bytes.iter().enumerate() {
         let bytes = &sample.bytes[..at];
@@ -250,8 +255,9 @@ fn whole_bytes(bits: usize) -> usize {
     (bits / 8).saturating_mul(8)
 }
 
-// The list is written to a sink that doesn't take its byte at that place: the item that fills this byte is refused so, or the padding. The writer
-// has then stopped, and has written the whole bytes of the items before, as it answers.
+// The list is written to a sink that doesn't take its byte at that place: the item that fills this
+// byte is refused so, or the padding. The writer has then stopped, and has written the whole bytes
+// of the items before, as it answers.
 fn expect_full<W: Sink>(
     rt: &impl Abort,
     sample: &Sample,
@@ -277,7 +283,8 @@ fn expect_full<W: Sink>(
     count
 }
 
-// The list is written to each slice that is shorter than it: behind a seek to the start a byte is written where the slice has one.
+// The list is written to each slice that is shorter than it: behind a seek to the start a byte is
+// written where the slice has one.
 fn expect_full_slices(rt: &impl Abort, sample: &Sample) -> Result<(), Fail> {
     for (at, _) in sample.written.iter().enumerate() {
         let mut page = [0u8; BYTES];
@@ -302,7 +309,8 @@ fn writes_to_every_shorter_slice(rt: HostRuntime) -> Result<(), Fail> {
     Ok(())
 }
 
-// The list is written to a sink that fails at each of its bytes in turn, and behind a seek to the start it is written whole.
+// The list is written to a sink that fails at each of its bytes in turn, and behind a seek to the
+// start it is written whole.
 fn expect_written_again(rt: &impl Abort, sample: &Sample) -> Result<(), Fail> {
     for (at, _) in sample.written.iter().enumerate() {
         let mut page = [0u8; BYTES];

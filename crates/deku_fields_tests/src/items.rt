@@ -92,7 +92,8 @@ pub fn both_orders() -> [Item; 7] {
     ]
 }
 
-/// Half a byte, a byte and a half, two bytes and two words, little in `Lsb0`: 31 12 04 05 06 00 00 00 07 00 00 00.
+/// Half a byte, a byte and a half, two bytes and two words, little in `Lsb0`: 31 12 04 05 06 00 00
+/// 00 07 00 00 00.
 pub fn little_words() -> [Item; 6] {
     [
         little_lsb(Kind::U8, Size::Bits(4), 1),

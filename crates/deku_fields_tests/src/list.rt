@@ -69,8 +69,8 @@ fn filled(writer: &mut Writer<Cursor<&mut [u8]>>) -> Result<(), DekuError> {
     writer.finalize()
 }
 
-// ---- the calls, on memory
-// From bytes that begin with what aligned fitting items lay out the fields read the items' values: it takes no memory and is not refused.
+// ---- the calls, on memory From bytes that begin with what aligned fitting items lay out the
+// fields read the items' values: it takes no memory and is not refused.
 fn read_from(
     alloc: Global,
     bytes: &[u8],
@@ -78,16 +78,19 @@ fn read_from(
     out: &mut [Number],
 ) -> Result<(), DekuError>
     requires { length out.old ≡ length fields.now }
-    ensures { (items : List ListItem) (after : List ℕ) → Begins fields.now items bytes.now after → total (map field_shape fields.now) < 2 ^ 64
+    ensures { (items : List ListItem) (after : List ℕ) → Begins fields.now items bytes.now after
+        → total (map field_shape fields.now) < 2 ^ 64
         → (result ≡ Ok tt) × (out.new ≡ list_values items) }
 {
     let mut reader = Reader::new(alloc, Cursor::new(bytes));
     read_list_into(&mut reader, fields, out)
 }
 
-// Aligned fitting items are written over a slice that has room for what they lay out: that is not refused.
+// Aligned fitting items are written over a slice that has room for what they lay out: that is not
+// refused.
 fn write_over(items: &[Item], all: &mut [u8]) -> Result<(), DekuError>
-    ensures { (bytes : List ℕ) → All IsFitting items.now → AlignedFields (list_fields items.now) → LaysOut items.now bytes → length bytes ≤ length all.old
+    ensures { (bytes : List ℕ) → All IsFitting items.now → AlignedFields (list_fields items.now)
+        → LaysOut items.now bytes → length bytes ≤ length all.old
         → 8 * length bytes < 2 ^ 64 → result ≡ Ok tt }
 {
     let mut writer = Writer::new(Cursor::new(all));
@@ -197,7 +200,8 @@ fn expect_cut_read(rt: &impl Abort, alloc: Global, sample: &Sample, cut: usize) 
     );
 }
 
-// Whether the end is reached in front of the first call, between the two, again, and behind them; what they answer, and the bits read.
+// Whether the end is reached in front of the first call, between the two, again, and behind them;
+// what they answer, and the bits read.
 type CutRead = (
     (
         Result<bool, DekuError>,
@@ -262,8 +266,8 @@ fn reads_and_writes_lists(rt: HostRuntime) -> Result<(), Fail> {
     Ok(())
 }
 
-// ---- refusals
-// A list of one item is written as these bytes, or refused so. Want of memory, which nobody asked for, is handed on.
+// ---- refusals A list of one item is written as these bytes, or refused so. Want of memory, which
+// nobody asked for, is handed on.
 fn expect_bytes(
     rt: &impl Abort,
     alloc: Global,
@@ -356,7 +360,8 @@ fn fills_a_slice(_rt: HostRuntime) -> Result<(), Fail> {
     same(&"a full slice", &seen, &(full, 8, full, 8, [0x69]))
 }
 
-// What the first of two calls that is refused answers, the bits written, and the last byte's filling.
+// What the first of two calls that is refused answers, the bits written, and the last byte's
+// filling.
 fn write_until_refused(
     page: &mut [u8],
     items: &[Item; 2],

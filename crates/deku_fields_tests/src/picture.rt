@@ -18,7 +18,8 @@ fn fields_of(alloc: Global, words: &[&str]) -> Result<Vec<Field>, AllocError> {
     Ok(fields)
 }
 
-// A picture as text: a letter for the field and the bit of its number, `--` for padding, and a slash between bytes.
+// A picture as text: a letter for the field and the bit of its number, `--` for padding, and a
+// slash between bytes.
 fn drawn(alloc: Global, picture: &[Option<Place>]) -> Result<String, AllocError> {
     let mut text = String::new(alloc);
     for (k, cell) in picture.iter().enumerate() {

@@ -1,4 +1,5 @@
-//! The signals of a CAN data frame, as a DBC file has them: "Intel" signals, which lie from the low bits up, and "Motorola" signals, whose high byte comes first.
+//! The signals of a CAN data frame, as a DBC file has them: "Intel" signals, which lie from the low
+//! bits up, and "Motorola" signals, whose high byte comes first.
 //!
 //! ```text
 //! BO_ 291 Chassis: 8 ECU
@@ -9,11 +10,14 @@
 //!  SG_ yaw    : 47|24@0-      Motorola, signed: bytes 5, 6 and 7
 //! ```
 
+ghost use Rattle.std.specs.Prelude.{refl};
+ghost use Rattle.deku.specs.Outcomes.{Mapped};
+
 use deku::device::{Sink, Source};
 use deku::prelude::{
     DekuContainerRead, DekuContainerWrite, DekuError, DekuReader, DekuWriter, Reader, Writer,
 };
-use deku_symmetry::{Lsb, LsbBe, FromParts, Record, ToParts, read_record, write_record};
+use deku_symmetry::{FromParts, Lsb, LsbBe, Record, ToParts, read_record, write_record};
 
 /// The signals.
 #[derive(Debug, PartialEq, Eq, Drop)]
@@ -41,8 +45,6 @@ type Parts = (
 );
 
 impl FromParts<()> for Chassis {
-    ghost use Rattle.std.specs.Prelude.{refl};
-
     type Parts = Parts;
 
     ghost parts_of = { λ r. (
@@ -89,8 +91,6 @@ impl ToParts<()> for Chassis {
 }
 
 impl Record for Chassis {
-    ghost use Rattle.std.specs.Prelude.{refl};
-
     ghost back = { λ p ps h. refl };
 
     ghost reads = { λ b s r u m. m };
@@ -99,13 +99,12 @@ impl Record for Chassis {
 }
 
 impl DekuReader<()> for Chassis {
-    ghost use Rattle.deku.specs.Outcomes.{Mapped};
-
     ghost accepts = { ⟦<Parts as DekuReader<()>>⟧.accepts };
 
     ghost no_read_ahead = { ⟦<Parts as DekuReader<()>>⟧.no_read_ahead };
 
-    ghost meaning = { λ _. Mapped ⟦<Chassis as FromParts<()>>⟧.record_of (⟦<Parts as DekuReader<()>>⟧.meaning tt) };
+    ghost meaning = { λ _. Mapped ⟦<Chassis as FromParts<()>>⟧.record_of
+        (⟦<Parts as DekuReader<()>>⟧.meaning tt) };
 
     fn from_reader_with_ctx<R: Source>(
         reader: &mut Reader<R>,
@@ -118,7 +117,8 @@ impl DekuReader<()> for Chassis {
 impl DekuWriter<()> for Chassis {
     ghost accepts = { ⟦<Parts as DekuWriter<()>>⟧.accepts };
 
-    ghost meaning = { λ v _. ⟦<Parts as DekuWriter<()>>⟧.meaning (⟦<Chassis as FromParts<()>>⟧.parts_of v) tt };
+    ghost meaning = { λ v _. ⟦<Parts as DekuWriter<()>>⟧.meaning
+        (⟦<Chassis as FromParts<()>>⟧.parts_of v) tt };
 
     fn to_writer<W: Sink>(&self, writer: &mut Writer<W>, _ctx: ()) -> Result<(), DekuError> {
         write_record(self, writer, ())

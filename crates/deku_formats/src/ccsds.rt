@@ -1,4 +1,5 @@
-//! A CCSDS space packet with telemetry: the primary header of CCSDS 133.0-B-2, section 4.1.3, and samples of 10 and 12 bits behind it.
+//! A CCSDS space packet with telemetry: the primary header of CCSDS 133.0-B-2, section 4.1.3, and
+//! samples of 10 and 12 bits behind it.
 //!
 //! ```text
 //! version      3 bits     0
@@ -10,6 +11,9 @@
 //! length      16 bits     the bytes behind the header, less one
 //! samples     22 bits each: a voltage of 10 bits and a current of 12, the high bits first; four of them fill eleven bytes
 //! ```
+
+ghost use Rattle.std.specs.Prelude.{refl};
+ghost use Rattle.deku.specs.Outcomes.{Mapped};
 
 pub mod header;
 pub mod sample;
@@ -35,8 +39,6 @@ pub struct Telemetry {
 type Parts = Counted<Header, Sample>;
 
 impl FromParts<()> for Telemetry {
-    ghost use Rattle.std.specs.Prelude.{refl};
-
     type Parts = Parts;
 
     ghost parts_of = { λ r. record { head = r.header; items = r.samples } };
@@ -54,8 +56,6 @@ impl FromParts<()> for Telemetry {
 }
 
 impl Record for Telemetry {
-    ghost use Rattle.std.specs.Prelude.{refl};
-
     ghost back = { λ p ps h. refl };
 
     ghost reads = { λ b s r u m. m };
@@ -64,13 +64,12 @@ impl Record for Telemetry {
 }
 
 impl DekuReader<()> for Telemetry {
-    ghost use Rattle.deku.specs.Outcomes.{Mapped};
-
     ghost accepts = { ⟦<Parts as DekuReader<()>>⟧.accepts };
 
     ghost no_read_ahead = { ⟦<Parts as DekuReader<()>>⟧.no_read_ahead };
 
-    ghost meaning = { λ _. Mapped ⟦<Telemetry as FromParts<()>>⟧.record_of (⟦<Parts as DekuReader<()>>⟧.meaning tt) };
+    ghost meaning = { λ _. Mapped ⟦<Telemetry as FromParts<()>>⟧.record_of
+        (⟦<Parts as DekuReader<()>>⟧.meaning tt) };
 
     fn from_reader_with_ctx<R: Source>(
         reader: &mut Reader<R>,
@@ -83,7 +82,8 @@ impl DekuReader<()> for Telemetry {
 impl DekuWriter<()> for Telemetry {
     ghost accepts = { ⟦<Parts as DekuWriter<()>>⟧.accepts };
 
-    ghost meaning = { λ v _. ⟦<Parts as DekuWriter<()>>⟧.meaning (⟦<Telemetry as FromParts<()>>⟧.parts_of v) tt };
+    ghost meaning = { λ v _. ⟦<Parts as DekuWriter<()>>⟧.meaning
+        (⟦<Telemetry as FromParts<()>>⟧.parts_of v) tt };
 
     fn to_writer<W: Sink>(&self, writer: &mut Writer<W>, _ctx: ()) -> Result<(), DekuError> {
         write_counted(&self.header, &self.samples, writer)

@@ -1,4 +1,5 @@
-//! The header of an IPv4 packet with its options, as RFC 791, section 3.1, has it; the byte behind the length is that of RFC 2474 and RFC 3168.
+//! The header of an IPv4 packet with its options, as RFC 791, section 3.1, has it; the byte behind
+//! the length is that of RFC 2474 and RFC 3168.
 //!
 //! ```text
 //!  0       4       8              14  16                           31
@@ -17,6 +18,11 @@
 //! +-----------------------------------------------------------------+
 //! ```
 
+ghost use Rattle.std.specs.Prelude.{refl, codes};
+ghost use Rattle.std.proofs.Common.{ap, sym};
+ghost use Rattle.deku.specs.Outcomes.{Mapped};
+ghost use Rattle.deku_formats.specs.Ipv4.{Updates};
+
 pub mod front;
 
 use deku::device::{Sink, Source};
@@ -24,7 +30,9 @@ use deku::prelude::{
     DekuContainerRead, DekuContainerWrite, DekuError, DekuReader, DekuUpdate, DekuWriter, Reader,
     Writer,
 };
-use deku_symmetry::{Constant, ConstantLaw, Counted, Msb, FromParts, Record, read_record, write_counted};
+use deku_symmetry::{
+    Constant, ConstantLaw, Counted, FromParts, Msb, Record, read_record, write_counted,
+};
 use front::Front;
 
 /// The header with its options.
@@ -40,8 +48,6 @@ pub struct Ipv4 {
 type Parts = Counted<Front, u8>;
 
 impl FromParts<()> for Ipv4 {
-    ghost use Rattle.std.specs.Prelude.{refl};
-
     type Parts = Parts;
 
     ghost parts_of = { λ r. record { head = r.front; items = r.options } };
@@ -59,8 +65,6 @@ impl FromParts<()> for Ipv4 {
 }
 
 impl Record for Ipv4 {
-    ghost use Rattle.std.specs.Prelude.{refl};
-
     ghost back = { λ p ps h. refl };
 
     ghost reads = { λ b s r u m. m };
@@ -69,13 +73,12 @@ impl Record for Ipv4 {
 }
 
 impl DekuReader<()> for Ipv4 {
-    ghost use Rattle.deku.specs.Outcomes.{Mapped};
-
     ghost accepts = { ⟦<Parts as DekuReader<()>>⟧.accepts };
 
     ghost no_read_ahead = { ⟦<Parts as DekuReader<()>>⟧.no_read_ahead };
 
-    ghost meaning = { λ _. Mapped ⟦<Ipv4 as FromParts<()>>⟧.record_of (⟦<Parts as DekuReader<()>>⟧.meaning tt) };
+    ghost meaning = { λ _. Mapped ⟦<Ipv4 as FromParts<()>>⟧.record_of
+        (⟦<Parts as DekuReader<()>>⟧.meaning tt) };
 
     fn from_reader_with_ctx<R: Source>(
         reader: &mut Reader<R>,
@@ -88,7 +91,8 @@ impl DekuReader<()> for Ipv4 {
 impl DekuWriter<()> for Ipv4 {
     ghost accepts = { ⟦<Parts as DekuWriter<()>>⟧.accepts };
 
-    ghost meaning = { λ v _. ⟦<Parts as DekuWriter<()>>⟧.meaning (⟦<Ipv4 as FromParts<()>>⟧.parts_of v) tt };
+    ghost meaning = { λ v _. ⟦<Parts as DekuWriter<()>>⟧.meaning
+        (⟦<Ipv4 as FromParts<()>>⟧.parts_of v) tt };
 
     fn to_writer<W: Sink>(&self, writer: &mut Writer<W>, _ctx: ()) -> Result<(), DekuError> {
         write_counted(&self.front, &self.options, writer)
@@ -99,18 +103,18 @@ impl DekuContainerRead for Ipv4 {}
 
 impl DekuContainerWrite for Ipv4 {}
 
-/// The length of the header becomes that of the options, and the total follows it: what is carried behind the header stays as long as it was.
+/// The length of the header becomes that of the options, and the total follows it: what is carried
+/// behind the header stays as long as it was.
 ///
-/// It is refused, and nothing changes, with `Parse("options of no whole words")` where the options are not at most ten words of four bytes, with `Parse("total below header")` where
-/// the total was less than the header, and with `Parse("packet too long")` where 16 bits do not count it then.
+/// It is refused, and nothing changes, with `Parse("options of no whole words")` where the options
+/// are not at most ten words of four bytes, with `Parse("total below header")` where the total was
+/// less than the header, and with `Parse("packet too long")` where 16 bits do not count it then.
 ///
 /// ```text
 /// header.options.extend_from_slice(&[0x94, 0x04, 0x00, 0x00])?;
 /// header.update()?;                                           // `words` is one more, `total_length` four
 /// ```
 impl DekuUpdate for Ipv4 {
-    ghost use Rattle.deku_formats.specs.Ipv4.{Updates};
-
     ghost updates = { Updates };
 
     fn update(&mut self) -> Result<(), DekuError> {
@@ -138,8 +142,6 @@ impl DekuUpdate for Ipv4 {
 pub struct Version;
 
 impl Constant<Msb<u8, 4>> for Version {
-    ghost use Rattle.std.specs.Prelude.{codes};
-
     ghost value = { record { 0 = 4 } };
 
     ghost text = { codes "version" };
@@ -158,7 +160,5 @@ impl Constant<Msb<u8, 4>> for Version {
 }
 
 impl ConstantLaw<Msb<u8, 4>> for Version {
-    ghost use Rattle.std.proofs.Common.{ap, sym};
-
     ghost alike = { λ v e. ap (λ n. record { 0 = n }) (sym e) };
 }

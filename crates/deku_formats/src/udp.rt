@@ -9,6 +9,9 @@
 //! +--------+--------+--------+--------+
 //! ```
 
+ghost use Rattle.std.specs.Prelude.{refl};
+ghost use Rattle.deku.specs.Outcomes.{Mapped};
+
 use deku::device::{Sink, Source};
 use deku::prelude::{
     DekuContainerRead, DekuContainerWrite, DekuError, DekuReader, DekuWriter, Reader, Writer,
@@ -32,13 +35,23 @@ pub struct Udp {
 type Parts = (Be<u16>, Be<u16>, Be<u16>, Be<u16>);
 
 impl FromParts<()> for Udp {
-    ghost use Rattle.std.specs.Prelude.{refl};
-
     type Parts = Parts;
 
-    ghost parts_of = { λ r. (record { 0 = r.source }, record { 0 = r.destination }, record { 0 = r.length }, record { 0 = r.checksum }) };
+    ghost parts_of = { λ r. (
+      record { 0 = r.source },
+      record { 0 = r.destination },
+      record
+          { 0 = r.length },
+      record { 0 = r.checksum },
+    ) };
 
-    ghost record_of = { λ p. record { source = p.0.0; destination = p.1.0; length = p.2.0; checksum = p.3.0 } };
+    ghost record_of = { λ p. record {
+      source = p.0.0;
+      destination = p.1.0;
+      length = p.2.0;
+      checksum
+          = p.3.0;
+    } };
 
     fn from_parts(parts: Self::Parts) -> Self {
         let (Be(source), Be(destination), Be(length), Be(checksum)) = parts;
@@ -65,8 +78,6 @@ impl ToParts<()> for Udp {
 }
 
 impl Record for Udp {
-    ghost use Rattle.std.specs.Prelude.{refl};
-
     ghost back = { λ p ps h. refl };
 
     ghost reads = { λ b s r u m. m };
@@ -75,13 +86,12 @@ impl Record for Udp {
 }
 
 impl DekuReader<()> for Udp {
-    ghost use Rattle.deku.specs.Outcomes.{Mapped};
-
     ghost accepts = { ⟦<Parts as DekuReader<()>>⟧.accepts };
 
     ghost no_read_ahead = { ⟦<Parts as DekuReader<()>>⟧.no_read_ahead };
 
-    ghost meaning = { λ _. Mapped ⟦<Udp as FromParts<()>>⟧.record_of (⟦<Parts as DekuReader<()>>⟧.meaning tt) };
+    ghost meaning = { λ _. Mapped ⟦<Udp as FromParts<()>>⟧.record_of
+        (⟦<Parts as DekuReader<()>>⟧.meaning tt) };
 
     fn from_reader_with_ctx<R: Source>(
         reader: &mut Reader<R>,
@@ -94,7 +104,8 @@ impl DekuReader<()> for Udp {
 impl DekuWriter<()> for Udp {
     ghost accepts = { ⟦<Parts as DekuWriter<()>>⟧.accepts };
 
-    ghost meaning = { λ v _. ⟦<Parts as DekuWriter<()>>⟧.meaning (⟦<Udp as FromParts<()>>⟧.parts_of v) tt };
+    ghost meaning = { λ v _. ⟦<Parts as DekuWriter<()>>⟧.meaning
+        (⟦<Udp as FromParts<()>>⟧.parts_of v) tt };
 
     fn to_writer<W: Sink>(&self, writer: &mut Writer<W>, _ctx: ()) -> Result<(), DekuError> {
         write_record(self, writer, ())

@@ -75,7 +75,8 @@ pub fn kind_of(word: &Instruction) -> &'static str {
     }
 }
 
-/// Gives a line for each operand, from the low bits on, and behind the places of a number that lies apart the number.
+/// Gives a line for each operand, from the low bits on, and behind the places of a number that lies
+/// apart the number.
 pub fn show_operands(word: &Instruction, text: &mut String) -> Result<(), AllocError> {
     match word {
         Instruction::Load(x)

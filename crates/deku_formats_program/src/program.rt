@@ -1,4 +1,5 @@
-//! The program: from the name of a format and hexadecimal text to the fields of a record, and back to its bytes.
+//! The program: from the name of a format and hexadecimal text to the fields of a record, and back
+//! to its bytes.
 
 ghost use Rattle.std.specs.Prelude.{◌≡◌, ◌⊎◌, ◌≤◌, Err, IfOk, OnOk, IfErr, OnErr, string_bytes};
 ghost use Rattle.std.specs.Io.KnownBytes.{Appends};
@@ -102,14 +103,27 @@ impl Told for Records {
         (TellsOf (λ v. ⟦<Udp as Symmetric<()>>⟧.pieces v tt)) };
 
     ghost stops = { of_format
-        (StopsOf (⟦<Chassis as DekuReader<()>>⟧.meaning tt) (λ v. ⟦<Chassis as Symmetric<()>>⟧.pieces v tt) (λ v. ⟦<Chassis as DekuWriter<()>>⟧.meaning v tt))
-        (StopsOf (⟦<Telemetry as DekuReader<()>>⟧.meaning tt) (λ v. ⟦<Telemetry as Symmetric<()>>⟧.pieces v tt) (λ v. ⟦<Telemetry as DekuWriter<()>>⟧.meaning v tt))
-        (StopsOf (⟦<Query as DekuReader<()>>⟧.meaning tt) (λ v. ⟦<Query as Symmetric<()>>⟧.pieces v tt) (λ v. ⟦<Query as DekuWriter<()>>⟧.meaning v tt))
-        (StopsOf (⟦<Elf as DekuReader<()>>⟧.meaning tt) (λ v. ⟦<Elf as Symmetric<()>>⟧.pieces v tt) (λ v. ⟦<Elf as DekuWriter<()>>⟧.meaning v tt))
-        (StopsOf (⟦<Ipv4 as DekuReader<()>>⟧.meaning tt) (λ v. ⟦<Ipv4 as Symmetric<()>>⟧.pieces v tt) (λ v. ⟦<Ipv4 as DekuWriter<()>>⟧.meaning v tt))
-        (StopsOf (⟦<Png as DekuReader<()>>⟧.meaning tt) (λ v. ⟦<Png as Symmetric<()>>⟧.pieces v tt) (λ v. ⟦<Png as DekuWriter<()>>⟧.meaning v tt))
-        (StopsOf (⟦<Instruction as DekuReader<()>>⟧.meaning tt) (λ v. ⟦<Instruction as Symmetric<()>>⟧.pieces v tt) (λ v. ⟦<Instruction as DekuWriter<()>>⟧.meaning v tt))
-        (StopsOf (⟦<Udp as DekuReader<()>>⟧.meaning tt) (λ v. ⟦<Udp as Symmetric<()>>⟧.pieces v tt) (λ v. ⟦<Udp as DekuWriter<()>>⟧.meaning v tt)) };
+        (StopsOf (⟦<Chassis as DekuReader<()>>⟧.meaning tt)
+        (λ v. ⟦<Chassis as Symmetric<()>>⟧.pieces v tt)
+        (λ v. ⟦<Chassis as DekuWriter<()>>⟧.meaning v tt))
+        (StopsOf (⟦<Telemetry as DekuReader<()>>⟧.meaning tt)
+        (λ v. ⟦<Telemetry as Symmetric<()>>⟧.pieces v tt)
+        (λ v. ⟦<Telemetry as DekuWriter<()>>⟧.meaning v tt))
+        (StopsOf (⟦<Query as DekuReader<()>>⟧.meaning tt)
+        (λ v. ⟦<Query as Symmetric<()>>⟧.pieces v tt)
+        (λ v. ⟦<Query as DekuWriter<()>>⟧.meaning v tt))
+        (StopsOf (⟦<Elf as DekuReader<()>>⟧.meaning tt) (λ v. ⟦<Elf as Symmetric<()>>⟧.pieces v tt)
+        (λ v. ⟦<Elf as DekuWriter<()>>⟧.meaning v tt))
+        (StopsOf (⟦<Ipv4 as DekuReader<()>>⟧.meaning tt)
+        (λ v. ⟦<Ipv4 as Symmetric<()>>⟧.pieces v tt)
+        (λ v. ⟦<Ipv4 as DekuWriter<()>>⟧.meaning v tt))
+        (StopsOf (⟦<Png as DekuReader<()>>⟧.meaning tt) (λ v. ⟦<Png as Symmetric<()>>⟧.pieces v tt)
+        (λ v. ⟦<Png as DekuWriter<()>>⟧.meaning v tt))
+        (StopsOf (⟦<Instruction as DekuReader<()>>⟧.meaning tt)
+        (λ v. ⟦<Instruction as Symmetric<()>>⟧.pieces v tt)
+        (λ v. ⟦<Instruction as DekuWriter<()>>⟧.meaning v tt))
+        (StopsOf (⟦<Udp as DekuReader<()>>⟧.meaning tt) (λ v. ⟦<Udp as Symmetric<()>>⟧.pieces v tt)
+        (λ v. ⟦<Udp as DekuWriter<()>>⟧.meaning v tt)) };
 }
 
 const NAMES: &str = "can\nccsds\ndns\nelf\nipv4\npng\nriscv\nudp\n";
@@ -120,16 +134,21 @@ formats NAME    reads hexadecimal text, prints the fields of the record that it 
 formats --help  prints this
 ";
 
-/// Runs the program on the arguments after its name, and answers its status: 0 where it is done, 1 where the input, the output, the memory or the record stood in the way, and 2
-/// where the arguments are not of a form that it knows.
+/// Runs the program on the arguments after its name, and answers its status: 0 where it is done, 1
+/// where the input, the output, the memory or the record stood in the way, and 2 where the
+/// arguments are not of a form that it knows.
 ///
-/// Without an argument it prints the names of the formats. With a name it reads hexadecimal text, of either case and without one newline at its end, and prints a line for each field
-/// of the record that the bytes begin with, its name and its value. Then it writes the record, and prints `same` where its bytes are those that were read, or `differs at byte` and
-/// the first of them; and at last `left` and how many bytes stand behind the record.
+/// Without an argument it prints the names of the formats. With a name it reads hexadecimal text,
+/// of either case and without one newline at its end, and prints a line for each field of the
+/// record that the bytes begin with, its name and its value. Then it writes the record, and prints
+/// `same` where its bytes are those that were read, or `differs at byte` and the first of them; and
+/// at last `left` and how many bytes stand behind the record.
 ///
-/// A run that is not done is told of in one line on `errors`: the usage with status 2, and with status 1 `error: bad hexadecimal text`, or `error: ` and the text of the fault;
-/// where a record is refused that line has the field and how many bits were read. The arguments are looked at before the input, and nothing goes to the output until all of the text
-/// is known, so it gains nothing then but what a failing output took. A fault of `errors` changes nothing.
+/// A run that is not done is told of in one line on `errors`: the usage with status 2, and with
+/// status 1 `error: bad hexadecimal text`, or `error: ` and the text of the fault; where a record
+/// is refused that line has the field and how many bits were read. The arguments are looked at
+/// before the input, and nothing goes to the output until all of the text is known, so it gains
+/// nothing then but what a failing output took. A fault of `errors` changes nothing.
 ///
 /// ```text
 /// udp     // on 9cbbd11f000afe1d prints source 40123, .., same and left 0; status 0
@@ -143,13 +162,20 @@ pub fn run<R: Read, W: Write, E: Write>(
     errors: &mut E,
 ) -> u8
     ensures status { result ≤ 2 }
-    ensures done { result ≡ 0 → IsDone ⟦<Records as Told>⟧.tells (words_of args.now) (R.remaining input.old) (W.contents output.old) (W.contents output.new) }
+    ensures done { result ≡ 0 → IsDone ⟦<Records as Told>⟧.tells (words_of args.now)
+        (R.remaining input.old) (W.contents output.old) (W.contents output.new) }
     ensures quiet { result ≡ 0 → errors.new ≡ errors.old }
-    ensures usage { result ≡ 2 → AreNoForm (words_of args.now) × (input.new ≡ input.old) × (output.new ≡ output.old) }
+    ensures usage { result ≡ 2 → AreNoForm (words_of args.now) × (input.new ≡ input.old)
+        × (output.new ≡ output.old) }
     ensures formed { AreNoForm (words_of args.now) → result ≡ 2 }
-    ensures told { result ≡ 2 → IsBegun (E.contents errors.old) (E.contents errors.new) (message Usage) }
-    ensures stopped { result ≡ 1 → IsStopped ⟦<Records as Told>⟧.tells ⟦<Records as Told>⟧.stops (words_of args.now) (R.remaining input.old) (W.contents output.old) (W.contents output.new) (E.contents errors.old) (E.contents errors.new) }
-    ensures kept { result ≡ 1 → (output.new ≡ output.old) ⊎ IsUnfinished ⟦<Records as Told>⟧.tells (words_of args.now) (R.remaining input.old) (W.contents output.old) (W.contents output.new) }
+    ensures told { result ≡ 2 → IsBegun (E.contents errors.old) (E.contents errors.new)
+        (message Usage) }
+    ensures stopped { result ≡ 1 → IsStopped ⟦<Records as Told>⟧.tells ⟦<Records as Told>⟧.stops
+        (words_of args.now) (R.remaining input.old) (W.contents output.old) (W.contents output.new)
+        (E.contents errors.old) (E.contents errors.new) }
+    ensures kept { result ≡ 1 → (output.new ≡ output.old)
+        ⊎ IsUnfinished ⟦<Records as Told>⟧.tells (words_of args.now) (R.remaining input.old)
+        (W.contents output.old) (W.contents output.new) }
     ensures unread { AsksForRecord (words_of args.now) ⊎ (input.new ≡ input.old) }
 {
     let Err(failure) = command(alloc, args, input, output) else {
@@ -171,7 +197,8 @@ fn status_of(failure: &Failure) -> u8
 
 // Tells of a failure in a line, of which `errors` takes a beginning where it fails.
 fn complain<E: Write>(errors: &mut E, failure: &Failure) -> io::Result<()>
-    ensures told { OnOk result (Appends (E.contents errors.old) (E.contents errors.new) (message failure.now)) }
+    ensures told { OnOk result (Appends (E.contents errors.old) (E.contents errors.new)
+        (message failure.now)) }
     ensures begun { IsBegun (E.contents errors.old) (E.contents errors.new) (message failure.now) }
 {
     match failure {
@@ -193,11 +220,17 @@ fn command<R: Read, W: Write>(
     input: &mut R,
     output: &mut W,
 ) -> Result<(), Failure>
-    ensures done { OnOk result (IsDone ⟦<Records as Told>⟧.tells (words_of args.now) (R.remaining input.old) (W.contents output.old) (W.contents output.new)) }
+    ensures done { OnOk result (IsDone ⟦<Records as Told>⟧.tells (words_of args.now)
+        (R.remaining input.old) (W.contents output.old) (W.contents output.new)) }
     ensures formed { AreNoForm (words_of args.now) → result ≡ Err Usage }
-    ensures ends { IfErr result (RunEnds ⟦<Records as Told>⟧.tells ⟦<Records as Told>⟧.stops (words_of args.now) (R.remaining input.old) (W.contents output.old) (W.contents output.new)) }
-    ensures usage { IfErr result (λ e. e ≡ Usage → AreNoForm (words_of args.now) × (input.new ≡ input.old) × (output.new ≡ output.old)) }
-    ensures kept { OnErr result ((output.new ≡ output.old) ⊎ IsUnfinished ⟦<Records as Told>⟧.tells (words_of args.now) (R.remaining input.old) (W.contents output.old) (W.contents output.new)) }
+    ensures ends { IfErr result (RunEnds ⟦<Records as Told>⟧.tells ⟦<Records as Told>⟧.stops
+        (words_of args.now) (R.remaining input.old) (W.contents output.old)
+        (W.contents output.new)) }
+    ensures usage { IfErr result (λ e. e ≡ Usage → AreNoForm (words_of args.now)
+        × (input.new ≡ input.old) × (output.new ≡ output.old)) }
+    ensures kept { OnErr result ((output.new ≡ output.old)
+        ⊎ IsUnfinished ⟦<Records as Told>⟧.tells (words_of args.now) (R.remaining input.old)
+        (W.contents output.old) (W.contents output.new)) }
     ensures unread { AsksForRecord (words_of args.now) ⊎ (input.new ≡ input.old) }
 {
     let Some(form) = parse_words(args) else {
@@ -210,8 +243,10 @@ fn command<R: Read, W: Write>(
 
 // The text that is asked for.
 fn text_of<R: Read>(alloc: Global, form: Asked, input: &mut R) -> Result<String, Failure>
-    ensures shown { IfOk result (λ text. IsShown ⟦<Records as Told>⟧.tells form (R.remaining input.old) (string_bytes text)) }
-    ensures stops { IfErr result (TextStops ⟦<Records as Told>⟧.stops form (R.remaining input.old)) }
+    ensures shown { IfOk result (λ text. IsShown ⟦<Records as Told>⟧.tells form
+        (R.remaining input.old) (string_bytes text)) }
+    ensures stops { IfErr result (TextStops ⟦<Records as Told>⟧.stops form
+        (R.remaining input.old)) }
     ensures usage { IfErr result (λ e. e ≡ Usage → ⊥) }
     ensures unread { IsRecord form ⊎ (input.new ≡ input.old) }
 {
@@ -229,7 +264,8 @@ fn text_of<R: Read>(alloc: Global, form: Asked, input: &mut R) -> Result<String,
 
 // The text of the record of this format that the bytes begin with.
 fn record_text(alloc: Global, format: Format, bytes: &[u8]) -> Result<String, Failure>
-    ensures told { IfOk result (λ text. ⟦<Records as Told>⟧.tells format bytes.now (string_bytes text)) }
+    ensures told { IfOk result (λ text. ⟦<Records as Told>⟧.tells format bytes.now
+        (string_bytes text)) }
     ensures stops { IfErr result (⟦<Records as Told>⟧.stops format bytes.now) }
 {
     match format {
@@ -244,12 +280,15 @@ fn record_text(alloc: Global, format: Format, bytes: &[u8]) -> Result<String, Fa
     }
 }
 
-// The fields of the record that the bytes begin with, whether it is written as it was read, and how many bytes stand behind it.
+// The fields of the record that the bytes begin with, whether it is written as it was read, and how
+// many bytes stand behind it.
 fn shown<T: Symmetric<()> + Shown>(alloc: Global, bytes: &[u8]) -> Result<String, Failure>
     requires reads { T.DekuReader.accepts tt }
     requires writes { T.DekuWriter.accepts tt }
-    ensures taken { IfOk result (λ text. TellsOf (λ v. T.pieces v tt) bytes.now (string_bytes text)) }
-    ensures stops { IfErr result (StopsOf (T.DekuReader.meaning tt) (λ v. T.pieces v tt) (λ v. T.DekuWriter.meaning v tt) bytes.now) }
+    ensures taken { IfOk result (λ text. TellsOf (λ v. T.pieces v tt) bytes.now
+        (string_bytes text)) }
+    ensures stops { IfErr result (StopsOf (T.DekuReader.meaning tt) (λ v. T.pieces v tt)
+        (λ v. T.DekuWriter.meaning v tt) bytes.now) }
 {
     let (bits, record) = match T::unpack(alloc, bytes, ()) {
         Ok(read) => read,
@@ -265,7 +304,8 @@ fn shown<T: Symmetric<()> + Shown>(alloc: Global, bytes: &[u8]) -> Result<String
 
 // Gives whether the bytes that were read are those that were written, and how many are left.
 fn end(text: &mut String, read: &[u8], written: &[u8], left: usize) -> Result<(), AllocError>
-    ensures { OnOk result (GainsVerdict read.now written.now left (string_bytes text.old) (string_bytes text.new)) }
+    ensures { OnOk result (GainsVerdict read.now written.now left (string_bytes text.old)
+        (string_bytes text.new)) }
 {
     match first_difference(read, written) {
         None => writeln!(text, "same")?,
@@ -274,8 +314,10 @@ fn end(text: &mut String, read: &[u8], written: &[u8], left: usize) -> Result<()
     writeln!(text, "left {left}")
 }
 
-// This refusal of the bytes, read once more for the field where it comes and for how many bits are read then: a check and an unknown id are of the field that was read, a count that is
-// none is of the field that says it, and else it comes before the field is known. Where it does not come once more it is told alone.
+// This refusal of the bytes, read once more for the field where it comes and for how many bits are
+// read then: a check and an unknown id are of the field that was read, a count that is none is of
+// the field that says it, and else it comes before the field is known. Where it does not come once
+// more it is told alone.
 fn refused<T: DekuReader<()> + Shown>(alloc: Global, bytes: &[u8], refusal: DekuError) -> Failure
     requires { T.accepts tt }
     ensures { (result ≡ Fault refusal) ⊎ IsRefused (T.meaning tt) bytes.now result }

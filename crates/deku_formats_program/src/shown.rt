@@ -23,7 +23,8 @@ pub trait Shown {
     /// Gives a line for each field: its name, and its value.
     fn show(&self, text: &mut String) -> Result<(), AllocError>;
 
-    /// The name of the field that has this bit of the record; after the fields of fixed places, the name of what they lead.
+    /// The name of the field that has this bit of the record; after the fields of fixed places, the
+    /// name of what they lead.
     fn field_at(bit: usize) -> &'static str;
 
     /// The name of the field that says how many items follow it, where there is one.
@@ -127,7 +128,8 @@ fn show_header(header: &Header, text: &mut String) -> Result<(), AllocError> {
     )
 }
 
-// The line of a name: a point behind each label but the empty one, and a point alone where there is no other.
+// The line of a name: a point behind each label but the empty one, and a point alone where there is
+// no other.
 fn show_name(labels: &[Label], text: &mut String) -> Result<(), AllocError> {
     write!(text, "name ")?;
     if labels.len() < 2 {
@@ -139,7 +141,8 @@ fn show_name(labels: &[Label], text: &mut String) -> Result<(), AllocError> {
     writeln!(text)
 }
 
-// A label and its point: letters, digits and hyphens as they are, and another byte as three digits behind a backslash.
+// A label and its point: letters, digits and hyphens as they are, and another byte as three digits
+// behind a backslash.
 fn show_label(bytes: &[u8], text: &mut String) -> Result<(), AllocError> {
     for byte in bytes {
         if byte.is_ascii_alphanumeric() || *byte == b'-' {

@@ -39,7 +39,8 @@ pub enum Asked {
 
 /// The format of this name; none where there is no such.
 pub fn format_named(name: &str) -> Option<Format>
-    ensures { MatchOption result ((f : KnownFormat) → name.now ≡ name_of f → ⊥) (λ f. name.now ≡ name_of f) }
+    ensures { MatchOption result ((f : KnownFormat) → name.now ≡ name_of f → ⊥)
+        (λ f. name.now ≡ name_of f) }
 {
     match name {
         "can" => Some(Format::Can),

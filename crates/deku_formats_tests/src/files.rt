@@ -5,7 +5,8 @@ use deku_formats::png::Png;
 use deku_testing_values::records::{expect_record, expect_refusal};
 use std::test::Fail;
 
-// The signature and the first chunk of `collapsed-trait-impls.png` in the documentation of Rust 1.95; `file` prints 608 x 275, 8-bit/color RGB, non-interlaced.
+// The signature and the first chunk of `collapsed-trait-impls.png` in the documentation of Rust
+// 1.95; `file` prints 608 x 275, 8-bit/color RGB, non-interlaced.
 #[test]
 fn a_picture(rt: HostRuntime) -> Result<(), Fail> {
     let png = Png {

@@ -1,4 +1,5 @@
-//! Instruction words as GNU as 2.40 for RISC-V (`-march=rv32i`) makes them, and what `objdump -d -M no-aliases,numeric` prints of each.
+//! Instruction words as GNU as 2.40 for RISC-V (`-march=rv32i`) makes them, and what
+//! `objdump -d -M no-aliases,numeric` prints of each.
 
 use deku::prelude::{DekuContainerWrite, DekuError};
 use deku_instructions::riscv::branch::Branch;
@@ -92,7 +93,8 @@ fn numbers(rt: HostRuntime) {
     }
 }
 
-// Words of a code that RV32I has not, as those of floating point: the reader stands behind the code.
+// Words of a code that RV32I has not, as those of floating point: the reader stands behind the
+// code.
 #[test]
 fn other_codes(rt: HostRuntime) -> Result<(), Fail> {
     for code in [0x00u8, 0x02, 0x07, 0x27, 0x2F, 0x53, 0x6B, 0x7F] {

@@ -5,12 +5,13 @@ use deku_dns::header::Header;
 use deku_dns::label::Label;
 use deku_dns::query::Query;
 use deku_dns::question::Question;
-use deku_symmetry::{Until, Symmetric};
+use deku_symmetry::{Symmetric, Until};
 use deku_testing_values::records::{expect_record, expect_refusal};
 use std::alloc::Global;
 use std::test::Fail;
 
-// Of `getent ahostsv4 www.example.com`: what is asked for is known, and glibc chose the identification.
+// Of `getent ahostsv4 www.example.com`: what is asked for is known, and glibc chose the
+// identification.
 const QUERY: [u8; 33] = [
     0x50, 0x65, 0x01, 0x00, 0x00, 0x01, 0x00, 0x00, 0x00, 0x00, 0x00, 0x00, 0x03, b'w', b'w', b'w',
     0x07, b'e', b'x', b'a', b'm', b'p', b'l', b'e', 0x03, b'c', b'o', b'm', 0x00, 0x00, 0x01, 0x00,
@@ -62,7 +63,8 @@ fn a_question(rt: HostRuntime) -> Result<(), Fail> {
     expect_record(rt.alloc(), &query, &QUERY)
 }
 
-// A pointer in the place of a label, a length of 64, a name without its end, and one without its class; and what refuses them behind how many bits.
+// A pointer in the place of a label, a length of 64, a name without its end, and one without its
+// class; and what refuses them behind how many bits.
 #[test]
 fn names_refused(rt: HostRuntime) -> Result<(), Fail> {
     let no_label = DekuError::Parse("head without a count");

@@ -8,7 +8,8 @@ use deku_testing_values::records::{expect_record, expect_refusal};
 use std::io::Cursor;
 use std::test::Fail;
 
-// The first 176 bytes of `/bin/true` of coreutils 9.1, as Debian 12 has it for x86-64. The values below are those that `readelf -hlW` prints.
+// The first 176 bytes of `/bin/true` of coreutils 9.1, as Debian 12 has it for x86-64. The values
+// below are those that `readelf -hlW` prints.
 const TRUE: [u8; 176] = [
     0x7F, 0x45, 0x4C, 0x46, 0x02, 0x01, 0x01, 0x00, 0x00, 0x00, 0x00, 0x00, 0x00, 0x00, 0x00, 0x00,
     0x03, 0x00, 0x3E, 0x00, 0x01, 0x00, 0x00, 0x00, 0xD0, 0x23, 0x00, 0x00, 0x00, 0x00, 0x00, 0x00,
@@ -62,7 +63,8 @@ const TRUE_SEGMENTS: [Segment; 2] = [
     },
 ];
 
-// The header of an object that GNU as 2.40 for powerpc64 makes of one `nop`: the high byte of each number first. The values below are those that `readelf -hW` prints.
+// The header of an object that GNU as 2.40 for powerpc64 makes of one `nop`: the high byte of each
+// number first. The values below are those that `readelf -hW` prints.
 const OBJECT: [u8; 64] = [
     0x7F, 0x45, 0x4C, 0x46, 0x02, 0x02, 0x01, 0x00, 0x00, 0x00, 0x00, 0x00, 0x00, 0x00, 0x00, 0x00,
     0x00, 0x01, 0x00, 0x15, 0x00, 0x00, 0x00, 0x01, 0x00, 0x00, 0x00, 0x00, 0x00, 0x00, 0x00, 0x00,
@@ -97,7 +99,8 @@ fn file_headers(rt: HostRuntime) -> Result<(), Fail> {
     Ok(())
 }
 
-// The program headers lie where the header says, also where it was read last: the first two of them, since the bytes have no more.
+// The program headers lie where the header says, also where it was read last: the first two of
+// them, since the bytes have no more.
 #[test]
 fn program_headers(rt: HostRuntime) -> Result<(), Fail> {
     let mut fields = TRUE_FIELDS;

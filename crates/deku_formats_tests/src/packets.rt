@@ -1,4 +1,5 @@
-//! Headers of packets as Linux sent them over its loopback device, read from a raw socket: what was asked for is known, and the kernel made the rest.
+//! Headers of packets as Linux sent them over its loopback device, read from a raw socket: what was
+//! asked for is known, and the kernel made the rest.
 
 use deku::prelude::{DekuError, DekuUpdate, NeedSize};
 use deku_formats::checksum::{is_intact, ones_sum};
@@ -9,8 +10,8 @@ use deku_testing_values::records::{expect_record, expect_refusal};
 use std::net::Ipv4Addr;
 use std::test::Fail;
 
-// Source and destination, length and check sum, and the bytes: of a datagram of the two bytes "hi", from
-// port 40123 to port 53535 of 127.0.0.1, and of a question from port 1161.
+// Source and destination, length and check sum, and the bytes: of a datagram of the two bytes "hi",
+// from port 40123 to port 53535 of 127.0.0.1, and of a question from port 1161.
 const DATAGRAMS: [([u16; 4], [u8; 8]); 2] = [
     (
         [40123, 53535, 10, 0xFE1D],
@@ -112,7 +113,8 @@ fn a_packet_with_an_option(rt: HostRuntime) -> Result<(), Fail> {
     expect_record(rt.alloc(), &Ipv4 { front, options }, &REPORT)
 }
 
-// What an update answers and leaves in the two lengths of the header, where its total is this one before and there are so many bytes of options: ten bytes are carried.
+// What an update answers and leaves in the two lengths of the header, where its total is this one
+// before and there are so many bytes of options: ten bytes are carried.
 type Row = (u16, usize, Result<(), DekuError>, (u8, u16));
 
 const ROWS: [Row; 7] = [
@@ -155,7 +157,8 @@ fn updates(rt: HostRuntime) -> Result<(), Fail> {
     Ok(())
 }
 
-// Bytes, and what is left of their sum: the example of RFC 1071, section 3, with and without its last byte, a carry that carries, none, and headers as they were sent.
+// Bytes, and what is left of their sum: the example of RFC 1071, section 3, with and without its
+// last byte, a carry that carries, none, and headers as they were sent.
 #[test]
 fn check_sums(rt: HostRuntime) {
     let rows: [(&[u8], u16); 8] = [

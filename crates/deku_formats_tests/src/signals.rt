@@ -23,7 +23,8 @@ fn a_frame(rt: HostRuntime) -> Result<(), Fail> {
     expect_record(rt.alloc(), &chassis, &bytes)
 }
 
-// Four samples: eleven bytes, so the length is 10. Worked out by hand from the tables of the standard.
+// Four samples: eleven bytes, so the length is 10. Worked out by hand from the tables of the
+// standard.
 #[test]
 fn a_packet_of_samples(rt: HostRuntime) -> Result<(), Fail> {
     let header = Header {

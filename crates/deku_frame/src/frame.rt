@@ -1,6 +1,6 @@
 //! The frame.
 
-ghost use Rattle.std.specs.Prelude.{◌≡◌, ◌≤◌, ◌<◌, ◌^◌, List, length as count, codes, IfOk, IfErr, OnOk, MatchBool};
+ghost use Rattle.std.specs.Prelude.{◌≡◌, ◌≤◌, ◌<◌, ◌^◌, List, length as count, codes, IfOk, IfErr, OnOk, MatchBool, Ok};
 ghost use Rattle.std.specs.List.{All};
 ghost use Rattle.deku_bits.specs.declared.error.DekuError.TheVariants.{Parse, InvalidParam};
 ghost use Rattle.deku_bits.specs.Faults.{Tells};
@@ -8,7 +8,8 @@ ghost use Rattle.deku_bits.specs.Pieces.{Piece};
 ghost use Rattle.deku_bits.specs.ReaderCalls.{Reads};
 ghost use Rattle.deku_bits.specs.WriterCalls.{Writes};
 ghost use Rattle.deku.specs.Early.{NoReadAhead};
-ghost use Rattle.deku_frame.specs.Frames.{OfFrame, ReadsPing, ReadsSized, ReadsData, ReadsHalves, ReadsPair, ReadsBody, WritesBody, IsInStep, id_of};
+ghost use Rattle.deku_frame.specs.Frames.{OfFrame, ReadsPing, ReadsSized, ReadsData, ReadsHalves, ReadsPair, ReadsBody, WritesBody, IsInStep, id_of, ReadsFrame, WritesFrame, SameFrame, Updates};
+ghost use Rattle.deku_frame.specs.FrameLaws.{frame_symmetric};
 
 use deku::ctx::Endian::Big;
 use deku::ctx::{BitSize, Limit};
@@ -21,11 +22,13 @@ use deku_symmetry::Symmetric;
 
 pub mod laws;
 
-/// A frame: four bits of an id, four of a version, which is 1, and the fields that the id names. All lie big, with their high bits first.
+/// A frame: four bits of an id, four of a version, which is 1, and the fields that the id names.
+/// All lie big, with their high bits first.
 ///
-/// What `to_bytes` and `from_bytes` promise of a frame beyond their own clauses, whose bodies stand in the traits, is said by [`laws`], which speak of
-/// those clauses: the bytes of a frame are what its pieces lay out, and from them, whatever follows, comes the frame again; bytes that are read as
-/// a frame begin with its own.
+/// What `to_bytes` and `from_bytes` promise of a frame beyond their own clauses, whose bodies stand
+/// in the traits, is said by [`laws`], which speak of those clauses: the bytes of a frame are what
+/// its pieces lay out, and from them, whatever follows, comes the frame again; bytes that are read
+/// as a frame begin with its own.
 ///
 /// ```text
 /// let frame = Frame::pair(5, 0x2A7)?;
@@ -55,15 +58,18 @@ impl Frame {
         Frame::Ping { token }
     }
 
-    /// A frame of these bytes, with their count. More than 255 are refused with `Parse("error parsing int")`.
+    /// A frame of these bytes, with their count. More than 255 are refused with
+    /// `Parse("error parsing int")`.
     ///
     /// ```text
     /// Frame::data([0xAA, 0xBB].to_vec(alloc)?)?.to_bytes(alloc)?  // 21 02 AA BB
     /// ```
     pub fn data(payload: Vec<u8>) -> Result<Frame, DekuError>
-        ensures ok { IfOk result (λ f. (count payload.items < 2 ^ 8) × (f ≡ Frame.Data (count payload.items) payload)) }
+        ensures ok { IfOk result (λ f. (count payload.items < 2 ^ 8)
+            × (f ≡ Frame.Data (count payload.items) payload)) }
         ensures lies { IfOk result (λ f. (ps : List Piece) × OfFrame f ps) }
-        ensures err { IfErr result (λ e. (2 ^ 8 ≤ count payload.items) × Tells Parse (codes "error parsing int") e) }
+        ensures err { IfErr result (λ e. (2 ^ 8 ≤ count payload.items)
+            × Tells Parse (codes "error parsing int") e) }
     {
         match length_of(payload.as_slice()) {
             Ok(length) => Ok(Frame::Data { length, payload }),
@@ -78,9 +84,11 @@ impl Frame {
     /// Frame::pair(5, 0x2A7)?.to_bytes(alloc)?                     // 31 2A A7
     /// ```
     pub fn pair(left: u8, right: u16) -> Result<Frame, DekuError>
-        ensures ok { IfOk result (λ f. (left < 2 ^ 5) × (right < 2 ^ 11) × (f ≡ Frame.Pair left right)) }
+        ensures ok { IfOk result (λ f. (left < 2 ^ 5) × (right < 2 ^ 11)
+            × (f ≡ Frame.Pair left right)) }
         ensures lies { IfOk result (λ f. (ps : List Piece) × OfFrame f ps) }
-        ensures err { IfErr result (λ e. ((left < 2 ^ 5) × (right < 2 ^ 11) → ⊥) × Tells InvalidParam (codes "bit size of input is larger than requested size") e) }
+        ensures err { IfErr result (λ e. ((left < 2 ^ 5) × (right < 2 ^ 11) → ⊥)
+            × Tells InvalidParam (codes "bit size of input is larger than requested size") e) }
     {
         if left < 32 && right < 2048 {
             Ok(Frame::Pair { left, right })
@@ -104,7 +112,8 @@ impl Frame {
 // How many bytes there are, which are below 256 each. More than 255 are refused.
 fn length_of(bytes: &[u8]) -> Result<u8, DekuError>
     ensures ok { IfOk result (λ n. (count bytes.now < 2 ^ 8) × (n ≡ count bytes.now)) }
-    ensures err { IfErr result (λ e. (2 ^ 8 ≤ count bytes.now) × Tells Parse (codes "error parsing int") e) }
+    ensures err { IfErr result (λ e. (2 ^ 8 ≤ count bytes.now)
+        × Tells Parse (codes "error parsing int") e) }
     ensures octets { All (λ b. b < 256) bytes.now }
 {
     let length = u8::try_from(bytes.len())?;
@@ -196,16 +205,10 @@ fn write_body<W: Sink>(frame: &Frame, writer: &mut Writer<W>) -> Result<(), Deku
 
 /// The id and the version are read, and then the fields of the id.
 ///
-/// A version other than 1 is refused with `Assertion("Field failed assertion")`, and then an id other than 1, 2 and 3 with
-/// `IdVariantNotFound`; the reader stays behind the eight bits. Else the refusal is that of the first field that is refused.
+/// A version other than 1 is refused with `Assertion("Field failed assertion")`, and then an id
+/// other than 1, 2 and 3 with `IdVariantNotFound`; the reader stays behind the eight bits. Else the
+/// refusal is that of the first field that is refused.
 impl DekuReader<()> for Frame {
-    ghost use Rattle.std.specs.Prelude.{◌≡◌};
-    ghost use Rattle.deku_frame.specs.Frames.{ReadsFrame};
-
-    ghost accepts = { λ c. c ≡ c };
-
-    ghost no_read_ahead = { λ c. c ≡ c };
-
     ghost meaning = { λ _. ReadsFrame };
 
     fn from_reader_with_ctx<R: Source>(
@@ -221,14 +224,10 @@ impl DekuReader<()> for Frame {
 
 /// The id, the version and the fields.
 ///
-/// A length that is not that of the payload is refused with `Assertion("Field failed assertion")`, and nothing moves. Else the refusal is
-/// that of the first field that does not fit, and what the fields before it moved stays moved.
+/// A length that is not that of the payload is refused with `Assertion("Field failed assertion")`,
+/// and nothing moves. Else the refusal is that of the first field that does not fit, and what the
+/// fields before it moved stays moved.
 impl DekuWriter<()> for Frame {
-    ghost use Rattle.std.specs.Prelude.{◌≡◌};
-    ghost use Rattle.deku_frame.specs.Frames.{WritesFrame};
-
-    ghost accepts = { λ c. c ≡ c };
-
     ghost meaning = { λ f _. WritesFrame f };
 
     fn to_writer<W: Sink>(&self, writer: &mut Writer<W>, _ctx: ()) -> Result<(), DekuError> {
@@ -256,11 +255,9 @@ impl DekuContainerRead for Frame {}
 
 impl DekuContainerWrite for Frame {}
 
-/// The pieces of the id, the version and the fields; a length that is not that of the payload has none.
+/// The pieces of the id, the version and the fields; a length that is not that of the payload has
+/// none.
 impl Symmetric<()> for Frame {
-    ghost use Rattle.deku_frame.specs.Frames.{OfFrame, SameFrame};
-    ghost use Rattle.deku_frame.specs.FrameLaws.{frame_symmetric};
-
     ghost pieces = { λ f _. OfFrame f };
 
     ghost same = { SameFrame };
@@ -268,11 +265,9 @@ impl Symmetric<()> for Frame {
     ghost symmetric = { λ _. frame_symmetric };
 }
 
-/// The length is that of the payload. It is refused with `Parse("error parsing int")` where a byte cannot count so many, and nothing changes. Frames
-/// without a payload stay as they are.
+/// The length is that of the payload. It is refused with `Parse("error parsing int")` where a byte
+/// cannot count so many, and nothing changes. Frames without a payload stay as they are.
 impl DekuUpdate for Frame {
-    ghost use Rattle.deku_frame.specs.Frames.{Updates};
-
     ghost updates = { Updates };
 
     fn update(&mut self) -> Result<(), DekuError> {
@@ -285,9 +280,6 @@ impl DekuUpdate for Frame {
 
 /// A ping is 1, data 2, a pair 3.
 impl DekuEnumExt<u8> for Frame {
-    ghost use Rattle.std.specs.Prelude.{◌≡◌, Ok};
-    ghost use Rattle.deku_frame.specs.Frames.{id_of};
-
     ghost has_id = { λ f r. r ≡ Ok (id_of f) };
 
     fn deku_id(&self) -> Result<u8, DekuError> {

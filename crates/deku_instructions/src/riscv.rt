@@ -1,5 +1,7 @@
-//! Instruction words of the RISC-V base set RV32I, as chapter 2 of the unprivileged specification has them: 32 bits, the low byte first, of which the lowest seven are a code
-//! that chooses among six ways to lay the operands. A number that an instruction holds may lie in several places of the word.
+//! Instruction words of the RISC-V base set RV32I, as chapter 2 of the unprivileged specification
+//! has them: 32 bits, the low byte first, of which the lowest seven are a code that chooses among
+//! six ways to lay the operands. A number that an instruction holds may lie in several places of
+//! the word.
 //!
 //! ```text
 //!  31       25 24   20 19   15 14  12 11        7 6       0

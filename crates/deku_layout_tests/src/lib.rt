@@ -1,4 +1,5 @@
-//! Tests of numbers of `deku` under each layout, by the paths that users name: tables, records of several numbers, and a sweep.
+//! Tests of numbers of `deku` under each layout, by the paths that users name: tables, records of
+//! several numbers, and a sweep.
 #![tactic(auto)]
 
 #[cfg(test)]

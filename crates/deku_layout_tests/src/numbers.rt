@@ -1,6 +1,7 @@
 //! What rows of worked examples expect of numbers.
 //!
-//! Of deku's own tests of numbers, `test_f32` and `test_f64` have no counterpart: no number with a point is read or written.
+//! Of deku's own tests of numbers, `test_f32` and `test_f64` have no counterpart: no number with a
+//! point is read or written.
 
 ghost use Rattle.std.specs.Prelude.{◌≤◌};
 
@@ -38,7 +39,8 @@ fn digit(code: u8) -> u8
     }
 }
 
-// The bytes that pairs of hexadecimal digits name, at most sixteen, in front of what lies there; and how many they are.
+// The bytes that pairs of hexadecimal digits name, at most sixteen, in front of what lies there;
+// and how many they are.
 fn bytes_of(digits: &str) -> ([u8; 16], usize)
     ensures { result.1 ≤ 16 }
 {
@@ -133,7 +135,8 @@ fn expect_misfits<T: DekuWriter<Layout> + Debug>(rows: &[Misfit<T>]) -> Result<(
     Ok(())
 }
 
-// Why the layout is refused where it is read; how many bits are read then, the next byte, and the source after that.
+// Why the layout is refused where it is read; how many bits are read then, the next byte, and the
+// source after that.
 fn read_refused<T: DekuReader<Layout>, R: Source + Drop>(
     alloc: Global,
     source: R,

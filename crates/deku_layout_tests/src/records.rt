@@ -118,7 +118,8 @@ fn write_field<W: Sink>(writer: &mut Writer<W>, field: &Field) -> Result<(), Dek
     }
 }
 
-// A name, bytes, the fields that they are, how many bits these take, and those left of the last byte.
+// A name, bytes, the fields that they are, how many bits these take, and those left of the last
+// byte.
 type Record = (
     &'static str,
     &'static [u8],
@@ -154,7 +155,8 @@ fn expect_read(rt: &impl Abort, alloc: Global, records: &[Record]) -> Result<(),
     Ok(())
 }
 
-// Writes fields one after the other: how many bits are counted, and the sink after the last byte is filled.
+// Writes fields one after the other: how many bits are counted, and the sink after the last byte is
+// filled.
 fn write_fields<W: Sink + Drop>(sink: W, fields: &[Field]) -> Result<(usize, W), DekuError> {
     let mut writer = Writer::new(sink);
     for field in fields {
@@ -468,8 +470,8 @@ fn too_many_bits(rt: HostRuntime) -> Result<(), Fail> {
 // What calls return, and how many bits are counted then.
 type Answer<T> = (Result<T, DekuError>, usize);
 
-// Ten bits, numbers that do not fit in bits and in bytes, and four bits more: what the misfits return, and the sink after the last byte is
-// filled.
+// Ten bits, numbers that do not fit in bits and in bytes, and four bits more: what the misfits
+// return, and the sink after the last byte is filled.
 fn write_misfits<W: Sink + Drop>(sink: W) -> Result<([Answer<()>; 2], W), DekuError> {
     let ten = (Little, BitSize(10));
     let mut writer = Writer::new(sink);
@@ -496,8 +498,8 @@ fn a_misfit_between_fields(rt: HostRuntime) -> Result<(), Fail> {
 // The bytes of pairs, and of two bits.
 const PAIRS: [u8; 7] = [0x04, 0xF0, 0x80, 0x69, 0xBE, 0xEF, 0x1B];
 
-// Bytes of six bits, one of eight with a number of sixteen, and three of two bits: each with the bits that are read then; and the bits that
-// are left.
+// Bytes of six bits, one of eight with a number of sixteen, and three of two bits: each with the
+// bits that are read then; and the bits that are left.
 fn expect_pairs<R: Source + Drop>(alloc: Global, source: R) -> Result<(), Fail> {
     let mut reader = Reader::new(alloc, source);
     let first: (u8, u8) = next(&mut reader, BitSize(6))?;
@@ -532,7 +534,8 @@ fn pairs(rt: HostRuntime) -> Result<(), Fail> {
     same(&"pairs", &page, &PAIRS)
 }
 
-// Half a pair is read, and then nothing: what the first returns, and how many bits are read and left then; and what the second returns.
+// Half a pair is read, and then nothing: what the first returns, and how many bits are read and
+// left then; and what the second returns.
 fn read_half<R: Source + Drop>(
     alloc: Global,
     source: R,
@@ -545,7 +548,8 @@ fn read_half<R: Source + Drop>(
     Ok(((answer, count), left, then))
 }
 
-// A pair whose second does not fit is written: what that returns, and the sink after the last byte is filled.
+// A pair whose second does not fit is written: what that returns, and the sink after the last byte
+// is filled.
 fn write_half<W: Sink + Drop>(sink: W) -> Result<(Result<(), DekuError>, W), DekuError> {
     let mut writer = Writer::new(sink);
     let answer = put(&mut writer, &(5u8, 16u8), BitSize(4));

@@ -1,4 +1,5 @@
-//! Numbers of each type and each width, in both endians and orders, from each bit of a byte on, against the slow ones.
+//! Numbers of each type and each width, in both endians and orders, from each bit of a byte on,
+//! against the slow ones.
 
 use super::numbers::MISFIT;
 use super::values::{KINDS, Kind, Value, read_value, write_value};
@@ -30,8 +31,8 @@ const IN_TURN: u128 = 0x5555_5555_5555_5555_5555_5555_5555_5555;
 // The bytes that a field takes at most, with those bits of its first byte that lie in front of it.
 const PAGE: usize = 17;
 
-// A field, a value to be written, and what the slow ones say: the bits of the field, what they are worth or why that is not read, and why
-// the value is not written.
+// A field, a value to be written, and what the slow ones say: the bits of the field, what they are
+// worth or why that is not read, and why the value is not written.
 #[derive(Debug, Clone, Copy)]
 struct Row {
     kind: Kind,
@@ -41,7 +42,8 @@ struct Row {
     written: Result<(), DekuError>,
 }
 
-// What is seen of a read: the bits in front as they are shown, what the number's read answers, the bits counted and the bytes fetched.
+// What is seen of a read: the bits in front as they are shown, what the number's read answers, the
+// bits counted and the bytes fetched.
 #[derive(Debug, Clone, Copy, PartialEq, Eq)]
 struct Reading {
     front: [bool; 8],
@@ -114,7 +116,8 @@ fn size_at(n: usize) -> Size {
     }
 }
 
-// A type under each of these sizes: under those in bits that it has in each place, but for the types that are as wide as `u64` and `i64`.
+// A type under each of these sizes: under those in bits that it has in each place, but for the
+// types that are as wide as `u64` and `i64`.
 fn sweep_sizes(
     rt: &impl Abort,
     alloc: Global,
@@ -160,7 +163,8 @@ fn sweep_whole(
     }
 }
 
-// A field of the type under the layout, with values at the edges and others: each in each place, or in one.
+// A field of the type under the layout, with values at the edges and others: each in each place, or
+// in one.
 fn sweep_field(
     rt: &impl Abort,
     alloc: Global,
@@ -246,8 +250,8 @@ fn value_of(number_type: NumberType, pattern: u128) -> Value {
     }
 }
 
-// The field from each bit of a byte on, and from its first one also after a look for the end. A value that does not fit is refused in one
-// place, and what its list is worth is written in each.
+// The field from each bit of a byte on, and from its first one also after a look for the end. A
+// value that does not fit is refused in one place, and what its list is worth is written in each.
 fn sweep_places(rt: &impl Abort, alloc: Global, row: &Row, list: &[bool], noise: u64) {
     expect_read(rt, alloc, row, &[], true, list, noise % 2 == 1);
     let mut row = *row;
@@ -280,7 +284,8 @@ fn expect_place(
     expect_written(rt, row, front, list);
 }
 
-// The field is read from the bytes of the front and the list as the row says, and no byte is fetched that was not needed.
+// The field is read from the bytes of the front and the list as the row says, and no byte is
+// fetched that was not needed.
 fn expect_read(
     rt: &impl Abort,
     alloc: Global,
@@ -323,7 +328,8 @@ fn read_field(
     }
 }
 
-// The bits in front as they are shown, what the number's read answers, the bits counted, and the source then.
+// The bits in front as they are shown, what the number's read answers, the bits counted, and the
+// source then.
 fn read_from<R: Source>(
     rt: &impl Abort,
     alloc: Global,

@@ -1,4 +1,5 @@
-//! Values of number types, read and written by the traits where the type has them, and else by the calls that those make.
+//! Values of number types, read and written by the traits where the type has them, and else by the
+//! calls that those make.
 
 use deku::ctx::Layout;
 use deku::device::{Sink, Source};

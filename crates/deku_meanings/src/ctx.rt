@@ -1,6 +1,7 @@
 //! Contexts: how a number lies in a stream, and where a list ends.
 
-ghost use Rattle.std.specs.Prelude.{◌≡◌, Bool};
+ghost use Rattle.std.specs.Prelude.{◌≡◌, Bool, ⊤, false};
+ghost use Rattle.std.specs.Fn.{CalledAt};
 
 pub use deku_num::ctx::{
     BitSize, ByteSize, Endian, Layout, NumberCtx, Order, ParseEndianError, Size,
@@ -44,9 +45,6 @@ pub trait Predicate<T>: Drop {
 }
 
 impl<T, P: FnMut(&T) -> bool + Drop> Predicate<T> for P {
-    ghost use Rattle.std.specs.Prelude.{⊤};
-    ghost use Rattle.std.specs.Fn.{CalledAt};
-
     ghost asks_all = { λ p. P.IsAlwaysCallable p };
 
     ghost answers = { λ p x b q. CalledAt P.FnMut p x b q };
@@ -66,8 +64,6 @@ pub struct Never;
 
 /// It is true of no item.
 impl<T> Predicate<T> for Never {
-    ghost use Rattle.std.specs.Prelude.{◌≡◌, false, ⊤};
-
     ghost asks_all = { λ _. ⊤ };
 
     ghost answers = { λ p x b q. b ≡ false };
@@ -88,16 +84,19 @@ pub enum Limit<T, P: Predicate<T>> {
     Count(usize),
     /// Behind the first item of which the predicate is true.
     Until(P, PhantomData<T>),
-    /// Behind the item with which exactly so many bytes are read; items that step over that are read on.
+    /// Behind the item with which exactly so many bytes are read; items that step over that are
+    /// read on.
     ByteSize(ByteSize),
-    /// Behind the item with which exactly so many bits are read; items that step over that are read on.
+    /// Behind the item with which exactly so many bits are read; items that step over that are read
+    /// on.
     BitSize(BitSize),
     /// Where the stream ends.
     End,
 }
 
 impl<T, P: FnMut(&T) -> bool + Drop> Limit<T, P> {
-    /// Behind the first item of which the predicate is true. It is asked about each item once, in order.
+    /// Behind the first item of which the predicate is true. It is asked about each item once, in
+    /// order.
     ///
     /// ```text
     /// let limit = Limit::new_until(|byte: &u8| *byte == 0);      // up to the first zero, and with it
@@ -121,7 +120,8 @@ impl<T> Limit<T, Never> {
         Limit::Count(count)
     }
 
-    /// Behind the item with which exactly so many bits are read; items that step over that are read on. Nothing is read for 0 bits.
+    /// Behind the item with which exactly so many bits are read; items that step over that are read
+    /// on. Nothing is read for 0 bits.
     ///
     /// ```text
     /// let limit = Limit::<u8, Never>::new_bit_size(BitSize(16)); // two bytes
@@ -132,7 +132,8 @@ impl<T> Limit<T, Never> {
         Limit::BitSize(size)
     }
 
-    /// Behind the item with which exactly so many bytes are read; items that step over that are read on. Nothing is read for 0 bytes.
+    /// Behind the item with which exactly so many bytes are read; items that step over that are
+    /// read on. Nothing is read for 0 bytes.
     ///
     /// ```text
     /// let limit = Limit::<u16, Never>::new_byte_size(ByteSize(4)); // two numbers

@@ -1,4 +1,5 @@
-//! What reading and writing share: contexts, how the meanings of items make those of composites, and collections that items are put into.
+//! What reading and writing share: contexts, how the meanings of items make those of composites,
+//! and collections that items are put into.
 #![tactic(auto)]
 
 pub mod ctx;

@@ -1,5 +1,6 @@
-//! Tests of each call that takes memory: it answers what it would, or that no memory was found, and then what its contract says is left.
-//! `tools/refuse-memory` refuses each request of each test in turn.
+//! Tests of each call that takes memory: it answers what it would, or that no memory was found, and
+//! then what its contract says is left. `tools/refuse-memory` refuses each request of each test in
+//! turn.
 #![tactic(auto)]
 
 #[cfg(test)]

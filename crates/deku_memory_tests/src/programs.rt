@@ -1,4 +1,5 @@
-//! Runs of `fields` and `layout`: where no memory is found a run ends with 1 and says so, and its output is as it was.
+//! Runs of `fields` and `layout`: where no memory is found a run ends with 1 and says so, and its
+//! output is as it was.
 
 use deku_picture::{Cell, rows};
 use deku_testing::runs::arguments;
@@ -27,7 +28,8 @@ f2 u8,big,bits4 9
 // Room for what a run prints, and for what it tells.
 const PAGE: usize = 512;
 
-// A run's status, output and complaints: it gave all of the text, or it found no memory, and then gave nothing.
+// A run's status, output and complaints: it gave all of the text, or it found no memory, and then
+// gave nothing.
 fn expect_end(words: &str, seen: (u8, &[u8], &[u8]), text: &str) -> Result<(), Fail> {
     match seen {
         (0, given, told) => same(&words, &(given, told), &(text.as_bytes(), NOTHING)),

@@ -10,8 +10,8 @@ use std::test::Fail;
 
 const BYTES: [u8; 7] = [1, 2, 3, 4, 5, 0, 7];
 
-// The first five bytes are read, with the zero after them, or it is out of memory for one of the six
-// bytes, which was read; and the next byte is the one after it.
+// The first five bytes are read, with the zero after them, or it is out of memory for one of the
+// six bytes, which was read; and the next byte is the one after it.
 fn expect_five(
     mut reader: Reader<Cursor<&[u8]>>,
     answer: Result<CString, DekuError>,

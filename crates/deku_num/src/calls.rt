@@ -11,7 +11,9 @@ ghost use Rattle.deku_num.specs.Numbers.{width, IsAllowed, IsFieldOf};
 ghost use Rattle.deku_num.specs.NumberCalls.{ReadsNumber, WritesNumber, IsLayoutRefusal, beyond, integers};
 
 use crate::ctx::{Endian, Layout, Order, Size};
-use crate::kernel::{Misfit, allowed_width, number_of_word, sign_extend, signed_word, unsigned_word};
+use crate::kernel::{
+    Misfit, allowed_width, number_of_word, sign_extend, signed_word, unsigned_word,
+};
 use crate::kind::NumberType;
 use deku_bits::device::{Sink, Source};
 use deku_bits::error::DekuError;
@@ -22,8 +24,10 @@ use deku_bits::writer::Writer;
 ///
 /// It is refused, in this order,
 ///
-/// - with `Parse("too much data")` where the size is beyond the type; nothing changes, also where the reader has stopped;
-/// - as `Reader::read_bits_into` refuses to read the bits of the field, and what is left then is said there.
+/// - with `Parse("too much data")` where the size is beyond the type; nothing changes, also where
+///   the reader has stopped;
+/// - as `Reader::read_bits_into` refuses to read the bits of the field, and what is left then is
+///   said there.
 ///
 /// The caller's conditions: the type has no sign, and at most 128 bits.
 ///
@@ -38,8 +42,10 @@ pub fn read_unsigned<R: Source>(
 ) -> Result<u128, DekuError>
     requires unsigned { number_type.signed ≡ false }
     requires within { number_type.bits ≤ 128 }
-    ensures reads { Reads R.known (ReadsNumber number_type layout) reader.old (integers result) reader.new }
-    ensures fetched { OnOk result (FetchesFor (width number_type layout) reader.old.state (R.known reader.old.source) (R.known reader.new.source)) }
+    ensures reads { Reads R.known (ReadsNumber number_type layout) reader.old (integers result)
+        reader.new }
+    ensures fetched { OnOk result (FetchesFor (width number_type layout) reader.old.state
+        (R.known reader.old.source) (R.known reader.new.source)) }
     ensures early { NoneEarly reader.old.state reader.new.state }
     ensures stopped { Untouched reader.old.state reader.old.source reader.new.source }
     ensures refused { (IsAllowed number_type layout → ⊥) → reader.new ≡ reader.old }
@@ -54,10 +60,12 @@ pub fn read_unsigned<R: Source>(
 ///
 /// It is refused, in this order,
 ///
-/// - with `Parse("too much data")` where the size is beyond the type; nothing changes, also where the reader has stopped;
-/// - with `InvalidParam("signed big Lsb0 field of this width")` where the field is big and `Lsb0`, of more than eight bits and no whole
-///   bytes; nothing changes;
-/// - as `Reader::read_bits_into` refuses to read the bits of the field, and what is left then is said there.
+/// - with `Parse("too much data")` where the size is beyond the type; nothing changes, also where
+///   the reader has stopped;
+/// - with `InvalidParam("signed big Lsb0 field of this width")` where the field is big and `Lsb0`,
+///   of more than eight bits and no whole bytes; nothing changes;
+/// - as `Reader::read_bits_into` refuses to read the bits of the field, and what is left then is
+///   said there.
 ///
 /// The caller's conditions: the type has a sign, and at most 128 bits.
 ///
@@ -73,7 +81,8 @@ pub fn read_signed<R: Source>(
     requires signed { number_type.signed ≡ true }
     requires within { number_type.bits ≤ 128 }
     ensures reads { Reads R.known (ReadsNumber number_type layout) reader.old result reader.new }
-    ensures fetched { OnOk result (FetchesFor (width number_type layout) reader.old.state (R.known reader.old.source) (R.known reader.new.source)) }
+    ensures fetched { OnOk result (FetchesFor (width number_type layout) reader.old.state
+        (R.known reader.old.source) (R.known reader.new.source)) }
     ensures early { NoneEarly reader.old.state reader.new.state }
     ensures stopped { Untouched reader.old.state reader.old.source reader.new.source }
     ensures refused { (IsAllowed number_type layout → ⊥) → reader.new ≡ reader.old }
@@ -88,15 +97,17 @@ pub fn read_signed<R: Source>(
     Ok(sign_extend(number, width))
 }
 
-// The number of so many bits that go from the highest down, where the layout is big and they are at hand. It answers none else, and then
-// nothing moves.
+// The number of so many bits that go from the highest down, where the layout is big and they are at
+// hand. It answers none else, and then nothing moves.
 #[inline(always)]
 fn number_at_hand<R: Source>(reader: &mut Reader<R>, layout: Layout, width: usize) -> Option<u64>
     ensures big { IfSome result (λ n. layout.endian ≡ Endian.Big) }
     ensures high { IfSome result (λ n. layout.order ≡ Order.Msb0) }
-    ensures takes { IfSome result (λ n. Reads R.known (TakesBits Order.Msb0 width) reader.old (Ok (bits_of width n)) reader.new) }
+    ensures takes { IfSome result (λ n. Reads R.known (TakesBits Order.Msb0 width) reader.old
+        (Ok (bits_of width n)) reader.new) }
     ensures below { IfSome result (λ n. n < 2 ^ width) }
-    ensures fetched { IfSome result (λ n. FetchesFor width reader.old.state (R.known reader.old.source) (R.known reader.new.source)) }
+    ensures fetched { IfSome result (λ n. FetchesFor width reader.old.state
+        (R.known reader.old.source) (R.known reader.new.source)) }
     ensures early { NoneEarly reader.old.state reader.new.state }
     ensures stays { IsNone result → reader.new ≡ reader.old }
     ensures stopped { Untouched reader.old.state reader.old.source reader.new.source }
@@ -114,7 +125,8 @@ fn number_at_hand<R: Source>(reader: &mut Reader<R>, layout: Layout, width: usiz
 #[inline(always)]
 fn readable_width(number_type: NumberType, layout: Layout) -> Result<usize, DekuError>
     ensures ok { IfOk result (λ n. (n ≡ width number_type layout) × IsAllowed number_type layout) }
-    ensures err { IfErr result (λ e. IsLayoutRefusal Parse (codes "too much data") number_type layout e) }
+    ensures err { IfErr result (λ e. IsLayoutRefusal Parse (codes "too much data") number_type
+        layout e) }
 {
     match allowed_width(number_type, layout) {
         Ok(width) => Ok(width),
@@ -127,10 +139,12 @@ fn readable_width(number_type: NumberType, layout: Layout) -> Result<usize, Deku
 ///
 /// It is refused, in this order,
 ///
-/// - with `InvalidParam("bit size is larger than input")`, or `"byte size .."`, where the size is beyond the type; nothing changes, also where
-///   the writer has stopped;
-/// - with `InvalidParam("bit size of input is larger than requested size")` where the number does not fit the bits; nothing changes;
-/// - as `Writer::write_bits_order` refuses to write the bits of the field, and what is left then is said there.
+/// - with `InvalidParam("bit size is larger than input")`, or `"byte size .."`, where the size is
+///   beyond the type; nothing changes, also where the writer has stopped;
+/// - with `InvalidParam("bit size of input is larger than requested size")` where the number does
+///   not fit the bits; nothing changes;
+/// - as `Writer::write_bits_order` refuses to write the bits of the field, and what is left then is
+///   said there.
 ///
 /// The caller's conditions: the type has no sign, and at most 128 bits.
 ///
@@ -146,10 +160,12 @@ pub fn write_unsigned<W: Sink>(
 ) -> Result<(), DekuError>
     requires unsigned { number_type.signed ≡ false }
     requires within { number_type.bits ≤ 128 }
-    ensures writes { Writes W.known (WritesNumber number_type layout (pos value)) writer.old result writer.new }
+    ensures writes { Writes W.known (WritesNumber number_type layout (pos value)) writer.old result
+        writer.new }
     ensures stopped { Untouched writer.old.state writer.old.sink writer.new.sink }
     ensures refused { (IsAllowed number_type layout → ⊥) → writer.new ≡ writer.old }
-    ensures unfit { ((bits : List Bool) → IsFieldOf number_type layout (pos value) bits → ⊥) → writer.new ≡ writer.old }
+    ensures unfit { ((bits : List Bool) → IsFieldOf number_type layout (pos value) bits → ⊥)
+        → writer.new ≡ writer.old }
 {
     let width = writable_width(number_type, layout)?;
     let Some(word) = unsigned_word(value, number_type, layout, width) else {
@@ -162,12 +178,14 @@ pub fn write_unsigned<W: Sink>(
 ///
 /// It is refused, in this order,
 ///
-/// - with `InvalidParam("bit size is larger than input")`, or `"byte size .."`, where the size is beyond the type; nothing changes, also where
-///   the writer has stopped;
-/// - with `InvalidParam("signed big Lsb0 field of this width")` where the field is big and `Lsb0`, of more than eight bits and no whole
-///   bytes; nothing changes;
-/// - with `InvalidParam("bit size of input is larger than requested size")` where the number does not fit the bits; nothing changes;
-/// - as `Writer::write_bits_order` refuses to write the bits of the field, and what is left then is said there.
+/// - with `InvalidParam("bit size is larger than input")`, or `"byte size .."`, where the size is
+///   beyond the type; nothing changes, also where the writer has stopped;
+/// - with `InvalidParam("signed big Lsb0 field of this width")` where the field is big and `Lsb0`,
+///   of more than eight bits and no whole bytes; nothing changes;
+/// - with `InvalidParam("bit size of input is larger than requested size")` where the number does
+///   not fit the bits; nothing changes;
+/// - as `Writer::write_bits_order` refuses to write the bits of the field, and what is left then is
+///   said there.
 ///
 /// The caller's conditions: the type has a sign, and at most 128 bits.
 ///
@@ -183,10 +201,12 @@ pub fn write_signed<W: Sink>(
 ) -> Result<(), DekuError>
     requires signed { number_type.signed ≡ true }
     requires within { number_type.bits ≤ 128 }
-    ensures writes { Writes W.known (WritesNumber number_type layout value) writer.old result writer.new }
+    ensures writes { Writes W.known (WritesNumber number_type layout value) writer.old result
+        writer.new }
     ensures stopped { Untouched writer.old.state writer.old.sink writer.new.sink }
     ensures refused { (IsAllowed number_type layout → ⊥) → writer.new ≡ writer.old }
-    ensures unfit { ((bits : List Bool) → IsFieldOf number_type layout value bits → ⊥) → writer.new ≡ writer.old }
+    ensures unfit { ((bits : List Bool) → IsFieldOf number_type layout value bits → ⊥)
+        → writer.new ≡ writer.old }
 {
     let width = writable_width(number_type, layout)?;
     let Some(word) = signed_word(value, number_type, layout, width) else {
@@ -199,7 +219,8 @@ pub fn write_signed<W: Sink>(
 #[inline(always)]
 fn writable_width(number_type: NumberType, layout: Layout) -> Result<usize, DekuError>
     ensures ok { IfOk result (λ n. (n ≡ width number_type layout) × IsAllowed number_type layout) }
-    ensures err { IfErr result (λ e. IsLayoutRefusal InvalidParam (beyond layout.size) number_type layout e) }
+    ensures err { IfErr result (λ e. IsLayoutRefusal InvalidParam (beyond layout.size) number_type
+        layout e) }
 {
     match allowed_width(number_type, layout) {
         Ok(width) => Ok(width),

@@ -2,6 +2,11 @@
 
 ghost use Rattle.std.specs.Prelude.{◌≡◌, ◌↔◌, IsTrue, option_map};
 ghost use Rattle.deku_num.specs.Sizes.{within_usize};
+ghost use Rattle.deku_num.specs.declared.ctx.Endian.TheVariants.{Little};
+ghost use Rattle.deku_num.specs.Contexts.{IsEndianNamed};
+ghost use Rattle.deku_num.specs.declared.ctx.Layout.{Layout};
+ghost use Rattle.deku_bits.specs.declared.ctx.Order.TheVariants.{Msb0};
+ghost use Rattle.deku_num.specs.declared.ctx.Size.TheVariants.{Whole, Bytes, Bits};
 
 use crate::size::DekuSize;
 pub use deku_bits::ctx::Order;
@@ -49,8 +54,6 @@ impl Endian {
 
 /// Little.
 impl Default for Endian {
-    ghost use Rattle.deku_num.specs.declared.ctx.Endian.TheVariants.{Little};
-
     ghost is_default = { λ endian. endian ≡ Little };
 
     fn default() -> Endian {
@@ -65,8 +68,6 @@ pub struct ParseEndianError {}
 /// From `little` or `big`; any other text is refused with `ParseEndianError`.
 impl FromStr for Endian {
     type Err = ParseEndianError;
-
-    ghost use Rattle.deku_num.specs.Contexts.{IsEndianNamed};
 
     ghost from_str_gives = { IsEndianNamed };
 
@@ -110,7 +111,8 @@ pub struct ByteSize(pub usize);
 pub struct BitSize(pub usize);
 
 impl BitSize {
-    /// The bits that each value of the type takes; none where they are not known or do not fit `usize`.
+    /// The bits that each value of the type takes; none where they are not known or do not fit
+    /// `usize`.
     ///
     /// ```text
     /// BitSize::of::<(u8, [u16; 3])>()                            // Some(BitSize(56))
@@ -122,11 +124,10 @@ impl BitSize {
     }
 }
 
-/// What a number is read or written under: any of its byte order, its bit order and its size. Without a byte order it is little,
-/// without a bit order `Msb0`, and without a size it takes all bits of its type.
+/// What a number is read or written under: any of its byte order, its bit order and its size.
+/// Without a byte order it is little, without a bit order `Msb0`, and without a size it takes all
+/// bits of its type.
 pub trait NumberCtx: Copy {
-    ghost use Rattle.deku_num.specs.declared.ctx.Layout.{Layout};
-
     ghost layout_of: { Self → Layout };
 
     /// The layout that the context stands for.
@@ -153,10 +154,6 @@ impl NumberCtx for Layout {
 
 /// Little, `Msb0`, all bits.
 impl NumberCtx for () {
-    ghost use Rattle.deku_num.specs.declared.ctx.Endian.TheVariants.{Little};
-    ghost use Rattle.deku_bits.specs.declared.ctx.Order.TheVariants.{Msb0};
-    ghost use Rattle.deku_num.specs.declared.ctx.Size.TheVariants.{Whole};
-
     ghost layout_of = { λ _. record { endian = Little; order = Msb0; size = Whole } };
 
     fn parts(self) -> Layout {
@@ -166,9 +163,6 @@ impl NumberCtx for () {
 
 /// `Msb0`, all bits.
 impl NumberCtx for Endian {
-    ghost use Rattle.deku_bits.specs.declared.ctx.Order.TheVariants.{Msb0};
-    ghost use Rattle.deku_num.specs.declared.ctx.Size.TheVariants.{Whole};
-
     ghost layout_of = { λ c. record { endian = c; order = Msb0; size = Whole } };
 
     fn parts(self) -> Layout {
@@ -182,9 +176,6 @@ impl NumberCtx for Endian {
 
 /// Little, all bits.
 impl NumberCtx for Order {
-    ghost use Rattle.deku_num.specs.declared.ctx.Endian.TheVariants.{Little};
-    ghost use Rattle.deku_num.specs.declared.ctx.Size.TheVariants.{Whole};
-
     ghost layout_of = { λ c. record { endian = Little; order = c; size = Whole } };
 
     fn parts(self) -> Layout {
@@ -198,9 +189,6 @@ impl NumberCtx for Order {
 
 /// Little, `Msb0`.
 impl NumberCtx for Size {
-    ghost use Rattle.deku_num.specs.declared.ctx.Endian.TheVariants.{Little};
-    ghost use Rattle.deku_bits.specs.declared.ctx.Order.TheVariants.{Msb0};
-
     ghost layout_of = { λ c. record { endian = Little; order = Msb0; size = c } };
 
     fn parts(self) -> Layout {
@@ -214,10 +202,6 @@ impl NumberCtx for Size {
 
 /// Little, `Msb0`, so many bytes.
 impl NumberCtx for ByteSize {
-    ghost use Rattle.deku_num.specs.declared.ctx.Endian.TheVariants.{Little};
-    ghost use Rattle.deku_bits.specs.declared.ctx.Order.TheVariants.{Msb0};
-    ghost use Rattle.deku_num.specs.declared.ctx.Size.TheVariants.{Bytes};
-
     ghost layout_of = { λ c. record { endian = Little; order = Msb0; size = Bytes c.0 } };
 
     fn parts(self) -> Layout {
@@ -231,10 +215,6 @@ impl NumberCtx for ByteSize {
 
 /// Little, `Msb0`, so many bits.
 impl NumberCtx for BitSize {
-    ghost use Rattle.deku_num.specs.declared.ctx.Endian.TheVariants.{Little};
-    ghost use Rattle.deku_bits.specs.declared.ctx.Order.TheVariants.{Msb0};
-    ghost use Rattle.deku_num.specs.declared.ctx.Size.TheVariants.{Bits};
-
     ghost layout_of = { λ c. record { endian = Little; order = Msb0; size = Bits c.0 } };
 
     fn parts(self) -> Layout {
@@ -248,8 +228,6 @@ impl NumberCtx for BitSize {
 
 /// All bits.
 impl NumberCtx for (Endian, Order) {
-    ghost use Rattle.deku_num.specs.declared.ctx.Size.TheVariants.{Whole};
-
     ghost layout_of = { λ c. record { endian = c.0; order = c.1; size = Whole } };
 
     fn parts(self) -> Layout {
@@ -264,9 +242,6 @@ impl NumberCtx for (Endian, Order) {
 
 /// `Msb0`, so many bytes.
 impl NumberCtx for (Endian, ByteSize) {
-    ghost use Rattle.deku_bits.specs.declared.ctx.Order.TheVariants.{Msb0};
-    ghost use Rattle.deku_num.specs.declared.ctx.Size.TheVariants.{Bytes};
-
     ghost layout_of = { λ c. record { endian = c.0; order = Msb0; size = Bytes c.1.0 } };
 
     fn parts(self) -> Layout {
@@ -281,9 +256,6 @@ impl NumberCtx for (Endian, ByteSize) {
 
 /// `Msb0`, so many bits.
 impl NumberCtx for (Endian, BitSize) {
-    ghost use Rattle.deku_bits.specs.declared.ctx.Order.TheVariants.{Msb0};
-    ghost use Rattle.deku_num.specs.declared.ctx.Size.TheVariants.{Bits};
-
     ghost layout_of = { λ c. record { endian = c.0; order = Msb0; size = Bits c.1.0 } };
 
     fn parts(self) -> Layout {
@@ -298,9 +270,6 @@ impl NumberCtx for (Endian, BitSize) {
 
 /// Little, so many bits.
 impl NumberCtx for (BitSize, Order) {
-    ghost use Rattle.deku_num.specs.declared.ctx.Endian.TheVariants.{Little};
-    ghost use Rattle.deku_num.specs.declared.ctx.Size.TheVariants.{Bits};
-
     ghost layout_of = { λ c. record { endian = Little; order = c.1; size = Bits c.0.0 } };
 
     fn parts(self) -> Layout {
@@ -315,8 +284,6 @@ impl NumberCtx for (BitSize, Order) {
 
 /// So many bits.
 impl NumberCtx for (Endian, BitSize, Order) {
-    ghost use Rattle.deku_num.specs.declared.ctx.Size.TheVariants.{Bits};
-
     ghost layout_of = { λ c. record { endian = c.0; order = c.2; size = Bits c.1.0 } };
 
     fn parts(self) -> Layout {
@@ -331,8 +298,6 @@ impl NumberCtx for (Endian, BitSize, Order) {
 
 /// So many bytes.
 impl NumberCtx for (Endian, ByteSize, Order) {
-    ghost use Rattle.deku_num.specs.declared.ctx.Size.TheVariants.{Bytes};
-
     ghost layout_of = { λ c. record { endian = c.0; order = c.2; size = Bytes c.1.0 } };
 
     fn parts(self) -> Layout {

@@ -23,8 +23,8 @@ pub enum Misfit {
 
 /// The bits of a field of the type under the layout: at most those of the type.
 ///
-/// Refused are a size beyond the type, as `TooWide`, and otherwise a signed field that is big and `Lsb0`, of more than eight bits and no
-/// whole bytes, as `Uneven`.
+/// Refused are a size beyond the type, as `TooWide`, and otherwise a signed field that is big and
+/// `Lsb0`, of more than eight bits and no whole bytes, as `Uneven`.
 ///
 /// ```text
 /// allowed_width(NumberType::U16, ByteSize(1).parts())                        // Ok(8)
@@ -33,8 +33,11 @@ pub enum Misfit {
 pub fn allowed_width(number_type: NumberType, layout: Layout) -> Result<usize, Misfit>
     ensures allowed { IsOk result ↔ IsAllowed number_type layout }
     ensures width { IfOk result (λ n. n ≡ width_of number_type layout) }
-    ensures too_wide { (result ≡ Err Misfit.TooWide) ↔ (number_type.bits < width_of number_type layout) }
-    ensures uneven { (result ≡ Err Misfit.Uneven) ↔ ((width_of number_type layout ≤ number_type.bits) × (¬ IsEvenWhere number_type.signed layout.endian layout.order (width_of number_type layout))) }
+    ensures too_wide { (result ≡ Err Misfit.TooWide) ↔
+        (number_type.bits < width_of number_type layout) }
+    ensures uneven { (result ≡ Err Misfit.Uneven) ↔ ((width_of number_type layout ≤
+        number_type.bits) × (¬ IsEvenWhere number_type.signed layout.endian layout.order
+        (width_of number_type layout))) }
 {
     let Some(width) = width_within(number_type, layout.size) else {
         return Err(Misfit::TooWide);
@@ -48,7 +51,8 @@ pub fn allowed_width(number_type: NumberType, layout: Layout) -> Result<usize, M
 // The bits of a field of the type, where the type has as many.
 #[inline(always)]
 fn width_within(number_type: NumberType, size: Size) -> Option<usize>
-    ensures some { IfSome result (λ n. (n ≡ sized_width number_type size) × (n ≤ number_type.bits)) }
+    ensures some { IfSome result (λ n. (n ≡ sized_width number_type size)
+        × (n ≤ number_type.bits)) }
     ensures none { IsNone result → number_type.bits < sized_width number_type size }
 {
     let bits = match size {
@@ -76,7 +80,8 @@ fn is_even_where(signed: bool, endian: Endian, order: Order, width: usize) -> bo
     }
 }
 
-/// The number of a field's bits, without a sign, from their word, as `Reader::read_word` answers it.
+/// The number of a field's bits, without a sign, from their word, as `Reader::read_word` answers
+/// it.
 ///
 /// The caller's conditions: there are at most 128 bits, and the word has no more.
 ///
@@ -87,7 +92,8 @@ fn is_even_where(signed: bool, endian: Endian, order: Order, width: usize) -> bo
 pub fn number_of_word(word: u128, width: usize, endian: Endian, order: Order) -> u128
     requires wide { width ≤ 128 }
     requires fits { word < 2 ^ width }
-    ensures { (bits : List Bool) → length bits ≡ width → word ≡ word_of order bits → result ≡ number_of endian order bits }
+    ensures { (bits : List Bool) → length bits ≡ width → word ≡ word_of order bits
+        → result ≡ number_of endian order bits }
 {
     if width <= 64 {
         return narrow_number(word as u64, width, endian, order) as u128;
@@ -99,12 +105,14 @@ pub fn number_of_word(word: u128, width: usize, endian: Endian, order: Order) ->
     }
 }
 
-// The number of bits, the highest first, from their word: whole bytes are turned, and the bits behind them follow.
+// The number of bits, the highest first, from their word: whole bytes are turned, and the bits
+// behind them follow.
 #[inline(always)]
 fn number_of_high(word: u128, width: usize) -> u128
     requires wide { width ≤ 128 }
     requires fits { word < 2 ^ width }
-    ensures { (bits : List Bool) → length bits ≡ width → word ≡ word_of Order.Msb0 bits → result ≡ number_of Endian.Big Order.Msb0 bits }
+    ensures { (bits : List Bool) → length bits ≡ width → word ≡ word_of Order.Msb0 bits
+        → result ≡ number_of Endian.Big Order.Msb0 bits }
 {
     let count = width / 8;
     let behind = width % 8;
@@ -116,8 +124,8 @@ fn number_of_high(word: u128, width: usize) -> u128
     (turned(low, count) << behind) + (word >> whole)
 }
 
-/// The word of a field's bits, as `Writer::write_word` takes it, from their number without a sign. Of a number that no bits of the width
-/// have, what is answered is open.
+/// The word of a field's bits, as `Writer::write_word` takes it, from their number without a sign.
+/// Of a number that no bits of the width have, what is answered is open.
 ///
 /// The caller's condition: there are at most 128 bits.
 ///
@@ -127,7 +135,8 @@ fn number_of_high(word: u128, width: usize) -> u128
 #[inline(always)]
 pub fn word_of_number(number: u128, width: usize, endian: Endian, order: Order) -> u128
     requires wide { width ≤ 128 }
-    ensures { (bits : List Bool) → length bits ≡ width → number ≡ number_of endian order bits → result ≡ word_of order bits }
+    ensures { (bits : List Bool) → length bits ≡ width → number ≡ number_of endian order bits
+        → result ≡ word_of order bits }
 {
     if width <= 64 {
         let number = (number % (1 << 64)) as u64;
@@ -140,11 +149,13 @@ pub fn word_of_number(number: u128, width: usize, endian: Endian, order: Order) 
     }
 }
 
-// The word of bits, the highest first, from their number: the bytes before the last bits are turned, and these follow.
+// The word of bits, the highest first, from their number: the bytes before the last bits are
+// turned, and these follow.
 #[inline(always)]
 fn word_of_high(number: u128, width: usize) -> u128
     requires { width ≤ 128 }
-    ensures { (bits : List Bool) → length bits ≡ width → number ≡ number_of Endian.Big Order.Msb0 bits → result ≡ word_of Order.Msb0 bits }
+    ensures { (bits : List Bool) → length bits ≡ width
+        → number ≡ number_of Endian.Big Order.Msb0 bits → result ≡ word_of Order.Msb0 bits }
 {
     let count = width / 8;
     let behind = width % 8;
@@ -207,9 +218,11 @@ fn with_sign(sum: u128, half: u128) -> i128
     }
 }
 
-/// The word of the bits of an unsigned value, as `Writer::write_word` takes it; none where the value does not fit.
+/// The word of the bits of an unsigned value, as `Writer::write_word` takes it; none where the
+/// value does not fit.
 ///
-/// The caller's conditions: the type has no sign, and at most 128 bits; `allowed_width` admits the layout, and `width` is what it answers.
+/// The caller's conditions: the type has no sign, and at most 128 bits; `allowed_width` admits the
+/// layout, and `width` is what it answers.
 ///
 /// ```text
 /// unsigned_word(16, NumberType::U8, BitSize(4).parts(), 4)                   // none: 16 has five bits
@@ -226,7 +239,8 @@ pub fn unsigned_word(
     requires allowed { IsAllowed number_type layout }
     requires wide { width ≡ width_of number_type layout }
     ensures word { IfSome result (λ word. IsWordFor number_type layout (pos value) word) }
-    ensures none { IsNone result → (s : List Bool) → IsFieldOf number_type layout (pos value) s → ⊥ }
+    ensures none { IsNone result → (s : List Bool) → IsFieldOf number_type layout (pos value) s
+        → ⊥ }
 {
     if !is_within(value, layout.endian, layout.order, width) {
         return None;
@@ -236,7 +250,8 @@ pub fn unsigned_word(
 
 /// The word of the bits of a signed value, as `unsigned_word` answers it.
 ///
-/// The caller's conditions: the type has a sign, and at most 128 bits; `allowed_width` admits the layout, and `width` is what it answers.
+/// The caller's conditions: the type has a sign, and at most 128 bits; `allowed_width` admits the
+/// layout, and `width` is what it answers.
 ///
 /// ```text
 /// signed_word(-3, NumberType::I8, BitSize(3).parts(), 3)                     // Some(0b101)

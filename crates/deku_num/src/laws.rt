@@ -4,22 +4,26 @@ ghost use Rattle.deku_num.specs.NumberCalls.{SizeLaw};
 ghost use Rattle.deku_num.specs.NumberLaws.{FieldLaw, TypeLaw, ByteLaw, SplitLaw, GroupLaw, BitLaw, ResidueLaw};
 ghost use Rattle.deku_num.specs.Rows.{RecordRows, NumberRows, PartRows, FitRows};
 
-/// The values that fit a field whose layout is not refused are those in range, and each has one list of bits alone.
+/// The values that fit a field whose layout is not refused are those in range, and each has one
+/// list of bits alone.
 pub fn field_law()
     ensures { FieldLaw }
 {}
 
-/// What a field reads under a layout that is not refused is a value of its type, where that has whole bytes.
+/// What a field reads under a layout that is not refused is a value of its type, where that has
+/// whole bytes.
 pub fn type_law()
     ensures { TypeLaw }
 {}
 
-/// A value of a type of whole bytes is written under a layout of its whole size, so under `()`, as exactly the bits of its type.
+/// A value of a type of whole bytes is written under a layout of its whole size, so under `()`, as
+/// exactly the bits of its type.
 pub fn size_law()
     ensures { SizeLaw }
 {}
 
-/// In whole bytes, each number below two to the width has one list of bits alone, in every endian and order.
+/// In whole bytes, each number below two to the width has one list of bits alone, in every endian
+/// and order.
 pub fn byte_law()
     ensures { ByteLaw }
 {}
@@ -39,7 +43,8 @@ pub fn bit_law()
     ensures { BitLaw }
 {}
 
-/// What is left of a value modulo two to a width is below that and differs from the value by a multiple of it.
+/// What is left of a value modulo two to a width is below that and differs from the value by a
+/// multiple of it.
 pub fn residue_law()
     ensures { ResidueLaw }
 {}

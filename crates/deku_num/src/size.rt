@@ -1,7 +1,7 @@
 //! Types whose values all take the same bits.
 
 ghost use Rattle.std.specs.Prelude.{◌≡◌, ℕ, Option, Some, refl};
-ghost use Rattle.deku_num.specs.Sizes.{within_usize, eighth};
+ghost use Rattle.deku_num.specs.Sizes.{within_usize, eighth, bits_times};
 
 mod shapes;
 
@@ -17,7 +17,8 @@ pub trait DekuSize {
     fn size_bits() -> Option<usize>
         ensures { result ≡ within_usize bits };
 
-    /// The bytes that each value takes; none where the bits are not known, do not fit `usize` or make no whole bytes.
+    /// The bytes that each value takes; none where the bits are not known, do not fit `usize` or
+    /// make no whole bytes.
     ///
     /// ```text
     /// <(u8, [u16; 3])>::size_bytes()                             // Some(7)
@@ -313,10 +314,9 @@ impl DekuSizeConst for isize {
     const SIZE_BYTES: Option<usize> = Some(8);
 }
 
-/// So many times the bits of an item; an array of no items takes none, whatever is known of an item.
+/// So many times the bits of an item; an array of no items takes none, whatever is known of an
+/// item.
 impl<T: DekuSize, const N: usize> DekuSize for [T; N] {
-    ghost use Rattle.deku_num.specs.Sizes.{bits_times};
-
     ghost bits = { bits_times N T.bits };
 
     fn size_bits() -> Option<usize> {

@@ -1,4 +1,5 @@
-//! Tests of the words of `deku_bits`, and of the contexts of `deku_num`, through their public calls.
+//! Tests of the words of `deku_bits`, and of the contexts of `deku_num`, through their public
+//! calls.
 #![tactic(auto)]
 
 #[cfg(test)]

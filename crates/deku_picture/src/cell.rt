@@ -9,7 +9,8 @@ use std::alloc::{AllocError, Global};
 /// How many places a row has at most: four bytes.
 pub const PLACES_IN_ROW: usize = 32;
 
-/// A run of neighbouring places: padding, or bits of one field, each worth half of the one before it.
+/// A run of neighbouring places: padding, or bits of one field, each worth half of the one before
+/// it.
 #[derive(Debug, Clone, Copy, PartialEq, Eq)]
 pub struct Cell {
     /// The first place, the highest bit of the run, or none where it is padding.
@@ -41,7 +42,8 @@ fn is_lower(first: Place, next: Place, by: usize) -> bool
     first.bit - next.bit == by
 }
 
-/// The cells of the places of a row, from left to right, each as long as it can be: laid end to end they are these places again. It is refused where no memory is found for them.
+/// The cells of the places of a row, from left to right, each as long as it can be: laid end to end
+/// they are these places again. It is refused where no memory is found for them.
 ///
 /// ```text
 /// // twelve bits, little and `Msb0`, and four bits of padding
@@ -81,7 +83,8 @@ fn joined(
     Ok(cells)
 }
 
-/// The places of a picture in rows of 32, each row as its cells; the last row may have fewer places. It is refused where no memory is found for them.
+/// The places of a picture in rows of 32, each row as its cells; the last row may have fewer
+/// places. It is refused where no memory is found for them.
 ///
 /// ```text
 /// rows(alloc, &places(alloc, &fields)?)?     // of 40 bits: a row of four bytes, and one of a byte

@@ -1,4 +1,5 @@
-//! What is drawn: fields with their names, the rows of their cells, and bytes that they were read from.
+//! What is drawn: fields with their names, the rows of their cells, and bytes that they were read
+//! from.
 
 use crate::cell::{Cell, PLACES_IN_ROW};
 use crate::words::Named;
@@ -24,7 +25,8 @@ pub struct Drawing<'a> {
 // How many letters of a name are shown.
 const LETTERS: usize = 64;
 
-/// The first 64 letters of the name of a field, or `f` and its number, from one on, where it has none.
+/// The first 64 letters of the name of a field, or `f` and its number, from one on, where it has
+/// none.
 pub fn name_of(alloc: Global, fields: &[Named], index: usize) -> Result<String, AllocError> {
     match fields.get(index) {
         Some(field) if !field.name.is_empty() => {

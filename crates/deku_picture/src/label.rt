@@ -1,4 +1,5 @@
-//! What stands in a cell: a name and the range of its weights, in as many lines as the cell's width takes.
+//! What stands in a cell: a name and the range of its weights, in as many lines as the cell's width
+//! takes.
 
 use crate::cell::Cell;
 use crate::drawing::name_of;
@@ -25,7 +26,8 @@ pub struct Lines {
     pub weights: usize,
 }
 
-/// The labels of a row's cells, where a bit is `per_bit` letters wide, and `less` letters of a cell are not free.
+/// The labels of a row's cells, where a bit is `per_bit` letters wide, and `less` letters of a cell
+/// are not free.
 pub fn labels(
     alloc: Global,
     fields: &[Named],

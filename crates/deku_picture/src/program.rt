@@ -81,16 +81,20 @@ enum Form<'a> {
     Bytes(&'a str),
 }
 
-/// Runs the program on the arguments after its name, and answers its status: 0 where it is done, 1 where the fields, the bytes, the output or the
-/// memory stood in the way, and 2 where the arguments are not of a form that it knows.
+/// Runs the program on the arguments after its name, and answers its status: 0 where it is done, 1
+/// where the fields, the bytes, the output or the memory stood in the way, and 2 where the
+/// arguments are not of a form that it knows.
 ///
-/// `SPEC..` prints the picture of the fields as a table, `--svg SPEC..` as an SVG, and `--bytes HEX SPEC..` as a table with the bits of these
-/// bytes and the values that the fields have in them. Each SPEC may have a name in front of it, as `name:SPEC`.
+/// `SPEC..` prints the picture of the fields as a table, `--svg SPEC..` as an SVG, and
+/// `--bytes HEX SPEC..` as a table with the bits of these bytes and the values that the fields have
+/// in them. Each SPEC may have a name in front of it, as `name:SPEC`.
 ///
-/// A run that is not done is told of in one line on `errors`: the usage with status 2, and the word that names no field where there is one, and
-/// memory to show it; and with status 1 `error: bad hexadecimal text`, or `error: ` and the text of the fault. The words are looked at before the
-/// bytes and before any memory is taken, and nothing goes to the output until all of the picture is known, so it gains nothing then but what a
-/// failing output took. A fault of `errors` changes nothing.
+/// A run that is not done is told of in one line on `errors`: the usage with status 2, and the word
+/// that names no field where there is one, and memory to show it; and with status 1
+/// `error: bad hexadecimal text`, or `error: ` and the text of the fault. The words are looked at
+/// before the bytes and before any memory is taken, and nothing goes to the output until all of the
+/// picture is known, so it gains nothing then but what a failing output took. A fault of `errors`
+/// changes nothing.
 ///
 /// ```text
 /// a:u8,lsb,bits4 b:u16,lsb,bits12                   // prints cells `b 3..0`, `a 3..0` and `b 11..4`, status 0
@@ -99,13 +103,17 @@ enum Form<'a> {
 /// ```
 pub fn run<W: Write, E: Write>(alloc: Global, args: &[String], output: &mut W, errors: &mut E) -> u8
     ensures status { result ≤ 2 }
-    ensures done { result ≡ 0 → IsDone (words_of args.now) (W.contents output.old) (W.contents output.new) }
+    ensures done { result ≡ 0 → IsDone (words_of args.now) (W.contents output.old)
+        (W.contents output.new) }
     ensures quiet { result ≡ 0 → errors.new ≡ errors.old }
     ensures usage { result ≡ 2 → AreNoForm (words_of args.now) × (output.new ≡ output.old) }
     ensures formed { AreNoForm (words_of args.now) → result ≡ 2 }
-    ensures told { result ≡ 2 → IsUsageTold (words_of args.now) (E.contents errors.old) (E.contents errors.new) }
-    ensures stopped { result ≡ 1 → IsStopped (words_of args.now) (W.contents output.old) (W.contents output.new) (E.contents errors.old) (E.contents errors.new) }
-    ensures kept { result ≡ 1 → (output.new ≡ output.old) ⊎ IsUnfinished (words_of args.now) (W.contents output.old) (W.contents output.new) }
+    ensures told { result ≡ 2 → IsUsageTold (words_of args.now) (E.contents errors.old)
+        (E.contents errors.new) }
+    ensures stopped { result ≡ 1 → IsStopped (words_of args.now) (W.contents output.old)
+        (W.contents output.new) (E.contents errors.old) (E.contents errors.new) }
+    ensures kept { result ≡ 1 → (output.new ≡ output.old)
+        ⊎ IsUnfinished (words_of args.now) (W.contents output.old) (W.contents output.new) }
 {
     let Err(failure) = command(alloc, args, output) else {
         return 0;
@@ -136,7 +144,8 @@ fn complain<E: Write>(alloc: Global, errors: &mut E, failure: &Failure) -> io::R
     }
 }
 
-// Tells of a word that names no field, or gives the usage alone where no memory is found to show it.
+// Tells of a word that names no field, or gives the usage alone where no memory is found to show
+// it.
 fn complain_of<E: Write>(alloc: Global, errors: &mut E, word: &str) -> io::Result<()>
     ensures { TellsWord word.now (E.contents errors.old) (E.contents errors.new) }
 {
@@ -159,11 +168,14 @@ fn command<'a, W: Write>(
     args: &'a [String],
     output: &mut W,
 ) -> Result<(), Failure<'a>>
-    ensures done { OnOk result (IsDone (words_of args.now) (W.contents output.old) (W.contents output.new)) }
+    ensures done { OnOk result (IsDone (words_of args.now) (W.contents output.old)
+        (W.contents output.new)) }
     ensures formed { AreNoForm (words_of args.now) → IsErrAnd result (λ e. status_of e ≡ 2) }
-    ensures ends { IfErr result (RunEnds (words_of args.now) (W.contents output.old) (W.contents output.new)) }
+    ensures ends { IfErr result (RunEnds (words_of args.now) (W.contents output.old)
+        (W.contents output.new)) }
     ensures usage { IfErr result (λ e. status_of e ≡ 2 → output.new ≡ output.old) }
-    ensures kept { OnErr result ((output.new ≡ output.old) ⊎ IsUnfinished (words_of args.now) (W.contents output.old) (W.contents output.new)) }
+    ensures kept { OnErr result ((output.new ≡ output.old)
+        ⊎ IsUnfinished (words_of args.now) (W.contents output.old) (W.contents output.new)) }
 {
     let text = drawn(alloc, args)?;
     give_text(output, text.as_bytes())?;
@@ -194,7 +206,8 @@ fn drawn(alloc: Global, args: &[String]) -> Result<String, Failure<'_>>
     Ok(text)
 }
 
-// What is drawn, and the words of the fields, each of which names one. This takes no memory, so that words of no form are told as such whatever memory there is.
+// What is drawn, and the words of the fields, each of which names one. This takes no memory, so
+// that words of no form are told as such whatever memory there is.
 fn split_words(args: &[String]) -> Result<(Form<'_>, &[String]), Failure<'_>>
     ensures split { IfOk result (λ p. IsSplit (words_of args.now) (words_of p.1.now) p.0) }
     ensures stops { IfErr result (λ e. (status_of e ≡ 2) × IsFailure (words_of args.now) e) }
@@ -213,7 +226,8 @@ fn split_words(args: &[String]) -> Result<(Form<'_>, &[String]), Failure<'_>>
 
 // The first word that names no field; none where each names one.
 fn first_unnamed(specs: &[String]) -> Option<&str>
-    ensures { MatchOption result (NameFields (words_of specs.now)) (λ word. IsUnnamed (words_of specs.now) word.now) }
+    ensures { MatchOption result (NameFields (words_of specs.now))
+        (λ word. IsUnnamed (words_of specs.now) word.now) }
 {
     for word in specs {
         let text = word.as_str();
@@ -226,7 +240,8 @@ fn first_unnamed(specs: &[String]) -> Option<&str>
 
 // What is drawn, and the words of the fields; none where there are none.
 fn split_form(args: &[String]) -> Option<(Form<'_>, &[String])>
-    ensures { MatchOption result ((specs : List (List ℕ)) → HasSpecs (words_of args.now) specs → ⊥) (λ p. IsForm (words_of args.now) p.0 × HasSpecs (words_of args.now) (words_of p.1.now)) }
+    ensures { MatchOption result ((specs : List (List ℕ)) → HasSpecs (words_of args.now) specs → ⊥)
+        (λ p. IsForm (words_of args.now) p.0 × HasSpecs (words_of args.now) (words_of p.1.now)) }
 {
     let Some((first, rest)) = args.split_first() else {
         return None;
@@ -243,8 +258,11 @@ fn split_form(args: &[String]) -> Option<(Form<'_>, &[String])>
 
 // The fields that the words name, with their names.
 fn fields_named(alloc: Global, specs: &[String]) -> Result<Vec<Named<'_>>, Failure<'_>>
-    ensures named { IfOk result (λ v. AllZip Names (words_of specs.now) (map (λ n. n.field) v.items)) }
-    ensures stops { IfErr result (λ e. ((status_of e ≡ 2) × ((fields : List ListField) → AllZip Names (words_of specs.now) fields → ⊥)) ⊎ (e ≡ Fault (Io OutOfMemory))) }
+    ensures named { IfOk result (λ v. AllZip Names (words_of specs.now)
+        (map (λ n. n.field) v.items)) }
+    ensures stops { IfErr result (λ e. ((status_of e ≡ 2)
+        × ((fields : List ListField) → AllZip Names (words_of specs.now) fields → ⊥))
+        ⊎ (e ≡ Fault (Io OutOfMemory))) }
 {
     let mut fields: Vec<Named> = Vec::new(alloc);
     for word in specs {

@@ -48,7 +48,8 @@ impl Point {
     }
 }
 
-/// A picture as SVG, 660 pixels wide: for each row the numbers of its bytes and of their bits, and its cells; and then a line for each field.
+/// A picture as SVG, 660 pixels wide: for each row the numbers of its bytes and of their bits, and
+/// its cells; and then a line for each field.
 pub fn svg(alloc: Global, drawing: &Drawing) -> Result<String, AllocError> {
     let mut body = String::new(alloc);
     let mut at = Point {

@@ -7,8 +7,9 @@ use crate::words::Named;
 use std::alloc::{AllocError, Global};
 use std::fmt::Write as _;
 
-/// A picture as text: for each row the numbers of its bytes and of their bits, its cells, and the bits of the bytes where there are some; and
-/// then a line for each field. A row is 65 letters wide.
+/// A picture as text: for each row the numbers of its bytes and of their bits, its cells, and the
+/// bits of the bytes where there are some; and then a line for each field. A row is 65 letters
+/// wide.
 pub fn table(alloc: Global, drawing: &Drawing) -> Result<String, AllocError> {
     let mut text = String::new(alloc);
     for (index, row) in drawing.rows.iter().enumerate() {

@@ -17,8 +17,8 @@ pub struct Named<'a> {
     pub field: Field,
 }
 
-/// The field that a word names, with the name in front of it: `SPEC`, or `name:SPEC` with a name of letters, digits, `_` and `-`. None where
-/// it names no field.
+/// The field that a word names, with the name in front of it: `SPEC`, or `name:SPEC` with a name of
+/// letters, digits, `_` and `-`. None where it names no field.
 ///
 /// ```text
 /// parse_named("kind:u8,big,bits4")  // four bits of a `u8`, named `kind`
@@ -26,7 +26,8 @@ pub struct Named<'a> {
 /// parse_named(":u8")                // none: a name has a letter at least
 /// ```
 pub fn parse_named(word: &str) -> Option<Named<'_>>
-    ensures { MatchOption result ((name spec : List ℕ) (f : ListField) → IsNamed word.now name spec f → ⊥) (λ n. IsNamed word.now n.name.now n.spec.now n.field) }
+    ensures { MatchOption result ((name spec : List ℕ) (f : ListField)
+        → IsNamed word.now name spec f → ⊥) (λ n. IsNamed word.now n.name.now n.spec.now n.field) }
 {
     if let Some(field) = parse_field(word) {
         return Some(Named {

@@ -1,6 +1,7 @@
 //! Parts that are looked at when they were read, and before they are written.
 
 ghost use Rattle.std.specs.Prelude.{◌≡◌, ℕ, Bool, List};
+ghost use Rattle.deku_pieces.specs.Asserting.{ReadsAsserted, WritesAsserted};
 
 use deku::device::{Sink, Source};
 use deku::reader::Reader;
@@ -43,8 +44,9 @@ pub trait Check<P> {
 
 /// A part that passes a check.
 ///
-/// Where it is read, a part that does not pass is refused with `Assertion` and the text of the check, and stays read. Where it is written it is refused so before
-/// anything moves. Else it is refused as the part is.
+/// Where it is read, a part that does not pass is refused with `Assertion` and the text of the
+/// check, and stays read. Where it is written it is refused so before anything moves. Else it is
+/// refused as the part is.
 ///
 /// ```text
 /// type Parts = (Assert<Msb<u8, 4>, Version>, Msb<u8, 4>);   // 45 passes; 65 is refused with Assertion("version")
@@ -74,14 +76,13 @@ impl<P, C> Assert<P, C> {
 }
 
 impl<P: DekuReader<()>, C: Check<P>> DekuReader<()> for Assert<P, C> {
-    ghost use Rattle.deku_pieces.specs.Asserting.{ReadsAsserted};
-
     ghost accepts = { λ _. P.accepts tt };
 
     ghost no_read_ahead = { λ _. P.no_read_ahead tt };
 
     ghost meaning = { λ _. ReadsAsserted C.passes C.text (P.meaning tt) };
 
+    #[inline(always)]
     fn from_reader_with_ctx<R: Source>(
         reader: &mut Reader<R>,
         _ctx: (),
@@ -95,12 +96,11 @@ impl<P: DekuReader<()>, C: Check<P>> DekuReader<()> for Assert<P, C> {
 }
 
 impl<P: DekuWriter<()>, C: Check<P>> DekuWriter<()> for Assert<P, C> {
-    ghost use Rattle.deku_pieces.specs.Asserting.{WritesAsserted};
-
     ghost accepts = { λ _. P.accepts tt };
 
     ghost meaning = { λ v _. WritesAsserted C.passes C.text (λ p. P.meaning p tt) v };
 
+    #[inline(always)]
     fn to_writer<W: Sink>(&self, writer: &mut Writer<W>, _ctx: ()) -> Result<(), DekuError> {
         if !C::passes(&self.part) {
             return Err(DekuError::Assertion(C::text()));

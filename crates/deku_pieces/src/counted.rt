@@ -1,10 +1,10 @@
 //! Heads that say how many items lie behind them.
 
-ghost use Rattle.std.specs.Prelude.{◌≡◌, ℕ, Option, length, OnOk, MatchBool};
+ghost use Rattle.std.specs.Prelude.{◌≡◌, ℕ, Option, length, OnOk, MatchBool, Some};
 ghost use Rattle.deku_bits.specs.ReaderCalls.{Reads};
 ghost use Rattle.deku_bits.specs.WriterCalls.{Writes};
 ghost use Rattle.deku.specs.Early.{NoReadAhead};
-ghost use Rattle.deku_pieces.specs.Leading.{ReadsCounted, IsCounted, WritesCountedBy};
+ghost use Rattle.deku_pieces.specs.Leading.{ReadsCounted, IsCounted, WritesCountedBy, ReadsCountedBy};
 
 use deku::ctx::Limit;
 use deku::device::{Sink, Source};
@@ -30,9 +30,11 @@ pub trait ItemCount {
 
 /// A head, and behind it as many items as it says.
 ///
-/// Where it is read, a head that names no count is refused with `Parse("head without a count")`, and stays read. Where it is written, a head
-/// that names another count than that of the items, or none, is refused with `Assertion("count out of step with items")`, and nothing moves. Else it is
-/// refused as its head is, and then as the first of its items is, or with `Io(OutOfMemory)` where no memory is found for an item.
+/// Where it is read, a head that names no count is refused with `Parse("head without a count")`,
+/// and stays read. Where it is written, a head that names another count than that of the items, or
+/// none, is refused with `Assertion("count out of step with items")`, and nothing moves. Else it is
+/// refused as its head is, and then as the first of its items is, or with `Io(OutOfMemory)` where
+/// no memory is found for an item.
 ///
 /// ```text
 /// type Text = Counted<u8, u8>;                                    // 02 68 69, where a byte counts those behind it
@@ -47,8 +49,6 @@ pub struct Counted<H, T> {
 
 /// A byte counts what lies behind it.
 impl ItemCount for u8 {
-    ghost use Rattle.std.specs.Prelude.{Some};
-
     ghost count_of = { λ n. Some n };
 
     fn count(&self) -> Option<usize> {
@@ -57,14 +57,14 @@ impl ItemCount for u8 {
 }
 
 impl<H: ItemCount + DekuReader<()>, T: DekuReader<()>> DekuReader<()> for Counted<H, T> {
-    ghost use Rattle.deku_pieces.specs.Leading.{ReadsCountedBy};
-
     ghost accepts = { λ _. H.DekuReader.accepts tt × T.accepts tt };
 
     ghost no_read_ahead = { λ _. H.DekuReader.no_read_ahead tt × T.no_read_ahead tt };
 
-    ghost meaning = { λ _. ReadsCountedBy H.ItemCount.count_of (H.DekuReader.meaning tt) (T.meaning tt) };
+    ghost meaning = { λ _. ReadsCountedBy H.ItemCount.count_of (H.DekuReader.meaning tt)
+        (T.meaning tt) };
 
+    #[inline(always)]
     fn from_reader_with_ctx<R: Source>(
         reader: &mut Reader<R>,
         _ctx: (),
@@ -76,6 +76,7 @@ impl<H: ItemCount + DekuReader<()>, T: DekuReader<()>> DekuReader<()> for Counte
 }
 
 // Reads as many items as there are to be.
+#[inline(always)]
 fn read_counted<T: DekuReader<()>, R: Source>(
     reader: &mut Reader<R>,
     count: Option<usize>,
@@ -91,12 +92,12 @@ fn read_counted<T: DekuReader<()>, R: Source>(
 }
 
 impl<H: ItemCount + DekuWriter<()>, T: DekuWriter<()>> DekuWriter<()> for Counted<H, T> {
-    ghost use Rattle.deku_pieces.specs.Leading.{WritesCountedBy};
-
     ghost accepts = { λ _. H.DekuWriter.accepts tt × T.accepts tt };
 
-    ghost meaning = { λ v _. WritesCountedBy H.ItemCount.count_of (λ h. H.DekuWriter.meaning h tt) (λ x. T.meaning x tt) v };
+    ghost meaning = { λ v _. WritesCountedBy H.ItemCount.count_of (λ h. H.DekuWriter.meaning h tt)
+        (λ x. T.meaning x tt) v };
 
+    #[inline(always)]
     fn to_writer<W: Sink>(&self, writer: &mut Writer<W>, _ctx: ()) -> Result<(), DekuError> {
         write_counted(&self.head, &self.items, writer)
     }
@@ -104,12 +105,14 @@ impl<H: ItemCount + DekuWriter<()>, T: DekuWriter<()>> DekuWriter<()> for Counte
 
 /// Writes a head and the items behind it, as a `Counted` of both is written.
 ///
-/// A head that names another count than that of the items, or none, is refused with `Assertion("count out of step with items")`, and nothing moves. Else it is refused
-/// as the head is, and then as the first of the items is. The caller's condition: both may be written.
+/// A head that names another count than that of the items, or none, is refused with
+/// `Assertion("count out of step with items")`, and nothing moves. Else it is refused as the head
+/// is, and then as the first of the items is. The caller's condition: both may be written.
 ///
 /// ```text
 /// write_counted(&2u8, &items, writer)?                            // 02 68 69, of the items 68 and 69
 /// ```
+#[inline(always)]
 pub fn write_counted<H: ItemCount + DekuWriter<()>, T: DekuWriter<()>, W: Sink>(
     head: &H,
     items: &Vec<T>,
@@ -117,7 +120,9 @@ pub fn write_counted<H: ItemCount + DekuWriter<()>, T: DekuWriter<()>, W: Sink>(
 ) -> Result<(), DekuError>
     requires head { H.DekuWriter.accepts tt }
     requires items { T.accepts tt }
-    ensures { Writes W.known (WritesCountedBy H.ItemCount.count_of (λ h. H.DekuWriter.meaning h tt) (λ x. T.meaning x tt) (record { head = head.now; items = items.now })) writer.old result writer.new }
+    ensures { Writes W.known (WritesCountedBy H.ItemCount.count_of (λ h. H.DekuWriter.meaning h tt)
+        (λ x. T.meaning x tt) (record { head = head.now; items = items.now })) writer.old result
+        writer.new }
 {
     if !in_step(head, items) {
         return Err(DekuError::Assertion("count out of step with items"));
@@ -127,8 +132,10 @@ pub fn write_counted<H: ItemCount + DekuWriter<()>, T: DekuWriter<()>, W: Sink>(
 }
 
 // Whether there are as many items as the head says.
+#[inline(always)]
 fn in_step<H: ItemCount, T>(head: &H, items: &Vec<T>) -> bool
-    ensures { MatchBool result (IsCounted (H.count_of head.now) (length items.now.items)) (IsCounted (H.count_of head.now) (length items.now.items) → ⊥) }
+    ensures { MatchBool result (IsCounted (H.count_of head.now) (length items.now.items))
+        (IsCounted (H.count_of head.now) (length items.now.items) → ⊥) }
 {
     match head.count() {
         Some(count) => items.len() == count,

@@ -1,17 +1,18 @@
-//! When reading and writing a type are symmetric: the definitions, the laws of what is made of symmetric parts, and whole values that are read under a context.
+//! When reading and writing a type are symmetric: the definitions, the laws of what is made of
+//! symmetric parts, and whole values that are read under a context.
 #![tactic(auto)]
 
 pub mod assertion;
 pub mod choice;
-pub mod until;
-pub mod magic;
 pub mod counted;
+pub mod magic;
 pub mod scattered;
+pub mod until;
 mod whole;
 
 pub use assertion::{Assert, Check};
-pub use choice::{Choice, LsbTagged, MsbTagged, HasId, Only, Tagged};
+pub use choice::{Choice, HasId, LsbTagged, MsbTagged, Only, Tagged};
+pub use counted::{Counted, ItemCount, write_counted};
 pub use magic::{Constant, Magic};
-pub use counted::{ItemCount, Counted, write_counted};
 pub use scattered::{high_bits, low_bits};
 pub use whole::read_whole;

@@ -1,6 +1,7 @@
 //! Parts that are always the same: signatures, versions, lengths that a format fixes.
 
 ghost use Rattle.std.specs.Prelude.{◌≡◌, ℕ, List, MatchBool};
+ghost use Rattle.deku_pieces.specs.Asserting.{ReadsMagic};
 
 use deku::device::{Sink, Source};
 use deku::reader::Reader;
@@ -51,7 +52,8 @@ pub trait Constant<P> {
 
 /// A part that is always the value of `C`, and so has none of its own.
 ///
-/// Where it is read, another value is refused with `Assertion` and the text of the constant, and stays read. Else it is refused, read or written, as the part is.
+/// Where it is read, another value is refused with `Assertion` and the text of the constant, and
+/// stays read. Else it is refused, read or written, as the part is.
 ///
 /// ```text
 /// type Parts = (Magic<Be<u32>, Signature>, Be<u16>);              // 7F 45 4C 46, and two bytes
@@ -81,14 +83,13 @@ impl<P, C> Magic<P, C> {
 }
 
 impl<P: DekuReader<()>, C: Constant<P>> DekuReader<()> for Magic<P, C> {
-    ghost use Rattle.deku_pieces.specs.Asserting.{ReadsMagic};
-
     ghost accepts = { λ _. P.accepts tt };
 
     ghost no_read_ahead = { λ _. P.no_read_ahead tt };
 
     ghost meaning = { λ _. ReadsMagic C.value C.text (P.meaning tt) };
 
+    #[inline(always)]
     fn from_reader_with_ctx<R: Source>(
         reader: &mut Reader<R>,
         _ctx: (),
@@ -106,6 +107,7 @@ impl<P: DekuReader<()> + DekuWriter<()>, C: Constant<P>> DekuWriter<()> for Magi
 
     ghost meaning = { λ _ _. P.DekuWriter.meaning C.value tt };
 
+    #[inline(always)]
     fn to_writer<W: Sink>(&self, writer: &mut Writer<W>, _ctx: ()) -> Result<(), DekuError> {
         C::value().to_writer(writer, ())
     }

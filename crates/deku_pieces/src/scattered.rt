@@ -1,4 +1,5 @@
-//! Numbers with a sign whose low bits lie apart from their high ones, as immediates of instruction words do.
+//! Numbers with a sign whose low bits lie apart from their high ones, as immediates of instruction
+//! words do.
 
 ghost use Rattle.std.specs.Prelude.{◌≡◌, ◌<◌, ◌≤◌, ◌^◌};
 ghost use Rattle.deku_pieces.specs.Scattered.{low_of, high_of, joined_of};

@@ -1,7 +1,9 @@
 //! Items up to and including the first that ends them.
 
-ghost use Rattle.std.specs.Prelude.{◌≡◌, Bool, MatchBool};
-ghost use Rattle.deku_pieces.specs.Ending.{IsEnded};
+ghost use Rattle.std.specs.Prelude.{◌≡◌, Bool, MatchBool, ⊤};
+ghost use Rattle.deku_pieces.specs.Ending.{IsEnded, ReadsEnded, WritesEnded};
+ghost use Rattle.deku_bits.specs.Outcomes.{Mapped};
+ghost use Rattle.deku.specs.Limits.{MappedBy};
 
 use deku::ctx::{Limit, Predicate};
 use deku::device::{Sink, Source};
@@ -35,8 +37,6 @@ pub trait Last {
 struct AtEnd;
 
 impl<T: Last> Predicate<T> for AtEnd {
-    ghost use Rattle.std.specs.Prelude.{◌≡◌, ⊤};
-
     ghost asks_all = { λ _. ⊤ };
 
     ghost answers = { λ _ v b _. b ≡ T.Last.last_of v };
@@ -52,9 +52,12 @@ impl<T: Last> Predicate<T> for AtEnd {
 
 /// Items, of which the last one ends them, and none before it.
 ///
-/// Where it is read, items are read up to and including the first that ends them. It is refused as the first of them is that is refused, or with `Io(OutOfMemory)`
-/// where no memory is found for an item; what the items before it moved stays moved. Where it is written, items of which none or another than the last is the first that ends
-/// them are refused with `Assertion("items out of step with their end")`, and nothing moves. Else it is refused as the first of its items is.
+/// Where it is read, items are read up to and including the first that ends them. It is refused as
+/// the first of them is that is refused, or with `Io(OutOfMemory)` where no memory is found for an
+/// item; what the items before it moved stays moved. Where it is written, items of which none or
+/// another than the last is the first that ends them are refused with
+/// `Assertion("items out of step with their end")`, and nothing moves. Else it is refused as the
+/// first of its items is.
 ///
 /// ```text
 /// type Name = Until<Label>;                                   // 02 68 69 00: a label of two bytes, and the empty one
@@ -66,15 +69,12 @@ pub struct Until<T> {
 }
 
 impl<T: Last + DekuReader<()>> DekuReader<()> for Until<T> {
-    ghost use Rattle.deku_bits.specs.Outcomes.{Mapped};
-    ghost use Rattle.deku.specs.Limits.{MappedBy};
-    ghost use Rattle.deku_pieces.specs.Ending.{ReadsEnded};
-
     ghost accepts = { λ _. T.DekuReader.accepts tt };
 
     ghost no_read_ahead = { λ _. T.DekuReader.no_read_ahead tt };
 
-    ghost meaning = { λ _. Mapped (λ v. record { items = v }) (MappedBy (λ xs v. v.items ≡ xs) (ReadsEnded T.Last.last_of (T.DekuReader.meaning tt))) };
+    ghost meaning = { λ _. Mapped (λ v. record { items = v })
+        (MappedBy (λ xs v. v.items ≡ xs) (ReadsEnded T.Last.last_of (T.DekuReader.meaning tt))) };
 
     fn from_reader_with_ctx<R: Source>(
         reader: &mut Reader<R>,
@@ -86,11 +86,10 @@ impl<T: Last + DekuReader<()>> DekuReader<()> for Until<T> {
 }
 
 impl<T: Last + DekuWriter<()>> DekuWriter<()> for Until<T> {
-    ghost use Rattle.deku_pieces.specs.Ending.{WritesEnded};
-
     ghost accepts = { λ _. T.DekuWriter.accepts tt };
 
-    ghost meaning = { λ v _. WritesEnded T.Last.last_of (λ x. T.DekuWriter.meaning x tt) v.items.items };
+    ghost meaning = { λ v _. WritesEnded T.Last.last_of (λ x. T.DekuWriter.meaning x tt)
+        v.items.items };
 
     fn to_writer<W: Sink>(&self, writer: &mut Writer<W>, _ctx: ()) -> Result<(), DekuError> {
         if !are_ended(self.items.as_slice()) {
@@ -102,7 +101,8 @@ impl<T: Last + DekuWriter<()>> DekuWriter<()> for Until<T> {
 
 // Whether the first item that ends them is the last one.
 fn are_ended<T: Last>(items: &[T]) -> bool
-    ensures { MatchBool result (IsEnded T.Last.last_of items.now) (IsEnded T.Last.last_of items.now → ⊥) }
+    ensures { MatchBool result (IsEnded T.Last.last_of items.now)
+        (IsEnded T.Last.last_of items.now → ⊥) }
 {
     for (place, item) in items.iter().enumerate() {
         if item.is_last() {

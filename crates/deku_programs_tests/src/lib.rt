@@ -1,5 +1,5 @@
-//! Tests of `deku_picture`, through its public calls, and runs of the programs `fields`, `layout` and
-//! `formats`.
+//! Tests of `deku_picture`, through its public calls, and runs of the programs `fields`, `layout`
+//! and `formats`.
 #![tactic(auto)]
 
 #[cfg(test)]

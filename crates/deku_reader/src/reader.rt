@@ -39,20 +39,24 @@ pub enum ReaderRet {
 
 /// Reads bits from a source of bytes.
 ///
-/// A read fetches the bytes that it needs behind the unread bits, a run of them at once, and none behind the last bit that was wanted.
-/// It keeps the bits of that byte that are not read yet. In `Msb0` the next bit is the highest of them, in `Lsb0` the lowest; the order
-/// may change at any bit.
+/// A read fetches the bytes that it needs behind the unread bits, a run of them at once, and none
+/// behind the last bit that was wanted. It keeps the bits of that byte that are not read yet. In
+/// `Msb0` the next bit is the highest of them, in `Lsb0` the lowest; the order may change at any
+/// bit.
 ///
 /// Each read is refused, in this order,
 ///
 /// - with the fault that stopped the reader, if one did;
-/// - with `InvalidParam("count past usize")` where the bits read would be more than a `usize` counts; nothing changes;
+/// - with `InvalidParam("count past usize")` where the bits read would be more than a `usize`
+///   counts; nothing changes;
 /// - with `Io(OutOfMemory)` where it needs memory and finds none; nothing changes;
-/// - with `Incomplete` of the bits that were asked for, where the input ends before the last of them;
+/// - with `Incomplete` of the bits that were asked for, where the input ends before the last of
+///   them;
 /// - with `Io` of the fault's kind, where the source fails.
 ///
-/// The last two stop the reader: it answers the same to each further read, skip and look for the end, also to one of no bits, it has
-/// no bits left over, and the count of bits read stays what it was before the read that failed. A seek that succeeds lets it go on.
+/// The last two stop the reader: it answers the same to each further read, skip and look for the
+/// end, also to one of no bits, it has no bits left over, and the count of bits read stays what it
+/// was before the read that failed. A seek that succeeds lets it go on.
 ///
 /// ```text
 /// let mut reader = Reader::new(alloc, Cursor::new(bytes)); // 6D BE EF
@@ -71,7 +75,8 @@ pub struct Reader<R: Source> {
 }
 
 impl<R: Source> Reader<R> {
-    /// A reader that begins at the source's next byte, with no bits read. The vectors that it answers are made by `alloc`.
+    /// A reader that begins at the source's next byte, with no bits read. The vectors that it
+    /// answers are made by `alloc`.
     ///
     /// ```text
     /// let mut reader = Reader::new(alloc, Cursor::new(bytes));   // nothing is fetched yet
@@ -99,7 +104,8 @@ impl<R: Source> Reader<R> {
         self.alloc
     }
 
-    /// The source, behind the last byte that was fetched. Bits of that byte that were not read yet are lost.
+    /// The source, behind the last byte that was fetched. Bits of that byte that were not read yet
+    /// are lost.
     ///
     /// ```text
     /// reader.into_inner().position()                             // 2, where nine bits were read
@@ -110,8 +116,9 @@ impl<R: Source> Reader<R> {
         self.source
     }
 
-    /// The source, behind the last byte that was fetched. What is done to it is done to the reader's source: the next bits are the
-    /// unread ones of that byte, and then those of the bytes that the source gives.
+    /// The source, behind the last byte that was fetched. What is done to it is done to the
+    /// reader's source: the next bits are the unread ones of that byte, and then those of the bytes
+    /// that the source gives.
     ///
     /// ```text
     /// let mut reader = Reader::new(alloc, Cursor::new(bytes)); // 01 02 03
@@ -120,7 +127,8 @@ impl<R: Source> Reader<R> {
     /// ```
     pub fn as_mut(&mut self) -> &mut R
         ensures value { result.now ≡ self.old.source }
-        ensures* writes_back { sem 𝓛 (Lends (reader-row R.row) R.row self.entry result (λ x. record self.old { source = x })) }
+        ensures* writes_back { sem 𝓛 (Lends (reader-row R.row) R.row self.entry result
+            (λ x. record self.old { source = x })) }
     {
         &mut self.source
     }
@@ -145,7 +153,8 @@ impl<R: Source> Reader<R> {
         Some(Leftover::Bits(bits))
     }
 
-    /// How many bits were read or skipped, by calls that succeeded. A seek sets it, as is said there.
+    /// How many bits were read or skipped, by calls that succeeded. A seek sets it, as is said
+    /// there.
     ///
     /// ```text
     /// reader.bits_read()                                         // 12, behind reads of 8 and of 4 bits
@@ -156,9 +165,11 @@ impl<R: Source> Reader<R> {
         self.state.bits_read()
     }
 
-    /// The unread bits of the byte that was fetched last, high bit first: at most eight, and none after a fault.
+    /// The unread bits of the byte that was fetched last, high bit first: at most eight, and none
+    /// after a fault.
     ///
-    /// It is refused with `Io(OutOfMemory)` where no memory is found, and with nothing else, also by a reader that has stopped. Nothing changes.
+    /// It is refused with `Io(OutOfMemory)` where no memory is found, and with nothing else, also
+    /// by a reader that has stopped. Nothing changes.
     ///
     /// ```text
     /// reader.read_bits(13, Order::Lsb0)?; // from 10 81
@@ -177,12 +188,13 @@ impl<R: Source> Reader<R> {
 
     /// Whether the end of input is reached.
     ///
-    /// Where bits of the byte that was fetched last are unread, it answers false and does not ask the source. Else it fetches one
-    /// byte, all of which is then unread: the next reads and skips are the same as without this call, and the count stays. It
-    /// answers true where the source has no byte.
+    /// Where bits of the byte that was fetched last are unread, it answers false and does not ask
+    /// the source. Else it fetches one byte, all of which is then unread: the next reads and skips
+    /// are the same as without this call, and the count stays. It answers true where the source has
+    /// no byte.
     ///
-    /// It is refused with the fault that stopped the reader, if one did, and with `Io` of the fault's kind where the source fails;
-    /// that stops the reader.
+    /// It is refused with the fault that stopped the reader, if one did, and with `Io` of the
+    /// fault's kind where the source fails; that stops the reader.
     ///
     /// ```text
     /// reader.end()?;                      // from AA: false
@@ -193,10 +205,12 @@ impl<R: Source> Reader<R> {
     /// ```
     pub fn end(&mut self) -> Result<bool, DekuError>
         ensures reads { Reads R.known Ending self.old result self.new }
-        ensures fetched { OnOk result (FetchesAhead self.old.state self.new.state (R.known self.old.source) (R.known self.new.source)) }
+        ensures fetched { OnOk result (FetchesAhead self.old.state self.new.state
+            (R.known self.old.source) (R.known self.new.source)) }
         ensures held { OnOk result (length (window_of self.new.state) ≤ 8) }
         // Where bits are unread, it moves nothing, whatever the source tells.
-        ensures unread { 0 < length (window_of self.old.state) → (result ≡ Ok false) × (self.new ≡ self.old) }
+        ensures unread { 0 < length (window_of self.old.state) → (result ≡ Ok false)
+            × (self.new ≡ self.old) }
         ensures stopped { Untouched self.old.state self.old.source self.new.source }
         ensures alloc { self.new.alloc ≡ self.old.alloc }
     {
@@ -205,13 +219,14 @@ impl<R: Source> Reader<R> {
 
     /// Leaves out the next `amt` bits.
     ///
-    /// They are the bits that a read of as many in this order would take: those that the byte fetched last has unread, then whole
-    /// bytes, which the source passes without fetching them, and then fewer than eight bits of one byte more. The count of bits read
-    /// rises by `amt`.
+    /// They are the bits that a read of as many in this order would take: those that the byte
+    /// fetched last has unread, then whole bytes, which the source passes without fetching them,
+    /// and then fewer than eight bits of one byte more. The count of bits read rises by `amt`.
     ///
-    /// It takes no memory. What is refused, and what is left then, is said at `Reader`, but for two things. `Incomplete` is of the
-    /// bits behind the whole bytes, fewer than eight. And a source may pass its end without a fault, as one over memory does: then
-    /// no byte is left, and the call succeeds where no bit is wanted behind the whole bytes.
+    /// It takes no memory. What is refused, and what is left then, is said at `Reader`, but for two
+    /// things. `Incomplete` is of the bits behind the whole bytes, fewer than eight. And a source
+    /// may pass its end without a fault, as one over memory does: then no byte is left, and the
+    /// call succeeds where no bit is wanted behind the whole bytes.
     ///
     /// ```text
     /// reader.read_bits(4, Order::Msb0)?; // from AB CD EF: 1, 0, 1, 0
@@ -232,8 +247,9 @@ impl<R: Source> Reader<R> {
         self.state.skip_bits(&mut self.source, amt, order)
     }
 
-    /// Refuses what a read of `amt` bytes refuses before it asks for memory or moves anything: with the fault that stopped the reader, or
-    /// with `InvalidParam("count past usize")`. A call that finds memory for what it reads asks this first.
+    /// Refuses what a read of `amt` bytes refuses before it asks for memory or moves anything: with
+    /// the fault that stopped the reader, or with `InvalidParam("count past usize")`. A call that
+    /// finds memory for what it reads asks this first.
     ///
     /// ```text
     /// reader.admits_bytes(usize::MAX)                  // InvalidParam("count past usize")
@@ -246,10 +262,13 @@ impl<R: Source> Reader<R> {
 
     /// Takes as many bits as the buffer is long, as the order meets them.
     pub(crate) fn take_bits(&mut self, dst: &mut [bool], order: Order) -> Result<(), DekuError>
-        ensures takes { Reads R.known (TakesBits order (length dst.old)) self.old (filling result dst.new) self.new }
-        ensures fetched { OnOk result (FetchesFor (length dst.old) self.old.state (R.known self.old.source) (R.known self.new.source)) }
+        ensures takes { Reads R.known (TakesBits order (length dst.old)) self.old
+            (filling result dst.new) self.new }
+        ensures fetched { OnOk result (FetchesFor (length dst.old) self.old.state
+            (R.known self.old.source) (R.known self.new.source)) }
         ensures early { NoneEarly self.old.state self.new.state }
-        ensures still { NeedsNone (length dst.old) self.old.state → self.new.source ≡ self.old.source }
+        ensures still { NeedsNone (length dst.old) self.old.state
+            → self.new.source ≡ self.old.source }
         ensures stopped { Untouched self.old.state self.old.source self.new.source }
         ensures alloc { self.new.alloc ≡ self.old.alloc }
     {
@@ -258,19 +277,23 @@ impl<R: Source> Reader<R> {
 
     /// Fills the buffer with the next bits, as many as it is long.
     ///
-    /// In `Msb0` they stand in the order in which they are met. In `Lsb0` they are turned, so that the highest stands first: whole
-    /// bytes each by itself, and any other number of bits as one. What is refused, and what is left then, is said at `Reader`.
-    /// After a refusal the content of the buffer is open.
+    /// In `Msb0` they stand in the order in which they are met. In `Lsb0` they are turned, so that
+    /// the highest stands first: whole bytes each by itself, and any other number of bits as one.
+    /// What is refused, and what is left then, is said at `Reader`. After a refusal the content of
+    /// the buffer is open.
     ///
     /// ```text
     /// let mut bits = [false; 5];
     /// reader.read_bits_into(&mut bits, Order::Lsb0)?; // from A1: 0, 0, 0, 0, 1
     /// ```
     pub fn read_bits_into(&mut self, dst: &mut [bool], order: Order) -> Result<(), DekuError>
-        ensures reads { Reads R.known (ReadsBits order (length dst.old)) self.old (filling result dst.new) self.new }
-        ensures fetched { OnOk result (FetchesFor (length dst.old) self.old.state (R.known self.old.source) (R.known self.new.source)) }
+        ensures reads { Reads R.known (ReadsBits order (length dst.old)) self.old
+            (filling result dst.new) self.new }
+        ensures fetched { OnOk result (FetchesFor (length dst.old) self.old.state
+            (R.known self.old.source) (R.known self.new.source)) }
         ensures early { NoneEarly self.old.state self.new.state }
-        ensures still { NeedsNone (length dst.old) self.old.state → self.new.source ≡ self.old.source }
+        ensures still { NeedsNone (length dst.old) self.old.state
+            → self.new.source ≡ self.old.source }
         ensures stopped { Untouched self.old.state self.old.source self.new.source }
         ensures alloc { self.new.alloc ≡ self.old.alloc }
     {
@@ -281,7 +304,8 @@ impl<R: Source> Reader<R> {
 
     /// The next `amt` bits, in a new vector, as `read_bits_into` shows them.
     ///
-    /// Its memory is found before a bit is taken. What is refused, and what is left then, is said at `Reader`.
+    /// Its memory is found before a bit is taken. What is refused, and what is left then, is said
+    /// at `Reader`.
     ///
     /// ```text
     /// reader.read_bits(4, Order::Lsb0)?; // from AB CD: 1, 0, 1, 1
@@ -290,7 +314,8 @@ impl<R: Source> Reader<R> {
     /// ```
     pub fn read_bits(&mut self, amt: usize, order: Order) -> Result<Vec<bool>, DekuError>
         ensures reads { Reads R.known (ReadsVec order amt) self.old (items_of result) self.new }
-        ensures fetched { OnOk result (FetchesFor amt self.old.state (R.known self.old.source) (R.known self.new.source)) }
+        ensures fetched { OnOk result (FetchesFor amt self.old.state (R.known self.old.source)
+            (R.known self.new.source)) }
         ensures early { NoneEarly self.old.state self.new.state }
         ensures still { NeedsNone amt self.old.state → self.new.source ≡ self.old.source }
         ensures stopped { Untouched self.old.state self.old.source self.new.source }
@@ -306,9 +331,11 @@ impl<R: Source> Reader<R> {
 
     /// The word of the next `amt` bits. The caller's condition: they are at most 128.
     ///
-    /// Of the bits that the order takes, each eight from the first on make a group, and the last group may be shorter. A group's number has its
-    /// first bit as the highest in `Msb0`, and as the lowest in `Lsb0`. In the word the first group's number counts once, each further
-    /// one 256 times as much as the one before it. It takes no memory. What is refused, and what is left then, is said at `Reader`.
+    /// Of the bits that the order takes, each eight from the first on make a group, and the last
+    /// group may be shorter. A group's number has its first bit as the highest in `Msb0`, and as
+    /// the lowest in `Lsb0`. In the word the first group's number counts once, each further one 256
+    /// times as much as the one before it. It takes no memory. What is refused, and what is left
+    /// then, is said at `Reader`.
     ///
     /// ```text
     /// reader.read_word(12, Order::Msb0)?; // from AB CD: 0xCAB
@@ -317,7 +344,8 @@ impl<R: Source> Reader<R> {
     pub fn read_word(&mut self, amt: usize, order: Order) -> Result<u128, DekuError>
         requires { amt ≤ 128 }
         ensures reads { Reads R.known (ReadsWord order amt) self.old result self.new }
-        ensures fetched { OnOk result (FetchesFor amt self.old.state (R.known self.old.source) (R.known self.new.source)) }
+        ensures fetched { OnOk result (FetchesFor amt self.old.state (R.known self.old.source)
+            (R.known self.new.source)) }
         ensures early { NoneEarly self.old.state self.new.state }
         ensures still { NeedsNone amt self.old.state → self.new.source ≡ self.old.source }
         ensures stopped { Untouched self.old.state self.old.source self.new.source }
@@ -326,11 +354,12 @@ impl<R: Source> Reader<R> {
         self.state.take_word(&mut self.source, amt, order)
     }
 
-    /// The number of the next `amt` bits in `Msb0`, the first the highest, where it has them without a call on the source that may fail: they are unread,
-    /// or at hand as `Source::try_take` says. The caller's condition: they are at most 64.
+    /// The number of the next `amt` bits in `Msb0`, the first the highest, where it has them
+    /// without a call on the source that may fail: they are unread, or at hand as
+    /// `Source::try_take` says. The caller's condition: they are at most 64.
     ///
-    /// It is a read of as many bits, which raises the count. It answers none where `read_word` refuses as many, and may do so where it does not; then nothing
-    /// moves.
+    /// It is a read of as many bits, which raises the count. It answers none where `read_word`
+    /// refuses as many, and may do so where it does not; then nothing moves.
     ///
     /// ```text
     /// reader.try_read_msb(12); // from AB CD EF 01 23 45 67 89: Some of 0xABC
@@ -338,9 +367,11 @@ impl<R: Source> Reader<R> {
     #[inline(always)]
     pub fn try_read_msb(&mut self, amt: usize) -> Option<u64>
         requires { amt ≤ 64 }
-        ensures takes { IfSome result (λ number. Reads R.known (TakesBits Msb0 amt) self.old (Ok (bits_of amt number)) self.new) }
+        ensures takes { IfSome result (λ number. Reads R.known (TakesBits Msb0 amt) self.old
+            (Ok (bits_of amt number)) self.new) }
         ensures below { IfSome result (λ number. number < 2 ^ amt) }
-        ensures fetched { IfSome result (λ number. FetchesFor amt self.old.state (R.known self.old.source) (R.known self.new.source)) }
+        ensures fetched { IfSome result (λ number. FetchesFor amt self.old.state
+            (R.known self.old.source) (R.known self.new.source)) }
         ensures early { NoneEarly self.old.state self.new.state }
         ensures still { NeedsNone amt self.old.state → self.new.source ≡ self.old.source }
         ensures stays { IsNone result → self.new ≡ self.old }
@@ -350,12 +381,14 @@ impl<R: Source> Reader<R> {
         self.state.try_read_msb(&mut self.source, amt)
     }
 
-    /// Reads `amt` bytes into the front of the buffer; what is behind them in it stays. The caller's condition: the buffer is as
-    /// long.
+    /// Reads `amt` bytes into the front of the buffer; what is behind them in it stays. The
+    /// caller's condition: the buffer is as long.
     ///
-    /// They are what a read of eight times as many bits in this order shows, each byte high bit first; they need not start where a
-    /// byte of the source starts. A read of no bytes reads nothing. It takes no memory. What is refused, and what is left then, is
-    /// said at `Reader`: `Incomplete` is of the bits, eight times `amt`. After a refusal the content of the bytes asked for is open.
+    /// They are what a read of eight times as many bits in this order shows, each byte high bit
+    /// first; they need not start where a byte of the source starts. A read of no bytes reads
+    /// nothing. It takes no memory. What is refused, and what is left then, is said at `Reader`:
+    /// `Incomplete` is of the bits, eight times `amt`. After a refusal the content of the bytes
+    /// asked for is open.
     ///
     /// ```text
     /// let mut bytes = [0; 4];
@@ -370,9 +403,11 @@ impl<R: Source> Reader<R> {
         order: Order,
     ) -> Result<ReaderRet, DekuError>
         requires { amt ≤ length buf.old }
-        ensures front { Reads R.known (ReadsBytes order amt) self.old (filling result (take amt buf.new)) self.new }
+        ensures front { Reads R.known (ReadsBytes order amt) self.old
+            (filling result (take amt buf.new)) self.new }
         ensures behind { drop amt buf.new ≡ drop amt buf.old }
-        ensures fetched { OnOk result (FetchesFor (8 * amt) self.old.state (R.known self.old.source) (R.known self.new.source)) }
+        ensures fetched { OnOk result (FetchesFor (8 * amt) self.old.state (R.known self.old.source)
+            (R.known self.new.source)) }
         ensures early { NoneEarly self.old.state self.new.state }
         ensures still { NeedsNone (8 * amt) self.old.state → self.new.source ≡ self.old.source }
         ensures stopped { Untouched self.old.state self.old.source self.new.source }
@@ -385,8 +420,8 @@ impl<R: Source> Reader<R> {
 
     /// The next `amt` bytes, in a new vector, as `read_bytes` reads them.
     ///
-    /// Its memory is found before a byte is taken. What is refused, and what is left then, is said at `Reader`: `Incomplete` is of the bits,
-    /// eight times `amt`.
+    /// Its memory is found before a byte is taken. What is refused, and what is left then, is said
+    /// at `Reader`: `Incomplete` is of the bits, eight times `amt`.
     ///
     /// ```text
     /// reader.read_bits(4, Order::Msb0)?;        // from AB CD EF: 1, 0, 1, 0
@@ -394,7 +429,8 @@ impl<R: Source> Reader<R> {
     /// ```
     pub fn read_bytes_vec(&mut self, amt: usize, order: Order) -> Result<Vec<u8>, DekuError>
         ensures reads { Reads R.known (ReadsByteVec order amt) self.old (items_of result) self.new }
-        ensures fetched { OnOk result (FetchesFor (8 * amt) self.old.state (R.known self.old.source) (R.known self.new.source)) }
+        ensures fetched { OnOk result (FetchesFor (8 * amt) self.old.state (R.known self.old.source)
+            (R.known self.new.source)) }
         ensures early { NoneEarly self.old.state self.new.state }
         ensures still { NeedsNone (8 * amt) self.old.state → self.new.source ≡ self.old.source }
         ensures stopped { Untouched self.old.state self.old.source self.new.source }
@@ -411,7 +447,8 @@ impl<R: Source> Reader<R> {
         }
     }
 
-    /// Fills the buffer with bytes, as `read_bytes` reads as many as it is long, and is refused as that is.
+    /// Fills the buffer with bytes, as `read_bytes` reads as many as it is long, and is refused as
+    /// that is.
     ///
     /// ```text
     /// let mut bytes = [0; 2];
@@ -422,8 +459,10 @@ impl<R: Source> Reader<R> {
         buf: &mut [u8; N],
         order: Order,
     ) -> Result<ReaderRet, DekuError>
-        ensures reads { Reads R.known (ReadsBytes order N) self.old (filling result buf.new) self.new }
-        ensures fetched { OnOk result (FetchesFor (8 * N) self.old.state (R.known self.old.source) (R.known self.new.source)) }
+        ensures reads { Reads R.known (ReadsBytes order N) self.old (filling result buf.new)
+            self.new }
+        ensures fetched { OnOk result (FetchesFor (8 * N) self.old.state (R.known self.old.source)
+            (R.known self.new.source)) }
         ensures early { NoneEarly self.old.state self.new.state }
         ensures still { NeedsNone (8 * N) self.old.state → self.new.source ≡ self.old.source }
         ensures stopped { Untouched self.old.state self.old.source self.new.source }
@@ -433,7 +472,8 @@ impl<R: Source> Reader<R> {
         Ok(ReaderRet::Bytes)
     }
 
-    /// Fills the buffer with bytes, as `read_bytes` reads as many as it is long, and is refused as that is.
+    /// Fills the buffer with bytes, as `read_bytes` reads as many as it is long, and is refused as
+    /// that is.
     ///
     /// ```text
     /// let mut byte = [0; 1];
@@ -444,8 +484,10 @@ impl<R: Source> Reader<R> {
         buf: &mut [u8; N],
         order: Order,
     ) -> Result<(), DekuError>
-        ensures reads { Reads R.known (ReadsBytes order N) self.old (filling result buf.new) self.new }
-        ensures fetched { OnOk result (FetchesFor (8 * N) self.old.state (R.known self.old.source) (R.known self.new.source)) }
+        ensures reads { Reads R.known (ReadsBytes order N) self.old (filling result buf.new)
+            self.new }
+        ensures fetched { OnOk result (FetchesFor (8 * N) self.old.state (R.known self.old.source)
+            (R.known self.new.source)) }
         ensures early { NoneEarly self.old.state self.new.state }
         ensures still { NeedsNone (8 * N) self.old.state → self.new.source ≡ self.old.source }
         ensures stopped { Untouched self.old.state self.old.source self.new.source }

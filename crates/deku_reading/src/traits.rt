@@ -1,6 +1,6 @@
 //! What can be read.
 
-ghost use Rattle.std.specs.Prelude.{Option, Result, OnOk};
+ghost use Rattle.std.specs.Prelude.{Option, Result, OnOk, ⊤};
 ghost use Rattle.deku_bits.specs.Streams.{Stream};
 ghost use Rattle.deku_bits.specs.Outcomes.{Meaning};
 ghost use Rattle.deku_bits.specs.ReaderCalls.{Reads};
@@ -12,20 +12,23 @@ use deku_bits::reader::Reader;
 
 /// A type that is read from bits, under a context.
 ///
-/// An implementation says what reading means, as a relation between the state of the reader before, the answer and the state
-/// after. Its law: each call gives an outcome of that meaning, or a fault of the device that the meaning lets come, which is
-/// answered and kept, with the count that the meaning states.
+/// An implementation says what reading means, as a relation between the state of the reader before,
+/// the answer and the state after. Its law: each call gives an outcome of that meaning, or a fault
+/// of the device that the meaning lets come, which is answered and kept, with the count that the
+/// meaning states.
 pub trait DekuReader<Ctx>: Drop {
-    // The contexts under which it may be read.
-    ghost accepts: { Ctx → Type 0 };
+    // The contexts under which it may be read: all of them, unless an implementation says which.
+    ghost accepts: { Ctx → Type 0 } = { λ _. ⊤ };
 
-    // The contexts under which it fetches no byte too early.
-    ghost no_read_ahead: { Ctx → Type 0 };
+    // The contexts under which it fetches no byte too early: all of them, unless an implementation
+    // says which.
+    ghost no_read_ahead: { Ctx → Type 0 } = { λ _. ⊤ };
 
     // What reading it answers and leaves; at `true` where the device fails in it.
     ghost meaning: { Ctx → Meaning (Option Stream) Self };
 
-    /// Reads a value. What is refused is stated by the type; what it moved before a refusal stays moved.
+    /// Reads a value. What is refused is stated by the type; what it moved before a refusal stays
+    /// moved.
     ///
     /// The caller's condition: the type may be read under the context.
     ///
@@ -37,5 +40,6 @@ pub trait DekuReader<Ctx>: Drop {
         Self: Sized,
         requires { accepts ctx }
         ensures reads { Reads R.known (meaning ctx) reader.old result reader.new }
-        ensures early { OnOk result (no_read_ahead ctx → NoReadAhead R.known reader.old reader.new) };
+        ensures early { OnOk result (no_read_ahead ctx → NoReadAhead R.known reader.old
+            reader.new) };
 }

@@ -6,7 +6,8 @@ ghost use Rattle.deku_device.specs.Overlays.{overlaid};
 
 use std::marker::Model;
 
-/// A list of at most `8 * N` bits, highest first, packed into `N` bytes. No call takes memory, and none refuses.
+/// A list of at most `8 * N` bits, highest first, packed into `N` bytes. No call takes memory, and
+/// none refuses.
 ///
 /// ```text
 /// let mut bits: BoundedBitVec<2> = BoundedBitVec::from_bits(&[true, false, true]);
@@ -28,7 +29,8 @@ impl<const N: usize> Model for BoundedBitVec<N> {
 
     ghost view = { λ v. take v.len (bits_in v.bytes) };
 
-    ghost invariant = { λ v. (v.len ≤ 8 * N) × (8 * N < 2 ^ 64) × (drop v.len (bits_in v.bytes) ≡ replicate (8 * N - v.len) false) };
+    ghost invariant = { λ v. (v.len ≤ 8 * N) × (8 * N < 2 ^ 64)
+        × (drop v.len (bits_in v.bytes) ≡ replicate (8 * N - v.len) false) };
 }
 
 impl<const N: usize> BoundedBitVec<N> {
@@ -180,7 +182,8 @@ impl<const N: usize> BoundedBitVec<N> {
         self.len += 1;
     }
 
-    /// Takes the bits from a place on, and leaves those before it. The caller's condition: there is one at the place.
+    /// Takes the bits from a place on, and leaves those before it. The caller's condition: there is
+    /// one at the place.
     ///
     /// ```text
     /// let behind = bits.split_off(1);                            // 1, 0, 1 becomes 1, and behind is 0, 1
@@ -267,7 +270,8 @@ fn copy_bits(bytes: &mut [u8], source: &[u8], from: usize, count: usize)
     requires room { count ≤ 8 * length bytes.old }
     requires fits { from + count < 2 ^ 64 }
     ensures len { length bytes.new ≡ length bytes.old }
-    ensures bits { bits_in bytes.new ≡ overlaid (bits_in bytes.old) 0 (take count (drop from (bits_in source.now))) }
+    ensures bits { bits_in bytes.new ≡ overlaid (bits_in bytes.old) 0
+        (take count (drop from (bits_in source.now))) }
 {
     for i in 0..count {
         put_bit(bytes, i, bit_at(source, from + i));
@@ -279,7 +283,8 @@ fn clear_bits(bytes: &mut [u8], from: usize, to: usize)
     requires order { from ≤ to }
     requires room { to ≤ 8 * length bytes.old }
     ensures len { length bytes.new ≡ length bytes.old }
-    ensures bits { bits_in bytes.new ≡ overlaid (bits_in bytes.old) from (replicate (to - from) false) }
+    ensures bits { bits_in bytes.new ≡ overlaid (bits_in bytes.old) from
+        (replicate (to - from) false) }
 {
     for i in 0..to - from {
         put_bit(bytes, from + i, false);
@@ -291,7 +296,8 @@ fn insert_bit(bytes: &mut [u8], at: usize, len: usize, bit: bool)
     requires order { at ≤ len }
     requires room { len < 8 * length bytes.old }
     ensures len { length bytes.new ≡ length bytes.old }
-    ensures bits { bits_in bytes.new ≡ overlaid (bits_in bytes.old) at (bit ∷ take (len - at) (drop at (bits_in bytes.old))) }
+    ensures bits { bits_in bytes.new ≡ overlaid (bits_in bytes.old) at
+        (bit ∷ take (len - at) (drop at (bits_in bytes.old))) }
 {
     let mut carried = bit;
     for i in 0..len - at {

@@ -1,8 +1,10 @@
 //! The order of bits.
 
 ghost use Rattle.std.specs.Prelude.{◌≡◌};
+ghost use Rattle.deku_stream.specs.declared.ctx.Order.TheVariants.{Msb0};
 
-/// The order in which the bits of a byte are met: from the highest bit down, or from the lowest bit up.
+/// The order in which the bits of a byte are met: from the highest bit down, or from the lowest bit
+/// up.
 #[derive(Debug, Clone, Copy, PartialEq, Eq)]
 pub enum Order {
     /// The most significant bit first.
@@ -13,8 +15,6 @@ pub enum Order {
 
 /// `Msb0`.
 impl Default for Order {
-    ghost use Rattle.deku_stream.specs.declared.ctx.Order.TheVariants.{Msb0};
-
     ghost is_default = { λ order. order ≡ Msb0 };
 
     fn default() -> Order {

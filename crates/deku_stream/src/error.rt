@@ -1,7 +1,9 @@
 //! What a read or a write is refused with.
 
-ghost use Rattle.std.specs.Prelude.{◌≡◌, ◌+◌, ◌/◌};
-ghost use Rattle.deku_stream.specs.Faults.{error_of, kind_of};
+ghost use Rattle.std.specs.Prelude.{◌≡◌, ◌+◌, ◌/◌, codes};
+ghost use Rattle.std.specs.IoError.{error_kind};
+ghost use Rattle.deku_stream.specs.Faults.{error_of, kind_of, Tells};
+ghost use Rattle.deku_stream.specs.declared.error.DekuError.TheVariants.{Parse, Io};
 
 use std::array::TryFromSliceError;
 use std::io;
@@ -95,10 +97,6 @@ impl DekuError {
 
 /// A number that its type cannot hold is `Parse("error parsing int")`.
 impl From<TryFromIntError> for DekuError {
-    ghost use Rattle.std.specs.Prelude.{codes};
-    ghost use Rattle.deku_stream.specs.declared.error.DekuError.TheVariants.{Parse};
-    ghost use Rattle.deku_stream.specs.Faults.{Tells};
-
     ghost from_gives = { λ _ e. Tells Parse (codes "error parsing int") e };
 
     fn from(_error: TryFromIntError) -> DekuError {
@@ -108,10 +106,6 @@ impl From<TryFromIntError> for DekuError {
 
 /// A slice of another length than the array's is `Parse("error parsing from slice")`.
 impl From<TryFromSliceError> for DekuError {
-    ghost use Rattle.std.specs.Prelude.{codes};
-    ghost use Rattle.deku_stream.specs.declared.error.DekuError.TheVariants.{Parse};
-    ghost use Rattle.deku_stream.specs.Faults.{Tells};
-
     ghost from_gives = { λ _ e. Tells Parse (codes "error parsing from slice") e };
 
     fn from(_error: TryFromSliceError) -> DekuError {
@@ -121,10 +115,6 @@ impl From<TryFromSliceError> for DekuError {
 
 /// An io error is `Io` of its kind.
 impl From<io::Error> for DekuError {
-    ghost use Rattle.std.specs.Prelude.{◌≡◌};
-    ghost use Rattle.std.specs.IoError.{error_kind};
-    ghost use Rattle.deku_stream.specs.declared.error.DekuError.TheVariants.{Io};
-
     ghost from_gives = { λ error e. e ≡ Io (error_kind error) };
 
     fn from(error: io::Error) -> DekuError {
@@ -132,7 +122,8 @@ impl From<io::Error> for DekuError {
     }
 }
 
-/// What stops a reader or a writer: the end of input, or a fault of its device. It is kept, and answered again.
+/// What stops a reader or a writer: the end of input, or a fault of its device. It is kept, and
+/// answered again.
 #[derive(Clone, Copy)]
 pub enum Fault {
     /// The input ended before the last of the bits that were asked for.

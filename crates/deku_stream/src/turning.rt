@@ -5,8 +5,8 @@ ghost use Rattle.deku_stream.specs.Bits.{shown};
 
 use crate::ctx::Order;
 
-/// Turns bits that an order met in turn, so that the highest stands first, and back. In `Msb0` they stay. In `Lsb0` whole bytes are turned each by
-/// itself, and any other number of bits as one.
+/// Turns bits that an order met in turn, so that the highest stands first, and back. In `Msb0` they
+/// stay. In `Lsb0` whole bytes are turned each by itself, and any other number of bits as one.
 ///
 /// ```text
 /// show(&mut bits, Order::Lsb0)                                   // 1, 0, 0 becomes 0, 0, 1
@@ -37,7 +37,8 @@ fn turn(bits: &mut [bool])
 // Reverses the eight bits from this place on.
 fn reverse_group(bits: &mut [bool], at: usize)
     requires { at + 8 ≤ length bits.old }
-    ensures { bits.new ≡ take at bits.old ++ (reverse (take 8 (drop at bits.old)) ++ drop (at + 8) bits.old) }
+    ensures { bits.new ≡ take at bits.old ++ (reverse (take 8 (drop at bits.old)) ++ drop (at + 8)
+        bits.old) }
 {
     bits[at..at + 8].reverse();
 }

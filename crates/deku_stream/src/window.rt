@@ -115,14 +115,15 @@ impl Window {
         low
     }
 
-    /// Takes the next bits in this order, where those of these eight bytes come behind the unread ones, and answers their word. The rest of the last byte
-    /// that they need is then unread.
+    /// Takes the next bits in this order, where those of these eight bytes come behind the unread
+    /// ones, and answers their word. The rest of the last byte that they need is then unread.
     #[inline(always)]
     pub fn take_across(&mut self, eight: &[u8; 8], count: usize, order: Order) -> u64
         requires short { length self.old < 8 }
         requires more { length self.old < count }
         requires few { count ≤ 64 }
-        ensures { TakesWord order self.old (take (groups (count - length self.old)) eight.now) count result self.new }
+        ensures { TakesWord order self.old (take (groups (count - length self.old)) eight.now) count
+            result self.new }
     {
         match order {
             Order::Msb0 => {
@@ -133,15 +134,17 @@ impl Window {
         }
     }
 
-    /// Takes the next bits from the highest down, where those of these eight bytes come behind the unread ones, and answers their number. The rest of the
-    /// last byte that they need is then unread.
+    /// Takes the next bits from the highest down, where those of these eight bytes come behind the
+    /// unread ones, and answers their number. The rest of the last byte that they need is then
+    /// unread.
     #[inline(always)]
     pub fn take_high_across(&mut self, eight: &[u8; 8], count: usize) -> u64
         requires short { length self.old < 8 }
         requires more { length self.old < count }
         requires few { count ≤ 64 }
         ensures below { result < 2 ^ count }
-        ensures cut { self.old ++ flow Order.Msb0 (take (groups (count - length self.old)) eight.now) ≡ bits_of count result ++ self.new }
+        ensures cut { self.old ++ flow Order.Msb0 (take (groups (count - length self.old))
+            eight.now) ≡ bits_of count result ++ self.new }
     {
         let number = u64::from_be_bytes(*eight);
         // Whole bytes, where no bit is unread, leave none.
@@ -158,7 +161,9 @@ impl Window {
         requires more { length self.old < count }
         requires few { count ≤ 64 }
         ensures below { result < 2 ^ count }
-        ensures cut { self.old ++ bits_of (8 * groups (count - length self.old)) (eight / 2 ^ (64 - 8 * groups (count - length self.old))) ≡ bits_of count result ++ self.new }
+        ensures cut { self.old ++ bits_of (8 * groups (count - length self.old))
+            (eight / 2 ^ (64 - 8 * groups (count - length self.old))) ≡ bits_of count result ++
+            self.new }
     {
         let behind = count - self.len;
         let above = 64 - behind;
@@ -178,7 +183,8 @@ impl Window {
         requires more { length self.old < count }
         requires few { count ≤ 64 }
         ensures below { result < 2 ^ count }
-        ensures cut { bits_of (8 * groups (count - length self.old)) eight ++ self.old ≡ self.new ++ bits_of count result }
+        ensures cut { bits_of (8 * groups (count - length self.old)) eight ++ self.old ≡ self.new ++
+            bits_of count result }
     {
         let behind = count - self.len;
         let above = 64 - behind;
@@ -200,9 +206,11 @@ impl Window {
         self.take(1, order) == 1
     }
 
-    /// Takes the next eight bits in this order, where those of this byte come behind the unread ones: as a byte. As many are then unread.
+    /// Takes the next eight bits in this order, where those of this byte come behind the unread
+    /// ones: as a byte. As many are then unread.
     pub fn exchange(&mut self, byte: u8, order: Order) -> u8
-        ensures bits { facing order self.old ++ facing order (byte_bits byte) ≡ facing order (byte_bits result) ++ facing order self.new }
+        ensures bits { facing order self.old ++ facing order (byte_bits byte) ≡ facing order
+            (byte_bits result) ++ facing order self.new }
         ensures len { length self.new ≡ length self.old }
     {
         match order {
@@ -220,7 +228,8 @@ impl Window {
         high
     }
 
-    // What is unread then is of this byte alone, so that no byte of a run waits for the one before it.
+    // What is unread then is of this byte alone, so that no byte of a run waits for the one before
+    // it.
     fn exchange_low(&mut self, byte: u8) -> u8
         ensures bits { byte_bits byte ++ self.old ≡ self.new ++ byte_bits result }
         ensures len { length self.new ≡ length self.old }
@@ -231,10 +240,12 @@ impl Window {
         whole as u8
     }
 
-    /// Takes the next 64 bits in this order, where those of these eight bytes come behind the unread ones: as eight bytes. As many are then unread.
+    /// Takes the next 64 bits in this order, where those of these eight bytes come behind the
+    /// unread ones: as eight bytes. As many are then unread.
     #[inline(always)]
     pub fn exchange_eight(&mut self, eight: &[u8; 8], order: Order) -> [u8; 8]
-        ensures bits { facing order self.old ++ flow order eight.now ≡ flow order result ++ facing order self.new }
+        ensures bits { facing order self.old ++ flow order eight.now ≡ flow order result ++ facing
+            order self.new }
         ensures bytes { All (λ b. b < 256) result }
         ensures len { length self.new ≡ length self.old }
     {
@@ -243,10 +254,12 @@ impl Window {
         word.to_le_bytes()
     }
 
-    // The next 64 bits in this order, where those of these eight bytes come behind the unread ones: as a number, the first byte the lowest.
+    // The next 64 bits in this order, where those of these eight bytes come behind the unread ones:
+    // as a number, the first byte the lowest.
     #[inline(always)]
     fn word_through(&mut self, eight: &[u8; 8], order: Order) -> u64
-        ensures bits { facing order self.old ++ flow order eight.now ≡ flow order (to_le_bytes w64 result) ++ facing order self.new }
+        ensures bits { facing order self.old ++ flow order eight.now ≡ flow order
+            (to_le_bytes w64 result) ++ facing order self.new }
         ensures len { length self.new ≡ length self.old }
     {
         match order {
@@ -285,7 +298,8 @@ impl Window {
     }
 }
 
-// The number of bits whose last ones, so many, have the number `low`, and whose others have the number `high`.
+// The number of bits whose last ones, so many, have the number `low`, and whose others have the
+// number `high`.
 #[tactic(auto, using(crate::proofs::Packed::byte_shifted, crate::proofs::Windows::with_low))]
 fn joined(high: u8, low: u8, count: usize) -> u16
     requires few { count ≤ 8 }
@@ -297,19 +311,22 @@ fn joined(high: u8, low: u8, count: usize) -> u16
     above + low as u16
 }
 
-/// The word of whole bytes, the first of these eight, in each order: where no bit is unread, they are the next bits.
+/// The word of whole bytes, the first of these eight, in each order: where no bit is unread, they
+/// are the next bits.
 #[inline(always)]
 pub fn word_of_front(eight: &[u8; 8], count: usize) -> u64
     requires whole { count % 8 ≡ 0 }
     requires some { 0 < count }
     requires few { count ≤ 64 }
-    ensures { (order : BitOrder) → TakesWord order [] (take (groups count) eight.now) count result [] }
+    ensures { (order : BitOrder) → TakesWord order [] (take (groups count) eight.now) count result
+        [] }
 {
     let above = 64 - count;
     (u64::from_le_bytes(*eight) << above) >> above
 }
 
-// The word of so many bits, the first the highest, from their number: whole bytes are turned, and the bits behind them follow.
+// The word of so many bits, the first the highest, from their number: whole bytes are turned, and
+// the bits behind them follow.
 #[inline(always)]
 fn word_of_high(number: u64, count: usize) -> u64
     requires few { count ≤ 64 }

@@ -1,5 +1,11 @@
 //! Items whose type says how they lie: the parts of records.
 
+ghost use Rattle.std.specs.Prelude.{refl};
+ghost use Rattle.deku_bits.specs.Outcomes.{Mapped};
+ghost use Rattle.deku_num.specs.declared.ctx.Endian.TheVariants.{Big, Little};
+ghost use Rattle.deku_pieces.proofs.Turned.{mapped_symmetric};
+ghost use Rattle.deku_bits.specs.declared.ctx.Order.TheVariants.{Lsb0};
+
 use crate::traits::Symmetric;
 use deku::ctx::{BitSize, Endian, Order};
 use deku::device::{Sink, Source};
@@ -7,7 +13,8 @@ use deku::reader::Reader;
 use deku::writer::Writer;
 use deku::{DekuError, DekuReader, DekuWriter};
 
-/// A number of `N` bits, high bits first: big and `Msb0`. It is refused as the number is under that context.
+/// A number of `N` bits, high bits first: big and `Msb0`. It is refused as the number is under that
+/// context.
 ///
 /// ```text
 /// (Msb::<u8, 4>(6), Msb::<u8, 4>(9)).pack(alloc, ())?       // 69
@@ -16,15 +23,13 @@ use deku::{DekuError, DekuReader, DekuWriter};
 pub struct Msb<T, const N: usize>(pub T);
 
 impl<T: DekuReader<(Endian, BitSize)>, const N: usize> DekuReader<()> for Msb<T, N> {
-    ghost use Rattle.deku_bits.specs.Outcomes.{Mapped};
-    ghost use Rattle.deku_num.specs.declared.ctx.Endian.TheVariants.{Big};
-
     ghost accepts = { λ _. T.accepts (Big, record { 0 = N }) };
 
     ghost no_read_ahead = { λ _. T.no_read_ahead (Big, record { 0 = N }) };
 
     ghost meaning = { λ _. Mapped (λ v. record { 0 = v }) (T.meaning (Big, record { 0 = N })) };
 
+    #[inline(always)]
     fn from_reader_with_ctx<R: Source>(
         reader: &mut Reader<R>,
         _ctx: (),
@@ -35,12 +40,11 @@ impl<T: DekuReader<(Endian, BitSize)>, const N: usize> DekuReader<()> for Msb<T,
 }
 
 impl<T: DekuWriter<(Endian, BitSize)>, const N: usize> DekuWriter<()> for Msb<T, N> {
-    ghost use Rattle.deku_num.specs.declared.ctx.Endian.TheVariants.{Big};
-
     ghost accepts = { λ _. T.accepts (Big, record { 0 = N }) };
 
     ghost meaning = { λ v _. T.meaning v.0 (Big, record { 0 = N }) };
 
+    #[inline(always)]
     fn to_writer<W: Sink>(&self, writer: &mut Writer<W>, _ctx: ()) -> Result<(), DekuError> {
         self.0.to_writer(writer, (Endian::Big, BitSize(N)))
     }
@@ -48,18 +52,16 @@ impl<T: DekuWriter<(Endian, BitSize)>, const N: usize> DekuWriter<()> for Msb<T,
 
 /// The pieces of the number.
 impl<T: Symmetric<(Endian, BitSize)>, const N: usize> Symmetric<()> for Msb<T, N> {
-    ghost use Rattle.std.specs.Prelude.{refl};
-    ghost use Rattle.deku_pieces.proofs.Turned.{mapped_symmetric};
-    ghost use Rattle.deku_num.specs.declared.ctx.Endian.TheVariants.{Big};
-
     ghost pieces = { λ v _. T.pieces v.0 (Big, record { 0 = N }) };
 
     ghost same = { λ v w. T.same v.0 w.0 };
 
-    ghost symmetric = { λ _. mapped_symmetric (λ v. record { 0 = v }) (λ v. v.0) _ _ _ _ (λ v. refl) (T.symmetric (Big, record { 0 = N })) };
+    ghost symmetric = { λ _. mapped_symmetric (λ v. record { 0 = v }) (λ v. v.0) _ _ _ _ (λ v. refl)
+        (T.symmetric (Big, record { 0 = N })) };
 }
 
-/// A number of `N` bits, low bits first: little and `Lsb0`. It is refused as the number is under that context.
+/// A number of `N` bits, low bits first: little and `Lsb0`. It is refused as the number is under
+/// that context.
 ///
 /// ```text
 /// (Lsb::<u8, 4>(1), Lsb::<u16, 12>(0x123)).pack(alloc, ())? // 31 12
@@ -68,16 +70,14 @@ impl<T: Symmetric<(Endian, BitSize)>, const N: usize> Symmetric<()> for Msb<T, N
 pub struct Lsb<T, const N: usize>(pub T);
 
 impl<T: DekuReader<(Endian, BitSize, Order)>, const N: usize> DekuReader<()> for Lsb<T, N> {
-    ghost use Rattle.deku_bits.specs.Outcomes.{Mapped};
-    ghost use Rattle.deku_num.specs.declared.ctx.Endian.TheVariants.{Little};
-    ghost use Rattle.deku_bits.specs.declared.ctx.Order.TheVariants.{Lsb0};
-
     ghost accepts = { λ _. T.accepts (Little, record { 0 = N }, Lsb0) };
 
     ghost no_read_ahead = { λ _. T.no_read_ahead (Little, record { 0 = N }, Lsb0) };
 
-    ghost meaning = { λ _. Mapped (λ v. record { 0 = v }) (T.meaning (Little, record { 0 = N }, Lsb0)) };
+    ghost meaning = { λ _. Mapped (λ v. record { 0 = v })
+        (T.meaning (Little, record { 0 = N }, Lsb0)) };
 
+    #[inline(always)]
     fn from_reader_with_ctx<R: Source>(
         reader: &mut Reader<R>,
         _ctx: (),
@@ -88,13 +88,11 @@ impl<T: DekuReader<(Endian, BitSize, Order)>, const N: usize> DekuReader<()> for
 }
 
 impl<T: DekuWriter<(Endian, BitSize, Order)>, const N: usize> DekuWriter<()> for Lsb<T, N> {
-    ghost use Rattle.deku_num.specs.declared.ctx.Endian.TheVariants.{Little};
-    ghost use Rattle.deku_bits.specs.declared.ctx.Order.TheVariants.{Lsb0};
-
     ghost accepts = { λ _. T.accepts (Little, record { 0 = N }, Lsb0) };
 
     ghost meaning = { λ v _. T.meaning v.0 (Little, record { 0 = N }, Lsb0) };
 
+    #[inline(always)]
     fn to_writer<W: Sink>(&self, writer: &mut Writer<W>, _ctx: ()) -> Result<(), DekuError> {
         self.0
             .to_writer(writer, (Endian::Little, BitSize(N), Order::Lsb0))
@@ -103,19 +101,16 @@ impl<T: DekuWriter<(Endian, BitSize, Order)>, const N: usize> DekuWriter<()> for
 
 /// The pieces of the number.
 impl<T: Symmetric<(Endian, BitSize, Order)>, const N: usize> Symmetric<()> for Lsb<T, N> {
-    ghost use Rattle.std.specs.Prelude.{refl};
-    ghost use Rattle.deku_pieces.proofs.Turned.{mapped_symmetric};
-    ghost use Rattle.deku_num.specs.declared.ctx.Endian.TheVariants.{Little};
-    ghost use Rattle.deku_bits.specs.declared.ctx.Order.TheVariants.{Lsb0};
-
     ghost pieces = { λ v _. T.pieces v.0 (Little, record { 0 = N }, Lsb0) };
 
     ghost same = { λ v w. T.same v.0 w.0 };
 
-    ghost symmetric = { λ _. mapped_symmetric (λ v. record { 0 = v }) (λ v. v.0) _ _ _ _ (λ v. refl) (T.symmetric (Little, record { 0 = N }, Lsb0)) };
+    ghost symmetric = { λ _. mapped_symmetric (λ v. record { 0 = v }) (λ v. v.0) _ _ _ _ (λ v. refl)
+        (T.symmetric (Little, record { 0 = N }, Lsb0)) };
 }
 
-/// A number of `N` bits in `Msb0`, its low byte first: little and `Msb0`. It is refused as the number is under that context.
+/// A number of `N` bits in `Msb0`, its low byte first: little and `Msb0`. It is refused as the
+/// number is under that context.
 ///
 /// ```text
 /// MsbLe::<u16, 10>(0x3AB).pack(alloc, ())?                  // AB C0
@@ -124,15 +119,13 @@ impl<T: Symmetric<(Endian, BitSize, Order)>, const N: usize> Symmetric<()> for L
 pub struct MsbLe<T, const N: usize>(pub T);
 
 impl<T: DekuReader<(Endian, BitSize)>, const N: usize> DekuReader<()> for MsbLe<T, N> {
-    ghost use Rattle.deku_bits.specs.Outcomes.{Mapped};
-    ghost use Rattle.deku_num.specs.declared.ctx.Endian.TheVariants.{Little};
-
     ghost accepts = { λ _. T.accepts (Little, record { 0 = N }) };
 
     ghost no_read_ahead = { λ _. T.no_read_ahead (Little, record { 0 = N }) };
 
     ghost meaning = { λ _. Mapped (λ v. record { 0 = v }) (T.meaning (Little, record { 0 = N })) };
 
+    #[inline(always)]
     fn from_reader_with_ctx<R: Source>(
         reader: &mut Reader<R>,
         _ctx: (),
@@ -143,12 +136,11 @@ impl<T: DekuReader<(Endian, BitSize)>, const N: usize> DekuReader<()> for MsbLe<
 }
 
 impl<T: DekuWriter<(Endian, BitSize)>, const N: usize> DekuWriter<()> for MsbLe<T, N> {
-    ghost use Rattle.deku_num.specs.declared.ctx.Endian.TheVariants.{Little};
-
     ghost accepts = { λ _. T.accepts (Little, record { 0 = N }) };
 
     ghost meaning = { λ v _. T.meaning v.0 (Little, record { 0 = N }) };
 
+    #[inline(always)]
     fn to_writer<W: Sink>(&self, writer: &mut Writer<W>, _ctx: ()) -> Result<(), DekuError> {
         self.0.to_writer(writer, (Endian::Little, BitSize(N)))
     }
@@ -156,19 +148,17 @@ impl<T: DekuWriter<(Endian, BitSize)>, const N: usize> DekuWriter<()> for MsbLe<
 
 /// The pieces of the number.
 impl<T: Symmetric<(Endian, BitSize)>, const N: usize> Symmetric<()> for MsbLe<T, N> {
-    ghost use Rattle.std.specs.Prelude.{refl};
-    ghost use Rattle.deku_pieces.proofs.Turned.{mapped_symmetric};
-    ghost use Rattle.deku_num.specs.declared.ctx.Endian.TheVariants.{Little};
-
     ghost pieces = { λ v _. T.pieces v.0 (Little, record { 0 = N }) };
 
     ghost same = { λ v w. T.same v.0 w.0 };
 
-    ghost symmetric = { λ _. mapped_symmetric (λ v. record { 0 = v }) (λ v. v.0) _ _ _ _ (λ v. refl) (T.symmetric (Little, record { 0 = N })) };
+    ghost symmetric = { λ _. mapped_symmetric (λ v. record { 0 = v }) (λ v. v.0) _ _ _ _ (λ v. refl)
+        (T.symmetric (Little, record { 0 = N })) };
 }
 
-/// A number of `N` bits in `Lsb0`, its high byte first: big and `Lsb0`. It is refused as the number is under that context; a signed one of more
-/// than eight bits whose width is no multiple of eight always is.
+/// A number of `N` bits in `Lsb0`, its high byte first: big and `Lsb0`. It is refused as the number
+/// is under that context; a signed one of more than eight bits whose width is no multiple of eight
+/// always is.
 ///
 /// ```text
 /// (LsbBe::<u16, 13>(0x1001), LsbBe::<u8, 3>(4)).pack(alloc, ())? // 10 81
@@ -177,16 +167,14 @@ impl<T: Symmetric<(Endian, BitSize)>, const N: usize> Symmetric<()> for MsbLe<T,
 pub struct LsbBe<T, const N: usize>(pub T);
 
 impl<T: DekuReader<(Endian, BitSize, Order)>, const N: usize> DekuReader<()> for LsbBe<T, N> {
-    ghost use Rattle.deku_bits.specs.Outcomes.{Mapped};
-    ghost use Rattle.deku_num.specs.declared.ctx.Endian.TheVariants.{Big};
-    ghost use Rattle.deku_bits.specs.declared.ctx.Order.TheVariants.{Lsb0};
-
     ghost accepts = { λ _. T.accepts (Big, record { 0 = N }, Lsb0) };
 
     ghost no_read_ahead = { λ _. T.no_read_ahead (Big, record { 0 = N }, Lsb0) };
 
-    ghost meaning = { λ _. Mapped (λ v. record { 0 = v }) (T.meaning (Big, record { 0 = N }, Lsb0)) };
+    ghost meaning = { λ _. Mapped (λ v. record { 0 = v })
+        (T.meaning (Big, record { 0 = N }, Lsb0)) };
 
+    #[inline(always)]
     fn from_reader_with_ctx<R: Source>(
         reader: &mut Reader<R>,
         _ctx: (),
@@ -197,13 +185,11 @@ impl<T: DekuReader<(Endian, BitSize, Order)>, const N: usize> DekuReader<()> for
 }
 
 impl<T: DekuWriter<(Endian, BitSize, Order)>, const N: usize> DekuWriter<()> for LsbBe<T, N> {
-    ghost use Rattle.deku_num.specs.declared.ctx.Endian.TheVariants.{Big};
-    ghost use Rattle.deku_bits.specs.declared.ctx.Order.TheVariants.{Lsb0};
-
     ghost accepts = { λ _. T.accepts (Big, record { 0 = N }, Lsb0) };
 
     ghost meaning = { λ v _. T.meaning v.0 (Big, record { 0 = N }, Lsb0) };
 
+    #[inline(always)]
     fn to_writer<W: Sink>(&self, writer: &mut Writer<W>, _ctx: ()) -> Result<(), DekuError> {
         self.0
             .to_writer(writer, (Endian::Big, BitSize(N), Order::Lsb0))
@@ -212,16 +198,12 @@ impl<T: DekuWriter<(Endian, BitSize, Order)>, const N: usize> DekuWriter<()> for
 
 /// The pieces of the number.
 impl<T: Symmetric<(Endian, BitSize, Order)>, const N: usize> Symmetric<()> for LsbBe<T, N> {
-    ghost use Rattle.std.specs.Prelude.{refl};
-    ghost use Rattle.deku_pieces.proofs.Turned.{mapped_symmetric};
-    ghost use Rattle.deku_num.specs.declared.ctx.Endian.TheVariants.{Big};
-    ghost use Rattle.deku_bits.specs.declared.ctx.Order.TheVariants.{Lsb0};
-
     ghost pieces = { λ v _. T.pieces v.0 (Big, record { 0 = N }, Lsb0) };
 
     ghost same = { λ v w. T.same v.0 w.0 };
 
-    ghost symmetric = { λ _. mapped_symmetric (λ v. record { 0 = v }) (λ v. v.0) _ _ _ _ (λ v. refl) (T.symmetric (Big, record { 0 = N }, Lsb0)) };
+    ghost symmetric = { λ _. mapped_symmetric (λ v. record { 0 = v }) (λ v. v.0) _ _ _ _ (λ v. refl)
+        (T.symmetric (Big, record { 0 = N }, Lsb0)) };
 }
 
 /// A number of whole bytes, the high one first: big and `Msb0`.
@@ -233,15 +215,13 @@ impl<T: Symmetric<(Endian, BitSize, Order)>, const N: usize> Symmetric<()> for L
 pub struct Be<T>(pub T);
 
 impl<T: DekuReader<Endian>> DekuReader<()> for Be<T> {
-    ghost use Rattle.deku_bits.specs.Outcomes.{Mapped};
-    ghost use Rattle.deku_num.specs.declared.ctx.Endian.TheVariants.{Big};
-
     ghost accepts = { λ _. T.accepts Big };
 
     ghost no_read_ahead = { λ _. T.no_read_ahead Big };
 
     ghost meaning = { λ _. Mapped (λ v. record { 0 = v }) (T.meaning Big) };
 
+    #[inline(always)]
     fn from_reader_with_ctx<R: Source>(
         reader: &mut Reader<R>,
         _ctx: (),
@@ -252,12 +232,11 @@ impl<T: DekuReader<Endian>> DekuReader<()> for Be<T> {
 }
 
 impl<T: DekuWriter<Endian>> DekuWriter<()> for Be<T> {
-    ghost use Rattle.deku_num.specs.declared.ctx.Endian.TheVariants.{Big};
-
     ghost accepts = { λ _. T.accepts Big };
 
     ghost meaning = { λ v _. T.meaning v.0 Big };
 
+    #[inline(always)]
     fn to_writer<W: Sink>(&self, writer: &mut Writer<W>, _ctx: ()) -> Result<(), DekuError> {
         self.0.to_writer(writer, Endian::Big)
     }
@@ -265,15 +244,12 @@ impl<T: DekuWriter<Endian>> DekuWriter<()> for Be<T> {
 
 /// The pieces of the number.
 impl<T: Symmetric<Endian>> Symmetric<()> for Be<T> {
-    ghost use Rattle.std.specs.Prelude.{refl};
-    ghost use Rattle.deku_pieces.proofs.Turned.{mapped_symmetric};
-    ghost use Rattle.deku_num.specs.declared.ctx.Endian.TheVariants.{Big};
-
     ghost pieces = { λ v _. T.pieces v.0 Big };
 
     ghost same = { λ v w. T.same v.0 w.0 };
 
-    ghost symmetric = { λ _. mapped_symmetric (λ v. record { 0 = v }) (λ v. v.0) _ _ _ _ (λ v. refl) (T.symmetric Big) };
+    ghost symmetric = { λ _. mapped_symmetric (λ v. record { 0 = v }) (λ v. v.0) _ _ _ _ (λ v. refl)
+        (T.symmetric Big) };
 }
 
 /// A number of whole bytes, the low one first: little and `Msb0`.
@@ -285,15 +261,13 @@ impl<T: Symmetric<Endian>> Symmetric<()> for Be<T> {
 pub struct Le<T>(pub T);
 
 impl<T: DekuReader<Endian>> DekuReader<()> for Le<T> {
-    ghost use Rattle.deku_bits.specs.Outcomes.{Mapped};
-    ghost use Rattle.deku_num.specs.declared.ctx.Endian.TheVariants.{Little};
-
     ghost accepts = { λ _. T.accepts Little };
 
     ghost no_read_ahead = { λ _. T.no_read_ahead Little };
 
     ghost meaning = { λ _. Mapped (λ v. record { 0 = v }) (T.meaning Little) };
 
+    #[inline(always)]
     fn from_reader_with_ctx<R: Source>(
         reader: &mut Reader<R>,
         _ctx: (),
@@ -304,12 +278,11 @@ impl<T: DekuReader<Endian>> DekuReader<()> for Le<T> {
 }
 
 impl<T: DekuWriter<Endian>> DekuWriter<()> for Le<T> {
-    ghost use Rattle.deku_num.specs.declared.ctx.Endian.TheVariants.{Little};
-
     ghost accepts = { λ _. T.accepts Little };
 
     ghost meaning = { λ v _. T.meaning v.0 Little };
 
+    #[inline(always)]
     fn to_writer<W: Sink>(&self, writer: &mut Writer<W>, _ctx: ()) -> Result<(), DekuError> {
         self.0.to_writer(writer, Endian::Little)
     }
@@ -317,13 +290,10 @@ impl<T: DekuWriter<Endian>> DekuWriter<()> for Le<T> {
 
 /// The pieces of the number.
 impl<T: Symmetric<Endian>> Symmetric<()> for Le<T> {
-    ghost use Rattle.std.specs.Prelude.{refl};
-    ghost use Rattle.deku_pieces.proofs.Turned.{mapped_symmetric};
-    ghost use Rattle.deku_num.specs.declared.ctx.Endian.TheVariants.{Little};
-
     ghost pieces = { λ v _. T.pieces v.0 Little };
 
     ghost same = { λ v w. T.same v.0 w.0 };
 
-    ghost symmetric = { λ _. mapped_symmetric (λ v. record { 0 = v }) (λ v. v.0) _ _ _ _ (λ v. refl) (T.symmetric Little) };
+    ghost symmetric = { λ _. mapped_symmetric (λ v. record { 0 = v }) (λ v. v.0) _ _ _ _ (λ v. refl)
+        (T.symmetric Little) };
 }

@@ -10,6 +10,7 @@ ghost use Rattle.deku_bits.specs.ReaderCalls.{Reads};
 ghost use Rattle.deku_bits.specs.WriterCalls.{Writes};
 ghost use Rattle.deku.specs.Early.{NoReadAhead};
 ghost use Rattle.deku_num.specs.declared.ctx.Endian.{Endian};
+ghost use Rattle.deku_pieces.proofs.Turned.{told_symmetric};
 
 use crate::traits::Symmetric;
 use deku::ctx::Endian;
@@ -18,7 +19,8 @@ use deku::reader::Reader;
 use deku::writer::Writer;
 use deku::{DekuError, DekuReader, DekuWriter};
 
-/// A record that is the tuple of its parts under a context, one way and the other. Its two laws leave no field out of the parts.
+/// A record that is the tuple of its parts under a context, one way and the other. Its two laws
+/// leave no field out of the parts.
 ///
 /// ```text
 /// type Parts = (Msb<u8, 4>, Msb<u8, 4>, Be<u16>);             // of a record of three fields, under ()
@@ -56,26 +58,33 @@ pub trait ToParts<Ctx>: FromParts<Ctx> {
         ensures { result ≡ Self.FromParts.parts_of self.now };
 }
 
-/// A record whose reader and writer are those of its parts: it is `Symmetric<()>`. The page `docs/RECORDS.md` has one whole, and says what a record under
-/// another context states in its place.
+/// A record whose reader and writer are those of its parts: it is `Symmetric<()>`. The page
+/// `docs/RECORDS.md` has one whole, and says what a record under another context states in its
+/// place.
 pub trait Record: FromParts<()> + DekuReader<()> + DekuWriter<()>
 where
     Self::Parts: Symmetric<()>,
 {
     // Parts that have pieces are those of their record.
-    ghost back: { (p : Self.Parts) (ps : List Piece) → Self.Parts.pieces p tt ps → Self.parts_of (Self.record_of p) ≡ p };
+    ghost back: { (p : Self.Parts) (ps : List Piece) → Self.Parts.pieces p tt ps
+        → Self.parts_of (Self.record_of p) ≡ p };
 
     // Nothing is read but the parts.
-    ghost reads: { (b : Bool) (s : Standing (Option Stream)) (r : Result Self Refusal) (u : Standing (Option Stream))
-        → Self.DekuReader.meaning tt b s r u → Mapped Self.record_of (Self.Parts.DekuReader.meaning tt) b s r u };
+    ghost reads: { (b : Bool) (s : Standing (Option Stream)) (r : Result Self Refusal)
+        (u : Standing (Option Stream))
+        → Self.DekuReader.meaning tt b s r u → Mapped Self.record_of
+        (Self.Parts.DekuReader.meaning tt) b s r u };
 
     // Nothing is written but the parts.
-    ghost writes: { (v : Self) (b : Bool) (s : Standing Output) (r : Result (Unit {0}) Refusal) (u : Standing Output)
-        → Self.DekuWriter.meaning v tt b s r u → Self.Parts.DekuWriter.meaning (Self.parts_of v) tt b s r u };
+    ghost writes: { (v : Self) (b : Bool) (s : Standing Output) (r : Result (Unit {0}) Refusal)
+        (u : Standing Output)
+        → Self.DekuWriter.meaning v tt b s r u
+        → Self.Parts.DekuWriter.meaning (Self.parts_of v) tt b s r u };
 }
 
-/// A record whose reader and writer are those of its parts under an endian that is chosen where it is read or written: it is `Symmetric<Endian>`. It states the
-/// same as `Record` does, for each endian.
+/// A record whose reader and writer are those of its parts under an endian that is chosen where it
+/// is read or written: it is `Symmetric<Endian>`. It states the same as `Record` does, for each
+/// endian.
 ///
 /// ```text
 /// impl EndianRecord for Fields {
@@ -89,24 +98,31 @@ where
     Self::Parts: Symmetric<Endian>,
 {
     // Parts that have pieces are those of their record.
-    ghost back: { (p : Self.Parts) (c : Endian) (ps : List Piece) → Self.Parts.pieces p c ps → Self.parts_of (Self.record_of p) ≡ p };
+    ghost back: { (p : Self.Parts) (c : Endian) (ps : List Piece) → Self.Parts.pieces p c ps
+        → Self.parts_of (Self.record_of p) ≡ p };
 
     // Nothing is read but the parts.
-    ghost reads: { (c : Endian) (b : Bool) (s : Standing (Option Stream)) (r : Result Self Refusal) (u : Standing (Option Stream))
-        → Self.DekuReader.meaning c b s r u → Mapped Self.record_of (Self.Parts.DekuReader.meaning c) b s r u };
+    ghost reads: { (c : Endian) (b : Bool) (s : Standing (Option Stream)) (r : Result Self Refusal)
+        (u : Standing (Option Stream))
+        → Self.DekuReader.meaning c b s r u → Mapped Self.record_of
+        (Self.Parts.DekuReader.meaning c) b s r u };
 
     // Nothing is written but the parts.
-    ghost writes: { (c : Endian) (v : Self) (b : Bool) (s : Standing Output) (r : Result (Unit {0}) Refusal) (u : Standing Output)
-        → Self.DekuWriter.meaning v c b s r u → Self.Parts.DekuWriter.meaning (Self.parts_of v) c b s r u };
+    ghost writes: { (c : Endian) (v : Self) (b : Bool) (s : Standing Output)
+        (r : Result (Unit {0}) Refusal) (u : Standing Output)
+        → Self.DekuWriter.meaning v c b s r u
+        → Self.Parts.DekuWriter.meaning (Self.parts_of v) c b s r u };
 }
 
 /// Reads the parts, and is the record of them: the body of a record's `from_reader_with_ctx`.
 ///
-/// The caller's condition: the parts may be read. It is refused as they are, and what was read before stays read.
+/// The caller's condition: the parts may be read. It is refused as they are, and what was read
+/// before stays read.
 ///
 /// ```text
 /// read_record(reader, ())
 /// ```
+#[inline(always)]
 pub fn read_record<Ctx, T: FromParts<Ctx>, R: Source>(
     reader: &mut Reader<R>,
     ctx: Ctx,
@@ -114,20 +130,25 @@ pub fn read_record<Ctx, T: FromParts<Ctx>, R: Source>(
 where
     T::Parts: DekuReader<Ctx>,
     requires { T.Parts.DekuReader.accepts ctx }
-    ensures reads { Reads R.known (Mapped T.record_of (T.Parts.DekuReader.meaning ctx)) reader.old result reader.new }
-    ensures early { OnOk result (T.Parts.DekuReader.no_read_ahead ctx → NoReadAhead R.known reader.old reader.new) }
+    ensures reads { Reads R.known (Mapped T.record_of (T.Parts.DekuReader.meaning ctx)) reader.old
+        result reader.new }
+    ensures early { OnOk result (T.Parts.DekuReader.no_read_ahead ctx
+        → NoReadAhead R.known reader.old reader.new) }
 {
     let parts = T::Parts::from_reader_with_ctx(reader, ctx)?;
     Ok(T::from_parts(parts))
 }
 
-/// Writes the parts of the record: the body of a record's `to_writer`. A record that holds memory has its parts written where they lie, as by `write_counted`.
+/// Writes the parts of the record: the body of a record's `to_writer`. A record that holds memory
+/// has its parts written where they lie, as by `write_counted`.
 ///
-/// The caller's condition: the parts may be written. It is refused as they are, and what was written before stays written.
+/// The caller's condition: the parts may be written. It is refused as they are, and what was
+/// written before stays written.
 ///
 /// ```text
 /// write_record(self, writer, ())
 /// ```
+#[inline(always)]
 pub fn write_record<Ctx, T: ToParts<Ctx>, W: Sink>(
     value: &T,
     writer: &mut Writer<W>,
@@ -136,7 +157,8 @@ pub fn write_record<Ctx, T: ToParts<Ctx>, W: Sink>(
 where
     T::Parts: DekuWriter<Ctx>,
     requires { T.Parts.DekuWriter.accepts ctx }
-    ensures { Writes W.known (T.Parts.DekuWriter.meaning (T.FromParts.parts_of value.now) ctx) writer.old result writer.new }
+    ensures { Writes W.known (T.Parts.DekuWriter.meaning (T.FromParts.parts_of value.now) ctx)
+        writer.old result writer.new }
 {
     value.parts().to_writer(writer, ctx)
 }
@@ -146,13 +168,12 @@ impl<R: Record> Symmetric<()> for R
 where
     R::Parts: Symmetric<()>,
 {
-    ghost use Rattle.deku_pieces.proofs.Turned.{told_symmetric};
-
     ghost pieces = { λ v c. R.Parts.pieces (R.parts_of v) c };
 
     ghost same = { λ v w. R.Parts.same (R.parts_of v) (R.parts_of w) };
 
-    ghost symmetric = { λ c. told_symmetric R.record_of R.parts_of (λ p ps h. R.back p ps h) (R.Parts.symmetric c) R.writes R.reads };
+    ghost symmetric = { λ c. told_symmetric R.record_of R.parts_of (λ p ps h. R.back p ps h)
+        (R.Parts.symmetric c) R.writes R.reads };
 }
 
 /// The pieces of the parts, under the endian.
@@ -160,11 +181,10 @@ impl<R: EndianRecord> Symmetric<Endian> for R
 where
     R::Parts: Symmetric<Endian>,
 {
-    ghost use Rattle.deku_pieces.proofs.Turned.{told_symmetric};
-
     ghost pieces = { λ v c. R.Parts.pieces (R.parts_of v) c };
 
     ghost same = { λ v w. R.Parts.same (R.parts_of v) (R.parts_of w) };
 
-    ghost symmetric = { λ c. told_symmetric R.record_of R.parts_of (λ p ps h. R.back p c ps h) (R.Parts.symmetric c) (R.writes c) (R.reads c) };
+    ghost symmetric = { λ c. told_symmetric R.record_of R.parts_of (λ p ps h. R.back p c ps h)
+        (R.Parts.symmetric c) (R.writes c) (R.reads c) };
 }

@@ -1,4 +1,5 @@
-//! Tests of `deku_symmetry`, by the paths that users name: values packed and unpacked, and records in a few lines; and of frames.
+//! Tests of `deku_symmetry`, by the paths that users name: values packed and unpacked, and records
+//! in a few lines; and of frames.
 #![tactic(auto)]
 
 #[cfg(test)]

@@ -1,9 +1,11 @@
 //! Parts that other parts depend on: counted items, checks, and ids in low bits.
 
+ghost use Rattle.std.specs.Prelude.{nat_eq, codes, refl, None};
+
 use crate::sample::Sample;
 use deku::prelude::{DekuError, NeedSize};
 use deku_symmetry::{
-    Assert, Check, CheckLaw, ItemCount, Counted, Lsb, LsbTagged, Msb, Only, Symmetric, Tagged,
+    Assert, Check, CheckLaw, Counted, ItemCount, Lsb, LsbTagged, Msb, Only, Symmetric, Tagged,
 };
 use deku_testing_values::expecting::same;
 use deku_testing_values::records::{expect_packed, expect_refusal};
@@ -14,8 +16,6 @@ use std::test::Fail;
 struct Version;
 
 impl Check<Msb<u8, 4>> for Version {
-    ghost use Rattle.std.specs.Prelude.{nat_eq, codes};
-
     ghost passes = { λ part. nat_eq part.0 4 };
 
     ghost text = { codes "version" };
@@ -30,15 +30,11 @@ impl Check<Msb<u8, 4>> for Version {
 }
 
 impl CheckLaw<Msb<u8, 4>> for Version {
-    ghost use Rattle.std.specs.Prelude.{refl};
-
     ghost alike = { λ v w e. rw e refl };
 }
 
 // A sample counts nothing.
 impl ItemCount for Sample {
-    ghost use Rattle.std.specs.Prelude.{None};
-
     ghost count_of = { λ _. None };
 
     fn count(&self) -> Option<usize> {

@@ -1,11 +1,17 @@
 //! Messages: an id of a byte, and what it chooses.
 
+ghost use Rattle.std.specs.Prelude.{refl};
+ghost use Rattle.deku_symmetry_tests.specs.declared.message.Message.TheVariants.{Tone, Move, Stop};
+ghost use Rattle.deku_symmetry.specs.declared.choice.Tagged.TheVariants as first;
+ghost use Rattle.deku_symmetry.specs.declared.choice.Choice.TheVariants as second;
+ghost use Rattle.deku.specs.Outcomes.{Mapped};
+
 use deku::device::{Sink, Source};
 use deku::prelude::{
     DekuContainerRead, DekuContainerWrite, DekuError, DekuReader, DekuWriter, Reader, Writer,
 };
 use deku_symmetry::{
-    Be, Choice, Msb, MsbTagged, Only, FromParts, Record, Tagged, ToParts, read_record, write_record,
+    Be, Choice, FromParts, Msb, MsbTagged, Only, Record, Tagged, ToParts, read_record, write_record,
 };
 
 /// A message.
@@ -26,11 +32,6 @@ type Place = (Msb<i16, 12>, Msb<i16, 12>);
 type Parts = MsbTagged<Be<u16>, Choice<Place, Only<(), 3>, 2>, 1, 8>;
 
 impl FromParts<()> for Message {
-    ghost use Rattle.std.specs.Prelude.{refl};
-    ghost use Rattle.deku_symmetry_tests.specs.declared.message.Message.TheVariants.{Tone, Move, Stop};
-    ghost use Rattle.deku_symmetry.specs.declared.choice.Tagged.TheVariants as first;
-    ghost use Rattle.deku_symmetry.specs.declared.choice.Choice.TheVariants as second;
-
     type Parts = Parts;
 
     ghost parts_of = { elim [
@@ -41,7 +42,11 @@ impl FromParts<()> for Message {
 
     ghost record_of = { elim [
       | first.This tone ↦ Tone tone.0
-      | first.Other rest ↦ elim rest [ second.This place ↦ Move place.0.0 place.1.0 | second.Other none ↦ Stop ]
+      | first.Other rest ↦ elim rest [
+        | second.This place ↦ Move place.0.0 place.1.0
+        | second.Other
+            none ↦ Stop
+      ]
     ] };
 
     fn from_parts(parts: Self::Parts) -> Self {
@@ -68,10 +73,6 @@ impl ToParts<()> for Message {
 }
 
 impl Record for Message {
-    ghost use Rattle.std.specs.Prelude.{refl};
-    ghost use Rattle.deku_symmetry.specs.declared.choice.Tagged.TheVariants as first;
-    ghost use Rattle.deku_symmetry.specs.declared.choice.Choice.TheVariants as second;
-
     ghost back = { elim [
       | first.This tone ↦ λ ps h. refl
       | first.Other (second.This place) ↦ λ ps h. refl
@@ -84,13 +85,12 @@ impl Record for Message {
 }
 
 impl DekuReader<()> for Message {
-    ghost use Rattle.deku.specs.Outcomes.{Mapped};
-
     ghost accepts = { ⟦<Parts as DekuReader<()>>⟧.accepts };
 
     ghost no_read_ahead = { ⟦<Parts as DekuReader<()>>⟧.no_read_ahead };
 
-    ghost meaning = { λ _. Mapped ⟦<Message as FromParts<()>>⟧.record_of (⟦<Parts as DekuReader<()>>⟧.meaning tt) };
+    ghost meaning = { λ _. Mapped ⟦<Message as FromParts<()>>⟧.record_of
+        (⟦<Parts as DekuReader<()>>⟧.meaning tt) };
 
     fn from_reader_with_ctx<R: Source>(
         reader: &mut Reader<R>,
@@ -103,7 +103,8 @@ impl DekuReader<()> for Message {
 impl DekuWriter<()> for Message {
     ghost accepts = { ⟦<Parts as DekuWriter<()>>⟧.accepts };
 
-    ghost meaning = { λ v _. ⟦<Parts as DekuWriter<()>>⟧.meaning (⟦<Message as FromParts<()>>⟧.parts_of v) tt };
+    ghost meaning = { λ v _. ⟦<Parts as DekuWriter<()>>⟧.meaning
+        (⟦<Message as FromParts<()>>⟧.parts_of v) tt };
 
     fn to_writer<W: Sink>(&self, writer: &mut Writer<W>, _ctx: ()) -> Result<(), DekuError> {
         write_record(self, writer, ())

@@ -1,12 +1,16 @@
-//! Parts that are always one value, records that hold memory or are read under an endian, and numbers whose bits lie apart.
+//! Parts that are always one value, records that hold memory or are read under an endian, and
+//! numbers whose bits lie apart.
+
+ghost use Rattle.std.specs.Prelude.{codes, refl};
+ghost use Rattle.deku.specs.Outcomes.{Mapped};
 
 use deku::ctx::Endian;
 use deku::device::{Sink, Source};
 use deku::prelude::{DekuError, DekuReader, DekuWriter, Reader, Writer};
 use deku_symmetry::scattered::{high_bits, low_bits};
 use deku_symmetry::{
-    Be, Constant, ConstantLaw, EndianRecord, Magic, Le, Counted, FromParts, Record, ToParts, read_record,
-    write_counted, write_record,
+    Be, Constant, ConstantLaw, Counted, EndianRecord, FromParts, Le, Magic, Record, ToParts,
+    read_record, write_counted, write_record,
 };
 use deku_testing_values::records::{expect_packed, expect_refusal};
 use std::test::Fail;
@@ -16,8 +20,6 @@ use std::test::Fail;
 struct Signature;
 
 impl Constant<Be<u16>> for Signature {
-    ghost use Rattle.std.specs.Prelude.{codes};
-
     ghost value = { record { 0 = 0x4D5A } };
 
     ghost text = { codes "magic" };
@@ -36,8 +38,6 @@ impl Constant<Be<u16>> for Signature {
 }
 
 impl ConstantLaw<Be<u16>> for Signature {
-    ghost use Rattle.std.specs.Prelude.{refl};
-
     ghost alike = { λ v e. rw e refl };
 }
 
@@ -59,8 +59,6 @@ struct Text {
 }
 
 impl FromParts<()> for Text {
-    ghost use Rattle.std.specs.Prelude.{refl};
-
     type Parts = Counted<u8, u8>;
 
     ghost parts_of = { λ t. record { head = t.length; items = t.bytes } };
@@ -78,8 +76,6 @@ impl FromParts<()> for Text {
 }
 
 impl Record for Text {
-    ghost use Rattle.std.specs.Prelude.{refl};
-
     ghost back = { λ p ps h. refl };
 
     ghost reads = { λ b s r u m. m };
@@ -88,13 +84,12 @@ impl Record for Text {
 }
 
 impl DekuReader<()> for Text {
-    ghost use Rattle.deku.specs.Outcomes.{Mapped};
-
     ghost accepts = { ⟦<Counted<u8, u8> as DekuReader<()>>⟧.accepts };
 
     ghost no_read_ahead = { ⟦<Counted<u8, u8> as DekuReader<()>>⟧.no_read_ahead };
 
-    ghost meaning = { λ _. Mapped ⟦<Text as FromParts<()>>⟧.record_of (⟦<Counted<u8, u8> as DekuReader<()>>⟧.meaning tt) };
+    ghost meaning = { λ _. Mapped ⟦<Text as FromParts<()>>⟧.record_of
+        (⟦<Counted<u8, u8> as DekuReader<()>>⟧.meaning tt) };
 
     fn from_reader_with_ctx<R: Source>(
         reader: &mut Reader<R>,
@@ -107,7 +102,8 @@ impl DekuReader<()> for Text {
 impl DekuWriter<()> for Text {
     ghost accepts = { ⟦<Counted<u8, u8> as DekuWriter<()>>⟧.accepts };
 
-    ghost meaning = { λ v _. ⟦<Counted<u8, u8> as DekuWriter<()>>⟧.meaning (⟦<Text as FromParts<()>>⟧.parts_of v) tt };
+    ghost meaning = { λ v _. ⟦<Counted<u8, u8> as DekuWriter<()>>⟧.meaning
+        (⟦<Text as FromParts<()>>⟧.parts_of v) tt };
 
     fn to_writer<W: Sink>(&self, writer: &mut Writer<W>, _ctx: ()) -> Result<(), DekuError> {
         write_counted(&self.length, &self.bytes, writer)
@@ -135,8 +131,6 @@ struct Pair {
 type PairParts = (u16, u32);
 
 impl FromParts<Endian> for Pair {
-    ghost use Rattle.std.specs.Prelude.{refl};
-
     type Parts = PairParts;
 
     ghost parts_of = { λ p. (p.first, p.second) };
@@ -158,8 +152,6 @@ impl ToParts<Endian> for Pair {
 }
 
 impl EndianRecord for Pair {
-    ghost use Rattle.std.specs.Prelude.{refl};
-
     ghost back = { λ p c ps h. refl };
 
     ghost reads = { λ c b s r u m. m };
@@ -168,13 +160,12 @@ impl EndianRecord for Pair {
 }
 
 impl DekuReader<Endian> for Pair {
-    ghost use Rattle.deku.specs.Outcomes.{Mapped};
-
     ghost accepts = { ⟦<PairParts as DekuReader<Endian>>⟧.accepts };
 
     ghost no_read_ahead = { ⟦<PairParts as DekuReader<Endian>>⟧.no_read_ahead };
 
-    ghost meaning = { λ c. Mapped ⟦<Pair as FromParts<Endian>>⟧.record_of (⟦<PairParts as DekuReader<Endian>>⟧.meaning c) };
+    ghost meaning = { λ c. Mapped ⟦<Pair as FromParts<Endian>>⟧.record_of
+        (⟦<PairParts as DekuReader<Endian>>⟧.meaning c) };
 
     fn from_reader_with_ctx<R: Source>(
         reader: &mut Reader<R>,
@@ -187,7 +178,8 @@ impl DekuReader<Endian> for Pair {
 impl DekuWriter<Endian> for Pair {
     ghost accepts = { ⟦<PairParts as DekuWriter<Endian>>⟧.accepts };
 
-    ghost meaning = { λ v c. ⟦<PairParts as DekuWriter<Endian>>⟧.meaning (⟦<Pair as FromParts<Endian>>⟧.parts_of v) c };
+    ghost meaning = { λ v c. ⟦<PairParts as DekuWriter<Endian>>⟧.meaning
+        (⟦<Pair as FromParts<Endian>>⟧.parts_of v) c };
 
     fn to_writer<W: Sink>(&self, writer: &mut Writer<W>, ctx: Endian) -> Result<(), DekuError> {
         write_record(self, writer, ctx)

@@ -1,12 +1,16 @@
 //! One sample.
 
+ghost use Rattle.std.specs.Prelude.{refl};
+ghost use Rattle.deku.specs.Outcomes.{Mapped};
+
 use deku::device::{Sink, Source};
 use deku::prelude::{
     DekuContainerRead, DekuContainerWrite, DekuError, DekuReader, DekuWriter, Reader, Writer,
 };
-use deku_symmetry::{Be, Msb, FromParts, Record, ToParts, read_record, write_record};
+use deku_symmetry::{Be, FromParts, Msb, Record, ToParts, read_record, write_record};
 
-/// Four bits of a sensor's number, four of its state, and two bytes of a value, all with their high bits first.
+/// Four bits of a sensor's number, four of its state, and two bytes of a value, all with their high
+/// bits first.
 #[derive(Debug, PartialEq, Eq, Drop)]
 pub struct Sample {
     pub sensor: u8,
@@ -18,11 +22,14 @@ pub struct Sample {
 type Parts = (Msb<u8, 4>, Msb<u8, 4>, Be<u16>);
 
 impl FromParts<()> for Sample {
-    ghost use Rattle.std.specs.Prelude.{refl};
-
     type Parts = Parts;
 
-    ghost parts_of = { λ s. (record { 0 = s.sensor }, record { 0 = s.state }, record { 0 = s.value }) };
+    ghost parts_of = { λ s. (
+      record { 0 = s.sensor },
+      record { 0 = s.state },
+      record
+          { 0 = s.value },
+    ) };
 
     ghost record_of = { λ p. record { sensor = p.0.0; state = p.1.0; value = p.2.0 } };
 
@@ -45,8 +52,6 @@ impl ToParts<()> for Sample {
 }
 
 impl Record for Sample {
-    ghost use Rattle.std.specs.Prelude.{refl};
-
     ghost back = { λ p ps h. refl };
 
     ghost reads = { λ b s r u m. m };
@@ -55,13 +60,12 @@ impl Record for Sample {
 }
 
 impl DekuReader<()> for Sample {
-    ghost use Rattle.deku.specs.Outcomes.{Mapped};
-
     ghost accepts = { ⟦<Parts as DekuReader<()>>⟧.accepts };
 
     ghost no_read_ahead = { ⟦<Parts as DekuReader<()>>⟧.no_read_ahead };
 
-    ghost meaning = { λ _. Mapped ⟦<Sample as FromParts<()>>⟧.record_of (⟦<Parts as DekuReader<()>>⟧.meaning tt) };
+    ghost meaning = { λ _. Mapped ⟦<Sample as FromParts<()>>⟧.record_of
+        (⟦<Parts as DekuReader<()>>⟧.meaning tt) };
 
     fn from_reader_with_ctx<R: Source>(
         reader: &mut Reader<R>,
@@ -74,7 +78,8 @@ impl DekuReader<()> for Sample {
 impl DekuWriter<()> for Sample {
     ghost accepts = { ⟦<Parts as DekuWriter<()>>⟧.accepts };
 
-    ghost meaning = { λ v _. ⟦<Parts as DekuWriter<()>>⟧.meaning (⟦<Sample as FromParts<()>>⟧.parts_of v) tt };
+    ghost meaning = { λ v _. ⟦<Parts as DekuWriter<()>>⟧.meaning
+        (⟦<Sample as FromParts<()>>⟧.parts_of v) tt };
 
     fn to_writer<W: Sink>(&self, writer: &mut Writer<W>, _ctx: ()) -> Result<(), DekuError> {
         write_record(self, writer, ())

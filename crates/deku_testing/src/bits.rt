@@ -1,4 +1,5 @@
-//! Lists of truth values as streams and words, by their definition: slow, with nothing of the library's but the names of orders.
+//! Lists of truth values as streams and words, by their definition: slow, with nothing of the
+//! library's but the names of orders.
 
 ghost use Rattle.std.specs.Prelude.{◌<◌, ◌≤◌, ◌^◌};
 
@@ -34,7 +35,8 @@ pub const THREE_BYTES: [bool; 24] = [
     true, true, false, true, true, true, false, true, // DD
 ];
 
-/// Seventeen bytes: all zeros, all ones, a high and a low bit at the edges, and four that look like chance.
+/// Seventeen bytes: all zeros, all ones, a high and a low bit at the edges, and four that look like
+/// chance.
 pub fn samples() -> [[u8; 17]; 8] {
     let mut random = Random::new();
     let mut all = [[0; 17]; 8];
@@ -54,7 +56,8 @@ fn fill(bytes: &mut [u8; 17], random: &mut Random) {
     }
 }
 
-/// The number of a list whose first bit counts highest in `Msb0`, and whose last one does in `Lsb0`.
+/// The number of a list whose first bit counts highest in `Msb0`, and whose last one does in
+/// `Lsb0`.
 pub fn group_number(order: Order, bits: &[bool]) -> u128 {
     let mut number: u128 = 0;
     for i in 0..bits.len() {
@@ -67,7 +70,8 @@ pub fn group_number(order: Order, bits: &[bool]) -> u128 {
     number
 }
 
-/// The word of a list in the order in which it is met: the first group of eight counts once, each further one 256 times as much.
+/// The word of a list in the order in which it is met: the first group of eight counts once, each
+/// further one 256 times as much.
 pub fn word_of(order: Order, bits: &[bool]) -> u128 {
     let mut number: u128 = 0;
     let mut weight: u128 = 1;
@@ -135,7 +139,8 @@ pub fn fitting(word: u128, n: usize) -> u128
     if n == 128 { word } else { word % (1 << n) }
 }
 
-/// Turns bits that an order met to those that are shown, highest first, and back: whole bytes each by itself, others as one.
+/// Turns bits that an order met to those that are shown, highest first, and back: whole bytes each
+/// by itself, others as one.
 pub fn turn(order: Order, bits: &mut [bool]) {
     if order == Msb0 {
         return;
@@ -161,8 +166,8 @@ pub fn shown(order: Order, list: &[bool]) -> [bool; 8] {
     bits
 }
 
-/// The bytes of a front and then a list, and of one bit again and again after them. A byte's bits are met from the highest down in `Msb0`,
-/// and from the lowest up in `Lsb0`.
+/// The bytes of a front and then a list, and of one bit again and again after them. A byte's bits
+/// are met from the highest down in `Msb0`, and from the lowest up in `Lsb0`.
 pub fn bytes_of(order: Order, front: &[bool], list: &[bool], after: bool) -> [u8; 17] {
     let mut bytes = [0; 17];
     for i in 0..136 {

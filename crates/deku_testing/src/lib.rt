@@ -1,4 +1,5 @@
-//! What crates of tests share: slow models, numbers without a pattern, refusals in tables, and runs of programs.
+//! What crates of tests share: slow models, numbers without a pattern, refusals in tables, and runs
+//! of programs.
 #![tactic(auto)]
 
 pub mod bits;

@@ -1,6 +1,8 @@
-//! Numbers as lists of truth values, as they are defined: slow, with nothing of the library's but the names of types and layouts.
+//! Numbers as lists of truth values, as they are defined: slow, with nothing of the library's but
+//! the names of types and layouts.
 //!
-//! Values are numbers modulo two to the power of 128, so that those below zero have a place beside those without a sign.
+//! Values are numbers modulo two to the power of 128, so that those below zero have a place beside
+//! those without a sign.
 
 use crate::bits::{group_number, word_of};
 use deku_bits::error::DekuError;
@@ -39,7 +41,8 @@ pub fn number(endian: Endian, order: Order, bits: &[bool]) -> u128 {
     }
 }
 
-/// What a list of bits is worth: where there is a sign, its number less two to the width, if it is half of that or more.
+/// What a list of bits is worth: where there is a sign, its number less two to the width, if it is
+/// half of that or more.
 pub fn worth(signed: bool, endian: Endian, order: Order, bits: &[bool]) -> u128 {
     let number = number(endian, order, bits);
     if !signed || bits.is_empty() || number < two_to(bits.len() - 1) {
@@ -48,7 +51,8 @@ pub fn worth(signed: bool, endian: Endian, order: Order, bits: &[bool]) -> u128 
     number.wrapping_sub(two_to(bits.len()))
 }
 
-/// What each bit of a list of the width counts: the number of the list in which it alone is set. After the width it counts nothing.
+/// What each bit of a list of the width counts: the number of the list in which it alone is set.
+/// After the width it counts nothing.
 pub fn weights(endian: Endian, order: Order, width: usize) -> [u128; MOST] {
     let mut weights = [0; MOST];
     let mut bits = [false; MOST];
@@ -72,7 +76,8 @@ pub fn list_of(number: u128, weights: &[u128; MOST]) -> [bool; MOST] {
     bits
 }
 
-/// The bits of the type, the bit size, or eight times the byte size, which is one for a type that takes any byte size as one.
+/// The bits of the type, the bit size, or eight times the byte size, which is one for a type that
+/// takes any byte size as one.
 pub fn width(number_type: NumberType, size: Size) -> usize {
     match size {
         Size::Whole => number_type.bits,

@@ -120,7 +120,8 @@ pub fn expect_lines<P: Program>(alloc: Global, program: &P, text: &str) -> Resul
     Ok(())
 }
 
-/// The program ends as the run says. That it is out of memory, which nobody asked for, is handed on.
+/// The program ends as the run says. That it is out of memory, which nobody asked for, is handed
+/// on.
 pub fn expect_run<P: Program>(alloc: Global, program: &P, run: &Run<'_>) -> Result<(), Fail> {
     let mut page = [0u8; OUTPUT];
     let mut output = Cursor::new(page.as_mut_slice());
@@ -134,8 +135,8 @@ pub fn expect_run<P: Program>(alloc: Global, program: &P, run: &Run<'_>) -> Resu
     handed_on(refused)
 }
 
-/// The program, over this input and this output, ends with the status and the complaints of the run.
-/// That it is out of memory, which nobody asked for, is handed on.
+/// The program, over this input and this output, ends with the status and the complaints of the
+/// run. That it is out of memory, which nobody asked for, is handed on.
 pub fn expect_end<P: Program, R: Read, W: Write>(
     alloc: Global,
     program: &P,

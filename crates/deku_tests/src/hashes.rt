@@ -1,6 +1,7 @@
 //! Maps and sets under limits.
 //!
-//! Of deku's own tests of maps, `test_hashmap_write` has no counterpart: it pins the order in which another hasher walks.
+//! Of deku's own tests of maps, `test_hashmap_write` has no counterpart: it pins the order in which
+//! another hasher walks.
 
 use super::expecting::Refusal::Until;
 use super::expecting::{
@@ -150,7 +151,8 @@ fn set_of(alloc: Global, items: &[u8]) -> Result<Set<u8>, Fail> {
     Ok(set)
 }
 
-// The items of a set, from the bytes that it was written as: none is left out, and none is there twice.
+// The items of a set, from the bytes that it was written as: none is left out, and none is there
+// twice.
 fn expect_each_once(rt: &impl Abort, alloc: Global, want: &[u8]) -> Result<(), Fail> {
     let set = set_of(alloc, want)?;
     let bytes = written(alloc, &set, ())?;

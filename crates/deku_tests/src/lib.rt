@@ -1,4 +1,5 @@
-//! Tests of `deku`, by the paths that users name: lists, maps, texts, tuples and what holds them, limits, sizes and refusals.
+//! Tests of `deku`, by the paths that users name: lists, maps, texts, tuples and what holds them,
+//! limits, sizes and refusals.
 #![tactic(auto)]
 
 #[cfg(test)]

@@ -1,6 +1,6 @@
 //! Lists under limits.
 
-use super::expecting::Refusal::{Until, Said};
+use super::expecting::Refusal::{Said, Until};
 use super::expecting::{
     Answer, Refusal, expect_answer, expect_bytes, expect_written, next_byte, rest_of, same, same_at,
 };

@@ -1,5 +1,7 @@
 //! Sizes of truth values, of tuples and of arrays.
 
+ghost use Rattle.std.specs.Prelude.{Some, ◌-◌, ◌^◌, None};
+
 use super::expecting::same;
 use deku::ctx::BitSize;
 use deku::prelude::DekuSize;
@@ -10,8 +12,6 @@ use std::process::Abort;
 struct Wide;
 
 impl DekuSize for Wide {
-    ghost use Rattle.std.specs.Prelude.{Some, ◌-◌, ◌^◌};
-
     ghost bits = { Some (2 ^ 64 - 1) };
 
     fn size_bits() -> Option<usize> {
@@ -23,8 +23,6 @@ impl DekuSize for Wide {
 struct Open {}
 
 impl DekuSize for Open {
-    ghost use Rattle.std.specs.Prelude.{None};
-
     ghost bits = { None };
 
     fn size_bits() -> Option<usize> {

@@ -1,6 +1,6 @@
 //! Texts that end with a zero.
 
-use super::expecting::Refusal::{Until, Said};
+use super::expecting::Refusal::{Said, Until};
 use super::expecting::{
     Answer, Refusal, expect_bytes, expect_refusal, expect_written, next_byte, same, same_at,
 };

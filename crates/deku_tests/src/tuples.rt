@@ -1,5 +1,7 @@
 //! Nothing, and tuples.
 
+ghost use Rattle.deku.specs.declared.ctx.Order.TheVariants as order;
+
 use super::expecting::{
     expect_bytes, expect_denied, expect_whole, expect_written, next_byte, same,
 };
@@ -50,10 +52,6 @@ fn of_one_to_six(rt: HostRuntime) {
 struct High;
 
 impl DekuWriter<()> for High {
-    ghost use Rattle.std.specs.Prelude.{◌≡◌};
-
-    ghost accepts = { λ c. c ≡ c };
-
     ghost meaning = { λ v _. ⟦<u8 as DekuWriter<BitSize>>⟧.meaning 5 (record { 0 = 3 }) };
 
     fn to_writer<W: Sink>(&self, writer: &mut Writer<W>, _ctx: ()) -> Result<(), DekuError> {
@@ -66,12 +64,8 @@ impl DekuWriter<()> for High {
 struct Low;
 
 impl DekuWriter<()> for Low {
-    ghost use Rattle.std.specs.Prelude.{◌≡◌};
-    ghost use Rattle.deku.specs.declared.ctx.Order.TheVariants as order;
-
-    ghost accepts = { λ c. c ≡ c };
-
-    ghost meaning = { λ v _. ⟦<u16 as DekuWriter<(BitSize, Order)>>⟧.meaning 257 (record { 0 = 9 }, order.Lsb0) };
+    ghost meaning = { λ v _. ⟦<u16 as DekuWriter<(BitSize, Order)>>⟧.meaning 257
+        (record { 0 = 9 }, order.Lsb0) };
 
     fn to_writer<W: Sink>(&self, writer: &mut Writer<W>, _ctx: ()) -> Result<(), DekuError> {
         0x101u16.to_writer(writer, (BitSize(9), Lsb0))

@@ -33,11 +33,13 @@ use std::alloc::Global;
 use std::io::ErrorKind;
 use std::marker::Model;
 
-/// Gives whole bytes to a sink, and keeps the bits that do not fill one: at most seven, of one order.
+/// Gives whole bytes to a sink, and keeps the bits that do not fill one: at most seven, of one
+/// order.
 ///
-/// Bits in `Msb0` fill a byte from its highest bit down, and bits in `Lsb0` from its lowest bit up. A fault of the sink stops the
-/// writer: it is kept, nothing is pending, and each later write answers the fault again, also one of no bits, until a seek succeeds. Of the
-/// bytes of the failed call the sink took a beginning, and it is open how many.
+/// Bits in `Msb0` fill a byte from its highest bit down, and bits in `Lsb0` from its lowest bit up.
+/// A fault of the sink stops the writer: it is kept, nothing is pending, and each later write
+/// answers the fault again, also one of no bits, until a seek succeeds. Of the bytes of the failed
+/// call the sink took a beginning, and it is open how many.
 ///
 /// ```text
 /// let mut writer = Writer::new(Cursor::new(Vec::new(alloc)));
@@ -75,7 +77,8 @@ impl Model for WriterState {
 }
 
 impl<W: Sink> Writer<W> {
-    /// A writer onto this sink, with nothing pending and no bit written. Nothing is given to the sink.
+    /// A writer onto this sink, with nothing pending and no bit written. Nothing is given to the
+    /// sink.
     ///
     /// ```text
     /// let mut writer = Writer::new(Cursor::new(Vec::new(alloc))); // writes into a vector
@@ -104,7 +107,8 @@ impl<W: Sink> Writer<W> {
         self.sink
     }
 
-    /// How many bits were given to the sink: eight for each byte. Pending bits are not counted, nor are those of a write that failed.
+    /// How many bits were given to the sink: eight for each byte. Pending bits are not counted, nor
+    /// are those of a write that failed.
     ///
     /// ```text
     /// writer.bits_written()                                      // 8, behind a write of 12 bits; 16 when it is padded
@@ -116,7 +120,8 @@ impl<W: Sink> Writer<W> {
         self.state.bits_written()
     }
 
-    /// The pending bits, highest first, and their order: at most seven, and none in `Msb0` where nothing is pending or the writer has stopped.
+    /// The pending bits, highest first, and their order: at most seven, and none in `Msb0` where
+    /// nothing is pending or the writer has stopped.
     ///
     /// ```text
     /// writer.write_bits_order(&[true, true, false], Order::Lsb0)?;
@@ -154,14 +159,18 @@ impl<W: Sink> Writer<W> {
         }
     }
 
-    /// Writes bits, highest first, in an order. Each byte that is filled is given to the sink, and counts eight bits.
+    /// Writes bits, highest first, in an order. Each byte that is filled is given to the sink, and
+    /// counts eight bits.
     ///
-    /// In `Msb0` they follow the pending bits. In `Lsb0` they go above them, the last bit first, or, where the list is whole bytes, byte by
-    /// byte, the last bit of each first. `Lsb0` bits go into pending `Msb0` bits, and `Msb0` bits above pending `Lsb0` bits. No bits change nothing.
+    /// In `Msb0` they follow the pending bits. In `Lsb0` they go above them, the last bit first,
+    /// or, where the list is whole bytes, byte by byte, the last bit of each first. `Lsb0` bits go
+    /// into pending `Msb0` bits, and `Msb0` bits above pending `Lsb0` bits. No bits change nothing.
     ///
-    /// It takes no memory but what the sink takes. Fails, in this order: with the fault that stopped the writer; with
-    /// `InvalidParam("count past usize")` where the count would pass `usize`, and nothing changes; with `Io` of the sink's fault, as `WriteZero`
-    /// where it lacks room, and `OutOfMemory` where a vector finds no memory. That fault is kept, nothing is pending then, and the count stays.
+    /// It takes no memory but what the sink takes. Fails, in this order: with the fault that
+    /// stopped the writer; with `InvalidParam("count past usize")` where the count would pass
+    /// `usize`, and nothing changes; with `Io` of the sink's fault, as `WriteZero` where it lacks
+    /// room, and `OutOfMemory` where a vector finds no memory. That fault is kept, nothing is
+    /// pending then, and the count stays.
     ///
     /// ```text
     /// writer.write_bits_order(&[true, false, true], Order::Lsb0)?;
@@ -187,23 +196,27 @@ impl<W: Sink> Writer<W> {
         self.write_bits_order(bits, Order::Msb0)
     }
 
-    /// Writes the bits of bytes in `Msb0`, each byte high bit first, as one `write_bits` of all of them does. Where nothing is pending the sink
-    /// is given the bytes at once. It takes no memory but what the sink takes, and fails as `write_bits_order` does.
+    /// Writes the bits of bytes in `Msb0`, each byte high bit first, as one `write_bits` of all of
+    /// them does. Where nothing is pending the sink is given the bytes at once. It takes no memory
+    /// but what the sink takes, and fails as `write_bits_order` does.
     ///
     /// ```text
     /// writer.write_bits(&[true, false, true, false])?;   // 1, 0, 1, 0 are pending
     /// writer.write_bytes(&[0xBB])?;                      // the byte 0xAB; 1, 0, 1, 1 are pending
     /// ```
     pub fn write_bytes(&mut self, buf: &[u8]) -> Result<(), DekuError>
-        ensures writes { Writes W.known (WritesBits Msb0 (bits_in buf.now)) self.old result self.new }
+        ensures writes { Writes W.known (WritesBits Msb0 (bits_in buf.now)) self.old result
+            self.new }
         ensures stopped { Untouched self.old.state self.old.sink self.new.sink }
     {
         self.state.write_bytes(&mut self.sink, buf)
     }
 
-    /// Writes a word of at most 128 bits in an order, as one `write_bits_order` of its bits does: eight bits for each byte of the word, the
-    /// lowest byte first, and what is above the whole bytes last. The sink is given the bytes at once. It takes no memory but what the sink
-    /// takes, and fails as `write_bits_order` does. The caller's conditions: `n` is at most 128, and the word has no more bits.
+    /// Writes a word of at most 128 bits in an order, as one `write_bits_order` of its bits does:
+    /// eight bits for each byte of the word, the lowest byte first, and what is above the whole
+    /// bytes last. The sink is given the bytes at once. It takes no memory but what the sink takes,
+    /// and fails as `write_bits_order` does. The caller's conditions: `n` is at most 128, and the
+    /// word has no more bits.
     ///
     /// ```text
     /// writer.write_word(0x0201, 12, Order::Msb0)?;       // the byte 0x01; 0, 0, 1, 0 are pending
@@ -218,12 +231,13 @@ impl<W: Sink> Writer<W> {
         self.state.write_word(&mut self.sink, word, n, order)
     }
 
-    /// Writes the bits of a number in `Msb0`, the highest first, where nothing refuses them and they need no call on the sink that may fail, and answers
-    /// whether it did: they have at most 64 bits with the pending ones, and the sink has room at hand as `Sink::lay` says. The caller's conditions: `n` is
-    /// at most 64, and the number has no more bits.
+    /// Writes the bits of a number in `Msb0`, the highest first, where nothing refuses them and
+    /// they need no call on the sink that may fail, and answers whether it did: they have at most
+    /// 64 bits with the pending ones, and the sink has room at hand as `Sink::lay` says. The
+    /// caller's conditions: `n` is at most 64, and the number has no more bits.
     ///
-    /// It is a `write_bits` of as many bits. It answers `false` where there are none or that refuses them, and may do so where it does not; then nothing
-    /// changes.
+    /// It is a `write_bits` of as many bits. It answers `false` where there are none or that
+    /// refuses them, and may do so where it does not; then nothing changes.
     ///
     /// ```text
     /// writer.try_write_msb(0xABC, 12)                        // true, where eight bytes of room are at hand: the byte 0xAB; 1, 1, 0, 0 are pending
@@ -232,15 +246,16 @@ impl<W: Sink> Writer<W> {
     pub fn try_write_msb(&mut self, number: u64, n: usize) -> bool
         requires most { n ≤ 64 }
         requires inside { number < 2 ^ n }
-        ensures writes { IsTrue result → Writes W.known (WritesBits Msb0 (bits_of n number)) self.old (Ok tt) self.new }
+        ensures writes { IsTrue result → Writes W.known (WritesBits Msb0 (bits_of n number))
+            self.old (Ok tt) self.new }
         ensures stays { IsFalse result → self.new ≡ self.old }
         ensures stopped { Untouched self.old.state self.old.sink self.new.sink }
     {
         self.state.try_write_msb(&mut self.sink, number, n)
     }
 
-    /// Fills pending bits with zeros to a byte, behind `Msb0` bits and above `Lsb0` bits, and gives it to the sink. It counts eight bits. Where
-    /// nothing is pending it changes nothing.
+    /// Fills pending bits with zeros to a byte, behind `Msb0` bits and above `Lsb0` bits, and gives
+    /// it to the sink. It counts eight bits. Where nothing is pending it changes nothing.
     ///
     /// Fails as `write_bits_order` does, and leaves the same.
     ///
@@ -315,7 +330,8 @@ impl WriterState {
 
     // Writes the bits to this sink.
     fn write<W: Sink>(&mut self, sink: &mut W, bits: &[bool], order: Order) -> Result<(), DekuError>
-        ensures writes { WritesAt (WritesBits order bits.now) (W.known sink.old) self.old result (W.known sink.new) self.new }
+        ensures writes { WritesAt (WritesBits order bits.now) (W.known sink.old) self.old result
+            (W.known sink.new) self.new }
         ensures stopped { Untouched self.old sink.old sink.new }
     {
         if let Some(fault) = self.fault {
@@ -343,7 +359,8 @@ impl WriterState {
 
     // Writes the bytes to this sink, in `Msb0`.
     fn write_bytes<W: Sink>(&mut self, sink: &mut W, bytes: &[u8]) -> Result<(), DekuError>
-        ensures writes { WritesAt (WritesBits Msb0 (bits_in bytes.now)) (W.known sink.old) self.old result (W.known sink.new) self.new }
+        ensures writes { WritesAt (WritesBits Msb0 (bits_in bytes.now)) (W.known sink.old) self.old
+            result (W.known sink.new) self.new }
         ensures stopped { Untouched self.old sink.old sink.new }
     {
         if let Some(kept) = self.fault {
@@ -379,7 +396,8 @@ impl WriterState {
     ) -> Result<(), DekuError>
         requires most { n ≤ 128 }
         requires inside { word < 2 ^ n }
-        ensures writes { WritesAt (WritesWord order n word) (W.known sink.old) self.old result (W.known sink.new) self.new }
+        ensures writes { WritesAt (WritesWord order n word) (W.known sink.old) self.old result
+            (W.known sink.new) self.new }
         ensures stopped { Untouched self.old sink.old sink.new }
     {
         if let Some(reason) = self.fault {
@@ -405,12 +423,14 @@ impl WriterState {
         }
     }
 
-    // Writes the bits of a number to this sink, the highest first, where nothing refuses them and they are laid, and whether it did.
+    // Writes the bits of a number to this sink, the highest first, where nothing refuses them and
+    // they are laid, and whether it did.
     #[inline(always)]
     fn try_write_msb<W: Sink>(&mut self, sink: &mut W, number: u64, n: usize) -> bool
         requires most { n ≤ 64 }
         requires inside { number < 2 ^ n }
-        ensures writes { IsTrue result → WritesAt (WritesBits Msb0 (bits_of n number)) (W.known sink.old) self.old (Ok tt) (W.known sink.new) self.new }
+        ensures writes { IsTrue result → WritesAt (WritesBits Msb0 (bits_of n number))
+            (W.known sink.old) self.old (Ok tt) (W.known sink.new) self.new }
         ensures stays { IsFalse result → (self.new ≡ self.old) × (sink.new ≡ sink.old) }
         ensures stopped { Untouched self.old sink.old sink.new }
     {
@@ -435,7 +455,8 @@ impl WriterState {
     // Writes as many zeros as the pending bits lack to a byte.
     #[inline(always)]
     fn finalize<W: Sink>(&mut self, sink: &mut W) -> Result<(), DekuError>
-        ensures writes { WritesAt Finalizes (W.known sink.old) self.old result (W.known sink.new) self.new }
+        ensures writes { WritesAt Finalizes (W.known sink.old) self.old result (W.known sink.new)
+            self.new }
         ensures stopped { Untouched self.old sink.old sink.new }
     {
         let lacking = (8 - self.held.len()) % 8;

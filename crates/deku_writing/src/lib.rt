@@ -1,4 +1,5 @@
-//! What can be written as bits: numbers, truth values, addresses, tuples, lists and what holds items.
+//! What can be written as bits: numbers, truth values, addresses, tuples, lists and what holds
+//! items.
 #![tactic(auto)]
 
 mod impls;

@@ -64,7 +64,8 @@ impl CString {
     /// CString::new(bytes)                                        // none of 61 00 62, since a zero is among them
     /// ```
     pub fn new(bytes: Vec<u8>) -> Option<CString>
-        ensures { MatchOption result (Contains bytes.items 0) (λ text. (text ≡ bytes.items) × NoZeros bytes.items) }
+        ensures { MatchOption result (Contains bytes.items 0)
+            (λ text. (text ≡ bytes.items) × NoZeros bytes.items) }
     {
         if bytes.as_slice().contains(&0) {
             None
@@ -85,8 +86,8 @@ impl CString {
         self.bytes.as_slice()
     }
 
-    /// The bytes and a zero behind them, in memory of `alloc`. It is refused with `Io(OutOfMemory)` where there is none, and with
-    /// nothing else.
+    /// The bytes and a zero behind them, in memory of `alloc`. It is refused with `Io(OutOfMemory)`
+    /// where there is none, and with nothing else.
     ///
     /// ```text
     /// text.as_bytes_with_nul(alloc)?                             // 61 62 00, of ab
@@ -122,7 +123,8 @@ fn read_byte<R: Source>(reader: &mut Reader<R>, bytes: &mut Vec<u8>) -> Result<u
 
 // Reads bytes up to the first zero, and that.
 fn read_to_zero<R: Source>(reader: &mut Reader<R>) -> Result<Vec<u8>, DekuError>
-    ensures reads { Reads R.known (Runs NoZeros (λ bytes. (text : List ℕ) × IsTerminated text bytes) ReadsByte) reader.old (on_value (λ v. v.items) result) reader.new }
+    ensures reads { Reads R.known (Runs NoZeros (λ bytes. (text : List ℕ) × IsTerminated text bytes)
+        ReadsByte) reader.old (on_value (λ v. v.items) result) reader.new }
     ensures early { OnOk result (NoReadAhead R.known reader.old reader.new) }
 {
     let mut bytes = Vec::new(reader.alloc());
@@ -140,7 +142,9 @@ fn read_to_zero<R: Source>(reader: &mut Reader<R>) -> Result<Vec<u8>, DekuError>
 
 // Reads so many bytes.
 fn read_count<R: Source>(reader: &mut Reader<R>, count: usize) -> Result<Vec<u8>, DekuError>
-    ensures reads { Reads R.known (Runs (λ bytes. length bytes < count) (λ bytes. length bytes ≡ count) ReadsByte) reader.old (on_value (λ v. v.items) result) reader.new }
+    ensures reads { Reads R.known (Runs (λ bytes. length bytes < count)
+        (λ bytes. length bytes ≡ count) ReadsByte) reader.old (on_value (λ v. v.items) result)
+        reader.new }
     ensures early { OnOk result (NoReadAhead R.known reader.old reader.new) }
 {
     let mut bytes = Vec::new(reader.alloc());
@@ -156,7 +160,8 @@ fn read_count<R: Source>(reader: &mut Reader<R>, count: usize) -> Result<Vec<u8>
 // The text before a zero at the end of bytes, where there is no other zero.
 fn unended(bytes: Vec<u8>) -> Result<CString, DekuError>
     ensures ok { IfOk result (λ text. IsTerminated text bytes.items) }
-    ensures err { IfErr result (λ e. ((text : List ℕ) → IsTerminated text bytes.items → ⊥) × Tells Parse (codes "Failed to convert Vec to CString") e) }
+    ensures err { IfErr result (λ e. ((text : List ℕ) → IsTerminated text bytes.items → ⊥)
+        × Tells Parse (codes "Failed to convert Vec to CString") e) }
 {
     let mut text = bytes;
     if let Some(0) = text.pop() {
@@ -169,15 +174,11 @@ fn unended(bytes: Vec<u8>) -> Result<CString, DekuError>
 
 /// Bytes up to the first zero, which is read too; each is read as a `u8` under `()`.
 ///
-/// It is refused as one of those reads is, or with `Io(OutOfMemory)` where no memory is found for a byte that was read: the reader is
-/// behind that byte then.
+/// It is refused as one of those reads is, or with `Io(OutOfMemory)` where no memory is found for a
+/// byte that was read: the reader is behind that byte then.
 impl DekuReader<()> for CString {
     ghost use Rattle.std.specs.Prelude.{◌≡◌};
     ghost use Rattle.deku.specs.Texts.{ReadsTerminated};
-
-    ghost accepts = { λ c. c ≡ c };
-
-    ghost no_read_ahead = { λ c. c ≡ c };
 
     ghost meaning = { λ _. ReadsTerminated };
 
@@ -191,16 +192,13 @@ impl DekuReader<()> for CString {
 
 /// So many bytes, the last a zero and no other one; each is read as a `u8` under `()`.
 ///
-/// It is refused as one of those reads is, or with `Io(OutOfMemory)` where no memory is found for a byte that was read: the reader is
-/// behind that byte then. Where the last byte is no zero, or an earlier one is, or there is none, it is refused with
+/// It is refused as one of those reads is, or with `Io(OutOfMemory)` where no memory is found for a
+/// byte that was read: the reader is behind that byte then. Where the last byte is no zero, or an
+/// earlier one is, or there is none, it is refused with
 /// `Parse("Failed to convert Vec to CString")`, behind all of them.
 impl DekuReader<ByteSize> for CString {
     ghost use Rattle.std.specs.Prelude.{◌≡◌};
     ghost use Rattle.deku.specs.Texts.{ReadsWithin};
-
-    ghost accepts = { λ c. c ≡ c };
-
-    ghost no_read_ahead = { λ c. c ≡ c };
 
     ghost meaning = { λ c. ReadsWithin c.0 };
 
@@ -215,8 +213,9 @@ impl DekuReader<ByteSize> for CString {
     }
 }
 
-/// The bytes and a zero, each written as a `u8` under the context, one after the other. It takes no memory. The refusal is that of the
-/// first byte that is refused, and what the bytes before it moved stays moved.
+/// The bytes and a zero, each written as a `u8` under the context, one after the other. It takes no
+/// memory. The refusal is that of the first byte that is refused, and what the bytes before it
+/// moved stays moved.
 impl<C: NumberCtx> DekuWriter<C> for CString {
     ghost use Rattle.std.specs.Prelude.{◌≡◌, pos};
     ghost use Rattle.deku_num.specs.Numbers.{byte};
@@ -224,9 +223,8 @@ impl<C: NumberCtx> DekuWriter<C> for CString {
     ghost use Rattle.deku_meanings.specs.Composing.{Both};
     ghost use Rattle.deku_writing.specs.Composing.{WritesEach};
 
-    ghost accepts = { λ c. c ≡ c };
-
-    ghost meaning = { λ text c. Both (WritesEach (λ b. WritesNumber byte (C.layout_of c) (pos b)) text) (WritesNumber byte (C.layout_of c) (pos 0)) };
+    ghost meaning = { λ text c. Both (WritesEach (λ b. WritesNumber byte (C.layout_of c) (pos b))
+        text) (WritesNumber byte (C.layout_of c) (pos 0)) };
 
     fn to_writer<W: Sink>(&self, writer: &mut Writer<W>, ctx: C) -> Result<(), DekuError> {
         match self.as_bytes().to_writer(writer, ctx) {

@@ -152,7 +152,8 @@ fn fill_bytes<R: Source>(
 
 const AA: [Step; 2] = [Step::Fill(1, Msb0, Ok(&[0xAA])), Step::Count(8)];
 
-// The reader has stopped with the fault: so each call answers, no bit is left over, and the count is still eight.
+// The reader has stopped with the fault: so each call answers, no bit is left over, and the count
+// is still eight.
 const STOPPED: [Step; 7] = [
     Step::Into(0, Lsb0, Err(FAILED)),
     Step::Skip(0, Msb0, Err(FAILED)),
@@ -163,8 +164,8 @@ const STOPPED: [Step; 7] = [
     Step::Count(8),
 ];
 
-// Takes three bytes behind one, where the nth call behind that one fails: it is answered and kept until a seek. It answers whether memory
-// was refused.
+// Takes three bytes behind one, where the nth call behind that one fails: it is answered and kept
+// until a seek. It answers whether memory was refused.
 fn expect_taken(rt: &impl Abort, alloc: Global, case: (Way, usize), n: usize) -> bool {
     let bytes: &[u8] = &[0xAA, 0xBB, 0xCC, 0xDD];
     let source = FailAt::new(Cursor::new(bytes), n.saturating_add(1));
@@ -190,8 +191,8 @@ fn expect_taken_from<R: Source + Drop>(
     lacks
 }
 
-// The reader fails in this way and stops with the fault, at the place behind the calls that succeeded, until a seek. It answers whether
-// memory was refused.
+// The reader fails in this way and stops with the fault, at the place behind the calls that
+// succeeded, until a seek. It answers whether memory was refused.
 fn expect_failed<R: Source>(rt: &impl Abort, row: Row, reader: &mut Reader<R>, way: Way) -> bool {
     let failed = Err(FAILED.error());
     let once = take_three(rt, row, reader, way);

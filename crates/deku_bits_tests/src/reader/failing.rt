@@ -1,5 +1,7 @@
 //! Reads over a source that fails in the middle, and how often it is asked for bytes and for seeks.
 
+ghost use Rattle.deku_bits.specs.Devices.{unknown_source};
+
 use crate::same::same;
 use crate::taken::{Left, Step, walk_source};
 use deku_bits::ctx::Order::{Lsb0, Msb0};
@@ -11,8 +13,8 @@ use std::io::{Cursor, Error, ErrorKind, Read, Seek, SeekFrom};
 use std::process::Abort;
 use std::test::Fail;
 
-// A source that gives so many bytes, then fails, and after each fault gives so many more. It passes none, and counts the fetches and the
-// seeks that it is asked for.
+// A source that gives so many bytes, then fails, and after each fault gives so many more. It passes
+// none, and counts the fetches and the seeks that it is asked for.
 #[derive(Drop)]
 struct Failing<'a> {
     bytes: Cursor<&'a [u8]>,
@@ -37,8 +39,6 @@ impl<'a> Seek for Failing<'a> {
 
 // It tells nothing.
 impl<'a> Source for Failing<'a> {
-    ghost use Rattle.deku_bits.specs.Devices.{unknown_source};
-
     ghost known = { λ _. unknown_source };
 
     ghost known_by_place = { λ s at all p. Prim.cc };
@@ -62,8 +62,8 @@ impl<'a> Source for Failing<'a> {
     }
 }
 
-// Bytes; how many are given before a fault, and after it; the steps; how many fetches and how many seeks were asked for, and where the
-// source is left.
+// Bytes; how many are given before a fault, and after it; the steps; how many fetches and how many
+// seeks were asked for, and where the source is left.
 type Fault = (
     &'static [u8],
     usize,

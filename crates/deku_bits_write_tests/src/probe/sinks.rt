@@ -26,7 +26,8 @@ enum Way {
     Padding(Order),
 }
 
-// Each way, how many calls on the sink it makes, one for each byte, and what the sink holds behind its first byte then.
+// Each way, how many calls on the sink it makes, one for each byte, and what the sink holds behind
+// its first byte then.
 const WAYS: [(Way, usize, [u8; 3]); 5] = [
     (Way::Bits(Msb0), 3, [0xBB, 0xCC, 0xDD]),
     (Way::Bits(Lsb0), 3, [0xBB, 0xCC, 0xDD]),
@@ -47,8 +48,8 @@ fn write<W: Sink>(writer: &mut Writer<W>, way: Way) -> Result<(), DekuError> {
     }
 }
 
-// The writer fails in this way and stops with the fault, at the place behind the calls that succeeded, until a seek. It answers whether
-// memory was refused.
+// The writer fails in this way and stops with the fault, at the place behind the calls that
+// succeeded, until a seek. It answers whether memory was refused.
 fn expect_failed<W: Sink>(
     alloc: Global,
     row: Row,
@@ -69,8 +70,8 @@ fn expect_failed<W: Sink>(
 
 const AA: [Put; 2] = [Put::Bytes(&[0xAA], Ok(())), Put::Count(8)];
 
-// Writes behind one byte, where the nth of so many calls behind that one fails: it is answered and kept until a seek. It answers whether
-// memory was refused.
+// Writes behind one byte, where the nth of so many calls behind that one fails: it is answered and
+// kept until a seek. It answers whether memory was refused.
 fn write_failing<W: Sink + Drop>(
     rt: &impl Abort,
     alloc: Global,

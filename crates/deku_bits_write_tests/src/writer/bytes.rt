@@ -25,7 +25,8 @@ const AMONG: [Grown; 1] = [(
     &[0xAA, 0xBB, 0xF1, 0xAA, 0x1F, 0x1A, 0xAF],
 )];
 
-// Bits in an order, bytes written onto them, what is pending then, and what the sink has been given.
+// Bits in an order, bytes written onto them, what is pending then, and what the sink has been
+// given.
 const ONTO: [Grown; 4] = [
     (
         &[

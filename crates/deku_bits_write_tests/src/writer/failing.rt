@@ -1,5 +1,7 @@
 //! Writes to a sink that counts its calls, and that may fail in the middle.
 
+ghost use Rattle.deku_bits.specs.Devices.{unknown_sink};
+
 use crate::given::{Put, give_sink};
 use deku_bits::ctx::Order::{Lsb0, Msb0};
 use deku_bits::device::Sink;
@@ -9,7 +11,8 @@ use std::io;
 use std::io::{Error, ErrorKind, Seek, SeekFrom, Write};
 use std::test::Fail;
 
-// A sink that takes so many bytes, fails once, and then takes as many as there are. It counts the calls.
+// A sink that takes so many bytes, fails once, and then takes as many as there are. It counts the
+// calls.
 #[derive(Drop)]
 struct Failing {
     good: usize,
@@ -34,8 +37,6 @@ impl Seek for Failing {
 
 // It tells nothing.
 impl Sink for Failing {
-    ghost use Rattle.deku_bits.specs.Devices.{unknown_sink};
-
     ghost known = { λ _. unknown_sink };
 
     fn give(&mut self, bytes: &[u8]) -> io::Result<()> {
@@ -88,7 +89,8 @@ const CALLS: [Calls; 8] = [
     (9, &[Put::Word(0x89ABCDEF, 32, Msb0, Ok(()))], 1),
     (9, &[Put::Word(0x89ABCDEF, 32, Lsb0, Ok(()))], 1),
     (16, &[Put::Word(u128::MAX, 128, Lsb0, Ok(()))], 1),
-    // Onto bits of its order a word's bytes are given at once too; bits that fill no byte are not given.
+    // Onto bits of its order a word's bytes are given at once too; bits that fill no byte are not
+    // given.
     (
         9,
         &[

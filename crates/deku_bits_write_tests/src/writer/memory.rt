@@ -1,4 +1,5 @@
-//! Writes where memory may be refused: to a vector that has to grow, and of the pending bits into a new one.
+//! Writes where memory may be refused: to a vector that has to grow, and of the pending bits into a
+//! new one.
 
 use crate::given::{Put, expect_kept, give_sink, give_steps};
 use deku_bits::ctx::Order::Msb0;
@@ -15,8 +16,8 @@ const TWELVE: [bool; 12] = [
     true, false, true, false, false, true, false, true, true, true, false, false,
 ];
 
-// The twelve bits are written forty times, or until memory is refused, and then the writer has stopped: how many bits are counted, whether
-// memory was refused, and the sink.
+// The twelve bits are written forty times, or until memory is refused, and then the writer has
+// stopped: how many bits are counted, whether memory was refused, and the sink.
 fn write_forty<S: Sink + Drop>(alloc: Global, sink: S) -> Result<(usize, bool, S), Fail> {
     let mut writer = Writer::new(sink);
     let mut count = 0;

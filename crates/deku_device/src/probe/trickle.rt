@@ -16,7 +16,8 @@ use crate::device::Source;
 use std::io;
 use std::io::{Cursor, ErrorKind, Read, Seek, SeekFrom};
 
-/// A source over bytes in memory that gives one byte at a time. It tells its bytes, and does not fail.
+/// A source over bytes in memory that gives one byte at a time. It tells its bytes, and does not
+/// fail.
 ///
 /// ```text
 /// let mut reader = Reader::new(alloc, Trickle::new(bytes)); // 01 02
@@ -48,7 +49,8 @@ impl<'a> Read for Trickle<'a> {
 
     fn read(&mut self, buf: &mut [u8]) -> io::Result<usize>
         ensures bound { ReadsAtMost result buf.new }
-        ensures bytes { ReadConsumes (trickling self.old).remaining (trickling self.new).remaining result buf.new }
+        ensures bytes { ReadConsumes (trickling self.old).remaining (trickling self.new).remaining
+            result buf.new }
         ensures one { IfOk result (λ n. n ≤ 1) }
         ensures ok { IsOk result }
     {
@@ -63,8 +65,11 @@ impl<'a> Seek for Trickle<'a> {
     ghost stream_bytes = { λ s. Some (cursor_inner s.inner).now };
 
     fn seek(&mut self, to: SeekFrom) -> io::Result<u64>
-        ensures moves { SeekMoves (Some (cursor_position self.old.inner)) (Some (cursor_position self.new.inner)) (Some (cursor_inner self.old.inner).now) to result }
-        ensures bytes { Keeps (Some (cursor_inner self.old.inner).now) (Some (cursor_inner self.new.inner).now) }
+        ensures moves { SeekMoves (Some (cursor_position self.old.inner))
+            (Some (cursor_position self.new.inner)) (Some (cursor_inner self.old.inner).now) to
+            result }
+        ensures bytes { Keeps (Some (cursor_inner self.old.inner).now)
+            (Some (cursor_inner self.new.inner).now) }
         ensures target { IsSeekResult to (cursor_position self.old.inner) result }
         ensures from_end { IsSeekFromEnd to (length (cursor_inner self.old.inner).now) result }
         ensures inner { cursor_inner self.new.inner ≡ cursor_inner self.old.inner }
@@ -75,8 +80,11 @@ impl<'a> Seek for Trickle<'a> {
 
 // Fetches one byte of the cursor.
 fn trickled_byte(source: &mut Trickle<'_>) -> io::Result<u8>
-    ensures bytes { IfOk result (λ b. Consumes (trickling source.old).remaining (trickling source.new).remaining (b ∷ [])) }
-    ensures err { IfErr result (λ e. (error_kind e ≡ ErrorKind.UnexpectedEof) × FewerThan 1 (trickling source.old).remaining × StaysEmpty (trickling source.old).remaining (trickling source.new).remaining) }
+    ensures bytes { IfOk result (λ b. Consumes (trickling source.old).remaining
+        (trickling source.new).remaining (b ∷ [])) }
+    ensures err { IfErr result (λ e. (error_kind e ≡ ErrorKind.UnexpectedEof)
+        × FewerThan 1 (trickling source.old).remaining
+        × StaysEmpty (trickling source.old).remaining (trickling source.new).remaining) }
     ensures kept { DeviceKept (trickling source.old).health (trickling source.new).health }
     ensures inner { cursor_inner source.new.inner ≡ cursor_inner source.old.inner }
 {
@@ -91,10 +99,14 @@ impl<'a> Source for Trickle<'a> {
     ghost known_by_place = { λ s at all. cursor_known (λ b. Some b.now) s.inner at all };
 
     fn fetch(&mut self, buf: &mut [u8]) -> io::Result<()>
-        ensures bytes { OnOk result (Consumes (trickling self.old).remaining (trickling self.new).remaining buf.new) }
-        ensures short { IfErr result (λ e. error_kind e ≡ ErrorKind.UnexpectedEof → FewerThan (length buf.old) (trickling self.old).remaining) }
-        ensures ended { IfErr result (λ e. error_kind e ≡ ErrorKind.UnexpectedEof → StaysEmpty (trickling self.old).remaining (trickling self.new).remaining) }
-        ensures failed { IfErr result (λ e. error_kind e ≢ ErrorKind.UnexpectedEof → DeviceFailed (trickling self.old).health (trickling self.new).health) }
+        ensures bytes { OnOk result (Consumes (trickling self.old).remaining
+            (trickling self.new).remaining buf.new) }
+        ensures short { IfErr result (λ e. error_kind e ≡ ErrorKind.UnexpectedEof
+            → FewerThan (length buf.old) (trickling self.old).remaining) }
+        ensures ended { IfErr result (λ e. error_kind e ≡ ErrorKind.UnexpectedEof
+            → StaysEmpty (trickling self.old).remaining (trickling self.new).remaining) }
+        ensures failed { IfErr result (λ e. error_kind e ≢ ErrorKind.UnexpectedEof
+            → DeviceFailed (trickling self.old).health (trickling self.new).health) }
         ensures kept { DeviceKept (trickling self.old).health (trickling self.new).health }
         // Where it is refused, each byte is given.
         ensures spent { OnErr result ((trickling self.new).remaining ≡ Some []) }
@@ -107,22 +119,29 @@ impl<'a> Source for Trickle<'a> {
 
     fn pass(&mut self, n: u64) -> io::Result<()>
         requires { n < 2 ^ 63 }
-        ensures bytes { OnOk result (Passes n (trickling self.old).remaining (trickling self.new).remaining) }
-        ensures failed { IfErr result (λ e. DeviceFailed (trickling self.old).health (trickling self.new).health) }
+        ensures bytes { OnOk result (Passes n (trickling self.old).remaining
+            (trickling self.new).remaining) }
+        ensures failed { IfErr result (λ e. DeviceFailed (trickling self.old).health
+            (trickling self.new).health) }
         ensures kept { DeviceKept (trickling self.old).health (trickling self.new).health }
         ensures ok { IsOk result }
         // It may pass the end, as a seek does.
-        ensures place { cursor_position self.new.inner ≡ place_on (cursor_position self.old.inner) n }
+        ensures place { cursor_position self.new.inner ≡ place_on (cursor_position self.old.inner)
+            n }
         ensures inner { cursor_inner self.new.inner ≡ cursor_inner self.old.inner }
     {
         self.inner.pass(n)
     }
 
     fn seek_to(&mut self, to: SeekFrom) -> io::Result<u64>
-        ensures moves { SeekMoves (Some (cursor_position self.old.inner)) (Some (cursor_position self.new.inner)) (Some (cursor_inner self.old.inner).now) to result }
-        ensures all { Keeps (Some (cursor_inner self.old.inner).now) (Some (cursor_inner self.new.inner).now) }
+        ensures moves { SeekMoves (Some (cursor_position self.old.inner))
+            (Some (cursor_position self.new.inner)) (Some (cursor_inner self.old.inner).now) to
+            result }
+        ensures all { Keeps (Some (cursor_inner self.old.inner).now)
+            (Some (cursor_inner self.new.inner).now) }
         ensures sought { Seeks (trickling self.old).health (trickling self.new).health to result }
-        ensures refused { RefusedSeek (trickling self.old).health (trickling self.new).health to result }
+        ensures refused { RefusedSeek (trickling self.old).health (trickling self.new).health to
+            result }
         ensures remaining { ComesFrom (trickling self.old).health.whole result (trickling self.new) }
         ensures inner { cursor_inner self.new.inner ≡ cursor_inner self.old.inner }
     {

@@ -1,8 +1,14 @@
 //! The primary header of a packet.
 
+ghost use Rattle.std.specs.Prelude.{refl};
+ghost use Rattle.deku_formats.specs.Ccsds.{samples_behind};
+ghost use Rattle.deku.specs.Outcomes.{Mapped};
+
 use deku::device::{Sink, Source};
 use deku::prelude::{DekuError, DekuReader, DekuWriter, Reader, Writer};
-use deku_symmetry::{ItemCount, ItemCountLaw, Msb, FromParts, Record, ToParts, read_record, write_record};
+use deku_symmetry::{
+    FromParts, ItemCount, ItemCountLaw, Msb, Record, ToParts, read_record, write_record,
+};
 
 /// The primary header.
 #[derive(Debug, PartialEq, Eq, Drop)]
@@ -31,12 +37,16 @@ type Parts = (
 );
 
 impl FromParts<()> for Header {
-    ghost use Rattle.std.specs.Prelude.{refl};
-
     type Parts = Parts;
 
     ghost parts_of = { λ r. (
-      (record { 0 = r.version }, record { 0 = r.kind }, record { 0 = r.secondary }, record { 0 = r.application }),
+      (
+        record { 0 = r.version },
+        record { 0 = r.kind },
+        record { 0 = r.secondary },
+        record
+            { 0 = r.application },
+      ),
       (record { 0 = r.grouping }, record { 0 = r.count }),
       record { 0 = r.length },
     ) };
@@ -85,8 +95,6 @@ impl ToParts<()> for Header {
 
 /// Four samples for each eleven bytes; other counts of bytes name none.
 impl ItemCount for Header {
-    ghost use Rattle.deku_formats.specs.Ccsds.{samples_behind};
-
     ghost count_of = { λ h. samples_behind h.length };
 
     #[tactic(auto, unfolding(crate::specs::Ccsds::samples_behind))]
@@ -101,14 +109,10 @@ impl ItemCount for Header {
 }
 
 impl ItemCountLaw for Header {
-    ghost use Rattle.std.specs.Prelude.{refl};
-
     ghost alike = { λ v w e. rw e.1.1 refl };
 }
 
 impl Record for Header {
-    ghost use Rattle.std.specs.Prelude.{refl};
-
     ghost back = { λ p ps h. refl };
 
     ghost reads = { λ b s r u m. m };
@@ -117,13 +121,12 @@ impl Record for Header {
 }
 
 impl DekuReader<()> for Header {
-    ghost use Rattle.deku.specs.Outcomes.{Mapped};
-
     ghost accepts = { ⟦<Parts as DekuReader<()>>⟧.accepts };
 
     ghost no_read_ahead = { ⟦<Parts as DekuReader<()>>⟧.no_read_ahead };
 
-    ghost meaning = { λ _. Mapped ⟦<Header as FromParts<()>>⟧.record_of (⟦<Parts as DekuReader<()>>⟧.meaning tt) };
+    ghost meaning = { λ _. Mapped ⟦<Header as FromParts<()>>⟧.record_of
+        (⟦<Parts as DekuReader<()>>⟧.meaning tt) };
 
     fn from_reader_with_ctx<R: Source>(
         reader: &mut Reader<R>,
@@ -136,7 +139,8 @@ impl DekuReader<()> for Header {
 impl DekuWriter<()> for Header {
     ghost accepts = { ⟦<Parts as DekuWriter<()>>⟧.accepts };
 
-    ghost meaning = { λ v _. ⟦<Parts as DekuWriter<()>>⟧.meaning (⟦<Header as FromParts<()>>⟧.parts_of v) tt };
+    ghost meaning = { λ v _. ⟦<Parts as DekuWriter<()>>⟧.meaning
+        (⟦<Header as FromParts<()>>⟧.parts_of v) tt };
 
     fn to_writer<W: Sink>(&self, writer: &mut Writer<W>, _ctx: ()) -> Result<(), DekuError> {
         write_record(self, writer, ())

@@ -1,8 +1,11 @@
 //! A sample of telemetry.
 
+ghost use Rattle.std.specs.Prelude.{refl};
+ghost use Rattle.deku.specs.Outcomes.{Mapped};
+
 use deku::device::{Sink, Source};
 use deku::prelude::{DekuError, DekuReader, DekuWriter, Reader, Writer};
-use deku_symmetry::{Msb, FromParts, Record, ToParts, read_record, write_record};
+use deku_symmetry::{FromParts, Msb, Record, ToParts, read_record, write_record};
 
 /// A voltage and a current.
 #[derive(Debug, PartialEq, Eq, Drop)]
@@ -17,8 +20,6 @@ pub struct Sample {
 type Parts = (Msb<u16, 10>, Msb<u16, 12>);
 
 impl FromParts<()> for Sample {
-    ghost use Rattle.std.specs.Prelude.{refl};
-
     type Parts = Parts;
 
     ghost parts_of = { λ r. (record { 0 = r.voltage }, record { 0 = r.current }) };
@@ -40,8 +41,6 @@ impl ToParts<()> for Sample {
 }
 
 impl Record for Sample {
-    ghost use Rattle.std.specs.Prelude.{refl};
-
     ghost back = { λ p ps h. refl };
 
     ghost reads = { λ b s r u m. m };
@@ -50,13 +49,12 @@ impl Record for Sample {
 }
 
 impl DekuReader<()> for Sample {
-    ghost use Rattle.deku.specs.Outcomes.{Mapped};
-
     ghost accepts = { ⟦<Parts as DekuReader<()>>⟧.accepts };
 
     ghost no_read_ahead = { ⟦<Parts as DekuReader<()>>⟧.no_read_ahead };
 
-    ghost meaning = { λ _. Mapped ⟦<Sample as FromParts<()>>⟧.record_of (⟦<Parts as DekuReader<()>>⟧.meaning tt) };
+    ghost meaning = { λ _. Mapped ⟦<Sample as FromParts<()>>⟧.record_of
+        (⟦<Parts as DekuReader<()>>⟧.meaning tt) };
 
     fn from_reader_with_ctx<R: Source>(
         reader: &mut Reader<R>,
@@ -69,7 +67,8 @@ impl DekuReader<()> for Sample {
 impl DekuWriter<()> for Sample {
     ghost accepts = { ⟦<Parts as DekuWriter<()>>⟧.accepts };
 
-    ghost meaning = { λ v _. ⟦<Parts as DekuWriter<()>>⟧.meaning (⟦<Sample as FromParts<()>>⟧.parts_of v) tt };
+    ghost meaning = { λ v _. ⟦<Parts as DekuWriter<()>>⟧.meaning
+        (⟦<Sample as FromParts<()>>⟧.parts_of v) tt };
 
     fn to_writer<W: Sink>(&self, writer: &mut Writer<W>, _ctx: ()) -> Result<(), DekuError> {
         write_record(self, writer, ())

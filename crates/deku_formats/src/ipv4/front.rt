@@ -1,10 +1,13 @@
 //! The header of an IPv4 packet without its options.
 
+ghost use Rattle.std.specs.Prelude.{refl, ◌-◌, ◌*◌, nat_lt, cond, Some, None};
+ghost use Rattle.deku.specs.Outcomes.{Mapped};
+
 use crate::ipv4::Version;
 use deku::device::{Sink, Source};
 use deku::prelude::{DekuError, DekuReader, DekuWriter, Reader, Writer};
 use deku_symmetry::{
-    Be, ItemCount, Magic, ItemCountLaw, Msb, FromParts, Record, ToParts, read_record, write_record,
+    Be, FromParts, ItemCount, ItemCountLaw, Magic, Msb, Record, ToParts, read_record, write_record,
 };
 use std::net::Ipv4Addr;
 
@@ -52,12 +55,17 @@ type Parts = (
 );
 
 impl FromParts<()> for Front {
-    ghost use Rattle.std.specs.Prelude.{refl};
-
     type Parts = Parts;
 
     ghost parts_of = { λ r. (
-      (record { part = record {}; constant = record {} }, record { 0 = r.words }, record { 0 = r.service }, record { 0 = r.congestion }, record { 0 = r.total_length }),
+      (
+        record { part = record {}; constant = record {} },
+        record { 0 = r.words },
+        record
+            { 0 = r.service },
+        record { 0 = r.congestion },
+        record { 0 = r.total_length },
+      ),
       (record { 0 = r.identification }, record { 0 = r.flags }, record { 0 = r.fragment_offset }),
       (r.time_to_live, r.protocol, record { 0 = r.checksum }),
       (record { 0 = r.source }, record { 0 = r.destination }),
@@ -124,10 +132,9 @@ impl ToParts<()> for Front {
     }
 }
 
-/// Four bytes of options for each word beyond the fifth; a header of fewer than five words names no count.
+/// Four bytes of options for each word beyond the fifth; a header of fewer than five words names no
+/// count.
 impl ItemCount for Front {
-    ghost use Rattle.std.specs.Prelude.{◌-◌, ◌*◌, nat_lt, cond, Some, None};
-
     ghost count_of = { λ h. cond (nat_lt h.words 5) None (Some (4 * (h.words - 5))) };
 
     fn count(&self) -> Option<usize> {
@@ -140,14 +147,10 @@ impl ItemCount for Front {
 }
 
 impl ItemCountLaw for Front {
-    ghost use Rattle.std.specs.Prelude.{refl};
-
     ghost alike = { λ v w e. rw e.0.1.0 refl };
 }
 
 impl Record for Front {
-    ghost use Rattle.std.specs.Prelude.{refl};
-
     ghost back = { λ p ps h. refl };
 
     ghost reads = { λ b s r u m. m };
@@ -156,13 +159,12 @@ impl Record for Front {
 }
 
 impl DekuReader<()> for Front {
-    ghost use Rattle.deku.specs.Outcomes.{Mapped};
-
     ghost accepts = { ⟦<Parts as DekuReader<()>>⟧.accepts };
 
     ghost no_read_ahead = { ⟦<Parts as DekuReader<()>>⟧.no_read_ahead };
 
-    ghost meaning = { λ _. Mapped ⟦<Front as FromParts<()>>⟧.record_of (⟦<Parts as DekuReader<()>>⟧.meaning tt) };
+    ghost meaning = { λ _. Mapped ⟦<Front as FromParts<()>>⟧.record_of
+        (⟦<Parts as DekuReader<()>>⟧.meaning tt) };
 
     fn from_reader_with_ctx<R: Source>(
         reader: &mut Reader<R>,
@@ -175,7 +177,8 @@ impl DekuReader<()> for Front {
 impl DekuWriter<()> for Front {
     ghost accepts = { ⟦<Parts as DekuWriter<()>>⟧.accepts };
 
-    ghost meaning = { λ v _. ⟦<Parts as DekuWriter<()>>⟧.meaning (⟦<Front as FromParts<()>>⟧.parts_of v) tt };
+    ghost meaning = { λ v _. ⟦<Parts as DekuWriter<()>>⟧.meaning
+        (⟦<Front as FromParts<()>>⟧.parts_of v) tt };
 
     fn to_writer<W: Sink>(&self, writer: &mut Writer<W>, _ctx: ()) -> Result<(), DekuError> {
         write_record(self, writer, ())

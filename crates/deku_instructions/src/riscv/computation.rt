@@ -1,15 +1,25 @@
 //! Words that compute, as a tail of the choice.
 
+ghost use Rattle.std.specs.Prelude.{refl};
+ghost use Rattle.deku.specs.Outcomes.{Mapped};
+ghost use Rattle.deku_pieces.proofs.Turned.{mapped_symmetric};
+ghost use Rattle.deku_pieces.proofs.Choices.{choice_symmetric};
+ghost use Rattle.deku_instructions.specs.contracts.riscv.immediate.ImmediateSymmetricUnit.TheImpl.Laws.{symmetric-law as immediate};
+ghost use Rattle.deku_instructions.specs.contracts.riscv.upper.UpperSymmetricUnit.TheImpl.Laws.{symmetric-law as upper};
+ghost use Rattle.deku_instructions.specs.contracts.riscv.register.RegisterSymmetricUnit.TheImpl.Laws.{symmetric-law as register};
+ghost use Rattle.deku_instructions.specs.Words.{computations_own};
+
 use crate::riscv::immediate::Immediate;
 use crate::riscv::register::Register;
 use crate::riscv::transfer::Transfer;
 use crate::riscv::upper::Upper;
 use deku::device::{Sink, Source};
 use deku::prelude::{DekuError, DekuReader, DekuWriter, Reader, Writer};
-use deku_symmetry::{Choice, HasIdLaw, HasId, FromParts, Symmetric, read_record};
+use deku_symmetry::{Choice, FromParts, HasId, HasIdLaw, Symmetric, read_record};
 
-/// Computations, under 0x13, 0x17, 0x33 and 0x37, or transfers of control. They are read under a code that was read before; another code than these is refused with
-/// `IdVariantNotFound`, and nothing moves.
+/// Computations, under 0x13, 0x17, 0x33 and 0x37, or transfers of control. They are read under a
+/// code that was read before; another code than these is refused with `IdVariantNotFound`, and
+/// nothing moves.
 #[derive(Debug, PartialEq, Eq, Drop)]
 pub struct Computation(pub Computations);
 
@@ -29,8 +39,6 @@ impl HasId for Computation {
 }
 
 impl FromParts<u8> for Computation {
-    ghost use Rattle.std.specs.Prelude.{refl};
-
     type Parts = Computations;
 
     ghost parts_of = { λ v. v.0 };
@@ -45,13 +53,12 @@ impl FromParts<u8> for Computation {
 }
 
 impl DekuReader<u8> for Computation {
-    ghost use Rattle.deku.specs.Outcomes.{Mapped};
-
     ghost accepts = { ⟦<Computations as DekuReader<u8>>⟧.accepts };
 
     ghost no_read_ahead = { ⟦<Computations as DekuReader<u8>>⟧.no_read_ahead };
 
-    ghost meaning = { λ id. Mapped (λ k. record { 0 = k }) (⟦<Computations as DekuReader<u8>>⟧.meaning id) };
+    ghost meaning = { λ id. Mapped (λ k. record { 0 = k })
+        (⟦<Computations as DekuReader<u8>>⟧.meaning id) };
 
     fn from_reader_with_ctx<R: Source>(reader: &mut Reader<R>, id: u8) -> Result<Self, DekuError> {
         read_record(reader, id)
@@ -70,26 +77,26 @@ impl DekuWriter<u8> for Computation {
 
 /// The pieces of what was chosen.
 impl Symmetric<u8> for Computation {
-    ghost use Rattle.std.specs.Prelude.{refl};
-    ghost use Rattle.deku_pieces.proofs.Turned.{mapped_symmetric};
-    ghost use Rattle.deku_pieces.proofs.Choices.{choice_symmetric};
-    ghost use Rattle.deku_instructions.specs.contracts.riscv.immediate.ImmediateSymmetricUnit.TheImpl.Laws.{symmetric-law as immediate};
-    ghost use Rattle.deku_instructions.specs.contracts.riscv.upper.UpperSymmetricUnit.TheImpl.Laws.{symmetric-law as upper};
-    ghost use Rattle.deku_instructions.specs.contracts.riscv.register.RegisterSymmetricUnit.TheImpl.Laws.{symmetric-law as register};
     ghost use Rattle.deku_instructions.specs.contracts.riscv.transfer.TransferSymmetricU8.TheImpl.Laws.{symmetric-law as transfer};
 
     ghost pieces = { λ v id. ⟦<Computations as Symmetric<u8>>⟧.pieces v.0 id };
 
     ghost same = { λ v w. ⟦<Computations as Symmetric<u8>>⟧.same v.0 w.0 };
 
-    ghost symmetric = { λ id. mapped_symmetric (λ k. record { 0 = k }) (λ v. v.0) _ _ _ _ (λ k. refl)
-        (choice_symmetric 0x13 id (immediate tt) (choice_symmetric 0x17 id (upper tt) (choice_symmetric 0x33 id (register tt) (choice_symmetric 0x37 id (upper tt) (transfer id))))) };
+    ghost symmetric = { λ id. mapped_symmetric (λ k. record { 0 = k }) (λ v. v.0) _ _ _ _
+        (λ k. refl)
+        (choice_symmetric 0x13 id (immediate tt)
+        (choice_symmetric 0x17 id (upper tt)
+        (choice_symmetric 0x33 id (register tt)
+        (choice_symmetric 0x37 id (upper tt) (transfer id))))) };
 }
 
 impl HasIdLaw for Computation {
-    ghost use Rattle.deku_instructions.specs.Words.{computations_own};
-    ghost use Rattle.deku_instructions.specs.contracts.riscv.transfer.TransferKinds.TheImpl.Laws.{own-law as transfer};
+    ghost use Rattle.deku_instructions.specs.contracts.riscv.transfer.TransferHasIdLaw.TheImpl.Laws.{own-law as transfer};
 
-    ghost own = { λ v id ps p. computations_own id (λ a. ⟦<Immediate as Symmetric<()>>⟧.pieces a tt) (λ a. ⟦<Upper as Symmetric<()>>⟧.pieces a tt) (λ a. ⟦<Register as Symmetric<()>>⟧.pieces a tt)
-        (λ g. ⟦<Transfer as Symmetric<u8>>⟧.pieces g id) ⟦<Transfer as HasId>⟧.id_of (λ g. transfer g id) v.0 ps p };
+    ghost own = { λ v id ps p. computations_own id (λ a. ⟦<Immediate as Symmetric<()>>⟧.pieces a tt)
+        (λ a. ⟦<Upper as Symmetric<()>>⟧.pieces a tt)
+        (λ a. ⟦<Register as Symmetric<()>>⟧.pieces a tt)
+        (λ g. ⟦<Transfer as Symmetric<u8>>⟧.pieces g id) ⟦<Transfer as HasId>⟧.id_of
+        (λ g. transfer g id) v.0 ps p };
 }

@@ -1,7 +1,9 @@
 //! Whole words: a code, and the operands that it chooses.
 
-ghost use Rattle.std.specs.Prelude.{◌≡◌};
-ghost use Rattle.deku_instructions.specs.Words.{word_of_transfer, word_of_computation, computation_parts, transfer_parts};
+ghost use Rattle.std.specs.Prelude.{◌≡◌, refl};
+ghost use Rattle.deku_instructions.specs.Words.{word_of_transfer, word_of_computation, computation_parts, transfer_parts, parts_of_word, word_of_parts, parts_back};
+ghost use Rattle.deku_instructions.specs.declared.riscv.instruction.Instruction.TheVariants.{Load, Fence, OperateImmediate, AddUpper, Store, Operate, LoadUpper, Branch, JumpRegister, Jump, System};
+ghost use Rattle.deku.specs.Outcomes.{Mapped};
 
 use crate::riscv::branch::Branch;
 use crate::riscv::computation::{Computation, Computations};
@@ -16,11 +18,13 @@ use deku::prelude::{
     DekuContainerRead, DekuContainerWrite, DekuError, DekuReader, DekuWriter, Reader, Writer,
 };
 use deku_symmetry::{
-    Choice, LsbTagged, Only, FromParts, Record, Tagged, ToParts, read_record, write_record,
+    Choice, FromParts, LsbTagged, Only, Record, Tagged, ToParts, read_record, write_record,
 };
 
-/// An instruction word, by its code: the eleven of RV32I. Another code is refused with `IdVariantNotFound`, and the reader stands behind the seven bits of the code. A number
-/// that its field does not hold is refused where the word is written, and what was written before stays written. Which operations there are under a code is not looked at.
+/// An instruction word, by its code: the eleven of RV32I. Another code is refused with
+/// `IdVariantNotFound`, and the reader stands behind the seven bits of the code. A number that its
+/// field does not hold is refused where the word is written, and what was written before stays
+/// written. Which operations there are under a code is not looked at.
 ///
 /// ```text
 /// Instruction::Store(Store::new(2, 8, 1, -20)).to_bytes(alloc)?   // 23 26 14 FE, sw ra, -20(s0)
@@ -60,10 +64,6 @@ type Parts = LsbTagged<
 >;
 
 impl FromParts<()> for Instruction {
-    ghost use Rattle.std.specs.Prelude.{refl};
-    ghost use Rattle.deku_instructions.specs.Words.{parts_of_word, word_of_parts};
-    ghost use Rattle.deku_instructions.specs.declared.riscv.instruction.Instruction.TheVariants.{Load, Fence, OperateImmediate, AddUpper, Store, Operate, LoadUpper, Branch, JumpRegister, Jump, System};
-
     type Parts = Parts;
 
     ghost parts_of = { parts_of_word };
@@ -158,8 +158,6 @@ impl ToParts<()> for Instruction {
 }
 
 impl Record for Instruction {
-    ghost use Rattle.deku_instructions.specs.Words.{parts_back};
-
     ghost back = { λ p ps h. parts_back p };
 
     ghost reads = { λ b s r u m. m };
@@ -168,13 +166,12 @@ impl Record for Instruction {
 }
 
 impl DekuReader<()> for Instruction {
-    ghost use Rattle.deku.specs.Outcomes.{Mapped};
-
     ghost accepts = { ⟦<Parts as DekuReader<()>>⟧.accepts };
 
     ghost no_read_ahead = { ⟦<Parts as DekuReader<()>>⟧.no_read_ahead };
 
-    ghost meaning = { λ _. Mapped ⟦<Instruction as FromParts<()>>⟧.record_of (⟦<Parts as DekuReader<()>>⟧.meaning tt) };
+    ghost meaning = { λ _. Mapped ⟦<Instruction as FromParts<()>>⟧.record_of
+        (⟦<Parts as DekuReader<()>>⟧.meaning tt) };
 
     fn from_reader_with_ctx<R: Source>(
         reader: &mut Reader<R>,
@@ -187,7 +184,8 @@ impl DekuReader<()> for Instruction {
 impl DekuWriter<()> for Instruction {
     ghost accepts = { ⟦<Parts as DekuWriter<()>>⟧.accepts };
 
-    ghost meaning = { λ v _. ⟦<Parts as DekuWriter<()>>⟧.meaning (⟦<Instruction as FromParts<()>>⟧.parts_of v) tt };
+    ghost meaning = { λ v _. ⟦<Parts as DekuWriter<()>>⟧.meaning
+        (⟦<Instruction as FromParts<()>>⟧.parts_of v) tt };
 
     fn to_writer<W: Sink>(&self, writer: &mut Writer<W>, _ctx: ()) -> Result<(), DekuError> {
         write_record(self, writer, ())

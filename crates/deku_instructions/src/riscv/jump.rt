@@ -1,8 +1,15 @@
 //! Words that go elsewhere.
 
-ghost use Rattle.std.specs.Prelude.{◌≡◌, ◌<◌, ◌/◌, ◌%◌, ◌^◌};
+ghost use Rattle.std.specs.Prelude.{◌≡◌, ◌<◌, ◌/◌, ◌%◌, ◌^◌, refl};
 ghost use Rattle.deku_instructions.specs.Riscv.{jump_bits_below, jump_of};
 ghost use Rattle.deku_pieces.specs.Scattered.{low_of, high_of};
+ghost use Rattle.deku.specs.Outcomes.{Mapped};
+ghost use Rattle.deku_num.specs.Numbers.{byte, unsigned, signed};
+ghost use Rattle.deku_num.specs.declared.ctx.Endian.TheVariants.{Little};
+ghost use Rattle.deku_bits.specs.declared.ctx.Order.TheVariants.{Lsb0};
+ghost use Rattle.deku_pieces.proofs.Tuples.{pair_symmetric, longer_symmetric};
+ghost use Rattle.deku_pieces.proofs.Turned.{told_symmetric};
+ghost use Rattle.deku_instructions.specs.Fields.{low, signed_low};
 
 use deku::ctx::{BitSize, Endian, NumberCtx, Order};
 use deku::device::{Sink, Source};
@@ -10,7 +17,7 @@ use deku::prelude::{
     DekuContainerRead, DekuContainerWrite, DekuError, DekuReader, DekuWriter, Reader, Writer,
 };
 use deku_symmetry::scattered::{high_bits, low_bits};
-use deku_symmetry::{Lsb, FromParts, Symmetric, ToParts, read_record, write_record};
+use deku_symmetry::{FromParts, Lsb, Symmetric, ToParts, read_record, write_record};
 
 /// The operands of a jump (J). The way lies in four places: `halves` joins them.
 #[derive(Debug, Clone, Copy, PartialEq, Eq)]
@@ -28,7 +35,8 @@ pub struct Jump {
 }
 
 impl Jump {
-    /// The jump by so many units of two bytes. A way of more than 20 bits with its sign is refused where the jump is written.
+    /// The jump by so many units of two bytes. A way of more than 20 bits with its sign is refused
+    /// where the jump is written.
     ///
     /// ```text
     /// Jump::new(1, 0x400)                                         // jal ra, 0x800 bytes on
@@ -76,13 +84,24 @@ type Parts = (
 );
 
 impl FromParts<()> for Jump {
-    ghost use Rattle.std.specs.Prelude.{refl};
-
     type Parts = Parts;
 
-    ghost parts_of = { λ r. (record { 0 = r.target }, record { 0 = r.high }, record { 0 = r.middle }, record { 0 = r.low }, record { 0 = r.sign }) };
+    ghost parts_of = { λ r. (
+      record { 0 = r.target },
+      record { 0 = r.high },
+      record
+          { 0 = r.middle },
+      record { 0 = r.low },
+      record { 0 = r.sign },
+    ) };
 
-    ghost record_of = { λ p. record { target = p.0.0; high = p.1.0; middle = p.2.0; low = p.3.0; sign = p.4.0 } };
+    ghost record_of = { λ p. record {
+      target = p.0.0;
+      high = p.1.0;
+      middle = p.2.0;
+      low = p.3.0;
+      sign = p.4.0;
+    } };
 
     fn from_parts(parts: Self::Parts) -> Self {
         let (Lsb(target), Lsb(high), Lsb(middle), Lsb(low), Lsb(sign)) = parts;
@@ -111,13 +130,12 @@ impl ToParts<()> for Jump {
 }
 
 impl DekuReader<()> for Jump {
-    ghost use Rattle.deku.specs.Outcomes.{Mapped};
-
     ghost accepts = { ⟦<Parts as DekuReader<()>>⟧.accepts };
 
     ghost no_read_ahead = { ⟦<Parts as DekuReader<()>>⟧.no_read_ahead };
 
-    ghost meaning = { λ _. Mapped ⟦<Jump as FromParts<()>>⟧.record_of (⟦<Parts as DekuReader<()>>⟧.meaning tt) };
+    ghost meaning = { λ _. Mapped ⟦<Jump as FromParts<()>>⟧.record_of
+        (⟦<Parts as DekuReader<()>>⟧.meaning tt) };
 
     fn from_reader_with_ctx<R: Source>(
         reader: &mut Reader<R>,
@@ -130,7 +148,8 @@ impl DekuReader<()> for Jump {
 impl DekuWriter<()> for Jump {
     ghost accepts = { ⟦<Parts as DekuWriter<()>>⟧.accepts };
 
-    ghost meaning = { λ v _. ⟦<Parts as DekuWriter<()>>⟧.meaning (⟦<Jump as FromParts<()>>⟧.parts_of v) tt };
+    ghost meaning = { λ v _. ⟦<Parts as DekuWriter<()>>⟧.meaning
+        (⟦<Jump as FromParts<()>>⟧.parts_of v) tt };
 
     fn to_writer<W: Sink>(&self, writer: &mut Writer<W>, _ctx: ()) -> Result<(), DekuError> {
         write_record(self, writer, ())
@@ -139,26 +158,30 @@ impl DekuWriter<()> for Jump {
 
 /// The pieces of the parts.
 impl Symmetric<()> for Jump {
-    ghost use Rattle.std.specs.Prelude.{refl};
-    ghost use Rattle.deku_num.specs.Numbers.{byte, unsigned, signed};
-    ghost use Rattle.deku_num.specs.declared.ctx.Endian.TheVariants.{Little};
-    ghost use Rattle.deku_bits.specs.declared.ctx.Order.TheVariants.{Lsb0};
-    ghost use Rattle.deku_pieces.proofs.Tuples.{pair_symmetric, longer_symmetric};
-    ghost use Rattle.deku_pieces.proofs.Turned.{told_symmetric};
-    ghost use Rattle.deku_instructions.specs.Fields.{low, signed_low};
+    ghost pieces = { λ v _. ⟦<Parts as Symmetric<()>>⟧.pieces (⟦<Jump as FromParts<()>>⟧.parts_of v)
+        tt };
 
-    ghost pieces = { λ v _. ⟦<Parts as Symmetric<()>>⟧.pieces (⟦<Jump as FromParts<()>>⟧.parts_of v) tt };
+    ghost same = { λ v w. ⟦<Parts as Symmetric<()>>⟧.same (⟦<Jump as FromParts<()>>⟧.parts_of v)
+        (⟦<Jump as FromParts<()>>⟧.parts_of w) };
 
-    ghost same = { λ v w. ⟦<Parts as Symmetric<()>>⟧.same (⟦<Jump as FromParts<()>>⟧.parts_of v) (⟦<Jump as FromParts<()>>⟧.parts_of w) };
-
-    ghost symmetric = { λ _. told_symmetric ⟦<Jump as FromParts<()>>⟧.record_of ⟦<Jump as FromParts<()>>⟧.parts_of (λ p ps h. refl)
-        (longer_symmetric (low 5 byte (⟦<(Endian, BitSize, Order) as NumberCtx>⟧.layout_of (Little, record { 0 = 5 }, Lsb0)))
-        (longer_symmetric (low 8 (unsigned 32) (⟦<(Endian, BitSize, Order) as NumberCtx>⟧.layout_of (Little, record { 0 = 8 }, Lsb0)))
-        (longer_symmetric (low 1 (unsigned 32) (⟦<(Endian, BitSize, Order) as NumberCtx>⟧.layout_of (Little, record { 0 = 1 }, Lsb0)))
-        (pair_symmetric (low 10 (unsigned 32) (⟦<(Endian, BitSize, Order) as NumberCtx>⟧.layout_of (Little, record { 0 = 10 }, Lsb0))) (signed_low 1 (signed 32) (⟦<(Endian, BitSize, Order) as NumberCtx>⟧.layout_of (Little, record { 0 = 1 }, Lsb0))))
-        (λ a rest. (a, rest.0, rest.1)) (λ v. v.0) (λ v. (v.1, v.2)) (λ a rest. refl) (λ a rest. refl))
-        (λ a rest. (a, rest.0, rest.1, rest.2)) (λ v. v.0) (λ v. (v.1, v.2, v.3)) (λ a rest. refl) (λ a rest. refl))
-        (λ a rest. (a, rest.0, rest.1, rest.2, rest.3)) (λ v. v.0) (λ v. (v.1, v.2, v.3, v.4)) (λ a rest. refl) (λ a rest. refl))
+    ghost symmetric = { λ _. told_symmetric ⟦<Jump as FromParts<()>>⟧.record_of
+        ⟦<Jump as FromParts<()>>⟧.parts_of (λ p ps h. refl)
+        (longer_symmetric (low 5 byte (⟦<(Endian, BitSize, Order) as NumberCtx>⟧.layout_of
+        (Little, record { 0 = 5 }, Lsb0)))
+        (longer_symmetric (low 8 (unsigned 32)
+        (⟦<(Endian, BitSize, Order) as NumberCtx>⟧.layout_of (Little, record { 0 = 8 }, Lsb0)))
+        (longer_symmetric (low 1 (unsigned 32)
+        (⟦<(Endian, BitSize, Order) as NumberCtx>⟧.layout_of (Little, record { 0 = 1 }, Lsb0)))
+        (pair_symmetric (low 10 (unsigned 32)
+        (⟦<(Endian, BitSize, Order) as NumberCtx>⟧.layout_of (Little, record { 0 = 10 }, Lsb0)))
+        (signed_low 1 (signed 32) (⟦<(Endian, BitSize, Order) as NumberCtx>⟧.layout_of
+        (Little, record { 0 = 1 }, Lsb0))))
+        (λ a rest. (a, rest.0, rest.1)) (λ v. v.0) (λ v. (v.1, v.2)) (λ a rest. refl)
+        (λ a rest. refl))
+        (λ a rest. (a, rest.0, rest.1, rest.2)) (λ v. v.0) (λ v. (v.1, v.2, v.3)) (λ a rest. refl)
+        (λ a rest. refl))
+        (λ a rest. (a, rest.0, rest.1, rest.2, rest.3)) (λ v. v.0) (λ v. (v.1, v.2, v.3, v.4))
+        (λ a rest. refl) (λ a rest. refl))
         (λ v b s r u m. m) (λ b s r u m. m) };
 }
 

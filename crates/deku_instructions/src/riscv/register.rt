@@ -1,11 +1,20 @@
 //! Words of two source registers.
 
+ghost use Rattle.std.specs.Prelude.{refl};
+ghost use Rattle.deku.specs.Outcomes.{Mapped};
+ghost use Rattle.deku_num.specs.Numbers.{byte};
+ghost use Rattle.deku_num.specs.declared.ctx.Endian.TheVariants.{Little};
+ghost use Rattle.deku_bits.specs.declared.ctx.Order.TheVariants.{Lsb0};
+ghost use Rattle.deku_pieces.proofs.Tuples.{pair_symmetric, longer_symmetric};
+ghost use Rattle.deku_pieces.proofs.Turned.{told_symmetric};
+ghost use Rattle.deku_instructions.specs.Fields.{low};
+
 use deku::ctx::{BitSize, Endian, NumberCtx, Order};
 use deku::device::{Sink, Source};
 use deku::prelude::{
     DekuContainerRead, DekuContainerWrite, DekuError, DekuReader, DekuWriter, Reader, Writer,
 };
-use deku_symmetry::{Lsb, FromParts, Symmetric, ToParts, read_record, write_record};
+use deku_symmetry::{FromParts, Lsb, Symmetric, ToParts, read_record, write_record};
 
 /// The operands of an operation on two registers (R).
 #[derive(Debug, Clone, Copy, PartialEq, Eq)]
@@ -26,13 +35,25 @@ pub struct Register {
 type Parts = (Lsb<u8, 5>, Lsb<u8, 3>, Lsb<u8, 5>, Lsb<u8, 5>, Lsb<u8, 7>);
 
 impl FromParts<()> for Register {
-    ghost use Rattle.std.specs.Prelude.{refl};
-
     type Parts = Parts;
 
-    ghost parts_of = { λ r. (record { 0 = r.target }, record { 0 = r.function }, record { 0 = r.first }, record { 0 = r.second }, record { 0 = r.variant }) };
+    ghost parts_of = { λ r. (
+      record { 0 = r.target },
+      record { 0 = r.function },
+      record
+          { 0 = r.first },
+      record { 0 = r.second },
+      record { 0 = r.variant },
+    ) };
 
-    ghost record_of = { λ p. record { target = p.0.0; function = p.1.0; first = p.2.0; second = p.3.0; variant = p.4.0 } };
+    ghost record_of = { λ p. record {
+      target = p.0.0;
+      function = p.1.0;
+      first = p.2.0;
+      second =
+          p.3.0;
+      variant = p.4.0;
+    } };
 
     fn from_parts(parts: Self::Parts) -> Self {
         let (Lsb(target), Lsb(function), Lsb(first), Lsb(second), Lsb(variant)) = parts;
@@ -61,13 +82,12 @@ impl ToParts<()> for Register {
 }
 
 impl DekuReader<()> for Register {
-    ghost use Rattle.deku.specs.Outcomes.{Mapped};
-
     ghost accepts = { ⟦<Parts as DekuReader<()>>⟧.accepts };
 
     ghost no_read_ahead = { ⟦<Parts as DekuReader<()>>⟧.no_read_ahead };
 
-    ghost meaning = { λ _. Mapped ⟦<Register as FromParts<()>>⟧.record_of (⟦<Parts as DekuReader<()>>⟧.meaning tt) };
+    ghost meaning = { λ _. Mapped ⟦<Register as FromParts<()>>⟧.record_of
+        (⟦<Parts as DekuReader<()>>⟧.meaning tt) };
 
     fn from_reader_with_ctx<R: Source>(
         reader: &mut Reader<R>,
@@ -80,7 +100,8 @@ impl DekuReader<()> for Register {
 impl DekuWriter<()> for Register {
     ghost accepts = { ⟦<Parts as DekuWriter<()>>⟧.accepts };
 
-    ghost meaning = { λ v _. ⟦<Parts as DekuWriter<()>>⟧.meaning (⟦<Register as FromParts<()>>⟧.parts_of v) tt };
+    ghost meaning = { λ v _. ⟦<Parts as DekuWriter<()>>⟧.meaning
+        (⟦<Register as FromParts<()>>⟧.parts_of v) tt };
 
     fn to_writer<W: Sink>(&self, writer: &mut Writer<W>, _ctx: ()) -> Result<(), DekuError> {
         write_record(self, writer, ())
@@ -89,26 +110,29 @@ impl DekuWriter<()> for Register {
 
 /// The pieces of the parts.
 impl Symmetric<()> for Register {
-    ghost use Rattle.std.specs.Prelude.{refl};
-    ghost use Rattle.deku_num.specs.Numbers.{byte};
-    ghost use Rattle.deku_num.specs.declared.ctx.Endian.TheVariants.{Little};
-    ghost use Rattle.deku_bits.specs.declared.ctx.Order.TheVariants.{Lsb0};
-    ghost use Rattle.deku_pieces.proofs.Tuples.{pair_symmetric, longer_symmetric};
-    ghost use Rattle.deku_pieces.proofs.Turned.{told_symmetric};
-    ghost use Rattle.deku_instructions.specs.Fields.{low};
+    ghost pieces = { λ v _. ⟦<Parts as Symmetric<()>>⟧.pieces
+        (⟦<Register as FromParts<()>>⟧.parts_of v) tt };
 
-    ghost pieces = { λ v _. ⟦<Parts as Symmetric<()>>⟧.pieces (⟦<Register as FromParts<()>>⟧.parts_of v) tt };
+    ghost same = { λ v w. ⟦<Parts as Symmetric<()>>⟧.same (⟦<Register as FromParts<()>>⟧.parts_of v)
+        (⟦<Register as FromParts<()>>⟧.parts_of w) };
 
-    ghost same = { λ v w. ⟦<Parts as Symmetric<()>>⟧.same (⟦<Register as FromParts<()>>⟧.parts_of v) (⟦<Register as FromParts<()>>⟧.parts_of w) };
-
-    ghost symmetric = { λ _. told_symmetric ⟦<Register as FromParts<()>>⟧.record_of ⟦<Register as FromParts<()>>⟧.parts_of (λ p ps h. refl)
-        (longer_symmetric (low 5 byte (⟦<(Endian, BitSize, Order) as NumberCtx>⟧.layout_of (Little, record { 0 = 5 }, Lsb0)))
-        (longer_symmetric (low 3 byte (⟦<(Endian, BitSize, Order) as NumberCtx>⟧.layout_of (Little, record { 0 = 3 }, Lsb0)))
-        (longer_symmetric (low 5 byte (⟦<(Endian, BitSize, Order) as NumberCtx>⟧.layout_of (Little, record { 0 = 5 }, Lsb0)))
-        (pair_symmetric (low 5 byte (⟦<(Endian, BitSize, Order) as NumberCtx>⟧.layout_of (Little, record { 0 = 5 }, Lsb0))) (low 7 byte (⟦<(Endian, BitSize, Order) as NumberCtx>⟧.layout_of (Little, record { 0 = 7 }, Lsb0))))
-        (λ a rest. (a, rest.0, rest.1)) (λ v. v.0) (λ v. (v.1, v.2)) (λ a rest. refl) (λ a rest. refl))
-        (λ a rest. (a, rest.0, rest.1, rest.2)) (λ v. v.0) (λ v. (v.1, v.2, v.3)) (λ a rest. refl) (λ a rest. refl))
-        (λ a rest. (a, rest.0, rest.1, rest.2, rest.3)) (λ v. v.0) (λ v. (v.1, v.2, v.3, v.4)) (λ a rest. refl) (λ a rest. refl))
+    ghost symmetric = { λ _. told_symmetric ⟦<Register as FromParts<()>>⟧.record_of
+        ⟦<Register as FromParts<()>>⟧.parts_of (λ p ps h. refl)
+        (longer_symmetric (low 5 byte (⟦<(Endian, BitSize, Order) as NumberCtx>⟧.layout_of
+        (Little, record { 0 = 5 }, Lsb0)))
+        (longer_symmetric (low 3 byte (⟦<(Endian, BitSize, Order) as NumberCtx>⟧.layout_of
+        (Little, record { 0 = 3 }, Lsb0)))
+        (longer_symmetric (low 5 byte (⟦<(Endian, BitSize, Order) as NumberCtx>⟧.layout_of
+        (Little, record { 0 = 5 }, Lsb0)))
+        (pair_symmetric (low 5 byte (⟦<(Endian, BitSize, Order) as NumberCtx>⟧.layout_of
+        (Little, record { 0 = 5 }, Lsb0))) (low 7 byte
+        (⟦<(Endian, BitSize, Order) as NumberCtx>⟧.layout_of (Little, record { 0 = 7 }, Lsb0))))
+        (λ a rest. (a, rest.0, rest.1)) (λ v. v.0) (λ v. (v.1, v.2)) (λ a rest. refl)
+        (λ a rest. refl))
+        (λ a rest. (a, rest.0, rest.1, rest.2)) (λ v. v.0) (λ v. (v.1, v.2, v.3)) (λ a rest. refl)
+        (λ a rest. refl))
+        (λ a rest. (a, rest.0, rest.1, rest.2, rest.3)) (λ v. v.0) (λ v. (v.1, v.2, v.3, v.4))
+        (λ a rest. refl) (λ a rest. refl))
         (λ v b s r u m. m) (λ b s r u m. m) };
 }
 

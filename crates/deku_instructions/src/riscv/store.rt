@@ -1,8 +1,15 @@
 //! Words that store a register.
 
-ghost use Rattle.std.specs.Prelude.{◌≡◌, ◌<◌, ◌^◌};
+ghost use Rattle.std.specs.Prelude.{◌≡◌, ◌<◌, ◌^◌, refl};
 ghost use Rattle.deku_instructions.specs.Riscv.{offset_of};
 ghost use Rattle.deku_pieces.specs.Scattered.{low_of, high_of};
+ghost use Rattle.deku.specs.Outcomes.{Mapped};
+ghost use Rattle.deku_num.specs.Numbers.{byte, unsigned, signed};
+ghost use Rattle.deku_num.specs.declared.ctx.Endian.TheVariants.{Little};
+ghost use Rattle.deku_bits.specs.declared.ctx.Order.TheVariants.{Lsb0};
+ghost use Rattle.deku_pieces.proofs.Tuples.{pair_symmetric, longer_symmetric};
+ghost use Rattle.deku_pieces.proofs.Turned.{told_symmetric};
+ghost use Rattle.deku_instructions.specs.Fields.{low, signed_low};
 
 use deku::ctx::{BitSize, Endian, NumberCtx, Order};
 use deku::device::{Sink, Source};
@@ -10,7 +17,7 @@ use deku::prelude::{
     DekuContainerRead, DekuContainerWrite, DekuError, DekuReader, DekuWriter, Reader, Writer,
 };
 use deku_symmetry::scattered::{high_bits, low_bits};
-use deku_symmetry::{Lsb, FromParts, Symmetric, ToParts, read_record, write_record};
+use deku_symmetry::{FromParts, Lsb, Symmetric, ToParts, read_record, write_record};
 
 /// The operands of a store (S). The offset lies in two places: `offset` joins them.
 #[derive(Debug, Clone, Copy, PartialEq, Eq)]
@@ -28,7 +35,8 @@ pub struct Store {
 }
 
 impl Store {
-    /// The store at so many bytes behind the address in a register. An offset of more than 12 bits with its sign is refused where the store is written.
+    /// The store at so many bytes behind the address in a register. An offset of more than 12 bits
+    /// with its sign is refused where the store is written.
     ///
     /// ```text
     /// Store::new(2, 8, 1, -20)                                    // sw ra, -20(s0)
@@ -68,13 +76,23 @@ impl Store {
 type Parts = (Lsb<u32, 5>, Lsb<u8, 3>, Lsb<u8, 5>, Lsb<u8, 5>, Lsb<i32, 7>);
 
 impl FromParts<()> for Store {
-    ghost use Rattle.std.specs.Prelude.{refl};
-
     type Parts = Parts;
 
-    ghost parts_of = { λ r. (record { 0 = r.low }, record { 0 = r.function }, record { 0 = r.base }, record { 0 = r.source }, record { 0 = r.high }) };
+    ghost parts_of = { λ r. (
+      record { 0 = r.low },
+      record { 0 = r.function },
+      record { 0 = r.base },
+      record { 0 = r.source },
+      record { 0 = r.high },
+    ) };
 
-    ghost record_of = { λ p. record { low = p.0.0; function = p.1.0; base = p.2.0; source = p.3.0; high = p.4.0 } };
+    ghost record_of = { λ p. record {
+      low = p.0.0;
+      function = p.1.0;
+      base = p.2.0;
+      source = p.3.0;
+      high = p.4.0;
+    } };
 
     fn from_parts(parts: Self::Parts) -> Self {
         let (Lsb(low), Lsb(function), Lsb(base), Lsb(source), Lsb(high)) = parts;
@@ -103,13 +121,12 @@ impl ToParts<()> for Store {
 }
 
 impl DekuReader<()> for Store {
-    ghost use Rattle.deku.specs.Outcomes.{Mapped};
-
     ghost accepts = { ⟦<Parts as DekuReader<()>>⟧.accepts };
 
     ghost no_read_ahead = { ⟦<Parts as DekuReader<()>>⟧.no_read_ahead };
 
-    ghost meaning = { λ _. Mapped ⟦<Store as FromParts<()>>⟧.record_of (⟦<Parts as DekuReader<()>>⟧.meaning tt) };
+    ghost meaning = { λ _. Mapped ⟦<Store as FromParts<()>>⟧.record_of
+        (⟦<Parts as DekuReader<()>>⟧.meaning tt) };
 
     fn from_reader_with_ctx<R: Source>(
         reader: &mut Reader<R>,
@@ -122,7 +139,8 @@ impl DekuReader<()> for Store {
 impl DekuWriter<()> for Store {
     ghost accepts = { ⟦<Parts as DekuWriter<()>>⟧.accepts };
 
-    ghost meaning = { λ v _. ⟦<Parts as DekuWriter<()>>⟧.meaning (⟦<Store as FromParts<()>>⟧.parts_of v) tt };
+    ghost meaning = { λ v _. ⟦<Parts as DekuWriter<()>>⟧.meaning
+        (⟦<Store as FromParts<()>>⟧.parts_of v) tt };
 
     fn to_writer<W: Sink>(&self, writer: &mut Writer<W>, _ctx: ()) -> Result<(), DekuError> {
         write_record(self, writer, ())
@@ -131,26 +149,29 @@ impl DekuWriter<()> for Store {
 
 /// The pieces of the parts.
 impl Symmetric<()> for Store {
-    ghost use Rattle.std.specs.Prelude.{refl};
-    ghost use Rattle.deku_num.specs.Numbers.{byte, unsigned, signed};
-    ghost use Rattle.deku_num.specs.declared.ctx.Endian.TheVariants.{Little};
-    ghost use Rattle.deku_bits.specs.declared.ctx.Order.TheVariants.{Lsb0};
-    ghost use Rattle.deku_pieces.proofs.Tuples.{pair_symmetric, longer_symmetric};
-    ghost use Rattle.deku_pieces.proofs.Turned.{told_symmetric};
-    ghost use Rattle.deku_instructions.specs.Fields.{low, signed_low};
+    ghost pieces = { λ v _. ⟦<Parts as Symmetric<()>>⟧.pieces
+        (⟦<Store as FromParts<()>>⟧.parts_of v) tt };
 
-    ghost pieces = { λ v _. ⟦<Parts as Symmetric<()>>⟧.pieces (⟦<Store as FromParts<()>>⟧.parts_of v) tt };
+    ghost same = { λ v w. ⟦<Parts as Symmetric<()>>⟧.same (⟦<Store as FromParts<()>>⟧.parts_of v)
+        (⟦<Store as FromParts<()>>⟧.parts_of w) };
 
-    ghost same = { λ v w. ⟦<Parts as Symmetric<()>>⟧.same (⟦<Store as FromParts<()>>⟧.parts_of v) (⟦<Store as FromParts<()>>⟧.parts_of w) };
-
-    ghost symmetric = { λ _. told_symmetric ⟦<Store as FromParts<()>>⟧.record_of ⟦<Store as FromParts<()>>⟧.parts_of (λ p ps h. refl)
-        (longer_symmetric (low 5 (unsigned 32) (⟦<(Endian, BitSize, Order) as NumberCtx>⟧.layout_of (Little, record { 0 = 5 }, Lsb0)))
-        (longer_symmetric (low 3 byte (⟦<(Endian, BitSize, Order) as NumberCtx>⟧.layout_of (Little, record { 0 = 3 }, Lsb0)))
-        (longer_symmetric (low 5 byte (⟦<(Endian, BitSize, Order) as NumberCtx>⟧.layout_of (Little, record { 0 = 5 }, Lsb0)))
-        (pair_symmetric (low 5 byte (⟦<(Endian, BitSize, Order) as NumberCtx>⟧.layout_of (Little, record { 0 = 5 }, Lsb0))) (signed_low 7 (signed 32) (⟦<(Endian, BitSize, Order) as NumberCtx>⟧.layout_of (Little, record { 0 = 7 }, Lsb0))))
-        (λ a rest. (a, rest.0, rest.1)) (λ v. v.0) (λ v. (v.1, v.2)) (λ a rest. refl) (λ a rest. refl))
-        (λ a rest. (a, rest.0, rest.1, rest.2)) (λ v. v.0) (λ v. (v.1, v.2, v.3)) (λ a rest. refl) (λ a rest. refl))
-        (λ a rest. (a, rest.0, rest.1, rest.2, rest.3)) (λ v. v.0) (λ v. (v.1, v.2, v.3, v.4)) (λ a rest. refl) (λ a rest. refl))
+    ghost symmetric = { λ _. told_symmetric ⟦<Store as FromParts<()>>⟧.record_of
+        ⟦<Store as FromParts<()>>⟧.parts_of (λ p ps h. refl)
+        (longer_symmetric (low 5 (unsigned 32)
+        (⟦<(Endian, BitSize, Order) as NumberCtx>⟧.layout_of (Little, record { 0 = 5 }, Lsb0)))
+        (longer_symmetric (low 3 byte (⟦<(Endian, BitSize, Order) as NumberCtx>⟧.layout_of
+        (Little, record { 0 = 3 }, Lsb0)))
+        (longer_symmetric (low 5 byte (⟦<(Endian, BitSize, Order) as NumberCtx>⟧.layout_of
+        (Little, record { 0 = 5 }, Lsb0)))
+        (pair_symmetric (low 5 byte (⟦<(Endian, BitSize, Order) as NumberCtx>⟧.layout_of
+        (Little, record { 0 = 5 }, Lsb0))) (signed_low 7 (signed 32)
+        (⟦<(Endian, BitSize, Order) as NumberCtx>⟧.layout_of (Little, record { 0 = 7 }, Lsb0))))
+        (λ a rest. (a, rest.0, rest.1)) (λ v. v.0) (λ v. (v.1, v.2)) (λ a rest. refl)
+        (λ a rest. refl))
+        (λ a rest. (a, rest.0, rest.1, rest.2)) (λ v. v.0) (λ v. (v.1, v.2, v.3)) (λ a rest. refl)
+        (λ a rest. refl))
+        (λ a rest. (a, rest.0, rest.1, rest.2, rest.3)) (λ v. v.0) (λ v. (v.1, v.2, v.3, v.4))
+        (λ a rest. refl) (λ a rest. refl))
         (λ v b s r u m. m) (λ b s r u m. m) };
 }
 

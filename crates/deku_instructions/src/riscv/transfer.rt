@@ -1,13 +1,23 @@
 //! Words that hand control on, as the last tail of the choice.
 
+ghost use Rattle.std.specs.Prelude.{refl};
+ghost use Rattle.deku.specs.Outcomes.{Mapped};
+ghost use Rattle.deku_pieces.proofs.Turned.{mapped_symmetric};
+ghost use Rattle.deku_pieces.proofs.Choices.{choice_symmetric, only_symmetric};
+ghost use Rattle.deku_instructions.specs.contracts.riscv.branch.BranchSymmetricUnit.TheImpl.Laws.{symmetric-law as branch};
+ghost use Rattle.deku_instructions.specs.contracts.riscv.immediate.ImmediateSymmetricUnit.TheImpl.Laws.{symmetric-law as immediate};
+ghost use Rattle.deku_instructions.specs.contracts.riscv.jump.JumpSymmetricUnit.TheImpl.Laws.{symmetric-law as jump};
+ghost use Rattle.deku_instructions.specs.Words.{transfers_own};
+
 use crate::riscv::branch::Branch;
 use crate::riscv::immediate::Immediate;
 use crate::riscv::jump::Jump;
 use deku::device::{Sink, Source};
 use deku::prelude::{DekuError, DekuReader, DekuWriter, Reader, Writer};
-use deku_symmetry::{Choice, HasIdLaw, HasId, Only, FromParts, Symmetric, read_record};
+use deku_symmetry::{Choice, FromParts, HasId, HasIdLaw, Only, Symmetric, read_record};
 
-/// Transfers of control: branches, jumps and calls to the system, under 0x63, 0x67, 0x6F and 0x73. They are read as `Computation` is.
+/// Transfers of control: branches, jumps and calls to the system, under 0x63, 0x67, 0x6F and 0x73.
+/// They are read as `Computation` is.
 #[derive(Debug, PartialEq, Eq, Drop)]
 pub struct Transfer(pub Transfers);
 
@@ -27,8 +37,6 @@ impl HasId for Transfer {
 }
 
 impl FromParts<u8> for Transfer {
-    ghost use Rattle.std.specs.Prelude.{refl};
-
     type Parts = Transfers;
 
     ghost parts_of = { λ v. v.0 };
@@ -43,13 +51,12 @@ impl FromParts<u8> for Transfer {
 }
 
 impl DekuReader<u8> for Transfer {
-    ghost use Rattle.deku.specs.Outcomes.{Mapped};
-
     ghost accepts = { ⟦<Transfers as DekuReader<u8>>⟧.accepts };
 
     ghost no_read_ahead = { ⟦<Transfers as DekuReader<u8>>⟧.no_read_ahead };
 
-    ghost meaning = { λ id. Mapped (λ k. record { 0 = k }) (⟦<Transfers as DekuReader<u8>>⟧.meaning id) };
+    ghost meaning = { λ id. Mapped (λ k. record { 0 = k })
+        (⟦<Transfers as DekuReader<u8>>⟧.meaning id) };
 
     fn from_reader_with_ctx<R: Source>(reader: &mut Reader<R>, id: u8) -> Result<Self, DekuError> {
         read_record(reader, id)
@@ -68,24 +75,20 @@ impl DekuWriter<u8> for Transfer {
 
 /// The pieces of what was chosen.
 impl Symmetric<u8> for Transfer {
-    ghost use Rattle.std.specs.Prelude.{refl};
-    ghost use Rattle.deku_pieces.proofs.Turned.{mapped_symmetric};
-    ghost use Rattle.deku_pieces.proofs.Choices.{choice_symmetric, only_symmetric};
-    ghost use Rattle.deku_instructions.specs.contracts.riscv.branch.BranchSymmetricUnit.TheImpl.Laws.{symmetric-law as branch};
-    ghost use Rattle.deku_instructions.specs.contracts.riscv.immediate.ImmediateSymmetricUnit.TheImpl.Laws.{symmetric-law as immediate};
-    ghost use Rattle.deku_instructions.specs.contracts.riscv.jump.JumpSymmetricUnit.TheImpl.Laws.{symmetric-law as jump};
-
     ghost pieces = { λ v id. ⟦<Transfers as Symmetric<u8>>⟧.pieces v.0 id };
 
     ghost same = { λ v w. ⟦<Transfers as Symmetric<u8>>⟧.same v.0 w.0 };
 
-    ghost symmetric = { λ id. mapped_symmetric (λ k. record { 0 = k }) (λ v. v.0) _ _ _ _ (λ k. refl)
-        (choice_symmetric 0x63 id (branch tt) (choice_symmetric 0x67 id (immediate tt) (choice_symmetric 0x6F id (jump tt)
-        (only_symmetric 0x73 id (mapped_symmetric (λ a. record { 0 = a }) (λ v. v.0) _ _ _ _ (λ a. refl) (immediate tt)))))) };
+    ghost symmetric = { λ id. mapped_symmetric (λ k. record { 0 = k }) (λ v. v.0) _ _ _ _
+        (λ k. refl)
+        (choice_symmetric 0x63 id (branch tt)
+        (choice_symmetric 0x67 id (immediate tt) (choice_symmetric 0x6F id (jump tt)
+        (only_symmetric 0x73 id (mapped_symmetric (λ a. record { 0 = a }) (λ v. v.0) _ _ _ _
+        (λ a. refl) (immediate tt)))))) };
 }
 
 impl HasIdLaw for Transfer {
-    ghost use Rattle.deku_instructions.specs.Words.{transfers_own};
-
-    ghost own = { λ v id ps p. transfers_own id (λ a. ⟦<Branch as Symmetric<()>>⟧.pieces a tt) (λ a. ⟦<Immediate as Symmetric<()>>⟧.pieces a tt) (λ a. ⟦<Jump as Symmetric<()>>⟧.pieces a tt) v.0 ps p };
+    ghost own = { λ v id ps p. transfers_own id (λ a. ⟦<Branch as Symmetric<()>>⟧.pieces a tt)
+        (λ a. ⟦<Immediate as Symmetric<()>>⟧.pieces a tt)
+        (λ a. ⟦<Jump as Symmetric<()>>⟧.pieces a tt) v.0 ps p };
 }

@@ -1,11 +1,20 @@
 //! Words of the high bits of a number.
 
+ghost use Rattle.std.specs.Prelude.{refl};
+ghost use Rattle.deku.specs.Outcomes.{Mapped};
+ghost use Rattle.deku_num.specs.Numbers.{byte, signed};
+ghost use Rattle.deku_num.specs.declared.ctx.Endian.TheVariants.{Little};
+ghost use Rattle.deku_bits.specs.declared.ctx.Order.TheVariants.{Lsb0};
+ghost use Rattle.deku_pieces.proofs.Tuples.{pair_symmetric};
+ghost use Rattle.deku_pieces.proofs.Turned.{told_symmetric};
+ghost use Rattle.deku_instructions.specs.Fields.{low, signed_low};
+
 use deku::ctx::{BitSize, Endian, NumberCtx, Order};
 use deku::device::{Sink, Source};
 use deku::prelude::{
     DekuContainerRead, DekuContainerWrite, DekuError, DekuReader, DekuWriter, Reader, Writer,
 };
-use deku_symmetry::{Lsb, FromParts, Symmetric, ToParts, read_record, write_record};
+use deku_symmetry::{FromParts, Lsb, Symmetric, ToParts, read_record, write_record};
 
 /// The operands of a load of the high bits of a register (U).
 #[derive(Debug, Clone, Copy, PartialEq, Eq)]
@@ -20,8 +29,6 @@ pub struct Upper {
 type Parts = (Lsb<u8, 5>, Lsb<i32, 20>);
 
 impl FromParts<()> for Upper {
-    ghost use Rattle.std.specs.Prelude.{refl};
-
     type Parts = Parts;
 
     ghost parts_of = { λ r. (record { 0 = r.target }, record { 0 = r.value }) };
@@ -43,13 +50,12 @@ impl ToParts<()> for Upper {
 }
 
 impl DekuReader<()> for Upper {
-    ghost use Rattle.deku.specs.Outcomes.{Mapped};
-
     ghost accepts = { ⟦<Parts as DekuReader<()>>⟧.accepts };
 
     ghost no_read_ahead = { ⟦<Parts as DekuReader<()>>⟧.no_read_ahead };
 
-    ghost meaning = { λ _. Mapped ⟦<Upper as FromParts<()>>⟧.record_of (⟦<Parts as DekuReader<()>>⟧.meaning tt) };
+    ghost meaning = { λ _. Mapped ⟦<Upper as FromParts<()>>⟧.record_of
+        (⟦<Parts as DekuReader<()>>⟧.meaning tt) };
 
     fn from_reader_with_ctx<R: Source>(
         reader: &mut Reader<R>,
@@ -62,7 +68,8 @@ impl DekuReader<()> for Upper {
 impl DekuWriter<()> for Upper {
     ghost accepts = { ⟦<Parts as DekuWriter<()>>⟧.accepts };
 
-    ghost meaning = { λ v _. ⟦<Parts as DekuWriter<()>>⟧.meaning (⟦<Upper as FromParts<()>>⟧.parts_of v) tt };
+    ghost meaning = { λ v _. ⟦<Parts as DekuWriter<()>>⟧.meaning
+        (⟦<Upper as FromParts<()>>⟧.parts_of v) tt };
 
     fn to_writer<W: Sink>(&self, writer: &mut Writer<W>, _ctx: ()) -> Result<(), DekuError> {
         write_record(self, writer, ())
@@ -71,20 +78,18 @@ impl DekuWriter<()> for Upper {
 
 /// The pieces of the parts.
 impl Symmetric<()> for Upper {
-    ghost use Rattle.std.specs.Prelude.{refl};
-    ghost use Rattle.deku_num.specs.Numbers.{byte, signed};
-    ghost use Rattle.deku_num.specs.declared.ctx.Endian.TheVariants.{Little};
-    ghost use Rattle.deku_bits.specs.declared.ctx.Order.TheVariants.{Lsb0};
-    ghost use Rattle.deku_pieces.proofs.Tuples.{pair_symmetric};
-    ghost use Rattle.deku_pieces.proofs.Turned.{told_symmetric};
-    ghost use Rattle.deku_instructions.specs.Fields.{low, signed_low};
+    ghost pieces = { λ v _. ⟦<Parts as Symmetric<()>>⟧.pieces
+        (⟦<Upper as FromParts<()>>⟧.parts_of v) tt };
 
-    ghost pieces = { λ v _. ⟦<Parts as Symmetric<()>>⟧.pieces (⟦<Upper as FromParts<()>>⟧.parts_of v) tt };
+    ghost same = { λ v w. ⟦<Parts as Symmetric<()>>⟧.same (⟦<Upper as FromParts<()>>⟧.parts_of v)
+        (⟦<Upper as FromParts<()>>⟧.parts_of w) };
 
-    ghost same = { λ v w. ⟦<Parts as Symmetric<()>>⟧.same (⟦<Upper as FromParts<()>>⟧.parts_of v) (⟦<Upper as FromParts<()>>⟧.parts_of w) };
-
-    ghost symmetric = { λ _. told_symmetric ⟦<Upper as FromParts<()>>⟧.record_of ⟦<Upper as FromParts<()>>⟧.parts_of (λ p ps h. refl)
-        (pair_symmetric (low 5 byte (⟦<(Endian, BitSize, Order) as NumberCtx>⟧.layout_of (Little, record { 0 = 5 }, Lsb0))) (signed_low 20 (signed 32) (⟦<(Endian, BitSize, Order) as NumberCtx>⟧.layout_of (Little, record { 0 = 20 }, Lsb0))))
+    ghost symmetric = { λ _. told_symmetric ⟦<Upper as FromParts<()>>⟧.record_of
+        ⟦<Upper as FromParts<()>>⟧.parts_of (λ p ps h. refl)
+        (pair_symmetric (low 5 byte (⟦<(Endian, BitSize, Order) as NumberCtx>⟧.layout_of
+        (Little, record { 0 = 5 }, Lsb0))) (signed_low 20 (signed 32)
+        (⟦<(Endian, BitSize, Order) as NumberCtx>⟧.layout_of
+        (Little, record { 0 = 20 }, Lsb0))))
         (λ v b s r u m. m) (λ b s r u m. m) };
 }
 

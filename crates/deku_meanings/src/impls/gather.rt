@@ -15,18 +15,20 @@ pub trait Gather<T>: Drop {
     // Whether the item needs a place of its own: a set has one already for an item that it holds.
     ghost grows: { Self → T → Type 0 };
 
-    /// Puts the item into it. It is refused with `Io(OutOfMemory)` if it needs a place of its own, and no memory is found for it; what the collection
-    /// holds then is open.
+    /// Puts the item into it. It is refused with `Io(OutOfMemory)` if it needs a place of its own,
+    /// and no memory is found for it; what the collection holds then is open.
     fn put(&mut self, item: T) -> Result<(), DekuError>
         ensures ok { OnOk result (puts self.old item self.new) }
         ensures err { IfErr result (λ e. e ≡ DekuError.Io ErrorKind.OutOfMemory) }
         ensures grows { OnErr result (grows self.old item) };
 }
 
-/// Puts an item into its place where it has width, which the counts of bits before and after it tell, or ends the list.
+/// Puts an item into its place where it has width, which the counts of bits before and after it
+/// tell, or ends the list.
 ///
-/// Another item is refused with `Parse("item without width")`, and one that needs a place of its own, for which no memory is found, with
-/// `Io(OutOfMemory)`; what the collection holds then is open.
+/// Another item is refused with `Parse("item without width")`, and one that needs a place of its
+/// own, for which no memory is found, with `Io(OutOfMemory)`; what the collection holds then is
+/// open.
 ///
 /// ```text
 /// keep(&mut items, item, false, 8, 8)                        // refused: the item has no width, and does not end the list
@@ -41,7 +43,8 @@ pub fn keep<B: Gather<T>, T: Drop>(
     ensures placed { OnOk result (B.puts collection.old item collection.new) }
     ensures kept { OnOk result ((ends ≡ true) ⊎ (before < after)) }
     ensures err { IfErr result (λ e. ((ends ≡ false) × (after ≤ before) × Tells Parse (codes "item without width") e) ⊎ (((ends ≡ true) ⊎ (before < after)) × (e ≡ DekuError.Io ErrorKind.OutOfMemory))) }
-    ensures grows { IfErr result (λ e. e ≡ DekuError.Io ErrorKind.OutOfMemory → B.grows collection.old item) }
+    ensures grows { IfErr result (λ e. e ≡ DekuError.Io ErrorKind.OutOfMemory
+        → B.grows collection.old item) }
 {
     if !ends && after <= before {
         return Err(DekuError::Parse("item without width"));

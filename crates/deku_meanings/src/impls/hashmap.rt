@@ -11,7 +11,8 @@ use std::hash::{BuildHasher, Hash};
 use std::io::ErrorKind;
 
 impl<K: Eq + Hash + Drop, V: Drop, S: BuildHasher + Drop> Gather<(K, V)> for HashMap<K, V, S> {
-    ghost puts = { λ m p n. Updates K.eq m n p.0 (Some p.1) × IsUnique K.eq n × PutsPair K.eq m p n × (hasher_of n ≡ hasher_of m) };
+    ghost puts = { λ m p n. Updates K.eq m n p.0 (Some p.1) × IsUnique K.eq n × PutsPair K.eq m p n
+        × (hasher_of n ≡ hasher_of m) };
 
     ghost grows = { λ m p. get K.eq m p.0 ≡ None };
 

@@ -11,7 +11,8 @@ use std::hash::{BuildHasher, Hash};
 use std::io::ErrorKind;
 
 impl<T: Eq + Hash + Drop, S: BuildHasher + Drop> Gather<T> for HashSet<T, S> {
-    ghost puts = { λ m x n. Updates T.eq m n x true × IsUnique T.eq n × PutsItem T.eq m x n × (hasher_of n ≡ hasher_of m) };
+    ghost puts = { λ m x n. Updates T.eq m n x true × IsUnique T.eq n × PutsItem T.eq m x n
+        × (hasher_of n ≡ hasher_of m) };
 
     ghost grows = { λ m x. contains T.eq m x ≡ false };
 

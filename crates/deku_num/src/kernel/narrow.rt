@@ -12,7 +12,8 @@ use crate::ctx::{Endian, Order};
 pub fn narrow_number(word: u64, width: usize, endian: Endian, order: Order) -> u64
     requires few { width ≤ 64 }
     requires fits { word < 2 ^ width }
-    ensures { (bits : List Bool) → length bits ≡ width → word ≡ word_of order bits → result ≡ number_of endian order bits }
+    ensures { (bits : List Bool) → length bits ≡ width → word ≡ word_of order bits
+        → result ≡ number_of endian order bits }
 {
     // One group alone is its own number.
     if width <= 8 {
@@ -25,13 +26,15 @@ pub fn narrow_number(word: u64, width: usize, endian: Endian, order: Order) -> u
     }
 }
 
-// The number of bits, the highest first, from their word: whole bytes are turned, and the bits behind them follow.
+// The number of bits, the highest first, from their word: whole bytes are turned, and the bits
+// behind them follow.
 #[inline(always)]
 fn number_of_high(word: u64, width: usize) -> u64
     requires more { 8 < width }
     requires few { width ≤ 64 }
     requires fits { word < 2 ^ width }
-    ensures { (bits : List Bool) → length bits ≡ width → word ≡ word_of Order.Msb0 bits → result ≡ number_of Endian.Big Order.Msb0 bits }
+    ensures { (bits : List Bool) → length bits ≡ width → word ≡ word_of Order.Msb0 bits
+        → result ≡ number_of Endian.Big Order.Msb0 bits }
 {
     let count = width / 8;
     let behind = width % 8;
@@ -47,7 +50,8 @@ fn number_of_high(word: u64, width: usize) -> u64
 #[inline(always)]
 pub fn narrow_word(number: u64, width: usize, endian: Endian, order: Order) -> u64
     requires few { width ≤ 64 }
-    ensures { (bits : List Bool) → length bits ≡ width → number ≡ number_of endian order bits → result ≡ word_of order bits }
+    ensures { (bits : List Bool) → length bits ≡ width → number ≡ number_of endian order bits
+        → result ≡ word_of order bits }
 {
     // One group alone is its own number.
     if width <= 8 {
@@ -60,12 +64,14 @@ pub fn narrow_word(number: u64, width: usize, endian: Endian, order: Order) -> u
     }
 }
 
-// The word of bits, the highest first, from their number: the bytes before the last bits are turned, and these follow.
+// The word of bits, the highest first, from their number: the bytes before the last bits are
+// turned, and these follow.
 #[inline(always)]
 fn word_of_high(number: u64, width: usize) -> u64
     requires more { 8 < width }
     requires few { width ≤ 64 }
-    ensures { (bits : List Bool) → length bits ≡ width → number ≡ number_of Endian.Big Order.Msb0 bits → result ≡ word_of Order.Msb0 bits }
+    ensures { (bits : List Bool) → length bits ≡ width
+        → number ≡ number_of Endian.Big Order.Msb0 bits → result ≡ word_of Order.Msb0 bits }
 {
     let count = width / 8;
     let behind = width % 8;

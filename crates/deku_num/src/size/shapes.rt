@@ -1,6 +1,6 @@
 //! Sizes of truth values and of tuples.
 
-ghost use Rattle.std.specs.Prelude.{◌≡◌};
+ghost use Rattle.std.specs.Prelude.{◌≡◌, Some, refl};
 ghost use Rattle.deku_num.specs.Sizes.{within_usize, both};
 
 use crate::size::{DekuSize, DekuSizeConst};
@@ -16,8 +16,6 @@ fn sum(first: Option<usize>, second: Option<usize>) -> Option<usize>
 }
 
 impl DekuSize for bool {
-    ghost use Rattle.std.specs.Prelude.{Some};
-
     ghost bits = { Some 8 };
 
     fn size_bits() -> Option<usize> {
@@ -26,8 +24,6 @@ impl DekuSize for bool {
 }
 
 impl DekuSizeConst for bool {
-    ghost use Rattle.std.specs.Prelude.{Some, refl};
-
     ghost SIZE_BITS = { 8 };
 
     ghost SIZE_BYTES = { Some 1 };
@@ -50,7 +46,8 @@ impl<A: DekuSize> DekuSize for (A,) {
     }
 }
 
-/// The bits of all items together; none where one is not known or the sum does not fit `usize`. So with each tuple below.
+/// The bits of all items together; none where one is not known or the sum does not fit `usize`. So
+/// with each tuple below.
 impl<A: DekuSize, B: DekuSize> DekuSize for (A, B) {
     ghost bits = { both A.bits B.bits };
 

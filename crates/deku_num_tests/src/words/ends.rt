@@ -1,4 +1,5 @@
-//! Words near the end of the bytes, where the next eight are at hand or no more, against a source that has none at hand.
+//! Words near the end of the bytes, where the next eight are at hand or no more, against a source
+//! that has none at hand.
 
 use deku_bits::ctx::Order;
 use deku_bits::ctx::Order::{Lsb0, Msb0};
@@ -13,8 +14,9 @@ use std::alloc::Global;
 use std::io::Cursor;
 use std::test::Fail;
 
-// So many bytes, and how many of them are read first. Of those after them, the first is read in part: so words begin at the first byte of
-// eight, and of seven and fewer, and they end at each bit up to the last.
+// So many bytes, and how many of them are read first. Of those after them, the first is read in
+// part: so words begin at the first byte of eight, and of seven and fewer, and they end at each bit
+// up to the last.
 const ENDS: [(usize, usize); 7] = [(17, 9), (17, 8), (17, 10), (9, 1), (8, 0), (7, 0), (16, 13)];
 
 // A word that is read after so many bytes and bits of an order.
@@ -32,7 +34,8 @@ impl Start {
     }
 }
 
-// What a reader returns: the word of n bits, then that of the rest of the last byte, and the bits that are read.
+// What a reader returns: the word of n bits, then that of the rest of the last byte, and the bits
+// that are read.
 type Words = (u128, u128, usize);
 
 // How many bits of the last byte are left after n bits.
@@ -140,7 +143,8 @@ fn sources_with_nothing_at_hand_fail_as_they_fetch(rt: HostRuntime) -> Result<()
     Ok(())
 }
 
-// Bits that are read in turn from the highest down, so many of them, and the number that is wanted where they are unread or at hand.
+// Bits that are read in turn from the highest down, so many of them, and the number that is wanted
+// where they are unread or at hand.
 const HIGH: [(usize, Option<u64>); 7] = [
     (12, Some(0xABC)),
     (0, Some(0)),

@@ -8,11 +8,12 @@ use std::io::Cursor;
 use std::process::Abort;
 use std::test::Fail;
 
-// Bits that are written first, in `Lsb0`; numbers of so many bits, and whether each is laid; then how many bits are counted, and how many
-// are pending.
+// Bits that are written first, in `Lsb0`; numbers of so many bits, and whether each is laid; then
+// how many bits are counted, and how many are pending.
 type Row = (&'static [bool], &'static [(u64, usize, bool)], usize, usize);
 
-// After forty bits fewer than eight bytes of room are left. No number is laid after bits of the other order.
+// After forty bits fewer than eight bytes of room are left. No number is laid after bits of the
+// other order.
 const ROWS: [Row; 2] = [
     (
         &[],
@@ -41,7 +42,11 @@ fn lay_numbers<W: Sink + Drop>(rt: &impl Abort, sink: W, row: &Row) -> Result<W,
     writer.write_bits_order(front, Lsb0)?;
     for (number, n, is_laid) in *numbers {
         assert!(rt; *n < 64 && *number < 1 << *n);
-        same(&(front.len(), *n), &writer.try_write_msb(*number, *n), is_laid)?;
+        same(
+            &(front.len(), *n),
+            &writer.try_write_msb(*number, *n),
+            is_laid,
+        )?;
     }
     let left = (writer.bits_written(), writer.leftover().0.len());
     same(&(front.len(), 64), &left, &(*count, *pending))?;

@@ -1,4 +1,7 @@
-//! Words where eight bytes of room are left, where fewer are, and onto a sink that never lays them at once.
+//! Words where eight bytes of room are left, where fewer are, and onto a sink that never lays them
+//! at once.
+
+ghost use Rattle.deku_bits.specs.Devices.{unknown_sink};
 
 use deku_bits::ctx::Order;
 use deku_bits::device::Sink;
@@ -34,8 +37,6 @@ impl<S: Seek> Seek for Giving<S> {
 
 // It says nothing of itself.
 impl<S: Sink> Sink for Giving<S> {
-    ghost use Rattle.deku_bits.specs.Devices.{unknown_sink};
-
     ghost known = { λ _. unknown_sink };
 
     fn give(&mut self, bytes: &[u8]) -> io::Result<()> {
@@ -73,7 +74,8 @@ struct Row {
     order: Order,
 }
 
-// Writes both into what is left of a slice: whether they were written, how many bits were counted, and how many are pending.
+// Writes both into what is left of a slice: whether they were written, how many bits were counted,
+// and how many are pending.
 fn write_both<S: Sink + Drop>(rt: &impl Abort, sink: S, row: Row) -> Left {
     let mut writer = Writer::new(sink);
     let mut front = FRONT;

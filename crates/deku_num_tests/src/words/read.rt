@@ -19,8 +19,8 @@ struct Start {
     looks: bool,
 }
 
-// A reader over the source looks for the end or reads so many bits; then it reads the word, or its bits as they are shown: the word, how
-// many bits are read then, and the source.
+// A reader over the source looks for the end or reads so many bits; then it reads the word, or its
+// bits as they are shown: the word, how many bits are read then, and the source.
 fn read_from<R: Source + Drop>(
     alloc: Global,
     source: R,
@@ -62,7 +62,8 @@ fn read_bytes(
     Ok((word, count, source.position()))
 }
 
-// A word of n bits is that of the bits that are met, and of those that a read of as many bits shows.
+// A word of n bits is that of the bits that are met, and of those that a read of as many bits
+// shows.
 fn expect_word(
     alloc: Global,
     bytes: &[u8],

@@ -20,7 +20,8 @@ struct Start {
     order: Order,
 }
 
-// Writes bits and then a word, or its bits as they are shown, and what is pending: how many bits were counted, and how many were pending.
+// Writes bits and then a word, or its bits as they are shown, and what is pending: how many bits
+// were counted, and how many were pending.
 fn put_behind<W: Sink + Drop>(
     sink: W,
     start: Start,
@@ -46,7 +47,8 @@ fn put_behind<W: Sink + Drop>(
     Ok((writer.bits_written(), pending))
 }
 
-// The bytes that a writer makes, how many bits are counted, and how many were pending before the last byte was filled.
+// The bytes that a writer makes, how many bits are counted, and how many were pending before the
+// last byte was filled.
 fn made(
     start: Start,
     word: u128,
@@ -60,7 +62,8 @@ fn made(
     Ok((slice, count, pending))
 }
 
-// A word of n bits makes what its bits make. In one order throughout, the bits that the order meets after the first ones are those of the word.
+// A word of n bits makes what its bits make. In one order throughout, the bits that the order meets
+// after the first ones are those of the word.
 fn expect_word(start: Start, word: u128, n: usize, order: Order) -> Result<(), Fail> {
     let row = (start.offset, n);
     let word = fitting(word, n.min(128));

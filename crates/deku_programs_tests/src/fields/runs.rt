@@ -1,9 +1,9 @@
 //! The program's runs, one a line: the words, the input, the status, what is printed and what is
-//! complained of, with bars between them. Each word has a slash in front of it, and a semicolon is a
-//! newline.
+//! complained of, with bars between them. Each word has a slash in front of it, and a semicolon is
+//! a newline.
 
-/// What is written, to the bounds of numbers; what is read; values, sizes and input that are refused;
-/// and words of no form that the program knows.
+/// What is written, to the bounds of numbers; what is read; values, sizes and input that are
+/// refused; and words of no form that the program knows.
 pub const RUNS: &str = "/write/u8,big,bits4=6/u8,big,bits4=9/u16,big=49406||0|69c0fe;|
 /write/u8,big,bits3=5||0|a0;|
 /write/u8,big,msb,bits3=5||0|a0;|

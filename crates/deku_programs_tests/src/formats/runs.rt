@@ -1,7 +1,7 @@
 //! The program's runs, one a line: the words, the input, the status, what is printed and what is
-//! complained of, with bars between them. Each word has a slash in front of it, and a semicolon is a
-//! newline. The packets, the files and the instruction words, and what they say, are those of the tests
-//! of the formats; the options have four numbers more.
+//! complained of, with bars between them. Each word has a slash in front of it, and a semicolon is
+//! a newline. The packets, the files and the instruction words, and what they say, are those of the
+//! tests of the formats; the options have four numbers more.
 
 pub const RUNS: &str =
     "/udp|9cbbd11f000afe1d6869;|0|source 40123;destination 53535;length 10;checksum 65053;same;left 2;|

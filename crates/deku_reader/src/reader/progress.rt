@@ -36,7 +36,8 @@ use std::io;
 use std::io::ErrorKind;
 use std::marker::Model;
 
-/// The unread bits of a byte, the fault that stopped the reader, if any, and how many bits were read.
+/// The unread bits of a byte, the fault that stopped the reader, if any, and how many bits were
+/// read.
 #[derive(Drop)]
 pub struct ReaderState {
     window: Window,
@@ -111,7 +112,8 @@ impl ReaderState {
         }
     }
 
-    /// Refuses what a reader refuses before it moves anything: by its kept fault, or since the count has no room.
+    /// Refuses what a reader refuses before it moves anything: by its kept fault, or since the
+    /// count has no room.
     #[inline(always)]
     pub fn admits(&self, amt: usize) -> Result<(), DekuError>
         ensures { Admits amt self.now result }
@@ -139,8 +141,10 @@ impl ReaderState {
         dst: &mut [bool],
         order: Order,
     ) -> Result<(), DekuError>
-        ensures takes { ReadsAt (TakesBits order (length dst.old)) (R.known source.old) self.old (filling result dst.new) (R.known source.new) self.new }
-        ensures fetched { OnOk result (FetchesFor (length dst.old) self.old (R.known source.old) (R.known source.new)) }
+        ensures takes { ReadsAt (TakesBits order (length dst.old)) (R.known source.old) self.old
+            (filling result dst.new) (R.known source.new) self.new }
+        ensures fetched { OnOk result (FetchesFor (length dst.old) self.old (R.known source.old)
+            (R.known source.new)) }
         ensures early { NoneEarly self.old self.new }
         ensures still { NeedsNone (length dst.old) self.old → source.new ≡ source.old }
         ensures stopped { Untouched self.old source.old source.new }
@@ -168,8 +172,10 @@ impl ReaderState {
         order: Order,
     ) -> Result<u128, DekuError>
         requires { amt ≤ 128 }
-        ensures reads { ReadsAt (ReadsWord order amt) (R.known source.old) self.old result (R.known source.new) self.new }
-        ensures fetched { OnOk result (FetchesFor amt self.old (R.known source.old) (R.known source.new)) }
+        ensures reads { ReadsAt (ReadsWord order amt) (R.known source.old) self.old result
+            (R.known source.new) self.new }
+        ensures fetched { OnOk result (FetchesFor amt self.old (R.known source.old)
+            (R.known source.new)) }
         ensures early { NoneEarly self.old self.new }
         ensures still { NeedsNone amt self.old → source.new ≡ source.old }
         ensures stopped { Untouched self.old source.old source.new }
@@ -188,14 +194,16 @@ impl ReaderState {
         }
     }
 
-    /// Takes at most 64 bits from the highest down, where nothing refuses them and they are unread or at hand, as their number. It answers none else, and
-    /// then nothing moves.
+    /// Takes at most 64 bits from the highest down, where nothing refuses them and they are unread
+    /// or at hand, as their number. It answers none else, and then nothing moves.
     #[inline(always)]
     pub fn try_read_msb<R: Source>(&mut self, source: &mut R, amt: usize) -> Option<u64>
         requires { amt ≤ 64 }
-        ensures takes { IfSome result (λ number. ReadsAt (TakesBits Msb0 amt) (R.known source.old) self.old (Ok (bits_of amt number)) (R.known source.new) self.new) }
+        ensures takes { IfSome result (λ number. ReadsAt (TakesBits Msb0 amt) (R.known source.old)
+            self.old (Ok (bits_of amt number)) (R.known source.new) self.new) }
         ensures below { IfSome result (λ number. number < 2 ^ amt) }
-        ensures fetched { IfSome result (λ number. FetchesFor amt self.old (R.known source.old) (R.known source.new)) }
+        ensures fetched { IfSome result (λ number. FetchesFor amt self.old (R.known source.old)
+            (R.known source.new)) }
         ensures early { NoneEarly self.old self.new }
         ensures still { NeedsNone amt self.old → source.new ≡ source.old }
         ensures stays { IsNone result → (self.new ≡ self.old) × (source.new ≡ source.old) }
@@ -217,8 +225,10 @@ impl ReaderState {
         dst: &mut [u8],
         order: Order,
     ) -> Result<(), DekuError>
-        ensures reads { ReadsAt (ReadsBytes order (length dst.old)) (R.known source.old) self.old (filling result dst.new) (R.known source.new) self.new }
-        ensures fetched { OnOk result (FetchesFor (8 * length dst.old) self.old (R.known source.old) (R.known source.new)) }
+        ensures reads { ReadsAt (ReadsBytes order (length dst.old)) (R.known source.old) self.old
+            (filling result dst.new) (R.known source.new) self.new }
+        ensures fetched { OnOk result (FetchesFor (8 * length dst.old) self.old (R.known source.old)
+            (R.known source.new)) }
         ensures early { NoneEarly self.old self.new }
         ensures still { NeedsNone (8 * length dst.old) self.old → source.new ≡ source.old }
         ensures stopped { Untouched self.old source.old source.new }
@@ -238,7 +248,8 @@ impl ReaderState {
         }
     }
 
-    /// Puts so many bytes in this order into an empty vector that has room for them, and stops where that fails.
+    /// Puts so many bytes in this order into an empty vector that has room for them, and stops
+    /// where that fails.
     #[inline(always)]
     pub fn take_bytes_onto<R: Source>(
         &mut self,
@@ -249,8 +260,10 @@ impl ReaderState {
     ) -> Result<(), DekuError>
         requires empty { vec_len bytes.old ≡ 0 }
         requires room { amt ≤ vec_capacity bytes.old }
-        ensures reads { ReadsAt (ReadsBytes order amt) (R.known source.old) self.old (filling result bytes.new.items) (R.known source.new) self.new }
-        ensures fetched { OnOk result (FetchesFor (8 * amt) self.old (R.known source.old) (R.known source.new)) }
+        ensures reads { ReadsAt (ReadsBytes order amt) (R.known source.old) self.old
+            (filling result bytes.new.items) (R.known source.new) self.new }
+        ensures fetched { OnOk result (FetchesFor (8 * amt) self.old (R.known source.old)
+            (R.known source.new)) }
         ensures early { NoneEarly self.old self.new }
         ensures still { NeedsNone (8 * amt) self.old → source.new ≡ source.old }
         ensures stopped { Untouched self.old source.old source.new }
@@ -269,12 +282,16 @@ impl ReaderState {
         }
     }
 
-    /// Whether the end of input is reached: fetches a byte where no bit is unread, and does not count it.
+    /// Whether the end of input is reached: fetches a byte where no bit is unread, and does not
+    /// count it.
     pub fn end<R: Source>(&mut self, source: &mut R) -> Result<bool, DekuError>
-        ensures reads { ReadsAt Ending (R.known source.old) self.old result (R.known source.new) self.new }
-        ensures fetched { OnOk result (FetchesAhead self.old self.new (R.known source.old) (R.known source.new)) }
+        ensures reads { ReadsAt Ending (R.known source.old) self.old result (R.known source.new)
+            self.new }
+        ensures fetched { OnOk result (FetchesAhead self.old self.new (R.known source.old)
+            (R.known source.new)) }
         ensures held { OnOk result (length (window_of self.new) ≤ 8) }
-        ensures unread { 0 < length (window_of self.old) → (result ≡ Ok false) × (self.new ≡ self.old) × (source.new ≡ source.old) }
+        ensures unread { 0 < length (window_of self.old) → (result ≡ Ok false)
+            × (self.new ≡ self.old) × (source.new ≡ source.old) }
         ensures stopped { Untouched self.old source.old source.new }
     {
         if let Some(kept) = self.tally.fault() {
@@ -298,14 +315,16 @@ impl ReaderState {
         }
     }
 
-    /// Leaves out bits: those of the window in this order, then whole bytes, then fewer than eight bits in this order.
+    /// Leaves out bits: those of the window in this order, then whole bytes, then fewer than eight
+    /// bits in this order.
     pub fn skip_bits<R: Source>(
         &mut self,
         source: &mut R,
         amt: usize,
         order: Order,
     ) -> Result<(), DekuError>
-        ensures skips { ReadsAt (Skips order amt) (R.known source.old) self.old result (R.known source.new) self.new }
+        ensures skips { ReadsAt (Skips order amt) (R.known source.old) self.old result
+            (R.known source.new) self.new }
         ensures early { NoneEarly self.old self.new }
         ensures still { NeedsNone amt self.old → source.new ≡ source.old }
         ensures named { NamesRest amt self.old result }
@@ -336,10 +355,14 @@ impl ReaderState {
 
 // Fetches one byte.
 fn fetch_byte<R: Source>(source: &mut R) -> io::Result<u8>
-    ensures bytes { IfOk result (λ b. Consumes (R.known source.old).remaining (R.known source.new).remaining (b ∷ [])) }
-    ensures short { IfErr result (λ e. error_kind e ≡ ErrorKind.UnexpectedEof → FewerThan 1 (R.known source.old).remaining) }
-    ensures ended { IfErr result (λ e. error_kind e ≡ ErrorKind.UnexpectedEof → StaysEmpty (R.known source.old).remaining (R.known source.new).remaining) }
-    ensures failed { IfErr result (λ e. error_kind e ≢ ErrorKind.UnexpectedEof → DeviceFailed (R.known source.old).health (R.known source.new).health) }
+    ensures bytes { IfOk result (λ b. Consumes (R.known source.old).remaining
+        (R.known source.new).remaining (b ∷ [])) }
+    ensures short { IfErr result (λ e. error_kind e ≡ ErrorKind.UnexpectedEof
+        → FewerThan 1 (R.known source.old).remaining) }
+    ensures ended { IfErr result (λ e. error_kind e ≡ ErrorKind.UnexpectedEof
+        → StaysEmpty (R.known source.old).remaining (R.known source.new).remaining) }
+    ensures failed { IfErr result (λ e. error_kind e ≢ ErrorKind.UnexpectedEof
+        → DeviceFailed (R.known source.old).health (R.known source.new).health) }
     ensures kept { DeviceKept (R.known source.old).health (R.known source.new).health }
 {
     let mut buf = [0u8; 1];
@@ -349,15 +372,18 @@ fn fetch_byte<R: Source>(source: &mut R) -> io::Result<u8>
 
 // What stops a reader that wanted this many bits: the end of input, or the kind of the fault.
 fn fault_of(error: &io::Error, bits: usize) -> Fault
-    ensures { ((error_kind error.now ≡ ErrorKind.UnexpectedEof) × (result ≡ Fault.Incomplete (record { bits = bits })))
-        ⊎ ((error_kind error.now ≢ ErrorKind.UnexpectedEof) × (result ≡ Fault.Io (error_kind error.now))) }
+    ensures { ((error_kind error.now ≡ ErrorKind.UnexpectedEof)
+        × (result ≡ Fault.Incomplete (record { bits = bits })))
+        ⊎ ((error_kind error.now ≢ ErrorKind.UnexpectedEof)
+        × (result ≡ Fault.Io (error_kind error.now))) }
 {
     fault_of_kind(error.kind(), bits)
 }
 
 // The same, from the kind of the fault.
 fn fault_of_kind(kind: ErrorKind, bits: usize) -> Fault
-    ensures { ((kind ≡ ErrorKind.UnexpectedEof) × (result ≡ Fault.Incomplete (record { bits = bits })))
+    ensures { ((kind ≡ ErrorKind.UnexpectedEof)
+        × (result ≡ Fault.Incomplete (record { bits = bits })))
         ⊎ ((kind ≢ ErrorKind.UnexpectedEof) × (result ≡ Fault.Io kind)) }
 {
     if kind == ErrorKind::UnexpectedEof {

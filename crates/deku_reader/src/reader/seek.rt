@@ -16,17 +16,20 @@ use deku_stream::error::Fault;
 use std::io;
 use std::io::{ErrorKind, Seek, SeekFrom};
 
-/// Seeks the source. No bit of the byte that was fetched last is unread then, also where that byte was fetched by `end`.
+/// Seeks the source. No bit of the byte that was fetched last is unread then, also where that byte
+/// was fetched by `end`.
 ///
-/// A seek that succeeds lets a reader go on that a fault had stopped. For `Start` of a place other than 0 the count of bits read is then
-/// that of the bytes before the place; for `Current` forward it is raised by the bits of the bytes that are left out. It stays for
-/// `Start(0)`, for `End`, and for `Current` backward.
+/// A seek that succeeds lets a reader go on that a fault had stopped. For `Start` of a place other
+/// than 0 the count of bits read is then that of the bytes before the place; for `Current` forward
+/// it is raised by the bits of the bytes that are left out. It stays for `Start(0)`, for `End`, and
+/// for `Current` backward.
 ///
 /// It is refused
 ///
-/// - with an error of kind `InvalidInput` where the count would be more than a `usize` holds; nothing changes, and the source is not
-///   asked;
-/// - with the source's error, where it refuses. That stops the reader with `Io` of the error's kind, and the count stays.
+/// - with an error of kind `InvalidInput` where the count would be more than a `usize` holds;
+///   nothing changes, and the source is not asked;
+/// - with the source's error, where it refuses. That stops the reader with `Io` of the error's
+///   kind, and the count stays.
 ///
 /// ```text
 /// reader.read_bits(4, Order::Msb0)?;   // from 01 02 03
@@ -36,16 +39,26 @@ use std::io::{ErrorKind, Seek, SeekFrom};
 /// ```
 impl<R: Source> Seek for Reader<R> {
     fn seek(&mut self, to: SeekFrom) -> io::Result<u64>
-        ensures ok { OnOk result (self.new.state ≡ Going [] (count_after to (count_of self.old.state))) }
-        ensures refused { 2 ^ 64 ≤ count_after to (count_of self.old.state) → IsErrAnd result (λ e. error_kind e ≡ ErrorKind.InvalidInput) × (self.new ≡ self.old) }
-        ensures err { count_after to (count_of self.old.state) < 2 ^ 64 → IfErr result (λ e. self.new.state ≡ Stopped [] (DekuError.Io (error_kind e)) (count_of self.old.state)) }
+        ensures ok { OnOk result (self.new.state ≡ Going []
+            (count_after to (count_of self.old.state))) }
+        ensures refused { 2 ^ 64 ≤ count_after to (count_of self.old.state)
+            → IsErrAnd result (λ e. error_kind e ≡ ErrorKind.InvalidInput) × (self.new ≡ self.old) }
+        ensures err { count_after to (count_of self.old.state) < 2 ^ 64
+            → IfErr result (λ e. self.new.state ≡ Stopped [] (DekuError.Io (error_kind e))
+            (count_of self.old.state)) }
         // Where the source knows its place and its bytes, it is where its own seek leaves it.
-        ensures place { SeekMoves (R.stream_position self.old.source) (R.stream_position self.new.source) (R.stream_bytes self.old.source) to result }
-        ensures source_bytes { Keeps (R.stream_bytes self.old.source) (R.stream_bytes self.new.source) }
+        ensures place { SeekMoves (R.stream_position self.old.source)
+            (R.stream_position self.new.source) (R.stream_bytes self.old.source) to result }
+        ensures source_bytes { Keeps (R.stream_bytes self.old.source)
+            (R.stream_bytes self.new.source) }
         // Where the source tells all its bytes, those from there on are to come.
-        ensures sought { Seeks (R.known self.old.source).health (R.known self.new.source).health to result }
-        ensures remaining { ComesFrom (R.known self.old.source).health.whole result (R.known self.new.source) }
-        ensures nowhere { count_after to (count_of self.old.state) < 2 ^ 64 → RefusedSeek (R.known self.old.source).health (R.known self.new.source).health to result }
+        ensures sought { Seeks (R.known self.old.source).health (R.known self.new.source).health to
+            result }
+        ensures remaining { ComesFrom (R.known self.old.source).health.whole result
+            (R.known self.new.source) }
+        ensures nowhere { count_after to (count_of self.old.state) < 2 ^ 64
+            → RefusedSeek (R.known self.old.source).health (R.known self.new.source).health to
+            result }
         ensures alloc { self.new.alloc ≡ self.old.alloc }
         // What the trait asks of a stream whose own place is not known.
         ensures moves { SeekMoves None None None to result }
@@ -70,12 +83,18 @@ impl<R: Source> Seek for Reader<R> {
     /// Seeks to the start, as `seek(SeekFrom::Start(0))` does.
     fn rewind(&mut self) -> io::Result<()>
         ensures ok { OnOk result (self.new.state ≡ Going [] (count_of self.old.state)) }
-        ensures err { IfErr result (λ e. self.new.state ≡ Stopped [] (DekuError.Io (error_kind e)) (count_of self.old.state)) }
-        ensures place { MovesTo (R.stream_position self.old.source) (R.stream_position self.new.source) 0 result }
-        ensures source_bytes { Keeps (R.stream_bytes self.old.source) (R.stream_bytes self.new.source) }
-        ensures sought { Seeks (R.known self.old.source).health (R.known self.new.source).health (Start 0) (toward 0 result) }
-        ensures remaining { ComesFrom (R.known self.old.source).health.whole (toward 0 result) (R.known self.new.source) }
-        ensures nowhere { RefusedSeek (R.known self.old.source).health (R.known self.new.source).health (Start 0) (toward 0 result) }
+        ensures err { IfErr result (λ e. self.new.state ≡ Stopped [] (DekuError.Io (error_kind e))
+            (count_of self.old.state)) }
+        ensures place { MovesTo (R.stream_position self.old.source)
+            (R.stream_position self.new.source) 0 result }
+        ensures source_bytes { Keeps (R.stream_bytes self.old.source)
+            (R.stream_bytes self.new.source) }
+        ensures sought { Seeks (R.known self.old.source).health (R.known self.new.source).health
+            (Start 0) (toward 0 result) }
+        ensures remaining { ComesFrom (R.known self.old.source).health.whole (toward 0 result)
+            (R.known self.new.source) }
+        ensures nowhere { RefusedSeek (R.known self.old.source).health
+            (R.known self.new.source).health (Start 0) (toward 0 result) }
         ensures alloc { self.new.alloc ≡ self.old.alloc }
         ensures moves { MovesTo None None 0 result }
         ensures bytes { Keeps None None }
@@ -85,15 +104,23 @@ impl<R: Source> Seek for Reader<R> {
         Ok(())
     }
 
-    /// The place of the source, as `seek(SeekFrom::Current(0))` answers it: so it leaves no bit unread.
+    /// The place of the source, as `seek(SeekFrom::Current(0))` answers it: so it leaves no bit
+    /// unread.
     fn stream_position(&mut self) -> io::Result<u64>
         ensures ok { OnOk result (self.new.state ≡ Going [] (count_of self.old.state)) }
-        ensures err { IfErr result (λ e. self.new.state ≡ Stopped [] (DekuError.Io (error_kind e)) (count_of self.old.state)) }
-        ensures place { SeekMoves (R.stream_position self.old.source) (R.stream_position self.new.source) (R.stream_bytes self.old.source) (Current (pos 0)) result }
-        ensures source_bytes { Keeps (R.stream_bytes self.old.source) (R.stream_bytes self.new.source) }
-        ensures sought { Seeks (R.known self.old.source).health (R.known self.new.source).health (Current (pos 0)) result }
-        ensures remaining { ComesFrom (R.known self.old.source).health.whole result (R.known self.new.source) }
-        ensures nowhere { RefusedSeek (R.known self.old.source).health (R.known self.new.source).health (Current (pos 0)) result }
+        ensures err { IfErr result (λ e. self.new.state ≡ Stopped [] (DekuError.Io (error_kind e))
+            (count_of self.old.state)) }
+        ensures place { SeekMoves (R.stream_position self.old.source)
+            (R.stream_position self.new.source) (R.stream_bytes self.old.source) (Current (pos 0))
+            result }
+        ensures source_bytes { Keeps (R.stream_bytes self.old.source)
+            (R.stream_bytes self.new.source) }
+        ensures sought { Seeks (R.known self.old.source).health (R.known self.new.source).health
+            (Current (pos 0)) result }
+        ensures remaining { ComesFrom (R.known self.old.source).health.whole result
+            (R.known self.new.source) }
+        ensures nowhere { RefusedSeek (R.known self.old.source).health
+            (R.known self.new.source).health (Current (pos 0)) result }
         ensures alloc { self.new.alloc ≡ self.old.alloc }
         ensures stays { StaysAt None None }
         ensures bytes { Keeps None None }
@@ -104,14 +131,24 @@ impl<R: Source> Seek for Reader<R> {
 
     /// Seeks from its place, as `seek(SeekFrom::Current(offset))` does.
     fn seek_relative(&mut self, offset: i64) -> io::Result<()>
-        ensures ok { OnOk result (self.new.state ≡ Going [] (count_after (Current offset) (count_of self.old.state))) }
-        ensures refused { 2 ^ 64 ≤ count_after (Current offset) (count_of self.old.state) → IsErrAnd result (λ e. error_kind e ≡ ErrorKind.InvalidInput) × (self.new ≡ self.old) }
-        ensures err { count_after (Current offset) (count_of self.old.state) < 2 ^ 64 → IfErr result (λ e. self.new.state ≡ Stopped [] (DekuError.Io (error_kind e)) (count_of self.old.state)) }
-        ensures place { MovesBy (R.stream_position self.old.source) (R.stream_position self.new.source) offset result }
-        ensures source_bytes { Keeps (R.stream_bytes self.old.source) (R.stream_bytes self.new.source) }
-        ensures sought { (n : ℕ) × Seeks (R.known self.old.source).health (R.known self.new.source).health (Current offset) (toward n result)
-            × ComesFrom (R.known self.old.source).health.whole (toward n result) (R.known self.new.source) }
-        ensures nowhere { count_after (Current offset) (count_of self.old.state) < 2 ^ 64 → RefusedSeek (R.known self.old.source).health (R.known self.new.source).health (Current offset) (toward 0 result) }
+        ensures ok { OnOk result (self.new.state ≡ Going []
+            (count_after (Current offset) (count_of self.old.state))) }
+        ensures refused { 2 ^ 64 ≤ count_after (Current offset) (count_of self.old.state)
+            → IsErrAnd result (λ e. error_kind e ≡ ErrorKind.InvalidInput) × (self.new ≡ self.old) }
+        ensures err { count_after (Current offset) (count_of self.old.state) < 2 ^ 64
+            → IfErr result (λ e. self.new.state ≡ Stopped [] (DekuError.Io (error_kind e))
+            (count_of self.old.state)) }
+        ensures place { MovesBy (R.stream_position self.old.source)
+            (R.stream_position self.new.source) offset result }
+        ensures source_bytes { Keeps (R.stream_bytes self.old.source)
+            (R.stream_bytes self.new.source) }
+        ensures sought { (n : ℕ) × Seeks (R.known self.old.source).health
+            (R.known self.new.source).health (Current offset) (toward n result)
+            × ComesFrom (R.known self.old.source).health.whole (toward n result)
+            (R.known self.new.source) }
+        ensures nowhere { count_after (Current offset) (count_of self.old.state) < 2 ^ 64
+            → RefusedSeek (R.known self.old.source).health (R.known self.new.source).health
+            (Current offset) (toward 0 result) }
         ensures alloc { self.new.alloc ≡ self.old.alloc }
         ensures moves { MovesBy None None offset result }
         ensures bytes { Keeps None None }

@@ -3,7 +3,7 @@
 ghost use Rattle.std.specs.Prelude.{◌≡◌, ℕ, ◌<◌, List, Option, Some, None, map, length, slice_index_or, slice_set, IsSome, OnOk, IfOk};
 ghost use Rattle.deku_bits.specs.ReaderCalls.{Reads, filling};
 ghost use Rattle.deku_reading.specs.Early.{NoReadAhead};
-ghost use Rattle.deku_reading.specs.Lists.{ReadsTimes};
+ghost use Rattle.deku_reading.specs.Lists.{ReadsTimes, Seen};
 
 use crate::traits::DekuReader;
 use deku_bits::device::Source;
@@ -40,9 +40,12 @@ pub trait ArrayLike: Drop {
         Self::Element: DekuReader<C>,
         requires readable { Self.Element.DekuReader.accepts ctx }
         requires slots { length (slots_of slots.old) ≡ count }
-        ensures reads { (xs : List Self.Element) × Reads R.known (ReadsTimes count (Self.Element.DekuReader.meaning ctx)) reader.old (filling result xs) reader.new
+        ensures reads { (xs : List Self.Element)
+            × Reads R.known (ReadsTimes count (Self.Element.DekuReader.meaning ctx)) reader.old
+            (filling result xs) reader.new
             × IfOk result (λ _. (length xs ≡ count) × (slots_of slots.new ≡ map Some xs)) }
-        ensures early { OnOk result (Self.Element.DekuReader.no_read_ahead ctx → NoReadAhead R.known reader.old reader.new) };
+        ensures early { OnOk result (Self.Element.DekuReader.no_read_ahead ctx
+            → NoReadAhead R.known reader.old reader.new) };
 
     /// The elements in slots that are full.
     fn turned(slots: Self::Slots) -> Self
@@ -52,14 +55,12 @@ pub trait ArrayLike: Drop {
         ensures { slots_of slots ≡ map Some (elements_of result) };
 }
 
-/// The elements in order, under the elements' context. The refusal is that of the first element that is refused, and what the elements
-/// before it moved stays moved.
+/// The elements in order, under the elements' context. The refusal is that of the first element
+/// that is refused, and what the elements before it moved stays moved.
 impl<C: Copy, X: ArrayLike> DekuReader<C> for X
 where
     X::Element: DekuReader<C>,
 {
-    ghost use Rattle.deku_reading.specs.Lists.{ReadsTimes, Seen};
-
     ghost accepts = { X.Element.accepts };
 
     ghost no_read_ahead = { X.Element.no_read_ahead };
@@ -82,7 +83,8 @@ fn fill_slots<C: Copy, T: DekuReader<C>, R: Source>(
     ctx: C,
 ) -> Result<(), DekuError>
     requires { T.accepts ctx }
-    ensures reads { (xs : List T) × Reads R.known (ReadsTimes (length slots.old) (T.meaning ctx)) reader.old (filling result xs) reader.new
+    ensures reads { (xs : List T) × Reads R.known (ReadsTimes (length slots.old) (T.meaning ctx))
+        reader.old (filling result xs) reader.new
         × IfOk result (λ _. (length xs ≡ length slots.old) × (slots.new ≡ map Some xs)) }
     ensures early { OnOk result (T.no_read_ahead ctx → NoReadAhead R.known reader.old reader.new) }
 {

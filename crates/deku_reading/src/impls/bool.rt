@@ -1,25 +1,22 @@
 //! Truth values, as numbers of a byte.
 
+ghost use Rattle.std.specs.Prelude.{◌<◌, codes};
+ghost use Rattle.deku_num.specs.Numbers.{byte};
+ghost use Rattle.deku_num.specs.NumberCalls.{ReadsUnsigned};
+ghost use Rattle.deku_meanings.specs.Composing.{Then};
+ghost use Rattle.deku_meanings.specs.Shapes.{ShowsUnless, numeral};
+
 use crate::traits::DekuReader;
 use deku_bits::device::Source;
 use deku_bits::error::DekuError;
 use deku_bits::reader::Reader;
 use deku_num::ctx::NumberCtx;
 
-/// Read as a `u8`, and refused as that is: 0 is false and 1 is true. Another number is refused with `Parse("cannot parse bool value")`, and its
-/// bits stay read.
+/// Read as a `u8`, and refused as that is: 0 is false and 1 is true. Another number is refused with
+/// `Parse("cannot parse bool value")`, and its bits stay read.
 impl<C: NumberCtx> DekuReader<C> for bool {
-    ghost use Rattle.std.specs.Prelude.{◌≡◌, ◌<◌, codes};
-    ghost use Rattle.deku_num.specs.Numbers.{byte};
-    ghost use Rattle.deku_num.specs.NumberCalls.{ReadsUnsigned};
-    ghost use Rattle.deku_meanings.specs.Composing.{Then};
-    ghost use Rattle.deku_meanings.specs.Shapes.{ShowsUnless, numeral};
-
-    ghost accepts = { λ c. c ≡ c };
-
-    ghost no_read_ahead = { λ c. c ≡ c };
-
-    ghost meaning = { λ c. Then (ReadsUnsigned byte (C.layout_of c)) (ShowsUnless (λ n. 1 < n) (codes "cannot parse bool value") numeral) };
+    ghost meaning = { λ c. Then (ReadsUnsigned byte (C.layout_of c))
+        (ShowsUnless (λ n. 1 < n) (codes "cannot parse bool value") numeral) };
 
     #[inline(always)]
     fn from_reader_with_ctx<R: Source>(reader: &mut Reader<R>, ctx: C) -> Result<Self, DekuError> {

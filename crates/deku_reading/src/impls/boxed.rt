@@ -1,5 +1,12 @@
 //! Items on the heap.
 
+ghost use Rattle.std.specs.Prelude.{◌≡◌};
+ghost use Rattle.std.specs.Box.{boxed_slice_items};
+ghost use Rattle.deku_num.specs.NumberCalls.{Checked};
+ghost use Rattle.deku_meanings.specs.Composing.{Then};
+ghost use Rattle.deku_meanings.specs.Shapes.{Shows, LacksMemory};
+ghost use Rattle.deku_reading.specs.Limits.{ReadsUnder, AsksAll, EndsItself, MappedBy};
+
 use crate::traits::DekuReader;
 use deku_bits::device::Source;
 use deku_bits::error::DekuError;
@@ -8,13 +15,9 @@ use deku_meanings::ctx::{Limit, Predicate};
 use std::boxed::BoxedSlice;
 use std::io::ErrorKind;
 
-/// The item is read, and then memory is asked from the reader's allocator. `Io(OutOfMemory)` is answered where there is none, and the
-/// reader stays behind the item.
+/// The item is read, and then memory is asked from the reader's allocator. `Io(OutOfMemory)` is
+/// answered where there is none, and the reader stays behind the item.
 impl<Ctx: Copy, T: DekuReader<Ctx>> DekuReader<Ctx> for Box<T> {
-    ghost use Rattle.deku_num.specs.NumberCalls.{Checked};
-    ghost use Rattle.deku_meanings.specs.Composing.{Then};
-    ghost use Rattle.deku_meanings.specs.Shapes.{Shows, LacksMemory};
-
     ghost accepts = { T.accepts };
 
     ghost no_read_ahead = { T.no_read_ahead };
@@ -36,15 +39,12 @@ impl<Ctx: Copy, T: DekuReader<Ctx>> DekuReader<Ctx> for Box<T> {
 /// The items that the limit says, as a vector of them is read, in memory of the reader's allocator.
 impl<T: DekuReader<Ctx>, P: Predicate<T>, Ctx: Copy> DekuReader<(Limit<T, P>, Ctx)>
     for BoxedSlice<T> {
-    ghost use Rattle.std.specs.Prelude.{◌≡◌};
-    ghost use Rattle.std.specs.Box.{boxed_slice_items};
-    ghost use Rattle.deku_reading.specs.Limits.{ReadsUnder, AsksAll, EndsItself, MappedBy};
-
     ghost accepts = { λ c. T.accepts c.1 × AsksAll P.asks_all c.0 };
 
     ghost no_read_ahead = { λ c. T.no_read_ahead c.1 × EndsItself c.0 };
 
-    ghost meaning = { λ c. MappedBy (λ xs b. boxed_slice_items b ≡ xs) (ReadsUnder P.answers P.ended c.0 (T.meaning c.1)) };
+    ghost meaning = { λ c. MappedBy (λ xs b. boxed_slice_items b ≡ xs)
+        (ReadsUnder P.answers P.ended c.0 (T.meaning c.1)) };
 
     fn from_reader_with_ctx<R: Source>(
         reader: &mut Reader<R>,
@@ -59,7 +59,8 @@ impl<T: DekuReader<Ctx>, P: Predicate<T>, Ctx: Copy> DekuReader<(Limit<T, P>, Ct
 impl<T: DekuReader<()>, P: Predicate<T>> DekuReader<Limit<T, P>> for BoxedSlice<T> {
     ghost accepts = { λ c. ⟦<BoxedSlice<T> as DekuReader<(Limit<T, P>, ())>>⟧.accepts (c, tt) };
 
-    ghost no_read_ahead = { λ c. ⟦<BoxedSlice<T> as DekuReader<(Limit<T, P>, ())>>⟧.no_read_ahead (c, tt) };
+    ghost no_read_ahead = { λ c. ⟦<BoxedSlice<T> as DekuReader<(Limit<T, P>, ())>>⟧.no_read_ahead
+        (c, tt) };
 
     ghost meaning = { λ c. ⟦<BoxedSlice<T> as DekuReader<(Limit<T, P>, ())>>⟧.meaning (c, tt) };
 

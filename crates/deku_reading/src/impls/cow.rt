@@ -1,5 +1,8 @@
 //! Items that are borrowed until they have to be owned.
 
+ghost use Rattle.std.specs.declared.borrow.Cow.TheVariants.{Owned};
+ghost use Rattle.deku_bits.specs.Outcomes.{Mapped};
+
 use crate::traits::DekuReader;
 use deku_bits::device::Source;
 use deku_bits::error::DekuError;
@@ -8,9 +11,6 @@ use std::borrow::Cow;
 
 /// The item is read, and owned.
 impl<Ctx: Copy, T: Clone + DekuReader<Ctx>> DekuReader<Ctx> for Cow<'_, T> {
-    ghost use Rattle.std.specs.declared.borrow.Cow.TheVariants.{Owned};
-    ghost use Rattle.deku_bits.specs.Outcomes.{Mapped};
-
     ghost accepts = { T.accepts };
 
     ghost no_read_ahead = { T.no_read_ahead };

@@ -21,7 +21,8 @@ fn gather_count<B: Gather<T>, T: DekuReader<C>, C: Copy, R: Source>(
     ctx: C,
 ) -> Result<B, DekuError>
     requires { T.accepts ctx }
-    ensures reads { Reads R.known (MappedBy (λ xs b. FoldsTo B.puts into xs b) (ReadsCount count (T.meaning ctx))) reader.old result reader.new }
+    ensures reads { Reads R.known (MappedBy (λ xs b. FoldsTo B.puts into xs b)
+        (ReadsCount count (T.meaning ctx))) reader.old result reader.new }
     ensures early { OnOk result (T.no_read_ahead ctx → NoReadAhead R.known reader.old reader.new) }
 {
     for _ in 0..count {
@@ -40,7 +41,9 @@ fn gather_asking<B: Gather<T>, T: DekuReader<C>, C: Copy, R: Source, P: Predicat
 ) -> Result<B, DekuError>
     requires readable { T.accepts ctx }
     requires askable { P.asks_all predicate.old }
-    ensures reads { Reads R.known (MappedBy (λ xs b. FoldsTo B.puts into xs b) (ReadsUntil P.answers (λ p. p ≡ predicate.new) predicate.old (T.meaning ctx))) reader.old result reader.new }
+    ensures reads { Reads R.known (MappedBy (λ xs b. FoldsTo B.puts into xs b)
+        (ReadsUntil P.answers (λ p. p ≡ predicate.new) predicate.old (T.meaning ctx))) reader.old
+        result reader.new }
     ensures early { OnOk result (T.no_read_ahead ctx → NoReadAhead R.known reader.old reader.new) }
 {
     loop {
@@ -63,7 +66,8 @@ fn gather_until<B: Gather<T>, T: DekuReader<C>, C: Copy, R: Source, P: Predicate
 ) -> Result<B, DekuError>
     requires readable { T.accepts ctx }
     requires askable { P.asks_all predicate }
-    ensures reads { Reads R.known (MappedBy (λ xs b. FoldsTo B.puts into xs b) (ReadsUntil P.answers P.ended predicate (T.meaning ctx))) reader.old result reader.new }
+    ensures reads { Reads R.known (MappedBy (λ xs b. FoldsTo B.puts into xs b)
+        (ReadsUntil P.answers P.ended predicate (T.meaning ctx))) reader.old result reader.new }
     ensures early { OnOk result (T.no_read_ahead ctx → NoReadAhead R.known reader.old reader.new) }
 {
     let gathered = gather_asking(into, reader, &mut predicate, ctx);
@@ -79,7 +83,8 @@ fn gather_bits<B: Gather<T>, T: DekuReader<C>, C: Copy, R: Source>(
     ctx: C,
 ) -> Result<B, DekuError>
     requires { T.accepts ctx }
-    ensures reads { Reads R.known (MappedBy (λ xs b. FoldsTo B.puts into xs b) (ReadsBitsOf bits (T.meaning ctx))) reader.old result reader.new }
+    ensures reads { Reads R.known (MappedBy (λ xs b. FoldsTo B.puts into xs b)
+        (ReadsBitsOf bits (T.meaning ctx))) reader.old result reader.new }
     ensures early { OnOk result (T.no_read_ahead ctx → NoReadAhead R.known reader.old reader.new) }
 {
     if bits == 0 {
@@ -105,7 +110,8 @@ fn gather_to_end<B: Gather<T>, T: DekuReader<C>, C: Copy, R: Source>(
     ctx: C,
 ) -> Result<B, DekuError>
     requires { T.accepts ctx }
-    ensures { Reads R.known (MappedBy (λ xs b. FoldsTo B.puts into xs b) (ReadsToEnd (T.meaning ctx))) reader.old result reader.new }
+    ensures { Reads R.known (MappedBy (λ xs b. FoldsTo B.puts into xs b)
+        (ReadsToEnd (T.meaning ctx))) reader.old result reader.new }
 {
     while !reader.end()? {
         let before = reader.bits_read();
@@ -117,8 +123,8 @@ fn gather_to_end<B: Gather<T>, T: DekuReader<C>, C: Copy, R: Source>(
 
 /// Reads items as long as the limit says, and puts each into the collection when it is read.
 ///
-/// The caller's conditions: the items may be read under the context, and the limit's predicate, where it has one, may be asked about
-/// every item.
+/// The caller's conditions: the items may be read under the context, and the limit's predicate,
+/// where it has one, may be asked about every item.
 pub fn gather_under<B: Gather<T>, T: DekuReader<C>, C: Copy, R: Source, P: Predicate<T>>(
     into: B,
     reader: &mut Reader<R>,
@@ -127,8 +133,10 @@ pub fn gather_under<B: Gather<T>, T: DekuReader<C>, C: Copy, R: Source, P: Predi
 ) -> Result<B, DekuError>
     requires readable { T.accepts ctx }
     requires askable { AsksAll P.asks_all limit }
-    ensures reads { Reads R.known (MappedBy (λ xs b. FoldsTo B.puts into xs b) (ReadsUnder P.answers P.ended limit (T.meaning ctx))) reader.old result reader.new }
-    ensures early { OnOk result (T.no_read_ahead ctx → EndsItself limit → NoReadAhead R.known reader.old reader.new) }
+    ensures reads { Reads R.known (MappedBy (λ xs b. FoldsTo B.puts into xs b)
+        (ReadsUnder P.answers P.ended limit (T.meaning ctx))) reader.old result reader.new }
+    ensures early { OnOk result (T.no_read_ahead ctx → EndsItself limit
+        → NoReadAhead R.known reader.old reader.new) }
 {
     match limit {
         Limit::Count(count) => gather_count(into, reader, count, ctx),

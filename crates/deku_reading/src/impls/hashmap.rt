@@ -1,5 +1,9 @@
 //! Maps: pairs of a key and a value, as long as a limit says.
 
+ghost use Rattle.std.specs.HashMap.{hasher_of, IsFromIterResult};
+ghost use Rattle.deku_meanings.specs.Collected.{IsMapOf};
+ghost use Rattle.deku_reading.specs.Limits.{ReadsUnder, AsksAll, EndsItself, MappedBy};
+
 use crate::impls::gather::gather_under;
 use crate::traits::DekuReader;
 use deku_bits::device::Source;
@@ -9,9 +13,10 @@ use deku_meanings::ctx::{Limit, Predicate};
 use std::collections::HashMap;
 use std::hash::{BuildHasher, Hash};
 
-/// The pairs that the limit says, each a key and then its value, under the items' context. The limit is on the pairs that are read, and
-/// not on the entries: a later value of a key takes the place of an earlier one, and of equal keys the first is kept. The map has the hasher
-/// that `S: Default` gives.
+/// The pairs that the limit says, each a key and then its value, under the items' context. The
+/// limit is on the pairs that are read, and not on the entries: a later value of a key takes the
+/// place of an earlier one, and of equal keys the first is kept. The map has the hasher that
+/// `S: Default` gives.
 ///
 /// What is refused, and what is left then, is as for a vector of pairs.
 ///
@@ -25,15 +30,13 @@ impl<
     P: Predicate<(K, V)>,
     Ctx: Copy,
 > DekuReader<(Limit<(K, V), P>, Ctx)> for HashMap<K, V, S> {
-    ghost use Rattle.std.specs.HashMap.{hasher_of, IsFromIterResult};
-    ghost use Rattle.deku_meanings.specs.Collected.{IsMapOf};
-    ghost use Rattle.deku_reading.specs.Limits.{ReadsUnder, AsksAll, EndsItself, MappedBy};
-
     ghost accepts = { λ c. ⟦<(K, V) as DekuReader<Ctx>>⟧.accepts c.1 × AsksAll P.asks_all c.0 };
 
     ghost no_read_ahead = { λ c. ⟦<(K, V) as DekuReader<Ctx>>⟧.no_read_ahead c.1 × EndsItself c.0 };
 
-    ghost meaning = { λ c. MappedBy (λ xs m. IsFromIterResult K.eq xs m × IsMapOf K.eq xs m × S.is_default (hasher_of m)) (ReadsUnder P.answers P.ended c.0 (⟦<(K, V) as DekuReader<Ctx>>⟧.meaning c.1)) };
+    ghost meaning = { λ c. MappedBy (λ xs m. IsFromIterResult K.eq xs m × IsMapOf K.eq xs m
+        × S.is_default (hasher_of m)) (ReadsUnder P.answers P.ended c.0
+        (⟦<(K, V) as DekuReader<Ctx>>⟧.meaning c.1)) };
 
     fn from_reader_with_ctx<R: Source>(
         reader: &mut Reader<R>,
@@ -52,11 +55,13 @@ impl<
     S: BuildHasher + Default + Drop,
     P: Predicate<(K, V)>,
 > DekuReader<Limit<(K, V), P>> for HashMap<K, V, S> {
-    ghost accepts = { λ c. ⟦<HashMap<K, V, S> as DekuReader<(Limit<(K, V), P>, ())>>⟧.accepts (c, tt) };
+    ghost accepts = { λ c. ⟦<HashMap<K, V, S> as DekuReader<(Limit<(K, V), P>, ())>>⟧.accepts
+        (c, tt) };
 
     ghost no_read_ahead = { λ c. ⟦<HashMap<K, V, S> as DekuReader<(Limit<(K, V), P>, ())>>⟧.no_read_ahead (c, tt) };
 
-    ghost meaning = { λ c. ⟦<HashMap<K, V, S> as DekuReader<(Limit<(K, V), P>, ())>>⟧.meaning (c, tt) };
+    ghost meaning = { λ c. ⟦<HashMap<K, V, S> as DekuReader<(Limit<(K, V), P>, ())>>⟧.meaning
+        (c, tt) };
 
     fn from_reader_with_ctx<R: Source>(
         reader: &mut Reader<R>,

@@ -1,5 +1,9 @@
 //! Sets: items as long as a limit says, each kept once.
 
+ghost use Rattle.std.specs.HashSet.{hasher_of, IsFromIterResult};
+ghost use Rattle.deku_meanings.specs.Collected.{IsSetOf};
+ghost use Rattle.deku_reading.specs.Limits.{ReadsUnder, AsksAll, EndsItself, MappedBy};
+
 use crate::impls::gather::gather_under;
 use crate::traits::DekuReader;
 use deku_bits::device::Source;
@@ -9,8 +13,9 @@ use deku_meanings::ctx::{Limit, Predicate};
 use std::collections::HashSet;
 use std::hash::{BuildHasher, Hash};
 
-/// The items that the limit says, each under the items' context. The limit is on the items that are read, and not on those that the set
-/// has then: each is kept once, and of equal items the first. The set has the hasher that `S: Default` gives.
+/// The items that the limit says, each under the items' context. The limit is on the items that are
+/// read, and not on those that the set has then: each is kept once, and of equal items the first.
+/// The set has the hasher that `S: Default` gives.
 ///
 /// What is refused, and what is left then, is as for a vector.
 ///
@@ -23,15 +28,12 @@ impl<
     P: Predicate<T>,
     Ctx: Copy,
 > DekuReader<(Limit<T, P>, Ctx)> for HashSet<T, S> {
-    ghost use Rattle.std.specs.HashSet.{hasher_of, IsFromIterResult};
-    ghost use Rattle.deku_meanings.specs.Collected.{IsSetOf};
-    ghost use Rattle.deku_reading.specs.Limits.{ReadsUnder, AsksAll, EndsItself, MappedBy};
-
     ghost accepts = { λ c. T.accepts c.1 × AsksAll P.asks_all c.0 };
 
     ghost no_read_ahead = { λ c. T.no_read_ahead c.1 × EndsItself c.0 };
 
-    ghost meaning = { λ c. MappedBy (λ xs m. IsFromIterResult T.eq xs m × IsSetOf T.eq xs m × S.is_default (hasher_of m)) (ReadsUnder P.answers P.ended c.0 (T.meaning c.1)) };
+    ghost meaning = { λ c. MappedBy (λ xs m. IsFromIterResult T.eq xs m × IsSetOf T.eq xs m
+        × S.is_default (hasher_of m)) (ReadsUnder P.answers P.ended c.0 (T.meaning c.1)) };
 
     fn from_reader_with_ctx<R: Source>(
         reader: &mut Reader<R>,
@@ -49,7 +51,8 @@ impl<T: DekuReader<()> + Eq + Hash, S: BuildHasher + Default + Drop, P: Predicat
 > for HashSet<T, S> {
     ghost accepts = { λ c. ⟦<HashSet<T, S> as DekuReader<(Limit<T, P>, ())>>⟧.accepts (c, tt) };
 
-    ghost no_read_ahead = { λ c. ⟦<HashSet<T, S> as DekuReader<(Limit<T, P>, ())>>⟧.no_read_ahead (c, tt) };
+    ghost no_read_ahead = { λ c. ⟦<HashSet<T, S> as DekuReader<(Limit<T, P>, ())>>⟧.no_read_ahead
+        (c, tt) };
 
     ghost meaning = { λ c. ⟦<HashSet<T, S> as DekuReader<(Limit<T, P>, ())>>⟧.meaning (c, tt) };
 

@@ -1,5 +1,11 @@
 //! Network addresses, as the numbers that their octets make.
 
+ghost use Rattle.std.specs.Net.Addr.{ipv4_bits, ipv6_bits};
+ghost use Rattle.deku_num.specs.Numbers.{unsigned};
+ghost use Rattle.deku_num.specs.NumberCalls.{ReadsUnsigned};
+ghost use Rattle.deku_meanings.specs.Composing.{Then};
+ghost use Rattle.deku_meanings.specs.Shapes.{Shows};
+
 use crate::traits::DekuReader;
 use deku_bits::device::Source;
 use deku_bits::error::DekuError;
@@ -9,17 +15,6 @@ use std::net::{Ipv4Addr, Ipv6Addr};
 
 /// Read as a `u32`, whose highest byte is the first octet, and refused as that is.
 impl<C: NumberCtx> DekuReader<C> for Ipv4Addr {
-    ghost use Rattle.std.specs.Prelude.{◌≡◌};
-    ghost use Rattle.std.specs.Net.Addr.{ipv4_bits};
-    ghost use Rattle.deku_num.specs.Numbers.{unsigned};
-    ghost use Rattle.deku_num.specs.NumberCalls.{ReadsUnsigned};
-    ghost use Rattle.deku_meanings.specs.Composing.{Then};
-    ghost use Rattle.deku_meanings.specs.Shapes.{Shows};
-
-    ghost accepts = { λ c. c ≡ c };
-
-    ghost no_read_ahead = { λ c. c ≡ c };
-
     ghost meaning = { λ c. Then (ReadsUnsigned (unsigned 32) (C.layout_of c)) (Shows ipv4_bits) };
 
     #[inline(always)]
@@ -31,17 +26,6 @@ impl<C: NumberCtx> DekuReader<C> for Ipv4Addr {
 
 /// Read as a `u128`, whose highest byte is the first octet, and refused as that is.
 impl<C: NumberCtx> DekuReader<C> for Ipv6Addr {
-    ghost use Rattle.std.specs.Prelude.{◌≡◌};
-    ghost use Rattle.std.specs.Net.Addr.{ipv6_bits};
-    ghost use Rattle.deku_num.specs.Numbers.{unsigned};
-    ghost use Rattle.deku_num.specs.NumberCalls.{ReadsUnsigned};
-    ghost use Rattle.deku_meanings.specs.Composing.{Then};
-    ghost use Rattle.deku_meanings.specs.Shapes.{Shows};
-
-    ghost accepts = { λ c. c ≡ c };
-
-    ghost no_read_ahead = { λ c. c ≡ c };
-
     ghost meaning = { λ c. Then (ReadsUnsigned (unsigned 128) (C.layout_of c)) (Shows ipv6_bits) };
 
     #[inline(always)]

@@ -1,5 +1,12 @@
 //! Numbers that are not 0.
 
+ghost use Rattle.std.specs.Prelude.{◌≡◌, codes, pos};
+ghost use Rattle.std.specs.Int.NonZero.{non_zero_u8_get, non_zero_u16_get, non_zero_u32_get, non_zero_u64_get, non_zero_u128_get, non_zero_usize_get, non_zero_i8_get, non_zero_i16_get, non_zero_i32_get, non_zero_i64_get, non_zero_i128_get, non_zero_isize_get};
+ghost use Rattle.deku_num.specs.Numbers.{byte, unsigned, signed};
+ghost use Rattle.deku_num.specs.NumberCalls.{ReadsUnsigned, ReadsNumber};
+ghost use Rattle.deku_meanings.specs.Composing.{Then};
+ghost use Rattle.deku_meanings.specs.Shapes.{ShowsUnless};
+
 use crate::traits::DekuReader;
 use deku_bits::device::Source;
 use deku_bits::error::DekuError;
@@ -10,21 +17,11 @@ use std::num::{
     NonZeroU16, NonZeroU32, NonZeroU64, NonZeroU128, NonZeroUsize,
 };
 
-/// Read as its number, and refused as that is. 0 is refused with `Parse("NonZero assertion")`, and its bits stay read. So with each type
-/// below.
+/// Read as its number, and refused as that is. 0 is refused with `Parse("NonZero assertion")`, and
+/// its bits stay read. So with each type below.
 impl<C: NumberCtx> DekuReader<C> for NonZeroU8 {
-    ghost use Rattle.std.specs.Prelude.{◌≡◌, codes};
-    ghost use Rattle.std.specs.Int.NonZero.{non_zero_u8_get};
-    ghost use Rattle.deku_num.specs.Numbers.{byte};
-    ghost use Rattle.deku_num.specs.NumberCalls.{ReadsUnsigned};
-    ghost use Rattle.deku_meanings.specs.Composing.{Then};
-    ghost use Rattle.deku_meanings.specs.Shapes.{ShowsUnless};
-
-    ghost accepts = { λ c. c ≡ c };
-
-    ghost no_read_ahead = { λ c. c ≡ c };
-
-    ghost meaning = { λ c. Then (ReadsUnsigned byte (C.layout_of c)) (ShowsUnless (λ n. n ≡ 0) (codes "NonZero assertion") non_zero_u8_get) };
+    ghost meaning = { λ c. Then (ReadsUnsigned byte (C.layout_of c))
+        (ShowsUnless (λ n. n ≡ 0) (codes "NonZero assertion") non_zero_u8_get) };
 
     #[inline(always)]
     fn from_reader_with_ctx<R: Source>(reader: &mut Reader<R>, ctx: C) -> Result<Self, DekuError> {
@@ -37,18 +34,8 @@ impl<C: NumberCtx> DekuReader<C> for NonZeroU8 {
 }
 
 impl<C: NumberCtx> DekuReader<C> for NonZeroU16 {
-    ghost use Rattle.std.specs.Prelude.{◌≡◌, codes};
-    ghost use Rattle.std.specs.Int.NonZero.{non_zero_u16_get};
-    ghost use Rattle.deku_num.specs.Numbers.{unsigned};
-    ghost use Rattle.deku_num.specs.NumberCalls.{ReadsUnsigned};
-    ghost use Rattle.deku_meanings.specs.Composing.{Then};
-    ghost use Rattle.deku_meanings.specs.Shapes.{ShowsUnless};
-
-    ghost accepts = { λ c. c ≡ c };
-
-    ghost no_read_ahead = { λ c. c ≡ c };
-
-    ghost meaning = { λ c. Then (ReadsUnsigned (unsigned 16) (C.layout_of c)) (ShowsUnless (λ n. n ≡ 0) (codes "NonZero assertion") non_zero_u16_get) };
+    ghost meaning = { λ c. Then (ReadsUnsigned (unsigned 16) (C.layout_of c))
+        (ShowsUnless (λ n. n ≡ 0) (codes "NonZero assertion") non_zero_u16_get) };
 
     #[inline(always)]
     fn from_reader_with_ctx<R: Source>(reader: &mut Reader<R>, ctx: C) -> Result<Self, DekuError> {
@@ -61,18 +48,8 @@ impl<C: NumberCtx> DekuReader<C> for NonZeroU16 {
 }
 
 impl<C: NumberCtx> DekuReader<C> for NonZeroU32 {
-    ghost use Rattle.std.specs.Prelude.{◌≡◌, codes};
-    ghost use Rattle.std.specs.Int.NonZero.{non_zero_u32_get};
-    ghost use Rattle.deku_num.specs.Numbers.{unsigned};
-    ghost use Rattle.deku_num.specs.NumberCalls.{ReadsUnsigned};
-    ghost use Rattle.deku_meanings.specs.Composing.{Then};
-    ghost use Rattle.deku_meanings.specs.Shapes.{ShowsUnless};
-
-    ghost accepts = { λ c. c ≡ c };
-
-    ghost no_read_ahead = { λ c. c ≡ c };
-
-    ghost meaning = { λ c. Then (ReadsUnsigned (unsigned 32) (C.layout_of c)) (ShowsUnless (λ n. n ≡ 0) (codes "NonZero assertion") non_zero_u32_get) };
+    ghost meaning = { λ c. Then (ReadsUnsigned (unsigned 32) (C.layout_of c))
+        (ShowsUnless (λ n. n ≡ 0) (codes "NonZero assertion") non_zero_u32_get) };
 
     #[inline(always)]
     fn from_reader_with_ctx<R: Source>(reader: &mut Reader<R>, ctx: C) -> Result<Self, DekuError> {
@@ -85,18 +62,8 @@ impl<C: NumberCtx> DekuReader<C> for NonZeroU32 {
 }
 
 impl<C: NumberCtx> DekuReader<C> for NonZeroU64 {
-    ghost use Rattle.std.specs.Prelude.{◌≡◌, codes};
-    ghost use Rattle.std.specs.Int.NonZero.{non_zero_u64_get};
-    ghost use Rattle.deku_num.specs.Numbers.{unsigned};
-    ghost use Rattle.deku_num.specs.NumberCalls.{ReadsUnsigned};
-    ghost use Rattle.deku_meanings.specs.Composing.{Then};
-    ghost use Rattle.deku_meanings.specs.Shapes.{ShowsUnless};
-
-    ghost accepts = { λ c. c ≡ c };
-
-    ghost no_read_ahead = { λ c. c ≡ c };
-
-    ghost meaning = { λ c. Then (ReadsUnsigned (unsigned 64) (C.layout_of c)) (ShowsUnless (λ n. n ≡ 0) (codes "NonZero assertion") non_zero_u64_get) };
+    ghost meaning = { λ c. Then (ReadsUnsigned (unsigned 64) (C.layout_of c))
+        (ShowsUnless (λ n. n ≡ 0) (codes "NonZero assertion") non_zero_u64_get) };
 
     #[inline(always)]
     fn from_reader_with_ctx<R: Source>(reader: &mut Reader<R>, ctx: C) -> Result<Self, DekuError> {
@@ -109,18 +76,8 @@ impl<C: NumberCtx> DekuReader<C> for NonZeroU64 {
 }
 
 impl<C: NumberCtx> DekuReader<C> for NonZeroU128 {
-    ghost use Rattle.std.specs.Prelude.{◌≡◌, codes};
-    ghost use Rattle.std.specs.Int.NonZero.{non_zero_u128_get};
-    ghost use Rattle.deku_num.specs.Numbers.{unsigned};
-    ghost use Rattle.deku_num.specs.NumberCalls.{ReadsUnsigned};
-    ghost use Rattle.deku_meanings.specs.Composing.{Then};
-    ghost use Rattle.deku_meanings.specs.Shapes.{ShowsUnless};
-
-    ghost accepts = { λ c. c ≡ c };
-
-    ghost no_read_ahead = { λ c. c ≡ c };
-
-    ghost meaning = { λ c. Then (ReadsUnsigned (unsigned 128) (C.layout_of c)) (ShowsUnless (λ n. n ≡ 0) (codes "NonZero assertion") non_zero_u128_get) };
+    ghost meaning = { λ c. Then (ReadsUnsigned (unsigned 128) (C.layout_of c))
+        (ShowsUnless (λ n. n ≡ 0) (codes "NonZero assertion") non_zero_u128_get) };
 
     #[inline(always)]
     fn from_reader_with_ctx<R: Source>(reader: &mut Reader<R>, ctx: C) -> Result<Self, DekuError> {
@@ -133,18 +90,8 @@ impl<C: NumberCtx> DekuReader<C> for NonZeroU128 {
 }
 
 impl<C: NumberCtx> DekuReader<C> for NonZeroUsize {
-    ghost use Rattle.std.specs.Prelude.{◌≡◌, codes};
-    ghost use Rattle.std.specs.Int.NonZero.{non_zero_usize_get};
-    ghost use Rattle.deku_num.specs.Numbers.{unsigned};
-    ghost use Rattle.deku_num.specs.NumberCalls.{ReadsUnsigned};
-    ghost use Rattle.deku_meanings.specs.Composing.{Then};
-    ghost use Rattle.deku_meanings.specs.Shapes.{ShowsUnless};
-
-    ghost accepts = { λ c. c ≡ c };
-
-    ghost no_read_ahead = { λ c. c ≡ c };
-
-    ghost meaning = { λ c. Then (ReadsUnsigned (unsigned 64) (C.layout_of c)) (ShowsUnless (λ n. n ≡ 0) (codes "NonZero assertion") non_zero_usize_get) };
+    ghost meaning = { λ c. Then (ReadsUnsigned (unsigned 64) (C.layout_of c))
+        (ShowsUnless (λ n. n ≡ 0) (codes "NonZero assertion") non_zero_usize_get) };
 
     #[inline(always)]
     fn from_reader_with_ctx<R: Source>(reader: &mut Reader<R>, ctx: C) -> Result<Self, DekuError> {
@@ -157,18 +104,8 @@ impl<C: NumberCtx> DekuReader<C> for NonZeroUsize {
 }
 
 impl<C: NumberCtx> DekuReader<C> for NonZeroI8 {
-    ghost use Rattle.std.specs.Prelude.{◌≡◌, codes, pos};
-    ghost use Rattle.std.specs.Int.NonZero.{non_zero_i8_get};
-    ghost use Rattle.deku_num.specs.Numbers.{signed};
-    ghost use Rattle.deku_num.specs.NumberCalls.{ReadsNumber};
-    ghost use Rattle.deku_meanings.specs.Composing.{Then};
-    ghost use Rattle.deku_meanings.specs.Shapes.{ShowsUnless};
-
-    ghost accepts = { λ c. c ≡ c };
-
-    ghost no_read_ahead = { λ c. c ≡ c };
-
-    ghost meaning = { λ c. Then (ReadsNumber (signed 8) (C.layout_of c)) (ShowsUnless (λ n. n ≡ pos 0) (codes "NonZero assertion") non_zero_i8_get) };
+    ghost meaning = { λ c. Then (ReadsNumber (signed 8) (C.layout_of c))
+        (ShowsUnless (λ n. n ≡ pos 0) (codes "NonZero assertion") non_zero_i8_get) };
 
     #[inline(always)]
     fn from_reader_with_ctx<R: Source>(reader: &mut Reader<R>, ctx: C) -> Result<Self, DekuError> {
@@ -181,18 +118,8 @@ impl<C: NumberCtx> DekuReader<C> for NonZeroI8 {
 }
 
 impl<C: NumberCtx> DekuReader<C> for NonZeroI16 {
-    ghost use Rattle.std.specs.Prelude.{◌≡◌, codes, pos};
-    ghost use Rattle.std.specs.Int.NonZero.{non_zero_i16_get};
-    ghost use Rattle.deku_num.specs.Numbers.{signed};
-    ghost use Rattle.deku_num.specs.NumberCalls.{ReadsNumber};
-    ghost use Rattle.deku_meanings.specs.Composing.{Then};
-    ghost use Rattle.deku_meanings.specs.Shapes.{ShowsUnless};
-
-    ghost accepts = { λ c. c ≡ c };
-
-    ghost no_read_ahead = { λ c. c ≡ c };
-
-    ghost meaning = { λ c. Then (ReadsNumber (signed 16) (C.layout_of c)) (ShowsUnless (λ n. n ≡ pos 0) (codes "NonZero assertion") non_zero_i16_get) };
+    ghost meaning = { λ c. Then (ReadsNumber (signed 16) (C.layout_of c))
+        (ShowsUnless (λ n. n ≡ pos 0) (codes "NonZero assertion") non_zero_i16_get) };
 
     #[inline(always)]
     fn from_reader_with_ctx<R: Source>(reader: &mut Reader<R>, ctx: C) -> Result<Self, DekuError> {
@@ -205,18 +132,8 @@ impl<C: NumberCtx> DekuReader<C> for NonZeroI16 {
 }
 
 impl<C: NumberCtx> DekuReader<C> for NonZeroI32 {
-    ghost use Rattle.std.specs.Prelude.{◌≡◌, codes, pos};
-    ghost use Rattle.std.specs.Int.NonZero.{non_zero_i32_get};
-    ghost use Rattle.deku_num.specs.Numbers.{signed};
-    ghost use Rattle.deku_num.specs.NumberCalls.{ReadsNumber};
-    ghost use Rattle.deku_meanings.specs.Composing.{Then};
-    ghost use Rattle.deku_meanings.specs.Shapes.{ShowsUnless};
-
-    ghost accepts = { λ c. c ≡ c };
-
-    ghost no_read_ahead = { λ c. c ≡ c };
-
-    ghost meaning = { λ c. Then (ReadsNumber (signed 32) (C.layout_of c)) (ShowsUnless (λ n. n ≡ pos 0) (codes "NonZero assertion") non_zero_i32_get) };
+    ghost meaning = { λ c. Then (ReadsNumber (signed 32) (C.layout_of c))
+        (ShowsUnless (λ n. n ≡ pos 0) (codes "NonZero assertion") non_zero_i32_get) };
 
     #[inline(always)]
     fn from_reader_with_ctx<R: Source>(reader: &mut Reader<R>, ctx: C) -> Result<Self, DekuError> {
@@ -229,18 +146,8 @@ impl<C: NumberCtx> DekuReader<C> for NonZeroI32 {
 }
 
 impl<C: NumberCtx> DekuReader<C> for NonZeroI64 {
-    ghost use Rattle.std.specs.Prelude.{◌≡◌, codes, pos};
-    ghost use Rattle.std.specs.Int.NonZero.{non_zero_i64_get};
-    ghost use Rattle.deku_num.specs.Numbers.{signed};
-    ghost use Rattle.deku_num.specs.NumberCalls.{ReadsNumber};
-    ghost use Rattle.deku_meanings.specs.Composing.{Then};
-    ghost use Rattle.deku_meanings.specs.Shapes.{ShowsUnless};
-
-    ghost accepts = { λ c. c ≡ c };
-
-    ghost no_read_ahead = { λ c. c ≡ c };
-
-    ghost meaning = { λ c. Then (ReadsNumber (signed 64) (C.layout_of c)) (ShowsUnless (λ n. n ≡ pos 0) (codes "NonZero assertion") non_zero_i64_get) };
+    ghost meaning = { λ c. Then (ReadsNumber (signed 64) (C.layout_of c))
+        (ShowsUnless (λ n. n ≡ pos 0) (codes "NonZero assertion") non_zero_i64_get) };
 
     #[inline(always)]
     fn from_reader_with_ctx<R: Source>(reader: &mut Reader<R>, ctx: C) -> Result<Self, DekuError> {
@@ -253,18 +160,8 @@ impl<C: NumberCtx> DekuReader<C> for NonZeroI64 {
 }
 
 impl<C: NumberCtx> DekuReader<C> for NonZeroI128 {
-    ghost use Rattle.std.specs.Prelude.{◌≡◌, codes, pos};
-    ghost use Rattle.std.specs.Int.NonZero.{non_zero_i128_get};
-    ghost use Rattle.deku_num.specs.Numbers.{signed};
-    ghost use Rattle.deku_num.specs.NumberCalls.{ReadsNumber};
-    ghost use Rattle.deku_meanings.specs.Composing.{Then};
-    ghost use Rattle.deku_meanings.specs.Shapes.{ShowsUnless};
-
-    ghost accepts = { λ c. c ≡ c };
-
-    ghost no_read_ahead = { λ c. c ≡ c };
-
-    ghost meaning = { λ c. Then (ReadsNumber (signed 128) (C.layout_of c)) (ShowsUnless (λ n. n ≡ pos 0) (codes "NonZero assertion") non_zero_i128_get) };
+    ghost meaning = { λ c. Then (ReadsNumber (signed 128) (C.layout_of c))
+        (ShowsUnless (λ n. n ≡ pos 0) (codes "NonZero assertion") non_zero_i128_get) };
 
     #[inline(always)]
     fn from_reader_with_ctx<R: Source>(reader: &mut Reader<R>, ctx: C) -> Result<Self, DekuError> {
@@ -277,18 +174,8 @@ impl<C: NumberCtx> DekuReader<C> for NonZeroI128 {
 }
 
 impl<C: NumberCtx> DekuReader<C> for NonZeroIsize {
-    ghost use Rattle.std.specs.Prelude.{◌≡◌, codes, pos};
-    ghost use Rattle.std.specs.Int.NonZero.{non_zero_isize_get};
-    ghost use Rattle.deku_num.specs.Numbers.{signed};
-    ghost use Rattle.deku_num.specs.NumberCalls.{ReadsNumber};
-    ghost use Rattle.deku_meanings.specs.Composing.{Then};
-    ghost use Rattle.deku_meanings.specs.Shapes.{ShowsUnless};
-
-    ghost accepts = { λ c. c ≡ c };
-
-    ghost no_read_ahead = { λ c. c ≡ c };
-
-    ghost meaning = { λ c. Then (ReadsNumber (signed 64) (C.layout_of c)) (ShowsUnless (λ n. n ≡ pos 0) (codes "NonZero assertion") non_zero_isize_get) };
+    ghost meaning = { λ c. Then (ReadsNumber (signed 64) (C.layout_of c))
+        (ShowsUnless (λ n. n ≡ pos 0) (codes "NonZero assertion") non_zero_isize_get) };
 
     #[inline(always)]
     fn from_reader_with_ctx<R: Source>(reader: &mut Reader<R>, ctx: C) -> Result<Self, DekuError> {

@@ -1,5 +1,8 @@
 //! Items that may be absent.
 
+ghost use Rattle.std.specs.Prelude.{Some};
+ghost use Rattle.deku_bits.specs.Outcomes.{Mapped};
+
 use crate::traits::DekuReader;
 use deku_bits::device::Source;
 use deku_bits::error::DekuError;
@@ -7,9 +10,6 @@ use deku_bits::reader::Reader;
 
 /// The item is always read.
 impl<Ctx: Copy, T: DekuReader<Ctx>> DekuReader<Ctx> for Option<T> {
-    ghost use Rattle.std.specs.Prelude.{Some};
-    ghost use Rattle.deku_bits.specs.Outcomes.{Mapped};
-
     ghost accepts = { T.accepts };
 
     ghost no_read_ahead = { T.no_read_ahead };

@@ -1,10 +1,23 @@
 //! Whole numbers, under every context that names a layout.
+//!
+//! Reading a number is rejected, in this order, with
+//!
+//! - `Parse("too much data")` if the size is beyond the type's bits, even if the reader has
+//!   stopped;
+//! - `InvalidParam("signed big Lsb0 field of this width")` if the type is signed, of more than
+//!   eight bits, and the field is big and `Lsb0` and has more than eight bits and no whole bytes;
+//! - the fault that the reader kept, if it has stopped;
+//! - `InvalidParam("count past usize")` if a `usize` cannot count the bits;
+//! - `Incomplete` if the input ends before the last of the bits, or `Io` if the source fails.
+//!
+//! The last of these stops the reader, and its count stays as it was; nothing changes before.
 
 ghost use Rattle.std.specs.Prelude.{OnOk};
 ghost use Rattle.deku_bits.specs.Standings.{Untouched};
 ghost use Rattle.deku_bits.specs.ReaderCalls.{Reads, FetchesFor};
-ghost use Rattle.deku_num.specs.Numbers.{width};
+ghost use Rattle.deku_num.specs.Numbers.{width, byte, unsigned, signed};
 ghost use Rattle.deku_reading.specs.Early.{NoReadAhead};
+ghost use Rattle.deku_num.specs.NumberCalls.{ReadsUnsigned, ReadsNumber};
 
 use crate::traits::DekuReader;
 use deku_bits::device::Source;
@@ -14,34 +27,21 @@ use deku_num::calls::{read_signed, read_unsigned};
 use deku_num::ctx::NumberCtx;
 use deku_num::kind::NumberType;
 
-/// Reads a `u8` as its context says: the whole eight bits, or as many as a `BitSize` says; under a `ByteSize` they are eight.
-///
-/// It is refused, in this order,
-///
-/// - with `Parse("too much data")` where the size is beyond eight bits; nothing changes, also where the reader has stopped;
-/// - with the fault that the reader kept, where it has stopped, or with `InvalidParam("count past usize")` where a `usize` cannot count
-///   the bits; nothing changes;
-/// - with `Incomplete` where the input ends before the last of the bits, or `Io` where the source fails: the reader has stopped then, and counts
-///   what it did before.
+/// Reads a `u8` as its context says: the whole eight bits, or as many as a `BitSize` says; under a
+/// `ByteSize` they are eight.
 ///
 /// ```text
 /// u8::from_reader_with_ctx(&mut reader, BitSize(4))?                          // 6 from 69
 /// ```
 impl<C: NumberCtx> DekuReader<C> for u8 {
-    ghost use Rattle.std.specs.Prelude.{◌≡◌};
-    ghost use Rattle.deku_num.specs.Numbers.{byte};
-    ghost use Rattle.deku_num.specs.NumberCalls.{ReadsUnsigned};
-
-    ghost accepts = { λ c. c ≡ c };
-
-    ghost no_read_ahead = { λ c. c ≡ c };
-
     ghost meaning = { λ c. ReadsUnsigned byte (C.layout_of c) };
 
     #[inline(always)]
     fn from_reader_with_ctx<R: Source>(reader: &mut Reader<R>, ctx: C) -> Result<Self, DekuError>
-        ensures reads { Reads R.known (ReadsUnsigned byte (C.layout_of ctx)) reader.old result reader.new }
-        ensures fetched { OnOk result (FetchesFor (width byte (C.layout_of ctx)) reader.old.state (R.known reader.old.source) (R.known reader.new.source)) }
+        ensures reads { Reads R.known (ReadsUnsigned byte (C.layout_of ctx)) reader.old result
+            reader.new }
+        ensures fetched { OnOk result (FetchesFor (width byte (C.layout_of ctx)) reader.old.state
+            (R.known reader.old.source) (R.known reader.new.source)) }
         ensures early { OnOk result (NoReadAhead R.known reader.old reader.new) }
         ensures stopped { Untouched reader.old.state reader.old.source reader.new.source }
     {
@@ -52,32 +52,18 @@ impl<C: NumberCtx> DekuReader<C> for u8 {
 
 /// Reads a `u16` as its context says: the whole 16 bits, or as many bits or bytes as a size says.
 ///
-/// It is refused, in this order,
-///
-/// - with `Parse("too much data")` where the size is beyond 16 bits; nothing changes, also where the reader has stopped;
-/// - with the fault that the reader kept, where it has stopped, or with `InvalidParam("count past usize")` where a `usize` cannot count
-///   the bits; nothing changes;
-/// - with `Incomplete` where the input ends before the last of the bits, or `Io` where the source fails: the reader has stopped then, and counts
-///   what it did before.
-///
 /// ```text
 /// u16::from_reader_with_ctx(&mut reader, Endian::Big)?                        // 0xC0FE from C0 FE
 /// ```
 impl<C: NumberCtx> DekuReader<C> for u16 {
-    ghost use Rattle.std.specs.Prelude.{◌≡◌};
-    ghost use Rattle.deku_num.specs.Numbers.{unsigned};
-    ghost use Rattle.deku_num.specs.NumberCalls.{ReadsUnsigned};
-
-    ghost accepts = { λ c. c ≡ c };
-
-    ghost no_read_ahead = { λ c. c ≡ c };
-
     ghost meaning = { λ c. ReadsUnsigned (unsigned 16) (C.layout_of c) };
 
     #[inline(always)]
     fn from_reader_with_ctx<R: Source>(reader: &mut Reader<R>, ctx: C) -> Result<Self, DekuError>
-        ensures reads { Reads R.known (ReadsUnsigned (unsigned 16) (C.layout_of ctx)) reader.old result reader.new }
-        ensures fetched { OnOk result (FetchesFor (width (unsigned 16) (C.layout_of ctx)) reader.old.state (R.known reader.old.source) (R.known reader.new.source)) }
+        ensures reads { Reads R.known (ReadsUnsigned (unsigned 16) (C.layout_of ctx)) reader.old
+            result reader.new }
+        ensures fetched { OnOk result (FetchesFor (width (unsigned 16) (C.layout_of ctx))
+            reader.old.state (R.known reader.old.source) (R.known reader.new.source)) }
         ensures early { OnOk result (NoReadAhead R.known reader.old reader.new) }
         ensures stopped { Untouched reader.old.state reader.old.source reader.new.source }
     {
@@ -88,32 +74,18 @@ impl<C: NumberCtx> DekuReader<C> for u16 {
 
 /// Reads a `u32` as its context says: the whole 32 bits, or as many bits or bytes as a size says.
 ///
-/// It is refused, in this order,
-///
-/// - with `Parse("too much data")` where the size is beyond 32 bits; nothing changes, also where the reader has stopped;
-/// - with the fault that the reader kept, where it has stopped, or with `InvalidParam("count past usize")` where a `usize` cannot count
-///   the bits; nothing changes;
-/// - with `Incomplete` where the input ends before the last of the bits, or `Io` where the source fails: the reader has stopped then, and counts
-///   what it did before.
-///
 /// ```text
 /// u32::from_reader_with_ctx(&mut reader, ByteSize(3))?                        // 0x030201 from 01 02 03
 /// ```
 impl<C: NumberCtx> DekuReader<C> for u32 {
-    ghost use Rattle.std.specs.Prelude.{◌≡◌};
-    ghost use Rattle.deku_num.specs.Numbers.{unsigned};
-    ghost use Rattle.deku_num.specs.NumberCalls.{ReadsUnsigned};
-
-    ghost accepts = { λ c. c ≡ c };
-
-    ghost no_read_ahead = { λ c. c ≡ c };
-
     ghost meaning = { λ c. ReadsUnsigned (unsigned 32) (C.layout_of c) };
 
     #[inline(always)]
     fn from_reader_with_ctx<R: Source>(reader: &mut Reader<R>, ctx: C) -> Result<Self, DekuError>
-        ensures reads { Reads R.known (ReadsUnsigned (unsigned 32) (C.layout_of ctx)) reader.old result reader.new }
-        ensures fetched { OnOk result (FetchesFor (width (unsigned 32) (C.layout_of ctx)) reader.old.state (R.known reader.old.source) (R.known reader.new.source)) }
+        ensures reads { Reads R.known (ReadsUnsigned (unsigned 32) (C.layout_of ctx)) reader.old
+            result reader.new }
+        ensures fetched { OnOk result (FetchesFor (width (unsigned 32) (C.layout_of ctx))
+            reader.old.state (R.known reader.old.source) (R.known reader.new.source)) }
         ensures early { OnOk result (NoReadAhead R.known reader.old reader.new) }
         ensures stopped { Untouched reader.old.state reader.old.source reader.new.source }
     {
@@ -124,32 +96,18 @@ impl<C: NumberCtx> DekuReader<C> for u32 {
 
 /// Reads a `u64` as its context says: the whole 64 bits, or as many bits or bytes as a size says.
 ///
-/// It is refused, in this order,
-///
-/// - with `Parse("too much data")` where the size is beyond 64 bits; nothing changes, also where the reader has stopped;
-/// - with the fault that the reader kept, where it has stopped, or with `InvalidParam("count past usize")` where a `usize` cannot count
-///   the bits; nothing changes;
-/// - with `Incomplete` where the input ends before the last of the bits, or `Io` where the source fails: the reader has stopped then, and counts
-///   what it did before.
-///
 /// ```text
 /// u64::from_reader_with_ctx(&mut reader, (Endian::Big, ByteSize(5)))?         // 1 from 00 00 00 00 01
 /// ```
 impl<C: NumberCtx> DekuReader<C> for u64 {
-    ghost use Rattle.std.specs.Prelude.{◌≡◌};
-    ghost use Rattle.deku_num.specs.Numbers.{unsigned};
-    ghost use Rattle.deku_num.specs.NumberCalls.{ReadsUnsigned};
-
-    ghost accepts = { λ c. c ≡ c };
-
-    ghost no_read_ahead = { λ c. c ≡ c };
-
     ghost meaning = { λ c. ReadsUnsigned (unsigned 64) (C.layout_of c) };
 
     #[inline(always)]
     fn from_reader_with_ctx<R: Source>(reader: &mut Reader<R>, ctx: C) -> Result<Self, DekuError>
-        ensures reads { Reads R.known (ReadsUnsigned (unsigned 64) (C.layout_of ctx)) reader.old result reader.new }
-        ensures fetched { OnOk result (FetchesFor (width (unsigned 64) (C.layout_of ctx)) reader.old.state (R.known reader.old.source) (R.known reader.new.source)) }
+        ensures reads { Reads R.known (ReadsUnsigned (unsigned 64) (C.layout_of ctx)) reader.old
+            result reader.new }
+        ensures fetched { OnOk result (FetchesFor (width (unsigned 64) (C.layout_of ctx))
+            reader.old.state (R.known reader.old.source) (R.known reader.new.source)) }
         ensures early { OnOk result (NoReadAhead R.known reader.old reader.new) }
         ensures stopped { Untouched reader.old.state reader.old.source reader.new.source }
     {
@@ -160,32 +118,18 @@ impl<C: NumberCtx> DekuReader<C> for u64 {
 
 /// Reads a `u128` as its context says: the whole 128 bits, or as many bits or bytes as a size says.
 ///
-/// It is refused, in this order,
-///
-/// - with `Parse("too much data")` where the size is beyond 128 bits; nothing changes, also where the reader has stopped;
-/// - with the fault that the reader kept, where it has stopped, or with `InvalidParam("count past usize")` where a `usize` cannot count
-///   the bits; nothing changes;
-/// - with `Incomplete` where the input ends before the last of the bits, or `Io` where the source fails: the reader has stopped then, and counts
-///   what it did before.
-///
 /// ```text
 /// u128::from_reader_with_ctx(&mut reader, (Endian::Little, ByteSize(9)))?     // 2 from 02 and eight bytes of zeros
 /// ```
 impl<C: NumberCtx> DekuReader<C> for u128 {
-    ghost use Rattle.std.specs.Prelude.{◌≡◌};
-    ghost use Rattle.deku_num.specs.Numbers.{unsigned};
-    ghost use Rattle.deku_num.specs.NumberCalls.{ReadsUnsigned};
-
-    ghost accepts = { λ c. c ≡ c };
-
-    ghost no_read_ahead = { λ c. c ≡ c };
-
     ghost meaning = { λ c. ReadsUnsigned (unsigned 128) (C.layout_of c) };
 
     #[inline(always)]
     fn from_reader_with_ctx<R: Source>(reader: &mut Reader<R>, ctx: C) -> Result<Self, DekuError>
-        ensures reads { Reads R.known (ReadsUnsigned (unsigned 128) (C.layout_of ctx)) reader.old result reader.new }
-        ensures fetched { OnOk result (FetchesFor (width (unsigned 128) (C.layout_of ctx)) reader.old.state (R.known reader.old.source) (R.known reader.new.source)) }
+        ensures reads { Reads R.known (ReadsUnsigned (unsigned 128) (C.layout_of ctx)) reader.old
+            result reader.new }
+        ensures fetched { OnOk result (FetchesFor (width (unsigned 128) (C.layout_of ctx))
+            reader.old.state (R.known reader.old.source) (R.known reader.new.source)) }
         ensures early { OnOk result (NoReadAhead R.known reader.old reader.new) }
         ensures stopped { Untouched reader.old.state reader.old.source reader.new.source }
     {
@@ -196,32 +140,18 @@ impl<C: NumberCtx> DekuReader<C> for u128 {
 
 /// Reads a `usize` as its context says: the whole 64 bits, or as many bits or bytes as a size says.
 ///
-/// It is refused, in this order,
-///
-/// - with `Parse("too much data")` where the size is beyond 64 bits; nothing changes, also where the reader has stopped;
-/// - with the fault that the reader kept, where it has stopped, or with `InvalidParam("count past usize")` where a `usize` cannot count
-///   the bits; nothing changes;
-/// - with `Incomplete` where the input ends before the last of the bits, or `Io` where the source fails: the reader has stopped then, and counts
-///   what it did before.
-///
 /// ```text
 /// usize::from_reader_with_ctx(&mut reader, (Endian::Big, BitSize(16)))?       // 258 from 01 02
 /// ```
 impl<C: NumberCtx> DekuReader<C> for usize {
-    ghost use Rattle.std.specs.Prelude.{◌≡◌};
-    ghost use Rattle.deku_num.specs.Numbers.{unsigned};
-    ghost use Rattle.deku_num.specs.NumberCalls.{ReadsUnsigned};
-
-    ghost accepts = { λ c. c ≡ c };
-
-    ghost no_read_ahead = { λ c. c ≡ c };
-
     ghost meaning = { λ c. ReadsUnsigned (unsigned 64) (C.layout_of c) };
 
     #[inline(always)]
     fn from_reader_with_ctx<R: Source>(reader: &mut Reader<R>, ctx: C) -> Result<Self, DekuError>
-        ensures reads { Reads R.known (ReadsUnsigned (unsigned 64) (C.layout_of ctx)) reader.old result reader.new }
-        ensures fetched { OnOk result (FetchesFor (width (unsigned 64) (C.layout_of ctx)) reader.old.state (R.known reader.old.source) (R.known reader.new.source)) }
+        ensures reads { Reads R.known (ReadsUnsigned (unsigned 64) (C.layout_of ctx)) reader.old
+            result reader.new }
+        ensures fetched { OnOk result (FetchesFor (width (unsigned 64) (C.layout_of ctx))
+            reader.old.state (R.known reader.old.source) (R.known reader.new.source)) }
         ensures early { OnOk result (NoReadAhead R.known reader.old reader.new) }
         ensures stopped { Untouched reader.old.state reader.old.source reader.new.source }
     {
@@ -230,34 +160,21 @@ impl<C: NumberCtx> DekuReader<C> for usize {
     }
 }
 
-/// Reads an `i8` as its context says: the whole eight bits, or as many bits or bytes as a size says; in two's complement.
-///
-/// It is refused, in this order,
-///
-/// - with `Parse("too much data")` where the size is beyond eight bits; nothing changes, also where the reader has stopped;
-/// - with the fault that the reader kept, where it has stopped, or with `InvalidParam("count past usize")` where a `usize` cannot count
-///   the bits; nothing changes;
-/// - with `Incomplete` where the input ends before the last of the bits, or `Io` where the source fails: the reader has stopped then, and counts
-///   what it did before.
+/// Reads an `i8` as its context says: the whole eight bits, or as many bits or bytes as a size
+/// says; in two's complement.
 ///
 /// ```text
 /// i8::from_reader_with_ctx(&mut reader, Endian::Little)?                      // -1 from FF
 /// ```
 impl<C: NumberCtx> DekuReader<C> for i8 {
-    ghost use Rattle.std.specs.Prelude.{◌≡◌};
-    ghost use Rattle.deku_num.specs.Numbers.{signed};
-    ghost use Rattle.deku_num.specs.NumberCalls.{ReadsNumber};
-
-    ghost accepts = { λ c. c ≡ c };
-
-    ghost no_read_ahead = { λ c. c ≡ c };
-
     ghost meaning = { λ c. ReadsNumber (signed 8) (C.layout_of c) };
 
     #[inline(always)]
     fn from_reader_with_ctx<R: Source>(reader: &mut Reader<R>, ctx: C) -> Result<Self, DekuError>
-        ensures reads { Reads R.known (ReadsNumber (signed 8) (C.layout_of ctx)) reader.old result reader.new }
-        ensures fetched { OnOk result (FetchesFor (width (signed 8) (C.layout_of ctx)) reader.old.state (R.known reader.old.source) (R.known reader.new.source)) }
+        ensures reads { Reads R.known (ReadsNumber (signed 8) (C.layout_of ctx)) reader.old result
+            reader.new }
+        ensures fetched { OnOk result (FetchesFor (width (signed 8) (C.layout_of ctx))
+            reader.old.state (R.known reader.old.source) (R.known reader.new.source)) }
         ensures early { OnOk result (NoReadAhead R.known reader.old reader.new) }
         ensures stopped { Untouched reader.old.state reader.old.source reader.new.source }
     {
@@ -266,36 +183,21 @@ impl<C: NumberCtx> DekuReader<C> for i8 {
     }
 }
 
-/// Reads an `i16` as its context says: the whole 16 bits, or as many bits or bytes as a size says; in two's complement.
-///
-/// It is refused, in this order,
-///
-/// - with `Parse("too much data")` where the size is beyond 16 bits; nothing changes, also where the reader has stopped;
-/// - with `InvalidParam("signed big Lsb0 field of this width")` where the field is big and `Lsb0`, of more than eight bits and no whole bytes;
-///   nothing changes;
-/// - with the fault that the reader kept, where it has stopped, or with `InvalidParam("count past usize")` where a `usize` cannot count
-///   the bits; nothing changes;
-/// - with `Incomplete` where the input ends before the last of the bits, or `Io` where the source fails: the reader has stopped then, and counts
-///   what it did before.
+/// Reads an `i16` as its context says: the whole 16 bits, or as many bits or bytes as a size says;
+/// in two's complement.
 ///
 /// ```text
 /// i16::from_reader_with_ctx(&mut reader, Endian::Big)?                        // -2 from FF FE
 /// ```
 impl<C: NumberCtx> DekuReader<C> for i16 {
-    ghost use Rattle.std.specs.Prelude.{◌≡◌};
-    ghost use Rattle.deku_num.specs.Numbers.{signed};
-    ghost use Rattle.deku_num.specs.NumberCalls.{ReadsNumber};
-
-    ghost accepts = { λ c. c ≡ c };
-
-    ghost no_read_ahead = { λ c. c ≡ c };
-
     ghost meaning = { λ c. ReadsNumber (signed 16) (C.layout_of c) };
 
     #[inline(always)]
     fn from_reader_with_ctx<R: Source>(reader: &mut Reader<R>, ctx: C) -> Result<Self, DekuError>
-        ensures reads { Reads R.known (ReadsNumber (signed 16) (C.layout_of ctx)) reader.old result reader.new }
-        ensures fetched { OnOk result (FetchesFor (width (signed 16) (C.layout_of ctx)) reader.old.state (R.known reader.old.source) (R.known reader.new.source)) }
+        ensures reads { Reads R.known (ReadsNumber (signed 16) (C.layout_of ctx)) reader.old result
+            reader.new }
+        ensures fetched { OnOk result (FetchesFor (width (signed 16) (C.layout_of ctx))
+            reader.old.state (R.known reader.old.source) (R.known reader.new.source)) }
         ensures early { OnOk result (NoReadAhead R.known reader.old reader.new) }
         ensures stopped { Untouched reader.old.state reader.old.source reader.new.source }
     {
@@ -304,36 +206,21 @@ impl<C: NumberCtx> DekuReader<C> for i16 {
     }
 }
 
-/// Reads an `i32` as its context says: the whole 32 bits, or as many bits or bytes as a size says; in two's complement.
-///
-/// It is refused, in this order,
-///
-/// - with `Parse("too much data")` where the size is beyond 32 bits; nothing changes, also where the reader has stopped;
-/// - with `InvalidParam("signed big Lsb0 field of this width")` where the field is big and `Lsb0`, of more than eight bits and no whole bytes;
-///   nothing changes;
-/// - with the fault that the reader kept, where it has stopped, or with `InvalidParam("count past usize")` where a `usize` cannot count
-///   the bits; nothing changes;
-/// - with `Incomplete` where the input ends before the last of the bits, or `Io` where the source fails: the reader has stopped then, and counts
-///   what it did before.
+/// Reads an `i32` as its context says: the whole 32 bits, or as many bits or bytes as a size says;
+/// in two's complement.
 ///
 /// ```text
 /// i32::from_reader_with_ctx(&mut reader, (Endian::Big, ByteSize(2)))?         // -2 from FF FE
 /// ```
 impl<C: NumberCtx> DekuReader<C> for i32 {
-    ghost use Rattle.std.specs.Prelude.{◌≡◌};
-    ghost use Rattle.deku_num.specs.Numbers.{signed};
-    ghost use Rattle.deku_num.specs.NumberCalls.{ReadsNumber};
-
-    ghost accepts = { λ c. c ≡ c };
-
-    ghost no_read_ahead = { λ c. c ≡ c };
-
     ghost meaning = { λ c. ReadsNumber (signed 32) (C.layout_of c) };
 
     #[inline(always)]
     fn from_reader_with_ctx<R: Source>(reader: &mut Reader<R>, ctx: C) -> Result<Self, DekuError>
-        ensures reads { Reads R.known (ReadsNumber (signed 32) (C.layout_of ctx)) reader.old result reader.new }
-        ensures fetched { OnOk result (FetchesFor (width (signed 32) (C.layout_of ctx)) reader.old.state (R.known reader.old.source) (R.known reader.new.source)) }
+        ensures reads { Reads R.known (ReadsNumber (signed 32) (C.layout_of ctx)) reader.old result
+            reader.new }
+        ensures fetched { OnOk result (FetchesFor (width (signed 32) (C.layout_of ctx))
+            reader.old.state (R.known reader.old.source) (R.known reader.new.source)) }
         ensures early { OnOk result (NoReadAhead R.known reader.old reader.new) }
         ensures stopped { Untouched reader.old.state reader.old.source reader.new.source }
     {
@@ -342,36 +229,21 @@ impl<C: NumberCtx> DekuReader<C> for i32 {
     }
 }
 
-/// Reads an `i64` as its context says: the whole 64 bits, or as many bits or bytes as a size says; in two's complement.
-///
-/// It is refused, in this order,
-///
-/// - with `Parse("too much data")` where the size is beyond 64 bits; nothing changes, also where the reader has stopped;
-/// - with `InvalidParam("signed big Lsb0 field of this width")` where the field is big and `Lsb0`, of more than eight bits and no whole bytes;
-///   nothing changes;
-/// - with the fault that the reader kept, where it has stopped, or with `InvalidParam("count past usize")` where a `usize` cannot count
-///   the bits; nothing changes;
-/// - with `Incomplete` where the input ends before the last of the bits, or `Io` where the source fails: the reader has stopped then, and counts
-///   what it did before.
+/// Reads an `i64` as its context says: the whole 64 bits, or as many bits or bytes as a size says;
+/// in two's complement.
 ///
 /// ```text
 /// i64::from_reader_with_ctx(&mut reader, (Endian::Little, ByteSize(2)))?      // -2 from FE FF
 /// ```
 impl<C: NumberCtx> DekuReader<C> for i64 {
-    ghost use Rattle.std.specs.Prelude.{◌≡◌};
-    ghost use Rattle.deku_num.specs.Numbers.{signed};
-    ghost use Rattle.deku_num.specs.NumberCalls.{ReadsNumber};
-
-    ghost accepts = { λ c. c ≡ c };
-
-    ghost no_read_ahead = { λ c. c ≡ c };
-
     ghost meaning = { λ c. ReadsNumber (signed 64) (C.layout_of c) };
 
     #[inline(always)]
     fn from_reader_with_ctx<R: Source>(reader: &mut Reader<R>, ctx: C) -> Result<Self, DekuError>
-        ensures reads { Reads R.known (ReadsNumber (signed 64) (C.layout_of ctx)) reader.old result reader.new }
-        ensures fetched { OnOk result (FetchesFor (width (signed 64) (C.layout_of ctx)) reader.old.state (R.known reader.old.source) (R.known reader.new.source)) }
+        ensures reads { Reads R.known (ReadsNumber (signed 64) (C.layout_of ctx)) reader.old result
+            reader.new }
+        ensures fetched { OnOk result (FetchesFor (width (signed 64) (C.layout_of ctx))
+            reader.old.state (R.known reader.old.source) (R.known reader.new.source)) }
         ensures early { OnOk result (NoReadAhead R.known reader.old reader.new) }
         ensures stopped { Untouched reader.old.state reader.old.source reader.new.source }
     {
@@ -380,36 +252,21 @@ impl<C: NumberCtx> DekuReader<C> for i64 {
     }
 }
 
-/// Reads an `i128` as its context says: the whole 128 bits, or as many bits or bytes as a size says; in two's complement.
-///
-/// It is refused, in this order,
-///
-/// - with `Parse("too much data")` where the size is beyond 128 bits; nothing changes, also where the reader has stopped;
-/// - with `InvalidParam("signed big Lsb0 field of this width")` where the field is big and `Lsb0`, of more than eight bits and no whole bytes;
-///   nothing changes;
-/// - with the fault that the reader kept, where it has stopped, or with `InvalidParam("count past usize")` where a `usize` cannot count
-///   the bits; nothing changes;
-/// - with `Incomplete` where the input ends before the last of the bits, or `Io` where the source fails: the reader has stopped then, and counts
-///   what it did before.
+/// Reads an `i128` as its context says: the whole 128 bits, or as many bits or bytes as a size
+/// says; in two's complement.
 ///
 /// ```text
 /// i128::from_reader_with_ctx(&mut reader, (Endian::Big, BitSize(12)))?        // -1 from FF F0
 /// ```
 impl<C: NumberCtx> DekuReader<C> for i128 {
-    ghost use Rattle.std.specs.Prelude.{◌≡◌};
-    ghost use Rattle.deku_num.specs.Numbers.{signed};
-    ghost use Rattle.deku_num.specs.NumberCalls.{ReadsNumber};
-
-    ghost accepts = { λ c. c ≡ c };
-
-    ghost no_read_ahead = { λ c. c ≡ c };
-
     ghost meaning = { λ c. ReadsNumber (signed 128) (C.layout_of c) };
 
     #[inline(always)]
     fn from_reader_with_ctx<R: Source>(reader: &mut Reader<R>, ctx: C) -> Result<Self, DekuError>
-        ensures reads { Reads R.known (ReadsNumber (signed 128) (C.layout_of ctx)) reader.old result reader.new }
-        ensures fetched { OnOk result (FetchesFor (width (signed 128) (C.layout_of ctx)) reader.old.state (R.known reader.old.source) (R.known reader.new.source)) }
+        ensures reads { Reads R.known (ReadsNumber (signed 128) (C.layout_of ctx)) reader.old result
+            reader.new }
+        ensures fetched { OnOk result (FetchesFor (width (signed 128) (C.layout_of ctx))
+            reader.old.state (R.known reader.old.source) (R.known reader.new.source)) }
         ensures early { OnOk result (NoReadAhead R.known reader.old reader.new) }
         ensures stopped { Untouched reader.old.state reader.old.source reader.new.source }
     {
@@ -418,36 +275,21 @@ impl<C: NumberCtx> DekuReader<C> for i128 {
     }
 }
 
-/// Reads an `isize` as its context says: the whole 64 bits, or as many bits or bytes as a size says; in two's complement.
-///
-/// It is refused, in this order,
-///
-/// - with `Parse("too much data")` where the size is beyond 64 bits; nothing changes, also where the reader has stopped;
-/// - with `InvalidParam("signed big Lsb0 field of this width")` where the field is big and `Lsb0`, of more than eight bits and no whole bytes;
-///   nothing changes;
-/// - with the fault that the reader kept, where it has stopped, or with `InvalidParam("count past usize")` where a `usize` cannot count
-///   the bits; nothing changes;
-/// - with `Incomplete` where the input ends before the last of the bits, or `Io` where the source fails: the reader has stopped then, and counts
-///   what it did before.
+/// Reads an `isize` as its context says: the whole 64 bits, or as many bits or bytes as a size
+/// says; in two's complement.
 ///
 /// ```text
 /// isize::from_reader_with_ctx(&mut reader, (Endian::Big, BitSize(16)))?       // 258 from 01 02
 /// ```
 impl<C: NumberCtx> DekuReader<C> for isize {
-    ghost use Rattle.std.specs.Prelude.{◌≡◌};
-    ghost use Rattle.deku_num.specs.Numbers.{signed};
-    ghost use Rattle.deku_num.specs.NumberCalls.{ReadsNumber};
-
-    ghost accepts = { λ c. c ≡ c };
-
-    ghost no_read_ahead = { λ c. c ≡ c };
-
     ghost meaning = { λ c. ReadsNumber (signed 64) (C.layout_of c) };
 
     #[inline(always)]
     fn from_reader_with_ctx<R: Source>(reader: &mut Reader<R>, ctx: C) -> Result<Self, DekuError>
-        ensures reads { Reads R.known (ReadsNumber (signed 64) (C.layout_of ctx)) reader.old result reader.new }
-        ensures fetched { OnOk result (FetchesFor (width (signed 64) (C.layout_of ctx)) reader.old.state (R.known reader.old.source) (R.known reader.new.source)) }
+        ensures reads { Reads R.known (ReadsNumber (signed 64) (C.layout_of ctx)) reader.old result
+            reader.new }
+        ensures fetched { OnOk result (FetchesFor (width (signed 64) (C.layout_of ctx))
+            reader.old.state (R.known reader.old.source) (R.known reader.new.source)) }
         ensures early { OnOk result (NoReadAhead R.known reader.old reader.new) }
         ensures stopped { Untouched reader.old.state reader.old.source reader.new.source }
     {

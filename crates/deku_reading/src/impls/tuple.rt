@@ -1,4 +1,8 @@
-//! Tuples: their items in order. One of three or more is read as its first item and the tuple of the rest.
+//! Tuples: their items in order. One of three or more is read as its first item and the tuple of
+//! the rest.
+
+ghost use Rattle.deku_bits.specs.Outcomes.{Mapped};
+ghost use Rattle.deku_meanings.specs.Composing.{PairOf, JoinedBy};
 
 use crate::traits::DekuReader;
 use deku_bits::device::Source;
@@ -7,8 +11,6 @@ use deku_bits::reader::Reader;
 
 /// Its one item, under the item's context.
 impl<Ctx: Copy, A: DekuReader<Ctx>> DekuReader<Ctx> for (A,) {
-    ghost use Rattle.deku_bits.specs.Outcomes.{Mapped};
-
     ghost accepts = { A.accepts };
 
     ghost no_read_ahead = { A.no_read_ahead };
@@ -25,11 +27,9 @@ impl<Ctx: Copy, A: DekuReader<Ctx>> DekuReader<Ctx> for (A,) {
     }
 }
 
-/// The items in order, all under one context. The refusal is that of the first item that is refused, and what the items before it moved
-/// stays moved. So with each tuple below.
+/// The items in order, all under one context. The refusal is that of the first item that is
+/// refused, and what the items before it moved stays moved. So with each tuple below.
 impl<Ctx: Copy, A: DekuReader<Ctx>, B: DekuReader<Ctx>> DekuReader<Ctx> for (A, B) {
-    ghost use Rattle.deku_meanings.specs.Composing.{PairOf};
-
     ghost accepts = { λ c. A.accepts c × B.accepts c };
 
     ghost no_read_ahead = { λ c. A.no_read_ahead c × B.no_read_ahead c };
@@ -49,13 +49,13 @@ impl<Ctx: Copy, A: DekuReader<Ctx>, B: DekuReader<Ctx>> DekuReader<Ctx> for (A, 
 
 impl<Ctx: Copy, A: DekuReader<Ctx>, B: DekuReader<Ctx>, C: DekuReader<Ctx>> DekuReader<Ctx>
     for (A, B, C) {
-    ghost use Rattle.deku_meanings.specs.Composing.{JoinedBy};
-
     ghost accepts = { λ c. A.accepts c × ⟦<(B, C) as DekuReader<Ctx>>⟧.accepts c };
 
-    ghost no_read_ahead = { λ c. A.no_read_ahead c × ⟦<(B, C) as DekuReader<Ctx>>⟧.no_read_ahead c };
+    ghost no_read_ahead = { λ c. A.no_read_ahead c × ⟦<(B, C) as DekuReader<Ctx>>⟧.no_read_ahead
+        c };
 
-    ghost meaning = { λ c. JoinedBy (λ a rest. (a, rest.0, rest.1)) (A.meaning c) (⟦<(B, C) as DekuReader<Ctx>>⟧.meaning c) };
+    ghost meaning = { λ c. JoinedBy (λ a rest. (a, rest.0, rest.1)) (A.meaning c)
+        (⟦<(B, C) as DekuReader<Ctx>>⟧.meaning c) };
 
     #[inline(always)]
     fn from_reader_with_ctx<R: Source>(
@@ -75,13 +75,13 @@ impl<
     C: DekuReader<Ctx>,
     D: DekuReader<Ctx>,
 > DekuReader<Ctx> for (A, B, C, D) {
-    ghost use Rattle.deku_meanings.specs.Composing.{JoinedBy};
-
     ghost accepts = { λ c. A.accepts c × ⟦<(B, C, D) as DekuReader<Ctx>>⟧.accepts c };
 
-    ghost no_read_ahead = { λ c. A.no_read_ahead c × ⟦<(B, C, D) as DekuReader<Ctx>>⟧.no_read_ahead c };
+    ghost no_read_ahead = { λ c. A.no_read_ahead c × ⟦<(B, C, D) as DekuReader<Ctx>>⟧.no_read_ahead
+        c };
 
-    ghost meaning = { λ c. JoinedBy (λ a rest. (a, rest.0, rest.1, rest.2)) (A.meaning c) (⟦<(B, C, D) as DekuReader<Ctx>>⟧.meaning c) };
+    ghost meaning = { λ c. JoinedBy (λ a rest. (a, rest.0, rest.1, rest.2)) (A.meaning c)
+        (⟦<(B, C, D) as DekuReader<Ctx>>⟧.meaning c) };
 
     #[inline(always)]
     fn from_reader_with_ctx<R: Source>(
@@ -102,13 +102,12 @@ impl<
     D: DekuReader<Ctx>,
     E: DekuReader<Ctx>,
 > DekuReader<Ctx> for (A, B, C, D, E) {
-    ghost use Rattle.deku_meanings.specs.Composing.{JoinedBy};
-
     ghost accepts = { λ c. A.accepts c × ⟦<(B, C, D, E) as DekuReader<Ctx>>⟧.accepts c };
 
     ghost no_read_ahead = { λ c. A.no_read_ahead c × ⟦<(B, C, D, E) as DekuReader<Ctx>>⟧.no_read_ahead c };
 
-    ghost meaning = { λ c. JoinedBy (λ a rest. (a, rest.0, rest.1, rest.2, rest.3)) (A.meaning c) (⟦<(B, C, D, E) as DekuReader<Ctx>>⟧.meaning c) };
+    ghost meaning = { λ c. JoinedBy (λ a rest. (a, rest.0, rest.1, rest.2, rest.3)) (A.meaning c)
+        (⟦<(B, C, D, E) as DekuReader<Ctx>>⟧.meaning c) };
 
     #[inline(always)]
     fn from_reader_with_ctx<R: Source>(
@@ -130,13 +129,12 @@ impl<
     E: DekuReader<Ctx>,
     F: DekuReader<Ctx>,
 > DekuReader<Ctx> for (A, B, C, D, E, F) {
-    ghost use Rattle.deku_meanings.specs.Composing.{JoinedBy};
-
     ghost accepts = { λ c. A.accepts c × ⟦<(B, C, D, E, F) as DekuReader<Ctx>>⟧.accepts c };
 
     ghost no_read_ahead = { λ c. A.no_read_ahead c × ⟦<(B, C, D, E, F) as DekuReader<Ctx>>⟧.no_read_ahead c };
 
-    ghost meaning = { λ c. JoinedBy (λ a rest. (a, rest.0, rest.1, rest.2, rest.3, rest.4)) (A.meaning c) (⟦<(B, C, D, E, F) as DekuReader<Ctx>>⟧.meaning c) };
+    ghost meaning = { λ c. JoinedBy (λ a rest. (a, rest.0, rest.1, rest.2, rest.3, rest.4))
+        (A.meaning c) (⟦<(B, C, D, E, F) as DekuReader<Ctx>>⟧.meaning c) };
 
     #[inline(always)]
     fn from_reader_with_ctx<R: Source>(
@@ -159,13 +157,12 @@ impl<
     F: DekuReader<Ctx>,
     G: DekuReader<Ctx>,
 > DekuReader<Ctx> for (A, B, C, D, E, F, G) {
-    ghost use Rattle.deku_meanings.specs.Composing.{JoinedBy};
-
     ghost accepts = { λ c. A.accepts c × ⟦<(B, C, D, E, F, G) as DekuReader<Ctx>>⟧.accepts c };
 
     ghost no_read_ahead = { λ c. A.no_read_ahead c × ⟦<(B, C, D, E, F, G) as DekuReader<Ctx>>⟧.no_read_ahead c };
 
-    ghost meaning = { λ c. JoinedBy (λ a rest. (a, rest.0, rest.1, rest.2, rest.3, rest.4, rest.5)) (A.meaning c) (⟦<(B, C, D, E, F, G) as DekuReader<Ctx>>⟧.meaning c) };
+    ghost meaning = { λ c. JoinedBy (λ a rest. (a, rest.0, rest.1, rest.2, rest.3, rest.4, rest.5))
+        (A.meaning c) (⟦<(B, C, D, E, F, G) as DekuReader<Ctx>>⟧.meaning c) };
 
     #[inline(always)]
     fn from_reader_with_ctx<R: Source>(
@@ -189,13 +186,20 @@ impl<
     G: DekuReader<Ctx>,
     H: DekuReader<Ctx>,
 > DekuReader<Ctx> for (A, B, C, D, E, F, G, H) {
-    ghost use Rattle.deku_meanings.specs.Composing.{JoinedBy};
-
     ghost accepts = { λ c. A.accepts c × ⟦<(B, C, D, E, F, G, H) as DekuReader<Ctx>>⟧.accepts c };
 
     ghost no_read_ahead = { λ c. A.no_read_ahead c × ⟦<(B, C, D, E, F, G, H) as DekuReader<Ctx>>⟧.no_read_ahead c };
 
-    ghost meaning = { λ c. JoinedBy (λ a rest. (a, rest.0, rest.1, rest.2, rest.3, rest.4, rest.5, rest.6)) (A.meaning c) (⟦<(B, C, D, E, F, G, H) as DekuReader<Ctx>>⟧.meaning c) };
+    ghost meaning = { λ c. JoinedBy (λ a rest. (
+      a,
+      rest.0,
+      rest.1,
+      rest.2,
+      rest.3,
+      rest.4,
+      rest.5,
+      rest.6,
+    )) (A.meaning c) (⟦<(B, C, D, E, F, G, H) as DekuReader<Ctx>>⟧.meaning c) };
 
     #[inline(always)]
     fn from_reader_with_ctx<R: Source>(
@@ -220,13 +224,23 @@ impl<
     H: DekuReader<Ctx>,
     I: DekuReader<Ctx>,
 > DekuReader<Ctx> for (A, B, C, D, E, F, G, H, I) {
-    ghost use Rattle.deku_meanings.specs.Composing.{JoinedBy};
-
-    ghost accepts = { λ c. A.accepts c × ⟦<(B, C, D, E, F, G, H, I) as DekuReader<Ctx>>⟧.accepts c };
+    ghost accepts = { λ c. A.accepts c × ⟦<(B, C, D, E, F, G, H, I) as DekuReader<Ctx>>⟧.accepts
+        c };
 
     ghost no_read_ahead = { λ c. A.no_read_ahead c × ⟦<(B, C, D, E, F, G, H, I) as DekuReader<Ctx>>⟧.no_read_ahead c };
 
-    ghost meaning = { λ c. JoinedBy (λ a rest. (a, rest.0, rest.1, rest.2, rest.3, rest.4, rest.5, rest.6, rest.7)) (A.meaning c) (⟦<(B, C, D, E, F, G, H, I) as DekuReader<Ctx>>⟧.meaning c) };
+    ghost meaning = { λ c. JoinedBy (λ a rest. (
+      a,
+      rest.0,
+      rest.1,
+      rest.2,
+      rest.3,
+      rest.4,
+      rest.5,
+      rest.6,
+      rest.7,
+    )) (A.meaning c) (⟦<(B, C, D, E, F, G, H, I) as DekuReader<Ctx>>⟧.meaning
+        c) };
 
     #[inline(always)]
     fn from_reader_with_ctx<R: Source>(
@@ -254,13 +268,24 @@ impl<
     I: DekuReader<Ctx>,
     J: DekuReader<Ctx>,
 > DekuReader<Ctx> for (A, B, C, D, E, F, G, H, I, J) {
-    ghost use Rattle.deku_meanings.specs.Composing.{JoinedBy};
-
-    ghost accepts = { λ c. A.accepts c × ⟦<(B, C, D, E, F, G, H, I, J) as DekuReader<Ctx>>⟧.accepts c };
+    ghost accepts = { λ c. A.accepts c × ⟦<(B, C, D, E, F, G, H, I, J) as DekuReader<Ctx>>⟧.accepts
+        c };
 
     ghost no_read_ahead = { λ c. A.no_read_ahead c × ⟦<(B, C, D, E, F, G, H, I, J) as DekuReader<Ctx>>⟧.no_read_ahead c };
 
-    ghost meaning = { λ c. JoinedBy (λ a rest. (a, rest.0, rest.1, rest.2, rest.3, rest.4, rest.5, rest.6, rest.7, rest.8)) (A.meaning c) (⟦<(B, C, D, E, F, G, H, I, J) as DekuReader<Ctx>>⟧.meaning c) };
+    ghost meaning = { λ c. JoinedBy (λ a rest. (
+      a,
+      rest.0,
+      rest.1,
+      rest.2,
+      rest.3,
+      rest.4,
+      rest.5,
+      rest.6,
+      rest.7,
+      rest.8,
+    )) (A.meaning c)
+        (⟦<(B, C, D, E, F, G, H, I, J) as DekuReader<Ctx>>⟧.meaning c) };
 
     #[inline(always)]
     fn from_reader_with_ctx<R: Source>(
@@ -289,13 +314,24 @@ impl<
     J: DekuReader<Ctx>,
     K: DekuReader<Ctx>,
 > DekuReader<Ctx> for (A, B, C, D, E, F, G, H, I, J, K) {
-    ghost use Rattle.deku_meanings.specs.Composing.{JoinedBy};
-
     ghost accepts = { λ c. A.accepts c × ⟦<(B, C, D, E, F, G, H, I, J, K) as DekuReader<Ctx>>⟧.accepts c };
 
     ghost no_read_ahead = { λ c. A.no_read_ahead c × ⟦<(B, C, D, E, F, G, H, I, J, K) as DekuReader<Ctx>>⟧.no_read_ahead c };
 
-    ghost meaning = { λ c. JoinedBy (λ a rest. (a, rest.0, rest.1, rest.2, rest.3, rest.4, rest.5, rest.6, rest.7, rest.8, rest.9)) (A.meaning c) (⟦<(B, C, D, E, F, G, H, I, J, K) as DekuReader<Ctx>>⟧.meaning c) };
+    ghost meaning = { λ c. JoinedBy (λ a rest. (
+      a,
+      rest.0,
+      rest.1,
+      rest.2,
+      rest.3,
+      rest.4,
+      rest.5,
+      rest.6,
+      rest.7,
+      rest.8,
+      rest.9,
+    )) (A.meaning c)
+        (⟦<(B, C, D, E, F, G, H, I, J, K) as DekuReader<Ctx>>⟧.meaning c) };
 
     #[inline(always)]
     fn from_reader_with_ctx<R: Source>(

@@ -1,5 +1,7 @@
 //! Nothing at all.
 
+ghost use Rattle.deku_meanings.specs.Composing.{Answer};
+
 use crate::traits::DekuReader;
 use deku_bits::device::Source;
 use deku_bits::error::DekuError;
@@ -7,13 +9,6 @@ use deku_bits::reader::Reader;
 
 /// Nothing is read, also where the reader has stopped.
 impl<Ctx: Copy> DekuReader<Ctx> for () {
-    ghost use Rattle.std.specs.Prelude.{◌≡◌};
-    ghost use Rattle.deku_meanings.specs.Composing.{Answer};
-
-    ghost accepts = { λ c. c ≡ c };
-
-    ghost no_read_ahead = { λ c. c ≡ c };
-
     ghost meaning = { λ _. Answer tt };
 
     fn from_reader_with_ctx<R: Source>(

@@ -19,7 +19,8 @@ const RUN: usize = 64;
 fn shift(out: &mut [u8], held: &mut Held, bytes: &[u8])
     requires short { length held.old < 8 }
     requires room { length bytes.now ≤ length out.old }
-    ensures fills { Fills Msb0 held.old held.new (bits_in bytes.now) (take (length bytes.now) out.new) }
+    ensures fills { Fills Msb0 held.old held.new (bits_in bytes.now)
+        (take (length bytes.now) out.new) }
     ensures len { length out.new ≡ length out.old }
 {
     for i in 0..bytes.len() {
@@ -32,8 +33,10 @@ fn push_run<W: Sink>(sink: &mut W, held: &mut Held, bytes: &[u8]) -> Result<(), 
     requires short { length held.old < 8 }
     requires some { 0 < length bytes.now }
     requires most { length bytes.now ≤ 64 }
-    ensures pushed { OnOk result (Pushed (W.known sink.old) (W.known sink.new) Msb0 held.old held.new (bits_in bytes.now)) }
-    ensures fault { IfErr result (GaveUp (W.known sink.old) (W.known sink.new) (full_bytes Msb0 held.old (bits_in bytes.now))) }
+    ensures pushed { OnOk result (Pushed (W.known sink.old) (W.known sink.new) Msb0 held.old
+        held.new (bits_in bytes.now)) }
+    ensures fault { IfErr result (GaveUp (W.known sink.old) (W.known sink.new)
+        (full_bytes Msb0 held.old (bits_in bytes.now))) }
 {
     let mut out = [0; RUN];
     shift(&mut out, held, bytes);
@@ -43,8 +46,10 @@ fn push_run<W: Sink>(sink: &mut W, held: &mut Held, bytes: &[u8]) -> Result<(), 
 // The bytes, each high bit first, onto held bits, run by run.
 fn push_bytes<W: Sink>(sink: &mut W, held: &mut Held, bytes: &[u8]) -> Result<(), ErrorKind>
     requires { length held.old < 8 }
-    ensures pushed { OnOk result (Pushed (W.known sink.old) (W.known sink.new) Msb0 held.old held.new (bits_in bytes.now)) }
-    ensures fault { IfErr result (GaveUp (W.known sink.old) (W.known sink.new) (full_bytes Msb0 held.old (bits_in bytes.now))) }
+    ensures pushed { OnOk result (Pushed (W.known sink.old) (W.known sink.new) Msb0 held.old
+        held.new (bits_in bytes.now)) }
+    ensures fault { IfErr result (GaveUp (W.known sink.old) (W.known sink.new)
+        (full_bytes Msb0 held.old (bits_in bytes.now))) }
 {
     for i in 0..bytes.len().div_ceil(RUN) {
         let begin = RUN * i;
@@ -62,7 +67,8 @@ fn give_turned<W: Sink>(sink: &mut W, bytes: &[u8]) -> Result<(), ErrorKind>
     requires some { 0 < length bytes.now }
     requires most { length bytes.now ≤ 64 }
     ensures gave { OnOk result (Gave (W.known sink.old) (W.known sink.new) (reverse bytes.now)) }
-    ensures fault { IfErr result (GaveUp (W.known sink.old) (W.known sink.new) (reverse bytes.now)) }
+    ensures fault { IfErr result (GaveUp (W.known sink.old) (W.known sink.new)
+        (reverse bytes.now)) }
 {
     let mut out = [0; RUN];
     let run = &mut out[..bytes.len()];
@@ -74,7 +80,8 @@ fn give_turned<W: Sink>(sink: &mut W, bytes: &[u8]) -> Result<(), ErrorKind>
 // Bytes above `Lsb0` bits: the last byte goes out first, and the bits stay.
 fn give_above<W: Sink>(sink: &mut W, bytes: &[u8]) -> Result<(), ErrorKind>
     ensures gave { OnOk result (Gave (W.known sink.old) (W.known sink.new) (reverse bytes.now)) }
-    ensures fault { IfErr result (GaveUp (W.known sink.old) (W.known sink.new) (reverse bytes.now)) }
+    ensures fault { IfErr result (GaveUp (W.known sink.old) (W.known sink.new)
+        (reverse bytes.now)) }
 {
     for i in 0..bytes.len().div_ceil(RUN) {
         let end = bytes.len() - RUN * i;
@@ -96,8 +103,10 @@ pub fn push_bytes_onto<W: Sink>(
 ) -> Result<(), ErrorKind>
     requires short { length held.old < 8 }
     requires some { 0 < length bytes.now }
-    ensures pushed { OnOk result (PushedOnto (W.known sink.old) (W.known sink.new) from Msb0 held.old held.new (bits_in bytes.now)) }
-    ensures fault { IfErr result (GaveUp (W.known sink.old) (W.known sink.new) (onto_bytes from Msb0 held.old (bits_in bytes.now))) }
+    ensures pushed { OnOk result (PushedOnto (W.known sink.old) (W.known sink.new) from Msb0
+        held.old held.new (bits_in bytes.now)) }
+    ensures fault { IfErr result (GaveUp (W.known sink.old) (W.known sink.new)
+        (onto_bytes from Msb0 held.old (bits_in bytes.now))) }
 {
     if held.len() == 0 {
         return give_out(sink, bytes);

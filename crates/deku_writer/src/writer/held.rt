@@ -38,7 +38,8 @@ impl Held {
         Held { number: 0, len: 0 }
     }
 
-    /// How many there are. They are below eight, as is said to the compiler too: so it knows how many bytes a field of whole bytes fills.
+    /// How many there are. They are below eight, as is said to the compiler too: so it knows how
+    /// many bytes a field of whole bytes fills.
     #[tactic(auto, using(deku_stream::proofs::Packed::lengths))]
     #[inline(always)]
     pub fn len(&self) -> usize
@@ -59,8 +60,9 @@ impl Held {
         }
     }
 
-    /// Holds the bits of another, which are so many, in place of its own. Their count is the caller's, who knows it whichever way they came: so the
-    /// compiler knows it too. Each part is set by itself, so that what lies between them in memory is not moved.
+    /// Holds the bits of another, which are so many, in place of its own. Their count is the
+    /// caller's, who knows it whichever way they came: so the compiler knows it too. Each part is
+    /// set by itself, so that what lies between them in memory is not moved.
     #[inline(always)]
     pub fn follow(&mut self, next: Held, len: usize)
         requires { len ≡ length next }
@@ -77,9 +79,11 @@ impl Held {
         bits_of_byte(((self.number as u16) << (8 - self.len)) as u8)
     }
 
-    /// A whole byte, as the order meets it behind the bits that are held. The first eight go out as a byte, and as many are held as before.
+    /// A whole byte, as the order meets it behind the bits that are held. The first eight go out as
+    /// a byte, and as many are held as before.
     pub fn pass(&mut self, order: Order, byte: u8) -> u8
-        ensures fills { Fills order self.old self.new (facing order (byte_bits byte)) (result ∷ []) }
+        ensures fills { Fills order self.old self.new (facing order (byte_bits byte))
+            (result ∷ []) }
         ensures len { length self.new ≡ length self.old }
     {
         let joined = join(order, self.number, self.len, byte, 8);
@@ -88,14 +92,15 @@ impl Held {
         first
     }
 
-    /// A word of n bits behind the held bits, with which it has at most 64: the bytes that fill are the first of eight, so many. The bits behind
-    /// them are held.
+    /// A word of n bits behind the held bits, with which it has at most 64: the bytes that fill are
+    /// the first of eight, so many. The bits behind them are held.
     #[inline(always)]
     pub fn fill(&mut self, order: Order, word: u64, n: usize) -> ([u8; 8], usize)
         requires some { 0 < n }
         requires most { length self.old + n ≤ 64 }
         requires inside { word < 2 ^ n }
-        ensures fills { Fills order self.old self.new (word_bits order n word) (take result.1 result.0) }
+        ensures fills { Fills order self.old self.new (word_bits order n word)
+            (take result.1 result.0) }
         ensures count { result.1 ≡ (length self.old + n) / 8 }
         ensures rest { length self.new ≡ (length self.old + n) % 8 }
     {
@@ -108,8 +113,8 @@ impl Held {
         (eight, len / 8)
     }
 
-    /// The bits of a number, from the highest down, behind the held bits, with which they are at most 64: the bytes that fill are the first of eight,
-    /// so many. The bits behind them are held.
+    /// The bits of a number, from the highest down, behind the held bits, with which they are at
+    /// most 64: the bytes that fill are the first of eight, so many. The bits behind them are held.
     #[inline(always)]
     pub fn fill_high(&mut self, number: u64, n: usize) -> ([u8; 8], usize)
         requires some { 0 < n }
@@ -128,8 +133,8 @@ impl Held {
         (eight, all / 8)
     }
 
-    /// A group of at most eight bits, as the order meets it behind those that are held. Where there are eight then, the first eight go out as
-    /// a byte.
+    /// A group of at most eight bits, as the order meets it behind those that are held. Where there
+    /// are eight then, the first eight go out as a byte.
     pub fn push(&mut self, order: Order, group: u8, n: usize) -> Option<u8>
         requires size { n ≤ 8 }
         requires inside { group < 2 ^ n }
@@ -156,7 +161,8 @@ fn join(order: Order, first: u8, a: usize, second: u8, b: usize) -> u16
     requires first { first < 2 ^ a }
     requires second { second < 2 ^ b }
     ensures inside { result < 2 ^ (a + b) }
-    ensures bits { facing order (bits_of (a + b) result) ≡ facing order (bits_of a first) ++ facing order (bits_of b second) }
+    ensures bits { facing order (bits_of (a + b) result) ≡ facing order (bits_of a first) ++ facing
+        order (bits_of b second) }
 {
     match order {
         Order::Msb0 => ((first as u16) << b) + second as u16,
@@ -170,7 +176,8 @@ fn split(order: Order, joined: u16, n: usize) -> (u8, u8)
     requires short { n < 16 }
     requires inside { joined < 2 ^ n }
     ensures inside { result.1 < 2 ^ (n - 8) }
-    ensures bits { facing order (bits_of n joined) ≡ facing order (byte_bits result.0) ++ facing order (bits_of (n - 8) result.1) }
+    ensures bits { facing order (bits_of n joined) ≡ facing order (byte_bits result.0) ++ facing
+        order (bits_of (n - 8) result.1) }
 {
     let behind = n - 8;
     match order {

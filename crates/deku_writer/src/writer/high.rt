@@ -11,29 +11,33 @@ use super::words::is_behind;
 use deku_device::device::Sink;
 use deku_stream::ctx::Order;
 
-// The bits of a number that are whole bytes, where the sink has room for eight bytes at hand, and whether it has.
+// The bits of a number that are whole bytes, where the sink has room for eight bytes at hand, and
+// whether it has.
 #[inline(always)]
 fn lay_bytes<W: Sink>(sink: &mut W, number: u64, n: usize) -> bool
     requires some { 0 < n }
     requires whole { n % 8 ≡ 0 }
     requires most { n ≤ 64 }
     requires inside { number < 2 ^ n }
-    ensures pushed { IsTrue result → Pushed (W.known sink.old) (W.known sink.new) Msb0 [] [] (bits_of n number) }
+    ensures pushed { IsTrue result → Pushed (W.known sink.old) (W.known sink.new) Msb0 [] []
+        (bits_of n number) }
     ensures stays { IsFalse result → sink.new ≡ sink.old }
 {
     let (eight, _) = cut_word(Order::Msb0, number, n);
     sink.try_put(eight, n / 8)
 }
 
-/// The bits of a number, from the highest down, onto the held bits of an order, where they follow these as they are, have at most 64 bits with them, and
-/// the sink has room for eight bytes at hand, and whether all this is so. Else nothing changes.
+/// The bits of a number, from the highest down, onto the held bits of an order, where they follow
+/// these as they are, have at most 64 bits with them, and the sink has room for eight bytes at
+/// hand, and whether all this is so. Else nothing changes.
 #[inline(always)]
 pub fn lay_high<W: Sink>(sink: &mut W, held: &mut Held, from: Order, number: u64, n: usize) -> bool
     requires some { 0 < n }
     requires short { length held.old < 8 }
     requires most { n ≤ 64 }
     requires inside { number < 2 ^ n }
-    ensures pushed { IsTrue result → PushedOnto (W.known sink.old) (W.known sink.new) from Msb0 held.old held.new (bits_of n number) }
+    ensures pushed { IsTrue result → PushedOnto (W.known sink.old) (W.known sink.new) from Msb0
+        held.old held.new (bits_of n number) }
     ensures stays { IsFalse result → (sink.new ≡ sink.old) × (held.new ≡ held.old) }
 {
     if held.len() == 0 && n % 8 == 0 {

@@ -17,7 +17,8 @@ pub fn join_word(order: Order, first: u8, a: usize, word: u64, n: usize) -> u64
     requires first { first < 2 ^ a }
     requires word { word < 2 ^ n }
     ensures inside { result < 2 ^ (a + n) }
-    ensures bits { facing order (bits_of (a + n) result) ≡ facing order (bits_of a first) ++ word_bits order n word }
+    ensures bits { facing order (bits_of (a + n) result) ≡ facing order (bits_of a first) ++
+        word_bits order n word }
 {
     match order {
         Order::Msb0 => {
@@ -49,7 +50,8 @@ pub fn join_high(first: u8, a: usize, number: u64, n: usize) -> u64
     front + number
 }
 
-// The number of a word's n bits, the highest first: its whole bytes are turned, and the bits behind them follow.
+// The number of a word's n bits, the highest first: its whole bytes are turned, and the bits behind
+// them follow.
 #[inline(always)]
 fn high_number(word: u64, n: usize) -> u64
     requires most { n ≤ 64 }
@@ -68,7 +70,8 @@ fn high_number(word: u64, n: usize) -> u64
     (front << behind) + (word >> (8 * (n / 8)))
 }
 
-/// The whole bytes of n bits that an order meets, the first of eight, and the number of the bits behind them.
+/// The whole bytes of n bits that an order meets, the first of eight, and the number of the bits
+/// behind them.
 #[inline(always)]
 pub fn cut_word(order: Order, joined: u64, n: usize) -> ([u8; 8], u8)
     requires some { 0 < n }
@@ -76,7 +79,8 @@ pub fn cut_word(order: Order, joined: u64, n: usize) -> ([u8; 8], u8)
     requires inside { joined < 2 ^ n }
     ensures inside { result.1 < 2 ^ (n % 8) }
     ensures bytes { All (λ b. b < 256) result.0 }
-    ensures bits { facing order (bits_of n joined) ≡ flow order (take (n / 8) result.0) ++ facing order (bits_of (n % 8) result.1) }
+    ensures bits { facing order (bits_of n joined) ≡ flow order (take (n / 8) result.0) ++ facing
+        order (bits_of (n % 8) result.1) }
 {
     match order {
         Order::Msb0 => (

@@ -58,8 +58,10 @@ fn push_bit<W: Sink>(
     bit: bool,
 ) -> Result<(), ErrorKind>
     requires { length held.old < 8 }
-    ensures pushed { OnOk result (Pushed (W.known sink.old) (W.known sink.new) order held.old held.new (bit ∷ [])) }
-    ensures fault { IfErr result (GaveUp (W.known sink.old) (W.known sink.new) (full_bytes order held.old (bit ∷ []))) }
+    ensures pushed { OnOk result (Pushed (W.known sink.old) (W.known sink.new) order held.old
+        held.new (bit ∷ [])) }
+    ensures fault { IfErr result (GaveUp (W.known sink.old) (W.known sink.new)
+        (full_bytes order held.old (bit ∷ []))) }
 {
     match held.push(order, u8::from(bit), 1) {
         None => Ok(()),
@@ -77,8 +79,10 @@ fn push_along<W: Sink>(
 ) -> Result<(), ErrorKind>
     requires short { length held.old < 8 }
     requires whole { IsFor way (length bits.now) }
-    ensures pushed { OnOk result (Pushed (W.known sink.old) (W.known sink.new) order held.old held.new (along way bits.now)) }
-    ensures fault { IfErr result (GaveUp (W.known sink.old) (W.known sink.new) (full_bytes order held.old (along way bits.now))) }
+    ensures pushed { OnOk result (Pushed (W.known sink.old) (W.known sink.new) order held.old
+        held.new (along way bits.now)) }
+    ensures fault { IfErr result (GaveUp (W.known sink.old) (W.known sink.new)
+        (full_bytes order held.old (along way bits.now))) }
 {
     let n = bits.len();
     for i in 0..n {
@@ -98,13 +102,16 @@ fn push_same<W: Sink>(
     bits: &[bool],
 ) -> Result<(), ErrorKind>
     requires { length held.old < 8 }
-    ensures pushed { OnOk result (Pushed (W.known sink.old) (W.known sink.new) order held.old held.new (shown order bits.now)) }
-    ensures fault { IfErr result (GaveUp (W.known sink.old) (W.known sink.new) (full_bytes order held.old (shown order bits.now))) }
+    ensures pushed { OnOk result (Pushed (W.known sink.old) (W.known sink.new) order held.old
+        held.new (shown order bits.now)) }
+    ensures fault { IfErr result (GaveUp (W.known sink.old) (W.known sink.new)
+        (full_bytes order held.old (shown order bits.now))) }
 {
     push_along(sink, held, order, Way::shown(order, bits.len()), bits)
 }
 
-// Three lists into an empty byte, high bit first: the first on a way through it, and the others from their first bit on.
+// Three lists into an empty byte, high bit first: the first on a way through it, and the others
+// from their first bit on.
 fn push_three<W: Sink>(
     sink: &mut W,
     held: &mut Held,
@@ -115,8 +122,10 @@ fn push_three<W: Sink>(
 ) -> Result<(), ErrorKind>
     requires empty { held.old ≡ [] }
     requires whole { IsFor way (length first.now) }
-    ensures pushed { OnOk result (Pushed (W.known sink.old) (W.known sink.new) Msb0 [] held.new (along way first.now ++ second.now ++ third.now)) }
-    ensures fault { IfErr result (GaveUp (W.known sink.old) (W.known sink.new) (full_bytes Msb0 [] (along way first.now ++ second.now ++ third.now))) }
+    ensures pushed { OnOk result (Pushed (W.known sink.old) (W.known sink.new) Msb0 [] held.new
+        (along way first.now ++ second.now ++ third.now)) }
+    ensures fault { IfErr result (GaveUp (W.known sink.old) (W.known sink.new)
+        (full_bytes Msb0 [] (along way first.now ++ second.now ++ third.now))) }
 {
     match push_along(sink, held, Order::Msb0, way, first) {
         Ok(()) => {}
@@ -133,9 +142,11 @@ fn push_three<W: Sink>(
 fn push_into<W: Sink>(sink: &mut W, held: &mut Held, bits: &[bool]) -> Result<(), ErrorKind>
     requires { length held.old < 8 }
     ensures pushed { OnOk result (Pushed (W.known sink.old) (W.known sink.new) Msb0 [] held.new
-        (take (min (8 - length bits.now % 8) (length held.old)) held.old ++ bits.now ++ drop (min (8 - length bits.now % 8) (length held.old)) held.old)) }
+        (take (min (8 - length bits.now % 8) (length held.old)) held.old ++ bits.now ++ drop
+        (min (8 - length bits.now % 8) (length held.old)) held.old)) }
     ensures fault { IfErr result (GaveUp (W.known sink.old) (W.known sink.new) (full_bytes Msb0 []
-        (take (min (8 - length bits.now % 8) (length held.old)) held.old ++ bits.now ++ drop (min (8 - length bits.now % 8) (length held.old)) held.old))) }
+        (take (min (8 - length bits.now % 8) (length held.old)) held.old ++ bits.now ++ drop
+        (min (8 - length bits.now % 8) (length held.old)) held.old))) }
 {
     let pending = held.bits();
     let pending = &pending[..held.len()];
@@ -155,9 +166,11 @@ fn push_into<W: Sink>(sink: &mut W, held: &mut Held, bits: &[bool]) -> Result<()
 fn push_above<W: Sink>(sink: &mut W, held: &mut Held, bits: &[bool]) -> Result<(), ErrorKind>
     requires { length held.old < 8 }
     ensures pushed { OnOk result (Pushed (W.known sink.old) (W.known sink.new) Msb0 [] held.new
-        (along BytesBackward (drop (length bits.now % 8) bits.now) ++ take (length bits.now % 8) bits.now ++ held.old)) }
+        (along BytesBackward (drop (length bits.now % 8) bits.now) ++ take (length bits.now % 8)
+        bits.now ++ held.old)) }
     ensures fault { IfErr result (GaveUp (W.known sink.old) (W.known sink.new) (full_bytes Msb0 []
-        (along BytesBackward (drop (length bits.now % 8) bits.now) ++ take (length bits.now % 8) bits.now ++ held.old))) }
+        (along BytesBackward (drop (length bits.now % 8) bits.now) ++ take (length bits.now % 8)
+        bits.now ++ held.old))) }
 {
     let pending = held.bits();
     let pending = &pending[..held.len()];
@@ -184,8 +197,10 @@ pub fn push_onto<W: Sink>(
 ) -> Result<(), ErrorKind>
     requires short { length held.old < 8 }
     requires some { 0 < length bits.now }
-    ensures pushed { OnOk result (PushedOnto (W.known sink.old) (W.known sink.new) from to held.old held.new bits.now) }
-    ensures fault { IfErr result (GaveUp (W.known sink.old) (W.known sink.new) (onto_bytes from to held.old bits.now)) }
+    ensures pushed { OnOk result (PushedOnto (W.known sink.old) (W.known sink.new) from to held.old
+        held.new bits.now) }
+    ensures fault { IfErr result (GaveUp (W.known sink.old) (W.known sink.new)
+        (onto_bytes from to held.old bits.now)) }
 {
     if held.len() == 0 {
         return push_same(sink, held, to, bits);

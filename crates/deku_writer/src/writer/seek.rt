@@ -10,15 +10,15 @@ ghost use Rattle.deku_device.specs.Seeking.{Seeks, RefusedSeek, StandsAt, toward
 ghost use Rattle.deku_stream.specs.Standings.{Going, Stopped, count_of};
 ghost use Rattle.deku_stream.specs.Writers.{Nothing};
 
-use crate::writer::{WriterState, Writer};
+use crate::writer::{Writer, WriterState};
 use deku_device::device::Sink;
 use std::io;
 use std::io::{Seek, SeekFrom};
 
 /// Seeks the sink. Pending bits are lost: call `finalize` first. The count of bits written stays.
 ///
-/// A seek that succeeds lets a writer go on that a fault had stopped. It is refused with the sink's error, where that refuses: the writer stops
-/// with `Io` of the error's kind.
+/// A seek that succeeds lets a writer go on that a fault had stopped. It is refused with the sink's
+/// error, where that refuses: the writer stops with `Io` of the error's kind.
 ///
 /// ```text
 /// writer.write_bits(&[true, false, true, false])?;   // onto a vector: nothing is given to it yet
@@ -29,14 +29,19 @@ use std::io::{Seek, SeekFrom};
 impl<W: Sink> Seek for Writer<W> {
     fn seek(&mut self, to: SeekFrom) -> io::Result<u64>
         ensures ok { OnOk result (self.new.state ≡ Going Nothing (count_of self.old.state)) }
-        ensures err { IfErr result (λ e. self.new.state ≡ Stopped Nothing (DekuError.Io (error_kind e)) (count_of self.old.state)) }
+        ensures err { IfErr result (λ e. self.new.state ≡ Stopped Nothing
+            (DekuError.Io (error_kind e)) (count_of self.old.state)) }
         // Where the sink knows its place and its bytes, it is where its own seek leaves it.
-        ensures place { SeekMoves (W.stream_position self.old.sink) (W.stream_position self.new.sink) (W.stream_bytes self.old.sink) to result }
+        ensures place { SeekMoves (W.stream_position self.old.sink)
+            (W.stream_position self.new.sink) (W.stream_bytes self.old.sink) to result }
         ensures sink_bytes { Keeps (W.stream_bytes self.old.sink) (W.stream_bytes self.new.sink) }
         // Where the sink tells all its bytes, it goes on among them there.
-        ensures sought { Seeks (W.known self.old.sink).health (W.known self.new.sink).health to result }
-        ensures stands { StandsAt (W.known self.old.sink).health.whole result (W.known self.new.sink) }
-        ensures nowhere { RefusedSeek (W.known self.old.sink).health (W.known self.new.sink).health to result }
+        ensures sought { Seeks (W.known self.old.sink).health (W.known self.new.sink).health to
+            result }
+        ensures stands { StandsAt (W.known self.old.sink).health.whole result
+            (W.known self.new.sink) }
+        ensures nowhere { RefusedSeek (W.known self.old.sink).health (W.known self.new.sink).health
+            to result }
         // What the trait asks of a stream whose own place is not known.
         ensures moves { SeekMoves None None None to result }
         ensures bytes { Keeps None None }
@@ -56,12 +61,17 @@ impl<W: Sink> Seek for Writer<W> {
     /// Seeks to the start, as `seek(SeekFrom::Start(0))` does.
     fn rewind(&mut self) -> io::Result<()>
         ensures ok { OnOk result (self.new.state ≡ Going Nothing (count_of self.old.state)) }
-        ensures err { IfErr result (λ e. self.new.state ≡ Stopped Nothing (DekuError.Io (error_kind e)) (count_of self.old.state)) }
-        ensures place { MovesTo (W.stream_position self.old.sink) (W.stream_position self.new.sink) 0 result }
+        ensures err { IfErr result (λ e. self.new.state ≡ Stopped Nothing
+            (DekuError.Io (error_kind e)) (count_of self.old.state)) }
+        ensures place { MovesTo (W.stream_position self.old.sink) (W.stream_position self.new.sink)
+            0 result }
         ensures sink_bytes { Keeps (W.stream_bytes self.old.sink) (W.stream_bytes self.new.sink) }
-        ensures sought { Seeks (W.known self.old.sink).health (W.known self.new.sink).health (Start 0) (toward 0 result) }
-        ensures stands { StandsAt (W.known self.old.sink).health.whole (toward 0 result) (W.known self.new.sink) }
-        ensures nowhere { RefusedSeek (W.known self.old.sink).health (W.known self.new.sink).health (Start 0) (toward 0 result) }
+        ensures sought { Seeks (W.known self.old.sink).health (W.known self.new.sink).health
+            (Start 0) (toward 0 result) }
+        ensures stands { StandsAt (W.known self.old.sink).health.whole (toward 0 result)
+            (W.known self.new.sink) }
+        ensures nowhere { RefusedSeek (W.known self.old.sink).health (W.known self.new.sink).health
+            (Start 0) (toward 0 result) }
         ensures moves { MovesTo None None 0 result }
         ensures bytes { Keeps None None }
     {
@@ -72,12 +82,18 @@ impl<W: Sink> Seek for Writer<W> {
     /// The place of the sink, as `seek(SeekFrom::Current(0))` answers it: so it drops pending bits.
     fn stream_position(&mut self) -> io::Result<u64>
         ensures ok { OnOk result (self.new.state ≡ Going Nothing (count_of self.old.state)) }
-        ensures err { IfErr result (λ e. self.new.state ≡ Stopped Nothing (DekuError.Io (error_kind e)) (count_of self.old.state)) }
-        ensures place { SeekMoves (W.stream_position self.old.sink) (W.stream_position self.new.sink) (W.stream_bytes self.old.sink) (Current (pos 0)) result }
+        ensures err { IfErr result (λ e. self.new.state ≡ Stopped Nothing
+            (DekuError.Io (error_kind e)) (count_of self.old.state)) }
+        ensures place { SeekMoves (W.stream_position self.old.sink)
+            (W.stream_position self.new.sink) (W.stream_bytes self.old.sink) (Current (pos 0))
+            result }
         ensures sink_bytes { Keeps (W.stream_bytes self.old.sink) (W.stream_bytes self.new.sink) }
-        ensures sought { Seeks (W.known self.old.sink).health (W.known self.new.sink).health (Current (pos 0)) result }
-        ensures stands { StandsAt (W.known self.old.sink).health.whole result (W.known self.new.sink) }
-        ensures nowhere { RefusedSeek (W.known self.old.sink).health (W.known self.new.sink).health (Current (pos 0)) result }
+        ensures sought { Seeks (W.known self.old.sink).health (W.known self.new.sink).health
+            (Current (pos 0)) result }
+        ensures stands { StandsAt (W.known self.old.sink).health.whole result
+            (W.known self.new.sink) }
+        ensures nowhere { RefusedSeek (W.known self.old.sink).health (W.known self.new.sink).health
+            (Current (pos 0)) result }
         ensures stays { StaysAt None None }
         ensures bytes { Keeps None None }
     {
@@ -87,12 +103,17 @@ impl<W: Sink> Seek for Writer<W> {
     /// Seeks from its place, as `seek(SeekFrom::Current(offset))` does.
     fn seek_relative(&mut self, offset: i64) -> io::Result<()>
         ensures ok { OnOk result (self.new.state ≡ Going Nothing (count_of self.old.state)) }
-        ensures err { IfErr result (λ e. self.new.state ≡ Stopped Nothing (DekuError.Io (error_kind e)) (count_of self.old.state)) }
-        ensures place { MovesBy (W.stream_position self.old.sink) (W.stream_position self.new.sink) offset result }
+        ensures err { IfErr result (λ e. self.new.state ≡ Stopped Nothing
+            (DekuError.Io (error_kind e)) (count_of self.old.state)) }
+        ensures place { MovesBy (W.stream_position self.old.sink) (W.stream_position self.new.sink)
+            offset result }
         ensures sink_bytes { Keeps (W.stream_bytes self.old.sink) (W.stream_bytes self.new.sink) }
-        ensures sought { (n : ℕ) × Seeks (W.known self.old.sink).health (W.known self.new.sink).health (Current offset) (toward n result)
-            × StandsAt (W.known self.old.sink).health.whole (toward n result) (W.known self.new.sink) }
-        ensures nowhere { RefusedSeek (W.known self.old.sink).health (W.known self.new.sink).health (Current offset) (toward 0 result) }
+        ensures sought { (n : ℕ) × Seeks (W.known self.old.sink).health
+            (W.known self.new.sink).health (Current offset) (toward n result)
+            × StandsAt (W.known self.old.sink).health.whole (toward n result)
+            (W.known self.new.sink) }
+        ensures nowhere { RefusedSeek (W.known self.old.sink).health (W.known self.new.sink).health
+            (Current offset) (toward 0 result) }
         ensures moves { MovesBy None None offset result }
         ensures bytes { Keeps None None }
     {

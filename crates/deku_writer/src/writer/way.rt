@@ -44,7 +44,8 @@ impl Way {
         requires whole { IsFor self n }
         requires inside { at < n }
         ensures within { result < n }
-        ensures bit { (s : List Bool) → length s ≡ n → get_or s result false ≡ get_or (along self s) at false }
+        ensures bit { (s : List Bool) → length s ≡ n → get_or s result false ≡ get_or (along self s)
+            at false }
     {
         match self {
             Way::Forward => at,

@@ -14,11 +14,13 @@ use deku_stream::ctx::Order;
 use deku_stream::turning::show;
 use std::io::{Cursor, ErrorKind};
 
-// Seven bytes of a word at a time through held bits, the lowest first: as many go out as come in. What is left of the word is answered.
+// Seven bytes of a word at a time through held bits, the lowest first: as many go out as come in.
+// What is left of the word is answered.
 fn shift_word(out: &mut [u8; 16], held: &mut Held, order: Order, word: u128, parts: usize) -> u128
     requires short { length held.old < 8 }
     requires room { parts ≤ 2 }
-    ensures fills { Fills order held.old held.new (flow order (low_bytes (7 * parts) word)) (take (7 * parts) out.new) }
+    ensures fills { Fills order held.old held.new (flow order (low_bytes (7 * parts) word))
+        (take (7 * parts) out.new) }
     ensures rest { result ≡ word / 2 ^ (56 * parts) }
 {
     let mut rest = word;
@@ -36,7 +38,8 @@ fn fill_word(out: &mut [u8; 16], held: &mut Held, order: Order, word: u128, n: u
     requires short { length held.old < 8 }
     requires most { n ≤ 128 }
     requires inside { word < 2 ^ n }
-    ensures fills { Fills order held.old held.new (word_bits order n word) (take ((length held.old + n) / 8) out.new) }
+    ensures fills { Fills order held.old held.new (word_bits order n word)
+        (take ((length held.old + n) / 8) out.new) }
 {
     let parts = (n - 1) / 56;
     let rest = shift_word(out, held, order, word, parts);
@@ -85,7 +88,8 @@ fn is_same(from: Order, to: Order) -> bool
     )
 }
 
-/// Whether bits of an order go behind held bits as they are: there are none, or they are of the same order.
+/// Whether bits of an order go behind held bits as they are: there are none, or they are of the
+/// same order.
 #[inline(always)]
 pub fn is_behind(held: &Held, from: Order, to: Order) -> bool
     ensures { IsTrue result ↔ ((length held.now ≡ 0) ⊎ (from ≡ to)) }
@@ -100,7 +104,8 @@ fn fill_other(out: &mut [u8], held: &mut Held, from: Order, to: Order, word: u12
     requires most { n ≤ 128 }
     requires inside { word < 2 ^ n }
     requires room { 16 ≤ length out.old }
-    ensures fills { FillsOnto from to held.old held.new (shown to (word_bits to n word)) (take ((length held.old + n) / 8) out.new) }
+    ensures fills { FillsOnto from to held.old held.new (shown to (word_bits to n word))
+        (take ((length held.old + n) / 8) out.new) }
     ensures len { length out.new ≡ length out.old }
 {
     let mut bits = [false; 128];
@@ -114,8 +119,9 @@ fn fill_other(out: &mut [u8], held: &mut Held, from: Order, to: Order, word: u12
     }
 }
 
-// A word of n bits onto the held bits of an order, of any length: the bytes that fill, the first of sixteen, and the bits that are held then. It
-// takes and answers values alone, so that a caller's writer stays in registers.
+// A word of n bits onto the held bits of an order, of any length: the bytes that fill, the first of
+// sixteen, and the bits that are held then. It takes and answers values alone, so that a caller's
+// writer stays in registers.
 #[cold]
 #[inline(never)]
 fn fill_long_word(held: Held, from: Order, to: Order, word: u128, n: usize) -> ([u8; 16], Held)
@@ -123,7 +129,8 @@ fn fill_long_word(held: Held, from: Order, to: Order, word: u128, n: usize) -> (
     requires short { length held < 8 }
     requires most { n ≤ 128 }
     requires inside { word < 2 ^ n }
-    ensures fills { FillsOnto from to held result.1 (shown to (word_bits to n word)) (take ((length held + n) / 8) result.0) }
+    ensures fills { FillsOnto from to held result.1 (shown to (word_bits to n word))
+        (take ((length held + n) / 8) result.0) }
 {
     let mut next = held;
     if next.len() == 0 && n % 8 == 0 {
@@ -138,8 +145,9 @@ fn fill_long_word(held: Held, from: Order, to: Order, word: u128, n: usize) -> (
     (out, next)
 }
 
-// A word of n bits onto the held bits of an order, of any length and onto any sink. It is inlined, so that its place for the bytes is cleared where
-// they are asked for, and the call that asks for them is cold.
+// A word of n bits onto the held bits of an order, of any length and onto any sink. It is inlined,
+// so that its place for the bytes is cleared where they are asked for, and the call that asks for
+// them is cold.
 #[inline(always)]
 fn push_long_word<W: Sink>(
     sink: &mut W,
@@ -153,8 +161,10 @@ fn push_long_word<W: Sink>(
     requires short { length held.old < 8 }
     requires most { n ≤ 128 }
     requires inside { word < 2 ^ n }
-    ensures pushed { OnOk result (PushedOnto (W.known sink.old) (W.known sink.new) from to held.old held.new (shown to (word_bits to n word))) }
-    ensures fault { IfErr result (GaveUp (W.known sink.old) (W.known sink.new) (onto_bytes from to held.old (shown to (word_bits to n word)))) }
+    ensures pushed { OnOk result (PushedOnto (W.known sink.old) (W.known sink.new) from to held.old
+        held.new (shown to (word_bits to n word))) }
+    ensures fault { IfErr result (GaveUp (W.known sink.old) (W.known sink.new)
+        (onto_bytes from to held.old (shown to (word_bits to n word)))) }
 {
     let filled = (held.len() + n) / 8;
     let behind = (held.len() + n % 8) % 8;
@@ -169,25 +179,30 @@ fn give_whole<W: Sink>(sink: &mut W, word: u128, n: usize) -> Result<(), ErrorKi
     requires some { 0 < n }
     requires whole { n % 8 ≡ 0 }
     requires most { n ≤ 128 }
-    ensures gave { OnOk result (Gave (W.known sink.old) (W.known sink.new) (low_bytes (n / 8) word)) }
-    ensures fault { IfErr result (GaveUp (W.known sink.old) (W.known sink.new) (low_bytes (n / 8) word)) }
+    ensures gave { OnOk result (Gave (W.known sink.old) (W.known sink.new)
+        (low_bytes (n / 8) word)) }
+    ensures fault { IfErr result (GaveUp (W.known sink.old) (W.known sink.new)
+        (low_bytes (n / 8) word)) }
 {
     give_out(sink, &word.to_le_bytes()[..n / 8])
 }
 
-// A word of at most eight whole bytes, the lowest first, where the sink has room for eight bytes at hand, and whether it has.
+// A word of at most eight whole bytes, the lowest first, where the sink has room for eight bytes at
+// hand, and whether it has.
 #[inline(always)]
 fn lay_whole<W: Sink>(sink: &mut W, word: u64, n: usize) -> bool
     requires whole { n % 8 ≡ 0 }
     requires most { n ≤ 64 }
-    ensures gave { IsTrue result → Gave (W.known sink.old) (W.known sink.new) (low_bytes (n / 8) word) }
+    ensures gave { IsTrue result → Gave (W.known sink.old) (W.known sink.new)
+        (low_bytes (n / 8) word) }
     ensures stays { IsFalse result → sink.new ≡ sink.old }
 {
     sink.try_put(word.to_le_bytes(), n / 8)
 }
 
-/// A word of n bits onto the held bits of an order. Where they have at most 64 bits together, and the sink has room for eight bytes at hand, they
-/// are laid there. Longer words of whole bytes that meet none held are given as they are.
+/// A word of n bits onto the held bits of an order. Where they have at most 64 bits together, and
+/// the sink has room for eight bytes at hand, they are laid there. Longer words of whole bytes that
+/// meet none held are given as they are.
 #[inline(always)]
 pub fn push_word_onto<W: Sink>(
     sink: &mut W,
@@ -201,8 +216,10 @@ pub fn push_word_onto<W: Sink>(
     requires short { length held.old < 8 }
     requires most { n ≤ 128 }
     requires inside { word < 2 ^ n }
-    ensures pushed { OnOk result (PushedOnto (W.known sink.old) (W.known sink.new) from to held.old held.new (shown to (word_bits to n word))) }
-    ensures fault { IfErr result (GaveUp (W.known sink.old) (W.known sink.new) (onto_bytes from to held.old (shown to (word_bits to n word)))) }
+    ensures pushed { OnOk result (PushedOnto (W.known sink.old) (W.known sink.new) from to held.old
+        held.new (shown to (word_bits to n word))) }
+    ensures fault { IfErr result (GaveUp (W.known sink.old) (W.known sink.new)
+        (onto_bytes from to held.old (shown to (word_bits to n word)))) }
 {
     if held.len() == 0 && n % 8 == 0 {
         if n > 64 {

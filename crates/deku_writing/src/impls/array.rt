@@ -1,15 +1,15 @@
 //! Arrays: so many items in order.
 
+ghost use Rattle.deku_writing.specs.Composing.{WritesEach};
+
 use crate::traits::DekuWriter;
 use deku_bits::device::Sink;
 use deku_bits::error::DekuError;
 use deku_bits::writer::Writer;
 
-/// The items in order, under the items' context. The refusal is that of the first item that is refused, and what the items before it
-/// moved stays moved.
+/// The items in order, under the items' context. The refusal is that of the first item that is
+/// refused, and what the items before it moved stays moved.
 impl<Ctx: Copy, T: DekuWriter<Ctx>, const N: usize> DekuWriter<Ctx> for [T; N] {
-    ghost use Rattle.deku_writing.specs.Composing.{WritesEach};
-
     ghost accepts = { T.accepts };
 
     ghost meaning = { λ v c. WritesEach (λ x. T.meaning x c) v };

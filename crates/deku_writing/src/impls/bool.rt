@@ -1,5 +1,10 @@
 //! Truth values, as numbers of a byte.
 
+ghost use Rattle.std.specs.Prelude.{pos};
+ghost use Rattle.deku_num.specs.Numbers.{byte};
+ghost use Rattle.deku_num.specs.NumberCalls.{WritesNumber};
+ghost use Rattle.deku_meanings.specs.Shapes.{numeral};
+
 use crate::traits::DekuWriter;
 use deku_bits::device::Sink;
 use deku_bits::error::DekuError;
@@ -8,13 +13,6 @@ use deku_num::ctx::NumberCtx;
 
 /// Written as the `u8` 0 or 1, and refused as that is: in no bits, true does not fit.
 impl<C: NumberCtx> DekuWriter<C> for bool {
-    ghost use Rattle.std.specs.Prelude.{◌≡◌, pos};
-    ghost use Rattle.deku_num.specs.Numbers.{byte};
-    ghost use Rattle.deku_num.specs.NumberCalls.{WritesNumber};
-    ghost use Rattle.deku_meanings.specs.Shapes.{numeral};
-
-    ghost accepts = { λ c. c ≡ c };
-
     ghost meaning = { λ v c. WritesNumber byte (C.layout_of c) (pos (numeral v)) };
 
     #[inline(always)]

@@ -1,5 +1,8 @@
 //! Items on the heap.
 
+ghost use Rattle.std.specs.Box.{boxed_slice_items};
+ghost use Rattle.deku_writing.specs.Composing.{WritesEach};
+
 use crate::traits::DekuWriter;
 use deku_bits::device::Sink;
 use deku_bits::error::DekuError;
@@ -18,12 +21,9 @@ impl<Ctx: Copy, T: DekuWriter<Ctx>> DekuWriter<Ctx> for Box<T> {
     }
 }
 
-/// The items in order, under the items' context. The refusal is that of the first item that is refused, and what the items before it
-/// moved stays moved. It takes no memory.
+/// The items in order, under the items' context. The refusal is that of the first item that is
+/// refused, and what the items before it moved stays moved. It takes no memory.
 impl<Ctx: Copy, T: DekuWriter<Ctx>, A: Allocator> DekuWriter<Ctx> for BoxedSlice<T, A> {
-    ghost use Rattle.std.specs.Box.{boxed_slice_items};
-    ghost use Rattle.deku_writing.specs.Composing.{WritesEach};
-
     ghost accepts = { T.accepts };
 
     ghost meaning = { λ v c. WritesEach (λ x. T.meaning x c) (boxed_slice_items v) };

@@ -1,5 +1,7 @@
 //! Items that are borrowed until they have to be owned.
 
+ghost use Rattle.std.specs.Cow.{cow_value};
+
 use crate::traits::DekuWriter;
 use deku_bits::device::Sink;
 use deku_bits::error::DekuError;
@@ -8,8 +10,6 @@ use std::borrow::Cow;
 
 /// What it holds is written, borrowed or owned.
 impl<Ctx: Copy, T: Clone + DekuWriter<Ctx>> DekuWriter<Ctx> for Cow<'_, T> {
-    ghost use Rattle.std.specs.Cow.{cow_value};
-
     ghost accepts = { T.accepts };
 
     ghost meaning = { λ v c. T.meaning (cow_value v) c };

@@ -2,6 +2,7 @@
 
 ghost use Rattle.deku_bits.specs.WriterCalls.{Writes};
 ghost use Rattle.deku_meanings.specs.Composing.{Both};
+ghost use Rattle.deku_writing.specs.Composing.{WritesEach};
 
 use crate::traits::DekuWriter;
 use deku_bits::device::Sink;
@@ -10,13 +11,11 @@ use deku_bits::writer::Writer;
 use std::collections::HashMap;
 use std::hash::{BuildHasher, Hash};
 
-/// Each entry once, a key and then its value, under the items' context, in the order in which the map is walked, which is open but the same
-/// until the map changes. The refusal is that of the first that is refused, and what those before it moved stays moved. It takes no memory.
+/// Each entry once, a key and then its value, under the items' context, in the order in which the
+/// map is walked, which is open but the same until the map changes. The refusal is that of the
+/// first that is refused, and what those before it moved stays moved. It takes no memory.
 impl<Ctx: Copy, K: DekuWriter<Ctx> + Eq + Hash, V: DekuWriter<Ctx>, S: BuildHasher> DekuWriter<Ctx>
     for HashMap<K, V, S> {
-    ghost use Rattle.deku_meanings.specs.Composing.{Both};
-    ghost use Rattle.deku_writing.specs.Composing.{WritesEach};
-
     ghost accepts = { λ c. K.accepts c × V.accepts c };
 
     ghost meaning = { λ m c. WritesEach (λ p. Both (K.meaning p.0 c) (V.meaning p.1 c)) m.entries };
@@ -37,7 +36,8 @@ fn write_entry<Ctx: Copy, K: DekuWriter<Ctx>, V: DekuWriter<Ctx>, W: Sink>(
     ctx: Ctx,
 ) -> Result<(), DekuError>
     requires { K.accepts ctx × V.accepts ctx }
-    ensures { Writes W.known (Both (K.meaning key.now ctx) (V.meaning value.now ctx)) writer.old result writer.new }
+    ensures { Writes W.known (Both (K.meaning key.now ctx) (V.meaning value.now ctx)) writer.old
+        result writer.new }
 {
     key.to_writer(writer, ctx)?;
     value.to_writer(writer, ctx)

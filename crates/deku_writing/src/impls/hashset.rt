@@ -1,5 +1,7 @@
 //! Sets: items in the order in which a set is walked.
 
+ghost use Rattle.deku_writing.specs.Composing.{WritesEach};
+
 use crate::traits::DekuWriter;
 use deku_bits::device::Sink;
 use deku_bits::error::DekuError;
@@ -7,11 +9,10 @@ use deku_bits::writer::Writer;
 use std::collections::HashSet;
 use std::hash::{BuildHasher, Hash};
 
-/// Each item once, under the items' context, in the order in which the set is walked, which is open but the same until the set changes. The
-/// refusal is that of the first that is refused, and what those before it moved stays moved. It takes no memory.
+/// Each item once, under the items' context, in the order in which the set is walked, which is open
+/// but the same until the set changes. The refusal is that of the first that is refused, and what
+/// those before it moved stays moved. It takes no memory.
 impl<Ctx: Copy, T: DekuWriter<Ctx> + Eq + Hash, S: BuildHasher> DekuWriter<Ctx> for HashSet<T, S> {
-    ghost use Rattle.deku_writing.specs.Composing.{WritesEach};
-
     ghost accepts = { T.accepts };
 
     ghost meaning = { λ m c. WritesEach (λ x. T.meaning x c) m.keys };

@@ -1,5 +1,11 @@
 //! Network addresses, as the numbers that their octets make.
 
+ghost use Rattle.std.specs.Prelude.{pos};
+ghost use Rattle.std.specs.Net.Addr.{ipv4_bits, ipv6_bits};
+ghost use Rattle.deku_num.specs.Numbers.{unsigned};
+ghost use Rattle.deku_num.specs.NumberCalls.{WritesNumber};
+ghost use Rattle.deku_meanings.specs.Shapes.{WritesAddress};
+
 use crate::traits::DekuWriter;
 use deku_bits::device::Sink;
 use deku_bits::error::DekuError;
@@ -9,13 +15,6 @@ use std::net::{IpAddr, Ipv4Addr, Ipv6Addr};
 
 /// Written as the `u32` that it is read from, and refused as that is.
 impl<C: NumberCtx> DekuWriter<C> for Ipv4Addr {
-    ghost use Rattle.std.specs.Prelude.{◌≡◌, pos};
-    ghost use Rattle.std.specs.Net.Addr.{ipv4_bits};
-    ghost use Rattle.deku_num.specs.Numbers.{unsigned};
-    ghost use Rattle.deku_num.specs.NumberCalls.{WritesNumber};
-
-    ghost accepts = { λ c. c ≡ c };
-
     ghost meaning = { λ v c. WritesNumber (unsigned 32) (C.layout_of c) (pos (ipv4_bits v)) };
 
     #[inline(always)]
@@ -27,13 +26,6 @@ impl<C: NumberCtx> DekuWriter<C> for Ipv4Addr {
 
 /// Written as the `u128` that it is read from, and refused as that is.
 impl<C: NumberCtx> DekuWriter<C> for Ipv6Addr {
-    ghost use Rattle.std.specs.Prelude.{◌≡◌, pos};
-    ghost use Rattle.std.specs.Net.Addr.{ipv6_bits};
-    ghost use Rattle.deku_num.specs.Numbers.{unsigned};
-    ghost use Rattle.deku_num.specs.NumberCalls.{WritesNumber};
-
-    ghost accepts = { λ c. c ≡ c };
-
     ghost meaning = { λ v c. WritesNumber (unsigned 128) (C.layout_of c) (pos (ipv6_bits v)) };
 
     #[inline(always)]
@@ -45,11 +37,6 @@ impl<C: NumberCtx> DekuWriter<C> for Ipv6Addr {
 
 /// Written as the address that it is; no byte says of which family.
 impl<C: NumberCtx> DekuWriter<C> for IpAddr {
-    ghost use Rattle.std.specs.Prelude.{◌≡◌};
-    ghost use Rattle.deku_meanings.specs.Shapes.{WritesAddress};
-
-    ghost accepts = { λ c. c ≡ c };
-
     ghost meaning = { λ v c. WritesAddress (C.layout_of c) v };
 
     #[inline(always)]

@@ -1,5 +1,10 @@
 //! Numbers that are not 0.
 
+ghost use Rattle.std.specs.Prelude.{pos};
+ghost use Rattle.std.specs.Int.NonZero.{non_zero_u8_get, non_zero_u16_get, non_zero_u32_get, non_zero_u64_get, non_zero_u128_get, non_zero_usize_get, non_zero_i8_get, non_zero_i16_get, non_zero_i32_get, non_zero_i64_get, non_zero_i128_get, non_zero_isize_get};
+ghost use Rattle.deku_num.specs.Numbers.{byte, unsigned, signed};
+ghost use Rattle.deku_num.specs.NumberCalls.{WritesNumber};
+
 use crate::traits::DekuWriter;
 use deku_bits::device::Sink;
 use deku_bits::error::DekuError;
@@ -12,13 +17,6 @@ use std::num::{
 
 /// Written as its number, and refused as that is. So with each type below.
 impl<C: NumberCtx> DekuWriter<C> for NonZeroU8 {
-    ghost use Rattle.std.specs.Prelude.{◌≡◌, pos};
-    ghost use Rattle.std.specs.Int.NonZero.{non_zero_u8_get};
-    ghost use Rattle.deku_num.specs.Numbers.{byte};
-    ghost use Rattle.deku_num.specs.NumberCalls.{WritesNumber};
-
-    ghost accepts = { λ c. c ≡ c };
-
     ghost meaning = { λ v c. WritesNumber byte (C.layout_of c) (pos (non_zero_u8_get v)) };
 
     #[inline(always)]
@@ -29,14 +27,8 @@ impl<C: NumberCtx> DekuWriter<C> for NonZeroU8 {
 }
 
 impl<C: NumberCtx> DekuWriter<C> for NonZeroU16 {
-    ghost use Rattle.std.specs.Prelude.{◌≡◌, pos};
-    ghost use Rattle.std.specs.Int.NonZero.{non_zero_u16_get};
-    ghost use Rattle.deku_num.specs.Numbers.{unsigned};
-    ghost use Rattle.deku_num.specs.NumberCalls.{WritesNumber};
-
-    ghost accepts = { λ c. c ≡ c };
-
-    ghost meaning = { λ v c. WritesNumber (unsigned 16) (C.layout_of c) (pos (non_zero_u16_get v)) };
+    ghost meaning = { λ v c. WritesNumber (unsigned 16) (C.layout_of c)
+        (pos (non_zero_u16_get v)) };
 
     #[inline(always)]
     fn to_writer<W: Sink>(&self, writer: &mut Writer<W>, ctx: C) -> Result<(), DekuError> {
@@ -46,14 +38,8 @@ impl<C: NumberCtx> DekuWriter<C> for NonZeroU16 {
 }
 
 impl<C: NumberCtx> DekuWriter<C> for NonZeroU32 {
-    ghost use Rattle.std.specs.Prelude.{◌≡◌, pos};
-    ghost use Rattle.std.specs.Int.NonZero.{non_zero_u32_get};
-    ghost use Rattle.deku_num.specs.Numbers.{unsigned};
-    ghost use Rattle.deku_num.specs.NumberCalls.{WritesNumber};
-
-    ghost accepts = { λ c. c ≡ c };
-
-    ghost meaning = { λ v c. WritesNumber (unsigned 32) (C.layout_of c) (pos (non_zero_u32_get v)) };
+    ghost meaning = { λ v c. WritesNumber (unsigned 32) (C.layout_of c)
+        (pos (non_zero_u32_get v)) };
 
     #[inline(always)]
     fn to_writer<W: Sink>(&self, writer: &mut Writer<W>, ctx: C) -> Result<(), DekuError> {
@@ -63,14 +49,8 @@ impl<C: NumberCtx> DekuWriter<C> for NonZeroU32 {
 }
 
 impl<C: NumberCtx> DekuWriter<C> for NonZeroU64 {
-    ghost use Rattle.std.specs.Prelude.{◌≡◌, pos};
-    ghost use Rattle.std.specs.Int.NonZero.{non_zero_u64_get};
-    ghost use Rattle.deku_num.specs.Numbers.{unsigned};
-    ghost use Rattle.deku_num.specs.NumberCalls.{WritesNumber};
-
-    ghost accepts = { λ c. c ≡ c };
-
-    ghost meaning = { λ v c. WritesNumber (unsigned 64) (C.layout_of c) (pos (non_zero_u64_get v)) };
+    ghost meaning = { λ v c. WritesNumber (unsigned 64) (C.layout_of c)
+        (pos (non_zero_u64_get v)) };
 
     #[inline(always)]
     fn to_writer<W: Sink>(&self, writer: &mut Writer<W>, ctx: C) -> Result<(), DekuError> {
@@ -80,14 +60,8 @@ impl<C: NumberCtx> DekuWriter<C> for NonZeroU64 {
 }
 
 impl<C: NumberCtx> DekuWriter<C> for NonZeroU128 {
-    ghost use Rattle.std.specs.Prelude.{◌≡◌, pos};
-    ghost use Rattle.std.specs.Int.NonZero.{non_zero_u128_get};
-    ghost use Rattle.deku_num.specs.Numbers.{unsigned};
-    ghost use Rattle.deku_num.specs.NumberCalls.{WritesNumber};
-
-    ghost accepts = { λ c. c ≡ c };
-
-    ghost meaning = { λ v c. WritesNumber (unsigned 128) (C.layout_of c) (pos (non_zero_u128_get v)) };
+    ghost meaning = { λ v c. WritesNumber (unsigned 128) (C.layout_of c)
+        (pos (non_zero_u128_get v)) };
 
     #[inline(always)]
     fn to_writer<W: Sink>(&self, writer: &mut Writer<W>, ctx: C) -> Result<(), DekuError> {
@@ -97,14 +71,8 @@ impl<C: NumberCtx> DekuWriter<C> for NonZeroU128 {
 }
 
 impl<C: NumberCtx> DekuWriter<C> for NonZeroUsize {
-    ghost use Rattle.std.specs.Prelude.{◌≡◌, pos};
-    ghost use Rattle.std.specs.Int.NonZero.{non_zero_usize_get};
-    ghost use Rattle.deku_num.specs.Numbers.{unsigned};
-    ghost use Rattle.deku_num.specs.NumberCalls.{WritesNumber};
-
-    ghost accepts = { λ c. c ≡ c };
-
-    ghost meaning = { λ v c. WritesNumber (unsigned 64) (C.layout_of c) (pos (non_zero_usize_get v)) };
+    ghost meaning = { λ v c. WritesNumber (unsigned 64) (C.layout_of c)
+        (pos (non_zero_usize_get v)) };
 
     #[inline(always)]
     fn to_writer<W: Sink>(&self, writer: &mut Writer<W>, ctx: C) -> Result<(), DekuError> {
@@ -114,13 +82,6 @@ impl<C: NumberCtx> DekuWriter<C> for NonZeroUsize {
 }
 
 impl<C: NumberCtx> DekuWriter<C> for NonZeroI8 {
-    ghost use Rattle.std.specs.Prelude.{◌≡◌};
-    ghost use Rattle.std.specs.Int.NonZero.{non_zero_i8_get};
-    ghost use Rattle.deku_num.specs.Numbers.{signed};
-    ghost use Rattle.deku_num.specs.NumberCalls.{WritesNumber};
-
-    ghost accepts = { λ c. c ≡ c };
-
     ghost meaning = { λ v c. WritesNumber (signed 8) (C.layout_of c) (non_zero_i8_get v) };
 
     #[inline(always)]
@@ -131,13 +92,6 @@ impl<C: NumberCtx> DekuWriter<C> for NonZeroI8 {
 }
 
 impl<C: NumberCtx> DekuWriter<C> for NonZeroI16 {
-    ghost use Rattle.std.specs.Prelude.{◌≡◌};
-    ghost use Rattle.std.specs.Int.NonZero.{non_zero_i16_get};
-    ghost use Rattle.deku_num.specs.Numbers.{signed};
-    ghost use Rattle.deku_num.specs.NumberCalls.{WritesNumber};
-
-    ghost accepts = { λ c. c ≡ c };
-
     ghost meaning = { λ v c. WritesNumber (signed 16) (C.layout_of c) (non_zero_i16_get v) };
 
     #[inline(always)]
@@ -148,13 +102,6 @@ impl<C: NumberCtx> DekuWriter<C> for NonZeroI16 {
 }
 
 impl<C: NumberCtx> DekuWriter<C> for NonZeroI32 {
-    ghost use Rattle.std.specs.Prelude.{◌≡◌};
-    ghost use Rattle.std.specs.Int.NonZero.{non_zero_i32_get};
-    ghost use Rattle.deku_num.specs.Numbers.{signed};
-    ghost use Rattle.deku_num.specs.NumberCalls.{WritesNumber};
-
-    ghost accepts = { λ c. c ≡ c };
-
     ghost meaning = { λ v c. WritesNumber (signed 32) (C.layout_of c) (non_zero_i32_get v) };
 
     #[inline(always)]
@@ -165,13 +112,6 @@ impl<C: NumberCtx> DekuWriter<C> for NonZeroI32 {
 }
 
 impl<C: NumberCtx> DekuWriter<C> for NonZeroI64 {
-    ghost use Rattle.std.specs.Prelude.{◌≡◌};
-    ghost use Rattle.std.specs.Int.NonZero.{non_zero_i64_get};
-    ghost use Rattle.deku_num.specs.Numbers.{signed};
-    ghost use Rattle.deku_num.specs.NumberCalls.{WritesNumber};
-
-    ghost accepts = { λ c. c ≡ c };
-
     ghost meaning = { λ v c. WritesNumber (signed 64) (C.layout_of c) (non_zero_i64_get v) };
 
     #[inline(always)]
@@ -182,13 +122,6 @@ impl<C: NumberCtx> DekuWriter<C> for NonZeroI64 {
 }
 
 impl<C: NumberCtx> DekuWriter<C> for NonZeroI128 {
-    ghost use Rattle.std.specs.Prelude.{◌≡◌};
-    ghost use Rattle.std.specs.Int.NonZero.{non_zero_i128_get};
-    ghost use Rattle.deku_num.specs.Numbers.{signed};
-    ghost use Rattle.deku_num.specs.NumberCalls.{WritesNumber};
-
-    ghost accepts = { λ c. c ≡ c };
-
     ghost meaning = { λ v c. WritesNumber (signed 128) (C.layout_of c) (non_zero_i128_get v) };
 
     #[inline(always)]
@@ -199,13 +132,6 @@ impl<C: NumberCtx> DekuWriter<C> for NonZeroI128 {
 }
 
 impl<C: NumberCtx> DekuWriter<C> for NonZeroIsize {
-    ghost use Rattle.std.specs.Prelude.{◌≡◌};
-    ghost use Rattle.std.specs.Int.NonZero.{non_zero_isize_get};
-    ghost use Rattle.deku_num.specs.Numbers.{signed};
-    ghost use Rattle.deku_num.specs.NumberCalls.{WritesNumber};
-
-    ghost accepts = { λ c. c ≡ c };
-
     ghost meaning = { λ v c. WritesNumber (signed 64) (C.layout_of c) (non_zero_isize_get v) };
 
     #[inline(always)]

@@ -1,5 +1,7 @@
 //! Items that may be absent.
 
+ghost use Rattle.deku_meanings.specs.Shapes.{IfHeld};
+
 use crate::traits::DekuWriter;
 use deku_bits::device::Sink;
 use deku_bits::error::DekuError;
@@ -7,8 +9,6 @@ use deku_bits::writer::Writer;
 
 /// An absent item is written as nothing.
 impl<Ctx: Copy, T: DekuWriter<Ctx>> DekuWriter<Ctx> for Option<T> {
-    ghost use Rattle.deku_meanings.specs.Shapes.{IfHeld};
-
     ghost accepts = { T.accepts };
 
     ghost meaning = { λ v c. IfHeld (λ x. T.meaning x c) v };

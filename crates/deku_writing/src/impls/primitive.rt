@@ -1,4 +1,21 @@
 //! Whole numbers, under every context that names a layout.
+//!
+//! Writing a number is rejected, in this order, with
+//!
+//! - `InvalidParam("bit size is larger than input")`, or `"byte size is larger than input"`, if the
+//!   size is beyond the type's bits, even if the writer has stopped;
+//! - `InvalidParam("signed big Lsb0 field of this width")` if the type is signed, of more than
+//!   eight bits, and the field is big and `Lsb0` and has more than eight bits and no whole bytes;
+//! - `InvalidParam("bit size of input is larger than requested size")` if the value does not fit;
+//! - the fault that the writer kept, if it has stopped;
+//! - `InvalidParam("count past usize")` if a `usize` cannot count the bits;
+//! - `Io` if the sink fails, or has no room or finds no memory for the bytes.
+//!
+//! The last of these stops the writer, and its count stays as it was; nothing changes before.
+
+ghost use Rattle.std.specs.Prelude.{pos};
+ghost use Rattle.deku_num.specs.Numbers.{byte, unsigned, signed};
+ghost use Rattle.deku_num.specs.NumberCalls.{WritesNumber};
 
 use crate::traits::DekuWriter;
 use deku_bits::device::Sink;
@@ -8,27 +25,13 @@ use deku_num::calls::{write_signed, write_unsigned};
 use deku_num::ctx::NumberCtx;
 use deku_num::kind::NumberType;
 
-/// Writes a `u8` as its context says: the whole eight bits, or as many as a `BitSize` says; under a `ByteSize` they are eight.
-///
-/// It is refused, in this order,
-///
-/// - with `InvalidParam("bit size is larger than input")` where the size is beyond eight bits; nothing changes, also where the writer has
-///   stopped;
-/// - with `InvalidParam("bit size of input is larger than requested size")` where the value does not fit the bits; nothing changes;
-/// - with the fault that the writer kept, where it has stopped, or with `InvalidParam("count past usize")` where a `usize` cannot count
-///   the bits; nothing changes;
-/// - with `Io` where the sink fails or has no room for the bytes: the writer has stopped then, and counts what it did before.
+/// Writes a `u8` as its context says: the whole eight bits, or as many as a `BitSize` says; under a
+/// `ByteSize` they are eight.
 ///
 /// ```text
 /// 6u8.to_writer(&mut writer, BitSize(4))?                                    // the four bits 0110
 /// ```
 impl<C: NumberCtx> DekuWriter<C> for u8 {
-    ghost use Rattle.std.specs.Prelude.{◌≡◌, pos};
-    ghost use Rattle.deku_num.specs.Numbers.{byte};
-    ghost use Rattle.deku_num.specs.NumberCalls.{WritesNumber};
-
-    ghost accepts = { λ c. c ≡ c };
-
     ghost meaning = { λ v c. WritesNumber byte (C.layout_of c) (pos v) };
 
     #[inline(always)]
@@ -39,25 +42,10 @@ impl<C: NumberCtx> DekuWriter<C> for u8 {
 
 /// Writes a `u16` as its context says: the whole 16 bits, or as many bits or bytes as a size says.
 ///
-/// It is refused, in this order,
-///
-/// - with `InvalidParam("bit size is larger than input")`, or `"byte size .."`, where the size is beyond 16 bits; nothing changes, also where
-///   the writer has stopped;
-/// - with `InvalidParam("bit size of input is larger than requested size")` where the value does not fit the bits; nothing changes;
-/// - with the fault that the writer kept, where it has stopped, or with `InvalidParam("count past usize")` where a `usize` cannot count
-///   the bits; nothing changes;
-/// - with `Io` where the sink fails or has no room for the bytes: the writer has stopped then, and counts what it did before.
-///
 /// ```text
 /// 0xC0FEu16.to_writer(&mut writer, Endian::Big)?                             // C0 FE
 /// ```
 impl<C: NumberCtx> DekuWriter<C> for u16 {
-    ghost use Rattle.std.specs.Prelude.{◌≡◌, pos};
-    ghost use Rattle.deku_num.specs.Numbers.{unsigned};
-    ghost use Rattle.deku_num.specs.NumberCalls.{WritesNumber};
-
-    ghost accepts = { λ c. c ≡ c };
-
     ghost meaning = { λ v c. WritesNumber (unsigned 16) (C.layout_of c) (pos v) };
 
     #[inline(always)]
@@ -68,25 +56,10 @@ impl<C: NumberCtx> DekuWriter<C> for u16 {
 
 /// Writes a `u32` as its context says: the whole 32 bits, or as many bits or bytes as a size says.
 ///
-/// It is refused, in this order,
-///
-/// - with `InvalidParam("bit size is larger than input")`, or `"byte size .."`, where the size is beyond 32 bits; nothing changes, also where
-///   the writer has stopped;
-/// - with `InvalidParam("bit size of input is larger than requested size")` where the value does not fit the bits; nothing changes;
-/// - with the fault that the writer kept, where it has stopped, or with `InvalidParam("count past usize")` where a `usize` cannot count
-///   the bits; nothing changes;
-/// - with `Io` where the sink fails or has no room for the bytes: the writer has stopped then, and counts what it did before.
-///
 /// ```text
 /// 0x030201u32.to_writer(&mut writer, ByteSize(3))?                           // 01 02 03
 /// ```
 impl<C: NumberCtx> DekuWriter<C> for u32 {
-    ghost use Rattle.std.specs.Prelude.{◌≡◌, pos};
-    ghost use Rattle.deku_num.specs.Numbers.{unsigned};
-    ghost use Rattle.deku_num.specs.NumberCalls.{WritesNumber};
-
-    ghost accepts = { λ c. c ≡ c };
-
     ghost meaning = { λ v c. WritesNumber (unsigned 32) (C.layout_of c) (pos v) };
 
     #[inline(always)]
@@ -97,25 +70,10 @@ impl<C: NumberCtx> DekuWriter<C> for u32 {
 
 /// Writes a `u64` as its context says: the whole 64 bits, or as many bits or bytes as a size says.
 ///
-/// It is refused, in this order,
-///
-/// - with `InvalidParam("bit size is larger than input")`, or `"byte size .."`, where the size is beyond 64 bits; nothing changes, also where
-///   the writer has stopped;
-/// - with `InvalidParam("bit size of input is larger than requested size")` where the value does not fit the bits; nothing changes;
-/// - with the fault that the writer kept, where it has stopped, or with `InvalidParam("count past usize")` where a `usize` cannot count
-///   the bits; nothing changes;
-/// - with `Io` where the sink fails or has no room for the bytes: the writer has stopped then, and counts what it did before.
-///
 /// ```text
 /// 1u64.to_writer(&mut writer, (Endian::Big, ByteSize(5)))?                   // 00 00 00 00 01
 /// ```
 impl<C: NumberCtx> DekuWriter<C> for u64 {
-    ghost use Rattle.std.specs.Prelude.{◌≡◌, pos};
-    ghost use Rattle.deku_num.specs.Numbers.{unsigned};
-    ghost use Rattle.deku_num.specs.NumberCalls.{WritesNumber};
-
-    ghost accepts = { λ c. c ≡ c };
-
     ghost meaning = { λ v c. WritesNumber (unsigned 64) (C.layout_of c) (pos v) };
 
     #[inline(always)]
@@ -124,27 +82,13 @@ impl<C: NumberCtx> DekuWriter<C> for u64 {
     }
 }
 
-/// Writes a `u128` as its context says: the whole 128 bits, or as many bits or bytes as a size says.
-///
-/// It is refused, in this order,
-///
-/// - with `InvalidParam("bit size is larger than input")`, or `"byte size .."`, where the size is beyond 128 bits; nothing changes, also where
-///   the writer has stopped;
-/// - with `InvalidParam("bit size of input is larger than requested size")` where the value does not fit the bits; nothing changes;
-/// - with the fault that the writer kept, where it has stopped, or with `InvalidParam("count past usize")` where a `usize` cannot count
-///   the bits; nothing changes;
-/// - with `Io` where the sink fails or has no room for the bytes: the writer has stopped then, and counts what it did before.
+/// Writes a `u128` as its context says: the whole 128 bits, or as many bits or bytes as a size
+/// says.
 ///
 /// ```text
 /// 2u128.to_writer(&mut writer, (Endian::Little, ByteSize(9)))?               // 02 and eight bytes of zeros
 /// ```
 impl<C: NumberCtx> DekuWriter<C> for u128 {
-    ghost use Rattle.std.specs.Prelude.{◌≡◌, pos};
-    ghost use Rattle.deku_num.specs.Numbers.{unsigned};
-    ghost use Rattle.deku_num.specs.NumberCalls.{WritesNumber};
-
-    ghost accepts = { λ c. c ≡ c };
-
     ghost meaning = { λ v c. WritesNumber (unsigned 128) (C.layout_of c) (pos v) };
 
     #[inline(always)]
@@ -153,27 +97,13 @@ impl<C: NumberCtx> DekuWriter<C> for u128 {
     }
 }
 
-/// Writes a `usize` as its context says: the whole 64 bits, or as many bits or bytes as a size says.
-///
-/// It is refused, in this order,
-///
-/// - with `InvalidParam("bit size is larger than input")`, or `"byte size .."`, where the size is beyond 64 bits; nothing changes, also where
-///   the writer has stopped;
-/// - with `InvalidParam("bit size of input is larger than requested size")` where the value does not fit the bits; nothing changes;
-/// - with the fault that the writer kept, where it has stopped, or with `InvalidParam("count past usize")` where a `usize` cannot count
-///   the bits; nothing changes;
-/// - with `Io` where the sink fails or has no room for the bytes: the writer has stopped then, and counts what it did before.
+/// Writes a `usize` as its context says: the whole 64 bits, or as many bits or bytes as a size
+/// says.
 ///
 /// ```text
 /// 258usize.to_writer(&mut writer, (Endian::Big, BitSize(16)))?               // 01 02
 /// ```
 impl<C: NumberCtx> DekuWriter<C> for usize {
-    ghost use Rattle.std.specs.Prelude.{◌≡◌, pos};
-    ghost use Rattle.deku_num.specs.Numbers.{unsigned};
-    ghost use Rattle.deku_num.specs.NumberCalls.{WritesNumber};
-
-    ghost accepts = { λ c. c ≡ c };
-
     ghost meaning = { λ v c. WritesNumber (unsigned 64) (C.layout_of c) (pos v) };
 
     #[inline(always)]
@@ -182,27 +112,13 @@ impl<C: NumberCtx> DekuWriter<C> for usize {
     }
 }
 
-/// Writes an `i8` as its context says: the whole eight bits, or as many bits or bytes as a size says; in two's complement.
-///
-/// It is refused, in this order,
-///
-/// - with `InvalidParam("bit size is larger than input")`, or `"byte size .."`, where the size is beyond eight bits; nothing changes, also where
-///   the writer has stopped;
-/// - with `InvalidParam("bit size of input is larger than requested size")` where the value does not fit the bits; nothing changes;
-/// - with the fault that the writer kept, where it has stopped, or with `InvalidParam("count past usize")` where a `usize` cannot count
-///   the bits; nothing changes;
-/// - with `Io` where the sink fails or has no room for the bytes: the writer has stopped then, and counts what it did before.
+/// Writes an `i8` as its context says: the whole eight bits, or as many bits or bytes as a size
+/// says; in two's complement.
 ///
 /// ```text
 /// (-1i8).to_writer(&mut writer, Endian::Little)?                             // FF
 /// ```
 impl<C: NumberCtx> DekuWriter<C> for i8 {
-    ghost use Rattle.std.specs.Prelude.{◌≡◌};
-    ghost use Rattle.deku_num.specs.Numbers.{signed};
-    ghost use Rattle.deku_num.specs.NumberCalls.{WritesNumber};
-
-    ghost accepts = { λ c. c ≡ c };
-
     ghost meaning = { λ v c. WritesNumber (signed 8) (C.layout_of c) v };
 
     #[inline(always)]
@@ -211,29 +127,13 @@ impl<C: NumberCtx> DekuWriter<C> for i8 {
     }
 }
 
-/// Writes an `i16` as its context says: the whole 16 bits, or as many bits or bytes as a size says; in two's complement.
-///
-/// It is refused, in this order,
-///
-/// - with `InvalidParam("bit size is larger than input")`, or `"byte size .."`, where the size is beyond 16 bits; nothing changes, also where
-///   the writer has stopped;
-/// - with `InvalidParam("signed big Lsb0 field of this width")` where the field is big and `Lsb0`, of more than eight bits and no whole bytes;
-///   nothing changes;
-/// - with `InvalidParam("bit size of input is larger than requested size")` where the value does not fit the bits; nothing changes;
-/// - with the fault that the writer kept, where it has stopped, or with `InvalidParam("count past usize")` where a `usize` cannot count
-///   the bits; nothing changes;
-/// - with `Io` where the sink fails or has no room for the bytes: the writer has stopped then, and counts what it did before.
+/// Writes an `i16` as its context says: the whole 16 bits, or as many bits or bytes as a size says;
+/// in two's complement.
 ///
 /// ```text
 /// (-2i16).to_writer(&mut writer, Endian::Big)?                               // FF FE
 /// ```
 impl<C: NumberCtx> DekuWriter<C> for i16 {
-    ghost use Rattle.std.specs.Prelude.{◌≡◌};
-    ghost use Rattle.deku_num.specs.Numbers.{signed};
-    ghost use Rattle.deku_num.specs.NumberCalls.{WritesNumber};
-
-    ghost accepts = { λ c. c ≡ c };
-
     ghost meaning = { λ v c. WritesNumber (signed 16) (C.layout_of c) v };
 
     #[inline(always)]
@@ -242,29 +142,13 @@ impl<C: NumberCtx> DekuWriter<C> for i16 {
     }
 }
 
-/// Writes an `i32` as its context says: the whole 32 bits, or as many bits or bytes as a size says; in two's complement.
-///
-/// It is refused, in this order,
-///
-/// - with `InvalidParam("bit size is larger than input")`, or `"byte size .."`, where the size is beyond 32 bits; nothing changes, also where
-///   the writer has stopped;
-/// - with `InvalidParam("signed big Lsb0 field of this width")` where the field is big and `Lsb0`, of more than eight bits and no whole bytes;
-///   nothing changes;
-/// - with `InvalidParam("bit size of input is larger than requested size")` where the value does not fit the bits; nothing changes;
-/// - with the fault that the writer kept, where it has stopped, or with `InvalidParam("count past usize")` where a `usize` cannot count
-///   the bits; nothing changes;
-/// - with `Io` where the sink fails or has no room for the bytes: the writer has stopped then, and counts what it did before.
+/// Writes an `i32` as its context says: the whole 32 bits, or as many bits or bytes as a size says;
+/// in two's complement.
 ///
 /// ```text
 /// (-2i32).to_writer(&mut writer, (Endian::Big, ByteSize(2)))?                // FF FE
 /// ```
 impl<C: NumberCtx> DekuWriter<C> for i32 {
-    ghost use Rattle.std.specs.Prelude.{◌≡◌};
-    ghost use Rattle.deku_num.specs.Numbers.{signed};
-    ghost use Rattle.deku_num.specs.NumberCalls.{WritesNumber};
-
-    ghost accepts = { λ c. c ≡ c };
-
     ghost meaning = { λ v c. WritesNumber (signed 32) (C.layout_of c) v };
 
     #[inline(always)]
@@ -273,29 +157,13 @@ impl<C: NumberCtx> DekuWriter<C> for i32 {
     }
 }
 
-/// Writes an `i64` as its context says: the whole 64 bits, or as many bits or bytes as a size says; in two's complement.
-///
-/// It is refused, in this order,
-///
-/// - with `InvalidParam("bit size is larger than input")`, or `"byte size .."`, where the size is beyond 64 bits; nothing changes, also where
-///   the writer has stopped;
-/// - with `InvalidParam("signed big Lsb0 field of this width")` where the field is big and `Lsb0`, of more than eight bits and no whole bytes;
-///   nothing changes;
-/// - with `InvalidParam("bit size of input is larger than requested size")` where the value does not fit the bits; nothing changes;
-/// - with the fault that the writer kept, where it has stopped, or with `InvalidParam("count past usize")` where a `usize` cannot count
-///   the bits; nothing changes;
-/// - with `Io` where the sink fails or has no room for the bytes: the writer has stopped then, and counts what it did before.
+/// Writes an `i64` as its context says: the whole 64 bits, or as many bits or bytes as a size says;
+/// in two's complement.
 ///
 /// ```text
 /// (-2i64).to_writer(&mut writer, (Endian::Little, ByteSize(2)))?             // FE FF
 /// ```
 impl<C: NumberCtx> DekuWriter<C> for i64 {
-    ghost use Rattle.std.specs.Prelude.{◌≡◌};
-    ghost use Rattle.deku_num.specs.Numbers.{signed};
-    ghost use Rattle.deku_num.specs.NumberCalls.{WritesNumber};
-
-    ghost accepts = { λ c. c ≡ c };
-
     ghost meaning = { λ v c. WritesNumber (signed 64) (C.layout_of c) v };
 
     #[inline(always)]
@@ -304,29 +172,13 @@ impl<C: NumberCtx> DekuWriter<C> for i64 {
     }
 }
 
-/// Writes an `i128` as its context says: the whole 128 bits, or as many bits or bytes as a size says; in two's complement.
-///
-/// It is refused, in this order,
-///
-/// - with `InvalidParam("bit size is larger than input")`, or `"byte size .."`, where the size is beyond 128 bits; nothing changes, also where
-///   the writer has stopped;
-/// - with `InvalidParam("signed big Lsb0 field of this width")` where the field is big and `Lsb0`, of more than eight bits and no whole bytes;
-///   nothing changes;
-/// - with `InvalidParam("bit size of input is larger than requested size")` where the value does not fit the bits; nothing changes;
-/// - with the fault that the writer kept, where it has stopped, or with `InvalidParam("count past usize")` where a `usize` cannot count
-///   the bits; nothing changes;
-/// - with `Io` where the sink fails or has no room for the bytes: the writer has stopped then, and counts what it did before.
+/// Writes an `i128` as its context says: the whole 128 bits, or as many bits or bytes as a size
+/// says; in two's complement.
 ///
 /// ```text
 /// (-1i128).to_writer(&mut writer, (Endian::Big, BitSize(12)))?               // twelve bits that are set
 /// ```
 impl<C: NumberCtx> DekuWriter<C> for i128 {
-    ghost use Rattle.std.specs.Prelude.{◌≡◌};
-    ghost use Rattle.deku_num.specs.Numbers.{signed};
-    ghost use Rattle.deku_num.specs.NumberCalls.{WritesNumber};
-
-    ghost accepts = { λ c. c ≡ c };
-
     ghost meaning = { λ v c. WritesNumber (signed 128) (C.layout_of c) v };
 
     #[inline(always)]
@@ -335,29 +187,13 @@ impl<C: NumberCtx> DekuWriter<C> for i128 {
     }
 }
 
-/// Writes an `isize` as its context says: the whole 64 bits, or as many bits or bytes as a size says; in two's complement.
-///
-/// It is refused, in this order,
-///
-/// - with `InvalidParam("bit size is larger than input")`, or `"byte size .."`, where the size is beyond 64 bits; nothing changes, also where
-///   the writer has stopped;
-/// - with `InvalidParam("signed big Lsb0 field of this width")` where the field is big and `Lsb0`, of more than eight bits and no whole bytes;
-///   nothing changes;
-/// - with `InvalidParam("bit size of input is larger than requested size")` where the value does not fit the bits; nothing changes;
-/// - with the fault that the writer kept, where it has stopped, or with `InvalidParam("count past usize")` where a `usize` cannot count
-///   the bits; nothing changes;
-/// - with `Io` where the sink fails or has no room for the bytes: the writer has stopped then, and counts what it did before.
+/// Writes an `isize` as its context says: the whole 64 bits, or as many bits or bytes as a size
+/// says; in two's complement.
 ///
 /// ```text
 /// 258isize.to_writer(&mut writer, (Endian::Big, BitSize(16)))?               // 01 02
 /// ```
 impl<C: NumberCtx> DekuWriter<C> for isize {
-    ghost use Rattle.std.specs.Prelude.{◌≡◌};
-    ghost use Rattle.deku_num.specs.Numbers.{signed};
-    ghost use Rattle.deku_num.specs.NumberCalls.{WritesNumber};
-
-    ghost accepts = { λ c. c ≡ c };
-
     ghost meaning = { λ v c. WritesNumber (signed 64) (C.layout_of c) v };
 
     #[inline(always)]

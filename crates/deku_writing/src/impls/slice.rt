@@ -1,15 +1,16 @@
 //! Slices: their items in order.
 
+ghost use Rattle.deku_writing.specs.Composing.{WritesEach};
+
 use crate::traits::DekuWriter;
 use deku_bits::device::Sink;
 use deku_bits::error::DekuError;
 use deku_bits::writer::Writer;
 
-/// The items in order, under the items' context. The refusal is that of the first item that is refused, and what the items before it
-/// moved stays moved. Without items no call is made on the writer.
+/// The items in order, under the items' context. The refusal is that of the first item that is
+/// refused, and what the items before it moved stays moved. Without items no call is made on the
+/// writer.
 impl<Ctx: Copy, T: DekuWriter<Ctx>> DekuWriter<Ctx> for &[T] {
-    ghost use Rattle.deku_writing.specs.Composing.{WritesEach};
-
     ghost accepts = { T.accepts };
 
     ghost meaning = { λ v c. WritesEach (λ x. T.meaning x c) v.now };

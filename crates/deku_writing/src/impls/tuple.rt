@@ -1,4 +1,7 @@
-//! Tuples: their items in order. One of three or more is written as its first item and the tuple of the rest.
+//! Tuples: their items in order. One of three or more is written as its first item and the tuple of
+//! the rest.
+
+ghost use Rattle.deku_meanings.specs.Composing.{Both};
 
 use crate::traits::DekuWriter;
 use deku_bits::device::Sink;
@@ -17,11 +20,9 @@ impl<Ctx: Copy, A: DekuWriter<Ctx>> DekuWriter<Ctx> for (A,) {
     }
 }
 
-/// The items in order, all under one context. The refusal is that of the first item that is refused, and what the items before it moved
-/// stays moved. So with each tuple below.
+/// The items in order, all under one context. The refusal is that of the first item that is
+/// refused, and what the items before it moved stays moved. So with each tuple below.
 impl<Ctx: Copy, A: DekuWriter<Ctx>, B: DekuWriter<Ctx>> DekuWriter<Ctx> for (A, B) {
-    ghost use Rattle.deku_meanings.specs.Composing.{Both};
-
     ghost accepts = { λ c. A.accepts c × B.accepts c };
 
     ghost meaning = { λ v c. Both (A.meaning v.0 c) (B.meaning v.1 c) };
@@ -36,8 +37,6 @@ impl<Ctx: Copy, A: DekuWriter<Ctx>, B: DekuWriter<Ctx>> DekuWriter<Ctx> for (A, 
 
 impl<Ctx: Copy, A: DekuWriter<Ctx>, B: DekuWriter<Ctx>, C: DekuWriter<Ctx>> DekuWriter<Ctx>
     for (A, B, C) {
-    ghost use Rattle.deku_meanings.specs.Composing.{Both};
-
     ghost accepts = { λ c. A.accepts c × B.accepts c × C.accepts c };
 
     ghost meaning = { λ v c. Both (A.meaning v.0 c) (Both (B.meaning v.1 c) (C.meaning v.2 c)) };
@@ -57,11 +56,10 @@ impl<
     C: DekuWriter<Ctx>,
     D: DekuWriter<Ctx>,
 > DekuWriter<Ctx> for (A, B, C, D) {
-    ghost use Rattle.deku_meanings.specs.Composing.{Both};
-
     ghost accepts = { λ c. A.accepts c × B.accepts c × C.accepts c × D.accepts c };
 
-    ghost meaning = { λ v c. Both (A.meaning v.0 c) (Both (B.meaning v.1 c) (Both (C.meaning v.2 c) (D.meaning v.3 c))) };
+    ghost meaning = { λ v c. Both (A.meaning v.0 c) (Both (B.meaning v.1 c)
+        (Both (C.meaning v.2 c) (D.meaning v.3 c))) };
 
     #[inline(always)]
     fn to_writer<W: Sink>(&self, writer: &mut Writer<W>, ctx: Ctx) -> Result<(), DekuError> {
@@ -79,11 +77,10 @@ impl<
     D: DekuWriter<Ctx>,
     E: DekuWriter<Ctx>,
 > DekuWriter<Ctx> for (A, B, C, D, E) {
-    ghost use Rattle.deku_meanings.specs.Composing.{Both};
-
     ghost accepts = { λ c. A.accepts c × B.accepts c × C.accepts c × D.accepts c × E.accepts c };
 
-    ghost meaning = { λ v c. Both (A.meaning v.0 c) (Both (B.meaning v.1 c) (Both (C.meaning v.2 c) (Both (D.meaning v.3 c) (E.meaning v.4 c)))) };
+    ghost meaning = { λ v c. Both (A.meaning v.0 c) (Both (B.meaning v.1 c)
+        (Both (C.meaning v.2 c) (Both (D.meaning v.3 c) (E.meaning v.4 c)))) };
 
     #[inline(always)]
     fn to_writer<W: Sink>(&self, writer: &mut Writer<W>, ctx: Ctx) -> Result<(), DekuError> {
@@ -102,11 +99,12 @@ impl<
     E: DekuWriter<Ctx>,
     F: DekuWriter<Ctx>,
 > DekuWriter<Ctx> for (A, B, C, D, E, F) {
-    ghost use Rattle.deku_meanings.specs.Composing.{Both};
+    ghost accepts = { λ c. A.accepts c × B.accepts c × C.accepts c × D.accepts c × E.accepts c
+        × F.accepts c };
 
-    ghost accepts = { λ c. A.accepts c × B.accepts c × C.accepts c × D.accepts c × E.accepts c × F.accepts c };
-
-    ghost meaning = { λ v c. Both (A.meaning v.0 c) (Both (B.meaning v.1 c) (Both (C.meaning v.2 c) (Both (D.meaning v.3 c) (Both (E.meaning v.4 c) (F.meaning v.5 c))))) };
+    ghost meaning = { λ v c. Both (A.meaning v.0 c) (Both (B.meaning v.1 c)
+        (Both (C.meaning v.2 c) (Both (D.meaning v.3 c)
+        (Both (E.meaning v.4 c) (F.meaning v.5 c))))) };
 
     #[inline(always)]
     fn to_writer<W: Sink>(&self, writer: &mut Writer<W>, ctx: Ctx) -> Result<(), DekuError> {
@@ -126,11 +124,12 @@ impl<
     F: DekuWriter<Ctx>,
     G: DekuWriter<Ctx>,
 > DekuWriter<Ctx> for (A, B, C, D, E, F, G) {
-    ghost use Rattle.deku_meanings.specs.Composing.{Both};
+    ghost accepts = { λ c. A.accepts c × B.accepts c × C.accepts c × D.accepts c × E.accepts c
+        × F.accepts c × G.accepts c };
 
-    ghost accepts = { λ c. A.accepts c × B.accepts c × C.accepts c × D.accepts c × E.accepts c × F.accepts c × G.accepts c };
-
-    ghost meaning = { λ v c. Both (A.meaning v.0 c) (Both (B.meaning v.1 c) (Both (C.meaning v.2 c) (Both (D.meaning v.3 c) (Both (E.meaning v.4 c) (Both (F.meaning v.5 c) (G.meaning v.6 c)))))) };
+    ghost meaning = { λ v c. Both (A.meaning v.0 c) (Both (B.meaning v.1 c)
+        (Both (C.meaning v.2 c) (Both (D.meaning v.3 c)
+        (Both (E.meaning v.4 c) (Both (F.meaning v.5 c) (G.meaning v.6 c)))))) };
 
     #[inline(always)]
     fn to_writer<W: Sink>(&self, writer: &mut Writer<W>, ctx: Ctx) -> Result<(), DekuError> {
@@ -151,11 +150,13 @@ impl<
     G: DekuWriter<Ctx>,
     H: DekuWriter<Ctx>,
 > DekuWriter<Ctx> for (A, B, C, D, E, F, G, H) {
-    ghost use Rattle.deku_meanings.specs.Composing.{Both};
+    ghost accepts = { λ c. A.accepts c × B.accepts c × C.accepts c × D.accepts c × E.accepts c
+        × F.accepts c × G.accepts c × H.accepts c };
 
-    ghost accepts = { λ c. A.accepts c × B.accepts c × C.accepts c × D.accepts c × E.accepts c × F.accepts c × G.accepts c × H.accepts c };
-
-    ghost meaning = { λ v c. Both (A.meaning v.0 c) (Both (B.meaning v.1 c) (Both (C.meaning v.2 c) (Both (D.meaning v.3 c) (Both (E.meaning v.4 c) (Both (F.meaning v.5 c) (Both (G.meaning v.6 c) (H.meaning v.7 c))))))) };
+    ghost meaning = { λ v c. Both (A.meaning v.0 c) (Both (B.meaning v.1 c)
+        (Both (C.meaning v.2 c) (Both (D.meaning v.3 c)
+        (Both (E.meaning v.4 c) (Both (F.meaning v.5 c)
+        (Both (G.meaning v.6 c) (H.meaning v.7 c))))))) };
 
     #[inline(always)]
     fn to_writer<W: Sink>(&self, writer: &mut Writer<W>, ctx: Ctx) -> Result<(), DekuError> {
@@ -177,11 +178,13 @@ impl<
     H: DekuWriter<Ctx>,
     I: DekuWriter<Ctx>,
 > DekuWriter<Ctx> for (A, B, C, D, E, F, G, H, I) {
-    ghost use Rattle.deku_meanings.specs.Composing.{Both};
+    ghost accepts = { λ c. A.accepts c × B.accepts c × C.accepts c × D.accepts c × E.accepts c
+        × F.accepts c × G.accepts c × H.accepts c × I.accepts c };
 
-    ghost accepts = { λ c. A.accepts c × B.accepts c × C.accepts c × D.accepts c × E.accepts c × F.accepts c × G.accepts c × H.accepts c × I.accepts c };
-
-    ghost meaning = { λ v c. Both (A.meaning v.0 c) (Both (B.meaning v.1 c) (Both (C.meaning v.2 c) (Both (D.meaning v.3 c) (Both (E.meaning v.4 c) (Both (F.meaning v.5 c) (Both (G.meaning v.6 c) (Both (H.meaning v.7 c) (I.meaning v.8 c)))))))) };
+    ghost meaning = { λ v c. Both (A.meaning v.0 c) (Both (B.meaning v.1 c)
+        (Both (C.meaning v.2 c) (Both (D.meaning v.3 c)
+        (Both (E.meaning v.4 c) (Both (F.meaning v.5 c)
+        (Both (G.meaning v.6 c) (Both (H.meaning v.7 c) (I.meaning v.8 c)))))))) };
 
     #[inline(always)]
     fn to_writer<W: Sink>(&self, writer: &mut Writer<W>, ctx: Ctx) -> Result<(), DekuError> {
@@ -204,11 +207,14 @@ impl<
     I: DekuWriter<Ctx>,
     J: DekuWriter<Ctx>,
 > DekuWriter<Ctx> for (A, B, C, D, E, F, G, H, I, J) {
-    ghost use Rattle.deku_meanings.specs.Composing.{Both};
+    ghost accepts = { λ c. A.accepts c × B.accepts c × C.accepts c × D.accepts c × E.accepts c
+        × F.accepts c × G.accepts c × H.accepts c × I.accepts c × J.accepts c };
 
-    ghost accepts = { λ c. A.accepts c × B.accepts c × C.accepts c × D.accepts c × E.accepts c × F.accepts c × G.accepts c × H.accepts c × I.accepts c × J.accepts c };
-
-    ghost meaning = { λ v c. Both (A.meaning v.0 c) (Both (B.meaning v.1 c) (Both (C.meaning v.2 c) (Both (D.meaning v.3 c) (Both (E.meaning v.4 c) (Both (F.meaning v.5 c) (Both (G.meaning v.6 c) (Both (H.meaning v.7 c) (Both (I.meaning v.8 c) (J.meaning v.9 c))))))))) };
+    ghost meaning = { λ v c. Both (A.meaning v.0 c) (Both (B.meaning v.1 c)
+        (Both (C.meaning v.2 c) (Both (D.meaning v.3 c)
+        (Both (E.meaning v.4 c) (Both (F.meaning v.5 c)
+        (Both (G.meaning v.6 c) (Both (H.meaning v.7 c)
+        (Both (I.meaning v.8 c) (J.meaning v.9 c))))))))) };
 
     #[inline(always)]
     fn to_writer<W: Sink>(&self, writer: &mut Writer<W>, ctx: Ctx) -> Result<(), DekuError> {
@@ -232,11 +238,14 @@ impl<
     J: DekuWriter<Ctx>,
     K: DekuWriter<Ctx>,
 > DekuWriter<Ctx> for (A, B, C, D, E, F, G, H, I, J, K) {
-    ghost use Rattle.deku_meanings.specs.Composing.{Both};
+    ghost accepts = { λ c. A.accepts c × B.accepts c × C.accepts c × D.accepts c × E.accepts c
+        × F.accepts c × G.accepts c × H.accepts c × I.accepts c × J.accepts c × K.accepts c };
 
-    ghost accepts = { λ c. A.accepts c × B.accepts c × C.accepts c × D.accepts c × E.accepts c × F.accepts c × G.accepts c × H.accepts c × I.accepts c × J.accepts c × K.accepts c };
-
-    ghost meaning = { λ v c. Both (A.meaning v.0 c) (Both (B.meaning v.1 c) (Both (C.meaning v.2 c) (Both (D.meaning v.3 c) (Both (E.meaning v.4 c) (Both (F.meaning v.5 c) (Both (G.meaning v.6 c) (Both (H.meaning v.7 c) (Both (I.meaning v.8 c) (Both (J.meaning v.9 c) (K.meaning v.10 c)))))))))) };
+    ghost meaning = { λ v c. Both (A.meaning v.0 c) (Both (B.meaning v.1 c)
+        (Both (C.meaning v.2 c) (Both (D.meaning v.3 c)
+        (Both (E.meaning v.4 c) (Both (F.meaning v.5 c)
+        (Both (G.meaning v.6 c) (Both (H.meaning v.7 c)
+        (Both (I.meaning v.8 c) (Both (J.meaning v.9 c) (K.meaning v.10 c)))))))))) };
 
     #[inline(always)]
     fn to_writer<W: Sink>(&self, writer: &mut Writer<W>, ctx: Ctx) -> Result<(), DekuError> {

@@ -1,5 +1,7 @@
 //! Nothing at all.
 
+ghost use Rattle.deku_meanings.specs.Composing.{Answer};
+
 use crate::traits::DekuWriter;
 use deku_bits::device::Sink;
 use deku_bits::error::DekuError;
@@ -7,11 +9,6 @@ use deku_bits::writer::Writer;
 
 /// Nothing is written, also where the writer has stopped.
 impl<Ctx: Copy> DekuWriter<Ctx> for () {
-    ghost use Rattle.std.specs.Prelude.{◌≡◌};
-    ghost use Rattle.deku_meanings.specs.Composing.{Answer};
-
-    ghost accepts = { λ c. c ≡ c };
-
     ghost meaning = { λ _ _. Answer tt };
 
     fn to_writer<W: Sink>(&self, _writer: &mut Writer<W>, _ctx: Ctx) -> Result<(), DekuError> {

@@ -24,11 +24,15 @@ pub fn bits_into<R: Source>(
     requires { length window.old ≤ 8 }
     ensures bound { OnOk result (length window.new ≤ 8) }
     ensures short { OnOk result (0 < length dst.new → length window.new < 8) }
-    ensures none { OnOk result (length dst.new ≡ 0 → (window.new ≡ window.old) × ((R.known source.new).remaining ≡ (R.known source.old).remaining)) }
-    ensures moved { OnOk result (Moves order window.old (R.known source.old).remaining dst.new window.new (R.known source.new).remaining) }
+    ensures none { OnOk result (length dst.new ≡ 0 → (window.new ≡ window.old)
+        × ((R.known source.new).remaining ≡ (R.known source.old).remaining)) }
+    ensures moved { OnOk result (Moves order window.old (R.known source.old).remaining dst.new
+        window.new (R.known source.new).remaining) }
     ensures wanted { IfErr result (λ e. 0 < length dst.old) }
-    ensures ended { IfErr result (λ e. error_kind e ≡ ErrorKind.UnexpectedEof → FewerBits (length dst.old) window.old (R.known source.old).remaining) }
-    ensures failed { IfErr result (λ e. error_kind e ≢ ErrorKind.UnexpectedEof → DeviceFailed (R.known source.old).health (R.known source.new).health) }
+    ensures ended { IfErr result (λ e. error_kind e ≡ ErrorKind.UnexpectedEof
+        → FewerBits (length dst.old) window.old (R.known source.old).remaining) }
+    ensures failed { IfErr result (λ e. error_kind e ≢ ErrorKind.UnexpectedEof
+        → DeviceFailed (R.known source.old).health (R.known source.new).health) }
     ensures inside { length dst.old ≤ length window.old → source.new ≡ source.old }
     ensures kept { DeviceKept (R.known source.old).health (R.known source.new).health }
 {
@@ -40,7 +44,8 @@ pub fn bits_into<R: Source>(
     Ok(())
 }
 
-// Fills the buffer of at most 128 bits with the next bits in this order. The bytes that they need are fetched at once.
+// Fills the buffer of at most 128 bits with the next bits in this order. The bytes that they need
+// are fetched at once.
 fn run_into<R: Source>(
     source: &mut R,
     window: &mut Window,
@@ -51,9 +56,12 @@ fn run_into<R: Source>(
     requires some { 0 < length dst.old }
     requires few { length dst.old ≤ 128 }
     ensures short { OnOk result (length window.new < 8) }
-    ensures moved { OnOk result (Moves order window.old (R.known source.old).remaining dst.new window.new (R.known source.new).remaining) }
-    ensures ended { IfErr result (λ e. error_kind e ≡ ErrorKind.UnexpectedEof → FewerBits (length dst.old) window.old (R.known source.old).remaining) }
-    ensures failed { IfErr result (λ e. error_kind e ≢ ErrorKind.UnexpectedEof → DeviceFailed (R.known source.old).health (R.known source.new).health) }
+    ensures moved { OnOk result (Moves order window.old (R.known source.old).remaining dst.new
+        window.new (R.known source.new).remaining) }
+    ensures ended { IfErr result (λ e. error_kind e ≡ ErrorKind.UnexpectedEof
+        → FewerBits (length dst.old) window.old (R.known source.old).remaining) }
+    ensures failed { IfErr result (λ e. error_kind e ≢ ErrorKind.UnexpectedEof
+        → DeviceFailed (R.known source.old).health (R.known source.new).health) }
     ensures inside { length dst.old ≤ length window.old → source.new ≡ source.old }
     ensures kept { DeviceKept (R.known source.old).health (R.known source.new).health }
 {
@@ -76,7 +84,8 @@ fn hand_out(window: &mut Window, dst: &mut [bool], order: Order)
     }
 }
 
-// Fills the buffer with the bits of bytes, which are as many as it needs. The window is empty where one is needed.
+// Fills the buffer with the bits of bytes, which are as many as it needs. The window is empty where
+// one is needed.
 fn hand_out_bytes(window: &mut Window, bytes: &[u8], dst: &mut [bool], order: Order)
     requires empty { 0 < length dst.old → length window.old ≡ 0 }
     requires needed { length bytes.now ≡ groups (length dst.old) }

@@ -13,8 +13,8 @@ use deku_stream::ctx::Order;
 use deku_stream::window::Window;
 use std::io::ErrorKind;
 
-/// Fills the buffer with the next bytes in this order, or answers the kind of the fault. They are fetched into it at once, and turned there where
-/// bits of a byte are unread.
+/// Fills the buffer with the next bytes in this order, or answers the kind of the fault. They are
+/// fetched into it at once, and turned there where bits of a byte are unread.
 #[inline(always)]
 pub fn bytes_into<R: Source>(
     source: &mut R,
@@ -24,11 +24,15 @@ pub fn bytes_into<R: Source>(
 ) -> Result<(), ErrorKind>
     requires { length window.old ≤ 8 }
     ensures short { OnOk result (0 < length dst.new → length window.new < 8) }
-    ensures none { OnOk result (length dst.new ≡ 0 → (window.new ≡ window.old) × ((R.known source.new).remaining ≡ (R.known source.old).remaining)) }
-    ensures moved { OnOk result (Moves order window.old (R.known source.old).remaining (flow order dst.new) window.new (R.known source.new).remaining) }
+    ensures none { OnOk result (length dst.new ≡ 0 → (window.new ≡ window.old)
+        × ((R.known source.new).remaining ≡ (R.known source.old).remaining)) }
+    ensures moved { OnOk result (Moves order window.old (R.known source.old).remaining
+        (flow order dst.new) window.new (R.known source.new).remaining) }
     ensures bytes { OnOk result (All (λ b. b < 256) dst.new) }
-    ensures ended { IfErr result (λ e. e ≡ ErrorKind.UnexpectedEof → FewerBits (8 * length dst.old) window.old (R.known source.old).remaining) }
-    ensures failed { IfErr result (λ e. e ≢ ErrorKind.UnexpectedEof → DeviceFailed (R.known source.old).health (R.known source.new).health) }
+    ensures ended { IfErr result (λ e. e ≡ ErrorKind.UnexpectedEof
+        → FewerBits (8 * length dst.old) window.old (R.known source.old).remaining) }
+    ensures failed { IfErr result (λ e. e ≢ ErrorKind.UnexpectedEof
+        → DeviceFailed (R.known source.old).health (R.known source.new).health) }
     ensures inside { 8 * length dst.old ≤ length window.old → source.new ≡ source.old }
     ensures kept { DeviceKept (R.known source.old).health (R.known source.new).health }
 {
@@ -44,7 +48,8 @@ pub fn bytes_into<R: Source>(
     }
 }
 
-/// Puts the next bytes in this order, so many, into an empty vector that has room for them, or answers the kind of the fault.
+/// Puts the next bytes in this order, so many, into an empty vector that has room for them, or
+/// answers the kind of the fault.
 #[inline(always)]
 pub fn bytes_onto<R: Source>(
     source: &mut R,
@@ -58,11 +63,15 @@ pub fn bytes_onto<R: Source>(
     requires room { amt ≤ vec_capacity bytes.old }
     ensures count { OnOk result (length bytes.new.items ≡ amt) }
     ensures short { OnOk result (0 < amt → length window.new < 8) }
-    ensures none { OnOk result (amt ≡ 0 → (window.new ≡ window.old) × ((R.known source.new).remaining ≡ (R.known source.old).remaining)) }
-    ensures moved { OnOk result (Moves order window.old (R.known source.old).remaining (flow order bytes.new.items) window.new (R.known source.new).remaining) }
+    ensures none { OnOk result (amt ≡ 0 → (window.new ≡ window.old)
+        × ((R.known source.new).remaining ≡ (R.known source.old).remaining)) }
+    ensures moved { OnOk result (Moves order window.old (R.known source.old).remaining
+        (flow order bytes.new.items) window.new (R.known source.new).remaining) }
     ensures bytes { OnOk result (All (λ b. b < 256) bytes.new.items) }
-    ensures ended { IfErr result (λ e. e ≡ ErrorKind.UnexpectedEof → FewerBits (8 * amt) window.old (R.known source.old).remaining) }
-    ensures failed { IfErr result (λ e. e ≢ ErrorKind.UnexpectedEof → DeviceFailed (R.known source.old).health (R.known source.new).health) }
+    ensures ended { IfErr result (λ e. e ≡ ErrorKind.UnexpectedEof
+        → FewerBits (8 * amt) window.old (R.known source.old).remaining) }
+    ensures failed { IfErr result (λ e. e ≢ ErrorKind.UnexpectedEof
+        → DeviceFailed (R.known source.old).health (R.known source.new).health) }
     ensures inside { 8 * amt ≤ length window.old → source.new ≡ source.old }
     ensures kept { DeviceKept (R.known source.old).health (R.known source.new).health }
 {
@@ -84,9 +93,11 @@ pub fn bytes_onto<R: Source>(
     }
 }
 
-/// Turns bytes that stand behind the window into those that begin with its bits. As many bits are then unread.
+/// Turns bytes that stand behind the window into those that begin with its bits. As many bits are
+/// then unread.
 pub fn exchange_all(window: &mut Window, dst: &mut [u8], order: Order)
-    ensures bits { facing order window.old ++ flow order dst.old ≡ flow order dst.new ++ facing order window.new }
+    ensures bits { facing order window.old ++ flow order dst.old ≡ flow order dst.new ++ facing
+        order window.new }
     ensures bytes { All (λ b. b < 256) dst.new }
     ensures len { length window.new ≡ length window.old }
 {
@@ -105,7 +116,8 @@ pub fn exchange_all(window: &mut Window, dst: &mut [u8], order: Order)
 #[inline(always)]
 fn exchange_eights(passing: &mut Window, dst: &mut [u8], order: Order)
     requires { length dst.old % 8 ≡ 0 }
-    ensures bits { facing order passing.old ++ flow order dst.old ≡ flow order dst.new ++ facing order passing.new }
+    ensures bits { facing order passing.old ++ flow order dst.old ≡ flow order dst.new ++ facing
+        order passing.new }
     ensures bytes { All (λ b. b < 256) dst.new }
     ensures len { length passing.new ≡ length passing.old }
 {
@@ -119,7 +131,8 @@ fn exchange_eights(passing: &mut Window, dst: &mut [u8], order: Order)
 #[inline(always)]
 fn exchange_eight(passing: &mut Window, dst: &mut [u8], order: Order)
     requires { length dst.old ≡ 8 }
-    ensures bits { facing order passing.old ++ flow order dst.old ≡ flow order dst.new ++ facing order passing.new }
+    ensures bits { facing order passing.old ++ flow order dst.old ≡ flow order dst.new ++ facing
+        order passing.new }
     ensures bytes { All (λ b. b < 256) dst.new }
     ensures len { length passing.new ≡ length passing.old }
 {
@@ -131,7 +144,8 @@ fn exchange_eight(passing: &mut Window, dst: &mut [u8], order: Order)
 // Turns bytes as `exchange_all` does, one by one.
 #[inline(always)]
 fn exchange_each(passing: &mut Window, dst: &mut [u8], order: Order)
-    ensures bits { facing order passing.old ++ flow order dst.old ≡ flow order dst.new ++ facing order passing.new }
+    ensures bits { facing order passing.old ++ flow order dst.old ≡ flow order dst.new ++ facing
+        order passing.new }
     ensures bytes { All (λ b. b < 256) dst.new }
     ensures len { length passing.new ≡ length passing.old }
 {

@@ -17,11 +17,14 @@ use std::io::ErrorKind;
 /// Fills the buffer with the next bytes. For none the source is not called.
 #[inline(always)]
 pub fn fetch_bytes<R: Source>(source: &mut R, dst: &mut [u8]) -> io::Result<()>
-    ensures bytes { OnOk result (Consumes (R.known source.old).remaining (R.known source.new).remaining dst.new) }
+    ensures bytes { OnOk result (Consumes (R.known source.old).remaining
+        (R.known source.new).remaining dst.new) }
     ensures none { length dst.old ≡ 0 → source.new ≡ source.old }
     ensures wanted { IfErr result (λ e. 0 < length dst.old) }
-    ensures short { IfErr result (λ e. error_kind e ≡ ErrorKind.UnexpectedEof → FewerThan (length dst.old) (R.known source.old).remaining) }
-    ensures failed { IfErr result (λ e. error_kind e ≢ ErrorKind.UnexpectedEof → DeviceFailed (R.known source.old).health (R.known source.new).health) }
+    ensures short { IfErr result (λ e. error_kind e ≡ ErrorKind.UnexpectedEof
+        → FewerThan (length dst.old) (R.known source.old).remaining) }
+    ensures failed { IfErr result (λ e. error_kind e ≢ ErrorKind.UnexpectedEof
+        → DeviceFailed (R.known source.old).health (R.known source.new).health) }
     ensures kept { DeviceKept (R.known source.old).health (R.known source.new).health }
 {
     if dst.is_empty() {
@@ -30,7 +33,8 @@ pub fn fetch_bytes<R: Source>(source: &mut R, dst: &mut [u8]) -> io::Result<()>
     source.fetch(dst)
 }
 
-/// Fills the buffer with the bytes that stand behind fewer than eight unread bits: a window of eight is put back, as the first of them.
+/// Fills the buffer with the bytes that stand behind fewer than eight unread bits: a window of
+/// eight is put back, as the first of them.
 #[inline(always)]
 pub fn fetch_behind<R: Source>(
     source: &mut R,
@@ -40,9 +44,14 @@ pub fn fetch_behind<R: Source>(
     requires bound { length window.old ≤ 8 }
     requires some { 0 < length dst.old }
     ensures short { OnOk result (length window.new ≡ length window.old % 8) }
-    ensures moved { OnOk result ((order : BitOrder) → Moves order window.old (R.known source.old).remaining (facing order window.new ++ flow order dst.new) [] (R.known source.new).remaining) }
-    ensures ended { IfErr result (λ e. error_kind e ≡ ErrorKind.UnexpectedEof → (n : ℕ) → length window.old % 8 + 8 * length dst.old < n + 8 → FewerBits n window.old (R.known source.old).remaining) }
-    ensures failed { IfErr result (λ e. error_kind e ≢ ErrorKind.UnexpectedEof → DeviceFailed (R.known source.old).health (R.known source.new).health) }
+    ensures moved { OnOk result ((order : BitOrder) → Moves order window.old
+        (R.known source.old).remaining (facing order window.new ++ flow order dst.new) []
+        (R.known source.new).remaining) }
+    ensures ended { IfErr result (λ e. error_kind e ≡ ErrorKind.UnexpectedEof → (n : ℕ)
+        → length window.old % 8 + 8 * length dst.old < n + 8
+        → FewerBits n window.old (R.known source.old).remaining) }
+    ensures failed { IfErr result (λ e. error_kind e ≢ ErrorKind.UnexpectedEof
+        → DeviceFailed (R.known source.old).health (R.known source.new).health) }
     ensures inside { 8 * length dst.old ≤ length window.old → source.new ≡ source.old }
     ensures kept { DeviceKept (R.known source.old).health (R.known source.new).health }
 {

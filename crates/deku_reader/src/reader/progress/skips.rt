@@ -18,7 +18,8 @@ use std::io::ErrorKind;
 /// Takes so many bits of the window in this order, and forgets them.
 pub fn pop_bits(window: &mut Window, count: usize, order: Order)
     requires { count ≤ length window.old }
-    ensures { (bits : List Bool) × (length bits ≡ count) × (facing order window.old ≡ bits ++ facing order window.new) }
+    ensures { (bits : List Bool) × (length bits ≡ count)
+        × (facing order window.old ≡ bits ++ facing order window.new) }
 {
     window.take(count, order);
 }
@@ -27,8 +28,10 @@ pub fn pop_bits(window: &mut Window, count: usize, order: Order)
 pub fn pass_bytes<R: Source>(source: &mut R, count: usize) -> io::Result<()>
     requires { count < 2 ^ 63 }
     ensures none { count ≡ 0 → source.new ≡ source.old }
-    ensures bytes { OnOk result (Passes count (R.known source.old).remaining (R.known source.new).remaining) }
-    ensures failed { IfErr result (λ e. DeviceFailed (R.known source.old).health (R.known source.new).health) }
+    ensures bytes { OnOk result (Passes count (R.known source.old).remaining
+        (R.known source.new).remaining) }
+    ensures failed { IfErr result (λ e. DeviceFailed (R.known source.old).health
+        (R.known source.new).health) }
     ensures kept { DeviceKept (R.known source.old).health (R.known source.new).health }
 {
     if count == 0 {
@@ -48,11 +51,16 @@ pub fn drop_bits<R: Source>(
     requires few { count < 8 }
     ensures bound { OnOk result (length window.new ≤ 8) }
     ensures short { OnOk result (0 < count → length window.new < 8) }
-    ensures none { OnOk result (count ≡ 0 → (window.new ≡ window.old) × ((R.known source.new).remaining ≡ (R.known source.old).remaining)) }
-    ensures moved { OnOk result ((bits : List Bool) × (length bits ≡ count) × Moves order window.old (R.known source.old).remaining bits window.new (R.known source.new).remaining) }
+    ensures none { OnOk result (count ≡ 0 → (window.new ≡ window.old)
+        × ((R.known source.new).remaining ≡ (R.known source.old).remaining)) }
+    ensures moved { OnOk result ((bits : List Bool) × (length bits ≡ count)
+        × Moves order window.old (R.known source.old).remaining bits window.new
+        (R.known source.new).remaining) }
     ensures wanted { IfErr result (λ e. 0 < count) }
-    ensures ended { IfErr result (λ e. error_kind e ≡ ErrorKind.UnexpectedEof → FewerBits count window.old (R.known source.old).remaining) }
-    ensures failed { IfErr result (λ e. error_kind e ≢ ErrorKind.UnexpectedEof → DeviceFailed (R.known source.old).health (R.known source.new).health) }
+    ensures ended { IfErr result (λ e. error_kind e ≡ ErrorKind.UnexpectedEof
+        → FewerBits count window.old (R.known source.old).remaining) }
+    ensures failed { IfErr result (λ e. error_kind e ≢ ErrorKind.UnexpectedEof
+        → DeviceFailed (R.known source.old).health (R.known source.new).health) }
     ensures inside { count ≤ length window.old → source.new ≡ source.old }
     ensures kept { DeviceKept (R.known source.old).health (R.known source.new).health }
 {

@@ -14,8 +14,8 @@ pub struct Stop {
     count: usize,
 }
 
-/// Whether a reader has stopped, and how many bits were read. Kept is how many bits may still be counted, none where it has stopped: so one comparison
-/// admits a read.
+/// Whether a reader has stopped, and how many bits were read. Kept is how many bits may still be
+/// counted, none where it has stopped: so one comparison admits a read.
 #[derive(Drop)]
 pub struct Tally {
     left: usize,
@@ -77,7 +77,8 @@ impl Tally {
         }
     }
 
-    /// Refuses what a reader refuses before it moves anything: by its kept fault, or since the count has no room.
+    /// Refuses what a reader refuses before it moves anything: by its kept fault, or since the
+    /// count has no room.
     #[inline(always)]
     pub fn admits(&self, amt: usize) -> Result<(), DekuError>
         ensures { Admits amt (standing_of (tt {0}) self.now.fault self.now.count) result }
@@ -88,7 +89,8 @@ impl Tally {
         looked_at(self.stop, self.left, amt)
     }
 
-    /// So many bits more are read. The caller's conditions: no fault is kept, and the count has room for them.
+    /// So many bits more are read. The caller's conditions: no fault is kept, and the count has
+    /// room for them.
     #[inline(always)]
     pub fn add(&mut self, amt: usize)
         requires going { self.old.fault ≡ None }
@@ -103,7 +105,8 @@ impl Tally {
 #[cold]
 #[inline(never)]
 fn looked_at(stop: Option<Stop>, left: usize, amt: usize) -> Result<(), DekuError>
-    ensures { Admits amt (standing_of (tt {0}) (tallied stop left).fault (tallied stop left).count) result }
+    ensures { Admits amt (standing_of (tt {0}) (tallied stop left).fault (tallied stop left).count)
+        result }
 {
     if let Some(stop) = stop {
         return Err(stop.fault.error());

@@ -13,8 +13,8 @@ use deku_stream::ctx::Order;
 use deku_stream::window::{Window, word_of_front};
 use std::io::ErrorKind;
 
-/// Takes at most 128 bits in this order, and answers their word, or the kind of the fault. The bytes that they need are taken where they are at hand,
-/// and fetched at once else.
+/// Takes at most 128 bits in this order, and answers their word, or the kind of the fault. The
+/// bytes that they need are taken where they are at hand, and fetched at once else.
 #[inline(always)]
 pub fn word_from<R: Source>(
     source: &mut R,
@@ -25,11 +25,15 @@ pub fn word_from<R: Source>(
     requires bound { length window.old ≤ 8 }
     requires few { count ≤ 128 }
     ensures short { OnOk result (0 < count → length window.new < 8) }
-    ensures none { OnOk result (count ≡ 0 → (window.new ≡ window.old) × ((R.known source.new).remaining ≡ (R.known source.old).remaining)) }
-    ensures moved { IfOk result (λ word. MovesWord order window.old (R.known source.old).remaining count word window.new (R.known source.new).remaining) }
+    ensures none { OnOk result (count ≡ 0 → (window.new ≡ window.old)
+        × ((R.known source.new).remaining ≡ (R.known source.old).remaining)) }
+    ensures moved { IfOk result (λ word. MovesWord order window.old (R.known source.old).remaining
+        count word window.new (R.known source.new).remaining) }
     ensures wanted { IfErr result (λ e. 0 < count) }
-    ensures ended { IfErr result (λ e. e ≡ ErrorKind.UnexpectedEof → FewerBits count window.old (R.known source.old).remaining) }
-    ensures failed { IfErr result (λ e. e ≢ ErrorKind.UnexpectedEof → DeviceFailed (R.known source.old).health (R.known source.new).health) }
+    ensures ended { IfErr result (λ e. e ≡ ErrorKind.UnexpectedEof
+        → FewerBits count window.old (R.known source.old).remaining) }
+    ensures failed { IfErr result (λ e. e ≢ ErrorKind.UnexpectedEof
+        → DeviceFailed (R.known source.old).health (R.known source.new).health) }
     ensures inside { count ≤ length window.old → source.new ≡ source.old }
     ensures kept { DeviceKept (R.known source.old).health (R.known source.new).health }
 {
@@ -50,11 +54,15 @@ fn narrow_from<R: Source>(
     requires bound { length window.old ≤ 8 }
     requires few { count ≤ 64 }
     ensures short { OnOk result (0 < count → length window.new < 8) }
-    ensures none { OnOk result (count ≡ 0 → (window.new ≡ window.old) × ((R.known source.new).remaining ≡ (R.known source.old).remaining)) }
-    ensures moved { IfOk result (λ word. MovesWord order window.old (R.known source.old).remaining count word window.new (R.known source.new).remaining) }
+    ensures none { OnOk result (count ≡ 0 → (window.new ≡ window.old)
+        × ((R.known source.new).remaining ≡ (R.known source.old).remaining)) }
+    ensures moved { IfOk result (λ word. MovesWord order window.old (R.known source.old).remaining
+        count word window.new (R.known source.new).remaining) }
     ensures wanted { IfErr result (λ e. 0 < count) }
-    ensures ended { IfErr result (λ e. e ≡ ErrorKind.UnexpectedEof → FewerBits count window.old (R.known source.old).remaining) }
-    ensures failed { IfErr result (λ e. e ≢ ErrorKind.UnexpectedEof → DeviceFailed (R.known source.old).health (R.known source.new).health) }
+    ensures ended { IfErr result (λ e. e ≡ ErrorKind.UnexpectedEof
+        → FewerBits count window.old (R.known source.old).remaining) }
+    ensures failed { IfErr result (λ e. e ≢ ErrorKind.UnexpectedEof
+        → DeviceFailed (R.known source.old).health (R.known source.new).health) }
     ensures inside { count ≤ length window.old → source.new ≡ source.old }
     ensures kept { DeviceKept (R.known source.old).health (R.known source.new).health }
 {
@@ -73,15 +81,18 @@ fn narrow_from<R: Source>(
     word_by_copy(source, window, count, order)
 }
 
-/// Takes at most 64 bits from the highest down, where they are unread or at hand, and answers their number. It answers none else, and then nothing moves.
+/// Takes at most 64 bits from the highest down, where they are unread or at hand, and answers their
+/// number. It answers none else, and then nothing moves.
 #[inline(always)]
 pub fn try_read_msb<R: Source>(source: &mut R, window: &mut Window, count: usize) -> Option<u64>
     requires bound { length window.old ≤ 8 }
     requires few { count ≤ 64 }
     ensures short { IfSome result (λ number. 0 < count → length window.new < 8) }
-    ensures none { IfSome result (λ number. count ≡ 0 → (window.new ≡ window.old) × ((R.known source.new).remaining ≡ (R.known source.old).remaining)) }
+    ensures none { IfSome result (λ number. count ≡ 0 → (window.new ≡ window.old)
+        × ((R.known source.new).remaining ≡ (R.known source.old).remaining)) }
     ensures still { count ≤ length window.old → source.new ≡ source.old }
-    ensures moved { IfSome result (λ number. Moves Msb0 window.old (R.known source.old).remaining (bits_of count number) window.new (R.known source.new).remaining) }
+    ensures moved { IfSome result (λ number. Moves Msb0 window.old (R.known source.old).remaining
+        (bits_of count number) window.new (R.known source.new).remaining) }
     ensures below { IfSome result (λ number. number < 2 ^ count) }
     ensures stays { IsNone result → (window.new ≡ window.old) × (source.new ≡ source.old) }
     ensures kept { DeviceKept (R.known source.old).health (R.known source.new).health }
@@ -102,7 +113,8 @@ pub fn try_read_msb<R: Source>(source: &mut R, window: &mut Window, count: usize
     Some(window.take_high_across(&eight, count))
 }
 
-// Takes more than 64 bits: where eight bytes are at hand, 64 bits through the window and then the others.
+// Takes more than 64 bits: where eight bytes are at hand, 64 bits through the window and then the
+// others.
 #[inline(always)]
 fn wide_from<R: Source>(
     source: &mut R,
@@ -114,9 +126,12 @@ fn wide_from<R: Source>(
     requires wide { 64 < count }
     requires few { count ≤ 128 }
     ensures short { OnOk result (length window.new < 8) }
-    ensures moved { IfOk result (λ word. MovesWord order window.old (R.known source.old).remaining count word window.new (R.known source.new).remaining) }
-    ensures ended { IfErr result (λ e. e ≡ ErrorKind.UnexpectedEof → FewerBits count window.old (R.known source.old).remaining) }
-    ensures failed { IfErr result (λ e. e ≢ ErrorKind.UnexpectedEof → DeviceFailed (R.known source.old).health (R.known source.new).health) }
+    ensures moved { IfOk result (λ word. MovesWord order window.old (R.known source.old).remaining
+        count word window.new (R.known source.new).remaining) }
+    ensures ended { IfErr result (λ e. e ≡ ErrorKind.UnexpectedEof
+        → FewerBits count window.old (R.known source.old).remaining) }
+    ensures failed { IfErr result (λ e. e ≢ ErrorKind.UnexpectedEof
+        → DeviceFailed (R.known source.old).health (R.known source.new).health) }
     ensures kept { DeviceKept (R.known source.old).health (R.known source.new).health }
 {
     if window.len() == 8 {
@@ -132,7 +147,8 @@ fn wide_from<R: Source>(
     }
 }
 
-// Takes bits as `word_fetched` does, with the window handed on as a copy: so a caller's window stays in registers.
+// Takes bits as `word_fetched` does, with the window handed on as a copy: so a caller's window
+// stays in registers.
 #[inline(always)]
 fn word_by_copy<R: Source>(
     source: &mut R,
@@ -144,9 +160,12 @@ fn word_by_copy<R: Source>(
     requires more { length window.old < count }
     requires few { count ≤ 128 }
     ensures short { OnOk result (length window.new < 8) }
-    ensures moved { IfOk result (λ word. MovesWord order window.old (R.known source.old).remaining count word window.new (R.known source.new).remaining) }
-    ensures ended { IfErr result (λ e. e ≡ ErrorKind.UnexpectedEof → FewerBits count window.old (R.known source.old).remaining) }
-    ensures failed { IfErr result (λ e. e ≢ ErrorKind.UnexpectedEof → DeviceFailed (R.known source.old).health (R.known source.new).health) }
+    ensures moved { IfOk result (λ word. MovesWord order window.old (R.known source.old).remaining
+        count word window.new (R.known source.new).remaining) }
+    ensures ended { IfErr result (λ e. e ≡ ErrorKind.UnexpectedEof
+        → FewerBits count window.old (R.known source.old).remaining) }
+    ensures failed { IfErr result (λ e. e ≢ ErrorKind.UnexpectedEof
+        → DeviceFailed (R.known source.old).health (R.known source.new).health) }
     ensures kept { DeviceKept (R.known source.old).health (R.known source.new).health }
 {
     let mut copy = window.copy();
@@ -168,9 +187,12 @@ fn word_fetched<R: Source>(
     requires more { length window.old < count }
     requires few { count ≤ 128 }
     ensures short { OnOk result (length window.new < 8) }
-    ensures moved { IfOk result (λ word. MovesWord order window.old (R.known source.old).remaining count word window.new (R.known source.new).remaining) }
-    ensures ended { IfErr result (λ e. e ≡ ErrorKind.UnexpectedEof → FewerBits count window.old (R.known source.old).remaining) }
-    ensures failed { IfErr result (λ e. e ≢ ErrorKind.UnexpectedEof → DeviceFailed (R.known source.old).health (R.known source.new).health) }
+    ensures moved { IfOk result (λ word. MovesWord order window.old (R.known source.old).remaining
+        count word window.new (R.known source.new).remaining) }
+    ensures ended { IfErr result (λ e. e ≡ ErrorKind.UnexpectedEof
+        → FewerBits count window.old (R.known source.old).remaining) }
+    ensures failed { IfErr result (λ e. e ≢ ErrorKind.UnexpectedEof
+        → DeviceFailed (R.known source.old).health (R.known source.new).health) }
     ensures kept { DeviceKept (R.known source.old).health (R.known source.new).health }
 {
     let mut room = [0; 16];
@@ -190,7 +212,8 @@ fn gather(window: &mut Window, dst: &mut [u8], count: usize, order: Order)
     requires short { length window.old < 8 }
     requires room { length dst.old ≡ groups count }
     requires wide { count ≤ 128 }
-    ensures { TakesGroups order window.old (take (groups (count - length window.old)) dst.old) count dst.new window.new }
+    ensures { TakesGroups order window.old (take (groups (count - length window.old)) dst.old) count
+        dst.new window.new }
 {
     let whole = count / 8;
     exchange_all(window, &mut dst[..whole], order);
@@ -199,12 +222,14 @@ fn gather(window: &mut Window, dst: &mut [u8], count: usize, order: Order)
     }
 }
 
-// Takes fewer than eight bits: those of the window, and where it has fewer, those of the byte behind it.
+// Takes fewer than eight bits: those of the window, and where it has fewer, those of the byte
+// behind it.
 fn last_group(window: &mut Window, byte: u8, count: usize, order: Order) -> u8
     requires window { length window.old < 8 }
     requires some { 0 < count }
     requires few { count < 8 }
-    ensures { TakesGroups order window.old (take (groups (count - length window.old)) (byte ∷ [])) count (result ∷ []) window.new }
+    ensures { TakesGroups order window.old (take (groups (count - length window.old)) (byte ∷ []))
+        count (result ∷ []) window.new }
 {
     let inside = count.min(window.len());
     let first = window.take(inside, order);
