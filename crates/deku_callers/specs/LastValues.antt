@@ -1,5 +1,5 @@
 -- The last value of a key in a list of pairs.
-use Rattle.std.specs.Prelude.{ℕ, cond, nat_eq, List, [], ◌∷◌, Option, None, Some}
+use Rattle.std.specs.Prelude.{ℕ, List, [], ◌∷◌, Option, None, Some, if◌then◌else◌, ◌==◌}
 
 -- the first of two values that is there
 abbrev pub first_some : Option ℕ → Option ℕ → Option ℕ
@@ -9,4 +9,4 @@ first_some None other = other
 -- the value of the last pair that has the key; none where no pair has it
 abbrev pub last_value : ℕ → List (ℕ × ℕ) → Option ℕ
 last_value key [] = None
-last_value key (p ∷ ps) = first_some (last_value key ps) (cond (nat_eq p.0 key) (Some p.1) None)
+last_value key (p ∷ ps) = first_some (last_value key ps) (if p.0 == key then Some p.1 else None)

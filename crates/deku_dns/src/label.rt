@@ -5,7 +5,7 @@
 //! bytes   as many bytes
 //! ```
 
-ghost use Rattle.std.specs.Prelude.{refl, nat_lt, cond, Some, None, nat_eq, pos};
+ghost use Rattle.std.specs.Prelude.{refl, nat_lt, Some, None, nat_eq, pos, if◌then◌else◌};
 ghost use Rattle.std.proofs.Common.{arith};
 ghost use Rattle.deku.specs.Outcomes.{Mapped};
 ghost use Rattle.deku_num.specs.Numbers.{byte};
@@ -48,7 +48,7 @@ impl ToParts<()> for Length {
 
 /// As many bytes as it says, where they are at most 63.
 impl ItemCount for Length {
-    ghost count_of = { λ l. cond (nat_lt l.0 64) (Some l.0) None };
+    ghost count_of = { λ l. if nat_lt l.0 64 then Some l.0 else None };
 
     fn count(&self) -> Option<usize> {
         if self.0 < 64 {

@@ -1,5 +1,5 @@
 -- How tuples, types that hold one item, and types that stand for a number are made of these.
-use Rattle.std.specs.Prelude.{◌≡◌, ℕ, Bool, false, cond, List, Option, None, Some, Result, Ok, Err, pos}
+use Rattle.std.specs.Prelude.{◌≡◌, ℕ, Bool, false, List, Option, None, Some, Result, Ok, Err, pos, if◌then◌else◌}
 use Rattle.std.specs.declared.io.ErrorKind.TheVariants.{OutOfMemory}
 use Rattle.std.specs.declared.net.ip_addr.IpAddr.{IpAddr}
 use Rattle.std.specs.declared.net.ip_addr.IpAddr.TheVariants.{V4, V6}
@@ -32,7 +32,7 @@ ShowsUnless none text h v = Checked (λ s r u. none v × Refuses Parse text s r 
 
 -- false is 0, true is 1
 abbrev pub numeral : Bool → ℕ
-numeral b = cond b 1 0
+numeral b = if b then 1 else 0
 
 -- an address is written as the number of its own family
 abbrev pub WritesAddress : Layout → IpAddr → Meaning Output (Unit {0})

@@ -1,5 +1,5 @@
 -- The values that fit a field, each with its one list; and how the number of a list is made of its groups and of its bits.
-use Rattle.std.specs.Prelude.{ℕ, zero, suc, ◌+◌, ◌*◌, ◌-◌, ◌/◌, ◌%◌, ◌^◌, ◌<◌, ◌≤◌, Bool, true, false, cond, List, ◌∷◌, ◌++◌, ◌≡◌, ◌⊎◌, ◌↔◌, length, min, ℤ, pos, negsuc, neg_ℤ, ◌-ℤ◌, ◌≤ℤ◌, ◌<ℤ◌}
+use Rattle.std.specs.Prelude.{ℕ, zero, suc, ◌+◌, ◌*◌, ◌-◌, ◌/◌, ◌%◌, ◌^◌, ◌<◌, ◌≤◌, Bool, true, false, List, ◌∷◌, ◌++◌, ◌≡◌, ◌⊎◌, ◌↔◌, length, min, ℤ, pos, negsuc, neg_ℤ, ◌-ℤ◌, ◌≤ℤ◌, ◌<ℤ◌, if◌then◌else◌}
 use Rattle.deku_bits.specs.declared.ctx.Order.{Order}
 use Rattle.deku_bits.specs.declared.ctx.Order.TheVariants.{Msb0, Lsb0}
 use Rattle.deku_bits.specs.Bits.{group_number, groups}
@@ -63,7 +63,7 @@ place Big Lsb0 n i = 8 * (groups n - 1 - i / 8) + i % 8
 abbrev pub BitLaw : Type 0
 BitLaw = (e : Endian) (o : Order) (p q : List Bool)
     → (number e o (p ++ true ∷ q) ≡ number e o (p ++ false ∷ q) + 2 ^ place e o (length p + suc (length q)) (length p))
-    × ((b : Bool) → number e o (p ++ b ∷ q) / 2 ^ place e o (length p + suc (length q)) (length p) % 2 ≡ cond b 1 0)
+    × ((b : Bool) → number e o (p ++ b ∷ q) / 2 ^ place e o (length p + suc (length q)) (length p) % 2 ≡ (if b then 1 else 0))
 
 -- v modulo two to the power of n
 abbrev pub residue : ℤ → ℕ → ℕ

@@ -1,5 +1,5 @@
 -- Whole numbers as lists of bits: widths, refused layouts, and what a list is worth.
-use Rattle.std.specs.Prelude.{ℕ, suc, ◌+◌, ◌*◌, ◌%◌, ◌^◌, ◌<◌, ◌≤◌, Bool, true, false, cond, leb, List, [], ◌∷◌, ◌≡◌, ◌⊎◌, map, length, ℤ, pos, ◌-ℤ◌}
+use Rattle.std.specs.Prelude.{ℕ, suc, ◌+◌, ◌*◌, ◌%◌, ◌^◌, ◌<◌, ◌≤◌, Bool, true, false, List, [], ◌∷◌, ◌≡◌, ◌⊎◌, map, length, ℤ, pos, ◌-ℤ◌, if◌then◌else◌, nat_le}
 use Rattle.deku_bits.specs.declared.ctx.Order.{Order}
 use Rattle.deku_bits.specs.declared.ctx.Order.TheVariants.{Msb0, Lsb0}
 use Rattle.deku_bits.specs.Bits.{bin, chunks, group_number, word_of}
@@ -26,7 +26,7 @@ byte = record { bits = 8; signed = false; one_byte = true }
 abbrev pub sized_width : NumberType → Size → ℕ
 sized_width t Whole = t.bits
 sized_width t (Bits n) = n
-sized_width t (Bytes n) = cond t.one_byte 8 (8 * n)
+sized_width t (Bytes n) = if t.one_byte then 8 else 8 * n
 
 -- how many bits a number of the type takes under a layout
 abbrev pub width : NumberType → Layout → ℕ
@@ -55,7 +55,7 @@ number Big Lsb0 s = big (map (group_number Lsb0) (chunks s))
 
 -- what a number of n bits is worth: where there is a sign it is less by 2 ^ n, if it is half of that or more
 abbrev pub with_sign : Bool → ℕ → ℕ → ℤ
-with_sign true (suc n) m = cond (leb (2 ^ n) m) (pos m -ℤ pos (2 ^ suc n)) (pos m)
+with_sign true (suc n) m = if nat_le (2 ^ n) m then pos m -ℤ pos (2 ^ suc n) else pos m
 with_sign _ _ m = pos m
 
 -- what a list of bits is worth

@@ -1,15 +1,15 @@
 -- Sizes of types, as calls answer them.
-use Rattle.std.specs.Prelude.{ℕ, zero, suc, ◌+◌, ◌*◌, ◌/◌, ◌%◌, ◌^◌, Option, None, Some, ltb, eqb, cond}
+use Rattle.std.specs.Prelude.{ℕ, zero, suc, ◌+◌, ◌*◌, ◌/◌, ◌%◌, ◌^◌, Option, None, Some, if◌then◌else◌, ◌==◌, nat_lt}
 
 -- so many bits, where a `usize` can tell them
 abbrev pub within_usize : Option ℕ → Option ℕ
 within_usize None = None
-within_usize (Some n) = cond (ltb n (2 ^ 64)) (Some n) None
+within_usize (Some n) = if nat_lt n (2 ^ 64) then Some n else None
 
 -- as many bytes, where they are whole
 abbrev pub eighth : Option ℕ → Option ℕ
 eighth None = None
-eighth (Some n) = cond (eqb (n % 8) 0) (Some (n / 8)) None
+eighth (Some n) = if n % 8 == 0 then Some (n / 8) else None
 
 -- the bits of both, where both are known
 abbrev pub both : Option ℕ → Option ℕ → Option ℕ

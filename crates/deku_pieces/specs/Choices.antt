@@ -1,5 +1,5 @@
 -- What an id chooses: parts of one kind under an id of their own, and others under other ids.
-use Rattle.std.specs.Prelude.{◌≡◌, ◌≢◌, ◌⊎◌, ℕ, Bool, cond, List, Option, Err}
+use Rattle.std.specs.Prelude.{◌≡◌, ◌≢◌, ◌⊎◌, ℕ, Bool, List, Option, Err, if◌then◌else◌}
 use Rattle.deku_bits.specs.declared.ctx.Order.{Order}
 use Rattle.deku_bits.specs.declared.ctx.Order.TheVariants.{Msb0, Lsb0}
 use Rattle.deku_bits.specs.declared.error.DekuError.TheVariants.{IdVariantNotFound}
@@ -17,7 +17,7 @@ use Rattle.deku_pieces.specs.declared.choice.Tagged.TheVariants as tagged
 
 -- the order of an id: low bits first, or high ones
 abbrev pub order_where : Bool → Order
-order_where low = cond low Lsb0 Msb0
+order_where low = if low then Lsb0 else Msb0
 
 -- ---- values
 -- the id of what was chosen

@@ -1,17 +1,17 @@
 -- Lists of truth values, highest bit first; the eight bits of a byte; groups of eight.
-use Rattle.std.specs.Prelude.{ℕ, zero, suc, ◌+◌, ◌*◌, ◌/◌, ◌%◌, ◌^◌, Bool, cond, eqb, List, [], ◌∷◌, reverse, length, map, flat_map, ◌≡◌, ◌<◌, ◌≤◌, ◌-◌, ◌++◌, take, drop}
+use Rattle.std.specs.Prelude.{ℕ, zero, suc, ◌+◌, ◌*◌, ◌/◌, ◌%◌, ◌^◌, Bool, List, [], ◌∷◌, reverse, length, map, flat_map, ◌≡◌, ◌<◌, ◌≤◌, ◌-◌, ◌++◌, take, drop, if◌then◌else◌, ◌==◌}
 use Rattle.deku_stream.specs.declared.ctx.Order.{Order}
 use Rattle.deku_stream.specs.declared.ctx.Order.TheVariants.{Msb0, Lsb0}
 
 -- the binary number of a list, first bit highest
 abbrev pub bin : List Bool → ℕ
 bin [] = 0
-bin (b ∷ s) = cond b 1 0 * 2 ^ length s + bin s
+bin (b ∷ s) = (if b then 1 else 0) * 2 ^ length s + bin s
 
 -- the n lowest bits of a number, highest first
 unfoldable pub bits_of : ℕ → ℕ → List Bool
 bits_of zero v = []
-bits_of (suc n) v = eqb (v / 2 ^ n % 2) 1 ∷ bits_of n v
+bits_of (suc n) v = (v / 2 ^ n % 2 == 1) ∷ bits_of n v
 
 -- the eight bits of a byte, highest first
 unfoldable pub byte_bits : ℕ → List Bool
@@ -56,7 +56,7 @@ word_of o s = little (map (group_number o) (chunks s))
 -- what a read shows of the list that it took: in `Lsb0` whole bytes are reversed each by itself, and any other list as one; shown twice, it is itself
 unfoldable pub shown : Order → List Bool → List Bool
 shown Msb0 s = s
-shown Lsb0 s = cond (eqb (length s % 8) 0) (flat_map reverse (chunks s)) (reverse s)
+shown Lsb0 s = if length s % 8 == 0 then flat_map reverse (chunks s) else reverse s
 
 -- The number of two parts of a group, from the numbers of both.
 abbrev pub JoinLaw : Type 0

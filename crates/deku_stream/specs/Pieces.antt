@@ -1,5 +1,5 @@
 -- Pieces: lists of bits, each in one order; when they are aligned, and the bytes that they lay out.
-use Rattle.std.specs.Prelude.{ℕ, zero, suc, ◌+◌, ◌-◌, ◌/◌, ◌%◌, ◌≡◌, ◌⊎◌, Bool, true, false, cond, List, [], ◌∷◌, ◌++◌, length, map, flat_map, take, replicate, ⊤}
+use Rattle.std.specs.Prelude.{ℕ, zero, suc, ◌+◌, ◌-◌, ◌/◌, ◌%◌, ◌≡◌, ◌⊎◌, Bool, true, false, List, [], ◌∷◌, ◌++◌, length, map, flat_map, take, replicate, ⊤, if◌then◌else◌}
 use Rattle.deku_stream.specs.declared.ctx.Order.{Order}
 use Rattle.deku_stream.specs.declared.ctx.Order.TheVariants.{Msb0, Lsb0}
 use Rattle.deku_stream.specs.Bits.{byte_bits, chunks, facing, group_number}
@@ -49,9 +49,9 @@ last_order o (f ∷ fs) = elim f.1 [ zero ↦ last_order o fs | suc w ↦ last_o
 abbrev pub in_front : Order → List Bool → List Piece → List Piece
 in_front o [] ps = ps
 in_front o s [] = piece o s ∷ []
-in_front o s (p ∷ ps) = cond (same_order o p.order)
-    (piece o (s ++ p.bits) ∷ ps)
-    (piece o s ∷ p ∷ ps)
+in_front o s (p ∷ ps) = if same_order o p.order
+    then piece o (s ++ p.bits) ∷ ps
+    else piece o s ∷ p ∷ ps
 
 -- the longest runs of one order, the bits of each joined
 abbrev pub runs : List Piece → List Piece

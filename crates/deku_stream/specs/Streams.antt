@@ -1,5 +1,5 @@
 -- Streams: a window of unread bits before the bytes that are still to come.
-use Rattle.std.specs.Prelude.{ℕ, ◌+◌, ◌*◌, ◌-◌, ◌/◌, ◌%◌, ◌<◌, ◌≤◌, ◌≡◌, min, Bool, cond, eqb, List, [], ◌∷◌, ◌++◌, length, take, drop, flat_map, All}
+use Rattle.std.specs.Prelude.{ℕ, ◌+◌, ◌*◌, ◌-◌, ◌/◌, ◌%◌, ◌<◌, ◌≤◌, ◌≡◌, min, Bool, List, [], ◌∷◌, ◌++◌, length, take, drop, flat_map, All, if◌then◌else◌, ◌==◌}
 use Rattle.deku_stream.specs.declared.ctx.Order.{Order}
 use Rattle.deku_stream.specs.Bits.{bin, byte_bits, facing, groups}
 
@@ -14,7 +14,7 @@ fresh bs = record { window = []; bytes = bs }
 
 -- a window of eight is put back as the first byte to come
 unfoldable pub normal : Stream → Stream
-normal S = cond (eqb (length S.window) 8) (fresh (bin S.window ∷ S.bytes)) S
+normal S = if length S.window == 8 then fresh (bin S.window ∷ S.bytes) else S
 
 -- what an `end` leaves: an empty window is filled with the next byte
 abbrev pub peeked : Stream → Stream

@@ -1,5 +1,5 @@
 -- Writing: the bits that wait for a byte, and what an append or the padding makes of them.
-use Rattle.std.specs.Prelude.{ℕ, ◌+◌, ◌-◌, ◌*◌, ◌/◌, ◌%◌, ◌<◌, ◌≡◌, min, Bool, cond, List, [], ◌∷◌, ◌++◌, length, map, take, drop, reverse}
+use Rattle.std.specs.Prelude.{ℕ, ◌+◌, ◌-◌, ◌*◌, ◌/◌, ◌%◌, ◌<◌, ◌≡◌, min, Bool, List, [], ◌∷◌, ◌++◌, length, map, take, drop, reverse, if◌then◌else◌}
 use Rattle.deku_stream.specs.declared.ctx.Order.{Order}
 use Rattle.deku_stream.specs.declared.ctx.Order.TheVariants.{Msb0, Lsb0}
 use Rattle.deku_stream.specs.Bits.{bin, chunks, group_number, facing, shown}
@@ -63,7 +63,7 @@ cross_append Msb0 bits L =
 unfoldable pub append : Order → List Bool → Pending → Written
 append o [] P = record { bytes = []; pending = P }
 append o bits Nothing = same_append o bits []
-append o bits (Held p L) = cond (same_order o p) (same_append o bits L) (cross_append o bits L)
+append o bits (Held p L) = if same_order o p then same_append o bits L else cross_append o bits L
 
 -- the byte of the padding: zeros after `Msb0` bits, above `Lsb0` bits, up to eight; none where nothing is pending
 unfoldable pub padded : Pending → List ℕ

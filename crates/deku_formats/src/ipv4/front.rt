@@ -1,6 +1,6 @@
 //! The header of an IPv4 packet without its options.
 
-ghost use Rattle.std.specs.Prelude.{refl, ◌-◌, ◌*◌, nat_lt, cond, Some, None};
+ghost use Rattle.std.specs.Prelude.{refl, ◌-◌, ◌*◌, nat_lt, Some, None, if◌then◌else◌};
 ghost use Rattle.deku.specs.Outcomes.{Mapped};
 
 use crate::ipv4::Version;
@@ -135,7 +135,7 @@ impl ToParts<()> for Front {
 /// Four bytes of options for each word beyond the fifth; a header of fewer than five words names no
 /// count.
 impl ItemCount for Front {
-    ghost count_of = { λ h. cond (nat_lt h.words 5) None (Some (4 * (h.words - 5))) };
+    ghost count_of = { λ h. if nat_lt h.words 5 then None else Some (4 * (h.words - 5)) };
 
     fn count(&self) -> Option<usize> {
         if self.words < 5 {

@@ -2,7 +2,7 @@
 
 #![tactic(auto, using(deku_device::proofs::Wholes::onward_same))]
 
-ghost use Rattle.std.specs.Prelude.{◌≡◌, ◌<◌, ◌≤◌, ◌+◌, ◌-◌, ◌/◌, ◌%◌, Bool, List, false, min, take, drop, get_or, ◌++◌, ◌∷◌, [], length, OnOk, IfErr};
+ghost use Rattle.std.specs.Prelude.{◌≡◌, ◌<◌, ◌≤◌, ◌+◌, ◌-◌, ◌/◌, ◌%◌, Bool, List, false, min, take, drop, slice_index_or, ◌++◌, ◌∷◌, [], length, OnOk, IfErr};
 ghost use Rattle.std.specs.IoError.{error_kind};
 ghost use Rattle.deku_stream.specs.declared.ctx.Order.TheVariants.{Msb0, Lsb0};
 ghost use Rattle.deku_writer.specs.declared.writer.way.Way.TheVariants.{BytesBackward};

@@ -1,6 +1,6 @@
 //! Ways through a list of bits.
 
-ghost use Rattle.std.specs.Prelude.{◌≡◌, ◌<◌, ◌+◌, ◌-◌, ◌*◌, ◌/◌, ◌%◌, Bool, List, false, get_or, length};
+ghost use Rattle.std.specs.Prelude.{◌≡◌, ◌<◌, ◌+◌, ◌-◌, ◌*◌, ◌/◌, ◌%◌, Bool, List, false, slice_index_or, length};
 ghost use Rattle.deku_stream.specs.Bits.{shown};
 ghost use Rattle.deku_writer.specs.Pushing.{along, IsFor};
 
@@ -44,7 +44,7 @@ impl Way {
         requires whole { IsFor self n }
         requires inside { at < n }
         ensures within { result < n }
-        ensures bit { (s : List Bool) → length s ≡ n → get_or s result false ≡ get_or (along self s)
+        ensures bit { (s : List Bool) → length s ≡ n → slice_index_or s result false ≡ slice_index_or (along self s)
             at false }
     {
         match self {
