@@ -62,10 +62,7 @@ pub trait DekuContainerRead: DekuReader<()> {
         let answer = read_behind::<Self, &mut R>(&mut reader, bits);
         let count = reader.bits_read();
         let _source = reader.into_inner();
-        match answer {
-            Ok(value) => Ok((count, value)),
-            Err(refusal) => Err(refusal),
-        }
+        Ok((count, answer?))
     }
 
     /// Leaves out so many bits of some bytes and reads a value behind them: the bytes from that of
@@ -107,10 +104,8 @@ fn read_behind<T: DekuReader<()>, R: Source>(
     ensures early { OnOk result (T.no_read_ahead tt → length (window_of reader.old.state) < 8
         → NoReadAhead R.known reader.old reader.new) }
 {
-    match reader.skip_bits(bits, Order::Msb0) {
-        Ok(()) => T::from_reader_with_ctx(reader, ()),
-        Err(refusal) => Err(refusal),
-    }
+    reader.skip_bits(bits, Order::Msb0)?;
+    T::from_reader_with_ctx(reader, ())
 }
 
 /// A type whose values are written as bytes or bits of their own, each by a writer of its own.
@@ -150,10 +145,8 @@ pub trait DekuContainerWrite: DekuWriter<()> {
         let mut cursor = Cursor::new(out);
         let written = write_whole(self, &mut cursor, ());
         let count = cursor.position() as usize;
-        match written {
-            Ok(()) => Ok(count),
-            Err(refusal) => Err(refusal),
-        }
+        written?;
+        Ok(count)
     }
 
     /// The bits of the value, with no padding: those of the bytes that it fills, each high bit
@@ -198,10 +191,8 @@ pub fn padded_bytes<Ctx, T: DekuWriter<Ctx>>(
     ensures { WritesOnce (Both (T.meaning value.now ctx) Finalizes) result }
 {
     let mut cursor = Cursor::new(Vec::new(alloc));
-    match write_whole(value, &mut cursor, ctx) {
-        Ok(()) => Ok(taken_bytes(cursor)),
-        Err(refusal) => Err(refusal),
-    }
+    write_whole(value, &mut cursor, ctx)?;
+    Ok(taken_bytes(cursor))
 }
 
 // Writes a value by a writer of its own, and fills the last byte with zeros.
@@ -228,10 +219,8 @@ fn write_padded<Ctx, T: DekuWriter<Ctx>, W: Sink>(
     ensures { Writes W.known (Both (T.meaning value.now ctx) Finalizes) writer.old result
         writer.new }
 {
-    match value.to_writer(writer, ctx) {
-        Ok(()) => writer.finalize(),
-        Err(refusal) => Err(refusal),
-    }
+    value.to_writer(writer, ctx)?;
+    writer.finalize()
 }
 
 /// The bytes before a cursor's place, as those that a writer gave to one over a vector: those

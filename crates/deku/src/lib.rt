@@ -10,8 +10,6 @@
 //! struct Head { halves: (u8, u8), number: u16 }
 //!
 //! impl DekuReader<()> for Head {
-//!     ghost accepts = { λ c. c ≡ c };
-//!     ghost prompt = { λ c. c ≡ c };
 //!     ghost meaning = { λ _. JoinedBy (λ a b. record { halves = a; number = b })
 //!         (⟦<(u8, u8) as DekuReader<(Endian, BitSize)>>⟧.meaning (Big, record { 0 = 4 })) (⟦<u16 as DekuReader<Endian>>⟧.meaning Big) };
 //!

@@ -55,10 +55,8 @@ fn look_and_read<R: Source>(
     ensures { Reads R.known (Then Ending (λ _. ReadsList fields.now)) reader.old (items_of result)
         reader.new }
 {
-    match reader.end() {
-        Ok(_at_end) => read_list(reader, fields),
-        Err(refusal) => Err(refusal),
-    }
+    let _at_end = reader.end()?;
+    read_list(reader, fields)
 }
 
 /// The bytes of items that are written in three calls, and padded once: they are what all these
@@ -95,13 +93,9 @@ pub fn write_in_three<W: Sink>(
         result writer.new }
 {
     write_calls_law();
-    match write_list(writer, first) {
-        Ok(()) => match write_list(writer, second) {
-            Ok(()) => write_list(writer, third),
-            Err(refusal) => Err(refusal),
-        },
-        Err(refusal) => Err(refusal),
-    }
+    write_list(writer, first)?;
+    write_list(writer, second)?;
+    write_list(writer, third)
 }
 
 /// Five values in fields of mixed orders, written in three calls and read in three: four bits and
@@ -132,16 +126,14 @@ pub fn five_in_three(
     let thirteen = low(Kind::U16, Size::Bits(13), Number::Unsigned(span as u128));
     let three = low(Kind::U8, Size::Bits(3), Number::Unsigned(flags as u128));
     let last = high(Kind::I16, Size::Whole, signed(heat));
-    match bytes_in_three(alloc, &[four, next], &[thirteen, three], &[last]) {
-        Ok(bytes) => read_in_three(
-            alloc,
-            bytes.as_slice(),
-            &[four.field, next.field],
-            &[thirteen.field, three.field],
-            &[last.field],
-        ),
-        Err(refusal) => Err(refusal),
-    }
+    let bytes = bytes_in_three(alloc, &[four, next], &[thirteen, three], &[last])?;
+    read_in_three(
+        alloc,
+        bytes.as_slice(),
+        &[four.field, next.field],
+        &[thirteen.field, three.field],
+        &[last.field],
+    )
 }
 
 #[cfg(test)]

@@ -24,17 +24,13 @@ pub fn there_and_back(alloc: Global, numbers: &Vec<u16>) -> Result<Vec<u16>, Dek
 {
     counted_law::<Endian, u16>();
     length_law();
-    match padded_bytes(numbers, alloc, Endian::Big) {
-        Ok(bytes) => match read_whole::<(Limit<u16, Never>, Endian), Vec<u16>>(
-            alloc,
-            bytes.as_slice(),
-            (Limit::new_count(numbers.len()), Endian::Big),
-        ) {
-            Ok((_bits, read)) => Ok(read),
-            Err(refusal) => Err(refusal),
-        },
-        Err(refusal) => Err(refusal),
-    }
+    let bytes = padded_bytes(numbers, alloc, Endian::Big)?;
+    let (_bits, read) = read_whole::<(Limit<u16, Never>, Endian), Vec<u16>>(
+        alloc,
+        bytes.as_slice(),
+        (Limit::new_count(numbers.len()), Endian::Big),
+    )?;
+    Ok(read)
 }
 
 /// A byte that counts numbers, and behind it these as bytes, the high byte of each first.
@@ -52,10 +48,8 @@ pub fn record_of(alloc: Global, numbers: &Vec<u16>) -> Result<Vec<u8>, DekuError
 {
     counted_law::<Endian, u16>();
     length_law();
-    match padded_bytes(numbers, alloc, Endian::Big) {
-        Ok(bytes) => behind(alloc, numbers.len() as u8, bytes.as_slice()),
-        Err(refusal) => Err(refusal),
-    }
+    let bytes = padded_bytes(numbers, alloc, Endian::Big)?;
+    behind(alloc, numbers.len() as u8, bytes.as_slice())
 }
 
 // A byte, and others behind it.
@@ -85,14 +79,12 @@ pub fn numbers_of(alloc: Global, bytes: &[u8]) -> Result<Vec<u16>, DekuError>
         return Err(DekuError::Incomplete(NeedSize::new(8)));
     };
     let count = first[0] as usize;
-    match read_whole::<(Limit<u16, Never>, Endian), Vec<u16>>(
+    let (_bits, numbers) = read_whole::<(Limit<u16, Never>, Endian), Vec<u16>>(
         alloc,
         rest,
         (Limit::new_count(count), Endian::Big),
-    ) {
-        Ok((_bits, numbers)) => Ok(numbers),
-        Err(refusal) => Err(refusal),
-    }
+    )?;
+    Ok(numbers)
 }
 
 /// Numbers as the record of them, and read from this: they are the same numbers, or no memory was
@@ -103,10 +95,8 @@ pub fn record_there_and_back(alloc: Global, numbers: &Vec<u16>) -> Result<Vec<u1
     requires { length numbers.now.items < 256 }
     ensures { MatchResult result (λ v. v.items ≡ numbers.now.items) (λ e. e ≡ Io OutOfMemory) }
 {
-    match record_of(alloc, numbers) {
-        Ok(record) => numbers_of(alloc, record.as_slice()),
-        Err(refusal) => Err(refusal),
-    }
+    let record = record_of(alloc, numbers)?;
+    numbers_of(alloc, record.as_slice())
 }
 
 #[cfg(test)]

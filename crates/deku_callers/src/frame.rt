@@ -21,16 +21,10 @@ pub fn pair_there_and_back(alloc: Global, left: u8, right: u16) -> Result<Frame,
 {
     write_law();
     read_law();
-    match Frame::pair(left, right) {
-        Ok(frame) => match frame.to_bytes(alloc) {
-            Ok(bytes) => match Frame::from_bytes(alloc, (bytes.as_slice(), 0)) {
-                Ok((_rest, read)) => Ok(read),
-                Err(refusal) => Err(refusal),
-            },
-            Err(refusal) => Err(refusal),
-        },
-        Err(refusal) => Err(refusal),
-    }
+    let frame = Frame::pair(left, right)?;
+    let bytes = frame.to_bytes(alloc)?;
+    let (_rest, read) = Frame::from_bytes(alloc, (bytes.as_slice(), 0))?;
+    Ok(read)
 }
 
 /// The frame that is read from any bytes, as bytes again: the bytes begin with them.
@@ -46,10 +40,8 @@ pub fn rewritten(alloc: Global, bytes: &[u8]) -> Result<Vec<u8>, DekuError>
 {
     write_law();
     rewrite_law();
-    match Frame::from_bytes(alloc, (bytes, 0)) {
-        Ok((_rest, frame)) => frame.to_bytes(alloc),
-        Err(refusal) => Err(refusal),
-    }
+    let (_rest, frame) = Frame::from_bytes(alloc, (bytes, 0))?;
+    frame.to_bytes(alloc)
 }
 
 #[cfg(test)]

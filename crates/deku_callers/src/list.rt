@@ -33,13 +33,9 @@ pub fn there_and_back(alloc: Global, items: &[Item]) -> Result<(usize, Vec<Numbe
 {
     layout_law();
     length_law();
-    match fields_of(alloc, items) {
-        Ok(fields) => match list_to_bytes(alloc, items) {
-            Ok(bytes) => list_from_bytes(alloc, bytes.as_slice(), fields.as_slice()),
-            Err(refusal) => Err(refusal),
-        },
-        Err(refusal) => Err(refusal),
-    }
+    let fields = fields_of(alloc, items)?;
+    let bytes = list_to_bytes(alloc, items)?;
+    list_from_bytes(alloc, bytes.as_slice(), fields.as_slice())
 }
 
 // The field of each item.
@@ -153,13 +149,9 @@ pub fn rewritten(alloc: Global, bytes: &[u8], fields: &[Field]) -> Result<Vec<u8
 {
     layout_law();
     back_law();
-    match list_from_bytes(alloc, bytes, fields) {
-        Ok((_bits, values)) => match items_of(alloc, fields, values.as_slice()) {
-            Ok(items) => list_to_bytes(alloc, items.as_slice()),
-            Err(refusal) => Err(refusal),
-        },
-        Err(refusal) => Err(refusal),
-    }
+    let (_bits, values) = list_from_bytes(alloc, bytes, fields)?;
+    let items = items_of(alloc, fields, values.as_slice())?;
+    list_to_bytes(alloc, items.as_slice())
 }
 
 // An item of each field and its value.

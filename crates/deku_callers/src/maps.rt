@@ -37,17 +37,13 @@ pub fn value_at(
 {
     counted_law::<Endian, (u8, u16)>();
     length_law();
-    match padded_bytes(&[first, second, third], alloc, Endian::Big) {
-        Ok(bytes) => match read_whole::<(Limit<(u8, u16), Never>, Endian), Map>(
-            alloc,
-            bytes.as_slice(),
-            (Limit::new_count(3), Endian::Big),
-        ) {
-            Ok((_bits, map)) => Ok(map.get(&key).copied()),
-            Err(refusal) => Err(refusal),
-        },
-        Err(refusal) => Err(refusal),
-    }
+    let bytes = padded_bytes(&[first, second, third], alloc, Endian::Big)?;
+    let (_bits, map) = read_whole::<(Limit<(u8, u16), Never>, Endian), Map>(
+        alloc,
+        bytes.as_slice(),
+        (Limit::new_count(3), Endian::Big),
+    )?;
+    Ok(map.get(&key).copied())
 }
 
 /// A key with two values, and a pair between them, as bytes and read as a map: at the key it has
@@ -76,17 +72,13 @@ pub fn kept_once(alloc: Global, items: &Vec<u8>, byte: u8) -> Result<(bool, usiz
 {
     counted_law::<Endian, u8>();
     length_law();
-    match padded_bytes(items, alloc, Endian::Big) {
-        Ok(bytes) => match read_whole::<(Limit<u8, Never>, Endian), Set>(
-            alloc,
-            bytes.as_slice(),
-            (Limit::new_count(items.len()), Endian::Big),
-        ) {
-            Ok((_bits, set)) => Ok((set.contains(&byte), set.len())),
-            Err(refusal) => Err(refusal),
-        },
-        Err(refusal) => Err(refusal),
-    }
+    let bytes = padded_bytes(items, alloc, Endian::Big)?;
+    let (_bits, set) = read_whole::<(Limit<u8, Never>, Endian), Set>(
+        alloc,
+        bytes.as_slice(),
+        (Limit::new_count(items.len()), Endian::Big),
+    )?;
+    Ok((set.contains(&byte), set.len()))
 }
 
 #[cfg(test)]

@@ -22,13 +22,9 @@ pub fn there_and_back(alloc: Global, header: Udp) -> Result<Udp, DekuError>
     to_bytes_law::<Udp>();
     from_bytes_law::<Udp>();
     length_law();
-    match header.to_bytes(alloc) {
-        Ok(bytes) => match Udp::from_bytes(alloc, (bytes.as_slice(), 0)) {
-            Ok((_rest, read)) => Ok(read),
-            Err(refusal) => Err(refusal),
-        },
-        Err(refusal) => Err(refusal),
-    }
+    let bytes = header.to_bytes(alloc)?;
+    let (_rest, read) = Udp::from_bytes(alloc, (bytes.as_slice(), 0))?;
+    Ok(read)
 }
 
 /// The header that is read from any bytes, as bytes again: they are the first eight of those.
@@ -46,10 +42,8 @@ pub fn rewritten(alloc: Global, bytes: &[u8]) -> Result<Vec<u8>, DekuError>
     from_bytes_law::<Udp>();
     length_law();
     whole_bytes_law();
-    match Udp::from_bytes(alloc, (bytes, 0)) {
-        Ok((_rest, header)) => header.to_bytes(alloc),
-        Err(refusal) => Err(refusal),
-    }
+    let (_rest, header) = Udp::from_bytes(alloc, (bytes, 0))?;
+    header.to_bytes(alloc)
 }
 
 #[cfg(test)]

@@ -71,10 +71,8 @@ impl Frame {
         ensures err { IfErr result (λ e. (2 ^ 8 ≤ count payload.items)
             × Tells Parse (codes "error parsing int") e) }
     {
-        match length_of(payload.as_slice()) {
-            Ok(length) => Ok(Frame::Data { length, payload }),
-            Err(refusal) => Err(refusal),
-        }
+        let length = length_of(payload.as_slice())?;
+        Ok(Frame::Data { length, payload })
     }
 
     /// A frame of two numbers. A left one from 32 on, or a right one from 2048 on, is refused with
@@ -192,14 +190,14 @@ fn write_body<W: Sink>(frame: &Frame, writer: &mut Writer<W>) -> Result<(), Deku
 {
     match frame {
         Frame::Ping { token } => token.to_writer(writer, Big),
-        Frame::Data { length, payload } => match length.to_writer(writer, Big) {
-            Ok(()) => payload.to_writer(writer, Big),
-            Err(refusal) => Err(refusal),
-        },
-        Frame::Pair { left, right } => match left.to_writer(writer, (Big, BitSize(5))) {
-            Ok(()) => right.to_writer(writer, (Big, BitSize(11))),
-            Err(refusal) => Err(refusal),
-        },
+        Frame::Data { length, payload } => {
+            length.to_writer(writer, Big)?;
+            payload.to_writer(writer, Big)
+        }
+        Frame::Pair { left, right } => {
+            left.to_writer(writer, (Big, BitSize(5)))?;
+            right.to_writer(writer, (Big, BitSize(11)))
+        }
     }
 }
 
@@ -215,10 +213,8 @@ impl DekuReader<()> for Frame {
         reader: &mut Reader<R>,
         _ctx: (),
     ) -> Result<Self, DekuError> {
-        match <(u8, u8)>::from_reader_with_ctx(reader, (Big, BitSize(4))) {
-            Ok((id, version)) => read_body(reader, id, version),
-            Err(refusal) => Err(refusal),
-        }
+        let (id, version) = <(u8, u8)>::from_reader_with_ctx(reader, (Big, BitSize(4)))?;
+        read_body(reader, id, version)
     }
 }
 
@@ -234,10 +230,8 @@ impl DekuWriter<()> for Frame {
         if !in_step(self) {
             return Err(DekuError::Assertion("Field failed assertion"));
         }
-        match (self.id(), 1u8).to_writer(writer, (Big, BitSize(4))) {
-            Ok(()) => write_body(self, writer),
-            Err(refusal) => Err(refusal),
-        }
+        (self.id(), 1u8).to_writer(writer, (Big, BitSize(4)))?;
+        write_body(self, writer)
     }
 }
 

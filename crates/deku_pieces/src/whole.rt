@@ -23,8 +23,6 @@ pub fn read_whole<Ctx, T: DekuReader<Ctx>>(
     ensures { Unpacks (T.meaning ctx) bytes.now result }
 {
     let mut reader = Reader::new(alloc, Cursor::new(bytes));
-    match T::from_reader_with_ctx(&mut reader, ctx) {
-        Ok(value) => Ok((reader.bits_read(), value)),
-        Err(refusal) => Err(refusal),
-    }
+    let value = T::from_reader_with_ctx(&mut reader, ctx)?;
+    Ok((reader.bits_read(), value))
 }

@@ -112,12 +112,10 @@ fn read_byte<R: Source>(reader: &mut Reader<R>, bytes: &mut Vec<u8>) -> Result<u
     ensures put { IfOk result (λ b. bytes.new.items ≡ bytes.old.items ++ b ∷ []) }
     ensures early { OnOk result (NoReadAhead R.known reader.old reader.new) }
 {
-    match u8::from_reader_with_ctx(reader, ()) {
-        Ok(byte) => match bytes.push(byte) {
-            Ok(()) => Ok(byte),
-            Err(_) => Err(DekuError::Io(ErrorKind::OutOfMemory)),
-        },
-        Err(refusal) => Err(refusal),
+    let byte = u8::from_reader_with_ctx(reader, ())?;
+    match bytes.push(byte) {
+        Ok(()) => Ok(byte),
+        Err(_) => Err(DekuError::Io(ErrorKind::OutOfMemory)),
     }
 }
 
@@ -129,13 +127,9 @@ fn read_to_zero<R: Source>(reader: &mut Reader<R>) -> Result<Vec<u8>, DekuError>
 {
     let mut bytes = Vec::new(reader.alloc());
     loop {
-        match read_byte(reader, &mut bytes) {
-            Ok(byte) => {
-                if byte == 0 {
-                    return Ok(bytes);
-                }
-            }
-            Err(refusal) => return Err(refusal),
+        let byte = read_byte(reader, &mut bytes)?;
+        if byte == 0 {
+            return Ok(bytes);
         }
     }
 }
@@ -149,10 +143,7 @@ fn read_count<R: Source>(reader: &mut Reader<R>, count: usize) -> Result<Vec<u8>
 {
     let mut bytes = Vec::new(reader.alloc());
     for _ in 0..count {
-        match read_byte(reader, &mut bytes) {
-            Ok(_) => {}
-            Err(refusal) => return Err(refusal),
-        }
+        let _byte = read_byte(reader, &mut bytes)?;
     }
     Ok(bytes)
 }
@@ -183,10 +174,8 @@ impl DekuReader<()> for CString {
     ghost meaning = { λ _. ReadsTerminated };
 
     fn from_reader_with_ctx<R: Source>(reader: &mut Reader<R>, ctx: ()) -> Result<Self, DekuError> {
-        match read_to_zero(reader) {
-            Ok(bytes) => unended(bytes),
-            Err(refusal) => Err(refusal),
-        }
+        let bytes = read_to_zero(reader)?;
+        unended(bytes)
     }
 }
 
@@ -206,10 +195,8 @@ impl DekuReader<ByteSize> for CString {
         reader: &mut Reader<R>,
         ctx: ByteSize,
     ) -> Result<Self, DekuError> {
-        match read_count(reader, ctx.0) {
-            Ok(bytes) => unended(bytes),
-            Err(refusal) => Err(refusal),
-        }
+        let bytes = read_count(reader, ctx.0)?;
+        unended(bytes)
     }
 }
 
@@ -227,9 +214,7 @@ impl<C: NumberCtx> DekuWriter<C> for CString {
         text) (WritesNumber byte (C.layout_of c) (pos 0)) };
 
     fn to_writer<W: Sink>(&self, writer: &mut Writer<W>, ctx: C) -> Result<(), DekuError> {
-        match self.as_bytes().to_writer(writer, ctx) {
-            Ok(()) => 0u8.to_writer(writer, ctx),
-            Err(refusal) => Err(refusal),
-        }
+        self.as_bytes().to_writer(writer, ctx)?;
+        0u8.to_writer(writer, ctx)
     }
 }

@@ -3,13 +3,13 @@ use Rattle.deku_bits.proofs.Handing.{unbroken}
 use Rattle.deku.proofs.Containers.{starts_empty, padded_from, refused_from, taken_before, items_in, steady, tells}
 use Rattle.deku.proofs.container.padded_bytes.Goals as goal
 
-pub returns-in-Ok : goal.returns-in-Ok
-returns-in-Ok g c =
+pub returns : goal.returns
+returns g c =
     let begin = starts_empty _ _ (steady None) _ c.new-cursor.ensures.position (ap items_in c.new-cursor.ensures.inner ∙ c.new.ensures.items) refl in
-    let w = padded_from (g.T.DekuWriter.meaning c.args.value.now c.args.ctx) _ _ (tells c.write_whole.new.sink) c.in-Ok.ensures.0 begin (unbroken refl refl c.in-Ok.ensures.1) in
+    let w = padded_from (g.T.DekuWriter.meaning c.args.value.now c.args.ctx) _ _ (tells c.write_whole.new.sink) c.in_ok-write_whole.ensures.0 begin (unbroken refl refl c.in_ok-write_whole.ensures.1) in
     (w.0, w.1, w.2, taken_before _ _ _ _ w.3 c.taken_bytes.ensures)
 
-pub returns-in-Err : goal.returns-in-Err
-returns-in-Err g c =
+pub returns-in_err-write_whole : goal.returns-in_err-write_whole
+returns-in_err-write_whole g c =
     let begin = starts_empty _ _ (steady None) _ c.new-cursor.ensures.position (ap items_in c.new-cursor.ensures.inner ∙ c.new.ensures.items) refl in
-    refused_from (g.T.DekuWriter.meaning c.args.value.now c.args.ctx) _ _ c.in-Err.refusal _ begin (unbroken refl refl c.in-Err.ensures.1)
+    refused_from (g.T.DekuWriter.meaning c.args.value.now c.args.ctx) _ _ c.in_err-write_whole.refusal _ begin (unbroken refl refl c.in_err-write_whole.ensures.1)

@@ -1,8 +1,8 @@
 use Rattle.deku_meanings.proofs.Joining.{first_refused, then_on}
 use Rattle.deku.proofs.container.write_padded.Goals as goal
 
-pub returns-in-Ok : goal.returns-in-Ok
-returns-in-Ok g c = then_on c.in-Ok.ensures c.finalize.ensures.writes
+pub returns : goal.returns
+returns g c = then_on c.in_ok-to_writer.ensures c.finalize.ensures.writes
 
-pub returns-in-Err : goal.returns-in-Err
-returns-in-Err g c = first_refused c.in-Err.ensures
+pub returns-in_err-to_writer : goal.returns-in_err-to_writer
+returns-in_err-to_writer g c = first_refused c.in_err-to_writer.ensures

@@ -4,18 +4,18 @@ use Rattle.deku_bits.proofs.Handing.{unbroken, name_stays}
 use Rattle.deku.proofs.Containers.{starts_over, padded_from, refused_over, steady, tells_over}
 use Rattle.deku.proofs.container.DekuContainerWrite.to_slice.Goals as goal
 
-pub returns-in-Ok : goal.returns-in-Ok
-returns-in-Ok g c =
+pub returns : goal.returns
+returns g c =
     let begin = starts_over _ _ c.args.out.now (tells_over c.new-cursor.result).health _ c.new-cursor.ensures.position (ap (λ r. r.now) c.new-cursor.ensures.inner) refl in
-    let w = padded_from (g.Self.DekuWriter.meaning c.args.self.now tt) _ _ (tells_over c.write_whole-written.new.sink) c.in-Ok.ensures.0 begin (unbroken refl refl c.in-Ok.ensures.1) in
-    let same = name_stays (steady (slice_whole c.new-cursor.result)) (steady (slice_whole c.write_whole-written.new.sink)) _ _ c.in-Ok.ensures.1 in
+    let w = padded_from (g.Self.DekuWriter.meaning c.args.self.now tt) _ _ (tells_over c.write_whole-written.new.sink) c.in_ok-written.ensures.0 begin (unbroken refl refl c.in_ok-written.ensures.1) in
+    let same = name_stays (steady (slice_whole c.new-cursor.result)) (steady (slice_whole c.write_whole-written.new.sink)) _ _ c.in_ok-written.ensures.1 in
     let tie = c.out-1.given.1.1 (search (rules, same)) in
     rw (tie, c.position-count.ensures) w
 
-pub returns-in-Err : goal.returns-in-Err
-returns-in-Err g c =
+pub returns-in_err-written : goal.returns-in_err-written
+returns-in_err-written g c =
     let begin = starts_over _ _ c.args.out.now (tells_over c.new-cursor.result).health _ c.new-cursor.ensures.position (ap (λ r. r.now) c.new-cursor.ensures.inner) refl in
-    let w = refused_over (g.Self.DekuWriter.meaning c.args.self.now tt) _ c.args.out.now c.in-Err.refusal c.write_whole-written.new.sink _ begin (unbroken refl refl c.in-Err.ensures.1) in
-    let same = name_stays (steady (slice_whole c.new-cursor.result)) (steady (slice_whole c.write_whole-written.new.sink)) _ _ c.in-Err.ensures.1 in
+    let w = refused_over (g.Self.DekuWriter.meaning c.args.self.now tt) _ c.args.out.now c.in_err-written.refusal c.write_whole-written.new.sink _ begin (unbroken refl refl c.in_err-written.ensures.1) in
+    let same = name_stays (steady (slice_whole c.new-cursor.result)) (steady (slice_whole c.write_whole-written.new.sink)) _ _ c.in_err-written.ensures.1 in
     let tie = c.out-1.given.1.1 (search (rules, same)) in
     rw tie w

@@ -7,18 +7,18 @@ use Rattle.deku.proofs.impls.cstring.read_to_zero.Goals as goal
 pub returns-then-byte-eq0-clause-reads : goal.returns-then-byte-eq0-clause-reads
 returns-then-byte-eq0-clause-reads g c =
     let old = c.loop-byte.bytes.items in
-    rw c.in-Ok.ensures.put (run_ended (one_more (c.loop-byte.invariant.far.1) c.in-Ok.ensures.reads) (old, (c.loop-byte.invariant.far.0, ap (λ b. old ++ b ∷ []) c.if-byte-eq0.true)))
+    rw c.in_ok-byte.ensures.put (run_ended (one_more (c.loop-byte.invariant.far.1) c.in_ok-byte.ensures.reads) (old, (c.loop-byte.invariant.far.0, ap (λ b. old ++ b ∷ []) c.if-byte-eq0.true)))
 
 pub loop-byte-preserved : goal.loop-byte-preserved
 loop-byte-preserved g c =
     let old = c.loop-byte.bytes.items in
     record {
-      far = rw c.in-Ok.ensures.put (All-push (λ b. b ≢ 0) old c.in-Ok.byte (c.loop-byte.invariant.far.0) c.if-byte-eq0.false, one_more (c.loop-byte.invariant.far.1) c.in-Ok.ensures.reads);
-      early = promptly_on c.loop-byte.invariant.early c.in-Ok.ensures.early;
+      far = rw c.in_ok-byte.ensures.put (All-push (λ b. b ≢ 0) old c.in_ok-byte.byte (c.loop-byte.invariant.far.0) c.if-byte-eq0.false, one_more (c.loop-byte.invariant.far.1) c.in_ok-byte.ensures.reads);
+      early = promptly_on c.loop-byte.invariant.early c.in_ok-byte.ensures.early;
     }
 
-pub returns-in-Err-clause-reads : goal.returns-in-Err-clause-reads
-returns-in-Err-clause-reads g c = run_refused (c.loop-byte.invariant.far.1) (c.loop-byte.invariant.far.0) c.in-Err.ensures.reads
+pub returns-in_err-byte-clause-reads : goal.returns-in_err-byte-clause-reads
+returns-in_err-byte-clause-reads g c = run_refused (c.loop-byte.invariant.far.1) (c.loop-byte.invariant.far.0) c.in_err-byte.ensures.reads
 
 pub returns-then-byte-eq0-clause-early : goal.returns-then-byte-eq0-clause-early
-returns-then-byte-eq0-clause-early g c = promptly_on c.loop-byte.invariant.early c.in-Ok.ensures.early
+returns-then-byte-eq0-clause-early g c = promptly_on c.loop-byte.invariant.early c.in_ok-byte.ensures.early

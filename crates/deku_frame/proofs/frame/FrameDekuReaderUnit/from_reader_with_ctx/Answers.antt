@@ -1,8 +1,8 @@
 use Rattle.deku.proofs.Joining.{first_refused, then_on}
 use Rattle.deku_frame.proofs.frame.FrameDekuReaderUnit.from_reader_with_ctx.Goals as goal
 
-pub returns-in-Ok-clause-reads : goal.returns-in-Ok-clause-reads
-returns-in-Ok-clause-reads g c = then_on c.in-Ok.ensures.reads c.read_body.ensures.reads
+pub returns-clause-reads : goal.returns-clause-reads
+returns-clause-reads g c = then_on c.in_ok-id.ensures.reads c.read_body.ensures.reads
 
-pub returns-in-Err-clause-reads : goal.returns-in-Err-clause-reads
-returns-in-Err-clause-reads g c = first_refused c.in-Err.ensures.reads
+pub returns-in_err-id-clause-reads : goal.returns-in_err-id-clause-reads
+returns-in_err-id-clause-reads g c = first_refused c.in_err-id.ensures.reads

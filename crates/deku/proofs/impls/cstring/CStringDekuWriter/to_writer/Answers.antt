@@ -1,8 +1,8 @@
 use Rattle.deku_meanings.proofs.Joining.{first_refused, then_on}
 use Rattle.deku.proofs.impls.cstring.CStringDekuWriter.to_writer.Goals as goal
 
-pub returns-in-Ok : goal.returns-in-Ok
-returns-in-Ok g c = then_on (rw c.as_bytes.ensures.value at c.in-Ok.ensures) c.to_writer-in-Ok.ensures
+pub returns : goal.returns
+returns g c = then_on (rw c.as_bytes.ensures.value at c.in_ok-to_writer.ensures) c.to_writer.ensures
 
-pub returns-in-Err : goal.returns-in-Err
-returns-in-Err g c = first_refused (rw c.as_bytes.ensures.value at c.in-Err.ensures)
+pub returns-in_err-to_writer : goal.returns-in_err-to_writer
+returns-in_err-to_writer g c = first_refused (rw c.as_bytes.ensures.value at c.in_err-to_writer.ensures)
