@@ -99,8 +99,7 @@ pub(crate) fn high(kind: Kind, size: Size, value: Number) -> Item
     ensures { result ≡ record {
       field = record {
         kind = kind;
-        layout = record
-            { endian = Endian.Big; order = Order.Msb0; size = size };
+        layout = record { endian = Endian.Big; order = Order.Msb0; size = size };
       };
       value = value;
     } }
@@ -119,8 +118,7 @@ pub(crate) fn low(kind: Kind, size: Size, value: Number) -> Item
     ensures { result ≡ record {
       field = record {
         kind = kind;
-        layout = record
-            { endian = Endian.Little; order = Order.Lsb0; size = size };
+        layout = record { endian = Endian.Little; order = Order.Lsb0; size = size };
       };
       value = value;
     } }

@@ -99,8 +99,12 @@ impl DekuReader<()> for Low {
 }
 
 impl DekuWriter<()> for Low {
-    ghost meaning = { λ v _. WritesNumber byte (record
-        { endian = Little; order = Lsb0; size = Bits 3 }) (pos v.value) };
+    ghost meaning = { λ v _. WritesNumber byte (record {
+      endian = Little;
+      order = Lsb0;
+      size = Bits
+          3;
+    }) (pos v.value) };
 
     fn to_writer<W: Sink>(&self, writer: &mut Writer<W>, _ctx: ()) -> Result<(), DekuError> {
         self.value.to_writer(writer, (BitSize(3), Lsb0))

@@ -20,8 +20,8 @@ pub struct Sample {
 }
 
 impl DekuReader<()> for Sample {
-    ghost meaning = { λ _. JoinedBy (λ halves value. record
-        { sensor = halves.0; state = halves.1; value = value })
+    ghost meaning = { λ _. JoinedBy (λ halves value.
+        record { sensor = halves.0; state = halves.1; value = value })
         (⟦<(u8, u8) as DekuReader<(Endian, BitSize)>>⟧.meaning (Big, record { 0 = 4 }))
         (⟦<u16 as DekuReader<Endian>>⟧.meaning Big) };
 

@@ -69,22 +69,19 @@ impl FromParts<()> for Header {
         record { 0 = r.response },
         record { 0 = r.opcode },
         record { 0 = r.authoritative },
-        record
-            { 0 = r.truncated },
+        record { 0 = r.truncated },
       ),
       (
         record { 0 = r.recursion_desired },
         record { 0 = r.recursion_available },
-        record
-            { 0 = r.reserved },
+        record { 0 = r.reserved },
         record { 0 = r.response_code },
       ),
       (
         record { 0 = r.questions },
         record { 0 = r.answers },
         record { 0 = r.authorities },
-        record
-            { 0 = r.additionals },
+        record { 0 = r.additionals },
       ),
     ) };
 

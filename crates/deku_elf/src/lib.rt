@@ -176,8 +176,7 @@ impl FromParts<()> for Elf {
 
     ghost parts_of = { λ r. (
       record { part = record {}; constant = record {} },
-      record
-          { part = record {}; constant = record {} },
+      record { part = record {}; constant = record {} },
       tagged_of r,
     ) };
 

@@ -40,8 +40,7 @@ impl FromParts<()> for Udp {
     ghost parts_of = { λ r. (
       record { 0 = r.source },
       record { 0 = r.destination },
-      record
-          { 0 = r.length },
+      record { 0 = r.length },
       record { 0 = r.checksum },
     ) };
 

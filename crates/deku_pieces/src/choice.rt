@@ -214,7 +214,9 @@ impl<
 > DekuWriter<()> for Tagged<A, B, ID, N, LOW> {
     ghost accepts = { λ _. A.accepts tt × ((id : ℕ) → B.DekuWriter.accepts id) };
 
-    ghost meaning = { λ v _. WritesTagged (λ id. ⟦<u8 as DekuWriter<(Endian, BitSize, Order)>>⟧.meaning id (Big, record { 0 = N }, order_where LOW))
+    ghost meaning = { λ v _. WritesTagged (λ id.
+        ⟦<u8 as DekuWriter<(Endian, BitSize, Order)>>⟧.meaning id
+        (Big, record { 0 = N }, order_where LOW))
         B.HasId.id_of (λ a. A.meaning a tt) B.DekuWriter.meaning v };
 
     #[inline(always)]

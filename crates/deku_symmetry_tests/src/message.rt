@@ -44,8 +44,7 @@ impl FromParts<()> for Message {
       | first.This tone ↦ Tone tone.0
       | first.Other rest ↦ elim rest [
         | second.This place ↦ Move place.0.0 place.1.0
-        | second.Other
-            none ↦ Stop
+        | second.Other none ↦ Stop
       ]
     ] };
 

@@ -27,8 +27,7 @@ impl FromParts<()> for Sample {
     ghost parts_of = { λ s. (
       record { 0 = s.sensor },
       record { 0 = s.state },
-      record
-          { 0 = s.value },
+      record { 0 = s.value },
     ) };
 
     ghost record_of = { λ p. record { sensor = p.0.0; state = p.1.0; value = p.2.0 } };

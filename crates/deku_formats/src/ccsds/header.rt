@@ -44,8 +44,7 @@ impl FromParts<()> for Header {
         record { 0 = r.version },
         record { 0 = r.kind },
         record { 0 = r.secondary },
-        record
-            { 0 = r.application },
+        record { 0 = r.application },
       ),
       (record { 0 = r.grouping }, record { 0 = r.count }),
       record { 0 = r.length },

@@ -61,8 +61,7 @@ impl FromParts<()> for Front {
       (
         record { part = record {}; constant = record {} },
         record { 0 = r.words },
-        record
-            { 0 = r.service },
+        record { 0 = r.service },
         record { 0 = r.congestion },
         record { 0 = r.total_length },
       ),

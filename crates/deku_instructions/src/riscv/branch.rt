@@ -103,8 +103,7 @@ impl FromParts<()> for Branch {
       record { 0 = r.first },
       record { 0 = r.second },
       record { 0 = r.middle },
-      record
-          { 0 = r.sign },
+      record { 0 = r.sign },
     ) };
 
     ghost record_of = { λ p. record {

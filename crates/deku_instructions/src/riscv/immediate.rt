@@ -38,8 +38,7 @@ impl FromParts<()> for Immediate {
     ghost parts_of = { λ r. (
       record { 0 = r.target },
       record { 0 = r.function },
-      record
-          { 0 = r.base },
+      record { 0 = r.base },
       record { 0 = r.value },
     ) };
 

@@ -89,8 +89,7 @@ impl FromParts<()> for Jump {
     ghost parts_of = { λ r. (
       record { 0 = r.target },
       record { 0 = r.high },
-      record
-          { 0 = r.middle },
+      record { 0 = r.middle },
       record { 0 = r.low },
       record { 0 = r.sign },
     ) };

@@ -40,8 +40,7 @@ impl FromParts<()> for Register {
     ghost parts_of = { λ r. (
       record { 0 = r.target },
       record { 0 = r.function },
-      record
-          { 0 = r.first },
+      record { 0 = r.first },
       record { 0 = r.second },
       record { 0 = r.variant },
     ) };

@@ -44,7 +44,8 @@ impl Way {
         requires whole { IsFor self n }
         requires inside { at < n }
         ensures within { result < n }
-        ensures bit { (s : List Bool) → length s ≡ n → slice_index_or s result false ≡ slice_index_or (along self s)
+        ensures bit { (s : List Bool) → length s ≡ n
+            → slice_index_or s result false ≡ slice_index_or (along self s)
             at false }
     {
         match self {
