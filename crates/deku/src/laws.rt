@@ -64,7 +64,8 @@ pub fn joined_size_law<Ctx: Copy, A: DekuWriter<Ctx>, B: DekuWriter<Ctx>>()
 /// Items that are each written as exactly k bits are written, one after the other, as exactly as
 /// many times k bits as there are items. So are slices and arrays.
 pub fn items_size_law<Ctx: Copy, T: DekuWriter<Ctx>>()
-    ensures { (c : Ctx) (vs : List T) (k : ℕ) → All (λ v. IsSized k (T.meaning v c)) vs → IsSized (length vs * k) (WritesEach (λ v. T.meaning v c) vs) }
+    ensures { (c : Ctx) (vs : List T) (k : ℕ) → All (λ v. IsSized k (T.meaning v c)) vs
+        → IsSized (length vs * k) (WritesEach (λ v. T.meaning v c) vs) }
 {}
 
 /// Where `size_bits` of a number type or of `bool` answers n, each value of the type is written
@@ -88,7 +89,8 @@ pub fn number_extent_law()
         (λ v. ⟦<i16 as DekuWriter<()>>⟧.meaning v tt) }
     ensures of_i32 { NumbersKeepSize (signed 32) (λ v. v) ⟦<i32 as DekuSize>⟧.bits
         (λ v. ⟦<i32 as DekuWriter<()>>⟧.meaning v tt) }
-    ensures of_i64 { NumbersKeepSize (signed 64) (λ v. v) ⟦<i64 as DekuSize>⟧.bits (λ v. ⟦<i64 as DekuWriter<()>>⟧.meaning v tt) }
+    ensures of_i64 { NumbersKeepSize (signed 64) (λ v. v) ⟦<i64 as DekuSize>⟧.bits
+        (λ v. ⟦<i64 as DekuWriter<()>>⟧.meaning v tt) }
     ensures of_i128 { NumbersKeepSize (signed 128) (λ v. v) ⟦<i128 as DekuSize>⟧.bits
         (λ v. ⟦<i128 as DekuWriter<()>>⟧.meaning v tt) }
     ensures of_isize { NumbersKeepSize (signed 64) (λ v. v) ⟦<isize as DekuSize>⟧.bits
@@ -125,7 +127,8 @@ pub fn tuple_extent_law<
 >()
     ensures one { (a : A) → ⟦<A as Extent>⟧.keeps_size a
         → ⟦<(A,) as Extent>⟧.keeps_size (record { 0 = a }) }
-    ensures two { (v : A × B) → ⟦<A as Extent>⟧.keeps_size v.0 → ⟦<B as Extent>⟧.keeps_size v.1 → ⟦<(A, B) as Extent>⟧.keeps_size v }
+    ensures two { (v : A × B) → ⟦<A as Extent>⟧.keeps_size v.0 → ⟦<B as Extent>⟧.keeps_size v.1
+        → ⟦<(A, B) as Extent>⟧.keeps_size v }
     ensures three { (v : A × B × C) → ⟦<A as Extent>⟧.keeps_size v.0
         → ⟦<(B, C) as Extent>⟧.keeps_size (v.1, v.2) → ⟦<(A, B, C) as Extent>⟧.keeps_size v }
     ensures four { (v : A × B × C × D) → ⟦<A as Extent>⟧.keeps_size v.0
@@ -159,7 +162,8 @@ pub fn tuple_extent_law<
 /// Where `size_bits` of an array answers n, it is written under `()` as exactly n bits, if its
 /// items are each written as exactly the bits that their size answers.
 pub fn array_extent_law<T: DekuSize + DekuWriter<()>, const N: usize>()
-    ensures { (vs : List T) → length vs ≡ N → All (λ v. KeepsSize T.bits (T.meaning v tt)) vs → KeepsSize ⟦<[T; N] as DekuSize>⟧.bits (⟦<[T; N] as DekuWriter<()>>⟧.meaning vs tt) }
+    ensures { (vs : List T) → length vs ≡ N → All (λ v. KeepsSize T.bits (T.meaning v tt)) vs
+        → KeepsSize ⟦<[T; N] as DekuSize>⟧.bits (⟦<[T; N] as DekuWriter<()>>⟧.meaning vs tt) }
 {}
 
 /// A vector of whole numbers of any of the twelve types, whose values fit, written from a byte's
@@ -288,8 +292,7 @@ pub fn plain_cause_law<C: NumberCtx>()
         c) }
     ensures of_non_zero_u128 { (c : C) → OwnFaults NoKind (⟦<NonZeroU128 as DekuReader<C>>⟧.meaning
         c) }
-    ensures of_non_zero_usize { (c : C) → OwnFaults NoKind (⟦<NonZeroUsize as
-        DekuReader<C>>⟧.meaning c) }
+    ensures of_non_zero_usize { (c : C) → OwnFaults NoKind (⟦<NonZeroUsize as DekuReader<C>>⟧.meaning c) }
     ensures of_non_zero_i8 { (c : C) → OwnFaults NoKind (⟦<NonZeroI8 as DekuReader<C>>⟧.meaning c) }
     ensures of_non_zero_i16 { (c : C) → OwnFaults NoKind (⟦<NonZeroI16 as DekuReader<C>>⟧.meaning
         c) }
@@ -299,8 +302,7 @@ pub fn plain_cause_law<C: NumberCtx>()
         c) }
     ensures of_non_zero_i128 { (c : C) → OwnFaults NoKind (⟦<NonZeroI128 as DekuReader<C>>⟧.meaning
         c) }
-    ensures of_non_zero_isize { (c : C) → OwnFaults NoKind (⟦<NonZeroIsize as
-        DekuReader<C>>⟧.meaning c) }
+    ensures of_non_zero_isize { (c : C) → OwnFaults NoKind (⟦<NonZeroIsize as DekuReader<C>>⟧.meaning c) }
 {}
 
 /// A text, and bytes of an exact count, have no `Io` of their own but want of memory.

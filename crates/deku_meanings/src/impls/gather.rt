@@ -42,7 +42,9 @@ pub fn keep<B: Gather<T>, T: Drop>(
 ) -> Result<(), DekuError>
     ensures placed { OnOk result (B.puts collection.old item collection.new) }
     ensures kept { OnOk result ((ends ≡ true) ⊎ (before < after)) }
-    ensures err { IfErr result (λ e. ((ends ≡ false) × (after ≤ before) × Tells Parse (codes "item without width") e) ⊎ (((ends ≡ true) ⊎ (before < after)) × (e ≡ DekuError.Io ErrorKind.OutOfMemory))) }
+    ensures err { IfErr result (λ e. ((ends ≡ false) × (after ≤ before)
+        × Tells Parse (codes "item without width") e)
+        ⊎ (((ends ≡ true) ⊎ (before < after)) × (e ≡ DekuError.Io ErrorKind.OutOfMemory))) }
     ensures grows { IfErr result (λ e. e ≡ DekuError.Io ErrorKind.OutOfMemory
         → B.grows collection.old item) }
 {
