@@ -127,8 +127,8 @@ pub fn tuple_extent_law<
 >()
     ensures one { (a : A) → ⟦<A as Extent>⟧.keeps_size a
         → ⟦<(A,) as Extent>⟧.keeps_size (record { 0 = a }) }
-    ensures two { (v : A × B) → ⟦<A as Extent>⟧.keeps_size v.0 → ⟦<B as Extent>⟧.keeps_size v.1
-        → ⟦<(A, B) as Extent>⟧.keeps_size v }
+    ensures two { (v : A × B) → ⟦<A as Extent>⟧.keeps_size v.0
+        → ⟦<B as Extent>⟧.keeps_size v.1 → ⟦<(A, B) as Extent>⟧.keeps_size v }
     ensures three { (v : A × B × C) → ⟦<A as Extent>⟧.keeps_size v.0
         → ⟦<(B, C) as Extent>⟧.keeps_size (v.1, v.2) → ⟦<(A, B, C) as Extent>⟧.keeps_size v }
     ensures four { (v : A × B × C × D) → ⟦<A as Extent>⟧.keeps_size v.0

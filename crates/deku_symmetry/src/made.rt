@@ -31,7 +31,8 @@ impl ItemCountLaw for u8 {
 /// The pieces of the head, and then those of its items; items that are not as many as the head says
 /// have none.
 impl<H: ItemCountLaw, T: Symmetric<()>> Symmetric<()> for Counted<H, T> {
-    ghost pieces = { λ v _. OfCountedBy H.ItemCount.count_of (λ h. H.Symmetric.pieces h tt) (λ x. T.pieces x tt) v };
+    ghost pieces = { λ v _. OfCountedBy H.ItemCount.count_of (λ h. H.Symmetric.pieces h tt)
+        (λ x. T.pieces x tt) v };
 
     ghost same = { SameCountedBy H.Symmetric.same T.same };
 
