@@ -5,7 +5,7 @@ ghost use Rattle.std.specs.Io.Cursor.{cursor_position, cursor_inner};
 ghost use Rattle.std.specs.declared.io.ErrorKind.TheVariants.{OutOfMemory};
 ghost use Rattle.deku_bits.specs.declared.error.DekuError.TheVariants.{Io};
 ghost use Rattle.deku_bits.specs.Bits.{bits_in};
-ghost use Rattle.deku_bits.specs.ReaderCalls.{Reads, window_of};
+ghost use Rattle.deku_bits.specs.ReaderCalls.{Reads, unread_of};
 ghost use Rattle.deku_bits.specs.Writers.{Pending, Nothing};
 ghost use Rattle.deku_bits.specs.Standings.{Standing, Going};
 ghost use Rattle.deku_bits.specs.WriterCalls.{Writes, WritesAt, Finalizes};
@@ -101,7 +101,7 @@ fn read_behind<T: DekuReader<()>, R: Source>(
 ) -> Result<T, DekuError>
     requires { T.accepts tt }
     ensures reads { Reads R.known (Behind bits (T.meaning tt)) reader.old result reader.new }
-    ensures early { OnOk result (T.no_read_ahead tt → length (window_of reader.old.state) < 8
+    ensures early { OnOk result (T.no_read_ahead tt → length (unread_of reader.old) < 8
         → NoReadAhead R.known reader.old reader.new) }
 {
     reader.skip_bits(bits, Order::Msb0)?;

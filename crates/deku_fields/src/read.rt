@@ -4,8 +4,7 @@ ghost use Rattle.std.specs.Prelude.{◌≡◌, ◌≤◌, ◌*◌, [], false, Ok
 ghost use Rattle.std.specs.declared.io.ErrorKind.{ErrorKind as IoKind};
 ghost use Rattle.deku_bits.specs.declared.error.DekuError.TheVariants.{Io};
 ghost use Rattle.deku_bits.specs.Pieces.{total};
-ghost use Rattle.deku_bits.specs.Standings.{Untouched};
-ghost use Rattle.deku_bits.specs.ReaderCalls.{Reads, FetchesFor, NoneEarly, filling, items_of};
+ghost use Rattle.deku_bits.specs.ReaderCalls.{Reads, filling, items_of, source_of, Fetched, FetchedInTime, KeepsSourceStopped};
 ghost use Rattle.deku_bits.specs.Causes.{NoKind, WantsMemory, Caused};
 ghost use Rattle.deku_fields.specs.declared.list.Number.TheVariants.{Unsigned};
 ghost use Rattle.deku_fields.specs.Items.{number_type, field_shape, field_width, IsAllowedField};
@@ -50,13 +49,13 @@ pub fn read_list_into<R: Source>(
         reader.new }
     ensures behind { LeavesBehind R.known fields.now reader.old (filling result out.new)
         reader.new }
-    ensures fetched { OnOk result (FetchesFor (total (map field_shape fields.now)) reader.old.state
-        (R.known reader.old.source) (R.known reader.new.source)) }
-    ensures early { NoneEarly reader.old.state reader.new.state }
-    ensures stopped { Untouched reader.old.state reader.old.source reader.new.source }
+    ensures fetched { OnOk result (Fetched R.known (total (map field_shape fields.now)) reader.old
+        reader.new) }
+    ensures early { FetchedInTime reader.old reader.new }
+    ensures stopped { KeepsSourceStopped reader.old reader.new }
     ensures none { fields.now ≡ [] → reader.new ≡ reader.old }
-    ensures cause { Caused NoKind reader.old.state (R.known reader.old.source).health result
-        (R.known reader.new.source).health }
+    ensures cause { Caused NoKind reader.old.state (R.known (source_of reader.old)).health result
+        (R.known (source_of reader.new)).health }
 {
     for (place, field) in fields.iter().enumerate() {
         match read_field(reader, field) {
@@ -71,10 +70,9 @@ pub fn read_list_into<R: Source>(
 #[inline(always)]
 fn read_field<R: Source>(reader: &mut Reader<R>, field: &Field) -> Result<Number, DekuError>
     ensures reads { Reads R.known (ReadsField field.now) reader.old result reader.new }
-    ensures fetched { OnOk result (FetchesFor (field_width field.now) reader.old.state
-        (R.known reader.old.source) (R.known reader.new.source)) }
-    ensures early { NoneEarly reader.old.state reader.new.state }
-    ensures stopped { Untouched reader.old.state reader.old.source reader.new.source }
+    ensures fetched { OnOk result (Fetched R.known (field_width field.now) reader.old reader.new) }
+    ensures early { FetchedInTime reader.old reader.new }
+    ensures stopped { KeepsSourceStopped reader.old reader.new }
 {
     match plain_number(reader, field) {
         Some(number) => Ok(Number::Unsigned(number as u128)),
@@ -88,11 +86,11 @@ fn read_field<R: Source>(reader: &mut Reader<R>, field: &Field) -> Result<Number
 fn plain_number<R: Source>(reader: &mut Reader<R>, field: &Field) -> Option<u64>
     ensures reads { IfSome result (λ n. Reads R.known (ReadsField field.now) reader.old
         (Ok (Unsigned n)) reader.new) }
-    ensures fetched { IfSome result (λ n. FetchesFor (field_width field.now) reader.old.state
-        (R.known reader.old.source) (R.known reader.new.source)) }
-    ensures early { NoneEarly reader.old.state reader.new.state }
+    ensures fetched { IfSome result (λ n. Fetched R.known (field_width field.now) reader.old
+        reader.new) }
+    ensures early { FetchedInTime reader.old reader.new }
     ensures stays { IsNone result → reader.new ≡ reader.old }
-    ensures stopped { Untouched reader.old.state reader.old.source reader.new.source }
+    ensures stopped { KeepsSourceStopped reader.old reader.new }
 {
     let width = high_width(field)?;
     let number = reader.try_read_msb(width)?;
@@ -103,10 +101,9 @@ fn plain_number<R: Source>(reader: &mut Reader<R>, field: &Field) -> Option<u64>
 #[inline(always)]
 fn read_checked<R: Source>(reader: &mut Reader<R>, field: &Field) -> Result<Number, DekuError>
     ensures reads { Reads R.known (ReadsField field.now) reader.old result reader.new }
-    ensures fetched { OnOk result (FetchesFor (field_width field.now) reader.old.state
-        (R.known reader.old.source) (R.known reader.new.source)) }
-    ensures early { NoneEarly reader.old.state reader.new.state }
-    ensures stopped { Untouched reader.old.state reader.old.source reader.new.source }
+    ensures fetched { OnOk result (Fetched R.known (field_width field.now) reader.old reader.new) }
+    ensures early { FetchedInTime reader.old reader.new }
+    ensures stopped { KeepsSourceStopped reader.old reader.new }
 {
     let number_type = field.kind.number_type();
     if number_type.signed {
@@ -136,13 +133,13 @@ pub fn read_list<R: Source>(
     ensures found { ReadsWhereTold R.known (FindsAny fields.now) reader.old (items_of result)
         reader.new }
     ensures behind { LeavesBehind R.known fields.now reader.old (items_of result) reader.new }
-    ensures fetched { OnOk result (FetchesFor (total (map field_shape fields.now)) reader.old.state
-        (R.known reader.old.source) (R.known reader.new.source)) }
-    ensures early { NoneEarly reader.old.state reader.new.state }
-    ensures stopped { Untouched reader.old.state reader.old.source reader.new.source }
+    ensures fetched { OnOk result (Fetched R.known (total (map field_shape fields.now)) reader.old
+        reader.new) }
+    ensures early { FetchedInTime reader.old reader.new }
+    ensures stopped { KeepsSourceStopped reader.old reader.new }
     ensures none { fields.now ≡ [] → reader.new ≡ reader.old }
-    ensures cause { Caused WantsMemory reader.old.state (R.known reader.old.source).health result
-        (R.known reader.new.source).health }
+    ensures cause { Caused WantsMemory reader.old.state (R.known (source_of reader.old)).health
+        result (R.known (source_of reader.new)).health }
 {
     let Ok(mut numbers) = vec![in reader.alloc(); Number::Unsigned(0); fields.len()] else {
         return Err(DekuError::Io(ErrorKind::OutOfMemory));

@@ -4,8 +4,7 @@ ghost use Rattle.std.specs.Prelude.{◌≡◌, ◌<◌, ◌≤◌, ◌^◌, [], 
 ghost use Rattle.std.specs.declared.io.ErrorKind.{ErrorKind as IoKind};
 ghost use Rattle.deku_bits.specs.declared.error.DekuError.TheVariants.{Io};
 ghost use Rattle.deku_bits.specs.Causes.{WantsPlace, Caused};
-ghost use Rattle.deku_bits.specs.Standings.{Untouched};
-ghost use Rattle.deku_bits.specs.WriterCalls.{Writes, Finalizes};
+ghost use Rattle.deku_bits.specs.WriterCalls.{Writes, Finalizes, sink_of, KeepsSinkStopped};
 ghost use Rattle.deku.specs.Composing.{Both};
 ghost use Rattle.deku_num.specs.Numbers.{IsWordFor};
 ghost use Rattle.deku_fields.specs.declared.list.Number.TheVariants.{Unsigned};
@@ -39,10 +38,10 @@ pub fn write_list<W: Sink>(writer: &mut Writer<W>, items: &[Item]) -> Result<(),
     ensures meaning { Writes W.known (WritesItems items.now) writer.old result writer.new }
     ensures laid_out { WritesWhereSound W.known (WritesLaid items.now) writer.old result
         writer.new }
-    ensures stopped { Untouched writer.old.state writer.old.sink writer.new.sink }
+    ensures stopped { KeepsSinkStopped writer.old writer.new }
     ensures none { items.now ≡ [] → writer.new ≡ writer.old }
-    ensures cause { Caused WantsPlace writer.old.state (W.known writer.old.sink).health result
-        (W.known writer.new.sink).health }
+    ensures cause { Caused WantsPlace writer.old.state (W.known (sink_of writer.old)).health result
+        (W.known (sink_of writer.new)).health }
 {
     for item in items {
         match write_item(writer, item) {
@@ -57,7 +56,7 @@ pub fn write_list<W: Sink>(writer: &mut Writer<W>, items: &[Item]) -> Result<(),
 #[inline(always)]
 fn write_item<W: Sink>(writer: &mut Writer<W>, item: &Item) -> Result<(), DekuError>
     ensures writes { Writes W.known (WritesItem item.now) writer.old result writer.new }
-    ensures stopped { Untouched writer.old.state writer.old.sink writer.new.sink }
+    ensures stopped { KeepsSinkStopped writer.old writer.new }
 {
     if laid_high(writer, item) {
         return Ok(());
@@ -75,7 +74,7 @@ fn laid_high<W: Sink>(writer: &mut Writer<W>, item: &Item) -> bool
     ensures writes { IsTrue result → Writes W.known (WritesItem item.now) writer.old (Ok tt)
         writer.new }
     ensures stays { IsFalse result → writer.new ≡ writer.old }
-    ensures stopped { Untouched writer.old.state writer.old.sink writer.new.sink }
+    ensures stopped { KeepsSinkStopped writer.old writer.new }
 {
     match plain_high(item) {
         Some((number, width)) => writer.try_write_msb(number, width),
@@ -145,7 +144,7 @@ fn plain_word(item: &Item) -> Option<(u128, usize)>
 #[inline(always)]
 fn write_checked<W: Sink>(writer: &mut Writer<W>, item: &Item) -> Result<(), DekuError>
     ensures writes { Writes W.known (WritesItem item.now) writer.old result writer.new }
-    ensures stopped { Untouched writer.old.state writer.old.sink writer.new.sink }
+    ensures stopped { KeepsSinkStopped writer.old writer.new }
 {
     if !item.field.kind.holds(item.value) {
         return Err(DekuError::InvalidParam("value outside type"));

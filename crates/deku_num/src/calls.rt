@@ -2,10 +2,9 @@
 
 ghost use Rattle.std.specs.Prelude.{◌≡◌, ◌<◌, ◌≤◌, ◌%◌, ◌^◌, Bool, true, false, List, length, codes, pos, Ok, OnOk, IfOk, IfErr, IfSome, IsNone};
 ghost use Rattle.deku_bits.specs.declared.error.DekuError.TheVariants.{Parse, InvalidParam};
-ghost use Rattle.deku_bits.specs.Standings.{Untouched};
 ghost use Rattle.deku_bits.specs.Bits.{bits_of};
-ghost use Rattle.deku_bits.specs.ReaderCalls.{Reads, TakesBits, FetchesFor, NoneEarly};
-ghost use Rattle.deku_bits.specs.WriterCalls.{Writes};
+ghost use Rattle.deku_bits.specs.ReaderCalls.{Reads, TakesBits, Fetched, FetchedInTime, KeepsSourceStopped};
+ghost use Rattle.deku_bits.specs.WriterCalls.{Writes, KeepsSinkStopped};
 ghost use Rattle.deku_num.specs.NumberLaws.{InType};
 ghost use Rattle.deku_num.specs.Numbers.{width, IsAllowed, IsFieldOf};
 ghost use Rattle.deku_num.specs.NumberCalls.{ReadsNumber, WritesNumber, IsLayoutRefusal, beyond, integers};
@@ -44,10 +43,10 @@ pub fn read_unsigned<R: Source>(
     requires within { number_type.bits ≤ 128 }
     ensures reads { Reads R.known (ReadsNumber number_type layout) reader.old (integers result)
         reader.new }
-    ensures fetched { OnOk result (FetchesFor (width number_type layout) reader.old.state
-        (R.known reader.old.source) (R.known reader.new.source)) }
-    ensures early { NoneEarly reader.old.state reader.new.state }
-    ensures stopped { Untouched reader.old.state reader.old.source reader.new.source }
+    ensures fetched { OnOk result (Fetched R.known (width number_type layout) reader.old
+        reader.new) }
+    ensures early { FetchedInTime reader.old reader.new }
+    ensures stopped { KeepsSourceStopped reader.old reader.new }
     ensures refused { (IsAllowed number_type layout → ⊥) → reader.new ≡ reader.old }
     ensures in_type { IfOk result (λ v. number_type.bits % 8 ≡ 0 → v < 2 ^ number_type.bits) }
 {
@@ -81,10 +80,10 @@ pub fn read_signed<R: Source>(
     requires signed { number_type.signed ≡ true }
     requires within { number_type.bits ≤ 128 }
     ensures reads { Reads R.known (ReadsNumber number_type layout) reader.old result reader.new }
-    ensures fetched { OnOk result (FetchesFor (width number_type layout) reader.old.state
-        (R.known reader.old.source) (R.known reader.new.source)) }
-    ensures early { NoneEarly reader.old.state reader.new.state }
-    ensures stopped { Untouched reader.old.state reader.old.source reader.new.source }
+    ensures fetched { OnOk result (Fetched R.known (width number_type layout) reader.old
+        reader.new) }
+    ensures early { FetchedInTime reader.old reader.new }
+    ensures stopped { KeepsSourceStopped reader.old reader.new }
     ensures refused { (IsAllowed number_type layout → ⊥) → reader.new ≡ reader.old }
     ensures in_type { IfOk result (λ v. number_type.bits % 8 ≡ 0 → InType true number_type.bits v) }
 {
@@ -106,11 +105,10 @@ fn number_at_hand<R: Source>(reader: &mut Reader<R>, layout: Layout, width: usiz
     ensures takes { IfSome result (λ n. Reads R.known (TakesBits Order.Msb0 width) reader.old
         (Ok (bits_of width n)) reader.new) }
     ensures below { IfSome result (λ n. n < 2 ^ width) }
-    ensures fetched { IfSome result (λ n. FetchesFor width reader.old.state
-        (R.known reader.old.source) (R.known reader.new.source)) }
-    ensures early { NoneEarly reader.old.state reader.new.state }
+    ensures fetched { IfSome result (λ n. Fetched R.known width reader.old reader.new) }
+    ensures early { FetchedInTime reader.old reader.new }
     ensures stays { IsNone result → reader.new ≡ reader.old }
-    ensures stopped { Untouched reader.old.state reader.old.source reader.new.source }
+    ensures stopped { KeepsSourceStopped reader.old reader.new }
 {
     let (Endian::Big, Order::Msb0) = (layout.endian, layout.order) else {
         return None;
@@ -162,7 +160,7 @@ pub fn write_unsigned<W: Sink>(
     requires within { number_type.bits ≤ 128 }
     ensures writes { Writes W.known (WritesNumber number_type layout (pos value)) writer.old result
         writer.new }
-    ensures stopped { Untouched writer.old.state writer.old.sink writer.new.sink }
+    ensures stopped { KeepsSinkStopped writer.old writer.new }
     ensures refused { (IsAllowed number_type layout → ⊥) → writer.new ≡ writer.old }
     ensures unfit { ((bits : List Bool) → IsFieldOf number_type layout (pos value) bits → ⊥)
         → writer.new ≡ writer.old }
@@ -203,7 +201,7 @@ pub fn write_signed<W: Sink>(
     requires within { number_type.bits ≤ 128 }
     ensures writes { Writes W.known (WritesNumber number_type layout value) writer.old result
         writer.new }
-    ensures stopped { Untouched writer.old.state writer.old.sink writer.new.sink }
+    ensures stopped { KeepsSinkStopped writer.old writer.new }
     ensures refused { (IsAllowed number_type layout → ⊥) → writer.new ≡ writer.old }
     ensures unfit { ((bits : List Bool) → IsFieldOf number_type layout value bits → ⊥)
         → writer.new ≡ writer.old }

@@ -11,7 +11,8 @@ use Rattle.deku_reader.specs.declared.reader.Leftover.TheVariants.{Byte, Bits}
 use Rattle.deku_stream.specs.Bits.{byte_bits, shown, bits_in, bytes_of, groups, word_of}
 use Rattle.deku_stream.specs.Streams.{Stream, bit_count, Has, Lacks, taken, left, last_part, passed, skipped}
 use Rattle.deku_device.specs.Devices.{KnownSource, Loses}
-use Rattle.deku_stream.specs.Standings.{Standing, Going, Stopped, count_of, reader_state}
+use Rattle.deku_stream.specs.Standings.{Standing, Going, Stopped, Untouched, count_of, reader_state}
+use Rattle.deku_stream.specs.Kept.{Admits}
 use Rattle.deku_stream.specs.Outcomes.{Meaning, Outcome, Unknown, UnlessStopped, CountsBits, Reserving, Mapped}
 
 -- a call on a source and what a reader keeps beside it
@@ -113,6 +114,55 @@ IsBehind bytes k remaining s = (remaining ≡ Some (drop k bytes)) × (8 * k ≡
 -- Of the bytes that a source told, k were fetched since; a skip past their end would leave more behind.
 abbrev pub HasFetched : List ℕ → ℕ → Option (List ℕ) → Standing (List Bool) → Type 0
 HasFetched bytes k remaining s = (k ≤ length bytes) × IsBehind bytes k remaining s
+
+-- ---- what a caller sees of a reader, without its fields
+-- the source
+abbrev pub source_of : {R : Type 0} → Reader R → R
+source_of r = r.source
+
+-- the unread bits; none where it has stopped
+abbrev pub unread_of : {R : Type 0} → Reader R → List Bool
+unread_of r = window_of r.state
+
+-- how many bits it has read
+abbrev pub read_count : {R : Type 0} → Reader R → ℕ
+read_count r = count_of r.state
+
+-- it has read so many bits, and none is unread
+abbrev pub ReadsOn : {R : Type 0} → Reader R → ℕ → Type 0
+ReadsOn r count = r.state ≡ Going [] count
+
+-- it has stopped at this fault, after so many bits
+abbrev pub StopsReading : {R : Type 0} → Reader R → DekuError → ℕ → Type 0
+StopsReading r fault count = r.state ≡ Stopped [] fault count
+
+-- what a read of n bits answers before it moves anything
+abbrev pub AdmitsRead : {R : Type 0} → ℕ → Reader R → Result (Unit {0}) DekuError → Type 0
+AdmitsRead n r = Admits n r.state
+
+-- a read of n bits fetched as many bytes as it needs after the unread bits, and no more
+abbrev pub Fetched : {R : Type 0} → (R → KnownSource) → ℕ → Reader R → Reader R → Type 0
+Fetched known n old new = FetchesFor n old.state (known old.source) (known new.source)
+
+-- a check for the end fetched as many bytes as the bits that are unread since need, and no more
+abbrev pub FetchedAhead : {R : Type 0} → (R → KnownSource) → Reader R → Reader R → Type 0
+FetchedAhead known old new = FetchesAhead old.state new.state (known old.source) (known new.source)
+
+-- no byte was fetched too early
+abbrev pub FetchedInTime : {R : Type 0} → Reader R → Reader R → Type 0
+FetchedInTime old new = NoneEarly old.state new.state
+
+-- where n bits need no transfer, the source is as it was
+abbrev pub KeepsSourceFor : {R : Type 0} → ℕ → Reader R → Reader R → Type 0
+KeepsSourceFor n old new = NeedsNone n old.state → new.source ≡ old.source
+
+-- where the reader had stopped, the source is as it was
+abbrev pub KeepsSourceStopped : {R : Type 0} → Reader R → Reader R → Type 0
+KeepsSourceStopped old new = Untouched old.state old.source new.source
+
+-- the end of input that a skip of n bits finds names the bits after the unread ones and the whole bytes
+abbrev pub NamesRestOf : {R : Type 0} → ℕ → Reader R → Result (Unit {0}) DekuError → Type 0
+NamesRestOf n r = NamesRest n r.state
 
 -- the items of the vector that was read, where the call succeeds
 abbrev pub items_of : {V : Type 0} → Result (Vec V) DekuError → Result (List V) DekuError

@@ -4,9 +4,8 @@ ghost use Rattle.std.specs.Prelude.{◌≡◌, ◌+◌, ◌*◌, ◌^◌, ◌≤
 ghost use Rattle.std.specs.Borrow.{Lends, sem};
 ghost use Rattle.deku_stream.specs.declared.ctx.Order.TheVariants.{Msb0};
 ghost use Rattle.deku_stream.specs.Bits.{bits_of};
-ghost use Rattle.deku_stream.specs.Kept.{Admits};
-ghost use Rattle.deku_stream.specs.Standings.{Going, Untouched, count_of};
-ghost use Rattle.deku_reader.specs.ReaderCalls.{Reads, TakesBits, Ending, Skips, ReadsBits, ReadsVec, ReadsBytes, ReadsByteVec, ReadsWord, FetchesFor, FetchesAhead, NoneEarly, NeedsNone, NamesRest, IsLeftover, filling, items_of, window_of};
+ghost use Rattle.deku_stream.specs.Standings.{Going};
+ghost use Rattle.deku_reader.specs.ReaderCalls.{Reads, TakesBits, Ending, Skips, ReadsBits, ReadsVec, ReadsBytes, ReadsByteVec, ReadsWord, IsLeftover, filling, items_of, source_of, unread_of, read_count, ReadsOn, AdmitsRead, Fetched, FetchedAhead, FetchedInTime, KeepsSourceFor, KeepsSourceStopped, NamesRestOf};
 ghost use Rattle.deku_reader.specs.contracts.reader.Reader.{the_row as reader-row};
 
 mod progress;
@@ -84,7 +83,7 @@ impl<R: Source> Reader<R> {
     pub fn new(alloc: Global, inner: R) -> Reader<R>
         ensures source { result.source ≡ inner }
         ensures alloc { result.alloc ≡ alloc }
-        ensures state { result.state ≡ Going [] 0 }
+        ensures state { ReadsOn result 0 }
     {
         Reader {
             source: inner,
@@ -126,7 +125,7 @@ impl<R: Source> Reader<R> {
     /// reader.read_bits(8, Order::Msb0)?;                       // 0, 0, 0, 0, 0, 0, 1, 1
     /// ```
     pub fn as_mut(&mut self) -> &mut R
-        ensures value { result.now ≡ self.old.source }
+        ensures value { result.now ≡ source_of self.old }
         ensures* writes_back { sem 𝓛 (Lends (reader-row R.row) R.row self.entry result
             (λ x. record self.old { source = x })) }
     {
@@ -139,7 +138,7 @@ impl<R: Source> Reader<R> {
     /// reader.leftover()                                          // Some(Leftover::Bits(0, 1)), where the last two bits of a byte are unread
     /// ```
     pub fn leftover(&self) -> Option<Leftover>
-        ensures { IsLeftover (window_of self.now.state) result }
+        ensures { IsLeftover (unread_of self.now) result }
     {
         let count = self.state.unread_len();
         if count == 0 {
@@ -160,7 +159,7 @@ impl<R: Source> Reader<R> {
     /// reader.bits_read()                                         // 12, behind reads of 8 and of 4 bits
     /// ```
     pub fn bits_read(&self) -> usize
-        ensures { result ≡ count_of self.now.state }
+        ensures { result ≡ read_count self.now }
     {
         self.state.bits_read()
     }
@@ -176,7 +175,7 @@ impl<R: Source> Reader<R> {
     /// reader.rest()?;                     // 1, 0, 0
     /// ```
     pub fn rest(&self) -> Result<Vec<bool>, DekuError>
-        ensures ok { IfOk result (λ v. v.items ≡ window_of self.now.state) }
+        ensures ok { IfOk result (λ v. v.items ≡ unread_of self.now) }
         ensures err { IfErr result (λ e. e ≡ DekuError.Io ErrorKind.OutOfMemory) }
     {
         let eight = self.state.unread_in_eight();
@@ -205,13 +204,12 @@ impl<R: Source> Reader<R> {
     /// ```
     pub fn end(&mut self) -> Result<bool, DekuError>
         ensures reads { Reads R.known Ending self.old result self.new }
-        ensures fetched { OnOk result (FetchesAhead self.old.state self.new.state
-            (R.known self.old.source) (R.known self.new.source)) }
-        ensures held { OnOk result (length (window_of self.new.state) ≤ 8) }
+        ensures fetched { OnOk result (FetchedAhead R.known self.old self.new) }
+        ensures held { OnOk result (length (unread_of self.new) ≤ 8) }
         // Where bits are unread, it moves nothing, whatever the source tells.
-        ensures unread { 0 < length (window_of self.old.state) → (result ≡ Ok false)
+        ensures unread { 0 < length (unread_of self.old) → (result ≡ Ok false)
             × (self.new ≡ self.old) }
-        ensures stopped { Untouched self.old.state self.old.source self.new.source }
+        ensures stopped { KeepsSourceStopped self.old self.new }
         ensures alloc { self.new.alloc ≡ self.old.alloc }
     {
         self.state.end(&mut self.source)
@@ -238,10 +236,10 @@ impl<R: Source> Reader<R> {
     /// ```
     pub fn skip_bits(&mut self, amt: usize, order: Order) -> Result<(), DekuError>
         ensures skips { Reads R.known (Skips order amt) self.old result self.new }
-        ensures early { NoneEarly self.old.state self.new.state }
-        ensures still { NeedsNone amt self.old.state → self.new.source ≡ self.old.source }
-        ensures named { NamesRest amt self.old.state result }
-        ensures stopped { Untouched self.old.state self.old.source self.new.source }
+        ensures early { FetchedInTime self.old self.new }
+        ensures still { KeepsSourceFor amt self.old self.new }
+        ensures named { NamesRestOf amt self.old result }
+        ensures stopped { KeepsSourceStopped self.old self.new }
         ensures alloc { self.new.alloc ≡ self.old.alloc }
     {
         self.state.skip_bits(&mut self.source, amt, order)
@@ -255,7 +253,7 @@ impl<R: Source> Reader<R> {
     /// reader.admits_bytes(usize::MAX)                  // InvalidParam("count past usize")
     /// ```
     pub fn admits_bytes(&self, amt: usize) -> Result<(), DekuError>
-        ensures { Admits (8 * amt) self.now.state result }
+        ensures { AdmitsRead (8 * amt) self.now result }
     {
         self.state.admits_bytes(amt)
     }
@@ -264,12 +262,10 @@ impl<R: Source> Reader<R> {
     pub(crate) fn take_bits(&mut self, dst: &mut [bool], order: Order) -> Result<(), DekuError>
         ensures takes { Reads R.known (TakesBits order (length dst.old)) self.old
             (filling result dst.new) self.new }
-        ensures fetched { OnOk result (FetchesFor (length dst.old) self.old.state
-            (R.known self.old.source) (R.known self.new.source)) }
-        ensures early { NoneEarly self.old.state self.new.state }
-        ensures still { NeedsNone (length dst.old) self.old.state
-            → self.new.source ≡ self.old.source }
-        ensures stopped { Untouched self.old.state self.old.source self.new.source }
+        ensures fetched { OnOk result (Fetched R.known (length dst.old) self.old self.new) }
+        ensures early { FetchedInTime self.old self.new }
+        ensures still { KeepsSourceFor (length dst.old) self.old self.new }
+        ensures stopped { KeepsSourceStopped self.old self.new }
         ensures alloc { self.new.alloc ≡ self.old.alloc }
     {
         self.state.take_bits(&mut self.source, dst, order)
@@ -289,12 +285,10 @@ impl<R: Source> Reader<R> {
     pub fn read_bits_into(&mut self, dst: &mut [bool], order: Order) -> Result<(), DekuError>
         ensures reads { Reads R.known (ReadsBits order (length dst.old)) self.old
             (filling result dst.new) self.new }
-        ensures fetched { OnOk result (FetchesFor (length dst.old) self.old.state
-            (R.known self.old.source) (R.known self.new.source)) }
-        ensures early { NoneEarly self.old.state self.new.state }
-        ensures still { NeedsNone (length dst.old) self.old.state
-            → self.new.source ≡ self.old.source }
-        ensures stopped { Untouched self.old.state self.old.source self.new.source }
+        ensures fetched { OnOk result (Fetched R.known (length dst.old) self.old self.new) }
+        ensures early { FetchedInTime self.old self.new }
+        ensures still { KeepsSourceFor (length dst.old) self.old self.new }
+        ensures stopped { KeepsSourceStopped self.old self.new }
         ensures alloc { self.new.alloc ≡ self.old.alloc }
     {
         self.take_bits(dst, order)?;
@@ -314,11 +308,10 @@ impl<R: Source> Reader<R> {
     /// ```
     pub fn read_bits(&mut self, amt: usize, order: Order) -> Result<Vec<bool>, DekuError>
         ensures reads { Reads R.known (ReadsVec order amt) self.old (items_of result) self.new }
-        ensures fetched { OnOk result (FetchesFor amt self.old.state (R.known self.old.source)
-            (R.known self.new.source)) }
-        ensures early { NoneEarly self.old.state self.new.state }
-        ensures still { NeedsNone amt self.old.state → self.new.source ≡ self.old.source }
-        ensures stopped { Untouched self.old.state self.old.source self.new.source }
+        ensures fetched { OnOk result (Fetched R.known amt self.old self.new) }
+        ensures early { FetchedInTime self.old self.new }
+        ensures still { KeepsSourceFor amt self.old self.new }
+        ensures stopped { KeepsSourceStopped self.old self.new }
         ensures alloc { self.new.alloc ≡ self.old.alloc }
     {
         self.state.admits(amt)?;
@@ -344,11 +337,10 @@ impl<R: Source> Reader<R> {
     pub fn read_word(&mut self, amt: usize, order: Order) -> Result<u128, DekuError>
         requires { amt ≤ 128 }
         ensures reads { Reads R.known (ReadsWord order amt) self.old result self.new }
-        ensures fetched { OnOk result (FetchesFor amt self.old.state (R.known self.old.source)
-            (R.known self.new.source)) }
-        ensures early { NoneEarly self.old.state self.new.state }
-        ensures still { NeedsNone amt self.old.state → self.new.source ≡ self.old.source }
-        ensures stopped { Untouched self.old.state self.old.source self.new.source }
+        ensures fetched { OnOk result (Fetched R.known amt self.old self.new) }
+        ensures early { FetchedInTime self.old self.new }
+        ensures still { KeepsSourceFor amt self.old self.new }
+        ensures stopped { KeepsSourceStopped self.old self.new }
         ensures alloc { self.new.alloc ≡ self.old.alloc }
     {
         self.state.take_word(&mut self.source, amt, order)
@@ -370,12 +362,11 @@ impl<R: Source> Reader<R> {
         ensures takes { IfSome result (λ number. Reads R.known (TakesBits Msb0 amt) self.old
             (Ok (bits_of amt number)) self.new) }
         ensures below { IfSome result (λ number. number < 2 ^ amt) }
-        ensures fetched { IfSome result (λ number. FetchesFor amt self.old.state
-            (R.known self.old.source) (R.known self.new.source)) }
-        ensures early { NoneEarly self.old.state self.new.state }
-        ensures still { NeedsNone amt self.old.state → self.new.source ≡ self.old.source }
+        ensures fetched { IfSome result (λ number. Fetched R.known amt self.old self.new) }
+        ensures early { FetchedInTime self.old self.new }
+        ensures still { KeepsSourceFor amt self.old self.new }
         ensures stays { IsNone result → self.new ≡ self.old }
-        ensures stopped { Untouched self.old.state self.old.source self.new.source }
+        ensures stopped { KeepsSourceStopped self.old self.new }
         ensures alloc { self.new.alloc ≡ self.old.alloc }
     {
         self.state.try_read_msb(&mut self.source, amt)
@@ -406,11 +397,10 @@ impl<R: Source> Reader<R> {
         ensures front { Reads R.known (ReadsBytes order amt) self.old
             (filling result (take amt buf.new)) self.new }
         ensures behind { drop amt buf.new ≡ drop amt buf.old }
-        ensures fetched { OnOk result (FetchesFor (8 * amt) self.old.state (R.known self.old.source)
-            (R.known self.new.source)) }
-        ensures early { NoneEarly self.old.state self.new.state }
-        ensures still { NeedsNone (8 * amt) self.old.state → self.new.source ≡ self.old.source }
-        ensures stopped { Untouched self.old.state self.old.source self.new.source }
+        ensures fetched { OnOk result (Fetched R.known (8 * amt) self.old self.new) }
+        ensures early { FetchedInTime self.old self.new }
+        ensures still { KeepsSourceFor (8 * amt) self.old self.new }
+        ensures stopped { KeepsSourceStopped self.old self.new }
         ensures alloc { self.new.alloc ≡ self.old.alloc }
     {
         self.state
@@ -429,11 +419,10 @@ impl<R: Source> Reader<R> {
     /// ```
     pub fn read_bytes_vec(&mut self, amt: usize, order: Order) -> Result<Vec<u8>, DekuError>
         ensures reads { Reads R.known (ReadsByteVec order amt) self.old (items_of result) self.new }
-        ensures fetched { OnOk result (FetchesFor (8 * amt) self.old.state (R.known self.old.source)
-            (R.known self.new.source)) }
-        ensures early { NoneEarly self.old.state self.new.state }
-        ensures still { NeedsNone (8 * amt) self.old.state → self.new.source ≡ self.old.source }
-        ensures stopped { Untouched self.old.state self.old.source self.new.source }
+        ensures fetched { OnOk result (Fetched R.known (8 * amt) self.old self.new) }
+        ensures early { FetchedInTime self.old self.new }
+        ensures still { KeepsSourceFor (8 * amt) self.old self.new }
+        ensures stopped { KeepsSourceStopped self.old self.new }
         ensures alloc { self.new.alloc ≡ self.old.alloc }
     {
         self.admits_bytes(amt)?;
@@ -461,11 +450,10 @@ impl<R: Source> Reader<R> {
     ) -> Result<ReaderRet, DekuError>
         ensures reads { Reads R.known (ReadsBytes order N) self.old (filling result buf.new)
             self.new }
-        ensures fetched { OnOk result (FetchesFor (8 * N) self.old.state (R.known self.old.source)
-            (R.known self.new.source)) }
-        ensures early { NoneEarly self.old.state self.new.state }
-        ensures still { NeedsNone (8 * N) self.old.state → self.new.source ≡ self.old.source }
-        ensures stopped { Untouched self.old.state self.old.source self.new.source }
+        ensures fetched { OnOk result (Fetched R.known (8 * N) self.old self.new) }
+        ensures early { FetchedInTime self.old self.new }
+        ensures still { KeepsSourceFor (8 * N) self.old self.new }
+        ensures stopped { KeepsSourceStopped self.old self.new }
         ensures alloc { self.new.alloc ≡ self.old.alloc }
     {
         self.read_bytes_const_into(buf, order)?;
@@ -486,11 +474,10 @@ impl<R: Source> Reader<R> {
     ) -> Result<(), DekuError>
         ensures reads { Reads R.known (ReadsBytes order N) self.old (filling result buf.new)
             self.new }
-        ensures fetched { OnOk result (FetchesFor (8 * N) self.old.state (R.known self.old.source)
-            (R.known self.new.source)) }
-        ensures early { NoneEarly self.old.state self.new.state }
-        ensures still { NeedsNone (8 * N) self.old.state → self.new.source ≡ self.old.source }
-        ensures stopped { Untouched self.old.state self.old.source self.new.source }
+        ensures fetched { OnOk result (Fetched R.known (8 * N) self.old self.new) }
+        ensures early { FetchedInTime self.old self.new }
+        ensures still { KeepsSourceFor (8 * N) self.old self.new }
+        ensures stopped { KeepsSourceStopped self.old self.new }
         ensures alloc { self.new.alloc ≡ self.old.alloc }
     {
         self.state.take_bytes(&mut self.source, buf, order)

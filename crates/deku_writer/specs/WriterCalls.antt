@@ -10,7 +10,7 @@ use Rattle.deku_writer.specs.declared.writer.Writer.{Writer}
 use Rattle.deku_stream.specs.Bits.{word_of, shown}
 use Rattle.deku_stream.specs.Writers.{Pending, Nothing, Held, Written, append, finalized}
 use Rattle.deku_device.specs.Devices.{KnownSink, Shrinks, LacksRoom, TakesSome, ShrinksSome}
-use Rattle.deku_stream.specs.Standings.{Standing, Going, Stopped, Output, writer_state}
+use Rattle.deku_stream.specs.Standings.{Standing, Going, Stopped, Untouched, Output, count_of, writer_state}
 use Rattle.deku_stream.specs.Outcomes.{Meaning, Outcome, UnlessStopped, CountsBits}
 
 -- a call on a sink and what a writer keeps beside it
@@ -65,3 +65,28 @@ pending_of (Stopped pending e c) = Nothing
 abbrev pub order_of : Pending → Order
 order_of Nothing = Msb0
 order_of (Held o s) = o
+
+-- ---- what a caller sees of a writer, without its fields
+-- the sink
+abbrev pub sink_of : {W : Type 0} → Writer W → W
+sink_of w = w.sink
+
+-- how many bits were given to the sink
+abbrev pub written_count : {W : Type 0} → Writer W → ℕ
+written_count w = count_of w.state
+
+-- the pending bits
+abbrev pub pending_state : {W : Type 0} → Writer W → Pending
+pending_state w = pending_of w.state
+
+-- so many bits were given to the sink, and none is pending
+abbrev pub WritesOn : {W : Type 0} → Writer W → ℕ → Type 0
+WritesOn w count = w.state ≡ Going Nothing count
+
+-- it has stopped at this fault, after so many bits
+abbrev pub StopsWriting : {W : Type 0} → Writer W → DekuError → ℕ → Type 0
+StopsWriting w fault count = w.state ≡ Stopped Nothing fault count
+
+-- where the writer had stopped, the sink is as it was
+abbrev pub KeepsSinkStopped : {W : Type 0} → Writer W → Writer W → Type 0
+KeepsSinkStopped old new = Untouched old.state old.sink new.sink

@@ -9,7 +9,7 @@ ghost use Rattle.deku_stream.specs.declared.error.DekuError.TheVariants.{Io};
 ghost use Rattle.deku_stream.specs.Bits.{bits_in, bits_of};
 ghost use Rattle.deku_stream.specs.Writers.{Nothing, pending_bits};
 ghost use Rattle.deku_stream.specs.Standings.{Going, Stopped, Untouched, count_of};
-ghost use Rattle.deku_writer.specs.WriterCalls.{Writes, WritesAt, WritesBits, WritesWord, Finalizes, pending_of, order_of};
+ghost use Rattle.deku_writer.specs.WriterCalls.{Writes, WritesAt, WritesBits, WritesWord, Finalizes, pending_of, order_of, written_count, WritesOn, KeepsSinkStopped, pending_state};
 
 mod bytes;
 mod held;
@@ -86,7 +86,7 @@ impl<W: Sink> Writer<W> {
     #[inline(always)]
     pub fn new(inner: W) -> Writer<W>
         ensures sink { result.sink ≡ inner }
-        ensures state { result.state ≡ Going Nothing 0 }
+        ensures state { WritesOn result 0 }
     {
         Writer {
             sink: inner,
@@ -115,7 +115,7 @@ impl<W: Sink> Writer<W> {
     /// ```
     #[inline(always)]
     pub fn bits_written(&self) -> usize
-        ensures { result ≡ count_of self.now.state }
+        ensures { result ≡ written_count self.now }
     {
         self.state.bits_written()
     }
@@ -128,10 +128,10 @@ impl<W: Sink> Writer<W> {
     /// writer.leftover()                                  // 1, 1, 0 in `Lsb0`
     /// ```
     pub fn leftover(&self) -> (BoundedBitVec<1>, Order)
-        ensures bits { result.0 ≡ pending_bits (pending_of self.now.state) }
-        ensures order { result.1 ≡ order_of (pending_of self.now.state) }
-        ensures few { length (pending_bits (pending_of self.now.state)) < 8 }
-        ensures nothing { length result.0 ≡ 0 → pending_of self.now.state ≡ Nothing }
+        ensures bits { result.0 ≡ pending_bits (pending_state self.now) }
+        ensures order { result.1 ≡ order_of (pending_state self.now) }
+        ensures few { length (pending_bits (pending_state self.now)) < 8 }
+        ensures nothing { length result.0 ≡ 0 → pending_state self.now ≡ Nothing }
     {
         let bits = self.state.pending();
         (
@@ -149,7 +149,7 @@ impl<W: Sink> Writer<W> {
     /// writer.rest(alloc)?                                // [true, true, false]
     /// ```
     pub fn rest(&self, alloc: Global) -> Result<Vec<bool>, DekuError>
-        ensures bits { IfOk result (λ v. v.items ≡ pending_bits (pending_of self.now.state)) }
+        ensures bits { IfOk result (λ v. v.items ≡ pending_bits (pending_state self.now)) }
         ensures memory { IfErr result (λ e. e ≡ Io OutOfMemory) }
     {
         let pending = self.state.pending();
@@ -178,7 +178,7 @@ impl<W: Sink> Writer<W> {
     /// ```
     pub fn write_bits_order(&mut self, bits: &[bool], order: Order) -> Result<(), DekuError>
         ensures writes { Writes W.known (WritesBits order bits.now) self.old result self.new }
-        ensures stopped { Untouched self.old.state self.old.sink self.new.sink }
+        ensures stopped { KeepsSinkStopped self.old self.new }
     {
         self.state.write(&mut self.sink, bits, order)
     }
@@ -191,7 +191,7 @@ impl<W: Sink> Writer<W> {
     /// ```
     pub fn write_bits(&mut self, bits: &[bool]) -> Result<(), DekuError>
         ensures writes { Writes W.known (WritesBits Msb0 bits.now) self.old result self.new }
-        ensures stopped { Untouched self.old.state self.old.sink self.new.sink }
+        ensures stopped { KeepsSinkStopped self.old self.new }
     {
         self.write_bits_order(bits, Order::Msb0)
     }
@@ -207,7 +207,7 @@ impl<W: Sink> Writer<W> {
     pub fn write_bytes(&mut self, buf: &[u8]) -> Result<(), DekuError>
         ensures writes { Writes W.known (WritesBits Msb0 (bits_in buf.now)) self.old result
             self.new }
-        ensures stopped { Untouched self.old.state self.old.sink self.new.sink }
+        ensures stopped { KeepsSinkStopped self.old self.new }
     {
         self.state.write_bytes(&mut self.sink, buf)
     }
@@ -226,7 +226,7 @@ impl<W: Sink> Writer<W> {
         requires most { n ≤ 128 }
         requires inside { word < 2 ^ n }
         ensures writes { Writes W.known (WritesWord order n word) self.old result self.new }
-        ensures stopped { Untouched self.old.state self.old.sink self.new.sink }
+        ensures stopped { KeepsSinkStopped self.old self.new }
     {
         self.state.write_word(&mut self.sink, word, n, order)
     }
@@ -249,7 +249,7 @@ impl<W: Sink> Writer<W> {
         ensures writes { IsTrue result → Writes W.known (WritesBits Msb0 (bits_of n number))
             self.old (Ok tt) self.new }
         ensures stays { IsFalse result → self.new ≡ self.old }
-        ensures stopped { Untouched self.old.state self.old.sink self.new.sink }
+        ensures stopped { KeepsSinkStopped self.old self.new }
     {
         self.state.try_write_msb(&mut self.sink, number, n)
     }
@@ -266,7 +266,7 @@ impl<W: Sink> Writer<W> {
     #[inline(always)]
     pub fn finalize(&mut self) -> Result<(), DekuError>
         ensures writes { Writes W.known Finalizes self.old result self.new }
-        ensures stopped { Untouched self.old.state self.old.sink self.new.sink }
+        ensures stopped { KeepsSinkStopped self.old self.new }
     {
         self.state.finalize(&mut self.sink)
     }

@@ -3,7 +3,7 @@
 ghost use Rattle.std.specs.Prelude.{◌≡◌, ◌<◌, ℕ, List, [], ◌∷◌, ◌++◌, length, codes, OnOk, IfOk, IfErr, MatchOption};
 ghost use Rattle.std.specs.List.{Contains};
 ghost use Rattle.deku_bits.specs.declared.error.DekuError.TheVariants.{Parse};
-ghost use Rattle.deku_bits.specs.ReaderCalls.{Reads};
+ghost use Rattle.deku_bits.specs.ReaderCalls.{Reads, read_count};
 ghost use Rattle.deku_bits.specs.Faults.{Tells};
 ghost use Rattle.deku_reading.specs.Early.{NoReadAhead};
 ghost use Rattle.deku_reading.specs.Lists.{Runs, on_value};

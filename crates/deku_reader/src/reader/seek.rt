@@ -7,7 +7,8 @@ ghost use Rattle.std.specs.IoError.{error_kind};
 ghost use Rattle.std.specs.declared.io.SeekFrom.TheVariants.{Start, Current};
 ghost use Rattle.deku_stream.specs.declared.error.DekuError.{DekuError};
 ghost use Rattle.deku_device.specs.Seeking.{count_after, Seeks, RefusedSeek, ComesFrom, toward};
-ghost use Rattle.deku_stream.specs.Standings.{Going, Stopped, count_of};
+ghost use Rattle.deku_stream.specs.Standings.{Going, Stopped};
+ghost use Rattle.deku_reader.specs.ReaderCalls.{source_of, read_count, ReadsOn, StopsReading};
 
 use crate::reader::Reader;
 use crate::reader::progress::ReaderState;
@@ -39,26 +40,26 @@ use std::io::{ErrorKind, Seek, SeekFrom};
 /// ```
 impl<R: Source> Seek for Reader<R> {
     fn seek(&mut self, to: SeekFrom) -> io::Result<u64>
-        ensures ok { OnOk result (self.new.state ≡ Going []
-            (count_after to (count_of self.old.state))) }
-        ensures refused { 2 ^ 64 ≤ count_after to (count_of self.old.state)
+        ensures ok { OnOk result (ReadsOn self.new (count_after to (read_count self.old))) }
+        ensures refused { 2 ^ 64 ≤ count_after to (read_count self.old)
             → IsErrAnd result (λ e. error_kind e ≡ ErrorKind.InvalidInput) × (self.new ≡ self.old) }
-        ensures err { count_after to (count_of self.old.state) < 2 ^ 64
-            → IfErr result (λ e. self.new.state ≡ Stopped [] (DekuError.Io (error_kind e))
-            (count_of self.old.state)) }
+        ensures err { count_after to (read_count self.old) < 2 ^ 64
+            → IfErr result (λ e. StopsReading self.new (DekuError.Io (error_kind e))
+            (read_count self.old)) }
         // Where the source knows its place and its bytes, it is where its own seek leaves it.
-        ensures place { SeekMoves (R.stream_position self.old.source)
-            (R.stream_position self.new.source) (R.stream_bytes self.old.source) to result }
-        ensures source_bytes { Keeps (R.stream_bytes self.old.source)
-            (R.stream_bytes self.new.source) }
+        ensures place { SeekMoves (R.stream_position (source_of self.old))
+            (R.stream_position (source_of self.new)) (R.stream_bytes (source_of self.old)) to
+            result }
+        ensures source_bytes { Keeps (R.stream_bytes (source_of self.old))
+            (R.stream_bytes (source_of self.new)) }
         // Where the source tells all its bytes, those from there on are to come.
-        ensures sought { Seeks (R.known self.old.source).health (R.known self.new.source).health to
-            result }
-        ensures remaining { ComesFrom (R.known self.old.source).health.whole result
-            (R.known self.new.source) }
-        ensures nowhere { count_after to (count_of self.old.state) < 2 ^ 64
-            → RefusedSeek (R.known self.old.source).health (R.known self.new.source).health to
-            result }
+        ensures sought { Seeks (R.known (source_of self.old)).health
+            (R.known (source_of self.new)).health to result }
+        ensures remaining { ComesFrom (R.known (source_of self.old)).health.whole result
+            (R.known (source_of self.new)) }
+        ensures nowhere { count_after to (read_count self.old) < 2 ^ 64
+            → RefusedSeek (R.known (source_of self.old)).health
+            (R.known (source_of self.new)).health to result }
         ensures alloc { self.new.alloc ≡ self.old.alloc }
         // What the trait asks of a stream whose own place is not known.
         ensures moves { SeekMoves None None None to result }
@@ -82,19 +83,19 @@ impl<R: Source> Seek for Reader<R> {
 
     /// Seeks to the start, as `seek(SeekFrom::Start(0))` does.
     fn rewind(&mut self) -> io::Result<()>
-        ensures ok { OnOk result (self.new.state ≡ Going [] (count_of self.old.state)) }
-        ensures err { IfErr result (λ e. self.new.state ≡ Stopped [] (DekuError.Io (error_kind e))
-            (count_of self.old.state)) }
-        ensures place { MovesTo (R.stream_position self.old.source)
-            (R.stream_position self.new.source) 0 result }
-        ensures source_bytes { Keeps (R.stream_bytes self.old.source)
-            (R.stream_bytes self.new.source) }
-        ensures sought { Seeks (R.known self.old.source).health (R.known self.new.source).health
-            (Start 0) (toward 0 result) }
-        ensures remaining { ComesFrom (R.known self.old.source).health.whole (toward 0 result)
-            (R.known self.new.source) }
-        ensures nowhere { RefusedSeek (R.known self.old.source).health
-            (R.known self.new.source).health (Start 0) (toward 0 result) }
+        ensures ok { OnOk result (ReadsOn self.new (read_count self.old)) }
+        ensures err { IfErr result (λ e. StopsReading self.new (DekuError.Io (error_kind e))
+            (read_count self.old)) }
+        ensures place { MovesTo (R.stream_position (source_of self.old))
+            (R.stream_position (source_of self.new)) 0 result }
+        ensures source_bytes { Keeps (R.stream_bytes (source_of self.old))
+            (R.stream_bytes (source_of self.new)) }
+        ensures sought { Seeks (R.known (source_of self.old)).health
+            (R.known (source_of self.new)).health (Start 0) (toward 0 result) }
+        ensures remaining { ComesFrom (R.known (source_of self.old)).health.whole (toward 0 result)
+            (R.known (source_of self.new)) }
+        ensures nowhere { RefusedSeek (R.known (source_of self.old)).health
+            (R.known (source_of self.new)).health (Start 0) (toward 0 result) }
         ensures alloc { self.new.alloc ≡ self.old.alloc }
         ensures moves { MovesTo None None 0 result }
         ensures bytes { Keeps None None }
@@ -107,20 +108,20 @@ impl<R: Source> Seek for Reader<R> {
     /// The place of the source, as `seek(SeekFrom::Current(0))` answers it: so it leaves no bit
     /// unread.
     fn stream_position(&mut self) -> io::Result<u64>
-        ensures ok { OnOk result (self.new.state ≡ Going [] (count_of self.old.state)) }
-        ensures err { IfErr result (λ e. self.new.state ≡ Stopped [] (DekuError.Io (error_kind e))
-            (count_of self.old.state)) }
-        ensures place { SeekMoves (R.stream_position self.old.source)
-            (R.stream_position self.new.source) (R.stream_bytes self.old.source) (Current (pos 0))
-            result }
-        ensures source_bytes { Keeps (R.stream_bytes self.old.source)
-            (R.stream_bytes self.new.source) }
-        ensures sought { Seeks (R.known self.old.source).health (R.known self.new.source).health
+        ensures ok { OnOk result (ReadsOn self.new (read_count self.old)) }
+        ensures err { IfErr result (λ e. StopsReading self.new (DekuError.Io (error_kind e))
+            (read_count self.old)) }
+        ensures place { SeekMoves (R.stream_position (source_of self.old))
+            (R.stream_position (source_of self.new)) (R.stream_bytes (source_of self.old))
             (Current (pos 0)) result }
-        ensures remaining { ComesFrom (R.known self.old.source).health.whole result
-            (R.known self.new.source) }
-        ensures nowhere { RefusedSeek (R.known self.old.source).health
-            (R.known self.new.source).health (Current (pos 0)) result }
+        ensures source_bytes { Keeps (R.stream_bytes (source_of self.old))
+            (R.stream_bytes (source_of self.new)) }
+        ensures sought { Seeks (R.known (source_of self.old)).health
+            (R.known (source_of self.new)).health (Current (pos 0)) result }
+        ensures remaining { ComesFrom (R.known (source_of self.old)).health.whole result
+            (R.known (source_of self.new)) }
+        ensures nowhere { RefusedSeek (R.known (source_of self.old)).health
+            (R.known (source_of self.new)).health (Current (pos 0)) result }
         ensures alloc { self.new.alloc ≡ self.old.alloc }
         ensures stays { StaysAt None None }
         ensures bytes { Keeps None None }
@@ -131,24 +132,24 @@ impl<R: Source> Seek for Reader<R> {
 
     /// Seeks from its place, as `seek(SeekFrom::Current(offset))` does.
     fn seek_relative(&mut self, offset: i64) -> io::Result<()>
-        ensures ok { OnOk result (self.new.state ≡ Going []
-            (count_after (Current offset) (count_of self.old.state))) }
-        ensures refused { 2 ^ 64 ≤ count_after (Current offset) (count_of self.old.state)
+        ensures ok { OnOk result (ReadsOn self.new (count_after (Current offset)
+            (read_count self.old))) }
+        ensures refused { 2 ^ 64 ≤ count_after (Current offset) (read_count self.old)
             → IsErrAnd result (λ e. error_kind e ≡ ErrorKind.InvalidInput) × (self.new ≡ self.old) }
-        ensures err { count_after (Current offset) (count_of self.old.state) < 2 ^ 64
-            → IfErr result (λ e. self.new.state ≡ Stopped [] (DekuError.Io (error_kind e))
-            (count_of self.old.state)) }
-        ensures place { MovesBy (R.stream_position self.old.source)
-            (R.stream_position self.new.source) offset result }
-        ensures source_bytes { Keeps (R.stream_bytes self.old.source)
-            (R.stream_bytes self.new.source) }
-        ensures sought { (n : ℕ) × Seeks (R.known self.old.source).health
-            (R.known self.new.source).health (Current offset) (toward n result)
-            × ComesFrom (R.known self.old.source).health.whole (toward n result)
-            (R.known self.new.source) }
-        ensures nowhere { count_after (Current offset) (count_of self.old.state) < 2 ^ 64
-            → RefusedSeek (R.known self.old.source).health (R.known self.new.source).health
-            (Current offset) (toward 0 result) }
+        ensures err { count_after (Current offset) (read_count self.old) < 2 ^ 64
+            → IfErr result (λ e. StopsReading self.new (DekuError.Io (error_kind e))
+            (read_count self.old)) }
+        ensures place { MovesBy (R.stream_position (source_of self.old))
+            (R.stream_position (source_of self.new)) offset result }
+        ensures source_bytes { Keeps (R.stream_bytes (source_of self.old))
+            (R.stream_bytes (source_of self.new)) }
+        ensures sought { (n : ℕ) × Seeks (R.known (source_of self.old)).health
+            (R.known (source_of self.new)).health (Current offset) (toward n result)
+            × ComesFrom (R.known (source_of self.old)).health.whole (toward n result)
+            (R.known (source_of self.new)) }
+        ensures nowhere { count_after (Current offset) (read_count self.old) < 2 ^ 64
+            → RefusedSeek (R.known (source_of self.old)).health
+            (R.known (source_of self.new)).health (Current offset) (toward 0 result) }
         ensures alloc { self.new.alloc ≡ self.old.alloc }
         ensures moves { MovesBy None None offset result }
         ensures bytes { Keeps None None }

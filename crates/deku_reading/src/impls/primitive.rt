@@ -13,8 +13,7 @@
 //! The last of these stops the reader, and its count stays as it was; nothing changes before.
 
 ghost use Rattle.std.specs.Prelude.{OnOk};
-ghost use Rattle.deku_bits.specs.Standings.{Untouched};
-ghost use Rattle.deku_bits.specs.ReaderCalls.{Reads, FetchesFor};
+ghost use Rattle.deku_bits.specs.ReaderCalls.{Reads, Fetched, KeepsSourceStopped};
 ghost use Rattle.deku_num.specs.Numbers.{width, byte, unsigned, signed};
 ghost use Rattle.deku_reading.specs.Early.{NoReadAhead};
 ghost use Rattle.deku_num.specs.NumberCalls.{ReadsUnsigned, ReadsNumber};
@@ -40,10 +39,10 @@ impl<C: NumberCtx> DekuReader<C> for u8 {
     fn from_reader_with_ctx<R: Source>(reader: &mut Reader<R>, ctx: C) -> Result<Self, DekuError>
         ensures reads { Reads R.known (ReadsUnsigned byte (C.layout_of ctx)) reader.old result
             reader.new }
-        ensures fetched { OnOk result (FetchesFor (width byte (C.layout_of ctx)) reader.old.state
-            (R.known reader.old.source) (R.known reader.new.source)) }
+        ensures fetched { OnOk result (Fetched R.known (width byte (C.layout_of ctx)) reader.old
+            reader.new) }
         ensures early { OnOk result (NoReadAhead R.known reader.old reader.new) }
-        ensures stopped { Untouched reader.old.state reader.old.source reader.new.source }
+        ensures stopped { KeepsSourceStopped reader.old reader.new }
     {
         let value = read_unsigned(reader, NumberType::U8, ctx.parts())?;
         Ok(value as u8)
@@ -62,10 +61,10 @@ impl<C: NumberCtx> DekuReader<C> for u16 {
     fn from_reader_with_ctx<R: Source>(reader: &mut Reader<R>, ctx: C) -> Result<Self, DekuError>
         ensures reads { Reads R.known (ReadsUnsigned (unsigned 16) (C.layout_of ctx)) reader.old
             result reader.new }
-        ensures fetched { OnOk result (FetchesFor (width (unsigned 16) (C.layout_of ctx))
-            reader.old.state (R.known reader.old.source) (R.known reader.new.source)) }
+        ensures fetched { OnOk result (Fetched R.known (width (unsigned 16) (C.layout_of ctx))
+            reader.old reader.new) }
         ensures early { OnOk result (NoReadAhead R.known reader.old reader.new) }
-        ensures stopped { Untouched reader.old.state reader.old.source reader.new.source }
+        ensures stopped { KeepsSourceStopped reader.old reader.new }
     {
         let value = read_unsigned(reader, NumberType::U16, ctx.parts())?;
         Ok(value as u16)
@@ -84,10 +83,10 @@ impl<C: NumberCtx> DekuReader<C> for u32 {
     fn from_reader_with_ctx<R: Source>(reader: &mut Reader<R>, ctx: C) -> Result<Self, DekuError>
         ensures reads { Reads R.known (ReadsUnsigned (unsigned 32) (C.layout_of ctx)) reader.old
             result reader.new }
-        ensures fetched { OnOk result (FetchesFor (width (unsigned 32) (C.layout_of ctx))
-            reader.old.state (R.known reader.old.source) (R.known reader.new.source)) }
+        ensures fetched { OnOk result (Fetched R.known (width (unsigned 32) (C.layout_of ctx))
+            reader.old reader.new) }
         ensures early { OnOk result (NoReadAhead R.known reader.old reader.new) }
-        ensures stopped { Untouched reader.old.state reader.old.source reader.new.source }
+        ensures stopped { KeepsSourceStopped reader.old reader.new }
     {
         let value = read_unsigned(reader, NumberType::U32, ctx.parts())?;
         Ok(value as u32)
@@ -106,10 +105,10 @@ impl<C: NumberCtx> DekuReader<C> for u64 {
     fn from_reader_with_ctx<R: Source>(reader: &mut Reader<R>, ctx: C) -> Result<Self, DekuError>
         ensures reads { Reads R.known (ReadsUnsigned (unsigned 64) (C.layout_of ctx)) reader.old
             result reader.new }
-        ensures fetched { OnOk result (FetchesFor (width (unsigned 64) (C.layout_of ctx))
-            reader.old.state (R.known reader.old.source) (R.known reader.new.source)) }
+        ensures fetched { OnOk result (Fetched R.known (width (unsigned 64) (C.layout_of ctx))
+            reader.old reader.new) }
         ensures early { OnOk result (NoReadAhead R.known reader.old reader.new) }
-        ensures stopped { Untouched reader.old.state reader.old.source reader.new.source }
+        ensures stopped { KeepsSourceStopped reader.old reader.new }
     {
         let value = read_unsigned(reader, NumberType::U64, ctx.parts())?;
         Ok(value as u64)
@@ -128,10 +127,10 @@ impl<C: NumberCtx> DekuReader<C> for u128 {
     fn from_reader_with_ctx<R: Source>(reader: &mut Reader<R>, ctx: C) -> Result<Self, DekuError>
         ensures reads { Reads R.known (ReadsUnsigned (unsigned 128) (C.layout_of ctx)) reader.old
             result reader.new }
-        ensures fetched { OnOk result (FetchesFor (width (unsigned 128) (C.layout_of ctx))
-            reader.old.state (R.known reader.old.source) (R.known reader.new.source)) }
+        ensures fetched { OnOk result (Fetched R.known (width (unsigned 128) (C.layout_of ctx))
+            reader.old reader.new) }
         ensures early { OnOk result (NoReadAhead R.known reader.old reader.new) }
-        ensures stopped { Untouched reader.old.state reader.old.source reader.new.source }
+        ensures stopped { KeepsSourceStopped reader.old reader.new }
     {
         let value = read_unsigned(reader, NumberType::U128, ctx.parts())?;
         Ok(value)
@@ -150,10 +149,10 @@ impl<C: NumberCtx> DekuReader<C> for usize {
     fn from_reader_with_ctx<R: Source>(reader: &mut Reader<R>, ctx: C) -> Result<Self, DekuError>
         ensures reads { Reads R.known (ReadsUnsigned (unsigned 64) (C.layout_of ctx)) reader.old
             result reader.new }
-        ensures fetched { OnOk result (FetchesFor (width (unsigned 64) (C.layout_of ctx))
-            reader.old.state (R.known reader.old.source) (R.known reader.new.source)) }
+        ensures fetched { OnOk result (Fetched R.known (width (unsigned 64) (C.layout_of ctx))
+            reader.old reader.new) }
         ensures early { OnOk result (NoReadAhead R.known reader.old reader.new) }
-        ensures stopped { Untouched reader.old.state reader.old.source reader.new.source }
+        ensures stopped { KeepsSourceStopped reader.old reader.new }
     {
         let value = read_unsigned(reader, NumberType::USIZE, ctx.parts())?;
         Ok(value as usize)
@@ -173,10 +172,10 @@ impl<C: NumberCtx> DekuReader<C> for i8 {
     fn from_reader_with_ctx<R: Source>(reader: &mut Reader<R>, ctx: C) -> Result<Self, DekuError>
         ensures reads { Reads R.known (ReadsNumber (signed 8) (C.layout_of ctx)) reader.old result
             reader.new }
-        ensures fetched { OnOk result (FetchesFor (width (signed 8) (C.layout_of ctx))
-            reader.old.state (R.known reader.old.source) (R.known reader.new.source)) }
+        ensures fetched { OnOk result (Fetched R.known (width (signed 8) (C.layout_of ctx))
+            reader.old reader.new) }
         ensures early { OnOk result (NoReadAhead R.known reader.old reader.new) }
-        ensures stopped { Untouched reader.old.state reader.old.source reader.new.source }
+        ensures stopped { KeepsSourceStopped reader.old reader.new }
     {
         let value = read_signed(reader, NumberType::I8, ctx.parts())?;
         Ok(value as i8)
@@ -196,10 +195,10 @@ impl<C: NumberCtx> DekuReader<C> for i16 {
     fn from_reader_with_ctx<R: Source>(reader: &mut Reader<R>, ctx: C) -> Result<Self, DekuError>
         ensures reads { Reads R.known (ReadsNumber (signed 16) (C.layout_of ctx)) reader.old result
             reader.new }
-        ensures fetched { OnOk result (FetchesFor (width (signed 16) (C.layout_of ctx))
-            reader.old.state (R.known reader.old.source) (R.known reader.new.source)) }
+        ensures fetched { OnOk result (Fetched R.known (width (signed 16) (C.layout_of ctx))
+            reader.old reader.new) }
         ensures early { OnOk result (NoReadAhead R.known reader.old reader.new) }
-        ensures stopped { Untouched reader.old.state reader.old.source reader.new.source }
+        ensures stopped { KeepsSourceStopped reader.old reader.new }
     {
         let value = read_signed(reader, NumberType::I16, ctx.parts())?;
         Ok(value as i16)
@@ -219,10 +218,10 @@ impl<C: NumberCtx> DekuReader<C> for i32 {
     fn from_reader_with_ctx<R: Source>(reader: &mut Reader<R>, ctx: C) -> Result<Self, DekuError>
         ensures reads { Reads R.known (ReadsNumber (signed 32) (C.layout_of ctx)) reader.old result
             reader.new }
-        ensures fetched { OnOk result (FetchesFor (width (signed 32) (C.layout_of ctx))
-            reader.old.state (R.known reader.old.source) (R.known reader.new.source)) }
+        ensures fetched { OnOk result (Fetched R.known (width (signed 32) (C.layout_of ctx))
+            reader.old reader.new) }
         ensures early { OnOk result (NoReadAhead R.known reader.old reader.new) }
-        ensures stopped { Untouched reader.old.state reader.old.source reader.new.source }
+        ensures stopped { KeepsSourceStopped reader.old reader.new }
     {
         let value = read_signed(reader, NumberType::I32, ctx.parts())?;
         Ok(value as i32)
@@ -242,10 +241,10 @@ impl<C: NumberCtx> DekuReader<C> for i64 {
     fn from_reader_with_ctx<R: Source>(reader: &mut Reader<R>, ctx: C) -> Result<Self, DekuError>
         ensures reads { Reads R.known (ReadsNumber (signed 64) (C.layout_of ctx)) reader.old result
             reader.new }
-        ensures fetched { OnOk result (FetchesFor (width (signed 64) (C.layout_of ctx))
-            reader.old.state (R.known reader.old.source) (R.known reader.new.source)) }
+        ensures fetched { OnOk result (Fetched R.known (width (signed 64) (C.layout_of ctx))
+            reader.old reader.new) }
         ensures early { OnOk result (NoReadAhead R.known reader.old reader.new) }
-        ensures stopped { Untouched reader.old.state reader.old.source reader.new.source }
+        ensures stopped { KeepsSourceStopped reader.old reader.new }
     {
         let value = read_signed(reader, NumberType::I64, ctx.parts())?;
         Ok(value as i64)
@@ -265,10 +264,10 @@ impl<C: NumberCtx> DekuReader<C> for i128 {
     fn from_reader_with_ctx<R: Source>(reader: &mut Reader<R>, ctx: C) -> Result<Self, DekuError>
         ensures reads { Reads R.known (ReadsNumber (signed 128) (C.layout_of ctx)) reader.old result
             reader.new }
-        ensures fetched { OnOk result (FetchesFor (width (signed 128) (C.layout_of ctx))
-            reader.old.state (R.known reader.old.source) (R.known reader.new.source)) }
+        ensures fetched { OnOk result (Fetched R.known (width (signed 128) (C.layout_of ctx))
+            reader.old reader.new) }
         ensures early { OnOk result (NoReadAhead R.known reader.old reader.new) }
-        ensures stopped { Untouched reader.old.state reader.old.source reader.new.source }
+        ensures stopped { KeepsSourceStopped reader.old reader.new }
     {
         let value = read_signed(reader, NumberType::I128, ctx.parts())?;
         Ok(value)
@@ -288,10 +287,10 @@ impl<C: NumberCtx> DekuReader<C> for isize {
     fn from_reader_with_ctx<R: Source>(reader: &mut Reader<R>, ctx: C) -> Result<Self, DekuError>
         ensures reads { Reads R.known (ReadsNumber (signed 64) (C.layout_of ctx)) reader.old result
             reader.new }
-        ensures fetched { OnOk result (FetchesFor (width (signed 64) (C.layout_of ctx))
-            reader.old.state (R.known reader.old.source) (R.known reader.new.source)) }
+        ensures fetched { OnOk result (Fetched R.known (width (signed 64) (C.layout_of ctx))
+            reader.old reader.new) }
         ensures early { OnOk result (NoReadAhead R.known reader.old reader.new) }
-        ensures stopped { Untouched reader.old.state reader.old.source reader.new.source }
+        ensures stopped { KeepsSourceStopped reader.old reader.new }
     {
         let value = read_signed(reader, NumberType::ISIZE, ctx.parts())?;
         Ok(value as isize)

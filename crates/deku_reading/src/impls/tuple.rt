@@ -104,8 +104,7 @@ impl<
 > DekuReader<Ctx> for (A, B, C, D, E) {
     ghost accepts = { λ c. A.accepts c × ⟦<(B, C, D, E) as DekuReader<Ctx>>⟧.accepts c };
 
-    ghost no_read_ahead = { λ c. A.no_read_ahead c × ⟦<(B, C, D, E) as
-        DekuReader<Ctx>>⟧.no_read_ahead c };
+    ghost no_read_ahead = { λ c. A.no_read_ahead c × ⟦<(B, C, D, E) as DekuReader<Ctx>>⟧.no_read_ahead c };
 
     ghost meaning = { λ c. JoinedBy (λ a rest. (a, rest.0, rest.1, rest.2, rest.3)) (A.meaning c)
         (⟦<(B, C, D, E) as DekuReader<Ctx>>⟧.meaning c) };
@@ -132,8 +131,7 @@ impl<
 > DekuReader<Ctx> for (A, B, C, D, E, F) {
     ghost accepts = { λ c. A.accepts c × ⟦<(B, C, D, E, F) as DekuReader<Ctx>>⟧.accepts c };
 
-    ghost no_read_ahead = { λ c. A.no_read_ahead c × ⟦<(B, C, D, E, F) as
-        DekuReader<Ctx>>⟧.no_read_ahead c };
+    ghost no_read_ahead = { λ c. A.no_read_ahead c × ⟦<(B, C, D, E, F) as DekuReader<Ctx>>⟧.no_read_ahead c };
 
     ghost meaning = { λ c. JoinedBy (λ a rest. (a, rest.0, rest.1, rest.2, rest.3, rest.4))
         (A.meaning c) (⟦<(B, C, D, E, F) as DekuReader<Ctx>>⟧.meaning c) };
@@ -161,8 +159,7 @@ impl<
 > DekuReader<Ctx> for (A, B, C, D, E, F, G) {
     ghost accepts = { λ c. A.accepts c × ⟦<(B, C, D, E, F, G) as DekuReader<Ctx>>⟧.accepts c };
 
-    ghost no_read_ahead = { λ c. A.no_read_ahead c × ⟦<(B, C, D, E, F, G) as
-        DekuReader<Ctx>>⟧.no_read_ahead c };
+    ghost no_read_ahead = { λ c. A.no_read_ahead c × ⟦<(B, C, D, E, F, G) as DekuReader<Ctx>>⟧.no_read_ahead c };
 
     ghost meaning = { λ c. JoinedBy (λ a rest. (a, rest.0, rest.1, rest.2, rest.3, rest.4, rest.5))
         (A.meaning c) (⟦<(B, C, D, E, F, G) as DekuReader<Ctx>>⟧.meaning c) };
@@ -191,8 +188,7 @@ impl<
 > DekuReader<Ctx> for (A, B, C, D, E, F, G, H) {
     ghost accepts = { λ c. A.accepts c × ⟦<(B, C, D, E, F, G, H) as DekuReader<Ctx>>⟧.accepts c };
 
-    ghost no_read_ahead = { λ c. A.no_read_ahead c × ⟦<(B, C, D, E, F, G, H) as
-        DekuReader<Ctx>>⟧.no_read_ahead c };
+    ghost no_read_ahead = { λ c. A.no_read_ahead c × ⟦<(B, C, D, E, F, G, H) as DekuReader<Ctx>>⟧.no_read_ahead c };
 
     ghost meaning = { λ c. JoinedBy (λ a rest. (
       a,
@@ -231,8 +227,7 @@ impl<
     ghost accepts = { λ c. A.accepts c × ⟦<(B, C, D, E, F, G, H, I) as DekuReader<Ctx>>⟧.accepts
         c };
 
-    ghost no_read_ahead = { λ c. A.no_read_ahead c × ⟦<(B, C, D, E, F, G, H, I) as
-        DekuReader<Ctx>>⟧.no_read_ahead c };
+    ghost no_read_ahead = { λ c. A.no_read_ahead c × ⟦<(B, C, D, E, F, G, H, I) as DekuReader<Ctx>>⟧.no_read_ahead c };
 
     ghost meaning = { λ c. JoinedBy (λ a rest. (
       a,
@@ -276,8 +271,7 @@ impl<
     ghost accepts = { λ c. A.accepts c × ⟦<(B, C, D, E, F, G, H, I, J) as DekuReader<Ctx>>⟧.accepts
         c };
 
-    ghost no_read_ahead = { λ c. A.no_read_ahead c × ⟦<(B, C, D, E, F, G, H, I, J) as
-        DekuReader<Ctx>>⟧.no_read_ahead c };
+    ghost no_read_ahead = { λ c. A.no_read_ahead c × ⟦<(B, C, D, E, F, G, H, I, J) as DekuReader<Ctx>>⟧.no_read_ahead c };
 
     ghost meaning = { λ c. JoinedBy (λ a rest. (
       a,
@@ -320,11 +314,9 @@ impl<
     J: DekuReader<Ctx>,
     K: DekuReader<Ctx>,
 > DekuReader<Ctx> for (A, B, C, D, E, F, G, H, I, J, K) {
-    ghost accepts = { λ c. A.accepts c × ⟦<(B, C, D, E, F, G, H, I, J, K) as
-        DekuReader<Ctx>>⟧.accepts c };
+    ghost accepts = { λ c. A.accepts c × ⟦<(B, C, D, E, F, G, H, I, J, K) as DekuReader<Ctx>>⟧.accepts c };
 
-    ghost no_read_ahead = { λ c. A.no_read_ahead c × ⟦<(B, C, D, E, F, G, H, I, J, K) as
-        DekuReader<Ctx>>⟧.no_read_ahead c };
+    ghost no_read_ahead = { λ c. A.no_read_ahead c × ⟦<(B, C, D, E, F, G, H, I, J, K) as DekuReader<Ctx>>⟧.no_read_ahead c };
 
     ghost meaning = { λ c. JoinedBy (λ a rest. (
       a,

@@ -7,8 +7,9 @@ ghost use Rattle.std.specs.IoError.{error_kind};
 ghost use Rattle.std.specs.declared.io.SeekFrom.TheVariants.{Start, Current};
 ghost use Rattle.deku_stream.specs.declared.error.DekuError.{DekuError};
 ghost use Rattle.deku_device.specs.Seeking.{Seeks, RefusedSeek, StandsAt, toward};
-ghost use Rattle.deku_stream.specs.Standings.{Going, Stopped, count_of};
+ghost use Rattle.deku_stream.specs.Standings.{Going, Stopped};
 ghost use Rattle.deku_stream.specs.Writers.{Nothing};
+ghost use Rattle.deku_writer.specs.WriterCalls.{sink_of, written_count, WritesOn, StopsWriting};
 
 use crate::writer::{Writer, WriterState};
 use deku_device::device::Sink;
@@ -28,20 +29,21 @@ use std::io::{Seek, SeekFrom};
 /// ```
 impl<W: Sink> Seek for Writer<W> {
     fn seek(&mut self, to: SeekFrom) -> io::Result<u64>
-        ensures ok { OnOk result (self.new.state ≡ Going Nothing (count_of self.old.state)) }
-        ensures err { IfErr result (λ e. self.new.state ≡ Stopped Nothing
-            (DekuError.Io (error_kind e)) (count_of self.old.state)) }
+        ensures ok { OnOk result (WritesOn self.new (written_count self.old)) }
+        ensures err { IfErr result (λ e. StopsWriting self.new (DekuError.Io (error_kind e))
+            (written_count self.old)) }
         // Where the sink knows its place and its bytes, it is where its own seek leaves it.
-        ensures place { SeekMoves (W.stream_position self.old.sink)
-            (W.stream_position self.new.sink) (W.stream_bytes self.old.sink) to result }
-        ensures sink_bytes { Keeps (W.stream_bytes self.old.sink) (W.stream_bytes self.new.sink) }
+        ensures place { SeekMoves (W.stream_position (sink_of self.old))
+            (W.stream_position (sink_of self.new)) (W.stream_bytes (sink_of self.old)) to result }
+        ensures sink_bytes { Keeps (W.stream_bytes (sink_of self.old))
+            (W.stream_bytes (sink_of self.new)) }
         // Where the sink tells all its bytes, it goes on among them there.
-        ensures sought { Seeks (W.known self.old.sink).health (W.known self.new.sink).health to
-            result }
-        ensures stands { StandsAt (W.known self.old.sink).health.whole result
-            (W.known self.new.sink) }
-        ensures nowhere { RefusedSeek (W.known self.old.sink).health (W.known self.new.sink).health
-            to result }
+        ensures sought { Seeks (W.known (sink_of self.old)).health
+            (W.known (sink_of self.new)).health to result }
+        ensures stands { StandsAt (W.known (sink_of self.old)).health.whole result
+            (W.known (sink_of self.new)) }
+        ensures nowhere { RefusedSeek (W.known (sink_of self.old)).health
+            (W.known (sink_of self.new)).health to result }
         // What the trait asks of a stream whose own place is not known.
         ensures moves { SeekMoves None None None to result }
         ensures bytes { Keeps None None }
@@ -60,18 +62,19 @@ impl<W: Sink> Seek for Writer<W> {
 
     /// Seeks to the start, as `seek(SeekFrom::Start(0))` does.
     fn rewind(&mut self) -> io::Result<()>
-        ensures ok { OnOk result (self.new.state ≡ Going Nothing (count_of self.old.state)) }
-        ensures err { IfErr result (λ e. self.new.state ≡ Stopped Nothing
-            (DekuError.Io (error_kind e)) (count_of self.old.state)) }
-        ensures place { MovesTo (W.stream_position self.old.sink) (W.stream_position self.new.sink)
-            0 result }
-        ensures sink_bytes { Keeps (W.stream_bytes self.old.sink) (W.stream_bytes self.new.sink) }
-        ensures sought { Seeks (W.known self.old.sink).health (W.known self.new.sink).health
-            (Start 0) (toward 0 result) }
-        ensures stands { StandsAt (W.known self.old.sink).health.whole (toward 0 result)
-            (W.known self.new.sink) }
-        ensures nowhere { RefusedSeek (W.known self.old.sink).health (W.known self.new.sink).health
-            (Start 0) (toward 0 result) }
+        ensures ok { OnOk result (WritesOn self.new (written_count self.old)) }
+        ensures err { IfErr result (λ e. StopsWriting self.new (DekuError.Io (error_kind e))
+            (written_count self.old)) }
+        ensures place { MovesTo (W.stream_position (sink_of self.old))
+            (W.stream_position (sink_of self.new)) 0 result }
+        ensures sink_bytes { Keeps (W.stream_bytes (sink_of self.old))
+            (W.stream_bytes (sink_of self.new)) }
+        ensures sought { Seeks (W.known (sink_of self.old)).health
+            (W.known (sink_of self.new)).health (Start 0) (toward 0 result) }
+        ensures stands { StandsAt (W.known (sink_of self.old)).health.whole (toward 0 result)
+            (W.known (sink_of self.new)) }
+        ensures nowhere { RefusedSeek (W.known (sink_of self.old)).health
+            (W.known (sink_of self.new)).health (Start 0) (toward 0 result) }
         ensures moves { MovesTo None None 0 result }
         ensures bytes { Keeps None None }
     {
@@ -81,19 +84,20 @@ impl<W: Sink> Seek for Writer<W> {
 
     /// The place of the sink, as `seek(SeekFrom::Current(0))` answers it: so it drops pending bits.
     fn stream_position(&mut self) -> io::Result<u64>
-        ensures ok { OnOk result (self.new.state ≡ Going Nothing (count_of self.old.state)) }
-        ensures err { IfErr result (λ e. self.new.state ≡ Stopped Nothing
-            (DekuError.Io (error_kind e)) (count_of self.old.state)) }
-        ensures place { SeekMoves (W.stream_position self.old.sink)
-            (W.stream_position self.new.sink) (W.stream_bytes self.old.sink) (Current (pos 0))
-            result }
-        ensures sink_bytes { Keeps (W.stream_bytes self.old.sink) (W.stream_bytes self.new.sink) }
-        ensures sought { Seeks (W.known self.old.sink).health (W.known self.new.sink).health
+        ensures ok { OnOk result (WritesOn self.new (written_count self.old)) }
+        ensures err { IfErr result (λ e. StopsWriting self.new (DekuError.Io (error_kind e))
+            (written_count self.old)) }
+        ensures place { SeekMoves (W.stream_position (sink_of self.old))
+            (W.stream_position (sink_of self.new)) (W.stream_bytes (sink_of self.old))
             (Current (pos 0)) result }
-        ensures stands { StandsAt (W.known self.old.sink).health.whole result
-            (W.known self.new.sink) }
-        ensures nowhere { RefusedSeek (W.known self.old.sink).health (W.known self.new.sink).health
-            (Current (pos 0)) result }
+        ensures sink_bytes { Keeps (W.stream_bytes (sink_of self.old))
+            (W.stream_bytes (sink_of self.new)) }
+        ensures sought { Seeks (W.known (sink_of self.old)).health
+            (W.known (sink_of self.new)).health (Current (pos 0)) result }
+        ensures stands { StandsAt (W.known (sink_of self.old)).health.whole result
+            (W.known (sink_of self.new)) }
+        ensures nowhere { RefusedSeek (W.known (sink_of self.old)).health
+            (W.known (sink_of self.new)).health (Current (pos 0)) result }
         ensures stays { StaysAt None None }
         ensures bytes { Keeps None None }
     {
@@ -102,18 +106,19 @@ impl<W: Sink> Seek for Writer<W> {
 
     /// Seeks from its place, as `seek(SeekFrom::Current(offset))` does.
     fn seek_relative(&mut self, offset: i64) -> io::Result<()>
-        ensures ok { OnOk result (self.new.state ≡ Going Nothing (count_of self.old.state)) }
-        ensures err { IfErr result (λ e. self.new.state ≡ Stopped Nothing
-            (DekuError.Io (error_kind e)) (count_of self.old.state)) }
-        ensures place { MovesBy (W.stream_position self.old.sink) (W.stream_position self.new.sink)
-            offset result }
-        ensures sink_bytes { Keeps (W.stream_bytes self.old.sink) (W.stream_bytes self.new.sink) }
-        ensures sought { (n : ℕ) × Seeks (W.known self.old.sink).health
-            (W.known self.new.sink).health (Current offset) (toward n result)
-            × StandsAt (W.known self.old.sink).health.whole (toward n result)
-            (W.known self.new.sink) }
-        ensures nowhere { RefusedSeek (W.known self.old.sink).health (W.known self.new.sink).health
-            (Current offset) (toward 0 result) }
+        ensures ok { OnOk result (WritesOn self.new (written_count self.old)) }
+        ensures err { IfErr result (λ e. StopsWriting self.new (DekuError.Io (error_kind e))
+            (written_count self.old)) }
+        ensures place { MovesBy (W.stream_position (sink_of self.old))
+            (W.stream_position (sink_of self.new)) offset result }
+        ensures sink_bytes { Keeps (W.stream_bytes (sink_of self.old))
+            (W.stream_bytes (sink_of self.new)) }
+        ensures sought { (n : ℕ) × Seeks (W.known (sink_of self.old)).health
+            (W.known (sink_of self.new)).health (Current offset) (toward n result)
+            × StandsAt (W.known (sink_of self.old)).health.whole (toward n result)
+            (W.known (sink_of self.new)) }
+        ensures nowhere { RefusedSeek (W.known (sink_of self.old)).health
+            (W.known (sink_of self.new)).health (Current offset) (toward 0 result) }
         ensures moves { MovesBy None None offset result }
         ensures bytes { Keeps None None }
     {
