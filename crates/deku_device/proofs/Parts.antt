@@ -1,8 +1,9 @@
 -- Parts of lists.
-use Rattle.std.proofs.Common.{◌≡◌, ℕ, ◌+◌, ◌-◌, ◌<◌, ◌≤◌, ◌^◌, List, [], ◌∷◌, ◌++◌, length, get_or, suc, take, drop, sym, ap, ◌∙◌, arith, min, refl}
-use Rattle.std.proofs.lemmas.List.{drop-drop, take-append-drop, drop_all, length-drop, length-take, drop_more, take_more, get_or-drop, drop-append-le, take_at}
+use Rattle.std.proofs.Common.{rules, replicate, Some, append_assoc, ◌≡◌, ℕ, ◌+◌, ◌-◌, ◌<◌, ◌≤◌, ◌^◌, List, [], ◌∷◌, ◌++◌, length, get_or, suc, take, drop, sym, ap, ◌∙◌, arith, min, refl}
+use Rattle.std.proofs.lemmas.List.{places, same_lists, length-append, drop-drop, take-append-drop, drop_all, length-drop, length-take, drop_more, take_more, take_rest, get_or-drop, take_at}
 use Rattle.std.proofs.lemmas.Bool.{cases_lt}
 use Rattle.std.proofs.Common.{⊎_elim}
+use Rattle.deku_device.specs.Devices.{BeginsThenZeros}
 
 -- a part of a list, and what is after it
 pub cut_part : {X : Type 0} (xs : List X) (at n : ℕ) → drop at xs ≡ take n (drop at xs) ++ drop (at + n) xs
@@ -40,8 +41,42 @@ pub part_long : {X : Type 0} (xs : List X) (s e : ℕ) (ys : List X) → take (e
 part_long xs s e ys p h =
     let n : length ys ≤ e - s = rw (← p) (simp length-take (omega arith)) in omega arith
 
--- where a list goes on with a run, it goes on behind the first of the run with the others
-pub run_ahead : {X : Type 0} (run xs : List X) (at n k : ℕ) → length run ≡ k → n ≤ k → drop at xs ≡ run ++ drop (at + k) xs → take (length (drop n run)) (drop (at + n) xs) ≡ drop n run
-run_ahead run xs at n k l h e =
-    let rest : drop (at + n) xs ≡ drop n run ++ drop (at + k) xs = sym (drop-drop n at xs) ∙ ap (drop n) e ∙ drop-append-le n run (drop (at + k) xs) (omega arith) in
-    ap (take (length (drop n run))) rest ∙ take_at (drop n run) (drop (at + k) xs) (length (drop n run)) refl
+front_of_filled : (xs zs eight : List ℕ) (n : ℕ) → eight ≡ take 8 (xs ++ zs) → n ≤ length xs → n ≤ 8 → xs ≡ take n eight ++ drop n xs
+front_of_filled xs zs eight n e fits few =
+    let front : take n eight ≡ take n xs = ap (take n) e ∙ same_lists _ _ (search (rules, places)) (λ k d h. grind (arith, places)) in
+    sym (ap (λ ys. ys ++ drop n xs) front ∙ take-append-drop n xs)
+
+rest_of_filled : (xs : List ℕ) (n m : ℕ) → n ≤ length xs → n ≤ m → drop n (take m (xs ++ replicate m 0)) ≡ take (m - n) (drop n xs ++ replicate (m - n) 0)
+rest_of_filled xs n m fits few = same_lists _ _ (search (rules, places)) (λ k d h. grind (arith, places))
+
+-- eight bytes from a place on, with zeros after the last: the first n of them, and the rest of the list
+pub eight_front : (all eight : List ℕ) (at n : ℕ) → eight ≡ take 8 (drop at all ++ replicate 8 0) → n ≤ length (drop at all) → n ≤ 8 → drop at all ≡ take n eight ++ drop (at + n) all
+eight_front all eight at n e fits few =
+    front_of_filled (drop at all) (replicate 8 0) eight n e fits few ∙ ap (λ ys. take n eight ++ ys) (drop-drop n at all)
+
+-- and the others of the eight
+pub eight_rest : (all eight : List ℕ) (at n : ℕ) → eight ≡ take 8 (drop at all ++ replicate 8 0) → n ≤ length (drop at all) → n ≤ 8 → BeginsThenZeros (drop n eight) (Some (drop (at + n) all))
+eight_rest all eight at n e fits few =
+    let count : length eight ≡ 8 = ap length e ∙ simp (length-take, length-append) (omega arith) in
+    let left : length (drop n eight) ≡ 8 - n = length-drop n eight ∙ ap (λ k. k - n) count in
+    rw (← drop-drop n at all, left) (ap (drop n) e ∙ rest_of_filled (drop at all) n 8 fits few)
+
+-- where eight bytes are there, no zeros are among them
+pub eight_there : (all eight : List ℕ) (at : ℕ) → length eight ≡ 8 → drop at all ≡ eight ++ drop (at + 8) all → eight ≡ take 8 (drop at all ++ replicate 8 0)
+eight_there all eight at l e =
+    sym (ap (λ ys. take 8 (ys ++ replicate 8 0)) e ∙ ap (take 8) (append_assoc eight (drop (at + 8) all) (replicate 8 0)) ∙ take_at eight (drop (at + 8) all ++ replicate 8 0) 8 l)
+
+pub eight_long : (all eight : List ℕ) (at n : ℕ) → length eight ≡ 8 → drop at all ≡ eight ++ drop (at + 8) all → n ≤ 8 → n ≤ length (drop at all)
+eight_long all eight at n l e few = omega (arith, ap length e, length-append eight (drop (at + 8) all))
+
+filled_to : (xs : List ℕ) (k m : ℕ) → k ≡ min (length xs) m → take k xs ++ drop k (replicate m 0) ≡ take m (xs ++ replicate m 0)
+filled_to xs k m e = same_lists _ _ (search (rules, places)) (λ i d h. grind (arith, places))
+
+-- as many as are there, and zeros after them
+pub eight_filled : (all part : List ℕ) (at s k : ℕ) → s ≡ min (length all) at → k ≡ min (length (take (length all - s) (drop s all))) 8
+    → part ≡ take k (take (length all - s) (drop s all)) → part ++ drop k (replicate 8 0) ≡ take 8 (drop at all ++ replicate 8 0)
+eight_filled all part at s k e n p =
+    let place : s ≡ min at (length all) = omega arith in
+    let last : take (length all - s) (drop s all) ≡ drop at all = take_rest all s ∙ ap (λ i. drop i all) place ∙ drop_min_le all at (length all) (omega arith) in
+    let count : k ≡ min (length (drop at all)) 8 = n ∙ ap (λ ys. min (length ys) 8) last in
+    ap (λ ys. ys ++ drop k (replicate 8 0)) (p ∙ ap (take k) last) ∙ filled_to (drop at all) k 8 count

@@ -1,17 +1,19 @@
 -- All bytes of a device, call after call.
 use Rattle.std.proofs.Common.{◌≡◌, ℕ, ◌+◌, ◌-◌, ◌≤◌, ◌<◌, min, List, [], ◌∷◌, ◌++◌, length, take, drop, replicate, Option, Some, None, refl, sym, ap, ◌∙◌, arith, rules, suc, zero, append_assoc, drop-drop, inl, inr, subst}
-use Rattle.std.proofs.lemmas.List.{places, same_lists, length-take, length-drop, length-append, drop_at, take-append-drop, drop_all, length-take-le, length-replicate, append-nil, nil_from_length}
-use Rattle.std.proofs.lemmas.Bool.{cases_lt}
+use Rattle.std.proofs.lemmas.List.{take_at, places, same_lists, length-take, length-drop, length-append, drop_at, take-append-drop, drop_all, length-take-le, length-replicate, append-nil, nil_from_length}
+use Rattle.std.proofs.lemmas.Bool.{cases_lt, le-leb}
 use Rattle.std.proofs.Common.{⊎_elim}
-use Rattle.deku_device.specs.Devices.{Access, ReadOnly, Overwritten, Grows, Changes, Whole, Onward, Transferred, GoesOnward, FewerThan, ShrinksSome}
+use Rattle.deku_device.specs.Devices.{Access, ReadOnly, Overwritten, Grows, Changes, Whole, Onward, Transferred, GoesOnward, FewerThan, ShrinksSome, Gave, bytes_before}
 use Rattle.std.specs.Prelude.{Result, Ok, Err, IfErr, IfSome, pos, negsuc, option_map}
-use Rattle.std.specs.Io.KnownBytes.{Consumes}
-use Rattle.std.specs.Io.Cursor.{IsSeekResult, IsSeekFromEnd}
+use Rattle.std.specs.Io.KnownBytes.{Consumes, Appends}
+use Rattle.std.specs.Io.Cursor.{IsSeekResult, IsSeekFromEnd, cursor_position, cursor_inner}
 use Rattle.std.specs.declared.io.SeekFrom.{SeekFrom}
 use Rattle.std.specs.declared.io.SeekFrom.TheVariants.{Start, End, Current}
 use Rattle.deku_device.specs.Seeking.{LeadsNowhere}
-use Rattle.deku_device.specs.Cursors.{read_whole, fitting_front, reaching, failures_at}
+use Rattle.deku_device.specs.Cursors.{read_whole, fitting_front, reaching, failures_at, known_vector}
 use Rattle.deku_device.specs.Overlays.{overlaid}
+use Rattle.std.specs.Global.{Vec}
+use Rattle.std.specs.declared.io.Cursor.{Cursor}
 
 changes_on : (a : Access) (x y z : List ℕ) → Changes a x y → Changes a y z → Changes a x z
 changes_on ReadOnly x y z p q = q ∙ p
@@ -162,6 +164,28 @@ vector_onward a b p q bytes e n =
       back = rw (e, n) back;
       size = tt;
     })
+
+-- and the bytes before the new place are the old ones and these, where the place was not past the end
+taken_onward : (a b : List ℕ) (p q : ℕ) (bytes : List ℕ) → p ≤ length a → b ≡ overlaid a p bytes → q ≡ p + length bytes → Appends (bytes_before p a) (bytes_before q b) bytes
+taken_onward a b p q bytes le e n =
+    let front : length (take p a ++ bytes) ≡ q = length-append (take p a) bytes ∙ ap (λ k. k + length bytes) (length-take-le p a le) ∙ sym n in
+    let part : take q b ≡ take p a ++ bytes = ap (take q) e ∙ take_at (take p a ++ bytes) (drop (p + length bytes) a) q front in
+    let inside : q ≤ length b = omega (arith, ap length e, length-append (take p a ++ bytes) (drop (p + length bytes) a), front) in
+    rw (le-leb p (length a) le, le-leb q (length b) inside) part
+
+-- bytes were laid over a vector, from a place in it on
+pub vector_laid : (c d : Cursor (Vec ℕ)) (bytes : List ℕ) → cursor_position c ≤ length (cursor_inner c).items → (cursor_inner d).items ≡ overlaid (cursor_inner c).items (cursor_position c) bytes
+    → cursor_position d ≡ cursor_position c + length bytes → Gave (known_vector c) (known_vector d) bytes
+vector_laid c d bytes le e n =
+    let a : List ℕ = (cursor_inner c).items in
+    let p : ℕ = cursor_position c in
+    let none : p - length a ≡ 0 = omega arith in
+    let same : reaching p a ≡ a = ap (λ k. a ++ replicate k 0) none ∙ append-nil a in
+    record {
+      taken = taken_onward a (cursor_inner d).items p (cursor_position d) bytes le e n;
+      room = tt;
+      health = record { failures = omega arith; lenders = refl; whole = vector_onward a (cursor_inner d).items p (cursor_position d) bytes (e ∙ ap (λ x. overlaid x p bytes) (sym same)) n };
+    }
 
 -- a cursor that is not refused leads to its target, and one that is refused leads nowhere
 pub nowhere : {E : Type 0} (w : Whole) (to : SeekFrom) (r : Result ℕ E) → IsSeekResult to w.place r → IsSeekFromEnd to (length w.bytes) r → IfErr r (λ e. LeadsNowhere w to)

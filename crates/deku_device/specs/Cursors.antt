@@ -1,6 +1,7 @@
 -- What a cursor tells by its place, and what one that fails once tells.
-use Rattle.std.specs.Prelude.{◌≡◌, ℕ, zero, suc, ◌-◌, List, [], ◌∷◌, ◌++◌, length, take, drop, replicate, Option, None, Some}
+use Rattle.std.specs.Prelude.{◌≡◌, ◌⊎◌, ◌≤◌, ◌+◌, ℕ, zero, suc, ◌-◌, List, [], ◌∷◌, ◌++◌, length, take, drop, replicate, Option, None, Some}
 use Rattle.std.specs.Global.{Vec}
+use Rattle.std.specs.Vec.{vec_capacity}
 use Rattle.std.specs.Borrow.{MutBor}
 use Rattle.std.specs.Io.Cursor.{cursor_remaining, cursor_position, cursor_inner}
 use Rattle.std.specs.declared.io.Cursor.{Cursor}
@@ -82,3 +83,7 @@ fitting_front all place bytes = take (length all - place) bytes
 -- bytes with zeros behind them, as many as they lack up to a place
 abbrev pub reaching : ℕ → List ℕ → List ℕ
 reaching place all = all ++ replicate (place - length all) 0
+
+-- a vector has room for eight bytes from a place on: over those that are there, or at its end, where it has space
+abbrev pub RoomForEight : ℕ → Vec ℕ → Type 0
+RoomForEight place v = (place + 8 ≤ length v.items) ⊎ ((place ≡ length v.items) × (place + 8 ≤ vec_capacity v))

@@ -1,5 +1,5 @@
 -- What sources and sinks tell of themselves, and what a transfer does to it.
-use Rattle.std.specs.Prelude.{◌≡◌, ◌⊎◌, ℕ, ◌-◌, ◌<◌, ◌≤◌, List, [], ◌++◌, length, drop, take, Option, None, Some, ⊤, nat_le, if◌then◌else◌}
+use Rattle.std.specs.Prelude.{◌≡◌, ◌⊎◌, ℕ, ◌-◌, ◌<◌, ◌≤◌, List, [], ◌++◌, length, drop, take, replicate, Option, None, Some, ⊤, nat_le, if◌then◌else◌}
 use Rattle.std.specs.Borrow.{GName}
 use Rattle.std.specs.Io.KnownBytes.{Appends}
 use Rattle.std.specs.declared.io.ErrorKind.{ErrorKind}
@@ -109,10 +109,10 @@ Loses n None new = ⊤
 Loses n (Some bs) None = ⊥
 Loses n (Some bs) (Some cs) = (n ≤ length bs) × (cs ≡ drop n bs)
 
--- bytes that are told begin with these
-abbrev pub BeginsWith : List ℕ → Option (List ℕ) → Type 0
-BeginsWith bytes None = ⊤
-BeginsWith bytes (Some remaining) = take (length bytes) remaining ≡ bytes
+-- bytes that are told, followed by zeros, begin with these
+abbrev pub BeginsThenZeros : List ℕ → Option (List ℕ) → Type 0
+BeginsThenZeros bytes None = ⊤
+BeginsThenZeros bytes (Some remaining) = bytes ≡ take (length bytes) (remaining ++ replicate (length bytes) 0)
 
 -- where it was told that no byte is to come, it is told again
 abbrev pub StaysEmpty : Option (List ℕ) → Option (List ℕ) → Type 0

@@ -2,15 +2,15 @@
 
 #![tactic(auto, using(crate::proofs::Wholes::onward_same, crate::proofs::Wholes::read_onward, crate::proofs::Wholes::nowhere, crate::proofs::Wholes::slice_onward, crate::proofs::Wholes::vector_onward))]
 
-ghost use Rattle.std.specs.Prelude.{◌≡◌, ◌≢◌, ℕ, ◌^◌, ◌<◌, ◌≤◌, ◌+◌, ◌-◌, ◌++◌, ◌∷◌, min, List, [], length, take, drop, Option, Some, None, OnOk, OnErr, IsOk, IfErr, IfSome, IsNone, IsTrue, IsFalse, ◌↔◌, All};
+ghost use Rattle.std.specs.Prelude.{◌≡◌, ◌≢◌, ℕ, ◌^◌, ◌<◌, ◌≤◌, ◌+◌, ◌-◌, ◌++◌, ◌∷◌, min, List, [], length, take, drop, replicate, Option, Some, None, OnOk, OnErr, IsOk, IfErr, IfSome, IsNone, IsTrue, IsFalse, ◌↔◌, All};
 ghost use Rattle.std.specs.Int.{w64, from_le_bytes};
 ghost use Rattle.std.specs.Io.KnownBytes.{Consumes, Keeps};
 ghost use Rattle.std.specs.Io.Cursor.{cursor_position, cursor_inner, cursor_remaining};
 ghost use Rattle.std.specs.IoError.{error_kind};
 ghost use Rattle.std.specs.Vec.{vec_len, vec_capacity};
 ghost use Rattle.std.specs.Io.Seek.{SeekMoves};
-ghost use Rattle.deku_device.specs.Devices.{KnownSource, KnownSink, unknown_source, unknown_sink, DeviceKept, DeviceFailed, FewerThan, Passes, StaysEmpty, BeginsWith, bytes_before, Gave, Declined};
-ghost use Rattle.deku_device.specs.Cursors.{cursor_known, cursor_source, known_slice, known_vector, fitting_front, reaching};
+ghost use Rattle.deku_device.specs.Devices.{KnownSource, KnownSink, unknown_source, unknown_sink, DeviceKept, DeviceFailed, FewerThan, Passes, StaysEmpty, BeginsThenZeros, bytes_before, Gave, Declined};
+ghost use Rattle.deku_device.specs.Cursors.{cursor_known, cursor_source, known_slice, known_vector, fitting_front, reaching, RoomForEight};
 ghost use Rattle.deku_device.specs.Overlays.{overlaid};
 ghost use Rattle.deku_device.specs.Seeking.{place_on, Seeks, RefusedSeek, ComesFrom, StandsAt};
 
@@ -65,24 +65,25 @@ pub trait Source: Read + Seek {
             (known self.new).health) }
         ensures kept { DeviceKept (known self.old).health (known self.new).health };
 
-    /// The next eight bytes, where they are at hand, of which the first `n` are passed. The
-    /// caller's condition: `n` is at most 8.
+    /// The next eight bytes, if they are at hand; the first `n` are passed. The caller's condition:
+    /// `n` is at most 8.
     ///
-    /// The bytes behind the first `n` are still to come. It answers none where the next eight are
-    /// not at hand, as where fewer are to come, and may do so always, as it does where an
-    /// implementation does not say otherwise. Then nothing moves, and it says nothing of what is to
-    /// come.
+    /// The bytes after the first `n` are still to come. If fewer than eight bytes are to come,
+    /// zeros follow the last of them. It returns `None` if fewer than `n` bytes are to come, and
+    /// may do so always, as it does if an implementation does not say otherwise. Then nothing
+    /// moves.
     ///
     /// ```text
     /// let mut source = Cursor::new(bytes); // 01 02 03 04 05 06 07 08 09
     /// source.try_take(2);                   // Some of 01 02 03 04 05 06 07 08; the next byte to come is 03
-    /// source.try_take(2);                   // None: seven bytes are to come, from 03 on
+    /// source.try_take(5);                   // Some of 03 04 05 06 07 08 09 00; the next byte to come is 08
+    /// source.try_take(3);                   // None: two bytes are to come, from 08 on
     /// ```
     fn try_take(&mut self, n: usize) -> Option<[u8; 8]>
         requires { n ≤ 8 }
         ensures bytes { IfSome result (λ eight. Consumes (known self.old).remaining
             (known self.new).remaining (take n eight)) }
-        ensures ahead { IfSome result (λ eight. BeginsWith (drop n eight)
+        ensures ahead { IfSome result (λ eight. BeginsThenZeros (drop n eight)
             (known self.new).remaining) }
         ensures none { IsNone result → self.new ≡ self.old }
         ensures kept { DeviceKept (known self.old).health (known self.new).health }
@@ -350,11 +351,11 @@ impl<T: AsBytes> Source for Cursor<T> {
         requires { n ≤ 8 }
         ensures bytes { IfSome result (λ eight. Consumes (cursor_remaining T.bytes self.old)
             (cursor_remaining T.bytes self.new) (take n eight)) }
-        ensures ahead { IfSome result (λ eight. BeginsWith (drop n eight)
+        ensures ahead { IfSome result (λ eight. BeginsThenZeros (drop n eight)
             (cursor_remaining T.bytes self.new)) }
         ensures none { IsNone result → self.new ≡ self.old }
-        // None only where fewer than eight bytes are to come.
-        ensures short { IsNone result → FewerThan 8 (cursor_remaining T.bytes self.old) }
+        // None only where fewer than n bytes are to come.
+        ensures short { IsNone result → FewerThan n (cursor_remaining T.bytes self.old) }
         ensures place { IfSome result (λ eight. cursor_position self.new ≡ cursor_position self.old
             + n) }
         ensures inner { cursor_inner self.new ≡ cursor_inner self.old }
@@ -407,22 +408,40 @@ impl<T: AsBytes> Source for Cursor<T> {
     }
 }
 
-// The eight bytes at this place, where there are as many, of which the first n stand before those behind n.
+// The eight bytes at this place, where at least n are to come: those that come, and zeros after the last.
 #[inline(always)]
 fn eight_at(all: &[u8], at: u64, n: usize) -> Option<[u8; 8]>
     requires { n ≤ 8 }
     ensures fits { IfSome result (λ eight. at + n < 2 ^ 64) }
     ensures bytes { IfSome result (λ eight. drop at all.now ≡ take n eight ++ drop (at + n)
         all.now) }
-    ensures ahead { IfSome result (λ eight. BeginsWith (drop n eight)
+    ensures ahead { IfSome result (λ eight. BeginsThenZeros (drop n eight)
         (Some (drop (at + n) all.now))) }
-    ensures short { IsNone result → FewerThan 8 (Some (drop at all.now)) }
+    ensures short { IsNone result → FewerThan n (Some (drop at all.now)) }
 {
-    let _passed = n;
     let mut eight = [0; 8];
     if !copy_at(all, at, &mut eight) {
+        return last_at(all, at, n);
+    }
+    Some(eight)
+}
+
+// The bytes from this place on, at most eight, where they are at least n, and zeros after them.
+#[cold]
+#[inline(never)]
+fn last_at(all: &[u8], at: u64, n: usize) -> Option<[u8; 8]>
+    ensures fits { IfSome result (λ eight. at + n < 2 ^ 64) }
+    ensures eight { IfSome result (λ eight. eight ≡ take 8 (drop at all.now ++ replicate 8 0)) }
+    ensures enough { IfSome result (λ eight. n ≤ length (drop at all.now)) }
+    ensures short { IsNone result → FewerThan n (Some (drop at all.now)) }
+{
+    let last = &all[all.len().min(at as usize)..];
+    if last.len() < n {
         return None;
     }
+    let count = last.len().min(8);
+    let mut eight = [0; 8];
+    eight[..count].copy_from_slice(&last[..count]);
     Some(eight)
 }
 
@@ -540,7 +559,9 @@ impl Sink for Cursor<&mut [u8]> {
     }
 }
 
-// A cursor over a vector tells the bytes before its place. Its room is what memory is found.
+// A cursor over a vector tells the bytes before its place. Its room is what memory is found. The
+// vector may have capacity to spare: where it has to grow, it is first asked for more than the
+// bytes need.
 impl Sink for Cursor<Vec<u8>> {
     ghost known = { λ c. known_vector c };
 
@@ -555,7 +576,10 @@ impl Sink for Cursor<Vec<u8>> {
         ensures place { OnOk result (cursor_position self.new ≡ place_on (cursor_position self.old)
             (length bytes.now)) }
         ensures kept { DeviceKept (known_vector self.old).health (known_vector self.new).health }
-        // Where no memory is found, it holds the same bytes, at the same place.
+        // It is refused only where the vector has no room for them. Then it has the same bytes, and
+        // the same place.
+        ensures full { OnErr result (vec_capacity (cursor_inner self.old) < cursor_position self.old
+            + length bytes.now) }
         ensures stays { OnErr result (cursor_position self.new ≡ cursor_position self.old) }
         ensures holds { OnErr result ((cursor_inner self.new).items ≡
             (cursor_inner self.old).items) }
@@ -573,19 +597,21 @@ impl Sink for Cursor<Vec<u8>> {
         ensures gave { IsTrue result → Gave (known_vector self.old) (known_vector self.new)
             (take n eight) }
         ensures stays { IsFalse result → self.new ≡ self.old }
-        // The bytes are laid over those that lie there.
+        // The bytes are laid over those that are there, or added at the end.
         ensures written { IsTrue result → (cursor_inner self.new).items ≡ overlaid
             (cursor_inner self.old).items (cursor_position self.old) (take n eight) }
         ensures place { IsTrue result → cursor_position self.new ≡ cursor_position self.old + n }
-        ensures room { IsTrue result ↔ (cursor_position self.old + 8 ≤ length
-            (cursor_inner self.old).items) }
+        ensures room { IsTrue result ↔ RoomForEight (cursor_position self.old)
+            (cursor_inner self.old) }
     {
         let at = self.position();
-        if !has_eight(self.get_ref().len(), at) {
+        if has_eight(self.get_ref().len(), at) {
+            lay_over(self.get_mut().as_mut_slice(), at as usize, eight, n);
+        } else if ends_with_room(self.get_ref(), at) {
+            append_first(self.get_mut(), eight, n);
+        } else {
             return false;
         }
-        let all = self.get_mut();
-        lay_over(all.as_mut_slice(), at as usize, eight, n);
         self.set_position(at + n as u64);
         true
     }
@@ -606,13 +632,16 @@ impl Sink for Cursor<Vec<u8>> {
     }
 }
 
-// Lays bytes over those of a vector from a place on, behind zeros where it is past the end; where no memory is found, nothing changes.
+// Lays bytes over those of a vector from a place on, behind zeros where it is past the end; where no memory is found, the
+// vector keeps its bytes. Where it has to grow, it is asked for more room than that first.
 fn put_over(all: &mut Vec<u8>, place: usize, bytes: &[u8]) -> Result<(), AllocError>
     ensures written { OnOk result (all.new.items ≡ overlaid (reaching place all.old.items) place
         bytes.now) }
     ensures fits { OnOk result (place + length bytes.now < 2 ^ 63) }
+    ensures full { OnErr result (vec_capacity all.old < place + length bytes.now) }
     ensures holds { OnErr result (all.new.items ≡ all.old.items) }
 {
+    grow_ahead(all, place.saturating_add(bytes.len()));
     let held = all.len();
     if place > held {
         all.resize(place, 0)?;
@@ -627,6 +656,17 @@ fn put_over(all: &mut Vec<u8>, place: usize, bytes: &[u8]) -> Result<(), AllocEr
             all.truncate(held);
             Err(error)
         }
+    }
+}
+
+// Asks for room for so many bytes and 64 more, where a vector has too little for the bytes. A
+// refusal changes nothing.
+fn grow_ahead(all: &mut Vec<u8>, length: usize)
+    ensures items { all.new.items ≡ all.old.items }
+    ensures capacity { vec_capacity all.old ≤ vec_capacity all.new }
+{
+    if length > all.capacity() {
+        let _refused = all.reserve(length.saturating_add(64) - all.len());
     }
 }
 
@@ -653,6 +693,35 @@ fn has_eight(length: usize, place: u64) -> bool
     ensures { IsTrue result ↔ (place + 8 ≤ length) }
 {
     place < (length as u64).saturating_sub(7)
+}
+
+// Whether a place is the end of a vector, which has room for eight more bytes.
+#[inline(always)]
+fn ends_with_room(all: &Vec<u8>, place: u64) -> bool
+    ensures { IsTrue result ↔ ((place ≡ vec_len all.now) × (place + 8 ≤ vec_capacity all.now)) }
+{
+    place == all.len() as u64 && all.capacity() - all.len() >= 8
+}
+
+// Adds the first n of eight bytes to a vector that has room for eight. Each length has an arm of
+// its own, as in `lay_over`.
+#[inline(always)]
+fn append_first(all: &mut Vec<u8>, eight: [u8; 8], n: usize)
+    requires few { n ≤ 8 }
+    requires room { vec_len all.old + 8 ≤ vec_capacity all.old }
+    ensures { all.new.items ≡ all.old.items ++ take n eight }
+{
+    let _added = match n {
+        1 => all.extend_from_slice(&eight[..1]),
+        2 => all.extend_from_slice(&eight[..2]),
+        3 => all.extend_from_slice(&eight[..3]),
+        4 => all.extend_from_slice(&eight[..4]),
+        5 => all.extend_from_slice(&eight[..5]),
+        6 => all.extend_from_slice(&eight[..6]),
+        7 => all.extend_from_slice(&eight[..7]),
+        8 => all.extend_from_slice(&eight),
+        _ => Ok(()),
+    };
 }
 
 // Lays the first n of eight bytes over those from a place on. Each length has an arm of its own, so
