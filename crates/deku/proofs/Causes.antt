@@ -91,8 +91,8 @@ no_param w k e = cc
 
 layout : {A V : Type 0} (own : ErrorKind → Type 0) (refusal : Bor (List ℕ) → DekuError) (text : List ℕ) (t : NumberType) (l : Layout) → ((w : Bor (List ℕ)) (k : ErrorKind) → refusal w ≡ Io k → ⊥)
     → (s : Standing A) (r : Result V DekuError) (u : Standing A) (k : ErrorKind) → RefusesLayout refusal text t l s r u → (r ≡ Err (Io k)) ⊎ KeepsIo k u → own k ⊎ KeepsIo k s
-layout own refusal text t l h s r u k (e, inl p, is, stays) q = inr (texted refusal text h s r u k (p.1.words, p.1.told, is ∙ ap Err p.1.is, stays) q)
-layout own refusal text t l h s r u k (e, inr p, is, stays) q = inr (texted InvalidParam _ no_param s r u k (p.2.words, p.2.told, is ∙ ap Err p.2.is, stays) q)
+layout own refusal text t l h s r u k (e, inl p, is, stays) q = inr (texted refusal text h s r u k (p.1.words, p.1.says, is ∙ ap Err p.1.is, stays) q)
+layout own refusal text t l h s r u k (e, inr p, is, stays) q = inr (texted InvalidParam _ no_param s r u k (p.2.words, p.2.says, is ∙ ap Err p.2.is, stays) q)
 
 -- ---- numbers
 pub reads_number : (t : NumberType) (l : Layout) → OwnFaults NoKind (ReadsNumber t l)

@@ -15,4 +15,4 @@ pub unended : {A : Type 0} (bytes : List ℕ) (r : Result (List ℕ) DekuError) 
     → IfOk r (λ text. IsTerminated text bytes) → IfErr r (λ e. ((text : List ℕ) → IsTerminated text bytes → ⊥) × Tells Parse (codes "Failed to convert Vec to CString") e)
     → Outcome (Unended bytes) s f r s f
 unended bytes (Ok text) s f p q = Quiet (Text text p) (no_fewer_same f)
-unended bytes (Err e) s f p q = let t = q.1 in Quiet (NoText q.0 (t.words, t.told, ap Err t.is, refl)) (no_fewer_same f)
+unended bytes (Err e) s f p q = let t = q.1 in Quiet (NoText q.0 (t.words, t.says, ap Err t.is, refl)) (no_fewer_same f)

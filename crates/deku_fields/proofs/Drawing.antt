@@ -102,7 +102,7 @@ drawn_last fs m d bits w o t h a seen some inside other told = record {
   holder = get_or fs m d;
   there = slice_get-get_or fs m d h;
   before = a.3;
-  why = inr (seen.allowed, turned, record { words = t; told = told; is = refl });
+  why = inr (seen.allowed, turned, record { words = t; says = told; is = refl });
 }
   where
     turned : AlignedFields (take m fs ++ get_or fs m d ∷ []) → ⊥

@@ -16,7 +16,7 @@ error_of (fault.Io kind) = error.Io kind
 -- the refusal has this text
 pub record Tells (refusal : Bor (List ℕ) → DekuError) (text : List ℕ) (e : DekuError) : Type 0 where
   pub words : Bor (List ℕ)
-  pub known : words.now ≡ text
+  pub says : words.now ≡ text
   pub is : e ≡ refusal words
 
 -- the kind of io error that says the same

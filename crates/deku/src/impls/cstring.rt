@@ -143,7 +143,7 @@ fn read_count<R: Source>(reader: &mut Reader<R>, count: usize) -> Result<Vec<u8>
 {
     let mut bytes = Vec::new(reader.alloc());
     for _ in 0..count {
-        let _byte = read_byte(reader, &mut bytes)?;
+        read_byte(reader, &mut bytes)?;
     }
     Ok(bytes)
 }

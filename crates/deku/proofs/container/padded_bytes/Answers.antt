@@ -1,4 +1,5 @@
 use Rattle.std.proofs.Common.{refl, ap, ◌∙◌, None}
+use Rattle.std.proofs.lemmas.Result.{err_from_is_err_and}
 use Rattle.deku_bits.proofs.Handing.{unbroken}
 use Rattle.deku.proofs.Containers.{starts_empty, padded_from, refused_from, taken_before, items_in, steady, tells}
 use Rattle.deku.proofs.container.padded_bytes.Goals as goal
@@ -12,4 +13,5 @@ returns g c =
 pub returns-in_err-write_whole : goal.returns-in_err-write_whole
 returns-in_err-write_whole g c =
     let begin = starts_empty _ _ (steady None) _ c.new-cursor.ensures.position (ap items_in c.new-cursor.ensures.inner ∙ c.new.ensures.items) refl in
-    refused_from (g.T.DekuWriter.meaning c.args.value.now c.args.ctx) _ _ c.in_err-write_whole.refusal _ begin (unbroken refl refl c.in_err-write_whole.ensures.1)
+    let k = err_from_is_err_and c.from_residual.result c.from_residual.ensures.1 in
+    rw (k.1, k.2) (refused_from (g.T.DekuWriter.meaning c.args.value.now c.args.ctx) _ _ c.in_err-write_whole.field-0.0 _ begin (unbroken refl refl c.in_err-write_whole.ensures.1))

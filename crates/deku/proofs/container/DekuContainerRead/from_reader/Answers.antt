@@ -1,4 +1,5 @@
 use Rattle.std.proofs.Common.{rules, arith}
+use Rattle.std.proofs.lemmas.Result.{err_from_is_err_and}
 use Rattle.deku_bits.proofs.Handing.{name_stays, behind}
 use Rattle.deku.proofs.Containers.{told_behind}
 use Rattle.deku.proofs.container.DekuContainerRead.from_reader.Goals as goal
@@ -35,4 +36,5 @@ returns-in_err-answer-clause-reads g c =
     let h = rw (made.source, made.state) at c.in_err-answer.ensures.reads in
     let same = name_stays before after _ _ h in
     let tie = c.input-1.given.1 (search (rules, same)) in
-    rw (tie, c.into_inner-source.ensures) (record { stands = left.state; reads = behind before after _ _ h; counts = tt })
+    let k = err_from_is_err_and c.from_residual.result c.from_residual.ensures.1 in
+    rw (k.1, k.2, tie, c.into_inner-source.ensures) (record { stands = left.state; reads = behind before after _ _ h; counts = tt })

@@ -1,5 +1,6 @@
 use Rattle.std.proofs.Common.{rules, refl, ap}
 use Rattle.deku_bits.specs.Cursors.{slice_whole}
+use Rattle.std.proofs.lemmas.Result.{err_from_is_err_and}
 use Rattle.deku_bits.proofs.Handing.{unbroken, name_stays}
 use Rattle.deku.proofs.Containers.{starts_over, padded_from, refused_over, steady, tells_over}
 use Rattle.deku.proofs.container.DekuContainerWrite.to_slice.Goals as goal
@@ -15,7 +16,8 @@ returns g c =
 pub returns-in_err-written : goal.returns-in_err-written
 returns-in_err-written g c =
     let begin = starts_over _ _ c.args.out.now (tells_over c.new-cursor.result).health _ c.new-cursor.ensures.position (ap (λ r. r.now) c.new-cursor.ensures.inner) refl in
-    let w = refused_over (g.Self.DekuWriter.meaning c.args.self.now tt) _ c.args.out.now c.in_err-written.refusal c.write_whole-written.new.sink _ begin (unbroken refl refl c.in_err-written.ensures.1) in
+    let w = refused_over (g.Self.DekuWriter.meaning c.args.self.now tt) _ c.args.out.now c.in_err-written.field-0.0 c.write_whole-written.new.sink _ begin (unbroken refl refl c.in_err-written.ensures.1) in
     let same = name_stays (steady (slice_whole c.new-cursor.result)) (steady (slice_whole c.write_whole-written.new.sink)) _ _ c.in_err-written.ensures.1 in
     let tie = c.out-1.given.1.1 (search (rules, same)) in
-    rw tie w
+    let k = err_from_is_err_and c.from_residual.result c.from_residual.ensures.1 in
+    rw (k.1, k.2, tie) w

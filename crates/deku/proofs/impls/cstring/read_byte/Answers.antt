@@ -1,4 +1,5 @@
 use Rattle.std.proofs.Common.{rules}
+use Rattle.deku_bits.proofs.Handing.{passed_on}
 use Rattle.deku_meanings.proofs.Joining.{first_refused, then_on}
 use Rattle.deku_reading.proofs.Holding.{no_memory}
 use Rattle.deku_reading.proofs.Runs.{stored}
@@ -11,7 +12,7 @@ pub returns-in-Err-clause-reads : goal.returns-in-Err-clause-reads
 returns-in-Err-clause-reads g c = then_on c.in_ok-byte.ensures.reads no_memory
 
 pub returns-in_err-byte-clause-reads : goal.returns-in_err-byte-clause-reads
-returns-in_err-byte-clause-reads g c = first_refused c.in_err-byte.ensures.reads
+returns-in_err-byte-clause-reads g c = passed_on _ c.from_residual.ensures.1 (first_refused c.in_err-byte.ensures.reads)
 
 pub returns-in-Ok-clause-early : goal.returns-in-Ok-clause-early
 returns-in-Ok-clause-early g c = c.in_ok-byte.ensures.early
