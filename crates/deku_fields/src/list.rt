@@ -7,6 +7,7 @@ ghost use Rattle.deku_fields.specs.ListCalls.{IsOfKind};
 
 use deku::ctx::{Endian, Layout, Order, Size};
 use deku::kind::NumberType;
+use deku_num::kernel::is_below;
 
 /// The type of a whole number.
 #[derive(Debug, Clone, Copy, PartialEq, Eq)]
@@ -104,19 +105,6 @@ impl Kind {
             Kind::I8 | Kind::I16 | Kind::I32 | Kind::I64 | Kind::I128 | Kind::Isize => true,
         }
     }
-}
-
-/// Whether a number has at most so many bits.
-#[inline(always)]
-pub(crate) fn is_below(value: u128, bits: usize) -> bool
-    requires { bits ≤ 128 }
-    ensures { IsTrue result ↔ (value < 2 ^ bits) }
-{
-    if bits < 64 {
-        let end: u64 = 1 << bits;
-        return value < end as u128;
-    }
-    bits == 128 || value < 1 << bits
 }
 
 // Whether a number is in the range of two's complement of so many bits.

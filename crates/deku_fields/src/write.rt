@@ -12,14 +12,14 @@ ghost use Rattle.deku_fields.specs.Items.{number_type, field_width, IsAllowedFie
 ghost use Rattle.deku_fields.specs.ListCalls.{IsOfKind, WritesItem, WritesItems, WritesWhole, integer_of};
 ghost use Rattle.deku_fields.specs.Promise.{LaidOut, WritesBack, WritesLaid, WritesWhereSound};
 
-use crate::list::{Item, Number, high_width, is_below, plain_width};
+use crate::list::{Item, Number, high_width, plain_width};
 use deku::calls::{write_signed, write_unsigned};
 use deku::ctx::{Endian, Order};
 use deku::device::Sink;
 use deku::error::DekuError;
 use deku::taken_bytes;
 use deku::writer::Writer;
-use deku_num::kernel::unsigned_word;
+use deku_num::kernel::{is_below, unsigned_word};
 use std::alloc::Global;
 use std::io::Cursor;
 

@@ -292,9 +292,15 @@ fn is_within(value: u128, endian: Endian, order: Order, n: usize) -> bool
     }
 }
 
-// Whether a number is below two to the power of n.
+/// Whether a number is below two to the power of n, so that it has at most n bits.
+///
+/// The caller's condition: n is at most 128.
+///
+/// ```text
+/// is_below(16, 4)                                  // false
+/// ```
 #[inline(always)]
-fn is_below(value: u128, n: usize) -> bool
+pub fn is_below(value: u128, n: usize) -> bool
     requires { n ≤ 128 }
     ensures { IsTrue result ↔ (value < 2 ^ n) }
 {

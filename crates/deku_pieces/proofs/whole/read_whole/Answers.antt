@@ -1,4 +1,5 @@
 use Rattle.std.proofs.Common.{refl, ap, ◌∙◌}
+use Rattle.std.proofs.lemmas.Result.{err_from_is_err_and}
 use Rattle.deku_bits.proofs.Handing.{unbroken}
 use Rattle.deku.proofs.Containers.{starts_fresh, whole_source, new_source, counted_state}
 use Rattle.deku_pieces.proofs.Unpacking.{from_first}
@@ -12,4 +13,5 @@ returns g c =
 pub returns-in_err-value : goal.returns-in_err-value
 returns-in_err-value g c =
     let begin = starts_fresh _ c.args.bytes.now _ (ap whole_source c.new-reader.ensures.source ∙ new_source c.new.result _ c.new.ensures.inner c.new.ensures.position) c.new-reader.ensures.state in
-    (_, from_first (g.T.DekuReader.meaning c.args.ctx) c.args.bytes.now _ _ _ begin (unbroken refl refl c.in_err-value.ensures.reads))
+    let k = err_from_is_err_and c.from_residual.result c.from_residual.ensures.1 in
+    rw (k.1, k.2) (_, from_first (g.T.DekuReader.meaning c.args.ctx) c.args.bytes.now _ _ _ begin (unbroken refl refl c.in_err-value.ensures.reads))
