@@ -17,8 +17,8 @@ use std::io::{Seek, SeekFrom};
 
 /// Seeks the sink. Pending bits are lost: call `finalize` first. The count of bits written stays.
 ///
-/// A seek that succeeds lets a writer go on that a fault had stopped. It is refused with the sink's
-/// error, where that refuses: the writer stops with `Io` of the error's kind.
+/// A writer that an error had stopped continues after a seek that succeeds. It fails with the
+/// sink's error, if its seek fails: the writer stops with `Io` of the error's kind.
 ///
 /// ```text
 /// writer.write_bits(&[true, false, true, false])?;   // onto a vector: nothing is given to it yet
@@ -31,18 +31,19 @@ impl<W: Sink> Seek for Writer<W> {
         ensures ok { OnOk result (self.new.state ≡ Going Nothing (count_of self.old.state)) }
         ensures err { IfErr result (λ e. self.new.state ≡ Stopped Nothing
             (DekuError.Io (error_kind e)) (count_of self.old.state)) }
-        // Where the sink knows its place and its bytes, it is where its own seek leaves it.
+        // If the sink knows its place and its bytes, its place is the one where its own seek leaves
+        // it.
         ensures place { SeekMoves (W.stream_position self.old.sink)
             (W.stream_position self.new.sink) (W.stream_bytes self.old.sink) to result }
         ensures sink_bytes { Keeps (W.stream_bytes self.old.sink) (W.stream_bytes self.new.sink) }
-        // Where the sink tells all its bytes, it goes on among them there.
+        // If all bytes of the sink are known, it continues among them at the new place.
         ensures sought { Seeks (W.known self.old.sink).health (W.known self.new.sink).health to
             result }
         ensures stands { StandsAt (W.known self.old.sink).health.whole result
             (W.known self.new.sink) }
         ensures nowhere { RefusedSeek (W.known self.old.sink).health (W.known self.new.sink).health
             to result }
-        // What the trait asks of a stream whose own place is not known.
+        // What the trait requires of a stream whose own place is not known.
         ensures moves { SeekMoves None None None to result }
         ensures bytes { Keeps None None }
     {
@@ -79,7 +80,7 @@ impl<W: Sink> Seek for Writer<W> {
         Ok(())
     }
 
-    /// The place of the sink, as `seek(SeekFrom::Current(0))` answers it: so it drops pending bits.
+    /// The place of the sink, as `seek(SeekFrom::Current(0))` returns it. So it drops pending bits.
     fn stream_position(&mut self) -> io::Result<u64>
         ensures ok { OnOk result (self.new.state ≡ Going Nothing (count_of self.old.state)) }
         ensures err { IfErr result (λ e. self.new.state ≡ Stopped Nothing
@@ -100,7 +101,7 @@ impl<W: Sink> Seek for Writer<W> {
         self.seek(SeekFrom::Current(0))
     }
 
-    /// Seeks from its place, as `seek(SeekFrom::Current(offset))` does.
+    /// Seeks from the current place, as `seek(SeekFrom::Current(offset))` does.
     fn seek_relative(&mut self, offset: i64) -> io::Result<()>
         ensures ok { OnOk result (self.new.state ≡ Going Nothing (count_of self.old.state)) }
         ensures err { IfErr result (λ e. self.new.state ≡ Stopped Nothing
