@@ -1,6 +1,7 @@
 -- How many samples a packet of telemetry has.
 use Rattle.std.specs.Prelude.{◌+◌, ◌*◌, ◌/◌, ◌%◌, ℕ, Option, Some, None, nat_eq, cond}
 
--- four for each eleven bytes behind the header, whose length is one less; other bytes name no count
+-- Four for each eleven bytes after the header, whose length is one less. Other numbers of bytes
+-- name no count.
 unfoldable pub samples_behind : ℕ → Option ℕ
 samples_behind length = cond (nat_eq ((length + 1) % 11) 0) (Some ((length + 1) / 11 * 4)) None
