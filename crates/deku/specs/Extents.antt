@@ -1,4 +1,4 @@
--- What is written as exactly so many bits.
+-- What is written as exactly this many bits.
 use Rattle.std.specs.Prelude.{◌≡◌, ℕ, Bool, List, [], ◌∷◌, map, Option, Some, Result, ℤ}
 use Rattle.deku_bits.specs.declared.error.DekuError.{DekuError}
 use Rattle.deku_bits.specs.Bits.{shown}
@@ -13,12 +13,13 @@ use Rattle.deku_num.specs.NumberCalls.{WritesNumber, IsWhole}
 use Rattle.deku_num.specs.Sizes.{within_usize}
 use Rattle.deku_meanings.specs.Composing.{Answer, Both}
 
--- pieces are written one after the other
+-- Pieces are written one after the other.
 abbrev pub WritesPieces : List Piece → Meaning Output (Unit {0})
 WritesPieces [] = Answer tt
 WritesPieces (p ∷ ps) = Both (WritesBits p.order (shown p.order p.bits)) (WritesPieces ps)
 
--- m writes exactly n bits: whatever it answers and leaves, writing some pieces of so many bits answers and leaves
+-- m writes exactly n bits: whatever it returns and leaves, writing some pieces of n bits returns
+-- and leaves too.
 pub record IsSized (n : ℕ) (m : Meaning Output (Unit {0})) : Type 0 where
   pub pieces : List Piece
   pub wide : total (map shape pieces) ≡ n
@@ -28,10 +29,11 @@ pub record IsSized (n : ℕ) (m : Meaning Output (Unit {0})) : Type 0 where
 abbrev pub NumberSizeLaw : Type 0
 NumberSizeLaw = (t : NumberType) (l : Layout) (v : ℤ) → IsWhole t l v → IsSized t.bits (WritesNumber t l v)
 
--- where a call answers n as the size of a type, m writes exactly n bits
+-- If a call returns n as the size of a type, m writes exactly n bits.
 pub record KeepsSize (size : Option ℕ) (m : Meaning Output (Unit {0})) : Type 0 where
   pub answered : (n : ℕ) → within_usize size ≡ Some n → IsSized n m
 
--- each value of a number type, standing for an integer, is written as exactly the bits that its size answers
+-- Each value of a number type, which h turns into an integer, is written as exactly the bits of its
+-- size.
 abbrev pub NumbersKeepSize : {V : Type 0} → NumberType → (V → ℤ) → Option ℕ → (V → Meaning Output (Unit {0})) → Type 0
 NumbersKeepSize {V} t h size writes = (v : V) → InType t.signed t.bits (h v) → KeepsSize size (writes v)

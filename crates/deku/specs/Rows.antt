@@ -9,7 +9,7 @@ use Rattle.deku.specs.VectorLaws.{GivesBytes}
 
 -- Vectors, as bytes.
 pub record VectorRows : Type 0 where
-  -- two halves of a byte
+  -- Two halves of a byte.
   pub halves : GivesBytes (WritesEach (WritesNumber byte (big_msb (Bits 4))) (pos 6 ∷ pos 9 ∷ [])) (0x69 ∷ [])
-  -- three bits, which are padded
+  -- Three bits, which are padded.
   pub three_bits : GivesBytes (WritesEach (WritesNumber byte (big_msb (Bits 3))) (pos 5 ∷ [])) (0xA0 ∷ [])

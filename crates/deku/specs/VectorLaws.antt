@@ -15,7 +15,7 @@ use Rattle.deku_num.specs.declared.ctx.Layout.{Layout}
 use Rattle.deku_num.specs.Numbers.{width, Fits, IsAllowed}
 use Rattle.deku_meanings.specs.Composing.{Both}
 
--- what m writes onto nothing, padded once, gives these bytes to a sink that had taken none
+-- What m writes from nothing, padded once, gives these bytes to a sink that had taken none.
 pub record GivesBytes (m : Meaning Output (Unit {0})) (bytes : List ℕ) : Type 0 where
   pub before : Output
   pub after : Output
@@ -26,9 +26,10 @@ pub record GivesBytes (m : Meaning Output (Unit {0})) (bytes : List ℕ) : Type 
   pub written : Both m Finalizes false (Going before count) (Ok tt) (Going after count_after)
   pub taken : after.taken ≡ Some bytes
 
--- Vectors under one context whose layout is not refused, of a type whose values stand for integers: from bytes that begin with what a vector of fitting values
--- is written as, whatever follows, a read with a count of its length gives its items, or finds no memory; as far as the bits can be counted, and where no
--- device fails.
+-- Vectors under one context whose layout is not rejected, of a type whose values stand for
+-- integers. From bytes that begin with what a vector of fitting values is written as, whatever
+-- follows, a read with a count of its length gives its items, or memory runs out. This holds if the
+-- bits can be counted and no device fails.
 abbrev pub ReadsAsWritten : {V : Type 0} → NumberType → Layout → (V → ℤ) → (ℕ → Meaning (Option Stream) (Vec V)) → (Vec V → Meaning Output (Unit {0})) → Type 0
 ReadsAsWritten {V} t l h reads writes = (v : Vec V) (bytes behind : List ℕ) (c : ℕ) (r : Result (Vec V) DekuError) (u : Standing (Option Stream))
     → IsAllowed t l → All (λ x. Fits t l (h x)) v.items → GivesBytes (writes v) bytes → c + length v.items * width t l < 2 ^ 64

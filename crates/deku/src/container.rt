@@ -1,4 +1,4 @@
-//! Whole values: from the bytes of an input, and as bytes or bits of their own.
+//! Whole values: from the bytes of an input, and as bytes or bits.
 
 ghost use Rattle.std.specs.Prelude.{◌≡◌, ◌++◌, ◌<◌, length, take, OnOk, IfOk, IfErr};
 ghost use Rattle.std.specs.Io.Cursor.{cursor_position, cursor_inner};
@@ -24,21 +24,20 @@ use deku_writing::DekuWriter;
 use std::alloc::Global;
 use std::io::{Cursor, ErrorKind};
 
-/// A type whose values are read from the front of an input, each by a reader of its own.
+/// A type whose values are read from the start of an input, with a new reader for each.
 ///
 /// The calls have their bodies here; a type states `impl DekuContainerRead for Record {}`.
 pub trait DekuContainerRead: DekuReader<()> {
-    /// Leaves out so many bits of a source and reads a value behind them: the count of bits that
-    /// this took, those left out among them, and the value.
+    /// Skips this many bits of a source and reads the value after them. Returns the count of bits
+    /// that this took, including the skipped ones, and the value.
     ///
-    /// The source is left behind the last byte that was fetched. Bits of that byte that were not
-    /// read are lost, so the next call begins with the byte behind them: where the type fetches no
-    /// byte too early, that is the one behind those that the counted bits fill. What is read takes
-    /// its memory by `alloc`.
+    /// The source is left after the last byte that was fetched. Bits of that byte that were not
+    /// read are lost, so the next call begins with the byte after it. If the type fetches no byte
+    /// too early, that is the byte after those that the counted bits fill. What is read takes its
+    /// memory from `alloc`.
     ///
-    /// The caller's condition: the type may be read under `()`. It is refused as
-    /// `Reader::skip_bits` in `Msb0` refuses to leave the bits out, and then as the type is; the
-    /// source stays behind what was read until then.
+    /// The caller's condition: the type may be read under `()`. It fails as `Reader::skip_bits` in
+    /// `Msb0` does, and then as the type does. The source is then left after what was read.
     ///
     /// ```text
     /// let mut input = Cursor::new(bytes);                     // 12 34 56
@@ -65,13 +64,14 @@ pub trait DekuContainerRead: DekuReader<()> {
         Ok((count, answer?))
     }
 
-    /// Leaves out so many bits of some bytes and reads a value behind them: the bytes from that of
-    /// the first unread bit on with the bits of the first one that are read already, and the value.
+    /// Skips this many bits of some bytes and reads the value after them. Returns the bytes from
+    /// that of the first unread bit on, with the number of bits of that byte that are already read,
+    /// and the value.
     ///
-    /// The caller's condition: the type may be read under `()`. It is refused as
-    /// `Reader::skip_bits` in `Msb0` refuses to leave the bits out, and then as the type is. Bits
-    /// behind the last byte can be left out: where the whole bytes that were left out or read are
-    /// more than there are, it is refused with `Incomplete` of all those bits.
+    /// The caller's condition: the type may be read under `()`. It fails as `Reader::skip_bits` in
+    /// `Msb0` does, and then as the type does. Bits after the last byte can be skipped: if the
+    /// whole bytes that were skipped or read are more than there are, it fails with `Incomplete` of
+    /// all those bits.
     ///
     /// ```text
     /// let ((rest, bits), record) = Record::from_bytes(alloc, (&[0x12, 0x34], 4))?;
@@ -94,7 +94,7 @@ pub trait DekuContainerRead: DekuReader<()> {
     }
 }
 
-// Leaves out so many bits in `Msb0`, and reads a value.
+// Skips this many bits in `Msb0`, and reads a value.
 fn read_behind<T: DekuReader<()>, R: Source>(
     reader: &mut Reader<R>,
     bits: usize,
@@ -108,14 +108,14 @@ fn read_behind<T: DekuReader<()>, R: Source>(
     T::from_reader_with_ctx(reader, ())
 }
 
-/// A type whose values are written as bytes or bits of their own, each by a writer of its own.
+/// A type whose values are written as bytes or bits, with a new writer for each.
 ///
 /// The calls have their bodies here; a type states `impl DekuContainerWrite for Record {}`.
 pub trait DekuContainerWrite: DekuWriter<()> {
     /// The bytes of the value, the last one filled with zeros.
     ///
-    /// The caller's condition: the type may be written under `()`. It is refused as the type is, or
-    /// with `Io(OutOfMemory)` where no memory is found for the bytes.
+    /// The caller's condition: the type may be written under `()`. It fails as the type does, or
+    /// with `Io(OutOfMemory)` if there is no memory for the bytes.
     ///
     /// ```text
     /// record.to_bytes(alloc)?                                 // of 4, 4 and 1 bits: F1 80
@@ -127,16 +127,17 @@ pub trait DekuContainerWrite: DekuWriter<()> {
         padded_bytes(self, alloc, ())
     }
 
-    /// Writes the bytes of the value to the front of a slice, the last one filled with zeros, and
-    /// answers how many they are. What is behind them in the slice stays. It takes no memory.
+    /// Writes the bytes of the value to the start of a slice, the last one filled with zeros.
+    /// Returns how many bytes there are. The bytes of the slice after them stay as they were. It
+    /// takes no memory.
     ///
-    /// The caller's condition: the type may be written under `()`. It is refused as the type is, or
-    /// with `Io(WriteZero)` where the slice is too short. Then the slice has a beginning of the
-    /// bytes in front, and behind them what it held.
+    /// The caller's condition: the type may be written under `()`. It fails as the type does, or
+    /// with `Io(WriteZero)` if the slice is too short. Then the slice holds a beginning of the
+    /// bytes, followed by what it held before.
     ///
     /// ```text
     /// let mut out = [0; 3];
-    /// record.to_slice(&mut out)?                              // of 4, 4 and 1 bits: 2, and `out` is F1 80 00
+    /// record.to_slice(&mut out)?                   // of 4, 4 and 1 bits: 2, and `out` is F1 80 00
     /// ```
     fn to_slice(&self, out: &mut [u8]) -> Result<usize, DekuError>
         requires { Self.accepts tt }
@@ -149,15 +150,15 @@ pub trait DekuContainerWrite: DekuWriter<()> {
         Ok(count)
     }
 
-    /// The bits of the value, with no padding: those of the bytes that it fills, each high bit
-    /// first, and then the pending ones, high bit first too.
+    /// The bits of the value, without padding: those of the bytes that it fills, each with its high
+    /// bit first, and then the pending bits, also with the high bit first.
     ///
-    /// The caller's condition: the type may be written under `()`. It is refused as the type is, or
-    /// with `Io(OutOfMemory)` where no memory is found for the bits. A fault of its writer that the
-    /// type did not hand on is answered too.
+    /// The caller's condition: the type may be written under `()`. It fails as the type does, or
+    /// with `Io(OutOfMemory)` if there is no memory for the bits. It also fails with an error that
+    /// stopped the writer and that the type did not return.
     ///
     /// ```text
-    /// record.to_bits(alloc)?                                  // of 4, 4 and 1 bits: 1, 1, 1, 1, 0, 0, 0, 1, 1
+    /// record.to_bits(alloc)?                      // of 4, 4 and 1 bits: 1, 1, 1, 1, 0, 0, 0, 1, 1
     /// ```
     fn to_bits(&self, alloc: Global) -> Result<Vec<bool>, DekuError>
         requires { Self.accepts tt }
@@ -165,7 +166,8 @@ pub trait DekuContainerWrite: DekuWriter<()> {
     {
         let mut writer = Writer::new(Cursor::new(Vec::new(alloc)));
         self.to_writer(&mut writer, ())?;
-        // What it tells fits a `usize`, by which the proof knows that no bit more passes it.
+        // The count fits a `usize`, so the proof knows that the write of no bits below does not
+        // exceed it.
         let _count = writer.bits_written();
         writer.write_bits(&[])?;
         let (pending, _order) = writer.leftover();
@@ -176,8 +178,8 @@ pub trait DekuContainerWrite: DekuWriter<()> {
 
 /// The bytes of a value under a context, with the last one filled with zeros.
 ///
-/// The caller's condition: the type may be written under the context. It is refused as the type is,
-/// or with `Io(OutOfMemory)` where no memory is found for the bytes.
+/// The caller's condition: the type may be written under the context. It fails as the type does, or
+/// with `Io(OutOfMemory)` if there is no memory for the bytes.
 ///
 /// ```text
 /// padded_bytes(&5u8, alloc, BitSize(4))?                      // 50
@@ -195,7 +197,7 @@ pub fn padded_bytes<Ctx, T: DekuWriter<Ctx>>(
     Ok(taken_bytes(cursor))
 }
 
-// Writes a value by a writer of its own, and fills the last byte with zeros.
+// Writes a value with a new writer, and fills the last byte with zeros.
 fn write_whole<Ctx, T: DekuWriter<Ctx>, W: Sink>(
     value: &T,
     sink: &mut W,
@@ -223,8 +225,8 @@ fn write_padded<Ctx, T: DekuWriter<Ctx>, W: Sink>(
     writer.finalize()
 }
 
-/// The bytes before a cursor's place, as those that a writer gave to one over a vector: those
-/// behind it are let go. It refuses nothing.
+/// The bytes before a cursor's place, such as those that a writer gave to a cursor over a vector.
+/// The bytes after it are dropped. It has no errors.
 ///
 /// ```text
 /// writer.finalize()?;
@@ -239,7 +241,7 @@ pub fn taken_bytes(cursor: Cursor<Vec<u8>>) -> Vec<u8>
     bytes
 }
 
-// The bits of bytes, each high bit first, and then these.
+// The bits of the bytes, each with its high bit first, and then these bits.
 fn joined_bits(alloc: Global, bytes: &[u8], last: &BoundedBitVec<1>) -> Result<Vec<bool>, DekuError>
     ensures bits { IfOk result (λ v. v.items ≡ bits_in bytes.now ++ last.now) }
     ensures memory { IfErr result (λ e. e ≡ Io OutOfMemory) }
@@ -252,7 +254,7 @@ fn joined_bits(alloc: Global, bytes: &[u8], last: &BoundedBitVec<1>) -> Result<V
     Ok(bits)
 }
 
-// Puts bits behind others.
+// Appends bits to others.
 fn push_bits(bits: &mut Vec<bool>, more: &BoundedBitVec<1>) -> Result<(), DekuError>
     ensures bits { OnOk result (bits.new.items ≡ bits.old.items ++ more.now) }
     ensures memory { IfErr result (λ e. e ≡ Io OutOfMemory) }

@@ -1,3 +1,3 @@
-//! What can be read and written.
+//! The types that can be read and written.
 
 pub mod cstring;

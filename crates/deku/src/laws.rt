@@ -1,4 +1,4 @@
-//! Laws of what is written: each is what an empty function ensures.
+//! Laws of what is written. Each law is the postcondition of an empty function.
 
 ghost use Rattle.std.specs.Prelude.{◌≡◌, ◌⊎◌, ℕ, ◌+◌, ◌*◌, Bool, List, Err, ℤ, length, pos};
 ghost use Rattle.std.specs.List.{All};
@@ -38,38 +38,39 @@ use std::num::{
     NonZeroU16, NonZeroU32, NonZeroU64, NonZeroU128, NonZeroUsize,
 };
 
-/// A value of a number type is written under a layout of its whole size, so under `()`, as exactly
+/// A value of a number type is written under a layout of its whole size, such as `()`, as exactly
 /// the bits of its type.
 pub fn number_size_law()
     ensures { NumberSizeLaw }
 {}
 
-/// A truth value is written under `()` as exactly eight bits.
+/// A `bool` is written under `()` as exactly eight bits.
 pub fn bool_size_law()
     ensures { (v : Bool) → IsSized 8 (⟦<bool as DekuWriter<()>>⟧.meaning v tt) }
 {}
 
-/// Nothing is written as no bits.
+/// The unit value is written as no bits.
 pub fn unit_size_law()
     ensures { IsSized 0 (⟦<() as DekuWriter<()>>⟧.meaning tt tt) }
 {}
 
 /// Two values that are written as exactly n and k bits are written, one after the other, as exactly
-/// n + k bits. So is a pair; and a longer tuple is its first item and then the tuple of the rest.
+/// n + k bits. So is a pair of them. A longer tuple is its first item and then the tuple of the
+/// rest.
 pub fn joined_size_law<Ctx: Copy, A: DekuWriter<Ctx>, B: DekuWriter<Ctx>>()
     ensures { (c : Ctx) (v : A) (w : B) (n k : ℕ) → IsSized n (A.meaning v c)
         → IsSized k (B.meaning w c) → IsSized (n + k) (Both (A.meaning v c) (B.meaning w c)) }
 {}
 
-/// Items that are each written as exactly k bits are written, one after the other, as exactly as
-/// many times k bits as there are items. So are slices and arrays.
+/// Items that are each written as exactly k bits are written, one after the other, as exactly k
+/// bits times the number of items. The same holds for slices and arrays.
 pub fn items_size_law<Ctx: Copy, T: DekuWriter<Ctx>>()
     ensures { (c : Ctx) (vs : List T) (k : ℕ) → All (λ v. IsSized k (T.meaning v c)) vs
         → IsSized (length vs * k) (WritesEach (λ v. T.meaning v c) vs) }
 {}
 
-/// Where `size_bits` of a number type or of `bool` answers n, each value of the type is written
-/// under `()` as exactly n bits.
+/// If `size_bits` of a number type or of `bool` is n, each value of the type is written under `()`
+/// as exactly n bits.
 pub fn number_extent_law()
     ensures of_u8 { NumbersKeepSize byte pos ⟦<u8 as DekuSize>⟧.bits
         (λ v. ⟦<u8 as DekuWriter<()>>⟧.meaning v tt) }
@@ -99,9 +100,9 @@ pub fn number_extent_law()
         (⟦<bool as DekuWriter<()>>⟧.meaning v tt) }
 {}
 
-/// A type that has a size and is written under `()`: each type that has both.
+/// A type that has a size and can be written under `()`. Each type that has both is one.
 pub trait Extent: DekuSize + DekuWriter<()> {
-    // Where `size_bits` answers n, the value is written under `()` as exactly n bits.
+    // If `size_bits` is n, the value is written under `()` as exactly n bits.
     ghost keeps_size: { Self → Type 0 };
 }
 
@@ -109,9 +110,9 @@ impl<T: DekuSize + DekuWriter<()>> Extent for T {
     ghost keeps_size = { λ v. KeepsSize T.bits (T.meaning v tt) };
 }
 
-/// Where `size_bits` of a tuple answers n, it is written under `()` as exactly n bits, if its first
-/// item and the tuple of the rest are written as exactly the bits that their own sizes answer. So
-/// with each length, up to eleven items.
+/// If `size_bits` of a tuple is n, the tuple is written under `()` as exactly n bits, provided that
+/// its first item and the tuple of the rest are written as exactly the bits of their own sizes. The
+/// same holds for each length up to eleven items.
 pub fn tuple_extent_law<
     A: DekuSize + DekuWriter<()>,
     B: DekuSize + DekuWriter<()>,
@@ -159,17 +160,17 @@ pub fn tuple_extent_law<
         → ⟦<(A, B, C, D, E, F, G, H, I, J, K) as Extent>⟧.keeps_size v }
 {}
 
-/// Where `size_bits` of an array answers n, it is written under `()` as exactly n bits, if its
-/// items are each written as exactly the bits that their size answers.
+/// If `size_bits` of an array is n, the array is written under `()` as exactly n bits, provided
+/// that each item is written as exactly the bits of its size.
 pub fn array_extent_law<T: DekuSize + DekuWriter<()>, const N: usize>()
     ensures { (vs : List T) → length vs ≡ N → All (λ v. KeepsSize T.bits (T.meaning v tt)) vs
         → KeepsSize ⟦<[T; N] as DekuSize>⟧.bits (⟦<[T; N] as DekuWriter<()>>⟧.meaning vs tt) }
 {}
 
-/// A vector of whole numbers of any of the twelve types, whose values fit, written from a byte's
-/// boundary under one context whose layout is not refused, and padded once, is read with a count of
-/// its length as itself, whatever follows, as far as the bits can be counted; the one refusal is
-/// that no memory is found.
+/// A vector of whole numbers that is written is read back as itself, with a count of its length,
+/// whatever follows it. This holds for each of the twelve types, if the values fit, the vector is
+/// written from a byte boundary under one context whose layout is not rejected and is padded once,
+/// and the bits can be counted. The only error is out of memory.
 pub fn vector_law<C: NumberCtx>()
     ensures of_u8 { (c : C) → ReadsAsWritten byte (C.layout_of c) pos
         (λ n. ⟦<Vec<u8> as DekuReader<(Limit<u8, Never>, C)>>⟧.meaning (Count n, c))
@@ -214,17 +215,18 @@ pub fn vector_rows()
     ensures { VectorRows }
 {}
 
-/// A number that is read has no `Io` of its own, nor has one that is written, but for want of room
-/// or of memory.
+/// Reading a number has no `Io` error of its own. Writing one has none except out of room or out of
+/// memory.
 pub fn number_cause_law()
     ensures reads { (t : FieldType) (l : FieldLayout) → OwnFaults NoKind (ReadsNumber t l) }
     ensures writes { (t : FieldType) (l : FieldLayout) (v : ℤ)
         → OwnFaults WantsPlace (WritesNumber t l v) }
 {}
 
-/// What is made of items has no `Io` of its own, if its items have none: two items as one value,
-/// and arrays; or none but want of memory, and vectors under any limit have none but that. So are
-/// tuples, whose items are the first one and those behind it.
+/// What is made of items has no `Io` error of its own if its items have none: two items as one
+/// value, and arrays. If its items have none except out of memory, it has none except that either;
+/// the same holds for vectors under any limit. Tuples are covered too, as their first item and the
+/// rest.
 pub fn items_cause_law<
     Ctx: Copy,
     A: DekuReader<Ctx>,
@@ -249,8 +251,8 @@ pub fn items_cause_law<
         → OwnFaults WantsMemory (⟦<Vec<A> as DekuReader<(Limit<A, P>, Ctx)>>⟧.meaning (l, c)) }
 {}
 
-/// So it is of a value that is held: one that may be left out, one on the heap, a slice, a set and
-/// a map on it.
+/// The same holds for a value that is held: an optional value, a value on the heap, a slice, a set
+/// and a map.
 pub fn held_cause_law<
     Ctx: Copy,
     K: DekuReader<Ctx> + Eq + Hash,
@@ -277,8 +279,8 @@ pub fn held_cause_law<
         (l, c)) }
 {}
 
-/// What is made of one number has no `Io` of its own: truth values, addresses and numbers that are
-/// not zero.
+/// What is made of one number has no `Io` error of its own: truth values, addresses and numbers
+/// other than zero.
 pub fn plain_cause_law<C: NumberCtx>()
     ensures of_bool { (c : C) → OwnFaults NoKind (⟦<bool as DekuReader<C>>⟧.meaning c) }
     ensures of_ipv4 { (c : C) → OwnFaults NoKind (⟦<Ipv4Addr as DekuReader<C>>⟧.meaning c) }
@@ -305,7 +307,7 @@ pub fn plain_cause_law<C: NumberCtx>()
     ensures of_non_zero_isize { (c : C) → OwnFaults NoKind (⟦<NonZeroIsize as DekuReader<C>>⟧.meaning c) }
 {}
 
-/// A text, and bytes of an exact count, have no `Io` of their own but want of memory.
+/// A text, and bytes of an exact count, have no `Io` error of their own except out of memory.
 pub fn text_cause_law()
     ensures to_zero { OwnFaults WantsMemory (⟦<CString as DekuReader<()>>⟧.meaning tt) }
     ensures within { (n : ByteCount) → OwnFaults WantsMemory
@@ -314,8 +316,7 @@ pub fn text_cause_law()
         (⟦<Vec<u8> as DekuReader<ReadExact>>⟧.meaning n) }
 {}
 
-/// The same of what is written: two items one after the other, and vectors, with which stand slices
-/// and arrays.
+/// The same for what is written: two items one after the other, and vectors, slices and arrays.
 pub fn written_cause_law<Ctx: Copy, A: DekuWriter<Ctx>, B: DekuWriter<Ctx>>()
     ensures both { (a : A) (b : B) (c : Ctx) → OwnFaults WantsPlace (A.meaning a c)
         → OwnFaults WantsPlace (B.meaning b c)
@@ -324,9 +325,9 @@ pub fn written_cause_law<Ctx: Copy, A: DekuWriter<Ctx>, B: DekuWriter<Ctx>>()
         → OwnFaults WantsPlace (WritesEach (λ v. A.meaning v c) vs) }
 {}
 
-/// The calls on whole values answer an `Io` only of the value's own kinds: slices and memory do not
-/// fail. `from_reader` answers one too where the source that it was lent fails, and tells so by its
-/// count.
+/// The calls on whole values return an `Io` error only of the value's own kinds, since slices and
+/// memory do not fail. `from_reader` also returns one if the source that it borrows fails, which
+/// the source's count of failures shows.
 pub fn whole_cause_law<T: DekuReader<()> + DekuWriter<()>, R: Source>()
     ensures from_reader { (n : ℕ) (old new : R) (k : ErrorKind)
         → OwnFaults WantsMemory (T.DekuReader.meaning tt)

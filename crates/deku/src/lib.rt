@@ -1,9 +1,10 @@
 //! Bit-level reading and writing of binary records.
 //!
 //! A record implements [`DekuReader`] and [`DekuWriter`] by hand, field by field, each under a
-//! context that says how it lies; and then, by an empty `impl`, [`DekuContainerRead`] and
-//! [`DekuContainerWrite`], for whole values from bytes and as bytes. Each implementation names its
-//! meaning, made of those of its fields: its contract is then that of its trait.
+//! context that says how it is laid out. An empty `impl` of [`DekuContainerRead`] and
+//! [`DekuContainerWrite`] then adds the calls for whole values from bytes and as bytes. Each
+//! implementation names its meaning, made of those of its fields; its contract is that of its
+//! trait.
 //!
 //! ```text
 //! /// Four bits, four bits and two bytes, all with their high bits first.
@@ -11,9 +12,13 @@
 //!
 //! impl DekuReader<()> for Head {
 //!     ghost meaning = { λ _. JoinedBy (λ a b. record { halves = a; number = b })
-//!         (⟦<(u8, u8) as DekuReader<(Endian, BitSize)>>⟧.meaning (Big, record { 0 = 4 })) (⟦<u16 as DekuReader<Endian>>⟧.meaning Big) };
+//!         (⟦<(u8, u8) as DekuReader<(Endian, BitSize)>>⟧.meaning (Big, record { 0 = 4 }))
+//!         (⟦<u16 as DekuReader<Endian>>⟧.meaning Big) };
 //!
-//!     fn from_reader_with_ctx<R: Source>(reader: &mut Reader<R>, _ctx: ()) -> Result<Self, DekuError> {
+//!     fn from_reader_with_ctx<R: Source>(
+//!         reader: &mut Reader<R>,
+//!         _ctx: (),
+//!     ) -> Result<Self, DekuError> {
 //!         let halves = <(u8, u8)>::from_reader_with_ctx(reader, (Big, BitSize(4)))?;
 //!         let number = u16::from_reader_with_ctx(reader, Big)?;
 //!         Ok(Head { halves, number })
@@ -22,11 +27,11 @@
 //!
 //! impl DekuContainerRead for Head {}
 //!
-//! let ((rest, bits), head) = Head::from_bytes(alloc, (&[0x69, 0xBE, 0xEF, 0x01], 0))?; // (6, 9), 0xBEEF; the rest is 01
+//! let ((rest, bits), head) = Head::from_bytes(alloc, (&[0x69, 0xBE, 0xEF, 0x01], 0))?;
+//! // (6, 9), 0xBEEF; the rest is 01
 //! ```
 //!
-//! The page `docs/RECORDS.md` goes through it whole, with its proof, which is a line for each
-//! field.
+//! The page `docs/RECORDS.md` shows it in full, with its proof, which is one line for each field.
 #![tactic(auto)]
 
 mod container;

@@ -1,7 +1,7 @@
-//! A refusal by its name.
+//! A macro for errors.
 
-/// A refusal by its variant alone, or by its variant and its text. A format and arguments may
-/// follow: they are evaluated and dropped, and the refusal has its fixed text.
+/// Makes an error from its variant, or from its variant and its text. A format and arguments may
+/// follow; they are evaluated and dropped, and the error has its fixed text.
 ///
 /// ```text
 /// deku_error!(DekuError::IdVariantNotFound)

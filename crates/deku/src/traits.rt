@@ -1,17 +1,18 @@
-//! Records that keep in step, and enums with ids.
+//! Records with dependent fields, and enums with ids.
 
 ghost use Rattle.std.specs.Prelude.{Result};
 ghost use Rattle.deku_bits.specs.declared.error.DekuError.{DekuError as Refusal};
 
 use deku_bits::error::DekuError;
 
-/// A record that keeps parts of itself in step, as a field that counts the items of another.
+/// A record in which some parts follow from others, such as a field that counts the items of
+/// another field.
 pub trait DekuUpdate {
-    // What an update of a value may answer, and the value that it leaves.
+    // What an update of a value may return, and the value that it leaves.
     ghost updates: { Self → Result (Unit {0}) Refusal → Self → Type 0 };
 
-    /// Brings the parts that follow from others in step with them. When it is refused, and what is
-    /// left then, is stated by the type.
+    /// Updates the parts that follow from others. The type states when this fails, and what is left
+    /// then.
     ///
     /// ```text
     /// record.payload.push(7)?;
@@ -23,10 +24,10 @@ pub trait DekuUpdate {
 
 /// An enum whose variants have ids in the stream.
 pub trait DekuEnumExt<T> {
-    // What is answered of a value: its id, or why it has none.
+    // The result for a value: its id, or why it has none.
     ghost has_id: { Self → Result T Refusal → Type 0 };
 
-    /// The id of the variant. When it is refused is stated by the type.
+    /// The id of the variant. The type states when this fails.
     ///
     /// ```text
     /// Shape::Circle { radius: 3 }.deku_id()?                  // 1

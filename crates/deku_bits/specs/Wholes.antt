@@ -10,12 +10,14 @@ use Rattle.deku_device.specs.Devices.{Whole, ReadOnly, GoesOnward, bytes_before}
 use Rattle.deku_stream.specs.Standings.{Standing, Going}
 use Rattle.deku_reader.specs.ReaderCalls.{ReadsBytes}
 
--- After transfers a device holds what it took, and behind that what it held; and one that is read alone holds what it held.
+-- After transfers a device holds what it took, and after that what it held before. A device that is
+-- only read holds what it held.
 abbrev pub WholeLaw : Type 0
 WholeLaw = ((w v : Whole) (taken : List ℕ) → GoesOnward (Some w) (Some v) → bytes_before v.place v.bytes ≡ Some taken → v.bytes ≡ taken ++ drop (length taken) w.bytes)
     × ((w v : Whole) → GoesOnward (Some w) (Some v) → w.access ≡ ReadOnly → v.bytes ≡ w.bytes)
 
--- Bytes that are written where nothing is pending are given as they are, and bytes that are read where none is begun are those to come.
+-- Bytes that are written when nothing is pending are given unchanged. Bytes that are read from a
+-- byte boundary are the next bytes.
 abbrev pub PlainLaw : Type 0
 PlainLaw = ((bs : List ℕ) → All (λ b. b < 256) bs → append Msb0 (bits_in bs) Nothing ≡ record { bytes = bs; pending = Nothing })
     × ((o : Order) (n c : ℕ) (bs : List ℕ) (r : Result (List ℕ) DekuError) (u : Standing (Option Stream)) → All (λ b. b < 256) bs → n ≤ length bs → c + 8 * n < 2 ^ 64

@@ -1,4 +1,4 @@
-//! Laws of the definitions that contracts speak of: each is what an empty function ensures.
+//! Laws of the definitions that contracts use. Each law is the postcondition of an empty function.
 
 ghost use Rattle.deku_stream.specs.Bits.{JoinLaw, PackLaw};
 ghost use Rattle.deku_stream.specs.Streams.{PeekLaw, CutLaw, SkipLaw, PeekSkipLaw, EndLaw};
@@ -10,7 +10,7 @@ ghost use Rattle.deku_bits.specs.Wholes.{WholeLaw, PlainLaw};
 ghost use Rattle.deku_bits.specs.Causes.{CauseLaw};
 ghost use Rattle.deku_bits.specs.Rows.{ReadRows, SkipRows, ShortRows, WriteRows};
 
-/// A read of a stream is a read of its normal form, where a peeked byte is put back.
+/// A read of a stream is a read of its normal form, in which a peeked byte is put back.
 pub fn peek_law()
     ensures { PeekLaw }
 {}
@@ -25,23 +25,23 @@ pub fn skip_law()
     ensures { SkipLaw }
 {}
 
-/// A skip of a stream is a skip of its normal form, where a peeked byte is put back.
+/// A skip of a stream is a skip of its normal form, in which a peeked byte is put back.
 pub fn peek_skip_law()
     ensures { PeekSkipLaw }
 {}
 
-/// A look whether the end is reached changes no later read and no later skip.
+/// A check whether the end is reached changes no later read and no later skip.
 pub fn end_law()
     ensures { EndLaw }
 {}
 
-/// A skip of no more bits than there are succeeds, and leaves the stream and the count of a read of
-/// as many that succeeds.
+/// A skip of no more bits than there are succeeds, and leaves the same stream and count as a read
+/// of as many bits that succeeds.
 pub fn skip_read_law()
     ensures { SkipReadLaw }
 {}
 
-/// A read of bytes is a read of eight times as many bits, but for memory.
+/// A read of bytes is a read of eight times as many bits, except that it takes no memory.
 pub fn bytes_law()
     ensures { BytesLaw }
 {}
@@ -51,14 +51,14 @@ pub fn append_law()
     ensures { AppendLaw }
 {}
 
-/// On a reader that was fresh, reads that succeed fetch the bytes that the bits read fill, and a
-/// look at the end one byte more at most.
+/// On a new reader, reads that succeed fetch the bytes that the bits read fill. A check for the end
+/// fetches at most one more byte.
 pub fn fetch_law()
     ensures { FetchLaw }
 {}
 
-/// Behind a write as many bits are given out and pending as were pending and written; the padding
-/// adds fewer than eight, and a second one none.
+/// After a write as many bits are given out and pending as were pending and written. The padding
+/// adds fewer than eight, and a second one adds none.
 pub fn count_law()
     ensures { CountLaw }
 {}
@@ -73,13 +73,14 @@ pub fn write_law()
     ensures { WriteLaw }
 {}
 
-/// From bytes that begin with what aligned pieces lay out, the pieces are taken and the bytes
-/// behind are left.
+/// From bytes that begin with what aligned pieces lay out, the pieces are taken, and the bytes
+/// after them are left.
 pub fn read_law()
     ensures { ReadLaw }
 {}
 
-/// What aligned pieces taken from bytes lay out is the bytes taken, unread bits zero.
+/// Aligned pieces that were taken from bytes lay out the bytes that were taken, with the unread
+/// bits zero.
 pub fn rewrite_law()
     ensures { RewriteLaw }
 {}
@@ -89,12 +90,12 @@ pub fn length_law()
     ensures { LengthLaw }
 {}
 
-/// The number of a group from the numbers of two parts of it.
+/// The number of a group, from the numbers of two parts of it.
 pub fn join_law()
     ensures { JoinLaw }
 {}
 
-/// The first bits of a byte and those behind, as numbers.
+/// The first bits of a byte and those after them, as numbers.
 pub fn pack_law()
     ensures { PackLaw }
 {}
@@ -109,7 +110,7 @@ pub fn skip_rows()
     ensures { SkipRows }
 {}
 
-/// Worked examples of reads that find too few bits, or just enough.
+/// Worked examples of reads that have too few bits, or just enough.
 pub fn short_rows()
     ensures { ShortRows }
 {}
@@ -119,20 +120,19 @@ pub fn write_rows()
     ensures { WriteRows }
 {}
 
-/// After transfers a device that tells all its bytes holds what it took, and behind that what it
-/// held.
+/// After transfers, a device all of whose bytes are known holds what it took, and after that what
+/// it held before.
 pub fn whole_law()
     ensures { WholeLaw }
 {}
 
-/// Bytes are written as they are where nothing is pending, and read as they are where no byte is
-/// begun.
+/// Bytes are written unchanged if nothing is pending, and read unchanged from a byte boundary.
 pub fn plain_law()
     ensures { PlainLaw }
 {}
 
-/// Where no device fails, an `Io` comes only from want of memory, for want of room where bits are
-/// written, or where it was kept.
+/// If no device fails, an `Io` error comes only from being out of memory, from being out of room
+/// when bits are written, or from an error that was kept.
 pub fn cause_law()
     ensures { CauseLaw }
 {}

@@ -1,4 +1,4 @@
--- Numbers behind a byte that counts them.
+-- Numbers after a byte that counts them.
 use Rattle.std.specs.Prelude.{◌≡◌, ℕ, ◌<◌, List, ◌∷◌, length, MatchResult, Result}
 use Rattle.std.specs.Global.{Vec}
 use Rattle.std.specs.declared.io.ErrorKind.TheVariants.{OutOfMemory}
@@ -9,16 +9,17 @@ use Rattle.deku_num.specs.declared.ctx.Size.TheVariants.{Whole}
 use Rattle.deku_num.specs.Numbers.{unsigned}
 use Rattle.deku_symmetry.specs.Pieces.{OfUnsigned, OfEach, high_first}
 
--- these bytes are numbers of 16 bits, the high byte of each first
+-- These bytes are numbers of 16 bits, the high byte of each first.
 abbrev pub AreBytesOf : List ℕ → List ℕ → Type 0
 AreBytesOf ns bytes = (ps : List Piece) × OfEach (OfUnsigned (unsigned 16) (high_first Whole)) ns ps × (bytes ≡ laid_out ps)
 
--- a byte that counts numbers, and behind it these as bytes
+-- A byte that counts numbers, and the bytes of the numbers after it.
 pub record IsRecordOf (ns : List ℕ) (bytes : List ℕ) : Type 0 where
   pub behind : List ℕ
   pub numbers : AreBytesOf ns behind
   pub is : bytes ≡ length ns ∷ behind
 
--- from a byte that counts numbers, and these behind it, the numbers are read; or no memory was found
+-- From a byte that counts numbers, and the numbers after it, the numbers are read; or memory runs
+-- out.
 abbrev pub ReadsRecord : List ℕ → Result (Vec ℕ) DekuError → Type 0
 ReadsRecord bytes r = (ns : List ℕ) → length ns < 256 → IsRecordOf ns bytes → MatchResult r (λ v. v.items ≡ ns) (λ e. e ≡ Io OutOfMemory)

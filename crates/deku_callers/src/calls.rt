@@ -1,4 +1,4 @@
-//! Lists of fields in three calls, cut between any two items, also inside a byte.
+//! Lists of fields in three calls, cut between any two items, even inside a byte.
 
 ghost use Rattle.std.specs.Prelude.{◌≡◌, ◌<◌, ◌∷◌, [], ◌++◌, MatchResult};
 ghost use Rattle.std.specs.declared.io.ErrorKind.TheVariants.{OutOfMemory};
@@ -24,11 +24,11 @@ use deku_num::laws::field_law;
 use std::alloc::Global;
 use std::io::Cursor;
 
-/// The values of fields that are read in three calls, with a look whether the bytes end before the
-/// second and the third: where the bytes begin with what items of these fields lay out, they are
-/// the items' values, as one call reads them.
+/// Reads the values of fields in three calls, with a check whether the bytes end before the second
+/// and the third. If the bytes begin with what items of these fields lay out, they are the items'
+/// values, as one call reads them.
 ///
-/// It is refused as `read_list` is.
+/// It fails as `read_list` does.
 pub fn read_in_three(
     alloc: Global,
     bytes: &[u8],
@@ -47,7 +47,7 @@ pub fn read_in_three(
     Ok((one, two, three))
 }
 
-// Looks whether the input ends, and reads the fields whatever that look says.
+// Checks whether the input ends, and reads the fields whatever the result is.
 fn look_and_read<R: Source>(
     reader: &mut Reader<R>,
     fields: &[Field],
@@ -59,10 +59,10 @@ fn look_and_read<R: Source>(
     read_list(reader, fields)
 }
 
-/// The bytes of items that are written in three calls, and padded once: they are what all these
+/// The bytes of items that are written in three calls, and padded once. They are what all these
 /// items lay out, as one call lays them out.
 ///
-/// It is refused as `write_list` is.
+/// It fails as `write_list` does.
 pub fn bytes_in_three(
     alloc: Global,
     first: &[Item],
@@ -79,10 +79,10 @@ pub fn bytes_in_three(
     Ok(writer.into_inner().into_inner())
 }
 
-/// Writes items in three calls: over any sink, whatever it does, they are one call that writes all
+/// Writes items in three calls. Over any sink, whatever it does, they are one call that writes all
 /// these items.
 ///
-/// It is refused as `write_list` is.
+/// It fails as `write_list` does.
 pub fn write_in_three<W: Sink>(
     writer: &mut Writer<W>,
     first: &[Item],
@@ -99,8 +99,8 @@ pub fn write_in_three<W: Sink>(
 }
 
 /// Five values in fields of mixed orders, written in three calls and read in three: four bits and
-/// four, high bits first, then thirteen and three, low bits first, and then two bytes with a sign,
-/// high byte first. They are the same values; or no memory was found.
+/// four, high bits first, then thirteen and three, low bits first, and then two signed bytes, high
+/// byte first. The result is the same values, or out of memory.
 ///
 /// The caller's conditions: each value has no more bits than its field.
 pub fn five_in_three(

@@ -1,4 +1,4 @@
-//! Numbers under a count of them, and behind a byte that counts them.
+//! Numbers with a count of them, and after a byte that counts them.
 
 ghost use Rattle.std.specs.Prelude.{◌≡◌, ◌*◌, ◌<◌, ◌^◌, ◌∷◌, length, MatchResult};
 ghost use Rattle.std.specs.declared.io.ErrorKind.TheVariants.{OutOfMemory};
@@ -14,8 +14,8 @@ use deku_symmetry::laws::counted_law;
 use std::alloc::Global;
 use std::io::ErrorKind;
 
-/// Numbers as bytes, the high byte of each first, and read from these under a count of as many:
-/// they are the same numbers, or no memory was found.
+/// Writes numbers as bytes, the high byte of each first, and reads them back with their number as
+/// the count. The result is the same numbers, or out of memory.
 ///
 /// The caller's condition: the bits of the numbers can be counted.
 pub fn there_and_back(alloc: Global, numbers: &Vec<u16>) -> Result<Vec<u16>, DekuError>
@@ -33,13 +33,12 @@ pub fn there_and_back(alloc: Global, numbers: &Vec<u16>) -> Result<Vec<u16>, Dek
     Ok(read)
 }
 
-/// A byte that counts numbers, and behind it these as bytes, the high byte of each first.
+/// A byte that counts numbers, and the bytes of the numbers after it, the high byte of each first.
 ///
-/// It is refused with `Io` where no memory is found. The caller's condition: a byte can count the
-/// numbers.
+/// The caller's condition: a byte can count the numbers. It fails with `Io` if there is no memory.
 ///
 /// ```text
-/// record_of(alloc, &numbers)?                                // 02 C0 FE 00 01, of the numbers C0FE and 1
+/// record_of(alloc, &numbers)?                         // 02 C0 FE 00 01, of the numbers C0FE and 1
 /// ```
 pub fn record_of(alloc: Global, numbers: &Vec<u16>) -> Result<Vec<u8>, DekuError>
     requires { length numbers.now.items < 256 }
@@ -52,7 +51,7 @@ pub fn record_of(alloc: Global, numbers: &Vec<u16>) -> Result<Vec<u8>, DekuError
     behind(alloc, numbers.len() as u8, bytes.as_slice())
 }
 
-// A byte, and others behind it.
+// A byte, and others after it.
 fn behind(alloc: Global, first: u8, bytes: &[u8]) -> Result<Vec<u8>, DekuError>
     ensures { MatchResult result (λ v. v.items ≡ first ∷ bytes.now) (λ e. e ≡ Io OutOfMemory) }
 {
@@ -66,10 +65,10 @@ fn behind(alloc: Global, first: u8, bytes: &[u8]) -> Result<Vec<u8>, DekuError>
     Ok(all)
 }
 
-/// The numbers behind a byte that counts them: they are read under a count of that byte.
+/// The numbers after a byte that counts them. They are read with a count of that byte.
 ///
-/// It is refused with `Incomplete` where the bytes end before the last of the numbers, and with
-/// `Io` where no memory is found.
+/// It fails with `Incomplete` if the bytes end before the last of the numbers, and with `Io` if
+/// there is no memory.
 pub fn numbers_of(alloc: Global, bytes: &[u8]) -> Result<Vec<u16>, DekuError>
     ensures { ReadsRecord bytes.now result }
 {
@@ -87,8 +86,8 @@ pub fn numbers_of(alloc: Global, bytes: &[u8]) -> Result<Vec<u16>, DekuError>
     Ok(numbers)
 }
 
-/// Numbers as the record of them, and read from this: they are the same numbers, or no memory was
-/// found.
+/// Writes numbers as their record, and reads them back. The result is the same numbers, or out of
+/// memory.
 ///
 /// The caller's condition: a byte can count the numbers.
 pub fn record_there_and_back(alloc: Global, numbers: &Vec<u16>) -> Result<Vec<u16>, DekuError>

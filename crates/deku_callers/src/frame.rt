@@ -1,4 +1,4 @@
-//! Frames both ways.
+//! Frames, written and read back.
 
 ghost use Rattle.std.specs.Prelude.{◌≡◌, ◌++◌, ℕ, List, IfOk};
 ghost use Rattle.deku_fields.specs.Frames.{SameFrame};
@@ -8,13 +8,12 @@ use deku_fields::frame::Frame;
 use deku_fields::frame::laws::{read_law, rewrite_law, write_law};
 use std::alloc::Global;
 
-/// A frame of two numbers as bytes, and read from them again: it is that frame.
+/// Writes a frame of two numbers as bytes, and reads it back. The result is that frame.
 ///
-/// It is refused as `Frame::pair` refuses the numbers, or with `Io(OutOfMemory)` where no memory is
-/// found for the bytes.
+/// It fails as `Frame::pair` does, or with `Io(OutOfMemory)` if there is no memory for the bytes.
 ///
 /// ```text
-/// pair_there_and_back(alloc, 5, 0x2A7)?                      // Frame::Pair { left: 5, right: 0x2A7 }
+/// pair_there_and_back(alloc, 5, 0x2A7)?                   // Frame::Pair { left: 5, right: 0x2A7 }
 /// ```
 pub fn pair_there_and_back(alloc: Global, left: u8, right: u16) -> Result<Frame, DekuError>
     ensures { IfOk result (λ f. SameFrame (Frame.Pair left right) f) }
@@ -27,10 +26,10 @@ pub fn pair_there_and_back(alloc: Global, left: u8, right: u16) -> Result<Frame,
     Ok(read)
 }
 
-/// The frame that is read from any bytes, as bytes again: the bytes begin with them.
+/// Reads a frame from any bytes, and writes it as bytes again. The given bytes begin with these.
 ///
-/// It is refused as the frame is where it is read, or with `Io(OutOfMemory)` where no memory is
-/// found for the bytes.
+/// It fails as reading the frame does, or with `Io(OutOfMemory)` if there is no memory for the
+/// bytes.
 ///
 /// ```text
 /// rewritten(alloc, &[0x31, 0x2A, 0xA7, 0x99])?               // 31 2A A7

@@ -1,4 +1,4 @@
-//! A length that is written in front of what it counts, when that is written.
+//! A length that is written before what it counts, after that is written.
 
 ghost use Rattle.std.specs.Prelude.{◌≡◌, ◌∷◌, ◌<◌, length, IfOk};
 
@@ -7,9 +7,9 @@ use deku_bits::writer::Writer;
 use std::alloc::Global;
 use std::io::{Cursor, Seek, SeekFrom};
 
-/// A payload of fewer than 256 bytes behind its length, which is written last.
+/// A payload of fewer than 256 bytes after its length, which is written last.
 ///
-/// It is refused with `Io` where no memory is found.
+/// It fails with `Io` if there is no memory.
 ///
 /// ```text
 /// record_of(alloc, &[0xAA, 0xBB, 0xCC])?                     // 03 AA BB CC

@@ -1,5 +1,5 @@
-//! What callers conclude from the contracts of public calls alone: each function here is a small
-//! program, and what it ensures is what its user wants to know.
+//! What callers can conclude from the contracts of public calls only. Each function here is a small
+//! program, and its postcondition is what its user wants to know.
 #![tactic(auto)]
 
 pub mod calls;

@@ -1,4 +1,4 @@
-//! Lists of fields both ways.
+//! Lists of fields, written and read back.
 
 ghost use Rattle.std.specs.Prelude.{◌≡◌, ◌<◌, ◌∷◌, [], length, IfOk, MatchResult};
 ghost use Rattle.std.specs.declared.io.ErrorKind.TheVariants.{OutOfMemory};
@@ -17,12 +17,12 @@ use deku_num::laws::field_law;
 use std::alloc::Global;
 use std::io::ErrorKind;
 
-/// The items as bytes, and read from these under the same fields: how many bits they took, and
-/// their values.
+/// Writes the items as bytes, and reads them back with the same fields. Returns how many bits they
+/// took, and their values.
 ///
-/// It is refused as the first item is that is refused, written or read, or with `Io(OutOfMemory)`
-/// where no memory is found. Of fitting items whose order changes only at byte boundaries the
-/// latter is the one refusal.
+/// It fails as the first item that fails, written or read, or with `Io(OutOfMemory)` if there is no
+/// memory. For fitting items whose order changes only at byte boundaries, the latter is the only
+/// error.
 ///
 /// ```text
 /// // 6 and 9 in four bits each, big and `Msb0`
@@ -51,9 +51,9 @@ fn fields_of(alloc: Global, items: &[Item]) -> Result<Vec<Field>, DekuError>
     Ok(fields)
 }
 
-/// Five values in fields of mixed orders as bytes, and read from these: four bits and four, high
-/// bits first, thirteen and three, low bits first, and two bytes with a sign, high byte first. They
-/// are the same values, and forty bits are counted; or no memory was found.
+/// Writes five values in fields of mixed orders as bytes, and reads them back: four bits and four,
+/// high bits first, thirteen and three, low bits first, and two signed bytes, high byte first. The
+/// result is the same values and a count of forty bits, or out of memory.
 ///
 /// The caller's conditions: each value has no more bits than its field.
 ///
@@ -87,7 +87,7 @@ pub fn five_there_and_back(
     there_and_back(alloc, &items)
 }
 
-// A number with a sign.
+// A signed number.
 pub(crate) fn signed(value: i16) -> Number
     ensures { result ≡ Signed value }
 {
@@ -132,11 +132,11 @@ pub(crate) fn low(kind: Kind, size: Size, value: Number) -> Item
     Item { field, value }
 }
 
-/// The values that the fields read from any bytes, written under the same fields: they are the
-/// bytes taken, unread bits zero.
+/// Reads values of the fields from any bytes, and writes them with the same fields. The result is
+/// the bytes that were taken, with the unread bits zero.
 ///
-/// It is refused as the first field is that is refused where it is read, or with `Io(OutOfMemory)`
-/// where no memory is found.
+/// It fails as the first field that fails when it is read, or with `Io(OutOfMemory)` if there is no
+/// memory.
 ///
 /// ```text
 /// // four bits, big and `Msb0`

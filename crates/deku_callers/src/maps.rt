@@ -1,4 +1,4 @@
-//! Maps and sets under a count.
+//! Maps and sets with a count.
 
 ghost use Rattle.std.specs.Prelude.{◌≡◌, ◌*◌, ◌<◌, ◌^◌, ◌∷◌, [], length, nat_eq, MatchResult};
 ghost use Rattle.std.specs.Set.{is_member, distinct_count};
@@ -22,9 +22,9 @@ pub type Map = HashMap<u8, u16, BuildHasherDefault<FoldHasher>>;
 /// A set of bytes.
 pub type Set = HashSet<u8, BuildHasherDefault<FoldHasher>>;
 
-/// Three pairs of a key and a value as bytes, and the value at a key of the map that is read from
-/// these under a count of three: it is the value of the last pair that has the key, and none where
-/// no pair has it; or no memory was found.
+/// Writes three pairs of a key and a value as bytes, reads them as a map with a count of three, and
+/// looks up a key. The result is the value of the last pair that has the key, or `None` if no pair
+/// has it; or out of memory.
 pub fn value_at(
     alloc: Global,
     first: (u8, u16),
@@ -46,8 +46,8 @@ pub fn value_at(
     Ok(map.get(&key).copied())
 }
 
-/// A key with two values, and a pair between them, as bytes and read as a map: at the key it has
-/// the last value, whatever the pair is; or no memory was found.
+/// Writes a key with two values, and a pair between them, as bytes, and reads them as a map. The
+/// map has the last value at the key, whatever the pair is; or memory runs out.
 pub fn last_of_two(
     alloc: Global,
     key: u8,
@@ -60,9 +60,9 @@ pub fn last_of_two(
     value_at(alloc, (key, value), between, (key, last), key)
 }
 
-/// Bytes written one after the other, and of the set that is read from these under a count of as
-/// many whether it has a byte, and how many it has: it has those that were written, and of equal
-/// ones one; or no memory was found.
+/// Writes bytes one after the other, and reads them as a set with their number as the count.
+/// Returns whether the set has a byte, and how many bytes it has. It has those that were written,
+/// and of equal ones one; or memory runs out.
 ///
 /// The caller's condition: the bits of the bytes can be counted.
 pub fn kept_once(alloc: Global, items: &Vec<u8>, byte: u8) -> Result<(bool, usize), DekuError>

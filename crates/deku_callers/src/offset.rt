@@ -8,9 +8,9 @@ use deku_bits::reader::Reader;
 use std::alloc::Global;
 use std::io::{Cursor, Seek, SeekFrom};
 
-/// The first byte of the record whose place stands in the first two bytes, the high one first.
+/// The first byte of the record whose offset is in the first two bytes, the high byte first.
 ///
-/// It is refused with `Incomplete` where the bytes end before it.
+/// It fails with `Incomplete` if the bytes end before it.
 ///
 /// ```text
 /// byte_of_record(alloc, &[0x00, 0x04, 0xAA, 0xBB, 0xCC])?    // 0xCC

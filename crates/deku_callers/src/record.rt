@@ -1,4 +1,4 @@
-//! Records both ways.
+//! Records, written and read back.
 
 ghost use Rattle.std.specs.Prelude.{◌≡◌, take, IfOk, MatchResult};
 ghost use Rattle.std.specs.declared.io.ErrorKind.TheVariants.{OutOfMemory};
@@ -10,8 +10,8 @@ use deku_formats::udp::Udp;
 use deku_symmetry::laws::{from_bytes_law, to_bytes_law, whole_bytes_law};
 use std::alloc::Global;
 
-/// Any header of a datagram as bytes, and read from them again: it is the header, or no memory was
-/// found.
+/// Writes any header of a datagram as bytes, and reads it back. The result is the header, or out of
+/// memory.
 ///
 /// ```text
 /// there_and_back(alloc, header)?                             // the header
@@ -27,13 +27,15 @@ pub fn there_and_back(alloc: Global, header: Udp) -> Result<Udp, DekuError>
     Ok(read)
 }
 
-/// The header that is read from any bytes, as bytes again: they are the first eight of those.
+/// Reads a header from any bytes, and writes it as bytes again. They are the first eight of the
+/// given bytes.
 ///
-/// It is refused with `Incomplete` where there are fewer than eight, or with `Io(OutOfMemory)`
-/// where no memory is found.
+/// It fails with `Incomplete` if there are fewer than eight bytes, or with `Io(OutOfMemory)` if
+/// there is no memory.
 ///
 /// ```text
-/// rewritten(alloc, &[0x9C, 0xBB, 0xD1, 0x1F, 0x00, 0x0A, 0xFE, 0x1D, 0x68])?     // without the last one
+/// rewritten(alloc, &[0x9C, 0xBB, 0xD1, 0x1F, 0x00, 0x0A, 0xFE, 0x1D, 0x68])?
+/// // without the last one
 /// ```
 pub fn rewritten(alloc: Global, bytes: &[u8]) -> Result<Vec<u8>, DekuError>
     ensures { IfOk result (λ v. v.items ≡ take 8 bytes.now) }

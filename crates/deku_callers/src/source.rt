@@ -1,4 +1,4 @@
-//! What is left of a source behind a record.
+//! What is left of a source after a record.
 
 ghost use Rattle.std.specs.Prelude.{◌≡◌, Some, drop, IfOk, IfSome};
 ghost use Rattle.deku_symmetry.specs.Symmetric.{IsSymmetric};
@@ -9,13 +9,13 @@ use deku_formats::udp::Udp;
 use deku_symmetry::Symmetric;
 use std::alloc::Global;
 
-/// The header of a datagram from the front of a source, and how many bits it has. Where the source
-/// tells its bytes, these are 64, and it tells then those behind the first eight: no byte is
-/// fetched too early. It is refused as the header is where it is read.
+/// Reads the header of a datagram from the start of a source. Returns how many bits it has, and the
+/// header. If the bytes of the source are known, the bits are 64, and those after the first eight
+/// bytes are known afterwards: no byte is fetched too early. It fails as reading the header does.
 ///
 /// ```text
 /// let mut source = Cursor::new(bytes);
-/// let (bits, header) = header_of(alloc, &mut source)?;       // the source is at what the header carries
+/// let (bits, header) = header_of(alloc, &mut source)?; // the source is at what the header carries
 /// ```
 pub fn header_of<R: Source>(alloc: Global, source: &mut R) -> Result<(usize, Udp), DekuError>
     ensures { IfOk result (λ p. IfSome (R.known source.old).remaining
@@ -25,7 +25,7 @@ pub fn header_of<R: Source>(alloc: Global, source: &mut R) -> Result<(usize, Udp
     Udp::from_reader(alloc, (source, 0))
 }
 
-// The law of symmetric types, of one of them.
+// The law of symmetric types, for one type.
 fn symmetric_law<T: Symmetric<()>>()
     ensures { IsSymmetric (λ v. T.pieces v tt) T.same (λ v. T.DekuWriter.meaning v tt)
         (T.DekuReader.meaning tt) }

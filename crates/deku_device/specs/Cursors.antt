@@ -1,4 +1,4 @@
--- What a cursor tells by its place, and what one that fails once tells.
+-- What is known of a cursor by its place, and of one that fails once.
 use Rattle.std.specs.Prelude.{◌≡◌, ◌⊎◌, ◌≤◌, ◌+◌, ℕ, zero, suc, ◌-◌, List, [], ◌∷◌, ◌++◌, length, take, drop, replicate, Option, None, Some}
 use Rattle.std.specs.Global.{Vec}
 use Rattle.std.specs.Vec.{vec_capacity}
@@ -9,50 +9,51 @@ use Rattle.deku_device.specs.declared.probe.FailAt.{FailAt}
 use Rattle.deku_device.specs.declared.probe.trickle.Trickle.{Trickle}
 use Rattle.deku_device.specs.Devices.{KnownSource, KnownSink, Whole, ReadOnly, Overwritten, Grows, bytes_before}
 
--- where all bytes are known, a cursor tells those from its place on
+-- If all bytes are known, those from a cursor's place on are the next.
 pub cursor_known : {T : Type 0} (bytes : T → Option (List ℕ)) (c : Cursor T) (at : ℕ) (all : List ℕ) → Some (cursor_position c) ≡ Some at → bytes (cursor_inner c) ≡ Some all → cursor_remaining bytes c ≡ Some (drop at all)
 cursor_known bytes c at all p q = rw q (cc)
 
--- all bytes of a cursor that is read, with its place, where they are known
+-- All bytes of a cursor that is read, with its place, if they are known.
 abbrev pub read_whole : ℕ → Option (List ℕ) → Option Whole
 read_whole at None = None
 read_whole at (Some all) = Some (record { place = at; bytes = all; access = ReadOnly })
 
--- all bytes of a cursor over a slice that is written, with its place
+-- All bytes of a cursor over a slice that is written, with its place.
 abbrev pub slice_whole : Cursor (MutBor (List ℕ)) → Option Whole
 slice_whole c = Some (record { place = cursor_position c; bytes = (cursor_inner c).now; access = Overwritten })
 
--- all bytes of a cursor over a vector that is written, with its place
+-- All bytes of a cursor over a vector that is written, with its place.
 abbrev pub vector_whole : Cursor (Vec ℕ) → Option Whole
 vector_whole c = Some (record { place = cursor_position c; bytes = (cursor_inner c).items; access = Grows })
 
--- what a cursor over bytes tells, where they are known
+-- What is known of a cursor over bytes, if the bytes are known.
 abbrev pub cursor_source : {T : Type 0} → (T → Option (List ℕ)) → Cursor T → KnownSource
 cursor_source bytes c = record {
   remaining = cursor_remaining bytes c;
   health = record { failures = Some 0; lenders = []; whole = read_whole (cursor_position c) (bytes (cursor_inner c)) };
 }
 
--- what a source that gives one byte at a time tells
+-- What is known of a source that gives one byte at a time.
 abbrev pub trickling : Trickle → KnownSource
 trickling s = record {
   remaining = cursor_remaining (λ b. Some b.now) s.inner;
   health = record { failures = Some 0; lenders = []; whole = read_whole (cursor_position s.inner) (Some (cursor_inner s.inner).now) };
 }
 
--- how many calls failed, where so many are left up to the one that fails; none is left behind it
+-- How many calls failed, if this many are left, including the one that fails. None is left after
+-- it.
 abbrev pub failures_at : ℕ → ℕ
 failures_at zero = 1
 failures_at (suc n) = 0
 
--- what a source that fails once tells
+-- What is known of a source that fails once.
 abbrev pub failing_source : {B : Type 0} → (B → Option (List ℕ)) → FailAt B → KnownSource
 failing_source bytes s = record {
   remaining = cursor_remaining bytes s.inner;
   health = record { failures = Some (failures_at s.left); lenders = []; whole = read_whole (cursor_position s.inner) (bytes (cursor_inner s.inner)) };
 }
 
--- what a sink that fails once tells
+-- What is known of a sink that fails once.
 abbrev pub failing_sink : FailAt (MutBor (List ℕ)) → KnownSink
 failing_sink s = record {
   taken = bytes_before (cursor_position s.inner) (cursor_inner s.inner).now;
@@ -60,7 +61,7 @@ failing_sink s = record {
   health = record { failures = Some (failures_at s.left); lenders = (cursor_inner s.inner).ghost_name ∷ []; whole = slice_whole s.inner };
 }
 
--- what a cursor over a slice tells: the bytes before its place, and its room by those behind
+-- What is known of a cursor over a slice: the bytes before its place; its room is those after it.
 abbrev pub known_slice : Cursor (MutBor (List ℕ)) → KnownSink
 known_slice c = record {
   taken = bytes_before (cursor_position c) (cursor_inner c).now;
@@ -68,7 +69,8 @@ known_slice c = record {
   health = record { failures = Some 0; lenders = (cursor_inner c).ghost_name ∷ []; whole = slice_whole c };
 }
 
--- what a cursor over a vector tells: the bytes before its place; its room is what memory is found
+-- What is known of a cursor over a vector: the bytes before its place. Its room is as large as
+-- there is memory.
 abbrev pub known_vector : Cursor (Vec ℕ) → KnownSink
 known_vector c = record {
   taken = bytes_before (cursor_position c) (cursor_inner c).items;
@@ -76,14 +78,15 @@ known_vector c = record {
   health = record { failures = Some 0; lenders = []; whole = vector_whole c };
 }
 
--- the front of the bytes, as many as fit behind a place
+-- The front of the bytes, as many as fit after a place.
 abbrev pub fitting_front : List ℕ → ℕ → List ℕ → List ℕ
 fitting_front all place bytes = take (length all - place) bytes
 
--- bytes with zeros behind them, as many as they lack up to a place
+-- Bytes with zeros after them, up to a place.
 abbrev pub reaching : ℕ → List ℕ → List ℕ
 reaching place all = all ++ replicate (place - length all) 0
 
--- a vector has room for eight bytes from a place on: over those that are there, or at its end, where it has space
+-- A vector has room for eight bytes from a place on: over its own bytes, or at its end if its
+-- capacity has space for them.
 abbrev pub RoomForEight : ℕ → Vec ℕ → Type 0
 RoomForEight place v = (place + 8 ≤ length v.items) ⊎ ((place ≡ length v.items) × (place + 8 ≤ vec_capacity v))

@@ -19,24 +19,24 @@ use std::fs::File;
 use std::io;
 use std::io::{AsBytes, Cursor, Error, ErrorKind, Read, Seek, SeekFrom, Write};
 
-/// A reader that can seek, whose bytes to come and whose count of failures may be known.
+/// A reader that can seek. Its next bytes and its count of failures may be known.
 ///
-/// `fetch` is `read_exact` and `pass` is `seek(SeekFrom::Current(n))`, under laws: what is told
-/// stays true, and a call fails only where a told count of failures rises, but for the end of
-/// input. `try_take` is a look at eight bytes that lie in memory and a `pass` of some of them; a
-/// source that has none at hand is read by `fetch` alone.
+/// `fetch` is `read_exact` and `pass` is `seek(SeekFrom::Current(n))`, under laws: what is known
+/// stays true, and a call fails only if a known count of failures rises, except at the end of the
+/// input. `try_take` looks at eight bytes that are in memory and passes some of them. A source that
+/// has no bytes in memory is read by `fetch` only.
 pub trait Source: Read + Seek {
     // What it tells: the bytes to come, the count of failures, the references on the way.
     ghost known: { Self → KnownSource };
 
     /// Fills the buffer with the next bytes.
     ///
-    /// Fails with `UnexpectedEof` only where fewer bytes are to come, and else only where the
-    /// device fails. Then it is open what the buffer holds, and how many bytes are still to come.
+    /// It fails with `UnexpectedEof` only if fewer bytes are left, and otherwise only if the device
+    /// fails. Then the content of the buffer, and how many bytes are left, are unspecified.
     ///
     /// ```text
     /// let mut buf = [0; 2];
-    /// source.fetch(&mut buf)?;             // from 01 02 03: 01 02; the next byte to come is 03
+    /// source.fetch(&mut buf)?;             // from 01 02 03: 01 02; the next byte is 03
     /// ```
     fn fetch(&mut self, buf: &mut [u8]) -> io::Result<()>
         ensures bytes { OnOk result (Consumes (known self.old).remaining (known self.new).remaining
@@ -49,13 +49,14 @@ pub trait Source: Read + Seek {
             → DeviceFailed (known self.old).health (known self.new).health) }
         ensures kept { DeviceKept (known self.old).health (known self.new).health };
 
-    /// Leaves out the next `n` bytes, or all where fewer are to come. The caller's condition: `n`
-    /// is at most `i64::MAX`, since it is a seek.
+    /// Skips the next `n` bytes, or all if fewer are left.
     ///
-    /// Fails only where the device fails.
+    /// The caller's condition: `n` is at most `i64::MAX`, since it is a seek.
+    ///
+    /// It fails only if the device fails.
     ///
     /// ```text
-    /// source.pass(2)?;                     // from 01 02 03; the next byte to come is 03
+    /// source.pass(2)?;                     // from 01 02 03; the next byte is 03
     /// ```
     fn pass(&mut self, n: u64) -> io::Result<()>
         requires { n < 2 ^ 63 }
@@ -125,11 +126,11 @@ pub trait Source: Read + Seek {
 
     /// Seeks, as `seek` does.
     ///
-    /// Where all bytes are told, it leads to its target and is refused only where there is none or
-    /// the device fails; those from there on are to come then.
+    /// If all bytes are known, it leads to its target, and fails only if there is none or the
+    /// device fails. The bytes from the target on are then the next.
     ///
     /// ```text
-    /// source.seek_to(SeekFrom::Start(2))?;      // from 01 02 03: 2; the next byte to come is 03
+    /// source.seek_to(SeekFrom::Start(2))?;      // from 01 02 03: 2; the next byte is 03
     /// ```
     fn seek_to(&mut self, to: SeekFrom) -> io::Result<u64>
         ensures moves { SeekMoves (Self.stream_position self.old) (Self.stream_position self.new)
@@ -144,12 +145,12 @@ pub trait Source: Read + Seek {
         → Self.stream_bytes s ≡ Some all → (known s).remaining ≡ Some (drop at all) };
 }
 
-/// A writer that can seek, whose bytes taken, whose room and whose count of failures may be known.
+/// A writer that can seek. The bytes that it took, its room and its count of failures may be known.
 ///
-/// `give` is `write_all`, under laws: what is told stays true, and a call fails only where a told
-/// count of failures rises, where the room that is told is too small, or, where no room is told,
-/// where no memory is found. `try_put` gives at most eight bytes in one step where memory has room
-/// for eight, and is never refused: a sink that has no such room, or no memory, leaves it as it is.
+/// `give` is `write_all`, under laws: what is known stays true. A call fails only if a known count
+/// of failures rises, if the known room is too small, or, if no room is known, if there is no
+/// memory. `try_put` gives at most eight bytes in one step if there is room for eight in memory,
+/// and never fails: a sink without such room, or without memory, stays as it is.
 pub trait Sink: Write + Seek {
     // What it tells: the bytes taken, those that lie in the room left, the count of failures, the
     // references on the way.
@@ -157,12 +158,12 @@ pub trait Sink: Write + Seek {
 
     /// Gives all the bytes.
     ///
-    /// Fails with `WriteZero` where the room that is told is too small, with `OutOfMemory` where no
-    /// room is told and no memory is found, and else only where the device fails. Then it took a
-    /// beginning of them, and it is open how many.
+    /// It fails with `WriteZero` if the known room is too small, with `OutOfMemory` if no room is
+    /// known and there is no memory, and otherwise only if the device fails. Then it took a
+    /// beginning of the bytes; how many is unspecified.
     ///
     /// ```text
-    /// sink.give(&[1, 2])?;                 // a slice with one byte of room refuses it with WriteZero
+    /// sink.give(&[1, 2])?;                // fails with WriteZero on a slice with one byte of room
     /// ```
     fn give(&mut self, bytes: &[u8]) -> io::Result<()>
         ensures ok { OnOk result (Gave (known self.old) (known self.new) bytes.now) }
@@ -190,11 +191,11 @@ pub trait Sink: Write + Seek {
 
     /// Seeks, as `seek` does.
     ///
-    /// Where all bytes are told, it leads to its target and is refused only where there is none or
-    /// the device fails; those before it are taken then, and those from there on lie in the room.
+    /// If all bytes are known, it leads to its target, and fails only if there is none or the
+    /// device fails. The bytes before the target are then taken, and those from it on are the room.
     ///
     /// ```text
-    /// sink.seek_to(SeekFrom::Start(0))?;        // 0; the next bytes are laid over the first
+    /// sink.seek_to(SeekFrom::Start(0))?;        // 0; the next bytes overwrite the first
     /// ```
     fn seek_to(&mut self, to: SeekFrom) -> io::Result<u64>
         ensures moves { SeekMoves (Self.stream_position self.old) (Self.stream_position self.new)

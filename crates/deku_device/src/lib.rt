@@ -1,4 +1,4 @@
-//! Sources and sinks of bytes, and what they tell of themselves.
+//! Sources and sinks of bytes, and what is known of them.
 #![tactic(auto)]
 
 pub mod device;

@@ -1,4 +1,4 @@
-//! A stream that cannot seek, as one whose seeks go nowhere.
+//! Streams that cannot seek, as streams whose seeks lead nowhere.
 
 ghost use Rattle.std.specs.Prelude.{◌≡◌, ◌<◌, ◌^◌, Some, None, length, IfOk, OnOk, OnErr, IfErr, IsOk};
 ghost use Rattle.std.specs.Io.{ReadsAtMost, WritesAtMost};
@@ -14,11 +14,11 @@ use crate::device::{Sink, Source};
 use std::io;
 use std::io::{Error, ErrorKind, Read, Seek, SeekFrom, Write};
 
-/// A reader or a writer that cannot seek, as a pipe or a socket, with the count of the bytes that
-/// it moved.
+/// A reader or a writer that cannot seek, such as a pipe or a socket, with the count of the bytes
+/// that it moved.
 ///
-/// The count is its position. A seek to it, by `Start` of it or `Current(0)`, answers it and moves
-/// nothing; any other seek is refused with kind `Other`. Each transfer that succeeds raises it by
+/// The count is its position. A seek to it, by `Start` of it or `Current(0)`, returns it and moves
+/// nothing; any other seek fails with kind `Other`. Each transfer that succeeds raises the count by
 /// its bytes, up to `u64::MAX`.
 ///
 /// ```text
@@ -32,10 +32,10 @@ pub struct NoSeek<T> {
 }
 
 impl<T> NoSeek<T> {
-    /// At position 0.
+    /// Wraps a stream, at position 0.
     ///
     /// ```text
-    /// let source = NoSeek::new(stream);                          // reads from a stream that cannot seek
+    /// let source = NoSeek::new(stream);                    // reads from a stream that cannot seek
     /// ```
     pub fn new(inner: T) -> NoSeek<T>
         ensures inner { result.inner ≡ inner }
@@ -44,7 +44,7 @@ impl<T> NoSeek<T> {
         NoSeek { inner, position: 0 }
     }
 
-    /// The stream inside. What is moved by it is not counted.
+    /// The stream inside. What is moved through it is not counted.
     ///
     /// ```text
     /// source.get_ref().is_terminal()                             // asks the stream inside
@@ -55,10 +55,10 @@ impl<T> NoSeek<T> {
         &self.inner
     }
 
-    /// The stream inside, to be changed. What is moved by it is not counted.
+    /// The stream inside, to be changed. What is moved through it is not counted.
     ///
     /// ```text
-    /// sink.get_mut().flush()?;                                   // told to the stream inside
+    /// sink.get_mut().flush()?;                                   // flushes the stream inside
     /// ```
     pub fn get_mut(&mut self) -> &mut T
         ensures value { result.now ≡ self.old.inner }
@@ -68,10 +68,10 @@ impl<T> NoSeek<T> {
         &mut self.inner
     }
 
-    /// The stream inside, given back.
+    /// Returns the stream inside.
     ///
     /// ```text
-    /// let stream = source.into_inner();                          // behind what was read
+    /// let stream = source.into_inner();                          // after what was read
     /// ```
     pub fn into_inner(self) -> T
         ensures { result ≡ self.inner }
@@ -151,7 +151,7 @@ impl<T> Seek for NoSeek<T> {
         ensures refused { IfErr result (λ e. (error_kind e ≡ ErrorKind.Other)
             × (IsHere self.old.position to → ⊥)) }
         ensures stays { self.new ≡ self.old }
-        // What the trait asks of a stream whose place is known and whose bytes are not.
+        // What the trait requires of a stream whose place is known and whose bytes are not.
         ensures moves { SeekMoves (Some self.old.position) (Some self.new.position) None to result }
         ensures bytes { Keeps None None }
     {
@@ -178,7 +178,7 @@ impl<T> Seek for NoSeek<T> {
     }
 }
 
-// It tells nothing: a reader inside may answer the end of input and go on.
+// Nothing is known of it: a reader inside may return the end of the input and continue.
 impl<T: Read> Source for NoSeek<T> {
     ghost known = { λ _. unknown_source };
 

@@ -21,8 +21,8 @@ use std::io::{AsBytes, Cursor, Error, ErrorKind, Read, Seek, SeekFrom, Write};
 pub use trickle::Trickle;
 
 /// A cursor that moves one byte at a time and fails once, with kind `Other`, at its nth read, write
-/// or seek, counted from 1. That call moves nothing. It tells its bytes, and that no call failed or
-/// that one did.
+/// or seek, counted from 1. That call moves nothing. Its bytes are known, and whether a call
+/// failed.
 ///
 /// ```text
 /// let mut reader = Reader::new(alloc, FailAt::new(Cursor::new(bytes), 2)); // 01 02
@@ -32,16 +32,16 @@ pub use trickle::Trickle;
 #[derive(Drop)]
 pub struct FailAt<B> {
     inner: Cursor<B>,
-    // How many calls are left up to the one that fails; 0 behind it.
+    // How many calls are left, including the one that fails; 0 after it.
     left: usize,
 }
 
 impl<B> FailAt<B> {
-    /// It fails at the nth call, counted from 1. For 0 it never fails, and tells that a call
-    /// failed, as it does behind one.
+    /// It fails at the nth call, counted from 1. For 0 it never fails, and a call counts as failed,
+    /// as after a failure.
     ///
     /// ```text
-    /// let source = FailAt::new(Cursor::new(bytes), 2);           // gives a byte, refuses the second call with Other, and goes on
+    /// let source = FailAt::new(Cursor::new(bytes), 2); // its second call fails with Other
     /// ```
     pub fn new(inner: Cursor<B>, n: usize) -> FailAt<B>
         ensures inner { result.inner ≡ inner }
@@ -61,7 +61,7 @@ impl<B> FailAt<B> {
         self.inner
     }
 
-    // One call more, which may be the one that fails.
+    // One more call, which may be the one that fails.
     fn call(&mut self) -> io::Result<()>
         ensures inner { self.new.inner ≡ self.old.inner }
         ensures left { self.new.left ≡ self.old.left - 1 }
@@ -115,7 +115,7 @@ impl<B: AsBytes> Seek for FailAt<B> {
         ensures failed { IfErr result (λ e. (error_kind e ≡ ErrorKind.Other)
             ↔ (self.old.left ≡ 1)) }
         ensures still { OnErr result (self.new.inner ≡ self.old.inner) }
-        // Each other call answers as the cursor does.
+        // Each other call returns what the cursor does.
         ensures target { self.old.left ≢ 1 → IsSeekResult to (cursor_position self.old.inner)
             result }
         ensures from_end { self.old.left ≢ 1 → IfSome (B.bytes (cursor_inner self.old.inner))
@@ -174,8 +174,8 @@ impl<B: AsBytes> Source for FailAt<B> {
             (failing_source B.bytes self.new).health) }
         ensures kept { DeviceKept (failing_source B.bytes self.old).health
             (failing_source B.bytes self.new).health }
-        // A call for each byte: those in front of the one that fails move a byte each, and that one
-        // moves none.
+        // One call for each byte. The calls before the one that fails move a byte each, and that
+        // one moves none.
         ensures counted { OnOk result (self.new.left ≡ self.old.left - length buf.new) }
         ensures fails { OnOk result (0 < self.old.left → length buf.new < self.old.left) }
         ensures kind { IfErr result (λ e. error_kind e ≢ ErrorKind.UnexpectedEof
@@ -183,7 +183,7 @@ impl<B: AsBytes> Source for FailAt<B> {
         ensures still { IfErr result (λ e. error_kind e ≡ ErrorKind.Other
             → Passes (self.old.left - 1) (failing_source B.bytes self.old).remaining
             (failing_source B.bytes self.new).remaining) }
-        // It stands behind the bytes that were fetched: up to the call that fails, or all where the
+        // Its place is after the bytes that were fetched: up to the call that fails, or all if the
         // input ends.
         ensures place { OnOk result (cursor_position self.new.inner ≡ cursor_position self.old.inner
             + length buf.new) }
@@ -195,7 +195,7 @@ impl<B: AsBytes> Source for FailAt<B> {
             (λ all. cursor_position self.new.inner ≡ cursor_position self.old.inner +
             (length all - cursor_position self.old.inner))) }
         ensures inner { cursor_inner self.new.inner ≡ cursor_inner self.old.inner }
-        // The end of input leaves the call that fails to come.
+        // If the input ends, the call that fails is still to come.
         ensures waits { IfErr result (λ e. error_kind e ≡ ErrorKind.UnexpectedEof
             → 0 < self.old.left → (0 < self.new.left) × (self.new.left < self.old.left)) }
     {
@@ -217,7 +217,7 @@ impl<B: AsBytes> Source for FailAt<B> {
         ensures fails { OnOk result (self.old.left ≢ 1) }
         ensures kind { IfErr result (λ e. error_kind e ≡ ErrorKind.Other) }
         ensures still { OnErr result (self.new.inner ≡ self.old.inner) }
-        // It may pass the end, as a seek does.
+        // It may skip past the end, as a seek does.
         ensures place { OnOk result (cursor_position self.new.inner ≡ place_on
             (cursor_position self.old.inner) n) }
         ensures inner { cursor_inner self.new.inner ≡ cursor_inner self.old.inner }
@@ -298,8 +298,8 @@ impl Sink for FailAt<&mut [u8]> {
         ensures ok { OnOk result (Gave (failing_sink self.old) (failing_sink self.new) bytes.now) }
         ensures err { IfErr result (λ e. Declined (failing_sink self.old) (failing_sink self.new)
             bytes.now (error_kind e)) }
-        // A call for each byte: those in front of the one that fails give a byte each, and that one
-        // gives none.
+        // One call for each byte. The calls before the one that fails give a byte each, and that
+        // one gives none.
         ensures counted { OnOk result (self.new.left ≡ self.old.left - length bytes.now) }
         ensures fails { OnOk result (0 < self.old.left → length bytes.now < self.old.left) }
         ensures kind { IfErr result (λ e. error_kind e ≢ ErrorKind.WriteZero
@@ -307,8 +307,8 @@ impl Sink for FailAt<&mut [u8]> {
         ensures still { IfErr result (λ e. error_kind e ≡ ErrorKind.Other
             → Appends (failing_sink self.old).taken (failing_sink self.new).taken
             (take (self.old.left - 1) bytes.now)) }
-        // It stands behind the bytes that were given: up to the call that fails, or as many as fit
-        // where room lacks.
+        // Its place is after the bytes that were given: up to the call that fails, or as many as
+        // fit if there is not enough room.
         ensures place { OnOk result (cursor_position self.new.inner ≡ cursor_position self.old.inner
             + length bytes.now) }
         ensures failed_place { IfErr result (λ e. error_kind e ≡ ErrorKind.Other
@@ -321,7 +321,7 @@ impl Sink for FailAt<&mut [u8]> {
             → Appends (failing_sink self.old).taken (failing_sink self.new).taken
             (take (length (cursor_inner self.old.inner).now - cursor_position self.old.inner)
             bytes.now)) }
-        // Room that lacks leaves the call that fails to come.
+        // If there is not enough room, the call that fails is still to come.
         ensures waits { IfErr result (λ e. error_kind e ≡ ErrorKind.WriteZero → 0 < self.old.left
             → (0 < self.new.left) × (self.new.left < self.old.left)) }
     {

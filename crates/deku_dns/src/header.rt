@@ -1,4 +1,4 @@
-//! The header of a message: RFC 1035, section 4.1.1.
+//! The header of a message, as in RFC 1035, section 4.1.1.
 //!
 //! ```text
 //!  0  1           4  5  6  7  8  9          11 12          15
@@ -24,35 +24,35 @@ use deku_symmetry::{Be, FromParts, Msb, Record, ToParts, read_record, write_reco
 /// The header of a message.
 #[derive(Debug, PartialEq, Eq, Drop)]
 pub struct Header {
-    /// What the answer to a question repeats.
+    /// The identification, which the answer to a question repeats.
     pub identification: u16,
-    /// 0: a question, 1: an answer, 1 bit.
+    /// 0 for a question, 1 for an answer, 1 bit.
     pub response: u8,
-    /// What kind of question, 4 bits; 0 is the usual one.
+    /// The kind of the question, 4 bits; 0 is the usual one.
     pub opcode: u8,
-    /// Whether the answer has authority, 1 bit.
+    /// Whether the answer is authoritative, 1 bit.
     pub authoritative: u8,
-    /// Whether the message was cut off, 1 bit.
+    /// Whether the message was truncated, 1 bit.
     pub truncated: u8,
     /// Whether recursion is wanted, 1 bit.
     pub recursion_desired: u8,
-    /// Whether recursion is to be had, 1 bit.
+    /// Whether recursion is available, 1 bit.
     pub recursion_available: u8,
-    /// 3 bits for later uses.
+    /// Reserved for later use, 3 bits.
     pub reserved: u8,
-    /// How the question was answered, 4 bits; 0 is without error.
+    /// The result of the question, 4 bits; 0 is no error.
     pub response_code: u8,
     /// How many questions follow.
     pub questions: u16,
     /// How many answers follow.
     pub answers: u16,
-    /// How many records of authorities follow.
+    /// How many authority records follow.
     pub authorities: u16,
     /// How many additional records follow.
     pub additionals: u16,
 }
 
-/// The fields as they lie.
+/// The fields, in order.
 pub type Parts = (
     Be<u16>,
     (Msb<u8, 1>, Msb<u8, 4>, Msb<u8, 1>, Msb<u8, 1>),

@@ -1,4 +1,4 @@
-//! The labels of a name: RFC 1035, section 3.1.
+//! The labels of a name, as in RFC 1035, section 3.1.
 //!
 //! ```text
 //! length  8 bits  0 to 63; 0 is the empty label, which ends the name
@@ -21,8 +21,8 @@ use deku_symmetry::{
     write_counted, write_record,
 };
 
-/// The length of a label: a byte. More than 63 is no length: so a pointer to another name is
-/// refused.
+/// The length of a label: a byte. More than 63 is not a length, so a pointer to another name is
+/// rejected.
 #[derive(Debug, PartialEq, Eq, Drop)]
 pub struct Length(pub u8);
 
@@ -46,7 +46,7 @@ impl ToParts<()> for Length {
     }
 }
 
-/// As many bytes as it says, where they are at most 63.
+/// As many bytes as the length says, if they are at most 63.
 impl ItemCount for Length {
     ghost count_of = { λ l. if nat_lt l.0 64 then Some l.0 else None };
 

@@ -1,5 +1,5 @@
 //! Questions of the domain name system, RFC 1035: a header, and a name of labels with what is asked
-//! about it, each as a record that is read as it is written.
+//! about it. Each is a record that is read as it is written.
 #![tactic(auto)]
 
 pub mod header;

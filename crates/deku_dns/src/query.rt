@@ -11,7 +11,7 @@ use deku::prelude::{
 };
 use deku_symmetry::{FromParts, Record, read_record};
 
-/// A header, and a question behind it.
+/// A header, and a question after it.
 #[derive(Debug, PartialEq, Eq, Drop)]
 pub struct Query {
     /// The header.
@@ -20,7 +20,7 @@ pub struct Query {
     pub question: Question,
 }
 
-// The fields as they lie.
+// The fields, in order.
 type Parts = (header::Parts, question::Parts);
 
 impl FromParts<()> for Query {

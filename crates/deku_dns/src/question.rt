@@ -1,4 +1,4 @@
-//! A question: RFC 1035, section 4.1.2.
+//! A question, as in RFC 1035, section 4.1.2.
 //!
 //! ```text
 //! name   labels, of which the empty one is the last
@@ -27,7 +27,7 @@ pub struct Question {
     pub class: u16,
 }
 
-/// The fields as they lie.
+/// The fields, in order.
 pub type Parts = (Until<Label>, Be<u16>, Be<u16>);
 
 impl FromParts<()> for Question {

@@ -1,4 +1,4 @@
--- What is read from a place that is sought first.
+-- Reading from a place that is sought first.
 use Rattle.std.specs.Prelude.{◌≡◌, ℕ, [], Option, Result, Ok, Err}
 use Rattle.std.specs.Global.{Vec}
 use Rattle.std.specs.declared.io.Error.{Error}
@@ -18,8 +18,10 @@ use Rattle.deku_num.specs.declared.ctx.Endian.{Endian}
 use Rattle.deku_elf.specs.declared.Elf.{Elf}
 use Rattle.deku_elf.specs.Elf.{endian_of, fields_of, segments_at}
 
--- A place is sought, and m is read from there: where all bytes are known, those from the place on are to come. Or the source refuses the seek, which stops the
--- reader; where all bytes are known, only for a call that fails. The seek itself forgets no failure, adds none where it succeeds, and leaves all bytes.
+-- A place is sought, and m is read from there: if all bytes are known, those from the place on are
+-- the next. Or the source fails to seek, which stops the reader; if all bytes are known, only in a
+-- call that fails. The seek itself forgets no failure, adds none if it succeeds, and leaves all
+-- bytes.
 pub data ReadsFrom {R V : Type 0} (known : R → KnownSource) (place : ℕ) (m : Meaning (Option Stream) V) (old : Reader R) (r : Result V DekuError) (new : Reader R) : Type 0 where
   Sought : (at : Reader R) (n : ℕ) → at.state ≡ Going [] (count_after (Start place) (count_of old.state))
       → Seeks {E = Error} (known old.source).health (known at.source).health (Start place) (Ok n) → ComesFrom {E = Error} (known old.source).health.whole (Ok n) (known at.source)
@@ -28,10 +30,11 @@ pub data ReadsFrom {R V : Type 0} (known : R → KnownSource) (place : ℕ) (m :
       → Seeks (known old.source).health (known new.source).health (Start place) (Err error) → RefusedSeek (known old.source).health (known new.source).health (Start place) (Err error)
       → ReadsFrom known place m old r new
 
--- as many program headers are read into a vector as the file's header says, each as m reads one under the endian that the file names
+-- As many program headers as the file's header says are read into a vector, each as m reads one
+-- under the endian that the file names.
 abbrev pub ReadsSegments : {V : Type 0} → Elf → (Endian → Meaning (Option Stream) V) → Meaning (Option Stream) (Vec V)
 ReadsSegments elf m = MappedBy (λ xs v. v.items ≡ xs) (ReadsCount (fields_of elf).segment_count (m (endian_of elf)))
 
--- how many bits stand before the place of the program headers
+-- How many bits are before the place of the program headers.
 abbrev pub bits_before : {R : Type 0} → Elf → Reader R → ℕ
 bits_before elf reader = count_after (Start (segments_at elf)) (count_of reader.state)

@@ -8,11 +8,11 @@ use deku::device::{Sink, Source};
 use deku::prelude::{DekuError, DekuReader, DekuWriter, Reader, Writer};
 use deku_symmetry::{EndianRecord, FromParts, ToParts, read_record, write_record};
 
-/// The fields of the file header behind the byte that says its endian.
+/// The fields of the file header after the byte of the endian.
 #[derive(Debug, Clone, Copy, PartialEq, Eq)]
 pub struct Fields {
-    /// The version of the identification, 1; which operating system, 0 System V, 3 Linux; the
-    /// version of that; and seven bytes that say nothing.
+    /// The version of the identification, 1; the operating system, 0 System V, 3 Linux; its
+    /// version; and seven bytes without a meaning.
     pub identification: [u8; 10],
     /// 1 relocatable, 2 executable, 3 shared.
     pub kind: u16,
@@ -20,24 +20,24 @@ pub struct Fields {
     pub machine: u16,
     /// The version of the object: 1.
     pub version: u32,
-    /// Where it starts.
+    /// The address where it starts.
     pub entry: u64,
-    /// Where the program headers lie in the file, in bytes.
+    /// The place of the program headers in the file, in bytes.
     pub segments_at: u64,
-    /// Where the section headers lie in the file, in bytes.
+    /// The place of the section headers in the file, in bytes.
     pub sections_at: u64,
-    /// What the processor is told.
+    /// Flags for the processor.
     pub flags: u32,
-    /// The bytes of this header, 64, and of a program header, 56.
+    /// The sizes in bytes of this header, 64, and of a program header, 56.
     pub sizes: [u16; 2],
     /// How many program headers there are.
     pub segment_count: u16,
-    /// The bytes of a section header, 64; how many there are; and which of the sections has the
-    /// names of the others.
+    /// The size in bytes of a section header, 64; how many section headers there are; and the
+    /// section with the names of the others.
     pub sections: [u16; 3],
 }
 
-// The fields as they lie.
+// The fields, in order.
 type Parts = (
     [u8; 10],
     u16,

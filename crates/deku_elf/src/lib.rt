@@ -1,5 +1,5 @@
-//! The file header of an ELF64 file and its program headers, as the System V ABI has them in its
-//! chapters on object files.
+//! The file header of an ELF64 file and its program headers, as in the chapters on object files of
+//! the System V ABI.
 //!
 //! ```text
 //! magic         32 bits     7F 45 4C 46
@@ -16,7 +16,7 @@
 //! six sizes and counts            16 bits each
 //! ```
 //!
-//! The program headers lie where `segments_at` says, 56 bytes each.
+//! The program headers are at `segments_at`, 56 bytes each.
 
 #![tactic(auto)]
 
@@ -58,7 +58,7 @@ impl Elf {
     /// The endian that the file names.
     ///
     /// ```text
-    /// elf.endian()                                                     // Endian::Little, on x86-64
+    /// elf.endian()                                                     // Endian::Little on x86-64
     /// ```
     pub fn endian(&self) -> Endian
         ensures { result ≡ endian_of self.now }
@@ -72,7 +72,7 @@ impl Elf {
     /// The fields.
     ///
     /// ```text
-    /// elf.fields().machine                                             // 62, on x86-64
+    /// elf.fields().machine                                             // 62 on x86-64
     /// ```
     pub fn fields(&self) -> &Fields
         ensures { result.now ≡ fields_of self.now }
@@ -84,23 +84,23 @@ impl Elf {
     }
 }
 
-/// The program headers of a file whose header was read, from where it says.
+/// Reads the program headers of a file whose header was read, from the place that it names.
 ///
-/// It is refused with `Io(InvalidInput)`, and nothing changes, where a `usize` does not count the
-/// bits before their place. Then it is refused as the source refuses the seek, which stops the
-/// reader. Then as the first program header is that is refused, or with `Io(OutOfMemory)` where no
-/// memory is found for one; the reader stays behind those before it. That a program header has 56
-/// bytes is not looked at.
+/// It fails with `Io(InvalidInput)`, and nothing changes, if a `usize` cannot count the bits before
+/// this place. Then it fails if the source fails to seek, which stops the reader. Then it fails as
+/// the first program header that fails, or with `Io(OutOfMemory)` if there is no memory for one;
+/// the reader is then after the program headers before it. It is not checked that a program header
+/// has 56 bytes.
 ///
 /// ```text
 /// let elf = Elf::from_reader_with_ctx(&mut reader, ())?;
 /// let segments = segments(&mut reader, &elf)?;
 /// ```
 pub fn segments<R: Source>(reader: &mut Reader<R>, elf: &Elf) -> Result<Vec<Segment>, DekuError>
-    // A place that the count of bits does not reach.
+    // The count of bits does not reach this place.
     ensures past { 2 ^ 64 ≤ bits_before elf.now reader.old → (result ≡ Err (Io InvalidInput))
         × (reader.new ≡ reader.old) }
-    // Else as many as the header says, from the place that it says, under its endian.
+    // Otherwise as many as the header says, from the place that it names, under its endian.
     ensures reads { bits_before elf.now reader.old < 2 ^ 64
         → ReadsFrom R.known (segments_at elf.now)
         (ReadsSegments elf.now ⟦<Segment as DekuReader<Endian>>⟧.meaning) reader.old result
@@ -138,7 +138,7 @@ impl ConstantLaw<Be<u32>> for Signature {
     ghost alike = { λ v e. rw e refl };
 }
 
-/// The file has addresses of 64 bits.
+/// The class of the file: addresses of 64 bits.
 #[derive(Debug, PartialEq, Eq, Drop)]
 pub struct Class;
 
@@ -164,7 +164,7 @@ impl ConstantLaw<Msb<u8, 8>> for Class {
     ghost alike = { λ v e. ap (λ n. record { 0 = n }) (sym e) };
 }
 
-// What each file has, the byte of the endian, and the fields under it.
+// The parts that are the same in each file, the byte of the endian, and the fields under it.
 type Parts = (
     Magic<Be<u32>, Signature>,
     Magic<Msb<u8, 8>, Class>,

@@ -8,28 +8,28 @@ use deku::device::{Sink, Source};
 use deku::prelude::{DekuError, DekuReader, DekuWriter, Reader, Writer};
 use deku_symmetry::{EndianRecord, FromParts, ToParts, read_record, write_record};
 
-/// A program header: what of the file is loaded, and where.
+/// A program header: which part of the file is loaded, and where.
 #[derive(Debug, Clone, Copy, PartialEq, Eq)]
 pub struct Segment {
     /// 1 load, 2 dynamic, 3 interpreter, 6 this table.
     pub kind: u32,
     /// 1 execute, 2 write, 4 read.
     pub flags: u32,
-    /// Where it lies in the file, in bytes.
+    /// The place in the file, in bytes.
     pub offset: u64,
-    /// Where it is loaded.
+    /// The address where it is loaded.
     pub address: u64,
-    /// Where, on machines that look at it.
+    /// The physical address, on machines that use it.
     pub physical: u64,
-    /// The bytes in the file.
+    /// The number of bytes in the file.
     pub file_size: u64,
-    /// The bytes in memory.
+    /// The number of bytes in memory.
     pub memory_size: u64,
-    /// A power of two, or 0.
+    /// The alignment: a power of two, or 0.
     pub alignment: u64,
 }
 
-// The fields as they lie.
+// The fields, in order.
 type Parts = ((u32, u32), (u64, u64, u64), (u64, u64, u64));
 
 impl FromParts<Endian> for Segment {

@@ -1,4 +1,5 @@
--- Fields and items: the pieces that stand for items, the bytes that these lay out, and what fields read from a stream.
+-- Fields and items: the pieces of items, the bytes that these lay out, and what fields read from a
+-- stream.
 use Rattle.std.specs.Prelude.{ℕ, ◌≡◌, Bool, true, false, List, [], ◌∷◌, map, length, ℤ, pos}
 use Rattle.std.specs.List.{AllZip}
 use Rattle.deku_bits.specs.declared.ctx.Order.{Order}
@@ -13,7 +14,7 @@ use Rattle.deku_fields.specs.declared.list.Number.TheVariants.{Unsigned, Signed}
 use Rattle.deku_fields.specs.declared.list.Field.{Field}
 use Rattle.deku_fields.specs.declared.list.Item.{Item}
 
--- the type that a kind names
+-- The type of a kind.
 abbrev pub number_type : Kind → NumberType
 number_type U8 = byte
 number_type U16 = unsigned 16
@@ -28,64 +29,64 @@ number_type I64 = signed 64
 number_type I128 = signed 128
 number_type Isize = signed 64
 
--- a number of a kind without a sign, or with one, is the integer v
+-- A number of an unsigned kind, or of a signed one, is the integer v.
 abbrev pub IsNumber : Bool → ℤ → Number → Type 0
 IsNumber false v (Unsigned n) = v ≡ pos n
 IsNumber true v (Signed z) = v ≡ z
 IsNumber _ v _ = ⊥
 
--- how many bits a field takes
+-- How many bits a field takes.
 abbrev pub field_width : Field → ℕ
 field_width f = width (number_type f.kind) f.layout
 
--- the order and the width of a field
+-- The order and the width of a field.
 abbrev pub field_shape : Field → Order × ℕ
 field_shape f = (f.layout.order, field_width f)
 
--- the order changes only at byte boundaries
+-- The order changes only at byte boundaries.
 abbrev pub AlignedFields : List Field → Type 0
 AlignedFields fs = Aligned (map field_shape fs)
 
--- bits of the width of a field, worth the number
+-- Bits of the width of a field, with the number as their value.
 pub record IsWorth (f : Field) (s : List Bool) (n : Number) : Type 0 where
   pub wide : length s ≡ field_width f
   pub worth : IsNumber (number_type f.kind).signed (value (number_type f.kind) f.layout s) n
 
--- a field whose layout is not refused
+-- A field whose layout is not rejected.
 abbrev pub IsAllowedField : Field → Type 0
 IsAllowedField f = IsAllowed (number_type f.kind) f.layout
 
--- an item whose layout is not refused and whose value fits: some bits are worth it
+-- An item whose layout is not rejected and whose value fits: some bits have this value.
 pub record IsFitting (i : Item) : Type 0 where
   pub allowed : IsAllowedField i.field
   pub bits : List Bool
   pub worth : IsWorth i.field bits i.value
 
--- the piece of an item: bits in the field's order, worth the value
+-- The piece of an item: bits in the field's order, with this value.
 pub record IsPieceOf (i : Item) (p : Piece) : Type 0 where
   pub same_order : p.order ≡ i.field.layout.order
   pub worth : IsWorth i.field p.bits i.value
 
--- the pieces of items
+-- The pieces of items.
 abbrev pub ArePieces : List Item → List Piece → Type 0
 ArePieces items ps = AllZip IsPieceOf items ps
 
--- items lay out the bytes of their pieces
+-- Items lay out the bytes of their pieces.
 pub record LaysOut (items : List Item) (bytes : List ℕ) : Type 0 where
   pub pieces : List Piece
   pub are : ArePieces items pieces
   pub is : bytes ≡ laid_out pieces
 
--- fields read one after the other from a stream: the numbers, and the stream left
+-- Fields are read one after the other from a stream: the numbers, and the stream that is left.
 abbrev pub ReadsValues : List Field → Stream → List Number → Stream → Type 0
 ReadsValues [] S [] T = S ≡ T
 ReadsValues (f ∷ fs) S (n ∷ ns) T = Has (field_width f) S × IsWorth f (taken f.layout.order (field_width f) S) n × ReadsValues fs (left f.layout.order (field_width f) S) ns T
 ReadsValues _ S _ T = ⊥
 
--- the fields of items
+-- The fields of items.
 abbrev pub fields_of : List Item → List Field
 fields_of items = map (λ i. i.field) items
 
--- the values of items
+-- The values of items.
 abbrev pub values_of : List Item → List Number
 values_of items = map (λ i. i.value) items

@@ -15,7 +15,7 @@ use Rattle.deku_fields.specs.declared.list.Field.{Field}
 use Rattle.deku_fields.specs.declared.list.Item.{Item}
 use Rattle.deku_fields.specs.Items.{number_type}
 
--- the name of a kind
+-- The name of a kind.
 abbrev pub kind_name : Kind → List ℕ
 kind_name U8 = codes "u8"
 kind_name U16 = codes "u16"
@@ -30,11 +30,12 @@ kind_name I64 = codes "i64"
 kind_name I128 = codes "i128"
 kind_name Isize = codes "isize"
 
--- a count in decimal digits alone
+-- A count, in decimal digits only.
 abbrev pub NamesCount : List ℕ → ℕ → Type 0
 NamesCount text n = IsNumeral 10 text × (n ≡ digits_value 10 text) × (n < 2 ^ 64)
 
--- a number in decimal digits, with or without a minus; without one it is signed for a signed kind where it can be
+-- A number in decimal digits, with or without a minus. Without a minus it is signed for a signed
+-- kind if it can be.
 pub data NamesNumber (kind : Kind) (text : List ℕ) : Number → Type 0 where
   Negative : (digits : List ℕ) → text ≡ codes "-" ++ digits → IsNumeral 10 digits → digits_value 10 digits ≤ 2 ^ 127
       → NamesNumber kind text (Signed (neg_ℤ (pos (digits_value 10 digits))))
@@ -42,28 +43,28 @@ pub data NamesNumber (kind : Kind) (text : List ℕ) : Number → Type 0 where
   Plain : IsNumeral 10 text → ((number_type kind).signed ≡ true → 2 ^ 127 ≤ digits_value 10 text) → digits_value 10 text < 2 ^ 128
       → NamesNumber kind text (Unsigned (digits_value 10 text))
 
--- one of two options, or none, which stands for the second
+-- One of two options; or none, which means the second.
 abbrev pub NamesOption : {T : Type 0} → List ℕ → T → List ℕ → T → List ℕ → T → Type 0
 NamesOption first a second b text t = ((text ≡ first) × (t ≡ a)) ⊎ (((text ≡ second) ⊎ (text ≡ [])) × (t ≡ b))
 
--- an endian behind a comma; little where there is none
+-- An endian after a comma. Without one it is little.
 abbrev pub NamesEndian : List ℕ → Endian → Type 0
 NamesEndian text e = NamesOption (codes ",big") Big (codes ",little") Little text e
 
--- an order behind a comma; `Msb0` where there is none
+-- An order after a comma. Without one it is `Msb0`.
 abbrev pub NamesOrder : List ℕ → Order → Type 0
 NamesOrder text o = NamesOption (codes ",lsb") Lsb0 (codes ",msb") Msb0 text o
 
--- a count behind a unit
+-- A count after a unit.
 abbrev pub CountsBehind : List ℕ → List ℕ → ℕ → Type 0
 CountsBehind unit text n = (digits : List ℕ) × (text ≡ unit ++ digits) × NamesCount digits n
 
--- a size behind a comma, in bits or in bytes; all bits of the kind where there is none
+-- A size after a comma, in bits or in bytes. Without one it is all bits of the kind.
 abbrev pub NamesSize : List ℕ → Size → Type 0
 NamesSize text s = ((text ≡ []) × (s ≡ Whole)) ⊎ ((n : ℕ) × CountsBehind (codes ",bits") text n × (s ≡ Bits n))
     ⊎ ((n : ℕ) × CountsBehind (codes ",bytes") text n × (s ≡ Bytes n))
 
--- a field: its kind, and then its endian, its order and its size, each of which may be left out
+-- A field: its kind, and then its endian, its order and its size, each of which is optional.
 pub record NamesField (word : List ℕ) (f : Field) : Type 0 where
   pub endian : List ℕ
   pub order : List ℕ
@@ -73,7 +74,7 @@ pub record NamesField (word : List ℕ) (f : Field) : Type 0 where
   pub order_named : NamesOrder order f.layout.order
   pub size_named : NamesSize size f.layout.size
 
--- an item: a field, `=` and its value
+-- An item: a field, `=` and its value.
 pub record NamesItem (word : List ℕ) (i : Item) : Type 0 where
   pub field : List ℕ
   pub value : List ℕ
@@ -81,25 +82,25 @@ pub record NamesItem (word : List ℕ) (i : Item) : Type 0 where
   pub field_named : NamesField field i.field
   pub value_named : NamesNumber i.field.kind value i.value
 
--- ---- on the way
--- nothing, or what begins with a comma
+-- ---- steps of parsing
+-- Nothing, or a text that begins with a comma.
 abbrev pub BeginsOption : List ℕ → Type 0
 BeginsOption [] = ⊤
 BeginsOption (c ∷ cs) = codes "," ≡ c ∷ []
 
--- the text does not begin with the other
+-- The text does not begin with the other.
 abbrev pub LacksFront : List ℕ → List ℕ → Type 0
 LacksFront front text = (rest : List ℕ) → text ≡ front ++ rest → ⊥
 
--- One of two options is in front of the rest. Or none is, and the second is meant.
+-- One of two options is before the rest. Or none is, which means the second.
 abbrev pub SplitsOption : {T : Type 0} → List ℕ → T → List ℕ → T → List ℕ → T → List ℕ → Type 0
 SplitsOption first a second b text t rest = ((text ≡ first ++ rest) × (t ≡ a)) ⊎ ((text ≡ second ++ rest) × (t ≡ b))
     ⊎ ((text ≡ rest) × (t ≡ b) × LacksFront first text × LacksFront second text)
 
--- an endian is in front of the rest, or none is and it is little
+-- An endian is before the rest. Without one it is little.
 abbrev pub SplitsEndian : List ℕ → Endian → List ℕ → Type 0
 SplitsEndian text e rest = SplitsOption (codes ",big") Big (codes ",little") Little text e rest
 
--- an order is in front of the rest, or none is and it is `Msb0`
+-- An order is before the rest. Without one it is `Msb0`.
 abbrev pub SplitsOrder : List ℕ → Order → List ℕ → Type 0
 SplitsOrder text o rest = SplitsOption (codes ",lsb") Lsb0 (codes ",msb") Msb0 text o rest

@@ -1,4 +1,4 @@
--- The picture of a layout: which bit of which field stands where in the bytes that fields lay out.
+-- The picture of a layout: which bit of which field is where in the bytes that fields lay out.
 use Rattle.std.specs.Prelude.{◌≡◌, ◌⊎◌, ℕ, suc, ◌+◌, ◌*◌, ◌-◌, ◌/◌, ◌%◌, ◌^◌, ◌<◌, List, [], ◌∷◌, ◌++◌, length, map, take, All, Option, Some, None, slice_get, slice_index, slice_index_or, codes, ℤ}
 use Rattle.std.specs.Option.{option_map_or}
 use Rattle.deku_bits.specs.declared.ctx.Order.{Order}
@@ -16,25 +16,25 @@ use Rattle.deku_fields.specs.Items.{number_type, field_width, field_shape, Align
 use Rattle.deku_fields.specs.ListCalls.{integer_of}
 
 -- ---- bits as they are printed
--- where the n-th bit that an order meets stands in bytes that are printed with the highest bit of each first
+-- Where the n-th bit of an order is in bytes that are printed with the high bit of each first.
 abbrev pub printed_at : Order → ℕ → ℕ
 printed_at Msb0 n = n
 printed_at Lsb0 n = 8 * (n / 8) + (7 - n % 8)
 
--- the k-th bit of bytes that are printed so
+-- The k-th bit of bytes that are printed like this.
 abbrev pub printed : List ℕ → ℕ → ℕ
 printed bytes k = slice_index bytes (k / 8) / 2 ^ (7 - k % 8) % 2
 
--- bit b of a whole number in two's complement
+-- Bit b of a whole number in two's complement.
 abbrev pub bit_of : ℤ → ℕ → ℕ
 bit_of v b = residue v (suc b) / 2 ^ b
 
--- ---- what stands where
--- how many bits the fields before the m-th have
+-- ---- which bit is where
+-- How many bits the fields before the m-th have.
 abbrev pub start : List Field → ℕ → ℕ
 start fs m = total (take m (map field_shape fs))
 
--- the bit of a field stands at k: as the field's order meets its bits, behind all bits of the fields before it
+-- The bit of a field is at k: in the field's order, after all bits of the fields before it.
 pub record Stands (fs : List Field) (k : ℕ) (p : Place) : Type 0 where
   pub holder : Field
   pub there : slice_get fs p.field ≡ Some holder
@@ -43,43 +43,45 @@ pub record Stands (fs : List Field) (k : ℕ) (p : Place) : Type 0 where
   pub weight : p.bit ≡ place holder.layout.endian holder.layout.order (field_width holder) index
   pub stands : k ≡ printed_at holder.layout.order (start fs p.field + index)
 
--- what stands at k: that bit, or padding where no bit of a field does
+-- What is at k: that bit; or padding, if no bit of a field is there.
 abbrev pub IsAt : List Field → ℕ → Option Place → Type 0
 IsAt fs k None = (p : Place) → Stands fs k p → ⊥
 IsAt fs k (Some p) = Stands fs k p
 
--- a bit, of the n-th field and the i-th of it, comes before bit b of the m-th field
+-- Bit i of the n-th field comes before bit b of the m-th field.
 abbrev pub IsBefore : ℕ → ℕ → ℕ → ℕ → Type 0
 IsBefore m b n i = (n < m) ⊎ ((n ≡ m) × (i < b))
 
--- what stands at k where only the bits before bit b of the m-th field were put at their places
+-- What is at k, if only the bits before bit b of the m-th field were put at their places.
 abbrev pub IsMarked : List Field → ℕ → ℕ → ℕ → Option Place → Type 0
 IsMarked fs m b k None = (p : Place) (s : Stands fs k p) → IsBefore m b p.field s.index → ⊥
 IsMarked fs m b k (Some p) = Stands fs k p
 
 -- ---- what a picture shows
--- a place shows that bit of that item's value, and padding shows zero
+-- A place shows that bit of that item's value, and padding shows zero.
 abbrev pub bit_shown : List Item → Option Place → ℕ
 bit_shown items None = 0
 bit_shown items (Some p) = option_map_or (λ i. bit_of (integer_of i.value) p.bit) (slice_get items p.field) 0
 
--- Whatever fitting values the fields have, the bytes that they lay out show those bits at these places.
+-- Whatever fitting values the fields have, the bytes that they lay out show those bits at these
+-- places.
 abbrev pub IsPicture : List Field → List (Option Place) → Type 0
 IsPicture fs cells = (items : List Item) (bytes : List ℕ) (k : ℕ) → fields_of items ≡ fs → All IsFitting items → LaysOut items bytes → k < length cells
     → printed bytes k ≡ bit_shown items (slice_index_or cells k None)
 
--- In the bytes that aligned fitting items lay out, a bit of a field is that bit of its value, and where no field has a bit there is zero.
+-- In the bytes that aligned fitting items lay out, a bit of a field is that bit of its value. A bit
+-- of no field is zero.
 abbrev pub PlaceLaw : Type 0
 PlaceLaw = (items : List Item) (bytes : List ℕ) (k : ℕ) (cell : Option Place) → All IsFitting items → AlignedFields (fields_of items) → LaysOut items bytes
     → k < 8 * length bytes → IsAt (fields_of items) k cell → printed bytes k ≡ bit_shown items cell
 
 -- ---- what has no picture
--- no layout is refused, and the order changes only at byte boundaries
+-- No layout is rejected, and the order changes only at byte boundaries.
 pub record AreDrawable (fs : List Field) : Type 0 where
   pub allowed : All IsAllowedField fs
   pub aligned : AlignedFields fs
 
--- the first field that stands in the way: its layout is refused, or its order is another one inside a byte
+-- The first field without a picture: its layout is rejected, or its order changes inside a byte.
 pub record IsUndrawable (fs : List Field) (e : DekuError) : Type 0 where
   pub index : ℕ
   pub holder : Field

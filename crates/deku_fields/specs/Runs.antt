@@ -1,4 +1,5 @@
--- What a run of the program does: the words that it is given, the text that it reads and the text that it writes.
+-- What a run of the program does: the words that it is given, the text that it reads and the text
+-- that it writes.
 use Rattle.std.specs.Prelude.{◌≡◌, ◌⊎◌, ℕ, ◌<◌, List, [], ◌∷◌, ◌++◌, length, map, flat_map, Ok, Err, Option, IfSome, String, string_bytes, decimal, codes, ⊤}
 use Rattle.std.specs.Fmt.{signed_decimal}
 use Rattle.std.specs.List.{AllZip}
@@ -23,15 +24,16 @@ use Rattle.deku_fields.specs.Naming.{NamesField, NamesItem}
 use Rattle.deku_fields.specs.Promise.{LaidOut, ReadsBackFrom}
 use Rattle.deku_fields.specs.Told.{fault_text}
 
--- the bytes of texts
+-- The bytes of texts.
 abbrev pub words_of : {A : Type 0} → List (String A) → List (List ℕ)
 words_of texts = map string_bytes texts
 
--- a text as a line
+-- A text as a line.
 abbrev pub line : List ℕ → List ℕ
 line text = text ++ 10 ∷ []
 
--- the words name items, and the text is a line of the bytes that these are written as, in hexadecimal
+-- The words name items, and the text is a line of the bytes that these are written as, in
+-- hexadecimal.
 pub record ShowsWritten (words : List (List ℕ)) (text : List ℕ) : Type 0 where
   pub items : List Item
   pub named : AllZip NamesItem words items
@@ -40,27 +42,27 @@ pub record ShowsWritten (words : List (List ℕ)) (text : List ℕ) : Type 0 whe
   pub laid_out : LaidOut items (Ok bytes)
   pub shown : text ≡ line (encode_lower bytes.items)
 
--- a number in decimal digits
+-- A number in decimal digits.
 abbrev pub number_text : Number → List ℕ
 number_text (Unsigned n) = decimal n
 number_text (Signed z) = signed_decimal z
 
--- the inner text is the text without one newline at its end, where it has one
+-- The inner text is the text without one newline at its end, if it has one.
 abbrev pub LosesNewline : List ℕ → List ℕ → Type 0
 LosesNewline text inner = (text ≡ line inner) ⊎ ((text ≡ inner) × ((front : List ℕ) → text ≡ line front → ⊥))
 
--- the line of a fault, with more after its text
+-- The line of an error, with more after its text.
 abbrev pub fault_line : DekuError → List ℕ → List ℕ
 fault_line fault more = line (codes "error: " ++ (fault_text fault ++ more))
 
--- the text shows bytes in hexadecimal
+-- The text is the hexadecimal form of the bytes.
 pub record IsHexText (text bytes : List ℕ) : Type 0 where
   pub digits : List ℕ
   pub trimmed : LosesNewline text digits
   pub decoded : decode_of digits ≡ Ok bytes
 
--- The words name fields, which are read from the bytes that the input shows, where it is known. The text has the values, a line each, and then
--- how many bits were read.
+-- The words name fields, which are read from the bytes that the input shows, if it is known. The
+-- text has the values, one line each, and then how many bits were read.
 pub record ShowsRead (words : List (List ℕ)) (input : Option (List ℕ)) (text : List ℕ) : Type 0 where
   pub fields : List Field
   pub named : AllZip NamesField words fields
@@ -72,63 +74,63 @@ pub record ShowsRead (words : List (List ℕ)) (input : Option (List ℕ)) (text
   pub back : ReadsBackFrom fields bytes (Ok (bits, values))
   pub shown : text ≡ flat_map (λ n. line (number_text n)) values.items ++ line (codes "bits " ++ decimal bits)
 
--- the words ask for this text: `write` and items, or `read` and fields
+-- The words ask for this text: `write` and items, or `read` and fields.
 abbrev pub Asks : List (List ℕ) → Option (List ℕ) → List ℕ → Type 0
 Asks [] input text = ⊥
 Asks (name ∷ words) input text = ((name ≡ codes "write") × ShowsWritten words text) ⊎ ((name ≡ codes "read") × ShowsRead words input text)
 
--- the text that the words ask for was given to the output
+-- The text that the words ask for was written to the output.
 pub record IsDone (words : List (List ℕ)) (input before after : Option (List ℕ)) : Type 0 where
   pub text : List ℕ
   pub asked : Asks words input text
   pub given : Appends before after text
 
--- the text was given but for the rest of it
+-- The text was written except for this rest of it.
 pub record IsGivenBut (rest : List ℕ) (before after : Option (List ℕ)) (text : List ℕ) : Type 0 where
   pub front : List ℕ
   pub cut : text ≡ front ++ rest
   pub given : Appends before after front
 
--- a beginning of the text was given, perhaps all of it
+-- A beginning of the text was written, perhaps all of it.
 abbrev pub IsBegun : Option (List ℕ) → Option (List ℕ) → List ℕ → Type 0
 IsBegun before after text = (rest : List ℕ) × IsGivenBut rest before after text
 
--- the text was not given to its end
+-- The text was not written to its end.
 abbrev pub IsCutShort : Option (List ℕ) → Option (List ℕ) → List ℕ → Type 0
 IsCutShort before after text = (rest : List ℕ) × (0 < length rest) × IsGivenBut rest before after text
 
--- the text that the words ask for was known, and was not given to the output to its end
+-- The text that the words ask for was known, and was not written to the output to its end.
 pub record IsUnfinished (words : List (List ℕ)) (input before after : Option (List ℕ)) : Type 0 where
   pub text : List ℕ
   pub asked : Asks words input text
   pub cut : IsCutShort before after text
 
--- the first word is `read`
+-- The first word is `read`.
 abbrev pub AsksToRead : List (List ℕ) → Type 0
 AsksToRead [] = ⊥
 AsksToRead (name ∷ words) = name ≡ codes "read"
 
--- the words name items, one each
+-- The words name items, one each.
 abbrev pub AreItems : List (List ℕ) → Type 0
 AreItems words = (items : List Item) × AllZip NamesItem words items
 
--- the words name fields, one each
+-- The words name fields, one each.
 abbrev pub AreFields : List (List ℕ) → Type 0
 AreFields words = (fields : List Field) × AllZip NamesField words fields
 
--- the words are `write` and items, or `read` and fields
+-- The words are `write` and items, or `read` and fields.
 abbrev pub AreForm : List (List ℕ) → Type 0
 AreForm [] = ⊥
 AreForm (name ∷ words) = ((name ≡ codes "write") × AreItems words) ⊎ ((name ≡ codes "read") × AreFields words)
 
--- the words are neither `write` and items nor `read` and fields
+-- The words are neither `write` and items nor `read` and fields.
 abbrev pub AreNoForm : List (List ℕ) → Type 0
 AreNoForm [] = ⊤
 AreNoForm (name ∷ words) = (name ≡ codes "write" → (items : List Item) → AllZip NamesItem words items → ⊥)
     × (name ≡ codes "read" → (fields : List Field) → AllZip NamesField words fields → ⊥)
 
--- ---- what a run ends with where it is not done
--- the words name these items, which are refused so
+-- ---- how a run ends that does not succeed
+-- The words name these items, which fail with this error.
 pub record ItemsRefused (words : List (List ℕ)) (e : Failure) : Type 0 where
   pub items : List Item
   pub named : AllZip NamesItem words items
@@ -136,26 +138,26 @@ pub record ItemsRefused (words : List (List ℕ)) (e : Failure) : Type 0 where
   pub refused : WritesWhole (Both (WritesItems items) Finalizes) (Err fault)
   pub is : e ≡ Fault fault
 
--- the words name no items, no memory is found, or the items are refused
+-- The words name no items, there is no memory, or the items fail.
 abbrev pub WritingStops : List (List ℕ) → Failure → Type 0
 WritingStops words e = ((e ≡ Usage) × ((items : List Item) → AllZip NamesItem words items → ⊥)) ⊎ (e ≡ Fault (Io OutOfMemory)) ⊎ ItemsRefused words e
 
--- the text shows no bytes in hexadecimal
+-- The text is not the hexadecimal form of any bytes.
 pub record IsNoHexText (text : List ℕ) : Type 0 where
   pub digits : List ℕ
   pub trimmed : LosesNewline text digits
   pub error : FromHexError
   pub refused : decode_of digits ≡ Err error
 
--- a fault of the input, or of the memory
+-- An error of the input, or of the memory.
 abbrev pub IsOfInput : DekuError → Type 0
 IsOfInput e = (kind : ErrorKind) × (e ≡ Io kind)
 
--- the input shows no bytes, where it is known, or it or the memory failed
+-- The input, if it is known, shows no bytes; or it or the memory failed.
 abbrev pub InputStops : Option (List ℕ) → Failure → Type 0
 InputStops input e = ((e ≡ BadText) × IfSome input IsNoHexText) ⊎ ((kind : ErrorKind) × (e ≡ Fault (Io kind)))
 
--- the fields are refused so, read from the bytes that the input shows, where it is known
+-- The fields fail with this error, read from the bytes that the input shows, if it is known.
 pub record FieldsRefused (fields : List Field) (input : Option (List ℕ)) (e : Failure) : Type 0 where
   pub bytes : List ℕ
   pub given : IfSome input (λ shown. IsHexText shown bytes)
@@ -163,43 +165,44 @@ pub record FieldsRefused (fields : List Field) (input : Option (List ℕ)) (e : 
   pub refused : ListFrom fields bytes (Err fault)
   pub is : e ≡ Fault fault
 
--- the words name fields, and then the input or the fields stand in the way
+-- The words name fields, and then the input or the fields fail.
 pub record FieldsStop (words : List (List ℕ)) (input : Option (List ℕ)) (e : Failure) : Type 0 where
   pub fields : List Field
   pub named : AllZip NamesField words fields
   pub stop : InputStops input e ⊎ FieldsRefused fields input e
 
--- the words name no fields, no memory is found, or the input or the fields stand in the way
+-- The words name no fields, there is no memory, or the input or the fields fail.
 abbrev pub ReadingStops : List (List ℕ) → Option (List ℕ) → Failure → Type 0
 ReadingStops words input e = ((e ≡ Usage) × ((fields : List Field) → AllZip NamesField words fields → ⊥)) ⊎ (e ≡ Fault (Io OutOfMemory)) ⊎ FieldsStop words input e
 
--- what prevents what the words ask for: that they are of no form, or a fault on the way
+-- What prevents what the words ask for: that they are of no form, or an error later.
 abbrev pub Stops : List (List ℕ) → Option (List ℕ) → Failure → Type 0
 Stops words input e = ((e ≡ Usage) × AreNoForm words)
     ⊎ ((names : List (List ℕ)) × (words ≡ codes "write" ∷ names) × WritingStops names e)
     ⊎ ((names : List (List ℕ)) × (words ≡ codes "read" ∷ names) × ReadingStops names input e)
 
--- the output failed, and was not given the text that the words ask for to its end
+-- The output failed, and was not given the text that the words ask for to its end.
 abbrev pub OutputStops : List (List ℕ) → Option (List ℕ) → Option (List ℕ) → Option (List ℕ) → Failure → Type 0
 OutputStops words input before after e = (kind : ErrorKind) × (e ≡ Fault (Io kind)) × IsUnfinished words input before after
 
--- the run is prevented before the output is given any text, or the output fails
+-- The run is prevented before the output is given any text, or the output fails.
 abbrev pub RunEnds : List (List ℕ) → Option (List ℕ) → Option (List ℕ) → Option (List ℕ) → Failure → Type 0
 RunEnds words input before after e = (Stops words input e × (after ≡ before)) ⊎ OutputStops words input before after e
 
--- the status of a run that ends so: 2 where the words are of no form, else 1
+-- The status of a run that ends with this failure: 2 if the words are of no form, and otherwise 1.
 abbrev pub status_of : Failure → ℕ
 status_of Usage = 2
 status_of BadText = 1
 status_of (Fault fault) = 1
 
--- the line that it is told as
+-- The line that is printed for a failure.
 abbrev pub message : Failure → List ℕ
 message Usage = line (codes "usage: fields read|write SPEC..")
 message BadText = line (codes "error: bad hexadecimal text")
 message (Fault fault) = fault_line fault []
 
--- A run ends with 1 for this failure, by what its output held before and after it; and what `errors` took is a beginning of the line of that failure.
+-- A run ends with 1 for this failure, which fits what its output held before and after it. What
+-- `errors` took is a beginning of the line of that failure.
 pub record IsStopped (words : List (List ℕ)) (input out_before out_after errors_before errors_after : Option (List ℕ)) : Type 0 where
   pub failure : Failure
   pub ends : RunEnds words input out_before out_after failure

@@ -1,4 +1,4 @@
--- The text of a fault.
+-- The texts of errors.
 use Rattle.std.specs.Prelude.{ℕ, ◌+◌, ◌/◌, List, ◌++◌, flat_map, decimal, codes}
 use Rattle.std.specs.Borrow.{Bor}
 use Rattle.std.specs.declared.io.ErrorKind.{ErrorKind}
@@ -6,11 +6,11 @@ use Rattle.std.specs.declared.io.ErrorKind.TheVariants.{NotFound, PermissionDeni
 use Rattle.deku_bits.specs.declared.error.DekuError.{DekuError}
 use Rattle.deku_bits.specs.declared.error.DekuError.TheVariants.{Incomplete, Parse, InvalidParam, Assertion, IdVariantNotFound, Io}
 
--- texts one after the other
+-- Texts, one after the other.
 abbrev pub joined_text : List (Bor (List ℕ)) → List ℕ
 joined_text parts = flat_map (λ part. part.now) parts
 
--- the name of a kind of io error
+-- The name of a kind of io error.
 abbrev pub io_kind_name : ErrorKind → List ℕ
 io_kind_name NotFound = codes "NotFound"
 io_kind_name PermissionDenied = codes "PermissionDenied"
@@ -55,7 +55,7 @@ io_kind_name InProgress = codes "InProgress"
 io_kind_name Other = codes "Other"
 io_kind_name Uncategorized = codes "Uncategorized"
 
--- the text of a fault
+-- The text of an error.
 abbrev pub fault_text : DekuError → List ℕ
 fault_text (Incomplete need) = codes "Not enough data, need " ++ (decimal need.bits ++ (codes " bits (or " ++ (decimal ((need.bits + 7) / 8) ++ codes " bytes)")))
 fault_text (Parse text) = codes "Parse error: " ++ text.now

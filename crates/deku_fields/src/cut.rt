@@ -1,4 +1,4 @@
-//! Numbers that are cut to the bytes of their fields.
+//! Numbers that are truncated to the bytes of their fields.
 
 ghost use Rattle.std.specs.Prelude.{◌≡◌, ◌↔◌, IsSome, IfSome};
 ghost use Rattle.deku_fields.specs.Items.{field_width};
@@ -9,13 +9,13 @@ use deku::ctx::Size;
 use deku::kind::NumberType;
 use deku_num::kernel::{allowed_width, low_bits, residue_of, sign_extend};
 
-/// What is left of a number in a field whose size is in bytes: the one number that fits and is
-/// equal to it modulo two to the bits of the field. So items whose values are cut first are written
-/// as the lowest bits of these.
+/// Truncates a number to a field whose size is in bytes. The result is the only number that fits
+/// the field and is equal to the given one modulo two to the power of the field's bits. So items
+/// whose values are truncated first are written as the lowest bits of their values.
 ///
-/// Where the size is not in bytes it is the number itself, and so for `u8`, which has its eight
-/// bits under each size in bytes. There is none where the number is outside the field's kind, or
-/// the field's layout is refused. It takes no memory.
+/// If the size is not in bytes, the result is the number itself. The same holds for `u8`, which has
+/// eight bits under each size in bytes. It returns `None` if the number is not of the field's kind,
+/// or the field's layout is rejected. It takes no memory.
 ///
 /// ```text
 /// // a `u32`, big, in two bytes
@@ -34,7 +34,7 @@ pub fn cut_to_bytes(number: Number, field: Field) -> Option<Number>
     }
 }
 
-// What is left of a number that a field of so many bits admits.
+// What is left of a number that a field of this width allows.
 fn kept(number: Number, field: Field, width: usize) -> Number
     requires admits { AdmitsCut field number }
     requires wide { width ≡ field_width field }
@@ -49,7 +49,7 @@ fn kept(number: Number, field: Field, width: usize) -> Number
     }
 }
 
-// Whether numbers of a type are cut to a size.
+// Whether numbers of a type are truncated to a size.
 fn is_cut(number_type: NumberType, size: Size) -> bool
     ensures { result ≡ cuts number_type size }
 {

@@ -1,4 +1,4 @@
-//! Bytes from an input that shows them in hexadecimal.
+//! Reading bytes from an input of hexadecimal text.
 
 ghost use Rattle.std.specs.Prelude.{IfOk, IfErr, IfSome, IfNone};
 ghost use Rattle.deku_fields.specs.Runs.{IsHexText, IsNoHexText, IsOfInput, LosesNewline};
@@ -8,14 +8,14 @@ use hex::FromHexError;
 use std::alloc::Global;
 use std::io::{ErrorKind, Read};
 
-/// The bytes that an input shows as hexadecimal text, of either case and without one newline at its
-/// end; none where its text shows no bytes.
+/// The bytes of an input of hexadecimal text, in upper or lower case, without one newline at its
+/// end. Returns `None` if the text is not the hexadecimal form of bytes.
 ///
-/// The input is read to its end. It is refused with `Io` as the input fails, or with
-/// `Io(OutOfMemory)` where no memory is found; the input stays where it was read to.
+/// The input is read to its end. It fails with `Io` as the input fails, or with `Io(OutOfMemory)`
+/// if there is no memory; the input is then left after what was read.
 ///
 /// ```text
-/// read_hex_text(alloc, &mut input)?                           // on "69c0FE" and a newline: 69 C0 FE
+/// read_hex_text(alloc, &mut input)?                         // on "69c0FE" and a newline: 69 C0 FE
 /// ```
 pub fn read_hex_text<R: Read>(alloc: Global, input: &mut R) -> Result<Option<Vec<u8>>, DekuError>
     ensures shown { IfOk result (λ o. IfSome o (λ bytes. IfSome (R.remaining input.old)
@@ -32,7 +32,7 @@ pub fn read_hex_text<R: Read>(alloc: Global, input: &mut R) -> Result<Option<Vec
     }
 }
 
-// The text without one last newline.
+// The text without one newline at its end.
 fn without_newline(text: &[u8]) -> &[u8]
     ensures { LosesNewline text.now result.now }
 {

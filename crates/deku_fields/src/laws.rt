@@ -1,4 +1,4 @@
-//! Laws of lists of fields: each is what an empty function ensures.
+//! Laws of lists of fields. Each law is the postcondition of an empty function.
 
 ghost use Rattle.deku_fields.specs.Cutting.{CutLaw, CutItemsLaw};
 ghost use Rattle.deku_fields.specs.Cuts.{WriteCutLaw, WriteCallsLaw, WritePartsLaw, ReadCutLaw, ReadCallsLaw, LookLaw, ReadPartsLaw};
@@ -7,35 +7,36 @@ ghost use Rattle.deku_fields.specs.Places.{PlaceLaw};
 ghost use Rattle.deku_fields.specs.Promise.{PaddedLaw, ReadBackLaw};
 ghost use Rattle.deku_fields.specs.Rows.{ListRows, PromiseRows, TurnedRows, MisfitRows, CutRows};
 
-/// Fitting items have pieces, and these pieces alone.
+/// Fitting items have exactly one list of pieces.
 pub fn piece_law()
     ensures { PieceLaw }
 {}
 
-/// Fitting items lay out bytes, and these bytes alone.
+/// Fitting items lay out exactly one list of bytes.
 pub fn layout_law()
     ensures { LayoutLaw }
 {}
 
-/// Aligned fitting items are written as their layout, and reading it gives their values and leaves
-/// the bytes behind.
+/// Aligned fitting items are written as their layout. Reading the layout gives their values and
+/// leaves the bytes after it.
 pub fn there_law()
     ensures { ThereLaw }
 {}
 
-/// Items written by `write_list`, and padded once by `finalize`, give the sink exactly what they
-/// lay out, where it has the room, or finds the memory.
+/// Items that are written by `write_list`, and padded once by `finalize`, give the sink exactly
+/// what they lay out, if it has the room, or the memory.
 pub fn padded_law()
     ensures { PaddedLaw }
 {}
 
-/// Fields read by `read_list` or `read_list_into`, in one call or in several, from bytes that begin
-/// with what aligned fitting items lay out, give exactly the items' values.
+/// Fields that are read by `read_list` or `read_list_into`, in one call or in several, from bytes
+/// that begin with what aligned fitting items lay out, give exactly the items' values.
 pub fn read_back_law()
     ensures { ReadBackLaw }
 {}
 
-/// What aligned fields read from a boundary is written as the bytes taken, unread bits zero.
+/// What aligned fields read from a byte boundary is written as the bytes that were taken, with the
+/// unread bits zero.
 pub fn back_law()
     ensures { BackLaw }
 {}
@@ -45,12 +46,13 @@ pub fn calls_law()
     ensures { CallsLaw }
 {}
 
-/// Two lists of items written one after the other are both together written.
+/// Two lists of items, written one after the other, are written as one list of both.
 pub fn write_cut_law()
     ensures { WriteCutLaw }
 {}
 
-/// Items may be written in two calls: what these do, the first refusal too, one call may do.
+/// Items may be written in two calls. What these do, including the first error, one call may do
+/// too.
 pub fn write_calls_law()
     ensures { WriteCallsLaw }
 {}
@@ -60,41 +62,42 @@ pub fn write_parts_law()
     ensures { WritePartsLaw }
 {}
 
-/// Two lists of fields read one after the other are both together read, their values joined.
+/// Two lists of fields, read one after the other, are read as one list of both, with their values
+/// joined.
 pub fn read_cut_law()
     ensures { ReadCutLaw }
 {}
 
-/// Fields may be read in two calls: what these do, the first refusal too, one call may do.
+/// Fields may be read in two calls. What these do, including the first error, one call may do too.
 pub fn read_calls_law()
     ensures { ReadCallsLaw }
 {}
 
-/// A look whether the end of input is reached changes no later read of fields.
+/// A check whether the end of the input is reached changes no later read of fields.
 pub fn look_law()
     ensures { LookLaw }
 {}
 
-/// Fields may be read in any number of calls, with any number of looks between them whether the end
-/// of input is reached.
+/// Fields may be read in any number of calls, with any number of checks between them whether the
+/// end of the input is reached.
 pub fn read_parts_law()
     ensures { ReadPartsLaw }
 {}
 
-/// One number is left of a number that is cut to its field, and its bits are the lowest ones of
-/// that number, as which it was written while each size in bytes cut.
+/// There is exactly one result of truncating a number to its field. Its bits are the lowest bits of
+/// the number, as which it was written when each size in bytes still truncated.
 pub fn cut_law()
     ensures { CutLaw }
 {}
 
-/// Items whose values were cut have the pieces, and so the bytes, that they were written as while
-/// each size in bytes cut.
+/// Items whose values are truncated have the pieces, and so the bytes, that the items had when each
+/// size in bytes still truncated.
 pub fn cut_items_law()
     ensures { CutItemsLaw }
 {}
 
-/// Each bit that aligned fitting items lay out is that bit of the value of the item that has it, or
-/// zero where no item has one.
+/// Each bit that aligned fitting items lay out is the bit of its item's value, or zero if it
+/// belongs to no item.
 pub fn place_law()
     ensures { PlaceLaw }
 {}
@@ -104,7 +107,7 @@ pub fn list_rows()
     ensures { ListRows }
 {}
 
-/// Worked examples of what the promises of list calls ask for.
+/// Worked examples of what the promises of list calls require.
 pub fn promise_rows()
     ensures { PromiseRows }
 {}
@@ -119,7 +122,7 @@ pub fn misfit_rows()
     ensures { MisfitRows }
 {}
 
-/// Worked examples of numbers that are cut to bytes.
+/// Worked examples of numbers that are truncated to bytes.
 pub fn cut_rows()
     ensures { CutRows }
 {}

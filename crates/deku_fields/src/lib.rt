@@ -1,5 +1,5 @@
 //! Lists of whole-number fields: what they lay out, how they are read and written, and the program
-//! over them; and a frame, the pattern of a codec by hand.
+//! that uses them.
 #![tactic(auto)]
 
 mod cut;

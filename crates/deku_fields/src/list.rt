@@ -27,10 +27,10 @@ pub enum Kind {
 }
 
 impl Kind {
-    /// The type that it names.
+    /// The type of this kind.
     ///
     /// ```text
-    /// Kind::I16.number_type()                                    // 16 bits, with a sign
+    /// Kind::I16.number_type()                                    // 16 bits, signed
     /// ```
     #[inline(always)]
     pub fn number_type(self) -> NumberType
@@ -57,7 +57,7 @@ impl Kind {
         }
     }
 
-    // The bits of its type, where that has no sign and at most 64 of them.
+    // The bits of its type, if that is unsigned and has at most 64.
     #[inline(always)]
     fn narrow_bits(self) -> Option<usize>
         ensures unsigned { IfSome result (λ n. (number_type self).signed ≡ false) }
@@ -74,8 +74,7 @@ impl Kind {
         }
     }
 
-    /// Whether a number is one of its own: with a sign or without, as it has one or not, and in its
-    /// range.
+    /// Whether a number is of this kind: signed or unsigned as the kind is, and in its range.
     ///
     /// ```text
     /// Kind::U8.holds(Number::Unsigned(256))                      // false
@@ -91,7 +90,7 @@ impl Kind {
         }
     }
 
-    /// Whether its numbers have a sign.
+    /// Whether its numbers are signed.
     ///
     /// ```text
     /// Kind::I16.is_signed()                                      // true
@@ -107,7 +106,7 @@ impl Kind {
     }
 }
 
-// Whether a number is in the range of two's complement of so many bits.
+// Whether a number is in the range of two's complement of this many bits.
 #[inline(always)]
 fn is_within(value: i128, bits: usize) -> bool
     requires some { 0 < bits }
@@ -122,7 +121,7 @@ fn is_within(value: i128, bits: usize) -> bool
     }
 }
 
-/// The bits of a field whose size is not in bytes, where the type has as many.
+/// The bits of a field whose size is not in bytes, if the type has as many.
 #[inline(always)]
 pub(crate) fn plain_width(number_type: NumberType, size: Size) -> Option<usize>
     ensures wide { IfSome result (λ n. n ≡ sized_width number_type size) }
@@ -135,8 +134,8 @@ pub(crate) fn plain_width(number_type: NumberType, size: Size) -> Option<usize>
     }
 }
 
-/// How many bits a field without a sign has that is big and `Msb0`, where they are at most 64 and
-/// its layout is not refused.
+/// The bits of an unsigned field that is big and `Msb0`, if they are at most 64 and its layout is
+/// not rejected.
 #[inline(always)]
 pub(crate) fn high_width(field: &Field) -> Option<usize>
     ensures unsigned { IfSome result (λ n. (number_type field.now.kind).signed ≡ false) }
@@ -157,14 +156,14 @@ pub(crate) fn high_width(field: &Field) -> Option<usize>
     }
 }
 
-/// A whole number: of an unsigned kind, or of a signed one.
+/// A whole number, of an unsigned kind or of a signed one.
 #[derive(Debug, Clone, Copy, PartialEq, Eq)]
 pub enum Number {
     Unsigned(u128),
     Signed(i128),
 }
 
-/// A whole number's place in a list: its kind, and how it lies in the stream.
+/// A whole number in a list: its kind, and its layout in the stream.
 #[derive(Debug, Clone, Copy, PartialEq, Eq)]
 pub struct Field {
     pub kind: Kind,

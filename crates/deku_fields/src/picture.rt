@@ -1,4 +1,4 @@
-//! The picture of a layout: which bit of which field stands where in the bytes that fields lay out.
+//! The picture of a layout: which bit of which field is where in the bytes that fields lay out.
 
 ghost use Rattle.std.specs.Prelude.{◌≡◌, ◌⊎◌, ℕ, ◌+◌, ◌*◌, ◌<◌, ◌≤◌, All, length, map, slice_index_or, None, IfOk, IfErr, OnOk};
 ghost use Rattle.std.specs.declared.io.ErrorKind.TheVariants.{OutOfMemory};
@@ -22,23 +22,23 @@ use std::io::ErrorKind;
 pub struct Place {
     /// The index of the field in its list.
     pub field: usize,
-    /// The bit of the field's number: it counts two to this power.
+    /// The bit of the field's number. It counts two to the power of this.
     pub bit: usize,
 }
 
-/// The picture of the bytes that the fields lay out: which bit of which field each bit of these
-/// bytes is, or that it is padding.
+/// The picture of the bytes that the fields lay out. For each bit of these bytes it says which bit
+/// of which field it is, or that it is padding.
 ///
-/// It has eight places for each byte, as bytes are printed, the highest bit of each first: index
-/// `k` is the bit of byte `k / 8` that counts two to the power of `7 - k % 8`. `None` is padding,
-/// which is zero. Whatever values the fields have, if they fit, the bytes that these lay out have
-/// at each place that bit of that field's value, in two's complement where there is a sign.
+/// It has eight places for each byte, as bytes are printed, the high bit of each first. Index `k`
+/// is the bit of byte `k / 8` that counts two to the power of `7 - k % 8`. `None` is padding, which
+/// is zero. Whatever values the fields have, if they fit, the bytes that they lay out have at each
+/// place that bit of that field's value, in two's complement if it is signed.
 ///
-/// The first field that stands in the way refuses it: where its layout is refused, with what
-/// `write_list` refuses that with; where its order is another one inside a byte, with
-/// `InvalidParam("order changes inside a byte")`. `write_list` writes such a field too, but nothing
-/// is promised of the way back. Where the fields have a picture and no memory is found for it, it
-/// is `Io(OutOfMemory)`; none is asked for before.
+/// It fails for the first field without a picture. If its layout is rejected, it fails with the
+/// error of `write_list` for that. If its order changes inside a byte, it fails with
+/// `InvalidParam("order changes inside a byte")`; `write_list` writes such a field, but nothing is
+/// promised of reading it back. If the fields have a picture and there is no memory for it, it
+/// fails with `Io(OutOfMemory)`; no memory is taken before.
 ///
 /// ```text
 /// // 4 bits, 4 bits and a `u16`, big and `Msb0`
@@ -64,8 +64,8 @@ pub fn places(alloc: Global, fields: &[Field]) -> Result<Vec<Option<Place>>, Dek
     Ok(cells)
 }
 
-// How many places the bytes have that the fields lay out, where these have a picture. No memory has
-// more than a `usize` counts.
+// How many places the bytes have that the fields lay out, if these have a picture. If a `usize`
+// cannot count them, it is out of memory.
 fn drawable_places(fields: &[Field]) -> Result<usize, DekuError>
     ensures count { IfOk result (λ n. n ≡ 8 * groups (total (map field_shape fields.now))) }
     ensures drawable { OnOk result (AreDrawable fields.now) }
@@ -90,7 +90,7 @@ fn drawable_places(fields: &[Field]) -> Result<usize, DekuError>
     }
 }
 
-// How many bits a field has, or what it is refused with where it is written.
+// How many bits a field has, or the error with which writing it fails.
 fn drawable_width(field: &Field) -> Result<usize, DekuError>
     ensures width { IfOk result (λ n. n ≡ field_width field.now) }
     ensures few { IfOk result (λ n. n ≤ 128) }
@@ -121,8 +121,8 @@ fn mark_fields(cells: &mut [Option<Place>], fields: &[Field])
     }
 }
 
-// Puts each bit of one field at its place, the first of them as the bit `at` that is met, and
-// answers which bit is met behind them.
+// Puts each bit of one field at its place, with its first bit as bit `at` of the list. Returns the
+// bit of the list after them.
 fn mark_field(cells: &mut [Option<Place>], fields: &[Field], index: usize, at: usize) -> usize
     requires within { index < length fields.now }
     requires room { length cells.old ≡ 8 * groups (total (map field_shape fields.now)) }
@@ -144,7 +144,7 @@ fn mark_field(cells: &mut [Option<Place>], fields: &[Field], index: usize, at: u
     at + width
 }
 
-// Where the n-th bit that an order meets is printed.
+// Where the n-th bit of an order is printed.
 fn printed_place(order: Order, n: usize) -> usize
     ensures { result ≡ printed_at order n }
 {
@@ -154,7 +154,7 @@ fn printed_place(order: Order, n: usize) -> usize
     }
 }
 
-// The bit of a field's number that its i-th bit is.
+// The bit of a field's number that the field's i-th bit is.
 fn bit_place(endian: Endian, order: Order, width: usize, i: usize) -> usize
     requires within { i < width }
     requires few { width ≤ 128 }

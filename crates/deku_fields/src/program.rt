@@ -23,7 +23,7 @@ use std::fmt::Write as _;
 use std::io;
 use std::io::{ErrorKind, Read, Write};
 
-/// Why a run ends without what was asked for.
+/// Why a run ends without doing what was asked for.
 #[derive(Drop)]
 enum Failure {
     /// The arguments are not of a form that the program knows.
@@ -66,24 +66,24 @@ impl From<AllocError> for Failure {
     }
 }
 
-/// Runs the program on the arguments after its name, and answers its status: 0 where it is done, 1
-/// where the input, the output, the memory or a value stood in the way, and 2 where the arguments
-/// are not of a form that it knows.
+/// Runs the program on the arguments after its name. Returns its status: 0 if it succeeds; 1 if the
+/// input, the output, the memory or a value prevents it; and 2 if the arguments are not of a form
+/// that it knows.
 ///
-/// `write SPEC=VALUE..` prints the bytes of the items in hexadecimal, and `read SPEC..` reads such
-/// text, of either case and without one newline at its end, and prints the value of each field on a
-/// line of its own, and then how many bits were read.
+/// `write SPEC=VALUE..` prints the bytes of the items in hexadecimal. `read SPEC..` reads such
+/// text, in upper or lower case and without one newline at its end. It prints the value of each
+/// field on a line of its own, and then how many bits were read.
 ///
-/// A run that is not done is told of in one line on `errors`: the usage with status 2, and with
-/// status 1 `error: bad hexadecimal text` or `error: ` and the text of the fault. The arguments are
-/// looked at before the input and before any memory is taken, and nothing goes to the output until
-/// all of the text is known, so it gains nothing then but what a failing output took. A fault of
-/// `errors` changes nothing.
+/// A run that does not succeed prints one line to `errors`: the usage with status 2, and with
+/// status 1 `error: bad hexadecimal text` or `error: ` and the text of the error. The arguments are
+/// checked before the input is read and before any memory is taken. Nothing is printed to the
+/// output until all of the text is known, so a run that does not succeed prints nothing to it
+/// except what a failing output took. An error of `errors` changes nothing.
 ///
 /// ```text
 /// write u8,big,bits4=6 u8,big,bits4=9 u16,big=49406   // prints 69c0fe, status 0
-/// read u8,lsb,bits5 u16,lsb u8,lsb,bits3              // on a13412 prints 1, 37285, 0 and bits 24, status 0
-/// write u9=1                                          // tells usage: fields read|write SPEC.., status 2
+/// read u8,lsb,bits5 u16,lsb u8,lsb,bits3     // on a13412 prints 1, 37285, 0 and bits 24, status 0
+/// write u9=1                                   // prints usage: fields read|write SPEC.., status 2
 /// ```
 pub fn run<R: Read, W: Write, E: Write>(
     alloc: Global,
@@ -116,7 +116,7 @@ pub fn run<R: Read, W: Write, E: Write>(
     status_of(&failure)
 }
 
-// The status of a run that ends so.
+// The status of a run that ends with this failure.
 fn status_of(failure: &Failure) -> u8
     ensures { result ≡ status_of failure.now }
 {
@@ -126,7 +126,7 @@ fn status_of(failure: &Failure) -> u8
     }
 }
 
-// Tells of a failure in a line, of which `errors` takes a beginning where it fails.
+// Prints a failure as a line. If `errors` fails, it has taken a beginning of the line.
 fn complain<E: Write>(errors: &mut E, failure: &Failure) -> io::Result<()>
     ensures told { OnOk result (Appends (E.contents errors.old) (E.contents errors.new)
         (message failure.now)) }
@@ -139,9 +139,9 @@ fn complain<E: Write>(errors: &mut E, failure: &Failure) -> io::Result<()>
     }
 }
 
-/// Gives the whole text to an output, which may take it in parts; an interrupted write is tried
-/// again. Where the output fails, or takes no more, that is the error, and the text was not taken
-/// to its end.
+/// Writes the whole text to an output, which may take it in parts. An interrupted write is tried
+/// again. It fails with the error of the output, or if the output takes no more; the text was then
+/// not taken to its end.
 ///
 /// ```text
 /// give_text(&mut output, b"69c0fe\n")?
@@ -168,7 +168,7 @@ pub fn give_text<W: Write>(output: &mut W, text: &[u8]) -> io::Result<()>
     Ok(())
 }
 
-// Gives the output the text that the words ask for.
+// Writes to the output the text that the words ask for.
 fn command<R: Read, W: Write>(
     alloc: Global,
     args: &[String],
@@ -195,8 +195,8 @@ fn command<R: Read, W: Write>(
     Ok(())
 }
 
-// Whether the words are of a form that the program knows. This takes no memory, so that words of no
-// form are told as such whatever memory there is.
+// Whether the words are of a form that the program knows. This takes no memory, so that words of an
+// unknown form are reported as such, however little memory there is.
 fn are_form(args: &[String]) -> bool
     ensures { IsTrue result ↔ AreForm (words_of args.now) }
 {
@@ -271,7 +271,7 @@ fn written(alloc: Global, specs: &[String]) -> Result<String, Failure>
     Ok(text)
 }
 
-// The values that the fields named by the words read from the input, and the count of bits, as
+// The values of the fields that the words name, read from the input, and the count of bits, as
 // lines of text.
 fn read<R: Read>(alloc: Global, specs: &[String], input: &mut R) -> Result<String, Failure>
     ensures shown { IfOk result (λ text. ShowsRead (words_of specs.now) (R.remaining input.old)
@@ -307,7 +307,7 @@ fn fields_named(alloc: Global, specs: &[String]) -> Result<Vec<Field>, Failure>
     Ok(fields)
 }
 
-// The numbers in decimal digits, a line each.
+// The numbers in decimal digits, one line each.
 fn number_lines(alloc: Global, numbers: &[Number]) -> Result<String, Failure>
     ensures shown { IfOk result (λ text. string_bytes text ≡ flat_map (λ n. line (number_text n))
         numbers.now) }

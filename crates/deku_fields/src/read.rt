@@ -21,19 +21,19 @@ use std::io::{Cursor, ErrorKind};
 
 /// Reads one value for each field, in order, into `out`. It takes no memory.
 ///
-/// A field is refused as its number is: with `Parse("too much data")` where its size is beyond its
-/// kind, with `InvalidParam("signed big Lsb0 field of this width")`, and then as `Reader` refuses
-/// to read its bits. What the fields before it moved stays moved, and what `out` holds is then
-/// open. Without fields no call is made on the reader.
-///
-/// As many bytes of the source are fetched as the fields' bits need behind the unread ones, and
-/// none behind the last one that a field touches.
-///
 /// The caller's condition: `out` has one place for each field.
+///
+/// A field fails as its number does: with `Parse("too much data")` if its size is beyond its kind,
+/// with `InvalidParam("signed big Lsb0 field of this width")`, and then as `Reader` fails to read
+/// its bits. What was read of the fields before it stays read, and the content of `out` is then
+/// unspecified. Without fields no call is made on the reader.
+///
+/// It fetches exactly the bytes of the source that the fields' bits need after the unread ones, and
+/// no byte after the last one that a field touches.
 ///
 /// ```text
 /// let mut values = [Number::Unsigned(0); 2];
-/// read_list_into(&mut reader, &[four, twelve], &mut values)?; // 6 and 0x9C0, of the bytes 69 C0
+/// read_list_into(&mut reader, &[four, twelve], &mut values)?; // 6 and 0x9C0, of 69 C0
 /// ```
 pub fn read_list_into<R: Source>(
     reader: &mut Reader<R>,
@@ -66,7 +66,7 @@ pub fn read_list_into<R: Source>(
     Ok(())
 }
 
-// Reads the value of a field: at once, where nothing refuses it and its bits are at hand.
+// Reads the value of a field, at once if nothing rejects it and its bits are in memory.
 #[inline(always)]
 fn read_field<R: Source>(reader: &mut Reader<R>, field: &Field) -> Result<Number, DekuError>
     ensures reads { Reads R.known (ReadsField field.now) reader.old result reader.new }
@@ -80,8 +80,8 @@ fn read_field<R: Source>(reader: &mut Reader<R>, field: &Field) -> Result<Number
     }
 }
 
-// The number of a field of bits that go from the highest down, where nothing refuses it and they
-// are at hand. It answers none else, and then nothing moves.
+// The number of a field with its high bits first, if nothing rejects it and the bits are in memory.
+// Otherwise it returns `None`, and nothing moves.
 #[inline(always)]
 fn plain_number<R: Source>(reader: &mut Reader<R>, field: &Field) -> Option<u64>
     ensures reads { IfSome result (λ n. Reads R.known (ReadsField field.now) reader.old
@@ -97,7 +97,7 @@ fn plain_number<R: Source>(reader: &mut Reader<R>, field: &Field) -> Option<u64>
     Some(number)
 }
 
-// Reads the value of a field, and looks at all that may refuse it.
+// Reads the value of a field, with all checks.
 #[inline(always)]
 fn read_checked<R: Source>(reader: &mut Reader<R>, field: &Field) -> Result<Number, DekuError>
     ensures reads { Reads R.known (ReadsField field.now) reader.old result reader.new }
@@ -115,10 +115,10 @@ fn read_checked<R: Source>(reader: &mut Reader<R>, field: &Field) -> Result<Numb
     }
 }
 
-/// One value for each field, in order. It is `read_list_into` a vector, whose memory is found
-/// first.
+/// Reads one value for each field, in order. It is `read_list_into` with a new vector, whose memory
+/// is allocated first.
 ///
-/// Where no memory is found it is refused with `Io(OutOfMemory)`, and nothing moves.
+/// If there is no memory, it fails with `Io(OutOfMemory)`, and nothing moves.
 ///
 /// ```text
 /// read_list(&mut reader, &[four, twelve])?                   // 6 and 0x9C0, of the bytes 69 C0
@@ -150,9 +150,9 @@ pub fn read_list<R: Source>(
     }
 }
 
-/// How many bits the fields took of the bytes, from the first one on, and their values.
+/// Reads fields from the first byte on. Returns how many bits they took, and their values.
 ///
-/// It is refused as `read_list` is; `Incomplete` has the bits that were asked for.
+/// It fails as `read_list` does. `Incomplete` has the bits that were asked for.
 ///
 /// ```text
 /// // 4 bits, 4 bits and a `u16`, big and `Msb0`, from 69 C0 FE

@@ -1,4 +1,4 @@
-//! What is told of a fault.
+//! The texts of errors.
 
 ghost use Rattle.std.specs.Prelude.{◌≡◌, OnOk};
 ghost use Rattle.std.specs.Io.KnownBytes.{Appends};
@@ -64,7 +64,8 @@ fn io_kind_name(kind: ErrorKind) -> &'static str
     KIND_NAMES[kind as usize]
 }
 
-/// Gives texts one after the other to an output, which takes a beginning of them where it fails.
+/// Writes texts one after the other to an output. If it fails, the output has taken a beginning of
+/// them.
 ///
 /// ```text
 /// give_parts(&mut output, &["bits ", "16", "\n"])?;
@@ -81,7 +82,7 @@ pub fn give_parts<W: Write>(output: &mut W, parts: &[&str]) -> io::Result<()>
     Ok(())
 }
 
-// Gives the text of a fault to an output, which takes a beginning of it where it fails.
+// Writes the text of an error to an output. If it fails, the output has taken a beginning of it.
 fn give_fault<W: Write>(output: &mut W, fault: &DekuError) -> io::Result<()>
     ensures given { OnOk result (Appends (W.contents output.old) (W.contents output.new)
         (fault_text fault.now)) }
@@ -113,11 +114,13 @@ fn give_fault<W: Write>(output: &mut W, fault: &DekuError) -> io::Result<()>
     }
 }
 
-/// Gives an output the line of a fault: `error: `, its text, and more texts after that. Where the
-/// output fails, or takes no more, that is the error, and it took a beginning of the line.
+/// Writes the line of an error to an output: `error: `, its text, and more texts after that. It
+/// fails with the error of the output, or if the output takes no more; the output has then taken a
+/// beginning of the line.
 ///
 /// ```text
-/// tell_fault(&mut errors, &DekuError::Assertion("version"), &[", at bit ", "4"])?;   // "error: version, at bit 4" and a newline
+/// tell_fault(&mut errors, &DekuError::Assertion("version"), &[", at bit ", "4"])?;
+/// // "error: version, at bit 4" and a newline
 /// ```
 pub fn tell_fault<W: Write>(output: &mut W, fault: &DekuError, more: &[&str]) -> io::Result<()>
     ensures told { OnOk result (Appends (W.contents output.old) (W.contents output.new)

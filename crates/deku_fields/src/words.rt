@@ -12,12 +12,12 @@ ghost use Rattle.deku_fields.specs.Naming.{kind_name, BeginsOption, SplitsEndian
 use crate::list::{Field, Item, Kind, Number};
 use deku::ctx::{Endian, Layout, Order, Size};
 
-/// The field that a word names: `kind[,big|,little][,msb|,lsb][,bitsN|,bytesN]`. None where it
-/// names no field.
+/// Parses the field that a word names: `kind[,big|,little][,msb|,lsb][,bitsN|,bytesN]`. Returns
+/// `None` if it names no field.
 ///
 /// ```text
 /// parse_field("u8,big,bits4")       // four bits of a `u8`, big and `Msb0`
-/// parse_field("u8,bits4,big")       // none: the size stands last
+/// parse_field("u8,bits4,big")       // None: the size comes last
 /// ```
 pub fn parse_field(word: &str) -> Option<Field>
     ensures { (f : ListField) → (result ≡ Some f) ↔ NamesField word.now f }
@@ -34,12 +34,12 @@ pub fn parse_field(word: &str) -> Option<Field>
     Some(Field { kind, layout })
 }
 
-/// The item that a word names: a field, `=` and a value in decimal digits, with or without a minus.
-/// None where it names no item.
+/// Parses the item that a word names: a field, `=` and a value in decimal digits, with or without a
+/// minus. Returns `None` if it names no item.
 ///
 /// ```text
 /// parse_item("u16,big=49406")       // C0 FE
-/// parse_item("u16,big=")            // none: no digit
+/// parse_item("u16,big=")            // None: no digit
 /// ```
 pub fn parse_item(word: &str) -> Option<Item>
     ensures { (i : ListItem) → (result ≡ Some i) ↔ NamesItem word.now i }
@@ -50,7 +50,7 @@ pub fn parse_item(word: &str) -> Option<Item>
     Some(Item { field, value })
 }
 
-// The kind of this name.
+// The kind with this name.
 fn parse_kind(name: &str) -> Option<Kind>
     ensures { MatchOption result ((k : FieldKind) → name.now ≡ kind_name k → ⊥)
         (λ k. name.now ≡ kind_name k) }
@@ -72,7 +72,7 @@ fn parse_kind(name: &str) -> Option<Kind>
     }
 }
 
-// The kind in front of the first comma, and what stands from there on.
+// The kind before the first comma, and the text from there on.
 fn split_kind(word: &str) -> Option<(Kind, &str)>
     ensures { MatchOption result ((k : FieldKind) (rest : List ℕ) → word.now ≡ kind_name k ++ rest
         → BeginsOption rest → ⊥) (λ p. (word.now ≡ kind_name p.0 ++ p.1.now)
@@ -85,7 +85,7 @@ fn split_kind(word: &str) -> Option<(Kind, &str)>
     }
 }
 
-// The endian in front, little where there is none, and what stands behind it.
+// The endian at the start of the text, or little if there is none, and the text after it.
 fn split_endian(text: &str) -> (Endian, &str)
     ensures { SplitsEndian text.now result.0 result.1.now }
 {
@@ -98,7 +98,7 @@ fn split_endian(text: &str) -> (Endian, &str)
     (Endian::Little, text)
 }
 
-// The order in front, `Msb0` where there is none, and what stands behind it.
+// The order at the start of the text, or `Msb0` if there is none, and the text after it.
 fn split_order(text: &str) -> (Order, &str)
     ensures { SplitsOrder text.now result.0 result.1.now }
 {
@@ -111,7 +111,7 @@ fn split_order(text: &str) -> (Order, &str)
     (Order::Msb0, text)
 }
 
-// The text behind another at its front, where that stands there.
+// The text after `front`, if it begins with that.
 fn behind<'a>(text: &'a str, front: &str) -> Option<&'a str>
     ensures { MatchOption result ((rest : List ℕ) → text.now ≡ front.now ++ rest → ⊥)
         (λ rest. text.now ≡ front.now ++ rest.now) }
@@ -133,7 +133,7 @@ fn parse_size(text: &str) -> Option<Size>
     Some(Size::Bytes(parse_count(behind(text, ",bytes")?)?))
 }
 
-// A count in decimal digits alone.
+// A count, in decimal digits only.
 fn parse_count(digits: &str) -> Option<usize>
     ensures { SomeIff result (IsNumeral 10 digits.now × (digits_value 10 digits.now < 2 ^ 64))
         (digits_value 10 digits.now) }
@@ -144,8 +144,8 @@ fn parse_count(digits: &str) -> Option<usize>
     digits.parse().ok()
 }
 
-// A number in decimal digits, with or without a minus. Without one it is signed for a signed kind
-// where it can be.
+// A number in decimal digits, with or without a minus. Without a minus it is signed for a signed
+// kind if it can be.
 fn parse_number(text: &str, kind: Kind) -> Option<Number>
     ensures { MatchOption result ((n : FieldNumber) → NamesNumber kind text.now n → ⊥)
         (λ n. NamesNumber kind text.now n) }
@@ -173,7 +173,7 @@ fn parse_number(text: &str, kind: Kind) -> Option<Number>
     }
 }
 
-// Whether a text is decimal digits alone, and one of them at least.
+// Whether a text is decimal digits only, and at least one of them.
 fn is_digits(text: &str) -> bool
     ensures { IsTrue result ↔ IsNumeral 10 text.now }
 {

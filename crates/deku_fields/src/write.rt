@@ -23,13 +23,14 @@ use deku_num::kernel::{is_below, unsigned_word};
 use std::alloc::Global;
 use std::io::Cursor;
 
-/// Writes the items one after the other, without padding. It takes no memory but what the sink
+/// Writes the items one after the other, without padding. It takes no memory except what the sink
 /// takes.
 ///
-/// An item is refused with `InvalidParam("value outside type")` where its value is none of its
-/// kind, then as its number is: where the size is beyond the kind, where a signed big `Lsb0` field
-/// has such a width, where the value does not fit; and then as `Writer` refuses to write its bits.
-/// What the items before it moved stays moved. Without items no call is made on the writer.
+/// An item fails with `InvalidParam("value outside type")` if its value is not of its kind. Then it
+/// fails as its number does: if the size is beyond the kind, if a signed big `Lsb0` field has a
+/// width that is not allowed, or if the value does not fit. And then it fails as `Writer` fails to
+/// write its bits. What was written of the items before it stays written. Without items no call is
+/// made on the writer.
 ///
 /// ```text
 /// write_list(&mut writer, &[six_in_four, nine_in_four])?;    // the byte 69
@@ -52,7 +53,7 @@ pub fn write_list<W: Sink>(writer: &mut Writer<W>, items: &[Item]) -> Result<(),
     Ok(())
 }
 
-// Writes the value of an item: where nothing refuses it for what it is, at once.
+// Writes the value of an item, at once if nothing about it is rejected.
 #[inline(always)]
 fn write_item<W: Sink>(writer: &mut Writer<W>, item: &Item) -> Result<(), DekuError>
     ensures writes { Writes W.known (WritesItem item.now) writer.old result writer.new }
@@ -67,8 +68,8 @@ fn write_item<W: Sink>(writer: &mut Writer<W>, item: &Item) -> Result<(), DekuEr
     }
 }
 
-// Writes the value of an item whose bits go from the highest down, where nothing refuses it and
-// they are laid, and answers whether it did. Else nothing changes.
+// Writes the value of an item with its high bits first, if nothing rejects it and the bits can be
+// put into the sink's room. Returns whether it did. Otherwise nothing changes.
 #[inline(always)]
 fn laid_high<W: Sink>(writer: &mut Writer<W>, item: &Item) -> bool
     ensures writes { IsTrue result → Writes W.known (WritesItem item.now) writer.old (Ok tt)
@@ -82,8 +83,8 @@ fn laid_high<W: Sink>(writer: &mut Writer<W>, item: &Item) -> bool
     }
 }
 
-// The value of an item and how many bits it has, where these go from the highest down, are at most
-// 64, and nothing refuses it.
+// The value of an item and how many bits it has, if its high bits come first, they are at most 64,
+// and nothing rejects it.
 #[inline(always)]
 fn plain_high(item: &Item) -> Option<(u64, usize)>
     ensures value { IfSome result (λ r. item.now.value ≡ Unsigned r.0) }
@@ -103,7 +104,7 @@ fn plain_high(item: &Item) -> Option<(u64, usize)>
     Some((number, width))
 }
 
-// A number, where it has at most so many bits.
+// A number, if it has at most this many bits.
 #[inline(always)]
 fn fitting(value: u128, bits: usize) -> Option<u64>
     requires { bits ≤ 64 }
@@ -117,8 +118,8 @@ fn fitting(value: u128, bits: usize) -> Option<u64>
     }
 }
 
-// The word of an item and how many bits it has, where its kind has no sign, its size is not in
-// bytes, and nothing refuses it.
+// The word of an item and how many bits it has, if its kind is unsigned, its size is not in bytes,
+// and nothing rejects it.
 #[inline(always)]
 fn plain_word(item: &Item) -> Option<(u128, usize)>
     ensures kind { IfSome result (λ r. IsOfKind item.now.field.kind item.now.value) }
@@ -139,8 +140,8 @@ fn plain_word(item: &Item) -> Option<(u128, usize)>
     Some((word, width))
 }
 
-// Writes the value of an item, and looks at all that may refuse it. It is inlined, so that no call
-// has the writer by reference.
+// Writes the value of an item, with all checks. It is inlined, so that no call has the writer by
+// reference.
 #[inline(always)]
 fn write_checked<W: Sink>(writer: &mut Writer<W>, item: &Item) -> Result<(), DekuError>
     ensures writes { Writes W.known (WritesItem item.now) writer.old result writer.new }
@@ -158,8 +159,8 @@ fn write_checked<W: Sink>(writer: &mut Writer<W>, item: &Item) -> Result<(), Dek
 
 /// The bytes of the items, written one after the other from nothing and padded once with zeros.
 ///
-/// A refusal is that of the first item that is refused, as `write_list` says, or `Io(OutOfMemory)`
-/// where no memory is found.
+/// It fails as the first item that fails, as `write_list` says, or with `Io(OutOfMemory)` if there
+/// is no memory.
 ///
 /// ```text
 /// // 4 bits, 4 bits and a `u16`, big and `Msb0`: 6, 9, 49406

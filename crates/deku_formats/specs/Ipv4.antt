@@ -5,31 +5,32 @@ use Rattle.deku.specs.declared.error.DekuError.TheVariants.{Parse}
 use Rattle.deku.specs.Faults.{Tells}
 use Rattle.deku_formats.specs.declared.ipv4.Ipv4.{Ipv4}
 
--- the bytes of the options
+-- The number of bytes of the options.
 abbrev pub option_count : Ipv4 → ℕ
 option_count h = length h.options.items
 
--- the options are whole words, ten at most
+-- The options are at most ten whole words.
 abbrev pub HasWholeWords : Ipv4 → Type 0
 HasWholeWords h = (option_count h ≤ 40) × (option_count h % 4 ≡ 0)
 
--- the header's bytes are among those that the total counts
+-- The bytes of the header are among those that the total counts.
 abbrev pub CountsItself : Ipv4 → Type 0
 CountsItself h = 4 * h.front.words ≤ h.front.total_length
 
--- the total with the header that the options make, and what was carried
+-- The total with the header and its options, and the payload.
 abbrev pub next_total : Ipv4 → ℕ
 next_total h = h.front.total_length - 4 * h.front.words + 20 + option_count h
 
--- the header with its two lengths
+-- The header with its two lengths.
 abbrev pub counted : Ipv4 → Ipv4
 counted h = record h { front = record h.front { words = 5 + option_count h / 4; total_length = next_total h } }
 
--- it is refused for this cause, and stays
+-- It fails for this cause, and stays as it was.
 abbrev pub StaysFor : List ℕ → Ipv4 → Result (Unit {0}) DekuError → Ipv4 → Type 0
 StaysFor cause h r g = ((e : DekuError) × (r ≡ Err e) × Tells Parse cause e) × (g ≡ h)
 
--- a header gets its two lengths, where its options are whole words, it counts itself and 16 bits count all
+-- A header gets its two lengths, if its options are whole words, its total counts the header, and
+-- the new total fits 16 bits.
 abbrev pub Updates : Ipv4 → Result (Unit {0}) DekuError → Ipv4 → Type 0
 Updates h r g = (HasWholeWords h × CountsItself h × (next_total h < 2 ^ 16) × (r ≡ Ok tt) × (g ≡ counted h))
     ⊎ ((HasWholeWords h → ⊥) × StaysFor (codes "options of no whole words") h r g)

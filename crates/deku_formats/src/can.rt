@@ -1,5 +1,5 @@
-//! The signals of a CAN data frame, as a DBC file has them: "Intel" signals, which lie from the low
-//! bits up, and "Motorola" signals, whose high byte comes first.
+//! The signals of a CAN data frame, as in a DBC file: "Intel" signals, which go from the low bits
+//! up, and "Motorola" signals, whose high byte comes first.
 //!
 //! ```text
 //! BO_ 291 Chassis: 8 ECU
@@ -30,13 +30,13 @@ pub struct Chassis {
     pub torque: i16,
     /// Three flags.
     pub flags: u8,
-    /// Five bits that say nothing.
+    /// Five bits without a meaning.
     pub padding: u8,
     /// The yaw rate, 24 bits.
     pub yaw: i32,
 }
 
-// The signals as they lie.
+// The signals, in order.
 type Parts = (
     (Lsb<i16, 12>, Lsb<u8, 4>),
     LsbBe<i16, 16>,

@@ -1,15 +1,16 @@
 //! A CCSDS space packet with telemetry: the primary header of CCSDS 133.0-B-2, section 4.1.3, and
-//! samples of 10 and 12 bits behind it.
+//! samples of 10 and 12 bits after it.
 //!
 //! ```text
 //! version      3 bits     0
 //! kind         1 bit      0: telemetry, 1: command
 //! secondary    1 bit      whether a secondary header follows
 //! application 11 bits     the application process identifier
-//! grouping     2 bits     3: a packet that stands alone
+//! grouping     2 bits     3: a packet of its own
 //! count       14 bits     the sequence count
-//! length      16 bits     the bytes behind the header, less one
-//! samples     22 bits each: a voltage of 10 bits and a current of 12, the high bits first; four of them fill eleven bytes
+//! length      16 bits     the number of bytes after the header, minus one
+//! samples     22 bits each: a voltage of 10 bits and a current of 12, the high bits first;
+//!                         four of them fill eleven bytes
 //! ```
 
 ghost use Rattle.std.specs.Prelude.{refl};

@@ -1,5 +1,5 @@
-//! The header of an IPv4 packet with its options, as RFC 791, section 3.1, has it; the byte behind
-//! the length is that of RFC 2474 and RFC 3168.
+//! The header of an IPv4 packet with its options, as in RFC 791, section 3.1. The byte after the
+//! length is that of RFC 2474 and RFC 3168.
 //!
 //! ```text
 //!  0       4       8              14  16                           31
@@ -14,7 +14,7 @@
 //! +-----------------------------------------------------------------+
 //! |                           destination                           |
 //! +-----------------------------------------------------------------+
-//! |          options, four bytes for each word beyond the fifth     |
+//! |          options, four bytes for each word after the fifth      |
 //! +-----------------------------------------------------------------+
 //! ```
 
@@ -40,7 +40,7 @@ use front::Front;
 pub struct Ipv4 {
     /// The first twenty bytes.
     pub front: Front,
-    /// The options, of whole words.
+    /// The options, as whole words.
     pub options: Vec<u8>,
 }
 
@@ -103,16 +103,19 @@ impl DekuContainerRead for Ipv4 {}
 
 impl DekuContainerWrite for Ipv4 {}
 
-/// The length of the header becomes that of the options, and the total follows it: what is carried
-/// behind the header stays as long as it was.
+/// Sets the length of the header to that of its options, and the total length to match. The payload
+/// after the header keeps its length.
 ///
-/// It is refused, and nothing changes, with `Parse("options of no whole words")` where the options
-/// are not at most ten words of four bytes, with `Parse("total below header")` where the total was
-/// less than the header, and with `Parse("packet too long")` where 16 bits do not count it then.
+/// It fails, and nothing changes,
+///
+/// - with `Parse("options of no whole words")` if the options are not at most ten words of four
+///   bytes;
+/// - with `Parse("total below header")` if the total was less than the header;
+/// - with `Parse("packet too long")` if the new total does not fit 16 bits.
 ///
 /// ```text
 /// header.options.extend_from_slice(&[0x94, 0x04, 0x00, 0x00])?;
-/// header.update()?;                                           // `words` is one more, `total_length` four
+/// header.update()?;                                    // `words` is one more, `total_length` four
 /// ```
 impl DekuUpdate for Ipv4 {
     ghost updates = { Updates };
@@ -137,7 +140,7 @@ impl DekuUpdate for Ipv4 {
     }
 }
 
-/// The version of the protocol is 4.
+/// The version of the protocol, which is 4.
 #[derive(Debug, PartialEq, Eq, Drop)]
 pub struct Version;
 

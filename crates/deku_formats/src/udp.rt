@@ -1,4 +1,4 @@
-//! The header of a UDP datagram, as RFC 768 has it: four numbers of two bytes, the high byte first.
+//! The header of a UDP datagram, as in RFC 768: four numbers of two bytes, the high byte first.
 //!
 //! ```text
 //!  0      7 8     15 16    23 24    31
@@ -21,17 +21,17 @@ use deku_symmetry::{Be, FromParts, Record, ToParts, read_record, write_record};
 /// The header of a datagram.
 #[derive(Debug, PartialEq, Eq, Drop)]
 pub struct Udp {
-    /// The port that it comes from, or 0.
+    /// The port of the sender, or 0.
     pub source: u16,
-    /// The port that it goes to.
+    /// The port of the receiver.
     pub destination: u16,
-    /// The bytes of the header and of what it carries.
+    /// The number of bytes of the header and its payload.
     pub length: u16,
-    /// The check sum, or 0 where there is none.
+    /// The checksum, or 0 if there is none.
     pub checksum: u16,
 }
 
-// The fields as they lie.
+// The fields, in order.
 type Parts = (Be<u16>, Be<u16>, Be<u16>, Be<u16>);
 
 impl FromParts<()> for Udp {

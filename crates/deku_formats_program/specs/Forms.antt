@@ -5,7 +5,7 @@ use Rattle.deku_formats_program.specs.declared.words.Format.TheVariants.{Can, Cc
 use Rattle.deku_formats_program.specs.declared.words.Asked.{Asked}
 use Rattle.deku_formats_program.specs.declared.words.Asked.TheVariants.{Names, Help, Record}
 
--- the name of a format
+-- The name of a format.
 abbrev pub name_of : Format → List ℕ
 name_of Can = codes "can"
 name_of Ccsds = codes "ccsds"
@@ -16,12 +16,12 @@ name_of Png = codes "png"
 name_of Riscv = codes "riscv"
 name_of Udp = codes "udp"
 
--- the words ask for this: no word, `--help`, or the name of a format
+-- The words ask for this: no word, `--help`, or the name of a format.
 abbrev pub AskFor : List (List ℕ) → Asked → Type 0
 AskFor words Names = words ≡ []
 AskFor words Help = words ≡ codes "--help" ∷ []
 AskFor words (Record format) = words ≡ name_of format ∷ []
 
--- the words ask for nothing
+-- The words ask for nothing.
 abbrev pub AreNoForm : List (List ℕ) → Type 0
 AreNoForm words = (a : Asked) → AskFor words a → ⊥

@@ -1,4 +1,5 @@
--- What prevents that a record is shown: the bytes that it is read from, what it is written as, or the memory.
+-- What prevents a record from being shown: the bytes that it is read from, what it is written as,
+-- or the memory.
 use Rattle.std.specs.Prelude.{◌≡◌, ◌⊎◌, ℕ, List, Option, Err}
 use Rattle.std.specs.Borrow.{Bor}
 use Rattle.std.specs.declared.io.ErrorKind.TheVariants.{OutOfMemory}
@@ -15,7 +16,7 @@ use Rattle.deku_pieces.specs.Packs.{WasTaken, Unpacks}
 use Rattle.deku_formats_program.specs.declared.program.Failure.{Failure}
 use Rattle.deku_formats_program.specs.declared.program.Failure.TheVariants.{Fault, Refused}
 
--- the meaning of a record gives this refusal from the bytes, when so many bits are counted
+-- The meaning of a record gives this error from the bytes, when this many bits are counted.
 pub record IsRefused {V : Type 0} (reads : Meaning (Option Stream) V) (bytes : List ℕ) (e : Failure) : Type 0 where
   pub fault : DekuError
   pub left : Standing (Option Stream)
@@ -23,13 +24,13 @@ pub record IsRefused {V : Type 0} (reads : Meaning (Option Stream) V) (bytes : L
   pub field : Bor (List ℕ)
   pub is : e ≡ Refused fault field (count_of left)
 
--- the meaning gives this refusal from the bytes, and reading them once more does not
+-- The meaning gives this error from the bytes, and reading them once more does not.
 pub record IsRefusedOnce {V : Type 0} (reads : Meaning (Option Stream) V) (bytes : List ℕ) (e : Failure) : Type 0 where
   pub fault : DekuError
   pub refused : Unpacks reads bytes (Err fault)
   pub is : e ≡ Fault fault
 
--- a value was taken from the bytes, and is refused so when it is written
+-- A value was taken from the bytes, and fails with this error when it is written.
 pub record IsNotWritten {V : Type 0} (pieces : V → List Piece → Type 0) (writes : V → Meaning Output (Unit {0})) (bytes : List ℕ) (e : Failure) : Type 0 where
   pub value : V
   pub bits : ℕ
@@ -38,10 +39,10 @@ pub record IsNotWritten {V : Type 0} (pieces : V → List Piece → Type 0) (wri
   pub refused : WritesOnce (Both (writes value) Finalizes) (Err fault)
   pub is : e ≡ Fault fault
 
--- the bytes or what a record is written as are refused, or no memory is found
+-- Reading the bytes or writing the record fails, or there is no memory.
 abbrev pub StopsOf : {V : Type 0} → Meaning (Option Stream) V → (V → List Piece → Type 0) → (V → Meaning Output (Unit {0})) → List ℕ → Failure → Type 0
 StopsOf reads pieces writes bytes e = IsRefused reads bytes e ⊎ IsRefusedOnce reads bytes e ⊎ IsNotWritten pieces writes bytes e ⊎ (e ≡ Fault (Io OutOfMemory))
 
--- bytes, and what prevents that the record that they begin with is shown
+-- Bytes, and what prevents the record at their start from being shown.
 abbrev pub Stopping : Type 1
 Stopping = List ℕ → Failure → Type 0

@@ -1,4 +1,5 @@
--- What a run of the program does: the words that it is given, the text that it reads and the text that it writes.
+-- What a run of the program does: the words that it is given, the text that it reads and the text
+-- that it writes.
 use Rattle.std.specs.Prelude.{◌≡◌, ◌⊎◌, ℕ, List, [], ◌∷◌, flat_map, Option, IfSome, codes, decimal, ⊤, ◌++◌}
 use Rattle.std.specs.Io.KnownBytes.{Appends}
 use Rattle.std.specs.declared.io.ErrorKind.{ErrorKind}
@@ -14,96 +15,100 @@ use Rattle.deku_formats_program.specs.Forms.{AskFor, AreNoForm}
 use Rattle.deku_formats_program.specs.Shown.{Telling}
 use Rattle.deku_formats_program.specs.Refusals.{Stopping}
 
--- the names of the formats
+-- The names of the formats.
 abbrev pub names : List (List ℕ)
 names = codes "can" ∷ codes "ccsds" ∷ codes "dns" ∷ codes "elf" ∷ codes "ipv4" ∷ codes "png" ∷ codes "riscv" ∷ codes "udp" ∷ []
 
--- the lines of the help
+-- The lines of the help.
 abbrev pub help : List (List ℕ)
 help = codes "formats         prints the names of the formats"
     ∷ codes "formats NAME    reads hexadecimal text, prints the fields of the record that it begins with,"
     ∷ codes "                writes them back, and says whether that is what was read"
     ∷ codes "formats --help  prints this" ∷ []
 
--- the input shows bytes in hexadecimal, where it is known, and the text tells of the record that they begin with
+-- The input shows bytes in hexadecimal, if it is known, and the text describes the record at their
+-- start.
 pub record TellsInput (tells : Telling) (input : Option (List ℕ)) (text : List ℕ) : Type 0 where
   pub bytes : List ℕ
   pub given : IfSome input (λ shown. IsHexText shown bytes)
   pub told : tells bytes text
 
--- the text is what is asked for, by what is told of each format's records
+-- The text is what is asked for, made of what is printed of each format's records.
 abbrev pub IsShown : (Format → Telling) → Asked → Option (List ℕ) → List ℕ → Type 0
 IsShown tells Names input text = text ≡ flat_map line names
 IsShown tells Help input text = text ≡ flat_map line help
 IsShown tells (Record format) input text = TellsInput (tells format) input text
 
--- the words ask for this text
+-- The words ask for this text.
 abbrev pub Asks : (Format → Telling) → List (List ℕ) → Option (List ℕ) → List ℕ → Type 0
 Asks tells words input text = (asked : Asked) × AskFor words asked × IsShown tells asked input text
 
--- the words ask for a text, and it was given to the output
+-- The words ask for a text, and it was written to the output.
 pub record IsDone (tells : Format → Telling) (words : List (List ℕ)) (input before after : Option (List ℕ)) : Type 0 where
   pub text : List ℕ
   pub asked : Asks tells words input text
   pub given : Appends before after text
 
--- the text that the words ask for was known, and was not given to the output to its end
+-- The text that the words ask for was known, and was not written to the output to its end.
 pub record IsUnfinished (tells : Format → Telling) (words : List (List ℕ)) (input before after : Option (List ℕ)) : Type 0 where
   pub text : List ℕ
   pub asked : Asks tells words input text
   pub cut : IsCutShort before after text
 
--- a record is asked for
+-- A record is asked for.
 abbrev pub IsRecord : Asked → Type 0
 IsRecord Names = ⊥
 IsRecord Help = ⊥
 IsRecord (Record format) = ⊤
 
--- the words ask for a record
+-- The words ask for a record.
 abbrev pub AsksForRecord : List (List ℕ) → Type 0
 AsksForRecord words = (f : Format) × AskFor words (Record f)
 
--- the input shows no bytes, where it is known, or it or the memory failed
+-- The input, if it is known, shows no bytes; or it or the memory failed.
 abbrev pub InputStops : Option (List ℕ) → Failure → Type 0
 InputStops input e = ((e ≡ BadText) × IfSome input IsNoHexText) ⊎ ((kind : ErrorKind) × (e ≡ Fault (Io kind)))
 
--- the input shows bytes, where it is known, and this prevents that the record that they begin with is shown
+-- The input shows bytes, if it is known, and this prevents the record at their start from being
+-- shown.
 abbrev pub RecordStops : Stopping → Option (List ℕ) → Failure → Type 0
 RecordStops stops input e = (bytes : List ℕ) × IfSome input (λ shown. IsHexText shown bytes) × stops bytes e
 
--- what prevents a text: the memory, and of a record the input, or what prevents that format's records
+-- What prevents a text: the memory; and for a record the input, or what prevents that format's
+-- records.
 abbrev pub TextStops : (Format → Stopping) → Asked → Option (List ℕ) → Failure → Type 0
 TextStops stops Names input e = e ≡ Fault (Io OutOfMemory)
 TextStops stops Help input e = e ≡ Fault (Io OutOfMemory)
 TextStops stops (Record format) input e = InputStops input e ⊎ RecordStops (stops format) input e
 
--- what prevents what the words ask for: that they are of no form, or a fault on the way
+-- What prevents what the words ask for: that they are of no form, or an error later.
 abbrev pub Stops : (Format → Stopping) → List (List ℕ) → Option (List ℕ) → Failure → Type 0
 Stops stops words input e = ((e ≡ Usage) × AreNoForm words) ⊎ ((asked : Asked) × AskFor words asked × TextStops stops asked input e)
 
--- the output failed, and was not given the text that the words ask for to its end
+-- The output failed, and was not given the text that the words ask for to its end.
 abbrev pub OutputStops : (Format → Telling) → List (List ℕ) → Option (List ℕ) → Option (List ℕ) → Option (List ℕ) → Failure → Type 0
 OutputStops tells words input before after e = (kind : ErrorKind) × (e ≡ Fault (Io kind)) × IsUnfinished tells words input before after
 
--- the run is prevented before the output is given any text, or the output fails
+-- The run is prevented before the output is given any text, or the output fails.
 abbrev pub RunEnds : (Format → Telling) → (Format → Stopping) → List (List ℕ) → Option (List ℕ) → Option (List ℕ) → Option (List ℕ) → Failure → Type 0
 RunEnds tells stops words input before after e = (Stops stops words input e × (after ≡ before)) ⊎ OutputStops tells words input before after e
 
--- the status of a run that ends so: 2 where the words are of no form, else 1
+-- The status of a run that ends with this failure: 2 if the words are of no form, and otherwise 1.
 abbrev pub status_of : Failure → ℕ
 status_of Usage = 2
 status_of BadText = 1
 status_of (Fault fault) = 1
 status_of (Refused fault field bit) = 1
 
--- the line that it is told as
+-- The line that is printed for a failure.
 abbrev pub message : Failure → List ℕ
 message Usage = line (codes "usage: formats [NAME]")
 message BadText = line (codes "error: bad hexadecimal text")
 message (Fault fault) = fault_line fault []
 message (Refused fault field bit) = fault_line fault (codes ", in " ++ (field.now ++ (codes ", at bit " ++ decimal bit)))
 
--- A run ends with 1 for this failure, by what its output held before and after it; and what `errors` took is a beginning of the line of that failure.
+-- A run ends with 1 for this failure, which fits what its output held before and after it. What
+-- `errors` took is a beginning of the line of that failure.
 pub record IsStopped (tells : Format → Telling) (stops : Format → Stopping) (words : List (List ℕ)) (input out_before out_after errors_before errors_after : Option (List ℕ)) : Type 0 where
   pub failure : Failure
   pub ends : RunEnds tells stops words input out_before out_after failure

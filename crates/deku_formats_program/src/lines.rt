@@ -4,10 +4,11 @@ use crate::places::Place;
 use std::alloc::AllocError;
 use std::fmt::Write;
 
-/// Gives a line for each number: the name of its field, a space, and the number in decimal.
+/// Adds a line for each number: the name of its field, a space, and the number in decimal.
 ///
 /// ```text
-/// show_numbers(&[("width", 32), ("height", 32)], &[608, 275], &mut text)?;   // "width 608\nheight 275\n"
+/// show_numbers(&[("width", 32), ("height", 32)], &[608, 275], &mut text)?;
+/// // "width 608\nheight 275\n"
 /// ```
 pub fn show_numbers(
     fields: &[Place],

@@ -11,13 +11,13 @@ use deku_instructions::riscv::store::Store;
 use deku_instructions::riscv::upper::Upper;
 use std::alloc::AllocError;
 
-// The fields of I behind the code, and their bits.
+// The fields of I after the code, and their bits.
 const IMMEDIATE: [Place; 4] = [("target", 5), ("function", 3), ("base", 5), ("value", 12)];
 
-// Those of U.
+// The fields of U.
 const UPPER: [Place; 2] = [("target", 5), ("value", 20)];
 
-// Those of S, and at last the number that lies in two of them.
+// The fields of S, and then the number that is stored in two of them.
 const STORE: [Place; 6] = [
     ("low", 5),
     ("function", 3),
@@ -27,7 +27,7 @@ const STORE: [Place; 6] = [
     ("offset", 12),
 ];
 
-// Those of R.
+// The fields of R.
 const REGISTER: [Place; 5] = [
     ("target", 5),
     ("function", 3),
@@ -36,7 +36,7 @@ const REGISTER: [Place; 5] = [
     ("variant", 7),
 ];
 
-// Those of B, and the number that lies in four of them.
+// The fields of B, and the number that is stored in four of them.
 const BRANCH: [Place; 8] = [
     ("top", 1),
     ("low", 4),
@@ -48,7 +48,7 @@ const BRANCH: [Place; 8] = [
     ("halves", 12),
 ];
 
-// Those of J, and the number that lies in four of them.
+// The fields of J, and the number that is stored in four of them.
 const JUMP: [Place; 6] = [
     ("target", 5),
     ("high", 8),
@@ -58,7 +58,7 @@ const JUMP: [Place; 6] = [
     ("halves", 20),
 ];
 
-/// What the code of a word asks for, as the specification names it.
+/// The meaning of a word's code, as the specification names it.
 pub fn kind_of(word: &Instruction) -> &'static str {
     match word {
         Instruction::Load(_) => "load",
@@ -75,8 +75,8 @@ pub fn kind_of(word: &Instruction) -> &'static str {
     }
 }
 
-/// Gives a line for each operand, from the low bits on, and behind the places of a number that lies
-/// apart the number.
+/// Adds a line for each operand, from the low bits on. After the parts of a number that is stored
+/// in several places, it adds the number.
 pub fn show_operands(word: &Instruction, text: &mut String) -> Result<(), AllocError> {
     match word {
         Instruction::Load(x)
@@ -111,7 +111,7 @@ fn show_upper(x: &Upper, text: &mut String) -> Result<(), AllocError> {
     show_numbers(&UPPER, &[x.target as i128, x.value as i128], text)
 }
 
-// S: bytes behind the address in the base.
+// S: bytes after the address in the base.
 fn show_store(x: &Store, text: &mut String) -> Result<(), AllocError> {
     show_numbers(
         &STORE,
@@ -142,7 +142,7 @@ fn show_register(x: &Register, text: &mut String) -> Result<(), AllocError> {
     )
 }
 
-// B: units of two bytes from the place of the word.
+// B: units of two bytes from the address of the word.
 fn show_branch(x: &Branch, text: &mut String) -> Result<(), AllocError> {
     show_numbers(
         &BRANCH,
@@ -160,7 +160,7 @@ fn show_branch(x: &Branch, text: &mut String) -> Result<(), AllocError> {
     )
 }
 
-// J: units of two bytes from the place of the word.
+// J: units of two bytes from the address of the word.
 fn show_jump(x: &Jump, text: &mut String) -> Result<(), AllocError> {
     show_numbers(
         &JUMP,

@@ -1,9 +1,9 @@
-//! The fields of records: their names, as they lie, and which of them has a bit.
+//! The fields of records: their names, in order, and which of them has a bit.
 
-/// The name of a field, and its bits.
+/// The name of a field, and how many bits it has.
 pub type Place = (&'static str, usize);
 
-/// The fields of fixed places, as they lie in the signals of a CAN data frame.
+/// The fields of fixed places, in order, in the signals of a CAN data frame.
 pub const CAN: [Place; 6] = [
     ("wheel", 12),
     ("gear", 4),
@@ -44,7 +44,7 @@ pub const DNS: [Place; 13] = [
     ("additionals", 16),
 ];
 
-/// The same in its question, behind the name.
+/// The same in its question, after the name.
 pub const QUESTION: [Place; 2] = [("kind", 16), ("class", 16)];
 
 /// The same in the file header of an ELF64 file.
@@ -103,7 +103,7 @@ pub const PNG: [Place; 11] = [
     ("crc", 32),
 ];
 
-/// The same in an instruction word, whose operands lie as its code says.
+/// The same in an instruction word. The layout of its operands depends on the code.
 pub const RISCV: [Place; 1] = [("code", 7)];
 
 /// The same in the header of a UDP datagram.
@@ -114,7 +114,7 @@ pub const UDP: [Place; 4] = [
     ("checksum", 16),
 ];
 
-/// The name of the field that has this bit; behind all of them, what stands there.
+/// The name of the field that has this bit. After all of them, the name of what follows.
 pub fn name_at(places: &[Place], bit: usize, last: &'static str) -> &'static str {
     let mut left = bit;
     for (name, bits) in places {

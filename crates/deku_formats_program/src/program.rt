@@ -34,7 +34,7 @@ use std::fmt::Write as _;
 use std::io;
 use std::io::{Cursor, ErrorKind, Read, Write};
 
-/// Why a run ends without what was asked for.
+/// Why a run ends without doing what was asked for.
 #[derive(Drop)]
 enum Failure {
     /// The arguments are not of a form that the program knows.
@@ -43,7 +43,7 @@ enum Failure {
     BadText,
     /// The input, the output or the memory failed, or the record was not written.
     Fault(DekuError),
-    /// The record was refused in this field, when so many bits were read.
+    /// Reading the record failed in this field, after this many bits.
     Refused(DekuError, &'static str, usize),
 }
 
@@ -79,12 +79,12 @@ impl From<AllocError> for Failure {
     }
 }
 
-/// What is told of the records of each format.
+/// What is printed of the records of each format.
 pub trait Told {
-    // Which text tells of the record of this format that bytes begin with.
+    // Which text describes the record of this format at the start of the bytes.
     ghost tells: { KnownFormat → Telling };
 
-    // What prevents that the record of this format that bytes begin with is shown.
+    // What prevents the record of this format at the start of the bytes from being shown.
     ghost stops: { KnownFormat → Stopping };
 }
 
@@ -134,25 +134,27 @@ formats NAME    reads hexadecimal text, prints the fields of the record that it 
 formats --help  prints this
 ";
 
-/// Runs the program on the arguments after its name, and answers its status: 0 where it is done, 1
-/// where the input, the output, the memory or the record stood in the way, and 2 where the
-/// arguments are not of a form that it knows.
+/// Runs the program on the arguments after its name. Returns its status: 0 if it succeeds; 1 if the
+/// input, the output, the memory or the record prevents it; and 2 if the arguments are not of a
+/// form that it knows.
 ///
 /// Without an argument it prints the names of the formats. With a name it reads hexadecimal text,
-/// of either case and without one newline at its end, and prints a line for each field of the
-/// record that the bytes begin with, its name and its value. Then it writes the record, and prints
-/// `same` where its bytes are those that were read, or `differs at byte` and the first of them; and
-/// at last `left` and how many bytes stand behind the record.
+/// in upper or lower case and without one newline at its end. It prints a line for each field of
+/// the record at the start of the bytes, with its name and its value. Then it writes the record,
+/// and prints `same` if its bytes are those that were read, or `differs at byte` and the index of
+/// the first that differs. Last it prints `left` and how many bytes follow the record.
 ///
-/// A run that is not done is told of in one line on `errors`: the usage with status 2, and with
-/// status 1 `error: bad hexadecimal text`, or `error: ` and the text of the fault; where a record
-/// is refused that line has the field and how many bits were read. The arguments are looked at
-/// before the input, and nothing goes to the output until all of the text is known, so it gains
-/// nothing then but what a failing output took. A fault of `errors` changes nothing.
+/// A run that does not succeed prints one line to `errors`: the usage with status 2, and with
+/// status 1 `error: bad hexadecimal text`, or `error: ` and the text of the error. If reading the
+/// record fails, that line has the field and how many bits were read. The arguments are checked
+/// before the input is read. Nothing is printed to the output until all of the text is known, so a
+/// run that does not succeed prints nothing to it except what a failing output took. An error of
+/// `errors` changes nothing.
 ///
 /// ```text
 /// udp     // on 9cbbd11f000afe1d prints source 40123, .., same and left 0; status 0
-/// udp     // on 9cbbd1 tells error: Not enough data, need 16 bits (or 2 bytes), in destination, at bit 16; status 1
+/// udp     // on 9cbbd1 prints error: Not enough data, need 16 bits (or 2 bytes), in destination,
+///         // at bit 16; status 1
 /// ```
 pub fn run<R: Read, W: Write, E: Write>(
     alloc: Global,
@@ -185,7 +187,7 @@ pub fn run<R: Read, W: Write, E: Write>(
     status_of(&failure)
 }
 
-// The status of a run that ends so.
+// The status of a run that ends with this failure.
 fn status_of(failure: &Failure) -> u8
     ensures { result ≡ status_of failure.now }
 {
@@ -195,7 +197,7 @@ fn status_of(failure: &Failure) -> u8
     }
 }
 
-// Tells of a failure in a line, of which `errors` takes a beginning where it fails.
+// Prints a failure as a line. If `errors` fails, it has taken a beginning of the line.
 fn complain<E: Write>(errors: &mut E, failure: &Failure) -> io::Result<()>
     ensures told { OnOk result (Appends (E.contents errors.old) (E.contents errors.new)
         (message failure.now)) }
@@ -213,7 +215,7 @@ fn complain<E: Write>(errors: &mut E, failure: &Failure) -> io::Result<()>
     }
 }
 
-// Gives the output the text that the words ask for.
+// Writes to the output the text that the words ask for.
 fn command<R: Read, W: Write>(
     alloc: Global,
     args: &[String],
@@ -262,7 +264,7 @@ fn text_of<R: Read>(alloc: Global, form: Asked, input: &mut R) -> Result<String,
     }
 }
 
-// The text of the record of this format that the bytes begin with.
+// The text of the record of this format at the start of the bytes.
 fn record_text(alloc: Global, format: Format, bytes: &[u8]) -> Result<String, Failure>
     ensures told { IfOk result (λ text. ⟦<Records as Told>⟧.tells format bytes.now
         (string_bytes text)) }
@@ -280,8 +282,8 @@ fn record_text(alloc: Global, format: Format, bytes: &[u8]) -> Result<String, Fa
     }
 }
 
-// The fields of the record that the bytes begin with, whether it is written as it was read, and how
-// many bytes stand behind it.
+// The fields of the record at the start of the bytes, whether it is written as it was read, and how
+// many bytes follow it.
 fn shown<T: Symmetric<()> + Shown>(alloc: Global, bytes: &[u8]) -> Result<String, Failure>
     requires reads { T.DekuReader.accepts tt }
     requires writes { T.DekuWriter.accepts tt }
@@ -302,7 +304,7 @@ fn shown<T: Symmetric<()> + Shown>(alloc: Global, bytes: &[u8]) -> Result<String
     Ok(text)
 }
 
-// Gives whether the bytes that were read are those that were written, and how many are left.
+// Adds whether the bytes that were read are those that were written, and how many are left.
 fn end(text: &mut String, read: &[u8], written: &[u8], left: usize) -> Result<(), AllocError>
     ensures { OnOk result (GainsVerdict read.now written.now left (string_bytes text.old)
         (string_bytes text.new)) }
@@ -314,10 +316,10 @@ fn end(text: &mut String, read: &[u8], written: &[u8], left: usize) -> Result<()
     writeln!(text, "left {left}")
 }
 
-// This refusal of the bytes, read once more for the field where it comes and for how many bits are
-// read then: a check and an unknown id are of the field that was read, a count that is none is of
-// the field that says it, and else it comes before the field is known. Where it does not come once
-// more it is told alone.
+// The failure for this error of the bytes. They are read once more, to find the field of the error
+// and how many bits are read by then. A failed check or an unknown id belongs to the field that was
+// read. A head without a count belongs to the field of the count. Any other error comes before its
+// field is known. If the error does not occur again, it is printed alone.
 fn refused<T: DekuReader<()> + Shown>(alloc: Global, bytes: &[u8], refusal: DekuError) -> Failure
     requires { T.accepts tt }
     ensures { (result ≡ Fault refusal) ⊎ IsRefused (T.meaning tt) bytes.now result }
@@ -330,7 +332,7 @@ fn refused<T: DekuReader<()> + Shown>(alloc: Global, bytes: &[u8], refusal: Deku
     Failure::Refused(fault, field_of::<T>(fault, bits), bits)
 }
 
-// The field of a refusal that comes when so many bits are read.
+// The field of an error that occurs after this many bits.
 fn field_of<T: Shown>(fault: DekuError, bits: usize) -> &'static str {
     match fault {
         DekuError::Assertion(_) | DekuError::IdVariantNotFound => {

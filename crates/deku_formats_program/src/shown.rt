@@ -20,14 +20,14 @@ use std::fmt::Write;
 
 /// A record that is shown field by field.
 pub trait Shown {
-    /// Gives a line for each field: its name, and its value.
+    /// Adds a line for each field: its name, and its value.
     fn show(&self, text: &mut String) -> Result<(), AllocError>;
 
-    /// The name of the field that has this bit of the record; after the fields of fixed places, the
-    /// name of what they lead.
+    /// The name of the field that has this bit of the record. After the fields of fixed places, the
+    /// name of what follows them.
     fn field_at(bit: usize) -> &'static str;
 
-    /// The name of the field that says how many items follow it, where there is one.
+    /// The name of the field that says how many items follow it, if there is one.
     fn counting() -> Option<&'static str> {
         None
     }
@@ -128,8 +128,8 @@ fn show_header(header: &Header, text: &mut String) -> Result<(), AllocError> {
     )
 }
 
-// The line of a name: a point behind each label but the empty one, and a point alone where there is
-// no other.
+// The line of a name: a point after each label except the empty one, or only a point if there is no
+// other.
 fn show_name(labels: &[Label], text: &mut String) -> Result<(), AllocError> {
     write!(text, "name ")?;
     if labels.len() < 2 {
@@ -141,8 +141,8 @@ fn show_name(labels: &[Label], text: &mut String) -> Result<(), AllocError> {
     writeln!(text)
 }
 
-// A label and its point: letters, digits and hyphens as they are, and another byte as three digits
-// behind a backslash.
+// A label and its point. Letters, digits and hyphens are printed as they are, and any other byte as
+// three digits after a backslash.
 fn show_label(bytes: &[u8], text: &mut String) -> Result<(), AllocError> {
     for byte in bytes {
         if byte.is_ascii_alphanumeric() || *byte == b'-' {
@@ -172,7 +172,7 @@ impl Shown for Elf {
     }
 }
 
-// The lines of the fields behind the endian.
+// The lines of the fields after the endian.
 fn show_fields(fields: &Fields, text: &mut String) -> Result<(), AllocError> {
     show_numbers(
         &ELF[3..6],

@@ -31,13 +31,13 @@ pub enum Format {
 pub enum Asked {
     /// The names of the formats.
     Names,
-    /// How the program is used.
+    /// How to use the program.
     Help,
     /// A record of this format.
     Record(Format),
 }
 
-/// The format of this name; none where there is no such.
+/// The format with this name. `None` if there is no such format.
 pub fn format_named(name: &str) -> Option<Format>
     ensures { MatchOption result ((f : KnownFormat) → name.now ≡ name_of f → ⊥)
         (λ f. name.now ≡ name_of f) }
@@ -55,7 +55,7 @@ pub fn format_named(name: &str) -> Option<Format>
     }
 }
 
-/// What the words ask for; none where they are of no form that the program knows.
+/// What the words ask for. `None` if they are not of a form that the program knows.
 pub fn parse_words(words: &[String]) -> Option<Asked>
     ensures { MatchOption result (AreNoForm (words_of words.now)) (AskFor (words_of words.now)) }
 {

@@ -1,5 +1,5 @@
--- That frames are symmetric, made of the laws of their parts. It stands here, and not among the proofs, since the law of an implementation may cite nothing else of
--- its own crate.
+-- Frames are symmetric, by the laws of their parts. This is here, and not among the proofs, since
+-- the law of an implementation may use nothing else of its own crate.
 use Rattle.std.proofs.Common.{◌≡◌, ℕ, false, List, Option, Some, Ok, refl, ap, ap₂, sym, ◌∙◌, subst, pos}
 use Rattle.std.specs.Global.{Vec}
 use Rattle.deku_bits.specs.Streams.{Stream}
@@ -22,15 +22,15 @@ use Rattle.deku_frame.specs.declared.frame.Frame.TheVariants.{Ping, Data, Pair}
 use Rattle.deku_frame.specs.Frames.{head_of, OfHead, OfBody, OfFrame, SameFrame, ReadsHead, ReadsPayload, ReadsBody, OtherVersion, OtherId, IsPing, IsData, IsPair, ReadsFrame, WritesHead, WritesBody, WritesFrame, IsInStep}
 
 -- ---- the parts
--- the same bytes, wherever they lie
+-- The same bytes, wherever they are in memory.
 abbrev SameBytes : Vec ℕ → Vec ℕ → Type 0
 SameBytes v w = SameEach (λ x y. x ≡ y) v.items w.items
 
--- bytes are written, one by one
+-- Bytes are written, one by one.
 abbrev WritesBytes : Vec ℕ → Meaning Output (Unit {0})
 WritesBytes v = WritesEach (λ b. WritesNumber byte (high_first Whole) (pos b)) v.items
 
--- the pieces of so many bytes
+-- The pieces of n bytes.
 abbrev OfBytes : ℕ → Vec ℕ → List Piece → Type 0
 OfBytes n v = OfTimes n (OfUnsigned byte (high_first Whole)) v.items
 
@@ -40,16 +40,16 @@ payload_symmetric n = holder_symmetric (λ v. v.items) _ _ _ _ (counted_symmetri
 head_symmetric : IsSymmetric OfHead (λ g h. (g.0 ≡ h.0) × (g.1 ≡ h.1)) WritesHead ReadsHead
 head_symmetric = pair_symmetric (unsigned_symmetric byte (high_first (Bits 4))) (unsigned_symmetric byte (high_first (Bits 4)))
 
--- ---- a length and so many bytes
--- a length, and bytes
+-- ---- a length and as many bytes
+-- A length, and bytes.
 abbrev Sized : Type 0
 Sized = ℕ × Vec ℕ
 
--- the same length and the same bytes
+-- The same length and the same bytes.
 abbrev SameSized : Sized → Sized → Type 0
 SameSized p q = (p.0 ≡ q.0) × SameBytes p.1 q.1
 
--- the pieces of bytes under their length; under another length they have none
+-- The pieces of bytes under their length. Under another length they have none.
 abbrev Under : ℕ → Sized → List Piece → Type 0
 Under n p ps = (p.0 ≡ n) × OfBytes p.0 p.1 ps
 
@@ -69,7 +69,7 @@ sized_symmetric : IsSymmetric (λ p. InTurn (OfUnsigned byte (high_first Whole) 
 sized_symmetric = chosen_symmetric (λ p. p.0) _ _ _ _ (λ v w e. e) (unsigned_symmetric byte (high_first Whole)) (λ p. OfBytes p.0 p.1) SameSized (λ p. WritesBytes p.1) _ bytes_symmetric
 
 -- ---- the variants
--- a frame of a variant, and the pieces of its fields
+-- A frame of a variant, and the pieces of its fields.
 abbrev Named : {V : Type 0} → (V → Frame) → (V → List Piece → Type 0) → Frame → List Piece → Type 0
 Named {V} f P x ps = (v : V) × (f v ≡ x) × P v ps
 
@@ -89,8 +89,8 @@ halves_symmetric : IsSymmetric (λ p. InTurn (OfUnsigned byte (high_first (Bits 
     (PairOf (ReadsUnsigned byte (high_first (Bits 5))) (ReadsUnsigned (unsigned 16) (high_first (Bits 11))))
 halves_symmetric = pair_symmetric (unsigned_symmetric byte (high_first (Bits 5))) (unsigned_symmetric (unsigned 16) (high_first (Bits 11)))
 
--- ---- behind the id and the version
--- the pieces of a frame's fields under its own id and version; under others it has none
+-- ---- after the id and the version
+-- The pieces of a frame's fields under its own id and version. Under others it has none.
 abbrev OfBodyUnder : ℕ × ℕ → Frame → List Piece → Type 0
 OfBodyUnder h x ps = (head_of x ≡ h) × OfBody x ps
 

@@ -22,31 +22,32 @@ use deku_symmetry::Symmetric;
 
 pub mod laws;
 
-/// A frame: four bits of an id, four of a version, which is 1, and the fields that the id names.
-/// All lie big, with their high bits first.
+/// A frame: four bits of an id, four of a version, which is 1, and the fields of that id. All are
+/// big, with their high bits first.
 ///
-/// What `to_bytes` and `from_bytes` promise of a frame beyond their own clauses, whose bodies stand
-/// in the traits, is said by [`laws`], which speak of those clauses: the bytes of a frame are what
-/// its pieces lay out, and from them, whatever follows, comes the frame again; bytes that are read
-/// as a frame begin with its own.
+/// The clauses of `to_bytes` and `from_bytes` are those of their traits. What they mean for a frame
+/// is stated by [`laws`]. The bytes of a frame are what its pieces lay out. From these bytes,
+/// whatever follows, the frame is read again. Bytes that are read as a frame begin with the frame's
+/// own.
 ///
 /// ```text
 /// let frame = Frame::pair(5, 0x2A7)?;
-/// frame.to_bytes(alloc)?                                      // 31 2A A7
-/// let ((rest, bits), again) = Frame::from_bytes(alloc, (&[0x31, 0x2A, 0xA7, 0x99], 0))?;     // the frame; 99 is left, at bit 0
+/// frame.to_bytes(alloc)? // 31 2A A7
+/// let ((rest, bits), again) = Frame::from_bytes(alloc, (&[0x31, 0x2A, 0xA7, 0x99], 0))?;
+/// // the frame; 99 is left, at bit 0
 /// ```
 #[derive(Debug, PartialEq, Eq, Drop)]
 pub enum Frame {
     /// Id 1: sixteen bits.
     Ping { token: u16 },
-    /// Id 2: a byte that counts those behind it.
+    /// Id 2: a byte that counts the bytes after it.
     Data { length: u8, payload: Vec<u8> },
     /// Id 3: five bits and eleven.
     Pair { left: u8, right: u16 },
 }
 
 impl Frame {
-    /// A frame of a token. It lies as pieces, as each frame that a constructor answers.
+    /// A frame of a token. It has pieces, as each frame that a constructor returns.
     ///
     /// ```text
     /// Frame::ping(0xBEEF).to_bytes(alloc)?                        // 11 BE EF
@@ -58,7 +59,7 @@ impl Frame {
         Frame::Ping { token }
     }
 
-    /// A frame of these bytes, with their count. More than 255 are refused with
+    /// A frame of these bytes, with their count. More than 255 bytes fail with
     /// `Parse("error parsing int")`.
     ///
     /// ```text
@@ -75,7 +76,7 @@ impl Frame {
         Ok(Frame::Data { length, payload })
     }
 
-    /// A frame of two numbers. A left one from 32 on, or a right one from 2048 on, is refused with
+    /// A frame of two numbers. If `left` is 32 or more, or `right` is 2048 or more, it fails with
     /// `InvalidParam("bit size of input is larger than requested size")`.
     ///
     /// ```text
@@ -107,7 +108,7 @@ impl Frame {
     }
 }
 
-// How many bytes there are, which are below 256 each. More than 255 are refused.
+// How many bytes there are. More than 255 fail. Each byte is below 256.
 fn length_of(bytes: &[u8]) -> Result<u8, DekuError>
     ensures ok { IfOk result (λ n. (count bytes.now < 2 ^ 8) × (n ≡ count bytes.now)) }
     ensures err { IfErr result (λ e. (2 ^ 8 ≤ count bytes.now)
@@ -127,7 +128,7 @@ fn read_ping<R: Source>(reader: &mut Reader<R>) -> Result<Frame, DekuError>
     Ok(Frame::Ping { token })
 }
 
-// Reads a length and so many bytes.
+// Reads a length and this many bytes.
 fn read_sized<R: Source>(reader: &mut Reader<R>) -> Result<(u8, Vec<u8>), DekuError>
     ensures reads { Reads R.known ReadsSized reader.old result reader.new }
     ensures early { OnOk result (NoReadAhead R.known reader.old reader.new) }
@@ -140,7 +141,7 @@ fn read_sized<R: Source>(reader: &mut Reader<R>) -> Result<(u8, Vec<u8>), DekuEr
     Ok((length, payload))
 }
 
-// Reads a length and so many bytes, as a frame.
+// Reads a length and this many bytes, as a frame.
 fn read_data<R: Source>(reader: &mut Reader<R>) -> Result<Frame, DekuError>
     ensures reads { Reads R.known ReadsData reader.old result reader.new }
     ensures early { OnOk result (NoReadAhead R.known reader.old reader.new) }
@@ -168,7 +169,7 @@ fn read_pair<R: Source>(reader: &mut Reader<R>) -> Result<Frame, DekuError>
     Ok(Frame::Pair { left, right })
 }
 
-// Reads what is behind an id and a version.
+// Reads the fields after an id and a version.
 fn read_body<R: Source>(reader: &mut Reader<R>, id: u8, version: u8) -> Result<Frame, DekuError>
     ensures reads { Reads R.known (ReadsBody (id, version)) reader.old result reader.new }
     ensures early { OnOk result (NoReadAhead R.known reader.old reader.new) }
@@ -184,7 +185,7 @@ fn read_body<R: Source>(reader: &mut Reader<R>, id: u8, version: u8) -> Result<F
     }
 }
 
-// Writes the fields behind the id and the version.
+// Writes the fields after the id and the version.
 fn write_body<W: Sink>(frame: &Frame, writer: &mut Writer<W>) -> Result<(), DekuError>
     ensures { Writes W.known (WritesBody frame.now) writer.old result writer.new }
 {
@@ -201,11 +202,11 @@ fn write_body<W: Sink>(frame: &Frame, writer: &mut Writer<W>) -> Result<(), Deku
     }
 }
 
-/// The id and the version are read, and then the fields of the id.
+/// Reads the id and the version, and then the fields of the id.
 ///
-/// A version other than 1 is refused with `Assertion("Field failed assertion")`, and then an id
-/// other than 1, 2 and 3 with `IdVariantNotFound`; the reader stays behind the eight bits. Else the
-/// refusal is that of the first field that is refused.
+/// A version other than 1 fails with `Assertion("Field failed assertion")`, and then an id other
+/// than 1, 2 and 3 with `IdVariantNotFound`; the reader is then after the eight bits. Otherwise it
+/// fails as the first field that fails.
 impl DekuReader<()> for Frame {
     ghost meaning = { λ _. ReadsFrame };
 
@@ -218,11 +219,11 @@ impl DekuReader<()> for Frame {
     }
 }
 
-/// The id, the version and the fields.
+/// Writes the id, the version and the fields.
 ///
-/// A length that is not that of the payload is refused with `Assertion("Field failed assertion")`,
-/// and nothing moves. Else the refusal is that of the first field that does not fit, and what the
-/// fields before it moved stays moved.
+/// A length that is not that of the payload fails with `Assertion("Field failed assertion")`, and
+/// nothing moves. Otherwise it fails as the first field that fails, and what was written before
+/// stays written.
 impl DekuWriter<()> for Frame {
     ghost meaning = { λ f _. WritesFrame f };
 
@@ -235,7 +236,7 @@ impl DekuWriter<()> for Frame {
     }
 }
 
-// Whether the length is that of the payload, where there is one.
+// Whether the length is that of the payload, if there is one.
 fn in_step(frame: &Frame) -> bool
     ensures { MatchBool result (IsInStep frame.now) (IsInStep frame.now → ⊥) }
 {
@@ -249,8 +250,8 @@ impl DekuContainerRead for Frame {}
 
 impl DekuContainerWrite for Frame {}
 
-/// The pieces of the id, the version and the fields; a length that is not that of the payload has
-/// none.
+/// The pieces of the id, the version and the fields. A frame has none if its length is not that of
+/// the payload.
 impl Symmetric<()> for Frame {
     ghost pieces = { λ f _. OfFrame f };
 
@@ -259,8 +260,8 @@ impl Symmetric<()> for Frame {
     ghost symmetric = { λ _. frame_symmetric };
 }
 
-/// The length is that of the payload. It is refused with `Parse("error parsing int")` where a byte
-/// cannot count so many, and nothing changes. Frames without a payload stay as they are.
+/// Sets the length to that of the payload. It fails with `Parse("error parsing int")` if a byte
+/// cannot count that many bytes, and nothing changes. Frames without a payload stay as they are.
 impl DekuUpdate for Frame {
     ghost updates = { Updates };
 
@@ -272,7 +273,7 @@ impl DekuUpdate for Frame {
     }
 }
 
-/// A ping is 1, data 2, a pair 3.
+/// 1 for a ping, 2 for data, 3 for a pair.
 impl DekuEnumExt<u8> for Frame {
     ghost has_id = { λ f r. r ≡ Ok (id_of f) };
 

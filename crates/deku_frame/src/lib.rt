@@ -1,5 +1,5 @@
-//! A frame: an id and a version of four bits each, and behind them the fields that the id names.
-//! The pattern of a codec by hand with an enum in it.
+//! A frame: an id and a version of four bits each, and the fields of that id after them. It shows
+//! how to write a codec by hand with an enum in it.
 #![tactic(auto)]
 
 pub mod frame;

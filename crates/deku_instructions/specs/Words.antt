@@ -1,4 +1,5 @@
--- Which parts a word has: its code chooses one of eleven kinds, behind the first three in two tails with names of their own.
+-- The parts of a word: its code chooses one of eleven kinds. Those after the first three are in two
+-- types with names of their own.
 use Rattle.std.specs.Prelude.{◌≡◌, ℕ, List, refl}
 use Rattle.deku_bits.specs.Pieces.{Piece}
 use Rattle.deku_pieces.specs.Choices.{UnderId, OfChoice, id_chosen}
@@ -18,27 +19,27 @@ use Rattle.deku_symmetry.specs.declared.choice.Only.{Only}
 use Rattle.deku_symmetry.specs.declared.choice.Tagged.{Tagged}
 use Rattle.deku_symmetry.specs.declared.choice.Tagged.TheVariants as tagged
 
--- transfers of control, by their codes
+-- Transfers of control, by their codes.
 abbrev pub ControlTransfers : Type 0
 ControlTransfers = Choice Branch (Choice Immediate (Choice Jump (Only Immediate 0x73) 0x6F) 0x67) 0x63
 
--- computations or transfers of control, by their codes
+-- Computations or transfers of control, by their codes.
 abbrev pub Computations : Type 0
 Computations = Choice Immediate (Choice Upper (Choice Register (Choice Upper Transfer 0x37) 0x33) 0x17) 0x13
 
--- the code, and what lies under it
+-- The code, and the operands of it.
 abbrev pub InWord : Type 0
 InWord = Tagged Immediate (Choice Immediate (Choice Store Computation 0x23) 0x0F) 0x03 7 1
 
--- the parts of a word whose code is that of a computation, or of a transfer behind them
+-- The parts of a word whose code is that of a computation, or of a transfer of control.
 abbrev pub computation_parts : Computations → InWord
 computation_parts c = tagged.Other (Other (Other (record { 0 = c })))
 
--- the parts of a word whose code is that of a transfer
+-- The parts of a word whose code is that of a transfer of control.
 abbrev pub transfer_parts : ControlTransfers → InWord
 transfer_parts c = computation_parts (Other (Other (Other (Other (record { 0 = c })))))
 
--- the parts of a word
+-- The parts of a word.
 abbrev pub parts_of_word : Instruction → InWord
 parts_of_word (word.Load x) = tagged.This x
 parts_of_word (word.Fence x) = tagged.Other (This x)
@@ -52,14 +53,14 @@ parts_of_word (word.JumpRegister x) = transfer_parts (Other (This x))
 parts_of_word (word.Jump x) = transfer_parts (Other (Other (This x)))
 parts_of_word (word.System x) = transfer_parts (Other (Other (Other (record { 0 = x }))))
 
--- the word of a transfer
+-- The word of a transfer of control.
 abbrev pub word_of_transfer : ControlTransfers → Instruction
 word_of_transfer (This x) = word.Branch x
 word_of_transfer (Other (This x)) = word.JumpRegister x
 word_of_transfer (Other (Other (This x))) = word.Jump x
 word_of_transfer (Other (Other (Other x))) = word.System x.0
 
--- the word of a computation, or of a transfer behind them
+-- The word of a computation, or of a transfer of control.
 abbrev pub word_of_computation : Computations → Instruction
 word_of_computation (This x) = word.OperateImmediate x
 word_of_computation (Other (This x)) = word.AddUpper x
@@ -67,21 +68,21 @@ word_of_computation (Other (Other (This x))) = word.Operate x
 word_of_computation (Other (Other (Other (This x)))) = word.LoadUpper x
 word_of_computation (Other (Other (Other (Other x)))) = word_of_transfer x.0
 
--- the word of its parts
+-- The word that parts make.
 abbrev pub word_of_parts : InWord → Instruction
 word_of_parts (tagged.This x) = word.Load x
 word_of_parts (tagged.Other (This x)) = word.Fence x
 word_of_parts (tagged.Other (Other (This x))) = word.Store x
 word_of_parts (tagged.Other (Other (Other x))) = word_of_computation x.0
 
--- the parts of a transfer's word are those of the transfer
+-- The parts of a transfer's word are those of the transfer.
 transfers_back : (c : ControlTransfers) → parts_of_word (word_of_transfer c) ≡ transfer_parts c
 transfers_back (This x) = refl
 transfers_back (Other (This x)) = refl
 transfers_back (Other (Other (This x))) = refl
 transfers_back (Other (Other (Other x))) = refl
 
--- the parts of a computation's word are those of the computation
+-- The parts of a computation's word are those of the computation.
 computations_back : (c : Computations) → parts_of_word (word_of_computation c) ≡ computation_parts c
 computations_back (This x) = refl
 computations_back (Other (This x)) = refl
@@ -89,14 +90,14 @@ computations_back (Other (Other (This x))) = refl
 computations_back (Other (Other (Other (This x)))) = refl
 computations_back (Other (Other (Other (Other x)))) = transfers_back x.0
 
--- parts are those of their word
+-- The parts of the word that parts make are these parts.
 pub parts_back : (p : InWord) → parts_of_word (word_of_parts p) ≡ p
 parts_back (tagged.This x) = refl
 parts_back (tagged.Other (This x)) = refl
 parts_back (tagged.Other (Other (This x))) = refl
 parts_back (tagged.Other (Other (Other x))) = computations_back x.0
 
--- a transfer that has pieces under an id has this id
+-- A transfer that has pieces under an id has this id.
 pub transfers_own : (id : ℕ) (B : Branch → List Piece → Type 0) (I : Immediate → List Piece → Type 0) (J : Jump → List Piece → Type 0) (c : ControlTransfers) (ps : List Piece)
     → OfChoice 0x63 id B (λ w. OfChoice 0x67 id I (λ w. OfChoice 0x6F id J (λ w. UnderId 0x73 id (I w.0)) w) w) c ps
     → id ≡ id_chosen 0x63 (id_chosen 0x67 (id_chosen 0x6F (λ w. 0x73))) c
@@ -105,7 +106,7 @@ transfers_own id B I J (Other (This x)) ps p = p.1.0
 transfers_own id B I J (Other (Other (This x))) ps p = p.1.1.0
 transfers_own id B I J (Other (Other (Other x))) ps p = p.1.1.1.0
 
--- a computation that has pieces under an id has this id
+-- A computation that has pieces under an id has this id.
 pub computations_own : (id : ℕ) (I : Immediate → List Piece → Type 0) (U : Upper → List Piece → Type 0) (R : Register → List Piece → Type 0) (G : Transfer → List Piece → Type 0) (id_of : Transfer → ℕ)
     → ((g : Transfer) (ps : List Piece) → G g ps → id ≡ id_of g) → (c : Computations) (ps : List Piece)
     → OfChoice 0x13 id I (λ w. OfChoice 0x17 id U (λ w. OfChoice 0x33 id R (λ w. OfChoice 0x37 id U G w) w) w) c ps

@@ -1,6 +1,6 @@
-//! Instruction words of the RISC-V base set RV32I, as chapter 2 of the unprivileged specification
-//! has them: 32 bits, the low byte first, of which the lowest seven are a code that chooses among
-//! six ways to lay the operands. A number that an instruction holds may lie in several places of
+//! Instruction words of the RISC-V base set RV32I, as in chapter 2 of the unprivileged
+//! specification: 32 bits, the low byte first. The lowest seven bits are a code, which chooses one
+//! of six layouts of the operands. A number of an instruction may be stored in several places of
 //! the word.
 //!
 //! ```text

@@ -1,4 +1,4 @@
-//! Contexts: how a number lies in a stream, and where a list ends.
+//! Contexts: how a number is laid out in a stream, and where a list ends.
 
 ghost use Rattle.std.specs.Prelude.{◌≡◌, Bool, ⊤, false};
 ghost use Rattle.std.specs.Fn.{CalledAt};
@@ -8,36 +8,36 @@ pub use deku_num::ctx::{
 };
 use std::marker::PhantomData;
 
-/// So many bytes, which are read at once, as the context of a vector of bytes.
+/// The context of a vector of bytes: this many bytes, which are read at once.
 #[derive(Drop)]
 pub struct ReadExact(pub usize);
 
-/// What is asked about each item of a list, one after the other. It may change its own state.
+/// A question about each item of a list, one after the other. A predicate may change its own state.
 ///
-/// Each closure `FnMut(&T) -> bool` that may be called on every item is one.
+/// Each closure `FnMut(&T) -> bool` that may be called on every item is a predicate.
 ///
 /// ```text
-/// let zero = Limit::new_until(|byte: &u8| *byte == 0);           // its predicate is true of a zero
+/// let zero = Limit::new_until(|byte: &u8| *byte == 0);          // its predicate is true of a zero
 /// ```
 pub trait Predicate<T>: Drop {
-    // It may be asked about every item.
+    // The predicate may be asked about every item.
     ghost asks_all: { Self → Type 0 };
 
-    // What it answers about an item, and what it is then.
+    // What the predicate returns for an item, and what it is afterwards.
     ghost answers: { Self → T → Bool → Self → Type 0 };
 
-    // It was let go as this.
+    // The predicate was dropped in this state.
     ghost ended: { Self → Type 0 };
 
-    /// Whether it is true of the item.
+    /// Whether the predicate is true of the item.
     ///
-    /// The caller's condition: it may be asked about every item; so it may then, too.
+    /// The caller's condition: it may be asked about every item. The same holds after the call.
     fn test(&mut self, item: &T) -> bool
         requires { asks_all self.old }
         ensures answered { answers self.old item.now result self.new }
         ensures again { asks_all self.new };
 
-    /// Lets it go, behind the last item that it was asked about.
+    /// Drops the predicate, after the last item that it was asked about.
     fn finish(self)
     where
         Self: Sized,
@@ -62,7 +62,7 @@ impl<T, P: FnMut(&T) -> bool + Drop> Predicate<T> for P {
 #[derive(Clone, Copy)]
 pub struct Never;
 
-/// It is true of no item.
+/// True of no item.
 impl<T> Predicate<T> for Never {
     ghost asks_all = { λ _. ⊤ };
 
@@ -80,26 +80,26 @@ impl<T> Predicate<T> for Never {
 /// Where a list of items ends.
 #[derive_where(Clone, Copy; P)]
 pub enum Limit<T, P: Predicate<T>> {
-    /// Behind so many items.
+    /// After this many items.
     Count(usize),
-    /// Behind the first item of which the predicate is true.
+    /// After the first item of which the predicate is true.
     Until(P, PhantomData<T>),
-    /// Behind the item with which exactly so many bytes are read; items that step over that are
-    /// read on.
+    /// After the item with which exactly this many bytes are read. If an item goes past that,
+    /// reading continues.
     ByteSize(ByteSize),
-    /// Behind the item with which exactly so many bits are read; items that step over that are read
-    /// on.
+    /// After the item with which exactly this many bits are read. If an item goes past that,
+    /// reading continues.
     BitSize(BitSize),
-    /// Where the stream ends.
+    /// At the end of the stream.
     End,
 }
 
 impl<T, P: FnMut(&T) -> bool + Drop> Limit<T, P> {
-    /// Behind the first item of which the predicate is true. It is asked about each item once, in
-    /// order.
+    /// The list ends after the first item of which the predicate is true. The predicate is asked
+    /// about each item once, in order.
     ///
     /// ```text
-    /// let limit = Limit::new_until(|byte: &u8| *byte == 0);      // up to the first zero, and with it
+    /// let limit = Limit::new_until(|byte: &u8| *byte == 0);  // up to and including the first zero
     /// ```
     pub fn new_until(predicate: P) -> Self
         ensures { result ≡ Limit.Until predicate (record {}) }
@@ -109,7 +109,7 @@ impl<T, P: FnMut(&T) -> bool + Drop> Limit<T, P> {
 }
 
 impl<T> Limit<T, Never> {
-    /// Behind so many items.
+    /// The list ends after this many items.
     ///
     /// ```text
     /// let limit = Limit::<u16, Never>::new_count(3);             // three numbers
@@ -120,8 +120,8 @@ impl<T> Limit<T, Never> {
         Limit::Count(count)
     }
 
-    /// Behind the item with which exactly so many bits are read; items that step over that are read
-    /// on. Nothing is read for 0 bits.
+    /// The list ends after the item with which exactly this many bits are read. If an item goes
+    /// past that, reading continues. Nothing is read for 0 bits.
     ///
     /// ```text
     /// let limit = Limit::<u8, Never>::new_bit_size(BitSize(16)); // two bytes
@@ -132,8 +132,8 @@ impl<T> Limit<T, Never> {
         Limit::BitSize(size)
     }
 
-    /// Behind the item with which exactly so many bytes are read; items that step over that are
-    /// read on. Nothing is read for 0 bytes.
+    /// The list ends after the item with which exactly this many bytes are read. If an item goes
+    /// past that, reading continues. Nothing is read for 0 bytes.
     ///
     /// ```text
     /// let limit = Limit::<u16, Never>::new_byte_size(ByteSize(4)); // two numbers
@@ -144,7 +144,7 @@ impl<T> Limit<T, Never> {
         Limit::ByteSize(size)
     }
 
-    /// Where the stream ends.
+    /// The list ends at the end of the stream.
     ///
     /// ```text
     /// let limit = Limit::<u8, Never>::end();                     // all bytes that are left

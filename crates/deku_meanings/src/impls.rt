@@ -1,4 +1,4 @@
-//! Collections that items are put into.
+//! Collections into which items are put.
 
 pub mod gather;
 mod hashmap;

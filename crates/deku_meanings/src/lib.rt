@@ -1,5 +1,5 @@
 //! What reading and writing share: contexts, how the meanings of items make those of composites,
-//! and collections that items are put into.
+//! and collections into which items are put.
 #![tactic(auto)]
 
 pub mod ctx;

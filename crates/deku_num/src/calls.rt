@@ -1,4 +1,4 @@
-//! Numbers that are read from a reader and written to a writer.
+//! Reading numbers from a reader, and writing them to a writer.
 
 ghost use Rattle.std.specs.Prelude.{◌≡◌, ◌<◌, ◌≤◌, ◌%◌, ◌^◌, Bool, true, false, List, length, codes, pos, Ok, OnOk, IfOk, IfErr, IfSome, IsNone};
 ghost use Rattle.deku_bits.specs.declared.error.DekuError.TheVariants.{Parse, InvalidParam};
@@ -21,17 +21,17 @@ use deku_bits::writer::Writer;
 
 /// Reads a number of an unsigned type of at most 128 bits.
 ///
-/// It is refused, in this order,
+/// The caller's conditions: the type is unsigned, and has at most 128 bits.
 ///
-/// - with `Parse("too much data")` where the size is beyond the type; nothing changes, also where
-///   the reader has stopped;
-/// - as `Reader::read_bits_into` refuses to read the bits of the field, and what is left then is
-///   said there.
+/// It fails, in this order,
 ///
-/// The caller's conditions: the type has no sign, and at most 128 bits.
+/// - with `Parse("too much data")` if the size is beyond the type; nothing changes, even if the
+///   reader has stopped;
+/// - as `Reader::read_bits_into` fails to read the bits of the field; it also says what is left
+///   then.
 ///
 /// ```text
-/// read_unsigned(&mut reader, u16_type, layout)?              // 0xABCD, of the bytes AB CD under a big layout
+/// read_unsigned(&mut reader, u16_type, layout)?              // 0xABCD, of AB CD, big
 /// ```
 #[inline(always)]
 pub fn read_unsigned<R: Source>(
@@ -57,19 +57,19 @@ pub fn read_unsigned<R: Source>(
 
 /// Reads a number of a signed type of at most 128 bits.
 ///
-/// It is refused, in this order,
+/// The caller's conditions: the type is signed, and has at most 128 bits.
 ///
-/// - with `Parse("too much data")` where the size is beyond the type; nothing changes, also where
-///   the reader has stopped;
-/// - with `InvalidParam("signed big Lsb0 field of this width")` where the field is big and `Lsb0`,
-///   of more than eight bits and no whole bytes; nothing changes;
-/// - as `Reader::read_bits_into` refuses to read the bits of the field, and what is left then is
-///   said there.
+/// It fails, in this order,
 ///
-/// The caller's conditions: the type has a sign, and at most 128 bits.
+/// - with `Parse("too much data")` if the size is beyond the type; nothing changes, even if the
+///   reader has stopped;
+/// - with `InvalidParam("signed big Lsb0 field of this width")` if the field is big and `Lsb0`, and
+///   has more than eight bits that are not whole bytes; nothing changes;
+/// - as `Reader::read_bits_into` fails to read the bits of the field; it also says what is left
+///   then.
 ///
 /// ```text
-/// read_signed(&mut reader, i8_type, layout)?                 // -3, of the bits 1, 0, 1 under a layout of three
+/// read_signed(&mut reader, i8_type, layout)?                 // -3, of the three bits 1, 0, 1
 /// ```
 #[inline(always)]
 pub fn read_signed<R: Source>(
@@ -96,8 +96,8 @@ pub fn read_signed<R: Source>(
     Ok(sign_extend(number, width))
 }
 
-// The number of so many bits that go from the highest down, where the layout is big and they are at
-// hand. It answers none else, and then nothing moves.
+// The number of this many bits, with the high bits first, if the layout is big and the bits are in
+// memory. Otherwise it returns `None`, and nothing moves.
 #[inline(always)]
 fn number_at_hand<R: Source>(reader: &mut Reader<R>, layout: Layout, width: usize) -> Option<u64>
     ensures big { IfSome result (λ n. layout.endian ≡ Endian.Big) }
@@ -119,7 +119,7 @@ fn number_at_hand<R: Source>(reader: &mut Reader<R>, layout: Layout, width: usiz
     reader.try_read_msb(width)
 }
 
-// The bits of a field that is read.
+// The width in bits of a field that is read.
 #[inline(always)]
 fn readable_width(number_type: NumberType, layout: Layout) -> Result<usize, DekuError>
     ensures ok { IfOk result (λ n. (n ≡ width number_type layout) × IsAllowed number_type layout) }
@@ -133,21 +133,22 @@ fn readable_width(number_type: NumberType, layout: Layout) -> Result<usize, Deku
     }
 }
 
-/// Writes a number of an unsigned type of at most 128 bits: the list of bits that is worth it.
+/// Writes a number of an unsigned type of at most 128 bits, as the list of bits that has this
+/// value.
 ///
-/// It is refused, in this order,
+/// The caller's conditions: the type is unsigned, and has at most 128 bits.
 ///
-/// - with `InvalidParam("bit size is larger than input")`, or `"byte size .."`, where the size is
-///   beyond the type; nothing changes, also where the writer has stopped;
-/// - with `InvalidParam("bit size of input is larger than requested size")` where the number does
-///   not fit the bits; nothing changes;
-/// - as `Writer::write_bits_order` refuses to write the bits of the field, and what is left then is
-///   said there.
+/// It fails, in this order,
 ///
-/// The caller's conditions: the type has no sign, and at most 128 bits.
+/// - with `InvalidParam("bit size is larger than input")`, or `"byte size .."`, if the size is
+///   beyond the type; nothing changes, even if the writer has stopped;
+/// - with `InvalidParam("bit size of input is larger than requested size")` if the number does not
+///   fit the bits; nothing changes;
+/// - as `Writer::write_bits_order` fails to write the bits of the field; it also says what is left
+///   then.
 ///
 /// ```text
-/// write_unsigned(&mut writer, 5, u8_type, layout)?;          // the bits 1, 0, 1 under a layout of three
+/// write_unsigned(&mut writer, 5, u8_type, layout)?;          // the three bits 1, 0, 1
 /// ```
 #[inline(always)]
 pub fn write_unsigned<W: Sink>(
@@ -172,23 +173,23 @@ pub fn write_unsigned<W: Sink>(
     writer.write_word(word, width, layout.order)
 }
 
-/// Writes a number of a signed type of at most 128 bits: the list of bits that is worth it.
+/// Writes a number of a signed type of at most 128 bits, as the list of bits that has this value.
 ///
-/// It is refused, in this order,
+/// The caller's conditions: the type is signed, and has at most 128 bits.
 ///
-/// - with `InvalidParam("bit size is larger than input")`, or `"byte size .."`, where the size is
-///   beyond the type; nothing changes, also where the writer has stopped;
-/// - with `InvalidParam("signed big Lsb0 field of this width")` where the field is big and `Lsb0`,
-///   of more than eight bits and no whole bytes; nothing changes;
-/// - with `InvalidParam("bit size of input is larger than requested size")` where the number does
-///   not fit the bits; nothing changes;
-/// - as `Writer::write_bits_order` refuses to write the bits of the field, and what is left then is
-///   said there.
+/// It fails, in this order,
 ///
-/// The caller's conditions: the type has a sign, and at most 128 bits.
+/// - with `InvalidParam("bit size is larger than input")`, or `"byte size .."`, if the size is
+///   beyond the type; nothing changes, even if the writer has stopped;
+/// - with `InvalidParam("signed big Lsb0 field of this width")` if the field is big and `Lsb0`, and
+///   has more than eight bits that are not whole bytes; nothing changes;
+/// - with `InvalidParam("bit size of input is larger than requested size")` if the number does not
+///   fit the bits; nothing changes;
+/// - as `Writer::write_bits_order` fails to write the bits of the field; it also says what is left
+///   then.
 ///
 /// ```text
-/// write_signed(&mut writer, -3, i8_type, layout)?;           // the bits 1, 0, 1 under a layout of three
+/// write_signed(&mut writer, -3, i8_type, layout)?;           // the three bits 1, 0, 1
 /// ```
 #[inline(always)]
 pub fn write_signed<W: Sink>(
@@ -213,7 +214,7 @@ pub fn write_signed<W: Sink>(
     writer.write_word(word, width, layout.order)
 }
 
-// The bits of a field that is written.
+// The width in bits of a field that is written.
 #[inline(always)]
 fn writable_width(number_type: NumberType, layout: Layout) -> Result<usize, DekuError>
     ensures ok { IfOk result (λ n. (n ≡ width number_type layout) × IsAllowed number_type layout) }
@@ -227,7 +228,7 @@ fn writable_width(number_type: NumberType, layout: Layout) -> Result<usize, Deku
     }
 }
 
-// The text for a size beyond the type, where a number is written.
+// The text of the error for a size beyond the type, when a number is written.
 fn size_beyond(size: Size) -> &'static str
     ensures { result.now ≡ beyond size }
 {

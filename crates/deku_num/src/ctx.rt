@@ -1,4 +1,4 @@
-//! How a whole number lies in a stream: its byte order, its bit order and its size.
+//! How a whole number is laid out in a stream: its byte order, its bit order and its size.
 
 ghost use Rattle.std.specs.Prelude.{◌≡◌, ◌↔◌, IsTrue, option_map};
 ghost use Rattle.deku_num.specs.Sizes.{within_usize};
@@ -22,7 +22,7 @@ pub enum Endian {
 }
 
 impl Endian {
-    /// Little, which is meant where no endian is given.
+    /// Little, which is used if no endian is given.
     pub fn new() -> Endian
         ensures { result ≡ Endian.Little }
     {
@@ -61,11 +61,11 @@ impl Default for Endian {
     }
 }
 
-/// The text is neither `little` nor `big`.
+/// The error for a text that is neither `little` nor `big`.
 #[derive(Debug, Clone, Copy, PartialEq, Eq)]
 pub struct ParseEndianError {}
 
-/// From `little` or `big`; any other text is refused with `ParseEndianError`.
+/// Parses `little` or `big`. Any other text fails with `ParseEndianError`.
 impl FromStr for Endian {
     type Err = ParseEndianError;
 
@@ -85,13 +85,13 @@ impl FromStr for Endian {
 pub enum Size {
     /// All bits of its type.
     Whole,
-    /// So many bits.
+    /// This many bits.
     Bits(usize),
-    /// So many bytes. For `u8` any number of bytes means one.
+    /// This many bytes. For `u8` any number of bytes means one.
     Bytes(usize),
 }
 
-/// How a number lies in a stream. It is a context too.
+/// How a number is laid out in a stream. It is a context too.
 #[derive(Debug, Clone, Copy, PartialEq, Eq)]
 pub struct Layout {
     /// The order of its groups of eight bits.
@@ -102,17 +102,17 @@ pub struct Layout {
     pub size: Size,
 }
 
-/// A number takes so many bytes, as the size of a context.
+/// The size of a context: a number takes this many bytes.
 #[derive(Debug, Clone, Copy, PartialEq, Eq, PartialOrd, Ord)]
 pub struct ByteSize(pub usize);
 
-/// A number takes so many bits, as the size of a context.
+/// The size of a context: a number takes this many bits.
 #[derive(Debug, Clone, Copy, PartialEq, Eq, PartialOrd, Ord)]
 pub struct BitSize(pub usize);
 
 impl BitSize {
-    /// The bits that each value of the type takes; none where they are not known or do not fit
-    /// `usize`.
+    /// The number of bits that each value of the type takes. `None` if it is not known or does not
+    /// fit a `usize`.
     ///
     /// ```text
     /// BitSize::of::<(u8, [u16; 3])>()                            // Some(BitSize(56))
@@ -124,13 +124,13 @@ impl BitSize {
     }
 }
 
-/// What a number is read or written under: any of its byte order, its bit order and its size.
-/// Without a byte order it is little, without a bit order `Msb0`, and without a size it takes all
-/// bits of its type.
+/// A context of a number that is read or written. It can have a byte order, a bit order and a size.
+/// Without a byte order the number is little, without a bit order `Msb0`, and without a size it
+/// takes all bits of its type.
 pub trait NumberCtx: Copy {
     ghost layout_of: { Self → Layout };
 
-    /// The layout that the context stands for.
+    /// The layout that the context means.
     ///
     /// ```text
     /// (Endian::Big, BitSize(4)).parts()                          // big, `Msb0`, four bits
@@ -200,7 +200,7 @@ impl NumberCtx for Size {
     }
 }
 
-/// Little, `Msb0`, so many bytes.
+/// Little, `Msb0`, this many bytes.
 impl NumberCtx for ByteSize {
     ghost layout_of = { λ c. record { endian = Little; order = Msb0; size = Bytes c.0 } };
 
@@ -213,7 +213,7 @@ impl NumberCtx for ByteSize {
     }
 }
 
-/// Little, `Msb0`, so many bits.
+/// Little, `Msb0`, this many bits.
 impl NumberCtx for BitSize {
     ghost layout_of = { λ c. record { endian = Little; order = Msb0; size = Bits c.0 } };
 
@@ -240,7 +240,7 @@ impl NumberCtx for (Endian, Order) {
     }
 }
 
-/// `Msb0`, so many bytes.
+/// `Msb0`, this many bytes.
 impl NumberCtx for (Endian, ByteSize) {
     ghost layout_of = { λ c. record { endian = c.0; order = Msb0; size = Bytes c.1.0 } };
 
@@ -254,7 +254,7 @@ impl NumberCtx for (Endian, ByteSize) {
     }
 }
 
-/// `Msb0`, so many bits.
+/// `Msb0`, this many bits.
 impl NumberCtx for (Endian, BitSize) {
     ghost layout_of = { λ c. record { endian = c.0; order = Msb0; size = Bits c.1.0 } };
 
@@ -268,7 +268,7 @@ impl NumberCtx for (Endian, BitSize) {
     }
 }
 
-/// Little, so many bits.
+/// Little, this many bits.
 impl NumberCtx for (BitSize, Order) {
     ghost layout_of = { λ c. record { endian = Little; order = c.1; size = Bits c.0.0 } };
 
@@ -282,7 +282,7 @@ impl NumberCtx for (BitSize, Order) {
     }
 }
 
-/// So many bits.
+/// This many bits.
 impl NumberCtx for (Endian, BitSize, Order) {
     ghost layout_of = { λ c. record { endian = c.0; order = c.2; size = Bits c.1.0 } };
 
@@ -296,7 +296,7 @@ impl NumberCtx for (Endian, BitSize, Order) {
     }
 }
 
-/// So many bytes.
+/// This many bytes.
 impl NumberCtx for (Endian, ByteSize, Order) {
     ghost layout_of = { λ c. record { endian = c.0; order = c.2; size = Bytes c.1.0 } };
 

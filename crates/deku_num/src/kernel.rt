@@ -12,19 +12,19 @@ use crate::ctx::{Endian, Layout, Order, Size};
 use crate::kernel::narrow::{narrow_number, narrow_word};
 use crate::kind::NumberType;
 
-/// Why a layout is refused for a type of numbers.
+/// Why a layout is rejected for a type of numbers.
 #[derive(Debug, Clone, Copy, PartialEq, Eq)]
 pub enum Misfit {
     /// The size is beyond the bits of the type.
     TooWide,
-    /// A signed field that is big and `Lsb0`, of more than eight bits and no whole bytes.
+    /// The field is signed, big and `Lsb0`, and has more than eight bits that are not whole bytes.
     Uneven,
 }
 
-/// The bits of a field of the type under the layout: at most those of the type.
+/// The width in bits of a field of the type under the layout: at most the bits of the type.
 ///
-/// Refused are a size beyond the type, as `TooWide`, and otherwise a signed field that is big and
-/// `Lsb0`, of more than eight bits and no whole bytes, as `Uneven`.
+/// It fails with `TooWide` if the size is beyond the type, and otherwise with `Uneven` if the field
+/// is signed, big and `Lsb0`, and has more than eight bits that are not whole bytes.
 ///
 /// ```text
 /// allowed_width(NumberType::U16, ByteSize(1).parts())                        // Ok(8)
@@ -48,7 +48,7 @@ pub fn allowed_width(number_type: NumberType, layout: Layout) -> Result<usize, M
     Ok(width)
 }
 
-// The bits of a field of the type, where the type has as many.
+// The width in bits of a field of the type, if the type has as many bits.
 #[inline(always)]
 fn width_within(number_type: NumberType, size: Size) -> Option<usize>
     ensures some { IfSome result (λ n. (n ≡ sized_width number_type size)
@@ -80,13 +80,14 @@ fn is_even_where(signed: bool, endian: Endian, order: Order, width: usize) -> bo
     }
 }
 
-/// The number of a field's bits, without a sign, from their word, as `Reader::read_word` answers
+/// The number of a field's bits, without a sign, from their word, as `Reader::read_word` returns
 /// it.
 ///
-/// The caller's conditions: there are at most 128 bits, and the word has no more.
+/// The caller's conditions: there are at most 128 bits, and the word has no more bits than the
+/// field.
 ///
 /// ```text
-/// number_of_word(0xCAB, 12, Endian::Big, Order::Msb0)                        // 0xABC, of the groups AB and C
+/// number_of_word(0xCAB, 12, Endian::Big, Order::Msb0)             // 0xABC, of the groups AB and C
 /// ```
 #[inline(always)]
 pub fn number_of_word(word: u128, width: usize, endian: Endian, order: Order) -> u128
@@ -105,8 +106,8 @@ pub fn number_of_word(word: u128, width: usize, endian: Endian, order: Order) ->
     }
 }
 
-// The number of bits, the highest first, from their word: whole bytes are turned, and the bits
-// behind them follow.
+// The number of the bits, with the high bits first, from their word: the whole bytes are reversed,
+// and the bits after them follow.
 #[inline(always)]
 fn number_of_high(word: u128, width: usize) -> u128
     requires wide { width ≤ 128 }
@@ -125,7 +126,7 @@ fn number_of_high(word: u128, width: usize) -> u128
 }
 
 /// The word of a field's bits, as `Writer::write_word` takes it, from their number without a sign.
-/// Of a number that no bits of the width have, what is answered is open.
+/// If no bits of this width have the number, the result is unspecified.
 ///
 /// The caller's condition: there are at most 128 bits.
 ///
@@ -149,8 +150,8 @@ pub fn word_of_number(number: u128, width: usize, endian: Endian, order: Order) 
     }
 }
 
-// The word of bits, the highest first, from their number: the bytes before the last bits are
-// turned, and these follow.
+// The word of the bits, with the high bits first, from their number: the bytes before the last bits
+// are reversed, and the last bits follow.
 #[inline(always)]
 fn word_of_high(number: u128, width: usize) -> u128
     requires { width ≤ 128 }
@@ -166,7 +167,7 @@ fn word_of_high(number: u128, width: usize) -> u128
     turned(number >> behind, count) + (last << (8 * count))
 }
 
-// So many bytes of a number, the other way round.
+// This many bytes of a number, in reverse order.
 #[inline(always)]
 fn turned(number: u128, count: usize) -> u128
     requires { count ≤ 16 }
@@ -180,7 +181,7 @@ fn turned(number: u128, count: usize) -> u128
     swapped >> (128 - 8 * count)
 }
 
-/// What a number of n bits is worth in two's complement.
+/// The value of a number of n bits in two's complement.
 ///
 /// The caller's conditions: there are at most 128 bits, and the number has no more.
 ///
@@ -202,7 +203,7 @@ pub fn sign_extend(number: u128, n: usize) -> i128
     with_sign(number, 1 << (n - 1))
 }
 
-// A number of n bits in two's complement, `half` being two to the power of n - 1.
+// The value of a number of n bits in two's complement. `half` is two to the power of n - 1.
 #[inline(always)]
 fn with_sign(sum: u128, half: u128) -> i128
     requires below { sum < half * 2 }
@@ -218,14 +219,14 @@ fn with_sign(sum: u128, half: u128) -> i128
     }
 }
 
-/// The word of the bits of an unsigned value, as `Writer::write_word` takes it; none where the
-/// value does not fit.
+/// The word of the bits of an unsigned value, as `Writer::write_word` takes it. `None` if the value
+/// does not fit.
 ///
-/// The caller's conditions: the type has no sign, and at most 128 bits; `allowed_width` admits the
-/// layout, and `width` is what it answers.
+/// The caller's conditions: the type is unsigned, and has at most 128 bits; `allowed_width` allows
+/// the layout, and `width` is its result.
 ///
 /// ```text
-/// unsigned_word(16, NumberType::U8, BitSize(4).parts(), 4)                   // none: 16 has five bits
+/// unsigned_word(16, NumberType::U8, BitSize(4).parts(), 4)               // None: 16 has five bits
 /// ```
 #[inline(always)]
 pub fn unsigned_word(
@@ -248,10 +249,11 @@ pub fn unsigned_word(
     Some(word_of_number(value, width, layout.endian, layout.order))
 }
 
-/// The word of the bits of a signed value, as `unsigned_word` answers it.
+/// The word of the bits of a signed value, in the form of `unsigned_word`. `None` if the value does
+/// not fit.
 ///
-/// The caller's conditions: the type has a sign, and at most 128 bits; `allowed_width` admits the
-/// layout, and `width` is what it answers.
+/// The caller's conditions: the type is signed, and has at most 128 bits; `allowed_width` allows
+/// the layout, and `width` is its result.
 ///
 /// ```text
 /// signed_word(-3, NumberType::I8, BitSize(3).parts(), 3)                     // Some(0b101)
@@ -277,7 +279,7 @@ pub fn signed_word(
     Some(word_of_number(wanted, width, layout.endian, layout.order))
 }
 
-// Whether a number is one of n bits of a field.
+// Whether a number is one that n bits of a field can have.
 #[inline(always)]
 fn is_within(value: u128, endian: Endian, order: Order, n: usize) -> bool
     requires { n ≤ 128 }
@@ -329,7 +331,7 @@ pub fn residue_of(value: i128, n: usize) -> u128
     }
 }
 
-// How far a value lies below minus one.
+// How far a value is below minus one.
 #[inline(always)]
 fn below_zero(value: i128) -> u128
     requires { value <ℤ pos 0 }
@@ -357,7 +359,7 @@ pub fn low_bits(sum: u128, n: usize) -> u128
     if n == 128 { sum } else { sum % (1 << n) }
 }
 
-// Two to the power of n, where it is a number of 64 bits.
+// Two to the power of n, if it is a number of 64 bits.
 #[inline(always)]
 fn narrow_power(n: usize) -> u128
     requires { n < 64 }

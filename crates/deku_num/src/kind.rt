@@ -6,11 +6,11 @@ ghost use Rattle.deku_num.specs.Numbers.{byte, unsigned, signed};
 /// A type of whole numbers.
 #[derive(Debug, Clone, Copy, PartialEq, Eq)]
 pub struct NumberType {
-    /// Its bits.
+    /// How many bits it has.
     pub bits: usize,
-    /// Whether it has a sign.
+    /// Whether it is signed.
     pub signed: bool,
-    /// Whether any byte size means one byte, as for `u8` alone.
+    /// Whether any byte size means one byte, as only for `u8`.
     pub one_byte: bool,
 }
 
@@ -100,7 +100,7 @@ impl NumberType {
     };
 }
 
-/// Each constant is the word for its type.
+/// Each constant is equal to the definition of its type.
 pub fn type_words()
     ensures is_u8 { NumberType.U8 ≡ byte }
     ensures is_u16 { NumberType.U16 ≡ unsigned 16 }

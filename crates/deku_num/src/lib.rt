@@ -1,4 +1,4 @@
-//! Whole numbers as fields of bits: their layouts, and what a list of bits is worth.
+//! Whole numbers as fields of bits: their layouts, and the values of lists of bits.
 #![tactic(auto)]
 
 pub mod calls;

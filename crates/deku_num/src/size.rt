@@ -1,15 +1,16 @@
-//! Types whose values all take the same bits.
+//! Types whose values all take the same number of bits.
 
 ghost use Rattle.std.specs.Prelude.{◌≡◌, ℕ, Option, Some, refl};
 ghost use Rattle.deku_num.specs.Sizes.{within_usize, eighth, bits_times};
 
 mod shapes;
 
-/// A type whose values all take the same bits, where these are known.
+/// A type whose values all take the same number of bits, if this is known.
 pub trait DekuSize {
     ghost bits: { Option ℕ };
 
-    /// The bits that each value takes; none where they are not known or do not fit `usize`.
+    /// The number of bits that each value takes. `None` if it is not known or does not fit a
+    /// `usize`.
     ///
     /// ```text
     /// <(u8, [u16; 3])>::size_bits()                              // Some(56)
@@ -17,8 +18,8 @@ pub trait DekuSize {
     fn size_bits() -> Option<usize>
         ensures { result ≡ within_usize bits };
 
-    /// The bytes that each value takes; none where the bits are not known, do not fit `usize` or
-    /// make no whole bytes.
+    /// The number of bytes that each value takes. `None` if the bits are not known, do not fit a
+    /// `usize` or are not whole bytes.
     ///
     /// ```text
     /// <(u8, [u16; 3])>::size_bytes()                             // Some(7)
@@ -43,10 +44,10 @@ pub trait DekuSizeConst: DekuSize {
 
     ghost bytes_known: { eighth (within_usize Self.bits) ≡ SIZE_BYTES };
 
-    /// The bits that each value takes.
+    /// The number of bits that each value takes.
     const SIZE_BITS: usize;
 
-    /// The bytes that each value takes; none where the bits make no whole bytes.
+    /// The number of bytes that each value takes. `None` if the bits are not whole bytes.
     const SIZE_BYTES: Option<usize>;
 }
 
@@ -314,8 +315,8 @@ impl DekuSizeConst for isize {
     const SIZE_BYTES: Option<usize> = Some(8);
 }
 
-/// So many times the bits of an item; an array of no items takes none, whatever is known of an
-/// item.
+/// The bits of an item, times the number of items. An array of no items takes no bits, even if
+/// those of an item are not known.
 impl<T: DekuSize, const N: usize> DekuSize for [T; N] {
     ghost bits = { bits_times N T.bits };
 

@@ -20,58 +20,60 @@ use Rattle.deku_picture.specs.declared.program.Form.{Form}
 use Rattle.deku_picture.specs.declared.program.Form.TheVariants.{Bytes}
 use Rattle.deku_picture.specs.Names.{HasSpecs, AreNamed, AreNoForm, NameFields, IsUnnamed}
 
--- the words ask for the bits of the bytes that this text names
+-- The words ask for the bits of the bytes that this text gives.
 abbrev pub AsksForBytes : List (List ℕ) → List ℕ → Type 0
 AsksForBytes words text = (specs : List (List ℕ)) × (words ≡ codes "--bytes" ∷ text ∷ specs)
 
--- what is drawn is what the words ask for: the bits of these bytes, or no bytes
+-- What is drawn is what the words ask for: the bits of these bytes, or no bytes.
 abbrev pub IsForm : List (List ℕ) → Form → Type 0
 IsForm words (Bytes text) = AsksForBytes words text.now
 IsForm words form = (text : List ℕ) → AsksForBytes words text → ⊥
 
--- what is drawn, and the words of the fields, of which there is one at least, and each of which names one
+-- What is drawn, and the words of the fields. There is at least one of them, and each names a
+-- field.
 pub record IsSplit (words specs : List (List ℕ)) (form : Form) : Type 0 where
   pub asked : IsForm words form
   pub behind : HasSpecs words specs
   pub some : 0 < length specs
   pub named : NameFields specs
 
--- the text names these bytes in hexadecimal, and the fields read these values from them
+-- The text gives these bytes in hexadecimal, and the fields read these values from them.
 pub record IsSample (fields : List Field) (text bytes : List ℕ) (values : Vec Number) : Type 0 where
   pub decoded : decode_of text ≡ Ok bytes
   pub bits : ℕ
   pub read : ListFrom fields bytes (Ok (bits, values))
 
--- the text names bytes from which the fields read values
+-- The text gives bytes from which the fields read values.
 abbrev pub HasValues : List Field → List ℕ → Type 0
 HasValues fields text = (bytes : List ℕ) × (values : Vec Number) × IsSample fields text bytes values
 
--- the fields have values in the bytes to be drawn, where there are some
+-- The fields have values in the bytes to be drawn, if there are some.
 abbrev pub HasShown : Form → List Field → Type 0
 HasShown (Bytes text) fields = HasValues fields text.now
 HasShown form fields = ⊤
 
--- The words name fields that have a picture. Where they name bytes too, the fields read values from these.
+-- The words name fields that have a picture. If they give bytes too, the fields read values from
+-- these.
 pub record AreDrawn (words : List (List ℕ)) : Type 0 where
   pub fields : List Field
   pub named : AreNamed words fields
   pub drawable : AreDrawable fields
   pub shown : (text : List ℕ) → AsksForBytes words text → HasValues fields text
 
--- the words are drawn, and their picture was given to the output
+-- The words are drawn, and their picture was written to the output.
 pub record IsDone (words : List (List ℕ)) (before after : Option (List ℕ)) : Type 0 where
   pub drawn : AreDrawn words
   pub text : List ℕ
   pub given : Appends before after text
 
--- the words are drawn, and their picture was not given to the output to its end
+-- The words are drawn, and their picture was not written to the output to its end.
 pub record IsUnfinished (words : List (List ℕ)) (before after : Option (List ℕ)) : Type 0 where
   pub drawn : AreDrawn words
   pub text : List ℕ
   pub cut : IsCutShort before after text
 
--- ---- what stands in the way
--- the fields have no picture, for this reason
+-- ---- failures
+-- The fields have no picture, for this reason.
 pub record HaveNoPicture (words : List (List ℕ)) (e : Failure) : Type 0 where
   pub fields : List Field
   pub named : AreNamed words fields
@@ -79,7 +81,7 @@ pub record HaveNoPicture (words : List (List ℕ)) (e : Failure) : Type 0 where
   pub refused : IsUndrawable fields fault
   pub is : e ≡ Fault fault
 
--- the fields are refused so, read from the bytes that the text names
+-- The fields fail with this error, read from the bytes that the text gives.
 pub record AreRefused (fields : List Field) (text : List ℕ) (e : Failure) : Type 0 where
   pub bytes : List ℕ
   pub decoded : decode_of text ≡ Ok bytes
@@ -87,16 +89,16 @@ pub record AreRefused (fields : List Field) (text : List ℕ) (e : Failure) : Ty
   pub refused : ListFrom fields bytes (Err fault)
   pub is : e ≡ Fault fault
 
--- the text is not hexadecimal, the fields are refused so, or no memory is found
+-- The text is not hexadecimal, the fields fail, or there is no memory.
 abbrev pub HasNoValues : List Field → List ℕ → Failure → Type 0
 HasNoValues fields text e = ((e ≡ BadText) × (error : FromHexError) × (decode_of text ≡ Err error)) ⊎ AreRefused fields text e ⊎ (e ≡ Fault (Io OutOfMemory))
 
--- the fields have no values in the bytes to be drawn
+-- The fields have no values in the bytes to be drawn.
 abbrev pub HasNotShown : Form → List Field → Failure → Type 0
 HasNotShown (Bytes text) fields e = HasNoValues fields text.now e
 HasNotShown form fields e = ⊥
 
--- the words ask for the bits of bytes, and the fields have no values in them
+-- The words ask for the bits of bytes, and the fields have no values in them.
 pub record BytesStop (words : List (List ℕ)) (e : Failure) : Type 0 where
   pub fields : List Field
   pub named : AreNamed words fields
@@ -104,67 +106,72 @@ pub record BytesStop (words : List (List ℕ)) (e : Failure) : Type 0 where
   pub asked : AsksForBytes words text
   pub stop : HasNoValues fields text e
 
--- what a run ends with 1 for, but for the output: the fields, the bytes or the memory
+-- What a run ends with 1 for, except for the output: the fields, the bytes or the memory.
 abbrev pub Stops : List (List ℕ) → Failure → Type 0
 Stops words e = HaveNoPicture words e ⊎ BytesStop words e ⊎ (e ≡ Fault (Io OutOfMemory))
 
--- what ends a run before the output ends it with 2, since the words are of no form, or with 1; a word that is told names no field
+-- What ends a run before the output: with 2, since the words are of no form, or with 1. A word that
+-- is printed names no field.
 abbrev pub IsFailure : List (List ℕ) → Failure → Type 0
 IsFailure words Usage = AreNoForm words
 IsFailure words (NoField word) = AreNoForm words × IsUnnamed words word.now
 IsFailure words e = Stops words e
 
--- the output failed, and was not given the picture to its end
+-- The output failed, and was not given the picture to its end.
 abbrev pub OutputStops : List (List ℕ) → Option (List ℕ) → Option (List ℕ) → Failure → Type 0
 OutputStops words before after e = (kind : ErrorKind) × (e ≡ Fault (Io kind)) × IsUnfinished words before after
 
--- the run is prevented before the output is given any text, or the output fails
+-- The run is prevented before the output is given any text, or the output fails.
 abbrev pub RunEnds : List (List ℕ) → Option (List ℕ) → Option (List ℕ) → Failure → Type 0
 RunEnds words before after e = (IsFailure words e × (after ≡ before)) ⊎ OutputStops words before after e
 
--- the status of a run that ends so: 2 where the words are of no form, else 1
+-- The status of a run that ends with this failure: 2 if the words are of no form, and otherwise 1.
 abbrev pub status_of : Failure → ℕ
 status_of Usage = 2
 status_of (NoField word) = 2
 status_of BadText = 1
 status_of (Fault fault) = 1
 
--- the usage
+-- The usage.
 abbrev pub usage : List ℕ
 usage = codes "usage: layout [--svg|--bytes HEX] [NAME:]SPEC.."
 
--- the text is the usage and a word, as `{:?}` shows it; how that shows words that are not ASCII is left open
+-- The text is the usage and a word, as `{:?}` shows it. How that shows words that are not ASCII is
+-- unspecified.
 abbrev pub ShowsWord : List ℕ → List ℕ → Type 0
 ShowsWord word text = (shown : List ℕ) × IfSome (debug_str word) (λ escaped. shown ≡ escaped)
     × (text ≡ line (usage ++ (codes ", and " ++ (shown ++ codes " is no field"))))
 
--- the text is the usage and a word that names no field, or the usage alone, where no memory is found to show the word
+-- The text is the usage and a word that names no field; or the usage only, if there is no memory to
+-- show the word.
 abbrev pub IsUsageOf : List ℕ → List ℕ → Type 0
 IsUsageOf word text = (text ≡ line usage) ⊎ ShowsWord word text
 
--- what was given is a beginning of such a text
+-- What was written is a beginning of such a text.
 abbrev pub TellsWord : List ℕ → Option (List ℕ) → Option (List ℕ) → Type 0
 TellsWord word before after = (text : List ℕ) × IsUsageOf word text × IsBegun before after text
 
--- the text is the line that it is told as
+-- The text is the line that is printed for a failure.
 abbrev pub IsMessage : Failure → List ℕ → Type 0
 IsMessage Usage text = text ≡ line usage
 IsMessage (NoField word) text = IsUsageOf word.now text
 IsMessage BadText text = text ≡ line (codes "error: bad hexadecimal text")
 IsMessage (Fault fault) text = text ≡ fault_line fault []
 
--- what was given is a beginning of such a line
+-- What was written is a beginning of such a line.
 abbrev pub IsTold : Failure → Option (List ℕ) → Option (List ℕ) → Type 0
 IsTold e before after = (text : List ℕ) × IsMessage e text × IsBegun before after text
 
--- the words are of no form, and what `errors` took is a beginning of the usage; it may go on with one of the words that names no field
+-- The words are of no form, and what `errors` took is a beginning of the usage. One of the words
+-- that names no field may follow the usage.
 pub record IsUsageTold (words : List (List ℕ)) (before after : Option (List ℕ)) : Type 0 where
   pub failure : Failure
   pub fails : IsFailure words failure
   pub two : status_of failure ≡ 2
   pub told : IsTold failure before after
 
--- A run ends with 1 for this failure, by what its output held before and after it; and what `errors` took is a beginning of the line of that failure.
+-- A run ends with 1 for this failure, which fits what its output held before and after it. What
+-- `errors` took is a beginning of the line of that failure.
 pub record IsStopped (words : List (List ℕ)) (out_before out_after errors_before errors_after : Option (List ℕ)) : Type 0 where
   pub failure : Failure
   pub ends : RunEnds words out_before out_after failure

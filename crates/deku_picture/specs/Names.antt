@@ -1,48 +1,48 @@
--- The words of fields with names in front of them.
+-- The words of fields with names before them.
 use Rattle.std.specs.Prelude.{◌≡◌, ◌≢◌, ◌⊎◌, ℕ, ◌<◌, List, [], ◌∷◌, ◌++◌, length, All, codes}
 use Rattle.std.specs.Char.{IsAsciiAlphanumeric}
 use Rattle.std.specs.List.{AllZip, Contains}
 use Rattle.deku_fields.specs.declared.list.Field.{Field}
 use Rattle.deku_fields.specs.Naming.{NamesField}
 
--- a letter, a digit, `_`, which is 95, or `-`, which is 45
+-- A letter, a digit, `_`, which is 95, or `-`, which is 45.
 abbrev pub IsNameByte : ℕ → Type 0
 IsNameByte c = IsAsciiAlphanumeric c ⊎ (c ≡ 95) ⊎ (c ≡ 45)
 
--- a name: such bytes, and one of them at least
+-- A name: at least one of such bytes.
 abbrev pub IsName : List ℕ → Type 0
 IsName text = (0 < length text) × All IsNameByte text
 
--- a field's word, with nothing in front of it, or with a name and a colon
+-- A field's word, alone or after a name and a colon.
 abbrev pub IsNamed : List ℕ → List ℕ → List ℕ → Field → Type 0
 IsNamed word name spec f = (((name ≡ []) × (word ≡ spec)) ⊎ (IsName name × (word ≡ name ++ (codes ":" ++ spec)))) × NamesField spec f
 
--- a word names a field, with a name or without one
+-- A word names a field, with a name or without one.
 abbrev pub Names : List ℕ → Field → Type 0
 Names word f = (name : List ℕ) × (spec : List ℕ) × IsNamed word name spec f
 
--- the words of the fields: behind `--svg`, behind `--bytes` and the bytes, or all words
+-- The words of the fields: after `--svg`, after `--bytes` and the bytes, or all words.
 abbrev pub HasSpecs : List (List ℕ) → List (List ℕ) → Type 0
 HasSpecs [] specs = ⊥
 HasSpecs (word ∷ words) specs = ((word ≡ codes "--svg") × (specs ≡ words))
     ⊎ ((word ≡ codes "--bytes") × (text : List ℕ) × (words ≡ text ∷ specs))
     ⊎ ((word ≢ codes "--svg") × (word ≢ codes "--bytes") × (specs ≡ word ∷ words))
 
--- the words name fields, and one at least
+-- The words name fields, and at least one.
 pub record AreNamed (words : List (List ℕ)) (fields : List Field) : Type 0 where
   pub specs : List (List ℕ)
   pub behind : HasSpecs words specs
   pub some : 0 < length specs
   pub named : AllZip Names specs fields
 
--- the words name no fields
+-- The words name no fields.
 abbrev pub AreNoForm : List (List ℕ) → Type 0
 AreNoForm words = (fields : List Field) → AreNamed words fields → ⊥
 
--- the words name fields, one each
+-- The words name fields, one each.
 abbrev pub NameFields : List (List ℕ) → Type 0
 NameFields words = (fields : List Field) × AllZip Names words fields
 
--- the word is one of the words, and names no field
+-- The word is one of the words, and names no field.
 abbrev pub IsUnnamed : List (List ℕ) → List ℕ → Type 0
 IsUnnamed words word = Contains words word × ((f : Field) → Names word f → ⊥)

@@ -6,21 +6,21 @@ ghost use Rattle.deku_picture.specs.Cells.{Extends, AreCells, AreRows, places_in
 use deku_fields::Place;
 use std::alloc::{AllocError, Global};
 
-/// How many places a row has at most: four bytes.
+/// The most places of a row: four bytes.
 pub const PLACES_IN_ROW: usize = 32;
 
-/// A run of neighbouring places: padding, or bits of one field, each worth half of the one before
-/// it.
+/// A run of neighbouring places: padding, or bits of one field of which each counts half of the one
+/// before it.
 #[derive(Debug, Clone, Copy, PartialEq, Eq)]
 pub struct Cell {
-    /// The first place, the highest bit of the run, or none where it is padding.
+    /// The first place, which is the highest bit of the run. `None` for padding.
     pub first: Option<Place>,
     /// How many places it has, in bits.
     pub width: usize,
 }
 
 impl Cell {
-    // Whether a place that stands behind this run goes on with it.
+    // Whether this run continues with a place.
     fn is_continued_by(&self, place: Option<Place>) -> bool
         ensures { IsTrue result ↔ Extends self.now.width self.now.first place }
     {
@@ -32,7 +32,7 @@ impl Cell {
     }
 }
 
-// Whether a bit is of the same field as another, and so many weights lower.
+// Whether a bit is of the same field as another, and `by` bits lower.
 fn is_lower(first: Place, next: Place, by: usize) -> bool
     ensures { IsTrue result ↔ ((first.field ≡ next.field) × (first.bit ≡ next.bit + by)) }
 {
@@ -42,8 +42,8 @@ fn is_lower(first: Place, next: Place, by: usize) -> bool
     first.bit - next.bit == by
 }
 
-/// The cells of the places of a row, from left to right, each as long as it can be: laid end to end
-/// they are these places again. It is refused where no memory is found for them.
+/// The cells of the places of a row, from left to right, each as long as possible. Put one after
+/// the other they are these places again. It fails if there is no memory for them.
 ///
 /// ```text
 /// // twelve bits, little and `Msb0`, and four bits of padding
@@ -58,7 +58,7 @@ pub fn cells(alloc: Global, row: &[Option<Place>]) -> Result<Vec<Cell>, AllocErr
     }
 }
 
-// The cells of a place and of those behind it.
+// The cells of a place and of those after it.
 fn joined(
     alloc: Global,
     first: Option<Place>,
@@ -83,8 +83,8 @@ fn joined(
     Ok(cells)
 }
 
-/// The places of a picture in rows of 32, each row as its cells; the last row may have fewer
-/// places. It is refused where no memory is found for them.
+/// The places of a picture in rows of 32, each row as its cells. The last row may have fewer
+/// places. It fails if there is no memory for them.
 ///
 /// ```text
 /// rows(alloc, &places(alloc, &fields)?)?     // of 40 bits: a row of four bytes, and one of a byte

@@ -1,5 +1,5 @@
-//! What is drawn: fields with their names, the rows of their cells, and bytes that they were read
-//! from.
+//! What is drawn: fields with their names, the rows of their cells, and the bytes that they were
+//! read from.
 
 use crate::cell::{Cell, PLACES_IN_ROW};
 use crate::words::Named;
@@ -25,8 +25,7 @@ pub struct Drawing<'a> {
 // How many letters of a name are shown.
 const LETTERS: usize = 64;
 
-/// The first 64 letters of the name of a field, or `f` and its number, from one on, where it has
-/// none.
+/// The first 64 letters of the name of a field. If it has no name, `f` and its number, from one on.
 pub fn name_of(alloc: Global, fields: &[Named], index: usize) -> Result<String, AllocError> {
     match fields.get(index) {
         Some(field) if !field.name.is_empty() => {
@@ -49,7 +48,7 @@ fn widest(alloc: Global, fields: &[Named]) -> Result<(usize, usize), AllocError>
     Ok((name, spec))
 }
 
-/// How many bytes the cells of a row stand in.
+/// How many bytes the cells of a row have.
 pub fn byte_count(row: &[Cell]) -> usize {
     let mut bits: usize = 0;
     for cell in row {
@@ -63,7 +62,7 @@ pub fn byte_number(row: usize, n: usize) -> usize {
     row.saturating_mul(PLACES_IN_ROW / 8).saturating_add(n)
 }
 
-/// Puts a line for each field: its name, its word and its value where there is one.
+/// Adds a line for each field: its name, its word and its value if there is one.
 pub fn push_fields(
     alloc: Global,
     text: &mut String,
@@ -91,7 +90,7 @@ pub fn push_fields(
     Ok(())
 }
 
-// The value of a field, where bytes were read.
+// The value of a field, if bytes were read.
 fn value_of(sample: &Option<Sample>, index: usize) -> Option<Number> {
     match sample {
         Some(sample) => sample.values.get(index).copied(),
@@ -99,7 +98,7 @@ fn value_of(sample: &Option<Sample>, index: usize) -> Option<Number> {
     }
 }
 
-// Puts a number in decimal digits.
+// Adds a number in decimal digits.
 fn push_number(text: &mut String, value: Number) -> Result<(), AllocError> {
     match value {
         Number::Unsigned(value) => write!(text, "{value}"),
@@ -107,13 +106,13 @@ fn push_number(text: &mut String, value: Number) -> Result<(), AllocError> {
     }
 }
 
-// Puts a text, and spaces behind it up to a width.
+// Adds a text, and spaces after it up to a width.
 fn push_padded(text: &mut String, word: &str, width: usize) -> Result<(), AllocError> {
     text.push_str(word)?;
     push_many(text, ' ', width.saturating_sub(word.len()))
 }
 
-/// Puts a letter so many times.
+/// Adds a letter `count` times.
 pub fn push_many(text: &mut String, letter: char, count: usize) -> Result<(), AllocError> {
     for _ in 0..count {
         text.push(letter)?;

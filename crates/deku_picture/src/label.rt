@@ -1,5 +1,5 @@
-//! What stands in a cell: a name and the range of its weights, in as many lines as the cell's width
-//! takes.
+//! The text of a cell: a name and the range of its bits, in as many lines as the cell's width
+//! needs.
 
 use crate::cell::Cell;
 use crate::drawing::name_of;
@@ -9,24 +9,24 @@ use std::alloc::{AllocError, Global};
 /// The label of a cell.
 #[derive(Drop)]
 pub struct Label {
-    /// The name of its field, or `-` where it is padding.
+    /// The name of its field, or `-` for padding.
     pub name: String,
-    /// Its weights, as `7..4`, or one number alone; nothing where it is padding.
+    /// Its bits, as `7..4`, or as one number; empty for padding.
     pub weights: String,
     /// The width of the cell in bits.
     pub width: usize,
-    /// How many letters a line of it has.
+    /// How many letters a line of the label has.
     pub columns: usize,
 }
 
-/// How many lines the labels of a row have: for names, and for weights.
+/// How many lines the labels of a row have: for names, and for bits.
 #[derive(Clone, Copy)]
 pub struct Lines {
     pub names: usize,
     pub weights: usize,
 }
 
-/// The labels of a row's cells, where a bit is `per_bit` letters wide, and `less` letters of a cell
+/// The labels of a row's cells, if a bit is `per_bit` letters wide, and `less` letters of a cell
 /// are not free.
 pub fn labels(
     alloc: Global,
@@ -43,7 +43,7 @@ pub fn labels(
     Ok(labels)
 }
 
-// The label of a cell whose lines have so many letters.
+// The label of a cell whose lines have this many letters.
 fn label_of(
     alloc: Global,
     fields: &[Named],
@@ -65,7 +65,7 @@ fn label_of(
     })
 }
 
-// The weights from the highest down.
+// The bits from the highest down.
 fn weights(alloc: Global, high: usize, width: usize) -> Result<String, AllocError> {
     let low = high.saturating_sub(width.saturating_sub(1));
     if low == high {
@@ -87,12 +87,12 @@ pub fn lines_of(labels: &[Label]) -> Lines {
     lines
 }
 
-// How many lines a text has that is broken behind so many letters.
+// How many lines a text has that is broken after this many letters.
 fn line_count(text: &String, columns: usize) -> usize {
     text.len().div_ceil(columns.max(1))
 }
 
-/// The n-th line of a text that is broken behind so many letters.
+/// The n-th line of a text that is broken after this many letters.
 pub fn line_of(text: &String, columns: usize, n: usize) -> &[u8] {
     text.as_bytes().chunks(columns.max(1)).nth(n).unwrap_or(b"")
 }

@@ -1,4 +1,5 @@
-//! Pictures of layouts: the bits of fields as a table and as an SVG, and the program over them.
+//! Pictures of layouts: the bits of fields as a table and as an SVG, and the program that draws
+//! them.
 #![tactic(auto)]
 
 mod cell;

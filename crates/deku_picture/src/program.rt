@@ -34,7 +34,7 @@ enum Failure<'a> {
     NoField(&'a str),
     /// The bytes are not hexadecimal text.
     BadText,
-    /// The fields, the output or the memory stood in the way.
+    /// The fields, the output or the memory failed.
     Fault(DekuError),
 }
 
@@ -77,29 +77,30 @@ enum Form<'a> {
     Table,
     /// An SVG.
     Svg,
-    /// A table with the bits of bytes, which the text names in hexadecimal.
+    /// A table with the bits of bytes, which the text gives in hexadecimal.
     Bytes(&'a str),
 }
 
-/// Runs the program on the arguments after its name, and answers its status: 0 where it is done, 1
-/// where the fields, the bytes, the output or the memory stood in the way, and 2 where the
-/// arguments are not of a form that it knows.
+/// Runs the program on the arguments after its name. Returns its status: 0 if it succeeds; 1 if the
+/// fields, the bytes, the output or the memory prevent it; and 2 if the arguments are not of a form
+/// that it knows.
 ///
 /// `SPEC..` prints the picture of the fields as a table, `--svg SPEC..` as an SVG, and
 /// `--bytes HEX SPEC..` as a table with the bits of these bytes and the values that the fields have
-/// in them. Each SPEC may have a name in front of it, as `name:SPEC`.
+/// in them. Each SPEC may have a name before it, as `name:SPEC`.
 ///
-/// A run that is not done is told of in one line on `errors`: the usage with status 2, and the word
-/// that names no field where there is one, and memory to show it; and with status 1
-/// `error: bad hexadecimal text`, or `error: ` and the text of the fault. The words are looked at
-/// before the bytes and before any memory is taken, and nothing goes to the output until all of the
-/// picture is known, so it gains nothing then but what a failing output took. A fault of `errors`
-/// changes nothing.
+/// A run that does not succeed prints one line to `errors`. With status 2 it is the usage, and the
+/// word that names no field, if there is one and memory to show it. With status 1 it is
+/// `error: bad hexadecimal text`, or `error: ` and the text of the error. The words are checked
+/// before the bytes and before any memory is taken. Nothing is printed to the output until all of
+/// the picture is known, so a run that does not succeed prints nothing to it except what a failing
+/// output took. An error of `errors` changes nothing.
 ///
 /// ```text
-/// a:u8,lsb,bits4 b:u16,lsb,bits12                   // prints cells `b 3..0`, `a 3..0` and `b 11..4`, status 0
-/// u8 u9                                             // tells usage: layout .., and "u9" is no field, status 2
-/// u8,big,bits3 u8,lsb,bits3                         // tells error: Invalid param error: order changes inside a byte, status 1
+/// a:u8,lsb,bits4 b:u16,lsb,bits12  // prints cells `b 3..0`, `a 3..0` and `b 11..4`, status 0
+/// u8 u9                            // prints usage: layout .., and "u9" is no field, status 2
+/// u8,big,bits3 u8,lsb,bits3
+/// // prints error: Invalid param error: order changes inside a byte, status 1
 /// ```
 pub fn run<W: Write, E: Write>(alloc: Global, args: &[String], output: &mut W, errors: &mut E) -> u8
     ensures status { result ≤ 2 }
@@ -122,7 +123,7 @@ pub fn run<W: Write, E: Write>(alloc: Global, args: &[String], output: &mut W, e
     status_of(&failure)
 }
 
-// The status of a run that ends so.
+// The status of a run that ends with this failure.
 fn status_of(failure: &Failure) -> u8
     ensures { result ≡ status_of failure.now }
 {
@@ -132,7 +133,7 @@ fn status_of(failure: &Failure) -> u8
     }
 }
 
-// Tells of a failure in a line, of which `errors` takes a beginning where it fails.
+// Prints a failure as a line. If `errors` fails, it has taken a beginning of the line.
 fn complain<E: Write>(alloc: Global, errors: &mut E, failure: &Failure) -> io::Result<()>
     ensures { IsTold failure.now (E.contents errors.old) (E.contents errors.new) }
 {
@@ -144,8 +145,7 @@ fn complain<E: Write>(alloc: Global, errors: &mut E, failure: &Failure) -> io::R
     }
 }
 
-// Tells of a word that names no field, or gives the usage alone where no memory is found to show
-// it.
+// Prints a word that names no field, or only the usage if there is no memory to show the word.
 fn complain_of<E: Write>(alloc: Global, errors: &mut E, word: &str) -> io::Result<()>
     ensures { TellsWord word.now (E.contents errors.old) (E.contents errors.new) }
 {
@@ -162,7 +162,7 @@ fn complain_of<E: Write>(alloc: Global, errors: &mut E, word: &str) -> io::Resul
     }
 }
 
-// Gives the output the picture that the words ask for.
+// Writes to the output the picture that the words ask for.
 fn command<'a, W: Write>(
     alloc: Global,
     args: &'a [String],
@@ -207,7 +207,7 @@ fn drawn(alloc: Global, args: &[String]) -> Result<String, Failure<'_>>
 }
 
 // What is drawn, and the words of the fields, each of which names one. This takes no memory, so
-// that words of no form are told as such whatever memory there is.
+// that words of an unknown form are reported as such, however little memory there is.
 fn split_words(args: &[String]) -> Result<(Form<'_>, &[String]), Failure<'_>>
     ensures split { IfOk result (λ p. IsSplit (words_of args.now) (words_of p.1.now) p.0) }
     ensures stops { IfErr result (λ e. (status_of e ≡ 2) × IsFailure (words_of args.now) e) }
@@ -224,7 +224,7 @@ fn split_words(args: &[String]) -> Result<(Form<'_>, &[String]), Failure<'_>>
     }
 }
 
-// The first word that names no field; none where each names one.
+// The first word that names no field. `None` if each names one.
 fn first_unnamed(specs: &[String]) -> Option<&str>
     ensures { MatchOption result (NameFields (words_of specs.now))
         (λ word. IsUnnamed (words_of specs.now) word.now) }
@@ -238,7 +238,7 @@ fn first_unnamed(specs: &[String]) -> Option<&str>
     None
 }
 
-// What is drawn, and the words of the fields; none where there are none.
+// What is drawn, and the words of the fields. `None` if there are no such words.
 fn split_form(args: &[String]) -> Option<(Form<'_>, &[String])>
     ensures { MatchOption result ((specs : List (List ℕ)) → HasSpecs (words_of args.now) specs → ⊥)
         (λ p. IsForm (words_of args.now) p.0 × HasSpecs (words_of args.now) (words_of p.1.now)) }
@@ -285,7 +285,7 @@ fn fields_of(alloc: Global, named: &[Named]) -> Result<Vec<Field>, AllocError>
     Ok(fields)
 }
 
-// The bytes to be drawn and the values in them, where the form has bytes.
+// The bytes to be drawn and the values in them, if the form has bytes.
 fn sample_of<'a>(alloc: Global, form: Form, fields: &[Field]) -> Result<Option<Sample>, Failure<'a>>
     ensures shown { OnOk result (HasShown form.entry fields.now) }
     ensures stops { IfErr result (HasNotShown form.entry fields.now) }
@@ -300,7 +300,7 @@ fn sample_of<'a>(alloc: Global, form: Form, fields: &[Field]) -> Result<Option<S
     }
 }
 
-// The bytes that hexadecimal text names, and the values that the fields read from them.
+// The bytes that hexadecimal text gives, and the values that the fields read from them.
 fn sample<'a>(alloc: Global, text: &str, fields: &[Field]) -> Result<Sample, Failure<'a>>
     ensures read { IfOk result (λ s. IsSample fields.now text.now s.bytes.items s.values) }
     ensures stops { IfErr result (HasNoValues fields.now text.now) }

@@ -31,7 +31,7 @@ struct Point {
 }
 
 impl Point {
-    // The place so far to the right of this one.
+    // The place this far to the right.
     fn right(self, by: usize) -> Point {
         Point {
             x: self.x.saturating_add(by),
@@ -39,7 +39,7 @@ impl Point {
         }
     }
 
-    // The place so far below this one.
+    // The place this far down.
     fn down(self, by: usize) -> Point {
         Point {
             x: self.x,
@@ -48,8 +48,8 @@ impl Point {
     }
 }
 
-/// A picture as SVG, 660 pixels wide: for each row the numbers of its bytes and of their bits, and
-/// its cells; and then a line for each field.
+/// A picture as SVG, 660 pixels wide. It has for each row the numbers of its bytes and of their
+/// bits, and its cells; and then a line for each field.
 pub fn svg(alloc: Global, drawing: &Drawing) -> Result<String, AllocError> {
     let mut body = String::new(alloc);
     let mut at = Point {
@@ -72,7 +72,7 @@ pub fn svg(alloc: Global, drawing: &Drawing) -> Result<String, AllocError> {
     framed(alloc, end.y, &body)
 }
 
-// The whole picture, of a body and its height.
+// The whole picture, made of a body and its height.
 fn framed(alloc: Global, height: usize, body: &String) -> Result<String, AllocError> {
     let mut text = String::new(alloc);
     write!(
@@ -137,7 +137,7 @@ fn push_row(
     Ok(height)
 }
 
-// A cell: its frame, its name and its weights.
+// A cell: its frame, its name and its bits.
 fn push_cell(
     text: &mut String,
     at: Point,
@@ -160,7 +160,7 @@ fn push_cell(
     push_lines(text, weights, &label.weights, label.columns, lines.weights)
 }
 
-// The colour of a cell: that of its field, and grey for padding.
+// The colour of a cell: that of its field, or grey for padding.
 fn colour_of(cell: &Cell) -> &'static str {
     match cell.first {
         None => "#eeeeee",
@@ -190,7 +190,7 @@ fn push_lines(
     Ok(())
 }
 
-// A line for each field, from `at` on down, and the end of the picture.
+// A line for each field, from `at` on down. Returns the end of the picture.
 fn push_list(
     alloc: Global,
     text: &mut String,

@@ -7,8 +7,8 @@ use crate::words::Named;
 use std::alloc::{AllocError, Global};
 use std::fmt::Write as _;
 
-/// A picture as text: for each row the numbers of its bytes and of their bits, its cells, and the
-/// bits of the bytes where there are some; and then a line for each field. A row is 65 letters
+/// A picture as text. It has for each row the numbers of its bytes and of their bits, its cells,
+/// and the bits of the bytes if there are some; and then a line for each field. A row is 65 letters
 /// wide.
 pub fn table(alloc: Global, drawing: &Drawing) -> Result<String, AllocError> {
     let mut text = String::new(alloc);
@@ -42,7 +42,7 @@ fn push_numbers(text: &mut String, row: usize, bytes: usize) -> Result<(), Alloc
     Ok(())
 }
 
-// The numbers of the bits of so many bytes.
+// The numbers of the bits of this many bytes.
 fn push_bit_numbers(text: &mut String, bytes: usize) -> Result<(), AllocError> {
     for _ in 0..bytes {
         text.push_str(" 7 6 5 4 3 2 1 0")?;
@@ -50,7 +50,7 @@ fn push_bit_numbers(text: &mut String, bytes: usize) -> Result<(), AllocError> {
     text.push('\n')
 }
 
-// The cells of a row, with the bits in them where there are some.
+// The cells of a row, with the bits in them if there are some.
 fn push_cells(
     alloc: Global,
     text: &mut String,
@@ -86,7 +86,7 @@ enum Part {
     Weights,
 }
 
-// So many lines of that part of all labels.
+// The first `count` lines of that part of all labels.
 fn push_lines(
     text: &mut String,
     labels: &[Label],
@@ -112,7 +112,7 @@ fn push_line(text: &mut String, labels: &[Label], n: usize, part: Part) -> Resul
     text.push_str("|\n")
 }
 
-// Letters in the middle of so many columns.
+// Letters in the middle of this many columns.
 fn push_centred(text: &mut String, letters: &[u8], columns: usize) -> Result<(), AllocError> {
     let gap = columns.saturating_sub(letters.len());
     push_many(text, ' ', gap / 2)?;
@@ -120,7 +120,7 @@ fn push_centred(text: &mut String, letters: &[u8], columns: usize) -> Result<(),
     push_many(text, ' ', gap - gap / 2)
 }
 
-/// Puts letters, each of them ASCII.
+/// Adds letters, each of them ASCII.
 pub fn push_letters(text: &mut String, letters: &[u8]) -> Result<(), AllocError> {
     for letter in letters {
         text.push(char::from(*letter))?;
@@ -128,7 +128,7 @@ pub fn push_letters(text: &mut String, letters: &[u8]) -> Result<(), AllocError>
     Ok(())
 }
 
-// The bits of the bytes of a row, as they are printed; none where there are no bytes.
+// The bits of the bytes of a row, as they are printed. Empty if there are no bytes.
 fn bits_of(
     alloc: Global,
     sample: &Option<Sample>,
@@ -156,7 +156,7 @@ fn push_bits(text: &mut String, labels: &[Label], bits: &String) -> Result<(), A
     text.push_str("|\n")
 }
 
-// The bits of a cell, behind its left border.
+// The bits of a cell, after its left border.
 fn push_cell_bits(text: &mut String, bits: &[u8]) -> Result<(), AllocError> {
     let mut mark = '|';
     for bit in bits {

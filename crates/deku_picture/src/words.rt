@@ -1,4 +1,4 @@
-//! Words of a command line: fields, each with or without a name in front of it.
+//! Words of a command line: fields, each with or without a name before it.
 
 ghost use Rattle.std.specs.Prelude.{◌≡◌, ◌↔◌, ℕ, List, IsTrue, MatchOption};
 ghost use Rattle.deku_fields.specs.declared.list.Field.{Field as ListField};
@@ -6,24 +6,24 @@ ghost use Rattle.deku_picture.specs.Names.{IsNameByte, IsName, IsNamed};
 
 use deku_fields::{Field, parse_field};
 
-/// A field, and the name in front of it.
+/// A field, and the name before it.
 #[derive(Debug, Clone, Copy, PartialEq, Eq)]
 pub struct Named<'a> {
-    /// Its name, or nothing where it has none.
+    /// Its name. Empty if it has none.
     pub name: &'a str,
-    /// The word of the field alone.
+    /// The word of the field, without the name.
     pub spec: &'a str,
     /// The field that this word names.
     pub field: Field,
 }
 
-/// The field that a word names, with the name in front of it: `SPEC`, or `name:SPEC` with a name of
-/// letters, digits, `_` and `-`. None where it names no field.
+/// Parses the field that a word names, with the name before it: `SPEC`, or `name:SPEC` with a name
+/// of letters, digits, `_` and `-`. Returns `None` if it names no field.
 ///
 /// ```text
 /// parse_named("kind:u8,big,bits4")  // four bits of a `u8`, named `kind`
 /// parse_named("u8,big,bits4")       // the same without a name
-/// parse_named(":u8")                // none: a name has a letter at least
+/// parse_named(":u8")                // None: a name has at least one letter
 /// ```
 pub fn parse_named(word: &str) -> Option<Named<'_>>
     ensures { MatchOption result ((name spec : List ℕ) (f : ListField)
@@ -55,7 +55,7 @@ fn is_name(text: &str) -> bool
     !text.is_empty() && text.as_bytes().iter().all(|byte| is_name_byte(*byte))
 }
 
-// Whether a byte can stand in a name: a letter, a digit, `_` or `-`.
+// Whether a byte is allowed in a name: a letter, a digit, `_` or `-`.
 fn is_name_byte(byte: u8) -> bool
     ensures { IsTrue result ↔ IsNameByte byte }
 {

@@ -1,4 +1,4 @@
--- Parts that are looked at when they were read, and before they are written.
+-- Parts that are checked after they are read, and before they are written.
 use Rattle.std.specs.Prelude.{◌≡◌, ℕ, Bool, true, false, List, Option}
 use Rattle.deku_bits.specs.declared.error.DekuError.TheVariants.{Assertion}
 use Rattle.deku_bits.specs.Pieces.{Piece}
@@ -10,23 +10,23 @@ use Rattle.deku.specs.Composing.{Answer, Then}
 use Rattle.deku_pieces.specs.declared.assertion.Assert.{Assert}
 use Rattle.deku_pieces.specs.declared.magic.Magic.{Magic}
 
--- those of a part that passes; another has none
+-- The pieces of a part that passes. Another part has none.
 abbrev pub OfPassing : {V C : Type 0} → (V → Bool) → (V → List Piece → Type 0) → Assert V C → List Piece → Type 0
 OfPassing passes pieces v ps = (passes v.part ≡ true) × pieces v.part ps
 
--- m where v passes; else it is refused with this text, and nothing moves
+-- If v passes, it is m. Otherwise it fails with this text, and nothing moves.
 abbrev pub IfPasses : {A V W : Type 0} → (V → Bool) → List ℕ → V → Meaning A W → Meaning A W
 IfPasses passes text v m = Checked (λ s r u. (passes v ≡ false) × Refuses Assertion text s r u) (λ b s r u. (passes v ≡ true) × m b s r u)
 
--- a part is read, and refused with this text where it does not pass
+-- A part is read. It fails with this text if the part does not pass.
 abbrev pub ReadsAsserted : {V C : Type 0} → (V → Bool) → List ℕ → Meaning (Option Stream) V → Meaning (Option Stream) (Assert V C)
 ReadsAsserted passes text m = Then m (λ v. IfPasses passes text v (Answer (record { part = v; check = record {} })))
 
--- a part is written where it passes
+-- A part is written if it passes. Otherwise it fails with this text, and nothing moves.
 abbrev pub WritesAsserted : {V C : Type 0} → (V → Bool) → List ℕ → (V → Meaning Output (Unit {0})) → Assert V C → Meaning Output (Unit {0})
 WritesAsserted passes text writes v = IfPasses passes text v.part (writes v.part)
 
--- ---- one value alone
--- a part is read, and another value than this one is refused with this text
+-- ---- one value
+-- A part is read. It fails with this text if it is not this value.
 abbrev pub ReadsMagic : {V C : Type 0} → V → List ℕ → Meaning (Option Stream) V → Meaning (Option Stream) (Magic V C)
 ReadsMagic value text m = Then m (λ v. Checked (λ s r u. (v ≡ value → ⊥) × Refuses Assertion text s r u) (λ b s r u. (v ≡ value) × Answer (record { part = record {}; constant = record {} }) b s r u))

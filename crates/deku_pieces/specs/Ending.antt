@@ -1,4 +1,4 @@
--- Lists that end with an item.
+-- Lists that end with the first item of a certain kind.
 use Rattle.std.specs.Prelude.{◌≡◌, Bool, true, false, List, [], ◌∷◌, codes, Option, ⊤}
 use Rattle.deku_bits.specs.declared.error.DekuError.TheVariants.{Assertion}
 use Rattle.deku_bits.specs.Pieces.{Piece}
@@ -11,21 +11,22 @@ use Rattle.deku.specs.Limits.{ReadsUntil}
 use Rattle.deku_pieces.specs.Pieces.{OfEach}
 use Rattle.deku_pieces.specs.declared.until.AtEnd.{AtEnd}
 
--- the first item that ends the list is its last one
+-- The first item that ends the list is its last one.
 abbrev pub IsEnded : {V : Type 0} → (V → Bool) → List V → Type 0
 IsEnded ends [] = ⊥
 IsEnded ends (v ∷ []) = ends v ≡ true
 IsEnded ends (v ∷ w ∷ vs) = (ends v ≡ false) × IsEnded ends (w ∷ vs)
 
--- the pieces of the items, one after the other, of which the last one ends them
+-- The pieces of the items, one after the other. The last item is the first that ends the list.
 abbrev pub OfEnded : {V : Type 0} → (V → Bool) → (V → List Piece → Type 0) → List V → List Piece → Type 0
 OfEnded ends pieces vs ps = IsEnded ends vs × OfEach pieces vs ps
 
--- items are read up to and including the first that ends them
+-- Items are read up to and including the first that ends the list.
 abbrev pub ReadsEnded : {V : Type 0} → (V → Bool) → Meaning (Option Stream) V → Meaning (Option Stream) (List V)
 ReadsEnded ends m = ReadsUntil {P = AtEnd} (λ _ v b _. b ≡ ends v) (λ _. ⊤) (record {}) m
 
--- the items are written; where the first that ends them is not the last one, it is refused first, and nothing moves
+-- The items are written. If the first that ends the list is not the last one, it fails before that,
+-- and nothing moves.
 abbrev pub WritesEnded : {V : Type 0} → (V → Bool) → (V → Meaning Output (Unit {0})) → List V → Meaning Output (Unit {0})
 WritesEnded ends write vs = Checked
     (λ s r u. (IsEnded ends vs → ⊥) × Refuses Assertion (codes "items out of step with their end") s r u)

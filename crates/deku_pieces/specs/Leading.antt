@@ -1,4 +1,4 @@
--- Heads that say how many items lie behind them.
+-- Heads that say how many items follow them.
 use Rattle.std.specs.Prelude.{◌≡◌, ℕ, Bool, false, List, length, codes, Option, None, Some, Result}
 use Rattle.std.specs.Global.{Vec}
 use Rattle.deku_bits.specs.declared.error.DekuError.{DekuError}
@@ -13,34 +13,36 @@ use Rattle.deku.specs.Limits.{ReadsCount, MappedBy}
 use Rattle.deku_pieces.specs.Pieces.{OfTimes, InTurn, SameEach}
 use Rattle.deku_pieces.specs.declared.counted.Counted.{Counted}
 
--- this count is named, and there are so many items
+-- The count is this number.
 abbrev pub IsCounted : Option ℕ → ℕ → Type 0
 IsCounted count n = count ≡ Some n
 
 -- ---- pieces
--- those of as many items as are counted; where no count is named there are none
+-- The pieces of as many items as the count says. Without a count there are none.
 abbrev pub OfCounted : {V : Type 0} → Option ℕ → (V → List Piece → Type 0) → Vec V → List Piece → Type 0
 OfCounted count pieces items ps = (n : ℕ) × (count ≡ Some n) × OfTimes n pieces items.items ps
 
--- those of the head, and then of the items
+-- The pieces of the head, and then of the items.
 abbrev pub OfCountedBy : {V W : Type 0} → (V → Option ℕ) → (V → List Piece → Type 0) → (W → List Piece → Type 0) → Counted V W → List Piece → Type 0
 OfCountedBy count_of of_head of_item v = InTurn (of_head v.head) (OfCounted (count_of v.head) of_item v.items)
 
--- the same head and the same items
+-- The same head and the same items.
 abbrev pub SameCountedBy : {V W : Type 0} → (V → V → Type 0) → (W → W → Type 0) → Counted V W → Counted V W → Type 0
 SameCountedBy same_head same_item v w = same_head v.head w.head × SameEach same_item v.items.items w.items.items
 
 -- ---- reading and writing
--- as many items as are counted are read into a vector; where no count is named it is refused, and nothing moves
+-- As many items as the count says are read into a vector. Without a count it fails, and nothing
+-- moves.
 pub data ReadsCounted {V : Type 0} (count : Option ℕ) (m : Meaning (Option Stream) V) (b : Bool) (s : Standing (Option Stream)) (r : Result (Vec V) DekuError) (u : Standing (Option Stream)) : Type 0 where
   Uncounted : b ≡ false → count ≡ None → Refuses Parse (codes "head without a count") s r u → ReadsCounted count m b s r u
   CountedItems : (n : ℕ) → count ≡ Some n → MappedBy (λ xs v. v.items ≡ xs) (ReadsCount n m) b s r u → ReadsCounted count m b s r u
 
--- a head is read, and then as many items as it counts
+-- A head is read, and then as many items as it says.
 abbrev pub ReadsCountedBy : {V W : Type 0} → (V → Option ℕ) → Meaning (Option Stream) V → Meaning (Option Stream) W → Meaning (Option Stream) (Counted V W)
 ReadsCountedBy count_of m k = Then m (λ h. Mapped (λ xs. record { head = h; items = xs }) (ReadsCounted (count_of h) k))
 
--- a head is written, and then the items; where they are not as many as it counts it is refused first, and nothing moves
+-- A head is written, and then the items. If they are not as many as the head says, it fails before
+-- that, and nothing moves.
 abbrev pub WritesCountedBy : {V W : Type 0} → (V → Option ℕ) → (V → Meaning Output (Unit {0})) → (W → Meaning Output (Unit {0})) → Counted V W → Meaning Output (Unit {0})
 WritesCountedBy count_of write_head write_item v = Checked
     (λ s r u. (IsCounted (count_of v.head) (length v.items.items) → ⊥) × Refuses Assertion (codes "count out of step with items") s r u)

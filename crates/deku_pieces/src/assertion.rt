@@ -1,4 +1,4 @@
-//! Parts that are looked at when they were read, and before they are written.
+//! Parts that are checked after they are read, and before they are written.
 
 ghost use Rattle.std.specs.Prelude.{◌≡◌, ℕ, Bool, List};
 ghost use Rattle.deku_pieces.specs.Asserting.{ReadsAsserted, WritesAsserted};
@@ -9,7 +9,7 @@ use deku::writer::Writer;
 use deku::{DekuError, DekuReader, DekuWriter};
 use std::marker::PhantomData;
 
-/// A check of a part: what passes it, and the text with which it refuses the rest.
+/// A check of a part: which parts pass, and the text of the error for all others.
 ///
 /// ```text
 /// impl Check<Msb<u8, 4>> for Version {
@@ -27,40 +27,40 @@ use std::marker::PhantomData;
 /// }
 /// ```
 pub trait Check<P> {
-    // What passes.
+    // Which parts pass.
     ghost passes: { P → Bool };
 
-    // What is said of the rest.
+    // The text for a part that does not pass.
     ghost text: { List ℕ };
 
     /// Whether the part passes.
     fn passes(part: &P) -> bool
         ensures { result ≡ passes part.now };
 
-    /// What is said of a part that does not pass: as a rule the name of its field.
+    /// The text of the error for a part that does not pass: usually the name of its field.
     fn text() -> &'static str
         ensures { result.now ≡ text };
 }
 
 /// A part that passes a check.
 ///
-/// Where it is read, a part that does not pass is refused with `Assertion` and the text of the
-/// check, and stays read. Where it is written it is refused so before anything moves. Else it is
-/// refused as the part is.
+/// Reading a part that does not pass fails with `Assertion` and the text of the check; the part
+/// stays read. Writing such a part fails in the same way before anything moves. Otherwise both fail
+/// as the part does.
 ///
 /// ```text
-/// type Parts = (Assert<Msb<u8, 4>, Version>, Msb<u8, 4>);   // 45 passes; 65 is refused with Assertion("version")
+/// type Parts = (Assert<Msb<u8, 4>, Version>, Msb<u8, 4>); // 45; 65 fails: Assertion("version")
 /// ```
 #[derive(Debug, PartialEq, Eq, Drop)]
 pub struct Assert<P, C> {
     /// The part.
     pub part: P,
-    /// Which check it is.
+    /// The check.
     pub check: PhantomData<C>,
 }
 
 impl<P, C> Assert<P, C> {
-    /// The part, to be looked at where it is written.
+    /// Wraps a part. The check is made when the part is written.
     ///
     /// ```text
     /// Assert::<_, Version>::new(Msb(4))

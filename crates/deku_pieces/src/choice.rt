@@ -1,4 +1,4 @@
-//! What an id chooses: the parts of enums.
+//! Values that an id chooses: the parts of enums.
 
 ghost use Rattle.std.specs.Prelude.{◌≡◌, ℕ, OnOk};
 ghost use Rattle.deku_bits.specs.ReaderCalls.{Reads};
@@ -14,23 +14,23 @@ use deku::reader::Reader;
 use deku::writer::Writer;
 use deku::{DekuError, DekuReader, DekuWriter};
 
-/// One of two: what lies under the id `ID`, or what lies under others. It is read and written under
-/// an id that was read and written before.
+/// One of two values: the one of the id `ID`, or one of another id. It is read and written under an
+/// id that was read or written before it.
 ///
-/// It is refused as what was chosen is.
+/// It fails as the chosen value does.
 ///
 /// ```text
 /// type Rest = Choice<Be<u16>, Only<(), 3>, 2>;                // a number under 2, nothing under 3
 /// ```
 #[derive(Debug, PartialEq, Eq, Drop)]
 pub enum Choice<A, B, const ID: u8> {
-    /// What lies under the id `ID`.
+    /// The value of the id `ID`.
     This(A),
-    /// What lies under another id.
+    /// The value of another id.
     Other(B),
 }
 
-/// What lies under the id `ID`, the last that there is. Under another id it is refused with
+/// The value of the id `ID`, which is the last id that there is. Under any other id it fails with
 /// `IdVariantNotFound`, and nothing moves.
 ///
 /// ```text
@@ -39,47 +39,47 @@ pub enum Choice<A, B, const ID: u8> {
 #[derive(Debug, PartialEq, Eq, Drop)]
 pub struct Only<A, const ID: u8>(pub A);
 
-/// An id of `N` bits, and behind it what lies under the id `ID`, or what lies under others. The id
-/// lies in `Lsb0` where `LOW` is true, as in `LsbTagged`, and else in `Msb0`, as in `MsbTagged`.
+/// An id of `N` bits, and after it the value of the id `ID`, or of another id. The id is in `Lsb0`
+/// if `LOW` is true, as in `LsbTagged`, and otherwise in `Msb0`, as in `MsbTagged`.
 ///
-/// It is refused as the id is, which is a number of `N` bits, and then as what was chosen is. Where
-/// no part has the id that was read, it is refused with `IdVariantNotFound`, and the reader stands
-/// behind the id.
+/// It fails as the id does, which is a number of `N` bits, and then as the chosen value does. If no
+/// value has the id that was read, it fails with `IdVariantNotFound`, and the reader is after the
+/// id.
 ///
 /// ```text
 /// type Parts = MsbTagged<Be<u16>, Only<(), 2>, 1, 8>;         // 01 BE EF, or 02
 /// ```
 #[derive(Debug, PartialEq, Eq, Drop)]
 pub enum Tagged<A, B, const ID: u8, const N: usize, const LOW: bool> {
-    /// The id `ID`, and what lies under it.
+    /// The id `ID`, and its value.
     This(A),
-    /// Another id, and what lies under it.
+    /// Another id, and its value.
     Other(B),
 }
 
-/// An id in high bits first, and what it chooses.
+/// An id with its high bits first, and the value that it chooses.
 pub type MsbTagged<A, B, const ID: u8, const N: usize> = Tagged<A, B, ID, N, false>;
 
-/// An id in low bits first, and what it chooses.
+/// An id with its low bits first, and the value that it chooses.
 pub type LsbTagged<A, B, const ID: u8, const N: usize> = Tagged<A, B, ID, N, true>;
 
-// The order of an id.
+// The order of the id.
 fn order_of(low: bool) -> Order
     ensures { result ≡ order_where low }
 {
     if low { Order::Lsb0 } else { Order::Msb0 }
 }
 
-/// What has an id: the kinds that an id chooses from.
+/// A value that has an id: the kinds of values that an id chooses from.
 ///
 /// ```text
 /// Only::<u8, 3>(7).id()                                       // 3
 /// ```
 pub trait HasId {
-    // Its id.
+    // The id of the value.
     ghost id_of: { Self → ℕ };
 
-    /// Its id.
+    /// Returns the id of the value.
     fn id(&self) -> u8
         ensures { result ≡ id_of self.now };
 }
@@ -164,7 +164,7 @@ impl<
     }
 }
 
-// Reads an id of so many bits, in this order, and what it chooses.
+// Reads an id of this many bits, in this order, and the value that it chooses.
 fn read_chosen<C: DekuReader<u8>, R: Source>(
     reader: &mut Reader<R>,
     bits: usize,

@@ -1,4 +1,4 @@
-//! Heads that say how many items lie behind them.
+//! Heads that say how many items follow them.
 
 ghost use Rattle.std.specs.Prelude.{◌≡◌, ℕ, Option, length, OnOk, MatchBool, Some};
 ghost use Rattle.deku_bits.specs.ReaderCalls.{Reads};
@@ -12,42 +12,42 @@ use deku::reader::Reader;
 use deku::writer::Writer;
 use deku::{DekuError, DekuReader, DekuWriter};
 
-/// What says how many items lie behind it.
+/// A head that says how many items follow it.
 ///
 /// ```text
-/// fn count(&self) -> Option<usize> {                          // of a header whose length is in words, itself among them
+/// fn count(&self) -> Option<usize> {         // a length in words that includes the header
 ///     (self.words as usize).checked_sub(5)
 /// }
 /// ```
 pub trait ItemCount {
-    // How many items lie behind it, where it names a count.
+    // How many items follow, if the head names a count.
     ghost count_of: { Self → Option ℕ };
 
-    /// How many items lie behind it, or none where it names no count.
+    /// Returns how many items follow, or `None` if the head names no count.
     fn count(&self) -> Option<usize>
         ensures { result ≡ count_of self.now };
 }
 
-/// A head, and behind it as many items as it says.
+/// A head, and after it as many items as it says.
 ///
-/// Where it is read, a head that names no count is refused with `Parse("head without a count")`,
-/// and stays read. Where it is written, a head that names another count than that of the items, or
-/// none, is refused with `Assertion("count out of step with items")`, and nothing moves. Else it is
-/// refused as its head is, and then as the first of its items is, or with `Io(OutOfMemory)` where
-/// no memory is found for an item.
+/// Reading fails with `Parse("head without a count")` if the head names no count; the head stays
+/// read. Writing fails with `Assertion("count out of step with items")` if the head names no count,
+/// or another count than that of the items; then nothing moves. Otherwise it fails as its head
+/// does, and then as the first item that fails. Reading fails with `Io(OutOfMemory)` if there is no
+/// memory for an item.
 ///
 /// ```text
-/// type Text = Counted<u8, u8>;                                    // 02 68 69, where a byte counts those behind it
+/// type Text = Counted<u8, u8>; // 02 68 69: a byte that counts those after it
 /// ```
 #[derive(Debug, PartialEq, Eq, Drop)]
 pub struct Counted<H, T> {
-    /// What says how many items there are.
+    /// The head, which says how many items there are.
     pub head: H,
     /// The items.
     pub items: Vec<T>,
 }
 
-/// A byte counts what lies behind it.
+/// A byte is the count of the items after it.
 impl ItemCount for u8 {
     ghost count_of = { λ n. Some n };
 
@@ -75,7 +75,7 @@ impl<H: ItemCount + DekuReader<()>, T: DekuReader<()>> DekuReader<()> for Counte
     }
 }
 
-// Reads as many items as there are to be.
+// Reads as many items as the count says.
 #[inline(always)]
 fn read_counted<T: DekuReader<()>, R: Source>(
     reader: &mut Reader<R>,
@@ -103,14 +103,16 @@ impl<H: ItemCount + DekuWriter<()>, T: DekuWriter<()>> DekuWriter<()> for Counte
     }
 }
 
-/// Writes a head and the items behind it, as a `Counted` of both is written.
+/// Writes a head and the items after it, as a `Counted` of both is written.
 ///
-/// A head that names another count than that of the items, or none, is refused with
-/// `Assertion("count out of step with items")`, and nothing moves. Else it is refused as the head
-/// is, and then as the first of the items is. The caller's condition: both may be written.
+/// The caller's condition: both may be written.
+///
+/// It fails with `Assertion("count out of step with items")` if the head names no count, or another
+/// count than that of the items; then nothing moves. Otherwise it fails as the head does, and then
+/// as the first item that fails.
 ///
 /// ```text
-/// write_counted(&2u8, &items, writer)?                            // 02 68 69, of the items 68 and 69
+/// write_counted(&2u8, &items, writer)? // 02 68 69, of the items 68 and 69
 /// ```
 #[inline(always)]
 pub fn write_counted<H: ItemCount + DekuWriter<()>, T: DekuWriter<()>, W: Sink>(

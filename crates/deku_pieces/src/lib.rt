@@ -1,4 +1,4 @@
-//! When reading and writing a type are symmetric: the definitions, the laws of what is made of
+//! When reading and writing of a type are symmetric: the definitions, the laws of what is made of
 //! symmetric parts, and whole values that are read under a context.
 #![tactic(auto)]
 

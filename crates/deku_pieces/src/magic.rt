@@ -1,4 +1,4 @@
-//! Parts that are always the same: signatures, versions, lengths that a format fixes.
+//! Parts that always have the same value: signatures, versions, lengths that a format fixes.
 
 ghost use Rattle.std.specs.Prelude.{◌≡◌, ℕ, List, MatchBool};
 ghost use Rattle.deku_pieces.specs.Asserting.{ReadsMagic};
@@ -9,7 +9,7 @@ use deku::writer::Writer;
 use deku::{DekuError, DekuReader, DekuWriter};
 use std::marker::PhantomData;
 
-/// The one value of a part, and the text with which another is refused.
+/// The only value of a part, and the text of the error for another value.
 ///
 /// ```text
 /// impl Constant<Be<u32>> for Signature {
@@ -34,10 +34,10 @@ pub trait Constant<P> {
     // The value.
     ghost value: { P };
 
-    // What is said of another.
+    // The text for another value.
     ghost text: { List ℕ };
 
-    /// The value.
+    /// Returns the value.
     fn value() -> P
         ensures { result ≡ value };
 
@@ -45,29 +45,29 @@ pub trait Constant<P> {
     fn is_value(part: &P) -> bool
         ensures { MatchBool result (part.now ≡ value) (part.now ≡ value → ⊥) };
 
-    /// What is said of another: as a rule the name of the field.
+    /// The text of the error for another value: usually the name of the field.
     fn text() -> &'static str
         ensures { result.now ≡ text };
 }
 
-/// A part that is always the value of `C`, and so has none of its own.
+/// A part that always has the value of `C`, and so stores none itself.
 ///
-/// Where it is read, another value is refused with `Assertion` and the text of the constant, and
-/// stays read. Else it is refused, read or written, as the part is.
+/// Reading another value fails with `Assertion` and the text of the constant; the value stays read.
+/// Otherwise reading and writing fail as the part does.
 ///
 /// ```text
 /// type Parts = (Magic<Be<u32>, Signature>, Be<u16>);              // 7F 45 4C 46, and two bytes
 /// ```
 #[derive(Debug, PartialEq, Eq, Drop)]
 pub struct Magic<P, C> {
-    /// What lies there.
+    /// The type of the value.
     pub part: PhantomData<P>,
-    /// What it is.
+    /// The value.
     pub constant: PhantomData<C>,
 }
 
 impl<P, C> Magic<P, C> {
-    /// The part.
+    /// Makes the part.
     ///
     /// ```text
     /// (Magic::new(), Be(2u16))                                    // of the parts above

@@ -1,5 +1,5 @@
-//! Numbers with a sign whose low bits lie apart from their high ones, as immediates of instruction
-//! words do.
+//! Signed numbers whose low bits are stored apart from their high bits, as in the immediates of
+//! instruction words.
 
 ghost use Rattle.std.specs.Prelude.{◌≡◌, ◌<◌, ◌≤◌, ◌^◌};
 ghost use Rattle.deku_pieces.specs.Scattered.{low_of, high_of, joined_of};
@@ -23,9 +23,9 @@ pub fn low_bits(value: i32, bits: u32) -> u32
     }
 }
 
-/// The bits of a number above its lowest ones, as a number with a sign.
+/// The bits of a number above its lowest ones, as a signed number.
 ///
-/// The caller's condition: at most 30 bits are left out.
+/// The caller's condition: at most 30 of the lowest bits are dropped.
 ///
 /// ```text
 /// high_bits(-2, 5)                                            // -1

@@ -1,4 +1,4 @@
-//! Items up to and including the first that ends them.
+//! Lists of items that end with the first item of a certain kind.
 
 ghost use Rattle.std.specs.Prelude.{◌≡◌, Bool, MatchBool, ⊤};
 ghost use Rattle.deku_pieces.specs.Ending.{IsEnded, ReadsEnded, WritesEnded};
@@ -12,10 +12,10 @@ use deku::writer::Writer;
 use deku::{DekuError, DekuReader, DekuWriter};
 use std::marker::PhantomData;
 
-/// An item that may end its list.
+/// An item that can end its list.
 ///
 /// ```text
-/// impl Last for Label {                                       // a name ends with the label that is empty
+/// impl Last for Label { // a name ends with the empty label
 ///     ghost last_of = { λ label. nat_eq label.head 0 };
 ///
 ///     fn is_last(&self) -> bool {
@@ -24,15 +24,15 @@ use std::marker::PhantomData;
 /// }
 /// ```
 pub trait Last {
-    // Whether it ends its list.
+    // Whether the item ends its list.
     ghost last_of: { Self → Bool };
 
-    /// Whether it ends its list.
+    /// Whether the item ends its list.
     fn is_last(&self) -> bool
         ensures { result ≡ last_of self.now };
 }
 
-// The predicate of such lists.
+// The predicate of these lists.
 #[derive(Clone, Copy)]
 struct AtEnd;
 
@@ -50,21 +50,20 @@ impl<T: Last> Predicate<T> for AtEnd {
     fn finish(self) {}
 }
 
-/// Items, of which the last one ends them, and none before it.
+/// Items of which the last one ends the list, and none before it does.
 ///
-/// Where it is read, items are read up to and including the first that ends them. It is refused as
-/// the first of them is that is refused, or with `Io(OutOfMemory)` where no memory is found for an
-/// item; what the items before it moved stays moved. Where it is written, items of which none or
-/// another than the last is the first that ends them are refused with
-/// `Assertion("items out of step with their end")`, and nothing moves. Else it is refused as the
-/// first of its items is.
+/// Reading takes items up to and including the first that ends the list. It fails as the first item
+/// that fails, or with `Io(OutOfMemory)` if there is no memory for an item; what was read of the
+/// items before it stays read. Writing fails with `Assertion("items out of step with their end")`
+/// if the last item is not the first one that ends the list; then nothing moves. Otherwise it fails
+/// as the first item that fails.
 ///
 /// ```text
-/// type Name = Until<Label>;                                   // 02 68 69 00: a label of two bytes, and the empty one
+/// type Name = Until<Label>; // 02 68 69 00: a label of two bytes, and the empty one
 /// ```
 #[derive(Debug, PartialEq, Eq, Drop)]
 pub struct Until<T> {
-    /// The items, with the one that ends them.
+    /// The items, with the one that ends the list.
     pub items: Vec<T>,
 }
 
@@ -99,7 +98,7 @@ impl<T: Last + DekuWriter<()>> DekuWriter<()> for Until<T> {
     }
 }
 
-// Whether the first item that ends them is the last one.
+// Whether the first item that ends the list is the last one.
 fn are_ended<T: Last>(items: &[T]) -> bool
     ensures { MatchBool result (IsEnded T.Last.last_of items.now)
         (IsEnded T.Last.last_of items.now → ⊥) }

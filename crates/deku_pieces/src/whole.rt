@@ -1,4 +1,4 @@
-//! Whole values under a context, from the front of some bytes.
+//! Whole values under a context, from the start of some bytes.
 
 ghost use Rattle.deku_pieces.specs.Packs.{Unpacks};
 
@@ -7,9 +7,9 @@ use deku::{DekuError, DekuReader};
 use std::alloc::Global;
 use std::io::Cursor;
 
-/// How many bits of the bytes a read takes from the first one on, and the value.
+/// Reads a value from the first byte on. Returns the number of bits that this takes, and the value.
 ///
-/// The caller's condition: the type may be read under the context. It is refused as the type is.
+/// The caller's condition: the type may be read under the context. It fails as the type does.
 ///
 /// ```text
 /// read_whole::<BitSize, u8>(alloc, &[0x5F], BitSize(4))?      // (4, 5)

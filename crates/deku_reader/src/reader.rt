@@ -23,9 +23,9 @@ use std::io::ErrorKind;
 /// The unread bits of the byte that a reader fetched last.
 #[derive(Debug, Clone, Drop)]
 pub enum Leftover {
-    /// All eight of them.
+    /// All eight bits.
     Byte(u8),
-    /// One to seven of them, high bit first.
+    /// One to seven bits, the high bit first.
     Bits(BoundedBitVec<1>),
 }
 
@@ -38,24 +38,23 @@ pub enum ReaderRet {
 
 /// Reads bits from a source of bytes.
 ///
-/// A read fetches the bytes that it needs behind the unread bits, a run of them at once, and none
-/// behind the last bit that was wanted. It keeps the bits of that byte that are not read yet. In
-/// `Msb0` the next bit is the highest of them, in `Lsb0` the lowest; the order may change at any
-/// bit.
+/// A read takes the unread bits first, and then fetches the bytes that it needs, all at once. It
+/// fetches no byte after the last bit that was asked for. The bits of that byte that are not read
+/// yet are kept. In `Msb0` the next bit is the highest of them, in `Lsb0` the lowest; the order may
+/// change at any bit.
 ///
-/// Each read is refused, in this order,
+/// Each read fails, in this order,
 ///
-/// - with the fault that stopped the reader, if one did;
-/// - with `InvalidParam("count past usize")` where the bits read would be more than a `usize`
-///   counts; nothing changes;
-/// - with `Io(OutOfMemory)` where it needs memory and finds none; nothing changes;
-/// - with `Incomplete` of the bits that were asked for, where the input ends before the last of
-///   them;
-/// - with `Io` of the fault's kind, where the source fails.
+/// - with the error that stopped the reader, if one did;
+/// - with `InvalidParam("count past usize")` if the count of bits read would not fit a `usize`;
+///   nothing changes;
+/// - with `Io(OutOfMemory)` if it needs memory and there is none; nothing changes;
+/// - with `Incomplete` of the bits that were asked for, if the input ends before the last of them;
+/// - with `Io` of the failure's kind, if the source fails.
 ///
-/// The last two stop the reader: it answers the same to each further read, skip and look for the
-/// end, also to one of no bits, it has no bits left over, and the count of bits read stays what it
-/// was before the read that failed. A seek that succeeds lets it go on.
+/// The last two stop the reader. It then returns the same error from each further read, skip and
+/// check for the end, even for no bits. It has no bits left over, and the count of bits read stays
+/// what it was before the read that failed. After a seek that succeeds it continues.
 ///
 /// ```text
 /// let mut reader = Reader::new(alloc, Cursor::new(bytes)); // 6D BE EF
@@ -74,8 +73,8 @@ pub struct Reader<R: Source> {
 }
 
 impl<R: Source> Reader<R> {
-    /// A reader that begins at the source's next byte, with no bits read. The vectors that it
-    /// answers are made by `alloc`.
+    /// Makes a reader that begins at the source's next byte, with no bits read. The vectors that it
+    /// returns are made with `alloc`.
     ///
     /// ```text
     /// let mut reader = Reader::new(alloc, Cursor::new(bytes));   // nothing is fetched yet
@@ -92,10 +91,10 @@ impl<R: Source> Reader<R> {
         }
     }
 
-    /// The allocator that it was given.
+    /// The allocator that the reader was made with.
     ///
     /// ```text
-    /// let vector: Vec<u8> = Vec::new(reader.alloc());            // beside those that the reader answers
+    /// let vector: Vec<u8> = Vec::new(reader.alloc());        // like those that the reader returns
     /// ```
     pub fn alloc(&self) -> Global
         ensures { result ≡ self.now.alloc }
@@ -103,11 +102,11 @@ impl<R: Source> Reader<R> {
         self.alloc
     }
 
-    /// The source, behind the last byte that was fetched. Bits of that byte that were not read yet
+    /// The source, after the last byte that was fetched. Bits of that byte that were not read yet
     /// are lost.
     ///
     /// ```text
-    /// reader.into_inner().position()                             // 2, where nine bits were read
+    /// reader.into_inner().position()                             // 2, if nine bits were read
     /// ```
     pub fn into_inner(self) -> R
         ensures { result ≡ self.source }
@@ -115,9 +114,9 @@ impl<R: Source> Reader<R> {
         self.source
     }
 
-    /// The source, behind the last byte that was fetched. What is done to it is done to the
-    /// reader's source: the next bits are the unread ones of that byte, and then those of the bytes
-    /// that the source gives.
+    /// The source, after the last byte that was fetched. Changes to it are changes to the reader's
+    /// source: the next bits are the unread ones of the last byte, and then those of the bytes that
+    /// the source gives.
     ///
     /// ```text
     /// let mut reader = Reader::new(alloc, Cursor::new(bytes)); // 01 02 03
@@ -132,10 +131,10 @@ impl<R: Source> Reader<R> {
         &mut self.source
     }
 
-    /// The unread bits of the byte that was fetched last, where there are any; none after a fault.
+    /// The unread bits of the byte that was fetched last, if there are any. `None` after an error.
     ///
     /// ```text
-    /// reader.leftover()                                          // Some(Leftover::Bits(0, 1)), where the last two bits of a byte are unread
+    /// reader.leftover()   // Some(Leftover::Bits(0, 1)), if the last two bits of a byte are unread
     /// ```
     pub fn leftover(&self) -> Option<Leftover>
         ensures { IsLeftover (unread_of self.now) result }
@@ -152,11 +151,11 @@ impl<R: Source> Reader<R> {
         Some(Leftover::Bits(bits))
     }
 
-    /// How many bits were read or skipped, by calls that succeeded. A seek sets it, as is said
-    /// there.
+    /// How many bits were read or skipped by calls that succeeded. A seek sets the count, as
+    /// described there.
     ///
     /// ```text
-    /// reader.bits_read()                                         // 12, behind reads of 8 and of 4 bits
+    /// reader.bits_read()                                     // 12, after reads of 8 and of 4 bits
     /// ```
     pub fn bits_read(&self) -> usize
         ensures { result ≡ read_count self.now }
@@ -164,11 +163,11 @@ impl<R: Source> Reader<R> {
         self.state.bits_read()
     }
 
-    /// The unread bits of the byte that was fetched last, high bit first: at most eight, and none
-    /// after a fault.
+    /// The unread bits of the byte that was fetched last, the high bit first: at most eight, and
+    /// none after an error.
     ///
-    /// It is refused with `Io(OutOfMemory)` where no memory is found, and with nothing else, also
-    /// by a reader that has stopped. Nothing changes.
+    /// Its only error is `Io(OutOfMemory)`, if there is no memory, even if the reader has stopped.
+    /// Nothing changes.
     ///
     /// ```text
     /// reader.read_bits(13, Order::Lsb0)?; // from 10 81
@@ -185,15 +184,15 @@ impl<R: Source> Reader<R> {
         }
     }
 
-    /// Whether the end of input is reached.
+    /// Whether the end of the input is reached.
     ///
-    /// Where bits of the byte that was fetched last are unread, it answers false and does not ask
-    /// the source. Else it fetches one byte, all of which is then unread: the next reads and skips
-    /// are the same as without this call, and the count stays. It answers true where the source has
-    /// no byte.
+    /// If bits of the byte that was fetched last are unread, it returns `false` and does not call
+    /// the source. Otherwise it fetches one byte, all of which is then unread: the next reads and
+    /// skips are the same as without this call, and the count stays. It returns `true` if the
+    /// source has no byte.
     ///
-    /// It is refused with the fault that stopped the reader, if one did, and with `Io` of the
-    /// fault's kind where the source fails; that stops the reader.
+    /// It fails with the error that stopped the reader, if one did, and with `Io` of the failure's
+    /// kind if the source fails. That stops the reader.
     ///
     /// ```text
     /// reader.end()?;                      // from AA: false
@@ -215,16 +214,16 @@ impl<R: Source> Reader<R> {
         self.state.end(&mut self.source)
     }
 
-    /// Leaves out the next `amt` bits.
+    /// Skips the next `amt` bits.
     ///
-    /// They are the bits that a read of as many in this order would take: those that the byte
-    /// fetched last has unread, then whole bytes, which the source passes without fetching them,
-    /// and then fewer than eight bits of one byte more. The count of bits read rises by `amt`.
+    /// They are the bits that a read of as many bits in this order takes: the unread bits of the
+    /// byte that was fetched last, then whole bytes, which the source skips without fetching them,
+    /// and then fewer than eight bits of one more byte. The count of bits read rises by `amt`.
     ///
-    /// It takes no memory. What is refused, and what is left then, is said at `Reader`, but for two
-    /// things. `Incomplete` is of the bits behind the whole bytes, fewer than eight. And a source
-    /// may pass its end without a fault, as one over memory does: then no byte is left, and the
-    /// call succeeds where no bit is wanted behind the whole bytes.
+    /// It takes no memory. Errors, and what is left after them, are described at `Reader`, with two
+    /// differences. `Incomplete` is of the bits after the whole bytes, which are fewer than eight.
+    /// And a source may skip past its end without an error, as one over memory does. Then no byte
+    /// is left, and the call succeeds if no bit is needed after the whole bytes.
     ///
     /// ```text
     /// reader.read_bits(4, Order::Msb0)?; // from AB CD EF: 1, 0, 1, 0
@@ -245,9 +244,9 @@ impl<R: Source> Reader<R> {
         self.state.skip_bits(&mut self.source, amt, order)
     }
 
-    /// Refuses what a read of `amt` bytes refuses before it asks for memory or moves anything: with
-    /// the fault that stopped the reader, or with `InvalidParam("count past usize")`. A call that
-    /// finds memory for what it reads asks this first.
+    /// Fails as a read of `amt` bytes does before it takes memory or moves anything: with the error
+    /// that stopped the reader, or with `InvalidParam("count past usize")`. A call that takes
+    /// memory for what it reads calls this first.
     ///
     /// ```text
     /// reader.admits_bytes(usize::MAX)                  // InvalidParam("count past usize")
@@ -258,7 +257,7 @@ impl<R: Source> Reader<R> {
         self.state.admits_bytes(amt)
     }
 
-    /// Takes as many bits as the buffer is long, as the order meets them.
+    /// Takes as many bits as the buffer is long, in this order.
     pub(crate) fn take_bits(&mut self, dst: &mut [bool], order: Order) -> Result<(), DekuError>
         ensures takes { Reads R.known (TakesBits order (length dst.old)) self.old
             (filling result dst.new) self.new }
@@ -273,10 +272,10 @@ impl<R: Source> Reader<R> {
 
     /// Fills the buffer with the next bits, as many as it is long.
     ///
-    /// In `Msb0` they stand in the order in which they are met. In `Lsb0` they are turned, so that
-    /// the highest stands first: whole bytes each by itself, and any other number of bits as one.
-    /// What is refused, and what is left then, is said at `Reader`. After a refusal the content of
-    /// the buffer is open.
+    /// In `Msb0` they are in the order in which they are read. In `Lsb0` they are reversed, so that
+    /// the high bit is first: whole bytes each by itself, and any other number of bits as one.
+    /// Errors, and what is left after them, are described at `Reader`. After an error the content
+    /// of the buffer is unspecified.
     ///
     /// ```text
     /// let mut bits = [false; 5];
@@ -296,10 +295,10 @@ impl<R: Source> Reader<R> {
         Ok(())
     }
 
-    /// The next `amt` bits, in a new vector, as `read_bits_into` shows them.
+    /// The next `amt` bits, in a new vector, in the order of `read_bits_into`.
     ///
-    /// Its memory is found before a bit is taken. What is refused, and what is left then, is said
-    /// at `Reader`.
+    /// The memory is allocated before any bit is taken. Errors, and what is left after them, are
+    /// described at `Reader`.
     ///
     /// ```text
     /// reader.read_bits(4, Order::Lsb0)?; // from AB CD: 1, 0, 1, 1
@@ -322,13 +321,16 @@ impl<R: Source> Reader<R> {
         Ok(bits)
     }
 
-    /// The word of the next `amt` bits. The caller's condition: they are at most 128.
+    /// Reads the next `amt` bits as their word.
     ///
-    /// Of the bits that the order takes, each eight from the first on make a group, and the last
-    /// group may be shorter. A group's number has its first bit as the highest in `Msb0`, and as
-    /// the lowest in `Lsb0`. In the word the first group's number counts once, each further one 256
-    /// times as much as the one before it. It takes no memory. What is refused, and what is left
-    /// then, is said at `Reader`.
+    /// The caller's condition: they are at most 128.
+    ///
+    /// The bits that the order takes are divided into groups of eight, from the first on; the last
+    /// group may be shorter. The first bit of a group is the highest of its number in `Msb0`, and
+    /// the lowest in `Lsb0`. In the word the number of the first group has the weight 1, and that
+    /// of each further group 256 times the weight of the one before it.
+    ///
+    /// It takes no memory. Errors, and what is left after them, are described at `Reader`.
     ///
     /// ```text
     /// reader.read_word(12, Order::Msb0)?; // from AB CD: 0xCAB
@@ -346,12 +348,14 @@ impl<R: Source> Reader<R> {
         self.state.take_word(&mut self.source, amt, order)
     }
 
-    /// The number of the next `amt` bits in `Msb0`, the first the highest, where it has them
-    /// without a call on the source that may fail: they are unread, or at hand as
-    /// `Source::try_take` says. The caller's condition: they are at most 64.
+    /// Reads the next `amt` bits in `Msb0` as a number, of which the first bit is the highest. It
+    /// does so only if no call on the source that can fail is needed: the bits are unread, or in
+    /// memory as `Source::try_take` says.
     ///
-    /// It is a read of as many bits, which raises the count. It answers none where `read_word`
-    /// refuses as many, and may do so where it does not; then nothing moves.
+    /// The caller's condition: they are at most 64.
+    ///
+    /// It is a read of as many bits, and raises the count. It returns `None` if `read_word` of as
+    /// many bits fails, and may also do so if it does not. Then nothing moves.
     ///
     /// ```text
     /// reader.try_read_msb(12); // from AB CD EF 01 23 45 67 89: Some of 0xABC
@@ -372,14 +376,16 @@ impl<R: Source> Reader<R> {
         self.state.try_read_msb(&mut self.source, amt)
     }
 
-    /// Reads `amt` bytes into the front of the buffer; what is behind them in it stays. The
-    /// caller's condition: the buffer is as long.
+    /// Reads `amt` bytes into the start of the buffer. The bytes after them stay as they were.
     ///
-    /// They are what a read of eight times as many bits in this order shows, each byte high bit
-    /// first; they need not start where a byte of the source starts. A read of no bytes reads
-    /// nothing. It takes no memory. What is refused, and what is left then, is said at `Reader`:
-    /// `Incomplete` is of the bits, eight times `amt`. After a refusal the content of the bytes
-    /// asked for is open.
+    /// The caller's condition: the buffer is at least `amt` bytes long.
+    ///
+    /// The bytes are what a read of eight times as many bits in this order gives, each byte with
+    /// its high bit first. They need not start at the start of a byte of the source. A read of no
+    /// bytes reads nothing. It takes no memory.
+    ///
+    /// Errors, and what is left after them, are described at `Reader`: `Incomplete` is of the bits,
+    /// eight times `amt`. After an error the content of the bytes asked for is unspecified.
     ///
     /// ```text
     /// let mut bytes = [0; 4];
@@ -410,8 +416,8 @@ impl<R: Source> Reader<R> {
 
     /// The next `amt` bytes, in a new vector, as `read_bytes` reads them.
     ///
-    /// Its memory is found before a byte is taken. What is refused, and what is left then, is said
-    /// at `Reader`: `Incomplete` is of the bits, eight times `amt`.
+    /// The memory is allocated before any byte is taken. Errors, and what is left after them, are
+    /// described at `Reader`: `Incomplete` is of the bits, eight times `amt`.
     ///
     /// ```text
     /// reader.read_bits(4, Order::Msb0)?;        // from AB CD EF: 1, 0, 1, 0
@@ -436,8 +442,7 @@ impl<R: Source> Reader<R> {
         }
     }
 
-    /// Fills the buffer with bytes, as `read_bytes` reads as many as it is long, and is refused as
-    /// that is.
+    /// Fills the buffer with bytes, as `read_bytes` of as many bytes does. It fails as that does.
     ///
     /// ```text
     /// let mut bytes = [0; 2];
@@ -460,8 +465,7 @@ impl<R: Source> Reader<R> {
         Ok(ReaderRet::Bytes)
     }
 
-    /// Fills the buffer with bytes, as `read_bytes` reads as many as it is long, and is refused as
-    /// that is.
+    /// Fills the buffer with bytes, as `read_bytes` of as many bytes does. It fails as that does.
     ///
     /// ```text
     /// let mut byte = [0; 1];

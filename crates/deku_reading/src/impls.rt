@@ -1,4 +1,4 @@
-//! What can be read.
+//! The types that can be read.
 
 mod array;
 mod bool;

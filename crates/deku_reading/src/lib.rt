@@ -1,5 +1,5 @@
-//! What can be read from bits: numbers, truth values, addresses, tuples, what holds one item, and
-//! lists that end by a limit.
+//! What can be read from bits: numbers, truth values, addresses, tuples, types that hold one item,
+//! and lists that end at a limit.
 #![tactic(auto)]
 
 mod impls;

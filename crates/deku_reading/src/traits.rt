@@ -1,4 +1,4 @@
-//! What can be read.
+//! The trait of types that can be read.
 
 ghost use Rattle.std.specs.Prelude.{Option, Result, OnOk, ⊤};
 ghost use Rattle.deku_bits.specs.Streams.{Stream};
@@ -12,23 +12,23 @@ use deku_bits::reader::Reader;
 
 /// A type that is read from bits, under a context.
 ///
-/// An implementation says what reading means, as a relation between the state of the reader before,
-/// the answer and the state after. Its law: each call gives an outcome of that meaning, or a fault
-/// of the device that the meaning lets come, which is answered and kept, with the count that the
-/// meaning states.
+/// An implementation states the meaning of reading: a relation between the state of the reader
+/// before, the result and the state after. The law is that each call gives an outcome of that
+/// meaning, or a failure of the device that the meaning allows. Such a failure is returned and
+/// kept, with the count that the meaning states.
 pub trait DekuReader<Ctx>: Drop {
-    // The contexts under which it may be read: all of them, unless an implementation says which.
+    // The contexts under which the type may be read: all of them, unless an implementation says
+    // otherwise.
     ghost accepts: { Ctx → Type 0 } = { λ _. ⊤ };
 
-    // The contexts under which it fetches no byte too early: all of them, unless an implementation
-    // says which.
+    // The contexts under which the type fetches no byte too early: all of them, unless an
+    // implementation says otherwise.
     ghost no_read_ahead: { Ctx → Type 0 } = { λ _. ⊤ };
 
-    // What reading it answers and leaves; at `true` where the device fails in it.
+    // What reading returns and leaves. The flag is `true` if the device fails during the read.
     ghost meaning: { Ctx → Meaning (Option Stream) Self };
 
-    /// Reads a value. What is refused is stated by the type; what it moved before a refusal stays
-    /// moved.
+    /// Reads a value. The type states its errors. What was read before an error stays read.
     ///
     /// The caller's condition: the type may be read under the context.
     ///

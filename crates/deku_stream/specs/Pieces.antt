@@ -1,29 +1,30 @@
--- Pieces: lists of bits, each in one order; when they are aligned, and the bytes that they lay out.
+-- Pieces: lists of bits, each in one order; when they are aligned; and the bytes that they lay out.
 use Rattle.std.specs.Prelude.{ℕ, zero, suc, ◌+◌, ◌-◌, ◌/◌, ◌%◌, ◌≡◌, ◌⊎◌, Bool, true, false, List, [], ◌∷◌, ◌++◌, length, map, flat_map, take, replicate, ⊤, if◌then◌else◌}
 use Rattle.deku_stream.specs.declared.ctx.Order.{Order}
 use Rattle.deku_stream.specs.declared.ctx.Order.TheVariants.{Msb0, Lsb0}
 use Rattle.deku_stream.specs.Bits.{byte_bits, chunks, facing, group_number}
 
--- bits that are written, or taken, in one order
+-- Bits that are written, or read, in one order.
 pub record Piece : Type 0 where
   pub order : Order
   pub bits : List Bool
 
--- the piece of these bits in this order
+-- The piece of these bits in this order.
 abbrev pub piece : Order → List Bool → Piece
 piece o s = record { order = o; bits = s }
 
--- the order and the width of a piece
+-- The order and the width of a piece.
 abbrev pub shape : Piece → Order × ℕ
 shape p = (p.order, length p.bits)
 
--- whether two orders are the same
+-- Whether two orders are the same.
 abbrev pub same_order : Order → Order → Bool
 same_order Msb0 Msb0 = true
 same_order Lsb0 Lsb0 = true
 same_order _ _ = false
 
--- from bit n on, after order o: what has a width and starts inside a byte has the order of what has a width before it
+-- From bit n on, after order o: a field that has a width and starts inside a byte has the order of
+-- the last field before it that has a width.
 abbrev pub AlignedFrom : ℕ → Order → List (Order × ℕ) → Type 0
 AlignedFrom n o [] = ⊤
 AlignedFrom n o (f ∷ fs) = elim f.1 [
@@ -31,21 +32,22 @@ AlignedFrom n o (f ∷ fs) = elim f.1 [
   | suc w ↦ ((n % 8 ≡ 0) ⊎ (f.0 ≡ o)) × AlignedFrom (n + suc w) f.0 fs
 ]
 
--- the order changes only at byte boundaries
+-- The order changes only at byte boundaries.
 abbrev pub Aligned : List (Order × ℕ) → Type 0
 Aligned fs = AlignedFrom 0 Msb0 fs
 
--- all widths together
+-- All widths together.
 abbrev pub total : List (Order × ℕ) → ℕ
 total [] = 0
 total (f ∷ fs) = f.1 + total fs
 
--- the order of the last one that has a width, or o
+-- The order of the last one that has a width, or o.
 abbrev pub last_order : Order → List (Order × ℕ) → Order
 last_order o [] = o
 last_order o (f ∷ fs) = elim f.1 [ zero ↦ last_order o fs | suc w ↦ last_order f.0 fs ]
 
--- one more piece in front of runs: an empty one goes, one of the first run's order joins it
+-- One more piece before runs. An empty piece is dropped, and one of the first run's order joins
+-- that run.
 abbrev pub in_front : Order → List Bool → List Piece → List Piece
 in_front o [] ps = ps
 in_front o s [] = piece o s ∷ []
@@ -53,24 +55,25 @@ in_front o s (p ∷ ps) = if same_order o p.order
     then piece o (s ++ p.bits) ∷ ps
     else piece o s ∷ p ∷ ps
 
--- the longest runs of one order, the bits of each joined
+-- The longest runs of one order, with the bits of each joined.
 abbrev pub runs : List Piece → List Piece
 runs [] = []
 runs (p ∷ ps) = in_front p.order p.bits (runs ps)
 
--- filled with zeros at the end, up to eight
+-- The bits with zeros at the end, up to eight.
 abbrev pub filled : List Bool → List Bool
 filled g = g ++ replicate (8 - length g) false
 
--- the bytes of a run: its groups of eight, high bit first in `Msb0` and low bit first in `Lsb0`
+-- The bytes of a run: its groups of eight, the high bit first in `Msb0` and the low bit first in
+-- `Lsb0`.
 abbrev pub run_bytes : Piece → List ℕ
 run_bytes p = map (λ g. group_number p.order (filled g)) (chunks p.bits)
 
--- the bytes that pieces lay out: those of their runs
+-- The bytes that pieces lay out: those of their runs.
 unfoldable pub laid_out : List Piece → List ℕ
 laid_out ps = flat_map run_bytes (runs ps)
 
--- the bytes with the last n bits of the last one, as an order meets them, zero
+-- The bytes, with the last n bits of the last one zero, as an order takes them.
 abbrev pub cleared : Order → ℕ → List ℕ → List ℕ
 cleared o n [] = []
 cleared o n (b ∷ []) = group_number o (filled (take (8 - n) (facing o (byte_bits b)))) ∷ []

@@ -6,13 +6,13 @@ ghost use Rattle.deku_device.specs.Overlays.{overlaid};
 
 use std::marker::Model;
 
-/// A list of at most `8 * N` bits, highest first, packed into `N` bytes. No call takes memory, and
-/// none refuses.
+/// A list of at most `8 * N` bits, the high bit first, packed into `N` bytes. No call takes memory,
+/// and none fails.
 ///
 /// ```text
 /// let mut bits: BoundedBitVec<2> = BoundedBitVec::from_bits(&[true, false, true]);
 /// bits.push(true);                          // 1, 0, 1, 1
-/// let behind = bits.split_off(1);           // 1 stays; 0, 1, 1 are behind
+/// let behind = bits.split_off(1);           // 1 stays; 0, 1, 1 are split off
 /// bits.as_raw_slice()                       // [0x80, 0x00]
 /// ```
 #[derive(Debug, Clone, Drop)]
@@ -34,7 +34,9 @@ impl<const N: usize> Model for BoundedBitVec<N> {
 }
 
 impl<const N: usize> BoundedBitVec<N> {
-    /// The empty list. The caller's condition: `8 * N` fits `usize`.
+    /// An empty list.
+    ///
+    /// The caller's condition: `8 * N` fits a `usize`.
     ///
     /// ```text
     /// let bits: BoundedBitVec<1> = BoundedBitVec::new();         // room for eight bits
@@ -49,7 +51,9 @@ impl<const N: usize> BoundedBitVec<N> {
         }
     }
 
-    /// These bits. The caller's condition: they are at most `8 * N`, which fits `usize`.
+    /// A list of these bits.
+    ///
+    /// The caller's condition: they are at most `8 * N`, which fits a `usize`.
     ///
     /// ```text
     /// let bits: BoundedBitVec<1> = BoundedBitVec::from_bits(&[true, false, true]);
@@ -68,7 +72,9 @@ impl<const N: usize> BoundedBitVec<N> {
         }
     }
 
-    /// All bits of these bytes. The caller's condition: `8 * N` fits `usize`.
+    /// A list of all bits of these bytes.
+    ///
+    /// The caller's condition: `8 * N` fits a `usize`.
     ///
     /// ```text
     /// let bits = BoundedBitVec::from_array([0xA0]);
@@ -94,7 +100,7 @@ impl<const N: usize> BoundedBitVec<N> {
         self.len
     }
 
-    /// Whether there is no bit.
+    /// Whether there are no bits.
     ///
     /// ```text
     /// BoundedBitVec::from_array([0xA0]).is_empty()               // false
@@ -127,10 +133,10 @@ impl<const N: usize> BoundedBitVec<N> {
         bit_count(&self.bytes)
     }
 
-    /// The bit at a place, where there is one.
+    /// The bit at a place, if there is one.
     ///
     /// ```text
-    /// BoundedBitVec::from_array([0xA0]).get(2)                   // Some(true); at 8 there is none
+    /// BoundedBitVec::from_array([0xA0]).get(2)                   // Some(true); at 8 it is None
     /// ```
     pub fn get(&self, at: usize) -> Option<bool>
         ensures { result ≡ slice_get self.now at }
@@ -142,7 +148,9 @@ impl<const N: usize> BoundedBitVec<N> {
         }
     }
 
-    /// Adds a bit. The caller's condition: there is room.
+    /// Appends a bit.
+    ///
+    /// The caller's condition: there is room.
     ///
     /// ```text
     /// bits.push(true);                                           // 1, 0 becomes 1, 0, 1
@@ -155,7 +163,9 @@ impl<const N: usize> BoundedBitVec<N> {
         self.len += 1;
     }
 
-    /// Adds bits, one after the other. The caller's condition: there is room.
+    /// Appends bits, one after the other.
+    ///
+    /// The caller's condition: there is room.
     ///
     /// ```text
     /// bits.extend(&[true, true]);                                // 1, 0 becomes 1, 0, 1, 1
@@ -168,7 +178,9 @@ impl<const N: usize> BoundedBitVec<N> {
         self.len += bits.len();
     }
 
-    /// Puts a bit before that at a place. The caller's conditions: there is one, and there is room.
+    /// Inserts a bit before the one at a place.
+    ///
+    /// The caller's conditions: there is a bit at the place, and there is room.
     ///
     /// ```text
     /// bits.insert(1, true);                                      // 1, 0 becomes 1, 1, 0
@@ -182,11 +194,12 @@ impl<const N: usize> BoundedBitVec<N> {
         self.len += 1;
     }
 
-    /// Takes the bits from a place on, and leaves those before it. The caller's condition: there is
-    /// one at the place.
+    /// Takes the bits from a place on, and leaves those before it.
+    ///
+    /// The caller's condition: there is a bit at the place.
     ///
     /// ```text
-    /// let behind = bits.split_off(1);                            // 1, 0, 1 becomes 1, and behind is 0, 1
+    /// let behind = bits.split_off(1);                     // 1, 0, 1 becomes 1, and behind is 0, 1
     /// ```
     pub fn split_off(&mut self, at: usize) -> Self
         requires { at < length self.old }
@@ -201,10 +214,10 @@ impl<const N: usize> BoundedBitVec<N> {
         BoundedBitVec { bytes, len }
     }
 
-    /// Takes all bits away.
+    /// Removes all bits.
     ///
     /// ```text
-    /// bits.clear();                                              // no bit is left, and the room stays
+    /// bits.clear();                                          // no bit is left, and the room stays
     /// ```
     pub fn clear(&mut self)
         ensures { self.new ≡ [] }
@@ -213,7 +226,7 @@ impl<const N: usize> BoundedBitVec<N> {
         self.len = 0;
     }
 
-    /// The `N` bytes: the bits, highest first, and zeros behind them.
+    /// The `N` bytes: the bits, the high bit first, with zeros after them.
     ///
     /// ```text
     /// bits.as_raw_slice()                                        // of 1, 0, 1 in one byte: A0
@@ -226,7 +239,7 @@ impl<const N: usize> BoundedBitVec<N> {
     }
 }
 
-// How many bits bytes have.
+// How many bits the bytes have.
 fn bit_count<const N: usize>(bytes: &[u8; N]) -> usize
     requires { 8 * N < 2 ^ 64 }
     ensures bits { result ≡ 8 * N }
@@ -235,7 +248,7 @@ fn bit_count<const N: usize>(bytes: &[u8; N]) -> usize
     8 * bytes.len()
 }
 
-// The bit at a place of bytes, highest first.
+// The bit at a place of the bytes, the high bit first.
 fn bit_at(bytes: &[u8], at: usize) -> bool
     requires { at < 8 * length bytes.now }
     ensures { result ≡ slice_index_or (bits_in bytes.now) at false }
@@ -243,7 +256,7 @@ fn bit_at(bytes: &[u8], at: usize) -> bool
     bit_of(bytes[at / 8], at % 8)
 }
 
-// Sets the bit at a place of bytes, highest first.
+// Sets the bit at a place of the bytes, the high bit first.
 fn put_bit(bytes: &mut [u8], at: usize, bit: bool)
     requires { at < 8 * length bytes.old }
     ensures len { length bytes.new ≡ length bytes.old }
@@ -252,7 +265,7 @@ fn put_bit(bytes: &mut [u8], at: usize, bit: bool)
     bytes[at / 8] = with_bit(bytes[at / 8], at % 8, bit);
 }
 
-// Lays bits over those from a place on.
+// Overwrites the bits from a place on with these bits.
 fn put_bits(bytes: &mut [u8], at: usize, bits: &[bool])
     requires room { at + length bits.now ≤ 8 * length bytes.old }
     requires fits { at + length bits.now < 2 ^ 64 }
@@ -264,7 +277,7 @@ fn put_bits(bytes: &mut [u8], at: usize, bits: &[bool])
     }
 }
 
-// Lays bits of other bytes, from a place of theirs on, over the first ones.
+// Overwrites the first bits with bits of other bytes, from a place of theirs on.
 fn copy_bits(bytes: &mut [u8], source: &[u8], from: usize, count: usize)
     requires there { from + count ≤ 8 * length source.now }
     requires room { count ≤ 8 * length bytes.old }
@@ -278,7 +291,7 @@ fn copy_bits(bytes: &mut [u8], source: &[u8], from: usize, count: usize)
     }
 }
 
-// Lays zeros over the bits from one place to another.
+// Overwrites the bits from one place to another with zeros.
 fn clear_bits(bytes: &mut [u8], from: usize, to: usize)
     requires order { from ≤ to }
     requires room { to ≤ 8 * length bytes.old }
@@ -291,7 +304,8 @@ fn clear_bits(bytes: &mut [u8], from: usize, to: usize)
     }
 }
 
-// Lays a bit over that at a place, and each from there on over the next, up to the place `len`.
+// Overwrites the bit at a place with this one, and each bit from there on with the one before it,
+// up to the place `len`.
 fn insert_bit(bytes: &mut [u8], at: usize, len: usize, bit: bool)
     requires order { at ≤ len }
     requires room { len < 8 * length bytes.old }
@@ -308,10 +322,10 @@ fn insert_bit(bytes: &mut [u8], at: usize, len: usize, bit: bool)
     put_bit(bytes, len, carried);
 }
 
-// What each bit of a byte counts, highest first.
+// The weight of each bit of a byte, the high bit first.
 const WEIGHTS: [u8; 8] = [128, 64, 32, 16, 8, 4, 2, 1];
 
-// The bit at a place of a byte, highest first.
+// The bit at a place of a byte, the high bit first.
 fn bit_of(byte: u8, place: usize) -> bool
     requires { place < 8 }
     ensures { result ≡ slice_index_or (byte_bits byte) place false }
@@ -319,7 +333,7 @@ fn bit_of(byte: u8, place: usize) -> bool
     byte / WEIGHTS[place] % 2 == 1
 }
 
-// The byte with the bit at a place set, highest first.
+// The byte with the bit at a place set, the high bit first.
 fn with_bit(byte: u8, place: usize, bit: bool) -> u8
     requires { place < 8 }
     ensures { byte_bits result ≡ slice_set (byte_bits byte) place bit }

@@ -1,9 +1,9 @@
-//! The bits of one byte, for the crates of the reader and of the writer.
+//! The bits of one byte, for the crates `deku_reader` and `deku_writer`.
 
 ghost use Rattle.std.specs.Prelude.{◌≡◌};
 ghost use Rattle.deku_stream.specs.Bits.{byte_bits};
 
-/// The eight bits of a byte, highest first.
+/// The eight bits of a byte, the high bit first.
 ///
 /// ```text
 /// bits_of_byte(0xA0)                                             // 1, 0, 1, 0, 0, 0, 0, 0

@@ -3,8 +3,7 @@
 ghost use Rattle.std.specs.Prelude.{◌≡◌};
 ghost use Rattle.deku_stream.specs.declared.ctx.Order.TheVariants.{Msb0};
 
-/// The order in which the bits of a byte are met: from the highest bit down, or from the lowest bit
-/// up.
+/// The order in which the bits of a byte are taken: from the high bit down, or from the low bit up.
 #[derive(Debug, Clone, Copy, PartialEq, Eq)]
 pub enum Order {
     /// The most significant bit first.

@@ -1,4 +1,4 @@
-//! What a read or a write is refused with.
+//! The errors of reads and writes.
 
 ghost use Rattle.std.specs.Prelude.{◌≡◌, ◌+◌, ◌/◌, codes};
 ghost use Rattle.std.specs.IoError.{error_kind};
@@ -11,17 +11,17 @@ use std::io::ErrorKind;
 use std::num::TryFromIntError;
 use thiserror::Error;
 
-/// How many bits a read asked for that found the end of input.
+/// How many bits were asked for by a read that met the end of the input.
 #[derive(Debug, Clone, Copy, PartialEq, Eq)]
 pub struct NeedSize {
     bits: usize,
 }
 
 impl NeedSize {
-    /// So many bits.
+    /// This many bits.
     ///
     /// ```text
-    /// DekuError::Incomplete(NeedSize::new(12))                   // a read of twelve bits found the end of input
+    /// DekuError::Incomplete(NeedSize::new(12))                // a read of twelve bits met the end
     /// ```
     pub fn new(bits: usize) -> NeedSize
         ensures { result.bits ≡ bits }
@@ -40,7 +40,7 @@ impl NeedSize {
         self.bits
     }
 
-    /// The bytes that these bits need: an eighth of them, rounded up.
+    /// The number of bytes that these bits need: an eighth of them, rounded up.
     ///
     /// ```text
     /// NeedSize::new(12).byte_size()                              // 2
@@ -52,31 +52,31 @@ impl NeedSize {
     }
 }
 
-/// Why a read or a write was refused.
+/// Why a read or a write failed.
 #[derive(Debug, Clone, Copy, PartialEq, Eq, Error)]
 pub enum DekuError {
     /// The input ended before the last of the bits that were asked for.
     #[error("Not enough data, need {} bits (or {} bytes)", .0.bit_size(), .0.byte_size())]
     Incomplete(NeedSize),
-    /// What was read is no value of the type.
+    /// What was read is not a value of the type.
     #[error("Parse error: {0}")]
     Parse(&'static str),
-    /// A value or a size that cannot be written or asked for.
+    /// A value cannot be written, or a size cannot be asked for.
     #[error("Invalid param error: {0}")]
     InvalidParam(&'static str),
-    /// A check of a record's own failed.
+    /// A check of the record itself failed.
     #[error("{0}")]
     Assertion(&'static str),
     /// No variant has the id that was read.
     #[error("Could not resolve `id` for variant")]
     IdVariantNotFound,
-    /// The source or the sink failed, or no memory was found.
+    /// The source or the sink failed, or there was no memory.
     #[error("io errorr: {0:?}")]
     Io(ErrorKind),
 }
 
 impl DekuError {
-    /// The kind of io error that says the same.
+    /// The matching kind of io error.
     ///
     /// ```text
     /// DekuError::Incomplete(NeedSize::new(8)).io_kind()  // UnexpectedEof
@@ -95,7 +95,7 @@ impl DekuError {
     }
 }
 
-/// A number that its type cannot hold is `Parse("error parsing int")`.
+/// A number that the type cannot hold is `Parse("error parsing int")`.
 impl From<TryFromIntError> for DekuError {
     ghost from_gives = { λ _ e. Tells Parse (codes "error parsing int") e };
 
@@ -104,7 +104,7 @@ impl From<TryFromIntError> for DekuError {
     }
 }
 
-/// A slice of another length than the array's is `Parse("error parsing from slice")`.
+/// A slice whose length is not that of the array is `Parse("error parsing from slice")`.
 impl From<TryFromSliceError> for DekuError {
     ghost from_gives = { λ _ e. Tells Parse (codes "error parsing from slice") e };
 
@@ -122,8 +122,8 @@ impl From<io::Error> for DekuError {
     }
 }
 
-/// What stops a reader or a writer: the end of input, or a fault of its device. It is kept, and
-/// answered again.
+/// What stops a reader or a writer: the end of the input, or an error of its device. It is kept,
+/// and returned again.
 #[derive(Clone, Copy)]
 pub enum Fault {
     /// The input ended before the last of the bits that were asked for.
@@ -133,10 +133,10 @@ pub enum Fault {
 }
 
 impl Fault {
-    /// The fault as a refusal.
+    /// The fault as an error.
     ///
     /// ```text
-    /// Fault::Io(ErrorKind::Other).error()                        // DekuError::Io(ErrorKind::Other)
+    /// Fault::Io(ErrorKind::Other).error()                       // DekuError::Io(ErrorKind::Other)
     /// ```
     pub fn error(self) -> DekuError
         ensures { result ≡ error_of self }

@@ -1,12 +1,13 @@
-//! Bits as an order meets them, and as they are shown: the highest first.
+//! Bits in the order in which they are taken, and as they are shown: the high bit first.
 
 ghost use Rattle.std.specs.Prelude.{◌≡◌, ◌+◌, ◌≤◌, ◌++◌, length, take, drop, reverse};
 ghost use Rattle.deku_stream.specs.Bits.{shown};
 
 use crate::ctx::Order;
 
-/// Turns bits that an order met in turn, so that the highest stands first, and back. In `Msb0` they
-/// stay. In `Lsb0` whole bytes are turned each by itself, and any other number of bits as one.
+/// Reverses bits that were taken in an order, so that the high bit comes first, and back. In `Msb0`
+/// they stay. In `Lsb0` whole bytes are reversed each by itself, and any other number of bits as
+/// one.
 ///
 /// ```text
 /// show(&mut bits, Order::Lsb0)                                   // 1, 0, 0 becomes 0, 0, 1
@@ -21,7 +22,8 @@ pub fn show(bits: &mut [bool], order: Order)
     }
 }
 
-// Shows bits that were taken in `Lsb0`: whole bytes byte by byte, and others as one number.
+// Shows bits that were taken in `Lsb0`: whole bytes byte by byte, and any other number of bits as
+// one.
 fn turn(bits: &mut [bool])
     ensures { bits.new ≡ shown Order.Lsb0 bits.old }
 {

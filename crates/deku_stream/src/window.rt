@@ -11,7 +11,7 @@ use crate::byte::bits_of_byte;
 use crate::ctx::Order;
 use std::marker::Model;
 
-/// Unread bits of one byte, as a number of so many bits, the first of them its highest.
+/// Unread bits of one byte, as a number of `len` bits, of which the first is the highest.
 #[derive(Drop)]
 pub struct Window {
     bits: u8,
@@ -47,7 +47,7 @@ impl Window {
         Window { bits: byte, len: 8 }
     }
 
-    /// The same bits again.
+    /// Returns the same bits.
     pub fn copy(&self) -> Window
         ensures { result ≡ self.now }
     {
@@ -65,14 +65,14 @@ impl Window {
         self.len
     }
 
-    /// Eight bits, of which the last are those that are unread.
+    /// Eight bits, of which the last are the unread ones.
     pub fn in_eight(&self) -> [bool; 8]
         ensures { drop (8 - length self.now) result ≡ self.now }
     {
         bits_of_byte(self.bits)
     }
 
-    /// The byte, where all its bits are unread.
+    /// The byte. All its bits have to be unread.
     pub fn byte(&self) -> u8
         requires { length self.now ≡ 8 }
         ensures { byte_bits result ≡ self.now }
@@ -80,7 +80,7 @@ impl Window {
         self.bits
     }
 
-    /// Takes the next bits in this order, and answers their number.
+    /// Takes the next `count` bits in this order, and returns their number.
     #[inline(always)]
     pub fn take(&mut self, count: usize, order: Order) -> u8
         requires { count ≤ length self.old }
@@ -115,8 +115,8 @@ impl Window {
         low
     }
 
-    /// Takes the next bits in this order, where those of these eight bytes come behind the unread
-    /// ones, and answers their word. The rest of the last byte that they need is then unread.
+    /// Takes the next `count` bits in this order, with those of these eight bytes after the unread
+    /// ones, and returns their word. The rest of the last byte that they need is then unread.
     #[inline(always)]
     pub fn take_across(&mut self, eight: &[u8; 8], count: usize, order: Order) -> u64
         requires short { length self.old < 8 }
@@ -134,8 +134,8 @@ impl Window {
         }
     }
 
-    /// Takes the next bits from the highest down, where those of these eight bytes come behind the
-    /// unread ones, and answers their number. The rest of the last byte that they need is then
+    /// Takes the next `count` bits, the high bits first, with those of these eight bytes after the
+    /// unread ones, and returns their number. The rest of the last byte that they need is then
     /// unread.
     #[inline(always)]
     pub fn take_high_across(&mut self, eight: &[u8; 8], count: usize) -> u64
@@ -147,14 +147,14 @@ impl Window {
             eight.now) ≡ bits_of count result ++ self.new }
     {
         let number = u64::from_be_bytes(*eight);
-        // Whole bytes, where no bit is unread, leave none.
+        // Whole bytes leave no bit unread, if none was unread.
         if self.len == 0 && count % 8 == 0 {
             return number >> (64 - count);
         }
         self.across_high(number, count)
     }
 
-    // The number of the next bits, where the high bits of 64 come behind the unread ones.
+    // The number of the next bits, with the high bits of `eight` after the unread ones.
     #[inline(always)]
     fn across_high(&mut self, eight: u64, count: usize) -> u64
         requires short { length self.old < 8 }
@@ -168,7 +168,7 @@ impl Window {
         let behind = count - self.len;
         let above = 64 - behind;
         let spare = above % 8;
-        // With none unread there is nothing to shift, also by 64.
+        // If none is unread there is nothing to shift, even by 64.
         let held = (self.bits as u64) << (behind % 64);
         let rest = (eight >> (above - spare)) % (1 << spare);
         self.bits = rest as u8;
@@ -176,7 +176,7 @@ impl Window {
         held + (eight >> above)
     }
 
-    // The number of the next bits, where the low bits of 64 come before the unread ones.
+    // The number of the next bits, with the low bits of `eight` before the unread ones.
     #[inline(always)]
     fn across_low(&mut self, eight: u64, count: usize) -> u64
         requires short { length self.old < 8 }
@@ -191,7 +191,7 @@ impl Window {
         let spare = above % 8;
         let low = (eight << above) >> above;
         let number = (low << self.len) + self.bits as u64;
-        // Of 64 bits none is left, also by a shift that does nothing.
+        // Of 64 bits none is left, even if the shift does nothing.
         let rest = (eight >> (behind % 64)) % (1 << spare);
         self.bits = rest as u8;
         self.len = spare;
@@ -206,8 +206,8 @@ impl Window {
         self.take(1, order) == 1
     }
 
-    /// Takes the next eight bits in this order, where those of this byte come behind the unread
-    /// ones: as a byte. As many are then unread.
+    /// Takes the next eight bits in this order, with those of this byte after the unread ones, as a
+    /// byte. The same number of bits is then unread.
     pub fn exchange(&mut self, byte: u8, order: Order) -> u8
         ensures bits { facing order self.old ++ facing order (byte_bits byte) ≡ facing order
             (byte_bits result) ++ facing order self.new }
@@ -228,8 +228,8 @@ impl Window {
         high
     }
 
-    // What is unread then is of this byte alone, so that no byte of a run waits for the one before
-    // it.
+    // The bits that are unread then come from this byte only, so that no byte of a run waits for
+    // the one before it.
     fn exchange_low(&mut self, byte: u8) -> u8
         ensures bits { byte_bits byte ++ self.old ≡ self.new ++ byte_bits result }
         ensures len { length self.new ≡ length self.old }
@@ -240,8 +240,8 @@ impl Window {
         whole as u8
     }
 
-    /// Takes the next 64 bits in this order, where those of these eight bytes come behind the
-    /// unread ones: as eight bytes. As many are then unread.
+    /// Takes the next 64 bits in this order, with those of these eight bytes after the unread ones,
+    /// as eight bytes. The same number of bits is then unread.
     #[inline(always)]
     pub fn exchange_eight(&mut self, eight: &[u8; 8], order: Order) -> [u8; 8]
         ensures bits { facing order self.old ++ flow order eight.now ≡ flow order result ++ facing
@@ -254,8 +254,8 @@ impl Window {
         word.to_le_bytes()
     }
 
-    // The next 64 bits in this order, where those of these eight bytes come behind the unread ones:
-    // as a number, the first byte the lowest.
+    // The next 64 bits in this order, with those of these eight bytes after the unread ones, as a
+    // number whose low byte is the first.
     #[inline(always)]
     fn word_through(&mut self, eight: &[u8; 8], order: Order) -> u64
         ensures bits { facing order self.old ++ flow order eight.now ≡ flow order
@@ -271,35 +271,35 @@ impl Window {
         }
     }
 
-    // The number of the next 64 bits, where those of this number come behind the unread ones.
+    // The number of the next 64 bits, with those of this number after the unread ones.
     #[inline(always)]
     fn through_high(&mut self, eight: u64) -> u64
         ensures bits { self.old ++ bits_of 64 eight ≡ bits_of 64 result ++ self.new }
         ensures len { length self.new ≡ length self.old }
     {
-        // With none unread there is nothing to shift, also by 64.
+        // If none is unread there is nothing to shift, even by 64.
         let held = (self.bits as u64) << ((64 - self.len) % 64);
         let rest = eight % (1 << self.len);
         self.bits = rest as u8;
         held + (eight >> self.len)
     }
 
-    // The number of the next 64 bits, where those of this number come before the unread ones.
+    // The number of the next 64 bits, with those of this number before the unread ones.
     #[inline(always)]
     fn through_low(&mut self, eight: u64) -> u64
         ensures bits { bits_of 64 eight ++ self.old ≡ self.new ++ bits_of 64 result }
         ensures len { length self.new ≡ length self.old }
     {
         let number = (eight << self.len) + self.bits as u64;
-        // With none unread none is left, also by a shift that does nothing.
+        // If none is unread none is left, even if the shift does nothing.
         let rest = (eight >> ((64 - self.len) % 64)) % (1 << self.len);
         self.bits = rest as u8;
         number
     }
 }
 
-// The number of bits whose last ones, so many, have the number `low`, and whose others have the
-// number `high`.
+// The number of bits whose last `count` have the number `low`, and whose others have the number
+// `high`.
 #[tactic(auto, using(crate::proofs::Packed::byte_shifted, crate::proofs::Windows::with_low))]
 fn joined(high: u8, low: u8, count: usize) -> u16
     requires few { count ≤ 8 }
@@ -311,8 +311,8 @@ fn joined(high: u8, low: u8, count: usize) -> u16
     above + low as u16
 }
 
-/// The word of whole bytes, the first of these eight, in each order: where no bit is unread, they
-/// are the next bits.
+/// The word of whole bytes, the first of these eight, in each order. If no bit is unread, they are
+/// the next bits.
 #[inline(always)]
 pub fn word_of_front(eight: &[u8; 8], count: usize) -> u64
     requires whole { count % 8 ≡ 0 }
@@ -325,8 +325,8 @@ pub fn word_of_front(eight: &[u8; 8], count: usize) -> u64
     (u64::from_le_bytes(*eight) << above) >> above
 }
 
-// The word of so many bits, the first the highest, from their number: whole bytes are turned, and
-// the bits behind them follow.
+// The word of `count` bits, the high bits first, from their number: the whole bytes are reversed,
+// and the bits after them follow.
 #[inline(always)]
 fn word_of_high(number: u64, count: usize) -> u64
     requires few { count ≤ 64 }
@@ -339,12 +339,12 @@ fn word_of_high(number: u64, count: usize) -> u64
     let behind = count % 8;
     let whole = count - behind;
     let turned = (number >> behind).swap_bytes() >> (64 - whole);
-    // Behind 64 bits there is nothing to shift.
+    // After 64 bits there is nothing to shift.
     let last = (number % (1 << behind)) << (whole % 64);
     turned + last
 }
 
-// The numbers of the bits before the last `count` ones, and of these.
+// The numbers of the bits before the last `count` ones, and of the last ones.
 #[inline(always)]
 fn split(bits: u16, count: usize) -> (u8, u8)
     requires few { count ≤ 8 }

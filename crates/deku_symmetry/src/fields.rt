@@ -1,4 +1,4 @@
-//! Items whose type says how they lie: the parts of records.
+//! Items whose types state their layout: the parts of records.
 
 ghost use Rattle.std.specs.Prelude.{refl};
 ghost use Rattle.deku_bits.specs.Outcomes.{Mapped};
@@ -13,7 +13,7 @@ use deku::reader::Reader;
 use deku::writer::Writer;
 use deku::{DekuError, DekuReader, DekuWriter};
 
-/// A number of `N` bits, high bits first: big and `Msb0`. It is refused as the number is under that
+/// A number of `N` bits, high bits first: big and `Msb0`. It fails as the number does under that
 /// context.
 ///
 /// ```text
@@ -60,8 +60,8 @@ impl<T: Symmetric<(Endian, BitSize)>, const N: usize> Symmetric<()> for Msb<T, N
         (T.symmetric (Big, record { 0 = N })) };
 }
 
-/// A number of `N` bits, low bits first: little and `Lsb0`. It is refused as the number is under
-/// that context.
+/// A number of `N` bits, low bits first: little and `Lsb0`. It fails as the number does under that
+/// context.
 ///
 /// ```text
 /// (Lsb::<u8, 4>(1), Lsb::<u16, 12>(0x123)).pack(alloc, ())? // 31 12
@@ -109,8 +109,8 @@ impl<T: Symmetric<(Endian, BitSize, Order)>, const N: usize> Symmetric<()> for L
         (T.symmetric (Little, record { 0 = N }, Lsb0)) };
 }
 
-/// A number of `N` bits in `Msb0`, its low byte first: little and `Msb0`. It is refused as the
-/// number is under that context.
+/// A number of `N` bits in `Msb0`, with its low byte first: little and `Msb0`. It fails as the
+/// number does under that context.
 ///
 /// ```text
 /// MsbLe::<u16, 10>(0x3AB).pack(alloc, ())?                  // AB C0
@@ -156,9 +156,9 @@ impl<T: Symmetric<(Endian, BitSize)>, const N: usize> Symmetric<()> for MsbLe<T,
         (T.symmetric (Little, record { 0 = N })) };
 }
 
-/// A number of `N` bits in `Lsb0`, its high byte first: big and `Lsb0`. It is refused as the number
-/// is under that context; a signed one of more than eight bits whose width is no multiple of eight
-/// always is.
+/// A number of `N` bits in `Lsb0`, with its high byte first: big and `Lsb0`. It fails as the number
+/// does under that context. A signed number of more than eight bits always fails if its width is
+/// not a multiple of eight.
 ///
 /// ```text
 /// (LsbBe::<u16, 13>(0x1001), LsbBe::<u8, 3>(4)).pack(alloc, ())? // 10 81
@@ -206,7 +206,7 @@ impl<T: Symmetric<(Endian, BitSize, Order)>, const N: usize> Symmetric<()> for L
         (T.symmetric (Big, record { 0 = N }, Lsb0)) };
 }
 
-/// A number of whole bytes, the high one first: big and `Msb0`.
+/// A number of whole bytes, with the high byte first: big and `Msb0`.
 ///
 /// ```text
 /// Be(0xC0FEu16).pack(alloc, ())?                            // C0 FE
@@ -252,7 +252,7 @@ impl<T: Symmetric<Endian>> Symmetric<()> for Be<T> {
         (T.symmetric Big) };
 }
 
-/// A number of whole bytes, the low one first: little and `Msb0`.
+/// A number of whole bytes, with the low byte first: little and `Msb0`.
 ///
 /// ```text
 /// Le(0xC0FEu16).pack(alloc, ())?                            // FE C0

@@ -1,4 +1,4 @@
-//! What an id chooses.
+//! The parts that an id chooses from.
 
 ghost use Rattle.std.specs.Prelude.{◌≡◌, ℕ, List, refl};
 ghost use Rattle.deku_bits.specs.Pieces.{Piece};
@@ -13,14 +13,14 @@ use crate::traits::Symmetric;
 use deku::ctx::{BitSize, Endian, NumberCtx, Order};
 use deku_pieces::{Choice, HasId, Only, Tagged};
 
-/// Kinds of parts that an id chooses from: what is read under an id has this id.
+/// A kind of parts that an id chooses from. A value that is read under an id has this id.
 pub trait HasIdLaw: HasId + Symmetric<u8> {
-    // What has pieces under an id has that id.
+    // A value that has pieces under an id has that id.
     ghost own: { (v : Self) (id : ℕ) (ps : List Piece) → Self.Symmetric.pieces v id ps
         → id ≡ Self.HasId.id_of v };
 }
 
-/// The pieces of the value, under its id alone.
+/// The pieces of the value, under its own id only.
 impl<A: Symmetric<()>, const ID: u8> Symmetric<u8> for Only<A, ID> {
     ghost pieces = { λ v id. UnderId ID id (A.pieces v.0 tt) };
 
@@ -34,7 +34,7 @@ impl<A: Symmetric<()>, const ID: u8> HasIdLaw for Only<A, ID> {
     ghost own = { λ v id ps p. p.0 };
 }
 
-/// The pieces of what was chosen, under its id alone.
+/// The pieces of the chosen value, under its own id only.
 impl<A: Symmetric<()>, B: HasIdLaw, const ID: u8> Symmetric<u8> for Choice<A, B, ID> {
     ghost pieces = { λ v id. OfChoice ID id (λ a. A.pieces a tt) (λ b. B.Symmetric.pieces b id) v };
 
@@ -48,7 +48,7 @@ impl<A: Symmetric<()>, B: HasIdLaw, const ID: u8> HasIdLaw for Choice<A, B, ID> 
         B.HasId.id_of (λ b. B.own b id) v ps p };
 }
 
-/// The piece of the id, and then those of what it chooses.
+/// The piece of the id, and then the pieces of what it chooses.
 impl<A: Symmetric<()>, B: HasIdLaw, const ID: u8, const N: usize, const LOW: bool> Symmetric<()>
     for Tagged<A, B, ID, N, LOW> {
     ghost pieces = { λ v _. OfTagged (λ id. ⟦<u8 as Symmetric<(Endian, BitSize, Order)>>⟧.pieces id

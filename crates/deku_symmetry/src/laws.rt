@@ -1,4 +1,4 @@
-//! Laws of symmetric types: each is what an empty function ensures.
+//! Laws of symmetric types. Each law is the postcondition of an empty function.
 
 ghost use Rattle.std.specs.Prelude.{ℕ};
 ghost use Rattle.deku.specs.declared.ctx.Limit.TheVariants.{Count};
@@ -10,31 +10,36 @@ use crate::traits::Symmetric;
 use deku::DekuReader;
 use deku::ctx::{Limit, Never};
 
-/// `to_bytes` of a value with aligned pieces, whose bits can be counted, is what they lay out; or
-/// no memory was found.
+/// `to_bytes` of a value with aligned pieces, whose bits can be counted, gives what the pieces lay
+/// out. The only other result is that memory runs out.
 pub fn to_bytes_law<T: Symmetric<()>>()
     ensures { ToBytesLaw (λ v. T.pieces v tt) (λ v. T.DekuWriter.meaning v tt) }
 {}
 
-/// `from_bytes`, at bit 0, of bytes that begin with what the aligned pieces of a value lay out,
-/// whatever follows, is that value and the rest of the bytes behind its pieces; or no memory was
-/// found. And whatever value it answers has pieces that were taken in turn from the bytes.
+/// `from_bytes`, at bit 0, reads a value back from bytes that begin with what its aligned pieces
+/// lay out, whatever follows. It returns that value and the rest of the bytes after its pieces. The
+/// only other result is that memory runs out. Every value that it returns has pieces that were
+/// taken from the bytes, one after the other.
 pub fn from_bytes_law<T: Symmetric<()>>()
     ensures back { FromBytesLaw (λ v. T.pieces v tt) T.same (T.DekuReader.meaning tt) }
     ensures found { FoundLaw (λ v. T.pieces v tt) (T.DekuReader.meaning tt) }
 {}
 
-/// Aligned pieces of whole bytes, taken in turn from the first byte on, lay out these bytes again.
-/// So what was read as whole bytes is written as them.
+/// Aligned pieces of whole bytes, taken one after the other from the first byte on, lay out these
+/// bytes again. So what was read as whole bytes is written as the same bytes.
 pub fn whole_bytes_law()
     ensures { WholeBytesLaw }
 {}
 
-/// Symmetric items under a context, of which a slice or a vector is written and as many are read
-/// under a count: they are symmetric together. `padded_bytes` of them is what their aligned pieces
-/// lay out, and a read under a count of as many, of bytes that begin with that, gives the same
-/// items; or no memory was found. The clauses `items` and `back` are on the list of items, which a
-/// map or a set is made of too; `vector` is of `read_whole` of a vector.
+/// Items of a symmetric type, written as a slice or a vector and read back with their number as the
+/// count, are symmetric together.
+///
+/// `padded_bytes` of them gives what their aligned pieces lay out. A read with this count, from
+/// bytes that begin with that, gives the same items. The only other result of both is that memory
+/// runs out.
+///
+/// The clauses `items`, `there` and `back` are about the list of items, which maps and sets are
+/// made of too. The clause `vector` is about `read_whole` of a vector.
 pub fn counted_law<Ctx: Copy, T: Symmetric<Ctx>>()
     ensures items { (c : Ctx) → CountedLaw (λ x. T.pieces x c) T.same
         (λ x. T.DekuWriter.meaning x c) (T.DekuReader.meaning c) }

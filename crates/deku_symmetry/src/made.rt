@@ -1,4 +1,4 @@
-//! Parts that other parts depend on.
+//! Parts on which other parts depend.
 
 ghost use Rattle.std.specs.Prelude.{◌≡◌, ◌<◌, List, refl, ⊤};
 ghost use Rattle.deku_bits.specs.Pieces.{Piece};
@@ -17,9 +17,9 @@ use deku_pieces::counted::{Counted, ItemCount};
 use deku_pieces::magic::{Constant, Magic};
 use deku_pieces::until::{Last, Until};
 
-/// A head that says how many items lie behind it: the same heads say the same.
+/// A head that says how many items follow it. Heads that are the same give the same count.
 pub trait ItemCountLaw: ItemCount + Symmetric<()> {
-    // The same heads count the same.
+    // Heads that are the same give the same count.
     ghost alike: { (v w : Self) → Self.Symmetric.same v w
         → Self.ItemCount.count_of v ≡ Self.ItemCount.count_of w };
 }
@@ -28,8 +28,8 @@ impl ItemCountLaw for u8 {
     ghost alike = { λ v w e. rw e refl };
 }
 
-/// The pieces of the head, and then those of its items; items that are not as many as the head says
-/// have none.
+/// The pieces of the head, and then those of its items. There are no pieces if the number of items
+/// is not the one that the head gives.
 impl<H: ItemCountLaw, T: Symmetric<()>> Symmetric<()> for Counted<H, T> {
     ghost pieces = { λ v _. OfCountedBy H.ItemCount.count_of (λ h. H.Symmetric.pieces h tt)
         (λ x. T.pieces x tt) v };
@@ -40,17 +40,18 @@ impl<H: ItemCountLaw, T: Symmetric<()>> Symmetric<()> for Counted<H, T> {
         (H.Symmetric.symmetric tt) (T.symmetric tt) };
 }
 
-/// An item that may end its list: the same items end it alike, and each has a bit at least.
+/// An item that can end its list. Items that are the same all end it, or none of them does. Each
+/// item has at least one bit.
 pub trait LastLaw: Last + Symmetric<()> {
-    // The same items end their lists alike.
+    // Items that are the same all end their lists, or none of them does.
     ghost alike: { (v w : Self) → Self.Symmetric.same v w
         → Self.Last.last_of v ≡ Self.Last.last_of w };
 
-    // What has pieces has a bit.
+    // An item that has pieces has at least one bit.
     ghost wide: { (v : Self) (ps : List Piece) → Self.Symmetric.pieces v tt ps → 0 < breadth ps };
 }
 
-/// The pieces of the items, where the first that ends them is the last one.
+/// The pieces of the items. The first item that ends them has to be the last one.
 impl<T: LastLaw> Symmetric<()> for Until<T> {
     ghost pieces = { λ v _. OfEnded T.Last.last_of (λ x. T.Symmetric.pieces x tt) v.items.items };
 
@@ -60,13 +61,13 @@ impl<T: LastLaw> Symmetric<()> for Until<T> {
         (T.Symmetric.symmetric tt) };
 }
 
-/// A check that the same parts pass alike.
+/// A check that gives the same result for parts that are the same.
 pub trait CheckLaw<P: Symmetric<()>>: Check<P> {
-    // The same parts pass alike.
+    // Parts that are the same all pass, or none of them does.
     ghost alike: { (v w : P) → P.Symmetric.same v w → Self.Check.passes v ≡ Self.Check.passes w };
 }
 
-/// The pieces of the part, where it passes.
+/// The pieces of the part, if it passes the check.
 impl<P: Symmetric<()>, C: CheckLaw<P>> Symmetric<()> for Assert<P, C> {
     ghost pieces = { λ v _. OfPassing C.Check.passes (λ p. P.Symmetric.pieces p tt) v };
 
@@ -76,9 +77,10 @@ impl<P: Symmetric<()>, C: CheckLaw<P>> Symmetric<()> for Assert<P, C> {
         (P.Symmetric.symmetric tt) };
 }
 
-/// A constant that the same parts are: they are the value itself.
+/// A constant whose value is the same only as itself: each part that is the same as the value is
+/// equal to it.
 pub trait ConstantLaw<P: Symmetric<()>>: Constant<P> {
-    // What is the same as the value is the value.
+    // A part that is the same as the value is equal to the value.
     ghost alike: { (v : P) → P.Symmetric.same Self.Constant.value v → v ≡ Self.Constant.value };
 }
 

@@ -19,33 +19,33 @@ use deku::reader::Reader;
 use deku::writer::Writer;
 use deku::{DekuError, DekuReader, DekuWriter};
 
-/// A record that is the tuple of its parts under a context, one way and the other. Its two laws
-/// leave no field out of the parts.
+/// A record that can be turned into the tuple of its parts and back, under a context. Its law
+/// `there` makes sure that no field is missing from the parts.
 ///
 /// ```text
-/// type Parts = (Msb<u8, 4>, Msb<u8, 4>, Be<u16>);             // of a record of three fields, under ()
+/// type Parts = (Msb<u8, 4>, Msb<u8, 4>, Be<u16>); // of a record of three fields, under ()
 /// ```
 pub trait FromParts<Ctx>: Drop {
-    /// The parts, in the order in which they lie.
+    /// The parts, in the order of their layout.
     type Parts: Drop;
 
     // The parts of a record.
     ghost parts_of: { Self → Self.Parts };
 
-    // The record of parts.
+    // The record that parts make.
     ghost record_of: { Self.Parts → Self };
 
-    /// The record of parts.
+    /// The record that these parts make.
     fn from_parts(parts: Self::Parts) -> Self
     where
         Self: Sized,
         ensures { result ≡ record_of parts };
 
-    // A record is that of its parts: no field is left out of them.
+    // The parts of a record make this record again: no field is missing from them.
     ghost there: { (v : Self) → record_of (parts_of v) ≡ v };
 }
 
-/// A record whose parts can be had without its memory: its fields are copied.
+/// A record whose parts can be copied out of it.
 ///
 /// ```text
 /// fn parts(&self) -> Self::Parts {
@@ -58,33 +58,32 @@ pub trait ToParts<Ctx>: FromParts<Ctx> {
         ensures { result ≡ Self.FromParts.parts_of self.now };
 }
 
-/// A record whose reader and writer are those of its parts: it is `Symmetric<()>`. The page
-/// `docs/RECORDS.md` has one whole, and says what a record under another context states in its
-/// place.
+/// A record that is read and written as its parts: it is `Symmetric<()>`. The page
+/// `docs/RECORDS.md` shows a complete one. It also says what a record under another context states
+/// instead.
 pub trait Record: FromParts<()> + DekuReader<()> + DekuWriter<()>
 where
     Self::Parts: Symmetric<()>,
 {
-    // Parts that have pieces are those of their record.
+    // Parts that have pieces are the parts of the record that they make.
     ghost back: { (p : Self.Parts) (ps : List Piece) → Self.Parts.pieces p tt ps
         → Self.parts_of (Self.record_of p) ≡ p };
 
-    // Nothing is read but the parts.
+    // Nothing is read except the parts.
     ghost reads: { (b : Bool) (s : Standing (Option Stream)) (r : Result Self Refusal)
         (u : Standing (Option Stream))
         → Self.DekuReader.meaning tt b s r u → Mapped Self.record_of
         (Self.Parts.DekuReader.meaning tt) b s r u };
 
-    // Nothing is written but the parts.
+    // Nothing is written except the parts.
     ghost writes: { (v : Self) (b : Bool) (s : Standing Output) (r : Result (Unit {0}) Refusal)
         (u : Standing Output)
         → Self.DekuWriter.meaning v tt b s r u
         → Self.Parts.DekuWriter.meaning (Self.parts_of v) tt b s r u };
 }
 
-/// A record whose reader and writer are those of its parts under an endian that is chosen where it
-/// is read or written: it is `Symmetric<Endian>`. It states the same as `Record` does, for each
-/// endian.
+/// A record that is read and written as its parts, under an endian that is chosen when it is read
+/// or written: it is `Symmetric<Endian>`. It states the same as `Record`, for each endian.
 ///
 /// ```text
 /// impl EndianRecord for Fields {
@@ -97,27 +96,27 @@ pub trait EndianRecord: FromParts<Endian> + DekuReader<Endian> + DekuWriter<Endi
 where
     Self::Parts: Symmetric<Endian>,
 {
-    // Parts that have pieces are those of their record.
+    // Parts that have pieces are the parts of the record that they make.
     ghost back: { (p : Self.Parts) (c : Endian) (ps : List Piece) → Self.Parts.pieces p c ps
         → Self.parts_of (Self.record_of p) ≡ p };
 
-    // Nothing is read but the parts.
+    // Nothing is read except the parts.
     ghost reads: { (c : Endian) (b : Bool) (s : Standing (Option Stream)) (r : Result Self Refusal)
         (u : Standing (Option Stream))
         → Self.DekuReader.meaning c b s r u → Mapped Self.record_of
         (Self.Parts.DekuReader.meaning c) b s r u };
 
-    // Nothing is written but the parts.
+    // Nothing is written except the parts.
     ghost writes: { (c : Endian) (v : Self) (b : Bool) (s : Standing Output)
         (r : Result (Unit {0}) Refusal) (u : Standing Output)
         → Self.DekuWriter.meaning v c b s r u
         → Self.Parts.DekuWriter.meaning (Self.parts_of v) c b s r u };
 }
 
-/// Reads the parts, and is the record of them: the body of a record's `from_reader_with_ctx`.
+/// Reads the parts and makes the record of them: the body of a record's `from_reader_with_ctx`.
 ///
-/// The caller's condition: the parts may be read. It is refused as they are, and what was read
-/// before stays read.
+/// The caller's condition: the parts may be read under the context. It fails as they do, and what
+/// was read before stays read.
 ///
 /// ```text
 /// read_record(reader, ())
@@ -139,11 +138,11 @@ where
     Ok(T::from_parts(parts))
 }
 
-/// Writes the parts of the record: the body of a record's `to_writer`. A record that holds memory
-/// has its parts written where they lie, as by `write_counted`.
+/// Writes the parts of the record: the body of a record's `to_writer`. A record that owns memory
+/// writes its parts in place instead, for example with `write_counted`.
 ///
-/// The caller's condition: the parts may be written. It is refused as they are, and what was
-/// written before stays written.
+/// The caller's condition: the parts may be written under the context. It fails as they do, and
+/// what was written before stays written.
 ///
 /// ```text
 /// write_record(self, writer, ())

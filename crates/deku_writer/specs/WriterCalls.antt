@@ -13,80 +13,81 @@ use Rattle.deku_device.specs.Devices.{KnownSink, Shrinks, LacksRoom, TakesSome, 
 use Rattle.deku_stream.specs.Standings.{Standing, Going, Stopped, Untouched, Output, count_of, writer_state}
 use Rattle.deku_stream.specs.Outcomes.{Meaning, Outcome, UnlessStopped, CountsBits}
 
--- a call on a sink and what a writer keeps beside it
+-- A call on a sink and on the state that a writer keeps besides it.
 abbrev pub WritesAt : Meaning Output (Unit {0}) → KnownSink → Standing Pending → Result (Unit {0}) DekuError → KnownSink → Standing Pending → Type 0
 WritesAt m known s r told_after u = Outcome m (writer_state known s) known.health r (writer_state told_after u) told_after.health
 
--- a call on a writer
+-- A call on a writer.
 abbrev pub Writes : {W : Type 0} → (W → KnownSink) → Meaning Output (Unit {0}) → Writer W → Result (Unit {0}) DekuError → Writer W → Type 0
 Writes known m old r new = WritesAt m (known old.sink) old.state r (known new.sink) new.state
 
--- the sink took the bytes, and the bits are pending
+-- The sink took the bytes, and the bits are pending.
 pub record Took (w : Written) (old new : Output) : Type 0 where
   pub taken : Appends old.taken new.taken w.bytes
   pub room : Shrinks old.room new.room (length w.bytes)
   pub pending : new.pending ≡ w.pending
 
--- the sink took a beginning of the bytes, and nothing is pending
+-- The sink took a beginning of the bytes, and nothing is pending.
 pub record TookSome (bytes : List ℕ) (old new : Output) : Type 0 where
   pub taken : TakesSome old.taken new.taken bytes
   pub room : ShrinksSome old.room new.room
   pub pending : new.pending ≡ Nothing
 
--- bytes are given out: the sink takes them, each counts eight bits, and the bits are pending; or it lacks the room, which stops the writer, and the count stays
+-- Bytes are given out. The sink takes them, each counts eight bits, and the bits are pending. Or
+-- the sink has no room, which stops the writer, and the count stays.
 abbrev pub GivesOut : Written → Output → ℕ → Result (Unit {0}) DekuError → Standing Output → Type 0
 GivesOut w out c r u = ((after : Output) × Took w out after × (r ≡ Ok tt) × (u ≡ Going after (c + 8 * length w.bytes)))
     ⊎ ((kind : ErrorKind) × (0 < length w.bytes) × LacksRoom out.room (length w.bytes) kind × (r ≡ Err (Io kind))
     × (left : Output) × TookSome w.bytes out left × (u ≡ Stopped left (Io kind) c))
 
--- what writing makes of the pending bits is given out; where the count has no room for the bytes it is refused, and nothing changed; a fault leaves a beginning
--- of the bytes with the sink
+-- What writing makes of the pending bits is given out. If the count has no room for the bytes, it
+-- fails and nothing changes. If the device fails, the sink has taken a beginning of the bytes.
 abbrev pub Emits : (Pending → Written) → Meaning Output (Unit {0})
 Emits write = UnlessStopped (λ out. TookSome (write out.pending).bytes out) (λ out. CountsBits (8 * length (write out.pending).bytes) (GivesOut (write out.pending)) out)
 
--- bits are written in an order
+-- Bits are written in an order.
 abbrev pub WritesBits : Order → List Bool → Meaning Output (Unit {0})
 WritesBits o bits = Emits (append o bits)
 
--- a word is written in an order: the list of n bits that has this word, as a read shows it
+-- A word is written in an order: the list of n bits that has this word, as a read shows it.
 abbrev pub WritesWord : Order → ℕ → ℕ → Meaning Output (Unit {0})
 WritesWord o n word b s r u = (bits : List Bool) × (length bits ≡ n) × (word_of o bits ≡ word) × WritesBits o (shown o bits) b s r u
 
--- the pending bits are filled with zeros to a byte
+-- The pending bits are filled with zeros to a byte.
 abbrev pub Finalizes : Meaning Output (Unit {0})
 Finalizes = Emits finalized
 
--- what is pending; nothing where the writer has stopped
+-- What is pending. Nothing is pending if the writer has stopped.
 abbrev pub pending_of : Standing Pending → Pending
 pending_of (Going pending c) = pending
 pending_of (Stopped pending e c) = Nothing
 
--- the order of pending bits; `Msb0` where nothing is pending
+-- The order of pending bits. It is `Msb0` if nothing is pending.
 abbrev pub order_of : Pending → Order
 order_of Nothing = Msb0
 order_of (Held o s) = o
 
--- ---- what a caller sees of a writer, without its fields
--- the sink
+-- ---- What a caller sees of a writer, without its fields.
+-- The sink.
 abbrev pub sink_of : {W : Type 0} → Writer W → W
 sink_of w = w.sink
 
--- how many bits were given to the sink
+-- How many bits the sink was given.
 abbrev pub written_count : {W : Type 0} → Writer W → ℕ
 written_count w = count_of w.state
 
--- the pending bits
+-- The pending bits.
 abbrev pub pending_state : {W : Type 0} → Writer W → Pending
 pending_state w = pending_of w.state
 
--- so many bits were given to the sink, and none is pending
+-- The sink was given this many bits, and none is pending.
 abbrev pub WritesOn : {W : Type 0} → Writer W → ℕ → Type 0
 WritesOn w count = w.state ≡ Going Nothing count
 
--- it has stopped at this fault, after so many bits
+-- It has stopped with this error, after this many bits.
 abbrev pub StopsWriting : {W : Type 0} → Writer W → DekuError → ℕ → Type 0
 StopsWriting w fault count = w.state ≡ Stopped Nothing fault count
 
--- where the writer had stopped, the sink is as it was
+-- If the writer had stopped, the sink is unchanged.
 abbrev pub KeepsSinkStopped : {W : Type 0} → Writer W → Writer W → Type 0
 KeepsSinkStopped old new = Untouched old.state old.sink new.sink

@@ -1,4 +1,4 @@
-//! Bits written to a sink, one call at a time.
+//! Writing bits to a sink, one call at a time.
 
 #![tactic(auto, using(deku_device::proofs::Wholes::onward_same))]
 
@@ -36,10 +36,10 @@ use std::marker::Model;
 /// Gives whole bytes to a sink, and keeps the bits that do not fill one: at most seven, of one
 /// order.
 ///
-/// Bits in `Msb0` fill a byte from its highest bit down, and bits in `Lsb0` from its lowest bit up.
-/// A fault of the sink stops the writer: it is kept, nothing is pending, and each later write
-/// answers the fault again, also one of no bits, until a seek succeeds. Of the bytes of the failed
-/// call the sink took a beginning, and it is open how many.
+/// Bits in `Msb0` fill a byte from its high bit down, and bits in `Lsb0` from its low bit up. An
+/// error of the sink stops the writer: the error is kept, nothing is pending, and each later write
+/// returns the error again, even for no bits, until a seek succeeds. The sink took a beginning of
+/// the bytes of the failed call; how many is unspecified.
 ///
 /// ```text
 /// let mut writer = Writer::new(Cursor::new(Vec::new(alloc)));
@@ -54,7 +54,7 @@ pub struct Writer<W> {
     pub(crate) state: WriterState,
 }
 
-/// How far a writer has come.
+/// The state of a writer.
 #[derive(Drop)]
 pub struct WriterState {
     held: Held,
@@ -77,8 +77,8 @@ impl Model for WriterState {
 }
 
 impl<W: Sink> Writer<W> {
-    /// A writer onto this sink, with nothing pending and no bit written. Nothing is given to the
-    /// sink.
+    /// Makes a writer to this sink, with nothing pending and no bit written. Nothing is given to
+    /// the sink.
     ///
     /// ```text
     /// let mut writer = Writer::new(Cursor::new(Vec::new(alloc))); // writes into a vector
@@ -107,11 +107,11 @@ impl<W: Sink> Writer<W> {
         self.sink
     }
 
-    /// How many bits were given to the sink: eight for each byte. Pending bits are not counted, nor
-    /// are those of a write that failed.
+    /// How many bits were given to the sink: eight for each byte. Pending bits are not counted, and
+    /// neither are those of a write that failed.
     ///
     /// ```text
-    /// writer.bits_written()                                      // 8, behind a write of 12 bits; 16 when it is padded
+    /// writer.bits_written()                   // 8, after a write of 12 bits; 16 when it is padded
     /// ```
     #[inline(always)]
     pub fn bits_written(&self) -> usize
@@ -120,8 +120,8 @@ impl<W: Sink> Writer<W> {
         self.state.bits_written()
     }
 
-    /// The pending bits, highest first, and their order: at most seven, and none in `Msb0` where
-    /// nothing is pending or the writer has stopped.
+    /// The pending bits, the high bit first, and their order. They are at most seven; if nothing is
+    /// pending or the writer has stopped, there are none, in `Msb0`.
     ///
     /// ```text
     /// writer.write_bits_order(&[true, true, false], Order::Lsb0)?;
@@ -140,9 +140,9 @@ impl<W: Sink> Writer<W> {
         )
     }
 
-    /// The pending bits, highest first: at most seven, and none where the writer has stopped.
+    /// The pending bits, the high bit first: at most seven, and none if the writer has stopped.
     ///
-    /// Fails with `Io(OutOfMemory)` where no memory is found for them.
+    /// It fails with `Io(OutOfMemory)` if there is no memory for them.
     ///
     /// ```text
     /// writer.write_bits_order(&[true, true, false], Order::Lsb0)?;
@@ -159,18 +159,22 @@ impl<W: Sink> Writer<W> {
         }
     }
 
-    /// Writes bits, highest first, in an order. Each byte that is filled is given to the sink, and
-    /// counts eight bits.
+    /// Writes bits, the high bit first, in an order. Each byte that is filled is given to the sink,
+    /// and counts eight bits.
     ///
-    /// In `Msb0` they follow the pending bits. In `Lsb0` they go above them, the last bit first,
-    /// or, where the list is whole bytes, byte by byte, the last bit of each first. `Lsb0` bits go
-    /// into pending `Msb0` bits, and `Msb0` bits above pending `Lsb0` bits. No bits change nothing.
+    /// In `Msb0` the bits follow the pending bits. In `Lsb0` they go above the pending bits, the
+    /// last bit first; or, if the list is whole bytes, byte by byte, the last bit of each first.
+    /// `Lsb0` bits go into pending `Msb0` bits, and `Msb0` bits above pending `Lsb0` bits. No bits
+    /// change nothing.
     ///
-    /// It takes no memory but what the sink takes. Fails, in this order: with the fault that
-    /// stopped the writer; with `InvalidParam("count past usize")` where the count would pass
-    /// `usize`, and nothing changes; with `Io` of the sink's fault, as `WriteZero` where it lacks
-    /// room, and `OutOfMemory` where a vector finds no memory. That fault is kept, nothing is
-    /// pending then, and the count stays.
+    /// It takes no memory except what the sink takes. It fails, in this order,
+    ///
+    /// - with the error that stopped the writer, if one did;
+    /// - with `InvalidParam("count past usize")` if the count would not fit a `usize`; nothing
+    ///   changes;
+    /// - with `Io` of the sink's error: `WriteZero` if the sink has no room, and `OutOfMemory` if
+    ///   there is no memory for a vector. This error is kept, nothing is pending then, and the
+    ///   count stays.
     ///
     /// ```text
     /// writer.write_bits_order(&[true, false, true], Order::Lsb0)?;
@@ -183,7 +187,7 @@ impl<W: Sink> Writer<W> {
         self.state.write(&mut self.sink, bits, order)
     }
 
-    /// Writes bits in `Msb0`, as `write_bits_order` does, and fails as that does.
+    /// Writes bits in `Msb0`, as `write_bits_order` does. It fails as that does.
     ///
     /// ```text
     /// writer.write_bits(&[true, false, true])?;
@@ -196,9 +200,9 @@ impl<W: Sink> Writer<W> {
         self.write_bits_order(bits, Order::Msb0)
     }
 
-    /// Writes the bits of bytes in `Msb0`, each byte high bit first, as one `write_bits` of all of
-    /// them does. Where nothing is pending the sink is given the bytes at once. It takes no memory
-    /// but what the sink takes, and fails as `write_bits_order` does.
+    /// Writes the bits of bytes in `Msb0`, each byte with its high bit first, as one `write_bits`
+    /// of all of them does. If nothing is pending, the sink is given the bytes at once. It takes no
+    /// memory except what the sink takes, and fails as `write_bits_order` does.
     ///
     /// ```text
     /// writer.write_bits(&[true, false, true, false])?;   // 1, 0, 1, 0 are pending
@@ -213,10 +217,11 @@ impl<W: Sink> Writer<W> {
     }
 
     /// Writes a word of at most 128 bits in an order, as one `write_bits_order` of its bits does:
-    /// eight bits for each byte of the word, the lowest byte first, and what is above the whole
-    /// bytes last. The sink is given the bytes at once. It takes no memory but what the sink takes,
-    /// and fails as `write_bits_order` does. The caller's conditions: `n` is at most 128, and the
-    /// word has no more bits.
+    /// eight bits for each byte of the word, the low byte first, and the bits above the whole bytes
+    /// last. The sink is given the bytes at once. It takes no memory except what the sink takes,
+    /// and fails as `write_bits_order` does.
+    ///
+    /// The caller's conditions: `n` is at most 128, and the word has no more bits.
     ///
     /// ```text
     /// writer.write_word(0x0201, 12, Order::Msb0)?;       // the byte 0x01; 0, 0, 1, 0 are pending
@@ -231,16 +236,18 @@ impl<W: Sink> Writer<W> {
         self.state.write_word(&mut self.sink, word, n, order)
     }
 
-    /// Writes the bits of a number in `Msb0`, the highest first, where nothing refuses them and
-    /// they need no call on the sink that may fail, and answers whether it did: they have at most
-    /// 64 bits with the pending ones, and the sink has room at hand as `Sink::lay` says. The
-    /// caller's conditions: `n` is at most 64, and the number has no more bits.
+    /// Writes the bits of a number in `Msb0`, the high bit first, if no call on the sink that can
+    /// fail is needed. Returns whether it did. It needs that nothing rejects the write, that the
+    /// bits and the pending ones are at most 64 together, and that the sink has room in memory as
+    /// `Sink::try_put` says.
     ///
-    /// It is a `write_bits` of as many bits. It answers `false` where there are none or that
-    /// refuses them, and may do so where it does not; then nothing changes.
+    /// The caller's conditions: `n` is at most 64, and the number has no more bits.
+    ///
+    /// It is a `write_bits` of as many bits. It returns `false` if there are no bits or if that
+    /// call fails, and may also do so if it does not. Then nothing changes.
     ///
     /// ```text
-    /// writer.try_write_msb(0xABC, 12)                        // true, where eight bytes of room are at hand: the byte 0xAB; 1, 1, 0, 0 are pending
+    /// writer.try_write_msb(0xABC, 12) // true, with room: the byte 0xAB; 1, 1, 0, 0 are pending
     /// ```
     #[inline(always)]
     pub fn try_write_msb(&mut self, number: u64, n: usize) -> bool
@@ -254,14 +261,14 @@ impl<W: Sink> Writer<W> {
         self.state.try_write_msb(&mut self.sink, number, n)
     }
 
-    /// Fills pending bits with zeros to a byte, behind `Msb0` bits and above `Lsb0` bits, and gives
-    /// it to the sink. It counts eight bits. Where nothing is pending it changes nothing.
+    /// Fills pending bits with zeros to a byte, after `Msb0` bits and above `Lsb0` bits, and gives
+    /// it to the sink. It counts eight bits. If nothing is pending, it changes nothing.
     ///
-    /// Fails as `write_bits_order` does, and leaves the same.
+    /// It fails as `write_bits_order` does, and leaves the same.
     ///
     /// ```text
     /// writer.write_bits(&[true, true])?;
-    /// writer.finalize()?;                                        // the byte 0xC0, and 8 bits are counted
+    /// writer.finalize()?;                                 // the byte 0xC0, and 8 bits are counted
     /// ```
     #[inline(always)]
     pub fn finalize(&mut self) -> Result<(), DekuError>
@@ -273,7 +280,7 @@ impl<W: Sink> Writer<W> {
 }
 
 impl WriterState {
-    // So many bits are written, and nothing is pending.
+    // This many bits are written, and nothing is pending.
     #[inline(always)]
     fn going(bits_written: usize) -> WriterState
         ensures { result ≡ Going Nothing bits_written }
@@ -286,7 +293,7 @@ impl WriterState {
         }
     }
 
-    // Stopped by this fault of the sink, with this count: nothing is pending.
+    // Stopped by this error of the sink, with this count. Nothing is pending.
     #[inline(always)]
     fn stopped(kind: ErrorKind, count: usize) -> WriterState
         ensures { result ≡ Stopped Nothing (Io kind) count }
@@ -306,7 +313,7 @@ impl WriterState {
         self.bits_written
     }
 
-    // The pending bits, highest first.
+    // The pending bits, the high bit first.
     fn pending(&self) -> Held
         ensures bits { result ≡ pending_bits (pending_of self.now) }
         ensures few { length result < 8 }
@@ -357,7 +364,7 @@ impl WriterState {
         }
     }
 
-    // Writes the bytes to this sink, in `Msb0`.
+    // Writes the bytes in `Msb0` to this sink.
     fn write_bytes<W: Sink>(&mut self, sink: &mut W, bytes: &[u8]) -> Result<(), DekuError>
         ensures writes { WritesAt (WritesBits Msb0 (bits_in bytes.now)) (W.known sink.old) self.old
             result (W.known sink.new) self.new }
@@ -423,8 +430,8 @@ impl WriterState {
         }
     }
 
-    // Writes the bits of a number to this sink, the highest first, where nothing refuses them and
-    // they are laid, and whether it did.
+    // Writes the bits of a number to this sink, the high bit first, if nothing rejects them and
+    // they can be put into its room. Returns whether it did.
     #[inline(always)]
     fn try_write_msb<W: Sink>(&mut self, sink: &mut W, number: u64, n: usize) -> bool
         requires most { n ≤ 64 }
@@ -452,7 +459,7 @@ impl WriterState {
         laid
     }
 
-    // Writes as many zeros as the pending bits lack to a byte.
+    // Writes as many zeros as the pending bits need to be a byte.
     #[inline(always)]
     fn finalize<W: Sink>(&mut self, sink: &mut W) -> Result<(), DekuError>
         ensures writes { WritesAt Finalizes (W.known sink.old) self.old result (W.known sink.new)
@@ -465,7 +472,7 @@ impl WriterState {
     }
 }
 
-// How many whole bytes so many held bits and bits more make.
+// How many whole bytes this many held bits and more bits make.
 #[inline(always)]
 fn whole_bytes(held: usize, more: usize) -> usize
     requires { held ≤ 8 }

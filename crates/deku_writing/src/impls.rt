@@ -1,4 +1,4 @@
-//! What can be written.
+//! The types that can be written.
 
 mod array;
 mod bool;

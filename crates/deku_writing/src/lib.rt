@@ -1,4 +1,4 @@
-//! What can be written as bits: numbers, truth values, addresses, tuples, lists and what holds
+//! What can be written as bits: numbers, truth values, addresses, tuples, lists and types that hold
 //! items.
 #![tactic(auto)]
 

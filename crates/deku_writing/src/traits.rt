@@ -1,4 +1,4 @@
-//! What can be written.
+//! The trait of types that can be written.
 
 ghost use Rattle.std.specs.Prelude.{Result, ⊤};
 ghost use Rattle.deku_bits.specs.Outcomes.{Meaning};
@@ -11,19 +11,21 @@ use deku_bits::writer::Writer;
 
 /// A type that is written as bits, under a context.
 ///
-/// An implementation says what writing a value means, as a relation between the state of the writer
-/// before, the answer and the state after. Its law: each call gives an outcome of that meaning, or
-/// a fault of the device that the meaning lets come, which is answered and kept, with the count
-/// that the meaning states.
+/// An implementation states the meaning of writing a value: a relation between the state of the
+/// writer before, the result and the state after. The law is that each call gives an outcome of
+/// that meaning, or a failure of the device that the meaning allows. Such a failure is returned and
+/// kept, with the count that the meaning states.
 pub trait DekuWriter<Ctx> {
-    // The contexts under which it may be written: all of them, unless an implementation says which.
+    // The contexts under which the type may be written: all of them, unless an implementation says
+    // otherwise.
     ghost accepts: { Ctx → Type 0 } = { λ _. ⊤ };
 
-    // What writing a value answers and leaves; at `true` where the device fails in it.
+    // What writing a value returns and leaves. The flag is `true` if the device fails during the
+    // write.
     ghost meaning: { Self → Ctx → Meaning Output (Unit {0}) };
 
-    /// Writes the value. What is refused is stated by the type; what it moved before a refusal
-    /// stays moved.
+    /// Writes the value. The type states its errors. What was written before an error stays
+    /// written.
     ///
     /// The caller's condition: the type may be written under the context.
     ///

@@ -17,8 +17,8 @@ fn main(rt: HostRuntime) -> io::Result<ExitCode> {
     Ok(ExitCode::from(status))
 }
 
-// The arguments after the program's name. Where one of them is not UTF-8 there are none: they are
-// of no form then.
+// The arguments after the program's name. If one of them is not UTF-8 there are none, so they are
+// of no form.
 fn arguments(rt: &HostRuntime) -> io::Result<Vec<String>> {
     match env::args(rt) {
         Ok(args) => Ok(args.skip(1).collect(rt.alloc())?),

@@ -17,8 +17,8 @@ fn main(rt: HostRuntime) -> io::Result<ExitCode> {
     Ok(ExitCode::from(status))
 }
 
-// The arguments after the program's name. Where one of them is not UTF-8 they are one word that
-// names no format.
+// The arguments after the program's name. If one of them is not UTF-8 they are one word that names
+// no format.
 fn arguments(rt: &HostRuntime) -> io::Result<Vec<String>> {
     match env::args(rt) {
         Ok(args) => Ok(args.skip(1).collect(rt.alloc())?),

@@ -7,7 +7,7 @@ use std::alloc::Global;
 use std::io;
 use std::io::Cursor;
 
-// The first number of the bytes that three numbers are written as.
+// The first number that is read back from the bytes of three numbers.
 fn first_again(alloc: Global) -> Result<u8, DekuError> {
     let mut writer = Writer::new(Cursor::new(Vec::new(alloc)));
     6u8.to_writer(&mut writer, (Endian::Big, BitSize(4)))?;

@@ -1,4 +1,4 @@
-//! Draws the layouts of whole-number fields: which bit of which field stands where in their bytes.
+//! Draws the layouts of whole-number fields: which bit of which field is where in their bytes.
 #![tactic(auto)]
 
 use std::io::ErrorKind;
@@ -11,8 +11,8 @@ fn main(rt: HostRuntime) -> io::Result<ExitCode> {
     Ok(ExitCode::from(status))
 }
 
-// The arguments after the program's name. Where one of them is not UTF-8 there are none: they are
-// of no form then.
+// The arguments after the program's name. If one of them is not UTF-8 there are none, so they are
+// of no form.
 fn arguments(rt: &HostRuntime) -> io::Result<Vec<String>> {
     match env::args(rt) {
         Ok(args) => Ok(args.skip(1).collect(rt.alloc())?),

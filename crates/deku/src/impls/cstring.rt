@@ -20,7 +20,7 @@ use std::alloc::Global;
 use std::io::ErrorKind;
 use std::marker::Model;
 
-/// Bytes without a zero, which stand before a zero where they are read and written.
+/// Bytes without a zero, which are followed by a zero when they are read and written.
 #[derive(Debug, Drop)]
 pub struct CString {
     bytes: Vec<u8>,
@@ -58,10 +58,10 @@ impl Eq for CString {
 }
 
 impl CString {
-    /// These bytes; none where a zero is among them.
+    /// Makes a text of these bytes. Returns `None` if a zero is among them.
     ///
     /// ```text
-    /// CString::new(bytes)                                        // none of 61 00 62, since a zero is among them
+    /// CString::new(bytes)                          // None for 61 00 62: a zero is among them
     /// ```
     pub fn new(bytes: Vec<u8>) -> Option<CString>
         ensures { MatchOption result (Contains bytes.items 0)
@@ -86,8 +86,8 @@ impl CString {
         self.bytes.as_slice()
     }
 
-    /// The bytes and a zero behind them, in memory of `alloc`. It is refused with `Io(OutOfMemory)`
-    /// where there is none, and with nothing else.
+    /// The bytes and a zero after them, in memory of `alloc`. Its only error is `Io(OutOfMemory)`,
+    /// if there is no memory for them.
     ///
     /// ```text
     /// text.as_bytes_with_nul(alloc)?                             // 61 62 00, of ab
@@ -106,7 +106,7 @@ impl CString {
     }
 }
 
-// Reads a byte, and puts it behind those that were read.
+// Reads a byte, and appends it to those that were read.
 fn read_byte<R: Source>(reader: &mut Reader<R>, bytes: &mut Vec<u8>) -> Result<u8, DekuError>
     ensures reads { Reads R.known ReadsByte reader.old result reader.new }
     ensures put { IfOk result (λ b. bytes.new.items ≡ bytes.old.items ++ b ∷ []) }
@@ -119,7 +119,7 @@ fn read_byte<R: Source>(reader: &mut Reader<R>, bytes: &mut Vec<u8>) -> Result<u
     }
 }
 
-// Reads bytes up to the first zero, and that.
+// Reads bytes up to and including the first zero.
 fn read_to_zero<R: Source>(reader: &mut Reader<R>) -> Result<Vec<u8>, DekuError>
     ensures reads { Reads R.known (Runs NoZeros (λ bytes. (text : List ℕ) × IsTerminated text bytes)
         ReadsByte) reader.old (on_value (λ v. v.items) result) reader.new }
@@ -134,7 +134,7 @@ fn read_to_zero<R: Source>(reader: &mut Reader<R>) -> Result<Vec<u8>, DekuError>
     }
 }
 
-// Reads so many bytes.
+// Reads this many bytes.
 fn read_count<R: Source>(reader: &mut Reader<R>, count: usize) -> Result<Vec<u8>, DekuError>
     ensures reads { Reads R.known (Runs (λ bytes. length bytes < count)
         (λ bytes. length bytes ≡ count) ReadsByte) reader.old (on_value (λ v. v.items) result)
@@ -148,7 +148,7 @@ fn read_count<R: Source>(reader: &mut Reader<R>, count: usize) -> Result<Vec<u8>
     Ok(bytes)
 }
 
-// The text before a zero at the end of bytes, where there is no other zero.
+// The text before the zero at the end of the bytes, if there is no other zero.
 fn unended(bytes: Vec<u8>) -> Result<CString, DekuError>
     ensures ok { IfOk result (λ text. IsTerminated text bytes.items) }
     ensures err { IfErr result (λ e. ((text : List ℕ) → IsTerminated text bytes.items → ⊥)
@@ -163,10 +163,10 @@ fn unended(bytes: Vec<u8>) -> Result<CString, DekuError>
     Err(DekuError::Parse("Failed to convert Vec to CString"))
 }
 
-/// Bytes up to the first zero, which is read too; each is read as a `u8` under `()`.
+/// Bytes up to the first zero, which is read too. Each is read as a `u8` under `()`.
 ///
-/// It is refused as one of those reads is, or with `Io(OutOfMemory)` where no memory is found for a
-/// byte that was read: the reader is behind that byte then.
+/// It fails as one of these reads does, or with `Io(OutOfMemory)` if there is no memory for a byte
+/// that was read; the reader is then after that byte.
 impl DekuReader<()> for CString {
     ghost use Rattle.std.specs.Prelude.{◌≡◌};
     ghost use Rattle.deku.specs.Texts.{ReadsTerminated};
@@ -179,12 +179,13 @@ impl DekuReader<()> for CString {
     }
 }
 
-/// So many bytes, the last a zero and no other one; each is read as a `u8` under `()`.
+/// This many bytes, of which the last is a zero and no other one is. Each is read as a `u8` under
+/// `()`.
 ///
-/// It is refused as one of those reads is, or with `Io(OutOfMemory)` where no memory is found for a
-/// byte that was read: the reader is behind that byte then. Where the last byte is no zero, or an
-/// earlier one is, or there is none, it is refused with
-/// `Parse("Failed to convert Vec to CString")`, behind all of them.
+/// It fails as one of these reads does, or with `Io(OutOfMemory)` if there is no memory for a byte
+/// that was read; the reader is then after that byte. If the last byte is not a zero, an earlier
+/// byte is one, or there are no bytes, it fails with `Parse("Failed to convert Vec to CString")`,
+/// after all of them.
 impl DekuReader<ByteSize> for CString {
     ghost use Rattle.std.specs.Prelude.{◌≡◌};
     ghost use Rattle.deku.specs.Texts.{ReadsWithin};
@@ -201,8 +202,7 @@ impl DekuReader<ByteSize> for CString {
 }
 
 /// The bytes and a zero, each written as a `u8` under the context, one after the other. It takes no
-/// memory. The refusal is that of the first byte that is refused, and what the bytes before it
-/// moved stays moved.
+/// memory. It fails as the first byte that fails, and what was written before stays written.
 impl<C: NumberCtx> DekuWriter<C> for CString {
     ghost use Rattle.std.specs.Prelude.{◌≡◌, pos};
     ghost use Rattle.deku_num.specs.Numbers.{byte};

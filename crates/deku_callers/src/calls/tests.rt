@@ -1,4 +1,4 @@
-//! Lists of fields in three calls, run: each row says behind how many fields the second call
+//! Lists of fields in three calls, as tests. Each row says after how many fields the second call
 //! begins, and the third.
 
 use super::{bytes_in_three, five_in_three, read_in_three};
@@ -11,8 +11,8 @@ const CUTS: [(usize, usize); 5] = [(2, 4), (1, 3), (0, 5), (3, 3), (5, 5)];
 
 const BYTES: [u8; 5] = [0x49, 0x01, 0xB0, 0xFF, 0xFE];
 
-// The items that lie in these bytes: four bits and four, high bits first, thirteen and three, low
-// bits first, and two bytes with a sign, high byte first.
+// The items of these bytes: four bits and four, high bits first, thirteen and three, low bits
+// first, and two signed bytes, high byte first.
 fn five() -> [Item; 5] {
     [
         high(Kind::U8, Size::Bits(4), Number::Unsigned(4)),

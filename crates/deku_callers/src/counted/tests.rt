@@ -1,11 +1,11 @@
-//! Numbers under a count, and behind a byte that counts them, over rows.
+//! Numbers with a count, and after a byte that counts them, as tests with rows.
 
 use super::{numbers_of, record_of, record_there_and_back, there_and_back};
 use crate::same::{same, same_bytes};
 use deku::error::{DekuError, NeedSize};
 use std::test::Fail;
 
-// Numbers, and the record of them.
+// Numbers, and their record.
 const RECORDS: [(&[u16], &[u8]); 4] = [
     (&[], &[0x00]),
     (&[0x0102], &[0x01, 0x01, 0x02]),
@@ -29,7 +29,7 @@ fn numbers_there_and_back(rt: HostRuntime) -> Result<(), Fail> {
     Ok(())
 }
 
-// Bytes that end before the last of the numbers, and how many bits were asked for then.
+// Bytes that end before the last of the numbers, and how many bits were asked for.
 const SHORT: [(&[u8], usize); 3] = [(&[], 8), (&[0x01], 16), (&[0x02, 0xC0, 0xFE, 0x00], 16)];
 
 #[test]

@@ -1,4 +1,4 @@
-//! Frames both ways, run.
+//! Frames, written and read back, as tests.
 
 use super::{pair_there_and_back, rewritten};
 use crate::same::{same, same_bytes};

@@ -1,4 +1,4 @@
-//! Lengths that are patched, over rows.
+//! Lengths that are filled in later, as tests with rows.
 
 use super::record_of;
 use crate::same::same_bytes;

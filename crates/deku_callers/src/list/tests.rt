@@ -1,4 +1,4 @@
-//! Lists of fields both ways, run.
+//! Lists of fields, written and read back, as tests.
 
 use super::{five_there_and_back, rewritten};
 use crate::same::{same, same_bytes};

@@ -1,4 +1,4 @@
-//! Maps and sets under a count, over rows.
+//! Maps and sets with a count, as tests with rows.
 
 use super::{kept_once, last_of_two, value_at};
 use crate::same::same;

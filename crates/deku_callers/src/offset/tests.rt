@@ -1,10 +1,10 @@
-//! Offsets that are followed, over rows.
+//! Offsets that are followed, as tests with rows.
 
 use super::byte_of_record;
 use crate::same::same;
 use deku_bits::error::{DekuError, NeedSize};
 
-// Bytes, and the byte of the record, or how many bits the input had not.
+// Bytes, and the byte of the record, or how many bits the input did not have.
 const RECORDS: [(&[u8], Result<u8, usize>); 5] = [
     (&[0x00, 0x04, 0xAA, 0xBB, 0xCC], Ok(0xCC)),
     (&[0x00, 0x02, 0xAA, 0xBB, 0xCC], Ok(0xAA)),

@@ -1,4 +1,4 @@
-//! Headers both ways, run.
+//! Headers, written and read back, as tests.
 
 use super::{rewritten, there_and_back};
 use crate::same::{same, same_bytes};

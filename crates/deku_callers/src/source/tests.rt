@@ -1,4 +1,4 @@
-//! What a source has left behind a header, run.
+//! What a source has left after a header, as a test.
 
 use super::header_of;
 use crate::same::{same, same_bytes};

@@ -16,8 +16,8 @@ use crate::device::Source;
 use std::io;
 use std::io::{Cursor, ErrorKind, Read, Seek, SeekFrom};
 
-/// A source over bytes in memory that gives one byte at a time. It tells its bytes, and does not
-/// fail.
+/// A source over bytes in memory that gives one byte at a time. Its bytes are known, and it does
+/// not fail.
 ///
 /// ```text
 /// let mut reader = Reader::new(alloc, Trickle::new(bytes)); // 01 02
@@ -29,7 +29,7 @@ pub struct Trickle<'a> {
 }
 
 impl<'a> Trickle<'a> {
-    /// It begins at the first byte.
+    /// Makes a source that begins at the first byte.
     ///
     /// ```text
     /// let mut reader = Reader::new(alloc, Trickle::new(bytes));  // each read gives one byte
@@ -108,7 +108,7 @@ impl<'a> Source for Trickle<'a> {
         ensures failed { IfErr result (λ e. error_kind e ≢ ErrorKind.UnexpectedEof
             → DeviceFailed (trickling self.old).health (trickling self.new).health) }
         ensures kept { DeviceKept (trickling self.old).health (trickling self.new).health }
-        // Where it is refused, each byte is given.
+        // If it fails, each byte was given.
         ensures spent { OnErr result ((trickling self.new).remaining ≡ Some []) }
     {
         for place in buf.iter_mut() {
@@ -125,7 +125,7 @@ impl<'a> Source for Trickle<'a> {
             (trickling self.new).health) }
         ensures kept { DeviceKept (trickling self.old).health (trickling self.new).health }
         ensures ok { IsOk result }
-        // It may pass the end, as a seek does.
+        // It may skip past the end, as a seek does.
         ensures place { cursor_position self.new.inner ≡ place_on (cursor_position self.old.inner)
             n }
         ensures inner { cursor_inner self.new.inner ≡ cursor_inner self.old.inner }

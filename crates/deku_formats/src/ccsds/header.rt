@@ -21,15 +21,15 @@ pub struct Header {
     pub secondary: u8,
     /// The application process identifier, 11 bits.
     pub application: u16,
-    /// How the packet stands in a group, 2 bits.
+    /// The place of the packet in a group, 2 bits.
     pub grouping: u8,
     /// The sequence count, 14 bits.
     pub count: u16,
-    /// The bytes behind the header, less one.
+    /// The number of bytes after the header, minus one.
     pub length: u16,
 }
 
-// The fields as they lie.
+// The fields, in order.
 type Parts = (
     (Msb<u8, 3>, Msb<u8, 1>, Msb<u8, 1>, Msb<u16, 11>),
     (Msb<u8, 2>, Msb<u16, 14>),
@@ -92,7 +92,7 @@ impl ToParts<()> for Header {
     }
 }
 
-/// Four samples for each eleven bytes; other counts of bytes name none.
+/// Four samples for each eleven bytes. Other numbers of bytes name no count.
 impl ItemCount for Header {
     ghost count_of = { λ h. samples_behind h.length };
 

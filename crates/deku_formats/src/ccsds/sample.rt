@@ -16,7 +16,7 @@ pub struct Sample {
     pub current: u16,
 }
 
-// The fields as they lie.
+// The fields, in order.
 type Parts = (Msb<u16, 10>, Msb<u16, 12>);
 
 impl FromParts<()> for Sample {

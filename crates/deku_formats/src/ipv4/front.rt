@@ -18,29 +18,29 @@ pub struct Front {
     pub words: u8,
     /// The class of service (DSCP), 6 bits.
     pub service: u8,
-    /// The notice of congestion (ECN), 2 bits.
+    /// The congestion notification (ECN), 2 bits.
     pub congestion: u8,
-    /// The bytes of the header and of what it carries.
+    /// The number of bytes of the header and its payload.
     pub total_length: u16,
-    /// Which fragments belong together.
+    /// The same for all fragments of a packet.
     pub identification: u16,
     /// 3 bits: 2 forbids fragments, 1 says that more follow.
     pub flags: u8,
-    /// Where the fragment lies, in units of eight bytes, 13 bits.
+    /// The place of the fragment, in units of eight bytes, 13 bits.
     pub fragment_offset: u16,
     /// How many hops are left (TTL).
     pub time_to_live: u8,
-    /// What is carried: 6 TCP, 17 UDP.
+    /// The protocol of the payload: 6 TCP, 17 UDP.
     pub protocol: u8,
-    /// The check sum of the header.
+    /// The checksum of the header.
     pub checksum: u16,
-    /// Where it comes from.
+    /// The address of the sender.
     pub source: Ipv4Addr,
-    /// Where it goes to.
+    /// The address of the receiver.
     pub destination: Ipv4Addr,
 }
 
-// The fields as they lie.
+// The fields, in order.
 type Parts = (
     (
         Magic<Msb<u8, 4>, Version>,
@@ -131,7 +131,7 @@ impl ToParts<()> for Front {
     }
 }
 
-/// Four bytes of options for each word beyond the fifth; a header of fewer than five words names no
+/// Four bytes of options for each word after the fifth. A header of fewer than five words names no
 /// count.
 impl ItemCount for Front {
     ghost count_of = { λ h. if nat_lt h.words 5 then None else Some (4 * (h.words - 5)) };

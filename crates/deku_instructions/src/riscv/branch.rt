@@ -1,4 +1,4 @@
-//! Words that go elsewhere under a condition.
+//! Words of branches.
 
 ghost use Rattle.std.specs.Prelude.{◌≡◌, ◌<◌, ◌/◌, ◌%◌, ◌^◌, refl};
 ghost use Rattle.deku_instructions.specs.Riscv.{bits_below, halves_of};
@@ -19,28 +19,28 @@ use deku::prelude::{
 use deku_symmetry::scattered::{high_bits, low_bits};
 use deku_symmetry::{FromParts, Lsb, Symmetric, ToParts, read_record, write_record};
 
-/// The operands of a branch (B). The way lies in four places: `halves` joins them.
+/// The operands of a branch (B). Its offset is stored in four places: `halves` joins them.
 #[derive(Debug, Clone, Copy, PartialEq, Eq)]
 pub struct Branch {
-    /// The bit 10 of the way.
+    /// Bit 10 of the offset.
     pub top: u32,
-    /// The lowest bits of the way, 4 bits.
+    /// The lowest bits of the offset, 4 bits.
     pub low: u32,
-    /// Which condition, 3 bits.
+    /// The condition, 3 bits.
     pub function: u8,
-    /// The first register that is looked at, 5 bits.
+    /// The first register that is compared, 5 bits.
     pub first: u8,
-    /// The second register that is looked at, 5 bits.
+    /// The second register that is compared, 5 bits.
     pub second: u8,
-    /// The bits of the way above the lowest four, 6 bits.
+    /// The bits of the offset above the lowest four, 6 bits.
     pub middle: u32,
-    /// The highest bit of the way, its sign.
+    /// The highest bit of the offset, its sign.
     pub sign: i32,
 }
 
 impl Branch {
-    /// The branch by so many units of two bytes. A way of more than 12 bits with its sign is
-    /// refused where the branch is written.
+    /// A branch by `halves` units of two bytes. Writing it fails if the offset has more than 12
+    /// bits, including its sign.
     ///
     /// ```text
     /// Branch::new(1, 5, 0, -4)                                    // bnez t0, eight bytes back
@@ -68,10 +68,10 @@ impl Branch {
         }
     }
 
-    /// By how many units of two bytes it goes, where the bits below its sign fit.
+    /// The offset in units of two bytes, if the bits below its sign fit.
     ///
     /// ```text
-    /// branch.halves()                                             // -4, of bnez t0, eight bytes back
+    /// branch.halves()                                          // -4 for bnez t0, eight bytes back
     /// ```
     #[tactic(auto, using(crate::proofs::Joined::on_eleven))]
     pub fn halves(&self) -> i64
@@ -82,7 +82,7 @@ impl Branch {
     }
 }
 
-// The fields as they lie.
+// The fields, in order.
 type Parts = (
     Lsb<u32, 1>,
     Lsb<u32, 4>,

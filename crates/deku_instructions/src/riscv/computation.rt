@@ -1,4 +1,4 @@
-//! Words that compute, as a tail of the choice.
+//! Words of computations: the next part of the choice.
 
 ghost use Rattle.std.specs.Prelude.{refl};
 ghost use Rattle.deku.specs.Outcomes.{Mapped};
@@ -18,12 +18,11 @@ use deku::prelude::{DekuError, DekuReader, DekuWriter, Reader, Writer};
 use deku_symmetry::{Choice, FromParts, HasId, HasIdLaw, Symmetric, read_record};
 
 /// Computations, under 0x13, 0x17, 0x33 and 0x37, or transfers of control. They are read under a
-/// code that was read before; another code than these is refused with `IdVariantNotFound`, and
-/// nothing moves.
+/// code that was read before. Any other code fails with `IdVariantNotFound`, and nothing moves.
 #[derive(Debug, PartialEq, Eq, Drop)]
 pub struct Computation(pub Computations);
 
-/// What lies under each of their codes.
+/// The operands of each of their codes.
 pub type Computations = Choice<
     Immediate,
     Choice<Upper, Choice<Register, Choice<Upper, Transfer, 0x37>, 0x33>, 0x17>,
@@ -75,7 +74,7 @@ impl DekuWriter<u8> for Computation {
     }
 }
 
-/// The pieces of what was chosen.
+/// The pieces of the chosen value.
 impl Symmetric<u8> for Computation {
     ghost use Rattle.deku_instructions.specs.contracts.riscv.transfer.TransferSymmetricU8.TheImpl.Laws.{symmetric-law as transfer};
 

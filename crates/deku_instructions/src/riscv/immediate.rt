@@ -21,15 +21,15 @@ use deku_symmetry::{FromParts, Lsb, Symmetric, ToParts, read_record, write_recor
 pub struct Immediate {
     /// The register that is written, 5 bits.
     pub target: u8,
-    /// Which operation, 3 bits.
+    /// The operation, 3 bits.
     pub function: u8,
     /// The register that is read, 5 bits.
     pub base: u8,
-    /// The number, 12 bits with its sign.
+    /// The number, 12 bits including its sign.
     pub value: i16,
 }
 
-// The fields as they lie.
+// The fields, in order.
 type Parts = (Lsb<u8, 5>, Lsb<u8, 3>, Lsb<u8, 5>, Lsb<i16, 12>);
 
 impl FromParts<()> for Immediate {

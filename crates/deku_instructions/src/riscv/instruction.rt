@@ -21,10 +21,10 @@ use deku_symmetry::{
     Choice, FromParts, LsbTagged, Only, Record, Tagged, ToParts, read_record, write_record,
 };
 
-/// An instruction word, by its code: the eleven of RV32I. Another code is refused with
-/// `IdVariantNotFound`, and the reader stands behind the seven bits of the code. A number that its
-/// field does not hold is refused where the word is written, and what was written before stays
-/// written. Which operations there are under a code is not looked at.
+/// An instruction word, by its code: the eleven codes of RV32I. Reading any other code fails with
+/// `IdVariantNotFound`, and the reader is then after the seven bits of the code. Writing a number
+/// that does not fit its field fails, and what was written before stays written. It is not checked
+/// which operations exist under a code.
 ///
 /// ```text
 /// Instruction::Store(Store::new(2, 8, 1, -20)).to_bytes(alloc)?   // 23 26 14 FE, sw ra, -20(s0)
@@ -33,11 +33,11 @@ use deku_symmetry::{
 pub enum Instruction {
     /// A load into a register, under 0x03.
     Load(Immediate),
-    /// An order among loads and stores, under 0x0F.
+    /// An ordering of loads and stores, under 0x0F.
     Fence(Immediate),
     /// An operation on a register and a number, under 0x13.
     OperateImmediate(Immediate),
-    /// What is added to the place of the word, as high bits, under 0x17.
+    /// High bits that are added to the address of the word, under 0x17.
     AddUpper(Upper),
     /// A store of a register, under 0x23.
     Store(Store),
@@ -45,9 +45,9 @@ pub enum Instruction {
     Operate(Register),
     /// A load of the high bits of a register, under 0x37.
     LoadUpper(Upper),
-    /// A branch under a condition, under 0x63.
+    /// A conditional branch, under 0x63.
     Branch(Branch),
-    /// A jump to where a register says, under 0x67.
+    /// A jump to an address in a register, under 0x67.
     JumpRegister(Immediate),
     /// A jump, under 0x6F.
     Jump(Jump),
@@ -55,7 +55,7 @@ pub enum Instruction {
     System(Immediate),
 }
 
-// A code of seven bits, and what lies under each.
+// A code of seven bits, and the operands of each.
 type Parts = LsbTagged<
     Immediate,
     Choice<Immediate, Choice<Store, Computation, 0x23>, 0x0F>,

@@ -1,4 +1,4 @@
-//! Words that go elsewhere.
+//! Words of jumps.
 
 ghost use Rattle.std.specs.Prelude.{◌≡◌, ◌<◌, ◌/◌, ◌%◌, ◌^◌, refl};
 ghost use Rattle.deku_instructions.specs.Riscv.{jump_bits_below, jump_of};
@@ -19,24 +19,24 @@ use deku::prelude::{
 use deku_symmetry::scattered::{high_bits, low_bits};
 use deku_symmetry::{FromParts, Lsb, Symmetric, ToParts, read_record, write_record};
 
-/// The operands of a jump (J). The way lies in four places: `halves` joins them.
+/// The operands of a jump (J). Its offset is stored in four places: `halves` joins them.
 #[derive(Debug, Clone, Copy, PartialEq, Eq)]
 pub struct Jump {
-    /// The register that the place behind the jump is written to, 5 bits.
+    /// The register to which the address after the jump is written, 5 bits.
     pub target: u8,
-    /// The bits of the way above the lowest eleven, 8 bits.
+    /// The bits of the offset above the lowest eleven, 8 bits.
     pub high: u32,
-    /// The bit 10 of the way.
+    /// Bit 10 of the offset.
     pub middle: u32,
-    /// The lowest bits of the way, 10 bits.
+    /// The lowest bits of the offset, 10 bits.
     pub low: u32,
-    /// The highest bit of the way, its sign.
+    /// The highest bit of the offset, its sign.
     pub sign: i32,
 }
 
 impl Jump {
-    /// The jump by so many units of two bytes. A way of more than 20 bits with its sign is refused
-    /// where the jump is written.
+    /// A jump by `halves` units of two bytes. Writing it fails if the offset has more than 20 bits,
+    /// including its sign.
     ///
     /// ```text
     /// Jump::new(1, 0x400)                                         // jal ra, 0x800 bytes on
@@ -60,10 +60,10 @@ impl Jump {
         }
     }
 
-    /// By how many units of two bytes it goes, where the bits below its sign fit.
+    /// The offset in units of two bytes, if the bits below its sign fit.
     ///
     /// ```text
-    /// jump.halves()                                               // 0x400, of jal ra, 0x800 bytes on
+    /// jump.halves()                                            // 0x400 for jal ra, 0x800 bytes on
     /// ```
     #[tactic(auto, using(crate::proofs::Joined::on_nineteen))]
     pub fn halves(&self) -> i64
@@ -74,7 +74,7 @@ impl Jump {
     }
 }
 
-// The fields as they lie.
+// The fields, in order.
 type Parts = (
     Lsb<u8, 5>,
     Lsb<u32, 8>,

@@ -21,17 +21,17 @@ use deku_symmetry::{FromParts, Lsb, Symmetric, ToParts, read_record, write_recor
 pub struct Register {
     /// The register that is written, 5 bits.
     pub target: u8,
-    /// Which operation, 3 bits.
+    /// The operation, 3 bits.
     pub function: u8,
     /// The first register that is read, 5 bits.
     pub first: u8,
     /// The second register that is read, 5 bits.
     pub second: u8,
-    /// Which variant of the operation, 7 bits.
+    /// The variant of the operation, 7 bits.
     pub variant: u8,
 }
 
-// The fields as they lie.
+// The fields, in order.
 type Parts = (Lsb<u8, 5>, Lsb<u8, 3>, Lsb<u8, 5>, Lsb<u8, 5>, Lsb<u8, 7>);
 
 impl FromParts<()> for Register {

@@ -19,24 +19,24 @@ use deku::prelude::{
 use deku_symmetry::scattered::{high_bits, low_bits};
 use deku_symmetry::{FromParts, Lsb, Symmetric, ToParts, read_record, write_record};
 
-/// The operands of a store (S). The offset lies in two places: `offset` joins them.
+/// The operands of a store (S). Its offset is stored in two places: `offset` joins them.
 #[derive(Debug, Clone, Copy, PartialEq, Eq)]
 pub struct Store {
     /// The low bits of the offset, 5 bits.
     pub low: u32,
-    /// How many bytes, 3 bits.
+    /// The number of bytes, 3 bits.
     pub function: u8,
-    /// The register that the address counts from, 5 bits.
+    /// The register of the base address, 5 bits.
     pub base: u8,
     /// The register that is stored, 5 bits.
     pub source: u8,
-    /// The high bits of the offset, 7 bits with its sign.
+    /// The high bits of the offset, 7 bits including its sign.
     pub high: i32,
 }
 
 impl Store {
-    /// The store at so many bytes behind the address in a register. An offset of more than 12 bits
-    /// with its sign is refused where the store is written.
+    /// A store at `offset` bytes after the address in a register. Writing it fails if the offset
+    /// has more than 12 bits, including its sign.
     ///
     /// ```text
     /// Store::new(2, 8, 1, -20)                                    // sw ra, -20(s0)
@@ -59,10 +59,10 @@ impl Store {
         }
     }
 
-    /// By how many bytes it goes behind the address in its register, where its low bits fit.
+    /// The offset in bytes from the address in its register, if the low bits fit.
     ///
     /// ```text
-    /// store.offset()                                              // -20, of sw ra, -20(s0)
+    /// store.offset()                                              // -20 for sw ra, -20(s0)
     /// ```
     #[tactic(auto, using(crate::proofs::Joined::on_five))]
     pub fn offset(&self) -> i64
@@ -72,7 +72,7 @@ impl Store {
     }
 }
 
-// The fields as they lie.
+// The fields, in order.
 type Parts = (Lsb<u32, 5>, Lsb<u8, 3>, Lsb<u8, 5>, Lsb<u8, 5>, Lsb<i32, 7>);
 
 impl FromParts<()> for Store {

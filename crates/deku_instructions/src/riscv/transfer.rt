@@ -1,4 +1,4 @@
-//! Words that hand control on, as the last tail of the choice.
+//! Words of transfers of control: the last part of the choice.
 
 ghost use Rattle.std.specs.Prelude.{refl};
 ghost use Rattle.deku.specs.Outcomes.{Mapped};
@@ -17,11 +17,11 @@ use deku::prelude::{DekuError, DekuReader, DekuWriter, Reader, Writer};
 use deku_symmetry::{Choice, FromParts, HasId, HasIdLaw, Only, Symmetric, read_record};
 
 /// Transfers of control: branches, jumps and calls to the system, under 0x63, 0x67, 0x6F and 0x73.
-/// They are read as `Computation` is.
+/// They are read like `Computation`.
 #[derive(Debug, PartialEq, Eq, Drop)]
 pub struct Transfer(pub Transfers);
 
-/// What lies under each of their codes.
+/// The operands of each of their codes.
 pub type Transfers = Choice<
     Branch,
     Choice<Immediate, Choice<Jump, Only<Immediate, 0x73>, 0x6F>, 0x67>,
@@ -73,7 +73,7 @@ impl DekuWriter<u8> for Transfer {
     }
 }
 
-/// The pieces of what was chosen.
+/// The pieces of the chosen value.
 impl Symmetric<u8> for Transfer {
     ghost pieces = { λ v id. ⟦<Transfers as Symmetric<u8>>⟧.pieces v.0 id };
 

@@ -21,11 +21,11 @@ use deku_symmetry::{FromParts, Lsb, Symmetric, ToParts, read_record, write_recor
 pub struct Upper {
     /// The register that is written, 5 bits.
     pub target: u8,
-    /// The high 20 bits of the number, with their sign: the number is 4096 times as much.
+    /// The high 20 bits of the number, including its sign: the number is 4096 times this.
     pub value: i32,
 }
 
-// The fields as they lie.
+// The fields, in order.
 type Parts = (Lsb<u8, 5>, Lsb<i32, 20>);
 
 impl FromParts<()> for Upper {

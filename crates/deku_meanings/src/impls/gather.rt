@@ -1,4 +1,4 @@
-//! Collections that items are put into.
+//! Collections into which items are put.
 
 ghost use Rattle.std.specs.Prelude.{◌≡◌, ◌⊎◌, ◌↔◌, ◌+◌, ◌<◌, ◌≤◌, true, false, OnOk, OnErr, IfErr, codes};
 ghost use Rattle.deku_bits.specs.declared.error.DekuError.TheVariants.{Parse};
@@ -7,31 +7,31 @@ ghost use Rattle.deku_bits.specs.Faults.{Tells};
 use deku_bits::error::DekuError;
 use std::io::ErrorKind;
 
-/// A collection that items are put into, one after the other.
+/// A collection into which items are put, one after the other.
 pub trait Gather<T>: Drop {
-    // What putting an item into it makes of it.
+    // What putting an item into the collection makes of it.
     ghost puts: { Self → T → Self → Type 0 };
 
-    // Whether the item needs a place of its own: a set has one already for an item that it holds.
+    // Whether the item needs a place of its own. A set already has one for an item that it holds.
     ghost grows: { Self → T → Type 0 };
 
-    /// Puts the item into it. It is refused with `Io(OutOfMemory)` if it needs a place of its own,
-    /// and no memory is found for it; what the collection holds then is open.
+    /// Puts the item into the collection. It fails with `Io(OutOfMemory)` if the item needs a place
+    /// of its own and there is no memory for it. What the collection holds then is unspecified.
     fn put(&mut self, item: T) -> Result<(), DekuError>
         ensures ok { OnOk result (puts self.old item self.new) }
         ensures err { IfErr result (λ e. e ≡ DekuError.Io ErrorKind.OutOfMemory) }
         ensures grows { OnErr result (grows self.old item) };
 }
 
-/// Puts an item into its place where it has width, which the counts of bits before and after it
-/// tell, or ends the list.
+/// Puts an item into the collection if the item has width or ends the list. It has width if the
+/// count of bits after it is larger than the count before it.
 ///
-/// Another item is refused with `Parse("item without width")`, and one that needs a place of its
-/// own, for which no memory is found, with `Io(OutOfMemory)`; what the collection holds then is
-/// open.
+/// Any other item fails with `Parse("item without width")`. If the item needs a place of its own
+/// and there is no memory for it, it fails with `Io(OutOfMemory)`. What the collection holds after
+/// an error is unspecified.
 ///
 /// ```text
-/// keep(&mut items, item, false, 8, 8)                        // refused: the item has no width, and does not end the list
+/// keep(&mut items, item, false, 8, 8) // fails: no width, and not the end
 /// ```
 pub fn keep<B: Gather<T>, T: Drop>(
     collection: &mut B,
@@ -54,7 +54,7 @@ pub fn keep<B: Gather<T>, T: Drop>(
     collection.put(item)
 }
 
-/// Whether `after` is exactly so many bits behind `start`.
+/// Whether `after` is exactly `bits` more than `start`.
 ///
 /// ```text
 /// is_past_by(8, 24, 16)                                      // true

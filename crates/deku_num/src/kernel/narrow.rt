@@ -15,7 +15,7 @@ pub fn narrow_number(word: u64, width: usize, endian: Endian, order: Order) -> u
     ensures { (bits : List Bool) → length bits ≡ width → word ≡ word_of order bits
         → result ≡ number_of endian order bits }
 {
-    // One group alone is its own number.
+    // A single group is its own number.
     if width <= 8 {
         return word;
     }
@@ -26,8 +26,8 @@ pub fn narrow_number(word: u64, width: usize, endian: Endian, order: Order) -> u
     }
 }
 
-// The number of bits, the highest first, from their word: whole bytes are turned, and the bits
-// behind them follow.
+// The number of the bits, with the high bits first, from their word: the whole bytes are reversed,
+// and the bits after them follow.
 #[inline(always)]
 fn number_of_high(word: u64, width: usize) -> u64
     requires more { 8 < width }
@@ -53,7 +53,7 @@ pub fn narrow_word(number: u64, width: usize, endian: Endian, order: Order) -> u
     ensures { (bits : List Bool) → length bits ≡ width → number ≡ number_of endian order bits
         → result ≡ word_of order bits }
 {
-    // One group alone is its own number.
+    // A single group is its own number.
     if width <= 8 {
         return number;
     }
@@ -64,8 +64,8 @@ pub fn narrow_word(number: u64, width: usize, endian: Endian, order: Order) -> u
     }
 }
 
-// The word of bits, the highest first, from their number: the bytes before the last bits are
-// turned, and these follow.
+// The word of the bits, with the high bits first, from their number: the bytes before the last bits
+// are reversed, and the last bits follow.
 #[inline(always)]
 fn word_of_high(number: u64, width: usize) -> u64
     requires more { 8 < width }
@@ -82,7 +82,7 @@ fn word_of_high(number: u64, width: usize) -> u64
     turned(number >> behind, count) + (last << (8 * count))
 }
 
-// So many bytes of a number, the other way round.
+// This many bytes of a number, in reverse order.
 #[inline(always)]
 fn turned(number: u64, count: usize) -> u64
     requires some { 0 < count }

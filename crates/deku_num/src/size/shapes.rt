@@ -1,11 +1,11 @@
-//! Sizes of truth values and of tuples.
+//! Sizes of `bool` and of tuples.
 
 ghost use Rattle.std.specs.Prelude.{◌≡◌, Some, refl};
 ghost use Rattle.deku_num.specs.Sizes.{within_usize, both};
 
 use crate::size::{DekuSize, DekuSizeConst};
 
-// The bits of both, where these are known and fit `usize` together.
+// The bits of both, if these are known and their sum fits a `usize`.
 fn sum(first: Option<usize>, second: Option<usize>) -> Option<usize>
     ensures { result ≡ within_usize (both first second) }
 {
@@ -37,7 +37,7 @@ impl DekuSizeConst for bool {
     const SIZE_BYTES: Option<usize> = Some(1);
 }
 
-/// Its one item's bits.
+/// The bits of its one item.
 impl<A: DekuSize> DekuSize for (A,) {
     ghost bits = { A.bits };
 
@@ -46,8 +46,8 @@ impl<A: DekuSize> DekuSize for (A,) {
     }
 }
 
-/// The bits of all items together; none where one is not known or the sum does not fit `usize`. So
-/// with each tuple below.
+/// The bits of all items together. `None` if one is not known or the sum does not fit a `usize`.
+/// The same holds for each tuple below.
 impl<A: DekuSize, B: DekuSize> DekuSize for (A, B) {
     ghost bits = { both A.bits B.bits };
 

@@ -1,4 +1,4 @@
-//! What a reader keeps beside its source, and how it takes bits.
+//! What a reader keeps besides its source, and how it takes bits.
 
 #![tactic(auto, using(deku_device::proofs::Wholes::onward_same))]
 
@@ -36,7 +36,7 @@ use std::io;
 use std::io::ErrorKind;
 use std::marker::Model;
 
-/// The unread bits of a byte, the fault that stopped the reader, if any, and how many bits were
+/// The unread bits of a byte, the error that stopped the reader, if any, and how many bits were
 /// read.
 #[derive(Drop)]
 pub struct ReaderState {
@@ -64,7 +64,7 @@ impl ReaderState {
         ReaderState::going(0)
     }
 
-    /// So many bits are read, and no bits of a byte are unread.
+    /// This many bits are read, and no bits of a byte are unread.
     pub fn going(bits_read: usize) -> ReaderState
         ensures { result ≡ Going [] bits_read }
     {
@@ -74,7 +74,7 @@ impl ReaderState {
         }
     }
 
-    /// So many bits are read, and this fault is kept.
+    /// This many bits are read, and this error is kept.
     pub fn stopped(fault: Fault, bits_read: usize) -> ReaderState
         ensures { result ≡ Stopped [] (error_of fault) bits_read }
     {
@@ -91,7 +91,7 @@ impl ReaderState {
         self.tally.count()
     }
 
-    /// How many bits of a byte are unread; none where the reader has stopped.
+    /// How many bits of a byte are unread; 0 if the reader has stopped.
     pub fn unread_len(&self) -> usize
         ensures value { result ≡ length (window_of self.now) }
         ensures bound { result ≤ 8 }
@@ -102,7 +102,7 @@ impl ReaderState {
         }
     }
 
-    /// Eight bits, of which the last are those that are unread.
+    /// Eight bits, of which the last are the unread ones.
     pub fn unread_in_eight(&self) -> [bool; 8]
         ensures { drop (8 - length (window_of self.now)) result ≡ window_of self.now }
     {
@@ -112,8 +112,8 @@ impl ReaderState {
         }
     }
 
-    /// Refuses what a reader refuses before it moves anything: by its kept fault, or since the
-    /// count has no room.
+    /// Fails as a reader does before it moves anything: with its kept error, or because the count
+    /// would not fit.
     #[inline(always)]
     pub fn admits(&self, amt: usize) -> Result<(), DekuError>
         ensures { Admits amt self.now result }
@@ -121,7 +121,7 @@ impl ReaderState {
         self.tally.admits(amt)
     }
 
-    /// Refuses what a read of so many bytes refuses before it moves anything.
+    /// Fails as a read of `amt` bytes does before it moves anything.
     #[inline(always)]
     pub fn admits_bytes(&self, amt: usize) -> Result<(), DekuError>
         ensures answer { Admits (8 * amt) self.now result }
@@ -134,7 +134,7 @@ impl ReaderState {
         self.admits(8 * amt)
     }
 
-    /// Takes bits in this order, one after the other, and stops where that fails.
+    /// Takes bits in this order, one after the other, and stops if that fails.
     pub fn take_bits<R: Source>(
         &mut self,
         source: &mut R,
@@ -163,7 +163,7 @@ impl ReaderState {
         }
     }
 
-    /// Takes at most 128 bits in this order, as their word, and stops where that fails.
+    /// Takes at most 128 bits in this order, as their word, and stops if that fails.
     #[inline(always)]
     pub fn take_word<R: Source>(
         &mut self,
@@ -194,8 +194,9 @@ impl ReaderState {
         }
     }
 
-    /// Takes at most 64 bits from the highest down, where nothing refuses them and they are unread
-    /// or at hand, as their number. It answers none else, and then nothing moves.
+    /// Takes at most 64 bits, with the high bits first, as their number. This needs that nothing
+    /// rejects the read and that the bits are unread or in memory. Otherwise it returns `None`, and
+    /// nothing moves.
     #[inline(always)]
     pub fn try_read_msb<R: Source>(&mut self, source: &mut R, amt: usize) -> Option<u64>
         requires { amt ≤ 64 }
@@ -217,7 +218,7 @@ impl ReaderState {
         Some(number)
     }
 
-    /// Takes bytes in this order, one after the other, and stops where that fails.
+    /// Takes bytes in this order, one after the other, and stops if that fails.
     #[inline(always)]
     pub fn take_bytes<R: Source>(
         &mut self,
@@ -248,8 +249,8 @@ impl ReaderState {
         }
     }
 
-    /// Puts so many bytes in this order into an empty vector that has room for them, and stops
-    /// where that fails.
+    /// Puts `amt` bytes, in this order, into an empty vector that has room for them, and stops if
+    /// that fails.
     #[inline(always)]
     pub fn take_bytes_onto<R: Source>(
         &mut self,
@@ -282,7 +283,7 @@ impl ReaderState {
         }
     }
 
-    /// Whether the end of input is reached: fetches a byte where no bit is unread, and does not
+    /// Whether the end of the input is reached. If no bit is unread, it fetches a byte and does not
     /// count it.
     pub fn end<R: Source>(&mut self, source: &mut R) -> Result<bool, DekuError>
         ensures reads { ReadsAt Ending (R.known source.old) self.old result (R.known source.new)
@@ -315,8 +316,8 @@ impl ReaderState {
         }
     }
 
-    /// Leaves out bits: those of the window in this order, then whole bytes, then fewer than eight
-    /// bits in this order.
+    /// Skips bits: those of the window in this order, then whole bytes, then fewer than eight bits
+    /// in this order.
     pub fn skip_bits<R: Source>(
         &mut self,
         source: &mut R,
@@ -370,7 +371,8 @@ fn fetch_byte<R: Source>(source: &mut R) -> io::Result<u8>
     Ok(buf[0])
 }
 
-// What stops a reader that wanted this many bits: the end of input, or the kind of the fault.
+// The error that stops a reader that wanted this many bits: the end of the input, or the kind of
+// the failure.
 fn fault_of(error: &io::Error, bits: usize) -> Fault
     ensures { ((error_kind error.now ≡ ErrorKind.UnexpectedEof)
         × (result ≡ Fault.Incomplete (record { bits = bits })))
@@ -380,7 +382,7 @@ fn fault_of(error: &io::Error, bits: usize) -> Fault
     fault_of_kind(error.kind(), bits)
 }
 
-// The same, from the kind of the fault.
+// The same, from the kind of the failure.
 fn fault_of_kind(kind: ErrorKind, bits: usize) -> Fault
     ensures { ((kind ≡ ErrorKind.UnexpectedEof)
         × (result ≡ Fault.Incomplete (record { bits = bits })))

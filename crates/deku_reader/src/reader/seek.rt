@@ -17,19 +17,19 @@ use deku_stream::error::Fault;
 use std::io;
 use std::io::{ErrorKind, Seek, SeekFrom};
 
-/// Seeks the source. No bit of the byte that was fetched last is unread then, also where that byte
-/// was fetched by `end`.
+/// Seeks the source. After the call no bit of the byte that was fetched last is unread, even if
+/// that byte was fetched by `end`.
 ///
-/// A seek that succeeds lets a reader go on that a fault had stopped. For `Start` of a place other
-/// than 0 the count of bits read is then that of the bytes before the place; for `Current` forward
-/// it is raised by the bits of the bytes that are left out. It stays for `Start(0)`, for `End`, and
-/// for `Current` backward.
+/// A reader that an error had stopped continues after a seek that succeeds. For `Start` of a place
+/// other than 0 the count of bits read is then that of the bytes before the place. For `Current`
+/// forward it is raised by the bits of the bytes that are skipped. It stays for `Start(0)`, for
+/// `End`, and for `Current` backward.
 ///
-/// It is refused
+/// It fails
 ///
-/// - with an error of kind `InvalidInput` where the count would be more than a `usize` holds;
-///   nothing changes, and the source is not asked;
-/// - with the source's error, where it refuses. That stops the reader with `Io` of the error's
+/// - with an error of kind `InvalidInput` if the count would not fit a `usize`; nothing changes,
+///   and the source is not called;
+/// - with the source's error, if its seek fails. That stops the reader with `Io` of the error's
 ///   kind, and the count stays.
 ///
 /// ```text
@@ -46,13 +46,14 @@ impl<R: Source> Seek for Reader<R> {
         ensures err { count_after to (read_count self.old) < 2 ^ 64
             → IfErr result (λ e. StopsReading self.new (DekuError.Io (error_kind e))
             (read_count self.old)) }
-        // Where the source knows its place and its bytes, it is where its own seek leaves it.
+        // If the source knows its place and its bytes, its place is the one where its own seek
+        // leaves it.
         ensures place { SeekMoves (R.stream_position (source_of self.old))
             (R.stream_position (source_of self.new)) (R.stream_bytes (source_of self.old)) to
             result }
         ensures source_bytes { Keeps (R.stream_bytes (source_of self.old))
             (R.stream_bytes (source_of self.new)) }
-        // Where the source tells all its bytes, those from there on are to come.
+        // If all bytes of the source are known, those from the new place on come next.
         ensures sought { Seeks (R.known (source_of self.old)).health
             (R.known (source_of self.new)).health to result }
         ensures remaining { ComesFrom (R.known (source_of self.old)).health.whole result
@@ -61,7 +62,7 @@ impl<R: Source> Seek for Reader<R> {
             → RefusedSeek (R.known (source_of self.old)).health
             (R.known (source_of self.new)).health to result }
         ensures alloc { self.new.alloc ≡ self.old.alloc }
-        // What the trait asks of a stream whose own place is not known.
+        // What the trait requires of a stream whose own place is not known.
         ensures moves { SeekMoves None None None to result }
         ensures bytes { Keeps None None }
     {
@@ -105,8 +106,8 @@ impl<R: Source> Seek for Reader<R> {
         Ok(())
     }
 
-    /// The place of the source, as `seek(SeekFrom::Current(0))` answers it: so it leaves no bit
-    /// unread.
+    /// The place of the source, as `seek(SeekFrom::Current(0))` returns it. So no bit is unread
+    /// after it.
     fn stream_position(&mut self) -> io::Result<u64>
         ensures ok { OnOk result (ReadsOn self.new (read_count self.old)) }
         ensures err { IfErr result (λ e. StopsReading self.new (DekuError.Io (error_kind e))
@@ -130,7 +131,7 @@ impl<R: Source> Seek for Reader<R> {
         self.seek(SeekFrom::Current(0))
     }
 
-    /// Seeks from its place, as `seek(SeekFrom::Current(offset))` does.
+    /// Seeks from the current place, as `seek(SeekFrom::Current(offset))` does.
     fn seek_relative(&mut self, offset: i64) -> io::Result<()>
         ensures ok { OnOk result (ReadsOn self.new (count_after (Current offset)
             (read_count self.old))) }
@@ -159,7 +160,7 @@ impl<R: Source> Seek for Reader<R> {
     }
 }
 
-// The count after a seek that succeeds, where a `usize` holds it.
+// The count after a seek that succeeds, if it fits a `usize`.
 fn count_for(to: SeekFrom, count: usize) -> Option<usize>
     ensures some { IfSome result (λ n. n ≡ count_after to count) }
     ensures none { IfNone result (2 ^ 64 ≤ count_after to count) }

@@ -1,4 +1,4 @@
-//! Arrays: so many items in order.
+//! Arrays: a fixed number of items, in order.
 
 ghost use Rattle.std.specs.Prelude.{◌≡◌, ℕ, ◌<◌, List, Option, Some, None, map, length, slice_index_or, slice_set, IsSome, OnOk, IfOk};
 ghost use Rattle.deku_bits.specs.ReaderCalls.{Reads, filling};
@@ -11,12 +11,12 @@ use deku_bits::error::DekuError;
 use deku_bits::reader::Reader;
 use std::array;
 
-/// A type that is read as a fixed number of elements, by way of slots for them.
+/// A type that is read as a fixed number of elements, with a slot for each of them.
 pub trait ArrayLike: Drop {
     /// An element.
     type Element: Drop;
 
-    /// A place for each element.
+    /// A slot for each element.
     type Slots: Drop;
 
     ghost count: { ℕ };
@@ -25,7 +25,7 @@ pub trait ArrayLike: Drop {
 
     ghost elements_of: { Self → List Self.Element };
 
-    /// Slots without elements.
+    /// Makes slots without elements.
     fn empty() -> Self::Slots
         ensures { length (slots_of result) ≡ count };
 
@@ -47,7 +47,7 @@ pub trait ArrayLike: Drop {
         ensures early { OnOk result (Self.Element.DekuReader.no_read_ahead ctx
             → NoReadAhead R.known reader.old reader.new) };
 
-    /// The elements in slots that are full.
+    /// The elements of slots that are all full.
     fn turned(slots: Self::Slots) -> Self
     where
         Self: Sized,
@@ -55,8 +55,8 @@ pub trait ArrayLike: Drop {
         ensures { slots_of slots ≡ map Some (elements_of result) };
 }
 
-/// The elements in order, under the elements' context. The refusal is that of the first element
-/// that is refused, and what the elements before it moved stays moved.
+/// The elements in order, under the elements' context. It fails as the first element that fails,
+/// and what was read before stays read.
 impl<C: Copy, X: ArrayLike> DekuReader<C> for X
 where
     X::Element: DekuReader<C>,

@@ -15,8 +15,8 @@ use deku_meanings::ctx::{Limit, Predicate};
 use std::boxed::BoxedSlice;
 use std::io::ErrorKind;
 
-/// The item is read, and then memory is asked from the reader's allocator. `Io(OutOfMemory)` is
-/// answered where there is none, and the reader stays behind the item.
+/// The item is read, and then memory is allocated by the reader's allocator. It fails as the item
+/// does, or with `Io(OutOfMemory)` if there is no memory; the reader is then after the item.
 impl<Ctx: Copy, T: DekuReader<Ctx>> DekuReader<Ctx> for Box<T> {
     ghost accepts = { T.accepts };
 
@@ -36,7 +36,7 @@ impl<Ctx: Copy, T: DekuReader<Ctx>> DekuReader<Ctx> for Box<T> {
     }
 }
 
-/// The items that the limit says, as a vector of them is read, in memory of the reader's allocator.
+/// The items up to the limit, read as a vector of them is, in memory of the reader's allocator.
 impl<T: DekuReader<Ctx>, P: Predicate<T>, Ctx: Copy> DekuReader<(Limit<T, P>, Ctx)>
     for BoxedSlice<T> {
     ghost accepts = { λ c. T.accepts c.1 × AsksAll P.asks_all c.0 };
@@ -55,7 +55,7 @@ impl<T: DekuReader<Ctx>, P: Predicate<T>, Ctx: Copy> DekuReader<(Limit<T, P>, Ct
     }
 }
 
-/// The items that the limit says, each under `()`.
+/// The items up to the limit, each under `()`.
 impl<T: DekuReader<()>, P: Predicate<T>> DekuReader<Limit<T, P>> for BoxedSlice<T> {
     ghost accepts = { λ c. ⟦<BoxedSlice<T> as DekuReader<(Limit<T, P>, ())>>⟧.accepts (c, tt) };
 

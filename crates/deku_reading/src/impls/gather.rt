@@ -1,4 +1,4 @@
-//! Items that are read one after the other, under a limit, and put into a collection.
+//! Items that are read one after the other, up to a limit, and put into a collection.
 
 ghost use Rattle.std.specs.Prelude.{◌≡◌, OnOk};
 ghost use Rattle.std.specs.List.{FoldsTo};
@@ -13,7 +13,7 @@ use deku_bits::reader::Reader;
 use deku_meanings::ctx::{BitSize, ByteSize, Limit, Predicate};
 use deku_meanings::{Gather, is_past_by, keep};
 
-// Exactly so many items.
+// Reads exactly this many items.
 fn gather_count<B: Gather<T>, T: DekuReader<C>, C: Copy, R: Source>(
     mut into: B,
     reader: &mut Reader<R>,
@@ -57,7 +57,8 @@ fn gather_asking<B: Gather<T>, T: DekuReader<C>, C: Copy, R: Source, P: Predicat
     }
 }
 
-// Items up to and including the first of which the predicate is true, which is then let go.
+// Reads items up to and including the first of which the predicate is true, and drops the
+// predicate.
 fn gather_until<B: Gather<T>, T: DekuReader<C>, C: Copy, R: Source, P: Predicate<T>>(
     into: B,
     reader: &mut Reader<R>,
@@ -75,7 +76,7 @@ fn gather_until<B: Gather<T>, T: DekuReader<C>, C: Copy, R: Source, P: Predicate
     gathered
 }
 
-// Items up to and including the one with which exactly so many bits are read.
+// Reads items up to and including the one with which exactly this many bits are read.
 fn gather_bits<B: Gather<T>, T: DekuReader<C>, C: Copy, R: Source>(
     mut into: B,
     reader: &mut Reader<R>,
@@ -103,7 +104,7 @@ fn gather_bits<B: Gather<T>, T: DekuReader<C>, C: Copy, R: Source>(
     }
 }
 
-// Items as long as a bit is left before them.
+// Reads items as long as there is a bit before the next one.
 fn gather_to_end<B: Gather<T>, T: DekuReader<C>, C: Copy, R: Source>(
     mut into: B,
     reader: &mut Reader<R>,
@@ -121,10 +122,10 @@ fn gather_to_end<B: Gather<T>, T: DekuReader<C>, C: Copy, R: Source>(
     Ok(into)
 }
 
-/// Reads items as long as the limit says, and puts each into the collection when it is read.
+/// Reads items up to the limit, and puts each into the collection as soon as it is read.
 ///
-/// The caller's conditions: the items may be read under the context, and the limit's predicate,
-/// where it has one, may be asked about every item.
+/// The caller's conditions: the items may be read under the context, and the limit's predicate, if
+/// it has one, may be asked about every item.
 pub fn gather_under<B: Gather<T>, T: DekuReader<C>, C: Copy, R: Source, P: Predicate<T>>(
     into: B,
     reader: &mut Reader<R>,

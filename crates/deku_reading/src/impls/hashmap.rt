@@ -1,4 +1,4 @@
-//! Maps: pairs of a key and a value, as long as a limit says.
+//! Maps: pairs of a key and a value, up to a limit.
 
 ghost use Rattle.std.specs.HashMap.{hasher_of, IsFromIterResult};
 ghost use Rattle.deku_meanings.specs.Collected.{IsMapOf};
@@ -13,15 +13,17 @@ use deku_meanings::ctx::{Limit, Predicate};
 use std::collections::HashMap;
 use std::hash::{BuildHasher, Hash};
 
-/// The pairs that the limit says, each a key and then its value, under the items' context. The
-/// limit is on the pairs that are read, and not on the entries: a later value of a key takes the
-/// place of an earlier one, and of equal keys the first is kept. The map has the hasher that
+/// The pairs up to the limit, each a key and then its value, under the items' context.
+///
+/// The limit counts the pairs that are read, not the entries of the map. A later value of a key
+/// replaces an earlier one, and of equal keys the first is kept. The map has the hasher that
 /// `S: Default` gives.
 ///
-/// What is refused, and what is left then, is as for a vector of pairs.
+/// The errors, and what is left after them, are those of a vector of pairs.
 ///
 /// ```text
-/// HashMap::<u8, u8, S>::from_reader_with_ctx(&mut reader, Limit::new_count(2))?; // from 01 AA 01 BB: 1 to 0xBB
+/// HashMap::<u8, u8, S>::from_reader_with_ctx(&mut reader, Limit::new_count(2))?;
+/// // from 01 AA 01 BB: 1 to 0xBB
 /// ```
 impl<
     K: DekuReader<Ctx> + Eq + Hash,
@@ -48,7 +50,7 @@ impl<
     }
 }
 
-/// The pairs that the limit says, each under `()`.
+/// The pairs up to the limit, each under `()`.
 impl<
     K: DekuReader<()> + Eq + Hash,
     V: DekuReader<()>,

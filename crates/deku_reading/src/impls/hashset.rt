@@ -1,4 +1,4 @@
-//! Sets: items as long as a limit says, each kept once.
+//! Sets: items up to a limit, each kept once.
 
 ghost use Rattle.std.specs.HashSet.{hasher_of, IsFromIterResult};
 ghost use Rattle.deku_meanings.specs.Collected.{IsSetOf};
@@ -13,14 +13,16 @@ use deku_meanings::ctx::{Limit, Predicate};
 use std::collections::HashSet;
 use std::hash::{BuildHasher, Hash};
 
-/// The items that the limit says, each under the items' context. The limit is on the items that are
-/// read, and not on those that the set has then: each is kept once, and of equal items the first.
-/// The set has the hasher that `S: Default` gives.
+/// The items up to the limit, each under the items' context.
 ///
-/// What is refused, and what is left then, is as for a vector.
+/// The limit counts the items that are read, not those that the set has in the end. Each item is
+/// kept once: of equal items the first. The set has the hasher that `S: Default` gives.
+///
+/// The errors, and what is left after them, are those of a vector.
 ///
 /// ```text
-/// HashSet::<u8, S>::from_reader_with_ctx(&mut reader, Limit::new_count(3))?; // from 07 07 08: 7 and 8
+/// HashSet::<u8, S>::from_reader_with_ctx(&mut reader, Limit::new_count(3))?;
+/// // from 07 07 08: 7 and 8
 /// ```
 impl<
     T: DekuReader<Ctx> + Eq + Hash,
@@ -45,7 +47,7 @@ impl<
     }
 }
 
-/// The items that the limit says, each under `()`.
+/// The items up to the limit, each under `()`.
 impl<T: DekuReader<()> + Eq + Hash, S: BuildHasher + Default + Drop, P: Predicate<T>> DekuReader<
     Limit<T, P>,
 > for HashSet<T, S> {

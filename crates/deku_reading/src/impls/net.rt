@@ -13,7 +13,7 @@ use deku_bits::reader::Reader;
 use deku_num::ctx::NumberCtx;
 use std::net::{Ipv4Addr, Ipv6Addr};
 
-/// Read as a `u32`, whose highest byte is the first octet, and refused as that is.
+/// Read as a `u32` whose highest byte is the first octet. It fails as that does.
 impl<C: NumberCtx> DekuReader<C> for Ipv4Addr {
     ghost meaning = { λ c. Then (ReadsUnsigned (unsigned 32) (C.layout_of c)) (Shows ipv4_bits) };
 
@@ -24,7 +24,7 @@ impl<C: NumberCtx> DekuReader<C> for Ipv4Addr {
     }
 }
 
-/// Read as a `u128`, whose highest byte is the first octet, and refused as that is.
+/// Read as a `u128` whose highest byte is the first octet. It fails as that does.
 impl<C: NumberCtx> DekuReader<C> for Ipv6Addr {
     ghost meaning = { λ c. Then (ReadsUnsigned (unsigned 128) (C.layout_of c)) (Shows ipv6_bits) };
 

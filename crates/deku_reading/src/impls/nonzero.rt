@@ -1,4 +1,4 @@
-//! Numbers that are not 0.
+//! Numbers other than 0.
 
 ghost use Rattle.std.specs.Prelude.{◌≡◌, codes, pos};
 ghost use Rattle.std.specs.Int.NonZero.{non_zero_u8_get, non_zero_u16_get, non_zero_u32_get, non_zero_u64_get, non_zero_u128_get, non_zero_usize_get, non_zero_i8_get, non_zero_i16_get, non_zero_i32_get, non_zero_i64_get, non_zero_i128_get, non_zero_isize_get};
@@ -17,8 +17,8 @@ use std::num::{
     NonZeroU16, NonZeroU32, NonZeroU64, NonZeroU128, NonZeroUsize,
 };
 
-/// Read as its number, and refused as that is. 0 is refused with `Parse("NonZero assertion")`, and
-/// its bits stay read. So with each type below.
+/// Read as its number. It fails as that does, or with `Parse("NonZero assertion")` if the number is
+/// 0, whose bits stay read. The same holds for each type below.
 impl<C: NumberCtx> DekuReader<C> for NonZeroU8 {
     ghost meaning = { λ c. Then (ReadsUnsigned byte (C.layout_of c))
         (ShowsUnless (λ n. n ≡ 0) (codes "NonZero assertion") non_zero_u8_get) };

@@ -1,4 +1,4 @@
-//! Items that may be absent.
+//! Items that can be absent.
 
 ghost use Rattle.std.specs.Prelude.{Some};
 ghost use Rattle.deku_bits.specs.Outcomes.{Mapped};

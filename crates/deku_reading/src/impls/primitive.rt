@@ -1,16 +1,18 @@
 //! Whole numbers, under every context that names a layout.
 //!
-//! Reading a number is rejected, in this order, with
+//! Reading a number fails, in this order, with
 //!
 //! - `Parse("too much data")` if the size is beyond the type's bits, even if the reader has
 //!   stopped;
 //! - `InvalidParam("signed big Lsb0 field of this width")` if the type is signed, of more than
-//!   eight bits, and the field is big and `Lsb0` and has more than eight bits and no whole bytes;
-//! - the fault that the reader kept, if it has stopped;
+//!   eight bits, and the field is big and `Lsb0` and has more than eight bits that are not whole
+//!   bytes;
+//! - the error that the reader kept, if it has stopped;
 //! - `InvalidParam("count past usize")` if a `usize` cannot count the bits;
 //! - `Incomplete` if the input ends before the last of the bits, or `Io` if the source fails.
 //!
-//! The last of these stops the reader, and its count stays as it was; nothing changes before.
+//! The last of these stops the reader, and its count stays as it was. In all earlier cases nothing
+//! changes.
 
 ghost use Rattle.std.specs.Prelude.{OnOk};
 ghost use Rattle.deku_bits.specs.ReaderCalls.{Reads, Fetched, KeepsSourceStopped};
@@ -74,7 +76,7 @@ impl<C: NumberCtx> DekuReader<C> for u16 {
 /// Reads a `u32` as its context says: the whole 32 bits, or as many bits or bytes as a size says.
 ///
 /// ```text
-/// u32::from_reader_with_ctx(&mut reader, ByteSize(3))?                        // 0x030201 from 01 02 03
+/// u32::from_reader_with_ctx(&mut reader, ByteSize(3))?                   // 0x030201 from 01 02 03
 /// ```
 impl<C: NumberCtx> DekuReader<C> for u32 {
     ghost meaning = { λ c. ReadsUnsigned (unsigned 32) (C.layout_of c) };
@@ -96,7 +98,7 @@ impl<C: NumberCtx> DekuReader<C> for u32 {
 /// Reads a `u64` as its context says: the whole 64 bits, or as many bits or bytes as a size says.
 ///
 /// ```text
-/// u64::from_reader_with_ctx(&mut reader, (Endian::Big, ByteSize(5)))?         // 1 from 00 00 00 00 01
+/// u64::from_reader_with_ctx(&mut reader, (Endian::Big, ByteSize(5)))?     // 1 from 00 00 00 00 01
 /// ```
 impl<C: NumberCtx> DekuReader<C> for u64 {
     ghost meaning = { λ c. ReadsUnsigned (unsigned 64) (C.layout_of c) };
@@ -118,7 +120,7 @@ impl<C: NumberCtx> DekuReader<C> for u64 {
 /// Reads a `u128` as its context says: the whole 128 bits, or as many bits or bytes as a size says.
 ///
 /// ```text
-/// u128::from_reader_with_ctx(&mut reader, (Endian::Little, ByteSize(9)))?     // 2 from 02 and eight bytes of zeros
+/// u128::from_reader_with_ctx(&mut reader, (Endian::Little, ByteSize(9)))? // 2 from 02 and 8 zeros
 /// ```
 impl<C: NumberCtx> DekuReader<C> for u128 {
     ghost meaning = { λ c. ReadsUnsigned (unsigned 128) (C.layout_of c) };

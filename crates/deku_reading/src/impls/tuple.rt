@@ -1,5 +1,5 @@
-//! Tuples: their items in order. One of three or more is read as its first item and the tuple of
-//! the rest.
+//! Tuples: their items in order. A tuple of three or more items is read as its first item and the
+//! tuple of the rest.
 
 ghost use Rattle.deku_bits.specs.Outcomes.{Mapped};
 ghost use Rattle.deku_meanings.specs.Composing.{PairOf, JoinedBy};
@@ -9,7 +9,7 @@ use deku_bits::device::Source;
 use deku_bits::error::DekuError;
 use deku_bits::reader::Reader;
 
-/// Its one item, under the item's context.
+/// The one item, under the item's context.
 impl<Ctx: Copy, A: DekuReader<Ctx>> DekuReader<Ctx> for (A,) {
     ghost accepts = { A.accepts };
 
@@ -27,8 +27,8 @@ impl<Ctx: Copy, A: DekuReader<Ctx>> DekuReader<Ctx> for (A,) {
     }
 }
 
-/// The items in order, all under one context. The refusal is that of the first item that is
-/// refused, and what the items before it moved stays moved. So with each tuple below.
+/// The items in order, all under one context. It fails as the first item that fails, and what was
+/// read before stays read. The same holds for each tuple below.
 impl<Ctx: Copy, A: DekuReader<Ctx>, B: DekuReader<Ctx>> DekuReader<Ctx> for (A, B) {
     ghost accepts = { λ c. A.accepts c × B.accepts c };
 

@@ -1,4 +1,4 @@
-//! Nothing at all.
+//! The unit type.
 
 ghost use Rattle.deku_meanings.specs.Composing.{Answer};
 
@@ -7,7 +7,7 @@ use deku_bits::device::Source;
 use deku_bits::error::DekuError;
 use deku_bits::reader::Reader;
 
-/// Nothing is read, also where the reader has stopped.
+/// Nothing is read, even if the reader has stopped.
 impl<Ctx: Copy> DekuReader<Ctx> for () {
     ghost meaning = { λ _. Answer tt };
 

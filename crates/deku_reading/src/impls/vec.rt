@@ -1,4 +1,4 @@
-//! Vectors: items as long as a limit says.
+//! Vectors: items up to a limit.
 
 ghost use Rattle.std.specs.Prelude.{◌≡◌, ◌*◌};
 ghost use Rattle.deku_reading.specs.Limits.{ReadsUnder, AsksAll, EndsItself, MappedBy};
@@ -16,15 +16,18 @@ use deku_bits::reader::Reader;
 use deku_meanings::ctx::{Limit, Order, Predicate, ReadExact};
 use std::alloc::Global;
 
-/// The items that the limit says, each under the items' context.
+/// The items up to the limit, each under the items' context.
 ///
-/// An item that does not raise the count of bits read, and does not end the list, is refused with
-/// `Parse("item without width")`, but under a count. Where no memory is found for an item,
-/// `Io(OutOfMemory)` is answered, behind that item. A size of bytes that has more bits than a
-/// `usize` counts is refused with `InvalidParam("count past usize")`, and nothing is read. Else the
-/// refusal is that of the first item that is refused; what the items before it moved stays moved.
+/// It fails with
 ///
-/// No room is made before the first item is read, so a count that the input does not have costs
+/// - `Parse("item without width")` if an item does not raise the count of bits read and does not
+///   end the list, unless the limit is a count;
+/// - `Io(OutOfMemory)` if there is no memory for an item; the reader is then after that item;
+/// - `InvalidParam("count past usize")` if a size in bytes has more bits than a `usize` can count;
+///   then nothing is read;
+/// - otherwise, the error of the first item that fails; what was read before stays read.
+///
+/// No memory is taken before the first item is read, so a count that is larger than the input costs
 /// nothing.
 ///
 /// ```text
@@ -48,7 +51,7 @@ impl<T: DekuReader<Ctx>, P: Predicate<T>, Ctx: Copy> DekuReader<(Limit<T, P>, Ct
     }
 }
 
-/// The items that the limit says, each under `()`.
+/// The items up to the limit, each under `()`.
 impl<T: DekuReader<()>, P: Predicate<T>> DekuReader<Limit<T, P>> for Vec<T> {
     ghost accepts = { λ c. ⟦<Vec<T> as DekuReader<(Limit<T, P>, ())>>⟧.accepts (c, tt) };
 
@@ -65,12 +68,12 @@ impl<T: DekuReader<()>, P: Predicate<T>> DekuReader<Limit<T, P>> for Vec<T> {
     }
 }
 
-/// So many bytes at once, as `Reader::read_bytes` reads them in `Lsb0`, in memory that is found
-/// first.
+/// This many bytes at once, as `Reader::read_bytes` reads them in `Lsb0`. The memory for them is
+/// allocated first.
 ///
-/// It is refused, in this order: with the fault that stopped the reader; with
+/// It fails, in this order, with the error that stopped the reader; with
 /// `InvalidParam("count past usize")`; with `Io(OutOfMemory)`, and nothing changes; or as
-/// `Reader::read_bytes` is.
+/// `Reader::read_bytes` does.
 impl DekuReader<ReadExact> for Vec<u8> {
     ghost meaning = { λ c. Seen (λ v. v.items) (Mapped bytes_of (ReadsVec Lsb0 (8 * c.0))) };
 

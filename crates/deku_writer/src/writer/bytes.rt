@@ -1,4 +1,4 @@
-//! Whole bytes that go out, by way of held bits or at once.
+//! Whole bytes that are given out, through held bits or at once.
 
 ghost use Rattle.std.specs.Prelude.{◌≡◌, ◌<◌, ◌≤◌, length, take, reverse, OnOk, IfErr};
 ghost use Rattle.deku_stream.specs.declared.ctx.Order.TheVariants.{Msb0};
@@ -12,10 +12,10 @@ use deku_device::device::Sink;
 use deku_stream::ctx::Order;
 use std::io::ErrorKind;
 
-// How many bytes go out at a time.
+// How many bytes are given out at a time.
 const RUN: usize = 64;
 
-// Bytes through held bits, each high bit first: as many go out as come in.
+// Moves bytes through held bits, each with its high bit first: as many bytes go out as come in.
 fn shift(out: &mut [u8], held: &mut Held, bytes: &[u8])
     requires short { length held.old < 8 }
     requires room { length bytes.now ≤ length out.old }
@@ -28,7 +28,7 @@ fn shift(out: &mut [u8], held: &mut Held, bytes: &[u8])
     }
 }
 
-// The bytes, each high bit first, onto held bits: a run that goes out at once.
+// Adds the bytes, each with its high bit first, to held bits: one run that is given out at once.
 fn push_run<W: Sink>(sink: &mut W, held: &mut Held, bytes: &[u8]) -> Result<(), ErrorKind>
     requires short { length held.old < 8 }
     requires some { 0 < length bytes.now }
@@ -43,7 +43,7 @@ fn push_run<W: Sink>(sink: &mut W, held: &mut Held, bytes: &[u8]) -> Result<(), 
     give_out(sink, &out[..bytes.len()])
 }
 
-// The bytes, each high bit first, onto held bits, run by run.
+// Adds the bytes, each with its high bit first, to held bits, run by run.
 fn push_bytes<W: Sink>(sink: &mut W, held: &mut Held, bytes: &[u8]) -> Result<(), ErrorKind>
     requires { length held.old < 8 }
     ensures pushed { OnOk result (Pushed (W.known sink.old) (W.known sink.new) Msb0 held.old
@@ -62,7 +62,7 @@ fn push_bytes<W: Sink>(sink: &mut W, held: &mut Held, bytes: &[u8]) -> Result<()
     Ok(())
 }
 
-// The bytes, the last one first: a run that goes out at once.
+// Gives out the bytes, the last one first: one run at once.
 fn give_turned<W: Sink>(sink: &mut W, bytes: &[u8]) -> Result<(), ErrorKind>
     requires some { 0 < length bytes.now }
     requires most { length bytes.now ≤ 64 }
@@ -77,7 +77,7 @@ fn give_turned<W: Sink>(sink: &mut W, bytes: &[u8]) -> Result<(), ErrorKind>
     give_out(sink, run)
 }
 
-// Bytes above `Lsb0` bits: the last byte goes out first, and the bits stay.
+// Bytes above `Lsb0` bits: the last byte is given out first, and the bits stay held.
 fn give_above<W: Sink>(sink: &mut W, bytes: &[u8]) -> Result<(), ErrorKind>
     ensures gave { OnOk result (Gave (W.known sink.old) (W.known sink.new) (reverse bytes.now)) }
     ensures fault { IfErr result (GaveUp (W.known sink.old) (W.known sink.new)
@@ -94,7 +94,7 @@ fn give_above<W: Sink>(sink: &mut W, bytes: &[u8]) -> Result<(), ErrorKind>
     Ok(())
 }
 
-/// Bytes onto the held bits of an order.
+/// Adds bytes to the held bits of an order.
 pub fn push_bytes_onto<W: Sink>(
     sink: &mut W,
     held: &mut Held,

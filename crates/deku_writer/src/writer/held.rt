@@ -10,7 +10,7 @@ use deku_stream::byte::bits_of_byte;
 use deku_stream::ctx::Order;
 use std::marker::Model;
 
-/// Up to seven bits, packed into the number that they make, the first the highest.
+/// Up to seven bits, packed into their number, with the first bit as the highest.
 #[derive(Drop)]
 pub struct Held {
     number: u8,
@@ -38,8 +38,8 @@ impl Held {
         Held { number: 0, len: 0 }
     }
 
-    /// How many there are. They are below eight, as is said to the compiler too: so it knows how
-    /// many bytes a field of whole bytes fills.
+    /// How many bits there are. The compiler is also told that they are fewer than eight, so it
+    /// knows how many bytes a field of whole bytes fills.
     #[tactic(auto, using(deku_stream::proofs::Packed::lengths))]
     #[inline(always)]
     pub fn len(&self) -> usize
@@ -49,7 +49,7 @@ impl Held {
         self.len % 8
     }
 
-    /// The same bits again.
+    /// Returns the same bits.
     #[inline(always)]
     pub fn copy(&self) -> Held
         ensures { result ≡ self.now }
@@ -60,9 +60,11 @@ impl Held {
         }
     }
 
-    /// Holds the bits of another, which are so many, in place of its own. Their count is the
-    /// caller's, who knows it whichever way they came: so the compiler knows it too. Each part is
-    /// set by itself, so that what lies between them in memory is not moved.
+    /// Holds the bits of `next` instead of its own. Their count comes from the caller, who knows it
+    /// whichever way they came, so that the compiler knows it too. Each part is set by itself, so
+    /// that nothing between the parts in memory is moved.
+    ///
+    /// The caller's condition: `len` is the count of the bits of `next`.
     #[inline(always)]
     pub fn follow(&mut self, next: Held, len: usize)
         requires { len ≡ length next }
@@ -72,15 +74,15 @@ impl Held {
         self.len = len;
     }
 
-    /// The bits, highest first, with zeros behind them.
+    /// The bits, the high bit first, with zeros after them.
     pub fn bits(&self) -> [bool; 8]
         ensures { take (length self.now) result ≡ self.now }
     {
         bits_of_byte(((self.number as u16) << (8 - self.len)) as u8)
     }
 
-    /// A whole byte, as the order meets it behind the bits that are held. The first eight go out as
-    /// a byte, and as many are held as before.
+    /// Adds a whole byte after the held bits, in this order. The first eight bits go out as a byte,
+    /// and as many are held as before.
     pub fn pass(&mut self, order: Order, byte: u8) -> u8
         ensures fills { Fills order self.old self.new (facing order (byte_bits byte))
             (result ∷ []) }
@@ -92,8 +94,10 @@ impl Held {
         first
     }
 
-    /// A word of n bits behind the held bits, with which it has at most 64: the bytes that fill are
-    /// the first of eight, so many. The bits behind them are held.
+    /// Adds a word of n bits after the held bits. Returns the bytes that fill, as the first of
+    /// eight, and how many there are. The bits after them are held.
+    ///
+    /// The caller's condition: the held bits and the word are at most 64 bits together.
     #[inline(always)]
     pub fn fill(&mut self, order: Order, word: u64, n: usize) -> ([u8; 8], usize)
         requires some { 0 < n }
@@ -113,8 +117,10 @@ impl Held {
         (eight, len / 8)
     }
 
-    /// The bits of a number, from the highest down, behind the held bits, with which they are at
-    /// most 64: the bytes that fill are the first of eight, so many. The bits behind them are held.
+    /// Adds the bits of a number, the high bit first, after the held bits. Returns the bytes that
+    /// fill, as the first of eight, and how many there are. The bits after them are held.
+    ///
+    /// The caller's condition: the held bits and the number are at most 64 bits together.
     #[inline(always)]
     pub fn fill_high(&mut self, number: u64, n: usize) -> ([u8; 8], usize)
         requires some { 0 < n }
@@ -133,8 +139,8 @@ impl Held {
         (eight, all / 8)
     }
 
-    /// A group of at most eight bits, as the order meets it behind those that are held. Where there
-    /// are eight then, the first eight go out as a byte.
+    /// Adds a group of at most eight bits after the held bits, in this order. If there are eight
+    /// bits then, the first eight go out as a byte.
     pub fn push(&mut self, order: Order, group: u8, n: usize) -> Option<u8>
         requires size { n ≤ 8 }
         requires inside { group < 2 ^ n }
@@ -154,7 +160,7 @@ impl Held {
     }
 }
 
-// The number of two groups of bits, as the order meets the one behind the other.
+// The number of two groups of bits, one after the other in this order.
 fn join(order: Order, first: u8, a: usize, second: u8, b: usize) -> u16
     requires short { a < 8 }
     requires size { b ≤ 8 }
@@ -170,7 +176,7 @@ fn join(order: Order, first: u8, a: usize, second: u8, b: usize) -> u16
     }
 }
 
-// The first eight bits that the order meets, and the number of those behind them.
+// The first eight bits in this order, and the number of those after them.
 fn split(order: Order, joined: u16, n: usize) -> (u8, u8)
     requires whole { 8 ≤ n }
     requires short { n < 16 }

@@ -1,4 +1,4 @@
-//! Numbers whose bits go out from the highest down, where the sink has room at hand.
+//! Numbers whose bits are given out with the high bits first, if the sink has room in memory.
 
 ghost use Rattle.std.specs.Prelude.{◌≡◌, ◌<◌, ◌≤◌, ◌%◌, ◌^◌, [], length, IsTrue, IsFalse};
 ghost use Rattle.deku_stream.specs.declared.ctx.Order.TheVariants.{Msb0};
@@ -11,8 +11,8 @@ use super::words::is_behind;
 use deku_device::device::Sink;
 use deku_stream::ctx::Order;
 
-// The bits of a number that are whole bytes, where the sink has room for eight bytes at hand, and
-// whether it has.
+// Puts the bits of a number, which are whole bytes, into the sink if it has room in memory for
+// eight bytes. Returns whether it has.
 #[inline(always)]
 fn lay_bytes<W: Sink>(sink: &mut W, number: u64, n: usize) -> bool
     requires some { 0 < n }
@@ -27,9 +27,9 @@ fn lay_bytes<W: Sink>(sink: &mut W, number: u64, n: usize) -> bool
     sink.try_put(eight, n / 8)
 }
 
-/// The bits of a number, from the highest down, onto the held bits of an order, where they follow
-/// these as they are, have at most 64 bits with them, and the sink has room for eight bytes at
-/// hand, and whether all this is so. Else nothing changes.
+/// Adds the bits of a number, the high bits first, to the held bits of an order. It does so if they
+/// follow the held bits unchanged, both are at most 64 bits together, and the sink has room in
+/// memory for eight bytes. Returns whether it did so; if not, nothing changes.
 #[inline(always)]
 pub fn lay_high<W: Sink>(sink: &mut W, held: &mut Held, from: Order, number: u64, n: usize) -> bool
     requires some { 0 < n }

@@ -1,4 +1,4 @@
-//! Held bits and a word behind them, as one number of at most 64 bits.
+//! Held bits and a word after them, as one number of at most 64 bits.
 
 ghost use Rattle.std.specs.Prelude.{◌≡◌, ◌<◌, ◌≤◌, ◌+◌, ◌*◌, ◌/◌, ◌%◌, ◌^◌, ◌++◌, take, All};
 ghost use Rattle.deku_stream.specs.declared.ctx.Order.TheVariants.{Msb0};
@@ -8,7 +8,7 @@ ghost use Rattle.deku_writer.specs.Pushing.{word_bits};
 
 use deku_stream::ctx::Order;
 
-/// The number of some bits and of a word's n bits, as the order meets these behind those.
+/// The number of some bits and of a word's n bits after them, in this order.
 #[inline(always)]
 pub fn join_word(order: Order, first: u8, a: usize, word: u64, n: usize) -> u64
     requires short { a < 8 }
@@ -32,7 +32,7 @@ pub fn join_word(order: Order, first: u8, a: usize, word: u64, n: usize) -> u64
     }
 }
 
-/// The number of some bits and of n bits behind them, each from the highest down.
+/// The number of some bits and of n bits after them, each with the high bits first.
 #[inline(always)]
 pub fn join_high(first: u8, a: usize, number: u64, n: usize) -> u64
     requires short { a < 8 }
@@ -50,8 +50,8 @@ pub fn join_high(first: u8, a: usize, number: u64, n: usize) -> u64
     front + number
 }
 
-// The number of a word's n bits, the highest first: its whole bytes are turned, and the bits behind
-// them follow.
+// The number of a word's n bits, the high bits first: the whole bytes are reversed, and the bits
+// after them follow.
 #[inline(always)]
 fn high_number(word: u64, n: usize) -> u64
     requires most { n ≤ 64 }
@@ -70,8 +70,8 @@ fn high_number(word: u64, n: usize) -> u64
     (front << behind) + (word >> (8 * (n / 8)))
 }
 
-/// The whole bytes of n bits that an order meets, the first of eight, and the number of the bits
-/// behind them.
+/// The whole bytes of n bits in an order, as the first of eight, and the number of the bits after
+/// them.
 #[inline(always)]
 pub fn cut_word(order: Order, joined: u64, n: usize) -> ([u8; 8], u8)
     requires some { 0 < n }
@@ -91,7 +91,7 @@ pub fn cut_word(order: Order, joined: u64, n: usize) -> ([u8; 8], u8)
     }
 }
 
-// The number of those of n bits that are above the whole bytes.
+// The number of the bits, of n, that are above the whole bytes.
 #[inline(always)]
 fn above(joined: u64, n: usize) -> u8
     requires most { n ≤ 64 }

@@ -1,4 +1,4 @@
-//! Bits given to a sink by way of a byte that fills.
+//! Bits that are given to a sink through a byte that fills.
 
 #![tactic(auto, using(deku_device::proofs::Wholes::onward_same))]
 
@@ -16,7 +16,7 @@ use deku_device::device::Sink;
 use deku_stream::ctx::Order;
 use std::io::{Error, ErrorKind};
 
-/// Bytes given to the sink at once.
+/// Gives bytes to the sink at once.
 #[inline(always)]
 pub fn give_out<W: Sink>(sink: &mut W, bytes: &[u8]) -> Result<(), ErrorKind>
     requires { 0 < length bytes.now }
@@ -29,7 +29,7 @@ pub fn give_out<W: Sink>(sink: &mut W, bytes: &[u8]) -> Result<(), ErrorKind>
     }
 }
 
-// The kind of a sink's refusal.
+// The kind of a sink's error.
 #[cold]
 #[inline(never)]
 fn kind_of(error: Error) -> ErrorKind
@@ -38,7 +38,7 @@ fn kind_of(error: Error) -> ErrorKind
     error.kind()
 }
 
-/// Bytes given to the sink at once, where there are any.
+/// Gives bytes to the sink at once, if there are any.
 #[inline(always)]
 pub fn give_any<W: Sink>(sink: &mut W, bytes: &[u8]) -> Result<(), ErrorKind>
     ensures gave { OnOk result (Gave (W.known sink.old) (W.known sink.new) bytes.now) }
@@ -50,7 +50,7 @@ pub fn give_any<W: Sink>(sink: &mut W, bytes: &[u8]) -> Result<(), ErrorKind>
     give_out(sink, bytes)
 }
 
-// One more bit. The byte goes out when it is full.
+// Adds one more bit. The byte is given out when it is full.
 fn push_bit<W: Sink>(
     sink: &mut W,
     held: &mut Held,
@@ -69,7 +69,7 @@ fn push_bit<W: Sink>(
     }
 }
 
-// The bits, on a way through them.
+// Adds the bits, on a way through them.
 fn push_along<W: Sink>(
     sink: &mut W,
     held: &mut Held,
@@ -94,7 +94,7 @@ fn push_along<W: Sink>(
     Ok(())
 }
 
-// Bits onto bits of the same order.
+// Adds bits to bits of the same order.
 fn push_same<W: Sink>(
     sink: &mut W,
     held: &mut Held,
@@ -110,8 +110,8 @@ fn push_same<W: Sink>(
     push_along(sink, held, order, Way::shown(order, bits.len()), bits)
 }
 
-// Three lists into an empty byte, high bit first: the first on a way through it, and the others
-// from their first bit on.
+// Adds three lists to an empty byte, the high bit first: the first on a way through it, and the
+// others from their first bit on.
 fn push_three<W: Sink>(
     sink: &mut W,
     held: &mut Held,
@@ -138,7 +138,7 @@ fn push_three<W: Sink>(
     push_along(sink, held, Order::Msb0, Way::Forward, third)
 }
 
-// `Lsb0` bits into `Msb0` bits.
+// Adds `Lsb0` bits into `Msb0` bits.
 fn push_into<W: Sink>(sink: &mut W, held: &mut Held, bits: &[bool]) -> Result<(), ErrorKind>
     requires { length held.old < 8 }
     ensures pushed { OnOk result (Pushed (W.known sink.old) (W.known sink.new) Msb0 [] held.new
@@ -162,7 +162,7 @@ fn push_into<W: Sink>(sink: &mut W, held: &mut Held, bits: &[bool]) -> Result<()
     )
 }
 
-// `Msb0` bits above `Lsb0` bits.
+// Adds `Msb0` bits above `Lsb0` bits.
 fn push_above<W: Sink>(sink: &mut W, held: &mut Held, bits: &[bool]) -> Result<(), ErrorKind>
     requires { length held.old < 8 }
     ensures pushed { OnOk result (Pushed (W.known sink.old) (W.known sink.new) Msb0 [] held.new
@@ -186,7 +186,7 @@ fn push_above<W: Sink>(sink: &mut W, held: &mut Held, bits: &[bool]) -> Result<(
     )
 }
 
-/// Bits onto the held bits of an order.
+/// Adds bits to the held bits of an order.
 #[tactic(auto, using(crate::proofs::Onto::onto, deku_device::proofs::Wholes::onward_same))]
 pub fn push_onto<W: Sink>(
     sink: &mut W,

@@ -18,8 +18,8 @@ use std::io::{Seek, SeekFrom};
 
 /// Seeks the sink. Pending bits are lost: call `finalize` first. The count of bits written stays.
 ///
-/// A seek that succeeds lets a writer go on that a fault had stopped. It is refused with the sink's
-/// error, where that refuses: the writer stops with `Io` of the error's kind.
+/// A writer that an error had stopped continues after a seek that succeeds. It fails with the
+/// sink's error, if its seek fails: the writer stops with `Io` of the error's kind.
 ///
 /// ```text
 /// writer.write_bits(&[true, false, true, false])?;   // onto a vector: nothing is given to it yet
@@ -32,12 +32,13 @@ impl<W: Sink> Seek for Writer<W> {
         ensures ok { OnOk result (WritesOn self.new (written_count self.old)) }
         ensures err { IfErr result (λ e. StopsWriting self.new (DekuError.Io (error_kind e))
             (written_count self.old)) }
-        // Where the sink knows its place and its bytes, it is where its own seek leaves it.
+        // If the sink knows its place and its bytes, its place is the one where its own seek leaves
+        // it.
         ensures place { SeekMoves (W.stream_position (sink_of self.old))
             (W.stream_position (sink_of self.new)) (W.stream_bytes (sink_of self.old)) to result }
         ensures sink_bytes { Keeps (W.stream_bytes (sink_of self.old))
             (W.stream_bytes (sink_of self.new)) }
-        // Where the sink tells all its bytes, it goes on among them there.
+        // If all bytes of the sink are known, it goes on among them from the new place.
         ensures sought { Seeks (W.known (sink_of self.old)).health
             (W.known (sink_of self.new)).health to result }
         ensures stands { StandsAt (W.known (sink_of self.old)).health.whole result
@@ -82,7 +83,7 @@ impl<W: Sink> Seek for Writer<W> {
         Ok(())
     }
 
-    /// The place of the sink, as `seek(SeekFrom::Current(0))` answers it: so it drops pending bits.
+    /// The place of the sink, as `seek(SeekFrom::Current(0))` returns it. So it drops pending bits.
     fn stream_position(&mut self) -> io::Result<u64>
         ensures ok { OnOk result (WritesOn self.new (written_count self.old)) }
         ensures err { IfErr result (λ e. StopsWriting self.new (DekuError.Io (error_kind e))
@@ -104,7 +105,7 @@ impl<W: Sink> Seek for Writer<W> {
         self.seek(SeekFrom::Current(0))
     }
 
-    /// Seeks from its place, as `seek(SeekFrom::Current(offset))` does.
+    /// Seeks from the current place, as `seek(SeekFrom::Current(offset))` does.
     fn seek_relative(&mut self, offset: i64) -> io::Result<()>
         ensures ok { OnOk result (WritesOn self.new (written_count self.old)) }
         ensures err { IfErr result (λ e. StopsWriting self.new (DekuError.Io (error_kind e))

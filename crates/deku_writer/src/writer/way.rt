@@ -1,4 +1,4 @@
-//! Ways through a list of bits.
+//! Ways to go through a list of bits.
 
 ghost use Rattle.std.specs.Prelude.{◌≡◌, ◌<◌, ◌+◌, ◌-◌, ◌*◌, ◌/◌, ◌%◌, Bool, List, false, slice_index_or, length};
 ghost use Rattle.deku_stream.specs.Bits.{shown};
@@ -6,7 +6,7 @@ ghost use Rattle.deku_writer.specs.Pushing.{along, IsFor};
 
 use deku_stream::ctx::Order;
 
-/// A way through a list of bits.
+/// A way to go through a list of bits.
 #[derive(Clone, Copy)]
 pub enum Way {
     /// From the first bit on.
@@ -20,7 +20,7 @@ pub enum Way {
 }
 
 impl Way {
-    /// The way on which `n` bits go out that a read in this order would show.
+    /// The way to give out `n` bits as a read in this order shows them.
     #[tactic(auto, using(crate::proofs::Pushes::shown_ways))]
     pub fn shown(order: Order, n: usize) -> Way
         ensures whole { IsFor result n }
@@ -38,7 +38,7 @@ impl Way {
         }
     }
 
-    /// The place of the bit that comes at this place of the way through `n` bits.
+    /// The index in the list of the bit that comes at this index of the way through `n` bits.
     #[tactic(auto, using(crate::proofs::Pushes::ways))]
     pub fn place(self, n: usize, at: usize) -> usize
         requires whole { IsFor self n }
@@ -57,7 +57,7 @@ impl Way {
     }
 }
 
-// The place in its byte, counted from the byte's other end.
+// The place in its byte, counted from the other end of the byte.
 fn in_turned_byte(at: usize) -> usize
     ensures { result ≡ at / 8 * 8 + (7 - at % 8) }
 {

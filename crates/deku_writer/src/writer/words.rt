@@ -1,4 +1,4 @@
-//! Words that go out by way of held bits.
+//! Words that are given out through held bits.
 
 ghost use Rattle.std.specs.Prelude.{◌≡◌, ◌↔◌, ◌<◌, ◌≤◌, ◌+◌, ◌*◌, ◌/◌, ◌%◌, ◌^◌, ◌⊎◌, length, take, IsTrue, IsFalse, OnOk, IfErr};
 ghost use Rattle.deku_device.specs.Devices.{Gave};
@@ -14,8 +14,8 @@ use deku_stream::ctx::Order;
 use deku_stream::turning::show;
 use std::io::{Cursor, ErrorKind};
 
-// Seven bytes of a word at a time through held bits, the lowest first: as many go out as come in.
-// What is left of the word is answered.
+// Moves seven bytes of a word at a time through held bits, the low byte first: as many bytes go out
+// as come in. Returns what is left of the word.
 fn shift_word(out: &mut [u8; 16], held: &mut Held, order: Order, word: u128, parts: usize) -> u128
     requires short { length held.old < 8 }
     requires room { parts ≤ 2 }
@@ -32,7 +32,7 @@ fn shift_word(out: &mut [u8; 16], held: &mut Held, order: Order, word: u128, par
     rest
 }
 
-// A word of n bits behind held bits: the bytes that fill.
+// Adds a word of n bits after held bits: gives the bytes that fill.
 fn fill_word(out: &mut [u8; 16], held: &mut Held, order: Order, word: u128, n: usize)
     requires some { 0 < n }
     requires short { length held.old < 8 }
@@ -47,7 +47,7 @@ fn fill_word(out: &mut [u8; 16], held: &mut Held, order: Order, word: u128, n: u
     out[7 * parts..7 * parts + count].copy_from_slice(&eight[..count]);
 }
 
-// The bits of a group of at most eight, as the order meets them.
+// The bits of a group of at most eight, in this order.
 fn bits_of_group(order: Order, group: u8, n: usize) -> [bool; 8]
     requires size { n ≤ 8 }
     requires inside { group < 2 ^ n }
@@ -61,7 +61,7 @@ fn bits_of_group(order: Order, group: u8, n: usize) -> [bool; 8]
     bits
 }
 
-// The bits of a word, as the order meets them.
+// The bits of a word, in this order.
 fn bits_of_word(bits: &mut [bool; 128], order: Order, word: u128, n: usize)
     requires most { n ≤ 128 }
     requires inside { word < 2 ^ n }
@@ -77,7 +77,7 @@ fn bits_of_word(bits: &mut [bool; 128], order: Order, word: u128, n: usize)
     bits[8 * whole..n].copy_from_slice(&last[..n % 8]);
 }
 
-// Whether two orders are one.
+// Whether two orders are the same.
 #[inline(always)]
 fn is_same(from: Order, to: Order) -> bool
     ensures { IsTrue result ↔ (from ≡ to) }
@@ -88,8 +88,8 @@ fn is_same(from: Order, to: Order) -> bool
     )
 }
 
-/// Whether bits of an order go behind held bits as they are: there are none, or they are of the
-/// same order.
+/// Whether bits of an order follow held bits unchanged: there are none, or they are of the same
+/// order.
 #[inline(always)]
 pub fn is_behind(held: &Held, from: Order, to: Order) -> bool
     ensures { IsTrue result ↔ ((length held.now ≡ 0) ⊎ (from ≡ to)) }
@@ -97,7 +97,8 @@ pub fn is_behind(held: &Held, from: Order, to: Order) -> bool
     held.len() == 0 || is_same(from, to)
 }
 
-// A word of n bits onto held bits of an order, which may be the other one: the bytes that fill.
+// Adds a word of n bits to held bits of an order, which may be the other one: gives the bytes that
+// fill.
 fn fill_other(out: &mut [u8], held: &mut Held, from: Order, to: Order, word: u128, n: usize)
     requires some { 0 < n }
     requires short { length held.old < 8 }
@@ -119,9 +120,9 @@ fn fill_other(out: &mut [u8], held: &mut Held, from: Order, to: Order, word: u12
     }
 }
 
-// A word of n bits onto the held bits of an order, of any length: the bytes that fill, the first of
-// sixteen, and the bits that are held then. It takes and answers values alone, so that a caller's
-// writer stays in registers.
+// Adds a word of n bits, of any length, to the held bits of an order. Returns the bytes that fill,
+// as the first of sixteen, and the bits that are held then. It takes and returns values only, so
+// that the caller's writer stays in registers.
 #[cold]
 #[inline(never)]
 fn fill_long_word(held: Held, from: Order, to: Order, word: u128, n: usize) -> ([u8; 16], Held)
@@ -145,9 +146,9 @@ fn fill_long_word(held: Held, from: Order, to: Order, word: u128, n: usize) -> (
     (out, next)
 }
 
-// A word of n bits onto the held bits of an order, of any length and onto any sink. It is inlined,
-// so that its place for the bytes is cleared where they are asked for, and the call that asks for
-// them is cold.
+// Adds a word of n bits, of any length, to the held bits of an order, for any sink. It is inlined,
+// so that its space for the bytes is cleared only when they are asked for, and the call that asks
+// for them is cold.
 #[inline(always)]
 fn push_long_word<W: Sink>(
     sink: &mut W,
@@ -173,7 +174,7 @@ fn push_long_word<W: Sink>(
     give_any(sink, &bytes[..filled])
 }
 
-// A word of whole bytes that goes out at once, the lowest byte first.
+// Gives out a word of whole bytes at once, the low byte first.
 #[inline(always)]
 fn give_whole<W: Sink>(sink: &mut W, word: u128, n: usize) -> Result<(), ErrorKind>
     requires some { 0 < n }
@@ -187,8 +188,8 @@ fn give_whole<W: Sink>(sink: &mut W, word: u128, n: usize) -> Result<(), ErrorKi
     give_out(sink, &word.to_le_bytes()[..n / 8])
 }
 
-// A word of at most eight whole bytes, the lowest first, where the sink has room for eight bytes at
-// hand, and whether it has.
+// Puts a word of at most eight whole bytes into the sink, the low byte first, if it has room in
+// memory for eight bytes. Returns whether it has.
 #[inline(always)]
 fn lay_whole<W: Sink>(sink: &mut W, word: u64, n: usize) -> bool
     requires whole { n % 8 ≡ 0 }
@@ -200,9 +201,9 @@ fn lay_whole<W: Sink>(sink: &mut W, word: u64, n: usize) -> bool
     sink.try_put(word.to_le_bytes(), n / 8)
 }
 
-/// A word of n bits onto the held bits of an order. Where they have at most 64 bits together, and
-/// the sink has room for eight bytes at hand, they are laid there. Longer words of whole bytes that
-/// meet none held are given as they are.
+/// Adds a word of n bits to the held bits of an order. If they are at most 64 bits together, and
+/// the sink has room in memory for eight bytes, they are put there. Longer words of whole bytes are
+/// given as they are, if no bits are held.
 #[inline(always)]
 pub fn push_word_onto<W: Sink>(
     sink: &mut W,

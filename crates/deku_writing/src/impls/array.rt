@@ -1,4 +1,4 @@
-//! Arrays: so many items in order.
+//! Arrays: a fixed number of items, in order.
 
 ghost use Rattle.deku_writing.specs.Composing.{WritesEach};
 
@@ -7,8 +7,8 @@ use deku_bits::device::Sink;
 use deku_bits::error::DekuError;
 use deku_bits::writer::Writer;
 
-/// The items in order, under the items' context. The refusal is that of the first item that is
-/// refused, and what the items before it moved stays moved.
+/// The items in order, under the items' context. It fails as the first item that fails, and what
+/// was written before stays written.
 impl<Ctx: Copy, T: DekuWriter<Ctx>, const N: usize> DekuWriter<Ctx> for [T; N] {
     ghost accepts = { T.accepts };
 

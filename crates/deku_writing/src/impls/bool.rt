@@ -11,7 +11,7 @@ use deku_bits::error::DekuError;
 use deku_bits::writer::Writer;
 use deku_num::ctx::NumberCtx;
 
-/// Written as the `u8` 0 or 1, and refused as that is: in no bits, true does not fit.
+/// Written as the `u8` 0 or 1. It fails as that does: in no bits, true does not fit.
 impl<C: NumberCtx> DekuWriter<C> for bool {
     ghost meaning = { λ v c. WritesNumber byte (C.layout_of c) (pos (numeral v)) };
 

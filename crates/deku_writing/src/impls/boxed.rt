@@ -21,8 +21,8 @@ impl<Ctx: Copy, T: DekuWriter<Ctx>> DekuWriter<Ctx> for Box<T> {
     }
 }
 
-/// The items in order, under the items' context. The refusal is that of the first item that is
-/// refused, and what the items before it moved stays moved. It takes no memory.
+/// The items in order, under the items' context. It fails as the first item that fails, and what
+/// was written before stays written. It takes no memory.
 impl<Ctx: Copy, T: DekuWriter<Ctx>, A: Allocator> DekuWriter<Ctx> for BoxedSlice<T, A> {
     ghost accepts = { T.accepts };
 

@@ -8,7 +8,7 @@ use deku_bits::error::DekuError;
 use deku_bits::writer::Writer;
 use std::borrow::Cow;
 
-/// What it holds is written, borrowed or owned.
+/// The item is written, whether it is borrowed or owned.
 impl<Ctx: Copy, T: Clone + DekuWriter<Ctx>> DekuWriter<Ctx> for Cow<'_, T> {
     ghost accepts = { T.accepts };
 

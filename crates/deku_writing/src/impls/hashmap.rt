@@ -1,4 +1,4 @@
-//! Maps: pairs of a key and a value, in the order in which a map is walked.
+//! Maps: pairs of a key and a value, in the order in which the map is iterated.
 
 ghost use Rattle.deku_bits.specs.WriterCalls.{Writes};
 ghost use Rattle.deku_meanings.specs.Composing.{Both};
@@ -11,9 +11,10 @@ use deku_bits::writer::Writer;
 use std::collections::HashMap;
 use std::hash::{BuildHasher, Hash};
 
-/// Each entry once, a key and then its value, under the items' context, in the order in which the
-/// map is walked, which is open but the same until the map changes. The refusal is that of the
-/// first that is refused, and what those before it moved stays moved. It takes no memory.
+/// Each entry once, a key and then its value, under the items' context. The order is the one in
+/// which the map is iterated, which is unspecified but stays the same until the map changes. It
+/// fails as the first item that fails, and what was written before stays written. It takes no
+/// memory.
 impl<Ctx: Copy, K: DekuWriter<Ctx> + Eq + Hash, V: DekuWriter<Ctx>, S: BuildHasher> DekuWriter<Ctx>
     for HashMap<K, V, S> {
     ghost accepts = { λ c. K.accepts c × V.accepts c };

@@ -1,4 +1,4 @@
-//! Sets: items in the order in which a set is walked.
+//! Sets: items in the order in which the set is iterated.
 
 ghost use Rattle.deku_writing.specs.Composing.{WritesEach};
 
@@ -9,9 +9,9 @@ use deku_bits::writer::Writer;
 use std::collections::HashSet;
 use std::hash::{BuildHasher, Hash};
 
-/// Each item once, under the items' context, in the order in which the set is walked, which is open
-/// but the same until the set changes. The refusal is that of the first that is refused, and what
-/// those before it moved stays moved. It takes no memory.
+/// Each item once, under the items' context. The order is the one in which the set is iterated,
+/// which is unspecified but stays the same until the set changes. It fails as the first item that
+/// fails, and what was written before stays written. It takes no memory.
 impl<Ctx: Copy, T: DekuWriter<Ctx> + Eq + Hash, S: BuildHasher> DekuWriter<Ctx> for HashSet<T, S> {
     ghost accepts = { T.accepts };
 

@@ -13,7 +13,7 @@ use deku_bits::writer::Writer;
 use deku_num::ctx::NumberCtx;
 use std::net::{IpAddr, Ipv4Addr, Ipv6Addr};
 
-/// Written as the `u32` that it is read from, and refused as that is.
+/// Written as the `u32` that it is read from. It fails as that does.
 impl<C: NumberCtx> DekuWriter<C> for Ipv4Addr {
     ghost meaning = { λ v c. WritesNumber (unsigned 32) (C.layout_of c) (pos (ipv4_bits v)) };
 
@@ -24,7 +24,7 @@ impl<C: NumberCtx> DekuWriter<C> for Ipv4Addr {
     }
 }
 
-/// Written as the `u128` that it is read from, and refused as that is.
+/// Written as the `u128` that it is read from. It fails as that does.
 impl<C: NumberCtx> DekuWriter<C> for Ipv6Addr {
     ghost meaning = { λ v c. WritesNumber (unsigned 128) (C.layout_of c) (pos (ipv6_bits v)) };
 
@@ -35,7 +35,7 @@ impl<C: NumberCtx> DekuWriter<C> for Ipv6Addr {
     }
 }
 
-/// Written as the address that it is; no byte says of which family.
+/// Written as the address that it holds. No byte says of which family it is.
 impl<C: NumberCtx> DekuWriter<C> for IpAddr {
     ghost meaning = { λ v c. WritesAddress (C.layout_of c) v };
 

@@ -1,4 +1,4 @@
-//! Numbers that are not 0.
+//! Numbers other than 0.
 
 ghost use Rattle.std.specs.Prelude.{pos};
 ghost use Rattle.std.specs.Int.NonZero.{non_zero_u8_get, non_zero_u16_get, non_zero_u32_get, non_zero_u64_get, non_zero_u128_get, non_zero_usize_get, non_zero_i8_get, non_zero_i16_get, non_zero_i32_get, non_zero_i64_get, non_zero_i128_get, non_zero_isize_get};
@@ -15,7 +15,7 @@ use std::num::{
     NonZeroU16, NonZeroU32, NonZeroU64, NonZeroU128, NonZeroUsize,
 };
 
-/// Written as its number, and refused as that is. So with each type below.
+/// Written as its number. It fails as that does. The same holds for each type below.
 impl<C: NumberCtx> DekuWriter<C> for NonZeroU8 {
     ghost meaning = { λ v c. WritesNumber byte (C.layout_of c) (pos (non_zero_u8_get v)) };
 

@@ -1,17 +1,19 @@
 //! Whole numbers, under every context that names a layout.
 //!
-//! Writing a number is rejected, in this order, with
+//! Writing a number fails, in this order, with
 //!
 //! - `InvalidParam("bit size is larger than input")`, or `"byte size is larger than input"`, if the
 //!   size is beyond the type's bits, even if the writer has stopped;
 //! - `InvalidParam("signed big Lsb0 field of this width")` if the type is signed, of more than
-//!   eight bits, and the field is big and `Lsb0` and has more than eight bits and no whole bytes;
+//!   eight bits, and the field is big and `Lsb0` and has more than eight bits that are not whole
+//!   bytes;
 //! - `InvalidParam("bit size of input is larger than requested size")` if the value does not fit;
-//! - the fault that the writer kept, if it has stopped;
+//! - the error that the writer kept, if it has stopped;
 //! - `InvalidParam("count past usize")` if a `usize` cannot count the bits;
-//! - `Io` if the sink fails, or has no room or finds no memory for the bytes.
+//! - `Io` if the sink fails, or has no room or no memory for the bytes.
 //!
-//! The last of these stops the writer, and its count stays as it was; nothing changes before.
+//! The last of these stops the writer, and its count stays as it was. In all earlier cases nothing
+//! changes.
 
 ghost use Rattle.std.specs.Prelude.{pos};
 ghost use Rattle.deku_num.specs.Numbers.{byte, unsigned, signed};
@@ -86,7 +88,7 @@ impl<C: NumberCtx> DekuWriter<C> for u64 {
 /// says.
 ///
 /// ```text
-/// 2u128.to_writer(&mut writer, (Endian::Little, ByteSize(9)))?               // 02 and eight bytes of zeros
+/// 2u128.to_writer(&mut writer, (Endian::Little, ByteSize(9)))?      // 02 and eight bytes of zeros
 /// ```
 impl<C: NumberCtx> DekuWriter<C> for u128 {
     ghost meaning = { λ v c. WritesNumber (unsigned 128) (C.layout_of c) (pos v) };
@@ -176,7 +178,7 @@ impl<C: NumberCtx> DekuWriter<C> for i64 {
 /// says; in two's complement.
 ///
 /// ```text
-/// (-1i128).to_writer(&mut writer, (Endian::Big, BitSize(12)))?               // twelve bits that are set
+/// (-1i128).to_writer(&mut writer, (Endian::Big, BitSize(12)))?         // twelve bits that are set
 /// ```
 impl<C: NumberCtx> DekuWriter<C> for i128 {
     ghost meaning = { λ v c. WritesNumber (signed 128) (C.layout_of c) v };

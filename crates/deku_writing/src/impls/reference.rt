@@ -1,11 +1,11 @@
-//! Items behind a reference.
+//! References to items.
 
 use crate::traits::DekuWriter;
 use deku_bits::device::Sink;
 use deku_bits::error::DekuError;
 use deku_bits::writer::Writer;
 
-/// What the reference names is written.
+/// The item is written.
 impl<Ctx: Copy, T: DekuWriter<Ctx>> DekuWriter<Ctx> for &T {
     ghost accepts = { T.accepts };
 

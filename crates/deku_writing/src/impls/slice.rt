@@ -7,9 +7,8 @@ use deku_bits::device::Sink;
 use deku_bits::error::DekuError;
 use deku_bits::writer::Writer;
 
-/// The items in order, under the items' context. The refusal is that of the first item that is
-/// refused, and what the items before it moved stays moved. Without items no call is made on the
-/// writer.
+/// The items in order, under the items' context. It fails as the first item that fails, and what
+/// was written before stays written. Without items no call is made on the writer.
 impl<Ctx: Copy, T: DekuWriter<Ctx>> DekuWriter<Ctx> for &[T] {
     ghost accepts = { T.accepts };
 

@@ -1,5 +1,5 @@
-//! Tuples: their items in order. One of three or more is written as its first item and the tuple of
-//! the rest.
+//! Tuples: their items in order. A tuple of three or more items is written as its first item and
+//! the tuple of the rest.
 
 ghost use Rattle.deku_meanings.specs.Composing.{Both};
 
@@ -8,7 +8,7 @@ use deku_bits::device::Sink;
 use deku_bits::error::DekuError;
 use deku_bits::writer::Writer;
 
-/// Its one item, under the item's context.
+/// The one item, under the item's context.
 impl<Ctx: Copy, A: DekuWriter<Ctx>> DekuWriter<Ctx> for (A,) {
     ghost accepts = { A.accepts };
 
@@ -20,8 +20,8 @@ impl<Ctx: Copy, A: DekuWriter<Ctx>> DekuWriter<Ctx> for (A,) {
     }
 }
 
-/// The items in order, all under one context. The refusal is that of the first item that is
-/// refused, and what the items before it moved stays moved. So with each tuple below.
+/// The items in order, all under one context. It fails as the first item that fails, and what was
+/// written before stays written. The same holds for each tuple below.
 impl<Ctx: Copy, A: DekuWriter<Ctx>, B: DekuWriter<Ctx>> DekuWriter<Ctx> for (A, B) {
     ghost accepts = { λ c. A.accepts c × B.accepts c };
 

@@ -1,4 +1,4 @@
-//! Nothing at all.
+//! The unit type.
 
 ghost use Rattle.deku_meanings.specs.Composing.{Answer};
 
@@ -7,7 +7,7 @@ use deku_bits::device::Sink;
 use deku_bits::error::DekuError;
 use deku_bits::writer::Writer;
 
-/// Nothing is written, also where the writer has stopped.
+/// Nothing is written, even if the writer has stopped.
 impl<Ctx: Copy> DekuWriter<Ctx> for () {
     ghost meaning = { λ _ _. Answer tt };
 

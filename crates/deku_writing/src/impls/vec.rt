@@ -7,8 +7,8 @@ use deku_bits::device::Sink;
 use deku_bits::error::DekuError;
 use deku_bits::writer::Writer;
 
-/// The items in order, under the items' context. The refusal is that of the first item that is
-/// refused, and what the items before it moved stays moved. It takes no memory.
+/// The items in order, under the items' context. It fails as the first item that fails, and what
+/// was written before stays written. It takes no memory.
 impl<Ctx: Copy, T: DekuWriter<Ctx>> DekuWriter<Ctx> for Vec<T> {
     ghost accepts = { T.accepts };
 

@@ -1,4 +1,4 @@
-//! Bits, handed out from a window and from bytes that are fetched in runs.
+//! Bits, from a window of unread bits and from bytes that are fetched in runs.
 
 ghost use Rattle.std.specs.Prelude.{◌≡◌, ◌≢◌, ◌+◌, ◌*◌, ◌<◌, ◌≤◌, ◌++◌, [], length, OnOk, IfErr};
 ghost use Rattle.std.specs.IoError.{error_kind};
@@ -14,7 +14,7 @@ use deku_stream::window::Window;
 use std::io;
 use std::io::ErrorKind;
 
-/// Fills the buffer with the next bits in this order, 128 of them at a time.
+/// Fills the buffer with the next bits in this order, 128 bits at a time.
 pub fn bits_into<R: Source>(
     source: &mut R,
     window: &mut Window,
@@ -44,8 +44,8 @@ pub fn bits_into<R: Source>(
     Ok(())
 }
 
-// Fills the buffer of at most 128 bits with the next bits in this order. The bytes that they need
-// are fetched at once.
+// Fills a buffer of at most 128 bits with the next bits in this order. The bytes that they need are
+// fetched at once.
 fn run_into<R: Source>(
     source: &mut R,
     window: &mut Window,
@@ -74,7 +74,7 @@ fn run_into<R: Source>(
     Ok(())
 }
 
-// Fills the buffer with the next bits of the window in this order.
+// Fills the buffer with the next bits of the window, in this order.
 fn hand_out(window: &mut Window, dst: &mut [bool], order: Order)
     requires { length dst.old ≤ length window.old }
     ensures { facing order window.old ≡ dst.new ++ facing order window.new }
@@ -84,8 +84,8 @@ fn hand_out(window: &mut Window, dst: &mut [bool], order: Order)
     }
 }
 
-// Fills the buffer with the bits of bytes, which are as many as it needs. The window is empty where
-// one is needed.
+// Fills the buffer with the bits of the bytes, of which there are as many as it needs. If it needs
+// any, the window has to be empty.
 fn hand_out_bytes(window: &mut Window, bytes: &[u8], dst: &mut [bool], order: Order)
     requires empty { 0 < length dst.old → length window.old ≡ 0 }
     requires needed { length bytes.now ≡ groups (length dst.old) }

@@ -1,4 +1,4 @@
-//! Bytes, fetched into the caller's buffer and turned in place.
+//! Bytes, fetched into the caller's buffer and shifted in place.
 
 ghost use Rattle.std.specs.Prelude.{◌≡◌, ◌≢◌, ◌*◌, ◌%◌, ◌<◌, ◌≤◌, ◌++◌, length, All, OnOk, IfErr};
 ghost use Rattle.std.specs.Vec.{vec_len, vec_capacity};
@@ -13,8 +13,8 @@ use deku_stream::ctx::Order;
 use deku_stream::window::Window;
 use std::io::ErrorKind;
 
-/// Fills the buffer with the next bytes in this order, or answers the kind of the fault. They are
-/// fetched into it at once, and turned there where bits of a byte are unread.
+/// Fills the buffer with the next bytes in this order, or returns the kind of the error. The bytes
+/// are fetched into it at once, and shifted there if bits of a byte are unread.
 #[inline(always)]
 pub fn bytes_into<R: Source>(
     source: &mut R,
@@ -48,8 +48,8 @@ pub fn bytes_into<R: Source>(
     }
 }
 
-/// Puts the next bytes in this order, so many, into an empty vector that has room for them, or
-/// answers the kind of the fault.
+/// Puts the next `amt` bytes, in this order, into an empty vector that has room for them, or
+/// returns the kind of the error.
 #[inline(always)]
 pub fn bytes_onto<R: Source>(
     source: &mut R,
@@ -93,8 +93,8 @@ pub fn bytes_onto<R: Source>(
     }
 }
 
-/// Turns bytes that stand behind the window into those that begin with its bits. As many bits are
-/// then unread.
+/// Turns bytes that come after the window into those that begin with its bits. The same number of
+/// bits is unread then.
 pub fn exchange_all(window: &mut Window, dst: &mut [u8], order: Order)
     ensures bits { facing order window.old ++ flow order dst.old ≡ flow order dst.new ++ facing
         order window.new }
@@ -104,7 +104,7 @@ pub fn exchange_all(window: &mut Window, dst: &mut [u8], order: Order)
     if window.len() == 0 {
         return;
     }
-    // Beside the bytes, so that it stays in registers.
+    // Kept apart from the bytes, so that it stays in registers.
     let mut passing = window.copy();
     let (eights, last) = dst.split_at_mut(dst.len() / 8 * 8);
     exchange_eights(&mut passing, eights, order);

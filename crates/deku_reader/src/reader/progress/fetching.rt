@@ -14,7 +14,7 @@ use deku_stream::window::Window;
 use std::io;
 use std::io::ErrorKind;
 
-/// Fills the buffer with the next bytes. For none the source is not called.
+/// Fills the buffer with the next bytes. For no bytes the source is not called.
 #[inline(always)]
 pub fn fetch_bytes<R: Source>(source: &mut R, dst: &mut [u8]) -> io::Result<()>
     ensures bytes { OnOk result (Consumes (R.known source.old).remaining
@@ -33,8 +33,8 @@ pub fn fetch_bytes<R: Source>(source: &mut R, dst: &mut [u8]) -> io::Result<()>
     source.fetch(dst)
 }
 
-/// Fills the buffer with the bytes that stand behind fewer than eight unread bits: a window of
-/// eight is put back, as the first of them.
+/// Fills the buffer with the bytes after fewer than eight unread bits. A window of eight bits is
+/// put back, as the first of the bytes.
 #[inline(always)]
 pub fn fetch_behind<R: Source>(
     source: &mut R,

@@ -1,4 +1,4 @@
-//! Leaving out bits, by a window and a source.
+//! Skipping bits, with a window and a source.
 
 #![tactic(auto, using(deku_device::proofs::Wholes::onward_same))]
 
@@ -15,7 +15,7 @@ use deku_stream::window::Window;
 use std::io;
 use std::io::ErrorKind;
 
-/// Takes so many bits of the window in this order, and forgets them.
+/// Takes `count` bits of the window in this order, and drops them.
 pub fn pop_bits(window: &mut Window, count: usize, order: Order)
     requires { count ≤ length window.old }
     ensures { (bits : List Bool) × (length bits ≡ count)
@@ -24,7 +24,7 @@ pub fn pop_bits(window: &mut Window, count: usize, order: Order)
     window.take(count, order);
 }
 
-/// Passes whole bytes. For none the source is not called.
+/// Skips whole bytes. For no bytes the source is not called.
 pub fn pass_bytes<R: Source>(source: &mut R, count: usize) -> io::Result<()>
     requires { count < 2 ^ 63 }
     ensures none { count ≡ 0 → source.new ≡ source.old }
@@ -40,7 +40,7 @@ pub fn pass_bytes<R: Source>(source: &mut R, count: usize) -> io::Result<()>
     source.pass(count as u64)
 }
 
-/// Takes fewer than eight bits in this order, and forgets them.
+/// Takes fewer than eight bits in this order, and drops them.
 pub fn drop_bits<R: Source>(
     source: &mut R,
     window: &mut Window,

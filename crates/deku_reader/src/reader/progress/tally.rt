@@ -1,4 +1,4 @@
-//! The fault that stopped a reader, if any, and how many bits were read.
+//! The error that stopped a reader, if any, and how many bits were read.
 
 ghost use Rattle.std.specs.Prelude.{◌≡◌, ◌+◌, ◌^◌, ◌<◌, Some, None};
 ghost use Rattle.deku_stream.specs.Kept.{Admits, standing_of};
@@ -7,15 +7,15 @@ ghost use Rattle.deku_reader.specs.Tallies.{tallied};
 use deku_stream::error::{DekuError, Fault};
 use std::marker::Model;
 
-/// Why a reader has stopped, and how many bits it had read then.
+/// Why a reader has stopped, and how many bits it had read by then.
 #[derive(Clone, Copy)]
 pub struct Stop {
     fault: Fault,
     count: usize,
 }
 
-/// Whether a reader has stopped, and how many bits were read. Kept is how many bits may still be
-/// counted, none where it has stopped: so one comparison admits a read.
+/// Whether a reader has stopped, and how many bits were read. It stores how many bits may still be
+/// counted, which is none if the reader has stopped. So one comparison is enough to allow a read.
 #[derive(Drop)]
 pub struct Tally {
     left: usize,
@@ -33,7 +33,7 @@ impl Model for Tally {
 }
 
 impl Tally {
-    /// So many bits are read, and no fault is kept.
+    /// This many bits are read, and no error is kept.
     #[inline(always)]
     pub fn going(count: usize) -> Tally
         ensures { result ≡ record { fault = None; count = count } }
@@ -44,7 +44,7 @@ impl Tally {
         }
     }
 
-    /// So many bits are read, and this fault is kept.
+    /// This many bits are read, and this error is kept.
     #[inline(always)]
     pub fn stopped(fault: Fault, count: usize) -> Tally
         ensures { result ≡ record { fault = Some fault; count = count } }
@@ -66,7 +66,7 @@ impl Tally {
         }
     }
 
-    /// The fault that is kept.
+    /// The error that is kept.
     #[inline(always)]
     pub fn fault(&self) -> Option<Fault>
         ensures { result ≡ self.now.fault }
@@ -77,8 +77,8 @@ impl Tally {
         }
     }
 
-    /// Refuses what a reader refuses before it moves anything: by its kept fault, or since the
-    /// count has no room.
+    /// Fails as a reader does before it moves anything: with its kept error, or because the count
+    /// would not fit.
     #[inline(always)]
     pub fn admits(&self, amt: usize) -> Result<(), DekuError>
         ensures { Admits amt (standing_of (tt {0}) self.now.fault self.now.count) result }
@@ -89,8 +89,9 @@ impl Tally {
         looked_at(self.stop, self.left, amt)
     }
 
-    /// So many bits more are read. The caller's conditions: no fault is kept, and the count has
-    /// room for them.
+    /// Counts `amt` more bits as read.
+    ///
+    /// The caller's conditions: no error is kept, and the count has room for them.
     #[inline(always)]
     pub fn add(&mut self, amt: usize)
         requires going { self.old.fault ≡ None }
@@ -101,7 +102,7 @@ impl Tally {
     }
 }
 
-// Refuses as `Tally::admits` does, also where as many bits as are wanted may still be counted.
+// Fails as `Tally::admits` does, and succeeds if `amt` more bits may still be counted.
 #[cold]
 #[inline(never)]
 fn looked_at(stop: Option<Stop>, left: usize, amt: usize) -> Result<(), DekuError>

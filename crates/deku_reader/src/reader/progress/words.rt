@@ -13,8 +13,8 @@ use deku_stream::ctx::Order;
 use deku_stream::window::{Window, word_of_front};
 use std::io::ErrorKind;
 
-/// Takes at most 128 bits in this order, and answers their word, or the kind of the fault. The
-/// bytes that they need are taken where they are at hand, and fetched at once else.
+/// Takes at most 128 bits in this order, and returns their word, or the kind of the error. The
+/// bytes that they need are taken from memory if they are there, and are otherwise fetched at once.
 #[inline(always)]
 pub fn word_from<R: Source>(
     source: &mut R,
@@ -81,8 +81,8 @@ fn narrow_from<R: Source>(
     word_by_copy(source, window, count, order)
 }
 
-/// Takes at most 64 bits from the highest down, where they are unread or at hand, and answers their
-/// number. It answers none else, and then nothing moves.
+/// Takes at most 64 bits, with the high bits first, if they are unread or in memory, and returns
+/// their number. Otherwise it returns `None`, and nothing moves.
 #[inline(always)]
 pub fn try_read_msb<R: Source>(source: &mut R, window: &mut Window, count: usize) -> Option<u64>
     requires bound { length window.old ≤ 8 }
@@ -97,7 +97,7 @@ pub fn try_read_msb<R: Source>(source: &mut R, window: &mut Window, count: usize
     ensures stays { IsNone result → (window.new ≡ window.old) × (source.new ≡ source.old) }
     ensures kept { DeviceKept (R.known source.old).health (R.known source.new).health }
 {
-    // Whole bytes at a boundary first: they move nothing but the source's place.
+    // Whole bytes at a byte boundary come first: they move nothing except the source's place.
     if window.len() == 0 && count % 8 == 0 && 0 < count {
         let whole = source.try_take(count / 8)?;
         return Some(window.take_high_across(&whole, count));
@@ -113,8 +113,8 @@ pub fn try_read_msb<R: Source>(source: &mut R, window: &mut Window, count: usize
     Some(window.take_high_across(&eight, count))
 }
 
-// Takes more than 64 bits: where eight bytes are at hand, 64 bits through the window and then the
-// others.
+// Takes more than 64 bits. If eight bytes are in memory, it takes 64 bits through the window and
+// then the others.
 #[inline(always)]
 fn wide_from<R: Source>(
     source: &mut R,
@@ -147,8 +147,8 @@ fn wide_from<R: Source>(
     }
 }
 
-// Takes bits as `word_fetched` does, with the window handed on as a copy: so a caller's window
-// stays in registers.
+// Takes bits as `word_fetched` does, with a copy of the window, so that the caller's window stays
+// in registers.
 #[inline(always)]
 fn word_by_copy<R: Source>(
     source: &mut R,
@@ -174,7 +174,7 @@ fn word_by_copy<R: Source>(
     word
 }
 
-// Takes bits, more than the window has, by one transfer of the bytes that they need.
+// Takes more bits than the window has, by one transfer of the bytes that they need.
 #[cold]
 #[inline(never)]
 fn word_fetched<R: Source>(
@@ -207,7 +207,7 @@ fn word_fetched<R: Source>(
     }
 }
 
-// Makes the groups of so many bits of the bytes that stand behind the window.
+// Makes the groups of `count` bits from the window and the bytes after it.
 fn gather(window: &mut Window, dst: &mut [u8], count: usize, order: Order)
     requires short { length window.old < 8 }
     requires room { length dst.old ≡ groups count }
@@ -222,8 +222,8 @@ fn gather(window: &mut Window, dst: &mut [u8], count: usize, order: Order)
     }
 }
 
-// Takes fewer than eight bits: those of the window, and where it has fewer, those of the byte
-// behind it.
+// Takes fewer than eight bits: those of the window, and if it has too few, bits of the byte after
+// it.
 fn last_group(window: &mut Window, byte: u8, count: usize, order: Order) -> u8
     requires window { length window.old < 8 }
     requires some { 0 < count }
@@ -241,7 +241,7 @@ fn last_group(window: &mut Window, byte: u8, count: usize, order: Order) -> u8
     joined(first, inside, second, count - inside, order)
 }
 
-// The number of a group from those of two parts of it, which are so long.
+// The number of a group from the numbers of its two parts, which have these widths.
 fn joined(first: u8, inside: usize, second: u8, behind: usize, order: Order) -> u8
     requires few { inside + behind < 8 }
     requires first { first < 2 ^ inside }
