@@ -1,5 +1,5 @@
 //! The crates `bitstream_io` (bits) and `byteorder` (whole bytes). Bits in their usual form, over cursors, so that calls with several widths share a function;
-//! and in their best form, over slices of a type of their own for each work, with fields of few bits read and written together.
+//! and in their best form, over slices of a type of their own for each work, with the fields of a record read and written in one or two numbers.
 
 use crate::records::*;
 use crate::slices::{Room, Slice};
@@ -50,27 +50,21 @@ fn put_head<W: Write>(w: &mut BitWriter<W, Msb>, h: &Head) -> io::Result<()> {
 
 #[inline]
 fn head_joined<R: Read>(r: &mut BitReader<R, Msb>) -> io::Result<Head> {
-    let first: u16 = r.read(16)?;
-    let length = r.read(16)?;
-    let id = r.read(16)?;
-    let part: u16 = r.read(16)?;
-    let next: u16 = r.read(16)?;
-    let check = r.read(16)?;
-    let source = r.read(32)?;
+    let first: u128 = r.read(128)?;
     let target = r.read(32)?;
     Ok(Head {
-        source,
+        source: first as u32,
         target,
-        length,
-        id,
-        fragment: part & 0x1fff,
-        check,
-        version: (first >> 12) as u8,
-        words: (first >> 8 & 15) as u8,
-        service: first as u8,
-        flags: (part >> 13) as u8,
-        ttl: (next >> 8) as u8,
-        protocol: next as u8,
+        length: (first >> 96) as u16,
+        id: (first >> 80) as u16,
+        fragment: (first >> 64 & 0x1fff) as u16,
+        check: (first >> 32) as u16,
+        version: (first >> 124) as u8,
+        words: (first >> 120 & 15) as u8,
+        service: (first >> 112) as u8,
+        flags: (first >> 77 & 7) as u8,
+        ttl: (first >> 56) as u8,
+        protocol: (first >> 48) as u8,
     })
 }
 
@@ -79,13 +73,10 @@ fn put_head_joined<W: Write>(w: &mut BitWriter<W, Msb>, h: &Head) -> io::Result<
     if h.version > 15 || h.words > 15 || h.flags > 7 || h.fragment > 0x1fff {
         return Err(io::ErrorKind::InvalidInput.into());
     }
-    w.write(16, (h.version as u16) << 12 | (h.words as u16) << 8 | h.service as u16)?;
-    w.write(16, h.length)?;
-    w.write(16, h.id)?;
-    w.write(16, (h.flags as u16) << 13 | h.fragment)?;
-    w.write(16, (h.ttl as u16) << 8 | h.protocol as u16)?;
-    w.write(16, h.check)?;
-    w.write(32, h.source)?;
+    let kind = (h.version as u64) << 12 | (h.words as u64) << 8 | h.service as u64;
+    let high = kind << 48 | (h.length as u64) << 32 | (h.id as u64) << 16 | (h.flags as u64) << 13 | h.fragment as u64;
+    let low = (h.ttl as u64) << 56 | (h.protocol as u64) << 48 | (h.check as u64) << 32 | h.source as u64;
+    w.write(128, (high as u128) << 64 | low as u128)?;
     w.write(32, h.target)
 }
 
@@ -158,6 +149,36 @@ fn signals_write<W: Write>(all: &[Signals], mut w: BitWriter<W, Lsb>) -> bool {
         w.write(10, s.angle)
     };
     all.iter().all(|s| one(s).is_ok()) && w.byte_align().is_ok()
+}
+
+// The four as one number.
+fn quads_joined_read<R: Read>(mut r: BitReader<R, Lsb>, out: &mut [Quad]) -> bool {
+    each(out, || {
+        let all: u128 = r.read(128)?;
+        Ok(Quad { a: all as u32, b: (all >> 32) as u32, c: (all >> 64) as u32, d: (all >> 96) as u32 })
+    })
+}
+
+fn quads_joined_write<W: Write>(all: &[Quad], mut w: BitWriter<W, Lsb>) -> bool {
+    let mut one = |q: &Quad| w.write(128, (q.d as u128) << 96 | (q.c as u128) << 64 | (q.b as u128) << 32 | q.a as u128);
+    all.iter().all(|q| one(q).is_ok())
+}
+
+// The five as one number.
+fn fives_joined_read<R: Read>(mut r: BitReader<R, Msb>, out: &mut [Five]) -> bool {
+    each(out, || {
+        let all: u128 = r.read(80)?;
+        let (b, c, d) = ((all >> 56) as u16, (all >> 24) as u32, (all >> 8) as u16);
+        Ok(Five { c, b, d, a: (all >> 72) as u8, e: all as u8 })
+    })
+}
+
+fn fives_joined_write<W: Write>(all: &[Five], mut w: BitWriter<W, Msb>) -> bool {
+    let mut one = |f: &Five| {
+        let high = (f.a as u128) << 72 | (f.b as u128) << 56 | (f.c as u128) << 24;
+        w.write(80, high | (f.d as u128) << 8 | f.e as u128)
+    };
+    all.iter().all(|f| one(f).is_ok())
 }
 
 // The 42 bits as one number.
@@ -285,7 +306,7 @@ macro_rules! form {
 }
 
 form!(bits_quads_read, bits_quads_write, Quad, Lsb, quads_read, quads_write, Cursor::new, Cursor::new);
-form!(best_quads_read, best_quads_write, Quad, Lsb, quads_read, quads_write, Slice::<21>, Room::<21>);
+form!(best_quads_read, best_quads_write, Quad, Lsb, quads_joined_read, quads_joined_write, Slice::<21>, Room::<21>);
 form!(bits_signals_read, bits_signals_write, Signals, Lsb, signals_read, signals_write, Cursor::new, Cursor::new);
 form!(best_signals_read, best_signals_write, Signals, Lsb, signals_joined_read, signals_joined_write, Slice::<22>, Room::<22>);
 form!(bits_samples_read, bits_samples_write, u16, Msb, samples_read, samples_write, Cursor::new, Cursor::new);
@@ -299,7 +320,7 @@ form!(best_hundreds_read, best_hundreds_write, Wide, Msb, hundreds_read, hundred
 form!(bits_counted_read, bits_counted_write, u16, Msb, counted_read, counted_write, Cursor::new, Cursor::new);
 form!(best_counted_read, best_counted_write, u16, Msb, counted_read, counted_write, Slice::<27>, Room::<27>);
 form!(bits_fives_read, bits_fives_write, Five, Msb, fives_read, fives_write, Cursor::new, Cursor::new);
-form!(best_fives_read, best_fives_write, Five, Msb, fives_read, fives_write, Slice::<28>, Room::<28>);
+form!(best_fives_read, best_fives_write, Five, Msb, fives_joined_read, fives_joined_write, Slice::<28>, Room::<28>);
 
 pub fn bytes_quads_read(bytes: &[u8], out: &mut [Quad]) -> bool {
     let mut r = Cursor::new(bytes);

@@ -1,22 +1,20 @@
 //! The crate `bitstream_io`: in its usual form over cursors, where calls with several widths share a function, and in its best form over slices, where
-//! fields of few bits are read as one number of 16 or 32.
+//! the fields of a record are read and written in one or two numbers.
 
 use crate::records::*;
-use crate::slices::{Grown, Room, Slice};
+use crate::slices::{cursor, cursor_mut, room, slice, Grown};
 use bitstream_io::{BigEndian as Msb, BitRead, BitReader, BitWrite, BitWriter, LittleEndian as Lsb};
 use std::hint::black_box;
-use std::io::{self, Cursor, Read, Write};
+use std::io::{self, Read, Write};
 
 fn refused() -> io::Error {
     io::ErrorKind::InvalidData.into()
 }
 
-#[inline]
 pub fn udp<R: Read>(r: &mut BitReader<R, Msb>) -> io::Result<UdpFields> {
     Ok(UdpFields { source: r.read(16)?, destination: r.read(16)?, length: r.read(16)?, checksum: r.read(16)? })
 }
 
-#[inline]
 pub fn put_udp<W: Write>(w: &mut BitWriter<W, Msb>, udp: &UdpFields) -> io::Result<()> {
     w.write(16, udp.source)?;
     w.write(16, udp.destination)?;
@@ -73,28 +71,42 @@ fn put_ipv4<W: Write>(w: &mut BitWriter<W, Msb>, front: &Ipv4Fields) -> io::Resu
 }
 
 #[inline]
+pub fn udp_joined<R: Read>(r: &mut BitReader<R, Msb>) -> io::Result<UdpFields> {
+    let all: u64 = r.read(64)?;
+    Ok(UdpFields {
+        source: (all >> 48) as u16,
+        destination: (all >> 32) as u16,
+        length: (all >> 16) as u16,
+        checksum: all as u16,
+    })
+}
+
+#[inline]
+pub fn put_udp_joined<W: Write>(w: &mut BitWriter<W, Msb>, udp: &UdpFields) -> io::Result<()> {
+    let high = (udp.source as u64) << 48 | (udp.destination as u64) << 32;
+    w.write(64, high | (udp.length as u64) << 16 | udp.checksum as u64)
+}
+
+#[inline]
 fn ipv4_joined<R: Read>(r: &mut BitReader<R, Msb>) -> io::Result<Ipv4Fields> {
-    let first: u16 = r.read(16)?;
-    if first >> 12 != 4 {
+    let first: u128 = r.read(128)?;
+    let destination: u32 = r.read(32)?;
+    if first >> 124 != 4 {
         return Err(refused());
     }
-    let total_length = r.read(16)?;
-    let identification = r.read(16)?;
-    let part: u16 = r.read(16)?;
-    let next: u16 = r.read(16)?;
     Ok(Ipv4Fields {
-        words: (first >> 8 & 15) as u8,
-        service: (first >> 2 & 63) as u8,
-        congestion: (first & 3) as u8,
-        total_length,
-        identification,
-        flags: (part >> 13) as u8,
-        fragment_offset: part & 0x1fff,
-        time_to_live: (next >> 8) as u8,
-        protocol: next as u8,
-        checksum: r.read(16)?,
-        source: r.read(32)?,
-        destination: r.read(32)?,
+        source: first as u32,
+        destination,
+        total_length: (first >> 96) as u16,
+        identification: (first >> 80) as u16,
+        fragment_offset: (first >> 64 & 0x1fff) as u16,
+        checksum: (first >> 32) as u16,
+        words: (first >> 120 & 15) as u8,
+        service: (first >> 114 & 63) as u8,
+        congestion: (first >> 112 & 3) as u8,
+        flags: (first >> 77 & 7) as u8,
+        time_to_live: (first >> 56) as u8,
+        protocol: (first >> 48) as u8,
     })
 }
 
@@ -103,13 +115,12 @@ fn put_ipv4_joined<W: Write>(w: &mut BitWriter<W, Msb>, front: &Ipv4Fields) -> i
     if front.words > 15 || front.service > 63 || front.congestion > 3 || front.flags > 7 || front.fragment_offset > 0x1fff {
         return Err(refused());
     }
-    w.write(16, 4 << 12 | (front.words as u16) << 8 | (front.service as u16) << 2 | front.congestion as u16)?;
-    w.write(16, front.total_length)?;
-    w.write(16, front.identification)?;
-    w.write(16, (front.flags as u16) << 13 | front.fragment_offset)?;
-    w.write(16, (front.time_to_live as u16) << 8 | front.protocol as u16)?;
-    w.write(16, front.checksum)?;
-    w.write(32, front.source)?;
+    let kind = 4 << 12 | (front.words as u64) << 8 | (front.service as u64) << 2 | front.congestion as u64;
+    let part = (front.flags as u64) << 13 | front.fragment_offset as u64;
+    let next = (front.time_to_live as u64) << 8 | front.protocol as u64;
+    let high = kind << 48 | (front.total_length as u64) << 32 | (front.identification as u64) << 16 | part;
+    let low = next << 48 | (front.checksum as u64) << 32 | front.source as u64;
+    w.write(128, (high as u128) << 64 | low as u128)?;
     w.write(32, front.destination)
 }
 
@@ -138,16 +149,14 @@ fn put_can<W: Write>(w: &mut BitWriter<W, Lsb>, car: &CanFields) -> io::Result<(
 
 #[inline]
 fn can_joined<R: Read>(r: &mut BitReader<R, Lsb>) -> io::Result<CanFields> {
-    let first: u16 = r.read(16)?;
-    let torque: u16 = r.read(16)?;
-    let last: u32 = r.read(32)?;
+    let all: u64 = r.read(64)?;
     Ok(CanFields {
-        wheel: (first << 4) as i16 >> 4,
-        gear: (first >> 12) as u8,
-        torque: torque.swap_bytes() as i16,
-        flags: (last & 7) as u8,
-        padding: (last >> 3 & 31) as u8,
-        yaw: (last >> 8).swap_bytes() as i32 >> 8,
+        wheel: (all << 4) as i16 >> 4,
+        gear: (all >> 12 & 15) as u8,
+        torque: ((all >> 16) as u16).swap_bytes() as i16,
+        flags: (all >> 32 & 7) as u8,
+        padding: (all >> 35 & 31) as u8,
+        yaw: ((all >> 40) as u32).swap_bytes() as i32 >> 8,
     })
 }
 
@@ -157,17 +166,17 @@ fn put_can_joined<W: Write>(w: &mut BitWriter<W, Lsb>, car: &CanFields) -> io::R
     if far || car.gear > 15 || car.flags > 7 || car.padding > 31 {
         return Err(refused());
     }
-    w.write(16, car.wheel as u16 & 0xfff | (car.gear as u16) << 12)?;
-    w.write(16, (car.torque as u16).swap_bytes())?;
-    let yaw = ((car.yaw as u32) << 8).swap_bytes();
-    w.write(32, yaw << 8 | (car.padding as u32) << 3 | car.flags as u32)
+    let first = car.wheel as u64 & 0xfff | (car.gear as u64) << 12;
+    let torque = (car.torque as u16).swap_bytes() as u64;
+    let yaw = ((car.yaw as u32) << 8).swap_bytes() as u64;
+    w.write(64, yaw << 40 | (car.padding as u64) << 35 | (car.flags as u64) << 32 | torque << 16 | first)
 }
 
 macro_rules! each {
-    ($fields:ty, $bytes:literal, $order:ident, $one:ident, $put:ident, $source:expr, $sink:expr, $vector:expr, $grown:pat => $all:expr,
+    ($fields:ty, $bytes:literal, $order:ident, $one:ident, $put:ident, $source:ident, $sink:ident, $vector:expr, $grown:pat => $all:expr,
      $read:ident, $unpack:ident, $write:ident, $pack:ident) => {
         pub fn $read(bytes: &[u8], out: &mut [$fields]) -> bool {
-            let mut r = BitReader::endian($source(bytes), $order);
+            let mut r = BitReader::endian($source::<1>(bytes), $order);
             for to in out {
                 match $one(&mut r) {
                     Ok(record) => *to = record,
@@ -182,7 +191,7 @@ macro_rules! each {
             let mut parts = bytes.chunks_exact($bytes);
             for to in out {
                 let Some(part) = parts.next() else { return false };
-                match $one(&mut BitReader::endian($source(part), $order)) {
+                match $one(&mut BitReader::endian($source::<2>(part), $order)) {
                     Ok(record) => *to = record,
                     Err(_) => return false,
                 }
@@ -191,7 +200,7 @@ macro_rules! each {
         }
 
         pub fn $write(from: &[$fields], out: &mut [u8]) -> bool {
-            let mut w = BitWriter::endian($sink(out), $order);
+            let mut w = BitWriter::endian($sink::<3>(out), $order);
             from.iter().all(|record| $put(&mut w, record).is_ok())
         }
 
@@ -212,41 +221,33 @@ macro_rules! each {
     };
 }
 
-each!(UdpFields, 8, Msb, udp, put_udp, Cursor::new, Cursor::new, Vec::new(), all => all, udp_read, udp_unpack, udp_write, udp_pack);
-each!(UdpFields, 8, Msb, udp, put_udp, Slice::<1>, Room::<1>, Grown::<1>(Vec::with_capacity(8)), Grown(all) => all,
-    udp_best_read, udp_best_unpack, udp_best_write, udp_best_pack);
-each!(Ipv4Fields, 20, Msb, ipv4, put_ipv4, Cursor::new, Cursor::new, Vec::new(), all => all, ipv4_read, ipv4_unpack, ipv4_write, ipv4_pack);
-each!(Ipv4Fields, 20, Msb, ipv4_joined, put_ipv4_joined, Slice::<2>, Room::<2>, Grown::<2>(Vec::with_capacity(20)), Grown(all) => all,
-    ipv4_best_read, ipv4_best_unpack, ipv4_best_write, ipv4_best_pack);
-each!(CanFields, 8, Lsb, can, put_can, Cursor::new, Cursor::new, Vec::new(), all => all, can_read, can_unpack, can_write, can_pack);
-each!(CanFields, 8, Lsb, can_joined, put_can_joined, Slice::<3>, Room::<3>, Grown::<3>(Vec::with_capacity(8)), Grown(all) => all,
-    can_best_read, can_best_unpack, can_best_write, can_best_pack);
+fn collected<T>(count: usize, mut one: impl FnMut() -> io::Result<T>) -> io::Result<Vec<T>> {
+    let mut all = Vec::new();
+    for _ in 0..count {
+        all.push(one()?);
+    }
+    Ok(all)
+}
 
 macro_rules! counted {
-    ($source:expr, $vector:expr, $grown:pat => $all:expr, $write:ident, $counted:ident, $round:ident, $grow:ident, $udps:ident) => {
-        fn $udps(bytes: &[u8], count: usize) -> io::Result<Vec<UdpFields>> {
-            let mut r = BitReader::endian($source(bytes), Msb);
-            let mut all = Vec::new();
-            for _ in 0..count {
-                all.push(udp(&mut r)?);
-            }
-            Ok(all)
-        }
-
+    ($one:ident, $put:ident, $source:ident, $sink:ident, $vector:expr, $grown:pat => $all:expr, $counted:ident, $round:ident, $grow:ident) => {
         pub fn $counted(bytes: &[u8], out: &mut [UdpFields]) -> bool {
-            let Ok(all) = $udps(bytes, out.len()) else { return false };
+            let mut r = BitReader::endian($source::<4>(bytes), Msb);
+            let Ok(all) = collected(out.len(), || $one(&mut r)) else { return false };
             out.copy_from_slice(black_box(&all));
             true
         }
 
         pub fn $round(bytes: &[u8], count: usize, out: &mut [u8]) -> bool {
-            let Ok(all) = $udps(bytes, count) else { return false };
-            $write(black_box(&all), out)
+            let mut r = BitReader::endian($source::<5>(bytes), Msb);
+            let Ok(all) = collected(count, || $one(&mut r)) else { return false };
+            let mut w = BitWriter::endian($sink::<5>(out), Msb);
+            black_box(&all).iter().all(|record| $put(&mut w, record).is_ok())
         }
 
         pub fn $grow(from: &[UdpFields], out: &mut [u8]) -> bool {
             let mut w = BitWriter::endian($vector, Msb);
-            if !from.iter().all(|record| put_udp(&mut w, record).is_ok()) {
+            if !from.iter().all(|record| $put(&mut w, record).is_ok()) {
                 return false;
             }
             let $grown = w.into_writer();
@@ -256,5 +257,21 @@ macro_rules! counted {
     };
 }
 
-counted!(Cursor::new, Vec::new(), all => all, udp_write, udp_counted, udp_counted_round, udp_grow, udps);
-counted!(Slice::<4>, Grown::<4>(Vec::new()), Grown(all) => all, udp_best_write, udp_best_counted, udp_best_counted_round, udp_best_grow, udps_best);
+each!(UdpFields, 8, Msb, udp, put_udp, cursor, cursor_mut, Vec::new(), all => all, udp_read, udp_unpack, udp_write, udp_pack);
+each!(Ipv4Fields, 20, Msb, ipv4, put_ipv4, cursor, cursor_mut, Vec::new(), all => all, ipv4_read, ipv4_unpack, ipv4_write, ipv4_pack);
+each!(CanFields, 8, Lsb, can, put_can, cursor, cursor_mut, Vec::new(), all => all, can_read, can_unpack, can_write, can_pack);
+
+counted!(udp, put_udp, cursor, cursor_mut, Vec::new(), all => all, udp_counted, udp_counted_round, udp_grow);
+
+/// Over slices of types of their own.
+pub mod best {
+    use super::*;
+
+    each!(UdpFields, 8, Msb, udp_joined, put_udp_joined, slice, room, Grown::<1>(Vec::with_capacity(8)), Grown(all) => all,
+        udp_read, udp_unpack, udp_write, udp_pack);
+    each!(Ipv4Fields, 20, Msb, ipv4_joined, put_ipv4_joined, slice, room, Grown::<1>(Vec::with_capacity(20)), Grown(all) => all,
+        ipv4_read, ipv4_unpack, ipv4_write, ipv4_pack);
+    each!(CanFields, 8, Lsb, can_joined, put_can_joined, slice, room, Grown::<1>(Vec::with_capacity(8)), Grown(all) => all,
+        can_read, can_unpack, can_write, can_pack);
+    counted!(udp_joined, put_udp_joined, slice, room, Grown::<2>(Vec::new()), Grown(all) => all, udp_counted, udp_counted_round, udp_grow);
+}

@@ -12,18 +12,18 @@ fn be32(b: &[u8], at: usize) -> u32 {
 }
 
 #[inline(always)]
-pub fn udp(b: &[u8; 8]) -> Option<UdpFields> {
-    Some(UdpFields { source: be16(b, 0), destination: be16(b, 2), length: be16(b, 4), checksum: be16(b, 6) })
+pub fn udp(b: &[u8; 8]) -> UdpFields {
+    UdpFields { source: be16(b, 0), destination: be16(b, 2), length: be16(b, 4), checksum: be16(b, 6) }
 }
 
 #[inline(always)]
-pub fn udp_bytes(udp: &UdpFields) -> Option<[u8; 8]> {
+pub fn udp_bytes(udp: &UdpFields) -> [u8; 8] {
     let mut b = [0; 8];
     b[0..2].copy_from_slice(&udp.source.to_be_bytes());
     b[2..4].copy_from_slice(&udp.destination.to_be_bytes());
     b[4..6].copy_from_slice(&udp.length.to_be_bytes());
     b[6..8].copy_from_slice(&udp.checksum.to_be_bytes());
-    Some(b)
+    b
 }
 
 #[inline(always)]
@@ -94,12 +94,12 @@ fn can_bytes(car: &CanFields) -> Option<[u8; 8]> {
 }
 
 macro_rules! each {
-    ($fields:ty, $bytes:literal, $one:ident, $put:ident, $read:ident, $write:ident, $pack:ident) => {
+    ($fields:ty, $bytes:literal, $one:expr, $put:expr, $read:ident, $write:ident, $pack:ident) => {
         pub fn $read(bytes: &[u8], out: &mut [$fields]) -> bool {
             let mut parts = bytes.chunks_exact($bytes);
             for to in out {
                 let Some(part) = parts.next() else { return false };
-                let Some(record) = $one(part.try_into().unwrap()) else { return false };
+                let Some(record) = ($one)(part.try_into().unwrap()) else { return false };
                 *to = record;
             }
             true
@@ -109,7 +109,7 @@ macro_rules! each {
             let mut parts = out.chunks_exact_mut($bytes);
             for record in from {
                 let Some(part) = parts.next() else { return false };
-                let Some(bytes) = $put(record) else { return false };
+                let Some(bytes) = ($put)(record) else { return false };
                 part.copy_from_slice(&bytes);
             }
             true
@@ -120,7 +120,7 @@ macro_rules! each {
             let mut parts = out.chunks_exact_mut($bytes);
             for record in from {
                 let Some(part) = parts.next() else { return false };
-                let Some(bytes) = $put(record) else { return false };
+                let Some(bytes) = ($put)(record) else { return false };
                 part.copy_from_slice(&black_box(bytes.to_vec()));
             }
             true
@@ -128,15 +128,14 @@ macro_rules! each {
     };
 }
 
-each!(UdpFields, 8, udp, udp_bytes, udp_read, udp_write, udp_pack);
+each!(UdpFields, 8, |b: &[u8; 8]| Some(udp(b)), |udp: &UdpFields| Some(udp_bytes(udp)), udp_read, udp_write, udp_pack);
 each!(Ipv4Fields, 20, ipv4, ipv4_bytes, ipv4_read, ipv4_write, ipv4_pack);
 each!(CanFields, 8, can, can_bytes, can_read, can_write, can_pack);
 
 pub fn udp_grow(from: &[UdpFields], out: &mut [u8]) -> bool {
     let mut all = Vec::new();
     for record in from {
-        let Some(bytes) = udp_bytes(record) else { return false };
-        all.extend_from_slice(&bytes);
+        all.extend_from_slice(&udp_bytes(record));
     }
     out.copy_from_slice(black_box(&all));
     true
@@ -144,7 +143,7 @@ pub fn udp_grow(from: &[UdpFields], out: &mut [u8]) -> bool {
 
 fn udps(bytes: &[u8], count: usize) -> Option<Vec<UdpFields>> {
     let bytes = bytes.get(..8 * count)?;
-    bytes.chunks_exact(8).map(|part| udp(part.try_into().unwrap())).collect()
+    Some(bytes.chunks_exact(8).map(|part| udp(part.try_into().unwrap())).collect())
 }
 
 pub fn udp_counted(bytes: &[u8], out: &mut [UdpFields]) -> bool {

@@ -1,12 +1,12 @@
 //! The same by the crate `bitstream_io`: over cursors, as all that is read and written by it so, and over slices, by readers and writers of their own.
 
 use super::hand::{Elf, Query, MAGIC};
-use crate::packets::{put_udp, udp};
+use crate::packets::{put_udp, put_udp_joined, udp, udp_joined};
 use crate::records::*;
-use crate::slices::{Room, Slice};
+use crate::slices::{cursor, cursor_mut, room, slice};
 use bitstream_io::{BigEndian as Msb, BitRead, BitReader, BitWrite, BitWriter, Endianness, LittleEndian as Lsb};
 use std::hint::black_box;
-use std::io::{self, Cursor, Read, Write};
+use std::io::{self, Read, Write};
 
 fn refused() -> io::Error {
     io::ErrorKind::InvalidData.into()
@@ -23,21 +23,29 @@ fn put_led_bytes<W: Write>(w: &mut BitWriter<W, Msb>, items: &[u8]) -> io::Resul
     w.write_bytes(items)
 }
 
+// A reader of one of the records is handed over, and a writer of one.
 #[inline]
-fn led_udps<R: Read>(r: &mut BitReader<R, Msb>) -> io::Result<Vec<UdpFields>> {
+fn led_udps<R: Read>(
+    r: &mut BitReader<R, Msb>,
+    one: impl Fn(&mut BitReader<R, Msb>) -> io::Result<UdpFields>,
+) -> io::Result<Vec<UdpFields>> {
     let count = r.read::<u8>(8)?;
     let mut items = Vec::with_capacity(count as usize);
     for _ in 0..count {
-        items.push(udp(r)?);
+        items.push(one(r)?);
     }
     Ok(items)
 }
 
 #[inline]
-fn put_led_udps<W: Write>(w: &mut BitWriter<W, Msb>, items: &[UdpFields]) -> io::Result<()> {
+fn put_led_udps<W: Write>(
+    w: &mut BitWriter<W, Msb>,
+    items: &[UdpFields],
+    put: impl Fn(&mut BitWriter<W, Msb>, &UdpFields) -> io::Result<()>,
+) -> io::Result<()> {
     let head = u8::try_from(items.len()).map_err(|_| refused())?;
     w.write(8, head)?;
-    items.iter().try_for_each(|item| put_udp(w, item))
+    items.iter().try_for_each(|item| put(w, item))
 }
 
 fn message<R: Read>(r: &mut BitReader<R, Msb>) -> io::Result<MessageFields> {
@@ -121,6 +129,38 @@ fn put_query<W: Write>(w: &mut BitWriter<W, Msb>, query: &Query) -> io::Result<(
 }
 
 #[inline]
+fn query_joined<R: Read>(r: &mut BitReader<R, Msb>) -> io::Result<Query> {
+    let head: u128 = r.read(96)?;
+    let mut labels = Vec::new();
+    loop {
+        let count = r.read::<u8>(8)?;
+        if count > 63 {
+            return Err(refused());
+        }
+        labels.push(r.read_to_vec(count as usize)?);
+        if count == 0 {
+            break;
+        }
+    }
+    let end: u32 = r.read(32)?;
+    let counts = [(head >> 48) as u16, (head >> 32) as u16, (head >> 16) as u16, head as u16];
+    let (id, flags) = ((head >> 80) as u16, (head >> 64) as u16);
+    Ok(Query { id, flags, counts, labels, kind: (end >> 16) as u16, class: end as u16 })
+}
+
+#[inline]
+fn put_query_joined<W: Write>(w: &mut BitWriter<W, Msb>, query: &Query) -> io::Result<()> {
+    let first = (query.id as u128) << 16 | query.flags as u128;
+    let head = query.counts.iter().fold(first, |head, count| head << 16 | *count as u128);
+    w.write(96, head)?;
+    for label in &query.labels {
+        w.write(8, label.len() as u8)?;
+        w.write_bytes(label)?;
+    }
+    w.write(32, (query.kind as u32) << 16 | query.class as u32)
+}
+
+#[inline]
 fn elf_rest<R: Read, E: Endianness>(r: &mut BitReader<R, E>, big: bool, identity: [u8; 10]) -> io::Result<Elf> {
     Ok(Elf {
         big,
@@ -185,12 +225,12 @@ fn all<T>(out: &mut [T], mut one: impl FnMut() -> io::Result<T>) -> bool {
 }
 
 macro_rules! pieces {
-    ($module:ident, $source:expr, $sink:expr, $message:ident, $put_message:ident) => {
+    ($module:ident, $source:ident, $sink:ident, $udp:ident, $put_udp:ident, $message:ident, $put_message:ident, $query:ident, $put_query:ident) => {
         pub mod $module {
             use super::*;
 
             pub fn led_bytes_read(bytes: &[u8], out: &mut [u16]) -> bool {
-                let mut r = BitReader::endian($source(bytes), Msb);
+                let mut r = BitReader::endian($source::<10>(bytes), Msb);
                 all(out, || {
                     let items = black_box(led_bytes(&mut r)?);
                     Ok((items.len() as u16) << 8 | *items.last().unwrap_or(&0) as u16)
@@ -198,29 +238,29 @@ macro_rules! pieces {
             }
 
             pub fn led_bytes_round(bytes: &[u8], count: usize, out: &mut [u8]) -> bool {
-                let mut r = BitReader::endian($source(bytes), Msb);
-                let mut w = BitWriter::endian($sink(out), Msb);
+                let mut r = BitReader::endian($source::<11>(bytes), Msb);
+                let mut w = BitWriter::endian($sink::<11>(out), Msb);
                 (0..count).all(|_| led_bytes(&mut r).and_then(|items| put_led_bytes(&mut w, &black_box(items))).is_ok())
             }
 
             pub fn led_udps_read(bytes: &[u8], out: &mut [u16]) -> bool {
-                let mut r = BitReader::endian($source(bytes), Msb);
-                all(out, || Ok(black_box(led_udps(&mut r)?).last().map_or(0, |item| item.checksum)))
+                let mut r = BitReader::endian($source::<12>(bytes), Msb);
+                all(out, || Ok(black_box(led_udps(&mut r, $udp)?).last().map_or(0, |item| item.checksum)))
             }
 
             pub fn led_udps_round(bytes: &[u8], count: usize, out: &mut [u8]) -> bool {
-                let mut r = BitReader::endian($source(bytes), Msb);
-                let mut w = BitWriter::endian($sink(out), Msb);
-                (0..count).all(|_| led_udps(&mut r).and_then(|items| put_led_udps(&mut w, &black_box(items))).is_ok())
+                let mut r = BitReader::endian($source::<13>(bytes), Msb);
+                let mut w = BitWriter::endian($sink::<13>(out), Msb);
+                (0..count).all(|_| led_udps(&mut r, $udp).and_then(|items| put_led_udps(&mut w, &black_box(items), $put_udp)).is_ok())
             }
 
             pub fn message_read(bytes: &[u8], out: &mut [MessageFields]) -> bool {
-                let mut r = BitReader::endian($source(bytes), Msb);
+                let mut r = BitReader::endian($source::<14>(bytes), Msb);
                 all(out, || $message(&mut r))
             }
 
             pub fn message_write(from: &[MessageFields], out: &mut [u8]) -> bool {
-                let mut w = BitWriter::endian($sink(out), Msb);
+                let mut w = BitWriter::endian($sink::<15>(out), Msb);
                 from.iter().all(|message| $put_message(&mut w, message).is_ok())
             }
 
@@ -228,25 +268,25 @@ macro_rules! pieces {
                 let mut parts = bytes.chunks_exact(each);
                 all(out, || {
                     let part = parts.next().ok_or_else(refused)?;
-                    Ok(black_box(query(&mut BitReader::endian($source(part), Msb))?).fields())
+                    Ok(black_box($query(&mut BitReader::endian($source::<16>(part), Msb))?).fields())
                 })
             }
 
             pub fn query_round(bytes: &[u8], count: usize, out: &mut [u8]) -> bool {
-                let mut r = BitReader::endian($source(bytes), Msb);
-                let mut w = BitWriter::endian($sink(out), Msb);
-                (0..count).all(|_| query(&mut r).and_then(|query| put_query(&mut w, &black_box(query))).is_ok())
+                let mut r = BitReader::endian($source::<17>(bytes), Msb);
+                let mut w = BitWriter::endian($sink::<17>(out), Msb);
+                (0..count).all(|_| $query(&mut r).and_then(|query| $put_query(&mut w, &black_box(query))).is_ok())
             }
 
             pub fn elf_unpack(bytes: &[u8], out: &mut [ElfFields]) -> bool {
                 let mut parts = bytes.chunks_exact(64);
-                all(out, || Ok(black_box(elf($source(parts.next().ok_or_else(refused)?))?).fields()))
+                all(out, || Ok(black_box(elf($source::<18>(parts.next().ok_or_else(refused)?))?).fields()))
             }
 
             pub fn elf_round(bytes: &[u8], count: usize, out: &mut [u8]) -> bool {
                 let mut parts = bytes.chunks_exact(64).zip(out.chunks_exact_mut(64));
                 (0..count).all(|_| match parts.next() {
-                    Some((from, to)) => elf($source(from)).and_then(|read| put_elf($sink(to), &black_box(read))).is_ok(),
+                    Some((from, to)) => elf($source::<19>(from)).and_then(|read| put_elf($sink::<19>(to), &black_box(read))).is_ok(),
                     None => false,
                 })
             }
@@ -254,5 +294,5 @@ macro_rules! pieces {
     };
 }
 
-pieces!(usual, Cursor::new, Cursor::new, message, put_message);
-pieces!(best, Slice::<5>, Room::<5>, message_joined, put_message_joined);
+pieces!(usual, cursor, cursor_mut, udp, put_udp, message, put_message, query, put_query);
+pieces!(best, slice, room, udp_joined, put_udp_joined, message_joined, put_message_joined, query_joined, put_query_joined);

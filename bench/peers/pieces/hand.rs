@@ -47,7 +47,7 @@ fn led_udps(bytes: &[u8], at: &mut usize) -> Option<Vec<UdpFields>> {
     let count = *bytes.get(*at)? as usize;
     let parts = bytes.get(*at + 1..*at + 1 + 8 * count)?.chunks_exact(8);
     *at += 1 + 8 * count;
-    parts.map(|part| udp_by_hand(part.try_into().unwrap())).collect()
+    Some(parts.map(|part| udp_by_hand(part.try_into().unwrap())).collect())
 }
 
 pub fn led_udps_read(bytes: &[u8], out: &mut [u16]) -> bool {
@@ -68,8 +68,7 @@ pub fn led_udps_round(bytes: &[u8], count: usize, out: &mut [u8]) -> bool {
         let Ok(head) = u8::try_from(items.len()) else { return false };
         to[0] = head;
         for (part, udp) in to[1..].chunks_exact_mut(8).zip(&items) {
-            let Some(bytes) = udp_bytes(udp) else { return false };
-            part.copy_from_slice(&bytes);
+            part.copy_from_slice(&udp_bytes(udp));
         }
         put += 1 + 8 * items.len();
     }
