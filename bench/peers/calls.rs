@@ -59,10 +59,10 @@ calls! {
     dk_can_pack(): CanFields => u8;
     dk_can_read(): u8 => CanFields;
     dk_can_write(): CanFields => u8;
-    dk_led_bytes_read(): u8 => u16;
-    dk_led_bytes_round(count): u8 => u8;
-    dk_led_udps_read(): u8 => u16;
-    dk_led_udps_round(count): u8 => u8;
+    dk_counted_bytes_read(): u8 => u16;
+    dk_counted_bytes_round(count): u8 => u8;
+    dk_counted_udps_read(): u8 => u16;
+    dk_counted_udps_round(count): u8 => u8;
     dk_message_read(): u8 => MessageFields;
     dk_message_write(): MessageFields => u8;
     dk_query_unpack(each): u8 => QueryFields;

@@ -29,13 +29,13 @@ pub fn counted_bytes(bench: &mut Bench, random: &mut Random, size: usize) {
         wanted.push((count as u16) << 8 | *items.last().unwrap_or(&0) as u16);
     }
     let n = wanted.len();
-    bench.run("Led of bytes read", size, n, &wire, &wanted, &[
-        ("library", Box::new(calls::dk_led_bytes_read)),
+    bench.run("Counted of bytes read", size, n, &wire, &wanted, &[
+        ("library", Box::new(calls::dk_counted_bytes_read)),
         ("hand", Box::new(hand::led_bytes_read)),
         ("bits", Box::new(usual::led_bytes_read)),
         ("best", Box::new(best::led_bytes_read)),
     ]);
-    counted!(bench, "Led of bytes read and written", size, n, n, wire, wire, u8, "library" calls::dk_led_bytes_round,
+    counted!(bench, "Counted of bytes read and written", size, n, n, wire, wire, u8, "library" calls::dk_counted_bytes_round,
         "hand" hand::led_bytes_round, "bits" usual::led_bytes_round, "best" best::led_bytes_round);
 }
 
@@ -51,13 +51,13 @@ pub fn counted_records(bench: &mut Bench, random: &mut Random, size: usize) {
         wanted.push(items.last().map_or(0, |item| item.checksum));
     }
     let n = wanted.len();
-    bench.run("Led of UDP read", size, n, &wire, &wanted, &[
-        ("library", Box::new(calls::dk_led_udps_read)),
+    bench.run("Counted of UDP read", size, n, &wire, &wanted, &[
+        ("library", Box::new(calls::dk_counted_udps_read)),
         ("hand", Box::new(hand::led_udps_read)),
         ("bits", Box::new(usual::led_udps_read)),
         ("best", Box::new(best::led_udps_read)),
     ]);
-    counted!(bench, "Led of UDP read and written", size, n, n, wire, wire, u8, "library" calls::dk_led_udps_round,
+    counted!(bench, "Counted of UDP read and written", size, n, n, wire, wire, u8, "library" calls::dk_counted_udps_round,
         "hand" hand::led_udps_round, "bits" usual::led_udps_round, "best" best::led_udps_round);
 }
 
