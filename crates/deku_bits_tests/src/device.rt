@@ -1,11 +1,13 @@
-//! A record that is read from a file.
+//! A record that is read from a file, and the bytes that a cursor has at hand.
 
 use crate::taken::{Step, walk_source};
 use deku_bits::ctx::Order::{Lsb0, Msb0};
+use deku_bits::device::Source;
 use deku_testing::refusals::{Refusal, handed};
+use deku_testing::same::same;
 use std::fs;
 use std::fs::File;
-use std::io::{SeekFrom, Write};
+use std::io::{Cursor, SeekFrom, Write};
 use std::test::Fail;
 
 // In the folder where the tests run.
@@ -40,4 +42,62 @@ fn reads_a_record(rt: HostRuntime) -> Result<(), Fail> {
     fs::remove_file(&rt, PATH)?;
     let (lacks, _file) = walk_source(&rt, rt.alloc(), 0, source, &READ);
     handed(lacks)
+}
+
+// So many bytes are left, and the eight that are at hand then.
+const LEFT: [(usize, [u8; 8]); 10] = [
+    (0, [0, 0, 0, 0, 0, 0, 0, 0]),
+    (1, [1, 0, 0, 0, 0, 0, 0, 0]),
+    (2, [1, 2, 0, 0, 0, 0, 0, 0]),
+    (3, [1, 2, 3, 0, 0, 0, 0, 0]),
+    (4, [1, 2, 3, 4, 0, 0, 0, 0]),
+    (5, [1, 2, 3, 4, 5, 0, 0, 0]),
+    (6, [1, 2, 3, 4, 5, 6, 0, 0]),
+    (7, [1, 2, 3, 4, 5, 6, 7, 0]),
+    (8, [1, 2, 3, 4, 5, 6, 7, 8]),
+    (9, [1, 2, 3, 4, 5, 6, 7, 8]),
+];
+
+const BYTES: [u8; 11] = [0xA6, 0xA6, 1, 2, 3, 4, 5, 6, 7, 8, 9];
+
+// The first n of eight bytes of a source.
+fn taken_from<S: Source>(source: &mut S, n: usize) -> Option<[u8; 8]> {
+    source.try_take(n.min(8))
+}
+
+// Eight bytes are at hand if n bytes are left, and n are passed; otherwise nothing moves.
+fn expect_at_hand(left: usize, n: usize, eight: [u8; 8]) -> Result<(), Fail> {
+    let mut cursor = Cursor::new(&BYTES[..left.min(9) + 2]);
+    cursor.set_position(2);
+    let want = if n <= left { Some(eight) } else { None };
+    let passed = if n <= left { n } else { 0 };
+    let lent = taken_from(&mut &mut cursor, n);
+    let place = cursor.position();
+    cursor.set_position(2);
+    let got = taken_from(&mut cursor, n);
+    let seen = (got, cursor.position(), lent, place);
+    let place = passed.min(8) as u64 + 2;
+    same(&(left, n), &seen, &(want, place, want, place))
+}
+
+#[test]
+fn has_the_last_bytes_at_hand(_rt: HostRuntime) -> Result<(), Fail> {
+    for (left, eight) in LEFT {
+        for n in 0..=8 {
+            expect_at_hand(left, n, eight)?;
+        }
+    }
+    Ok(())
+}
+
+// Past the end no byte is at hand, and none may be wanted.
+#[test]
+fn has_no_bytes_at_hand_past_the_end(_rt: HostRuntime) -> Result<(), Fail> {
+    for place in [9, 12, u64::MAX] {
+        let mut cursor = Cursor::new(&BYTES[..9]);
+        cursor.set_position(place);
+        let seen = (cursor.try_take(0), cursor.try_take(1), cursor.position());
+        same(&place, &seen, &(Some([0; 8]), None, place))?;
+    }
+    Ok(())
 }

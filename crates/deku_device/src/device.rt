@@ -442,8 +442,29 @@ fn last_at(all: &[u8], at: u64, n: usize) -> Option<[u8; 8]>
     }
     let count = last.len().min(8);
     let mut eight = [0; 8];
-    eight[..count].copy_from_slice(&last[..count]);
+    lay_front(&mut eight, last, count);
     Some(eight)
+}
+
+// Lays the first n bytes over those in front of eight. Each length has an arm of its own, as in
+// `lay_over`.
+#[inline(always)]
+fn lay_front(eight: &mut [u8; 8], bytes: &[u8], n: usize)
+    requires few { n ≤ 8 }
+    requires enough { n ≤ length bytes.now }
+    ensures { eight.new ≡ take n bytes.now ++ drop n eight.old }
+{
+    match n {
+        1 => lay_first(eight, 0, bytes, 1),
+        2 => lay_first(eight, 0, bytes, 2),
+        3 => lay_first(eight, 0, bytes, 3),
+        4 => lay_first(eight, 0, bytes, 4),
+        5 => lay_first(eight, 0, bytes, 5),
+        6 => lay_first(eight, 0, bytes, 6),
+        7 => lay_first(eight, 0, bytes, 7),
+        8 => lay_first(eight, 0, bytes, 8),
+        _ => {}
+    }
 }
 
 // The place n bytes after this one, or the last place that there is.
