@@ -1,14 +1,14 @@
-//! A record that is read from a file, and the bytes that a cursor has at hand.
+//! A record that is read from a file, also behind a buffer, and the bytes that are at hand.
 
 use crate::taken::{Step, walk_source};
 use deku_bits::ctx::Order::{Lsb0, Msb0};
 use deku_bits::device::Source;
 use deku_testing::refusals::{Refusal, handed};
 use deku_testing::same::same;
-use std::fs;
 use std::fs::File;
-use std::io::{Cursor, SeekFrom, Write};
+use std::io::{BufReader, Cursor, SeekFrom, Write};
 use std::test::Fail;
+use std::{fs, io};
 
 // In the folder where the tests run.
 const PATH: &str = "record_read.bin";
@@ -42,6 +42,60 @@ fn reads_a_record(rt: HostRuntime) -> Result<(), Fail> {
     fs::remove_file(&rt, PATH)?;
     let (lacks, _file) = walk_source(&rt, rt.alloc(), 0, source, &READ);
     handed(lacks)
+}
+
+// A file of these bytes, which is gone when it is closed.
+fn file_of(rt: &HostRuntime, path: &str, bytes: &[u8]) -> io::Result<File> {
+    let mut file = File::create(rt, path)?;
+    file.write_all(bytes)?;
+    let source = File::open(rt, path)?;
+    fs::remove_file(rt, path)?;
+    Ok(source)
+}
+
+// The same record through buffers of one byte, of three and of as many as by default.
+#[test]
+fn reads_a_record_behind_a_buffer(rt: HostRuntime) -> Result<(), Fail> {
+    let mut lacking = false;
+    for (case, capacity) in [1, 3, 8192].iter().enumerate() {
+        let file = file_of(&rt, "record_buffered.bin", &[0xA5, 0x05, 0x1C, 0xDE])?;
+        let source = BufReader::with_capacity(rt.alloc(), *capacity, file)?;
+        let (lacks, _file) = walk_source(&rt, rt.alloc(), case, source, &READ);
+        lacking = lacks || lacking;
+    }
+    handed(lacking)
+}
+
+// The next byte, by a fetch.
+fn fetched<S: Source>(source: &mut S) -> io::Result<u8> {
+    let mut byte = [0];
+    source.fetch(&mut byte)?;
+    Ok(byte[0])
+}
+
+// A buffer of sixteen bytes has eight at hand as long as it has as many.
+#[test]
+fn has_bytes_of_a_buffer_at_hand(rt: HostRuntime) -> Result<(), Fail> {
+    let mut bytes = [0; 20];
+    for (at, byte) in bytes.iter_mut().enumerate() {
+        *byte = (at % 256) as u8;
+    }
+    let file = file_of(&rt, "bytes_buffered.bin", &bytes)?;
+    let mut source = BufReader::with_capacity(rt.alloc(), 16, file)?;
+    same(&0, &source.try_take(1), &None)?;
+    same(&1, &fetched(&mut source)?, &0)?;
+    same(&2, &source.try_take(2), &Some([1, 2, 3, 4, 5, 6, 7, 8]))?;
+    same(&3, &source.try_take(6), &Some([3, 4, 5, 6, 7, 8, 9, 10]))?;
+    same(&4, &source.try_take(1), &None)?;
+    same(&5, &fetched(&mut source)?, &9)?;
+    source.pass(4)?;
+    same(&6, &fetched(&mut source)?, &14)?;
+    same(&7, &source.seek_to(SeekFrom::Current(0))?, &15)?;
+    same(&8, &fetched(&mut source)?, &15)?;
+    source.pass(3)?;
+    same(&9, &fetched(&mut source)?, &19)?;
+    same(&10, &source.try_take(0), &None)?;
+    same(&11, &fetched(&mut source).is_err(), &true)
 }
 
 // So many bytes are left, and the eight that are at hand then.

@@ -1,4 +1,4 @@
-//! A record that is written to a file, and vectors that grow.
+//! A record that is written to a file, also behind a buffer, and vectors that grow.
 
 use crate::given::{Put, give_sink};
 use deku_bits::ctx::Order::Lsb0;
@@ -10,7 +10,7 @@ use deku_testing::same::{same, same_bytes};
 use std::alloc::Global;
 use std::fs;
 use std::fs::File;
-use std::io::{Cursor, Read, SeekFrom};
+use std::io::{BufWriter, Cursor, Read, SeekFrom, Write};
 use std::test::Fail;
 
 // In the folder where the tests run.
@@ -32,16 +32,53 @@ const WRITTEN: [Put; 10] = [
 ];
 
 // The file has the record, and no more.
+fn expect_record(rt: &HostRuntime, path: &str) -> Result<(), Fail> {
+    let mut file = File::open(rt, path)?;
+    fs::remove_file(rt, path)?;
+    let mut bytes = [0; 4];
+    file.read_exact(&mut bytes)?;
+    same_bytes(&path, &bytes, &[0xA5, 0x05, 0x1C, 0xDE])?;
+    same(&path, &file.read(&mut bytes)?, &0)
+}
+
 #[test]
 fn writes_a_record(rt: HostRuntime) -> Result<(), Fail> {
     let _file = give_sink(&rt, rt.alloc(), 0, File::create(&rt, PATH)?, &WRITTEN)?;
-    let mut file = File::open(&rt, PATH)?;
-    fs::remove_file(&rt, PATH)?;
-    let mut bytes = [0; 4];
-    file.read_exact(&mut bytes)?;
-    same_bytes(&(1, 0), &bytes, &[0xA5, 0x05, 0x1C, 0xDE])?;
-    same(&(1, 1), &file.read(&mut bytes)?, &0)?;
+    expect_record(&rt, PATH)
+}
+
+// In the folder where the tests run.
+const BUFFERED: &str = "record_buffered.bin";
+
+// The same record through buffers of no byte, of three, of nine and of as many as by default.
+#[test]
+fn writes_a_record_behind_a_buffer(rt: HostRuntime) -> Result<(), Fail> {
+    for (case, capacity) in [0, 3, 9, 8192].iter().enumerate() {
+        let file = File::create(&rt, BUFFERED)?;
+        let sink = BufWriter::with_capacity(rt.alloc(), *capacity, file)?;
+        let mut sink = give_sink(&rt, rt.alloc(), case, sink, &WRITTEN)?;
+        sink.flush()?;
+        expect_record(&rt, BUFFERED)?;
+    }
     Ok(())
+}
+
+// A buffer of sixteen bytes has room at hand as long as it has room for more than eight; the others
+// go by way of `give`.
+#[test]
+fn lays_bytes_in_a_buffer(rt: HostRuntime) -> Result<(), Fail> {
+    let room = Cursor::new(Vec::new(rt.alloc()));
+    let mut sink = BufWriter::with_capacity(rt.alloc(), 16, room)?;
+    for (n, want) in [(3, true), (4, true), (0, true), (1, true), (2, false)] {
+        same(&n, &sink.try_put(EIGHT, n), &want)?;
+    }
+    same_bytes(&8, sink.buffer(), &[1, 2, 3, 1, 2, 3, 4, 1])?;
+    same(&9, &sink.get_ref().position(), &0)?;
+    sink.give(&EIGHT)?;
+    sink.give(&[9])?;
+    same(&10, &sink.seek_to(SeekFrom::Current(0))?, &17)?;
+    let wanted = [1, 2, 3, 1, 2, 3, 4, 1, 1, 2, 3, 4, 5, 6, 7, 8, 9];
+    same_bytes(&11, sink.get_ref().get_ref().as_slice(), &wanted)
 }
 
 const EIGHT: [u8; 8] = [1, 2, 3, 4, 5, 6, 7, 8];
