@@ -3,7 +3,7 @@
 
 pub mod laws;
 
-pub use deku_device::{buffered, device, noseek};
+pub use deku_device::{device, noseek};
 pub use deku_probe::probe;
 pub use deku_reader::reader;
 pub use deku_stream::{bounded, ctx, error};

@@ -1,6 +1,5 @@
 //! Sources and sinks of bytes, and what is known of them.
 #![tactic(auto)]
 
-pub mod buffered;
 pub mod device;
 pub mod noseek;
