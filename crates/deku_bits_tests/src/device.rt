@@ -3,10 +3,11 @@
 use crate::taken::{Step, walk_source};
 use deku_bits::ctx::Order::{Lsb0, Msb0};
 use deku_bits::device::Source;
-use deku_testing::refusals::{Refusal, handed};
+use deku_bits::noseek::NoSeek;
+use deku_testing::refusals::{Refusal, handed, kind_of};
 use deku_testing::same::same;
 use std::fs::File;
-use std::io::{BufReader, Cursor, SeekFrom, Write};
+use std::io::{BufReader, Cursor, ErrorKind, SeekFrom, Write};
 use std::test::Fail;
 use std::{fs, io};
 
@@ -96,6 +97,26 @@ fn has_bytes_of_a_buffer_at_hand(rt: HostRuntime) -> Result<(), Fail> {
     same(&9, &fetched(&mut source)?, &19)?;
     same(&10, &source.try_take(0), &None)?;
     same(&11, &fetched(&mut source).is_err(), &true)
+}
+
+// The same of a stream that cannot seek: it seeks to its own place, and nowhere else.
+#[test]
+fn has_bytes_of_a_stream_at_hand(rt: HostRuntime) -> Result<(), Fail> {
+    let bytes: &[u8] = &[0, 1, 2, 3, 4, 5, 6, 7, 8, 9, 10, 11, 12, 13, 14, 15, 16, 17];
+    let mut source = BufReader::with_capacity(rt.alloc(), 16, NoSeek::new(bytes))?;
+    same(&0, &source.try_take(1), &None)?;
+    same(&1, &fetched(&mut source)?, &0)?;
+    same(&2, &source.try_take(2), &Some([1, 2, 3, 4, 5, 6, 7, 8]))?;
+    same(&3, &source.seek_to(SeekFrom::Start(3))?, &3)?;
+    same(&4, &source.seek_to(SeekFrom::Current(0))?, &3)?;
+    for to in [SeekFrom::Start(16), SeekFrom::Current(1), SeekFrom::End(0)] {
+        same(&5, &kind_of(source.seek_to(to)), &Err(ErrorKind::Other))?;
+    }
+    same(&6, &kind_of(source.pass(0)), &Ok(()))?;
+    same(&7, &kind_of(source.pass(1)), &Err(ErrorKind::Other))?;
+    same(&8, &source.try_take(8), &Some([3, 4, 5, 6, 7, 8, 9, 10]))?;
+    same(&9, &source.try_take(1), &None)?;
+    same(&10, &fetched(&mut source)?, &11)
 }
 
 // So many bytes are left, and the eight that are at hand then.

@@ -1,12 +1,14 @@
-//! Buffered files as sources, and buffered writers as sinks.
+//! Buffered files and streams as sources, and buffered writers as sinks.
 
-ghost use Rattle.std.specs.Prelude.{◌≡◌, ◌^◌, ◌<◌, ◌≤◌};
+ghost use Rattle.std.specs.Prelude.{◌≡◌, ◌<◌, ◌≤◌, ◌↔◌, length, take, drop, IfSome, IsNone};
+ghost use Rattle.std.specs.Io.Buffered.{reader_buffer};
 ghost use Rattle.deku_device.specs.Devices.{unknown_source, unknown_sink};
 
 use crate::device::{Sink, Source};
+use crate::noseek::NoSeek;
 use std::fs::File;
 use std::io;
-use std::io::{BufRead, BufReader, BufWriter, Read, Seek, SeekFrom, Write};
+use std::io::{BufRead, BufReader, BufWriter, Error, ErrorKind, Read, Seek, SeekFrom, Write};
 
 // Nothing is known of it, as of a file. Eight bytes are in memory if the buffer has as many; a fetch
 // fills the buffer.
@@ -25,19 +27,70 @@ impl Source for BufReader<File> {
 
     #[inline(always)]
     fn try_take(&mut self, n: usize) -> Option<[u8; 8]> {
-        let held = self.buffer();
-        if held.len() < 8 {
-            return None;
-        }
-        let mut eight = [0; 8];
-        eight.copy_from_slice(&held[..8]);
-        self.consume(n);
-        Some(eight)
+        held_eight(self, n)
     }
 
     fn seek_to(&mut self, to: SeekFrom) -> io::Result<u64> {
         self.seek(to)
     }
+}
+
+// A buffered stream that cannot seek. It seeks and passes as `NoSeek` does: to its own position,
+// which is before the bytes in the buffer, and nowhere else.
+impl<T: Read> Source for BufReader<NoSeek<T>> {
+    ghost known = { λ _. unknown_source };
+
+    ghost known_by_place = { λ s at all p q. Prim.cc };
+
+    fn fetch(&mut self, buf: &mut [u8]) -> io::Result<()> {
+        Read::read_exact(self, buf)
+    }
+
+    fn pass(&mut self, n: u64) -> io::Result<()> {
+        if n > 0 {
+            return Err(Error::from(ErrorKind::Other));
+        }
+        Ok(())
+    }
+
+    #[inline(always)]
+    fn try_take(&mut self, n: usize) -> Option<[u8; 8]> {
+        held_eight(self, n)
+    }
+
+    fn seek_to(&mut self, to: SeekFrom) -> io::Result<u64> {
+        let at = self.stream_position()?;
+        let is_here = match to {
+            SeekFrom::Start(place) => place == at,
+            SeekFrom::Current(offset) => offset == 0,
+            SeekFrom::End(_) => false,
+        };
+        if is_here {
+            Ok(at)
+        } else {
+            Err(Error::from(ErrorKind::Other))
+        }
+    }
+}
+
+// The first eight bytes of the buffer, if it has as many. The first n are consumed.
+#[inline(always)]
+fn held_eight<R: Read>(reader: &mut BufReader<R>, n: usize) -> Option<[u8; 8]>
+    requires { n ≤ 8 }
+    ensures none { IsNone result → reader.new ≡ reader.old }
+    ensures eight { IfSome result (λ eight. eight ≡ take 8 (reader_buffer reader.old)) }
+    ensures consumed { IfSome result (λ eight. reader_buffer reader.new ≡ drop n
+        (reader_buffer reader.old)) }
+    ensures few { IsNone result ↔ (length (reader_buffer reader.old) < 8) }
+{
+    let held = reader.buffer();
+    if held.len() < 8 {
+        return None;
+    }
+    let mut eight = [0; 8];
+    eight.copy_from_slice(&held[..8]);
+    reader.consume(n);
+    Some(eight)
 }
 
 // Nothing is known of it. If the buffer has room for more than eight bytes, they go there, and
