@@ -268,7 +268,7 @@ macro_rules! pieces {
                 let mut parts = bytes.chunks_exact(each);
                 all(out, || {
                     let part = parts.next().ok_or_else(refused)?;
-                    Ok(black_box($query(&mut BitReader::endian($source::<16>(part), Msb))?).fields())
+                    Ok(black_box($query(&mut BitReader::endian($source::<16>(black_box(part)), Msb))?).fields())
                 })
             }
 
@@ -280,7 +280,7 @@ macro_rules! pieces {
 
             pub fn elf_unpack(bytes: &[u8], out: &mut [ElfFields]) -> bool {
                 let mut parts = bytes.chunks_exact(64);
-                all(out, || Ok(black_box(elf($source::<18>(parts.next().ok_or_else(refused)?))?).fields()))
+                all(out, || Ok(black_box(elf($source::<18>(black_box(parts.next().ok_or_else(refused)?)))?).fields()))
             }
 
             pub fn elf_round(bytes: &[u8], count: usize, out: &mut [u8]) -> bool {

@@ -180,7 +180,7 @@ fn query(b: &[u8]) -> Option<(Query, usize)> {
 pub fn query_unpack(bytes: &[u8], each: usize, out: &mut [QueryFields]) -> bool {
     let mut parts = bytes.chunks_exact(each);
     for to in out {
-        let Some((read, _)) = parts.next().and_then(query) else { return false };
+        let Some((read, _)) = parts.next().and_then(|part| query(black_box(part))) else { return false };
         *to = black_box(read).fields();
     }
     true
@@ -271,7 +271,7 @@ fn elf(b: &[u8; 64]) -> Option<Elf> {
 pub fn elf_unpack(bytes: &[u8], out: &mut [ElfFields]) -> bool {
     let mut parts = bytes.chunks_exact(64);
     for to in out {
-        let Some(read) = parts.next().and_then(|part| elf(part.try_into().unwrap())) else { return false };
+        let Some(read) = parts.next().and_then(|part| elf(black_box(part).first_chunk()?)) else { return false };
         *to = black_box(read).fields();
     }
     true
