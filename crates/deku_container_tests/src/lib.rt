@@ -6,6 +6,8 @@ mod container;
 #[cfg(test)]
 mod examples;
 #[cfg(test)]
+mod files;
+#[cfg(test)]
 mod in_turn;
 #[cfg(test)]
 mod kept_in_step;
