@@ -2,7 +2,7 @@
 
 #![tactic(auto, using(deku_device::proofs::Wholes::onward_same))]
 
-ghost use Rattle.std.specs.Prelude.{◌≡◌, ◌+◌, ◌/◌, ◌^◌, ◌<◌, ◌≤◌, Ok, length, IfOk, IfErr, IsTrue, IsFalse};
+ghost use Rattle.std.specs.Prelude.{◌≡◌, ◌+◌, ◌/◌, ◌*◌, ◌^◌, ◌<◌, ◌≤◌, Ok, length, IfOk, IfErr, IsTrue, IsFalse};
 ghost use Rattle.std.specs.declared.io.ErrorKind.TheVariants.{OutOfMemory};
 ghost use Rattle.deku_stream.specs.declared.ctx.Order.TheVariants.{Msb0};
 ghost use Rattle.deku_stream.specs.declared.error.DekuError.TheVariants.{Io};
@@ -183,6 +183,10 @@ impl<W: Sink> Writer<W> {
     pub fn write_bits_order(&mut self, bits: &[bool], order: Order) -> Result<(), DekuError>
         ensures writes { Writes W.known (WritesBits order bits.now) self.old result self.new }
         ensures stopped { KeepsSinkStopped self.old self.new }
+        // No bits change nothing, and neither do bits that cannot be counted.
+        ensures none { length bits.now ≡ 0 → self.new ≡ self.old }
+        ensures full { 2 ^ 64 ≤ written_count self.old + 8 * ((length (pending_bits
+            (pending_state self.old)) + length bits.now) / 8) → self.new ≡ self.old }
     {
         self.state.write(&mut self.sink, bits, order)
     }
@@ -196,6 +200,7 @@ impl<W: Sink> Writer<W> {
     pub fn write_bits(&mut self, bits: &[bool]) -> Result<(), DekuError>
         ensures writes { Writes W.known (WritesBits Msb0 bits.now) self.old result self.new }
         ensures stopped { KeepsSinkStopped self.old self.new }
+        ensures none { length bits.now ≡ 0 → self.new ≡ self.old }
     {
         self.write_bits_order(bits, Order::Msb0)
     }
@@ -212,6 +217,7 @@ impl<W: Sink> Writer<W> {
         ensures writes { Writes W.known (WritesBits Msb0 (bits_in buf.now)) self.old result
             self.new }
         ensures stopped { KeepsSinkStopped self.old self.new }
+        ensures none { length buf.now ≡ 0 → self.new ≡ self.old }
     {
         self.state.write_bytes(&mut self.sink, buf)
     }
@@ -232,6 +238,7 @@ impl<W: Sink> Writer<W> {
         requires inside { word < 2 ^ n }
         ensures writes { Writes W.known (WritesWord order n word) self.old result self.new }
         ensures stopped { KeepsSinkStopped self.old self.new }
+        ensures none { n ≡ 0 → self.new ≡ self.old }
     {
         self.state.write_word(&mut self.sink, word, n, order)
     }
@@ -274,6 +281,7 @@ impl<W: Sink> Writer<W> {
     pub fn finalize(&mut self) -> Result<(), DekuError>
         ensures writes { Writes W.known Finalizes self.old result self.new }
         ensures stopped { KeepsSinkStopped self.old self.new }
+        ensures none { pending_state self.old ≡ Nothing → self.new ≡ self.old }
     {
         self.state.finalize(&mut self.sink)
     }
@@ -340,6 +348,9 @@ impl WriterState {
         ensures writes { WritesAt (WritesBits order bits.now) (W.known sink.old) self.old result
             (W.known sink.new) self.new }
         ensures stopped { Untouched self.old sink.old sink.new }
+        ensures none { length bits.now ≡ 0 → (self.new ≡ self.old) × (sink.new ≡ sink.old) }
+        ensures full { 2 ^ 64 ≤ count_of self.old + 8 * ((length (pending_bits (pending_of
+            self.old)) + length bits.now) / 8) → (self.new ≡ self.old) × (sink.new ≡ sink.old) }
     {
         if let Some(fault) = self.fault {
             return Err(fault.error());
@@ -369,6 +380,7 @@ impl WriterState {
         ensures writes { WritesAt (WritesBits Msb0 (bits_in bytes.now)) (W.known sink.old) self.old
             result (W.known sink.new) self.new }
         ensures stopped { Untouched self.old sink.old sink.new }
+        ensures none { length bytes.now ≡ 0 → (self.new ≡ self.old) × (sink.new ≡ sink.old) }
     {
         if let Some(kept) = self.fault {
             return Err(kept.error());
@@ -406,6 +418,7 @@ impl WriterState {
         ensures writes { WritesAt (WritesWord order n word) (W.known sink.old) self.old result
             (W.known sink.new) self.new }
         ensures stopped { Untouched self.old sink.old sink.new }
+        ensures none { n ≡ 0 → (self.new ≡ self.old) × (sink.new ≡ sink.old) }
     {
         if let Some(reason) = self.fault {
             return Err(reason.error());
@@ -465,6 +478,8 @@ impl WriterState {
         ensures writes { WritesAt Finalizes (W.known sink.old) self.old result (W.known sink.new)
             self.new }
         ensures stopped { Untouched self.old sink.old sink.new }
+        ensures none { pending_of self.old ≡ Nothing → (self.new ≡ self.old)
+            × (sink.new ≡ sink.old) }
     {
         let lacking = (8 - self.held.len()) % 8;
         let order = self.order;
