@@ -1,4 +1,4 @@
-//! Calls of the Rattle library and of the C peers, as functions of slices.
+//! Calls of the Rattle libraries and of the C peers, as functions of slices.
 
 use crate::records::*;
 
@@ -44,6 +44,49 @@ calls! {
     dk_fives_write(): Five => u8;
     dk_fields_read(): u8 => Head;
     dk_fields_write(): Head => u8;
+    dk_udp_unpack(): u8 => UdpFields;
+    dk_udp_pack(): UdpFields => u8;
+    dk_udp_read(): u8 => UdpFields;
+    dk_udp_write(): UdpFields => u8;
+    dk_udp_grow(): UdpFields => u8;
+    dk_udp_counted(): u8 => UdpFields;
+    dk_udp_counted_round(count): u8 => u8;
+    dk_ipv4_unpack(): u8 => Ipv4Fields;
+    dk_ipv4_pack(): Ipv4Fields => u8;
+    dk_ipv4_read(): u8 => Ipv4Fields;
+    dk_ipv4_write(): Ipv4Fields => u8;
+    dk_can_unpack(): u8 => CanFields;
+    dk_can_pack(): CanFields => u8;
+    dk_can_read(): u8 => CanFields;
+    dk_can_write(): CanFields => u8;
+    dk_counted_bytes_read(): u8 => u16;
+    dk_counted_bytes_round(count): u8 => u8;
+    dk_counted_udps_read(): u8 => u16;
+    dk_counted_udps_round(count): u8 => u8;
+    dk_message_read(): u8 => MessageFields;
+    dk_message_write(): MessageFields => u8;
+    dk_query_unpack(each): u8 => QueryFields;
+    dk_query_round(count): u8 => u8;
+    dk_elf_unpack(): u8 => ElfFields;
+    dk_elf_round(count): u8 => u8;
+    dk_flags_read(): u8 => [bool; 8];
+    dk_flags_write(): [bool; 8] => u8;
+    dk_ones_read(): u8 => [u8; 8];
+    dk_ones_write(): [u8; 8] => u8;
+    dk_i24_read(): u8 => i32;
+    dk_i24_write(): i32 => u8;
+    dk_i16le_read(): u8 => i16;
+    dk_i16le_write(): i16 => u8;
+    dk_u61_read(): u8 => u64;
+    dk_u61_write(): u64 => u8;
+    dk_u65_read(): u8 => Wide;
+    dk_u65_write(): Wide => u8;
+    dk_u127_read(): u8 => Wide;
+    dk_u127_write(): Wide => u8;
+    dk_skip_bytes(): u8 => u8;
+    dk_skip_few(): u8 => u8;
+    dk_seeks(): u8 => u16;
+    dk_u16_grow(): u16 => u8;
     c_heads_read(): u8 => Head;
     c_heads_write(): Head => u8;
     c_signals_read(): u8 => Signals;

@@ -1,4 +1,4 @@
-//! The records, as bench_deku and shift.c have them.
+//! The records, as bench_deku, bench_records and shift.c have them.
 
 #[repr(C)]
 #[derive(Clone, Copy, Default, PartialEq, Debug)]
@@ -59,8 +59,80 @@ impl From<u128> for Wide {
     }
 }
 
+impl From<Wide> for u128 {
+    fn from(wide: Wide) -> u128 {
+        wide.number()
+    }
+}
+
 impl Wide {
     pub fn number(&self) -> u128 {
         (self.high as u128) << 64 | self.low as u128
     }
+}
+
+#[repr(C)]
+#[derive(Clone, Copy, Default, PartialEq, Debug)]
+pub struct UdpFields {
+    pub source: u16,
+    pub destination: u16,
+    pub length: u16,
+    pub checksum: u16,
+}
+
+#[repr(C)]
+#[derive(Clone, Copy, Default, PartialEq, Debug)]
+pub struct Ipv4Fields {
+    pub source: u32,
+    pub destination: u32,
+    pub total_length: u16,
+    pub identification: u16,
+    pub fragment_offset: u16,
+    pub checksum: u16,
+    pub words: u8,
+    pub service: u8,
+    pub congestion: u8,
+    pub flags: u8,
+    pub time_to_live: u8,
+    pub protocol: u8,
+}
+
+#[repr(C)]
+#[derive(Clone, Copy, Default, PartialEq, Debug)]
+pub struct CanFields {
+    pub yaw: i32,
+    pub wheel: i16,
+    pub torque: i16,
+    pub gear: u8,
+    pub flags: u8,
+    pub padding: u8,
+}
+
+#[repr(C)]
+#[derive(Clone, Copy, Default, PartialEq, Debug)]
+pub struct MessageFields {
+    pub id: u16,
+    pub tone: u16,
+    pub across: i16,
+    pub up: i16,
+}
+
+#[repr(C)]
+#[derive(Clone, Copy, Default, PartialEq, Debug)]
+pub struct QueryFields {
+    pub id: u16,
+    pub kind: u16,
+    pub class: u16,
+    pub labels: u16,
+}
+
+#[repr(C)]
+#[derive(Clone, Copy, Default, PartialEq, Debug)]
+pub struct ElfFields {
+    pub entry: u64,
+    pub segments_at: u64,
+    pub sections_at: u64,
+    pub flags: u32,
+    pub kind: u16,
+    pub machine: u16,
 }

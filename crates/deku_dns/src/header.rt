@@ -162,10 +162,6 @@ impl Record for Header {
 }
 
 impl DekuReader<()> for Header {
-    ghost accepts = { ⟦<Parts as DekuReader<()>>⟧.accepts };
-
-    ghost no_read_ahead = { ⟦<Parts as DekuReader<()>>⟧.no_read_ahead };
-
     ghost meaning = { λ _. Mapped ⟦<Header as FromParts<()>>⟧.record_of
         (⟦<Parts as DekuReader<()>>⟧.meaning tt) };
 
@@ -178,8 +174,6 @@ impl DekuReader<()> for Header {
 }
 
 impl DekuWriter<()> for Header {
-    ghost accepts = { ⟦<Parts as DekuWriter<()>>⟧.accepts };
-
     ghost meaning = { λ v _. ⟦<Parts as DekuWriter<()>>⟧.meaning
         (⟦<Header as FromParts<()>>⟧.parts_of v) tt };
 

@@ -72,10 +72,6 @@ impl Record for Length {
 }
 
 impl DekuReader<()> for Length {
-    ghost accepts = { ⟦<u8 as DekuReader<()>>⟧.accepts };
-
-    ghost no_read_ahead = { ⟦<u8 as DekuReader<()>>⟧.no_read_ahead };
-
     ghost meaning = { λ _. Mapped ⟦<Length as FromParts<()>>⟧.record_of
         (⟦<u8 as DekuReader<()>>⟧.meaning tt) };
 
@@ -88,8 +84,6 @@ impl DekuReader<()> for Length {
 }
 
 impl DekuWriter<()> for Length {
-    ghost accepts = { ⟦<u8 as DekuWriter<()>>⟧.accepts };
-
     ghost meaning = { λ v _. ⟦<u8 as DekuWriter<()>>⟧.meaning
         (⟦<Length as FromParts<()>>⟧.parts_of v) tt };
 
@@ -136,10 +130,6 @@ impl Record for Label {
 }
 
 impl DekuReader<()> for Label {
-    ghost accepts = { ⟦<Parts as DekuReader<()>>⟧.accepts };
-
-    ghost no_read_ahead = { ⟦<Parts as DekuReader<()>>⟧.no_read_ahead };
-
     ghost meaning = { λ _. Mapped ⟦<Label as FromParts<()>>⟧.record_of
         (⟦<Parts as DekuReader<()>>⟧.meaning tt) };
 
@@ -152,8 +142,6 @@ impl DekuReader<()> for Label {
 }
 
 impl DekuWriter<()> for Label {
-    ghost accepts = { ⟦<Parts as DekuWriter<()>>⟧.accepts };
-
     ghost meaning = { λ v _. ⟦<Parts as DekuWriter<()>>⟧.meaning
         (⟦<Label as FromParts<()>>⟧.parts_of v) tt };
 

@@ -57,10 +57,6 @@ impl Record for Query {
 }
 
 impl DekuReader<()> for Query {
-    ghost accepts = { ⟦<Parts as DekuReader<()>>⟧.accepts };
-
-    ghost no_read_ahead = { ⟦<Parts as DekuReader<()>>⟧.no_read_ahead };
-
     ghost meaning = { λ _. Mapped ⟦<Query as FromParts<()>>⟧.record_of
         (⟦<Parts as DekuReader<()>>⟧.meaning tt) };
 
@@ -73,8 +69,6 @@ impl DekuReader<()> for Query {
 }
 
 impl DekuWriter<()> for Query {
-    ghost accepts = { ⟦<Parts as DekuWriter<()>>⟧.accepts };
-
     ghost meaning = { λ v _. ⟦<Parts as DekuWriter<()>>⟧.meaning
         (⟦<Query as FromParts<()>>⟧.parts_of v) tt };
 

@@ -54,10 +54,6 @@ impl Record for Question {
 }
 
 impl DekuReader<()> for Question {
-    ghost accepts = { ⟦<Parts as DekuReader<()>>⟧.accepts };
-
-    ghost no_read_ahead = { ⟦<Parts as DekuReader<()>>⟧.no_read_ahead };
-
     ghost meaning = { λ _. Mapped ⟦<Question as FromParts<()>>⟧.record_of
         (⟦<Parts as DekuReader<()>>⟧.meaning tt) };
 
@@ -70,8 +66,6 @@ impl DekuReader<()> for Question {
 }
 
 impl DekuWriter<()> for Question {
-    ghost accepts = { ⟦<Parts as DekuWriter<()>>⟧.accepts };
-
     ghost meaning = { λ v _. ⟦<Parts as DekuWriter<()>>⟧.meaning
         (⟦<Question as FromParts<()>>⟧.parts_of v) tt };
 

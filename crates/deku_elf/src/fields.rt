@@ -142,10 +142,6 @@ impl EndianRecord for Fields {
 }
 
 impl DekuReader<Endian> for Fields {
-    ghost accepts = { ⟦<Parts as DekuReader<Endian>>⟧.accepts };
-
-    ghost no_read_ahead = { ⟦<Parts as DekuReader<Endian>>⟧.no_read_ahead };
-
     ghost meaning = { λ c. Mapped ⟦<Fields as FromParts<Endian>>⟧.record_of
         (⟦<Parts as DekuReader<Endian>>⟧.meaning c) };
 
@@ -158,8 +154,6 @@ impl DekuReader<Endian> for Fields {
 }
 
 impl DekuWriter<Endian> for Fields {
-    ghost accepts = { ⟦<Parts as DekuWriter<Endian>>⟧.accepts };
-
     ghost meaning = { λ v c. ⟦<Parts as DekuWriter<Endian>>⟧.meaning
         (⟦<Fields as FromParts<Endian>>⟧.parts_of v) c };
 

@@ -212,10 +212,6 @@ impl Record for Elf {
 }
 
 impl DekuReader<()> for Elf {
-    ghost accepts = { ⟦<Parts as DekuReader<()>>⟧.accepts };
-
-    ghost no_read_ahead = { ⟦<Parts as DekuReader<()>>⟧.no_read_ahead };
-
     ghost meaning = { λ _. Mapped ⟦<Elf as FromParts<()>>⟧.record_of
         (⟦<Parts as DekuReader<()>>⟧.meaning tt) };
 
@@ -228,8 +224,6 @@ impl DekuReader<()> for Elf {
 }
 
 impl DekuWriter<()> for Elf {
-    ghost accepts = { ⟦<Parts as DekuWriter<()>>⟧.accepts };
-
     ghost meaning = { λ v _. ⟦<Parts as DekuWriter<()>>⟧.meaning
         (⟦<Elf as FromParts<()>>⟧.parts_of v) tt };
 

@@ -91,10 +91,6 @@ impl EndianRecord for Segment {
 }
 
 impl DekuReader<Endian> for Segment {
-    ghost accepts = { ⟦<Parts as DekuReader<Endian>>⟧.accepts };
-
-    ghost no_read_ahead = { ⟦<Parts as DekuReader<Endian>>⟧.no_read_ahead };
-
     ghost meaning = { λ c. Mapped ⟦<Segment as FromParts<Endian>>⟧.record_of
         (⟦<Parts as DekuReader<Endian>>⟧.meaning c) };
 
@@ -107,8 +103,6 @@ impl DekuReader<Endian> for Segment {
 }
 
 impl DekuWriter<Endian> for Segment {
-    ghost accepts = { ⟦<Parts as DekuWriter<Endian>>⟧.accepts };
-
     ghost meaning = { λ v c. ⟦<Parts as DekuWriter<Endian>>⟧.meaning
         (⟦<Segment as FromParts<Endian>>⟧.parts_of v) c };
 

@@ -99,10 +99,6 @@ impl Record for Chassis {
 }
 
 impl DekuReader<()> for Chassis {
-    ghost accepts = { ⟦<Parts as DekuReader<()>>⟧.accepts };
-
-    ghost no_read_ahead = { ⟦<Parts as DekuReader<()>>⟧.no_read_ahead };
-
     ghost meaning = { λ _. Mapped ⟦<Chassis as FromParts<()>>⟧.record_of
         (⟦<Parts as DekuReader<()>>⟧.meaning tt) };
 
@@ -115,8 +111,6 @@ impl DekuReader<()> for Chassis {
 }
 
 impl DekuWriter<()> for Chassis {
-    ghost accepts = { ⟦<Parts as DekuWriter<()>>⟧.accepts };
-
     ghost meaning = { λ v _. ⟦<Parts as DekuWriter<()>>⟧.meaning
         (⟦<Chassis as FromParts<()>>⟧.parts_of v) tt };
 

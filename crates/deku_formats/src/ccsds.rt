@@ -65,10 +65,6 @@ impl Record for Telemetry {
 }
 
 impl DekuReader<()> for Telemetry {
-    ghost accepts = { ⟦<Parts as DekuReader<()>>⟧.accepts };
-
-    ghost no_read_ahead = { ⟦<Parts as DekuReader<()>>⟧.no_read_ahead };
-
     ghost meaning = { λ _. Mapped ⟦<Telemetry as FromParts<()>>⟧.record_of
         (⟦<Parts as DekuReader<()>>⟧.meaning tt) };
 
@@ -81,8 +77,6 @@ impl DekuReader<()> for Telemetry {
 }
 
 impl DekuWriter<()> for Telemetry {
-    ghost accepts = { ⟦<Parts as DekuWriter<()>>⟧.accepts };
-
     ghost meaning = { λ v _. ⟦<Parts as DekuWriter<()>>⟧.meaning
         (⟦<Telemetry as FromParts<()>>⟧.parts_of v) tt };
 

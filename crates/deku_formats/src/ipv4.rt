@@ -73,10 +73,6 @@ impl Record for Ipv4 {
 }
 
 impl DekuReader<()> for Ipv4 {
-    ghost accepts = { ⟦<Parts as DekuReader<()>>⟧.accepts };
-
-    ghost no_read_ahead = { ⟦<Parts as DekuReader<()>>⟧.no_read_ahead };
-
     ghost meaning = { λ _. Mapped ⟦<Ipv4 as FromParts<()>>⟧.record_of
         (⟦<Parts as DekuReader<()>>⟧.meaning tt) };
 
@@ -89,8 +85,6 @@ impl DekuReader<()> for Ipv4 {
 }
 
 impl DekuWriter<()> for Ipv4 {
-    ghost accepts = { ⟦<Parts as DekuWriter<()>>⟧.accepts };
-
     ghost meaning = { λ v _. ⟦<Parts as DekuWriter<()>>⟧.meaning
         (⟦<Ipv4 as FromParts<()>>⟧.parts_of v) tt };
 

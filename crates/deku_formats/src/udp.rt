@@ -85,10 +85,6 @@ impl Record for Udp {
 }
 
 impl DekuReader<()> for Udp {
-    ghost accepts = { ⟦<Parts as DekuReader<()>>⟧.accepts };
-
-    ghost no_read_ahead = { ⟦<Parts as DekuReader<()>>⟧.no_read_ahead };
-
     ghost meaning = { λ _. Mapped ⟦<Udp as FromParts<()>>⟧.record_of
         (⟦<Parts as DekuReader<()>>⟧.meaning tt) };
 
@@ -101,8 +97,6 @@ impl DekuReader<()> for Udp {
 }
 
 impl DekuWriter<()> for Udp {
-    ghost accepts = { ⟦<Parts as DekuWriter<()>>⟧.accepts };
-
     ghost meaning = { λ v _. ⟦<Parts as DekuWriter<()>>⟧.meaning
         (⟦<Udp as FromParts<()>>⟧.parts_of v) tt };
 

@@ -84,10 +84,6 @@ impl Record for Message {
 }
 
 impl DekuReader<()> for Message {
-    ghost accepts = { ⟦<Parts as DekuReader<()>>⟧.accepts };
-
-    ghost no_read_ahead = { ⟦<Parts as DekuReader<()>>⟧.no_read_ahead };
-
     ghost meaning = { λ _. Mapped ⟦<Message as FromParts<()>>⟧.record_of
         (⟦<Parts as DekuReader<()>>⟧.meaning tt) };
 
@@ -100,8 +96,6 @@ impl DekuReader<()> for Message {
 }
 
 impl DekuWriter<()> for Message {
-    ghost accepts = { ⟦<Parts as DekuWriter<()>>⟧.accepts };
-
     ghost meaning = { λ v _. ⟦<Parts as DekuWriter<()>>⟧.meaning
         (⟦<Message as FromParts<()>>⟧.parts_of v) tt };
 

@@ -84,10 +84,6 @@ impl Record for Text {
 }
 
 impl DekuReader<()> for Text {
-    ghost accepts = { ⟦<Counted<u8, u8> as DekuReader<()>>⟧.accepts };
-
-    ghost no_read_ahead = { ⟦<Counted<u8, u8> as DekuReader<()>>⟧.no_read_ahead };
-
     ghost meaning = { λ _. Mapped ⟦<Text as FromParts<()>>⟧.record_of
         (⟦<Counted<u8, u8> as DekuReader<()>>⟧.meaning tt) };
 
@@ -100,8 +96,6 @@ impl DekuReader<()> for Text {
 }
 
 impl DekuWriter<()> for Text {
-    ghost accepts = { ⟦<Counted<u8, u8> as DekuWriter<()>>⟧.accepts };
-
     ghost meaning = { λ v _. ⟦<Counted<u8, u8> as DekuWriter<()>>⟧.meaning
         (⟦<Text as FromParts<()>>⟧.parts_of v) tt };
 
@@ -160,10 +154,6 @@ impl EndianRecord for Pair {
 }
 
 impl DekuReader<Endian> for Pair {
-    ghost accepts = { ⟦<PairParts as DekuReader<Endian>>⟧.accepts };
-
-    ghost no_read_ahead = { ⟦<PairParts as DekuReader<Endian>>⟧.no_read_ahead };
-
     ghost meaning = { λ c. Mapped ⟦<Pair as FromParts<Endian>>⟧.record_of
         (⟦<PairParts as DekuReader<Endian>>⟧.meaning c) };
 
@@ -176,8 +166,6 @@ impl DekuReader<Endian> for Pair {
 }
 
 impl DekuWriter<Endian> for Pair {
-    ghost accepts = { ⟦<PairParts as DekuWriter<Endian>>⟧.accepts };
-
     ghost meaning = { λ v c. ⟦<PairParts as DekuWriter<Endian>>⟧.meaning
         (⟦<Pair as FromParts<Endian>>⟧.parts_of v) c };
 

@@ -49,10 +49,6 @@ impl Record for Sample {
 }
 
 impl DekuReader<()> for Sample {
-    ghost accepts = { ⟦<Parts as DekuReader<()>>⟧.accepts };
-
-    ghost no_read_ahead = { ⟦<Parts as DekuReader<()>>⟧.no_read_ahead };
-
     ghost meaning = { λ _. Mapped ⟦<Sample as FromParts<()>>⟧.record_of
         (⟦<Parts as DekuReader<()>>⟧.meaning tt) };
 
@@ -65,8 +61,6 @@ impl DekuReader<()> for Sample {
 }
 
 impl DekuWriter<()> for Sample {
-    ghost accepts = { ⟦<Parts as DekuWriter<()>>⟧.accepts };
-
     ghost meaning = { λ v _. ⟦<Parts as DekuWriter<()>>⟧.meaning
         (⟦<Sample as FromParts<()>>⟧.parts_of v) tt };
 

@@ -158,10 +158,6 @@ impl Record for Front {
 }
 
 impl DekuReader<()> for Front {
-    ghost accepts = { ⟦<Parts as DekuReader<()>>⟧.accepts };
-
-    ghost no_read_ahead = { ⟦<Parts as DekuReader<()>>⟧.no_read_ahead };
-
     ghost meaning = { λ _. Mapped ⟦<Front as FromParts<()>>⟧.record_of
         (⟦<Parts as DekuReader<()>>⟧.meaning tt) };
 
@@ -174,8 +170,6 @@ impl DekuReader<()> for Front {
 }
 
 impl DekuWriter<()> for Front {
-    ghost accepts = { ⟦<Parts as DekuWriter<()>>⟧.accepts };
-
     ghost meaning = { λ v _. ⟦<Parts as DekuWriter<()>>⟧.meaning
         (⟦<Front as FromParts<()>>⟧.parts_of v) tt };
 

@@ -148,10 +148,6 @@ impl ToParts<()> for Branch {
 }
 
 impl DekuReader<()> for Branch {
-    ghost accepts = { ⟦<Parts as DekuReader<()>>⟧.accepts };
-
-    ghost no_read_ahead = { ⟦<Parts as DekuReader<()>>⟧.no_read_ahead };
-
     ghost meaning = { λ _. Mapped ⟦<Branch as FromParts<()>>⟧.record_of
         (⟦<Parts as DekuReader<()>>⟧.meaning tt) };
 
@@ -164,8 +160,6 @@ impl DekuReader<()> for Branch {
 }
 
 impl DekuWriter<()> for Branch {
-    ghost accepts = { ⟦<Parts as DekuWriter<()>>⟧.accepts };
-
     ghost meaning = { λ v _. ⟦<Parts as DekuWriter<()>>⟧.meaning
         (⟦<Branch as FromParts<()>>⟧.parts_of v) tt };
 

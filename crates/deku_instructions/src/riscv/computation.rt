@@ -52,10 +52,6 @@ impl FromParts<u8> for Computation {
 }
 
 impl DekuReader<u8> for Computation {
-    ghost accepts = { ⟦<Computations as DekuReader<u8>>⟧.accepts };
-
-    ghost no_read_ahead = { ⟦<Computations as DekuReader<u8>>⟧.no_read_ahead };
-
     ghost meaning = { λ id. Mapped (λ k. record { 0 = k })
         (⟦<Computations as DekuReader<u8>>⟧.meaning id) };
 
@@ -65,8 +61,6 @@ impl DekuReader<u8> for Computation {
 }
 
 impl DekuWriter<u8> for Computation {
-    ghost accepts = { ⟦<Computations as DekuWriter<u8>>⟧.accepts };
-
     ghost meaning = { λ v id. ⟦<Computations as DekuWriter<u8>>⟧.meaning v.0 id };
 
     fn to_writer<W: Sink>(&self, writer: &mut Writer<W>, id: u8) -> Result<(), DekuError> {

@@ -74,10 +74,6 @@ impl ToParts<()> for Immediate {
 }
 
 impl DekuReader<()> for Immediate {
-    ghost accepts = { ⟦<Parts as DekuReader<()>>⟧.accepts };
-
-    ghost no_read_ahead = { ⟦<Parts as DekuReader<()>>⟧.no_read_ahead };
-
     ghost meaning = { λ _. Mapped ⟦<Immediate as FromParts<()>>⟧.record_of
         (⟦<Parts as DekuReader<()>>⟧.meaning tt) };
 
@@ -90,8 +86,6 @@ impl DekuReader<()> for Immediate {
 }
 
 impl DekuWriter<()> for Immediate {
-    ghost accepts = { ⟦<Parts as DekuWriter<()>>⟧.accepts };
-
     ghost meaning = { λ v _. ⟦<Parts as DekuWriter<()>>⟧.meaning
         (⟦<Immediate as FromParts<()>>⟧.parts_of v) tt };
 

@@ -166,10 +166,6 @@ impl Record for Instruction {
 }
 
 impl DekuReader<()> for Instruction {
-    ghost accepts = { ⟦<Parts as DekuReader<()>>⟧.accepts };
-
-    ghost no_read_ahead = { ⟦<Parts as DekuReader<()>>⟧.no_read_ahead };
-
     ghost meaning = { λ _. Mapped ⟦<Instruction as FromParts<()>>⟧.record_of
         (⟦<Parts as DekuReader<()>>⟧.meaning tt) };
 
@@ -182,8 +178,6 @@ impl DekuReader<()> for Instruction {
 }
 
 impl DekuWriter<()> for Instruction {
-    ghost accepts = { ⟦<Parts as DekuWriter<()>>⟧.accepts };
-
     ghost meaning = { λ v _. ⟦<Parts as DekuWriter<()>>⟧.meaning
         (⟦<Instruction as FromParts<()>>⟧.parts_of v) tt };
 

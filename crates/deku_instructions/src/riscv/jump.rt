@@ -129,10 +129,6 @@ impl ToParts<()> for Jump {
 }
 
 impl DekuReader<()> for Jump {
-    ghost accepts = { ⟦<Parts as DekuReader<()>>⟧.accepts };
-
-    ghost no_read_ahead = { ⟦<Parts as DekuReader<()>>⟧.no_read_ahead };
-
     ghost meaning = { λ _. Mapped ⟦<Jump as FromParts<()>>⟧.record_of
         (⟦<Parts as DekuReader<()>>⟧.meaning tt) };
 
@@ -145,8 +141,6 @@ impl DekuReader<()> for Jump {
 }
 
 impl DekuWriter<()> for Jump {
-    ghost accepts = { ⟦<Parts as DekuWriter<()>>⟧.accepts };
-
     ghost meaning = { λ v _. ⟦<Parts as DekuWriter<()>>⟧.meaning
         (⟦<Jump as FromParts<()>>⟧.parts_of v) tt };
 

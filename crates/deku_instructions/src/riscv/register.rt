@@ -81,10 +81,6 @@ impl ToParts<()> for Register {
 }
 
 impl DekuReader<()> for Register {
-    ghost accepts = { ⟦<Parts as DekuReader<()>>⟧.accepts };
-
-    ghost no_read_ahead = { ⟦<Parts as DekuReader<()>>⟧.no_read_ahead };
-
     ghost meaning = { λ _. Mapped ⟦<Register as FromParts<()>>⟧.record_of
         (⟦<Parts as DekuReader<()>>⟧.meaning tt) };
 
@@ -97,8 +93,6 @@ impl DekuReader<()> for Register {
 }
 
 impl DekuWriter<()> for Register {
-    ghost accepts = { ⟦<Parts as DekuWriter<()>>⟧.accepts };
-
     ghost meaning = { λ v _. ⟦<Parts as DekuWriter<()>>⟧.meaning
         (⟦<Register as FromParts<()>>⟧.parts_of v) tt };
 

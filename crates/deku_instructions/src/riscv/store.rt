@@ -121,10 +121,6 @@ impl ToParts<()> for Store {
 }
 
 impl DekuReader<()> for Store {
-    ghost accepts = { ⟦<Parts as DekuReader<()>>⟧.accepts };
-
-    ghost no_read_ahead = { ⟦<Parts as DekuReader<()>>⟧.no_read_ahead };
-
     ghost meaning = { λ _. Mapped ⟦<Store as FromParts<()>>⟧.record_of
         (⟦<Parts as DekuReader<()>>⟧.meaning tt) };
 
@@ -137,8 +133,6 @@ impl DekuReader<()> for Store {
 }
 
 impl DekuWriter<()> for Store {
-    ghost accepts = { ⟦<Parts as DekuWriter<()>>⟧.accepts };
-
     ghost meaning = { λ v _. ⟦<Parts as DekuWriter<()>>⟧.meaning
         (⟦<Store as FromParts<()>>⟧.parts_of v) tt };
 

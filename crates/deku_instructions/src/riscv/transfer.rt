@@ -51,10 +51,6 @@ impl FromParts<u8> for Transfer {
 }
 
 impl DekuReader<u8> for Transfer {
-    ghost accepts = { ⟦<Transfers as DekuReader<u8>>⟧.accepts };
-
-    ghost no_read_ahead = { ⟦<Transfers as DekuReader<u8>>⟧.no_read_ahead };
-
     ghost meaning = { λ id. Mapped (λ k. record { 0 = k })
         (⟦<Transfers as DekuReader<u8>>⟧.meaning id) };
 
@@ -64,8 +60,6 @@ impl DekuReader<u8> for Transfer {
 }
 
 impl DekuWriter<u8> for Transfer {
-    ghost accepts = { ⟦<Transfers as DekuWriter<u8>>⟧.accepts };
-
     ghost meaning = { λ v id. ⟦<Transfers as DekuWriter<u8>>⟧.meaning v.0 id };
 
     fn to_writer<W: Sink>(&self, writer: &mut Writer<W>, id: u8) -> Result<(), DekuError> {

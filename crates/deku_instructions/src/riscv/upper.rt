@@ -50,10 +50,6 @@ impl ToParts<()> for Upper {
 }
 
 impl DekuReader<()> for Upper {
-    ghost accepts = { ⟦<Parts as DekuReader<()>>⟧.accepts };
-
-    ghost no_read_ahead = { ⟦<Parts as DekuReader<()>>⟧.no_read_ahead };
-
     ghost meaning = { λ _. Mapped ⟦<Upper as FromParts<()>>⟧.record_of
         (⟦<Parts as DekuReader<()>>⟧.meaning tt) };
 
@@ -66,8 +62,6 @@ impl DekuReader<()> for Upper {
 }
 
 impl DekuWriter<()> for Upper {
-    ghost accepts = { ⟦<Parts as DekuWriter<()>>⟧.accepts };
-
     ghost meaning = { λ v _. ⟦<Parts as DekuWriter<()>>⟧.meaning
         (⟦<Upper as FromParts<()>>⟧.parts_of v) tt };
 

@@ -1,4 +1,4 @@
-use Rattle.deku_bits.proofs.Handing.{passed_on}
+use Rattle.std.proofs.lemmas.Result.{err_from_is_err_and}
 use Rattle.std.proofs.Common.{[], ◌∷◌, ◌+◌, ◌∙◌, ap, arith}
 use Rattle.std.proofs.lemmas.List.{length-append}
 use Rattle.deku_reading.proofs.Runs.{one_more, run_ended, run_refused}
@@ -6,7 +6,9 @@ use Rattle.deku_reading.proofs.Early.{promptly_on}
 use Rattle.deku.proofs.impls.cstring.read_count.Goals as goal
 
 pub returns-in_err-read_byte-clause-reads : goal.returns-in_err-read_byte-clause-reads
-returns-in_err-read_byte-clause-reads g c = passed_on _ c.from_residual.ensures.1 (run_refused (c.loop.invariant.far.1) (omega (arith, c.loop.invariant.far.0)) c.in_err-read_byte.ensures.reads)
+returns-in_err-read_byte-clause-reads g c =
+    let k = err_from_is_err_and c.from_residual.result c.from_residual.ensures.1 in
+    rw (k.1, k.2) (run_refused (c.loop.invariant.far.1) (omega (arith, c.loop.invariant.far.0)) c.in_err-read_byte.ensures.reads)
 
 pub loop-preserved : goal.loop-preserved
 loop-preserved g c = record {

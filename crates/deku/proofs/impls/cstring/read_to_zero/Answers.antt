@@ -1,4 +1,4 @@
-use Rattle.deku_bits.proofs.Handing.{passed_on}
+use Rattle.std.proofs.lemmas.Result.{err_from_is_err_and}
 use Rattle.std.proofs.Common.{[], ◌∷◌, ◌++◌, ◌≢◌, ap}
 use Rattle.std.proofs.lemmas.List.Elements.{All-push}
 use Rattle.deku_reading.proofs.Runs.{one_more, run_ended, run_refused}
@@ -19,7 +19,9 @@ loop-bytes-preserved g c =
     }
 
 pub returns-in_err-byte-clause-reads : goal.returns-in_err-byte-clause-reads
-returns-in_err-byte-clause-reads g c = passed_on _ c.from_residual.ensures.1 (run_refused (c.loop-bytes.invariant.far.1) (c.loop-bytes.invariant.far.0) c.in_err-byte.ensures.reads)
+returns-in_err-byte-clause-reads g c =
+    let k = err_from_is_err_and c.from_residual.result c.from_residual.ensures.1 in
+    rw (k.1, k.2) (run_refused (c.loop-bytes.invariant.far.1) (c.loop-bytes.invariant.far.0) c.in_err-byte.ensures.reads)
 
 pub returns-then-byte-eq0-clause-early : goal.returns-then-byte-eq0-clause-early
 returns-then-byte-eq0-clause-early g c = promptly_on c.loop-bytes.invariant.early c.in_ok-byte.ensures.early
