@@ -53,7 +53,7 @@ pub fn udp_headers(bench: &mut Bench, random: &mut Random, size: usize) {
     let mut wire = vec![0; 8 * n];
     assert!(hand::udp_write(&udps, &mut wire));
     both!(bench, "UDP unpacked" and "UDP packed", size, n, udps, wire,
-        read "library" calls::dk_udp_unpack, "hand" hand::udp_read, "bits" bits::udp_unpack, "best" bits::best::udp_unpack;
+        read "library" calls::dk_udp_unpack, "hand" hand::udp_unpack, "bits" bits::udp_unpack, "best" bits::best::udp_unpack;
         write "library" calls::dk_udp_pack, "hand" hand::udp_pack, "bits" bits::udp_pack, "best" bits::best::udp_pack;);
     both!(bench, "UDP by stream", size, n, udps, wire,
         read "library" calls::dk_udp_read, "hand" hand::udp_read, "bits" bits::udp_read, "best" bits::best::udp_read;
@@ -84,7 +84,7 @@ pub fn ipv4_headers(bench: &mut Bench, random: &mut Random, size: usize) {
     let mut wire = vec![0; 20 * n];
     assert!(hand::ipv4_write(&fronts, &mut wire));
     both!(bench, "IPv4 unpacked" and "IPv4 packed", size, n, fronts, wire,
-        read "library" calls::dk_ipv4_unpack, "hand" hand::ipv4_read, "bits" bits::ipv4_unpack, "best" bits::best::ipv4_unpack;
+        read "library" calls::dk_ipv4_unpack, "hand" hand::ipv4_unpack, "bits" bits::ipv4_unpack, "best" bits::best::ipv4_unpack;
         write "library" calls::dk_ipv4_pack, "hand" hand::ipv4_pack, "bits" bits::ipv4_pack, "best" bits::best::ipv4_pack;);
     both!(bench, "IPv4 by stream", size, n, fronts, wire,
         read "library" calls::dk_ipv4_read, "hand" hand::ipv4_read, "bits" bits::ipv4_read, "best" bits::best::ipv4_read;
@@ -97,7 +97,7 @@ pub fn can_frames(bench: &mut Bench, random: &mut Random, size: usize) {
     let mut wire = vec![0; 8 * n];
     assert!(hand::can_write(&cars, &mut wire));
     both!(bench, "CAN unpacked" and "CAN packed", size, n, cars, wire,
-        read "library" calls::dk_can_unpack, "hand" hand::can_read, "bits" bits::can_unpack, "best" bits::best::can_unpack;
+        read "library" calls::dk_can_unpack, "hand" hand::can_unpack, "bits" bits::can_unpack, "best" bits::best::can_unpack;
         write "library" calls::dk_can_pack, "hand" hand::can_pack, "bits" bits::can_pack, "best" bits::best::can_pack;);
     both!(bench, "CAN by stream", size, n, cars, wire,
         read "library" calls::dk_can_read, "hand" hand::can_read, "bits" bits::can_read, "best" bits::best::can_read;

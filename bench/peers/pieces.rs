@@ -31,12 +31,12 @@ pub fn counted_bytes(bench: &mut Bench, random: &mut Random, size: usize) {
     let n = wanted.len();
     bench.run("Counted of bytes read", size, n, &wire, &wanted, &[
         ("library", Box::new(calls::dk_counted_bytes_read)),
-        ("hand", Box::new(hand::led_bytes_read)),
-        ("bits", Box::new(usual::led_bytes_read)),
-        ("best", Box::new(best::led_bytes_read)),
+        ("hand", Box::new(hand::counted_bytes_read)),
+        ("bits", Box::new(usual::counted_bytes_read)),
+        ("best", Box::new(best::counted_bytes_read)),
     ]);
     counted!(bench, "Counted of bytes read and written", size, n, n, wire, wire, u8, "library" calls::dk_counted_bytes_round,
-        "hand" hand::led_bytes_round, "bits" usual::led_bytes_round, "best" best::led_bytes_round);
+        "hand" hand::counted_bytes_round, "bits" usual::counted_bytes_round, "best" best::counted_bytes_round);
 }
 
 pub fn counted_records(bench: &mut Bench, random: &mut Random, size: usize) {
@@ -53,12 +53,12 @@ pub fn counted_records(bench: &mut Bench, random: &mut Random, size: usize) {
     let n = wanted.len();
     bench.run("Counted of UDP read", size, n, &wire, &wanted, &[
         ("library", Box::new(calls::dk_counted_udps_read)),
-        ("hand", Box::new(hand::led_udps_read)),
-        ("bits", Box::new(usual::led_udps_read)),
-        ("best", Box::new(best::led_udps_read)),
+        ("hand", Box::new(hand::counted_udps_read)),
+        ("bits", Box::new(usual::counted_udps_read)),
+        ("best", Box::new(best::counted_udps_read)),
     ]);
     counted!(bench, "Counted of UDP read and written", size, n, n, wire, wire, u8, "library" calls::dk_counted_udps_round,
-        "hand" hand::led_udps_round, "bits" usual::led_udps_round, "best" best::led_udps_round);
+        "hand" hand::counted_udps_round, "bits" usual::counted_udps_round, "best" best::counted_udps_round);
 }
 
 fn random_message(random: &mut Random) -> MessageFields {

@@ -186,12 +186,12 @@ macro_rules! each {
             true
         }
 
-        /// Each by a reader of its own.
+        /// Each by a reader of its own, from a slice that could be any.
         pub fn $unpack(bytes: &[u8], out: &mut [$fields]) -> bool {
             let mut parts = bytes.chunks_exact($bytes);
             for to in out {
                 let Some(part) = parts.next() else { return false };
-                match $one(&mut BitReader::endian($source::<2>(part), $order)) {
+                match $one(&mut BitReader::endian($source::<2>(black_box(part)), $order)) {
                     Ok(record) => *to = record,
                     Err(_) => return false,
                 }

@@ -94,12 +94,24 @@ fn can_bytes(car: &CanFields) -> Option<[u8; 8]> {
 }
 
 macro_rules! each {
-    ($fields:ty, $bytes:literal, $one:expr, $put:expr, $read:ident, $write:ident, $pack:ident) => {
+    ($fields:ty, $bytes:literal, $one:expr, $put:expr, $read:ident, $unpack:ident, $write:ident, $pack:ident) => {
         pub fn $read(bytes: &[u8], out: &mut [$fields]) -> bool {
             let mut parts = bytes.chunks_exact($bytes);
             for to in out {
                 let Some(part) = parts.next() else { return false };
                 let Some(record) = ($one)(part.try_into().unwrap()) else { return false };
+                *to = record;
+            }
+            true
+        }
+
+        /// Each from a slice that could be any.
+        pub fn $unpack(bytes: &[u8], out: &mut [$fields]) -> bool {
+            let mut parts = bytes.chunks_exact($bytes);
+            for to in out {
+                let Some(part) = parts.next() else { return false };
+                let Some(bytes) = black_box(part).first_chunk() else { return false };
+                let Some(record) = ($one)(bytes) else { return false };
                 *to = record;
             }
             true
@@ -128,9 +140,9 @@ macro_rules! each {
     };
 }
 
-each!(UdpFields, 8, |b: &[u8; 8]| Some(udp(b)), |udp: &UdpFields| Some(udp_bytes(udp)), udp_read, udp_write, udp_pack);
-each!(Ipv4Fields, 20, ipv4, ipv4_bytes, ipv4_read, ipv4_write, ipv4_pack);
-each!(CanFields, 8, can, can_bytes, can_read, can_write, can_pack);
+each!(UdpFields, 8, |b: &[u8; 8]| Some(udp(b)), |udp: &UdpFields| Some(udp_bytes(udp)), udp_read, udp_unpack, udp_write, udp_pack);
+each!(Ipv4Fields, 20, ipv4, ipv4_bytes, ipv4_read, ipv4_unpack, ipv4_write, ipv4_pack);
+each!(CanFields, 8, can, can_bytes, can_read, can_unpack, can_write, can_pack);
 
 pub fn udp_grow(from: &[UdpFields], out: &mut [u8]) -> bool {
     let mut all = Vec::new();

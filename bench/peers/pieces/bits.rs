@@ -12,12 +12,12 @@ fn refused() -> io::Error {
     io::ErrorKind::InvalidData.into()
 }
 
-fn led_bytes<R: Read>(r: &mut BitReader<R, Msb>) -> io::Result<Vec<u8>> {
+fn counted_bytes<R: Read>(r: &mut BitReader<R, Msb>) -> io::Result<Vec<u8>> {
     let count = r.read::<u8>(8)?;
     r.read_to_vec(count as usize)
 }
 
-fn put_led_bytes<W: Write>(w: &mut BitWriter<W, Msb>, items: &[u8]) -> io::Result<()> {
+fn put_counted_bytes<W: Write>(w: &mut BitWriter<W, Msb>, items: &[u8]) -> io::Result<()> {
     let head = u8::try_from(items.len()).map_err(|_| refused())?;
     w.write(8, head)?;
     w.write_bytes(items)
@@ -25,7 +25,7 @@ fn put_led_bytes<W: Write>(w: &mut BitWriter<W, Msb>, items: &[u8]) -> io::Resul
 
 // A reader of one of the records is handed over, and a writer of one.
 #[inline]
-fn led_udps<R: Read>(
+fn counted_udps<R: Read>(
     r: &mut BitReader<R, Msb>,
     one: impl Fn(&mut BitReader<R, Msb>) -> io::Result<UdpFields>,
 ) -> io::Result<Vec<UdpFields>> {
@@ -38,7 +38,7 @@ fn led_udps<R: Read>(
 }
 
 #[inline]
-fn put_led_udps<W: Write>(
+fn put_counted_udps<W: Write>(
     w: &mut BitWriter<W, Msb>,
     items: &[UdpFields],
     put: impl Fn(&mut BitWriter<W, Msb>, &UdpFields) -> io::Result<()>,
@@ -229,29 +229,29 @@ macro_rules! pieces {
         pub mod $module {
             use super::*;
 
-            pub fn led_bytes_read(bytes: &[u8], out: &mut [u16]) -> bool {
+            pub fn counted_bytes_read(bytes: &[u8], out: &mut [u16]) -> bool {
                 let mut r = BitReader::endian($source::<10>(bytes), Msb);
                 all(out, || {
-                    let items = black_box(led_bytes(&mut r)?);
+                    let items = black_box(counted_bytes(&mut r)?);
                     Ok((items.len() as u16) << 8 | *items.last().unwrap_or(&0) as u16)
                 })
             }
 
-            pub fn led_bytes_round(bytes: &[u8], count: usize, out: &mut [u8]) -> bool {
+            pub fn counted_bytes_round(bytes: &[u8], count: usize, out: &mut [u8]) -> bool {
                 let mut r = BitReader::endian($source::<11>(bytes), Msb);
                 let mut w = BitWriter::endian($sink::<11>(out), Msb);
-                (0..count).all(|_| led_bytes(&mut r).and_then(|items| put_led_bytes(&mut w, &black_box(items))).is_ok())
+                (0..count).all(|_| counted_bytes(&mut r).and_then(|items| put_counted_bytes(&mut w, &black_box(items))).is_ok())
             }
 
-            pub fn led_udps_read(bytes: &[u8], out: &mut [u16]) -> bool {
+            pub fn counted_udps_read(bytes: &[u8], out: &mut [u16]) -> bool {
                 let mut r = BitReader::endian($source::<12>(bytes), Msb);
-                all(out, || Ok(black_box(led_udps(&mut r, $udp)?).last().map_or(0, |item| item.checksum)))
+                all(out, || Ok(black_box(counted_udps(&mut r, $udp)?).last().map_or(0, |item| item.checksum)))
             }
 
-            pub fn led_udps_round(bytes: &[u8], count: usize, out: &mut [u8]) -> bool {
+            pub fn counted_udps_round(bytes: &[u8], count: usize, out: &mut [u8]) -> bool {
                 let mut r = BitReader::endian($source::<13>(bytes), Msb);
                 let mut w = BitWriter::endian($sink::<13>(out), Msb);
-                (0..count).all(|_| led_udps(&mut r, $udp).and_then(|items| put_led_udps(&mut w, &black_box(items), $put_udp)).is_ok())
+                (0..count).all(|_| counted_udps(&mut r, $udp).and_then(|items| put_counted_udps(&mut w, &black_box(items), $put_udp)).is_ok())
             }
 
             pub fn message_read(bytes: &[u8], out: &mut [MessageFields]) -> bool {
@@ -268,7 +268,7 @@ macro_rules! pieces {
                 let mut parts = bytes.chunks_exact(each);
                 all(out, || {
                     let part = parts.next().ok_or_else(refused)?;
-                    Ok(black_box($query(&mut BitReader::endian($source::<16>(part), Msb))?).fields())
+                    Ok(black_box($query(&mut BitReader::endian($source::<16>(black_box(part)), Msb))?).fields())
                 })
             }
 
@@ -280,7 +280,7 @@ macro_rules! pieces {
 
             pub fn elf_unpack(bytes: &[u8], out: &mut [ElfFields]) -> bool {
                 let mut parts = bytes.chunks_exact(64);
-                all(out, || Ok(black_box(elf($source::<18>(parts.next().ok_or_else(refused)?))?).fields()))
+                all(out, || Ok(black_box(elf($source::<18>(black_box(parts.next().ok_or_else(refused)?)))?).fields()))
             }
 
             pub fn elf_round(bytes: &[u8], count: usize, out: &mut [u8]) -> bool {

@@ -10,27 +10,27 @@ fn be16(b: &[u8], at: usize) -> u16 {
 
 // A byte that counts them, and bytes.
 #[inline(always)]
-fn led_bytes(bytes: &[u8], at: &mut usize) -> Option<Vec<u8>> {
+fn counted_bytes(bytes: &[u8], at: &mut usize) -> Option<Vec<u8>> {
     let count = *bytes.get(*at)? as usize;
     let items = bytes.get(*at + 1..*at + 1 + count)?.to_vec();
     *at += 1 + count;
     Some(items)
 }
 
-pub fn led_bytes_read(bytes: &[u8], out: &mut [u16]) -> bool {
+pub fn counted_bytes_read(bytes: &[u8], out: &mut [u16]) -> bool {
     let mut at = 0;
     for to in out {
-        let Some(items) = led_bytes(bytes, &mut at) else { return false };
+        let Some(items) = counted_bytes(bytes, &mut at) else { return false };
         let items = black_box(items);
         *to = (items.len() as u16) << 8 | *items.last().unwrap_or(&0) as u16;
     }
     true
 }
 
-pub fn led_bytes_round(bytes: &[u8], count: usize, out: &mut [u8]) -> bool {
+pub fn counted_bytes_round(bytes: &[u8], count: usize, out: &mut [u8]) -> bool {
     let (mut at, mut put) = (0, 0);
     for _ in 0..count {
-        let Some(items) = led_bytes(bytes, &mut at) else { return false };
+        let Some(items) = counted_bytes(bytes, &mut at) else { return false };
         let items = black_box(items);
         let Some(to) = out.get_mut(put..put + 1 + items.len()) else { return false };
         let Ok(head) = u8::try_from(items.len()) else { return false };
@@ -43,26 +43,26 @@ pub fn led_bytes_round(bytes: &[u8], count: usize, out: &mut [u8]) -> bool {
 
 // A byte that counts them, and headers of UDP.
 #[inline(always)]
-fn led_udps(bytes: &[u8], at: &mut usize) -> Option<Vec<UdpFields>> {
+fn counted_udps(bytes: &[u8], at: &mut usize) -> Option<Vec<UdpFields>> {
     let count = *bytes.get(*at)? as usize;
     let parts = bytes.get(*at + 1..*at + 1 + 8 * count)?.chunks_exact(8);
     *at += 1 + 8 * count;
     Some(parts.map(|part| udp_by_hand(part.try_into().unwrap())).collect())
 }
 
-pub fn led_udps_read(bytes: &[u8], out: &mut [u16]) -> bool {
+pub fn counted_udps_read(bytes: &[u8], out: &mut [u16]) -> bool {
     let mut at = 0;
     for to in out {
-        let Some(items) = led_udps(bytes, &mut at) else { return false };
+        let Some(items) = counted_udps(bytes, &mut at) else { return false };
         *to = black_box(items).last().map_or(0, |udp| udp.checksum);
     }
     true
 }
 
-pub fn led_udps_round(bytes: &[u8], count: usize, out: &mut [u8]) -> bool {
+pub fn counted_udps_round(bytes: &[u8], count: usize, out: &mut [u8]) -> bool {
     let (mut at, mut put) = (0, 0);
     for _ in 0..count {
-        let Some(items) = led_udps(bytes, &mut at) else { return false };
+        let Some(items) = counted_udps(bytes, &mut at) else { return false };
         let items = black_box(items);
         let Some(to) = out.get_mut(put..put + 1 + 8 * items.len()) else { return false };
         let Ok(head) = u8::try_from(items.len()) else { return false };
@@ -180,7 +180,7 @@ fn query(b: &[u8]) -> Option<(Query, usize)> {
 pub fn query_unpack(bytes: &[u8], each: usize, out: &mut [QueryFields]) -> bool {
     let mut parts = bytes.chunks_exact(each);
     for to in out {
-        let Some((read, _)) = parts.next().and_then(query) else { return false };
+        let Some((read, _)) = parts.next().and_then(|part| query(black_box(part))) else { return false };
         *to = black_box(read).fields();
     }
     true
@@ -271,7 +271,7 @@ fn elf(b: &[u8; 64]) -> Option<Elf> {
 pub fn elf_unpack(bytes: &[u8], out: &mut [ElfFields]) -> bool {
     let mut parts = bytes.chunks_exact(64);
     for to in out {
-        let Some(read) = parts.next().and_then(|part| elf(part.try_into().unwrap())) else { return false };
+        let Some(read) = parts.next().and_then(|part| elf(black_box(part).first_chunk()?)) else { return false };
         *to = black_box(read).fields();
     }
     true

@@ -1,6 +1,6 @@
 //! Whole values: from the bytes of an input, and as bytes or bits.
 
-ghost use Rattle.std.specs.Prelude.{◌≡◌, ◌++◌, ◌<◌, length, take, OnOk, IfOk, IfErr};
+ghost use Rattle.std.specs.Prelude.{◌≡◌, ◌++◌, ◌<◌, [], length, take, OnOk, IfOk, IfErr};
 ghost use Rattle.std.specs.Io.Cursor.{cursor_position, cursor_inner};
 ghost use Rattle.std.specs.declared.io.ErrorKind.TheVariants.{OutOfMemory};
 ghost use Rattle.deku_bits.specs.declared.error.DekuError.TheVariants.{Io};
@@ -112,7 +112,8 @@ fn read_behind<T: DekuReader<()>, R: Source>(
 ///
 /// The calls have their bodies here; a type states `impl DekuContainerWrite for Record {}`.
 pub trait DekuContainerWrite: DekuWriter<()> {
-    /// The bytes of the value, the last one filled with zeros.
+    /// The bytes of the value, the last one filled with zeros. The vector may have capacity to
+    /// spare.
     ///
     /// The caller's condition: the type may be written under `()`. It fails as the type does, or
     /// with `Io(OutOfMemory)` if there is no memory for the bytes.
@@ -164,7 +165,7 @@ pub trait DekuContainerWrite: DekuWriter<()> {
         requires { Self.accepts tt }
         ensures { WritesBare (Self.meaning self.now tt) result }
     {
-        let mut writer = Writer::new(Cursor::new(Vec::new(alloc)));
+        let mut writer = Writer::new(Cursor::new(room_ahead(alloc)));
         self.to_writer(&mut writer, ())?;
         // The count fits a `usize`, so the proof knows that the write of no bits below does not
         // exceed it.
@@ -176,7 +177,8 @@ pub trait DekuContainerWrite: DekuWriter<()> {
     }
 }
 
-/// The bytes of a value under a context, with the last one filled with zeros.
+/// The bytes of a value under a context, with the last one filled with zeros. The vector may have
+/// capacity to spare.
 ///
 /// The caller's condition: the type may be written under the context. It fails as the type does, or
 /// with `Io(OutOfMemory)` if there is no memory for the bytes.
@@ -192,9 +194,25 @@ pub fn padded_bytes<Ctx, T: DekuWriter<Ctx>>(
     requires { T.accepts ctx }
     ensures { WritesOnce (Both (T.meaning value.now ctx) Finalizes) result }
 {
-    let mut cursor = Cursor::new(Vec::new(alloc));
+    let mut cursor = Cursor::new(room_ahead(alloc));
     write_whole(value, &mut cursor, ctx)?;
     Ok(taken_bytes(cursor))
+}
+
+/// An empty vector with room for 64 bytes, for a writer of small values. If there is no memory for
+/// them, it has no room.
+///
+/// ```text
+/// let mut writer = Writer::new(Cursor::new(room_ahead(alloc)));
+/// writer.write_bytes(&[0xA5])?;                        // takes no more memory
+/// ```
+pub fn room_ahead(alloc: Global) -> Vec<u8>
+    ensures { result.items ≡ [] }
+{
+    match Vec::with_capacity(alloc, 64) {
+        Ok(vector) => vector,
+        Err(_) => Vec::new(alloc),
+    }
 }
 
 // Writes a value with a new writer, and fills the last byte with zeros.

@@ -41,7 +41,7 @@ mod macros;
 pub mod prelude;
 mod traits;
 
-pub use container::{DekuContainerRead, DekuContainerWrite, padded_bytes, taken_bytes};
+pub use container::{DekuContainerRead, DekuContainerWrite, padded_bytes, room_ahead, taken_bytes};
 pub use deku_bits::bounded::BoundedBitVec;
 pub use deku_bits::error::DekuError;
 pub use deku_bits::{bounded, device, error, noseek, probe, reader, writer};

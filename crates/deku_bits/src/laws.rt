@@ -6,9 +6,15 @@ ghost use Rattle.deku_reader.specs.ReaderCalls.{FetchLaw, SkipReadLaw, BytesLaw}
 ghost use Rattle.deku_stream.specs.Pieces.{LengthLaw};
 ghost use Rattle.deku_stream.specs.Writers.{AppendLaw, CountLaw};
 ghost use Rattle.deku_stream.specs.Symmetry.{WriteLaw, ReadLaw, RewriteLaw, CallsLaw};
+ghost use Rattle.deku_device.specs.Devices.{TryTakeLaw};
 ghost use Rattle.deku_bits.specs.Wholes.{WholeLaw, PlainLaw};
 ghost use Rattle.deku_bits.specs.Causes.{CauseLaw};
 ghost use Rattle.deku_bits.specs.Rows.{ReadRows, SkipRows, ShortRows, WriteRows};
+
+/// If `n` bytes are left, the `n` bytes that `try_take` returns are these, without zeros.
+pub fn try_take_law()
+    ensures { TryTakeLaw }
+{}
 
 /// A read of a stream is a read of its normal form, in which a peeked byte is put back.
 pub fn peek_law()

@@ -1,9 +1,9 @@
 -- Parts of lists.
 use Rattle.std.proofs.Common.{rules, replicate, Some, append_assoc, ◌≡◌, ℕ, ◌+◌, ◌-◌, ◌<◌, ◌≤◌, ◌^◌, List, [], ◌∷◌, ◌++◌, length, get_or, suc, take, drop, sym, ap, ◌∙◌, arith, min, refl}
-use Rattle.std.proofs.lemmas.List.{places, same_lists, length-append, drop-drop, take-append-drop, drop_all, length-drop, length-take, drop_more, take_more, take_rest, get_or-drop, take_at}
+use Rattle.std.proofs.lemmas.List.{places, same_lists, length-append, drop-drop, take-append-drop, drop_all, length-drop, length-take, drop_more, take_more, take-append-le, take_rest, get_or-drop, take_at}
 use Rattle.std.proofs.lemmas.Bool.{cases_lt}
 use Rattle.std.proofs.Common.{⊎_elim}
-use Rattle.deku_device.specs.Devices.{BeginsThenZeros}
+use Rattle.deku_device.specs.Devices.{BeginsThenZeros, TryTakeLaw}
 
 -- a part of a list, and what is after it
 pub cut_part : {X : Type 0} (xs : List X) (at n : ℕ) → drop at xs ≡ take n (drop at xs) ++ drop (at + n) xs
@@ -80,3 +80,7 @@ eight_filled all part at s k e n p =
     let last : take (length all - s) (drop s all) ≡ drop at all = take_rest all s ∙ ap (λ i. drop i all) place ∙ drop_min_le all at (length all) (omega arith) in
     let count : k ≡ min (length (drop at all)) 8 = n ∙ ap (λ ys. min (length ys) 8) last in
     ap (λ ys. ys ++ drop k (replicate 8 0)) (p ∙ ap (take k) last) ∙ filled_to (drop at all) k 8 count
+
+-- where so many bytes are to come, those at hand are these
+pub try_take_law : TryTakeLaw
+try_take_law bytes remaining enough e = sym (e ∙ take-append-le (length bytes) remaining (replicate (length bytes) 0) enough)

@@ -1,16 +1,16 @@
 -- All bytes of a device, call after call.
-use Rattle.std.proofs.Common.{◌≡◌, ℕ, ◌+◌, ◌-◌, ◌≤◌, ◌<◌, min, List, [], ◌∷◌, ◌++◌, length, take, drop, replicate, Option, Some, None, refl, sym, ap, ◌∙◌, arith, rules, suc, zero, append_assoc, drop-drop, inl, inr, subst}
-use Rattle.std.proofs.lemmas.List.{take_at, places, same_lists, length-take, length-drop, length-append, drop_at, take-append-drop, drop_all, length-take-le, length-replicate, append-nil, nil_from_length}
+use Rattle.std.proofs.Common.{◌≡◌, ℕ, ◌+◌, ◌-◌, ◌≤◌, ◌<◌, min, List, ◌++◌, length, take, drop, replicate, Option, Some, None, refl, sym, ap, ◌∙◌, arith, rules, append_assoc, drop-drop, inl, inr, subst}
+use Rattle.std.proofs.lemmas.List.{take_at, places, same_lists, length-take, length-drop, length-append, drop_at, take-append-drop, drop_all, length-take-le, length-replicate, append-nil}
 use Rattle.std.proofs.lemmas.Bool.{cases_lt, le-leb}
 use Rattle.std.proofs.Common.{⊎_elim}
-use Rattle.deku_device.specs.Devices.{Access, ReadOnly, Overwritten, Grows, Changes, Whole, Onward, Transferred, GoesOnward, FewerThan, ShrinksSome, Gave, bytes_before}
-use Rattle.std.specs.Prelude.{Result, Ok, Err, IfErr, IfSome, pos, negsuc, option_map}
-use Rattle.std.specs.Io.KnownBytes.{Consumes, Appends}
+use Rattle.deku_device.specs.Devices.{Access, ReadOnly, Overwritten, Grows, Changes, Whole, Onward, Transferred, GoesOnward, ShrinksSome, Gave, bytes_before}
+use Rattle.std.specs.Prelude.{Result, Ok, Err, IfErr, pos, negsuc}
+use Rattle.std.specs.Io.KnownBytes.{Appends}
 use Rattle.std.specs.Io.Cursor.{IsSeekResult, IsSeekFromEnd, cursor_position, cursor_inner}
 use Rattle.std.specs.declared.io.SeekFrom.{SeekFrom}
 use Rattle.std.specs.declared.io.SeekFrom.TheVariants.{Start, End, Current}
 use Rattle.deku_device.specs.Seeking.{LeadsNowhere}
-use Rattle.deku_device.specs.Cursors.{read_whole, fitting_front, reaching, failures_at, known_vector}
+use Rattle.deku_device.specs.Cursors.{read_whole, fitting_front, reaching, known_vector}
 use Rattle.deku_device.specs.Overlays.{overlaid}
 use Rattle.std.specs.Global.{Vec}
 use Rattle.std.specs.declared.io.Cursor.{Cursor}
@@ -195,33 +195,3 @@ nowhere w (End (pos n)) (Err e) p q = omega (arith, q)
 nowhere w (End (negsuc n)) (Err e) p q = omega (arith, q)
 nowhere w (Current (pos n)) (Err e) p q = omega (arith, p)
 nowhere w (Current (negsuc n)) (Err e) p q = omega (arith, p)
-
--- the call that fails is the one at which one is left
-pub only_at_one : (m n : ℕ) → n ≡ m - 1 → failures_at m < failures_at n → m ≡ 1
-only_at_one zero n e l = absurd (let z : n ≡ 0 = omega arith in let h : 1 < failures_at 0 = rw z at l in omega (arith, h))
-only_at_one (suc zero) n e l = refl
-only_at_one (suc (suc k)) n e l = absurd (let z : n ≡ suc k = omega arith in let h : 0 < failures_at (suc k) = rw z at l in omega (arith, h))
-
--- the place behind the last byte, where i bytes were read and none is left
-pub at_end : (t : Option (List ℕ)) (p i q : ℕ) (xs : List ℕ) → q ≡ p + i → length xs ≡ i → Consumes (option_map (drop p) t) (option_map (drop (p + i)) t) xs
-    → FewerThan 1 (option_map (drop (p + i)) t) → IfSome t (λ all. q ≡ p + (length all - p))
-at_end None p i q xs k n c f = tt
-at_end (Some all) p i q xs k n c f =
-    let whole : length (drop p all) ≡ length xs + length (drop (p + i) all) = ap length c ∙ length-append xs (drop (p + i) all) in
-    omega (arith, k, n, whole, f, length-drop p all)
-
--- no bytes are laid over nothing
-laid_nil : (a : List ℕ) (p : ℕ) (f : List ℕ) → f ≡ [] → overlaid a p f ≡ a
-laid_nil a p f e = let past : p + 0 ≡ p = omega arith in rw (e, past, append-nil (take p a)) (take-append-drop p a)
-
--- neither is a byte that does not fit
-pub laid_none : (a : List ℕ) (p b : ℕ) → length (drop p a) < 1 → overlaid a p (fitting_front a p (b ∷ [])) ≡ a
-laid_none a p b short =
-    let none : length (fitting_front a p (b ∷ [])) ≡ 0 = omega (arith, short, length-drop p a, length-take (length a - p) (b ∷ [])) in
-    laid_nil a p (fitting_front a p (b ∷ [])) (nil_from_length (fitting_front a p (b ∷ [])) none)
-
--- how many bytes fitted, where i were given and none is left to fit
-pub fitted : (a x : List ℕ) (p i n : ℕ) → n ≡ i → n ≤ length (drop p a) → x ≡ drop n (drop p a) → length x < 1 → length a - p ≡ i
-fitted a x p i n e le same short =
-    let left : length x ≡ length (drop p a) - n = ap length same ∙ length-drop n (drop p a) in
-    omega (arith, e, le, left, short, length-drop p a)

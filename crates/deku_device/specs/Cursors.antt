@@ -1,12 +1,10 @@
--- What is known of a cursor by its place, and of one that fails once.
-use Rattle.std.specs.Prelude.{◌≡◌, ◌⊎◌, ◌≤◌, ◌+◌, ℕ, zero, suc, ◌-◌, List, [], ◌∷◌, ◌++◌, length, take, drop, replicate, Option, None, Some}
+-- What is known of a cursor by its place.
+use Rattle.std.specs.Prelude.{◌≡◌, ◌⊎◌, ◌≤◌, ◌+◌, ℕ, ◌-◌, List, [], ◌∷◌, ◌++◌, length, take, drop, replicate, Option, None, Some}
 use Rattle.std.specs.Global.{Vec}
 use Rattle.std.specs.Vec.{vec_capacity}
 use Rattle.std.specs.Borrow.{MutBor}
 use Rattle.std.specs.Io.Cursor.{cursor_remaining, cursor_position, cursor_inner}
 use Rattle.std.specs.declared.io.Cursor.{Cursor}
-use Rattle.deku_device.specs.declared.probe.FailAt.{FailAt}
-use Rattle.deku_device.specs.declared.probe.trickle.Trickle.{Trickle}
 use Rattle.deku_device.specs.Devices.{KnownSource, KnownSink, Whole, ReadOnly, Overwritten, Grows, bytes_before}
 
 -- If all bytes are known, those from a cursor's place on are the next.
@@ -31,34 +29,6 @@ abbrev pub cursor_source : {T : Type 0} → (T → Option (List ℕ)) → Cursor
 cursor_source bytes c = record {
   remaining = cursor_remaining bytes c;
   health = record { failures = Some 0; lenders = []; whole = read_whole (cursor_position c) (bytes (cursor_inner c)) };
-}
-
--- What is known of a source that gives one byte at a time.
-abbrev pub trickling : Trickle → KnownSource
-trickling s = record {
-  remaining = cursor_remaining (λ b. Some b.now) s.inner;
-  health = record { failures = Some 0; lenders = []; whole = read_whole (cursor_position s.inner) (Some (cursor_inner s.inner).now) };
-}
-
--- How many calls failed, if this many are left, including the one that fails. None is left after
--- it.
-abbrev pub failures_at : ℕ → ℕ
-failures_at zero = 1
-failures_at (suc n) = 0
-
--- What is known of a source that fails once.
-abbrev pub failing_source : {B : Type 0} → (B → Option (List ℕ)) → FailAt B → KnownSource
-failing_source bytes s = record {
-  remaining = cursor_remaining bytes s.inner;
-  health = record { failures = Some (failures_at s.left); lenders = []; whole = read_whole (cursor_position s.inner) (bytes (cursor_inner s.inner)) };
-}
-
--- What is known of a sink that fails once.
-abbrev pub failing_sink : FailAt (MutBor (List ℕ)) → KnownSink
-failing_sink s = record {
-  taken = bytes_before (cursor_position s.inner) (cursor_inner s.inner).now;
-  room = Some (drop (cursor_position s.inner) (cursor_inner s.inner).now);
-  health = record { failures = Some (failures_at s.left); lenders = (cursor_inner s.inner).ghost_name ∷ []; whole = slice_whole s.inner };
 }
 
 -- What is known of a cursor over a slice: the bytes before its place; its room is those after it.

@@ -117,6 +117,10 @@ abbrev pub BeginsThenZeros : List ℕ → Option (List ℕ) → Type 0
 BeginsThenZeros bytes None = ⊤
 BeginsThenZeros bytes (Some remaining) = bytes ≡ take (length bytes) (remaining ++ replicate (length bytes) 0)
 
+-- If as many bytes are left as are taken, those taken are the next.
+abbrev pub TryTakeLaw : Type 0
+TryTakeLaw = (bytes remaining : List ℕ) → length bytes ≤ length remaining → BeginsThenZeros bytes (Some remaining) → take (length bytes) remaining ≡ bytes
+
 -- If it was known that no byte is left, it is known again.
 abbrev pub StaysEmpty : Option (List ℕ) → Option (List ℕ) → Type 0
 StaysEmpty None new = ⊤

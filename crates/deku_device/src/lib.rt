@@ -3,4 +3,3 @@
 
 pub mod device;
 pub mod noseek;
-pub mod probe;

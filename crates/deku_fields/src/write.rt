@@ -17,8 +17,8 @@ use deku::calls::{write_signed, write_unsigned};
 use deku::ctx::{Endian, Order};
 use deku::device::Sink;
 use deku::error::DekuError;
-use deku::taken_bytes;
 use deku::writer::Writer;
+use deku::{room_ahead, taken_bytes};
 use deku_num::kernel::{is_below, unsigned_word};
 use std::alloc::Global;
 use std::io::Cursor;
@@ -157,7 +157,8 @@ fn write_checked<W: Sink>(writer: &mut Writer<W>, item: &Item) -> Result<(), Dek
     }
 }
 
-/// The bytes of the items, written one after the other from nothing and padded once with zeros.
+/// The bytes of the items, written one after the other from nothing and padded once with zeros. The
+/// vector may have capacity to spare.
 ///
 /// It fails as the first item that fails, as `write_list` says, or with `Io(OutOfMemory)` if there
 /// is no memory.
@@ -172,7 +173,7 @@ pub fn list_to_bytes(alloc: Global, items: &[Item]) -> Result<Vec<u8>, DekuError
     ensures back { WritesBack items.now result }
     ensures cause { IfErr result (λ e. (k : IoKind) → e ≡ Io k → WantsPlace k) }
 {
-    let mut writer = Writer::new(Cursor::new(Vec::new(alloc)));
+    let mut writer = Writer::new(Cursor::new(room_ahead(alloc)));
     match write_padded(&mut writer, items) {
         Ok(()) => Ok(taken_bytes(writer.into_inner())),
         Err(refusal) => Err(refusal),

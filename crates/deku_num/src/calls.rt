@@ -88,7 +88,7 @@ pub fn read_signed<R: Source>(
     ensures in_type { IfOk result (λ v. number_type.bits % 8 ≡ 0 → InType true number_type.bits v) }
 {
     let width = readable_width(number_type, layout)?;
-    if let Some(high) = number_at_hand(reader, layout, width) {
+    if let Some(high) = try_take_number(reader, layout, width) {
         return Ok(sign_extend(high as u128, width));
     }
     let word = reader.read_word(width, layout.order)?;
@@ -99,7 +99,7 @@ pub fn read_signed<R: Source>(
 // The number of this many bits, with the high bits first, if the layout is big and the bits are in
 // memory. Otherwise it returns `None`, and nothing moves.
 #[inline(always)]
-fn number_at_hand<R: Source>(reader: &mut Reader<R>, layout: Layout, width: usize) -> Option<u64>
+fn try_take_number<R: Source>(reader: &mut Reader<R>, layout: Layout, width: usize) -> Option<u64>
     ensures big { IfSome result (λ n. layout.endian ≡ Endian.Big) }
     ensures high { IfSome result (λ n. layout.order ≡ Order.Msb0) }
     ensures takes { IfSome result (λ n. Reads R.known (TakesBits Order.Msb0 width) reader.old

@@ -145,24 +145,31 @@ fn sources_with_nothing_at_hand_fail_as_they_fetch(rt: HostRuntime) -> Result<()
 
 // Bits that are read in turn from the highest down, so many of them, and the number that is wanted
 // where they are unread or at hand.
-const HIGH: [(usize, Option<u64>); 7] = [
+const HIGH: [(usize, Option<u64>); 14] = [
     (12, Some(0xABC)),
     (0, Some(0)),
     (4, Some(0xD)),
     (16, Some(0xEF01)),
     (3, Some(1)),
     (5, Some(3)),
-    (8, None),
+    (8, Some(0x45)),
+    (20, Some(0x67890)),
+    (33, None),
+    (32, None),
+    (28, Some(0xABCDEF0)),
+    (1, None),
+    (64, None),
+    (0, Some(0)),
 ];
 
-// Bits are read as the rows say, forty in all, and then eight.
+// Bits are read as the rows say, ninety-six in all, and then none is left.
 fn expect_high<R: Source + Drop>(alloc: Global, source: R) -> Result<(), Fail> {
     let mut reader = Reader::new(alloc, source);
     for (n, want) in HIGH {
         same(&(0, n), &reader.try_read_msb(n.min(64)), &want)?;
     }
     let seen = (reader.bits_read(), reader.read_word(8, Msb0));
-    same(&(1, 8), &seen, &(40, Ok(0x45)))
+    same(&(1, 8), &seen, &(96, Err(Refusal::Until(8).error())))
 }
 
 #[test]

@@ -8,25 +8,25 @@ use Rattle.deku_fields.proofs.write.list_to_bytes.Goals as goal
 
 pub returns-in-Ok-clause-meaning : goal.returns-in-Ok-clause-meaning
 returns-in-Ok-clause-meaning c =
-    let begin = starts_empty _ _ (steady None) _ (ap place_of c.new-writer.ensures.sink ∙ c.new-2.ensures.position) (ap below c.new-writer.ensures.sink ∙ ap items_in c.new-2.ensures.inner ∙ c.new.ensures.items) c.new-writer.ensures.state in
+    let begin = starts_empty _ _ (steady None) _ (ap place_of c.new-writer.ensures.sink ∙ c.new.ensures.position) (ap below c.new-writer.ensures.sink ∙ ap items_in c.new.ensures.inner ∙ c.room_ahead.ensures) c.new-writer.ensures.state in
     written_whole c.args.items.now _ _ _ (tells c.write_padded.new.writer.sink) _ (ap before (sym c.into_inner.ensures)) c.taken_bytes.ensures
     (from_start c.args.items.now _ _ _ begin (unbroken refl refl c.in-Ok.ensures))
 
 pub returns-in-Ok-clause-laid_out : goal.returns-in-Ok-clause-laid_out
 returns-in-Ok-clause-laid_out c = λ all aligned small.
-    let begin = starts_empty _ _ (steady None) _ (ap place_of c.new-writer.ensures.sink ∙ c.new-2.ensures.position) (ap below c.new-writer.ensures.sink ∙ ap items_in c.new-2.ensures.inner ∙ c.new.ensures.items) c.new-writer.ensures.state in
+    let begin = starts_empty _ _ (steady None) _ (ap place_of c.new-writer.ensures.sink ∙ c.new.ensures.position) (ap below c.new-writer.ensures.sink ∙ ap items_in c.new.ensures.inner ∙ c.room_ahead.ensures) c.new-writer.ensures.state in
     let w = written_whole c.args.items.now _ _ _ (tells c.write_padded.new.writer.sink) _ (ap before (sym c.into_inner.ensures)) c.taken_bytes.ensures
     (from_start c.args.items.now _ _ _ begin (unbroken refl refl c.in-Ok.ensures)) in
     laid_ok c.args.items.now _ all aligned small w.0 w.1 w.2 w.3
 
 pub returns-in-Err-clause-meaning : goal.returns-in-Err-clause-meaning
 returns-in-Err-clause-meaning c =
-    let begin = starts_empty _ _ (steady None) _ (ap place_of c.new-writer.ensures.sink ∙ c.new-2.ensures.position) (ap below c.new-writer.ensures.sink ∙ ap items_in c.new-2.ensures.inner ∙ c.new.ensures.items) c.new-writer.ensures.state in
+    let begin = starts_empty _ _ (steady None) _ (ap place_of c.new-writer.ensures.sink ∙ c.new.ensures.position) (ap below c.new-writer.ensures.sink ∙ ap items_in c.new.ensures.inner ∙ c.room_ahead.ensures) c.new-writer.ensures.state in
     (_, from_start c.args.items.now _ _ _ begin (unbroken refl refl c.in-Err.ensures))
 
 pub returns-in-Err-clause-laid_out : goal.returns-in-Err-clause-laid_out
 returns-in-Err-clause-laid_out c = λ all aligned small.
-    let begin = starts_empty _ _ (steady None) _ (ap place_of c.new-writer.ensures.sink ∙ c.new-2.ensures.position) (ap below c.new-writer.ensures.sink ∙ ap items_in c.new-2.ensures.inner ∙ c.new.ensures.items) c.new-writer.ensures.state in
+    let begin = starts_empty _ _ (steady None) _ (ap place_of c.new-writer.ensures.sink ∙ c.new.ensures.position) (ap below c.new-writer.ensures.sink ∙ ap items_in c.new.ensures.inner ∙ c.room_ahead.ensures) c.new-writer.ensures.state in
     laid_err c.args.items.now c.in-Err.refusal _ all aligned small (from_start c.args.items.now _ _ _ begin (unbroken refl refl c.in-Err.ensures))
 
 pub returns-in-Ok-clause-back : goal.returns-in-Ok-clause-back

@@ -45,7 +45,7 @@ sign_extend-requires-2-clause-below g c =
 pub returns-in_err-word-clause-reads : goal.returns-in_err-word-clause-reads
 returns-in_err-word-clause-reads g c =
     let p = err_from_is_err_and c.from_residual-in_err-word.result c.from_residual-in_err-word.ensures.1 in
-    let same = c.number_at_hand.ensures.stays (search rules) in
+    let same = c.try_take_number.ensures.stays (search rules) in
     rw (p.1, p.2, ← same)
     (number_refused c.args.number_type c.args.layout _ c.in_ok-width.ensures.ok.1 (word_refused c.args.layout.order c.in_ok-width.width c.in_err-word.ensures.reads) c.in_ok-width.ensures.ok.0)
 
@@ -53,13 +53,13 @@ pub returns-clause-reads : goal.returns-clause-reads
 returns-clause-reads g c =
     let r = word_read c.args.layout.order c.in_ok-width.width c.in_ok-word.ensures.reads in
     let fits : SFits w128 c.sign_extend-2.result = search rules in
-    let same = c.number_at_hand.ensures.stays (search rules) in
+    let same = c.try_take_number.ensures.stays (search rules) in
     rw (← same, to_z-of_z w128 c.sign_extend-2.result fits ∙ c.sign_extend-2.ensures ∙ signed_worth c.args.number_type c.args.layout r.bits c.in_ok-width.width c.number_of_word-number.result c.requires.signed r.long (c.number_of_word-number.ensures r.bits r.long r.worth))
     (number_read c.args.number_type c.args.layout _ c.in_ok-width.ensures.ok.1 r.taken c.in_ok-width.ensures.ok.0)
 
 pub returns-clause-fetched : goal.returns-clause-fetched
 returns-clause-fetched g c =
-    let same = c.number_at_hand.ensures.stays (search rules) in
+    let same = c.try_take_number.ensures.stays (search rules) in
     rw (← same) (rw c.in_ok-width.ensures.ok.0 at c.in_ok-word.ensures.fetched)
 
 pub returns-clause-in_type : goal.returns-clause-in_type

@@ -6,14 +6,14 @@ use Rattle.deku.proofs.container.DekuContainerWrite.to_bits.Goals as goal
 
 pub returns-in_err-write_bits : goal.returns-in_err-write_bits
 returns-in_err-write_bits g c =
-    let begin = starts_empty _ _ (steady None) _ (ap place_of c.new-writer.ensures.sink ∙ c.new-2.ensures.position) (ap below c.new-writer.ensures.sink ∙ ap items_in c.new-2.ensures.inner ∙ c.new.ensures.items) c.new-writer.ensures.state in
+    let begin = starts_empty _ _ (steady None) _ (ap place_of c.new-writer.ensures.sink ∙ c.new.ensures.position) (ap below c.new-writer.ensures.sink ∙ ap items_in c.new.ensures.inner ∙ c.room_ahead.ensures) c.new-writer.ensures.state in
     let written = c.to_writer.new.writer in
     bare_stopped (g.Self.DekuWriter.meaning c.args.self.now tt) _ (writer_state (tells written.sink) written.state) begin (unbroken refl refl c.in_ok-to_writer.ensures) _ _ _
     c.from_residual-in_err-write_bits.ensures.1 (counted_writer (tells written.sink) written.state _ c.bits_written-count.ensures (omega arith)) (unbroken refl refl c.in_err-write_bits.ensures.writes)
 
 pub returns : goal.returns
 returns g c =
-    let begin = starts_empty _ _ (steady None) _ (ap place_of c.new-writer.ensures.sink ∙ c.new-2.ensures.position) (ap below c.new-writer.ensures.sink ∙ ap items_in c.new-2.ensures.inner ∙ c.new.ensures.items) c.new-writer.ensures.state in
+    let begin = starts_empty _ _ (steady None) _ (ap place_of c.new-writer.ensures.sink ∙ c.new.ensures.position) (ap below c.new-writer.ensures.sink ∙ ap items_in c.new.ensures.inner ∙ c.room_ahead.ensures) c.new-writer.ensures.state in
     let written = c.to_writer.new.writer in
     let last = c.write_bits.new.self in
     bare_written (g.Self.DekuWriter.meaning c.args.self.now tt) _ (writer_state (tells written.sink) written.state) begin (unbroken refl refl c.in_ok-to_writer.ensures)

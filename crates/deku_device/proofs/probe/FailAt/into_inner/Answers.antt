@@ -1,5 +1,0 @@
-use Rattle.std.proofs.Common.{rules}
-use Rattle.deku_device.proofs.probe.FailAt.into_inner.Goals as goal
-
-pub returns : goal.returns
-returns g c = search rules

@@ -1,0 +1,4 @@
+//! Devices for tests of codecs.
+#![tactic(auto)]
+
+pub mod probe;
