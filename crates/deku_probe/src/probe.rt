@@ -194,7 +194,7 @@ impl<B: AsBytes> Source for FailAt<B> {
         ensures end_place { IfErr result (λ e. error_kind e ≡ ErrorKind.UnexpectedEof
             → IfSome (B.bytes (cursor_inner self.old.inner))
             (λ all. cursor_position self.new.inner ≡ cursor_position self.old.inner +
-                (length all - cursor_position self.old.inner))) }
+            (length all - cursor_position self.old.inner))) }
         ensures inner { cursor_inner self.new.inner ≡ cursor_inner self.old.inner }
         // If the input ends, the call that fails is still to come.
         ensures waits { IfErr result (λ e. error_kind e ≡ ErrorKind.UnexpectedEof
@@ -317,11 +317,11 @@ impl Sink for FailAt<&mut [u8]> {
             (self.old.left - 1)) }
         ensures full_place { IfErr result (λ e. error_kind e ≡ ErrorKind.WriteZero
             → cursor_position self.new.inner ≡ cursor_position self.old.inner +
-                (length (cursor_inner self.old.inner).now - cursor_position self.old.inner)) }
+            (length (cursor_inner self.old.inner).now - cursor_position self.old.inner)) }
         ensures full { IfErr result (λ e. error_kind e ≡ ErrorKind.WriteZero
             → Appends (failing_sink self.old).taken (failing_sink self.new).taken
-                (take (length (cursor_inner self.old.inner).now - cursor_position self.old.inner)
-                bytes.now)) }
+            (take (length (cursor_inner self.old.inner).now - cursor_position self.old.inner)
+            bytes.now)) }
         // If there is not enough room, the call that fails is still to come.
         ensures waits { IfErr result (λ e. error_kind e ≡ ErrorKind.WriteZero → 0 < self.old.left
             → (0 < self.new.left) × (self.new.left < self.old.left)) }

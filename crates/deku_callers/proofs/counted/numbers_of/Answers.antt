@@ -16,7 +16,7 @@ returns c = λ ns few is.
 
 pub returns-in_err-_bits : goal.returns-in_err-_bits
 returns-in_err-_bits c =
- λ ns few is.
+    λ ns few is.
     let laid = laid_from c.length_law.ensures Word 16 word_lies ns is.numbers.0 is.numbers.1 (omega (arith, few)) in
     let many = first_is c.in-Some.first.now c.args.bytes.now is.behind (length ns) c.in-Some.ensures.cases.0 is.is in
     let behind = rest_is c.in-Some.rest.now c.args.bytes.now is.behind (length ns) c.in-Some.ensures.cases.1 is.is in
