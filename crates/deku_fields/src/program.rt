@@ -150,7 +150,6 @@ pub fn give_text<W: Write>(output: &mut W, text: &[u8]) -> io::Result<()>
     ensures given { OnOk result (Appends (W.contents output.old) (W.contents output.new) text.now) }
     ensures cut { OnErr result (IsCutShort (W.contents output.old) (W.contents output.new)
         text.now) }
-    ensures tried { IfErr result (λ e. error_kind e ≡ ErrorKind.Interrupted → ⊥) }
 {
     let mut rest = text;
     let mut tries = u64::MAX;

@@ -16,4 +16,4 @@ pub returns-clause-reads : goal.returns-clause-reads
 returns-clause-reads g c = then_on c.in_ok-byte.ensures.reads (then_on c.in_ok-flags.ensures.reads (then_on c.in_ok-five.ensures.reads answered))
 
 pub returns-clause-early : goal.returns-clause-early
-returns-clause-early g c = λ _. promptly_on (promptly_on c.in_ok-byte.ensures.early (c.in_ok-flags.ensures.early (refl, (refl, refl)))) c.in_ok-five.ensures.early
+returns-clause-early g c = λ _. promptly_on (promptly_on c.in_ok-byte.ensures.early (c.in_ok-flags.ensures.early (tt, (tt, tt)))) c.in_ok-five.ensures.early

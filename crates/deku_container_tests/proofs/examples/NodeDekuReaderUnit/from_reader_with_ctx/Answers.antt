@@ -19,4 +19,4 @@ pub returns-clause-reads : goal.returns-clause-reads
 returns-clause-reads g c = then_on c.in_ok-kind.ensures.reads (then_on c.in_ok-mode.ensures.reads (then_on c.in_ok-owners.ensures.reads (then_on c.in_ok-numbers.ensures.reads answered)))
 
 pub returns-clause-early : goal.returns-clause-early
-returns-clause-early g c = λ _. promptly_on (promptly_on (promptly_on c.in_ok-kind.ensures.early c.in_ok-mode.ensures.early) (c.in_ok-owners.ensures.early (refl, refl))) (c.in_ok-numbers.ensures.early (refl, refl))
+returns-clause-early g c = λ _. promptly_on (promptly_on (promptly_on c.in_ok-kind.ensures.early c.in_ok-mode.ensures.early) (c.in_ok-owners.ensures.early (tt, tt))) (c.in_ok-numbers.ensures.early (tt, tt))

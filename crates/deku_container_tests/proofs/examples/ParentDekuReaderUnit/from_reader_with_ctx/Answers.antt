@@ -16,4 +16,4 @@ pub returns-clause-reads : goal.returns-clause-reads
 returns-clause-reads g c = then_on c.in_ok-wide.ensures.reads (then_on c.in_ok-narrow.ensures.reads (then_on c.in_ok-child.ensures.reads answered))
 
 pub returns-clause-early : goal.returns-clause-early
-returns-clause-early g c = λ _. promptly_on (promptly_on c.in_ok-wide.ensures.early c.in_ok-narrow.ensures.early) (c.in_ok-child.ensures.early refl)
+returns-clause-early g c = λ _. promptly_on (promptly_on c.in_ok-wide.ensures.early c.in_ok-narrow.ensures.early) (c.in_ok-child.ensures.early tt)

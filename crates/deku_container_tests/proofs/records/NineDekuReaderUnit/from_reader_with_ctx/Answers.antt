@@ -13,4 +13,4 @@ pub returns-clause-reads : goal.returns-clause-reads
 returns-clause-reads g c = then_on c.in_ok-halves.ensures.reads (then_on c.in_ok-flag.ensures.reads answered)
 
 pub returns-clause-early : goal.returns-clause-early
-returns-clause-early g c = λ _. promptly_on (c.in_ok-halves.ensures.early (refl, refl)) c.in_ok-flag.ensures.early
+returns-clause-early g c = λ _. promptly_on (c.in_ok-halves.ensures.early (tt, tt)) c.in_ok-flag.ensures.early
