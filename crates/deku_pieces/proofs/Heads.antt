@@ -14,7 +14,7 @@ use Rattle.deku.specs.Limits.{MappedBy}
 use Rattle.deku_pieces.specs.declared.counted.Counted.{Counted}
 use Rattle.deku_pieces.specs.Symmetric.{breadth, IsWrittenAs, IsReadBack, TakenAs, IsSymmetric}
 use Rattle.deku_pieces.specs.Pieces.{InTurn, SameEach}
-use Rattle.deku_pieces.specs.Leading.{IsCounted, OfCounted, OfCountedBy, SameCountedBy, ReadsCounted, Uncounted, CountedItems, ReadsCountedBy, WritesCountedBy}
+use Rattle.deku_pieces.specs.Leading.{IsCounted, OfCounted, OfCounts, OfCountedBy, SameCountedBy, ReadsCounted, Uncounted, CountedItems, ReadsCountedBy, WritesCounts, WritesCountedBy}
 use Rattle.deku_pieces.proofs.Answering.{ok_is, mapped_must, then_must, Must}
 use Rattle.deku_pieces.proofs.Turns.{breadth-append, takes_apart, takes_together, written_together, turns_one}
 use Rattle.deku_pieces.proofs.UnderCount.{counted_symmetric, holder_symmetric}
@@ -131,7 +131,42 @@ module _ {V W : Type 0} {P : V → List Piece → Type 0} {Q : W → List Piece 
   pub counted_by_symmetric : IsSymmetric (OfCountedBy count_of P Q) (SameCountedBy same_head same_item) (WritesCountedBy count_of write_head write_item) (ReadsCountedBy count_of m k)
   counted_by_symmetric = record { one = whole_symmetric.one; written = led_written; read_back = whole_symmetric.read_back; read = whole_symmetric.read }
 
+-- ---- a head and its items, in a value that is made of both
+module _ {V W X : Type 0} {P : V → List Piece → Type 0} {Q : W → List Piece → Type 0} {same_head : V → V → Type 0} {same_item : W → W → Type 0}
+    {write_head : V → Meaning Output (Unit {0})} {write_item : W → Meaning Output (Unit {0})} {m : Meaning (Option Stream) V} {k : Meaning (Option Stream) W}
+    (made : V → Vec W → X) (head : X → V) (items : X → Vec W) (is_head : (v : V) (w : Vec W) → head (made v w) ≡ v) (is_items : (v : V) (w : Vec W) → items (made v w) ≡ w)
+    (count_of : V → Option ℕ) (alike : (v w : V) → same_head v w → count_of v ≡ count_of w) (A : IsSymmetric P same_head write_head m) (B : IsSymmetric Q same_item write_item k) where
+  abbrev SameItems : Vec W → Vec W → Type 0
+  SameItems v w = SameEach same_item v.items w.items
+
+  abbrev SameBoth : X → X → Type 0
+  SameBoth x y = same_head (head x) (head y) × SameItems (items x) (items y)
+
+  both_same : (x : X) (v : V) (w : Vec W) → same_head (head x) v → SameItems (items x) w → SameBoth x (made v w)
+  both_same x v w f g = (subst (same_head (head x)) (sym (is_head v w)) f, subst (SameItems (items x)) (sym (is_items v w)) g)
+
+  both_symmetric : IsSymmetric (λ x. OfCounts count_of P Q (head x) (items x)) SameBoth (λ x. Both (write_head (head x)) (WritesEach write_item (items x).items))
+      (Then m (λ h. Mapped (made h) (ReadsCounted (count_of h) k)))
+  both_symmetric =
+      indexed_symmetric made head items count_of P (λ count. OfCounted count Q) same_head SameItems SameBoth
+      write_head (λ w. WritesEach write_item w.items) m (λ count. ReadsCounted count k) is_head is_items both_same alike A (counted_items_symmetric B)
+
+  counts_written : (x : X) (ps : List Piece) → OfCounts count_of P Q (head x) (items x) ps → IsWrittenAs ps (WritesCounts count_of write_head write_item (head x) (items x))
+  counts_written x ps (a, c, p, (n, is, q), e) b s r u (Refused f d) = absurd (d.0 (is ∙ ap (λ i. Some i) (sym q.0)))
+  counts_written x ps p b s r u (Passed w) = both_symmetric.written x ps p b s r u w.1
+
+  pub counts_symmetric : IsSymmetric (λ x. OfCounts count_of P Q (head x) (items x)) SameBoth (λ x. WritesCounts count_of write_head write_item (head x) (items x))
+      (Then m (λ h. Mapped (made h) (ReadsCounted (count_of h) k)))
+  counts_symmetric = record { one = both_symmetric.one; written = counts_written; read_back = both_symmetric.read_back; read = both_symmetric.read }
+
 -- ---- calls
+-- a head and items that are in step are written
+pub written_counts : {V W : Type 0} (count_of : V → Option ℕ) (write_head : V → Meaning Output (Unit {0})) (write_item : W → Meaning Output (Unit {0})) (h : V) (xs : Vec W)
+    {s : Standing Output} {a : Health} {r : Result (Unit {0}) DekuError} {u : Standing Output} {z : Health}
+    → IsCounted (count_of h) (length xs.items) → Outcome (Both (write_head h) (WritesEach write_item xs.items)) s a r u z
+    → Outcome (WritesCounts count_of write_head write_item h xs) s a r u z
+written_counts count_of write_head write_item h xs e o = weaker _ _ _ _ _ _ _ (λ b m. Passed (e, m)) o
+
 -- items that are as many as the head says are written behind it
 pub written_in_step : {V W : Type 0} (count_of : V → Option ℕ) (write_head : V → Meaning Output (Unit {0})) (write_item : W → Meaning Output (Unit {0})) (v : Counted V W)
     {s : Standing Output} {a : Health} {r : Result (Unit {0}) DekuError} {u : Standing Output} {z : Health}

@@ -15,6 +15,8 @@ pub mod Choices
 pub mod WholeBytes
 pub mod HighFirst
 pub mod Heads
+pub mod Whether
+pub mod Ids
 pub mod Passing
 pub mod Scattering
 pub mod Ending

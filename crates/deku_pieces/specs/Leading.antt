@@ -22,9 +22,12 @@ IsCounted count n = count ≡ Some n
 abbrev pub OfCounted : {V : Type 0} → Option ℕ → (V → List Piece → Type 0) → Vec V → List Piece → Type 0
 OfCounted count pieces items ps = (n : ℕ) × (count ≡ Some n) × OfTimes n pieces items.items ps
 
--- The pieces of the head, and then of the items.
+-- The pieces of the head, and then of the items that it counts.
+abbrev pub OfCounts : {V W : Type 0} → (V → Option ℕ) → (V → List Piece → Type 0) → (W → List Piece → Type 0) → V → Vec W → List Piece → Type 0
+OfCounts count_of of_head of_item h xs = InTurn (of_head h) (OfCounted (count_of h) of_item xs)
+
 abbrev pub OfCountedBy : {V W : Type 0} → (V → Option ℕ) → (V → List Piece → Type 0) → (W → List Piece → Type 0) → Counted V W → List Piece → Type 0
-OfCountedBy count_of of_head of_item v = InTurn (of_head v.head) (OfCounted (count_of v.head) of_item v.items)
+OfCountedBy count_of of_head of_item v = OfCounts count_of of_head of_item v.head v.items
 
 -- The same head and the same items.
 abbrev pub SameCountedBy : {V W : Type 0} → (V → V → Type 0) → (W → W → Type 0) → Counted V W → Counted V W → Type 0
@@ -43,7 +46,10 @@ ReadsCountedBy count_of m k = Then m (λ h. Mapped (λ xs. record { head = h; it
 
 -- A head is written, and then the items. If they are not as many as the head says, it fails before
 -- that, and nothing moves.
+abbrev pub WritesCounts : {V W : Type 0} → (V → Option ℕ) → (V → Meaning Output (Unit {0})) → (W → Meaning Output (Unit {0})) → V → Vec W → Meaning Output (Unit {0})
+WritesCounts count_of write_head write_item h xs = Checked
+    (λ s r u. (IsCounted (count_of h) (length xs.items) → ⊥) × Refuses Assertion (codes "count out of step with items") s r u)
+    (λ b s r u. IsCounted (count_of h) (length xs.items) × Both (write_head h) (WritesEach write_item xs.items) b s r u)
+
 abbrev pub WritesCountedBy : {V W : Type 0} → (V → Option ℕ) → (V → Meaning Output (Unit {0})) → (W → Meaning Output (Unit {0})) → Counted V W → Meaning Output (Unit {0})
-WritesCountedBy count_of write_head write_item v = Checked
-    (λ s r u. (IsCounted (count_of v.head) (length v.items.items) → ⊥) × Refuses Assertion (codes "count out of step with items") s r u)
-    (λ b s r u. IsCounted (count_of v.head) (length v.items.items) × Both (write_head v.head) (WritesEach write_item v.items.items) b s r u)
+WritesCountedBy count_of write_head write_item v = WritesCounts count_of write_head write_item v.head v.items

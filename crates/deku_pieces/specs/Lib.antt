@@ -6,3 +6,5 @@ pub mod Leading
 pub mod Ending
 pub mod Asserting
 pub mod Scattered
+pub mod Whether
+pub mod Ids

@@ -5,6 +5,7 @@
 pub mod assertion;
 pub mod choice;
 pub mod counted;
+pub mod either;
 pub mod magic;
 pub mod scattered;
 pub mod until;
@@ -13,6 +14,7 @@ mod whole;
 pub use assertion::{Assert, Check};
 pub use choice::{Choice, HasId, LsbTagged, MsbTagged, Only, Tagged};
 pub use counted::{Counted, ItemCount, write_counted};
+pub use either::{Either, InRange, Kind, Otherwise};
 pub use magic::{Constant, Magic};
 pub use scattered::{high_bits, low_bits};
 pub use whole::read_whole;

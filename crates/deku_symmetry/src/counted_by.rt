@@ -1,0 +1,214 @@
+//! Items that the parts before them count.
+
+ghost use Rattle.std.specs.Prelude.{◌≡◌, ℕ, Option, length, OnOk, MatchBool, refl};
+ghost use Rattle.deku_bits.specs.ReaderCalls.{Reads};
+ghost use Rattle.deku_bits.specs.WriterCalls.{Writes};
+ghost use Rattle.deku_bits.specs.Outcomes.{Mapped};
+ghost use Rattle.deku.specs.Composing.{Then};
+ghost use Rattle.deku.specs.Early.{NoReadAhead};
+ghost use Rattle.deku_pieces.specs.Pieces.{SameEach};
+ghost use Rattle.deku_pieces.specs.Leading.{IsCounted, OfCounts, ReadsCounted, WritesCounts};
+ghost use Rattle.deku_pieces.proofs.Heads.{counts_symmetric};
+
+use crate::traits::Symmetric;
+use deku::ctx::Limit;
+use deku::device::{Sink, Source};
+use deku::reader::Reader;
+use deku::writer::Writer;
+use deku::{DekuError, DekuReader, DekuWriter};
+use std::marker::PhantomData;
+
+/// How many items follow the parts that are before them.
+///
+/// ```text
+/// impl CountOf<Front> for OptionBytes { // of a length in words of four bytes, the header included
+///     ghost count_of = { λ head. if nat_lt head.1.0 5 then None else Some ((head.1.0 - 5) * 4) };
+///
+///     fn count(head: &Front) -> Option<usize> {
+///         Some((head.1.0 as usize).checked_sub(5)? * 4)
+///     }
+/// }
+/// ```
+pub trait CountOf<P>: Drop {
+    // How many items follow, if the head names a count.
+    ghost count_of: { P → Option ℕ };
+
+    /// Returns how many items follow, or `None` if the head names no count.
+    fn count(head: &P) -> Option<usize>
+        ensures { result ≡ count_of head.now };
+}
+
+/// A count that heads which are the same give alike.
+///
+/// ```text
+/// impl CountOfLaw<Front> for OptionBytes {
+///     ghost alike = { λ v w e. rw e.1.0 refl };
+/// }
+/// ```
+pub trait CountOfLaw<P: Symmetric<()>>: CountOf<P> {
+    // Heads that are the same give the same count.
+    ghost alike: { (v w : P) → P.Symmetric.same v w
+        → Self.CountOf.count_of v ≡ Self.CountOf.count_of w };
+}
+
+/// Parts, and after them as many items as `C` says of them.
+///
+/// Reading fails with `Parse("head without a count")` if the head names no count; the head stays
+/// read. Writing fails with `Assertion("count out of step with items")` if the head names no count,
+/// or another count than that of the items; then nothing moves. Otherwise both fail as the head
+/// does, and then as the first item that fails. Reading fails with `Io(OutOfMemory)` if there is no
+/// memory for an item.
+///
+/// ```text
+/// type Front = (Be<u16>, Msb<u8, 4>, Msb<u8, 4>);
+/// type Parts = CountedBy<Front, OptionBytes, u8>; // two bytes, a byte, and four bytes a word
+/// ```
+#[derive(Debug, PartialEq, Eq, Drop)]
+pub struct CountedBy<P, C, T> {
+    /// The parts before the items.
+    pub head: P,
+    /// The items.
+    pub items: Vec<T>,
+    /// The count.
+    pub count: PhantomData<C>,
+}
+
+impl<P, C, T> CountedBy<P, C, T> {
+    /// Parts and their items. That they are in step is checked when they are written.
+    ///
+    /// ```text
+    /// CountedBy::<_, OptionBytes, _>::new((Be(80), Msb(6), Msb(0)), options)
+    /// ```
+    pub fn new(head: P, items: Vec<T>) -> CountedBy<P, C, T>
+        ensures { result ≡ record { head = head; items = items; count = record {} } }
+    {
+        CountedBy {
+            head,
+            items,
+            count: PhantomData,
+        }
+    }
+}
+
+// Reads as many items as the count says.
+#[inline(always)]
+fn read_counted<T: DekuReader<()>, R: Source>(
+    reader: &mut Reader<R>,
+    count: Option<usize>,
+) -> Result<Vec<T>, DekuError>
+    requires { T.accepts tt }
+    ensures reads { Reads R.known (ReadsCounted count (T.meaning tt)) reader.old result reader.new }
+    ensures early { OnOk result (T.no_read_ahead tt → NoReadAhead R.known reader.old reader.new) }
+{
+    match count {
+        Some(count) => Vec::from_reader_with_ctx(reader, (Limit::new_count(count), ())),
+        None => Err(DekuError::Parse("head without a count")),
+    }
+}
+
+impl<P: DekuReader<()>, C: CountOf<P>, T: DekuReader<()>> DekuReader<()> for CountedBy<P, C, T> {
+    ghost accepts = { λ _. P.accepts tt × T.accepts tt };
+
+    ghost no_read_ahead = { λ _. P.no_read_ahead tt × T.no_read_ahead tt };
+
+    ghost meaning = { λ _. Then (P.meaning tt) (λ h.
+        Mapped (λ xs. record { head = h; items = xs; count = record {} })
+        (ReadsCounted (C.count_of h) (T.meaning tt))) };
+
+    #[inline(always)]
+    fn from_reader_with_ctx<R: Source>(reader: &mut Reader<R>, c: ()) -> Result<Self, DekuError> {
+        let head = P::from_reader_with_ctx(reader, c)?;
+        let items = read_counted::<T, R>(reader, C::count(&head))?;
+        Ok(CountedBy::new(head, items))
+    }
+}
+
+impl<P: DekuWriter<()>, C: CountOf<P>, T: DekuWriter<()>> DekuWriter<()> for CountedBy<P, C, T> {
+    ghost accepts = { λ _. P.accepts tt × T.accepts tt };
+
+    ghost meaning = { λ v _. WritesCounts C.count_of (λ h. P.meaning h tt)
+        (λ x. T.meaning x tt) v.head v.items };
+
+    #[inline(always)]
+    fn to_writer<W: Sink>(&self, writer: &mut Writer<W>, _ctx: ()) -> Result<(), DekuError> {
+        write_counts::<P, C, T, W>(&self.head, &self.items, writer)
+    }
+}
+
+// Writes a head and its items, as a `CountedBy` of both is written.
+#[inline(always)]
+fn write_counts<P: DekuWriter<()>, C: CountOf<P>, T: DekuWriter<()>, W: Sink>(
+    head: &P,
+    items: &Vec<T>,
+    writer: &mut Writer<W>,
+) -> Result<(), DekuError>
+    requires head { P.accepts tt }
+    requires items { T.accepts tt }
+    ensures { Writes W.known (WritesCounts C.count_of (λ h. P.meaning h tt)
+        (λ x. T.meaning x tt) head.now items.now) writer.old result writer.new }
+{
+    if !in_step::<P, C, T>(head, items) {
+        return Err(DekuError::Assertion("count out of step with items"));
+    }
+    head.to_writer(writer, ())?;
+    items.to_writer(writer, ())
+}
+
+// Whether there are as many items as the head says.
+#[inline(always)]
+fn in_step<P, C: CountOf<P>, T>(head: &P, items: &Vec<T>) -> bool
+    ensures { MatchBool result (IsCounted (C.count_of head.now) (length items.now.items))
+        (IsCounted (C.count_of head.now) (length items.now.items) → ⊥) }
+{
+    match C::count(head) {
+        Some(count) => items.len() == count,
+        None => false,
+    }
+}
+
+/// The pieces of the head, and then those of its items. There are no pieces if the number of items
+/// is not the one that the head gives.
+impl<P: Symmetric<()>, C: CountOfLaw<P>, T: Symmetric<()>> Symmetric<()> for CountedBy<P, C, T> {
+    ghost pieces = { λ v _. OfCounts C.CountOf.count_of (λ h. P.pieces h tt) (λ x. T.pieces x tt) v.head
+        v.items };
+
+    ghost same = { λ v w. P.same v.head w.head × SameEach T.same v.items.items w.items.items };
+
+    ghost symmetric = { λ _. counts_symmetric
+        (λ h xs. record { head = h; items = xs; count = record {} })
+        (λ v. v.head) (λ v. v.items) (λ h xs. refl) (λ h xs. refl) C.CountOf.count_of C.CountOfLaw.alike
+        (P.symmetric tt) (T.symmetric tt) };
+}
+
+/// Parts, and items that are elsewhere in memory: it is written as `CountedBy` of both.
+///
+/// ```text
+/// CountedByRef::<_, OptionBytes, _> {
+///     head: (Be(self.window), Msb(self.words), Msb(0)),
+///     items: &self.options,
+///     count: PhantomData,
+/// }
+/// .to_writer(writer, ())
+/// ```
+#[derive(Drop)]
+pub struct CountedByRef<'a, P, C, T> {
+    /// The parts before the items.
+    pub head: P,
+    /// The items.
+    pub items: &'a Vec<T>,
+    /// The count.
+    pub count: PhantomData<C>,
+}
+
+impl<'a, P: DekuWriter<()>, C: CountOf<P>, T: DekuWriter<()>> DekuWriter<()>
+    for CountedByRef<'a, P, C, T> {
+    ghost accepts = { λ _. P.accepts tt × T.accepts tt };
+
+    ghost meaning = { λ v _. WritesCounts C.count_of (λ h. P.meaning h tt)
+        (λ x. T.meaning x tt) v.head v.items.now };
+
+    #[inline(always)]
+    fn to_writer<W: Sink>(&self, writer: &mut Writer<W>, _ctx: ()) -> Result<(), DekuError> {
+        write_counts::<P, C, T, W>(&self.head, self.items, writer)
+    }
+}

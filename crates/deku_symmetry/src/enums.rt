@@ -1,0 +1,215 @@
+//! An id, and the value that it chooses: enums.
+
+ghost use Rattle.std.specs.Prelude.{◌≡◌, ℕ, refl};
+ghost use Rattle.std.proofs.Common.{ap};
+ghost use Rattle.deku_pieces.specs.Ids.{OfEnum, ReadsEnum, WritesEnum};
+ghost use Rattle.deku_pieces.proofs.Ids.{enum_symmetric};
+
+use crate::either::Kinds;
+use crate::fields::{Lsb, LsbBe, Msb, MsbLe};
+use crate::traits::Symmetric;
+use deku::device::{Sink, Source};
+use deku::reader::Reader;
+use deku::writer::Writer;
+use deku::{DekuError, DekuReader, DekuWriter};
+use std::marker::PhantomData;
+
+/// How an id lies: a part that is one number without a sign.
+///
+/// ```text
+/// <Msb<u64, 16> as Id>::of_number(0x0800)                     // two bytes, 08 00
+/// ```
+pub trait Id: Symmetric<()> {
+    // The number, and the part of a number.
+    ghost number_of: { Self → ℕ };
+
+    ghost part_of: { ℕ → Self };
+
+    /// The number.
+    fn number(&self) -> u64
+        ensures { result ≡ number_of self.now };
+
+    /// The part of a number. Writing it fails if the number does not fit.
+    fn of_number(number: u64) -> Self
+    where
+        Self: Sized,
+        ensures { result ≡ part_of number };
+
+    // A part is its number, and parts that are the same are equal.
+    ghost round: { (n : ℕ) → number_of (part_of n) ≡ n };
+
+    ghost again: { (v : Self) → part_of (number_of v) ≡ v };
+
+    ghost alike: { (v w : Self) → Self.Symmetric.same v w → v ≡ w };
+}
+
+impl<const N: usize> Id for Msb<u64, N> {
+    ghost number_of = { λ v. v.0 };
+
+    ghost part_of = { λ n. record { 0 = n } };
+
+    fn number(&self) -> u64 {
+        self.0
+    }
+
+    fn of_number(number: u64) -> Self {
+        Msb(number)
+    }
+
+    ghost round = { λ n. refl };
+
+    ghost again = { λ v. refl };
+
+    ghost alike = { λ v w e. ap (λ n. record { 0 = n }) e };
+}
+
+impl<const N: usize> Id for Lsb<u64, N> {
+    ghost number_of = { λ v. v.0 };
+
+    ghost part_of = { λ n. record { 0 = n } };
+
+    fn number(&self) -> u64 {
+        self.0
+    }
+
+    fn of_number(number: u64) -> Self {
+        Lsb(number)
+    }
+
+    ghost round = { λ n. refl };
+
+    ghost again = { λ v. refl };
+
+    ghost alike = { λ v w e. ap (λ n. record { 0 = n }) e };
+}
+
+impl<const N: usize> Id for MsbLe<u64, N> {
+    ghost number_of = { λ v. v.0 };
+
+    ghost part_of = { λ n. record { 0 = n } };
+
+    fn number(&self) -> u64 {
+        self.0
+    }
+
+    fn of_number(number: u64) -> Self {
+        MsbLe(number)
+    }
+
+    ghost round = { λ n. refl };
+
+    ghost again = { λ v. refl };
+
+    ghost alike = { λ v w e. ap (λ n. record { 0 = n }) e };
+}
+
+impl<const N: usize> Id for LsbBe<u64, N> {
+    ghost number_of = { λ v. v.0 };
+
+    ghost part_of = { λ n. record { 0 = n } };
+
+    fn number(&self) -> u64 {
+        self.0
+    }
+
+    fn of_number(number: u64) -> Self {
+        LsbBe(number)
+    }
+
+    ghost round = { λ n. refl };
+
+    ghost again = { λ v. refl };
+
+    ghost alike = { λ v w e. ap (λ n. record { 0 = n }) e };
+}
+
+/// An id that lies as `I`, and after it a value of the kinds `K` that the id chooses.
+///
+/// Reading fails as the id does, and then as the chosen value does. If no kind has the id that was
+/// read, it fails with `IdVariantNotFound`, and the reader is after the id. Writing fails with
+/// `Assertion("kind out of step with its id")` if the id would choose another kind; then nothing
+/// moves. Otherwise it fails as the id does, which may not fit, and then as the value does.
+///
+/// ```text
+/// type Parts = MsbEnum<Either<Kind<Be<u16>, 1>, Kind<(), 2>>, 8>; // 01 BE EF, or 02
+/// ```
+#[derive(Debug, PartialEq, Eq, Drop)]
+pub struct Enum<I, K> {
+    /// The value.
+    pub kind: K,
+    /// How its id lies.
+    pub id: PhantomData<I>,
+}
+
+/// An id of `N` bits with its high bits first, and the value that it chooses.
+pub type MsbEnum<K, const N: usize> = Enum<Msb<u64, N>, K>;
+
+/// An id of `N` bits with its low bits first, and the value that it chooses.
+pub type LsbEnum<K, const N: usize> = Enum<Lsb<u64, N>, K>;
+
+/// An id of `N` bits in `Msb0` with its low byte first, and the value that it chooses.
+pub type MsbLeEnum<K, const N: usize> = Enum<MsbLe<u64, N>, K>;
+
+/// An id of `N` bits in `Lsb0` with its high byte first, and the value that it chooses.
+pub type LsbBeEnum<K, const N: usize> = Enum<LsbBe<u64, N>, K>;
+
+impl<I, K> Enum<I, K> {
+    /// Wraps a value of one of the kinds.
+    ///
+    /// ```text
+    /// Enum::new(Either::This(Kind(Be(0xBEEF))))             // of the kinds above
+    /// ```
+    pub fn new(kind: K) -> Enum<I, K>
+        ensures { result ≡ record { kind = kind; id = record {} } }
+    {
+        Enum {
+            kind,
+            id: PhantomData,
+        }
+    }
+}
+
+impl<I: Id, K: Kinds> DekuReader<()> for Enum<I, K> {
+    ghost accepts = { λ _. I.DekuReader.accepts tt × K.readable };
+
+    ghost no_read_ahead = { λ _. I.DekuReader.no_read_ahead tt × K.no_read_ahead };
+
+    ghost meaning = { λ _. ReadsEnum (λ k. record { kind = k; id = record {} }) I.Id.number_of
+        (I.DekuReader.meaning tt) K.reads };
+
+    #[inline(always)]
+    fn from_reader_with_ctx<R: Source>(reader: &mut Reader<R>, c: ()) -> Result<Self, DekuError> {
+        let id = I::from_reader_with_ctx(reader, c)?;
+        let kind = K::read_kind(reader, id.number())?;
+        Ok(Enum::new(kind))
+    }
+}
+
+impl<I: Id, K: Kinds> DekuWriter<()> for Enum<I, K> {
+    ghost accepts = { λ _. I.DekuWriter.accepts tt × K.writable };
+
+    ghost meaning = { λ v _. WritesEnum (λ n. I.DekuWriter.meaning (I.Id.part_of n) tt) K.id_of
+        K.own K.writes v.kind };
+
+    #[inline(always)]
+    fn to_writer<W: Sink>(&self, writer: &mut Writer<W>, _ctx: ()) -> Result<(), DekuError> {
+        if !self.kind.is_own() {
+            return Err(DekuError::Assertion("kind out of step with its id"));
+        }
+        let id = I::of_number(self.kind.id());
+        id.to_writer(writer, ())?;
+        self.kind.write_kind(writer)
+    }
+}
+
+/// The pieces of the id, and then those of the value that it chooses.
+impl<I: Id, K: Kinds> Symmetric<()> for Enum<I, K> {
+    ghost pieces = { λ v _. OfEnum (λ n. I.Symmetric.pieces (I.Id.part_of n) tt) K.id_of K.own
+        K.pieces v.kind };
+
+    ghost same = { λ v w. K.same v.kind w.kind };
+
+    ghost symmetric = { λ _. enum_symmetric (λ k. record { kind = k; id = record {} })
+        (λ v. v.kind) (λ k. refl) I.Id.number_of I.Id.part_of I.Id.round I.Id.again I.Id.alike
+        K.id_of K.own K.pieces (I.Symmetric.symmetric tt) K.symmetric };
+}
