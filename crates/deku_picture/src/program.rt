@@ -90,7 +90,7 @@ enum Form<'a> {
 /// in them. Each SPEC may have a name before it, as `name:SPEC`.
 ///
 /// A run that does not succeed prints one line to `errors`. With status 2 it is the usage, and the
-/// word that names no field, if there is one and memory to show it. With status 1 it is
+/// first word that names no field, if there is one and memory to show it. With status 1 it is
 /// `error: bad hexadecimal text`, or `error: ` and the text of the error. The words are checked
 /// before the bytes and before any memory is taken. Nothing is printed to the output until all of
 /// the picture is known, so a run that does not succeed prints nothing to it except what a failing
