@@ -1,7 +1,8 @@
 -- The forms of the words: what stands in front of the fields, and what a run ends with.
 use Rattle.std.proofs.Common.{ℕ, zero, suc, get_or, take, drop, ◌<◌, ◌≡◌, ◌≢◌, ◌⊎◌, List, [], ◌∷◌, ◌++◌, length, codes, refl, ap, sym, ◌∙◌, subst, inl, inr, arith, Bor, Option}
 use Rattle.std.specs.List.{AllZip}
-use Rattle.std.specs.Prelude.{String, string_bytes}
+use Rattle.std.specs.Prelude.{String, string_bytes, Result, Ok, Err, IfErr}
+use Rattle.std.specs.Result.{IsErrAnd}
 use Rattle.std.specs.declared.io.ErrorKind.TheVariants.{OutOfMemory}
 use Rattle.deku_bits.specs.declared.error.DekuError.TheVariants.{Io}
 use Rattle.deku_fields.specs.declared.list.Field.{Field}
@@ -89,13 +90,6 @@ stopped_by words (Bytes t) fields (NoField w) named is (inr (inr h)) = absurd (c
 stopped_by words (Bytes t) fields BadText named is h = inr (inl (record { fields = fields; named = named; text = t.now; asked = is; stop = h }))
 stopped_by words (Bytes t) fields (Fault f) named is h = inr (inl (record { fields = fields; named = named; text = t.now; asked = is; stop = h }))
 
--- ---- statuses
-pub some_status : (e : Failure) → status_of e ≡ 0 → ⊥
-some_status Usage z = omega arith
-some_status (NoField w) z = omega arith
-some_status BadText z = omega arith
-some_status (Fault f) z = omega arith
-
 -- fields that the words name, and no memory for them
 pub named_stop : (words specs : List (List ℕ)) (e : Failure) → NameFields specs → ((status_of e ≡ 2) × ((fields : List Field) → AllZip Names specs fields → ⊥)) ⊎ (e ≡ Fault (Io OutOfMemory)) → IsFailure words e
 named_stop words specs e are (inl none) = absurd (none.1 are.0 are.1)
@@ -127,6 +121,11 @@ pub without_specs : (words : List (List ℕ)) → HaveNoSpecs words → AreNoFor
 without_specs words none fields named = let same = ap length (none named.specs named.behind) in omega (arith, same, named.some)
 
 -- ---- statuses
+-- an error that is so is so otherwise
+pub err_so : {T E : Type 0} (r : Result T E) (P Q : E → Type 0) → IsErrAnd r P → ((e : E) → P e → Q e) → IfErr r Q
+err_so (Ok t) P Q h so = absurd h
+err_so (Err e) P Q h so = so e h
+
 pub fails : (words : List (List ℕ)) (a b : Option (List ℕ)) (e : Failure) → RunEnds words a b e → status_of e ≡ 2 → IsFailure words e
 fails words a b e (inl h) two = h.0
 fails words a b e (inr h) two = let one : status_of e ≡ 1 = ap status_of h.2 in absurd (omega (arith, one, two))

@@ -291,10 +291,10 @@ fn sample_of<'a>(alloc: Global, form: Form, fields: &[Field]) -> Result<Option<S
     ensures stops { IfErr result (HasNotShown form.entry fields.now) }
 {
     match form {
-        Form::Bytes(text) => match sample(alloc, text, fields) {
-            Ok(sample) => Ok(Some(sample)),
-            Err(failure) => Err(failure),
-        },
+        Form::Bytes(text) => {
+            let sample = sample(alloc, text, fields)?;
+            Ok(Some(sample))
+        }
         Form::Table => Ok(None),
         Form::Svg => Ok(None),
     }

@@ -1,4 +1,4 @@
-use Rattle.std.proofs.Common.{◌≡◌, ◌++◌, ◌∷◌, [], List, arith, ap, sym, ◌∙◌, subst, take}
+use Rattle.std.proofs.Common.{◌≡◌, ◌++◌, ◌∷◌, [], List, arith, ap, sym, ◌∙◌, subst, take, drop, suc}
 use Rattle.std.proofs.lemmas.List.{take_all}
 use Rattle.std.specs.Prelude.{string_bytes}
 use Rattle.deku_fields.specs.declared.list.Field.{Field}
@@ -12,11 +12,12 @@ use Rattle.deku_picture.proofs.program.first_unnamed.Goals as goal
 pub returns-in_default : goal.returns-in_default
 returns-in_default c =
     let texts = c.args.specs.now in
+    let after = words_of (drop (suc c.loop-word.word-index) texts) in
     let word = c.as_str-text.ensures.value ∙ ap string_bytes c.word-item.is in
     record {
       before = words_of (take c.loop-word.word-index texts);
-      after = _;
-      is = subst (λ w. words_of texts ≡ words_of (take c.loop-word.word-index texts) ++ w ∷ _) (sym word) (at_word texts c.loop-word.word-index _ (omega arith));
+      after = after;
+      is = subst (λ w. words_of texts ≡ words_of (take c.loop-word.word-index texts) ++ w ∷ after) (sym word) (at_word texts c.loop-word.word-index _ (omega arith));
       named = c.loop-word.invariant;
       none = λ f n. c.in_default.ensures n.0 n.1 f n.2;
     }
