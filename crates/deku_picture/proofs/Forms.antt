@@ -1,5 +1,5 @@
 -- The forms of the words: what stands in front of the fields, and what a run ends with.
-use Rattle.std.proofs.Common.{ℕ, zero, suc, get_or, take, drop, ◌<◌, ◌≡◌, ◌≢◌, ◌⊎◌, List, [], ◌∷◌, ◌++◌, length, codes, refl, ap, sym, ◌∙◌, subst, inl, inr, arith, Bor, Option}
+use Rattle.std.proofs.Common.{ℕ, zero, suc, get_or, take, drop, ◌<◌, ◌≡◌, ◌≢◌, ◌⊎◌, List, [], ◌∷◌, ◌++◌, length, codes, refl, ap, sym, ◌∙◌, subst, inl, inr, arith, append_assoc, Bor, Option}
 use Rattle.std.specs.List.{AllZip}
 use Rattle.std.specs.Prelude.{String, string_bytes, Result, Ok, Err, IfErr}
 use Rattle.std.specs.Result.{IsErrAnd}
@@ -12,7 +12,7 @@ use Rattle.deku_picture.specs.declared.program.Form.TheVariants.{Table, Svg, Byt
 use Rattle.deku_picture.specs.declared.program.Failure.{Failure}
 use Rattle.deku_picture.specs.declared.program.Failure.TheVariants.{Usage, NoField, BadText, Fault}
 use Rattle.deku_picture.specs.Names.{Names, HasSpecs, AreNamed, NameFields, AreNoForm, IsUnnamed, HasUnnamed, HaveNoSpecs}
-use Rattle.deku_picture.specs.Drawn.{AsksForBytes, IsForm, IsSplit, HasValues, HasShown, HasNotShown, IsFailure, RunEnds, status_of}
+use Rattle.deku_picture.specs.Drawn.{AsksForBytes, BeginsWith, IsSvg, IsForm, IsSplit, HasValues, HasShown, HasNotShown, IsFailure, RunEnds, status_of}
 
 -- the two options are two words
 two_words : (word : List ℕ) → word ≡ codes "--svg" → word ≡ codes "--bytes" → ⊥
@@ -73,6 +73,16 @@ empty_named words [] h none other k = one_form words other [] k h
 empty_named words (s ∷ specs) h none other k = absurd (omega arith)
 
 -- ---- what is shown
+-- words that begin with `--svg` ask for an SVG
+pub svg_asked : (words : List (List ℕ)) (form : Form) → IsForm words form → BeginsWith (codes "--svg") words → form ≡ Svg
+svg_asked words Table is svg = absurd (is.0 svg)
+svg_asked words Svg is svg = refl
+svg_asked words (Bytes t) is svg = let same : codes "--svg" ≡ codes "--bytes" = let a = is.1 in let b = svg.1 in cc in absurd (two_words (codes "--svg") refl same)
+
+-- an SVG with more after it is one
+pub more_svg : (front more : List ℕ) → IsSvg front → IsSvg (front ++ more)
+more_svg front more is = (is.0 ++ more, ap (λ t. t ++ more) is.1 ∙ append_assoc (codes "<svg ") is.0 more)
+
 pub shown_by : (words : List (List ℕ)) (form : Form) (fields : List Field) → IsForm words form → HasShown form fields → (text : List ℕ) → AsksForBytes words text → HasValues fields text
 shown_by words Table fields is h text asked = absurd (is.1 (text ∷ asked.0, asked.1))
 shown_by words Svg fields is h text asked = let same : codes "--svg" ≡ codes "--bytes" = let a = is.1 in let b = asked.1 in cc in absurd (two_words (codes "--svg") refl same)

@@ -66,16 +66,26 @@ pub record AreDrawn (words : List (List ℕ)) : Type 0 where
   pub drawable : AreDrawable fields
   pub shown : (text : List ℕ) → AsksForBytes words text → HasValues fields text
 
+-- The text begins as an SVG does.
+abbrev pub IsSvg : List ℕ → Type 0
+IsSvg text = (rest : List ℕ) × (text ≡ codes "<svg " ++ rest)
+
+-- The text is an SVG if the words ask for one.
+abbrev pub IsOfForm : List (List ℕ) → List ℕ → Type 0
+IsOfForm words text = BeginsWith (codes "--svg") words → IsSvg text
+
 -- The words are drawn, and their picture was written to the output.
 pub record IsDone (words : List (List ℕ)) (before after : Option (List ℕ)) : Type 0 where
   pub drawn : AreDrawn words
   pub text : List ℕ
+  pub form : IsOfForm words text
   pub given : Appends before after text
 
 -- The words are drawn, and their picture was not written to the output to its end.
 pub record IsUnfinished (words : List (List ℕ)) (before after : Option (List ℕ)) : Type 0 where
   pub drawn : AreDrawn words
   pub text : List ℕ
+  pub form : IsOfForm words text
   pub cut : IsCutShort before after text
 
 -- ---- failures
