@@ -1,6 +1,7 @@
 //! Frames, written and read back.
 
-ghost use Rattle.std.specs.Prelude.{◌≡◌, ◌++◌, ℕ, List, IfOk};
+ghost use Rattle.std.specs.Prelude.{IfOk};
+ghost use Rattle.deku_callers.specs.Rewriting.{IsFrameOf};
 ghost use Rattle.deku_fields.specs.Frames.{SameFrame};
 
 use deku::prelude::{DekuContainerRead, DekuContainerWrite, DekuError};
@@ -26,7 +27,8 @@ pub fn pair_there_and_back(alloc: Global, left: u8, right: u16) -> Result<Frame,
     Ok(read)
 }
 
-/// Reads a frame from any bytes, and writes it as bytes again. The given bytes begin with these.
+/// Reads a frame from any bytes, and writes it as bytes again. These are what the pieces of the
+/// frame lay out, and the given bytes begin with them.
 ///
 /// It fails as reading the frame does, or with `Io(OutOfMemory)` if there is no memory for the
 /// bytes.
@@ -35,7 +37,7 @@ pub fn pair_there_and_back(alloc: Global, left: u8, right: u16) -> Result<Frame,
 /// rewritten(alloc, &[0x31, 0x2A, 0xA7, 0x99])?               // 31 2A A7
 /// ```
 pub fn rewritten(alloc: Global, bytes: &[u8]) -> Result<Vec<u8>, DekuError>
-    ensures { IfOk result (λ v. (after : List ℕ) × (bytes.now ≡ v.items ++ after)) }
+    ensures { IfOk result (λ v. IsFrameOf bytes.now v.items) }
 {
     write_law();
     rewrite_law();

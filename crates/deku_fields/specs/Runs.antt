@@ -1,12 +1,12 @@
 -- What a run of the program does: the words that it is given, the text that it reads and the text
 -- that it writes.
-use Rattle.std.specs.Prelude.{◌≡◌, ◌⊎◌, ℕ, ◌<◌, List, [], ◌∷◌, ◌++◌, length, map, flat_map, Ok, Err, Option, IfSome, String, string_bytes, decimal, codes, ⊤}
+use Rattle.std.specs.Prelude.{◌≡◌, ◌≢◌, ◌⊎◌, ℕ, ◌<◌, List, [], ◌∷◌, ◌++◌, length, map, flat_map, Ok, Err, Option, IfSome, String, string_bytes, decimal, codes, ⊤}
 use Rattle.std.specs.Fmt.{signed_decimal}
 use Rattle.std.specs.List.{AllZip}
 use Rattle.std.specs.Global.{Vec}
 use Rattle.std.specs.Io.KnownBytes.{Appends}
 use Rattle.std.specs.declared.io.ErrorKind.{ErrorKind}
-use Rattle.std.specs.declared.io.ErrorKind.TheVariants.{OutOfMemory}
+use Rattle.std.specs.declared.io.ErrorKind.TheVariants.{Interrupted, OutOfMemory}
 use Rattle.hex.specs.Hex.{encode_lower, decode_of}
 use Rattle.hex.specs.declared.error.FromHexError.{FromHexError}
 use Rattle.deku_bits.specs.declared.error.DekuError.{DekuError}
@@ -181,9 +181,10 @@ Stops words input e = ((e ≡ Usage) × AreNoForm words)
     ⊎ ((names : List (List ℕ)) × (words ≡ codes "write" ∷ names) × WritingStops names e)
     ⊎ ((names : List (List ℕ)) × (words ≡ codes "read" ∷ names) × ReadingStops names input e)
 
--- The output failed, and was not given the text that the words ask for to its end.
+-- The output failed, and was not only interrupted: it was not given the text that the words ask for to
+-- its end.
 abbrev pub OutputStops : List (List ℕ) → Option (List ℕ) → Option (List ℕ) → Option (List ℕ) → Failure → Type 0
-OutputStops words input before after e = (kind : ErrorKind) × (e ≡ Fault (Io kind)) × IsUnfinished words input before after
+OutputStops words input before after e = (kind : ErrorKind) × (kind ≢ Interrupted) × (e ≡ Fault (Io kind)) × IsUnfinished words input before after
 
 -- The run is prevented before the output is given any text, or the output fails.
 abbrev pub RunEnds : List (List ℕ) → Option (List ℕ) → Option (List ℕ) → Option (List ℕ) → Failure → Type 0

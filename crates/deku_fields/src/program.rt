@@ -1,10 +1,10 @@
 //! The program: from words on a command line to bytes and back.
 
-ghost use Rattle.std.specs.Prelude.{◌≡◌, ◌⊎◌, ◌↔◌, ◌≤◌, List, flat_map, Err, IfOk, OnOk, IfErr, OnErr, IsTrue, string_bytes};
+ghost use Rattle.std.specs.Prelude.{◌≡◌, ◌≢◌, ◌⊎◌, ◌↔◌, ◌≤◌, List, flat_map, Err, IfOk, OnOk, IfErr, OnErr, IsTrue, string_bytes};
 ghost use Rattle.std.specs.List.{AllZip};
 ghost use Rattle.std.specs.Io.KnownBytes.{Appends};
 ghost use Rattle.std.specs.IoError.{error_kind};
-ghost use Rattle.std.specs.declared.io.ErrorKind.TheVariants.{OutOfMemory};
+ghost use Rattle.std.specs.declared.io.ErrorKind.TheVariants.{Interrupted, OutOfMemory};
 ghost use Rattle.deku_bits.specs.declared.error.DekuError.TheVariants.{Io};
 ghost use Rattle.deku_fields.specs.declared.program.Failure.TheVariants.{Fault, Usage};
 ghost use Rattle.deku_fields.specs.declared.list.Field.{Field as ListField};
@@ -150,6 +150,7 @@ pub fn give_text<W: Write>(output: &mut W, text: &[u8]) -> io::Result<()>
     ensures given { OnOk result (Appends (W.contents output.old) (W.contents output.new) text.now) }
     ensures cut { OnErr result (IsCutShort (W.contents output.old) (W.contents output.new)
         text.now) }
+    ensures tried { IfErr result (λ e. error_kind e ≢ Interrupted) }
 {
     let mut rest = text;
     let mut tries = u64::MAX;

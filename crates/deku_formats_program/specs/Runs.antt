@@ -1,9 +1,9 @@
 -- What a run of the program does: the words that it is given, the text that it reads and the text
 -- that it writes.
-use Rattle.std.specs.Prelude.{◌≡◌, ◌⊎◌, ℕ, List, [], ◌∷◌, flat_map, Option, IfSome, codes, decimal, ⊤, ◌++◌}
+use Rattle.std.specs.Prelude.{◌≡◌, ◌≢◌, ◌⊎◌, ℕ, List, [], ◌∷◌, flat_map, Option, IfSome, codes, decimal, ⊤, ◌++◌}
 use Rattle.std.specs.Io.KnownBytes.{Appends}
 use Rattle.std.specs.declared.io.ErrorKind.{ErrorKind}
-use Rattle.std.specs.declared.io.ErrorKind.TheVariants.{OutOfMemory}
+use Rattle.std.specs.declared.io.ErrorKind.TheVariants.{Interrupted, OutOfMemory}
 use Rattle.deku_bits.specs.declared.error.DekuError.TheVariants.{Io}
 use Rattle.deku_fields.specs.Runs.{line, fault_line, IsHexText, IsNoHexText, IsBegun, IsCutShort}
 use Rattle.deku_formats_program.specs.declared.words.Format.{Format}
@@ -85,9 +85,10 @@ TextStops stops (Record format) input e = InputStops input e ⊎ RecordStops (st
 abbrev pub Stops : (Format → Stopping) → List (List ℕ) → Option (List ℕ) → Failure → Type 0
 Stops stops words input e = ((e ≡ Usage) × AreNoForm words) ⊎ ((asked : Asked) × AskFor words asked × TextStops stops asked input e)
 
--- The output failed, and was not given the text that the words ask for to its end.
+-- The output failed, and was not only interrupted: it was not given the text that the words ask for to
+-- its end.
 abbrev pub OutputStops : (Format → Telling) → List (List ℕ) → Option (List ℕ) → Option (List ℕ) → Option (List ℕ) → Failure → Type 0
-OutputStops tells words input before after e = (kind : ErrorKind) × (e ≡ Fault (Io kind)) × IsUnfinished tells words input before after
+OutputStops tells words input before after e = (kind : ErrorKind) × (kind ≢ Interrupted) × (e ≡ Fault (Io kind)) × IsUnfinished tells words input before after
 
 -- The run is prevented before the output is given any text, or the output fails.
 abbrev pub RunEnds : (Format → Telling) → (Format → Stopping) → List (List ℕ) → Option (List ℕ) → Option (List ℕ) → Option (List ℕ) → Failure → Type 0

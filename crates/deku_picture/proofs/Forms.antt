@@ -1,7 +1,8 @@
 -- The forms of the words: what stands in front of the fields, and what a run ends with.
-use Rattle.std.proofs.Common.{ℕ, zero, suc, get_or, slice_index_or, ◌<◌, ◌≡◌, ◌≢◌, ◌⊎◌, List, [], ◌∷◌, length, codes, refl, ap, sym, ◌∙◌, subst, inl, inr, arith, Bor, Option}
-use Rattle.std.specs.List.{AllZip, Contains}
-use Rattle.std.specs.Prelude.{String, string_bytes}
+use Rattle.std.proofs.Common.{ℕ, zero, suc, get_or, take, drop, ◌<◌, ◌≡◌, ◌≢◌, ◌⊎◌, List, [], ◌∷◌, ◌++◌, length, codes, refl, ap, sym, ◌∙◌, subst, inl, inr, arith, append_assoc, Bor, Option}
+use Rattle.std.specs.List.{AllZip}
+use Rattle.std.specs.Prelude.{String, string_bytes, Result, Ok, Err, IfErr}
+use Rattle.std.specs.Result.{IsErrAnd}
 use Rattle.std.specs.declared.io.ErrorKind.TheVariants.{OutOfMemory}
 use Rattle.deku_bits.specs.declared.error.DekuError.TheVariants.{Io}
 use Rattle.deku_fields.specs.declared.list.Field.{Field}
@@ -10,8 +11,8 @@ use Rattle.deku_picture.specs.declared.program.Form.{Form}
 use Rattle.deku_picture.specs.declared.program.Form.TheVariants.{Table, Svg, Bytes}
 use Rattle.deku_picture.specs.declared.program.Failure.{Failure}
 use Rattle.deku_picture.specs.declared.program.Failure.TheVariants.{Usage, NoField, BadText, Fault}
-use Rattle.deku_picture.specs.Names.{Names, HasSpecs, AreNamed, NameFields, AreNoForm, IsUnnamed}
-use Rattle.deku_picture.specs.Drawn.{AsksForBytes, IsForm, IsSplit, HasValues, HasShown, HasNotShown, IsFailure, RunEnds, status_of}
+use Rattle.deku_picture.specs.Names.{Names, HasSpecs, AreNamed, NameFields, AreNoForm, IsUnnamed, HasUnnamed, HaveNoSpecs}
+use Rattle.deku_picture.specs.Drawn.{AsksForBytes, BeginsWith, IsSvg, IsForm, IsSplit, HasValues, HasShown, HasNotShown, IsFailure, RunEnds, status_of}
 
 -- the two options are two words
 two_words : (word : List ℕ) → word ≡ codes "--svg" → word ≡ codes "--bytes" → ⊥
@@ -38,7 +39,7 @@ none_form (a ∷ args) e specs h = omega arith
 -- ---- the three forms
 pub svg_form : {S : Type 0} (args rest : List (String S)) (first : String S) → args ≡ first ∷ rest → string_bytes first ≡ codes "--svg" → IsForm (words_of args) Svg × HasSpecs (words_of args) (words_of rest)
 svg_form args rest first e named = subst (λ xs. IsForm (words_of xs) Svg × HasSpecs (words_of xs) (words_of rest)) (sym e)
-    (λ text asked. let same : string_bytes first ≡ codes "--bytes" = let h = asked.1 in cc in two_words (string_bytes first) named same, inl (named, refl))
+    ((words_of rest, ap (λ w. w ∷ words_of rest) named), inl (named, refl))
 
 pub bytes_form : {S : Type 0} (args rest specs : List (String S)) (first text : String S) (shown : Bor (List ℕ)) → args ≡ first ∷ rest → string_bytes first ≡ codes "--bytes" → rest ≡ text ∷ specs → shown.now ≡ string_bytes text
     → IsForm (words_of args) (Bytes shown) × HasSpecs (words_of args) (words_of specs)
@@ -49,7 +50,7 @@ bytes_form args rest specs first text shown e named more is =
 
 pub table_form : {S : Type 0} (args rest : List (String S)) (first : String S) → args ≡ first ∷ rest → string_bytes first ≢ codes "--svg" → string_bytes first ≢ codes "--bytes" → IsForm (words_of args) Table × HasSpecs (words_of args) (words_of args)
 table_form args rest first e svg bytes = subst (λ xs. IsForm (words_of xs) Table × HasSpecs (words_of xs) (words_of xs)) (sym e)
-    (λ text asked. let same : string_bytes first ≡ codes "--bytes" = let h = asked.1 in cc in bytes same, inr (inr (svg, bytes, refl)))
+    ((λ asked. let same : string_bytes first ≡ codes "--svg" = let h = asked.1 in cc in svg same, λ asked. let same : string_bytes first ≡ codes "--bytes" = let h = asked.1 in cc in bytes same), inr (inr (svg, bytes, refl)))
 
 pub no_bytes_form : {S : Type 0} (args rest : List (String S)) (first : String S) → args ≡ first ∷ rest → string_bytes first ≡ codes "--bytes" → length rest ≡ 0 → (specs : List (List ℕ)) → HasSpecs (words_of args) specs → ⊥
 no_bytes_form args [] first e named none specs h = go (subst (λ xs. HasSpecs (words_of xs) specs) e h)
@@ -67,13 +68,24 @@ are_named words specs fields h some named = record { specs = specs; behind = h; 
 pub none_named : (words specs : List (List ℕ)) → HasSpecs words specs → ((fields : List Field) → AllZip Names specs fields → ⊥) → AreNoForm words
 none_named words specs h none fields named = none fields (subst (λ ws. AllZip Names ws fields) (one_form words named.specs specs named.behind h) named.named)
 
-pub empty_named : (words specs : List (List ℕ)) → HasSpecs words specs → length specs ≡ 0 → AreNoForm words
-empty_named words specs h none fields named = let same = ap length (one_form words named.specs specs named.behind h) in omega (arith, same, named.some)
+pub empty_named : (words specs : List (List ℕ)) → HasSpecs words specs → length specs ≡ 0 → HaveNoSpecs words
+empty_named words [] h none other k = one_form words other [] k h
+empty_named words (s ∷ specs) h none other k = absurd (omega arith)
 
 -- ---- what is shown
+-- words that begin with `--svg` ask for an SVG
+pub svg_asked : (words : List (List ℕ)) (form : Form) → IsForm words form → BeginsWith (codes "--svg") words → form ≡ Svg
+svg_asked words Table is svg = absurd (is.0 svg)
+svg_asked words Svg is svg = refl
+svg_asked words (Bytes t) is svg = let same : codes "--svg" ≡ codes "--bytes" = let a = is.1 in let b = svg.1 in cc in absurd (two_words (codes "--svg") refl same)
+
+-- an SVG with more after it is one
+pub more_svg : (front more : List ℕ) → IsSvg front → IsSvg (front ++ more)
+more_svg front more is = (is.0 ++ more, ap (λ t. t ++ more) is.1 ∙ append_assoc (codes "<svg ") is.0 more)
+
 pub shown_by : (words : List (List ℕ)) (form : Form) (fields : List Field) → IsForm words form → HasShown form fields → (text : List ℕ) → AsksForBytes words text → HasValues fields text
-shown_by words Table fields is h text asked = absurd (is text asked)
-shown_by words Svg fields is h text asked = absurd (is text asked)
+shown_by words Table fields is h text asked = absurd (is.1 (text ∷ asked.0, asked.1))
+shown_by words Svg fields is h text asked = let same : codes "--svg" ≡ codes "--bytes" = let a = is.1 in let b = asked.1 in cc in absurd (two_words (codes "--svg") refl same)
 shown_by words (Bytes t) fields is h text asked = let same : t.now ≡ text = let a = is.1 in let b = asked.1 in cc in subst (λ x. HasValues fields x) same h
 
 pub stopped_by : (words : List (List ℕ)) (form : Form) (fields : List Field) (e : Failure) → AreNamed words fields → IsForm words form → HasNotShown form fields e → IsFailure words e
@@ -88,23 +100,6 @@ stopped_by words (Bytes t) fields (NoField w) named is (inr (inr h)) = absurd (c
 stopped_by words (Bytes t) fields BadText named is h = inr (inl (record { fields = fields; named = named; text = t.now; asked = is; stop = h }))
 stopped_by words (Bytes t) fields (Fault f) named is h = inr (inl (record { fields = fields; named = named; text = t.now; asked = is; stop = h }))
 
--- ---- statuses
-pub fails : (words : List (List ℕ)) (a b : Option (List ℕ)) (e : Failure) → RunEnds words a b e → status_of e ≡ 2 → IsFailure words e
-fails words a b e (inl h) two = h.0
-fails words a b e (inr h) two = let one : status_of e ≡ 1 = ap status_of h.1 in absurd (omega (arith, one, two))
-
-pub no_form : (words : List (List ℕ)) (e : Failure) → IsFailure words e → status_of e ≡ 2 → AreNoForm words
-no_form words Usage h two = h
-no_form words (NoField w) h two = h.0
-no_form words BadText h two = absurd (omega arith)
-no_form words (Fault f) h two = absurd (omega arith)
-
-pub some_status : (e : Failure) → status_of e ≡ 0 → ⊥
-some_status Usage z = omega arith
-some_status (NoField w) z = omega arith
-some_status BadText z = omega arith
-some_status (Fault f) z = omega arith
-
 -- fields that the words name, and no memory for them
 pub named_stop : (words specs : List (List ℕ)) (e : Failure) → NameFields specs → ((status_of e ≡ 2) × ((fields : List Field) → AllZip Names specs fields → ⊥)) ⊎ (e ≡ Fault (Io OutOfMemory)) → IsFailure words e
 named_stop words specs e are (inl none) = absurd (none.1 are.0 are.1)
@@ -115,25 +110,38 @@ pub split_named : (words specs : List (List ℕ)) (form : Form) → IsSplit word
 split_named words specs form split none = none split.named.0 (record { specs = specs; behind = split.behind; some = split.some; named = split.named.1 })
 
 -- ---- words
--- a text is one of the words
-pub contains_word : {S : Type 0} (texts : List (String S)) (i : ℕ) (d : String S) → i < length texts → Contains (words_of texts) (string_bytes (get_or texts i d))
-contains_word [] i d l = absurd (omega arith)
-contains_word (t ∷ texts) zero d l = (0, omega arith, refl)
-contains_word (t ∷ texts) (suc i) d l = let k = contains_word texts i d (omega arith) in (suc k.0, omega (arith, k.1), k.2)
-
--- a word of those of the fields is one of all words
-contains_specs : (words specs : List (List ℕ)) (w : List ℕ) → HasSpecs words specs → Contains specs w → Contains words w
-contains_specs [] specs w h k = absurd h
-contains_specs (word ∷ words) specs w (inl p) k = let k = subst (λ ws. Contains ws w) p.1 k in (suc k.0, omega (arith, k.1), k.2)
-contains_specs (word ∷ words) specs w (inr (inl p)) k = subst (λ ws. Contains (word ∷ ws) w) (sym p.2) (suc (suc k.0), omega (arith, k.1), k.2)
-contains_specs (word ∷ words) specs w (inr (inr p)) k = subst (λ ws. Contains ws w) p.2 k
+-- a text among others
+pub at_word : {S : Type 0} (texts : List (String S)) (i : ℕ) (d : String S) → i < length texts → words_of texts ≡ words_of (take i texts) ++ string_bytes (get_or texts i d) ∷ words_of (drop (suc i) texts)
+at_word [] i d l = absurd (omega arith)
+at_word (t ∷ texts) zero d l = refl
+at_word (t ∷ texts) (suc i) d l = ap (λ ws. string_bytes t ∷ ws) (at_word texts i d (omega arith))
 
 -- where one of the words names no field, the words name no fields
-none_at : (specs : List (List ℕ)) (fields : List Field) (w : List ℕ) (k : ℕ) → k < length specs → slice_index_or specs k w ≡ w → ((f : Field) → Names w f → ⊥) → AllZip Names specs fields → ⊥
-none_at [] fields w k l e none named = absurd (omega arith)
-none_at (s ∷ specs) [] w k l e none named = absurd named
-none_at (s ∷ specs) (f ∷ fields) w zero l e none named = none f (subst (λ x. Names x f) e named.0)
-none_at (s ∷ specs) (f ∷ fields) w (suc k) l e none named = none_at specs fields w k (omega arith) e none named.1
+none_in : (before after : List (List ℕ)) (w : List ℕ) (fields : List Field) → ((f : Field) → Names w f → ⊥) → AllZip Names (before ++ w ∷ after) fields → ⊥
+none_in [] after w [] none named = absurd named
+none_in [] after w (f ∷ fields) none named = none f named.0
+none_in (b ∷ before) after w [] none named = absurd named
+none_in (b ∷ before) after w (f ∷ fields) none named = none_in before after w fields none named.1
 
-pub unnamed_form : (words specs : List (List ℕ)) (w : List ℕ) → HasSpecs words specs → IsUnnamed specs w → AreNoForm words × IsUnnamed words w
-unnamed_form words specs w h un = (none_named words specs h (λ fields named. none_at specs fields w un.0.0 un.0.1 un.0.2 un.1 named), (contains_specs words specs w h un.0, un.1))
+pub unnamed_form : (words : List (List ℕ)) (w : List ℕ) → HasUnnamed words w → AreNoForm words
+unnamed_form words w un = none_named words un.0 un.1 (λ fields named. none_in un.2.before un.2.after w fields un.2.none (subst (λ ws. AllZip Names ws fields) un.2.is named))
+
+-- words without those of fields name none
+pub without_specs : (words : List (List ℕ)) → HaveNoSpecs words → AreNoForm words
+without_specs words none fields named = let same = ap length (none named.specs named.behind) in omega (arith, same, named.some)
+
+-- ---- statuses
+-- an error that is so is so otherwise
+pub err_so : {T E : Type 0} (r : Result T E) (P Q : E → Type 0) → IsErrAnd r P → ((e : E) → P e → Q e) → IfErr r Q
+err_so (Ok t) P Q h so = absurd h
+err_so (Err e) P Q h so = so e h
+
+pub fails : (words : List (List ℕ)) (a b : Option (List ℕ)) (e : Failure) → RunEnds words a b e → status_of e ≡ 2 → IsFailure words e
+fails words a b e (inl h) two = h.0
+fails words a b e (inr h) two = let one : status_of e ≡ 1 = ap status_of h.2 in absurd (omega (arith, one, two))
+
+pub no_form : (words : List (List ℕ)) (e : Failure) → IsFailure words e → status_of e ≡ 2 → AreNoForm words
+no_form words Usage h two = without_specs words h
+no_form words (NoField w) h two = unnamed_form words w.now h
+no_form words BadText h two = absurd (omega arith)
+no_form words (Fault f) h two = absurd (omega arith)

@@ -1,10 +1,10 @@
 -- What a run of the program does: the words that it is given, and what it draws of them.
-use Rattle.std.specs.Prelude.{◌≡◌, ◌⊎◌, ℕ, ◌<◌, List, [], ◌∷◌, ◌++◌, length, Ok, Err, Option, IfSome, codes, ⊤}
+use Rattle.std.specs.Prelude.{◌≡◌, ◌≢◌, ◌⊎◌, ℕ, ◌<◌, List, [], ◌∷◌, ◌++◌, length, Ok, Err, Option, IfSome, codes, ⊤}
 use Rattle.std.specs.Fmt.{debug_str}
 use Rattle.std.specs.Global.{Vec}
 use Rattle.std.specs.Io.KnownBytes.{Appends}
 use Rattle.std.specs.declared.io.ErrorKind.{ErrorKind}
-use Rattle.std.specs.declared.io.ErrorKind.TheVariants.{OutOfMemory}
+use Rattle.std.specs.declared.io.ErrorKind.TheVariants.{Interrupted, OutOfMemory}
 use Rattle.hex.specs.Hex.{decode_of}
 use Rattle.hex.specs.declared.error.FromHexError.{FromHexError}
 use Rattle.deku_bits.specs.declared.error.DekuError.{DekuError}
@@ -17,17 +17,23 @@ use Rattle.deku_fields.specs.Runs.{line, fault_line, IsBegun, IsCutShort}
 use Rattle.deku_picture.specs.declared.program.Failure.{Failure}
 use Rattle.deku_picture.specs.declared.program.Failure.TheVariants.{Usage, NoField, BadText, Fault}
 use Rattle.deku_picture.specs.declared.program.Form.{Form}
-use Rattle.deku_picture.specs.declared.program.Form.TheVariants.{Bytes}
-use Rattle.deku_picture.specs.Names.{HasSpecs, AreNamed, AreNoForm, NameFields, IsUnnamed}
+use Rattle.deku_picture.specs.declared.program.Form.TheVariants.{Table, Svg, Bytes}
+use Rattle.deku_picture.specs.Names.{HasSpecs, AreNamed, NameFields, HasUnnamed, HaveNoSpecs}
 
 -- The words ask for the bits of the bytes that this text gives.
 abbrev pub AsksForBytes : List (List ℕ) → List ℕ → Type 0
 AsksForBytes words text = (specs : List (List ℕ)) × (words ≡ codes "--bytes" ∷ text ∷ specs)
 
--- What is drawn is what the words ask for: the bits of these bytes, or no bytes.
+-- The first of the words is this one.
+abbrev pub BeginsWith : List ℕ → List (List ℕ) → Type 0
+BeginsWith first words = (rest : List (List ℕ)) × (words ≡ first ∷ rest)
+
+-- What is drawn is what the words ask for: after `--bytes` the bits of these bytes, after `--svg`
+-- an SVG, and else a table.
 abbrev pub IsForm : List (List ℕ) → Form → Type 0
+IsForm words Table = (BeginsWith (codes "--svg") words → ⊥) × (BeginsWith (codes "--bytes") words → ⊥)
+IsForm words Svg = BeginsWith (codes "--svg") words
 IsForm words (Bytes text) = AsksForBytes words text.now
-IsForm words form = (text : List ℕ) → AsksForBytes words text → ⊥
 
 -- What is drawn, and the words of the fields. There is at least one of them, and each names a
 -- field.
@@ -60,16 +66,26 @@ pub record AreDrawn (words : List (List ℕ)) : Type 0 where
   pub drawable : AreDrawable fields
   pub shown : (text : List ℕ) → AsksForBytes words text → HasValues fields text
 
+-- The text begins as an SVG does.
+abbrev pub IsSvg : List ℕ → Type 0
+IsSvg text = (rest : List ℕ) × (text ≡ codes "<svg " ++ rest)
+
+-- The text is an SVG if the words ask for one.
+abbrev pub IsOfForm : List (List ℕ) → List ℕ → Type 0
+IsOfForm words text = BeginsWith (codes "--svg") words → IsSvg text
+
 -- The words are drawn, and their picture was written to the output.
 pub record IsDone (words : List (List ℕ)) (before after : Option (List ℕ)) : Type 0 where
   pub drawn : AreDrawn words
   pub text : List ℕ
+  pub form : IsOfForm words text
   pub given : Appends before after text
 
 -- The words are drawn, and their picture was not written to the output to its end.
 pub record IsUnfinished (words : List (List ℕ)) (before after : Option (List ℕ)) : Type 0 where
   pub drawn : AreDrawn words
   pub text : List ℕ
+  pub form : IsOfForm words text
   pub cut : IsCutShort before after text
 
 -- ---- failures
@@ -110,16 +126,17 @@ pub record BytesStop (words : List (List ℕ)) (e : Failure) : Type 0 where
 abbrev pub Stops : List (List ℕ) → Failure → Type 0
 Stops words e = HaveNoPicture words e ⊎ BytesStop words e ⊎ (e ≡ Fault (Io OutOfMemory))
 
--- What ends a run before the output: with 2, since the words are of no form, or with 1. A word that
--- is printed names no field.
+-- What ends a run before the output: with 2, since there are no words of fields or one of them names
+-- no field, or with 1. A word that is printed is the first of these that names no field.
 abbrev pub IsFailure : List (List ℕ) → Failure → Type 0
-IsFailure words Usage = AreNoForm words
-IsFailure words (NoField word) = AreNoForm words × IsUnnamed words word.now
+IsFailure words Usage = HaveNoSpecs words
+IsFailure words (NoField word) = HasUnnamed words word.now
 IsFailure words e = Stops words e
 
--- The output failed, and was not given the picture to its end.
+-- The output failed, and was not only interrupted: it was not given the picture to
+-- its end.
 abbrev pub OutputStops : List (List ℕ) → Option (List ℕ) → Option (List ℕ) → Failure → Type 0
-OutputStops words before after e = (kind : ErrorKind) × (e ≡ Fault (Io kind)) × IsUnfinished words before after
+OutputStops words before after e = (kind : ErrorKind) × (kind ≢ Interrupted) × (e ≡ Fault (Io kind)) × IsUnfinished words before after
 
 -- The run is prevented before the output is given any text, or the output fails.
 abbrev pub RunEnds : List (List ℕ) → Option (List ℕ) → Option (List ℕ) → Failure → Type 0
@@ -162,8 +179,8 @@ IsMessage (Fault fault) text = text ≡ fault_line fault []
 abbrev pub IsTold : Failure → Option (List ℕ) → Option (List ℕ) → Type 0
 IsTold e before after = (text : List ℕ) × IsMessage e text × IsBegun before after text
 
--- The words are of no form, and what `errors` took is a beginning of the usage. One of the words
--- that names no field may follow the usage.
+-- The words are of no form, and what `errors` took is a beginning of the usage. The first of the
+-- words of fields that names no field may follow the usage.
 pub record IsUsageTold (words : List (List ℕ)) (before after : Option (List ℕ)) : Type 0 where
   pub failure : Failure
   pub fails : IsFailure words failure

@@ -1,7 +1,7 @@
 -- The words of fields with names before them.
 use Rattle.std.specs.Prelude.{◌≡◌, ◌≢◌, ◌⊎◌, ℕ, ◌<◌, List, [], ◌∷◌, ◌++◌, length, All, codes}
 use Rattle.std.specs.Char.{IsAsciiAlphanumeric}
-use Rattle.std.specs.List.{AllZip, Contains}
+use Rattle.std.specs.List.{AllZip}
 use Rattle.deku_fields.specs.declared.list.Field.{Field}
 use Rattle.deku_fields.specs.Naming.{NamesField}
 
@@ -43,6 +43,18 @@ AreNoForm words = (fields : List Field) → AreNamed words fields → ⊥
 abbrev pub NameFields : List (List ℕ) → Type 0
 NameFields words = (fields : List Field) × AllZip Names words fields
 
--- The word is one of the words, and names no field.
-abbrev pub IsUnnamed : List (List ℕ) → List ℕ → Type 0
-IsUnnamed words word = Contains words word × ((f : Field) → Names word f → ⊥)
+-- The word is the first of the words that names no field.
+pub record IsUnnamed (words : List (List ℕ)) (word : List ℕ) : Type 0 where
+  pub before : List (List ℕ)
+  pub after : List (List ℕ)
+  pub is : words ≡ before ++ word ∷ after
+  pub named : NameFields before
+  pub none : (f : Field) → Names word f → ⊥
+
+-- The word is the first of the words of the fields that names no field.
+abbrev pub HasUnnamed : List (List ℕ) → List ℕ → Type 0
+HasUnnamed words word = (specs : List (List ℕ)) × HasSpecs words specs × IsUnnamed specs word
+
+-- There are no words of fields.
+abbrev pub HaveNoSpecs : List (List ℕ) → Type 0
+HaveNoSpecs words = (specs : List (List ℕ)) → HasSpecs words specs → specs ≡ []

@@ -1,6 +1,6 @@
 //! The program: from words on a command line to a picture.
 
-ghost use Rattle.std.specs.Prelude.{◌≡◌, ◌⊎◌, ◌≤◌, ◌<◌, ℕ, List, [], map, length, IfOk, IfErr, OnOk, OnErr, MatchOption};
+ghost use Rattle.std.specs.Prelude.{◌≡◌, ◌⊎◌, ◌≤◌, ◌<◌, ℕ, List, [], map, length, IfOk, IfErr, OnOk, OnErr, MatchOption, string_bytes};
 ghost use Rattle.std.specs.Result.{IsErrAnd};
 ghost use Rattle.std.specs.List.{AllZip};
 ghost use Rattle.std.specs.IoError.{error_kind};
@@ -10,7 +10,8 @@ ghost use Rattle.deku_fields.specs.declared.list.Field.{Field as ListField};
 ghost use Rattle.deku_fields.specs.Runs.{words_of};
 ghost use Rattle.deku_picture.specs.declared.program.Failure.TheVariants.{Fault};
 ghost use Rattle.deku_picture.specs.Names.{Names, HasSpecs, NameFields, AreNoForm, IsUnnamed};
-ghost use Rattle.deku_picture.specs.Drawn.{status_of, AreDrawn, IsForm, IsSplit, IsSample, HasNoValues, HasShown, HasNotShown, IsDone, IsUnfinished, IsStopped, IsFailure, RunEnds, TellsWord, IsTold, IsUsageTold};
+ghost use Rattle.deku_picture.specs.declared.program.Form.TheVariants.{Svg};
+ghost use Rattle.deku_picture.specs.Drawn.{status_of, AreDrawn, IsSvg, IsOfForm, IsForm, IsSplit, IsSample, HasNoValues, HasShown, HasNotShown, IsDone, IsUnfinished, IsStopped, IsFailure, RunEnds, TellsWord, IsTold, IsUsageTold};
 
 use crate::cell::rows;
 use crate::drawing::{Drawing, Sample};
@@ -90,7 +91,7 @@ enum Form<'a> {
 /// in them. Each SPEC may have a name before it, as `name:SPEC`.
 ///
 /// A run that does not succeed prints one line to `errors`. With status 2 it is the usage, and the
-/// word that names no field, if there is one and memory to show it. With status 1 it is
+/// first word that names no field, if there is one and memory to show it. With status 1 it is
 /// `error: bad hexadecimal text`, or `error: ` and the text of the error. The words are checked
 /// before the bytes and before any memory is taken. Nothing is printed to the output until all of
 /// the picture is known, so a run that does not succeed prints nothing to it except what a failing
@@ -185,6 +186,7 @@ fn command<'a, W: Write>(
 // The picture that the words ask for.
 fn drawn(alloc: Global, args: &[String]) -> Result<String, Failure<'_>>
     ensures drawn { OnOk result (AreDrawn (words_of args.now)) }
+    ensures form { IfOk result (λ text. IsOfForm (words_of args.now) (string_bytes text)) }
     ensures formed { AreNoForm (words_of args.now) → IsErrAnd result (λ e. status_of e ≡ 2) }
     ensures stops { IfErr result (IsFailure (words_of args.now)) }
 {
@@ -199,11 +201,18 @@ fn drawn(alloc: Global, args: &[String]) -> Result<String, Failure<'_>>
         rows,
         sample,
     };
-    let text = match form {
-        Form::Svg => svg(alloc, &drawing)?,
-        Form::Table | Form::Bytes(_) => table(alloc, &drawing)?,
-    };
+    let text = text_of(alloc, form, &drawing)?;
     Ok(text)
+}
+
+// The drawing in this form.
+fn text_of(alloc: Global, form: Form, drawing: &Drawing) -> Result<String, AllocError>
+    ensures { IfOk result (λ text. form.entry ≡ Svg → IsSvg (string_bytes text)) }
+{
+    match form {
+        Form::Svg => svg(alloc, drawing),
+        Form::Table | Form::Bytes(_) => table(alloc, drawing),
+    }
 }
 
 // What is drawn, and the words of the fields, each of which names one. This takes no memory, so
@@ -291,10 +300,10 @@ fn sample_of<'a>(alloc: Global, form: Form, fields: &[Field]) -> Result<Option<S
     ensures stops { IfErr result (HasNotShown form.entry fields.now) }
 {
     match form {
-        Form::Bytes(text) => match sample(alloc, text, fields) {
-            Ok(sample) => Ok(Some(sample)),
-            Err(failure) => Err(failure),
-        },
+        Form::Bytes(text) => {
+            let sample = sample(alloc, text, fields)?;
+            Ok(Some(sample))
+        }
         Form::Table => Ok(None),
         Form::Svg => Ok(None),
     }

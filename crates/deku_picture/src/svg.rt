@@ -1,5 +1,8 @@
 //! Pictures as SVG.
 
+ghost use Rattle.std.specs.Prelude.{IfOk, string_bytes};
+ghost use Rattle.deku_picture.specs.Drawn.{IsSvg};
+
 use crate::cell::Cell;
 use crate::drawing::{Drawing, byte_count, byte_number, push_fields};
 use crate::label::{Label, Lines, labels, line_of, lines_of};
@@ -50,7 +53,9 @@ impl Point {
 
 /// A picture as SVG, 660 pixels wide. It has for each row the numbers of its bytes and of their
 /// bits, and its cells; and then a line for each field.
-pub fn svg(alloc: Global, drawing: &Drawing) -> Result<String, AllocError> {
+pub fn svg(alloc: Global, drawing: &Drawing) -> Result<String, AllocError>
+    ensures { IfOk result (λ text. IsSvg (string_bytes text)) }
+{
     let mut body = String::new(alloc);
     let mut at = Point {
         x: MARGIN,
@@ -73,7 +78,9 @@ pub fn svg(alloc: Global, drawing: &Drawing) -> Result<String, AllocError> {
 }
 
 // The whole picture, made of a body and its height.
-fn framed(alloc: Global, height: usize, body: &String) -> Result<String, AllocError> {
+fn framed(alloc: Global, height: usize, body: &String) -> Result<String, AllocError>
+    ensures { IfOk result (λ text. IsSvg (string_bytes text)) }
+{
     let mut text = String::new(alloc);
     write!(
         text,

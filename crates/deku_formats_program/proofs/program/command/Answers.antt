@@ -38,4 +38,4 @@ returns-in_err-give_text-clause-ends g c =
     let unfinished : IsUnfinished ghosts.tells (words_of c.args.args.now) (g.R.Read.remaining c.args.input.now) (told c.args.output.now) (told c.give_text.new.output) =
     record { text = string_bytes c.in_ok-text.text; asked = (c.in-Some.form, c.in-Some.ensures, c.in_ok-text.ensures.shown); cut = cut } in
     err_so c.from_residual-in_err-give_text.result _ (RunEnds ghosts.tells ghosts.stops (words_of c.args.args.now) (g.R.Read.remaining c.args.input.now) (told c.args.output.now) (told c.give_text.new.output))
-    c.from_residual-in_err-give_text.ensures.1 (λ e is. inr (_, is, unfinished))
+    c.from_residual-in_err-give_text.ensures.1 (λ e is. inr (_, c.in_err-give_text.ensures.tried, is, unfinished))

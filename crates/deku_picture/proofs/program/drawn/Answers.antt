@@ -6,7 +6,7 @@ use Rattle.deku_fields.specs.Runs.{words_of}
 use Rattle.deku_picture.specs.declared.words.Named.{Named}
 use Rattle.deku_picture.specs.Names.{Names, AreNamed}
 use Rattle.deku_picture.specs.Drawn.{HasShown, HasNotShown, IsFailure}
-use Rattle.deku_picture.proofs.Forms.{are_named, shown_by, stopped_by, named_stop, split_named}
+use Rattle.deku_picture.proofs.Forms.{are_named, shown_by, stopped_by, named_stop, split_named, svg_asked}
 use Rattle.deku_picture.proofs.program.drawn.Goals as goal
 
 pub returns-in_err-named-clause-stops : goal.returns-in_err-named-clause-stops
@@ -56,11 +56,11 @@ returns-in_err-rows-clause-formed c none = absurd (split_named (words_of c.args.
 pub returns-in_err-sample-clause-formed : goal.returns-in_err-sample-clause-formed
 returns-in_err-sample-clause-formed c none = absurd (split_named (words_of c.args.args.now) (words_of c.in_ok-form.specs.now) c.in_ok-form.form c.in_ok-form.ensures.split none)
 
-pub returns-in_err-text-in-Svg-clause-formed : goal.returns-in_err-text-in-Svg-clause-formed
-returns-in_err-text-in-Svg-clause-formed c none = absurd (split_named (words_of c.args.args.now) (words_of c.in_ok-form.specs.now) c.in_ok-form.form c.in_ok-form.ensures.split none)
-
-pub returns-in_err-text-in-Table-clause-formed : goal.returns-in_err-text-in-Table-clause-formed
-returns-in_err-text-in-Table-clause-formed c none = absurd (split_named (words_of c.args.args.now) (words_of c.in_ok-form.specs.now) c.in_ok-form.form c.in_ok-form.ensures.split none)
+pub returns-in_err-text-clause-formed : goal.returns-in_err-text-clause-formed
+returns-in_err-text-clause-formed c none = absurd (split_named (words_of c.args.args.now) (words_of c.in_ok-form.specs.now) c.in_ok-form.form c.in_ok-form.ensures.split none)
 
 pub returns-clause-formed : goal.returns-clause-formed
 returns-clause-formed c none = absurd (split_named (words_of c.args.args.now) (words_of c.in_ok-form.specs.now) c.in_ok-form.form c.in_ok-form.ensures.split none)
+
+pub returns-clause-form : goal.returns-clause-form
+returns-clause-form c svg = c.in_ok-text.ensures (svg_asked (words_of c.args.args.now) c.in_ok-form.form c.in_ok-form.ensures.split.asked svg)
