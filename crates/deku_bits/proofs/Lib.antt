@@ -21,6 +21,7 @@ pub use Rattle.deku_stream.proofs.Words
 pub use Rattle.deku_stream.proofs.BitPlaces
 pub use Rattle.deku_stream.proofs.Overlays
 pub use Rattle.deku_stream.proofs.Holding
+pub use Rattle.deku_stream.proofs.EightBytes
 pub use Rattle.deku_reader.proofs.Moving
 pub use Rattle.deku_reader.proofs.Skips
 pub use Rattle.deku_reader.proofs.Handouts

@@ -366,6 +366,7 @@ impl<R: Source> Reader<R> {
         ensures takes { IfSome result (λ number. Reads R.known (TakesBits Msb0 amt) self.old
             (Ok (bits_of amt number)) self.new) }
         ensures below { IfSome result (λ number. number < 2 ^ amt) }
+        ensures held { IfSome result (λ number. length (unread_of self.old) ≤ 8) }
         ensures fetched { IfSome result (λ number. Fetched R.known amt self.old self.new) }
         ensures early { FetchedInTime self.old self.new }
         ensures still { KeepsSourceFor amt self.old self.new }

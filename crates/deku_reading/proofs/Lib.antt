@@ -8,3 +8,5 @@ pub mod Judging
 pub mod Counting
 pub mod Collecting
 pub mod Bytes
+pub mod Ahead
+pub mod ByteRuns

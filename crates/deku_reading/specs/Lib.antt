@@ -1,3 +1,4 @@
+pub mod Ahead
 pub mod Early
 pub mod Lists
 pub mod Limits

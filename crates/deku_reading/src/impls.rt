@@ -3,6 +3,8 @@
 mod array;
 mod bool;
 mod boxed;
+mod bytes;
+mod counted;
 mod cow;
 mod gather;
 mod hashmap;

@@ -1,9 +1,10 @@
 //! The trait of types that can be read.
 
-ghost use Rattle.std.specs.Prelude.{Option, Result, OnOk, ⊤};
+ghost use Rattle.std.specs.Prelude.{◌≤◌, Option, Result, OnOk, ⊤};
 ghost use Rattle.deku_bits.specs.Streams.{Stream};
 ghost use Rattle.deku_bits.specs.Outcomes.{Meaning};
 ghost use Rattle.deku_bits.specs.ReaderCalls.{Reads};
+ghost use Rattle.deku_reading.specs.Ahead.{ReadsOnto};
 ghost use Rattle.deku_reading.specs.Early.{NoReadAhead};
 
 use deku_bits::device::Source;
@@ -42,4 +43,35 @@ pub trait DekuReader<Ctx>: Drop {
         ensures reads { Reads R.known (meaning ctx) reader.old result reader.new }
         ensures early { OnOk result (no_read_ahead ctx → NoReadAhead R.known reader.old
             reader.new) };
+
+    /// Reads the next values, at most `most`, as long as they are in memory, and appends them to
+    /// the vector. Returns how many they are.
+    ///
+    /// The caller's condition: the type may be read under the context.
+    ///
+    /// They are what as many reads under the context return, and leave. It never fails: it stops
+    /// before a value that is not in memory or that there is no memory for, and may do so before
+    /// any value, as the default body does before the first. It makes room for at most 64 values
+    /// ahead.
+    ///
+    /// ```text
+    /// u8::try_read_onto(&mut reader, &mut bytes, 2, &())       // 2, from AA BB CC; then CC is next
+    /// ```
+    fn try_read_onto<R: Source>(
+        reader: &mut Reader<R>,
+        items: &mut Vec<Self>,
+        most: usize,
+        ctx: &Ctx,
+    ) -> usize
+    where
+        Self: Sized,
+        requires { accepts ctx.now }
+        ensures few { result ≤ most }
+        ensures reads { ReadsOnto R.known (meaning ctx.now) result items.old.items items.new.items
+            reader.old reader.new }
+        ensures early { no_read_ahead ctx.now → NoReadAhead R.known reader.old reader.new }
+    {
+        let _unread = most;
+        0
+    }
 }

@@ -203,6 +203,7 @@ impl ReaderState {
         ensures takes { IfSome result (λ number. ReadsAt (TakesBits Msb0 amt) (R.known source.old)
             self.old (Ok (bits_of amt number)) (R.known source.new) self.new) }
         ensures below { IfSome result (λ number. number < 2 ^ amt) }
+        ensures held { IfSome result (λ number. length (window_of self.old) ≤ 8) }
         ensures fetched { IfSome result (λ number. FetchesFor amt self.old (R.known source.old)
             (R.known source.new)) }
         ensures early { NoneEarly self.old self.new }

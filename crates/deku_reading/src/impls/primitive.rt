@@ -20,6 +20,7 @@ ghost use Rattle.deku_num.specs.Numbers.{width, byte, unsigned, signed};
 ghost use Rattle.deku_reading.specs.Early.{NoReadAhead};
 ghost use Rattle.deku_num.specs.NumberCalls.{ReadsUnsigned, ReadsNumber};
 
+use crate::impls::bytes::read_bytes_onto;
 use crate::traits::DekuReader;
 use deku_bits::device::Source;
 use deku_bits::error::DekuError;
@@ -48,6 +49,15 @@ impl<C: NumberCtx> DekuReader<C> for u8 {
     {
         let value = read_unsigned(reader, NumberType::U8, ctx.parts())?;
         Ok(value as u8)
+    }
+
+    fn try_read_onto<R: Source>(
+        reader: &mut Reader<R>,
+        items: &mut Vec<u8>,
+        most: usize,
+        ctx: &C,
+    ) -> usize {
+        read_bytes_onto(reader, items, most, ctx.parts())
     }
 }
 

@@ -8,6 +8,7 @@ ghost use Rattle.deku_bits.specs.Outcomes.{Mapped};
 ghost use Rattle.deku_bits.specs.ReaderCalls.{ReadsVec};
 ghost use Rattle.deku_reading.specs.Lists.{Seen};
 
+use crate::impls::counted::read_counted;
 use crate::impls::gather::gather_under;
 use crate::traits::DekuReader;
 use deku_bits::device::Source;
@@ -27,8 +28,8 @@ use std::alloc::Global;
 ///   then nothing is read;
 /// - otherwise, the error of the first item that fails; what was read before stays read.
 ///
-/// No memory is taken before the first item is read, so a count that is larger than the input costs
-/// nothing.
+/// Memory is taken for at most 64 items before the first of them is read, so a count that is larger
+/// than the input costs nothing.
 ///
 /// ```text
 /// let limit = Limit::new_count(2);                         // from 69 E9
@@ -47,7 +48,10 @@ impl<T: DekuReader<Ctx>, P: Predicate<T>, Ctx: Copy> DekuReader<(Limit<T, P>, Ct
         ctx: (Limit<T, P>, Ctx),
     ) -> Result<Self, DekuError> {
         let (limit, items) = ctx;
-        gather_under(Vec::new(reader.alloc()), reader, limit, items)
+        match limit {
+            Limit::Count(count) => read_counted(reader, count, items),
+            limit => gather_under(Vec::new(reader.alloc()), reader, limit, items),
+        }
     }
 }
 

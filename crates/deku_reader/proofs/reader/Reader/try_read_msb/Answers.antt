@@ -24,3 +24,6 @@ returns-clause-stopped g c = search rules
 
 pub returns-clause-alloc : goal.returns-clause-alloc
 returns-clause-alloc g c = search rules
+
+pub returns-clause-held : goal.returns-clause-held
+returns-clause-held g c = search rules

@@ -26,3 +26,9 @@ returns-clause-still g c =
     let n = c.args.amt in
     let may = admitted p.window p.tally.fault p.tally.count n (rw (← c.self.view_is) at c.in-Ok.ensures) in
     rw (← c.self.view_is, may.0) (needs_none p.window p.tally.count n _ _ may.1 c.try_read_msb.ensures.still)
+
+pub returns-clause-held : goal.returns-clause-held
+returns-clause-held g c =
+    let p = c.self.inside in
+    let may = admitted p.window p.tally.fault p.tally.count c.args.amt (rw (← c.self.view_is) at c.in-Ok.ensures) in
+    rw (← c.self.view_is, may.0) c.self.invariant

@@ -1,0 +1,43 @@
+//! Items that a count ends, read into a vector.
+
+ghost use Rattle.std.specs.Prelude.{◌≡◌, OnOk};
+ghost use Rattle.deku_bits.specs.ReaderCalls.{Reads};
+ghost use Rattle.deku_reading.specs.Early.{NoReadAhead};
+ghost use Rattle.deku_reading.specs.Limits.{ReadsCount, MappedBy};
+
+use crate::traits::DekuReader;
+use deku_bits::device::Source;
+use deku_bits::error::DekuError;
+use deku_bits::reader::Reader;
+use std::io::ErrorKind;
+
+/// Reads exactly this many items into a new vector. Those that are in memory may be read at once.
+///
+/// The caller's condition: the items may be read under the context.
+///
+/// It fails as the first item that fails, or with `Io(OutOfMemory)` if there is no memory for an
+/// item; the reader is then after that item.
+pub fn read_counted<T: DekuReader<C>, C: Copy, R: Source>(
+    reader: &mut Reader<R>,
+    count: usize,
+    ctx: C,
+) -> Result<Vec<T>, DekuError>
+    requires { T.accepts ctx }
+    ensures reads { Reads R.known (MappedBy (λ xs v. v.items ≡ xs) (ReadsCount count
+        (T.meaning ctx))) reader.old result reader.new }
+    ensures early { OnOk result (T.no_read_ahead ctx → NoReadAhead R.known reader.old reader.new) }
+{
+    let mut items = Vec::new(reader.alloc());
+    let mut left = count;
+    while left > 0 {
+        left -= T::try_read_onto(reader, &mut items, left, &ctx);
+        if left > 0 {
+            let item = T::from_reader_with_ctx(reader, ctx)?;
+            let Ok(()) = items.push(item) else {
+                return Err(DekuError::Io(ErrorKind::OutOfMemory));
+            };
+            left -= 1;
+        }
+    }
+    Ok(items)
+}
