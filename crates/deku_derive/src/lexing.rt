@@ -17,6 +17,7 @@ pub(crate) fn first_token(rest: &[u8]) -> (Kind, usize)
         b'\'' => apostrophe(rest),
         b'0'..=b'9' => number(rest),
         b'b' => after_b(rest),
+        b'r' => after_r(rest),
         first if is_word(first) => (Kind::Name, run(rest, Class::Word)),
         _ => mark(rest),
     }
@@ -147,6 +148,18 @@ fn after_b(rest: &[u8]) -> (Kind, usize)
     };
     let (kind, len) = quoted(&rest[1..], kind);
     (kind, len + 1)
+}
+
+// A raw name, or a name that begins with r.
+fn after_r(rest: &[u8]) -> (Kind, usize)
+    requires { 0 < length rest.now }
+    ensures some { 0 < result.1 }
+    ensures within { result.1 ≤ length rest.now }
+{
+    match rest {
+        [_, b'#', first, ..] if is_word(*first) => (Kind::Name, 2 + run(&rest[2..], Class::Word)),
+        _ => (Kind::Name, run(rest, Class::Word)),
+    }
 }
 
 // A number up to the end of its word, with a part after a point if a digit follows the point.
