@@ -41,7 +41,7 @@ pub enum Kind {
 }
 
 /// A token, and where it is.
-#[derive(Clone, Copy, Debug, PartialEq, Eq)]
+#[derive(Clone, Copy)]
 pub struct Token<'a> {
     /// What it is.
     pub kind: Kind,
