@@ -2,14 +2,22 @@
 //! whose both directions are proved.
 #![tactic(auto)]
 
+mod checking;
 mod cursor;
-mod formula;
+mod fields;
+pub mod formula;
+mod kinds;
 mod lexing;
 pub mod literal;
+pub mod making;
+pub mod model;
 mod parsing;
 pub mod place;
+pub mod printing;
+mod reading;
 pub mod syntax;
+pub mod table;
 pub mod token;
 
-pub use formula::formula as formula_of;
+pub use checking::check;
 pub use parsing::parse;

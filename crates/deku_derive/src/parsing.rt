@@ -261,7 +261,7 @@ impl<'a> Parser<'a> {
             let variant = self.variant();
             match self.noted(variant)? {
                 Some(variant) => kinds.push(variant)?,
-                None => self.skip_part(),
+                None => self.skip_part("}"),
             }
             if !self.cursor.take_mark(",") {
                 self.cursor.mark("}")?;
@@ -331,7 +331,7 @@ impl<'a> Parser<'a> {
             let field = self.field(shape);
             match self.noted(field)? {
                 Some(field) => list.push(field)?,
-                None => self.skip_part(),
+                None => self.skip_part(close),
             }
             if !self.cursor.take_mark(",") {
                 self.cursor.mark(close)?;
@@ -343,13 +343,17 @@ impl<'a> Parser<'a> {
     }
 
     // Skips up to a comma, or to the end of what the part is in.
-    fn skip_part(&mut self) {
+    fn skip_part(&mut self, close: &str) {
+        let mut depth = 0usize;
         for _ in 0..self.cursor.left() {
-            let is_end = self.cursor.is_mark(",")
-                || self.cursor.is_mark("}")
-                || self.cursor.is_mark(")");
+            let is_end = self.cursor.is_mark(close) || depth == 0 && self.cursor.is_mark(",");
             if is_end {
                 break;
+            }
+            if self.cursor.is_mark("<") {
+                depth = depth.saturating_add(1);
+            } else if self.cursor.is_mark(">") {
+                depth = depth.saturating_sub(1);
             }
             self.cursor.skip_tree();
         }

@@ -128,8 +128,12 @@ fn last_line_len(before: &[u8]) -> usize
 // Lines that are longer than this in bytes are not quoted.
 const QUOTED: usize = 200;
 
+// How many complaints are shown.
+const SHOWN: usize = 100;
+
 /// Complaints as they are printed: for each `FILE:LINE:COLUMN: error: ` with the message, the line
-/// with a caret under the place, and a line of help. A line of more than 200 bytes is not quoted.
+/// with a caret under the place, and a line of help. A line of more than
+/// 200 bytes is not quoted, and only the first 100 complaints are shown.
 ///
 /// # Errors
 ///
@@ -149,7 +153,7 @@ pub fn told(
     complaints: &[Complaint],
 ) -> Result<String, AllocError> {
     let mut out = String::new(alloc);
-    for complaint in complaints {
+    for complaint in complaints.iter().take(SHOWN) {
         let place = place_of(text, complaint.span.start);
         let line = place.line;
         let column = place.column;
@@ -160,6 +164,10 @@ pub fn told(
         if !help.is_empty() {
             writeln!(out, "help: {help}")?;
         }
+    }
+    if complaints.len() > SHOWN {
+        let more = complaints.len() - SHOWN;
+        writeln!(out, "{more} more errors are not shown")?;
     }
     Ok(out)
 }
