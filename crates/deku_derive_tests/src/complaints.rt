@@ -16,19 +16,40 @@ const ROWS: [(&str, &str); 30] = [
 2:1 expected `use`, `const`, `struct` or `enum`, found `impl`
 3:20 expected `)`, found `1`",
     ),
-    ("struct A<T> { a: T }", "1:9 a record with types or lifetimes of its own"),
-    ("struct A { a: HashMap<u8, u8> }", "1:15 a type of other types that has no part here"),
+    (
+        "struct A<T> { a: T }",
+        "1:9 a record with types or lifetimes of its own",
+    ),
+    (
+        "struct A { a: HashMap<u8, u8> }",
+        "1:15 a type of other types that has no part here",
+    ),
     ("struct A { a: [u8] }", "1:18 a list that borrows its items"),
-    ("struct A { a: u8 } /* no end", "1:20 a text or a comment that has no end"),
-    ("struct Ä { a: u8 }", "1:8 a character that is no part of a description"),
-    ("struct A { é: u8, ü: u8 }", "1:12 a character that is no part of a description
-1:19 a character that is no part of a description"),
-    ("struct A { #[deku(cuont = 2)] a: u8 }", "1:19 unknown attribute `cuont`"),
+    (
+        "struct A { a: u8 } /* no end",
+        "1:20 a text or a comment that has no end",
+    ),
+    (
+        "struct Ä { a: u8 }",
+        "1:8 a character that is no part of a description",
+    ),
+    (
+        "struct A { é: u8, ü: u8 }",
+        "1:12 a character that is no part of a description
+1:19 a character that is no part of a description",
+    ),
+    (
+        "struct A { #[deku(cuont = 2)] a: u8 }",
+        "1:19 unknown attribute `cuont`",
+    ),
     (
         "struct A { #[deku(skip)] a: u8 }",
         "1:19 `skip` has no part here: a field without bits is not read back as it was written",
     ),
-    ("struct A { #[deku(bits = 9)] a: u8 }", "1:19 9 bits of a number of 8"),
+    (
+        "struct A { #[deku(bits = 9)] a: u8 }",
+        "1:19 9 bits of a number of 8",
+    ),
     (
         "struct A { #[deku(bits = 4, bytes = 1)] a: u8 }",
         "1:29 `bits` and `bytes` together",
@@ -53,16 +74,28 @@ const ROWS: [(&str, &str); 30] = [
         "struct A { #[deku(count = \"n\")] a: Vec<u8>, n: u8 }",
         "1:28 a name that is no field in front of this one, and no constant",
     ),
-    ("struct A { a: Vec<u8> }", "1:15 a `Vec` that does not say where it ends"),
-    ("struct A { a: Option<u8> }", "1:15 an `Option` without its condition"),
+    (
+        "struct A { a: Vec<u8> }",
+        "1:15 a `Vec` that does not say where it ends",
+    ),
+    (
+        "struct A { a: Option<u8> }",
+        "1:15 an `Option` without its condition",
+    ),
     (
         "struct A { #[deku(count = 3)] a: u8 }",
         "1:34 a length of a type that is no `Vec`",
     ),
-    ("struct A { a: f32, b: Other }", "1:15 a floating-point number has no part here
-1:23 a type that is neither in this file nor in its `use` lines"),
+    (
+        "struct A { a: f32, b: Other }",
+        "1:15 a floating-point number has no part here
+1:23 a type that is neither in this file nor in its `use` lines",
+    ),
     ("struct A; struct A;", "1:18 a second type of this name"),
-    ("struct A { a: u8, a: u8 }", "1:19 a second field, constant or value of this name"),
+    (
+        "struct A { a: u8, a: u8 }",
+        "1:19 a second field, constant or value of this name",
+    ),
     ("enum E { A }", "1:6 an enum that does not say its id"),
     (
         "#[deku(id_type = \"u8\")] enum E { #[deku(id = 1)] A, #[deku(id = 1)] B }",

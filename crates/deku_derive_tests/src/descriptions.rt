@@ -40,7 +40,10 @@ const TAKEN: [(&str, &str); 9] = [
         "use super::point::Point; use std::ffi::CString; const N: usize = 0x4;
          struct A { at: Point, all: [u8; N], #[deku(count = \"N - 1\")] some: Vec<u8>, n: CString }",
     ),
-    ("raw names", "struct A { r#type: u8, #[deku(count = \"type\")] x: Vec<u8> }"),
+    (
+        "raw names",
+        "struct A { r#type: u8, #[deku(count = \"type\")] x: Vec<u8> }",
+    ),
     (
         "an endian from the context",
         "#[deku(endian = \"endian\", ctx = \"endian: deku::ctx::Endian, n: u8\")]
