@@ -62,7 +62,12 @@ fn run(rt: &HostRuntime, matches: &ArgMatches<'_>) -> io::Result<bool> {
         }
     };
     if matches.get_flag("check") {
-        return check(rt, name, matches.get_str("MODULE").unwrap_or("-"), text.as_str());
+        return check(
+            rt,
+            name,
+            matches.get_str("MODULE").unwrap_or("-"),
+            text.as_str(),
+        );
     }
     match matches.get_str("output") {
         Some(path) => write(rt, path, text.as_str()),
