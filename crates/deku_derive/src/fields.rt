@@ -253,7 +253,7 @@ impl<'a> Checker<'a> {
         scope: &Scope<'a>,
     ) -> Result<Vec<Attribute<'a>>, AllocError> {
         let mut attributes = Vec::new(self.alloc);
-        for attribute in &head.attributes {
+        for attribute in head.attributes.iter().take(LIMIT) {
             let checked = match attribute.name.text {
                 "magic" => match self.magic(head)? {
                     Some(bytes) => Some(Attribute::Magic(bytes)),

@@ -178,6 +178,7 @@ impl<'a> Checker<'a> {
                     "a pattern of several ids has no part here",
                     "write a kind for each id, and `id_pat = \"_\"` for the rest",
                 )?;
+                return Ok(Id::Pattern);
             }
             return Ok(Id::Rest);
         }
@@ -225,7 +226,7 @@ impl<'a> Checker<'a> {
                 )?;
                 return Ok(());
             }
-            if earlier.id == case.id {
+            if earlier.id == case.id && case.id != Id::Pattern {
                 let message = "an id that another kind has";
                 self.complain(span, message, "write another `id`")?;
                 return Ok(());

@@ -83,6 +83,8 @@ pub struct Case<'a> {
 pub enum Id {
     /// One.
     Number(u64),
+    /// Those of a pattern, which has no part: no module is printed then.
+    Pattern,
     /// All that no other kind is under.
     Rest,
 }

@@ -5,7 +5,7 @@ use std::alloc::{AllocError, Global};
 use std::test::Fail;
 
 // A description, and the lines that begin with the name of its file.
-const ROWS: [(&str, &str); 30] = [
+const ROWS: [(&str, &str); 31] = [
     ("struct A { a: u8", "1:17 expected `}`, found the end"),
     ("struct A { a u8 }", "1:14 expected `:`, found `u8`"),
     ("struct A { a: u8 b: u8 }", "1:18 expected `}`, found `b`"),
@@ -108,6 +108,10 @@ const ROWS: [(&str, &str); 30] = [
     (
         "#[deku(id_type = \"u8\")] enum E { #[deku(id_pat = \"_\")] A(u8), #[deku(id = 1)] B }",
         "1:79 a kind after the one for all other ids",
+    ),
+    (
+        "#[deku(id_type = \"u8\")] enum E { #[deku(id_pat = \"2..=6\")] A, #[deku(id_pat = \"_\")] B }",
+        "1:41 a pattern of several ids has no part here",
     ),
     (
         "struct A { n: u8,\n\t#[deku(count = \"*n +\")] a: Vec<u8> }",
