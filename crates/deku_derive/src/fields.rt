@@ -3,6 +3,7 @@
 use crate::checking::{Checker, LIMIT};
 use crate::formula::formula;
 use crate::model::{Attribute, Field, Layout, Order};
+use crate::place::Span;
 use crate::reading::{
     Scope, address_bits, bits_of, foreign_name, is_of, number_bits, number_in, said, text_in,
     whole_bits,
@@ -59,7 +60,8 @@ impl<'a> Checker<'a> {
         let layout = self.layout(&head, outer)?;
         let bits = self.bits(&head, &kind)?;
         self.known(&kind)?;
-        self.needs(&head, &kind, span)?;
+        self.needs_length(&head, &kind, span)?;
+        self.needs_condition(&head, &kind, span)?;
         let attributes = self.attributes(&head, name, scope)?;
         if let Some(name) = name {
             self.once(name, scope)?;
@@ -195,54 +197,47 @@ impl<'a> Checker<'a> {
         }
     }
 
-    // Complains of a list without its length, an option without its condition, and the other way
-    // round.
-    fn needs(
+    // Complains of a list without its length, and of a length of something else.
+    fn needs_length(
         &mut self,
         head: &Head<'a>,
         kind: &Type<'a>,
-        span: crate::place::Span,
+        span: Span,
     ) -> Result<(), AllocError> {
-        let lengths = LENGTHS
-            .iter()
-            .filter(|name| said(head, name).is_some())
-            .count();
-        let is_list = is_of(kind, "Vec");
-        if is_list && lengths == 0 {
-            self.complain(
-                span,
+        let mut lengths = 0usize;
+        for name in &LENGTHS {
+            if said(head, name).is_some() {
+                lengths = lengths.saturating_add(1);
+            }
+        }
+        let (message, help) = match (is_of(kind, "Vec"), lengths) {
+            (true, 1) | (false, 0) => return Ok(()),
+            (true, 0) => (
                 "a `Vec` that does not say where it ends",
                 "write `count`, `until`, `bits_read`, `bytes_read` or `read_all`",
-            )?;
-        } else if is_list && lengths > 1 {
-            self.complain(
-                span,
-                "a `Vec` that says twice where it ends",
-                "leave one out",
-            )?;
-        } else if !is_list && lengths > 0 {
-            self.complain(
-                span,
-                "a length of a type that is no `Vec`",
-                "write `Vec<..>`",
-            )?;
-        }
-        let is_option = is_of(kind, "Option");
-        let has_condition = said(head, "cond").is_some();
-        if is_option && !has_condition {
-            self.complain(
-                span,
-                "an `Option` without its condition",
-                "write `cond = \"..\"`",
-            )?;
-        } else if !is_option && has_condition {
-            self.complain(
-                span,
+            ),
+            (true, _) => ("a `Vec` that says twice where it ends", "leave one out"),
+            (false, _) => ("a length of a type that is no `Vec`", "write `Vec<..>`"),
+        };
+        self.complain(span, message, help)
+    }
+
+    // Complains of an option without its condition, and of a condition of something else.
+    fn needs_condition(
+        &mut self,
+        head: &Head<'a>,
+        kind: &Type<'a>,
+        span: Span,
+    ) -> Result<(), AllocError> {
+        let (message, help) = match (is_of(kind, "Option"), said(head, "cond").is_some()) {
+            (true, true) | (false, false) => return Ok(()),
+            (true, false) => ("an `Option` without its condition", "write `cond = \"..\"`"),
+            (false, true) => (
                 "a condition of a type that is no `Option`",
                 "write `Option<..>`",
-            )?;
-        }
-        Ok(())
+            ),
+        };
+        self.complain(span, message, help)
     }
 
     // What else is said of a field.
