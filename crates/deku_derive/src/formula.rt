@@ -1,0 +1,233 @@
+//! What counts and conditions compute, from the texts that say it.
+
+ghost use Rattle.std.specs.Prelude.{◌≤◌, length};
+
+use crate::cursor::{Cursor, Stop};
+use crate::literal::integer;
+use crate::place::{Complaint, Span};
+use crate::syntax::{Expression, Operator};
+use crate::token::{Kind, Token, broken_tokens, tokens};
+use std::alloc::{AllocError, Global};
+
+// How deep expressions may be in one another.
+const DEPTH: usize = 32;
+
+/// What the expression in a text of an attribute computes, or what is wrong with it.
+///
+/// # Errors
+///
+/// `AllocError` if there is no memory.
+///
+/// ```text
+/// formula(alloc, text, token)?    // of "*length * 2": the field `length` times 2
+/// ```
+pub fn formula<'a>(
+    alloc: Global,
+    text: &'a str,
+    token: Token<'a>,
+) -> Result<Result<Expression<'a>, Complaint>, AllocError> {
+    match parsed(alloc, text, token) {
+        Ok(expression) => Ok(Ok(expression)),
+        Err(Stop::Wrong(complaint)) => Ok(Err(complaint)),
+        Err(Stop::Memory) => Err(AllocError),
+    }
+}
+
+fn parsed<'a>(alloc: Global, text: &'a str, token: Token<'a>) -> Result<Expression<'a>, Stop> {
+    let part = inside(text, token);
+    let tokens = tokens(alloc, text, part)?;
+    if let Some(complaint) = broken_tokens(alloc, tokens.as_slice())?.pop() {
+        return Err(Stop::Wrong(complaint));
+    }
+    let end = Span {
+        start: part.end,
+        end: part.end,
+    };
+    let mut parser = Parser {
+        cursor: Cursor::new(alloc, tokens, end),
+    };
+    let expression = parser.expression(DEPTH, 1)?;
+    if parser.cursor.peek().is_some() {
+        return parser.cursor.expected("an operator");
+    }
+    Ok(expression)
+}
+
+// The part of a text between a token's quotes, or all of a number.
+fn inside(text: &str, token: Token<'_>) -> Span
+    ensures ordered { result.start ≤ result.end }
+    ensures within { result.end ≤ length text.now }
+{
+    let (start, end) = if token.kind == Kind::Text {
+        (
+            token.span.start.saturating_add(1),
+            token.span.end.saturating_sub(1),
+        )
+    } else {
+        (token.span.start, token.span.end)
+    };
+    let end = end.min(text.len());
+    Span {
+        start: start.min(end),
+        end,
+    }
+}
+
+#[derive(Drop)]
+struct Parser<'a> {
+    cursor: Cursor<'a>,
+}
+
+impl<'a> Parser<'a> {
+    // Operands and the operators between them that bind at least as tightly as is said.
+    #[cycle(expression)]
+    fn expression(&mut self, depth: usize, least: u8) -> Result<Expression<'a>, Stop> {
+        if depth == 0 {
+            return self.cursor.wrong(
+                self.cursor.here(),
+                "an expression in more than 32 others",
+                "write it with fewer parentheses",
+            );
+        }
+        let mut left = self.operand(depth - 1)?;
+        for _ in 0..self.cursor.left() {
+            let Some(operator) = self.operator(least) else {
+                break;
+            };
+            let right = self.expression(depth - 1, operator.strength() + 1)?;
+            let alloc = self.cursor.alloc();
+            left = Expression::Both(operator, Box::new(alloc, left)?, Box::new(alloc, right)?);
+        }
+        Ok(left)
+    }
+
+    // A value, with what is in front of it and as what type.
+    #[cycle(expression)]
+    fn operand(&mut self, depth: usize) -> Result<Expression<'a>, Stop> {
+        let mut value = if self.cursor.take_mark("(") {
+            let value = self.expression(depth, 1)?;
+            self.cursor.mark(")")?;
+            value
+        } else if self.cursor.take_mark("!") {
+            let value = self.expression(depth, 10)?;
+            Expression::Not(Box::new(self.cursor.alloc(), value)?)
+        } else if self.cursor.take_mark("*") || self.cursor.take_mark("&") {
+            self.expression(depth, 10)?
+        } else {
+            self.simple()?
+        };
+        for _ in 0..self.cursor.left() {
+            if !self.cursor.take_name("as") {
+                break;
+            }
+            let kind = self.cursor.token(Kind::Name, "a type of numbers")?;
+            value = Expression::Cast(Box::new(self.cursor.alloc(), value)?, kind);
+        }
+        Ok(value)
+    }
+
+    // A number, a truth value, or a name.
+    fn simple(&mut self) -> Result<Expression<'a>, Stop> {
+        let Some(token) = self.cursor.peek() else {
+            return self.cursor.expected("a field, a constant or a number");
+        };
+        match token.kind {
+            Kind::Integer => self.number(token),
+            Kind::Name if token.text == "true" || token.text == "false" => {
+                self.cursor.next();
+                Ok(Expression::Truth(token.text == "true", token.span))
+            }
+            Kind::Name => self.name(token),
+            _ => self.cursor.expected("a field, a constant or a number"),
+        }
+    }
+
+    fn number(&mut self, token: Token<'a>) -> Result<Expression<'a>, Stop> {
+        self.cursor.next();
+        match integer(token.text) {
+            Some(value) => Ok(Expression::Number(value, token.span)),
+            None => self.cursor.wrong(
+                token.span,
+                "a number that does not fit 64 bits",
+                "write a number of at most 64 bits",
+            ),
+        }
+    }
+
+    // A field or a constant, or a field of a field.
+    fn name(&mut self, token: Token<'a>) -> Result<Expression<'a>, Stop> {
+        self.cursor.next();
+        let value = if self.cursor.take_mark(".") {
+            let part = self.cursor.token(Kind::Name, "the name of a field")?;
+            Expression::Part(token, part)
+        } else {
+            Expression::Name(token)
+        };
+        if self.cursor.is_mark("(") || self.cursor.is_mark("::") {
+            return self.cursor.wrong(
+                token.span,
+                "a call or a path in an expression",
+                "write it with fields, constants and operators alone",
+            );
+        }
+        Ok(value)
+    }
+
+    // Takes an operator if it binds at least as tightly as is said.
+    fn operator(&mut self, least: u8) -> Option<Operator> {
+        let (operator, len) = self.next_operator()?;
+        if operator.strength() < least {
+            return None;
+        }
+        self.cursor.next();
+        if len > 1 {
+            self.cursor.next();
+        }
+        Some(operator)
+    }
+
+    // The operator that is next, and how many tokens it has.
+    fn next_operator(&self) -> Option<(Operator, usize)> {
+        let token = self.cursor.peek()?;
+        if token.kind != Kind::Mark {
+            return None;
+        }
+        if token.text == "<" && self.is_doubled(token, "<") {
+            return Some((Operator::Left, 2));
+        }
+        if token.text == ">" && self.is_doubled(token, ">") {
+            return Some((Operator::Right, 2));
+        }
+        Some((operator_of(token.text)?, 1))
+    }
+
+    // Whether the same mark follows at once.
+    fn is_doubled(&self, token: Token<'a>, mark: &str) -> bool {
+        match self.cursor.peek_second() {
+            Some(second) => second.is_mark(mark) && second.span.start == token.span.end,
+            None => false,
+        }
+    }
+}
+
+fn operator_of(mark: &str) -> Option<Operator> {
+    match mark {
+        "||" => Some(Operator::Or),
+        "&&" => Some(Operator::And),
+        "==" => Some(Operator::Equal),
+        "!=" => Some(Operator::Unequal),
+        "<" => Some(Operator::Below),
+        "<=" => Some(Operator::AtMost),
+        ">" => Some(Operator::Above),
+        ">=" => Some(Operator::AtLeast),
+        "|" => Some(Operator::BitOr),
+        "^" => Some(Operator::BitXor),
+        "&" => Some(Operator::BitAnd),
+        "+" => Some(Operator::Plus),
+        "-" => Some(Operator::Minus),
+        "*" => Some(Operator::Times),
+        "/" => Some(Operator::Divided),
+        "%" => Some(Operator::Remainder),
+        _ => None,
+    }
+}

@@ -1,0 +1,60 @@
+//! From the text of a description to the text of a module, or to what is wrong.
+
+ghost use Rattle.std.specs.Prelude.{◌≡◌, ◌↔◌, IsNone};
+
+use crate::checking::check;
+use crate::parsing::parse;
+use crate::place::told;
+use crate::printing::print;
+use std::alloc::{AllocError, Global};
+
+/// What a run makes of a description.
+#[derive(Debug, PartialEq, Eq, Drop)]
+pub enum Made {
+    /// The module.
+    Module(String),
+    /// What is wrong with the description, as it is printed.
+    Wrong(String),
+}
+
+/// The module of a description, or all that is wrong with it. What its attributes say is checked
+/// once its form is right. The name of the file is what complaints and the module call it by.
+///
+/// # Errors
+///
+/// `AllocError` if there is no memory.
+///
+/// ```text
+/// make(alloc, "point.rs", "struct Point { x: i16, y: i16 }")?    // a module
+/// make(alloc, "point.rs", "struct Point { x: i17 }")?    // wrong: point.rs:1:19: error: ..
+/// ```
+pub fn make(alloc: Global, file: &str, text: &str) -> Result<Made, AllocError> {
+    let (parsed, complaints) = parse(alloc, text)?;
+    if !complaints.is_empty() {
+        return Ok(Made::Wrong(told(alloc, file, text, complaints.as_slice())?));
+    }
+    let (module, mut complaints) = check(alloc, text, parsed)?;
+    if complaints.is_empty() {
+        return Ok(Made::Module(print(alloc, file, &module)?));
+    }
+    complaints.sort_by_key(|complaint| complaint.span.start)?;
+    Ok(Made::Wrong(told(alloc, file, text, complaints.as_slice())?))
+}
+
+/// The first line, from 1, in which two texts differ.
+///
+/// ```text
+/// first_difference("a\nb\n", "a\nc\n")    // Some(2)
+/// ```
+pub fn first_difference(one: &str, other: &str) -> Option<usize>
+    ensures { IsNone result ↔ (one.now ≡ other.now) }
+{
+    if one == other {
+        return None;
+    }
+    let pairs = one.bytes().zip(other.bytes());
+    let same = pairs
+        .take_while(|(a, b)| a == b)
+        .filter(|(a, _)| *a == b'\n');
+    Some(same.count().saturating_add(1))
+}

@@ -1,0 +1,229 @@
+//! Descriptions as they are written.
+
+ghost use Rattle.std.specs.Prelude.{◌<◌};
+
+use crate::place::Span;
+use crate::token::Token;
+
+/// A file of descriptions.
+#[derive(Drop)]
+pub struct File<'a> {
+    /// The lines of the file's own comment.
+    pub docs: Vec<&'a str>,
+    /// The paths of its `use` items, as they are written.
+    pub uses: Vec<&'a str>,
+    /// Its constants.
+    pub constants: Vec<Constant<'a>>,
+    /// Its structs and enums.
+    pub records: Vec<Record<'a>>,
+}
+
+/// A whole number with a name.
+#[derive(Drop)]
+pub struct Constant<'a> {
+    /// Its name.
+    pub name: Token<'a>,
+    /// The name of its type.
+    pub kind: Token<'a>,
+    /// Its value.
+    pub value: u64,
+}
+
+/// The comments and attributes in front of something.
+#[derive(Drop)]
+pub struct Head<'a> {
+    /// The lines of its comment, without their slashes.
+    pub docs: Vec<&'a str>,
+    /// What its `deku` attributes say, in their order.
+    pub attributes: Vec<Attribute<'a>>,
+}
+
+/// One word of a `deku` attribute, as `bits = 4`.
+#[derive(Clone, Copy)]
+pub struct Attribute<'a> {
+    /// The word.
+    pub name: Token<'a>,
+    /// What follows its `=`.
+    pub value: Option<Value<'a>>,
+}
+
+/// A literal after the `=` of an attribute.
+#[derive(Clone, Copy)]
+pub struct Value<'a> {
+    /// Whether a minus is in front.
+    pub is_negative: bool,
+    /// The literal.
+    pub token: Token<'a>,
+}
+
+/// A struct or an enum.
+#[derive(Drop)]
+pub struct Record<'a> {
+    /// Its comments and attributes.
+    pub head: Head<'a>,
+    /// Its name.
+    pub name: Token<'a>,
+    /// What it holds.
+    pub body: Body<'a>,
+}
+
+/// What a record holds.
+#[derive(Drop)]
+pub enum Body<'a> {
+    /// A struct's fields.
+    Fields(Fields<'a>),
+    /// An enum's kinds.
+    Kinds(Vec<Variant<'a>>),
+}
+
+/// How fields are written.
+#[derive(Clone, Copy, PartialEq, Eq)]
+pub enum Shape {
+    /// In braces, with names.
+    Named,
+    /// In parentheses, without names.
+    Tuple,
+    /// Not at all.
+    Unit,
+}
+
+/// Fields in their order.
+#[derive(Drop)]
+pub struct Fields<'a> {
+    /// How they are written.
+    pub shape: Shape,
+    /// The fields.
+    pub list: Vec<Field<'a>>,
+}
+
+/// A field.
+#[derive(Drop)]
+pub struct Field<'a> {
+    /// Its comments and attributes.
+    pub head: Head<'a>,
+    /// Its name, unless it is of a tuple.
+    pub name: Option<Token<'a>>,
+    /// Its type.
+    pub kind: Type<'a>,
+    /// Where its type is.
+    pub span: Span,
+}
+
+/// A kind of an enum.
+#[derive(Drop)]
+pub struct Variant<'a> {
+    /// Its comments and attributes.
+    pub head: Head<'a>,
+    /// Its name.
+    pub name: Token<'a>,
+    /// Its fields.
+    pub fields: Fields<'a>,
+    /// The number after its `=`.
+    pub discriminant: Option<Value<'a>>,
+}
+
+/// A type.
+#[derive(Drop)]
+pub enum Type<'a> {
+    /// A type by the last name of its path.
+    Name(Token<'a>),
+    /// `Vec`, `Option` or `Box`, by this name, of a type.
+    Of(Token<'a>, Box<Type<'a>>),
+    /// An array, with its length.
+    Array(Box<Type<'a>>, Length<'a>),
+    /// A tuple.
+    Tuple(Vec<Type<'a>>),
+}
+
+/// The length of an array.
+#[derive(Clone, Copy)]
+pub enum Length<'a> {
+    /// A number.
+    Number(u64),
+    /// A constant.
+    Name(Token<'a>),
+}
+
+/// What a count or a condition computes.
+#[derive(Drop)]
+pub enum Expression<'a> {
+    /// A whole number.
+    Number(u64, Span),
+    /// `true` or `false`.
+    Truth(bool, Span),
+    /// A field or a constant, with or without `*` or `&` in front.
+    Name(Token<'a>),
+    /// A field of a field.
+    Part(Token<'a>, Token<'a>),
+    /// What is not so.
+    Not(Box<Expression<'a>>),
+    /// A value as another type.
+    Cast(Box<Expression<'a>>, Token<'a>),
+    /// Two values and what is made of them.
+    Both(Operator, Box<Expression<'a>>, Box<Expression<'a>>),
+}
+
+/// What is made of two values.
+#[derive(Clone, Copy, PartialEq, Eq)]
+pub enum Operator {
+    /// `||`
+    Or,
+    /// `&&`
+    And,
+    /// `==`
+    Equal,
+    /// `!=`
+    Unequal,
+    /// `<`
+    Below,
+    /// `<=`
+    AtMost,
+    /// `>`
+    Above,
+    /// `>=`
+    AtLeast,
+    /// `|`
+    BitOr,
+    /// `^`
+    BitXor,
+    /// `&`
+    BitAnd,
+    /// `<<`
+    Left,
+    /// `>>`
+    Right,
+    /// `+`
+    Plus,
+    /// `-`
+    Minus,
+    /// `*`
+    Times,
+    /// `/`
+    Divided,
+    /// `%`
+    Remainder,
+}
+
+impl Operator {
+    /// How tightly it binds, from 1.
+    pub fn strength(self) -> u8
+        ensures { result < 11 }
+    {
+        match self {
+            Operator::Or => 1,
+            Operator::And => 2,
+            Operator::Equal
+            | Operator::Unequal
+            | Operator::Below
+            | Operator::AtMost
+            | Operator::Above
+            | Operator::AtLeast => 3,
+            Operator::BitOr => 4,
+            Operator::BitXor => 5,
+            Operator::BitAnd => 6,
+            Operator::Left | Operator::Right => 7,
+            Operator::Plus | Operator::Minus => 8,
+            Operator::Times | Operator::Divided | Operator::Remainder => 9,
+        }
+    }
+}

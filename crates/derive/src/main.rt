@@ -1,0 +1,126 @@
+//! Prints a module for a description of records in Rust with deku's attributes, or says all that is
+//! wrong with the description.
+#![tactic(auto)]
+
+use clap::{Arg, ArgAction, ArgMatches, Command, Error};
+use deku_derive::making::{Made, first_difference, make};
+use std::alloc::Global;
+use std::process::ExitCode;
+use std::{env, fs, io};
+
+const ABOUT: &str = "Prints the module of a description of records in Rust with deku's attributes";
+
+fn main(rt: HostRuntime) -> io::Result<ExitCode> {
+    let words: Vec<String> = env::args(&rt)?.collect(rt.alloc())?;
+    let Ok(command) = command(rt.alloc()) else {
+        return Ok(ExitCode::from(1));
+    };
+    let matches = match command.try_get_matches_from(words.as_slice()) {
+        Ok(matches) => matches,
+        Err(error) => {
+            error.print(&rt)?;
+            return Ok(ExitCode::from(if error.use_stderr() { 2 } else { 0 }));
+        }
+    };
+    Ok(ExitCode::from(if run(&rt, &matches)? { 0 } else { 1 }))
+}
+
+fn command<'a>(alloc: Global) -> Result<Command<'a>, Error> {
+    let file = Arg::new(alloc, "FILE")
+        .required(true)
+        .help("The description; - is standard input");
+    let module = Arg::new(alloc, "MODULE")
+        .requires_arg("check")?
+        .help("With --check, the module to compare");
+    let output = Arg::new(alloc, "output")
+        .short('o')
+        .long("output")
+        .value_name("MODULE")
+        .action(ArgAction::Set)
+        .conflicts_with("check")?
+        .help("Writes the module there");
+    let check = Arg::new(alloc, "check")
+        .long("check")
+        .action(ArgAction::SetTrue)
+        .requires_arg("MODULE")?
+        .help("Says whether MODULE is what would be printed");
+    let command = Command::new(alloc, "derive").about(ABOUT);
+    Ok(command.arg(file)?.arg(module)?.arg(output)?.arg(check)?)
+}
+
+// Does what the words ask for. Whether it succeeded; if not, the error is printed.
+fn run(rt: &HostRuntime, matches: &ArgMatches<'_>) -> io::Result<bool> {
+    let name = matches.get_str("FILE").unwrap_or("-");
+    let Some(text) = read(rt, name)? else {
+        return Ok(false);
+    };
+    let text = match make(rt.alloc(), name, text.as_str())? {
+        Made::Module(text) => text,
+        Made::Wrong(told) => {
+            eprint!(rt; "{told}")?;
+            return Ok(false);
+        }
+    };
+    if matches.get_flag("check") {
+        return check(
+            rt,
+            name,
+            matches.get_str("MODULE").unwrap_or("-"),
+            text.as_str(),
+        );
+    }
+    match matches.get_str("output") {
+        Some(path) => write(rt, path, text.as_str()),
+        None => {
+            print!(rt; "{text}")?;
+            Ok(true)
+        }
+    }
+}
+
+// The text of a file, or of the standard input. `None` after its error is printed.
+fn read(rt: &HostRuntime, name: &str) -> io::Result<Option<String>> {
+    let text = if name == "-" {
+        io::read_to_string(rt.alloc(), rt.stdin())
+    } else {
+        fs::read_to_string(rt, name)
+    };
+    match text {
+        Ok(text) => Ok(Some(text)),
+        Err(error) => {
+            eprintln!(rt; "error: {name}: {error}")?;
+            Ok(None)
+        }
+    }
+}
+
+// Writes a module to a new file, which then takes the old one's place.
+fn write(rt: &HostRuntime, path: &str, text: &str) -> io::Result<bool> {
+    let new = format!(in rt.alloc(); "{path}.new")?;
+    let written = match fs::write(rt, new.as_str(), text) {
+        Ok(()) => fs::rename(rt, new.as_str(), path),
+        Err(error) => Err(error),
+    };
+    match written {
+        Ok(()) => Ok(true),
+        Err(error) => {
+            let _ = fs::remove_file(rt, new.as_str());
+            eprintln!(rt; "error: {path}: {error}")?;
+            Ok(false)
+        }
+    }
+}
+
+// Whether a file holds this module. If not, the first line that differs is printed.
+fn check(rt: &HostRuntime, name: &str, path: &str, text: &str) -> io::Result<bool> {
+    let Some(found) = read(rt, path)? else {
+        return Ok(false);
+    };
+    match first_difference(found.as_str(), text) {
+        None => Ok(true),
+        Some(line) => {
+            eprintln!(rt; "{path}:{line}: error: differs from what {name} describes")?;
+            Ok(false)
+        }
+    }
+}
