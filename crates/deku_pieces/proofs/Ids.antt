@@ -15,11 +15,10 @@ use Rattle.deku_pieces.specs.Symmetric.{breadth, IsWrittenAs, IsReadBack, TakenA
 use Rattle.deku_pieces.specs.Pieces.{InTurn}
 use Rattle.std.specs.Prelude.{nat_eq}
 use Rattle.std.proofs.lemmas.Bool.{eqb-true, eq-eqb}
-use Rattle.deku_pieces.specs.Ids.{in_range, id_of_either, is_own, UnderOwn, OfEither, OfEnum, SameEither, IfKnown, ReadsEither, WritesEither, ReadsEnum, WritesEnum, WritesChosenBy}
+use Rattle.deku_pieces.specs.Ids.{in_range, id_of_either, is_own, UnderOwn, OfEither, OfEnum, SameEither, IfKnown, ReadsEither, WritesEither, ReadsEnum, WritesEnum}
 use Rattle.deku_pieces.proofs.Answering.{ok_is, mapped_must}
 use Rattle.deku_pieces.proofs.Chosen.{chosen_symmetric}
 use Rattle.deku_pieces.proofs.Turned.{mapped_symmetric}
-use Rattle.deku_pieces.proofs.Heads.{indexed_symmetric}
 
 -- ---- truth values
 -- both hold if their conjunction does

@@ -71,10 +71,3 @@ abbrev pub WritesEnum : {V : Type 0} → (ℕ → Meaning Output (Unit {0})) →
 WritesEnum write_id id_of own writes v = Checked
     (λ s r u. (own v ≡ false) × Refuses Assertion (codes "kind out of step with its id") s r u)
     (λ b s r u. (own v ≡ true) × Both (write_id (id_of v)) (writes v) b s r u)
-
--- A head is written, and then the value that the id in it chooses. If it chooses another value, it
--- fails before that, and nothing moves.
-abbrev pub WritesChosenBy : {V W : Type 0} → (W → ℕ) → (V → ℕ) → (V → Bool) → (W → Meaning Output (Unit {0})) → (V → Meaning Output (Unit {0})) → W → V → Meaning Output (Unit {0})
-WritesChosenBy id_in id_of own write_head writes h v = Checked
-    (λ s r u. ((id_in h ≡ id_of v) × (own v ≡ true) → ⊥) × Refuses Assertion (codes "kind out of step with its id") s r u)
-    (λ b s r u. ((id_in h ≡ id_of v) × (own v ≡ true)) × Both (write_head h) (writes v) b s r u)

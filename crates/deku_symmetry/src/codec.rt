@@ -12,7 +12,7 @@ use crate::traits::Symmetric;
 use deku::device::{Sink, Source};
 use deku::reader::Reader;
 use deku::writer::Writer;
-use deku::{DekuError, DekuReader, DekuWriter};
+use deku::{DekuContainerRead, DekuContainerWrite, DekuError, DekuReader, DekuWriter};
 
 /// A type that is read and written as its parts: a record, an enum, or a type whose values stand
 /// for those of another. Its law `there` makes sure that no field is missing from the parts.
@@ -77,10 +77,12 @@ pub trait Codec: Drop {
     ghost there: { (v : Self) → record_of (parts_of v) ≡ v };
 }
 
-/// A value that is read and written as its parts, as a part itself.
+/// A value that is read and written as its parts, as a part itself. It has `pack`, `unpack`,
+/// `to_bytes` and `from_bytes`.
 ///
 /// ```text
 /// type Parts = (Be<u16>, Coded<Sample>);                      // a number, and a record
+/// let bytes = Coded(sample).to_bytes(alloc)?;
 /// ```
 #[derive(Debug, Clone, Copy, PartialEq, Eq, Drop)]
 pub struct Coded<E>(pub E);
@@ -109,6 +111,10 @@ impl<E: Codec> DekuWriter<()> for Coded<E> {
         self.0.write(writer)
     }
 }
+
+impl<E: Codec> DekuContainerRead for Coded<E> {}
+
+impl<E: Codec> DekuContainerWrite for Coded<E> {}
 
 /// The pieces of the parts.
 impl<E: Codec> Symmetric<()> for Coded<E>
