@@ -3,6 +3,7 @@
 
 use crate::expecting::read_first;
 use deku::ctx::{BitSize, Limit, ReadExact};
+use deku::prelude::{DekuError, NeedSize};
 use deku_testing_values::expecting::{NO_MEMORY, next, reader_of, same};
 use std::boxed::BoxedSlice;
 use std::collections::{HashMap, HashSet};
@@ -73,6 +74,17 @@ fn bytes_or_no_memory(rt: HostRuntime) -> Result<(), Fail> {
     }
     let too_many = next::<Vec<u8>, _, _>(&mut reader, ReadExact(1 << 59));
     same(&"too many", &too_many.err(), &Some(NO_MEMORY))
+}
+
+// A count takes no memory before its first item is read, whatever size the items have: here 256 KiB.
+#[test]
+fn a_count_takes_no_memory(rt: HostRuntime) -> Result<(), Fail> {
+    let alloc = rt.alloc();
+    let mut reader = reader_of(alloc, &BYTES);
+    let counted = Limit::new_count(1 << 60);
+    let refusal = next::<Vec<[u64; 0x8000]>, _, _>(&mut reader, counted).err();
+    let ended = DekuError::Incomplete(NeedSize::new(64));
+    same(&"items", &(refusal, reader.bits_read()), &(Some(ended), 64))
 }
 
 // A list that needs memory for no item takes none.

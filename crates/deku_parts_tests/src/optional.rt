@@ -1,0 +1,60 @@
+//! Items that are there if the parts before them say so.
+
+use deku::prelude::{DekuError, NeedSize};
+use deku_symmetry::{Be, Condition, ConditionLaw, Msb, Optional, Symmetric};
+use deku_testing_values::expecting::same;
+use deku_testing_values::records::{expect_packed, expect_refusal};
+use std::test::Fail;
+
+// A flag, fifteen more bits, and a protocol: the front of a header of generic routing.
+type Front = (Msb<bool, 1>, Msb<u16, 15>, Be<u16>);
+
+// The flag brings a checksum and an offset.
+#[derive(Debug, PartialEq, Eq, Drop)]
+struct HasChecksum;
+
+impl Condition<Front> for HasChecksum {
+    ghost shows = { λ head. head.0.0 };
+
+    fn shows(head: &Front) -> bool {
+        head.0.0
+    }
+}
+
+impl ConditionLaw<Front> for HasChecksum {
+    ghost alike = { λ v w e. e.0 };
+}
+
+type Header = Optional<Front, HasChecksum, Be<u32>>;
+
+fn header(flag: bool, item: Option<Be<u32>>) -> Header {
+    Optional::new((Msb(flag), Msb(0), Be(0x0800)), item)
+}
+
+#[test]
+fn there_or_not(rt: HostRuntime) -> Result<(), Fail> {
+    let alloc = rt.alloc();
+    expect_packed(
+        alloc,
+        (),
+        &header(false, None),
+        32,
+        &[0x00, 0x00, 0x08, 0x00],
+    )?;
+    let bytes = [0x80, 0x00, 0x08, 0x00, 0x12, 0x34, 0x00, 0x00];
+    expect_packed(alloc, (), &header(true, Some(Be(0x1234_0000))), 64, &bytes)?;
+    let ended = DekuError::Incomplete(NeedSize::new(32));
+    expect_refusal::<Header>(alloc, &[0x80, 0x00, 0x08, 0x00, 0x12], ended, 32)
+}
+
+#[test]
+fn out_of_step(rt: HostRuntime) -> Result<(), Fail> {
+    let alloc = rt.alloc();
+    let refusal = DekuError::Assertion("item out of step with its condition");
+    same(
+        &0,
+        &header(false, Some(Be(1))).pack(alloc, ()),
+        &Err(refusal),
+    )?;
+    same(&1, &header(true, None).pack(alloc, ()), &Err(refusal))
+}
