@@ -12,12 +12,15 @@ pub mod literal;
 pub mod making;
 pub mod model;
 mod parsing;
+mod parts;
 pub mod place;
 pub mod printing;
 mod reading;
 pub mod syntax;
 pub mod table;
 pub mod token;
+mod tuples;
+mod unprinted;
 
 pub use checking::check;
 pub use parsing::parse;

@@ -6,6 +6,7 @@ use crate::checking::check;
 use crate::parsing::parse;
 use crate::place::told;
 use crate::printing::print;
+use crate::unprinted::unprinted;
 use std::alloc::{AllocError, Global};
 
 /// What a run makes of a description.
@@ -18,7 +19,8 @@ pub enum Made {
 }
 
 /// The module of a description, or all that is wrong with it. What its attributes say is checked
-/// once its form is right. The name of the file is what complaints and the module call it by.
+/// once its form is right, and whether its records are plain once that is right too: only a file of
+/// plain records has a module. The name of the file is what complaints and the module call it by.
 ///
 /// # Errors
 ///
@@ -34,6 +36,9 @@ pub fn make(alloc: Global, file: &str, text: &str) -> Result<Made, AllocError> {
         return Ok(Made::Wrong(told(alloc, file, text, complaints.as_slice())?));
     }
     let (module, mut complaints) = check(alloc, text, parsed)?;
+    if complaints.is_empty() {
+        complaints = unprinted(alloc, &module)?;
+    }
     if complaints.is_empty() {
         return Ok(Made::Module(print(alloc, file, &module)?));
     }

@@ -5,7 +5,7 @@ use std::alloc::{AllocError, Global};
 use std::test::Fail;
 
 // A description, and the lines that begin with the name of its file.
-const ROWS: [(&str, &str); 31] = [
+const ROWS: [(&str, &str); 36] = [
     ("struct A { a: u8", "1:17 expected `}`, found the end"),
     ("struct A { a u8 }", "1:14 expected `:`, found `u8`"),
     ("struct A { a: u8 b: u8 }", "1:18 expected `}`, found `b`"),
@@ -116,6 +116,28 @@ const ROWS: [(&str, &str); 31] = [
     (
         "struct A { n: u8,\n\t#[deku(count = \"*n +\")] a: Vec<u8> }",
         "2:22 expected a field, a constant or a number, found the end",
+    ),
+    (
+        "#[deku(id_type = \"u8\")] enum E { A }",
+        "1:30 derive does not print `enum` yet",
+    ),
+    (
+        "struct A(u8);",
+        "1:8 derive does not print `struct of a tuple` yet",
+    ),
+    (
+        "struct A { n: u8, #[deku(count = \"n\")] a: Vec<u8> }",
+        "1:43 derive does not print `count` yet",
+    ),
+    (
+        "struct A { b: B } struct B { a: [u16; 4] }",
+        "1:15 derive does not print `B` yet
+1:33 derive does not print `[u16; 4]` yet",
+    ),
+    (
+        "struct A { parts: u8, a: u16, A: u8 }",
+        "1:12 derive does not print `parts` yet
+1:31 derive does not print `A` yet",
     ),
 ];
 

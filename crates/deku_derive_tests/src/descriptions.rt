@@ -1,6 +1,9 @@
 //! Descriptions that are taken.
 
-use deku_derive::making::{Made, first_difference, make};
+use deku_derive::making::first_difference;
+use deku_derive::place::told;
+use deku_derive::{check, parse};
+use std::alloc::{AllocError, Global};
 use std::test::Fail;
 
 const TAKEN: [(&str, &str); 9] = [
@@ -54,12 +57,20 @@ const TAKEN: [(&str, &str); 9] = [
 #[test]
 fn descriptions_are_taken(rt: HostRuntime) -> Result<(), Fail> {
     for (name, text) in &TAKEN {
-        match make(rt.alloc(), "a.rs", text)? {
-            Made::Module(_) => {}
-            Made::Wrong(told) => assert_eq!(rt; told.as_str(), "", "{name}"),
-        }
+        let said = said_of(rt.alloc(), text)?;
+        assert_eq!(rt; said.as_str(), "", "{name}");
     }
     Ok(())
+}
+
+// What is said of the form and of the attributes of a description.
+fn said_of(alloc: Global, text: &str) -> Result<String, AllocError> {
+    let (file, complaints) = parse(alloc, text)?;
+    if !complaints.is_empty() {
+        return told(alloc, "a.rs", text, complaints.as_slice());
+    }
+    let (_, complaints) = check(alloc, text, file)?;
+    told(alloc, "a.rs", text, complaints.as_slice())
 }
 
 #[test]

@@ -1,4 +1,5 @@
-//! Tests of `deku_derive`: descriptions that are taken, and what is said of those that are not.
+//! Tests of `deku_derive`: descriptions that are taken, what is said of those that are not, and
+//! modules.
 #![tactic(auto)]
 
 #[cfg(test)]
@@ -7,5 +8,7 @@ mod complaints;
 mod descriptions;
 #[cfg(test)]
 mod literals;
+#[cfg(test)]
+mod modules;
 #[cfg(test)]
 mod words;
