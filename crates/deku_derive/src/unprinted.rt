@@ -250,7 +250,7 @@ fn said_of(field: &Field<'_>) -> Option<&'static str> {
 fn has_part(records: &[Record<'_>], count: usize, field: &Field<'_>) -> bool {
     match &field.kind {
         Type::Name(name) => {
-            bits_of(name.text).is_some()
+            is_unsigned(name.text)
                 || address_bits(name.text).is_some()
                 || is_record(records, count, *name)
         }
@@ -259,6 +259,11 @@ fn has_part(records: &[Record<'_>], count: usize, field: &Field<'_>) -> bool {
         }
         Type::Array(_, Length::Name(_)) | Type::Of(_, _) | Type::Tuple(_) => false,
     }
+}
+
+// Whether this is the name of a number without a sign, or of a truth value.
+fn is_unsigned(name: &str) -> bool {
+    bits_of(name).is_some() && !name.starts_with('i')
 }
 
 fn is_record(records: &[Record<'_>], count: usize, name: Token<'_>) -> bool {
