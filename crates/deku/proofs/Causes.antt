@@ -121,7 +121,7 @@ takes_each : {A T : Type 0} (own : ErrorKind → Type 0) (m : Meaning A T) → O
 takes_each own m f [] s u k p q = inr (subst (λ t. KeepsIo k t) (sym p) q)
 takes_each own m f (x ∷ xs) s u k p q = ⊎_elim (λ o. inl o) (λ kept. f s (Ok (x.item)) p.0 k (p.1.read) (inr kept)) (takes_each own m f xs p.0 u k p.2 q)
 
--- an answer behind items that were taken
+-- an answer after items that were taken
 behind : {A T : Type 0} (own : ErrorKind → Type 0) (m : Meaning A T) → OwnFaults own m → (xs : List (Taken A T)) (s t : Standing A) (k : ErrorKind) → TakesEach m s xs t
     → own k ⊎ KeepsIo k t → own k ⊎ KeepsIo k s
 behind own m f xs s t k p q = ⊎_elim (λ o. inl o) (λ kept. takes_each own m f xs s t k p kept) q

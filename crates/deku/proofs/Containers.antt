@@ -27,7 +27,7 @@ use Rattle.deku_reading.specs.Early.{PromptlyAt}
 use Rattle.deku_reading.proofs.Early.{whole_behind}
 use Rattle.deku.specs.Wholes.{Behind, FromFirst, TellsBehind, ReadsBytesOnce, WritesOver, WritesBare, in_memory, output_in, over}
 
--- ---- what a source tells
+-- ---- what a source reports
 -- a reader that was made for one call and fetched no byte too early
 pub told_behind : {known after : KnownSource} {u : Standing (List Bool)} → PromptlyAt known (Going [] 0) after u → TellsBehind (count_of u) known after
 told_behind {known} {after} {u} p = by_told known.remaining refl
@@ -55,11 +55,11 @@ place_of k = cursor_position k
 abbrev pub items_in : Vec ℕ → List ℕ
 items_in v = v.items
 
--- a device that tells that it does not fail, and all its bytes
+-- a device that reports that it does not fail, and all its bytes
 abbrev pub steady : Option Whole → Health
 steady w = record { failures = Some 0; lenders = []; whole = w }
 
--- what a cursor over a vector tells
+-- what a cursor over a vector reports
 abbrev pub tells : Cursor (Vec ℕ) → KnownSink
 tells k = record { taken = before k; room = None; health = steady (vector_whole k) }
 
@@ -83,7 +83,7 @@ goes_on m s u (Second v (Going a c) p (inl q)) = let f = q.1.2 in absurd (cc)
 goes_on m s u (Second v (Going a c) p (inr (h, inl q))) = (q.0, _, q.3)
 goes_on m s u (Second v (Going a c) p (inr (h, inr q))) = let f = q.3 in absurd (cc)
 
--- a writer that was padded goes on, with what its sink tells
+-- a writer that was padded goes on, with what its sink reports
 pub padded_on : (m : Meaning Output (Unit {0})) (s : Standing Output) (known : KnownSink) (st : Standing Pending) → Both m Finalizes false s (Ok tt) (writer_state known st)
     → (out : Output) × (c : ℕ) × Both m Finalizes false s (Ok tt) (Going out c) × (out.taken ≡ known.taken) × (out.room ≡ known.room)
 padded_on m s known (Going pending count) w = (record { taken = known.taken; room = known.room; pending = pending }, count, w, refl, refl)
@@ -104,11 +104,11 @@ refused_from m s t e u p w = (u, subst (λ x. Both m Finalizes false x (Err e) u
 abbrev pub whole_source : Cursor (Bor (List ℕ)) → Option (List ℕ)
 whole_source k = Some (drop (cursor_position k) (cursor_inner k).now)
 
--- a cursor that is new tells the bytes that it is over
+-- a cursor that is new reports the bytes that it is over
 pub new_source : (k : Cursor (Bor (List ℕ))) (b : Bor (List ℕ)) → cursor_inner k ≡ b → cursor_position k ≡ 0 → whole_source k ≡ Some b.now
 new_source k b e f = rw (e, f) refl
 
--- a fresh reader stands before the bytes that its source tells
+-- a fresh reader is before the bytes that its source reports
 pub starts_fresh : (remaining : Option (List ℕ)) (bytes : List ℕ) (st : Standing (List Bool)) → remaining ≡ Some bytes → st ≡ Going [] 0 → reader_state remaining st ≡ Going (Some (fresh bytes)) 0
 unfolding normal
 starts_fresh remaining bytes st e f = rw (e, f) refl
@@ -148,7 +148,7 @@ starts_over place xs ys h st p e s = rw (p, s) (
     ap (λ t. Going (record { taken = t; room = Some xs; pending = Nothing }) 0) (nothing_before xs)
     ∙ ap (λ zs. Going (record { taken = Some []; room = Some zs; pending = Nothing }) 0) e)
 
--- what a cursor over a slice tells
+-- what a cursor over a slice reports
 abbrev pub tells_over : Cursor (MutBor (List ℕ)) → KnownSink
 tells_over k = record {
   taken = bytes_before (cursor_position k) (cursor_inner k).now;
@@ -162,7 +162,7 @@ place_over k = cursor_position k
 abbrev pub bytes_over : Cursor (MutBor (List ℕ)) → List ℕ
 bytes_over k = (cursor_inner k).now
 
--- what a writer that was refused goes on, or has stopped, with is what its sink tells
+-- what a writer that was refused goes on, or has stopped, with is what its sink reports
 told_out : (known : KnownSink) (st : Standing Pending) → ((output_in (writer_state known st)).taken ≡ known.taken) × ((output_in (writer_state known st)).room ≡ known.room)
 told_out known (Going p c) = (refl, refl)
 told_out known (Stopped p e c) = (refl, refl)

@@ -1,4 +1,4 @@
--- Texts and the zero behind them.
+-- Texts and the zero after them.
 use Rattle.std.proofs.Common.{ℕ, Result, Ok, Err, List, refl, ap}
 use Rattle.std.specs.Result.{IfOk, IfErr}
 use Rattle.deku_bits.specs.declared.error.DekuError.{DekuError}

@@ -12,7 +12,7 @@ use Rattle.deku_num.specs.NumberCalls.{Refused, Passed, ReadsNumber}
 use Rattle.deku_meanings.specs.Composing.{Answer, Answered, Then, Second, First}
 use Rattle.deku.specs.Giving.{Gives}
 
--- what two equal answers hold is equal
+-- what two equal returns hold is equal
 pub ok_is : {V E : Type 0} (v x : V) → ◌≡◌ {A = Result V E} (Ok v) (Ok x) → v ≡ x
 ok_is v x e = cc
 

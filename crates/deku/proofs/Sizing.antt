@@ -1,4 +1,4 @@
--- Values are written as exactly the bits that a call answers as the size of their type.
+-- Values are written as exactly the bits that a call returns as the size of their type.
 use Rattle.std.proofs.Common.{◌≡◌, ℕ, zero, suc, ◌+◌, ◌*◌, ◌^◌, ◌<◌, Bool, true, false, cond, ltb, List, [], ◌∷◌, length, Option, None, Some, ℤ, refl, ap, ◌∙◌, subst, ltb-true, arith}
 use Rattle.std.proofs.lemmas.Bool.{lt-ltb}
 use Rattle.std.specs.List.{All}
@@ -14,7 +14,7 @@ use Rattle.deku.specs.Extents.{IsSized, KeepsSize}
 use Rattle.deku.proofs.Extending.{joined_sized, items_sized}
 use Rattle.deku.proofs.Whole.{number_sized}
 
--- a size that is answered is the known one, and fits
+-- a size that is returned is the known one, and fits
 fitted : (x n : ℕ) (p : Bool) → ltb x (2 ^ 64) ≡ p → cond p (Some x) None ≡ Some n → (x ≡ n) × (x < 2 ^ 64)
 fitted x n true a e = (cc, ltb-true x (2 ^ 64) a)
 fitted x n false a e = absurd (cc)
@@ -22,7 +22,7 @@ fitted x n false a e = absurd (cc)
 fits : (x : ℕ) → x < 2 ^ 64 → within_usize (Some x) ≡ Some x
 fits x h = ap (λ t. cond t (Some x) None) (lt-ltb x (2 ^ 64) h)
 
--- so many bits, where they fit, are the size that is answered
+-- so many bits, where they fit, are the size that is returned
 pub kept_at : (x : ℕ) (m : Meaning Output (Unit {0})) → IsSized x m → KeepsSize (Some x) m
 kept_at x m p = record { answered = λ n e. let a = fitted x n (ltb x (2 ^ 64)) refl e in subst (λ k. IsSized k m) a.0 p }
 

@@ -294,7 +294,8 @@ pub fn plain_cause_law<C: NumberCtx>()
         c) }
     ensures of_non_zero_u128 { (c : C) → OwnFaults NoKind (⟦<NonZeroU128 as DekuReader<C>>⟧.meaning
         c) }
-    ensures of_non_zero_usize { (c : C) → OwnFaults NoKind (⟦<NonZeroUsize as DekuReader<C>>⟧.meaning c) }
+    ensures of_non_zero_usize { (c : C) → OwnFaults NoKind
+        (⟦<NonZeroUsize as DekuReader<C>>⟧.meaning c) }
     ensures of_non_zero_i8 { (c : C) → OwnFaults NoKind (⟦<NonZeroI8 as DekuReader<C>>⟧.meaning c) }
     ensures of_non_zero_i16 { (c : C) → OwnFaults NoKind (⟦<NonZeroI16 as DekuReader<C>>⟧.meaning
         c) }
@@ -304,7 +305,8 @@ pub fn plain_cause_law<C: NumberCtx>()
         c) }
     ensures of_non_zero_i128 { (c : C) → OwnFaults NoKind (⟦<NonZeroI128 as DekuReader<C>>⟧.meaning
         c) }
-    ensures of_non_zero_isize { (c : C) → OwnFaults NoKind (⟦<NonZeroIsize as DekuReader<C>>⟧.meaning c) }
+    ensures of_non_zero_isize { (c : C) → OwnFaults NoKind
+        (⟦<NonZeroIsize as DekuReader<C>>⟧.meaning c) }
 {}
 
 /// A text, and bytes of an exact count, have no `Io` error of their own except out of memory.

@@ -37,7 +37,7 @@ ends : {V : Type 0} (own : ErrorKind → Type 0) (n c : ℕ) (r : Result V DekuE
 ends own n c r u k p (inl q) = let d = p.0 in absurd cc
 ends own n c r u k p (inr q) = let d : Incomplete (record { bits = n }) ≡ Io k = rw p.2 at q in absurd cc
 
--- a value was answered, and it goes on
+-- a value was returned, and it goes on
 goes_on : {A V : Type 0} (v : V) (a : A) (c : ℕ) (r : Result V DekuError) (u : Standing A) (k : ErrorKind) (own : ErrorKind → Type 0)
     → r ≡ Ok v → u ≡ Going a c → (r ≡ Err (Io k)) ⊎ KeepsIo k u → own k
 goes_on v a c r u k own d e (inl q) = absurd cc

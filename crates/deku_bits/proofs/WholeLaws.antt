@@ -1,4 +1,4 @@
--- Laws of devices that tell all their bytes.
+-- Laws of devices that say all their bytes.
 use Rattle.std.proofs.Common.{◌≡◌, ℕ, ◌+◌, ◌*◌, ◌^◌, ◌<◌, ◌≤◌, Bool, false, List, [], ◌∷◌, ◌++◌, length, take, drop, All, Option, Some, None, Result, Ok, Err, refl, sym, ap, ap₂, ◌∙◌, arith, inl, inr, ⊎_elim, subst₂, get_or, suc, zero}
 use Rattle.std.proofs.lemmas.List.{places, take-append-drop, length-take-le, take_at}
 use Rattle.std.proofs.lemmas.List.Elements.{All-take, All-from_get_or}

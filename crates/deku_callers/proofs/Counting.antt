@@ -19,7 +19,7 @@ use Rattle.deku_symmetry.proofs.HighFirst.{Has, Lies, Lying, bytes_lie, each_has
 use Rattle.deku_callers.specs.CountedNumbers.{IsRecordOf}
 use Rattle.deku_callers.proofs.Headers.{Word, few, word_has, word_lies}
 
--- what of each item lies in n bits lies, of all of them, in as many times n bits
+-- what of each item is in n bits is, of all of them, in as many times n bits
 pub each_lies : {V : Type 0} (P : V → List Piece → Type 0) (n : ℕ) → ((v : V) → Lies (P v) n) → (vs : List V) → Lies (OfEach P vs) (n * length vs)
 each_lies P n lies [] ps none = let e : 8 * 0 ≡ n * 0 = omega arith in subst (Lying ps) e (bytes_lie [] ps none)
 each_lies P n lies (v ∷ vs) ps has =
@@ -89,7 +89,7 @@ module _ {V C : Type 0} (P : V → List Piece → Type 0) (same : V → V → Ty
       let count : limit ≡ Count (length vs) = counts ∙ ap (λ k. Count k) many in
       collected vs laid bytes is r (subst (λ l. Unpacks (MappedBy makes (ReadsUnder answers ended l m)) bytes r) count unpacks)
 
--- ---- numbers behind a byte that counts them
+-- ---- numbers after a byte that counts them
 -- such bytes are a record of the numbers
 pub recorded : (ns : List ℕ) (laid : AreLaid Word ns) (count : ℕ) (bytes : List ℕ) → count ≡ length ns → bytes ≡ laid_out laid.pieces → (r : Result (Vec ℕ) DekuError)
     → MatchResult r (λ v. v.items ≡ count ∷ bytes) (λ e. e ≡ Io OutOfMemory) → MatchResult r (λ v. IsRecordOf ns v.items) (λ e. e ≡ Io OutOfMemory)

@@ -1,4 +1,4 @@
--- What a source has left behind a value that was read from its front.
+-- What a source has left after a value that was read from its front.
 use Rattle.std.proofs.Common.{◌≡◌, ℕ, Bool, false, List, [], drop, Option, None, Some, Result, Ok, Err, IfOk, refl, ap, sym, ◌∙◌, subst, arith, inl, inr}
 use Rattle.std.specs.Prelude.{IfSome}
 use Rattle.deku_bits.specs.declared.error.DekuError.{DekuError}
@@ -21,7 +21,7 @@ counts_same remaining (Stopped w e c) = refl
 
 module _ {V : Type 0} {pieces : V → List Piece → Type 0} {same : V → V → Type 0} {writes : V → Meaning Output (Unit {0})} {m : Meaning (Option Stream) V} (A : IsSymmetric pieces same writes m)
     (wide : ℕ) (all : (v : V) (ps : List Piece) → pieces v ps → breadth ps ≡ wide) where
-  -- a value of so many bits that is read behind no bits counts these
+  -- a value of so many bits that is read after no bits counts these
   count : (S : Stream) (v : V) (u : Standing (Option Stream)) → Behind 0 m false (Going (Some S) 0) (Ok v) u → count_of u ≡ wide
   count S v u (Second w t (inl (past, e)) q) = absurd (omega (arith, past))
   count S v u (Second w t (inr (room, inl (has, r, is))) q) =

@@ -40,12 +40,12 @@ starts bytes remaining state e f = rw (e, f) refl
 values_are : (x y : List Number) → ◌≡◌ {A = Result (List Number) DekuError} (Ok x) (Ok y) → x ≡ y
 values_are x y e = cc
 
--- values that are answered are those of fields that were read
+-- values that are returned are those of fields that were read
 got : (fs : List Field) (s u : Standing (Option Stream)) (ns : List Number) → ReadsList fs false s (Ok ns) u → ReadsFields fs false s (Ok ns) u
 got fs s u ns (inl p) = let other = p.1 in absurd (cc)
 got fs s u ns (inr m) = m
 
--- behind a look fields are read, or no memory is found
+-- after a look fields are read, or no memory is found
 looked : (fs : List Field) (s u : Standing (Option Stream)) (r : Result (List Number) DekuError) → Then Ending (λ _. ReadsList fs) false s r u
     → (r ≡ Err (Io OutOfMemory)) ⊎ Looking 1 (ReadsFields fs) false s r u
 looked fs s u r (Second end t look (inl p)) = inl p.1
@@ -115,7 +115,7 @@ appended : (bytes : List ℕ) (t : Option (List ℕ)) → Appends (Some []) t by
 appended bytes None g = absurd g
 appended bytes (Some ys) g = ap Some g
 
--- what a sink tells that it took is where its writer stands
+-- what a sink reports that it took is where its writer is
 tells : (known : KnownSink) (state : Standing Pending) (after : Output) (c : ℕ) → writer_state known state ≡ Going after c → known.taken ≡ after.taken
 tells known (Stopped p e d) after c is = absurd (cc)
 tells known (Going pending d) after c is = cc
@@ -125,7 +125,7 @@ nothing_behind zero = refl
 nothing_behind (suc n) = refl
 
 module _ (layout : LayoutLaw) (padded : PaddedLaw) (items : List Item) (fitting : All IsFitting items) (aligned : AlignedFields (fields_of items)) (small : IsCountable items) where
-  -- items that are written from nothing and padded are what they lay out, as the sink tells
+  -- items that are written from nothing and padded are what they lay out, as the sink reports
   pub laid : (start : Standing Output) (known : KnownSink) (state : Standing Pending) → start ≡ Going in_memory 0
       → Both (WritesItems items) Finalizes false start (Ok tt) (writer_state known state) → (bytes : List ℕ) × LaysOut items bytes × (known.taken ≡ Some bytes)
   laid start known state begin m =

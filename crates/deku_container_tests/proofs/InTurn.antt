@@ -7,7 +7,7 @@ use Rattle.deku.specs.Outcomes.{Meaning}
 use Rattle.deku.specs.Wholes.{FromFirst}
 use Rattle.deku.proofs.Containers.{starts_fresh, counted_state}
 
--- a value that is read from a source which tells the bytes behind those of another one
+-- a value that is read from a source which reports the bytes after those of another one
 pub second_behind : {A B : Type 0} (m : Meaning (Option Stream) A) (k : Meaning (Option Stream) B) (bytes : List ℕ) (now next : Option (List ℕ)) (s : Standing (List Bool)) (v : Standing (Option Stream)) (n : ℕ) (a : A) (b : B)
     → now ≡ Some bytes → IfSome now (λ bs. next ≡ Some (drop (groups n) bs)) → n ≡ count_of s
     → m false (reader_state now (Going [] 0)) (Ok a) (reader_state next s) → k false (reader_state next (Going [] 0)) (Ok b) v

@@ -2,11 +2,10 @@
 
 ghost use Rattle.std.specs.Prelude.{◌≡◌, ◌↔◌, IsNone};
 
-use crate::checking::check;
-use crate::parsing::parse;
-use crate::place::told;
 use crate::printing::print;
-use crate::unprinted::unprinted;
+use deku_attributes::check;
+use deku_description::parse;
+use deku_description::place::told;
 use std::alloc::{AllocError, Global};
 
 /// What a run makes of a description.
@@ -30,20 +29,54 @@ pub enum Made {
 /// make(alloc, "point.rs", "struct Point { x: i16, y: i16 }")?    // a module
 /// make(alloc, "point.rs", "struct Point { x: i17 }")?    // wrong: point.rs:1:19: error: ..
 /// ```
-pub fn make(alloc: Global, file: &str, text: &str) -> Result<Made, AllocError> {
+pub fn make(alloc: Global, file: &str, path: Option<&str>, text: &str) -> Result<Made, AllocError> {
     let (parsed, complaints) = parse(alloc, text)?;
     if !complaints.is_empty() {
         return Ok(Made::Wrong(told(alloc, file, text, complaints.as_slice())?));
     }
     let (module, mut complaints) = check(alloc, text, parsed)?;
     if complaints.is_empty() {
-        complaints = unprinted(alloc, &module)?;
-    }
-    if complaints.is_empty() {
-        return Ok(Made::Module(print(alloc, file, &module)?));
+        let (printed, found) = print(alloc, file, path, &module)?;
+        if found.is_empty() {
+            return Ok(Made::Module(printed));
+        }
+        complaints = found;
     }
     complaints.sort_by_key(|complaint| complaint.span.start)?;
     Ok(Made::Wrong(told(alloc, file, text, complaints.as_slice())?))
+}
+
+/// The path of a module in ghost text: of `NAME::MODULE`, or else of a file
+/// `crates/NAME/src/MODULE.rt`.
+///
+/// # Errors
+///
+/// `AllocError` if there is no memory.
+///
+/// ```text
+/// module_path(alloc, None, "crates/samples/src/point.rt")?    // Some("samples.point")
+/// ```
+pub fn module_path(
+    alloc: Global,
+    named: Option<&str>,
+    file: &str,
+) -> Result<Option<String>, AllocError> {
+    if let Some(named) = named {
+        return Ok(Some(named.replace(alloc, "::", ".")?));
+    }
+    let Some(file) = file.strip_suffix(".rt") else {
+        return Ok(None);
+    };
+    let Some((front, module)) = file.rsplit_once("/src/") else {
+        return Ok(None);
+    };
+    let name = front.rsplit('/').next().unwrap_or(front);
+    let module = module.replace(alloc, "/", ".")?;
+    let module = module.as_str();
+    if module == "lib" {
+        return Ok(Some(String::from_str(alloc, name)?));
+    }
+    Ok(Some(format!(in alloc; "{name}.{module}")?))
 }
 
 /// The first line, from 1, in which two texts differ.

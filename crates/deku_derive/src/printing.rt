@@ -1,263 +1,311 @@
-//! Modules of plain records.
+//! Modules, as they are printed.
 
-use crate::model::{Field, Form, Module, Record};
-use crate::parts;
-use crate::parts::{kind, name_of, part_of};
-use crate::syntax::Type;
-use crate::tuples::{GROUP, Room, Tuple};
-use crate::unprinted::is_quoted;
+use crate::enums::Built;
+use crate::imports::imports;
+use crate::structs::docs;
+use crate::{enums, structs};
+use deku_attributes::model::{Case, Form, Id, IdSource, Ids, Module, Record};
+use deku_dependents::building::{Builder, field_name};
+use deku_dependents::marker::zeros;
+use deku_description::place::Complaint;
+use deku_description::syntax::{Constant, Type};
+use deku_description::token::Token;
+use deku_texts::part::Owner;
+use deku_texts::records::Records;
+use deku_texts::refusal::Stop;
+use deku_texts::words;
 use std::alloc::{AllocError, Global};
 use std::fmt::Write as _;
 
-// The parts, in the order in which `rt fmt` imports them.
-const PARTS: [&str; 8] = ["Be", "Codec", "Coded", "Le", "Lsb", "LsbBe", "Msb", "MsbLe"];
+/// A module while it is printed.
+#[derive(Drop)]
+struct Printer<'b, 'a> {
+    alloc: Global,
+    records: &'b Records<'b, 'a>,
+    constants: &'b [Constant<'a>],
+    out: String,
+    // The names of its types.
+    names: Vec<String>,
+    complaints: Vec<Complaint>,
+}
 
-const ADDRESSES: [&str; 2] = ["Ipv4Addr", "Ipv6Addr"];
-
-const TYPES: Room = Room {
-    outer: "    ",
-    inner: "        ",
-    innermost: "            ",
-    whole: 62,
-    group: 62,
-};
-
-const PATTERNS: Room = Room {
-    outer: "        ",
-    inner: "            ",
-    innermost: "                ",
-    whole: 86,
-    group: 87,
-};
-
-const VALUES: Room = Room {
-    outer: "        ",
-    inner: "            ",
-    innermost: "                ",
-    whole: 62,
-    group: 62,
-};
-
-const TERMS: Room = Room {
-    outer: "    ",
-    inner: "      ",
-    innermost: "        ",
-    whole: 69,
-    group: 93,
-};
-
-// The columns of a pattern that has the name after it on its line.
-const PATTERN: usize = 79;
-
-// The columns of what stands on one line between the braces of a value.
-const LITERAL: usize = 18;
-
-// The columns of what stands on one line between the braces of a value in ghost text.
-const GHOST_LITERAL: usize = 57;
-
-/// The module of checked records, of which those are printed that are plain: structs with named
-/// fields of numbers, truth values, arrays of bytes, addresses and other such records. Its comment
-/// names the description.
+/// The module of checked records, with what prevents it. Its comment names the description. The
+/// kinds of an enum are named in it by the path of the module.
 ///
 /// # Errors
 ///
 /// `AllocError` if there is no memory.
 ///
 /// ```text
-/// print(alloc, "point.rs", &module)?    // //! Printed by `derive` from `point.rs`. ..
+/// print(alloc, "point.rs", "samples.point", &module)?    // //! Printed by `derive` from ..
 /// ```
-pub fn print(alloc: Global, file: &str, module: &Module<'_>) -> Result<String, AllocError> {
-    let mut out = String::new(alloc);
-    docs(&mut out, module.docs.as_slice(), "//!")?;
+pub fn print(
+    alloc: Global,
+    file: &str,
+    path: Option<&str>,
+    module: &Module<'_>,
+) -> Result<(String, Vec<Complaint>), AllocError> {
+    let records = Records::new(alloc, module.records.as_slice())?;
+    let mut printer = Printer {
+        alloc,
+        records: &records,
+        constants: module.constants.as_slice(),
+        out: String::new(alloc),
+        names: Vec::new(alloc),
+        complaints: Vec::new(alloc),
+    };
+    for record in &module.records {
+        printer.record(record, path)?;
+    }
+    let Printer {
+        out,
+        complaints,
+        ..
+    } = printer;
+    let mut text = String::new(alloc);
+    docs(&mut text, module.docs.as_slice(), "//!")?;
     if !module.docs.is_empty() {
-        out.push_str("//!\n")?;
+        text.push_str("//!\n")?;
     }
-    writeln!(out, "//! Printed by `derive` from `{file}`.")?;
-    out.push_str("\nghost use Rattle.std.specs.Prelude.{refl};\n\n")?;
-    out.push_str("use deku::device::Sink;\n")?;
-    out.push_str("use deku::prelude::{DekuError, DekuWriter, Writer};\n")?;
-    let records = module.records.as_slice();
-    imports(&mut out, "deku_symmetry", &PARTS, records)?;
-    imports(&mut out, "std::net", &ADDRESSES, records)?;
-    for record in records {
-        if let Form::Struct(_, fields) = &record.form {
-            declaration(&mut out, record, fields.as_slice())?;
-            implementation(alloc, &mut out, record.name.text, fields.as_slice())?;
-        }
-    }
-    Ok(out)
+    let name = file.rsplit('/').next().unwrap_or(file);
+    writeln!(text, "//! Printed by `derive` from `{name}`.")?;
+    items(&mut text, path, module, out.as_str())?;
+    Ok((text, complaints))
 }
 
-fn docs(out: &mut String, lines: &[&str], marks: &str) -> Result<(), AllocError> {
-    for line in lines {
-        writeln!(out, "{marks}{line}")?;
+// Appends the imports and the items of a module, of which these are the records.
+fn items(
+    text: &mut String,
+    path: Option<&str>,
+    module: &Module<'_>,
+    records: &str,
+) -> Result<(), AllocError> {
+    let mut body = String::new(*text.allocator());
+    constants(&mut body, module.constants.as_slice())?;
+    if records.contains(", Zeros>") {
+        zeros(&mut body, "Msb")?;
+    }
+    if records.contains("LowZeros>") {
+        zeros(&mut body, "Lsb")?;
+    }
+    body.push_str(records)?;
+    imports(text, module, path, body.as_str())?;
+    text.push_str(body.as_str())
+}
+
+fn constants(out: &mut String, constants: &[Constant<'_>]) -> Result<(), AllocError> {
+    for constant in constants {
+        let name = constant.name.text;
+        let kind = constant.kind.text;
+        let value = constant.value;
+        writeln!(out, "\npub const {name}: {kind} = {value};")?;
     }
     Ok(())
 }
 
-// Imports those of these names that the records use.
-fn imports(
-    out: &mut String,
-    from: &str,
-    names: &[&'static str],
-    records: &[Record<'_>],
-) -> Result<(), AllocError> {
-    let mut used = Vec::new(*out.allocator());
-    for name in names {
-        if *name == "Codec" || records.iter().any(|record| uses(record, name)) {
-            used.push(*name)?;
-        }
+impl<'b, 'a> Printer<'b, 'a> {
+    // Notes what is wrong.
+    fn complain(&mut self, name: Token<'a>, message: &str, help: &str) -> Result<(), AllocError> {
+        let complaint = Complaint::new(self.alloc, name.span, message, help)?;
+        self.complaints.push(complaint)?;
+        Ok(())
     }
-    match used.as_slice() {
-        [] => Ok(()),
-        [name] => writeln!(out, "use {from}::{name};"),
-        names => {
-            let names = names.join(*out.allocator(), ", ")?;
-            writeln!(out, "use {from}::{{{names}}};")
-        }
-    }
-}
 
-// Whether a field of a record is of this type or of this part.
-fn uses(record: &Record<'_>, name: &str) -> bool {
-    let Form::Struct(_, fields) = &record.form else {
-        return false;
-    };
-    for field in fields {
-        let is_type = match &field.kind {
-            Type::Name(kind) => kind.is_name(name),
-            _ => false,
+    fn record(&mut self, record: &Record<'a>, path: Option<&str>) -> Result<(), AllocError> {
+        self.declare(record.name)?;
+        if record.context.is_some() {
+            self.complain(
+                record.name,
+                "a record that is given values has no part here",
+                "move the fields that need them into the record that has the values",
+            )?;
+        }
+        if !self.records.is_founded(record.name.text) {
+            self.complain(
+                record.name,
+                "a record that holds itself has no part here",
+                "write its traits by hand",
+            )?;
+        }
+        match &record.form {
+            Form::Struct(shape, fields) if fields.is_empty() => {
+                let _ = shape;
+                self.complain(
+                    record.name,
+                    "a struct without fields has no bits",
+                    "leave it out, or write `()` in its place",
+                )
+            }
+            Form::Struct(_, _) => self.structure(record),
+            Form::Enum(ids, cases) => self.enumeration(record, *ids, cases.as_slice(), path),
+        }
+    }
+
+    // Notes a name of the module, and complains of one that it has already.
+    fn declare(&mut self, name: Token<'a>) -> Result<(), AllocError> {
+        if words::is_imported(name.text) || self.has_name(name.text) {
+            self.complain(
+                name,
+                "a name that the module has already",
+                "give it another name",
+            )?;
+        }
+        self.names.push(String::from_str(self.alloc, name.text)?)?;
+        Ok(())
+    }
+
+    fn has_name(&self, name: &str) -> bool {
+        for taken in &self.names {
+            if taken.as_str().eq_ignore_ascii_case(name) {
+                return true;
+            }
+        }
+        false
+    }
+
+    // Notes what a builder made.
+    fn built(&mut self, record: &Record<'a>, builder: Builder<'b, 'a>) -> Result<(), AllocError> {
+        let Builder {
+            names,
+            complaints,
+            ..
+        } = builder;
+        for name in names {
+            if self.has_name(name.as_str()) {
+                self.complain(
+                    record.name,
+                    "a record with a field whose type has the name of another one",
+                    "give the field another name",
+                )?;
+            }
+            self.names.push(name)?;
+        }
+        for complaint in complaints {
+            self.complaints.push(complaint)?;
+        }
+        Ok(())
+    }
+
+    fn structure(&mut self, record: &Record<'a>) -> Result<(), AllocError> {
+        let Form::Struct(shape, fields) = &record.form else {
+            return Ok(());
         };
-        if is_type || part_of(field).around == name {
-            return true;
+        let name = record.name.text;
+        let is_copied = self.records.is_copied_record(name);
+        let owner = if is_copied {
+            Owner::Copied
+        } else {
+            Owner::Lent
+        };
+        let mut builder = Builder::new(self.alloc, self.records, self.constants, name, owner)?;
+        if let Some(bytes) = &record.magic {
+            let named = words::marker(self.alloc, name, "", "Magic")?;
+            let what = format!(in self.alloc; "magic of {name}")?;
+            let order = record.layout.order;
+            let added = builder.magic(bytes, named, what.as_str(), order, record.name.span);
+            builder.noted(added)?;
         }
+        builder.fields(fields.as_slice(), 0)?;
+        structs::declaration(&mut self.out, record, *shape, fields.as_slice(), is_copied)?;
+        self.out.push_str(builder.markers.as_str())?;
+        structs::implementation(
+            &mut self.out,
+            record,
+            *shape,
+            fields.as_slice(),
+            &mut builder,
+        )?;
+        self.built(record, builder)
     }
-    false
-}
 
-// The struct.
-fn declaration(
-    out: &mut String,
-    record: &Record<'_>,
-    fields: &[Field<'_>],
-) -> Result<(), AllocError> {
-    let name = record.name.text;
-    out.push('\n')?;
-    docs(out, record.docs.as_slice(), "///")?;
-    if record.docs.is_empty() {
-        writeln!(out, "/// A `{name}`.")?;
+    fn enumeration(
+        &mut self,
+        record: &Record<'a>,
+        ids: Ids<'a>,
+        cases: &[Case<'a>],
+        path: Option<&str>,
+    ) -> Result<(), AllocError> {
+        self.may_be_enum(record, ids, cases, path)?;
+        let mut kinds = Vec::new(self.alloc);
+        let mut markers = String::new(self.alloc);
+        for case in cases {
+            let kept = self.kept(case, ids)?;
+            let name = case.name.text;
+            let front = words::marker(self.alloc, record.name.text, name, "")?;
+            let front = front.as_str();
+            let mut builder = Builder::new(
+                self.alloc,
+                self.records,
+                self.constants,
+                front,
+                Owner::Kind,
+            )?;
+            let skipped = if kept.is_some() { 1 } else { 0 };
+            builder.fields(case.fields.as_slice(), skipped)?;
+            let part = builder.whole()?;
+            markers.push_str(builder.markers.as_str())?;
+            self.built(record, builder)?;
+            kinds.push(Built { case, kept, part })?;
+        }
+        enums::declaration(&mut self.out, record, kinds.as_slice())?;
+        self.out.push_str(markers.as_str())?;
+        enums::implementation(&mut self.out, record, ids, kinds.as_slice())
     }
-    out.push_str("#[derive(Debug, Clone, Copy, PartialEq, Eq)]\n")?;
-    writeln!(out, "pub struct {name} {{")?;
-    for field in fields {
-        docs(out, field.docs.as_slice(), "    ///")?;
-        let name = name_of(field);
-        write!(out, "    pub {name}: ")?;
-        kind(out, &field.kind)?;
-        out.push_str(",\n")?;
-    }
-    out.push_str("}\n")
-}
 
-// How the struct is read and written.
-fn implementation(
-    alloc: Global,
-    out: &mut String,
-    name: &str,
-    fields: &[Field<'_>],
-) -> Result<(), AllocError> {
-    writeln!(out, "\nimpl Codec for {name} {{")?;
-    out.push_str("    type Parts = ")?;
-    Tuple::new(alloc, fields, parts::Form::Type)?.print(out, TYPES)?;
-    out.push_str(";\n\n    ghost parts_of = { λ r. ")?;
-    Tuple::new(alloc, fields, parts::Form::Term)?.print(out, TERMS)?;
-    out.push_str(" };\n\n    ghost record_of = { λ p. record {")?;
-    record_of(alloc, out, fields)?;
-    out.push_str("} };\n\n")?;
-    from_parts(alloc, out, name, fields)?;
-    write_parts(alloc, out, fields)?;
-    out.push_str("    ghost there = { λ r. refl };\n}\n")
-}
+    // Complains of an enum that has no part.
+    fn may_be_enum(
+        &mut self,
+        record: &Record<'a>,
+        ids: Ids<'a>,
+        cases: &[Case<'a>],
+        path: Option<&str>,
+    ) -> Result<(), AllocError> {
+        let (message, help) = match ids.source {
+            IdSource::Context(_) => (
+                "an enum whose id comes from outside has no part here",
+                "write `id_type`, and leave the field with the id out",
+            ),
+            IdSource::Front(_) if ids.bits > 64 => (
+                "an id of more than 64 bits has no part here",
+                "write an id of at most 64 bits",
+            ),
+            IdSource::Front(_) if record.magic.is_some() => (
+                "a magic in front of an enum has no part here",
+                "write the magic on the field that holds the enum",
+            ),
+            IdSource::Front(_) if cases.is_empty() => (
+                "an enum without kinds has no values",
+                "write a kind",
+            ),
+            IdSource::Front(_) if path.is_none() => (
+                "an enum needs the name of its module",
+                "print it with `-o crates/NAME/src/MODULE.rt`, or with `--module NAME::MODULE`",
+            ),
+            IdSource::Front(_) => return Ok(()),
+        };
+        self.complain(record.name, message, help)
+    }
 
-// The fields made of the parts, as they stand between the braces.
-fn record_of(alloc: Global, out: &mut String, fields: &[Field<'_>]) -> Result<(), AllocError> {
-    let is_grouped = fields.len() > GROUP;
-    let mut items = Vec::new(alloc);
-    for (i, field) in fields.iter().enumerate() {
-        items.push(made_of(alloc, field, i, is_grouped)?)?;
+    // The field of a kind of several ids that keeps its id.
+    fn kept(&mut self, case: &Case<'a>, ids: Ids<'a>) -> Result<Option<String>, AllocError> {
+        if matches!(case.id, Id::Number(_)) {
+            return Ok(None);
+        }
+        if let (Some(field), IdSource::Front(kind)) = (case.fields.first(), ids.source) {
+            let is_plain = field.bits.is_none() && field.attributes.is_empty();
+            let is_id = match &field.kind {
+                Type::Name(name) => name.is_name(kind),
+                _ => false,
+            };
+            if is_plain && is_id {
+                return Ok(Some(field_name(self.alloc, field, 0)?));
+            }
+        }
+        self.complain(
+            case.name,
+            "a kind of several ids that does not keep its id",
+            "write a first field of the type of the id, without attributes",
+        )?;
+        Ok(None)
     }
-    let line = items.as_slice().join(alloc, "; ")?;
-    if line.len() <= GHOST_LITERAL {
-        let line = line.as_str();
-        return write!(out, " {line} ");
-    }
-    let lines = items.as_slice().join(alloc, ";\n      ")?;
-    write!(out, "\n      {lines};\n    ")
-}
-
-// A field, and where it is in the parts.
-fn made_of(
-    alloc: Global,
-    field: &Field<'_>,
-    i: usize,
-    is_grouped: bool,
-) -> Result<String, AllocError> {
-    let mut out = String::new(alloc);
-    let name = name_of(field);
-    if is_quoted(name) {
-        write!(out, "«{name}» = p.")?;
-    } else {
-        write!(out, "{name} = p.")?;
-    }
-    if is_grouped {
-        let group = i / GROUP;
-        write!(out, "{group}.")?;
-    }
-    let place = i % GROUP;
-    write!(out, "{place}")?;
-    if !part_of(field).around.is_empty() {
-        out.push_str(".0")?;
-    }
-    Ok(out)
-}
-
-// The function that makes the struct of its parts.
-fn from_parts(
-    alloc: Global,
-    out: &mut String,
-    name: &str,
-    fields: &[Field<'_>],
-) -> Result<(), AllocError> {
-    out.push_str("    fn from_parts(parts: Self::Parts) -> Self {\n        let ")?;
-    let pattern = Tuple::new(alloc, fields, parts::Form::Pattern)?;
-    pattern.print(out, PATTERNS)?;
-    let columns = pattern.line.len();
-    if columns > PATTERN && columns <= PATTERNS.whole {
-        out.push_str(" =\n            parts;\n")?;
-    } else {
-        out.push_str(" = parts;\n")?;
-    }
-    let mut names = Vec::new(alloc);
-    for field in fields {
-        names.push(name_of(field))?;
-    }
-    let line = names.as_slice().join(alloc, ", ")?;
-    if line.len() <= LITERAL {
-        writeln!(out, "        {name} {{ {line} }}\n    }}\n")
-    } else {
-        let lines = names.as_slice().join(alloc, ",\n            ")?;
-        writeln!(
-            out,
-            "        {name} {{\n            {lines},\n        }}\n    }}\n"
-        )
-    }
-}
-
-// The function that writes the parts.
-fn write_parts(alloc: Global, out: &mut String, fields: &[Field<'_>]) -> Result<(), AllocError> {
-    let front = "    fn write<W: Sink>(&self, writer: &mut Writer<W>) -> Result<(), DekuError> {\n";
-    out.push_str(front)?;
-    out.push_str("        let parts: Self::Parts = ")?;
-    Tuple::new(alloc, fields, parts::Form::Value)?.print(out, VALUES)?;
-    out.push_str(";\n        parts.to_writer(writer, ())\n    }\n\n")
 }

@@ -5,7 +5,7 @@ use std::alloc::{AllocError, Global};
 use std::test::Fail;
 
 // A description, and the lines that begin with the name of its file.
-const ROWS: [(&str, &str); 36] = [
+const ROWS: [(&str, &str); 32] = [
     ("struct A { a: u8", "1:17 expected `}`, found the end"),
     ("struct A { a u8 }", "1:14 expected `:`, found `u8`"),
     ("struct A { a: u8 b: u8 }", "1:18 expected `}`, found `b`"),
@@ -110,34 +110,124 @@ const ROWS: [(&str, &str); 36] = [
         "1:79 a kind after the one for all other ids",
     ),
     (
-        "#[deku(id_type = \"u8\")] enum E { #[deku(id_pat = \"2..=6\")] A, #[deku(id_pat = \"_\")] B }",
-        "1:41 a pattern of several ids has no part here",
+        "#[deku(id_type = \"u8\")] enum E { #[deku(id_pat = \"1 | 2\")] A(u8) }",
+        "1:41 a pattern of ids that has no part here",
+    ),
+    (
+        "#[deku(id_type = \"u8\")] enum E { #[deku(id_pat = \"2..=6\")] A(u8), #[deku(id = 3)] B }",
+        "1:83 an id that another kind has",
     ),
     (
         "struct A { n: u8,\n\t#[deku(count = \"*n +\")] a: Vec<u8> }",
         "2:22 expected a field, a constant or a number, found the end",
     ),
+];
+
+// Descriptions that deku takes and that have no module.
+const UNPRINTED: [(&str, &str); 25] = [
     (
-        "#[deku(id_type = \"u8\")] enum E { A }",
-        "1:30 derive does not print `enum` yet",
+        "#[deku(id_type = \"u8\")] enum E {
+         #[deku(id_pat = \"2..=6\")] A, #[deku(id_pat = \"_\")] B }",
+        "2:36 a kind of several ids that does not keep its id
+2:61 a kind of several ids that does not keep its id",
+    ),
+    ("struct A;", "1:8 a struct without fields has no bits"),
+    (
+        "struct A { #[deku(endian = \"other\")] a: u16 }",
+        "1:41 an endian that another value says has no part here",
     ),
     (
-        "struct A(u8);",
-        "1:8 derive does not print `struct of a tuple` yet",
+        "#[deku(ctx = \"n: u8\")] struct A { a: u8 }",
+        "1:31 a record that is given values has no part here",
     ),
     (
-        "struct A { n: u8, #[deku(count = \"n\")] a: Vec<u8> }",
-        "1:43 derive does not print `count` yet",
+        "struct A { next: Box<A> }",
+        "1:8 a record that holds itself has no part here",
     ),
     (
-        "struct A { b: B } struct B { a: [u16; 4] }",
-        "1:15 derive does not print `B` yet
-1:33 derive does not print `[u16; 4]` yet",
+        "#[deku(id_type = \"u8\", magic = b\"A\")] enum E { #[deku(id = 1)] A }",
+        "1:44 a magic in front of an enum has no part here",
+    ),
+    (
+        "#[deku(id_type = \"u8\")] enum E {
+         #[deku(id = 1)] A { n: u8, #[deku(count = \"n\")] v: Vec<u8> } }",
+        "2:61 memory in a kind of an enum has no part here",
+    ),
+    (
+        "struct A { #[deku(count = \"3\")] v: Vec<u8> }",
+        "1:36 a list or an option with no field in front",
+    ),
+    (
+        "struct A { n: u8, #[deku(count = \"n & 3\")] v: Vec<u8> }",
+        "1:39 an operator on the bits of a number has no part here",
+    ),
+    (
+        "struct A { n: u64, #[deku(count = \"n * 2\")] v: Vec<u8> }",
+        "1:40 a number that may be larger than 64 bits hold, or none",
+    ),
+    (
+        "struct A { n: i8, #[deku(count = \"n\")] v: Vec<u8> }",
+        "1:35 a field in an expression that is no number from 0 and no truth value",
+    ),
+    (
+        "struct A { n: u8, #[deku(count = \"n == 1\")] v: Vec<u8> }",
+        "1:48 a count that is no number",
+    ),
+    (
+        "struct A { n: u8, #[deku(cond = \"n\")] v: Option<u8> }",
+        "1:42 a condition that is a number",
+    ),
+    (
+        "struct A { n: u8, #[deku(cond = \"n - 1 == 2\")] v: Option<u8> }",
+        "1:51 a difference, or a quotient by a field, in a condition",
+    ),
+    (
+        "struct A { n: u16, #[deku(count = \"n as u8\")] v: Vec<u8> }",
+        "1:41 a type that does not hold the number",
+    ),
+    (
+        "struct A { n: u8, #[deku(bytes_read = \"n\")] v: Vec<u8> }",
+        "1:48 a list that ends after so many bits or bytes has no part here",
+    ),
+    (
+        "struct A { #[deku(until = \"|v: &u8| *v == 0\")] v: Vec<u8> }",
+        "1:51 a list that ends with an item of its own has no part here",
+    ),
+    (
+        "struct A { #[deku(read_all)] v: Vec<u8> }",
+        "1:33 a list up to the end of the input has no part here",
+    ),
+    (
+        "struct A { #[deku(temp, temp_value = \"1\")] n: u8 }",
+        "1:47 a field that the record does not keep has no part here",
+    ),
+    (
+        "struct A { n: u8, #[deku(bits = \"n\")] v: u8 }",
+        "1:42 a width that a field says has no part here",
+    ),
+    (
+        "#[deku(magic = b\"123456789\")] struct A { n: u8 }",
+        "1:38 a magic of no bytes, or of more than 8",
+    ),
+    (
+        "struct A { m: u8, n: u8,
+         #[deku(count = \"m\")] v: Vec<u8>, #[deku(count = \"n\")] w: Vec<u8> }",
+        "2:67 a list that a field in front of another list counts has no part here",
+    ),
+    (
+        "struct A { v: [Option<u8>; 2] }",
+        "1:15 an option in another type has no part here",
     ),
     (
         "struct A { parts: u8, a: u16, A: u8 }",
-        "1:12 derive does not print `parts` yet
-1:31 derive does not print `A` yet",
+        "1:12 a field of the name `parts`, which the module has already
+1:31 a field of the name `A`, which the module has already",
+    ),
+    (
+        "struct Be { a: u8 } struct A { n: u8, #[deku(count = \"n\")] v: Vec<u8> }
+         struct AVCount { a: u8 }",
+        "1:8 a name that the module has already
+2:17 a name that the module has already",
     ),
 ];
 
@@ -150,10 +240,30 @@ fn complaints_have_places(rt: HostRuntime) -> Result<(), Fail> {
     Ok(())
 }
 
+#[test]
+fn descriptions_without_a_module(rt: HostRuntime) -> Result<(), Fail> {
+    for (text, wanted) in &UNPRINTED {
+        let said = said_of(rt.alloc(), text)?;
+        assert_eq!(rt; said.as_str(), *wanted, "of {text}");
+    }
+    let said = said_of_unplaced(rt.alloc(), "#[deku(id_type = \"u8\")] enum E { A }")?;
+    assert_eq!(rt; said.as_str(), "1:30 an enum needs the name of its module");
+    Ok(())
+}
+
 // The places and messages of what is said of a description, a line each.
 fn said_of(alloc: Global, text: &str) -> Result<String, AllocError> {
+    told_of(alloc, make(alloc, "a.rs", Some("samples.a"), text)?)
+}
+
+// The same if the module has no place.
+fn said_of_unplaced(alloc: Global, text: &str) -> Result<String, AllocError> {
+    told_of(alloc, make(alloc, "a.rs", None, text)?)
+}
+
+fn told_of(alloc: Global, made: Made) -> Result<String, AllocError> {
     let mut said = String::new(alloc);
-    let Made::Wrong(told) = make(alloc, "a.rs", text)? else {
+    let Made::Wrong(told) = made else {
         return Ok(said);
     };
     for line in told.as_str().lines() {
@@ -177,7 +287,7 @@ fn complaints_quote_the_line(rt: HostRuntime) -> Result<(), Fail> {
            ^
 help: write `bits`
 ";
-    match make(rt.alloc(), "a.rs", text)? {
+    match make(rt.alloc(), "a.rs", None, text)? {
         Made::Wrong(told) => assert_eq!(rt; told.as_str(), wanted),
         Made::Module(_) => assert!(rt; false, "it is taken"),
     }

@@ -1,8 +1,9 @@
 //! Descriptions that are taken.
 
+use deku_attributes::check;
 use deku_derive::making::first_difference;
-use deku_derive::place::told;
-use deku_derive::{check, parse};
+use deku_description::parse;
+use deku_description::place::told;
 use std::alloc::{AllocError, Global};
 use std::test::Fail;
 
@@ -31,7 +32,8 @@ const TAKEN: [(&str, &str); 9] = [
     ),
     (
         "records in records, with comments",
-        "//! Of points.\n/// A point.\npub struct Point { /// across\n pub x: i16, pub(crate) y: i16 }
+        "//! Of points.\n/// A point.
+         pub struct Point { /// across\n pub x: i16, pub(crate) y: i16 }
          /* and /* lines */ of them */ struct Line(Point, [Point; 2], (u8, Ipv4Addr));",
     ),
     (
@@ -41,7 +43,8 @@ const TAKEN: [(&str, &str); 9] = [
     (
         "constants and other files",
         "use super::point::Point; use std::ffi::CString; const N: usize = 0x4;
-         struct A { at: Point, all: [u8; N], #[deku(count = \"N - 1\")] some: Vec<u8>, n: CString }",
+         struct A { at: Point, all: [u8; N],
+         #[deku(count = \"N - 1\")] some: Vec<u8>, n: CString }",
     ),
     (
         "raw names",

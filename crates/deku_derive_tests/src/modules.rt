@@ -1,6 +1,6 @@
 //! Modules that are printed.
 
-use deku_derive::making::{Made, make};
+use deku_derive::making::{Made, make, module_path};
 use std::test::Fail;
 
 const DATAGRAM: &str = "//! The header of a UDP datagram, RFC 768.
@@ -21,10 +21,9 @@ const DATAGRAM_MODULE: &str = "//! The header of a UDP datagram, RFC 768.
 //! Printed by `derive` from `a.rs`.
 
 ghost use Rattle.std.specs.Prelude.{refl};
+ghost use Rattle.deku_symmetry.specs.Fields.{be, msb};
 
-use deku::device::Sink;
-use deku::prelude::{DekuError, DekuWriter, Writer};
-use deku_symmetry::{Be, Codec, Msb};
+use deku_symmetry::{Be, CopyParts, Msb};
 
 /// A `Udp`.
 #[derive(Debug, Clone, Copy, PartialEq, Eq)]
@@ -36,16 +35,10 @@ pub struct Udp {
     pub tail: [u8; 2],
 }
 
-impl Codec for Udp {
+impl CopyParts for Udp {
     type Parts = (Be<u16>, Be<u16>, Msb<u8, 4>, Msb<u8, 4>, [u8; 2]);
 
-    ghost parts_of = { λ r. (
-      record { 0 = r.source },
-      record { 0 = r.destination },
-      record { 0 = r.kind },
-      record { 0 = r.flags },
-      r.tail,
-    ) };
+    ghost parts_of = { λ r. (be r.source, be r.destination, msb r.kind, msb r.flags, r.tail) };
 
     ghost record_of = { λ p. record {
       source = p.0.0;
@@ -66,15 +59,14 @@ impl Codec for Udp {
         }
     }
 
-    fn write<W: Sink>(&self, writer: &mut Writer<W>) -> Result<(), DekuError> {
-        let parts: Self::Parts = (
+    fn parts(&self) -> Self::Parts {
+        (
             Be(self.source),
             Be(self.destination),
             Msb(self.kind),
             Msb(self.flags),
             self.tail,
-        );
-        parts.to_writer(writer, ())
+        )
     }
 
     ghost there = { λ r. refl };
@@ -100,10 +92,9 @@ struct Host {
 const HOST_MODULE: &str = "//! Printed by `derive` from `a.rs`.
 
 ghost use Rattle.std.specs.Prelude.{refl};
+ghost use Rattle.deku_symmetry.specs.Fields.{be, coded, le, lsb, msb_le};
 
-use deku::device::Sink;
-use deku::prelude::{DekuError, DekuWriter, Writer};
-use deku_symmetry::{Be, Codec, Coded, Le, Lsb, MsbLe};
+use deku_symmetry::{Be, Coded, CopyParts, Le, Lsb, MsbLe};
 use std::net::Ipv4Addr;
 
 /// A `Pair`.
@@ -113,21 +104,19 @@ pub struct Pair {
     pub data: u16,
 }
 
-impl Codec for Pair {
+impl CopyParts for Pair {
     type Parts = (Lsb<u8, 4>, Lsb<u16, 12>);
 
-    ghost parts_of = { λ r. (record { 0 = r.low }, record { 0 = r.data }) };
+    ghost parts_of = { λ r. (lsb r.low, lsb r.data) };
 
     ghost record_of = { λ p. record { low = p.0.0; «data» = p.1.0 } };
 
-    fn from_parts(parts: Self::Parts) -> Self {
-        let (Lsb(low), Lsb(data)) = parts;
+    fn from_parts((Lsb(low), Lsb(data)): Self::Parts) -> Self {
         Pair { low, data }
     }
 
-    fn write<W: Sink>(&self, writer: &mut Writer<W>) -> Result<(), DekuError> {
-        let parts: Self::Parts = (Lsb(self.low), Lsb(self.data));
-        parts.to_writer(writer, ())
+    fn parts(&self) -> Self::Parts {
+        (Lsb(self.low), Lsb(self.data))
     }
 
     ghost there = { λ r. refl };
@@ -144,16 +133,10 @@ pub struct Host {
     pub port: u16,
 }
 
-impl Codec for Host {
+impl CopyParts for Host {
     type Parts = (Coded<Pair>, Be<Ipv4Addr>, bool, MsbLe<u32, 24>, Le<u16>);
 
-    ghost parts_of = { λ r. (
-      record { 0 = r.pair },
-      record { 0 = r.address },
-      r.up,
-      record { 0 = r.cost },
-      record { 0 = r.port },
-    ) };
+    ghost parts_of = { λ r. (coded r.pair, be r.address, r.up, msb_le r.cost, le r.port) };
 
     ghost record_of = { λ p. record {
       pair = p.0.0;
@@ -163,8 +146,7 @@ impl Codec for Host {
       port = p.4.0;
     } };
 
-    fn from_parts(parts: Self::Parts) -> Self {
-        let (Coded(pair), Be(address), up, MsbLe(cost), Le(port)) = parts;
+    fn from_parts((Coded(pair), Be(address), up, MsbLe(cost), Le(port)): Self::Parts) -> Self {
         Host {
             pair,
             address,
@@ -174,15 +156,14 @@ impl Codec for Host {
         }
     }
 
-    fn write<W: Sink>(&self, writer: &mut Writer<W>) -> Result<(), DekuError> {
-        let parts: Self::Parts = (
+    fn parts(&self) -> Self::Parts {
+        (
             Coded(self.pair),
             Be(self.address),
             self.up,
             MsbLe(self.cost),
             Le(self.port),
-        );
-        parts.to_writer(writer, ())
+        )
     }
 
     ghost there = { λ r. refl };
@@ -192,10 +173,31 @@ impl Codec for Host {
 #[test]
 fn plain_records_are_printed(rt: HostRuntime) -> Result<(), Fail> {
     for (text, module) in &[(DATAGRAM, DATAGRAM_MODULE), (HOST, HOST_MODULE)] {
-        match make(rt.alloc(), "a.rs", text)? {
+        match make(rt.alloc(), "a.rs", None, text)? {
             Made::Module(printed) => assert_eq!(rt; printed.as_str(), *module),
             Made::Wrong(told) => assert_eq!(rt; told.as_str(), "", "of {module}"),
         }
+    }
+    Ok(())
+}
+
+const PATHS: [(Option<&str>, &str, Option<&str>); 5] = [
+    (Some("samples::point"), "a.rt", Some("samples.point")),
+    (None, "crates/samples/src/point.rt", Some("samples.point")),
+    (
+        None,
+        "/work/samples/src/shapes/point.rt",
+        Some("samples.shapes.point"),
+    ),
+    (None, "crates/samples/src/lib.rt", Some("samples")),
+    (None, "point.rt", None),
+];
+
+#[test]
+fn modules_have_paths(rt: HostRuntime) -> Result<(), Fail> {
+    for (named, file, wanted) in &PATHS {
+        let path = module_path(rt.alloc(), *named, file)?;
+        assert_eq!(rt; path.as_deref(), *wanted, "of {file}");
     }
     Ok(())
 }

@@ -1,6 +1,6 @@
 //! Which attributes are taken, and the word that is nearest to one that is unknown.
 
-use deku_derive::table::{Owner, Verdict, judge};
+use deku_attributes::table::{Owner, Verdict, judge};
 use std::test::Fail;
 
 const NEAREST: [(&str, &str); 5] = [

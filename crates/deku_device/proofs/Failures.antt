@@ -1,4 +1,4 @@
--- What a device tells of its failures and of all its bytes, one call after the other.
+-- What a device reports of its failures and of all its bytes, one call after the other.
 use Rattle.std.proofs.Common.{ℕ, Option, Some, None, refl, ◌∙◌, arith}
 use Rattle.deku_device.specs.Devices.{Health, NotFewer, More, DeviceKept, DeviceFailed}
 use Rattle.deku_device.proofs.Wholes.{onward_on, onward_same}

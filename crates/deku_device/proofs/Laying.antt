@@ -8,7 +8,7 @@ use Rattle.std.proofs.lemmas.List.Elements.{All-get_or}
 abbrev pub IsByte : ℕ → Type 0
 IsByte b = b < 256
 
--- and zero behind the last
+-- and zero after the last
 pub each_byte : (bs : List ℕ) → All IsByte bs → (i : ℕ) → get_or bs i 0 < 256
 each_byte bs h i = ⊎_elim
     (λ (inside : i < length bs). All-get_or IsByte bs i 0 inside h)

@@ -30,7 +30,7 @@ front_of : (p q : ℕ) (a s : List ℕ) → p ≤ q → take q (take p a ++ s) �
 front_of p q a s le = let n : length (take p a) ≡ min p (length a) = length-take p a in
     same_lists _ _ (search (rules, places)) (λ k d h. grind (arith, places))
 
--- what lies behind a place lies behind each one further on
+-- what is after a place is after each one further on
 later_back : (q r : ℕ) (a b : List ℕ) → q ≤ r → drop q b ≡ drop q a → drop r b ≡ drop r a
 later_back q r a b le e =
     let n : q + (r - q) ≡ r = omega arith in
@@ -120,7 +120,7 @@ slice_onward a b p q bytes e n = let over = over_slice a p bytes in inr (record 
   size = rw e (over.0);
 })
 
--- and the room behind them is what was there
+-- and the room after them is what was there
 pub slice_room : (a b : List ℕ) (p q : ℕ) (bytes : List ℕ) → b ≡ overlaid a p (fitting_front a p bytes) → q ≡ p + length (fitting_front a p bytes)
     → ShrinksSome (Some (drop p a)) (Some (drop q b))
 slice_room a b p q bytes e n =
@@ -139,7 +139,7 @@ reached a p =
     let n : p ≤ length (reaching p a) = simp (length-append, length-replicate) (omega arith) in
     (length-take-le p (reaching p a) n, (take (p - length a) (replicate (p - length a) 0), front_append p a (replicate (p - length a) 0)))
 
--- what lies behind, where zeros filled up
+-- what is after, where zeros filled up
 behind_reached : (a : List ℕ) (p n : ℕ) → drop (p + n) (reaching p a) ≡ drop (p + n) a
 behind_reached a p n = ⊎_elim
     (λ (past : length a < p). let m : length (reaching p a) ≤ p + n = simp (length-append, length-replicate) (omega arith) in

@@ -179,8 +179,8 @@ pub trait Sink: Write + Seek {
     ///
     /// ```text
     /// let mut sink = Cursor::new(&mut room[..]);   // nine bytes of room
-    /// sink.try_put([1, 2, 3, 4, 5, 6, 7, 8], 2)    // true: 1 and 2 are given, seven bytes are left
-    /// sink.try_put([3, 4, 5, 6, 7, 8, 9, 10], 2)   // false: nothing is given
+    /// sink.try_put([1, 2, 3, 4, 5, 6, 7, 8], 2)   // true: 1 and 2 are given, seven bytes are left
+    /// sink.try_put([3, 4, 5, 6, 7, 8, 9, 10], 2)  // false: nothing is given
     /// ```
     fn try_put(&mut self, eight: [u8; 8], n: usize) -> bool
         requires { n ≤ 8 }

@@ -24,7 +24,7 @@ ghost use Rattle.std.specs.Prelude.{◌≡◌, ◌≤◌, ◌<◌, ◌^◌, Err,
 ghost use Rattle.std.specs.declared.io.ErrorKind.TheVariants.{InvalidInput};
 ghost use Rattle.std.proofs.Common.{ap, sym};
 ghost use Rattle.deku_bits.specs.declared.error.DekuError.TheVariants.{Io};
-ghost use Rattle.deku_elf.specs.Elf.{endian_of, fields_of, segments_at, tagged_of, elf_of, tagged_back};
+ghost use Rattle.deku_elf.specs.Elf.{endian_of, fields_of, segments_at, in_file, elf_of, file_back};
 ghost use Rattle.deku_elf.specs.Following.{ReadsFrom, ReadsSegments, bits_before};
 ghost use Rattle.deku_elf.specs.declared.Elf.TheVariants.{Little, Big};
 ghost use Rattle.deku.specs.Outcomes.{Mapped};
@@ -40,8 +40,8 @@ use deku::prelude::{
     DekuContainerRead, DekuContainerWrite, DekuError, DekuReader, DekuWriter, Reader, Writer,
 };
 use deku_symmetry::{
-    Be, Constant, ConstantLaw, FromParts, Le, Magic, Msb, MsbTagged, Only, Record, Tagged, ToParts,
-    read_record, write_record,
+    Be, Constant, ConstantLaw, Either, Enum, FromParts, Kind, Le, Magic, Msb, MsbEnum, Record,
+    ToParts, read_record, write_record,
 };
 use std::io::{Seek, SeekFrom};
 
@@ -168,7 +168,7 @@ impl ConstantLaw<Msb<u8, 8>> for Class {
 type Parts = (
     Magic<Be<u32>, Signature>,
     Magic<Msb<u8, 8>, Class>,
-    MsbTagged<Le<Fields>, Only<Be<Fields>, 2>, 1, 8>,
+    MsbEnum<Either<Kind<Le<Fields>, 1>, Kind<Be<Fields>, 2>>, 8>,
 );
 
 impl FromParts<()> for Elf {
@@ -177,16 +177,16 @@ impl FromParts<()> for Elf {
     ghost parts_of = { λ r. (
       record { part = record {}; constant = record {} },
       record { part = record {}; constant = record {} },
-      tagged_of r,
+      in_file r,
     ) };
 
     ghost record_of = { λ p. elf_of p.2 };
 
     fn from_parts(parts: Self::Parts) -> Self {
-        let (_, _, tagged) = parts;
-        match tagged {
-            Tagged::This(Le(fields)) => Elf::Little(fields),
-            Tagged::Other(Only(Be(fields))) => Elf::Big(fields),
+        let (_, _, fields) = parts;
+        match fields.kind {
+            Either::This(Kind(Le(fields))) => Elf::Little(fields),
+            Either::Other(Kind(Be(fields))) => Elf::Big(fields),
         }
     }
 
@@ -195,16 +195,16 @@ impl FromParts<()> for Elf {
 
 impl ToParts<()> for Elf {
     fn parts(&self) -> Self::Parts {
-        let tagged = match self {
-            Elf::Little(fields) => Tagged::This(Le(*fields)),
-            Elf::Big(fields) => Tagged::Other(Only(Be(*fields))),
+        let kind = match self {
+            Elf::Little(fields) => Either::This(Kind(Le(*fields))),
+            Elf::Big(fields) => Either::Other(Kind(Be(*fields))),
         };
-        (Magic::new(), Magic::new(), tagged)
+        (Magic::new(), Magic::new(), Enum::new(kind))
     }
 }
 
 impl Record for Elf {
-    ghost back = { λ p ps h. ap (λ t. (p.0, p.1, t)) (tagged_back p.2) };
+    ghost back = { λ p ps h. ap (λ t. (p.0, p.1, t)) (file_back p.2) };
 
     ghost reads = { λ b s r u m. m };
 

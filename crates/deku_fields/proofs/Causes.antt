@@ -29,7 +29,7 @@ fields_vec fs s r u k (inl p) (inl q) = let d = p.1 in inl (let e : OutOfMemory 
 fields_vec fs s r u k (inl p) (inr q) = inr (rw p.2 at q)
 fields_vec fs s r u k (inr p) q = wider WantsMemory (ReadsFields fs) (fields fs) s r u k p q
 
--- what a reader keeps, it keeps whatever its source tells
+-- what a reader keeps, it keeps whatever its source reports
 kept_reader : (remaining : Option (List ℕ)) (s : Standing (List Bool)) (k : ErrorKind) → KeepsIo k (reader_state remaining s) → KeepsIo k s
 kept_reader remaining (Going w c) k p = p
 kept_reader remaining (Stopped a e c) k p = p

@@ -145,7 +145,7 @@ later gs s t u f g h r e n (Broken a p q) = Broken a (subst (λ x. ReadsFields g
 pub look : LookLaw
 look gs S c t u f g h at_end r a b = let d = meant a in later gs (Going (Some S) c) t u f g h r (d.0.1) (d.1) b
 
--- a look that answers leaves the same
+-- a look that returns leaves the same
 same_behind : (S : Stream) (c : ℕ) (at_end : Bool) (t : Standing (Option Stream)) → Ending false (Going (Some S) c) (Ok at_end) t → t ≡ Going (Some S) c
 same_behind S c at_end t p = p.1
 
@@ -160,7 +160,7 @@ unlooked m zero S c r u p = p
 unlooked m (suc n) S c r u (Second at_end t p q) = unlooked m n S c r u (subst (λ x. Looking n m false x r u) (same_behind S c at_end t p) q)
 unlooked m (suc n) S c r u (First e p q) = absurd (no_refusal S c e u p)
 
--- ---- what is told stays told
+-- ---- what is known stays known
 record Told (u : Standing (Option Stream)) : Type 0 where
   stream : Stream
   count : ℕ

@@ -37,7 +37,7 @@ total_more : (xs : List (Order × ℕ)) (f : Order × ℕ) → total (xs ++ f �
 total_more [] f = omega arith
 total_more (x ∷ xs) f = omega (arith, total_more xs f)
 
--- the order behind it
+-- the order after it
 abbrev next_order : Order → Order → ℕ → Order
 next_order o q w = last_order o ((q, w) ∷ [])
 
@@ -51,7 +51,7 @@ next_some o q zero h = absurd (omega arith)
 next_some o q (suc w) h = refl
 
 -- ---- one field more
--- the first m fields have a picture: so many bits, and this order behind them
+-- the first m fields have a picture: so many bits, and this order after them
 abbrev pub IsDrawn : List Field → ℕ → ℕ → Order → Type 0
 IsDrawn fs m bits o = (bits ≡ total (map field_shape (take m fs)))
     × (bits ≤ 128 * m)

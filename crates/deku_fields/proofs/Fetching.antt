@@ -43,7 +43,7 @@ field_bits f n told after s u xs ys d e read =
     takes_bits f.layout.order (field_width f) took.0 told after s u xs ys d e (Quiet took.1 m.1)
 
 -- ---- fields
--- Fields of n bits were read, where the bytes to come are told: so many bytes were fetched, fewer than eight bits are unread, or nothing was read.
+-- Fields of n bits were read, where the bytes to come are known: so many bytes were fetched, fewer than eight bits are unread, or nothing was read.
 abbrev pub Tally : ℕ → Standing (List Bool) → Option (List ℕ) → Standing (List Bool) → Option (List ℕ) → Type 0
 Tally n s None u now = ⊤
 Tally n s (Some bytes) u now = (k : ℕ) × Loses k (Some bytes) now × (length (window_of s) + 8 * k ≡ n + length (window_of u)) × ((length (window_of u) < 8) ⊎ ((n ≡ 0) × (k ≡ 0)))

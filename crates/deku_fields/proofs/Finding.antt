@@ -1,4 +1,4 @@
--- What a list of fields finds in any stream that is told.
+-- What a list of fields finds in any stream that is known.
 use Rattle.std.proofs.Common.{◌≡◌, ℕ, ◌+◌, Bool, true, false, Result, Ok, Err, Option, Some, List, [], ◌∷◌, map, length, refl, ap, sym, ◌∙◌, subst, inl, inr, arith}
 use Rattle.std.proofs.lemmas.List.Elements.{All-cons, All-nil}
 use Rattle.deku_bits.specs.declared.error.DekuError.{DekuError}
@@ -26,7 +26,7 @@ worth_of : (b : Bool) (w n : ℕ) → IsNumber b (with_sign b w n) (number_of b 
 worth_of false w n = refl
 worth_of true w n = refl
 
--- bits that were taken from a stream that is told
+-- bits that were taken from a stream that is known
 took_here : (o : Order) (n : ℕ) (S : Stream) (c : ℕ) (bits : List Bool) (u : Standing (Option Stream)) → TakesBits o n false (Going (Some S) c) (Ok bits) u
     → Has n S × (bits ≡ taken o n S) × (u ≡ Going (Some (left o n S)) (c + n))
 took_here o n S c bits u (inl refused) = let e = refused.1.2 in absurd (cc)
@@ -69,7 +69,7 @@ fields_found (f ∷ fs) ns S c u (Second n t p (Value ms q e)) =
       stands = others.stands ∙ ap (λ k. Going (Some others.rest) k) sum;
     }
 
--- an outcome finds in a stream that is told what the fields read from it
+-- an outcome finds in a stream that is known what the fields read from it
 pub finds_any : (fs : List Field) (r : Result (List Number) DekuError) (s : Standing (Option Stream)) {u : Standing (Option Stream)} {f g : Health} → Outcome (ReadsFields fs) s f r u g → FindsAny fs s r u
 finds_any fs (Err x) s o S c e = tt
 finds_any fs (Ok ns) s {u} o S c e = fields_found fs ns S c u (subst (λ x. ReadsFields fs false x (Ok ns) u) e (meant o).0)

@@ -19,7 +19,6 @@ pub mod Numerals
 pub mod NamedItems
 pub mod Runs
 pub mod Cuts
-pub mod Giving
 pub mod Causes
 pub mod Cutting
 pub mod OneBit

@@ -1,4 +1,4 @@
--- Where the bits of aligned pieces lie in the bytes that they lay out, found by taking the pieces from these.
+-- Where the bits of aligned pieces are in the bytes that they lay out, found by taking the pieces from these.
 use Rattle.std.proofs.Common.{ℕ, zero, suc, ◌+◌, ◌*◌, ◌-◌, ◌%◌, ◌<◌, ◌≤◌, ◌≡◌, ◌⊎◌, Bool, false, cond, List, [], ◌∷◌, ◌++◌, length, map, take, drop, get_or, All, Some, refl, ap, sym, ◌∙◌, subst, ⊎_elim, arith, append_assoc, append-nil, length-append, length-drop, length-take-le, take-append-drop}
 use Rattle.std.specs.List.{slice_get, flat_map}
 use Rattle.std.proofs.lemmas.Option.{same_Some}
@@ -136,7 +136,7 @@ bits_from (q ∷ ps) n o B S T a h t (suc m) j p e l =
     let same : n + (length q.bits + u + j) ≡ n + length q.bits + (u + j) = omega arith in
     ap (λ x. printed B (printed_at p.order x)) same ∙ bits_from ps (n + length q.bits) f.order B (left q.order (length q.bits) S) T f.at_next f.aligned t.2 m j p e l
 
--- what is left behind all pieces
+-- what is left after all pieces
 at_last : (ps : List Piece) (n : ℕ) (o : Order) (B : List ℕ) (S T : Stream) → At n o B S → AlignedFrom n o (map shape ps) → Takes ps S T
     → At (n + total (map shape ps)) (last_order o (map shape ps)) B T
 at_last [] n o B S T a h t = let e : n ≡ n + 0 = omega arith in subst (λ x. At x o B T) e (subst (λ X. At n o B X) t a)
@@ -148,7 +148,7 @@ at_last (q ∷ ps) n o B S T a h t =
     (subst (λ x. At (n + length q.bits + u) x B T) (sym f.last) (at_last ps (n + length q.bits) f.order B (left q.order (length q.bits) S) T f.at_next f.aligned t.2))
 
 -- ---- what is laid out
--- bits of a piece lie as its order meets them, behind those of the pieces before it
+-- bits of a piece are as its order meets them, after those of the pieces before it
 pub piece_bit : (ps : List Piece) (m j : ℕ) (p : Piece) → Aligned (map shape ps) → slice_get ps m ≡ Some p → j < length p.bits
     → printed (laid_out ps) (printed_at p.order (total (take m (map shape ps)) + j)) ≡ cond (get_or p.bits j false) 1 0
 piece_bit ps m j p h e l =
@@ -158,7 +158,7 @@ piece_bit ps m j p h e l =
     let z : n ≡ 0 + n = omega arith in
     ap (λ x. printed (laid_out ps) (printed_at p.order x)) z ∙ bits_from ps 0 Msb0 (laid_out ps) (fresh (laid_out ps)) r.0 (at_first (laid_out ps)) h t m j p e l
 
--- behind the last bit there are zeros
+-- after the last bit there are zeros
 pub padding_bit : (ps : List Piece) (k : ℕ) → Aligned (map shape ps) → All (λ b. b < 256) (laid_out ps) → k < 8 * length (laid_out ps)
     → total (map shape ps) ≤ printed_at (last_order Msb0 (map shape ps)) k → printed (laid_out ps) k ≡ 0
 padding_bit ps k h small below behind =

@@ -63,7 +63,7 @@ is_next fs m d at n h a w =
 same_holder : (fs : List Field) (m : ℕ) (d f : Field) → m < length fs → slice_get fs m ≡ Some f → f ≡ get_or fs m d
 same_holder fs m d f h e = same_Some f (get_or fs m d) (sym e ∙ slice_get-get_or fs m d h)
 
--- what another place has stays what stands there
+-- what another place has stays what is there
 kept : (fs : List Field) (m i c k : ℕ) (d : Field) (cell : Option Place) → m < length fs → c ≡ printed_at (get_or fs m d).layout.order (start fs m + i) → k ≢ c
     → IsMarked fs m i k cell → IsMarked fs m (i + 1) k cell
 kept fs m i c k d (Some p) h e other x = x

@@ -27,7 +27,7 @@ met_later f fs n k m =
     let same : n + f.1 + (u + m.bit) ≡ n + (f.1 + u + m.bit) = omega arith in
     record { index = suc m.index; bit = m.bit; width = m.width; there = m.there; below = m.below; stands = m.stands ∙ ap (printed_at m.width.0) same }
 
--- met before n, met at a bit, or behind all of them
+-- met before n, met at a bit, or after all of them
 abbrev Meeting : List (Order × ℕ) → ℕ → Order → ℕ → Type 0
 Meeting fs n o k = (printed_at o k < n) ⊎ IsMet fs n k ⊎ (n + total fs ≤ printed_at (last_order o fs) k)
 
@@ -39,7 +39,7 @@ meeting_later f fs n o p k e l (inr (inr x)) =
     let y : n + (f.1 + total fs) ≤ printed_at (last_order p fs) k = omega arith in
     inr (inr (subst (λ q. n + (f.1 + total fs) ≤ printed_at q k) (sym e) y))
 
--- a place and its bit lie in one byte
+-- a place and its bit are in one byte
 same_byte : (o : Order) (k : ℕ) → printed_at o k / 8 ≡ k / 8
 same_byte Msb0 k = refl
 same_byte Lsb0 k = omega arith

@@ -54,7 +54,7 @@ tail_lacks : (word part size : List ℕ) (o : Order) (s : Size) → apart word (
     → apart word (codes ",bytes") ≡ true → NamesOrder part o → NamesSize size s → LacksFront word (part ++ size)
 tail_lacks word part size o s p q v w m n = option_lacks (codes ",lsb") (codes ",msb") Lsb0 Msb0 o word part size p q m (size_lacks word size s v w n)
 
--- an option that is named is the one in front, and behind it stands the rest
+-- an option that is named is the one in front, and after it is the rest
 option_ahead : {T : Type 0} (first second : List ℕ) (a b t x : T) (text part tail rest : List ℕ) → apart first second ≡ true → LacksFront first tail → LacksFront second tail
     → SplitsOption first a second b text t rest → text ≡ part ++ tail → NamesOption first a second b part x → (t ≡ x) × (rest ≡ tail)
 option_ahead first second a b t x text part tail rest p k l (inl s) e (inl n) =

@@ -16,7 +16,7 @@ use Rattle.deku_fields.specs.Naming.{kind_name, NamesOption, NamesSize, NamesFie
 use Rattle.deku_fields.proofs.FirstComma.{free}
 use Rattle.deku_fields.proofs.Numerals.{number_one}
 
--- ---- no `=` stands in a field's word
+-- ---- no `=` is in a field's word
 abbrev Plain : List ℕ → Type 0
 Plain text = free 61 text ≡ true
 
@@ -77,7 +77,7 @@ plain_field word f n =
     subst Plain (sym (n.parts)) (plain_both (kind_name f.kind) (n.endian ++ (n.order ++ n.size)) (plain_kind f.kind) options)
 
 -- ---- items
--- whatever stands round an `=` in front of which there is none is the two parts
+-- whatever is around an `=` in front of which there is none is the two parts
 abbrev pub CutsAt : List ℕ → List ℕ → List ℕ → Type 0
 CutsAt word front back = (xs ys : List ℕ) → word ≡ xs ++ (61 ∷ ys) → ((i : ℕ) → i < length xs → get_or xs i 0 ≢ 61) → (front ≡ xs) × (back ≡ ys)
 
@@ -94,7 +94,7 @@ item_parts word front back cuts i n =
 pub none_is : {A : Type 0} {x : A} → ◌≡◌ {A = Option A} None (Some x) → ⊥
 none_is e = absurd (cc)
 
--- what is answered where nothing is named
+-- what is returned where nothing is named
 pub not_named : (word : List ℕ) (r : Option Item) → r ≡ None → ((i : Item) → NamesItem word i → ⊥) → (i : Item) → (r ≡ Some i → NamesItem word i) × (NamesItem word i → r ≡ Some i)
 not_named word r none nothing i = (λ some. let x : ◌≡◌ {A = Option Item} None (Some i) = sym none ∙ some in absurd (cc), λ n. absurd (nothing i n))
 

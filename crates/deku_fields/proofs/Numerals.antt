@@ -12,7 +12,7 @@ use Rattle.deku_fields.specs.Naming.{NamesNumber, Negative, Positive, Plain}
 model : IsNumeralModel (AllDigits 10) (digits_value 10)
 model = numerals_by_value (AllDigits 10) tells_digits
 
--- behind a minus
+-- after a minus
 pub negative : (kind : Kind) (text digits : List ℕ) (v w : ℤ) → text ≡ codes "-" ++ digits → IsNumeral 10 digits → ParsesSigned {E = ℕ} w128 10 text (Ok w) → v ≡ w
     → NamesNumber kind text (Signed v)
 negative kind text digits v w e n h s =

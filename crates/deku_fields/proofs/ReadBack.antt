@@ -69,12 +69,12 @@ pub found : (fs : List Field) {r : Result (List Number) DekuError} {s u : Standi
     → Outcome (ReadsFields fs) s f r u g → Outcome (ReadsList fs) s f r u g
 found fs {r} {s} {u} {f} {g} o = weaker (ReadsFields fs) (ReadsList fs) s f r u g (λ b m. inr m) o
 
--- ---- the bytes behind
+-- ---- the bytes after
 normal_short : (S : Stream) → length S.window < 8 → normal S ≡ S
 unfolding normal
 normal_short S l = rw (ne_eqb (length S.window) 8 (λ (e : length S.window ≡ 8). omega arith)) refl
 
--- a source tells the bytes of the stream, where no whole byte is unread
+-- a source reports the bytes of the stream, where no whole byte is unread
 source_tells : (remaining : Option (List ℕ)) (st : Standing (List Bool)) (rest : Stream) (c : ℕ) → length (window_of st) < 8
     → reader_state remaining st ≡ Going (Some rest) c → remaining ≡ Some rest.bytes
 source_tells remaining (Stopped w e k) rest c l q = absurd (cc)
@@ -93,7 +93,7 @@ starts_at : (remaining : Option (List ℕ)) (bytes : List ℕ) (st : Standing (L
 unfolding normal
 starts_at remaining bytes st c e f = rw (e, f) refl
 
--- the bytes behind a list that was read are those that its source tells
+-- the bytes after a list that was read are those that its source reports
 pub left_behind : (fs : List Field) (r : Result (List Number) DekuError) (before now : Option (List ℕ)) (s t : Standing (List Bool)) (items : List Item) (bytes after : List ℕ) (c : ℕ)
     → Begins fs items bytes after → s ≡ Going [] c → before ≡ Some bytes → c + total (map field_shape fs) < 2 ^ 64 → NoneEarly s t
     → ReadsBackVec fs (reader_state before s) r (reader_state now t) → OnOk r (now ≡ Some after)
@@ -125,7 +125,7 @@ pub back_err : (fs : List Field) (bytes : List ℕ) (x : DekuError) (s u : Stand
 back_err fs bytes x s u e (inl p) items after begins room = let f = p.0 in cc
 back_err fs bytes x s u e (inr b) items after begins room = let f = (b items bytes after 0 begins e (omega arith)).0 in absurd (cc)
 
--- what is read from where a reader stands is read from the first byte on
+-- what is read from where a reader is is read from the first byte on
 pub from_first : (fs : List Field) (bytes : List ℕ) (r : Result (List Number) DekuError) (s u : Standing (Option Stream))
     → s ≡ Going (Some (fresh bytes)) 0 → ReadsList fs false s r u → ReadsList fs false (Going (Some (fresh bytes)) 0) r u
 from_first fs bytes r s u e m = subst (λ x. ReadsList fs false x r u) e m

@@ -5,7 +5,9 @@ use Rattle.std.specs.List.{AllZip}
 use Rattle.std.specs.Prelude.{String, string_bytes}
 use Rattle.deku_fields.specs.declared.program.Failure.{Failure}
 use Rattle.deku_fields.specs.declared.program.Failure.TheVariants.{Usage, BadText, Fault}
-use Rattle.deku_fields.specs.Runs.{words_of, AreForm, AreNoForm, IsBegun, status_of, message}
+use Rattle.deku_fields.specs.Runs.{AreForm, AreNoForm, status_of, message}
+use Rattle.deku_program.specs.Texts.{words_of}
+use Rattle.deku_program.specs.Outputs.{IsBegun}
 
 zip_more : {A B : Type 0} (P : A → B → Type 0) (xs : List A) (ys : List B) (x : A) (y : B) → AllZip P xs ys → P x y → AllZip P (xs ++ x ∷ []) (ys ++ y ∷ [])
 zip_more P [] [] x y z p = (p, tt)
@@ -57,6 +59,6 @@ usage_is Usage e = refl
 usage_is BadText e = absurd (omega (arith, e))
 usage_is (Fault fault) e = absurd (omega (arith, e))
 
--- the usage is told where the status is 2
+-- the usage is known where the status is 2
 pub usage_told : (f : Failure) (a b : Option (List ℕ)) → status_of f ≡ 2 → IsBegun a b (message f) → IsBegun a b (message Usage)
 usage_told f a b e told = subst (λ x. IsBegun a b (message x)) (usage_is f e) told

@@ -117,7 +117,7 @@ length_laid items bytes aligned laid =
     ap length laid.is ∙ length_law laid.pieces (subst Aligned (sym (shapes items laid.pieces laid.are)) aligned)
     ∙ ap (λ s. groups (total s)) (shapes items laid.pieces laid.are)
 
--- cells that say what stands where are a picture of aligned fields
+-- cells that say what is where are a picture of aligned fields
 pub picture : (fs : List Field) (cells : List (Option Place)) → AlignedFields fs → length cells ≡ 8 * groups (total (map field_shape fs))
     → ((k : ℕ) → k < length cells → IsAt fs k (get_or cells k None)) → IsPicture fs cells
 picture fs cells aligned l at items bytes k of_fields all laid below =

@@ -1,4 +1,4 @@
--- Devices that tell of their failures, of which none came.
+-- Devices that say of their failures, of which none came.
 use Rattle.std.proofs.Common.{false, Option, Some, Result, [], refl, arith}
 use Rattle.deku_bits.specs.declared.error.DekuError.{DekuError}
 use Rattle.deku_bits.specs.Devices.{Health, Whole}
@@ -12,6 +12,6 @@ pub sound : {A V : Type 0} {m : Meaning A V} {s : Standing A} {f : Health} {r : 
 sound (Quiet m k) calm = m
 sound (Broken a m k) calm = let h = rw (calm.known, calm.still) at k.failures in absurd (omega (arith, h))
 
--- memory tells that no call failed
+-- memory reports that no call failed
 pub sound_memory : {w v : Option Whole} → Unfailing (record { failures = Some 0; lenders = []; whole = w }) (record { failures = Some 0; lenders = []; whole = v })
 sound_memory = record { count = 0; known = refl; still = refl }

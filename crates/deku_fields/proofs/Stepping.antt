@@ -30,7 +30,7 @@ unsigned_field f {v} {s} {h} {u} {g} e o =
     subst (λ n. Outcome (ReadsField f) s h (Ok n) u g) (ap (λ b. number_of b (pos v)) e) (mapped_ok (number_of (number_type f.kind).signed) o)
 
 -- ---- fields
--- numbers in front of those that are answered
+-- numbers in front of those that are returned
 abbrev pub with_front : List Number → Result (List Number) DekuError → Result (List Number) DekuError
 with_front ns (Ok ms) = Ok (ns ++ ms)
 with_front ns (Err e) = Err e

@@ -24,7 +24,7 @@ use Rattle.deku_fields.proofs.FieldLists.{piece_law, written}
 use Rattle.deku.proofs.Emitting.{Wrote, Done, Lacking, Full, emitted, followed_wrote}
 use Rattle.deku_fields.proofs.WritingLists.{items_wrote}
 
--- ---- what is told stays told
+-- ---- what is known stays known
 record Tells (u : Standing Output) : Type 0 where
   out : Output
   count : ℕ

@@ -6,7 +6,6 @@ pub mod Rows
 pub mod ListCalls
 pub mod Promise
 pub mod Naming
-pub mod Told
 pub mod Runs
 pub mod Cuts
 pub mod Cutting

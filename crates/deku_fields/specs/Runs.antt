@@ -1,14 +1,13 @@
 -- What a run of the program does: the words that it is given, the text that it reads and the text
 -- that it writes.
-use Rattle.std.specs.Prelude.{◌≡◌, ◌≢◌, ◌⊎◌, ℕ, ◌<◌, List, [], ◌∷◌, ◌++◌, length, map, flat_map, Ok, Err, Option, IfSome, String, string_bytes, decimal, codes, ⊤}
+use Rattle.std.specs.Prelude.{◌≡◌, ◌≢◌, ◌⊎◌, ℕ, List, [], ◌∷◌, ◌++◌, flat_map, Ok, Err, Option, IfSome, decimal, codes, ⊤}
 use Rattle.std.specs.Fmt.{signed_decimal}
 use Rattle.std.specs.List.{AllZip}
 use Rattle.std.specs.Global.{Vec}
 use Rattle.std.specs.Io.KnownBytes.{Appends}
 use Rattle.std.specs.declared.io.ErrorKind.{ErrorKind}
 use Rattle.std.specs.declared.io.ErrorKind.TheVariants.{Interrupted, OutOfMemory}
-use Rattle.hex.specs.Hex.{encode_lower, decode_of}
-use Rattle.hex.specs.declared.error.FromHexError.{FromHexError}
+use Rattle.hex.specs.Hex.{encode_lower}
 use Rattle.deku_bits.specs.declared.error.DekuError.{DekuError}
 use Rattle.deku_bits.specs.declared.error.DekuError.TheVariants.{Io}
 use Rattle.deku_bits.specs.WriterCalls.{Finalizes}
@@ -22,15 +21,10 @@ use Rattle.deku_fields.specs.declared.list.Number.TheVariants.{Unsigned, Signed}
 use Rattle.deku_fields.specs.ListCalls.{ListFrom, WritesItems, WritesWhole}
 use Rattle.deku_fields.specs.Naming.{NamesField, NamesItem}
 use Rattle.deku_fields.specs.Promise.{LaidOut, ReadsBackFrom}
-use Rattle.deku_fields.specs.Told.{fault_text}
-
--- The bytes of texts.
-abbrev pub words_of : {A : Type 0} → List (String A) → List (List ℕ)
-words_of texts = map string_bytes texts
-
--- A text as a line.
-abbrev pub line : List ℕ → List ℕ
-line text = text ++ 10 ∷ []
+use Rattle.deku_program.specs.Texts.{line}
+use Rattle.deku_program.specs.Hexadecimal.{IsHexText, IsNoHexText}
+use Rattle.deku_program.specs.Outputs.{IsBegun, IsCutShort}
+use Rattle.deku_program.specs.Told.{fault_line}
 
 -- The words name items, and the text is a line of the bytes that these are written as, in
 -- hexadecimal.
@@ -46,20 +40,6 @@ pub record ShowsWritten (words : List (List ℕ)) (text : List ℕ) : Type 0 whe
 abbrev pub number_text : Number → List ℕ
 number_text (Unsigned n) = decimal n
 number_text (Signed z) = signed_decimal z
-
--- The inner text is the text without one newline at its end, if it has one.
-abbrev pub LosesNewline : List ℕ → List ℕ → Type 0
-LosesNewline text inner = (text ≡ line inner) ⊎ ((text ≡ inner) × ((front : List ℕ) → text ≡ line front → ⊥))
-
--- The line of an error, with more after its text.
-abbrev pub fault_line : DekuError → List ℕ → List ℕ
-fault_line fault more = line (codes "error: " ++ (fault_text fault ++ more))
-
--- The text is the hexadecimal form of the bytes.
-pub record IsHexText (text bytes : List ℕ) : Type 0 where
-  pub digits : List ℕ
-  pub trimmed : LosesNewline text digits
-  pub decoded : decode_of digits ≡ Ok bytes
 
 -- The words name fields, which are read from the bytes that the input shows, if it is known. The
 -- text has the values, one line each, and then how many bits were read.
@@ -84,20 +64,6 @@ pub record IsDone (words : List (List ℕ)) (input before after : Option (List �
   pub text : List ℕ
   pub asked : Asks words input text
   pub given : Appends before after text
-
--- The text was written except for this rest of it.
-pub record IsGivenBut (rest : List ℕ) (before after : Option (List ℕ)) (text : List ℕ) : Type 0 where
-  pub front : List ℕ
-  pub cut : text ≡ front ++ rest
-  pub given : Appends before after front
-
--- A beginning of the text was written, perhaps all of it.
-abbrev pub IsBegun : Option (List ℕ) → Option (List ℕ) → List ℕ → Type 0
-IsBegun before after text = (rest : List ℕ) × IsGivenBut rest before after text
-
--- The text was not written to its end.
-abbrev pub IsCutShort : Option (List ℕ) → Option (List ℕ) → List ℕ → Type 0
-IsCutShort before after text = (rest : List ℕ) × (0 < length rest) × IsGivenBut rest before after text
 
 -- The text that the words ask for was known, and was not written to the output to its end.
 pub record IsUnfinished (words : List (List ℕ)) (input before after : Option (List ℕ)) : Type 0 where
@@ -141,17 +107,6 @@ pub record ItemsRefused (words : List (List ℕ)) (e : Failure) : Type 0 where
 -- The words name no items, there is no memory, or the items fail.
 abbrev pub WritingStops : List (List ℕ) → Failure → Type 0
 WritingStops words e = ((e ≡ Usage) × ((items : List Item) → AllZip NamesItem words items → ⊥)) ⊎ (e ≡ Fault (Io OutOfMemory)) ⊎ ItemsRefused words e
-
--- The text is not the hexadecimal form of any bytes.
-pub record IsNoHexText (text : List ℕ) : Type 0 where
-  pub digits : List ℕ
-  pub trimmed : LosesNewline text digits
-  pub error : FromHexError
-  pub refused : decode_of digits ≡ Err error
-
--- An error of the input, or of the memory.
-abbrev pub IsOfInput : DekuError → Type 0
-IsOfInput e = (kind : ErrorKind) × (e ≡ Io kind)
 
 -- The input, if it is known, shows no bytes; or it or the memory failed.
 abbrev pub InputStops : Option (List ℕ) → Failure → Type 0

@@ -3,23 +3,19 @@
 #![tactic(auto)]
 
 mod cut;
-mod input;
 pub mod laws;
 mod list;
 mod picture;
 mod program;
 mod read;
-mod telling;
 mod words;
 mod write;
 
 pub use cut::cut_to_bytes;
 pub use deku_frame::frame;
-pub use input::read_hex_text;
 pub use list::{Field, Item, Kind, Number};
 pub use picture::{Place, places};
-pub use program::{give_text, run};
+pub use program::run;
 pub use read::{list_from_bytes, read_list, read_list_into};
-pub use telling::{give_parts, tell_fault};
 pub use words::{parse_field, parse_item};
 pub use write::{list_to_bytes, write_list};

@@ -1,23 +1,28 @@
 //! The program: from words on a command line to bytes and back.
 
-ghost use Rattle.std.specs.Prelude.{◌≡◌, ◌≢◌, ◌⊎◌, ◌↔◌, ◌≤◌, List, flat_map, Err, IfOk, OnOk, IfErr, OnErr, IsTrue, string_bytes};
+ghost use Rattle.std.specs.Prelude.{◌≡◌, ◌⊎◌, ◌↔◌, ◌≤◌, List, flat_map, Err, IfOk, OnOk, IfErr};
+ghost use Rattle.std.specs.Prelude.{OnErr, IsTrue, string_bytes};
 ghost use Rattle.std.specs.List.{AllZip};
 ghost use Rattle.std.specs.Io.KnownBytes.{Appends};
 ghost use Rattle.std.specs.IoError.{error_kind};
-ghost use Rattle.std.specs.declared.io.ErrorKind.TheVariants.{Interrupted, OutOfMemory};
+ghost use Rattle.std.specs.declared.io.ErrorKind.TheVariants.{OutOfMemory};
 ghost use Rattle.deku_bits.specs.declared.error.DekuError.TheVariants.{Io};
 ghost use Rattle.deku_fields.specs.declared.program.Failure.TheVariants.{Fault, Usage};
 ghost use Rattle.deku_fields.specs.declared.list.Field.{Field as ListField};
 ghost use Rattle.deku_fields.specs.Naming.{NamesField};
-ghost use Rattle.deku_fields.specs.Runs.{words_of, line, number_text, status_of, message, IsDone, Asks, AsksToRead, AreItems, AreFields, AreForm, AreNoForm, ShowsRead, ShowsWritten, ReadingStops, WritingStops, Stops, RunEnds, IsStopped, IsBegun, IsCutShort, IsUnfinished};
+ghost use Rattle.deku_fields.specs.Runs.{number_text, status_of, message, IsDone, Asks, AsksToRead};
+ghost use Rattle.deku_fields.specs.Runs.{AreItems, AreFields, AreForm, AreNoForm, ShowsRead};
+ghost use Rattle.deku_fields.specs.Runs.{ShowsWritten, ReadingStops, WritingStops, Stops, RunEnds};
+ghost use Rattle.deku_fields.specs.Runs.{IsStopped, IsUnfinished};
+ghost use Rattle.deku_program.specs.Texts.{words_of, line};
+ghost use Rattle.deku_program.specs.Outputs.{IsBegun};
 
-use crate::input::read_hex_text;
 use crate::list::{Field, Item, Number};
 use crate::read::list_from_bytes;
-use crate::telling::tell_fault;
 use crate::words::{parse_field, parse_item};
 use crate::write::list_to_bytes;
 use deku::DekuError;
+use deku_program::{give_text, read_hex_text, tell_fault};
 use std::alloc::{AllocError, AllocFailed, Global};
 use std::fmt::Write as _;
 use std::io;
@@ -137,36 +142,6 @@ fn complain<E: Write>(errors: &mut E, failure: &Failure) -> io::Result<()>
         Failure::BadText => give_text(errors, b"error: bad hexadecimal text\n"),
         Failure::Fault(fault) => tell_fault(errors, fault, &[]),
     }
-}
-
-/// Writes the whole text to an output, which may take it in parts. An interrupted write is tried
-/// again. It fails with the error of the output, or if the output takes no more; the text was then
-/// not taken to its end.
-///
-/// ```text
-/// give_text(&mut output, b"69c0fe\n")?
-/// ```
-pub fn give_text<W: Write>(output: &mut W, text: &[u8]) -> io::Result<()>
-    ensures given { OnOk result (Appends (W.contents output.old) (W.contents output.new) text.now) }
-    ensures cut { OnErr result (IsCutShort (W.contents output.old) (W.contents output.new)
-        text.now) }
-    ensures tried { IfErr result (λ e. error_kind e ≢ Interrupted) }
-{
-    let mut rest = text;
-    let mut tries = u64::MAX;
-    while !rest.is_empty() {
-        if tries == 0 {
-            return Err(io::Error::new(ErrorKind::TimedOut, "interrupted too often"));
-        }
-        tries -= 1;
-        match output.write(rest) {
-            Ok(0) => return Err(io::Error::new(ErrorKind::WriteZero, "no more is taken")),
-            Ok(count) => rest = &rest[count..],
-            Err(error) if error.kind() == ErrorKind::Interrupted => {}
-            Err(error) => return Err(error),
-        }
-    }
-    Ok(())
 }
 
 // Writes to the output the text that the words ask for.

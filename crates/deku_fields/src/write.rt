@@ -45,10 +45,7 @@ pub fn write_list<W: Sink>(writer: &mut Writer<W>, items: &[Item]) -> Result<(),
         (W.known (sink_of writer.new)).health }
 {
     for item in items {
-        match write_item(writer, item) {
-            Ok(()) => {}
-            Err(refusal) => return Err(refusal),
-        }
+        write_item(writer, item)?;
     }
     Ok(())
 }
@@ -184,8 +181,6 @@ pub fn list_to_bytes(alloc: Global, items: &[Item]) -> Result<Vec<u8>, DekuError
 fn write_padded<W: Sink>(writer: &mut Writer<W>, items: &[Item]) -> Result<(), DekuError>
     ensures { Writes W.known (Both (WritesItems items.now) Finalizes) writer.old result writer.new }
 {
-    match write_list(writer, items) {
-        Ok(()) => writer.finalize(),
-        Err(refusal) => Err(refusal),
-    }
+    write_list(writer, items)?;
+    writer.finalize()
 }

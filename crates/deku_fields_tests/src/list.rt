@@ -369,10 +369,7 @@ fn write_until_refused(
 ) -> (Result<(), DekuError>, usize, Result<(), DekuError>) {
     let (front, back) = items.split_at(cut.min(2));
     let mut writer = writer_over(page);
-    let both = match write_next(&mut writer, front) {
-        Ok(()) => write_next(&mut writer, back),
-        Err(refusal) => Err(refusal),
-    };
+    let both = write_next(&mut writer, front).and_then(|()| write_next(&mut writer, back));
     (both, writer.bits_written(), filled(&mut writer))
 }
 

@@ -2,7 +2,7 @@
 
 use deku::DekuError::{self, Assertion, IdVariantNotFound, Incomplete, InvalidParam, Io, Parse};
 use deku::error::NeedSize;
-use deku_fields::tell_fault;
+use deku_program::tell_fault;
 use std::alloc::Global;
 use std::io;
 use std::io::ErrorKind;

@@ -2,7 +2,7 @@
 use Rattle.std.proofs.Common.{ℕ, ◌⊎◌, List, Option, Result, Ok, Err, IfSome, inl, inr}
 use Rattle.std.specs.Prelude.{IfErr}
 use Rattle.std.specs.Result.{IsErrAnd}
-use Rattle.deku_fields.specs.Runs.{IsHexText}
+use Rattle.deku_program.specs.Hexadecimal.{IsHexText}
 use Rattle.deku_formats_program.specs.declared.words.Format.{Format}
 use Rattle.deku_formats_program.specs.declared.program.Failure.{Failure}
 use Rattle.deku_formats_program.specs.declared.words.Asked.{Asked}

@@ -1,6 +1,6 @@
--- What is told of a run.
+-- What is known of a run.
 use Rattle.std.proofs.Common.{◌≡◌, ◌≤◌, ℕ, List, Option, refl, subst, arith}
-use Rattle.deku_fields.specs.Runs.{IsBegun}
+use Rattle.deku_program.specs.Outputs.{IsBegun}
 use Rattle.deku_formats_program.specs.declared.program.Failure.{Failure}
 use Rattle.deku_formats_program.specs.declared.program.Failure.TheVariants.{Usage, BadText, Fault, Refused}
 use Rattle.deku_formats_program.specs.Runs.{status_of, message}
@@ -12,7 +12,7 @@ usage_is BadText e = absurd (omega (arith, e))
 usage_is (Fault fault) e = absurd (omega (arith, e))
 usage_is (Refused fault field bit) e = absurd (omega (arith, e))
 
--- the usage is told where the status is 2
+-- the usage is known where the status is 2
 pub usage_told : (f : Failure) (a b : Option (List ℕ)) → status_of f ≡ 2 → IsBegun a b (message f) → IsBegun a b (message Usage)
 usage_told f a b e told = subst (λ x. IsBegun a b (message x)) (usage_is f e) told
 

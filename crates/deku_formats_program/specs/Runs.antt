@@ -5,7 +5,10 @@ use Rattle.std.specs.Io.KnownBytes.{Appends}
 use Rattle.std.specs.declared.io.ErrorKind.{ErrorKind}
 use Rattle.std.specs.declared.io.ErrorKind.TheVariants.{Interrupted, OutOfMemory}
 use Rattle.deku_bits.specs.declared.error.DekuError.TheVariants.{Io}
-use Rattle.deku_fields.specs.Runs.{line, fault_line, IsHexText, IsNoHexText, IsBegun, IsCutShort}
+use Rattle.deku_program.specs.Texts.{line}
+use Rattle.deku_program.specs.Hexadecimal.{IsHexText, IsNoHexText}
+use Rattle.deku_program.specs.Outputs.{IsBegun, IsCutShort}
+use Rattle.deku_program.specs.Told.{fault_line}
 use Rattle.deku_formats_program.specs.declared.words.Format.{Format}
 use Rattle.deku_formats_program.specs.declared.words.Asked.{Asked}
 use Rattle.deku_formats_program.specs.declared.words.Asked.TheVariants.{Names, Help, Record}

@@ -4,7 +4,7 @@ use Rattle.std.specs.Global.{Vec}
 use Rattle.std.specs.Int.{div_ceil}
 use Rattle.deku_bits.specs.Pieces.{Piece}
 use Rattle.deku_pieces.specs.Packs.{WasTaken, PacksLaid}
-use Rattle.deku_fields.specs.Runs.{line}
+use Rattle.deku_program.specs.Texts.{line}
 use Rattle.deku_formats_program.specs.declared.words.Format.{Format}
 use Rattle.deku_formats_program.specs.declared.words.Format.TheVariants.{Can, Ccsds, Dns, Elf, Ipv4, Png, Riscv, Udp}
 

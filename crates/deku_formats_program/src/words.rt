@@ -1,7 +1,7 @@
 //! The words that the program knows.
 
 ghost use Rattle.std.specs.Prelude.{◌≡◌, ◌∷◌, [], MatchOption};
-ghost use Rattle.deku_fields.specs.Runs.{words_of};
+ghost use Rattle.deku_program.specs.Texts.{words_of};
 ghost use Rattle.deku_formats_program.specs.declared.words.Format.{Format as KnownFormat};
 ghost use Rattle.deku_formats_program.specs.Forms.{name_of, AreNoForm, AskFor};
 

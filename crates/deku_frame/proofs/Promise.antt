@@ -20,7 +20,7 @@ use Rattle.deku_frame.specs.Frames.{id_of, head_of, OfHead, OfFrame, OfBody, Sam
 use Rattle.deku_frame.specs.FrameLaws.{frame_symmetric}
 use Rattle.deku_frame.specs.FramePromise.{WriteLaw, ReadLaw, RewriteLaw}
 
--- so many bytes are behind the first one
+-- so many bytes are after the first one
 abbrev behind_bytes : Frame → ℕ
 behind_bytes (Ping token) = 2
 behind_bytes (Data n payload) = 1 + length payload.items
@@ -56,7 +56,7 @@ pub write_law : WriteLaw
 write_law f ps r p w = laid_once (WritesFrame f) (OfFrame f) (frame_symmetric.written f) r w ps p (in_step (frame_lies f ps p)) (omega (arith, long f ps p, few f ps p))
 
 -- ---- from bytes
--- the rest behind whole bytes that stand in front
+-- the rest after whole bytes that are in front
 rest_is : (f : Frame) (ps : List Piece) (after bytes : List ℕ) (rest : Bor (List ℕ)) (bits : ℕ) → OfFrame f ps → bytes ≡ laid_out ps ++ after → IsRest bytes (breadth ps) rest bits
     → (rest.now ≡ after) × (bits ≡ 0)
 rest_is f ps after bytes rest bits p begins r =

@@ -16,11 +16,9 @@
 //! ```
 
 pub mod branch;
-pub mod computation;
 pub mod immediate;
 pub mod instruction;
 pub mod jump;
 pub mod register;
 pub mod store;
-pub mod transfer;
 pub mod upper;

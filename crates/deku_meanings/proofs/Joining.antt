@@ -1,4 +1,4 @@
--- Outcomes of one item after the other. What records written by hand cite stands here or is passed on from here.
+-- Outcomes of one item after the other. What records written by hand cite is here or is passed on from here.
 pub use Rattle.deku_bits.proofs.Handing.{passed_on, mapped_ok, mapped_err}
 use Rattle.std.proofs.Common.{◌≡◌, ℕ, Result, Ok, Err, Option, ℤ, pos, refl, sym, subst}
 use Rattle.deku_bits.specs.declared.error.DekuError.{DekuError}
@@ -18,7 +18,7 @@ pub first_refused : {A V W : Type 0} {m : Meaning A V} {k : V → Meaning A W} {
 first_refused {e} (Quiet p q) = Quiet (First e p refl) q
 first_refused {e} (Broken a p q) = Broken (broken_at a) (First e p refl) q
 
--- the first part answers a value, and then the second answers
+-- the first part returns a value, and then the second returns
 pub then_on : {A V W : Type 0} {m : Meaning A V} {k : V → Meaning A W} {s : Standing A} {f : Health} {v : V} {t : Standing A} {g : Health} {r : Result W DekuError} {u : Standing A} {h : Health}
     → Outcome m s f (Ok v) t g → Outcome (k v) t g r u h → Outcome (Then m k) s f r u h
 then_on {f} {v} {t} {g} {h} a (Quiet p q) = let d = meant a in Quiet (Second v t d.0 p) (no_fewer_on f g h d.1 q)

@@ -76,7 +76,8 @@ fn bytes_or_no_memory(rt: HostRuntime) -> Result<(), Fail> {
     same(&"too many", &too_many.err(), &Some(NO_MEMORY))
 }
 
-// A count takes no memory before its first item is read, whatever size the items have: here 256 KiB.
+// A count takes no memory before its first item is read, whatever size the items have: here
+// 256 KiB.
 #[test]
 fn a_count_takes_no_memory(rt: HostRuntime) -> Result<(), Fail> {
     let alloc = rt.alloc();

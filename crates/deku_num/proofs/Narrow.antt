@@ -14,7 +14,7 @@ use Rattle.deku_num.proofs.Chunked.{number_one, little_below, big_below}
 use Rattle.deku_num.proofs.Turned.{word_is}
 use Rattle.deku_num.proofs.Values.{eights}
 
--- eight bytes turned among sixteen stand at the top
+-- eight bytes turned among sixteen are at the top
 swap_wide : (n : ℕ) → n < 2 ^ 64 → swap_bytes w128 n ≡ swap_bytes w64 n * 2 ^ 64
 swap_wide n h = omega arith
 

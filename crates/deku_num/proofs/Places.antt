@@ -1,4 +1,4 @@
--- Each bit of a field stands at its place in the number.
+-- Each bit of a field is at its place in the number.
 use Rattle.std.proofs.Common.{ℕ, suc, ◌+◌, ◌*◌, ◌-◌, ◌/◌, ◌%◌, ◌^◌, ◌<◌, ◌≤◌, ◌≡◌, Bool, true, false, cond, List, [], ◌∷◌, ◌++◌, reverse, length, take, drop, refl, ap, ap₂, sym, ◌∙◌, ⊎_elim, arith, append_assoc, length-append, take-append-drop, length-take-le}
 use Rattle.std.proofs.lemmas.Nat.{pow-add, div-mul-add, shr-shr, field_of}
 use Rattle.std.proofs.lemmas.List.{length-reverse, reverse-append}
@@ -61,7 +61,7 @@ group_get Msb0 p q b =
     rw e (bin_get p q b)
 group_get Lsb0 p q b = rw (turned p q b, ← length-reverse p) (bin_get (reverse q) (reverse p) b)
 
--- what stands above does not show below
+-- what is above does not show below
 low_get : (a u j k : ℕ) → j < k → (a + u * 2 ^ k) / 2 ^ j % 2 ≡ a / 2 ^ j % 2
 unfolding number
 low_get a u j k h =
@@ -79,7 +79,7 @@ Bit e o p q =
     (number e o (p ++ true ∷ q) ≡ number e o (p ++ false ∷ q) + 2 ^ place e o (length p + suc (length q)) (length p))
     × ((b : Bool) → number e o (p ++ b ∷ q) / 2 ^ place e o (length p + suc (length q)) (length p) % 2 ≡ cond b 1 0)
 
--- the first group, with bits behind it
+-- the first group, with bits after it
 record Split (p q : List Bool) : Type 0 where
   first : List Bool
   behind : List Bool

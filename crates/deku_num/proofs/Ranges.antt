@@ -57,7 +57,7 @@ byte_law e o n m d h =
     let r = listed e o n m (range_whole e o n m d h) in
     (r.0, r.1, r.2, λ t w v. number-inj e o t r.0 (w ∙ sym r.1) (v ∙ sym r.2))
 
--- ---- whole groups and what is behind them
+-- ---- whole groups and what is after them
 little-split : (o : Order) (s t : List Bool) → length s % 8 ≡ 0 → number Little o (s ++ t) ≡ number Little o s + number Little o t * 2 ^ length s
 unfolding number value
 little-split o s t = by_groups (λ s. length s % 8 ≡ 0 → number Little o (s ++ t) ≡ number Little o s + number Little o t * 2 ^ length s)

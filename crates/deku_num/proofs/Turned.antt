@@ -43,7 +43,7 @@ big_sixteen : (bytes : List ℕ) → length bytes ≡ 16 → from_be_bytes w128 
 big_sixteen (a ∷ b ∷ c ∷ d ∷ e ∷ f ∷ g ∷ h ∷ i ∷ j ∷ k ∷ l ∷ m ∷ n ∷ o ∷ p ∷ []) q = omega arith
 big_sixteen _ q = absurd (omega arith)
 
--- zeros behind bytes
+-- zeros after bytes
 big_zeros : (m : ℕ) → big (replicate m 0) ≡ 0
 big_zeros zero = refl
 big_zeros (suc m) = omega (arith, big_zeros m)
@@ -114,7 +114,7 @@ unfolding number
 high_turned s n count h e f =
     turned_bytes (map bin (chunks s)) count n (length-group_bytes Msb0 s ∙ omega arith) (omega arith) (group_bytes Msb0 s) f ∙ sym (whole_big s (omega arith))
 
--- whole groups, and a short one behind them
+-- whole groups, and a short one after them
 pub both_turned : (s : List Bool) (n q r low high : ℕ) → length s ≤ 128 → length s ≡ 8 * q + r → 0 < r → r < 8 → n ≡ word_of Msb0 s → low ≡ n % 2 ^ (8 * q) → high ≡ n / 2 ^ (8 * q)
     → swap_bytes w128 low / 2 ^ (128 - 8 * q) * 2 ^ r + high ≡ number Big Msb0 s
 both_turned s n q r low high h e p k f a b =
@@ -140,7 +140,7 @@ both_turned s n q r low high h e p k f a b =
     swap u v = omega arith
 
 -- ---- the way back
--- a byte behind others
+-- a byte after others
 little-more : (bytes : List ℕ) (b : ℕ) → little (bytes ++ b ∷ []) ≡ little bytes + b * 256 ^ length bytes
 little-more [] b = omega arith
 little-more (a ∷ bytes) b =
@@ -181,7 +181,7 @@ unfolding number
 high_back s n count h e f =
     turned_back (map bin (chunks s)) count n (length-group_bytes Msb0 s ∙ omega arith) (omega arith) (group_bytes Msb0 s) (f ∙ whole_big s (omega arith))
 
--- whole groups, and a short one behind them
+-- whole groups, and a short one after them
 pub both_back : (s : List Bool) (n q r low high : ℕ) → length s ≤ 128 → length s ≡ 8 * q + r → 0 < r → r < 8 → n ≡ number Big Msb0 s → low ≡ n % 2 ^ r → high ≡ n / 2 ^ r
     → swap_bytes w128 high / 2 ^ (128 - 8 * q) + low * 2 ^ (8 * q) ≡ word_of Msb0 s
 both_back s n q r low high h e p k f a b =
@@ -216,7 +216,7 @@ turned_fits w x k h l =
     let all : 8 * k + (w - 8 * k) ≡ w = omega arith in
     shr_below x (8 * k) (w - 8 * k) (subst (λ z. x < 2 ^ z) (sym all) h)
 
--- whole bytes and the bits behind them
+-- whole bytes and the bits after them
 pub both_fit : (w a q r n k : ℕ) → a < 2 ^ (8 * q) → n ≡ 8 * q + r → n ≤ w → k < 2 ^ n → (a * 2 ^ r % 2 ^ w ≡ a * 2 ^ r) × (a * 2 ^ r + k / 2 ^ (8 * q) < 2 ^ w)
 both_fit w a q r n k h e l f =
     let turned : n ≡ r + 8 * q = omega arith in
@@ -226,7 +226,7 @@ both_fit w a q r n k h e l f =
     let top : 2 ^ n ≤ 2 ^ w = pow-le-pow_right {n = 2} (omega arith) {i = n} {j = w} l in
     (shl_whole a (8 * q) r w h (omega arith), omega arith)
 
--- whole bytes and the bits behind them, the other way
+-- whole bytes and the bits after them, the other way
 pub back_fits : (w a q r n k : ℕ) → a < 2 ^ (8 * q) → n ≡ 8 * q + r → n ≤ w → k < 2 ^ r → (k * 2 ^ (8 * q) % 2 ^ w ≡ k * 2 ^ (8 * q)) × (a + k * 2 ^ (8 * q) < 2 ^ w)
 back_fits w a q r n k h e l f =
     let sum : k * 2 ^ (8 * q) + a < 2 ^ r * 2 ^ (8 * q) = omega (arith, mul-add-lt k (2 ^ (8 * q)) a (2 ^ r) f h) in

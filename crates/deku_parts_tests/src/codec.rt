@@ -1,10 +1,11 @@
 //! Records that are stated by their parts.
 
 ghost use Rattle.std.specs.Prelude.{refl};
+ghost use Rattle.deku_symmetry.specs.Fields.{be};
 
 use deku::device::Sink;
 use deku::prelude::{DekuError, DekuWriter, NeedSize, Writer};
-use deku_symmetry::{Be, Codec, Coded, CodedRef, Msb};
+use deku_symmetry::{Be, Codec, Coded, CodedRef, CopyParts, Msb};
 use deku_testing_values::expecting::{MISFIT, expect_written, same};
 use deku_testing_values::records::{expect_packed, expect_record, expect_refusal};
 use std::test::Fail;
@@ -18,15 +19,10 @@ pub struct Datagram {
     pub checksum: u16,
 }
 
-impl Codec for Datagram {
+impl CopyParts for Datagram {
     type Parts = (Be<u16>, Be<u16>, Be<u16>, Be<u16>);
 
-    ghost parts_of = { λ r. (
-      record { 0 = r.source },
-      record { 0 = r.destination },
-      record { 0 = r.length },
-      record { 0 = r.checksum },
-    ) };
+    ghost parts_of = { λ r. (be r.source, be r.destination, be r.length, be r.checksum) };
 
     ghost record_of = { λ p. record {
       source = p.0.0;
@@ -44,14 +40,13 @@ impl Codec for Datagram {
         }
     }
 
-    fn write<W: Sink>(&self, writer: &mut Writer<W>) -> Result<(), DekuError> {
-        let parts = (
+    fn parts(&self) -> Self::Parts {
+        (
             Be(self.source),
             Be(self.destination),
             Be(self.length),
             Be(self.checksum),
-        );
-        parts.to_writer(writer, ())
+        )
     }
 
     ghost there = { λ r. refl };

@@ -3,10 +3,24 @@
 #![tactic(auto)]
 
 #[cfg(test)]
+mod chosen_by;
+#[cfg(test)]
 mod codec;
+#[cfg(test)]
+mod constants;
 #[cfg(test)]
 mod counted_by;
 #[cfg(test)]
 mod enums;
 #[cfg(test)]
+mod filled_by;
+#[cfg(test)]
 mod optional;
+#[cfg(test)]
+mod prefixed;
+#[cfg(test)]
+mod rest;
+#[cfg(test)]
+mod sized_by;
+#[cfg(test)]
+mod under_head;

@@ -20,7 +20,7 @@ colon_free name h i l = no_colon (get_or name i 0) (All-get_or IsNameByte name i
 abbrev pub HasColon : List ℕ → List ℕ → List ℕ → Field → Type 0
 HasColon word name spec f = IsName name × (word ≡ name ++ (58 ∷ spec)) × NamesField spec f
 
--- a word that is no field's, and has none behind a name and a colon, is no field's with a name
+-- a word that is no field's, and has none after a name and a colon, is no field's with a name
 pub unnamed : (word : List ℕ) → ((f : Field) → NamesField word f → ⊥) → ((name spec : List ℕ) (f : Field) → HasColon word name spec f → ⊥)
     → (name spec : List ℕ) (f : Field) → IsNamed word name spec f → ⊥
 unnamed word bare named name spec f (inl p, n) = bare f (subst (λ w. NamesField w f) (sym (p.1)) n)

@@ -1,4 +1,4 @@
--- The forms of the words: what stands in front of the fields, and what a run ends with.
+-- The forms of the words: what is in front of the fields, and what a run ends with.
 use Rattle.std.proofs.Common.{ℕ, zero, suc, get_or, take, drop, ◌<◌, ◌≡◌, ◌≢◌, ◌⊎◌, List, [], ◌∷◌, ◌++◌, length, codes, refl, ap, sym, ◌∙◌, subst, inl, inr, arith, append_assoc, Bor, Option}
 use Rattle.std.specs.List.{AllZip}
 use Rattle.std.specs.Prelude.{String, string_bytes, Result, Ok, Err, IfErr}
@@ -6,7 +6,7 @@ use Rattle.std.specs.Result.{IsErrAnd}
 use Rattle.std.specs.declared.io.ErrorKind.TheVariants.{OutOfMemory}
 use Rattle.deku_bits.specs.declared.error.DekuError.TheVariants.{Io}
 use Rattle.deku_fields.specs.declared.list.Field.{Field}
-use Rattle.deku_fields.specs.Runs.{words_of}
+use Rattle.deku_program.specs.Texts.{words_of}
 use Rattle.deku_picture.specs.declared.program.Form.{Form}
 use Rattle.deku_picture.specs.declared.program.Form.TheVariants.{Table, Svg, Bytes}
 use Rattle.deku_picture.specs.declared.program.Failure.{Failure}

@@ -13,7 +13,9 @@ use Rattle.deku_fields.specs.declared.list.Field.{Field}
 use Rattle.deku_fields.specs.declared.list.Number.{Number}
 use Rattle.deku_fields.specs.ListCalls.{ListFrom}
 use Rattle.deku_fields.specs.Places.{AreDrawable, IsUndrawable}
-use Rattle.deku_fields.specs.Runs.{line, fault_line, IsBegun, IsCutShort}
+use Rattle.deku_program.specs.Texts.{line}
+use Rattle.deku_program.specs.Outputs.{IsBegun, IsCutShort}
+use Rattle.deku_program.specs.Told.{fault_line}
 use Rattle.deku_picture.specs.declared.program.Failure.{Failure}
 use Rattle.deku_picture.specs.declared.program.Failure.TheVariants.{Usage, NoField, BadText, Fault}
 use Rattle.deku_picture.specs.declared.program.Form.{Form}

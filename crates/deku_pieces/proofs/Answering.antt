@@ -18,7 +18,7 @@ no_refusal v e x = absurd (cc)
 pub err_at : {V W E : Type 0} (e x : E) → ◌≡◌ {A = Result V E} (Err e) (Err x) → ◌≡◌ {A = Result W E} (Err e) (Err x)
 err_at e x h = cc
 
--- from s on, m answers one of these values and leaves T, or finds no memory
+-- from s on, m returns one of these values and leaves T, or is out of memory
 abbrev pub Must : {V : Type 0} → Meaning (Option Stream) V → Standing (Option Stream) → (V → Type 0) → Stream → ℕ → Type 0
 Must {V} m s good T n = (r : Result V DekuError) (u : Standing (Option Stream)) → m false s r u → Answers good T n r u
 

@@ -1,4 +1,4 @@
--- What is chosen by a first part is symmetric: the variants of an enum, each behind its id.
+-- What is chosen by a first part is symmetric: the variants of an enum, each after its id.
 use Rattle.std.proofs.Common.{◌≡◌, ℕ, suc, ◌+◌, false, List, ◌++◌, Option, Some, Ok, refl, ap, sym, ◌∙◌, subst, arith}
 use Rattle.deku_bits.specs.Streams.{Stream}
 use Rattle.deku_bits.specs.Pieces.{Piece}

@@ -28,7 +28,7 @@ use Rattle.deku_pieces.specs.declared.until.Until.{Until}
 use Rattle.deku_pieces.specs.Ending.{IsEnded, OfEnded, ReadsEnded, WritesEnded}
 
 -- a run of steps, and its last step
-last_step : {A X : Type 0} (R : A → X → A → Type 0) (s : A) (xs : List X) (x : X) (u : A) → FoldsTo R s (xs ++ x ∷ []) u → (t : A) × FoldsTo R s xs t × R t x u
+pub last_step : {A X : Type 0} (R : A → X → A → Type 0) (s : A) (xs : List X) (x : X) (u : A) → FoldsTo R s (xs ++ x ∷ []) u → (t : A) × FoldsTo R s xs t × R t x u
 last_step R s [] x u (t, r, e) = (s, refl, subst (R s x) e r)
 last_step R s (y ∷ ys) x u (t, r, rest) =
     let k = last_step R t ys x u rest in
@@ -129,7 +129,7 @@ module _ {V : Type 0} (ends : V → Bool) {P : V → List Piece → Type 0} {sam
       let count : c + breadth a ≡ end = omega (arith, sum, w, none.1) in
       (subst (λ ys. SameEach same (v ∷ ys) (x.item ∷ [])) (sym alone) (n.like, tt), n.left ∙ ap (λ y. Going (Some y) (c + breadth a)) none.0 ∙ ap (λ y. Going (Some T) y) count)
 
-  -- the next item has width, and is refused for want of memory alone
+  -- the next item has width, and is refused for lack of memory alone
   next_widens : (others : List V) (ps : List Piece) (S T : Stream) (c : ℕ) (x : Item) (u : Standing (Option Stream)) → IsEnded ends others → OfEach P others ps → Takes ps S T
       → c + breadth ps < 2 ^ 64 → TakesItem m (Going (Some S) c) x u → Widens x
   next_widens [] ps S T c x u is are takes room taken = absurd is

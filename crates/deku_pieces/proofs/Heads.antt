@@ -20,16 +20,16 @@ use Rattle.deku_pieces.proofs.Turns.{breadth-append, takes_apart, takes_together
 use Rattle.deku_pieces.proofs.UnderCount.{counted_symmetric, holder_symmetric}
 
 -- equal items where they are some
-some_is : {V : Type 0} (v w : V) → ◌≡◌ {A = Option V} (Some v) (Some w) → v ≡ w
+pub some_is : {V : Type 0} (v w : V) → ◌≡◌ {A = Option V} (Some v) (Some w) → v ≡ w
 some_is v w e = cc
 
 -- ---- a first part, and a second that its index chooses
 module _ {I V W X : Type 0} (h : V → W → X) (first : X → V) (second : X → W) (index : V → I) (P : V → List Piece → Type 0) (Q : I → W → List Piece → Type 0)
     (same_first : V → V → Type 0) (same_second : W → W → Type 0) (same : X → X → Type 0)
-    (write_first : V → Meaning Output (Unit {0})) (write_second : W → Meaning Output (Unit {0})) (m : Meaning (Option Stream) V) (k : I → Meaning (Option Stream) W)
+    (write_first : V → Meaning Output (Unit {0})) (write_second : I → W → Meaning Output (Unit {0})) (m : Meaning (Option Stream) V) (k : I → Meaning (Option Stream) W)
     (is_first : (v : V) (w : W) → first (h v w) ≡ v) (is_second : (v : V) (w : W) → second (h v w) ≡ w)
     (is_same : (x : X) (v : V) (w : W) → same_first (first x) v → same_second (second x) w → same x (h v w)) (alike : (v w : V) → same_first v w → index v ≡ index w)
-    (A : IsSymmetric P same_first write_first m) (B : (i : I) → IsSymmetric (Q i) same_second write_second (k i)) where
+    (A : IsSymmetric P same_first write_first m) (B : (i : I) → IsSymmetric (Q i) same_second (write_second i) (k i)) where
   abbrev Indexed : X → List Piece → Type 0
   Indexed x = InTurn (P (first x)) (Q (index (first x)) (second x))
 
@@ -39,10 +39,13 @@ module _ {I V W X : Type 0} (h : V → W → X) (first : X → V) (second : X �
   indexed_one : (x : X) (ps qs : List Piece) → Indexed x ps → Indexed x qs → qs ≡ ps
   indexed_one x = turns_one (P (first x)) (Q (index (first x)) (second x)) (A.one (first x)) ((B (index (first x))).one (second x))
 
-  indexed_written : (x : X) (ps : List Piece) → Indexed x ps → IsWrittenAs ps (Both (write_first (first x)) (write_second (second x)))
+  abbrev WritesIndexed : X → Meaning Output (Unit {0})
+  WritesIndexed x = Both (write_first (first x)) (write_second (index (first x)) (second x))
+
+  indexed_written : (x : X) (ps : List Piece) → Indexed x ps → IsWrittenAs ps (WritesIndexed x)
   indexed_written x ps (a, b, p, q, e) =
-      subst (λ y. IsWrittenAs y (Both (write_first (first x)) (write_second (second x)))) (sym e)
-      (written_together a b (write_first (first x)) (write_second (second x)) (A.written (first x) a p) ((B (index (first x))).written (second x) b q))
+      subst (λ y. IsWrittenAs y (WritesIndexed x)) (sym e)
+      (written_together a b (write_first (first x)) (write_second (index (first x)) (second x)) (A.written (first x) a p) ((B (index (first x))).written (second x) b q))
 
   turns_back : (x : X) (a b : List Piece) → P (first x) a → Q (index (first x)) (second x) b → IsReadBack (a ++ b) (same x) ReadsIndexed
   turns_back x a b p q S T n r u takes room mean =
@@ -80,12 +83,12 @@ module _ {I V W X : Type 0} (h : V → W → X) (first : X → V) (second : X �
   indexed_read x S n u (Second v t p (Refusal e q is)) = absurd (cc)
   indexed_read x S n u (First e p is) = absurd (cc)
 
-  pub indexed_symmetric : IsSymmetric Indexed same (λ x. Both (write_first (first x)) (write_second (second x))) ReadsIndexed
+  pub indexed_symmetric : IsSymmetric Indexed same WritesIndexed ReadsIndexed
   indexed_symmetric = record { one = indexed_one; written = indexed_written; read_back = indexed_back; read = indexed_read }
 
 -- ---- as many items as are counted
 module _ {V : Type 0} {P : V → List Piece → Type 0} {same : V → V → Type 0} {writes : V → Meaning Output (Unit {0})} {m : Meaning (Option Stream) V} (A : IsSymmetric P same writes m) where
-  items_symmetric : (n : ℕ) → IsSymmetric (λ (w : Vec V) ps. (length w.items ≡ n) × Rattle.deku_pieces.specs.Pieces.OfEach P w.items ps) (λ w x. SameEach same w.items x.items) (λ w. WritesEach writes w.items)
+  pub items_symmetric : (n : ℕ) → IsSymmetric (λ (w : Vec V) ps. (length w.items ≡ n) × Rattle.deku_pieces.specs.Pieces.OfEach P w.items ps) (λ w x. SameEach same w.items x.items) (λ w. WritesEach writes w.items)
       (MappedBy (λ xs v. v.items ≡ xs) (Rattle.deku.specs.Limits.ReadsCount n m))
   items_symmetric n = holder_symmetric (λ (w : Vec V). w.items) _ _ _ _ (counted_symmetric P same writes m A n)
 
@@ -122,7 +125,7 @@ module _ {V W : Type 0} {P : V → List Piece → Type 0} {Q : W → List Piece 
   whole_symmetric : IsSymmetric (OfCountedBy count_of P Q) (SameCountedBy same_head same_item) (λ x. Both (write_head x.head) (WritesEach write_item x.items.items)) (ReadsCountedBy count_of m k)
   whole_symmetric =
       indexed_symmetric made (λ x. x.head) (λ x. x.items) count_of P (λ count. OfCounted count Q) same_head _ (SameCountedBy same_head same_item)
-      write_head _ m _ (λ v w. refl) (λ v w. refl) (λ x v w f g. (f, g)) alike A (counted_items_symmetric B)
+      write_head (λ _ w. WritesEach write_item w.items) m _ (λ v w. refl) (λ v w. refl) (λ x v w f g. (f, g)) alike A (counted_items_symmetric B)
 
   led_written : (x : Counted V W) (ps : List Piece) → OfCountedBy count_of P Q x ps → IsWrittenAs ps (WritesCountedBy count_of write_head write_item x)
   led_written x ps (a, c, p, (n, is, q), e) b s r u (Refused f d) = absurd (d.0 (is ∙ ap (λ i. Some i) (sym q.0)))
@@ -149,7 +152,7 @@ module _ {V W X : Type 0} {P : V → List Piece → Type 0} {Q : W → List Piec
       (Then m (λ h. Mapped (made h) (ReadsCounted (count_of h) k)))
   both_symmetric =
       indexed_symmetric made head items count_of P (λ count. OfCounted count Q) same_head SameItems SameBoth
-      write_head (λ w. WritesEach write_item w.items) m (λ count. ReadsCounted count k) is_head is_items both_same alike A (counted_items_symmetric B)
+      write_head (λ _ w. WritesEach write_item w.items) m (λ count. ReadsCounted count k) is_head is_items both_same alike A (counted_items_symmetric B)
 
   counts_written : (x : X) (ps : List Piece) → OfCounts count_of P Q (head x) (items x) ps → IsWrittenAs ps (WritesCounts count_of write_head write_item (head x) (items x))
   counts_written x ps (a, c, p, (n, is, q), e) b s r u (Refused f d) = absurd (d.0 (is ∙ ap (λ i. Some i) (sym q.0)))
@@ -167,7 +170,7 @@ pub written_counts : {V W : Type 0} (count_of : V → Option ℕ) (write_head : 
     → Outcome (WritesCounts count_of write_head write_item h xs) s a r u z
 written_counts count_of write_head write_item h xs e o = weaker _ _ _ _ _ _ _ (λ b m. Passed (e, m)) o
 
--- items that are as many as the head says are written behind it
+-- items that are as many as the head says are written after it
 pub written_in_step : {V W : Type 0} (count_of : V → Option ℕ) (write_head : V → Meaning Output (Unit {0})) (write_item : W → Meaning Output (Unit {0})) (v : Counted V W)
     {s : Standing Output} {a : Health} {r : Result (Unit {0}) DekuError} {u : Standing Output} {z : Health}
     → IsCounted (count_of v.head) (length v.items.items) → Outcome (Both (write_head v.head) (WritesEach write_item v.items.items)) s a r u z

@@ -7,7 +7,7 @@ use Rattle.deku_bits.specs.Pieces.{Piece}
 use Rattle.deku_bits.specs.Standings.{Standing, Going, Output}
 use Rattle.deku_bits.specs.Outcomes.{Meaning, Outcome, Mapped, Value, Refusal}
 use Rattle.deku_bits.proofs.Handing.{weaker}
-use Rattle.deku.specs.Composing.{Then, Both}
+use Rattle.deku.specs.Composing.{Both}
 use Rattle.deku_num.specs.NumberCalls.{Refused, Passed}
 use Rattle.deku_pieces.specs.declared.either.Either.{Either}
 use Rattle.deku_pieces.specs.declared.either.Either.TheVariants.{This, Other}

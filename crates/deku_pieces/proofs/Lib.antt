@@ -11,7 +11,6 @@ pub mod Tuples
 pub mod StandIns
 pub mod Texts
 pub mod Chosen
-pub mod Choices
 pub mod WholeBytes
 pub mod HighFirst
 pub mod Heads
@@ -20,3 +19,9 @@ pub mod Ids
 pub mod Passing
 pub mod Scattering
 pub mod Ending
+pub mod Sizes
+pub mod Following
+pub mod Prefixed
+pub mod SameItems
+pub mod ToEnd
+pub mod Filling

@@ -76,7 +76,7 @@ module _ (P : ℕ → List Piece → Type 0) (writes : ℕ → Meaning Output (U
       let count : c + breadth x + breadth y ≡ c + breadth ps = omega (arith, wide) in
       (ap (λ i. i ∷ vs) it.0 ∙ ap (λ i. w ∷ i) k.0, k.1 ∙ ap (λ i. Going (Some T) i) count)
 
-  -- a refusal behind some bytes of it is want of memory
+  -- a refusal after some bytes of it is lack of memory
   texts_refused : (vs ws : List ℕ) (ps : List Piece) (S T : Stream) (c : ℕ) (t u : Standing (Option Stream)) (d : DekuError) → NoZeros ws → OfEach P (vs ++ 0 ∷ []) ps → Takes ps S T
       → c + breadth ps < 2 ^ 64 → AnswersEach (Stored m) ws (Going (Some S) c) t → Stored m false t (Err d) u → d ≡ Io OutOfMemory
   texts_refused vs [] ps S T c t u d g are takes room turn refusal =

@@ -93,7 +93,7 @@ module _ {V : Type 0} (P : V → List Piece → Type 0) (same : V → V → Type
       let count : k.count ≡ end = omega (arith, k.sum, none.1) in
       (subst (λ x. SameEach same x ws) (sym front) k.alike, k.stands ∙ ap (λ x. Going (Some x) k.count) none.0 ∙ ap (λ n. Going (Some T) n) count)
 
-  -- the next item is refused for want of memory alone
+  -- the next item is refused for lack of memory alone
   pub next_refused : (others : List V) (ps : List Piece) (S T : Stream) (c : ℕ) (e : DekuError) (u : Standing (Option Stream)) → 0 < length others → OfEach P others ps → Takes ps S T
       → c + breadth ps < 2 ^ 64 → Stored m false (Going (Some S) c) (Err e) u → e ≡ Io OutOfMemory
   next_refused [] ps S T c e u some are takes room k = absurd (omega (arith, some))

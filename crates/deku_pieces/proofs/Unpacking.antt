@@ -23,11 +23,11 @@ use Rattle.deku_pieces.proofs.Answering.{ok_is}
 err_is : {V : Type 0} (e d : DekuError) → ◌≡◌ {A = Result V DekuError} (Err e) (Err d) → e ≡ d
 err_is e d p = cc
 
--- what is read from where a reader stands is read from the first byte on
+-- what is read from where a reader is is read from the first byte on
 pub from_first : {V : Type 0} (m : Meaning (Option Stream) V) (bytes : List ℕ) (r : Result V DekuError) (s u : Standing (Option Stream)) → s ≡ Going (Some (fresh bytes)) 0 → m false s r u → FromFirst m bytes r u
 from_first m bytes r s u e w = subst (λ x. m false x r u) e w
 
--- ---- behind no bits
+-- ---- after no bits
 -- a skip of no bits leaves bytes as they are
 skip_none : (bytes : List ℕ) (r : Result (Unit {0}) DekuError) (t : Standing (Option Stream)) → Skips Msb0 0 false (Going (Some (fresh bytes)) 0) r t
     → (r ≡ Ok tt) × (t ≡ Going (Some (fresh bytes)) 0)
@@ -35,7 +35,7 @@ skip_none bytes r t (inl (past, p)) = absurd (omega (arith, past))
 skip_none bytes r t (inr (room, inl (has, ok, is))) = (ok, is ∙ ap (λ x. Going (Some x) 0) (skip_law Msb0 0 (fresh bytes) (omega arith) (omega arith) ∙ left_none Msb0 (fresh bytes)))
 skip_none bytes r t (inr (room, inr (lacks, e))) = let none : bit_count (passed Msb0 0 (fresh bytes)) < 0 = lacks in absurd (omega (arith, none))
 
--- what is read behind no bits is read from the first one on
+-- what is read after no bits is read from the first one on
 pub behind_none : {V : Type 0} (m : Meaning (Option Stream) V) (bytes : List ℕ) (r : Result V DekuError) (u : Standing (Option Stream)) → FromFirst (Behind 0 m) bytes r u → FromFirst m bytes r u
 behind_none m bytes r u (Second v t p q) = subst (λ s. m false s r u) (skip_none bytes (Ok v) t p).1 q
 behind_none m bytes r u (First e p is) = let k = (skip_none bytes (Err e) u p).0 in absurd (cc)
@@ -51,7 +51,7 @@ module _ {V : Type 0} (pieces : V → List Piece → Type 0) (same : V → V →
   answered_refusal v e T n u (inl (x, g, p, f)) = absurd (cc)
   answered_refusal v e T n u (inr p) = err_is e _ p
 
-  -- what is answered where bytes begin with what the pieces of v lay out
+  -- what is returned where bytes begin with what the pieces of v lay out
   back : (v : V) (ps : List Piece) (after : List ℕ) → pieces v ps → InStep ps → bytes ≡ laid_out ps ++ after → breadth ps < 2 ^ 64
       → (r : Result V DekuError) (u : Standing (Option Stream)) → FromFirst m bytes r u → (T : Stream) × Answers (same v) T (breadth ps) r u
   back v ps after p aligned begins room r u w =

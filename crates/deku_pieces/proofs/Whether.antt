@@ -12,8 +12,8 @@ use Rattle.deku_num.specs.NumberCalls.{Refused, Passed}
 use Rattle.deku.specs.Composing.{Answer, Both}
 use Rattle.deku.specs.Extents.{WritesPieces}
 use Rattle.deku.specs.Shapes.{IfHeld}
-use Rattle.deku_pieces.specs.Symmetric.{breadth, IsWrittenAs, IsReadBack, TakenAs, IsSymmetric}
-use Rattle.deku_pieces.specs.Pieces.{OfHeld, SameHeld}
+use Rattle.deku_pieces.specs.Symmetric.{IsWrittenAs, IsReadBack, TakenAs, IsSymmetric}
+use Rattle.deku_pieces.specs.Pieces.{SameHeld}
 use Rattle.deku_pieces.specs.Whether.{OfAbsent, OfWhether, OfShown, ReadsWhether, ReadsShown, WritesShown}
 use Rattle.deku_pieces.proofs.Answering.{answer_is, answer_must}
 use Rattle.deku_pieces.proofs.Turned.{held_symmetric}
@@ -67,7 +67,7 @@ module _ {V W X : Type 0} {P : V → List Piece → Type 0} {Q : W → List Piec
   both_symmetric : IsSymmetric (λ x. OfShown shows P Q (head x) (item x)) Same (λ x. Both (write_head (head x)) (IfHeld write_item (item x))) (ReadsShown made shows m k)
   both_symmetric =
       indexed_symmetric made head item shows P (λ there. OfWhether there Q) same_head (SameHeld same_item) Same
-      write_head (IfHeld write_item) m (λ there. ReadsWhether there k) is_head is_item made_same alike A (whether_symmetric Q same_item write_item k B)
+      write_head (λ _. IfHeld write_item) m (λ there. ReadsWhether there k) is_head is_item made_same alike A (whether_symmetric Q same_item write_item k B)
 
   shown_written : (x : X) (ps : List Piece) → OfShown shows P Q (head x) (item x) ps → IsWrittenAs ps (WritesShown shows write_head write_item (head x) (item x))
   shown_written x ps (a, c, p, q, e) b s r u (Refused f d) = absurd (d.0 (in_step Q (shows (head x)) (item x) c q))

@@ -17,7 +17,7 @@ use Rattle.deku_pieces.specs.Symmetric.{breadth}
 use Rattle.deku_pieces.specs.Packs.{WholeBytesLaw}
 
 -- bits that are taken in turn are as many fewer
-takes_count : (ps : List Piece) (S T : Stream) → length S.window < 8 → Takes ps S T → (breadth ps + bit_count T ≡ bit_count S) × (length T.window < 8)
+pub takes_count : (ps : List Piece) (S T : Stream) → length S.window < 8 → Takes ps S T → (breadth ps + bit_count T ≡ bit_count S) × (length T.window < 8)
 takes_count [] S T short e = (let same : bit_count T ≡ bit_count S = ap bit_count (sym e) in omega (arith, same), subst (λ x. length x.window < 8) e short)
 takes_count (p ∷ ps) S T short (has, is, k) =
     let n : ℕ = length p.bits in
@@ -42,7 +42,7 @@ take_drop zero xs = refl
 take_drop (suc k) [] = refl
 take_drop (suc k) (x ∷ xs) = ap (λ y. x ∷ y) (take_drop k xs)
 
--- behind so many bytes that stand in front
+-- after so many bytes that are in front
 pub drop_front : (xs ys : List ℕ) (k : ℕ) → length xs ≡ k → drop k (xs ++ ys) ≡ ys
 drop_front [] ys zero e = refl
 drop_front [] ys (suc k) e = absurd (omega (arith, e))

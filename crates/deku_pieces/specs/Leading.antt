@@ -53,3 +53,7 @@ WritesCounts count_of write_head write_item h xs = Checked
 
 abbrev pub WritesCountedBy : {V W : Type 0} → (V → Option ℕ) → (V → Meaning Output (Unit {0})) → (W → Meaning Output (Unit {0})) → Counted V W → Meaning Output (Unit {0})
 WritesCountedBy count_of write_head write_item v = WritesCounts count_of write_head write_item v.head v.items
+
+-- A count is read, and then as many items.
+abbrev pub ReadsPrefixed : {I V X : Type 0} → (Vec V → X) → (I → ℕ) → Meaning (Option Stream) I → Meaning (Option Stream) V → Meaning (Option Stream) X
+ReadsPrefixed made number_of m k = Then m (λ i. Mapped made (MappedBy (λ xs v. v.items ≡ xs) (ReadsCount (number_of i) k)))

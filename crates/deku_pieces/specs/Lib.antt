@@ -1,10 +1,12 @@
 pub mod Symmetric
 pub mod Pieces
 pub mod Packs
-pub mod Choices
 pub mod Leading
 pub mod Ending
 pub mod Asserting
 pub mod Scattered
 pub mod Whether
 pub mod Ids
+pub mod Sizes
+pub mod Following
+pub mod ToEnd

@@ -8,7 +8,7 @@ use Rattle.deku_bits.specs.Outcomes.{Meaning, Refuses, Mapped}
 use Rattle.deku_num.specs.NumberCalls.{Checked}
 use Rattle.deku.specs.Composing.{Answer, Then, Both}
 use Rattle.deku.specs.Shapes.{IfHeld}
-use Rattle.deku_pieces.specs.Pieces.{NoPieces, InTurn, OfHeld, SameHeld}
+use Rattle.deku_pieces.specs.Pieces.{NoPieces, InTurn, OfHeld}
 
 -- ---- pieces
 -- No item has no bits.

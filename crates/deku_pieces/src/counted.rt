@@ -75,9 +75,19 @@ impl<H: ItemCount + DekuReader<()>, T: DekuReader<()>> DekuReader<()> for Counte
     }
 }
 
-// Reads as many items as the count says.
+/// Reads as many items as the count says.
+///
+/// The caller's condition: the items may be read.
+///
+/// It fails with `Parse("head without a count")` if there is no count, and nothing moves. Otherwise
+/// it fails as the first item that fails, or with `Io(OutOfMemory)` if there is no memory for an
+/// item.
+///
+/// ```text
+/// let items = read_counted::<u8, R>(reader, Some(2))?;       // two bytes
+/// ```
 #[inline(always)]
-fn read_counted<T: DekuReader<()>, R: Source>(
+pub fn read_counted<T: DekuReader<()>, R: Source>(
     reader: &mut Reader<R>,
     count: Option<usize>,
 ) -> Result<Vec<T>, DekuError>
@@ -126,20 +136,24 @@ pub fn write_counted<H: ItemCount + DekuWriter<()>, T: DekuWriter<()>, W: Sink>(
         (λ x. T.meaning x tt) (record { head = head.now; items = items.now })) writer.old result
         writer.new }
 {
-    if !in_step(head, items) {
+    if !is_counted(head.count(), items) {
         return Err(DekuError::Assertion("count out of step with items"));
     }
     head.to_writer(writer, ())?;
     items.to_writer(writer, ())
 }
 
-// Whether there are as many items as the head says.
+/// Whether there are as many items as the count says. There are not if there is no count.
+///
+/// ```text
+/// is_counted(Some(2), &items)                                // true of the items 68 and 69
+/// ```
 #[inline(always)]
-fn in_step<H: ItemCount, T>(head: &H, items: &Vec<T>) -> bool
-    ensures { MatchBool result (IsCounted (H.count_of head.now) (length items.now.items))
-        (IsCounted (H.count_of head.now) (length items.now.items) → ⊥) }
+pub fn is_counted<T>(count: Option<usize>, items: &Vec<T>) -> bool
+    ensures { MatchBool result (IsCounted count (length items.now.items))
+        (IsCounted count (length items.now.items) → ⊥) }
 {
-    match head.count() {
+    match count {
         Some(count) => items.len() == count,
         None => false,
     }

@@ -27,7 +27,7 @@ pub struct InRange<A, const LOW: u64, const HIGH: u64> {
 /// kind before it has.
 ///
 /// ```text
-/// type Kinds = Either<Kind<Be<u16>, 1>, Otherwise<Be<u16>>>;  // a number under 1, and under others
+/// type Kinds = Either<Kind<Be<u16>, 1>, Otherwise<Be<u16>>>; // a number under 1, and under others
 /// ```
 pub type Otherwise<A> = InRange<A, 0, 0xFFFF_FFFF_FFFF_FFFF>;
 

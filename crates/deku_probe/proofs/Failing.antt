@@ -14,7 +14,7 @@ only_at_one zero n e l = absurd (let z : n ≡ 0 = omega arith in let h : 1 < fa
 only_at_one (suc zero) n e l = refl
 only_at_one (suc (suc k)) n e l = absurd (let z : n ≡ suc k = omega arith in let h : 0 < failures_at (suc k) = rw z at l in omega (arith, h))
 
--- the place behind the last byte, where i bytes were read and none is left
+-- the place after the last byte, where i bytes were read and none is left
 pub at_end : (t : Option (List ℕ)) (p i q : ℕ) (xs : List ℕ) → q ≡ p + i → length xs ≡ i → Consumes (option_map (drop p) t) (option_map (drop (p + i)) t) xs
     → FewerThan 1 (option_map (drop (p + i)) t) → IfSome t (λ all. q ≡ p + (length all - p))
 at_end None p i q xs k n c f = tt

@@ -237,7 +237,8 @@ impl<B: AsBytes> Source for FailAt<B> {
             (failing_source B.bytes self.new).health to result }
         ensures refused { RefusedSeek (failing_source B.bytes self.old).health
             (failing_source B.bytes self.new).health to result }
-        ensures remaining { ComesFrom (failing_source B.bytes self.old).health.whole result (failing_source B.bytes self.new) }
+        ensures remaining { ComesFrom (failing_source B.bytes self.old).health.whole result
+            (failing_source B.bytes self.new) }
         ensures counted { self.new.left ≡ self.old.left - 1 }
         ensures still { OnErr result (self.new.inner ≡ self.old.inner) }
         ensures inner { cursor_inner self.new.inner ≡ cursor_inner self.old.inner }
@@ -342,7 +343,8 @@ impl Sink for FailAt<&mut [u8]> {
             result }
         ensures refused { RefusedSeek (failing_sink self.old).health (failing_sink self.new).health
             to result }
-        ensures stands { StandsAt (failing_sink self.old).health.whole result (failing_sink self.new) }
+        ensures stands { StandsAt (failing_sink self.old).health.whole result
+            (failing_sink self.new) }
         ensures counted { self.new.left ≡ self.old.left - 1 }
         ensures still { OnErr result (self.new.inner ≡ self.old.inner) }
         ensures inner { cursor_inner self.new.inner ≡ cursor_inner self.old.inner }

@@ -26,7 +26,7 @@ bytes_more o w t bs v u b x k p q =
     let e : flow o (bs ++ b ∷ []) ≡ flow o bs ++ facing o (byte_bits b) = flow-append o bs (b ∷ []) ∙ ap (λ s. flow o bs ++ s) (append-nil (facing o (byte_bits b))) in
     subst (λ s. Moves o w t s x k) (sym e) (moves_more o w t (flow o bs) v u (facing o (byte_bits b)) x k p q)
 
--- ---- what a read of bytes answers
+-- ---- what a read of bytes returns
 -- bytes were taken
 pub bytes_ok : (o : Order) (w : List Bool) (t : Option (List ℕ)) (c n : ℕ) (bs : List ℕ) (v : List Bool) (u : Option (List ℕ)) (f g : Health)
     → length bs ≡ n → length w ≤ 8 → c + 8 * n < 2 ^ 64 → Moves o w t (flow o bs) v u → (0 < length bs → length v < 8) → (length bs ≡ 0 → (v ≡ w) × (u ≡ t)) → All IsByte bs

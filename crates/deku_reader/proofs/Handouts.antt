@@ -1,4 +1,4 @@
--- Bits that are handed out of a window and of bytes behind it, one group after the other.
+-- Bits that are handed out of a window and of bytes after it, one group after the other.
 use Rattle.std.proofs.Common.{◌≡◌, ℕ, ◌+◌, ◌*◌, ◌-◌, ◌<◌, ◌≤◌, min, Bool, List, [], ◌∷◌, ◌++◌, length, take, drop, set, get_or, All, arith, sym, ap, ap₂, ◌∙◌, ⊎_elim, append-nil, append_assoc, length-append}
 use Rattle.std.proofs.lemmas.Bool.{cases_lt}
 use Rattle.std.proofs.lemmas.List.{take_all, take_at, take_more, take_more_set, drop_all, drop-drop, drop-set-lt, get_or-drop, length-drop, length-take, nil_from_length}
@@ -53,7 +53,7 @@ exchange_more o w u v old dst i b r h l same at e f =
     ∙ sym (append_assoc (flow o B) y (facing o v))
     ∙ ap (λ s. s ++ facing o v) (sym (flow_more o B r) ∙ ap (flow o) (sym (take_more_set dst i r h)))
 
--- what is behind the byte stays
+-- what is after the byte stays
 pub behind_more : (old dst : List ℕ) (i r : ℕ) → drop i dst ≡ drop i old → drop (i + 1) (set dst i r) ≡ drop (i + 1) old
 behind_more old dst i r e = drop-set-lt (i + 1) dst i r (omega arith) ∙ sym (drop-drop 1 i dst) ∙ ap (drop 1) e ∙ drop-drop 1 i old
 
@@ -87,7 +87,7 @@ part_more o w u v old dst ys a k n m h l same e f =
     ∙ parts_through o w u v (take a old) (mid_of a k dst) (take a dst) ys e f
     ∙ ap (λ s. flow o s ++ facing o v) (sym after)
 
--- what is behind that part stays
+-- what is after that part stays
 pub part_behind : (old dst ys : List ℕ) (a k n : ℕ) → n ≡ a + k → a + k ≤ length dst → length ys ≡ k → drop a dst ≡ drop a old → drop n (put_mid a k dst ys) ≡ drop n old
 part_behind old dst ys a k n m h l same =
     let all : a + k ≡ n = sym m in
@@ -114,7 +114,7 @@ take_written xs ys a e k n h is l m = ⊎_elim short whole (cases_lt (length xs)
         let all : put_mid a (e - a) xs ys ≡ take a xs ++ ys = ap (λ s. take a xs ++ (ys ++ s)) none ∙ ap (λ s. take a xs ++ s) (append-nil ys) in
         ap (take n) all ∙ take_all n (take a xs ++ ys) (omega (arith, length-append (take a xs) ys, length-take a xs))
 
--- a window is empty where bits are wanted behind whole bytes
+-- a window is empty where bits are wanted after whole bytes
 hand_none : (o : Order) (w v dst : List Bool) (bs : List ℕ) (i : ℕ) → length w ≡ 0 → facing o w ++ flow o (take i bs) ≡ take (8 * i) dst ++ facing o v → i ≤ length bs → 8 * i < length dst → facing o v ≡ []
 hand_none o w v dst bs i z e h l =
     nil_from_length (facing o v)

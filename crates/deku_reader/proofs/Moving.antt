@@ -44,7 +44,7 @@ moves_more o w (Some xs) bs v (Some ys) cs x (Some zs) p q = (
   (p.1.0 ++ q.1.0, p.1.1 ∙ ap (λ s. p.1.0 ++ s) q.1.1 ∙ sym (append_assoc p.1.0 q.1.0 zs)),
 )
 
--- fewer than k bits are left behind those that were given
+-- fewer than k bits are left after those that were given
 pub fewer_behind : (o : Order) (w : List Bool) (t : Option (List ℕ)) (bs : List Bool) (v : List Bool) (u : Option (List ℕ)) (k n : ℕ)
     → Moves o w t bs v u → FewerBits k v u → length bs + k ≤ n → FewerBits n w t
 fewer_behind o w None bs v u k n p f h = tt
@@ -69,7 +69,7 @@ supplied w (Some xs) b None o e p = absurd p
 supplied w (Some xs) b (Some ys) o e p = (rw (e, p, facing_nil o) refl, (b ∷ [], p))
 
 -- ---- bytes that are fetched at once
--- bytes behind a window
+-- bytes after a window
 pub fetched : (o : Order) (w : List Bool) (t : Option (List ℕ)) (bs : List ℕ) (u : Option (List ℕ)) → Consumes t u bs → Moves o w t (facing o w ++ flow o bs) [] u
 fetched o w None bs u p = tt
 fetched o w (Some xs) bs None p = absurd p
@@ -80,7 +80,7 @@ fetched o w (Some xs) bs (Some ys) p = (
   (bs, p),
 )
 
--- bytes behind a window of eight, which is put back
+-- bytes after a window of eight, which is put back
 pub fetched_full : (o : Order) (w : List Bool) (b : ℕ) (t : Option (List ℕ)) (bs : List ℕ) (u : Option (List ℕ)) → byte_bits b ≡ w → Consumes t u bs → Moves o w t (facing o [] ++ flow o (b ∷ bs)) [] u
 fetched_full o w b t bs u e p =
     let same : facing o w ++ flow o bs ≡ facing o [] ++ flow o (b ∷ bs) = ap (λ s. facing o s ++ flow o bs) (sym e) ∙ ap (λ s. s ++ flow o (b ∷ bs)) (sym (facing_nil o)) in
@@ -116,7 +116,7 @@ pub moves_inside : (o : Order) (w : List Bool) (t : Option (List ℕ)) (bs v : L
 moves_inside o w None bs v e = tt
 moves_inside o w (Some xs) bs v e = (ap (λ s. s ++ flow o xs) e ∙ append_assoc bs (facing o v) (flow o xs), ([], refl))
 
--- bits of a window, and then bits of bytes behind it
+-- bits of a window, and then bits of bytes after it
 pub handed : (o : Order) (w v x : List Bool) (t u : Option (List ℕ)) (bytes : List ℕ) (first second : List Bool) → Consumes t u bytes
     → facing o w ≡ first ++ facing o v → facing o v ++ flow o bytes ≡ second ++ facing o x → Moves o w t (first ++ second) x u
 handed o w v x t u bytes first second p e f =
@@ -163,7 +163,7 @@ moved_left o w xs bs v ys l moved short none = ⊎_elim
     (λ (p : 1 ≤ length bs). left_is o w xs bs v ys moved.1.0 l (short p) moved.0 moved.1.1)
     (cases_lt (length bs) 1)
 
--- as many bytes were fetched as the bits behind the window need
+-- as many bytes were fetched as the bits after the window need
 pub moved_loses : (o : Order) (w : List Bool) (t : Option (List ℕ)) (n : ℕ) (bs v : List Bool) (u : Option (List ℕ)) → length bs ≡ n → length w ≤ 8
     → Moves o w t bs v u → (0 < length bs → length v < 8) → (length bs ≡ 0 → (v ≡ w) × (u ≡ t)) → Loses (groups (n - length w)) t u
 moved_loses o w None n bs v u e l moved short none = tt
@@ -200,7 +200,7 @@ first_bits : (o : Order) (S : Stream) (a b : List Bool) → seen o S ≡ a ++ b 
 unfolding taken
 first_bits o S a b e = ap (take (length a)) e ∙ take_at a b (length a) refl
 
--- ---- what a read answers
+-- ---- what a read returns
 -- bits were taken
 pub takes_ok : (o : Order) (w : List Bool) (t : Option (List ℕ)) (c n : ℕ) (bs v : List Bool) (u : Option (List ℕ))
     → length bs ≡ n → length w ≤ 8 → c + n < 2 ^ 64 → Moves o w t bs v u → (0 < length bs → length v < 8) → (length bs ≡ 0 → (v ≡ w) × (u ≡ t))

@@ -68,7 +68,7 @@ skip_read_law o n c S l has bits u v r (Value s (inr (room, inr (inl p))) e) (in
 skip_read_law o n c S l has bits u v r (Value s (inr (room, inr (inl p))) e) (inr (_, inr q)) = absurd (omega (arith, q.0, skip_finds o n S l has))
 
 -- ---- a read of bytes and a read of bits
--- what is reserved is answered without memory, or memory is not found
+-- what is reserved is returned without memory, or memory is not found
 unreserved : {A V : Type 0} (moves : A → ℕ → Result V DekuError → Standing A → Type 0) (n : ℕ) (b : Bool) (s : Standing A) (r : Result V DekuError) (u : Standing A)
     → UnlessStopped Unknown (CountsBits n (Reserving moves)) b s r u → UnlessStopped Unknown (CountsBits n moves) b s r u ⊎ ((r ≡ Err (Io OutOfMemory)) × (u ≡ s))
 unreserved moves n false (Going a c) r u (inl p) = inl (inl p)
@@ -89,7 +89,7 @@ taken_length o n true (Going a c) bits u p = let h = p.1 in absurd (cc)
 taken_length o n false (Stopped S e c) bits u p = let h = p.0 in absurd (cc)
 taken_length o n true (Stopped S e c) bits u p = absurd p
 
--- bytes that are answered are those of the bits that are shown
+-- bytes that are returned are those of the bits that are shown
 bytes_from : (o : Order) (n : ℕ) (b : Bool) (s u : Standing (Option Stream)) (bytes : List ℕ) → ReadsBytes o n b s (Ok bytes) u
     → (length bytes ≡ n) × ReadsVec o (8 * n) b s (Ok (bits_in bytes)) u
 bytes_from o n b s u bytes (Refusal e p q) = absurd (cc)

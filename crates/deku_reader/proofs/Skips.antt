@@ -162,8 +162,8 @@ forgets_left o w v n xs l h =
     ap (λ k. left o k (at w xs)) (sym h.1)
     ∙ moved_left o w xs h.0 v xs l moves (λ p. omega (arith, h.1)) (λ z. (forgets_none o w v (h.0, z, h.2), refl))
 
--- ---- what a skip answers
--- what is behind the window, in bits
+-- ---- what a skip returns
+-- what is after the window, in bits
 abbrev pub behind : ℕ → List Bool → ℕ
 behind n w = n - min n (length w)
 
@@ -205,7 +205,7 @@ skips_ok o w (Some xs) c n v (Some ys) x (Some zs) l room h passes moved short n
     let law = peek_skip_law o n S l in
     inr (room, inl (law.1 has, refl, ap (λ T. Going (Some T) (c + n)) (ap normal (sym (skipped_is o S (at v ys) (at x zs) n (length bits) first part rest)) ∙ law.0)))
 
--- a fault of the device, which is answered and kept
+-- a fault of the device, which is returned and kept
 pub breaks : {A V : Type 0} {after : A} (moves : A → ℕ → Result V DekuError → Standing A → Type 0) (a : A) (c : ℕ) (f g : Health) (kind : ErrorKind)
     → DeviceFailed f g → Outcome (UnlessStopped Unknown moves) (Going a c) f (Err (error.Io kind)) (Stopped after (error.Io kind) c) g
 breaks {after = after} moves a c f g kind more = Broken (record { kind = kind; count = c; left = after; answered = refl; kept = refl }) (kind, refl, after, tt, refl) more
@@ -248,7 +248,7 @@ names_away n (Going w c) e (inl p) = let k = p.1.2 in λ m q. absurd (cc)
 names_away n (Going w c) e (inr p) = let k = p.1 in absurd (cc)
 names_away n (Stopped w d c) e p = tt
 
--- ---- what a look at the end answers
+-- ---- what a look at the end returns
 -- bits are unread
 pub peeks_some : (w : List Bool) (t : Option (List ℕ)) (c : ℕ) (f : Health) → 0 < length w → Outcome Ending (Going (stream_of w t) c) f (Ok false) (Going (stream_of w t) c) f
 peeks_some w None c f h = Quiet (false, None, refl, refl) (no_fewer_same f)

@@ -1,4 +1,4 @@
--- Words that are read: groups of eight as bytes, from a window and the bytes behind it.
+-- Words that are read: groups of eight as bytes, from a window and the bytes after it.
 use Rattle.std.proofs.Common.{◌≡◌, ℕ, ◌+◌, ◌*◌, ◌-◌, ◌/◌, ◌%◌, ◌^◌, ◌<◌, ◌≤◌, Bool, false, List, [], ◌∷◌, ◌++◌, length, map, take, drop, set, get_or, replicate, All, Option, Ok, arith, refl, sym, ap, ap₂, ◌∙◌, subst, append-nil, append_assoc, length-append, take-add, mod-eq_of_lt}
 use Rattle.std.proofs.lemmas.Nat.{mul-add-lt, pow-add, shl_whole}
 use Rattle.std.proofs.lemmas.List.{take_all, take_at, drop_at, take-take, length-take-le, drop-drop, drop-replicate, drop_all, drop_more, get_or_at, set_at, length-map, length-replicate, nil_from_length}
@@ -117,7 +117,7 @@ gather_more o w u v dst bytes n q b k e p short room long all cut same at g =
       worth = byte_groups o bytes (g.bits) all ∙ ap (λ s. bytes ++ s) (g.worth);
     })
 
--- ---- the word that is answered
+-- ---- the word that is returned
 -- so many groups
 length-numbers : (o : Order) (w v : List Bool) (bytes numbers : List ℕ) (n : ℕ) → TakesGroups o w bytes n numbers v → length numbers ≡ groups n
 length-numbers o w v bytes numbers n g =
@@ -200,7 +200,7 @@ word_of-lt o s = by_groups (λ s. word_of o s < 2 ^ length s) (omega arith)
     rw (word_of-full o g t l, long, pow-add 2 8 (length t)) (omega (arith, g_small, h)))
     s
 
--- eight bytes through the window, and the bits behind them
+-- eight bytes through the window, and the bits after them
 pub word_behind_eight : (o : Order) (w u v : List Bool) (t y x : Option (List ℕ)) (a n k : ℕ) (eight first : List ℕ) → a ≡ 64 + n → n ≤ 64 → length eight ≡ 8 → length first ≡ 8
     → Consumes t y (take 8 eight) → facing o w ++ flow o eight ≡ flow o first ++ facing o u → All IsByte first → MovesWord o u y n k v x
     → (k * 2 ^ 64 % 2 ^ 128 + from_le_bytes w64 first < 2 ^ 128) × MovesWord o w t a (k * 2 ^ 64 % 2 ^ 128 + from_le_bytes w64 first) v x
@@ -235,7 +235,7 @@ fewer_behind_eight o w u t y a n eight first sum l m consumed cut f =
     let start : Moves o w t (flow o first) u y = moves_keep o w t (facing o w ++ flow o eight) (flow o first) u y (fetched_behind o w t eight y (rw whole at consumed)) cut in
     fewer_behind o w t (flow o first) u y n a start f (omega (arith, length-flow o first))
 
--- ---- what a read of a word answers
+-- ---- what a read of a word returns
 -- bits were taken
 pub word_ok : (o : Order) (w : List Bool) (t : Option (List ℕ)) (c n k : ℕ) (v : List Bool) (u : Option (List ℕ)) (f g : Health) → length w ≤ 8 → c + n < 2 ^ 64
     → MovesWord o w t n k v u → (0 < n → length v < 8) → (n ≡ 0 → (v ≡ w) × (u ≡ t)) → DeviceKept f g
@@ -259,7 +259,7 @@ high_inside w v t n k g =
     let same : g.group ≡ bits_of n k = sym (bits_of-bin g.group) ∙ ap₂ bits_of g.long (sym g.worth) in
     moves_inside Msb0 w t (bits_of n k) v (g.cut ∙ ap (λ s. s ++ v) same)
 
--- of which the last lie in eight bytes that were at hand
+-- of which the last are in eight bytes that were at hand
 pub high_short : (w v : List Bool) (n k : ℕ) (eight : List ℕ) → length eight ≡ 8 → n ≤ 64 → length w < 8 → length w < n
     → w ++ flow Msb0 (take (groups (n - length w)) eight) ≡ bits_of n k ++ v → length v < 8
 high_short w v n k eight size wide short more cut =

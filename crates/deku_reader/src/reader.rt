@@ -205,7 +205,7 @@ impl<R: Source> Reader<R> {
         ensures reads { Reads R.known Ending self.old result self.new }
         ensures fetched { OnOk result (FetchedAhead R.known self.old self.new) }
         ensures held { OnOk result (length (unread_of self.new) ≤ 8) }
-        // Where bits are unread, it moves nothing, whatever the source tells.
+        // If bits are unread, it moves nothing, whatever the source reports.
         ensures unread { 0 < length (unread_of self.old) → (result ≡ Ok false)
             × (self.new ≡ self.old) }
         ensures stopped { KeepsSourceStopped self.old self.new }

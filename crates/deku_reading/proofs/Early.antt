@@ -35,12 +35,12 @@ promptly_none = record { few = inr refl; step = λ bytes k is. (k, is) }
 pub promptly_on : {told mid after : KnownSource} {s t u : Standing (List Bool)} → PromptlyAt told s mid t → PromptlyAt mid t after u → PromptlyAt told s after u
 promptly_on p q = record { few = early_on p.few q.few; step = λ bytes k is. let m = p.step bytes k is in q.step bytes m.0 m.1 }
 
--- what holds whatever was answered holds of a value
+-- what holds whatever was returned holds of a value
 pub at_ok : {V E P : Type 0} (r : Result V E) → P → OnOk r P
 at_ok (Ok v) p = p
 at_ok (Err e) p = tt
 
--- what follows where a value was answered
+-- what follows where a value was returned
 pub then_ok : {V E P Q : Type 0} (r : Result V E) → (P → Q) → OnOk r P → OnOk r Q
 then_ok (Ok v) h p = h p
 then_ok (Err e) h p = tt
@@ -100,7 +100,7 @@ bytes_promptly o n {bytes} {told} {after} {s} {u} read fetches early =
     let took = bytes_took o n bytes (reader_state told.remaining s) (reader_state after.remaining u) m.0 in
     took_promptly o (8 * n) took.0 told after s u (Quiet took.1 m.1) fetches early
 
--- what was answered behind memory that was found
+-- what was returned after memory that was found
 unreserved : {A V : Type 0} (moves : A → ℕ → Result V DekuError → Standing A → Type 0) (n : ℕ) (s : Standing A) (v : V) (u : Standing A)
     → UnlessStopped Unknown (CountsBits n (Reserving moves)) false s (Ok v) u → UnlessStopped Unknown (CountsBits n moves) false s (Ok v) u
 unreserved moves n (Going a c) v u (inl p) = inl p
@@ -129,7 +129,7 @@ normal_short : (w : List Bool) (xs : List ℕ) → length w < 8 → normal (at w
 unfolding normal
 normal_short w xs l = rw (ne_eqb (length w) 8 (λ (e : length w ≡ 8). omega arith)) refl
 
--- what a skip leaves: the bytes behind so many, and the bits of these that were not left out
+-- what a skip leaves: the bytes after so many, and the bits of these that were not left out
 skip_leaves : (o : Order) (n : ℕ) (w : List Bool) (xs : List ℕ) → Has (last_part n (at w xs)) (passed o n (at w xs))
     → (q : ℕ) × ((skipped o n (at w xs)).bytes ≡ drop q xs) × (length w + 8 * q ≡ n + length (skipped o n (at w xs)).window)
 unfolding left skipped
@@ -190,7 +190,7 @@ pub skip_on : (o : Order) (n : ℕ) (told mid after : KnownSource) (s t u : Stan
 skip_on o n told mid after s t u skips early short p = promptly_on (skip_promptly o n told mid s t skips early short) p
 
 -- ---- a reader that was made for one call
--- its source tells the bytes behind those that the counted bits fill
+-- its source reports the bytes after those that the counted bits fill
 pub whole_behind : (told after : KnownSource) (u : Standing (List Bool)) → PromptlyAt told (Going [] 0) after u → (bytes : List ℕ) → told.remaining ≡ Some bytes → after.remaining ≡ Some (drop (groups (count_of u)) bytes)
 whole_behind told after u p bytes e =
     let far = p.step bytes 0 (e, omega arith) in

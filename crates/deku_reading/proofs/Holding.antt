@@ -15,7 +15,7 @@ use Rattle.deku_meanings.specs.Shapes.{Shows, Shown, ShowsUnless, LacksMemory}
 pub shown : {A V W : Type 0} {h : W → V} {v : V} {w : W} {s : Standing A} {f : Health} → h w ≡ v → Outcome (Shows h v) s f (Ok w) s f
 shown {f} e = Quiet (Shown e) (no_fewer_same f)
 
--- the same, behind a check
+-- the same, after a check
 pub shown_behind : {A V W : Type 0} {refuses : Standing A → Result W DekuError → Standing A → Type 0} {h : W → V} {v : V} {w : W} {s : Standing A} {f : Health}
     → h w ≡ v → Outcome (Checked refuses (Shows h v)) s f (Ok w) s f
 shown_behind {f} e = Quiet (Passed (Shown e)) (no_fewer_same f)

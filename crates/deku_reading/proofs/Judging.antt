@@ -145,7 +145,7 @@ counted remaining (Going window count) n e = e
 counted remaining (Stopped window fault count) n e = e
 
 -- ---- bits
--- the counts of a reader tell whether so many bits are read
+-- the counts of a reader say whether so many bits are read
 pub judged_by_counts : (x : Bool) (start after n p q : ℕ) → start ≡ p → after ≡ q → (x ≡ true) ↔ (after ≡ start + n) → (x ≡ true) ↔ (q ≡ p + n)
 judged_by_counts x start after n p q e f h = rw (e, f) at h
 

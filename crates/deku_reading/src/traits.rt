@@ -55,7 +55,7 @@ pub trait DekuReader<Ctx>: Drop {
     /// ahead.
     ///
     /// ```text
-    /// u8::try_read_onto(&mut reader, &mut bytes, 2, &())       // 2, from AA BB CC; then CC is next
+    /// u8::try_read_onto(&mut reader, &mut bytes, 2, &()) // 2, from AA BB CC; then CC is next
     /// ```
     fn try_read_onto<R: Source>(
         reader: &mut Reader<R>,

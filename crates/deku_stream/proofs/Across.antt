@@ -1,4 +1,4 @@
--- Words of the bits of a window and of eight bytes behind it, through numbers of at most 64 bits.
+-- Words of the bits of a window and of eight bytes after it, through numbers of at most 64 bits.
 use Rattle.std.proofs.Common.{ℕ, ◌+◌, ◌*◌, ◌-◌, ◌/◌, ◌%◌, ◌^◌, ◌<◌, ◌≤◌, ◌≡◌, Bool, List, [], ◌++◌, reverse, length, take, All, ap, ap₂, sym, ◌∙◌, subst, arith, append-nil, append_assoc, length-take-le, mod-lt, ⊎_elim}
 use Rattle.std.proofs.lemmas.List.{reverse-append, reverse-reverse, length-reverse, nil_from_length}
 use Rattle.std.proofs.lemmas.List.Elements.{All-take}
@@ -19,7 +19,7 @@ use Rattle.deku_stream.proofs.Reading.{facing_nil}
 use Rattle.deku_stream.proofs.Words.{byte_groups}
 use Rattle.deku_stream.proofs.EightBytes.{low_eight, word_low, high_front, low_front, little_front}
 
--- ---- a window and a number of 64 bits behind it
+-- ---- a window and a number of 64 bits after it
 -- the high bits of it
 pub high_cut : (w b s v e : ℕ) → b + s ≤ 64 → e < 2 ^ 64
     → bits_of w v ++ bits_of (b + s) (e / 2 ^ (64 - (b + s))) ≡ bits_of (w + b) (v * 2 ^ b + e / 2 ^ (64 - b)) ++ bits_of s (e / 2 ^ (64 - (b + s)) % 2 ^ s)
@@ -58,7 +58,7 @@ pub high_across : (w u : List Bool) (bytes : List ℕ) (n number : ℕ) → leng
     → w ++ flow Msb0 (take (groups (n - length w)) bytes) ≡ bits_of n number ++ u
 high_across w u bytes n number l h more few cut = ap (λ s. w ++ s) (high_front (groups (n - length w)) bytes (omega arith) l h) ∙ cut
 
--- of whole bytes behind no bits none is left
+-- of whole bytes after no bits none is left
 pub high_whole : (w : List Bool) (bytes : List ℕ) (n : ℕ) → length bytes ≡ 8 → All IsByte bytes → length w ≡ 0 → n % 8 ≡ 0 → n ≤ 64
     → w ++ flow Msb0 (take (groups (n - length w)) bytes) ≡ bits_of n (from_be_bytes w64 bytes / 2 ^ (64 - n)) ++ w
 high_whole w bytes n l h none whole few =
@@ -139,7 +139,7 @@ low_shifted e b few =
 low_masked : (e b : ℕ) → b ≤ 64 → e * 2 ^ (64 - b) % 2 ^ 64 / 2 ^ (64 - b) ≡ e % 2 ^ b
 low_masked e b few = ap (λ x. x / 2 ^ (64 - b)) (low_shifted e b few) ∙ shl-shr (e % 2 ^ b) (64 - b)
 
--- the bits that are left of 64 behind the low ones; of 64 there is none
+-- the bits that are left of 64 after the low ones; of 64 there is none
 rest_shifted : (e b : ℕ) → b ≤ 64 → e / 2 ^ (b % 64) % 2 ^ ((64 - b) % 8) ≡ e / 2 ^ b % 2 ^ ((64 - b) % 8)
 rest_shifted e b few = ⊎_elim
     (λ (h : b < 64).

@@ -97,7 +97,7 @@ pub length-bits_in : (bs : List ℕ) → length (bits_in bs) ≡ 8 * length bs
 length-bits_in [] = refl
 length-bits_in (b ∷ bs) = length-append (byte_bits b) (bits_in bs) ∙ omega (arith, eight b, length-bits_in bs)
 
--- a place behind eight bits
+-- a place after eight bits
 behind_eight : (k p : ℕ) → 8 * suc k + p ≡ suc (suc (suc (suc (suc (suc (suc (suc (8 * k + p))))))))
 behind_eight k p = omega arith
 

@@ -171,7 +171,7 @@ unfolding laid_out
 laid_out_end o [] p l = absurd (omega arith)
 laid_out_end o (b ∷ s) p l = rw (chunks-short (b ∷ s) p l) refl
 
--- a piece that is not empty stands at the beginning of the first run
+-- a piece that is not empty is at the beginning of the first run
 pub laid_out_front : (o : Order) (s : List Bool) (qs : List Piece) → 0 < length s → (x : List Bool) × (y : List ℕ) × (laid_out (piece o s ∷ qs) ≡ run_bytes (piece o (s ++ x)) ++ y)
 unfolding laid_out
 laid_out_front o s qs p = go s (runs qs) p
@@ -184,7 +184,7 @@ laid_out_front o s qs p = go s (runs qs) p
         (λ (e : same_order o q.order ≡ false). ([], flat_map run_bytes (q ∷ ps), rw e (ap (λ x. run_bytes (piece o x) ++ flat_map run_bytes (q ∷ ps)) (sym (append-nil (b ∷ s))))))
         (cases_Bool (same_order o q.order))
 
--- a run's bytes hold its bits, and zeros behind them
+-- a run's bytes hold its bits, and zeros after them
 pub flow-run : (o : Order) (s : List Bool) → (z : List Bool) × (flow o (run_bytes (piece o s)) ≡ s ++ z)
 unfolding laid_out
 flow-run o s = by_groups (λ s. (z : List Bool) × (flow o (run_bytes (piece o s)) ≡ s ++ z))

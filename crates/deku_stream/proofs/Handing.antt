@@ -25,7 +25,7 @@ pub passed_on : {A V : Type 0} {m : Meaning A V} {s : Standing A} {f : Health} {
     → IsErrAnd r (λ x. x ≡ e) → Outcome m s f (Err e) u g → Outcome m s f r u g
 passed_on r h o = let p = err_from_is_err_and r h in rw (p.1, p.2) o
 
--- a value that was answered, with h on it
+-- a value that was returned, with h on it
 pub mapped_ok : {A V W : Type 0} (h : V → W) {m : Meaning A V} {s : Standing A} {f : Health} {v : V} {u : Standing A} {g : Health}
     → Outcome m s f (Ok v) u g → Outcome (Mapped h m) s f (Ok (h v)) u g
 mapped_ok h {v} (Quiet p q) = Quiet (Value v p refl) q
@@ -37,7 +37,7 @@ pub mapped_err : {A V W : Type 0} (h : V → W) {m : Meaning A V} {s : Standing 
 mapped_err h {e} (Quiet p q) = Quiet (Refusal e p refl) q
 mapped_err h {e} (Broken a p q) = Broken (broken_at a) (Refusal e p refl) q
 
--- what was answered by the meaning where a value was
+-- what was returned by the meaning where a value was
 pub meant : {A V : Type 0} {m : Meaning A V} {s : Standing A} {f : Health} {v : V} {u : Standing A} {g : Health}
     → Outcome m s f (Ok v) u g → m false s (Ok v) u × DeviceKept f g
 meant (Quiet p q) = (p, q)
@@ -55,7 +55,7 @@ pub lenders_stay : {A V : Type 0} {m : Meaning A V} {s : Standing A} {f : Health
 lenders_stay (Quiet p q) = q.lenders
 lenders_stay (Broken a p q) = q.lenders
 
--- a device that tells that no call failed broke nothing
+-- a device that reports that no call failed broke nothing
 pub unbroken : {A V : Type 0} {m : Meaning A V} {s : Standing A} {f : Health} {r : Result V DekuError} {u : Standing A} {g : Health}
     → f.failures ≡ Some 0 → g.failures ≡ Some 0 → Outcome m s f r u g → m false s r u
 unbroken p q (Quiet m k) = m
@@ -68,7 +68,7 @@ heads a b xs ys e = cc
 tails : (a b : GName) (xs ys : List GName) → a ∷ xs ≡ b ∷ ys → xs ≡ ys
 tails a b xs ys e = cc
 
--- what a reference tells of what is behind it
+-- what a reference reports of what is after it
 abbrev pub by_name : GName → Health → Health
 by_name n f = record f { lenders = n ∷ f.lenders }
 
@@ -77,7 +77,7 @@ pub name_stays : {A V : Type 0} {m : Meaning A V} {s : Standing A} {r : Result V
     → Outcome m s (by_name n f) r u (by_name k g) → k ≡ n
 name_stays f g n k o = heads k n g.lenders f.lenders (lenders_stay o)
 
--- what holds through a reference holds of what is behind it
+-- what holds through a reference holds of what is after it
 pub behind : {A V : Type 0} {m : Meaning A V} {s : Standing A} {r : Result V DekuError} {u : Standing A} (f g : Health) (n k : GName)
     → Outcome m s (by_name n f) r u (by_name k g) → Outcome m s f r u g
 behind f g n k (Quiet p q) = Quiet p (record { failures = q.failures; lenders = tails k n g.lenders f.lenders q.lenders; whole = q.whole })

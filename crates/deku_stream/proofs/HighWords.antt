@@ -25,7 +25,7 @@ turned_high (suc (suc (suc (suc (suc (suc (suc zero))))))) m l h = omega (arith,
 turned_high (suc (suc (suc (suc (suc (suc (suc (suc zero)))))))) m l h = omega (arith, h)
 turned_high (suc (suc (suc (suc (suc (suc (suc (suc (suc q))))))))) m l h = absurd (omega (arith, l))
 
--- the word of a number's bits: its whole bytes turned, and the bits behind them
+-- the word of a number's bits: its whole bytes turned, and the bits after them
 word_parts : (q r n : ℕ) → q ≤ 8 → r < 8 → n < 2 ^ (8 * q + r) → swap_bytes w64 (n / 2 ^ r) / 2 ^ (64 - 8 * q) + n % 2 ^ r * 2 ^ (8 * q) ≡ word_of Msb0 (bits_of (8 * q + r) n)
 word_parts q r n few short h =
     let m : ℕ = n / 2 ^ r in
@@ -40,7 +40,7 @@ word_parts q r n few short h =
     turn : (a b : ℕ) → a * b ≡ b * a
     turn a b = omega arith
 
--- as the code has it: of 64 bits no bit is shifted behind the whole bytes
+-- as the code has it: of 64 bits no bit is shifted after the whole bytes
 last_shifted : (q r n : ℕ) → 8 * q + r ≤ 64 → n % 2 ^ r * 2 ^ (8 * q % 64) % 2 ^ 64 ≡ n % 2 ^ r * 2 ^ (8 * q)
 last_shifted q r n few = ⊎_elim
     (λ (h : q < 8).

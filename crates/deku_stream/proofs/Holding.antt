@@ -1,4 +1,4 @@
--- Bytes that hold a list of bits, and zeros behind it.
+-- Bytes that hold a list of bits, and zeros after it.
 use Rattle.std.proofs.Common.{ℕ, zero, suc, ◌+◌, ◌*◌, ◌-◌, ◌^◌, ◌<◌, ◌≤◌, ◌≡◌, Bool, false, List, [], ◌∷◌, ◌++◌, length, drop, take, replicate, refl, ap, sym, ◌∙◌, subst, arith, append_assoc, length-append, length-drop}
 use Rattle.std.proofs.lemmas.List.{length-take-le, take_all, drop_all, length-replicate, drop-drop, drop_at, replicate-append-replicate}
 use Rattle.deku_stream.specs.Bits.{bits_of, byte_bits, bits_in}

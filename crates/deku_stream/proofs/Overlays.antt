@@ -3,7 +3,7 @@ use Rattle.std.proofs.Common.{ℕ, zero, suc, ◌+◌, ◌-◌, ◌<◌, ◌≤�
 use Rattle.std.proofs.lemmas.List.{length-take-le, take_more, drop_more, take-append-drop, append-nil, drop_at, take_at, get_or-append-add, get_or-drop}
 use Rattle.deku_device.specs.Overlays.{overlaid}
 
--- a list, with the element behind a front replaced
+-- a list, with the element after a front replaced
 set_behind : (s t : List Bool) (a b : Bool) (n : ℕ) → length s ≡ n → set (s ++ a ∷ t) n b ≡ s ++ b ∷ t
 set_behind [] t a b zero l = refl
 set_behind [] t a b (suc n) l = absurd (omega arith)
@@ -35,7 +35,7 @@ overlaid-none s at =
 pub overlaid-start : (s : List Bool) (at : ℕ) (bits : List Bool) → overlaid s at (take 0 bits) ≡ s
 overlaid-start s at bits = overlaid-none s at
 
--- the bits in front of the end of what was laid, and those behind it
+-- the bits in front of the end of what was laid, and those after it
 pub take-overlaid : (s : List Bool) (at : ℕ) (bits : List Bool) → at + length bits ≤ length s → take (at + length bits) (overlaid s at bits) ≡ take at s ++ bits
 take-overlaid s at bits h =
     let front : List Bool = take at s ++ bits in
@@ -57,7 +57,7 @@ pub lays_more : (s : List Bool) (at : ℕ) (bits : List Bool) (k place : ℕ) (o
     → new ≡ set old place bit → place ≡ at + k → bit ≡ get_or bits k false → k < length bits → at + k < length s → new ≡ overlaid s at (take (k + 1) bits)
 lays_more s at bits k place old new bit e f p b l h = f ∙ rw (e, p, b) (overlaid-more s at bits k l h)
 
--- a bit behind those that were laid
+-- a bit after those that were laid
 pub get_or-overlaid : (s : List Bool) (at : ℕ) (bits : List Bool) (k : ℕ) → at + length bits ≤ k → k < length s → get_or (overlaid s at bits) k false ≡ get_or s k false
 get_or-overlaid s at bits k h l =
     let front : List Bool = take at s ++ bits in

@@ -48,7 +48,7 @@ seen-spot o (suc p) (b ∷ bs) h =
     rw (facing-facing o (drop (suc p) (facing o (byte_bits b))))
     (sym (drop_front (suc p) (facing o (byte_bits b)) (flow o bs) (omega (arith, length-facing o (byte_bits b), length-byte_bits b))))
 
--- the stream behind the first m bits of bytes
+-- the stream after the first m bits of bytes
 pub behind : Order → ℕ → List ℕ → Stream
 unfolding taken left laid_out
 behind o m bs = record { window = facing o (drop m (flow o (take ((m + 7) / 8) bs))); bytes = drop ((m + 7) / 8) bs }
@@ -150,7 +150,7 @@ left_none o S =
     let e : (0 - length S.window + 7) / 8 ≡ 0 = omega arith in
     rw e (ap (λ w. record { window = w; bytes = S.bytes }) (ap (facing o) (append-nil (facing o S.window)) ∙ facing-facing o S.window))
 
--- the bits behind a piece in front begin with its bits
+-- the bits after a piece in front begin with its bits
 flow-front : (o : Order) (t : List Bool) (qs : List Piece) (after : List ℕ) → 0 < length t → (z : List Bool) × (flow o (laid_out (piece o t ∷ qs) ++ after) ≡ t ++ z)
 unfolding taken left laid_out
 flow-front o t qs after p =

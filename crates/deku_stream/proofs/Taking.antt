@@ -115,7 +115,7 @@ cut_law o m n S l h =
     subst (Cut o m n) (sym s.is)
     (cut_spot o m n s.place s.bytes s.low (has-room o (m + n) s.place s.bytes s.low s.within (subst (Has (m + n)) s.is h)))
 
--- whole bytes behind an empty window
+-- whole bytes after an empty window
 left_bytes : (o : Order) (q : ℕ) (bs : List ℕ) → q ≤ length bs → left o (8 * q) (fresh bs) ≡ fresh (drop q bs)
 unfolding taken left skipped normal
 left_bytes o q bs h =

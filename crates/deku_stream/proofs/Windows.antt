@@ -41,7 +41,7 @@ one_bit {o} {w} {number} {rest} {one} g e = go o g.group g.long (g.cut) (g.worth
     go Lsb0 (false ∷ []) l c n = c ∙ ap (λ x. x ∷ facing Lsb0 rest) (sym (e ∙ ap (λ k. nat_eq k 1) n))
 
 -- ---- a byte that goes through a window
--- behind the bits of a number
+-- after the bits of a number
 pub through_high : (n v b : ℕ) → b < 2 ^ 8 → bits_of n v ++ byte_bits b ≡ byte_bits ((v * 2 ^ 8 + b) / 2 ^ n) ++ bits_of n ((v * 2 ^ 8 + b) % 2 ^ n)
 unfolding byte_bits
 through_high n v b h =

@@ -43,7 +43,7 @@ little_zeros : (m : ℕ) → little (replicate m 0) ≡ 0
 little_zeros zero = refl
 little_zeros (suc m) = omega (arith, little_zeros m)
 
--- zeros behind bytes count nothing
+-- zeros after bytes count nothing
 pub little-filled : (bytes : List ℕ) (m : ℕ) → little (bytes ++ replicate m 0) ≡ little bytes
 little-filled [] m = little_zeros m
 little-filled (b ∷ bytes) m = ap (λ k. b + 256 * k) (little-filled bytes m)

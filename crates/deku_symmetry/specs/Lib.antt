@@ -1,5 +1,5 @@
 pub use Rattle.deku_pieces.specs.Symmetric
 pub use Rattle.deku_pieces.specs.Pieces
 pub use Rattle.deku_pieces.specs.Packs
-pub use Rattle.deku_pieces.specs.Choices
 pub mod Counting
+pub mod Fields

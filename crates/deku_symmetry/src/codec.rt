@@ -77,6 +77,62 @@ pub trait Codec: Drop {
     ghost there: { (v : Self) → record_of (parts_of v) ≡ v };
 }
 
+/// A type whose parts can be copied out of a value: it is a `Codec`.
+///
+/// ```text
+/// impl CopyParts for Sample {
+///     type Parts = (Msb<u8, 4>, Msb<u8, 4>, Be<u16>);
+///     ..
+/// }
+/// ```
+pub trait CopyParts: Drop {
+    /// The parts, in the order of their layout.
+    type Parts: DekuReader<()> + DekuWriter<()>;
+
+    // The parts of a value.
+    ghost parts_of: { Self → Self.Parts };
+
+    // A value that parts make.
+    ghost record_of: { Self.Parts → Self };
+
+    /// The value that these parts make.
+    fn from_parts(parts: Self::Parts) -> Self
+    where
+        Self: Sized,
+        ensures { parts_of result ≡ parts };
+
+    /// The parts of the value.
+    ///
+    /// ```text
+    /// (Msb(self.sensor), Msb(self.state), Be(self.value))
+    /// ```
+    fn parts(&self) -> Self::Parts
+        ensures { result ≡ parts_of self.now };
+
+    // The parts of a value make this value again: no field is missing from them.
+    ghost there: { (v : Self) → record_of (parts_of v) ≡ v };
+}
+
+/// It is written as the copies of its parts.
+impl<T: CopyParts> Codec for T {
+    type Parts = T::Parts;
+
+    ghost parts_of = { T.CopyParts.parts_of };
+
+    ghost record_of = { T.CopyParts.record_of };
+
+    fn from_parts(parts: Self::Parts) -> Self {
+        <T as CopyParts>::from_parts(parts)
+    }
+
+    fn write<W: Sink>(&self, writer: &mut Writer<W>) -> Result<(), DekuError> {
+        let parts = self.parts();
+        parts.to_writer(writer, ())
+    }
+
+    ghost there = { T.CopyParts.there };
+}
+
 /// A value that is read and written as its parts, as a part itself. It has `pack`, `unpack`,
 /// `to_bytes` and `from_bytes`.
 ///
@@ -129,8 +185,8 @@ where
         (E.Parts.symmetric tt) };
 }
 
-/// A value that is read and written as its parts, and lies elsewhere: it is written as `Coded` of
-/// it.
+/// A value that is read and written as its parts, and is elsewhere in memory: it is written as
+/// `Coded` of it.
 ///
 /// ```text
 /// (Be(self.id), CodedRef(&self.sample)).to_writer(writer, ())

@@ -1,21 +1,19 @@
 //! Items that the parts before them count.
 
-ghost use Rattle.std.specs.Prelude.{◌≡◌, ℕ, Option, length, OnOk, MatchBool, refl};
-ghost use Rattle.deku_bits.specs.ReaderCalls.{Reads};
+ghost use Rattle.std.specs.Prelude.{◌≡◌, ℕ, Option, refl};
 ghost use Rattle.deku_bits.specs.WriterCalls.{Writes};
 ghost use Rattle.deku_bits.specs.Outcomes.{Mapped};
 ghost use Rattle.deku.specs.Composing.{Then};
-ghost use Rattle.deku.specs.Early.{NoReadAhead};
 ghost use Rattle.deku_pieces.specs.Pieces.{SameEach};
-ghost use Rattle.deku_pieces.specs.Leading.{IsCounted, OfCounts, ReadsCounted, WritesCounts};
+ghost use Rattle.deku_pieces.specs.Leading.{OfCounts, ReadsCounted, WritesCounts};
 ghost use Rattle.deku_pieces.proofs.Heads.{counts_symmetric};
 
 use crate::traits::Symmetric;
-use deku::ctx::Limit;
 use deku::device::{Sink, Source};
 use deku::reader::Reader;
 use deku::writer::Writer;
 use deku::{DekuError, DekuReader, DekuWriter};
+use deku_pieces::counted::{is_counted, read_counted};
 use std::marker::PhantomData;
 
 /// How many items follow the parts that are before them.
@@ -90,22 +88,6 @@ impl<P, C, T> CountedBy<P, C, T> {
     }
 }
 
-// Reads as many items as the count says.
-#[inline(always)]
-fn read_counted<T: DekuReader<()>, R: Source>(
-    reader: &mut Reader<R>,
-    count: Option<usize>,
-) -> Result<Vec<T>, DekuError>
-    requires { T.accepts tt }
-    ensures reads { Reads R.known (ReadsCounted count (T.meaning tt)) reader.old result reader.new }
-    ensures early { OnOk result (T.no_read_ahead tt → NoReadAhead R.known reader.old reader.new) }
-{
-    match count {
-        Some(count) => Vec::from_reader_with_ctx(reader, (Limit::new_count(count), ())),
-        None => Err(DekuError::Parse("head without a count")),
-    }
-}
-
 impl<P: DekuReader<()>, C: CountOf<P>, T: DekuReader<()>> DekuReader<()> for CountedBy<P, C, T> {
     ghost accepts = { λ _. P.accepts tt × T.accepts tt };
 
@@ -147,37 +129,25 @@ fn write_counts<P: DekuWriter<()>, C: CountOf<P>, T: DekuWriter<()>, W: Sink>(
     ensures { Writes W.known (WritesCounts C.count_of (λ h. P.meaning h tt)
         (λ x. T.meaning x tt) head.now items.now) writer.old result writer.new }
 {
-    if !in_step::<P, C, T>(head, items) {
+    if !is_counted(C::count(head), items) {
         return Err(DekuError::Assertion("count out of step with items"));
     }
     head.to_writer(writer, ())?;
     items.to_writer(writer, ())
 }
 
-// Whether there are as many items as the head says.
-#[inline(always)]
-fn in_step<P, C: CountOf<P>, T>(head: &P, items: &Vec<T>) -> bool
-    ensures { MatchBool result (IsCounted (C.count_of head.now) (length items.now.items))
-        (IsCounted (C.count_of head.now) (length items.now.items) → ⊥) }
-{
-    match C::count(head) {
-        Some(count) => items.len() == count,
-        None => false,
-    }
-}
-
 /// The pieces of the head, and then those of its items. There are no pieces if the number of items
 /// is not the one that the head gives.
 impl<P: Symmetric<()>, C: CountOfLaw<P>, T: Symmetric<()>> Symmetric<()> for CountedBy<P, C, T> {
-    ghost pieces = { λ v _. OfCounts C.CountOf.count_of (λ h. P.pieces h tt) (λ x. T.pieces x tt) v.head
-        v.items };
+    ghost pieces = { λ v _. OfCounts C.CountOf.count_of (λ h. P.pieces h tt) (λ x. T.pieces x tt)
+        v.head v.items };
 
     ghost same = { λ v w. P.same v.head w.head × SameEach T.same v.items.items w.items.items };
 
     ghost symmetric = { λ _. counts_symmetric
         (λ h xs. record { head = h; items = xs; count = record {} })
-        (λ v. v.head) (λ v. v.items) (λ h xs. refl) (λ h xs. refl) C.CountOf.count_of C.CountOfLaw.alike
-        (P.symmetric tt) (T.symmetric tt) };
+        (λ v. v.head) (λ v. v.items) (λ h xs. refl) (λ h xs. refl) C.CountOf.count_of
+        C.CountOfLaw.alike (P.symmetric tt) (T.symmetric tt) };
 }
 
 /// Parts, and items that are elsewhere in memory: it is written as `CountedBy` of both.

@@ -14,7 +14,7 @@ use deku::writer::Writer;
 use deku::{DekuError, DekuReader, DekuWriter};
 use std::marker::PhantomData;
 
-/// How an id lies: a part that is one number without a sign.
+/// How an id is laid out: a part that is one number without a sign.
 ///
 /// ```text
 /// <Msb<u64, 16> as Id>::of_number(0x0800)                     // two bytes, 08 00
@@ -123,7 +123,7 @@ impl<const N: usize> Id for LsbBe<u64, N> {
     ghost alike = { λ v w e. ap (λ n. record { 0 = n }) e };
 }
 
-/// An id that lies as `I`, and after it a value of the kinds `K` that the id chooses.
+/// An id that is laid out as `I`, and after it a value of the kinds `K` that the id chooses.
 ///
 /// Reading fails as the id does, and then as the chosen value does. If no kind has the id that was
 /// read, it fails with `IdVariantNotFound`, and the reader is after the id. Writing fails with
@@ -137,7 +137,7 @@ impl<const N: usize> Id for LsbBe<u64, N> {
 pub struct Enum<I, K> {
     /// The value.
     pub kind: K,
-    /// How its id lies.
+    /// How its id is laid out.
     pub id: PhantomData<I>,
 }
 

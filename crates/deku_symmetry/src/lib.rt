@@ -1,33 +1,45 @@
 //! Types that are read as they are written, and records made of them in a few lines.
 #![tactic(auto)]
 
+mod chosen_by;
 mod codec;
+mod constants;
 mod counted_by;
 mod either;
 mod enums;
 mod fields;
 mod impls;
-mod kinds;
+mod last;
 pub mod laws;
 mod made;
 mod optional;
+mod prefixed;
 mod record;
+mod sized;
 mod traits;
 
-pub use codec::{Codec, Coded, CodedRef};
+pub use chosen_by::{ChosenBy, IdOf, IdOfLaw};
+pub use codec::{Codec, Coded, CodedRef, CopyParts};
+pub use constants::{Between, Is, ZeroBits};
 pub use counted_by::{CountOf, CountOfLaw, CountedBy, CountedByRef};
 pub use deku_pieces::assertion::{Assert, Check};
-pub use deku_pieces::choice::{self, Choice, HasId, LsbTagged, MsbTagged, Only, Tagged};
+pub use deku_pieces::constants::{ByteConstant, Bytes, MagicBytes, ZeroBytes, Zeros};
 pub use deku_pieces::counted::{Counted, ItemCount, write_counted};
 pub use deku_pieces::either::{Either, InRange, Kind, Otherwise};
+pub use deku_pieces::filled_by::FilledBy;
 pub use deku_pieces::magic::{Constant, Magic};
+pub use deku_pieces::rest::{Before, Rest};
 pub use deku_pieces::scattered;
+pub use deku_pieces::sized_by::{SizeOf, SizedBy};
+pub use deku_pieces::under_head::{ContextOf, UnderHead};
 pub use deku_pieces::until::{Last, Until};
 pub use either::Kinds;
 pub use enums::{Enum, Id, LsbBeEnum, LsbEnum, MsbEnum, MsbLeEnum};
 pub use fields::{Be, Le, Lsb, LsbBe, Msb, MsbLe};
-pub use kinds::HasIdLaw;
+pub use last::{SymmetricLast, Wide};
 pub use made::{CheckLaw, ConstantLaw, ItemCountLaw, LastLaw};
 pub use optional::{Condition, ConditionLaw, Optional, OptionalRef};
+pub use prefixed::{Prefixed, PrefixedRef};
 pub use record::{EndianRecord, FromParts, Record, ToParts, read_record, write_record};
+pub use sized::{ContextOfLaw, SizeOfLaw};
 pub use traits::Symmetric;

@@ -108,8 +108,8 @@ impl<P: DekuReader<()>, C: Condition<P>, T: DekuReader<()>> DekuReader<()> for O
 
     ghost no_read_ahead = { λ _. P.no_read_ahead tt × T.no_read_ahead tt };
 
-    ghost meaning = { λ _. ReadsShown (λ h x. record { head = h; item = x; condition = record {} }) C.shows
-        (P.meaning tt) (T.meaning tt) };
+    ghost meaning = { λ _. ReadsShown (λ h x. record { head = h; item = x; condition = record {} })
+        C.shows (P.meaning tt) (T.meaning tt) };
 
     #[inline(always)]
     fn from_reader_with_ctx<R: Source>(reader: &mut Reader<R>, c: ()) -> Result<Self, DekuError> {
@@ -165,14 +165,15 @@ fn in_step<P, C: Condition<P>, T>(head: &P, item: &Option<T>) -> bool
 /// The pieces of the head, and then those of its item. There are no pieces if the item is out of
 /// step with its head.
 impl<P: Symmetric<()>, C: ConditionLaw<P>, T: Symmetric<()>> Symmetric<()> for Optional<P, C, T> {
-    ghost pieces = { λ v _. OfShown C.Condition.shows (λ h. P.pieces h tt) (λ x. T.pieces x tt) v.head
-        v.item };
+    ghost pieces = { λ v _. OfShown C.Condition.shows (λ h. P.pieces h tt) (λ x. T.pieces x tt)
+        v.head v.item };
 
     ghost same = { λ v w. P.same v.head w.head × SameHeld T.same v.item w.item };
 
-    ghost symmetric = { λ _. shown_item_symmetric (λ h x. record { head = h; item = x; condition = record {} })
-        (λ v. v.head) (λ v. v.item) (λ h x. refl) (λ h x. refl) C.Condition.shows C.ConditionLaw.alike
-        (P.symmetric tt) (T.symmetric tt) };
+    ghost symmetric = { λ _. shown_item_symmetric
+        (λ h x. record { head = h; item = x; condition = record {} })
+        (λ v. v.head) (λ v. v.item) (λ h x. refl) (λ h x. refl) C.Condition.shows
+        C.ConditionLaw.alike (P.symmetric tt) (T.symmetric tt) };
 }
 
 /// Parts, and an item that is elsewhere in memory: it is written as `Optional` of both.

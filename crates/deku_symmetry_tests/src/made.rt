@@ -1,12 +1,10 @@
-//! Parts that other parts depend on: counted items, checks, and ids in low bits.
+//! Parts that other parts depend on: counted items and checks.
 
 ghost use Rattle.std.specs.Prelude.{nat_eq, codes, refl, None};
 
 use crate::sample::Sample;
 use deku::prelude::{DekuError, NeedSize};
-use deku_symmetry::{
-    Assert, Check, CheckLaw, Counted, ItemCount, Lsb, LsbTagged, Msb, Only, Symmetric, Tagged,
-};
+use deku_symmetry::{Assert, Check, CheckLaw, Counted, ItemCount, Msb, Symmetric};
 use deku_testing_values::expecting::same;
 use deku_testing_values::records::{expect_packed, expect_refusal};
 use std::test::Fail;
@@ -44,9 +42,6 @@ impl ItemCount for Sample {
 
 // A version of four bits, and a length.
 type Front = (Assert<Msb<u8, 4>, Version>, Msb<u8, 4>);
-
-// A bit behind the id 5, or nine behind the id 3.
-type Word = LsbTagged<Lsb<u8, 1>, Only<Lsb<u16, 9>, 3>, 5, 7>;
 
 #[test]
 fn counted_items(rt: HostRuntime) -> Result<(), Fail> {
@@ -87,14 +82,4 @@ fn what_passes(rt: HostRuntime) -> Result<(), Fail> {
     let refusal = DekuError::Assertion("version");
     same(&6, &six.pack(alloc, ()), &Err(refusal))?;
     expect_refusal::<Front>(alloc, &[0x65], refusal, 4)
-}
-
-// 3 + 0x1FF * 128 is 0xFF83, its low byte first.
-#[test]
-fn ids_in_low_bits(rt: HostRuntime) -> Result<(), Fail> {
-    let alloc = rt.alloc();
-    let one: Word = Tagged::This(Lsb(1));
-    expect_packed(alloc, (), &one, 8, &[0x85])?;
-    let nine: Word = Tagged::Other(Only(Lsb(0x1FF)));
-    expect_packed(alloc, (), &nine, 16, &[0x83, 0xFF])
 }

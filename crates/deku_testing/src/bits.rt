@@ -8,7 +8,7 @@ use deku_bits::ctx::Order;
 use deku_bits::ctx::Order::{Lsb0, Msb0};
 use std::test::Fail;
 
-/// Each number of bits of a byte that may lie in front, in both orders.
+/// Each number of bits of a byte that may be in front, in both orders.
 pub const OFFSETS: [(usize, Order); 16] = [
     (0, Msb0),
     (0, Lsb0),

@@ -155,7 +155,8 @@ fn handed_on(refused: bool) -> Result<(), Fail> {
     Ok(())
 }
 
-// Whether the run ended for want of memory, and not with the status and the complaints that it has.
+// Whether the run ended because it was out of memory, and not with the status and the complaints
+// that it has.
 fn ended<P: Program, R: Read, W: Write>(
     alloc: Global,
     program: &P,

@@ -21,7 +21,7 @@ use Rattle.deku_writer.proofs.Fills.{Fills-short}
 use Rattle.deku_writer.proofs.Onto.{append_same, empty_onto}
 use Rattle.deku_writer.proofs.WordsWritten.{length-shown_word}
 
--- ---- behind bits of the same order, or behind none
+-- ---- after bits of the same order, or after none
 same_filled : (o : Order) (h hs bits : List Bool) (out : List ℕ) → 0 < length bits → Fills o h hs (shown o bits) out → FillsOnto o o h hs bits out
 same_filled o h hs bits out some f =
     let e : append o bits (held o h) ≡ cut o (facing o h ++ shown o bits) = append_same o h bits some in
@@ -57,7 +57,7 @@ high_behind from h hs n k out behind some f =
     let long : 0 < length (bits_of n k) = rw length-bits_of some in
     ⊎_elim (λ none. none_filled from Msb0 h hs (bits_of n k) out none long f) (λ same. rw same (same_filled Msb0 h hs (bits_of n k) out long f)) behind
 
--- that are whole bytes, behind none
+-- that are whole bytes, after none
 pub high_behind_none : (a b : KnownSink) (from : Order) (h : List Bool) (n k : ℕ) → length h ≡ 0 → 0 < n → Pushed a b Msb0 [] [] (bits_of n k) → PushedOnto a b from Msb0 h h (bits_of n k)
 unfolding shown
 high_behind_none a b from [] n k none some m = empty_onto a b from Msb0 [] [] (bits_of n k) none (rw length-bits_of some) m

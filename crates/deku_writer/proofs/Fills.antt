@@ -1,4 +1,4 @@
--- Groups of bits behind those that are held: joined, cut, and what goes out.
+-- Groups of bits after those that are held: joined, cut, and what goes out.
 use Rattle.std.proofs.Common.{ℕ, ◌+◌, ◌*◌, ◌-◌, ◌/◌, ◌%◌, ◌^◌, ◌<◌, ◌≤◌, ◌≡◌, Bool, true, false, List, [], ◌∷◌, ◌++◌, reverse, length, take, set, refl, sym, ap, ap₂, ◌∙◌, append_assoc, append-nil, arith, subst}
 use mir.Val.{bool_byte}
 use Rattle.std.proofs.lemmas.List.{take_more_set, reverse-append}
@@ -13,7 +13,7 @@ use Rattle.deku_stream.proofs.Cuts.{emitted, emitted-full, emitted-short, remain
 use Rattle.deku_stream.proofs.Appends.{emitted-append, remainder-append}
 use Rattle.deku_stream.proofs.Packed.{bits_of-split, bits_of-low, bits_of-join, joined_below}
 
--- a group behind another, as an order meets them
+-- a group after another, as an order meets them
 module _ (a b x y : ℕ) (p : x < 2 ^ a) (q : y < 2 ^ b) where
   pub join_high : facing Msb0 (bits_of (a + b) (x * 2 ^ b + y)) ≡ facing Msb0 (bits_of a x) ++ facing Msb0 (bits_of b y)
   join_high = sym (bits_of-join a b x y q)
@@ -51,7 +51,7 @@ module _ (n v : ℕ) (whole : 8 ≤ n) (inside : v < 2 ^ n) where
       ap reverse (ap (λ k. bits_of k v) e ∙ bits_of-split (n - 8) 8 v ∙ ap (λ s. bits_of (n - 8) (v / 2 ^ 8) ++ s) (sym (bits_of-low 8 v)))
       ∙ reverse-append (bits_of (n - 8) (v / 2 ^ 8)) (bits_of 8 (v % 256))
 
--- ---- a group behind held bits
+-- ---- a group after held bits
 pub fills_none : (o : Order) (h hs xs : List Bool) → facing o hs ≡ facing o h ++ xs → length hs < 8 → Fills o h hs xs []
 fills_none o h hs xs e l =
     let k : length (facing o h ++ xs) < 8 = omega (arith, ap length e, length-facing o hs) in
@@ -69,7 +69,7 @@ fills_one o h hs xs byte e b l =
       rest = sym (ap (λ t. remainder t) e ∙ remainder-full (facing o (byte_bits byte)) (facing o hs) w ∙ remainder-short (facing o hs) k);
     }
 
--- more bits behind those that filled
+-- more bits after those that filled
 pub Fills-nil : (o : Order) (h : List Bool) → length h < 8 → Fills o h h [] []
 Fills-nil o h l = fills_none o h h [] (sym (append-nil (facing o h))) l
 

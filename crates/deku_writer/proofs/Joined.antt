@@ -133,7 +133,7 @@ module _ (n w : ℕ) (most : n ≤ 64) (inside : w < 2 ^ n) where
       let v : w / 2 ^ (8 * 0) ≡ w = omega arith in
       rw (q, r, v) refl
 
--- ---- a number of n bits cut behind its whole bytes
+-- ---- a number of n bits cut after its whole bytes
 module _ (n v : ℕ) (some : 0 < n) (most : n ≤ 64) (inside : v < 2 ^ n) where
   pub cut_high : bits_of n v ≡ flow Msb0 (take (n / 8) (to_be_bytes w64 (v * 2 ^ (64 - n)))) ++ bits_of (n % 8) (v % 2 ^ (n % 8))
   cut_high =

@@ -1,4 +1,4 @@
--- A long word behind held bits, seven bytes of it at a time.
+-- A long word after held bits, seven bytes of it at a time.
 use Rattle.std.proofs.Common.{◌≡◌, ℕ, zero, suc, ◌+◌, ◌*◌, ◌-◌, ◌/◌, ◌%◌, ◌^◌, ◌<◌, ◌≤◌, Bool, List, [], ◌∷◌, ◌++◌, length, take, arith, refl, sym, ap, ap₂, ◌∙◌, append_assoc, append-nil, length-append}
 use Rattle.std.proofs.lemmas.Nat.{shr-shr, shr_below, pow-add}
 use Rattle.deku_stream.specs.declared.ctx.Order.{Order}
@@ -80,7 +80,7 @@ module _ (o : Order) (n w p rest : ℕ) (inside : w < 2 ^ n) (few : 56 * p ≤ n
       ap₂ (λ x y. x ++ y) front (ap₂ (λ i x. facing o (bits_of i x)) r above)
       ∙ append_assoc (flow o (low_bytes (7 * p) w)) (flow o (low_bytes m rest)) (facing o (bits_of ((n - 56 * p) % 8) (rest / 2 ^ (8 * m))))
 
-  -- behind the bytes so far
+  -- after the bytes so far
   pub word_ended : (h hs hs2 : List Bool) (out ys zs : List ℕ) (count : ℕ) → 7 * p ≤ length out → length ys ≡ count
       → Fills o h hs (flow o (low_bytes (7 * p) w)) (take (7 * p) out) → Fills o hs hs2 (word_bits o (n - 56 * p) rest) ys
       → Fills o h hs2 (word_bits o n w) (take (7 * p + count) (take (7 * p) out ++ (ys ++ zs)))

@@ -1,4 +1,4 @@
--- Whole bytes behind held bits.
+-- Whole bytes after held bits.
 use Rattle.std.proofs.Common.{◌≡◌, ℕ, ◌+◌, ◌-◌, ◌*◌, ◌/◌, ◌%◌, ◌<◌, ◌≤◌, min, Bool, List, [], ◌∷◌, ◌++◌, length, get_or, set, take, drop, reverse, All, refl, sym, ap, ap₂, ◌∙◌, append-nil, arith, subst, ⊎_elim, length-drop}
 use Rattle.std.proofs.Math.Seq.{take-add}
 use Rattle.std.proofs.lemmas.Bool.{cases_lt}

@@ -1,4 +1,4 @@
--- Words that are written: their lists, and what they fill behind held bits.
+-- Words that are written: their lists, and what they fill after held bits.
 use Rattle.std.proofs.Common.{refl, ℕ, zero, suc, ◌+◌, ◌*◌, ◌-◌, ◌/◌, ◌%◌, ◌^◌, ◌<◌, ◌≤◌, ◌≡◌, Bool, List, [], ◌∷◌, ◌++◌, length, take, Result, Ok, Err, Bor, codes, None, sym, ap, ap₂, ◌∙◌, append_assoc, append-nil, arith, length-append, mod-lt, mod-eq_of_lt}
 use Rattle.std.proofs.lemmas.List.{take_at, length-take-le}
 use Rattle.std.proofs.lemmas.Nat.{shr-shr, shr_below}
@@ -27,7 +27,7 @@ pub length-low_bytes : (k w : ℕ) → length (low_bytes k w) ≡ k
 length-low_bytes zero w = refl
 length-low_bytes (suc k) w = ap suc (length-low_bytes k (w / 256))
 
--- one byte more, behind the others
+-- one byte more, after the others
 pub low_bytes-more : (k w : ℕ) → low_bytes (k + 1) w ≡ low_bytes k w ++ (w / 2 ^ (8 * k) % 256) ∷ []
 low_bytes-more zero w = let e : w / 2 ^ (8 * 0) ≡ w = omega arith in rw e refl
 low_bytes-more (suc k) w =
@@ -58,7 +58,7 @@ word_of-bytes o (suc k) w t e =
     ∙ ap₂ (λ x y. x + 256 * y) (byte-of o b (mod-lt w (omega arith))) (word_of-bytes o k (w / 256) t (e ∙ q))
     ∙ omega arith
 
--- what is left of a number of n bits behind its whole bytes
+-- what is left of a number of n bits after its whole bytes
 pub last_below : (n w : ℕ) → w < 2 ^ n → w / 2 ^ (8 * (n / 8)) < 2 ^ (n % 8)
 last_below n w h = let e : n % 8 + 8 * (n / 8) ≡ n = omega arith in shr_below w (n % 8) (8 * (n / 8)) (rw e h)
 
@@ -75,7 +75,7 @@ word_of-word_bits o n w h =
 pub length-shown_word : (o : Order) (n w : ℕ) → length (shown o (word_bits o n w)) ≡ n
 length-shown_word o n w = length-shown o (word_bits o n w) ∙ length-word_bits o n w
 
--- ---- a word behind held bits
+-- ---- a word after held bits
 -- one byte more
 bytes_of_more : (o : Order) (i w : ℕ) → flow o (low_bytes (i + 1) w) ≡ flow o (low_bytes i w) ++ facing o (byte_bits (w / 2 ^ (8 * i) % 256))
 bytes_of_more o i w =

@@ -8,7 +8,7 @@ use Rattle.deku_bits.specs.Outcomes.{Meaning, Outcome}
 use Rattle.deku_writing.specs.Composing.{WritesEach}
 use Rattle.deku_meanings.proofs.Joining.{first_refused, then_on, answered}
 
--- the items from place i on are the one there and those behind it
+-- the items from place i on are the one there and those after it
 next_of : {V : Type 0} (vs : List V) (i : ℕ) (v : V) → i < length vs → v ≡ get_or vs i v → drop i vs ≡ v ∷ drop (i + 1) vs
 next_of vs i v l e = drop_more vs i v l ∙ ap (λ x. x ∷ drop (i + 1) vs) (sym e)
 

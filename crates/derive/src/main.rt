@@ -3,7 +3,7 @@
 #![tactic(auto)]
 
 use clap::{Arg, ArgAction, ArgMatches, Command, Error};
-use deku_derive::making::{Made, first_difference, make};
+use deku_derive::making::{Made, first_difference, make, module_path};
 use std::alloc::Global;
 use std::process::ExitCode;
 use std::{env, fs, io};
@@ -39,13 +39,25 @@ fn command<'a>(alloc: Global) -> Result<Command<'a>, Error> {
         .action(ArgAction::Set)
         .conflicts_with("check")?
         .help("Writes the module there");
+    let path = Arg::new(alloc, "module")
+        .long("module")
+        .value_name("NAME::MODULE")
+        .action(ArgAction::Set)
+        .help("The crate and the module, for enums; of crates/NAME/src/MODULE.rt it is known");
     let check = Arg::new(alloc, "check")
         .long("check")
         .action(ArgAction::SetTrue)
         .requires_arg("MODULE")?
         .help("Says whether MODULE is what would be printed");
     let command = Command::new(alloc, "derive").about(ABOUT);
-    Ok(command.arg(file)?.arg(module)?.arg(output)?.arg(check)?)
+    Ok(
+        command
+            .arg(file)?
+            .arg(module)?
+            .arg(output)?
+            .arg(path)?
+            .arg(check)?,
+    )
 }
 
 // Does what the words ask for. Whether it succeeded; if not, the error is printed.
@@ -54,7 +66,13 @@ fn run(rt: &HostRuntime, matches: &ArgMatches<'_>) -> io::Result<bool> {
     let Some(text) = read(rt, name)? else {
         return Ok(false);
     };
-    let text = match make(rt.alloc(), name, text.as_str())? {
+    let named = matches.get_str("module");
+    let printed = matches
+        .get_str("output")
+        .or(matches.get_str("MODULE"))
+        .unwrap_or("");
+    let path = module_path(rt.alloc(), named, printed)?;
+    let text = match make(rt.alloc(), name, path.as_deref(), text.as_str())? {
         Made::Module(text) => text,
         Made::Wrong(told) => {
             eprint!(rt; "{told}")?;

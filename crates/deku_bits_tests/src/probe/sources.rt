@@ -97,13 +97,11 @@ fn take_three<R: Source>(
         Way::Bits(order) => take_bits(rt, row, reader, order),
         Way::Bytes(order) => take_bytes(rt, row, reader, order),
         Way::Skip(order) => reader.skip_bits(24, order),
-        Way::EndThenBytes => match reader.end() {
-            Ok(is_end) => {
-                same(rt, row, &is_end, &false);
-                fill_bytes(rt, row, reader)
-            }
-            Err(error) => Err(error),
-        },
+        Way::EndThenBytes => {
+            let is_end = reader.end()?;
+            same(rt, row, &is_end, &false);
+            fill_bytes(rt, row, reader)
+        }
     }
 }
 
@@ -128,13 +126,9 @@ fn take_bytes<R: Source>(
     order: Order,
 ) -> Result<(), DekuError> {
     let mut bytes = [0; 3];
-    match reader.read_bytes(3, &mut bytes, order) {
-        Ok(_) => {
-            same(rt, row, &bytes, &[0xBB, 0xCC, 0xDD]);
-            Ok(())
-        }
-        Err(error) => Err(error),
-    }
+    reader.read_bytes(3, &mut bytes, order)?;
+    same(rt, row, &bytes, &[0xBB, 0xCC, 0xDD]);
+    Ok(())
 }
 
 fn fill_bytes<R: Source>(

@@ -10,8 +10,8 @@ use std::fs::File;
 use std::io;
 use std::io::{BufRead, BufReader, BufWriter, Error, ErrorKind, Read, Seek, SeekFrom, Write};
 
-// Nothing is known of it, as of a file. Eight bytes are in memory if the buffer has as many; a fetch
-// fills the buffer.
+// Nothing is known of it, as of a file. Eight bytes are in memory if the buffer has as many; a
+// fetch fills the buffer.
 impl Source for BufReader<File> {
     ghost known = { λ _. unknown_source };
 

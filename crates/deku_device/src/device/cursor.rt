@@ -118,7 +118,8 @@ impl<T: AsBytes> Source for Cursor<T> {
             (cursor_source T.bytes self.new).health to result }
         ensures refused { RefusedSeek (cursor_source T.bytes self.old).health
             (cursor_source T.bytes self.new).health to result }
-        ensures remaining { ComesFrom (cursor_source T.bytes self.old).health.whole result (cursor_source T.bytes self.new) }
+        ensures remaining { ComesFrom (cursor_source T.bytes self.old).health.whole result
+            (cursor_source T.bytes self.new) }
         ensures inner { cursor_inner self.new ≡ cursor_inner self.old }
     {
         self.seek(to)
@@ -190,8 +191,8 @@ fn copy_at(all: &[u8], at: u64, buf: &mut [u8]) -> bool
     true
 }
 
-// Appends n bytes from this place on to the vector, which has capacity for them, or returns false if
-// they are too few.
+// Appends n bytes from this place on to the vector, which has capacity for them, or returns false
+// if they are too few.
 #[inline(always)]
 fn append_at(all: &[u8], at: u64, bytes: &mut Vec<u8>, n: usize) -> bool
     requires { vec_len bytes.old + n ≤ vec_capacity bytes.old }

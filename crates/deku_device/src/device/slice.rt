@@ -72,7 +72,8 @@ impl Sink for Cursor<&mut [u8]> {
             result }
         ensures refused { RefusedSeek (known_slice self.old).health (known_slice self.new).health to
             result }
-        ensures stands { StandsAt (known_slice self.old).health.whole result (known_slice self.new) }
+        ensures stands { StandsAt (known_slice self.old).health.whole result
+            (known_slice self.new) }
         ensures inner { cursor_inner self.new ≡ cursor_inner self.old }
     {
         self.seek(to)

@@ -84,15 +84,16 @@ impl Sink for Cursor<Vec<u8>> {
             result }
         ensures refused { RefusedSeek (known_vector self.old).health (known_vector self.new).health
             to result }
-        ensures stands { StandsAt (known_vector self.old).health.whole result (known_vector self.new) }
+        ensures stands { StandsAt (known_vector self.old).health.whole result
+            (known_vector self.new) }
         ensures inner { cursor_inner self.new ≡ cursor_inner self.old }
     {
         self.seek(to)
     }
 }
 
-// Overwrites those of a vector from a place on, after zeros if it is past the end, and adds the rest
-// at the end. If there is no memory, the vector keeps its bytes.
+// Overwrites those of a vector from a place on, after zeros if it is past the end, and adds the
+// rest at the end. If there is no memory, the vector keeps its bytes.
 fn put_over(all: &mut Vec<u8>, place: usize, bytes: &[u8]) -> Result<(), AllocError>
     ensures written { OnOk result (all.new.items ≡ overlaid (reaching place all.old.items) place
         bytes.now) }

@@ -1,24 +1,23 @@
 //! Whole words: a code, and the operands that it chooses.
 
 ghost use Rattle.std.specs.Prelude.{◌≡◌, refl};
-ghost use Rattle.deku_instructions.specs.Words.{word_of_transfer, word_of_computation, computation_parts, transfer_parts, parts_of_word, word_of_parts, parts_back};
+ghost use Rattle.deku_instructions.specs.Words.{low_word, middle_word, high_word, parts_of_word};
+ghost use Rattle.deku_instructions.specs.Words.{word_of_parts, parts_back};
 ghost use Rattle.deku_instructions.specs.declared.riscv.instruction.Instruction.TheVariants.{Load, Fence, OperateImmediate, AddUpper, Store, Operate, LoadUpper, Branch, JumpRegister, Jump, System};
 ghost use Rattle.deku.specs.Outcomes.{Mapped};
 
 use crate::riscv::branch::Branch;
-use crate::riscv::computation::{Computation, Computations};
 use crate::riscv::immediate::Immediate;
 use crate::riscv::jump::Jump;
 use crate::riscv::register::Register;
 use crate::riscv::store::Store;
-use crate::riscv::transfer::{Transfer, Transfers};
 use crate::riscv::upper::Upper;
 use deku::device::{Sink, Source};
 use deku::prelude::{
     DekuContainerRead, DekuContainerWrite, DekuError, DekuReader, DekuWriter, Reader, Writer,
 };
 use deku_symmetry::{
-    Choice, FromParts, LsbTagged, Only, Record, Tagged, ToParts, read_record, write_record,
+    Either, Enum, FromParts, Kind, LsbEnum, Record, ToParts, read_record, write_record,
 };
 
 /// An instruction word, by its code: the eleven codes of RV32I. Reading any other code fails with
@@ -55,13 +54,23 @@ pub enum Instruction {
     System(Immediate),
 }
 
-// A code of seven bits, and the operands of each.
-type Parts = LsbTagged<
-    Immediate,
-    Choice<Immediate, Choice<Store, Computation, 0x23>, 0x0F>,
-    0x03,
-    7,
+// The operands of the lowest four codes.
+type LowCodes = Either<
+    Either<Kind<Immediate, 0x03>, Kind<Immediate, 0x0F>>,
+    Either<Kind<Immediate, 0x13>, Kind<Upper, 0x17>>,
 >;
+
+// The operands of the codes between these.
+type MiddleCodes = Either<Kind<Store, 0x23>, Either<Kind<Register, 0x33>, Kind<Upper, 0x37>>>;
+
+// The operands of the highest four codes.
+type HighCodes = Either<
+    Either<Kind<Branch, 0x63>, Kind<Immediate, 0x67>>,
+    Either<Kind<Jump, 0x6F>, Kind<Immediate, 0x73>>,
+>;
+
+// A code of seven bits, and the operands of each.
+type Parts = LsbEnum<Either<LowCodes, Either<MiddleCodes, HighCodes>>, 7>;
 
 impl FromParts<()> for Instruction {
     type Parts = Parts;
@@ -71,11 +80,10 @@ impl FromParts<()> for Instruction {
     ghost record_of = { word_of_parts };
 
     fn from_parts(parts: Self::Parts) -> Self {
-        match parts {
-            Tagged::This(x) => Instruction::Load(x),
-            Tagged::Other(Choice::This(x)) => Instruction::Fence(x),
-            Tagged::Other(Choice::Other(Choice::This(x))) => Instruction::Store(x),
-            Tagged::Other(Choice::Other(Choice::Other(Computation(x)))) => computation(x),
+        match parts.kind {
+            Either::This(x) => low(x),
+            Either::Other(Either::This(x)) => middle(x),
+            Either::Other(Either::Other(x)) => high(x),
         }
     }
 
@@ -94,66 +102,70 @@ impl FromParts<()> for Instruction {
     ] };
 }
 
-// The word of a computation, or of a transfer of control.
-fn computation(parts: Computations) -> Instruction
-    ensures { result ≡ word_of_computation parts }
+// The word of one of the lowest four codes.
+fn low(parts: LowCodes) -> Instruction
+    ensures { result ≡ low_word parts }
 {
     match parts {
-        Choice::This(x) => Instruction::OperateImmediate(x),
-        Choice::Other(Choice::This(x)) => Instruction::AddUpper(x),
-        Choice::Other(Choice::Other(Choice::This(x))) => Instruction::Operate(x),
-        Choice::Other(Choice::Other(Choice::Other(Choice::This(x)))) => Instruction::LoadUpper(x),
-        Choice::Other(Choice::Other(Choice::Other(Choice::Other(Transfer(x))))) => transfer(x),
+        Either::This(Either::This(Kind(x))) => Instruction::Load(x),
+        Either::This(Either::Other(Kind(x))) => Instruction::Fence(x),
+        Either::Other(Either::This(Kind(x))) => Instruction::OperateImmediate(x),
+        Either::Other(Either::Other(Kind(x))) => Instruction::AddUpper(x),
     }
 }
 
-// The word of a transfer of control.
-fn transfer(parts: Transfers) -> Instruction
-    ensures { result ≡ word_of_transfer parts }
+// The word of one of the codes between these.
+fn middle(parts: MiddleCodes) -> Instruction
+    ensures { result ≡ middle_word parts }
 {
     match parts {
-        Choice::This(x) => Instruction::Branch(x),
-        Choice::Other(Choice::This(x)) => Instruction::JumpRegister(x),
-        Choice::Other(Choice::Other(Choice::This(x))) => Instruction::Jump(x),
-        Choice::Other(Choice::Other(Choice::Other(Only(x)))) => Instruction::System(x),
+        Either::This(Kind(x)) => Instruction::Store(x),
+        Either::Other(Either::This(Kind(x))) => Instruction::Operate(x),
+        Either::Other(Either::Other(Kind(x))) => Instruction::LoadUpper(x),
     }
 }
 
-// The parts of a computation, or of a transfer of control.
-fn computation_parts(parts: Computations) -> Parts
-    ensures { result ≡ computation_parts parts }
+// The word of one of the highest four codes.
+fn high(parts: HighCodes) -> Instruction
+    ensures { result ≡ high_word parts }
 {
-    Tagged::Other(Choice::Other(Choice::Other(Computation(parts))))
-}
-
-// The parts of a transfer of control.
-fn transfer_parts(parts: Transfers) -> Parts
-    ensures { result ≡ transfer_parts parts }
-{
-    computation_parts(Choice::Other(Choice::Other(Choice::Other(Choice::Other(Transfer(parts))))))
+    match parts {
+        Either::This(Either::This(Kind(x))) => Instruction::Branch(x),
+        Either::This(Either::Other(Kind(x))) => Instruction::JumpRegister(x),
+        Either::Other(Either::This(Kind(x))) => Instruction::Jump(x),
+        Either::Other(Either::Other(Kind(x))) => Instruction::System(x),
+    }
 }
 
 impl ToParts<()> for Instruction {
     fn parts(&self) -> Self::Parts {
-        match *self {
-            Instruction::Load(x) => Tagged::This(x),
-            Instruction::Fence(x) => Tagged::Other(Choice::This(x)),
-            Instruction::Store(x) => Tagged::Other(Choice::Other(Choice::This(x))),
-            Instruction::OperateImmediate(x) => computation_parts(Choice::This(x)),
-            Instruction::AddUpper(x) => computation_parts(Choice::Other(Choice::This(x))),
-            Instruction::Operate(x) => computation_parts(Choice::Other(Choice::Other(Choice::This(
-                x,
-            )))),
-            Instruction::LoadUpper(x) => {
-                computation_parts(Choice::Other(Choice::Other(Choice::Other(Choice::This(x)))))
+        Enum::new(match *self {
+            Instruction::Load(x) => Either::This(Either::This(Either::This(Kind(x)))),
+            Instruction::Fence(x) => Either::This(Either::This(Either::Other(Kind(x)))),
+            Instruction::OperateImmediate(x) => {
+                Either::This(Either::Other(Either::This(Kind(x))))
             }
-            Instruction::Branch(x) => transfer_parts(Choice::This(x)),
-            Instruction::JumpRegister(x) => transfer_parts(Choice::Other(Choice::This(x))),
-            Instruction::Jump(x) => transfer_parts(Choice::Other(Choice::Other(Choice::This(x)))),
-            Instruction::System(x) => transfer_parts(Choice::Other(Choice::Other(Choice::Other(Only(
-                x,
-            ))))),
-        }
+            Instruction::AddUpper(x) => Either::This(Either::Other(Either::Other(Kind(x)))),
+            Instruction::Store(x) => Either::Other(Either::This(Either::This(Kind(x)))),
+            Instruction::Operate(x) => {
+                Either::Other(Either::This(Either::Other(Either::This(Kind(x)))))
+            }
+            Instruction::LoadUpper(x) => {
+                Either::Other(Either::This(Either::Other(Either::Other(Kind(x)))))
+            }
+            Instruction::Branch(x) => {
+                Either::Other(Either::Other(Either::This(Either::This(Kind(x)))))
+            }
+            Instruction::JumpRegister(x) => {
+                Either::Other(Either::Other(Either::This(Either::Other(Kind(x)))))
+            }
+            Instruction::Jump(x) => {
+                Either::Other(Either::Other(Either::Other(Either::This(Kind(x)))))
+            }
+            Instruction::System(x) => {
+                Either::Other(Either::Other(Either::Other(Either::Other(Kind(x)))))
+            }
+        })
     }
 }
 

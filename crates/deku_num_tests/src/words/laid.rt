@@ -40,10 +40,8 @@ impl<S: Sink> Sink for Giving<S> {
     ghost known = { λ _. unknown_sink };
 
     fn give(&mut self, bytes: &[u8]) -> io::Result<()> {
-        match self.inner.give(bytes) {
-            Ok(()) => Ok(()),
-            Err(error) => Err(error),
-        }
+        self.inner.give(bytes)?;
+        Ok(())
     }
 
     fn seek_to(&mut self, to: SeekFrom) -> io::Result<u64> {

@@ -143,7 +143,8 @@ impl<'a> Source for Trickle<'a> {
         ensures sought { Seeks (trickling self.old).health (trickling self.new).health to result }
         ensures refused { RefusedSeek (trickling self.old).health (trickling self.new).health to
             result }
-        ensures remaining { ComesFrom (trickling self.old).health.whole result (trickling self.new) }
+        ensures remaining { ComesFrom (trickling self.old).health.whole result
+            (trickling self.new) }
         ensures inner { cursor_inner self.new.inner ≡ cursor_inner self.old.inner }
     {
         self.seek(to)

@@ -32,7 +32,8 @@ fn gather_count<B: Gather<T>, T: DekuReader<C>, C: Copy, R: Source>(
     Ok(into)
 }
 
-// Items up to and including the first of which the predicate is true; the predicate is left as it is behind the last item.
+// Items up to and including the first of which the predicate is true. The predicate is left as it
+// is after the last item.
 fn gather_asking<B: Gather<T>, T: DekuReader<C>, C: Copy, R: Source, P: Predicate<T>>(
     mut into: B,
     reader: &mut Reader<R>,

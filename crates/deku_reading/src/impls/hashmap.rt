@@ -60,7 +60,8 @@ impl<
     ghost accepts = { λ c. ⟦<HashMap<K, V, S> as DekuReader<(Limit<(K, V), P>, ())>>⟧.accepts
         (c, tt) };
 
-    ghost no_read_ahead = { λ c. ⟦<HashMap<K, V, S> as DekuReader<(Limit<(K, V), P>, ())>>⟧.no_read_ahead (c, tt) };
+    ghost no_read_ahead = { λ c.
+        ⟦<HashMap<K, V, S> as DekuReader<(Limit<(K, V), P>, ())>>⟧.no_read_ahead (c, tt) };
 
     ghost meaning = { λ c. ⟦<HashMap<K, V, S> as DekuReader<(Limit<(K, V), P>, ())>>⟧.meaning
         (c, tt) };

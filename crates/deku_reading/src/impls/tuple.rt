@@ -104,7 +104,8 @@ impl<
 > DekuReader<Ctx> for (A, B, C, D, E) {
     ghost accepts = { λ c. A.accepts c × ⟦<(B, C, D, E) as DekuReader<Ctx>>⟧.accepts c };
 
-    ghost no_read_ahead = { λ c. A.no_read_ahead c × ⟦<(B, C, D, E) as DekuReader<Ctx>>⟧.no_read_ahead c };
+    ghost no_read_ahead = { λ c. A.no_read_ahead c
+        × ⟦<(B, C, D, E) as DekuReader<Ctx>>⟧.no_read_ahead c };
 
     ghost meaning = { λ c. JoinedBy (λ a rest. (a, rest.0, rest.1, rest.2, rest.3)) (A.meaning c)
         (⟦<(B, C, D, E) as DekuReader<Ctx>>⟧.meaning c) };
@@ -131,7 +132,8 @@ impl<
 > DekuReader<Ctx> for (A, B, C, D, E, F) {
     ghost accepts = { λ c. A.accepts c × ⟦<(B, C, D, E, F) as DekuReader<Ctx>>⟧.accepts c };
 
-    ghost no_read_ahead = { λ c. A.no_read_ahead c × ⟦<(B, C, D, E, F) as DekuReader<Ctx>>⟧.no_read_ahead c };
+    ghost no_read_ahead = { λ c. A.no_read_ahead c
+        × ⟦<(B, C, D, E, F) as DekuReader<Ctx>>⟧.no_read_ahead c };
 
     ghost meaning = { λ c. JoinedBy (λ a rest. (a, rest.0, rest.1, rest.2, rest.3, rest.4))
         (A.meaning c) (⟦<(B, C, D, E, F) as DekuReader<Ctx>>⟧.meaning c) };
@@ -159,7 +161,8 @@ impl<
 > DekuReader<Ctx> for (A, B, C, D, E, F, G) {
     ghost accepts = { λ c. A.accepts c × ⟦<(B, C, D, E, F, G) as DekuReader<Ctx>>⟧.accepts c };
 
-    ghost no_read_ahead = { λ c. A.no_read_ahead c × ⟦<(B, C, D, E, F, G) as DekuReader<Ctx>>⟧.no_read_ahead c };
+    ghost no_read_ahead = { λ c. A.no_read_ahead c
+        × ⟦<(B, C, D, E, F, G) as DekuReader<Ctx>>⟧.no_read_ahead c };
 
     ghost meaning = { λ c. JoinedBy (λ a rest. (a, rest.0, rest.1, rest.2, rest.3, rest.4, rest.5))
         (A.meaning c) (⟦<(B, C, D, E, F, G) as DekuReader<Ctx>>⟧.meaning c) };
@@ -188,7 +191,8 @@ impl<
 > DekuReader<Ctx> for (A, B, C, D, E, F, G, H) {
     ghost accepts = { λ c. A.accepts c × ⟦<(B, C, D, E, F, G, H) as DekuReader<Ctx>>⟧.accepts c };
 
-    ghost no_read_ahead = { λ c. A.no_read_ahead c × ⟦<(B, C, D, E, F, G, H) as DekuReader<Ctx>>⟧.no_read_ahead c };
+    ghost no_read_ahead = { λ c. A.no_read_ahead c
+        × ⟦<(B, C, D, E, F, G, H) as DekuReader<Ctx>>⟧.no_read_ahead c };
 
     ghost meaning = { λ c. JoinedBy (λ a rest. (
       a,
@@ -227,7 +231,8 @@ impl<
     ghost accepts = { λ c. A.accepts c × ⟦<(B, C, D, E, F, G, H, I) as DekuReader<Ctx>>⟧.accepts
         c };
 
-    ghost no_read_ahead = { λ c. A.no_read_ahead c × ⟦<(B, C, D, E, F, G, H, I) as DekuReader<Ctx>>⟧.no_read_ahead c };
+    ghost no_read_ahead = { λ c. A.no_read_ahead c
+        × ⟦<(B, C, D, E, F, G, H, I) as DekuReader<Ctx>>⟧.no_read_ahead c };
 
     ghost meaning = { λ c. JoinedBy (λ a rest. (
       a,
@@ -271,7 +276,8 @@ impl<
     ghost accepts = { λ c. A.accepts c × ⟦<(B, C, D, E, F, G, H, I, J) as DekuReader<Ctx>>⟧.accepts
         c };
 
-    ghost no_read_ahead = { λ c. A.no_read_ahead c × ⟦<(B, C, D, E, F, G, H, I, J) as DekuReader<Ctx>>⟧.no_read_ahead c };
+    ghost no_read_ahead = { λ c. A.no_read_ahead c
+        × ⟦<(B, C, D, E, F, G, H, I, J) as DekuReader<Ctx>>⟧.no_read_ahead c };
 
     ghost meaning = { λ c. JoinedBy (λ a rest. (
       a,
@@ -314,9 +320,11 @@ impl<
     J: DekuReader<Ctx>,
     K: DekuReader<Ctx>,
 > DekuReader<Ctx> for (A, B, C, D, E, F, G, H, I, J, K) {
-    ghost accepts = { λ c. A.accepts c × ⟦<(B, C, D, E, F, G, H, I, J, K) as DekuReader<Ctx>>⟧.accepts c };
+    ghost accepts = { λ c. A.accepts c
+        × ⟦<(B, C, D, E, F, G, H, I, J, K) as DekuReader<Ctx>>⟧.accepts c };
 
-    ghost no_read_ahead = { λ c. A.no_read_ahead c × ⟦<(B, C, D, E, F, G, H, I, J, K) as DekuReader<Ctx>>⟧.no_read_ahead c };
+    ghost no_read_ahead = { λ c. A.no_read_ahead c
+        × ⟦<(B, C, D, E, F, G, H, I, J, K) as DekuReader<Ctx>>⟧.no_read_ahead c };
 
     ghost meaning = { λ c. JoinedBy (λ a rest. (
       a,

@@ -28,8 +28,8 @@ use std::alloc::Global;
 ///   then nothing is read;
 /// - otherwise, the error of the first item that fails; what was read before stays read.
 ///
-/// Memory is taken for at most 64 items before the first of them is read, so a count that is larger
-/// than the input costs nothing.
+/// Nothing is allocated before the first item is read, except room for at most 64 bytes where the
+/// items are bytes, so a count that is larger than the input costs nothing.
 ///
 /// ```text
 /// let limit = Limit::new_count(2);                         // from 69 E9

@@ -38,7 +38,7 @@ impl Held {
         Held { number: 0, len: 0 }
     }
 
-    /// How many bits there are. The compiler is also told that they are fewer than eight, so it
+    /// How many bits there are. The compiler also knows that they are fewer than eight, so it
     /// knows how many bytes a field of whole bytes fills.
     #[tactic(auto, using(deku_stream::proofs::Packed::lengths))]
     #[inline(always)]

@@ -2,7 +2,8 @@ use Rattle.std.proofs.Common.{◌≡◌, ◌++◌, ◌∷◌, [], List, arith, r
 use Rattle.std.proofs.lemmas.List.{take_all}
 use Rattle.std.specs.Prelude.{string_bytes}
 use Rattle.deku_fields.specs.Naming.{NamesField}
-use Rattle.deku_fields.specs.Runs.{words_of, AreFields}
+use Rattle.deku_fields.specs.Runs.{AreFields}
+use Rattle.deku_program.specs.Texts.{words_of}
 use Rattle.deku_fields.specs.declared.list.Field.{Field}
 use Rattle.deku_fields.proofs.NamedItems.{none_is}
 use Rattle.deku_fields.proofs.Runs.{one_more, no_list}

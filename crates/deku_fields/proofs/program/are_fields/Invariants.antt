@@ -1,5 +1,6 @@
 use Rattle.std.proofs.Common.{take}
-use Rattle.deku_fields.specs.Runs.{words_of, AreFields}
+use Rattle.deku_fields.specs.Runs.{AreFields}
+use Rattle.deku_program.specs.Texts.{words_of}
 use Rattle.deku_fields.proofs.program.are_fields.Given as goal
 
 abbrev pub invariant-loop-word : goal.invariant-loop-word

@@ -1,4 +1,4 @@
-use Rattle.deku_fields.proofs.Giving.{begun_either}
+use Rattle.deku_program.proofs.Giving.{begun_either}
 use Rattle.deku_fields.proofs.program.complain.Goals as goal
 
 pub returns-in-Usage-clause-told : goal.returns-in-Usage-clause-told

@@ -4,7 +4,8 @@ use Rattle.deku_fields.specs.ListCalls.{ListFrom}
 use Rattle.deku_fields.specs.Promise.{ReadsBackFrom}
 use Rattle.deku_bits.specs.declared.error.DekuError.{DekuError}
 use Rattle.deku_fields.specs.declared.program.Failure.TheVariants.{Fault}
-use Rattle.deku_fields.specs.Runs.{words_of, line, number_text, FieldsRefused, ReadingStops}
+use Rattle.deku_fields.specs.Runs.{number_text, FieldsRefused, ReadingStops}
+use Rattle.deku_program.specs.Texts.{words_of, line}
 use Rattle.deku_fields.proofs.program.read.Goals as goal
 
 pub returns-clause-shown : goal.returns-clause-shown

@@ -10,7 +10,8 @@ use Rattle.deku_fields.specs.Naming.{NamesItem}
 use Rattle.deku_fields.specs.Promise.{LaidOut}
 use Rattle.deku_bits.specs.declared.error.DekuError.{DekuError}
 use Rattle.deku_fields.specs.declared.program.Failure.TheVariants.{Fault}
-use Rattle.deku_fields.specs.Runs.{words_of, line, ItemsRefused, WritingStops}
+use Rattle.deku_fields.specs.Runs.{ItemsRefused, WritingStops}
+use Rattle.deku_program.specs.Texts.{words_of, line}
 use Rattle.deku_fields.specs.declared.list.Item.{Item}
 use Rattle.deku_fields.proofs.NamedItems.{none_is}
 use Rattle.deku_fields.proofs.Runs.{one_more, no_list}

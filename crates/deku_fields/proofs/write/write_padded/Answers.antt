@@ -1,8 +1,9 @@
 use Rattle.deku.proofs.Joining.{first_refused, then_on}
+use Rattle.deku_bits.proofs.Handing.{passed_on}
 use Rattle.deku_fields.proofs.write.write_padded.Goals as goal
 
-pub returns-in-Ok : goal.returns-in-Ok
-returns-in-Ok g c = then_on c.in-Ok.ensures.meaning c.finalize.ensures.writes
+pub returns : goal.returns
+returns g c = then_on c.in_ok-write_list.ensures.meaning c.finalize.ensures.writes
 
-pub returns-in-Err : goal.returns-in-Err
-returns-in-Err g c = first_refused c.in-Err.ensures.meaning
+pub returns-in_err-write_list : goal.returns-in_err-write_list
+returns-in_err-write_list g c = passed_on _ c.from_residual.ensures.1 (first_refused c.in_err-write_list.ensures.meaning)

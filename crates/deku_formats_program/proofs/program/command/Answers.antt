@@ -1,6 +1,7 @@
 use Rattle.std.proofs.Common.{rules, refl, subst, inl, inr}
 use Rattle.std.specs.Prelude.{string_bytes}
-use Rattle.deku_fields.specs.Runs.{words_of, IsCutShort}
+use Rattle.deku_program.specs.Texts.{words_of}
+use Rattle.deku_program.specs.Outputs.{IsCutShort}
 use Rattle.deku_formats_program.specs.Runs.{RunEnds, IsUnfinished}
 use Rattle.deku_formats_program.specs.contracts.program.RecordsTold.TheImpl.{ghosts}
 use Rattle.deku_formats_program.proofs.Asking.{record_asked, err_so}

@@ -1,5 +1,5 @@
 use Rattle.std.proofs.Common.{rules, sym, subst, inr}
-use Rattle.deku_fields.specs.Runs.{words_of}
+use Rattle.deku_program.specs.Texts.{words_of}
 use Rattle.deku_picture.specs.Drawn.{IsOfForm, IsUnfinished, RunEnds}
 use Rattle.deku_picture.proofs.Forms.{err_so}
 use Rattle.deku_picture.proofs.program.command.Goals as goal

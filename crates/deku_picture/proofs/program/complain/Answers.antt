@@ -1,5 +1,5 @@
 use Rattle.std.proofs.Common.{refl}
-use Rattle.deku_fields.proofs.Giving.{begun_either}
+use Rattle.deku_program.proofs.Giving.{begun_either}
 use Rattle.deku_picture.proofs.program.complain.Goals as goal
 
 pub returns-in-Usage : goal.returns-in-Usage

@@ -1,7 +1,8 @@
 use Rattle.std.proofs.Common.{◌≡◌, ◌++◌, ◌∷◌, [], List, ℕ, codes, refl, ap, sym, subst, inl, inr, append_assoc, IfSome}
 use Rattle.std.specs.Fmt.{debug_str}
-use Rattle.deku_fields.specs.Runs.{line, IsBegun}
-use Rattle.deku_fields.proofs.Giving.{begun_either}
+use Rattle.deku_program.specs.Texts.{line}
+use Rattle.deku_program.specs.Outputs.{IsBegun}
+use Rattle.deku_program.proofs.Giving.{begun_either}
 use Rattle.deku_picture.specs.Drawn.{usage}
 use Rattle.deku_picture.proofs.program.complain_of.Goals as goal
 

@@ -2,7 +2,7 @@ use Rattle.std.proofs.Common.{◌≡◌, ◌∙◌, ap, sym, subst, map, List, r
 use Rattle.std.specs.List.{AllZip}
 use Rattle.deku_fields.specs.declared.list.Field.{Field}
 use Rattle.deku_fields.specs.Places.{AreDrawable}
-use Rattle.deku_fields.specs.Runs.{words_of}
+use Rattle.deku_program.specs.Texts.{words_of}
 use Rattle.deku_picture.specs.declared.words.Named.{Named}
 use Rattle.deku_picture.specs.Names.{Names, AreNamed}
 use Rattle.deku_picture.specs.Drawn.{HasShown, HasNotShown, IsFailure}

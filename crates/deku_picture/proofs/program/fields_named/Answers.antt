@@ -2,7 +2,7 @@ use Rattle.std.proofs.Common.{◌≡◌, ◌++◌, ◌∷◌, [], List, arith, r
 use Rattle.std.proofs.lemmas.List.{map-append}
 use Rattle.std.specs.List.{AllZip}
 use Rattle.std.specs.Prelude.{string_bytes}
-use Rattle.deku_fields.specs.Runs.{words_of}
+use Rattle.deku_program.specs.Texts.{words_of}
 use Rattle.deku_fields.proofs.Runs.{one_more, no_list}
 use Rattle.deku_picture.specs.declared.words.Named.{Named}
 use Rattle.deku_picture.specs.Names.{Names}

@@ -1,6 +1,6 @@
 use Rattle.std.proofs.Common.{map, take}
 use Rattle.std.specs.List.{AllZip}
-use Rattle.deku_fields.specs.Runs.{words_of}
+use Rattle.deku_program.specs.Texts.{words_of}
 use Rattle.deku_picture.specs.Names.{Names}
 use Rattle.deku_picture.proofs.program.fields_named.Given as goal
 

@@ -1,5 +1,5 @@
 use Rattle.std.proofs.Common.{take}
-use Rattle.deku_fields.specs.Runs.{words_of}
+use Rattle.deku_program.specs.Texts.{words_of}
 use Rattle.deku_picture.specs.Names.{NameFields}
 use Rattle.deku_picture.proofs.program.first_unnamed.Given as goal
 

@@ -1,5 +1,5 @@
 use Rattle.std.proofs.Common.{sym, ◌∙◌}
-use Rattle.deku_fields.specs.Runs.{words_of}
+use Rattle.deku_program.specs.Texts.{words_of}
 use Rattle.deku_picture.proofs.Forms.{fails, no_form}
 use Rattle.deku_picture.proofs.program.run.Goals as goal
 

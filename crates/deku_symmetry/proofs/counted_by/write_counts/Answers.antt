@@ -5,9 +5,9 @@ use Rattle.deku_symmetry.proofs.counted_by.write_counts.Goals as goal
 pub returns-in_err-to_writer : goal.returns-in_err-to_writer
 returns-in_err-to_writer g c =
     passed_on _ c.from_residual.ensures.1
-    (written_counts g.C.CountOf.count_of (λ h. g.P.DekuWriter.meaning h tt) (λ x. g.T.DekuWriter.meaning x tt) c.args.head.now c.args.items.now c.if-not-in_step.ensures (first_refused c.in_err-to_writer.ensures))
+    (written_counts g.C.CountOf.count_of (λ h. g.P.DekuWriter.meaning h tt) (λ x. g.T.DekuWriter.meaning x tt) c.args.head.now c.args.items.now (rw c.count.ensures at c.if-not-is_counted.ensures) (first_refused c.in_err-to_writer.ensures))
 
 pub returns : goal.returns
 returns g c =
-    written_counts g.C.CountOf.count_of (λ h. g.P.DekuWriter.meaning h tt) (λ x. g.T.DekuWriter.meaning x tt) c.args.head.now c.args.items.now c.if-not-in_step.ensures
+    written_counts g.C.CountOf.count_of (λ h. g.P.DekuWriter.meaning h tt) (λ x. g.T.DekuWriter.meaning x tt) c.args.head.now c.args.items.now (rw c.count.ensures at c.if-not-is_counted.ensures)
     (then_on c.in_ok-to_writer.ensures c.to_writer-2.ensures)

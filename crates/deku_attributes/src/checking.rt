@@ -1,0 +1,338 @@
+//! Descriptions checked: what their attributes say together, and what is wrong with it.
+
+use crate::model::{Endian, Form, Layout, Module, Order, Record};
+use crate::reading::{Scope, said, text_in};
+use crate::table::{Owner, Verdict, judge};
+use deku_description::place::{Complaint, Span};
+use deku_description::syntax;
+use deku_description::syntax::{Attribute, Body, File, Head};
+use deku_description::token::Token;
+use std::alloc::{AllocError, Global};
+use std::collections::BTreeSet;
+
+/// How many fields, kinds or words of attributes one thing may have.
+pub(crate) const LIMIT: usize = 256;
+
+/// The records of a description whose form is right, with what is wrong with what they say. A part
+/// that is wrong is left out or taken as if it were not said.
+///
+/// # Errors
+///
+/// `AllocError` if there is no memory.
+///
+/// ```text
+/// let (file, complaints) = parse(alloc, "struct Point { #[deku(bits = 9)] x: u8 }")?;
+/// check(alloc, text, file)?    // one complaint: `u8` has 8 bits
+/// ```
+pub fn check<'a>(
+    alloc: Global,
+    text: &'a str,
+    file: File<'a>,
+) -> Result<(Module<'a>, Vec<Complaint>), AllocError> {
+    let File {
+        docs,
+        uses,
+        constants,
+        records,
+    } = file;
+    let mut checker = Checker {
+        alloc,
+        text,
+        types: BTreeSet::new(alloc),
+        uses: Vec::new(alloc),
+        constants: Vec::new(alloc),
+        complaints: Vec::new(alloc),
+    };
+    for path in &uses {
+        checker.uses.push(*path)?;
+    }
+    for constant in &constants {
+        checker.constants.push(constant.name.text)?;
+    }
+    checker.declare(records.as_slice())?;
+    let records = checker.records(records)?;
+    let module = Module {
+        docs,
+        uses,
+        constants,
+        records,
+    };
+    let Checker { complaints, .. } = checker;
+    Ok((module, complaints))
+}
+
+/// What is known of a file while its records are checked.
+#[derive(Drop)]
+pub(crate) struct Checker<'a> {
+    pub(crate) alloc: Global,
+    pub(crate) text: &'a str,
+    types: BTreeSet<&'a str>,
+    uses: Vec<&'a str>,
+    constants: Vec<&'a str>,
+    complaints: Vec<Complaint>,
+}
+
+impl<'a> Checker<'a> {
+    /// Notes what is wrong.
+    pub(crate) fn complain(
+        &mut self,
+        span: Span,
+        message: &str,
+        help: &str,
+    ) -> Result<(), AllocError> {
+        let complaint = Complaint::new(self.alloc, span, message, help)?;
+        self.complaints.push(complaint)?;
+        Ok(())
+    }
+
+    /// Notes what was wrong elsewhere.
+    pub(crate) fn note(&mut self, complaint: Complaint) -> Result<(), AllocError> {
+        self.complaints.push(complaint)?;
+        Ok(())
+    }
+
+    // Notes the names of all records, and complains of those that are there already.
+    fn declare(&mut self, records: &[syntax::Record<'a>]) -> Result<(), AllocError> {
+        for record in records {
+            if !self.types.insert(record.name.text)? {
+                self.complain(
+                    record.name.span,
+                    "a second type of this name",
+                    "give it another name",
+                )?;
+            }
+        }
+        Ok(())
+    }
+
+    fn records(&mut self, records: Vec<syntax::Record<'a>>) -> Result<Vec<Record<'a>>, AllocError> {
+        let mut checked = Vec::new(self.alloc);
+        for record in records {
+            checked.push(self.record(record)?)?;
+        }
+        Ok(checked)
+    }
+
+    fn record(&mut self, record: syntax::Record<'a>) -> Result<Record<'a>, AllocError> {
+        let syntax::Record { head, name, body } = record;
+        let owner = match body {
+            Body::Fields(_) => Owner::Struct,
+            Body::Kinds(_) => Owner::Enum,
+        };
+        self.head(&head, owner)?;
+        let unsaid = Layout {
+            endian: Endian::Unsaid,
+            order: Order::Msb,
+        };
+        let layout = self.layout(&head, unsaid)?;
+        let magic = self.magic(&head)?;
+        let context = self.context(&head)?;
+        let scope = self.scope(context)?;
+        let form = match body {
+            Body::Fields(fields) => {
+                let shape = fields.shape;
+                Form::Struct(shape, self.fields(fields, layout, scope)?)
+            }
+            Body::Kinds(kinds) => {
+                let ids = self.ids(&head, layout, name)?;
+                Form::Enum(ids, self.cases(kinds, layout, ids, context)?)
+            }
+        };
+        Ok(Record {
+            name,
+            docs: head.docs,
+            layout,
+            magic,
+            context,
+            form,
+        })
+    }
+
+    /// Complains of attributes that are not taken there, or said twice.
+    pub(crate) fn head(&mut self, head: &Head<'a>, owner: Owner) -> Result<(), AllocError> {
+        for (i, attribute) in head.attributes.iter().enumerate() {
+            if i == LIMIT {
+                return self.complain(
+                    attribute.name.span,
+                    "more than 256 attributes",
+                    "leave some out",
+                );
+            }
+            if is_among(head.attributes.as_slice(), i, *attribute) {
+                self.complain(
+                    attribute.name.span,
+                    "an attribute that is said twice",
+                    "leave one of them out",
+                )?;
+            }
+            self.word(*attribute, owner)?;
+        }
+        Ok(())
+    }
+
+    // Complains of an attribute that is not taken there.
+    fn word(&mut self, attribute: Attribute<'a>, owner: Owner) -> Result<(), AllocError> {
+        let name = attribute.name.text;
+        let span = attribute.name.span;
+        match judge(name, owner) {
+            Verdict::Taken => self.valued(attribute),
+            Verdict::Refused(reason, instead) => {
+                let message = format!(in self.alloc; "`{name}` has no part here: {reason}")?;
+                self.complain(span, message.as_str(), instead)
+            }
+            Verdict::Unknown(nearest) => {
+                let message = format!(in self.alloc; "unknown attribute `{name}`")?;
+                let help = format!(in self.alloc; "write `{nearest}`")?;
+                self.complain(span, message.as_str(), help.as_str())
+            }
+        }
+    }
+
+    // Complains of an attribute that needs a value and has none, or has one and needs none.
+    fn valued(&mut self, attribute: Attribute<'a>) -> Result<(), AllocError> {
+        let name = attribute.name.text;
+        let is_flag = name == "read_all" || name == "temp";
+        if is_flag && attribute.value.is_some() {
+            return self.complain(
+                attribute.name.span,
+                "an attribute that takes no value",
+                "leave the `=` and what follows it out",
+            );
+        }
+        if !is_flag && attribute.value.is_none() {
+            let help = format!(in self.alloc; "write `{name} = ..`")?;
+            return self.complain(
+                attribute.name.span,
+                "an attribute without its value",
+                help.as_str(),
+            );
+        }
+        Ok(())
+    }
+
+    /// The endian and the bit order that attributes say, or else those around them.
+    pub(crate) fn layout(
+        &mut self,
+        head: &Head<'a>,
+        outer: Layout<'a>,
+    ) -> Result<Layout<'a>, AllocError> {
+        let endian = match said(head, "endian") {
+            Some(attribute) => self.endian(attribute)?,
+            None => outer.endian,
+        };
+        let order = match said(head, "bit_order") {
+            Some(attribute) => self.order(attribute)?,
+            None => outer.order,
+        };
+        Ok(Layout { endian, order })
+    }
+
+    /// The endian that an attribute says.
+    pub(crate) fn endian(&mut self, attribute: Attribute<'a>) -> Result<Endian<'a>, AllocError> {
+        match (attribute.value, text_in(attribute.value)) {
+            (_, Some("little")) => return Ok(Endian::Little),
+            (_, Some("big")) => return Ok(Endian::Big),
+            (Some(value), Some(name)) if is_path(name) => return Ok(Endian::Named(value.token)),
+            _ => {}
+        }
+        self.complain(
+            attribute.name.span,
+            "an endian that is neither `little` nor `big`, nor a name",
+            "write `endian = \"big\"`",
+        )?;
+        Ok(Endian::Unsaid)
+    }
+
+    fn order(&mut self, attribute: Attribute<'a>) -> Result<Order, AllocError> {
+        match text_in(attribute.value) {
+            Some("msb") => return Ok(Order::Msb),
+            Some("lsb") => return Ok(Order::Lsb),
+            _ => {}
+        }
+        self.complain(
+            attribute.name.span,
+            "a bit order that is neither `msb` nor `lsb`",
+            "write `bit_order = \"lsb\"`",
+        )?;
+        Ok(Order::Msb)
+    }
+
+    /// The bytes that attributes say are in front.
+    pub(crate) fn magic(&mut self, head: &Head<'a>) -> Result<Option<Vec<u8>>, AllocError> {
+        let Some(attribute) = said(head, "magic") else {
+            return Ok(None);
+        };
+        if let Some(value) = attribute.value {
+            if let Some(bytes) = deku_description::literal::bytes(self.alloc, value.token.text)? {
+                return Ok(Some(bytes));
+            }
+        }
+        self.complain(
+            attribute.name.span,
+            "a magic that is no literal of bytes",
+            "write `magic = b\"..\"`",
+        )?;
+        Ok(None)
+    }
+
+    /// The text of the context that attributes say, with its quotes.
+    pub(crate) fn context(&mut self, head: &Head<'a>) -> Result<Option<Token<'a>>, AllocError> {
+        let Some(attribute) = said(head, "ctx") else {
+            return Ok(None);
+        };
+        match (attribute.value, text_in(attribute.value)) {
+            (Some(value), Some(_)) => Ok(Some(value.token)),
+            _ => {
+                self.complain(
+                    attribute.name.span,
+                    "a context that is no text",
+                    "write `ctx = \"..\"`",
+                )?;
+                Ok(None)
+            }
+        }
+    }
+
+    /// The constants, and the values of a context.
+    pub(crate) fn scope(&self, context: Option<Token<'a>>) -> Result<Scope<'a>, AllocError> {
+        let mut names = Vec::new(self.alloc);
+        names.extend_from_slice(self.constants.as_slice())?;
+        let text = match context {
+            Some(token) => token.text,
+            None => "",
+        };
+        for part in text.split(',') {
+            if let Some((name, _)) = part.split_once(':') {
+                names.push(name.trim_matches(['"', ' ']))?;
+            }
+        }
+        Ok(Scope {
+            names,
+            is_open: false,
+        })
+    }
+
+    /// Whether a type is in the file or in its `use` lines.
+    pub(crate) fn is_type(&self, name: &'a str) -> bool {
+        self.types.contains(&name) || self.uses.iter().any(|path| path.contains(name))
+    }
+}
+
+// Whether one of the first attributes has the name of this one.
+fn is_among(attributes: &[Attribute<'_>], count: usize, attribute: Attribute<'_>) -> bool {
+    for earlier in attributes.iter().take(count) {
+        if earlier.name.text == attribute.name.text {
+            return true;
+        }
+    }
+    false
+}
+
+// Whether a text is a name, or names with `::` between them.
+fn is_path(text: &str) -> bool {
+    !text.is_empty()
+        && text.bytes().all(|byte| byte.is_ascii_alphanumeric()
+            || byte == b'_'
+            || byte == b':'
+            || byte == b'*')
+}

@@ -1,0 +1,388 @@
+//! Fields checked.
+
+use crate::checking::{Checker, LIMIT};
+use crate::model::{Attribute, Field, Layout, Order};
+use crate::reading::{
+    Scope, address_bits, bits_of, foreign_name, is_of, number_bits, number_in, said, text_in,
+    whole_bits,
+};
+use crate::table::Owner;
+use deku_description::formula::formula;
+use deku_description::place::Span;
+use deku_description::syntax;
+use deku_description::syntax::{Expression, Fields, Head, Shape, Type};
+use deku_description::token::Token;
+use std::alloc::AllocError;
+
+// The attributes of which a list has exactly one.
+const LENGTHS: [&str; 5] = ["count", "until", "bits_read", "bytes_read", "read_all"];
+
+impl<'a> Checker<'a> {
+    /// The fields of a struct or of a kind. Each may use those in front of it.
+    pub(crate) fn fields(
+        &mut self,
+        fields: Fields<'a>,
+        layout: Layout<'a>,
+        mut scope: Scope<'a>,
+    ) -> Result<Vec<Field<'a>>, AllocError> {
+        let mut checked = Vec::new(self.alloc);
+        let mut at = Some((0, layout.order));
+        scope.is_open = fields.shape == Shape::Tuple;
+        for field in fields.list {
+            if checked.len() == LIMIT {
+                self.complain(
+                    field.span,
+                    "more than 256 fields",
+                    "put some of them into a record of their own",
+                )?;
+                break;
+            }
+            let field = self.field(field, layout, &mut scope)?;
+            at = self.ordered(at, &field)?;
+            checked.push(field)?;
+        }
+        Ok(checked)
+    }
+
+    fn field(
+        &mut self,
+        field: syntax::Field<'a>,
+        outer: Layout<'a>,
+        scope: &mut Scope<'a>,
+    ) -> Result<Field<'a>, AllocError> {
+        let syntax::Field {
+            head,
+            name,
+            kind,
+            span,
+        } = field;
+        self.head(&head, Owner::Field)?;
+        let layout = self.layout(&head, outer)?;
+        let bits = self.bits(&head, &kind)?;
+        self.known(&kind)?;
+        self.needs_length(&head, &kind, span)?;
+        self.needs_condition(&head, &kind, span)?;
+        let attributes = self.attributes(&head, name, scope)?;
+        if let Some(name) = name {
+            self.once(name, scope)?;
+        }
+        Ok(Field {
+            name,
+            docs: head.docs,
+            kind,
+            span,
+            layout,
+            bits,
+            attributes,
+        })
+    }
+
+    // Adds a field's name to those that may be used, and complains if it is there.
+    fn once(&mut self, name: Token<'a>, scope: &mut Scope<'a>) -> Result<(), AllocError> {
+        if scope.names.contains(&name.text) {
+            self.complain(
+                name.span,
+                "a second field, constant or value of this name",
+                "give it another name",
+            )?;
+        }
+        scope.names.push(name.text)?;
+        Ok(())
+    }
+
+    // The place within a byte after a field, and the bit order there; `None` if the place is not
+    // known. Complains if the order changes inside a byte.
+    fn ordered(
+        &mut self,
+        at: Option<(u64, Order)>,
+        field: &Field<'a>,
+    ) -> Result<Option<(u64, Order)>, AllocError> {
+        let order = field.layout.order;
+        if let Some((place, last)) = at {
+            if place % 8 != 0 && last != order {
+                self.complain(
+                    field.span,
+                    "a bit order that changes inside a byte",
+                    "end the byte in the order in which it begins, by fields or by padding",
+                )?;
+            }
+            if let Some(bits) = bits_with_padding(field) {
+                return Ok(Some((place.wrapping_add(bits) % 8, order)));
+            }
+        }
+        Ok(None)
+    }
+
+    // The width in bits that attributes say as a number.
+    fn bits(&mut self, head: &Head<'a>, kind: &Type<'a>) -> Result<Option<u64>, AllocError> {
+        let (attribute, bits) = match (said(head, "bits"), said(head, "bytes")) {
+            (Some(_), Some(bytes)) => {
+                self.complain(
+                    bytes.name.span,
+                    "`bits` and `bytes` together",
+                    "leave one of them out",
+                )?;
+                return Ok(None);
+            }
+            (Some(bits), None) => (bits, number_in(bits.value)),
+            (None, Some(bytes)) => {
+                let number = number_in(bytes.value);
+                (bytes, number.map(|n| n.saturating_mul(8)))
+            }
+            (None, None) => return Ok(None),
+        };
+        let whole = number_bits(kind);
+        if whole.is_none() {
+            self.complain(
+                attribute.name.span,
+                "a width of a type that is no number",
+                "leave it out: a record says its own width",
+            )?;
+        }
+        if let (Some(bits), Some(whole)) = (bits, whole) {
+            if bits == 0 || bits > whole {
+                let message = format!(in self.alloc; "{bits} bits of a number of {whole}")?;
+                let help = format!(in self.alloc; "write a width from 1 to {whole} bits")?;
+                self.complain(attribute.name.span, message.as_str(), help.as_str())?;
+            }
+        }
+        Ok(bits)
+    }
+
+    // Complains of a type that has no part.
+    fn known(&mut self, kind: &Type<'a>) -> Result<(), AllocError> {
+        let Some(name) = self.foreign_type(kind) else {
+            return Ok(());
+        };
+        let text = name.text;
+        let (message, help) = match text {
+            "f32" | "f64" => (
+                "a floating-point number has no part here",
+                "read its bits as `u32` or `u64`",
+            ),
+            "String" | "str" => (
+                "a text without its end has no part here",
+                "write `CString`, or `Vec<u8>` with `count`",
+            ),
+            "char" => ("a character has no part here", "write `u32` or `u8`"),
+            _ => (
+                "a type that is neither in this file nor in its `use` lines",
+                "write it in this file, or a `use` line for it",
+            ),
+        };
+        self.complain(name.span, message, help)
+    }
+
+    // The first name in a type that has no part.
+    fn foreign_type(&self, kind: &Type<'a>) -> Option<Token<'a>> {
+        match kind {
+            Type::Name(name) => {
+                let text = name.text;
+                let is_known = bits_of(text).is_some()
+                    || address_bits(text).is_some()
+                    || text == "CString"
+                    || self.is_type(text);
+                if is_known { None } else { Some(*name) }
+            }
+            Type::Of(_, item) => self.foreign_type(item),
+            Type::Array(item, _) => self.foreign_type(item),
+            Type::Tuple(parts) => {
+                for part in parts {
+                    if let Some(name) = self.foreign_type(part) {
+                        return Some(name);
+                    }
+                }
+                None
+            }
+        }
+    }
+
+    // Complains of a list without its length, and of a length of something else.
+    fn needs_length(
+        &mut self,
+        head: &Head<'a>,
+        kind: &Type<'a>,
+        span: Span,
+    ) -> Result<(), AllocError> {
+        let mut lengths = 0usize;
+        for name in &LENGTHS {
+            if said(head, name).is_some() {
+                lengths = lengths.saturating_add(1);
+            }
+        }
+        let (message, help) = match (is_of(kind, "Vec"), lengths) {
+            (true, 1) | (false, 0) => return Ok(()),
+            (true, 0) => (
+                "a `Vec` that does not say where it ends",
+                "write `count`, `until`, `bits_read`, `bytes_read` or `read_all`",
+            ),
+            (true, _) => ("a `Vec` that says twice where it ends", "leave one out"),
+            (false, _) => ("a length of a type that is no `Vec`", "write `Vec<..>`"),
+        };
+        self.complain(span, message, help)
+    }
+
+    // Complains of an option without its condition, and of a condition of something else.
+    fn needs_condition(
+        &mut self,
+        head: &Head<'a>,
+        kind: &Type<'a>,
+        span: Span,
+    ) -> Result<(), AllocError> {
+        let (message, help) = match (is_of(kind, "Option"), said(head, "cond").is_some()) {
+            (true, true) | (false, false) => return Ok(()),
+            (true, false) => ("an `Option` without its condition", "write `cond = \"..\"`"),
+            (false, true) => (
+                "a condition of a type that is no `Option`",
+                "write `Option<..>`",
+            ),
+        };
+        self.complain(span, message, help)
+    }
+
+    // What else is said of a field.
+    fn attributes(
+        &mut self,
+        head: &Head<'a>,
+        name: Option<Token<'a>>,
+        scope: &Scope<'a>,
+    ) -> Result<Vec<Attribute<'a>>, AllocError> {
+        let mut attributes = Vec::new(self.alloc);
+        for attribute in head.attributes.iter().take(LIMIT) {
+            let checked = match attribute.name.text {
+                "magic" => match self.magic(head)? {
+                    Some(bytes) => Some(Attribute::Magic(bytes)),
+                    None => None,
+                },
+                "assert" | "assert_eq" => self.checked(*attribute, name, scope)?,
+                "pad_bits_before" | "pad_bytes_before" | "pad_bits_after" | "pad_bytes_after" => {
+                    self.padding(*attribute)?
+                }
+                "ctx" | "until" | "temp_value" | "read_all" | "temp" => plain(*attribute),
+                _ => self.computed(*attribute, scope)?,
+            };
+            if let Some(checked) = checked {
+                attributes.push(checked)?;
+            }
+        }
+        Ok(attributes)
+    }
+
+    // An attribute that computes something.
+    fn computed(
+        &mut self,
+        attribute: syntax::Attribute<'a>,
+        scope: &Scope<'a>,
+    ) -> Result<Option<Attribute<'a>>, AllocError> {
+        let is_number = number_in(attribute.value).is_some();
+        let made = match attribute.name.text {
+            "bits" if !is_number => self.formula(attribute, scope)?.map(Attribute::Bits),
+            "bytes" if !is_number => self.formula(attribute, scope)?.map(Attribute::Bytes),
+            "count" => self.formula(attribute, scope)?.map(Attribute::Count),
+            "bits_read" => self.formula(attribute, scope)?.map(Attribute::BitsRead),
+            "bytes_read" => self.formula(attribute, scope)?.map(Attribute::BytesRead),
+            "cond" => self.formula(attribute, scope)?.map(Attribute::Cond),
+            _ => None,
+        };
+        Ok(made)
+    }
+
+    // An attribute that checks the field, which it may name.
+    fn checked(
+        &mut self,
+        attribute: syntax::Attribute<'a>,
+        name: Option<Token<'a>>,
+        scope: &Scope<'a>,
+    ) -> Result<Option<Attribute<'a>>, AllocError> {
+        let mut names = Vec::new(self.alloc);
+        names.extend_from_slice(scope.names.as_slice())?;
+        if let Some(name) = name {
+            names.push(name.text)?;
+        }
+        let scope = Scope {
+            names,
+            is_open: scope.is_open,
+        };
+        let formula = self.formula(attribute, &scope)?;
+        if attribute.name.text == "assert" {
+            Ok(formula.map(Attribute::Assert))
+        } else {
+            Ok(formula.map(Attribute::AssertEq))
+        }
+    }
+
+    // What an attribute computes. Complains of names that are not known there.
+    fn formula(
+        &mut self,
+        attribute: syntax::Attribute<'a>,
+        scope: &Scope<'a>,
+    ) -> Result<Option<Expression<'a>>, AllocError> {
+        let Some(value) = attribute.value else {
+            return Ok(None);
+        };
+        let expression = match formula(self.alloc, self.text, value.token)? {
+            Ok(expression) => expression,
+            Err(complaint) => {
+                self.note(complaint)?;
+                return Ok(None);
+            }
+        };
+        if let Some(name) = foreign_name(&expression, scope) {
+            self.complain(
+                name.span,
+                "a name that is no field in front of this one, and no constant",
+                "move the field in front, or write its number",
+            )?;
+        }
+        Ok(Some(expression))
+    }
+
+    // How many bits are skipped before or after a field.
+    fn padding(
+        &mut self,
+        attribute: syntax::Attribute<'a>,
+    ) -> Result<Option<Attribute<'a>>, AllocError> {
+        let Some(number) = number_in(attribute.value) else {
+            self.complain(
+                attribute.name.span,
+                "a padding that is no number",
+                "write how many: a padding that depends on a field has no part here",
+            )?;
+            return Ok(None);
+        };
+        let bytes = number.saturating_mul(8);
+        Ok(Some(match attribute.name.text {
+            "pad_bits_before" => Attribute::PadBefore(number),
+            "pad_bytes_before" => Attribute::PadBefore(bytes),
+            "pad_bits_after" => Attribute::PadAfter(number),
+            _ => Attribute::PadAfter(bytes),
+        }))
+    }
+}
+
+// An attribute that is taken as it is.
+fn plain<'a>(attribute: syntax::Attribute<'a>) -> Option<Attribute<'a>> {
+    match (attribute.name.text, attribute.value) {
+        ("read_all", _) => Some(Attribute::ReadAll),
+        ("temp", _) => Some(Attribute::Temp),
+        ("ctx", Some(value)) => Some(Attribute::Context(value.token)),
+        ("until", Some(value)) => Some(Attribute::Until(value.token)),
+        ("temp_value", Some(value)) => Some(Attribute::TempValue(value.token)),
+        _ => None,
+    }
+}
+
+// The bits of a field with its padding and magic, if the description says them.
+fn bits_with_padding(field: &Field<'_>) -> Option<u64> {
+    let mut bits = whole_bits(&field.kind, field.bits)?;
+    for attribute in &field.attributes {
+        match attribute {
+            Attribute::PadBefore(more) | Attribute::PadAfter(more) => {
+                bits = bits.checked_add(*more)?;
+            }
+            Attribute::Bits(_) | Attribute::Bytes(_) => return None,
+            _ => {}
+        }
+    }
+    Some(bits)
+}

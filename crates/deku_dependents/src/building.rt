@@ -1,0 +1,635 @@
+//! The parts of the fields of a record, in their order.
+
+use crate::computing::{Computed, Computer};
+use crate::marker;
+use crate::marker::Marker;
+use deku_attributes::model::{Attribute, Endian, Field, Order};
+use deku_description::place::{Complaint, Span};
+use deku_description::syntax::{Constant, Expression, Operator, Type};
+use deku_texts::document::Text;
+use deku_texts::lying::item;
+use deku_texts::part::{
+    Dependent, Named, Owner, Part, Place, asserted, constant, following, leaf, tuple,
+};
+use deku_texts::records::Records;
+use deku_texts::refusal::Stop;
+use deku_texts::words;
+use std::alloc::{AllocError, Global};
+
+/// The parts of a record while they are made.
+#[derive(Drop)]
+pub struct Builder<'b, 'a> {
+    pub alloc: Global,
+    pub records: &'b Records<'b, 'a>,
+    pub constants: &'b [Constant<'a>],
+    /// What the names of its types begin with.
+    pub front: String,
+    pub owner: Owner,
+    /// The parts so far.
+    pub items: Vec<Part<'a>>,
+    /// The types that say something of parts, as they are printed.
+    pub markers: String,
+    /// Their names.
+    pub names: Vec<String>,
+    pub complaints: Vec<Complaint>,
+}
+
+// What is said of one field.
+#[derive(Drop)]
+struct Said<'f, 'a> {
+    magic: Option<&'f Vec<u8>>,
+    count: Option<&'f Expression<'a>>,
+    cond: Option<&'f Expression<'a>>,
+    assert: Option<&'f Expression<'a>>,
+    equal: Option<&'f Expression<'a>>,
+    before: u64,
+    after: u64,
+}
+
+impl<'b, 'a> Builder<'b, 'a> {
+    pub fn new(
+        alloc: Global,
+        records: &'b Records<'b, 'a>,
+        constants: &'b [Constant<'a>],
+        front: &str,
+        owner: Owner,
+    ) -> Result<Self, AllocError> {
+        Ok(Builder {
+            alloc,
+            records,
+            constants,
+            front: String::from_str(alloc, front)?,
+            owner,
+            items: Vec::new(alloc),
+            markers: String::new(alloc),
+            names: Vec::new(alloc),
+            complaints: Vec::new(alloc),
+        })
+    }
+
+    fn wrong<T>(&self, span: Span, message: &str, help: &str) -> Result<T, Stop> {
+        Stop::wrong(self.alloc, span, message, help)
+    }
+
+    /// Notes what is wrong.
+    pub fn noted(&mut self, built: Result<(), Stop>) -> Result<(), AllocError> {
+        match built {
+            Ok(()) => Ok(()),
+            Err(Stop::Wrong(complaint)) => {
+                self.complaints.push(complaint)?;
+                Ok(())
+            }
+            Err(Stop::Memory) => Err(AllocError),
+        }
+    }
+
+    /// The parts of fields, but for as many in front.
+    pub fn fields(&mut self, fields: &[Field<'a>], skipped: usize) -> Result<(), AllocError> {
+        for (i, field) in fields.iter().enumerate().skip(skipped) {
+            let name = field_name(self.alloc, field, i)?;
+            let place = format!(in self.alloc; "{i}")?;
+            let named = Named {
+                name: name.as_str(),
+                access: match field.name {
+                    Some(_) => name.as_str(),
+                    None => place.as_str(),
+                },
+            };
+            let built = self.field(field, named);
+            let is_built = built.is_ok();
+            self.noted(built)?;
+            if !is_built {
+                self.leaf(field, named)?;
+            }
+        }
+        Ok(())
+    }
+
+    /// All parts as one.
+    pub fn whole(&mut self) -> Result<Part<'a>, AllocError> {
+        let items = std::mem::replace(&mut self.items, Vec::new(self.alloc));
+        tuple(self.alloc, items)
+    }
+
+    // The part of a field alone.
+    fn leaf(&mut self, field: &Field<'a>, named: Named<'_>) -> Result<(), AllocError> {
+        let part = leaf(self.alloc, self.records, self.owner, field, named)?;
+        self.items.push(part)?;
+        Ok(())
+    }
+
+    fn field(&mut self, field: &Field<'a>, called: Named<'_>) -> Result<(), Stop> {
+        let name = called.name;
+        self.named(field, name)?;
+        let said = self.said(field)?;
+        self.fits(field, &said)?;
+        self.padding(said.before, field.layout.order)?;
+        if let Some(bytes) = said.magic {
+            let what = format!(in self.alloc; "magic of {name}")?;
+            let named = words::marker(self.alloc, self.front.as_str(), name, "Magic")?;
+            self.magic(bytes, named, what.as_str(), field.layout.order, field.span)?;
+        }
+        match (said.count, said.cond) {
+            (Some(count), _) => self.after_head(field, called, count, Dependent::Counted)?,
+            (None, Some(cond)) => self.after_head(field, called, cond, Dependent::Optional)?,
+            (None, None) => self.leaf(field, called)?,
+        }
+        if let Some(expression) = said.assert {
+            self.assert(field, name, expression, false)?;
+        }
+        if let Some(expression) = said.equal {
+            self.assert(field, name, expression, true)?;
+        }
+        self.padding(said.after, field.layout.order)
+    }
+
+    // Complains of a name that the module has already.
+    fn named(&self, field: &Field<'a>, name: &str) -> Result<(), Stop> {
+        let mut is_taken = words::is_local(name);
+        for part in &self.items {
+            for place in &part.places {
+                is_taken = is_taken || place.name.as_str().eq_ignore_ascii_case(name);
+            }
+        }
+        if is_taken {
+            let span = match field.name {
+                Some(token) => token.span,
+                None => field.span,
+            };
+            let message = format!(in self.alloc;
+                "a field of the name `{name}`, which the module has already"
+            )?;
+            return self.wrong(span, message.as_str(), "give it another name");
+        }
+        Ok(())
+    }
+
+    // What is said of a field, if all of it has a part.
+    fn said<'f>(&self, field: &'f Field<'a>) -> Result<Said<'f, 'a>, Stop> {
+        let mut said = Said {
+            magic: None,
+            count: None,
+            cond: None,
+            assert: None,
+            equal: None,
+            before: 0,
+            after: 0,
+        };
+        for attribute in &field.attributes {
+            match attribute {
+                Attribute::Magic(bytes) => said.magic = Some(bytes),
+                Attribute::Count(expression) => said.count = Some(expression),
+                Attribute::Cond(expression) => said.cond = Some(expression),
+                Attribute::Assert(expression) => said.assert = Some(expression),
+                Attribute::AssertEq(expression) => said.equal = Some(expression),
+                Attribute::PadBefore(bits) => said.before = *bits,
+                Attribute::PadAfter(bits) => said.after = *bits,
+                other => {
+                    let (message, help) = refused(other);
+                    return self.wrong(field.span, message, help);
+                }
+            }
+        }
+        Ok(said)
+    }
+
+    // Complains of a type or an endian that has no part.
+    fn fits(&self, field: &Field<'a>, said: &Said<'_, 'a>) -> Result<(), Stop> {
+        if let Endian::Named(_) = field.layout.endian {
+            return self.wrong(
+                field.span,
+                "an endian that another value says has no part here",
+                "write a record for each endian",
+            );
+        }
+        let is_dependent = said.count.is_some() || said.cond.is_some();
+        let is_checked = said.assert.is_some() || said.equal.is_some();
+        if is_dependent && is_checked {
+            return self.wrong(
+                field.span,
+                "a check of a list or an option has no part here",
+                "check the fields that say whether it is there",
+            );
+        }
+        let held = match (&field.kind, is_dependent) {
+            (Type::Of(_, item), true) => &**item,
+            (kind, _) => kind,
+        };
+        if self.owner == Owner::Kind && (is_dependent || !self.records.is_copied(field)) {
+            return self.wrong(
+                field.span,
+                "memory in a kind of an enum has no part here",
+                "put it into a struct, after the enum",
+            );
+        }
+        self.has_part(field, held)
+    }
+
+    // Complains of a type that has no part.
+    fn has_part(&self, field: &Field<'a>, kind: &Type<'a>) -> Result<(), Stop> {
+        if let Some(word) = partless(kind, field) {
+            let message = format!(in self.alloc; "{word} has no part here")?;
+            return self.wrong(
+                field.span,
+                message.as_str(),
+                "write a record of its own for it",
+            );
+        }
+        Ok(())
+    }
+
+    // Zeros of so many bits.
+    fn padding(&mut self, bits: u64, order: Order) -> Result<(), Stop> {
+        let mut left = bits.min(PADDING);
+        for _ in 0..(PADDING / 64 + 1) {
+            if left == 0 {
+                break;
+            }
+            let width = left.min(64);
+            left = left.saturating_sub(width);
+            let kind = match order {
+                Order::Msb => format!(in self.alloc; "Msb<u64, {width}>")?,
+                Order::Lsb => format!(in self.alloc; "Lsb<u64, {width}>")?,
+            };
+            let marker = match order {
+                Order::Msb => "Zeros",
+                Order::Lsb => "LowZeros",
+            };
+            let part = constant(self.alloc, self.owner, kind.as_str(), marker)?;
+            self.items.push(part)?;
+        }
+        Ok(())
+    }
+
+    /// Bytes that are always the same, as one number.
+    pub fn magic(
+        &mut self,
+        bytes: &Vec<u8>,
+        name: String,
+        what: &str,
+        order: Order,
+        span: Span,
+    ) -> Result<(), Stop> {
+        if bytes.is_empty() || bytes.len() > 8 {
+            return self.wrong(
+                span,
+                "a magic of no bytes, or of more than 8",
+                "write the first 8 of them, and an array of `u8` with `assert` after them",
+            );
+        }
+        let mut number = 0u64;
+        for byte in bytes {
+            number = (number << 8) | u64::from(*byte);
+        }
+        let count = bytes.len();
+        let (constructor, kind) = magic_kind(self.alloc, count, order)?;
+        let value = format!(in self.alloc; "0x{number:X}")?;
+        let what = String::from_str(self.alloc, what)?;
+        let marker = Marker {
+            name: name.as_str(),
+            parts: kind.as_str(),
+            lent: None,
+            field: what.as_str(),
+        };
+        marker::constant(&mut self.markers, marker, constructor, value.as_str())?;
+        let part = constant(self.alloc, self.owner, kind.as_str(), name.as_str())?;
+        self.items.push(part)?;
+        self.names.push(name)?;
+        Ok(())
+    }
+
+    // The parts that hold the fields an expression names, as one. A field of the last part is used
+    // in any case if that is said.
+    fn head(&mut self, expression: &Expression<'a>, is_last: bool) -> Result<Part<'a>, AllocError> {
+        let mut first = self.items.len();
+        if is_last {
+            first = first.saturating_sub(1);
+        }
+        for (i, part) in self.items.iter().enumerate() {
+            let is_named = part
+                .places
+                .iter()
+                .any(|place| names(expression, place.name.as_str()));
+            if is_named && i < first {
+                first = i;
+            }
+        }
+        if first == self.items.len() {
+            first = first.saturating_sub(1);
+        }
+        let mut taken = Vec::new(self.alloc);
+        let mut kept = Vec::new(self.alloc);
+        let items = std::mem::replace(&mut self.items, Vec::new(self.alloc));
+        for (i, part) in items.into_iter().enumerate() {
+            if i < first {
+                kept.push(part)?;
+            } else {
+                taken.push(part)?;
+            }
+        }
+        self.items = kept;
+        tuple(self.alloc, taken)
+    }
+
+    // The name of the type of parts. It is an alias if they are several.
+    fn alias(&mut self, kind: &Text, field: &str, word: &str) -> Result<String, AllocError> {
+        if let Some(name) = kind.as_word() {
+            return String::from_str(self.alloc, name);
+        }
+        let name = words::marker(self.alloc, self.front.as_str(), field, word)?;
+        self.markers.push_str("\ntype ")?;
+        self.markers.push_str(name.as_str())?;
+        self.markers
+            .push_str(if word == "Lent" { "<'a> = " } else { " = " })?;
+        kind.print(&mut self.markers, 0, 1, false)?;
+        self.markers.push_str(";\n")?;
+        self.names
+            .push(String::from_str(self.alloc, name.as_str())?)?;
+        if word == "Lent" {
+            let name = name.as_str();
+            return format!(in self.alloc; "{name}<'a>");
+        }
+        Ok(name)
+    }
+
+    // The names of the types of a head and of what is written for it.
+    fn aliases(
+        &mut self,
+        part: &mut Part<'a>,
+        field: &str,
+    ) -> Result<(String, Option<String>), AllocError> {
+        let name = self.alias(&part.kind, field, "Head")?;
+        part.kind = Text::word(self.alloc, name.as_str())?;
+        if !part.is_lent {
+            part.lent = Text::word(self.alloc, name.as_str())?;
+            return Ok((name, None));
+        }
+        let lent = self.alias(&part.lent, field, "Lent")?;
+        part.lent = Text::word(self.alloc, lent.as_str())?;
+        Ok((name, Some(lent)))
+    }
+
+    // The head of a list or an option.
+    fn head_of(
+        &mut self,
+        field: &Field<'a>,
+        expression: &Expression<'a>,
+        is_count: bool,
+    ) -> Result<Part<'a>, Stop> {
+        if self.items.is_empty() {
+            return self.wrong(
+                field.span,
+                "a list or an option with no field in front",
+                "write an array, or the type itself",
+            );
+        }
+        let head = self.head(expression, false)?;
+        if is_count && head.is_lent {
+            return self.wrong(
+                field.span,
+                "a list that a field in front of another list counts has no part here",
+                "move the field after the other list",
+            );
+        }
+        Ok(head)
+    }
+
+    // A list that the fields in front count, or an item that they show.
+    fn after_head(
+        &mut self,
+        field: &Field<'a>,
+        called: Named<'_>,
+        expression: &Expression<'a>,
+        form: Dependent,
+    ) -> Result<(), Stop> {
+        let name = called.name;
+        let is_count = form == Dependent::Counted;
+        let mut head = self.head_of(field, expression, is_count)?;
+        let word = if is_count { "Count" } else { "Condition" };
+        let named = words::marker(self.alloc, self.front.as_str(), name, word)?;
+        let (parts, lent) = self.aliases(&mut head, name)?;
+        let owned = String::from_str(self.alloc, name)?;
+        let marker = Marker {
+            name: named.as_str(),
+            parts: parts.as_str(),
+            lent: lent.as_deref(),
+            field: owned.as_str(),
+        };
+        if is_count {
+            self.counts(head.places.as_slice(), marker, expression, field.span)?;
+        } else {
+            self.shows(head.places.as_slice(), marker, expression, field.span)?;
+        }
+        let held = held_kind(self.alloc, field)?;
+        let part = following(
+            self.alloc,
+            head,
+            form,
+            called,
+            (named.as_str(), held.as_str()),
+        )?;
+        self.names.push(named)?;
+        self.items.push(part)?;
+        Ok(())
+    }
+
+    // Appends the type of a count.
+    fn counts(
+        &mut self,
+        places: &[Place<'a>],
+        marker: Marker<'_>,
+        expression: &Expression<'a>,
+        span: Span,
+    ) -> Result<(), Stop> {
+        let mut computer = Computer::new(self.alloc, places, self.constants);
+        let computed = computer.value(expression)?;
+        if !computed.is_number() {
+            return self.wrong(span, "a count that is no number", "write a number");
+        }
+        marker::count(&mut self.markers, marker, &computer, &computed)
+    }
+
+    // Appends the type of a condition.
+    fn shows(
+        &mut self,
+        places: &[Place<'a>],
+        marker: Marker<'_>,
+        expression: &Expression<'a>,
+        span: Span,
+    ) -> Result<(), Stop> {
+        let mut computer = Computer::new(self.alloc, places, self.constants);
+        let computed = computer.value(expression)?;
+        self.is_truth(&computed, computer.guards.is_empty(), span)?;
+        marker::condition(&mut self.markers, marker, &computer, &computed)
+    }
+
+    // Appends the type of a check, that a field of this name is what is computed or that this is
+    // so.
+    fn checks(
+        &mut self,
+        places: &[Place<'a>],
+        marker: Marker<'_>,
+        expression: &Expression<'a>,
+        span: Span,
+        is_equal: bool,
+    ) -> Result<(), Stop> {
+        let mut computer = Computer::new(self.alloc, places, self.constants);
+        let computed = if is_equal {
+            let left = computer.name(marker.field, span)?;
+            let right = computer.value(expression)?;
+            computer.both(Operator::Equal, left, right, span)?
+        } else {
+            computer.value(expression)?
+        };
+        self.is_truth(&computed, computer.guards.is_empty(), span)?;
+        marker::check(&mut self.markers, marker, &computer, &computed)
+    }
+
+    fn is_truth(&self, computed: &Computed, is_whole: bool, span: Span) -> Result<(), Stop> {
+        if computed.is_number() {
+            return self.wrong(
+                span,
+                "a condition that is a number",
+                "compare it with another number",
+            );
+        }
+        if is_whole {
+            return Ok(());
+        }
+        self.wrong(
+            span,
+            "a difference, or a quotient by a field, in a condition",
+            "write it as a sum or a product on the other side",
+        )
+    }
+
+    // A check of the last part, and of those in front that it names.
+    fn assert(
+        &mut self,
+        field: &Field<'a>,
+        name: &str,
+        expression: &Expression<'a>,
+        is_equal: bool,
+    ) -> Result<(), Stop> {
+        let word = if is_equal { "Value" } else { "Check" };
+        let named = words::marker(self.alloc, self.front.as_str(), name, word)?;
+        let mut part = self.head(expression, true)?;
+        let (parts, lent) = self.aliases(&mut part, name)?;
+        let owned = String::from_str(self.alloc, name)?;
+        let marker = Marker {
+            name: named.as_str(),
+            parts: parts.as_str(),
+            lent: lent.as_deref(),
+            field: owned.as_str(),
+        };
+        self.checks(
+            part.places.as_slice(),
+            marker,
+            expression,
+            field.span,
+            is_equal,
+        )?;
+        let part = asserted(self.alloc, self.owner, part, named.as_str())?;
+        self.names.push(named)?;
+        self.items.push(part)?;
+        Ok(())
+    }
+}
+
+// The type of what a list or an option holds.
+fn held_kind(alloc: Global, field: &Field<'_>) -> Result<String, AllocError> {
+    let mut held = String::new(alloc);
+    if let Type::Of(_, inner) = &field.kind {
+        item(&mut held, inner, field)?;
+    }
+    Ok(held)
+}
+
+// How many bits of padding there are at most.
+const PADDING: u64 = 1024;
+
+/// The name of a field. That of a tuple is called by its place.
+pub fn field_name(alloc: Global, field: &Field<'_>, place: usize) -> Result<String, AllocError> {
+    match field.name {
+        Some(name) => String::from_str(alloc, name.text),
+        None => format!(in alloc; "field_{place}"),
+    }
+}
+
+// Whether an expression names a field.
+fn names(expression: &Expression<'_>, field: &str) -> bool {
+    match expression {
+        Expression::Number(_, _) | Expression::Truth(_, _) => false,
+        Expression::Name(name) | Expression::Part(name, _) => name.text == field,
+        Expression::Not(value) | Expression::Cast(value, _) => names(value, field),
+        Expression::Both(_, left, right) => names(left, field) || names(right, field),
+    }
+}
+
+// The constructor and the type of a number of so many bytes.
+fn magic_kind(
+    alloc: Global,
+    count: usize,
+    order: Order,
+) -> Result<(&'static str, String), AllocError> {
+    let bits = count.saturating_mul(8);
+    Ok(match (order, count) {
+        (Order::Lsb, _) => ("LsbBe", format!(in alloc; "LsbBe<u64, {bits}>")?),
+        (Order::Msb, 1) => ("", format!(in alloc; "u8")?),
+        (Order::Msb, 2 | 4 | 8) => ("Be", format!(in alloc; "Be<u{bits}>")?),
+        (Order::Msb, _) => ("Msb", format!(in alloc; "Msb<u64, {bits}>")?),
+    })
+}
+
+// What of a type has no part.
+fn partless(kind: &Type<'_>, field: &Field<'_>) -> Option<&'static str> {
+    match kind {
+        Type::Of(name, _) if name.is_name("Vec") => Some("a list in another type"),
+        Type::Of(name, _) if name.is_name("Option") => Some("an option in another type"),
+        Type::Of(_, item) => partless(item, field),
+        Type::Array(item, _) => partless(item, field),
+        Type::Tuple(parts) if parts.is_empty() => Some("a tuple of nothing"),
+        Type::Tuple(parts) => {
+            for part in parts {
+                if let Some(word) = partless(part, field) {
+                    return Some(word);
+                }
+            }
+            if field.layout.order == Order::Lsb && deku_texts::lying::common_bits(kind).is_none() {
+                return Some("a tuple of several widths with its low bits first");
+            }
+            None
+        }
+        Type::Name(_) => None,
+    }
+}
+
+// Why an attribute is refused, and what to write in its place.
+fn refused(attribute: &Attribute<'_>) -> (&'static str, &'static str) {
+    match attribute {
+        Attribute::Bits(_) | Attribute::Bytes(_) => (
+            "a width that a field says has no part here",
+            "write a number, or a record for each width",
+        ),
+        Attribute::Context(_) => (
+            "values that are given to a field have no part here",
+            "move the fields that need them into this record",
+        ),
+        Attribute::BitsRead(_) | Attribute::BytesRead(_) => (
+            "a list that ends after so many bits or bytes has no part here",
+            "write `count`, which for `Vec<u8>` is the number of bytes",
+        ),
+        Attribute::Until(_) => (
+            "a list that ends with an item of its own has no part here",
+            "write `CString` for a text, or `count`",
+        ),
+        Attribute::ReadAll => (
+            "a list up to the end of the input has no part here",
+            "write `count`",
+        ),
+        _ => (
+            "a field that the record does not keep has no part here",
+            "leave `temp` and `temp_value` out: the field is kept, and checked when it is written",
+        ),
+    }
+}

@@ -1,0 +1,472 @@
+//! What counts and conditions compute, as code and as ghost text.
+
+use deku_attributes::reading::bits_of;
+use deku_description::place::Span;
+use deku_description::syntax::{Constant, Expression, Operator};
+use deku_description::token::Token;
+use deku_texts::part::Place;
+use deku_texts::refusal::Stop;
+use std::alloc::Global;
+
+/// How tightly a name or a number binds.
+const ATOM: u8 = 10;
+
+/// A value that is computed.
+#[derive(Drop)]
+pub struct Computed {
+    /// It as code, where each field is a local of its name.
+    pub code: String,
+    /// It as ghost text, where the parts are `p`.
+    pub term: String,
+    // How tightly both bind.
+    strength: u8,
+    // The most that it can be, if it is a number.
+    most: Option<u64>,
+    // Its type, if it is one field.
+    kind: Option<u64>,
+}
+
+/// What has to be known to compute a value.
+#[derive(Drop)]
+pub struct Computer<'p, 'c, 'a> {
+    pub alloc: Global,
+    /// The fields in front.
+    pub places: &'p [Place<'a>],
+    /// The constants of the file.
+    pub constants: &'c [Constant<'a>],
+    /// Which fields are used.
+    pub used: Vec<usize>,
+    /// When there is no value, as ghost text and as code.
+    pub guards: Vec<(String, String)>,
+    /// Whether the fields have to be of one type.
+    pub is_mixed: bool,
+}
+
+impl<'p, 'c, 'a> Computer<'p, 'c, 'a> {
+    pub fn new(
+        alloc: Global,
+        places: &'p [Place<'a>],
+        constants: &'c [Constant<'a>],
+    ) -> Computer<'p, 'c, 'a> {
+        Computer {
+            alloc,
+            places,
+            constants,
+            used: Vec::new(alloc),
+            guards: Vec::new(alloc),
+            is_mixed: false,
+        }
+    }
+
+    fn wrong<T>(&self, span: Span, message: &str, help: &str) -> Result<T, Stop> {
+        Stop::wrong(self.alloc, span, message, help)
+    }
+
+    /// What an expression computes.
+    pub fn value(&mut self, expression: &Expression<'a>) -> Result<Computed, Stop> {
+        match expression {
+            Expression::Number(number, _) => self.number(*number),
+            Expression::Truth(truth, _) => {
+                let text = if *truth { "true" } else { "false" };
+                self.truth(text, text, ATOM)
+            }
+            Expression::Name(name) => self.name(name.text, name.span),
+            Expression::Part(name, _) => self.wrong(
+                name.span,
+                "a field of a field in an expression",
+                "move the field into this record, or this field into that one",
+            ),
+            Expression::Not(value) => {
+                let value = self.value(value)?;
+                self.not(value, expression)
+            }
+            Expression::Cast(value, kind) => {
+                let value = self.value(value)?;
+                self.cast(value, *kind)
+            }
+            Expression::Both(operator, left, right) => {
+                let span = span_of(right);
+                let left = self.value(left)?;
+                let right = self.value(right)?;
+                self.both(*operator, left, right, span)
+            }
+        }
+    }
+
+    fn number(&self, number: u64) -> Result<Computed, Stop> {
+        let text = format!(in self.alloc; "{number}")?;
+        Ok(Computed {
+            code: text.clone()?,
+            term: text,
+            strength: ATOM,
+            most: Some(number),
+            kind: None,
+        })
+    }
+
+    fn truth(&self, code: &str, term: &str, strength: u8) -> Result<Computed, Stop> {
+        Ok(Computed {
+            code: String::from_str(self.alloc, code)?,
+            term: String::from_str(self.alloc, term)?,
+            strength,
+            most: None,
+            kind: None,
+        })
+    }
+
+    /// A field in front, or a constant.
+    pub fn name(&mut self, name: &str, span: Span) -> Result<Computed, Stop> {
+        for constant in self.constants {
+            if constant.name.text == name {
+                return self.number(constant.value);
+            }
+        }
+        let place = self
+            .places
+            .iter()
+            .position(|place| place.name.as_str() == name);
+        let Some(index) = place else {
+            return self.wrong(
+                span,
+                "a name that is no field in front of this one",
+                "move the field in front, and into this record",
+            );
+        };
+        self.field(index, span)
+    }
+
+    fn field(&mut self, index: usize, span: Span) -> Result<Computed, Stop> {
+        let Some(place) = self.places.get(index) else {
+            return Err(Stop::Memory);
+        };
+        let bits = match place.number {
+            Some(kind) if !kind.starts_with('i') && kind != "u128" => bits_of(kind),
+            _ => None,
+        };
+        let Some(bits) = bits else {
+            return self.wrong(
+                span,
+                "a field in an expression that is no number from 0 and no truth value",
+                "use a field of `u8`, `u16`, `u32`, `u64` or `bool`",
+            );
+        };
+        if !self.used.contains(&index) {
+            self.used.push(index)?;
+        }
+        let path = place.path.as_str();
+        let term = format!(in self.alloc; "p{path}")?;
+        if place.number == Some("bool") {
+            return self.truth(place.name.as_str(), term.as_str(), ATOM);
+        }
+        Ok(Computed {
+            code: place.name.clone()?,
+            term,
+            strength: ATOM,
+            most: Some(most_of(bits)),
+            kind: Some(bits),
+        })
+    }
+
+    fn not(&self, value: Computed, expression: &Expression<'a>) -> Result<Computed, Stop> {
+        if value.most.is_some() {
+            return self.wrong(
+                span_of(expression),
+                "`!` of a number",
+                "compare the number with another one",
+            );
+        }
+        let code = argument(self.alloc, value.code.as_str(), value.strength)?;
+        let term = argument(self.alloc, value.term.as_str(), value.strength)?;
+        let code = format!(in self.alloc; "!{code}")?;
+        let term = format!(in self.alloc; "not {term}")?;
+        self.truth(code.as_str(), term.as_str(), 9)
+    }
+
+    // A number as another type, which has to hold it.
+    fn cast(&mut self, value: Computed, kind: Token<'a>) -> Result<Computed, Stop> {
+        let held = match bits_of(kind.text) {
+            Some(bits) if !kind.text.starts_with('i') && kind.text != "bool" => most_of(bits),
+            _ => 0,
+        };
+        match value.most {
+            Some(most) if most <= held => {
+                self.is_mixed = true;
+                Ok(value)
+            }
+            _ => self.wrong(
+                kind.span,
+                "a type that does not hold the number",
+                "write `as usize`",
+            ),
+        }
+    }
+
+    /// What an operator makes of two values.
+    pub fn both(
+        &mut self,
+        operator: Operator,
+        left: Computed,
+        right: Computed,
+        span: Span,
+    ) -> Result<Computed, Stop> {
+        match operator {
+            Operator::Or => self.logical(("||", 1), left, right, span),
+            Operator::And => self.logical(("&&", 2), left, right, span),
+            Operator::Equal | Operator::Unequal if right.most.is_none() => {
+                self.same_truth(operator == Operator::Equal, left, right, span)
+            }
+            Operator::Equal
+            | Operator::Unequal
+            | Operator::Below
+            | Operator::AtMost
+            | Operator::Above
+            | Operator::AtLeast => self.compared(operator, left, right, span),
+            Operator::Plus
+            | Operator::Minus
+            | Operator::Times
+            | Operator::Divided
+            | Operator::Remainder => self.reckoned(operator, left, right, span),
+            Operator::BitOr
+            | Operator::BitXor
+            | Operator::BitAnd
+            | Operator::Left
+            | Operator::Right => self.wrong(
+                span,
+                "an operator on the bits of a number has no part here",
+                "describe these bits as fields of their own, with `bits`",
+            ),
+        }
+    }
+
+    fn logical(
+        &self,
+        (mark, strength): (&str, u8),
+        left: Computed,
+        right: Computed,
+        span: Span,
+    ) -> Result<Computed, Stop> {
+        if left.most.is_some() || right.most.is_some() {
+            return self.wrong(
+                span,
+                "a number where a truth value is needed",
+                "compare it with another number",
+            );
+        }
+        let code = self.infix(
+            mark,
+            strength,
+            (&left.code, left.strength),
+            (&right.code, right.strength),
+        )?;
+        let term = self.infix(
+            mark,
+            strength,
+            (&left.term, left.strength),
+            (&right.term, right.strength),
+        )?;
+        self.truth(code.as_str(), term.as_str(), strength)
+    }
+
+    // Two texts and an operator between them.
+    fn infix(
+        &self,
+        mark: &str,
+        strength: u8,
+        (left, left_strength): (&String, u8),
+        (right, right_strength): (&String, u8),
+    ) -> Result<String, Stop> {
+        let left = inside(self.alloc, left.as_str(), left_strength < strength)?;
+        let right = inside(self.alloc, right.as_str(), right_strength <= strength)?;
+        Ok(format!(in self.alloc; "{left} {mark} {right}")?)
+    }
+
+    // A truth value that is or is not another one.
+    fn same_truth(
+        &self,
+        is_same: bool,
+        left: Computed,
+        right: Computed,
+        span: Span,
+    ) -> Result<Computed, Stop> {
+        let is_true = right.code.as_str() == "true";
+        if left.most.is_some() || !is_true && right.code.as_str() != "false" {
+            return self.wrong(
+                span,
+                "truth values that are compared with one another",
+                "write the truth value alone, or with `!` in front",
+            );
+        }
+        if is_true == is_same {
+            return Ok(left);
+        }
+        let code = argument(self.alloc, left.code.as_str(), left.strength)?;
+        let term = argument(self.alloc, left.term.as_str(), left.strength)?;
+        let code = format!(in self.alloc; "!{code}")?;
+        let term = format!(in self.alloc; "not {term}")?;
+        self.truth(code.as_str(), term.as_str(), 9)
+    }
+
+    fn compared(
+        &mut self,
+        operator: Operator,
+        left: Computed,
+        right: Computed,
+        span: Span,
+    ) -> Result<Computed, Stop> {
+        let (Some(_), Some(most)) = (left.most, right.most) else {
+            return self.wrong(
+                span,
+                "a truth value where a number is needed",
+                "write the truth value alone, or with `!` in front",
+            );
+        };
+        self.is_mixed = self.is_mixed
+            || left.kind.is_none()
+            || right.kind.is_some() && left.kind != right.kind
+            || right.strength < ATOM
+            || right.kind.is_none() && most > most_of(left.kind.unwrap_or(64));
+        let mark = mark_of(operator);
+        let code = self.infix(
+            mark,
+            3,
+            (&left.code, left.strength),
+            (&right.code, right.strength),
+        )?;
+        let one = argument(self.alloc, left.term.as_str(), left.strength)?;
+        let other = argument(self.alloc, right.term.as_str(), right.strength)?;
+        let term = match operator {
+            Operator::Equal => format!(in self.alloc; "nat_eq {one} {other}")?,
+            Operator::Unequal => format!(in self.alloc; "not (nat_eq {one} {other})")?,
+            Operator::Below => format!(in self.alloc; "nat_lt {one} {other}")?,
+            Operator::AtMost => format!(in self.alloc; "nat_le {one} {other}")?,
+            Operator::Above => format!(in self.alloc; "nat_lt {other} {one}")?,
+            _ => format!(in self.alloc; "nat_le {other} {one}")?,
+        };
+        self.truth(code.as_str(), term.as_str(), 3)
+    }
+
+    fn reckoned(
+        &mut self,
+        operator: Operator,
+        left: Computed,
+        right: Computed,
+        span: Span,
+    ) -> Result<Computed, Stop> {
+        let most = match (left.most, right.most) {
+            (Some(one), Some(other)) => most_made(operator, one, other),
+            _ => None,
+        };
+        let Some(most) = most else {
+            return self.wrong(
+                span,
+                "a number that may be larger than 64 bits hold, or none",
+                "use fields of fewer bits",
+            );
+        };
+        self.is_mixed = true;
+        self.guard(operator, &left, &right)?;
+        let (mark, strength) = (mark_of(operator), operator.strength());
+        let (one, other) = (left.strength, right.strength);
+        let code = self.infix(mark, strength, (&left.code, one), (&right.code, other))?;
+        let term = self.infix(mark, strength, (&left.term, one), (&right.term, other))?;
+        Ok(Computed {
+            code,
+            term,
+            strength,
+            most: Some(most),
+            kind: None,
+        })
+    }
+
+    // Notes when there is no difference, no quotient and no remainder.
+    fn guard(&mut self, operator: Operator, left: &Computed, right: &Computed) -> Result<(), Stop> {
+        let is_literal = right.kind.is_none() && right.strength == ATOM;
+        let other = argument(self.alloc, right.term.as_str(), right.strength)?;
+        match operator {
+            Operator::Minus => {
+                let one = argument(self.alloc, left.term.as_str(), left.strength)?;
+                let term = format!(in self.alloc; "nat_lt {one} {other}")?;
+                let code = self.infix(
+                    "<",
+                    3,
+                    (&left.code, left.strength),
+                    (&right.code, right.strength),
+                )?;
+                self.guards.push((term, code))?;
+            }
+            Operator::Divided | Operator::Remainder if !is_literal => {
+                let term = format!(in self.alloc; "nat_eq {other} 0")?;
+                let code = inside(self.alloc, right.code.as_str(), right.strength <= 3)?;
+                self.guards
+                    .push((term, format!(in self.alloc; "{code} == 0")?))?;
+            }
+            _ => {}
+        }
+        Ok(())
+    }
+}
+
+impl Computed {
+    /// Whether it is a number.
+    pub fn is_number(&self) -> bool {
+        self.most.is_some()
+    }
+}
+
+// The most that a number of so many bits can be. More than 64 bits hold is taken as that.
+fn most_of(bits: u64) -> u64 {
+    if bits < 64 {
+        (1u64 << bits) - 1
+    } else {
+        u64::MAX
+    }
+}
+
+// The most that an operator makes of numbers up to these, unless it may be more than 64 bits hold.
+fn most_made(operator: Operator, one: u64, other: u64) -> Option<u64> {
+    match operator {
+        Operator::Plus => one.checked_add(other),
+        Operator::Times => one.checked_mul(other),
+        Operator::Divided | Operator::Remainder if other == 0 => None,
+        _ => Some(one),
+    }
+}
+
+fn mark_of(operator: Operator) -> &'static str {
+    match operator {
+        Operator::Equal => "==",
+        Operator::Unequal => "!=",
+        Operator::Below => "<",
+        Operator::AtMost => "<=",
+        Operator::Above => ">",
+        Operator::AtLeast => ">=",
+        Operator::Plus => "+",
+        Operator::Minus => "-",
+        Operator::Times => "*",
+        Operator::Divided => "/",
+        _ => "%",
+    }
+}
+
+// A text in parentheses, if it has to be.
+fn inside(alloc: Global, text: &str, is_inside: bool) -> Result<String, Stop> {
+    if is_inside {
+        return Ok(format!(in alloc; "({text})")?);
+    }
+    Ok(String::from_str(alloc, text)?)
+}
+
+// A text as the argument of a function.
+fn argument(alloc: Global, text: &str, strength: u8) -> Result<String, Stop> {
+    inside(alloc, text, strength < ATOM)
+}
+
+/// Where an expression is, by its last name or number.
+pub fn span_of(expression: &Expression<'_>) -> Span {
+    match expression {
+        Expression::Number(_, span) | Expression::Truth(_, span) => *span,
+        Expression::Name(name) | Expression::Part(name, _) => name.span,
+        Expression::Not(value) | Expression::Cast(value, _) => span_of(value),
+        Expression::Both(_, left, _) => span_of(left),
+    }
+}

@@ -1,0 +1,6 @@
+//! The parts of the fields of a record, with the types that say which of them there are.
+#![tactic(auto)]
+
+pub mod building;
+pub mod computing;
+pub mod marker;

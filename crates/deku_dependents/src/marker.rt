@@ -1,0 +1,356 @@
+//! The types that say of parts how many items, whether an item, or which value there has to be.
+
+use crate::computing::{Computed, Computer};
+use deku_texts::part::Place;
+use deku_texts::refusal::Stop;
+use std::alloc::{AllocError, Global};
+use std::fmt::Write as _;
+
+/// A type that says something of parts, as it is printed.
+#[derive(Clone, Copy)]
+pub struct Marker<'m> {
+    /// Its name.
+    pub name: &'m str,
+    /// The type of the parts.
+    pub parts: &'m str,
+    /// The type of what is written for them, if memory is lent.
+    pub lent: Option<&'m str>,
+    /// The field that it is for.
+    pub field: &'m str,
+}
+
+impl<'m> Marker<'m> {
+    // It for what is written, if memory is lent.
+    fn of_lent(self) -> Option<Marker<'m>> {
+        Some(Marker {
+            parts: self.lent?,
+            lent: None,
+            name: self.name,
+            field: self.field,
+        })
+    }
+}
+
+/// Appends the type of a count: how many items of a field follow the parts.
+pub fn count(
+    out: &mut String,
+    marker: Marker<'_>,
+    computer: &Computer<'_, '_, '_>,
+    computed: &Computed,
+) -> Result<(), Stop> {
+    declared(out, marker, "How many", "there are", computed.code.as_str())?;
+    count_of(out, marker, computer, computed)?;
+    if let Some(lent) = marker.of_lent() {
+        count_of(out, lent, computer, computed)?;
+    }
+    alike(out, "CountOfLaw", marker, computer)
+}
+
+// Appends how many items follow the parts.
+fn count_of(
+    out: &mut String,
+    marker: Marker<'_>,
+    computer: &Computer<'_, '_, '_>,
+    computed: &Computed,
+) -> Result<(), Stop> {
+    let parts = marker.parts;
+    let code = computed.code.as_str();
+    implemented(out, "CountOf", marker)?;
+    out.push_str("    ghost count_of = { λ p. ")?;
+    for (term, _) in &computer.guards {
+        let term = term.as_str();
+        write!(out, "if {term} then None else ")?;
+    }
+    let term = computed.term.as_str();
+    let is_atom = !term.contains(' ');
+    if is_atom {
+        write!(out, "Some {term}")?;
+    } else {
+        write!(out, "Some ({term})")?;
+    }
+    write!(
+        out,
+        " }};\n\n    fn count(parts: &{parts}) -> Option<usize> {{\n"
+    )?;
+    locals(out, computer, true)?;
+    for (_, guard) in &computer.guards {
+        let guard = guard.as_str();
+        writeln!(
+            out,
+            "        if {guard} {{\n            return None;\n        }}"
+        )?;
+    }
+    writeln!(out, "        Some({code})\n    }}\n}}")?;
+    Ok(())
+}
+
+/// Appends the type of a condition: whether a field follows the parts.
+pub fn condition(
+    out: &mut String,
+    marker: Marker<'_>,
+    computer: &Computer<'_, '_, '_>,
+    computed: &Computed,
+) -> Result<(), Stop> {
+    declared(out, marker, "Whether", "is there", computed.code.as_str())?;
+    shows(out, marker, computer, computed)?;
+    if let Some(lent) = marker.of_lent() {
+        shows(out, lent, computer, computed)?;
+    }
+    alike(out, "ConditionLaw", marker, computer)
+}
+
+// Appends whether a field follows the parts.
+fn shows(
+    out: &mut String,
+    marker: Marker<'_>,
+    computer: &Computer<'_, '_, '_>,
+    computed: &Computed,
+) -> Result<(), Stop> {
+    let parts = marker.parts;
+    let term = computed.term.as_str();
+    implemented(out, "Condition", marker)?;
+    writeln!(out, "    ghost shows = {{ λ p. {term} }};\n")?;
+    writeln!(out, "    fn shows(parts: &{parts}) -> bool {{")?;
+    truth(out, computer, computed)?;
+    out.push_str("    }\n}\n")?;
+    Ok(())
+}
+
+/// Appends the type of a check of parts.
+pub fn check(
+    out: &mut String,
+    marker: Marker<'_>,
+    computer: &Computer<'_, '_, '_>,
+    computed: &Computed,
+) -> Result<(), Stop> {
+    declared(out, marker, "What", "has to be", computed.code.as_str())?;
+    passes(out, marker, computer, computed)?;
+    if let Some(lent) = marker.of_lent() {
+        passes(out, lent, computer, computed)?;
+    }
+    alike(out, "CheckLaw", marker, computer)
+}
+
+// Appends which parts pass.
+fn passes(
+    out: &mut String,
+    marker: Marker<'_>,
+    computer: &Computer<'_, '_, '_>,
+    computed: &Computed,
+) -> Result<(), Stop> {
+    let Marker { parts, field, .. } = marker;
+    let term = computed.term.as_str();
+    implemented(out, "Check", marker)?;
+    writeln!(out, "    ghost passes = {{ λ p. {term} }};\n")?;
+    writeln!(out, "    ghost text = {{ codes \"{field}\" }};\n")?;
+    writeln!(out, "    fn passes(parts: &{parts}) -> bool {{")?;
+    truth(out, computer, computed)?;
+    out.push_str("    }\n\n")?;
+    text(out, field)?;
+    Ok(())
+}
+
+/// Appends the type of a constant: the value of the parts, in its own constructor if it has one.
+pub fn constant(
+    out: &mut String,
+    marker: Marker<'_>,
+    constructor: &str,
+    value: &str,
+) -> Result<(), AllocError> {
+    let Marker {
+        name,
+        parts,
+        field,
+        ..
+    } = marker;
+    writeln!(out, "\n/// The {field}.")?;
+    writeln!(
+        out,
+        "#[derive(Debug, PartialEq, Eq, Drop)]\npub struct {name};"
+    )?;
+    implemented(out, "Constant", marker)?;
+    let is_bare = constructor.is_empty();
+    let (front, back) = if is_bare {
+        ("", "")
+    } else {
+        ("record { 0 = ", " }")
+    };
+    writeln!(out, "    ghost value = {{ {front}{value}{back} }};\n")?;
+    writeln!(out, "    ghost text = {{ codes \"{field}\" }};\n")?;
+    if is_bare {
+        writeln!(
+            out,
+            "    fn value() -> {parts} {{\n        {value}\n    }}\n"
+        )?;
+        is_value(out, parts, "*part", value)?;
+    } else {
+        writeln!(
+            out,
+            "    fn value() -> {parts} {{\n        {constructor}({value})\n    }}\n"
+        )?;
+        is_value(out, parts, "part.0", value)?;
+    }
+    text(out, field)?;
+    implemented(out, "ConstantLaw", marker)?;
+    out.push_str("    ghost alike = { λ v e. rw e refl };\n}\n")
+}
+
+// Appends the function that compares a part with a value.
+fn is_value(out: &mut String, parts: &str, held: &str, value: &str) -> Result<(), AllocError> {
+    writeln!(out, "    fn is_value(part: &{parts}) -> bool {{")?;
+    writeln!(out, "        {held} == {value}\n    }}\n")
+}
+
+/// The constants of padding with the high bits first, and with the low bits first.
+pub fn zeros(out: &mut String, part: &str) -> Result<(), AllocError> {
+    let name = if part == "Msb" { "Zeros" } else { "LowZeros" };
+    writeln!(
+        out,
+        "\n/// Padding.\n#[derive(Debug, PartialEq, Eq, Drop)]\npub struct {name};\n"
+    )?;
+    writeln!(
+        out,
+        "impl<const N: usize> Constant<{part}<u64, N>> for {name} {{"
+    )?;
+    out.push_str("    ghost value = { record { 0 = 0 } };\n\n")?;
+    out.push_str("    ghost text = { codes \"padding\" };\n\n")?;
+    writeln!(
+        out,
+        "    fn value() -> {part}<u64, N> {{\n        {part}(0)\n    }}\n"
+    )?;
+    writeln!(
+        out,
+        "    fn is_value(part: &{part}<u64, N>) -> bool {{\n        part.0 == 0\n    }}\n"
+    )?;
+    text(out, "padding")?;
+    writeln!(
+        out,
+        "\nimpl<const N: usize> ConstantLaw<{part}<u64, N>> for {name} {{"
+    )?;
+    out.push_str("    ghost alike = { λ v e. rw e refl };\n}\n")
+}
+
+// Appends the struct, with what it says of the field.
+fn declared(
+    out: &mut String,
+    marker: Marker<'_>,
+    what: &str,
+    then: &str,
+    code: &str,
+) -> Result<(), AllocError> {
+    let Marker { name, field, .. } = marker;
+    let line = format!(in *out.allocator(); "/// {what} `{field}` {then}: `{code}`.")?;
+    if line.as_str().chars().count() <= 100 {
+        let line = line.as_str();
+        writeln!(out, "\n{line}")?;
+    } else {
+        writeln!(out, "\n/// {what} `{field}` {then}.")?;
+    }
+    writeln!(
+        out,
+        "#[derive(Debug, PartialEq, Eq, Drop)]\npub struct {name};"
+    )
+}
+
+// Appends the first line of an implementation.
+fn implemented(out: &mut String, what: &str, marker: Marker<'_>) -> Result<(), AllocError> {
+    let Marker { name, parts, .. } = marker;
+    let generic = if parts.contains("<'a") { "<'a>" } else { "" };
+    let line = format!(in *out.allocator(); "impl{generic} {what}<{parts}> for {name} {{")?;
+    if line.as_str().chars().count() <= 100 {
+        let line = line.as_str();
+        writeln!(out, "\n{line}")
+    } else {
+        writeln!(out, "\nimpl{generic} {what}<{parts}>\n    for {name} {{")
+    }
+}
+
+// Appends the function that returns a text.
+fn text(out: &mut String, text: &str) -> Result<(), AllocError> {
+    writeln!(
+        out,
+        "    fn text() -> &'static str {{\n        \"{text}\"\n    }}\n}}"
+    )
+}
+
+// Appends a local for each field that is used.
+fn locals(
+    out: &mut String,
+    computer: &Computer<'_, '_, '_>,
+    is_cast: bool,
+) -> Result<(), AllocError> {
+    for index in &computer.used {
+        if let Some(place) = computer.places.get(*index) {
+            let name = place.name.as_str();
+            write!(out, "        let {name} = ")?;
+            reached(out, place)?;
+            let is_number = place.number != Some("bool") && place.number != Some("usize");
+            out.push_str(if is_cast && is_number {
+                " as usize;\n"
+            } else {
+                ";\n"
+            })?;
+        }
+    }
+    Ok(())
+}
+
+// Appends where a field is in the parts.
+fn reached(out: &mut String, place: &Place<'_>) -> Result<(), AllocError> {
+    let path = place.path.as_str();
+    if path.is_empty() {
+        out.push_str("*parts")
+    } else {
+        write!(out, "parts{path}")
+    }
+}
+
+// Appends the body of a function that returns a truth value.
+fn truth(
+    out: &mut String,
+    computer: &Computer<'_, '_, '_>,
+    computed: &Computed,
+) -> Result<(), AllocError> {
+    let code = computed.code.as_str();
+    if let [index] = computer.used.as_slice() {
+        if let Some(place) = computer.places.get(*index) {
+            if place.name.as_str() == code {
+                out.push_str("        ")?;
+                reached(out, place)?;
+                return out.push('\n');
+            }
+        }
+    }
+    locals(out, computer, computer.is_mixed)?;
+    writeln!(out, "        {code}")
+}
+
+// Appends the law that parts which are the same give the same.
+fn alike(
+    out: &mut String,
+    what: &str,
+    marker: Marker<'_>,
+    computer: &Computer<'_, '_, '_>,
+) -> Result<(), Stop> {
+    implemented(out, what, marker)?;
+    out.push_str("    ghost alike = { λ v w e. ")?;
+    for (i, index) in computer.used.iter().enumerate() {
+        if let Some(place) = computer.places.get(*index) {
+            let same = place.same.as_str();
+            let front = if i > 0 {
+                ", e"
+            } else if computer.used.len() > 1 {
+                "rw (e"
+            } else {
+                "rw e"
+            };
+            write!(out, "{front}{same}")?;
+        }
+    }
+    out.push_str(match computer.used.len() {
+        0 => "refl };\n}\n",
+        1 => " refl };\n}\n",
+        _ => ") refl };\n}\n",
+    })?;
+    Ok(())
+}

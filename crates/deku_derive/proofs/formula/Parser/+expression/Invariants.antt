@@ -1,8 +1,0 @@
-use Rattle.std.proofs.Common.{◌+◌, ◌*◌}
-use Rattle.deku_derive.proofs.formula.Parser.+expression.Given as goal
-
-abbrev pub decreases-expression : goal.decreases-expression
-decreases-expression l = 2 * l.depth
-
-abbrev pub decreases-operand : goal.decreases-operand
-decreases-operand l = 2 * l.depth + 1

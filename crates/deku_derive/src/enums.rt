@@ -1,0 +1,491 @@
+//! Enums, as they are printed.
+
+use crate::structs::{derives, docs, path_of};
+use deku_attributes::model::{Case, Endian, Id, Ids, Order, Record};
+use deku_dependents::building::field_name;
+use deku_description::syntax::Shape;
+use deku_texts::document::{Form, Text, start};
+use deku_texts::lying::field_kind;
+use deku_texts::part::Part;
+use deku_texts::words::{quoted, snake};
+use std::alloc::{AllocError, Global};
+use std::fmt::Write as _;
+
+/// A kind, and the parts of its fields.
+#[derive(Drop)]
+pub(crate) struct Built<'c, 'a> {
+    pub(crate) case: &'c Case<'a>,
+    /// The field that keeps the id, if there is one.
+    pub(crate) kept: Option<String>,
+    /// The parts of the other fields.
+    pub(crate) part: Part<'a>,
+}
+
+/// Appends an enum.
+pub(crate) fn declaration(
+    out: &mut String,
+    record: &Record<'_>,
+    kinds: &[Built<'_, '_>],
+) -> Result<(), AllocError> {
+    derives(out, record, true)?;
+    let name = record.name.text;
+    writeln!(out, "pub enum {name} {{")?;
+    for kind in kinds {
+        let case = kind.case;
+        docs(out, case.docs.as_slice(), "    ///")?;
+        if case.docs.is_empty() {
+            said(out, case.id)?;
+        }
+        out.push_str("    ")?;
+        variant(out, case, kind.kept.is_some())?;
+        out.push_str(",\n")?;
+    }
+    out.push_str("}\n")
+}
+
+// Appends which ids a kind has.
+fn said(out: &mut String, id: Id) -> Result<(), AllocError> {
+    match id {
+        Id::Number(number) => writeln!(out, "    /// Id {number}."),
+        Id::Range(low, high) => writeln!(out, "    /// Ids {low} to {high}."),
+        Id::Rest => out.push_str("    /// Every other id.\n"),
+        Id::Pattern => Ok(()),
+    }
+}
+
+// Appends a kind and its fields.
+fn variant(out: &mut String, case: &Case<'_>, is_kept: bool) -> Result<(), AllocError> {
+    let alloc = *out.allocator();
+    let name = case.name.text;
+    let mut items = Vec::new(alloc);
+    for (i, field) in case.fields.iter().enumerate() {
+        let kind = if i == 0 && is_kept {
+            String::from_str(alloc, "u64")?
+        } else {
+            field_kind(alloc, field)?
+        };
+        let front = match field.name {
+            Some(name) => {
+                let name = name.text;
+                format!(in alloc; "{name}: ")?
+            }
+            None => String::new(alloc),
+        };
+        items.push(Text::of(kind).after(alloc, front.as_str())?)?;
+    }
+    of_shape(alloc, name, case.shape, Form::Variant, items)?.print(out, 4, 1, false)
+}
+
+// A name with items as a kind of this shape has them.
+fn of_shape(
+    alloc: Global,
+    name: &str,
+    shape: Shape,
+    form: Form,
+    items: Vec<Text>,
+) -> Result<Text, AllocError> {
+    match shape {
+        Shape::Unit => Text::word(alloc, name),
+        Shape::Named => {
+            let open = format!(in alloc; "{name} {{")?;
+            Text::group(alloc, form, open.as_str(), items)
+        }
+        Shape::Tuple => {
+            let open = format!(in alloc; "{name}(")?;
+            Text::group(alloc, Form::Pattern, open.as_str(), items)
+        }
+    }
+}
+
+/// Appends how an enum is read and written.
+pub(crate) fn implementation(
+    out: &mut String,
+    record: &Record<'_>,
+    ids: Ids<'_>,
+    kinds: &[Built<'_, '_>],
+) -> Result<(), AllocError> {
+    let name = record.name.text;
+    writeln!(out, "\nimpl CopyParts for {name} {{")?;
+    out.push_str("    type Parts = ")?;
+    parts_kind(*out.allocator(), ids, kinds)?.print(out, 4, 1, false)?;
+    out.push_str(";\n\n    ghost parts_of = { elim [")?;
+    for (i, kind) in kinds.iter().enumerate() {
+        start(out, 6)?;
+        parts_of(out, name, kind, (i, kinds.len()))?;
+    }
+    out.push_str("\n    ] };\n\n    ghost record_of = { λ p. ")?;
+    record_of(out, name, kinds)?;
+    out.push_str(" };\n\n    fn from_parts(parts: Self::Parts) -> Self {\n")?;
+    out.push_str("        match parts.kind {")?;
+    for (i, kind) in kinds.iter().enumerate() {
+        from_parts(out, name, kind, (i, kinds.len()))?;
+    }
+    out.push_str(
+        "\n        }\n    }\n\n    fn parts(&self) -> Self::Parts {\n        match self {",
+    )?;
+    for (i, kind) in kinds.iter().enumerate() {
+        parts(out, name, kind, (i, kinds.len()))?;
+    }
+    out.push_str("\n        }\n    }\n\n")?;
+    out.push_str("    ghost there = { elim [")?;
+    for kind in kinds {
+        start(out, 6)?;
+        out.push_str("| ")?;
+        constructor(out, name, kind)?;
+        out.push_str(" ↦ refl")?;
+    }
+    out.push_str("\n    ] };\n}\n")
+}
+
+// The type of the id and the kinds.
+fn parts_kind(alloc: Global, ids: Ids<'_>, kinds: &[Built<'_, '_>]) -> Result<Text, AllocError> {
+    let is_little = matches!(ids.layout.endian, Endian::Little | Endian::Unsaid);
+    let open = match (ids.layout.order, is_little) {
+        (Order::Msb, true) if ids.bits > 8 => "MsbLeEnum<",
+        (Order::Msb, _) => "MsbEnum<",
+        (Order::Lsb, true) => "LsbEnum<",
+        (Order::Lsb, false) => "LsbBeEnum<",
+    };
+    let bits = ids.bits;
+    let mut items = Vec::new(alloc);
+    items.push(tree(alloc, kinds)?)?;
+    items.push(Text::of(format!(in alloc; "{bits}")?))?;
+    Text::group(alloc, Form::Angle, open, items)
+}
+
+// The type of kinds, of which each half is one.
+fn tree(alloc: Global, kinds: &[Built<'_, '_>]) -> Result<Text, AllocError> {
+    let mut texts = Vec::new(alloc);
+    for kind in kinds {
+        texts.push(kind_type(alloc, kind)?)?;
+    }
+    // Joins neighbours until one is left.
+    for _ in 0..64 {
+        if texts.len() < 2 {
+            break;
+        }
+        texts = joined(alloc, texts)?;
+    }
+    match texts.pop() {
+        Some(text) => Ok(text),
+        None => Text::word(alloc, "()"),
+    }
+}
+
+// Neighbours as one kind each; the last one stays alone if their number is odd.
+fn joined(alloc: Global, texts: Vec<Text>) -> Result<Vec<Text>, AllocError> {
+    let mut pairs = Vec::new(alloc);
+    let mut first = None;
+    for text in texts {
+        first = match first {
+            None => Some(text),
+            Some(one) => {
+                let mut items = Vec::new(alloc);
+                items.push(one)?;
+                items.push(text)?;
+                pairs.push(Text::group(alloc, Form::Angle, "Either<", items)?)?;
+                None
+            }
+        };
+    }
+    if let Some(last) = first {
+        pairs.push(last)?;
+    }
+    Ok(pairs)
+}
+
+// Which side of each choice a kind is on, from the innermost.
+fn sides(alloc: Global, place: usize, count: usize) -> Result<Vec<bool>, AllocError> {
+    let mut sides = Vec::new(alloc);
+    let (mut place, mut count) = (place, count);
+    for _ in 0..64 {
+        if count < 2 {
+            break;
+        }
+        if place % 2 == 1 {
+            sides.push(false)?;
+        } else if place < count - 1 {
+            sides.push(true)?;
+        }
+        place /= 2;
+        count = count / 2 + count % 2;
+    }
+    Ok(sides)
+}
+
+fn kind_type(alloc: Global, kind: &Built<'_, '_>) -> Result<Text, AllocError> {
+    let mut items = Vec::new(alloc);
+    items.push(kind.part.kind.copy(alloc)?)?;
+    let case = kind.case;
+    let open = match case.id {
+        Id::Number(number) => {
+            items.push(Text::of(format!(in alloc; "{number}")?))?;
+            "Kind<"
+        }
+        Id::Range(low, high) => {
+            items.push(Text::of(format!(in alloc; "{low}")?))?;
+            items.push(Text::of(format!(in alloc; "{high}")?))?;
+            "InRange<"
+        }
+        Id::Rest | Id::Pattern => "Otherwise<",
+    };
+    Text::group(alloc, Form::Angle, open, items)
+}
+
+// Appends the parts of a kind, in ghost text.
+fn parts_of(
+    out: &mut String,
+    name: &str,
+    kind: &Built<'_, '_>,
+    (place, count): (usize, usize),
+) -> Result<(), AllocError> {
+    let alloc = *out.allocator();
+    out.push_str("| ")?;
+    constructor(out, name, kind)?;
+    let term = kind.part.term.copy(alloc)?;
+    let mut items = Vec::new(alloc);
+    match &kind.kept {
+        Some(kept) => {
+            let kept = quoted(alloc, kept.as_str())?;
+            items.push(Text::of(kept).after(alloc, "id = ")?)?;
+            items.push(term.after(alloc, "value = ")?)?;
+        }
+        None => items.push(term.after(alloc, "0 = ")?)?,
+    }
+    let mut text = Text::group(alloc, Form::GhostBrace, "record {", items)?;
+    for is_this in &sides(alloc, place, count)? {
+        let open = if *is_this {
+            "either.This ("
+        } else {
+            "either.Other ("
+        };
+        text = Text::one(alloc, Form::GhostRound, open, text)?;
+    }
+    let mut items = Vec::new(alloc);
+    items.push(text.after(alloc, "kind = ")?)?;
+    items.push(Text::word(alloc, "id = record {}")?)?;
+    out.push_str(" ↦ ")?;
+    Text::group(alloc, Form::GhostBrace, "record {", items)?.print(out, 6, 0, false)
+}
+
+// Appends a kind with its fields as variables, in ghost text.
+fn constructor(out: &mut String, name: &str, kind: &Built<'_, '_>) -> Result<(), AllocError> {
+    let alloc = *out.allocator();
+    let kinds = snake(alloc, name)?;
+    let of = kind.case;
+    let (kinds, case) = (kinds.as_str(), of.name.text);
+    write!(out, "{kinds}_kinds.{case}")?;
+    for (i, field) in of.fields.iter().enumerate() {
+        let name = field_name(alloc, field, i)?;
+        let name = quoted(alloc, name.as_str())?;
+        let name = name.as_str();
+        write!(out, " {name}")?;
+    }
+    Ok(())
+}
+
+// Appends the enum that a value of the kinds makes, in ghost text.
+fn record_of(out: &mut String, name: &str, kinds: &[Built<'_, '_>]) -> Result<(), AllocError> {
+    let alloc = *out.allocator();
+    let held = if kinds.len() == 1 { "p.kind" } else { "k" };
+    let mut texts = Vec::new(alloc);
+    for kind in kinds {
+        texts.push(made_of(alloc, name, kind, held)?)?;
+    }
+    for _ in 0..64 {
+        if texts.len() < 2 {
+            break;
+        }
+        texts = chosen(alloc, texts)?;
+    }
+    let Some(text) = texts.pop() else {
+        return Ok(());
+    };
+    let text = text.as_str();
+    match text.strip_prefix("elim k [") {
+        Some(rest) => {
+            out.push_str("elim p.kind [")?;
+            indented(out, rest, "    ")
+        }
+        None => out.push_str(text),
+    }
+}
+
+// Appends a text whose lines after the first begin further in.
+fn indented(out: &mut String, text: &str, indent: &str) -> Result<(), AllocError> {
+    for (i, line) in text.split('\n').enumerate() {
+        if i > 0 {
+            out.push('\n')?;
+            out.push_str(indent)?;
+        }
+        out.push_str(line)?;
+    }
+    Ok(())
+}
+
+// Neighbours as one choice each; the last one stays alone if their number is odd.
+fn chosen(alloc: Global, texts: Vec<String>) -> Result<Vec<String>, AllocError> {
+    let mut pairs = Vec::new(alloc);
+    let mut first = None;
+    for text in texts {
+        first = match first {
+            None => Some(text),
+            Some(one) => {
+                pairs.push(choice(alloc, one.as_str(), text.as_str())?)?;
+                None
+            }
+        };
+    }
+    if let Some(last) = first {
+        pairs.push(last)?;
+    }
+    Ok(pairs)
+}
+
+fn choice(alloc: Global, one: &str, other: &str) -> Result<String, AllocError> {
+    let mut out = String::from_str(alloc, "elim k [\n  | either.This k ↦ ")?;
+    indented(&mut out, one, "  ")?;
+    out.push_str("\n  | either.Other k ↦ ")?;
+    indented(&mut out, other, "  ")?;
+    out.push_str("\n]")?;
+    Ok(out)
+}
+
+// A kind made of a value, in ghost text.
+fn made_of(
+    alloc: Global,
+    name: &str,
+    kind: &Built<'_, '_>,
+    held: &str,
+) -> Result<String, AllocError> {
+    let kinds = snake(alloc, name)?;
+    let of = kind.case;
+    let (kinds, case) = (kinds.as_str(), of.name.text);
+    let mut out = format!(in alloc; "{kinds}_kinds.{case}")?;
+    for (i, field) in of.fields.iter().enumerate() {
+        let name = field_name(alloc, field, i)?;
+        let path = path_of(&kind.part, name.as_str());
+        match (&kind.kept, i) {
+            (Some(_), 0) => write!(out, " {held}.id")?,
+            (Some(_), _) => write!(out, " {held}.value{path}")?,
+            (None, _) => write!(out, " {held}.0{path}")?,
+        }
+    }
+    Ok(out)
+}
+
+// A kind of the enum with its fields as locals, or made of what was kept if it keeps its id.
+fn own(alloc: Global, name: &str, kind: &Built<'_, '_>, is_made: bool) -> Result<Text, AllocError> {
+    let mut items = Vec::new(alloc);
+    let of = kind.case;
+    for (i, field) in of.fields.iter().enumerate() {
+        let name = field_name(alloc, field, i)?;
+        if is_made && kind.kept.is_some() {
+            items.push(of_kept(alloc, kind, name.as_str(), i)?)?;
+        } else {
+            items.push(Text::of(name))?;
+        }
+    }
+    let case = of.name.text;
+    let path = format!(in alloc; "{name}::{case}")?;
+    of_shape(alloc, path.as_str(), of.shape, Form::Brace, items)
+}
+
+// A field of a kind that keeps its id, made of what was kept.
+fn of_kept(
+    alloc: Global,
+    kind: &Built<'_, '_>,
+    name: &str,
+    place: usize,
+) -> Result<Text, AllocError> {
+    let path = path_of(&kind.part, name);
+    let held = if place == 0 {
+        format!(in alloc; "kept.id")?
+    } else {
+        format!(in alloc; "kept.value{path}")?
+    };
+    let case = kind.case;
+    if case.shape == Shape::Named {
+        let front = format!(in alloc; "{name}: ")?;
+        return Text::of(held).after(alloc, front.as_str());
+    }
+    Ok(Text::of(held))
+}
+
+// The value of the kinds that a kind of the enum stands for, of what its fields are.
+fn stood(
+    alloc: Global,
+    form: Form,
+    kind: &Built<'_, '_>,
+    value: &Text,
+    (place, count): (usize, usize),
+) -> Result<Text, AllocError> {
+    let value = value.copy(alloc)?;
+    let mut text = match (&kind.kept, form) {
+        (None, _) => Text::one(alloc, form, "Kind(", value)?,
+        (Some(_), Form::Pattern) => Text::word(alloc, "kept")?,
+        (Some(kept), _) => {
+            let kept = kept.as_str();
+            let mut items = Vec::new(alloc);
+            items.push(Text::of(format!(in alloc; "id: *{kept}")?))?;
+            items.push(value.after(alloc, "value: ")?)?;
+            Text::group(alloc, Form::Brace, "InRange {", items)?
+        }
+    };
+    for is_this in &sides(alloc, place, count)? {
+        let open = if *is_this {
+            "Either::This("
+        } else {
+            "Either::Other("
+        };
+        text = Text::one(alloc, form, open, text)?;
+    }
+    Ok(text)
+}
+
+// Appends a case of a match.
+fn arm(out: &mut String, pattern: &Text, body: &Text) -> Result<(), AllocError> {
+    start(out, 12)?;
+    pattern.print(out, 12, 3, false)?;
+    out.push_str(" =>")?;
+    if body.is_brace() && !body.has_room(out.as_str()) {
+        start(out, 16)?;
+        body.print(out, 16, 1, false)?;
+        return out.push(',');
+    }
+    out.push(' ')?;
+    if body.is_line(out.as_str(), 1) || body.is_brace() {
+        body.print(out, 12, 1, false)?;
+        return out.push(',');
+    }
+    out.push('{')?;
+    start(out, 16)?;
+    body.print(out, 16, 0, false)?;
+    start(out, 12)?;
+    out.push('}')
+}
+
+// Appends how parts make a kind.
+fn from_parts(
+    out: &mut String,
+    name: &str,
+    kind: &Built<'_, '_>,
+    place: (usize, usize),
+) -> Result<(), AllocError> {
+    let alloc = *out.allocator();
+    let pattern = stood(alloc, Form::Pattern, kind, &kind.part.pattern, place)?;
+    arm(out, &pattern, &own(alloc, name, kind, true)?)
+}
+
+// Appends the parts of a kind.
+fn parts(
+    out: &mut String,
+    name: &str,
+    kind: &Built<'_, '_>,
+    place: (usize, usize),
+) -> Result<(), AllocError> {
+    let alloc = *out.allocator();
+    let value = stood(alloc, Form::Round, kind, &kind.part.value, place)?;
+    let body = Text::one(alloc, Form::Round, "Enum::new(", value)?;
+    arm(out, &own(alloc, name, kind, false)?, &body)
+}

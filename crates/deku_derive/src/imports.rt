@@ -1,0 +1,226 @@
+//! What a module imports: the names that its text has.
+
+use deku_attributes::model::{Form, Module};
+use deku_texts::words::{MADE, snake};
+use std::alloc::{AllocError, Global};
+use std::fmt::Write as _;
+
+// The names of deku_symmetry, in the order in which `rt fmt` has them.
+const PARTS: [&str; 34] = [
+    "Assert",
+    "Be",
+    "Check",
+    "CheckLaw",
+    "Codec",
+    "Coded",
+    "CodedRef",
+    "Condition",
+    "ConditionLaw",
+    "Constant",
+    "ConstantLaw",
+    "CopyParts",
+    "CountOf",
+    "CountOfLaw",
+    "CountedBy",
+    "CountedByRef",
+    "Either",
+    "Enum",
+    "InRange",
+    "Kind",
+    "Le",
+    "Lsb",
+    "LsbBe",
+    "LsbBeEnum",
+    "LsbEnum",
+    "Magic",
+    "Msb",
+    "MsbEnum",
+    "MsbLe",
+    "MsbLeEnum",
+    "Optional",
+    "OptionalRef",
+    "Otherwise",
+    "Symmetric",
+];
+
+// Words of ghost text, with what of it is looked for.
+const WORDS: [(&str, &str); 16] = [
+    ("◌+◌", " + "),
+    ("◌-◌", " - "),
+    ("◌*◌", " * "),
+    ("◌/◌", " / "),
+    ("◌%◌", " % "),
+    ("◌&&◌", " && "),
+    ("◌||◌", " || "),
+    ("not", "not "),
+    ("nat_eq", "nat_eq "),
+    ("nat_lt", "nat_lt "),
+    ("nat_le", "nat_le "),
+    ("None", "then None "),
+    ("Some", "Some "),
+    ("if◌then◌else◌", "if "),
+    ("codes", "codes "),
+    ("refl", "refl"),
+];
+
+/// Appends what a module imports that goes on with this text.
+pub(crate) fn imports(
+    out: &mut String,
+    module: &Module<'_>,
+    path: Option<&str>,
+    text: &str,
+) -> Result<(), AllocError> {
+    let alloc = *out.allocator();
+    let (term, code) = parted(alloc, text)?;
+    let mut words = Vec::new(alloc);
+    for (word, found) in &WORDS {
+        if term.as_str().contains(*found) {
+            words.push(*word)?;
+        }
+    }
+    let words = words.as_slice().join(alloc, ", ")?;
+    let words = words.as_str();
+    writeln!(out, "\nghost use Rattle.std.specs.Prelude.{{{words}}};")?;
+    made(out, term.as_str())?;
+    kinds(out, module, path)?;
+    out.push('\n')?;
+    for path in &module.uses {
+        if path.starts_with("super::") || path.starts_with("crate::") {
+            writeln!(out, "use {path};")?;
+        }
+    }
+    used(out, "deku::cstring", &["CString"], code.as_str())?;
+    if code.as_str().contains(".to_writer(") {
+        out.push_str("use deku::device::Sink;\n")?;
+        out.push_str("use deku::prelude::{DekuError, DekuWriter, Writer};\n")?;
+    }
+    used(out, "deku_symmetry", &PARTS, code.as_str())?;
+    used(out, "std::marker", &["PhantomData"], code.as_str())?;
+    used(out, "std::net", &["Ipv4Addr", "Ipv6Addr"], code.as_str())
+}
+
+// Appends the words for parts of one value that ghost text has.
+fn made(out: &mut String, text: &str) -> Result<(), AllocError> {
+    let alloc = *out.allocator();
+    let mut words = Vec::new(alloc);
+    for (_, word) in &MADE {
+        if has_word(text, word) {
+            words.push(*word)?;
+        }
+    }
+    if words.is_empty() {
+        return Ok(());
+    }
+    let words = words.as_slice().join(alloc, ", ")?;
+    let words = words.as_str();
+    writeln!(
+        out,
+        "ghost use Rattle.deku_symmetry.specs.Fields.{{{words}}};"
+    )
+}
+
+// Appends the kinds of enums that ghost text names.
+fn kinds(out: &mut String, module: &Module<'_>, path: Option<&str>) -> Result<(), AllocError> {
+    let mut is_first = true;
+    for record in &module.records {
+        if let (Form::Enum(_, _), Some(path)) = (&record.form, path) {
+            let name = record.name.text;
+            let kinds = snake(*out.allocator(), name)?;
+            let kinds = kinds.as_str();
+            if is_first {
+                out.push_str("ghost use Rattle.deku_pieces.specs.declared.")?;
+                out.push_str("either.Either.TheVariants as either;\n")?;
+                is_first = false;
+            }
+            let (front, rest) = path.split_once('.').unwrap_or((path, ""));
+            let dot = if rest.is_empty() { "" } else { "." };
+            write!(out, "ghost use Rattle.{front}.specs.declared{dot}{rest}")?;
+            writeln!(out, ".{name}.TheVariants as {kinds}_kinds;")?;
+        }
+    }
+    Ok(())
+}
+
+// The lines of ghost text, and those of code.
+fn parted(alloc: Global, text: &str) -> Result<(String, String), AllocError> {
+    let mut term = String::new(alloc);
+    let mut code = String::new(alloc);
+    let mut is_ghost = false;
+    for line in text.lines() {
+        let trimmed = line.trim_start();
+        is_ghost = is_ghost || trimmed.starts_with("ghost ");
+        if is_ghost {
+            term.push_str(line)?;
+            term.push('\n')?;
+        } else if !trimmed.starts_with("//") {
+            code.push_str(line)?;
+            code.push('\n')?;
+        }
+        let is_last = line.ends_with("};") && !line.starts_with("     ");
+        is_ghost = is_ghost && !is_last;
+    }
+    Ok((term, code))
+}
+
+// Appends the import of those of these names that a text has.
+fn used(
+    out: &mut String,
+    from: &str,
+    names: &[&'static str],
+    text: &str,
+) -> Result<(), AllocError> {
+    let mut found = Vec::new(*out.allocator());
+    for name in names {
+        if has_word(text, name) {
+            found.push(*name)?;
+        }
+    }
+    match found.as_slice() {
+        [] => Ok(()),
+        [name] => writeln!(out, "use {from}::{name};"),
+        names => {
+            let line = names.join(*out.allocator(), ", ")?;
+            let columns = line.len().saturating_add(from.len()).saturating_add(9);
+            if columns < 99 {
+                let line = line.as_str();
+                return writeln!(out, "use {from}::{{{line}}};");
+            }
+            writeln!(out, "use {from}::{{")?;
+            filled(out, names)?;
+            out.push_str("};\n")
+        }
+    }
+}
+
+// Appends names on as few lines as hold them.
+fn filled(out: &mut String, names: &[&str]) -> Result<(), AllocError> {
+    let mut column = 0usize;
+    for name in names {
+        let next = column.saturating_add(name.len()).saturating_add(2);
+        if column == 0 {
+            out.push_str("    ")?;
+            column = name.len().saturating_add(5);
+        } else if next >= 100 {
+            out.push_str("\n    ")?;
+            column = name.len().saturating_add(5);
+        } else {
+            out.push(' ')?;
+            column = next;
+        }
+        out.push_str(name)?;
+        out.push(',')?;
+    }
+    out.push('\n')
+}
+
+// Whether a text has a name as a whole word.
+fn has_word(text: &str, word: &str) -> bool {
+    for line in text.lines() {
+        for part in line.split(|c: char| !(c.is_ascii_alphanumeric() || c == '_')) {
+            if part == word {
+                return true;
+            }
+        }
+    }
+    false
+}

@@ -1,0 +1,174 @@
+//! Structs, as they are printed.
+
+use deku_attributes::model::{Field, Record};
+use deku_dependents::building::{Builder, field_name};
+use deku_description::syntax::Shape;
+use deku_texts::document::{Form, Text};
+use deku_texts::lying::field_kind;
+use deku_texts::part::{Owner, Part};
+use deku_texts::words::quoted;
+use std::alloc::{AllocError, Global};
+use std::fmt::Write as _;
+
+/// Appends lines of a comment.
+pub(crate) fn docs(out: &mut String, lines: &[&str], marks: &str) -> Result<(), AllocError> {
+    for line in lines {
+        writeln!(out, "{marks}{line}")?;
+    }
+    Ok(())
+}
+
+/// Appends the comment of a record, and what it derives.
+pub(crate) fn derives(
+    out: &mut String,
+    record: &Record<'_>,
+    is_copied: bool,
+) -> Result<(), AllocError> {
+    let name = record.name.text;
+    out.push('\n')?;
+    docs(out, record.docs.as_slice(), "///")?;
+    if record.docs.is_empty() {
+        writeln!(out, "/// A `{name}`.")?;
+    }
+    out.push_str(if is_copied {
+        "#[derive(Debug, Clone, Copy, PartialEq, Eq)]\n"
+    } else {
+        "#[derive(Debug, PartialEq, Eq, Drop)]\n"
+    })
+}
+
+/// Appends a struct.
+pub(crate) fn declaration(
+    out: &mut String,
+    record: &Record<'_>,
+    shape: Shape,
+    fields: &[Field<'_>],
+    is_copied: bool,
+) -> Result<(), AllocError> {
+    let alloc = *out.allocator();
+    derives(out, record, is_copied)?;
+    let name = record.name.text;
+    if shape == Shape::Tuple {
+        let mut kinds = Vec::new(alloc);
+        for field in fields {
+            let kind = field_kind(alloc, field)?;
+            kinds.push(Text::of(kind).after(alloc, "pub ")?)?;
+        }
+        let open = format!(in alloc; "pub struct {name}(")?;
+        Text::group(alloc, Form::Pattern, open.as_str(), kinds)?.print(out, 0, 1, false)?;
+        return out.push_str(";\n");
+    }
+    writeln!(out, "pub struct {name} {{")?;
+    for field in fields {
+        docs(out, field.docs.as_slice(), "    ///")?;
+        let kind = field_kind(alloc, field)?;
+        let name = field_name(alloc, field, 0)?;
+        let (name, kind) = (name.as_str(), kind.as_str());
+        writeln!(out, "    pub {name}: {kind},")?;
+    }
+    out.push_str("}\n")
+}
+
+/// Appends how a struct is read and written.
+pub(crate) fn implementation(
+    out: &mut String,
+    record: &Record<'_>,
+    shape: Shape,
+    fields: &[Field<'_>],
+    builder: &mut Builder<'_, '_>,
+) -> Result<(), AllocError> {
+    let alloc = *out.allocator();
+    let name = record.name.text;
+    let whole = builder.whole()?;
+    let is_copied = builder.owner == Owner::Copied;
+    let form = if is_copied { "CopyParts" } else { "Codec" };
+    writeln!(out, "\nimpl {form} for {name} {{")?;
+    out.push_str("    type Parts = ")?;
+    whole.kind.print(out, 4, 1, false)?;
+    out.push_str(";\n\n    ghost parts_of = { λ r. ")?;
+    whole.term.print(out, 4, 3, false)?;
+    out.push_str(" };\n\n    ghost record_of = { λ p. ")?;
+    record_of(alloc, shape, fields, &whole)?.print(out, 4, 3, false)?;
+    out.push_str(" };\n\n    fn from_parts(")?;
+    taken(out, &whole.pattern)?;
+    made(alloc, record, shape, fields)?.print(out, 8, 0, false)?;
+    out.push_str("\n    }\n\n")?;
+    if is_copied {
+        out.push_str("    fn parts(&self) -> Self::Parts {\n        ")?;
+        whole.value.print(out, 8, 0, false)?;
+    } else {
+        out.push_str("    fn write<W: Sink>(&self, writer: &mut Writer<W>) -> ")?;
+        out.push_str("Result<(), DekuError> {\n        let parts = ")?;
+        whole.value.print(out, 8, 1, false)?;
+        out.push_str(";\n        parts.to_writer(writer, ())")?;
+    }
+    out.push_str("\n    }\n\n    ghost there = { λ r. refl };\n}\n")
+}
+
+// Appends the parameter of the function that takes parts apart, up to its value.
+fn taken(out: &mut String, pattern: &Text) -> Result<(), AllocError> {
+    if pattern.is_line(out.as_str(), 25) {
+        pattern.line(out)?;
+        return out.push_str(": Self::Parts) -> Self {\n        ");
+    }
+    out.push_str("parts: Self::Parts) -> Self {\n        let ")?;
+    let columns = pattern.columns();
+    if columns > 79 && pattern.is_line(out.as_str(), 2) {
+        pattern.print(out, 8, 2, false)?;
+        return out.push_str(" =\n            parts;\n        ");
+    }
+    pattern.print(out, 8, 9, false)?;
+    out.push_str(" = parts;\n        ")
+}
+
+// The record that its parts make, in ghost text.
+fn record_of(
+    alloc: Global,
+    shape: Shape,
+    fields: &[Field<'_>],
+    whole: &Part<'_>,
+) -> Result<Text, AllocError> {
+    let mut items = Vec::new(alloc);
+    for (i, field) in fields.iter().enumerate() {
+        let name = field_name(alloc, field, i)?;
+        let path = path_of(whole, name.as_str());
+        let name = if shape == Shape::Tuple {
+            format!(in alloc; "{i}")?
+        } else {
+            quoted(alloc, name.as_str())?
+        };
+        let name = name.as_str();
+        items.push(Text::of(format!(in alloc; "{name} = p{path}")?))?;
+    }
+    Text::group(alloc, Form::GhostBrace, "record {", items)
+}
+
+/// What leads from the parts to a field.
+pub(crate) fn path_of<'p>(whole: &'p Part<'_>, name: &str) -> &'p str {
+    for place in &whole.places {
+        if place.name.as_str() == name {
+            return place.path.as_str();
+        }
+    }
+    ""
+}
+
+// The record made of its fields.
+fn made(
+    alloc: Global,
+    record: &Record<'_>,
+    shape: Shape,
+    fields: &[Field<'_>],
+) -> Result<Text, AllocError> {
+    let mut items = Vec::new(alloc);
+    for (i, field) in fields.iter().enumerate() {
+        items.push(Text::of(field_name(alloc, field, i)?))?;
+    }
+    let name = record.name.text;
+    if shape == Shape::Tuple {
+        let open = format!(in alloc; "{name}(")?;
+        return Text::group(alloc, Form::Round, open.as_str(), items);
+    }
+    let open = format!(in alloc; "{name} {{")?;
+    Text::group(alloc, Form::Brace, open.as_str(), items)
+}

@@ -1,0 +1,117 @@
+//! Records as bytes and back.
+
+use crate::gre::Gre;
+use crate::ntp::Ntp;
+use crate::shape::Shape;
+use crate::tcp::Tcp;
+use deku::prelude::{DekuError, NeedSize};
+use deku_symmetry::{Be, Coded, Symmetric};
+use deku_testing_values::expecting::same;
+use deku_testing_values::records::{expect_packed, expect_refusal};
+use std::alloc::Global;
+use std::test::Fail;
+
+#[test]
+fn signed_numbers_and_bits(rt: HostRuntime) -> Result<(), Fail> {
+    let value = Ntp {
+        leap: 0,
+        version: 4,
+        mode: 3,
+        stratum: 2,
+        poll: 6,
+        precision: -20,
+        root_delay: 0x0100,
+        root_dispersion: 0x0203,
+        reference_id: [0x4C, 0x4F, 0x43, 0x4C],
+        reference: 1,
+        origin: 0x0102_0304_0506_0708,
+        receive: 0,
+        transmit: 0xFF,
+    };
+    let bytes = [
+        0x23, 0x02, 0x06, 0xEC, 0x00, 0x00, 0x01, 0x00, 0x00, 0x00, 0x02, 0x03, 0x4C, 0x4F, 0x43,
+        0x4C, 0x00, 0x00, 0x00, 0x00, 0x00, 0x00, 0x00, 0x01, 0x01, 0x02, 0x03, 0x04, 0x05, 0x06,
+        0x07, 0x08, 0x00, 0x00, 0x00, 0x00, 0x00, 0x00, 0x00, 0x00, 0x00, 0x00, 0x00, 0x00, 0x00,
+        0x00, 0x00, 0xFF,
+    ];
+    expect_packed(rt.alloc(), (), &Coded(value), 384, &bytes)
+}
+
+fn tcp(alloc: Global, words: u8, options: &[u8]) -> Result<Coded<Tcp>, Fail> {
+    Ok(Coded(Tcp {
+        source: 443,
+        destination: 0xC93A,
+        sequence: 0x0102_0304,
+        acknowledgment: 0x0506_0708,
+        words,
+        reserved: 0,
+        cwr: false,
+        ece: false,
+        urg: false,
+        ack: true,
+        psh: false,
+        rst: false,
+        syn: true,
+        fin: false,
+        window: 0x7210,
+        checksum: 0xABCD,
+        urgent: 0,
+        options: options.to_vec(alloc)?,
+    }))
+}
+
+#[test]
+fn items_that_a_field_counts(rt: HostRuntime) -> Result<(), Fail> {
+    let alloc = rt.alloc();
+    let options = [0x02, 0x04, 0x05, 0xB4];
+    let bytes = [
+        0x01, 0xBB, 0xC9, 0x3A, 0x01, 0x02, 0x03, 0x04, 0x05, 0x06, 0x07, 0x08, 0x60, 0x12, 0x72,
+        0x10, 0xAB, 0xCD, 0x00, 0x00, 0x02, 0x04, 0x05, 0xB4,
+    ];
+    expect_packed(alloc, (), &tcp(alloc, 6, &options)?, 192, &bytes)?;
+    let refusal = DekuError::Assertion("count out of step with items");
+    same(&4, &tcp(alloc, 4, &options)?.pack(alloc, ()), &Err(refusal))
+}
+
+#[test]
+fn fields_that_flags_bring(rt: HostRuntime) -> Result<(), Fail> {
+    let alloc = rt.alloc();
+    let value = Coded(Gre {
+        has_checksum: true,
+        has_key: false,
+        has_sequence: true,
+        version: 0,
+        protocol: 0x0800,
+        checksum: Some(Be(0x1234_0000)),
+        key: None,
+        sequence: Some(Be(7)),
+    });
+    let bytes = [
+        0x90, 0x00, 0x08, 0x00, 0x12, 0x34, 0x00, 0x00, 0x00, 0x00, 0x00, 0x07,
+    ];
+    expect_packed(alloc, (), &value, 96, &bytes)?;
+    let refusal = DekuError::Assertion("padding");
+    expect_refusal::<Coded<Gre>>(alloc, &[0xC0, 0x00, 0x08, 0x00], refusal, 2)
+}
+
+#[test]
+fn kinds_under_an_id(rt: HostRuntime) -> Result<(), Fail> {
+    let alloc = rt.alloc();
+    expect_packed(alloc, (), &Coded(Shape::Circle(0x123)), 16, &[0x11, 0x23])?;
+    let rectangle = Coded(Shape::Rectangle {
+        flags: 5,
+        width: 0x0102,
+        height: 0x0304,
+    });
+    expect_packed(alloc, (), &rectangle, 40, &[0x25, 0x01, 0x02, 0x03, 0x04])?;
+    expect_packed(alloc, (), &Coded(Shape::Empty(7)), 8, &[0x37])?;
+    expect_packed(alloc, (), &Coded(Shape::Unknown(9, 3)), 8, &[0x93])?;
+    let refusal = DekuError::Assertion("kind out of step with its id");
+    same(
+        &1,
+        &Coded(Shape::Unknown(1, 3)).pack(alloc, ()),
+        &Err(refusal),
+    )?;
+    let ended = DekuError::Incomplete(NeedSize::new(12));
+    expect_refusal::<Coded<Shape>>(alloc, &[0x11], ended, 4)
+}

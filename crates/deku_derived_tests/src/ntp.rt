@@ -1,0 +1,127 @@
+//! The header of an NTP packet, RFC 5905.
+//!
+//! Printed by `derive` from `ntp.rs`.
+
+ghost use Rattle.std.specs.Prelude.{refl};
+ghost use Rattle.deku_symmetry.specs.Fields.{be, msb};
+
+use deku_symmetry::{Be, CopyParts, Msb};
+
+/// A `Ntp`.
+#[derive(Debug, Clone, Copy, PartialEq, Eq)]
+pub struct Ntp {
+    pub leap: u8,
+    pub version: u8,
+    pub mode: u8,
+    pub stratum: u8,
+    pub poll: i8,
+    pub precision: i8,
+    pub root_delay: u32,
+    pub root_dispersion: u32,
+    pub reference_id: [u8; 4],
+    pub reference: u64,
+    pub origin: u64,
+    pub receive: u64,
+    pub transmit: u64,
+}
+
+impl CopyParts for Ntp {
+    type Parts = (
+        (
+            Msb<u8, 2>,
+            Msb<u8, 3>,
+            Msb<u8, 3>,
+            u8,
+            i8,
+            i8,
+            Be<u32>,
+            Be<u32>,
+        ),
+        ([u8; 4], Be<u64>, Be<u64>, Be<u64>, Be<u64>),
+    );
+
+    ghost parts_of = { λ r. (
+      (
+        msb r.leap,
+        msb r.version,
+        msb r.mode,
+        r.stratum,
+        r.poll,
+        r.precision,
+        be r.root_delay,
+        be r.root_dispersion,
+      ),
+      (r.reference_id, be r.reference, be r.origin, be r.receive, be r.transmit),
+    ) };
+
+    ghost record_of = { λ p. record {
+      leap = p.0.0.0;
+      version = p.0.1.0;
+      mode = p.0.2.0;
+      stratum = p.0.3;
+      poll = p.0.4;
+      precision = p.0.5;
+      root_delay = p.0.6.0;
+      root_dispersion = p.0.7.0;
+      reference_id = p.1.0;
+      reference = p.1.1.0;
+      origin = p.1.2.0;
+      receive = p.1.3.0;
+      transmit = p.1.4.0;
+    } };
+
+    fn from_parts(parts: Self::Parts) -> Self {
+        let (
+            (
+                Msb(leap),
+                Msb(version),
+                Msb(mode),
+                stratum,
+                poll,
+                precision,
+                Be(root_delay),
+                Be(root_dispersion),
+            ),
+            (reference_id, Be(reference), Be(origin), Be(receive), Be(transmit)),
+        ) = parts;
+        Ntp {
+            leap,
+            version,
+            mode,
+            stratum,
+            poll,
+            precision,
+            root_delay,
+            root_dispersion,
+            reference_id,
+            reference,
+            origin,
+            receive,
+            transmit,
+        }
+    }
+
+    fn parts(&self) -> Self::Parts {
+        (
+            (
+                Msb(self.leap),
+                Msb(self.version),
+                Msb(self.mode),
+                self.stratum,
+                self.poll,
+                self.precision,
+                Be(self.root_delay),
+                Be(self.root_dispersion),
+            ),
+            (
+                self.reference_id,
+                Be(self.reference),
+                Be(self.origin),
+                Be(self.receive),
+                Be(self.transmit),
+            ),
+        )
+    }
+
+    ghost there = { λ r. refl };
+}

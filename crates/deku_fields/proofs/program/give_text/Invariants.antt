@@ -1,8 +1,0 @@
-use Rattle.deku_fields.specs.Runs.{IsGivenBut}
-use Rattle.deku_fields.proofs.program.give_text.Given as goal
-
-abbrev pub invariant-loop-rest : goal.invariant-loop-rest
-invariant-loop-rest g l = IsGivenBut l.rest (g.W.Write.contents l.initial.output) (g.W.Write.contents l.output) l.text
-
-abbrev pub decreases-loop-rest : goal.decreases-loop-rest
-decreases-loop-rest g l = l.tries

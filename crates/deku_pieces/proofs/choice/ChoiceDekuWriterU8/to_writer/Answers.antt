@@ -1,8 +1,0 @@
-use Rattle.std.proofs.Common.{rules}
-use Rattle.deku_pieces.proofs.choice.ChoiceDekuWriterU8.to_writer.Goals as goal
-
-pub returns-in-This : goal.returns-in-This
-returns-in-This g c = search rules
-
-pub returns-in-Other : goal.returns-in-Other
-returns-in-Other g c = search rules

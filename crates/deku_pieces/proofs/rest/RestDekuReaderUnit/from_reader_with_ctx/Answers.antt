@@ -1,0 +1,8 @@
+use Rattle.deku.proofs.Joining.{passed_on, mapped_ok, mapped_err}
+use Rattle.deku_pieces.proofs.rest.RestDekuReaderUnit.from_reader_with_ctx.Goals as goal
+
+pub returns-in_err-items-clause-reads : goal.returns-in_err-items-clause-reads
+returns-in_err-items-clause-reads g c = passed_on _ c.from_residual.ensures.1 (mapped_err (λ xs. record { items = xs }) (rw c.end.ensures at c.in_err-items.ensures.reads))
+
+pub returns-clause-reads : goal.returns-clause-reads
+returns-clause-reads g c = mapped_ok (λ xs. record { items = xs }) (rw c.end.ensures at c.in_ok-items.ensures.reads)

@@ -1,0 +1,17 @@
+use Rattle.deku.proofs.Early.{promptly_on}
+use Rattle.deku.proofs.Joining.{passed_on, mapped_ok, mapped_err, first_refused, then_on}
+use Rattle.deku_pieces.proofs.under_head.UnderHeadDekuReaderUnit.from_reader_with_ctx.Goals as goal
+
+pub returns-in_err-head-clause-reads : goal.returns-in_err-head-clause-reads
+returns-in_err-head-clause-reads g c = passed_on _ c.from_residual.ensures.1 (first_refused c.in_err-head.ensures.reads)
+
+pub returns-in_err-value-clause-reads : goal.returns-in_err-value-clause-reads
+returns-in_err-value-clause-reads g c =
+    passed_on _ c.from_residual-in_err-value.ensures.1
+    (then_on c.in_ok-head.ensures.reads (mapped_err (λ x. record { head = c.in_ok-head.head; value = x; context = record {} }) (rw c.context.ensures at c.in_err-value.ensures.reads)))
+
+pub returns-clause-reads : goal.returns-clause-reads
+returns-clause-reads g c = rw c.new.ensures (then_on c.in_ok-head.ensures.reads (mapped_ok (λ x. record { head = c.in_ok-head.head; value = x; context = record {} }) (rw c.context.ensures at c.in_ok-value.ensures.reads)))
+
+pub returns-clause-early : goal.returns-clause-early
+returns-clause-early g c = λ p. promptly_on (c.in_ok-head.ensures.early p.0) (c.in_ok-value.ensures.early (p.1 _))

@@ -1,0 +1,8 @@
+use Rattle.deku.proofs.Joining.{passed_on, first_refused, then_on}
+use Rattle.deku_pieces.proofs.under_head.UnderHeadDekuWriterUnit.to_writer.Goals as goal
+
+pub returns-in_err-to_writer : goal.returns-in_err-to_writer
+returns-in_err-to_writer g c = passed_on _ c.from_residual.ensures.1 (first_refused c.in_err-to_writer.ensures)
+
+pub returns : goal.returns
+returns g c = then_on c.in_ok-to_writer.ensures (rw c.context.ensures at c.to_writer-2.ensures)

@@ -1,0 +1,4 @@
+pub mod Texts
+pub mod Hexadecimal
+pub mod Outputs
+pub mod Told

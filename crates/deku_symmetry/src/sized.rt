@@ -1,0 +1,83 @@
+//! The laws of parts that decide how much follows them, and how it is laid out.
+
+ghost use Rattle.std.specs.Prelude.{◌≡◌, refl};
+ghost use Rattle.deku_pieces.specs.Pieces.{InTurn, OfEach, SameEach};
+ghost use Rattle.deku_pieces.specs.Sizes.{OfSizes};
+ghost use Rattle.deku_pieces.proofs.Sizes.{sizes_symmetric};
+ghost use Rattle.deku_pieces.proofs.Filling.{filled_by_symmetric};
+ghost use Rattle.deku_pieces.proofs.Following.{under_symmetric};
+
+use crate::last::Wide;
+use crate::traits::Symmetric;
+use deku_pieces::filled_by::FilledBy;
+use deku_pieces::sized_by::{SizeOf, SizedBy};
+use deku_pieces::under_head::{ContextOf, UnderHead};
+
+/// A size that heads which are the same give alike.
+///
+/// ```text
+/// impl SizeOfLaw<Be<u16>> for Length {
+///     ghost alike = { λ v w e. rw e refl };
+/// }
+/// ```
+pub trait SizeOfLaw<P: Symmetric<()>>: SizeOf<P> {
+    // Heads that are the same give the same size.
+    ghost alike: { (v w : P) → P.Symmetric.same v w
+        → Self.SizeOf.size_of v ≡ Self.SizeOf.size_of w };
+}
+
+/// The pieces of the head, and then those of its content. There are no pieces if the content has
+/// not as many bits as the head says.
+impl<P: Symmetric<()>, C: SizeOfLaw<P>, T: Symmetric<()>> Symmetric<()> for SizedBy<P, C, T> {
+    ghost pieces = { λ v _. OfSizes C.SizeOf.size_of (λ h. P.Symmetric.pieces h tt)
+        (λ x. T.pieces x tt) v.head v.content };
+
+    ghost same = { λ v w. P.Symmetric.same v.head w.head × T.same v.content w.content };
+
+    ghost symmetric = { λ _. sizes_symmetric
+        (λ h x. record { head = h; content = x; size = record {} })
+        (λ v. v.head) (λ v. v.content) (λ h x. refl) (λ h x. refl) C.SizeOf.size_of
+        C.SizeOfLaw.alike (P.Symmetric.symmetric tt) (T.symmetric tt) };
+}
+
+/// The pieces of the head, and then those of its items. There are no pieces if the items have not
+/// as many bits as the head says.
+impl<P: Symmetric<()>, C: SizeOfLaw<P>, T: Wide> Symmetric<()> for FilledBy<P, C, T> {
+    ghost pieces = { λ v _. OfSizes C.SizeOf.size_of (λ h. P.pieces h tt)
+        (λ xs. OfEach (λ x. T.Symmetric.pieces x tt) xs.items) v.head v.items };
+
+    ghost same = { λ v w. P.same v.head w.head
+        × SameEach T.Symmetric.same v.items.items w.items.items };
+
+    ghost symmetric = { λ _. filled_by_symmetric
+        (λ h xs. record { head = h; items = xs; size = record {} })
+        (λ v. v.head) (λ v. v.items) (λ h xs. refl) (λ h xs. refl) C.SizeOf.size_of
+        C.SizeOfLaw.alike T.Wide.wide (P.symmetric tt) (T.Symmetric.symmetric tt) };
+}
+
+/// A context that heads which are the same give alike.
+///
+/// ```text
+/// impl ContextOfLaw<u8, (Endian, BitSize)> for Width {
+///     ghost alike = { λ v w e. rw e refl };
+/// }
+/// ```
+pub trait ContextOfLaw<P: Symmetric<()>, I>: ContextOf<P, I> {
+    // Heads that are the same give the same context.
+    ghost alike: { (v w : P) → P.Symmetric.same v w
+        → Self.ContextOf.context_of v ≡ Self.ContextOf.context_of w };
+}
+
+/// The pieces of the head, and then those of the value under the context that the head says.
+impl<P: Symmetric<()>, C: ContextOfLaw<P, I>, T: Symmetric<I>, I: Drop> Symmetric<()>
+    for UnderHead<P, C, T, I> {
+    ghost pieces = { λ v _. InTurn (P.Symmetric.pieces v.head tt)
+        (T.pieces v.value (C.ContextOf.context_of v.head)) };
+
+    ghost same = { λ v w. P.Symmetric.same v.head w.head × T.same v.value w.value };
+
+    ghost symmetric = { λ _. under_symmetric
+        (λ h x. record { head = h; value = x; context = record {} })
+        (λ v. v.head) (λ v. v.value) (λ h x. refl) (λ h x. refl) C.ContextOf.context_of
+        C.ContextOfLaw.alike (P.Symmetric.symmetric tt) T.symmetric };
+}

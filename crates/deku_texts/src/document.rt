@@ -1,0 +1,291 @@
+//! Texts on one line where there is room, or with a line for each item, as `rt fmt` lays them out.
+
+use std::alloc::{AllocError, Global};
+
+// The columns of a line.
+const WIDTH: usize = 100;
+
+/// A word, which stays on one line, or items in brackets.
+#[derive(Drop)]
+pub struct Text {
+    form: Form,
+    // The word, or what is in front of the items, with the bracket.
+    open: String,
+    items: Vec<Text>,
+}
+
+/// What the brackets of a text are.
+#[derive(Clone, Copy, PartialEq, Eq)]
+pub enum Form {
+    /// None: it is a word.
+    Word,
+    /// `name(a, b)`, or a tuple.
+    Round,
+    /// The same in a pattern.
+    Pattern,
+    /// `Name<A, B>`
+    Angle,
+    /// `Name { a, b }`
+    Brace,
+    /// `Name { a: A, b: B }` of a kind.
+    Variant,
+    /// `(a, b)` in ghost text.
+    GhostRound,
+    /// `record { a; b }`
+    GhostBrace,
+}
+
+impl Form {
+    fn close(self) -> &'static str {
+        match self {
+            Form::Word => "",
+            Form::Round | Form::Pattern | Form::GhostRound => ")",
+            Form::Angle => ">",
+            Form::Brace | Form::Variant | Form::GhostBrace => "}",
+        }
+    }
+
+    fn separator(self) -> &'static str {
+        match self {
+            Form::GhostBrace => ";",
+            _ => ",",
+        }
+    }
+
+    fn is_spaced(self) -> bool {
+        self == Form::Brace || self == Form::Variant || self == Form::GhostBrace
+    }
+
+    // The columns of the items, if they are on one line.
+    fn room(self) -> usize {
+        match self {
+            Form::Round => 60,
+            Form::Brace => 18,
+            Form::Variant => 35,
+            _ => WIDTH,
+        }
+    }
+
+    // How much further in the items begin.
+    fn step(self) -> usize {
+        match self {
+            Form::GhostRound | Form::GhostBrace => 2,
+            _ => 4,
+        }
+    }
+}
+
+impl Text {
+    /// A word.
+    pub fn of(text: String) -> Text {
+        let items = Vec::new(*text.allocator());
+        Text {
+            form: Form::Word,
+            open: text,
+            items,
+        }
+    }
+
+    /// A word.
+    pub fn word(alloc: Global, text: &str) -> Result<Text, AllocError> {
+        Ok(Text::of(String::from_str(alloc, text)?))
+    }
+
+    /// Items after what is in front of them, such as `Msb(`.
+    pub fn group(
+        alloc: Global,
+        form: Form,
+        open: &str,
+        items: Vec<Text>,
+    ) -> Result<Text, AllocError> {
+        let open = String::from_str(alloc, open)?;
+        Ok(Text { form, open, items })
+    }
+
+    /// One item after what is in front of it.
+    pub fn one(alloc: Global, form: Form, open: &str, item: Text) -> Result<Text, AllocError> {
+        let mut items = Vec::new(alloc);
+        items.push(item)?;
+        Text::group(alloc, form, open, items)
+    }
+
+    /// It with a text in front.
+    pub fn after(self, alloc: Global, front: &str) -> Result<Text, AllocError> {
+        let Text { form, open, items } = self;
+        let open = joined(alloc, front, open.as_str())?;
+        Ok(Text { form, open, items })
+    }
+
+    /// The same text.
+    pub fn copy(&self, alloc: Global) -> Result<Text, AllocError> {
+        let mut items = Vec::new(alloc);
+        for item in &self.items {
+            items.push(item.copy(alloc)?)?;
+        }
+        Text::group(alloc, self.form, self.open.as_str(), items)
+    }
+
+    /// Its word, if it is one.
+    pub fn as_word(&self) -> Option<&str> {
+        if self.form == Form::Word {
+            Some(self.open.as_str())
+        } else {
+            None
+        }
+    }
+
+    /// How many columns it has on one line.
+    pub fn columns(&self) -> usize {
+        let mut columns = self.around();
+        for item in &self.items {
+            columns = columns.saturating_add(item.columns()).saturating_add(2);
+        }
+        if self.items.is_empty() {
+            columns
+        } else {
+            columns.saturating_sub(2)
+        }
+    }
+
+    /// Appends it on one line.
+    pub fn line(&self, out: &mut String) -> Result<(), AllocError> {
+        out.push_str(self.open.as_str())?;
+        for (i, item) in self.items.iter().enumerate() {
+            if i > 0 {
+                out.push_str(self.form.separator())?;
+            }
+            if i > 0 || self.form.is_spaced() {
+                out.push(' ')?;
+            }
+            item.line(out)?;
+        }
+        out.push_str(self.end())
+    }
+
+    /// Appends it on one line if it has room there, where as many columns follow it; otherwise with
+    /// a line for each item, as far in as is said.
+    pub fn print(
+        &self,
+        out: &mut String,
+        indent: usize,
+        after: usize,
+        is_split: bool,
+    ) -> Result<(), AllocError> {
+        if self.items.is_empty() || !is_split && self.is_line(out.as_str(), after) {
+            return self.line(out);
+        }
+        out.push_str(self.open.as_str())?;
+        let is_call = self.is_call();
+        let inside = indent.saturating_add(self.form.step());
+        for item in &self.items {
+            if is_call {
+                item.print(out, indent, after.saturating_add(1), true)?;
+            } else {
+                start(out, inside)?;
+                item.print(out, inside, 1, false)?;
+                out.push_str(if item.is_rest() {
+                    ""
+                } else {
+                    self.form.separator()
+                })?;
+            }
+        }
+        if !is_call {
+            start(out, indent)?;
+        }
+        out.push_str(self.form.close())
+    }
+
+    /// Whether it has room on the line that ends a text, with as many columns after it.
+    pub fn is_line(&self, out: &str, after: usize) -> bool {
+        let end = column(out)
+            .saturating_add(self.columns())
+            .saturating_add(after);
+        end <= WIDTH && self.is_short()
+    }
+
+    // Whether it and all that is in it may be on one line.
+    fn is_short(&self) -> bool {
+        let inner = self.columns().saturating_sub(self.around());
+        if !self.is_call() && self.form != Form::Word && inner > self.form.room() {
+            return false;
+        }
+        for item in &self.items {
+            if !item.is_short() {
+                return false;
+            }
+        }
+        true
+    }
+
+    /// Whether it is a value in braces.
+    pub fn is_brace(&self) -> bool {
+        self.form == Form::Brace
+    }
+
+    /// Whether what is in front of its items has room on the line that ends a text.
+    pub fn has_room(&self, out: &str) -> bool {
+        column(out).saturating_add(self.open.as_str().chars().count()) < WIDTH
+    }
+
+    // Whether it is the mark for all other fields.
+    fn is_rest(&self) -> bool {
+        self.open.as_str() == ".."
+    }
+
+    // Whether it is a call whose only item is a group, which then has no line of its own.
+    fn is_call(&self) -> bool {
+        let is_named = self.open.len() > 1 && matches!(self.form, Form::Round | Form::GhostRound);
+        match self.items.as_slice() {
+            [item] => is_named && item.form != Form::Angle && item.form != Form::Word,
+            _ => false,
+        }
+    }
+
+    // What follows the items on one line.
+    fn end(&self) -> &'static str {
+        let is_tuple = self.open.as_str() == "(" && self.form != Form::GhostRound;
+        if self.form.is_spaced() {
+            return if self.items.is_empty() { "}" } else { " }" };
+        }
+        if is_tuple && self.items.len() == 1 {
+            return ",)";
+        }
+        self.form.close()
+    }
+
+    // The columns of its brackets and of what is in front of them, on one line.
+    fn around(&self) -> usize {
+        let space = if self.form.is_spaced() && !self.items.is_empty() {
+            1
+        } else {
+            0
+        };
+        let brackets = self.end().len().saturating_add(space);
+        self.open.as_str().chars().count().saturating_add(brackets)
+    }
+}
+
+/// Two texts, one after the other.
+pub fn joined(alloc: Global, front: &str, text: &str) -> Result<String, AllocError> {
+    let mut out = String::from_str(alloc, front)?;
+    out.push_str(text)?;
+    Ok(out)
+}
+
+// The column after the last character of a text.
+fn column(text: &str) -> usize {
+    match text.rsplit_once('\n') {
+        Some((_, line)) => line.chars().count(),
+        None => text.chars().count(),
+    }
+}
+
+/// Begins a line so far in.
+pub fn start(out: &mut String, indent: usize) -> Result<(), AllocError> {
+    out.push('\n')?;
+    for _ in 0..indent {
+        out.push(' ')?;
+    }
+    Ok(())
+}

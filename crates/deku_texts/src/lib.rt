@@ -1,0 +1,9 @@
+//! What modules say of the parts of records: their texts, laid out as `rt fmt` does.
+#![tactic(auto)]
+
+pub mod document;
+pub mod lying;
+pub mod part;
+pub mod records;
+pub mod refusal;
+pub mod words;

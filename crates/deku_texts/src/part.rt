@@ -1,0 +1,503 @@
+//! What is printed of parts: their types, how they are taken apart and made, and where their
+//! fields are.
+
+use crate::document::{Form, Text, joined};
+use crate::lying::{Wrapping, lying, number_kind, part_kind};
+use crate::records::Records;
+use crate::words;
+use crate::words::quoted;
+use deku_attributes::model::Field;
+use std::alloc::{AllocError, Global};
+
+/// How many items a tuple has at most. Of more there are tuples of these.
+pub const GROUP: usize = 8;
+
+/// What is printed of a part, or of several that are one.
+#[derive(Drop)]
+pub struct Part<'a> {
+    /// Its type.
+    pub kind: Text,
+    /// The type of what is written for it, where memory is lent for `'a`.
+    pub lent: Text,
+    /// Whether memory is lent.
+    pub is_lent: bool,
+    /// The pattern that takes its fields out of it.
+    pub pattern: Text,
+    /// What makes it of the fields.
+    pub value: Text,
+    /// The same in ghost text.
+    pub term: Text,
+    /// Where its fields are.
+    pub places: Vec<Place<'a>>,
+}
+
+/// Where a field is in its parts.
+#[derive(Drop)]
+pub struct Place<'a> {
+    /// The name of the field.
+    pub name: String,
+    /// The name of its type, if it is a number or a truth value.
+    pub number: Option<&'a str>,
+    /// What leads to it from the parts, as `.0.head.1.0`.
+    pub path: String,
+    /// What leads to its equation from those of parts that are the same.
+    pub same: String,
+}
+
+/// What a field is called.
+#[derive(Clone, Copy)]
+pub struct Named<'n> {
+    /// As a local.
+    pub name: &'n str,
+    /// After its record and a point.
+    pub access: &'n str,
+}
+
+/// What the fields of a part belong to.
+#[derive(Clone, Copy, PartialEq, Eq)]
+pub enum Owner {
+    /// A struct that is copied.
+    Copied,
+    /// A struct that holds memory, which is lent to the parts.
+    Lent,
+    /// A kind of an enum.
+    Kind,
+}
+
+impl<'a> Place<'a> {
+    // It after what leads to the part that it is in.
+    fn after(self, alloc: Global, path: &str, same: &str) -> Result<Place<'a>, AllocError> {
+        let inner = self.path.as_str();
+        let inner_same = self.same.as_str();
+        Ok(Place {
+            path: format!(in alloc; "{path}{inner}")?,
+            same: format!(in alloc; "{same}{inner_same}")?,
+            name: self.name,
+            number: self.number,
+        })
+    }
+}
+
+// Places after what leads to the part that they are in.
+fn within<'a>(
+    alloc: Global,
+    places: Vec<Place<'a>>,
+    path: &str,
+    same: &str,
+) -> Result<Vec<Place<'a>>, AllocError> {
+    let mut moved = Vec::new(alloc);
+    for place in places {
+        moved.push(place.after(alloc, path, same)?)?;
+    }
+    Ok(moved)
+}
+
+/// The part of one field that no other field has to do with.
+pub fn leaf<'a>(
+    alloc: Global,
+    records: &Records<'_, 'a>,
+    owner: Owner,
+    field: &Field<'a>,
+    named: Named<'_>,
+) -> Result<Part<'a>, AllocError> {
+    let around = lying(field).around;
+    let kind = part_kind(alloc, field)?;
+    let is_lent = owner == Owner::Lent && !records.is_copied(field);
+    let lent = lent_kind(alloc, field, is_lent)?;
+    let value = field_value(alloc, owner, is_lent, named)?;
+    let term = field_term(alloc, owner, named)?;
+    let place = Place {
+        name: String::from_str(alloc, named.name)?,
+        number: number_kind(field),
+        path: String::from_str(alloc, if around.is_empty() { "" } else { ".0" })?,
+        same: String::new(alloc),
+    };
+    let mut places = Vec::new(alloc);
+    places.push(place)?;
+    if around.is_empty() {
+        return Ok(Part {
+            kind: Text::of(kind),
+            lent: Text::of(lent),
+            is_lent,
+            pattern: Text::word(alloc, named.name)?,
+            value: Text::of(value),
+            term: Text::of(term),
+            places,
+        });
+    }
+    let made = wrapper(alloc, lying(field), owner, is_lent)?;
+    let (made, name) = (made.as_str(), named.name);
+    let word = words::part(around);
+    let (value, term) = (value.as_str(), term.as_str());
+    Ok(Part {
+        kind: Text::of(kind),
+        lent: Text::of(lent),
+        is_lent,
+        pattern: Text::of(format!(in alloc; "{around}({name})")?),
+        value: Text::of(format!(in alloc; "{made}({value})")?),
+        term: Text::of(format!(in alloc; "{word} {term}")?),
+        places,
+    })
+}
+
+// The value of a field, before anything is around it.
+fn field_value(
+    alloc: Global,
+    owner: Owner,
+    is_lent: bool,
+    Named { name, access }: Named<'_>,
+) -> Result<String, AllocError> {
+    match owner {
+        Owner::Kind => format!(in alloc; "*{name}"),
+        Owner::Lent if is_lent => format!(in alloc; "&self.{access}"),
+        Owner::Lent | Owner::Copied => format!(in alloc; "self.{access}"),
+    }
+}
+
+// The term of a field, before anything is around it.
+fn field_term(
+    alloc: Global,
+    owner: Owner,
+    Named { name, access }: Named<'_>,
+) -> Result<String, AllocError> {
+    match owner {
+        Owner::Kind => quoted(alloc, name),
+        Owner::Lent | Owner::Copied => format!(in alloc; "r.{access}"),
+    }
+}
+
+// What is called with the value of a field.
+fn wrapper(
+    alloc: Global,
+    Wrapping { around, bits }: Wrapping,
+    owner: Owner,
+    is_lent: bool,
+) -> Result<String, AllocError> {
+    let made = if is_lent { "CodedRef" } else { around };
+    match bits {
+        Some(bits) if owner == Owner::Lent => format!(in alloc; "{made}::<_, {bits}>"),
+        _ => String::from_str(alloc, made),
+    }
+}
+
+// The type of what is written for a field.
+fn lent_kind(alloc: Global, field: &Field<'_>, is_lent: bool) -> Result<String, AllocError> {
+    let kind = part_kind(alloc, field)?;
+    if !is_lent {
+        return Ok(kind);
+    }
+    let kind = kind.as_str();
+    match kind.strip_prefix("Coded<") {
+        Some(rest) => format!(in alloc; "CodedRef<'a, {rest}"),
+        None => format!(in alloc; "&'a {kind}"),
+    }
+}
+
+/// Parts as one: a tuple, or the part itself if it is alone.
+pub fn tuple<'a>(alloc: Global, parts: Vec<Part<'a>>) -> Result<Part<'a>, AllocError> {
+    if parts.len() <= GROUP {
+        return one_tuple(alloc, parts);
+    }
+    let mut groups = Vec::new(alloc);
+    let mut group = Vec::new(alloc);
+    for part in parts {
+        group.push(part)?;
+        if group.len() == GROUP {
+            groups.push(one_tuple(alloc, group)?)?;
+            group = Vec::new(alloc);
+        }
+    }
+    if !group.is_empty() {
+        groups.push(one_tuple(alloc, group)?)?;
+    }
+    one_tuple(alloc, groups)
+}
+
+fn one_tuple<'a>(alloc: Global, mut parts: Vec<Part<'a>>) -> Result<Part<'a>, AllocError> {
+    if parts.len() == 1 {
+        if let Some(part) = parts.pop() {
+            return Ok(part);
+        }
+    }
+    if parts.is_empty() {
+        return nothing(alloc);
+    }
+    let count = parts.len();
+    let mut kinds = Vec::new(alloc);
+    let mut lent = Vec::new(alloc);
+    let mut is_lent = false;
+    let mut patterns = Vec::new(alloc);
+    let mut values = Vec::new(alloc);
+    let mut terms = Vec::new(alloc);
+    let mut places = Vec::new(alloc);
+    for (i, part) in parts.into_iter().enumerate() {
+        kinds.push(part.kind)?;
+        lent.push(part.lent)?;
+        is_lent = is_lent || part.is_lent;
+        patterns.push(part.pattern)?;
+        values.push(part.value)?;
+        terms.push(part.term)?;
+        let path = format!(in alloc; ".{i}")?;
+        let same = equation(alloc, i, count)?;
+        for place in within(alloc, part.places, path.as_str(), same.as_str())? {
+            places.push(place)?;
+        }
+    }
+    Ok(Part {
+        kind: Text::group(alloc, Form::Round, "(", kinds)?,
+        lent: Text::group(alloc, Form::Round, "(", lent)?,
+        is_lent,
+        pattern: Text::group(alloc, Form::Pattern, "(", patterns)?,
+        value: Text::group(alloc, Form::Round, "(", values)?,
+        term: Text::group(alloc, Form::GhostRound, "(", terms)?,
+        places,
+    })
+}
+
+// No parts.
+fn nothing<'a>(alloc: Global) -> Result<Part<'a>, AllocError> {
+    Ok(Part {
+        kind: Text::word(alloc, "()")?,
+        lent: Text::word(alloc, "()")?,
+        is_lent: false,
+        pattern: Text::word(alloc, "()")?,
+        value: Text::word(alloc, "()")?,
+        term: Text::word(alloc, "tt")?,
+        places: Vec::new(alloc),
+    })
+}
+
+// What leads to the equation of one of several parts.
+fn equation(alloc: Global, place: usize, count: usize) -> Result<String, AllocError> {
+    let mut path = String::new(alloc);
+    for _ in 0..place {
+        path.push_str(".1")?;
+    }
+    if place.saturating_add(1) < count {
+        path.push_str(".0")?;
+    }
+    Ok(path)
+}
+
+/// What comes after a head.
+#[derive(Clone, Copy, PartialEq, Eq)]
+pub enum Dependent {
+    /// A list that the head counts.
+    Counted,
+    /// An item that the head shows.
+    Optional,
+}
+
+impl Dependent {
+    // What is in front of the types that its part has.
+    fn kind(self) -> &'static str {
+        match self {
+            Dependent::Counted => "CountedBy<",
+            Dependent::Optional => "Optional<",
+        }
+    }
+
+    // The same of what is lent.
+    fn lent(self) -> &'static str {
+        match self {
+            Dependent::Counted => "CountedByRef<",
+            Dependent::Optional => "OptionalRef<",
+        }
+    }
+
+    // What is in front of the fields of its pattern.
+    fn pattern(self) -> &'static str {
+        match self {
+            Dependent::Counted => "CountedBy {",
+            Dependent::Optional => "Optional {",
+        }
+    }
+
+    // What is in front of the name of its marker, where it is lent.
+    fn value(self) -> &'static str {
+        match self {
+            Dependent::Counted => "CountedByRef::<_, ",
+            Dependent::Optional => "OptionalRef::<_, ",
+        }
+    }
+
+    // The field for what comes after the head.
+    fn item(self) -> &'static str {
+        match self {
+            Dependent::Counted => "items",
+            Dependent::Optional => "item",
+        }
+    }
+
+    // The field for what says of the head whether it comes, as a value and in ghost text.
+    fn marker(self) -> (&'static str, &'static str) {
+        match self {
+            Dependent::Counted => ("count: PhantomData", "count = record {}"),
+            Dependent::Optional => ("condition: PhantomData", "condition = record {}"),
+        }
+    }
+}
+
+/// A head, and what comes after it as a marker of this name says: a field of these items.
+pub fn following<'a>(
+    alloc: Global,
+    head: Part<'a>,
+    form: Dependent,
+    called: Named<'_>,
+    (marker, item): (&str, &str),
+) -> Result<Part<'a>, AllocError> {
+    let mut places = within(alloc, head.places, ".head", ".0")?;
+    places.push(Place {
+        name: String::from_str(alloc, called.name)?,
+        number: None,
+        path: joined(alloc, ".", form.item())?,
+        same: String::from_str(alloc, ".1")?,
+    })?;
+    Ok(Part {
+        kind: kind_of(alloc, head.kind, form, marker, item)?,
+        lent: lent_of(alloc, head.lent, form, marker, item)?,
+        is_lent: true,
+        pattern: pattern_of(alloc, head.pattern, form, called.name)?,
+        value: value_of(alloc, head.value, form, called.access, marker)?,
+        term: term_of(alloc, head.term, form, called.access)?,
+        places,
+    })
+}
+
+// The type of a head and what comes after it.
+fn kind_of(
+    alloc: Global,
+    head: Text,
+    form: Dependent,
+    marker: &str,
+    item: &str,
+) -> Result<Text, AllocError> {
+    let mut items = Vec::new(alloc);
+    items.push(head)?;
+    items.push(Text::word(alloc, marker)?)?;
+    items.push(Text::word(alloc, item)?)?;
+    Text::group(alloc, Form::Angle, form.kind(), items)
+}
+
+// The same where memory is lent.
+fn lent_of(
+    alloc: Global,
+    head: Text,
+    form: Dependent,
+    marker: &str,
+    item: &str,
+) -> Result<Text, AllocError> {
+    let mut items = Vec::new(alloc);
+    items.push(Text::word(alloc, "'a")?)?;
+    items.push(head)?;
+    items.push(Text::word(alloc, marker)?)?;
+    items.push(Text::word(alloc, item)?)?;
+    Text::group(alloc, Form::Angle, form.lent(), items)
+}
+
+// The pattern of a head and what comes after it.
+fn pattern_of(alloc: Global, head: Text, form: Dependent, name: &str) -> Result<Text, AllocError> {
+    let mut items = Vec::new(alloc);
+    items.push(head.after(alloc, "head: ")?)?;
+    if form.item() == name {
+        items.push(Text::word(alloc, name)?)?;
+    } else {
+        let bound = Text::word(alloc, name)?.after(alloc, ": ")?;
+        items.push(bound.after(alloc, form.item())?)?;
+    }
+    items.push(Text::word(alloc, "..")?)?;
+    Text::group(alloc, Form::Brace, form.pattern(), items)
+}
+
+// A head and what comes after it, where memory is lent.
+fn value_of(
+    alloc: Global,
+    head: Text,
+    form: Dependent,
+    access: &str,
+    marker: &str,
+) -> Result<Text, AllocError> {
+    let mut items = Vec::new(alloc);
+    items.push(head.after(alloc, "head: ")?)?;
+    let held = Text::word(alloc, access)?.after(alloc, ": &self.")?;
+    items.push(held.after(alloc, form.item())?)?;
+    items.push(Text::word(alloc, form.marker().0)?)?;
+    let open = joined(alloc, marker, ", _> {")?;
+    Text::group(alloc, Form::Brace, open.as_str(), items)?.after(alloc, form.value())
+}
+
+// The same in ghost text.
+fn term_of(alloc: Global, head: Text, form: Dependent, access: &str) -> Result<Text, AllocError> {
+    let mut items = Vec::new(alloc);
+    items.push(head.after(alloc, "head = ")?)?;
+    let held = Text::word(alloc, access)?.after(alloc, " = r.")?;
+    items.push(held.after(alloc, form.item())?)?;
+    items.push(Text::word(alloc, form.marker().1)?)?;
+    Text::group(alloc, Form::GhostBrace, "record {", items)
+}
+
+/// A part that passes the check of this name.
+pub fn asserted<'a>(
+    alloc: Global,
+    owner: Owner,
+    part: Part<'a>,
+    marker: &str,
+) -> Result<Part<'a>, AllocError> {
+    let mut kinds = Vec::new(alloc);
+    kinds.push(part.kind)?;
+    kinds.push(Text::word(alloc, marker)?)?;
+    let mut lents = Vec::new(alloc);
+    lents.push(part.lent)?;
+    lents.push(Text::word(alloc, marker)?)?;
+    let mut patterns = Vec::new(alloc);
+    patterns.push(part.pattern.after(alloc, "part: ")?)?;
+    patterns.push(Text::word(alloc, "..")?)?;
+    let mut terms = Vec::new(alloc);
+    terms.push(part.term.after(alloc, "part = ")?)?;
+    terms.push(Text::word(alloc, "check = record {}")?)?;
+    let value = if owner == Owner::Lent {
+        let mut values = Vec::new(alloc);
+        values.push(part.value.after(alloc, "part: ")?)?;
+        values.push(Text::word(alloc, "check: PhantomData")?)?;
+        let open = format!(in alloc; "Assert::<_, {marker}> {{")?;
+        Text::group(alloc, Form::Brace, open.as_str(), values)?
+    } else {
+        Text::one(alloc, Form::Round, "Assert::new(", part.value)?
+    };
+    Ok(Part {
+        kind: Text::group(alloc, Form::Angle, "Assert<", kinds)?,
+        lent: Text::group(alloc, Form::Angle, "Assert<", lents)?,
+        is_lent: part.is_lent,
+        pattern: Text::group(alloc, Form::Brace, "Assert {", patterns)?,
+        value,
+        term: Text::group(alloc, Form::GhostBrace, "record {", terms)?,
+        places: within(alloc, part.places, ".part", "")?,
+    })
+}
+
+/// A part of this type that always has the value of the constant of this name.
+pub fn constant<'a>(
+    alloc: Global,
+    owner: Owner,
+    kind: &str,
+    marker: &str,
+) -> Result<Part<'a>, AllocError> {
+    let value = if owner == Owner::Lent {
+        let open = format!(in alloc; "Magic::<{kind}, {marker}> {{")?;
+        let mut values = Vec::new(alloc);
+        values.push(Text::word(alloc, "part: PhantomData")?)?;
+        values.push(Text::word(alloc, "constant: PhantomData")?)?;
+        Text::group(alloc, Form::Brace, open.as_str(), values)?
+    } else {
+        Text::word(alloc, "Magic::new()")?
+    };
+    Ok(Part {
+        kind: Text::of(format!(in alloc; "Magic<{kind}, {marker}>")?),
+        lent: Text::of(format!(in alloc; "Magic<{kind}, {marker}>")?),
+        is_lent: false,
+        pattern: Text::word(alloc, "_")?,
+        value,
+        term: Text::word(alloc, "record { part = record {}; constant = record {} }")?,
+        places: Vec::new(alloc),
+    })
+}

@@ -1,0 +1,178 @@
+//! Names that a module has besides those of its description, and how names are written.
+
+use std::alloc::{AllocError, Global};
+
+// The names that a module imports or that its bounds have.
+const IMPORTED: [&str; 47] = [
+    "Sink",
+    "DekuError",
+    "DekuWriter",
+    "Writer",
+    "Codec",
+    "Coded",
+    "CodedRef",
+    "CopyParts",
+    "Be",
+    "Le",
+    "Msb",
+    "MsbLe",
+    "Lsb",
+    "LsbBe",
+    "Ipv4Addr",
+    "Ipv6Addr",
+    "CString",
+    "PhantomData",
+    "CountedBy",
+    "CountedByRef",
+    "CountOf",
+    "CountOfLaw",
+    "Optional",
+    "OptionalRef",
+    "Condition",
+    "ConditionLaw",
+    "Assert",
+    "Check",
+    "CheckLaw",
+    "Magic",
+    "Constant",
+    "ConstantLaw",
+    "Enum",
+    "MsbEnum",
+    "Either",
+    "Kind",
+    "InRange",
+    "Otherwise",
+    "Parts",
+    "Result",
+    "Option",
+    "Debug",
+    "Clone",
+    "Copy",
+    "PartialEq",
+    "Eq",
+    "W",
+];
+
+// The names of a module's locals that are no fields, and the words that are no names.
+const LOCAL: [&str; 58] = [
+    "parts", "writer", "result", "as", "break", "const", "continue", "crate", "else", "enum",
+    "extern", "false", "fn", "for", "if", "impl", "in", "let", "loop", "match", "mod", "move",
+    "mut", "pub", "ref", "return", "self", "static", "struct", "super", "trait", "true", "type",
+    "unsafe", "use", "where", "while", "async", "await", "dyn", "abstract", "become", "box", "do",
+    "final", "macro", "override", "priv", "typeof", "unsized", "virtual", "yield", "try", "gen",
+    "ghost", "requires", "ensures", "Vec",
+];
+
+// The words that ghost text takes only between « and ».
+const QUOTED: [&str; 31] = [
+    "data",
+    "record",
+    "deriving",
+    "module",
+    "where",
+    "use",
+    "mod",
+    "pub",
+    "package",
+    "open",
+    "as",
+    "unfoldable",
+    "abbrev",
+    "axiom",
+    "unfold",
+    "unfolding",
+    "ruleset",
+    "mutual",
+    "infix",
+    "infixl",
+    "infixr",
+    "elim",
+    "let",
+    "in",
+    "do",
+    "Type",
+    "coe",
+    "fcoe",
+    "tcoe",
+    "hcom",
+    "com",
+];
+
+fn is_one_of(words: &[&str], name: &str) -> bool {
+    for word in words {
+        if *word == name {
+            return true;
+        }
+    }
+    false
+}
+
+/// Whether no field has this name.
+pub fn is_local(name: &str) -> bool {
+    is_one_of(&LOCAL, name)
+}
+
+/// Whether no record has this name.
+pub fn is_imported(name: &str) -> bool {
+    for word in &IMPORTED {
+        if word.eq_ignore_ascii_case(name) {
+            return true;
+        }
+    }
+    is_one_of(&LOCAL, name) || is_one_of(&QUOTED, name)
+}
+
+/// A name as ghost text takes it.
+pub fn quoted(alloc: Global, name: &str) -> Result<String, AllocError> {
+    if is_one_of(&QUOTED, name) {
+        return format!(in alloc; "«{name}»");
+    }
+    String::from_str(alloc, name)
+}
+
+/// The name of a type for a field of a record, as `UdpLengthCount` for `length` of `Udp`.
+pub fn marker(alloc: Global, record: &str, field: &str, what: &str) -> Result<String, AllocError> {
+    let mut name = String::from_str(alloc, record)?;
+    for word in field.split('_') {
+        let mut letters = word.chars();
+        if let Some(first) = letters.next() {
+            name.push(first.to_ascii_uppercase())?;
+            name.push_str(letters.as_str())?;
+        }
+    }
+    name.push_str(what)?;
+    Ok(name)
+}
+
+/// A name with small letters, as `ether_type` for `EtherType`.
+pub fn snake(alloc: Global, name: &str) -> Result<String, AllocError> {
+    let mut small = String::new(alloc);
+    for letter in name.chars() {
+        if letter.is_ascii_uppercase() && !small.is_empty() {
+            small.push('_')?;
+        }
+        small.push(letter.to_ascii_lowercase())?;
+    }
+    Ok(small)
+}
+
+/// The parts of one value, and what makes them in ghost text.
+pub const MADE: [(&str, &str); 7] = [
+    ("Be", "be"),
+    ("Coded", "coded"),
+    ("Le", "le"),
+    ("Lsb", "lsb"),
+    ("LsbBe", "lsb_be"),
+    ("Msb", "msb"),
+    ("MsbLe", "msb_le"),
+];
+
+/// What makes a part of one value in ghost text.
+pub fn part(around: &str) -> &'static str {
+    for (name, word) in &MADE {
+        if *name == around {
+            return word;
+        }
+    }
+    ""
+}
