@@ -4,7 +4,7 @@ use crate::computing::{Computed, Computer};
 use crate::marker;
 use crate::marker::Marker;
 use deku_attributes::model::{Attribute, Endian, Field, Order};
-use deku_description::place::{Complaint, Span};
+use deku_tokens::place::{Complaint, Span};
 use deku_description::syntax::{Constant, Expression, Operator, Type};
 use deku_texts::document::Text;
 use deku_texts::lying::item;

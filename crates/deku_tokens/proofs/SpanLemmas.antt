@@ -1,8 +1,8 @@
 use Rattle.std.proofs.Common.{◌≡◌, ℕ, List, [], ◌∷◌, ◌++◌, ◌≤◌, ◌<◌, map, arith}
 use Rattle.std.proofs.lemmas.List.{map-append}
-use Rattle.deku_description.specs.declared.place.Span.{Span}
-use Rattle.deku_description.specs.declared.token.Token.{Token}
-use Rattle.deku_description.specs.Spans.{LieBetween}
+use Rattle.deku_tokens.specs.declared.place.Span.{Span}
+use Rattle.deku_tokens.specs.declared.token.Token.{Token}
+use Rattle.deku_tokens.specs.Spans.{LieBetween}
 
 -- spans up to a place are spans up to a later one
 pub lie_further : (from to more : ℕ) (spans : List Span) → LieBetween from spans to → to ≤ more → LieBetween from spans more

@@ -1,7 +1,7 @@
 //! The tokens of Rust that descriptions are made of.
 
 ghost use Rattle.std.specs.Prelude.{◌≤◌, length, map, IfOk};
-ghost use Rattle.deku_description.specs.Spans.{LieBetween};
+ghost use Rattle.deku_tokens.specs.Spans.{LieBetween};
 
 use crate::lexing::first_token;
 use crate::place::{Complaint, Span};

@@ -1,8 +1,8 @@
 use Rattle.std.proofs.Common.{◌≡◌, arith, ap, is_ok, ◌∙◌}
 use Rattle.std.proofs.ResultArms.{chosen}
-use Rattle.deku_description.proofs.SpanLemmas.{kept_lie, pushed_lies}
-use Rattle.deku_description.proofs.token.tokens.Goals as goal
-use Rattle.deku_description.proofs.token.tokens.Goals.{then-ne+in_ok-push, else-ne}
+use Rattle.deku_tokens.proofs.SpanLemmas.{kept_lie, pushed_lies}
+use Rattle.deku_tokens.proofs.token.tokens.Goals as goal
+use Rattle.deku_tokens.proofs.token.tokens.Goals.{then-ne+in_ok-push, else-ne}
 
 pub loop-at-preserved : goal.loop-at-preserved
 loop-at-preserved c = record {

@@ -1,5 +1,5 @@
 use Rattle.std.specs.Prelude.{ℕ, List, [], ◌∷◌, ◌≤◌, ◌<◌}
-use Rattle.deku_description.specs.declared.place.Span.{Span}
+use Rattle.deku_tokens.specs.declared.place.Span.{Span}
 
 -- spans that are not empty, one after the other, from a place on up to another
 abbrev pub LieBetween : ℕ → List Span → ℕ → Type 0

@@ -1,6 +1,6 @@
 use Rattle.std.proofs.Common.{◌≤◌, ◌-◌, map}
-use Rattle.deku_description.specs.Spans.{LieBetween}
-use Rattle.deku_description.proofs.token.tokens.Given as goal
+use Rattle.deku_tokens.specs.Spans.{LieBetween}
+use Rattle.deku_tokens.proofs.token.tokens.Given as goal
 
 abbrev pub invariant-loop-at : goal.invariant-loop-at
 invariant-loop-at l = record {

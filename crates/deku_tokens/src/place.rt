@@ -1,8 +1,8 @@
 //! Places in a text, and what is wrong there.
 
-ghost use Rattle.std.specs.Prelude.{◌≡◌, ◌≤◌, length, take, IfOk, string_bytes};
-ghost use Rattle.deku_description.specs.Places.{is_newline, is_start, line_after, last_line_len};
-ghost use Rattle.deku_description.specs.Places.{column_after};
+ghost use Rattle.std.specs.Prelude.{◌≡◌, ◌≤◌, ◌↔◌, length, take, IfOk, IsNone, string_bytes};
+ghost use Rattle.deku_tokens.specs.Places.{is_newline, is_start, line_after, last_line_len};
+ghost use Rattle.deku_tokens.specs.Places.{column_after};
 
 use std::alloc::{AllocError, Global};
 use std::fmt::Write as _;
@@ -201,4 +201,22 @@ fn line_around(bytes: &[u8], offset: usize) -> (usize, usize) {
         None => bytes.len(),
     };
     (start, end)
+}
+
+/// The first line, from 1, in which two texts differ.
+///
+/// ```text
+/// first_difference("a\nb\n", "a\nc\n")    // Some(2)
+/// ```
+pub fn first_difference(one: &str, other: &str) -> Option<usize>
+    ensures { IsNone result ↔ (one.now ≡ other.now) }
+{
+    if one == other {
+        return None;
+    }
+    let pairs = one.bytes().zip(other.bytes());
+    let same = pairs
+        .take_while(|(a, b)| a == b)
+        .filter(|(a, _)| *a == b'\n');
+    Some(same.count().saturating_add(1))
 }
