@@ -6,6 +6,15 @@ use deku::device::{Sink, Source};
 use deku::prelude::{DekuError, DekuReader, Reader, Writer};
 use deku_symmetry::{Codec, Coded};
 
+/// A sample of sensor 6 in state 9.
+pub fn sample_of(value: u16) -> Sample {
+    Sample {
+        sensor: 6,
+        state: 9,
+        value,
+    }
+}
+
 /// Writes samples.
 pub fn write_log<W: Sink>(writer: &mut Writer<W>, samples: &[Sample]) -> Result<(), DekuError> {
     for sample in samples {
@@ -29,7 +38,8 @@ pub fn show<R: Source>(rt: &HostRuntime, reader: &mut Reader<R>) -> Result<(), D
         match Sample::read(reader) {
             Ok(sample) => println!(rt; "{sample:?}")?,
             Err(error) => {
-                println!(rt; "sample at bit {start}, error at bit {}", reader.bits_read())?;
+                let at = reader.bits_read();
+                println!(rt; "sample at bit {start}, error at bit {at}")?;
                 return Err(error);
             }
         }

@@ -1,8 +1,7 @@
 //! Writes samples to a file, and prints those of a file or of the standard input.
 #![tactic(auto)]
 
-use crate::log::{show, sum, write_log};
-use crate::sample::Sample;
+use crate::log::{sample_of, show, sum, write_log};
 use deku::noseek::NoSeek;
 use deku::prelude::{DekuError, Reader, Writer};
 use std::fs::File;
@@ -13,6 +12,8 @@ use std::{env, io};
 mod event;
 mod log;
 mod sample;
+#[cfg(test)]
+mod tests;
 mod timed;
 
 fn main(rt: HostRuntime) -> io::Result<ExitCode> {
@@ -35,18 +36,9 @@ fn main(rt: HostRuntime) -> io::Result<ExitCode> {
 
 // Writes two samples to a file.
 fn write(rt: &HostRuntime, path: &str) -> Result<(), DekuError> {
-    let first = Sample {
-        sensor: 6,
-        state: 9,
-        value: 0xC0FE,
-    };
-    let second = Sample {
-        value: 0xC0FF,
-        ..first
-    };
     let file = BufWriter::new(rt.alloc(), File::create(rt, path)?)?;
     let mut writer = Writer::new(file);
-    write_log(&mut writer, &[first, second])?;
+    write_log(&mut writer, &[sample_of(0xC0FE), sample_of(0xC0FF)])?;
     writer.into_inner().flush()?; // reports what dropping it would lose
     Ok(())
 }
