@@ -81,7 +81,7 @@ struct Host {
     pair: Pair,
     #[deku(endian = \"big\")]
     address: Ipv4Addr,
-    /// Whether it replies.
+    /// Whether it answers.
     up: bool,
     #[deku(bytes = 3)]
     cost: u32,
@@ -127,7 +127,7 @@ impl CopyParts for Pair {
 pub struct Host {
     pub pair: Pair,
     pub address: Ipv4Addr,
-    /// Whether it replies.
+    /// Whether it answers.
     pub up: bool,
     pub cost: u32,
     pub port: u16,
