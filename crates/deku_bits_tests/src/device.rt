@@ -1,4 +1,4 @@
-//! A record that is read from a file, also behind a buffer, and the bytes that are at hand.
+//! A record that is read from a file, also through a buffer, and the bytes that are in memory.
 
 use crate::taken::{Step, walk_source};
 use deku_bits::ctx::Order::{Lsb0, Msb0};
@@ -74,7 +74,7 @@ fn fetched<S: Source>(source: &mut S) -> io::Result<u8> {
     Ok(byte[0])
 }
 
-// A buffer of sixteen bytes has eight at hand as long as it has as many.
+// A buffer of sixteen bytes has eight in memory as long as so many are left in it.
 #[test]
 fn has_bytes_of_a_buffer_at_hand(rt: HostRuntime) -> Result<(), Fail> {
     let mut bytes = [0; 20];
@@ -119,7 +119,7 @@ fn has_bytes_of_a_stream_at_hand(rt: HostRuntime) -> Result<(), Fail> {
     same(&10, &fetched(&mut source)?, &11)
 }
 
-// So many bytes are left, and the eight that are at hand then.
+// So many bytes are left; then the eight that are in memory.
 const LEFT: [(usize, [u8; 8]); 10] = [
     (0, [0, 0, 0, 0, 0, 0, 0, 0]),
     (1, [1, 0, 0, 0, 0, 0, 0, 0]),
@@ -140,7 +140,7 @@ fn taken_from<S: Source>(source: &mut S, n: usize) -> Option<[u8; 8]> {
     source.try_take(n.min(8))
 }
 
-// Eight bytes are at hand if n bytes are left, and n are passed; otherwise nothing moves.
+// Eight bytes are in memory if n bytes are left, and n are passed; otherwise nothing moves.
 fn expect_at_hand(left: usize, n: usize, eight: [u8; 8]) -> Result<(), Fail> {
     let mut cursor = Cursor::new(&BYTES[..left.min(9) + 2]);
     cursor.set_position(2);
@@ -165,7 +165,7 @@ fn has_the_last_bytes_at_hand(_rt: HostRuntime) -> Result<(), Fail> {
     Ok(())
 }
 
-// Past the end no byte is at hand, and none may be wanted.
+// Past the end no byte is in memory, and none may be asked for.
 #[test]
 fn has_no_bytes_at_hand_past_the_end(_rt: HostRuntime) -> Result<(), Fail> {
     for place in [9, 12, u64::MAX] {

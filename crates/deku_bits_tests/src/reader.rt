@@ -130,8 +130,8 @@ const ENDS: [Case; 4] = [
     ),
 ];
 
-// Bits that fill a whole number of bytes leave nothing, and the source stands behind the last byte
-// touched, also where the end was looked for in front of each read.
+// Bits that fill a whole number of bytes leave nothing, and the source is after the last byte
+// touched, also if each read came after a check for the end.
 const EARLY: [Case; 6] = [
     (
         &[0xA1, 0x34, 0x12],
@@ -298,7 +298,7 @@ const SEEKS: [Case; 3] = [
         ],
         1,
     ),
-    // The other calls that seek are the seek that each stands for.
+    // The other calls that seek do the same as `seek`.
     (
         &[0x01, 0x02, 0x03, 0x04],
         &[
@@ -358,8 +358,8 @@ const REFUSED: [Case; 1] = [(
     3,
 )];
 
-// Bytes in a vector: at a boundary, behind bits of a byte in both orders, and behind a look; and
-// more than the source has.
+// Bytes in a vector: at a boundary, after bits of a byte in both orders, and after a peek; and more
+// than the source has.
 const VECTORS: [Case; 4] = [
     (
         &[0x01, 0x02, 0x03],

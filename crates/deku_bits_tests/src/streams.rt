@@ -5,7 +5,7 @@ use deku_testing::refusals::kind_of;
 use std::io::{ErrorKind, Read, Seek, SeekFrom};
 use std::process::Abort;
 
-/// What is done with a stream that is read, and what it answers. A number in front is how many
+/// What is done with a stream that is read, and what it returns. A number in front is how many
 /// bytes are asked for, at most four.
 pub enum Get {
     /// `read`
@@ -17,7 +17,7 @@ pub enum Get {
     Place(u64),
 }
 
-// What was read stands in front of zeros, or it was refused.
+// What was read, followed by zeros, or why it was refused.
 fn same_front(rt: &impl Abort, row: Row, all: &[u8; 4], want: &Result<&[u8], ErrorKind>) {
     let bytes: &[u8] = match want {
         Ok(bytes) => bytes,
@@ -29,7 +29,7 @@ fn same_front(rt: &impl Abort, row: Row, all: &[u8; 4], want: &Result<&[u8], Err
     }
 }
 
-// What a read of some bytes answers.
+// What a read of some bytes returns.
 fn expect_some(
     rt: &impl Abort,
     row: Row,

@@ -89,7 +89,7 @@ fn expect_bytes(rt: &impl Abort, row: Row, error: Option<DekuError>, all: &[u8],
     }
 }
 
-// The bits in a buffer, where no more than 24 are asked for.
+// The bits in a buffer, if no more than 24 are asked for.
 fn read_into<R: Source>(
     rt: &impl Abort,
     row: Row,
@@ -104,8 +104,8 @@ fn read_into<R: Source>(
     expect_digits(rt, row, error, bits, want);
 }
 
-// Whether memory was refused where that is not wanted; else the bits are these, or they are refused
-// so.
+// Whether memory was refused unexpectedly; otherwise the bits are these, or they are refused like
+// this.
 fn lacks_bits(
     rt: &impl Abort,
     row: Row,
@@ -172,8 +172,8 @@ fn vector_of<R: Source>(
     reader.read_bytes_vec(amt, order)
 }
 
-// Whether memory was refused where that is not wanted; else the bytes are these, or they are
-// refused so.
+// Whether memory was refused unexpectedly; otherwise the bytes are these, or they are refused like
+// this.
 fn lacks_bytes(
     rt: &impl Abort,
     row: Row,
@@ -211,7 +211,7 @@ fn read_byte_vector<R: Source>(
     lacks
 }
 
-// Why an array of bytes is refused, where it is: it is filled or answered.
+// Why an array of bytes is refused, if it is: it is filled, or returned.
 fn const_refused<R: Source, const N: usize>(
     reader: &mut Reader<R>,
     all: &mut [u8; N],
@@ -226,7 +226,7 @@ fn const_refused<R: Source, const N: usize>(
     }
 }
 
-// So many bytes as an array has, filled or answered.
+// As many bytes as an array has, filled or returned.
 fn read_const<R: Source, const N: usize>(
     rt: &impl Abort,
     row: Row,
@@ -414,7 +414,7 @@ pub fn walk_steps<R: Source>(
     lacking
 }
 
-/// Bytes, the steps of a reader over a cursor on them, and where the cursor stands then.
+/// Bytes, the steps of a reader over a cursor on them, and the cursor's position after them.
 pub type Case = (&'static [u8], &'static [Step], u64);
 
 /// The steps of a reader over a source show what they say; whether memory was refused, and the

@@ -31,7 +31,7 @@ enum Op {
     Push(bool),
     Extend(&'static str),
     Insert(usize, bool),
-    // At this place, where what is behind it is this.
+    // At this place, if this is after it.
     SplitOff(usize, Shown),
     Clear,
 }

@@ -1,4 +1,4 @@
-//! A record that is written to a file, also behind a buffer, and vectors that grow.
+//! A record that is written to a file, also through a buffer, and vectors that grow.
 
 use crate::given::{Put, give_sink};
 use deku_bits::ctx::Order::Lsb0;
@@ -63,8 +63,8 @@ fn writes_a_record_behind_a_buffer(rt: HostRuntime) -> Result<(), Fail> {
     Ok(())
 }
 
-// A buffer of sixteen bytes has room at hand as long as it has room for more than eight; the others
-// go by way of `give`.
+// A buffer of sixteen bytes has room in memory as long as it has room for more than eight; other
+// bytes go through `give`.
 #[test]
 fn lays_bytes_in_a_buffer(rt: HostRuntime) -> Result<(), Fail> {
     let room = Cursor::new(Vec::new(rt.alloc()));
@@ -86,7 +86,7 @@ const EIGHT: [u8; 8] = [1, 2, 3, 4, 5, 6, 7, 8];
 // What a vector has before.
 const THERE: u8 = 0xA6;
 
-// The length of a vector, its capacity and a place; and whether the first of eight bytes are laid
+// The length of a vector, its capacity and a place; and whether the first of eight bytes are put
 // there.
 const ROOM: [(usize, usize, u64, bool); 15] = [
     (0, 0, 0, false),
@@ -106,7 +106,7 @@ const ROOM: [(usize, usize, u64, bool); 15] = [
     (9, 17, u64::MAX, false),
 ];
 
-// A byte of the vector after the first n of eight bytes were laid from a place on.
+// A byte of the vector after the first n of eight bytes were put at a place.
 fn laid_byte(at: usize, place: usize, n: usize) -> u8 {
     if place <= at && at - place < n.min(8) {
         return EIGHT[at - place];
@@ -114,7 +114,7 @@ fn laid_byte(at: usize, place: usize, n: usize) -> u8 {
     THERE
 }
 
-// The first n bytes are laid if they should be, and otherwise nothing changes.
+// The first n bytes are put if they should be, and otherwise nothing changes.
 fn expect_laid(alloc: Global, row: (usize, usize, u64, bool), n: usize) -> Result<(), Fail> {
     let (length, capacity, place, is_laid) = row;
     let mut vector = Vec::with_capacity(alloc, capacity)?;
@@ -148,7 +148,7 @@ const TWELVE: [bool; 12] = [
     true, false, true, false, false, true, false, true, true, true, false, false,
 ];
 
-// Twelve bits, laid where there is room at hand; it returns whether they were.
+// Twelve bits, put if there is room in memory. Returns whether they were.
 fn write_twelve<W: Sink>(writer: &mut Writer<W>) -> Result<bool, DekuError> {
     if writer.try_write_msb(0xA5C, 12) {
         return Ok(true);
@@ -157,8 +157,8 @@ fn write_twelve<W: Sink>(writer: &mut Writer<W>) -> Result<bool, DekuError> {
     Ok(false)
 }
 
-// Twelve bits eighty times into a vector that has this capacity at first: most times they are laid.
-// It returns whether memory was refused.
+// Twelve bits eighty times into a vector that has this capacity at first: most times they are put.
+// Returns whether memory was refused.
 fn expect_grown(alloc: Global, capacity: usize) -> Result<bool, Fail> {
     let mut writer = Writer::new(Cursor::new(Vec::with_capacity(alloc, capacity)?));
     let mut given = 0;

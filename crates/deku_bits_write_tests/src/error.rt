@@ -94,7 +94,7 @@ fn three_of(bytes: &[u8]) -> Result<[u8; 3], DekuError> {
     Ok(bytes.try_into()?)
 }
 
-// What io answers.
+// What io returns.
 fn after(answer: io::Result<()>) -> Result<(), DekuError> {
     answer?;
     Ok(())

@@ -152,7 +152,7 @@ pub fn expect_kept<W: Sink>(
     expect_rest(alloc, row, writer, "")
 }
 
-// One step. It returns whether memory for an answer was refused.
+// One step. Returns whether memory for its result was refused.
 fn give_step<W: Sink>(
     rt: &impl Abort,
     alloc: Global,

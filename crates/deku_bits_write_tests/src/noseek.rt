@@ -45,7 +45,7 @@ const TWO: [Set; 1] = [Set::All(&[0xAA, 0xBB], Ok(()))];
 
 const FLUSHED: [Set; 2] = [Set::Flush(Ok(())), Set::Place(2)];
 
-// What a stream holds back goes on where it is flushed.
+// What a stream holds back is passed on when it is flushed.
 #[test]
 fn flushes_the_stream_inside(rt: HostRuntime) -> Result<(), Fail> {
     let mut bytes = [0; 2];
@@ -63,7 +63,7 @@ const FAILS: [Set; 2] = [
     Set::Flush(Err(ErrorKind::WriteZero)),
 ];
 
-// A fault of the stream inside is handed on where it is flushed.
+// A fault of the stream inside is passed on when it is flushed.
 #[test]
 fn hands_on_a_flush_that_fails(rt: HostRuntime) -> Result<(), Fail> {
     let mut byte = [0; 1];

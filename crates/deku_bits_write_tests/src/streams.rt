@@ -8,7 +8,7 @@ use std::fmt::Debug;
 use std::io::{ErrorKind, Seek, Write};
 use std::test::Fail;
 
-/// What is done with a stream that is written, and what it answers.
+/// What is done with a stream that is written, and what it returns.
 pub enum Set {
     /// `write`
     Some(&'static [u8], Result<usize, ErrorKind>),
@@ -19,7 +19,7 @@ pub enum Set {
     Place(u64),
 }
 
-// What a write of bytes answers. Memory that was refused is handed on.
+// What a write of bytes returns. Memory that was refused is passed on.
 fn expect_written<T: PartialEq + Debug + Drop>(
     row: Row,
     answer: Result<T, ErrorKind>,

@@ -1,4 +1,4 @@
-//! Words, by worked rows, and where room ends.
+//! Words, by worked rows, and what happens at the end of the room.
 
 use crate::given::{Grown, Put, give_bounded, give_tables};
 use deku_bits::ctx::Order::{Lsb0, Msb0};

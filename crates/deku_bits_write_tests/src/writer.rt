@@ -60,8 +60,8 @@ fn write_lent<S: Sink>(sink: &mut S, list: &[bool], order: Order) -> Result<(), 
     writer.write_bits_order(list, order)
 }
 
-// Writes a list of bits over the front of a slice: where it has room for the bytes, they stand
-// there.
+// Writes a list of bits over the start of a slice: if it has room for the bytes, they are there
+// then.
 fn write_over(all: &mut [u8], list: &[bool], order: Order) -> Result<(), DekuError>
     ensures room { length list.now / 8 ≤ length all.old → result ≡ Ok tt }
     ensures bytes { OnOk result ((n : ℕ) × (take n all.new ≡

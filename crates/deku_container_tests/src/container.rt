@@ -9,12 +9,12 @@ use std::fmt::Debug;
 use std::io::{Cursor, ErrorKind};
 use std::test::Fail;
 
-// The input ended where so many bits were wanted.
+// The input ended when so many bits were asked for.
 fn incomplete(bits: usize) -> DekuError {
     DekuError::Incomplete(NeedSize::new(bits))
 }
 
-// From these bytes, behind so many bits, this is read, and the rest is left.
+// From these bytes, after so many bits, this is read, and the rest is left.
 fn expect_rest<T: DekuContainerRead + PartialEq + Debug>(
     alloc: Global,
     input: (&[u8], usize),
@@ -27,7 +27,7 @@ fn expect_rest<T: DekuContainerRead + PartialEq + Debug>(
     same(&input, &seen, &(rest, want))
 }
 
-// These bytes are refused behind so many bits.
+// These bytes are refused after so many bits.
 fn expect_refused<T: DekuContainerRead>(
     alloc: Global,
     input: (&[u8], usize),
@@ -41,7 +41,7 @@ fn expect_refused<T: DekuContainerRead>(
     }
 }
 
-// The source is read behind so many bits: so many were taken, this is read, and the source is at
+// The source is read after so many bits: so many were taken, this is read, and the source is at
 // this place then.
 fn expect_taken<T: DekuContainerRead + PartialEq + Debug>(
     alloc: Global,
@@ -71,7 +71,7 @@ fn expect_written<T: DekuContainerWrite + Debug>(
     expect_over(value, bytes)
 }
 
-// The value is written as these bytes over a slice, and what is behind them stays.
+// The value is written as these bytes over a slice, and what is after them stays.
 fn expect_over<T: DekuContainerWrite + Debug>(value: &T, bytes: &[u8]) -> Result<(), Fail>
     requires { T.accepts tt }
 {
@@ -84,7 +84,7 @@ fn expect_over<T: DekuContainerWrite + Debug>(value: &T, bytes: &[u8]) -> Result
     same(value, &(answer, front, after), &want)
 }
 
-// How many bits of 12 34 are left out, the byte behind them, and the rest.
+// How many bits of 12 34 are left out, the byte after them, and the rest.
 type Behind = (usize, u8, (&'static [u8], usize));
 
 const OCTETS: [Behind; 3] = [
@@ -138,8 +138,8 @@ fn refuses_short_bytes(rt: HostRuntime) -> Result<(), Fail> {
     expect_refused::<Pair>(alloc, (&[0xBE], 0), incomplete(16))
 }
 
-// Where the source of 12 34 56 stands, how many bits are left out, how many were taken, the byte,
-// and where the source stands then.
+// The position of the source of 12 34 56, how many bits are left out, how many were taken, the
+// byte, and the position of the source then.
 type Taken = (u64, usize, usize, u8, u64);
 
 const TAKEN: [Taken; 5] = [

@@ -13,8 +13,8 @@ use std::alloc::Global;
 use std::io::Cursor;
 use std::test::Fail;
 
-// Two values from some bytes: where the first fetches no byte too early, the second begins at the
-// byte behind those that the bits of the first one fill.
+// Two values from some bytes: if the first fetches no byte too early, the second begins at the byte
+// after those that the bits of the first one fill.
 fn in_turn<A: DekuContainerRead, B: DekuContainerRead>(
     alloc: Global,
     bytes: &[u8],

@@ -17,8 +17,8 @@ struct Counted {
     payload: Vec<u8>,
 }
 
-/// The length is that of the payload. It is refused with `Parse("error parsing int")` where a byte
-/// cannot count so many; nothing changes.
+/// The length is that of the payload. If a byte cannot count so many, it is refused with
+/// `Parse("error parsing int")`; nothing changes.
 impl DekuUpdate for Counted {
     ghost updates = { λ v r w. ((count v.payload.items < 2 ^ 8) × (r ≡ Ok tt)
         × (w ≡ record v { length = count v.payload.items }))
@@ -50,8 +50,8 @@ impl DekuEnumExt<u8> for Shape {
     }
 }
 
-// A count of bytes, what an update answers, and the length then: the one of the row above where it
-// is refused.
+// A count of bytes, what an update returns, and the length then: if it is refused, the one of the
+// row above.
 type Row = (usize, Result<(), DekuError>, u8);
 
 const ROWS: [Row; 3] = [

@@ -11,7 +11,7 @@ use std::io;
 use std::io::{BufReader, Cursor, Read, Seek, SeekFrom, Write};
 use std::test::Fail;
 
-// A buffered reader. It tells nothing of its bytes, as a file.
+// A buffered reader. Nothing is known of its bytes, as of a file.
 #[derive(Drop)]
 struct Buffered<R> {
     inner: BufReader<R>,
@@ -48,7 +48,7 @@ impl<R: Read + Seek> Source for Buffered<R> {
     }
 }
 
-// A sink that counts the bytes that go through it, and tells what the sink inside tells.
+// A sink that counts the bytes that go through it, and knows what the sink inside knows.
 #[derive(Drop)]
 struct Counted<W> {
     inner: W,
@@ -92,7 +92,7 @@ impl<W: Sink> Sink for Counted<W> {
     }
 }
 
-// The halves of a byte, and the byte behind it.
+// The halves of a byte, and the byte after it.
 type Row = ((u8, u8), u8, [u8; 2]);
 
 const ROWS: [Row; 2] = [((6, 9), 0xBE, [0x69, 0xBE]), ((0, 15), 1, [0x0F, 0x01])];

@@ -66,7 +66,7 @@ fn leaves_numbers(rt: HostRuntime) {
     expect_left(&rt, &rows);
 }
 
-// Nothing is left of what is outside the kind, or where the layout is refused.
+// Nothing is left of what is outside the kind, or if the layout is refused.
 #[test]
 fn leaves_nothing(rt: HostRuntime) {
     let rows: [Row; 6] = [

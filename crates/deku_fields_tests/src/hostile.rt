@@ -1,5 +1,5 @@
-//! Lists over devices that end, trickle or fail: what is refused and kept, and how the stream goes
-//! on behind a seek.
+//! Lists over devices that end, trickle or fail: what is refused and kept, and how the stream
+//! continues after a seek.
 
 use crate::items::{
     MOST, NONE_YET, both_orders, fields_of, halves_and_word, little_words, thirteen_of_a_word,
@@ -70,7 +70,7 @@ fn expect_values<S: Source>(
     same(rt, row, &out, &values_of(items));
 }
 
-// The reader has stopped with this: a read of no bits answers it again, no bit is left over, and
+// The reader has stopped with this: a read of no bits returns it again, no bit is left over, and
 // the count stays.
 fn expect_kept<S: Source>(
     rt: &impl Abort,
@@ -256,8 +256,8 @@ fn whole_bytes(bits: usize) -> usize {
 }
 
 // The list is written to a sink that doesn't take its byte at that place: the item that fills this
-// byte is refused so, or the padding. The writer has then stopped, and has written the whole bytes
-// of the items before, as it answers.
+// byte is refused with this, or the padding. The writer has then stopped, and has written the whole
+// bytes of the items before.
 fn expect_full<W: Sink>(
     rt: &impl Abort,
     sample: &Sample,
@@ -283,8 +283,8 @@ fn expect_full<W: Sink>(
     count
 }
 
-// The list is written to each slice that is shorter than it: behind a seek to the start a byte is
-// written where the slice has one.
+// The list is written to each slice that is shorter than it: after a seek to the start a byte is
+// written if the slice has one.
 fn expect_full_slices(rt: &impl Abort, sample: &Sample) -> Result<(), Fail> {
     for (at, _) in sample.written.iter().enumerate() {
         let mut page = [0u8; BYTES];
@@ -309,7 +309,7 @@ fn writes_to_every_shorter_slice(rt: HostRuntime) -> Result<(), Fail> {
     Ok(())
 }
 
-// The list is written to a sink that fails at each of its bytes in turn, and behind a seek to the
+// The list is written to a sink that fails at each of its bytes in turn, and after a seek to the
 // start it is written whole.
 fn expect_written_again(rt: &impl Abort, sample: &Sample) -> Result<(), Fail> {
     for (at, _) in sample.written.iter().enumerate() {

@@ -116,7 +116,7 @@ pub fn thirteen_of_a_word() -> [Item; 1] {
     )]
 }
 
-/// The fields of items, and then more that stand for nothing.
+/// The fields of items, and then more that have no meaning.
 pub fn fields_of(items: &[Item]) -> [Field; MOST] {
     let mut fields = [big_msb(Kind::U8, Size::Whole, 0).field; MOST];
     for (field, item) in fields.iter_mut().zip(items) {
@@ -125,7 +125,7 @@ pub fn fields_of(items: &[Item]) -> [Field; MOST] {
     fields
 }
 
-/// The values of items, and then more that stand for nothing.
+/// The values of items, and then more that have no meaning.
 pub fn values_of(items: &[Item]) -> [Number; MOST] {
     let mut values = [NONE_YET; MOST];
     for (value, item) in values.iter_mut().zip(items) {

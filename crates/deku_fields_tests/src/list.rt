@@ -59,7 +59,7 @@ fn writer_over<'p>(page: &'p mut [u8]) -> Writer<Cursor<&'p mut [u8]>> {
     Writer::new(Cursor::new(page))
 }
 
-// The items are written behind what is written.
+// The items are written after what was written before.
 fn write_next(writer: &mut Writer<Cursor<&mut [u8]>>, items: &[Item]) -> Result<(), DekuError> {
     write_list(writer, items)
 }
@@ -69,8 +69,8 @@ fn filled(writer: &mut Writer<Cursor<&mut [u8]>>) -> Result<(), DekuError> {
     writer.finalize()
 }
 
-// ---- the calls, on memory From bytes that begin with what aligned fitting items lay out the
-// fields read the items' values: it takes no memory and is not refused.
+// From bytes that begin with what aligned fitting items lay out, the fields read the items' values.
+// It takes no memory and is not refused.
 fn read_from(
     alloc: Global,
     bytes: &[u8],
@@ -128,7 +128,7 @@ fn expect_read(rt: &impl Abort, alloc: Global, sample: &Sample) -> Result<(), Fa
     same(&name, &(seen, out.as_slice()), &wanted)
 }
 
-// A field is read, behind a look whether the end is reached.
+// A field is read, after a check for the end.
 fn expect_item(rt: &impl Abort, name: &str, reader: &mut Reader<Cursor<&[u8]>>, item: &Item) {
     let mut out = [NONE_YET];
     let end = ends(reader);
@@ -159,7 +159,7 @@ fn expect_cut_written(rt: &impl Abort, sample: &Sample, cut: usize) {
     assert!(rt; page.starts_with(sample.bytes), "{name} cut at {cut}");
 }
 
-// What two calls answer, and the last byte's filling, and the bits written.
+// What two calls return, and the last byte's filling, and the bits written.
 type CutWritten = (
     Result<(), DekuError>,
     Result<(), DekuError>,
@@ -200,8 +200,8 @@ fn expect_cut_read(rt: &impl Abort, alloc: Global, sample: &Sample, cut: usize) 
     );
 }
 
-// Whether the end is reached in front of the first call, between the two, again, and behind them;
-// what they answer, and the bits read.
+// Whether the end is reached before the first call, between the two, again, and after them; what
+// they return, and the bits read.
 type CutRead = (
     (
         Result<bool, DekuError>,
@@ -360,7 +360,7 @@ fn fills_a_slice(_rt: HostRuntime) -> Result<(), Fail> {
     same(&"a full slice", &seen, &(full, 8, full, 8, [0x69]))
 }
 
-// What the first of two calls that is refused answers, the bits written, and the last byte's
+// What the first of two calls that is refused returns, the bits written, and the last byte's
 // filling.
 fn write_until_refused(
     page: &mut [u8],

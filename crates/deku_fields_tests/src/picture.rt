@@ -125,7 +125,7 @@ fn items_of(alloc: Global, words: &[&str]) -> Result<(Vec<Item>, Vec<Field>), Al
     Ok((items, fields))
 }
 
-// Whether a bit of a number is set, in two's complement where there is a sign.
+// Whether a bit of a number is set, in two's complement if there is a sign.
 fn is_set(number: Number, bit: usize) -> bool {
     let Ok(bit) = u32::try_from(bit) else {
         return false;
@@ -138,7 +138,7 @@ fn is_set(number: Number, bit: usize) -> bool {
     }
 }
 
-// Each bit of the bytes that items are written as is the one that the picture tells.
+// Each bit of the bytes that items are written as is the one that the picture has.
 fn expect_shown(rt: &impl Abort, items: &[Item], bytes: &[u8], picture: &[Option<Place>]) {
     for (k, cell) in picture.iter().enumerate() {
         let byte = bytes.get(k / 8).copied().unwrap_or(0);

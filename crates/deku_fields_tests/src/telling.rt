@@ -1,4 +1,4 @@
-//! The lines of faults: each is told as it is displayed.
+//! The lines of faults: each is printed as it is displayed.
 
 use deku::DekuError::{self, Assertion, IdVariantNotFound, Incomplete, InvalidParam, Io, Parse};
 use deku::error::NeedSize;

@@ -77,7 +77,7 @@ fn words(rt: HostRuntime) -> Result<(), Fail> {
     Ok(())
 }
 
-// The numbers that lie in several places, joined again.
+// The numbers that are split over several places, joined again.
 #[test]
 fn numbers(rt: HostRuntime) {
     for value in [-2048i32, -20, -1, 0, 31, 32, 2047] {
@@ -93,8 +93,8 @@ fn numbers(rt: HostRuntime) {
     }
 }
 
-// Words of a code that RV32I has not, as those of floating point: the reader stands behind the
-// code.
+// Words of a code that RV32I does not have, such as those of floating point: the reader is after
+// the code.
 #[test]
 fn other_codes(rt: HostRuntime) -> Result<(), Fail> {
     for code in [0x00u8, 0x02, 0x07, 0x27, 0x2F, 0x53, 0x6B, 0x7F] {

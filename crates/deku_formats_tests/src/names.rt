@@ -64,7 +64,7 @@ fn a_question(rt: HostRuntime) -> Result<(), Fail> {
 }
 
 // A pointer in the place of a label, a length of 64, a name without its end, and one without its
-// class; and what refuses them behind how many bits.
+// class; and what refuses them after how many bits.
 #[test]
 fn names_refused(rt: HostRuntime) -> Result<(), Fail> {
     let no_label = DekuError::Parse("head without a count");

@@ -99,8 +99,8 @@ fn file_headers(rt: HostRuntime) -> Result<(), Fail> {
     Ok(())
 }
 
-// The program headers lie where the header says, also where it was read last: the first two of
-// them, since the bytes have no more.
+// The program headers are where the header says, also if it was read last: the first two of them,
+// since the bytes have no more.
 #[test]
 fn program_headers(rt: HostRuntime) -> Result<(), Fail> {
     let mut fields = TRUE_FIELDS;
@@ -112,7 +112,8 @@ fn program_headers(rt: HostRuntime) -> Result<(), Fail> {
     Ok(())
 }
 
-// Thirteen headers are said, and the bytes have two of them: the third is refused behind those.
+// The header names thirteen headers, and the bytes have two of them: the third is refused after
+// those.
 #[test]
 fn too_few_program_headers(rt: HostRuntime) -> Result<(), Fail> {
     let mut reader = Reader::new(rt.alloc(), Cursor::new(TRUE.as_slice()));

@@ -113,7 +113,7 @@ fn a_packet_with_an_option(rt: HostRuntime) -> Result<(), Fail> {
     expect_record(rt.alloc(), &Ipv4 { front, options }, &REPORT)
 }
 
-// What an update answers and leaves in the two lengths of the header, where its total is this one
+// What an update returns and leaves in the two lengths of the header, if its total is this one
 // before and there are so many bytes of options: ten bytes are carried.
 type Row = (u16, usize, Result<(), DekuError>, (u8, u16));
 

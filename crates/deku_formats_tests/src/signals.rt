@@ -8,7 +8,7 @@ use deku_formats::ccsds::sample::Sample;
 use deku_testing_values::records::{expect_record, expect_refusal};
 use std::test::Fail;
 
-// As the Python package cantools 37.2 encodes it, from the DBC text that stands in the module.
+// As the Python package cantools 37.2 encodes it, from the DBC text that is in the module.
 #[test]
 fn a_frame(rt: HostRuntime) -> Result<(), Fail> {
     let chassis = Chassis {

@@ -19,13 +19,13 @@ pub const MISFIT: DekuError = DekuError::InvalidParam(
     "bit size of input is larger than requested size",
 );
 
-// How a number lies, its bytes as digits, and its value.
+// How a number is laid out, its bytes as digits, and its value.
 pub type Row<T> = (Endian, Order, Size, &'static str, T);
 
-// How a number lies, and a value that does not fit there.
+// How a number is laid out, and a value that does not fit there.
 pub type Misfit<T> = (Endian, Order, Size, T);
 
-// What lies in a page before.
+// What is in a page before.
 const THERE: u8 = 0xA5;
 
 // What a hexadecimal digit counts.
@@ -39,8 +39,8 @@ fn digit(code: u8) -> u8
     }
 }
 
-// The bytes that pairs of hexadecimal digits name, at most sixteen, in front of what lies there;
-// and how many they are.
+// The bytes that pairs of hexadecimal digits name, at most sixteen, in front of what is there; and
+// how many they are.
 fn bytes_of(digits: &str) -> ([u8; 16], usize)
     ensures { result.1 ≤ 16 }
 {
@@ -135,7 +135,7 @@ fn expect_misfits<T: DekuWriter<Layout> + Debug>(rows: &[Misfit<T>]) -> Result<(
     Ok(())
 }
 
-// Why the layout is refused where it is read; how many bits are read then, the next byte, and the
+// Why the layout is refused when it is read; how many bits are read then, the next byte, and the
 // source after that.
 fn read_refused<T: DekuReader<Layout>, R: Source + Drop>(
     alloc: Global,
@@ -167,7 +167,7 @@ fn expect_unread<T: DekuReader<Layout> + Debug>(
     same(&layout, &seen, &(Some(error), 0, [THERE], 1))
 }
 
-// Why the value is refused where it is written; and the sink after the last byte is filled.
+// Why the value is refused when it is written; and the sink after the last byte is filled.
 fn write_refused<T: DekuWriter<Layout>, W: Sink + Drop>(
     sink: W,
     value: &T,

@@ -28,7 +28,7 @@ const OTHER_SIZES: [Size; 5] = [
 // Ones and zeros in turn, the lowest bit being one.
 const IN_TURN: u128 = 0x5555_5555_5555_5555_5555_5555_5555_5555;
 
-// The bytes that a field takes at most, with those bits of its first byte that lie in front of it.
+// The bytes that a field takes at most, with those bits of its first byte that are before it.
 const PAGE: usize = 17;
 
 // A field, a value to be written, and what the slow ones say: the bits of the field, what they are
@@ -42,7 +42,7 @@ struct Row {
     written: Result<(), DekuError>,
 }
 
-// What is seen of a read: the bits in front as they are shown, what the number's read answers, the
+// What is seen of a read: the bits before it as they are shown, what the number's read returns, the
 // bits counted and the bytes fetched.
 #[derive(Debug, Clone, Copy, PartialEq, Eq)]
 struct Reading {
@@ -52,7 +52,7 @@ struct Reading {
     fetched: u64,
 }
 
-// What is seen of a write: what the number's write answers, the bits counted and the bytes.
+// What is seen of a write: what the number's write returns, the bits counted and the bytes.
 #[derive(Debug, Clone, Copy, PartialEq, Eq)]
 struct Writing {
     answer: Result<(), DekuError>,
@@ -116,7 +116,7 @@ fn size_at(n: usize) -> Size {
     }
 }
 
-// A type under each of these sizes: under those in bits that it has in each place, but for the
+// A type under each of these sizes: under those in bits that it has in each place, except for the
 // types that are as wide as `u64` and `i64`.
 fn sweep_sizes(
     rt: &impl Abort,
@@ -219,7 +219,8 @@ fn patterns(width: usize, weights: &[u128; MOST], random: &mut Random) -> [u128;
     ]
 }
 
-// What the slow ones say of a field and a value. It fits where the list of its bits is worth it.
+// What the slow functions say of a field and a value. It fits if the list of its bits has this
+// value.
 fn row_of(kind: Kind, layout: Layout, pattern: u128, list: &[bool]) -> Row {
     let number_type = kind.number_type();
     let worth = worth(number_type.signed, layout.endian, layout.order, list);
@@ -241,7 +242,7 @@ fn row_of(kind: Kind, layout: Layout, pattern: u128, list: &[bool]) -> Row {
     }
 }
 
-// The value that a number modulo two to the power of 128 stands for.
+// The value whose number modulo two to the power of 128 this is.
 fn value_of(number_type: NumberType, pattern: u128) -> Value {
     if number_type.signed {
         Value::Signed(pattern.cast_signed())
@@ -309,7 +310,7 @@ fn expect_read(
     assert!(rt; seen == want, "{row:?} behind {front:?}: {seen:?}");
 }
 
-// What is seen where the field is read.
+// What is seen when the field is read.
 fn read_field(
     rt: &impl Abort,
     alloc: Global,
@@ -328,7 +329,7 @@ fn read_field(
     }
 }
 
-// The bits in front as they are shown, what the number's read answers, the bits counted, and the
+// The bits before it as they are shown, what the number's read returns, the bits counted, and the
 // source then.
 fn read_from<R: Source>(
     rt: &impl Abort,
@@ -365,7 +366,7 @@ fn expect_written(rt: &impl Abort, row: &Row, front: &[bool], list: &[bool]) {
     assert!(rt; seen == want, "{row:?} behind {front:?}: {seen:?}");
 }
 
-// What is seen where the value is written and padded.
+// What is seen when the value is written and padded.
 fn write_field(rt: &impl Abort, row: &Row, front: &[bool]) -> Writing {
     let mut page = [0; PAGE];
     let (answer, bits_written) = write_onto(rt, Cursor::new(page.as_mut_slice()), row, front);
@@ -376,7 +377,7 @@ fn write_field(rt: &impl Abort, row: &Row, front: &[bool]) -> Writing {
     }
 }
 
-// What the number's write answers, and the bits counted.
+// What the number's write returns, and the bits counted.
 fn write_onto<W: Sink + Drop>(
     rt: &impl Abort,
     sink: W,

@@ -1,5 +1,5 @@
-//! Values of number types, read and written by the traits where the type has them, and else by the
-//! calls that those make.
+//! Values of number types, read and written by the traits if the type has them, and otherwise by
+//! the calls that those make.
 
 use deku::ctx::Layout;
 use deku::device::{Sink, Source};
@@ -112,7 +112,7 @@ fn read_other<R: Source>(
     }
 }
 
-// The value is written, where the type has it.
+// The value is written, if the type has it.
 fn put<T: DekuWriter<Layout> + Drop, E: Drop, W: Sink>(
     writer: &mut Writer<W>,
     value: Result<T, E>,
@@ -126,7 +126,7 @@ fn put<T: DekuWriter<Layout> + Drop, E: Drop, W: Sink>(
     }
 }
 
-/// Writes a value, which has a sign where the type has one.
+/// Writes a value, which has a sign if the type has one.
 pub fn write_value<W: Sink>(
     rt: &impl Abort,
     writer: &mut Writer<W>,

@@ -1,5 +1,5 @@
-//! Bits and bytes in vectors of their own: where no memory is found for them nothing has moved, and
-//! a buffer takes them.
+//! Bits and bytes in vectors of their own: if no memory is found for them nothing has moved, and a
+//! buffer takes them.
 
 use crate::expecting::expect_items;
 use deku::ctx::Order::{self, Lsb0, Msb0};

@@ -88,7 +88,7 @@ fn drawn_or_no_memory(rt: HostRuntime) -> Result<(), Fail> {
     }
 }
 
-// What has no picture is told so before memory is asked for.
+// What has no picture is rejected before memory is asked for.
 #[test]
 fn refused_before_memory(rt: HostRuntime) -> Result<(), Fail> {
     let [first, mut turned, _] = fields();

@@ -1,4 +1,4 @@
-//! Tests of each call that takes memory: it answers what it would, or that no memory was found, and
+//! Tests of each call that takes memory: it returns its value, or that no memory was found, and
 //! then what its contract says is left. `tools/refuse-memory` refuses each request of each test in
 //! turn.
 #![tactic(auto)]

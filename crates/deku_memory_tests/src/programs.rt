@@ -1,4 +1,4 @@
-//! Runs of `fields` and `layout`: where no memory is found a run ends with 1 and says so, and its
+//! Runs of `fields` and `layout`: if no memory is found a run ends with 1 and says so, and its
 //! output is as it was.
 
 use deku_picture::{Cell, rows};
@@ -25,7 +25,7 @@ f1 u8,big,bits4 6
 f2 u8,big,bits4 9
 ";
 
-// Room for what a run prints, and for what it tells.
+// Room for what a run prints, and for its errors.
 const PAGE: usize = 512;
 
 // A run's status, output and complaints: it gave all of the text, or it found no memory, and then

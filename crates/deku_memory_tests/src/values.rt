@@ -1,4 +1,4 @@
-//! Reads where memory may be refused: each returns what it would, or that there is none, and then
+//! Reads that may run out of memory: each returns its value, or that there is no memory, and then
 //! the reader is after what was read.
 
 use crate::expecting::read_first;
@@ -14,7 +14,7 @@ type Hasher = BuildHasherDefault<FoldHasher>;
 
 const BYTES: [u8; 8] = [1, 2, 3, 4, 5, 6, 7, 8];
 
-// The first bytes are read, where they were not refused.
+// The first bytes are read, if they were not refused.
 fn expect_bytes(items: Option<Vec<u8>>, wanted: &[u8]) -> Result<(), Fail> {
     match items {
         Some(items) => same(&"items", &items.as_slice(), &wanted),

@@ -1,4 +1,4 @@
-//! Contexts by their names, and what is meant where none is given.
+//! Contexts by their names, and what is meant if none is given.
 
 use deku_num::ctx::{BitSize, ByteSize, Endian, Order, ParseEndianError};
 use std::str::FromStr;

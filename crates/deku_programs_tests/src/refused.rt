@@ -4,8 +4,8 @@ use crate::runs::Layout;
 use deku_testing::runs::expect_lines;
 use std::test::Fail;
 
-// Words of no form; words that are no field, which are told; fields that have no picture; and bytes
-// that are none, or too few.
+// Words of no form; words that are no field, which are printed; fields that have no picture; and
+// bytes that are none, or too few.
 const RUNS: &str = "||2||usage: layout [--svg|--bytes HEX] [NAME:]SPEC..;
 /--svg||2||usage: layout [--svg|--bytes HEX] [NAME:]SPEC..;
 /--bytes||2||usage: layout [--svg|--bytes HEX] [NAME:]SPEC..;

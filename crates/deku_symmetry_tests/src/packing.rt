@@ -113,7 +113,7 @@ fn texts(rt: HostRuntime) -> Result<(), Fail> {
     same(&"packed", &text.pack(alloc, ())?.as_slice(), &&bytes[..3])
 }
 
-// Bits that were not read are zero where the value is packed again.
+// Bits that were not read are zero when the value is packed again.
 #[test]
 fn unread_bits(rt: HostRuntime) -> Result<(), Fail> {
     let ctx = (BIG, BitSize(4), Order::Lsb0);

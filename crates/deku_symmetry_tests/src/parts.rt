@@ -1,5 +1,5 @@
 //! Parts that are always one value, records that hold memory or are read under an endian, and
-//! numbers whose bits lie apart.
+//! numbers whose bits are split.
 
 ghost use Rattle.std.specs.Prelude.{codes, refl};
 ghost use Rattle.deku.specs.Outcomes.{Mapped};
@@ -121,7 +121,7 @@ struct Pair {
     second: u32,
 }
 
-// Its fields as they lie.
+// Its fields as they are laid out.
 type PairParts = (u16, u32);
 
 impl FromParts<Endian> for Pair {

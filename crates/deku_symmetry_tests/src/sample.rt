@@ -18,7 +18,7 @@ pub struct Sample {
     pub value: u16,
 }
 
-// The fields as they lie.
+// The fields as they are laid out.
 type Parts = (Msb<u8, 4>, Msb<u8, 4>, Be<u16>);
 
 impl FromParts<()> for Sample {

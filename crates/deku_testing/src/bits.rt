@@ -210,7 +210,7 @@ impl<'b> Slow<'b> {
         }
     }
 
-    // Holds the bits of the next byte, where none is unread.
+    // Holds the bits of the next byte, if none is unread.
     fn fetch(&mut self) -> Result<(), Fail> {
         if self.low < self.high {
             return Ok(());

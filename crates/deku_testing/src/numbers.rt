@@ -41,8 +41,8 @@ pub fn number(endian: Endian, order: Order, bits: &[bool]) -> u128 {
     }
 }
 
-/// What a list of bits is worth: where there is a sign, its number less two to the width, if it is
-/// half of that or more.
+/// The value of a list of bits: if there is a sign, its number less two to the width, if it is half
+/// of that or more.
 pub fn worth(signed: bool, endian: Endian, order: Order, bits: &[bool]) -> u128 {
     let number = number(endian, order, bits);
     if !signed || bits.is_empty() || number < two_to(bits.len() - 1) {
@@ -97,7 +97,7 @@ fn is_uneven(number_type: NumberType, layout: Layout) -> bool {
         && width % 8 != 0
 }
 
-/// Why the layout is refused where a number is read, if it is.
+/// Why the layout is refused when a number is read, if it is.
 pub fn refused_to_read(number_type: NumberType, layout: Layout) -> Option<DekuError> {
     if width(number_type, layout.size) > number_type.bits {
         return Some(DekuError::Parse("too much data"));
@@ -108,7 +108,7 @@ pub fn refused_to_read(number_type: NumberType, layout: Layout) -> Option<DekuEr
     None
 }
 
-/// Why the layout is refused where a number is written, if it is.
+/// Why the layout is refused when a number is written, if it is.
 pub fn refused_to_write(number_type: NumberType, layout: Layout) -> Option<DekuError> {
     if width(number_type, layout.size) > number_type.bits {
         return Some(match layout.size {

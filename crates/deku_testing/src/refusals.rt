@@ -33,7 +33,7 @@ impl Refusal {
     }
 }
 
-/// The refusal that is wanted, where one is.
+/// The refusal that is wanted, if there is one.
 pub fn refused<T>(want: &Result<T, Refusal>) -> Option<DekuError> {
     match want {
         Ok(_) => None,

@@ -7,7 +7,7 @@ use std::fmt::Debug;
 use std::io::Cursor;
 use std::process::Abort;
 
-// A refusal in a table: the end of input, where so many bits were wanted, or another one.
+// A refusal in a table: the end of input, when so many bits were asked for, or another one.
 #[derive(Clone, Copy)]
 pub enum Refusal {
     Until(usize),
@@ -23,7 +23,7 @@ impl Refusal {
     }
 }
 
-// What a call that takes memory answers, in a table.
+// What a call that takes memory returns, in a table.
 pub type Answer<T> = Result<&'static [T], Refusal>;
 
 // What was got is what was wanted, in the row of this name.
@@ -121,7 +121,7 @@ pub fn expect_whole<T: DekuReader<C> + DekuWriter<C> + PartialEq + Debug, C: Cop
     same(rt, &bytes, &(answer, read), &(Ok(want), bytes.len()));
 }
 
-// The bytes are refused with this text after so many bits, and the byte behind is read then.
+// The bytes are refused with this text after so many bits, and the byte after them is read then.
 pub fn expect_denied<T: DekuReader<C> + PartialEq + Debug, C: Copy>(
     rt: &impl Abort,
     alloc: Global,
@@ -138,7 +138,7 @@ pub fn expect_denied<T: DekuReader<C> + PartialEq + Debug, C: Copy>(
     same(rt, &bytes, &seen, &(Err(want.0), want.1, Ok(want.2)));
 }
 
-// A call that takes memory answers these items or this refusal.
+// A call that takes memory returns these items or this refusal.
 pub fn expect_answer<T: PartialEq + Debug + Drop>(
     rt: &impl Abort,
     run: &str,

@@ -52,7 +52,8 @@ fn read_to_zero(reader: &mut Reader<Cursor<&[u8]>>) -> Result<Map<u8, u8>, DekuE
     next(reader, zero)
 }
 
-// Bytes, where a map ends in them, its pairs or its refusal, and how many bits are read then.
+// Bytes, the place where a map ends in them, its pairs or its refusal, and how many bits are read
+// then.
 type Row = (
     &'static [u8],
     Stop,
@@ -81,7 +82,7 @@ const ROWS: [Row; 4] = [
         Ok(&[(0, 0xBB), (1, 0xAA)]),
         32,
     ),
-    // A map refused in a pair is refused behind what of it was read.
+    // A map that is refused in a pair is refused after what was read of it.
     (&[1, 2, 3], Stop::End, Err(Until(8)), 24),
 ];
 

@@ -39,7 +39,7 @@ impl Stop {
     }
 }
 
-// A call on a reader, and what it answers.
+// A call on a reader, and what it returns.
 enum Step {
     // Bytes, under the limit alone, and numbers of so many bits, with and without an endian.
     Octets(Stop, Answer<u8>),
@@ -201,7 +201,7 @@ const RUNS: [Run; 10] = [
             Step::Units(Stop::End, Ok(&[])),
         ],
     ),
-    // What raises no count is refused where the list does not end with it.
+    // What raises no count is refused if the list does not end with it.
     (
         "items without width up to an end",
         &[1, 2, 3],

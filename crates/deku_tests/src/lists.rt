@@ -35,7 +35,7 @@ fn half_an_array(rt: HostRuntime) {
     expect_bytes(&rt, &"before the misfit", writer, &[0x50]);
 }
 
-// An array stands among others in a pair, and none of no items reads anything.
+// An array is among others in a pair, and one of no items reads nothing.
 #[test]
 fn arrays_in_pairs(rt: HostRuntime) -> Result<(), Fail> {
     let bytes: &[u8] = &[0x01, 0x02, 0x03, 0x04];

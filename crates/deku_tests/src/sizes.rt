@@ -30,7 +30,7 @@ impl DekuSize for Open {
     }
 }
 
-// So many bits, and so many bytes where these are whole.
+// So many bits, and so many bytes if these are whole.
 fn expect_size<T: DekuSize>(rt: &impl Abort, row: &str, bits: Option<usize>, bytes: Option<usize>) {
     same(rt, &row, &(T::size_bits(), T::size_bytes()), &(bits, bytes));
     same(rt, &row, &BitSize::of::<T>(), &bits.map(BitSize));

@@ -1,4 +1,4 @@
-//! Truth values, numbers other than 0 and addresses, which stand for numbers.
+//! Truth values, numbers other than 0 and addresses, which are read and written as numbers.
 
 use super::expecting::{expect_bytes, expect_denied, expect_whole, expect_written, same};
 use deku::ctx::Endian::{Big, Little};

@@ -27,7 +27,7 @@ fn text(rt: &impl Abort, alloc: Global, bytes: &[u8]) -> Result<CString, Fail> {
     Ok(text.unwrap())
 }
 
-// Bytes, and what they are with a zero behind them, if they are a text.
+// Bytes, and what they are with a zero after them, if they are a text.
 type Bytes = (&'static [u8], Option<&'static [u8]>);
 
 const BYTES: [Bytes; 5] = [
@@ -65,7 +65,7 @@ fn compared(rt: HostRuntime) -> Result<(), Fail> {
     Ok(())
 }
 
-// A call on a reader, and what it answers.
+// A call on a reader, and what it returns.
 enum Step {
     // A text up to a zero, and one of so many bytes.
     UpToZero(Answer<u8>),
@@ -169,7 +169,7 @@ const RUNS: [(&str, &[u8], &[Step]); 6] = [
         &[0x74, 0x65, 0x73, 0x74, 0x00, 0x00],
         &[Step::Within(6, Err(NO_TEXT)), Step::Read(48)],
     ),
-    // The end of input is answered again until a seek succeeds.
+    // The end of input is returned again until a seek succeeds.
     (
         "behind the end",
         b"test",

@@ -14,7 +14,7 @@ use deku_testing_values::expecting::{MISFIT, next, put, reader_of, writer_in};
 use std::io::Cursor;
 use std::test::Fail;
 
-// It moves nothing, whatever its context, and so it does where the reader has stopped.
+// It moves nothing, whatever its context, also if the reader has stopped.
 #[test]
 fn nothing(rt: HostRuntime) {
     let alloc = rt.alloc();

@@ -16,7 +16,7 @@ use std::io::{Cursor, ErrorKind, Seek, SeekFrom};
 use std::process::Abort;
 use std::test::Fail;
 
-// Bytes, the call that fails, the steps of a reader, and where the cursor stands then.
+// Bytes, the call that fails, the steps of a reader, and the cursor's position after them.
 type Fault = (&'static [u8], usize, &'static [Step], u64);
 
 const FAULTS: [Fault; 2] = [
@@ -146,7 +146,7 @@ fn fill_bytes<R: Source>(
 
 const AA: [Step; 2] = [Step::Fill(1, Msb0, Ok(&[0xAA])), Step::Count(8)];
 
-// The reader has stopped with the fault: so each call answers, no bit is left over, and the count
+// The reader has stopped with the fault: each call returns it, no bit is left over, and the count
 // is still eight.
 const STOPPED: [Step; 7] = [
     Step::Into(0, Lsb0, Err(FAILED)),
@@ -158,8 +158,8 @@ const STOPPED: [Step; 7] = [
     Step::Count(8),
 ];
 
-// Takes three bytes behind one, where the nth call behind that one fails: it is answered and kept
-// until a seek. It answers whether memory was refused.
+// Takes three bytes after the first one. The nth call after that one fails, and the fault is
+// returned and kept until a seek. Returns whether memory was refused.
 fn expect_taken(rt: &impl Abort, alloc: Global, case: (Way, usize), n: usize) -> bool {
     let bytes: &[u8] = &[0xAA, 0xBB, 0xCC, 0xDD];
     let source = FailAt::new(Cursor::new(bytes), n.saturating_add(1));
@@ -185,8 +185,8 @@ fn expect_taken_from<R: Source + Drop>(
     lacks
 }
 
-// The reader fails in this way and stops with the fault, at the place behind the calls that
-// succeeded, until a seek. It answers whether memory was refused.
+// The reader fails in this way and stops with the fault, at the place after the calls that
+// succeeded, until a seek. Returns whether memory was refused.
 fn expect_failed<R: Source>(rt: &impl Abort, row: Row, reader: &mut Reader<R>, way: Way) -> bool {
     let failed = Err(FAILED.error());
     let once = take_three(rt, row, reader, way);
@@ -204,7 +204,7 @@ fn gone_to<R: Source>(reader: &mut Reader<R>, to: SeekFrom) -> Result<u64, Error
     kind_of(reader.seek(to))
 }
 
-// So in each way. It answers whether memory was refused.
+// The same in each way. Returns whether memory was refused.
 fn expect_each_way(rt: &impl Abort, alloc: Global, n: usize) -> bool {
     let mut lacking = false;
     for case in WAYS {

@@ -37,7 +37,7 @@ impl<'a> Seek for Failing<'a> {
     }
 }
 
-// It tells nothing.
+// Nothing is known of it.
 impl<'a> Source for Failing<'a> {
     ghost known = { λ _. unknown_source };
 
@@ -63,7 +63,7 @@ impl<'a> Source for Failing<'a> {
 }
 
 // Bytes; how many are given before a fault, and after it; the steps; how many fetches and how many
-// seeks were asked for, and where the source is left.
+// seeks were asked for, and the source's position at the end.
 type Fault = (
     &'static [u8],
     usize,
@@ -148,7 +148,7 @@ const FAULTS: [Fault; 4] = [
         1,
         2,
     ),
-    // A seek asks the source once, and not at all where the count has no room.
+    // A seek asks the source once, and not at all if the count has no room.
     (
         &[0x01, 0x02, 0x03],
         3,

@@ -1,5 +1,5 @@
-//! Reads where memory may be refused: each shows what it would, or answers that there is none, and
-//! then nothing has moved.
+//! Reads that may run out of memory: each returns its value, or that there is no memory, and then
+//! nothing has moved.
 
 use crate::taken::{Case, Left, Step, take_tables};
 use deku_bits::ctx::Order::{Lsb0, Msb0};

@@ -26,8 +26,8 @@ enum Way {
     Padding(Order),
 }
 
-// Each way, how many calls on the sink it makes, one for each byte, and what the sink holds behind
-// its first byte then.
+// Each way, how many calls on the sink it makes, one for each byte, and what the sink then has
+// after its first byte.
 const WAYS: [(Way, usize, [u8; 3]); 5] = [
     (Way::Bits(Msb0), 3, [0xBB, 0xCC, 0xDD]),
     (Way::Bits(Lsb0), 3, [0xBB, 0xCC, 0xDD]),
@@ -48,8 +48,8 @@ fn write<W: Sink>(writer: &mut Writer<W>, way: Way) -> Result<(), DekuError> {
     }
 }
 
-// The writer fails in this way and stops with the fault, at the place behind the calls that
-// succeeded, until a seek. It answers whether memory was refused.
+// The writer fails in this way and stops with the fault, at the place after the calls that
+// succeeded, until a seek. Returns whether memory was refused.
 fn expect_failed<W: Sink>(
     alloc: Global,
     row: Row,
@@ -70,8 +70,8 @@ fn expect_failed<W: Sink>(
 
 const AA: [Put; 2] = [Put::Bytes(&[0xAA], Ok(())), Put::Count(8)];
 
-// Writes behind one byte, where the nth of so many calls behind that one fails: it is answered and
-// kept until a seek. It answers whether memory was refused.
+// Writes after the first byte. The nth of so many calls after that byte fails, and the fault is
+// returned and kept until a seek. Returns whether memory was refused.
 fn write_failing<W: Sink + Drop>(
     rt: &impl Abort,
     alloc: Global,
@@ -107,7 +107,7 @@ fn expect_written(
     Ok(lacks)
 }
 
-// So in each way. It answers whether memory was refused.
+// The same in each way. Returns whether memory was refused.
 fn expect_each_way(rt: &impl Abort, alloc: Global, n: usize) -> Result<bool, Fail> {
     let mut lacking = false;
     for case in WAYS {
@@ -127,7 +127,7 @@ fn keeps_a_fault_at_each_call(rt: HostRuntime) -> Result<(), Fail> {
     handed(lacking)
 }
 
-// Seeks behind one byte and four bits, where the nth call behind that byte fails.
+// Seeks after one byte and four bits, if the nth call after that byte fails.
 const AT_THE_SEEK: [Put; 9] = [
     Put::Bytes(&[0xAA], Ok(())),
     Put::Bits("1011", Ok(())),

@@ -66,7 +66,7 @@ const ONTO: [Grown; 4] = [
     ),
 ];
 
-// A byte behind bytes is filled.
+// A byte after other bytes is filled.
 const BEHIND: [Grown; 1] = [(
     &[
         Put::Ordered(Lsb0, "101", Ok(())),

@@ -35,7 +35,7 @@ impl Seek for Failing {
     }
 }
 
-// It tells nothing.
+// Nothing is known of it.
 impl Sink for Failing {
     ghost known = { λ _. unknown_sink };
 
@@ -58,7 +58,7 @@ impl Sink for Failing {
 type Calls = (usize, &'static [Put], usize);
 
 const CALLS: [Calls; 8] = [
-    // The writer answers the fault again without asking its sink.
+    // The writer returns the fault again without asking its sink.
     (
         1,
         &[

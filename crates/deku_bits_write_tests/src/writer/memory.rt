@@ -1,4 +1,4 @@
-//! Writes where memory may be refused: to a vector that has to grow, and of the pending bits into a
+//! Writes that may run out of memory: to a vector that has to grow, and of the pending bits into a
 //! new one.
 
 use crate::given::{Put, expect_kept, give_sink, give_steps};
@@ -56,7 +56,7 @@ const FAR: [Put; 4] = [
     Put::Kept(NO_MEMORY),
 ];
 
-// A place far behind the bytes of a vector wants more memory than there is.
+// A place far after the bytes of a vector needs more memory than there is.
 #[test]
 fn refuses_what_memory_cannot_hold(rt: HostRuntime) -> Result<(), Fail> {
     let mut cursor = Cursor::new(Vec::new(rt.alloc()));
@@ -75,7 +75,7 @@ const TELLS: [Put; 5] = [
     Put::Count(16),
 ];
 
-// The pending bits are told, or memory is refused, and then they are pending still.
+// The pending bits are returned, or memory is refused, and then they are still pending.
 #[test]
 fn tells_what_is_pending_or_wants_memory(rt: HostRuntime) -> Result<(), Fail> {
     let mut slice = [0; 2];

@@ -25,7 +25,7 @@ const DROPS: [Grown; 2] = [
         ],
         &[0xAA, 0xDD, 0xCC],
     ),
-    // The other calls that seek are the seek that each stands for.
+    // The other calls that seek do the same as `seek`.
     (
         &[
             Put::Bytes(&[0xAA, 0xBB], Ok(())),

@@ -1,5 +1,5 @@
-//! Words near the end of the bytes, where the next eight are at hand or no more, against a source
-//! that has none at hand.
+//! Words near the end of the bytes, with the next eight in memory or not, against a source that has
+//! none in memory.
 
 use deku_bits::ctx::Order;
 use deku_bits::ctx::Order::{Lsb0, Msb0};
@@ -28,7 +28,7 @@ struct Start {
 }
 
 impl Start {
-    // How many bits lie in front of the word.
+    // How many bits are before the word.
     fn bits(self) -> usize {
         self.bytes.wrapping_mul(8).wrapping_add(self.offset)
     }
@@ -144,7 +144,7 @@ fn sources_with_nothing_at_hand_fail_as_they_fetch(rt: HostRuntime) -> Result<()
 }
 
 // Bits that are read in turn from the highest down, so many of them, and the number that is wanted
-// where they are unread or at hand.
+// if they are unread or in memory.
 const HIGH: [(usize, Option<u64>); 14] = [
     (12, Some(0xABC)),
     (0, Some(0)),

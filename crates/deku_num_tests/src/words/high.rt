@@ -1,4 +1,4 @@
-//! Numbers that are laid from the highest bit down, where eight bytes of room are at hand.
+//! Numbers that are written from the highest bit down, with room for eight bytes in memory.
 
 use deku_bits::ctx::Order::Lsb0;
 use deku_bits::device::Sink;
@@ -8,11 +8,11 @@ use std::io::Cursor;
 use std::process::Abort;
 use std::test::Fail;
 
-// Bits that are written first, in `Lsb0`; numbers of so many bits, and whether each is laid; then
-// how many bits are counted, and how many are pending.
+// Bits that are written first, in `Lsb0`; numbers of so many bits, and whether each is written;
+// then how many bits are counted, and how many are pending.
 type Row = (&'static [bool], &'static [(u64, usize, bool)], usize, usize);
 
-// After forty bits fewer than eight bytes of room are left. No number is laid after bits of the
+// After forty bits fewer than eight bytes of room are left. No number is written after bits of the
 // other order.
 const ROWS: [Row; 2] = [
     (
@@ -35,7 +35,7 @@ const ROWS: [Row; 2] = [
 // A vector has no bytes.
 const NO_ROOM: Row = (&[], &[(0xABCD, 16, false)], 0, 0);
 
-// Each number is laid where it should be; the sink then.
+// Each number is written if it should be; the sink then.
 fn lay_numbers<W: Sink + Drop>(rt: &impl Abort, sink: W, row: &Row) -> Result<W, Fail> {
     let (front, numbers, count, pending) = row;
     let mut writer = Writer::new(sink);

@@ -1,5 +1,4 @@
-//! Words where eight bytes of room are left, where fewer are, and onto a sink that never lays them
-//! at once.
+//! Words with eight bytes of room left, with fewer, and onto a sink that never puts them at once.
 
 ghost use Rattle.deku_bits.specs.Devices.{unknown_sink};
 
@@ -49,7 +48,7 @@ impl<S: Sink> Sink for Giving<S> {
     }
 }
 
-// What lies in the slice before.
+// What is in the slice before.
 const THERE: u8 = 0xA6;
 
 // Bits that are written in front of a word.
@@ -105,7 +104,7 @@ fn make_given(rt: &impl Abort, row: Row) -> Made {
     (slice, left)
 }
 
-// The whole bytes of the bits that the order meets, after what lies there, and in front of it.
+// The whole bytes of the bits that the order meets, after what is there, and in front of it.
 fn make_wanted(rt: &impl Abort, row: Row) -> Made {
     let mut slice = [THERE; 12];
     let mut met = [false; 128];

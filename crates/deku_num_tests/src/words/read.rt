@@ -48,7 +48,7 @@ fn read_from<R: Source + Drop>(
     Ok((word, count, reader.into_inner()))
 }
 
-// The word, how many bits are read then, and where the source stands.
+// The word, how many bits are read then, and the position of the source.
 fn read_bytes(
     alloc: Global,
     bytes: &[u8],

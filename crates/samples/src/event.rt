@@ -1,0 +1,83 @@
+//! What a station reports.
+//!
+//! Printed by `derive` from `event.rs`.
+
+ghost use Rattle.std.specs.Prelude.{refl};
+ghost use Rattle.deku_symmetry.specs.Fields.{be};
+ghost use Rattle.deku_pieces.specs.declared.either.Either.TheVariants as either;
+ghost use Rattle.samples.specs.declared.event.Event.TheVariants as event_kinds;
+
+use deku_symmetry::{Be, CopyParts, Either, Enum, InRange, Kind, MsbEnum, Otherwise};
+
+/// A `Event`.
+#[derive(Debug, Clone, Copy, PartialEq, Eq)]
+pub enum Event {
+    /// Id 1.
+    Started,
+    /// Id 2.
+    Passed { sensor: u8, limit: u16 },
+    /// Every other id.
+    Other(u64, u16),
+}
+
+impl CopyParts for Event {
+    type Parts = MsbEnum<
+        Either<Either<Kind<(), 1>, Kind<(u8, Be<u16>), 2>>, Otherwise<Be<u16>>>,
+        8,
+    >;
+
+    ghost parts_of = { elim [
+      | event_kinds.Started ↦ record {
+        kind = either.This (either.This (record { 0 = tt }));
+        id = record {};
+      }
+      | event_kinds.Passed sensor limit ↦ record {
+        kind = either.This (either.Other (record { 0 = (sensor, be limit) }));
+        id = record {};
+      }
+      | event_kinds.Other field_0 field_1 ↦ record {
+        kind = either.Other (record { id = field_0; value = be field_1 });
+        id = record {};
+      }
+    ] };
+
+    ghost record_of = { λ p. elim p.kind [
+      | either.This k ↦ elim k [
+        | either.This k ↦ event_kinds.Started
+        | either.Other k ↦ event_kinds.Passed k.0.0 k.0.1.0
+      ]
+      | either.Other k ↦ event_kinds.Other k.id k.value.0
+    ] };
+
+    fn from_parts(parts: Self::Parts) -> Self {
+        match parts.kind {
+            Either::This(Either::This(Kind(()))) => Event::Started,
+            Either::This(Either::Other(Kind((sensor, Be(limit))))) => Event::Passed {
+                sensor,
+                limit,
+            },
+            Either::Other(kept) => Event::Other(kept.id, kept.value.0),
+        }
+    }
+
+    fn parts(&self) -> Self::Parts {
+        match self {
+            Event::Started => Enum::new(Either::This(Either::This(Kind(())))),
+            Event::Passed { sensor, limit } => {
+                Enum::new(Either::This(Either::Other(Kind((*sensor, Be(*limit))))))
+            }
+            Event::Other(field_0, field_1) => {
+                Enum::new(Either::Other(InRange {
+                    id: *field_0,
+                    value: Be(*field_1),
+                }))
+            }
+        }
+    }
+
+    ghost there = { elim [
+      | event_kinds.Started ↦ refl
+      | event_kinds.Passed sensor limit ↦ refl
+      | event_kinds.Other field_0 field_1 ↦ refl
+    ] };
+}

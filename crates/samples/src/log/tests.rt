@@ -1,0 +1,38 @@
+//! Logs as bytes, and back.
+
+use crate::log::{read_log, sample_of, sum, write_log};
+use crate::sample::Sample;
+use deku::prelude::{DekuError, NeedSize, Reader, Writer};
+use deku_symmetry::{Codec, Coded};
+use std::io::Cursor;
+use std::test::Fail;
+
+const BYTES: &[u8] = &[0x69, 0xC0, 0xFE, 0x69, 0xC0, 0xFF];
+
+#[test]
+fn both_ways(rt: HostRuntime) -> Result<(), Fail> {
+    let samples = [sample_of(0xC0FE), sample_of(0xC0FF)];
+    let mut writer = Writer::new(Cursor::new(Vec::new(rt.alloc())));
+    write_log(&mut writer, &samples)?;
+    assert_eq!(rt; writer.into_inner().into_inner().as_slice(), BYTES);
+    let read = read_log(&mut Reader::new(rt.alloc(), Cursor::new(BYTES)))?;
+    assert_eq!(rt; read.as_slice(), samples.map(Coded).as_slice());
+    Ok(())
+}
+
+#[test]
+fn a_short_sample(rt: HostRuntime) -> Result<(), Fail> {
+    let mut reader = Reader::new(rt.alloc(), Cursor::new(&BYTES[..2]));
+    let error = DekuError::Incomplete(NeedSize::new(16));
+    assert_eq!(rt; Sample::read(&mut reader), Err(error));
+    assert_eq!(rt; reader.bits_read(), 8); // where `value` begins
+    Ok(())
+}
+
+#[test]
+fn a_sum(rt: HostRuntime) -> Result<(), Fail> {
+    let bytes = [0x00, 0x01, 0xFF, 0xFF, 0x00, 0x02].as_slice();
+    let mut reader = Reader::new(rt.alloc(), Cursor::new(bytes));
+    assert_eq!(rt; sum(&mut reader)?, 0x10002);
+    Ok(())
+}
