@@ -3,9 +3,9 @@
 use crate::model::{Endian, Form, Layout, Module, Order, Record};
 use crate::reading::{Scope, said, text_in};
 use crate::table::{Owner, Verdict, judge};
-use deku_tokens::place::{Complaint, Span};
 use deku_description::syntax;
 use deku_description::syntax::{Attribute, Body, File, Head};
+use deku_tokens::place::{Complaint, Span};
 use deku_tokens::token::Token;
 use std::alloc::{AllocError, Global};
 use std::collections::BTreeSet;

@@ -8,9 +8,9 @@ use crate::reading::{
 };
 use crate::table::Owner;
 use deku_description::formula::formula;
-use deku_tokens::place::Span;
 use deku_description::syntax;
 use deku_description::syntax::{Expression, Fields, Head, Shape, Type};
+use deku_tokens::place::Span;
 use deku_tokens::token::Token;
 use std::alloc::AllocError;
 

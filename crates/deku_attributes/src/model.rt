@@ -1,7 +1,7 @@
 //! Descriptions after they are checked.
 
-use deku_tokens::place::Span;
 use deku_description::syntax::{Constant, Expression, Shape, Type};
+use deku_tokens::place::Span;
 use deku_tokens::token::Token;
 
 /// A file of records that can be printed.

@@ -1,8 +1,8 @@
 //! What attributes say, and what types are.
 
 use crate::model::Id;
-use deku_tokens::literal::integer;
 use deku_description::syntax::{Attribute, Expression, Head, Length, Type, Value};
+use deku_tokens::literal::integer;
 use deku_tokens::token::{Kind, Token};
 
 /// The first attribute of a name.

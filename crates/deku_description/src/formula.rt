@@ -3,9 +3,9 @@
 ghost use Rattle.std.specs.Prelude.{◌≤◌, length};
 
 use crate::cursor::{Cursor, Stop};
+use crate::syntax::{Expression, Operator};
 use deku_tokens::literal::integer;
 use deku_tokens::place::{Complaint, Span};
-use crate::syntax::{Expression, Operator};
 use deku_tokens::token::{Kind, Token, broken_tokens, tokens};
 use std::alloc::{AllocError, Global};
 
