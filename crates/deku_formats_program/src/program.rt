@@ -96,7 +96,7 @@ impl Told for Records {
     ghost tells = { of_format
         (TellsOf (λ v. ⟦<Coded<Chassis> as Symmetric<()>>⟧.pieces v tt))
         (TellsOf (λ v. ⟦<Telemetry as Symmetric<()>>⟧.pieces v tt))
-        (TellsOf (λ v. ⟦<Coded<Query> as Symmetric<()>>⟧.pieces v tt))
+        (TellsOf (λ v. ⟦<Query as Symmetric<()>>⟧.pieces v tt))
         (TellsOf (λ v. ⟦<Elf as Symmetric<()>>⟧.pieces v tt))
         (TellsOf (λ v. ⟦<Ipv4 as Symmetric<()>>⟧.pieces v tt))
         (TellsOf (λ v. ⟦<Png as Symmetric<()>>⟧.pieces v tt))
@@ -110,9 +110,9 @@ impl Told for Records {
         (StopsOf (⟦<Telemetry as DekuReader<()>>⟧.meaning tt)
         (λ v. ⟦<Telemetry as Symmetric<()>>⟧.pieces v tt)
         (λ v. ⟦<Telemetry as DekuWriter<()>>⟧.meaning v tt))
-        (StopsOf (⟦<Coded<Query> as DekuReader<()>>⟧.meaning tt)
-        (λ v. ⟦<Coded<Query> as Symmetric<()>>⟧.pieces v tt)
-        (λ v. ⟦<Coded<Query> as DekuWriter<()>>⟧.meaning v tt))
+        (StopsOf (⟦<Query as DekuReader<()>>⟧.meaning tt)
+        (λ v. ⟦<Query as Symmetric<()>>⟧.pieces v tt)
+        (λ v. ⟦<Query as DekuWriter<()>>⟧.meaning v tt))
         (StopsOf (⟦<Elf as DekuReader<()>>⟧.meaning tt) (λ v. ⟦<Elf as Symmetric<()>>⟧.pieces v tt)
         (λ v. ⟦<Elf as DekuWriter<()>>⟧.meaning v tt))
         (StopsOf (⟦<Ipv4 as DekuReader<()>>⟧.meaning tt)
@@ -275,7 +275,7 @@ fn record_text(alloc: Global, format: Format, bytes: &[u8]) -> Result<String, Fa
     match format {
         Format::Can => shown::<Coded<Chassis>>(alloc, bytes),
         Format::Ccsds => shown::<Telemetry>(alloc, bytes),
-        Format::Dns => shown::<Coded<Query>>(alloc, bytes),
+        Format::Dns => shown::<Query>(alloc, bytes),
         Format::Elf => shown::<Elf>(alloc, bytes),
         Format::Ipv4 => shown::<Ipv4>(alloc, bytes),
         Format::Png => shown::<Png>(alloc, bytes),
