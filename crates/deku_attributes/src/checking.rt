@@ -3,10 +3,10 @@
 use crate::model::{Endian, Form, Layout, Module, Order, Record};
 use crate::reading::{Scope, said, text_in};
 use crate::table::{Owner, Verdict, judge};
-use deku_description::place::{Complaint, Span};
 use deku_description::syntax;
 use deku_description::syntax::{Attribute, Body, File, Head};
-use deku_description::token::Token;
+use deku_tokens::place::{Complaint, Span};
+use deku_tokens::token::Token;
 use std::alloc::{AllocError, Global};
 use std::collections::BTreeSet;
 
@@ -263,7 +263,7 @@ impl<'a> Checker<'a> {
             return Ok(None);
         };
         if let Some(value) = attribute.value {
-            if let Some(bytes) = deku_description::literal::bytes(self.alloc, value.token.text)? {
+            if let Some(bytes) = deku_tokens::literal::bytes(self.alloc, value.token.text)? {
                 return Ok(Some(bytes));
             }
         }

@@ -8,10 +8,10 @@ use crate::reading::{
 };
 use crate::table::Owner;
 use deku_description::formula::formula;
-use deku_description::place::Span;
 use deku_description::syntax;
 use deku_description::syntax::{Expression, Fields, Head, Shape, Type};
-use deku_description::token::Token;
+use deku_tokens::place::Span;
+use deku_tokens::token::Token;
 use std::alloc::AllocError;
 
 // The attributes of which a list has exactly one.

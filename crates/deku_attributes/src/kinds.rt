@@ -5,7 +5,7 @@ use crate::model::{Case, Endian, Id, IdSource, Ids, Layout};
 use crate::reading::{bits_of, number_in, pattern_in, said, text_in};
 use crate::table::Owner;
 use deku_description::syntax::{Attribute, Head, Value, Variant};
-use deku_description::token::Token;
+use deku_tokens::token::Token;
 use std::alloc::AllocError;
 
 impl<'a> Checker<'a> {

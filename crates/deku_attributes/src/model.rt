@@ -1,8 +1,8 @@
 //! Descriptions after they are checked.
 
-use deku_description::place::Span;
 use deku_description::syntax::{Constant, Expression, Shape, Type};
-use deku_description::token::Token;
+use deku_tokens::place::Span;
+use deku_tokens::token::Token;
 
 /// A file of records that can be printed.
 #[derive(Drop)]

@@ -1,9 +1,9 @@
 //! What attributes say, and what types are.
 
 use crate::model::Id;
-use deku_description::literal::integer;
 use deku_description::syntax::{Attribute, Expression, Head, Length, Type, Value};
-use deku_description::token::{Kind, Token};
+use deku_tokens::literal::integer;
+use deku_tokens::token::{Kind, Token};
 
 /// The first attribute of a name.
 pub(crate) fn said<'a>(head: &Head<'a>, name: &str) -> Option<Attribute<'a>> {

@@ -4,7 +4,6 @@ use crate::computing::{Computed, Computer};
 use crate::marker;
 use crate::marker::Marker;
 use deku_attributes::model::{Attribute, Endian, Field, Order};
-use deku_description::place::{Complaint, Span};
 use deku_description::syntax::{Constant, Expression, Operator, Type};
 use deku_texts::document::Text;
 use deku_texts::lying::item;
@@ -14,6 +13,7 @@ use deku_texts::part::{
 use deku_texts::records::Records;
 use deku_texts::refusal::Stop;
 use deku_texts::words;
+use deku_tokens::place::{Complaint, Span};
 use std::alloc::{AllocError, Global};
 
 /// The parts of a record while they are made.

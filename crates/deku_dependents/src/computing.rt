@@ -1,11 +1,11 @@
 //! What counts and conditions compute, as code and as ghost text.
 
 use deku_attributes::reading::bits_of;
-use deku_description::place::Span;
 use deku_description::syntax::{Constant, Expression, Operator};
-use deku_description::token::Token;
 use deku_texts::part::Place;
 use deku_texts::refusal::Stop;
+use deku_tokens::place::Span;
+use deku_tokens::token::Token;
 use std::alloc::Global;
 
 /// How tightly a name or a number binds.

@@ -214,21 +214,18 @@ fn sides(alloc: Global, place: usize, count: usize) -> Result<Vec<bool>, AllocEr
 }
 
 fn kind_type(alloc: Global, kind: &Built<'_, '_>) -> Result<Text, AllocError> {
+    let (open, first, last) = match kind.case.id {
+        Id::Number(number) => ("Kind<", Some(number), None),
+        Id::Range(low, high) => ("InRange<", Some(low), Some(high)),
+        Id::Rest | Id::Pattern => ("Otherwise<", None, None),
+    };
     let mut items = Vec::new(alloc);
     items.push(kind.part.kind.copy(alloc)?)?;
-    let case = kind.case;
-    let open = match case.id {
-        Id::Number(number) => {
-            items.push(Text::of(format!(in alloc; "{number}")?))?;
-            "Kind<"
+    for id in [first, last] {
+        if let Some(id) = id {
+            items.push(Text::of(format!(in alloc; "{id}")?))?;
         }
-        Id::Range(low, high) => {
-            items.push(Text::of(format!(in alloc; "{low}")?))?;
-            items.push(Text::of(format!(in alloc; "{high}")?))?;
-            "InRange<"
-        }
-        Id::Rest | Id::Pattern => "Otherwise<",
-    };
+    }
     Text::group(alloc, Form::Angle, open, items)
 }
 

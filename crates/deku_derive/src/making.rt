@@ -1,11 +1,9 @@
 //! From the text of a description to the text of a module, or to what is wrong.
 
-ghost use Rattle.std.specs.Prelude.{◌≡◌, ◌↔◌, IsNone};
-
 use crate::printing::print;
 use deku_attributes::check;
 use deku_description::parse;
-use deku_description::place::told;
+use deku_tokens::place::told;
 use std::alloc::{AllocError, Global};
 
 /// What a run makes of a description.
@@ -77,22 +75,4 @@ pub fn module_path(
         return Ok(Some(String::from_str(alloc, name)?));
     }
     Ok(Some(format!(in alloc; "{name}.{module}")?))
-}
-
-/// The first line, from 1, in which two texts differ.
-///
-/// ```text
-/// first_difference("a\nb\n", "a\nc\n")    // Some(2)
-/// ```
-pub fn first_difference(one: &str, other: &str) -> Option<usize>
-    ensures { IsNone result ↔ (one.now ≡ other.now) }
-{
-    if one == other {
-        return None;
-    }
-    let pairs = one.bytes().zip(other.bytes());
-    let same = pairs
-        .take_while(|(a, b)| a == b)
-        .filter(|(a, _)| *a == b'\n');
-    Some(same.count().saturating_add(1))
 }

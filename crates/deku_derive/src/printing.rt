@@ -7,13 +7,13 @@ use crate::{enums, structs};
 use deku_attributes::model::{Case, Form, Id, IdSource, Ids, Module, Record};
 use deku_dependents::building::{Builder, field_name};
 use deku_dependents::marker::zeros;
-use deku_description::place::Complaint;
 use deku_description::syntax::{Constant, Type};
-use deku_description::token::Token;
 use deku_texts::part::Owner;
 use deku_texts::records::Records;
 use deku_texts::refusal::Stop;
 use deku_texts::words;
+use deku_tokens::place::Complaint;
+use deku_tokens::token::Token;
 use std::alloc::{AllocError, Global};
 use std::fmt::Write as _;
 
@@ -155,12 +155,9 @@ impl<'b, 'a> Printer<'b, 'a> {
     }
 
     fn has_name(&self, name: &str) -> bool {
-        for taken in &self.names {
-            if taken.as_str().eq_ignore_ascii_case(name) {
-                return true;
-            }
-        }
-        false
+        self.names
+            .iter()
+            .any(|taken| taken.as_str().eq_ignore_ascii_case(name))
     }
 
     // Notes what a builder made.

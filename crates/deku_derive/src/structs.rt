@@ -45,28 +45,42 @@ pub(crate) fn declaration(
     fields: &[Field<'_>],
     is_copied: bool,
 ) -> Result<(), AllocError> {
-    let alloc = *out.allocator();
     derives(out, record, is_copied)?;
     let name = record.name.text;
     if shape == Shape::Tuple {
-        let mut kinds = Vec::new(alloc);
-        for field in fields {
-            let kind = field_kind(alloc, field)?;
-            kinds.push(Text::of(kind).after(alloc, "pub ")?)?;
-        }
-        let open = format!(in alloc; "pub struct {name}(")?;
-        Text::group(alloc, Form::Pattern, open.as_str(), kinds)?.print(out, 0, 1, false)?;
-        return out.push_str(";\n");
+        tuple_struct(out, name, fields)
+    } else {
+        named_struct(out, name, fields)
     }
+}
+
+fn tuple_struct(out: &mut String, name: &str, fields: &[Field<'_>]) -> Result<(), AllocError> {
+    let alloc = *out.allocator();
+    let mut kinds = Vec::new(alloc);
+    for field in fields {
+        let kind = field_kind(alloc, field)?;
+        kinds.push(Text::of(kind).after(alloc, "pub ")?)?;
+    }
+    let open = format!(in alloc; "pub struct {name}(")?;
+    Text::group(alloc, Form::Pattern, open.as_str(), kinds)?.print(out, 0, 1, false)?;
+    out.push_str(";\n")
+}
+
+fn named_struct(out: &mut String, name: &str, fields: &[Field<'_>]) -> Result<(), AllocError> {
     writeln!(out, "pub struct {name} {{")?;
     for field in fields {
         docs(out, field.docs.as_slice(), "    ///")?;
-        let kind = field_kind(alloc, field)?;
-        let name = field_name(alloc, field, 0)?;
-        let (name, kind) = (name.as_str(), kind.as_str());
-        writeln!(out, "    pub {name}: {kind},")?;
+        declared(out, field)?;
     }
     out.push_str("}\n")
+}
+
+fn declared(out: &mut String, field: &Field<'_>) -> Result<(), AllocError> {
+    let alloc = *out.allocator();
+    let kind = field_kind(alloc, field)?;
+    let name = field_name(alloc, field, 0)?;
+    let (name, kind) = (name.as_str(), kind.as_str());
+    writeln!(out, "    pub {name}: {kind},")
 }
 
 /// Appends how a struct is read and written.
@@ -130,17 +144,27 @@ fn record_of(
 ) -> Result<Text, AllocError> {
     let mut items = Vec::new(alloc);
     for (i, field) in fields.iter().enumerate() {
-        let name = field_name(alloc, field, i)?;
-        let path = path_of(whole, name.as_str());
-        let name = if shape == Shape::Tuple {
-            format!(in alloc; "{i}")?
-        } else {
-            quoted(alloc, name.as_str())?
-        };
-        let name = name.as_str();
-        items.push(Text::of(format!(in alloc; "{name} = p{path}")?))?;
+        items.push(bound(alloc, shape, field, i, whole)?)?;
     }
     Text::group(alloc, Form::GhostBrace, "record {", items)
+}
+
+// A field of the record that its parts make, in ghost text.
+fn bound(
+    alloc: Global,
+    shape: Shape,
+    field: &Field<'_>,
+    place: usize,
+    whole: &Part<'_>,
+) -> Result<Text, AllocError> {
+    let name = field_name(alloc, field, place)?;
+    let path = path_of(whole, name.as_str());
+    if shape == Shape::Tuple {
+        return Ok(Text::of(format!(in alloc; "{place} = p{path}")?));
+    }
+    let name = quoted(alloc, name.as_str())?;
+    let name = name.as_str();
+    Ok(Text::of(format!(in alloc; "{name} = p{path}")?))
 }
 
 /// What leads from the parts to a field.

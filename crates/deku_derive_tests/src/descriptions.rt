@@ -1,9 +1,8 @@
 //! Descriptions that are taken.
 
 use deku_attributes::check;
-use deku_derive::making::first_difference;
 use deku_description::parse;
-use deku_description::place::told;
+use deku_tokens::place::{first_difference, told};
 use std::alloc::{AllocError, Global};
 use std::test::Fail;
 

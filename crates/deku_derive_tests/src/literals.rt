@@ -1,6 +1,6 @@
 //! What literals are worth.
 
-use deku_description::literal::{bytes, integer};
+use deku_tokens::literal::{bytes, integer};
 use std::test::Fail;
 
 const INTEGERS: [(&str, Option<u64>); 14] = [

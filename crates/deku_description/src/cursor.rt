@@ -2,8 +2,8 @@
 
 ghost use Rattle.std.specs.Prelude.{◌≡◌, ◌<◌, ◌≤◌};
 
-use crate::place::{Complaint, Span};
-use crate::token::{Kind, Token};
+use deku_tokens::place::{Complaint, Span};
+use deku_tokens::token::{Kind, Token};
 use std::alloc::{AllocError, AllocFailed, Global};
 
 /// Why a part of a description was not parsed.

@@ -3,10 +3,10 @@
 ghost use Rattle.std.specs.Prelude.{◌≤◌, length};
 
 use crate::cursor::{Cursor, Stop};
-use crate::literal::integer;
-use crate::place::{Complaint, Span};
 use crate::syntax::{Expression, Operator};
-use crate::token::{Kind, Token, broken_tokens, tokens};
+use deku_tokens::literal::integer;
+use deku_tokens::place::{Complaint, Span};
+use deku_tokens::token::{Kind, Token, broken_tokens, tokens};
 use std::alloc::{AllocError, Global};
 
 // How deep expressions may be in one another.

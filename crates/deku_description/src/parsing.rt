@@ -3,13 +3,13 @@
 ghost use Rattle.std.specs.Prelude.{◌≤◌};
 
 use crate::cursor::{Cursor, Stop};
-use crate::literal::integer;
-use crate::place::{Complaint, Span};
 use crate::syntax::{
     Attribute, Body, Constant, Field, Fields, File, Head, Length, Record, Shape, Type, Value,
     Variant,
 };
-use crate::token::{Kind, Token, broken_tokens, tokens};
+use deku_tokens::literal::integer;
+use deku_tokens::place::{Complaint, Span};
+use deku_tokens::token::{Kind, Token, broken_tokens, tokens};
 use std::alloc::{AllocError, Global};
 
 // How deep types may be in one another.

@@ -2,8 +2,8 @@
 
 ghost use Rattle.std.specs.Prelude.{◌<◌};
 
-use crate::place::Span;
-use crate::token::Token;
+use deku_tokens::place::Span;
+use deku_tokens::token::Token;
 
 /// A file of descriptions.
 #[derive(Drop)]

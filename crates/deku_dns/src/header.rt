@@ -11,18 +11,16 @@
 //! |                     additionals                     |
 //! +-----------------------------------------------------+
 //! ```
+//!
+//! Printed by `derive` from `header.rs`.
 
 ghost use Rattle.std.specs.Prelude.{refl};
-ghost use Rattle.deku.specs.Outcomes.{Mapped};
+ghost use Rattle.deku_symmetry.specs.Fields.{be, msb};
 
-use deku::device::{Sink, Source};
-use deku::prelude::{
-    DekuContainerRead, DekuContainerWrite, DekuError, DekuReader, DekuWriter, Reader, Writer,
-};
-use deku_symmetry::{Be, FromParts, Msb, Record, ToParts, read_record, write_record};
+use deku_symmetry::{Be, CopyParts, Msb};
 
 /// The header of a message.
-#[derive(Debug, PartialEq, Eq, Drop)]
+#[derive(Debug, Clone, Copy, PartialEq, Eq)]
 pub struct Header {
     /// The identification, which the answer to a question repeats.
     pub identification: u16,
@@ -52,61 +50,65 @@ pub struct Header {
     pub additionals: u16,
 }
 
-/// The fields, in order.
-pub type Parts = (
-    Be<u16>,
-    (Msb<u8, 1>, Msb<u8, 4>, Msb<u8, 1>, Msb<u8, 1>),
-    (Msb<u8, 1>, Msb<u8, 1>, Msb<u8, 3>, Msb<u8, 4>),
-    (Be<u16>, Be<u16>, Be<u16>, Be<u16>),
-);
-
-impl FromParts<()> for Header {
-    type Parts = Parts;
+impl CopyParts for Header {
+    type Parts = (
+        (
+            Be<u16>,
+            Msb<u8, 1>,
+            Msb<u8, 4>,
+            Msb<u8, 1>,
+            Msb<u8, 1>,
+            Msb<u8, 1>,
+            Msb<u8, 1>,
+            Msb<u8, 3>,
+        ),
+        (Msb<u8, 4>, Be<u16>, Be<u16>, Be<u16>, Be<u16>),
+    );
 
     ghost parts_of = { λ r. (
-      record { 0 = r.identification },
       (
-        record { 0 = r.response },
-        record { 0 = r.opcode },
-        record { 0 = r.authoritative },
-        record { 0 = r.truncated },
+        be r.identification,
+        msb r.response,
+        msb r.opcode,
+        msb r.authoritative,
+        msb r.truncated,
+        msb r.recursion_desired,
+        msb r.recursion_available,
+        msb r.reserved,
       ),
-      (
-        record { 0 = r.recursion_desired },
-        record { 0 = r.recursion_available },
-        record { 0 = r.reserved },
-        record { 0 = r.response_code },
-      ),
-      (
-        record { 0 = r.questions },
-        record { 0 = r.answers },
-        record { 0 = r.authorities },
-        record { 0 = r.additionals },
-      ),
+      (msb r.response_code, be r.questions, be r.answers, be r.authorities, be r.additionals),
     ) };
 
     ghost record_of = { λ p. record {
-      identification = p.0.0;
-      response = p.1.0.0;
-      opcode = p.1.1.0;
-      authoritative = p.1.2.0;
-      truncated = p.1.3.0;
-      recursion_desired = p.2.0.0;
-      recursion_available = p.2.1.0;
-      reserved = p.2.2.0;
-      response_code = p.2.3.0;
-      questions = p.3.0.0;
-      answers = p.3.1.0;
-      authorities = p.3.2.0;
-      additionals = p.3.3.0;
+      identification = p.0.0.0;
+      response = p.0.1.0;
+      opcode = p.0.2.0;
+      authoritative = p.0.3.0;
+      truncated = p.0.4.0;
+      recursion_desired = p.0.5.0;
+      recursion_available = p.0.6.0;
+      reserved = p.0.7.0;
+      response_code = p.1.0.0;
+      questions = p.1.1.0;
+      answers = p.1.2.0;
+      authorities = p.1.3.0;
+      additionals = p.1.4.0;
     } };
 
     fn from_parts(parts: Self::Parts) -> Self {
-        let (Be(identification), first, second, counts) = parts;
-        let (Msb(response), Msb(opcode), Msb(authoritative), Msb(truncated)) = first;
-        let (Msb(recursion_desired), Msb(recursion_available), Msb(reserved), Msb(response_code)) =
-            second;
-        let (Be(questions), Be(answers), Be(authorities), Be(additionals)) = counts;
+        let (
+            (
+                Be(identification),
+                Msb(response),
+                Msb(opcode),
+                Msb(authoritative),
+                Msb(truncated),
+                Msb(recursion_desired),
+                Msb(recursion_available),
+                Msb(reserved),
+            ),
+            (Msb(response_code), Be(questions), Be(answers), Be(authorities), Be(additionals)),
+        ) = parts;
         Header {
             identification,
             response,
@@ -124,26 +126,20 @@ impl FromParts<()> for Header {
         }
     }
 
-    ghost there = { λ r. refl };
-}
-
-impl ToParts<()> for Header {
     fn parts(&self) -> Self::Parts {
         (
-            Be(self.identification),
             (
+                Be(self.identification),
                 Msb(self.response),
                 Msb(self.opcode),
                 Msb(self.authoritative),
                 Msb(self.truncated),
-            ),
-            (
                 Msb(self.recursion_desired),
                 Msb(self.recursion_available),
                 Msb(self.reserved),
-                Msb(self.response_code),
             ),
             (
+                Msb(self.response_code),
                 Be(self.questions),
                 Be(self.answers),
                 Be(self.authorities),
@@ -151,37 +147,6 @@ impl ToParts<()> for Header {
             ),
         )
     }
+
+    ghost there = { λ r. refl };
 }
-
-impl Record for Header {
-    ghost back = { λ p ps h. refl };
-
-    ghost reads = { λ b s r u m. m };
-
-    ghost writes = { λ v b s r u m. m };
-}
-
-impl DekuReader<()> for Header {
-    ghost meaning = { λ _. Mapped ⟦<Header as FromParts<()>>⟧.record_of
-        (⟦<Parts as DekuReader<()>>⟧.meaning tt) };
-
-    fn from_reader_with_ctx<R: Source>(
-        reader: &mut Reader<R>,
-        _ctx: (),
-    ) -> Result<Self, DekuError> {
-        read_record(reader, ())
-    }
-}
-
-impl DekuWriter<()> for Header {
-    ghost meaning = { λ v _. ⟦<Parts as DekuWriter<()>>⟧.meaning
-        (⟦<Header as FromParts<()>>⟧.parts_of v) tt };
-
-    fn to_writer<W: Sink>(&self, writer: &mut Writer<W>, _ctx: ()) -> Result<(), DekuError> {
-        write_record(self, writer, ())
-    }
-}
-
-impl DekuContainerRead for Header {}
-
-impl DekuContainerWrite for Header {}

@@ -1,15 +1,15 @@
 //! A message that asks one question.
+//!
+//! Printed by `derive` from `query.rs`.
 
 ghost use Rattle.std.specs.Prelude.{refl};
-ghost use Rattle.deku.specs.Outcomes.{Mapped};
+ghost use Rattle.deku_symmetry.specs.Fields.{coded};
 
-use crate::header::{self, Header};
-use crate::question::{self, Question};
-use deku::device::{Sink, Source};
-use deku::prelude::{
-    DekuContainerRead, DekuContainerWrite, DekuError, DekuReader, DekuWriter, Reader, Writer,
-};
-use deku_symmetry::{FromParts, Record, read_record};
+use crate::header::Header;
+use crate::question::Question;
+use deku::device::Sink;
+use deku::prelude::{DekuError, DekuWriter, Writer};
+use deku_symmetry::{Codec, Coded, CodedRef};
 
 /// A header, and a question after it.
 #[derive(Debug, PartialEq, Eq, Drop)]
@@ -20,63 +20,21 @@ pub struct Query {
     pub question: Question,
 }
 
-// The fields, in order.
-type Parts = (header::Parts, question::Parts);
+impl Codec for Query {
+    type Parts = (Coded<Header>, Coded<Question>);
 
-impl FromParts<()> for Query {
-    type Parts = Parts;
+    ghost parts_of = { λ r. (coded r.header, coded r.question) };
 
-    ghost parts_of = { λ r. (
-      ⟦<Header as FromParts<()>>⟧.parts_of r.header,
-      ⟦<Question as FromParts<()>>⟧.parts_of r.question,
-    ) };
+    ghost record_of = { λ p. record { header = p.0.0; question = p.1.0 } };
 
-    ghost record_of = { λ p. record {
-      header = ⟦<Header as FromParts<()>>⟧.record_of p.0;
-      question =
-          ⟦<Question as FromParts<()>>⟧.record_of p.1;
-    } };
+    fn from_parts((Coded(header), Coded(question)): Self::Parts) -> Self {
+        Query { header, question }
+    }
 
-    fn from_parts(parts: Self::Parts) -> Self {
-        let (header, question) = parts;
-        Query {
-            header: Header::from_parts(header),
-            question: Question::from_parts(question),
-        }
+    fn write<W: Sink>(&self, writer: &mut Writer<W>) -> Result<(), DekuError> {
+        let parts = (CodedRef(&self.header), CodedRef(&self.question));
+        parts.to_writer(writer, ())
     }
 
     ghost there = { λ r. refl };
 }
-
-impl Record for Query {
-    ghost back = { λ p ps h. refl };
-
-    ghost reads = { λ b s r u m. m };
-
-    ghost writes = { λ v b s r u m. m };
-}
-
-impl DekuReader<()> for Query {
-    ghost meaning = { λ _. Mapped ⟦<Query as FromParts<()>>⟧.record_of
-        (⟦<Parts as DekuReader<()>>⟧.meaning tt) };
-
-    fn from_reader_with_ctx<R: Source>(
-        reader: &mut Reader<R>,
-        _ctx: (),
-    ) -> Result<Self, DekuError> {
-        read_record(reader, ())
-    }
-}
-
-impl DekuWriter<()> for Query {
-    ghost meaning = { λ v _. ⟦<Parts as DekuWriter<()>>⟧.meaning
-        (⟦<Query as FromParts<()>>⟧.parts_of v) tt };
-
-    fn to_writer<W: Sink>(&self, writer: &mut Writer<W>, _ctx: ()) -> Result<(), DekuError> {
-        (&self.header, &self.question).to_writer(writer, ())
-    }
-}
-
-impl DekuContainerRead for Query {}
-
-impl DekuContainerWrite for Query {}

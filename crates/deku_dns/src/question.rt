@@ -7,14 +7,12 @@
 //! ```
 
 ghost use Rattle.std.specs.Prelude.{refl};
-ghost use Rattle.deku.specs.Outcomes.{Mapped};
+ghost use Rattle.deku_symmetry.specs.Fields.{be};
 
 use crate::label::Label;
-use deku::device::{Sink, Source};
-use deku::prelude::{
-    DekuContainerRead, DekuContainerWrite, DekuError, DekuReader, DekuWriter, Reader, Writer,
-};
-use deku_symmetry::{Be, FromParts, Record, Until, read_record};
+use deku::device::Sink;
+use deku::prelude::{DekuError, DekuWriter, Writer};
+use deku_symmetry::{Be, Codec, Until};
 
 /// A question.
 #[derive(Debug, PartialEq, Eq, Drop)]
@@ -27,53 +25,20 @@ pub struct Question {
     pub class: u16,
 }
 
-/// The fields, in order.
-pub type Parts = (Until<Label>, Be<u16>, Be<u16>);
+impl Codec for Question {
+    type Parts = (Until<Label>, Be<u16>, Be<u16>);
 
-impl FromParts<()> for Question {
-    type Parts = Parts;
-
-    ghost parts_of = { λ r. (r.name, record { 0 = r.kind }, record { 0 = r.class }) };
+    ghost parts_of = { λ r. (r.name, be r.kind, be r.class) };
 
     ghost record_of = { λ p. record { name = p.0; kind = p.1.0; class = p.2.0 } };
 
-    fn from_parts(parts: Self::Parts) -> Self {
-        let (name, Be(kind), Be(class)) = parts;
+    fn from_parts((name, Be(kind), Be(class)): Self::Parts) -> Self {
         Question { name, kind, class }
+    }
+
+    fn write<W: Sink>(&self, writer: &mut Writer<W>) -> Result<(), DekuError> {
+        (&self.name, Be(self.kind), Be(self.class)).to_writer(writer, ())
     }
 
     ghost there = { λ r. refl };
 }
-
-impl Record for Question {
-    ghost back = { λ p ps h. refl };
-
-    ghost reads = { λ b s r u m. m };
-
-    ghost writes = { λ v b s r u m. m };
-}
-
-impl DekuReader<()> for Question {
-    ghost meaning = { λ _. Mapped ⟦<Question as FromParts<()>>⟧.record_of
-        (⟦<Parts as DekuReader<()>>⟧.meaning tt) };
-
-    fn from_reader_with_ctx<R: Source>(
-        reader: &mut Reader<R>,
-        _ctx: (),
-    ) -> Result<Self, DekuError> {
-        read_record(reader, ())
-    }
-}
-
-impl DekuWriter<()> for Question {
-    ghost meaning = { λ v _. ⟦<Parts as DekuWriter<()>>⟧.meaning
-        (⟦<Question as FromParts<()>>⟧.parts_of v) tt };
-
-    fn to_writer<W: Sink>(&self, writer: &mut Writer<W>, _ctx: ()) -> Result<(), DekuError> {
-        (&self.name, Be(self.kind), Be(self.class)).to_writer(writer, ())
-    }
-}
-
-impl DekuContainerRead for Question {}
-
-impl DekuContainerWrite for Question {}

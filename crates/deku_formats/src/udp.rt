@@ -8,18 +8,16 @@
 //! |     length      |    checksum     |
 //! +--------+--------+--------+--------+
 //! ```
+//!
+//! Printed by `derive` from `udp.rs`.
 
 ghost use Rattle.std.specs.Prelude.{refl};
-ghost use Rattle.deku.specs.Outcomes.{Mapped};
+ghost use Rattle.deku_symmetry.specs.Fields.{be};
 
-use deku::device::{Sink, Source};
-use deku::prelude::{
-    DekuContainerRead, DekuContainerWrite, DekuError, DekuReader, DekuWriter, Reader, Writer,
-};
-use deku_symmetry::{Be, FromParts, Record, ToParts, read_record, write_record};
+use deku_symmetry::{Be, CopyParts};
 
 /// The header of a datagram.
-#[derive(Debug, PartialEq, Eq, Drop)]
+#[derive(Debug, Clone, Copy, PartialEq, Eq)]
 pub struct Udp {
     /// The port of the sender, or 0.
     pub source: u16,
@@ -31,29 +29,19 @@ pub struct Udp {
     pub checksum: u16,
 }
 
-// The fields, in order.
-type Parts = (Be<u16>, Be<u16>, Be<u16>, Be<u16>);
+impl CopyParts for Udp {
+    type Parts = (Be<u16>, Be<u16>, Be<u16>, Be<u16>);
 
-impl FromParts<()> for Udp {
-    type Parts = Parts;
-
-    ghost parts_of = { λ r. (
-      record { 0 = r.source },
-      record { 0 = r.destination },
-      record { 0 = r.length },
-      record { 0 = r.checksum },
-    ) };
+    ghost parts_of = { λ r. (be r.source, be r.destination, be r.length, be r.checksum) };
 
     ghost record_of = { λ p. record {
       source = p.0.0;
       destination = p.1.0;
       length = p.2.0;
-      checksum
-          = p.3.0;
+      checksum = p.3.0;
     } };
 
-    fn from_parts(parts: Self::Parts) -> Self {
-        let (Be(source), Be(destination), Be(length), Be(checksum)) = parts;
+    fn from_parts((Be(source), Be(destination), Be(length), Be(checksum)): Self::Parts) -> Self {
         Udp {
             source,
             destination,
@@ -62,10 +50,6 @@ impl FromParts<()> for Udp {
         }
     }
 
-    ghost there = { λ r. refl };
-}
-
-impl ToParts<()> for Udp {
     fn parts(&self) -> Self::Parts {
         (
             Be(self.source),
@@ -74,37 +58,6 @@ impl ToParts<()> for Udp {
             Be(self.checksum),
         )
     }
+
+    ghost there = { λ r. refl };
 }
-
-impl Record for Udp {
-    ghost back = { λ p ps h. refl };
-
-    ghost reads = { λ b s r u m. m };
-
-    ghost writes = { λ v b s r u m. m };
-}
-
-impl DekuReader<()> for Udp {
-    ghost meaning = { λ _. Mapped ⟦<Udp as FromParts<()>>⟧.record_of
-        (⟦<Parts as DekuReader<()>>⟧.meaning tt) };
-
-    fn from_reader_with_ctx<R: Source>(
-        reader: &mut Reader<R>,
-        _ctx: (),
-    ) -> Result<Self, DekuError> {
-        read_record(reader, ())
-    }
-}
-
-impl DekuWriter<()> for Udp {
-    ghost meaning = { λ v _. ⟦<Parts as DekuWriter<()>>⟧.meaning
-        (⟦<Udp as FromParts<()>>⟧.parts_of v) tt };
-
-    fn to_writer<W: Sink>(&self, writer: &mut Writer<W>, _ctx: ()) -> Result<(), DekuError> {
-        write_record(self, writer, ())
-    }
-}
-
-impl DekuContainerRead for Udp {}
-
-impl DekuContainerWrite for Udp {}

@@ -5,7 +5,7 @@ use deku_dns::header::Header;
 use deku_dns::label::Label;
 use deku_dns::query::Query;
 use deku_dns::question::Question;
-use deku_symmetry::{Symmetric, Until};
+use deku_symmetry::{Coded, Symmetric, Until};
 use deku_testing_values::records::{expect_record, expect_refusal};
 use std::alloc::Global;
 use std::test::Fail;
@@ -60,7 +60,7 @@ fn a_question(rt: HostRuntime) -> Result<(), Fail> {
             class: 1,
         },
     };
-    expect_record(rt.alloc(), &query, &QUERY)
+    expect_record(rt.alloc(), &Coded(query), &QUERY)
 }
 
 // A pointer in the place of a label, a length of 64, a name without its end, and one without its
@@ -79,7 +79,7 @@ fn names_refused(rt: HostRuntime) -> Result<(), Fail> {
         ),
     ];
     for (bytes, refusal, bits) in rows {
-        expect_refusal::<Question>(rt.alloc(), bytes, refusal, bits)?;
+        expect_refusal::<Coded<Question>>(rt.alloc(), bytes, refusal, bits)?;
     }
     Ok(())
 }

@@ -4,7 +4,7 @@ ghost use Rattle.std.specs.Prelude.{◌≡◌, ℕ, MatchBool, refl};
 ghost use Rattle.deku_pieces.specs.Following.{ReadsUnderHead, IsOfId, OfChosen, WritesChosenBy};
 ghost use Rattle.deku_pieces.proofs.Following.{chosen_by_symmetric};
 
-use crate::either::Kinds;
+use crate::either::{Kinds, KindsLaw};
 use crate::traits::Symmetric;
 use deku::device::{Sink, Source};
 use deku::reader::Reader;
@@ -130,14 +130,14 @@ impl<P: DekuWriter<()>, C: IdOf<P>, K: Kinds> DekuContainerWrite for ChosenBy<P,
 
 /// The pieces of the head, and then those of the value. There are no pieces if the head chooses
 /// another kind.
-impl<P: Symmetric<()>, C: IdOfLaw<P>, K: Kinds> Symmetric<()> for ChosenBy<P, C, K> {
-    ghost pieces = { λ v _. OfChosen C.IdOf.id_of K.id_of K.own (λ h. P.pieces h tt) K.pieces v.head
-        v.kind };
+impl<P: Symmetric<()>, C: IdOfLaw<P>, K: KindsLaw> Symmetric<()> for ChosenBy<P, C, K> {
+    ghost pieces = { λ v _. OfChosen C.IdOf.id_of K.Kinds.id_of K.Kinds.own (λ h. P.pieces h tt)
+        K.pieces v.head v.kind };
 
     ghost same = { λ v w. P.same v.head w.head × K.same v.kind w.kind };
 
     ghost symmetric = { λ _. chosen_by_symmetric
         (λ h k. record { head = h; kind = k; id = record {} })
         (λ v. v.head) (λ v. v.kind) (λ h k. refl) (λ h k. refl) C.IdOf.id_of C.IdOfLaw.alike
-        K.id_of K.own (P.symmetric tt) K.symmetric };
+        K.Kinds.id_of K.Kinds.own (P.symmetric tt) K.symmetric };
 }

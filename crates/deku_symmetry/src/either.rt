@@ -20,8 +20,7 @@ use deku::{DekuError, DekuReader, DekuWriter};
 use deku_pieces::{Either, InRange, Kind};
 
 /// Values of one or several kinds, each of which has an id. They are read under an id that was read
-/// before them, and written after it. Its law is that of `Symmetric`, for the values whose id is
-/// this one.
+/// before them, and written after it.
 ///
 /// ```text
 /// type Kinds = Either<Kind<Be<u16>, 1>, Kind<(), 2>>;         // these are kinds of values
@@ -47,11 +46,6 @@ pub trait Kinds: Drop {
     ghost reads: { ℕ → Meaning (Option Stream) Self };
 
     ghost writes: { Self → Meaning Output (Unit {0}) };
-
-    // The pieces of a value, without its id; and when two values are the same.
-    ghost pieces: { Self → List Piece → Type 0 };
-
-    ghost same: { Self → Self → Type 0 };
 
     /// Whether the id chooses a value of these kinds.
     fn knows(id: u64) -> bool
@@ -82,17 +76,28 @@ pub trait Kinds: Drop {
     fn write_kind<W: Sink>(&self, writer: &mut Writer<W>) -> Result<(), DekuError>
         requires { writable }
         ensures { Writes W.known (writes self.now) writer.old result writer.new };
-
-    // The id of a value is one of those that choose these kinds.
-    ghost known: { (v : Self) → own v ≡ true → knows (id_of v) ≡ true };
-
-    // The law.
-    ghost symmetric: { (id : ℕ) → IsSymmetric (UnderOwn id_of own pieces id) same writes
-        (reads id) };
 }
 
-/// The pieces of the value, under its id only.
-impl<A: Symmetric<()>, const ID: u64> Kinds for Kind<A, ID> {
+/// Kinds whose values are read as they are written: the law of `Symmetric`, for the values whose id
+/// is this one.
+pub trait KindsLaw: Kinds {
+    // The pieces of a value, without its id; and when two values are the same.
+    ghost pieces: { Self → List Piece → Type 0 };
+
+    ghost same: { Self → Self → Type 0 };
+
+    // The id of a value is one of those that choose these kinds.
+    ghost known: { (v : Self) → Self.Kinds.own v ≡ true
+        → Self.Kinds.knows (Self.Kinds.id_of v) ≡ true };
+
+    // The law.
+    ghost symmetric: { (id : ℕ) → IsSymmetric
+        (UnderOwn Self.Kinds.id_of Self.Kinds.own pieces id) same Self.Kinds.writes
+        (Self.Kinds.reads id) };
+}
+
+/// A value under its id only.
+impl<A: DekuReader<()> + DekuWriter<()>, const ID: u64> Kinds for Kind<A, ID> {
     ghost knows = { λ id. nat_eq id ID };
 
     ghost id_of = { λ _. ID };
@@ -109,10 +114,6 @@ impl<A: Symmetric<()>, const ID: u64> Kinds for Kind<A, ID> {
         (Mapped (λ a. record { 0 = a }) (A.DekuReader.meaning tt)) };
 
     ghost writes = { λ v. A.DekuWriter.meaning v.0 tt };
-
-    ghost pieces = { λ v. A.pieces v.0 tt };
-
-    ghost same = { λ v w. A.same v.0 w.0 };
 
     fn knows(id: u64) -> bool {
         id == ID
@@ -139,6 +140,13 @@ impl<A: Symmetric<()>, const ID: u64> Kinds for Kind<A, ID> {
     fn write_kind<W: Sink>(&self, writer: &mut Writer<W>) -> Result<(), DekuError> {
         self.0.to_writer(writer, ())
     }
+}
+
+/// The pieces of the value.
+impl<A: Symmetric<()>, const ID: u64> KindsLaw for Kind<A, ID> {
+    ghost pieces = { λ v. A.pieces v.0 tt };
+
+    ghost same = { λ v w. A.same v.0 w.0 };
 
     ghost known = { λ v own. one_knows ID };
 
@@ -146,8 +154,9 @@ impl<A: Symmetric<()>, const ID: u64> Kinds for Kind<A, ID> {
         (A.symmetric tt) };
 }
 
-/// The pieces of the value, under the id that it keeps, if that is in the range.
-impl<A: Symmetric<()>, const LOW: u64, const HIGH: u64> Kinds for InRange<A, LOW, HIGH> {
+/// A value under the id that it keeps, if that is in the range.
+impl<A: DekuReader<()> + DekuWriter<()>, const LOW: u64, const HIGH: u64> Kinds
+    for InRange<A, LOW, HIGH> {
     ghost knows = { in_range LOW HIGH };
 
     ghost id_of = { λ v. v.id };
@@ -164,10 +173,6 @@ impl<A: Symmetric<()>, const LOW: u64, const HIGH: u64> Kinds for InRange<A, LOW
         (Mapped (λ a. record { id = id; value = a }) (A.DekuReader.meaning tt)) };
 
     ghost writes = { λ v. A.DekuWriter.meaning v.value tt };
-
-    ghost pieces = { λ v. A.pieces v.value tt };
-
-    ghost same = { λ v w. (v.id ≡ w.id) × A.same v.value w.value };
 
     fn knows(id: u64) -> bool {
         LOW <= id && id <= HIGH
@@ -194,6 +199,13 @@ impl<A: Symmetric<()>, const LOW: u64, const HIGH: u64> Kinds for InRange<A, LOW
     fn write_kind<W: Sink>(&self, writer: &mut Writer<W>) -> Result<(), DekuError> {
         self.value.to_writer(writer, ())
     }
+}
+
+/// The pieces of the value.
+impl<A: Symmetric<()>, const LOW: u64, const HIGH: u64> KindsLaw for InRange<A, LOW, HIGH> {
+    ghost pieces = { λ v. A.pieces v.value tt };
+
+    ghost same = { λ v w. (v.id ≡ w.id) × A.same v.value w.value };
 
     ghost known = { λ v own. own };
 
@@ -201,7 +213,7 @@ impl<A: Symmetric<()>, const LOW: u64, const HIGH: u64> Kinds for InRange<A, LOW
         (λ v. v.value) (λ i a. refl) (λ i a. refl) LOW HIGH id (A.symmetric tt) };
 }
 
-/// The pieces of the value.
+/// A value of the first kinds that its id chooses.
 impl<A: Kinds, B: Kinds> Kinds for Either<A, B> {
     ghost knows = { λ id. A.knows id || B.knows id };
 
@@ -218,10 +230,6 @@ impl<A: Kinds, B: Kinds> Kinds for Either<A, B> {
     ghost reads = { λ id. ReadsEither (A.knows id) (A.reads id) (B.reads id) };
 
     ghost writes = { WritesEither A.writes B.writes };
-
-    ghost pieces = { OfEither A.pieces B.pieces };
-
-    ghost same = { SameEither A.same B.same };
 
     fn knows(id: u64) -> bool {
         A::knows(id) || B::knows(id)
@@ -258,9 +266,17 @@ impl<A: Kinds, B: Kinds> Kinds for Either<A, B> {
             Either::Other(other) => other.write_kind(writer),
         }
     }
+}
 
-    ghost known = { either_knows A.knows B.knows A.id_of B.id_of A.own B.own A.known B.known };
+/// The pieces of the value.
+impl<A: KindsLaw, B: KindsLaw> KindsLaw for Either<A, B> {
+    ghost pieces = { OfEither A.pieces B.pieces };
 
-    ghost symmetric = { λ id. either_symmetric A.knows A.id_of B.id_of A.own B.own id A.known
-        (A.symmetric id) (B.symmetric id) };
+    ghost same = { SameEither A.same B.same };
+
+    ghost known = { either_knows A.Kinds.knows B.Kinds.knows A.Kinds.id_of B.Kinds.id_of A.Kinds.own
+        B.Kinds.own A.known B.known };
+
+    ghost symmetric = { λ id. either_symmetric A.Kinds.knows A.Kinds.id_of B.Kinds.id_of A.Kinds.own
+        B.Kinds.own id A.known (A.symmetric id) (B.symmetric id) };
 }

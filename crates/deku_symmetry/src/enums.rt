@@ -5,7 +5,7 @@ ghost use Rattle.std.proofs.Common.{ap};
 ghost use Rattle.deku_pieces.specs.Ids.{OfEnum, ReadsEnum, WritesEnum};
 ghost use Rattle.deku_pieces.proofs.Ids.{enum_symmetric};
 
-use crate::either::Kinds;
+use crate::either::{Kinds, KindsLaw};
 use crate::fields::{Lsb, LsbBe, Msb, MsbLe};
 use crate::traits::Symmetric;
 use deku::device::{Sink, Source};
@@ -203,13 +203,13 @@ impl<I: Id, K: Kinds> DekuWriter<()> for Enum<I, K> {
 }
 
 /// The pieces of the id, and then those of the value that it chooses.
-impl<I: Id, K: Kinds> Symmetric<()> for Enum<I, K> {
-    ghost pieces = { λ v _. OfEnum (λ n. I.Symmetric.pieces (I.Id.part_of n) tt) K.id_of K.own
-        K.pieces v.kind };
+impl<I: Id, K: KindsLaw> Symmetric<()> for Enum<I, K> {
+    ghost pieces = { λ v _. OfEnum (λ n. I.Symmetric.pieces (I.Id.part_of n) tt) K.Kinds.id_of
+        K.Kinds.own K.pieces v.kind };
 
     ghost same = { λ v w. K.same v.kind w.kind };
 
     ghost symmetric = { λ _. enum_symmetric (λ k. record { kind = k; id = record {} })
         (λ v. v.kind) (λ k. refl) I.Id.number_of I.Id.part_of I.Id.round I.Id.again I.Id.alike
-        K.id_of K.own K.pieces (I.Symmetric.symmetric tt) K.symmetric };
+        K.Kinds.id_of K.Kinds.own K.pieces (I.Symmetric.symmetric tt) K.symmetric };
 }

@@ -1,6 +1,6 @@
 //! Why a part of a description is not printed.
 
-use deku_description::place::{Complaint, Span};
+use deku_tokens::place::{Complaint, Span};
 use std::alloc::{AllocError, AllocFailed, Global};
 
 /// Why a part of a description is not printed.

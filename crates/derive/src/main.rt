@@ -3,7 +3,8 @@
 #![tactic(auto)]
 
 use clap::{Arg, ArgAction, ArgMatches, Command, Error};
-use deku_derive::making::{Made, first_difference, make, module_path};
+use deku_derive::making::{Made, make, module_path};
+use deku_tokens::place::first_difference;
 use std::alloc::Global;
 use std::process::ExitCode;
 use std::{env, fs, io};
