@@ -1,6 +1,6 @@
 //! Logs as bytes, and back.
 
-use crate::log::{read_log, sample_of, sum, write_log};
+use crate::log::{read_log, sample_of, write_log};
 use crate::sample::Sample;
 use deku::prelude::{DekuError, NeedSize, Reader, Writer};
 use deku_symmetry::{Codec, Coded};
@@ -26,13 +26,5 @@ fn a_short_sample(rt: HostRuntime) -> Result<(), Fail> {
     let error = DekuError::Incomplete(NeedSize::new(16));
     assert_eq!(rt; Sample::read(&mut reader), Err(error));
     assert_eq!(rt; reader.bits_read(), 8); // where `value` begins
-    Ok(())
-}
-
-#[test]
-fn a_sum(rt: HostRuntime) -> Result<(), Fail> {
-    let bytes = [0x00, 0x01, 0xFF, 0xFF, 0x00, 0x02].as_slice();
-    let mut reader = Reader::new(rt.alloc(), Cursor::new(bytes));
-    assert_eq!(rt; sum(&mut reader)?, 0x10002);
     Ok(())
 }
