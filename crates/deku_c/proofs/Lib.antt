@@ -1,3 +1,4 @@
 pub mod Coding
 pub mod Reading
 pub mod Writing
+pub mod Sizing

@@ -104,3 +104,12 @@ read_back law cs bytes (Err e) vs m items after b small =
     let k = law (fields_in cs) (Err e) (Going (Some (fresh bytes)) 0) m.0 m.1 items bytes after 0 b refl (omega (arith, small)) in
     let other = k.0 in
     absurd (cc)
+
+-- what a reader from the first byte on gave
+pub read_ok : (cs : List FieldCode) (bytes : List ℕ) (vs : List NumberCode) (n : ℕ) (s u : Standing (Option Stream)) → s ≡ Going (Some (fresh bytes)) 0
+    → ReadsFields (fields_in cs) false s (Ok (values_of (items_in cs vs))) u → n ≡ count_of u → ReadsInto cs bytes (Ok n) vs
+read_ok cs bytes vs n s u begin m e = (u, subst (λ x. ReadsFields (fields_in cs) false x (Ok (values_of (items_in cs vs))) u) begin m, e)
+
+pub read_err : (cs : List FieldCode) (bytes : List ℕ) (vs : List NumberCode) (e : DekuError) (s u : Standing (Option Stream)) → s ≡ Going (Some (fresh bytes)) 0
+    → ReadsFields (fields_in cs) false s (Err e) u → ReadsInto cs bytes (Err e) vs
+read_err cs bytes vs e s u begin m = (u, subst (λ x. ReadsFields (fields_in cs) false x (Err e) u) begin m)

@@ -1,5 +1,5 @@
 -- Writing one item after the other, from the laws that public calls ensure.
-use Rattle.std.proofs.Common.{◌≡◌, ◌×◌, ℕ, ◌+◌, ◌*◌, ◌<◌, ◌≤◌, ◌^◌, Bool, true, false, List, [], ◌∷◌, ◌++◌, length, take, drop, get_or, Option, Some, None, Result, Ok, Err, All, refl, inl, inr, ap, ap₂, sym, ◌∙◌, subst, subst₂, arith, ⊎_elim}
+use Rattle.std.proofs.Common.{◌≡◌, ℕ, ◌+◌, ◌*◌, ◌<◌, ◌≤◌, ◌^◌, Bool, true, false, List, [], ◌∷◌, ◌++◌, length, take, drop, get_or, Option, Some, None, Result, Ok, Err, All, refl, inl, inr, ap, ap₂, sym, ◌∙◌, subst, subst₂, arith, ⊎_elim}
 use Rattle.std.proofs.lemmas.List.{take_all, take_more, drop_more, take-append-drop, length-take-le}
 use Rattle.std.proofs.lemmas.Bool.{cases_lt, lt-leb, le-leb}
 use Rattle.std.specs.Io.KnownBytes.{Appends}

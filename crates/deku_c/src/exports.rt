@@ -1,6 +1,6 @@
 //! The functions that C calls.
 
-ghost use Rattle.std.specs.Prelude.{◌≡◌, ◌↔◌, ◌×◌, ◌<◌, ◌^◌, length, map, All};
+ghost use Rattle.std.specs.Prelude.{◌≡◌, ◌↔◌, ◌<◌, ◌^◌, length, map, All};
 ghost use Rattle.deku_bits.specs.Pieces.{total};
 ghost use Rattle.deku_fields.specs.Items.{IsAllowedField, field_shape};
 ghost use Rattle.deku_c.specs.Codes.{IsNamed, fields_in, items_in};

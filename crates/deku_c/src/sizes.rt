@@ -1,6 +1,6 @@
 //! How many bits fields take.
 
-ghost use Rattle.std.specs.Prelude.{◌≡◌, ◌×◌, ◌≤◌, ◌^◌, All, IfSome, IsNone, map};
+ghost use Rattle.std.specs.Prelude.{◌≡◌, ◌≤◌, ◌^◌, All, IfSome, IsNone, map};
 ghost use Rattle.deku_bits.specs.Pieces.{total};
 ghost use Rattle.deku_fields.specs.Items.{IsAllowedField, field_shape};
 ghost use Rattle.deku_c.specs.Codes.{fields_in};

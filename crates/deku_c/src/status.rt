@@ -1,8 +1,7 @@
 //! The numbers that C gets for what happened.
 
-ghost use Rattle.std.specs.Prelude.{◌≡◌, ◌↔◌, ◌×◌, length, All};
-ghost use Rattle.deku_c.specs.Codes.{IsNamed};
-ghost use Rattle.deku_c.specs.Calls.{refusal, status_of};
+ghost use Rattle.std.specs.Prelude.{◌≡◌};
+ghost use Rattle.deku_c.specs.Calls.{status_of as status_in};
 
 use deku::error::DekuError;
 
@@ -17,7 +16,7 @@ pub const INVALID_PARAM: u32 = 5;
 
 /// The number of an error.
 pub fn status_of(error: DekuError) -> u32
-    ensures { result ≡ status_of error }
+    ensures { result ≡ status_in error }
 {
     match error {
         DekuError::Incomplete(_) => 3,
