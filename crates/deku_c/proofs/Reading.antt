@@ -74,7 +74,7 @@ one_more law cs vs i d v {s0} {f0} {s} {f} {t} {g} l m before o =
     let fields : fields_in (take (i + 1) cs) ≡ fields_in (take i cs) ++ field_in c ∷ [] = map_more field_in cs i d l in
     let next : items_in (take (i + 1) cs) (take (i + 1) (set vs i v)) ≡ items ++ item_in c v ∷ [] = items_more cs vs (set vs i v) i d v l m (take_more_set vs i v m) in
     let numbers : values_of (items_in (take (i + 1) cs) (take (i + 1) (set vs i v))) ≡ values_of items ++ values_of (item_in c v ∷ []) =
-        ap values_of next ∙ map-append (λ x. x.value) items (item_in c v ∷ []) in
+    ap values_of next ∙ map-append (λ x. x.value) items (item_in c v ∷ []) in
     subst₂ (λ x y. Outcome (ReadsFields x) s0 f0 (Ok y) t g) (sym fields) (sym numbers) both
 
 pub one_refused : ReadCallsLaw → (cs : List FieldCode) (vs : List NumberCode) (i : ℕ) (d : FieldCode) (e : DekuError) {s0 : Standing (Option Stream)} {f0 : Health} {s : Standing (Option Stream)} {f : Health} {t : Standing (Option Stream)} {g : Health}
