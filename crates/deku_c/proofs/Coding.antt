@@ -1,5 +1,5 @@
 -- Fields and numbers of C, and lists of them, one more at a time.
-use Rattle.std.proofs.Common.{◌≡◌, ℕ, zero, suc, ◌+◌, ◌*◌, ◌-◌, ◌%◌, ◌^◌, ◌<◌, ◌≤◌, Bool, true, false, List, [], ◌∷◌, ◌++◌, length, map, take, drop, get_or, ℤ, pos, negsuc, neg_ℤ, ◌-ℤ◌, ◌≤ℤ◌, ◌<ℤ◌, refl, ap, ap₂, sym, ◌∙◌, arith, mod-eq_of_lt}
+use Rattle.std.proofs.Common.{◌≡◌, ℕ, zero, suc, ◌+◌, ◌*◌, ◌-◌, ◌%◌, ◌^◌, ◌<◌, ◌≤◌, Bool, true, false, cond, leb, List, [], ◌∷◌, ◌++◌, length, map, take, drop, get_or, ℤ, pos, negsuc, neg_ℤ, ◌-ℤ◌, ◌≤ℤ◌, ◌<ℤ◌, refl, ap, ap₂, sym, ◌∙◌, arith, mod-eq_of_lt}
 use Rattle.std.proofs.lemmas.Bool.{le-leb, lt-leb}
 use Rattle.std.proofs.lemmas.Int.{ints}
 use Rattle.std.proofs.lemmas.List.{take_more, length-take-le}
@@ -11,11 +11,20 @@ use Rattle.deku_c.specs.declared.codes.NumberCode.{NumberCode}
 use Rattle.deku_c.specs.Codes.{item_in, items_in}
 
 -- ---- two's complement of 128 bits
+abbrev signed : ℕ → ℕ → ℤ
+signed H m = cond (leb H m) (pos m -ℤ pos (H * 2)) (pos m)
+
+signed_low : (H m : ℕ) → m < H → signed H m ≡ pos m
+signed_low H m h = rw (lt-leb H m h) refl
+
+signed_high : (H m : ℕ) → H ≤ m → signed H m ≡ pos m -ℤ pos (H * 2)
+signed_high H m h = rw (le-leb H m h) refl
+
 low_sign : (m : ℕ) → m < 2 ^ 127 → with_sign true 128 m ≡ pos m
-low_sign m h = rw (lt-leb (2 ^ 127) m h) refl
+low_sign m h = signed_low (2 ^ 127) m h
 
 high_sign : (m : ℕ) → 2 ^ 127 ≤ m → with_sign true 128 m ≡ pos m -ℤ pos (2 ^ 128)
-high_sign m h = rw (le-leb (2 ^ 127) m h) refl
+high_sign m h = signed_high (2 ^ 127) m h
 
 pub sign_back : (v : ℤ) → neg_ℤ (pos (2 ^ 127)) ≤ℤ v → v <ℤ pos (2 ^ 127) → with_sign true 128 (residue v 128) ≡ v
 sign_back (pos m) lo hi =

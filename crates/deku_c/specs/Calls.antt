@@ -40,7 +40,7 @@ kept_or old (Err e) = old
 
 -- A result, by its status and by what is left in the place for its value.
 pub record Tells (r : Result ℕ DekuError) (status old new : ℕ) : Type 0 where
-  pub status : status ≡ status_in r
+  pub number : status ≡ status_in r
   pub place : new ≡ kept_or old r
 
 -- Status 1 is that a number of a field has no name, and status 2 that all have names, but there

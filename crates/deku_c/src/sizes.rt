@@ -21,7 +21,10 @@ pub fn total_bits(codes: &[FieldCode]) -> Option<u64>
         let Ok(width) = allowed_width(field.kind.number_type(), field.layout) else {
             return None;
         };
-        sum = sum.checked_add(width as u64)?;
+        match sum.checked_add(width as u64) {
+            Some(more) => sum = more,
+            None => return None,
+        }
     }
     Some(sum)
 }

@@ -1,4 +1,4 @@
-use Rattle.std.proofs.Common.{◌≡◌, Ok, Err, refl, ap, ◌∙◌}
+use Rattle.std.proofs.Common.{Ok, Err, [], refl, ap, ◌∙◌}
 use Rattle.deku_bits.proofs.Handing.{unbroken}
 use Rattle.deku.proofs.Containers.{starts_fresh, whole_source, new_source, counted_state}
 use Rattle.deku_c.proofs.Reading.{read_ok, read_err, read_back}
@@ -12,7 +12,7 @@ returns-in-Ok-clause-meaning c =
 pub returns-in-Err-clause-meaning : goal.returns-in-Err-clause-meaning
 returns-in-Err-clause-meaning c =
     let begin = starts_fresh _ c.args.bytes.now _ (ap whole_source c.new-reader.ensures.source ∙ new_source c.new.result _ c.new.ensures.inner c.new.ensures.position) c.new-reader.ensures.state in
-    read_err c.args.codes.now c.args.bytes.now _ c.in-Err.refusal _ _ begin (unbroken refl refl c.in-Err.ensures)
+    read_err c.args.codes.now c.args.bytes.now [] c.in-Err.refusal _ _ begin (unbroken refl refl c.in-Err.ensures)
 
 pub returns-in-Ok-clause-back : goal.returns-in-Ok-clause-back
 returns-in-Ok-clause-back c = read_back c.read_back_law.ensures c.args.codes.now c.args.bytes.now (Ok c.bits_read.result) _ (returns-in-Ok-clause-meaning c)
