@@ -1,5 +1,7 @@
 //! The functions that C calls.
 
+#![tactic(auto, using(crate::proofs::Exporting::unnamed_first, crate::proofs::Exporting::miscounted_next, crate::proofs::Exporting::accepted_ok, crate::proofs::Exporting::accepted_err, crate::proofs::Exporting::counted, crate::proofs::Exporting::uncounted))]
+
 ghost use Rattle.std.specs.Prelude.{◌≡◌, ◌↔◌, ◌<◌, ◌^◌, length, map, All};
 ghost use Rattle.deku_bits.specs.Pieces.{total};
 ghost use Rattle.deku_fields.specs.Items.{IsAllowedField, field_shape};
