@@ -1,0 +1,115 @@
+-- Reading one field after the other, from the laws that public calls ensure.
+use Rattle.std.proofs.Common.{◌≡◌, ℕ, ◌+◌, ◌*◌, ◌<◌, ◌≤◌, ◌^◌, Bool, true, false, List, [], ◌∷◌, ◌++◌, length, map, take, drop, set, get_or, Option, Some, Result, Ok, Err, ℤ, pos, negsuc, refl, ap, sym, ◌∙◌, subst, subst₂, arith, append-nil}
+use Rattle.std.proofs.lemmas.List.{take_all, take_more_set, map_more, map-append, drop_more, take-append-drop}
+use Rattle.deku_bits.specs.declared.error.DekuError.{DekuError}
+use Rattle.deku_bits.specs.Streams.{Stream, fresh}
+use Rattle.deku_bits.specs.Devices.{Health}
+use Rattle.deku_bits.specs.Pieces.{total}
+use Rattle.deku_bits.specs.Standings.{Standing, Going, count_of}
+use Rattle.deku_bits.specs.Outcomes.{Outcome, Value, Refusal}
+use Rattle.deku_bits.proofs.Handing.{meant}
+use Rattle.deku.specs.Composing.{Answer, Answered, Second, First}
+use Rattle.deku.proofs.Exact.{ok_is}
+use Rattle.deku.proofs.Joining.{answered}
+use Rattle.deku_fields.specs.declared.list.Number.{Number}
+use Rattle.deku_fields.specs.declared.list.Field.{Field}
+use Rattle.deku_fields.specs.declared.list.Item.{Item}
+use Rattle.deku_fields.specs.Items.{number_type, field_shape, values_of}
+use Rattle.deku_fields.specs.ListCalls.{ReadsField, ReadsFields, number_of, has_sign}
+use Rattle.deku_fields.specs.Cuts.{ReadCallsLaw}
+use Rattle.deku_fields.specs.Promise.{Begins, ReadBackLaw}
+use Rattle.deku_c.specs.declared.codes.FieldCode.{FieldCode}
+use Rattle.deku_c.specs.declared.codes.NumberCode.{NumberCode}
+use Rattle.deku_c.specs.Codes.{field_in, fields_in, item_in, items_in, kind_in, number_in, whole}
+use Rattle.deku_c.specs.Calls.{ReadsInto, ReadsBackInto}
+use Rattle.deku_c.proofs.Coding.{items_more}
+
+-- ---- one field
+answer_is : {A V : Type 0} {v : V} {b : Bool} {s : Standing A} {r : Result V DekuError} {u : Standing A} → Answer v b s r u → r ≡ Ok v
+answer_is Answered = refl
+
+sign_of : (b : Bool) (z : ℤ) → has_sign (number_of b z) ≡ b
+sign_of false (pos n) = refl
+sign_of false (negsuc n) = refl
+sign_of true z = refl
+
+-- a field gives one number, with or without a sign as its kind
+one_read : (f : Field) (ns : List Number) (s u : Standing (Option Stream)) → ReadsFields (f ∷ []) false s (Ok ns) u
+    → (n : Number) × (ns ≡ n ∷ []) × (has_sign n ≡ (number_type f.kind).signed)
+one_read f ns s u (Second n t (Value x q e) (Value ms a d)) =
+    let none : ms ≡ [] = ok_is _ _ (answer_is a) in
+    let is : ns ≡ n ∷ ms = ok_is _ _ d in
+    let signed : n ≡ number_of (number_type f.kind).signed x = ok_is _ _ e in
+    (n, is ∙ ap (λ z. n ∷ z) none, ap has_sign signed ∙ sign_of (number_type f.kind).signed x)
+one_read f ns s u (Second n t (Value x q e) (Refusal k a d)) = absurd (cc)
+one_read f ns s u (Second n t (Refusal k q e) m) = absurd (cc)
+one_read f ns s u (First k m e) = absurd (cc)
+
+-- its code
+pub one_coded : (c : FieldCode) (f : Field) (ns : List Number) (d : Number) (v : NumberCode) {s : Standing (Option Stream)} {h : Health} {u : Standing (Option Stream)} {g : Health}
+    → f ≡ field_in c → Outcome (ReadsFields (f ∷ [])) s h (Ok ns) u g → number_in (has_sign (get_or ns 0 d)) (whole v) ≡ get_or ns 0 d
+    → Outcome (ReadsFields (field_in c ∷ [])) s h (Ok (values_of (item_in c v ∷ []))) u g
+one_coded c f ns d v {s} {h} {u} {g} e o is =
+    let k = one_read f ns s u (meant o).0 in
+    let first : get_or ns 0 d ≡ k.0 = ap (λ x. get_or x 0 d) k.1 in
+    let signed : has_sign (get_or ns 0 d) ≡ (number_type (kind_in c.kind)).signed = ap has_sign first ∙ k.2 ∙ ap (λ x. (number_type x.kind).signed) e in
+    let value : number_in (number_type (kind_in c.kind)).signed (whole v) ≡ k.0 = ap (λ b. number_in b (whole v)) (sym signed) ∙ is ∙ first in
+    subst₂ (λ x y. Outcome (ReadsFields (x ∷ [])) s h (Ok y) u g) e (k.1 ∙ ap (λ z. z ∷ []) (sym value)) o
+
+-- ---- fields
+-- the first i fields were read, and these are their numbers
+abbrev pub ReadSoFar : List FieldCode → List NumberCode → ℕ → Standing (Option Stream) → Health → Standing (Option Stream) → Health → Type 0
+ReadSoFar cs vs i s0 f0 s f = Outcome (ReadsFields (fields_in (take i cs))) s0 f0 (Ok (values_of (items_in (take i cs) (take i vs)))) s f
+
+pub none_read : (cs : List FieldCode) (vs : List NumberCode) (s : Standing (Option Stream)) (f : Health) → ReadSoFar cs vs 0 s f s f
+none_read cs vs s f = answered
+
+pub one_more : ReadCallsLaw → (cs : List FieldCode) (vs : List NumberCode) (i : ℕ) (d : FieldCode) (v : NumberCode) {s0 : Standing (Option Stream)} {f0 : Health} {s : Standing (Option Stream)} {f : Health} {t : Standing (Option Stream)} {g : Health}
+    → i < length cs → i < length vs → ReadSoFar cs vs i s0 f0 s f → Outcome (ReadsFields (field_in (get_or cs i d) ∷ [])) s f (Ok (values_of (item_in (get_or cs i d) v ∷ []))) t g
+    → ReadSoFar cs (set vs i v) (i + 1) s0 f0 t g
+one_more law cs vs i d v {s0} {f0} {s} {f} {t} {g} l m before o =
+    let c : FieldCode = get_or cs i d in
+    let items : List Item = items_in (take i cs) (take i vs) in
+    let both = law.both (fields_in (take i cs)) (field_in c ∷ []) s0 s t f0 f g (values_of items) (Ok (values_of (item_in c v ∷ []))) before o in
+    let fields : fields_in (take (i + 1) cs) ≡ fields_in (take i cs) ++ field_in c ∷ [] = map_more field_in cs i d l in
+    let next : items_in (take (i + 1) cs) (take (i + 1) (set vs i v)) ≡ items ++ item_in c v ∷ [] = items_more cs vs (set vs i v) i d v l m (take_more_set vs i v m) in
+    let numbers : values_of (items_in (take (i + 1) cs) (take (i + 1) (set vs i v))) ≡ values_of items ++ values_of (item_in c v ∷ []) =
+    ap values_of next ∙ map-append (λ x. x.value) items (item_in c v ∷ []) in
+    subst₂ (λ x y. Outcome (ReadsFields x) s0 f0 (Ok y) t g) (sym fields) (sym numbers) both
+
+pub one_refused : ReadCallsLaw → (cs : List FieldCode) (vs : List NumberCode) (i : ℕ) (d : FieldCode) (e : DekuError) {s0 : Standing (Option Stream)} {f0 : Health} {s : Standing (Option Stream)} {f : Health} {t : Standing (Option Stream)} {g : Health}
+    → i < length cs → ReadSoFar cs vs i s0 f0 s f → Outcome (ReadsFields (field_in (get_or cs i d) ∷ [])) s f (Err e) t g → Outcome (ReadsFields (fields_in cs)) s0 f0 (Err e) t g
+one_refused law cs vs i d e {s0} {f0} {s} {f} {t} {g} l before o =
+    let c : FieldCode = get_or cs i d in
+    let behind = law.refused (field_in c ∷ []) (fields_in (drop (i + 1) cs)) s t f g e o in
+    let rest : fields_in (drop i cs) ≡ field_in c ∷ fields_in (drop (i + 1) cs) = ap fields_in (drop_more cs i d l) in
+    let others : Outcome (ReadsFields (fields_in (drop i cs))) s f (Err e) t g = subst (λ x. Outcome (ReadsFields x) s f (Err e) t g) (sym rest) behind in
+    let all = law.both (fields_in (take i cs)) (fields_in (drop i cs)) s0 s t f0 f g (values_of (items_in (take i cs) (take i vs))) (Err e) before others in
+    let whole_list : fields_in (take i cs) ++ fields_in (drop i cs) ≡ fields_in cs = sym (map-append field_in (take i cs) (drop i cs)) ∙ ap fields_in (take-append-drop i cs) in
+    subst (λ x. Outcome (ReadsFields x) s0 f0 (Err e) t g) whole_list all
+
+pub all_read : (cs : List FieldCode) (vs : List NumberCode) (i : ℕ) {s0 : Standing (Option Stream)} {f0 : Health} {s : Standing (Option Stream)} {f : Health}
+    → length cs ≤ i → length vs ≤ i → ReadSoFar cs vs i s0 f0 s f → Outcome (ReadsFields (fields_in cs)) s0 f0 (Ok (values_of (items_in cs vs))) s f
+all_read cs vs i {s0} {f0} {s} {f} l m o =
+    subst₂ (λ x y. Outcome (ReadsFields (fields_in x)) s0 f0 (Ok (values_of (items_in x y))) s f) (take_all i cs l) (take_all i vs m) o
+
+-- ---- what is read back
+pub read_back : ReadBackLaw → (cs : List FieldCode) (bytes : List ℕ) (r : Result ℕ DekuError) (vs : List NumberCode) → ReadsInto cs bytes r vs → ReadsBackInto cs bytes r vs
+read_back law cs bytes (Ok n) vs m items after b small =
+    let fs : List Field = fields_in cs in
+    let k = law fs (Ok (values_of (items_in cs vs))) (Going (Some (fresh bytes)) 0) m.0 m.1 items bytes after 0 b refl (omega (arith, small)) in
+    let bits : n ≡ 0 + total (map field_shape fs) = m.2 ∙ ap count_of k.1.stands in
+    (ap Ok (omega (arith, bits)), ok_is _ _ k.0)
+read_back law cs bytes (Err e) vs m items after b small =
+    let k = law (fields_in cs) (Err e) (Going (Some (fresh bytes)) 0) m.0 m.1 items bytes after 0 b refl (omega (arith, small)) in
+    let other = k.0 in
+    absurd (cc)
+
+-- what a reader from the first byte on gave
+pub read_ok : (cs : List FieldCode) (bytes : List ℕ) (vs : List NumberCode) (n : ℕ) (s u : Standing (Option Stream)) → s ≡ Going (Some (fresh bytes)) 0
+    → ReadsFields (fields_in cs) false s (Ok (values_of (items_in cs vs))) u → n ≡ count_of u → ReadsInto cs bytes (Ok n) vs
+read_ok cs bytes vs n s u begin m e = (u, subst (λ x. ReadsFields (fields_in cs) false x (Ok (values_of (items_in cs vs))) u) begin m, e)
+
+pub read_err : (cs : List FieldCode) (bytes : List ℕ) (vs : List NumberCode) (e : DekuError) (s u : Standing (Option Stream)) → s ≡ Going (Some (fresh bytes)) 0
+    → ReadsFields (fields_in cs) false s (Err e) u → ReadsInto cs bytes (Err e) vs
+read_err cs bytes vs e s u begin m = (u, subst (λ x. ReadsFields (fields_in cs) false x (Err e) u) begin m)
