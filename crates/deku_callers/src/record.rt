@@ -7,7 +7,6 @@ ghost use Rattle.deku.specs.declared.error.DekuError.TheVariants.{Io};
 use deku::prelude::{DekuContainerRead, DekuContainerWrite, DekuError};
 use deku_bits::laws::length_law;
 use deku_formats::udp::Udp;
-use deku_symmetry::Coded;
 use deku_symmetry::laws::{from_bytes_law, to_bytes_law, whole_bytes_law};
 use std::alloc::Global;
 
@@ -20,11 +19,11 @@ use std::alloc::Global;
 pub fn there_and_back(alloc: Global, header: Udp) -> Result<Udp, DekuError>
     ensures { MatchResult result (λ h. h ≡ header) (λ e. e ≡ Io OutOfMemory) }
 {
-    to_bytes_law::<Coded<Udp>>();
-    from_bytes_law::<Coded<Udp>>();
+    to_bytes_law::<Udp>();
+    from_bytes_law::<Udp>();
     length_law();
-    let bytes = Coded(header).to_bytes(alloc)?;
-    let (_rest, Coded(read)) = Coded::<Udp>::from_bytes(alloc, (bytes.as_slice(), 0))?;
+    let bytes = header.to_bytes(alloc)?;
+    let (_rest, read) = Udp::from_bytes(alloc, (bytes.as_slice(), 0))?;
     Ok(read)
 }
 
@@ -41,11 +40,11 @@ pub fn there_and_back(alloc: Global, header: Udp) -> Result<Udp, DekuError>
 pub fn rewritten(alloc: Global, bytes: &[u8]) -> Result<Vec<u8>, DekuError>
     ensures { IfOk result (λ v. v.items ≡ take 8 bytes.now) }
 {
-    to_bytes_law::<Coded<Udp>>();
-    from_bytes_law::<Coded<Udp>>();
+    to_bytes_law::<Udp>();
+    from_bytes_law::<Udp>();
     length_law();
     whole_bytes_law();
-    let (_rest, header) = Coded::<Udp>::from_bytes(alloc, (bytes, 0))?;
+    let (_rest, header) = Udp::from_bytes(alloc, (bytes, 0))?;
     header.to_bytes(alloc)
 }
 

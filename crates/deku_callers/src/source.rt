@@ -6,7 +6,7 @@ ghost use Rattle.deku_symmetry.specs.Symmetric.{IsSymmetric};
 use deku::device::Source;
 use deku::prelude::{DekuContainerRead, DekuError};
 use deku_formats::udp::Udp;
-use deku_symmetry::{Coded, Symmetric};
+use deku_symmetry::Symmetric;
 use std::alloc::Global;
 
 /// Reads the header of a datagram from the start of a source. Returns how many bits it has, and the
@@ -21,9 +21,8 @@ pub fn header_of<R: Source>(alloc: Global, source: &mut R) -> Result<(usize, Udp
     ensures { IfOk result (λ p. IfSome (R.known source.old).remaining
         (λ bytes. (p.0 ≡ 64) × ((R.known source.new).remaining ≡ Some (drop 8 bytes)))) }
 {
-    symmetric_law::<Coded<Udp>>();
-    let (bits, Coded(header)) = Coded::<Udp>::from_reader(alloc, (source, 0))?;
-    Ok((bits, header))
+    symmetric_law::<Udp>();
+    Udp::from_reader(alloc, (source, 0))
 }
 
 // The law of symmetric types, for one type.

@@ -9,16 +9,18 @@
 //!  SG_ flags  : 32|3@1+       Intel: the low three bits of byte 4; the other five are padding
 //!  SG_ yaw    : 47|24@0-      Motorola, signed: bytes 5, 6 and 7
 //! ```
-//!
-//! Printed by `derive` from `can.rs`.
 
 ghost use Rattle.std.specs.Prelude.{refl};
-ghost use Rattle.deku_symmetry.specs.Fields.{lsb, lsb_be};
+ghost use Rattle.deku.specs.Outcomes.{Mapped};
 
-use deku_symmetry::{CopyParts, Lsb, LsbBe};
+use deku::device::{Sink, Source};
+use deku::prelude::{
+    DekuContainerRead, DekuContainerWrite, DekuError, DekuReader, DekuWriter, Reader, Writer,
+};
+use deku_symmetry::{FromParts, Lsb, LsbBe, Record, ToParts, read_record, write_record};
 
 /// The signals.
-#[derive(Debug, Clone, Copy, PartialEq, Eq)]
+#[derive(Debug, PartialEq, Eq, Drop)]
 pub struct Chassis {
     /// The angle of the wheel, 12 bits.
     pub wheel: i16,
@@ -34,36 +36,36 @@ pub struct Chassis {
     pub yaw: i32,
 }
 
-impl CopyParts for Chassis {
-    type Parts = (
-        Lsb<i16, 12>,
-        Lsb<u8, 4>,
-        LsbBe<i16, 16>,
-        Lsb<u8, 3>,
-        Lsb<u8, 5>,
-        LsbBe<i32, 24>,
-    );
+// The signals, in order.
+type Parts = (
+    (Lsb<i16, 12>, Lsb<u8, 4>),
+    LsbBe<i16, 16>,
+    (Lsb<u8, 3>, Lsb<u8, 5>),
+    LsbBe<i32, 24>,
+);
+
+impl FromParts<()> for Chassis {
+    type Parts = Parts;
 
     ghost parts_of = { λ r. (
-      lsb r.wheel,
-      lsb r.gear,
-      lsb_be r.torque,
-      lsb r.flags,
-      lsb r.padding,
-      lsb_be r.yaw,
+      (record { 0 = r.wheel }, record { 0 = r.gear }),
+      record { 0 = r.torque },
+      (record { 0 = r.flags }, record { 0 = r.padding }),
+      record { 0 = r.yaw },
     ) };
 
     ghost record_of = { λ p. record {
-      wheel = p.0.0;
-      gear = p.1.0;
-      torque = p.2.0;
-      flags = p.3.0;
-      padding = p.4.0;
-      yaw = p.5.0;
+      wheel = p.0.0.0;
+      gear = p.0.1.0;
+      torque = p.1.0;
+      flags = p.2.0.0;
+      padding = p.2.1.0;
+      yaw = p.3.0;
     } };
 
     fn from_parts(parts: Self::Parts) -> Self {
-        let (Lsb(wheel), Lsb(gear), LsbBe(torque), Lsb(flags), Lsb(padding), LsbBe(yaw)) = parts;
+        let ((Lsb(wheel), Lsb(gear)), LsbBe(torque), (Lsb(flags), Lsb(padding)), LsbBe(yaw)) =
+            parts;
         Chassis {
             wheel,
             gear,
@@ -74,16 +76,49 @@ impl CopyParts for Chassis {
         }
     }
 
+    ghost there = { λ r. refl };
+}
+
+impl ToParts<()> for Chassis {
     fn parts(&self) -> Self::Parts {
         (
-            Lsb(self.wheel),
-            Lsb(self.gear),
+            (Lsb(self.wheel), Lsb(self.gear)),
             LsbBe(self.torque),
-            Lsb(self.flags),
-            Lsb(self.padding),
+            (Lsb(self.flags), Lsb(self.padding)),
             LsbBe(self.yaw),
         )
     }
-
-    ghost there = { λ r. refl };
 }
+
+impl Record for Chassis {
+    ghost back = { λ p ps h. refl };
+
+    ghost reads = { λ b s r u m. m };
+
+    ghost writes = { λ v b s r u m. m };
+}
+
+impl DekuReader<()> for Chassis {
+    ghost meaning = { λ _. Mapped ⟦<Chassis as FromParts<()>>⟧.record_of
+        (⟦<Parts as DekuReader<()>>⟧.meaning tt) };
+
+    fn from_reader_with_ctx<R: Source>(
+        reader: &mut Reader<R>,
+        _ctx: (),
+    ) -> Result<Self, DekuError> {
+        read_record(reader, ())
+    }
+}
+
+impl DekuWriter<()> for Chassis {
+    ghost meaning = { λ v _. ⟦<Parts as DekuWriter<()>>⟧.meaning
+        (⟦<Chassis as FromParts<()>>⟧.parts_of v) tt };
+
+    fn to_writer<W: Sink>(&self, writer: &mut Writer<W>, _ctx: ()) -> Result<(), DekuError> {
+        write_record(self, writer, ())
+    }
+}
+
+impl DekuContainerRead for Chassis {}
+
+impl DekuContainerWrite for Chassis {}

@@ -8,16 +8,18 @@
 //! |     length      |    checksum     |
 //! +--------+--------+--------+--------+
 //! ```
-//!
-//! Printed by `derive` from `udp.rs`.
 
 ghost use Rattle.std.specs.Prelude.{refl};
-ghost use Rattle.deku_symmetry.specs.Fields.{be};
+ghost use Rattle.deku.specs.Outcomes.{Mapped};
 
-use deku_symmetry::{Be, CopyParts};
+use deku::device::{Sink, Source};
+use deku::prelude::{
+    DekuContainerRead, DekuContainerWrite, DekuError, DekuReader, DekuWriter, Reader, Writer,
+};
+use deku_symmetry::{Be, FromParts, Record, ToParts, read_record, write_record};
 
 /// The header of a datagram.
-#[derive(Debug, Clone, Copy, PartialEq, Eq)]
+#[derive(Debug, PartialEq, Eq, Drop)]
 pub struct Udp {
     /// The port of the sender, or 0.
     pub source: u16,
@@ -29,19 +31,29 @@ pub struct Udp {
     pub checksum: u16,
 }
 
-impl CopyParts for Udp {
-    type Parts = (Be<u16>, Be<u16>, Be<u16>, Be<u16>);
+// The fields, in order.
+type Parts = (Be<u16>, Be<u16>, Be<u16>, Be<u16>);
 
-    ghost parts_of = { λ r. (be r.source, be r.destination, be r.length, be r.checksum) };
+impl FromParts<()> for Udp {
+    type Parts = Parts;
+
+    ghost parts_of = { λ r. (
+      record { 0 = r.source },
+      record { 0 = r.destination },
+      record { 0 = r.length },
+      record { 0 = r.checksum },
+    ) };
 
     ghost record_of = { λ p. record {
       source = p.0.0;
       destination = p.1.0;
       length = p.2.0;
-      checksum = p.3.0;
+      checksum
+          = p.3.0;
     } };
 
-    fn from_parts((Be(source), Be(destination), Be(length), Be(checksum)): Self::Parts) -> Self {
+    fn from_parts(parts: Self::Parts) -> Self {
+        let (Be(source), Be(destination), Be(length), Be(checksum)) = parts;
         Udp {
             source,
             destination,
@@ -50,6 +62,10 @@ impl CopyParts for Udp {
         }
     }
 
+    ghost there = { λ r. refl };
+}
+
+impl ToParts<()> for Udp {
     fn parts(&self) -> Self::Parts {
         (
             Be(self.source),
@@ -58,6 +74,37 @@ impl CopyParts for Udp {
             Be(self.checksum),
         )
     }
-
-    ghost there = { λ r. refl };
 }
+
+impl Record for Udp {
+    ghost back = { λ p ps h. refl };
+
+    ghost reads = { λ b s r u m. m };
+
+    ghost writes = { λ v b s r u m. m };
+}
+
+impl DekuReader<()> for Udp {
+    ghost meaning = { λ _. Mapped ⟦<Udp as FromParts<()>>⟧.record_of
+        (⟦<Parts as DekuReader<()>>⟧.meaning tt) };
+
+    fn from_reader_with_ctx<R: Source>(
+        reader: &mut Reader<R>,
+        _ctx: (),
+    ) -> Result<Self, DekuError> {
+        read_record(reader, ())
+    }
+}
+
+impl DekuWriter<()> for Udp {
+    ghost meaning = { λ v _. ⟦<Parts as DekuWriter<()>>⟧.meaning
+        (⟦<Udp as FromParts<()>>⟧.parts_of v) tt };
+
+    fn to_writer<W: Sink>(&self, writer: &mut Writer<W>, _ctx: ()) -> Result<(), DekuError> {
+        write_record(self, writer, ())
+    }
+}
+
+impl DekuContainerRead for Udp {}
+
+impl DekuContainerWrite for Udp {}

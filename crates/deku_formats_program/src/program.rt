@@ -28,7 +28,7 @@ use deku_formats::png::Png;
 use deku_formats::udp::Udp;
 use deku_instructions::riscv::instruction::Instruction;
 use deku_program::{give_text, read_hex_text, tell_fault};
-use deku_symmetry::{Coded, Symmetric};
+use deku_symmetry::Symmetric;
 use itoa::Buffer;
 use std::alloc::{AllocError, AllocFailed, Global};
 use std::fmt::Write as _;
@@ -94,19 +94,19 @@ pub struct Records;
 
 impl Told for Records {
     ghost tells = { of_format
-        (TellsOf (λ v. ⟦<Coded<Chassis> as Symmetric<()>>⟧.pieces v tt))
+        (TellsOf (λ v. ⟦<Chassis as Symmetric<()>>⟧.pieces v tt))
         (TellsOf (λ v. ⟦<Telemetry as Symmetric<()>>⟧.pieces v tt))
         (TellsOf (λ v. ⟦<Query as Symmetric<()>>⟧.pieces v tt))
         (TellsOf (λ v. ⟦<Elf as Symmetric<()>>⟧.pieces v tt))
         (TellsOf (λ v. ⟦<Ipv4 as Symmetric<()>>⟧.pieces v tt))
         (TellsOf (λ v. ⟦<Png as Symmetric<()>>⟧.pieces v tt))
         (TellsOf (λ v. ⟦<Instruction as Symmetric<()>>⟧.pieces v tt))
-        (TellsOf (λ v. ⟦<Coded<Udp> as Symmetric<()>>⟧.pieces v tt)) };
+        (TellsOf (λ v. ⟦<Udp as Symmetric<()>>⟧.pieces v tt)) };
 
     ghost stops = { of_format
-        (StopsOf (⟦<Coded<Chassis> as DekuReader<()>>⟧.meaning tt)
-        (λ v. ⟦<Coded<Chassis> as Symmetric<()>>⟧.pieces v tt)
-        (λ v. ⟦<Coded<Chassis> as DekuWriter<()>>⟧.meaning v tt))
+        (StopsOf (⟦<Chassis as DekuReader<()>>⟧.meaning tt)
+        (λ v. ⟦<Chassis as Symmetric<()>>⟧.pieces v tt)
+        (λ v. ⟦<Chassis as DekuWriter<()>>⟧.meaning v tt))
         (StopsOf (⟦<Telemetry as DekuReader<()>>⟧.meaning tt)
         (λ v. ⟦<Telemetry as Symmetric<()>>⟧.pieces v tt)
         (λ v. ⟦<Telemetry as DekuWriter<()>>⟧.meaning v tt))
@@ -123,9 +123,8 @@ impl Told for Records {
         (StopsOf (⟦<Instruction as DekuReader<()>>⟧.meaning tt)
         (λ v. ⟦<Instruction as Symmetric<()>>⟧.pieces v tt)
         (λ v. ⟦<Instruction as DekuWriter<()>>⟧.meaning v tt))
-        (StopsOf (⟦<Coded<Udp> as DekuReader<()>>⟧.meaning tt)
-        (λ v. ⟦<Coded<Udp> as Symmetric<()>>⟧.pieces v tt)
-        (λ v. ⟦<Coded<Udp> as DekuWriter<()>>⟧.meaning v tt)) };
+        (StopsOf (⟦<Udp as DekuReader<()>>⟧.meaning tt) (λ v. ⟦<Udp as Symmetric<()>>⟧.pieces v tt)
+        (λ v. ⟦<Udp as DekuWriter<()>>⟧.meaning v tt)) };
 }
 
 const NAMES: &str = "can\nccsds\ndns\nelf\nipv4\npng\nriscv\nudp\n";
@@ -273,14 +272,14 @@ fn record_text(alloc: Global, format: Format, bytes: &[u8]) -> Result<String, Fa
     ensures stops { IfErr result (⟦<Records as Told>⟧.stops format bytes.now) }
 {
     match format {
-        Format::Can => shown::<Coded<Chassis>>(alloc, bytes),
+        Format::Can => shown::<Chassis>(alloc, bytes),
         Format::Ccsds => shown::<Telemetry>(alloc, bytes),
         Format::Dns => shown::<Query>(alloc, bytes),
         Format::Elf => shown::<Elf>(alloc, bytes),
         Format::Ipv4 => shown::<Ipv4>(alloc, bytes),
         Format::Png => shown::<Png>(alloc, bytes),
         Format::Riscv => shown::<Instruction>(alloc, bytes),
-        Format::Udp => shown::<Coded<Udp>>(alloc, bytes),
+        Format::Udp => shown::<Udp>(alloc, bytes),
     }
 }
 

@@ -15,7 +15,6 @@ use deku_formats::ipv4::Ipv4;
 use deku_formats::png::Png;
 use deku_formats::udp::Udp;
 use deku_instructions::riscv::instruction::Instruction;
-use deku_symmetry::Coded;
 use std::alloc::AllocError;
 use std::fmt::Write;
 
@@ -31,20 +30,6 @@ pub trait Shown {
     /// The name of the field that says how many items follow it, if there is one.
     fn counting() -> Option<&'static str> {
         None
-    }
-}
-
-impl<T: Shown> Shown for Coded<T> {
-    fn show(&self, text: &mut String) -> Result<(), AllocError> {
-        self.0.show(text)
-    }
-
-    fn field_at(bit: usize) -> &'static str {
-        T::field_at(bit)
-    }
-
-    fn counting() -> Option<&'static str> {
-        T::counting()
     }
 }
 

@@ -6,7 +6,6 @@ use deku_formats::checksum::{is_intact, ones_sum};
 use deku_formats::ipv4::Ipv4;
 use deku_formats::ipv4::front::Front;
 use deku_formats::udp::Udp;
-use deku_symmetry::Coded;
 use deku_testing_values::records::{expect_record, expect_refusal};
 use std::net::Ipv4Addr;
 use std::test::Fail;
@@ -33,7 +32,7 @@ fn datagrams(rt: HostRuntime) -> Result<(), Fail> {
             length,
             checksum,
         };
-        expect_record(rt.alloc(), &Coded(header), &bytes)?;
+        expect_record(rt.alloc(), &header, &bytes)?;
     }
     Ok(())
 }
@@ -182,7 +181,7 @@ fn check_sums(rt: HostRuntime) {
 #[test]
 fn refusals(rt: HostRuntime) -> Result<(), Fail> {
     let short = DekuError::Incomplete(NeedSize::new(16));
-    expect_refusal::<Coded<Udp>>(rt.alloc(), &[0x9C, 0xBB, 0xD1], short, 16)?;
+    expect_refusal::<Udp>(rt.alloc(), &[0x9C, 0xBB, 0xD1], short, 16)?;
     let version = DekuError::Assertion("version");
     expect_refusal::<Ipv4>(rt.alloc(), &[0x65, 0x00], version, 4)?;
     let bytes = [

@@ -5,21 +5,20 @@ use deku_formats::can::Chassis;
 use deku_formats::ccsds::Telemetry;
 use deku_formats::ccsds::header::Header;
 use deku_formats::ccsds::sample::Sample;
-use deku_symmetry::Coded;
 use deku_testing_values::records::{expect_record, expect_refusal};
 use std::test::Fail;
 
 // As the Python package cantools 37.2 encodes it, from the DBC text that is in the module.
 #[test]
 fn a_frame(rt: HostRuntime) -> Result<(), Fail> {
-    let chassis = Coded(Chassis {
+    let chassis = Chassis {
         wheel: -700,
         gear: 5,
         torque: -1234,
         flags: 5,
         padding: 0,
         yaw: -100000,
-    });
+    };
     let bytes = [0x44, 0x5D, 0xFB, 0x2E, 0x05, 0xFE, 0x79, 0x60];
     expect_record(rt.alloc(), &chassis, &bytes)
 }
@@ -55,7 +54,7 @@ fn a_packet_of_samples(rt: HostRuntime) -> Result<(), Fail> {
 #[test]
 fn refusals(rt: HostRuntime) -> Result<(), Fail> {
     let short = DekuError::Incomplete(NeedSize::new(24));
-    expect_refusal::<Coded<Chassis>>(rt.alloc(), &[0x44, 0x5D, 0xFB, 0x2E, 0x05, 0xFE], short, 40)?;
+    expect_refusal::<Chassis>(rt.alloc(), &[0x44, 0x5D, 0xFB, 0x2E, 0x05, 0xFE], short, 40)?;
     let bytes = [0x01, 0x23, 0xC0, 0x2A, 0x00, 0x0B, 0x00];
     let length = DekuError::Parse("head without a count");
     expect_refusal::<Telemetry>(rt.alloc(), &bytes, length, 48)
