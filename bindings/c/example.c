@@ -5,10 +5,12 @@
 int main(void)
 {
     const struct dishkaru_field fields[4] = {
-        {DISHKARU_U8, DISHKARU_BIG, DISHKARU_MSB, DISHKARU_BITS, 4},  /* version */
-        {DISHKARU_U8, DISHKARU_BIG, DISHKARU_MSB, DISHKARU_BITS, 4},  /* length of the header, in words */
+        {DISHKARU_U8, DISHKARU_BIG, DISHKARU_MSB, DISHKARU_BITS, 4}, /* version */
+        {DISHKARU_U8, DISHKARU_BIG, DISHKARU_MSB, DISHKARU_BITS,
+         4}, /* length of the header, in words */
         {DISHKARU_U8, DISHKARU_BIG, DISHKARU_MSB, DISHKARU_WHOLE, 0}, /* service */
-        {DISHKARU_U16, DISHKARU_BIG, DISHKARU_MSB, DISHKARU_WHOLE, 0} /* length of the packet, in bytes */
+        {DISHKARU_U16, DISHKARU_BIG, DISHKARU_MSB, DISHKARU_WHOLE,
+         0} /* length of the packet, in bytes */
     };
     const uint8_t packet[] = {0x45, 0x00, 0x00, 0x3C};
     struct dishkaru_value values[4];

@@ -5,12 +5,16 @@
 #include <stdio.h>
 #include <string.h>
 
-#define BITS(kind, size) {kind, DISHKARU_BIG, DISHKARU_MSB, DISHKARU_BITS, size}
+#define BITS(kind, size)                                                                           \
+    {                                                                                              \
+        kind, DISHKARU_BIG, DISHKARU_MSB, DISHKARU_BITS, size                                      \
+    }
 
 static const struct dishkaru_field fields[] = {
-    BITS(DISHKARU_U8, 4),   BITS(DISHKARU_U8, 4),  BITS(DISHKARU_U8, 6),  BITS(DISHKARU_U8, 2),   BITS(DISHKARU_U16, 16),
-    BITS(DISHKARU_U16, 16), BITS(DISHKARU_U8, 3),  BITS(DISHKARU_U16, 13), BITS(DISHKARU_U8, 8),  BITS(DISHKARU_U8, 8),
-    BITS(DISHKARU_U16, 16), BITS(DISHKARU_U32, 32), BITS(DISHKARU_U32, 32),
+    BITS(DISHKARU_U8, 4),   BITS(DISHKARU_U8, 4),   BITS(DISHKARU_U8, 6),   BITS(DISHKARU_U8, 2),
+    BITS(DISHKARU_U16, 16), BITS(DISHKARU_U16, 16), BITS(DISHKARU_U8, 3),   BITS(DISHKARU_U16, 13),
+    BITS(DISHKARU_U8, 8),   BITS(DISHKARU_U8, 8),   BITS(DISHKARU_U16, 16), BITS(DISHKARU_U32, 32),
+    BITS(DISHKARU_U32, 32),
 };
 
 static const char *const names[] = {

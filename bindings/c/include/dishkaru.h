@@ -38,24 +38,14 @@ enum dishkaru_kind {
 };
 
 /* Which byte of a number comes first: the lowest or the highest. */
-enum dishkaru_endian {
-    DISHKARU_LITTLE = 0,
-    DISHKARU_BIG = 1
-};
+enum dishkaru_endian { DISHKARU_LITTLE = 0, DISHKARU_BIG = 1 };
 
 /* Which bit of a byte comes first: the highest or the lowest. */
-enum dishkaru_order {
-    DISHKARU_MSB = 0,
-    DISHKARU_LSB = 1
-};
+enum dishkaru_order { DISHKARU_MSB = 0, DISHKARU_LSB = 1 };
 
 /* What the size of a field counts. With DISHKARU_WHOLE a field has all bits of its kind, whatever
  * its size is. */
-enum dishkaru_unit {
-    DISHKARU_WHOLE = 0,
-    DISHKARU_BITS = 1,
-    DISHKARU_BYTES = 2
-};
+enum dishkaru_unit { DISHKARU_WHOLE = 0, DISHKARU_BITS = 1, DISHKARU_BYTES = 2 };
 
 /* What a call returns. */
 enum dishkaru_status {
@@ -114,8 +104,9 @@ uint32_t dishkaru_bits(const struct dishkaru_field *fields, size_t field_count, 
  * DISHKARU_INCOMPLETE, DISHKARU_PARSE, DISHKARU_INVALID_PARAM: for the first field that fails.
  * *bits stays as it was, and the values are unspecified.
  */
-uint32_t dishkaru_read(const struct dishkaru_field *fields, size_t field_count, const uint8_t *bytes, size_t byte_count,
-                       struct dishkaru_value *values, size_t value_count, uint64_t *bits);
+uint32_t dishkaru_read(const struct dishkaru_field *fields, size_t field_count,
+                       const uint8_t *bytes, size_t byte_count, struct dishkaru_value *values,
+                       size_t value_count, uint64_t *bits);
 
 /*
  * Writes one value for each field to the start of the bytes, fills the last byte with zero bits,
@@ -125,8 +116,9 @@ uint32_t dishkaru_read(const struct dishkaru_field *fields, size_t field_count, 
  * DISHKARU_INVALID_PARAM, DISHKARU_IO: for the first value that fails, or if there are too few
  * bytes. *written stays as it was, and some of the bytes may have been written.
  */
-uint32_t dishkaru_write(const struct dishkaru_field *fields, size_t field_count, const struct dishkaru_value *values,
-                        size_t value_count, uint8_t *bytes, size_t byte_count, uint64_t *written);
+uint32_t dishkaru_write(const struct dishkaru_field *fields, size_t field_count,
+                        const struct dishkaru_value *values, size_t value_count, uint8_t *bytes,
+                        size_t byte_count, uint64_t *written);
 
 /* A status in words, in English; "unknown status" for a number that is none. */
 static inline const char *dishkaru_text(uint32_t status)

@@ -4,10 +4,7 @@ __extension__ typedef unsigned __int128 u128;
 
 static const unsigned kind_bits[12] = {8, 16, 32, 64, 128, 64, 8, 16, 32, 64, 128, 64};
 
-static int is_signed(struct dishkaru_field f)
-{
-    return f.kind >= DISHKARU_I8;
-}
+static int is_signed(struct dishkaru_field f) { return f.kind >= DISHKARU_I8; }
 
 /* The bits of a field; a number that is too large is cut to 1,000. */
 static unsigned width(struct dishkaru_field f)
@@ -20,14 +17,12 @@ static unsigned width(struct dishkaru_field f)
     return f.unit == DISHKARU_BYTES ? 8 * size : size;
 }
 
-static int is_wide(struct dishkaru_field f)
-{
-    return width(f) > kind_bits[f.kind];
-}
+static int is_wide(struct dishkaru_field f) { return width(f) > kind_bits[f.kind]; }
 
 static int is_uneven(struct dishkaru_field f)
 {
-    return is_signed(f) && f.endian == DISHKARU_BIG && f.order == DISHKARU_LSB && width(f) > 8 && width(f) % 8 != 0;
+    return is_signed(f) && f.endian == DISHKARU_BIG && f.order == DISHKARU_LSB && width(f) > 8 &&
+           width(f) % 8 != 0;
 }
 
 /* What bit i of n bits counts: two to the power of this. The bits are those of groups of eight, the
@@ -51,7 +46,8 @@ static unsigned place(struct dishkaru_field f, uint64_t k)
 int layout_named(const struct dishkaru_field *fields, size_t count)
 {
     for (size_t i = 0; i < count; i++)
-        if (fields[i].kind > 11 || fields[i].endian > 1 || fields[i].order > 1 || fields[i].unit > 2)
+        if (fields[i].kind > 11 || fields[i].endian > 1 || fields[i].order > 1 ||
+            fields[i].unit > 2)
             return 0;
     return 1;
 }
@@ -83,8 +79,8 @@ uint32_t layout_bits(const struct dishkaru_field *fields, size_t count, uint64_t
     return DISHKARU_OK;
 }
 
-uint32_t layout_read(const struct dishkaru_field *fields, size_t count, const uint8_t *bytes, size_t byte_count,
-                     struct dishkaru_value *values, uint64_t *bits)
+uint32_t layout_read(const struct dishkaru_field *fields, size_t count, const uint8_t *bytes,
+                     size_t byte_count, struct dishkaru_value *values, uint64_t *bits)
 {
     uint64_t at = 0;
     for (size_t i = 0; i < count; i++) {
@@ -123,8 +119,9 @@ static int fits(struct dishkaru_field f, u128 value)
     return value == 0;
 }
 
-uint32_t layout_write(const struct dishkaru_field *fields, size_t count, const struct dishkaru_value *values,
-                      uint8_t *bytes, size_t byte_count, uint64_t *written)
+uint32_t layout_write(const struct dishkaru_field *fields, size_t count,
+                      const struct dishkaru_value *values, uint8_t *bytes, size_t byte_count,
+                      uint64_t *written)
 {
     uint64_t at = 0;
     for (size_t i = 0; i < count; i++) {

@@ -25,16 +25,14 @@ static uint64_t next(void)
     return z ^ z >> 31;
 }
 
-static unsigned below(unsigned n)
-{
-    return (unsigned)(next() % n);
-}
+static unsigned below(unsigned n) { return (unsigned)(next() % n); }
 
 /* The end of a page after which there is no memory. */
 static uint8_t *last(void)
 {
     size_t page = (size_t)sysconf(_SC_PAGESIZE);
-    uint8_t *pages = mmap(NULL, 2 * page, PROT_READ | PROT_WRITE, MAP_PRIVATE | MAP_ANONYMOUS, -1, 0);
+    uint8_t *pages =
+        mmap(NULL, 2 * page, PROT_READ | PROT_WRITE, MAP_PRIVATE | MAP_ANONYMOUS, -1, 0);
     if (pages == MAP_FAILED || mprotect(pages + page, page, PROT_NONE) != 0) {
         perror("random: no memory");
         exit(2);
@@ -44,7 +42,8 @@ static uint8_t *last(void)
 
 static struct dishkaru_field random_field(unsigned order)
 {
-    struct dishkaru_field f = {(uint8_t)below(12), (uint8_t)below(2), (uint8_t)order, (uint8_t)below(3), 0};
+    struct dishkaru_field f = {(uint8_t)below(12), (uint8_t)below(2), (uint8_t)order,
+                               (uint8_t)below(3), 0};
     f.size = f.unit == DISHKARU_BYTES ? below(5) : below(20);
     if (below(8) == 0)
         f.size = below(140);
@@ -73,7 +72,8 @@ static struct dishkaru_value random_value(void)
 
 static void wrong(uint64_t call, const char *what, unsigned got, unsigned wanted)
 {
-    fprintf(stderr, "random: call %llu: %s: got %u, wanted %u\n", (unsigned long long)call, what, got, wanted);
+    fprintf(stderr, "random: call %llu: %s: got %u, wanted %u\n", (unsigned long long)call, what,
+            got, wanted);
     exit(1);
 }
 
@@ -118,7 +118,9 @@ int main(int argc, char **argv)
         uint8_t front = bytes[-1];
         int named = layout_named(fields, count);
         int exact = named && value_count == count && layout_aligned(fields, count);
-        uint32_t refusal = !named ? DISHKARU_UNNAMED : value_count != count ? DISHKARU_MISCOUNTED : DISHKARU_OK;
+        uint32_t refusal = !named                 ? DISHKARU_UNNAMED
+                           : value_count != count ? DISHKARU_MISCOUNTED
+                                                  : DISHKARU_OK;
 
         /* How many bits. */
         uint32_t status = dishkaru_bits(fields, count, &bits);
@@ -172,7 +174,8 @@ int main(int argc, char **argv)
         same(call, "value in front", &values[-1], &front_value, sizeof front_value);
         same(call, "byte in front", &bytes[-1], &front, 1);
     }
-    printf("random: %llu calls with seed %s, %llu compared in full, %llu of these without an error\n",
-           (unsigned long long)calls, argv[1], (unsigned long long)checked, (unsigned long long)ok);
+    printf(
+        "random: %llu calls with seed %s, %llu compared in full, %llu of these without an error\n",
+        (unsigned long long)calls, argv[1], (unsigned long long)checked, (unsigned long long)ok);
     return checked == 0 || ok == 0;
 }

@@ -1,4 +1,5 @@
-/* How long calls take: none of the fields of an IPv4 header, all thirteen, and 4,096 fields of 32 bits. */
+/* How long calls take: none of the fields of an IPv4 header, all thirteen, and 4,096 fields of 32
+ * bits. */
 #define _POSIX_C_SOURCE 199309L
 #include "dishkaru.h"
 
@@ -7,12 +8,16 @@
 
 enum { COUNT = 13, MANY = 4096, ROUNDS = 200000 };
 
-#define BITS(kind, size) {kind, DISHKARU_BIG, DISHKARU_MSB, DISHKARU_BITS, size}
+#define BITS(kind, size)                                                                           \
+    {                                                                                              \
+        kind, DISHKARU_BIG, DISHKARU_MSB, DISHKARU_BITS, size                                      \
+    }
 
 static const struct dishkaru_field header[COUNT] = {
-    BITS(DISHKARU_U8, 4),   BITS(DISHKARU_U8, 4),  BITS(DISHKARU_U8, 6),   BITS(DISHKARU_U8, 2),  BITS(DISHKARU_U16, 16),
-    BITS(DISHKARU_U16, 16), BITS(DISHKARU_U8, 3),  BITS(DISHKARU_U16, 13), BITS(DISHKARU_U8, 8),  BITS(DISHKARU_U8, 8),
-    BITS(DISHKARU_U16, 16), BITS(DISHKARU_U32, 32), BITS(DISHKARU_U32, 32),
+    BITS(DISHKARU_U8, 4),   BITS(DISHKARU_U8, 4),   BITS(DISHKARU_U8, 6),   BITS(DISHKARU_U8, 2),
+    BITS(DISHKARU_U16, 16), BITS(DISHKARU_U16, 16), BITS(DISHKARU_U8, 3),   BITS(DISHKARU_U16, 13),
+    BITS(DISHKARU_U8, 8),   BITS(DISHKARU_U8, 8),   BITS(DISHKARU_U16, 16), BITS(DISHKARU_U32, 32),
+    BITS(DISHKARU_U32, 32),
 };
 
 static double now(void)
@@ -35,7 +40,8 @@ static double best(int writes, const struct dishkaru_field *list, size_t count, 
         double begun = now();
         for (int i = 0; i < rounds; i++)
             if ((writes ? dishkaru_write(list, count, values, count, bytes, sizeof bytes, &n)
-                        : dishkaru_read(list, count, bytes, sizeof bytes, values, count, &n)) != DISHKARU_OK)
+                        : dishkaru_read(list, count, bytes, sizeof bytes, values, count, &n)) !=
+                DISHKARU_OK)
                 return -1;
         double each = (now() - begun) / rounds;
         least = each < least ? each : least;
@@ -46,7 +52,8 @@ static double best(int writes, const struct dishkaru_field *list, size_t count, 
 int main(void)
 {
     for (int i = 0; i < MANY; i++)
-        fields[i] = (struct dishkaru_field){DISHKARU_U32, DISHKARU_BIG, DISHKARU_MSB, DISHKARU_WHOLE, 0};
+        fields[i] =
+            (struct dishkaru_field){DISHKARU_U32, DISHKARU_BIG, DISHKARU_MSB, DISHKARU_WHOLE, 0};
     for (int i = 0; i < (int)sizeof bytes; i++)
         bytes[i] = (uint8_t)(7 * i);
     for (int writes = 0; writes < 2; writes++) {
