@@ -31,7 +31,7 @@
 //! // (6, 9), 0xBEEF; the rest is 01
 //! ```
 //!
-//! The page `docs/RECORDS.md` shows it in full, with its proof, which is one line for each field.
+//! The page `docs/BY-HAND.md` shows it in full, with its proof, which is one line for each field.
 #![tactic(auto)]
 
 mod container;

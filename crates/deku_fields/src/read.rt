@@ -58,10 +58,8 @@ pub fn read_list_into<R: Source>(
         (R.known (source_of reader.new)).health }
 {
     for (place, field) in fields.iter().enumerate() {
-        match read_field(reader, field) {
-            Ok(number) => out[place] = number,
-            Err(refusal) => return Err(refusal),
-        }
+        let number = read_field(reader, field)?;
+        out[place] = number;
     }
     Ok(())
 }
@@ -144,10 +142,8 @@ pub fn read_list<R: Source>(
     let Ok(mut numbers) = vec![in reader.alloc(); Number::Unsigned(0); fields.len()] else {
         return Err(DekuError::Io(ErrorKind::OutOfMemory));
     };
-    match read_list_into(reader, fields, numbers.as_mut_slice()) {
-        Ok(()) => Ok(numbers),
-        Err(refusal) => Err(refusal),
-    }
+    read_list_into(reader, fields, numbers.as_mut_slice())?;
+    Ok(numbers)
 }
 
 /// Reads fields from the first byte on. Returns how many bits they took, and their values.
@@ -171,8 +167,6 @@ pub fn list_from_bytes(
     ensures cause { IfErr result (λ e. (k : IoKind) → e ≡ Io k → WantsMemory k) }
 {
     let mut reader = Reader::new(alloc, Cursor::new(bytes));
-    match read_list(&mut reader, fields) {
-        Ok(numbers) => Ok((reader.bits_read(), numbers)),
-        Err(refusal) => Err(refusal),
-    }
+    let numbers = read_list(&mut reader, fields)?;
+    Ok((reader.bits_read(), numbers))
 }

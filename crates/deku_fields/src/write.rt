@@ -171,10 +171,8 @@ pub fn list_to_bytes(alloc: Global, items: &[Item]) -> Result<Vec<u8>, DekuError
     ensures cause { IfErr result (λ e. (k : IoKind) → e ≡ Io k → WantsPlace k) }
 {
     let mut writer = Writer::new(Cursor::new(room_ahead(alloc)));
-    match write_padded(&mut writer, items) {
-        Ok(()) => Ok(taken_bytes(writer.into_inner())),
-        Err(refusal) => Err(refusal),
-    }
+    write_padded(&mut writer, items)?;
+    Ok(taken_bytes(writer.into_inner()))
 }
 
 // Writes the items and fills the last byte with zeros.

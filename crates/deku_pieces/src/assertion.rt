@@ -44,8 +44,8 @@ pub trait Check<P> {
 
 /// A part that passes a check.
 ///
-/// Reading a part that does not pass fails with `Assertion` and the text of the check; the part
-/// stays read. Writing such a part fails in the same way before anything moves. Otherwise both fail
+/// Reading a part that does not pass fails with `Assertion` and the text of the check; the part is
+/// consumed. Writing such a part fails in the same way before anything moves. Otherwise both fail
 /// as the part does.
 ///
 /// ```text

@@ -30,11 +30,11 @@ pub trait ItemCount {
 
 /// A head, and after it as many items as it says.
 ///
-/// Reading fails with `Parse("head without a count")` if the head names no count; the head stays
-/// read. Writing fails with `Assertion("count out of step with items")` if the head names no count,
-/// or another count than that of the items; then nothing moves. Otherwise it fails as its head
-/// does, and then as the first item that fails. Reading fails with `Io(OutOfMemory)` if there is no
-/// memory for an item.
+/// Reading fails with `Parse("head without a count")` if the head names no count; the head is
+/// consumed. Writing fails with `Assertion("count out of step with items")` if the head names no
+/// count, or another count than that of the items; then nothing moves. Otherwise it fails as its
+/// head does, and then as the first item that fails. Reading fails with `Io(OutOfMemory)` if there
+/// is no memory for an item.
 ///
 /// ```text
 /// type Text = Counted<u8, u8>; // 02 68 69: a byte that counts those after it

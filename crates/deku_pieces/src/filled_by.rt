@@ -19,7 +19,7 @@ use std::marker::PhantomData;
 /// Parts, and after them items that fill exactly as many bits as `C` says of the parts.
 ///
 /// Reading takes items up to the one with which as many bits are read. It fails with `Parse("head
-/// without a size")` if the head says no size; the head stays read. If an item goes past the size,
+/// without a size")` if the head says no size; the head is consumed. If an item goes past the size,
 /// reading continues, and fails at the end of the input at the latest. It fails with `Parse("item
 /// without width")` at an item without bits, and with `Io(OutOfMemory)` if there is no memory for
 /// an item. Writing fails with `Assertion("head without a size")` if the head says no size; then

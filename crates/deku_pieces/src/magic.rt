@@ -52,8 +52,8 @@ pub trait Constant<P> {
 
 /// A part that always has the value of `C`, and so stores none itself.
 ///
-/// Reading another value fails with `Assertion` and the text of the constant; the value stays read.
-/// Otherwise reading and writing fail as the part does.
+/// Reading another value fails with `Assertion` and the text of the constant; the value is
+/// consumed. Otherwise reading and writing fail as the part does.
 ///
 /// ```text
 /// type Parts = (Magic<Be<u32>, Signature>, Be<u16>);              // 7F 45 4C 46, and two bytes

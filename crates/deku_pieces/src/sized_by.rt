@@ -37,12 +37,12 @@ pub trait SizeOf<P>: Drop {
 
 /// Parts, and after them content of exactly as many bits as `C` says of the parts.
 ///
-/// Reading fails with `Parse("head without a size")` if the head says no size; the head stays read.
-/// It fails with `Assertion("content out of step with its size")` if the content leaves some of its
-/// bits, or takes more; the content stays read. Writing fails with `Assertion("head without a
-/// size")` if the head says no size; then nothing moves. It fails with `Assertion("content out of
-/// step with its size")` if the content was written as another number of bits, which stay written.
-/// Otherwise both fail as the head does, and then as the content does.
+/// Reading fails with `Parse("head without a size")` if the head says no size; the head is
+/// consumed. It fails with `Assertion("content out of step with its size")` if the content leaves
+/// some of its bits, or takes more; the content is consumed. Writing fails with `Assertion("head
+/// without a size")` if the head says no size; then nothing moves. It fails with
+/// `Assertion("content out of step with its size")` if the content was written as another number of
+/// bits, which stay written. Otherwise both fail as the head does, and then as the content does.
 ///
 /// ```text
 /// type Parts = SizedBy<Be<u16>, Length, Record>;             // 00 04, and four bytes of a record

@@ -54,7 +54,7 @@ impl<T: Last> Predicate<T> for AtEnd {
 ///
 /// Reading takes items up to and including the first that ends the list. It fails as the first item
 /// that fails, or with `Io(OutOfMemory)` if there is no memory for an item; what was read of the
-/// items before it stays read. Writing fails with `Assertion("items out of step with their end")`
+/// items before it is consumed. Writing fails with `Assertion("items out of step with their end")`
 /// if the last item is not the first one that ends the list; then nothing moves. Otherwise it fails
 /// as the first item that fails.
 ///

@@ -29,7 +29,7 @@ pub trait DekuReader<Ctx>: Drop {
     // What reading returns and leaves. The flag is `true` if the device fails during the read.
     ghost meaning: { Ctx → Meaning (Option Stream) Self };
 
-    /// Reads a value. The type states its errors. What was read before an error stays read.
+    /// Reads a value. The type states its errors. What was read before an error is consumed.
     ///
     /// The caller's condition: the type may be read under the context.
     ///

@@ -12,7 +12,7 @@ use std::marker::Model;
 /// ```text
 /// let mut bits: BoundedBitVec<2> = BoundedBitVec::from_bits(&[true, false, true]);
 /// bits.push(true);                          // 1, 0, 1, 1
-/// let behind = bits.split_off(1);           // 1 stays; 0, 1, 1 are split off
+/// let rest = bits.split_off(1);             // 1 stays; 0, 1, 1 are split off
 /// bits.as_raw_slice()                       // [0x80, 0x00]
 /// ```
 #[derive(Debug, Clone, Drop)]
@@ -199,7 +199,7 @@ impl<const N: usize> BoundedBitVec<N> {
     /// The caller's condition: there is a bit at the place.
     ///
     /// ```text
-    /// let behind = bits.split_off(1);                     // 1, 0, 1 becomes 1, and behind is 0, 1
+    /// let rest = bits.split_off(1);                       // 1, 0, 1 becomes 1, and rest is 0, 1
     /// ```
     pub fn split_off(&mut self, at: usize) -> Self
         requires { at < length self.old }

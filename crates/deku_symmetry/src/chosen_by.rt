@@ -32,7 +32,7 @@ pub trait IdOf<P>: Drop {
         ensures { result ≡ id_of head.now };
 }
 
-/// An id that heads which are the same give alike.
+/// Heads that are the same give the same id.
 ///
 /// ```text
 /// impl IdOfLaw<Front> for Protocol {
@@ -47,8 +47,8 @@ pub trait IdOfLaw<P: Symmetric<()>>: IdOf<P> {
 /// Parts, and after them a value of the kinds `K`: of the kind that `C` says of the parts.
 ///
 /// Reading fails as the head does, and then as the chosen value does. If no kind has the id, it
-/// fails with `IdVariantNotFound`, and the head stays read. Writing fails with `Assertion("kind out
-/// of step with its id")` if the head chooses another kind than that of the value; then nothing
+/// fails with `IdVariantNotFound`, and the head is consumed. Writing fails with `Assertion("kind
+/// out of step with its id")` if the head chooses another kind than that of the value; then nothing
 /// moves. Otherwise it fails as the head does, and then as the value does.
 ///
 /// ```text

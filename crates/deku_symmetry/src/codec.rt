@@ -53,7 +53,7 @@ pub trait Codec: Drop {
             result writer.new };
 
     /// Reads the parts of a value, and makes the value of them. It fails as they do, and what was
-    /// read before stays read.
+    /// read before is consumed.
     ///
     /// The caller's condition: the parts may be read.
     ///

@@ -29,8 +29,8 @@ impl<const N: usize> ConstantLaw<[u8; N]> for Zeros {
 #[derive(Debug, PartialEq, Eq, Drop)]
 pub struct Is<const VALUE: u64>;
 
-/// `N` zero bits, at most 64. Reading others fails with `Assertion("another number")`; they stay
-/// read. For more, write `(ZeroBytes<N>, ZeroBits<M>)`.
+/// `N` zero bits, at most 64. Reading others fails with `Assertion("another number")`; they are
+/// consumed. For more, write `(ZeroBytes<N>, ZeroBits<M>)`.
 ///
 /// ```text
 /// type Parts = (Msb<u8, 3>, ZeroBits<5>);                    // three bits, and five zeros

@@ -36,7 +36,7 @@ pub trait CountOf<P>: Drop {
         ensures { result ≡ count_of head.now };
 }
 
-/// A count that heads which are the same give alike.
+/// Heads that are the same give the same count.
 ///
 /// ```text
 /// impl CountOfLaw<Front> for OptionBytes {
@@ -51,11 +51,11 @@ pub trait CountOfLaw<P: Symmetric<()>>: CountOf<P> {
 
 /// Parts, and after them as many items as `C` says of them.
 ///
-/// Reading fails with `Parse("head without a count")` if the head names no count; the head stays
-/// read. Writing fails with `Assertion("count out of step with items")` if the head names no count,
-/// or another count than that of the items; then nothing moves. Otherwise both fail as the head
-/// does, and then as the first item that fails. Reading fails with `Io(OutOfMemory)` if there is no
-/// memory for an item.
+/// Reading fails with `Parse("head without a count")` if the head names no count; the head is
+/// consumed. Writing fails with `Assertion("count out of step with items")` if the head names no
+/// count, or another count than that of the items; then nothing moves. Otherwise both fail as the
+/// head does, and then as the first item that fails. Reading fails with `Io(OutOfMemory)` if there
+/// is no memory for an item.
 ///
 /// ```text
 /// type Front = (Be<u16>, Msb<u8, 4>, Msb<u8, 4>);

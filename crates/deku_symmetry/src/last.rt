@@ -48,7 +48,7 @@ pub trait SymmetricLast: DekuReader<()> + DekuWriter<()> {
         padded_bytes(self, alloc, ())
     }
 
-    /// Reads a value that all the bytes are. Returns the number of bits read, and the value.
+    /// Reads a value that takes all the bytes. Returns the number of bits read, and the value.
     ///
     /// The caller's condition: the type may be read. It fails as the type does.
     ///

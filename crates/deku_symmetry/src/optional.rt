@@ -35,7 +35,7 @@ pub trait Condition<P>: Drop {
         ensures { result ≡ shows head.now };
 }
 
-/// A condition that heads which are the same meet alike.
+/// Heads that are the same both show an item, or both show none.
 ///
 /// ```text
 /// impl ConditionLaw<(Msb<bool, 1>, Msb<u8, 7>)> for HasChecksum {

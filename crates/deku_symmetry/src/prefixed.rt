@@ -16,8 +16,8 @@ use deku::writer::Writer;
 use deku::{DekuContainerRead, DekuContainerWrite, DekuError, DekuReader, DekuWriter};
 use std::marker::PhantomData;
 
-/// A count that is laid out as `I`, and after it as many items. The count is made of the items when
-/// they are written, so a record has no field for it.
+/// A count that is laid out as `I`, and after it as many items. The items are counted when they are
+/// written, so a record has no field for it.
 ///
 /// Reading fails as the count does, and then as the first item that fails, or with
 /// `Io(OutOfMemory)` if there is no memory for an item. Writing fails as the count does, which may

@@ -116,7 +116,7 @@ where
 /// Reads the parts and makes the record of them: the body of a record's `from_reader_with_ctx`.
 ///
 /// The caller's condition: the parts may be read under the context. It fails as they do, and what
-/// was read before stays read.
+/// was read before is consumed.
 ///
 /// ```text
 /// read_record(reader, ())

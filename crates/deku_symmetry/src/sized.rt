@@ -13,7 +13,7 @@ use deku_pieces::filled_by::FilledBy;
 use deku_pieces::sized_by::{SizeOf, SizedBy};
 use deku_pieces::under_head::{ContextOf, UnderHead};
 
-/// A size that heads which are the same give alike.
+/// Heads that are the same give the same size.
 ///
 /// ```text
 /// impl SizeOfLaw<Be<u16>> for Length {
@@ -26,8 +26,8 @@ pub trait SizeOfLaw<P: Symmetric<()>>: SizeOf<P> {
         → Self.SizeOf.size_of v ≡ Self.SizeOf.size_of w };
 }
 
-/// The pieces of the head, and then those of its content. There are no pieces if the content has
-/// not as many bits as the head says.
+/// The pieces of the head, and then those of its content. There are no pieces if the content does
+/// not have as many bits as the head says.
 impl<P: Symmetric<()>, C: SizeOfLaw<P>, T: Symmetric<()>> Symmetric<()> for SizedBy<P, C, T> {
     ghost pieces = { λ v _. OfSizes C.SizeOf.size_of (λ h. P.Symmetric.pieces h tt)
         (λ x. T.pieces x tt) v.head v.content };
@@ -40,8 +40,8 @@ impl<P: Symmetric<()>, C: SizeOfLaw<P>, T: Symmetric<()>> Symmetric<()> for Size
         C.SizeOfLaw.alike (P.Symmetric.symmetric tt) (T.symmetric tt) };
 }
 
-/// The pieces of the head, and then those of its items. There are no pieces if the items have not
-/// as many bits as the head says.
+/// The pieces of the head, and then those of its items. There are no pieces if the items do not
+/// have as many bits as the head says.
 impl<P: Symmetric<()>, C: SizeOfLaw<P>, T: Wide> Symmetric<()> for FilledBy<P, C, T> {
     ghost pieces = { λ v _. OfSizes C.SizeOf.size_of (λ h. P.pieces h tt)
         (λ xs. OfEach (λ x. T.Symmetric.pieces x tt) xs.items) v.head v.items };
@@ -55,7 +55,7 @@ impl<P: Symmetric<()>, C: SizeOfLaw<P>, T: Wide> Symmetric<()> for FilledBy<P, C
         C.SizeOfLaw.alike T.Wide.wide (P.symmetric tt) (T.Symmetric.symmetric tt) };
 }
 
-/// A context that heads which are the same give alike.
+/// Heads that are the same give the same context.
 ///
 /// ```text
 /// impl ContextOfLaw<u8, (Endian, BitSize)> for Width {

@@ -56,7 +56,7 @@ pub trait ArrayLike: Drop {
 }
 
 /// The elements in order, under the elements' context. It fails as the first element that fails,
-/// and what was read before stays read.
+/// and what was read before is consumed.
 impl<C: Copy, X: ArrayLike> DekuReader<C> for X
 where
     X::Element: DekuReader<C>,
@@ -69,10 +69,8 @@ where
 
     fn from_reader_with_ctx<R: Source>(reader: &mut Reader<R>, ctx: C) -> Result<X, DekuError> {
         let mut slots = X::empty();
-        match X::fill(&mut slots, reader, ctx) {
-            Ok(()) => Ok(X::turned(slots)),
-            Err(refusal) => Err(refusal),
-        }
+        X::fill(&mut slots, reader, ctx)?;
+        Ok(X::turned(slots))
     }
 }
 
@@ -89,10 +87,7 @@ fn fill_slots<C: Copy, T: DekuReader<C>, R: Source>(
     ensures early { OnOk result (T.no_read_ahead ctx → NoReadAhead R.known reader.old reader.new) }
 {
     for place in 0..slots.len() {
-        match T::from_reader_with_ctx(reader, ctx) {
-            Ok(item) => slots[place] = Some(item),
-            Err(refusal) => return Err(refusal),
-        }
+        slots[place] = Some(T::from_reader_with_ctx(reader, ctx)?);
     }
     Ok(())
 }

@@ -13,7 +13,7 @@ use deku_bits::reader::Reader;
 use deku_num::ctx::NumberCtx;
 
 /// Read as a `u8`, and fails as that does: 0 is false and 1 is true. Any other number fails with
-/// `Parse("cannot parse bool value")`, and its bits stay read.
+/// `Parse("cannot parse bool value")`, and its bits are consumed.
 impl<C: NumberCtx> DekuReader<C> for bool {
     ghost meaning = { λ c. Then (ReadsUnsigned byte (C.layout_of c))
         (ShowsUnless (λ n. 1 < n) (codes "cannot parse bool value") numeral) };

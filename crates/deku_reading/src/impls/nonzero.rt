@@ -18,7 +18,7 @@ use std::num::{
 };
 
 /// Read as its number. It fails as that does, or with `Parse("NonZero assertion")` if the number is
-/// 0, whose bits stay read. The same holds for each type below.
+/// 0, whose bits are consumed. The same holds for each type below.
 impl<C: NumberCtx> DekuReader<C> for NonZeroU8 {
     ghost meaning = { λ c. Then (ReadsUnsigned byte (C.layout_of c))
         (ShowsUnless (λ n. n ≡ 0) (codes "NonZero assertion") non_zero_u8_get) };

@@ -28,7 +28,7 @@ impl<Ctx: Copy, A: DekuReader<Ctx>> DekuReader<Ctx> for (A,) {
 }
 
 /// The items in order, all under one context. It fails as the first item that fails, and what was
-/// read before stays read. The same holds for each tuple below.
+/// read before is consumed. The same holds for each tuple below.
 impl<Ctx: Copy, A: DekuReader<Ctx>, B: DekuReader<Ctx>> DekuReader<Ctx> for (A, B) {
     ghost accepts = { λ c. A.accepts c × B.accepts c };
 

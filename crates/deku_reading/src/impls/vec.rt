@@ -26,9 +26,9 @@ use std::alloc::Global;
 /// - `Io(OutOfMemory)` if there is no memory for an item; the reader is then after that item;
 /// - `InvalidParam("count past usize")` if a size in bytes has more bits than a `usize` can count;
 ///   then nothing is read;
-/// - otherwise, the error of the first item that fails; what was read before stays read.
+/// - otherwise, the error of the first item that fails; what was read before is consumed.
 ///
-/// Nothing is allocated before the first item is read, except room for at most 64 bytes where the
+/// Nothing is allocated before the first item is read, except room for at most 64 bytes if the
 /// items are bytes, so a count that is larger than the input costs nothing.
 ///
 /// ```text

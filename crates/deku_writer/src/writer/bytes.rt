@@ -54,10 +54,7 @@ fn push_bytes<W: Sink>(sink: &mut W, held: &mut Held, bytes: &[u8]) -> Result<()
     for i in 0..bytes.len().div_ceil(RUN) {
         let begin = RUN * i;
         let end = begin + RUN.min(bytes.len() - begin);
-        match push_run(sink, held, &bytes[begin..end]) {
-            Ok(()) => {}
-            Err(kind) => return Err(kind),
-        }
+        push_run(sink, held, &bytes[begin..end])?;
     }
     Ok(())
 }
@@ -86,10 +83,7 @@ fn give_above<W: Sink>(sink: &mut W, bytes: &[u8]) -> Result<(), ErrorKind>
     for i in 0..bytes.len().div_ceil(RUN) {
         let end = bytes.len() - RUN * i;
         let begin = end - RUN.min(end);
-        match give_turned(sink, &bytes[begin..end]) {
-            Ok(()) => {}
-            Err(kind) => return Err(kind),
-        }
+        give_turned(sink, &bytes[begin..end])?;
     }
     Ok(())
 }

@@ -86,10 +86,7 @@ fn push_along<W: Sink>(
 {
     let n = bits.len();
     for i in 0..n {
-        match push_bit(sink, held, order, bits[way.place(n, i)]) {
-            Ok(()) => {}
-            Err(kind) => return Err(kind),
-        }
+        push_bit(sink, held, order, bits[way.place(n, i)])?;
     }
     Ok(())
 }
@@ -127,14 +124,8 @@ fn push_three<W: Sink>(
     ensures fault { IfErr result (GaveUp (W.known sink.old) (W.known sink.new)
         (full_bytes Msb0 [] (along way first.now ++ second.now ++ third.now))) }
 {
-    match push_along(sink, held, Order::Msb0, way, first) {
-        Ok(()) => {}
-        Err(kind) => return Err(kind),
-    }
-    match push_along(sink, held, Order::Msb0, Way::Forward, second) {
-        Ok(()) => {}
-        Err(kind) => return Err(kind),
-    }
+    push_along(sink, held, Order::Msb0, way, first)?;
+    push_along(sink, held, Order::Msb0, Way::Forward, second)?;
     push_along(sink, held, Order::Msb0, Way::Forward, third)
 }
 

@@ -38,7 +38,7 @@ impl<W: Sink> Seek for Writer<W> {
             (W.stream_position (sink_of self.new)) (W.stream_bytes (sink_of self.old)) to result }
         ensures sink_bytes { Keeps (W.stream_bytes (sink_of self.old))
             (W.stream_bytes (sink_of self.new)) }
-        // If all bytes of the sink are known, it goes on among them from the new place.
+        // If all bytes of the sink are known, it continues among them from the new place.
         ensures sought { Seeks (W.known (sink_of self.old)).health
             (W.known (sink_of self.new)).health to result }
         ensures stands { StandsAt (W.known (sink_of self.old)).health.whole result

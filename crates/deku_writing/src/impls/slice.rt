@@ -16,10 +16,7 @@ impl<Ctx: Copy, T: DekuWriter<Ctx>> DekuWriter<Ctx> for &[T] {
 
     fn to_writer<W: Sink>(&self, writer: &mut Writer<W>, ctx: Ctx) -> Result<(), DekuError> {
         for item in *self {
-            match item.to_writer(writer, ctx) {
-                Ok(()) => {}
-                Err(refusal) => return Err(refusal),
-            }
+            item.to_writer(writer, ctx)?;
         }
         Ok(())
     }

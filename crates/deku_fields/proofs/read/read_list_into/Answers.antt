@@ -1,4 +1,5 @@
 use Rattle.std.proofs.Common.{◌≡◌, ◌+◌, length, ap, refl, inr, ◌∙◌, arith, rules}
+use Rattle.std.proofs.lemmas.Result.{err_from_is_err_and}
 use Rattle.std.proofs.lemmas.List.{length-set}
 use Rattle.deku_fields.proofs.Resting.{rests, rests_in, rests_on, field_going}
 use Rattle.deku.proofs.Early.{early_on}
@@ -12,17 +13,19 @@ use Rattle.deku_fields.proofs.read.read_list_into.Goals as goal
 pub loop-place-init : goal.loop-place-init
 loop-place-init g c = (refl, started c.args.fields.now c.args.out.now _ _, inr refl, tally_none c.args.reader.now.state _, rests c.args.reader.now.state refl, λ _. refl)
 
-pub returns-in-Err-clause-meaning : goal.returns-in-Err-clause-meaning
-returns-in-Err-clause-meaning g c = field_refused c.args.fields.now c.loop-place.place _ _ c.in-Err.refusal _ _ _ _ _ _ (omega arith) (c.loop-place.invariant.1) (c.in-Err.ensures.reads)
+pub returns-in_err-number-clause-meaning : goal.returns-in_err-number-clause-meaning
+returns-in_err-number-clause-meaning g c =
+    let p = err_from_is_err_and c.from_residual.result c.from_residual.ensures.1 in
+    rw (p.1, p.2) (field_refused c.args.fields.now c.loop-place.place _ _ _ _ _ _ _ _ _ (omega arith) (c.loop-place.invariant.1) (c.in_err-number.ensures.reads))
 
 pub loop-place-preserved : goal.loop-place-preserved
 loop-place-preserved g c = (
-  length-set c.loop-place.out c.loop-place.place c.in-Ok.number ∙ c.loop-place.invariant.0,
-  field_read c.args.fields.now c.loop-place.place _ c.loop-place.out c.in-Ok.number _ _ _ _ _ _ (omega arith) (omega (arith, c.loop-place.invariant.0, c.requires)) (c.loop-place.invariant.1) (c.in-Ok.ensures.reads),
-  early_on c.loop-place.invariant.2 c.in-Ok.ensures.early,
-  tally_more c.args.fields.now c.loop-place.place _ c.in-Ok.number (g.R.Source.known c.args.reader.now.source) (g.R.Source.known c.loop-place.reader.source) (g.R.Source.known c.read_field.new.reader.source) c.args.reader.now.state c.loop-place.reader.state c.read_field.new.reader.state (omega arith) c.loop-place.invariant.3 c.in-Ok.ensures.reads c.in-Ok.ensures.fetched c.in-Ok.ensures.early,
-  field_going _ c.in-Ok.number (g.R.Source.known c.loop-place.reader.source) (g.R.Source.known c.read_field.new.reader.source) c.args.reader.now.state c.loop-place.reader.state c.read_field.new.reader.state _ _
-      (rests_in (λ r. r.state) c.args.reader.now.state c.args.reader.now c.loop-place.reader c.loop-place.invariant.4) c.in-Ok.ensures.reads,
+  length-set c.loop-place.out c.loop-place.place c.in_ok-number.number ∙ c.loop-place.invariant.0,
+  field_read c.args.fields.now c.loop-place.place _ c.loop-place.out c.in_ok-number.number _ _ _ _ _ _ (omega arith) (omega (arith, c.loop-place.invariant.0, c.requires)) (c.loop-place.invariant.1) (c.in_ok-number.ensures.reads),
+  early_on c.loop-place.invariant.2 c.in_ok-number.ensures.early,
+  tally_more c.args.fields.now c.loop-place.place _ c.in_ok-number.number (g.R.Source.known c.args.reader.now.source) (g.R.Source.known c.loop-place.reader.source) (g.R.Source.known c.read_field.new.reader.source) c.args.reader.now.state c.loop-place.reader.state c.read_field.new.reader.state (omega arith) c.loop-place.invariant.3 c.in_ok-number.ensures.reads c.in_ok-number.ensures.fetched c.in_ok-number.ensures.early,
+  field_going _ c.in_ok-number.number (g.R.Source.known c.loop-place.reader.source) (g.R.Source.known c.read_field.new.reader.source) c.args.reader.now.state c.loop-place.reader.state c.read_field.new.reader.state _ _
+      (rests_in (λ r. r.state) c.args.reader.now.state c.args.reader.now c.loop-place.reader c.loop-place.invariant.4) c.in_ok-number.ensures.reads,
   λ (e : c.loop-place.place + 1 ≡ 0). absurd (omega arith),
 )
 
@@ -32,11 +35,13 @@ returns-clause-meaning g c = fields_read c.args.fields.now c.loop-place.place c.
 pub returns-clause-values : goal.returns-clause-values
 returns-clause-values g c = fields_back c.args.fields.now (returns-clause-meaning g c)
 
-pub returns-in-Err-clause-values : goal.returns-in-Err-clause-values
-returns-in-Err-clause-values g c = fields_back c.args.fields.now (returns-in-Err-clause-meaning g c)
+pub returns-in_err-number-clause-values : goal.returns-in_err-number-clause-values
+returns-in_err-number-clause-values g c = fields_back c.args.fields.now (returns-in_err-number-clause-meaning g c)
 
-pub returns-in-Err-clause-early : goal.returns-in-Err-clause-early
-returns-in-Err-clause-early g c = early_on c.loop-place.invariant.2 c.in-Err.ensures.early
+pub returns-in_err-number-clause-early : goal.returns-in_err-number-clause-early
+returns-in_err-number-clause-early g c =
+    let p = err_from_is_err_and c.from_residual.result c.from_residual.ensures.1 in
+    rw (p.1, p.2) (early_on c.loop-place.invariant.2 c.in_err-number.ensures.early)
 
 pub returns-clause-behind : goal.returns-clause-behind
 returns-clause-behind g c = λ items bytes after k calm begins stands tells room.
@@ -48,14 +53,15 @@ returns-clause-fetched g c = tally_whole c.args.fields.now c.loop-place.place (g
 pub returns-clause-found : goal.returns-clause-found
 returns-clause-found g c = finds_any c.args.fields.now _ _ (returns-clause-meaning g c)
 
-pub returns-in-Err-clause-found : goal.returns-in-Err-clause-found
-returns-in-Err-clause-found g c = finds_any c.args.fields.now _ _ (returns-in-Err-clause-meaning g c)
+pub returns-in_err-number-clause-found : goal.returns-in_err-number-clause-found
+returns-in_err-number-clause-found g c = finds_any c.args.fields.now _ _ (returns-in_err-number-clause-meaning g c)
 
-pub returns-in-Err-clause-stopped : goal.returns-in-Err-clause-stopped
-returns-in-Err-clause-stopped g c =
-    rests_on c.args.reader.now.state c.loop-place.reader.state c.args.reader.now.source c.loop-place.reader.source _
+pub returns-in_err-number-clause-stopped : goal.returns-in_err-number-clause-stopped
+returns-in_err-number-clause-stopped g c =
+    let p = err_from_is_err_and c.from_residual.result c.from_residual.ensures.1 in
+    rw (p.1, p.2) (rests_on c.args.reader.now.state c.loop-place.reader.state c.args.reader.now.source c.loop-place.reader.source _
     (rests_in (λ r. r.state) c.args.reader.now.state c.args.reader.now c.loop-place.reader c.loop-place.invariant.4)
-    (rests_in (λ r. r.source) c.args.reader.now.state c.args.reader.now c.loop-place.reader c.loop-place.invariant.4) c.in-Err.ensures.stopped
+    (rests_in (λ r. r.source) c.args.reader.now.state c.args.reader.now c.loop-place.reader c.loop-place.invariant.4) c.in_err-number.ensures.stopped)
 
 pub returns-clause-stopped : goal.returns-clause-stopped
 returns-clause-stopped g c = rests_in (λ r. r.source) c.args.reader.now.state c.args.reader.now c.loop-place.reader c.loop-place.invariant.4
@@ -63,11 +69,13 @@ returns-clause-stopped g c = rests_in (λ r. r.source) c.args.reader.now.state c
 pub returns-clause-none : goal.returns-clause-none
 returns-clause-none g c = λ e. c.loop-place.invariant.5 (omega (arith, ap length e))
 
-pub returns-in-Err-clause-none : goal.returns-in-Err-clause-none
-returns-in-Err-clause-none g c = λ e. absurd (omega (arith, ap length e))
+pub returns-in_err-number-clause-none : goal.returns-in_err-number-clause-none
+returns-in_err-number-clause-none g c = λ e. absurd (omega (arith, ap length e))
 
-pub returns-in-Err-clause-cause : goal.returns-in-Err-clause-cause
-returns-in-Err-clause-cause g c = list_caused c.args.fields.now _ c.args.reader.now.state _ c.in-Err.refusal _ _ (returns-in-Err-clause-meaning g c)
+pub returns-in_err-number-clause-cause : goal.returns-in_err-number-clause-cause
+returns-in_err-number-clause-cause g c =
+    let p = err_from_is_err_and c.from_residual.result c.from_residual.ensures.1 in
+    rw (p.1, p.2) (list_caused c.args.fields.now _ c.args.reader.now.state _ _ _ _ (returns-in_err-number-clause-meaning g c))
 
 pub returns-clause-early : goal.returns-clause-early
 returns-clause-early g c = search rules

@@ -141,10 +141,8 @@ fn wide_from<R: Source>(
         return word_by_copy(source, window, count, order);
     };
     let first = u64::from_le_bytes(window.exchange_eight(&eight, order));
-    match narrow_from(source, window, count - 64, order) {
-        Ok(behind) => Ok((behind << 64) + first as u128),
-        Err(kind) => Err(kind),
-    }
+    let behind = narrow_from(source, window, count - 64, order)?;
+    Ok((behind << 64) + first as u128)
 }
 
 // Takes bits as `word_fetched` does, with a copy of the window, so that the caller's window stays
