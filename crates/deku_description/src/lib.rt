@@ -1,5 +1,5 @@
-//! Descriptions of records, Rust with deku's attributes, as they are written: from tokens to structs
-//! and enums.
+//! Descriptions of records, Rust with deku's attributes, as they are written: from tokens to
+//! structs and enums.
 #![tactic(auto)]
 
 mod cursor;
