@@ -4,9 +4,10 @@ use crate::computing::{Computed, Computer};
 use crate::marker;
 use crate::marker::Marker;
 use deku_attributes::model::{Attribute, Endian, Field, Order};
+use deku_attributes::reading::bits_of;
 use deku_description::syntax::{Constant, Expression, Operator, Type};
 use deku_texts::document::Text;
-use deku_texts::lying::item;
+use deku_texts::lying::{item, number_kind};
 use deku_texts::part::{
     Dependent, Named, Owner, Part, Place, asserted, constant, following, leaf, tuple,
 };
@@ -95,14 +96,20 @@ impl<'b, 'a> Builder<'b, 'a> {
                     None => place.as_str(),
                 },
             };
-            let built = self.field(field, named);
-            let is_built = built.is_ok();
-            self.noted(built)?;
+            let is_built = field.is_sound && self.tried(field, named)?;
             if !is_built {
                 self.leaf(field, named)?;
             }
         }
         Ok(())
+    }
+
+    // Whether a field has a part. If not, what is wrong with it is noted.
+    fn tried(&mut self, field: &Field<'a>, named: Named<'_>) -> Result<bool, AllocError> {
+        let built = self.field(field, named);
+        let is_built = built.is_ok();
+        self.noted(built)?;
+        Ok(is_built)
     }
 
     /// All parts as one.
@@ -198,7 +205,7 @@ impl<'b, 'a> Builder<'b, 'a> {
         if let Endian::Named(_) = field.layout.endian {
             return self.wrong(
                 field.span,
-                "an endian that another value says has no part here",
+                "an endian that another value says is not supported",
                 "write a record for each endian",
             );
         }
@@ -207,7 +214,7 @@ impl<'b, 'a> Builder<'b, 'a> {
         if is_dependent && is_checked {
             return self.wrong(
                 field.span,
-                "a check of a list or an option has no part here",
+                "a check of a list or an option is not supported",
                 "check the fields that say whether it is there",
             );
         }
@@ -218,7 +225,7 @@ impl<'b, 'a> Builder<'b, 'a> {
         if self.owner == Owner::Kind && (is_dependent || !self.records.is_copied(field)) {
             return self.wrong(
                 field.span,
-                "memory in a kind of an enum has no part here",
+                "memory in a kind of an enum is not supported",
                 "put it into a struct, after the enum",
             );
         }
@@ -228,7 +235,7 @@ impl<'b, 'a> Builder<'b, 'a> {
     // Complains of a type that has no part.
     fn has_part(&self, field: &Field<'a>, kind: &Type<'a>) -> Result<(), Stop> {
         if let Some(word) = partless(kind, field) {
-            let message = format!(in self.alloc; "{word} has no part here")?;
+            let message = format!(in self.alloc; "{word} is not supported")?;
             return self.wrong(
                 field.span,
                 message.as_str(),
@@ -255,7 +262,7 @@ impl<'b, 'a> Builder<'b, 'a> {
                 Order::Msb => "Zeros",
                 Order::Lsb => "LowZeros",
             };
-            let part = constant(self.alloc, self.owner, kind.as_str(), marker)?;
+            let part = constant(self.alloc, self.owner, kind.as_str(), marker, "padding")?;
             self.items.push(part)?;
         }
         Ok(())
@@ -292,7 +299,13 @@ impl<'b, 'a> Builder<'b, 'a> {
             field: what.as_str(),
         };
         marker::constant(&mut self.markers, marker, constructor, value.as_str())?;
-        let part = constant(self.alloc, self.owner, kind.as_str(), name.as_str())?;
+        let part = constant(
+            self.alloc,
+            self.owner,
+            kind.as_str(),
+            name.as_str(),
+            "magic",
+        )?;
         self.items.push(part)?;
         self.names.push(name)?;
         Ok(())
@@ -387,7 +400,7 @@ impl<'b, 'a> Builder<'b, 'a> {
         if is_count && head.is_lent {
             return self.wrong(
                 field.span,
-                "a list that a field in front of another list counts has no part here",
+                "a list that a field in front of another list counts is not supported",
                 "move the field after the other list",
             );
         }
@@ -503,6 +516,26 @@ impl<'b, 'a> Builder<'b, 'a> {
         )
     }
 
+    // Complains of a number that the field is too narrow for.
+    fn may_equal(&self, field: &Field<'a>, expression: &Expression<'a>) -> Result<(), Stop> {
+        let bits = match (field.bits, number_kind(field)) {
+            (None, Some(kind)) => bits_of(kind),
+            (bits, _) => bits,
+        };
+        let (Some(bits), Some(number)) = (bits, literal(expression, self.constants)) else {
+            return Ok(());
+        };
+        if bits >= 64 || number >> bits == 0 {
+            return Ok(());
+        }
+        let message = format!(in self.alloc; "{number} does not fit a field of {bits} bits")?;
+        self.wrong(
+            field.span,
+            message.as_str(),
+            "write a smaller number, or more bits",
+        )
+    }
+
     // A check of the last part, and of those in front that it names.
     fn assert(
         &mut self,
@@ -511,6 +544,9 @@ impl<'b, 'a> Builder<'b, 'a> {
         expression: &Expression<'a>,
         is_equal: bool,
     ) -> Result<(), Stop> {
+        if is_equal {
+            self.may_equal(field, expression)?;
+        }
         let word = if is_equal { "Value" } else { "Check" };
         let named = words::marker(self.alloc, self.front.as_str(), name, word)?;
         let mut part = self.head(expression, true)?;
@@ -533,6 +569,18 @@ impl<'b, 'a> Builder<'b, 'a> {
         self.names.push(named)?;
         self.items.push(part)?;
         Ok(())
+    }
+}
+
+// The number that an expression is, if it is one, or the name of a constant.
+fn literal(expression: &Expression<'_>, constants: &[Constant<'_>]) -> Option<u64> {
+    match expression {
+        Expression::Number(number, _) => Some(*number),
+        Expression::Name(name) => {
+            let constant = constants.iter().find(|it| it.name.text == name.text)?;
+            Some(constant.value)
+        }
+        _ => None,
     }
 }
 
@@ -608,27 +656,27 @@ fn partless(kind: &Type<'_>, field: &Field<'_>) -> Option<&'static str> {
 fn refused(attribute: &Attribute<'_>) -> (&'static str, &'static str) {
     match attribute {
         Attribute::Bits(_) | Attribute::Bytes(_) => (
-            "a width that a field says has no part here",
+            "a width that a field says is not supported",
             "write a number, or a record for each width",
         ),
         Attribute::Context(_) => (
-            "values that are given to a field have no part here",
+            "values that are given to a field are not supported",
             "move the fields that need them into this record",
         ),
         Attribute::BitsRead(_) | Attribute::BytesRead(_) => (
-            "a list that ends after so many bits or bytes has no part here",
+            "a list that ends after so many bits or bytes is not supported",
             "write `count`, which for `Vec<u8>` is the number of bytes",
         ),
         Attribute::Until(_) => (
-            "a list that ends with an item of its own has no part here",
+            "a list that ends with an item of its own is not supported",
             "write `CString` for a text, or `count`",
         ),
         Attribute::ReadAll => (
-            "a list up to the end of the input has no part here",
+            "a list up to the end of the input is not supported",
             "write `count`",
         ),
         _ => (
-            "a field that the record does not keep has no part here",
+            "a field that the record does not keep is not supported",
             "leave `temp` and `temp_value` out: the field is kept, and checked when it is written",
         ),
     }

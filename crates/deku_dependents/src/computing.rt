@@ -232,7 +232,7 @@ impl<'p, 'c, 'a> Computer<'p, 'c, 'a> {
             | Operator::Left
             | Operator::Right => self.wrong(
                 span,
-                "an operator on the bits of a number has no part here",
+                "an operator on the bits of a number is not supported",
                 "describe these bits as fields of their own, with `bits`",
             ),
         }

@@ -2,7 +2,7 @@
 //! fields are.
 
 use crate::document::{Form, Text, joined};
-use crate::lying::{Wrapping, lying, number_kind, part_kind};
+use crate::lying::{Wrapping, count_of, lying, number_kind, part_kind};
 use crate::records::Records;
 use crate::words;
 use crate::words::quoted;
@@ -29,6 +29,8 @@ pub struct Part<'a> {
     pub term: Text,
     /// Where its fields are.
     pub places: Vec<Place<'a>>,
+    /// The name of each of its parts, as a literal.
+    pub names: Vec<Text>,
 }
 
 /// Where a field is in its parts.
@@ -114,6 +116,10 @@ pub fn leaf<'a>(
     };
     let mut places = Vec::new(alloc);
     places.push(place)?;
+    let mut names = Vec::new(alloc);
+    for _ in 0..count_of(field) {
+        names.push(literal(alloc, named.name)?)?;
+    }
     if around.is_empty() {
         return Ok(Part {
             kind: Text::of(kind),
@@ -123,6 +129,7 @@ pub fn leaf<'a>(
             value: Text::of(value),
             term: Text::of(term),
             places,
+            names,
         });
     }
     let made = wrapper(alloc, lying(field), owner, is_lent)?;
@@ -137,7 +144,13 @@ pub fn leaf<'a>(
         value: Text::of(format!(in alloc; "{made}({value})")?),
         term: Text::of(format!(in alloc; "{word} {term}")?),
         places,
+        names,
     })
+}
+
+// A name as a literal.
+fn literal(alloc: Global, name: &str) -> Result<Text, AllocError> {
+    Ok(Text::of(format!(in alloc; "\"{name}\"")?))
 }
 
 // The value of a field, before anything is around it.
@@ -230,6 +243,7 @@ fn one_tuple<'a>(alloc: Global, mut parts: Vec<Part<'a>>) -> Result<Part<'a>, Al
     let mut values = Vec::new(alloc);
     let mut terms = Vec::new(alloc);
     let mut places = Vec::new(alloc);
+    let mut names = Vec::new(alloc);
     for (i, part) in parts.into_iter().enumerate() {
         kinds.push(part.kind)?;
         lent.push(part.lent)?;
@@ -242,6 +256,9 @@ fn one_tuple<'a>(alloc: Global, mut parts: Vec<Part<'a>>) -> Result<Part<'a>, Al
         for place in within(alloc, part.places, path.as_str(), same.as_str())? {
             places.push(place)?;
         }
+        for name in part.names {
+            names.push(name)?;
+        }
     }
     Ok(Part {
         kind: Text::group(alloc, Form::Round, "(", kinds)?,
@@ -251,6 +268,7 @@ fn one_tuple<'a>(alloc: Global, mut parts: Vec<Part<'a>>) -> Result<Part<'a>, Al
         value: Text::group(alloc, Form::Round, "(", values)?,
         term: Text::group(alloc, Form::GhostRound, "(", terms)?,
         places,
+        names,
     })
 }
 
@@ -264,6 +282,7 @@ fn nothing<'a>(alloc: Global) -> Result<Part<'a>, AllocError> {
         value: Text::word(alloc, "()")?,
         term: Text::word(alloc, "tt")?,
         places: Vec::new(alloc),
+        names: Vec::new(alloc),
     })
 }
 
@@ -346,6 +365,8 @@ pub fn following<'a>(
     called: Named<'_>,
     (marker, item): (&str, &str),
 ) -> Result<Part<'a>, AllocError> {
+    let mut names = head.names;
+    names.push(literal(alloc, called.name)?)?;
     let mut places = within(alloc, head.places, ".head", ".0")?;
     places.push(Place {
         name: String::from_str(alloc, called.name)?,
@@ -361,6 +382,7 @@ pub fn following<'a>(
         value: value_of(alloc, head.value, form, called.access, marker)?,
         term: term_of(alloc, head.term, form, called.access)?,
         places,
+        names,
     })
 }
 
@@ -472,15 +494,18 @@ pub fn asserted<'a>(
         value,
         term: Text::group(alloc, Form::GhostBrace, "record {", terms)?,
         places: within(alloc, part.places, ".part", "")?,
+        names: part.names,
     })
 }
 
-/// A part of this type that always has the value of the constant of this name.
+/// A part of this type that always has the value of the constant of this name. It is called by this
+/// word.
 pub fn constant<'a>(
     alloc: Global,
     owner: Owner,
     kind: &str,
     marker: &str,
+    word: &str,
 ) -> Result<Part<'a>, AllocError> {
     let value = if owner == Owner::Lent {
         let open = format!(in alloc; "Magic::<{kind}, {marker}> {{")?;
@@ -491,6 +516,8 @@ pub fn constant<'a>(
     } else {
         Text::word(alloc, "Magic::new()")?
     };
+    let mut names = Vec::new(alloc);
+    names.push(literal(alloc, word)?)?;
     Ok(Part {
         kind: Text::of(format!(in alloc; "Magic<{kind}, {marker}>")?),
         lent: Text::of(format!(in alloc; "Magic<{kind}, {marker}>")?),
@@ -499,5 +526,6 @@ pub fn constant<'a>(
         value,
         term: Text::word(alloc, "record { part = record {}; constant = record {} }")?,
         places: Vec::new(alloc),
+        names,
     })
 }
