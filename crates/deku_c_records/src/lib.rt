@@ -5,5 +5,5 @@
 mod records;
 mod status;
 
-pub use records::{read_for_c, write_for_c};
+pub use records::ForC;
 pub use status::{OK, status_of};

@@ -1,9 +1,6 @@
 //! Records over the caller's memory.
 
-ghost use Rattle.std.specs.Prelude.{◌≡◌};
-ghost use Rattle.deku_bits.specs.WriterCalls.{Finalizes};
-ghost use Rattle.deku.specs.Composing.{Both};
-ghost use Rattle.deku.specs.Wholes.{WritesOver};
+ghost use Rattle.std.specs.Prelude.{ℕ, List};
 ghost use Rattle.deku_symmetry.specs.Fields.{coded};
 ghost use Rattle.deku_c_records.specs.Exported.{ReadsFor, WritesFor};
 
@@ -12,48 +9,71 @@ use deku::DekuContainerWrite;
 use deku_symmetry::{Codec, Coded, Symmetric};
 use std::alloc::Global;
 
-/// Reads a record from the first byte on, as `unpack` does, and puts it into its place. Returns
-/// `OK`; or the number of the error, and then the place stays as it was.
-///
-/// The caller's condition: the parts may be read.
-///
-/// ```text
-/// read_for_c(alloc, &[0x69, 0xC0, 0xFE], &mut sample)         // 0, and the sample
-/// ```
-pub fn read_for_c<E: Codec + Copy>(alloc: Global, bytes: &[u8], record: &mut E) -> u32
-where
-    E::Parts: Symmetric<()>,
-    requires { ⟦<Coded<E> as Symmetric<()>>⟧.DekuReader.accepts tt }
-    ensures { ReadsFor (⟦<Coded<E> as Symmetric<()>>⟧.DekuReader.meaning tt)
-        (λ v. ⟦<Coded<E> as Symmetric<()>>⟧.pieces v tt) ⟦<Coded<E> as Symmetric<()>>⟧.same
-        bytes.now result (coded record.old) (coded record.new) }
-{
-    match Coded::<E>::unpack(alloc, bytes, ()) {
-        Ok((_bits, Coded(value))) => {
-            *record = value;
-            OK
-        }
-        Err(error) => status_of(error),
-    }
+/// A record that C reads and writes: each that is copied and whose parts are symmetric.
+pub trait ForC: Codec + Copy {
+    // What a read from bytes does: the number that it returns, and the record in its place before
+    // and after.
+    ghost reads_for_c: { List ℕ → ℕ → Self → Self → Type 0 };
+
+    // What a write of a record does: the bytes before, the number that it returns, and the bytes
+    // after.
+    ghost writes_for_c: { Self → List ℕ → ℕ → List ℕ → Type 0 };
+
+    /// Reads a record from the first byte on, as `unpack` does, and puts it into its place. Returns
+    /// `OK`; or the number of the error, and then the place stays as it was.
+    ///
+    /// The caller's condition: the parts may be read.
+    ///
+    /// ```text
+    /// Sample::read_for_c(alloc, &[0x69, 0xC0, 0xFE], &mut sample)    // 0, and the sample
+    /// ```
+    fn read_for_c(alloc: Global, bytes: &[u8], record: &mut Self) -> u32
+    where
+        Self: Sized,
+        requires { Self.Codec.Parts.DekuReader.accepts tt }
+        ensures { reads_for_c bytes.now result record.old record.new };
+
+    /// Writes a record to the start of the bytes, as `to_slice` does: the last byte is filled with
+    /// zeros, and the bytes after it stay. Returns `OK`, or the number of the error.
+    ///
+    /// The caller's condition: the parts may be written.
+    ///
+    /// ```text
+    /// sample.write_for_c(&mut bytes)                                 // 0, and 69 C0 FE in front
+    /// ```
+    fn write_for_c(&self, bytes: &mut [u8]) -> u32
+        requires { Self.Codec.Parts.DekuWriter.accepts tt }
+        ensures { writes_for_c self.now bytes.old result bytes.new };
 }
 
-/// Writes a record to the start of the bytes, as `to_slice` does: the last byte is filled with
-/// zeros, and the bytes after it stay. Returns `OK`, or the number of the error.
-///
-/// The caller's condition: the parts may be written.
-///
-/// ```text
-/// write_for_c(&sample, &mut bytes)                            // 0, and 69 C0 FE at their start
-/// ```
-pub fn write_for_c<E: Codec + Copy>(record: &E, bytes: &mut [u8]) -> u32
+/// It is read as `unpack` reads it, and written as `to_slice` writes it.
+impl<E: Codec + Copy> ForC for E
 where
     E::Parts: Symmetric<()>,
-    requires { ⟦<Coded<E> as Symmetric<()>>⟧.DekuWriter.accepts tt }
-    ensures { WritesFor (⟦<Coded<E> as Symmetric<()>>⟧.DekuWriter.meaning (coded record.now) tt)
-        (⟦<Coded<E> as Symmetric<()>>⟧.pieces (coded record.now) tt) bytes.old result bytes.new }
 {
-    match Coded(*record).to_slice(bytes) {
-        Ok(_count) => OK,
-        Err(error) => status_of(error),
+    ghost reads_for_c = { λ bytes status old new. ReadsFor
+        (⟦<Coded<E> as Symmetric<()>>⟧.DekuReader.meaning tt)
+        (λ v. ⟦<Coded<E> as Symmetric<()>>⟧.pieces v tt)
+        ⟦<Coded<E> as Symmetric<()>>⟧.same bytes status (coded old) (coded new) };
+
+    ghost writes_for_c = { λ v old status new. WritesFor
+        (⟦<Coded<E> as Symmetric<()>>⟧.DekuWriter.meaning (coded v) tt)
+        (⟦<Coded<E> as Symmetric<()>>⟧.pieces (coded v) tt) old status new };
+
+    fn read_for_c(alloc: Global, bytes: &[u8], record: &mut E) -> u32 {
+        match Coded::<E>::unpack(alloc, bytes, ()) {
+            Ok((_bits, Coded(value))) => {
+                *record = value;
+                OK
+            }
+            Err(error) => status_of(error),
+        }
+    }
+
+    fn write_for_c(&self, bytes: &mut [u8]) -> u32 {
+        match Coded(*self).to_slice(bytes) {
+            Ok(_count) => OK,
+            Err(error) => status_of(error),
+        }
     }
 }

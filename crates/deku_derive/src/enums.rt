@@ -27,7 +27,7 @@ pub(crate) fn declaration(
     record: &Record<'_>,
     kinds: &[Built<'_, '_>],
 ) -> Result<(), AllocError> {
-    derives(out, record, true)?;
+    derives(out, record, true, false)?;
     let name = record.name.text;
     writeln!(out, "pub enum {name} {{")?;
     for kind in kinds {

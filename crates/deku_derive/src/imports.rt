@@ -94,7 +94,9 @@ pub(crate) fn imports(
         out.push_str("use deku::device::Sink;\n")?;
         out.push_str("use deku::prelude::{DekuError, DekuWriter, Writer};\n")?;
     }
+    used(out, "deku_c_records", &["ForC"], code.as_str())?;
     used(out, "deku_symmetry", &PARTS, code.as_str())?;
+    used(out, "std::alloc", &["Global"], code.as_str())?;
     used(out, "std::marker", &["PhantomData"], code.as_str())?;
     used(out, "std::net", &["Ipv4Addr", "Ipv6Addr"], code.as_str())
 }

@@ -1,6 +1,6 @@
 //! From the text of a description to the text of a module, or to what is wrong.
 
-use crate::printing::print;
+use crate::printing::{Asked, print};
 use deku_attributes::check;
 use deku_description::parse;
 use deku_tokens::place::{Complaint, told};
@@ -31,7 +31,12 @@ pub fn make(alloc: Global, file: &str, path: Option<&str>, text: &str) -> Result
     let (parsed, mut complaints) = parse(alloc, text)?;
     let (module, found) = check(alloc, text, parsed, complaints.is_empty())?;
     add(&mut complaints, found)?;
-    let (printed, found) = print(alloc, file, path, &module)?;
+    let asked = Asked {
+        file,
+        path,
+        exports: None,
+    };
+    let (printed, found) = print(alloc, asked, &module)?;
     add(&mut complaints, found)?;
     if complaints.is_empty() {
         return Ok(Made::Module(printed));
@@ -40,8 +45,8 @@ pub fn make(alloc: Global, file: &str, path: Option<&str>, text: &str) -> Result
     Ok(Made::Wrong(told(alloc, file, text, complaints.as_slice())?))
 }
 
-// Adds complaints, but for those of places that were complained of before.
-fn add(complaints: &mut Vec<Complaint>, found: Vec<Complaint>) -> Result<(), AllocError> {
+/// Adds complaints, but for those of places that were complained of before.
+pub fn add(complaints: &mut Vec<Complaint>, found: Vec<Complaint>) -> Result<(), AllocError> {
     let before = complaints.len();
     for complaint in found {
         let start = complaint.span.start;

@@ -27,22 +27,32 @@ struct Printer<'b, 'a> {
     // The names of its types.
     names: Vec<String>,
     complaints: Vec<Complaint>,
+    is_for_c: bool,
 }
 
-/// The module of checked records, with what prevents it. Its comment names the description. The
-/// kinds of an enum are named in it by the path of the module.
+/// What is asked for besides the records.
+#[derive(Clone, Copy)]
+pub struct Asked<'t> {
+    /// The name of the description, for the comment of the module.
+    pub file: &'t str,
+    /// The path of the module, by which it names the kinds of an enum.
+    pub path: Option<&'t str>,
+    /// The functions that C calls, which end the module.
+    pub exports: Option<&'t str>,
+}
+
+/// The module of checked records, with what prevents it.
 ///
 /// # Errors
 ///
 /// `AllocError` if there is no memory.
 ///
 /// ```text
-/// print(alloc, "point.rs", "samples.point", &module)?    // //! Printed by `derive` from ..
+/// print(alloc, asked, &module)?    // //! Printed by `derive` from ..
 /// ```
 pub fn print(
     alloc: Global,
-    file: &str,
-    path: Option<&str>,
+    asked: Asked<'_>,
     module: &Module<'_>,
 ) -> Result<(String, Vec<Complaint>), AllocError> {
     let records = Records::new(alloc, module.records.as_slice())?;
@@ -53,23 +63,26 @@ pub fn print(
         out: String::new(alloc),
         names: Vec::new(alloc),
         complaints: Vec::new(alloc),
+        is_for_c: asked.exports.is_some(),
     };
     for record in &module.records {
-        printer.record(record, path)?;
+        printer.record(record, asked.path)?;
     }
     let Printer {
-        out,
+        mut out,
         complaints,
         ..
     } = printer;
+    out.push_str(asked.exports.unwrap_or(""))?;
     let mut text = String::new(alloc);
     docs(&mut text, module.docs.as_slice(), "//!")?;
     if !module.docs.is_empty() {
         text.push_str("//!\n")?;
     }
-    let name = file.rsplit('/').next().unwrap_or(file);
-    writeln!(text, "//! Printed by `derive` from `{name}`.")?;
-    items(&mut text, path, module, out.as_str())?;
+    let name = asked.file.rsplit('/').next().unwrap_or(asked.file);
+    let flag = if asked.exports.is_some() { " --c" } else { "" };
+    writeln!(text, "//! Printed by `derive{flag}` from `{name}`.")?;
+    items(&mut text, asked.path, module, out.as_str())?;
     Ok((text, complaints))
 }
 
@@ -206,7 +219,14 @@ impl<'b, 'a> Printer<'b, 'a> {
             builder.noted(added)?;
         }
         builder.fields(fields.as_slice(), 0)?;
-        structs::declaration(&mut self.out, record, *shape, fields.as_slice(), is_copied)?;
+        structs::declaration(
+            &mut self.out,
+            record,
+            *shape,
+            fields.as_slice(),
+            is_copied,
+            self.is_for_c,
+        )?;
         self.out.push_str(builder.markers.as_str())?;
         structs::implementation(
             &mut self.out,

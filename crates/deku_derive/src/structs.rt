@@ -18,17 +18,21 @@ pub(crate) fn docs(out: &mut String, lines: &[&str], marks: &str) -> Result<(), 
     Ok(())
 }
 
-/// Appends the comment of a record, and what it derives.
+/// Appends the comment of a record, and what it derives. A record for C is laid out as there.
 pub(crate) fn derives(
     out: &mut String,
     record: &Record<'_>,
     is_copied: bool,
+    is_for_c: bool,
 ) -> Result<(), AllocError> {
     let name = record.name.text;
     out.push('\n')?;
     docs(out, record.docs.as_slice(), "///")?;
     if record.docs.is_empty() {
         writeln!(out, "/// The record `{name}`.")?;
+    }
+    if is_for_c {
+        out.push_str("#[repr(C)]\n")?;
     }
     out.push_str(if is_copied {
         "#[derive(Debug, Clone, Copy, PartialEq, Eq)]\n"
@@ -44,8 +48,9 @@ pub(crate) fn declaration(
     shape: Shape,
     fields: &[Field<'_>],
     is_copied: bool,
+    is_for_c: bool,
 ) -> Result<(), AllocError> {
-    derives(out, record, is_copied)?;
+    derives(out, record, is_copied, is_for_c)?;
     let name = record.name.text;
     if shape == Shape::Tuple {
         tuple_struct(out, name, fields)

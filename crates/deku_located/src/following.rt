@@ -23,11 +23,29 @@ impl<P: Steps, C: CountOf<P>, T: DekuReader<()>> Steps for CountedBy<P, C, T> {
     #[inline(always)]
     fn read_steps<R: Source>(reader: &mut Reader<R>, place: &mut Place) -> Result<Self, DekuError> {
         let head = P::read_steps(reader, place)?;
-        place.bit = reader.bits_read();
-        let items = read_counted::<T, R>(reader, C::count(&head))?;
-        place.parts += 1;
+        let items = read_items::<T, R>(reader, place, C::count(&head))?;
         Ok(CountedBy::new(head, items))
     }
+}
+
+// Reads as many items as the count says, as one part.
+#[inline(always)]
+fn read_items<T: DekuReader<()>, R: Source>(
+    reader: &mut Reader<R>,
+    place: &mut Place,
+    count: Option<usize>,
+) -> Result<Vec<T>, DekuError>
+    requires accepted { T.accepts tt }
+    requires room { place.now.parts + 1 < 2 ^ 64 }
+    ensures reads { Reads R.known (ReadsCounted count (T.meaning tt)) reader.old result reader.new }
+    ensures placed { Reads R.known (Alone (ReadsCounted count (T.meaning tt)) place.old.parts
+        place.new) reader.old result reader.new }
+    ensures counted { Counts 1 place.old.parts place.new result }
+{
+    place.bit = reader.bits_read();
+    let items = read_counted::<T, R>(reader, count)?;
+    place.parts += 1;
+    Ok(items)
 }
 
 /// The parts in front, and then the option as one part, which has no bits if nothing is there.
@@ -40,11 +58,29 @@ impl<P: Steps, C: Condition<P>, T: DekuReader<()>> Steps for Optional<P, C, T> {
     #[inline(always)]
     fn read_steps<R: Source>(reader: &mut Reader<R>, place: &mut Place) -> Result<Self, DekuError> {
         let head = P::read_steps(reader, place)?;
-        place.bit = reader.bits_read();
-        let item = read_whether::<T, R>(reader, C::shows(&head))?;
-        place.parts += 1;
+        let item = read_item::<T, R>(reader, place, C::shows(&head))?;
         Ok(Optional::new(head, item))
     }
+}
+
+// Reads an item as one part, if there has to be one.
+#[inline(always)]
+fn read_item<T: DekuReader<()>, R: Source>(
+    reader: &mut Reader<R>,
+    place: &mut Place,
+    there: bool,
+) -> Result<Option<T>, DekuError>
+    requires accepted { T.accepts tt }
+    requires room { place.now.parts + 1 < 2 ^ 64 }
+    ensures reads { Reads R.known (ReadsWhether there (T.meaning tt)) reader.old result reader.new }
+    ensures placed { Reads R.known (Alone (ReadsWhether there (T.meaning tt)) place.old.parts
+        place.new) reader.old result reader.new }
+    ensures counted { Counts 1 place.old.parts place.new result }
+{
+    place.bit = reader.bits_read();
+    let item = read_whether::<T, R>(reader, there)?;
+    place.parts += 1;
+    Ok(item)
 }
 
 // Reads an item if there has to be one.

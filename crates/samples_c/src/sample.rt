@@ -3,11 +3,10 @@
 //! Printed by `derive` from `sample.rs`.
 
 ghost use Rattle.std.specs.Prelude.{refl};
-ghost use Rattle.deku_c_records.specs.Exported.{ReadsFor, WritesFor};
-ghost use Rattle.deku_symmetry.specs.Fields.{be, coded, msb};
+ghost use Rattle.deku_symmetry.specs.Fields.{be, msb};
 
-use deku_c_records::{read_for_c, write_for_c};
-use deku_symmetry::{Be, Coded, CopyParts, Msb, Symmetric};
+use deku_c_records::ForC;
+use deku_symmetry::{Be, CopyParts, Msb};
 use std::alloc::Global;
 
 /// The record `Sample`.
@@ -50,21 +49,16 @@ impl CopyParts for Sample {
 /// record stays as it was.
 #[unsafe(no_mangle)]
 pub extern "C" fn sample_read(alloc: Global, bytes: &[u8], record: &mut Sample) -> u32
-    ensures { ReadsFor (⟦<Coded<Sample> as Symmetric<()>>⟧.DekuReader.meaning tt)
-        (λ v. ⟦<Coded<Sample> as Symmetric<()>>⟧.pieces v tt)
-        ⟦<Coded<Sample> as Symmetric<()>>⟧.same bytes.now result (coded record.old)
-        (coded record.new) }
+    ensures { ⟦<Sample as ForC>⟧.reads_for_c bytes.now result record.old record.new }
 {
-    read_for_c(alloc, bytes, record)
+    Sample::read_for_c(alloc, bytes, record)
 }
 
 /// Writes a `Sample` to the start of the bytes; those after it stay as they were. Returns 0, or the
 /// number of the error.
 #[unsafe(no_mangle)]
 pub extern "C" fn sample_write(record: &Sample, bytes: &mut [u8]) -> u32
-    ensures { WritesFor (⟦<Coded<Sample> as Symmetric<()>>⟧.DekuWriter.meaning (coded record.now) tt)
-        (⟦<Coded<Sample> as Symmetric<()>>⟧.pieces (coded record.now) tt) bytes.old result
-        bytes.new }
+    ensures { ⟦<Sample as ForC>⟧.writes_for_c record.now bytes.old result bytes.new }
 {
-    write_for_c(record, bytes)
+    record.write_for_c(bytes)
 }
