@@ -6,7 +6,7 @@ use deku_tokens::place::{first_difference, told};
 use std::alloc::{AllocError, Global};
 use std::test::Fail;
 
-const TAKEN: [(&str, &str); 9] = [
+const TAKEN: [(&str, &str); 10] = [
     (
         "numbers of every width",
         "struct A { a: u8, b: i16, c: u32, d: i64, e: u128, f: bool, g: usize }",
@@ -38,6 +38,12 @@ const TAKEN: [(&str, &str); 9] = [
     (
         "what is not deku's is passed over",
         "#![allow(unused)] #[derive(Clone, DekuRead)] #[serde(rename = \"x\")] struct Unit;",
+    ),
+    (
+        "functions and other items are passed over",
+        "extern crate alloc; struct A { x: u8 } impl A { fn x(&self) -> [u8; 1] { [self.x] } }
+         type B = A; mod c { fn d() {} } fn main() { let a = vec![1; 2]; assert_eq!(a, a); }
+         let e = [0x01]; assert_eq!(e, [1]); macro_rules! f { () => {} }",
     ),
     (
         "constants and other files",

@@ -14,6 +14,10 @@ use std::alloc::{AllocError, Global};
 
 // How deep types may be in one another.
 const DEPTH: usize = 32;
+// The first words of items and statements that describe nothing.
+const OTHERS: [&str; 9] = [
+    "extern", "fn", "impl", "let", "mod", "static", "trait", "type", "unsafe",
+];
 
 /// The description that a text holds, with what is wrong with its form. A part that is wrong is
 /// left out, and what follows it is parsed.
@@ -119,10 +123,21 @@ impl<'a> Parser<'a> {
             file.records.push(self.structure(head)?)?;
         } else if self.cursor.take_name("enum") {
             file.records.push(self.enumeration(head)?)?;
+        } else if self.is_other_item() {
+            self.skip_item();
         } else {
             return self.cursor.expected("`use`, `const`, `struct` or `enum`");
         }
         Ok(())
+    }
+
+    // Whether an item or a statement of Rust is next that describes nothing.
+    fn is_other_item(&self) -> bool {
+        let is_macro = match self.cursor.peek_second() {
+            Some(token) => token.is_mark("!"),
+            None => false,
+        };
+        is_macro || OTHERS.iter().any(|word| self.cursor.is_name(word))
     }
 
     // The text up to a semicolon.

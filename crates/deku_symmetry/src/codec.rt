@@ -6,8 +6,9 @@ ghost use Rattle.deku_bits.specs.WriterCalls.{Writes};
 ghost use Rattle.deku.specs.Composing.{Then};
 ghost use Rattle.deku.specs.Early.{NoReadAhead};
 ghost use Rattle.deku.specs.Shapes.{Shows};
-ghost use Rattle.deku_pieces.proofs.Turned.{shown_symmetric};
+ghost use Rattle.deku_pieces.proofs.Turned.{shown_symmetric, last_symmetric};
 
+use crate::last::SymmetricLast;
 use crate::traits::Symmetric;
 use deku::device::{Sink, Source};
 use deku::reader::Reader;
@@ -186,6 +187,19 @@ where
 
     ghost symmetric = { λ _. shown_symmetric (λ v. E.parts_of v.0) _ _ _ _
         (E.Parts.symmetric tt) };
+}
+
+/// The pieces of the parts, if nothing follows them.
+impl<E: Codec> SymmetricLast for Coded<E>
+where
+    E::Parts: SymmetricLast,
+{
+    ghost pieces = { λ v. E.Parts.SymmetricLast.pieces (E.parts_of v.0) };
+
+    ghost same = { λ v w. E.Parts.SymmetricLast.same (E.parts_of v.0) (E.parts_of w.0) };
+
+    ghost symmetric = { last_symmetric (λ v. E.parts_of v.0) _ _ _ _
+        E.Parts.SymmetricLast.symmetric };
 }
 
 /// A value that is read and written as its parts, and is elsewhere in memory: it is written as
