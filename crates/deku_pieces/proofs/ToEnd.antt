@@ -17,12 +17,13 @@ use Rattle.deku.specs.Composing.{Then, Second, First, Both, WritesEach}
 use Rattle.deku.specs.Limits.{Taken, TakesItem, TakesEach, Widens, taken_items, EndsWith, Closes, ItemRefused, WithoutWidth, Unplaced, ValueBy, RefusalBy, MoreToCome, ReadsToEnd}
 use Rattle.deku.specs.Wholes.{FromFirst}
 use Rattle.deku_pieces.specs.Symmetric.{breadth, IsWrittenAs, Answers, TakenAs, IsSymmetric}
-use Rattle.deku_pieces.specs.Pieces.{InTurn, OfEach, SameEach}
+use Rattle.deku_pieces.specs.Pieces.{InTurn, OfEachBroad, SameEach}
 use Rattle.deku_pieces.specs.Packs.{InStep, Unpacks, TakesIts, WasTaken}
 use Rattle.deku_pieces.specs.ToEnd.{IsReadBackLast, IsSymmetricLast, ReadsRest, UnpacksWhole}
 use Rattle.deku_pieces.proofs.Answering.{ok_is, mapped_must, then_must, Must}
 use Rattle.deku_pieces.proofs.Turns.{breadth-append, takes_apart, takes_together, written_together, turns_one}
 use Rattle.deku_pieces.proofs.Times.{each_one, each_written}
+use Rattle.deku_pieces.proofs.Broad.{AllWiden, each_plain, each_widens}
 use Rattle.deku_pieces.proofs.Ending.{last_step}
 use Rattle.deku_pieces.proofs.WholeBytes.{takes_count}
 
@@ -51,7 +52,7 @@ takes_none (p ∷ ps) S T none (has, is, takes) =
     omega (arith, one, none, rest)
 
 module _ {V : Type 0} {P : V → List Piece → Type 0} {same : V → V → Type 0} {writes : V → Meaning Output (Unit {0})} {m : Meaning (Option Stream) V}
-    (wide : (v : V) (ps : List Piece) → P v ps → 0 < breadth ps) (A : IsSymmetric P same writes m) where
+    (A : IsSymmetric P same writes m) where
   abbrev Item : Type 0
   Item = Taken (Option Stream) V
 
@@ -73,13 +74,12 @@ module _ {V : Type 0} {P : V → List Piece → Type 0} {same : V → V → Type
     left : u ≡ Going (Some U) (c + breadth own)
     widens : Widens x
 
-  next : (v : V) (own : List Piece) (S U : Stream) (c : ℕ) (x : Item) (u : Standing (Option Stream)) → P v own → Takes own S U → c + breadth own < 2 ^ 64
+  next : (v : V) (own : List Piece) (S U : Stream) (c : ℕ) (x : Item) (u : Standing (Option Stream)) → P v own → 0 < breadth own → Takes own S U → c + breadth own < 2 ^ 64
       → TakesItem More (Going (Some S) c) x u → Next v x c u own U
-  next v own S U c x u p takes room t = go (A.read_back v own p S U c (Ok x.item) u takes room (more_read S c x.item u t.read).1)
+  next v own S U c x u p some takes room t = go (A.read_back v own p S U c (Ok x.item) u takes room (more_read S c x.item u t.read).1)
     where
       go : Answers (same v) U (c + breadth own) (Ok x.item) u → Next v x c u own U
       go (inl (z, f, is, stands)) =
-          let some = wide v own p in
           let before : count_of x.before ≡ c = ap count_of t.from in
           let after : count_of x.after ≡ c + breadth own = ap count_of t.left ∙ ap count_of stands in
           record { like = subst (same v) (sym (ok_is x.item z is)) f; left = stands; widens = omega (arith, some, before, after) }
@@ -94,12 +94,12 @@ module _ {V : Type 0} {P : V → List Piece → Type 0} {same : V → V → Type
     count : ℕ
     split : vs ≡ front ++ others
     alike : SameEach same front ws
-    are : OfEach P others pieces
+    are : OfEachBroad P others pieces
     takes : Takes pieces at T
     stands : u ≡ Going (Some at) count
     sum : count + breadth pieces ≡ end
 
-  partway : (vs : List V) (ps : List Piece) (S T : Stream) (c end : ℕ) (xs : List Item) (u : Standing (Option Stream)) → bit_count T ≡ 0 → OfEach P vs ps
+  partway : (vs : List V) (ps : List Piece) (S T : Stream) (c end : ℕ) (xs : List Item) (u : Standing (Option Stream)) → bit_count T ≡ 0 → OfEachBroad P vs ps
       → Takes ps S T → c + breadth ps ≡ end → end < 2 ^ 64 → TakesEach More (Going (Some S) c) xs u → Partway vs T (taken_items xs) end u
   partway vs ps S T c end [] u none are takes sum room turn =
       record { front = []; others = vs; pieces = ps; at = S; count = c; split = refl; alike = tt; are = are; takes = takes; stands = sym turn; sum = sum }
@@ -111,7 +111,7 @@ module _ {V : Type 0} {P : V → List Piece → Type 0} {same : V → V → Type
   partway (v ∷ vs) ps S T c end (x ∷ xs) u none (a, b, p, q, e) takes sum room (t, taken, turn) =
       let w : breadth ps ≡ breadth a + breadth b = ap breadth e ∙ breadth-append a b in
       let cut = takes_apart a b S T (rw e at takes) in
-      let n = next v a S cut.0 c x t p cut.1 (omega (arith, room, sum, w)) taken in
+      let n = next v a S cut.0 c x t p.0 p.1 cut.1 (omega (arith, room, sum, w)) taken in
       let f = partway vs b cut.0 T (c + breadth a) end xs u none q cut.2 (omega (arith, sum, w)) room (subst (λ s. TakesEach More s xs u) n.left turn) in
       record {
         front = v ∷ f.front;
@@ -128,16 +128,16 @@ module _ {V : Type 0} {P : V → List Piece → Type 0} {same : V → V → Type
       }
 
   -- no items are left if there are no bits
-  none_left : (others : List V) (ps : List Piece) (S T : Stream) → bit_count S ≡ 0 → OfEach P others ps → Takes ps S T → (others ≡ []) × (S ≡ T) × (breadth ps ≡ 0)
+  none_left : (others : List V) (ps : List Piece) (S T : Stream) → bit_count S ≡ 0 → OfEachBroad P others ps → Takes ps S T → (others ≡ []) × (S ≡ T) × (breadth ps ≡ 0)
   none_left [] ps S T none are takes = (refl, rw are at takes, ap breadth are)
   none_left (v ∷ vs) ps S T none (a, b, p, q, e) takes =
       let w : breadth ps ≡ breadth a + breadth b = ap breadth e ∙ breadth-append a b in
-      let some = wide v a p in
+      let some = p.1 in
       let zero_wide = takes_none ps S T none takes in
       absurd (omega (arith, w, some, zero_wide))
 
   -- the next item has width, and is refused for lack of memory alone
-  next_widens : (others : List V) (ps : List Piece) (S T : Stream) (c : ℕ) (x : Item) (u : Standing (Option Stream)) → bit_count T ≡ 0 → OfEach P others ps → Takes ps S T
+  next_widens : (others : List V) (ps : List Piece) (S T : Stream) (c : ℕ) (x : Item) (u : Standing (Option Stream)) → bit_count T ≡ 0 → OfEachBroad P others ps → Takes ps S T
       → c + breadth ps < 2 ^ 64 → TakesItem More (Going (Some S) c) x u → Widens x
   next_widens [] ps S T c x u none are takes room taken =
       let same_stream : S ≡ T = rw are at takes in
@@ -147,10 +147,10 @@ module _ {V : Type 0} {P : V → List Piece → Type 0} {same : V → V → Type
   next_widens (v ∷ vs) ps S T c x u none (a, b, p, q, e) takes room taken =
       let w : breadth ps ≡ breadth a + breadth b = ap breadth e ∙ breadth-append a b in
       let cut = takes_apart a b S T (rw e at takes) in
-      let n = next v a S cut.0 c x u p cut.1 (omega (arith, room, w)) taken in
+      let n = next v a S cut.0 c x u p.0 p.1 cut.1 (omega (arith, room, w)) taken in
       n.widens
 
-  next_refused : (others : List V) (ps : List Piece) (S T : Stream) (c : ℕ) (d : DekuError) (u : Standing (Option Stream)) → bit_count T ≡ 0 → OfEach P others ps → Takes ps S T
+  next_refused : (others : List V) (ps : List Piece) (S T : Stream) (c : ℕ) (d : DekuError) (u : Standing (Option Stream)) → bit_count T ≡ 0 → OfEachBroad P others ps → Takes ps S T
       → c + breadth ps < 2 ^ 64 → More false (Going (Some S) c) (Err d) u → d ≡ Io OutOfMemory
   next_refused [] ps S T c d u none are takes room k =
       let same_stream : S ≡ T = rw are at takes in
@@ -160,7 +160,7 @@ module _ {V : Type 0} {P : V → List Piece → Type 0} {same : V → V → Type
   next_refused (v ∷ vs) ps S T c d u none (a, b, p, q, e) takes room k =
       let w : breadth ps ≡ breadth a + breadth b = ap breadth e ∙ breadth-append a b in
       let cut = takes_apart a b S T (rw e at takes) in
-      go (A.read_back v a p S cut.0 c (Err d) u cut.1 (omega (arith, room, w)) (more_refused S c d u k).1)
+      go (A.read_back v a p.0 S cut.0 c (Err d) u cut.1 (omega (arith, room, w)) (more_refused S c d u k).1)
     where
       go : {U : Stream} {n : ℕ} → Answers (same v) U n (Err d) u → d ≡ Io OutOfMemory
       go (inl (z, f, is, stands)) = absurd (cc)
@@ -175,7 +175,7 @@ module _ {V : Type 0} {P : V → List Piece → Type 0} {same : V → V → Type
       let count : f.count ≡ end = omega (arith, sum, n.2) in
       (subst (λ x. SameEach same x ws) (sym front) f.alike, d.1 ∙ ap (λ x. Going (Some x) f.count) n.1 ∙ ap (λ k. Going (Some T) k) count)
 
-  items_back : (vs : List V) (ps : List Piece) → OfEach P vs ps → IsReadBackLast ps (SameEach same vs) (ReadsToEnd m)
+  items_back : (vs : List V) (ps : List Piece) → OfEachBroad P vs ps → IsReadBackLast ps (SameEach same vs) (ReadsToEnd m)
   items_back vs ps p S T c r u none takes room (EndsWith xs x k l turn on last over b e) = absurd (cc)
   items_back vs ps p S T c r u none takes room (Closes xs k t turn on closed over b e) =
       let f = partway vs ps S T c (c + breadth ps) xs t none p takes refl room turn in
@@ -194,27 +194,32 @@ module _ {V : Type 0} {P : V → List Piece → Type 0} {same : V → V → Type
   items_back vs ps p S T c r u none takes room (Unplaced xs x v k l turn on judged wide_or over b e) = inr e
 
   -- ---- what is read
-  each_taken : (xs : List Item) (S : Stream) (c : ℕ) (u : Standing (Option Stream)) → TakesEach More (Going (Some S) c) xs u → TakenAs (OfEach P) (taken_items xs) S c u
-  each_taken [] S c u turn = record { taken = []; has = refl; rest = S; takes = refl; stands = sym turn ∙ ap (λ n. Going (Some S) n) (omega arith) }
-  each_taken (x ∷ xs) S c u (t, taken, turn) =
+  each_taken : (xs : List Item) (S : Stream) (c : ℕ) (u : Standing (Option Stream)) → AllWiden xs → TakesEach More (Going (Some S) c) xs u
+      → TakenAs (OfEachBroad P) (taken_items xs) S c u
+  each_taken [] S c u all turn = record { taken = []; has = refl; rest = S; takes = refl; stands = sym turn ∙ ap (λ n. Going (Some S) n) (omega arith) }
+  each_taken (x ∷ xs) S c u all (t, taken, turn) =
       let a = A.read x.item S c t (more_read S c x.item t taken.read).1 in
-      let b = each_taken xs a.rest (c + breadth a.taken) u (subst (λ s. TakesEach More s xs u) a.stands turn) in
+      let b = each_taken xs a.rest (c + breadth a.taken) u all.1 (subst (λ s. TakesEach More s xs u) a.stands turn) in
+      let before : count_of x.before ≡ c = ap count_of taken.from in
+      let after : count_of x.after ≡ c + breadth a.taken = ap count_of taken.left ∙ ap count_of a.stands in
+      let widens : count_of x.before < count_of x.after = all.0 in
+      let broad : 0 < breadth a.taken = omega (arith, before, after, widens) in
       let sum : c + breadth a.taken + breadth b.taken ≡ c + breadth (a.taken ++ b.taken) = omega (arith, breadth-append a.taken b.taken) in
       record {
         taken = a.taken ++ b.taken;
-        has = (a.taken, b.taken, a.has, b.has, refl);
+        has = (a.taken, b.taken, (a.has, broad), b.has, refl);
         rest = b.rest;
         takes = takes_together a.taken b.taken S a.rest b.rest a.takes b.takes;
         stands = b.stands ∙ ap (λ n. Going (Some b.rest) n) sum;
       }
 
-  items_read : (vs : List V) (S : Stream) (c : ℕ) (u : Standing (Option Stream)) → ReadsToEnd m false (Going (Some S) c) (Ok vs) u → TakenAs (OfEach P) vs S c u
+  items_read : (vs : List V) (S : Stream) (c : ℕ) (u : Standing (Option Stream)) → ReadsToEnd m false (Going (Some S) c) (Ok vs) u → TakenAs (OfEachBroad P) vs S c u
   items_read vs S c u (EndsWith xs x k l turn on last over b e) = absurd (cc)
   items_read vs S c u (Closes xs k t turn on closed over b e) =
-      let a = each_taken xs S c t turn in
+      let a = each_taken xs S c t (each_widens (λ _ _ v _. v ≡ false) xs tt k on) turn in
       let d = at_end a.rest (c + breadth a.taken) u (subst (λ s. Ending false s (Ok true) u) a.stands closed) in
       let all : vs ≡ taken_items xs = ok_is vs (taken_items xs) e in
-      record { taken = a.taken; has = subst (λ ys. OfEach P ys a.taken) (sym all) a.has; rest = a.rest; takes = a.takes; stands = d.1 }
+      record { taken = a.taken; has = subst (λ ys. OfEachBroad P ys a.taken) (sym all) a.has; rest = a.rest; takes = a.takes; stands = d.1 }
   items_read vs S c u (ItemRefused xs k t d turn on refusal over e) = absurd (cc)
   items_read vs S c u (WithoutWidth xs x k l d turn on judged narrow tells over b e) = absurd (cc)
   items_read vs S c u (Unplaced xs x v k l turn on judged wide_or over b e) = absurd (cc)
@@ -222,7 +227,7 @@ module _ {V : Type 0} {P : V → List Piece → Type 0} {same : V → V → Type
   -- ---- in what holds them
   module _ {X : Type 0} (made : Vec V → X) (items : X → Vec V) (is_items : (xs : Vec V) → items (made xs) ≡ xs) where
     abbrev Pieces : X → List Piece → Type 0
-    Pieces x = OfEach P (items x).items
+    Pieces x = OfEachBroad P (items x).items
 
     abbrev Same : X → X → Type 0
     Same x y = SameEach same (items x).items (items y).items
@@ -250,14 +255,14 @@ module _ {V : Type 0} {P : V → List Piece → Type 0} {same : V → V → Type
     rest_read x S n u (Value w (ValueBy xs y k h e) is) =
         let a = items_read xs S n u k in
         let seen = seen_items xs w y x h e is in
-        record { taken = a.taken; has = subst (λ z. OfEach P z a.taken) (sym seen) a.has; rest = a.rest; takes = a.takes; stands = a.stands }
+        record { taken = a.taken; has = subst (λ z. OfEachBroad P z a.taken) (sym seen) a.has; rest = a.rest; takes = a.takes; stands = a.stands }
     rest_read x S n u (Value w (RefusalBy d k e) is) = absurd (cc)
     rest_read x S n u (Refusal d k is) = absurd (cc)
 
     pub rest_symmetric : IsSymmetricLast Pieces Same (λ x. WritesEach writes (items x).items) (ReadsRest made m)
     rest_symmetric = record {
-      one = λ x ps qs p q. each_one P same writes m A (items x).items ps qs p q;
-      written = λ x ps p. each_written P same writes m A (items x).items ps p;
+      one = λ x ps qs p q. each_one P same writes m A (items x).items ps qs (each_plain P (items x).items ps p) (each_plain P (items x).items qs q);
+      written = λ x ps p. each_written P same writes m A (items x).items ps (each_plain P (items x).items ps p);
       read_back = rest_back;
       read = rest_read;
     }

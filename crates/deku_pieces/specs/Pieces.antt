@@ -1,6 +1,6 @@
 -- The pieces of the values of each type.
-use Rattle.std.specs.Prelude.{◌≡◌, ℕ, Bool, List, [], ◌∷◌, ◌++◌, length, Option, None, Some, ⊤, ℤ, pos}
-use Rattle.deku_bits.specs.Pieces.{Piece, piece}
+use Rattle.std.specs.Prelude.{◌≡◌, ◌<◌, ℕ, Bool, List, [], ◌∷◌, ◌++◌, length, map, Option, None, Some, ⊤, ℤ, pos}
+use Rattle.deku_bits.specs.Pieces.{Piece, piece, shape, total}
 use Rattle.deku_num.specs.declared.kind.NumberType.{NumberType}
 use Rattle.deku_num.specs.declared.ctx.Layout.{Layout}
 use Rattle.deku_bits.specs.declared.ctx.Order.TheVariants.{Msb0}
@@ -31,6 +31,10 @@ InTurn first second ps = (xs : List Piece) × (ys : List Piece) × first xs × s
 abbrev pub OfEach : {V : Type 0} → (V → List Piece → Type 0) → List V → List Piece → Type 0
 OfEach pieces [] = NoPieces
 OfEach pieces (v ∷ vs) = InTurn (pieces v) (OfEach pieces vs)
+
+-- The pieces of items of at least one bit each, one after the other.
+abbrev pub OfEachBroad : {V : Type 0} → (V → List Piece → Type 0) → List V → List Piece → Type 0
+OfEachBroad pieces = OfEach (λ v ps. pieces v ps × (0 < total (map shape ps)))
 
 -- The pieces of n items.
 abbrev pub OfTimes : {V : Type 0} → ℕ → (V → List Piece → Type 0) → List V → List Piece → Type 0

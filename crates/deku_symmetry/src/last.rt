@@ -1,17 +1,13 @@
 //! Types that are read as they are written if nothing follows: the last parts of whole values.
 
-ghost use Rattle.std.specs.Prelude.{List, ◌<◌, pos, refl};
-ghost use Rattle.std.proofs.Common.{arith};
+ghost use Rattle.std.specs.Prelude.{List, refl};
 ghost use Rattle.deku_bits.specs.Pieces.{Piece};
 ghost use Rattle.deku_bits.specs.WriterCalls.{Finalizes};
 ghost use Rattle.deku.specs.Composing.{Both};
 ghost use Rattle.deku.specs.Wholes.{WritesOnce};
-ghost use Rattle.deku_num.specs.Numbers.{byte};
-ghost use Rattle.deku_pieces.specs.Symmetric.{breadth};
-ghost use Rattle.deku_pieces.specs.Pieces.{InTurn, OfEach, SameEach, plain};
+ghost use Rattle.deku_pieces.specs.Pieces.{InTurn, OfEachBroad, SameEach};
 ghost use Rattle.deku_pieces.specs.Packs.{PacksLaid, Unpacks, TakesIts};
 ghost use Rattle.deku_pieces.specs.ToEnd.{IsSymmetricLast, UnpacksWhole};
-ghost use Rattle.deku_pieces.proofs.Ending.{number_wide};
 ghost use Rattle.deku_pieces.proofs.ToEnd.{rest_symmetric, before_symmetric};
 
 use crate::traits::Symmetric;
@@ -71,23 +67,13 @@ pub trait SymmetricLast: DekuReader<()> + DekuWriter<()> {
         (Self.DekuReader.meaning tt) };
 }
 
-/// Items of at least one bit each.
-pub trait Wide: Symmetric<()> {
-    // An item that has pieces has at least one bit.
-    ghost wide: { (v : Self) (ps : List Piece) → Self.Symmetric.pieces v tt ps → 0 < breadth ps };
-}
-
-impl Wide for u8 {
-    ghost wide = { λ v ps p. number_wide byte plain (pos v) (omega (arith)) ps p };
-}
-
-/// The pieces of the items, one after the other.
-impl<T: Wide> SymmetricLast for Rest<T> {
-    ghost pieces = { λ v. OfEach (λ x. T.Symmetric.pieces x tt) v.items.items };
+/// The pieces of the items, one after the other. There are none if an item has no bits.
+impl<T: Symmetric<()>> SymmetricLast for Rest<T> {
+    ghost pieces = { λ v. OfEachBroad (λ x. T.Symmetric.pieces x tt) v.items.items };
 
     ghost same = { λ v w. SameEach T.Symmetric.same v.items.items w.items.items };
 
-    ghost symmetric = { rest_symmetric T.Wide.wide (T.Symmetric.symmetric tt)
+    ghost symmetric = { rest_symmetric (T.Symmetric.symmetric tt)
         (λ xs. record { items = xs }) (λ v. v.items) (λ xs. refl) };
 }
 

@@ -36,7 +36,7 @@ pub use deku_pieces::until::{Last, Until};
 pub use either::{Kinds, KindsLaw};
 pub use enums::{Enum, Id, LsbBeEnum, LsbEnum, MsbEnum, MsbLeEnum};
 pub use fields::{Be, Le, Lsb, LsbBe, Msb, MsbLe};
-pub use last::{SymmetricLast, Wide};
+pub use last::SymmetricLast;
 pub use made::{CheckLaw, ConstantLaw, ItemCountLaw, LastLaw};
 pub use optional::{Condition, ConditionLaw, Optional, OptionalRef};
 pub use prefixed::{Prefixed, PrefixedRef};

@@ -1,13 +1,12 @@
 //! The laws of parts that decide how much follows them, and how it is laid out.
 
 ghost use Rattle.std.specs.Prelude.{◌≡◌, refl};
-ghost use Rattle.deku_pieces.specs.Pieces.{InTurn, OfEach, SameEach};
+ghost use Rattle.deku_pieces.specs.Pieces.{InTurn, OfEachBroad, SameEach};
 ghost use Rattle.deku_pieces.specs.Sizes.{OfSizes};
 ghost use Rattle.deku_pieces.proofs.Sizes.{sizes_symmetric};
 ghost use Rattle.deku_pieces.proofs.Filling.{filled_by_symmetric};
 ghost use Rattle.deku_pieces.proofs.Following.{under_symmetric};
 
-use crate::last::Wide;
 use crate::traits::Symmetric;
 use deku_pieces::filled_by::FilledBy;
 use deku_pieces::sized_by::{SizeOf, SizedBy};
@@ -40,19 +39,19 @@ impl<P: Symmetric<()>, C: SizeOfLaw<P>, T: Symmetric<()>> Symmetric<()> for Size
         C.SizeOfLaw.alike (P.Symmetric.symmetric tt) (T.symmetric tt) };
 }
 
-/// The pieces of the head, and then those of its items. There are no pieces if the items do not
-/// have as many bits as the head says.
-impl<P: Symmetric<()>, C: SizeOfLaw<P>, T: Wide> Symmetric<()> for FilledBy<P, C, T> {
+/// The pieces of the head, and then those of its items. There are no pieces if an item has no bits,
+/// or if all do not have as many as the head says.
+impl<P: Symmetric<()>, C: SizeOfLaw<P>, T: Symmetric<()>> Symmetric<()> for FilledBy<P, C, T> {
     ghost pieces = { λ v _. OfSizes C.SizeOf.size_of (λ h. P.pieces h tt)
-        (λ xs. OfEach (λ x. T.Symmetric.pieces x tt) xs.items) v.head v.items };
+        (λ xs. OfEachBroad (λ x. T.pieces x tt) xs.items) v.head v.items };
 
     ghost same = { λ v w. P.same v.head w.head
-        × SameEach T.Symmetric.same v.items.items w.items.items };
+        × SameEach T.same v.items.items w.items.items };
 
     ghost symmetric = { λ _. filled_by_symmetric
         (λ h xs. record { head = h; items = xs; size = record {} })
         (λ v. v.head) (λ v. v.items) (λ h xs. refl) (λ h xs. refl) C.SizeOf.size_of
-        C.SizeOfLaw.alike T.Wide.wide (P.symmetric tt) (T.Symmetric.symmetric tt) };
+        C.SizeOfLaw.alike (P.symmetric tt) (T.symmetric tt) };
 }
 
 /// Heads that are the same give the same context.
