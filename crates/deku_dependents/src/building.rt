@@ -2,7 +2,7 @@
 
 use crate::computing::{Computed, Computer};
 use crate::marker;
-use crate::marker::Marker;
+use crate::marker::{Amount, Marker};
 use deku_attributes::model::{Attribute, Endian, Field, Order};
 use deku_attributes::reading::bits_of;
 use deku_description::syntax::{Constant, Expression, Operator, Type};
@@ -40,6 +40,8 @@ pub struct Builder<'b, 'a> {
 struct Said<'f, 'a> {
     magic: Option<&'f Vec<u8>>,
     count: Option<&'f Expression<'a>>,
+    // How much the field takes, and how many bits each of it is.
+    size: Option<(&'f Expression<'a>, u64)>,
     cond: Option<&'f Expression<'a>>,
     assert: Option<&'f Expression<'a>>,
     equal: Option<&'f Expression<'a>>,
@@ -136,10 +138,13 @@ impl<'b, 'a> Builder<'b, 'a> {
             let named = words::marker(self.alloc, self.front.as_str(), name, "Magic")?;
             self.magic(bytes, named, what.as_str(), field.layout.order, field.span)?;
         }
-        match (said.count, said.cond) {
-            (Some(count), _) => self.after_head(field, called, count, Dependent::Counted)?,
-            (None, Some(cond)) => self.after_head(field, called, cond, Dependent::Optional)?,
-            (None, None) => self.leaf(field, called)?,
+        match (said.count, said.size, said.cond) {
+            (Some(count), _, _) => self.after_head(field, called, count, Dependent::Counted, 1)?,
+            (_, Some((size, unit)), _) => {
+                self.after_head(field, called, size, Dependent::Filled, unit)?;
+            }
+            (_, _, Some(cond)) => self.after_head(field, called, cond, Dependent::Optional, 1)?,
+            (None, None, None) => self.leaf(field, called)?,
         }
         if let Some(expression) = said.assert {
             self.assert(field, name, expression, false)?;
@@ -176,6 +181,7 @@ impl<'b, 'a> Builder<'b, 'a> {
         let mut said = Said {
             magic: None,
             count: None,
+            size: None,
             cond: None,
             assert: None,
             equal: None,
@@ -186,6 +192,8 @@ impl<'b, 'a> Builder<'b, 'a> {
             match attribute {
                 Attribute::Magic(bytes) => said.magic = Some(bytes),
                 Attribute::Count(expression) => said.count = Some(expression),
+                Attribute::BitsRead(expression) => said.size = Some((expression, 1)),
+                Attribute::BytesRead(expression) => said.size = Some((expression, 8)),
                 Attribute::Cond(expression) => said.cond = Some(expression),
                 Attribute::Assert(expression) => said.assert = Some(expression),
                 Attribute::AssertEq(expression) => said.equal = Some(expression),
@@ -209,7 +217,7 @@ impl<'b, 'a> Builder<'b, 'a> {
                 "write a record for each endian",
             );
         }
-        let is_dependent = said.count.is_some() || said.cond.is_some();
+        let is_dependent = said.count.is_some() || said.size.is_some() || said.cond.is_some();
         let is_checked = said.assert.is_some() || said.equal.is_some();
         if is_dependent && is_checked {
             return self.wrong(
@@ -407,18 +415,23 @@ impl<'b, 'a> Builder<'b, 'a> {
         Ok(head)
     }
 
-    // A list that the fields in front count, or an item that they show.
+    // A list that the fields in front count, or say the size of, in units of so many bits; or an item
+    // that they show.
     fn after_head(
         &mut self,
         field: &Field<'a>,
         called: Named<'_>,
         expression: &Expression<'a>,
         form: Dependent,
+        unit: u64,
     ) -> Result<(), Stop> {
         let name = called.name;
-        let is_count = form == Dependent::Counted;
-        let mut head = self.head_of(field, expression, is_count)?;
-        let word = if is_count { "Count" } else { "Condition" };
+        let mut head = self.head_of(field, expression, form != Dependent::Optional)?;
+        let word = match form {
+            Dependent::Counted => "Count",
+            Dependent::Filled => "Size",
+            Dependent::Optional => "Condition",
+        };
         let named = words::marker(self.alloc, self.front.as_str(), name, word)?;
         let (parts, lent) = self.aliases(&mut head, name)?;
         let owned = String::from_str(self.alloc, name)?;
@@ -428,10 +441,12 @@ impl<'b, 'a> Builder<'b, 'a> {
             lent: lent.as_deref(),
             field: owned.as_str(),
         };
-        if is_count {
-            self.counts(head.places.as_slice(), marker, expression, field.span)?;
-        } else {
-            self.shows(head.places.as_slice(), marker, expression, field.span)?;
+        let places = head.places.as_slice();
+        match form {
+            Dependent::Optional => self.shows(places, marker, expression, field.span)?,
+            Dependent::Counted | Dependent::Filled => {
+                self.counts(places, marker, expression, field.span, (form, unit))?;
+            }
         }
         let held = held_kind(self.alloc, field)?;
         let part = following(
@@ -446,20 +461,29 @@ impl<'b, 'a> Builder<'b, 'a> {
         Ok(())
     }
 
-    // Appends the type of a count.
+    // Appends the type of a count, or of a size in units of so many bits.
     fn counts(
         &mut self,
         places: &[Place<'a>],
         marker: Marker<'_>,
         expression: &Expression<'a>,
         span: Span,
+        (form, unit): (Dependent, u64),
     ) -> Result<(), Stop> {
         let mut computer = Computer::new(self.alloc, places, self.constants);
-        let computed = computer.value(expression)?;
+        let mut computed = computer.value(expression)?;
         if !computed.is_number() {
             return self.wrong(span, "a count that is no number", "write a number");
         }
-        marker::count(&mut self.markers, marker, &computer, &computed)
+        if unit > 1 {
+            let unit = computer.number(unit)?;
+            computed = computer.both(Operator::Times, computed, unit, span)?;
+        }
+        let amount = match form {
+            Dependent::Filled => Amount::Bits,
+            Dependent::Counted | Dependent::Optional => Amount::Items,
+        };
+        marker::count(&mut self.markers, amount, marker, &computer, &computed)
     }
 
     // Appends the type of a condition.
@@ -662,10 +686,6 @@ fn refused(attribute: &Attribute<'_>) -> (&'static str, &'static str) {
         Attribute::Context(_) => (
             "values that are given to a field are not supported",
             "move the fields that need them into this record",
-        ),
-        Attribute::BitsRead(_) | Attribute::BytesRead(_) => (
-            "a list that ends after so many bits or bytes is not supported",
-            "write `count`, which for `Vec<u8>` is the number of bytes",
         ),
         Attribute::Until(_) => (
             "a list that ends with an item of its own is not supported",

@@ -6,7 +6,7 @@ use std::alloc::{AllocError, Global};
 use std::fmt::Write as _;
 
 // The names of deku_symmetry, in the order in which `rt fmt` has them.
-const PARTS: [&str; 34] = [
+const PARTS: [&str; 38] = [
     "Assert",
     "Be",
     "Check",
@@ -25,6 +25,7 @@ const PARTS: [&str; 34] = [
     "CountedByRef",
     "Either",
     "Enum",
+    "FilledBy",
     "InRange",
     "Kind",
     "Le",
@@ -40,6 +41,9 @@ const PARTS: [&str; 34] = [
     "Optional",
     "OptionalRef",
     "Otherwise",
+    "SizeOf",
+    "SizeOfLaw",
+    "SizedBy",
     "Symmetric",
 ];
 

@@ -303,6 +303,8 @@ fn equation(alloc: Global, place: usize, count: usize) -> Result<String, AllocEr
 pub enum Dependent {
     /// A list that the head counts.
     Counted,
+    /// A list of as many bits as the head says.
+    Filled,
     /// An item that the head shows.
     Optional,
 }
@@ -312,6 +314,7 @@ impl Dependent {
     fn kind(self) -> &'static str {
         match self {
             Dependent::Counted => "CountedBy<",
+            Dependent::Filled => "FilledBy<",
             Dependent::Optional => "Optional<",
         }
     }
@@ -320,6 +323,7 @@ impl Dependent {
     fn lent(self) -> &'static str {
         match self {
             Dependent::Counted => "CountedByRef<",
+            Dependent::Filled => "SizedBy<",
             Dependent::Optional => "OptionalRef<",
         }
     }
@@ -328,6 +332,7 @@ impl Dependent {
     fn pattern(self) -> &'static str {
         match self {
             Dependent::Counted => "CountedBy {",
+            Dependent::Filled => "FilledBy {",
             Dependent::Optional => "Optional {",
         }
     }
@@ -336,6 +341,7 @@ impl Dependent {
     fn value(self) -> &'static str {
         match self {
             Dependent::Counted => "CountedByRef::<_, ",
+            Dependent::Filled => "SizedBy::<_, ",
             Dependent::Optional => "OptionalRef::<_, ",
         }
     }
@@ -343,8 +349,16 @@ impl Dependent {
     // The field for what comes after the head.
     fn item(self) -> &'static str {
         match self {
-            Dependent::Counted => "items",
+            Dependent::Counted | Dependent::Filled => "items",
             Dependent::Optional => "item",
+        }
+    }
+
+    // The same of what is lent.
+    fn lent_item(self) -> &'static str {
+        match self {
+            Dependent::Filled => "content",
+            Dependent::Counted | Dependent::Optional => self.item(),
         }
     }
 
@@ -352,6 +366,7 @@ impl Dependent {
     fn marker(self) -> (&'static str, &'static str) {
         match self {
             Dependent::Counted => ("count: PhantomData", "count = record {}"),
+            Dependent::Filled => ("size: PhantomData", "size = record {}"),
             Dependent::Optional => ("condition: PhantomData", "condition = record {}"),
         }
     }
@@ -410,10 +425,15 @@ fn lent_of(
     item: &str,
 ) -> Result<Text, AllocError> {
     let mut items = Vec::new(alloc);
-    items.push(Text::word(alloc, "'a")?)?;
+    let held = if form == Dependent::Filled {
+        format!(in alloc; "&'a Vec<{item}>")?
+    } else {
+        items.push(Text::word(alloc, "'a")?)?;
+        String::from_str(alloc, item)?
+    };
     items.push(head)?;
     items.push(Text::word(alloc, marker)?)?;
-    items.push(Text::word(alloc, item)?)?;
+    items.push(Text::of(held))?;
     Text::group(alloc, Form::Angle, form.lent(), items)
 }
 
@@ -442,7 +462,7 @@ fn value_of(
     let mut items = Vec::new(alloc);
     items.push(head.after(alloc, "head: ")?)?;
     let held = Text::word(alloc, access)?.after(alloc, ": &self.")?;
-    items.push(held.after(alloc, form.item())?)?;
+    items.push(held.after(alloc, form.lent_item())?)?;
     items.push(Text::word(alloc, form.marker().0)?)?;
     let open = joined(alloc, marker, ", _> {")?;
     Text::group(alloc, Form::Brace, open.as_str(), items)?.after(alloc, form.value())
