@@ -3,7 +3,6 @@ use Rattle.std.proofs.Common.{◌≡◌, ℕ, zero, suc, ◌+◌, ◌<◌, List,
 use Rattle.std.specs.Prelude.{⊤}
 use Rattle.deku_bits.specs.Pieces.{Piece}
 use Rattle.deku.specs.Limits.{Judge, Taken, GoesOn, Widens}
-use Rattle.deku_pieces.specs.Symmetric.{breadth}
 use Rattle.deku_pieces.specs.Pieces.{OfEach, OfEachBroad}
 
 -- they are items

@@ -1,5 +1,5 @@
 -- A symmetric head, and after it symmetric items that fill as many bits as it says, are symmetric.
-use Rattle.std.proofs.Common.{◌≡◌, ℕ, zero, suc, ◌+◌, ◌<◌, ◌^◌, Bool, true, false, List, [], ◌∷◌, ◌++◌, length, Option, None, Some, Result, Ok, Err, refl, ap, sym, ◌∙◌, subst, inl, inr, arith, append-nil}
+use Rattle.std.proofs.Common.{◌≡◌, ℕ, ◌+◌, ◌<◌, ◌^◌, Bool, true, false, List, [], ◌∷◌, ◌++◌, Option, None, Some, Ok, Err, refl, ap, sym, ◌∙◌, subst, inl, inr, arith}
 use Rattle.std.specs.Prelude.{◌↔◌}
 use Rattle.std.specs.Global.{Vec}
 use Rattle.std.specs.declared.io.ErrorKind.TheVariants.{OutOfMemory}
@@ -10,8 +10,8 @@ use Rattle.deku_bits.specs.Streams.{Stream}
 use Rattle.deku_bits.specs.Pieces.{Piece}
 use Rattle.deku_bits.specs.Symmetry.{Takes}
 use Rattle.deku_bits.specs.Standings.{Standing, Going, Output, count_of}
-use Rattle.deku_bits.specs.Outcomes.{Meaning, Mapped}
-use Rattle.deku.specs.Composing.{Answer, Then, Both, WritesEach}
+use Rattle.deku_bits.specs.Outcomes.{Meaning}
+use Rattle.deku.specs.Composing.{Answer, Both, WritesEach}
 use Rattle.deku.specs.Limits.{Taken, TakesItem, TakesEach, GoesOn, Widens, taken_items, EndsWith, Closes, ItemRefused, WithoutWidth, Unplaced, MappedBy, ReadsBitsOf, NoBits, SomeBits}
 use Rattle.deku_pieces.specs.Symmetric.{breadth, IsWrittenAs, IsReadBack, Answers, TakenAs, IsSymmetric}
 use Rattle.deku_pieces.specs.Pieces.{OfEachBroad, SameEach}

@@ -3,6 +3,7 @@ pub mod Turns
 pub mod Numbers
 pub mod Joined
 pub mod Times
+pub mod Broad
 pub mod Turned
 pub mod Packing
 pub mod Unpacking
