@@ -57,9 +57,18 @@ impl<P, C, T> FilledBy<P, C, T> {
     }
 }
 
-// Reads items that fill the size, if there is one.
+/// Reads items that fill as many bits as the size says.
+///
+/// The caller's condition: the items may be read.
+///
+/// It fails with `Parse("head without a size")` if there is no size, and nothing moves. Otherwise
+/// it fails as `FilledBy` does.
+///
+/// ```text
+/// let items = read_filled::<u8, R>(reader, Some(16))?;       // two bytes
+/// ```
 #[inline(always)]
-fn read_filled<T: DekuReader<()>, R: Source>(
+pub fn read_filled<T: DekuReader<()>, R: Source>(
     reader: &mut Reader<R>,
     size: Option<usize>,
 ) -> Result<Vec<T>, DekuError>
