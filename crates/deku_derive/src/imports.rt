@@ -6,9 +6,10 @@ use std::alloc::{AllocError, Global};
 use std::fmt::Write as _;
 
 // The names of deku_symmetry, in the order in which `rt fmt` has them.
-const PARTS: [&str; 38] = [
+const PARTS: [&str; 40] = [
     "Assert",
     "Be",
+    "Before",
     "Check",
     "CheckLaw",
     "Codec",
@@ -41,6 +42,7 @@ const PARTS: [&str; 38] = [
     "Optional",
     "OptionalRef",
     "Otherwise",
+    "Rest",
     "SizeOf",
     "SizeOfLaw",
     "SizedBy",

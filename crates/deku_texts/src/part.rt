@@ -478,6 +478,92 @@ fn term_of(alloc: Global, head: Text, form: Dependent, access: &str) -> Result<T
     Text::group(alloc, Form::GhostBrace, "record {", items)
 }
 
+/// A list up to the end of the input, of these items, after the parts in front.
+pub fn rest<'a>(
+    alloc: Global,
+    front: Vec<Part<'a>>,
+    called: Named<'_>,
+    item: &str,
+) -> Result<Part<'a>, AllocError> {
+    let Named { name, access } = called;
+    let pattern = if name == "items" {
+        String::from_str(alloc, "Rest { items }")?
+    } else {
+        format!(in alloc; "Rest {{ items: {name} }}")?
+    };
+    let mut names = Vec::new(alloc);
+    names.push(literal(alloc, name)?)?;
+    let list = Part {
+        kind: Text::of(format!(in alloc; "Rest<{item}>")?),
+        lent: Text::of(format!(in alloc; "&'a Vec<{item}>")?),
+        is_lent: true,
+        pattern: Text::of(pattern),
+        value: Text::of(format!(in alloc; "&self.{access}")?),
+        term: Text::of(format!(in alloc; "record {{ items = r.{access} }}")?),
+        places: one_place(alloc, name)?,
+        names,
+    };
+    if front.is_empty() {
+        return Ok(list);
+    }
+    before(alloc, tuple(alloc, front)?, list)
+}
+
+// Where a list up to the end is in its part.
+fn one_place<'a>(alloc: Global, name: &str) -> Result<Vec<Place<'a>>, AllocError> {
+    let mut places = Vec::new(alloc);
+    places.push(Place {
+        name: String::from_str(alloc, name)?,
+        number: None,
+        path: String::from_str(alloc, ".items")?,
+        same: String::new(alloc),
+    })?;
+    Ok(places)
+}
+
+// Parts, and after them what is last.
+fn before<'a>(alloc: Global, head: Part<'a>, rest: Part<'a>) -> Result<Part<'a>, AllocError> {
+    let mut places = within(alloc, head.places, ".head", ".0")?;
+    for place in within(alloc, rest.places, ".rest", ".1")? {
+        places.push(place)?;
+    }
+    let mut names = head.names;
+    for name in rest.names {
+        names.push(name)?;
+    }
+    let pattern = [
+        head.pattern.after(alloc, "head: ")?,
+        rest.pattern.after(alloc, "rest: ")?,
+    ];
+    let value = [
+        head.value.after(alloc, "head: ")?,
+        rest.value.after(alloc, "rest: ")?,
+    ];
+    let term = [
+        head.term.after(alloc, "head = ")?,
+        rest.term.after(alloc, "rest = ")?,
+    ];
+    Ok(Part {
+        kind: pair(alloc, Form::Angle, "Before<", [head.kind, rest.kind])?,
+        lent: pair(alloc, Form::Angle, "Before<", [head.lent, rest.lent])?,
+        is_lent: true,
+        pattern: pair(alloc, Form::Brace, "Before {", pattern)?,
+        value: pair(alloc, Form::Brace, "Before {", value)?,
+        term: pair(alloc, Form::GhostBrace, "record {", term)?,
+        places,
+        names,
+    })
+}
+
+// Two texts in brackets.
+fn pair(alloc: Global, form: Form, open: &str, texts: [Text; 2]) -> Result<Text, AllocError> {
+    let [first, second] = texts;
+    let mut items = Vec::new(alloc);
+    items.push(first)?;
+    items.push(second)?;
+    Text::group(alloc, form, open, items)
+}
+
 /// A part that passes the check of this name.
 pub fn asserted<'a>(
     alloc: Global,

@@ -3,7 +3,7 @@
 use std::alloc::{AllocError, Global};
 
 // The names that a module imports or that its bounds have.
-const IMPORTED: [&str; 51] = [
+const IMPORTED: [&str; 53] = [
     "Sink",
     "DekuError",
     "DekuWriter",
@@ -27,6 +27,8 @@ const IMPORTED: [&str; 51] = [
     "CountOf",
     "CountOfLaw",
     "FilledBy",
+    "Before",
+    "Rest",
     "SizedBy",
     "SizeOf",
     "SizeOfLaw",
