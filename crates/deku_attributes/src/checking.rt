@@ -13,8 +13,9 @@ use std::collections::BTreeSet;
 /// How many fields, kinds or words of attributes one thing may have.
 pub(crate) const LIMIT: usize = 256;
 
-/// The records of a description whose form is right, with what is wrong with what they say. A part
-/// that is wrong is left out or taken as if it were not said.
+/// The records of a description, with what is wrong with what they say. A part that is wrong is left
+/// out or taken as if it were not said. If the description is not whole, since something is wrong
+/// with its form, names that are not in it are not complained of.
 ///
 /// # Errors
 ///
@@ -22,12 +23,13 @@ pub(crate) const LIMIT: usize = 256;
 ///
 /// ```text
 /// let (file, complaints) = parse(alloc, "struct Point { #[deku(bits = 9)] x: u8 }")?;
-/// check(alloc, text, file)?    // one complaint: `u8` has 8 bits
+/// check(alloc, text, file, true)?    // one complaint: `u8` has 8 bits
 /// ```
 pub fn check<'a>(
     alloc: Global,
     text: &'a str,
     file: File<'a>,
+    is_whole: bool,
 ) -> Result<(Module<'a>, Vec<Complaint>), AllocError> {
     let File {
         docs,
@@ -38,6 +40,7 @@ pub fn check<'a>(
     let mut checker = Checker {
         alloc,
         text,
+        is_whole,
         types: BTreeSet::new(alloc),
         uses: Vec::new(alloc),
         constants: Vec::new(alloc),
@@ -66,10 +69,12 @@ pub fn check<'a>(
 pub(crate) struct Checker<'a> {
     pub(crate) alloc: Global,
     pub(crate) text: &'a str,
+    // Whether nothing is wrong with its form.
+    is_whole: bool,
     types: BTreeSet<&'a str>,
     uses: Vec<&'a str>,
     constants: Vec<&'a str>,
-    complaints: Vec<Complaint>,
+    pub(crate) complaints: Vec<Complaint>,
 }
 
 impl<'a> Checker<'a> {
@@ -83,6 +88,20 @@ impl<'a> Checker<'a> {
         let complaint = Complaint::new(self.alloc, span, message, help)?;
         self.complaints.push(complaint)?;
         Ok(())
+    }
+
+    /// Notes a name that is not known, which may be one that was left out.
+    pub(crate) fn complain_of_name(
+        &mut self,
+        span: Span,
+        message: &str,
+        help: &str,
+    ) -> Result<(), AllocError> {
+        if self.is_whole {
+            self.complain(span, message, help)
+        } else {
+            Ok(())
+        }
     }
 
     /// Notes what was wrong elsewhere.
@@ -114,7 +133,12 @@ impl<'a> Checker<'a> {
     }
 
     fn record(&mut self, record: syntax::Record<'a>) -> Result<Record<'a>, AllocError> {
-        let syntax::Record { head, name, body } = record;
+        let syntax::Record {
+            head,
+            name,
+            body,
+            is_whole,
+        } = record;
         let owner = match body {
             Body::Fields(_) => Owner::Struct,
             Body::Kinds(_) => Owner::Enum,
@@ -145,6 +169,7 @@ impl<'a> Checker<'a> {
             magic,
             context,
             form,
+            is_whole,
         })
     }
 
@@ -177,7 +202,7 @@ impl<'a> Checker<'a> {
         match judge(name, owner) {
             Verdict::Taken => self.valued(attribute),
             Verdict::Refused(reason, instead) => {
-                let message = format!(in self.alloc; "`{name}` has no part here: {reason}")?;
+                let message = format!(in self.alloc; "`{name}` is not supported: {reason}")?;
                 self.complain(span, message.as_str(), instead)
             }
             Verdict::Unknown(nearest) => {

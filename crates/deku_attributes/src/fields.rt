@@ -56,6 +56,7 @@ impl<'a> Checker<'a> {
             kind,
             span,
         } = field;
+        let before = self.complaints.len();
         self.head(&head, Owner::Field)?;
         let layout = self.layout(&head, outer)?;
         let bits = self.bits(&head, &kind)?;
@@ -74,6 +75,7 @@ impl<'a> Checker<'a> {
             layout,
             bits,
             attributes,
+            is_sound: self.complaints.len() == before,
         })
     }
 
@@ -141,7 +143,9 @@ impl<'a> Checker<'a> {
         }
         if let (Some(bits), Some(whole)) = (bits, whole) {
             if bits == 0 || bits > whole {
-                let message = format!(in self.alloc; "{bits} bits of a number of {whole}")?;
+                let message = format!(in self.alloc;
+                    "a width of {bits} bits for a type of {whole}"
+                )?;
                 let help = format!(in self.alloc; "write a width from 1 to {whole} bits")?;
                 self.complain(attribute.name.span, message.as_str(), help.as_str())?;
             }
@@ -154,21 +158,23 @@ impl<'a> Checker<'a> {
         let Some(name) = self.foreign_type(kind) else {
             return Ok(());
         };
-        let text = name.text;
-        let (message, help) = match text {
+        let (message, help) = match name.text {
             "f32" | "f64" => (
-                "a floating-point number has no part here",
+                "a floating-point number is not supported",
                 "read its bits as `u32` or `u64`",
             ),
             "String" | "str" => (
-                "a text without its end has no part here",
+                "a text without its end is not supported",
                 "write `CString`, or `Vec<u8>` with `count`",
             ),
-            "char" => ("a character has no part here", "write `u32` or `u8`"),
-            _ => (
-                "a type that is neither in this file nor in its `use` lines",
-                "write it in this file, or a `use` line for it",
-            ),
+            "char" => ("a character is not supported", "write `u32` or `u8`"),
+            _ => {
+                return self.complain_of_name(
+                    name.span,
+                    "a type that is neither in this file nor in its `use` lines",
+                    "write it in this file, or a `use` line for it",
+                );
+            }
         };
         self.complain(name.span, message, help)
     }
@@ -328,7 +334,7 @@ impl<'a> Checker<'a> {
             }
         };
         if let Some(name) = foreign_name(&expression, scope) {
-            self.complain(
+            self.complain_of_name(
                 name.span,
                 "a name that is no field in front of this one, and no constant",
                 "move the field in front, or write its number",
@@ -346,7 +352,7 @@ impl<'a> Checker<'a> {
             self.complain(
                 attribute.name.span,
                 "a padding that is no number",
-                "write how many: a padding that depends on a field has no part here",
+                "write how many: a padding that depends on a field is not supported",
             )?;
             return Ok(None);
         };

@@ -177,7 +177,7 @@ impl<'a> Checker<'a> {
             }
             self.complain(
                 attribute.name.span,
-                "a pattern of ids that has no part here",
+                "a pattern of ids that is not supported",
                 "write a range such as `1..=9`, or `_` for the rest, or a kind for each id",
             )?;
             return Ok(Id::Pattern);

@@ -32,6 +32,8 @@ pub struct Record<'a> {
     pub context: Option<Token<'a>>,
     /// What it holds.
     pub form: Form<'a>,
+    /// Whether nothing was left out of it, since something was wrong with its form.
+    pub is_whole: bool,
 }
 
 /// What a record holds.
@@ -139,6 +141,8 @@ pub struct Field<'a> {
     pub bits: Option<u64>,
     /// What else is said of it, in the order of the description.
     pub attributes: Vec<Attribute<'a>>,
+    /// Whether nothing is wrong with it.
+    pub is_sound: bool,
 }
 
 /// What is said of a field besides its endian, its bit order and a width that is a number.

@@ -76,7 +76,7 @@ const REFUSED: [(&str, &str, &str, &str); 13] = [
         "map",
         "f",
         "a function that turns one value into another may not be undone when it is written",
-        "read the field as it lies, and turn its value in a method",
+        "keep the field as it is read, and convert it in a method",
     ),
     (
         "skip",

@@ -93,7 +93,8 @@ impl<'p, 'c, 'a> Computer<'p, 'c, 'a> {
         }
     }
 
-    fn number(&self, number: u64) -> Result<Computed, Stop> {
+    /// A number.
+    pub fn number(&self, number: u64) -> Result<Computed, Stop> {
         let text = format!(in self.alloc; "{number}")?;
         Ok(Computed {
             code: text.clone()?,
@@ -232,7 +233,7 @@ impl<'p, 'c, 'a> Computer<'p, 'c, 'a> {
             | Operator::Left
             | Operator::Right => self.wrong(
                 span,
-                "an operator on the bits of a number has no part here",
+                "an operator on the bits of a number is not supported",
                 "describe these bits as fields of their own, with `bits`",
             ),
         }

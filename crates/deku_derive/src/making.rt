@@ -3,7 +3,7 @@
 use crate::printing::print;
 use deku_attributes::check;
 use deku_description::parse;
-use deku_tokens::place::told;
+use deku_tokens::place::{Complaint, told};
 use std::alloc::{AllocError, Global};
 
 /// What a run makes of a description.
@@ -15,9 +15,9 @@ pub enum Made {
     Wrong(String),
 }
 
-/// The module of a description, or all that is wrong with it. What its attributes say is checked
-/// once its form is right, and whether its records are plain once that is right too: only a file of
-/// plain records has a module. The name of the file is what complaints and the module call it by.
+/// The module of a description, or all that is wrong with it. A place is complained of once: what is
+/// wrong with the form comes first, then what is wrong with attributes, and then what has no module.
+/// The name of the file is what complaints and the module call it by.
 ///
 /// # Errors
 ///
@@ -28,20 +28,32 @@ pub enum Made {
 /// make(alloc, "point.rs", "struct Point { x: i17 }")?    // wrong: point.rs:1:19: error: ..
 /// ```
 pub fn make(alloc: Global, file: &str, path: Option<&str>, text: &str) -> Result<Made, AllocError> {
-    let (parsed, complaints) = parse(alloc, text)?;
-    if !complaints.is_empty() {
-        return Ok(Made::Wrong(told(alloc, file, text, complaints.as_slice())?));
-    }
-    let (module, mut complaints) = check(alloc, text, parsed)?;
+    let (parsed, mut complaints) = parse(alloc, text)?;
+    let (module, found) = check(alloc, text, parsed, complaints.is_empty())?;
+    add(&mut complaints, found)?;
+    let (printed, found) = print(alloc, file, path, &module)?;
+    add(&mut complaints, found)?;
     if complaints.is_empty() {
-        let (printed, found) = print(alloc, file, path, &module)?;
-        if found.is_empty() {
-            return Ok(Made::Module(printed));
-        }
-        complaints = found;
+        return Ok(Made::Module(printed));
     }
     complaints.sort_by_key(|complaint| complaint.span.start)?;
     Ok(Made::Wrong(told(alloc, file, text, complaints.as_slice())?))
+}
+
+// Adds complaints, but for those of places that were complained of before.
+fn add(complaints: &mut Vec<Complaint>, found: Vec<Complaint>) -> Result<(), AllocError> {
+    let before = complaints.len();
+    for complaint in found {
+        let start = complaint.span.start;
+        let is_new = complaints
+            .iter()
+            .take(before)
+            .all(|it| it.span.start != start);
+        if is_new {
+            complaints.push(complaint)?;
+        }
+    }
+    Ok(())
 }
 
 /// The path of a module in ghost text: of `NAME::MODULE`, or else of a file

@@ -113,17 +113,20 @@ impl<'b, 'a> Printer<'b, 'a> {
 
     fn record(&mut self, record: &Record<'a>, path: Option<&str>) -> Result<(), AllocError> {
         self.declare(record.name)?;
+        if !record.is_whole {
+            return Ok(());
+        }
         if record.context.is_some() {
             self.complain(
                 record.name,
-                "a record that is given values has no part here",
+                "a record that is given values is not supported",
                 "move the fields that need them into the record that has the values",
             )?;
         }
         if !self.records.is_founded(record.name.text) {
             self.complain(
                 record.name,
-                "a record that holds itself has no part here",
+                "a record that holds itself is not supported",
                 "write its traits by hand",
             )?;
         }
@@ -259,15 +262,15 @@ impl<'b, 'a> Printer<'b, 'a> {
     ) -> Result<(), AllocError> {
         let (message, help) = match ids.source {
             IdSource::Context(_) => (
-                "an enum whose id comes from outside has no part here",
+                "an enum whose id comes from outside is not supported",
                 "write `id_type`, and leave the field with the id out",
             ),
             IdSource::Front(_) if ids.bits > 64 => (
-                "an id of more than 64 bits has no part here",
+                "an id of more than 64 bits is not supported",
                 "write an id of at most 64 bits",
             ),
             IdSource::Front(_) if record.magic.is_some() => (
-                "a magic in front of an enum has no part here",
+                "a magic in front of an enum is not supported",
                 "write the magic on the field that holds the enum",
             ),
             IdSource::Front(_) if cases.is_empty() => (
@@ -285,7 +288,7 @@ impl<'b, 'a> Printer<'b, 'a> {
 
     // The field of a kind of several ids that keeps its id.
     fn kept(&mut self, case: &Case<'a>, ids: Ids<'a>) -> Result<Option<String>, AllocError> {
-        if matches!(case.id, Id::Number(_)) {
+        if matches!(case.id, Id::Number(_) | Id::Pattern) {
             return Ok(None);
         }
         if let (Some(field), IdSource::Front(kind)) = (case.fields.first(), ids.source) {

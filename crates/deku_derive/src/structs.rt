@@ -28,7 +28,7 @@ pub(crate) fn derives(
     out.push('\n')?;
     docs(out, record.docs.as_slice(), "///")?;
     if record.docs.is_empty() {
-        writeln!(out, "/// A `{name}`.")?;
+        writeln!(out, "/// The record `{name}`.")?;
     }
     out.push_str(if is_copied {
         "#[derive(Debug, Clone, Copy, PartialEq, Eq)]\n"
@@ -93,7 +93,9 @@ pub(crate) fn implementation(
 ) -> Result<(), AllocError> {
     let alloc = *out.allocator();
     let name = record.name.text;
-    let whole = builder.whole()?;
+    let mut whole = builder.whole()?;
+    let names = std::mem::replace(&mut whole.names, Vec::new(alloc));
+    named(out, name, names)?;
     let is_copied = builder.owner == Owner::Copied;
     let form = if is_copied { "CopyParts" } else { "Codec" };
     writeln!(out, "\nimpl {form} for {name} {{")?;
@@ -103,10 +105,8 @@ pub(crate) fn implementation(
     whole.term.print(out, 4, 3, false)?;
     out.push_str(" };\n\n    ghost record_of = { λ p. ")?;
     record_of(alloc, shape, fields, &whole)?.print(out, 4, 3, false)?;
-    out.push_str(" };\n\n    fn from_parts(")?;
-    taken(out, &whole.pattern)?;
-    made(alloc, record, shape, fields)?.print(out, 8, 0, false)?;
-    out.push_str("\n    }\n\n")?;
+    out.push_str(" };\n\n")?;
+    from_parts(out, record, shape, fields, &whole)?;
     if is_copied {
         out.push_str("    fn parts(&self) -> Self::Parts {\n        ")?;
         whole.value.print(out, 8, 0, false)?;
@@ -117,6 +117,42 @@ pub(crate) fn implementation(
         out.push_str(";\n        parts.to_writer(writer, ())")?;
     }
     out.push_str("\n    }\n\n    ghost there = { λ r. refl };\n}\n")
+}
+
+// Appends the names of a record's parts.
+fn named(out: &mut String, name: &str, names: Vec<Text>) -> Result<(), AllocError> {
+    let count = names.len();
+    writeln!(out, "\nimpl {name} {{")?;
+    out.push_str("    /// The names of its parts, in their order.\n")?;
+    write!(out, "    pub const FIELDS: [&'static str; {count}] = ")?;
+    Text::group(*out.allocator(), Form::Square, "[", names)?.print(out, 4, 1, false)?;
+    out.push_str(";\n}\n")
+}
+
+// How many lines the function that makes a record of its parts has at most, with patterns.
+const LINES: usize = 38;
+
+// Appends the function that makes a record of its parts: by patterns, or by paths if it were long.
+fn from_parts(
+    out: &mut String,
+    record: &Record<'_>,
+    shape: Shape,
+    fields: &[Field<'_>],
+    whole: &Part<'_>,
+) -> Result<(), AllocError> {
+    let alloc = *out.allocator();
+    let mut text = String::from_str(alloc, "    fn from_parts(")?;
+    taken(&mut text, &whole.pattern)?;
+    made(alloc, record, shape, fields, None)?.print(&mut text, 8, 0, false)?;
+    if text.as_str().lines().count() > LINES {
+        text = String::from_str(
+            alloc,
+            "    fn from_parts(parts: Self::Parts) -> Self {\n        ",
+        )?;
+        made(alloc, record, shape, fields, Some(whole))?.print(&mut text, 8, 0, false)?;
+    }
+    out.push_str(text.as_str())?;
+    out.push_str("\n    }\n\n")
 }
 
 // Appends the parameter of the function that takes parts apart, up to its value.
@@ -177,16 +213,21 @@ pub(crate) fn path_of<'p>(whole: &'p Part<'_>, name: &str) -> &'p str {
     ""
 }
 
-// The record made of its fields.
+// The record made of its fields: of locals of their names, or of parts.
 fn made(
     alloc: Global,
     record: &Record<'_>,
     shape: Shape,
     fields: &[Field<'_>],
+    parts: Option<&Part<'_>>,
 ) -> Result<Text, AllocError> {
     let mut items = Vec::new(alloc);
     for (i, field) in fields.iter().enumerate() {
-        items.push(Text::of(field_name(alloc, field, i)?))?;
+        let name = field_name(alloc, field, i)?;
+        items.push(Text::of(match parts {
+            Some(whole) => held(alloc, shape, name.as_str(), whole)?,
+            None => name,
+        }))?;
     }
     let name = record.name.text;
     if shape == Shape::Tuple {
@@ -195,4 +236,13 @@ fn made(
     }
     let open = format!(in alloc; "{name} {{")?;
     Text::group(alloc, Form::Brace, open.as_str(), items)
+}
+
+// A field of the record that is made of its parts.
+fn held(alloc: Global, shape: Shape, name: &str, whole: &Part<'_>) -> Result<String, AllocError> {
+    let path = path_of(whole, name);
+    if shape == Shape::Tuple {
+        return format!(in alloc; "parts{path}");
+    }
+    format!(in alloc; "{name}: parts{path}")
 }

@@ -5,16 +5,24 @@ use std::alloc::{AllocError, Global};
 use std::test::Fail;
 
 // A description, and the lines that begin with the name of its file.
-const ROWS: [(&str, &str); 32] = [
+const ROWS: [(&str, &str); 34] = [
     ("struct A { a: u8", "1:17 expected `}`, found the end"),
     ("struct A { a u8 }", "1:14 expected `:`, found `u8`"),
     ("struct A { a: u8 b: u8 }", "1:18 expected `}`, found `b`"),
     (
-        "struct A { a: , b: u8, 3: u8 }\nimpl A {}\nenum B { #[deku(id 1)] X }",
+        "struct A { a: , b: u8, 3: u8 }\nstrct A {}\nenum B { #[deku(id 1)] X }",
         "1:15 expected a type, found `,`
 1:24 expected the name of a field, found `3`
-2:1 expected `use`, `const`, `struct` or `enum`, found `impl`
+2:1 expected `use`, `const`, `struct` or `enum`, found `strct`
+3:6 an enum that does not say its id
 3:20 expected `)`, found `1`",
+    ),
+    (
+        "struct A { a: , #[deku(bits = 9)] b: u8, c: D, #[deku(count = \"a\")] d: Vec<u8> }
+struct B { #[deku(temp, temp_value = \"1\")] a: u8 }",
+        "1:15 expected a type, found `,`
+1:24 a width of 9 bits for a type of 8
+2:47 a field that the record does not keep is not supported",
     ),
     (
         "struct A<T> { a: T }",
@@ -22,7 +30,7 @@ const ROWS: [(&str, &str); 32] = [
     ),
     (
         "struct A { a: HashMap<u8, u8> }",
-        "1:15 a type of other types that has no part here",
+        "1:15 a type of other types that is not supported",
     ),
     ("struct A { a: [u8] }", "1:18 a list that borrows its items"),
     (
@@ -44,11 +52,18 @@ const ROWS: [(&str, &str); 32] = [
     ),
     (
         "struct A { #[deku(skip)] a: u8 }",
-        "1:19 `skip` has no part here: a field without bits is not read back as it was written",
+        "1:19 `skip` is not supported: a field without bits is not read back as it was written",
     ),
     (
         "struct A { #[deku(bits = 9)] a: u8 }",
-        "1:19 9 bits of a number of 8",
+        "1:19 a width of 9 bits for a type of 8",
+    ),
+    (
+        "struct A { #[deku(bits = 9)] a: u8, #[deku(skip)] b: Vec<u8>, #[deku(bits = \"a\")] c: u8 }",
+        "1:19 a width of 9 bits for a type of 8
+1:44 `skip` is not supported: a field without bits is not read back as it was written
+1:54 a `Vec` that does not say where it ends
+1:86 a width that a field says is not supported",
     ),
     (
         "struct A { #[deku(bits = 4, bytes = 1)] a: u8 }",
@@ -88,10 +103,14 @@ const ROWS: [(&str, &str); 32] = [
     ),
     (
         "struct A { a: f32, b: Other }",
-        "1:15 a floating-point number has no part here
+        "1:15 a floating-point number is not supported
 1:23 a type that is neither in this file nor in its `use` lines",
     ),
-    ("struct A; struct A;", "1:18 a second type of this name"),
+    (
+        "struct A; struct A;",
+        "1:8 a struct without fields has no bits
+1:18 a second type of this name",
+    ),
     (
         "struct A { a: u8, a: u8 }",
         "1:19 a second field, constant or value of this name",
@@ -111,7 +130,7 @@ const ROWS: [(&str, &str); 32] = [
     ),
     (
         "#[deku(id_type = \"u8\")] enum E { #[deku(id_pat = \"1 | 2\")] A(u8) }",
-        "1:41 a pattern of ids that has no part here",
+        "1:41 a pattern of ids that is not supported",
     ),
     (
         "#[deku(id_type = \"u8\")] enum E { #[deku(id_pat = \"2..=6\")] A(u8), #[deku(id = 3)] B }",
@@ -124,7 +143,7 @@ const ROWS: [(&str, &str); 32] = [
 ];
 
 // Descriptions that deku takes and that have no module.
-const UNPRINTED: [(&str, &str); 25] = [
+const UNPRINTED: [(&str, &str); 26] = [
     (
         "#[deku(id_type = \"u8\")] enum E {
          #[deku(id_pat = \"2..=6\")] A, #[deku(id_pat = \"_\")] B }",
@@ -133,25 +152,33 @@ const UNPRINTED: [(&str, &str); 25] = [
     ),
     ("struct A;", "1:8 a struct without fields has no bits"),
     (
+        "const C: u8 = 16; struct A { #[deku(bits = 4, assert_eq = \"17\")] a: u8,
+         #[deku(assert_eq = \"256\")] b: u8, #[deku(bits = 4, assert_eq = \"C\")] c: u8,
+         #[deku(bits = 4, assert_eq = \"15\")] d: u8 }",
+        "1:69 17 does not fit a field of 4 bits
+2:40 256 does not fit a field of 8 bits
+2:82 16 does not fit a field of 4 bits",
+    ),
+    (
         "struct A { #[deku(endian = \"other\")] a: u16 }",
-        "1:41 an endian that another value says has no part here",
+        "1:41 an endian that another value says is not supported",
     ),
     (
         "#[deku(ctx = \"n: u8\")] struct A { a: u8 }",
-        "1:31 a record that is given values has no part here",
+        "1:31 a record that is given values is not supported",
     ),
     (
         "struct A { next: Box<A> }",
-        "1:8 a record that holds itself has no part here",
+        "1:8 a record that holds itself is not supported",
     ),
     (
         "#[deku(id_type = \"u8\", magic = b\"A\")] enum E { #[deku(id = 1)] A }",
-        "1:44 a magic in front of an enum has no part here",
+        "1:44 a magic in front of an enum is not supported",
     ),
     (
         "#[deku(id_type = \"u8\")] enum E {
          #[deku(id = 1)] A { n: u8, #[deku(count = \"n\")] v: Vec<u8> } }",
-        "2:61 memory in a kind of an enum has no part here",
+        "2:61 memory in a kind of an enum is not supported",
     ),
     (
         "struct A { #[deku(count = \"3\")] v: Vec<u8> }",
@@ -159,7 +186,7 @@ const UNPRINTED: [(&str, &str); 25] = [
     ),
     (
         "struct A { n: u8, #[deku(count = \"n & 3\")] v: Vec<u8> }",
-        "1:39 an operator on the bits of a number has no part here",
+        "1:39 an operator on the bits of a number is not supported",
     ),
     (
         "struct A { n: u64, #[deku(count = \"n * 2\")] v: Vec<u8> }",
@@ -186,37 +213,36 @@ const UNPRINTED: [(&str, &str); 25] = [
         "1:41 a type that does not hold the number",
     ),
     (
-        "struct A { n: u8, #[deku(bytes_read = \"n\")] v: Vec<u8> }",
-        "1:48 a list that ends after so many bits or bytes has no part here",
+        "struct A { n: u8, #[deku(bytes_read = \"n == 1\")] v: Vec<u8> }",
+        "1:53 a count that is no number",
     ),
     (
         "struct A { #[deku(until = \"|v: &u8| *v == 0\")] v: Vec<u8> }",
-        "1:51 a list that ends with an item of its own has no part here",
+        "1:51 a list that ends with an item of its own is not supported",
     ),
     (
-        "struct A { #[deku(read_all)] v: Vec<u8> }",
-        "1:33 a list up to the end of the input has no part here",
+        "struct A { #[deku(read_all)] v: Vec<u8>, w: u8 }",
+        "1:45 a field after a list up to the end of the input",
     ),
     (
         "struct A { #[deku(temp, temp_value = \"1\")] n: u8 }",
-        "1:47 a field that the record does not keep has no part here",
+        "1:47 a field that the record does not keep is not supported",
     ),
     (
         "struct A { n: u8, #[deku(bits = \"n\")] v: u8 }",
-        "1:42 a width that a field says has no part here",
+        "1:42 a width that a field says is not supported",
     ),
     (
         "#[deku(magic = b\"123456789\")] struct A { n: u8 }",
         "1:38 a magic of no bytes, or of more than 8",
     ),
     (
-        "struct A { m: u8, n: u8,
-         #[deku(count = \"m\")] v: Vec<u8>, #[deku(count = \"n\")] w: Vec<u8> }",
-        "2:67 a list that a field in front of another list counts has no part here",
+        "struct A { #[deku(read_all)] v: Vec<u8> } struct B { a: A }",
+        "1:57 a record up to the end of the input in another one is not supported",
     ),
     (
         "struct A { v: [Option<u8>; 2] }",
-        "1:15 an option in another type has no part here",
+        "1:15 an option in another type is not supported",
     ),
     (
         "struct A { parts: u8, a: u16, A: u8 }",

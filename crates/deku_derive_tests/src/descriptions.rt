@@ -77,7 +77,7 @@ fn said_of(alloc: Global, text: &str) -> Result<String, AllocError> {
     if !complaints.is_empty() {
         return told(alloc, "a.rs", text, complaints.as_slice());
     }
-    let (_, complaints) = check(alloc, text, file)?;
+    let (_, complaints) = check(alloc, text, file, true)?;
     told(alloc, "a.rs", text, complaints.as_slice())
 }
 

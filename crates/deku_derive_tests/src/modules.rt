@@ -25,7 +25,7 @@ ghost use Rattle.deku_symmetry.specs.Fields.{be, msb};
 
 use deku_symmetry::{Be, CopyParts, Msb};
 
-/// A `Udp`.
+/// The record `Udp`.
 #[derive(Debug, Clone, Copy, PartialEq, Eq)]
 pub struct Udp {
     pub source: u16,
@@ -33,6 +33,11 @@ pub struct Udp {
     pub kind: u8,
     pub flags: u8,
     pub tail: [u8; 2],
+}
+
+impl Udp {
+    /// The names of its parts, in their order.
+    pub const FIELDS: [&'static str; 5] = [\"source\", \"destination\", \"kind\", \"flags\", \"tail\"];
 }
 
 impl CopyParts for Udp {
@@ -97,11 +102,16 @@ ghost use Rattle.deku_symmetry.specs.Fields.{be, coded, le, lsb, msb_le};
 use deku_symmetry::{Be, Coded, CopyParts, Le, Lsb, MsbLe};
 use std::net::Ipv4Addr;
 
-/// A `Pair`.
+/// The record `Pair`.
 #[derive(Debug, Clone, Copy, PartialEq, Eq)]
 pub struct Pair {
     pub low: u8,
     pub data: u16,
+}
+
+impl Pair {
+    /// The names of its parts, in their order.
+    pub const FIELDS: [&'static str; 2] = [\"low\", \"data\"];
 }
 
 impl CopyParts for Pair {
@@ -131,6 +141,11 @@ pub struct Host {
     pub up: bool,
     pub cost: u32,
     pub port: u16,
+}
+
+impl Host {
+    /// The names of its parts, in their order.
+    pub const FIELDS: [&'static str; 5] = [\"pair\", \"address\", \"up\", \"cost\", \"port\"];
 }
 
 impl CopyParts for Host {

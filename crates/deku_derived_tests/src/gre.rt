@@ -38,7 +38,7 @@ impl<const N: usize> ConstantLaw<Msb<u64, N>> for Zeros {
     ghost alike = { λ v e. rw e refl };
 }
 
-/// A `Gre`.
+/// The record `Gre`.
 #[derive(Debug, PartialEq, Eq, Drop)]
 pub struct Gre {
     pub has_checksum: bool,
@@ -131,6 +131,22 @@ impl<'a> Condition<GreSequenceLent<'a>> for GreSequenceCondition {
 
 impl ConditionLaw<GreSequenceHead> for GreSequenceCondition {
     ghost alike = { λ v w e. rw e.0.0.1.1.1.0 refl };
+}
+
+impl Gre {
+    /// The names of its parts, in their order.
+    pub const FIELDS: [&'static str; 10] = [
+        "has_checksum",
+        "padding",
+        "has_key",
+        "has_sequence",
+        "padding",
+        "version",
+        "protocol",
+        "checksum",
+        "key",
+        "sequence",
+    ];
 }
 
 impl Codec for Gre {

@@ -3,7 +3,10 @@
 
 #[cfg(test)]
 mod bytes;
+pub mod frame;
 pub mod gre;
 pub mod ntp;
+#[cfg(test)]
+mod places;
 pub mod shape;
 pub mod tcp;

@@ -7,7 +7,7 @@ ghost use Rattle.deku_symmetry.specs.Fields.{be, msb};
 
 use deku_symmetry::{Be, CopyParts, Msb};
 
-/// A `Ntp`.
+/// The record `Ntp`.
 #[derive(Debug, Clone, Copy, PartialEq, Eq)]
 pub struct Ntp {
     pub leap: u8,
@@ -23,6 +23,25 @@ pub struct Ntp {
     pub origin: u64,
     pub receive: u64,
     pub transmit: u64,
+}
+
+impl Ntp {
+    /// The names of its parts, in their order.
+    pub const FIELDS: [&'static str; 13] = [
+        "leap",
+        "version",
+        "mode",
+        "stratum",
+        "poll",
+        "precision",
+        "root_delay",
+        "root_dispersion",
+        "reference_id",
+        "reference",
+        "origin",
+        "receive",
+        "transmit",
+    ];
 }
 
 impl CopyParts for Ntp {

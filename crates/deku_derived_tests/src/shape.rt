@@ -9,7 +9,7 @@ ghost use Rattle.deku_derived_tests.specs.declared.shape.Shape.TheVariants as sh
 
 use deku_symmetry::{Be, CopyParts, Either, Enum, InRange, Kind, Msb, MsbEnum, Otherwise};
 
-/// A `Shape`.
+/// The record `Shape`.
 #[derive(Debug, Clone, Copy, PartialEq, Eq)]
 pub enum Shape {
     /// Id 1.

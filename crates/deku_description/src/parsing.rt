@@ -253,6 +253,7 @@ impl<'a> Parser<'a> {
     }
 
     fn structure(&mut self, head: Head<'a>) -> Result<Record<'a>, Stop> {
+        let before = self.complaints.len();
         let name = self.record_name()?;
         let fields = self.fields()?;
         if fields.shape != Shape::Named {
@@ -262,10 +263,12 @@ impl<'a> Parser<'a> {
             head,
             name,
             body: Body::Fields(fields),
+            is_whole: self.complaints.len() == before,
         })
     }
 
     fn enumeration(&mut self, head: Head<'a>) -> Result<Record<'a>, Stop> {
+        let before = self.complaints.len();
         let name = self.record_name()?;
         self.cursor.mark("{")?;
         let mut kinds = Vec::new(self.cursor.alloc());
@@ -287,6 +290,7 @@ impl<'a> Parser<'a> {
             head,
             name,
             body: Body::Kinds(kinds),
+            is_whole: self.complaints.len() == before,
         })
     }
 
@@ -472,7 +476,7 @@ impl<'a> Parser<'a> {
         if !(name.is_name("Vec") || name.is_name("Option") || name.is_name("Box")) {
             return self.cursor.wrong(
                 name.span,
-                "a type of other types that has no part here",
+                "a type of other types that is not supported",
                 "write `Vec`, `Option`, `Box`, or a record of its own",
             );
         }

@@ -65,6 +65,8 @@ pub struct Record<'a> {
     pub name: Token<'a>,
     /// What it holds.
     pub body: Body<'a>,
+    /// Whether nothing was left out of it.
+    pub is_whole: bool,
 }
 
 /// What a record holds.

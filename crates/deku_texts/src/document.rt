@@ -5,6 +5,9 @@ use std::alloc::{AllocError, Global};
 // The columns of a line.
 const WIDTH: usize = 100;
 
+// Items of an array that have at most as many share lines.
+const PACKED: usize = 10;
+
 /// A word, which stays on one line, or items in brackets.
 #[derive(Drop)]
 pub struct Text {
@@ -23,6 +26,8 @@ pub enum Form {
     Round,
     /// The same in a pattern.
     Pattern,
+    /// `[a, b]`
+    Square,
     /// `Name<A, B>`
     Angle,
     /// `Name { a, b }`
@@ -40,6 +45,7 @@ impl Form {
         match self {
             Form::Word => "",
             Form::Round | Form::Pattern | Form::GhostRound => ")",
+            Form::Square => "]",
             Form::Angle => ">",
             Form::Brace | Form::Variant | Form::GhostBrace => "}",
         }
@@ -59,7 +65,7 @@ impl Form {
     // The columns of the items, if they are on one line.
     fn room(self) -> usize {
         match self {
-            Form::Round => 60,
+            Form::Round | Form::Square => 60,
             Form::Brace => 18,
             Form::Variant => 35,
             _ => WIDTH,
@@ -175,6 +181,9 @@ impl Text {
             return self.line(out);
         }
         out.push_str(self.open.as_str())?;
+        if self.form == Form::Square && self.items.iter().all(|it| it.columns() <= PACKED) {
+            return self.pack(out, indent);
+        }
         let is_call = self.is_call();
         let inside = indent.saturating_add(self.form.step());
         for item in &self.items {
@@ -193,6 +202,23 @@ impl Text {
         if !is_call {
             start(out, indent)?;
         }
+        out.push_str(self.form.close())
+    }
+
+    // Appends its items, as many on a line as have room, and its end.
+    fn pack(&self, out: &mut String, indent: usize) -> Result<(), AllocError> {
+        let inside = indent.saturating_add(self.form.step());
+        for (i, item) in self.items.iter().enumerate() {
+            let end = column(out.as_str()).saturating_add(item.columns());
+            if i == 0 || end > WIDTH - 2 {
+                start(out, inside)?;
+            } else {
+                out.push(' ')?;
+            }
+            item.line(out)?;
+            out.push_str(self.form.separator())?;
+        }
+        start(out, indent)?;
         out.push_str(self.form.close())
     }
 

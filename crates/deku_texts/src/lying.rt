@@ -61,6 +61,27 @@ pub fn number(order: Order, bits: Option<u64>, whole: u64, is_big: bool) -> Wrap
     Wrapping { around, bits }
 }
 
+/// How many parts a field is that no other field has to do with: those of a tuple are counted one by
+/// one.
+pub fn count_of(field: &Field<'_>) -> usize {
+    if lying(field).around.is_empty() {
+        items_of(&field.kind)
+    } else {
+        1
+    }
+}
+
+fn items_of(kind: &Type<'_>) -> usize {
+    let Type::Tuple(parts) = kind else {
+        return 1;
+    };
+    let mut count = 0usize;
+    for part in parts {
+        count = count.saturating_add(items_of(part));
+    }
+    count
+}
+
 /// Whether a type is made of numbers, truth values and addresses alone.
 pub fn is_of_numbers(kind: &Type<'_>) -> bool {
     match kind {

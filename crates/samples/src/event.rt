@@ -9,7 +9,7 @@ ghost use Rattle.samples.specs.declared.event.Event.TheVariants as event_kinds;
 
 use deku_symmetry::{Be, CopyParts, Either, Enum, InRange, Kind, MsbEnum, Otherwise};
 
-/// A `Event`.
+/// The record `Event`.
 #[derive(Debug, Clone, Copy, PartialEq, Eq)]
 pub enum Event {
     /// Id 1.

@@ -7,12 +7,17 @@ ghost use Rattle.deku_symmetry.specs.Fields.{be, msb};
 
 use deku_symmetry::{Be, CopyParts, Msb};
 
-/// A `Sample`.
+/// The record `Sample`.
 #[derive(Debug, Clone, Copy, PartialEq, Eq)]
 pub struct Sample {
     pub sensor: u8,
     pub state: u8,
     pub value: u16,
+}
+
+impl Sample {
+    /// The names of its parts, in their order.
+    pub const FIELDS: [&'static str; 3] = ["sensor", "state", "value"];
 }
 
 impl CopyParts for Sample {

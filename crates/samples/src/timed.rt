@@ -10,7 +10,7 @@ use deku::prelude::{DekuError, DekuWriter, Writer};
 use deku_symmetry::{Be, Codec, Condition, ConditionLaw, Msb, Optional, OptionalRef};
 use std::marker::PhantomData;
 
-/// A `Timed`.
+/// The record `Timed`.
 #[derive(Debug, PartialEq, Eq, Drop)]
 pub struct Timed {
     pub sensor: u8,
@@ -35,6 +35,11 @@ impl Condition<TimedTimeHead> for TimedTimeCondition {
 
 impl ConditionLaw<TimedTimeHead> for TimedTimeCondition {
     ghost alike = { λ v w e. rw e.0 refl };
+}
+
+impl Timed {
+    /// The names of its parts, in their order.
+    pub const FIELDS: [&'static str; 4] = ["sensor", "has_time", "value", "time"];
 }
 
 impl Codec for Timed {

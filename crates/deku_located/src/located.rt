@@ -1,0 +1,68 @@
+//! Records from bytes, with errors that name a field.
+
+ghost use Rattle.std.specs.Prelude.{◌≡◌, length, IfErr};
+ghost use Rattle.deku.specs.Composing.{Then};
+ghost use Rattle.deku.specs.Shapes.{Shows};
+ghost use Rattle.deku_pieces.specs.Packs.{Unpacks, UnpacksBack, TakesIts};
+ghost use Rattle.deku_located.specs.Locating.{IsLocated, unplaced};
+
+use crate::steps::{Place, Steps};
+use deku::DekuError;
+use deku::reader::Reader;
+use deku_symmetry::{Codec, Symmetric};
+use std::alloc::Global;
+use std::io::Cursor;
+use thiserror::Error;
+
+/// Why a record was refused, and where.
+#[derive(Debug, Clone, Copy, PartialEq, Eq, Error)]
+#[error("{error}, in {field}, at bit {bit}")]
+pub struct Located {
+    /// The error.
+    pub error: DekuError,
+    /// The name of the part that was refused.
+    pub field: &'static str,
+    /// The bit where that part begins.
+    pub bit: usize,
+}
+
+/// Reads a record from the first byte on, as `unpack` does. Returns the number of bits read, and
+/// the record. An error has the name of the part that was refused, and the bit where it begins.
+///
+/// `names` are the names of all parts in their order, such as the constant `FIELDS` that `derive`
+/// prints. A field that is a record has one name.
+///
+/// The caller's conditions: the parts may be read, and there are as many names as parts.
+///
+/// ```text
+/// unpack_located::<Sample>(alloc, &[0x69, 0xC0], &Sample::FIELDS)?
+/// // Not enough data, need 16 bits (or 2 bytes), in value, at bit 8
+/// ```
+pub fn unpack_located<E: Codec>(
+    alloc: Global,
+    bytes: &[u8],
+    names: &[&'static str],
+) -> Result<(usize, E), Located>
+where
+    E::Parts: Steps + Symmetric<()>,
+    requires accepted { E.Parts.Steps.DekuReader.accepts tt }
+    requires named { length names.now ≡ E.Parts.Steps.steps }
+    ensures meaning { Unpacks (Then (E.Parts.Steps.DekuReader.meaning tt) (Shows E.parts_of))
+        bytes.now (unplaced result) }
+    ensures back { UnpacksBack (λ v. E.Parts.Symmetric.pieces (E.parts_of v) tt)
+        (λ v w. E.Parts.Symmetric.same (E.parts_of v) (E.parts_of w)) bytes.now (unplaced result) }
+    ensures taken { TakesIts (λ v. E.Parts.Symmetric.pieces (E.parts_of v) tt) bytes.now
+        (unplaced result) }
+    ensures located { IfErr result (IsLocated E.Parts.Steps.placed names.now bytes.now) }
+{
+    let mut reader = Reader::new(alloc, Cursor::new(bytes));
+    let mut place = Place { parts: 0, bit: 0 };
+    match E::Parts::read_steps(&mut reader, &mut place) {
+        Ok(parts) => Ok((reader.bits_read(), E::from_parts(parts))),
+        Err(error) => Err(Located {
+            error,
+            field: names[place.parts],
+            bit: place.bit,
+        }),
+    }
+}
