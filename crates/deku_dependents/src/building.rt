@@ -2,14 +2,14 @@
 
 use crate::computing::{Computed, Computer};
 use crate::marker;
-use crate::marker::Marker;
+use crate::marker::{Amount, Marker};
 use deku_attributes::model::{Attribute, Endian, Field, Order};
 use deku_attributes::reading::bits_of;
 use deku_description::syntax::{Constant, Expression, Operator, Type};
 use deku_texts::document::Text;
 use deku_texts::lying::{item, number_kind};
 use deku_texts::part::{
-    Dependent, Named, Owner, Part, Place, asserted, constant, following, leaf, tuple,
+    Dependent, Named, Owner, Part, Place, asserted, constant, following, leaf, rest, tuple,
 };
 use deku_texts::records::Records;
 use deku_texts::refusal::Stop;
@@ -33,6 +33,8 @@ pub struct Builder<'b, 'a> {
     /// Their names.
     pub names: Vec<String>,
     pub complaints: Vec<Complaint>,
+    // Whether its last part takes the rest of the input.
+    is_ended: bool,
 }
 
 // What is said of one field.
@@ -40,6 +42,9 @@ pub struct Builder<'b, 'a> {
 struct Said<'f, 'a> {
     magic: Option<&'f Vec<u8>>,
     count: Option<&'f Expression<'a>>,
+    // How much the field takes, and how many bits each of it is.
+    size: Option<(&'f Expression<'a>, u64)>,
+    is_rest: bool,
     cond: Option<&'f Expression<'a>>,
     assert: Option<&'f Expression<'a>>,
     equal: Option<&'f Expression<'a>>,
@@ -65,6 +70,7 @@ impl<'b, 'a> Builder<'b, 'a> {
             markers: String::new(alloc),
             names: Vec::new(alloc),
             complaints: Vec::new(alloc),
+            is_ended: false,
         })
     }
 
@@ -128,6 +134,13 @@ impl<'b, 'a> Builder<'b, 'a> {
     fn field(&mut self, field: &Field<'a>, called: Named<'_>) -> Result<(), Stop> {
         let name = called.name;
         self.named(field, name)?;
+        if self.is_ended {
+            return self.wrong(
+                field.span,
+                "a field after a list up to the end of the input",
+                "write the list last",
+            );
+        }
         let said = self.said(field)?;
         self.fits(field, &said)?;
         self.padding(said.before, field.layout.order)?;
@@ -136,10 +149,21 @@ impl<'b, 'a> Builder<'b, 'a> {
             let named = words::marker(self.alloc, self.front.as_str(), name, "Magic")?;
             self.magic(bytes, named, what.as_str(), field.layout.order, field.span)?;
         }
-        match (said.count, said.cond) {
-            (Some(count), _) => self.after_head(field, called, count, Dependent::Counted)?,
-            (None, Some(cond)) => self.after_head(field, called, cond, Dependent::Optional)?,
-            (None, None) => self.leaf(field, called)?,
+        match (said.count, said.size, said.cond) {
+            (Some(count), _, _) => self.after_head(field, called, count, Dependent::Counted, 1)?,
+            (_, Some((size, unit)), _) => {
+                self.after_head(field, called, size, Dependent::Filled, unit)?;
+            }
+            (_, _, Some(cond)) => self.after_head(field, called, cond, Dependent::Optional, 1)?,
+            (None, None, None) if said.is_rest => self.rest(field, called)?,
+            (None, None, None) => self.leaf(field, called)?,
+        }
+        if self.is_ended && said.after > 0 {
+            return self.wrong(
+                field.span,
+                "padding after a list up to the end of the input",
+                "leave it out",
+            );
         }
         if let Some(expression) = said.assert {
             self.assert(field, name, expression, false)?;
@@ -176,6 +200,8 @@ impl<'b, 'a> Builder<'b, 'a> {
         let mut said = Said {
             magic: None,
             count: None,
+            size: None,
+            is_rest: false,
             cond: None,
             assert: None,
             equal: None,
@@ -186,6 +212,9 @@ impl<'b, 'a> Builder<'b, 'a> {
             match attribute {
                 Attribute::Magic(bytes) => said.magic = Some(bytes),
                 Attribute::Count(expression) => said.count = Some(expression),
+                Attribute::BitsRead(expression) => said.size = Some((expression, 1)),
+                Attribute::BytesRead(expression) => said.size = Some((expression, 8)),
+                Attribute::ReadAll => said.is_rest = true,
                 Attribute::Cond(expression) => said.cond = Some(expression),
                 Attribute::Assert(expression) => said.assert = Some(expression),
                 Attribute::AssertEq(expression) => said.equal = Some(expression),
@@ -209,7 +238,10 @@ impl<'b, 'a> Builder<'b, 'a> {
                 "write a record for each endian",
             );
         }
-        let is_dependent = said.count.is_some() || said.cond.is_some();
+        let is_dependent = said.count.is_some()
+            || said.size.is_some()
+            || said.cond.is_some()
+            || said.is_rest;
         let is_checked = said.assert.is_some() || said.equal.is_some();
         if is_dependent && is_checked {
             return self.wrong(
@@ -232,6 +264,16 @@ impl<'b, 'a> Builder<'b, 'a> {
         self.has_part(field, held)
     }
 
+    // A list up to the end of the input.
+    fn rest(&mut self, field: &Field<'a>, called: Named<'_>) -> Result<(), Stop> {
+        let held = held_kind(self.alloc, field)?;
+        let front = std::mem::replace(&mut self.items, Vec::new(self.alloc));
+        self.items
+            .push(rest(self.alloc, front, called, held.as_str())?)?;
+        self.is_ended = true;
+        Ok(())
+    }
+
     // Complains of a type that has no part.
     fn has_part(&self, field: &Field<'a>, kind: &Type<'a>) -> Result<(), Stop> {
         if let Some(word) = partless(kind, field) {
@@ -242,7 +284,30 @@ impl<'b, 'a> Builder<'b, 'a> {
                 "write a record of its own for it",
             );
         }
+        if self.is_open(kind) {
+            return self.wrong(
+                field.span,
+                "a record up to the end of the input in another one is not supported",
+                "move its fields into this record",
+            );
+        }
         Ok(())
+    }
+
+    // Whether a type has a record that takes the rest of the input.
+    fn is_open(&self, kind: &Type<'a>) -> bool {
+        match kind {
+            Type::Name(name) => self.records.is_open(name.text),
+            Type::Of(_, item) | Type::Array(item, _) => self.is_open(item),
+            Type::Tuple(parts) => {
+                for part in parts {
+                    if self.is_open(part) {
+                        return true;
+                    }
+                }
+                false
+            }
+        }
     }
 
     // Zeros of so many bits.
@@ -387,7 +452,6 @@ impl<'b, 'a> Builder<'b, 'a> {
         &mut self,
         field: &Field<'a>,
         expression: &Expression<'a>,
-        is_count: bool,
     ) -> Result<Part<'a>, Stop> {
         if self.items.is_empty() {
             return self.wrong(
@@ -396,29 +460,26 @@ impl<'b, 'a> Builder<'b, 'a> {
                 "write an array, or the type itself",
             );
         }
-        let head = self.head(expression, false)?;
-        if is_count && head.is_lent {
-            return self.wrong(
-                field.span,
-                "a list that a field in front of another list counts is not supported",
-                "move the field after the other list",
-            );
-        }
-        Ok(head)
+        Ok(self.head(expression, false)?)
     }
 
-    // A list that the fields in front count, or an item that they show.
+    // A list that the fields in front count, or say the size of, in units of so many bits; or an item
+    // that they show.
     fn after_head(
         &mut self,
         field: &Field<'a>,
         called: Named<'_>,
         expression: &Expression<'a>,
         form: Dependent,
+        unit: u64,
     ) -> Result<(), Stop> {
         let name = called.name;
-        let is_count = form == Dependent::Counted;
-        let mut head = self.head_of(field, expression, is_count)?;
-        let word = if is_count { "Count" } else { "Condition" };
+        let mut head = self.head_of(field, expression)?;
+        let word = match form {
+            Dependent::Counted => "Count",
+            Dependent::Filled => "Size",
+            Dependent::Optional => "Condition",
+        };
         let named = words::marker(self.alloc, self.front.as_str(), name, word)?;
         let (parts, lent) = self.aliases(&mut head, name)?;
         let owned = String::from_str(self.alloc, name)?;
@@ -428,10 +489,12 @@ impl<'b, 'a> Builder<'b, 'a> {
             lent: lent.as_deref(),
             field: owned.as_str(),
         };
-        if is_count {
-            self.counts(head.places.as_slice(), marker, expression, field.span)?;
-        } else {
-            self.shows(head.places.as_slice(), marker, expression, field.span)?;
+        let places = head.places.as_slice();
+        match form {
+            Dependent::Optional => self.shows(places, marker, expression, field.span)?,
+            Dependent::Counted | Dependent::Filled => {
+                self.counts(places, marker, expression, field.span, (form, unit))?;
+            }
         }
         let held = held_kind(self.alloc, field)?;
         let part = following(
@@ -446,20 +509,29 @@ impl<'b, 'a> Builder<'b, 'a> {
         Ok(())
     }
 
-    // Appends the type of a count.
+    // Appends the type of a count, or of a size in units of so many bits.
     fn counts(
         &mut self,
         places: &[Place<'a>],
         marker: Marker<'_>,
         expression: &Expression<'a>,
         span: Span,
+        (form, unit): (Dependent, u64),
     ) -> Result<(), Stop> {
         let mut computer = Computer::new(self.alloc, places, self.constants);
-        let computed = computer.value(expression)?;
+        let mut computed = computer.value(expression)?;
         if !computed.is_number() {
             return self.wrong(span, "a count that is no number", "write a number");
         }
-        marker::count(&mut self.markers, marker, &computer, &computed)
+        if unit > 1 {
+            let unit = computer.number(unit)?;
+            computed = computer.both(Operator::Times, computed, unit, span)?;
+        }
+        let amount = match form {
+            Dependent::Filled => Amount::Bits,
+            Dependent::Counted | Dependent::Optional => Amount::Items,
+        };
+        marker::count(&mut self.markers, amount, marker, &computer, &computed)
     }
 
     // Appends the type of a condition.
@@ -663,17 +735,9 @@ fn refused(attribute: &Attribute<'_>) -> (&'static str, &'static str) {
             "values that are given to a field are not supported",
             "move the fields that need them into this record",
         ),
-        Attribute::BitsRead(_) | Attribute::BytesRead(_) => (
-            "a list that ends after so many bits or bytes is not supported",
-            "write `count`, which for `Vec<u8>` is the number of bytes",
-        ),
         Attribute::Until(_) => (
             "a list that ends with an item of its own is not supported",
             "write `CString` for a text, or `count`",
-        ),
-        Attribute::ReadAll => (
-            "a list up to the end of the input is not supported",
-            "write `count`",
         ),
         _ => (
             "a field that the record does not keep is not supported",

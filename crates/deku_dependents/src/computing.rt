@@ -93,7 +93,8 @@ impl<'p, 'c, 'a> Computer<'p, 'c, 'a> {
         }
     }
 
-    fn number(&self, number: u64) -> Result<Computed, Stop> {
+    /// A number.
+    pub fn number(&self, number: u64) -> Result<Computed, Stop> {
         let text = format!(in self.alloc; "{number}")?;
         Ok(Computed {
             code: text.clone()?,

@@ -31,32 +31,72 @@ impl<'m> Marker<'m> {
     }
 }
 
-/// Appends the type of a count: how many items of a field follow the parts.
+/// What a type says a number of.
+#[derive(Clone, Copy, PartialEq, Eq)]
+pub enum Amount {
+    /// The items of a field.
+    Items,
+    /// Its bits.
+    Bits,
+}
+
+impl Amount {
+    // The trait, and that of its law.
+    fn traits(self) -> (&'static str, &'static str) {
+        match self {
+            Amount::Items => ("CountOf", "CountOfLaw"),
+            Amount::Bits => ("SizeOf", "SizeOfLaw"),
+        }
+    }
+
+    // The function.
+    fn call(self) -> &'static str {
+        match self {
+            Amount::Items => "count",
+            Amount::Bits => "size",
+        }
+    }
+
+    // The words of its comment.
+    fn words(self) -> (&'static str, &'static str) {
+        match self {
+            Amount::Items => ("How many", "there are"),
+            Amount::Bits => ("How many bits", "takes"),
+        }
+    }
+}
+
+/// Appends the type of a count or of a size: how many items of a field follow the parts, or how many
+/// bits.
 pub fn count(
     out: &mut String,
+    amount: Amount,
     marker: Marker<'_>,
     computer: &Computer<'_, '_, '_>,
     computed: &Computed,
 ) -> Result<(), Stop> {
-    declared(out, marker, "How many", "there are", computed.code.as_str())?;
-    count_of(out, marker, computer, computed)?;
+    let (what, then) = amount.words();
+    declared(out, marker, what, then, computed.code.as_str())?;
+    count_of(out, amount, marker, computer, computed)?;
     if let Some(lent) = marker.of_lent() {
-        count_of(out, lent, computer, computed)?;
+        count_of(out, amount, lent, computer, computed)?;
     }
-    alike(out, "CountOfLaw", marker, computer)
+    alike(out, amount.traits().1, marker, computer)
 }
 
-// Appends how many items follow the parts.
+// Appends how many items or bits follow the parts.
 fn count_of(
     out: &mut String,
+    amount: Amount,
     marker: Marker<'_>,
     computer: &Computer<'_, '_, '_>,
     computed: &Computed,
 ) -> Result<(), Stop> {
     let parts = marker.parts;
     let code = computed.code.as_str();
-    implemented(out, "CountOf", marker)?;
-    out.push_str("    ghost count_of = { λ p. ")?;
+    let call = amount.call();
+    implemented(out, amount.traits().0, marker)?;
+    write!(out, "    ghost {call}_of = {{ λ p. ")?;
     for (term, _) in &computer.guards {
         let term = term.as_str();
         write!(out, "if {term} then None else ")?;
@@ -70,7 +110,7 @@ fn count_of(
     }
     write!(
         out,
-        " }};\n\n    fn count(parts: &{parts}) -> Option<usize> {{\n"
+        " }};\n\n    fn {call}(parts: &{parts}) -> Option<usize> {{\n"
     )?;
     locals(out, computer, true)?;
     for (_, guard) in &computer.guards {

@@ -6,9 +6,10 @@ use std::alloc::{AllocError, Global};
 use std::fmt::Write as _;
 
 // The names of deku_symmetry, in the order in which `rt fmt` has them.
-const PARTS: [&str; 34] = [
+const PARTS: [&str; 40] = [
     "Assert",
     "Be",
+    "Before",
     "Check",
     "CheckLaw",
     "Codec",
@@ -25,6 +26,7 @@ const PARTS: [&str; 34] = [
     "CountedByRef",
     "Either",
     "Enum",
+    "FilledBy",
     "InRange",
     "Kind",
     "Le",
@@ -40,6 +42,10 @@ const PARTS: [&str; 34] = [
     "Optional",
     "OptionalRef",
     "Otherwise",
+    "Rest",
+    "SizeOf",
+    "SizeOfLaw",
+    "SizedBy",
     "Symmetric",
 ];
 

@@ -10,19 +10,19 @@ const ROWS: [(&str, &str); 34] = [
     ("struct A { a u8 }", "1:14 expected `:`, found `u8`"),
     ("struct A { a: u8 b: u8 }", "1:18 expected `}`, found `b`"),
     (
-        "struct A { a: , b: u8, 3: u8 }\nimpl A {}\nenum B { #[deku(id 1)] X }",
+        "struct A { a: , b: u8, 3: u8 }\nstrct A {}\nenum B { #[deku(id 1)] X }",
         "1:15 expected a type, found `,`
 1:24 expected the name of a field, found `3`
-2:1 expected `use`, `const`, `struct` or `enum`, found `impl`
+2:1 expected `use`, `const`, `struct` or `enum`, found `strct`
 3:6 an enum that does not say its id
 3:20 expected `)`, found `1`",
     ),
     (
         "struct A { a: , #[deku(bits = 9)] b: u8, c: D, #[deku(count = \"a\")] d: Vec<u8> }
-struct B { #[deku(read_all)] a: Vec<u8> }",
+struct B { #[deku(temp, temp_value = \"1\")] a: u8 }",
         "1:15 expected a type, found `,`
 1:24 a width of 9 bits for a type of 8
-2:33 a list up to the end of the input is not supported",
+2:47 a field that the record does not keep is not supported",
     ),
     (
         "struct A<T> { a: T }",
@@ -213,16 +213,16 @@ const UNPRINTED: [(&str, &str); 26] = [
         "1:41 a type that does not hold the number",
     ),
     (
-        "struct A { n: u8, #[deku(bytes_read = \"n\")] v: Vec<u8> }",
-        "1:48 a list that ends after so many bits or bytes is not supported",
+        "struct A { n: u8, #[deku(bytes_read = \"n == 1\")] v: Vec<u8> }",
+        "1:53 a count that is no number",
     ),
     (
         "struct A { #[deku(until = \"|v: &u8| *v == 0\")] v: Vec<u8> }",
         "1:51 a list that ends with an item of its own is not supported",
     ),
     (
-        "struct A { #[deku(read_all)] v: Vec<u8> }",
-        "1:33 a list up to the end of the input is not supported",
+        "struct A { #[deku(read_all)] v: Vec<u8>, w: u8 }",
+        "1:45 a field after a list up to the end of the input",
     ),
     (
         "struct A { #[deku(temp, temp_value = \"1\")] n: u8 }",
@@ -237,9 +237,8 @@ const UNPRINTED: [(&str, &str); 26] = [
         "1:38 a magic of no bytes, or of more than 8",
     ),
     (
-        "struct A { m: u8, n: u8,
-         #[deku(count = \"m\")] v: Vec<u8>, #[deku(count = \"n\")] w: Vec<u8> }",
-        "2:67 a list that a field in front of another list counts is not supported",
+        "struct A { #[deku(read_all)] v: Vec<u8> } struct B { a: A }",
+        "1:57 a record up to the end of the input in another one is not supported",
     ),
     (
         "struct A { v: [Option<u8>; 2] }",

@@ -88,7 +88,7 @@ pub trait Codec: Drop {
 /// ```
 pub trait CopyParts: Drop {
     /// The parts, in the order of their layout.
-    type Parts: Drop;
+    type Parts: DekuReader<()> + DekuWriter<()>;
 
     // The parts of a value.
     ghost parts_of: { Self → Self.Parts };
@@ -115,10 +115,7 @@ pub trait CopyParts: Drop {
 }
 
 /// It is written as the copies of its parts.
-impl<T: CopyParts> Codec for T
-where
-    T::Parts: DekuReader<()> + DekuWriter<()>,
-{
+impl<T: CopyParts> Codec for T {
     type Parts = T::Parts;
 
     ghost parts_of = { T.CopyParts.parts_of };

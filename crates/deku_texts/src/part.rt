@@ -303,6 +303,8 @@ fn equation(alloc: Global, place: usize, count: usize) -> Result<String, AllocEr
 pub enum Dependent {
     /// A list that the head counts.
     Counted,
+    /// A list of as many bits as the head says.
+    Filled,
     /// An item that the head shows.
     Optional,
 }
@@ -312,6 +314,7 @@ impl Dependent {
     fn kind(self) -> &'static str {
         match self {
             Dependent::Counted => "CountedBy<",
+            Dependent::Filled => "FilledBy<",
             Dependent::Optional => "Optional<",
         }
     }
@@ -320,6 +323,7 @@ impl Dependent {
     fn lent(self) -> &'static str {
         match self {
             Dependent::Counted => "CountedByRef<",
+            Dependent::Filled => "SizedBy<",
             Dependent::Optional => "OptionalRef<",
         }
     }
@@ -328,6 +332,7 @@ impl Dependent {
     fn pattern(self) -> &'static str {
         match self {
             Dependent::Counted => "CountedBy {",
+            Dependent::Filled => "FilledBy {",
             Dependent::Optional => "Optional {",
         }
     }
@@ -336,6 +341,7 @@ impl Dependent {
     fn value(self) -> &'static str {
         match self {
             Dependent::Counted => "CountedByRef::<_, ",
+            Dependent::Filled => "SizedBy::<_, ",
             Dependent::Optional => "OptionalRef::<_, ",
         }
     }
@@ -343,8 +349,16 @@ impl Dependent {
     // The field for what comes after the head.
     fn item(self) -> &'static str {
         match self {
-            Dependent::Counted => "items",
+            Dependent::Counted | Dependent::Filled => "items",
             Dependent::Optional => "item",
+        }
+    }
+
+    // The same of what is lent.
+    fn lent_item(self) -> &'static str {
+        match self {
+            Dependent::Filled => "content",
+            Dependent::Counted | Dependent::Optional => self.item(),
         }
     }
 
@@ -352,6 +366,7 @@ impl Dependent {
     fn marker(self) -> (&'static str, &'static str) {
         match self {
             Dependent::Counted => ("count: PhantomData", "count = record {}"),
+            Dependent::Filled => ("size: PhantomData", "size = record {}"),
             Dependent::Optional => ("condition: PhantomData", "condition = record {}"),
         }
     }
@@ -410,10 +425,15 @@ fn lent_of(
     item: &str,
 ) -> Result<Text, AllocError> {
     let mut items = Vec::new(alloc);
-    items.push(Text::word(alloc, "'a")?)?;
+    let held = if form == Dependent::Filled {
+        format!(in alloc; "&'a Vec<{item}>")?
+    } else {
+        items.push(Text::word(alloc, "'a")?)?;
+        String::from_str(alloc, item)?
+    };
     items.push(head)?;
     items.push(Text::word(alloc, marker)?)?;
-    items.push(Text::word(alloc, item)?)?;
+    items.push(Text::of(held))?;
     Text::group(alloc, Form::Angle, form.lent(), items)
 }
 
@@ -442,7 +462,7 @@ fn value_of(
     let mut items = Vec::new(alloc);
     items.push(head.after(alloc, "head: ")?)?;
     let held = Text::word(alloc, access)?.after(alloc, ": &self.")?;
-    items.push(held.after(alloc, form.item())?)?;
+    items.push(held.after(alloc, form.lent_item())?)?;
     items.push(Text::word(alloc, form.marker().0)?)?;
     let open = joined(alloc, marker, ", _> {")?;
     Text::group(alloc, Form::Brace, open.as_str(), items)?.after(alloc, form.value())
@@ -456,6 +476,92 @@ fn term_of(alloc: Global, head: Text, form: Dependent, access: &str) -> Result<T
     items.push(held.after(alloc, form.item())?)?;
     items.push(Text::word(alloc, form.marker().1)?)?;
     Text::group(alloc, Form::GhostBrace, "record {", items)
+}
+
+/// A list up to the end of the input, of these items, after the parts in front.
+pub fn rest<'a>(
+    alloc: Global,
+    front: Vec<Part<'a>>,
+    called: Named<'_>,
+    item: &str,
+) -> Result<Part<'a>, AllocError> {
+    let Named { name, access } = called;
+    let pattern = if name == "items" {
+        String::from_str(alloc, "Rest { items }")?
+    } else {
+        format!(in alloc; "Rest {{ items: {name} }}")?
+    };
+    let mut names = Vec::new(alloc);
+    names.push(literal(alloc, name)?)?;
+    let list = Part {
+        kind: Text::of(format!(in alloc; "Rest<{item}>")?),
+        lent: Text::of(format!(in alloc; "&'a Vec<{item}>")?),
+        is_lent: true,
+        pattern: Text::of(pattern),
+        value: Text::of(format!(in alloc; "&self.{access}")?),
+        term: Text::of(format!(in alloc; "record {{ items = r.{access} }}")?),
+        places: one_place(alloc, name)?,
+        names,
+    };
+    if front.is_empty() {
+        return Ok(list);
+    }
+    before(alloc, tuple(alloc, front)?, list)
+}
+
+// Where a list up to the end is in its part.
+fn one_place<'a>(alloc: Global, name: &str) -> Result<Vec<Place<'a>>, AllocError> {
+    let mut places = Vec::new(alloc);
+    places.push(Place {
+        name: String::from_str(alloc, name)?,
+        number: None,
+        path: String::from_str(alloc, ".items")?,
+        same: String::new(alloc),
+    })?;
+    Ok(places)
+}
+
+// Parts, and after them what is last.
+fn before<'a>(alloc: Global, head: Part<'a>, rest: Part<'a>) -> Result<Part<'a>, AllocError> {
+    let mut places = within(alloc, head.places, ".head", ".0")?;
+    for place in within(alloc, rest.places, ".rest", ".1")? {
+        places.push(place)?;
+    }
+    let mut names = head.names;
+    for name in rest.names {
+        names.push(name)?;
+    }
+    let pattern = [
+        head.pattern.after(alloc, "head: ")?,
+        rest.pattern.after(alloc, "rest: ")?,
+    ];
+    let value = [
+        head.value.after(alloc, "head: ")?,
+        rest.value.after(alloc, "rest: ")?,
+    ];
+    let term = [
+        head.term.after(alloc, "head = ")?,
+        rest.term.after(alloc, "rest = ")?,
+    ];
+    Ok(Part {
+        kind: pair(alloc, Form::Angle, "Before<", [head.kind, rest.kind])?,
+        lent: pair(alloc, Form::Angle, "Before<", [head.lent, rest.lent])?,
+        is_lent: true,
+        pattern: pair(alloc, Form::Brace, "Before {", pattern)?,
+        value: pair(alloc, Form::Brace, "Before {", value)?,
+        term: pair(alloc, Form::GhostBrace, "record {", term)?,
+        places,
+        names,
+    })
+}
+
+// Two texts in brackets.
+fn pair(alloc: Global, form: Form, open: &str, texts: [Text; 2]) -> Result<Text, AllocError> {
+    let [first, second] = texts;
+    let mut items = Vec::new(alloc);
+    items.push(first)?;
+    items.push(second)?;
+    Text::group(alloc, form, open, items)
 }
 
 /// A part that passes the check of this name.

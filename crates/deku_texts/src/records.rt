@@ -1,7 +1,7 @@
 //! The records of a file: which of them are copied, and which hold themselves.
 
 use crate::lying::lying;
-use deku_attributes::model::{Field, Form, Record};
+use deku_attributes::model::{Attribute, Field, Form, Record};
 use deku_attributes::reading::{address_bits, bits_of};
 use deku_description::syntax::Type;
 use std::alloc::{AllocError, Global};
@@ -153,10 +153,30 @@ impl<'b, 'a> Records<'b, 'a> {
         }
     }
 
+    /// Whether a record takes the rest of the input.
+    pub fn is_open(&self, name: &str) -> bool {
+        let place = self.place(name);
+        let Some(record) = place.and_then(|place| self.list.get(place)) else {
+            return false;
+        };
+        match &record.form {
+            Form::Struct(_, fields) => fields.iter().any(takes_rest),
+            Form::Enum(_, _) => false,
+        }
+    }
+
     /// Whether the file has a record of this name.
     pub fn has(&self, name: &str) -> bool {
         self.place(name).is_some()
     }
+}
+
+// Whether a field takes the rest of the input.
+fn takes_rest(field: &Field<'_>) -> bool {
+    field
+        .attributes
+        .iter()
+        .any(|attribute| matches!(attribute, Attribute::ReadAll))
 }
 
 // What is known of a text, which holds memory.

@@ -3,7 +3,7 @@
 use std::alloc::{AllocError, Global};
 
 // The names that a module imports or that its bounds have.
-const IMPORTED: [&str; 47] = [
+const IMPORTED: [&str; 53] = [
     "Sink",
     "DekuError",
     "DekuWriter",
@@ -26,6 +26,12 @@ const IMPORTED: [&str; 47] = [
     "CountedByRef",
     "CountOf",
     "CountOfLaw",
+    "FilledBy",
+    "Before",
+    "Rest",
+    "SizedBy",
+    "SizeOf",
+    "SizeOfLaw",
     "Optional",
     "OptionalRef",
     "Condition",
