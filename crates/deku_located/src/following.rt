@@ -1,8 +1,11 @@
 //! Parts of which some say what follows them, and parts that are checked.
 
-ghost use Rattle.std.specs.Prelude.{◌+◌, ◌<◌, ◌^◌, Bool, OnOk};
+ghost use Rattle.std.specs.Prelude.{◌≡◌, ◌+◌, ◌<◌, ◌^◌};
 ghost use Rattle.deku_bits.specs.ReaderCalls.{Reads};
+ghost use Rattle.deku_bits.specs.declared.error.DekuError.TheVariants.{Parse};
+ghost use Rattle.deku.specs.Limits.{ReadsBitsOf, MappedBy};
 ghost use Rattle.deku_pieces.specs.Leading.{ReadsCounted};
+ghost use Rattle.deku_pieces.specs.Sizes.{IfSized};
 ghost use Rattle.deku_pieces.specs.Whether.{ReadsWhether};
 ghost use Rattle.deku_located.specs.Placed.{Alone, Joined, Judged, Counts};
 
@@ -11,7 +14,10 @@ use deku::device::Source;
 use deku::reader::Reader;
 use deku::{DekuError, DekuReader};
 use deku_pieces::counted::read_counted;
-use deku_symmetry::{Assert, Check, Condition, CountOf, CountedBy, Optional};
+use deku_pieces::filled_by::read_filled;
+use deku_symmetry::{
+    Assert, Before, Check, Condition, CountOf, CountedBy, FilledBy, Optional, SizeOf,
+};
 
 /// The parts in front, and then the list as one part.
 impl<P: Steps, C: CountOf<P>, T: DekuReader<()>> Steps for CountedBy<P, C, T> {
@@ -46,6 +52,59 @@ fn read_items<T: DekuReader<()>, R: Source>(
     let items = read_counted::<T, R>(reader, count)?;
     place.parts += 1;
     Ok(items)
+}
+
+/// The parts in front, and then the list as one part.
+impl<P: Steps, C: SizeOf<P>, T: DekuReader<()>> Steps for FilledBy<P, C, T> {
+    ghost steps = { P.steps + 1 };
+
+    ghost placed = { Joined (λ h xs. record { head = h; items = xs; size = record {} }) P.placed
+        (λ h. Alone (IfSized Parse (C.size_of h)
+        (λ n. MappedBy (λ xs v. v.items ≡ xs) (ReadsBitsOf n (T.meaning tt))))) };
+
+    #[inline(always)]
+    fn read_steps<R: Source>(reader: &mut Reader<R>, place: &mut Place) -> Result<Self, DekuError> {
+        let head = P::read_steps(reader, place)?;
+        let items = fill_items::<T, R>(reader, place, C::size(&head))?;
+        Ok(FilledBy::new(head, items))
+    }
+}
+
+// Reads items that fill as many bits as the size says, as one part.
+#[inline(always)]
+fn fill_items<T: DekuReader<()>, R: Source>(
+    reader: &mut Reader<R>,
+    place: &mut Place,
+    size: Option<usize>,
+) -> Result<Vec<T>, DekuError>
+    requires accepted { T.accepts tt }
+    requires room { place.now.parts + 1 < 2 ^ 64 }
+    ensures reads { Reads R.known (IfSized Parse size
+        (λ n. MappedBy (λ xs v. v.items ≡ xs) (ReadsBitsOf n (T.meaning tt)))) reader.old result
+        reader.new }
+    ensures placed { Reads R.known (Alone (IfSized Parse size
+        (λ n. MappedBy (λ xs v. v.items ≡ xs) (ReadsBitsOf n (T.meaning tt)))) place.old.parts
+        place.new) reader.old result reader.new }
+    ensures counted { Counts 1 place.old.parts place.new result }
+{
+    place.bit = reader.bits_read();
+    let items = read_filled::<T, R>(reader, size)?;
+    place.parts += 1;
+    Ok(items)
+}
+
+/// The parts in front, and then what is last.
+impl<P: Steps, L: Steps> Steps for Before<P, L> {
+    ghost steps = { P.steps + L.steps };
+
+    ghost placed = { Joined (λ h x. record { head = h; rest = x }) P.placed (λ _. L.placed) };
+
+    #[inline(always)]
+    fn read_steps<R: Source>(reader: &mut Reader<R>, place: &mut Place) -> Result<Self, DekuError> {
+        let head = P::read_steps(reader, place)?;
+        let rest = L::read_steps(reader, place)?;
+        Ok(Before { head, rest })
+    }
 }
 
 /// The parts in front, and then the option as one part, which has no bits if nothing is there.

@@ -6,7 +6,7 @@ use deku::cstring::CString;
 use deku::ctx::{BitSize, Endian, Order};
 use deku_symmetry::{
     Be, Codec, Coded, Constant, Counted, Enum, Id, ItemCount, Kinds, Last, Le, Lsb, LsbBe, Magic,
-    Msb, MsbLe, Prefixed, Until,
+    Msb, MsbLe, Prefixed, Rest, Until,
 };
 use std::net::{Ipv4Addr, Ipv6Addr};
 
@@ -49,3 +49,5 @@ impl<H: ItemCount + DekuReader<()>, T: DekuReader<()>> OnePart for Counted<H, T>
 impl<I: Id, T: DekuReader<()>> OnePart for Prefixed<I, T> {}
 
 impl<T: Last + DekuReader<()>> OnePart for Until<T> {}
+
+impl<T: DekuReader<()>> OnePart for Rest<T> {}

@@ -7,5 +7,5 @@ mod located;
 mod steps;
 mod tuple;
 
-pub use located::{Located, unpack_located};
+pub use located::{Located, unpack_located, unpack_steps};
 pub use steps::{OnePart, Place, Steps};

@@ -26,10 +26,41 @@ pub struct Located {
     pub bit: usize,
 }
 
+/// Reads parts from the first byte on. Returns the number of bits read, and the parts. An error has
+/// the name of the part that was refused, and the bit where it begins.
+///
+/// The caller's conditions: the parts may be read, and there are as many names as parts.
+///
+/// ```text
+/// unpack_steps::<(u8, Be<u16>)>(alloc, &[0x69, 0xC0], &["kind", "value"])?
+/// // Not enough data, need 16 bits (or 2 bytes), in value, at bit 8
+/// ```
+pub fn unpack_steps<P: Steps>(
+    alloc: Global,
+    bytes: &[u8],
+    names: &[&'static str],
+) -> Result<(usize, P), Located>
+    requires accepted { P.DekuReader.accepts tt }
+    requires named { length names.now ≡ P.steps }
+    ensures meaning { Unpacks (P.DekuReader.meaning tt) bytes.now (unplaced result) }
+    ensures located { IfErr result (IsLocated P.placed names.now bytes.now) }
+{
+    let mut reader = Reader::new(alloc, Cursor::new(bytes));
+    let mut place = Place { parts: 0, bit: 0 };
+    match P::read_steps(&mut reader, &mut place) {
+        Ok(parts) => Ok((reader.bits_read(), parts)),
+        Err(error) => Err(Located {
+            error,
+            field: names[place.parts],
+            bit: place.bit,
+        }),
+    }
+}
+
 /// Reads a record from the first byte on, as `unpack` does. Returns the number of bits read, and
 /// the record. An error has the name of the part that was refused, and the bit where it begins.
 ///
-/// `names` are the names of all parts in their order, such as the constant `FIELDS` that `derive`
+/// The names are those of all parts in their order, such as the constant `FIELDS` that `derive`
 /// prints. A field that is a record has one name.
 ///
 /// The caller's conditions: the parts may be read, and there are as many names as parts.
@@ -55,14 +86,6 @@ where
         (unplaced result) }
     ensures located { IfErr result (IsLocated E.Parts.Steps.placed names.now bytes.now) }
 {
-    let mut reader = Reader::new(alloc, Cursor::new(bytes));
-    let mut place = Place { parts: 0, bit: 0 };
-    match E::Parts::read_steps(&mut reader, &mut place) {
-        Ok(parts) => Ok((reader.bits_read(), E::from_parts(parts))),
-        Err(error) => Err(Located {
-            error,
-            field: names[place.parts],
-            bit: place.bit,
-        }),
-    }
+    let (bits, parts) = unpack_steps::<E::Parts>(alloc, bytes, names)?;
+    Ok((bits, E::from_parts(parts)))
 }

@@ -1,0 +1,23 @@
+use Rattle.deku.proofs.Joining.{passed_on, mapped_ok, mapped_err, first_refused, then_on}
+use Rattle.deku_located.proofs.Placing.{joined_first, joined_on}
+use Rattle.deku_located.proofs.following.BeforeSteps.read_steps.Goals as goal
+
+pub returns-in_err-head-clause-reads : goal.returns-in_err-head-clause-reads
+returns-in_err-head-clause-reads g c = passed_on _ c.from_residual.ensures.1 (first_refused c.in_err-head.ensures.reads)
+
+pub returns-in_err-head-clause-placed : goal.returns-in_err-head-clause-placed
+returns-in_err-head-clause-placed g c = passed_on _ c.from_residual.ensures.1 (joined_first c.in_err-head.ensures.placed)
+
+pub returns-in_err-rest-clause-reads : goal.returns-in_err-rest-clause-reads
+returns-in_err-rest-clause-reads g c =
+    passed_on _ c.from_residual-in_err-rest.ensures.1 (then_on c.in_ok-head.ensures.reads (mapped_err (λ x. record { head = c.in_ok-head.head; rest = x }) c.in_err-rest.ensures.reads))
+
+pub returns-in_err-rest-clause-placed : goal.returns-in_err-rest-clause-placed
+returns-in_err-rest-clause-placed g c =
+    passed_on _ c.from_residual-in_err-rest.ensures.1 (joined_on _ c.in_ok-head.ensures.placed (mapped_err (λ x. record { head = c.in_ok-head.head; rest = x }) c.in_err-rest.ensures.placed))
+
+pub returns-clause-reads : goal.returns-clause-reads
+returns-clause-reads g c = then_on c.in_ok-head.ensures.reads (mapped_ok (λ x. record { head = c.in_ok-head.head; rest = x }) c.in_ok-rest.ensures.reads)
+
+pub returns-clause-placed : goal.returns-clause-placed
+returns-clause-placed g c = joined_on _ c.in_ok-head.ensures.placed (mapped_ok (λ x. record { head = c.in_ok-head.head; rest = x }) c.in_ok-rest.ensures.placed)
