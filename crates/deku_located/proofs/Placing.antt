@@ -14,6 +14,12 @@ use Rattle.deku_pieces.specs.declared.assertion.Assert.{Assert}
 use Rattle.deku_located.specs.declared.steps.Place.{Place}
 use Rattle.deku_located.specs.Placed.{Placed, Alone, Joined, Second, First, Judged, Passing, Failing, Unread, Counts}
 
+-- one part
+pub alone_on : {V : Type 0} {m : Meaning (Option Stream) V} {i : ℕ} {p : Place} {s : Standing (Option Stream)} {f : Health} {r : Result V DekuError} {u : Standing (Option Stream)} {g : Health}
+    → p.bit ≡ count_of s → MatchResult r (λ _. p.parts ≡ i + 1) (λ _. p.parts ≡ i) → Outcome m s f r u g → Outcome (Alone m i p) s f r u g
+alone_on b c (Quiet a k) = Quiet (record { reads = a; begins = b; counts = c }) k
+alone_on b c (Broken x a k) = Broken x (record { reads = a; begins = b; counts = c }) k
+
 -- the first parts are refused
 pub joined_first : {V W X : Type 0} {h : V → W → X} {m : Placed V} {k : V → Placed W} {i : ℕ} {p : Place} {s : Standing (Option Stream)} {f : Health} {e : DekuError} {u : Standing (Option Stream)} {g : Health}
     → Outcome (m i p) s f (Err e) u g → Outcome (Joined h m k i p) s f (Err e) u g
@@ -38,6 +44,6 @@ pub passed : {V C : Type 0} {passes : V → Bool} {text : List ℕ} {m : Placed 
 passed {v} e o = let d = meant o in Quiet (Passing v d.0 e refl) d.1
 
 -- parts that do not pass
-pub failed : {V C : Type 0} {passes : V → Bool} {text : List ℕ} {m : Placed V} {i : ℕ} {q p : Place} {s : Standing (Option Stream)} {f : Health} {v : V} {u : Standing (Option Stream)} {g : Health} (words : Bor (List ℕ))
+pub failed : {V C : Type 0} {passes : V → Bool} {text : List ℕ} {m : Placed V} {i : ℕ} {p : Place} {s : Standing (Option Stream)} {f : Health} {v : V} {u : Standing (Option Stream)} {g : Health} (q : Place) (words : Bor (List ℕ))
     → words.now ≡ text → passes v ≡ false → p ≡ record { parts = q.parts - 1; bit = q.bit } → Outcome (m i q) s f (Ok v) u g → Outcome (Judged {C = C} passes text m i p) s f (Err (Assertion words)) u g
-failed {q} {v} words w e is o = let d = meant o in Quiet (Failing q v d.0 refl e words w refl is) d.1
+failed {v} q words w e is o = let d = meant o in Quiet (Failing q v d.0 refl e words w refl is) d.1

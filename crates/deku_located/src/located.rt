@@ -76,9 +76,9 @@ pub fn unpack_located<E: Codec>(
 ) -> Result<(usize, E), Located>
 where
     E::Parts: Steps + Symmetric<()>,
-    requires accepted { E.Parts.Steps.DekuReader.accepts tt }
+    requires accepted { E.Parts.DekuReader.accepts tt }
     requires named { length names.now ≡ E.Parts.Steps.steps }
-    ensures meaning { Unpacks (Then (E.Parts.Steps.DekuReader.meaning tt) (Shows E.parts_of))
+    ensures meaning { Unpacks (Then (E.Parts.DekuReader.meaning tt) (Shows E.parts_of))
         bytes.now (unplaced result) }
     ensures back { UnpacksBack (λ v. E.Parts.Symmetric.pieces (E.parts_of v) tt)
         (λ v w. E.Parts.Symmetric.same (E.parts_of v) (E.parts_of w)) bytes.now (unplaced result) }

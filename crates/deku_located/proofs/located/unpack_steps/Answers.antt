@@ -1,4 +1,4 @@
-use Rattle.std.proofs.Common.{refl, ap, sym, ◌∙◌}
+use Rattle.std.proofs.Common.{refl, ap, ◌∙◌, arith}
 use Rattle.std.proofs.lemmas.Option.{slice_get-get_or}
 use Rattle.deku_bits.proofs.Handing.{unbroken}
 use Rattle.deku.proofs.Containers.{starts_fresh, whole_source, new_source, counted_state}
@@ -22,6 +22,6 @@ returns-in-Err-clause-located g c =
       place = c.read_steps.new.place;
       left = _;
       refused = from_first (g.P.Steps.placed 0 c.read_steps.new.place) c.args.bytes.now _ _ _ begin (unbroken refl refl c.in-Err.ensures.placed);
-      field = _;
+      field = slice_get-get_or c.args.names.now c.read_steps.new.place.parts _ (omega (arith, c.in-Err.ensures.counted, c.requires.named));
       bit = refl;
     }

@@ -14,7 +14,7 @@ pub returns-then-not-passes-clause-reads : goal.returns-then-not-passes-clause-r
 returns-then-not-passes-clause-reads g c = then_on c.in_ok-part.ensures.reads (not_passing g.C.Check.passes c.in_ok-part.part _ c.text.result c.text.ensures (sym c.if-not-passes.ensures))
 
 pub returns-then-not-passes-clause-placed : goal.returns-then-not-passes-clause-placed
-returns-then-not-passes-clause-placed g c = failed c.text.result c.text.ensures (sym c.if-not-passes.ensures) refl c.in_ok-part.ensures.placed
+returns-then-not-passes-clause-placed g c = failed _ c.text.result c.text.ensures (sym c.if-not-passes.ensures) refl c.in_ok-part.ensures.placed
 
 pub returns-clause-reads : goal.returns-clause-reads
 returns-clause-reads g c = rw c.new.ensures (then_on c.in_ok-part.ensures.reads (passing g.C.Check.passes g.C.Check.text c.in_ok-part.part (sym c.if-not-passes.ensures) answered))
