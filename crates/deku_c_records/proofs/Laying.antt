@@ -1,5 +1,5 @@
 -- Symmetric values over bytes: what they lay out, and what stays after it.
-use Rattle.std.proofs.Common.{◌≡◌, ℕ, ◌+◌, ◌*◌, ◌<◌, ◌≤◌, ◌^◌, false, List, [], ◌++◌, length, take, drop, Option, Some, None, Result, Ok, Err, refl, ap, ap₂, sym, ◌∙◌, subst, arith, ⊎_elim}
+use Rattle.std.proofs.Common.{◌≡◌, ℕ, ◌*◌, ◌<◌, ◌≤◌, ◌^◌, false, List, [], ◌++◌, length, take, drop, Option, Some, None, Result, Ok, Err, ap, ap₂, sym, ◌∙◌, arith, ⊎_elim}
 use Rattle.std.proofs.lemmas.List.{take-append-drop, length-take-le}
 use Rattle.std.proofs.lemmas.Bool.{cases_lt, lt-leb, le-leb}
 use Rattle.std.specs.Io.KnownBytes.{Appends}
@@ -10,7 +10,7 @@ use Rattle.deku_bits.specs.Writers.{Written, finalized}
 use Rattle.deku_bits.specs.Symmetry.{followed, appended}
 use Rattle.deku_bits.specs.Standings.{Standing, Going, Output}
 use Rattle.deku_bits.specs.Outcomes.{Meaning}
-use Rattle.deku_bits.specs.WriterCalls.{Finalizes, Took}
+use Rattle.deku_bits.specs.WriterCalls.{Finalizes}
 use Rattle.deku_bits.proofs.Writing.{write_law}
 use Rattle.deku.specs.Composing.{Both}
 use Rattle.deku.specs.Wholes.{WritesOver, over}
@@ -74,5 +74,5 @@ pub laid_over : (m : Meaning Output (Unit {0})) (pieces : List Piece → Type 0)
     → WritesOver (Both m Finalizes) old r new → LaidOver pieces old r new
 laid_over m pieces each old (Ok n) new (out, c, w, taken, room) ps p aligned enough small =
     given _ old (laid_out ps) (write_law ps aligned) enough small n new out c (padded_wrote m ps (each ps p) old (Ok tt) (Going out c) w) taken room
-laid_over m pieces each old (Err e) new (u, w, more) ps p aligned enough small =
+laid_over m pieces each old (Err e) new (u, w, n, taken, room) ps p aligned enough small =
     absurd (granted _ old (laid_out ps) (write_law ps aligned) enough small e u (padded_wrote m ps (each ps p) old (Err e) u w))

@@ -5,7 +5,7 @@ ghost use Rattle.deku_symmetry.specs.Fields.{coded};
 ghost use Rattle.deku_c_records.specs.Exported.{ReadsFor, WritesFor};
 
 use crate::status::{OK, status_of};
-use deku::DekuContainerWrite;
+use deku::{DekuContainerWrite, DekuReader, DekuWriter};
 use deku_symmetry::{Codec, Coded, Symmetric};
 use std::alloc::Global;
 
@@ -30,7 +30,7 @@ pub trait ForC: Codec + Copy {
     fn read_for_c(alloc: Global, bytes: &[u8], record: &mut Self) -> u32
     where
         Self: Sized,
-        requires { Self.Codec.Parts.DekuReader.accepts tt }
+        requires { Self.Parts.DekuReader.accepts tt }
         ensures { reads_for_c bytes.now result record.old record.new };
 
     /// Writes a record to the start of the bytes, as `to_slice` does: the last byte is filled with
@@ -42,7 +42,7 @@ pub trait ForC: Codec + Copy {
     /// sample.write_for_c(&mut bytes)                                 // 0, and 69 C0 FE in front
     /// ```
     fn write_for_c(&self, bytes: &mut [u8]) -> u32
-        requires { Self.Codec.Parts.DekuWriter.accepts tt }
+        requires { Self.Parts.DekuWriter.accepts tt }
         ensures { writes_for_c self.now bytes.old result bytes.new };
 }
 
@@ -52,12 +52,12 @@ where
     E::Parts: Symmetric<()>,
 {
     ghost reads_for_c = { λ bytes status old new. ReadsFor
-        (⟦<Coded<E> as Symmetric<()>>⟧.DekuReader.meaning tt)
+        (⟦<Coded<E> as DekuReader<()>>⟧.meaning tt)
         (λ v. ⟦<Coded<E> as Symmetric<()>>⟧.pieces v tt)
         ⟦<Coded<E> as Symmetric<()>>⟧.same bytes status (coded old) (coded new) };
 
     ghost writes_for_c = { λ v old status new. WritesFor
-        (⟦<Coded<E> as Symmetric<()>>⟧.DekuWriter.meaning (coded v) tt)
+        (⟦<Coded<E> as DekuWriter<()>>⟧.meaning (coded v) tt)
         (⟦<Coded<E> as Symmetric<()>>⟧.pieces (coded v) tt) old status new };
 
     fn read_for_c(alloc: Global, bytes: &[u8], record: &mut E) -> u32 {

@@ -1,6 +1,5 @@
 -- Parts that are read one after the other, with their places.
-use Rattle.std.proofs.Common.{◌≡◌, ℕ, ◌+◌, ◌-◌, ◌<◌, Bool, true, false, List, Option, Result, Ok, Err, IsErrAnd, refl, ap, sym, ◌∙◌, subst}
-use Rattle.std.proofs.lemmas.Result.{err_from_is_err_and}
+use Rattle.std.proofs.Common.{◌≡◌, ℕ, ◌+◌, ◌-◌, Bool, true, false, List, Option, Result, Ok, Err, refl}
 use Rattle.std.specs.Prelude.{MatchResult}
 use Rattle.std.specs.Borrow.{Bor}
 use Rattle.deku_bits.specs.declared.error.DekuError.{DekuError}
@@ -10,9 +9,8 @@ use Rattle.deku_bits.specs.Devices.{Health}
 use Rattle.deku_bits.specs.Standings.{Standing, count_of}
 use Rattle.deku_bits.specs.Outcomes.{Meaning, Outcome, Quiet, Broken, Mapped}
 use Rattle.deku_bits.proofs.Handing.{broken_at, meant, no_fewer_on, more_on}
-use Rattle.deku_pieces.specs.declared.assertion.Assert.{Assert}
 use Rattle.deku_located.specs.declared.steps.Place.{Place}
-use Rattle.deku_located.specs.Placed.{Placed, Alone, Joined, Second, First, Judged, Passing, Failing, Unread, Counts}
+use Rattle.deku_located.specs.Placed.{Placed, Alone, Joined, Second, First, Judged, Passing, Failing, Unread}
 
 -- one part
 pub alone_on : {V : Type 0} {m : Meaning (Option Stream) V} {i : ℕ} {p : Place} {s : Standing (Option Stream)} {f : Health} {r : Result V DekuError} {u : Standing (Option Stream)} {g : Health}
