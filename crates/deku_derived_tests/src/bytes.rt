@@ -1,11 +1,12 @@
 //! Records as bytes and back.
 
 use crate::gre::Gre;
+use crate::lists::{Entry, Log, Pair, Table};
 use crate::ntp::Ntp;
 use crate::shape::Shape;
 use crate::tcp::Tcp;
 use deku::prelude::{DekuError, NeedSize};
-use deku_symmetry::{Be, Coded, Symmetric};
+use deku_symmetry::{Be, Coded, Symmetric, SymmetricLast};
 use deku_testing_values::expecting::same;
 use deku_testing_values::records::{expect_packed, expect_refusal};
 use std::alloc::Global;
@@ -71,6 +72,60 @@ fn items_that_a_field_counts(rt: HostRuntime) -> Result<(), Fail> {
     expect_packed(alloc, (), &tcp(alloc, 6, &options)?, 192, &bytes)?;
     let refusal = DekuError::Assertion("count out of step with items");
     same(&4, &tcp(alloc, 4, &options)?.pack(alloc, ()), &Err(refusal))
+}
+
+fn table(alloc: Global, size: u16) -> Result<Coded<Table>, Fail> {
+    let entries = [(2, 0x0304), (5, 0x0607)].map(|(kind, value)| Coded(Entry { kind, value }));
+    Ok(Coded(Table {
+        version: 1,
+        size,
+        entries: entries.to_vec(alloc)?,
+        last: 9,
+    }))
+}
+
+#[test]
+fn items_that_fill_a_size(rt: HostRuntime) -> Result<(), Fail> {
+    let alloc = rt.alloc();
+    let bytes = [0x10, 0x08, 0x02, 0x03, 0x04, 0x05, 0x06, 0x07, 0x09];
+    expect_packed(alloc, (), &table(alloc, 8)?, 72, &bytes)?;
+    let refusal = DekuError::Assertion("content out of step with its size");
+    same(&9, &table(alloc, 9)?.pack(alloc, ()), &Err(refusal))?;
+    let refusal = DekuError::Parse("head without a size");
+    expect_refusal::<Coded<Table>>(alloc, &[0x10, 0x01, 0x02], refusal, 16)
+}
+
+#[test]
+fn lists_whose_counts_come_first(rt: HostRuntime) -> Result<(), Fail> {
+    let alloc = rt.alloc();
+    let pair = Coded(Pair {
+        names: 2,
+        values: 1,
+        name: [0x68, 0x69].to_vec(alloc)?,
+        value: [Be(0x0102)].to_vec(alloc)?,
+    });
+    let bytes = [0x02, 0x01, 0x68, 0x69, 0x01, 0x02];
+    expect_packed(alloc, (), &pair, 48, &bytes)
+}
+
+#[test]
+fn a_list_up_to_the_end(rt: HostRuntime) -> Result<(), Fail> {
+    let alloc = rt.alloc();
+    let log = Coded(Log {
+        version: 3,
+        number: 0x123,
+        words: [Be(0x0405), Be(0x0607)].to_vec(alloc)?,
+    });
+    let bytes = [0x31, 0x23, 0x04, 0x05, 0x06, 0x07];
+    same(&0, &log.pack_whole(alloc)?.as_slice(), &bytes.as_slice())?;
+    let read = Coded::<Log>::unpack_whole(alloc, &bytes)?;
+    same(&1, &read, &(48, log))?;
+    let ended = DekuError::Incomplete(NeedSize::new(16));
+    same(
+        &2,
+        &Coded::<Log>::unpack_whole(alloc, &bytes[..5]),
+        &Err(ended),
+    )
 }
 
 #[test]

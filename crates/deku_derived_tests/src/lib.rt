@@ -5,6 +5,7 @@
 mod bytes;
 pub mod frame;
 pub mod gre;
+pub mod lists;
 pub mod ntp;
 #[cfg(test)]
 mod places;

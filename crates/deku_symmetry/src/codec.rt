@@ -88,7 +88,7 @@ pub trait Codec: Drop {
 /// ```
 pub trait CopyParts: Drop {
     /// The parts, in the order of their layout.
-    type Parts: DekuReader<()> + DekuWriter<()>;
+    type Parts: Drop;
 
     // The parts of a value.
     ghost parts_of: { Self → Self.Parts };
@@ -115,7 +115,10 @@ pub trait CopyParts: Drop {
 }
 
 /// It is written as the copies of its parts.
-impl<T: CopyParts> Codec for T {
+impl<T: CopyParts> Codec for T
+where
+    T::Parts: DekuReader<()> + DekuWriter<()>,
+{
     type Parts = T::Parts;
 
     ghost parts_of = { T.CopyParts.parts_of };

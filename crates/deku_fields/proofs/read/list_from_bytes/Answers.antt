@@ -47,4 +47,7 @@ returns-clause-found c =
     (found.allowed, (found.rest, found.read))
 
 pub returns-in_err-numbers-clause-cause : goal.returns-in_err-numbers-clause-cause
-returns-in_err-numbers-clause-cause c = bytes_caused c.args.fields.now c.args.bytes.now _ (returns-in_err-numbers-clause-meaning c)
+returns-in_err-numbers-clause-cause c =
+    let p = err_from_is_err_and c.from_residual.result c.from_residual.ensures.1 in
+    rw (p.1, p.2) (let begin = starts_fresh _ c.args.bytes.now _ (ap whole_source c.new-reader.ensures.source ∙ new_source c.new.result _ c.new.ensures.inner c.new.ensures.position) c.new-reader.ensures.state in
+    bytes_caused c.args.fields.now c.args.bytes.now _ (_, from_first c.args.fields.now _ _ _ _ begin (unbroken refl refl c.in_err-numbers.ensures.meaning)))

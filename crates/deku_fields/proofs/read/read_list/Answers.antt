@@ -37,7 +37,9 @@ pub returns-in_err-read_list_into-clause-found : goal.returns-in_err-read_list_i
 returns-in_err-read_list_into-clause-found g c = vec_finds c.args.fields.now _ _ (returns-in_err-read_list_into-clause-meaning g c)
 
 pub returns-in_err-read_list_into-clause-cause : goal.returns-in_err-read_list_into-clause-cause
-returns-in_err-read_list_into-clause-cause g c = vec_caused c.args.fields.now _ c.args.reader.now.state _ _ _ _ (returns-in_err-read_list_into-clause-meaning g c)
+returns-in_err-read_list_into-clause-cause g c =
+    let p = err_from_is_err_and c.from_residual.result c.from_residual.ensures.1 in
+    rw (p.1, p.2) (vec_caused c.args.fields.now _ c.args.reader.now.state _ _ _ _ (found c.args.fields.now c.in_err-read_list_into.ensures.meaning))
 
 pub returns-in_default-clause-meaning : goal.returns-in_default-clause-meaning
 returns-in_default-clause-meaning g c = search rules

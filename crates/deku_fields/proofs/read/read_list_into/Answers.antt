@@ -39,9 +39,7 @@ pub returns-in_err-number-clause-values : goal.returns-in_err-number-clause-valu
 returns-in_err-number-clause-values g c = fields_back c.args.fields.now (returns-in_err-number-clause-meaning g c)
 
 pub returns-in_err-number-clause-early : goal.returns-in_err-number-clause-early
-returns-in_err-number-clause-early g c =
-    let p = err_from_is_err_and c.from_residual.result c.from_residual.ensures.1 in
-    rw (p.1, p.2) (early_on c.loop-place.invariant.2 c.in_err-number.ensures.early)
+returns-in_err-number-clause-early g c = early_on c.loop-place.invariant.2 c.in_err-number.ensures.early
 
 pub returns-clause-behind : goal.returns-clause-behind
 returns-clause-behind g c = λ items bytes after k calm begins stands tells room.
@@ -58,10 +56,9 @@ returns-in_err-number-clause-found g c = finds_any c.args.fields.now _ _ (return
 
 pub returns-in_err-number-clause-stopped : goal.returns-in_err-number-clause-stopped
 returns-in_err-number-clause-stopped g c =
-    let p = err_from_is_err_and c.from_residual.result c.from_residual.ensures.1 in
-    rw (p.1, p.2) (rests_on c.args.reader.now.state c.loop-place.reader.state c.args.reader.now.source c.loop-place.reader.source _
+    rests_on c.args.reader.now.state c.loop-place.reader.state c.args.reader.now.source c.loop-place.reader.source _
     (rests_in (λ r. r.state) c.args.reader.now.state c.args.reader.now c.loop-place.reader c.loop-place.invariant.4)
-    (rests_in (λ r. r.source) c.args.reader.now.state c.args.reader.now c.loop-place.reader c.loop-place.invariant.4) c.in_err-number.ensures.stopped)
+    (rests_in (λ r. r.source) c.args.reader.now.state c.args.reader.now c.loop-place.reader c.loop-place.invariant.4) c.in_err-number.ensures.stopped
 
 pub returns-clause-stopped : goal.returns-clause-stopped
 returns-clause-stopped g c = rests_in (λ r. r.source) c.args.reader.now.state c.args.reader.now c.loop-place.reader c.loop-place.invariant.4
@@ -75,7 +72,8 @@ returns-in_err-number-clause-none g c = λ e. absurd (omega (arith, ap length e)
 pub returns-in_err-number-clause-cause : goal.returns-in_err-number-clause-cause
 returns-in_err-number-clause-cause g c =
     let p = err_from_is_err_and c.from_residual.result c.from_residual.ensures.1 in
-    rw (p.1, p.2) (list_caused c.args.fields.now _ c.args.reader.now.state _ _ _ _ (returns-in_err-number-clause-meaning g c))
+    rw (p.1, p.2) (list_caused c.args.fields.now _ c.args.reader.now.state _ _ _ _
+    (field_refused c.args.fields.now c.loop-place.place _ _ _ _ _ _ _ _ _ (omega arith) (c.loop-place.invariant.1) (c.in_err-number.ensures.reads)))
 
 pub returns-clause-early : goal.returns-clause-early
 returns-clause-early g c = search rules

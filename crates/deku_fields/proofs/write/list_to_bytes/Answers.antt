@@ -39,8 +39,15 @@ returns-clause-back c = λ bytes T allowed aligned small bounded reads.
     as_taken c.args.items.now _ bytes T allowed aligned bounded reads (returns-clause-laid_out c all aligned small)
 
 pub returns-in_err-write_padded-clause-back : goal.returns-in_err-write_padded-clause-back
-returns-in_err-write_padded-clause-back c = λ bytes T allowed aligned small bounded reads.
-    returns-in_err-write_padded-clause-laid_out c (fitting_read c.args.items.now bytes T allowed aligned bounded reads) aligned small
+returns-in_err-write_padded-clause-back c =
+    let p = err_from_is_err_and c.from_residual.result c.from_residual.ensures.1 in
+    rw (p.1, p.2) (λ bytes T allowed aligned small bounded reads.
+    let begin = starts_empty _ _ (steady None) _ (ap place_of c.new-writer.ensures.sink ∙ c.new.ensures.position) (ap below c.new-writer.ensures.sink ∙ ap items_in c.new.ensures.inner ∙ c.room_ahead.ensures) c.new-writer.ensures.state in
+    laid_err c.args.items.now _ _ (fitting_read c.args.items.now bytes T allowed aligned bounded reads) aligned small
+    (from_start c.args.items.now _ _ _ begin (unbroken refl refl c.in_err-write_padded.ensures)))
 
 pub returns-in_err-write_padded-clause-cause : goal.returns-in_err-write_padded-clause-cause
-returns-in_err-write_padded-clause-cause c = whole_caused c.args.items.now _ (returns-in_err-write_padded-clause-meaning c)
+returns-in_err-write_padded-clause-cause c =
+    let p = err_from_is_err_and c.from_residual.result c.from_residual.ensures.1 in
+    rw (p.1, p.2) (let begin = starts_empty _ _ (steady None) _ (ap place_of c.new-writer.ensures.sink ∙ c.new.ensures.position) (ap below c.new-writer.ensures.sink ∙ ap items_in c.new.ensures.inner ∙ c.room_ahead.ensures) c.new-writer.ensures.state in
+    whole_caused c.args.items.now _ (_, from_start c.args.items.now _ _ _ begin (unbroken refl refl c.in_err-write_padded.ensures)))

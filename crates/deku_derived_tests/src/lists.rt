@@ -1,0 +1,295 @@
+//! Lists of which other fields say the size, and a list up to the end of the input.
+//!
+//! Printed by `derive` from `lists.rs`.
+
+ghost use Rattle.std.specs.Prelude.{◌-◌, ◌*◌, nat_lt, None, Some, if◌then◌else◌, refl};
+ghost use Rattle.deku_symmetry.specs.Fields.{be, msb};
+
+use deku::device::Sink;
+use deku::prelude::{DekuError, DekuWriter, Writer};
+use deku_symmetry::{
+    Be, Before, Codec, Coded, CopyParts, CountOf, CountOfLaw, CountedBy, CountedByRef, FilledBy,
+    Msb, Rest, SizeOf, SizeOfLaw, SizedBy,
+};
+use std::marker::PhantomData;
+
+/// An entry of a table.
+#[derive(Debug, Clone, Copy, PartialEq, Eq)]
+pub struct Entry {
+    pub kind: u8,
+    pub value: u16,
+}
+
+impl Entry {
+    /// The names of its parts, in their order.
+    pub const FIELDS: [&'static str; 2] = ["kind", "value"];
+}
+
+impl CopyParts for Entry {
+    type Parts = (u8, Be<u16>);
+
+    ghost parts_of = { λ r. (r.kind, be r.value) };
+
+    ghost record_of = { λ p. record { kind = p.0; value = p.1.0 } };
+
+    fn from_parts((kind, Be(value)): Self::Parts) -> Self {
+        Entry { kind, value }
+    }
+
+    fn parts(&self) -> Self::Parts {
+        (self.kind, Be(self.value))
+    }
+
+    ghost there = { λ r. refl };
+}
+
+/// A table, with its size in bytes.
+#[derive(Debug, PartialEq, Eq, Drop)]
+pub struct Table {
+    pub version: u8,
+    pub size: u16,
+    pub entries: Vec<Coded<Entry>>,
+    pub last: u8,
+}
+
+/// How many bits `entries` takes: `(size - 2) * 8`.
+#[derive(Debug, PartialEq, Eq, Drop)]
+pub struct TableEntriesSize;
+
+impl SizeOf<Msb<u16, 12>> for TableEntriesSize {
+    ghost size_of = { λ p. if nat_lt p.0 2 then None else Some ((p.0 - 2) * 8) };
+
+    fn size(parts: &Msb<u16, 12>) -> Option<usize> {
+        let size = parts.0 as usize;
+        if size < 2 {
+            return None;
+        }
+        Some((size - 2) * 8)
+    }
+}
+
+impl SizeOfLaw<Msb<u16, 12>> for TableEntriesSize {
+    ghost alike = { λ v w e. rw e refl };
+}
+
+impl Table {
+    /// The names of its parts, in their order.
+    pub const FIELDS: [&'static str; 4] = ["version", "size", "entries", "last"];
+}
+
+impl Codec for Table {
+    type Parts = (
+        Msb<u8, 4>,
+        FilledBy<Msb<u16, 12>, TableEntriesSize, Coded<Entry>>,
+        u8,
+    );
+
+    ghost parts_of = { λ r. (
+      msb r.version,
+      record { head = msb r.size; items = r.entries; size = record {} },
+      r.last,
+    ) };
+
+    ghost record_of = { λ p. record {
+      version = p.0.0;
+      size = p.1.head.0;
+      entries = p.1.items;
+      last = p.2;
+    } };
+
+    fn from_parts(parts: Self::Parts) -> Self {
+        let (
+            Msb(version),
+            FilledBy {
+                head: Msb(size),
+                items: entries,
+                ..
+            },
+            last,
+        ) = parts;
+        Table {
+            version,
+            size,
+            entries,
+            last,
+        }
+    }
+
+    fn write<W: Sink>(&self, writer: &mut Writer<W>) -> Result<(), DekuError> {
+        let parts = (
+            Msb::<_, 4>(self.version),
+            SizedBy::<_, TableEntriesSize, _> {
+                head: Msb::<_, 12>(self.size),
+                content: &self.entries,
+                size: PhantomData,
+            },
+            self.last,
+        );
+        parts.to_writer(writer, ())
+    }
+
+    ghost there = { λ r. refl };
+}
+
+/// Two lists, with their lengths in front of both.
+#[derive(Debug, PartialEq, Eq, Drop)]
+pub struct Pair {
+    pub names: u8,
+    pub values: u8,
+    pub name: Vec<u8>,
+    pub value: Vec<Be<u16>>,
+}
+
+type PairNameHead = (u8, u8);
+
+/// How many `name` there are: `names`.
+#[derive(Debug, PartialEq, Eq, Drop)]
+pub struct PairNameCount;
+
+impl CountOf<PairNameHead> for PairNameCount {
+    ghost count_of = { λ p. Some p.0 };
+
+    fn count(parts: &PairNameHead) -> Option<usize> {
+        let names = parts.0 as usize;
+        Some(names)
+    }
+}
+
+impl CountOfLaw<PairNameHead> for PairNameCount {
+    ghost alike = { λ v w e. rw e.0 refl };
+}
+
+type PairValueHead = CountedBy<PairNameHead, PairNameCount, u8>;
+
+type PairValueLent<'a> = CountedByRef<'a, PairNameHead, PairNameCount, u8>;
+
+/// How many `value` there are: `values`.
+#[derive(Debug, PartialEq, Eq, Drop)]
+pub struct PairValueCount;
+
+impl CountOf<PairValueHead> for PairValueCount {
+    ghost count_of = { λ p. Some p.head.1 };
+
+    fn count(parts: &PairValueHead) -> Option<usize> {
+        let values = parts.head.1 as usize;
+        Some(values)
+    }
+}
+
+impl<'a> CountOf<PairValueLent<'a>> for PairValueCount {
+    ghost count_of = { λ p. Some p.head.1 };
+
+    fn count(parts: &PairValueLent<'a>) -> Option<usize> {
+        let values = parts.head.1 as usize;
+        Some(values)
+    }
+}
+
+impl CountOfLaw<PairValueHead> for PairValueCount {
+    ghost alike = { λ v w e. rw e.0.1 refl };
+}
+
+impl Pair {
+    /// The names of its parts, in their order.
+    pub const FIELDS: [&'static str; 4] = ["names", "values", "name", "value"];
+}
+
+impl Codec for Pair {
+    type Parts = CountedBy<PairValueHead, PairValueCount, Be<u16>>;
+
+    ghost parts_of = { λ r. record {
+      head = record { head = (r.names, r.values); items = r.name; count = record {} };
+      items = r.value;
+      count = record {};
+    } };
+
+    ghost record_of = { λ p. record {
+      names = p.head.head.0;
+      values = p.head.head.1;
+      name = p.head.items;
+      value = p.items;
+    } };
+
+    fn from_parts(parts: Self::Parts) -> Self {
+        let CountedBy {
+            head: CountedBy {
+                head: (names, values),
+                items: name,
+                ..
+            },
+            items: value,
+            ..
+        } = parts;
+        Pair {
+            names,
+            values,
+            name,
+            value,
+        }
+    }
+
+    fn write<W: Sink>(&self, writer: &mut Writer<W>) -> Result<(), DekuError> {
+        let parts = CountedByRef::<_, PairValueCount, _> {
+            head: CountedByRef::<_, PairNameCount, _> {
+                head: (self.names, self.values),
+                items: &self.name,
+                count: PhantomData,
+            },
+            items: &self.value,
+            count: PhantomData,
+        };
+        parts.to_writer(writer, ())
+    }
+
+    ghost there = { λ r. refl };
+}
+
+/// A log, which goes on to the end.
+#[derive(Debug, PartialEq, Eq, Drop)]
+pub struct Log {
+    pub version: u8,
+    pub number: u16,
+    pub words: Vec<Be<u16>>,
+}
+
+impl Log {
+    /// The names of its parts, in their order.
+    pub const FIELDS: [&'static str; 3] = ["version", "number", "words"];
+}
+
+impl Codec for Log {
+    type Parts = Before<(Msb<u8, 4>, Msb<u16, 12>), Rest<Be<u16>>>;
+
+    ghost parts_of = { λ r. record {
+      head = (msb r.version, msb r.number);
+      rest = record { items = r.words };
+    } };
+
+    ghost record_of = { λ p. record {
+      version = p.head.0.0;
+      number = p.head.1.0;
+      words = p.rest.items;
+    } };
+
+    fn from_parts(parts: Self::Parts) -> Self {
+        let Before {
+            head: (Msb(version), Msb(number)),
+            rest: Rest { items: words },
+        } = parts;
+        Log {
+            version,
+            number,
+            words,
+        }
+    }
+
+    fn write<W: Sink>(&self, writer: &mut Writer<W>) -> Result<(), DekuError> {
+        let parts = Before {
+            head: (Msb::<_, 4>(self.version), Msb::<_, 12>(self.number)),
+            rest: &self.words,
+        };
+        parts.to_writer(writer, ())
+    }
+
+    ghost there = { λ r. refl };
+}
