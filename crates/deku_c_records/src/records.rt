@@ -27,11 +27,11 @@ pub trait ForC: Codec + Copy {
     /// ```text
     /// Sample::read_for_c(alloc, &[0x69, 0xC0, 0xFE], &mut sample)    // 0, and the sample
     /// ```
-    fn read_for_c(alloc: Global, bytes: &[u8], record: &mut Self) -> u32
+    fn read_for_c(alloc: Global, bytes: &[u8], place: &mut Self) -> u32
     where
         Self: Sized,
         requires { Self.Parts.DekuReader.accepts tt }
-        ensures { reads_for_c bytes.now result record.old record.new };
+        ensures { reads_for_c bytes.now result place.old place.new };
 
     /// Writes a record to the start of the bytes, as `to_slice` does: the last byte is filled with
     /// zeros, and the bytes after it stay. Returns `OK`, or the number of the error.
@@ -60,10 +60,10 @@ where
         (⟦<Coded<E> as DekuWriter<()>>⟧.meaning (coded v) tt)
         (⟦<Coded<E> as Symmetric<()>>⟧.pieces (coded v) tt) old status new };
 
-    fn read_for_c(alloc: Global, bytes: &[u8], record: &mut E) -> u32 {
+    fn read_for_c(alloc: Global, bytes: &[u8], place: &mut E) -> u32 {
         match Coded::<E>::unpack(alloc, bytes, ()) {
             Ok((_bits, Coded(value))) => {
-                *record = value;
+                *place = value;
                 OK
             }
             Err(error) => status_of(error),

@@ -137,7 +137,8 @@ fn named(out: &mut String, name: &str, names: Vec<Text>) -> Result<(), AllocErro
 // How many lines the function that makes a record of its parts has at most, with patterns.
 const LINES: usize = 38;
 
-// Appends the function that makes a record of its parts: by patterns, or by paths if it were long.
+// Appends the function that makes a record of its parts: by patterns; or by paths, if it were long and
+// nothing has to be moved out of them.
 fn from_parts(
     out: &mut String,
     record: &Record<'_>,
@@ -149,7 +150,7 @@ fn from_parts(
     let mut text = String::from_str(alloc, "    fn from_parts(")?;
     taken(&mut text, &whole.pattern)?;
     made(alloc, record, shape, fields, None)?.print(&mut text, 8, 0, false)?;
-    if text.as_str().lines().count() > LINES {
+    if !whole.is_lent && text.as_str().lines().count() > LINES {
         text = String::from_str(
             alloc,
             "    fn from_parts(parts: Self::Parts) -> Self {\n        ",

@@ -29,14 +29,14 @@ fn reading(out: &mut String, name: &str, function: &str) -> Result<(), AllocErro
 /// record stays as it was.
 #[unsafe(no_mangle)]"
     )?;
-    let record = format!(in *out.allocator(); "record: &mut {name}")?;
-    let parameters = ["alloc: Global", "bytes: &[u8]", record.as_str()];
+    let place = format!(in *out.allocator(); "place: &mut {name}")?;
+    let parameters = ["alloc: Global", "bytes: &[u8]", place.as_str()];
     signature(out, function, "read", &parameters)?;
     writeln!(
         out,
-        "    ensures {{ ⟦<{name} as ForC>⟧.reads_for_c bytes.now result record.old record.new }}
+        "    ensures {{ ⟦<{name} as ForC>⟧.reads_for_c bytes.now result place.old place.new }}
 {{
-    {name}::read_for_c(alloc, bytes, record)
+    {name}::read_for_c(alloc, bytes, place)
 }}"
     )
 }
@@ -50,18 +50,18 @@ fn writing(out: &mut String, name: &str, function: &str) -> Result<(), AllocErro
 /// number of the error.
 #[unsafe(no_mangle)]"
     )?;
-    let record = format!(in *out.allocator(); "record: &{name}")?;
+    let value = format!(in *out.allocator(); "value: &{name}")?;
     signature(
         out,
         function,
         "write",
-        &[record.as_str(), "bytes: &mut [u8]"],
+        &[value.as_str(), "bytes: &mut [u8]"],
     )?;
     writeln!(
         out,
-        "    ensures {{ ⟦<{name} as ForC>⟧.writes_for_c record.now bytes.old result bytes.new }}
+        "    ensures {{ ⟦<{name} as ForC>⟧.writes_for_c value.now bytes.old result bytes.new }}
 {{
-    record.write_for_c(bytes)
+    value.write_for_c(bytes)
 }}"
     )
 }

@@ -1,6 +1,6 @@
 //! A sample of a sensor.
 //!
-//! Printed by `derive` from `sample.rs`.
+//! Printed by `derive --c` from `sample.rs`.
 
 ghost use Rattle.std.specs.Prelude.{refl};
 ghost use Rattle.deku_symmetry.specs.Fields.{be, msb};
@@ -48,17 +48,17 @@ impl CopyParts for Sample {
 /// Reads a `Sample` from the first byte on. Returns 0; or the number of the error, and then the
 /// record stays as it was.
 #[unsafe(no_mangle)]
-pub extern "C" fn sample_read(alloc: Global, bytes: &[u8], record: &mut Sample) -> u32
-    ensures { ⟦<Sample as ForC>⟧.reads_for_c bytes.now result record.old record.new }
+pub extern "C" fn sample_read(alloc: Global, bytes: &[u8], place: &mut Sample) -> u32
+    ensures { ⟦<Sample as ForC>⟧.reads_for_c bytes.now result place.old place.new }
 {
-    Sample::read_for_c(alloc, bytes, record)
+    Sample::read_for_c(alloc, bytes, place)
 }
 
 /// Writes a `Sample` to the start of the bytes; those after it stay as they were. Returns 0, or the
 /// number of the error.
 #[unsafe(no_mangle)]
-pub extern "C" fn sample_write(record: &Sample, bytes: &mut [u8]) -> u32
-    ensures { ⟦<Sample as ForC>⟧.writes_for_c record.now bytes.old result bytes.new }
+pub extern "C" fn sample_write(value: &Sample, bytes: &mut [u8]) -> u32
+    ensures { ⟦<Sample as ForC>⟧.writes_for_c value.now bytes.old result bytes.new }
 {
-    record.write_for_c(bytes)
+    value.write_for_c(bytes)
 }
