@@ -1,4 +1,0 @@
-pub mod Plans
-pub mod Records
-pub mod Known
-pub mod Words
