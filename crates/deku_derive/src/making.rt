@@ -27,7 +27,12 @@ pub enum Made {
 /// make(alloc, "point.rs", "struct Point { x: i16, y: i16 }")?    // a module
 /// make(alloc, "point.rs", "struct Point { x: i17 }")?    // wrong: point.rs:1:19: error: ..
 /// ```
-pub fn make(alloc: Global, file: &str, path: Option<&str>, text: &str) -> Result<Made, AllocError> {
+pub fn make<'t>(
+    alloc: Global,
+    file: &'t str,
+    path: Option<&'t str>,
+    text: &str,
+) -> Result<Made, AllocError> {
     let (parsed, mut complaints) = parse(alloc, text)?;
     let (module, found) = check(alloc, text, parsed, complaints.is_empty())?;
     add(&mut complaints, found)?;
