@@ -1,4 +1,0 @@
-//! Records of the crate `samples` for C.
-#![tactic(auto)]
-
-pub mod sample;
