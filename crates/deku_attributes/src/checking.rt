@@ -13,8 +13,8 @@ use std::collections::BTreeSet;
 /// How many fields, kinds or words of attributes one thing may have.
 pub(crate) const LIMIT: usize = 256;
 
-/// The records of a description, with what is wrong with what they say. A part that is wrong is left
-/// out or taken as if it were not said. If the description is not whole, since something is wrong
+/// The records of a description, with what is wrong with what they say. A part that is wrong is
+/// left out or taken as if it were not said. If the description is not whole, since something is wrong
 /// with its form, names that are not in it are not complained of.
 ///
 /// # Errors

@@ -463,8 +463,8 @@ impl<'b, 'a> Builder<'b, 'a> {
         Ok(self.head(expression, false)?)
     }
 
-    // A list that the fields in front count, or say the size of, in units of so many bits; or an item
-    // that they show.
+    // A list that the fields in front count, or say the size of, in units of so many bits; or an
+    // item that they show.
     fn after_head(
         &mut self,
         field: &Field<'a>,

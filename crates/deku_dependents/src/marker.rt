@@ -66,8 +66,8 @@ impl Amount {
     }
 }
 
-/// Appends the type of a count or of a size: how many items of a field follow the parts, or how many
-/// bits.
+/// Appends the type of a count or of a size: how many items of a field follow the parts, or how
+/// many bits.
 pub fn count(
     out: &mut String,
     amount: Amount,

@@ -15,9 +15,9 @@ pub enum Made {
     Wrong(String),
 }
 
-/// The module of a description, or all that is wrong with it. A place is complained of once: what is
-/// wrong with the form comes first, then what is wrong with attributes, and then what has no module.
-/// The name of the file is what complaints and the module call it by.
+/// The module of a description, or all that is wrong with it. A place is complained of once: what
+/// is wrong with the form comes first, then what is wrong with attributes, and then what has no
+/// module. The name of the file is what complaints and the module call it by.
 ///
 /// # Errors
 ///

@@ -137,8 +137,8 @@ fn named(out: &mut String, name: &str, names: Vec<Text>) -> Result<(), AllocErro
 // How many lines the function that makes a record of its parts has at most, with patterns.
 const LINES: usize = 38;
 
-// Appends the function that makes a record of its parts: by patterns; or by paths, if it were long and
-// nothing has to be moved out of them.
+// Appends the function that makes a record of its parts: by patterns; or by paths, if it would be
+// long and nothing has to be moved out of them.
 fn from_parts(
     out: &mut String,
     record: &Record<'_>,

@@ -20,8 +20,8 @@ pub struct Place {
 /// Parts that say how far they were read. All parts of records do.
 ///
 /// The parts of a tuple, and of what follows a head, are counted one by one, those inside them too.
-/// Everything else is one part: a number, a constant, padding, an array, a list, an option, an enum,
-/// and a record in another one. A check belongs to the last part that it is about.
+/// Everything else is one part: a number, a constant, padding, an array, a list, an option, an
+/// enum, and a record in another one. A check belongs to the last part that it is about.
 ///
 /// ```text
 /// (Msb<u8, 4>, Msb<u8, 4>, Be<u16>)                           // three parts

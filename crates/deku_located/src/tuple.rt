@@ -26,7 +26,8 @@ impl<A: Steps, B: Steps> Steps for (A, B) {
 impl<A: Steps, B: Steps, C: Steps> Steps for (A, B, C) {
     ghost steps = { A.steps + ⟦<(B, C) as Steps>⟧.steps };
 
-    ghost placed = { Joined (λ a rest. (a, rest.0, rest.1)) A.placed (λ _. ⟦<(B, C) as Steps>⟧.placed) };
+    ghost placed = { Joined (λ a rest. (a, rest.0, rest.1))
+        A.placed (λ _. ⟦<(B, C) as Steps>⟧.placed) };
 
     #[inline(always)]
     fn read_steps<R: Source>(reader: &mut Reader<R>, place: &mut Place) -> Result<Self, DekuError> {
@@ -39,7 +40,8 @@ impl<A: Steps, B: Steps, C: Steps> Steps for (A, B, C) {
 impl<A: Steps, B: Steps, C: Steps, D: Steps> Steps for (A, B, C, D) {
     ghost steps = { A.steps + ⟦<(B, C, D) as Steps>⟧.steps };
 
-    ghost placed = { Joined (λ a rest. (a, rest.0, rest.1, rest.2)) A.placed (λ _. ⟦<(B, C, D) as Steps>⟧.placed) };
+    ghost placed = { Joined (λ a rest. (a, rest.0, rest.1, rest.2))
+        A.placed (λ _. ⟦<(B, C, D) as Steps>⟧.placed) };
 
     #[inline(always)]
     fn read_steps<R: Source>(reader: &mut Reader<R>, place: &mut Place) -> Result<Self, DekuError> {
@@ -52,7 +54,8 @@ impl<A: Steps, B: Steps, C: Steps, D: Steps> Steps for (A, B, C, D) {
 impl<A: Steps, B: Steps, C: Steps, D: Steps, E: Steps> Steps for (A, B, C, D, E) {
     ghost steps = { A.steps + ⟦<(B, C, D, E) as Steps>⟧.steps };
 
-    ghost placed = { Joined (λ a rest. (a, rest.0, rest.1, rest.2, rest.3)) A.placed (λ _. ⟦<(B, C, D, E) as Steps>⟧.placed) };
+    ghost placed = { Joined (λ a rest. (a, rest.0, rest.1, rest.2, rest.3))
+        A.placed (λ _. ⟦<(B, C, D, E) as Steps>⟧.placed) };
 
     #[inline(always)]
     fn read_steps<R: Source>(reader: &mut Reader<R>, place: &mut Place) -> Result<Self, DekuError> {
@@ -65,7 +68,8 @@ impl<A: Steps, B: Steps, C: Steps, D: Steps, E: Steps> Steps for (A, B, C, D, E)
 impl<A: Steps, B: Steps, C: Steps, D: Steps, E: Steps, F: Steps> Steps for (A, B, C, D, E, F) {
     ghost steps = { A.steps + ⟦<(B, C, D, E, F) as Steps>⟧.steps };
 
-    ghost placed = { Joined (λ a rest. (a, rest.0, rest.1, rest.2, rest.3, rest.4)) A.placed (λ _. ⟦<(B, C, D, E, F) as Steps>⟧.placed) };
+    ghost placed = { Joined (λ a rest. (a, rest.0, rest.1, rest.2, rest.3, rest.4))
+        A.placed (λ _. ⟦<(B, C, D, E, F) as Steps>⟧.placed) };
 
     #[inline(always)]
     fn read_steps<R: Source>(reader: &mut Reader<R>, place: &mut Place) -> Result<Self, DekuError> {
@@ -79,7 +83,8 @@ impl<A: Steps, B: Steps, C: Steps, D: Steps, E: Steps, F: Steps, G: Steps> Steps
     for (A, B, C, D, E, F, G) {
     ghost steps = { A.steps + ⟦<(B, C, D, E, F, G) as Steps>⟧.steps };
 
-    ghost placed = { Joined (λ a rest. (a, rest.0, rest.1, rest.2, rest.3, rest.4, rest.5)) A.placed (λ _. ⟦<(B, C, D, E, F, G) as Steps>⟧.placed) };
+    ghost placed = { Joined (λ a rest. (a, rest.0, rest.1, rest.2, rest.3, rest.4, rest.5))
+        A.placed (λ _. ⟦<(B, C, D, E, F, G) as Steps>⟧.placed) };
 
     #[inline(always)]
     fn read_steps<R: Source>(reader: &mut Reader<R>, place: &mut Place) -> Result<Self, DekuError> {
@@ -93,7 +98,8 @@ impl<A: Steps, B: Steps, C: Steps, D: Steps, E: Steps, F: Steps, G: Steps, H: St
     for (A, B, C, D, E, F, G, H) {
     ghost steps = { A.steps + ⟦<(B, C, D, E, F, G, H) as Steps>⟧.steps };
 
-    ghost placed = { Joined (λ a rest. (a, rest.0, rest.1, rest.2, rest.3, rest.4, rest.5, rest.6)) A.placed (λ _. ⟦<(B, C, D, E, F, G, H) as Steps>⟧.placed) };
+    ghost placed = { Joined (λ a rest. (a, rest.0, rest.1, rest.2, rest.3, rest.4, rest.5, rest.6))
+        A.placed (λ _. ⟦<(B, C, D, E, F, G, H) as Steps>⟧.placed) };
 
     #[inline(always)]
     fn read_steps<R: Source>(reader: &mut Reader<R>, place: &mut Place) -> Result<Self, DekuError> {
@@ -107,7 +113,8 @@ impl<A: Steps, B: Steps, C: Steps, D: Steps, E: Steps, F: Steps, G: Steps, H: St
     for (A, B, C, D, E, F, G, H, I) {
     ghost steps = { A.steps + ⟦<(B, C, D, E, F, G, H, I) as Steps>⟧.steps };
 
-    ghost placed = { Joined (λ a rest. (a, rest.0, rest.1, rest.2, rest.3, rest.4, rest.5, rest.6, rest.7)) A.placed (λ _. ⟦<(B, C, D, E, F, G, H, I) as Steps>⟧.placed) };
+    ghost placed = { Joined (λ a rest. (a, rest.0, rest.1, rest.2, rest.3, rest.4, rest.5, rest.6, rest.7))
+        A.placed (λ _. ⟦<(B, C, D, E, F, G, H, I) as Steps>⟧.placed) };
 
     #[inline(always)]
     fn read_steps<R: Source>(reader: &mut Reader<R>, place: &mut Place) -> Result<Self, DekuError> {
@@ -131,7 +138,8 @@ impl<
 > Steps for (A, B, C, D, E, F, G, H, I, J) {
     ghost steps = { A.steps + ⟦<(B, C, D, E, F, G, H, I, J) as Steps>⟧.steps };
 
-    ghost placed = { Joined (λ a rest. (a, rest.0, rest.1, rest.2, rest.3, rest.4, rest.5, rest.6, rest.7, rest.8)) A.placed (λ _. ⟦<(B, C, D, E, F, G, H, I, J) as Steps>⟧.placed) };
+    ghost placed = { Joined (λ a rest. (a, rest.0, rest.1, rest.2, rest.3, rest.4, rest.5, rest.6, rest.7, rest.8))
+        A.placed (λ _. ⟦<(B, C, D, E, F, G, H, I, J) as Steps>⟧.placed) };
 
     #[inline(always)]
     fn read_steps<R: Source>(reader: &mut Reader<R>, place: &mut Place) -> Result<Self, DekuError> {
@@ -156,7 +164,8 @@ impl<
 > Steps for (A, B, C, D, E, F, G, H, I, J, K) {
     ghost steps = { A.steps + ⟦<(B, C, D, E, F, G, H, I, J, K) as Steps>⟧.steps };
 
-    ghost placed = { Joined (λ a rest. (a, rest.0, rest.1, rest.2, rest.3, rest.4, rest.5, rest.6, rest.7, rest.8, rest.9)) A.placed (λ _. ⟦<(B, C, D, E, F, G, H, I, J, K) as Steps>⟧.placed) };
+    ghost placed = { Joined (λ a rest. (a, rest.0, rest.1, rest.2, rest.3, rest.4, rest.5, rest.6, rest.7, rest.8, rest.9))
+        A.placed (λ _. ⟦<(B, C, D, E, F, G, H, I, J, K) as Steps>⟧.placed) };
 
     #[inline(always)]
     fn read_steps<R: Source>(reader: &mut Reader<R>, place: &mut Place) -> Result<Self, DekuError> {

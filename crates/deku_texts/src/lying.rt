@@ -61,8 +61,8 @@ pub fn number(order: Order, bits: Option<u64>, whole: u64, is_big: bool) -> Wrap
     Wrapping { around, bits }
 }
 
-/// How many parts a field is that no other field has to do with: those of a tuple are counted one by
-/// one.
+/// How many parts a field is that no other field has to do with: those of a tuple are counted one
+/// by one.
 pub fn count_of(field: &Field<'_>) -> usize {
     if lying(field).around.is_empty() {
         items_of(&field.kind)
