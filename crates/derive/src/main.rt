@@ -4,6 +4,7 @@
 
 use clap::{Arg, ArgAction, ArgMatches, Command, Error};
 use deku_derive::making::{Made, make, module_path};
+use deku_exports::{Wanted, make_for_c};
 use deku_tokens::place::first_difference;
 use std::alloc::Global;
 use std::process::ExitCode;
@@ -50,6 +51,15 @@ fn command<'a>(alloc: Global) -> Result<Command<'a>, Error> {
         .action(ArgAction::SetTrue)
         .requires_arg("MODULE")?
         .help("Says whether MODULE is what would be printed");
+    let for_c = Arg::new(alloc, "c")
+        .long("c")
+        .action(ArgAction::SetTrue)
+        .conflicts_with("header")?
+        .help("Prints the records as C lays them out, with functions that C calls");
+    let header = Arg::new(alloc, "header")
+        .long("header")
+        .action(ArgAction::SetTrue)
+        .help("Prints the header of these functions");
     let command = Command::new(alloc, "derive").about(ABOUT);
     Ok(
         command
@@ -57,7 +67,9 @@ fn command<'a>(alloc: Global) -> Result<Command<'a>, Error> {
             .arg(module)?
             .arg(output)?
             .arg(path)?
-            .arg(check)?,
+            .arg(check)?
+            .arg(for_c)?
+            .arg(header)?,
     )
 }
 
@@ -73,7 +85,11 @@ fn run(rt: &HostRuntime, matches: &ArgMatches<'_>) -> io::Result<bool> {
         .or(matches.get_str("MODULE"))
         .unwrap_or("");
     let path = module_path(rt.alloc(), named, printed)?;
-    let text = match make(rt.alloc(), name, path.as_deref(), text.as_str())? {
+    let made = match wanted(matches) {
+        None => make(rt.alloc(), name, path.as_deref(), text.as_str())?,
+        Some(wanted) => make_for_c(rt.alloc(), name, path.as_deref(), text.as_str(), wanted)?,
+    };
+    let text = match made {
         Made::Module(text) => text,
         Made::Wrong(told) => {
             eprint!(rt; "{told}")?;
@@ -94,6 +110,17 @@ fn run(rt: &HostRuntime, matches: &ArgMatches<'_>) -> io::Result<bool> {
             print!(rt; "{text}")?;
             Ok(true)
         }
+    }
+}
+
+// What is wanted for C, if anything is.
+fn wanted(matches: &ArgMatches<'_>) -> Option<Wanted> {
+    if matches.get_flag("c") {
+        Some(Wanted::Module)
+    } else if matches.get_flag("header") {
+        Some(Wanted::Header)
+    } else {
+        None
     }
 }
 

@@ -1,0 +1,260 @@
+//! Which records C has, and what of them it has not.
+
+use deku_attributes::model::{Attribute, Field, Form, Module, Record};
+use deku_attributes::reading::bits_of;
+use deku_description::syntax::{Constant, Length, Shape, Type};
+use deku_texts::refusal::Stop;
+use deku_texts::words::snake;
+use deku_tokens::place::Complaint;
+use deku_tokens::token::Token;
+use std::alloc::{AllocError, Global};
+use std::fmt::Write as _;
+
+/// A record as C has it.
+#[derive(Drop)]
+pub(crate) struct Crossed<'m, 'a> {
+    pub(crate) record: &'m Record<'a>,
+    /// The lines of its fields.
+    pub(crate) fields: Vec<String>,
+    /// How many bytes it is written as.
+    pub(crate) bytes: u64,
+    // How many bits it has.
+    bits: u64,
+}
+
+// The words of C and of C++ that name no field there, and are no words of Rust.
+const WORDS: [&str; 48] = [
+    "alignas",
+    "alignof",
+    "and",
+    "and_eq",
+    "asm",
+    "auto",
+    "bitand",
+    "bitor",
+    "bool",
+    "case",
+    "catch",
+    "char",
+    "class",
+    "compl",
+    "constexpr",
+    "decltype",
+    "default",
+    "delete",
+    "double",
+    "explicit",
+    "export",
+    "float",
+    "friend",
+    "goto",
+    "inline",
+    "int",
+    "long",
+    "mutable",
+    "namespace",
+    "new",
+    "noexcept",
+    "not",
+    "not_eq",
+    "nullptr",
+    "operator",
+    "or",
+    "or_eq",
+    "private",
+    "protected",
+    "public",
+    "register",
+    "restrict",
+    "short",
+    "signed",
+    "sizeof",
+    "switch",
+    "this",
+    "throw",
+];
+
+/// The records of a module as C has them, with what C has not.
+pub(crate) fn records_of<'m, 'a>(
+    alloc: Global,
+    module: &'m Module<'a>,
+) -> Result<(Vec<Crossed<'m, 'a>>, Vec<Complaint>), AllocError> {
+    let mut records = Vec::new(alloc);
+    let mut complaints = Vec::new(alloc);
+    for record in &module.records {
+        let constants = module.constants.as_slice();
+        match crossed_record(alloc, constants, records.as_slice(), record) {
+            Ok(made) => records.push(made)?,
+            Err(Stop::Wrong(complaint)) => complaints.push(complaint)?,
+            Err(Stop::Memory) => return Err(AllocError),
+        };
+    }
+    Ok((records, complaints))
+}
+
+// A record as C has it, of which these are before.
+fn crossed_record<'m, 'a>(
+    alloc: Global,
+    constants: &[Constant<'a>],
+    before: &[Crossed<'m, 'a>],
+    record: &'m Record<'a>,
+) -> Result<Crossed<'m, 'a>, Stop> {
+    let fields = match &record.form {
+        Form::Struct(Shape::Named, fields) => fields,
+        _ => {
+            return Stop::wrong(
+                alloc,
+                record.name.span,
+                "C gets only structs whose fields have names",
+                "write such a struct, or print this one without `--c`",
+            );
+        }
+    };
+    let mut lines = Vec::new(alloc);
+    let mut bits = bits_of_magic(record.magic.as_ref());
+    for field in fields {
+        let (line, more) = crossed_field(alloc, constants, before, field)?;
+        lines.push(line)?;
+        bits = bits.saturating_add(more);
+    }
+    Ok(Crossed {
+        record,
+        fields: lines,
+        bytes: bits.div_ceil(8),
+        bits,
+    })
+}
+
+fn bits_of_magic(magic: Option<&Vec<u8>>) -> u64 {
+    match magic {
+        Some(bytes) => 8u64.saturating_mul(bytes.len() as u64),
+        None => 0,
+    }
+}
+
+// A field as C has it, and how many bits it has with its padding.
+fn crossed_field<'a>(
+    alloc: Global,
+    constants: &[Constant<'a>],
+    before: &[Crossed<'_, 'a>],
+    field: &Field<'a>,
+) -> Result<(String, u64), Stop> {
+    let name = match field.name {
+        Some(name) => name,
+        None => return Err(Stop::Memory),
+    };
+    let text = name.text;
+    if WORDS.contains(&text) {
+        return Stop::wrong(
+            alloc,
+            name.span,
+            "a field with the name of a word of C",
+            "give it another name",
+        );
+    }
+    let mut lengths = String::new(alloc);
+    let Some((item, count)) = item_of(&field.kind, constants, &mut lengths)? else {
+        return lacking(alloc, field);
+    };
+    let Some((kind, bits)) = kind_of(alloc, before, item.text, field.bits)? else {
+        return lacking(alloc, field);
+    };
+    let (kind, lengths) = (kind.as_str(), lengths.as_str());
+    let line = format!(in alloc; "{kind} {text}{lengths}")?;
+    Ok((
+        line,
+        bits_around(field).saturating_add(bits.saturating_mul(count)),
+    ))
+}
+
+// Complains of a field that C does not have.
+fn lacking<T>(alloc: Global, field: &Field<'_>) -> Result<T, Stop> {
+    Stop::wrong(
+        alloc,
+        field.span,
+        "C gets only numbers of at most 64 bits, truth values, records before this one, and arrays",
+        "write such a field, or print the record without `--c`",
+    )
+}
+
+// The type of the items of an array, or of a type that is none, and how many they are. The lengths
+// are appended as C writes them.
+fn item_of<'a>(
+    kind: &Type<'a>,
+    constants: &[Constant<'a>],
+    lengths: &mut String,
+) -> Result<Option<(Token<'a>, u64)>, AllocError> {
+    match kind {
+        Type::Name(name) => Ok(Some((*name, 1))),
+        Type::Array(item, length) => {
+            let length = length_of(*length, constants);
+            write!(lengths, "[{length}]")?;
+            match item_of(item, constants, lengths)? {
+                Some((name, count)) => Ok(Some((name, count.saturating_mul(length)))),
+                None => Ok(None),
+            }
+        }
+        Type::Of(_, _) | Type::Tuple(_) => Ok(None),
+    }
+}
+
+// The length of an array. Another complaint is about a constant that is not there.
+fn length_of(length: Length<'_>, constants: &[Constant<'_>]) -> u64 {
+    match length {
+        Length::Number(number) => number,
+        Length::Name(name) => match constants.iter().find(|it| it.name.text == name.text) {
+            Some(constant) => constant.value,
+            None => 0,
+        },
+    }
+}
+
+// A type as C has it, and how many bits it has where as many are said.
+fn kind_of(
+    alloc: Global,
+    before: &[Crossed<'_, '_>],
+    name: &str,
+    said: Option<u64>,
+) -> Result<Option<(String, u64)>, AllocError> {
+    if let (Some(kind), Some(bits)) = (number(name), bits_of(name)) {
+        let kind = String::from_str(alloc, kind)?;
+        return Ok(Some((kind, said.unwrap_or(bits))));
+    }
+    match before.iter().find(|it| it.record.name.text == name) {
+        Some(inner) => {
+            let name = snake(alloc, name)?;
+            let name = name.as_str();
+            Ok(Some((format!(in alloc; "struct {name}")?, inner.bits)))
+        }
+        None => Ok(None),
+    }
+}
+
+// What C calls a number, or a truth value.
+fn number(name: &str) -> Option<&'static str> {
+    match name {
+        "u8" => Some("uint8_t"),
+        "u16" => Some("uint16_t"),
+        "u32" => Some("uint32_t"),
+        "u64" | "usize" => Some("uint64_t"),
+        "i8" => Some("int8_t"),
+        "i16" => Some("int16_t"),
+        "i32" => Some("int32_t"),
+        "i64" | "isize" => Some("int64_t"),
+        "bool" => Some("bool"),
+        _ => None,
+    }
+}
+
+// The bits of the padding around a field, and of the bytes in front of it.
+fn bits_around(field: &Field<'_>) -> u64 {
+    let mut bits = 0u64;
+    for attribute in &field.attributes {
+        bits = bits.saturating_add(match attribute {
+            Attribute::PadBefore(more) | Attribute::PadAfter(more) => *more,
+            Attribute::Magic(bytes) => bits_of_magic(Some(bytes)),
+            _ => 0,
+        });
+    }
+    bits
+}

@@ -1,0 +1,136 @@
+//! The header of the functions that C calls.
+
+use crate::crossing::Crossed;
+use deku_attributes::model::Module;
+use deku_texts::words::snake;
+use std::alloc::{AllocError, Global};
+use std::fmt::Write as _;
+
+const CALLERS: &str = "
+ * What every call needs of its caller:
+ * - No pointer is null, and each is aligned for its type.
+ * - The memory that a call writes overlaps no other argument, and nothing else uses it meanwhile.
+ * - A `bool` is 0 or 1.
+ *
+ * The calls keep nothing, and may run in any number of threads at once. They return 0, or the number
+ * of the error, as `enum dishkaru_status` of dishkaru.h names it: 3 if the bytes end, 5 if a value
+ * does not fit its field, 6 if a check fails, 8 if there is too little room.
+ */
+";
+
+const BEGIN: &str = "
+#include <stdbool.h>
+#include <stddef.h>
+#include <stdint.h>
+
+#ifdef __cplusplus
+extern \"C\" {
+#endif
+";
+
+const END: &str = "
+#ifdef __cplusplus
+}
+#endif
+
+#endif
+";
+
+/// The header of a module with these records.
+pub(crate) fn header(
+    alloc: Global,
+    file: &str,
+    module: &Module<'_>,
+    records: &[Crossed<'_, '_>],
+) -> Result<String, AllocError> {
+    let file = file.rsplit('/').next().unwrap_or(file);
+    let guard = guard_of(alloc, file)?;
+    let guard = guard.as_str();
+    let mut out = String::from_str(alloc, "/*\n")?;
+    comment(&mut out, module.docs.as_slice(), " *")?;
+    if !module.docs.is_empty() {
+        out.push_str(" *\n")?;
+    }
+    writeln!(out, " * Printed by `derive --header` from `{file}`.\n *")?;
+    out.push_str(CALLERS.trim_start_matches('\n'))?;
+    writeln!(out, "#ifndef {guard}\n#define {guard}")?;
+    out.push_str(BEGIN)?;
+    for record in records {
+        declared(&mut out, record)?;
+    }
+    out.push_str(END)?;
+    Ok(out)
+}
+
+// The macro that keeps a header from being read twice: of `point.rs` `POINT_H`.
+fn guard_of(alloc: Global, file: &str) -> Result<String, AllocError> {
+    let mut guard = String::new(alloc);
+    for letter in file.strip_suffix(".rs").unwrap_or(file).chars() {
+        guard.push(if letter.is_ascii_alphanumeric() {
+            letter.to_ascii_uppercase()
+        } else {
+            '_'
+        })?;
+    }
+    guard.push_str("_H")?;
+    Ok(guard)
+}
+
+// Appends lines of a comment, but for those that would end it.
+fn comment(out: &mut String, lines: &[&str], marks: &str) -> Result<(), AllocError> {
+    for line in lines {
+        if !line.contains("*/") {
+            writeln!(out, "{marks}{line}")?;
+        }
+    }
+    Ok(())
+}
+
+// Appends a struct and its functions.
+fn declared(out: &mut String, crossed: &Crossed<'_, '_>) -> Result<(), AllocError> {
+    let alloc = *out.allocator();
+    let record = crossed.record;
+    let name = snake(alloc, record.name.text)?;
+    let name = name.as_str();
+    out.push_str("\n/*\n")?;
+    comment(out, record.docs.as_slice(), " *")?;
+    if record.docs.is_empty() {
+        let text = record.name.text;
+        writeln!(out, " * The record `{text}`.")?;
+    }
+    writeln!(out, " */\nstruct {name} {{")?;
+    for field in &crossed.fields {
+        let field = field.as_str();
+        writeln!(out, "    {field};")?;
+    }
+    let large = upper(alloc, name)?;
+    let (large, bytes) = (large.as_str(), crossed.bytes);
+    writeln!(
+        out,
+        "}};
+
+/* How many bytes a struct {name} is read from, and written as. */
+#define {large}_BYTES {bytes}
+
+/*
+ * Reads *record from the first of the bytes on; those after it are ignored. After an error *record
+ * is as it was.
+ */
+uint32_t {name}_read(const uint8_t *bytes, size_t byte_count, struct {name} *record);
+
+/*
+ * Writes *record to the start of the bytes; those after it stay as they were. After an error some of
+ * the bytes may have been written.
+ */
+uint32_t {name}_write(const struct {name} *record, uint8_t *bytes, size_t byte_count);"
+    )
+}
+
+// A name with large letters.
+fn upper(alloc: Global, name: &str) -> Result<String, AllocError> {
+    let mut large = String::new(alloc);
+    for letter in name.chars() {
+        large.push(letter.to_ascii_uppercase())?;
+    }
+    Ok(large)
+}

@@ -1,0 +1,4 @@
+//! Records of the crate `samples` for C.
+#![tactic(auto)]
+
+pub mod sample;
