@@ -1,5 +1,6 @@
 //! Which records C has, and what of them it has not.
 
+use crate::header::noted;
 use deku_attributes::model::{Attribute, Field, Form, Module, Record};
 use deku_attributes::reading::bits_of;
 use deku_description::syntax::{Constant, Length, Shape, Type};
@@ -14,7 +15,7 @@ use std::fmt::Write as _;
 #[derive(Drop)]
 pub(crate) struct Crossed<'m, 'a> {
     pub(crate) record: &'m Record<'a>,
-    /// The lines of its fields.
+    /// Its fields, each with its comment.
     pub(crate) fields: Vec<String>,
     /// How many bytes it is written as.
     pub(crate) bytes: u64,
@@ -113,8 +114,8 @@ fn crossed_record<'m, 'a>(
     let mut lines = Vec::new(alloc);
     let mut bits = bits_of_magic(record.magic.as_ref());
     for field in fields {
-        let (line, more) = crossed_field(alloc, constants, before, field)?;
-        lines.push(line)?;
+        let (made, more) = crossed_field(alloc, constants, before, field)?;
+        lines.push(made)?;
         bits = bits.saturating_add(more);
     }
     Ok(Crossed {
@@ -160,9 +161,11 @@ fn crossed_field<'a>(
         return lacking(alloc, field);
     };
     let (kind, lengths) = (kind.as_str(), lengths.as_str());
-    let line = format!(in alloc; "{kind} {text}{lengths}")?;
+    let mut lines = String::new(alloc);
+    noted(&mut lines, field.docs.as_slice())?;
+    writeln!(lines, "    {kind} {text}{lengths};")?;
     Ok((
-        line,
+        lines,
         bits_around(field).saturating_add(bits.saturating_mul(count)),
     ))
 }

@@ -8,6 +8,20 @@ use std::fmt::Write as _;
 // The columns of a line.
 const WIDTH: usize = 100;
 
+// What is above a function that reads.
+const READS: &str = "
+/// Reads the record from the first byte on. Returns 0, or the number of the error; the record then
+/// stays as it was.
+#[unsafe(no_mangle)]
+";
+
+// What is above a function that writes.
+const WRITES: &str = "
+/// Writes the record to the start of the bytes; those after it stay as they were. Returns 0, or the
+/// number of the error.
+#[unsafe(no_mangle)]
+";
+
 /// The functions of all records of a module, as they end it.
 pub(crate) fn exports(alloc: Global, module: &Module<'_>) -> Result<String, AllocError> {
     let mut out = String::new(alloc);
@@ -22,13 +36,7 @@ pub(crate) fn exports(alloc: Global, module: &Module<'_>) -> Result<String, Allo
 
 // Appends the function that reads a record.
 fn reading(out: &mut String, name: &str, function: &str) -> Result<(), AllocError> {
-    writeln!(
-        out,
-        "
-/// Reads a `{name}` from the first byte on. Returns 0; or the number of the error, and then the
-/// record stays as it was.
-#[unsafe(no_mangle)]"
-    )?;
+    out.push_str(READS)?;
     let place = format!(in *out.allocator(); "place: &mut {name}")?;
     let parameters = ["alloc: Global", "bytes: &[u8]", place.as_str()];
     signature(out, function, "read", &parameters)?;
@@ -43,13 +51,7 @@ fn reading(out: &mut String, name: &str, function: &str) -> Result<(), AllocErro
 
 // Appends the function that writes a record.
 fn writing(out: &mut String, name: &str, function: &str) -> Result<(), AllocError> {
-    writeln!(
-        out,
-        "
-/// Writes a `{name}` to the start of the bytes; those after it stay as they were. Returns 0, or the
-/// number of the error.
-#[unsafe(no_mangle)]"
-    )?;
+    out.push_str(WRITES)?;
     let value = format!(in *out.allocator(); "value: &{name}")?;
     signature(
         out,

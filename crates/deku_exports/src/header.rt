@@ -12,9 +12,9 @@ const CALLERS: &str = "
  * - The memory that a call writes overlaps no other argument, and nothing else uses it meanwhile.
  * - A `bool` is 0 or 1.
  *
- * The calls keep nothing, and may run in any number of threads at once. They return 0, or the number
- * of the error, as `enum dishkaru_status` of dishkaru.h names it: 3 if the bytes end, 5 if a value
- * does not fit its field, 6 if a check fails, 8 if there is too little room.
+ * The calls keep nothing, and may run in any number of threads at once. They return 0, or the
+ * number of the error, as `enum dishkaru_status` of dishkaru.h names it: 3 if the bytes end, 5 if a
+ * value does not fit its field, 6 if a check fails, 8 if there is too little room.
  */
 ";
 
@@ -86,6 +86,19 @@ fn comment(out: &mut String, lines: &[&str], marks: &str) -> Result<(), AllocErr
     Ok(())
 }
 
+/// Appends the comment of a field.
+pub(crate) fn noted(out: &mut String, lines: &[&str]) -> Result<(), AllocError> {
+    match lines {
+        [] => Ok(()),
+        [line] if !line.contains("*/") => writeln!(out, "    /*{line} */"),
+        _ => {
+            out.push_str("    /*\n")?;
+            comment(out, lines, "     *")?;
+            out.push_str("     */\n")
+        }
+    }
+}
+
 // Appends a struct and its functions.
 fn declared(out: &mut String, crossed: &Crossed<'_, '_>) -> Result<(), AllocError> {
     let alloc = *out.allocator();
@@ -100,8 +113,7 @@ fn declared(out: &mut String, crossed: &Crossed<'_, '_>) -> Result<(), AllocErro
     }
     writeln!(out, " */\nstruct {name} {{")?;
     for field in &crossed.fields {
-        let field = field.as_str();
-        writeln!(out, "    {field};")?;
+        out.push_str(field.as_str())?;
     }
     let large = upper(alloc, name)?;
     let (large, bytes) = (large.as_str(), crossed.bytes);
@@ -119,8 +131,8 @@ fn declared(out: &mut String, crossed: &Crossed<'_, '_>) -> Result<(), AllocErro
 uint32_t {name}_read(const uint8_t *bytes, size_t byte_count, struct {name} *record);
 
 /*
- * Writes *record to the start of the bytes; those after it stay as they were. After an error some of
- * the bytes may have been written.
+ * Writes *record to the start of the bytes; those after it stay as they were. After an error some
+ * of the bytes may have been written.
  */
 uint32_t {name}_write(const struct {name} *record, uint8_t *bytes, size_t byte_count);"
     )

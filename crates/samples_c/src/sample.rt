@@ -45,8 +45,8 @@ impl CopyParts for Sample {
     ghost there = { λ r. refl };
 }
 
-/// Reads a `Sample` from the first byte on. Returns 0; or the number of the error, and then the
-/// record stays as it was.
+/// Reads the record from the first byte on. Returns 0, or the number of the error; the record then
+/// stays as it was.
 #[unsafe(no_mangle)]
 pub extern "C" fn sample_read(alloc: Global, bytes: &[u8], place: &mut Sample) -> u32
     ensures { ⟦<Sample as ForC>⟧.reads_for_c bytes.now result place.old place.new }
@@ -54,7 +54,7 @@ pub extern "C" fn sample_read(alloc: Global, bytes: &[u8], place: &mut Sample) -
     Sample::read_for_c(alloc, bytes, place)
 }
 
-/// Writes a `Sample` to the start of the bytes; those after it stay as they were. Returns 0, or the
+/// Writes the record to the start of the bytes; those after it stay as they were. Returns 0, or the
 /// number of the error.
 #[unsafe(no_mangle)]
 pub extern "C" fn sample_write(value: &Sample, bytes: &mut [u8]) -> u32

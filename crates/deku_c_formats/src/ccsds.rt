@@ -1,0 +1,181 @@
+//! CCSDS space packets: the primary header of CCSDS 133.0-B-2, and a sample of telemetry.
+//!
+//! Printed by `derive --c` from `ccsds.rs`.
+
+ghost use Rattle.std.specs.Prelude.{refl};
+ghost use Rattle.deku_symmetry.specs.Fields.{be, msb};
+
+use deku_c_records::ForC;
+use deku_symmetry::{Be, CopyParts, Msb};
+use std::alloc::Global;
+
+/// The record `SpacePacket`.
+#[repr(C)]
+#[derive(Debug, Clone, Copy, PartialEq, Eq)]
+pub struct SpacePacket {
+    /// The version of the packet.
+    pub version: u8,
+    /// 0 for telemetry, 1 for a command.
+    pub kind: u8,
+    /// Whether a secondary header follows.
+    pub secondary: u8,
+    /// The application process identifier.
+    pub application: u16,
+    /// The place of the packet in a group: 3 for a packet of its own.
+    pub grouping: u8,
+    /// The sequence count.
+    pub count: u16,
+    /// The number of bytes after the header, minus one.
+    pub length: u16,
+}
+
+impl SpacePacket {
+    /// The names of its parts, in their order.
+    pub const FIELDS: [&'static str; 7] = [
+        "version",
+        "kind",
+        "secondary",
+        "application",
+        "grouping",
+        "count",
+        "length",
+    ];
+}
+
+impl CopyParts for SpacePacket {
+    type Parts = (
+        Msb<u8, 3>,
+        Msb<u8, 1>,
+        Msb<u8, 1>,
+        Msb<u16, 11>,
+        Msb<u8, 2>,
+        Msb<u16, 14>,
+        Be<u16>,
+    );
+
+    ghost parts_of = { λ r. (
+      msb r.version,
+      msb r.kind,
+      msb r.secondary,
+      msb r.application,
+      msb r.grouping,
+      msb r.count,
+      be r.length,
+    ) };
+
+    ghost record_of = { λ p. record {
+      version = p.0.0;
+      kind = p.1.0;
+      secondary = p.2.0;
+      application = p.3.0;
+      grouping = p.4.0;
+      count = p.5.0;
+      length = p.6.0;
+    } };
+
+    fn from_parts(parts: Self::Parts) -> Self {
+        let (
+            Msb(version),
+            Msb(kind),
+            Msb(secondary),
+            Msb(application),
+            Msb(grouping),
+            Msb(count),
+            Be(length),
+        ) = parts;
+        SpacePacket {
+            version,
+            kind,
+            secondary,
+            application,
+            grouping,
+            count,
+            length,
+        }
+    }
+
+    fn parts(&self) -> Self::Parts {
+        (
+            Msb(self.version),
+            Msb(self.kind),
+            Msb(self.secondary),
+            Msb(self.application),
+            Msb(self.grouping),
+            Msb(self.count),
+            Be(self.length),
+        )
+    }
+
+    ghost there = { λ r. refl };
+}
+
+/// A sample of telemetry.
+#[repr(C)]
+#[derive(Debug, Clone, Copy, PartialEq, Eq)]
+pub struct TelemetrySample {
+    pub voltage: u16,
+    pub current: u16,
+}
+
+impl TelemetrySample {
+    /// The names of its parts, in their order.
+    pub const FIELDS: [&'static str; 2] = ["voltage", "current"];
+}
+
+impl CopyParts for TelemetrySample {
+    type Parts = (Msb<u16, 10>, Msb<u16, 12>);
+
+    ghost parts_of = { λ r. (msb r.voltage, msb r.current) };
+
+    ghost record_of = { λ p. record { voltage = p.0.0; current = p.1.0 } };
+
+    fn from_parts((Msb(voltage), Msb(current)): Self::Parts) -> Self {
+        TelemetrySample { voltage, current }
+    }
+
+    fn parts(&self) -> Self::Parts {
+        (Msb(self.voltage), Msb(self.current))
+    }
+
+    ghost there = { λ r. refl };
+}
+
+/// Reads the record from the first byte on. Returns 0, or the number of the error; the record then
+/// stays as it was.
+#[unsafe(no_mangle)]
+pub extern "C" fn space_packet_read(alloc: Global, bytes: &[u8], place: &mut SpacePacket) -> u32
+    ensures { ⟦<SpacePacket as ForC>⟧.reads_for_c bytes.now result place.old place.new }
+{
+    SpacePacket::read_for_c(alloc, bytes, place)
+}
+
+/// Writes the record to the start of the bytes; those after it stay as they were. Returns 0, or the
+/// number of the error.
+#[unsafe(no_mangle)]
+pub extern "C" fn space_packet_write(value: &SpacePacket, bytes: &mut [u8]) -> u32
+    ensures { ⟦<SpacePacket as ForC>⟧.writes_for_c value.now bytes.old result bytes.new }
+{
+    value.write_for_c(bytes)
+}
+
+/// Reads the record from the first byte on. Returns 0, or the number of the error; the record then
+/// stays as it was.
+#[unsafe(no_mangle)]
+pub extern "C" fn telemetry_sample_read(
+    alloc: Global,
+    bytes: &[u8],
+    place: &mut TelemetrySample,
+) -> u32
+    ensures { ⟦<TelemetrySample as ForC>⟧.reads_for_c bytes.now result place.old place.new }
+{
+    TelemetrySample::read_for_c(alloc, bytes, place)
+}
+
+/// Writes the record to the start of the bytes; those after it stay as they were. Returns 0, or the
+/// number of the error.
+#[unsafe(no_mangle)]
+pub extern "C" fn telemetry_sample_write(value: &TelemetrySample, bytes: &mut [u8]) -> u32
+    ensures { ⟦<TelemetrySample as ForC>⟧.writes_for_c value.now bytes.old result bytes.new }
+{
+    value.write_for_c(bytes)
+}

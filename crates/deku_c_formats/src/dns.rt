@@ -1,0 +1,180 @@
+//! The header of a DNS message, RFC 1035.
+//!
+//! Printed by `derive --c` from `dns.rs`.
+
+ghost use Rattle.std.specs.Prelude.{refl};
+ghost use Rattle.deku_symmetry.specs.Fields.{be, msb};
+
+use deku_c_records::ForC;
+use deku_symmetry::{Be, CopyParts, Msb};
+use std::alloc::Global;
+
+/// The record `DnsHeader`.
+#[repr(C)]
+#[derive(Debug, Clone, Copy, PartialEq, Eq)]
+pub struct DnsHeader {
+    /// The identification, which the answer to a question repeats.
+    pub identification: u16,
+    /// 0 for a question, 1 for an answer.
+    pub response: u8,
+    /// The kind of the question; 0 is the usual one.
+    pub opcode: u8,
+    /// Whether the answer is authoritative.
+    pub authoritative: u8,
+    /// Whether the message was truncated.
+    pub truncated: u8,
+    /// Whether recursion is wanted.
+    pub recursion_desired: u8,
+    /// Whether recursion is available.
+    pub recursion_available: u8,
+    /// Reserved for later use.
+    pub reserved: u8,
+    /// The result of the question; 0 is no error.
+    pub response_code: u8,
+    /// How many questions follow.
+    pub questions: u16,
+    /// How many answers follow.
+    pub answers: u16,
+    /// How many authority records follow.
+    pub authorities: u16,
+    /// How many additional records follow.
+    pub additionals: u16,
+}
+
+impl DnsHeader {
+    /// The names of its parts, in their order.
+    pub const FIELDS: [&'static str; 13] = [
+        "identification",
+        "response",
+        "opcode",
+        "authoritative",
+        "truncated",
+        "recursion_desired",
+        "recursion_available",
+        "reserved",
+        "response_code",
+        "questions",
+        "answers",
+        "authorities",
+        "additionals",
+    ];
+}
+
+impl CopyParts for DnsHeader {
+    type Parts = (
+        (
+            Be<u16>,
+            Msb<u8, 1>,
+            Msb<u8, 4>,
+            Msb<u8, 1>,
+            Msb<u8, 1>,
+            Msb<u8, 1>,
+            Msb<u8, 1>,
+            Msb<u8, 3>,
+        ),
+        (Msb<u8, 4>, Be<u16>, Be<u16>, Be<u16>, Be<u16>),
+    );
+
+    ghost parts_of = { λ r. (
+      (
+        be r.identification,
+        msb r.response,
+        msb r.opcode,
+        msb r.authoritative,
+        msb r.truncated,
+        msb r.recursion_desired,
+        msb r.recursion_available,
+        msb r.reserved,
+      ),
+      (msb r.response_code, be r.questions, be r.answers, be r.authorities, be r.additionals),
+    ) };
+
+    ghost record_of = { λ p. record {
+      identification = p.0.0.0;
+      response = p.0.1.0;
+      opcode = p.0.2.0;
+      authoritative = p.0.3.0;
+      truncated = p.0.4.0;
+      recursion_desired = p.0.5.0;
+      recursion_available = p.0.6.0;
+      reserved = p.0.7.0;
+      response_code = p.1.0.0;
+      questions = p.1.1.0;
+      answers = p.1.2.0;
+      authorities = p.1.3.0;
+      additionals = p.1.4.0;
+    } };
+
+    fn from_parts(parts: Self::Parts) -> Self {
+        let (
+            (
+                Be(identification),
+                Msb(response),
+                Msb(opcode),
+                Msb(authoritative),
+                Msb(truncated),
+                Msb(recursion_desired),
+                Msb(recursion_available),
+                Msb(reserved),
+            ),
+            (Msb(response_code), Be(questions), Be(answers), Be(authorities), Be(additionals)),
+        ) = parts;
+        DnsHeader {
+            identification,
+            response,
+            opcode,
+            authoritative,
+            truncated,
+            recursion_desired,
+            recursion_available,
+            reserved,
+            response_code,
+            questions,
+            answers,
+            authorities,
+            additionals,
+        }
+    }
+
+    fn parts(&self) -> Self::Parts {
+        (
+            (
+                Be(self.identification),
+                Msb(self.response),
+                Msb(self.opcode),
+                Msb(self.authoritative),
+                Msb(self.truncated),
+                Msb(self.recursion_desired),
+                Msb(self.recursion_available),
+                Msb(self.reserved),
+            ),
+            (
+                Msb(self.response_code),
+                Be(self.questions),
+                Be(self.answers),
+                Be(self.authorities),
+                Be(self.additionals),
+            ),
+        )
+    }
+
+    ghost there = { λ r. refl };
+}
+
+/// Reads the record from the first byte on. Returns 0, or the number of the error; the record then
+/// stays as it was.
+#[unsafe(no_mangle)]
+pub extern "C" fn dns_header_read(alloc: Global, bytes: &[u8], place: &mut DnsHeader) -> u32
+    ensures { ⟦<DnsHeader as ForC>⟧.reads_for_c bytes.now result place.old place.new }
+{
+    DnsHeader::read_for_c(alloc, bytes, place)
+}
+
+/// Writes the record to the start of the bytes; those after it stay as they were. Returns 0, or the
+/// number of the error.
+#[unsafe(no_mangle)]
+pub extern "C" fn dns_header_write(value: &DnsHeader, bytes: &mut [u8]) -> u32
+    ensures { ⟦<DnsHeader as ForC>⟧.writes_for_c value.now bytes.old result bytes.new }
+{
+    value.write_for_c(bytes)
+}

@@ -1,0 +1,206 @@
+//! The header of an IPv4 packet without its options, RFC 791.
+//!
+//! Printed by `derive --c` from `ipv4.rs`.
+
+ghost use Rattle.std.specs.Prelude.{nat_eq, codes, refl};
+ghost use Rattle.deku_symmetry.specs.Fields.{be, msb};
+
+use deku_c_records::ForC;
+use deku_symmetry::{Assert, Be, Check, CheckLaw, CopyParts, Msb};
+use std::alloc::Global;
+
+/// The record `Ipv4`.
+#[repr(C)]
+#[derive(Debug, Clone, Copy, PartialEq, Eq)]
+pub struct Ipv4 {
+    /// 4.
+    pub version: u8,
+    /// The length of the header in words of four bytes.
+    pub words: u8,
+    /// The class of service.
+    pub service: u8,
+    /// The congestion notification.
+    pub congestion: u8,
+    /// The number of bytes of the header and its payload.
+    pub total_length: u16,
+    /// The same for all fragments of a packet.
+    pub identification: u16,
+    /// 2 forbids fragments, 1 says that more follow.
+    pub flags: u8,
+    /// The place of the fragment, in units of eight bytes.
+    pub fragment_offset: u16,
+    /// How many hops are left.
+    pub time_to_live: u8,
+    /// The protocol of the payload: 6 TCP, 17 UDP.
+    pub protocol: u8,
+    /// The checksum of the header.
+    pub checksum: u16,
+    /// The address of the sender.
+    pub source: u32,
+    /// The address of the receiver.
+    pub destination: u32,
+}
+
+/// What `version` has to be: `version == 4`.
+#[derive(Debug, PartialEq, Eq, Drop)]
+pub struct Ipv4VersionValue;
+
+impl Check<Msb<u8, 4>> for Ipv4VersionValue {
+    ghost passes = { λ p. nat_eq p.0 4 };
+
+    ghost text = { codes "version" };
+
+    fn passes(parts: &Msb<u8, 4>) -> bool {
+        let version = parts.0;
+        version == 4
+    }
+
+    fn text() -> &'static str {
+        "version"
+    }
+}
+
+impl CheckLaw<Msb<u8, 4>> for Ipv4VersionValue {
+    ghost alike = { λ v w e. rw e refl };
+}
+
+impl Ipv4 {
+    /// The names of its parts, in their order.
+    pub const FIELDS: [&'static str; 13] = [
+        "version",
+        "words",
+        "service",
+        "congestion",
+        "total_length",
+        "identification",
+        "flags",
+        "fragment_offset",
+        "time_to_live",
+        "protocol",
+        "checksum",
+        "source",
+        "destination",
+    ];
+}
+
+impl CopyParts for Ipv4 {
+    type Parts = (
+        (
+            Assert<Msb<u8, 4>, Ipv4VersionValue>,
+            Msb<u8, 4>,
+            Msb<u8, 6>,
+            Msb<u8, 2>,
+            Be<u16>,
+            Be<u16>,
+            Msb<u8, 3>,
+            Msb<u16, 13>,
+        ),
+        (u8, u8, Be<u16>, Be<u32>, Be<u32>),
+    );
+
+    ghost parts_of = { λ r. (
+      (
+        record { part = msb r.version; check = record {} },
+        msb r.words,
+        msb r.service,
+        msb r.congestion,
+        be r.total_length,
+        be r.identification,
+        msb r.flags,
+        msb r.fragment_offset,
+      ),
+      (r.time_to_live, r.protocol, be r.checksum, be r.source, be r.destination),
+    ) };
+
+    ghost record_of = { λ p. record {
+      version = p.0.0.part.0;
+      words = p.0.1.0;
+      service = p.0.2.0;
+      congestion = p.0.3.0;
+      total_length = p.0.4.0;
+      identification = p.0.5.0;
+      flags = p.0.6.0;
+      fragment_offset = p.0.7.0;
+      time_to_live = p.1.0;
+      protocol = p.1.1;
+      checksum = p.1.2.0;
+      source = p.1.3.0;
+      destination = p.1.4.0;
+    } };
+
+    fn from_parts(parts: Self::Parts) -> Self {
+        let (
+            (
+                Assert {
+                    part: Msb(version),
+                    ..
+                },
+                Msb(words),
+                Msb(service),
+                Msb(congestion),
+                Be(total_length),
+                Be(identification),
+                Msb(flags),
+                Msb(fragment_offset),
+            ),
+            (time_to_live, protocol, Be(checksum), Be(source), Be(destination)),
+        ) = parts;
+        Ipv4 {
+            version,
+            words,
+            service,
+            congestion,
+            total_length,
+            identification,
+            flags,
+            fragment_offset,
+            time_to_live,
+            protocol,
+            checksum,
+            source,
+            destination,
+        }
+    }
+
+    fn parts(&self) -> Self::Parts {
+        (
+            (
+                Assert::new(Msb(self.version)),
+                Msb(self.words),
+                Msb(self.service),
+                Msb(self.congestion),
+                Be(self.total_length),
+                Be(self.identification),
+                Msb(self.flags),
+                Msb(self.fragment_offset),
+            ),
+            (
+                self.time_to_live,
+                self.protocol,
+                Be(self.checksum),
+                Be(self.source),
+                Be(self.destination),
+            ),
+        )
+    }
+
+    ghost there = { λ r. refl };
+}
+
+/// Reads the record from the first byte on. Returns 0, or the number of the error; the record then
+/// stays as it was.
+#[unsafe(no_mangle)]
+pub extern "C" fn ipv4_read(alloc: Global, bytes: &[u8], place: &mut Ipv4) -> u32
+    ensures { ⟦<Ipv4 as ForC>⟧.reads_for_c bytes.now result place.old place.new }
+{
+    Ipv4::read_for_c(alloc, bytes, place)
+}
+
+/// Writes the record to the start of the bytes; those after it stay as they were. Returns 0, or the
+/// number of the error.
+#[unsafe(no_mangle)]
+pub extern "C" fn ipv4_write(value: &Ipv4, bytes: &mut [u8]) -> u32
+    ensures { ⟦<Ipv4 as ForC>⟧.writes_for_c value.now bytes.old result bytes.new }
+{
+    value.write_for_c(bytes)
+}
