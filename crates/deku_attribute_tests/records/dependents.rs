@@ -1,0 +1,34 @@
+//! Fields that depend on fields before them.
+
+/// As many items as a field says.
+struct Counting {
+    count: u8,
+    #[deku(count = "count")]
+    items: Vec<u8>,
+}
+
+/// Two bytes.
+struct Two {
+    first: u8,
+    second: u8,
+}
+
+/// Items of as many bytes as a field says.
+struct Sizing {
+    bytes: u8,
+    #[deku(bytes_read = "bytes")]
+    items: Vec<Two>,
+}
+
+/// Items up to the end.
+struct ToEnd {
+    #[deku(read_all)]
+    items: Vec<Two>,
+}
+
+/// A field that is there if another one says so.
+struct Whether {
+    first: u8,
+    #[deku(cond = "*first == 0x01")]
+    second: Option<u8>,
+}

@@ -1,0 +1,126 @@
+//! Numbers, checks and padding.
+
+/// An endian for all fields, and another one for a field.
+#[deku(endian = "little")]
+struct Endians {
+    #[deku(endian = "big")]
+    first: u16,
+    second: u16,
+}
+
+/// The low bits first.
+#[deku(bit_order = "lsb", endian = "little")]
+struct LowFirst {
+    #[deku(bits = "4")]
+    kind: u8,
+    #[deku(bits = "12")]
+    mode: u16,
+    user: u8,
+    group: u8,
+    time: u32,
+    number: u32,
+}
+
+/// The high bits first.
+#[deku(endian = "big")]
+struct Flags {
+    byte: u8,
+    #[deku(bits = 1)]
+    first: bool,
+    #[deku(bits = 1)]
+    second: bool,
+    #[deku(bits = 1)]
+    third: bool,
+    #[deku(bits = 5)]
+    rest: u8,
+}
+
+/// The low bits first, the high byte first, and then a record of another order.
+#[deku(endian = "big", bit_order = "lsb")]
+struct Orders {
+    #[deku(bits = 13)]
+    offset: u16,
+    #[deku(bits = 3)]
+    kind: u8,
+    flags: Flags,
+}
+
+/// An order for each field.
+#[deku(endian = "little")]
+struct OrderOfFields {
+    #[deku(bit_order = "lsb", bits = 13)]
+    offset: u16,
+    #[deku(bit_order = "lsb", bits = 3)]
+    kind: u8,
+}
+
+/// Fixed bytes in front.
+#[deku(magic = b"deku")]
+struct Named {
+    data: u8,
+}
+
+/// Fixed bytes in front of a field.
+struct NamedField {
+    #[deku(magic = b"deku")]
+    data: u8,
+}
+
+/// A number that is checked.
+struct AtLeast {
+    #[deku(assert = "*data >= 8")]
+    data: u8,
+}
+
+/// A number that has one value.
+struct Only {
+    #[deku(assert_eq = "0x01")]
+    data: u8,
+}
+
+/// Widths in bits.
+struct Bits {
+    #[deku(bits = 2)]
+    first: u8,
+    #[deku(bits = 6)]
+    second: u8,
+    third: u8,
+}
+
+/// A width in bytes.
+#[deku(endian = "little")]
+struct Bytes {
+    #[deku(bytes = 2)]
+    first: u32,
+    second: u8,
+}
+
+/// Bytes before a field.
+struct BytesBefore {
+    first: u8,
+    #[deku(pad_bytes_before = "2")]
+    second: u8,
+}
+
+/// Bits before a field.
+struct BitsBefore {
+    #[deku(bits = 2)]
+    first: u8,
+    #[deku(pad_bits_before = "2", bits = 4)]
+    second: u8,
+}
+
+/// Bytes after a field.
+struct BytesAfter {
+    #[deku(pad_bytes_after = "2")]
+    first: u8,
+    second: u8,
+}
+
+/// Bits after a field.
+struct BitsAfter {
+    #[deku(bits = 2, pad_bits_after = "2")]
+    first: u8,
+    #[deku(bits = 4)]
+    second: u8,
+}
