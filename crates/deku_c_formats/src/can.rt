@@ -5,8 +5,10 @@
 ghost use Rattle.std.specs.Prelude.{refl};
 ghost use Rattle.deku_symmetry.specs.Fields.{lsb, lsb_be};
 
+use deku::device::Sink;
+use deku::prelude::{DekuError, DekuWriter, Writer};
 use deku_c_records::ForC;
-use deku_symmetry::{CopyParts, Lsb, LsbBe};
+use deku_symmetry::{Codec, Lsb, LsbBe};
 use std::alloc::Global;
 
 /// The record `Chassis`.
@@ -32,7 +34,7 @@ impl Chassis {
     pub const FIELDS: [&'static str; 6] = ["wheel", "gear", "torque", "flags", "padding", "yaw"];
 }
 
-impl CopyParts for Chassis {
+impl Codec for Chassis {
     type Parts = (
         Lsb<i16, 12>,
         Lsb<u8, 4>,
@@ -72,15 +74,16 @@ impl CopyParts for Chassis {
         }
     }
 
-    fn parts(&self) -> Self::Parts {
-        (
+    fn write<W: Sink>(&self, writer: &mut Writer<W>) -> Result<(), DekuError> {
+        let parts: Self::Parts = (
             Lsb(self.wheel),
             Lsb(self.gear),
             LsbBe(self.torque),
             Lsb(self.flags),
             Lsb(self.padding),
             LsbBe(self.yaw),
-        )
+        );
+        parts.to_writer(writer, ())
     }
 
     ghost there = { λ r. refl };

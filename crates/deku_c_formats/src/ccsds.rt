@@ -5,8 +5,10 @@
 ghost use Rattle.std.specs.Prelude.{refl};
 ghost use Rattle.deku_symmetry.specs.Fields.{be, msb};
 
+use deku::device::Sink;
+use deku::prelude::{DekuError, DekuWriter, Writer};
 use deku_c_records::ForC;
-use deku_symmetry::{Be, CopyParts, Msb};
+use deku_symmetry::{Be, Codec, Msb};
 use std::alloc::Global;
 
 /// The record `SpacePacket`.
@@ -42,7 +44,7 @@ impl SpacePacket {
     ];
 }
 
-impl CopyParts for SpacePacket {
+impl Codec for SpacePacket {
     type Parts = (
         Msb<u8, 3>,
         Msb<u8, 1>,
@@ -94,8 +96,8 @@ impl CopyParts for SpacePacket {
         }
     }
 
-    fn parts(&self) -> Self::Parts {
-        (
+    fn write<W: Sink>(&self, writer: &mut Writer<W>) -> Result<(), DekuError> {
+        let parts: Self::Parts = (
             Msb(self.version),
             Msb(self.kind),
             Msb(self.secondary),
@@ -103,7 +105,8 @@ impl CopyParts for SpacePacket {
             Msb(self.grouping),
             Msb(self.count),
             Be(self.length),
-        )
+        );
+        parts.to_writer(writer, ())
     }
 
     ghost there = { λ r. refl };
@@ -122,7 +125,7 @@ impl TelemetrySample {
     pub const FIELDS: [&'static str; 2] = ["voltage", "current"];
 }
 
-impl CopyParts for TelemetrySample {
+impl Codec for TelemetrySample {
     type Parts = (Msb<u16, 10>, Msb<u16, 12>);
 
     ghost parts_of = { λ r. (msb r.voltage, msb r.current) };
@@ -133,8 +136,9 @@ impl CopyParts for TelemetrySample {
         TelemetrySample { voltage, current }
     }
 
-    fn parts(&self) -> Self::Parts {
-        (Msb(self.voltage), Msb(self.current))
+    fn write<W: Sink>(&self, writer: &mut Writer<W>) -> Result<(), DekuError> {
+        let parts: Self::Parts = (Msb(self.voltage), Msb(self.current));
+        parts.to_writer(writer, ())
     }
 
     ghost there = { λ r. refl };

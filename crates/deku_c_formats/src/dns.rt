@@ -5,8 +5,10 @@
 ghost use Rattle.std.specs.Prelude.{refl};
 ghost use Rattle.deku_symmetry.specs.Fields.{be, msb};
 
+use deku::device::Sink;
+use deku::prelude::{DekuError, DekuWriter, Writer};
 use deku_c_records::ForC;
-use deku_symmetry::{Be, CopyParts, Msb};
+use deku_symmetry::{Be, Codec, Msb};
 use std::alloc::Global;
 
 /// The record `DnsHeader`.
@@ -60,7 +62,7 @@ impl DnsHeader {
     ];
 }
 
-impl CopyParts for DnsHeader {
+impl Codec for DnsHeader {
     type Parts = (
         (
             Be<u16>,
@@ -136,8 +138,8 @@ impl CopyParts for DnsHeader {
         }
     }
 
-    fn parts(&self) -> Self::Parts {
-        (
+    fn write<W: Sink>(&self, writer: &mut Writer<W>) -> Result<(), DekuError> {
+        let parts: Self::Parts = (
             (
                 Be(self.identification),
                 Msb(self.response),
@@ -155,7 +157,8 @@ impl CopyParts for DnsHeader {
                 Be(self.authorities),
                 Be(self.additionals),
             ),
-        )
+        );
+        parts.to_writer(writer, ())
     }
 
     ghost there = { λ r. refl };

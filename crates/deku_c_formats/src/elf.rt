@@ -5,8 +5,10 @@
 ghost use Rattle.std.specs.Prelude.{codes, refl};
 ghost use Rattle.deku_symmetry.specs.Fields.{be, le};
 
+use deku::device::Sink;
+use deku::prelude::{DekuError, DekuWriter, Writer};
 use deku_c_records::ForC;
-use deku_symmetry::{Be, Constant, ConstantLaw, CopyParts, Le, Magic, Msb};
+use deku_symmetry::{Be, Codec, Constant, ConstantLaw, Le, Magic, Msb};
 use std::alloc::Global;
 
 /// The file header, the low byte of each number first.
@@ -83,7 +85,7 @@ impl ElfLittle {
     ];
 }
 
-impl CopyParts for ElfLittle {
+impl Codec for ElfLittle {
     type Parts = (
         (
             Magic<Msb<u64, 48>, ElfLittleMagic>,
@@ -155,8 +157,8 @@ impl CopyParts for ElfLittle {
         }
     }
 
-    fn parts(&self) -> Self::Parts {
-        (
+    fn write<W: Sink>(&self, writer: &mut Writer<W>) -> Result<(), DekuError> {
+        let parts: Self::Parts = (
             (
                 Magic::new(),
                 self.identification,
@@ -173,7 +175,8 @@ impl CopyParts for ElfLittle {
                 Le(self.segment_count),
                 Le(self.sections),
             ),
-        )
+        );
+        parts.to_writer(writer, ())
     }
 
     ghost there = { λ r. refl };
@@ -253,7 +256,7 @@ impl ElfBig {
     ];
 }
 
-impl CopyParts for ElfBig {
+impl Codec for ElfBig {
     type Parts = (
         (
             Magic<Msb<u64, 48>, ElfBigMagic>,
@@ -325,8 +328,8 @@ impl CopyParts for ElfBig {
         }
     }
 
-    fn parts(&self) -> Self::Parts {
-        (
+    fn write<W: Sink>(&self, writer: &mut Writer<W>) -> Result<(), DekuError> {
+        let parts: Self::Parts = (
             (
                 Magic::new(),
                 self.identification,
@@ -343,7 +346,8 @@ impl CopyParts for ElfBig {
                 Be(self.segment_count),
                 Be(self.sections),
             ),
-        )
+        );
+        parts.to_writer(writer, ())
     }
 
     ghost there = { λ r. refl };
@@ -385,7 +389,7 @@ impl SegmentLittle {
     ];
 }
 
-impl CopyParts for SegmentLittle {
+impl Codec for SegmentLittle {
     type Parts = (
         Le<u32>,
         Le<u32>,
@@ -442,8 +446,8 @@ impl CopyParts for SegmentLittle {
         }
     }
 
-    fn parts(&self) -> Self::Parts {
-        (
+    fn write<W: Sink>(&self, writer: &mut Writer<W>) -> Result<(), DekuError> {
+        let parts: Self::Parts = (
             Le(self.kind),
             Le(self.flags),
             Le(self.offset),
@@ -452,7 +456,8 @@ impl CopyParts for SegmentLittle {
             Le(self.file_size),
             Le(self.memory_size),
             Le(self.alignment),
-        )
+        );
+        parts.to_writer(writer, ())
     }
 
     ghost there = { λ r. refl };
@@ -494,7 +499,7 @@ impl SegmentBig {
     ];
 }
 
-impl CopyParts for SegmentBig {
+impl Codec for SegmentBig {
     type Parts = (
         Be<u32>,
         Be<u32>,
@@ -551,8 +556,8 @@ impl CopyParts for SegmentBig {
         }
     }
 
-    fn parts(&self) -> Self::Parts {
-        (
+    fn write<W: Sink>(&self, writer: &mut Writer<W>) -> Result<(), DekuError> {
+        let parts: Self::Parts = (
             Be(self.kind),
             Be(self.flags),
             Be(self.offset),
@@ -561,7 +566,8 @@ impl CopyParts for SegmentBig {
             Be(self.file_size),
             Be(self.memory_size),
             Be(self.alignment),
-        )
+        );
+        parts.to_writer(writer, ())
     }
 
     ghost there = { λ r. refl };

@@ -5,8 +5,10 @@
 ghost use Rattle.std.specs.Prelude.{refl};
 ghost use Rattle.deku_symmetry.specs.Fields.{lsb};
 
+use deku::device::Sink;
+use deku::prelude::{DekuError, DekuWriter, Writer};
 use deku_c_records::ForC;
-use deku_symmetry::{CopyParts, Lsb};
+use deku_symmetry::{Codec, Lsb};
 use std::alloc::Global;
 
 /// Two source registers.
@@ -34,7 +36,7 @@ impl RiscvRegister {
     ];
 }
 
-impl CopyParts for RiscvRegister {
+impl Codec for RiscvRegister {
     type Parts = (
         Lsb<u8, 7>,
         Lsb<u8, 5>,
@@ -74,15 +76,16 @@ impl CopyParts for RiscvRegister {
         }
     }
 
-    fn parts(&self) -> Self::Parts {
-        (
+    fn write<W: Sink>(&self, writer: &mut Writer<W>) -> Result<(), DekuError> {
+        let parts: Self::Parts = (
             Lsb(self.code),
             Lsb(self.target),
             Lsb(self.function),
             Lsb(self.first),
             Lsb(self.second),
             Lsb(self.variant),
-        )
+        );
+        parts.to_writer(writer, ())
     }
 
     ghost there = { λ r. refl };
@@ -109,7 +112,7 @@ impl RiscvImmediate {
     pub const FIELDS: [&'static str; 5] = ["code", "target", "function", "base", "value"];
 }
 
-impl CopyParts for RiscvImmediate {
+impl Codec for RiscvImmediate {
     type Parts = (Lsb<u8, 7>, Lsb<u8, 5>, Lsb<u8, 3>, Lsb<u8, 5>, Lsb<i16, 12>);
 
     ghost parts_of = { λ r. (lsb r.code, lsb r.target, lsb r.function, lsb r.base, lsb r.value) };
@@ -133,14 +136,15 @@ impl CopyParts for RiscvImmediate {
         }
     }
 
-    fn parts(&self) -> Self::Parts {
-        (
+    fn write<W: Sink>(&self, writer: &mut Writer<W>) -> Result<(), DekuError> {
+        let parts: Self::Parts = (
             Lsb(self.code),
             Lsb(self.target),
             Lsb(self.function),
             Lsb(self.base),
             Lsb(self.value),
-        )
+        );
+        parts.to_writer(writer, ())
     }
 
     ghost there = { λ r. refl };
@@ -169,7 +173,7 @@ impl RiscvStore {
     pub const FIELDS: [&'static str; 6] = ["code", "low", "function", "base", "source", "high"];
 }
 
-impl CopyParts for RiscvStore {
+impl Codec for RiscvStore {
     type Parts = (
         Lsb<u8, 7>,
         Lsb<u32, 5>,
@@ -209,15 +213,16 @@ impl CopyParts for RiscvStore {
         }
     }
 
-    fn parts(&self) -> Self::Parts {
-        (
+    fn write<W: Sink>(&self, writer: &mut Writer<W>) -> Result<(), DekuError> {
+        let parts: Self::Parts = (
             Lsb(self.code),
             Lsb(self.low),
             Lsb(self.function),
             Lsb(self.base),
             Lsb(self.source),
             Lsb(self.high),
-        )
+        );
+        parts.to_writer(writer, ())
     }
 
     ghost there = { λ r. refl };
@@ -252,7 +257,7 @@ impl RiscvBranch {
     ];
 }
 
-impl CopyParts for RiscvBranch {
+impl Codec for RiscvBranch {
     type Parts = (
         Lsb<u8, 7>,
         Lsb<u32, 1>,
@@ -309,8 +314,8 @@ impl CopyParts for RiscvBranch {
         }
     }
 
-    fn parts(&self) -> Self::Parts {
-        (
+    fn write<W: Sink>(&self, writer: &mut Writer<W>) -> Result<(), DekuError> {
+        let parts: Self::Parts = (
             Lsb(self.code),
             Lsb(self.top),
             Lsb(self.low),
@@ -319,7 +324,8 @@ impl CopyParts for RiscvBranch {
             Lsb(self.second),
             Lsb(self.middle),
             Lsb(self.sign),
-        )
+        );
+        parts.to_writer(writer, ())
     }
 
     ghost there = { λ r. refl };
@@ -342,7 +348,7 @@ impl RiscvUpper {
     pub const FIELDS: [&'static str; 3] = ["code", "target", "value"];
 }
 
-impl CopyParts for RiscvUpper {
+impl Codec for RiscvUpper {
     type Parts = (Lsb<u8, 7>, Lsb<u8, 5>, Lsb<i32, 20>);
 
     ghost parts_of = { λ r. (lsb r.code, lsb r.target, lsb r.value) };
@@ -357,8 +363,9 @@ impl CopyParts for RiscvUpper {
         }
     }
 
-    fn parts(&self) -> Self::Parts {
-        (Lsb(self.code), Lsb(self.target), Lsb(self.value))
+    fn write<W: Sink>(&self, writer: &mut Writer<W>) -> Result<(), DekuError> {
+        let parts: Self::Parts = (Lsb(self.code), Lsb(self.target), Lsb(self.value));
+        parts.to_writer(writer, ())
     }
 
     ghost there = { λ r. refl };
@@ -387,7 +394,7 @@ impl RiscvJump {
     pub const FIELDS: [&'static str; 6] = ["code", "target", "high", "middle", "low", "sign"];
 }
 
-impl CopyParts for RiscvJump {
+impl Codec for RiscvJump {
     type Parts = (
         Lsb<u8, 7>,
         Lsb<u8, 5>,
@@ -427,15 +434,16 @@ impl CopyParts for RiscvJump {
         }
     }
 
-    fn parts(&self) -> Self::Parts {
-        (
+    fn write<W: Sink>(&self, writer: &mut Writer<W>) -> Result<(), DekuError> {
+        let parts: Self::Parts = (
             Lsb(self.code),
             Lsb(self.target),
             Lsb(self.high),
             Lsb(self.middle),
             Lsb(self.low),
             Lsb(self.sign),
-        )
+        );
+        parts.to_writer(writer, ())
     }
 
     ghost there = { λ r. refl };

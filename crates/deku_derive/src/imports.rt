@@ -6,7 +6,7 @@ use std::alloc::{AllocError, Global};
 use std::fmt::Write as _;
 
 // The names of deku_symmetry, in the order in which `rt fmt` has them.
-const PARTS: [&str; 40] = [
+const PARTS: [&str; 39] = [
     "Assert",
     "Be",
     "Before",
@@ -19,7 +19,6 @@ const PARTS: [&str; 40] = [
     "ConditionLaw",
     "Constant",
     "ConstantLaw",
-    "CopyParts",
     "CountOf",
     "CountOfLaw",
     "CountedBy",

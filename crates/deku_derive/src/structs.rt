@@ -101,9 +101,7 @@ pub(crate) fn implementation(
     let mut whole = builder.whole()?;
     let names = std::mem::replace(&mut whole.names, Vec::new(alloc));
     named(out, name, names)?;
-    let is_copied = builder.owner == Owner::Copied;
-    let form = if is_copied { "CopyParts" } else { "Codec" };
-    writeln!(out, "\nimpl {form} for {name} {{")?;
+    writeln!(out, "\nimpl Codec for {name} {{")?;
     out.push_str("    type Parts = ")?;
     whole.kind.print(out, 4, 1, false)?;
     out.push_str(";\n\n    ghost parts_of = { λ r. ")?;
@@ -112,17 +110,23 @@ pub(crate) fn implementation(
     record_of(alloc, shape, fields, &whole)?.print(out, 4, 3, false)?;
     out.push_str(" };\n\n")?;
     from_parts(out, record, shape, fields, &whole)?;
-    if is_copied {
-        out.push_str("    fn parts(&self) -> Self::Parts {\n        ")?;
-        whole.value.print(out, 8, 0, false)?;
+    out.push_str(WRITES)?;
+    // Parts that are lent have other types.
+    out.push_str(if builder.owner == Owner::Copied {
+        ": Self::Parts = "
     } else {
-        out.push_str("    fn write<W: Sink>(&self, writer: &mut Writer<W>) -> ")?;
-        out.push_str("Result<(), DekuError> {\n        let parts = ")?;
-        whole.value.print(out, 8, 1, false)?;
-        out.push_str(";\n        parts.to_writer(writer, ())")?;
-    }
-    out.push_str("\n    }\n\n    ghost there = { λ r. refl };\n}\n")
+        " = "
+    })?;
+    whole.value.print(out, 8, 1, false)?;
+    out.push_str(
+        ";\n        parts.to_writer(writer, ())\n    }\n\n    ghost there = { λ r. refl };\n}\n",
+    )
 }
+
+/// The function that writes a value, up to the name of its parts.
+pub(crate) const WRITES: &str =
+    "    fn write<W: Sink>(&self, writer: &mut Writer<W>) -> Result<(), DekuError> {
+        let parts";
 
 // Appends the names of a record's parts.
 fn named(out: &mut String, name: &str, names: Vec<Text>) -> Result<(), AllocError> {

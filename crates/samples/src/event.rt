@@ -7,7 +7,9 @@ ghost use Rattle.deku_symmetry.specs.Fields.{be};
 ghost use Rattle.deku_pieces.specs.declared.either.Either.TheVariants as either;
 ghost use Rattle.samples.specs.declared.event.Event.TheVariants as event_kinds;
 
-use deku_symmetry::{Be, CopyParts, Either, Enum, InRange, Kind, MsbEnum, Otherwise};
+use deku::device::Sink;
+use deku::prelude::{DekuError, DekuWriter, Writer};
+use deku_symmetry::{Be, Codec, Either, Enum, InRange, Kind, MsbEnum, Otherwise};
 
 /// The record `Event`.
 #[derive(Debug, Clone, Copy, PartialEq, Eq)]
@@ -20,7 +22,7 @@ pub enum Event {
     Other(u64, u16),
 }
 
-impl CopyParts for Event {
+impl Codec for Event {
     type Parts = MsbEnum<
         Either<Either<Kind<(), 1>, Kind<(u8, Be<u16>), 2>>, Otherwise<Be<u16>>>,
         8,
@@ -60,8 +62,8 @@ impl CopyParts for Event {
         }
     }
 
-    fn parts(&self) -> Self::Parts {
-        match self {
+    fn write<W: Sink>(&self, writer: &mut Writer<W>) -> Result<(), DekuError> {
+        let parts: Self::Parts = match self {
             Event::Started => Enum::new(Either::This(Either::This(Kind(())))),
             Event::Passed { sensor, limit } => {
                 Enum::new(Either::This(Either::Other(Kind((*sensor, Be(*limit))))))
@@ -72,7 +74,8 @@ impl CopyParts for Event {
                     value: Be(*field_1),
                 }))
             }
-        }
+        };
+        parts.to_writer(writer, ())
     }
 
     ghost there = { elim [
