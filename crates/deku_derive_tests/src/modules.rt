@@ -23,7 +23,9 @@ const DATAGRAM_MODULE: &str = "//! The header of a UDP datagram, RFC 768.
 ghost use Rattle.std.specs.Prelude.{refl};
 ghost use Rattle.deku_symmetry.specs.Fields.{be, msb};
 
-use deku_symmetry::{Be, CopyParts, Msb};
+use deku::device::Sink;
+use deku::prelude::{DekuError, DekuWriter, Writer};
+use deku_symmetry::{Be, Codec, Msb};
 
 /// The record `Udp`.
 #[derive(Debug, Clone, Copy, PartialEq, Eq)]
@@ -40,7 +42,7 @@ impl Udp {
     pub const FIELDS: [&'static str; 5] = [\"source\", \"destination\", \"kind\", \"flags\", \"tail\"];
 }
 
-impl CopyParts for Udp {
+impl Codec for Udp {
     type Parts = (Be<u16>, Be<u16>, Msb<u8, 4>, Msb<u8, 4>, [u8; 2]);
 
     ghost parts_of = { λ r. (be r.source, be r.destination, msb r.kind, msb r.flags, r.tail) };
@@ -64,14 +66,15 @@ impl CopyParts for Udp {
         }
     }
 
-    fn parts(&self) -> Self::Parts {
-        (
+    fn write<W: Sink>(&self, writer: &mut Writer<W>) -> Result<(), DekuError> {
+        let parts: Self::Parts = (
             Be(self.source),
             Be(self.destination),
             Msb(self.kind),
             Msb(self.flags),
             self.tail,
-        )
+        );
+        parts.to_writer(writer, ())
     }
 
     ghost there = { λ r. refl };
@@ -99,7 +102,9 @@ const HOST_MODULE: &str = "//! Printed by `derive` from `a.rs`.
 ghost use Rattle.std.specs.Prelude.{refl};
 ghost use Rattle.deku_symmetry.specs.Fields.{be, coded, le, lsb, msb_le};
 
-use deku_symmetry::{Be, Coded, CopyParts, Le, Lsb, MsbLe};
+use deku::device::Sink;
+use deku::prelude::{DekuError, DekuWriter, Writer};
+use deku_symmetry::{Be, Codec, Coded, Le, Lsb, MsbLe};
 use std::net::Ipv4Addr;
 
 /// The record `Pair`.
@@ -114,7 +119,7 @@ impl Pair {
     pub const FIELDS: [&'static str; 2] = [\"low\", \"data\"];
 }
 
-impl CopyParts for Pair {
+impl Codec for Pair {
     type Parts = (Lsb<u8, 4>, Lsb<u16, 12>);
 
     ghost parts_of = { λ r. (lsb r.low, lsb r.data) };
@@ -125,8 +130,9 @@ impl CopyParts for Pair {
         Pair { low, data }
     }
 
-    fn parts(&self) -> Self::Parts {
-        (Lsb(self.low), Lsb(self.data))
+    fn write<W: Sink>(&self, writer: &mut Writer<W>) -> Result<(), DekuError> {
+        let parts: Self::Parts = (Lsb(self.low), Lsb(self.data));
+        parts.to_writer(writer, ())
     }
 
     ghost there = { λ r. refl };
@@ -148,7 +154,7 @@ impl Host {
     pub const FIELDS: [&'static str; 5] = [\"pair\", \"address\", \"up\", \"cost\", \"port\"];
 }
 
-impl CopyParts for Host {
+impl Codec for Host {
     type Parts = (Coded<Pair>, Be<Ipv4Addr>, bool, MsbLe<u32, 24>, Le<u16>);
 
     ghost parts_of = { λ r. (coded r.pair, be r.address, r.up, msb_le r.cost, le r.port) };
@@ -171,14 +177,15 @@ impl CopyParts for Host {
         }
     }
 
-    fn parts(&self) -> Self::Parts {
-        (
+    fn write<W: Sink>(&self, writer: &mut Writer<W>) -> Result<(), DekuError> {
+        let parts: Self::Parts = (
             Coded(self.pair),
             Be(self.address),
             self.up,
             MsbLe(self.cost),
             Le(self.port),
-        )
+        );
+        parts.to_writer(writer, ())
     }
 
     ghost there = { λ r. refl };
