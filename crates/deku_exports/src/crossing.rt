@@ -160,14 +160,18 @@ fn crossed_field<'a>(
     let Some((kind, bits)) = kind_of(alloc, before, item.text, field.bits)? else {
         return lacking(alloc, field);
     };
-    let (kind, lengths) = (kind.as_str(), lengths.as_str());
     let mut lines = String::new(alloc);
     noted(&mut lines, field.docs.as_slice())?;
-    writeln!(lines, "    {kind} {text}{lengths};")?;
+    declared(&mut lines, kind.as_str(), text, lengths.as_str())?;
     Ok((
         lines,
         bits_around(field).saturating_add(bits.saturating_mul(count)),
     ))
+}
+
+// Appends the line of a field.
+fn declared(out: &mut String, kind: &str, name: &str, lengths: &str) -> Result<(), AllocError> {
+    writeln!(out, "    {kind} {name}{lengths};")
 }
 
 // Complains of a field that C does not have.
