@@ -12,10 +12,8 @@ ghost use Rattle.deku_attribute_tests.specs.declared.kinds.Patterns.TheVariants 
 ghost use Rattle.deku_attribute_tests.specs.declared.kinds.UnderBits.TheVariants as under_bits_kinds;
 ghost use Rattle.deku_attribute_tests.specs.declared.kinds.UnderBytes.TheVariants as under_bytes_kinds;
 
-use deku::device::Sink;
-use deku::prelude::{DekuError, DekuWriter, Writer};
 use deku_symmetry::{
-    Be, Codec, Either, Enum, InRange, Kind, Le, MsbEnum, MsbLe, MsbLeEnum, Otherwise,
+    Be, CopyParts, Either, Enum, InRange, Kind, Le, MsbEnum, MsbLe, MsbLeEnum, Otherwise,
 };
 
 /// Kinds under a byte.
@@ -27,7 +25,7 @@ pub enum UnderByte {
     Second(u8, u16),
 }
 
-impl Codec for UnderByte {
+impl CopyParts for UnderByte {
     type Parts = MsbEnum<Either<Kind<u8, 1>, Kind<(u8, Le<u16>), 2>>, 8>;
 
     ghost parts_of = { elim [
@@ -53,14 +51,13 @@ impl Codec for UnderByte {
         }
     }
 
-    fn write<W: Sink>(&self, writer: &mut Writer<W>) -> Result<(), DekuError> {
-        let parts: Self::Parts = match self {
+    fn parts(&self) -> Self::Parts {
+        match self {
             UnderByte::First(field_0) => Enum::new(Either::This(Kind(*field_0))),
             UnderByte::Second(field_0, field_1) => {
                 Enum::new(Either::Other(Kind((*field_0, Le(*field_1)))))
             }
-        };
-        parts.to_writer(writer, ())
+        }
     }
 
     ghost there = { elim [
@@ -78,7 +75,7 @@ pub enum Numbered {
     Second,
 }
 
-impl Codec for Numbered {
+impl CopyParts for Numbered {
     type Parts = MsbEnum<Either<Kind<(), 1>, Kind<(), 2>>, 8>;
 
     ghost parts_of = { elim [
@@ -98,12 +95,11 @@ impl Codec for Numbered {
         }
     }
 
-    fn write<W: Sink>(&self, writer: &mut Writer<W>) -> Result<(), DekuError> {
-        let parts: Self::Parts = match self {
+    fn parts(&self) -> Self::Parts {
+        match self {
             Numbered::First => Enum::new(Either::This(Kind(()))),
             Numbered::Second => Enum::new(Either::Other(Kind(()))),
-        };
-        parts.to_writer(writer, ())
+        }
     }
 
     ghost there = { elim [
@@ -121,7 +117,7 @@ pub enum EndianOfId {
     Big { x: u16 },
 }
 
-impl Codec for EndianOfId {
+impl CopyParts for EndianOfId {
     type Parts = MsbEnum<Either<Kind<Le<u16>, 1>, Kind<Be<u16>, 2>>, 16>;
 
     ghost parts_of = { elim [
@@ -147,12 +143,11 @@ impl Codec for EndianOfId {
         }
     }
 
-    fn write<W: Sink>(&self, writer: &mut Writer<W>) -> Result<(), DekuError> {
-        let parts: Self::Parts = match self {
+    fn parts(&self) -> Self::Parts {
+        match self {
             EndianOfId::Little(field_0) => Enum::new(Either::This(Kind(Le(*field_0)))),
             EndianOfId::Big { x } => Enum::new(Either::Other(Kind(Be(*x)))),
-        };
-        parts.to_writer(writer, ())
+        }
     }
 
     ghost there = { elim [
@@ -172,7 +167,7 @@ pub enum Patterns {
     Others(u64),
 }
 
-impl Codec for Patterns {
+impl CopyParts for Patterns {
     type Parts = MsbEnum<Either<Either<Kind<u8, 1>, InRange<(), 2, 6>>, Otherwise<()>>, 8>;
 
     ghost parts_of = { elim [
@@ -206,8 +201,8 @@ impl Codec for Patterns {
         }
     }
 
-    fn write<W: Sink>(&self, writer: &mut Writer<W>) -> Result<(), DekuError> {
-        let parts: Self::Parts = match self {
+    fn parts(&self) -> Self::Parts {
+        match self {
             Patterns::One(field_0) => Enum::new(Either::This(Either::This(Kind(*field_0)))),
             Patterns::Few { id } => {
                 Enum::new(Either::This(Either::Other(InRange { id: *id, value: () })))
@@ -218,8 +213,7 @@ impl Codec for Patterns {
                     value: (),
                 }))
             }
-        };
-        parts.to_writer(writer, ())
+        }
     }
 
     ghost there = { elim [
@@ -236,7 +230,7 @@ pub enum UnderBits {
     Only(u8, u8),
 }
 
-impl Codec for UnderBits {
+impl CopyParts for UnderBits {
     type Parts = MsbEnum<Kind<(MsbLe<u8, 4>, u8), 9>, 4>;
 
     ghost parts_of = { elim [
@@ -254,11 +248,10 @@ impl Codec for UnderBits {
         }
     }
 
-    fn write<W: Sink>(&self, writer: &mut Writer<W>) -> Result<(), DekuError> {
-        let parts: Self::Parts = match self {
+    fn parts(&self) -> Self::Parts {
+        match self {
             UnderBits::Only(field_0, field_1) => Enum::new(Kind((MsbLe(*field_0), *field_1))),
-        };
-        parts.to_writer(writer, ())
+        }
     }
 
     ghost there = { elim [
@@ -273,7 +266,7 @@ pub enum UnderBytes {
     Only(u8),
 }
 
-impl Codec for UnderBytes {
+impl CopyParts for UnderBytes {
     type Parts = MsbLeEnum<Kind<u8, 48879>, 16>;
 
     ghost parts_of = { elim [
@@ -288,11 +281,10 @@ impl Codec for UnderBytes {
         }
     }
 
-    fn write<W: Sink>(&self, writer: &mut Writer<W>) -> Result<(), DekuError> {
-        let parts: Self::Parts = match self {
+    fn parts(&self) -> Self::Parts {
+        match self {
             UnderBytes::Only(field_0) => Enum::new(Kind(*field_0)),
-        };
-        parts.to_writer(writer, ())
+        }
     }
 
     ghost there = { elim [

@@ -1,6 +1,6 @@
 //! Enums, as they are printed.
 
-use crate::structs::{WRITES, derives, docs, path_of};
+use crate::structs::{derives, docs, path_of};
 use deku_attributes::model::{Case, Endian, Id, Ids, Order, Record};
 use deku_dependents::building::field_name;
 use deku_description::syntax::Shape;
@@ -105,7 +105,7 @@ pub(crate) fn implementation(
     kinds: &[Built<'_, '_>],
 ) -> Result<(), AllocError> {
     let name = record.name.text;
-    writeln!(out, "\nimpl Codec for {name} {{")?;
+    writeln!(out, "\nimpl CopyParts for {name} {{")?;
     out.push_str("    type Parts = ")?;
     parts_kind(*out.allocator(), ids, kinds)?.print(out, 4, 1, false)?;
     out.push_str(";\n\n    ghost parts_of = { elim [")?;
@@ -120,13 +120,13 @@ pub(crate) fn implementation(
     for (i, kind) in kinds.iter().enumerate() {
         from_parts(out, name, kind, (i, kinds.len()))?;
     }
-    out.push_str("\n        }\n    }\n\n")?;
-    out.push_str(WRITES)?;
-    out.push_str(": Self::Parts = match self {")?;
+    out.push_str(
+        "\n        }\n    }\n\n    fn parts(&self) -> Self::Parts {\n        match self {",
+    )?;
     for (i, kind) in kinds.iter().enumerate() {
         parts(out, name, kind, (i, kinds.len()))?;
     }
-    out.push_str("\n        };\n        parts.to_writer(writer, ())\n    }\n\n")?;
+    out.push_str("\n        }\n    }\n\n")?;
     out.push_str("    ghost there = { elim [")?;
     for kind in kinds {
         start(out, 6)?;

@@ -6,7 +6,7 @@ use std::alloc::{AllocError, Global};
 use std::fmt::Write as _;
 
 // The names of deku_symmetry, in the order in which `rt fmt` has them.
-const PARTS: [&str; 39] = [
+const PARTS: [&str; 40] = [
     "Assert",
     "Be",
     "Before",
@@ -19,6 +19,7 @@ const PARTS: [&str; 39] = [
     "ConditionLaw",
     "Constant",
     "ConstantLaw",
+    "CopyParts",
     "CountOf",
     "CountOfLaw",
     "CountedBy",

@@ -110,7 +110,8 @@ pub(crate) fn implementation(
     record_of(alloc, shape, fields, &whole)?.print(out, 4, 3, false)?;
     out.push_str(" };\n\n")?;
     from_parts(out, record, shape, fields, &whole)?;
-    out.push_str(WRITES)?;
+    out.push_str("    fn write<W: Sink>(&self, writer: &mut Writer<W>) -> ")?;
+    out.push_str("Result<(), DekuError> {\n        let parts")?;
     // Parts that are lent have other types.
     out.push_str(if builder.owner == Owner::Copied {
         ": Self::Parts = "
@@ -122,11 +123,6 @@ pub(crate) fn implementation(
         ";\n        parts.to_writer(writer, ())\n    }\n\n    ghost there = { λ r. refl };\n}\n",
     )
 }
-
-/// The function that writes a value, up to the name of its parts.
-pub(crate) const WRITES: &str =
-    "    fn write<W: Sink>(&self, writer: &mut Writer<W>) -> Result<(), DekuError> {
-        let parts";
 
 // Appends the names of a record's parts.
 fn named(out: &mut String, name: &str, names: Vec<Text>) -> Result<(), AllocError> {

@@ -7,9 +7,7 @@ ghost use Rattle.deku_symmetry.specs.Fields.{be, msb};
 ghost use Rattle.deku_pieces.specs.declared.either.Either.TheVariants as either;
 ghost use Rattle.deku_derived_tests.specs.declared.shape.Shape.TheVariants as shape_kinds;
 
-use deku::device::Sink;
-use deku::prelude::{DekuError, DekuWriter, Writer};
-use deku_symmetry::{Be, Codec, Either, Enum, InRange, Kind, Msb, MsbEnum, Otherwise};
+use deku_symmetry::{Be, CopyParts, Either, Enum, InRange, Kind, Msb, MsbEnum, Otherwise};
 
 /// The record `Shape`.
 #[derive(Debug, Clone, Copy, PartialEq, Eq)]
@@ -24,7 +22,7 @@ pub enum Shape {
     Unknown(u64, u8),
 }
 
-impl Codec for Shape {
+impl CopyParts for Shape {
     type Parts = MsbEnum<
         Either<
             Either<Kind<Msb<u16, 12>, 1>, Kind<(Msb<u8, 4>, Be<u16>, Be<u16>), 2>>,
@@ -77,8 +75,8 @@ impl Codec for Shape {
         }
     }
 
-    fn write<W: Sink>(&self, writer: &mut Writer<W>) -> Result<(), DekuError> {
-        let parts: Self::Parts = match self {
+    fn parts(&self) -> Self::Parts {
+        match self {
             Shape::Circle(field_0) => Enum::new(Either::This(Either::This(Kind(Msb(*field_0))))),
             Shape::Rectangle {
                 flags,
@@ -94,8 +92,7 @@ impl Codec for Shape {
                     value: Msb(*field_1),
                 })))
             }
-        };
-        parts.to_writer(writer, ())
+        }
     }
 
     ghost there = { elim [

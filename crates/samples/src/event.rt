@@ -7,9 +7,7 @@ ghost use Rattle.deku_symmetry.specs.Fields.{be};
 ghost use Rattle.deku_pieces.specs.declared.either.Either.TheVariants as either;
 ghost use Rattle.samples.specs.declared.event.Event.TheVariants as event_kinds;
 
-use deku::device::Sink;
-use deku::prelude::{DekuError, DekuWriter, Writer};
-use deku_symmetry::{Be, Codec, Either, Enum, InRange, Kind, MsbEnum, Otherwise};
+use deku_symmetry::{Be, CopyParts, Either, Enum, InRange, Kind, MsbEnum, Otherwise};
 
 /// The record `Event`.
 #[derive(Debug, Clone, Copy, PartialEq, Eq)]
@@ -22,7 +20,7 @@ pub enum Event {
     Other(u64, u16),
 }
 
-impl Codec for Event {
+impl CopyParts for Event {
     type Parts = MsbEnum<
         Either<Either<Kind<(), 1>, Kind<(u8, Be<u16>), 2>>, Otherwise<Be<u16>>>,
         8,
@@ -62,8 +60,8 @@ impl Codec for Event {
         }
     }
 
-    fn write<W: Sink>(&self, writer: &mut Writer<W>) -> Result<(), DekuError> {
-        let parts: Self::Parts = match self {
+    fn parts(&self) -> Self::Parts {
+        match self {
             Event::Started => Enum::new(Either::This(Either::This(Kind(())))),
             Event::Passed { sensor, limit } => {
                 Enum::new(Either::This(Either::Other(Kind((*sensor, Be(*limit))))))
@@ -74,8 +72,7 @@ impl Codec for Event {
                     value: Be(*field_1),
                 }))
             }
-        };
-        parts.to_writer(writer, ())
+        }
     }
 
     ghost there = { elim [
