@@ -21,28 +21,23 @@ struct LowFirst {
     number: u32,
 }
 
-/// The high bits first.
-#[deku(endian = "big")]
-struct Flags {
-    byte: u8,
-    #[deku(bits = 1)]
-    first: bool,
-    #[deku(bits = 1)]
-    second: bool,
-    #[deku(bits = 1)]
-    third: bool,
-    #[deku(bits = 5)]
-    rest: u8,
-}
-
-/// The low bits first, the high byte first, and then a record of another order.
+/// The low bits first, the high byte first, and then fields of another order.
 #[deku(endian = "big", bit_order = "lsb")]
 struct Orders {
     #[deku(bits = 13)]
     offset: u16,
     #[deku(bits = 3)]
     kind: u8,
-    flags: Flags,
+    #[deku(bit_order = "msb")]
+    byte: u8,
+    #[deku(bit_order = "msb", bits = 1)]
+    first: bool,
+    #[deku(bit_order = "msb", bits = 1)]
+    second: bool,
+    #[deku(bit_order = "msb", bits = 1)]
+    third: bool,
+    #[deku(bit_order = "msb", bits = 5)]
+    rest: u8,
 }
 
 /// An order for each field.

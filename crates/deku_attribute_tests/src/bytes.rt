@@ -3,8 +3,8 @@
 use crate::dependents::{Counting, Sizing, ToEnd, Two, Whether};
 use crate::kinds::{EndianOfId, Numbered, Patterns, UnderBits, UnderByte, UnderBytes};
 use crate::numbers::{
-    AtLeast, Bits, BitsAfter, BitsBefore, Bytes, BytesAfter, BytesBefore, Endians, Flags, LowFirst,
-    Named, NamedField, Only, OrderOfFields, Orders,
+    AtLeast, Bits, BitsAfter, BitsBefore, Bytes, BytesAfter, BytesBefore, Endians, LowFirst, Named,
+    NamedField, Only, OrderOfFields, Orders,
 };
 use deku::prelude::{DekuError, NeedSize};
 use deku_symmetry::{Coded, Symmetric, SymmetricLast};
@@ -31,17 +31,14 @@ fn endians_and_orders(rt: HostRuntime) -> Result<(), Fail> {
     };
     let bytes = [0x31, 0x12, 0x04, 0x05, 6, 0, 0, 0, 7, 0, 0, 0];
     expect_packed(alloc, (), &Coded(low), 96, &bytes)?;
-    let flags = Flags {
+    let orders = Orders {
+        offset: 0x1001,
+        kind: 0b100,
         byte: 0xAB,
         first: true,
         second: false,
         third: false,
         rest: 0b10110,
-    };
-    let orders = Orders {
-        offset: 0x1001,
-        kind: 0b100,
-        flags,
     };
     expect_packed(alloc, (), &Coded(orders), 32, &[0x10, 0x81, 0xAB, 0x96])?;
     let fields = OrderOfFields {

@@ -7,8 +7,8 @@ ghost use Rattle.std.specs.Prelude.{◌*◌, nat_eq, Some, refl};
 use deku::device::Sink;
 use deku::prelude::{DekuError, DekuWriter, Writer};
 use deku_symmetry::{
-    Codec, Coded, Condition, ConditionLaw, CountOf, CountOfLaw, CountedBy, CountedByRef, FilledBy,
-    Optional, OptionalRef, Rest, SizeOf, SizeOfLaw, SizedBy,
+    Codec, Coded, Condition, ConditionLaw, CopyParts, CountOf, CountOfLaw, CountedBy, CountedByRef,
+    FilledBy, Optional, OptionalRef, Rest, SizeOf, SizeOfLaw, SizedBy,
 };
 use std::marker::PhantomData;
 
@@ -81,7 +81,7 @@ impl Two {
     pub const FIELDS: [&'static str; 2] = ["first", "second"];
 }
 
-impl Codec for Two {
+impl CopyParts for Two {
     type Parts = (u8, u8);
 
     ghost parts_of = { λ r. (r.first, r.second) };
@@ -92,9 +92,8 @@ impl Codec for Two {
         Two { first, second }
     }
 
-    fn write<W: Sink>(&self, writer: &mut Writer<W>) -> Result<(), DekuError> {
-        let parts: Self::Parts = (self.first, self.second);
-        parts.to_writer(writer, ())
+    fn parts(&self) -> Self::Parts {
+        (self.first, self.second)
     }
 
     ghost there = { λ r. refl };

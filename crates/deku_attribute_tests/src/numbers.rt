@@ -3,12 +3,10 @@
 //! Printed by `derive` from `numbers.rs`.
 
 ghost use Rattle.std.specs.Prelude.{nat_eq, nat_le, codes, refl};
-ghost use Rattle.deku_symmetry.specs.Fields.{be, coded, le, lsb, lsb_be, msb, msb_le};
+ghost use Rattle.deku_symmetry.specs.Fields.{be, le, lsb, lsb_be, msb, msb_le};
 
-use deku::device::Sink;
-use deku::prelude::{DekuError, DekuWriter, Writer};
 use deku_symmetry::{
-    Assert, Be, Check, CheckLaw, Codec, Coded, Constant, ConstantLaw, Le, Lsb, LsbBe, Magic, Msb,
+    Assert, Be, Check, CheckLaw, Constant, ConstantLaw, CopyParts, Le, Lsb, LsbBe, Magic, Msb,
     MsbLe,
 };
 
@@ -50,7 +48,7 @@ impl Endians {
     pub const FIELDS: [&'static str; 2] = ["first", "second"];
 }
 
-impl Codec for Endians {
+impl CopyParts for Endians {
     type Parts = (Be<u16>, Le<u16>);
 
     ghost parts_of = { λ r. (be r.first, le r.second) };
@@ -61,9 +59,8 @@ impl Codec for Endians {
         Endians { first, second }
     }
 
-    fn write<W: Sink>(&self, writer: &mut Writer<W>) -> Result<(), DekuError> {
-        let parts: Self::Parts = (Be(self.first), Le(self.second));
-        parts.to_writer(writer, ())
+    fn parts(&self) -> Self::Parts {
+        (Be(self.first), Le(self.second))
     }
 
     ghost there = { λ r. refl };
@@ -85,7 +82,7 @@ impl LowFirst {
     pub const FIELDS: [&'static str; 6] = ["kind", "mode", "user", "group", "time", "number"];
 }
 
-impl Codec for LowFirst {
+impl CopyParts for LowFirst {
     type Parts = (
         Lsb<u8, 4>,
         Lsb<u16, 12>,
@@ -125,24 +122,25 @@ impl Codec for LowFirst {
         }
     }
 
-    fn write<W: Sink>(&self, writer: &mut Writer<W>) -> Result<(), DekuError> {
-        let parts: Self::Parts = (
+    fn parts(&self) -> Self::Parts {
+        (
             Lsb(self.kind),
             Lsb(self.mode),
             Lsb(self.user),
             Lsb(self.group),
             Lsb(self.time),
             Lsb(self.number),
-        );
-        parts.to_writer(writer, ())
+        )
     }
 
     ghost there = { λ r. refl };
 }
 
-/// The high bits first.
+/// The low bits first, the high byte first, and then fields of another order.
 #[derive(Debug, Clone, Copy, PartialEq, Eq)]
-pub struct Flags {
+pub struct Orders {
+    pub offset: u16,
+    pub kind: u8,
     pub byte: u8,
     pub first: bool,
     pub second: bool,
@@ -150,26 +148,50 @@ pub struct Flags {
     pub rest: u8,
 }
 
-impl Flags {
+impl Orders {
     /// The names of its parts, in their order.
-    pub const FIELDS: [&'static str; 5] = ["byte", "first", "second", "third", "rest"];
+    pub const FIELDS: [&'static str; 7] = [
+        "offset", "kind", "byte", "first", "second", "third", "rest",
+    ];
 }
 
-impl Codec for Flags {
-    type Parts = (u8, Msb<bool, 1>, Msb<bool, 1>, Msb<bool, 1>, Msb<u8, 5>);
+impl CopyParts for Orders {
+    type Parts = (
+        LsbBe<u16, 13>,
+        LsbBe<u8, 3>,
+        u8,
+        Msb<bool, 1>,
+        Msb<bool, 1>,
+        Msb<bool, 1>,
+        Msb<u8, 5>,
+    );
 
-    ghost parts_of = { λ r. (r.byte, msb r.first, msb r.second, msb r.third, msb r.rest) };
+    ghost parts_of = { λ r. (
+      lsb_be r.offset,
+      lsb_be r.kind,
+      r.byte,
+      msb r.first,
+      msb r.second,
+      msb r.third,
+      msb r.rest,
+    ) };
 
     ghost record_of = { λ p. record {
-      byte = p.0;
-      first = p.1.0;
-      second = p.2.0;
-      third = p.3.0;
-      rest = p.4.0;
+      offset = p.0.0;
+      kind = p.1.0;
+      byte = p.2;
+      first = p.3.0;
+      second = p.4.0;
+      third = p.5.0;
+      rest = p.6.0;
     } };
 
-    fn from_parts((byte, Msb(first), Msb(second), Msb(third), Msb(rest)): Self::Parts) -> Self {
-        Flags {
+    fn from_parts(parts: Self::Parts) -> Self {
+        let (LsbBe(offset), LsbBe(kind), byte, Msb(first), Msb(second), Msb(third), Msb(rest)) =
+            parts;
+        Orders {
+            offset,
+            kind,
             byte,
             first,
             second,
@@ -178,51 +200,16 @@ impl Codec for Flags {
         }
     }
 
-    fn write<W: Sink>(&self, writer: &mut Writer<W>) -> Result<(), DekuError> {
-        let parts: Self::Parts = (
+    fn parts(&self) -> Self::Parts {
+        (
+            LsbBe(self.offset),
+            LsbBe(self.kind),
             self.byte,
             Msb(self.first),
             Msb(self.second),
             Msb(self.third),
             Msb(self.rest),
-        );
-        parts.to_writer(writer, ())
-    }
-
-    ghost there = { λ r. refl };
-}
-
-/// The low bits first, the high byte first, and then a record of another order.
-#[derive(Debug, Clone, Copy, PartialEq, Eq)]
-pub struct Orders {
-    pub offset: u16,
-    pub kind: u8,
-    pub flags: Flags,
-}
-
-impl Orders {
-    /// The names of its parts, in their order.
-    pub const FIELDS: [&'static str; 3] = ["offset", "kind", "flags"];
-}
-
-impl Codec for Orders {
-    type Parts = (LsbBe<u16, 13>, LsbBe<u8, 3>, Coded<Flags>);
-
-    ghost parts_of = { λ r. (lsb_be r.offset, lsb_be r.kind, coded r.flags) };
-
-    ghost record_of = { λ p. record { offset = p.0.0; kind = p.1.0; flags = p.2.0 } };
-
-    fn from_parts((LsbBe(offset), LsbBe(kind), Coded(flags)): Self::Parts) -> Self {
-        Orders {
-            offset,
-            kind,
-            flags,
-        }
-    }
-
-    fn write<W: Sink>(&self, writer: &mut Writer<W>) -> Result<(), DekuError> {
-        let parts: Self::Parts = (LsbBe(self.offset), LsbBe(self.kind), Coded(self.flags));
-        parts.to_writer(writer, ())
+        )
     }
 
     ghost there = { λ r. refl };
@@ -240,7 +227,7 @@ impl OrderOfFields {
     pub const FIELDS: [&'static str; 2] = ["offset", "kind"];
 }
 
-impl Codec for OrderOfFields {
+impl CopyParts for OrderOfFields {
     type Parts = (Lsb<u16, 13>, Lsb<u8, 3>);
 
     ghost parts_of = { λ r. (lsb r.offset, lsb r.kind) };
@@ -251,9 +238,8 @@ impl Codec for OrderOfFields {
         OrderOfFields { offset, kind }
     }
 
-    fn write<W: Sink>(&self, writer: &mut Writer<W>) -> Result<(), DekuError> {
-        let parts: Self::Parts = (Lsb(self.offset), Lsb(self.kind));
-        parts.to_writer(writer, ())
+    fn parts(&self) -> Self::Parts {
+        (Lsb(self.offset), Lsb(self.kind))
     }
 
     ghost there = { λ r. refl };
@@ -296,7 +282,7 @@ impl Named {
     pub const FIELDS: [&'static str; 2] = ["magic", "data"];
 }
 
-impl Codec for Named {
+impl CopyParts for Named {
     type Parts = (Magic<Be<u32>, NamedMagic>, u8);
 
     ghost parts_of = { λ r. (record { part = record {}; constant = record {} }, r.data) };
@@ -307,9 +293,8 @@ impl Codec for Named {
         Named { data }
     }
 
-    fn write<W: Sink>(&self, writer: &mut Writer<W>) -> Result<(), DekuError> {
-        let parts: Self::Parts = (Magic::new(), self.data);
-        parts.to_writer(writer, ())
+    fn parts(&self) -> Self::Parts {
+        (Magic::new(), self.data)
     }
 
     ghost there = { λ r. refl };
@@ -352,7 +337,7 @@ impl NamedField {
     pub const FIELDS: [&'static str; 2] = ["magic", "data"];
 }
 
-impl Codec for NamedField {
+impl CopyParts for NamedField {
     type Parts = (Magic<Be<u32>, NamedFieldDataMagic>, u8);
 
     ghost parts_of = { λ r. (record { part = record {}; constant = record {} }, r.data) };
@@ -363,9 +348,8 @@ impl Codec for NamedField {
         NamedField { data }
     }
 
-    fn write<W: Sink>(&self, writer: &mut Writer<W>) -> Result<(), DekuError> {
-        let parts: Self::Parts = (Magic::new(), self.data);
-        parts.to_writer(writer, ())
+    fn parts(&self) -> Self::Parts {
+        (Magic::new(), self.data)
     }
 
     ghost there = { λ r. refl };
@@ -405,7 +389,7 @@ impl AtLeast {
     pub const FIELDS: [&'static str; 1] = ["data"];
 }
 
-impl Codec for AtLeast {
+impl CopyParts for AtLeast {
     type Parts = Assert<u8, AtLeastDataCheck>;
 
     ghost parts_of = { λ r. record { part = r.data; check = record {} } };
@@ -416,9 +400,8 @@ impl Codec for AtLeast {
         AtLeast { data }
     }
 
-    fn write<W: Sink>(&self, writer: &mut Writer<W>) -> Result<(), DekuError> {
-        let parts: Self::Parts = Assert::new(self.data);
-        parts.to_writer(writer, ())
+    fn parts(&self) -> Self::Parts {
+        Assert::new(self.data)
     }
 
     ghost there = { λ r. refl };
@@ -458,7 +441,7 @@ impl Only {
     pub const FIELDS: [&'static str; 1] = ["data"];
 }
 
-impl Codec for Only {
+impl CopyParts for Only {
     type Parts = Assert<u8, OnlyDataValue>;
 
     ghost parts_of = { λ r. record { part = r.data; check = record {} } };
@@ -469,9 +452,8 @@ impl Codec for Only {
         Only { data }
     }
 
-    fn write<W: Sink>(&self, writer: &mut Writer<W>) -> Result<(), DekuError> {
-        let parts: Self::Parts = Assert::new(self.data);
-        parts.to_writer(writer, ())
+    fn parts(&self) -> Self::Parts {
+        Assert::new(self.data)
     }
 
     ghost there = { λ r. refl };
@@ -490,7 +472,7 @@ impl Bits {
     pub const FIELDS: [&'static str; 3] = ["first", "second", "third"];
 }
 
-impl Codec for Bits {
+impl CopyParts for Bits {
     type Parts = (MsbLe<u8, 2>, MsbLe<u8, 6>, u8);
 
     ghost parts_of = { λ r. (msb_le r.first, msb_le r.second, r.third) };
@@ -505,9 +487,8 @@ impl Codec for Bits {
         }
     }
 
-    fn write<W: Sink>(&self, writer: &mut Writer<W>) -> Result<(), DekuError> {
-        let parts: Self::Parts = (MsbLe(self.first), MsbLe(self.second), self.third);
-        parts.to_writer(writer, ())
+    fn parts(&self) -> Self::Parts {
+        (MsbLe(self.first), MsbLe(self.second), self.third)
     }
 
     ghost there = { λ r. refl };
@@ -525,7 +506,7 @@ impl Bytes {
     pub const FIELDS: [&'static str; 2] = ["first", "second"];
 }
 
-impl Codec for Bytes {
+impl CopyParts for Bytes {
     type Parts = (MsbLe<u32, 16>, u8);
 
     ghost parts_of = { λ r. (msb_le r.first, r.second) };
@@ -536,9 +517,8 @@ impl Codec for Bytes {
         Bytes { first, second }
     }
 
-    fn write<W: Sink>(&self, writer: &mut Writer<W>) -> Result<(), DekuError> {
-        let parts: Self::Parts = (MsbLe(self.first), self.second);
-        parts.to_writer(writer, ())
+    fn parts(&self) -> Self::Parts {
+        (MsbLe(self.first), self.second)
     }
 
     ghost there = { λ r. refl };
@@ -556,7 +536,7 @@ impl BytesBefore {
     pub const FIELDS: [&'static str; 3] = ["first", "padding", "second"];
 }
 
-impl Codec for BytesBefore {
+impl CopyParts for BytesBefore {
     type Parts = (u8, Magic<Msb<u64, 16>, Zeros>, u8);
 
     ghost parts_of = { λ r. (
@@ -571,9 +551,8 @@ impl Codec for BytesBefore {
         BytesBefore { first, second }
     }
 
-    fn write<W: Sink>(&self, writer: &mut Writer<W>) -> Result<(), DekuError> {
-        let parts: Self::Parts = (self.first, Magic::new(), self.second);
-        parts.to_writer(writer, ())
+    fn parts(&self) -> Self::Parts {
+        (self.first, Magic::new(), self.second)
     }
 
     ghost there = { λ r. refl };
@@ -591,7 +570,7 @@ impl BitsBefore {
     pub const FIELDS: [&'static str; 3] = ["first", "padding", "second"];
 }
 
-impl Codec for BitsBefore {
+impl CopyParts for BitsBefore {
     type Parts = (MsbLe<u8, 2>, Magic<Msb<u64, 2>, Zeros>, MsbLe<u8, 4>);
 
     ghost parts_of = { λ r. (
@@ -606,9 +585,8 @@ impl Codec for BitsBefore {
         BitsBefore { first, second }
     }
 
-    fn write<W: Sink>(&self, writer: &mut Writer<W>) -> Result<(), DekuError> {
-        let parts: Self::Parts = (MsbLe(self.first), Magic::new(), MsbLe(self.second));
-        parts.to_writer(writer, ())
+    fn parts(&self) -> Self::Parts {
+        (MsbLe(self.first), Magic::new(), MsbLe(self.second))
     }
 
     ghost there = { λ r. refl };
@@ -626,7 +604,7 @@ impl BytesAfter {
     pub const FIELDS: [&'static str; 3] = ["first", "padding", "second"];
 }
 
-impl Codec for BytesAfter {
+impl CopyParts for BytesAfter {
     type Parts = (u8, Magic<Msb<u64, 16>, Zeros>, u8);
 
     ghost parts_of = { λ r. (
@@ -641,9 +619,8 @@ impl Codec for BytesAfter {
         BytesAfter { first, second }
     }
 
-    fn write<W: Sink>(&self, writer: &mut Writer<W>) -> Result<(), DekuError> {
-        let parts: Self::Parts = (self.first, Magic::new(), self.second);
-        parts.to_writer(writer, ())
+    fn parts(&self) -> Self::Parts {
+        (self.first, Magic::new(), self.second)
     }
 
     ghost there = { λ r. refl };
@@ -661,7 +638,7 @@ impl BitsAfter {
     pub const FIELDS: [&'static str; 3] = ["first", "padding", "second"];
 }
 
-impl Codec for BitsAfter {
+impl CopyParts for BitsAfter {
     type Parts = (MsbLe<u8, 2>, Magic<Msb<u64, 2>, Zeros>, MsbLe<u8, 4>);
 
     ghost parts_of = { λ r. (
@@ -676,9 +653,8 @@ impl Codec for BitsAfter {
         BitsAfter { first, second }
     }
 
-    fn write<W: Sink>(&self, writer: &mut Writer<W>) -> Result<(), DekuError> {
-        let parts: Self::Parts = (MsbLe(self.first), Magic::new(), MsbLe(self.second));
-        parts.to_writer(writer, ())
+    fn parts(&self) -> Self::Parts {
+        (MsbLe(self.first), Magic::new(), MsbLe(self.second))
     }
 
     ghost there = { λ r. refl };

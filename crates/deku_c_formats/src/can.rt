@@ -5,10 +5,8 @@
 ghost use Rattle.std.specs.Prelude.{refl};
 ghost use Rattle.deku_symmetry.specs.Fields.{lsb, lsb_be};
 
-use deku::device::Sink;
-use deku::prelude::{DekuError, DekuWriter, Writer};
 use deku_c_records::ForC;
-use deku_symmetry::{Codec, Lsb, LsbBe};
+use deku_symmetry::{CopyParts, Lsb, LsbBe};
 use std::alloc::Global;
 
 /// The record `Chassis`.
@@ -34,7 +32,7 @@ impl Chassis {
     pub const FIELDS: [&'static str; 6] = ["wheel", "gear", "torque", "flags", "padding", "yaw"];
 }
 
-impl Codec for Chassis {
+impl CopyParts for Chassis {
     type Parts = (
         Lsb<i16, 12>,
         Lsb<u8, 4>,
@@ -74,16 +72,15 @@ impl Codec for Chassis {
         }
     }
 
-    fn write<W: Sink>(&self, writer: &mut Writer<W>) -> Result<(), DekuError> {
-        let parts: Self::Parts = (
+    fn parts(&self) -> Self::Parts {
+        (
             Lsb(self.wheel),
             Lsb(self.gear),
             LsbBe(self.torque),
             Lsb(self.flags),
             Lsb(self.padding),
             LsbBe(self.yaw),
-        );
-        parts.to_writer(writer, ())
+        )
     }
 
     ghost there = { λ r. refl };

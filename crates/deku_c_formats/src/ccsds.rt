@@ -5,10 +5,8 @@
 ghost use Rattle.std.specs.Prelude.{refl};
 ghost use Rattle.deku_symmetry.specs.Fields.{be, msb};
 
-use deku::device::Sink;
-use deku::prelude::{DekuError, DekuWriter, Writer};
 use deku_c_records::ForC;
-use deku_symmetry::{Be, Codec, Msb};
+use deku_symmetry::{Be, CopyParts, Msb};
 use std::alloc::Global;
 
 /// The record `SpacePacket`.
@@ -44,7 +42,7 @@ impl SpacePacket {
     ];
 }
 
-impl Codec for SpacePacket {
+impl CopyParts for SpacePacket {
     type Parts = (
         Msb<u8, 3>,
         Msb<u8, 1>,
@@ -96,8 +94,8 @@ impl Codec for SpacePacket {
         }
     }
 
-    fn write<W: Sink>(&self, writer: &mut Writer<W>) -> Result<(), DekuError> {
-        let parts: Self::Parts = (
+    fn parts(&self) -> Self::Parts {
+        (
             Msb(self.version),
             Msb(self.kind),
             Msb(self.secondary),
@@ -105,8 +103,7 @@ impl Codec for SpacePacket {
             Msb(self.grouping),
             Msb(self.count),
             Be(self.length),
-        );
-        parts.to_writer(writer, ())
+        )
     }
 
     ghost there = { λ r. refl };
@@ -125,7 +122,7 @@ impl TelemetrySample {
     pub const FIELDS: [&'static str; 2] = ["voltage", "current"];
 }
 
-impl Codec for TelemetrySample {
+impl CopyParts for TelemetrySample {
     type Parts = (Msb<u16, 10>, Msb<u16, 12>);
 
     ghost parts_of = { λ r. (msb r.voltage, msb r.current) };
@@ -136,9 +133,8 @@ impl Codec for TelemetrySample {
         TelemetrySample { voltage, current }
     }
 
-    fn write<W: Sink>(&self, writer: &mut Writer<W>) -> Result<(), DekuError> {
-        let parts: Self::Parts = (Msb(self.voltage), Msb(self.current));
-        parts.to_writer(writer, ())
+    fn parts(&self) -> Self::Parts {
+        (Msb(self.voltage), Msb(self.current))
     }
 
     ghost there = { λ r. refl };

@@ -5,10 +5,8 @@
 ghost use Rattle.std.specs.Prelude.{refl};
 ghost use Rattle.deku_symmetry.specs.Fields.{be, msb};
 
-use deku::device::Sink;
-use deku::prelude::{DekuError, DekuWriter, Writer};
 use deku_c_records::ForC;
-use deku_symmetry::{Be, Codec, Msb};
+use deku_symmetry::{Be, CopyParts, Msb};
 use std::alloc::Global;
 
 /// The record `DnsHeader`.
@@ -62,7 +60,7 @@ impl DnsHeader {
     ];
 }
 
-impl Codec for DnsHeader {
+impl CopyParts for DnsHeader {
     type Parts = (
         (
             Be<u16>,
@@ -138,8 +136,8 @@ impl Codec for DnsHeader {
         }
     }
 
-    fn write<W: Sink>(&self, writer: &mut Writer<W>) -> Result<(), DekuError> {
-        let parts: Self::Parts = (
+    fn parts(&self) -> Self::Parts {
+        (
             (
                 Be(self.identification),
                 Msb(self.response),
@@ -157,8 +155,7 @@ impl Codec for DnsHeader {
                 Be(self.authorities),
                 Be(self.additionals),
             ),
-        );
-        parts.to_writer(writer, ())
+        )
     }
 
     ghost there = { λ r. refl };

@@ -5,10 +5,8 @@
 ghost use Rattle.std.specs.Prelude.{codes, refl};
 ghost use Rattle.deku_symmetry.specs.Fields.{be, le};
 
-use deku::device::Sink;
-use deku::prelude::{DekuError, DekuWriter, Writer};
 use deku_c_records::ForC;
-use deku_symmetry::{Be, Codec, Constant, ConstantLaw, Le, Magic, Msb};
+use deku_symmetry::{Be, Constant, ConstantLaw, CopyParts, Le, Magic, Msb};
 use std::alloc::Global;
 
 /// The file header, the low byte of each number first.
@@ -85,7 +83,7 @@ impl ElfLittle {
     ];
 }
 
-impl Codec for ElfLittle {
+impl CopyParts for ElfLittle {
     type Parts = (
         (
             Magic<Msb<u64, 48>, ElfLittleMagic>,
@@ -157,8 +155,8 @@ impl Codec for ElfLittle {
         }
     }
 
-    fn write<W: Sink>(&self, writer: &mut Writer<W>) -> Result<(), DekuError> {
-        let parts: Self::Parts = (
+    fn parts(&self) -> Self::Parts {
+        (
             (
                 Magic::new(),
                 self.identification,
@@ -175,8 +173,7 @@ impl Codec for ElfLittle {
                 Le(self.segment_count),
                 Le(self.sections),
             ),
-        );
-        parts.to_writer(writer, ())
+        )
     }
 
     ghost there = { λ r. refl };
@@ -256,7 +253,7 @@ impl ElfBig {
     ];
 }
 
-impl Codec for ElfBig {
+impl CopyParts for ElfBig {
     type Parts = (
         (
             Magic<Msb<u64, 48>, ElfBigMagic>,
@@ -328,8 +325,8 @@ impl Codec for ElfBig {
         }
     }
 
-    fn write<W: Sink>(&self, writer: &mut Writer<W>) -> Result<(), DekuError> {
-        let parts: Self::Parts = (
+    fn parts(&self) -> Self::Parts {
+        (
             (
                 Magic::new(),
                 self.identification,
@@ -346,8 +343,7 @@ impl Codec for ElfBig {
                 Be(self.segment_count),
                 Be(self.sections),
             ),
-        );
-        parts.to_writer(writer, ())
+        )
     }
 
     ghost there = { λ r. refl };
@@ -389,7 +385,7 @@ impl SegmentLittle {
     ];
 }
 
-impl Codec for SegmentLittle {
+impl CopyParts for SegmentLittle {
     type Parts = (
         Le<u32>,
         Le<u32>,
@@ -446,8 +442,8 @@ impl Codec for SegmentLittle {
         }
     }
 
-    fn write<W: Sink>(&self, writer: &mut Writer<W>) -> Result<(), DekuError> {
-        let parts: Self::Parts = (
+    fn parts(&self) -> Self::Parts {
+        (
             Le(self.kind),
             Le(self.flags),
             Le(self.offset),
@@ -456,8 +452,7 @@ impl Codec for SegmentLittle {
             Le(self.file_size),
             Le(self.memory_size),
             Le(self.alignment),
-        );
-        parts.to_writer(writer, ())
+        )
     }
 
     ghost there = { λ r. refl };
@@ -499,7 +494,7 @@ impl SegmentBig {
     ];
 }
 
-impl Codec for SegmentBig {
+impl CopyParts for SegmentBig {
     type Parts = (
         Be<u32>,
         Be<u32>,
@@ -556,8 +551,8 @@ impl Codec for SegmentBig {
         }
     }
 
-    fn write<W: Sink>(&self, writer: &mut Writer<W>) -> Result<(), DekuError> {
-        let parts: Self::Parts = (
+    fn parts(&self) -> Self::Parts {
+        (
             Be(self.kind),
             Be(self.flags),
             Be(self.offset),
@@ -566,8 +561,7 @@ impl Codec for SegmentBig {
             Be(self.file_size),
             Be(self.memory_size),
             Be(self.alignment),
-        );
-        parts.to_writer(writer, ())
+        )
     }
 
     ghost there = { λ r. refl };

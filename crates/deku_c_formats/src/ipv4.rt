@@ -5,10 +5,8 @@
 ghost use Rattle.std.specs.Prelude.{nat_eq, codes, refl};
 ghost use Rattle.deku_symmetry.specs.Fields.{be, msb};
 
-use deku::device::Sink;
-use deku::prelude::{DekuError, DekuWriter, Writer};
 use deku_c_records::ForC;
-use deku_symmetry::{Assert, Be, Check, CheckLaw, Codec, Msb};
+use deku_symmetry::{Assert, Be, Check, CheckLaw, CopyParts, Msb};
 use std::alloc::Global;
 
 /// The record `Ipv4`.
@@ -85,7 +83,7 @@ impl Ipv4 {
     ];
 }
 
-impl Codec for Ipv4 {
+impl CopyParts for Ipv4 {
     type Parts = (
         (
             Assert<Msb<u8, 4>, Ipv4VersionValue>,
@@ -164,8 +162,8 @@ impl Codec for Ipv4 {
         }
     }
 
-    fn write<W: Sink>(&self, writer: &mut Writer<W>) -> Result<(), DekuError> {
-        let parts: Self::Parts = (
+    fn parts(&self) -> Self::Parts {
+        (
             (
                 Assert::new(Msb(self.version)),
                 Msb(self.words),
@@ -183,8 +181,7 @@ impl Codec for Ipv4 {
                 Be(self.source),
                 Be(self.destination),
             ),
-        );
-        parts.to_writer(writer, ())
+        )
     }
 
     ghost there = { λ r. refl };

@@ -5,10 +5,8 @@
 ghost use Rattle.std.specs.Prelude.{refl};
 ghost use Rattle.deku_symmetry.specs.Fields.{lsb};
 
-use deku::device::Sink;
-use deku::prelude::{DekuError, DekuWriter, Writer};
 use deku_c_records::ForC;
-use deku_symmetry::{Codec, Lsb};
+use deku_symmetry::{CopyParts, Lsb};
 use std::alloc::Global;
 
 /// Two source registers.
@@ -36,7 +34,7 @@ impl RiscvRegister {
     ];
 }
 
-impl Codec for RiscvRegister {
+impl CopyParts for RiscvRegister {
     type Parts = (
         Lsb<u8, 7>,
         Lsb<u8, 5>,
@@ -76,16 +74,15 @@ impl Codec for RiscvRegister {
         }
     }
 
-    fn write<W: Sink>(&self, writer: &mut Writer<W>) -> Result<(), DekuError> {
-        let parts: Self::Parts = (
+    fn parts(&self) -> Self::Parts {
+        (
             Lsb(self.code),
             Lsb(self.target),
             Lsb(self.function),
             Lsb(self.first),
             Lsb(self.second),
             Lsb(self.variant),
-        );
-        parts.to_writer(writer, ())
+        )
     }
 
     ghost there = { λ r. refl };
@@ -112,7 +109,7 @@ impl RiscvImmediate {
     pub const FIELDS: [&'static str; 5] = ["code", "target", "function", "base", "value"];
 }
 
-impl Codec for RiscvImmediate {
+impl CopyParts for RiscvImmediate {
     type Parts = (Lsb<u8, 7>, Lsb<u8, 5>, Lsb<u8, 3>, Lsb<u8, 5>, Lsb<i16, 12>);
 
     ghost parts_of = { λ r. (lsb r.code, lsb r.target, lsb r.function, lsb r.base, lsb r.value) };
@@ -136,15 +133,14 @@ impl Codec for RiscvImmediate {
         }
     }
 
-    fn write<W: Sink>(&self, writer: &mut Writer<W>) -> Result<(), DekuError> {
-        let parts: Self::Parts = (
+    fn parts(&self) -> Self::Parts {
+        (
             Lsb(self.code),
             Lsb(self.target),
             Lsb(self.function),
             Lsb(self.base),
             Lsb(self.value),
-        );
-        parts.to_writer(writer, ())
+        )
     }
 
     ghost there = { λ r. refl };
@@ -173,7 +169,7 @@ impl RiscvStore {
     pub const FIELDS: [&'static str; 6] = ["code", "low", "function", "base", "source", "high"];
 }
 
-impl Codec for RiscvStore {
+impl CopyParts for RiscvStore {
     type Parts = (
         Lsb<u8, 7>,
         Lsb<u32, 5>,
@@ -213,16 +209,15 @@ impl Codec for RiscvStore {
         }
     }
 
-    fn write<W: Sink>(&self, writer: &mut Writer<W>) -> Result<(), DekuError> {
-        let parts: Self::Parts = (
+    fn parts(&self) -> Self::Parts {
+        (
             Lsb(self.code),
             Lsb(self.low),
             Lsb(self.function),
             Lsb(self.base),
             Lsb(self.source),
             Lsb(self.high),
-        );
-        parts.to_writer(writer, ())
+        )
     }
 
     ghost there = { λ r. refl };
@@ -257,7 +252,7 @@ impl RiscvBranch {
     ];
 }
 
-impl Codec for RiscvBranch {
+impl CopyParts for RiscvBranch {
     type Parts = (
         Lsb<u8, 7>,
         Lsb<u32, 1>,
@@ -314,8 +309,8 @@ impl Codec for RiscvBranch {
         }
     }
 
-    fn write<W: Sink>(&self, writer: &mut Writer<W>) -> Result<(), DekuError> {
-        let parts: Self::Parts = (
+    fn parts(&self) -> Self::Parts {
+        (
             Lsb(self.code),
             Lsb(self.top),
             Lsb(self.low),
@@ -324,8 +319,7 @@ impl Codec for RiscvBranch {
             Lsb(self.second),
             Lsb(self.middle),
             Lsb(self.sign),
-        );
-        parts.to_writer(writer, ())
+        )
     }
 
     ghost there = { λ r. refl };
@@ -348,7 +342,7 @@ impl RiscvUpper {
     pub const FIELDS: [&'static str; 3] = ["code", "target", "value"];
 }
 
-impl Codec for RiscvUpper {
+impl CopyParts for RiscvUpper {
     type Parts = (Lsb<u8, 7>, Lsb<u8, 5>, Lsb<i32, 20>);
 
     ghost parts_of = { λ r. (lsb r.code, lsb r.target, lsb r.value) };
@@ -363,9 +357,8 @@ impl Codec for RiscvUpper {
         }
     }
 
-    fn write<W: Sink>(&self, writer: &mut Writer<W>) -> Result<(), DekuError> {
-        let parts: Self::Parts = (Lsb(self.code), Lsb(self.target), Lsb(self.value));
-        parts.to_writer(writer, ())
+    fn parts(&self) -> Self::Parts {
+        (Lsb(self.code), Lsb(self.target), Lsb(self.value))
     }
 
     ghost there = { λ r. refl };
@@ -394,7 +387,7 @@ impl RiscvJump {
     pub const FIELDS: [&'static str; 6] = ["code", "target", "high", "middle", "low", "sign"];
 }
 
-impl Codec for RiscvJump {
+impl CopyParts for RiscvJump {
     type Parts = (
         Lsb<u8, 7>,
         Lsb<u8, 5>,
@@ -434,16 +427,15 @@ impl Codec for RiscvJump {
         }
     }
 
-    fn write<W: Sink>(&self, writer: &mut Writer<W>) -> Result<(), DekuError> {
-        let parts: Self::Parts = (
+    fn parts(&self) -> Self::Parts {
+        (
             Lsb(self.code),
             Lsb(self.target),
             Lsb(self.high),
             Lsb(self.middle),
             Lsb(self.low),
             Lsb(self.sign),
-        );
-        parts.to_writer(writer, ())
+        )
     }
 
     ghost there = { λ r. refl };

@@ -101,7 +101,9 @@ pub(crate) fn implementation(
     let mut whole = builder.whole()?;
     let names = std::mem::replace(&mut whole.names, Vec::new(alloc));
     named(out, name, names)?;
-    writeln!(out, "\nimpl Codec for {name} {{")?;
+    let is_copied = builder.owner == Owner::Copied;
+    let form = if is_copied { "CopyParts" } else { "Codec" };
+    writeln!(out, "\nimpl {form} for {name} {{")?;
     out.push_str("    type Parts = ")?;
     whole.kind.print(out, 4, 1, false)?;
     out.push_str(";\n\n    ghost parts_of = { λ r. ")?;
@@ -110,18 +112,16 @@ pub(crate) fn implementation(
     record_of(alloc, shape, fields, &whole)?.print(out, 4, 3, false)?;
     out.push_str(" };\n\n")?;
     from_parts(out, record, shape, fields, &whole)?;
-    out.push_str("    fn write<W: Sink>(&self, writer: &mut Writer<W>) -> ")?;
-    out.push_str("Result<(), DekuError> {\n        let parts")?;
-    // Parts that are lent have other types.
-    out.push_str(if builder.owner == Owner::Copied {
-        ": Self::Parts = "
+    if is_copied {
+        out.push_str("    fn parts(&self) -> Self::Parts {\n        ")?;
+        whole.value.print(out, 8, 0, false)?;
     } else {
-        " = "
-    })?;
-    whole.value.print(out, 8, 1, false)?;
-    out.push_str(
-        ";\n        parts.to_writer(writer, ())\n    }\n\n    ghost there = { λ r. refl };\n}\n",
-    )
+        out.push_str("    fn write<W: Sink>(&self, writer: &mut Writer<W>) -> ")?;
+        out.push_str("Result<(), DekuError> {\n        let parts = ")?;
+        whole.value.print(out, 8, 1, false)?;
+        out.push_str(";\n        parts.to_writer(writer, ())")?;
+    }
+    out.push_str("\n    }\n\n    ghost there = { λ r. refl };\n}\n")
 }
 
 // Appends the names of a record's parts.

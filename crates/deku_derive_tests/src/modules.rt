@@ -23,9 +23,7 @@ const DATAGRAM_MODULE: &str = "//! The header of a UDP datagram, RFC 768.
 ghost use Rattle.std.specs.Prelude.{refl};
 ghost use Rattle.deku_symmetry.specs.Fields.{be, msb};
 
-use deku::device::Sink;
-use deku::prelude::{DekuError, DekuWriter, Writer};
-use deku_symmetry::{Be, Codec, Msb};
+use deku_symmetry::{Be, CopyParts, Msb};
 
 /// The record `Udp`.
 #[derive(Debug, Clone, Copy, PartialEq, Eq)]
@@ -42,7 +40,7 @@ impl Udp {
     pub const FIELDS: [&'static str; 5] = [\"source\", \"destination\", \"kind\", \"flags\", \"tail\"];
 }
 
-impl Codec for Udp {
+impl CopyParts for Udp {
     type Parts = (Be<u16>, Be<u16>, Msb<u8, 4>, Msb<u8, 4>, [u8; 2]);
 
     ghost parts_of = { λ r. (be r.source, be r.destination, msb r.kind, msb r.flags, r.tail) };
@@ -66,15 +64,14 @@ impl Codec for Udp {
         }
     }
 
-    fn write<W: Sink>(&self, writer: &mut Writer<W>) -> Result<(), DekuError> {
-        let parts: Self::Parts = (
+    fn parts(&self) -> Self::Parts {
+        (
             Be(self.source),
             Be(self.destination),
             Msb(self.kind),
             Msb(self.flags),
             self.tail,
-        );
-        parts.to_writer(writer, ())
+        )
     }
 
     ghost there = { λ r. refl };
@@ -102,9 +99,7 @@ const HOST_MODULE: &str = "//! Printed by `derive` from `a.rs`.
 ghost use Rattle.std.specs.Prelude.{refl};
 ghost use Rattle.deku_symmetry.specs.Fields.{be, coded, le, lsb, msb_le};
 
-use deku::device::Sink;
-use deku::prelude::{DekuError, DekuWriter, Writer};
-use deku_symmetry::{Be, Codec, Coded, Le, Lsb, MsbLe};
+use deku_symmetry::{Be, Coded, CopyParts, Le, Lsb, MsbLe};
 use std::net::Ipv4Addr;
 
 /// The record `Pair`.
@@ -119,7 +114,7 @@ impl Pair {
     pub const FIELDS: [&'static str; 2] = [\"low\", \"data\"];
 }
 
-impl Codec for Pair {
+impl CopyParts for Pair {
     type Parts = (Lsb<u8, 4>, Lsb<u16, 12>);
 
     ghost parts_of = { λ r. (lsb r.low, lsb r.data) };
@@ -130,9 +125,8 @@ impl Codec for Pair {
         Pair { low, data }
     }
 
-    fn write<W: Sink>(&self, writer: &mut Writer<W>) -> Result<(), DekuError> {
-        let parts: Self::Parts = (Lsb(self.low), Lsb(self.data));
-        parts.to_writer(writer, ())
+    fn parts(&self) -> Self::Parts {
+        (Lsb(self.low), Lsb(self.data))
     }
 
     ghost there = { λ r. refl };
@@ -154,7 +148,7 @@ impl Host {
     pub const FIELDS: [&'static str; 5] = [\"pair\", \"address\", \"up\", \"cost\", \"port\"];
 }
 
-impl Codec for Host {
+impl CopyParts for Host {
     type Parts = (Coded<Pair>, Be<Ipv4Addr>, bool, MsbLe<u32, 24>, Le<u16>);
 
     ghost parts_of = { λ r. (coded r.pair, be r.address, r.up, msb_le r.cost, le r.port) };
@@ -177,15 +171,14 @@ impl Codec for Host {
         }
     }
 
-    fn write<W: Sink>(&self, writer: &mut Writer<W>) -> Result<(), DekuError> {
-        let parts: Self::Parts = (
+    fn parts(&self) -> Self::Parts {
+        (
             Coded(self.pair),
             Be(self.address),
             self.up,
             MsbLe(self.cost),
             Le(self.port),
-        );
-        parts.to_writer(writer, ())
+        )
     }
 
     ghost there = { λ r. refl };

@@ -5,9 +5,9 @@
 ghost use Rattle.std.specs.Prelude.{◌||◌, nat_eq, nat_le, codes, refl};
 ghost use Rattle.deku_symmetry.specs.Fields.{be, coded, msb};
 
-use deku::device::Sink;
-use deku::prelude::{DekuError, DekuWriter, Writer};
-use deku_symmetry::{Assert, Be, Check, CheckLaw, Codec, Coded, Constant, ConstantLaw, Magic, Msb};
+use deku_symmetry::{
+    Assert, Be, Check, CheckLaw, Coded, Constant, ConstantLaw, CopyParts, Magic, Msb,
+};
 
 /// Padding.
 #[derive(Debug, PartialEq, Eq, Drop)]
@@ -73,7 +73,7 @@ impl Range {
     pub const FIELDS: [&'static str; 2] = ["low", "high"];
 }
 
-impl Codec for Range {
+impl CopyParts for Range {
     type Parts = Assert<RangeHighHead, RangeHighCheck>;
 
     ghost parts_of = { λ r. record { part = (r.low, r.high); check = record {} } };
@@ -88,9 +88,8 @@ impl Codec for Range {
         Range { low, high }
     }
 
-    fn write<W: Sink>(&self, writer: &mut Writer<W>) -> Result<(), DekuError> {
-        let parts: Self::Parts = Assert::new((self.low, self.high));
-        parts.to_writer(writer, ())
+    fn parts(&self) -> Self::Parts {
+        Assert::new((self.low, self.high))
     }
 
     ghost there = { λ r. refl };
@@ -162,7 +161,7 @@ impl Frame {
     ];
 }
 
-impl Codec for Frame {
+impl CopyParts for Frame {
     type Parts = (
         Magic<u8, FrameMagic>,
         Assert<Msb<u8, 4>, FrameVersionCheck>,
@@ -213,8 +212,8 @@ impl Codec for Frame {
         }
     }
 
-    fn write<W: Sink>(&self, writer: &mut Writer<W>) -> Result<(), DekuError> {
-        let parts: Self::Parts = (
+    fn parts(&self) -> Self::Parts {
+        (
             Magic::new(),
             Assert::new(Msb(self.version)),
             Msb(self.kind),
@@ -222,8 +221,7 @@ impl Codec for Frame {
             Be(self.pair),
             Magic::new(),
             Msb(self.end),
-        );
-        parts.to_writer(writer, ())
+        )
     }
 
     ghost there = { λ r. refl };

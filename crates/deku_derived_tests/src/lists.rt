@@ -8,8 +8,8 @@ ghost use Rattle.deku_symmetry.specs.Fields.{be, msb};
 use deku::device::Sink;
 use deku::prelude::{DekuError, DekuWriter, Writer};
 use deku_symmetry::{
-    Be, Before, Codec, Coded, CountOf, CountOfLaw, CountedBy, CountedByRef, FilledBy, Msb, Rest,
-    SizeOf, SizeOfLaw, SizedBy,
+    Be, Before, Codec, Coded, CopyParts, CountOf, CountOfLaw, CountedBy, CountedByRef, FilledBy,
+    Msb, Rest, SizeOf, SizeOfLaw, SizedBy,
 };
 use std::marker::PhantomData;
 
@@ -25,7 +25,7 @@ impl Entry {
     pub const FIELDS: [&'static str; 2] = ["kind", "value"];
 }
 
-impl Codec for Entry {
+impl CopyParts for Entry {
     type Parts = (u8, Be<u16>);
 
     ghost parts_of = { λ r. (r.kind, be r.value) };
@@ -36,9 +36,8 @@ impl Codec for Entry {
         Entry { kind, value }
     }
 
-    fn write<W: Sink>(&self, writer: &mut Writer<W>) -> Result<(), DekuError> {
-        let parts: Self::Parts = (self.kind, Be(self.value));
-        parts.to_writer(writer, ())
+    fn parts(&self) -> Self::Parts {
+        (self.kind, Be(self.value))
     }
 
     ghost there = { λ r. refl };

@@ -5,9 +5,7 @@
 ghost use Rattle.std.specs.Prelude.{refl};
 ghost use Rattle.deku_symmetry.specs.Fields.{be, msb};
 
-use deku::device::Sink;
-use deku::prelude::{DekuError, DekuWriter, Writer};
-use deku_symmetry::{Be, Codec, Msb};
+use deku_symmetry::{Be, CopyParts, Msb};
 
 /// The record `Ntp`.
 #[derive(Debug, Clone, Copy, PartialEq, Eq)]
@@ -46,7 +44,7 @@ impl Ntp {
     ];
 }
 
-impl Codec for Ntp {
+impl CopyParts for Ntp {
     type Parts = (
         (
             Msb<u8, 2>,
@@ -122,8 +120,8 @@ impl Codec for Ntp {
         }
     }
 
-    fn write<W: Sink>(&self, writer: &mut Writer<W>) -> Result<(), DekuError> {
-        let parts: Self::Parts = (
+    fn parts(&self) -> Self::Parts {
+        (
             (
                 Msb(self.leap),
                 Msb(self.version),
@@ -141,8 +139,7 @@ impl Codec for Ntp {
                 Be(self.receive),
                 Be(self.transmit),
             ),
-        );
-        parts.to_writer(writer, ())
+        )
     }
 
     ghost there = { λ r. refl };

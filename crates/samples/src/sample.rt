@@ -5,9 +5,7 @@
 ghost use Rattle.std.specs.Prelude.{refl};
 ghost use Rattle.deku_symmetry.specs.Fields.{be, msb};
 
-use deku::device::Sink;
-use deku::prelude::{DekuError, DekuWriter, Writer};
-use deku_symmetry::{Be, Codec, Msb};
+use deku_symmetry::{Be, CopyParts, Msb};
 
 /// The record `Sample`.
 #[derive(Debug, Clone, Copy, PartialEq, Eq)]
@@ -22,7 +20,7 @@ impl Sample {
     pub const FIELDS: [&'static str; 3] = ["sensor", "state", "value"];
 }
 
-impl Codec for Sample {
+impl CopyParts for Sample {
     type Parts = (Msb<u8, 4>, Msb<u8, 4>, Be<u16>);
 
     ghost parts_of = { λ r. (msb r.sensor, msb r.state, be r.value) };
@@ -37,9 +35,8 @@ impl Codec for Sample {
         }
     }
 
-    fn write<W: Sink>(&self, writer: &mut Writer<W>) -> Result<(), DekuError> {
-        let parts: Self::Parts = (Msb(self.sensor), Msb(self.state), Be(self.value));
-        parts.to_writer(writer, ())
+    fn parts(&self) -> Self::Parts {
+        (Msb(self.sensor), Msb(self.state), Be(self.value))
     }
 
     ghost there = { λ r. refl };

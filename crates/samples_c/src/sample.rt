@@ -5,10 +5,8 @@
 ghost use Rattle.std.specs.Prelude.{refl};
 ghost use Rattle.deku_symmetry.specs.Fields.{be, msb};
 
-use deku::device::Sink;
-use deku::prelude::{DekuError, DekuWriter, Writer};
 use deku_c_records::ForC;
-use deku_symmetry::{Be, Codec, Msb};
+use deku_symmetry::{Be, CopyParts, Msb};
 use std::alloc::Global;
 
 /// The record `Sample`.
@@ -25,7 +23,7 @@ impl Sample {
     pub const FIELDS: [&'static str; 3] = ["sensor", "state", "value"];
 }
 
-impl Codec for Sample {
+impl CopyParts for Sample {
     type Parts = (Msb<u8, 4>, Msb<u8, 4>, Be<u16>);
 
     ghost parts_of = { λ r. (msb r.sensor, msb r.state, be r.value) };
@@ -40,9 +38,8 @@ impl Codec for Sample {
         }
     }
 
-    fn write<W: Sink>(&self, writer: &mut Writer<W>) -> Result<(), DekuError> {
-        let parts: Self::Parts = (Msb(self.sensor), Msb(self.state), Be(self.value));
-        parts.to_writer(writer, ())
+    fn parts(&self) -> Self::Parts {
+        (Msb(self.sensor), Msb(self.state), Be(self.value))
     }
 
     ghost there = { λ r. refl };
