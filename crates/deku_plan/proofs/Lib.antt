@@ -7,3 +7,5 @@ pub mod Recorded
 pub mod Running
 pub mod Putting
 pub mod Aligning
+pub mod Rejecting
+pub mod Parsing

@@ -1,5 +1,5 @@
 -- What a plan knows of its fields, and which fields have none.
-use Rattle.std.specs.Prelude.{◌≡◌, ℕ, ◌<◌, ◌≤◌, ◌^◌, Bool, true, false, List, [], ◌∷◌, All, Some, map, sum, take, slice_get, codes}
+use Rattle.std.specs.Prelude.{◌≡◌, ℕ, ◌+◌, ◌<◌, ◌≤◌, ◌^◌, Bool, true, false, List, [], ◌∷◌, All, Some, map, take, slice_get, codes}
 use Rattle.std.specs.List.{AllZip}
 use Rattle.deku_bits.specs.declared.error.DekuError.{DekuError}
 use Rattle.deku_bits.specs.declared.error.DekuError.TheVariants.{InvalidParam}
@@ -34,7 +34,8 @@ AreSteps fs steps = AllZip IsStepOf fs steps
 
 -- How many bits steps have together.
 abbrev pub widths : List Step → ℕ
-widths steps = sum (map (λ s. s.width) steps)
+widths [] = 0
+widths (s ∷ steps) = s.width + widths steps
 
 -- ---- fields without a plan
 -- The first field whose layout is rejected, and why.

@@ -164,30 +164,30 @@ fn are_aligned(fields: &[Field], steps: &[Step]) -> bool
     requires { AreSteps fields.now steps.now }
     ensures { IsTrue result ↔ AlignedFields fields.now }
 {
-    let mut state = (0, Order::Msb0);
+    let (mut at, mut order) = (0, Order::Msb0);
     for (place, field) in fields.iter().enumerate() {
-        let Some(next) = state_after(state, field.layout.order, steps[place].width) else {
+        let Some(next) = after(at, order, field.layout.order, steps[place].width) else {
             return false;
         };
-        state = next;
+        at = next.0;
+        order = next.1;
     }
     true
 }
 
 // How many bits there are after the last byte boundary, and in which order, after one field more.
 // `None` if the order changes inside a byte.
-fn state_after(state: (usize, Order), order: Order, width: usize) -> Option<(usize, Order)>
-    requires inside { state.0 < 8 }
-    requires few { width < 2 ^ 63 }
+fn after(at: usize, before: Order, order: Order, width: usize) -> Option<(usize, Order)>
+    requires inside { at < 8 }
+    requires few { width ≤ 128 }
     ensures inside { IfSome result (λ next. next.0 < 8) }
     ensures some { IfSome result (λ next. (xs : List (FieldOrder × ℕ))
-        → AlignedFrom state.0 state.1 ((order, width) ∷ xs) ↔ AlignedFrom next.0 next.1 xs) }
+        → AlignedFrom at before ((order, width) ∷ xs) ↔ AlignedFrom next.0 next.1 xs) }
     ensures none { IsNone result → (xs : List (FieldOrder × ℕ))
-        → AlignedFrom state.0 state.1 ((order, width) ∷ xs) → ⊥ }
+        → AlignedFrom at before ((order, width) ∷ xs) → ⊥ }
 {
-    let (at, before) = state;
     if width == 0 {
-        return Some(state);
+        return Some((at, before));
     }
     if at != 0 && order != before {
         return None;
