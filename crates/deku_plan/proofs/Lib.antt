@@ -9,3 +9,4 @@ pub mod Putting
 pub mod Aligning
 pub mod Rejecting
 pub mod Parsing
+pub mod Wholly

@@ -1,6 +1,8 @@
 -- Values that are cut from bytes are what the fields read from them.
 use Rattle.std.proofs.Common.{◌≡◌, ℕ, zero, suc, ◌+◌, ◌*◌, ◌<◌, ◌≤◌, ◌^◌, Bool, true, false, Some, Ok, Option, Result, List, [], ◌∷◌, ◌++◌, map, length, take, drop, set, get_or, All, ℤ, pos, negsuc, refl, ap, sym, ◌∙◌, subst, subst₂, inl, inr, arith, append_assoc, take-append-drop}
 use Rattle.std.proofs.lemmas.List.{take_more, take_more_set}
+use Rattle.std.proofs.lemmas.Slice.{take-put_mid}
+use borrow.Rule.Slice.PartMut.{put_mid}
 use Rattle.std.proofs.Math.Nat.{mul-le-mul_right}
 use Rattle.std.proofs.lemmas.List.Elements.{All-head, All-tail, All-nil, All-append}
 use Rattle.deku_bits.specs.declared.ctx.Order.TheVariants.{Msb0}
@@ -124,6 +126,12 @@ at_record fs i bytes bit ns ms e before here =
     let begins : bit ≡ 0 + total (map field_shape (records i fs)) = omega (arith, e, records_total i fs) in
     subst (λ x. AreAt x bytes 0 (ns ++ ms)) (sym (ap (λ k. records k fs) next ∙ records_more i fs))
     (at_append (records i fs) fs bytes 0 bit ns ms begins before here)
+
+-- the values of one record more, put into their places
+pub at_put : (fs : List Field) (i : ℕ) (bytes : List ℕ) (bit place next k : ℕ) (out ms : List Number) → bit ≡ i * total (map field_shape fs) → place ≤ length out → next ≡ place + length ms
+    → AreAt (records i fs) bytes 0 (take place out) → AreAt fs bytes bit ms → AreAt (records (i + 1) fs) bytes 0 (take next (put_mid place k out ms))
+at_put fs i bytes bit place next k out ms e inside n before here =
+    rw (take-put_mid place k out ms next n inside) (at_record fs i bytes bit (take place out) ms e before here)
 
 pub all_records : (P : Field → Type 0) (fs : List Field) (n : ℕ) → All P fs → All P (records n fs)
 all_records P fs zero h = All-nil P

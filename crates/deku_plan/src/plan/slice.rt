@@ -54,13 +54,13 @@ impl Plan {
         ensures values { ReadsBackAll (records count self.now) bytes.now (filling result out.new) }
         ensures found { FindsAll (records count self.now) bytes.now (filling result out.new) }
     {
-        let (fields, steps) = (self.fields.as_slice(), self.steps.as_slice());
+        let fields = self.fields.as_slice();
+        let steps = self.steps.as_slice();
         if self.straight && are_there(bytes, count, self.bits) {
             cut_records(bytes, count, fields, steps, out);
             return Ok(());
         }
-        let mut reader = Reader::new(alloc, Cursor::new(bytes));
-        read_records(&mut reader, count, fields, steps, out)
+        read_from_first(alloc, bytes, count, fields, steps, out)
     }
 
     /// Writes this many records to the start of a slice, one after the other and without padding
@@ -98,9 +98,9 @@ impl Plan {
             self.steps.as_slice(),
             values,
         );
-        let length = cursor.position() as usize;
+        let taken = cursor.position() as usize;
         written?;
-        Ok(length)
+        Ok(taken)
     }
 }
 
@@ -157,6 +157,23 @@ fn cut_record(
         at += step.width;
     }
     at
+}
+
+// Reads the values of records from bytes, the first of them from the first bit on.
+fn read_from_first(
+    alloc: Global,
+    bytes: &[u8],
+    count: usize,
+    fields: &[Field],
+    steps: &[Step],
+    out: &mut [Number],
+) -> Result<(), DekuError>
+    requires steps { AreSteps fields.now steps.now }
+    requires places { length out.old ≡ count * length fields.now }
+    ensures { ReadsAll (records count fields.now) bytes.now (filling result out.new) }
+{
+    let mut reader = Reader::new(alloc, Cursor::new(bytes));
+    read_records(&mut reader, count, fields, steps, out)
 }
 
 // Reads the values of records, one after the other.

@@ -7,5 +7,4 @@ use Rattle.deku_plan.proofs.plan.slice.cut_records.Given as goal
 abbrev pub invariant-loop : goal.invariant-loop
 invariant-loop l = (l.place ≡ l.counter * length l.fields)
     × (l.bit ≡ l.counter * total (map field_shape l.fields))
-    × (length l.out ≡ length l.initial.out)
     × AreAt (records l.counter l.fields) l.bytes 0 (take l.place l.out)
