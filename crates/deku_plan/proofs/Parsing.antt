@@ -12,7 +12,7 @@ use Rattle.deku_num.specs.NumberCalls.{beyond, IsLayoutRefusal}
 use Rattle.deku_fields.specs.declared.list.Field.{Field}
 use Rattle.deku_fields.specs.Items.{number_type, IsAllowedField}
 use Rattle.deku_fields.specs.Naming.{NamesField}
-use Rattle.deku_plan.specs.declared.plan.words.WrongWords.TheVariants.{NoField, Rejected, Fault}
+use Rattle.deku_plan.specs.declared.plan.WrongWords.TheVariants.{NoField, Rejected, Fault}
 use Rattle.deku_plan.specs.Plans.{IsFirstRejected, AreTooMany}
 use Rattle.deku_plan.specs.Words.{AreNamed, AreWrong}
 use Rattle.deku_plan.proofs.Rejecting.{first_not}
@@ -33,9 +33,10 @@ good_none words fs e = subst (AreGood words 0) (sym e) (tt, All-nil IsAllowedFie
 pub good_more : (words : List (Bor (List ℕ))) (i : ℕ) (fs gs : List Field) (d : Bor (List ℕ)) (f : Field) → i < length words → gs ≡ fs ++ f ∷ [] → AreGood words i fs → NamesField (get_or words i d).now f → IsAllowedField f
     → AreGood words (i + 1) gs
 good_more words i fs gs d f lt is h named ok =
-    subst (AreGood words (i + 1)) (sym is)
-    ( subst (λ x. AreNamed x (fs ++ f ∷ [])) (sym (take_more words i d lt)) (named_push (take i words) fs (get_or words i d) f h.0 named)
-    , All-append IsAllowedField fs (f ∷ []) h.1 (All-cons IsAllowedField f [] ok (All-nil IsAllowedField)) )
+    subst (AreGood words (i + 1)) (sym is) (
+      subst (λ x. AreNamed x (fs ++ f ∷ [])) (sym (take_more words i d lt)) (named_push (take i words) fs (get_or words i d) f h.0 named),
+      All-append IsAllowedField fs (f ∷ []) h.1 (All-cons IsAllowedField f [] ok (All-nil IsAllowedField)),
+    )
 
 -- ---- words that make no plan
 pub no_field_at : (words : List (Bor (List ℕ))) (i : ℕ) (fs : List Field) (d : Bor (List ℕ)) → i < length words → AreGood words i fs → ((f : Field) → NamesField (get_or words i d).now f → ⊥) → AreWrong words (NoField i)

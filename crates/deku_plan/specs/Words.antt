@@ -8,8 +8,8 @@ use Rattle.deku_num.specs.NumberCalls.{beyond, IsLayoutRefusal}
 use Rattle.deku_fields.specs.declared.list.Field.{Field}
 use Rattle.deku_fields.specs.Items.{number_type, IsAllowedField}
 use Rattle.deku_fields.specs.Naming.{NamesField}
-use Rattle.deku_plan.specs.declared.plan.words.WrongWords.{WrongWords}
-use Rattle.deku_plan.specs.declared.plan.words.WrongWords.TheVariants.{NoField, Rejected, Fault}
+use Rattle.deku_plan.specs.declared.plan.WrongWords.{WrongWords}
+use Rattle.deku_plan.specs.declared.plan.WrongWords.TheVariants.{NoField, Rejected, Fault}
 use Rattle.deku_plan.specs.Plans.{AreTooMany}
 
 -- A word names a field.

@@ -1,28 +1,40 @@
 //! Fields that are looked at once.
 
-ghost use Rattle.std.specs.Prelude.{◌≡◌, ◌⊎◌, ◌↔◌, ◌∷◌, ℕ, ◌+◌, ◌<◌, ◌≤◌, ◌^◌, All, List, map, length, IsTrue, IfOk, IfErr, IfSome, IsNone};
+ghost use Rattle.std.specs.Prelude.{◌≡◌, ◌⊎◌, ◌↔◌, ◌∷◌, ℕ, ◌+◌, ◌*◌, ◌<◌, ◌≤◌, ◌^◌, All, List, [], map, length, IsTrue, IfOk, IfErr, OnOk, IfSome, IsNone};
 ghost use Rattle.std.specs.declared.io.ErrorKind.TheVariants.{OutOfMemory};
 ghost use Rattle.deku_bits.specs.declared.error.DekuError.TheVariants.{Io};
-ghost use Rattle.deku_bits.specs.Bits.{groups};
 ghost use Rattle.deku_bits.specs.declared.ctx.Order.{Order as FieldOrder};
+ghost use Rattle.deku_bits.specs.Bits.{groups};
 ghost use Rattle.deku_bits.specs.Pieces.{total, AlignedFrom};
+ghost use Rattle.deku_bits.specs.Causes.{NoKind, WantsPlace, Caused};
+ghost use Rattle.deku_bits.specs.ReaderCalls.{Reads, filling, source_of, Fetched, FetchedInTime, KeepsSourceStopped};
+ghost use Rattle.deku_bits.specs.WriterCalls.{Writes, sink_of, Finalizes, KeepsSinkStopped};
+ghost use Rattle.deku.specs.Composing.{Both};
+ghost use Rattle.deku.specs.Wholes.{WritesOver};
 ghost use Rattle.deku_fields.specs.Items.{field_shape, AlignedFields, IsAllowedField};
-ghost use Rattle.deku_plan.specs.Plans.{AreSteps, IsStepOf, widths, IsFirstRejected, AreTooMany};
-ghost use Rattle.deku_plan.specs.Records.{IsStraight};
+ghost use Rattle.deku_fields.specs.ListCalls.{ReadsFields, WritesItems};
+ghost use Rattle.deku_fields.specs.Promise.{FindsAny, LeavesBehind, ReadsBack, ReadsWhereSound, ReadsWhereTold, WritesLaid, WritesWhereSound};
+ghost use Rattle.deku_plan.specs.Plans.{AreSteps, IsStepOf, widths, items, IsFirstRejected, AreTooMany};
+ghost use Rattle.deku_plan.specs.Records.{records, IsStraight, ReadsAll, ReadsBackAll, FindsAll};
+ghost use Rattle.deku_plan.specs.Words.{AreNamed, AreWrong};
 
 mod read;
 mod slice;
-mod words;
 mod write;
 
+use crate::plan::read::read_steps;
+use crate::plan::slice::{are_there, cut_records, read_from_first, write_whole};
+use crate::plan::write::write_steps;
 use crate::step::{Step, step_of};
 use deku::ctx::Order;
+use deku::device::{Sink, Source};
 use deku::error::DekuError;
-use deku_fields::Field;
+use deku::reader::Reader;
+use deku::writer::Writer;
+use deku_fields::{Field, Number, parse_field};
 use std::alloc::Global;
-use std::io::ErrorKind;
+use std::io::{Cursor, ErrorKind};
 use std::marker::Model;
-pub use words::WrongWords;
 
 /// Fields whose layouts are looked at once, when it is made. In contracts a plan is its fields.
 ///
@@ -35,6 +47,17 @@ pub struct Plan {
     bits: usize,
     aligned: bool,
     straight: bool,
+}
+
+/// Why words make no plan.
+#[derive(Debug, Clone, Copy, PartialEq, Eq)]
+pub enum WrongWords {
+    /// The word at this index names no field.
+    NoField(usize),
+    /// The layout of the field that the word at this index names is rejected, with this error.
+    Rejected(usize, DekuError),
+    /// A `usize` cannot count the bits, or there is no memory.
+    Fault(DekuError),
 }
 
 impl Model for Plan {
@@ -85,6 +108,37 @@ impl Plan {
         })
     }
 
+    /// Makes a plan of the fields that words name, each as `parse_field` has them.
+    ///
+    /// It fails for the first word that names no field or one whose layout is rejected, with its
+    /// index; and as `Plan::new` fails.
+    ///
+    /// ```text
+    /// Plan::parse(alloc, &["u8,big,bits4", "u16"])?          // 4 and 16 bits
+    /// Plan::parse(alloc, &["u8", "u8,bits9"])                // Rejected(1, ..)
+    /// ```
+    pub fn parse(alloc: Global, words: &[&str]) -> Result<Plan, WrongWords>
+        ensures named { IfOk result (AreNamed words.now) }
+        ensures wrong { IfErr result (AreWrong words.now) }
+    {
+        let mut fields: Vec<Field> = Vec::new(alloc);
+        for (index, word) in words.iter().enumerate() {
+            let Some(field) = parse_field(word) else {
+                return Err(WrongWords::NoField(index));
+            };
+            if let Err(error) = step_of(&field) {
+                return Err(WrongWords::Rejected(index, error));
+            }
+            let Ok(()) = fields.push(field) else {
+                return Err(WrongWords::Fault(DekuError::Io(ErrorKind::OutOfMemory)));
+            };
+        }
+        match Plan::new(alloc, fields.as_slice()) {
+            Ok(plan) => Ok(plan),
+            Err(error) => Err(WrongWords::Fault(error)),
+        }
+    }
+
     /// The fields.
     ///
     /// ```text
@@ -129,6 +183,142 @@ impl Plan {
         ensures { IsTrue result ↔ AlignedFields self.now }
     {
         self.aligned
+    }
+
+    /// Reads one value for each field, in order, into `out`. It takes no memory.
+    ///
+    /// The caller's condition: `out` has one place for each field.
+    ///
+    /// It does what `read_list_into` does for the fields: it reads the same values, fails with the
+    /// same errors and leaves the same.
+    ///
+    /// ```text
+    /// let mut values = [Number::Unsigned(0); 2];
+    /// plan.read(&mut reader, &mut values)?;                  // 6 and 0x9C0, of 69 C0
+    /// ```
+    pub fn read<R: Source>(
+        &self,
+        reader: &mut Reader<R>,
+        out: &mut [Number],
+    ) -> Result<(), DekuError>
+        requires { length out.old ≡ length self.now }
+        ensures meaning { Reads R.known (ReadsFields self.now) reader.old (filling result out.new)
+            reader.new }
+        ensures values { ReadsWhereSound R.known (ReadsBack self.now) reader.old
+            (filling result out.new) reader.new }
+        ensures found { ReadsWhereTold R.known (FindsAny self.now) reader.old
+            (filling result out.new) reader.new }
+        ensures behind { LeavesBehind R.known self.now reader.old (filling result out.new)
+            reader.new }
+        ensures fetched { OnOk result (Fetched R.known (total (map field_shape self.now)) reader.old
+            reader.new) }
+        ensures early { FetchedInTime reader.old reader.new }
+        ensures stopped { KeepsSourceStopped reader.old reader.new }
+        ensures none { self.now ≡ [] → reader.new ≡ reader.old }
+        ensures cause { Caused NoKind reader.old.state (R.known (source_of reader.old)).health
+            result (R.known (source_of reader.new)).health }
+    {
+        let fields = self.fields.as_slice();
+        read_steps(reader, fields, self.steps.as_slice(), out)
+    }
+
+    /// Writes one value for each field, in order, without padding. It takes no memory except what
+    /// the sink takes.
+    ///
+    /// The caller's condition: there is one value for each field.
+    ///
+    /// It does what `write_list` does for the fields with these values: it writes the same bits,
+    /// fails with the same errors and leaves the same.
+    ///
+    /// ```text
+    /// let values = [Number::Unsigned(6), Number::Unsigned(0x9C0)];
+    /// plan.write(&mut writer, &values)?;                     // the bytes 69 C0
+    /// ```
+    pub fn write<W: Sink>(&self, writer: &mut Writer<W>, values: &[Number]) -> Result<(), DekuError>
+        requires { length values.now ≡ length self.now }
+        ensures meaning { Writes W.known (WritesItems (items self.now values.now)) writer.old result
+            writer.new }
+        ensures laid_out { WritesWhereSound W.known (WritesLaid (items self.now values.now))
+            writer.old result writer.new }
+        ensures stopped { KeepsSinkStopped writer.old writer.new }
+        ensures none { self.now ≡ [] → writer.new ≡ writer.old }
+        ensures cause { Caused WantsPlace writer.old.state (W.known (sink_of writer.old)).health
+            result (W.known (sink_of writer.new)).health }
+    {
+        let fields = self.fields.as_slice();
+        write_steps(writer, fields, self.steps.as_slice(), values)
+    }
+
+    /// Reads this many records from bytes, one after the other and without padding between them, the
+    /// first of them from the first bit on. The values of each are after those of the one before.
+    /// It takes no memory.
+    ///
+    /// The caller's condition: `out` has one place for each field of each record.
+    ///
+    /// It does what `read_list_into` does for the fields of all records in a row, over a reader of
+    /// the bytes: it reads the same values, and fails with the same errors. If it fails, the content
+    /// of `out` is unspecified.
+    ///
+    /// ```text
+    /// // two records of 4 and 12 bits, from 69 C0 FE DC
+    /// let mut values = [Number::Unsigned(0); 4];
+    /// plan.read_all(alloc, &bytes, 2, &mut values)?;         // 6, 0x9C0, 15 and 0xEDC
+    /// ```
+    pub fn read_all(
+        &self,
+        alloc: Global,
+        bytes: &[u8],
+        count: usize,
+        out: &mut [Number],
+    ) -> Result<(), DekuError>
+        requires { length out.old ≡ count * length self.now }
+        ensures meaning { ReadsAll (records count self.now) bytes.now (filling result out.new) }
+        ensures values { ReadsBackAll (records count self.now) bytes.now (filling result out.new) }
+        ensures found { FindsAll (records count self.now) bytes.now (filling result out.new) }
+    {
+        let fields = self.fields.as_slice();
+        let steps = self.steps.as_slice();
+        if self.straight && are_there(bytes, count, self.bits) {
+            cut_records(bytes, count, fields, steps, out);
+            return Ok(());
+        }
+        read_from_first(alloc, bytes, count, fields, steps, out)
+    }
+
+    /// Writes this many records to the start of a slice, one after the other and without padding
+    /// between them, and fills the last byte with zeros. The values of each are after those of the
+    /// one before. Returns how many bytes there are; those of the slice after them stay as they
+    /// were. It takes no memory.
+    ///
+    /// The caller's condition: there is one value for each field of each record.
+    ///
+    /// It does what `write_list` does for the fields of all records with these values, over a
+    /// writer of the slice, and then `finalize`: it writes the same bytes, and fails with the same
+    /// errors. If it fails, the slice holds a beginning of the bytes, followed by what it held
+    /// before.
+    ///
+    /// ```text
+    /// // two records of 4 and 12 bits, with the values 6, 0x9C0, 15 and 0xEDC
+    /// plan.write_all(2, &values, &mut out)?;                 // 4, and `out` begins with 69 C0 FE DC
+    /// ```
+    pub fn write_all(
+        &self,
+        count: usize,
+        values: &[Number],
+        out: &mut [u8],
+    ) -> Result<usize, DekuError>
+        requires { length values.now ≡ count * length self.now }
+        ensures meaning { WritesOver (Both
+            (WritesItems (items (records count self.now) values.now)) Finalizes) out.old result
+            out.new }
+    {
+        let fields = self.fields.as_slice();
+        let steps = self.steps.as_slice();
+        let mut cursor = Cursor::new(out);
+        let written = write_whole(&mut cursor, count, fields, steps, values);
+        let taken = cursor.position() as usize;
+        written?;
+        Ok(taken)
     }
 }
 

@@ -10,51 +10,12 @@ ghost use Rattle.deku_fields.specs.ListCalls.{ReadsField, ReadsFields};
 ghost use Rattle.deku_fields.specs.Promise.{FindsAny, LeavesBehind, ReadsBack, ReadsWhereSound, ReadsWhereTold};
 ghost use Rattle.deku_plan.specs.Plans.{IsStepOf, IsHigh, AreSteps};
 
-use crate::plan::Plan;
 use crate::step::Step;
 use deku::calls::{read_signed, read_unsigned};
 use deku::device::Source;
 use deku::error::DekuError;
 use deku::reader::Reader;
 use deku_fields::{Field, Number};
-
-impl Plan {
-    /// Reads one value for each field, in order, into `out`. It takes no memory.
-    ///
-    /// The caller's condition: `out` has one place for each field.
-    ///
-    /// It does what `read_list_into` does for the fields: it reads the same values, fails with the
-    /// same errors and leaves the same.
-    ///
-    /// ```text
-    /// let mut values = [Number::Unsigned(0); 2];
-    /// plan.read(&mut reader, &mut values)?;                  // 6 and 0x9C0, of 69 C0
-    /// ```
-    pub fn read<R: Source>(
-        &self,
-        reader: &mut Reader<R>,
-        out: &mut [Number],
-    ) -> Result<(), DekuError>
-        requires { length out.old ≡ length self.now }
-        ensures meaning { Reads R.known (ReadsFields self.now) reader.old (filling result out.new)
-            reader.new }
-        ensures values { ReadsWhereSound R.known (ReadsBack self.now) reader.old
-            (filling result out.new) reader.new }
-        ensures found { ReadsWhereTold R.known (FindsAny self.now) reader.old
-            (filling result out.new) reader.new }
-        ensures behind { LeavesBehind R.known self.now reader.old (filling result out.new)
-            reader.new }
-        ensures fetched { OnOk result (Fetched R.known (total (map field_shape self.now)) reader.old
-            reader.new) }
-        ensures early { FetchedInTime reader.old reader.new }
-        ensures stopped { KeepsSourceStopped reader.old reader.new }
-        ensures none { self.now ≡ [] → reader.new ≡ reader.old }
-        ensures cause { Caused NoKind reader.old.state (R.known (source_of reader.old)).health
-            result (R.known (source_of reader.new)).health }
-    {
-        read_steps(reader, self.fields.as_slice(), self.steps.as_slice(), out)
-    }
-}
 
 /// Reads one value for each field into `out`.
 #[inline(always)]

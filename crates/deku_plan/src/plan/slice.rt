@@ -1,20 +1,18 @@
 //! Records in bytes in memory.
 
-ghost use Rattle.std.specs.Prelude.{◌≡◌, ◌+◌, ◌*◌, ◌<◌, ◌≤◌, ◌^◌, All, length, map, take, Ok, IsTrue};
+ghost use Rattle.std.specs.Prelude.{◌≡◌, ◌+◌, ◌*◌, ◌<◌, ◌≤◌, ◌^◌, All, length, map, IsTrue};
 ghost use Rattle.deku_bits.specs.Pieces.{total};
 ghost use Rattle.deku_bits.specs.ReaderCalls.{Reads, filling};
 ghost use Rattle.deku_bits.specs.Standings.{Standing, Going};
 ghost use Rattle.deku_bits.specs.WriterCalls.{Writes, WritesAt, Finalizes};
 ghost use Rattle.deku_bits.specs.Writers.{Pending, Nothing};
 ghost use Rattle.deku.specs.Composing.{Both};
-ghost use Rattle.deku.specs.Wholes.{WritesOver};
 ghost use Rattle.deku_fields.specs.Items.{field_shape};
 ghost use Rattle.deku_fields.specs.ListCalls.{ReadsFields, WritesItems};
 ghost use Rattle.deku_plan.specs.Plans.{AreSteps, items};
-ghost use Rattle.deku_plan.specs.Records.{records, IsStraight, AreAt, ReadsAll, ReadsBackAll, FindsAll};
+ghost use Rattle.deku_plan.specs.Records.{records, IsStraight, AreAt, ReadsAll};
 
 use crate::cut::number_at;
-use crate::plan::Plan;
 use crate::plan::read::read_steps;
 use crate::plan::write::write_steps;
 use crate::step::Step;
@@ -26,86 +24,8 @@ use deku_fields::{Field, Number};
 use std::alloc::Global;
 use std::io::Cursor;
 
-impl Plan {
-    /// Reads this many records from bytes, one after the other and without padding between them, the
-    /// first of them from the first bit on. The values of each are after those of the one before.
-    /// It takes no memory.
-    ///
-    /// The caller's condition: `out` has one place for each field of each record.
-    ///
-    /// It does what `read_list_into` does for the fields of all records in a row, over a reader of
-    /// the bytes: it reads the same values, and fails with the same errors. If it fails, the content
-    /// of `out` is unspecified.
-    ///
-    /// ```text
-    /// // two records of 4 and 12 bits, from 69 C0 FE DC
-    /// let mut values = [Number::Unsigned(0); 4];
-    /// plan.read_all(alloc, &bytes, 2, &mut values)?;         // 6, 0x9C0, 15 and 0xEDC
-    /// ```
-    pub fn read_all(
-        &self,
-        alloc: Global,
-        bytes: &[u8],
-        count: usize,
-        out: &mut [Number],
-    ) -> Result<(), DekuError>
-        requires { length out.old ≡ count * length self.now }
-        ensures meaning { ReadsAll (records count self.now) bytes.now (filling result out.new) }
-        ensures values { ReadsBackAll (records count self.now) bytes.now (filling result out.new) }
-        ensures found { FindsAll (records count self.now) bytes.now (filling result out.new) }
-    {
-        let fields = self.fields.as_slice();
-        let steps = self.steps.as_slice();
-        if self.straight && are_there(bytes, count, self.bits) {
-            cut_records(bytes, count, fields, steps, out);
-            return Ok(());
-        }
-        read_from_first(alloc, bytes, count, fields, steps, out)
-    }
-
-    /// Writes this many records to the start of a slice, one after the other and without padding
-    /// between them, and fills the last byte with zeros. The values of each are after those of the
-    /// one before. Returns how many bytes there are; those of the slice after them stay as they
-    /// were. It takes no memory.
-    ///
-    /// The caller's condition: there is one value for each field of each record.
-    ///
-    /// It does what `write_list` does for the fields of all records with these values, over a
-    /// writer of the slice, and then `finalize`: it writes the same bytes, and fails with the same
-    /// errors. If it fails, the slice holds a beginning of the bytes, followed by what it held
-    /// before.
-    ///
-    /// ```text
-    /// // two records of 4 and 12 bits, with the values 6, 0x9C0, 15 and 0xEDC
-    /// plan.write_all(2, &values, &mut out)?;                 // 4, and `out` begins with 69 C0 FE DC
-    /// ```
-    pub fn write_all(
-        &self,
-        count: usize,
-        values: &[Number],
-        out: &mut [u8],
-    ) -> Result<usize, DekuError>
-        requires { length values.now ≡ count * length self.now }
-        ensures meaning { WritesOver (Both
-            (WritesItems (items (records count self.now) values.now)) Finalizes) out.old result
-            out.new }
-    {
-        let mut cursor = Cursor::new(out);
-        let written = write_whole(
-            &mut cursor,
-            count,
-            self.fields.as_slice(),
-            self.steps.as_slice(),
-            values,
-        );
-        let taken = cursor.position() as usize;
-        written?;
-        Ok(taken)
-    }
-}
-
-// Whether the bytes have the bits of this many records.
-fn are_there(bytes: &[u8], count: usize, bits: usize) -> bool
+/// Whether the bytes have the bits of this many records.
+pub(crate) fn are_there(bytes: &[u8], count: usize, bits: usize) -> bool
     ensures counted { IsTrue result → count * bits < 2 ^ 64 }
     ensures there { IsTrue result → count * bits ≤ 8 * length bytes.now }
 {
@@ -115,8 +35,14 @@ fn are_there(bytes: &[u8], count: usize, bits: usize) -> bool
     }
 }
 
-// The values of records that the bytes have.
-fn cut_records(bytes: &[u8], count: usize, fields: &[Field], steps: &[Step], out: &mut [Number])
+/// The values of records that the bytes have.
+pub(crate) fn cut_records(
+    bytes: &[u8],
+    count: usize,
+    fields: &[Field],
+    steps: &[Step],
+    out: &mut [Number],
+)
     requires steps { AreSteps fields.now steps.now }
     requires straight { All IsStraight fields.now }
     requires places { length out.old ≡ count * length fields.now }
@@ -159,8 +85,8 @@ fn cut_record(
     at
 }
 
-// Reads the values of records from bytes, the first of them from the first bit on.
-fn read_from_first(
+/// Reads the values of records from bytes, the first of them from the first bit on.
+pub(crate) fn read_from_first(
     alloc: Global,
     bytes: &[u8],
     count: usize,
@@ -198,9 +124,9 @@ fn read_records<R: Source>(
     Ok(())
 }
 
-// Writes the values of records to a sink, from nothing written, and fills the last byte with zeros.
+/// Writes the values of records to a sink, from nothing written, and fills the last byte with zeros.
 #[inline(always)]
-fn write_whole<W: Sink>(
+pub(crate) fn write_whole<W: Sink>(
     sink: &mut W,
     count: usize,
     fields: &[Field],

@@ -8,7 +8,6 @@ ghost use Rattle.deku_fields.specs.ListCalls.{WritesItem, WritesItems};
 ghost use Rattle.deku_fields.specs.Promise.{WritesLaid, WritesWhereSound};
 ghost use Rattle.deku_plan.specs.Plans.{IsStepOf, AreSteps, items};
 
-use crate::plan::Plan;
 use crate::step::Step;
 use deku::calls::{write_signed, write_unsigned};
 use deku::device::Sink;
@@ -16,39 +15,6 @@ use deku::error::DekuError;
 use deku::writer::Writer;
 use deku_fields::{Field, Item, Number};
 use deku_num::kernel::is_below;
-
-impl Plan {
-    /// Writes one value for each field, in order, without padding. It takes no memory except what
-    /// the sink takes.
-    ///
-    /// The caller's condition: there is one value for each field.
-    ///
-    /// It does what `write_list` does for the fields with these values: it writes the same bits,
-    /// fails with the same errors and leaves the same.
-    ///
-    /// ```text
-    /// let values = [Number::Unsigned(6), Number::Unsigned(0x9C0)];
-    /// plan.write(&mut writer, &values)?;                     // the bytes 69 C0
-    /// ```
-    pub fn write<W: Sink>(&self, writer: &mut Writer<W>, values: &[Number]) -> Result<(), DekuError>
-        requires { length values.now ≡ length self.now }
-        ensures meaning { Writes W.known (WritesItems (items self.now values.now)) writer.old result
-            writer.new }
-        ensures laid_out { WritesWhereSound W.known (WritesLaid (items self.now values.now))
-            writer.old result writer.new }
-        ensures stopped { KeepsSinkStopped writer.old writer.new }
-        ensures none { self.now ≡ [] → writer.new ≡ writer.old }
-        ensures cause { Caused WantsPlace writer.old.state (W.known (sink_of writer.old)).health
-            result (W.known (sink_of writer.new)).health }
-    {
-        write_steps(
-            writer,
-            self.fields.as_slice(),
-            self.steps.as_slice(),
-            values,
-        )
-    }
-}
 
 /// Writes one value for each field.
 #[inline(always)]

@@ -20,9 +20,11 @@ loop-place-preserved c =
 
 pub returns-in_default : goal.returns-in_default
 returns-in_default c =
-    let step = step_at c.args.fields.now c.args.steps.now c.loop-place.place no_field no_step c.requires (omega arith) in
-    (λ no. absurd (cc no), λ yes. absurd (depends_not c.args.fields.now c.loop-place.place no_field c.loop-place.at (get_or c.args.steps.now c.loop-place.place no_step).width c.loop-place.order (omega arith) step.wide
-    (c.in_default.ensures.none refl) c.loop-place.invariant yes))
+    let step = step_at c.args.fields.now c.args.steps.now c.loop-place.place no_field no_step c.requires (omega arith) in (
+      λ no. absurd (cc no),
+      λ yes. absurd (depends_not c.args.fields.now c.loop-place.place no_field c.loop-place.at (get_or c.args.steps.now c.loop-place.place no_step).width c.loop-place.order (omega arith) step.wide
+          (c.in_default.ensures.none refl) c.loop-place.invariant yes),
+    )
 
 pub returns : goal.returns
 returns c = (λ _. depends_last c.args.fields.now c.loop-place.place c.loop-place.at c.loop-place.order (omega arith) c.loop-place.invariant, λ _. refl)

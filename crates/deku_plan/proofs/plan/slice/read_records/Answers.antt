@@ -14,8 +14,7 @@ pub loop-preserved : goal.loop-preserved
 loop-preserved g c =
     let fs = c.args.fields.now in
     let inside : c.loop.place + length fs ≤ length c.args.out.now = omega (arith, c.loop.invariant.0, c.requires.places, room c.loop.counter c.args.count (length fs) (omega arith)) in
-    let long : length c.read_steps.new.out ≡ length fs = omega (arith, inside) in
-    (
+    let long : length c.read_steps.new.out ≡ length fs = omega (arith, inside) in (
       omega (arith, c.loop.invariant.0),
       follows_more fs c.args.count c.loop.counter c.loop.place (c.loop.place + length fs) _ c.loop.out c.read_steps.new.out _ _ _ _ _ _ (omega arith) (omega arith) (omega (arith, long)) c.loop.invariant.1 c.in_ok-read_steps.ensures.meaning,
     )

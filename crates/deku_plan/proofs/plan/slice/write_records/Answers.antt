@@ -15,8 +15,7 @@ loop-preserved g c =
     let fs = c.args.fields.now in
     let ns = c.args.values.now in
     let inside : c.loop.place + length fs ≤ length ns = omega (arith, c.loop.invariant.0, c.requires.values, room c.loop.counter c.args.count (length fs) (omega arith)) in
-    let same : (c.loop.place + length fs) - c.loop.place ≡ length fs = omega arith in
-    (
+    let same : (c.loop.place + length fs) - c.loop.place ≡ length fs = omega arith in (
       omega (arith, c.loop.invariant.0),
       goes_more fs c.args.count c.loop.counter c.loop.place (c.loop.place + length fs) ns _ _ _ _ _ _ _ (omega arith) (omega (arith, inside)) refl (ap (λ n. take n (drop c.loop.place ns)) same) c.loop.invariant.1 c.in_ok-write_steps.ensures.meaning,
     )
