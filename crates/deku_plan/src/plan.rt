@@ -308,7 +308,7 @@ impl Plan {
         out: &mut [u8],
     ) -> Result<usize, DekuError>
         requires { length values.now ≡ count * length self.now }
-        ensures meaning { WritesOver (Both
+        ensures { WritesOver (Both
             (WritesItems (items (records count self.now) values.now)) Finalizes) out.old result
             out.new }
     {

@@ -1,5 +1,7 @@
 //! Printing the records of an input.
 
+ghost use Rattle.std.specs.Prelude.{◌≤◌, IfOk, vec_len};
+
 use crate::columns::Columns;
 use crate::feed::{Feed, NoBytes};
 use crate::line::{Object, push_csv, push_header, push_json};
@@ -183,17 +185,15 @@ impl<'c> Printer<'c> {
         count: usize,
         output: &mut W,
     ) -> Result<(), Failure> {
-        let size = self.columns.plan().fields().len();
-        let all = count.saturating_mul(size);
-        if all > self.values.len() {
-            return Err(Failure::from(AllocError));
-        }
-        let values = &mut self.values[..all];
-        self.columns.plan().read_all(self.alloc, bytes, count, values)?;
-        for record in values.chunks(size.max(1)) {
+        let all = self.read_values(bytes, count)?;
+        let size = self.columns.names().len();
+        for record in self.values[..all].chunks(size.max(1)) {
             if self.json {
                 let names = self.columns.names();
-                let object = Object { names, values: record };
+                let object = Object {
+                    names,
+                    values: record,
+                };
                 push_json(self.alloc, &mut self.text, &object)?;
             } else {
                 push_csv(&mut self.text, record)?;
@@ -201,6 +201,21 @@ impl<'c> Printer<'c> {
         }
         self.printed = self.printed.saturating_add(count as u128);
         self.give(output)
+    }
+
+    // Reads the values of this many records from the first bit on. Returns how many values.
+    fn read_values(&mut self, bytes: &[u8], count: usize) -> Result<usize, Failure>
+        ensures { IfOk result (λ n. n ≤ vec_len self.new.values) }
+    {
+        let plan = self.columns.plan();
+        let Some(all) = count.checked_mul(plan.fields().len()) else {
+            return Err(Failure::from(AllocError));
+        };
+        if all > self.values.len() {
+            return Err(Failure::from(AllocError));
+        }
+        plan.read_all(self.alloc, bytes, count, &mut self.values[..all])?;
+        Ok(all)
     }
 
     // Gives the text to the output.

@@ -1,4 +1,3 @@
-use Rattle.std.proofs.lemmas.List.{get_or_read}
 use Rattle.std.proofs.Common.{rules, ◌≡◌, tests}
 use Rattle.std.proofs.lemmas.Int.{to_z-of_z, ints}
 use mir.Syntax.{w128}
@@ -28,7 +27,7 @@ pub returns-then-not-holds-clause-stopped : goal.returns-then-not-holds-clause-s
 returns-then-not-holds-clause-stopped g c = let h = c.if-not-holds.ensures in search (ints, tests, rules)
 
 pub returns-in-Unsigned-clause-stopped : goal.returns-in-Unsigned-clause-stopped
-returns-in-Unsigned-clause-stopped g c = let h = c.if-not-holds.ensures in search (ints, tests, rules, get_or_read)
+returns-in-Unsigned-clause-stopped g c = let h = c.if-not-holds.ensures in search (ints, tests, rules)
 
 pub returns-in-Signed-clause-stopped : goal.returns-in-Signed-clause-stopped
 returns-in-Signed-clause-stopped g c = let h = c.if-not-holds.ensures in search rules
