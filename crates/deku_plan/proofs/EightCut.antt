@@ -1,5 +1,5 @@
 -- Numbers that are cut from eight bytes.
-use Rattle.std.proofs.Common.{ℕ, ◌+◌, ◌*◌, ◌-◌, ◌/◌, ◌%◌, ◌^◌, ◌<◌, ◌≤◌, ◌≡◌, Bool, List, ◌++◌, length, take, drop, All, refl, ap, sym, ◌∙◌, subst, ⊎_elim, arith, take-append-drop, length-append, length-drop, length-take-le}
+use Rattle.std.proofs.Common.{ℕ, ◌+◌, ◌*◌, ◌-◌, ◌/◌, ◌%◌, ◌^◌, ◌<◌, ◌≤◌, ◌≡◌, Bool, List, ◌++◌, length, take, drop, All, ap, sym, ◌∙◌, subst, ⊎_elim, arith, take-append-drop, length-append, length-drop, length-take-le}
 use Rattle.std.proofs.lemmas.List.{take_at, drop_at, take_all, take-append-le}
 use Rattle.std.proofs.lemmas.Bool.{cases_lt}
 use Rattle.std.proofs.Math.Nat.{pow-le-pow_right}
@@ -7,12 +7,12 @@ use Rattle.std.specs.Int.{w64, from_be_bytes}
 use Rattle.deku_bits.specs.declared.ctx.Order.TheVariants.{Msb0}
 use Rattle.deku_bits.specs.Bits.{bin, bits_of}
 use Rattle.deku_bits.specs.Streams.{Stream, Has, taken, left, fresh, seen, flow}
-use Rattle.deku_bits.proofs.Binary.{length-bits_of, bin-bits_of, bin-append, bin-lt}
+use Rattle.deku_bits.proofs.Binary.{length-bits_of, bin-bits_of, bin-append}
 use Rattle.deku_bits.proofs.Bytes.{IsByte}
 use Rattle.deku_bits.proofs.Cuts.{length-flow, flow-append}
 use Rattle.deku_bits.proofs.EightBytes.{high_bits}
 use Rattle.deku_bits.proofs.Packed.{bits_of-split}
-use Rattle.deku_bits.proofs.Reading.{spot, spot_zero, drop_front, seen-spot, left-spot, has-spot}
+use Rattle.deku_bits.proofs.Reading.{spot, spot_zero, drop_front, seen-spot, left-spot}
 use Rattle.deku_bits.proofs.Taking.{cut_law}
 
 -- bits after p of the first of two lists

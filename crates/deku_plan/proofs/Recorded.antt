@@ -1,21 +1,19 @@
 -- Values that are cut from bytes are what the fields read from them.
-use Rattle.std.proofs.Common.{◌≡◌, ℕ, zero, suc, ◌+◌, ◌*◌, ◌<◌, ◌≤◌, ◌^◌, Bool, true, false, Some, Ok, Option, Result, List, [], ◌∷◌, ◌++◌, map, length, take, drop, set, get_or, All, ℤ, pos, negsuc, refl, ap, sym, ◌∙◌, subst, subst₂, inl, inr, arith, append_assoc, take-append-drop}
+use Rattle.std.proofs.Common.{◌≡◌, ℕ, zero, suc, ◌+◌, ◌*◌, ◌<◌, ◌≤◌, ◌^◌, Bool, true, false, Some, Ok, List, [], ◌∷◌, ◌++◌, map, length, take, drop, set, get_or, All, ℤ, pos, negsuc, refl, ap, sym, ◌∙◌, subst, subst₂, inl, inr, arith, append_assoc, take-append-drop}
 use Rattle.std.proofs.lemmas.List.{take_more, take_more_set}
 use Rattle.std.proofs.lemmas.Slice.{take-put_mid}
 use borrow.Rule.Slice.PartMut.{put_mid}
 use Rattle.std.proofs.Math.Nat.{mul-le-mul_right}
 use Rattle.std.proofs.lemmas.List.Elements.{All-head, All-tail, All-nil, All-append}
 use Rattle.deku_bits.specs.declared.ctx.Order.TheVariants.{Msb0}
-use Rattle.deku_bits.specs.declared.error.DekuError.{DekuError}
 use Rattle.deku_bits.specs.Streams.{Stream, Has, taken, left, fresh}
 use Rattle.deku_bits.specs.Pieces.{total}
-use Rattle.deku_bits.specs.Standings.{Standing, Going}
-use Rattle.deku_bits.specs.Outcomes.{Mapped, Value}
-use Rattle.deku_bits.specs.ReaderCalls.{TakesBits}
+use Rattle.deku_bits.specs.Standings.{Going}
+use Rattle.deku_bits.specs.Outcomes.{Value}
 use Rattle.deku_bits.proofs.Taking.{cut_law}
 use Rattle.deku_bits.proofs.Reading.{left_none}
 use Rattle.deku_num.specs.Numbers.{value}
-use Rattle.deku_num.specs.NumberCalls.{ReadsNumber, Passed}
+use Rattle.deku_num.specs.NumberCalls.{Passed}
 use Rattle.deku.specs.Composing.{Answered, Second}
 use Rattle.deku_fields.specs.declared.list.Number.{Number}
 use Rattle.deku_fields.specs.declared.list.Number.TheVariants.{Unsigned, Signed}

@@ -1,6 +1,5 @@
 -- Fields and their steps.
-use Rattle.std.proofs.Common.{◌≡◌, ℕ, zero, suc, ◌+◌, ◌<◌, List, [], ◌∷◌, ◌++◌, length, map, sum, take, get_or, All, refl, ap, ap₂, sym, ◌∙◌, subst, arith, take-append-drop, drop, ◌≤◌, ◌*◌, false}
-use Rattle.std.specs.List.{AllZip}
+use Rattle.std.proofs.Common.{◌≡◌, ℕ, zero, suc, ◌+◌, ◌<◌, List, [], ◌∷◌, ◌++◌, length, map, take, get_or, All, refl, ap, ap₂, sym, ◌∙◌, subst, arith, take-append-drop, drop, ◌≤◌, false}
 use Rattle.std.proofs.lemmas.List.{take_more}
 use Rattle.std.proofs.lemmas.List.Elements.{All-nil, All-cons}
 use Rattle.deku_bits.specs.Pieces.{total}
@@ -10,7 +9,7 @@ use Rattle.deku_num.specs.declared.ctx.Size.TheVariants.{Whole}
 use Rattle.deku_fields.specs.declared.list.Kind.{Kind}
 use Rattle.deku_fields.specs.declared.list.Kind.TheVariants.{U8, U16, U32, U64, U128, Usize, I8, I16, I32, I64, I128, Isize}
 use Rattle.deku_fields.specs.declared.list.Field.{Field}
-use Rattle.deku_fields.specs.Items.{number_type, field_width, field_shape, IsAllowedField}
+use Rattle.deku_fields.specs.Items.{number_type, field_shape, IsAllowedField}
 use Rattle.deku_plan.specs.declared.step.Step.{Step}
 use Rattle.deku_plan.specs.Plans.{IsStepOf, AreSteps, widths}
 

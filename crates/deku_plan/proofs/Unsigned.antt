@@ -1,5 +1,5 @@
 -- Numbers of fields in `Msb0` without a sign.
-use Rattle.std.proofs.Common.{ℕ, ◌^◌, ◌<◌, ◌≡◌, Bool, List, length, ◌∙◌, sym, subst, ap, refl}
+use Rattle.std.proofs.Common.{ℕ, ◌^◌, ◌<◌, ◌≡◌, Bool, List, length, ◌∙◌, sym, subst, refl}
 use Rattle.deku_bits.specs.declared.ctx.Order.TheVariants.{Msb0}
 use Rattle.deku_bits.specs.Bits.{bin, bits_of, word_of}
 use Rattle.deku_bits.proofs.Binary.{length-bits_of}

@@ -1,5 +1,5 @@
 -- What is read from bytes of which nothing is read yet.
-use Rattle.std.proofs.Common.{◌≡◌, ℕ, ◌+◌, ◌<◌, ◌^◌, false, Result, Ok, Err, Option, Some, None, List, [], map, refl, subst, arith}
+use Rattle.std.proofs.Common.{◌≡◌, ℕ, false, Result, Ok, Err, Option, Some, None, List, [], refl, subst, arith}
 use Rattle.deku_bits.specs.declared.error.DekuError.{DekuError}
 use Rattle.deku_bits.specs.Devices.{Health}
 use Rattle.deku_bits.specs.Streams.{Stream, fresh}

@@ -1,5 +1,5 @@
 -- What numbers of fields in `Msb0` are worth.
-use Rattle.std.proofs.Common.{◌≡◌, ℕ, ◌<◌, ◌^◌, Bool, true, false, List, length, ℤ, pos, sym, ap, ◌∙◌, subst}
+use Rattle.std.proofs.Common.{◌≡◌, ℕ, Bool, true, false, List, length, ℤ, sym, ap, ◌∙◌, subst}
 use Rattle.deku_bits.specs.declared.ctx.Order.TheVariants.{Msb0}
 use Rattle.deku_bits.specs.Bits.{bin}
 use Rattle.deku_num.specs.declared.kind.NumberType.{NumberType}

@@ -1,5 +1,5 @@
 -- What a plan keeps of its fields.
-use Rattle.std.specs.Prelude.{◌≡◌, ◌<◌, ◌^◌, ◌↔◌, IsTrue, map, All}
+use Rattle.std.specs.Prelude.{◌≡◌, ◌↔◌, IsTrue, map, All}
 use Rattle.deku_bits.specs.Pieces.{total}
 use Rattle.deku_fields.specs.Items.{field_shape, AlignedFields}
 use Rattle.deku_plan.specs.declared.plan.Plan.TheInside.{Inside}

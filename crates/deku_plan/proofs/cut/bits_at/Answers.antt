@@ -1,4 +1,4 @@
-use Rattle.std.proofs.Common.{◌≡◌, ◌+◌, ◌-◌, ◌*◌, ◌<◌, ◌^◌, ◌%◌, sym, ap, ◌∙◌, arith}
+use Rattle.std.proofs.Common.{◌≡◌, ◌+◌, ◌-◌, ◌*◌, ◌%◌, sym, ap, ◌∙◌, arith}
 use Rattle.deku_bits.proofs.Packed.{joined_below}
 use Rattle.deku_plan.proofs.EightCut.{taken_parts, below_64}
 use Rattle.deku_bits.specs.declared.ctx.Order.TheVariants.{Msb0}

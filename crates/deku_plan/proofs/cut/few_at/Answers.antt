@@ -1,6 +1,5 @@
-use Rattle.std.proofs.Common.{◌≡◌, ◌+◌, ◌*◌, ◌^◌, ◌%◌, sym, ap, ◌∙◌, All, arith, length}
+use Rattle.std.proofs.Common.{◌≡◌, ◌*◌, ◌^◌, ◌%◌, sym, All, arith}
 use Rattle.std.proofs.lemmas.Nat.{one_shl}
-use Rattle.std.proofs.lemmas.List.Elements.{All-from_get_or}
 use Rattle.deku_bits.proofs.Bytes.{IsByte}
 use Rattle.deku_plan.proofs.EightCut.{taken_at}
 use Rattle.deku_plan.proofs.cut.few_at.Goals as goal

@@ -1,5 +1,5 @@
 use Rattle.std.proofs.Common.{◌≡◌, ◌⊎◌, inl, inr, refl, arith, rules}
-use Rattle.deku_plan.proofs.Aligning.{none_on, some_on, some_not}
+use Rattle.deku_plan.proofs.Aligning.{some_on}
 use Rattle.deku_plan.proofs.plan.after.Goals as goal
 use Rattle.deku_plan.proofs.plan.after.Goals.{else-at-ne0-via-then-at-ne0+else-ne, else-at-ne0-via-else-at-ne0}
 

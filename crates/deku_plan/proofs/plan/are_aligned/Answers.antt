@@ -1,4 +1,4 @@
-use Rattle.std.proofs.Common.{refl, arith, ◌<◌, length, get_or}
+use Rattle.std.proofs.Common.{refl, arith, get_or}
 use Rattle.deku_plan.proofs.Steps.{no_field, no_step, steps_long, step_at, step_small}
 use Rattle.deku_plan.proofs.Aligning.{depends_first, depends_more, depends_not, depends_last}
 use Rattle.deku_plan.proofs.plan.are_aligned.Goals as goal

@@ -1,6 +1,4 @@
-use Rattle.std.proofs.Common.{◌≡◌, ◌+◌, ◌∙◌, ap, subst, sym, length, arith}
-use Rattle.std.proofs.lemmas.List.{take_all}
-use Rattle.deku_plan.specs.Plans.{widths}
+use Rattle.std.proofs.Common.{◌+◌, arith}
 use Rattle.deku_plan.proofs.Steps.{no_step, widths_more, widths_front}
 use Rattle.deku_plan.proofs.plan.bits_of.Goals as goal
 

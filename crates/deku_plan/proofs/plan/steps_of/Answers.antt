@@ -1,4 +1,4 @@
-use Rattle.std.proofs.Common.{◌≡◌, ◌+◌, ◌<◌, length, get_or, take, inl, refl, arith}
+use Rattle.std.proofs.Common.{get_or, take, inl, arith}
 use Rattle.std.proofs.lemmas.Option.{slice_get-get_or}
 use Rattle.std.proofs.lemmas.Result.{err_from_is_err_and}
 use Rattle.deku_plan.proofs.Steps.{no_field, steps_more, all_allowed}

@@ -1,8 +1,7 @@
-use Rattle.std.proofs.Common.{◌≡◌, ◌↔◌, ◌<◌, ◌≤◌, ◌∙◌, All, IsTrue, map, ap, inl, inr, refl, sym, subst, arith, rules}
+use Rattle.std.proofs.Common.{◌≡◌, ◌∙◌, All, map, ap, inl, inr, refl, sym, subst, arith, rules}
 use Rattle.deku_bits.specs.Pieces.{total}
-use Rattle.deku_fields.specs.Items.{field_shape, AlignedFields, IsAllowedField}
-use Rattle.deku_plan.specs.Plans.{AreSteps, widths}
-use Rattle.deku_plan.specs.Records.{IsStraight}
+use Rattle.deku_fields.specs.Items.{field_shape, IsAllowedField}
+use Rattle.deku_plan.specs.Plans.{widths}
 use Rattle.deku_plan.proofs.Steps.{all_allowed, widths_total}
 use Rattle.deku_plan.proofs.plan.Plan.new.Goals as goal
 

@@ -1,4 +1,4 @@
-use Rattle.std.proofs.Common.{◌≡◌, ◌∙◌, refl, sym, subst, arith}
+use Rattle.std.proofs.Common.{refl, arith}
 use Rattle.deku_plan.proofs.Parsing.{good_none, good_more, no_field_at, rejected_at, fault_of}
 use Rattle.deku_plan.proofs.plan.Plan.parse.Goals as goal
 

@@ -1,6 +1,4 @@
-use Rattle.std.proofs.Common.{◌≡◌, ◌∙◌, ◌*◌, ◌<◌, ◌≤◌, Ok, List, map, length, refl, subst}
-use Rattle.deku_bits.specs.Pieces.{total}
-use Rattle.deku_fields.specs.Items.{field_shape}
+use Rattle.std.proofs.Common.{◌∙◌, ◌*◌, ◌<◌, ◌≤◌, Ok, length, refl, subst}
 use Rattle.deku_plan.specs.Records.{records, ReadsAll}
 use Rattle.deku_plan.proofs.Steps.{all_allowed}
 use Rattle.deku_plan.proofs.Recorded.{records_reads}

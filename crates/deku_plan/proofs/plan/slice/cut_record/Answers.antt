@@ -1,4 +1,4 @@
-use Rattle.std.proofs.Common.{◌≡◌, ◌<◌, length, ◌∙◌, arith}
+use Rattle.std.proofs.Common.{◌<◌, length, ◌∙◌, arith}
 use Rattle.std.proofs.lemmas.List.{length-set}
 use Rattle.deku_plan.proofs.Steps.{no_field, no_step, steps_long, step_at}
 use Rattle.deku_plan.proofs.Recorded.{step_some, step_few, step_next, step_within, at_more}

@@ -1,6 +1,4 @@
-use Rattle.std.proofs.Common.{◌≡◌, ◌+◌, ◌*◌, ◌≤◌, length, map, arith}
-use Rattle.deku_bits.specs.Pieces.{total}
-use Rattle.deku_fields.specs.Items.{field_shape}
+use Rattle.std.proofs.Common.{◌≡◌, ◌+◌, ◌≤◌, length, arith}
 use Rattle.deku_plan.proofs.Recorded.{room, at_put}
 use Rattle.deku_plan.proofs.plan.slice.cut_records.Goals as goal
 
