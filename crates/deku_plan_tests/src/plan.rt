@@ -157,6 +157,9 @@ fn refuses_layouts(rt: HostRuntime) -> Result<(), Fail> {
 #[test]
 fn reads_records(rt: HostRuntime) -> Result<(), Fail> {
     let halves = plan_of(&rt, rt.alloc(), &["u8,big,bits4", "u16,big,bits8"])?;
+    if halves.fields().len() != 2 {
+        return same(&"fields", &halves.fields().len(), &2);
+    }
     let mut out = [NONE_YET; 6];
     halves.read_all(rt.alloc(), &[0x69, 0xC0, 0xFE, 0xDC, 0xBA], 3, &mut out)?;
     let wanted = [
@@ -176,6 +179,9 @@ fn reads_records(rt: HostRuntime) -> Result<(), Fail> {
 #[test]
 fn refuses_as_lists(rt: HostRuntime) -> Result<(), Fail> {
     let plan = plan_of(&rt, rt.alloc(), &["u8,big,bits4", "u16,big"])?;
+    if plan.fields().len() != 2 {
+        return same(&"fields", &plan.fields().len(), &2);
+    }
     let mut out = [NONE_YET; 2];
     let mut reader = reader_of(rt.alloc(), &[0x69, 0xC0]);
     let read = plan.read(&mut reader, &mut out);
@@ -222,6 +228,9 @@ fn parses_words(rt: HostRuntime) -> Result<(), Fail> {
 #[test]
 fn writes_records(rt: HostRuntime) -> Result<(), Fail> {
     let halves = plan_of(&rt, rt.alloc(), &["u8,big,bits4", "u16,big,bits8"])?;
+    if halves.fields().len() != 2 {
+        return same(&"fields", &halves.fields().len(), &2);
+    }
     let values = [plain(6), plain(0x9C), plain(0), plain(0xFE)];
     let mut out = [0xAA; 4];
     let seen = halves.write_all(2, &values, &mut out);
