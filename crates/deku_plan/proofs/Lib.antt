@@ -10,3 +10,4 @@ pub mod Aligning
 pub mod Rejecting
 pub mod Parsing
 pub mod Wholly
+pub mod Columned

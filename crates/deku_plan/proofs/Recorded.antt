@@ -70,7 +70,7 @@ reads_at (f ∷ fs) bytes bit end (n ∷ ns) all e there h =
     (cut.3, h.0, subst (λ T. ReadsValues fs T ns (left Msb0 end (fresh bytes))) cut.1 others)
 
 -- ---- what the fields read
-number_is : (b : Bool) (v : ℤ) (n : Number) → IsNumber b v n → number_of b v ≡ n
+pub number_is : (b : Bool) (v : ℤ) (n : Number) → IsNumber b v n → number_of b v ≡ n
 number_is false (pos m) (Unsigned n) e = ap Unsigned (let f : pos m ≡ pos n = e in cc)
 number_is false (negsuc m) (Unsigned n) e = absurd (cc)
 number_is false v (Signed z) e = absurd e

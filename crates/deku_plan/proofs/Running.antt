@@ -29,7 +29,7 @@ joined_on : (ns ms : List Number) (r : Result (List Number) DekuError) → joine
 joined_on ns ms (Ok ks) = ap Ok (sym (append_assoc ns ms ks))
 joined_on ns ms (Err e) = refl
 
-joins_more : (fs : List Field) (count i : ℕ) (ns ms : List Number) (s0 : Standing (Option Stream)) (f0 : Health) (s : Standing (Option Stream)) (f : Health) (t : Standing (Option Stream)) (g : Health)
+pub joins_more : (fs : List Field) (count i : ℕ) (ns ms : List Number) (s0 : Standing (Option Stream)) (f0 : Health) (s : Standing (Option Stream)) (f : Health) (t : Standing (Option Stream)) (g : Health)
     → i < count → Follows fs count i ns s0 f0 s f → Outcome (ReadsFields fs) s f (Ok ms) t g → Follows fs count (i + 1) (ns ++ ms) s0 f0 t g
 joins_more fs count i ns ms s0 f0 s f t g l k o r u h p =
     let next : count - i ≡ suc (count - (i + 1)) = omega (arith, l) in
@@ -50,9 +50,14 @@ follows_not fs count i ns e s0 f0 s f t g l k o =
     let next : count - i ≡ suc (count - (i + 1)) = omega (arith, l) in
     k (Err e) t g (subst (λ x. Outcome (ReadsFields (records x fs)) s f (Err e) t g) (sym next) (read_calls.refused fs (records (count - (i + 1)) fs) s t f g e o))
 
+pub follows_done : (fs : List Field) (count i : ℕ) (ns : List Number) (s0 : Standing (Option Stream)) (f0 : Health) (s : Standing (Option Stream)) (f : Health)
+    → count ≤ i → Follows fs count i ns s0 f0 s f → Outcome (ReadsFields (records count fs)) s0 f0 (Ok ns) s f
+follows_done fs count i ns s0 f0 s f l k =
+    let none : count - i ≡ 0 = omega (arith, l) in
+    subst (λ x. Outcome (ReadsFields (records count fs)) s0 f0 (Ok x) s f) (append-nil ns)
+    (k (Ok []) s f (subst (λ x. Outcome (ReadsFields (records x fs)) s f (Ok []) s f) (sym none) answered))
+
 pub follows_last : (fs : List Field) (count i place : ℕ) (out : List Number) (s0 : Standing (Option Stream)) (f0 : Health) (s : Standing (Option Stream)) (f : Health)
     → count ≤ i → length out ≤ place → Follows fs count i (take place out) s0 f0 s f → Outcome (ReadsFields (records count fs)) s0 f0 (Ok out) s f
 follows_last fs count i place out s0 f0 s f l most k =
-    let none : count - i ≡ 0 = omega (arith, l) in
-    subst (λ x. Outcome (ReadsFields (records count fs)) s0 f0 (Ok x) s f) (append-nil (take place out) ∙ take_all place out most)
-    (k (Ok []) s f (subst (λ x. Outcome (ReadsFields (records x fs)) s f (Ok []) s f) (sym none) answered))
+    subst (λ x. Outcome (ReadsFields (records count fs)) s0 f0 (Ok x) s f) (take_all place out most) (follows_done fs count i (take place out) s0 f0 s f l k)

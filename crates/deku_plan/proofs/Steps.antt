@@ -69,6 +69,14 @@ widths_front ss i =
     let whole : widths ss ≡ widths (take i ss) + widths (drop i ss) = ap widths (sym (take-append-drop i ss)) ∙ widths_append (take i ss) (drop i ss) in
     omega (arith, whole)
 
+-- the widths of steps in front are those of the fields
+pub widths_take : (fs : List Field) (ss : List Step) (i : ℕ) → AreSteps fs ss → widths (take i ss) ≡ total (map field_shape (take i fs))
+widths_take fs ss zero h = refl
+widths_take [] [] (suc i) h = refl
+widths_take [] (s ∷ ss) (suc i) h = absurd h
+widths_take (f ∷ fs) [] (suc i) h = absurd h
+widths_take (f ∷ fs) (s ∷ ss) (suc i) h = ap₂ (λ x y. x + y) h.0.wide (widths_take fs ss i h.1)
+
 -- ---- no type has more than 128 bits
 few_bits : (k : Kind) → (number_type k).bits ≤ 128
 few_bits U8 = omega arith

@@ -15,13 +15,15 @@ ghost use Rattle.deku_fields.specs.Items.{field_shape, AlignedFields, IsAllowedF
 ghost use Rattle.deku_fields.specs.ListCalls.{ReadsFields, WritesItems};
 ghost use Rattle.deku_fields.specs.Promise.{FindsAny, LeavesBehind, ReadsBack, ReadsWhereSound, ReadsWhereTold, WritesLaid, WritesWhereSound};
 ghost use Rattle.deku_plan.specs.Plans.{AreSteps, IsStepOf, widths, items, IsFirstRejected, AreTooMany};
-ghost use Rattle.deku_plan.specs.Records.{records, IsStraight, ReadsAll, ReadsBackAll, FindsAll};
+ghost use Rattle.deku_plan.specs.Records.{records, IsStraight, ReadsAll, ReadsColumn, ReadsBackAll, FindsAll};
 ghost use Rattle.deku_plan.specs.Words.{AreNamed, AreWrong};
 
+mod column;
 mod read;
 mod slice;
 mod write;
 
+use crate::plan::column::{column_from_first, cut_column, offset_of};
 use crate::plan::read::read_steps;
 use crate::plan::slice::{are_there, cut_records, read_from_first, write_whole};
 use crate::plan::write::write_steps;
@@ -283,6 +285,40 @@ impl Plan {
             return Ok(());
         }
         read_from_first(alloc, bytes, count, fields, steps, out)
+    }
+
+    /// Reads the values of one field from records in bytes, one value from each record: a column.
+    /// The records are those that `read_all` reads. It takes memory for one record if `read_all`
+    /// would use a reader.
+    ///
+    /// The caller's condition: `index` is that of a field. `out` has one place for each record.
+    ///
+    /// It reads the values that `read_all` reads of this field, and fails with the same errors, or
+    /// with `Io(OutOfMemory)`. If it fails, the content of `out` is unspecified.
+    ///
+    /// ```text
+    /// // two records of 4 and 12 bits, from 69 C0 FE DC
+    /// let mut values = [Number::Unsigned(0); 2];
+    /// plan.read_column(alloc, &bytes, 1, &mut values)?;      // 0x9C0 and 0xEDC
+    /// ```
+    pub fn read_column(
+        &self,
+        alloc: Global,
+        bytes: &[u8],
+        index: usize,
+        out: &mut [Number],
+    ) -> Result<(), DekuError>
+        requires { index < length self.now }
+        ensures { ReadsColumn self.now (length out.old) index bytes.now (filling result out.new) }
+    {
+        let fields = self.fields.as_slice();
+        let steps = self.steps.as_slice();
+        if self.straight && are_there(bytes, out.len(), self.bits) {
+            let first = offset_of(steps, index);
+            cut_column(bytes, self.bits, first, &fields[index], steps[index], out);
+            return Ok(());
+        }
+        column_from_first(alloc, bytes, fields, steps, index, out)
     }
 
     /// Writes this many records to the start of a slice, one after the other and without padding
