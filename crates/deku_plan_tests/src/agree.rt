@@ -67,10 +67,17 @@ fn expect_agreement(alloc: Global, fields: &[Field; 3], bytes: &[u8]) -> Result<
         &(seen, second.bits_read(), all),
         &(wanted, first.bits_read(), wanted),
     )?;
+    let mut column = [none[1]];
+    let one = plan.read_column(alloc, bytes, 1, &mut column);
+    if one == Err(NO_MEMORY) {
+        return Err(Fail::from(NO_MEMORY));
+    }
+    same(fields, &one, &wanted)?;
     if wanted.is_err() {
         return Ok(());
     }
     same(fields, &(planned, sliced), &(listed, listed))?;
+    same(fields, &column, &[listed[1]])?;
     expect_written(alloc, &plan, fields, &listed)
 }
 

@@ -171,6 +171,9 @@ fn reads_records(rt: HostRuntime) -> Result<(), Fail> {
         plain(0xCB),
     ];
     same(&"records", &out, &wanted)?;
+    let mut column = [NONE_YET; 3];
+    halves.read_column(rt.alloc(), &[0x69, 0xC0, 0xFE, 0xDC, 0xBA], 1, &mut column)?;
+    same(&"column", &column, &[plain(0x9C), plain(0xFE), plain(0xCB)])?;
     let short = DekuError::Incomplete(NeedSize::new(8));
     let seen = halves.read_all(rt.alloc(), &[0x69, 0xC0], 3, &mut out);
     same(&"the second cut short", &seen, &Err(short))
