@@ -68,6 +68,9 @@ fn headers(bench: &mut Bench, random: &mut Random, size: usize) {
     both!(bench, "field list, kit by list", size, 12 * n, heads, wire,
         read "library" calls::dk_fields_read, "kit" lists::heads_read;
         write "library" calls::dk_fields_write, "kit" lists::heads_write;);
+    let (values, bytes) = (&heads[..], &wire[..]);
+    bench.run("headers as columns read", size, 12 * n, bytes, values,
+        &[("library", Box::new(calls::dk_columns_read)), ("kit", Box::new(kit::heads_read))]);
     both!(bench, "plan, kit by list", size, 12 * n, heads, wire,
         read "library" calls::dk_plan_read, "kit" lists::heads_read;
         write "library" calls::dk_plan_write, "kit" lists::heads_write;);
