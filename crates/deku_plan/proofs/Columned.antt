@@ -1,10 +1,7 @@
 -- One field of records: what is known of its values.
-use Rattle.std.proofs.Common.{◌≡◌, ◌≢◌, ℕ, zero, suc, ◌+◌, ◌*◌, ◌<◌, ◌≤◌, ◌^◌, Bool, true, false, Option, Some, Ok, Err, Result, List, [], ◌∷◌, ◌++◌, map, length, take, drop, set, get_or, All, ℤ, refl, ap, sym, ◌∙◌, subst, arith, below_more, get_or-set_other, get_or-set_same, length-append, take-append-drop}
-use Rattle.std.specs.List.{slice_get}
+use Rattle.std.proofs.Common.{◌≡◌, ◌≢◌, ℕ, zero, suc, ◌+◌, ◌*◌, ◌<◌, ◌≤◌, ◌^◌, Bool, true, false, Option, Some, Ok, Err, Result, List, [], ◌∷◌, ◌++◌, map, length, take, set, get_or, All, refl, ap, sym, ◌∙◌, subst, arith, below_more, get_or-set_other, get_or-set_same, length-append}
 use Rattle.std.proofs.lemmas.Option.{slice_get-get_or}
 use Rattle.std.proofs.lemmas.List.{get_or_append_left, get_or-append-add}
-use Rattle.std.proofs.lemmas.List.Elements.{All-head, All-tail}
-use Rattle.std.proofs.Math.Nat.{mul-le-mul_right}
 use Rattle.deku_bits.specs.declared.ctx.Order.TheVariants.{Msb0}
 use Rattle.deku_bits.specs.declared.error.DekuError.{DekuError}
 use Rattle.deku_bits.specs.Devices.{Health}
@@ -21,7 +18,7 @@ use Rattle.deku_fields.specs.Items.{IsNumber, number_type, field_width, field_sh
 use Rattle.deku_fields.specs.ListCalls.{number_of, ReadsFields}
 use Rattle.deku_plan.specs.Records.{records, IsStraight, AreAt, AreEachAt, IsColumn, HasColumn, ReadsAll}
 use Rattle.deku_plan.proofs.EightCut.{taken_wide}
-use Rattle.deku_plan.proofs.Recorded.{number_is, room, records_total, all_records, records_reads}
+use Rattle.deku_plan.proofs.Recorded.{number_is, room, records_total, records_reads}
 use Rattle.deku_plan.proofs.Steps.{no_field}
 use Rattle.deku_plan.proofs.Wholly.{from_first}
 

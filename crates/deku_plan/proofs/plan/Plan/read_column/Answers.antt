@@ -1,7 +1,6 @@
-use Rattle.std.proofs.Common.{◌≡◌, ◌∙◌, ◌+◌, ◌*◌, ◌<◌, ◌≤◌, Ok, map, length, take, ap, inr, refl, sym, subst, arith}
+use Rattle.std.proofs.Common.{◌≡◌, ◌∙◌, ◌+◌, ◌*◌, ◌<◌, ◌≤◌, Ok, map, length, take, inr, refl, sym, subst, arith}
 use Rattle.deku_bits.specs.Pieces.{total}
 use Rattle.deku_fields.specs.Items.{field_shape}
-use Rattle.deku_plan.specs.Plans.{widths}
 use Rattle.deku_plan.specs.Records.{ReadsColumn}
 use Rattle.deku_plan.proofs.Steps.{no_field, no_step, all_allowed, steps_long, step_at, widths_total, widths_take, widths_more, widths_front}
 use Rattle.deku_plan.proofs.Columned.{column_reads}

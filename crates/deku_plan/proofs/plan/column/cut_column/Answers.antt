@@ -1,5 +1,4 @@
-use Rattle.std.proofs.Common.{◌≡◌, ◌+◌, ◌*◌, ◌≤◌, ◌<◌, length, subst, arith}
-use Rattle.deku_plan.proofs.Recorded.{room}
+use Rattle.std.proofs.Common.{arith}
 use Rattle.deku_plan.proofs.Columned.{each_more}
 use Rattle.deku_plan.proofs.plan.column.cut_column.Goals as goal
 

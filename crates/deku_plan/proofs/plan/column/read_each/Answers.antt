@@ -1,4 +1,4 @@
-use Rattle.std.proofs.Common.{◌≡◌, ◌+◌, ◌*◌, ◌≤◌, ◌<◌, ◌++◌, length, [], take, refl, subst, arith, length-append}
+use Rattle.std.proofs.Common.{◌≡◌, ◌*◌, ◌++◌, length, [], refl, subst, arith, length-append}
 use Rattle.std.proofs.lemmas.Result.{err_from_is_err_and}
 use Rattle.deku_plan.proofs.Running.{follows_first, joins_more, follows_not, follows_done}
 use Rattle.deku_plan.proofs.Columned.{IsBelow, below_first, below_next, below_all}
