@@ -251,15 +251,15 @@ impl Plan {
         write_steps(writer, fields, self.steps.as_slice(), values)
     }
 
-    /// Reads this many records from bytes, one after the other and without padding between them, the
-    /// first of them from the first bit on. The values of each are after those of the one before.
-    /// It takes no memory.
+    /// Reads this many records from bytes, one after the other, from the first bit on and without
+    /// padding between them. The values of each are after those of the one before. It takes no
+    /// memory.
     ///
     /// The caller's condition: `out` has one place for each field of each record.
     ///
     /// It does what `read_list_into` does for the fields of all records in a row, over a reader of
-    /// the bytes: it reads the same values, and fails with the same errors. If it fails, the content
-    /// of `out` is unspecified.
+    /// the bytes: it reads the same values, and fails with the same errors. If it fails, the
+    /// content of `out` is unspecified.
     ///
     /// ```text
     /// // two records of 4 and 12 bits, from 69 C0 FE DC
@@ -335,7 +335,7 @@ impl Plan {
     ///
     /// ```text
     /// // two records of 4 and 12 bits, with the values 6, 0x9C0, 15 and 0xEDC
-    /// plan.write_all(2, &values, &mut out)?;                 // 4, and `out` begins with 69 C0 FE DC
+    /// plan.write_all(2, &values, &mut out)?;              // 4, and `out` begins with 69 C0 FE DC
     /// ```
     pub fn write_all(
         &self,

@@ -124,7 +124,8 @@ fn read_records<R: Source>(
     Ok(())
 }
 
-/// Writes the values of records to a sink, from nothing written, and fills the last byte with zeros.
+/// Writes the values of records to a sink, with nothing written before, and fills the last byte
+/// with zeros.
 #[inline(always)]
 pub(crate) fn write_whole<W: Sink>(
     sink: &mut W,
