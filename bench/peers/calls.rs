@@ -44,6 +44,9 @@ calls! {
     dk_fives_write(): Five => u8;
     dk_fields_read(): u8 => Head;
     dk_fields_write(): Head => u8;
+    dk_plan_read(): u8 => Head;
+    dk_columns_read(): u8 => Head;
+    dk_plan_write(): Head => u8;
     dk_udp_unpack(): u8 => UdpFields;
     dk_udp_pack(): UdpFields => u8;
     dk_udp_read(): u8 => UdpFields;

@@ -59,10 +59,21 @@ fn headers(bench: &mut Bench, random: &mut Random, size: usize) {
             "bits" crates::bits_heads_read, "best" crates::best_heads_read;
         write "library" calls::dk_fields_write, "hand" hand::heads_write, "kit" kit::heads_write,
             "bits" crates::bits_heads_write, "best" crates::best_heads_write;);
+    both!(bench, "headers as plan", size, 12 * n, heads, wire,
+        read "library" calls::dk_plan_read, "hand" hand::heads_read, "kit" kit::heads_read,
+            "bits" crates::bits_heads_read, "best" crates::best_heads_read;
+        write "library" calls::dk_plan_write, "hand" hand::heads_write, "kit" kit::heads_write,
+            "bits" crates::bits_heads_write, "best" crates::best_heads_write;);
     assert!(lists::refuses_signs());
     both!(bench, "field list, kit by list", size, 12 * n, heads, wire,
         read "library" calls::dk_fields_read, "kit" lists::heads_read;
         write "library" calls::dk_fields_write, "kit" lists::heads_write;);
+    let (values, bytes) = (&heads[..], &wire[..]);
+    bench.run("headers as columns read", size, 12 * n, bytes, values,
+        &[("library", Box::new(calls::dk_columns_read)), ("kit", Box::new(kit::heads_read))]);
+    both!(bench, "plan, kit by list", size, 12 * n, heads, wire,
+        read "library" calls::dk_plan_read, "kit" lists::heads_read;
+        write "library" calls::dk_plan_write, "kit" lists::heads_write;);
     both!(bench, "headers, a slice each", size, 12 * n, heads, wire,
         read "library" calls::dk_lone_heads_read, "hand" hand::heads_read, "kit" kit::lone_heads_read,
             "bits" crates::bits_lone_heads_read, "best" crates::best_lone_heads_read;

@@ -1,0 +1,13 @@
+pub mod Steps
+pub mod Itemized
+pub mod Unsigned
+pub mod EightCut
+pub mod Worth
+pub mod Recorded
+pub mod Running
+pub mod Putting
+pub mod Aligning
+pub mod Rejecting
+pub mod Parsing
+pub mod Wholly
+pub mod Columned

@@ -1,0 +1,6 @@
+use Rattle.std.proofs.Common.{take}
+use Rattle.deku_plan.specs.Plans.{AreSteps}
+use Rattle.deku_plan.proofs.plan.steps_of.Given as goal
+
+abbrev pub invariant-loop-field : goal.invariant-loop-field
+invariant-loop-field l = AreSteps (take l.field-index l.fields) l.steps.items

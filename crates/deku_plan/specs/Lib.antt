@@ -1,0 +1,4 @@
+pub mod Plans
+pub mod Records
+pub mod Known
+pub mod Words

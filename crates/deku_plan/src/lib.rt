@@ -1,0 +1,8 @@
+//! Lists of whole-number fields that are looked at once, and then read and written many times.
+#![tactic(auto)]
+
+mod cut;
+mod plan;
+mod step;
+
+pub use plan::{Plan, WrongWords};

@@ -1,0 +1,144 @@
+//! Records, printed a line each.
+
+use deku::error::DekuError;
+use deku_rows::{Columns, Form, NoColumns, print_rows, tell};
+use deku_testing_values::expecting::{NO_MEMORY, same};
+use std::alloc::Global;
+use std::io::Cursor;
+use std::test::Fail;
+
+const CSV: Form = Form {
+    json: false,
+    raw: false,
+};
+
+const JSON: Form = Form {
+    json: true,
+    raw: false,
+};
+
+const RAW: Form = Form {
+    json: false,
+    raw: true,
+};
+
+// The records of an input are printed as this text, and then this line is told.
+fn expect_printed(
+    alloc: Global,
+    words: &[&str],
+    form: Form,
+    input: &[u8],
+    wanted: (&str, &str),
+) -> Result<(), Fail> {
+    let columns = match Columns::parse(alloc, words) {
+        Ok(columns) => columns,
+        Err(why) => return same(&words, &Some(why), &None),
+    };
+    let mut output: Vec<u8> = Vec::new(alloc);
+    let mut errors: Vec<u8> = Vec::new(alloc);
+    let answer = print_rows(alloc, &columns, form, &mut Cursor::new(input), &mut output);
+    if let Err(failure) = answer {
+        tell(&mut errors, &failure)?;
+    }
+    let seen = (output.as_slice(), errors.as_slice());
+    let (text, line) = wanted;
+    same(&words, &seen, &(text.as_bytes(), line.as_bytes()))
+}
+
+#[test]
+fn prints_rows(rt: HostRuntime) -> Result<(), Fail> {
+    let halves: &[&str] = &["kind:u8,big,bits4", "size:u16,big,bits12"];
+    let rows: [(&[&str], Form, &[u8], &str, &str); 10] = [
+        (
+            halves,
+            CSV,
+            b"69c0FEDC\n",
+            "kind,size\n6,2496\n15,3804\n",
+            "",
+        ),
+        (
+            halves,
+            CSV,
+            b"69 c0\nFE DC",
+            "kind,size\n6,2496\n15,3804\n",
+            "",
+        ),
+        (
+            halves,
+            JSON,
+            b"69c0FEDC",
+            "{\"kind\":6,\"size\":2496}\n{\"kind\":15,\"size\":3804}\n",
+            "",
+        ),
+        (halves, RAW, &[0x69, 0xC0], "kind,size\n6,2496\n", ""),
+        (halves, CSV, b"", "kind,size\n", ""),
+        (
+            halves,
+            CSV,
+            b"69c0FE",
+            "kind,size\n6,2496\n",
+            "error: record 2 is cut short: 8 of its 16 bits are there, from bit 16 on\n",
+        ),
+        (
+            halves,
+            CSV,
+            b"69c",
+            "kind,size\n",
+            "error: bad hexadecimal text\n",
+        ),
+        (
+            halves,
+            CSV,
+            b"69xx",
+            "kind,size\n",
+            "error: bad hexadecimal text\n",
+        ),
+        (
+            &["u8,big,bits4", "i8,big,bits8"],
+            CSV,
+            b"69cfFE",
+            "1,2\n6,-100\n15,-2\n",
+            "",
+        ),
+        (
+            &["wide:u128,big"],
+            JSON,
+            b"ffffffffffffffffffffffffffffffff",
+            "{\"wide\":340282366920938463463374607431768211455}\n",
+            "",
+        ),
+    ];
+    for (words, form, input, text, line) in rows {
+        expect_printed(rt.alloc(), words, form, input, (text, line))?;
+    }
+    Ok(())
+}
+
+// Why words make no columns, if they make none. Want of memory, which nobody asked for, is handed
+// on.
+fn refusal<'a>(
+    columns: Result<Columns, NoColumns<'a>>,
+) -> Result<Option<NoColumns<'a>>, DekuError> {
+    match columns {
+        Ok(_) => Ok(None),
+        Err(NoColumns::Fault(error)) if error == NO_MEMORY => Err(error),
+        Err(why) => Ok(Some(why)),
+    }
+}
+
+#[test]
+fn refuses_words(rt: HostRuntime) -> Result<(), Fail> {
+    let wide = DekuError::InvalidParam("bit size is larger than input");
+    let rows: [(&[&str], NoColumns<'_>); 5] = [
+        (&["u9"], NoColumns::NoField("u9")),
+        (&["a:u8", "b:u8", "a:u16"], NoColumns::SameName("a:u16")),
+        (&["2:u8", "u8"], NoColumns::SameName("u8")),
+        (&["u8,bits0"], NoColumns::NoBits),
+        (&["u8,bits9"], NoColumns::Fault(wide)),
+    ];
+    for (words, wanted) in rows {
+        let seen = refusal(Columns::parse(rt.alloc(), words))?;
+        same(&words, &seen, &Some(wanted))?;
+    }
+    Ok(())
+}

@@ -1,0 +1,105 @@
+//! Prints records in a row, a line each, by words that name their fields.
+#![tactic(auto)]
+
+use clap::{Arg, ArgAction, ArgMatches, Command, Error};
+use deku_program::{give_parts, tell_fault};
+use deku_rows::{Columns, Form, NoColumns, print_rows, tell};
+use std::alloc::Global;
+use std::fs::File;
+use std::io::{Read, Write};
+use std::process::ExitCode;
+use std::{env, io};
+
+const ABOUT: &str = "Prints records in a row, a line each, as CSV or JSON";
+
+fn main(rt: HostRuntime) -> io::Result<ExitCode> {
+    let words: Vec<String> = env::args(&rt)?.collect(rt.alloc())?;
+    let Ok(command) = command(rt.alloc()) else {
+        return Ok(ExitCode::from(1));
+    };
+    match command.try_get_matches_from(words.as_slice()) {
+        Ok(matches) => Ok(ExitCode::from(run(&rt, &matches)?)),
+        Err(error) => {
+            error.print(&rt)?;
+            Ok(ExitCode::from(if error.use_stderr() { 2 } else { 0 }))
+        }
+    }
+}
+
+fn command<'a>(alloc: Global) -> Result<Command<'a>, Error> {
+    let json = Arg::new(alloc, "json")
+        .long("json")
+        .action(ArgAction::SetTrue)
+        .help("Prints a JSON object for each record, and not CSV");
+    let raw = Arg::new(alloc, "raw")
+        .long("raw")
+        .action(ArgAction::SetTrue)
+        .help("Takes bytes, and not hexadecimal text");
+    let from = Arg::new(alloc, "from")
+        .long("from")
+        .value_name("FILE")
+        .action(ArgAction::Set)
+        .help("Reads this file, and not the standard input");
+    let specs = Arg::new(alloc, "SPEC")
+        .required(true)
+        .num_args(1..)
+        .help("The fields of a record in order, each as SPEC or NAME:SPEC");
+    let command = Command::new(alloc, "rows").about(ABOUT);
+    Ok(
+        command
+            .arg(json)?
+            .arg(raw)?
+            .arg(from)?
+            .arg(specs)?,
+    )
+}
+
+// Prints what the words ask for. Returns the status.
+fn run(rt: &HostRuntime, matches: &ArgMatches<'_>) -> io::Result<u8> {
+    let words = matches.get_strs("SPEC").unwrap_or(&[]);
+    let columns = match Columns::parse(rt.alloc(), words) {
+        Ok(columns) => columns,
+        Err(why) => return refuse(rt, &why),
+    };
+    let form = Form {
+        json: matches.get_flag("json"),
+        raw: matches.get_flag("raw"),
+    };
+    match matches.get_str("from") {
+        None => print(rt, &columns, form, &mut rt.stdin()),
+        Some(path) => match File::open(rt, path) {
+            Ok(mut file) => print(rt, &columns, form, &mut file),
+            Err(error) => {
+                eprintln!(rt; "error: {path}: {error}")?;
+                Ok(1)
+            }
+        },
+    }
+}
+
+// Prints the records of an input. Returns the status.
+fn print<R: Read>(
+    rt: &HostRuntime,
+    columns: &Columns,
+    form: Form,
+    input: &mut R,
+) -> io::Result<u8> {
+    match print_rows(rt.alloc(), columns, form, input, &mut rt.stdout()) {
+        Ok(_) => Ok(0),
+        Err(failure) => {
+            tell(&mut rt.stderr(), &failure)?;
+            Ok(1)
+        }
+    }
+}
+
+// Prints why words make no columns. Returns the status.
+fn refuse(rt: &HostRuntime, why: &NoColumns<'_>) -> io::Result<u8> {
+    match why {
+        NoColumns::NoField(word) => eprintln!(rt; "error: {word:?} is no field")?,
+        NoColumns::SameName(word) => eprintln!(rt; "error: {word:?} has the name of another")?,
+        NoColumns::NoBits => eprintln!(rt; "error: a record has no bits")?,
+        NoColumns::Fault(fault) => tell_fault(&mut rt.stderr(), fault, &[])?,
+    }
+    Ok(2)
+}
