@@ -192,23 +192,46 @@ impl Codec for Ipv4 {
     } };
 
     fn from_parts(parts: Self::Parts) -> Self {
+        let (
+            Assert {
+                part: Msb(version),
+                ..
+            },
+            CountedBy {
+                head: (
+                    (
+                        Msb(words),
+                        Msb(service),
+                        Msb(congestion),
+                        Be(total),
+                        Be(identification),
+                        Msb(reserved),
+                        Msb(keep_whole),
+                        Msb(more),
+                    ),
+                    (Msb(offset), hops, protocol, Be(checksum), Be(source), Be(destination)),
+                ),
+                items: options,
+                ..
+            },
+        ) = parts;
         Ipv4 {
-            version: parts.0.part.0,
-            words: parts.1.head.0.0.0,
-            service: parts.1.head.0.1.0,
-            congestion: parts.1.head.0.2.0,
-            total: parts.1.head.0.3.0,
-            identification: parts.1.head.0.4.0,
-            reserved: parts.1.head.0.5.0,
-            keep_whole: parts.1.head.0.6.0,
-            more: parts.1.head.0.7.0,
-            offset: parts.1.head.1.0.0,
-            hops: parts.1.head.1.1,
-            protocol: parts.1.head.1.2,
-            checksum: parts.1.head.1.3.0,
-            source: parts.1.head.1.4.0,
-            destination: parts.1.head.1.5.0,
-            options: parts.1.items,
+            version,
+            words,
+            service,
+            congestion,
+            total,
+            identification,
+            reserved,
+            keep_whole,
+            more,
+            offset,
+            hops,
+            protocol,
+            checksum,
+            source,
+            destination,
+            options,
         }
     }
 

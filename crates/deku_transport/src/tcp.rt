@@ -178,25 +178,48 @@ impl Codec for Tcp {
     } };
 
     fn from_parts(parts: Self::Parts) -> Self {
+        let (
+            Be(source),
+            Be(destination),
+            Be(sequence),
+            Be(acknowledgment),
+            CountedBy {
+                head: (
+                    (
+                        Msb(words),
+                        Msb(reserved),
+                        Msb(cwr),
+                        Msb(ece),
+                        Msb(urg),
+                        Msb(ack),
+                        Msb(psh),
+                        Msb(rst),
+                    ),
+                    (Msb(syn), Msb(fin), Be(window), Be(checksum), Be(urgent)),
+                ),
+                items: options,
+                ..
+            },
+        ) = parts;
         Tcp {
-            source: parts.0.0,
-            destination: parts.1.0,
-            sequence: parts.2.0,
-            acknowledgment: parts.3.0,
-            words: parts.4.head.0.0.0,
-            reserved: parts.4.head.0.1.0,
-            cwr: parts.4.head.0.2.0,
-            ece: parts.4.head.0.3.0,
-            urg: parts.4.head.0.4.0,
-            ack: parts.4.head.0.5.0,
-            psh: parts.4.head.0.6.0,
-            rst: parts.4.head.0.7.0,
-            syn: parts.4.head.1.0.0,
-            fin: parts.4.head.1.1.0,
-            window: parts.4.head.1.2.0,
-            checksum: parts.4.head.1.3.0,
-            urgent: parts.4.head.1.4.0,
-            options: parts.4.items,
+            source,
+            destination,
+            sequence,
+            acknowledgment,
+            words,
+            reserved,
+            cwr,
+            ece,
+            urg,
+            ack,
+            psh,
+            rst,
+            syn,
+            fin,
+            window,
+            checksum,
+            urgent,
+            options,
         }
     }
 
