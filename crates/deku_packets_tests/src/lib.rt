@@ -4,4 +4,6 @@
 #[cfg(test)]
 mod cut;
 #[cfg(test)]
+mod records;
+#[cfg(test)]
 mod refused;
