@@ -46,7 +46,8 @@ impl DekuWriter<()> for Layer {
       | kinds.Udp x ↦ ⟦<Coded<Udp> as DekuWriter<()>>⟧.meaning (record { 0 = x }) tt
       | kinds.Tcp x ↦ ⟦<Coded<Tcp> as DekuWriter<()>>⟧.meaning (record { 0 = x }) tt
       | kinds.TcpOption x ↦ ⟦<Coded<TcpOption> as DekuWriter<()>>⟧.meaning (record { 0 = x }) tt
-      | kinds.LargestSegment x ↦ ⟦<Coded<LargestSegment> as DekuWriter<()>>⟧.meaning (record { 0 = x }) tt
+      | kinds.LargestSegment x ↦ ⟦<Coded<LargestSegment> as DekuWriter<()>>⟧.meaning
+        (record { 0 = x }) tt
       | kinds.WindowScale x ↦ ⟦<Coded<WindowScale> as DekuWriter<()>>⟧.meaning (record { 0 = x }) tt
       | kinds.Block x ↦ ⟦<Coded<Block> as DekuWriter<()>>⟧.meaning (record { 0 = x }) tt
       | kinds.Times x ↦ ⟦<Coded<Times> as DekuWriter<()>>⟧.meaning (record { 0 = x }) tt

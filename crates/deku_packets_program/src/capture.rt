@@ -1,6 +1,6 @@
 //! A capture file, packet by packet.
 
-ghost use Rattle.std.specs.Prelude.{◌<◌, length, IfOk, IfNone};
+ghost use Rattle.std.specs.Prelude.{◌≡◌, ◌<◌, length, vec_len, IfOk, IfNone, IfSome};
 ghost use Rattle.std.specs.Io.KnownBytes.{IsAtEnd};
 
 use crate::failure::Failure;
@@ -93,6 +93,8 @@ pub fn read_captured<R: Read>(
     buffer: &mut Vec<u8>,
 ) -> Result<Option<Captured>, Failure>
     ensures ended { IfOk result (λ o. IfNone o (IsAtEnd (R.remaining input.new))) }
+    ensures none { IfOk result (λ o. IfNone o (IsAtEnd (R.remaining input.old))) }
+    ensures held { IfOk result (λ o. IfSome o (λ c. vec_len buffer.new ≡ c.kept)) }
 {
     let mut bytes = [0u8; 16];
     let count = fill(input, &mut bytes, "packet header", at)?;
@@ -148,6 +150,8 @@ fn fill<R: Read>(
     at: u64,
 ) -> Result<usize, Failure>
     ensures ended { IfOk result (λ n. n < length buffer.new → IsAtEnd (R.remaining input.new)) }
+    ensures none { IfOk result (λ n. n ≡ 0 → 0 < length buffer.new
+        → IsAtEnd (R.remaining input.old)) }
 {
     let mut done = 0;
     for _ in 0..u64::MAX {

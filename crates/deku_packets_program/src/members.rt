@@ -199,10 +199,7 @@ fn icmp<S: Serializer>(x: &Icmp, out: &mut S) -> Result<(), S::Error> {
             checksum,
             identifier,
             sequence,
-        } => {
-            numbered(&ICMP, 0, code, checksum, out)?;
-            echo(identifier, sequence, out)
-        }
+        } => echo(&ICMP, 0, (code, checksum), identifier, sequence, out),
         Icmp::Unreachable {
             code,
             checksum,
@@ -218,10 +215,7 @@ fn icmp<S: Serializer>(x: &Icmp, out: &mut S) -> Result<(), S::Error> {
             checksum,
             identifier,
             sequence,
-        } => {
-            numbered(&ICMP, 8, code, checksum, out)?;
-            echo(identifier, sequence, out)
-        }
+        } => echo(&ICMP, 8, (code, checksum), identifier, sequence, out),
         Icmp::TimeExceeded {
             code,
             checksum,
@@ -258,19 +252,13 @@ fn icmpv6<S: Serializer>(x: &Icmpv6, out: &mut S) -> Result<(), S::Error> {
             checksum,
             identifier,
             sequence,
-        } => {
-            numbered(&ICMPV6, 128, code, checksum, out)?;
-            echo(identifier, sequence, out)
-        }
+        } => echo(&ICMPV6, 128, (code, checksum), identifier, sequence, out),
         Icmpv6::EchoReply {
             code,
             checksum,
             identifier,
             sequence,
-        } => {
-            numbered(&ICMPV6, 129, code, checksum, out)?;
-            echo(identifier, sequence, out)
-        }
+        } => echo(&ICMPV6, 129, (code, checksum), identifier, sequence, out),
         Icmpv6::Other(kind, code, checksum) => numbered(&ICMPV6, kind, code, checksum, out),
     }
 }
@@ -287,8 +275,16 @@ fn numbered<S: Serializer>(
     members(fields, &values, out)
 }
 
-// The numbers of an echo.
-fn echo<S: Serializer>(identifier: u16, sequence: u16, out: &mut S) -> Result<(), S::Error> {
+// The kind, the code, the checksum and the numbers of an echo.
+fn echo<S: Serializer>(
+    fields: &Fields,
+    kind: u64,
+    (code, checksum): (u8, u16),
+    identifier: u16,
+    sequence: u16,
+    out: &mut S,
+) -> Result<(), S::Error> {
+    numbered(fields, kind, code, checksum, out)?;
     member("identifier", Number(identifier as u64), out)?;
     member("sequence", Number(sequence as u64), out)
 }
