@@ -26,7 +26,9 @@ ghost use Rattle.deku_symmetry.specs.Fields.{be, le};
 ghost use Rattle.deku_pieces.specs.declared.either.Either.TheVariants as either;
 ghost use Rattle.deku_capture.specs.declared.pcap.Start.TheVariants as start_kinds;
 
-use deku_symmetry::{Be, CopyParts, Either, Enum, Kind, Le, MsbEnum};
+use deku::device::Sink;
+use deku::prelude::{DekuError, DekuWriter, Writer};
+use deku_symmetry::{Be, Codec, Either, Enum, Kind, Le, MsbEnum};
 
 /// The magic number, with which a file starts.
 #[derive(Debug, Clone, Copy, PartialEq, Eq)]
@@ -41,7 +43,7 @@ pub enum Start {
     LittleNano,
 }
 
-impl CopyParts for Start {
+impl Codec for Start {
     type Parts = MsbEnum<
         Either<
             Either<Kind<(), 2712847316>, Kind<(), 2712812621>>,
@@ -89,13 +91,14 @@ impl CopyParts for Start {
         }
     }
 
-    fn parts(&self) -> Self::Parts {
-        match self {
+    fn write<W: Sink>(&self, writer: &mut Writer<W>) -> Result<(), DekuError> {
+        let parts: Self::Parts = match self {
             Start::Big => Enum::new(Either::This(Either::This(Kind(())))),
             Start::BigNano => Enum::new(Either::This(Either::Other(Kind(())))),
             Start::Little => Enum::new(Either::Other(Either::This(Kind(())))),
             Start::LittleNano => Enum::new(Either::Other(Either::Other(Kind(())))),
-        }
+        };
+        parts.to_writer(writer, ())
     }
 
     ghost there = { elim [
@@ -130,7 +133,7 @@ impl BigFields {
     ];
 }
 
-impl CopyParts for BigFields {
+impl Codec for BigFields {
     type Parts = (Be<u16>, Be<u16>, Be<i32>, Be<u32>, Be<u32>, Be<u32>);
 
     ghost parts_of = { λ r. (
@@ -163,15 +166,16 @@ impl CopyParts for BigFields {
         }
     }
 
-    fn parts(&self) -> Self::Parts {
-        (
+    fn write<W: Sink>(&self, writer: &mut Writer<W>) -> Result<(), DekuError> {
+        let parts: Self::Parts = (
             Be(self.major),
             Be(self.minor),
             Be(self.zone),
             Be(self.figures),
             Be(self.longest),
             Be(self.network),
-        )
+        );
+        parts.to_writer(writer, ())
     }
 
     ghost there = { λ r. refl };
@@ -201,7 +205,7 @@ impl LittleFields {
     ];
 }
 
-impl CopyParts for LittleFields {
+impl Codec for LittleFields {
     type Parts = (Le<u16>, Le<u16>, Le<i32>, Le<u32>, Le<u32>, Le<u32>);
 
     ghost parts_of = { λ r. (
@@ -234,15 +238,16 @@ impl CopyParts for LittleFields {
         }
     }
 
-    fn parts(&self) -> Self::Parts {
-        (
+    fn write<W: Sink>(&self, writer: &mut Writer<W>) -> Result<(), DekuError> {
+        let parts: Self::Parts = (
             Le(self.major),
             Le(self.minor),
             Le(self.zone),
             Le(self.figures),
             Le(self.longest),
             Le(self.network),
-        )
+        );
+        parts.to_writer(writer, ())
     }
 
     ghost there = { λ r. refl };
@@ -266,7 +271,7 @@ impl BigPacket {
     pub const FIELDS: [&'static str; 4] = ["seconds", "fraction", "kept", "whole"];
 }
 
-impl CopyParts for BigPacket {
+impl Codec for BigPacket {
     type Parts = (Be<u32>, Be<u32>, Be<u32>, Be<u32>);
 
     ghost parts_of = { λ r. (be r.seconds, be r.fraction, be r.kept, be r.whole) };
@@ -287,13 +292,14 @@ impl CopyParts for BigPacket {
         }
     }
 
-    fn parts(&self) -> Self::Parts {
-        (
+    fn write<W: Sink>(&self, writer: &mut Writer<W>) -> Result<(), DekuError> {
+        let parts: Self::Parts = (
             Be(self.seconds),
             Be(self.fraction),
             Be(self.kept),
             Be(self.whole),
-        )
+        );
+        parts.to_writer(writer, ())
     }
 
     ghost there = { λ r. refl };
@@ -317,7 +323,7 @@ impl LittlePacket {
     pub const FIELDS: [&'static str; 4] = ["seconds", "fraction", "kept", "whole"];
 }
 
-impl CopyParts for LittlePacket {
+impl Codec for LittlePacket {
     type Parts = (Le<u32>, Le<u32>, Le<u32>, Le<u32>);
 
     ghost parts_of = { λ r. (le r.seconds, le r.fraction, le r.kept, le r.whole) };
@@ -338,13 +344,14 @@ impl CopyParts for LittlePacket {
         }
     }
 
-    fn parts(&self) -> Self::Parts {
-        (
+    fn write<W: Sink>(&self, writer: &mut Writer<W>) -> Result<(), DekuError> {
+        let parts: Self::Parts = (
             Le(self.seconds),
             Le(self.fraction),
             Le(self.kept),
             Le(self.whole),
-        )
+        );
+        parts.to_writer(writer, ())
     }
 
     ghost there = { λ r. refl };

@@ -21,7 +21,9 @@
 ghost use Rattle.std.specs.Prelude.{refl};
 ghost use Rattle.deku_symmetry.specs.Fields.{be, msb};
 
-use deku_symmetry::{Be, CopyParts, Msb};
+use deku::device::Sink;
+use deku::prelude::{DekuError, DekuWriter, Writer};
+use deku_symmetry::{Be, Codec, Msb};
 
 /// The header of a packet.
 #[derive(Debug, Clone, Copy, PartialEq, Eq)]
@@ -73,7 +75,7 @@ impl Ntp {
     ];
 }
 
-impl CopyParts for Ntp {
+impl Codec for Ntp {
     type Parts = (
         (
             Msb<u8, 2>,
@@ -149,8 +151,8 @@ impl CopyParts for Ntp {
         }
     }
 
-    fn parts(&self) -> Self::Parts {
-        (
+    fn write<W: Sink>(&self, writer: &mut Writer<W>) -> Result<(), DekuError> {
+        let parts: Self::Parts = (
             (
                 Msb(self.leap),
                 Msb(self.version),
@@ -168,7 +170,8 @@ impl CopyParts for Ntp {
                 Be(self.receive),
                 Be(self.transmit),
             ),
-        )
+        );
+        parts.to_writer(writer, ())
     }
 
     ghost there = { λ r. refl };

@@ -11,7 +11,9 @@
 ghost use Rattle.std.specs.Prelude.{refl};
 ghost use Rattle.deku_symmetry.specs.Fields.{be};
 
-use deku_symmetry::{Be, CopyParts};
+use deku::device::Sink;
+use deku::prelude::{DekuError, DekuWriter, Writer};
+use deku_symmetry::{Be, Codec};
 
 /// The header of a record.
 #[derive(Debug, Clone, Copy, PartialEq, Eq)]
@@ -29,7 +31,7 @@ impl Tls {
     pub const FIELDS: [&'static str; 3] = ["content", "version", "length"];
 }
 
-impl CopyParts for Tls {
+impl Codec for Tls {
     type Parts = (u8, Be<u16>, Be<u16>);
 
     ghost parts_of = { λ r. (r.content, be r.version, be r.length) };
@@ -44,8 +46,9 @@ impl CopyParts for Tls {
         }
     }
 
-    fn parts(&self) -> Self::Parts {
-        (self.content, Be(self.version), Be(self.length))
+    fn write<W: Sink>(&self, writer: &mut Writer<W>) -> Result<(), DekuError> {
+        let parts: Self::Parts = (self.content, Be(self.version), Be(self.length));
+        parts.to_writer(writer, ())
     }
 
     ghost there = { λ r. refl };

@@ -17,7 +17,9 @@
 ghost use Rattle.std.specs.Prelude.{nat_eq, codes, refl};
 ghost use Rattle.deku_symmetry.specs.Fields.{be};
 
-use deku_symmetry::{Assert, Be, Check, CheckLaw, CopyParts};
+use deku::device::Sink;
+use deku::prelude::{DekuError, DekuWriter, Writer};
+use deku_symmetry::{Assert, Be, Check, CheckLaw, Codec};
 use std::net::Ipv4Addr;
 
 /// A question who has an address, or the answer.
@@ -150,7 +152,7 @@ impl Arp {
     ];
 }
 
-impl CopyParts for Arp {
+impl Codec for Arp {
     type Parts = (
         (
             Assert<Be<u16>, ArpHardwareValue>,
@@ -230,8 +232,8 @@ impl CopyParts for Arp {
         }
     }
 
-    fn parts(&self) -> Self::Parts {
-        (
+    fn write<W: Sink>(&self, writer: &mut Writer<W>) -> Result<(), DekuError> {
+        let parts: Self::Parts = (
             (
                 Assert::new(Be(self.hardware)),
                 Assert::new(Be(self.protocol)),
@@ -243,7 +245,8 @@ impl CopyParts for Arp {
                 self.target_hardware,
             ),
             Be(self.target),
-        )
+        );
+        parts.to_writer(writer, ())
     }
 
     ghost there = { λ r. refl };

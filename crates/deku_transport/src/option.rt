@@ -16,8 +16,8 @@ ghost use Rattle.deku_symmetry.specs.Fields.{be};
 use deku::device::Sink;
 use deku::prelude::{DekuError, DekuWriter, Writer};
 use deku_symmetry::{
-    Be, Codec, Coded, Condition, ConditionLaw, CopyParts, CountOf, CountOfLaw, CountedBy,
-    CountedByRef, Optional, OptionalRef,
+    Be, Codec, Coded, Condition, ConditionLaw, CountOf, CountOfLaw, CountedBy, CountedByRef,
+    Optional, OptionalRef,
 };
 use std::marker::PhantomData;
 
@@ -154,7 +154,7 @@ impl LargestSegment {
     pub const FIELDS: [&'static str; 1] = ["size"];
 }
 
-impl CopyParts for LargestSegment {
+impl Codec for LargestSegment {
     type Parts = Be<u16>;
 
     ghost parts_of = { λ r. be r.size };
@@ -165,8 +165,9 @@ impl CopyParts for LargestSegment {
         LargestSegment { size }
     }
 
-    fn parts(&self) -> Self::Parts {
-        Be(self.size)
+    fn write<W: Sink>(&self, writer: &mut Writer<W>) -> Result<(), DekuError> {
+        let parts: Self::Parts = Be(self.size);
+        parts.to_writer(writer, ())
     }
 
     ghost there = { λ r. refl };
@@ -184,7 +185,7 @@ impl WindowScale {
     pub const FIELDS: [&'static str; 1] = ["shift"];
 }
 
-impl CopyParts for WindowScale {
+impl Codec for WindowScale {
     type Parts = u8;
 
     ghost parts_of = { λ r. r.shift };
@@ -195,8 +196,9 @@ impl CopyParts for WindowScale {
         WindowScale { shift }
     }
 
-    fn parts(&self) -> Self::Parts {
-        self.shift
+    fn write<W: Sink>(&self, writer: &mut Writer<W>) -> Result<(), DekuError> {
+        let parts: Self::Parts = self.shift;
+        parts.to_writer(writer, ())
     }
 
     ghost there = { λ r. refl };
@@ -216,7 +218,7 @@ impl Block {
     pub const FIELDS: [&'static str; 2] = ["left", "right"];
 }
 
-impl CopyParts for Block {
+impl Codec for Block {
     type Parts = (Be<u32>, Be<u32>);
 
     ghost parts_of = { λ r. (be r.left, be r.right) };
@@ -227,8 +229,9 @@ impl CopyParts for Block {
         Block { left, right }
     }
 
-    fn parts(&self) -> Self::Parts {
-        (Be(self.left), Be(self.right))
+    fn write<W: Sink>(&self, writer: &mut Writer<W>) -> Result<(), DekuError> {
+        let parts: Self::Parts = (Be(self.left), Be(self.right));
+        parts.to_writer(writer, ())
     }
 
     ghost there = { λ r. refl };
@@ -248,7 +251,7 @@ impl Times {
     pub const FIELDS: [&'static str; 2] = ["value", "echo"];
 }
 
-impl CopyParts for Times {
+impl Codec for Times {
     type Parts = (Be<u32>, Be<u32>);
 
     ghost parts_of = { λ r. (be r.value, be r.echo) };
@@ -259,8 +262,9 @@ impl CopyParts for Times {
         Times { value, echo }
     }
 
-    fn parts(&self) -> Self::Parts {
-        (Be(self.value), Be(self.echo))
+    fn write<W: Sink>(&self, writer: &mut Writer<W>) -> Result<(), DekuError> {
+        let parts: Self::Parts = (Be(self.value), Be(self.echo));
+        parts.to_writer(writer, ())
     }
 
     ghost there = { λ r. refl };
