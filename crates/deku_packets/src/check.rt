@@ -47,7 +47,7 @@ impl DekuWriter<()> for Layer {
       | kinds.Tcp x ↦ ⟦<Coded<Tcp> as DekuWriter<()>>⟧.meaning (record { 0 = x }) tt
       | kinds.TcpOption x ↦ ⟦<Coded<TcpOption> as DekuWriter<()>>⟧.meaning (record { 0 = x }) tt
       | kinds.LargestSegment x ↦ ⟦<Coded<LargestSegment> as DekuWriter<()>>⟧.meaning
-        (record { 0 = x }) tt
+          (record { 0 = x }) tt
       | kinds.WindowScale x ↦ ⟦<Coded<WindowScale> as DekuWriter<()>>⟧.meaning (record { 0 = x }) tt
       | kinds.Block x ↦ ⟦<Coded<Block> as DekuWriter<()>>⟧.meaning (record { 0 = x }) tt
       | kinds.Times x ↦ ⟦<Coded<Times> as DekuWriter<()>>⟧.meaning (record { 0 = x }) tt
@@ -119,8 +119,10 @@ pub fn first_change(
         bytes.now packet.now.layers.items) }
 {
     for placed in &packet.layers {
-        if let Some(index) = layer_change(alloc, bytes, placed)? {
-            return Ok(Some(index));
+        match layer_change(alloc, bytes, placed) {
+            Ok(None) => {}
+            Ok(Some(index)) => return Ok(Some(index)),
+            Err(fault) => return Err(fault),
         }
     }
     Ok(None)
@@ -138,7 +140,10 @@ fn layer_change(alloc: Global, bytes: &[u8], placed: &Placed) -> Result<Option<u
     if let Layer::Rest = placed.layer {
         return Ok(None);
     }
-    let written = padded_bytes(&placed.layer, alloc, ())?;
+    let written = match padded_bytes(&placed.layer, alloc, ()) {
+        Ok(written) => written,
+        Err(fault) => return Err(fault),
+    };
     let read = between(bytes, placed.start, placed.end);
     match first_difference(read, written.as_slice()) {
         None => Ok(None),
