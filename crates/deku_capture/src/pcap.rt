@@ -28,7 +28,7 @@ ghost use Rattle.deku_capture.specs.declared.pcap.Start.TheVariants as start_kin
 
 use deku::device::Sink;
 use deku::prelude::{DekuError, DekuWriter, Writer};
-use deku_symmetry::{Be, Codec, CopyParts, Either, Enum, Kind, Le, MsbEnum};
+use deku_symmetry::{Be, Codec, Either, Enum, Kind, Le, MsbEnum};
 
 /// The magic number, with which a file starts.
 #[derive(Debug, Clone, Copy, PartialEq, Eq)]
@@ -43,7 +43,7 @@ pub enum Start {
     LittleNano,
 }
 
-impl CopyParts for Start {
+impl Codec for Start {
     type Parts = MsbEnum<
         Either<
             Either<Kind<(), 2712847316>, Kind<(), 2712812621>>,
@@ -91,13 +91,14 @@ impl CopyParts for Start {
         }
     }
 
-    fn parts(&self) -> Self::Parts {
-        match self {
+    fn write<W: Sink>(&self, writer: &mut Writer<W>) -> Result<(), DekuError> {
+        let parts: Self::Parts = match self {
             Start::Big => Enum::new(Either::This(Either::This(Kind(())))),
             Start::BigNano => Enum::new(Either::This(Either::Other(Kind(())))),
             Start::Little => Enum::new(Either::Other(Either::This(Kind(())))),
             Start::LittleNano => Enum::new(Either::Other(Either::Other(Kind(())))),
-        }
+        };
+        parts.to_writer(writer, ())
     }
 
     ghost there = { elim [

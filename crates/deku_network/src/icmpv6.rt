@@ -16,7 +16,9 @@ ghost use Rattle.deku_symmetry.specs.Fields.{be};
 ghost use Rattle.deku_pieces.specs.declared.either.Either.TheVariants as either;
 ghost use Rattle.deku_network.specs.declared.icmpv6.Icmpv6.TheVariants as icmpv6_kinds;
 
-use deku_symmetry::{Be, CopyParts, Either, Enum, InRange, Kind, MsbEnum, Otherwise};
+use deku::device::Sink;
+use deku::prelude::{DekuError, DekuWriter, Writer};
+use deku_symmetry::{Be, Codec, Either, Enum, InRange, Kind, MsbEnum, Otherwise};
 
 /// The beginning of a message, by its kind.
 #[derive(Debug, Clone, Copy, PartialEq, Eq)]
@@ -51,7 +53,7 @@ pub enum Icmpv6 {
     Other(u64, u8, u16),
 }
 
-impl CopyParts for Icmpv6 {
+impl Codec for Icmpv6 {
     type Parts = MsbEnum<
         Either<
             Either<
@@ -149,8 +151,8 @@ impl CopyParts for Icmpv6 {
         }
     }
 
-    fn parts(&self) -> Self::Parts {
-        match self {
+    fn write<W: Sink>(&self, writer: &mut Writer<W>) -> Result<(), DekuError> {
+        let parts: Self::Parts = match self {
             Icmpv6::Unreachable {
                 code,
                 checksum,
@@ -205,7 +207,8 @@ impl CopyParts for Icmpv6 {
                     value: (*field_1, Be(*field_2)),
                 }))
             }
-        }
+        };
+        parts.to_writer(writer, ())
     }
 
     ghost there = { elim [
