@@ -26,9 +26,7 @@ ghost use Rattle.deku_symmetry.specs.Fields.{be, le};
 ghost use Rattle.deku_pieces.specs.declared.either.Either.TheVariants as either;
 ghost use Rattle.deku_capture.specs.declared.pcap.Start.TheVariants as start_kinds;
 
-use deku::device::Sink;
-use deku::prelude::{DekuError, DekuWriter, Writer};
-use deku_symmetry::{Be, Codec, Either, Enum, Kind, Le, MsbEnum};
+use deku_symmetry::{Be, CopyParts, Either, Enum, Kind, Le, MsbEnum};
 
 /// The magic number, with which a file starts.
 #[derive(Debug, Clone, Copy, PartialEq, Eq)]
@@ -43,7 +41,7 @@ pub enum Start {
     LittleNano,
 }
 
-impl Codec for Start {
+impl CopyParts for Start {
     type Parts = MsbEnum<
         Either<
             Either<Kind<(), 2712847316>, Kind<(), 2712812621>>,
@@ -91,14 +89,13 @@ impl Codec for Start {
         }
     }
 
-    fn write<W: Sink>(&self, writer: &mut Writer<W>) -> Result<(), DekuError> {
-        let parts: Self::Parts = match self {
+    fn parts(&self) -> Self::Parts {
+        match self {
             Start::Big => Enum::new(Either::This(Either::This(Kind(())))),
             Start::BigNano => Enum::new(Either::This(Either::Other(Kind(())))),
             Start::Little => Enum::new(Either::Other(Either::This(Kind(())))),
             Start::LittleNano => Enum::new(Either::Other(Either::Other(Kind(())))),
-        };
-        parts.to_writer(writer, ())
+        }
     }
 
     ghost there = { elim [
@@ -133,7 +130,7 @@ impl BigFields {
     ];
 }
 
-impl Codec for BigFields {
+impl CopyParts for BigFields {
     type Parts = (Be<u16>, Be<u16>, Be<i32>, Be<u32>, Be<u32>, Be<u32>);
 
     ghost parts_of = { λ r. (
@@ -166,16 +163,15 @@ impl Codec for BigFields {
         }
     }
 
-    fn write<W: Sink>(&self, writer: &mut Writer<W>) -> Result<(), DekuError> {
-        let parts: Self::Parts = (
+    fn parts(&self) -> Self::Parts {
+        (
             Be(self.major),
             Be(self.minor),
             Be(self.zone),
             Be(self.figures),
             Be(self.longest),
             Be(self.network),
-        );
-        parts.to_writer(writer, ())
+        )
     }
 
     ghost there = { λ r. refl };
@@ -205,7 +201,7 @@ impl LittleFields {
     ];
 }
 
-impl Codec for LittleFields {
+impl CopyParts for LittleFields {
     type Parts = (Le<u16>, Le<u16>, Le<i32>, Le<u32>, Le<u32>, Le<u32>);
 
     ghost parts_of = { λ r. (
@@ -238,16 +234,15 @@ impl Codec for LittleFields {
         }
     }
 
-    fn write<W: Sink>(&self, writer: &mut Writer<W>) -> Result<(), DekuError> {
-        let parts: Self::Parts = (
+    fn parts(&self) -> Self::Parts {
+        (
             Le(self.major),
             Le(self.minor),
             Le(self.zone),
             Le(self.figures),
             Le(self.longest),
             Le(self.network),
-        );
-        parts.to_writer(writer, ())
+        )
     }
 
     ghost there = { λ r. refl };
@@ -271,7 +266,7 @@ impl BigPacket {
     pub const FIELDS: [&'static str; 4] = ["seconds", "fraction", "kept", "whole"];
 }
 
-impl Codec for BigPacket {
+impl CopyParts for BigPacket {
     type Parts = (Be<u32>, Be<u32>, Be<u32>, Be<u32>);
 
     ghost parts_of = { λ r. (be r.seconds, be r.fraction, be r.kept, be r.whole) };
@@ -292,14 +287,13 @@ impl Codec for BigPacket {
         }
     }
 
-    fn write<W: Sink>(&self, writer: &mut Writer<W>) -> Result<(), DekuError> {
-        let parts: Self::Parts = (
+    fn parts(&self) -> Self::Parts {
+        (
             Be(self.seconds),
             Be(self.fraction),
             Be(self.kept),
             Be(self.whole),
-        );
-        parts.to_writer(writer, ())
+        )
     }
 
     ghost there = { λ r. refl };
@@ -323,7 +317,7 @@ impl LittlePacket {
     pub const FIELDS: [&'static str; 4] = ["seconds", "fraction", "kept", "whole"];
 }
 
-impl Codec for LittlePacket {
+impl CopyParts for LittlePacket {
     type Parts = (Le<u32>, Le<u32>, Le<u32>, Le<u32>);
 
     ghost parts_of = { λ r. (le r.seconds, le r.fraction, le r.kept, le r.whole) };
@@ -344,14 +338,13 @@ impl Codec for LittlePacket {
         }
     }
 
-    fn write<W: Sink>(&self, writer: &mut Writer<W>) -> Result<(), DekuError> {
-        let parts: Self::Parts = (
+    fn parts(&self) -> Self::Parts {
+        (
             Le(self.seconds),
             Le(self.fraction),
             Le(self.kept),
             Le(self.whole),
-        );
-        parts.to_writer(writer, ())
+        )
     }
 
     ghost there = { λ r. refl };

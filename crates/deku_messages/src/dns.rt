@@ -25,7 +25,7 @@ ghost use Rattle.deku_symmetry.specs.Fields.{be, msb};
 
 use deku::device::Sink;
 use deku::prelude::{DekuError, DekuWriter, Writer};
-use deku_symmetry::{Be, Codec, CountOf, CountOfLaw, CountedBy, CountedByRef, Msb};
+use deku_symmetry::{Be, Codec, CopyParts, CountOf, CountOfLaw, CountedBy, CountedByRef, Msb};
 use std::marker::PhantomData;
 
 /// The header of a message.
@@ -84,7 +84,7 @@ impl Header {
     ];
 }
 
-impl Codec for Header {
+impl CopyParts for Header {
     type Parts = (
         (
             Be<u16>,
@@ -167,8 +167,8 @@ impl Codec for Header {
         }
     }
 
-    fn write<W: Sink>(&self, writer: &mut Writer<W>) -> Result<(), DekuError> {
-        let parts: Self::Parts = (
+    fn parts(&self) -> Self::Parts {
+        (
             (
                 Be(self.id),
                 Msb(self.is_answer),
@@ -188,8 +188,7 @@ impl Codec for Header {
                 Be(self.authorities),
                 Be(self.additionals),
             ),
-        );
-        parts.to_writer(writer, ())
+        )
     }
 
     ghost there = { λ r. refl };

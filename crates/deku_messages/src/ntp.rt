@@ -21,9 +21,7 @@
 ghost use Rattle.std.specs.Prelude.{refl};
 ghost use Rattle.deku_symmetry.specs.Fields.{be, msb};
 
-use deku::device::Sink;
-use deku::prelude::{DekuError, DekuWriter, Writer};
-use deku_symmetry::{Be, Codec, Msb};
+use deku_symmetry::{Be, CopyParts, Msb};
 
 /// The header of a packet.
 #[derive(Debug, Clone, Copy, PartialEq, Eq)]
@@ -75,7 +73,7 @@ impl Ntp {
     ];
 }
 
-impl Codec for Ntp {
+impl CopyParts for Ntp {
     type Parts = (
         (
             Msb<u8, 2>,
@@ -151,8 +149,8 @@ impl Codec for Ntp {
         }
     }
 
-    fn write<W: Sink>(&self, writer: &mut Writer<W>) -> Result<(), DekuError> {
-        let parts: Self::Parts = (
+    fn parts(&self) -> Self::Parts {
+        (
             (
                 Msb(self.leap),
                 Msb(self.version),
@@ -170,8 +168,7 @@ impl Codec for Ntp {
                 Be(self.receive),
                 Be(self.transmit),
             ),
-        );
-        parts.to_writer(writer, ())
+        )
     }
 
     ghost there = { λ r. refl };

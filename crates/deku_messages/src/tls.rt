@@ -11,9 +11,7 @@
 ghost use Rattle.std.specs.Prelude.{refl};
 ghost use Rattle.deku_symmetry.specs.Fields.{be};
 
-use deku::device::Sink;
-use deku::prelude::{DekuError, DekuWriter, Writer};
-use deku_symmetry::{Be, Codec};
+use deku_symmetry::{Be, CopyParts};
 
 /// The header of a record.
 #[derive(Debug, Clone, Copy, PartialEq, Eq)]
@@ -31,7 +29,7 @@ impl Tls {
     pub const FIELDS: [&'static str; 3] = ["content", "version", "length"];
 }
 
-impl Codec for Tls {
+impl CopyParts for Tls {
     type Parts = (u8, Be<u16>, Be<u16>);
 
     ghost parts_of = { λ r. (r.content, be r.version, be r.length) };
@@ -46,9 +44,8 @@ impl Codec for Tls {
         }
     }
 
-    fn write<W: Sink>(&self, writer: &mut Writer<W>) -> Result<(), DekuError> {
-        let parts: Self::Parts = (self.content, Be(self.version), Be(self.length));
-        parts.to_writer(writer, ())
+    fn parts(&self) -> Self::Parts {
+        (self.content, Be(self.version), Be(self.length))
     }
 
     ghost there = { λ r. refl };

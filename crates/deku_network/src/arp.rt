@@ -17,9 +17,7 @@
 ghost use Rattle.std.specs.Prelude.{nat_eq, codes, refl};
 ghost use Rattle.deku_symmetry.specs.Fields.{be};
 
-use deku::device::Sink;
-use deku::prelude::{DekuError, DekuWriter, Writer};
-use deku_symmetry::{Assert, Be, Check, CheckLaw, Codec};
+use deku_symmetry::{Assert, Be, Check, CheckLaw, CopyParts};
 use std::net::Ipv4Addr;
 
 /// A question who has an address, or the answer.
@@ -152,7 +150,7 @@ impl Arp {
     ];
 }
 
-impl Codec for Arp {
+impl CopyParts for Arp {
     type Parts = (
         (
             Assert<Be<u16>, ArpHardwareValue>,
@@ -232,8 +230,8 @@ impl Codec for Arp {
         }
     }
 
-    fn write<W: Sink>(&self, writer: &mut Writer<W>) -> Result<(), DekuError> {
-        let parts: Self::Parts = (
+    fn parts(&self) -> Self::Parts {
+        (
             (
                 Assert::new(Be(self.hardware)),
                 Assert::new(Be(self.protocol)),
@@ -245,8 +243,7 @@ impl Codec for Arp {
                 self.target_hardware,
             ),
             Be(self.target),
-        );
-        parts.to_writer(writer, ())
+        )
     }
 
     ghost there = { λ r. refl };

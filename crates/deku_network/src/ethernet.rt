@@ -17,9 +17,7 @@
 ghost use Rattle.std.specs.Prelude.{refl};
 ghost use Rattle.deku_symmetry.specs.Fields.{be, msb};
 
-use deku::device::Sink;
-use deku::prelude::{DekuError, DekuWriter, Writer};
-use deku_symmetry::{Be, Codec, Msb};
+use deku_symmetry::{Be, CopyParts, Msb};
 
 /// The header of a frame.
 #[derive(Debug, Clone, Copy, PartialEq, Eq)]
@@ -37,7 +35,7 @@ impl Ethernet {
     pub const FIELDS: [&'static str; 3] = ["destination", "source", "kind"];
 }
 
-impl Codec for Ethernet {
+impl CopyParts for Ethernet {
     type Parts = ([u8; 6], [u8; 6], Be<u16>);
 
     ghost parts_of = { λ r. (r.destination, r.source, be r.kind) };
@@ -52,9 +50,8 @@ impl Codec for Ethernet {
         }
     }
 
-    fn write<W: Sink>(&self, writer: &mut Writer<W>) -> Result<(), DekuError> {
-        let parts: Self::Parts = (self.destination, self.source, Be(self.kind));
-        parts.to_writer(writer, ())
+    fn parts(&self) -> Self::Parts {
+        (self.destination, self.source, Be(self.kind))
     }
 
     ghost there = { λ r. refl };
@@ -78,7 +75,7 @@ impl Tag {
     pub const FIELDS: [&'static str; 4] = ["priority", "may_drop", "network", "kind"];
 }
 
-impl Codec for Tag {
+impl CopyParts for Tag {
     type Parts = (Msb<u8, 3>, Msb<bool, 1>, Msb<u16, 12>, Be<u16>);
 
     ghost parts_of = { λ r. (msb r.priority, msb r.may_drop, msb r.network, be r.kind) };
@@ -99,14 +96,13 @@ impl Codec for Tag {
         }
     }
 
-    fn write<W: Sink>(&self, writer: &mut Writer<W>) -> Result<(), DekuError> {
-        let parts: Self::Parts = (
+    fn parts(&self) -> Self::Parts {
+        (
             Msb(self.priority),
             Msb(self.may_drop),
             Msb(self.network),
             Be(self.kind),
-        );
-        parts.to_writer(writer, ())
+        )
     }
 
     ghost there = { λ r. refl };

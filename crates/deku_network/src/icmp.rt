@@ -18,9 +18,7 @@ ghost use Rattle.deku_symmetry.specs.Fields.{be};
 ghost use Rattle.deku_pieces.specs.declared.either.Either.TheVariants as either;
 ghost use Rattle.deku_network.specs.declared.icmp.Icmp.TheVariants as icmp_kinds;
 
-use deku::device::Sink;
-use deku::prelude::{DekuError, DekuWriter, Writer};
-use deku_symmetry::{Be, Codec, Either, Enum, InRange, Kind, MsbEnum, Otherwise};
+use deku_symmetry::{Be, CopyParts, Either, Enum, InRange, Kind, MsbEnum, Otherwise};
 
 /// The beginning of a message, by its kind.
 #[derive(Debug, Clone, Copy, PartialEq, Eq)]
@@ -56,7 +54,7 @@ pub enum Icmp {
     Other(u64, u8, u16),
 }
 
-impl Codec for Icmp {
+impl CopyParts for Icmp {
     type Parts = MsbEnum<
         Either<
             Either<
@@ -156,8 +154,8 @@ impl Codec for Icmp {
         }
     }
 
-    fn write<W: Sink>(&self, writer: &mut Writer<W>) -> Result<(), DekuError> {
-        let parts: Self::Parts = match self {
+    fn parts(&self) -> Self::Parts {
+        match self {
             Icmp::EchoReply {
                 code,
                 checksum,
@@ -214,8 +212,7 @@ impl Codec for Icmp {
                     value: (*field_1, Be(*field_2)),
                 }))
             }
-        };
-        parts.to_writer(writer, ())
+        }
     }
 
     ghost there = { elim [

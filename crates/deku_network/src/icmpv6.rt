@@ -16,9 +16,7 @@ ghost use Rattle.deku_symmetry.specs.Fields.{be};
 ghost use Rattle.deku_pieces.specs.declared.either.Either.TheVariants as either;
 ghost use Rattle.deku_network.specs.declared.icmpv6.Icmpv6.TheVariants as icmpv6_kinds;
 
-use deku::device::Sink;
-use deku::prelude::{DekuError, DekuWriter, Writer};
-use deku_symmetry::{Be, Codec, Either, Enum, InRange, Kind, MsbEnum, Otherwise};
+use deku_symmetry::{Be, CopyParts, Either, Enum, InRange, Kind, MsbEnum, Otherwise};
 
 /// The beginning of a message, by its kind.
 #[derive(Debug, Clone, Copy, PartialEq, Eq)]
@@ -53,7 +51,7 @@ pub enum Icmpv6 {
     Other(u64, u8, u16),
 }
 
-impl Codec for Icmpv6 {
+impl CopyParts for Icmpv6 {
     type Parts = MsbEnum<
         Either<
             Either<
@@ -151,8 +149,8 @@ impl Codec for Icmpv6 {
         }
     }
 
-    fn write<W: Sink>(&self, writer: &mut Writer<W>) -> Result<(), DekuError> {
-        let parts: Self::Parts = match self {
+    fn parts(&self) -> Self::Parts {
+        match self {
             Icmpv6::Unreachable {
                 code,
                 checksum,
@@ -207,8 +205,7 @@ impl Codec for Icmpv6 {
                     value: (*field_1, Be(*field_2)),
                 }))
             }
-        };
-        parts.to_writer(writer, ())
+        }
     }
 
     ghost there = { elim [

@@ -20,7 +20,8 @@ ghost use Rattle.deku_symmetry.specs.Fields.{be, msb};
 use deku::device::Sink;
 use deku::prelude::{DekuError, DekuWriter, Writer};
 use deku_symmetry::{
-    Assert, Be, Check, CheckLaw, Codec, CountOf, CountOfLaw, CountedBy, CountedByRef, Msb,
+    Assert, Be, Check, CheckLaw, Codec, CopyParts, CountOf, CountOfLaw, CountedBy, CountedByRef,
+    Msb,
 };
 use std::marker::PhantomData;
 use std::net::Ipv6Addr;
@@ -83,7 +84,7 @@ impl Ipv6 {
     ];
 }
 
-impl Codec for Ipv6 {
+impl CopyParts for Ipv6 {
     type Parts = (
         Assert<Msb<u8, 4>, Ipv6VersionValue>,
         u8,
@@ -143,8 +144,8 @@ impl Codec for Ipv6 {
         }
     }
 
-    fn write<W: Sink>(&self, writer: &mut Writer<W>) -> Result<(), DekuError> {
-        let parts: Self::Parts = (
+    fn parts(&self) -> Self::Parts {
+        (
             Assert::new(Msb(self.version)),
             self.class,
             Msb(self.flow),
@@ -153,8 +154,7 @@ impl Codec for Ipv6 {
             self.hops,
             Be(self.source),
             Be(self.destination),
-        );
-        parts.to_writer(writer, ())
+        )
     }
 
     ghost there = { λ r. refl };
@@ -352,7 +352,7 @@ impl Fragment {
     ];
 }
 
-impl Codec for Fragment {
+impl CopyParts for Fragment {
     type Parts = (u8, u8, Msb<u16, 13>, Msb<u8, 2>, Msb<bool, 1>, Be<u32>);
 
     ghost parts_of = { λ r. (
@@ -385,16 +385,15 @@ impl Codec for Fragment {
         }
     }
 
-    fn write<W: Sink>(&self, writer: &mut Writer<W>) -> Result<(), DekuError> {
-        let parts: Self::Parts = (
+    fn parts(&self) -> Self::Parts {
+        (
             self.next,
             self.reserved,
             Msb(self.offset),
             Msb(self.unused),
             Msb(self.more),
             Be(self.identification),
-        );
-        parts.to_writer(writer, ())
+        )
     }
 
     ghost there = { λ r. refl };

@@ -16,8 +16,8 @@ ghost use Rattle.deku_symmetry.specs.Fields.{be};
 use deku::device::Sink;
 use deku::prelude::{DekuError, DekuWriter, Writer};
 use deku_symmetry::{
-    Be, Codec, Coded, Condition, ConditionLaw, CountOf, CountOfLaw, CountedBy, CountedByRef,
-    Optional, OptionalRef,
+    Be, Codec, Coded, Condition, ConditionLaw, CopyParts, CountOf, CountOfLaw, CountedBy,
+    CountedByRef, Optional, OptionalRef,
 };
 use std::marker::PhantomData;
 
@@ -154,7 +154,7 @@ impl LargestSegment {
     pub const FIELDS: [&'static str; 1] = ["size"];
 }
 
-impl Codec for LargestSegment {
+impl CopyParts for LargestSegment {
     type Parts = Be<u16>;
 
     ghost parts_of = { λ r. be r.size };
@@ -165,9 +165,8 @@ impl Codec for LargestSegment {
         LargestSegment { size }
     }
 
-    fn write<W: Sink>(&self, writer: &mut Writer<W>) -> Result<(), DekuError> {
-        let parts: Self::Parts = Be(self.size);
-        parts.to_writer(writer, ())
+    fn parts(&self) -> Self::Parts {
+        Be(self.size)
     }
 
     ghost there = { λ r. refl };
@@ -185,7 +184,7 @@ impl WindowScale {
     pub const FIELDS: [&'static str; 1] = ["shift"];
 }
 
-impl Codec for WindowScale {
+impl CopyParts for WindowScale {
     type Parts = u8;
 
     ghost parts_of = { λ r. r.shift };
@@ -196,9 +195,8 @@ impl Codec for WindowScale {
         WindowScale { shift }
     }
 
-    fn write<W: Sink>(&self, writer: &mut Writer<W>) -> Result<(), DekuError> {
-        let parts: Self::Parts = self.shift;
-        parts.to_writer(writer, ())
+    fn parts(&self) -> Self::Parts {
+        self.shift
     }
 
     ghost there = { λ r. refl };
@@ -218,7 +216,7 @@ impl Block {
     pub const FIELDS: [&'static str; 2] = ["left", "right"];
 }
 
-impl Codec for Block {
+impl CopyParts for Block {
     type Parts = (Be<u32>, Be<u32>);
 
     ghost parts_of = { λ r. (be r.left, be r.right) };
@@ -229,9 +227,8 @@ impl Codec for Block {
         Block { left, right }
     }
 
-    fn write<W: Sink>(&self, writer: &mut Writer<W>) -> Result<(), DekuError> {
-        let parts: Self::Parts = (Be(self.left), Be(self.right));
-        parts.to_writer(writer, ())
+    fn parts(&self) -> Self::Parts {
+        (Be(self.left), Be(self.right))
     }
 
     ghost there = { λ r. refl };
@@ -251,7 +248,7 @@ impl Times {
     pub const FIELDS: [&'static str; 2] = ["value", "echo"];
 }
 
-impl Codec for Times {
+impl CopyParts for Times {
     type Parts = (Be<u32>, Be<u32>);
 
     ghost parts_of = { λ r. (be r.value, be r.echo) };
@@ -262,9 +259,8 @@ impl Codec for Times {
         Times { value, echo }
     }
 
-    fn write<W: Sink>(&self, writer: &mut Writer<W>) -> Result<(), DekuError> {
-        let parts: Self::Parts = (Be(self.value), Be(self.echo));
-        parts.to_writer(writer, ())
+    fn parts(&self) -> Self::Parts {
+        (Be(self.value), Be(self.echo))
     }
 
     ghost there = { λ r. refl };

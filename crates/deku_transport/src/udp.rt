@@ -12,9 +12,7 @@
 ghost use Rattle.std.specs.Prelude.{refl};
 ghost use Rattle.deku_symmetry.specs.Fields.{be};
 
-use deku::device::Sink;
-use deku::prelude::{DekuError, DekuWriter, Writer};
-use deku_symmetry::{Be, Codec};
+use deku_symmetry::{Be, CopyParts};
 
 /// The header of a datagram.
 #[derive(Debug, Clone, Copy, PartialEq, Eq)]
@@ -34,7 +32,7 @@ impl Udp {
     pub const FIELDS: [&'static str; 4] = ["source", "destination", "length", "checksum"];
 }
 
-impl Codec for Udp {
+impl CopyParts for Udp {
     type Parts = (Be<u16>, Be<u16>, Be<u16>, Be<u16>);
 
     ghost parts_of = { λ r. (be r.source, be r.destination, be r.length, be r.checksum) };
@@ -55,14 +53,13 @@ impl Codec for Udp {
         }
     }
 
-    fn write<W: Sink>(&self, writer: &mut Writer<W>) -> Result<(), DekuError> {
-        let parts: Self::Parts = (
+    fn parts(&self) -> Self::Parts {
+        (
             Be(self.source),
             Be(self.destination),
             Be(self.length),
             Be(self.checksum),
-        );
-        parts.to_writer(writer, ())
+        )
     }
 
     ghost there = { λ r. refl };
