@@ -1,0 +1,179 @@
+//! A name of the domain name system as it lies in a message, RFC 1035, sections 3.1 and 4.1.4.
+//!
+//! ```text
+//! length  8 bits  0: the empty label, which ends the name
+//!                 1 to 63: as many bytes follow
+//!                 192 to 255: one byte follows, and both say where in the message the rest of the
+//!                 name is: a pointer, which ends the name too
+//! bytes   as many bytes
+//! ```
+
+ghost use Rattle.std.specs.Prelude.{refl, nat_lt, nat_le, Some, None, nat_eq, ◌||◌, pos, if◌then◌else◌};
+ghost use Rattle.std.proofs.Common.{arith};
+ghost use Rattle.deku.specs.Outcomes.{Mapped};
+ghost use Rattle.deku_num.specs.Numbers.{byte};
+ghost use Rattle.deku_pieces.specs.Pieces.{plain};
+ghost use Rattle.deku_pieces.proofs.Ending.{first_wide, number_wide};
+
+use deku::device::{Sink, Source};
+use deku::prelude::{
+    DekuContainerRead, DekuContainerWrite, DekuError, DekuReader, DekuWriter, Reader, Writer,
+};
+use deku_symmetry::{
+    Counted, FromParts, ItemCount, ItemCountLaw, Last, LastLaw, Record, ToParts, Until,
+    read_record, write_counted, write_record,
+};
+
+/// A name: its labels, of which the last is empty or a pointer.
+pub type Name = Until<Label>;
+
+/// The first byte of a label. 64 to 191 are reserved, and are rejected.
+#[derive(Debug, PartialEq, Eq, Drop)]
+pub struct Length(pub u8);
+
+impl FromParts<()> for Length {
+    type Parts = u8;
+
+    ghost parts_of = { λ r. r.0 };
+
+    ghost record_of = { λ p. record { 0 = p } };
+
+    fn from_parts(parts: Self::Parts) -> Self {
+        Length(parts)
+    }
+
+    ghost there = { λ r. refl };
+}
+
+impl ToParts<()> for Length {
+    fn parts(&self) -> Self::Parts {
+        self.0
+    }
+}
+
+/// As many bytes as the length says, or one for a pointer.
+impl ItemCount for Length {
+    ghost count_of = { λ l. if nat_lt l.0 64 then Some l.0
+        else (if nat_lt l.0 192 then None else Some 1) };
+
+    fn count(&self) -> Option<usize> {
+        if self.0 < 64 {
+            Some(self.0 as usize)
+        } else if self.0 < 192 {
+            None
+        } else {
+            Some(1)
+        }
+    }
+}
+
+impl ItemCountLaw for Length {
+    ghost alike = { λ v w e. rw e refl };
+}
+
+impl Record for Length {
+    ghost back = { λ p ps h. refl };
+
+    ghost reads = { λ b s r u m. m };
+
+    ghost writes = { λ v b s r u m. m };
+}
+
+impl DekuReader<()> for Length {
+    ghost meaning = { λ _. Mapped ⟦<Length as FromParts<()>>⟧.record_of
+        (⟦<u8 as DekuReader<()>>⟧.meaning tt) };
+
+    fn from_reader_with_ctx<R: Source>(
+        reader: &mut Reader<R>,
+        _ctx: (),
+    ) -> Result<Self, DekuError> {
+        read_record(reader, ())
+    }
+}
+
+impl DekuWriter<()> for Length {
+    ghost meaning = { λ v _. ⟦<u8 as DekuWriter<()>>⟧.meaning
+        (⟦<Length as FromParts<()>>⟧.parts_of v) tt };
+
+    fn to_writer<W: Sink>(&self, writer: &mut Writer<W>, _ctx: ()) -> Result<(), DekuError> {
+        write_record(self, writer, ())
+    }
+}
+
+/// A label, or a pointer to the rest of the name.
+#[derive(Debug, PartialEq, Eq, Drop)]
+pub struct Label {
+    /// How many bytes there are, at most 63; of a pointer 192 and the high six bits.
+    pub length: u8,
+    /// The bytes; of a pointer the low eight bits.
+    pub bytes: Vec<u8>,
+}
+
+// The length, and as many bytes as it says.
+type Parts = Counted<Length, u8>;
+
+impl FromParts<()> for Label {
+    type Parts = Parts;
+
+    ghost parts_of = { λ r. record { head = record { 0 = r.length }; items = r.bytes } };
+
+    ghost record_of = { λ p. record { length = p.head.0; bytes = p.items } };
+
+    fn from_parts(parts: Self::Parts) -> Self {
+        Label {
+            length: parts.head.0,
+            bytes: parts.items,
+        }
+    }
+
+    ghost there = { λ r. refl };
+}
+
+impl Record for Label {
+    ghost back = { λ p ps h. refl };
+
+    ghost reads = { λ b s r u m. m };
+
+    ghost writes = { λ v b s r u m. m };
+}
+
+impl DekuReader<()> for Label {
+    ghost meaning = { λ _. Mapped ⟦<Label as FromParts<()>>⟧.record_of
+        (⟦<Parts as DekuReader<()>>⟧.meaning tt) };
+
+    fn from_reader_with_ctx<R: Source>(
+        reader: &mut Reader<R>,
+        _ctx: (),
+    ) -> Result<Self, DekuError> {
+        read_record(reader, ())
+    }
+}
+
+impl DekuWriter<()> for Label {
+    ghost meaning = { λ v _. ⟦<Parts as DekuWriter<()>>⟧.meaning
+        (⟦<Label as FromParts<()>>⟧.parts_of v) tt };
+
+    fn to_writer<W: Sink>(&self, writer: &mut Writer<W>, _ctx: ()) -> Result<(), DekuError> {
+        write_counted(&Length(self.length), &self.bytes, writer)
+    }
+}
+
+/// The empty label and a pointer end a name.
+impl Last for Label {
+    ghost last_of = { λ l. nat_eq l.length 0 || nat_le 192 l.length };
+
+    fn is_last(&self) -> bool {
+        self.length == 0 || self.length >= 192
+    }
+}
+
+impl LastLaw for Label {
+    ghost alike = { λ v w e. rw e.0 refl };
+
+    ghost wide = { λ v ps p. first_wide (λ qs q. number_wide byte plain (pos v.length)
+        (omega (arith)) qs q) ps p };
+}
+
+impl DekuContainerRead for Label {}
+
+impl DekuContainerWrite for Label {}

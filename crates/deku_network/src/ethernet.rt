@@ -1,0 +1,109 @@
+//! The header of an Ethernet frame and the tag of a virtual network, IEEE 802.3 and 802.1Q.
+//!
+//! ```text
+//! destination  48 bits
+//! source       48 bits
+//! kind         16 bits   what follows: 0800 IPv4, 0806 ARP, 86DD IPv6, 8100 and 88A8 a tag;
+//!                        less than 1536: how many bytes follow
+//!
+//! priority      3 bits
+//! may_drop      1 bit
+//! network      12 bits
+//! kind         16 bits   what follows the tag
+//! ```
+//!
+//! Printed by `derive` from `ethernet.rs`.
+
+ghost use Rattle.std.specs.Prelude.{refl};
+ghost use Rattle.deku_symmetry.specs.Fields.{be, msb};
+
+use deku_symmetry::{Be, CopyParts, Msb};
+
+/// The header of a frame.
+#[derive(Debug, Clone, Copy, PartialEq, Eq)]
+pub struct Ethernet {
+    /// The address of the receiver.
+    pub destination: [u8; 6],
+    /// The address of the sender.
+    pub source: [u8; 6],
+    /// What follows, or how many bytes if it is less than 1536.
+    pub kind: u16,
+}
+
+impl Ethernet {
+    /// The names of its parts, in their order.
+    pub const FIELDS: [&'static str; 3] = ["destination", "source", "kind"];
+}
+
+impl CopyParts for Ethernet {
+    type Parts = ([u8; 6], [u8; 6], Be<u16>);
+
+    ghost parts_of = { λ r. (r.destination, r.source, be r.kind) };
+
+    ghost record_of = { λ p. record { destination = p.0; source = p.1; kind = p.2.0 } };
+
+    fn from_parts((destination, source, Be(kind)): Self::Parts) -> Self {
+        Ethernet {
+            destination,
+            source,
+            kind,
+        }
+    }
+
+    fn parts(&self) -> Self::Parts {
+        (self.destination, self.source, Be(self.kind))
+    }
+
+    ghost there = { λ r. refl };
+}
+
+/// The tag of a virtual network.
+#[derive(Debug, Clone, Copy, PartialEq, Eq)]
+pub struct Tag {
+    /// How urgent the frame is, 3 bits.
+    pub priority: u8,
+    /// Whether the frame may be dropped before others.
+    pub may_drop: bool,
+    /// The number of the network, 12 bits.
+    pub network: u16,
+    /// What follows the tag.
+    pub kind: u16,
+}
+
+impl Tag {
+    /// The names of its parts, in their order.
+    pub const FIELDS: [&'static str; 4] = ["priority", "may_drop", "network", "kind"];
+}
+
+impl CopyParts for Tag {
+    type Parts = (Msb<u8, 3>, Msb<bool, 1>, Msb<u16, 12>, Be<u16>);
+
+    ghost parts_of = { λ r. (msb r.priority, msb r.may_drop, msb r.network, be r.kind) };
+
+    ghost record_of = { λ p. record {
+      priority = p.0.0;
+      may_drop = p.1.0;
+      network = p.2.0;
+      kind = p.3.0;
+    } };
+
+    fn from_parts((Msb(priority), Msb(may_drop), Msb(network), Be(kind)): Self::Parts) -> Self {
+        Tag {
+            priority,
+            may_drop,
+            network,
+            kind,
+        }
+    }
+
+    fn parts(&self) -> Self::Parts {
+        (
+            Msb(self.priority),
+            Msb(self.may_drop),
+            Msb(self.network),
+            Be(self.kind),
+        )
+    }
+
+    ghost there = { λ r. refl };
+}

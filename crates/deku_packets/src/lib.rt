@@ -1,0 +1,13 @@
+//! Packets of a capture, layer by layer: read, and written back.
+#![tactic(auto)]
+
+pub mod check;
+pub mod fields;
+pub mod layer;
+pub mod messages;
+pub mod name;
+mod next;
+mod options;
+pub mod packet;
+mod read;
+mod walk;

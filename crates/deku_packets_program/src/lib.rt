@@ -1,0 +1,17 @@
+//! The program `packets`: what is in each packet of a capture.
+#![tactic(auto)]
+
+mod answers;
+mod capture;
+mod failure;
+mod json;
+mod line;
+mod members;
+mod names;
+mod program;
+mod progress;
+mod shown;
+mod values;
+
+pub use program::{Wanted, run};
+pub use progress::Progress;

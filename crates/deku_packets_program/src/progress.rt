@@ -1,0 +1,50 @@
+//! Progress of a large input.
+
+use deku_program::give_text;
+use itoa::Buffer;
+use std::io;
+use std::io::{Read, Write};
+
+/// A reader that prints how much of its input is read, in percent, each time that this changes.
+#[derive(Drop)]
+pub struct Progress<R, E> {
+    inner: R,
+    errors: E,
+    size: u64,
+    read: u64,
+}
+
+impl<R: Read, E: Write> Progress<R, E> {
+    /// Over an input of this size.
+    pub fn new(inner: R, errors: E, size: u64) -> Progress<R, E> {
+        Progress {
+            inner,
+            errors,
+            size,
+            read: 0,
+        }
+    }
+
+    // How much is read, in percent.
+    fn percent(&self) -> u64 {
+        let hundredth = (self.size / 100).max(1);
+        (self.read / hundredth).min(100)
+    }
+}
+
+impl<R: Read, E: Write> Read for Progress<R, E> {
+    fn read(&mut self, buf: &mut [u8]) -> io::Result<usize> {
+        let before = self.percent();
+        let count = self.inner.read(buf)?;
+        self.read = self.read.saturating_add(count as u64);
+        let after = self.percent();
+        if before != after {
+            let mut digits = Buffer::new();
+            let end = if after == 100 { "%\n" } else { "%" };
+            for text in ["\r", digits.format(after), end] {
+                let _ = give_text(&mut self.errors, text.as_bytes());
+            }
+        }
+        Ok(count)
+    }
+}

@@ -1,0 +1,9 @@
+//! Tests of packets, and of the program that shows them.
+#![tactic(auto)]
+
+#[cfg(test)]
+mod cut;
+#[cfg(test)]
+mod records;
+#[cfg(test)]
+mod refused;

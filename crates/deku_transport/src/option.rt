@@ -1,0 +1,267 @@
+//! An option of a TCP segment, RFC 9293, and what the known kinds hold: RFC 7323 and RFC 2018.
+//!
+//! ```text
+//! kind      8 bits   0 ends the options, 1 does nothing: these are single bytes;
+//!                    2 the largest segment, 3 the scale of the window, 4 selective
+//!                    acknowledgments are permitted, 5 such ones, 8 times
+//! length    8 bits   the bytes of the option, with the kind and the length
+//! data      as many bytes as are left
+//! ```
+//!
+//! Printed by `derive` from `option.rs`.
+
+ghost use Rattle.std.specs.Prelude.{◌-◌, nat_lt, None, Some, if◌then◌else◌, refl};
+ghost use Rattle.deku_symmetry.specs.Fields.{be};
+
+use deku::device::Sink;
+use deku::prelude::{DekuError, DekuWriter, Writer};
+use deku_symmetry::{
+    Be, Codec, Coded, Condition, ConditionLaw, CopyParts, CountOf, CountOfLaw, CountedBy,
+    CountedByRef, Optional, OptionalRef,
+};
+use std::marker::PhantomData;
+
+/// An option of any kind.
+#[derive(Debug, PartialEq, Eq, Drop)]
+pub struct TcpOption {
+    /// What it says. 0 and 1 are single bytes.
+    pub kind: u8,
+    /// What follows the kind.
+    pub tail: Option<Coded<Tail>>,
+}
+
+/// Whether `tail` is there: `kind > 1`.
+#[derive(Debug, PartialEq, Eq, Drop)]
+pub struct TcpOptionTailCondition;
+
+impl Condition<u8> for TcpOptionTailCondition {
+    ghost shows = { λ p. nat_lt 1 p };
+
+    fn shows(parts: &u8) -> bool {
+        let kind = *parts;
+        kind > 1
+    }
+}
+
+impl ConditionLaw<u8> for TcpOptionTailCondition {
+    ghost alike = { λ v w e. rw e refl };
+}
+
+impl TcpOption {
+    /// The names of its parts, in their order.
+    pub const FIELDS: [&'static str; 2] = ["kind", "tail"];
+}
+
+impl Codec for TcpOption {
+    type Parts = Optional<u8, TcpOptionTailCondition, Coded<Tail>>;
+
+    ghost parts_of = { λ r. record { head = r.kind; item = r.tail; condition = record {} } };
+
+    ghost record_of = { λ p. record { kind = p.head; tail = p.item } };
+
+    fn from_parts(parts: Self::Parts) -> Self {
+        let Optional {
+            head: kind,
+            item: tail,
+            ..
+        } = parts;
+        TcpOption { kind, tail }
+    }
+
+    fn write<W: Sink>(&self, writer: &mut Writer<W>) -> Result<(), DekuError> {
+        let parts = OptionalRef::<_, TcpOptionTailCondition, _> {
+            head: self.kind,
+            item: &self.tail,
+            condition: PhantomData,
+        };
+        parts.to_writer(writer, ())
+    }
+
+    ghost there = { λ r. refl };
+}
+
+/// The length of an option, and its data.
+#[derive(Debug, PartialEq, Eq, Drop)]
+pub struct Tail {
+    /// The bytes of the option: two more than its data has.
+    pub length: u8,
+    /// What the kind says.
+    pub bytes: Vec<u8>,
+}
+
+/// How many `bytes` there are: `length - 2`.
+#[derive(Debug, PartialEq, Eq, Drop)]
+pub struct TailBytesCount;
+
+impl CountOf<u8> for TailBytesCount {
+    ghost count_of = { λ p. if nat_lt p 2 then None else Some (p - 2) };
+
+    fn count(parts: &u8) -> Option<usize> {
+        let length = *parts as usize;
+        if length < 2 {
+            return None;
+        }
+        Some(length - 2)
+    }
+}
+
+impl CountOfLaw<u8> for TailBytesCount {
+    ghost alike = { λ v w e. rw e refl };
+}
+
+impl Tail {
+    /// The names of its parts, in their order.
+    pub const FIELDS: [&'static str; 2] = ["length", "bytes"];
+}
+
+impl Codec for Tail {
+    type Parts = CountedBy<u8, TailBytesCount, u8>;
+
+    ghost parts_of = { λ r. record { head = r.length; items = r.bytes; count = record {} } };
+
+    ghost record_of = { λ p. record { length = p.head; bytes = p.items } };
+
+    fn from_parts(parts: Self::Parts) -> Self {
+        let CountedBy {
+            head: length,
+            items: bytes,
+            ..
+        } = parts;
+        Tail { length, bytes }
+    }
+
+    fn write<W: Sink>(&self, writer: &mut Writer<W>) -> Result<(), DekuError> {
+        let parts = CountedByRef::<_, TailBytesCount, _> {
+            head: self.length,
+            items: &self.bytes,
+            count: PhantomData,
+        };
+        parts.to_writer(writer, ())
+    }
+
+    ghost there = { λ r. refl };
+}
+
+/// The data of kind 2.
+#[derive(Debug, Clone, Copy, PartialEq, Eq)]
+pub struct LargestSegment {
+    /// The most bytes of a segment that the sender can take.
+    pub size: u16,
+}
+
+impl LargestSegment {
+    /// The names of its parts, in their order.
+    pub const FIELDS: [&'static str; 1] = ["size"];
+}
+
+impl CopyParts for LargestSegment {
+    type Parts = Be<u16>;
+
+    ghost parts_of = { λ r. be r.size };
+
+    ghost record_of = { λ p. record { size = p.0 } };
+
+    fn from_parts(Be(size): Self::Parts) -> Self {
+        LargestSegment { size }
+    }
+
+    fn parts(&self) -> Self::Parts {
+        Be(self.size)
+    }
+
+    ghost there = { λ r. refl };
+}
+
+/// The data of kind 3.
+#[derive(Debug, Clone, Copy, PartialEq, Eq)]
+pub struct WindowScale {
+    /// By how many bits the window is shifted to the left.
+    pub shift: u8,
+}
+
+impl WindowScale {
+    /// The names of its parts, in their order.
+    pub const FIELDS: [&'static str; 1] = ["shift"];
+}
+
+impl CopyParts for WindowScale {
+    type Parts = u8;
+
+    ghost parts_of = { λ r. r.shift };
+
+    ghost record_of = { λ p. record { shift = p } };
+
+    fn from_parts(shift: Self::Parts) -> Self {
+        WindowScale { shift }
+    }
+
+    fn parts(&self) -> Self::Parts {
+        self.shift
+    }
+
+    ghost there = { λ r. refl };
+}
+
+/// One block of kind 5: bytes that came out of order.
+#[derive(Debug, Clone, Copy, PartialEq, Eq)]
+pub struct Block {
+    /// The number of the first byte.
+    pub left: u32,
+    /// The number after that of the last byte.
+    pub right: u32,
+}
+
+impl Block {
+    /// The names of its parts, in their order.
+    pub const FIELDS: [&'static str; 2] = ["left", "right"];
+}
+
+impl CopyParts for Block {
+    type Parts = (Be<u32>, Be<u32>);
+
+    ghost parts_of = { λ r. (be r.left, be r.right) };
+
+    ghost record_of = { λ p. record { left = p.0.0; right = p.1.0 } };
+
+    fn from_parts((Be(left), Be(right)): Self::Parts) -> Self {
+        Block { left, right }
+    }
+
+    fn parts(&self) -> Self::Parts {
+        (Be(self.left), Be(self.right))
+    }
+
+    ghost there = { λ r. refl };
+}
+
+/// The data of kind 8.
+#[derive(Debug, Clone, Copy, PartialEq, Eq)]
+pub struct Times {
+    /// The clock of the sender.
+    pub value: u32,
+    /// The newest clock that came from the other side.
+    pub echo: u32,
+}
+
+impl Times {
+    /// The names of its parts, in their order.
+    pub const FIELDS: [&'static str; 2] = ["value", "echo"];
+}
+
+impl CopyParts for Times {
+    type Parts = (Be<u32>, Be<u32>);
+
+    ghost parts_of = { λ r. (be r.value, be r.echo) };
+
+    ghost record_of = { λ p. record { value = p.0.0; echo = p.1.0 } };
+
+    fn from_parts((Be(value), Be(echo)): Self::Parts) -> Self {
+        Times { value, echo }
+    }
+
+    fn parts(&self) -> Self::Parts {
+        (Be(self.value), Be(self.echo))
+    }
+
+    ghost there = { λ r. refl };
+}
