@@ -176,7 +176,8 @@ fn mail_server<S: Serializer>(
     x: &MailServer,
     out: &mut S,
 ) -> Result<(), S::Error> {
-    members(&MAIL_SERVER, &[Number(x.preference as u64)], out)?;
+    members(&MAIL_SERVER, &[], out)?;
+    member("preference", Number(x.preference as u64), out)?;
     let at = placed.start.saturating_add(2);
     member("name", Name(name_of(shown, placed, at)), out)
 }

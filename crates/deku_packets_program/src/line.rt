@@ -23,10 +23,10 @@ use std::net::{Ipv4Addr, Ipv6Addr};
 /// bytes from index `at` on.
 pub fn add_packet(text: &mut String, shown: &Shown<'_>) -> Result<(), AllocError> {
     add_time(text, shown.format, shown.captured)?;
-    let mut layers = shown.packet.layers.as_slice();
-    while let [placed, more @ ..] = layers {
+    let layers = shown.packet.layers.as_slice();
+    for (index, placed) in layers.iter().enumerate() {
+        let more = layers.get(index + 1..).unwrap_or(&[]);
         add_layer(text, shown, placed, more)?;
-        layers = more;
     }
     add_length(text, shown.captured)?;
     if let Some(verdict) = shown.verdict {

@@ -108,6 +108,12 @@ fn arp<S: Serializer>(x: &Arp, out: &mut S) -> Result<(), S::Error> {
 
 // The header of an IPv4 packet.
 fn ipv4<S: Serializer>(x: &Ipv4, out: &mut S) -> Result<(), S::Error> {
+    ipv4_places(x, out)?;
+    member("options", Bytes(&x.options), out)
+}
+
+// Its fields of fixed places.
+fn ipv4_places<S: Serializer>(x: &Ipv4, out: &mut S) -> Result<(), S::Error> {
     members(
         &IPV4,
         &[
@@ -128,8 +134,7 @@ fn ipv4<S: Serializer>(x: &Ipv4, out: &mut S) -> Result<(), S::Error> {
             V4(x.destination),
         ],
         out,
-    )?;
-    member("options", Bytes(&x.options), out)
+    )
 }
 
 // The header of an IPv6 packet.
@@ -152,26 +157,19 @@ fn ipv6<S: Serializer>(x: &Ipv6, out: &mut S) -> Result<(), S::Error> {
 
 // An extension header with options.
 fn options<S: Serializer>(x: &Options, out: &mut S) -> Result<(), S::Error> {
-    members(
-        &OPTIONS,
-        &[Number(x.next as u64), Number(x.length as u64)],
-        out,
-    )?;
+    members(&OPTIONS, &[], out)?;
+    member("next", Number(x.next as u64), out)?;
+    member("length", Number(x.length as u64), out)?;
     member("options", Bytes(&x.options), out)
 }
 
 // The extension header that lists routers.
 fn routing<S: Serializer>(x: &Routing, out: &mut S) -> Result<(), S::Error> {
-    members(
-        &ROUTING,
-        &[
-            Number(x.next as u64),
-            Number(x.length as u64),
-            Number(x.kind as u64),
-            Number(x.left as u64),
-        ],
-        out,
-    )?;
+    members(&ROUTING, &[], out)?;
+    member("next", Number(x.next as u64), out)?;
+    member("length", Number(x.length as u64), out)?;
+    member("kind", Number(x.kind as u64), out)?;
+    member("left", Number(x.left as u64), out)?;
     member("route", Bytes(&x.route), out)
 }
 
@@ -305,6 +303,12 @@ fn udp<S: Serializer>(x: &Udp, out: &mut S) -> Result<(), S::Error> {
 
 // The header of a segment.
 fn tcp<S: Serializer>(x: &Tcp, out: &mut S) -> Result<(), S::Error> {
+    tcp_places(x, out)?;
+    member("options", Bytes(&x.options), out)
+}
+
+// Its fields of fixed places.
+fn tcp_places<S: Serializer>(x: &Tcp, out: &mut S) -> Result<(), S::Error> {
     members(
         &TCP,
         &[
@@ -327,6 +331,5 @@ fn tcp<S: Serializer>(x: &Tcp, out: &mut S) -> Result<(), S::Error> {
             Number(x.urgent as u64),
         ],
         out,
-    )?;
-    member("options", Bytes(&x.options), out)
+    )
 }

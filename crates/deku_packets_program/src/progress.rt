@@ -1,6 +1,6 @@
 //! Progress of a large input.
 
-use deku_program::give_text;
+use deku_program::{give_parts, give_text};
 use itoa::Buffer;
 use std::io;
 use std::io::{Read, Write};
@@ -39,12 +39,17 @@ impl<R: Read, E: Write> Read for Progress<R, E> {
         self.read = self.read.saturating_add(count as u64);
         let after = self.percent();
         if before != after {
-            let mut digits = Buffer::new();
-            let end = if after == 100 { "%\n" } else { "%" };
-            for text in ["\r", digits.format(after), end] {
-                let _ = give_text(&mut self.errors, text.as_bytes());
-            }
+            show_percent(&mut self.errors, after);
         }
         Ok(count)
+    }
+}
+
+// Prints how much is read, over what was printed before.
+fn show_percent<E: Write>(errors: &mut E, percent: u64) {
+    let mut digits = Buffer::new();
+    let _ = give_parts(errors, &["\r", digits.format(percent), "%"]);
+    if percent == 100 {
+        let _ = give_text(errors, b"\n");
     }
 }
