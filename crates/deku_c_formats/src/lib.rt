@@ -1,11 +1,9 @@
-//! Records of fixed size, of `deku_formats`, `deku_dns`, `deku_elf` and `deku_instructions`, for C.
+//! Headers of fixed size, as in `deku_formats` and `deku_dns`, for C.
 #![tactic(auto)]
 
 pub mod can;
 pub mod ccsds;
 pub mod dns;
-pub mod elf;
 pub mod ipv4;
 pub mod png;
-pub mod riscv;
 pub mod udp;
