@@ -40,18 +40,11 @@ fn command<'a>(alloc: Global) -> Result<Command<'a>, Error> {
         .value_name("FILE")
         .action(ArgAction::Set)
         .help("Reads this file, and not the standard input");
-    let specs = Arg::new(alloc, "SPEC")
-        .required(true)
-        .num_args(1..)
-        .help("The fields of a record in order, each as SPEC or NAME:SPEC");
+    let specs = Arg::new(alloc, "SPEC").required(true).num_args(1..).help(
+        "The fields of a record in order, each as SPEC or NAME:SPEC",
+    );
     let command = Command::new(alloc, "rows").about(ABOUT);
-    Ok(
-        command
-            .arg(json)?
-            .arg(raw)?
-            .arg(from)?
-            .arg(specs)?,
-    )
+    Ok(command.arg(json)?.arg(raw)?.arg(from)?.arg(specs)?)
 }
 
 // Prints what the words ask for. Returns the status.
