@@ -4,6 +4,4 @@
 #[cfg(test)]
 mod cut;
 #[cfg(test)]
-mod records;
-#[cfg(test)]
 mod refused;
