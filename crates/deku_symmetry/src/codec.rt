@@ -26,7 +26,7 @@ use deku::{DekuContainerRead, DekuContainerWrite, DekuError, DekuReader, DekuWri
 /// ```
 pub trait Codec: Drop {
     /// The parts, in the order of their layout.
-    type Parts: DekuReader<()> + DekuWriter<()>;
+    type Parts: Drop;
 
     // The parts of a value.
     ghost parts_of: { Self → Self.Parts };
@@ -49,6 +49,8 @@ pub trait Codec: Drop {
     /// parts.to_writer(writer, ())
     /// ```
     fn write<W: Sink>(&self, writer: &mut Writer<W>) -> Result<(), DekuError>
+    where
+        Self::Parts: DekuWriter<()>,
         requires { Self.Parts.DekuWriter.accepts tt }
         ensures { Writes W.known (Self.Parts.DekuWriter.meaning (parts_of self.now) tt) writer.old
             result writer.new };
@@ -64,6 +66,7 @@ pub trait Codec: Drop {
     final fn read<R: Source>(reader: &mut Reader<R>) -> Result<Self, DekuError>
     where
         Self: Sized,
+        Self::Parts: DekuReader<()>,
         requires { Self.Parts.DekuReader.accepts tt }
         ensures reads { Reads R.known (Then (Self.Parts.DekuReader.meaning tt) (Shows parts_of))
             reader.old result reader.new }
@@ -115,10 +118,7 @@ pub trait CopyParts: Drop {
 }
 
 /// It is written as the copies of its parts.
-impl<T: CopyParts> Codec for T
-where
-    T::Parts: DekuReader<()> + DekuWriter<()>,
-{
+impl<T: CopyParts> Codec for T {
     type Parts = T::Parts;
 
     ghost parts_of = { T.CopyParts.parts_of };
@@ -129,7 +129,10 @@ where
         <T as CopyParts>::from_parts(parts)
     }
 
-    fn write<W: Sink>(&self, writer: &mut Writer<W>) -> Result<(), DekuError> {
+    fn write<W: Sink>(&self, writer: &mut Writer<W>) -> Result<(), DekuError>
+    where
+        Self::Parts: DekuWriter<()>,
+    {
         let parts = self.parts();
         parts.to_writer(writer, ())
     }
@@ -147,7 +150,10 @@ where
 #[derive(Debug, Clone, Copy, PartialEq, Eq, Drop)]
 pub struct Coded<E>(pub E);
 
-impl<E: Codec> DekuReader<()> for Coded<E> {
+impl<E: Codec> DekuReader<()> for Coded<E>
+where
+    E::Parts: DekuReader<()>,
+{
     ghost accepts = { λ _. E.Parts.DekuReader.accepts tt };
 
     ghost no_read_ahead = { λ _. E.Parts.DekuReader.no_read_ahead tt };
@@ -161,7 +167,10 @@ impl<E: Codec> DekuReader<()> for Coded<E> {
     }
 }
 
-impl<E: Codec> DekuWriter<()> for Coded<E> {
+impl<E: Codec> DekuWriter<()> for Coded<E>
+where
+    E::Parts: DekuWriter<()>,
+{
     ghost accepts = { λ _. E.Parts.DekuWriter.accepts tt };
 
     ghost meaning = { λ v _. E.Parts.DekuWriter.meaning (E.parts_of v.0) tt };
@@ -172,9 +181,15 @@ impl<E: Codec> DekuWriter<()> for Coded<E> {
     }
 }
 
-impl<E: Codec> DekuContainerRead for Coded<E> {}
+impl<E: Codec> DekuContainerRead for Coded<E>
+where
+    E::Parts: DekuReader<()>,
+{}
 
-impl<E: Codec> DekuContainerWrite for Coded<E> {}
+impl<E: Codec> DekuContainerWrite for Coded<E>
+where
+    E::Parts: DekuWriter<()>,
+{}
 
 /// The pieces of the parts.
 impl<E: Codec> Symmetric<()> for Coded<E>
@@ -211,7 +226,10 @@ where
 #[derive(Drop)]
 pub struct CodedRef<'a, E>(pub &'a E);
 
-impl<'a, E: Codec> DekuWriter<()> for CodedRef<'a, E> {
+impl<'a, E: Codec> DekuWriter<()> for CodedRef<'a, E>
+where
+    E::Parts: DekuWriter<()>,
+{
     ghost accepts = { λ _. E.Parts.DekuWriter.accepts tt };
 
     ghost meaning = { λ v _. E.Parts.DekuWriter.meaning (E.parts_of v.0.now) tt };
