@@ -1,5 +1,6 @@
 //! Structs, as they are printed.
 
+use crate::traits::traits;
 use deku_attributes::model::{Field, Record};
 use deku_dependents::building::{Builder, field_name};
 use deku_description::syntax::Shape;
@@ -95,6 +96,7 @@ pub(crate) fn implementation(
     shape: Shape,
     fields: &[Field<'_>],
     builder: &mut Builder<'_, '_>,
+    is_open: bool,
 ) -> Result<(), AllocError> {
     let alloc = *out.allocator();
     let name = record.name.text;
@@ -121,7 +123,8 @@ pub(crate) fn implementation(
         whole.value.print(out, 8, 1, false)?;
         out.push_str(";\n        parts.to_writer(writer, ())")?;
     }
-    out.push_str("\n    }\n\n    ghost there = { λ r. refl };\n}\n")
+    out.push_str("\n    }\n\n    ghost there = { λ r. refl };\n}\n")?;
+    traits(out, name, is_open)
 }
 
 // Appends the names of a record's parts.

@@ -26,7 +26,7 @@ use deku::{DekuContainerRead, DekuContainerWrite, DekuError, DekuReader, DekuWri
 /// ```
 pub trait Codec: Drop {
     /// The parts, in the order of their layout.
-    type Parts: Drop;
+    type Parts: DekuReader<()> + DekuWriter<()>;
 
     // The parts of a value.
     ghost parts_of: { Self → Self.Parts };
@@ -49,8 +49,6 @@ pub trait Codec: Drop {
     /// parts.to_writer(writer, ())
     /// ```
     fn write<W: Sink>(&self, writer: &mut Writer<W>) -> Result<(), DekuError>
-    where
-        Self::Parts: DekuWriter<()>,
         requires { Self.Parts.DekuWriter.accepts tt }
         ensures { Writes W.known (Self.Parts.DekuWriter.meaning (parts_of self.now) tt) writer.old
             result writer.new };
@@ -66,7 +64,6 @@ pub trait Codec: Drop {
     final fn read<R: Source>(reader: &mut Reader<R>) -> Result<Self, DekuError>
     where
         Self: Sized,
-        Self::Parts: DekuReader<()>,
         requires { Self.Parts.DekuReader.accepts tt }
         ensures reads { Reads R.known (Then (Self.Parts.DekuReader.meaning tt) (Shows parts_of))
             reader.old result reader.new }
@@ -118,7 +115,10 @@ pub trait CopyParts: Drop {
 }
 
 /// It is written as the copies of its parts.
-impl<T: CopyParts> Codec for T {
+impl<T: CopyParts> Codec for T
+where
+    T::Parts: DekuReader<()> + DekuWriter<()>,
+{
     type Parts = T::Parts;
 
     ghost parts_of = { T.CopyParts.parts_of };
@@ -129,10 +129,7 @@ impl<T: CopyParts> Codec for T {
         <T as CopyParts>::from_parts(parts)
     }
 
-    fn write<W: Sink>(&self, writer: &mut Writer<W>) -> Result<(), DekuError>
-    where
-        Self::Parts: DekuWriter<()>,
-    {
+    fn write<W: Sink>(&self, writer: &mut Writer<W>) -> Result<(), DekuError> {
         let parts = self.parts();
         parts.to_writer(writer, ())
     }
@@ -150,10 +147,7 @@ impl<T: CopyParts> Codec for T {
 #[derive(Debug, Clone, Copy, PartialEq, Eq, Drop)]
 pub struct Coded<E>(pub E);
 
-impl<E: Codec> DekuReader<()> for Coded<E>
-where
-    E::Parts: DekuReader<()>,
-{
+impl<E: Codec> DekuReader<()> for Coded<E> {
     ghost accepts = { λ _. E.Parts.DekuReader.accepts tt };
 
     ghost no_read_ahead = { λ _. E.Parts.DekuReader.no_read_ahead tt };
@@ -167,10 +161,7 @@ where
     }
 }
 
-impl<E: Codec> DekuWriter<()> for Coded<E>
-where
-    E::Parts: DekuWriter<()>,
-{
+impl<E: Codec> DekuWriter<()> for Coded<E> {
     ghost accepts = { λ _. E.Parts.DekuWriter.accepts tt };
 
     ghost meaning = { λ v _. E.Parts.DekuWriter.meaning (E.parts_of v.0) tt };
@@ -181,15 +172,9 @@ where
     }
 }
 
-impl<E: Codec> DekuContainerRead for Coded<E>
-where
-    E::Parts: DekuReader<()>,
-{}
+impl<E: Codec> DekuContainerRead for Coded<E> {}
 
-impl<E: Codec> DekuContainerWrite for Coded<E>
-where
-    E::Parts: DekuWriter<()>,
-{}
+impl<E: Codec> DekuContainerWrite for Coded<E> {}
 
 /// The pieces of the parts.
 impl<E: Codec> Symmetric<()> for Coded<E>
@@ -226,10 +211,7 @@ where
 #[derive(Drop)]
 pub struct CodedRef<'a, E>(pub &'a E);
 
-impl<'a, E: Codec> DekuWriter<()> for CodedRef<'a, E>
-where
-    E::Parts: DekuWriter<()>,
-{
+impl<'a, E: Codec> DekuWriter<()> for CodedRef<'a, E> {
     ghost accepts = { λ _. E.Parts.DekuWriter.accepts tt };
 
     ghost meaning = { λ v _. E.Parts.DekuWriter.meaning (E.parts_of v.0.now) tt };

@@ -129,8 +129,7 @@ impl<'b, 'a> Records<'b, 'a> {
 
     /// Whether a field holds no memory.
     pub fn is_copied(&self, field: &Field<'a>) -> bool {
-        let one = lying(field).around;
-        !(one.is_empty() || one == "Coded") || self.of_kind(&field.kind, field).is_copied
+        !lying(field).around.is_empty() || self.of_kind(&field.kind, field).is_copied
     }
 
     /// Whether a record holds no memory.
