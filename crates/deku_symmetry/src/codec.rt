@@ -16,7 +16,8 @@ use deku::writer::Writer;
 use deku::{DekuContainerRead, DekuContainerWrite, DekuError, DekuReader, DekuWriter};
 
 /// A type that is read and written as its parts: a record, an enum, or a type whose values stand
-/// for those of another. Its law `there` makes sure that no field is missing from the parts.
+/// for those of another. Its law `there` makes sure that no field is missing from the parts. One
+/// whose parts can be copied is a `CopyParts` instead; any other one is a `WriteParts` too.
 ///
 /// ```text
 /// impl Codec for Sample {
@@ -26,7 +27,7 @@ use deku::{DekuContainerRead, DekuContainerWrite, DekuError, DekuReader, DekuWri
 /// ```
 pub trait Codec: Drop {
     /// The parts, in the order of their layout.
-    type Parts: DekuReader<()> + DekuWriter<()>;
+    type Parts: Drop;
 
     // The parts of a value.
     ghost parts_of: { Self → Self.Parts };
@@ -40,19 +41,6 @@ pub trait Codec: Drop {
         Self: Sized,
         ensures { parts_of result ≡ parts };
 
-    /// Writes the parts of the value. It fails as they do.
-    ///
-    /// The caller's condition: the parts may be written.
-    ///
-    /// ```text
-    /// let parts = (Msb(self.sensor), Msb(self.state), Be(self.value));
-    /// parts.to_writer(writer, ())
-    /// ```
-    fn write<W: Sink>(&self, writer: &mut Writer<W>) -> Result<(), DekuError>
-        requires { Self.Parts.DekuWriter.accepts tt }
-        ensures { Writes W.known (Self.Parts.DekuWriter.meaning (parts_of self.now) tt) writer.old
-            result writer.new };
-
     /// Reads the parts of a value, and makes the value of them. It fails as they do, and what was
     /// read before is consumed.
     ///
@@ -64,6 +52,7 @@ pub trait Codec: Drop {
     final fn read<R: Source>(reader: &mut Reader<R>) -> Result<Self, DekuError>
     where
         Self: Sized,
+        Self::Parts: DekuReader<()>,
         requires { Self.Parts.DekuReader.accepts tt }
         ensures reads { Reads R.known (Then (Self.Parts.DekuReader.meaning tt) (Shows parts_of))
             reader.old result reader.new }
@@ -78,7 +67,33 @@ pub trait Codec: Drop {
     ghost there: { (v : Self) → record_of (parts_of v) ≡ v };
 }
 
-/// A type whose parts can be copied out of a value: it is a `Codec`.
+/// A `Codec` that writes its parts: they are made where they are written, and need not be copied.
+///
+/// ```text
+/// impl WriteParts for Message {
+///     fn write<W: Sink>(&self, writer: &mut Writer<W>) -> Result<(), DekuError> { .. }
+/// }
+/// ```
+pub trait WriteParts: Codec
+where
+    Self::Parts: DekuWriter<()>,
+{
+    /// Writes the parts of the value. It fails as they do.
+    ///
+    /// The caller's condition: the parts may be written.
+    ///
+    /// ```text
+    /// let parts = (Msb(self.sensor), Msb(self.state), Be(self.value));
+    /// parts.to_writer(writer, ())
+    /// ```
+    fn write<W: Sink>(&self, writer: &mut Writer<W>) -> Result<(), DekuError>
+        requires { Self.Parts.DekuWriter.accepts tt }
+        ensures { Writes W.known
+            (Self.Parts.DekuWriter.meaning (Self.Codec.parts_of self.now) tt) writer.old result
+            writer.new };
+}
+
+/// A type whose parts can be copied out of a value: it is a `Codec`, and writes its parts.
 ///
 /// ```text
 /// impl CopyParts for Sample {
@@ -114,11 +129,8 @@ pub trait CopyParts: Drop {
     ghost there: { (v : Self) → record_of (parts_of v) ≡ v };
 }
 
-/// It is written as the copies of its parts.
-impl<T: CopyParts> Codec for T
-where
-    T::Parts: DekuReader<()> + DekuWriter<()>,
-{
+/// Its parts are those that can be copied.
+impl<T: CopyParts> Codec for T {
     type Parts = T::Parts;
 
     ghost parts_of = { T.CopyParts.parts_of };
@@ -129,12 +141,18 @@ where
         <T as CopyParts>::from_parts(parts)
     }
 
+    ghost there = { T.CopyParts.there };
+}
+
+/// It is written as the copies of its parts.
+impl<T: CopyParts> WriteParts for T
+where
+    T::Parts: DekuWriter<()>,
+{
     fn write<W: Sink>(&self, writer: &mut Writer<W>) -> Result<(), DekuError> {
         let parts = self.parts();
         parts.to_writer(writer, ())
     }
-
-    ghost there = { T.CopyParts.there };
 }
 
 /// A value that is read and written as its parts, as a part itself. It has `pack`, `unpack`,
@@ -147,7 +165,10 @@ where
 #[derive(Debug, Clone, Copy, PartialEq, Eq, Drop)]
 pub struct Coded<E>(pub E);
 
-impl<E: Codec> DekuReader<()> for Coded<E> {
+impl<E: Codec> DekuReader<()> for Coded<E>
+where
+    E::Parts: DekuReader<()>,
+{
     ghost accepts = { λ _. E.Parts.DekuReader.accepts tt };
 
     ghost no_read_ahead = { λ _. E.Parts.DekuReader.no_read_ahead tt };
@@ -161,7 +182,10 @@ impl<E: Codec> DekuReader<()> for Coded<E> {
     }
 }
 
-impl<E: Codec> DekuWriter<()> for Coded<E> {
+impl<E: WriteParts> DekuWriter<()> for Coded<E>
+where
+    E::Parts: DekuWriter<()>,
+{
     ghost accepts = { λ _. E.Parts.DekuWriter.accepts tt };
 
     ghost meaning = { λ v _. E.Parts.DekuWriter.meaning (E.parts_of v.0) tt };
@@ -172,12 +196,18 @@ impl<E: Codec> DekuWriter<()> for Coded<E> {
     }
 }
 
-impl<E: Codec> DekuContainerRead for Coded<E> {}
+impl<E: Codec> DekuContainerRead for Coded<E>
+where
+    E::Parts: DekuReader<()>,
+{}
 
-impl<E: Codec> DekuContainerWrite for Coded<E> {}
+impl<E: WriteParts> DekuContainerWrite for Coded<E>
+where
+    E::Parts: DekuWriter<()>,
+{}
 
 /// The pieces of the parts.
-impl<E: Codec> Symmetric<()> for Coded<E>
+impl<E: WriteParts> Symmetric<()> for Coded<E>
 where
     E::Parts: Symmetric<()>,
 {
@@ -190,7 +220,7 @@ where
 }
 
 /// The pieces of the parts, if nothing follows them.
-impl<E: Codec> SymmetricLast for Coded<E>
+impl<E: WriteParts> SymmetricLast for Coded<E>
 where
     E::Parts: SymmetricLast,
 {
@@ -211,7 +241,10 @@ where
 #[derive(Drop)]
 pub struct CodedRef<'a, E>(pub &'a E);
 
-impl<'a, E: Codec> DekuWriter<()> for CodedRef<'a, E> {
+impl<'a, E: WriteParts> DekuWriter<()> for CodedRef<'a, E>
+where
+    E::Parts: DekuWriter<()>,
+{
     ghost accepts = { λ _. E.Parts.DekuWriter.accepts tt };
 
     ghost meaning = { λ v _. E.Parts.DekuWriter.meaning (E.parts_of v.0.now) tt };

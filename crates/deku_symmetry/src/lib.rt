@@ -19,7 +19,7 @@ mod sized;
 mod traits;
 
 pub use chosen_by::{ChosenBy, IdOf, IdOfLaw};
-pub use codec::{Codec, Coded, CodedRef, CopyParts};
+pub use codec::{Codec, Coded, CodedRef, CopyParts, WriteParts};
 pub use constants::{Between, Is, ZeroBits};
 pub use counted_by::{CountOf, CountOfLaw, CountedBy, CountedByRef};
 pub use deku_pieces::assertion::{Assert, Check};
