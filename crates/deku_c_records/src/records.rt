@@ -6,11 +6,14 @@ ghost use Rattle.deku_c_records.specs.Exported.{ReadsFor, WritesFor};
 
 use crate::status::{OK, status_of};
 use deku::{DekuContainerWrite, DekuReader, DekuWriter};
-use deku_symmetry::{Codec, Coded, Symmetric};
+use deku_symmetry::{Codec, Coded, Symmetric, WriteParts};
 use std::alloc::Global;
 
 /// A record that C reads and writes: each that is copied and whose parts are symmetric.
-pub trait ForC: Codec + Copy {
+pub trait ForC: Codec + Copy
+where
+    Self::Parts: DekuReader<()> + DekuWriter<()>,
+{
     // What a read from bytes does: the number that it returns, and the record in its place before
     // and after.
     ghost reads_for_c: { List ℕ → ℕ → Self → Self → Type 0 };
@@ -47,7 +50,7 @@ pub trait ForC: Codec + Copy {
 }
 
 /// It is read as `unpack` reads it, and written as `to_slice` writes it.
-impl<E: Codec + Copy> ForC for E
+impl<E: WriteParts + Copy> ForC for E
 where
     E::Parts: Symmetric<()>,
 {
