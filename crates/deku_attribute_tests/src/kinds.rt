@@ -3,9 +3,6 @@
 //! Printed by `derive` from `kinds.rs`.
 
 ghost use Rattle.std.specs.Prelude.{refl};
-ghost use Rattle.deku.specs.Composing.{Then};
-ghost use Rattle.deku.specs.Shapes.{Shows};
-ghost use Rattle.deku_pieces.proofs.Turned.{shown_symmetric};
 ghost use Rattle.deku_symmetry.specs.Fields.{be, le, msb_le};
 ghost use Rattle.deku_pieces.specs.declared.either.Either.TheVariants as either;
 ghost use Rattle.deku_attribute_tests.specs.declared.kinds.UnderByte.TheVariants as under_byte_kinds;
@@ -15,13 +12,8 @@ ghost use Rattle.deku_attribute_tests.specs.declared.kinds.Patterns.TheVariants 
 ghost use Rattle.deku_attribute_tests.specs.declared.kinds.UnderBits.TheVariants as under_bits_kinds;
 ghost use Rattle.deku_attribute_tests.specs.declared.kinds.UnderBytes.TheVariants as under_bytes_kinds;
 
-use deku::device::{Sink, Source};
-use deku::prelude::{
-    DekuContainerRead, DekuContainerWrite, DekuError, DekuReader, DekuWriter, Reader, Writer,
-};
 use deku_symmetry::{
-    Be, Codec, CopyParts, Either, Enum, InRange, Kind, Le, MsbEnum, MsbLe, MsbLeEnum, Otherwise,
-    Symmetric,
+    Be, CopyParts, Either, Enum, InRange, Kind, Le, MsbEnum, MsbLe, MsbLeEnum, Otherwise,
 };
 
 /// Kinds under a byte.
@@ -74,48 +66,6 @@ impl CopyParts for UnderByte {
     ] };
 }
 
-impl DekuReader<()> for UnderByte {
-    ghost accepts = { λ c. ⟦<<Self as Codec>::Parts as DekuReader<()>>⟧.accepts c };
-
-    ghost no_read_ahead = { λ c. ⟦<<Self as Codec>::Parts as DekuReader<()>>⟧.no_read_ahead c };
-
-    ghost meaning = { λ c. Then (⟦<<Self as Codec>::Parts as DekuReader<()>>⟧.meaning c)
-        (Shows ⟦<Self as Codec>⟧.parts_of) };
-
-    fn from_reader_with_ctx<R: Source>(
-        reader: &mut Reader<R>,
-        _ctx: (),
-    ) -> Result<Self, DekuError> {
-        Self::read(reader)
-    }
-}
-
-impl DekuWriter<()> for UnderByte {
-    ghost accepts = { λ c. ⟦<<Self as Codec>::Parts as DekuWriter<()>>⟧.accepts c };
-
-    ghost meaning = { λ r c. ⟦<<Self as Codec>::Parts as DekuWriter<()>>⟧.meaning
-        (⟦<Self as Codec>⟧.parts_of r) c };
-
-    fn to_writer<W: Sink>(&self, writer: &mut Writer<W>, _ctx: ()) -> Result<(), DekuError> {
-        self.write(writer)
-    }
-}
-
-impl DekuContainerRead for UnderByte {}
-
-impl DekuContainerWrite for UnderByte {}
-
-impl Symmetric<()> for UnderByte {
-    ghost pieces = { λ r c. ⟦<<Self as Codec>::Parts as Symmetric<()>>⟧.pieces
-        (⟦<Self as Codec>⟧.parts_of r) c };
-
-    ghost same = { λ r s. ⟦<<Self as Codec>::Parts as Symmetric<()>>⟧.same
-        (⟦<Self as Codec>⟧.parts_of r) (⟦<Self as Codec>⟧.parts_of s) };
-
-    ghost symmetric = { λ c. shown_symmetric ⟦<Self as Codec>⟧.parts_of _ _ _ _
-        (⟦<<Self as Codec>::Parts as Symmetric<()>>⟧.symmetric c) };
-}
-
 /// Kinds with numbers.
 #[derive(Debug, Clone, Copy, PartialEq, Eq)]
 pub enum Numbered {
@@ -156,48 +106,6 @@ impl CopyParts for Numbered {
       | numbered_kinds.First ↦ refl
       | numbered_kinds.Second ↦ refl
     ] };
-}
-
-impl DekuReader<()> for Numbered {
-    ghost accepts = { λ c. ⟦<<Self as Codec>::Parts as DekuReader<()>>⟧.accepts c };
-
-    ghost no_read_ahead = { λ c. ⟦<<Self as Codec>::Parts as DekuReader<()>>⟧.no_read_ahead c };
-
-    ghost meaning = { λ c. Then (⟦<<Self as Codec>::Parts as DekuReader<()>>⟧.meaning c)
-        (Shows ⟦<Self as Codec>⟧.parts_of) };
-
-    fn from_reader_with_ctx<R: Source>(
-        reader: &mut Reader<R>,
-        _ctx: (),
-    ) -> Result<Self, DekuError> {
-        Self::read(reader)
-    }
-}
-
-impl DekuWriter<()> for Numbered {
-    ghost accepts = { λ c. ⟦<<Self as Codec>::Parts as DekuWriter<()>>⟧.accepts c };
-
-    ghost meaning = { λ r c. ⟦<<Self as Codec>::Parts as DekuWriter<()>>⟧.meaning
-        (⟦<Self as Codec>⟧.parts_of r) c };
-
-    fn to_writer<W: Sink>(&self, writer: &mut Writer<W>, _ctx: ()) -> Result<(), DekuError> {
-        self.write(writer)
-    }
-}
-
-impl DekuContainerRead for Numbered {}
-
-impl DekuContainerWrite for Numbered {}
-
-impl Symmetric<()> for Numbered {
-    ghost pieces = { λ r c. ⟦<<Self as Codec>::Parts as Symmetric<()>>⟧.pieces
-        (⟦<Self as Codec>⟧.parts_of r) c };
-
-    ghost same = { λ r s. ⟦<<Self as Codec>::Parts as Symmetric<()>>⟧.same
-        (⟦<Self as Codec>⟧.parts_of r) (⟦<Self as Codec>⟧.parts_of s) };
-
-    ghost symmetric = { λ c. shown_symmetric ⟦<Self as Codec>⟧.parts_of _ _ _ _
-        (⟦<<Self as Codec>::Parts as Symmetric<()>>⟧.symmetric c) };
 }
 
 /// Ids of one endian, and fields of another.
@@ -246,48 +154,6 @@ impl CopyParts for EndianOfId {
       | endian_of_id_kinds.Little field_0 ↦ refl
       | endian_of_id_kinds.Big x ↦ refl
     ] };
-}
-
-impl DekuReader<()> for EndianOfId {
-    ghost accepts = { λ c. ⟦<<Self as Codec>::Parts as DekuReader<()>>⟧.accepts c };
-
-    ghost no_read_ahead = { λ c. ⟦<<Self as Codec>::Parts as DekuReader<()>>⟧.no_read_ahead c };
-
-    ghost meaning = { λ c. Then (⟦<<Self as Codec>::Parts as DekuReader<()>>⟧.meaning c)
-        (Shows ⟦<Self as Codec>⟧.parts_of) };
-
-    fn from_reader_with_ctx<R: Source>(
-        reader: &mut Reader<R>,
-        _ctx: (),
-    ) -> Result<Self, DekuError> {
-        Self::read(reader)
-    }
-}
-
-impl DekuWriter<()> for EndianOfId {
-    ghost accepts = { λ c. ⟦<<Self as Codec>::Parts as DekuWriter<()>>⟧.accepts c };
-
-    ghost meaning = { λ r c. ⟦<<Self as Codec>::Parts as DekuWriter<()>>⟧.meaning
-        (⟦<Self as Codec>⟧.parts_of r) c };
-
-    fn to_writer<W: Sink>(&self, writer: &mut Writer<W>, _ctx: ()) -> Result<(), DekuError> {
-        self.write(writer)
-    }
-}
-
-impl DekuContainerRead for EndianOfId {}
-
-impl DekuContainerWrite for EndianOfId {}
-
-impl Symmetric<()> for EndianOfId {
-    ghost pieces = { λ r c. ⟦<<Self as Codec>::Parts as Symmetric<()>>⟧.pieces
-        (⟦<Self as Codec>⟧.parts_of r) c };
-
-    ghost same = { λ r s. ⟦<<Self as Codec>::Parts as Symmetric<()>>⟧.same
-        (⟦<Self as Codec>⟧.parts_of r) (⟦<Self as Codec>⟧.parts_of s) };
-
-    ghost symmetric = { λ c. shown_symmetric ⟦<Self as Codec>⟧.parts_of _ _ _ _
-        (⟦<<Self as Codec>::Parts as Symmetric<()>>⟧.symmetric c) };
 }
 
 /// A range of ids, and all others.
@@ -357,48 +223,6 @@ impl CopyParts for Patterns {
     ] };
 }
 
-impl DekuReader<()> for Patterns {
-    ghost accepts = { λ c. ⟦<<Self as Codec>::Parts as DekuReader<()>>⟧.accepts c };
-
-    ghost no_read_ahead = { λ c. ⟦<<Self as Codec>::Parts as DekuReader<()>>⟧.no_read_ahead c };
-
-    ghost meaning = { λ c. Then (⟦<<Self as Codec>::Parts as DekuReader<()>>⟧.meaning c)
-        (Shows ⟦<Self as Codec>⟧.parts_of) };
-
-    fn from_reader_with_ctx<R: Source>(
-        reader: &mut Reader<R>,
-        _ctx: (),
-    ) -> Result<Self, DekuError> {
-        Self::read(reader)
-    }
-}
-
-impl DekuWriter<()> for Patterns {
-    ghost accepts = { λ c. ⟦<<Self as Codec>::Parts as DekuWriter<()>>⟧.accepts c };
-
-    ghost meaning = { λ r c. ⟦<<Self as Codec>::Parts as DekuWriter<()>>⟧.meaning
-        (⟦<Self as Codec>⟧.parts_of r) c };
-
-    fn to_writer<W: Sink>(&self, writer: &mut Writer<W>, _ctx: ()) -> Result<(), DekuError> {
-        self.write(writer)
-    }
-}
-
-impl DekuContainerRead for Patterns {}
-
-impl DekuContainerWrite for Patterns {}
-
-impl Symmetric<()> for Patterns {
-    ghost pieces = { λ r c. ⟦<<Self as Codec>::Parts as Symmetric<()>>⟧.pieces
-        (⟦<Self as Codec>⟧.parts_of r) c };
-
-    ghost same = { λ r s. ⟦<<Self as Codec>::Parts as Symmetric<()>>⟧.same
-        (⟦<Self as Codec>⟧.parts_of r) (⟦<Self as Codec>⟧.parts_of s) };
-
-    ghost symmetric = { λ c. shown_symmetric ⟦<Self as Codec>⟧.parts_of _ _ _ _
-        (⟦<<Self as Codec>::Parts as Symmetric<()>>⟧.symmetric c) };
-}
-
 /// Ids of four bits.
 #[derive(Debug, Clone, Copy, PartialEq, Eq)]
 pub enum UnderBits {
@@ -435,48 +259,6 @@ impl CopyParts for UnderBits {
     ] };
 }
 
-impl DekuReader<()> for UnderBits {
-    ghost accepts = { λ c. ⟦<<Self as Codec>::Parts as DekuReader<()>>⟧.accepts c };
-
-    ghost no_read_ahead = { λ c. ⟦<<Self as Codec>::Parts as DekuReader<()>>⟧.no_read_ahead c };
-
-    ghost meaning = { λ c. Then (⟦<<Self as Codec>::Parts as DekuReader<()>>⟧.meaning c)
-        (Shows ⟦<Self as Codec>⟧.parts_of) };
-
-    fn from_reader_with_ctx<R: Source>(
-        reader: &mut Reader<R>,
-        _ctx: (),
-    ) -> Result<Self, DekuError> {
-        Self::read(reader)
-    }
-}
-
-impl DekuWriter<()> for UnderBits {
-    ghost accepts = { λ c. ⟦<<Self as Codec>::Parts as DekuWriter<()>>⟧.accepts c };
-
-    ghost meaning = { λ r c. ⟦<<Self as Codec>::Parts as DekuWriter<()>>⟧.meaning
-        (⟦<Self as Codec>⟧.parts_of r) c };
-
-    fn to_writer<W: Sink>(&self, writer: &mut Writer<W>, _ctx: ()) -> Result<(), DekuError> {
-        self.write(writer)
-    }
-}
-
-impl DekuContainerRead for UnderBits {}
-
-impl DekuContainerWrite for UnderBits {}
-
-impl Symmetric<()> for UnderBits {
-    ghost pieces = { λ r c. ⟦<<Self as Codec>::Parts as Symmetric<()>>⟧.pieces
-        (⟦<Self as Codec>⟧.parts_of r) c };
-
-    ghost same = { λ r s. ⟦<<Self as Codec>::Parts as Symmetric<()>>⟧.same
-        (⟦<Self as Codec>⟧.parts_of r) (⟦<Self as Codec>⟧.parts_of s) };
-
-    ghost symmetric = { λ c. shown_symmetric ⟦<Self as Codec>⟧.parts_of _ _ _ _
-        (⟦<<Self as Codec>::Parts as Symmetric<()>>⟧.symmetric c) };
-}
-
 /// Ids of two bytes of a number of four.
 #[derive(Debug, Clone, Copy, PartialEq, Eq)]
 pub enum UnderBytes {
@@ -508,46 +290,4 @@ impl CopyParts for UnderBytes {
     ghost there = { elim [
       | under_bytes_kinds.Only field_0 ↦ refl
     ] };
-}
-
-impl DekuReader<()> for UnderBytes {
-    ghost accepts = { λ c. ⟦<<Self as Codec>::Parts as DekuReader<()>>⟧.accepts c };
-
-    ghost no_read_ahead = { λ c. ⟦<<Self as Codec>::Parts as DekuReader<()>>⟧.no_read_ahead c };
-
-    ghost meaning = { λ c. Then (⟦<<Self as Codec>::Parts as DekuReader<()>>⟧.meaning c)
-        (Shows ⟦<Self as Codec>⟧.parts_of) };
-
-    fn from_reader_with_ctx<R: Source>(
-        reader: &mut Reader<R>,
-        _ctx: (),
-    ) -> Result<Self, DekuError> {
-        Self::read(reader)
-    }
-}
-
-impl DekuWriter<()> for UnderBytes {
-    ghost accepts = { λ c. ⟦<<Self as Codec>::Parts as DekuWriter<()>>⟧.accepts c };
-
-    ghost meaning = { λ r c. ⟦<<Self as Codec>::Parts as DekuWriter<()>>⟧.meaning
-        (⟦<Self as Codec>⟧.parts_of r) c };
-
-    fn to_writer<W: Sink>(&self, writer: &mut Writer<W>, _ctx: ()) -> Result<(), DekuError> {
-        self.write(writer)
-    }
-}
-
-impl DekuContainerRead for UnderBytes {}
-
-impl DekuContainerWrite for UnderBytes {}
-
-impl Symmetric<()> for UnderBytes {
-    ghost pieces = { λ r c. ⟦<<Self as Codec>::Parts as Symmetric<()>>⟧.pieces
-        (⟦<Self as Codec>⟧.parts_of r) c };
-
-    ghost same = { λ r s. ⟦<<Self as Codec>::Parts as Symmetric<()>>⟧.same
-        (⟦<Self as Codec>⟧.parts_of r) (⟦<Self as Codec>⟧.parts_of s) };
-
-    ghost symmetric = { λ c. shown_symmetric ⟦<Self as Codec>⟧.parts_of _ _ _ _
-        (⟦<<Self as Codec>::Parts as Symmetric<()>>⟧.symmetric c) };
 }

@@ -3,17 +3,10 @@
 //! Printed by `derive --c` from `dns.rs`.
 
 ghost use Rattle.std.specs.Prelude.{refl};
-ghost use Rattle.deku.specs.Composing.{Then};
-ghost use Rattle.deku.specs.Shapes.{Shows};
-ghost use Rattle.deku_pieces.proofs.Turned.{shown_symmetric};
 ghost use Rattle.deku_symmetry.specs.Fields.{be, msb};
 
-use deku::device::{Sink, Source};
-use deku::prelude::{
-    DekuContainerRead, DekuContainerWrite, DekuError, DekuReader, DekuWriter, Reader, Writer,
-};
 use deku_c_records::ForC;
-use deku_symmetry::{Be, Codec, CopyParts, Msb, Symmetric};
+use deku_symmetry::{Be, CopyParts, Msb};
 use std::alloc::Global;
 
 /// The record `DnsHeader`.
@@ -166,48 +159,6 @@ impl CopyParts for DnsHeader {
     }
 
     ghost there = { λ r. refl };
-}
-
-impl DekuReader<()> for DnsHeader {
-    ghost accepts = { λ c. ⟦<<Self as Codec>::Parts as DekuReader<()>>⟧.accepts c };
-
-    ghost no_read_ahead = { λ c. ⟦<<Self as Codec>::Parts as DekuReader<()>>⟧.no_read_ahead c };
-
-    ghost meaning = { λ c. Then (⟦<<Self as Codec>::Parts as DekuReader<()>>⟧.meaning c)
-        (Shows ⟦<Self as Codec>⟧.parts_of) };
-
-    fn from_reader_with_ctx<R: Source>(
-        reader: &mut Reader<R>,
-        _ctx: (),
-    ) -> Result<Self, DekuError> {
-        Self::read(reader)
-    }
-}
-
-impl DekuWriter<()> for DnsHeader {
-    ghost accepts = { λ c. ⟦<<Self as Codec>::Parts as DekuWriter<()>>⟧.accepts c };
-
-    ghost meaning = { λ r c. ⟦<<Self as Codec>::Parts as DekuWriter<()>>⟧.meaning
-        (⟦<Self as Codec>⟧.parts_of r) c };
-
-    fn to_writer<W: Sink>(&self, writer: &mut Writer<W>, _ctx: ()) -> Result<(), DekuError> {
-        self.write(writer)
-    }
-}
-
-impl DekuContainerRead for DnsHeader {}
-
-impl DekuContainerWrite for DnsHeader {}
-
-impl Symmetric<()> for DnsHeader {
-    ghost pieces = { λ r c. ⟦<<Self as Codec>::Parts as Symmetric<()>>⟧.pieces
-        (⟦<Self as Codec>⟧.parts_of r) c };
-
-    ghost same = { λ r s. ⟦<<Self as Codec>::Parts as Symmetric<()>>⟧.same
-        (⟦<Self as Codec>⟧.parts_of r) (⟦<Self as Codec>⟧.parts_of s) };
-
-    ghost symmetric = { λ c. shown_symmetric ⟦<Self as Codec>⟧.parts_of _ _ _ _
-        (⟦<<Self as Codec>::Parts as Symmetric<()>>⟧.symmetric c) };
 }
 
 /// Reads the record from the first byte on. Returns 0, or the number of the error; the record then

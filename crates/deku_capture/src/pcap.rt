@@ -22,18 +22,11 @@
 //! Printed by `derive` from `pcap.rs`.
 
 ghost use Rattle.std.specs.Prelude.{refl};
-ghost use Rattle.deku.specs.Composing.{Then};
-ghost use Rattle.deku.specs.Shapes.{Shows};
-ghost use Rattle.deku_pieces.proofs.Turned.{shown_symmetric};
 ghost use Rattle.deku_symmetry.specs.Fields.{be, le};
 ghost use Rattle.deku_pieces.specs.declared.either.Either.TheVariants as either;
 ghost use Rattle.deku_capture.specs.declared.pcap.Start.TheVariants as start_kinds;
 
-use deku::device::{Sink, Source};
-use deku::prelude::{
-    DekuContainerRead, DekuContainerWrite, DekuError, DekuReader, DekuWriter, Reader, Writer,
-};
-use deku_symmetry::{Be, Codec, CopyParts, Either, Enum, Kind, Le, MsbEnum, Symmetric};
+use deku_symmetry::{Be, CopyParts, Either, Enum, Kind, Le, MsbEnum};
 
 /// The magic number, with which a file starts.
 #[derive(Debug, Clone, Copy, PartialEq, Eq)]
@@ -113,48 +106,6 @@ impl CopyParts for Start {
     ] };
 }
 
-impl DekuReader<()> for Start {
-    ghost accepts = { λ c. ⟦<<Self as Codec>::Parts as DekuReader<()>>⟧.accepts c };
-
-    ghost no_read_ahead = { λ c. ⟦<<Self as Codec>::Parts as DekuReader<()>>⟧.no_read_ahead c };
-
-    ghost meaning = { λ c. Then (⟦<<Self as Codec>::Parts as DekuReader<()>>⟧.meaning c)
-        (Shows ⟦<Self as Codec>⟧.parts_of) };
-
-    fn from_reader_with_ctx<R: Source>(
-        reader: &mut Reader<R>,
-        _ctx: (),
-    ) -> Result<Self, DekuError> {
-        Self::read(reader)
-    }
-}
-
-impl DekuWriter<()> for Start {
-    ghost accepts = { λ c. ⟦<<Self as Codec>::Parts as DekuWriter<()>>⟧.accepts c };
-
-    ghost meaning = { λ r c. ⟦<<Self as Codec>::Parts as DekuWriter<()>>⟧.meaning
-        (⟦<Self as Codec>⟧.parts_of r) c };
-
-    fn to_writer<W: Sink>(&self, writer: &mut Writer<W>, _ctx: ()) -> Result<(), DekuError> {
-        self.write(writer)
-    }
-}
-
-impl DekuContainerRead for Start {}
-
-impl DekuContainerWrite for Start {}
-
-impl Symmetric<()> for Start {
-    ghost pieces = { λ r c. ⟦<<Self as Codec>::Parts as Symmetric<()>>⟧.pieces
-        (⟦<Self as Codec>⟧.parts_of r) c };
-
-    ghost same = { λ r s. ⟦<<Self as Codec>::Parts as Symmetric<()>>⟧.same
-        (⟦<Self as Codec>⟧.parts_of r) (⟦<Self as Codec>⟧.parts_of s) };
-
-    ghost symmetric = { λ c. shown_symmetric ⟦<Self as Codec>⟧.parts_of _ _ _ _
-        (⟦<<Self as Codec>::Parts as Symmetric<()>>⟧.symmetric c) };
-}
-
 /// The header of a file after its magic number, high bytes first.
 #[derive(Debug, Clone, Copy, PartialEq, Eq)]
 pub struct BigFields {
@@ -224,48 +175,6 @@ impl CopyParts for BigFields {
     }
 
     ghost there = { λ r. refl };
-}
-
-impl DekuReader<()> for BigFields {
-    ghost accepts = { λ c. ⟦<<Self as Codec>::Parts as DekuReader<()>>⟧.accepts c };
-
-    ghost no_read_ahead = { λ c. ⟦<<Self as Codec>::Parts as DekuReader<()>>⟧.no_read_ahead c };
-
-    ghost meaning = { λ c. Then (⟦<<Self as Codec>::Parts as DekuReader<()>>⟧.meaning c)
-        (Shows ⟦<Self as Codec>⟧.parts_of) };
-
-    fn from_reader_with_ctx<R: Source>(
-        reader: &mut Reader<R>,
-        _ctx: (),
-    ) -> Result<Self, DekuError> {
-        Self::read(reader)
-    }
-}
-
-impl DekuWriter<()> for BigFields {
-    ghost accepts = { λ c. ⟦<<Self as Codec>::Parts as DekuWriter<()>>⟧.accepts c };
-
-    ghost meaning = { λ r c. ⟦<<Self as Codec>::Parts as DekuWriter<()>>⟧.meaning
-        (⟦<Self as Codec>⟧.parts_of r) c };
-
-    fn to_writer<W: Sink>(&self, writer: &mut Writer<W>, _ctx: ()) -> Result<(), DekuError> {
-        self.write(writer)
-    }
-}
-
-impl DekuContainerRead for BigFields {}
-
-impl DekuContainerWrite for BigFields {}
-
-impl Symmetric<()> for BigFields {
-    ghost pieces = { λ r c. ⟦<<Self as Codec>::Parts as Symmetric<()>>⟧.pieces
-        (⟦<Self as Codec>⟧.parts_of r) c };
-
-    ghost same = { λ r s. ⟦<<Self as Codec>::Parts as Symmetric<()>>⟧.same
-        (⟦<Self as Codec>⟧.parts_of r) (⟦<Self as Codec>⟧.parts_of s) };
-
-    ghost symmetric = { λ c. shown_symmetric ⟦<Self as Codec>⟧.parts_of _ _ _ _
-        (⟦<<Self as Codec>::Parts as Symmetric<()>>⟧.symmetric c) };
 }
 
 /// The header of a file after its magic number, low bytes first.
@@ -339,48 +248,6 @@ impl CopyParts for LittleFields {
     ghost there = { λ r. refl };
 }
 
-impl DekuReader<()> for LittleFields {
-    ghost accepts = { λ c. ⟦<<Self as Codec>::Parts as DekuReader<()>>⟧.accepts c };
-
-    ghost no_read_ahead = { λ c. ⟦<<Self as Codec>::Parts as DekuReader<()>>⟧.no_read_ahead c };
-
-    ghost meaning = { λ c. Then (⟦<<Self as Codec>::Parts as DekuReader<()>>⟧.meaning c)
-        (Shows ⟦<Self as Codec>⟧.parts_of) };
-
-    fn from_reader_with_ctx<R: Source>(
-        reader: &mut Reader<R>,
-        _ctx: (),
-    ) -> Result<Self, DekuError> {
-        Self::read(reader)
-    }
-}
-
-impl DekuWriter<()> for LittleFields {
-    ghost accepts = { λ c. ⟦<<Self as Codec>::Parts as DekuWriter<()>>⟧.accepts c };
-
-    ghost meaning = { λ r c. ⟦<<Self as Codec>::Parts as DekuWriter<()>>⟧.meaning
-        (⟦<Self as Codec>⟧.parts_of r) c };
-
-    fn to_writer<W: Sink>(&self, writer: &mut Writer<W>, _ctx: ()) -> Result<(), DekuError> {
-        self.write(writer)
-    }
-}
-
-impl DekuContainerRead for LittleFields {}
-
-impl DekuContainerWrite for LittleFields {}
-
-impl Symmetric<()> for LittleFields {
-    ghost pieces = { λ r c. ⟦<<Self as Codec>::Parts as Symmetric<()>>⟧.pieces
-        (⟦<Self as Codec>⟧.parts_of r) c };
-
-    ghost same = { λ r s. ⟦<<Self as Codec>::Parts as Symmetric<()>>⟧.same
-        (⟦<Self as Codec>⟧.parts_of r) (⟦<Self as Codec>⟧.parts_of s) };
-
-    ghost symmetric = { λ c. shown_symmetric ⟦<Self as Codec>⟧.parts_of _ _ _ _
-        (⟦<<Self as Codec>::Parts as Symmetric<()>>⟧.symmetric c) };
-}
-
 /// The header of a packet, high bytes first.
 #[derive(Debug, Clone, Copy, PartialEq, Eq)]
 pub struct BigPacket {
@@ -432,48 +299,6 @@ impl CopyParts for BigPacket {
     ghost there = { λ r. refl };
 }
 
-impl DekuReader<()> for BigPacket {
-    ghost accepts = { λ c. ⟦<<Self as Codec>::Parts as DekuReader<()>>⟧.accepts c };
-
-    ghost no_read_ahead = { λ c. ⟦<<Self as Codec>::Parts as DekuReader<()>>⟧.no_read_ahead c };
-
-    ghost meaning = { λ c. Then (⟦<<Self as Codec>::Parts as DekuReader<()>>⟧.meaning c)
-        (Shows ⟦<Self as Codec>⟧.parts_of) };
-
-    fn from_reader_with_ctx<R: Source>(
-        reader: &mut Reader<R>,
-        _ctx: (),
-    ) -> Result<Self, DekuError> {
-        Self::read(reader)
-    }
-}
-
-impl DekuWriter<()> for BigPacket {
-    ghost accepts = { λ c. ⟦<<Self as Codec>::Parts as DekuWriter<()>>⟧.accepts c };
-
-    ghost meaning = { λ r c. ⟦<<Self as Codec>::Parts as DekuWriter<()>>⟧.meaning
-        (⟦<Self as Codec>⟧.parts_of r) c };
-
-    fn to_writer<W: Sink>(&self, writer: &mut Writer<W>, _ctx: ()) -> Result<(), DekuError> {
-        self.write(writer)
-    }
-}
-
-impl DekuContainerRead for BigPacket {}
-
-impl DekuContainerWrite for BigPacket {}
-
-impl Symmetric<()> for BigPacket {
-    ghost pieces = { λ r c. ⟦<<Self as Codec>::Parts as Symmetric<()>>⟧.pieces
-        (⟦<Self as Codec>⟧.parts_of r) c };
-
-    ghost same = { λ r s. ⟦<<Self as Codec>::Parts as Symmetric<()>>⟧.same
-        (⟦<Self as Codec>⟧.parts_of r) (⟦<Self as Codec>⟧.parts_of s) };
-
-    ghost symmetric = { λ c. shown_symmetric ⟦<Self as Codec>⟧.parts_of _ _ _ _
-        (⟦<<Self as Codec>::Parts as Symmetric<()>>⟧.symmetric c) };
-}
-
 /// The header of a packet, low bytes first.
 #[derive(Debug, Clone, Copy, PartialEq, Eq)]
 pub struct LittlePacket {
@@ -523,46 +348,4 @@ impl CopyParts for LittlePacket {
     }
 
     ghost there = { λ r. refl };
-}
-
-impl DekuReader<()> for LittlePacket {
-    ghost accepts = { λ c. ⟦<<Self as Codec>::Parts as DekuReader<()>>⟧.accepts c };
-
-    ghost no_read_ahead = { λ c. ⟦<<Self as Codec>::Parts as DekuReader<()>>⟧.no_read_ahead c };
-
-    ghost meaning = { λ c. Then (⟦<<Self as Codec>::Parts as DekuReader<()>>⟧.meaning c)
-        (Shows ⟦<Self as Codec>⟧.parts_of) };
-
-    fn from_reader_with_ctx<R: Source>(
-        reader: &mut Reader<R>,
-        _ctx: (),
-    ) -> Result<Self, DekuError> {
-        Self::read(reader)
-    }
-}
-
-impl DekuWriter<()> for LittlePacket {
-    ghost accepts = { λ c. ⟦<<Self as Codec>::Parts as DekuWriter<()>>⟧.accepts c };
-
-    ghost meaning = { λ r c. ⟦<<Self as Codec>::Parts as DekuWriter<()>>⟧.meaning
-        (⟦<Self as Codec>⟧.parts_of r) c };
-
-    fn to_writer<W: Sink>(&self, writer: &mut Writer<W>, _ctx: ()) -> Result<(), DekuError> {
-        self.write(writer)
-    }
-}
-
-impl DekuContainerRead for LittlePacket {}
-
-impl DekuContainerWrite for LittlePacket {}
-
-impl Symmetric<()> for LittlePacket {
-    ghost pieces = { λ r c. ⟦<<Self as Codec>::Parts as Symmetric<()>>⟧.pieces
-        (⟦<Self as Codec>⟧.parts_of r) c };
-
-    ghost same = { λ r s. ⟦<<Self as Codec>::Parts as Symmetric<()>>⟧.same
-        (⟦<Self as Codec>⟧.parts_of r) (⟦<Self as Codec>⟧.parts_of s) };
-
-    ghost symmetric = { λ c. shown_symmetric ⟦<Self as Codec>⟧.parts_of _ _ _ _
-        (⟦<<Self as Codec>::Parts as Symmetric<()>>⟧.symmetric c) };
 }

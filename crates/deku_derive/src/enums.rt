@@ -1,7 +1,6 @@
 //! Enums, as they are printed.
 
 use crate::structs::{derives, docs, path_of};
-use crate::traits::traits;
 use deku_attributes::model::{Case, Endian, Id, Ids, Order, Record};
 use deku_dependents::building::field_name;
 use deku_description::syntax::Shape;
@@ -135,8 +134,7 @@ pub(crate) fn implementation(
         constructor(out, name, kind)?;
         out.push_str(" ↦ refl")?;
     }
-    out.push_str("\n    ] };\n}\n")?;
-    traits(out, name, false)
+    out.push_str("\n    ] };\n}\n")
 }
 
 // The type of the id and the kinds.

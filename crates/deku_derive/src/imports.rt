@@ -1,19 +1,20 @@
 //! What a module imports: the names that its text has.
 
-use crate::traits::GHOST;
 use deku_attributes::model::{Form, Module};
 use deku_texts::words::{MADE, snake};
 use std::alloc::{AllocError, Global};
 use std::fmt::Write as _;
 
 // The names of deku_symmetry, in the order in which `rt fmt` has them.
-const PARTS: [&str; 39] = [
+const PARTS: [&str; 40] = [
     "Assert",
     "Be",
     "Before",
     "Check",
     "CheckLaw",
     "Codec",
+    "Coded",
+    "CodedRef",
     "Condition",
     "ConditionLaw",
     "Constant",
@@ -46,18 +47,6 @@ const PARTS: [&str; 39] = [
     "SizeOfLaw",
     "SizedBy",
     "Symmetric",
-    "SymmetricLast",
-];
-
-// The names of deku's prelude.
-const PRELUDE: [&str; 7] = [
-    "DekuContainerRead",
-    "DekuContainerWrite",
-    "DekuError",
-    "DekuReader",
-    "DekuWriter",
-    "Reader",
-    "Writer",
 ];
 
 // Words of ghost text, with what of it is looked for.
@@ -98,11 +87,6 @@ pub(crate) fn imports(
     let words = words.as_slice().join(alloc, ", ")?;
     let words = words.as_str();
     writeln!(out, "\nghost use Rattle.std.specs.Prelude.{{{words}}};")?;
-    for (word, path) in &GHOST {
-        if has_word(term.as_str(), word) {
-            writeln!(out, "ghost use {path}.{{{word}}};")?;
-        }
-    }
     made(out, term.as_str())?;
     kinds(out, module, path)?;
     out.push('\n')?;
@@ -112,8 +96,10 @@ pub(crate) fn imports(
         }
     }
     used(out, "deku::cstring", &["CString"], code.as_str())?;
-    used(out, "deku::device", &["Sink", "Source"], code.as_str())?;
-    used(out, "deku::prelude", &PRELUDE, code.as_str())?;
+    if code.as_str().contains(".to_writer(") {
+        out.push_str("use deku::device::Sink;\n")?;
+        out.push_str("use deku::prelude::{DekuError, DekuWriter, Writer};\n")?;
+    }
     used(out, "deku_c_records", &["ForC"], code.as_str())?;
     used(out, "deku_symmetry", &PARTS, code.as_str())?;
     used(out, "std::alloc", &["Global"], code.as_str())?;
@@ -163,39 +149,25 @@ fn kinds(out: &mut String, module: &Module<'_>, path: Option<&str>) -> Result<()
     Ok(())
 }
 
-// The lines of ghost text, and those of code. A line of ghost text that names a type's traits is
-// in both.
+// The lines of ghost text, and those of code.
 fn parted(alloc: Global, text: &str) -> Result<(String, String), AllocError> {
     let mut term = String::new(alloc);
     let mut code = String::new(alloc);
-    let mut depth = 0usize;
+    let mut is_ghost = false;
     for line in text.lines() {
         let trimmed = line.trim_start();
-        let is_ghost = depth > 0 || trimmed.starts_with("ghost ");
+        is_ghost = is_ghost || trimmed.starts_with("ghost ");
         if is_ghost {
             term.push_str(line)?;
             term.push('\n')?;
-            depth = depth_after(line, depth);
-        }
-        if line.contains('⟦') || !(is_ghost || trimmed.starts_with("//")) {
+        } else if !trimmed.starts_with("//") {
             code.push_str(line)?;
             code.push('\n')?;
         }
+        let is_last = line.ends_with("};") && !line.starts_with("     ");
+        is_ghost = is_ghost && !is_last;
     }
     Ok((term, code))
-}
-
-// How many braces are open after a line, if so many were open before it.
-fn depth_after(line: &str, before: usize) -> usize {
-    let mut depth = before;
-    for letter in line.chars() {
-        depth = match letter {
-            '{' => depth.saturating_add(1),
-            '}' => depth.saturating_sub(1),
-            _ => depth,
-        };
-    }
-    depth
 }
 
 // Appends the import of those of these names that a text has.

@@ -7,4 +7,3 @@ mod imports;
 pub mod making;
 pub mod printing;
 mod structs;
-mod traits;

@@ -234,7 +234,6 @@ impl<'b, 'a> Printer<'b, 'a> {
             *shape,
             fields.as_slice(),
             &mut builder,
-            self.records.is_open(name),
         )?;
         self.built(record, builder)
     }

@@ -1,6 +1,5 @@
 //! Structs, as they are printed.
 
-use crate::traits::traits;
 use deku_attributes::model::{Field, Record};
 use deku_dependents::building::{Builder, field_name};
 use deku_description::syntax::Shape;
@@ -96,7 +95,6 @@ pub(crate) fn implementation(
     shape: Shape,
     fields: &[Field<'_>],
     builder: &mut Builder<'_, '_>,
-    is_open: bool,
 ) -> Result<(), AllocError> {
     let alloc = *out.allocator();
     let name = record.name.text;
@@ -123,8 +121,7 @@ pub(crate) fn implementation(
         whole.value.print(out, 8, 1, false)?;
         out.push_str(";\n        parts.to_writer(writer, ())")?;
     }
-    out.push_str("\n    }\n\n    ghost there = { λ r. refl };\n}\n")?;
-    traits(out, name, is_open)
+    out.push_str("\n    }\n\n    ghost there = { λ r. refl };\n}\n")
 }
 
 // Appends the names of a record's parts.

@@ -3,17 +3,10 @@
 //! Printed by `derive` from `frame.rs`.
 
 ghost use Rattle.std.specs.Prelude.{◌||◌, nat_eq, nat_le, codes, refl};
-ghost use Rattle.deku.specs.Composing.{Then};
-ghost use Rattle.deku.specs.Shapes.{Shows};
-ghost use Rattle.deku_pieces.proofs.Turned.{shown_symmetric};
-ghost use Rattle.deku_symmetry.specs.Fields.{be, msb};
+ghost use Rattle.deku_symmetry.specs.Fields.{be, coded, msb};
 
-use deku::device::{Sink, Source};
-use deku::prelude::{
-    DekuContainerRead, DekuContainerWrite, DekuError, DekuReader, DekuWriter, Reader, Writer,
-};
 use deku_symmetry::{
-    Assert, Be, Check, CheckLaw, Codec, Constant, ConstantLaw, CopyParts, Magic, Msb, Symmetric,
+    Assert, Be, Check, CheckLaw, Coded, Constant, ConstantLaw, CopyParts, Magic, Msb,
 };
 
 /// Padding.
@@ -102,48 +95,6 @@ impl CopyParts for Range {
     ghost there = { λ r. refl };
 }
 
-impl DekuReader<()> for Range {
-    ghost accepts = { λ c. ⟦<<Self as Codec>::Parts as DekuReader<()>>⟧.accepts c };
-
-    ghost no_read_ahead = { λ c. ⟦<<Self as Codec>::Parts as DekuReader<()>>⟧.no_read_ahead c };
-
-    ghost meaning = { λ c. Then (⟦<<Self as Codec>::Parts as DekuReader<()>>⟧.meaning c)
-        (Shows ⟦<Self as Codec>⟧.parts_of) };
-
-    fn from_reader_with_ctx<R: Source>(
-        reader: &mut Reader<R>,
-        _ctx: (),
-    ) -> Result<Self, DekuError> {
-        Self::read(reader)
-    }
-}
-
-impl DekuWriter<()> for Range {
-    ghost accepts = { λ c. ⟦<<Self as Codec>::Parts as DekuWriter<()>>⟧.accepts c };
-
-    ghost meaning = { λ r c. ⟦<<Self as Codec>::Parts as DekuWriter<()>>⟧.meaning
-        (⟦<Self as Codec>⟧.parts_of r) c };
-
-    fn to_writer<W: Sink>(&self, writer: &mut Writer<W>, _ctx: ()) -> Result<(), DekuError> {
-        self.write(writer)
-    }
-}
-
-impl DekuContainerRead for Range {}
-
-impl DekuContainerWrite for Range {}
-
-impl Symmetric<()> for Range {
-    ghost pieces = { λ r c. ⟦<<Self as Codec>::Parts as Symmetric<()>>⟧.pieces
-        (⟦<Self as Codec>⟧.parts_of r) c };
-
-    ghost same = { λ r s. ⟦<<Self as Codec>::Parts as Symmetric<()>>⟧.same
-        (⟦<Self as Codec>⟧.parts_of r) (⟦<Self as Codec>⟧.parts_of s) };
-
-    ghost symmetric = { λ c. shown_symmetric ⟦<Self as Codec>⟧.parts_of _ _ _ _
-        (⟦<<Self as Codec>::Parts as Symmetric<()>>⟧.symmetric c) };
-}
-
 /// The record `Frame`.
 #[derive(Debug, Clone, Copy, PartialEq, Eq)]
 pub struct Frame {
@@ -215,7 +166,7 @@ impl CopyParts for Frame {
         Magic<u8, FrameMagic>,
         Assert<Msb<u8, 4>, FrameVersionCheck>,
         Msb<u8, 4>,
-        Range,
+        Coded<Range>,
         Be<(u8, u16)>,
         Magic<Msb<u64, 6>, Zeros>,
         Msb<u8, 2>,
@@ -225,7 +176,7 @@ impl CopyParts for Frame {
       record { part = record {}; constant = record {} },
       record { part = msb r.version; check = record {} },
       msb r.kind,
-      r.range,
+      coded r.range,
       be r.pair,
       record { part = record {}; constant = record {} },
       msb r.end,
@@ -234,7 +185,7 @@ impl CopyParts for Frame {
     ghost record_of = { λ p. record {
       version = p.1.part.0;
       kind = p.2.0;
-      range = p.3;
+      range = p.3.0;
       pair = p.4.0;
       end = p.6.0;
     } };
@@ -247,7 +198,7 @@ impl CopyParts for Frame {
                 ..
             },
             Msb(kind),
-            range,
+            Coded(range),
             Be(pair),
             _,
             Msb(end),
@@ -266,7 +217,7 @@ impl CopyParts for Frame {
             Magic::new(),
             Assert::new(Msb(self.version)),
             Msb(self.kind),
-            self.range,
+            Coded(self.range),
             Be(self.pair),
             Magic::new(),
             Msb(self.end),
@@ -274,46 +225,4 @@ impl CopyParts for Frame {
     }
 
     ghost there = { λ r. refl };
-}
-
-impl DekuReader<()> for Frame {
-    ghost accepts = { λ c. ⟦<<Self as Codec>::Parts as DekuReader<()>>⟧.accepts c };
-
-    ghost no_read_ahead = { λ c. ⟦<<Self as Codec>::Parts as DekuReader<()>>⟧.no_read_ahead c };
-
-    ghost meaning = { λ c. Then (⟦<<Self as Codec>::Parts as DekuReader<()>>⟧.meaning c)
-        (Shows ⟦<Self as Codec>⟧.parts_of) };
-
-    fn from_reader_with_ctx<R: Source>(
-        reader: &mut Reader<R>,
-        _ctx: (),
-    ) -> Result<Self, DekuError> {
-        Self::read(reader)
-    }
-}
-
-impl DekuWriter<()> for Frame {
-    ghost accepts = { λ c. ⟦<<Self as Codec>::Parts as DekuWriter<()>>⟧.accepts c };
-
-    ghost meaning = { λ r c. ⟦<<Self as Codec>::Parts as DekuWriter<()>>⟧.meaning
-        (⟦<Self as Codec>⟧.parts_of r) c };
-
-    fn to_writer<W: Sink>(&self, writer: &mut Writer<W>, _ctx: ()) -> Result<(), DekuError> {
-        self.write(writer)
-    }
-}
-
-impl DekuContainerRead for Frame {}
-
-impl DekuContainerWrite for Frame {}
-
-impl Symmetric<()> for Frame {
-    ghost pieces = { λ r c. ⟦<<Self as Codec>::Parts as Symmetric<()>>⟧.pieces
-        (⟦<Self as Codec>⟧.parts_of r) c };
-
-    ghost same = { λ r s. ⟦<<Self as Codec>::Parts as Symmetric<()>>⟧.same
-        (⟦<Self as Codec>⟧.parts_of r) (⟦<Self as Codec>⟧.parts_of s) };
-
-    ghost symmetric = { λ c. shown_symmetric ⟦<Self as Codec>⟧.parts_of _ _ _ _
-        (⟦<<Self as Codec>::Parts as Symmetric<()>>⟧.symmetric c) };
 }

@@ -3,19 +3,13 @@
 //! Printed by `derive` from `lists.rs`.
 
 ghost use Rattle.std.specs.Prelude.{◌-◌, ◌*◌, nat_lt, None, Some, if◌then◌else◌, refl};
-ghost use Rattle.deku.specs.Composing.{Then};
-ghost use Rattle.deku.specs.Shapes.{Shows};
-ghost use Rattle.deku_pieces.proofs.Turned.{shown_symmetric};
-ghost use Rattle.deku_pieces.proofs.Turned.{last_symmetric};
 ghost use Rattle.deku_symmetry.specs.Fields.{be, msb};
 
-use deku::device::{Sink, Source};
-use deku::prelude::{
-    DekuContainerRead, DekuContainerWrite, DekuError, DekuReader, DekuWriter, Reader, Writer,
-};
+use deku::device::Sink;
+use deku::prelude::{DekuError, DekuWriter, Writer};
 use deku_symmetry::{
-    Be, Before, Codec, CopyParts, CountOf, CountOfLaw, CountedBy, CountedByRef, FilledBy, Msb,
-    Rest, SizeOf, SizeOfLaw, SizedBy, Symmetric, SymmetricLast,
+    Be, Before, Codec, Coded, CopyParts, CountOf, CountOfLaw, CountedBy, CountedByRef, FilledBy,
+    Msb, Rest, SizeOf, SizeOfLaw, SizedBy,
 };
 use std::marker::PhantomData;
 
@@ -49,54 +43,12 @@ impl CopyParts for Entry {
     ghost there = { λ r. refl };
 }
 
-impl DekuReader<()> for Entry {
-    ghost accepts = { λ c. ⟦<<Self as Codec>::Parts as DekuReader<()>>⟧.accepts c };
-
-    ghost no_read_ahead = { λ c. ⟦<<Self as Codec>::Parts as DekuReader<()>>⟧.no_read_ahead c };
-
-    ghost meaning = { λ c. Then (⟦<<Self as Codec>::Parts as DekuReader<()>>⟧.meaning c)
-        (Shows ⟦<Self as Codec>⟧.parts_of) };
-
-    fn from_reader_with_ctx<R: Source>(
-        reader: &mut Reader<R>,
-        _ctx: (),
-    ) -> Result<Self, DekuError> {
-        Self::read(reader)
-    }
-}
-
-impl DekuWriter<()> for Entry {
-    ghost accepts = { λ c. ⟦<<Self as Codec>::Parts as DekuWriter<()>>⟧.accepts c };
-
-    ghost meaning = { λ r c. ⟦<<Self as Codec>::Parts as DekuWriter<()>>⟧.meaning
-        (⟦<Self as Codec>⟧.parts_of r) c };
-
-    fn to_writer<W: Sink>(&self, writer: &mut Writer<W>, _ctx: ()) -> Result<(), DekuError> {
-        self.write(writer)
-    }
-}
-
-impl DekuContainerRead for Entry {}
-
-impl DekuContainerWrite for Entry {}
-
-impl Symmetric<()> for Entry {
-    ghost pieces = { λ r c. ⟦<<Self as Codec>::Parts as Symmetric<()>>⟧.pieces
-        (⟦<Self as Codec>⟧.parts_of r) c };
-
-    ghost same = { λ r s. ⟦<<Self as Codec>::Parts as Symmetric<()>>⟧.same
-        (⟦<Self as Codec>⟧.parts_of r) (⟦<Self as Codec>⟧.parts_of s) };
-
-    ghost symmetric = { λ c. shown_symmetric ⟦<Self as Codec>⟧.parts_of _ _ _ _
-        (⟦<<Self as Codec>::Parts as Symmetric<()>>⟧.symmetric c) };
-}
-
 /// A table, with its size in bytes.
 #[derive(Debug, PartialEq, Eq, Drop)]
 pub struct Table {
     pub version: u8,
     pub size: u16,
-    pub entries: Vec<Entry>,
+    pub entries: Vec<Coded<Entry>>,
     pub last: u8,
 }
 
@@ -128,7 +80,7 @@ impl Table {
 impl Codec for Table {
     type Parts = (
         Msb<u8, 4>,
-        FilledBy<Msb<u16, 12>, TableEntriesSize, Entry>,
+        FilledBy<Msb<u16, 12>, TableEntriesSize, Coded<Entry>>,
         u8,
     );
 
@@ -177,48 +129,6 @@ impl Codec for Table {
     }
 
     ghost there = { λ r. refl };
-}
-
-impl DekuReader<()> for Table {
-    ghost accepts = { λ c. ⟦<<Self as Codec>::Parts as DekuReader<()>>⟧.accepts c };
-
-    ghost no_read_ahead = { λ c. ⟦<<Self as Codec>::Parts as DekuReader<()>>⟧.no_read_ahead c };
-
-    ghost meaning = { λ c. Then (⟦<<Self as Codec>::Parts as DekuReader<()>>⟧.meaning c)
-        (Shows ⟦<Self as Codec>⟧.parts_of) };
-
-    fn from_reader_with_ctx<R: Source>(
-        reader: &mut Reader<R>,
-        _ctx: (),
-    ) -> Result<Self, DekuError> {
-        Self::read(reader)
-    }
-}
-
-impl DekuWriter<()> for Table {
-    ghost accepts = { λ c. ⟦<<Self as Codec>::Parts as DekuWriter<()>>⟧.accepts c };
-
-    ghost meaning = { λ r c. ⟦<<Self as Codec>::Parts as DekuWriter<()>>⟧.meaning
-        (⟦<Self as Codec>⟧.parts_of r) c };
-
-    fn to_writer<W: Sink>(&self, writer: &mut Writer<W>, _ctx: ()) -> Result<(), DekuError> {
-        self.write(writer)
-    }
-}
-
-impl DekuContainerRead for Table {}
-
-impl DekuContainerWrite for Table {}
-
-impl Symmetric<()> for Table {
-    ghost pieces = { λ r c. ⟦<<Self as Codec>::Parts as Symmetric<()>>⟧.pieces
-        (⟦<Self as Codec>⟧.parts_of r) c };
-
-    ghost same = { λ r s. ⟦<<Self as Codec>::Parts as Symmetric<()>>⟧.same
-        (⟦<Self as Codec>⟧.parts_of r) (⟦<Self as Codec>⟧.parts_of s) };
-
-    ghost symmetric = { λ c. shown_symmetric ⟦<Self as Codec>⟧.parts_of _ _ _ _
-        (⟦<<Self as Codec>::Parts as Symmetric<()>>⟧.symmetric c) };
 }
 
 /// Two lists, with their lengths in front of both.
@@ -334,48 +244,6 @@ impl Codec for Pair {
     ghost there = { λ r. refl };
 }
 
-impl DekuReader<()> for Pair {
-    ghost accepts = { λ c. ⟦<<Self as Codec>::Parts as DekuReader<()>>⟧.accepts c };
-
-    ghost no_read_ahead = { λ c. ⟦<<Self as Codec>::Parts as DekuReader<()>>⟧.no_read_ahead c };
-
-    ghost meaning = { λ c. Then (⟦<<Self as Codec>::Parts as DekuReader<()>>⟧.meaning c)
-        (Shows ⟦<Self as Codec>⟧.parts_of) };
-
-    fn from_reader_with_ctx<R: Source>(
-        reader: &mut Reader<R>,
-        _ctx: (),
-    ) -> Result<Self, DekuError> {
-        Self::read(reader)
-    }
-}
-
-impl DekuWriter<()> for Pair {
-    ghost accepts = { λ c. ⟦<<Self as Codec>::Parts as DekuWriter<()>>⟧.accepts c };
-
-    ghost meaning = { λ r c. ⟦<<Self as Codec>::Parts as DekuWriter<()>>⟧.meaning
-        (⟦<Self as Codec>⟧.parts_of r) c };
-
-    fn to_writer<W: Sink>(&self, writer: &mut Writer<W>, _ctx: ()) -> Result<(), DekuError> {
-        self.write(writer)
-    }
-}
-
-impl DekuContainerRead for Pair {}
-
-impl DekuContainerWrite for Pair {}
-
-impl Symmetric<()> for Pair {
-    ghost pieces = { λ r c. ⟦<<Self as Codec>::Parts as Symmetric<()>>⟧.pieces
-        (⟦<Self as Codec>⟧.parts_of r) c };
-
-    ghost same = { λ r s. ⟦<<Self as Codec>::Parts as Symmetric<()>>⟧.same
-        (⟦<Self as Codec>⟧.parts_of r) (⟦<Self as Codec>⟧.parts_of s) };
-
-    ghost symmetric = { λ c. shown_symmetric ⟦<Self as Codec>⟧.parts_of _ _ _ _
-        (⟦<<Self as Codec>::Parts as Symmetric<()>>⟧.symmetric c) };
-}
-
 /// A log, which goes on to the end.
 #[derive(Debug, PartialEq, Eq, Drop)]
 pub struct Log {
@@ -424,46 +292,4 @@ impl Codec for Log {
     }
 
     ghost there = { λ r. refl };
-}
-
-impl DekuReader<()> for Log {
-    ghost accepts = { λ c. ⟦<<Self as Codec>::Parts as DekuReader<()>>⟧.accepts c };
-
-    ghost no_read_ahead = { λ c. ⟦<<Self as Codec>::Parts as DekuReader<()>>⟧.no_read_ahead c };
-
-    ghost meaning = { λ c. Then (⟦<<Self as Codec>::Parts as DekuReader<()>>⟧.meaning c)
-        (Shows ⟦<Self as Codec>⟧.parts_of) };
-
-    fn from_reader_with_ctx<R: Source>(
-        reader: &mut Reader<R>,
-        _ctx: (),
-    ) -> Result<Self, DekuError> {
-        Self::read(reader)
-    }
-}
-
-impl DekuWriter<()> for Log {
-    ghost accepts = { λ c. ⟦<<Self as Codec>::Parts as DekuWriter<()>>⟧.accepts c };
-
-    ghost meaning = { λ r c. ⟦<<Self as Codec>::Parts as DekuWriter<()>>⟧.meaning
-        (⟦<Self as Codec>⟧.parts_of r) c };
-
-    fn to_writer<W: Sink>(&self, writer: &mut Writer<W>, _ctx: ()) -> Result<(), DekuError> {
-        self.write(writer)
-    }
-}
-
-impl DekuContainerRead for Log {}
-
-impl DekuContainerWrite for Log {}
-
-impl SymmetricLast for Log {
-    ghost pieces = { λ r. ⟦<<Self as Codec>::Parts as SymmetricLast>⟧.pieces
-        (⟦<Self as Codec>⟧.parts_of r) };
-
-    ghost same = { λ r s. ⟦<<Self as Codec>::Parts as SymmetricLast>⟧.same
-        (⟦<Self as Codec>⟧.parts_of r) (⟦<Self as Codec>⟧.parts_of s) };
-
-    ghost symmetric = { last_symmetric ⟦<Self as Codec>⟧.parts_of _ _ _ _
-        ⟦<<Self as Codec>::Parts as SymmetricLast>⟧.symmetric };
 }

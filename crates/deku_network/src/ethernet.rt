@@ -15,16 +15,9 @@
 //! Printed by `derive` from `ethernet.rs`.
 
 ghost use Rattle.std.specs.Prelude.{refl};
-ghost use Rattle.deku.specs.Composing.{Then};
-ghost use Rattle.deku.specs.Shapes.{Shows};
-ghost use Rattle.deku_pieces.proofs.Turned.{shown_symmetric};
 ghost use Rattle.deku_symmetry.specs.Fields.{be, msb};
 
-use deku::device::{Sink, Source};
-use deku::prelude::{
-    DekuContainerRead, DekuContainerWrite, DekuError, DekuReader, DekuWriter, Reader, Writer,
-};
-use deku_symmetry::{Be, Codec, CopyParts, Msb, Symmetric};
+use deku_symmetry::{Be, CopyParts, Msb};
 
 /// The header of a frame.
 #[derive(Debug, Clone, Copy, PartialEq, Eq)]
@@ -62,48 +55,6 @@ impl CopyParts for Ethernet {
     }
 
     ghost there = { λ r. refl };
-}
-
-impl DekuReader<()> for Ethernet {
-    ghost accepts = { λ c. ⟦<<Self as Codec>::Parts as DekuReader<()>>⟧.accepts c };
-
-    ghost no_read_ahead = { λ c. ⟦<<Self as Codec>::Parts as DekuReader<()>>⟧.no_read_ahead c };
-
-    ghost meaning = { λ c. Then (⟦<<Self as Codec>::Parts as DekuReader<()>>⟧.meaning c)
-        (Shows ⟦<Self as Codec>⟧.parts_of) };
-
-    fn from_reader_with_ctx<R: Source>(
-        reader: &mut Reader<R>,
-        _ctx: (),
-    ) -> Result<Self, DekuError> {
-        Self::read(reader)
-    }
-}
-
-impl DekuWriter<()> for Ethernet {
-    ghost accepts = { λ c. ⟦<<Self as Codec>::Parts as DekuWriter<()>>⟧.accepts c };
-
-    ghost meaning = { λ r c. ⟦<<Self as Codec>::Parts as DekuWriter<()>>⟧.meaning
-        (⟦<Self as Codec>⟧.parts_of r) c };
-
-    fn to_writer<W: Sink>(&self, writer: &mut Writer<W>, _ctx: ()) -> Result<(), DekuError> {
-        self.write(writer)
-    }
-}
-
-impl DekuContainerRead for Ethernet {}
-
-impl DekuContainerWrite for Ethernet {}
-
-impl Symmetric<()> for Ethernet {
-    ghost pieces = { λ r c. ⟦<<Self as Codec>::Parts as Symmetric<()>>⟧.pieces
-        (⟦<Self as Codec>⟧.parts_of r) c };
-
-    ghost same = { λ r s. ⟦<<Self as Codec>::Parts as Symmetric<()>>⟧.same
-        (⟦<Self as Codec>⟧.parts_of r) (⟦<Self as Codec>⟧.parts_of s) };
-
-    ghost symmetric = { λ c. shown_symmetric ⟦<Self as Codec>⟧.parts_of _ _ _ _
-        (⟦<<Self as Codec>::Parts as Symmetric<()>>⟧.symmetric c) };
 }
 
 /// The tag of a virtual network.
@@ -155,46 +106,4 @@ impl CopyParts for Tag {
     }
 
     ghost there = { λ r. refl };
-}
-
-impl DekuReader<()> for Tag {
-    ghost accepts = { λ c. ⟦<<Self as Codec>::Parts as DekuReader<()>>⟧.accepts c };
-
-    ghost no_read_ahead = { λ c. ⟦<<Self as Codec>::Parts as DekuReader<()>>⟧.no_read_ahead c };
-
-    ghost meaning = { λ c. Then (⟦<<Self as Codec>::Parts as DekuReader<()>>⟧.meaning c)
-        (Shows ⟦<Self as Codec>⟧.parts_of) };
-
-    fn from_reader_with_ctx<R: Source>(
-        reader: &mut Reader<R>,
-        _ctx: (),
-    ) -> Result<Self, DekuError> {
-        Self::read(reader)
-    }
-}
-
-impl DekuWriter<()> for Tag {
-    ghost accepts = { λ c. ⟦<<Self as Codec>::Parts as DekuWriter<()>>⟧.accepts c };
-
-    ghost meaning = { λ r c. ⟦<<Self as Codec>::Parts as DekuWriter<()>>⟧.meaning
-        (⟦<Self as Codec>⟧.parts_of r) c };
-
-    fn to_writer<W: Sink>(&self, writer: &mut Writer<W>, _ctx: ()) -> Result<(), DekuError> {
-        self.write(writer)
-    }
-}
-
-impl DekuContainerRead for Tag {}
-
-impl DekuContainerWrite for Tag {}
-
-impl Symmetric<()> for Tag {
-    ghost pieces = { λ r c. ⟦<<Self as Codec>::Parts as Symmetric<()>>⟧.pieces
-        (⟦<Self as Codec>⟧.parts_of r) c };
-
-    ghost same = { λ r s. ⟦<<Self as Codec>::Parts as Symmetric<()>>⟧.same
-        (⟦<Self as Codec>⟧.parts_of r) (⟦<Self as Codec>⟧.parts_of s) };
-
-    ghost symmetric = { λ c. shown_symmetric ⟦<Self as Codec>⟧.parts_of _ _ _ _
-        (⟦<<Self as Codec>::Parts as Symmetric<()>>⟧.symmetric c) };
 }

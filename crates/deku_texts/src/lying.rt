@@ -20,13 +20,19 @@ const BARE: Wrapping = Wrapping {
     bits: None,
 };
 
-/// How a field is laid out that depends on no other field.
+/// How a field lies that no other field has to do with.
 pub fn lying(field: &Field<'_>) -> Wrapping {
-    if !is_of_numbers(&field.kind) {
-        return BARE;
+    if is_of_numbers(&field.kind) {
+        let whole = common_bits(&field.kind).unwrap_or(0);
+        return number(field.layout.order, field.bits, whole, is_big(field));
     }
-    let whole = common_bits(&field.kind).unwrap_or(0);
-    number(field.layout.order, field.bits, whole, is_big(field))
+    match &field.kind {
+        Type::Name(name) if !name.is_name("CString") => Wrapping {
+            around: "Coded",
+            bits: None,
+        },
+        _ => BARE,
+    }
 }
 
 /// Whether the numbers of a field have their high byte first.
@@ -172,7 +178,7 @@ pub fn plain(out: &mut String, kind: &Type<'_>) -> Result<(), AllocError> {
     }
 }
 
-/// Appends a type of parts: each number with the part around it.
+/// Appends a type of parts: each number and record with the part around it.
 pub fn item(out: &mut String, kind: &Type<'_>, field: &Field<'_>) -> Result<(), AllocError> {
     match kind {
         Type::Name(name) => named(out, name.text, field),
@@ -200,14 +206,18 @@ pub fn item(out: &mut String, kind: &Type<'_>, field: &Field<'_>) -> Result<(), 
     }
 }
 
-// Appends a name, with the part around it if it is a number.
+// Appends a name with the part around it.
 fn named(out: &mut String, name: &str, field: &Field<'_>) -> Result<(), AllocError> {
     let whole = match bits_of(name) {
         Some(bits) => Some(bits),
         None => address_bits(name),
     };
     let Some(whole) = whole else {
-        return out.push_str(name);
+        return if name == "CString" {
+            out.push_str(name)
+        } else {
+            write!(out, "Coded<{name}>")
+        };
     };
     let Wrapping { around, bits } = number(field.layout.order, field.bits, whole, is_big(field));
     match (around, bits) {

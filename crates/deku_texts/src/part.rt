@@ -132,7 +132,7 @@ pub fn leaf<'a>(
             names,
         });
     }
-    let made = wrapper(alloc, lying(field), owner)?;
+    let made = wrapper(alloc, lying(field), owner, is_lent)?;
     let (made, name) = (made.as_str(), named.name);
     let word = words::part(around);
     let (value, term) = (value.as_str(), term.as_str());
@@ -184,10 +184,12 @@ fn wrapper(
     alloc: Global,
     Wrapping { around, bits }: Wrapping,
     owner: Owner,
+    is_lent: bool,
 ) -> Result<String, AllocError> {
+    let made = if is_lent { "CodedRef" } else { around };
     match bits {
-        Some(bits) if owner == Owner::Lent => format!(in alloc; "{around}::<_, {bits}>"),
-        _ => String::from_str(alloc, around),
+        Some(bits) if owner == Owner::Lent => format!(in alloc; "{made}::<_, {bits}>"),
+        _ => String::from_str(alloc, made),
     }
 }
 
@@ -198,7 +200,10 @@ fn lent_kind(alloc: Global, field: &Field<'_>, is_lent: bool) -> Result<String, 
         return Ok(kind);
     }
     let kind = kind.as_str();
-    format!(in alloc; "&'a {kind}")
+    match kind.strip_prefix("Coded<") {
+        Some(rest) => format!(in alloc; "CodedRef<'a, {rest}"),
+        None => format!(in alloc; "&'a {kind}"),
+    }
 }
 
 /// Parts as one: a tuple, or the part itself if it is alone.

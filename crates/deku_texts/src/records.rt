@@ -129,7 +129,8 @@ impl<'b, 'a> Records<'b, 'a> {
 
     /// Whether a field holds no memory.
     pub fn is_copied(&self, field: &Field<'a>) -> bool {
-        !lying(field).around.is_empty() || self.of_kind(&field.kind, field).is_copied
+        let one = lying(field).around;
+        !(one.is_empty() || one == "Coded") || self.of_kind(&field.kind, field).is_copied
     }
 
     /// Whether a record holds no memory.

@@ -3,22 +3,15 @@
 use std::alloc::{AllocError, Global};
 
 // The names that a module imports or that its bounds have.
-const IMPORTED: [&str; 61] = [
+const IMPORTED: [&str; 53] = [
     "Sink",
-    "Source",
-    "DekuContainerRead",
-    "DekuContainerWrite",
     "DekuError",
-    "DekuReader",
     "DekuWriter",
-    "Reader",
     "Writer",
     "Codec",
+    "Coded",
+    "CodedRef",
     "CopyParts",
-    "Symmetric",
-    "SymmetricLast",
-    "Then",
-    "Shows",
     "Be",
     "Le",
     "Msb",
@@ -63,7 +56,6 @@ const IMPORTED: [&str; 61] = [
     "Copy",
     "PartialEq",
     "Eq",
-    "R",
     "W",
 ];
 
@@ -171,8 +163,9 @@ pub fn snake(alloc: Global, name: &str) -> Result<String, AllocError> {
 }
 
 /// The parts of one value, and what makes them in ghost text.
-pub const MADE: [(&str, &str); 6] = [
+pub const MADE: [(&str, &str); 7] = [
     ("Be", "be"),
+    ("Coded", "coded"),
     ("Le", "le"),
     ("Lsb", "lsb"),
     ("LsbBe", "lsb_be"),
