@@ -8,7 +8,7 @@ use deku::device::Sink;
 use deku::prelude::{DekuError, DekuWriter, Writer};
 use deku_symmetry::{
     Codec, Coded, Condition, ConditionLaw, CopyParts, CountOf, CountOfLaw, CountedBy, CountedByRef,
-    FilledBy, Optional, OptionalRef, Rest, SizeOf, SizeOfLaw, SizedBy,
+    FilledBy, Optional, OptionalRef, Rest, SizeOf, SizeOfLaw, SizedBy, WriteParts,
 };
 use std::marker::PhantomData;
 
@@ -57,6 +57,10 @@ impl Codec for Counting {
         Counting { count, items }
     }
 
+    ghost there = { λ r. refl };
+}
+
+impl WriteParts for Counting {
     fn write<W: Sink>(&self, writer: &mut Writer<W>) -> Result<(), DekuError> {
         let parts = CountedByRef::<_, CountingItemsCount, _> {
             head: self.count,
@@ -65,8 +69,6 @@ impl Codec for Counting {
         };
         parts.to_writer(writer, ())
     }
-
-    ghost there = { λ r. refl };
 }
 
 /// Two bytes.
@@ -144,6 +146,10 @@ impl Codec for Sizing {
         Sizing { bytes, items }
     }
 
+    ghost there = { λ r. refl };
+}
+
+impl WriteParts for Sizing {
     fn write<W: Sink>(&self, writer: &mut Writer<W>) -> Result<(), DekuError> {
         let parts = SizedBy::<_, SizingItemsSize, _> {
             head: self.bytes,
@@ -152,8 +158,6 @@ impl Codec for Sizing {
         };
         parts.to_writer(writer, ())
     }
-
-    ghost there = { λ r. refl };
 }
 
 /// Items up to the end.
@@ -178,12 +182,14 @@ impl Codec for ToEnd {
         ToEnd { items }
     }
 
+    ghost there = { λ r. refl };
+}
+
+impl WriteParts for ToEnd {
     fn write<W: Sink>(&self, writer: &mut Writer<W>) -> Result<(), DekuError> {
         let parts = &self.items;
         parts.to_writer(writer, ())
     }
-
-    ghost there = { λ r. refl };
 }
 
 /// A field that is there if another one says so.
@@ -231,6 +237,10 @@ impl Codec for Whether {
         Whether { first, second }
     }
 
+    ghost there = { λ r. refl };
+}
+
+impl WriteParts for Whether {
     fn write<W: Sink>(&self, writer: &mut Writer<W>) -> Result<(), DekuError> {
         let parts = OptionalRef::<_, WhetherSecondCondition, _> {
             head: self.first,
@@ -239,6 +249,4 @@ impl Codec for Whether {
         };
         parts.to_writer(writer, ())
     }
-
-    ghost there = { λ r. refl };
 }

@@ -1,6 +1,6 @@
 //! Enums, as they are printed.
 
-use crate::structs::{derives, docs, path_of};
+use crate::structs::{derives, docs, item, term_of, value_of};
 use deku_attributes::model::{Case, Endian, Id, Ids, Order, Record};
 use deku_dependents::building::field_name;
 use deku_description::syntax::Shape;
@@ -361,24 +361,36 @@ fn made_of(
     let mut out = format!(in alloc; "{kinds}_kinds.{case}")?;
     for (i, field) in of.fields.iter().enumerate() {
         let name = field_name(alloc, field, i)?;
-        let path = path_of(&kind.part, name.as_str());
-        match (&kind.kept, i) {
-            (Some(_), 0) => write!(out, " {held}.id")?,
-            (Some(_), _) => write!(out, " {held}.value{path}")?,
-            (None, _) => write!(out, " {held}.0{path}")?,
+        let parts = match (&kind.kept, i) {
+            (Some(_), 0) => format!(in alloc; "{held}.id")?,
+            (Some(_), _) => format!(in alloc; "{held}.value")?,
+            (None, _) => format!(in alloc; "{held}.0")?,
+        };
+        let term = term_of(alloc, &kind.part, name.as_str(), parts.as_str())?;
+        let term = term.as_str();
+        if term.contains(' ') {
+            write!(out, " ({term})")?;
+        } else {
+            write!(out, " {term}")?;
         }
     }
     Ok(out)
 }
 
-// A kind of the enum with its fields as locals, or made of what was kept if it keeps its id.
+// A kind of the enum with its fields as locals, or made of the parts.
 fn own(alloc: Global, name: &str, kind: &Built<'_, '_>, is_made: bool) -> Result<Text, AllocError> {
     let mut items = Vec::new(alloc);
     let of = kind.case;
     for (i, field) in of.fields.iter().enumerate() {
         let name = field_name(alloc, field, i)?;
-        if is_made && kind.kept.is_some() {
-            items.push(of_kept(alloc, kind, name.as_str(), i)?)?;
+        if is_made {
+            let parts = match (&kind.kept, i) {
+                (Some(_), 0) => Some("kept.id"),
+                (Some(_), _) => Some("kept.value"),
+                (None, _) => None,
+            };
+            let value = value_of(alloc, &kind.part, name.as_str(), parts)?;
+            items.push(Text::of(item(alloc, of.shape, name, value)?))?;
         } else {
             items.push(Text::of(name))?;
         }
@@ -386,27 +398,6 @@ fn own(alloc: Global, name: &str, kind: &Built<'_, '_>, is_made: bool) -> Result
     let case = of.name.text;
     let path = format!(in alloc; "{name}::{case}")?;
     of_shape(alloc, path.as_str(), of.shape, Form::Brace, items)
-}
-
-// A field of a kind that keeps its id, made of what was kept.
-fn of_kept(
-    alloc: Global,
-    kind: &Built<'_, '_>,
-    name: &str,
-    place: usize,
-) -> Result<Text, AllocError> {
-    let path = path_of(&kind.part, name);
-    let held = if place == 0 {
-        format!(in alloc; "kept.id")?
-    } else {
-        format!(in alloc; "kept.value{path}")?
-    };
-    let case = kind.case;
-    if case.shape == Shape::Named {
-        let front = format!(in alloc; "{name}: ")?;
-        return Text::of(held).after(alloc, front.as_str());
-    }
-    Ok(Text::of(held))
 }
 
 // The value of the kinds that a kind of the enum stands for, of what its fields are.

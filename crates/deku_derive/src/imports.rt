@@ -6,7 +6,7 @@ use std::alloc::{AllocError, Global};
 use std::fmt::Write as _;
 
 // The names of deku_symmetry, in the order in which `rt fmt` has them.
-const PARTS: [&str; 40] = [
+const PARTS: [&str; 41] = [
     "Assert",
     "Be",
     "Before",
@@ -47,6 +47,7 @@ const PARTS: [&str; 40] = [
     "SizeOfLaw",
     "SizedBy",
     "Symmetric",
+    "WriteParts",
 ];
 
 // Words of ghost text, with what of it is looked for.

@@ -5,5 +5,6 @@
 mod enums;
 mod imports;
 pub mod making;
+mod names;
 pub mod printing;
 mod structs;

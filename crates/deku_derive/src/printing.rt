@@ -2,9 +2,10 @@
 
 use crate::enums::Built;
 use crate::imports::imports;
+use crate::names::Names;
 use crate::structs::docs;
 use crate::{enums, structs};
-use deku_attributes::model::{Case, Form, Id, IdSource, Ids, Module, Record};
+use deku_attributes::model::{Case, Field, Form, Id, IdSource, Ids, Module, Record};
 use deku_dependents::building::{Builder, field_name};
 use deku_dependents::marker::zeros;
 use deku_description::syntax::{Constant, Type};
@@ -65,8 +66,9 @@ pub fn print(
         complaints: Vec::new(alloc),
         is_for_c: asked.exports.is_some(),
     };
+    let names = printer.names(module.records.as_slice())?;
     for record in &module.records {
-        printer.record(record, asked.path)?;
+        printer.record(record, asked.path, &names)?;
     }
     let Printer {
         mut out,
@@ -124,7 +126,48 @@ impl<'b, 'a> Printer<'b, 'a> {
         Ok(())
     }
 
-    fn record(&mut self, record: &Record<'a>, path: Option<&str>) -> Result<(), AllocError> {
+    // What the parts of structs are called.
+    fn names(&self, records: &[Record<'a>]) -> Result<Names<'a>, AllocError> {
+        let mut own = Vec::new(self.alloc);
+        for record in records {
+            if let Form::Struct(_, fields) = &record.form {
+                let mut builder = self.builder(record, fields.as_slice())?;
+                own.push((record.name.text, builder.whole()?.names))?;
+            }
+        }
+        Names::new(self.alloc, own)
+    }
+
+    // The parts of a struct.
+    fn builder(
+        &self,
+        record: &Record<'a>,
+        fields: &[Field<'a>],
+    ) -> Result<Builder<'b, 'a>, AllocError> {
+        let name = record.name.text;
+        let owner = if self.records.is_copied_record(name) {
+            Owner::Copied
+        } else {
+            Owner::Lent
+        };
+        let mut builder = Builder::new(self.alloc, self.records, self.constants, name, owner)?;
+        if let Some(bytes) = &record.magic {
+            let named = words::marker(self.alloc, name, "", "Magic")?;
+            let what = format!(in self.alloc; "magic of {name}")?;
+            let order = record.layout.order;
+            let added = builder.magic(bytes, named, what.as_str(), order, record.name.span);
+            builder.noted(added)?;
+        }
+        builder.fields(fields, 0)?;
+        Ok(builder)
+    }
+
+    fn record(
+        &mut self,
+        record: &Record<'a>,
+        path: Option<&str>,
+        names: &Names<'a>,
+    ) -> Result<(), AllocError> {
         self.declare(record.name)?;
         if !record.is_whole {
             return Ok(());
@@ -152,7 +195,7 @@ impl<'b, 'a> Printer<'b, 'a> {
                     "leave it out, or write `()` in its place",
                 )
             }
-            Form::Struct(_, _) => self.structure(record),
+            Form::Struct(_, _) => self.structure(record, names),
             Form::Enum(ids, cases) => self.enumeration(record, *ids, cases.as_slice(), path),
         }
     }
@@ -199,32 +242,17 @@ impl<'b, 'a> Printer<'b, 'a> {
         Ok(())
     }
 
-    fn structure(&mut self, record: &Record<'a>) -> Result<(), AllocError> {
+    fn structure(&mut self, record: &Record<'a>, names: &Names<'a>) -> Result<(), AllocError> {
         let Form::Struct(shape, fields) = &record.form else {
             return Ok(());
         };
-        let name = record.name.text;
-        let is_copied = self.records.is_copied_record(name);
-        let owner = if is_copied {
-            Owner::Copied
-        } else {
-            Owner::Lent
-        };
-        let mut builder = Builder::new(self.alloc, self.records, self.constants, name, owner)?;
-        if let Some(bytes) = &record.magic {
-            let named = words::marker(self.alloc, name, "", "Magic")?;
-            let what = format!(in self.alloc; "magic of {name}")?;
-            let order = record.layout.order;
-            let added = builder.magic(bytes, named, what.as_str(), order, record.name.span);
-            builder.noted(added)?;
-        }
-        builder.fields(fields.as_slice(), 0)?;
+        let mut builder = self.builder(record, fields.as_slice())?;
         structs::declaration(
             &mut self.out,
             record,
             *shape,
             fields.as_slice(),
-            is_copied,
+            builder.owner == Owner::Copied,
             self.is_for_c,
         )?;
         self.out.push_str(builder.markers.as_str())?;
@@ -234,6 +262,7 @@ impl<'b, 'a> Printer<'b, 'a> {
             *shape,
             fields.as_slice(),
             &mut builder,
+            names.of(record.name.text),
         )?;
         self.built(record, builder)
     }

@@ -95,11 +95,11 @@ pub(crate) fn implementation(
     shape: Shape,
     fields: &[Field<'_>],
     builder: &mut Builder<'_, '_>,
+    names: &[String],
 ) -> Result<(), AllocError> {
     let alloc = *out.allocator();
     let name = record.name.text;
-    let mut whole = builder.whole()?;
-    let names = std::mem::replace(&mut whole.names, Vec::new(alloc));
+    let whole = builder.whole()?;
     named(out, name, names)?;
     let is_copied = builder.owner == Owner::Copied;
     let form = if is_copied { "CopyParts" } else { "Codec" };
@@ -115,22 +115,32 @@ pub(crate) fn implementation(
     if is_copied {
         out.push_str("    fn parts(&self) -> Self::Parts {\n        ")?;
         whole.value.print(out, 8, 0, false)?;
-    } else {
-        out.push_str("    fn write<W: Sink>(&self, writer: &mut Writer<W>) -> ")?;
-        out.push_str("Result<(), DekuError> {\n        let parts = ")?;
-        whole.value.print(out, 8, 1, false)?;
-        out.push_str(";\n        parts.to_writer(writer, ())")?;
+        out.push_str("\n    }\n\n")?;
     }
-    out.push_str("\n    }\n\n    ghost there = { λ r. refl };\n}\n")
+    out.push_str("    ghost there = { λ r. refl };\n}\n")?;
+    if is_copied {
+        return Ok(());
+    }
+    writeln!(out, "\nimpl WriteParts for {name} {{")?;
+    out.push_str("    fn write<W: Sink>(&self, writer: &mut Writer<W>) -> ")?;
+    out.push_str("Result<(), DekuError> {\n        let parts = ")?;
+    whole.value.print(out, 8, 1, false)?;
+    out.push_str(";\n        parts.to_writer(writer, ())\n    }\n}\n")
 }
 
 // Appends the names of a record's parts.
-fn named(out: &mut String, name: &str, names: Vec<Text>) -> Result<(), AllocError> {
+fn named(out: &mut String, name: &str, names: &[String]) -> Result<(), AllocError> {
+    let alloc = *out.allocator();
     let count = names.len();
+    let mut literals = Vec::new(alloc);
+    for name in names {
+        let name = name.as_str();
+        literals.push(Text::of(format!(in alloc; "\"{name}\"")?))?;
+    }
     writeln!(out, "\nimpl {name} {{")?;
     out.push_str("    /// The names of its parts, in their order.\n")?;
     write!(out, "    pub const FIELDS: [&'static str; {count}] = ")?;
-    Text::group(*out.allocator(), Form::Square, "[", names)?.print(out, 4, 1, false)?;
+    Text::group(alloc, Form::Square, "[", literals)?.print(out, 4, 1, false)?;
     out.push_str(";\n}\n")
 }
 
@@ -149,13 +159,13 @@ fn from_parts(
     let alloc = *out.allocator();
     let mut text = String::from_str(alloc, "    fn from_parts(")?;
     taken(&mut text, &whole.pattern)?;
-    made(alloc, record, shape, fields, None)?.print(&mut text, 8, 0, false)?;
+    made(alloc, record, shape, fields, whole, None)?.print(&mut text, 8, 0, false)?;
     if !whole.is_lent && text.as_str().lines().count() > LINES {
         text = String::from_str(
             alloc,
             "    fn from_parts(parts: Self::Parts) -> Self {\n        ",
         )?;
-        made(alloc, record, shape, fields, Some(whole))?.print(&mut text, 8, 0, false)?;
+        made(alloc, record, shape, fields, whole, Some("parts"))?.print(&mut text, 8, 0, false)?;
     }
     out.push_str(text.as_str())?;
     out.push_str("\n    }\n\n")
@@ -200,23 +210,47 @@ fn bound(
     whole: &Part<'_>,
 ) -> Result<Text, AllocError> {
     let name = field_name(alloc, field, place)?;
-    let path = path_of(whole, name.as_str());
+    let term = term_of(alloc, whole, name.as_str(), "p")?;
+    let term = term.as_str();
     if shape == Shape::Tuple {
-        return Ok(Text::of(format!(in alloc; "{place} = p{path}")?));
+        return Ok(Text::of(format!(in alloc; "{place} = {term}")?));
     }
     let name = quoted(alloc, name.as_str())?;
     let name = name.as_str();
-    Ok(Text::of(format!(in alloc; "{name} = p{path}")?))
+    Ok(Text::of(format!(in alloc; "{name} = {term}")?))
 }
 
-/// What leads from the parts to a field.
-pub(crate) fn path_of<'p>(whole: &'p Part<'_>, name: &str) -> &'p str {
-    for place in &whole.places {
-        if place.name.as_str() == name {
-            return place.path.as_str();
-        }
-    }
-    ""
+/// A field, of the parts that this leads to, in ghost text.
+pub(crate) fn term_of(
+    alloc: Global,
+    whole: &Part<'_>,
+    name: &str,
+    parts: &str,
+) -> Result<String, AllocError> {
+    let Some(place) = whole.place(name) else {
+        return String::from_str(alloc, parts);
+    };
+    let path = place.path.as_str();
+    let held = format!(in alloc; "{parts}{path}")?;
+    place.term(alloc, held.as_str())
+}
+
+/// A field, of the parts that this leads to, or of the local of its name.
+pub(crate) fn value_of(
+    alloc: Global,
+    whole: &Part<'_>,
+    name: &str,
+    parts: Option<&str>,
+) -> Result<String, AllocError> {
+    let Some(place) = whole.place(name) else {
+        return String::from_str(alloc, parts.unwrap_or(name));
+    };
+    let Some(parts) = parts else {
+        return place.made(alloc, name);
+    };
+    let path = place.path.as_str();
+    let held = format!(in alloc; "{parts}{path}")?;
+    place.made(alloc, held.as_str())
 }
 
 // The record made of its fields: of locals of their names, or of parts.
@@ -225,15 +259,14 @@ fn made(
     record: &Record<'_>,
     shape: Shape,
     fields: &[Field<'_>],
-    parts: Option<&Part<'_>>,
+    whole: &Part<'_>,
+    parts: Option<&str>,
 ) -> Result<Text, AllocError> {
     let mut items = Vec::new(alloc);
     for (i, field) in fields.iter().enumerate() {
         let name = field_name(alloc, field, i)?;
-        items.push(Text::of(match parts {
-            Some(whole) => held(alloc, shape, name.as_str(), whole)?,
-            None => name,
-        }))?;
+        let value = value_of(alloc, whole, name.as_str(), parts)?;
+        items.push(Text::of(item(alloc, shape, name, value)?))?;
     }
     let name = record.name.text;
     if shape == Shape::Tuple {
@@ -244,11 +277,16 @@ fn made(
     Text::group(alloc, Form::Brace, open.as_str(), items)
 }
 
-// A field of the record that is made of its parts.
-fn held(alloc: Global, shape: Shape, name: &str, whole: &Part<'_>) -> Result<String, AllocError> {
-    let path = path_of(whole, name);
-    if shape == Shape::Tuple {
-        return format!(in alloc; "parts{path}");
+/// A field with its value, as a struct of this shape takes it.
+pub(crate) fn item(
+    alloc: Global,
+    shape: Shape,
+    name: String,
+    value: String,
+) -> Result<String, AllocError> {
+    if shape == Shape::Tuple || name.as_str() == value.as_str() {
+        return Ok(value);
     }
-    format!(in alloc; "{name}: parts{path}")
+    let (name, value) = (name.as_str(), value.as_str());
+    format!(in alloc; "{name}: {value}")
 }

@@ -3,11 +3,9 @@
 //! Printed by `derive` from `frame.rs`.
 
 ghost use Rattle.std.specs.Prelude.{◌||◌, nat_eq, nat_le, codes, refl};
-ghost use Rattle.deku_symmetry.specs.Fields.{be, coded, msb};
+ghost use Rattle.deku_symmetry.specs.Fields.{be, msb};
 
-use deku_symmetry::{
-    Assert, Be, Check, CheckLaw, Coded, Constant, ConstantLaw, CopyParts, Magic, Msb,
-};
+use deku_symmetry::{Assert, Be, Check, CheckLaw, Constant, ConstantLaw, CopyParts, Magic, Msb};
 
 /// Padding.
 #[derive(Debug, PartialEq, Eq, Drop)]
@@ -156,8 +154,15 @@ impl CheckLaw<Msb<u8, 4>> for FrameVersionCheck {
 
 impl Frame {
     /// The names of its parts, in their order.
-    pub const FIELDS: [&'static str; 7] = [
-        "magic", "version", "kind", "range", "pair", "padding", "end",
+    pub const FIELDS: [&'static str; 8] = [
+        "magic",
+        "version",
+        "kind",
+        "range.low",
+        "range.high",
+        "pair",
+        "padding",
+        "end",
     ];
 }
 
@@ -166,7 +171,7 @@ impl CopyParts for Frame {
         Magic<u8, FrameMagic>,
         Assert<Msb<u8, 4>, FrameVersionCheck>,
         Msb<u8, 4>,
-        Coded<Range>,
+        <Range as CopyParts>::Parts,
         Be<(u8, u16)>,
         Magic<Msb<u64, 6>, Zeros>,
         Msb<u8, 2>,
@@ -176,7 +181,7 @@ impl CopyParts for Frame {
       record { part = record {}; constant = record {} },
       record { part = msb r.version; check = record {} },
       msb r.kind,
-      coded r.range,
+      ⟦<Range as CopyParts>⟧.parts_of r.range,
       be r.pair,
       record { part = record {}; constant = record {} },
       msb r.end,
@@ -185,7 +190,7 @@ impl CopyParts for Frame {
     ghost record_of = { λ p. record {
       version = p.1.part.0;
       kind = p.2.0;
-      range = p.3.0;
+      range = ⟦<Range as CopyParts>⟧.record_of p.3;
       pair = p.4.0;
       end = p.6.0;
     } };
@@ -198,7 +203,7 @@ impl CopyParts for Frame {
                 ..
             },
             Msb(kind),
-            Coded(range),
+            range,
             Be(pair),
             _,
             Msb(end),
@@ -206,7 +211,7 @@ impl CopyParts for Frame {
         Frame {
             version,
             kind,
-            range,
+            range: <Range as CopyParts>::from_parts(range),
             pair,
             end,
         }
@@ -217,7 +222,7 @@ impl CopyParts for Frame {
             Magic::new(),
             Assert::new(Msb(self.version)),
             Msb(self.kind),
-            Coded(self.range),
+            self.range.parts(),
             Be(self.pair),
             Magic::new(),
             Msb(self.end),

@@ -9,6 +9,7 @@ use deku::device::Sink;
 use deku::prelude::{DekuError, DekuWriter, Writer};
 use deku_symmetry::{
     Be, Codec, Condition, ConditionLaw, Constant, ConstantLaw, Magic, Msb, Optional, OptionalRef,
+    WriteParts,
 };
 use std::marker::PhantomData;
 
@@ -219,6 +220,10 @@ impl Codec for Gre {
         }
     }
 
+    ghost there = { λ r. refl };
+}
+
+impl WriteParts for Gre {
     fn write<W: Sink>(&self, writer: &mut Writer<W>) -> Result<(), DekuError> {
         let parts = OptionalRef::<_, GreSequenceCondition, _> {
             head: OptionalRef::<_, GreKeyCondition, _> {
@@ -249,6 +254,4 @@ impl Codec for Gre {
         };
         parts.to_writer(writer, ())
     }
-
-    ghost there = { λ r. refl };
 }

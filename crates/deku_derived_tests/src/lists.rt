@@ -9,7 +9,7 @@ use deku::device::Sink;
 use deku::prelude::{DekuError, DekuWriter, Writer};
 use deku_symmetry::{
     Be, Before, Codec, Coded, CopyParts, CountOf, CountOfLaw, CountedBy, CountedByRef, FilledBy,
-    Msb, Rest, SizeOf, SizeOfLaw, SizedBy,
+    Msb, Rest, SizeOf, SizeOfLaw, SizedBy, WriteParts,
 };
 use std::marker::PhantomData;
 
@@ -115,6 +115,10 @@ impl Codec for Table {
         }
     }
 
+    ghost there = { λ r. refl };
+}
+
+impl WriteParts for Table {
     fn write<W: Sink>(&self, writer: &mut Writer<W>) -> Result<(), DekuError> {
         let parts = (
             Msb::<_, 4>(self.version),
@@ -127,8 +131,6 @@ impl Codec for Table {
         );
         parts.to_writer(writer, ())
     }
-
-    ghost there = { λ r. refl };
 }
 
 /// Two lists, with their lengths in front of both.
@@ -228,6 +230,10 @@ impl Codec for Pair {
         }
     }
 
+    ghost there = { λ r. refl };
+}
+
+impl WriteParts for Pair {
     fn write<W: Sink>(&self, writer: &mut Writer<W>) -> Result<(), DekuError> {
         let parts = CountedByRef::<_, PairValueCount, _> {
             head: CountedByRef::<_, PairNameCount, _> {
@@ -240,8 +246,6 @@ impl Codec for Pair {
         };
         parts.to_writer(writer, ())
     }
-
-    ghost there = { λ r. refl };
 }
 
 /// A log, which goes on to the end.
@@ -283,6 +287,10 @@ impl Codec for Log {
         }
     }
 
+    ghost there = { λ r. refl };
+}
+
+impl WriteParts for Log {
     fn write<W: Sink>(&self, writer: &mut Writer<W>) -> Result<(), DekuError> {
         let parts = Before {
             head: (Msb::<_, 4>(self.version), Msb::<_, 12>(self.number)),
@@ -290,6 +298,4 @@ impl Codec for Log {
         };
         parts.to_writer(writer, ())
     }
-
-    ghost there = { λ r. refl };
 }

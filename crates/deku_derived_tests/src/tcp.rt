@@ -7,7 +7,7 @@ ghost use Rattle.deku_symmetry.specs.Fields.{be, msb};
 
 use deku::device::Sink;
 use deku::prelude::{DekuError, DekuWriter, Writer};
-use deku_symmetry::{Be, Codec, CountOf, CountOfLaw, CountedBy, CountedByRef, Msb};
+use deku_symmetry::{Be, Codec, CountOf, CountOfLaw, CountedBy, CountedByRef, Msb, WriteParts};
 use std::marker::PhantomData;
 
 /// The record `Tcp`.
@@ -191,6 +191,10 @@ impl Codec for Tcp {
         }
     }
 
+    ghost there = { λ r. refl };
+}
+
+impl WriteParts for Tcp {
     fn write<W: Sink>(&self, writer: &mut Writer<W>) -> Result<(), DekuError> {
         let parts = (
             Be(self.source),
@@ -223,6 +227,4 @@ impl Codec for Tcp {
         );
         parts.to_writer(writer, ())
     }
-
-    ghost there = { λ r. refl };
 }

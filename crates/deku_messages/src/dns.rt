@@ -25,7 +25,9 @@ ghost use Rattle.deku_symmetry.specs.Fields.{be, msb};
 
 use deku::device::Sink;
 use deku::prelude::{DekuError, DekuWriter, Writer};
-use deku_symmetry::{Be, Codec, CopyParts, CountOf, CountOfLaw, CountedBy, CountedByRef, Msb};
+use deku_symmetry::{
+    Be, Codec, CopyParts, CountOf, CountOfLaw, CountedBy, CountedByRef, Msb, WriteParts,
+};
 use std::marker::PhantomData;
 
 /// The header of a message.
@@ -241,6 +243,10 @@ impl Codec for Text {
         Text { length, bytes }
     }
 
+    ghost there = { λ r. refl };
+}
+
+impl WriteParts for Text {
     fn write<W: Sink>(&self, writer: &mut Writer<W>) -> Result<(), DekuError> {
         let parts = CountedByRef::<_, TextBytesCount, _> {
             head: self.length,
@@ -249,6 +255,4 @@ impl Codec for Text {
         };
         parts.to_writer(writer, ())
     }
-
-    ghost there = { λ r. refl };
 }

@@ -22,6 +22,7 @@ use deku::device::Sink;
 use deku::prelude::{DekuError, DekuWriter, Writer};
 use deku_symmetry::{
     Assert, Be, Check, CheckLaw, Codec, CountOf, CountOfLaw, CountedBy, CountedByRef, Msb,
+    WriteParts,
 };
 use std::marker::PhantomData;
 
@@ -189,6 +190,10 @@ impl Codec for Rtp {
         }
     }
 
+    ghost there = { λ r. refl };
+}
+
+impl WriteParts for Rtp {
     fn write<W: Sink>(&self, writer: &mut Writer<W>) -> Result<(), DekuError> {
         let parts = (
             Assert::<_, RtpVersionValue> {
@@ -212,6 +217,4 @@ impl Codec for Rtp {
         );
         parts.to_writer(writer, ())
     }
-
-    ghost there = { λ r. refl };
 }

@@ -25,6 +25,7 @@ use deku::device::Sink;
 use deku::prelude::{DekuError, DekuWriter, Writer};
 use deku_symmetry::{
     Assert, Be, Check, CheckLaw, Codec, CountOf, CountOfLaw, CountedBy, CountedByRef, Msb,
+    WriteParts,
 };
 use std::marker::PhantomData;
 use std::net::Ipv4Addr;
@@ -235,6 +236,10 @@ impl Codec for Ipv4 {
         }
     }
 
+    ghost there = { λ r. refl };
+}
+
+impl WriteParts for Ipv4 {
     fn write<W: Sink>(&self, writer: &mut Writer<W>) -> Result<(), DekuError> {
         let parts = (
             Assert::<_, Ipv4VersionValue> {
@@ -268,6 +273,4 @@ impl Codec for Ipv4 {
         );
         parts.to_writer(writer, ())
     }
-
-    ghost there = { λ r. refl };
 }

@@ -21,7 +21,7 @@ use deku::device::Sink;
 use deku::prelude::{DekuError, DekuWriter, Writer};
 use deku_symmetry::{
     Assert, Be, Check, CheckLaw, Codec, CopyParts, CountOf, CountOfLaw, CountedBy, CountedByRef,
-    Msb,
+    Msb, WriteParts,
 };
 use std::marker::PhantomData;
 use std::net::Ipv6Addr;
@@ -220,6 +220,10 @@ impl Codec for Options {
         }
     }
 
+    ghost there = { λ r. refl };
+}
+
+impl WriteParts for Options {
     fn write<W: Sink>(&self, writer: &mut Writer<W>) -> Result<(), DekuError> {
         let parts = (
             self.next,
@@ -231,8 +235,6 @@ impl Codec for Options {
         );
         parts.to_writer(writer, ())
     }
-
-    ghost there = { λ r. refl };
 }
 
 /// The extension header that lists routers to pass (43).
@@ -308,6 +310,10 @@ impl Codec for Routing {
         }
     }
 
+    ghost there = { λ r. refl };
+}
+
+impl WriteParts for Routing {
     fn write<W: Sink>(&self, writer: &mut Writer<W>) -> Result<(), DekuError> {
         let parts = (
             self.next,
@@ -319,8 +325,6 @@ impl Codec for Routing {
         );
         parts.to_writer(writer, ())
     }
-
-    ghost there = { λ r. refl };
 }
 
 /// The extension header of a packet that was cut (44).

@@ -29,8 +29,16 @@ pub struct Part<'a> {
     pub term: Text,
     /// Where its fields are.
     pub places: Vec<Place<'a>>,
-    /// The name of each of its parts, as a literal.
-    pub names: Vec<Text>,
+    /// The name of each of its parts.
+    pub names: Vec<PartName<'a>>,
+}
+
+/// What a part is called.
+#[derive(Drop)]
+pub struct PartName<'a> {
+    pub name: String,
+    /// The record whose parts it is, if it is several.
+    pub record: Option<&'a str>,
 }
 
 /// Where a field is in its parts.
@@ -44,6 +52,8 @@ pub struct Place<'a> {
     pub path: String,
     /// What leads to its equation from those of parts that are the same.
     pub same: String,
+    /// The record whose parts are there in place of the field.
+    pub record: Option<&'a str>,
 }
 
 /// What a field is called.
@@ -76,7 +86,31 @@ impl<'a> Place<'a> {
             same: format!(in alloc; "{same}{inner_same}")?,
             name: self.name,
             number: self.number,
+            record: self.record,
         })
+    }
+
+    /// What makes the field of what is in its place.
+    pub fn made(&self, alloc: Global, held: &str) -> Result<String, AllocError> {
+        match self.record {
+            Some(record) => format!(in alloc; "<{record} as CopyParts>::from_parts({held})"),
+            None => String::from_str(alloc, held),
+        }
+    }
+
+    /// The same in ghost text.
+    pub fn term(&self, alloc: Global, held: &str) -> Result<String, AllocError> {
+        match self.record {
+            Some(record) => format!(in alloc; "⟦<{record} as CopyParts>⟧.record_of {held}"),
+            None => String::from_str(alloc, held),
+        }
+    }
+}
+
+impl<'a> Part<'a> {
+    /// Where a field is in it.
+    pub fn place(&self, name: &str) -> Option<&Place<'a>> {
+        self.places.iter().find(|place| place.name.as_str() == name)
     }
 }
 
@@ -94,6 +128,47 @@ fn within<'a>(
     Ok(moved)
 }
 
+// The parts of the record that a field is, in place of it.
+fn inlined<'a>(
+    alloc: Global,
+    record: &'a str,
+    owner: Owner,
+    Named { name, access }: Named<'_>,
+) -> Result<Part<'a>, AllocError> {
+    let (value, term) = match owner {
+        Owner::Kind => (format!(in alloc; "{name}.parts()")?, quoted(alloc, name)?),
+        Owner::Lent | Owner::Copied => (
+            format!(in alloc; "self.{access}.parts()")?,
+            format!(in alloc; "r.{access}")?,
+        ),
+    };
+    let term = term.as_str();
+    let mut places = Vec::new(alloc);
+    places.push(Place {
+        name: String::from_str(alloc, name)?,
+        number: None,
+        path: String::new(alloc),
+        same: String::new(alloc),
+        record: Some(record),
+    })?;
+    let mut names = Vec::new(alloc);
+    names.push(PartName {
+        name: String::from_str(alloc, name)?,
+        record: Some(record),
+    })?;
+    let kind = format!(in alloc; "<{record} as CopyParts>::Parts")?;
+    Ok(Part {
+        lent: Text::word(alloc, kind.as_str())?,
+        kind: Text::of(kind),
+        is_lent: false,
+        pattern: Text::word(alloc, name)?,
+        value: Text::of(value),
+        term: Text::of(format!(in alloc; "⟦<{record} as CopyParts>⟧.parts_of {term}")?),
+        places,
+        names,
+    })
+}
+
 /// The part of one field that no other field has to do with.
 pub fn leaf<'a>(
     alloc: Global,
@@ -102,6 +177,9 @@ pub fn leaf<'a>(
     field: &Field<'a>,
     named: Named<'_>,
 ) -> Result<Part<'a>, AllocError> {
+    if let Some(record) = records.inlined(field) {
+        return inlined(alloc, record, owner, named);
+    }
     let around = lying(field).around;
     let kind = part_kind(alloc, field)?;
     let is_lent = owner == Owner::Lent && !records.is_copied(field);
@@ -113,12 +191,13 @@ pub fn leaf<'a>(
         number: number_kind(field),
         path: String::from_str(alloc, if around.is_empty() { "" } else { ".0" })?,
         same: String::new(alloc),
+        record: None,
     };
     let mut places = Vec::new(alloc);
     places.push(place)?;
     let mut names = Vec::new(alloc);
     for _ in 0..count_of(field) {
-        names.push(literal(alloc, named.name)?)?;
+        names.push(part_name(alloc, named.name)?)?;
     }
     if around.is_empty() {
         return Ok(Part {
@@ -148,9 +227,12 @@ pub fn leaf<'a>(
     })
 }
 
-// A name as a literal.
-fn literal(alloc: Global, name: &str) -> Result<Text, AllocError> {
-    Ok(Text::of(format!(in alloc; "\"{name}\"")?))
+// The name of one part.
+fn part_name<'a>(alloc: Global, name: &str) -> Result<PartName<'a>, AllocError> {
+    Ok(PartName {
+        name: String::from_str(alloc, name)?,
+        record: None,
+    })
 }
 
 // The value of a field, before anything is around it.
@@ -381,13 +463,14 @@ pub fn following<'a>(
     (marker, item): (&str, &str),
 ) -> Result<Part<'a>, AllocError> {
     let mut names = head.names;
-    names.push(literal(alloc, called.name)?)?;
+    names.push(part_name(alloc, called.name)?)?;
     let mut places = within(alloc, head.places, ".head", ".0")?;
     places.push(Place {
         name: String::from_str(alloc, called.name)?,
         number: None,
         path: joined(alloc, ".", form.item())?,
         same: String::from_str(alloc, ".1")?,
+        record: None,
     })?;
     Ok(Part {
         kind: kind_of(alloc, head.kind, form, marker, item)?,
@@ -492,7 +575,7 @@ pub fn rest<'a>(
         format!(in alloc; "Rest {{ items: {name} }}")?
     };
     let mut names = Vec::new(alloc);
-    names.push(literal(alloc, name)?)?;
+    names.push(part_name(alloc, name)?)?;
     let list = Part {
         kind: Text::of(format!(in alloc; "Rest<{item}>")?),
         lent: Text::of(format!(in alloc; "&'a Vec<{item}>")?),
@@ -517,6 +600,7 @@ fn one_place<'a>(alloc: Global, name: &str) -> Result<Vec<Place<'a>>, AllocError
         number: None,
         path: String::from_str(alloc, ".items")?,
         same: String::new(alloc),
+        record: None,
     })?;
     Ok(places)
 }
@@ -623,7 +707,7 @@ pub fn constant<'a>(
         Text::word(alloc, "Magic::new()")?
     };
     let mut names = Vec::new(alloc);
-    names.push(literal(alloc, word)?)?;
+    names.push(part_name(alloc, word)?)?;
     Ok(Part {
         kind: Text::of(format!(in alloc; "Magic<{kind}, {marker}>")?),
         lent: Text::of(format!(in alloc; "Magic<{kind}, {marker}>")?),

@@ -153,6 +153,19 @@ impl<'b, 'a> Records<'b, 'a> {
         }
     }
 
+    /// The record whose parts are in place of a field: a struct of the file that holds no memory.
+    pub fn inlined(&self, field: &Field<'a>) -> Option<&'a str> {
+        let Type::Name(name) = &field.kind else {
+            return None;
+        };
+        let record = self.list.get(self.place(name.text)?)?;
+        let is_copied = self.is_copied_record(name.text) && self.is_founded(name.text);
+        match &record.form {
+            Form::Struct(_, _) if is_copied => Some(record.name.text),
+            _ => None,
+        }
+    }
+
     /// Whether a record takes the rest of the input.
     pub fn is_open(&self, name: &str) -> bool {
         let place = self.place(name);

@@ -3,7 +3,7 @@
 use std::alloc::{AllocError, Global};
 
 // The names that a module imports or that its bounds have.
-const IMPORTED: [&str; 53] = [
+const IMPORTED: [&str; 54] = [
     "Sink",
     "DekuError",
     "DekuWriter",
@@ -12,6 +12,7 @@ const IMPORTED: [&str; 53] = [
     "Coded",
     "CodedRef",
     "CopyParts",
+    "WriteParts",
     "Be",
     "Le",
     "Msb",

@@ -17,7 +17,7 @@ use deku::device::Sink;
 use deku::prelude::{DekuError, DekuWriter, Writer};
 use deku_symmetry::{
     Be, Codec, Coded, Condition, ConditionLaw, CopyParts, CountOf, CountOfLaw, CountedBy,
-    CountedByRef, Optional, OptionalRef,
+    CountedByRef, Optional, OptionalRef, WriteParts,
 };
 use std::marker::PhantomData;
 
@@ -68,6 +68,10 @@ impl Codec for TcpOption {
         TcpOption { kind, tail }
     }
 
+    ghost there = { λ r. refl };
+}
+
+impl WriteParts for TcpOption {
     fn write<W: Sink>(&self, writer: &mut Writer<W>) -> Result<(), DekuError> {
         let parts = OptionalRef::<_, TcpOptionTailCondition, _> {
             head: self.kind,
@@ -76,8 +80,6 @@ impl Codec for TcpOption {
         };
         parts.to_writer(writer, ())
     }
-
-    ghost there = { λ r. refl };
 }
 
 /// The length of an option, and its data.
@@ -130,6 +132,10 @@ impl Codec for Tail {
         Tail { length, bytes }
     }
 
+    ghost there = { λ r. refl };
+}
+
+impl WriteParts for Tail {
     fn write<W: Sink>(&self, writer: &mut Writer<W>) -> Result<(), DekuError> {
         let parts = CountedByRef::<_, TailBytesCount, _> {
             head: self.length,
@@ -138,8 +144,6 @@ impl Codec for Tail {
         };
         parts.to_writer(writer, ())
     }
-
-    ghost there = { λ r. refl };
 }
 
 /// The data of kind 2.

@@ -7,7 +7,7 @@ ghost use Rattle.deku_symmetry.specs.Fields.{be, msb};
 
 use deku::device::Sink;
 use deku::prelude::{DekuError, DekuWriter, Writer};
-use deku_symmetry::{Be, Codec, Condition, ConditionLaw, Msb, Optional, OptionalRef};
+use deku_symmetry::{Be, Codec, Condition, ConditionLaw, Msb, Optional, OptionalRef, WriteParts};
 use std::marker::PhantomData;
 
 /// The record `Timed`.
@@ -77,6 +77,10 @@ impl Codec for Timed {
         }
     }
 
+    ghost there = { λ r. refl };
+}
+
+impl WriteParts for Timed {
     fn write<W: Sink>(&self, writer: &mut Writer<W>) -> Result<(), DekuError> {
         let parts = (
             Msb::<_, 7>(self.sensor),
@@ -88,6 +92,4 @@ impl Codec for Timed {
         );
         parts.to_writer(writer, ())
     }
-
-    ghost there = { λ r. refl };
 }
