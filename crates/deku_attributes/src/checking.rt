@@ -14,8 +14,8 @@ use std::collections::BTreeSet;
 pub(crate) const LIMIT: usize = 256;
 
 /// The records of a description, with what is wrong with what they say. A part that is wrong is
-/// left out or taken as if it were not said. If the description is not whole, since something is wrong
-/// with its form, names that are not in it are not complained of.
+/// left out, or taken as if it were not said. If something is wrong with the form of the
+/// description, names that are not in it are not complained of.
 ///
 /// # Errors
 ///

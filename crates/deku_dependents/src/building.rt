@@ -52,6 +52,24 @@ struct Said<'f, 'a> {
     after: u64,
 }
 
+// What the name of the type of a dependent part ends with.
+fn word_of(form: Dependent) -> &'static str {
+    match form {
+        Dependent::Counted => "Count",
+        Dependent::Filled => "Size",
+        Dependent::Optional => "Condition",
+    }
+}
+
+// The number of at most eight bytes, the high one first.
+fn number_of(bytes: &[u8]) -> u64 {
+    let mut number = 0u64;
+    for byte in bytes {
+        number = (number << 8) | u64::from(*byte);
+    }
+    number
+}
+
 impl<'b, 'a> Builder<'b, 'a> {
     pub fn new(
         alloc: Global,
@@ -90,7 +108,7 @@ impl<'b, 'a> Builder<'b, 'a> {
         }
     }
 
-    /// The parts of fields, but for as many in front.
+    /// The parts of fields, without this many in front.
     pub fn fields(&mut self, fields: &[Field<'a>], skipped: usize) -> Result<(), AllocError> {
         for (i, field) in fields.iter().enumerate().skip(skipped) {
             let name = field_name(self.alloc, field, i)?;
@@ -165,13 +183,19 @@ impl<'b, 'a> Builder<'b, 'a> {
                 "leave it out",
             );
         }
+        self.checks(field, name, &said)?;
+        self.padding(said.after, field.layout.order)
+    }
+
+    // The checks of a field.
+    fn checks(&mut self, field: &Field<'a>, name: &str, said: &Said<'_, 'a>) -> Result<(), Stop> {
         if let Some(expression) = said.assert {
             self.assert(field, name, expression, false)?;
         }
         if let Some(expression) = said.equal {
             self.assert(field, name, expression, true)?;
         }
-        self.padding(said.after, field.layout.order)
+        Ok(())
     }
 
     // Complains of a name that the module has already.
@@ -349,10 +373,7 @@ impl<'b, 'a> Builder<'b, 'a> {
                 "write the first 8 of them, and an array of `u8` with `assert` after them",
             );
         }
-        let mut number = 0u64;
-        for byte in bytes {
-            number = (number << 8) | u64::from(*byte);
-        }
+        let number = number_of(bytes.as_slice());
         let count = bytes.len();
         let (constructor, kind) = magic_kind(self.alloc, count, order)?;
         let value = format!(in self.alloc; "0x{number:X}")?;
@@ -475,12 +496,7 @@ impl<'b, 'a> Builder<'b, 'a> {
     ) -> Result<(), Stop> {
         let name = called.name;
         let mut head = self.head_of(field, expression)?;
-        let word = match form {
-            Dependent::Counted => "Count",
-            Dependent::Filled => "Size",
-            Dependent::Optional => "Condition",
-        };
-        let named = words::marker(self.alloc, self.front.as_str(), name, word)?;
+        let named = words::marker(self.alloc, self.front.as_str(), name, word_of(form))?;
         let (parts, lent) = self.aliases(&mut head, name)?;
         let owned = String::from_str(self.alloc, name)?;
         let marker = Marker {

@@ -209,27 +209,17 @@ pub fn constant(
         "#[derive(Debug, PartialEq, Eq, Drop)]\npub struct {name};"
     )?;
     implemented(out, "Constant", marker)?;
-    let is_bare = constructor.is_empty();
-    let (front, back) = if is_bare {
-        ("", "")
+    let (ghost, open, close, held) = if constructor.is_empty() {
+        (["", ""], "", "", "*part")
     } else {
-        ("record { 0 = ", " }")
+        (["record { 0 = ", " }"], "(", ")", "part.0")
     };
+    let [front, back] = ghost;
     writeln!(out, "    ghost value = {{ {front}{value}{back} }};\n")?;
     writeln!(out, "    ghost text = {{ codes \"{field}\" }};\n")?;
-    if is_bare {
-        writeln!(
-            out,
-            "    fn value() -> {parts} {{\n        {value}\n    }}\n"
-        )?;
-        is_value(out, parts, "*part", value)?;
-    } else {
-        writeln!(
-            out,
-            "    fn value() -> {parts} {{\n        {constructor}({value})\n    }}\n"
-        )?;
-        is_value(out, parts, "part.0", value)?;
-    }
+    writeln!(out, "    fn value() -> {parts} {{")?;
+    writeln!(out, "        {constructor}{open}{value}{close}\n    }}\n")?;
+    is_value(out, parts, held, value)?;
     text(out, field)?;
     implemented(out, "ConstantLaw", marker)?;
     out.push_str("    ghost alike = { λ v e. rw e refl };\n}\n")

@@ -50,7 +50,7 @@ pub fn make<'t>(
     Ok(Made::Wrong(told(alloc, file, text, complaints.as_slice())?))
 }
 
-/// Adds complaints, but for those of places that were complained of before.
+/// Adds complaints, except those of places that were complained of before.
 pub fn add(complaints: &mut Vec<Complaint>, found: Vec<Complaint>) -> Result<(), AllocError> {
     let before = complaints.len();
     for complaint in found {

@@ -76,7 +76,7 @@ fn guard_of(alloc: Global, file: &str) -> Result<String, AllocError> {
     Ok(guard)
 }
 
-// Appends lines of a comment, but for those that would end it.
+// Appends lines of a comment, except those that would end it.
 fn comment(out: &mut String, lines: &[&str], marks: &str) -> Result<(), AllocError> {
     for line in lines {
         if !line.contains("*/") {

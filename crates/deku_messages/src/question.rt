@@ -12,7 +12,7 @@ ghost use Rattle.deku_symmetry.specs.Fields.{be};
 use crate::name::Name;
 use deku::device::Sink;
 use deku::prelude::{DekuError, DekuWriter, Writer};
-use deku_symmetry::{Be, Codec};
+use deku_symmetry::{Be, Codec, WriteParts};
 
 /// A question.
 #[derive(Debug, PartialEq, Eq, Drop)]
@@ -36,9 +36,11 @@ impl Codec for Question {
         Question { name, kind, class }
     }
 
+    ghost there = { λ r. refl };
+}
+
+impl WriteParts for Question {
     fn write<W: Sink>(&self, writer: &mut Writer<W>) -> Result<(), DekuError> {
         (&self.name, Be(self.kind), Be(self.class)).to_writer(writer, ())
     }
-
-    ghost there = { λ r. refl };
 }

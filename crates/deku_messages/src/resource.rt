@@ -16,7 +16,7 @@ ghost use Rattle.deku_symmetry.specs.Fields.{be};
 use crate::name::Name;
 use deku::device::Sink;
 use deku::prelude::{DekuError, DekuWriter, Writer};
-use deku_symmetry::{Be, Codec, CountOf, CountOfLaw, CountedBy, CountedByRef};
+use deku_symmetry::{Be, Codec, CountOf, CountOfLaw, CountedBy, CountedByRef, WriteParts};
 use std::marker::PhantomData;
 
 /// A resource: what is known about a name.
@@ -90,6 +90,10 @@ impl Codec for Resource {
         }
     }
 
+    ghost there = { λ r. refl };
+}
+
+impl WriteParts for Resource {
     fn write<W: Sink>(&self, writer: &mut Writer<W>) -> Result<(), DekuError> {
         let parts = (
             &self.name,
@@ -104,8 +108,6 @@ impl Codec for Resource {
         );
         parts.to_writer(writer, ())
     }
-
-    ghost there = { λ r. refl };
 }
 
 /// The data of kind 15: a server that takes mail.
@@ -128,11 +130,13 @@ impl Codec for MailServer {
         MailServer { preference, name }
     }
 
+    ghost there = { λ r. refl };
+}
+
+impl WriteParts for MailServer {
     fn write<W: Sink>(&self, writer: &mut Writer<W>) -> Result<(), DekuError> {
         (Be(self.preference), &self.name).to_writer(writer, ())
     }
-
-    ghost there = { λ r. refl };
 }
 
 /// The data of kind 6: who is in charge of a part of the names.
@@ -190,6 +194,10 @@ impl Codec for Authority {
         }
     }
 
+    ghost there = { λ r. refl };
+}
+
+impl WriteParts for Authority {
     fn write<W: Sink>(&self, writer: &mut Writer<W>) -> Result<(), DekuError> {
         let parts = (
             &self.server,
@@ -202,8 +210,6 @@ impl Codec for Authority {
         );
         parts.to_writer(writer, ())
     }
-
-    ghost there = { λ r. refl };
 }
 
 /// The data of the kinds 2, 5 and 12: a name server, the name that another stands for, and the name
@@ -225,9 +231,11 @@ impl Codec for Target {
         Target { name }
     }
 
+    ghost there = { λ r. refl };
+}
+
+impl WriteParts for Target {
     fn write<W: Sink>(&self, writer: &mut Writer<W>) -> Result<(), DekuError> {
         (&self.name, ()).to_writer(writer, ())
     }
-
-    ghost there = { λ r. refl };
 }

@@ -24,7 +24,7 @@ use deku_network::icmp::Icmp;
 use deku_network::icmpv6::Icmpv6;
 use deku_network::ipv4::Ipv4;
 use deku_network::ipv6::{Fragment, Ipv6, Options, Routing};
-use deku_symmetry::{Codec, Coded};
+use deku_symmetry::{Coded, WriteParts};
 use deku_transport::option::{Block, LargestSegment, TcpOption, Times, WindowScale};
 use deku_transport::tcp::Tcp;
 use deku_transport::udp::Udp;

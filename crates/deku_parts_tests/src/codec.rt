@@ -5,7 +5,7 @@ ghost use Rattle.deku_symmetry.specs.Fields.{be};
 
 use deku::device::Sink;
 use deku::prelude::{DekuError, DekuWriter, NeedSize, Writer};
-use deku_symmetry::{Be, Codec, Coded, CodedRef, CopyParts, Msb};
+use deku_symmetry::{Be, Codec, Coded, CodedRef, CopyParts, Msb, WriteParts};
 use deku_testing_values::expecting::{MISFIT, expect_written, same};
 use deku_testing_values::records::{expect_packed, expect_record, expect_refusal};
 use std::test::Fail;
@@ -69,11 +69,13 @@ impl Codec for Year {
         Year { since }
     }
 
+    ghost there = { λ y. refl };
+}
+
+impl WriteParts for Year {
     fn write<W: Sink>(&self, writer: &mut Writer<W>) -> Result<(), DekuError> {
         Msb::<u8, 7>(self.since).to_writer(writer, ())
     }
-
-    ghost there = { λ y. refl };
 }
 
 const QUESTION: Datagram = Datagram {

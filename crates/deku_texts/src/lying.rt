@@ -6,7 +6,7 @@ use deku_description::syntax::{Length, Type};
 use std::alloc::{AllocError, Global};
 use std::fmt::Write as _;
 
-/// How a value lies: the part around it, if there is one.
+/// How a value is laid out: the part around it, if there is one.
 #[derive(Clone, Copy)]
 pub struct Wrapping {
     /// The name of the part, or nothing.
@@ -20,7 +20,7 @@ const BARE: Wrapping = Wrapping {
     bits: None,
 };
 
-/// How a field lies that no other field has to do with.
+/// How a field is laid out that depends on no other field.
 pub fn lying(field: &Field<'_>) -> Wrapping {
     if is_of_numbers(&field.kind) {
         let whole = common_bits(&field.kind).unwrap_or(0);

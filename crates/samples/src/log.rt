@@ -4,7 +4,7 @@ use crate::sample::Sample;
 use deku::ctx::{Endian, Limit};
 use deku::device::{Sink, Source};
 use deku::prelude::{DekuError, DekuReader, Reader, Writer};
-use deku_symmetry::{Codec, Coded};
+use deku_symmetry::{Codec, Coded, WriteParts};
 
 /// A sample of sensor 6 in state 9.
 pub fn sample_of(value: u16) -> Sample {
