@@ -183,12 +183,17 @@ impl<'b, 'a> Builder<'b, 'a> {
                 "leave it out",
             );
         }
-        self.checks(field, name, &said)?;
+        self.check_field(field, name, &said)?;
         self.padding(said.after, field.layout.order)
     }
 
     // The checks of a field.
-    fn checks(&mut self, field: &Field<'a>, name: &str, said: &Said<'_, 'a>) -> Result<(), Stop> {
+    fn check_field(
+        &mut self,
+        field: &Field<'a>,
+        name: &str,
+        said: &Said<'_, 'a>,
+    ) -> Result<(), Stop> {
         if let Some(expression) = said.assert {
             self.assert(field, name, expression, false)?;
         }

@@ -209,12 +209,11 @@ pub fn constant(
         "#[derive(Debug, PartialEq, Eq, Drop)]\npub struct {name};"
     )?;
     implemented(out, "Constant", marker)?;
-    let (ghost, open, close, held) = if constructor.is_empty() {
-        (["", ""], "", "", "*part")
+    let ([front, back], [open, close], held) = if constructor.is_empty() {
+        (["", ""], ["", ""], "*part")
     } else {
-        (["record { 0 = ", " }"], "(", ")", "part.0")
+        (["record { 0 = ", " }"], ["(", ")"], "part.0")
     };
-    let [front, back] = ghost;
     writeln!(out, "    ghost value = {{ {front}{value}{back} }};\n")?;
     writeln!(out, "    ghost text = {{ codes \"{field}\" }};\n")?;
     writeln!(out, "    fn value() -> {parts} {{")?;

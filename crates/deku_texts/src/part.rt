@@ -114,6 +114,24 @@ impl<'a> Part<'a> {
     }
 }
 
+// Where a field is that is alone in its part.
+fn one_place<'a>(
+    alloc: Global,
+    name: &str,
+    number: Option<&'a str>,
+    path: &str,
+) -> Result<Vec<Place<'a>>, AllocError> {
+    let mut places = Vec::new(alloc);
+    places.push(Place {
+        name: String::from_str(alloc, name)?,
+        number,
+        path: String::from_str(alloc, path)?,
+        same: String::new(alloc),
+        record: None,
+    })?;
+    Ok(places)
+}
+
 // Places after what leads to the part that they are in.
 fn within<'a>(
     alloc: Global,
@@ -169,7 +187,7 @@ fn inlined<'a>(
     })
 }
 
-/// The part of one field that no other field has to do with.
+/// The part of one field that depends on no other field.
 pub fn leaf<'a>(
     alloc: Global,
     records: &Records<'_, 'a>,
@@ -180,50 +198,47 @@ pub fn leaf<'a>(
     if let Some(record) = records.inlined(field) {
         return inlined(alloc, record, owner, named);
     }
-    let around = lying(field).around;
-    let kind = part_kind(alloc, field)?;
     let is_lent = owner == Owner::Lent && !records.is_copied(field);
-    let lent = lent_kind(alloc, field, is_lent)?;
-    let value = field_value(alloc, owner, is_lent, named)?;
-    let term = field_term(alloc, owner, named)?;
-    let place = Place {
-        name: String::from_str(alloc, named.name)?,
-        number: number_kind(field),
-        path: String::from_str(alloc, if around.is_empty() { "" } else { ".0" })?,
-        same: String::new(alloc),
-        record: None,
-    };
-    let mut places = Vec::new(alloc);
-    places.push(place)?;
     let mut names = Vec::new(alloc);
     for _ in 0..count_of(field) {
         names.push(part_name(alloc, named.name)?)?;
     }
-    if around.is_empty() {
-        return Ok(Part {
-            kind: Text::of(kind),
-            lent: Text::of(lent),
-            is_lent,
-            pattern: Text::word(alloc, named.name)?,
-            value: Text::of(value),
-            term: Text::of(term),
-            places,
-            names,
-        });
-    }
-    let made = wrapper(alloc, lying(field), owner, is_lent)?;
-    let (made, name) = (made.as_str(), named.name);
-    let word = words::part(around);
-    let (value, term) = (value.as_str(), term.as_str());
-    Ok(Part {
-        kind: Text::of(kind),
-        lent: Text::of(lent),
+    let part = Part {
+        kind: Text::of(part_kind(alloc, field)?),
+        lent: Text::of(lent_kind(alloc, field, is_lent)?),
         is_lent,
+        pattern: Text::word(alloc, named.name)?,
+        value: Text::of(field_value(alloc, owner, is_lent, named)?),
+        term: Text::of(field_term(alloc, owner, named)?),
+        places: one_place(alloc, named.name, number_kind(field), "")?,
+        names,
+    };
+    let lying = lying(field);
+    if lying.around.is_empty() {
+        return Ok(part);
+    }
+    within_one(alloc, part, lying, owner, named.name)
+}
+
+// A field with the part around it.
+fn within_one<'a>(
+    alloc: Global,
+    part: Part<'a>,
+    lying: Wrapping,
+    owner: Owner,
+    name: &str,
+) -> Result<Part<'a>, AllocError> {
+    let around = lying.around;
+    let made = wrapper(alloc, lying, owner, part.is_lent)?;
+    let (made, word) = (made.as_str(), words::part(around));
+    let value = part.value.as_word().unwrap_or(name);
+    let term = part.term.as_word().unwrap_or(name);
+    Ok(Part {
         pattern: Text::of(format!(in alloc; "{around}({name})")?),
         value: Text::of(format!(in alloc; "{made}({value})")?),
         term: Text::of(format!(in alloc; "{word} {term}")?),
-        places,
-        names,
+        places: within(alloc, part.places, ".0", "")?,
+        ..part
     })
 }
 
@@ -583,26 +598,13 @@ pub fn rest<'a>(
         pattern: Text::of(pattern),
         value: Text::of(format!(in alloc; "&self.{access}")?),
         term: Text::of(format!(in alloc; "record {{ items = r.{access} }}")?),
-        places: one_place(alloc, name)?,
+        places: one_place(alloc, name, None, ".items")?,
         names,
     };
     if front.is_empty() {
         return Ok(list);
     }
     before(alloc, tuple(alloc, front)?, list)
-}
-
-// Where a list up to the end is in its part.
-fn one_place<'a>(alloc: Global, name: &str) -> Result<Vec<Place<'a>>, AllocError> {
-    let mut places = Vec::new(alloc);
-    places.push(Place {
-        name: String::from_str(alloc, name)?,
-        number: None,
-        path: String::from_str(alloc, ".items")?,
-        same: String::new(alloc),
-        record: None,
-    })?;
-    Ok(places)
 }
 
 // Parts, and after them what is last.
