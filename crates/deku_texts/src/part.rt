@@ -146,20 +146,19 @@ fn within<'a>(
     Ok(moved)
 }
 
-// The parts of the record that a field is, in place of it.
+// The parts of the record that a field is, in place of it. A struct that lends memory has the
+// record itself as a part: the prover follows what it writes without a call.
 fn inlined<'a>(
     alloc: Global,
     record: &'a str,
     owner: Owner,
     Named { name, access }: Named<'_>,
 ) -> Result<Part<'a>, AllocError> {
-    let (value, term) = match owner {
-        Owner::Kind => (format!(in alloc; "{name}.parts()")?, quoted(alloc, name)?),
-        Owner::Lent | Owner::Copied => (
-            format!(in alloc; "self.{access}.parts()")?,
-            format!(in alloc; "r.{access}")?,
-        ),
+    let value = match owner {
+        Owner::Kind => format!(in alloc; "{name}.parts()")?,
+        Owner::Lent | Owner::Copied => format!(in alloc; "self.{access}.parts()")?,
     };
+    let term = field_term(alloc, owner, Named { name, access })?;
     let term = term.as_str();
     let mut places = Vec::new(alloc);
     places.push(Place {
@@ -195,7 +194,7 @@ pub fn leaf<'a>(
     field: &Field<'a>,
     named: Named<'_>,
 ) -> Result<Part<'a>, AllocError> {
-    if let Some(record) = records.inlined(field) {
+    if let (Some(record), false) = (records.inlined(field), owner == Owner::Lent) {
         return inlined(alloc, record, owner, named);
     }
     let is_lent = owner == Owner::Lent && !records.is_copied(field);
