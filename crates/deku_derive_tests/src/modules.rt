@@ -97,9 +97,9 @@ struct Host {
 const HOST_MODULE: &str = "//! Printed by `derive` from `a.rs`.
 
 ghost use Rattle.std.specs.Prelude.{refl};
-ghost use Rattle.deku_symmetry.specs.Fields.{be, coded, le, lsb, msb_le};
+ghost use Rattle.deku_symmetry.specs.Fields.{be, le, lsb, msb_le};
 
-use deku_symmetry::{Be, Coded, CopyParts, Le, Lsb, MsbLe};
+use deku_symmetry::{Be, CopyParts, Le, Lsb, MsbLe};
 use std::net::Ipv4Addr;
 
 /// The record `Pair`.
@@ -145,25 +145,44 @@ pub struct Host {
 
 impl Host {
     /// The names of its parts, in their order.
-    pub const FIELDS: [&'static str; 5] = [\"pair\", \"address\", \"up\", \"cost\", \"port\"];
+    pub const FIELDS: [&'static str; 6] = [
+        \"pair.low\",
+        \"pair.data\",
+        \"address\",
+        \"up\",
+        \"cost\",
+        \"port\",
+    ];
 }
 
 impl CopyParts for Host {
-    type Parts = (Coded<Pair>, Be<Ipv4Addr>, bool, MsbLe<u32, 24>, Le<u16>);
+    type Parts = (
+        <Pair as CopyParts>::Parts,
+        Be<Ipv4Addr>,
+        bool,
+        MsbLe<u32, 24>,
+        Le<u16>,
+    );
 
-    ghost parts_of = { λ r. (coded r.pair, be r.address, r.up, msb_le r.cost, le r.port) };
+    ghost parts_of = { λ r. (
+      ⟦<Pair as CopyParts>⟧.parts_of r.pair,
+      be r.address,
+      r.up,
+      msb_le r.cost,
+      le r.port,
+    ) };
 
     ghost record_of = { λ p. record {
-      pair = p.0.0;
+      pair = ⟦<Pair as CopyParts>⟧.record_of p.0;
       address = p.1.0;
       up = p.2;
       cost = p.3.0;
       port = p.4.0;
     } };
 
-    fn from_parts((Coded(pair), Be(address), up, MsbLe(cost), Le(port)): Self::Parts) -> Self {
+    fn from_parts((pair, Be(address), up, MsbLe(cost), Le(port)): Self::Parts) -> Self {
         Host {
-            pair,
+            pair: <Pair as CopyParts>::from_parts(pair),
             address,
             up,
             cost,
@@ -173,7 +192,7 @@ impl CopyParts for Host {
 
     fn parts(&self) -> Self::Parts {
         (
-            Coded(self.pair),
+            self.pair.parts(),
             Be(self.address),
             self.up,
             MsbLe(self.cost),

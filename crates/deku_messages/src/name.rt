@@ -1,4 +1,4 @@
-//! A name of the domain name system as it lies in a message, RFC 1035, sections 3.1 and 4.1.4.
+//! A name of the domain name system as a message has it, RFC 1035, sections 3.1 and 4.1.4.
 //!
 //! ```text
 //! length  8 bits  0: the empty label, which ends the name

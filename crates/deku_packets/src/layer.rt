@@ -1,4 +1,4 @@
-//! The layers of a packet, and where each lies.
+//! The layers of a packet, and where each is.
 
 use deku_messages::dns::{Header, Text};
 use deku_messages::ntp::Ntp;

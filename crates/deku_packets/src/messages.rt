@@ -183,7 +183,7 @@ impl<'a> Walk<'a> {
     }
 }
 
-/// The bytes of a name as it lies in a message.
+/// The bytes of a name as a message has it.
 pub fn size_of_name(name: &Name) -> usize {
     let mut size = 0usize;
     for label in &name.items {

@@ -30,7 +30,7 @@ impl<'a> Walk<'a> {
         Ok(())
     }
 
-    // Reads the data of an option of this kind, which lies there, if the kind is known.
+    // Reads the data of an option of this kind, which is there, if the kind is known.
     fn option_data(&mut self, kind: u8, start: usize, end: usize) -> Result<(), Refusal> {
         let bytes = self.bytes.get(start..end).unwrap_or(&[]);
         match kind {
@@ -59,7 +59,7 @@ impl<'a> Walk<'a> {
         }
     }
 
-    // Reads the blocks that lie there.
+    // Reads the blocks that are there.
     fn blocks(&mut self, start: usize, end: usize) -> Result<(), Refusal> {
         let mut start = start;
         for _ in 0..5 {

@@ -28,7 +28,7 @@ pub struct Packet {
     pub refusal: Option<Refusal>,
 }
 
-/// The most headers that lie one in another. A packet with more is refused after them.
+/// The most headers inside one another. A packet with more is refused after them.
 pub const MOST_HEADERS: usize = 32;
 
 /// Reads the layers of a packet. `network` says what its first layer is, as the file header of a

@@ -7,7 +7,7 @@ use deku_symmetry::{Codec, Coded};
 use std::alloc::Global;
 use std::io::Cursor;
 
-/// The record at the start of the bytes, and how many bytes it has. `at` is where the bytes lie in
+/// The record at the start of the bytes, and how many bytes it has. `at` is where the bytes are in
 /// the packet, and `fields` are those of the record: an error names them.
 pub fn first<E: Codec>(
     alloc: Global,

@@ -76,7 +76,7 @@ impl<'a> Walk<'a> {
         self.place(start, self.at, layer)
     }
 
-    /// Keeps a layer that lies there.
+    /// Keeps a layer that is there.
     pub fn place(&mut self, start: usize, end: usize, layer: Layer) -> Result<(), Refusal> {
         match self.layers.push(Placed { start, end, layer }) {
             Ok(()) => Ok(()),

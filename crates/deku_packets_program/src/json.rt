@@ -44,7 +44,7 @@ fn layers<S: Serializer>(shown: &Shown<'_>, out: &mut S) -> Result<(), S::Error>
     out.end_seq()
 }
 
-// A layer: where it lies in the file, and its fields.
+// A layer: where it is in the file, and its fields.
 fn layer<S: Serializer>(shown: &Shown<'_>, placed: &Placed, out: &mut S) -> Result<(), S::Error> {
     out.begin_map(None)?;
     layer_members(shown, placed, out)?;
