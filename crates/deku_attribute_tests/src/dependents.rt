@@ -83,7 +83,7 @@ impl Two {
     pub const FIELDS: [&'static str; 2] = ["first", "second"];
 }
 
-impl CopyParts for Two {
+impl Codec for Two {
     type Parts = (u8, u8);
 
     ghost parts_of = { λ r. (r.first, r.second) };
@@ -94,11 +94,13 @@ impl CopyParts for Two {
         Two { first, second }
     }
 
+    ghost there = { λ r. refl };
+}
+
+impl CopyParts for Two {
     fn parts(&self) -> Self::Parts {
         (self.first, self.second)
     }
-
-    ghost there = { λ r. refl };
 }
 
 /// Items of as many bytes as a field says.

@@ -13,7 +13,7 @@ ghost use Rattle.deku_attribute_tests.specs.declared.kinds.UnderBits.TheVariants
 ghost use Rattle.deku_attribute_tests.specs.declared.kinds.UnderBytes.TheVariants as under_bytes_kinds;
 
 use deku_symmetry::{
-    Be, CopyParts, Either, Enum, InRange, Kind, Le, MsbEnum, MsbLe, MsbLeEnum, Otherwise,
+    Be, Codec, CopyParts, Either, Enum, InRange, Kind, Le, MsbEnum, MsbLe, MsbLeEnum, Otherwise,
 };
 
 /// Kinds under a byte.
@@ -25,7 +25,7 @@ pub enum UnderByte {
     Second(u8, u16),
 }
 
-impl CopyParts for UnderByte {
+impl Codec for UnderByte {
     type Parts = MsbEnum<Either<Kind<u8, 1>, Kind<(u8, Le<u16>), 2>>, 8>;
 
     ghost parts_of = { elim [
@@ -51,6 +51,13 @@ impl CopyParts for UnderByte {
         }
     }
 
+    ghost there = { elim [
+      | under_byte_kinds.First field_0 ↦ refl
+      | under_byte_kinds.Second field_0 field_1 ↦ refl
+    ] };
+}
+
+impl CopyParts for UnderByte {
     fn parts(&self) -> Self::Parts {
         match self {
             UnderByte::First(field_0) => Enum::new(Either::This(Kind(*field_0))),
@@ -59,11 +66,6 @@ impl CopyParts for UnderByte {
             }
         }
     }
-
-    ghost there = { elim [
-      | under_byte_kinds.First field_0 ↦ refl
-      | under_byte_kinds.Second field_0 field_1 ↦ refl
-    ] };
 }
 
 /// Kinds with numbers.
@@ -75,7 +77,7 @@ pub enum Numbered {
     Second,
 }
 
-impl CopyParts for Numbered {
+impl Codec for Numbered {
     type Parts = MsbEnum<Either<Kind<(), 1>, Kind<(), 2>>, 8>;
 
     ghost parts_of = { elim [
@@ -95,17 +97,19 @@ impl CopyParts for Numbered {
         }
     }
 
+    ghost there = { elim [
+      | numbered_kinds.First ↦ refl
+      | numbered_kinds.Second ↦ refl
+    ] };
+}
+
+impl CopyParts for Numbered {
     fn parts(&self) -> Self::Parts {
         match self {
             Numbered::First => Enum::new(Either::This(Kind(()))),
             Numbered::Second => Enum::new(Either::Other(Kind(()))),
         }
     }
-
-    ghost there = { elim [
-      | numbered_kinds.First ↦ refl
-      | numbered_kinds.Second ↦ refl
-    ] };
 }
 
 /// Ids of one endian, and fields of another.
@@ -117,7 +121,7 @@ pub enum EndianOfId {
     Big { x: u16 },
 }
 
-impl CopyParts for EndianOfId {
+impl Codec for EndianOfId {
     type Parts = MsbEnum<Either<Kind<Le<u16>, 1>, Kind<Be<u16>, 2>>, 16>;
 
     ghost parts_of = { elim [
@@ -143,17 +147,19 @@ impl CopyParts for EndianOfId {
         }
     }
 
+    ghost there = { elim [
+      | endian_of_id_kinds.Little field_0 ↦ refl
+      | endian_of_id_kinds.Big x ↦ refl
+    ] };
+}
+
+impl CopyParts for EndianOfId {
     fn parts(&self) -> Self::Parts {
         match self {
             EndianOfId::Little(field_0) => Enum::new(Either::This(Kind(Le(*field_0)))),
             EndianOfId::Big { x } => Enum::new(Either::Other(Kind(Be(*x)))),
         }
     }
-
-    ghost there = { elim [
-      | endian_of_id_kinds.Little field_0 ↦ refl
-      | endian_of_id_kinds.Big x ↦ refl
-    ] };
 }
 
 /// A range of ids, and all others.
@@ -167,7 +173,7 @@ pub enum Patterns {
     Others(u64),
 }
 
-impl CopyParts for Patterns {
+impl Codec for Patterns {
     type Parts = MsbEnum<Either<Either<Kind<u8, 1>, InRange<(), 2, 6>>, Otherwise<()>>, 8>;
 
     ghost parts_of = { elim [
@@ -201,6 +207,14 @@ impl CopyParts for Patterns {
         }
     }
 
+    ghost there = { elim [
+      | patterns_kinds.One field_0 ↦ refl
+      | patterns_kinds.Few id ↦ refl
+      | patterns_kinds.Others field_0 ↦ refl
+    ] };
+}
+
+impl CopyParts for Patterns {
     fn parts(&self) -> Self::Parts {
         match self {
             Patterns::One(field_0) => Enum::new(Either::This(Either::This(Kind(*field_0)))),
@@ -215,12 +229,6 @@ impl CopyParts for Patterns {
             }
         }
     }
-
-    ghost there = { elim [
-      | patterns_kinds.One field_0 ↦ refl
-      | patterns_kinds.Few id ↦ refl
-      | patterns_kinds.Others field_0 ↦ refl
-    ] };
 }
 
 /// Ids of four bits.
@@ -230,7 +238,7 @@ pub enum UnderBits {
     Only(u8, u8),
 }
 
-impl CopyParts for UnderBits {
+impl Codec for UnderBits {
     type Parts = MsbEnum<Kind<(MsbLe<u8, 4>, u8), 9>, 4>;
 
     ghost parts_of = { elim [
@@ -248,15 +256,17 @@ impl CopyParts for UnderBits {
         }
     }
 
+    ghost there = { elim [
+      | under_bits_kinds.Only field_0 field_1 ↦ refl
+    ] };
+}
+
+impl CopyParts for UnderBits {
     fn parts(&self) -> Self::Parts {
         match self {
             UnderBits::Only(field_0, field_1) => Enum::new(Kind((MsbLe(*field_0), *field_1))),
         }
     }
-
-    ghost there = { elim [
-      | under_bits_kinds.Only field_0 field_1 ↦ refl
-    ] };
 }
 
 /// Ids of two bytes of a number of four.
@@ -266,7 +276,7 @@ pub enum UnderBytes {
     Only(u8),
 }
 
-impl CopyParts for UnderBytes {
+impl Codec for UnderBytes {
     type Parts = MsbLeEnum<Kind<u8, 48879>, 16>;
 
     ghost parts_of = { elim [
@@ -281,13 +291,15 @@ impl CopyParts for UnderBytes {
         }
     }
 
+    ghost there = { elim [
+      | under_bytes_kinds.Only field_0 ↦ refl
+    ] };
+}
+
+impl CopyParts for UnderBytes {
     fn parts(&self) -> Self::Parts {
         match self {
             UnderBytes::Only(field_0) => Enum::new(Kind(*field_0)),
         }
     }
-
-    ghost there = { elim [
-      | under_bytes_kinds.Only field_0 ↦ refl
-    ] };
 }

@@ -6,8 +6,8 @@ ghost use Rattle.std.specs.Prelude.{nat_eq, nat_le, codes, refl};
 ghost use Rattle.deku_symmetry.specs.Fields.{be, le, lsb, lsb_be, msb, msb_le};
 
 use deku_symmetry::{
-    Assert, Be, Check, CheckLaw, Constant, ConstantLaw, CopyParts, Le, Lsb, LsbBe, Magic, Msb,
-    MsbLe,
+    Assert, Be, Check, CheckLaw, Codec, Constant, ConstantLaw, CopyParts, Le, Lsb, LsbBe, Magic,
+    Msb, MsbLe,
 };
 
 /// Padding.
@@ -48,7 +48,7 @@ impl Endians {
     pub const FIELDS: [&'static str; 2] = ["first", "second"];
 }
 
-impl CopyParts for Endians {
+impl Codec for Endians {
     type Parts = (Be<u16>, Le<u16>);
 
     ghost parts_of = { λ r. (be r.first, le r.second) };
@@ -59,11 +59,13 @@ impl CopyParts for Endians {
         Endians { first, second }
     }
 
+    ghost there = { λ r. refl };
+}
+
+impl CopyParts for Endians {
     fn parts(&self) -> Self::Parts {
         (Be(self.first), Le(self.second))
     }
-
-    ghost there = { λ r. refl };
 }
 
 /// The low bits first.
@@ -82,7 +84,7 @@ impl LowFirst {
     pub const FIELDS: [&'static str; 6] = ["kind", "mode", "user", "group", "time", "number"];
 }
 
-impl CopyParts for LowFirst {
+impl Codec for LowFirst {
     type Parts = (
         Lsb<u8, 4>,
         Lsb<u16, 12>,
@@ -122,6 +124,10 @@ impl CopyParts for LowFirst {
         }
     }
 
+    ghost there = { λ r. refl };
+}
+
+impl CopyParts for LowFirst {
     fn parts(&self) -> Self::Parts {
         (
             Lsb(self.kind),
@@ -132,8 +138,6 @@ impl CopyParts for LowFirst {
             Lsb(self.number),
         )
     }
-
-    ghost there = { λ r. refl };
 }
 
 /// The low bits first, the high byte first, and then fields of another order.
@@ -155,7 +159,7 @@ impl Orders {
     ];
 }
 
-impl CopyParts for Orders {
+impl Codec for Orders {
     type Parts = (
         LsbBe<u16, 13>,
         LsbBe<u8, 3>,
@@ -200,6 +204,10 @@ impl CopyParts for Orders {
         }
     }
 
+    ghost there = { λ r. refl };
+}
+
+impl CopyParts for Orders {
     fn parts(&self) -> Self::Parts {
         (
             LsbBe(self.offset),
@@ -211,8 +219,6 @@ impl CopyParts for Orders {
             Msb(self.rest),
         )
     }
-
-    ghost there = { λ r. refl };
 }
 
 /// An order for each field.
@@ -227,7 +233,7 @@ impl OrderOfFields {
     pub const FIELDS: [&'static str; 2] = ["offset", "kind"];
 }
 
-impl CopyParts for OrderOfFields {
+impl Codec for OrderOfFields {
     type Parts = (Lsb<u16, 13>, Lsb<u8, 3>);
 
     ghost parts_of = { λ r. (lsb r.offset, lsb r.kind) };
@@ -238,11 +244,13 @@ impl CopyParts for OrderOfFields {
         OrderOfFields { offset, kind }
     }
 
+    ghost there = { λ r. refl };
+}
+
+impl CopyParts for OrderOfFields {
     fn parts(&self) -> Self::Parts {
         (Lsb(self.offset), Lsb(self.kind))
     }
-
-    ghost there = { λ r. refl };
 }
 
 /// Fixed bytes in front.
@@ -282,7 +290,7 @@ impl Named {
     pub const FIELDS: [&'static str; 2] = ["magic", "data"];
 }
 
-impl CopyParts for Named {
+impl Codec for Named {
     type Parts = (Magic<Be<u32>, NamedMagic>, u8);
 
     ghost parts_of = { λ r. (record { part = record {}; constant = record {} }, r.data) };
@@ -293,11 +301,13 @@ impl CopyParts for Named {
         Named { data }
     }
 
+    ghost there = { λ r. refl };
+}
+
+impl CopyParts for Named {
     fn parts(&self) -> Self::Parts {
         (Magic::new(), self.data)
     }
-
-    ghost there = { λ r. refl };
 }
 
 /// Fixed bytes in front of a field.
@@ -337,7 +347,7 @@ impl NamedField {
     pub const FIELDS: [&'static str; 2] = ["magic", "data"];
 }
 
-impl CopyParts for NamedField {
+impl Codec for NamedField {
     type Parts = (Magic<Be<u32>, NamedFieldDataMagic>, u8);
 
     ghost parts_of = { λ r. (record { part = record {}; constant = record {} }, r.data) };
@@ -348,11 +358,13 @@ impl CopyParts for NamedField {
         NamedField { data }
     }
 
+    ghost there = { λ r. refl };
+}
+
+impl CopyParts for NamedField {
     fn parts(&self) -> Self::Parts {
         (Magic::new(), self.data)
     }
-
-    ghost there = { λ r. refl };
 }
 
 /// A number that is checked.
@@ -389,7 +401,7 @@ impl AtLeast {
     pub const FIELDS: [&'static str; 1] = ["data"];
 }
 
-impl CopyParts for AtLeast {
+impl Codec for AtLeast {
     type Parts = Assert<u8, AtLeastDataCheck>;
 
     ghost parts_of = { λ r. record { part = r.data; check = record {} } };
@@ -400,11 +412,13 @@ impl CopyParts for AtLeast {
         AtLeast { data }
     }
 
+    ghost there = { λ r. refl };
+}
+
+impl CopyParts for AtLeast {
     fn parts(&self) -> Self::Parts {
         Assert::new(self.data)
     }
-
-    ghost there = { λ r. refl };
 }
 
 /// A number that has one value.
@@ -441,7 +455,7 @@ impl Only {
     pub const FIELDS: [&'static str; 1] = ["data"];
 }
 
-impl CopyParts for Only {
+impl Codec for Only {
     type Parts = Assert<u8, OnlyDataValue>;
 
     ghost parts_of = { λ r. record { part = r.data; check = record {} } };
@@ -452,11 +466,13 @@ impl CopyParts for Only {
         Only { data }
     }
 
+    ghost there = { λ r. refl };
+}
+
+impl CopyParts for Only {
     fn parts(&self) -> Self::Parts {
         Assert::new(self.data)
     }
-
-    ghost there = { λ r. refl };
 }
 
 /// Widths in bits.
@@ -472,7 +488,7 @@ impl Bits {
     pub const FIELDS: [&'static str; 3] = ["first", "second", "third"];
 }
 
-impl CopyParts for Bits {
+impl Codec for Bits {
     type Parts = (MsbLe<u8, 2>, MsbLe<u8, 6>, u8);
 
     ghost parts_of = { λ r. (msb_le r.first, msb_le r.second, r.third) };
@@ -487,11 +503,13 @@ impl CopyParts for Bits {
         }
     }
 
+    ghost there = { λ r. refl };
+}
+
+impl CopyParts for Bits {
     fn parts(&self) -> Self::Parts {
         (MsbLe(self.first), MsbLe(self.second), self.third)
     }
-
-    ghost there = { λ r. refl };
 }
 
 /// A width in bytes.
@@ -506,7 +524,7 @@ impl Bytes {
     pub const FIELDS: [&'static str; 2] = ["first", "second"];
 }
 
-impl CopyParts for Bytes {
+impl Codec for Bytes {
     type Parts = (MsbLe<u32, 16>, u8);
 
     ghost parts_of = { λ r. (msb_le r.first, r.second) };
@@ -517,11 +535,13 @@ impl CopyParts for Bytes {
         Bytes { first, second }
     }
 
+    ghost there = { λ r. refl };
+}
+
+impl CopyParts for Bytes {
     fn parts(&self) -> Self::Parts {
         (MsbLe(self.first), self.second)
     }
-
-    ghost there = { λ r. refl };
 }
 
 /// Bytes before a field.
@@ -536,7 +556,7 @@ impl BytesBefore {
     pub const FIELDS: [&'static str; 3] = ["first", "padding", "second"];
 }
 
-impl CopyParts for BytesBefore {
+impl Codec for BytesBefore {
     type Parts = (u8, Magic<Msb<u64, 16>, Zeros>, u8);
 
     ghost parts_of = { λ r. (
@@ -551,11 +571,13 @@ impl CopyParts for BytesBefore {
         BytesBefore { first, second }
     }
 
+    ghost there = { λ r. refl };
+}
+
+impl CopyParts for BytesBefore {
     fn parts(&self) -> Self::Parts {
         (self.first, Magic::new(), self.second)
     }
-
-    ghost there = { λ r. refl };
 }
 
 /// Bits before a field.
@@ -570,7 +592,7 @@ impl BitsBefore {
     pub const FIELDS: [&'static str; 3] = ["first", "padding", "second"];
 }
 
-impl CopyParts for BitsBefore {
+impl Codec for BitsBefore {
     type Parts = (MsbLe<u8, 2>, Magic<Msb<u64, 2>, Zeros>, MsbLe<u8, 4>);
 
     ghost parts_of = { λ r. (
@@ -585,11 +607,13 @@ impl CopyParts for BitsBefore {
         BitsBefore { first, second }
     }
 
+    ghost there = { λ r. refl };
+}
+
+impl CopyParts for BitsBefore {
     fn parts(&self) -> Self::Parts {
         (MsbLe(self.first), Magic::new(), MsbLe(self.second))
     }
-
-    ghost there = { λ r. refl };
 }
 
 /// Bytes after a field.
@@ -604,7 +628,7 @@ impl BytesAfter {
     pub const FIELDS: [&'static str; 3] = ["first", "padding", "second"];
 }
 
-impl CopyParts for BytesAfter {
+impl Codec for BytesAfter {
     type Parts = (u8, Magic<Msb<u64, 16>, Zeros>, u8);
 
     ghost parts_of = { λ r. (
@@ -619,11 +643,13 @@ impl CopyParts for BytesAfter {
         BytesAfter { first, second }
     }
 
+    ghost there = { λ r. refl };
+}
+
+impl CopyParts for BytesAfter {
     fn parts(&self) -> Self::Parts {
         (self.first, Magic::new(), self.second)
     }
-
-    ghost there = { λ r. refl };
 }
 
 /// Bits after a field.
@@ -638,7 +664,7 @@ impl BitsAfter {
     pub const FIELDS: [&'static str; 3] = ["first", "padding", "second"];
 }
 
-impl CopyParts for BitsAfter {
+impl Codec for BitsAfter {
     type Parts = (MsbLe<u8, 2>, Magic<Msb<u64, 2>, Zeros>, MsbLe<u8, 4>);
 
     ghost parts_of = { λ r. (
@@ -653,9 +679,11 @@ impl CopyParts for BitsAfter {
         BitsAfter { first, second }
     }
 
+    ghost there = { λ r. refl };
+}
+
+impl CopyParts for BitsAfter {
     fn parts(&self) -> Self::Parts {
         (MsbLe(self.first), Magic::new(), MsbLe(self.second))
     }
-
-    ghost there = { λ r. refl };
 }

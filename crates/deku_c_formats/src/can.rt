@@ -6,7 +6,7 @@ ghost use Rattle.std.specs.Prelude.{refl};
 ghost use Rattle.deku_symmetry.specs.Fields.{lsb, lsb_be};
 
 use deku_c_records::ForC;
-use deku_symmetry::{CopyParts, Lsb, LsbBe};
+use deku_symmetry::{Codec, CopyParts, Lsb, LsbBe};
 use std::alloc::Global;
 
 /// The record `Chassis`.
@@ -32,7 +32,7 @@ impl Chassis {
     pub const FIELDS: [&'static str; 6] = ["wheel", "gear", "torque", "flags", "padding", "yaw"];
 }
 
-impl CopyParts for Chassis {
+impl Codec for Chassis {
     type Parts = (
         Lsb<i16, 12>,
         Lsb<u8, 4>,
@@ -72,6 +72,10 @@ impl CopyParts for Chassis {
         }
     }
 
+    ghost there = { λ r. refl };
+}
+
+impl CopyParts for Chassis {
     fn parts(&self) -> Self::Parts {
         (
             Lsb(self.wheel),
@@ -82,8 +86,6 @@ impl CopyParts for Chassis {
             LsbBe(self.yaw),
         )
     }
-
-    ghost there = { λ r. refl };
 }
 
 /// Reads the record from the first byte on. Returns 0, or the number of the error; the record then

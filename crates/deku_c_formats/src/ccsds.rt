@@ -6,7 +6,7 @@ ghost use Rattle.std.specs.Prelude.{refl};
 ghost use Rattle.deku_symmetry.specs.Fields.{be, msb};
 
 use deku_c_records::ForC;
-use deku_symmetry::{Be, CopyParts, Msb};
+use deku_symmetry::{Be, Codec, CopyParts, Msb};
 use std::alloc::Global;
 
 /// The record `SpacePacket`.
@@ -42,7 +42,7 @@ impl SpacePacket {
     ];
 }
 
-impl CopyParts for SpacePacket {
+impl Codec for SpacePacket {
     type Parts = (
         Msb<u8, 3>,
         Msb<u8, 1>,
@@ -94,6 +94,10 @@ impl CopyParts for SpacePacket {
         }
     }
 
+    ghost there = { λ r. refl };
+}
+
+impl CopyParts for SpacePacket {
     fn parts(&self) -> Self::Parts {
         (
             Msb(self.version),
@@ -105,8 +109,6 @@ impl CopyParts for SpacePacket {
             Be(self.length),
         )
     }
-
-    ghost there = { λ r. refl };
 }
 
 /// A sample of telemetry.
@@ -122,7 +124,7 @@ impl TelemetrySample {
     pub const FIELDS: [&'static str; 2] = ["voltage", "current"];
 }
 
-impl CopyParts for TelemetrySample {
+impl Codec for TelemetrySample {
     type Parts = (Msb<u16, 10>, Msb<u16, 12>);
 
     ghost parts_of = { λ r. (msb r.voltage, msb r.current) };
@@ -133,11 +135,13 @@ impl CopyParts for TelemetrySample {
         TelemetrySample { voltage, current }
     }
 
+    ghost there = { λ r. refl };
+}
+
+impl CopyParts for TelemetrySample {
     fn parts(&self) -> Self::Parts {
         (Msb(self.voltage), Msb(self.current))
     }
-
-    ghost there = { λ r. refl };
 }
 
 /// Reads the record from the first byte on. Returns 0, or the number of the error; the record then

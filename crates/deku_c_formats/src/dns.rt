@@ -6,7 +6,7 @@ ghost use Rattle.std.specs.Prelude.{refl};
 ghost use Rattle.deku_symmetry.specs.Fields.{be, msb};
 
 use deku_c_records::ForC;
-use deku_symmetry::{Be, CopyParts, Msb};
+use deku_symmetry::{Be, Codec, CopyParts, Msb};
 use std::alloc::Global;
 
 /// The record `DnsHeader`.
@@ -60,7 +60,7 @@ impl DnsHeader {
     ];
 }
 
-impl CopyParts for DnsHeader {
+impl Codec for DnsHeader {
     type Parts = (
         (
             Be<u16>,
@@ -136,6 +136,10 @@ impl CopyParts for DnsHeader {
         }
     }
 
+    ghost there = { λ r. refl };
+}
+
+impl CopyParts for DnsHeader {
     fn parts(&self) -> Self::Parts {
         (
             (
@@ -157,8 +161,6 @@ impl CopyParts for DnsHeader {
             ),
         )
     }
-
-    ghost there = { λ r. refl };
 }
 
 /// Reads the record from the first byte on. Returns 0, or the number of the error; the record then

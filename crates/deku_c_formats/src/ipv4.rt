@@ -6,7 +6,7 @@ ghost use Rattle.std.specs.Prelude.{nat_eq, codes, refl};
 ghost use Rattle.deku_symmetry.specs.Fields.{be, msb};
 
 use deku_c_records::ForC;
-use deku_symmetry::{Assert, Be, Check, CheckLaw, CopyParts, Msb};
+use deku_symmetry::{Assert, Be, Check, CheckLaw, Codec, CopyParts, Msb};
 use std::alloc::Global;
 
 /// The record `Ipv4`.
@@ -83,7 +83,7 @@ impl Ipv4 {
     ];
 }
 
-impl CopyParts for Ipv4 {
+impl Codec for Ipv4 {
     type Parts = (
         (
             Assert<Msb<u8, 4>, Ipv4VersionValue>,
@@ -162,6 +162,10 @@ impl CopyParts for Ipv4 {
         }
     }
 
+    ghost there = { λ r. refl };
+}
+
+impl CopyParts for Ipv4 {
     fn parts(&self) -> Self::Parts {
         (
             (
@@ -183,8 +187,6 @@ impl CopyParts for Ipv4 {
             ),
         )
     }
-
-    ghost there = { λ r. refl };
 }
 
 /// Reads the record from the first byte on. Returns 0, or the number of the error; the record then

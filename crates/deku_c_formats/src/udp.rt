@@ -6,7 +6,7 @@ ghost use Rattle.std.specs.Prelude.{refl};
 ghost use Rattle.deku_symmetry.specs.Fields.{be};
 
 use deku_c_records::ForC;
-use deku_symmetry::{Be, CopyParts};
+use deku_symmetry::{Be, Codec, CopyParts};
 use std::alloc::Global;
 
 /// The record `Udp`.
@@ -28,7 +28,7 @@ impl Udp {
     pub const FIELDS: [&'static str; 4] = ["source", "destination", "length", "checksum"];
 }
 
-impl CopyParts for Udp {
+impl Codec for Udp {
     type Parts = (Be<u16>, Be<u16>, Be<u16>, Be<u16>);
 
     ghost parts_of = { λ r. (be r.source, be r.destination, be r.length, be r.checksum) };
@@ -49,6 +49,10 @@ impl CopyParts for Udp {
         }
     }
 
+    ghost there = { λ r. refl };
+}
+
+impl CopyParts for Udp {
     fn parts(&self) -> Self::Parts {
         (
             Be(self.source),
@@ -57,8 +61,6 @@ impl CopyParts for Udp {
             Be(self.checksum),
         )
     }
-
-    ghost there = { λ r. refl };
 }
 
 /// Reads the record from the first byte on. Returns 0, or the number of the error; the record then

@@ -10,10 +10,7 @@ use deku_symmetry::{Codec, Coded, Symmetric, WriteParts};
 use std::alloc::Global;
 
 /// A record that C reads and writes: each that is copied and whose parts are symmetric.
-pub trait ForC: Codec + Copy
-where
-    Self::Parts: DekuReader<()> + DekuWriter<()>,
-{
+pub trait ForC: Codec + Copy {
     // What a read from bytes does: the number that it returns, and the record in its place before
     // and after.
     ghost reads_for_c: { List ℕ → ℕ → Self → Self → Type 0 };

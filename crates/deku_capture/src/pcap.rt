@@ -26,7 +26,7 @@ ghost use Rattle.deku_symmetry.specs.Fields.{be, le};
 ghost use Rattle.deku_pieces.specs.declared.either.Either.TheVariants as either;
 ghost use Rattle.deku_capture.specs.declared.pcap.Start.TheVariants as start_kinds;
 
-use deku_symmetry::{Be, CopyParts, Either, Enum, Kind, Le, MsbEnum};
+use deku_symmetry::{Be, Codec, CopyParts, Either, Enum, Kind, Le, MsbEnum};
 
 /// The magic number, with which a file starts.
 #[derive(Debug, Clone, Copy, PartialEq, Eq)]
@@ -41,7 +41,7 @@ pub enum Start {
     LittleNano,
 }
 
-impl CopyParts for Start {
+impl Codec for Start {
     type Parts = MsbEnum<
         Either<
             Either<Kind<(), 2712847316>, Kind<(), 2712812621>>,
@@ -89,6 +89,15 @@ impl CopyParts for Start {
         }
     }
 
+    ghost there = { elim [
+      | start_kinds.Big ↦ refl
+      | start_kinds.BigNano ↦ refl
+      | start_kinds.Little ↦ refl
+      | start_kinds.LittleNano ↦ refl
+    ] };
+}
+
+impl CopyParts for Start {
     fn parts(&self) -> Self::Parts {
         match self {
             Start::Big => Enum::new(Either::This(Either::This(Kind(())))),
@@ -97,13 +106,6 @@ impl CopyParts for Start {
             Start::LittleNano => Enum::new(Either::Other(Either::Other(Kind(())))),
         }
     }
-
-    ghost there = { elim [
-      | start_kinds.Big ↦ refl
-      | start_kinds.BigNano ↦ refl
-      | start_kinds.Little ↦ refl
-      | start_kinds.LittleNano ↦ refl
-    ] };
 }
 
 /// The header of a file after its magic number, high bytes first.
@@ -130,7 +132,7 @@ impl BigFields {
     ];
 }
 
-impl CopyParts for BigFields {
+impl Codec for BigFields {
     type Parts = (Be<u16>, Be<u16>, Be<i32>, Be<u32>, Be<u32>, Be<u32>);
 
     ghost parts_of = { λ r. (
@@ -163,6 +165,10 @@ impl CopyParts for BigFields {
         }
     }
 
+    ghost there = { λ r. refl };
+}
+
+impl CopyParts for BigFields {
     fn parts(&self) -> Self::Parts {
         (
             Be(self.major),
@@ -173,8 +179,6 @@ impl CopyParts for BigFields {
             Be(self.network),
         )
     }
-
-    ghost there = { λ r. refl };
 }
 
 /// The header of a file after its magic number, low bytes first.
@@ -201,7 +205,7 @@ impl LittleFields {
     ];
 }
 
-impl CopyParts for LittleFields {
+impl Codec for LittleFields {
     type Parts = (Le<u16>, Le<u16>, Le<i32>, Le<u32>, Le<u32>, Le<u32>);
 
     ghost parts_of = { λ r. (
@@ -234,6 +238,10 @@ impl CopyParts for LittleFields {
         }
     }
 
+    ghost there = { λ r. refl };
+}
+
+impl CopyParts for LittleFields {
     fn parts(&self) -> Self::Parts {
         (
             Le(self.major),
@@ -244,8 +252,6 @@ impl CopyParts for LittleFields {
             Le(self.network),
         )
     }
-
-    ghost there = { λ r. refl };
 }
 
 /// The header of a packet, high bytes first.
@@ -266,7 +272,7 @@ impl BigPacket {
     pub const FIELDS: [&'static str; 4] = ["seconds", "fraction", "kept", "whole"];
 }
 
-impl CopyParts for BigPacket {
+impl Codec for BigPacket {
     type Parts = (Be<u32>, Be<u32>, Be<u32>, Be<u32>);
 
     ghost parts_of = { λ r. (be r.seconds, be r.fraction, be r.kept, be r.whole) };
@@ -287,6 +293,10 @@ impl CopyParts for BigPacket {
         }
     }
 
+    ghost there = { λ r. refl };
+}
+
+impl CopyParts for BigPacket {
     fn parts(&self) -> Self::Parts {
         (
             Be(self.seconds),
@@ -295,8 +305,6 @@ impl CopyParts for BigPacket {
             Be(self.whole),
         )
     }
-
-    ghost there = { λ r. refl };
 }
 
 /// The header of a packet, low bytes first.
@@ -317,7 +325,7 @@ impl LittlePacket {
     pub const FIELDS: [&'static str; 4] = ["seconds", "fraction", "kept", "whole"];
 }
 
-impl CopyParts for LittlePacket {
+impl Codec for LittlePacket {
     type Parts = (Le<u32>, Le<u32>, Le<u32>, Le<u32>);
 
     ghost parts_of = { λ r. (le r.seconds, le r.fraction, le r.kept, le r.whole) };
@@ -338,6 +346,10 @@ impl CopyParts for LittlePacket {
         }
     }
 
+    ghost there = { λ r. refl };
+}
+
+impl CopyParts for LittlePacket {
     fn parts(&self) -> Self::Parts {
         (
             Le(self.seconds),
@@ -346,6 +358,4 @@ impl CopyParts for LittlePacket {
             Le(self.whole),
         )
     }
-
-    ghost there = { λ r. refl };
 }

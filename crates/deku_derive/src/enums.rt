@@ -105,7 +105,7 @@ pub(crate) fn implementation(
     kinds: &[Built<'_, '_>],
 ) -> Result<(), AllocError> {
     let name = record.name.text;
-    writeln!(out, "\nimpl CopyParts for {name} {{")?;
+    writeln!(out, "\nimpl Codec for {name} {{")?;
     out.push_str("    type Parts = ")?;
     parts_kind(*out.allocator(), ids, kinds)?.print(out, 4, 1, false)?;
     out.push_str(";\n\n    ghost parts_of = { elim [")?;
@@ -120,12 +120,6 @@ pub(crate) fn implementation(
     for (i, kind) in kinds.iter().enumerate() {
         from_parts(out, name, kind, (i, kinds.len()))?;
     }
-    out.push_str(
-        "\n        }\n    }\n\n    fn parts(&self) -> Self::Parts {\n        match self {",
-    )?;
-    for (i, kind) in kinds.iter().enumerate() {
-        parts(out, name, kind, (i, kinds.len()))?;
-    }
     out.push_str("\n        }\n    }\n\n")?;
     out.push_str("    ghost there = { elim [")?;
     for kind in kinds {
@@ -134,7 +128,13 @@ pub(crate) fn implementation(
         constructor(out, name, kind)?;
         out.push_str(" ↦ refl")?;
     }
-    out.push_str("\n    ] };\n}\n")
+    out.push_str("\n    ] };\n}\n")?;
+    writeln!(out, "\nimpl CopyParts for {name} {{")?;
+    out.push_str("    fn parts(&self) -> Self::Parts {\n        match self {")?;
+    for (i, kind) in kinds.iter().enumerate() {
+        parts(out, name, kind, (i, kinds.len()))?;
+    }
+    out.push_str("\n        }\n    }\n}\n")
 }
 
 // The type of the id and the kinds.

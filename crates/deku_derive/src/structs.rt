@@ -102,8 +102,7 @@ pub(crate) fn implementation(
     let whole = builder.whole()?;
     named(out, name, names)?;
     let is_copied = builder.owner == Owner::Copied;
-    let form = if is_copied { "CopyParts" } else { "Codec" };
-    writeln!(out, "\nimpl {form} for {name} {{")?;
+    writeln!(out, "\nimpl Codec for {name} {{")?;
     out.push_str("    type Parts = ")?;
     whole.kind.print(out, 4, 1, false)?;
     out.push_str(";\n\n    ghost parts_of = { λ r. ")?;
@@ -112,14 +111,12 @@ pub(crate) fn implementation(
     record_of(alloc, shape, fields, &whole)?.print(out, 4, 3, false)?;
     out.push_str(" };\n\n")?;
     from_parts(out, record, shape, fields, &whole)?;
-    if is_copied {
-        out.push_str("    fn parts(&self) -> Self::Parts {\n        ")?;
-        whole.value.print(out, 8, 0, false)?;
-        out.push_str("\n    }\n\n")?;
-    }
     out.push_str("    ghost there = { λ r. refl };\n}\n")?;
     if is_copied {
-        return Ok(());
+        writeln!(out, "\nimpl CopyParts for {name} {{")?;
+        out.push_str("    fn parts(&self) -> Self::Parts {\n        ")?;
+        whole.value.print(out, 8, 0, false)?;
+        return out.push_str("\n    }\n}\n");
     }
     writeln!(out, "\nimpl WriteParts for {name} {{")?;
     out.push_str("    fn write<W: Sink>(&self, writer: &mut Writer<W>) -> ")?;

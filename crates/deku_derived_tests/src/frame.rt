@@ -5,7 +5,9 @@
 ghost use Rattle.std.specs.Prelude.{◌||◌, nat_eq, nat_le, codes, refl};
 ghost use Rattle.deku_symmetry.specs.Fields.{be, msb};
 
-use deku_symmetry::{Assert, Be, Check, CheckLaw, Constant, ConstantLaw, CopyParts, Magic, Msb};
+use deku_symmetry::{
+    Assert, Be, Check, CheckLaw, Codec, Constant, ConstantLaw, CopyParts, Magic, Msb,
+};
 
 /// Padding.
 #[derive(Debug, PartialEq, Eq, Drop)]
@@ -71,7 +73,7 @@ impl Range {
     pub const FIELDS: [&'static str; 2] = ["low", "high"];
 }
 
-impl CopyParts for Range {
+impl Codec for Range {
     type Parts = Assert<RangeHighHead, RangeHighCheck>;
 
     ghost parts_of = { λ r. record { part = (r.low, r.high); check = record {} } };
@@ -86,11 +88,13 @@ impl CopyParts for Range {
         Range { low, high }
     }
 
+    ghost there = { λ r. refl };
+}
+
+impl CopyParts for Range {
     fn parts(&self) -> Self::Parts {
         Assert::new((self.low, self.high))
     }
-
-    ghost there = { λ r. refl };
 }
 
 /// The record `Frame`.
@@ -166,12 +170,12 @@ impl Frame {
     ];
 }
 
-impl CopyParts for Frame {
+impl Codec for Frame {
     type Parts = (
         Magic<u8, FrameMagic>,
         Assert<Msb<u8, 4>, FrameVersionCheck>,
         Msb<u8, 4>,
-        <Range as CopyParts>::Parts,
+        <Range as Codec>::Parts,
         Be<(u8, u16)>,
         Magic<Msb<u64, 6>, Zeros>,
         Msb<u8, 2>,
@@ -181,7 +185,7 @@ impl CopyParts for Frame {
       record { part = record {}; constant = record {} },
       record { part = msb r.version; check = record {} },
       msb r.kind,
-      ⟦<Range as CopyParts>⟧.parts_of r.range,
+      ⟦<Range as Codec>⟧.parts_of r.range,
       be r.pair,
       record { part = record {}; constant = record {} },
       msb r.end,
@@ -190,7 +194,7 @@ impl CopyParts for Frame {
     ghost record_of = { λ p. record {
       version = p.1.part.0;
       kind = p.2.0;
-      range = ⟦<Range as CopyParts>⟧.record_of p.3;
+      range = ⟦<Range as Codec>⟧.record_of p.3;
       pair = p.4.0;
       end = p.6.0;
     } };
@@ -211,12 +215,16 @@ impl CopyParts for Frame {
         Frame {
             version,
             kind,
-            range: <Range as CopyParts>::from_parts(range),
+            range: <Range as Codec>::from_parts(range),
             pair,
             end,
         }
     }
 
+    ghost there = { λ r. refl };
+}
+
+impl CopyParts for Frame {
     fn parts(&self) -> Self::Parts {
         (
             Magic::new(),
@@ -228,6 +236,4 @@ impl CopyParts for Frame {
             Msb(self.end),
         )
     }
-
-    ghost there = { λ r. refl };
 }

@@ -6,8 +6,11 @@ mod bytes;
 pub mod frame;
 pub mod gre;
 pub mod lists;
+#[cfg(test)]
+mod nested;
 pub mod ntp;
 #[cfg(test)]
 mod places;
+pub mod report;
 pub mod shape;
 pub mod tcp;

@@ -25,7 +25,7 @@ impl Entry {
     pub const FIELDS: [&'static str; 2] = ["kind", "value"];
 }
 
-impl CopyParts for Entry {
+impl Codec for Entry {
     type Parts = (u8, Be<u16>);
 
     ghost parts_of = { λ r. (r.kind, be r.value) };
@@ -36,11 +36,13 @@ impl CopyParts for Entry {
         Entry { kind, value }
     }
 
+    ghost there = { λ r. refl };
+}
+
+impl CopyParts for Entry {
     fn parts(&self) -> Self::Parts {
         (self.kind, Be(self.value))
     }
-
-    ghost there = { λ r. refl };
 }
 
 /// A table, with its size in bytes.

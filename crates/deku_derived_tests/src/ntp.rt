@@ -5,7 +5,7 @@
 ghost use Rattle.std.specs.Prelude.{refl};
 ghost use Rattle.deku_symmetry.specs.Fields.{be, msb};
 
-use deku_symmetry::{Be, CopyParts, Msb};
+use deku_symmetry::{Be, Codec, CopyParts, Msb};
 
 /// The record `Ntp`.
 #[derive(Debug, Clone, Copy, PartialEq, Eq)]
@@ -44,7 +44,7 @@ impl Ntp {
     ];
 }
 
-impl CopyParts for Ntp {
+impl Codec for Ntp {
     type Parts = (
         (
             Msb<u8, 2>,
@@ -120,6 +120,10 @@ impl CopyParts for Ntp {
         }
     }
 
+    ghost there = { λ r. refl };
+}
+
+impl CopyParts for Ntp {
     fn parts(&self) -> Self::Parts {
         (
             (
@@ -141,6 +145,4 @@ impl CopyParts for Ntp {
             ),
         )
     }
-
-    ghost there = { λ r. refl };
 }

@@ -7,7 +7,7 @@ ghost use Rattle.deku_symmetry.specs.Fields.{be, msb};
 ghost use Rattle.deku_pieces.specs.declared.either.Either.TheVariants as either;
 ghost use Rattle.deku_derived_tests.specs.declared.shape.Shape.TheVariants as shape_kinds;
 
-use deku_symmetry::{Be, CopyParts, Either, Enum, InRange, Kind, Msb, MsbEnum, Otherwise};
+use deku_symmetry::{Be, Codec, CopyParts, Either, Enum, InRange, Kind, Msb, MsbEnum, Otherwise};
 
 /// The record `Shape`.
 #[derive(Debug, Clone, Copy, PartialEq, Eq)]
@@ -22,7 +22,7 @@ pub enum Shape {
     Unknown(u64, u8),
 }
 
-impl CopyParts for Shape {
+impl Codec for Shape {
     type Parts = MsbEnum<
         Either<
             Either<Kind<Msb<u16, 12>, 1>, Kind<(Msb<u8, 4>, Be<u16>, Be<u16>), 2>>,
@@ -75,6 +75,15 @@ impl CopyParts for Shape {
         }
     }
 
+    ghost there = { elim [
+      | shape_kinds.Circle field_0 ↦ refl
+      | shape_kinds.Rectangle flags width height ↦ refl
+      | shape_kinds.Empty field_0 ↦ refl
+      | shape_kinds.Unknown field_0 field_1 ↦ refl
+    ] };
+}
+
+impl CopyParts for Shape {
     fn parts(&self) -> Self::Parts {
         match self {
             Shape::Circle(field_0) => Enum::new(Either::This(Either::This(Kind(Msb(*field_0))))),
@@ -94,11 +103,4 @@ impl CopyParts for Shape {
             }
         }
     }
-
-    ghost there = { elim [
-      | shape_kinds.Circle field_0 ↦ refl
-      | shape_kinds.Rectangle flags width height ↦ refl
-      | shape_kinds.Empty field_0 ↦ refl
-      | shape_kinds.Unknown field_0 field_1 ↦ refl
-    ] };
 }

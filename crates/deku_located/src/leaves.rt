@@ -38,10 +38,7 @@ impl<T: DekuReader<()>, const N: usize> OnePart for [T; N] {}
 
 impl<T: DekuReader<()>> OnePart for Box<T> {}
 
-impl<E: Codec> OnePart for Coded<E>
-where
-    E::Parts: DekuReader<()>,
-{}
+impl<E: Codec> OnePart for Coded<E> {}
 
 impl<P: DekuReader<()>, C: Constant<P>> OnePart for Magic<P, C> {}
 

@@ -86,7 +86,7 @@ impl Header {
     ];
 }
 
-impl CopyParts for Header {
+impl Codec for Header {
     type Parts = (
         (
             Be<u16>,
@@ -169,6 +169,10 @@ impl CopyParts for Header {
         }
     }
 
+    ghost there = { λ r. refl };
+}
+
+impl CopyParts for Header {
     fn parts(&self) -> Self::Parts {
         (
             (
@@ -192,8 +196,6 @@ impl CopyParts for Header {
             ),
         )
     }
-
-    ghost there = { λ r. refl };
 }
 
 /// One text of the data of kind 16.

@@ -21,7 +21,7 @@
 ghost use Rattle.std.specs.Prelude.{refl};
 ghost use Rattle.deku_symmetry.specs.Fields.{be, msb};
 
-use deku_symmetry::{Be, CopyParts, Msb};
+use deku_symmetry::{Be, Codec, CopyParts, Msb};
 
 /// The header of a packet.
 #[derive(Debug, Clone, Copy, PartialEq, Eq)]
@@ -73,7 +73,7 @@ impl Ntp {
     ];
 }
 
-impl CopyParts for Ntp {
+impl Codec for Ntp {
     type Parts = (
         (
             Msb<u8, 2>,
@@ -149,6 +149,10 @@ impl CopyParts for Ntp {
         }
     }
 
+    ghost there = { λ r. refl };
+}
+
+impl CopyParts for Ntp {
     fn parts(&self) -> Self::Parts {
         (
             (
@@ -170,6 +174,4 @@ impl CopyParts for Ntp {
             ),
         )
     }
-
-    ghost there = { λ r. refl };
 }

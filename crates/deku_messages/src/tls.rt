@@ -11,7 +11,7 @@
 ghost use Rattle.std.specs.Prelude.{refl};
 ghost use Rattle.deku_symmetry.specs.Fields.{be};
 
-use deku_symmetry::{Be, CopyParts};
+use deku_symmetry::{Be, Codec, CopyParts};
 
 /// The header of a record.
 #[derive(Debug, Clone, Copy, PartialEq, Eq)]
@@ -29,7 +29,7 @@ impl Tls {
     pub const FIELDS: [&'static str; 3] = ["content", "version", "length"];
 }
 
-impl CopyParts for Tls {
+impl Codec for Tls {
     type Parts = (u8, Be<u16>, Be<u16>);
 
     ghost parts_of = { λ r. (r.content, be r.version, be r.length) };
@@ -44,9 +44,11 @@ impl CopyParts for Tls {
         }
     }
 
+    ghost there = { λ r. refl };
+}
+
+impl CopyParts for Tls {
     fn parts(&self) -> Self::Parts {
         (self.content, Be(self.version), Be(self.length))
     }
-
-    ghost there = { λ r. refl };
 }

@@ -17,7 +17,7 @@
 ghost use Rattle.std.specs.Prelude.{nat_eq, codes, refl};
 ghost use Rattle.deku_symmetry.specs.Fields.{be};
 
-use deku_symmetry::{Assert, Be, Check, CheckLaw, CopyParts};
+use deku_symmetry::{Assert, Be, Check, CheckLaw, Codec, CopyParts};
 use std::net::Ipv4Addr;
 
 /// A question who has an address, or the answer.
@@ -150,7 +150,7 @@ impl Arp {
     ];
 }
 
-impl CopyParts for Arp {
+impl Codec for Arp {
     type Parts = (
         (
             Assert<Be<u16>, ArpHardwareValue>,
@@ -230,6 +230,10 @@ impl CopyParts for Arp {
         }
     }
 
+    ghost there = { λ r. refl };
+}
+
+impl CopyParts for Arp {
     fn parts(&self) -> Self::Parts {
         (
             (
@@ -245,6 +249,4 @@ impl CopyParts for Arp {
             Be(self.target),
         )
     }
-
-    ghost there = { λ r. refl };
 }

@@ -17,7 +17,7 @@
 ghost use Rattle.std.specs.Prelude.{refl};
 ghost use Rattle.deku_symmetry.specs.Fields.{be, msb};
 
-use deku_symmetry::{Be, CopyParts, Msb};
+use deku_symmetry::{Be, Codec, CopyParts, Msb};
 
 /// The header of a frame.
 #[derive(Debug, Clone, Copy, PartialEq, Eq)]
@@ -35,7 +35,7 @@ impl Ethernet {
     pub const FIELDS: [&'static str; 3] = ["destination", "source", "kind"];
 }
 
-impl CopyParts for Ethernet {
+impl Codec for Ethernet {
     type Parts = ([u8; 6], [u8; 6], Be<u16>);
 
     ghost parts_of = { λ r. (r.destination, r.source, be r.kind) };
@@ -50,11 +50,13 @@ impl CopyParts for Ethernet {
         }
     }
 
+    ghost there = { λ r. refl };
+}
+
+impl CopyParts for Ethernet {
     fn parts(&self) -> Self::Parts {
         (self.destination, self.source, Be(self.kind))
     }
-
-    ghost there = { λ r. refl };
 }
 
 /// The tag of a virtual network.
@@ -75,7 +77,7 @@ impl Tag {
     pub const FIELDS: [&'static str; 4] = ["priority", "may_drop", "network", "kind"];
 }
 
-impl CopyParts for Tag {
+impl Codec for Tag {
     type Parts = (Msb<u8, 3>, Msb<bool, 1>, Msb<u16, 12>, Be<u16>);
 
     ghost parts_of = { λ r. (msb r.priority, msb r.may_drop, msb r.network, be r.kind) };
@@ -96,6 +98,10 @@ impl CopyParts for Tag {
         }
     }
 
+    ghost there = { λ r. refl };
+}
+
+impl CopyParts for Tag {
     fn parts(&self) -> Self::Parts {
         (
             Msb(self.priority),
@@ -104,6 +110,4 @@ impl CopyParts for Tag {
             Be(self.kind),
         )
     }
-
-    ghost there = { λ r. refl };
 }

@@ -18,7 +18,7 @@ ghost use Rattle.deku_symmetry.specs.Fields.{be};
 ghost use Rattle.deku_pieces.specs.declared.either.Either.TheVariants as either;
 ghost use Rattle.deku_network.specs.declared.icmp.Icmp.TheVariants as icmp_kinds;
 
-use deku_symmetry::{Be, CopyParts, Either, Enum, InRange, Kind, MsbEnum, Otherwise};
+use deku_symmetry::{Be, Codec, CopyParts, Either, Enum, InRange, Kind, MsbEnum, Otherwise};
 
 /// The beginning of a message, by its kind.
 #[derive(Debug, Clone, Copy, PartialEq, Eq)]
@@ -54,7 +54,7 @@ pub enum Icmp {
     Other(u64, u8, u16),
 }
 
-impl CopyParts for Icmp {
+impl Codec for Icmp {
     type Parts = MsbEnum<
         Either<
             Either<
@@ -154,6 +154,16 @@ impl CopyParts for Icmp {
         }
     }
 
+    ghost there = { elim [
+      | icmp_kinds.EchoReply code checksum identifier sequence ↦ refl
+      | icmp_kinds.Unreachable code checksum unused next_mtu ↦ refl
+      | icmp_kinds.Echo code checksum identifier sequence ↦ refl
+      | icmp_kinds.TimeExceeded code checksum unused ↦ refl
+      | icmp_kinds.Other field_0 field_1 field_2 ↦ refl
+    ] };
+}
+
+impl CopyParts for Icmp {
     fn parts(&self) -> Self::Parts {
         match self {
             Icmp::EchoReply {
@@ -214,12 +224,4 @@ impl CopyParts for Icmp {
             }
         }
     }
-
-    ghost there = { elim [
-      | icmp_kinds.EchoReply code checksum identifier sequence ↦ refl
-      | icmp_kinds.Unreachable code checksum unused next_mtu ↦ refl
-      | icmp_kinds.Echo code checksum identifier sequence ↦ refl
-      | icmp_kinds.TimeExceeded code checksum unused ↦ refl
-      | icmp_kinds.Other field_0 field_1 field_2 ↦ refl
-    ] };
 }

@@ -16,7 +16,7 @@ ghost use Rattle.deku_symmetry.specs.Fields.{be};
 ghost use Rattle.deku_pieces.specs.declared.either.Either.TheVariants as either;
 ghost use Rattle.deku_network.specs.declared.icmpv6.Icmpv6.TheVariants as icmpv6_kinds;
 
-use deku_symmetry::{Be, CopyParts, Either, Enum, InRange, Kind, MsbEnum, Otherwise};
+use deku_symmetry::{Be, Codec, CopyParts, Either, Enum, InRange, Kind, MsbEnum, Otherwise};
 
 /// The beginning of a message, by its kind.
 #[derive(Debug, Clone, Copy, PartialEq, Eq)]
@@ -51,7 +51,7 @@ pub enum Icmpv6 {
     Other(u64, u8, u16),
 }
 
-impl CopyParts for Icmpv6 {
+impl Codec for Icmpv6 {
     type Parts = MsbEnum<
         Either<
             Either<
@@ -149,6 +149,16 @@ impl CopyParts for Icmpv6 {
         }
     }
 
+    ghost there = { elim [
+      | icmpv6_kinds.Unreachable code checksum unused ↦ refl
+      | icmpv6_kinds.TimeExceeded code checksum unused ↦ refl
+      | icmpv6_kinds.Echo code checksum identifier sequence ↦ refl
+      | icmpv6_kinds.EchoReply code checksum identifier sequence ↦ refl
+      | icmpv6_kinds.Other field_0 field_1 field_2 ↦ refl
+    ] };
+}
+
+impl CopyParts for Icmpv6 {
     fn parts(&self) -> Self::Parts {
         match self {
             Icmpv6::Unreachable {
@@ -207,12 +217,4 @@ impl CopyParts for Icmpv6 {
             }
         }
     }
-
-    ghost there = { elim [
-      | icmpv6_kinds.Unreachable code checksum unused ↦ refl
-      | icmpv6_kinds.TimeExceeded code checksum unused ↦ refl
-      | icmpv6_kinds.Echo code checksum identifier sequence ↦ refl
-      | icmpv6_kinds.EchoReply code checksum identifier sequence ↦ refl
-      | icmpv6_kinds.Other field_0 field_1 field_2 ↦ refl
-    ] };
 }

@@ -84,7 +84,7 @@ impl Ipv6 {
     ];
 }
 
-impl CopyParts for Ipv6 {
+impl Codec for Ipv6 {
     type Parts = (
         Assert<Msb<u8, 4>, Ipv6VersionValue>,
         u8,
@@ -144,6 +144,10 @@ impl CopyParts for Ipv6 {
         }
     }
 
+    ghost there = { λ r. refl };
+}
+
+impl CopyParts for Ipv6 {
     fn parts(&self) -> Self::Parts {
         (
             Assert::new(Msb(self.version)),
@@ -156,8 +160,6 @@ impl CopyParts for Ipv6 {
             Be(self.destination),
         )
     }
-
-    ghost there = { λ r. refl };
 }
 
 /// The extension headers hop-by-hop (0) and destination (60): options for the routers on the way,
@@ -356,7 +358,7 @@ impl Fragment {
     ];
 }
 
-impl CopyParts for Fragment {
+impl Codec for Fragment {
     type Parts = (u8, u8, Msb<u16, 13>, Msb<u8, 2>, Msb<bool, 1>, Be<u32>);
 
     ghost parts_of = { λ r. (
@@ -389,6 +391,10 @@ impl CopyParts for Fragment {
         }
     }
 
+    ghost there = { λ r. refl };
+}
+
+impl CopyParts for Fragment {
     fn parts(&self) -> Self::Parts {
         (
             self.next,
@@ -399,6 +405,4 @@ impl CopyParts for Fragment {
             Be(self.identification),
         )
     }
-
-    ghost there = { λ r. refl };
 }

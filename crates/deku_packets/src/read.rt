@@ -2,7 +2,7 @@
 
 use crate::layer::Fields;
 use crate::packet::Refusal;
-use deku::prelude::{DekuContainerRead, DekuError, DekuReader, Reader};
+use deku::prelude::{DekuContainerRead, DekuError, Reader};
 use deku_symmetry::{Codec, Coded};
 use std::alloc::Global;
 use std::io::Cursor;
@@ -15,8 +15,6 @@ pub fn first<E: Codec>(
     at: usize,
     fields: &Fields,
 ) -> Result<(E, usize), Refusal>
-where
-    E::Parts: DekuReader<()>,
     requires { E.Parts.DekuReader.accepts tt }
 {
     match Coded::<E>::from_bytes(alloc, (bytes, 0)) {
@@ -34,8 +32,6 @@ fn refused<E: Codec>(
     fields: &Fields,
     fault: DekuError,
 ) -> Refusal
-where
-    E::Parts: DekuReader<()>,
     requires { E.Parts.DekuReader.accepts tt }
 {
     let mut reader = Reader::new(alloc, Cursor::new(bytes));

@@ -7,7 +7,7 @@ use crate::layer::{Fields, Layer, Placed};
 use crate::next::Next;
 use crate::packet::{MOST_HEADERS, Refusal};
 use crate::read::first;
-use deku::prelude::{DekuError, DekuReader};
+use deku::prelude::DekuError;
 use deku_network::arp::Arp;
 use deku_network::ethernet::{Ethernet, Tag};
 use deku_network::icmp::Icmp;
@@ -62,8 +62,6 @@ impl<'a> Walk<'a> {
 
     /// Reads a record, of these fields.
     pub fn read<E: Codec>(&mut self, fields: &Fields) -> Result<E, Refusal>
-    where
-        E::Parts: DekuReader<()>,
         requires { E.Parts.DekuReader.accepts tt }
     {
         let (record, count) = first(self.alloc, self.rest(), self.at, fields)?;

@@ -19,7 +19,7 @@ pub struct Datagram {
     pub checksum: u16,
 }
 
-impl CopyParts for Datagram {
+impl Codec for Datagram {
     type Parts = (Be<u16>, Be<u16>, Be<u16>, Be<u16>);
 
     ghost parts_of = { λ r. (be r.source, be r.destination, be r.length, be r.checksum) };
@@ -40,6 +40,10 @@ impl CopyParts for Datagram {
         }
     }
 
+    ghost there = { λ r. refl };
+}
+
+impl CopyParts for Datagram {
     fn parts(&self) -> Self::Parts {
         (
             Be(self.source),
@@ -48,8 +52,6 @@ impl CopyParts for Datagram {
             Be(self.checksum),
         )
     }
-
-    ghost there = { λ r. refl };
 }
 
 // A year since 1900, in seven bits.

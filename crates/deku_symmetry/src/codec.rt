@@ -16,8 +16,8 @@ use deku::writer::Writer;
 use deku::{DekuContainerRead, DekuContainerWrite, DekuError, DekuReader, DekuWriter};
 
 /// A type that is read and written as its parts: a record, an enum, or a type whose values stand
-/// for those of another. Its law `there` makes sure that no field is missing from the parts. One
-/// whose parts can be copied is a `CopyParts` instead; any other one is a `WriteParts` too.
+/// for those of another. Its law `there` makes sure that no field is missing from the parts. It is
+/// written as a `CopyParts` or a `WriteParts`.
 ///
 /// ```text
 /// impl Codec for Sample {
@@ -27,7 +27,7 @@ use deku::{DekuContainerRead, DekuContainerWrite, DekuError, DekuReader, DekuWri
 /// ```
 pub trait Codec: Drop {
     /// The parts, in the order of their layout.
-    type Parts: Drop;
+    type Parts: DekuReader<()> + DekuWriter<()>;
 
     // The parts of a value.
     ghost parts_of: { Self → Self.Parts };
@@ -52,7 +52,6 @@ pub trait Codec: Drop {
     final fn read<R: Source>(reader: &mut Reader<R>) -> Result<Self, DekuError>
     where
         Self: Sized,
-        Self::Parts: DekuReader<()>,
         requires { Self.Parts.DekuReader.accepts tt }
         ensures reads { Reads R.known (Then (Self.Parts.DekuReader.meaning tt) (Shows parts_of))
             reader.old result reader.new }
@@ -67,17 +66,36 @@ pub trait Codec: Drop {
     ghost there: { (v : Self) → record_of (parts_of v) ≡ v };
 }
 
-/// A `Codec` that writes its parts: they are made where they are written, and need not be copied.
+/// A `Codec` whose parts can be copied out of a value: a record without memory, or an enum.
+///
+/// ```text
+/// impl CopyParts for Sample {
+///     fn parts(&self) -> Self::Parts {
+///         (Msb(self.sensor), Msb(self.state), Be(self.value))
+///     }
+/// }
+/// ```
+pub trait CopyParts: Codec {
+    /// The parts of the value.
+    ///
+    /// ```text
+    /// sample.parts()                                          // (Msb(6), Msb(9), Be(49406))
+    /// ```
+    fn parts(&self) -> Self::Parts
+        ensures { result ≡ Self.Codec.parts_of self.now };
+}
+
+/// A `Codec` that can be written. One that holds memory writes parts that refer to it; all others
+/// are `CopyParts`.
 ///
 /// ```text
 /// impl WriteParts for Message {
-///     fn write<W: Sink>(&self, writer: &mut Writer<W>) -> Result<(), DekuError> { .. }
+///     fn write<W: Sink>(&self, writer: &mut Writer<W>) -> Result<(), DekuError> {
+///         (Be(self.id), &self.items).to_writer(writer, ())
+///     }
 /// }
 /// ```
-pub trait WriteParts: Codec
-where
-    Self::Parts: DekuWriter<()>,
-{
+pub trait WriteParts: Codec {
     /// Writes the parts of the value. It fails as they do.
     ///
     /// The caller's condition: the parts may be written.
@@ -93,62 +111,8 @@ where
             writer.new };
 }
 
-/// A type whose parts can be copied out of a value: it is a `Codec`, and writes its parts.
-///
-/// ```text
-/// impl CopyParts for Sample {
-///     type Parts = (Msb<u8, 4>, Msb<u8, 4>, Be<u16>);
-///     ..
-/// }
-/// ```
-pub trait CopyParts: Drop {
-    /// The parts, in the order of their layout.
-    type Parts: Drop;
-
-    // The parts of a value.
-    ghost parts_of: { Self → Self.Parts };
-
-    // A value that parts make.
-    ghost record_of: { Self.Parts → Self };
-
-    /// The value that these parts make.
-    fn from_parts(parts: Self::Parts) -> Self
-    where
-        Self: Sized,
-        ensures { parts_of result ≡ parts };
-
-    /// The parts of the value.
-    ///
-    /// ```text
-    /// (Msb(self.sensor), Msb(self.state), Be(self.value))
-    /// ```
-    fn parts(&self) -> Self::Parts
-        ensures { result ≡ parts_of self.now };
-
-    // The parts of a value make this value again: no field is missing from them.
-    ghost there: { (v : Self) → record_of (parts_of v) ≡ v };
-}
-
-/// Its parts are those that can be copied.
-impl<T: CopyParts> Codec for T {
-    type Parts = T::Parts;
-
-    ghost parts_of = { T.CopyParts.parts_of };
-
-    ghost record_of = { T.CopyParts.record_of };
-
-    fn from_parts(parts: Self::Parts) -> Self {
-        <T as CopyParts>::from_parts(parts)
-    }
-
-    ghost there = { T.CopyParts.there };
-}
-
 /// It is written as the copies of its parts.
-impl<T: CopyParts> WriteParts for T
-where
-    T::Parts: DekuWriter<()>,
-{
+impl<T: CopyParts> WriteParts for T {
     fn write<W: Sink>(&self, writer: &mut Writer<W>) -> Result<(), DekuError> {
         let parts = self.parts();
         parts.to_writer(writer, ())
@@ -165,10 +129,7 @@ where
 #[derive(Debug, Clone, Copy, PartialEq, Eq, Drop)]
 pub struct Coded<E>(pub E);
 
-impl<E: Codec> DekuReader<()> for Coded<E>
-where
-    E::Parts: DekuReader<()>,
-{
+impl<E: Codec> DekuReader<()> for Coded<E> {
     ghost accepts = { λ _. E.Parts.DekuReader.accepts tt };
 
     ghost no_read_ahead = { λ _. E.Parts.DekuReader.no_read_ahead tt };
@@ -182,10 +143,7 @@ where
     }
 }
 
-impl<E: WriteParts> DekuWriter<()> for Coded<E>
-where
-    E::Parts: DekuWriter<()>,
-{
+impl<E: WriteParts> DekuWriter<()> for Coded<E> {
     ghost accepts = { λ _. E.Parts.DekuWriter.accepts tt };
 
     ghost meaning = { λ v _. E.Parts.DekuWriter.meaning (E.parts_of v.0) tt };
@@ -196,15 +154,9 @@ where
     }
 }
 
-impl<E: Codec> DekuContainerRead for Coded<E>
-where
-    E::Parts: DekuReader<()>,
-{}
+impl<E: Codec> DekuContainerRead for Coded<E> {}
 
-impl<E: WriteParts> DekuContainerWrite for Coded<E>
-where
-    E::Parts: DekuWriter<()>,
-{}
+impl<E: WriteParts> DekuContainerWrite for Coded<E> {}
 
 /// The pieces of the parts.
 impl<E: WriteParts> Symmetric<()> for Coded<E>
@@ -241,10 +193,7 @@ where
 #[derive(Drop)]
 pub struct CodedRef<'a, E>(pub &'a E);
 
-impl<'a, E: WriteParts> DekuWriter<()> for CodedRef<'a, E>
-where
-    E::Parts: DekuWriter<()>,
-{
+impl<'a, E: WriteParts> DekuWriter<()> for CodedRef<'a, E> {
     ghost accepts = { λ _. E.Parts.DekuWriter.accepts tt };
 
     ghost meaning = { λ v _. E.Parts.DekuWriter.meaning (E.parts_of v.0.now) tt };

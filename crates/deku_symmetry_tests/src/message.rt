@@ -5,7 +5,7 @@ ghost use Rattle.deku_symmetry_tests.specs.declared.message.Message.TheVariants.
 ghost use Rattle.deku_pieces.specs.declared.either.Either.TheVariants as either;
 ghost use Rattle.deku_symmetry.specs.Fields.{be, msb};
 
-use deku_symmetry::{Be, CopyParts, Either, Enum, Kind, Msb, MsbEnum};
+use deku_symmetry::{Be, Codec, CopyParts, Either, Enum, Kind, Msb, MsbEnum};
 
 /// A message.
 #[derive(Debug, Clone, Copy, PartialEq, Eq)]
@@ -21,7 +21,7 @@ pub enum Message {
 // Where to move to.
 type Place = (Msb<i16, 12>, Msb<i16, 12>);
 
-impl CopyParts for Message {
+impl Codec for Message {
     type Parts = MsbEnum<Either<Kind<Be<u16>, 1>, Either<Kind<Place, 2>, Kind<(), 3>>>, 8>;
 
     ghost parts_of = { elim [
@@ -51,6 +51,10 @@ impl CopyParts for Message {
         }
     }
 
+    ghost there = { elim [ Tone height ↦ refl | Move across up ↦ refl | Stop ↦ refl ] };
+}
+
+impl CopyParts for Message {
     fn parts(&self) -> Self::Parts {
         match self {
             Message::Tone(height) => Enum::new(Either::This(Kind(Be(*height)))),
@@ -60,6 +64,4 @@ impl CopyParts for Message {
             Message::Stop => Enum::new(Either::Other(Either::Other(Kind(())))),
         }
     }
-
-    ghost there = { elim [ Tone height ↦ refl | Move across up ↦ refl | Stop ↦ refl ] };
 }

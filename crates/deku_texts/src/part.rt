@@ -93,7 +93,7 @@ impl<'a> Place<'a> {
     /// What makes the field of what is in its place.
     pub fn made(&self, alloc: Global, held: &str) -> Result<String, AllocError> {
         match self.record {
-            Some(record) => format!(in alloc; "<{record} as CopyParts>::from_parts({held})"),
+            Some(record) => format!(in alloc; "<{record} as Codec>::from_parts({held})"),
             None => String::from_str(alloc, held),
         }
     }
@@ -101,7 +101,7 @@ impl<'a> Place<'a> {
     /// The same in ghost text.
     pub fn term(&self, alloc: Global, held: &str) -> Result<String, AllocError> {
         match self.record {
-            Some(record) => format!(in alloc; "⟦<{record} as CopyParts>⟧.record_of {held}"),
+            Some(record) => format!(in alloc; "⟦<{record} as Codec>⟧.record_of {held}"),
             None => String::from_str(alloc, held),
         }
     }
@@ -173,14 +173,14 @@ fn inlined<'a>(
         name: String::from_str(alloc, name)?,
         record: Some(record),
     })?;
-    let kind = format!(in alloc; "<{record} as CopyParts>::Parts")?;
+    let kind = format!(in alloc; "<{record} as Codec>::Parts")?;
     Ok(Part {
         lent: Text::word(alloc, kind.as_str())?,
         kind: Text::of(kind),
         is_lent: false,
         pattern: Text::word(alloc, name)?,
         value: Text::of(value),
-        term: Text::of(format!(in alloc; "⟦<{record} as CopyParts>⟧.parts_of {term}")?),
+        term: Text::of(format!(in alloc; "⟦<{record} as Codec>⟧.parts_of {term}")?),
         places,
         names,
     })

@@ -158,7 +158,7 @@ impl LargestSegment {
     pub const FIELDS: [&'static str; 1] = ["size"];
 }
 
-impl CopyParts for LargestSegment {
+impl Codec for LargestSegment {
     type Parts = Be<u16>;
 
     ghost parts_of = { λ r. be r.size };
@@ -169,11 +169,13 @@ impl CopyParts for LargestSegment {
         LargestSegment { size }
     }
 
+    ghost there = { λ r. refl };
+}
+
+impl CopyParts for LargestSegment {
     fn parts(&self) -> Self::Parts {
         Be(self.size)
     }
-
-    ghost there = { λ r. refl };
 }
 
 /// The data of kind 3.
@@ -188,7 +190,7 @@ impl WindowScale {
     pub const FIELDS: [&'static str; 1] = ["shift"];
 }
 
-impl CopyParts for WindowScale {
+impl Codec for WindowScale {
     type Parts = u8;
 
     ghost parts_of = { λ r. r.shift };
@@ -199,11 +201,13 @@ impl CopyParts for WindowScale {
         WindowScale { shift }
     }
 
+    ghost there = { λ r. refl };
+}
+
+impl CopyParts for WindowScale {
     fn parts(&self) -> Self::Parts {
         self.shift
     }
-
-    ghost there = { λ r. refl };
 }
 
 /// One block of kind 5: bytes that came out of order.
@@ -220,7 +224,7 @@ impl Block {
     pub const FIELDS: [&'static str; 2] = ["left", "right"];
 }
 
-impl CopyParts for Block {
+impl Codec for Block {
     type Parts = (Be<u32>, Be<u32>);
 
     ghost parts_of = { λ r. (be r.left, be r.right) };
@@ -231,11 +235,13 @@ impl CopyParts for Block {
         Block { left, right }
     }
 
+    ghost there = { λ r. refl };
+}
+
+impl CopyParts for Block {
     fn parts(&self) -> Self::Parts {
         (Be(self.left), Be(self.right))
     }
-
-    ghost there = { λ r. refl };
 }
 
 /// The data of kind 8.
@@ -252,7 +258,7 @@ impl Times {
     pub const FIELDS: [&'static str; 2] = ["value", "echo"];
 }
 
-impl CopyParts for Times {
+impl Codec for Times {
     type Parts = (Be<u32>, Be<u32>);
 
     ghost parts_of = { λ r. (be r.value, be r.echo) };
@@ -263,9 +269,11 @@ impl CopyParts for Times {
         Times { value, echo }
     }
 
+    ghost there = { λ r. refl };
+}
+
+impl CopyParts for Times {
     fn parts(&self) -> Self::Parts {
         (Be(self.value), Be(self.echo))
     }
-
-    ghost there = { λ r. refl };
 }

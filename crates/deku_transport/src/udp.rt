@@ -12,7 +12,7 @@
 ghost use Rattle.std.specs.Prelude.{refl};
 ghost use Rattle.deku_symmetry.specs.Fields.{be};
 
-use deku_symmetry::{Be, CopyParts};
+use deku_symmetry::{Be, Codec, CopyParts};
 
 /// The header of a datagram.
 #[derive(Debug, Clone, Copy, PartialEq, Eq)]
@@ -32,7 +32,7 @@ impl Udp {
     pub const FIELDS: [&'static str; 4] = ["source", "destination", "length", "checksum"];
 }
 
-impl CopyParts for Udp {
+impl Codec for Udp {
     type Parts = (Be<u16>, Be<u16>, Be<u16>, Be<u16>);
 
     ghost parts_of = { λ r. (be r.source, be r.destination, be r.length, be r.checksum) };
@@ -53,6 +53,10 @@ impl CopyParts for Udp {
         }
     }
 
+    ghost there = { λ r. refl };
+}
+
+impl CopyParts for Udp {
     fn parts(&self) -> Self::Parts {
         (
             Be(self.source),
@@ -61,6 +65,4 @@ impl CopyParts for Udp {
             Be(self.checksum),
         )
     }
-
-    ghost there = { λ r. refl };
 }

@@ -7,7 +7,7 @@ ghost use Rattle.deku_symmetry.specs.Fields.{be};
 ghost use Rattle.deku_pieces.specs.declared.either.Either.TheVariants as either;
 ghost use Rattle.samples.specs.declared.event.Event.TheVariants as event_kinds;
 
-use deku_symmetry::{Be, CopyParts, Either, Enum, InRange, Kind, MsbEnum, Otherwise};
+use deku_symmetry::{Be, Codec, CopyParts, Either, Enum, InRange, Kind, MsbEnum, Otherwise};
 
 /// The record `Event`.
 #[derive(Debug, Clone, Copy, PartialEq, Eq)]
@@ -20,7 +20,7 @@ pub enum Event {
     Other(u64, u16),
 }
 
-impl CopyParts for Event {
+impl Codec for Event {
     type Parts = MsbEnum<
         Either<Either<Kind<(), 1>, Kind<(u8, Be<u16>), 2>>, Otherwise<Be<u16>>>,
         8,
@@ -60,6 +60,14 @@ impl CopyParts for Event {
         }
     }
 
+    ghost there = { elim [
+      | event_kinds.Started ↦ refl
+      | event_kinds.Passed sensor limit ↦ refl
+      | event_kinds.Other field_0 field_1 ↦ refl
+    ] };
+}
+
+impl CopyParts for Event {
     fn parts(&self) -> Self::Parts {
         match self {
             Event::Started => Enum::new(Either::This(Either::This(Kind(())))),
@@ -74,10 +82,4 @@ impl CopyParts for Event {
             }
         }
     }
-
-    ghost there = { elim [
-      | event_kinds.Started ↦ refl
-      | event_kinds.Passed sensor limit ↦ refl
-      | event_kinds.Other field_0 field_1 ↦ refl
-    ] };
 }

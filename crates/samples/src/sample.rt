@@ -5,7 +5,7 @@
 ghost use Rattle.std.specs.Prelude.{refl};
 ghost use Rattle.deku_symmetry.specs.Fields.{be, msb};
 
-use deku_symmetry::{Be, CopyParts, Msb};
+use deku_symmetry::{Be, Codec, CopyParts, Msb};
 
 /// The record `Sample`.
 #[derive(Debug, Clone, Copy, PartialEq, Eq)]
@@ -20,7 +20,7 @@ impl Sample {
     pub const FIELDS: [&'static str; 3] = ["sensor", "state", "value"];
 }
 
-impl CopyParts for Sample {
+impl Codec for Sample {
     type Parts = (Msb<u8, 4>, Msb<u8, 4>, Be<u16>);
 
     ghost parts_of = { λ r. (msb r.sensor, msb r.state, be r.value) };
@@ -35,9 +35,11 @@ impl CopyParts for Sample {
         }
     }
 
+    ghost there = { λ r. refl };
+}
+
+impl CopyParts for Sample {
     fn parts(&self) -> Self::Parts {
         (Msb(self.sensor), Msb(self.state), Be(self.value))
     }
-
-    ghost there = { λ r. refl };
 }

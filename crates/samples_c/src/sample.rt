@@ -6,7 +6,7 @@ ghost use Rattle.std.specs.Prelude.{refl};
 ghost use Rattle.deku_symmetry.specs.Fields.{be, msb};
 
 use deku_c_records::ForC;
-use deku_symmetry::{Be, CopyParts, Msb};
+use deku_symmetry::{Be, Codec, CopyParts, Msb};
 use std::alloc::Global;
 
 /// The record `Sample`.
@@ -23,7 +23,7 @@ impl Sample {
     pub const FIELDS: [&'static str; 3] = ["sensor", "state", "value"];
 }
 
-impl CopyParts for Sample {
+impl Codec for Sample {
     type Parts = (Msb<u8, 4>, Msb<u8, 4>, Be<u16>);
 
     ghost parts_of = { λ r. (msb r.sensor, msb r.state, be r.value) };
@@ -38,11 +38,13 @@ impl CopyParts for Sample {
         }
     }
 
+    ghost there = { λ r. refl };
+}
+
+impl CopyParts for Sample {
     fn parts(&self) -> Self::Parts {
         (Msb(self.sensor), Msb(self.state), Be(self.value))
     }
-
-    ghost there = { λ r. refl };
 }
 
 /// Reads the record from the first byte on. Returns 0, or the number of the error; the record then
