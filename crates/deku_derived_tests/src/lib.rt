@@ -3,11 +3,17 @@
 
 #[cfg(test)]
 mod bytes;
-pub mod frame;
-pub mod gre;
-pub mod lists;
-pub mod ntp;
+#[cfg(test)]
+mod frame;
+#[cfg(test)]
+mod gre;
+#[cfg(test)]
+mod lists;
+#[cfg(test)]
+mod ntp;
 #[cfg(test)]
 mod places;
-pub mod shape;
-pub mod tcp;
+#[cfg(test)]
+mod shape;
+#[cfg(test)]
+mod tcp;
