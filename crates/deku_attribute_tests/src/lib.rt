@@ -4,6 +4,9 @@
 
 #[cfg(test)]
 mod bytes;
-pub mod dependents;
-pub mod kinds;
-pub mod numbers;
+#[cfg(test)]
+mod dependents;
+#[cfg(test)]
+mod kinds;
+#[cfg(test)]
+mod numbers;

@@ -3,14 +3,21 @@
 
 #[cfg(test)]
 mod bytes;
-pub mod frame;
-pub mod gre;
-pub mod lists;
+#[cfg(test)]
+mod frame;
+#[cfg(test)]
+mod gre;
+#[cfg(test)]
+mod lists;
 #[cfg(test)]
 mod nested;
-pub mod ntp;
+#[cfg(test)]
+mod ntp;
 #[cfg(test)]
 mod places;
-pub mod report;
-pub mod shape;
-pub mod tcp;
+#[cfg(test)]
+mod report;
+#[cfg(test)]
+mod shape;
+#[cfg(test)]
+mod tcp;
