@@ -2,6 +2,7 @@ pub mod Steps
 pub mod Itemized
 pub mod Unsigned
 pub mod EightCut
+pub mod Laying
 pub mod Worth
 pub mod Recorded
 pub mod Running
@@ -11,3 +12,4 @@ pub mod Rejecting
 pub mod Parsing
 pub mod Wholly
 pub mod Columned
+pub mod Emitted

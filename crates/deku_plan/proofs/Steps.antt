@@ -57,7 +57,7 @@ abbrev pub no_field : Field
 no_field = record { kind = U8; layout = record { endian = Little; order = Msb0; size = Whole } }
 
 abbrev pub no_step : Step
-no_step = record { width = 0; high = false }
+no_step = record { width = 0; high = false; mask = 0 }
 
 pub widths_more : (ss : List Step) (i : ℕ) (d : Step) → i < length ss → widths (take (i + 1) ss) ≡ widths (take i ss) + (get_or ss i d).width
 widths_more ss i d h =

@@ -1,4 +1,5 @@
 pub mod Plans
+pub mod Laying
 pub mod Records
 pub mod Known
 pub mod Words

@@ -27,6 +27,7 @@ pub record IsStepOf (f : Field) (s : Step) : Type 0 where
   pub allowed : IsAllowedField f
   pub wide : s.width ≡ field_width f
   pub high : s.high ≡ true → IsHigh f
+  pub mask : s.width ≤ 64 → s.mask + 1 ≡ 2 ^ s.width
 
 -- Each step says what is true of its field.
 abbrev pub AreSteps : List Field → List Step → Type 0

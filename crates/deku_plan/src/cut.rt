@@ -6,7 +6,7 @@ ghost use Rattle.deku_bits.specs.Bits.{bin};
 ghost use Rattle.deku_bits.specs.Streams.{taken, left, fresh};
 ghost use Rattle.deku_num.specs.Numbers.{number as number_of};
 ghost use Rattle.deku_fields.specs.Items.{field_width, IsWorth};
-ghost use Rattle.deku_plan.specs.Plans.{IsStepOf};
+ghost use Rattle.deku_plan.specs.Plans.{IsHigh, IsStepOf};
 
 use crate::step::Step;
 use deku::ctx::{Endian, Order};
@@ -32,6 +32,23 @@ pub(crate) fn number_at(bytes: &[u8], bit: usize, field: &Field, step: Step) -> 
         return Number::Unsigned(number as u128);
     }
     number_of(number, field, step.width)
+}
+
+/// The value of a field that begins at a bit of the bytes, and is unsigned, big and `Msb0`.
+///
+/// The caller's conditions: the field has at least one bit and at most 57, and the bytes have them.
+#[inline(always)]
+pub(crate) fn short_at(bytes: &[u8], bit: usize, field: &Field, step: Step) -> Number
+    requires step { IsStepOf field.now step }
+    requires high { IsHigh field.now }
+    requires some { 0 < step.width }
+    requires few { step.width ≤ 57 }
+    requires there { bit + step.width ≤ 8 * length bytes.now }
+    ensures { IsWorth field.now
+        (taken Msb0 (field_width field.now) (left Msb0 bit (fresh bytes.now))) result }
+{
+    let _ = field;
+    Number::Unsigned(few_at(bytes, bit, step.width) as u128)
 }
 
 // The value of a field in `Msb0`, from the number of its bits.

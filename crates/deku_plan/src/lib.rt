@@ -2,6 +2,7 @@
 #![tactic(auto)]
 
 mod cut;
+mod lay;
 mod plan;
 mod step;
 

@@ -14,7 +14,8 @@ ghost use Rattle.deku.specs.Wholes.{WritesOver};
 ghost use Rattle.deku_fields.specs.Items.{field_shape, AlignedFields, IsAllowedField};
 ghost use Rattle.deku_fields.specs.ListCalls.{ReadsFields, WritesItems};
 ghost use Rattle.deku_fields.specs.Promise.{FindsAny, LeavesBehind, ReadsBack, ReadsWhereSound, ReadsWhereTold, WritesLaid, WritesWhereSound};
-ghost use Rattle.deku_plan.specs.Plans.{AreSteps, IsStepOf, widths, items, IsFirstRejected, AreTooMany};
+ghost use Rattle.deku_plan.specs.Laying.{IsShort};
+ghost use Rattle.deku_plan.specs.Plans.{AreSteps, IsHigh, IsStepOf, widths, items, IsFirstRejected, AreTooMany};
 ghost use Rattle.deku_plan.specs.Records.{records, IsStraight, ReadsAll, ReadsColumn, ReadsBackAll, FindsAll};
 ghost use Rattle.deku_plan.specs.Words.{AreNamed, AreWrong};
 
@@ -23,9 +24,10 @@ mod read;
 mod slice;
 mod write;
 
+use crate::lay::laid_all;
 use crate::plan::column::{column_from_first, cut_column, offset_of};
 use crate::plan::read::read_steps;
-use crate::plan::slice::{are_there, cut_records, read_from_first, write_whole};
+use crate::plan::slice::{are_there, cut_records, read_from_first, write_from_first};
 use crate::plan::write::write_steps;
 use crate::step::{Step, step_of};
 use deku::ctx::Order;
@@ -35,7 +37,7 @@ use deku::reader::Reader;
 use deku::writer::Writer;
 use deku_fields::{Field, Number, parse_field};
 use std::alloc::Global;
-use std::io::{Cursor, ErrorKind};
+use std::io::ErrorKind;
 use std::marker::Model;
 
 /// Fields whose layouts are looked at once, when it is made. In contracts a plan is its fields.
@@ -49,6 +51,7 @@ pub struct Plan {
     bits: usize,
     aligned: bool,
     straight: bool,
+    short: bool,
 }
 
 /// Why words make no plan.
@@ -98,6 +101,7 @@ impl Plan {
         };
         let aligned = are_aligned(fields, steps.as_slice());
         let straight = are_straight(fields, steps.as_slice());
+        let short = are_short(fields, steps.as_slice());
         let Ok(fields) = Vec::from_slice(alloc, fields) else {
             return Err(DekuError::Io(ErrorKind::OutOfMemory));
         };
@@ -107,6 +111,7 @@ impl Plan {
             bits,
             aligned,
             straight,
+            short,
         })
     }
 
@@ -281,7 +286,7 @@ impl Plan {
         let fields = self.fields.as_slice();
         let steps = self.steps.as_slice();
         if self.straight && are_there(bytes, count, self.bits) {
-            cut_records(bytes, count, fields, steps, out);
+            cut_records(bytes, count, self.short, fields, steps, out);
             return Ok(());
         }
         read_from_first(alloc, bytes, count, fields, steps, out)
@@ -350,11 +355,10 @@ impl Plan {
     {
         let fields = self.fields.as_slice();
         let steps = self.steps.as_slice();
-        let mut cursor = Cursor::new(out);
-        let written = write_whole(&mut cursor, count, fields, steps, values);
-        let taken = cursor.position() as usize;
-        written?;
-        Ok(taken)
+        match laid_all(out, self.short, count, self.bits, steps, values) {
+            Some(taken) => Ok(taken),
+            None => write_from_first(out, count, fields, steps, values),
+        }
     }
 }
 
@@ -443,4 +447,28 @@ fn is_straight(field: &Field, step: Step) -> bool
         Order::Msb0 => step.width > 0 && step.width <= 64,
         Order::Lsb0 => false,
     }
+}
+
+// Whether all fields are unsigned, big and `Msb0`, and have at most 57 bits.
+fn are_short(fields: &[Field], steps: &[Step]) -> bool
+    requires { AreSteps fields.now steps.now }
+    ensures high { IsTrue result → All IsHigh fields.now }
+    ensures short { IsTrue result → All IsShort steps.now }
+{
+    for (place, field) in fields.iter().enumerate() {
+        if !is_short(field, steps[place]) {
+            return false;
+        }
+    }
+    true
+}
+
+// Whether a field is unsigned, big and `Msb0`, and has at most 57 bits.
+fn is_short(field: &Field, step: Step) -> bool
+    requires { IsStepOf field.now step }
+    ensures high { IsTrue result → IsHigh field.now }
+    ensures short { IsTrue result → IsShort step }
+{
+    let _ = field;
+    step.high && step.width <= 57
 }

@@ -1,6 +1,6 @@
 //! What a plan knows of a field.
 
-ghost use Rattle.std.specs.Prelude.{◌≡◌, ◌≤◌, false, IfOk, IfErr, IsTrue};
+ghost use Rattle.std.specs.Prelude.{◌≡◌, ◌+◌, ◌≤◌, ◌^◌, false, IfOk, IfErr, IsTrue};
 ghost use Rattle.deku_bits.specs.declared.error.DekuError.TheVariants.{InvalidParam};
 ghost use Rattle.deku_num.specs.NumberCalls.{beyond, IsLayoutRefusal};
 ghost use Rattle.deku_fields.specs.Items.{number_type, field_width, IsAllowedField};
@@ -18,6 +18,8 @@ pub(crate) struct Step {
     pub(crate) width: usize,
     /// Whether it is unsigned, big and `Msb0`, and has at most 64 bits.
     pub(crate) high: bool,
+    /// The greatest number of its bits, if they are at most 64.
+    pub(crate) mask: u64,
 }
 
 /// What there is to know of a field. It fails as writing the field does if its layout is rejected.
@@ -29,7 +31,22 @@ pub(crate) fn step_of(field: &Field) -> Result<Step, DekuError>
 {
     let width = width_of(field)?;
     let high = width <= 64 && is_plain(field);
-    Ok(Step { width, high })
+    Ok(Step {
+        width,
+        high,
+        mask: mask_of(width),
+    })
+}
+
+// The greatest number of this many bits, if they are at most 64.
+fn mask_of(width: usize) -> u64
+    ensures { width ≤ 64 → result + 1 ≡ 2 ^ width }
+{
+    if width < 64 {
+        (1 << width) - 1
+    } else {
+        u64::MAX
+    }
 }
 
 // Whether a field is unsigned, big and `Msb0`.

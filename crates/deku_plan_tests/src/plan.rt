@@ -243,3 +243,162 @@ fn writes_records(rt: HostRuntime) -> Result<(), Fail> {
     let seen = halves.write_all(2, &values, &mut short);
     same(&"no room", &(seen, short), &(Err(full), [0x69, 0xC0]))
 }
+
+// The records are written over bytes that were all 0xAA, as many as are wanted, with this result.
+// If it is no error, they are read back.
+fn expect_records(
+    rt: &impl Abort,
+    alloc: Global,
+    words: &[&str],
+    values: &[Number],
+    wanted: Result<usize, DekuError>,
+    bytes: &[u8],
+) -> Result<(), Fail> {
+    let plan = plan_of(rt, alloc, words)?;
+    let count = match values.len().checked_div(plan.fields().len()) {
+        Some(count) => count,
+        None => 0,
+    };
+    let mut out = [0xAA; 48];
+    if count.checked_mul(plan.fields().len()) != Some(values.len()) || bytes.len() > out.len() {
+        return same(&words, &values.len(), &plan.fields().len());
+    }
+    let seen = plan.write_all(count, values, &mut out[..bytes.len()]);
+    same(&words, &(seen, &out[..bytes.len()]), &(wanted, bytes))?;
+    let mut back = [NONE_YET; MOST];
+    if seen.is_err() || values.len() > MOST {
+        return Ok(());
+    }
+    plan.read_all(alloc, bytes, count, &mut back[..values.len()])?;
+    same(&words, &&back[..values.len()], &values)
+}
+
+#[test]
+fn lays_records(rt: HostRuntime) -> Result<(), Fail> {
+    let header: &[&str] = &[
+        "u8,big,bits4",
+        "u8,big,bits4",
+        "u8,big",
+        "u16,big",
+        "u16,big",
+        "u8,big,bits3",
+        "u16,big,bits13",
+        "u8,big",
+        "u8,big",
+        "u16,big",
+        "u32,big",
+        "u32,big",
+    ];
+    let ipv4 = [
+        plain(4),
+        plain(5),
+        plain(0),
+        plain(0x73),
+        plain(0),
+        plain(2),
+        plain(0),
+        plain(64),
+        plain(17),
+        plain(0xB861),
+        plain(0xC0A8_0001),
+        plain(0xC0A8_00C7),
+    ];
+    let across: &[&str] = &["u16,big,bits11", "u64,big,bits57", "u8,big,bits4"];
+    let ten: &[&str] = &["u16,big,bits10"];
+    let misfit = DekuError::InvalidParam("bit size of input is larger than requested size");
+    let outside = DekuError::InvalidParam("value outside type");
+    let full = DekuError::Io(ErrorKind::WriteZero);
+    let halves: &[&str] = &["u8,big,bits4", "u16,big,bits12"];
+    let rows: [(&[&str], &[Number], Result<usize, DekuError>, &[u8]); 13] = [
+        (
+            header,
+            &ipv4,
+            Ok(20),
+            &[
+                0x45, 0x00, 0x00, 0x73, 0x00, 0x00, 0x40, 0x00, 0x40, 0x11, 0xB8, 0x61, 0xC0, 0xA8,
+                0x00, 0x01, 0xC0, 0xA8, 0x00, 0xC7, 0xAA, 0xAA, 0xAA,
+            ],
+        ),
+        (
+            across,
+            &[
+                plain(0x5A5),
+                plain(0x0123_4567_89AB_CDEF),
+                plain(9),
+                plain(3),
+                plain(0x01FE_DCBA_9876_5432),
+                plain(6),
+            ],
+            Ok(18),
+            &[
+                0xB4, 0xB2, 0x34, 0x56, 0x78, 0x9A, 0xBC, 0xDE, 0xF9, 0x00, 0x7F, 0xED, 0xCB, 0xA9,
+                0x87, 0x65, 0x43, 0x26,
+            ],
+        ),
+        (
+            ten,
+            &[plain(0x3FF), plain(1), plain(0x155), plain(0x2AA)],
+            Ok(5),
+            &[0xFF, 0xC0, 0x15, 0x56, 0xAA],
+        ),
+        (
+            ten,
+            &[plain(0x3FF), plain(1), plain(0x155)],
+            Ok(4),
+            &[0xFF, 0xC0, 0x15, 0x54, 0xAA],
+        ),
+        (
+            &["u64,big,bits58", "u8,big,bits6"],
+            &[plain(0x03FE_DCBA_9876_5432), plain(0x2A)],
+            Ok(8),
+            &[0xFF, 0xB7, 0x2E, 0xA6, 0x1D, 0x95, 0x0C, 0xAA, 0xAA],
+        ),
+        (
+            &["u8,big,bits0", "u64,big,bits57", "u8,big,bits7"],
+            &[plain(0), plain(0x01FF_FFFF_FFFF_FFFF), plain(0)],
+            Ok(8),
+            &[0xFF, 0xFF, 0xFF, 0xFF, 0xFF, 0xFF, 0xFF, 0x80],
+        ),
+        (halves, &[], Ok(0), &[0xAA]),
+        (
+            halves,
+            &[plain(6), plain(0x9C0), plain(15), plain(0x1000)],
+            Err(misfit),
+            &[0x69, 0xC0, 0xAA, 0xAA, 0xAA, 0xAA, 0xAA, 0xAA, 0xAA, 0xAA],
+        ),
+        (
+            halves,
+            &[plain(6), plain(0x9C0), plain(15), plain(0x1_0000)],
+            Err(outside),
+            &[0x69, 0xC0, 0xAA, 0xAA],
+        ),
+        (
+            halves,
+            &[plain(6), plain(0x9C0), Number::Signed(1), plain(0)],
+            Err(outside),
+            &[0x69, 0xC0, 0xAA, 0xAA],
+        ),
+        (
+            &["u64,big,bits56"],
+            &[plain(1 << 64)],
+            Err(outside),
+            &[0xAA; 7],
+        ),
+        (
+            halves,
+            &[plain(6), plain(0x9C0), plain(15), plain(0xEDC)],
+            Err(full),
+            &[0x69, 0xC0],
+        ),
+        (
+            halves,
+            &[plain(6), plain(0x9C0), plain(15), plain(0xEDC)],
+            Ok(4),
+            &[0x69, 0xC0, 0xFE, 0xDC],
+        ),
+    ];
+    for (words, values, wanted, bytes) in rows {
+        expect_records(&rt, rt.alloc(), words, values, wanted, bytes)?;
+    }
+    Ok(())
+}

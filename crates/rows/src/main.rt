@@ -3,14 +3,17 @@
 
 use clap::{Arg, ArgAction, ArgMatches, Command, Error};
 use deku_program::{give_parts, tell_fault};
-use deku_rows::{Columns, Form, NoColumns, print_rows, tell};
+use deku_rows::{Columns, Form, NoColumns, Progress, print_rows, tell};
 use std::alloc::Global;
 use std::fs::File;
-use std::io::{Read, Write};
+use std::io::{IsTerminal, Read};
 use std::process::ExitCode;
 use std::{env, io};
 
 const ABOUT: &str = "Prints records in a row, a line each, as CSV or JSON";
+
+// From this size on progress is shown on a terminal.
+const LARGE: u64 = 64 << 20;
 
 fn main(rt: HostRuntime) -> io::Result<ExitCode> {
     let words: Vec<String> = env::args(&rt)?.collect(rt.alloc())?;
@@ -61,13 +64,23 @@ fn run(rt: &HostRuntime, matches: &ArgMatches<'_>) -> io::Result<u8> {
     match matches.get_str("from") {
         None => print(rt, &columns, form, &mut rt.stdin()),
         Some(path) => match File::open(rt, path) {
-            Ok(mut file) => print(rt, &columns, form, &mut file),
+            Ok(file) => print_file(rt, &columns, form, file),
             Err(error) => {
                 eprintln!(rt; "error: {path}: {error}")?;
                 Ok(1)
             }
         },
     }
+}
+
+// Prints the records of a file, and how much of it is read, if it is large. Returns the status.
+fn print_file(rt: &HostRuntime, columns: &Columns, form: Form, mut file: File) -> io::Result<u8> {
+    let size = file.metadata()?.len();
+    if size > LARGE && rt.stderr().is_terminal() {
+        let mut input = Progress::new(file, rt.stderr(), size);
+        return print(rt, columns, form, &mut input);
+    }
+    print(rt, columns, form, &mut file)
 }
 
 // Prints the records of an input. Returns the status.

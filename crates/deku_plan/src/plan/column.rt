@@ -3,10 +3,10 @@
 ghost use Rattle.std.specs.Prelude.{◌≡◌, ◌+◌, ◌*◌, ◌<◌, ◌≤◌, ◌^◌, length, take};
 ghost use Rattle.deku_bits.specs.ReaderCalls.{Reads, filling};
 ghost use Rattle.deku_fields.specs.ListCalls.{ReadsFields};
-ghost use Rattle.deku_plan.specs.Plans.{AreSteps, IsStepOf, widths};
+ghost use Rattle.deku_plan.specs.Plans.{AreSteps, IsHigh, IsStepOf, widths};
 ghost use Rattle.deku_plan.specs.Records.{records, IsStraight, AreEachAt, HasColumn, ReadsColumn};
 
-use crate::cut::number_at;
+use crate::cut::{number_at, short_at};
 use crate::plan::read::read_steps;
 use crate::step::Step;
 use deku::device::Source;
@@ -45,8 +45,54 @@ pub(crate) fn cut_column(
     requires there { length out.old * bits ≤ 8 * length bytes.now }
     ensures { AreEachAt field.now bytes.now bits first out.new }
 {
+    if step.high && step.width <= 57 {
+        cut_short_column(bytes, bits, first, field, step, out);
+    } else {
+        cut_any_column(bytes, bits, first, field, step, out);
+    }
+}
+
+// The values of a field in `Msb0`.
+fn cut_any_column(
+    bytes: &[u8],
+    bits: usize,
+    first: usize,
+    field: &Field,
+    step: Step,
+    out: &mut [Number],
+)
+    requires step { IsStepOf field.now step }
+    requires straight { IsStraight field.now }
+    requires within { first + step.width ≤ bits }
+    requires counted { length out.old * bits < 2 ^ 64 }
+    requires there { length out.old * bits ≤ 8 * length bytes.now }
+    ensures { AreEachAt field.now bytes.now bits first out.new }
+{
     for place in 0..out.len() {
         out[place] = number_at(bytes, place * bits + first, field, step);
+    }
+}
+
+// The values of a short field, of which each is cut at once.
+fn cut_short_column(
+    bytes: &[u8],
+    bits: usize,
+    first: usize,
+    field: &Field,
+    step: Step,
+    out: &mut [Number],
+)
+    requires step { IsStepOf field.now step }
+    requires high { IsHigh field.now }
+    requires straight { IsStraight field.now }
+    requires few { step.width ≤ 57 }
+    requires within { first + step.width ≤ bits }
+    requires counted { length out.old * bits < 2 ^ 64 }
+    requires there { length out.old * bits ≤ 8 * length bytes.now }
+    ensures { AreEachAt field.now bytes.now bits first out.new }
+{
+    for place in 0..out.len() {
+        out[place] = short_at(bytes, place * bits + first, field, step);
     }
 }
 

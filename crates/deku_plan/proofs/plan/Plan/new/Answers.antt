@@ -27,6 +27,8 @@ invariant_of-result c =
       bits = rw same bits;
       aligned = rw same c.are_aligned-aligned.ensures;
       straight = rw same c.are_straight-straight.ensures;
+      high = rw same c.are_short-short.ensures.high;
+      short = search rules;
     }
 
 pub returns-clause-allowed : goal.returns-clause-allowed

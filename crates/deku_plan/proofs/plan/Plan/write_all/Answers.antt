@@ -1,28 +1,25 @@
-use Rattle.std.proofs.Common.{◌∙◌, rules, refl, ap}
-use Rattle.deku_bits.specs.Cursors.{slice_whole}
-use Rattle.std.proofs.lemmas.Result.{err_from_is_err_and}
-use Rattle.deku_bits.proofs.Handing.{unbroken, name_stays}
-use Rattle.deku.proofs.Containers.{starts_over, padded_from, refused_over, steady, tells_over}
+use Rattle.std.proofs.Common.{◌∙◌, ◌*◌, Ok, length, ap, sym, subst}
+use Rattle.deku_bits.specs.WriterCalls.{Finalizes}
+use Rattle.deku.specs.Composing.{Both}
+use Rattle.deku.specs.Wholes.{WritesOver}
 use Rattle.deku_fields.specs.ListCalls.{WritesItems}
-use Rattle.deku_plan.specs.Plans.{items}
+use Rattle.deku_plan.specs.Plans.{widths, items}
 use Rattle.deku_plan.specs.Records.{records}
+use Rattle.deku_plan.proofs.Steps.{steps_long, widths_total}
+use Rattle.deku_plan.proofs.Emitted.{laid_over}
 use Rattle.deku_plan.proofs.plan.Plan.write_all.Goals as goal
 
-pub returns : goal.returns
-returns c =
-    let begin = starts_over _ _ c.args.out.now (tells_over c.new-cursor.result).health _ c.new-cursor.ensures.position (ap (λ r. r.now) c.new-cursor.ensures.inner) refl in
-    let w = padded_from (WritesItems (items (records c.args.count c.as_slice-fields.result.now) c.args.values.now)) _ _ (tells_over c.write_whole-written.new.sink) c.in_ok-written.ensures.0 begin (unbroken refl refl c.in_ok-written.ensures.1) in
-    let view = c.as_slice-fields.ensures.value ∙ c.self.view_is in
-    let same = name_stays (steady (slice_whole c.new-cursor.result)) (steady (slice_whole c.write_whole-written.new.sink)) _ _ c.in_ok-written.ensures.1 in
-    let tie = c.out-1.given.1.1 (search (rules, same)) in
-    rw (tie, c.position-taken.ensures) (rw view at w)
+pub laid_all-requires-clause-bits : goal.laid_all-requires-clause-bits
+laid_all-requires-clause-bits c =
+    c.self.invariant.bits ∙ sym (ap widths c.as_slice-steps.ensures.value ∙ widths_total c.self.inside.fields.items c.self.inside.steps.items c.self.invariant.steps)
 
-pub returns-in_err-written : goal.returns-in_err-written
-returns-in_err-written c =
-    let begin = starts_over _ _ c.args.out.now (tells_over c.new-cursor.result).health _ c.new-cursor.ensures.position (ap (λ r. r.now) c.new-cursor.ensures.inner) refl in
-    let w = refused_over (WritesItems (items (records c.args.count c.as_slice-fields.result.now) c.args.values.now)) _ c.args.out.now c.in_err-written.field-0.0 c.write_whole-written.new.sink _ begin (unbroken refl refl c.in_err-written.ensures.1) in
-    let view = c.as_slice-fields.ensures.value ∙ c.self.view_is in
-    let same = name_stays (steady (slice_whole c.new-cursor.result)) (steady (slice_whole c.write_whole-written.new.sink)) _ _ c.in_err-written.ensures.1 in
-    let tie = c.out-1.given.1.1 (search (rules, same)) in
-    let k = err_from_is_err_and c.from_residual.result c.from_residual.ensures.1 in
-    rw (k.1, k.2, tie) (rw view at w)
+pub laid_all-requires-clause-values : goal.laid_all-requires-clause-values
+laid_all-requires-clause-values c =
+    c.requires ∙ ap (λ x. c.args.count * x) (ap length (sym c.self.view_is) ∙ sym (steps_long c.self.inside.fields.items c.self.inside.steps.items c.self.invariant.steps) ∙ ap length (sym c.as_slice-steps.ensures.value))
+
+pub returns-in-Some : goal.returns-in-Some
+returns-in-Some c =
+    let l = rw (c.as_slice-steps.ensures.value) at c.in-Some.ensures in
+    let fs = c.self.inside.fields.items in
+    subst (λ x. WritesOver (Both (WritesItems (items (records c.args.count x) c.args.values.now)) Finalizes) c.args.out.now (Ok c.in-Some.taken) c.laid_all.new.out) c.self.view_is
+    (laid_over fs c.self.inside.steps.items c.args.values.now c.args.count c.in-Some.taken c.args.out.now c.laid_all.new.out c.self.invariant.steps (c.self.invariant.high l.short) l.fitting l.counted l.within l.long l.bytes l.bits l.rest)

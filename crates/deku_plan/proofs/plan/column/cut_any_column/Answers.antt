@@ -1,6 +1,6 @@
 use Rattle.std.proofs.Common.{arith}
 use Rattle.deku_plan.proofs.Columned.{each_more}
-use Rattle.deku_plan.proofs.plan.column.cut_column.Goals as goal
+use Rattle.deku_plan.proofs.plan.column.cut_any_column.Goals as goal
 
 pub loop-place-preserved : goal.loop-place-preserved
 loop-place-preserved c =

@@ -1,0 +1,16 @@
+use Rattle.std.proofs.Common.{subst}
+use Rattle.deku_bits.specs.declared.ctx.Order.TheVariants.{Msb0}
+use Rattle.deku_bits.specs.Streams.{taken, left, fresh}
+use Rattle.deku_fields.specs.declared.list.Number.TheVariants.{Unsigned}
+use Rattle.deku_fields.specs.Items.{IsWorth}
+use Rattle.deku_plan.proofs.EightCut.{taken_wide}
+use Rattle.deku_plan.proofs.Worth.{worth_high}
+use Rattle.deku_plan.proofs.cut.short_at.Goals as goal
+
+pub returns : goal.returns
+returns c =
+    let h = c.requires.high in
+    let w = c.args.step.width in
+    let s = taken Msb0 w (left Msb0 c.args.bit (fresh c.args.bytes.now)) in
+    subst (λ n. IsWorth c.args.field.now (taken Msb0 n (left Msb0 c.args.bit (fresh c.args.bytes.now))) (Unsigned c.few_at.result)) c.requires.step.wide
+    (worth_high c.args.field.now s c.few_at.result w h.unsigned h.big h.high c.requires.step.wide (taken_wide w c.args.bit c.args.bytes.now c.requires.there) c.few_at.ensures.number)
