@@ -23,7 +23,7 @@ const DATAGRAM_MODULE: &str = "//! The header of a UDP datagram, RFC 768.
 ghost use Rattle.std.specs.Prelude.{refl};
 ghost use Rattle.deku_symmetry.specs.Fields.{be, msb};
 
-use deku_symmetry::{Be, CopyParts, Msb};
+use deku_symmetry::{Be, Codec, CopyParts, Msb};
 
 /// The record `Udp`.
 #[derive(Debug, Clone, Copy, PartialEq, Eq)]
@@ -40,7 +40,7 @@ impl Udp {
     pub const FIELDS: [&'static str; 5] = [\"source\", \"destination\", \"kind\", \"flags\", \"tail\"];
 }
 
-impl CopyParts for Udp {
+impl Codec for Udp {
     type Parts = (Be<u16>, Be<u16>, Msb<u8, 4>, Msb<u8, 4>, [u8; 2]);
 
     ghost parts_of = { λ r. (be r.source, be r.destination, msb r.kind, msb r.flags, r.tail) };
@@ -64,6 +64,10 @@ impl CopyParts for Udp {
         }
     }
 
+    ghost there = { λ r. refl };
+}
+
+impl CopyParts for Udp {
     fn parts(&self) -> Self::Parts {
         (
             Be(self.source),
@@ -73,8 +77,6 @@ impl CopyParts for Udp {
             self.tail,
         )
     }
-
-    ghost there = { λ r. refl };
 }
 ";
 
@@ -99,7 +101,7 @@ const HOST_MODULE: &str = "//! Printed by `derive` from `a.rs`.
 ghost use Rattle.std.specs.Prelude.{refl};
 ghost use Rattle.deku_symmetry.specs.Fields.{be, le, lsb, msb_le};
 
-use deku_symmetry::{Be, CopyParts, Le, Lsb, MsbLe};
+use deku_symmetry::{Be, Codec, CopyParts, Le, Lsb, MsbLe};
 use std::net::Ipv4Addr;
 
 /// The record `Pair`.
@@ -114,7 +116,7 @@ impl Pair {
     pub const FIELDS: [&'static str; 2] = [\"low\", \"data\"];
 }
 
-impl CopyParts for Pair {
+impl Codec for Pair {
     type Parts = (Lsb<u8, 4>, Lsb<u16, 12>);
 
     ghost parts_of = { λ r. (lsb r.low, lsb r.data) };
@@ -125,11 +127,13 @@ impl CopyParts for Pair {
         Pair { low, data }
     }
 
+    ghost there = { λ r. refl };
+}
+
+impl CopyParts for Pair {
     fn parts(&self) -> Self::Parts {
         (Lsb(self.low), Lsb(self.data))
     }
-
-    ghost there = { λ r. refl };
 }
 
 /// A host.
@@ -155,9 +159,9 @@ impl Host {
     ];
 }
 
-impl CopyParts for Host {
+impl Codec for Host {
     type Parts = (
-        <Pair as CopyParts>::Parts,
+        <Pair as Codec>::Parts,
         Be<Ipv4Addr>,
         bool,
         MsbLe<u32, 24>,
@@ -165,7 +169,7 @@ impl CopyParts for Host {
     );
 
     ghost parts_of = { λ r. (
-      ⟦<Pair as CopyParts>⟧.parts_of r.pair,
+      ⟦<Pair as Codec>⟧.parts_of r.pair,
       be r.address,
       r.up,
       msb_le r.cost,
@@ -173,7 +177,7 @@ impl CopyParts for Host {
     ) };
 
     ghost record_of = { λ p. record {
-      pair = ⟦<Pair as CopyParts>⟧.record_of p.0;
+      pair = ⟦<Pair as Codec>⟧.record_of p.0;
       address = p.1.0;
       up = p.2;
       cost = p.3.0;
@@ -182,7 +186,7 @@ impl CopyParts for Host {
 
     fn from_parts((pair, Be(address), up, MsbLe(cost), Le(port)): Self::Parts) -> Self {
         Host {
-            pair: <Pair as CopyParts>::from_parts(pair),
+            pair: <Pair as Codec>::from_parts(pair),
             address,
             up,
             cost,
@@ -190,6 +194,10 @@ impl CopyParts for Host {
         }
     }
 
+    ghost there = { λ r. refl };
+}
+
+impl CopyParts for Host {
     fn parts(&self) -> Self::Parts {
         (
             self.pair.parts(),
@@ -199,8 +207,6 @@ impl CopyParts for Host {
             Le(self.port),
         )
     }
-
-    ghost there = { λ r. refl };
 }
 ";
 

@@ -61,7 +61,7 @@ pub fn unpack_steps<P: Steps>(
 /// the record. An error has the name of the part that was refused, and the bit where it begins.
 ///
 /// The names are those of all parts in their order, such as the constant `FIELDS` that `derive`
-/// prints. A field that is a record has one name.
+/// prints. A field that is one part has one name.
 ///
 /// The caller's conditions: the parts may be read, and there are as many names as parts.
 ///
