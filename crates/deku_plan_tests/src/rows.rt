@@ -1,7 +1,7 @@
 //! Records, printed a line each.
 
 use deku::error::DekuError;
-use deku_rows::{Columns, Form, NoColumns, Progress, print_rows, tell};
+use deku_rows::{Columns, Form, NoColumns, print_rows, tell};
 use deku_testing_values::expecting::{NO_MEMORY, same};
 use std::alloc::Global;
 use std::io::Cursor;
@@ -141,24 +141,4 @@ fn refuses_words(rt: HostRuntime) -> Result<(), Fail> {
         same(&words, &seen, &Some(wanted))?;
     }
     Ok(())
-}
-
-#[test]
-fn shows_progress(rt: HostRuntime) -> Result<(), Fail> {
-    let alloc = rt.alloc();
-    let columns = match Columns::parse(alloc, &["u8,big,bits4", "u16,big,bits12"]) {
-        Ok(columns) => columns,
-        Err(why) => return same(&"words", &Some(why), &None),
-    };
-    let input = Cursor::new(&b"69c0FEDC"[..]);
-    let mut output: Vec<u8> = Vec::new(alloc);
-    let mut errors: Vec<u8> = Vec::new(alloc);
-    let mut progress = Progress::new(input, &mut errors, 800);
-    if let Err(failure) = print_rows(alloc, &columns, CSV, &mut progress, &mut output) {
-        tell(&mut output, &failure)?;
-    }
-    let seen = (output.as_slice(), errors.as_slice());
-    let text: &[u8] = b"1,2\n6,2496\n15,3804\n";
-    let one: &[u8] = b"\r1%";
-    same(&"progress", &seen, &(text, one))
 }
