@@ -212,8 +212,7 @@ impl WriteParts for Authority {
     }
 }
 
-/// The data of the kinds 2, 5 and 12: a name server, the name that another stands for, and the name
-/// of an address.
+/// The data of the kinds 2 (NS), 5 (CNAME) and 12 (PTR): one name.
 #[derive(Debug, PartialEq, Eq, Drop)]
 pub struct Target {
     /// The name.

@@ -9,9 +9,7 @@ mod line;
 mod members;
 mod names;
 mod program;
-mod progress;
 mod shown;
 mod values;
 
 pub use program::{Wanted, run};
-pub use progress::Progress;

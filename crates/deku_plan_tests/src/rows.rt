@@ -1,6 +1,7 @@
 //! Records, printed a line each.
 
 use deku::error::DekuError;
+use deku_progress::Progress;
 use deku_rows::{Columns, Form, NoColumns, print_rows, tell};
 use deku_testing_values::expecting::{NO_MEMORY, same};
 use std::alloc::Global;
@@ -139,6 +140,42 @@ fn refuses_words(rt: HostRuntime) -> Result<(), Fail> {
     for (words, wanted) in rows {
         let seen = refusal(Columns::parse(rt.alloc(), words))?;
         same(&words, &seen, &Some(wanted))?;
+    }
+    Ok(())
+}
+
+// Prints the records of an input that is said to have this size, and the progress.
+fn print_with_progress(
+    alloc: Global,
+    size: u64,
+    output: &mut Vec<u8>,
+    errors: &mut Vec<u8>,
+) -> Result<(), Fail> {
+    let words: &[&str] = &["u8"];
+    let columns = match Columns::parse(alloc, words) {
+        Ok(columns) => columns,
+        Err(why) => return same(&words, &Some(why), &None),
+    };
+    let mut bytes: Vec<u8> = Vec::new(alloc);
+    bytes.extend_from_slice(b"01020304050607")?;
+    let mut input = Progress::new(Cursor::new(bytes), errors, size);
+    let printed = print_rows(alloc, &columns, CSV, &mut input, output);
+    same(&size, &printed.is_ok(), &true)
+}
+
+#[test]
+fn shows_progress(rt: HostRuntime) -> Result<(), Fail> {
+    let rows: [(u64, &str); 3] = [(800, "\r1%"), (160, "\r14%"), (4000, "")];
+    for (size, wanted) in rows {
+        let mut output: Vec<u8> = Vec::new(rt.alloc());
+        let mut errors: Vec<u8> = Vec::new(rt.alloc());
+        print_with_progress(rt.alloc(), size, &mut output, &mut errors)?;
+        let seen = (output.as_slice(), errors.as_slice());
+        same(
+            &size,
+            &seen,
+            &(b"1\n1\n2\n3\n4\n5\n6\n7\n".as_slice(), wanted.as_bytes()),
+        )?;
     }
     Ok(())
 }

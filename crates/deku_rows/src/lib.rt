@@ -4,9 +4,7 @@
 mod columns;
 mod feed;
 mod line;
-mod progress;
 mod rows;
 
 pub use columns::{Columns, NoColumns};
-pub use progress::Progress;
 pub use rows::{Failure, Form, print_rows, tell};

@@ -2,7 +2,8 @@
 #![tactic(auto)]
 
 use clap::{Arg, ArgAction, ArgMatches, Command, Error};
-use deku_packets_program::{Progress, Wanted, run};
+use deku_packets_program::{Wanted, run};
+use deku_progress::Progress;
 use std::alloc::Global;
 use std::fs::File;
 use std::io::{BufReader, BufWriter, IsTerminal, Read};

@@ -3,7 +3,8 @@
 
 use clap::{Arg, ArgAction, ArgMatches, Command, Error};
 use deku_program::{give_parts, tell_fault};
-use deku_rows::{Columns, Form, NoColumns, Progress, print_rows, tell};
+use deku_progress::Progress;
+use deku_rows::{Columns, Form, NoColumns, print_rows, tell};
 use std::alloc::Global;
 use std::fs::File;
 use std::io::{IsTerminal, Read};

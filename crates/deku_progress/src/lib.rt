@@ -1,4 +1,5 @@
-//! Progress of a large input.
+//! Progress of a large input, shown on a terminal.
+#![tactic(auto)]
 
 use deku_program::{give_parts, give_text};
 use itoa::Buffer;
