@@ -7,7 +7,7 @@ use crate::numbers::{
     NamedField, Only, OrderOfFields, Orders,
 };
 use deku::prelude::{DekuError, NeedSize};
-use deku_symmetry::{Coded, Symmetric, SymmetricLast};
+use deku_symmetry::{Symmetric, SymmetricLast};
 use deku_testing_values::expecting::same;
 use deku_testing_values::records::{expect_packed, expect_refusal};
 use std::alloc::Global;
@@ -20,7 +20,7 @@ fn endians_and_orders(rt: HostRuntime) -> Result<(), Fail> {
         first: 0xABCD,
         second: 0xCDAB,
     };
-    expect_packed(alloc, (), &Coded(endians), 32, &[0xAB, 0xCD, 0xAB, 0xCD])?;
+    expect_packed(alloc, (), &endians, 32, &[0xAB, 0xCD, 0xAB, 0xCD])?;
     let low = LowFirst {
         kind: 1,
         mode: 0x123,
@@ -30,7 +30,7 @@ fn endians_and_orders(rt: HostRuntime) -> Result<(), Fail> {
         number: 7,
     };
     let bytes = [0x31, 0x12, 0x04, 0x05, 6, 0, 0, 0, 7, 0, 0, 0];
-    expect_packed(alloc, (), &Coded(low), 96, &bytes)?;
+    expect_packed(alloc, (), &low, 96, &bytes)?;
     let orders = Orders {
         offset: 0x1001,
         kind: 0b100,
@@ -40,12 +40,12 @@ fn endians_and_orders(rt: HostRuntime) -> Result<(), Fail> {
         third: false,
         rest: 0b10110,
     };
-    expect_packed(alloc, (), &Coded(orders), 32, &[0x10, 0x81, 0xAB, 0x96])?;
+    expect_packed(alloc, (), &orders, 32, &[0x10, 0x81, 0xAB, 0x96])?;
     let fields = OrderOfFields {
         offset: 0x40,
         kind: 2,
     };
-    expect_packed(alloc, (), &Coded(fields), 16, &[0x40, 0x40])
+    expect_packed(alloc, (), &fields, 16, &[0x40, 0x40])
 }
 
 #[test]
@@ -56,29 +56,29 @@ fn widths(rt: HostRuntime) -> Result<(), Fail> {
         second: 0b101010,
         third: 0xFF,
     };
-    expect_packed(alloc, (), &Coded(bits), 16, &[0b1110_1010, 0xFF])?;
+    expect_packed(alloc, (), &bits, 16, &[0b1110_1010, 0xFF])?;
     let bytes = Bytes {
         first: 0xCDAB,
         second: 0xFF,
     };
-    expect_packed(alloc, (), &Coded(bytes), 24, &[0xAB, 0xCD, 0xFF])
+    expect_packed(alloc, (), &bytes, 24, &[0xAB, 0xCD, 0xFF])
 }
 
 #[test]
 fn magic_and_checks(rt: HostRuntime) -> Result<(), Fail> {
     let alloc = rt.alloc();
     let bytes = [0x64, 0x65, 0x6B, 0x75, 50];
-    expect_packed(alloc, (), &Coded(Named { data: 50 }), 40, &bytes)?;
-    expect_packed(alloc, (), &Coded(NamedField { data: 50 }), 40, &bytes)?;
+    expect_packed(alloc, (), &Named { data: 50 }, 40, &bytes)?;
+    expect_packed(alloc, (), &NamedField { data: 50 }, 40, &bytes)?;
     let other = [0x64, 0x65, 0x6B, 0x76, 50];
     let refusal = DekuError::Assertion("magic of Named");
-    expect_refusal::<Coded<Named>>(alloc, &other, refusal, 32)?;
-    expect_packed(alloc, (), &Coded(AtLeast { data: 8 }), 8, &[8])?;
+    expect_refusal::<Named>(alloc, &other, refusal, 32)?;
+    expect_packed(alloc, (), &AtLeast { data: 8 }, 8, &[8])?;
     let refusal = DekuError::Assertion("data");
-    expect_refusal::<Coded<AtLeast>>(alloc, &[0, 1, 2], refusal, 8)?;
-    expect_packed(alloc, (), &Coded(Only { data: 1 }), 8, &[1])?;
+    expect_refusal::<AtLeast>(alloc, &[0, 1, 2], refusal, 8)?;
+    expect_packed(alloc, (), &Only { data: 1 }, 8, &[1])?;
     let refusal = DekuError::Assertion("data");
-    same(&2, &Coded(Only { data: 2 }).pack(alloc, ()), &Err(refusal))
+    same(&2, &Only { data: 2 }.pack(alloc, ()), &Err(refusal))
 }
 
 #[test]
@@ -89,89 +89,79 @@ fn padding(rt: HostRuntime) -> Result<(), Fail> {
         second: 0xDD,
     };
     let bytes = [0xAA, 0, 0, 0xDD];
-    expect_packed(alloc, (), &Coded(before), 32, &bytes)?;
+    expect_packed(alloc, (), &before, 32, &bytes)?;
     let after = BytesAfter {
         first: 0xAA,
         second: 0xDD,
     };
-    expect_packed(alloc, (), &Coded(after), 32, &bytes)?;
+    expect_packed(alloc, (), &after, 32, &bytes)?;
     let before = BitsBefore {
         first: 0b10,
         second: 0b1001,
     };
-    expect_packed(alloc, (), &Coded(before), 8, &[0b1000_1001])?;
+    expect_packed(alloc, (), &before, 8, &[0b1000_1001])?;
     let after = BitsAfter {
         first: 0b10,
         second: 0b1001,
     };
-    expect_packed(alloc, (), &Coded(after), 8, &[0b1000_1001])?;
+    expect_packed(alloc, (), &after, 8, &[0b1000_1001])?;
     let refusal = DekuError::Assertion("padding");
-    expect_refusal::<Coded<BitsAfter>>(alloc, &[0b1001_1001], refusal, 4)
+    expect_refusal::<BitsAfter>(alloc, &[0b1001_1001], refusal, 4)
 }
 
-fn twos(alloc: Global) -> Result<Vec<Coded<Two>>, Fail> {
-    let twos = [(0xAB, 0xBC), (0xDE, 0xEF)].map(|(first, second)| Coded(Two { first, second }));
+fn twos(alloc: Global) -> Result<Vec<Two>, Fail> {
+    let twos = [(0xAB, 0xBC), (0xDE, 0xEF)].map(|(first, second)| Two { first, second });
     Ok(twos.to_vec(alloc)?)
 }
 
 #[test]
 fn lists_and_conditions(rt: HostRuntime) -> Result<(), Fail> {
     let alloc = rt.alloc();
-    let counted = Coded(Counting {
+    let counted = Counting {
         count: 2,
         items: [0xAB, 0xCD].to_vec(alloc)?,
-    });
+    };
     expect_packed(alloc, (), &counted, 24, &[0x02, 0xAB, 0xCD])?;
-    let sized = Coded(Sizing {
+    let sized = Sizing {
         bytes: 4,
         items: twos(alloc)?,
-    });
+    };
     expect_packed(alloc, (), &sized, 40, &[0x04, 0xAB, 0xBC, 0xDE, 0xEF])?;
-    let rest = Coded(ToEnd {
+    let rest = ToEnd {
         items: twos(alloc)?,
-    });
+    };
     let bytes = [0xAB, 0xBC, 0xDE, 0xEF];
     same(&2, &rest.pack_whole(alloc)?.as_slice(), &bytes.as_slice())?;
-    same(
-        &3,
-        &Coded::<ToEnd>::unpack_whole(alloc, &bytes)?,
-        &(32, rest),
-    )?;
+    same(&3, &ToEnd::unpack_whole(alloc, &bytes)?, &(32, rest))?;
     let there = Whether {
         first: 1,
         second: Some(2),
     };
-    expect_packed(alloc, (), &Coded(there), 16, &[0x01, 0x02])?;
+    expect_packed(alloc, (), &there, 16, &[0x01, 0x02])?;
     let lacking = Whether {
         first: 2,
         second: None,
     };
-    expect_packed(alloc, (), &Coded(lacking), 8, &[0x02])
+    expect_packed(alloc, (), &lacking, 8, &[0x02])
 }
 
 #[test]
 fn kinds(rt: HostRuntime) -> Result<(), Fail> {
     let alloc = rt.alloc();
-    expect_packed(alloc, (), &Coded(UnderByte::First(0xFF)), 16, &[0x01, 0xFF])?;
-    let second = Coded(UnderByte::Second(0xAB, 0xBEEF));
+    expect_packed(alloc, (), &UnderByte::First(0xFF), 16, &[0x01, 0xFF])?;
+    let second = UnderByte::Second(0xAB, 0xBEEF);
     expect_packed(alloc, (), &second, 32, &[0x02, 0xAB, 0xEF, 0xBE])?;
-    expect_packed(alloc, (), &Coded(Numbered::First), 8, &[0x01])?;
-    expect_packed(alloc, (), &Coded(Numbered::Second), 8, &[0x02])?;
-    let little = Coded(EndianOfId::Little(1));
+    expect_packed(alloc, (), &Numbered::First, 8, &[0x01])?;
+    expect_packed(alloc, (), &Numbered::Second, 8, &[0x02])?;
+    let little = EndianOfId::Little(1);
     expect_packed(alloc, (), &little, 32, &[0x00, 0x01, 0x01, 0x00])?;
-    let big = Coded(EndianOfId::Big { x: 256 });
+    let big = EndianOfId::Big { x: 256 };
     expect_packed(alloc, (), &big, 32, &[0x00, 0x02, 0x01, 0x00])?;
-    expect_packed(alloc, (), &Coded(Patterns::Few { id: 3 }), 8, &[0x03])?;
-    expect_packed(alloc, (), &Coded(Patterns::Others(0xFF)), 8, &[0xFF])?;
-    let bits = Coded(UnderBits::Only(0b0110, 0xFF));
+    expect_packed(alloc, (), &Patterns::Few { id: 3 }, 8, &[0x03])?;
+    expect_packed(alloc, (), &Patterns::Others(0xFF), 8, &[0xFF])?;
+    let bits = UnderBits::Only(0b0110, 0xFF);
     expect_packed(alloc, (), &bits, 16, &[0b1001_0110, 0xFF])?;
-    expect_packed(
-        alloc,
-        (),
-        &Coded(UnderBytes::Only(0xFF)),
-        24,
-        &[0xEF, 0xBE, 0xFF],
-    )?;
+    expect_packed(alloc, (), &UnderBytes::Only(0xFF), 24, &[0xEF, 0xBE, 0xFF])?;
     let refusal = DekuError::IdVariantNotFound;
-    expect_refusal::<Coded<UnderByte>>(alloc, &[0x03], refusal, 8)
+    expect_refusal::<UnderByte>(alloc, &[0x03], refusal, 8)
 }

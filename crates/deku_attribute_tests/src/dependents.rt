@@ -3,12 +3,17 @@
 //! Printed by `derive` from `dependents.rs`.
 
 ghost use Rattle.std.specs.Prelude.{◌*◌, nat_eq, Some, refl};
+ghost use Rattle.deku.specs.Composing.{Then};
+ghost use Rattle.deku.specs.Shapes.{Shows};
 
-use deku::device::Sink;
-use deku::prelude::{DekuError, DekuWriter, Writer};
+use deku::device::{Sink, Source};
+use deku::prelude::{
+    DekuContainerRead, DekuContainerWrite, DekuError, DekuReader, DekuWriter, Reader, Writer,
+};
 use deku_symmetry::{
-    Codec, Coded, Condition, ConditionLaw, CopyParts, CountOf, CountOfLaw, CountedBy, CountedByRef,
-    FilledBy, Optional, OptionalRef, Rest, SizeOf, SizeOfLaw, SizedBy, WriteParts,
+    Condition, ConditionLaw, CountOf, CountOfLaw, CountedBy, CountedByRef, FilledBy, FromParts,
+    Optional, OptionalRef, Record, Rest, SizeOf, SizeOfLaw, SizedBy, ToParts, read_record,
+    write_record,
 };
 use std::marker::PhantomData;
 
@@ -41,8 +46,11 @@ impl Counting {
     pub const FIELDS: [&'static str; 2] = ["count", "items"];
 }
 
-impl Codec for Counting {
-    type Parts = CountedBy<u8, CountingItemsCount, u8>;
+// The parts of Counting, in their order.
+type CountingParts = CountedBy<u8, CountingItemsCount, u8>;
+
+impl FromParts for Counting {
+    type Parts = CountingParts;
 
     ghost parts_of = { λ r. record { head = r.count; items = r.items; count = record {} } };
 
@@ -60,16 +68,42 @@ impl Codec for Counting {
     ghost there = { λ r. refl };
 }
 
-impl WriteParts for Counting {
-    fn write<W: Sink>(&self, writer: &mut Writer<W>) -> Result<(), DekuError> {
+impl DekuReader<()> for Counting {
+    ghost no_read_ahead = { ⟦<CountingParts as DekuReader<()>>⟧.no_read_ahead };
+
+    ghost meaning = { λ c. Then (⟦<CountingParts as DekuReader<()>>⟧.meaning c)
+        (Shows ⟦<Counting as FromParts>⟧.parts_of) };
+
+    #[inline(always)]
+    fn from_reader_with_ctx<R: Source>(reader: &mut Reader<R>, ctx: ()) -> Result<Self, DekuError> {
+        read_record(reader, ctx)
+    }
+}
+
+impl DekuWriter<()> for Counting {
+    ghost meaning = { λ v. ⟦<CountingParts as DekuWriter<()>>⟧.meaning
+        (⟦<Counting as FromParts>⟧.parts_of v) };
+
+    #[inline(always)]
+    fn to_writer<W: Sink>(&self, writer: &mut Writer<W>, ctx: ()) -> Result<(), DekuError> {
         let parts = CountedByRef::<_, CountingItemsCount, _> {
             head: self.count,
             items: &self.items,
             count: PhantomData,
         };
-        parts.to_writer(writer, ())
+        parts.to_writer(writer, ctx)
     }
 }
+
+impl Record<()> for Counting {
+    ghost reads = { λ c b s r u m. m };
+
+    ghost writes = { λ c v b s r u m. m };
+}
+
+impl DekuContainerRead for Counting {}
+
+impl DekuContainerWrite for Counting {}
 
 /// Two bytes.
 #[derive(Debug, Clone, Copy, PartialEq, Eq)]
@@ -83,8 +117,11 @@ impl Two {
     pub const FIELDS: [&'static str; 2] = ["first", "second"];
 }
 
-impl Codec for Two {
-    type Parts = (u8, u8);
+// The parts of Two, in their order.
+type TwoParts = (u8, u8);
+
+impl FromParts for Two {
+    type Parts = TwoParts;
 
     ghost parts_of = { λ r. (r.first, r.second) };
 
@@ -97,17 +134,49 @@ impl Codec for Two {
     ghost there = { λ r. refl };
 }
 
-impl CopyParts for Two {
+impl ToParts for Two {
     fn parts(&self) -> Self::Parts {
         (self.first, self.second)
     }
 }
 
+impl DekuReader<()> for Two {
+    ghost no_read_ahead = { ⟦<TwoParts as DekuReader<()>>⟧.no_read_ahead };
+
+    ghost meaning = { λ c. Then (⟦<TwoParts as DekuReader<()>>⟧.meaning c)
+        (Shows ⟦<Two as FromParts>⟧.parts_of) };
+
+    #[inline(always)]
+    fn from_reader_with_ctx<R: Source>(reader: &mut Reader<R>, ctx: ()) -> Result<Self, DekuError> {
+        read_record(reader, ctx)
+    }
+}
+
+impl DekuWriter<()> for Two {
+    ghost meaning = { λ v. ⟦<TwoParts as DekuWriter<()>>⟧.meaning
+        (⟦<Two as FromParts>⟧.parts_of v) };
+
+    #[inline(always)]
+    fn to_writer<W: Sink>(&self, writer: &mut Writer<W>, ctx: ()) -> Result<(), DekuError> {
+        write_record(self, writer, ctx)
+    }
+}
+
+impl Record<()> for Two {
+    ghost reads = { λ c b s r u m. m };
+
+    ghost writes = { λ c v b s r u m. m };
+}
+
+impl DekuContainerRead for Two {}
+
+impl DekuContainerWrite for Two {}
+
 /// Items of as many bytes as a field says.
 #[derive(Debug, PartialEq, Eq, Drop)]
 pub struct Sizing {
     pub bytes: u8,
-    pub items: Vec<Coded<Two>>,
+    pub items: Vec<Two>,
 }
 
 /// How many bits `items` takes: `bytes * 8`.
@@ -132,8 +201,11 @@ impl Sizing {
     pub const FIELDS: [&'static str; 2] = ["bytes", "items"];
 }
 
-impl Codec for Sizing {
-    type Parts = FilledBy<u8, SizingItemsSize, Coded<Two>>;
+// The parts of Sizing, in their order.
+type SizingParts = FilledBy<u8, SizingItemsSize, Two>;
+
+impl FromParts for Sizing {
+    type Parts = SizingParts;
 
     ghost parts_of = { λ r. record { head = r.bytes; items = r.items; size = record {} } };
 
@@ -151,21 +223,47 @@ impl Codec for Sizing {
     ghost there = { λ r. refl };
 }
 
-impl WriteParts for Sizing {
-    fn write<W: Sink>(&self, writer: &mut Writer<W>) -> Result<(), DekuError> {
+impl DekuReader<()> for Sizing {
+    ghost no_read_ahead = { ⟦<SizingParts as DekuReader<()>>⟧.no_read_ahead };
+
+    ghost meaning = { λ c. Then (⟦<SizingParts as DekuReader<()>>⟧.meaning c)
+        (Shows ⟦<Sizing as FromParts>⟧.parts_of) };
+
+    #[inline(always)]
+    fn from_reader_with_ctx<R: Source>(reader: &mut Reader<R>, ctx: ()) -> Result<Self, DekuError> {
+        read_record(reader, ctx)
+    }
+}
+
+impl DekuWriter<()> for Sizing {
+    ghost meaning = { λ v. ⟦<SizingParts as DekuWriter<()>>⟧.meaning
+        (⟦<Sizing as FromParts>⟧.parts_of v) };
+
+    #[inline(always)]
+    fn to_writer<W: Sink>(&self, writer: &mut Writer<W>, ctx: ()) -> Result<(), DekuError> {
         let parts = SizedBy::<_, SizingItemsSize, _> {
             head: self.bytes,
             content: &self.items,
             size: PhantomData,
         };
-        parts.to_writer(writer, ())
+        parts.to_writer(writer, ctx)
     }
 }
+
+impl Record<()> for Sizing {
+    ghost reads = { λ c b s r u m. m };
+
+    ghost writes = { λ c v b s r u m. m };
+}
+
+impl DekuContainerRead for Sizing {}
+
+impl DekuContainerWrite for Sizing {}
 
 /// Items up to the end.
 #[derive(Debug, PartialEq, Eq, Drop)]
 pub struct ToEnd {
-    pub items: Vec<Coded<Two>>,
+    pub items: Vec<Two>,
 }
 
 impl ToEnd {
@@ -173,8 +271,11 @@ impl ToEnd {
     pub const FIELDS: [&'static str; 1] = ["items"];
 }
 
-impl Codec for ToEnd {
-    type Parts = Rest<Coded<Two>>;
+// The parts of ToEnd, in their order.
+type ToEndParts = Rest<Two>;
+
+impl FromParts for ToEnd {
+    type Parts = ToEndParts;
 
     ghost parts_of = { λ r. record { items = r.items } };
 
@@ -187,12 +288,38 @@ impl Codec for ToEnd {
     ghost there = { λ r. refl };
 }
 
-impl WriteParts for ToEnd {
-    fn write<W: Sink>(&self, writer: &mut Writer<W>) -> Result<(), DekuError> {
-        let parts = &self.items;
-        parts.to_writer(writer, ())
+impl DekuReader<()> for ToEnd {
+    ghost no_read_ahead = { ⟦<ToEndParts as DekuReader<()>>⟧.no_read_ahead };
+
+    ghost meaning = { λ c. Then (⟦<ToEndParts as DekuReader<()>>⟧.meaning c)
+        (Shows ⟦<ToEnd as FromParts>⟧.parts_of) };
+
+    #[inline(always)]
+    fn from_reader_with_ctx<R: Source>(reader: &mut Reader<R>, ctx: ()) -> Result<Self, DekuError> {
+        read_record(reader, ctx)
     }
 }
+
+impl DekuWriter<()> for ToEnd {
+    ghost meaning = { λ v. ⟦<ToEndParts as DekuWriter<()>>⟧.meaning
+        (⟦<ToEnd as FromParts>⟧.parts_of v) };
+
+    #[inline(always)]
+    fn to_writer<W: Sink>(&self, writer: &mut Writer<W>, ctx: ()) -> Result<(), DekuError> {
+        let parts = &self.items;
+        parts.to_writer(writer, ctx)
+    }
+}
+
+impl Record<()> for ToEnd {
+    ghost reads = { λ c b s r u m. m };
+
+    ghost writes = { λ c v b s r u m. m };
+}
+
+impl DekuContainerRead for ToEnd {}
+
+impl DekuContainerWrite for ToEnd {}
 
 /// A field that is there if another one says so.
 #[derive(Debug, PartialEq, Eq, Drop)]
@@ -223,8 +350,11 @@ impl Whether {
     pub const FIELDS: [&'static str; 2] = ["first", "second"];
 }
 
-impl Codec for Whether {
-    type Parts = Optional<u8, WhetherSecondCondition, u8>;
+// The parts of Whether, in their order.
+type WhetherParts = Optional<u8, WhetherSecondCondition, u8>;
+
+impl FromParts for Whether {
+    type Parts = WhetherParts;
 
     ghost parts_of = { λ r. record { head = r.first; item = r.second; condition = record {} } };
 
@@ -242,13 +372,39 @@ impl Codec for Whether {
     ghost there = { λ r. refl };
 }
 
-impl WriteParts for Whether {
-    fn write<W: Sink>(&self, writer: &mut Writer<W>) -> Result<(), DekuError> {
+impl DekuReader<()> for Whether {
+    ghost no_read_ahead = { ⟦<WhetherParts as DekuReader<()>>⟧.no_read_ahead };
+
+    ghost meaning = { λ c. Then (⟦<WhetherParts as DekuReader<()>>⟧.meaning c)
+        (Shows ⟦<Whether as FromParts>⟧.parts_of) };
+
+    #[inline(always)]
+    fn from_reader_with_ctx<R: Source>(reader: &mut Reader<R>, ctx: ()) -> Result<Self, DekuError> {
+        read_record(reader, ctx)
+    }
+}
+
+impl DekuWriter<()> for Whether {
+    ghost meaning = { λ v. ⟦<WhetherParts as DekuWriter<()>>⟧.meaning
+        (⟦<Whether as FromParts>⟧.parts_of v) };
+
+    #[inline(always)]
+    fn to_writer<W: Sink>(&self, writer: &mut Writer<W>, ctx: ()) -> Result<(), DekuError> {
         let parts = OptionalRef::<_, WhetherSecondCondition, _> {
             head: self.first,
             item: &self.second,
             condition: PhantomData,
         };
-        parts.to_writer(writer, ())
+        parts.to_writer(writer, ctx)
     }
 }
+
+impl Record<()> for Whether {
+    ghost reads = { λ c b s r u m. m };
+
+    ghost writes = { λ c v b s r u m. m };
+}
+
+impl DekuContainerRead for Whether {}
+
+impl DekuContainerWrite for Whether {}

@@ -3,6 +3,8 @@
 //! Printed by `derive` from `kinds.rs`.
 
 ghost use Rattle.std.specs.Prelude.{refl};
+ghost use Rattle.deku.specs.Composing.{Then};
+ghost use Rattle.deku.specs.Shapes.{Shows};
 ghost use Rattle.deku_symmetry.specs.Fields.{be, le, msb_le};
 ghost use Rattle.deku_pieces.specs.declared.either.Either.TheVariants as either;
 ghost use Rattle.deku_attribute_tests.specs.declared.kinds.UnderByte.TheVariants as under_byte_kinds;
@@ -12,8 +14,13 @@ ghost use Rattle.deku_attribute_tests.specs.declared.kinds.Patterns.TheVariants 
 ghost use Rattle.deku_attribute_tests.specs.declared.kinds.UnderBits.TheVariants as under_bits_kinds;
 ghost use Rattle.deku_attribute_tests.specs.declared.kinds.UnderBytes.TheVariants as under_bytes_kinds;
 
+use deku::device::{Sink, Source};
+use deku::prelude::{
+    DekuContainerRead, DekuContainerWrite, DekuError, DekuReader, DekuWriter, Reader, Writer,
+};
 use deku_symmetry::{
-    Be, Codec, CopyParts, Either, Enum, InRange, Kind, Le, MsbEnum, MsbLe, MsbLeEnum, Otherwise,
+    Be, Either, Enum, FromParts, InRange, Kind, Le, MsbEnum, MsbLe, MsbLeEnum, Otherwise, Record,
+    ToParts, read_record, write_record,
 };
 
 /// Kinds under a byte.
@@ -25,8 +32,11 @@ pub enum UnderByte {
     Second(u8, u16),
 }
 
-impl Codec for UnderByte {
-    type Parts = MsbEnum<Either<Kind<u8, 1>, Kind<(u8, Le<u16>), 2>>, 8>;
+// The parts of UnderByte, in their order.
+type UnderByteParts = MsbEnum<Either<Kind<u8, 1>, Kind<(u8, Le<u16>), 2>>, 8>;
+
+impl FromParts for UnderByte {
+    type Parts = UnderByteParts;
 
     ghost parts_of = { elim [
       | under_byte_kinds.First field_0 ↦ record {
@@ -57,7 +67,7 @@ impl Codec for UnderByte {
     ] };
 }
 
-impl CopyParts for UnderByte {
+impl ToParts for UnderByte {
     fn parts(&self) -> Self::Parts {
         match self {
             UnderByte::First(field_0) => Enum::new(Either::This(Kind(*field_0))),
@@ -68,6 +78,38 @@ impl CopyParts for UnderByte {
     }
 }
 
+impl DekuReader<()> for UnderByte {
+    ghost no_read_ahead = { ⟦<UnderByteParts as DekuReader<()>>⟧.no_read_ahead };
+
+    ghost meaning = { λ c. Then (⟦<UnderByteParts as DekuReader<()>>⟧.meaning c)
+        (Shows ⟦<UnderByte as FromParts>⟧.parts_of) };
+
+    #[inline(always)]
+    fn from_reader_with_ctx<R: Source>(reader: &mut Reader<R>, ctx: ()) -> Result<Self, DekuError> {
+        read_record(reader, ctx)
+    }
+}
+
+impl DekuWriter<()> for UnderByte {
+    ghost meaning = { λ v. ⟦<UnderByteParts as DekuWriter<()>>⟧.meaning
+        (⟦<UnderByte as FromParts>⟧.parts_of v) };
+
+    #[inline(always)]
+    fn to_writer<W: Sink>(&self, writer: &mut Writer<W>, ctx: ()) -> Result<(), DekuError> {
+        write_record(self, writer, ctx)
+    }
+}
+
+impl Record<()> for UnderByte {
+    ghost reads = { λ c b s r u m. m };
+
+    ghost writes = { λ c v b s r u m. m };
+}
+
+impl DekuContainerRead for UnderByte {}
+
+impl DekuContainerWrite for UnderByte {}
+
 /// Kinds with numbers.
 #[derive(Debug, Clone, Copy, PartialEq, Eq)]
 pub enum Numbered {
@@ -77,8 +119,11 @@ pub enum Numbered {
     Second,
 }
 
-impl Codec for Numbered {
-    type Parts = MsbEnum<Either<Kind<(), 1>, Kind<(), 2>>, 8>;
+// The parts of Numbered, in their order.
+type NumberedParts = MsbEnum<Either<Kind<(), 1>, Kind<(), 2>>, 8>;
+
+impl FromParts for Numbered {
+    type Parts = NumberedParts;
 
     ghost parts_of = { elim [
       | numbered_kinds.First ↦ record { kind = either.This (record { 0 = tt }); id = record {} }
@@ -103,7 +148,7 @@ impl Codec for Numbered {
     ] };
 }
 
-impl CopyParts for Numbered {
+impl ToParts for Numbered {
     fn parts(&self) -> Self::Parts {
         match self {
             Numbered::First => Enum::new(Either::This(Kind(()))),
@@ -111,6 +156,38 @@ impl CopyParts for Numbered {
         }
     }
 }
+
+impl DekuReader<()> for Numbered {
+    ghost no_read_ahead = { ⟦<NumberedParts as DekuReader<()>>⟧.no_read_ahead };
+
+    ghost meaning = { λ c. Then (⟦<NumberedParts as DekuReader<()>>⟧.meaning c)
+        (Shows ⟦<Numbered as FromParts>⟧.parts_of) };
+
+    #[inline(always)]
+    fn from_reader_with_ctx<R: Source>(reader: &mut Reader<R>, ctx: ()) -> Result<Self, DekuError> {
+        read_record(reader, ctx)
+    }
+}
+
+impl DekuWriter<()> for Numbered {
+    ghost meaning = { λ v. ⟦<NumberedParts as DekuWriter<()>>⟧.meaning
+        (⟦<Numbered as FromParts>⟧.parts_of v) };
+
+    #[inline(always)]
+    fn to_writer<W: Sink>(&self, writer: &mut Writer<W>, ctx: ()) -> Result<(), DekuError> {
+        write_record(self, writer, ctx)
+    }
+}
+
+impl Record<()> for Numbered {
+    ghost reads = { λ c b s r u m. m };
+
+    ghost writes = { λ c v b s r u m. m };
+}
+
+impl DekuContainerRead for Numbered {}
+
+impl DekuContainerWrite for Numbered {}
 
 /// Ids of one endian, and fields of another.
 #[derive(Debug, Clone, Copy, PartialEq, Eq)]
@@ -121,8 +198,11 @@ pub enum EndianOfId {
     Big { x: u16 },
 }
 
-impl Codec for EndianOfId {
-    type Parts = MsbEnum<Either<Kind<Le<u16>, 1>, Kind<Be<u16>, 2>>, 16>;
+// The parts of EndianOfId, in their order.
+type EndianOfIdParts = MsbEnum<Either<Kind<Le<u16>, 1>, Kind<Be<u16>, 2>>, 16>;
+
+impl FromParts for EndianOfId {
+    type Parts = EndianOfIdParts;
 
     ghost parts_of = { elim [
       | endian_of_id_kinds.Little field_0 ↦ record {
@@ -153,7 +233,7 @@ impl Codec for EndianOfId {
     ] };
 }
 
-impl CopyParts for EndianOfId {
+impl ToParts for EndianOfId {
     fn parts(&self) -> Self::Parts {
         match self {
             EndianOfId::Little(field_0) => Enum::new(Either::This(Kind(Le(*field_0)))),
@@ -161,6 +241,38 @@ impl CopyParts for EndianOfId {
         }
     }
 }
+
+impl DekuReader<()> for EndianOfId {
+    ghost no_read_ahead = { ⟦<EndianOfIdParts as DekuReader<()>>⟧.no_read_ahead };
+
+    ghost meaning = { λ c. Then (⟦<EndianOfIdParts as DekuReader<()>>⟧.meaning c)
+        (Shows ⟦<EndianOfId as FromParts>⟧.parts_of) };
+
+    #[inline(always)]
+    fn from_reader_with_ctx<R: Source>(reader: &mut Reader<R>, ctx: ()) -> Result<Self, DekuError> {
+        read_record(reader, ctx)
+    }
+}
+
+impl DekuWriter<()> for EndianOfId {
+    ghost meaning = { λ v. ⟦<EndianOfIdParts as DekuWriter<()>>⟧.meaning
+        (⟦<EndianOfId as FromParts>⟧.parts_of v) };
+
+    #[inline(always)]
+    fn to_writer<W: Sink>(&self, writer: &mut Writer<W>, ctx: ()) -> Result<(), DekuError> {
+        write_record(self, writer, ctx)
+    }
+}
+
+impl Record<()> for EndianOfId {
+    ghost reads = { λ c b s r u m. m };
+
+    ghost writes = { λ c v b s r u m. m };
+}
+
+impl DekuContainerRead for EndianOfId {}
+
+impl DekuContainerWrite for EndianOfId {}
 
 /// A range of ids, and all others.
 #[derive(Debug, Clone, Copy, PartialEq, Eq)]
@@ -173,8 +285,11 @@ pub enum Patterns {
     Others(u64),
 }
 
-impl Codec for Patterns {
-    type Parts = MsbEnum<Either<Either<Kind<u8, 1>, InRange<(), 2, 6>>, Otherwise<()>>, 8>;
+// The parts of Patterns, in their order.
+type PatternsParts = MsbEnum<Either<Either<Kind<u8, 1>, InRange<(), 2, 6>>, Otherwise<()>>, 8>;
+
+impl FromParts for Patterns {
+    type Parts = PatternsParts;
 
     ghost parts_of = { elim [
       | patterns_kinds.One field_0 ↦ record {
@@ -214,7 +329,7 @@ impl Codec for Patterns {
     ] };
 }
 
-impl CopyParts for Patterns {
+impl ToParts for Patterns {
     fn parts(&self) -> Self::Parts {
         match self {
             Patterns::One(field_0) => Enum::new(Either::This(Either::This(Kind(*field_0)))),
@@ -231,6 +346,38 @@ impl CopyParts for Patterns {
     }
 }
 
+impl DekuReader<()> for Patterns {
+    ghost no_read_ahead = { ⟦<PatternsParts as DekuReader<()>>⟧.no_read_ahead };
+
+    ghost meaning = { λ c. Then (⟦<PatternsParts as DekuReader<()>>⟧.meaning c)
+        (Shows ⟦<Patterns as FromParts>⟧.parts_of) };
+
+    #[inline(always)]
+    fn from_reader_with_ctx<R: Source>(reader: &mut Reader<R>, ctx: ()) -> Result<Self, DekuError> {
+        read_record(reader, ctx)
+    }
+}
+
+impl DekuWriter<()> for Patterns {
+    ghost meaning = { λ v. ⟦<PatternsParts as DekuWriter<()>>⟧.meaning
+        (⟦<Patterns as FromParts>⟧.parts_of v) };
+
+    #[inline(always)]
+    fn to_writer<W: Sink>(&self, writer: &mut Writer<W>, ctx: ()) -> Result<(), DekuError> {
+        write_record(self, writer, ctx)
+    }
+}
+
+impl Record<()> for Patterns {
+    ghost reads = { λ c b s r u m. m };
+
+    ghost writes = { λ c v b s r u m. m };
+}
+
+impl DekuContainerRead for Patterns {}
+
+impl DekuContainerWrite for Patterns {}
+
 /// Ids of four bits.
 #[derive(Debug, Clone, Copy, PartialEq, Eq)]
 pub enum UnderBits {
@@ -238,8 +385,11 @@ pub enum UnderBits {
     Only(u8, u8),
 }
 
-impl Codec for UnderBits {
-    type Parts = MsbEnum<Kind<(MsbLe<u8, 4>, u8), 9>, 4>;
+// The parts of UnderBits, in their order.
+type UnderBitsParts = MsbEnum<Kind<(MsbLe<u8, 4>, u8), 9>, 4>;
+
+impl FromParts for UnderBits {
+    type Parts = UnderBitsParts;
 
     ghost parts_of = { elim [
       | under_bits_kinds.Only field_0 field_1 ↦ record {
@@ -261,13 +411,45 @@ impl Codec for UnderBits {
     ] };
 }
 
-impl CopyParts for UnderBits {
+impl ToParts for UnderBits {
     fn parts(&self) -> Self::Parts {
         match self {
             UnderBits::Only(field_0, field_1) => Enum::new(Kind((MsbLe(*field_0), *field_1))),
         }
     }
 }
+
+impl DekuReader<()> for UnderBits {
+    ghost no_read_ahead = { ⟦<UnderBitsParts as DekuReader<()>>⟧.no_read_ahead };
+
+    ghost meaning = { λ c. Then (⟦<UnderBitsParts as DekuReader<()>>⟧.meaning c)
+        (Shows ⟦<UnderBits as FromParts>⟧.parts_of) };
+
+    #[inline(always)]
+    fn from_reader_with_ctx<R: Source>(reader: &mut Reader<R>, ctx: ()) -> Result<Self, DekuError> {
+        read_record(reader, ctx)
+    }
+}
+
+impl DekuWriter<()> for UnderBits {
+    ghost meaning = { λ v. ⟦<UnderBitsParts as DekuWriter<()>>⟧.meaning
+        (⟦<UnderBits as FromParts>⟧.parts_of v) };
+
+    #[inline(always)]
+    fn to_writer<W: Sink>(&self, writer: &mut Writer<W>, ctx: ()) -> Result<(), DekuError> {
+        write_record(self, writer, ctx)
+    }
+}
+
+impl Record<()> for UnderBits {
+    ghost reads = { λ c b s r u m. m };
+
+    ghost writes = { λ c v b s r u m. m };
+}
+
+impl DekuContainerRead for UnderBits {}
+
+impl DekuContainerWrite for UnderBits {}
 
 /// Ids of two bytes of a number of four.
 #[derive(Debug, Clone, Copy, PartialEq, Eq)]
@@ -276,8 +458,11 @@ pub enum UnderBytes {
     Only(u8),
 }
 
-impl Codec for UnderBytes {
-    type Parts = MsbLeEnum<Kind<u8, 48879>, 16>;
+// The parts of UnderBytes, in their order.
+type UnderBytesParts = MsbLeEnum<Kind<u8, 48879>, 16>;
+
+impl FromParts for UnderBytes {
+    type Parts = UnderBytesParts;
 
     ghost parts_of = { elim [
       | under_bytes_kinds.Only field_0 ↦ record { kind = record { 0 = field_0 }; id = record {} }
@@ -296,10 +481,42 @@ impl Codec for UnderBytes {
     ] };
 }
 
-impl CopyParts for UnderBytes {
+impl ToParts for UnderBytes {
     fn parts(&self) -> Self::Parts {
         match self {
             UnderBytes::Only(field_0) => Enum::new(Kind(*field_0)),
         }
     }
 }
+
+impl DekuReader<()> for UnderBytes {
+    ghost no_read_ahead = { ⟦<UnderBytesParts as DekuReader<()>>⟧.no_read_ahead };
+
+    ghost meaning = { λ c. Then (⟦<UnderBytesParts as DekuReader<()>>⟧.meaning c)
+        (Shows ⟦<UnderBytes as FromParts>⟧.parts_of) };
+
+    #[inline(always)]
+    fn from_reader_with_ctx<R: Source>(reader: &mut Reader<R>, ctx: ()) -> Result<Self, DekuError> {
+        read_record(reader, ctx)
+    }
+}
+
+impl DekuWriter<()> for UnderBytes {
+    ghost meaning = { λ v. ⟦<UnderBytesParts as DekuWriter<()>>⟧.meaning
+        (⟦<UnderBytes as FromParts>⟧.parts_of v) };
+
+    #[inline(always)]
+    fn to_writer<W: Sink>(&self, writer: &mut Writer<W>, ctx: ()) -> Result<(), DekuError> {
+        write_record(self, writer, ctx)
+    }
+}
+
+impl Record<()> for UnderBytes {
+    ghost reads = { λ c b s r u m. m };
+
+    ghost writes = { λ c v b s r u m. m };
+}
+
+impl DekuContainerRead for UnderBytes {}
+
+impl DekuContainerWrite for UnderBytes {}

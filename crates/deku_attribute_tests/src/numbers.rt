@@ -3,11 +3,17 @@
 //! Printed by `derive` from `numbers.rs`.
 
 ghost use Rattle.std.specs.Prelude.{nat_eq, nat_le, codes, refl};
+ghost use Rattle.deku.specs.Composing.{Then};
+ghost use Rattle.deku.specs.Shapes.{Shows};
 ghost use Rattle.deku_symmetry.specs.Fields.{be, le, lsb, lsb_be, msb, msb_le};
 
+use deku::device::{Sink, Source};
+use deku::prelude::{
+    DekuContainerRead, DekuContainerWrite, DekuError, DekuReader, DekuWriter, Reader, Writer,
+};
 use deku_symmetry::{
-    Assert, Be, Check, CheckLaw, Codec, Constant, ConstantLaw, CopyParts, Le, Lsb, LsbBe, Magic,
-    Msb, MsbLe,
+    Assert, Be, Check, CheckLaw, Constant, ConstantLaw, FromParts, Le, Lsb, LsbBe, Magic, Msb,
+    MsbLe, Record, ToParts, read_record, write_record,
 };
 
 /// Padding.
@@ -48,8 +54,11 @@ impl Endians {
     pub const FIELDS: [&'static str; 2] = ["first", "second"];
 }
 
-impl Codec for Endians {
-    type Parts = (Be<u16>, Le<u16>);
+// The parts of Endians, in their order.
+type EndiansParts = (Be<u16>, Le<u16>);
+
+impl FromParts for Endians {
+    type Parts = EndiansParts;
 
     ghost parts_of = { λ r. (be r.first, le r.second) };
 
@@ -62,11 +71,43 @@ impl Codec for Endians {
     ghost there = { λ r. refl };
 }
 
-impl CopyParts for Endians {
+impl ToParts for Endians {
     fn parts(&self) -> Self::Parts {
         (Be(self.first), Le(self.second))
     }
 }
+
+impl DekuReader<()> for Endians {
+    ghost no_read_ahead = { ⟦<EndiansParts as DekuReader<()>>⟧.no_read_ahead };
+
+    ghost meaning = { λ c. Then (⟦<EndiansParts as DekuReader<()>>⟧.meaning c)
+        (Shows ⟦<Endians as FromParts>⟧.parts_of) };
+
+    #[inline(always)]
+    fn from_reader_with_ctx<R: Source>(reader: &mut Reader<R>, ctx: ()) -> Result<Self, DekuError> {
+        read_record(reader, ctx)
+    }
+}
+
+impl DekuWriter<()> for Endians {
+    ghost meaning = { λ v. ⟦<EndiansParts as DekuWriter<()>>⟧.meaning
+        (⟦<Endians as FromParts>⟧.parts_of v) };
+
+    #[inline(always)]
+    fn to_writer<W: Sink>(&self, writer: &mut Writer<W>, ctx: ()) -> Result<(), DekuError> {
+        write_record(self, writer, ctx)
+    }
+}
+
+impl Record<()> for Endians {
+    ghost reads = { λ c b s r u m. m };
+
+    ghost writes = { λ c v b s r u m. m };
+}
+
+impl DekuContainerRead for Endians {}
+
+impl DekuContainerWrite for Endians {}
 
 /// The low bits first.
 #[derive(Debug, Clone, Copy, PartialEq, Eq)]
@@ -84,15 +125,18 @@ impl LowFirst {
     pub const FIELDS: [&'static str; 6] = ["kind", "mode", "user", "group", "time", "number"];
 }
 
-impl Codec for LowFirst {
-    type Parts = (
-        Lsb<u8, 4>,
-        Lsb<u16, 12>,
-        Lsb<u8, 8>,
-        Lsb<u8, 8>,
-        Lsb<u32, 32>,
-        Lsb<u32, 32>,
-    );
+// The parts of LowFirst, in their order.
+type LowFirstParts = (
+    Lsb<u8, 4>,
+    Lsb<u16, 12>,
+    Lsb<u8, 8>,
+    Lsb<u8, 8>,
+    Lsb<u32, 32>,
+    Lsb<u32, 32>,
+);
+
+impl FromParts for LowFirst {
+    type Parts = LowFirstParts;
 
     ghost parts_of = { λ r. (
       lsb r.kind,
@@ -127,7 +171,7 @@ impl Codec for LowFirst {
     ghost there = { λ r. refl };
 }
 
-impl CopyParts for LowFirst {
+impl ToParts for LowFirst {
     fn parts(&self) -> Self::Parts {
         (
             Lsb(self.kind),
@@ -139,6 +183,38 @@ impl CopyParts for LowFirst {
         )
     }
 }
+
+impl DekuReader<()> for LowFirst {
+    ghost no_read_ahead = { ⟦<LowFirstParts as DekuReader<()>>⟧.no_read_ahead };
+
+    ghost meaning = { λ c. Then (⟦<LowFirstParts as DekuReader<()>>⟧.meaning c)
+        (Shows ⟦<LowFirst as FromParts>⟧.parts_of) };
+
+    #[inline(always)]
+    fn from_reader_with_ctx<R: Source>(reader: &mut Reader<R>, ctx: ()) -> Result<Self, DekuError> {
+        read_record(reader, ctx)
+    }
+}
+
+impl DekuWriter<()> for LowFirst {
+    ghost meaning = { λ v. ⟦<LowFirstParts as DekuWriter<()>>⟧.meaning
+        (⟦<LowFirst as FromParts>⟧.parts_of v) };
+
+    #[inline(always)]
+    fn to_writer<W: Sink>(&self, writer: &mut Writer<W>, ctx: ()) -> Result<(), DekuError> {
+        write_record(self, writer, ctx)
+    }
+}
+
+impl Record<()> for LowFirst {
+    ghost reads = { λ c b s r u m. m };
+
+    ghost writes = { λ c v b s r u m. m };
+}
+
+impl DekuContainerRead for LowFirst {}
+
+impl DekuContainerWrite for LowFirst {}
 
 /// The low bits first, the high byte first, and then fields of another order.
 #[derive(Debug, Clone, Copy, PartialEq, Eq)]
@@ -159,16 +235,19 @@ impl Orders {
     ];
 }
 
-impl Codec for Orders {
-    type Parts = (
-        LsbBe<u16, 13>,
-        LsbBe<u8, 3>,
-        u8,
-        Msb<bool, 1>,
-        Msb<bool, 1>,
-        Msb<bool, 1>,
-        Msb<u8, 5>,
-    );
+// The parts of Orders, in their order.
+type OrdersParts = (
+    LsbBe<u16, 13>,
+    LsbBe<u8, 3>,
+    u8,
+    Msb<bool, 1>,
+    Msb<bool, 1>,
+    Msb<bool, 1>,
+    Msb<u8, 5>,
+);
+
+impl FromParts for Orders {
+    type Parts = OrdersParts;
 
     ghost parts_of = { λ r. (
       lsb_be r.offset,
@@ -207,7 +286,7 @@ impl Codec for Orders {
     ghost there = { λ r. refl };
 }
 
-impl CopyParts for Orders {
+impl ToParts for Orders {
     fn parts(&self) -> Self::Parts {
         (
             LsbBe(self.offset),
@@ -221,6 +300,38 @@ impl CopyParts for Orders {
     }
 }
 
+impl DekuReader<()> for Orders {
+    ghost no_read_ahead = { ⟦<OrdersParts as DekuReader<()>>⟧.no_read_ahead };
+
+    ghost meaning = { λ c. Then (⟦<OrdersParts as DekuReader<()>>⟧.meaning c)
+        (Shows ⟦<Orders as FromParts>⟧.parts_of) };
+
+    #[inline(always)]
+    fn from_reader_with_ctx<R: Source>(reader: &mut Reader<R>, ctx: ()) -> Result<Self, DekuError> {
+        read_record(reader, ctx)
+    }
+}
+
+impl DekuWriter<()> for Orders {
+    ghost meaning = { λ v. ⟦<OrdersParts as DekuWriter<()>>⟧.meaning
+        (⟦<Orders as FromParts>⟧.parts_of v) };
+
+    #[inline(always)]
+    fn to_writer<W: Sink>(&self, writer: &mut Writer<W>, ctx: ()) -> Result<(), DekuError> {
+        write_record(self, writer, ctx)
+    }
+}
+
+impl Record<()> for Orders {
+    ghost reads = { λ c b s r u m. m };
+
+    ghost writes = { λ c v b s r u m. m };
+}
+
+impl DekuContainerRead for Orders {}
+
+impl DekuContainerWrite for Orders {}
+
 /// An order for each field.
 #[derive(Debug, Clone, Copy, PartialEq, Eq)]
 pub struct OrderOfFields {
@@ -233,8 +344,11 @@ impl OrderOfFields {
     pub const FIELDS: [&'static str; 2] = ["offset", "kind"];
 }
 
-impl Codec for OrderOfFields {
-    type Parts = (Lsb<u16, 13>, Lsb<u8, 3>);
+// The parts of OrderOfFields, in their order.
+type OrderOfFieldsParts = (Lsb<u16, 13>, Lsb<u8, 3>);
+
+impl FromParts for OrderOfFields {
+    type Parts = OrderOfFieldsParts;
 
     ghost parts_of = { λ r. (lsb r.offset, lsb r.kind) };
 
@@ -247,11 +361,43 @@ impl Codec for OrderOfFields {
     ghost there = { λ r. refl };
 }
 
-impl CopyParts for OrderOfFields {
+impl ToParts for OrderOfFields {
     fn parts(&self) -> Self::Parts {
         (Lsb(self.offset), Lsb(self.kind))
     }
 }
+
+impl DekuReader<()> for OrderOfFields {
+    ghost no_read_ahead = { ⟦<OrderOfFieldsParts as DekuReader<()>>⟧.no_read_ahead };
+
+    ghost meaning = { λ c. Then (⟦<OrderOfFieldsParts as DekuReader<()>>⟧.meaning c)
+        (Shows ⟦<OrderOfFields as FromParts>⟧.parts_of) };
+
+    #[inline(always)]
+    fn from_reader_with_ctx<R: Source>(reader: &mut Reader<R>, ctx: ()) -> Result<Self, DekuError> {
+        read_record(reader, ctx)
+    }
+}
+
+impl DekuWriter<()> for OrderOfFields {
+    ghost meaning = { λ v. ⟦<OrderOfFieldsParts as DekuWriter<()>>⟧.meaning
+        (⟦<OrderOfFields as FromParts>⟧.parts_of v) };
+
+    #[inline(always)]
+    fn to_writer<W: Sink>(&self, writer: &mut Writer<W>, ctx: ()) -> Result<(), DekuError> {
+        write_record(self, writer, ctx)
+    }
+}
+
+impl Record<()> for OrderOfFields {
+    ghost reads = { λ c b s r u m. m };
+
+    ghost writes = { λ c v b s r u m. m };
+}
+
+impl DekuContainerRead for OrderOfFields {}
+
+impl DekuContainerWrite for OrderOfFields {}
 
 /// Fixed bytes in front.
 #[derive(Debug, Clone, Copy, PartialEq, Eq)]
@@ -290,8 +436,11 @@ impl Named {
     pub const FIELDS: [&'static str; 2] = ["magic", "data"];
 }
 
-impl Codec for Named {
-    type Parts = (Magic<Be<u32>, NamedMagic>, u8);
+// The parts of Named, in their order.
+type NamedParts = (Magic<Be<u32>, NamedMagic>, u8);
+
+impl FromParts for Named {
+    type Parts = NamedParts;
 
     ghost parts_of = { λ r. (record { part = record {}; constant = record {} }, r.data) };
 
@@ -304,11 +453,43 @@ impl Codec for Named {
     ghost there = { λ r. refl };
 }
 
-impl CopyParts for Named {
+impl ToParts for Named {
     fn parts(&self) -> Self::Parts {
         (Magic::new(), self.data)
     }
 }
+
+impl DekuReader<()> for Named {
+    ghost no_read_ahead = { ⟦<NamedParts as DekuReader<()>>⟧.no_read_ahead };
+
+    ghost meaning = { λ c. Then (⟦<NamedParts as DekuReader<()>>⟧.meaning c)
+        (Shows ⟦<Named as FromParts>⟧.parts_of) };
+
+    #[inline(always)]
+    fn from_reader_with_ctx<R: Source>(reader: &mut Reader<R>, ctx: ()) -> Result<Self, DekuError> {
+        read_record(reader, ctx)
+    }
+}
+
+impl DekuWriter<()> for Named {
+    ghost meaning = { λ v. ⟦<NamedParts as DekuWriter<()>>⟧.meaning
+        (⟦<Named as FromParts>⟧.parts_of v) };
+
+    #[inline(always)]
+    fn to_writer<W: Sink>(&self, writer: &mut Writer<W>, ctx: ()) -> Result<(), DekuError> {
+        write_record(self, writer, ctx)
+    }
+}
+
+impl Record<()> for Named {
+    ghost reads = { λ c b s r u m. m };
+
+    ghost writes = { λ c v b s r u m. m };
+}
+
+impl DekuContainerRead for Named {}
+
+impl DekuContainerWrite for Named {}
 
 /// Fixed bytes in front of a field.
 #[derive(Debug, Clone, Copy, PartialEq, Eq)]
@@ -347,8 +528,11 @@ impl NamedField {
     pub const FIELDS: [&'static str; 2] = ["magic", "data"];
 }
 
-impl Codec for NamedField {
-    type Parts = (Magic<Be<u32>, NamedFieldDataMagic>, u8);
+// The parts of NamedField, in their order.
+type NamedFieldParts = (Magic<Be<u32>, NamedFieldDataMagic>, u8);
+
+impl FromParts for NamedField {
+    type Parts = NamedFieldParts;
 
     ghost parts_of = { λ r. (record { part = record {}; constant = record {} }, r.data) };
 
@@ -361,11 +545,43 @@ impl Codec for NamedField {
     ghost there = { λ r. refl };
 }
 
-impl CopyParts for NamedField {
+impl ToParts for NamedField {
     fn parts(&self) -> Self::Parts {
         (Magic::new(), self.data)
     }
 }
+
+impl DekuReader<()> for NamedField {
+    ghost no_read_ahead = { ⟦<NamedFieldParts as DekuReader<()>>⟧.no_read_ahead };
+
+    ghost meaning = { λ c. Then (⟦<NamedFieldParts as DekuReader<()>>⟧.meaning c)
+        (Shows ⟦<NamedField as FromParts>⟧.parts_of) };
+
+    #[inline(always)]
+    fn from_reader_with_ctx<R: Source>(reader: &mut Reader<R>, ctx: ()) -> Result<Self, DekuError> {
+        read_record(reader, ctx)
+    }
+}
+
+impl DekuWriter<()> for NamedField {
+    ghost meaning = { λ v. ⟦<NamedFieldParts as DekuWriter<()>>⟧.meaning
+        (⟦<NamedField as FromParts>⟧.parts_of v) };
+
+    #[inline(always)]
+    fn to_writer<W: Sink>(&self, writer: &mut Writer<W>, ctx: ()) -> Result<(), DekuError> {
+        write_record(self, writer, ctx)
+    }
+}
+
+impl Record<()> for NamedField {
+    ghost reads = { λ c b s r u m. m };
+
+    ghost writes = { λ c v b s r u m. m };
+}
+
+impl DekuContainerRead for NamedField {}
+
+impl DekuContainerWrite for NamedField {}
 
 /// A number that is checked.
 #[derive(Debug, Clone, Copy, PartialEq, Eq)]
@@ -401,8 +617,11 @@ impl AtLeast {
     pub const FIELDS: [&'static str; 1] = ["data"];
 }
 
-impl Codec for AtLeast {
-    type Parts = Assert<u8, AtLeastDataCheck>;
+// The parts of AtLeast, in their order.
+type AtLeastParts = Assert<u8, AtLeastDataCheck>;
+
+impl FromParts for AtLeast {
+    type Parts = AtLeastParts;
 
     ghost parts_of = { λ r. record { part = r.data; check = record {} } };
 
@@ -415,11 +634,43 @@ impl Codec for AtLeast {
     ghost there = { λ r. refl };
 }
 
-impl CopyParts for AtLeast {
+impl ToParts for AtLeast {
     fn parts(&self) -> Self::Parts {
         Assert::new(self.data)
     }
 }
+
+impl DekuReader<()> for AtLeast {
+    ghost no_read_ahead = { ⟦<AtLeastParts as DekuReader<()>>⟧.no_read_ahead };
+
+    ghost meaning = { λ c. Then (⟦<AtLeastParts as DekuReader<()>>⟧.meaning c)
+        (Shows ⟦<AtLeast as FromParts>⟧.parts_of) };
+
+    #[inline(always)]
+    fn from_reader_with_ctx<R: Source>(reader: &mut Reader<R>, ctx: ()) -> Result<Self, DekuError> {
+        read_record(reader, ctx)
+    }
+}
+
+impl DekuWriter<()> for AtLeast {
+    ghost meaning = { λ v. ⟦<AtLeastParts as DekuWriter<()>>⟧.meaning
+        (⟦<AtLeast as FromParts>⟧.parts_of v) };
+
+    #[inline(always)]
+    fn to_writer<W: Sink>(&self, writer: &mut Writer<W>, ctx: ()) -> Result<(), DekuError> {
+        write_record(self, writer, ctx)
+    }
+}
+
+impl Record<()> for AtLeast {
+    ghost reads = { λ c b s r u m. m };
+
+    ghost writes = { λ c v b s r u m. m };
+}
+
+impl DekuContainerRead for AtLeast {}
+
+impl DekuContainerWrite for AtLeast {}
 
 /// A number that has one value.
 #[derive(Debug, Clone, Copy, PartialEq, Eq)]
@@ -455,8 +706,11 @@ impl Only {
     pub const FIELDS: [&'static str; 1] = ["data"];
 }
 
-impl Codec for Only {
-    type Parts = Assert<u8, OnlyDataValue>;
+// The parts of Only, in their order.
+type OnlyParts = Assert<u8, OnlyDataValue>;
+
+impl FromParts for Only {
+    type Parts = OnlyParts;
 
     ghost parts_of = { λ r. record { part = r.data; check = record {} } };
 
@@ -469,11 +723,43 @@ impl Codec for Only {
     ghost there = { λ r. refl };
 }
 
-impl CopyParts for Only {
+impl ToParts for Only {
     fn parts(&self) -> Self::Parts {
         Assert::new(self.data)
     }
 }
+
+impl DekuReader<()> for Only {
+    ghost no_read_ahead = { ⟦<OnlyParts as DekuReader<()>>⟧.no_read_ahead };
+
+    ghost meaning = { λ c. Then (⟦<OnlyParts as DekuReader<()>>⟧.meaning c)
+        (Shows ⟦<Only as FromParts>⟧.parts_of) };
+
+    #[inline(always)]
+    fn from_reader_with_ctx<R: Source>(reader: &mut Reader<R>, ctx: ()) -> Result<Self, DekuError> {
+        read_record(reader, ctx)
+    }
+}
+
+impl DekuWriter<()> for Only {
+    ghost meaning = { λ v. ⟦<OnlyParts as DekuWriter<()>>⟧.meaning
+        (⟦<Only as FromParts>⟧.parts_of v) };
+
+    #[inline(always)]
+    fn to_writer<W: Sink>(&self, writer: &mut Writer<W>, ctx: ()) -> Result<(), DekuError> {
+        write_record(self, writer, ctx)
+    }
+}
+
+impl Record<()> for Only {
+    ghost reads = { λ c b s r u m. m };
+
+    ghost writes = { λ c v b s r u m. m };
+}
+
+impl DekuContainerRead for Only {}
+
+impl DekuContainerWrite for Only {}
 
 /// Widths in bits.
 #[derive(Debug, Clone, Copy, PartialEq, Eq)]
@@ -488,8 +774,11 @@ impl Bits {
     pub const FIELDS: [&'static str; 3] = ["first", "second", "third"];
 }
 
-impl Codec for Bits {
-    type Parts = (MsbLe<u8, 2>, MsbLe<u8, 6>, u8);
+// The parts of Bits, in their order.
+type BitsParts = (MsbLe<u8, 2>, MsbLe<u8, 6>, u8);
+
+impl FromParts for Bits {
+    type Parts = BitsParts;
 
     ghost parts_of = { λ r. (msb_le r.first, msb_le r.second, r.third) };
 
@@ -506,11 +795,43 @@ impl Codec for Bits {
     ghost there = { λ r. refl };
 }
 
-impl CopyParts for Bits {
+impl ToParts for Bits {
     fn parts(&self) -> Self::Parts {
         (MsbLe(self.first), MsbLe(self.second), self.third)
     }
 }
+
+impl DekuReader<()> for Bits {
+    ghost no_read_ahead = { ⟦<BitsParts as DekuReader<()>>⟧.no_read_ahead };
+
+    ghost meaning = { λ c. Then (⟦<BitsParts as DekuReader<()>>⟧.meaning c)
+        (Shows ⟦<Bits as FromParts>⟧.parts_of) };
+
+    #[inline(always)]
+    fn from_reader_with_ctx<R: Source>(reader: &mut Reader<R>, ctx: ()) -> Result<Self, DekuError> {
+        read_record(reader, ctx)
+    }
+}
+
+impl DekuWriter<()> for Bits {
+    ghost meaning = { λ v. ⟦<BitsParts as DekuWriter<()>>⟧.meaning
+        (⟦<Bits as FromParts>⟧.parts_of v) };
+
+    #[inline(always)]
+    fn to_writer<W: Sink>(&self, writer: &mut Writer<W>, ctx: ()) -> Result<(), DekuError> {
+        write_record(self, writer, ctx)
+    }
+}
+
+impl Record<()> for Bits {
+    ghost reads = { λ c b s r u m. m };
+
+    ghost writes = { λ c v b s r u m. m };
+}
+
+impl DekuContainerRead for Bits {}
+
+impl DekuContainerWrite for Bits {}
 
 /// A width in bytes.
 #[derive(Debug, Clone, Copy, PartialEq, Eq)]
@@ -524,8 +845,11 @@ impl Bytes {
     pub const FIELDS: [&'static str; 2] = ["first", "second"];
 }
 
-impl Codec for Bytes {
-    type Parts = (MsbLe<u32, 16>, u8);
+// The parts of Bytes, in their order.
+type BytesParts = (MsbLe<u32, 16>, u8);
+
+impl FromParts for Bytes {
+    type Parts = BytesParts;
 
     ghost parts_of = { λ r. (msb_le r.first, r.second) };
 
@@ -538,11 +862,43 @@ impl Codec for Bytes {
     ghost there = { λ r. refl };
 }
 
-impl CopyParts for Bytes {
+impl ToParts for Bytes {
     fn parts(&self) -> Self::Parts {
         (MsbLe(self.first), self.second)
     }
 }
+
+impl DekuReader<()> for Bytes {
+    ghost no_read_ahead = { ⟦<BytesParts as DekuReader<()>>⟧.no_read_ahead };
+
+    ghost meaning = { λ c. Then (⟦<BytesParts as DekuReader<()>>⟧.meaning c)
+        (Shows ⟦<Bytes as FromParts>⟧.parts_of) };
+
+    #[inline(always)]
+    fn from_reader_with_ctx<R: Source>(reader: &mut Reader<R>, ctx: ()) -> Result<Self, DekuError> {
+        read_record(reader, ctx)
+    }
+}
+
+impl DekuWriter<()> for Bytes {
+    ghost meaning = { λ v. ⟦<BytesParts as DekuWriter<()>>⟧.meaning
+        (⟦<Bytes as FromParts>⟧.parts_of v) };
+
+    #[inline(always)]
+    fn to_writer<W: Sink>(&self, writer: &mut Writer<W>, ctx: ()) -> Result<(), DekuError> {
+        write_record(self, writer, ctx)
+    }
+}
+
+impl Record<()> for Bytes {
+    ghost reads = { λ c b s r u m. m };
+
+    ghost writes = { λ c v b s r u m. m };
+}
+
+impl DekuContainerRead for Bytes {}
+
+impl DekuContainerWrite for Bytes {}
 
 /// Bytes before a field.
 #[derive(Debug, Clone, Copy, PartialEq, Eq)]
@@ -556,8 +912,11 @@ impl BytesBefore {
     pub const FIELDS: [&'static str; 3] = ["first", "padding", "second"];
 }
 
-impl Codec for BytesBefore {
-    type Parts = (u8, Magic<Msb<u64, 16>, Zeros>, u8);
+// The parts of BytesBefore, in their order.
+type BytesBeforeParts = (u8, Magic<Msb<u64, 16>, Zeros>, u8);
+
+impl FromParts for BytesBefore {
+    type Parts = BytesBeforeParts;
 
     ghost parts_of = { λ r. (
       r.first,
@@ -574,11 +933,43 @@ impl Codec for BytesBefore {
     ghost there = { λ r. refl };
 }
 
-impl CopyParts for BytesBefore {
+impl ToParts for BytesBefore {
     fn parts(&self) -> Self::Parts {
         (self.first, Magic::new(), self.second)
     }
 }
+
+impl DekuReader<()> for BytesBefore {
+    ghost no_read_ahead = { ⟦<BytesBeforeParts as DekuReader<()>>⟧.no_read_ahead };
+
+    ghost meaning = { λ c. Then (⟦<BytesBeforeParts as DekuReader<()>>⟧.meaning c)
+        (Shows ⟦<BytesBefore as FromParts>⟧.parts_of) };
+
+    #[inline(always)]
+    fn from_reader_with_ctx<R: Source>(reader: &mut Reader<R>, ctx: ()) -> Result<Self, DekuError> {
+        read_record(reader, ctx)
+    }
+}
+
+impl DekuWriter<()> for BytesBefore {
+    ghost meaning = { λ v. ⟦<BytesBeforeParts as DekuWriter<()>>⟧.meaning
+        (⟦<BytesBefore as FromParts>⟧.parts_of v) };
+
+    #[inline(always)]
+    fn to_writer<W: Sink>(&self, writer: &mut Writer<W>, ctx: ()) -> Result<(), DekuError> {
+        write_record(self, writer, ctx)
+    }
+}
+
+impl Record<()> for BytesBefore {
+    ghost reads = { λ c b s r u m. m };
+
+    ghost writes = { λ c v b s r u m. m };
+}
+
+impl DekuContainerRead for BytesBefore {}
+
+impl DekuContainerWrite for BytesBefore {}
 
 /// Bits before a field.
 #[derive(Debug, Clone, Copy, PartialEq, Eq)]
@@ -592,8 +983,11 @@ impl BitsBefore {
     pub const FIELDS: [&'static str; 3] = ["first", "padding", "second"];
 }
 
-impl Codec for BitsBefore {
-    type Parts = (MsbLe<u8, 2>, Magic<Msb<u64, 2>, Zeros>, MsbLe<u8, 4>);
+// The parts of BitsBefore, in their order.
+type BitsBeforeParts = (MsbLe<u8, 2>, Magic<Msb<u64, 2>, Zeros>, MsbLe<u8, 4>);
+
+impl FromParts for BitsBefore {
+    type Parts = BitsBeforeParts;
 
     ghost parts_of = { λ r. (
       msb_le r.first,
@@ -610,11 +1004,43 @@ impl Codec for BitsBefore {
     ghost there = { λ r. refl };
 }
 
-impl CopyParts for BitsBefore {
+impl ToParts for BitsBefore {
     fn parts(&self) -> Self::Parts {
         (MsbLe(self.first), Magic::new(), MsbLe(self.second))
     }
 }
+
+impl DekuReader<()> for BitsBefore {
+    ghost no_read_ahead = { ⟦<BitsBeforeParts as DekuReader<()>>⟧.no_read_ahead };
+
+    ghost meaning = { λ c. Then (⟦<BitsBeforeParts as DekuReader<()>>⟧.meaning c)
+        (Shows ⟦<BitsBefore as FromParts>⟧.parts_of) };
+
+    #[inline(always)]
+    fn from_reader_with_ctx<R: Source>(reader: &mut Reader<R>, ctx: ()) -> Result<Self, DekuError> {
+        read_record(reader, ctx)
+    }
+}
+
+impl DekuWriter<()> for BitsBefore {
+    ghost meaning = { λ v. ⟦<BitsBeforeParts as DekuWriter<()>>⟧.meaning
+        (⟦<BitsBefore as FromParts>⟧.parts_of v) };
+
+    #[inline(always)]
+    fn to_writer<W: Sink>(&self, writer: &mut Writer<W>, ctx: ()) -> Result<(), DekuError> {
+        write_record(self, writer, ctx)
+    }
+}
+
+impl Record<()> for BitsBefore {
+    ghost reads = { λ c b s r u m. m };
+
+    ghost writes = { λ c v b s r u m. m };
+}
+
+impl DekuContainerRead for BitsBefore {}
+
+impl DekuContainerWrite for BitsBefore {}
 
 /// Bytes after a field.
 #[derive(Debug, Clone, Copy, PartialEq, Eq)]
@@ -628,8 +1054,11 @@ impl BytesAfter {
     pub const FIELDS: [&'static str; 3] = ["first", "padding", "second"];
 }
 
-impl Codec for BytesAfter {
-    type Parts = (u8, Magic<Msb<u64, 16>, Zeros>, u8);
+// The parts of BytesAfter, in their order.
+type BytesAfterParts = (u8, Magic<Msb<u64, 16>, Zeros>, u8);
+
+impl FromParts for BytesAfter {
+    type Parts = BytesAfterParts;
 
     ghost parts_of = { λ r. (
       r.first,
@@ -646,11 +1075,43 @@ impl Codec for BytesAfter {
     ghost there = { λ r. refl };
 }
 
-impl CopyParts for BytesAfter {
+impl ToParts for BytesAfter {
     fn parts(&self) -> Self::Parts {
         (self.first, Magic::new(), self.second)
     }
 }
+
+impl DekuReader<()> for BytesAfter {
+    ghost no_read_ahead = { ⟦<BytesAfterParts as DekuReader<()>>⟧.no_read_ahead };
+
+    ghost meaning = { λ c. Then (⟦<BytesAfterParts as DekuReader<()>>⟧.meaning c)
+        (Shows ⟦<BytesAfter as FromParts>⟧.parts_of) };
+
+    #[inline(always)]
+    fn from_reader_with_ctx<R: Source>(reader: &mut Reader<R>, ctx: ()) -> Result<Self, DekuError> {
+        read_record(reader, ctx)
+    }
+}
+
+impl DekuWriter<()> for BytesAfter {
+    ghost meaning = { λ v. ⟦<BytesAfterParts as DekuWriter<()>>⟧.meaning
+        (⟦<BytesAfter as FromParts>⟧.parts_of v) };
+
+    #[inline(always)]
+    fn to_writer<W: Sink>(&self, writer: &mut Writer<W>, ctx: ()) -> Result<(), DekuError> {
+        write_record(self, writer, ctx)
+    }
+}
+
+impl Record<()> for BytesAfter {
+    ghost reads = { λ c b s r u m. m };
+
+    ghost writes = { λ c v b s r u m. m };
+}
+
+impl DekuContainerRead for BytesAfter {}
+
+impl DekuContainerWrite for BytesAfter {}
 
 /// Bits after a field.
 #[derive(Debug, Clone, Copy, PartialEq, Eq)]
@@ -664,8 +1125,11 @@ impl BitsAfter {
     pub const FIELDS: [&'static str; 3] = ["first", "padding", "second"];
 }
 
-impl Codec for BitsAfter {
-    type Parts = (MsbLe<u8, 2>, Magic<Msb<u64, 2>, Zeros>, MsbLe<u8, 4>);
+// The parts of BitsAfter, in their order.
+type BitsAfterParts = (MsbLe<u8, 2>, Magic<Msb<u64, 2>, Zeros>, MsbLe<u8, 4>);
+
+impl FromParts for BitsAfter {
+    type Parts = BitsAfterParts;
 
     ghost parts_of = { λ r. (
       msb_le r.first,
@@ -682,8 +1146,40 @@ impl Codec for BitsAfter {
     ghost there = { λ r. refl };
 }
 
-impl CopyParts for BitsAfter {
+impl ToParts for BitsAfter {
     fn parts(&self) -> Self::Parts {
         (MsbLe(self.first), Magic::new(), MsbLe(self.second))
     }
 }
+
+impl DekuReader<()> for BitsAfter {
+    ghost no_read_ahead = { ⟦<BitsAfterParts as DekuReader<()>>⟧.no_read_ahead };
+
+    ghost meaning = { λ c. Then (⟦<BitsAfterParts as DekuReader<()>>⟧.meaning c)
+        (Shows ⟦<BitsAfter as FromParts>⟧.parts_of) };
+
+    #[inline(always)]
+    fn from_reader_with_ctx<R: Source>(reader: &mut Reader<R>, ctx: ()) -> Result<Self, DekuError> {
+        read_record(reader, ctx)
+    }
+}
+
+impl DekuWriter<()> for BitsAfter {
+    ghost meaning = { λ v. ⟦<BitsAfterParts as DekuWriter<()>>⟧.meaning
+        (⟦<BitsAfter as FromParts>⟧.parts_of v) };
+
+    #[inline(always)]
+    fn to_writer<W: Sink>(&self, writer: &mut Writer<W>, ctx: ()) -> Result<(), DekuError> {
+        write_record(self, writer, ctx)
+    }
+}
+
+impl Record<()> for BitsAfter {
+    ghost reads = { λ c b s r u m. m };
+
+    ghost writes = { λ c v b s r u m. m };
+}
+
+impl DekuContainerRead for BitsAfter {}
+
+impl DekuContainerWrite for BitsAfter {}

@@ -3,10 +3,16 @@
 //! Printed by `derive --c` from `can.rs`.
 
 ghost use Rattle.std.specs.Prelude.{refl};
+ghost use Rattle.deku.specs.Composing.{Then};
+ghost use Rattle.deku.specs.Shapes.{Shows};
 ghost use Rattle.deku_symmetry.specs.Fields.{lsb, lsb_be};
 
+use deku::device::{Sink, Source};
+use deku::prelude::{
+    DekuContainerRead, DekuContainerWrite, DekuError, DekuReader, DekuWriter, Reader, Writer,
+};
 use deku_c_records::ForC;
-use deku_symmetry::{Codec, CopyParts, Lsb, LsbBe};
+use deku_symmetry::{FromParts, Lsb, LsbBe, Record, ToParts, read_record, write_record};
 use std::alloc::Global;
 
 /// The record `Chassis`.
@@ -32,15 +38,18 @@ impl Chassis {
     pub const FIELDS: [&'static str; 6] = ["wheel", "gear", "torque", "flags", "padding", "yaw"];
 }
 
-impl Codec for Chassis {
-    type Parts = (
-        Lsb<i16, 12>,
-        Lsb<u8, 4>,
-        LsbBe<i16, 16>,
-        Lsb<u8, 3>,
-        Lsb<u8, 5>,
-        LsbBe<i32, 24>,
-    );
+// The parts of Chassis, in their order.
+type ChassisParts = (
+    Lsb<i16, 12>,
+    Lsb<u8, 4>,
+    LsbBe<i16, 16>,
+    Lsb<u8, 3>,
+    Lsb<u8, 5>,
+    LsbBe<i32, 24>,
+);
+
+impl FromParts for Chassis {
+    type Parts = ChassisParts;
 
     ghost parts_of = { λ r. (
       lsb r.wheel,
@@ -75,7 +84,7 @@ impl Codec for Chassis {
     ghost there = { λ r. refl };
 }
 
-impl CopyParts for Chassis {
+impl ToParts for Chassis {
     fn parts(&self) -> Self::Parts {
         (
             Lsb(self.wheel),
@@ -87,6 +96,38 @@ impl CopyParts for Chassis {
         )
     }
 }
+
+impl DekuReader<()> for Chassis {
+    ghost no_read_ahead = { ⟦<ChassisParts as DekuReader<()>>⟧.no_read_ahead };
+
+    ghost meaning = { λ c. Then (⟦<ChassisParts as DekuReader<()>>⟧.meaning c)
+        (Shows ⟦<Chassis as FromParts>⟧.parts_of) };
+
+    #[inline(always)]
+    fn from_reader_with_ctx<R: Source>(reader: &mut Reader<R>, ctx: ()) -> Result<Self, DekuError> {
+        read_record(reader, ctx)
+    }
+}
+
+impl DekuWriter<()> for Chassis {
+    ghost meaning = { λ v. ⟦<ChassisParts as DekuWriter<()>>⟧.meaning
+        (⟦<Chassis as FromParts>⟧.parts_of v) };
+
+    #[inline(always)]
+    fn to_writer<W: Sink>(&self, writer: &mut Writer<W>, ctx: ()) -> Result<(), DekuError> {
+        write_record(self, writer, ctx)
+    }
+}
+
+impl Record<()> for Chassis {
+    ghost reads = { λ c b s r u m. m };
+
+    ghost writes = { λ c v b s r u m. m };
+}
+
+impl DekuContainerRead for Chassis {}
+
+impl DekuContainerWrite for Chassis {}
 
 /// Reads the record from the first byte on. Returns 0, or the number of the error; the record then
 /// stays as it was.

@@ -3,10 +3,16 @@
 //! Printed by `derive --c` from `ccsds.rs`.
 
 ghost use Rattle.std.specs.Prelude.{refl};
+ghost use Rattle.deku.specs.Composing.{Then};
+ghost use Rattle.deku.specs.Shapes.{Shows};
 ghost use Rattle.deku_symmetry.specs.Fields.{be, msb};
 
+use deku::device::{Sink, Source};
+use deku::prelude::{
+    DekuContainerRead, DekuContainerWrite, DekuError, DekuReader, DekuWriter, Reader, Writer,
+};
 use deku_c_records::ForC;
-use deku_symmetry::{Be, Codec, CopyParts, Msb};
+use deku_symmetry::{Be, FromParts, Msb, Record, ToParts, read_record, write_record};
 use std::alloc::Global;
 
 /// The record `SpacePacket`.
@@ -42,16 +48,19 @@ impl SpacePacket {
     ];
 }
 
-impl Codec for SpacePacket {
-    type Parts = (
-        Msb<u8, 3>,
-        Msb<u8, 1>,
-        Msb<u8, 1>,
-        Msb<u16, 11>,
-        Msb<u8, 2>,
-        Msb<u16, 14>,
-        Be<u16>,
-    );
+// The parts of SpacePacket, in their order.
+type SpacePacketParts = (
+    Msb<u8, 3>,
+    Msb<u8, 1>,
+    Msb<u8, 1>,
+    Msb<u16, 11>,
+    Msb<u8, 2>,
+    Msb<u16, 14>,
+    Be<u16>,
+);
+
+impl FromParts for SpacePacket {
+    type Parts = SpacePacketParts;
 
     ghost parts_of = { λ r. (
       msb r.version,
@@ -97,7 +106,7 @@ impl Codec for SpacePacket {
     ghost there = { λ r. refl };
 }
 
-impl CopyParts for SpacePacket {
+impl ToParts for SpacePacket {
     fn parts(&self) -> Self::Parts {
         (
             Msb(self.version),
@@ -110,6 +119,38 @@ impl CopyParts for SpacePacket {
         )
     }
 }
+
+impl DekuReader<()> for SpacePacket {
+    ghost no_read_ahead = { ⟦<SpacePacketParts as DekuReader<()>>⟧.no_read_ahead };
+
+    ghost meaning = { λ c. Then (⟦<SpacePacketParts as DekuReader<()>>⟧.meaning c)
+        (Shows ⟦<SpacePacket as FromParts>⟧.parts_of) };
+
+    #[inline(always)]
+    fn from_reader_with_ctx<R: Source>(reader: &mut Reader<R>, ctx: ()) -> Result<Self, DekuError> {
+        read_record(reader, ctx)
+    }
+}
+
+impl DekuWriter<()> for SpacePacket {
+    ghost meaning = { λ v. ⟦<SpacePacketParts as DekuWriter<()>>⟧.meaning
+        (⟦<SpacePacket as FromParts>⟧.parts_of v) };
+
+    #[inline(always)]
+    fn to_writer<W: Sink>(&self, writer: &mut Writer<W>, ctx: ()) -> Result<(), DekuError> {
+        write_record(self, writer, ctx)
+    }
+}
+
+impl Record<()> for SpacePacket {
+    ghost reads = { λ c b s r u m. m };
+
+    ghost writes = { λ c v b s r u m. m };
+}
+
+impl DekuContainerRead for SpacePacket {}
+
+impl DekuContainerWrite for SpacePacket {}
 
 /// A sample of telemetry.
 #[repr(C)]
@@ -124,8 +165,11 @@ impl TelemetrySample {
     pub const FIELDS: [&'static str; 2] = ["voltage", "current"];
 }
 
-impl Codec for TelemetrySample {
-    type Parts = (Msb<u16, 10>, Msb<u16, 12>);
+// The parts of TelemetrySample, in their order.
+type TelemetrySampleParts = (Msb<u16, 10>, Msb<u16, 12>);
+
+impl FromParts for TelemetrySample {
+    type Parts = TelemetrySampleParts;
 
     ghost parts_of = { λ r. (msb r.voltage, msb r.current) };
 
@@ -138,11 +182,43 @@ impl Codec for TelemetrySample {
     ghost there = { λ r. refl };
 }
 
-impl CopyParts for TelemetrySample {
+impl ToParts for TelemetrySample {
     fn parts(&self) -> Self::Parts {
         (Msb(self.voltage), Msb(self.current))
     }
 }
+
+impl DekuReader<()> for TelemetrySample {
+    ghost no_read_ahead = { ⟦<TelemetrySampleParts as DekuReader<()>>⟧.no_read_ahead };
+
+    ghost meaning = { λ c. Then (⟦<TelemetrySampleParts as DekuReader<()>>⟧.meaning c)
+        (Shows ⟦<TelemetrySample as FromParts>⟧.parts_of) };
+
+    #[inline(always)]
+    fn from_reader_with_ctx<R: Source>(reader: &mut Reader<R>, ctx: ()) -> Result<Self, DekuError> {
+        read_record(reader, ctx)
+    }
+}
+
+impl DekuWriter<()> for TelemetrySample {
+    ghost meaning = { λ v. ⟦<TelemetrySampleParts as DekuWriter<()>>⟧.meaning
+        (⟦<TelemetrySample as FromParts>⟧.parts_of v) };
+
+    #[inline(always)]
+    fn to_writer<W: Sink>(&self, writer: &mut Writer<W>, ctx: ()) -> Result<(), DekuError> {
+        write_record(self, writer, ctx)
+    }
+}
+
+impl Record<()> for TelemetrySample {
+    ghost reads = { λ c b s r u m. m };
+
+    ghost writes = { λ c v b s r u m. m };
+}
+
+impl DekuContainerRead for TelemetrySample {}
+
+impl DekuContainerWrite for TelemetrySample {}
 
 /// Reads the record from the first byte on. Returns 0, or the number of the error; the record then
 /// stays as it was.

@@ -3,10 +3,16 @@
 //! Printed by `derive --c` from `dns.rs`.
 
 ghost use Rattle.std.specs.Prelude.{refl};
+ghost use Rattle.deku.specs.Composing.{Then};
+ghost use Rattle.deku.specs.Shapes.{Shows};
 ghost use Rattle.deku_symmetry.specs.Fields.{be, msb};
 
+use deku::device::{Sink, Source};
+use deku::prelude::{
+    DekuContainerRead, DekuContainerWrite, DekuError, DekuReader, DekuWriter, Reader, Writer,
+};
 use deku_c_records::ForC;
-use deku_symmetry::{Be, Codec, CopyParts, Msb};
+use deku_symmetry::{Be, FromParts, Msb, Record, ToParts, read_record, write_record};
 use std::alloc::Global;
 
 /// The record `DnsHeader`.
@@ -60,20 +66,23 @@ impl DnsHeader {
     ];
 }
 
-impl Codec for DnsHeader {
-    type Parts = (
-        (
-            Be<u16>,
-            Msb<u8, 1>,
-            Msb<u8, 4>,
-            Msb<u8, 1>,
-            Msb<u8, 1>,
-            Msb<u8, 1>,
-            Msb<u8, 1>,
-            Msb<u8, 3>,
-        ),
-        (Msb<u8, 4>, Be<u16>, Be<u16>, Be<u16>, Be<u16>),
-    );
+// The parts of DnsHeader, in their order.
+type DnsHeaderParts = (
+    (
+        Be<u16>,
+        Msb<u8, 1>,
+        Msb<u8, 4>,
+        Msb<u8, 1>,
+        Msb<u8, 1>,
+        Msb<u8, 1>,
+        Msb<u8, 1>,
+        Msb<u8, 3>,
+    ),
+    (Msb<u8, 4>, Be<u16>, Be<u16>, Be<u16>, Be<u16>),
+);
+
+impl FromParts for DnsHeader {
+    type Parts = DnsHeaderParts;
 
     ghost parts_of = { λ r. (
       (
@@ -139,7 +148,7 @@ impl Codec for DnsHeader {
     ghost there = { λ r. refl };
 }
 
-impl CopyParts for DnsHeader {
+impl ToParts for DnsHeader {
     fn parts(&self) -> Self::Parts {
         (
             (
@@ -162,6 +171,38 @@ impl CopyParts for DnsHeader {
         )
     }
 }
+
+impl DekuReader<()> for DnsHeader {
+    ghost no_read_ahead = { ⟦<DnsHeaderParts as DekuReader<()>>⟧.no_read_ahead };
+
+    ghost meaning = { λ c. Then (⟦<DnsHeaderParts as DekuReader<()>>⟧.meaning c)
+        (Shows ⟦<DnsHeader as FromParts>⟧.parts_of) };
+
+    #[inline(always)]
+    fn from_reader_with_ctx<R: Source>(reader: &mut Reader<R>, ctx: ()) -> Result<Self, DekuError> {
+        read_record(reader, ctx)
+    }
+}
+
+impl DekuWriter<()> for DnsHeader {
+    ghost meaning = { λ v. ⟦<DnsHeaderParts as DekuWriter<()>>⟧.meaning
+        (⟦<DnsHeader as FromParts>⟧.parts_of v) };
+
+    #[inline(always)]
+    fn to_writer<W: Sink>(&self, writer: &mut Writer<W>, ctx: ()) -> Result<(), DekuError> {
+        write_record(self, writer, ctx)
+    }
+}
+
+impl Record<()> for DnsHeader {
+    ghost reads = { λ c b s r u m. m };
+
+    ghost writes = { λ c v b s r u m. m };
+}
+
+impl DekuContainerRead for DnsHeader {}
+
+impl DekuContainerWrite for DnsHeader {}
 
 /// Reads the record from the first byte on. Returns 0, or the number of the error; the record then
 /// stays as it was.

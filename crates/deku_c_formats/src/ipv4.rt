@@ -3,10 +3,18 @@
 //! Printed by `derive --c` from `ipv4.rs`.
 
 ghost use Rattle.std.specs.Prelude.{nat_eq, codes, refl};
+ghost use Rattle.deku.specs.Composing.{Then};
+ghost use Rattle.deku.specs.Shapes.{Shows};
 ghost use Rattle.deku_symmetry.specs.Fields.{be, msb};
 
+use deku::device::{Sink, Source};
+use deku::prelude::{
+    DekuContainerRead, DekuContainerWrite, DekuError, DekuReader, DekuWriter, Reader, Writer,
+};
 use deku_c_records::ForC;
-use deku_symmetry::{Assert, Be, Check, CheckLaw, Codec, CopyParts, Msb};
+use deku_symmetry::{
+    Assert, Be, Check, CheckLaw, FromParts, Msb, Record, ToParts, read_record, write_record,
+};
 use std::alloc::Global;
 
 /// The record `Ipv4`.
@@ -83,20 +91,23 @@ impl Ipv4 {
     ];
 }
 
-impl Codec for Ipv4 {
-    type Parts = (
-        (
-            Assert<Msb<u8, 4>, Ipv4VersionValue>,
-            Msb<u8, 4>,
-            Msb<u8, 6>,
-            Msb<u8, 2>,
-            Be<u16>,
-            Be<u16>,
-            Msb<u8, 3>,
-            Msb<u16, 13>,
-        ),
-        (u8, u8, Be<u16>, Be<u32>, Be<u32>),
-    );
+// The parts of Ipv4, in their order.
+type Ipv4Parts = (
+    (
+        Assert<Msb<u8, 4>, Ipv4VersionValue>,
+        Msb<u8, 4>,
+        Msb<u8, 6>,
+        Msb<u8, 2>,
+        Be<u16>,
+        Be<u16>,
+        Msb<u8, 3>,
+        Msb<u16, 13>,
+    ),
+    (u8, u8, Be<u16>, Be<u32>, Be<u32>),
+);
+
+impl FromParts for Ipv4 {
+    type Parts = Ipv4Parts;
 
     ghost parts_of = { λ r. (
       (
@@ -165,7 +176,7 @@ impl Codec for Ipv4 {
     ghost there = { λ r. refl };
 }
 
-impl CopyParts for Ipv4 {
+impl ToParts for Ipv4 {
     fn parts(&self) -> Self::Parts {
         (
             (
@@ -188,6 +199,38 @@ impl CopyParts for Ipv4 {
         )
     }
 }
+
+impl DekuReader<()> for Ipv4 {
+    ghost no_read_ahead = { ⟦<Ipv4Parts as DekuReader<()>>⟧.no_read_ahead };
+
+    ghost meaning = { λ c. Then (⟦<Ipv4Parts as DekuReader<()>>⟧.meaning c)
+        (Shows ⟦<Ipv4 as FromParts>⟧.parts_of) };
+
+    #[inline(always)]
+    fn from_reader_with_ctx<R: Source>(reader: &mut Reader<R>, ctx: ()) -> Result<Self, DekuError> {
+        read_record(reader, ctx)
+    }
+}
+
+impl DekuWriter<()> for Ipv4 {
+    ghost meaning = { λ v. ⟦<Ipv4Parts as DekuWriter<()>>⟧.meaning
+        (⟦<Ipv4 as FromParts>⟧.parts_of v) };
+
+    #[inline(always)]
+    fn to_writer<W: Sink>(&self, writer: &mut Writer<W>, ctx: ()) -> Result<(), DekuError> {
+        write_record(self, writer, ctx)
+    }
+}
+
+impl Record<()> for Ipv4 {
+    ghost reads = { λ c b s r u m. m };
+
+    ghost writes = { λ c v b s r u m. m };
+}
+
+impl DekuContainerRead for Ipv4 {}
+
+impl DekuContainerWrite for Ipv4 {}
 
 /// Reads the record from the first byte on. Returns 0, or the number of the error; the record then
 /// stays as it was.

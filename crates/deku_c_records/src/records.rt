@@ -1,16 +1,15 @@
 //! Records over the caller's memory.
 
 ghost use Rattle.std.specs.Prelude.{ℕ, List};
-ghost use Rattle.deku_symmetry.specs.Fields.{coded};
 ghost use Rattle.deku_c_records.specs.Exported.{ReadsFor, WritesFor};
 
 use crate::status::{OK, status_of};
 use deku::{DekuContainerWrite, DekuReader, DekuWriter};
-use deku_symmetry::{Codec, Coded, Symmetric, WriteParts};
+use deku_symmetry::Symmetric;
 use std::alloc::Global;
 
-/// A record that C reads and writes: each that is copied and whose parts are symmetric.
-pub trait ForC: Codec + Copy {
+/// A record that C reads and writes: each that is copied and symmetric.
+pub trait ForC: DekuReader<()> + DekuWriter<()> + Copy {
     // What a read from bytes does: the number that it returns, and the record in its place before
     // and after.
     ghost reads_for_c: { List ℕ → ℕ → Self → Self → Type 0 };
@@ -22,7 +21,7 @@ pub trait ForC: Codec + Copy {
     /// Reads a record from the first byte on, as `unpack` does, and puts it into its place. Returns
     /// `OK`; or the number of the error, and then the place stays as it was.
     ///
-    /// The caller's condition: the parts may be read.
+    /// The caller's condition: the record may be read.
     ///
     /// ```text
     /// Sample::read_for_c(alloc, &[0x69, 0xC0, 0xFE], &mut sample)    // 0, and the sample
@@ -30,39 +29,33 @@ pub trait ForC: Codec + Copy {
     fn read_for_c(alloc: Global, bytes: &[u8], place: &mut Self) -> u32
     where
         Self: Sized,
-        requires { Self.Parts.DekuReader.accepts tt }
+        requires { Self.DekuReader.accepts tt }
         ensures { reads_for_c bytes.now result place.old place.new };
 
     /// Writes a record to the start of the bytes, as `to_slice` does: the last byte is filled with
     /// zeros, and the bytes after it stay. Returns `OK`, or the number of the error.
     ///
-    /// The caller's condition: the parts may be written.
+    /// The caller's condition: the record may be written.
     ///
     /// ```text
     /// sample.write_for_c(&mut bytes)                                 // 0, and 69 C0 FE in front
     /// ```
     fn write_for_c(&self, bytes: &mut [u8]) -> u32
-        requires { Self.Parts.DekuWriter.accepts tt }
+        requires { Self.DekuWriter.accepts tt }
         ensures { writes_for_c self.now bytes.old result bytes.new };
 }
 
 /// It is read as `unpack` reads it, and written as `to_slice` writes it.
-impl<E: WriteParts + Copy> ForC for E
-where
-    E::Parts: Symmetric<()>,
-{
-    ghost reads_for_c = { λ bytes status old new. ReadsFor
-        (⟦<Coded<E> as DekuReader<()>>⟧.meaning tt)
-        (λ v. ⟦<Coded<E> as Symmetric<()>>⟧.pieces v tt)
-        ⟦<Coded<E> as Symmetric<()>>⟧.same bytes status (coded old) (coded new) };
+impl<E: Symmetric<()> + DekuContainerWrite + Copy> ForC for E {
+    ghost reads_for_c = { λ bytes status old new. ReadsFor (E.DekuReader.meaning tt)
+        (λ v. E.Symmetric.pieces v tt) E.Symmetric.same bytes status old new };
 
-    ghost writes_for_c = { λ v old status new. WritesFor
-        (⟦<Coded<E> as DekuWriter<()>>⟧.meaning (coded v) tt)
-        (⟦<Coded<E> as Symmetric<()>>⟧.pieces (coded v) tt) old status new };
+    ghost writes_for_c = { λ v old status new. WritesFor (E.DekuWriter.meaning v tt)
+        (E.Symmetric.pieces v tt) old status new };
 
     fn read_for_c(alloc: Global, bytes: &[u8], place: &mut E) -> u32 {
-        match Coded::<E>::unpack(alloc, bytes, ()) {
-            Ok((_bits, Coded(value))) => {
+        match E::unpack(alloc, bytes, ()) {
+            Ok((_bits, value)) => {
                 *place = value;
                 OK
             }
@@ -71,7 +64,7 @@ where
     }
 
     fn write_for_c(&self, bytes: &mut [u8]) -> u32 {
-        match Coded(*self).to_slice(bytes) {
+        match self.to_slice(bytes) {
             Ok(_count) => OK,
             Err(error) => status_of(error),
         }

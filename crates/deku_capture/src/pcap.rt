@@ -22,11 +22,19 @@
 //! Printed by `derive` from `pcap.rs`.
 
 ghost use Rattle.std.specs.Prelude.{refl};
+ghost use Rattle.deku.specs.Composing.{Then};
+ghost use Rattle.deku.specs.Shapes.{Shows};
 ghost use Rattle.deku_symmetry.specs.Fields.{be, le};
 ghost use Rattle.deku_pieces.specs.declared.either.Either.TheVariants as either;
 ghost use Rattle.deku_capture.specs.declared.pcap.Start.TheVariants as start_kinds;
 
-use deku_symmetry::{Be, Codec, CopyParts, Either, Enum, Kind, Le, MsbEnum};
+use deku::device::{Sink, Source};
+use deku::prelude::{
+    DekuContainerRead, DekuContainerWrite, DekuError, DekuReader, DekuWriter, Reader, Writer,
+};
+use deku_symmetry::{
+    Be, Either, Enum, FromParts, Kind, Le, MsbEnum, Record, ToParts, read_record, write_record,
+};
 
 /// The magic number, with which a file starts.
 #[derive(Debug, Clone, Copy, PartialEq, Eq)]
@@ -41,14 +49,17 @@ pub enum Start {
     LittleNano,
 }
 
-impl Codec for Start {
-    type Parts = MsbEnum<
-        Either<
-            Either<Kind<(), 2712847316>, Kind<(), 2712812621>>,
-            Either<Kind<(), 3569595041>, Kind<(), 1295823521>>,
-        >,
-        32,
-    >;
+// The parts of Start, in their order.
+type StartParts = MsbEnum<
+    Either<
+        Either<Kind<(), 2712847316>, Kind<(), 2712812621>>,
+        Either<Kind<(), 3569595041>, Kind<(), 1295823521>>,
+    >,
+    32,
+>;
+
+impl FromParts for Start {
+    type Parts = StartParts;
 
     ghost parts_of = { elim [
       | start_kinds.Big ↦ record {
@@ -97,7 +108,7 @@ impl Codec for Start {
     ] };
 }
 
-impl CopyParts for Start {
+impl ToParts for Start {
     fn parts(&self) -> Self::Parts {
         match self {
             Start::Big => Enum::new(Either::This(Either::This(Kind(())))),
@@ -107,6 +118,38 @@ impl CopyParts for Start {
         }
     }
 }
+
+impl DekuReader<()> for Start {
+    ghost no_read_ahead = { ⟦<StartParts as DekuReader<()>>⟧.no_read_ahead };
+
+    ghost meaning = { λ c. Then (⟦<StartParts as DekuReader<()>>⟧.meaning c)
+        (Shows ⟦<Start as FromParts>⟧.parts_of) };
+
+    #[inline(always)]
+    fn from_reader_with_ctx<R: Source>(reader: &mut Reader<R>, ctx: ()) -> Result<Self, DekuError> {
+        read_record(reader, ctx)
+    }
+}
+
+impl DekuWriter<()> for Start {
+    ghost meaning = { λ v. ⟦<StartParts as DekuWriter<()>>⟧.meaning
+        (⟦<Start as FromParts>⟧.parts_of v) };
+
+    #[inline(always)]
+    fn to_writer<W: Sink>(&self, writer: &mut Writer<W>, ctx: ()) -> Result<(), DekuError> {
+        write_record(self, writer, ctx)
+    }
+}
+
+impl Record<()> for Start {
+    ghost reads = { λ c b s r u m. m };
+
+    ghost writes = { λ c v b s r u m. m };
+}
+
+impl DekuContainerRead for Start {}
+
+impl DekuContainerWrite for Start {}
 
 /// The header of a file after its magic number, high bytes first.
 #[derive(Debug, Clone, Copy, PartialEq, Eq)]
@@ -132,8 +175,11 @@ impl BigFields {
     ];
 }
 
-impl Codec for BigFields {
-    type Parts = (Be<u16>, Be<u16>, Be<i32>, Be<u32>, Be<u32>, Be<u32>);
+// The parts of BigFields, in their order.
+type BigFieldsParts = (Be<u16>, Be<u16>, Be<i32>, Be<u32>, Be<u32>, Be<u32>);
+
+impl FromParts for BigFields {
+    type Parts = BigFieldsParts;
 
     ghost parts_of = { λ r. (
       be r.major,
@@ -168,7 +214,7 @@ impl Codec for BigFields {
     ghost there = { λ r. refl };
 }
 
-impl CopyParts for BigFields {
+impl ToParts for BigFields {
     fn parts(&self) -> Self::Parts {
         (
             Be(self.major),
@@ -180,6 +226,38 @@ impl CopyParts for BigFields {
         )
     }
 }
+
+impl DekuReader<()> for BigFields {
+    ghost no_read_ahead = { ⟦<BigFieldsParts as DekuReader<()>>⟧.no_read_ahead };
+
+    ghost meaning = { λ c. Then (⟦<BigFieldsParts as DekuReader<()>>⟧.meaning c)
+        (Shows ⟦<BigFields as FromParts>⟧.parts_of) };
+
+    #[inline(always)]
+    fn from_reader_with_ctx<R: Source>(reader: &mut Reader<R>, ctx: ()) -> Result<Self, DekuError> {
+        read_record(reader, ctx)
+    }
+}
+
+impl DekuWriter<()> for BigFields {
+    ghost meaning = { λ v. ⟦<BigFieldsParts as DekuWriter<()>>⟧.meaning
+        (⟦<BigFields as FromParts>⟧.parts_of v) };
+
+    #[inline(always)]
+    fn to_writer<W: Sink>(&self, writer: &mut Writer<W>, ctx: ()) -> Result<(), DekuError> {
+        write_record(self, writer, ctx)
+    }
+}
+
+impl Record<()> for BigFields {
+    ghost reads = { λ c b s r u m. m };
+
+    ghost writes = { λ c v b s r u m. m };
+}
+
+impl DekuContainerRead for BigFields {}
+
+impl DekuContainerWrite for BigFields {}
 
 /// The header of a file after its magic number, low bytes first.
 #[derive(Debug, Clone, Copy, PartialEq, Eq)]
@@ -205,8 +283,11 @@ impl LittleFields {
     ];
 }
 
-impl Codec for LittleFields {
-    type Parts = (Le<u16>, Le<u16>, Le<i32>, Le<u32>, Le<u32>, Le<u32>);
+// The parts of LittleFields, in their order.
+type LittleFieldsParts = (Le<u16>, Le<u16>, Le<i32>, Le<u32>, Le<u32>, Le<u32>);
+
+impl FromParts for LittleFields {
+    type Parts = LittleFieldsParts;
 
     ghost parts_of = { λ r. (
       le r.major,
@@ -241,7 +322,7 @@ impl Codec for LittleFields {
     ghost there = { λ r. refl };
 }
 
-impl CopyParts for LittleFields {
+impl ToParts for LittleFields {
     fn parts(&self) -> Self::Parts {
         (
             Le(self.major),
@@ -253,6 +334,38 @@ impl CopyParts for LittleFields {
         )
     }
 }
+
+impl DekuReader<()> for LittleFields {
+    ghost no_read_ahead = { ⟦<LittleFieldsParts as DekuReader<()>>⟧.no_read_ahead };
+
+    ghost meaning = { λ c. Then (⟦<LittleFieldsParts as DekuReader<()>>⟧.meaning c)
+        (Shows ⟦<LittleFields as FromParts>⟧.parts_of) };
+
+    #[inline(always)]
+    fn from_reader_with_ctx<R: Source>(reader: &mut Reader<R>, ctx: ()) -> Result<Self, DekuError> {
+        read_record(reader, ctx)
+    }
+}
+
+impl DekuWriter<()> for LittleFields {
+    ghost meaning = { λ v. ⟦<LittleFieldsParts as DekuWriter<()>>⟧.meaning
+        (⟦<LittleFields as FromParts>⟧.parts_of v) };
+
+    #[inline(always)]
+    fn to_writer<W: Sink>(&self, writer: &mut Writer<W>, ctx: ()) -> Result<(), DekuError> {
+        write_record(self, writer, ctx)
+    }
+}
+
+impl Record<()> for LittleFields {
+    ghost reads = { λ c b s r u m. m };
+
+    ghost writes = { λ c v b s r u m. m };
+}
+
+impl DekuContainerRead for LittleFields {}
+
+impl DekuContainerWrite for LittleFields {}
 
 /// The header of a packet, high bytes first.
 #[derive(Debug, Clone, Copy, PartialEq, Eq)]
@@ -272,8 +385,11 @@ impl BigPacket {
     pub const FIELDS: [&'static str; 4] = ["seconds", "fraction", "kept", "whole"];
 }
 
-impl Codec for BigPacket {
-    type Parts = (Be<u32>, Be<u32>, Be<u32>, Be<u32>);
+// The parts of BigPacket, in their order.
+type BigPacketParts = (Be<u32>, Be<u32>, Be<u32>, Be<u32>);
+
+impl FromParts for BigPacket {
+    type Parts = BigPacketParts;
 
     ghost parts_of = { λ r. (be r.seconds, be r.fraction, be r.kept, be r.whole) };
 
@@ -296,7 +412,7 @@ impl Codec for BigPacket {
     ghost there = { λ r. refl };
 }
 
-impl CopyParts for BigPacket {
+impl ToParts for BigPacket {
     fn parts(&self) -> Self::Parts {
         (
             Be(self.seconds),
@@ -306,6 +422,38 @@ impl CopyParts for BigPacket {
         )
     }
 }
+
+impl DekuReader<()> for BigPacket {
+    ghost no_read_ahead = { ⟦<BigPacketParts as DekuReader<()>>⟧.no_read_ahead };
+
+    ghost meaning = { λ c. Then (⟦<BigPacketParts as DekuReader<()>>⟧.meaning c)
+        (Shows ⟦<BigPacket as FromParts>⟧.parts_of) };
+
+    #[inline(always)]
+    fn from_reader_with_ctx<R: Source>(reader: &mut Reader<R>, ctx: ()) -> Result<Self, DekuError> {
+        read_record(reader, ctx)
+    }
+}
+
+impl DekuWriter<()> for BigPacket {
+    ghost meaning = { λ v. ⟦<BigPacketParts as DekuWriter<()>>⟧.meaning
+        (⟦<BigPacket as FromParts>⟧.parts_of v) };
+
+    #[inline(always)]
+    fn to_writer<W: Sink>(&self, writer: &mut Writer<W>, ctx: ()) -> Result<(), DekuError> {
+        write_record(self, writer, ctx)
+    }
+}
+
+impl Record<()> for BigPacket {
+    ghost reads = { λ c b s r u m. m };
+
+    ghost writes = { λ c v b s r u m. m };
+}
+
+impl DekuContainerRead for BigPacket {}
+
+impl DekuContainerWrite for BigPacket {}
 
 /// The header of a packet, low bytes first.
 #[derive(Debug, Clone, Copy, PartialEq, Eq)]
@@ -325,8 +473,11 @@ impl LittlePacket {
     pub const FIELDS: [&'static str; 4] = ["seconds", "fraction", "kept", "whole"];
 }
 
-impl Codec for LittlePacket {
-    type Parts = (Le<u32>, Le<u32>, Le<u32>, Le<u32>);
+// The parts of LittlePacket, in their order.
+type LittlePacketParts = (Le<u32>, Le<u32>, Le<u32>, Le<u32>);
+
+impl FromParts for LittlePacket {
+    type Parts = LittlePacketParts;
 
     ghost parts_of = { λ r. (le r.seconds, le r.fraction, le r.kept, le r.whole) };
 
@@ -349,7 +500,7 @@ impl Codec for LittlePacket {
     ghost there = { λ r. refl };
 }
 
-impl CopyParts for LittlePacket {
+impl ToParts for LittlePacket {
     fn parts(&self) -> Self::Parts {
         (
             Le(self.seconds),
@@ -359,3 +510,35 @@ impl CopyParts for LittlePacket {
         )
     }
 }
+
+impl DekuReader<()> for LittlePacket {
+    ghost no_read_ahead = { ⟦<LittlePacketParts as DekuReader<()>>⟧.no_read_ahead };
+
+    ghost meaning = { λ c. Then (⟦<LittlePacketParts as DekuReader<()>>⟧.meaning c)
+        (Shows ⟦<LittlePacket as FromParts>⟧.parts_of) };
+
+    #[inline(always)]
+    fn from_reader_with_ctx<R: Source>(reader: &mut Reader<R>, ctx: ()) -> Result<Self, DekuError> {
+        read_record(reader, ctx)
+    }
+}
+
+impl DekuWriter<()> for LittlePacket {
+    ghost meaning = { λ v. ⟦<LittlePacketParts as DekuWriter<()>>⟧.meaning
+        (⟦<LittlePacket as FromParts>⟧.parts_of v) };
+
+    #[inline(always)]
+    fn to_writer<W: Sink>(&self, writer: &mut Writer<W>, ctx: ()) -> Result<(), DekuError> {
+        write_record(self, writer, ctx)
+    }
+}
+
+impl Record<()> for LittlePacket {
+    ghost reads = { λ c b s r u m. m };
+
+    ghost writes = { λ c v b s r u m. m };
+}
+
+impl DekuContainerRead for LittlePacket {}
+
+impl DekuContainerWrite for LittlePacket {}

@@ -1,6 +1,6 @@
 //! Enums, as they are printed.
 
-use crate::structs::{derives, docs, item, term_of, value_of};
+use crate::structs::{derives, docs, item, parts_alias, term_of, traits, value_of};
 use deku_attributes::model::{Case, Endian, Id, Ids, Order, Record};
 use deku_dependents::building::field_name;
 use deku_description::syntax::Shape;
@@ -105,10 +105,9 @@ pub(crate) fn implementation(
     kinds: &[Built<'_, '_>],
 ) -> Result<(), AllocError> {
     let name = record.name.text;
-    writeln!(out, "\nimpl Codec for {name} {{")?;
-    out.push_str("    type Parts = ")?;
-    parts_kind(*out.allocator(), ids, kinds)?.print(out, 4, 1, false)?;
-    out.push_str(";\n\n    ghost parts_of = { elim [")?;
+    let kind = parts_kind(*out.allocator(), ids, kinds)?;
+    parts_alias(out, name, &kind)?;
+    out.push_str("    ghost parts_of = { elim [")?;
     for (i, kind) in kinds.iter().enumerate() {
         start(out, 6)?;
         parts_of(out, name, kind, (i, kinds.len()))?;
@@ -129,12 +128,13 @@ pub(crate) fn implementation(
         out.push_str(" ↦ refl")?;
     }
     out.push_str("\n    ] };\n}\n")?;
-    writeln!(out, "\nimpl CopyParts for {name} {{")?;
+    writeln!(out, "\nimpl ToParts for {name} {{")?;
     out.push_str("    fn parts(&self) -> Self::Parts {\n        match self {")?;
     for (i, kind) in kinds.iter().enumerate() {
         parts(out, name, kind, (i, kinds.len()))?;
     }
-    out.push_str("\n        }\n    }\n}\n")
+    out.push_str("\n        }\n    }\n}\n")?;
+    traits(out, name, "write_record(self, writer, ctx)")
 }
 
 // The type of the id and the kinds.

@@ -12,14 +12,10 @@ const PARTS: [&str; 41] = [
     "Before",
     "Check",
     "CheckLaw",
-    "Codec",
-    "Coded",
-    "CodedRef",
     "Condition",
     "ConditionLaw",
     "Constant",
     "ConstantLaw",
-    "CopyParts",
     "CountOf",
     "CountOfLaw",
     "CountedBy",
@@ -27,6 +23,7 @@ const PARTS: [&str; 41] = [
     "Either",
     "Enum",
     "FilledBy",
+    "FromParts",
     "InRange",
     "Kind",
     "Le",
@@ -42,12 +39,26 @@ const PARTS: [&str; 41] = [
     "Optional",
     "OptionalRef",
     "Otherwise",
+    "Record",
     "Rest",
     "SizeOf",
     "SizeOfLaw",
     "SizedBy",
     "Symmetric",
-    "WriteParts",
+    "ToParts",
+    "read_record",
+    "write_record",
+];
+
+// The names of deku.
+const PRELUDE: [&str; 7] = [
+    "DekuContainerRead",
+    "DekuContainerWrite",
+    "DekuError",
+    "DekuReader",
+    "DekuWriter",
+    "Reader",
+    "Writer",
 ];
 
 // Words of ghost text, with what of it is looked for.
@@ -88,6 +99,8 @@ pub(crate) fn imports(
     let words = words.as_slice().join(alloc, ", ")?;
     let words = words.as_str();
     writeln!(out, "\nghost use Rattle.std.specs.Prelude.{{{words}}};")?;
+    out.push_str("ghost use Rattle.deku.specs.Composing.{Then};\n")?;
+    out.push_str("ghost use Rattle.deku.specs.Shapes.{Shows};\n")?;
     made(out, term.as_str())?;
     kinds(out, module, path)?;
     out.push('\n')?;
@@ -97,10 +110,8 @@ pub(crate) fn imports(
         }
     }
     used(out, "deku::cstring", &["CString"], code.as_str())?;
-    if code.as_str().contains(".to_writer(") {
-        out.push_str("use deku::device::Sink;\n")?;
-        out.push_str("use deku::prelude::{DekuError, DekuWriter, Writer};\n")?;
-    }
+    used(out, "deku::device", &["Sink", "Source"], code.as_str())?;
+    used(out, "deku::prelude", &PRELUDE, code.as_str())?;
     used(out, "deku_c_records", &["ForC"], code.as_str())?;
     used(out, "deku_symmetry", &PARTS, code.as_str())?;
     used(out, "std::alloc", &["Global"], code.as_str())?;
@@ -154,19 +165,19 @@ fn kinds(out: &mut String, module: &Module<'_>, path: Option<&str>) -> Result<()
 fn parted(alloc: Global, text: &str) -> Result<(String, String), AllocError> {
     let mut term = String::new(alloc);
     let mut code = String::new(alloc);
-    let mut is_ghost = false;
+    // How many braces of ghost text are open.
+    let mut open = 0usize;
     for line in text.lines() {
         let trimmed = line.trim_start();
-        is_ghost = is_ghost || trimmed.starts_with("ghost ");
-        if is_ghost {
+        if open > 0 || trimmed.starts_with("ghost ") {
             term.push_str(line)?;
             term.push('\n')?;
+            open = open.saturating_add(line.matches('{').count());
+            open = open.saturating_sub(line.matches('}').count());
         } else if !trimmed.starts_with("//") {
             code.push_str(line)?;
             code.push('\n')?;
         }
-        let is_last = line.ends_with("};") && !line.starts_with("     ");
-        is_ghost = is_ghost && !is_last;
     }
     Ok((term, code))
 }

@@ -5,6 +5,5 @@
 mod enums;
 mod imports;
 pub mod making;
-mod names;
 pub mod printing;
 mod structs;

@@ -2,7 +2,6 @@
 
 use crate::enums::Built;
 use crate::imports::imports;
-use crate::names::Names;
 use crate::structs::docs;
 use crate::{enums, structs};
 use deku_attributes::model::{Case, Field, Form, Id, IdSource, Ids, Module, Record};
@@ -66,9 +65,8 @@ pub fn print(
         complaints: Vec::new(alloc),
         is_for_c: asked.exports.is_some(),
     };
-    let names = printer.names(module.records.as_slice())?;
     for record in &module.records {
-        printer.record(record, asked.path, &names)?;
+        printer.record(record, asked.path)?;
     }
     let Printer {
         mut out,
@@ -126,18 +124,6 @@ impl<'b, 'a> Printer<'b, 'a> {
         Ok(())
     }
 
-    // What the parts of structs are called.
-    fn names(&self, records: &[Record<'a>]) -> Result<Names<'a>, AllocError> {
-        let mut own = Vec::new(self.alloc);
-        for record in records {
-            if let Form::Struct(_, fields) = &record.form {
-                let mut builder = self.builder(record, fields.as_slice())?;
-                own.push((record.name.text, builder.whole()?.names))?;
-            }
-        }
-        Names::new(self.alloc, own)
-    }
-
     // The parts of a struct.
     fn builder(
         &self,
@@ -162,12 +148,7 @@ impl<'b, 'a> Printer<'b, 'a> {
         Ok(builder)
     }
 
-    fn record(
-        &mut self,
-        record: &Record<'a>,
-        path: Option<&str>,
-        names: &Names<'a>,
-    ) -> Result<(), AllocError> {
+    fn record(&mut self, record: &Record<'a>, path: Option<&str>) -> Result<(), AllocError> {
         self.declare(record.name)?;
         if !record.is_whole {
             return Ok(());
@@ -195,7 +176,7 @@ impl<'b, 'a> Printer<'b, 'a> {
                     "leave it out, or write `()` in its place",
                 )
             }
-            Form::Struct(_, _) => self.structure(record, names),
+            Form::Struct(_, _) => self.structure(record),
             Form::Enum(ids, cases) => self.enumeration(record, *ids, cases.as_slice(), path),
         }
     }
@@ -242,7 +223,7 @@ impl<'b, 'a> Printer<'b, 'a> {
         Ok(())
     }
 
-    fn structure(&mut self, record: &Record<'a>, names: &Names<'a>) -> Result<(), AllocError> {
+    fn structure(&mut self, record: &Record<'a>) -> Result<(), AllocError> {
         let Form::Struct(shape, fields) = &record.form else {
             return Ok(());
         };
@@ -262,7 +243,6 @@ impl<'b, 'a> Printer<'b, 'a> {
             *shape,
             fields.as_slice(),
             &mut builder,
-            names.of(record.name.text),
         )?;
         self.built(record, builder)
     }

@@ -95,34 +95,76 @@ pub(crate) fn implementation(
     shape: Shape,
     fields: &[Field<'_>],
     builder: &mut Builder<'_, '_>,
-    names: &[String],
 ) -> Result<(), AllocError> {
     let alloc = *out.allocator();
     let name = record.name.text;
     let whole = builder.whole()?;
-    named(out, name, names)?;
-    let is_copied = builder.owner == Owner::Copied;
-    writeln!(out, "\nimpl Codec for {name} {{")?;
-    out.push_str("    type Parts = ")?;
-    whole.kind.print(out, 4, 1, false)?;
-    out.push_str(";\n\n    ghost parts_of = { λ r. ")?;
+    named(out, name, whole.names.as_slice())?;
+    parts_alias(out, name, &whole.kind)?;
+    out.push_str("    ghost parts_of = { λ r. ")?;
     whole.term.print(out, 4, 3, false)?;
     out.push_str(" };\n\n    ghost record_of = { λ p. ")?;
     record_of(alloc, shape, fields, &whole)?.print(out, 4, 3, false)?;
     out.push_str(" };\n\n")?;
     from_parts(out, record, shape, fields, &whole)?;
     out.push_str("    ghost there = { λ r. refl };\n}\n")?;
-    if is_copied {
-        writeln!(out, "\nimpl CopyParts for {name} {{")?;
+    if builder.owner == Owner::Copied {
+        writeln!(out, "\nimpl ToParts for {name} {{")?;
         out.push_str("    fn parts(&self) -> Self::Parts {\n        ")?;
         whole.value.print(out, 8, 0, false)?;
-        return out.push_str("\n    }\n}\n");
+        out.push_str("\n    }\n}\n")?;
+        return traits(out, name, "write_record(self, writer, ctx)");
     }
-    writeln!(out, "\nimpl WriteParts for {name} {{")?;
-    out.push_str("    fn write<W: Sink>(&self, writer: &mut Writer<W>) -> ")?;
-    out.push_str("Result<(), DekuError> {\n        let parts = ")?;
-    whole.value.print(out, 8, 1, false)?;
-    out.push_str(";\n        parts.to_writer(writer, ())\n    }\n}\n")
+    let mut body = String::from_str(alloc, "let parts = ")?;
+    whole.value.print(&mut body, 8, 1, false)?;
+    body.push_str(";\n        parts.to_writer(writer, ctx)")?;
+    traits(out, name, body.as_str())
+}
+
+/// Appends the type of a record's parts, and what makes the record of them, up to its ghost text.
+pub(crate) fn parts_alias(out: &mut String, name: &str, kind: &Text) -> Result<(), AllocError> {
+    write!(
+        out,
+        "\n// The parts of {name}, in their order.\ntype {name}Parts = "
+    )?;
+    kind.print(out, 0, 1, false)?;
+    writeln!(out, ";\n\nimpl FromParts for {name} {{")?;
+    writeln!(out, "    type Parts = {name}Parts;\n")
+}
+
+/// Appends the traits of deku for a record that is written by this body.
+pub(crate) fn traits(out: &mut String, name: &str, body: &str) -> Result<(), AllocError> {
+    writeln!(out, "\nimpl DekuReader<()> for {name} {{")?;
+    let ahead = format!(in *out.allocator(); "⟦<{name}Parts as DekuReader<()>>⟧.no_read_ahead")?;
+    member(out, "no_read_ahead", ahead.as_str(), "")?;
+    let meaning = format!(in *out.allocator();
+        "λ c. Then (⟦<{name}Parts as DekuReader<()>>⟧.meaning c)"
+    )?;
+    let shows = format!(in *out.allocator(); "(Shows ⟦<{name} as FromParts>⟧.parts_of)")?;
+    member(out, "meaning", meaning.as_str(), shows.as_str())?;
+    out.push_str("    #[inline(always)]\n    fn from_reader_with_ctx<R: Source>(")?;
+    out.push_str("reader: &mut Reader<R>, ctx: ()) -> Result<Self, DekuError> {\n")?;
+    out.push_str("        read_record(reader, ctx)\n    }\n}\n")?;
+    writeln!(out, "\nimpl DekuWriter<()> for {name} {{")?;
+    let meaning = format!(in *out.allocator(); "λ v. ⟦<{name}Parts as DekuWriter<()>>⟧.meaning")?;
+    let parts = format!(in *out.allocator(); "(⟦<{name} as FromParts>⟧.parts_of v)")?;
+    member(out, "meaning", meaning.as_str(), parts.as_str())?;
+    out.push_str("    #[inline(always)]\n    fn to_writer<W: Sink>(&self, ")?;
+    out.push_str("writer: &mut Writer<W>, ctx: ()) -> Result<(), DekuError> {\n        ")?;
+    writeln!(out, "{body}\n    }}\n}}")?;
+    writeln!(out, "\nimpl Record<()> for {name} {{")?;
+    out.push_str("    ghost reads = { λ c b s r u m. m };\n\n")?;
+    out.push_str("    ghost writes = { λ c v b s r u m. m };\n}\n")?;
+    writeln!(out, "\nimpl DekuContainerRead for {name} {{}}")?;
+    writeln!(out, "\nimpl DekuContainerWrite for {name} {{}}")
+}
+
+// Appends a ghost member of one or two lines, and an empty line.
+fn member(out: &mut String, name: &str, one: &str, other: &str) -> Result<(), AllocError> {
+    if other.is_empty() {
+        return writeln!(out, "    ghost {name} = {{ {one} }};\n");
+    }
+    writeln!(out, "    ghost {name} = {{ {one}\n        {other} }};\n")
 }
 
 // Appends the names of a record's parts.
@@ -228,8 +270,7 @@ pub(crate) fn term_of(
         return String::from_str(alloc, parts);
     };
     let path = place.path.as_str();
-    let held = format!(in alloc; "{parts}{path}")?;
-    place.term(alloc, held.as_str())
+    format!(in alloc; "{parts}{path}")
 }
 
 /// A field, of the parts that this leads to, or of the local of its name.
@@ -239,15 +280,10 @@ pub(crate) fn value_of(
     name: &str,
     parts: Option<&str>,
 ) -> Result<String, AllocError> {
-    let Some(place) = whole.place(name) else {
-        return String::from_str(alloc, parts.unwrap_or(name));
-    };
-    let Some(parts) = parts else {
-        return place.made(alloc, name);
-    };
-    let path = place.path.as_str();
-    let held = format!(in alloc; "{parts}{path}")?;
-    place.made(alloc, held.as_str())
+    match parts {
+        Some(parts) => term_of(alloc, whole, name, parts),
+        None => String::from_str(alloc, name),
+    }
 }
 
 // The record made of its fields: of locals of their names, or of parts.

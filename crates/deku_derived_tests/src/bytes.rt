@@ -6,7 +6,7 @@ use crate::ntp::Ntp;
 use crate::shape::Shape;
 use crate::tcp::Tcp;
 use deku::prelude::{DekuError, NeedSize};
-use deku_symmetry::{Be, Coded, Symmetric, SymmetricLast};
+use deku_symmetry::{Be, Symmetric, SymmetricLast};
 use deku_testing_values::expecting::same;
 use deku_testing_values::records::{expect_packed, expect_refusal};
 use std::alloc::Global;
@@ -35,11 +35,11 @@ fn signed_numbers_and_bits(rt: HostRuntime) -> Result<(), Fail> {
         0x07, 0x08, 0x00, 0x00, 0x00, 0x00, 0x00, 0x00, 0x00, 0x00, 0x00, 0x00, 0x00, 0x00, 0x00,
         0x00, 0x00, 0xFF,
     ];
-    expect_packed(rt.alloc(), (), &Coded(value), 384, &bytes)
+    expect_packed(rt.alloc(), (), &value, 384, &bytes)
 }
 
-fn tcp(alloc: Global, words: u8, options: &[u8]) -> Result<Coded<Tcp>, Fail> {
-    Ok(Coded(Tcp {
+fn tcp(alloc: Global, words: u8, options: &[u8]) -> Result<Tcp, Fail> {
+    Ok(Tcp {
         source: 443,
         destination: 0xC93A,
         sequence: 0x0102_0304,
@@ -58,7 +58,7 @@ fn tcp(alloc: Global, words: u8, options: &[u8]) -> Result<Coded<Tcp>, Fail> {
         checksum: 0xABCD,
         urgent: 0,
         options: options.to_vec(alloc)?,
-    }))
+    })
 }
 
 #[test]
@@ -74,14 +74,14 @@ fn items_that_a_field_counts(rt: HostRuntime) -> Result<(), Fail> {
     same(&4, &tcp(alloc, 4, &options)?.pack(alloc, ()), &Err(refusal))
 }
 
-fn table(alloc: Global, size: u16) -> Result<Coded<Table>, Fail> {
-    let entries = [(2, 0x0304), (5, 0x0607)].map(|(kind, value)| Coded(Entry { kind, value }));
-    Ok(Coded(Table {
+fn table(alloc: Global, size: u16) -> Result<Table, Fail> {
+    let entries = [(2, 0x0304), (5, 0x0607)].map(|(kind, value)| Entry { kind, value });
+    Ok(Table {
         version: 1,
         size,
         entries: entries.to_vec(alloc)?,
         last: 9,
-    }))
+    })
 }
 
 #[test]
@@ -92,7 +92,7 @@ fn items_that_fill_a_size(rt: HostRuntime) -> Result<(), Fail> {
     let refusal = DekuError::Assertion("content out of step with its size");
     same(&9, &table(alloc, 9)?.pack(alloc, ()), &Err(refusal))?;
     let refusal = DekuError::Parse("head without a size");
-    expect_refusal::<Coded<Table>>(alloc, &[0x10, 0x01, 0x02], refusal, 16)
+    expect_refusal::<Table>(alloc, &[0x10, 0x01, 0x02], refusal, 16)
 }
 
 fn numbers(alloc: Global, values: &[u16]) -> Result<Vec<Be<u16>>, Fail> {
@@ -106,12 +106,12 @@ fn numbers(alloc: Global, values: &[u16]) -> Result<Vec<Be<u16>>, Fail> {
 #[test]
 fn lists_whose_counts_come_first(rt: HostRuntime) -> Result<(), Fail> {
     let alloc = rt.alloc();
-    let pair = Coded(Pair {
+    let pair = Pair {
         names: 2,
         values: 1,
         name: [0x68, 0x69].to_vec(alloc)?,
         value: numbers(alloc, &[0x0102])?,
-    });
+    };
     let bytes = [0x02, 0x01, 0x68, 0x69, 0x01, 0x02];
     expect_packed(alloc, (), &pair, 48, &bytes)
 }
@@ -119,27 +119,23 @@ fn lists_whose_counts_come_first(rt: HostRuntime) -> Result<(), Fail> {
 #[test]
 fn a_list_up_to_the_end(rt: HostRuntime) -> Result<(), Fail> {
     let alloc = rt.alloc();
-    let log = Coded(Log {
+    let log = Log {
         version: 3,
         number: 0x123,
         words: numbers(alloc, &[0x0405, 0x0607])?,
-    });
+    };
     let bytes = [0x31, 0x23, 0x04, 0x05, 0x06, 0x07];
     same(&0, &log.pack_whole(alloc)?.as_slice(), &bytes.as_slice())?;
-    let read = Coded::<Log>::unpack_whole(alloc, &bytes)?;
+    let read = Log::unpack_whole(alloc, &bytes)?;
     same(&1, &read, &(48, log))?;
     let ended = DekuError::Incomplete(NeedSize::new(16));
-    same(
-        &2,
-        &Coded::<Log>::unpack_whole(alloc, &bytes[..5]),
-        &Err(ended),
-    )
+    same(&2, &Log::unpack_whole(alloc, &bytes[..5]), &Err(ended))
 }
 
 #[test]
 fn fields_that_flags_bring(rt: HostRuntime) -> Result<(), Fail> {
     let alloc = rt.alloc();
-    let value = Coded(Gre {
+    let value = Gre {
         has_checksum: true,
         has_key: false,
         has_sequence: true,
@@ -148,33 +144,29 @@ fn fields_that_flags_bring(rt: HostRuntime) -> Result<(), Fail> {
         checksum: Some(Be(0x1234_0000)),
         key: None,
         sequence: Some(Be(7)),
-    });
+    };
     let bytes = [
         0x90, 0x00, 0x08, 0x00, 0x12, 0x34, 0x00, 0x00, 0x00, 0x00, 0x00, 0x07,
     ];
     expect_packed(alloc, (), &value, 96, &bytes)?;
     let refusal = DekuError::Assertion("padding");
-    expect_refusal::<Coded<Gre>>(alloc, &[0xC0, 0x00, 0x08, 0x00], refusal, 2)
+    expect_refusal::<Gre>(alloc, &[0xC0, 0x00, 0x08, 0x00], refusal, 2)
 }
 
 #[test]
 fn kinds_under_an_id(rt: HostRuntime) -> Result<(), Fail> {
     let alloc = rt.alloc();
-    expect_packed(alloc, (), &Coded(Shape::Circle(0x123)), 16, &[0x11, 0x23])?;
-    let rectangle = Coded(Shape::Rectangle {
+    expect_packed(alloc, (), &Shape::Circle(0x123), 16, &[0x11, 0x23])?;
+    let rectangle = Shape::Rectangle {
         flags: 5,
         width: 0x0102,
         height: 0x0304,
-    });
+    };
     expect_packed(alloc, (), &rectangle, 40, &[0x25, 0x01, 0x02, 0x03, 0x04])?;
-    expect_packed(alloc, (), &Coded(Shape::Empty(7)), 8, &[0x37])?;
-    expect_packed(alloc, (), &Coded(Shape::Unknown(9, 3)), 8, &[0x93])?;
+    expect_packed(alloc, (), &Shape::Empty(7), 8, &[0x37])?;
+    expect_packed(alloc, (), &Shape::Unknown(9, 3), 8, &[0x93])?;
     let refusal = DekuError::Assertion("kind out of step with its id");
-    same(
-        &1,
-        &Coded(Shape::Unknown(1, 3)).pack(alloc, ()),
-        &Err(refusal),
-    )?;
+    same(&1, &Shape::Unknown(1, 3).pack(alloc, ()), &Err(refusal))?;
     let ended = DekuError::Incomplete(NeedSize::new(12));
-    expect_refusal::<Coded<Shape>>(alloc, &[0x11], ended, 4)
+    expect_refusal::<Shape>(alloc, &[0x11], ended, 4)
 }

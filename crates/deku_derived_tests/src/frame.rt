@@ -3,10 +3,17 @@
 //! Printed by `derive` from `frame.rs`.
 
 ghost use Rattle.std.specs.Prelude.{◌||◌, nat_eq, nat_le, codes, refl};
+ghost use Rattle.deku.specs.Composing.{Then};
+ghost use Rattle.deku.specs.Shapes.{Shows};
 ghost use Rattle.deku_symmetry.specs.Fields.{be, msb};
 
+use deku::device::{Sink, Source};
+use deku::prelude::{
+    DekuContainerRead, DekuContainerWrite, DekuError, DekuReader, DekuWriter, Reader, Writer,
+};
 use deku_symmetry::{
-    Assert, Be, Check, CheckLaw, Codec, Constant, ConstantLaw, CopyParts, Magic, Msb,
+    Assert, Be, Check, CheckLaw, Constant, ConstantLaw, FromParts, Magic, Msb, Record, ToParts,
+    read_record, write_record,
 };
 
 /// Padding.
@@ -73,8 +80,11 @@ impl Range {
     pub const FIELDS: [&'static str; 2] = ["low", "high"];
 }
 
-impl Codec for Range {
-    type Parts = Assert<RangeHighHead, RangeHighCheck>;
+// The parts of Range, in their order.
+type RangeParts = Assert<RangeHighHead, RangeHighCheck>;
+
+impl FromParts for Range {
+    type Parts = RangeParts;
 
     ghost parts_of = { λ r. record { part = (r.low, r.high); check = record {} } };
 
@@ -91,11 +101,43 @@ impl Codec for Range {
     ghost there = { λ r. refl };
 }
 
-impl CopyParts for Range {
+impl ToParts for Range {
     fn parts(&self) -> Self::Parts {
         Assert::new((self.low, self.high))
     }
 }
+
+impl DekuReader<()> for Range {
+    ghost no_read_ahead = { ⟦<RangeParts as DekuReader<()>>⟧.no_read_ahead };
+
+    ghost meaning = { λ c. Then (⟦<RangeParts as DekuReader<()>>⟧.meaning c)
+        (Shows ⟦<Range as FromParts>⟧.parts_of) };
+
+    #[inline(always)]
+    fn from_reader_with_ctx<R: Source>(reader: &mut Reader<R>, ctx: ()) -> Result<Self, DekuError> {
+        read_record(reader, ctx)
+    }
+}
+
+impl DekuWriter<()> for Range {
+    ghost meaning = { λ v. ⟦<RangeParts as DekuWriter<()>>⟧.meaning
+        (⟦<Range as FromParts>⟧.parts_of v) };
+
+    #[inline(always)]
+    fn to_writer<W: Sink>(&self, writer: &mut Writer<W>, ctx: ()) -> Result<(), DekuError> {
+        write_record(self, writer, ctx)
+    }
+}
+
+impl Record<()> for Range {
+    ghost reads = { λ c b s r u m. m };
+
+    ghost writes = { λ c v b s r u m. m };
+}
+
+impl DekuContainerRead for Range {}
+
+impl DekuContainerWrite for Range {}
 
 /// The record `Frame`.
 #[derive(Debug, Clone, Copy, PartialEq, Eq)]
@@ -158,34 +200,30 @@ impl CheckLaw<Msb<u8, 4>> for FrameVersionCheck {
 
 impl Frame {
     /// The names of its parts, in their order.
-    pub const FIELDS: [&'static str; 8] = [
-        "magic",
-        "version",
-        "kind",
-        "range.low",
-        "range.high",
-        "pair",
-        "padding",
-        "end",
+    pub const FIELDS: [&'static str; 7] = [
+        "magic", "version", "kind", "range", "pair", "padding", "end",
     ];
 }
 
-impl Codec for Frame {
-    type Parts = (
-        Magic<u8, FrameMagic>,
-        Assert<Msb<u8, 4>, FrameVersionCheck>,
-        Msb<u8, 4>,
-        <Range as Codec>::Parts,
-        Be<(u8, u16)>,
-        Magic<Msb<u64, 6>, Zeros>,
-        Msb<u8, 2>,
-    );
+// The parts of Frame, in their order.
+type FrameParts = (
+    Magic<u8, FrameMagic>,
+    Assert<Msb<u8, 4>, FrameVersionCheck>,
+    Msb<u8, 4>,
+    Range,
+    Be<(u8, u16)>,
+    Magic<Msb<u64, 6>, Zeros>,
+    Msb<u8, 2>,
+);
+
+impl FromParts for Frame {
+    type Parts = FrameParts;
 
     ghost parts_of = { λ r. (
       record { part = record {}; constant = record {} },
       record { part = msb r.version; check = record {} },
       msb r.kind,
-      ⟦<Range as Codec>⟧.parts_of r.range,
+      r.range,
       be r.pair,
       record { part = record {}; constant = record {} },
       msb r.end,
@@ -194,7 +232,7 @@ impl Codec for Frame {
     ghost record_of = { λ p. record {
       version = p.1.part.0;
       kind = p.2.0;
-      range = ⟦<Range as Codec>⟧.record_of p.3;
+      range = p.3;
       pair = p.4.0;
       end = p.6.0;
     } };
@@ -215,7 +253,7 @@ impl Codec for Frame {
         Frame {
             version,
             kind,
-            range: <Range as Codec>::from_parts(range),
+            range,
             pair,
             end,
         }
@@ -224,16 +262,48 @@ impl Codec for Frame {
     ghost there = { λ r. refl };
 }
 
-impl CopyParts for Frame {
+impl ToParts for Frame {
     fn parts(&self) -> Self::Parts {
         (
             Magic::new(),
             Assert::new(Msb(self.version)),
             Msb(self.kind),
-            self.range.parts(),
+            self.range,
             Be(self.pair),
             Magic::new(),
             Msb(self.end),
         )
     }
 }
+
+impl DekuReader<()> for Frame {
+    ghost no_read_ahead = { ⟦<FrameParts as DekuReader<()>>⟧.no_read_ahead };
+
+    ghost meaning = { λ c. Then (⟦<FrameParts as DekuReader<()>>⟧.meaning c)
+        (Shows ⟦<Frame as FromParts>⟧.parts_of) };
+
+    #[inline(always)]
+    fn from_reader_with_ctx<R: Source>(reader: &mut Reader<R>, ctx: ()) -> Result<Self, DekuError> {
+        read_record(reader, ctx)
+    }
+}
+
+impl DekuWriter<()> for Frame {
+    ghost meaning = { λ v. ⟦<FrameParts as DekuWriter<()>>⟧.meaning
+        (⟦<Frame as FromParts>⟧.parts_of v) };
+
+    #[inline(always)]
+    fn to_writer<W: Sink>(&self, writer: &mut Writer<W>, ctx: ()) -> Result<(), DekuError> {
+        write_record(self, writer, ctx)
+    }
+}
+
+impl Record<()> for Frame {
+    ghost reads = { λ c b s r u m. m };
+
+    ghost writes = { λ c v b s r u m. m };
+}
+
+impl DekuContainerRead for Frame {}
+
+impl DekuContainerWrite for Frame {}

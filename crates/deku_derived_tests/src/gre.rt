@@ -3,13 +3,17 @@
 //! Printed by `derive` from `gre.rs`.
 
 ghost use Rattle.std.specs.Prelude.{codes, refl};
+ghost use Rattle.deku.specs.Composing.{Then};
+ghost use Rattle.deku.specs.Shapes.{Shows};
 ghost use Rattle.deku_symmetry.specs.Fields.{be, msb};
 
-use deku::device::Sink;
-use deku::prelude::{DekuError, DekuWriter, Writer};
+use deku::device::{Sink, Source};
+use deku::prelude::{
+    DekuContainerRead, DekuContainerWrite, DekuError, DekuReader, DekuWriter, Reader, Writer,
+};
 use deku_symmetry::{
-    Be, Codec, Condition, ConditionLaw, Constant, ConstantLaw, Magic, Msb, Optional, OptionalRef,
-    WriteParts,
+    Be, Condition, ConditionLaw, Constant, ConstantLaw, FromParts, Magic, Msb, Optional,
+    OptionalRef, Record, read_record,
 };
 use std::marker::PhantomData;
 
@@ -150,8 +154,11 @@ impl Gre {
     ];
 }
 
-impl Codec for Gre {
-    type Parts = Optional<GreSequenceHead, GreSequenceCondition, Be<u32>>;
+// The parts of Gre, in their order.
+type GreParts = Optional<GreSequenceHead, GreSequenceCondition, Be<u32>>;
+
+impl FromParts for Gre {
+    type Parts = GreParts;
 
     ghost parts_of = { λ r. record {
       head = record {
@@ -223,8 +230,24 @@ impl Codec for Gre {
     ghost there = { λ r. refl };
 }
 
-impl WriteParts for Gre {
-    fn write<W: Sink>(&self, writer: &mut Writer<W>) -> Result<(), DekuError> {
+impl DekuReader<()> for Gre {
+    ghost no_read_ahead = { ⟦<GreParts as DekuReader<()>>⟧.no_read_ahead };
+
+    ghost meaning = { λ c. Then (⟦<GreParts as DekuReader<()>>⟧.meaning c)
+        (Shows ⟦<Gre as FromParts>⟧.parts_of) };
+
+    #[inline(always)]
+    fn from_reader_with_ctx<R: Source>(reader: &mut Reader<R>, ctx: ()) -> Result<Self, DekuError> {
+        read_record(reader, ctx)
+    }
+}
+
+impl DekuWriter<()> for Gre {
+    ghost meaning = { λ v. ⟦<GreParts as DekuWriter<()>>⟧.meaning
+        (⟦<Gre as FromParts>⟧.parts_of v) };
+
+    #[inline(always)]
+    fn to_writer<W: Sink>(&self, writer: &mut Writer<W>, ctx: ()) -> Result<(), DekuError> {
         let parts = OptionalRef::<_, GreSequenceCondition, _> {
             head: OptionalRef::<_, GreKeyCondition, _> {
                 head: OptionalRef::<_, GreChecksumCondition, _> {
@@ -252,6 +275,16 @@ impl WriteParts for Gre {
             item: &self.sequence,
             condition: PhantomData,
         };
-        parts.to_writer(writer, ())
+        parts.to_writer(writer, ctx)
     }
 }
+
+impl Record<()> for Gre {
+    ghost reads = { λ c b s r u m. m };
+
+    ghost writes = { λ c v b s r u m. m };
+}
+
+impl DekuContainerRead for Gre {}
+
+impl DekuContainerWrite for Gre {}

@@ -3,13 +3,17 @@
 //! Printed by `derive` from `lists.rs`.
 
 ghost use Rattle.std.specs.Prelude.{◌-◌, ◌*◌, nat_lt, None, Some, if◌then◌else◌, refl};
+ghost use Rattle.deku.specs.Composing.{Then};
+ghost use Rattle.deku.specs.Shapes.{Shows};
 ghost use Rattle.deku_symmetry.specs.Fields.{be, msb};
 
-use deku::device::Sink;
-use deku::prelude::{DekuError, DekuWriter, Writer};
+use deku::device::{Sink, Source};
+use deku::prelude::{
+    DekuContainerRead, DekuContainerWrite, DekuError, DekuReader, DekuWriter, Reader, Writer,
+};
 use deku_symmetry::{
-    Be, Before, Codec, Coded, CopyParts, CountOf, CountOfLaw, CountedBy, CountedByRef, FilledBy,
-    Msb, Rest, SizeOf, SizeOfLaw, SizedBy, WriteParts,
+    Be, Before, CountOf, CountOfLaw, CountedBy, CountedByRef, FilledBy, FromParts, Msb, Record,
+    Rest, SizeOf, SizeOfLaw, SizedBy, ToParts, read_record, write_record,
 };
 use std::marker::PhantomData;
 
@@ -25,8 +29,11 @@ impl Entry {
     pub const FIELDS: [&'static str; 2] = ["kind", "value"];
 }
 
-impl Codec for Entry {
-    type Parts = (u8, Be<u16>);
+// The parts of Entry, in their order.
+type EntryParts = (u8, Be<u16>);
+
+impl FromParts for Entry {
+    type Parts = EntryParts;
 
     ghost parts_of = { λ r. (r.kind, be r.value) };
 
@@ -39,18 +46,50 @@ impl Codec for Entry {
     ghost there = { λ r. refl };
 }
 
-impl CopyParts for Entry {
+impl ToParts for Entry {
     fn parts(&self) -> Self::Parts {
         (self.kind, Be(self.value))
     }
 }
+
+impl DekuReader<()> for Entry {
+    ghost no_read_ahead = { ⟦<EntryParts as DekuReader<()>>⟧.no_read_ahead };
+
+    ghost meaning = { λ c. Then (⟦<EntryParts as DekuReader<()>>⟧.meaning c)
+        (Shows ⟦<Entry as FromParts>⟧.parts_of) };
+
+    #[inline(always)]
+    fn from_reader_with_ctx<R: Source>(reader: &mut Reader<R>, ctx: ()) -> Result<Self, DekuError> {
+        read_record(reader, ctx)
+    }
+}
+
+impl DekuWriter<()> for Entry {
+    ghost meaning = { λ v. ⟦<EntryParts as DekuWriter<()>>⟧.meaning
+        (⟦<Entry as FromParts>⟧.parts_of v) };
+
+    #[inline(always)]
+    fn to_writer<W: Sink>(&self, writer: &mut Writer<W>, ctx: ()) -> Result<(), DekuError> {
+        write_record(self, writer, ctx)
+    }
+}
+
+impl Record<()> for Entry {
+    ghost reads = { λ c b s r u m. m };
+
+    ghost writes = { λ c v b s r u m. m };
+}
+
+impl DekuContainerRead for Entry {}
+
+impl DekuContainerWrite for Entry {}
 
 /// A table, with its size in bytes.
 #[derive(Debug, PartialEq, Eq, Drop)]
 pub struct Table {
     pub version: u8,
     pub size: u16,
-    pub entries: Vec<Coded<Entry>>,
+    pub entries: Vec<Entry>,
     pub last: u8,
 }
 
@@ -79,12 +118,15 @@ impl Table {
     pub const FIELDS: [&'static str; 4] = ["version", "size", "entries", "last"];
 }
 
-impl Codec for Table {
-    type Parts = (
-        Msb<u8, 4>,
-        FilledBy<Msb<u16, 12>, TableEntriesSize, Coded<Entry>>,
-        u8,
-    );
+// The parts of Table, in their order.
+type TableParts = (
+    Msb<u8, 4>,
+    FilledBy<Msb<u16, 12>, TableEntriesSize, Entry>,
+    u8,
+);
+
+impl FromParts for Table {
+    type Parts = TableParts;
 
     ghost parts_of = { λ r. (
       msb r.version,
@@ -120,8 +162,24 @@ impl Codec for Table {
     ghost there = { λ r. refl };
 }
 
-impl WriteParts for Table {
-    fn write<W: Sink>(&self, writer: &mut Writer<W>) -> Result<(), DekuError> {
+impl DekuReader<()> for Table {
+    ghost no_read_ahead = { ⟦<TableParts as DekuReader<()>>⟧.no_read_ahead };
+
+    ghost meaning = { λ c. Then (⟦<TableParts as DekuReader<()>>⟧.meaning c)
+        (Shows ⟦<Table as FromParts>⟧.parts_of) };
+
+    #[inline(always)]
+    fn from_reader_with_ctx<R: Source>(reader: &mut Reader<R>, ctx: ()) -> Result<Self, DekuError> {
+        read_record(reader, ctx)
+    }
+}
+
+impl DekuWriter<()> for Table {
+    ghost meaning = { λ v. ⟦<TableParts as DekuWriter<()>>⟧.meaning
+        (⟦<Table as FromParts>⟧.parts_of v) };
+
+    #[inline(always)]
+    fn to_writer<W: Sink>(&self, writer: &mut Writer<W>, ctx: ()) -> Result<(), DekuError> {
         let parts = (
             Msb::<_, 4>(self.version),
             SizedBy::<_, TableEntriesSize, _> {
@@ -131,9 +189,19 @@ impl WriteParts for Table {
             },
             self.last,
         );
-        parts.to_writer(writer, ())
+        parts.to_writer(writer, ctx)
     }
 }
+
+impl Record<()> for Table {
+    ghost reads = { λ c b s r u m. m };
+
+    ghost writes = { λ c v b s r u m. m };
+}
+
+impl DekuContainerRead for Table {}
+
+impl DekuContainerWrite for Table {}
 
 /// Two lists, with their lengths in front of both.
 #[derive(Debug, PartialEq, Eq, Drop)]
@@ -198,8 +266,11 @@ impl Pair {
     pub const FIELDS: [&'static str; 4] = ["names", "values", "name", "value"];
 }
 
-impl Codec for Pair {
-    type Parts = CountedBy<PairValueHead, PairValueCount, Be<u16>>;
+// The parts of Pair, in their order.
+type PairParts = CountedBy<PairValueHead, PairValueCount, Be<u16>>;
+
+impl FromParts for Pair {
+    type Parts = PairParts;
 
     ghost parts_of = { λ r. record {
       head = record { head = (r.names, r.values); items = r.name; count = record {} };
@@ -235,8 +306,24 @@ impl Codec for Pair {
     ghost there = { λ r. refl };
 }
 
-impl WriteParts for Pair {
-    fn write<W: Sink>(&self, writer: &mut Writer<W>) -> Result<(), DekuError> {
+impl DekuReader<()> for Pair {
+    ghost no_read_ahead = { ⟦<PairParts as DekuReader<()>>⟧.no_read_ahead };
+
+    ghost meaning = { λ c. Then (⟦<PairParts as DekuReader<()>>⟧.meaning c)
+        (Shows ⟦<Pair as FromParts>⟧.parts_of) };
+
+    #[inline(always)]
+    fn from_reader_with_ctx<R: Source>(reader: &mut Reader<R>, ctx: ()) -> Result<Self, DekuError> {
+        read_record(reader, ctx)
+    }
+}
+
+impl DekuWriter<()> for Pair {
+    ghost meaning = { λ v. ⟦<PairParts as DekuWriter<()>>⟧.meaning
+        (⟦<Pair as FromParts>⟧.parts_of v) };
+
+    #[inline(always)]
+    fn to_writer<W: Sink>(&self, writer: &mut Writer<W>, ctx: ()) -> Result<(), DekuError> {
         let parts = CountedByRef::<_, PairValueCount, _> {
             head: CountedByRef::<_, PairNameCount, _> {
                 head: (self.names, self.values),
@@ -246,9 +333,19 @@ impl WriteParts for Pair {
             items: &self.value,
             count: PhantomData,
         };
-        parts.to_writer(writer, ())
+        parts.to_writer(writer, ctx)
     }
 }
+
+impl Record<()> for Pair {
+    ghost reads = { λ c b s r u m. m };
+
+    ghost writes = { λ c v b s r u m. m };
+}
+
+impl DekuContainerRead for Pair {}
+
+impl DekuContainerWrite for Pair {}
 
 /// A log, which goes on to the end.
 #[derive(Debug, PartialEq, Eq, Drop)]
@@ -263,8 +360,11 @@ impl Log {
     pub const FIELDS: [&'static str; 3] = ["version", "number", "words"];
 }
 
-impl Codec for Log {
-    type Parts = Before<(Msb<u8, 4>, Msb<u16, 12>), Rest<Be<u16>>>;
+// The parts of Log, in their order.
+type LogParts = Before<(Msb<u8, 4>, Msb<u16, 12>), Rest<Be<u16>>>;
+
+impl FromParts for Log {
+    type Parts = LogParts;
 
     ghost parts_of = { λ r. record {
       head = (msb r.version, msb r.number);
@@ -292,12 +392,38 @@ impl Codec for Log {
     ghost there = { λ r. refl };
 }
 
-impl WriteParts for Log {
-    fn write<W: Sink>(&self, writer: &mut Writer<W>) -> Result<(), DekuError> {
+impl DekuReader<()> for Log {
+    ghost no_read_ahead = { ⟦<LogParts as DekuReader<()>>⟧.no_read_ahead };
+
+    ghost meaning = { λ c. Then (⟦<LogParts as DekuReader<()>>⟧.meaning c)
+        (Shows ⟦<Log as FromParts>⟧.parts_of) };
+
+    #[inline(always)]
+    fn from_reader_with_ctx<R: Source>(reader: &mut Reader<R>, ctx: ()) -> Result<Self, DekuError> {
+        read_record(reader, ctx)
+    }
+}
+
+impl DekuWriter<()> for Log {
+    ghost meaning = { λ v. ⟦<LogParts as DekuWriter<()>>⟧.meaning
+        (⟦<Log as FromParts>⟧.parts_of v) };
+
+    #[inline(always)]
+    fn to_writer<W: Sink>(&self, writer: &mut Writer<W>, ctx: ()) -> Result<(), DekuError> {
         let parts = Before {
             head: (Msb::<_, 4>(self.version), Msb::<_, 12>(self.number)),
             rest: &self.words,
         };
-        parts.to_writer(writer, ())
+        parts.to_writer(writer, ctx)
     }
 }
+
+impl Record<()> for Log {
+    ghost reads = { λ c b s r u m. m };
+
+    ghost writes = { λ c v b s r u m. m };
+}
+
+impl DekuContainerRead for Log {}
+
+impl DekuContainerWrite for Log {}

@@ -1,7 +1,6 @@
 //! Records in a record, as bytes and back.
 
 use crate::report::{Measured, Report};
-use deku_symmetry::Coded;
 use deku_testing_values::records::expect_packed;
 use std::test::Fail;
 
@@ -27,5 +26,5 @@ fn records_of_five_fields(rt: HostRuntime) -> Result<(), Fail> {
         0xA9, 0x01, 0x02, 0x03, 0x04, 0x05, 0x06, 0x07, 0xA9, 0x08, 0x09, 0x03, 0x04, 0x05, 0x06,
         0x07, 0xA9, 0x00, 0x00, 0x03, 0x04, 0x05, 0x06, 0x07, 0x0A, 0x0B,
     ];
-    expect_packed(rt.alloc(), (), &Coded(report), 208, &bytes)
+    expect_packed(rt.alloc(), (), &report, 208, &bytes)
 }

@@ -3,9 +3,15 @@
 //! Printed by `derive` from `report.rs`.
 
 ghost use Rattle.std.specs.Prelude.{refl};
+ghost use Rattle.deku.specs.Composing.{Then};
+ghost use Rattle.deku.specs.Shapes.{Shows};
 ghost use Rattle.deku_symmetry.specs.Fields.{be, msb};
 
-use deku_symmetry::{Be, Codec, CopyParts, Msb};
+use deku::device::{Sink, Source};
+use deku::prelude::{
+    DekuContainerRead, DekuContainerWrite, DekuError, DekuReader, DekuWriter, Reader, Writer,
+};
+use deku_symmetry::{Be, FromParts, Msb, Record, ToParts, read_record, write_record};
 
 /// What a sensor measured.
 #[derive(Debug, Clone, Copy, PartialEq, Eq)]
@@ -22,8 +28,11 @@ impl Measured {
     pub const FIELDS: [&'static str; 5] = ["sensor", "state", "value", "quality", "time"];
 }
 
-impl Codec for Measured {
-    type Parts = (Msb<u8, 3>, Msb<u8, 5>, Be<u16>, u8, Be<u32>);
+// The parts of Measured, in their order.
+type MeasuredParts = (Msb<u8, 3>, Msb<u8, 5>, Be<u16>, u8, Be<u32>);
+
+impl FromParts for Measured {
+    type Parts = MeasuredParts;
 
     ghost parts_of = { λ r. (msb r.sensor, msb r.state, be r.value, r.quality, be r.time) };
 
@@ -48,7 +57,7 @@ impl Codec for Measured {
     ghost there = { λ r. refl };
 }
 
-impl CopyParts for Measured {
+impl ToParts for Measured {
     fn parts(&self) -> Self::Parts {
         (
             Msb(self.sensor),
@@ -59,6 +68,38 @@ impl CopyParts for Measured {
         )
     }
 }
+
+impl DekuReader<()> for Measured {
+    ghost no_read_ahead = { ⟦<MeasuredParts as DekuReader<()>>⟧.no_read_ahead };
+
+    ghost meaning = { λ c. Then (⟦<MeasuredParts as DekuReader<()>>⟧.meaning c)
+        (Shows ⟦<Measured as FromParts>⟧.parts_of) };
+
+    #[inline(always)]
+    fn from_reader_with_ctx<R: Source>(reader: &mut Reader<R>, ctx: ()) -> Result<Self, DekuError> {
+        read_record(reader, ctx)
+    }
+}
+
+impl DekuWriter<()> for Measured {
+    ghost meaning = { λ v. ⟦<MeasuredParts as DekuWriter<()>>⟧.meaning
+        (⟦<Measured as FromParts>⟧.parts_of v) };
+
+    #[inline(always)]
+    fn to_writer<W: Sink>(&self, writer: &mut Writer<W>, ctx: ()) -> Result<(), DekuError> {
+        write_record(self, writer, ctx)
+    }
+}
+
+impl Record<()> for Measured {
+    ghost reads = { λ c b s r u m. m };
+
+    ghost writes = { λ c v b s r u m. m };
+}
+
+impl DekuContainerRead for Measured {}
+
+impl DekuContainerWrite for Measured {}
 
 /// A report.
 #[derive(Debug, Clone, Copy, PartialEq, Eq)]
@@ -71,53 +112,24 @@ pub struct Report {
 
 impl Report {
     /// The names of its parts, in their order.
-    pub const FIELDS: [&'static str; 16] = [
-        "air.sensor",
-        "air.state",
-        "air.value",
-        "air.quality",
-        "air.time",
-        "water.sensor",
-        "water.state",
-        "water.value",
-        "water.quality",
-        "water.time",
-        "ground.sensor",
-        "ground.state",
-        "ground.value",
-        "ground.quality",
-        "ground.time",
-        "checksum",
-    ];
+    pub const FIELDS: [&'static str; 4] = ["air", "water", "ground", "checksum"];
 }
 
-impl Codec for Report {
-    type Parts = (
-        <Measured as Codec>::Parts,
-        <Measured as Codec>::Parts,
-        <Measured as Codec>::Parts,
-        Be<u16>,
-    );
+// The parts of Report, in their order.
+type ReportParts = (Measured, Measured, Measured, Be<u16>);
 
-    ghost parts_of = { λ r. (
-      ⟦<Measured as Codec>⟧.parts_of r.air,
-      ⟦<Measured as Codec>⟧.parts_of r.water,
-      ⟦<Measured as Codec>⟧.parts_of r.ground,
-      be r.checksum,
-    ) };
+impl FromParts for Report {
+    type Parts = ReportParts;
 
-    ghost record_of = { λ p. record {
-      air = ⟦<Measured as Codec>⟧.record_of p.0;
-      water = ⟦<Measured as Codec>⟧.record_of p.1;
-      ground = ⟦<Measured as Codec>⟧.record_of p.2;
-      checksum = p.3.0;
-    } };
+    ghost parts_of = { λ r. (r.air, r.water, r.ground, be r.checksum) };
+
+    ghost record_of = { λ p. record { air = p.0; water = p.1; ground = p.2; checksum = p.3.0 } };
 
     fn from_parts((air, water, ground, Be(checksum)): Self::Parts) -> Self {
         Report {
-            air: <Measured as Codec>::from_parts(air),
-            water: <Measured as Codec>::from_parts(water),
-            ground: <Measured as Codec>::from_parts(ground),
+            air,
+            water,
+            ground,
             checksum,
         }
     }
@@ -125,13 +137,40 @@ impl Codec for Report {
     ghost there = { λ r. refl };
 }
 
-impl CopyParts for Report {
+impl ToParts for Report {
     fn parts(&self) -> Self::Parts {
-        (
-            self.air.parts(),
-            self.water.parts(),
-            self.ground.parts(),
-            Be(self.checksum),
-        )
+        (self.air, self.water, self.ground, Be(self.checksum))
     }
 }
+
+impl DekuReader<()> for Report {
+    ghost no_read_ahead = { ⟦<ReportParts as DekuReader<()>>⟧.no_read_ahead };
+
+    ghost meaning = { λ c. Then (⟦<ReportParts as DekuReader<()>>⟧.meaning c)
+        (Shows ⟦<Report as FromParts>⟧.parts_of) };
+
+    #[inline(always)]
+    fn from_reader_with_ctx<R: Source>(reader: &mut Reader<R>, ctx: ()) -> Result<Self, DekuError> {
+        read_record(reader, ctx)
+    }
+}
+
+impl DekuWriter<()> for Report {
+    ghost meaning = { λ v. ⟦<ReportParts as DekuWriter<()>>⟧.meaning
+        (⟦<Report as FromParts>⟧.parts_of v) };
+
+    #[inline(always)]
+    fn to_writer<W: Sink>(&self, writer: &mut Writer<W>, ctx: ()) -> Result<(), DekuError> {
+        write_record(self, writer, ctx)
+    }
+}
+
+impl Record<()> for Report {
+    ghost reads = { λ c b s r u m. m };
+
+    ghost writes = { λ c v b s r u m. m };
+}
+
+impl DekuContainerRead for Report {}
+
+impl DekuContainerWrite for Report {}

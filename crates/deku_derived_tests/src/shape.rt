@@ -3,11 +3,20 @@
 //! Printed by `derive` from `shape.rs`.
 
 ghost use Rattle.std.specs.Prelude.{refl};
+ghost use Rattle.deku.specs.Composing.{Then};
+ghost use Rattle.deku.specs.Shapes.{Shows};
 ghost use Rattle.deku_symmetry.specs.Fields.{be, msb};
 ghost use Rattle.deku_pieces.specs.declared.either.Either.TheVariants as either;
 ghost use Rattle.deku_derived_tests.specs.declared.shape.Shape.TheVariants as shape_kinds;
 
-use deku_symmetry::{Be, Codec, CopyParts, Either, Enum, InRange, Kind, Msb, MsbEnum, Otherwise};
+use deku::device::{Sink, Source};
+use deku::prelude::{
+    DekuContainerRead, DekuContainerWrite, DekuError, DekuReader, DekuWriter, Reader, Writer,
+};
+use deku_symmetry::{
+    Be, Either, Enum, FromParts, InRange, Kind, Msb, MsbEnum, Otherwise, Record, ToParts,
+    read_record, write_record,
+};
 
 /// The record `Shape`.
 #[derive(Debug, Clone, Copy, PartialEq, Eq)]
@@ -22,14 +31,17 @@ pub enum Shape {
     Unknown(u64, u8),
 }
 
-impl Codec for Shape {
-    type Parts = MsbEnum<
-        Either<
-            Either<Kind<Msb<u16, 12>, 1>, Kind<(Msb<u8, 4>, Be<u16>, Be<u16>), 2>>,
-            Either<Kind<Msb<u8, 4>, 3>, Otherwise<Msb<u8, 4>>>,
-        >,
-        4,
-    >;
+// The parts of Shape, in their order.
+type ShapeParts = MsbEnum<
+    Either<
+        Either<Kind<Msb<u16, 12>, 1>, Kind<(Msb<u8, 4>, Be<u16>, Be<u16>), 2>>,
+        Either<Kind<Msb<u8, 4>, 3>, Otherwise<Msb<u8, 4>>>,
+    >,
+    4,
+>;
+
+impl FromParts for Shape {
+    type Parts = ShapeParts;
 
     ghost parts_of = { elim [
       | shape_kinds.Circle field_0 ↦ record {
@@ -83,7 +95,7 @@ impl Codec for Shape {
     ] };
 }
 
-impl CopyParts for Shape {
+impl ToParts for Shape {
     fn parts(&self) -> Self::Parts {
         match self {
             Shape::Circle(field_0) => Enum::new(Either::This(Either::This(Kind(Msb(*field_0))))),
@@ -104,3 +116,35 @@ impl CopyParts for Shape {
         }
     }
 }
+
+impl DekuReader<()> for Shape {
+    ghost no_read_ahead = { ⟦<ShapeParts as DekuReader<()>>⟧.no_read_ahead };
+
+    ghost meaning = { λ c. Then (⟦<ShapeParts as DekuReader<()>>⟧.meaning c)
+        (Shows ⟦<Shape as FromParts>⟧.parts_of) };
+
+    #[inline(always)]
+    fn from_reader_with_ctx<R: Source>(reader: &mut Reader<R>, ctx: ()) -> Result<Self, DekuError> {
+        read_record(reader, ctx)
+    }
+}
+
+impl DekuWriter<()> for Shape {
+    ghost meaning = { λ v. ⟦<ShapeParts as DekuWriter<()>>⟧.meaning
+        (⟦<Shape as FromParts>⟧.parts_of v) };
+
+    #[inline(always)]
+    fn to_writer<W: Sink>(&self, writer: &mut Writer<W>, ctx: ()) -> Result<(), DekuError> {
+        write_record(self, writer, ctx)
+    }
+}
+
+impl Record<()> for Shape {
+    ghost reads = { λ c b s r u m. m };
+
+    ghost writes = { λ c v b s r u m. m };
+}
+
+impl DekuContainerRead for Shape {}
+
+impl DekuContainerWrite for Shape {}

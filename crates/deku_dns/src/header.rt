@@ -13,7 +13,8 @@
 //! ```
 
 ghost use Rattle.std.specs.Prelude.{refl};
-ghost use Rattle.deku.specs.Outcomes.{Mapped};
+ghost use Rattle.deku.specs.Composing.{Then};
+ghost use Rattle.deku.specs.Shapes.{Shows};
 
 use deku::device::{Sink, Source};
 use deku::prelude::{
@@ -60,7 +61,7 @@ pub type Parts = (
     (Be<u16>, Be<u16>, Be<u16>, Be<u16>),
 );
 
-impl FromParts<()> for Header {
+impl FromParts for Header {
     type Parts = Parts;
 
     ghost parts_of = { λ r. (
@@ -127,7 +128,7 @@ impl FromParts<()> for Header {
     ghost there = { λ r. refl };
 }
 
-impl ToParts<()> for Header {
+impl ToParts for Header {
     fn parts(&self) -> Self::Parts {
         (
             Be(self.identification),
@@ -153,17 +154,15 @@ impl ToParts<()> for Header {
     }
 }
 
-impl Record for Header {
-    ghost back = { λ p ps h. refl };
+impl Record<()> for Header {
+    ghost reads = { λ c b s r u m. m };
 
-    ghost reads = { λ b s r u m. m };
-
-    ghost writes = { λ v b s r u m. m };
+    ghost writes = { λ c v b s r u m. m };
 }
 
 impl DekuReader<()> for Header {
-    ghost meaning = { λ _. Mapped ⟦<Header as FromParts<()>>⟧.record_of
-        (⟦<Parts as DekuReader<()>>⟧.meaning tt) };
+    ghost meaning = { λ _. Then (⟦<Parts as DekuReader<()>>⟧.meaning tt)
+        (Shows ⟦<Header as FromParts>⟧.parts_of) };
 
     fn from_reader_with_ctx<R: Source>(
         reader: &mut Reader<R>,
@@ -175,7 +174,7 @@ impl DekuReader<()> for Header {
 
 impl DekuWriter<()> for Header {
     ghost meaning = { λ v _. ⟦<Parts as DekuWriter<()>>⟧.meaning
-        (⟦<Header as FromParts<()>>⟧.parts_of v) tt };
+        (⟦<Header as FromParts>⟧.parts_of v) tt };
 
     fn to_writer<W: Sink>(&self, writer: &mut Writer<W>, _ctx: ()) -> Result<(), DekuError> {
         write_record(self, writer, ())

@@ -7,7 +7,8 @@
 
 ghost use Rattle.std.specs.Prelude.{refl, nat_lt, Some, None, nat_eq, pos, if◌then◌else◌};
 ghost use Rattle.std.proofs.Common.{arith};
-ghost use Rattle.deku.specs.Outcomes.{Mapped};
+ghost use Rattle.deku.specs.Composing.{Then};
+ghost use Rattle.deku.specs.Shapes.{Shows};
 ghost use Rattle.deku_num.specs.Numbers.{byte};
 ghost use Rattle.deku_pieces.specs.Pieces.{plain};
 ghost use Rattle.deku_pieces.proofs.Ending.{first_wide, number_wide};
@@ -26,7 +27,7 @@ use deku_symmetry::{
 #[derive(Debug, PartialEq, Eq, Drop)]
 pub struct Length(pub u8);
 
-impl FromParts<()> for Length {
+impl FromParts for Length {
     type Parts = u8;
 
     ghost parts_of = { λ r. r.0 };
@@ -40,7 +41,7 @@ impl FromParts<()> for Length {
     ghost there = { λ r. refl };
 }
 
-impl ToParts<()> for Length {
+impl ToParts for Length {
     fn parts(&self) -> Self::Parts {
         self.0
     }
@@ -63,17 +64,15 @@ impl ItemCountLaw for Length {
     ghost alike = { λ v w e. rw e refl };
 }
 
-impl Record for Length {
-    ghost back = { λ p ps h. refl };
+impl Record<()> for Length {
+    ghost reads = { λ c b s r u m. m };
 
-    ghost reads = { λ b s r u m. m };
-
-    ghost writes = { λ v b s r u m. m };
+    ghost writes = { λ c v b s r u m. m };
 }
 
 impl DekuReader<()> for Length {
-    ghost meaning = { λ _. Mapped ⟦<Length as FromParts<()>>⟧.record_of
-        (⟦<u8 as DekuReader<()>>⟧.meaning tt) };
+    ghost meaning = { λ _. Then (⟦<u8 as DekuReader<()>>⟧.meaning tt)
+        (Shows ⟦<Length as FromParts>⟧.parts_of) };
 
     fn from_reader_with_ctx<R: Source>(
         reader: &mut Reader<R>,
@@ -85,7 +84,7 @@ impl DekuReader<()> for Length {
 
 impl DekuWriter<()> for Length {
     ghost meaning = { λ v _. ⟦<u8 as DekuWriter<()>>⟧.meaning
-        (⟦<Length as FromParts<()>>⟧.parts_of v) tt };
+        (⟦<Length as FromParts>⟧.parts_of v) tt };
 
     fn to_writer<W: Sink>(&self, writer: &mut Writer<W>, _ctx: ()) -> Result<(), DekuError> {
         write_record(self, writer, ())
@@ -104,7 +103,7 @@ pub struct Label {
 // The length, and as many bytes as it says.
 type Parts = Counted<Length, u8>;
 
-impl FromParts<()> for Label {
+impl FromParts for Label {
     type Parts = Parts;
 
     ghost parts_of = { λ r. record { head = record { 0 = r.length }; items = r.bytes } };
@@ -121,17 +120,15 @@ impl FromParts<()> for Label {
     ghost there = { λ r. refl };
 }
 
-impl Record for Label {
-    ghost back = { λ p ps h. refl };
+impl Record<()> for Label {
+    ghost reads = { λ c b s r u m. m };
 
-    ghost reads = { λ b s r u m. m };
-
-    ghost writes = { λ v b s r u m. m };
+    ghost writes = { λ c v b s r u m. m };
 }
 
 impl DekuReader<()> for Label {
-    ghost meaning = { λ _. Mapped ⟦<Label as FromParts<()>>⟧.record_of
-        (⟦<Parts as DekuReader<()>>⟧.meaning tt) };
+    ghost meaning = { λ _. Then (⟦<Parts as DekuReader<()>>⟧.meaning tt)
+        (Shows ⟦<Label as FromParts>⟧.parts_of) };
 
     fn from_reader_with_ctx<R: Source>(
         reader: &mut Reader<R>,
@@ -143,7 +140,7 @@ impl DekuReader<()> for Label {
 
 impl DekuWriter<()> for Label {
     ghost meaning = { λ v _. ⟦<Parts as DekuWriter<()>>⟧.meaning
-        (⟦<Label as FromParts<()>>⟧.parts_of v) tt };
+        (⟦<Label as FromParts>⟧.parts_of v) tt };
 
     fn to_writer<W: Sink>(&self, writer: &mut Writer<W>, _ctx: ()) -> Result<(), DekuError> {
         write_counted(&Length(self.length), &self.bytes, writer)

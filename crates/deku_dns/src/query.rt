@@ -1,7 +1,8 @@
 //! A message that asks one question.
 
 ghost use Rattle.std.specs.Prelude.{refl};
-ghost use Rattle.deku.specs.Outcomes.{Mapped};
+ghost use Rattle.deku.specs.Composing.{Then};
+ghost use Rattle.deku.specs.Shapes.{Shows};
 
 use crate::header::{self, Header};
 use crate::question::{self, Question};
@@ -23,18 +24,18 @@ pub struct Query {
 // The fields, in order.
 type Parts = (header::Parts, question::Parts);
 
-impl FromParts<()> for Query {
+impl FromParts for Query {
     type Parts = Parts;
 
     ghost parts_of = { λ r. (
-      ⟦<Header as FromParts<()>>⟧.parts_of r.header,
-      ⟦<Question as FromParts<()>>⟧.parts_of r.question,
+      ⟦<Header as FromParts>⟧.parts_of r.header,
+      ⟦<Question as FromParts>⟧.parts_of r.question,
     ) };
 
     ghost record_of = { λ p. record {
-      header = ⟦<Header as FromParts<()>>⟧.record_of p.0;
+      header = ⟦<Header as FromParts>⟧.record_of p.0;
       question =
-          ⟦<Question as FromParts<()>>⟧.record_of p.1;
+          ⟦<Question as FromParts>⟧.record_of p.1;
     } };
 
     fn from_parts(parts: Self::Parts) -> Self {
@@ -48,17 +49,15 @@ impl FromParts<()> for Query {
     ghost there = { λ r. refl };
 }
 
-impl Record for Query {
-    ghost back = { λ p ps h. refl };
+impl Record<()> for Query {
+    ghost reads = { λ c b s r u m. m };
 
-    ghost reads = { λ b s r u m. m };
-
-    ghost writes = { λ v b s r u m. m };
+    ghost writes = { λ c v b s r u m. m };
 }
 
 impl DekuReader<()> for Query {
-    ghost meaning = { λ _. Mapped ⟦<Query as FromParts<()>>⟧.record_of
-        (⟦<Parts as DekuReader<()>>⟧.meaning tt) };
+    ghost meaning = { λ _. Then (⟦<Parts as DekuReader<()>>⟧.meaning tt)
+        (Shows ⟦<Query as FromParts>⟧.parts_of) };
 
     fn from_reader_with_ctx<R: Source>(
         reader: &mut Reader<R>,
@@ -70,7 +69,7 @@ impl DekuReader<()> for Query {
 
 impl DekuWriter<()> for Query {
     ghost meaning = { λ v _. ⟦<Parts as DekuWriter<()>>⟧.meaning
-        (⟦<Query as FromParts<()>>⟧.parts_of v) tt };
+        (⟦<Query as FromParts>⟧.parts_of v) tt };
 
     fn to_writer<W: Sink>(&self, writer: &mut Writer<W>, _ctx: ()) -> Result<(), DekuError> {
         (&self.header, &self.question).to_writer(writer, ())

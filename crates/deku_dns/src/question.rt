@@ -7,7 +7,8 @@
 //! ```
 
 ghost use Rattle.std.specs.Prelude.{refl};
-ghost use Rattle.deku.specs.Outcomes.{Mapped};
+ghost use Rattle.deku.specs.Composing.{Then};
+ghost use Rattle.deku.specs.Shapes.{Shows};
 
 use crate::label::Label;
 use deku::device::{Sink, Source};
@@ -30,7 +31,7 @@ pub struct Question {
 /// The fields, in order.
 pub type Parts = (Until<Label>, Be<u16>, Be<u16>);
 
-impl FromParts<()> for Question {
+impl FromParts for Question {
     type Parts = Parts;
 
     ghost parts_of = { λ r. (r.name, record { 0 = r.kind }, record { 0 = r.class }) };
@@ -45,17 +46,15 @@ impl FromParts<()> for Question {
     ghost there = { λ r. refl };
 }
 
-impl Record for Question {
-    ghost back = { λ p ps h. refl };
+impl Record<()> for Question {
+    ghost reads = { λ c b s r u m. m };
 
-    ghost reads = { λ b s r u m. m };
-
-    ghost writes = { λ v b s r u m. m };
+    ghost writes = { λ c v b s r u m. m };
 }
 
 impl DekuReader<()> for Question {
-    ghost meaning = { λ _. Mapped ⟦<Question as FromParts<()>>⟧.record_of
-        (⟦<Parts as DekuReader<()>>⟧.meaning tt) };
+    ghost meaning = { λ _. Then (⟦<Parts as DekuReader<()>>⟧.meaning tt)
+        (Shows ⟦<Question as FromParts>⟧.parts_of) };
 
     fn from_reader_with_ctx<R: Source>(
         reader: &mut Reader<R>,
@@ -67,7 +66,7 @@ impl DekuReader<()> for Question {
 
 impl DekuWriter<()> for Question {
     ghost meaning = { λ v _. ⟦<Parts as DekuWriter<()>>⟧.meaning
-        (⟦<Question as FromParts<()>>⟧.parts_of v) tt };
+        (⟦<Question as FromParts>⟧.parts_of v) tt };
 
     fn to_writer<W: Sink>(&self, writer: &mut Writer<W>, _ctx: ()) -> Result<(), DekuError> {
         (&self.name, Be(self.kind), Be(self.class)).to_writer(writer, ())

@@ -1,12 +1,13 @@
 //! The fields of the file header, under the endian that the file names.
 
 ghost use Rattle.std.specs.Prelude.{refl};
-ghost use Rattle.deku.specs.Outcomes.{Mapped};
+ghost use Rattle.deku.specs.Composing.{Then};
+ghost use Rattle.deku.specs.Shapes.{Shows};
 
 use deku::ctx::Endian;
 use deku::device::{Sink, Source};
 use deku::prelude::{DekuError, DekuReader, DekuWriter, Reader, Writer};
-use deku_symmetry::{EndianRecord, FromParts, ToParts, read_record, write_record};
+use deku_symmetry::{FromParts, Record, ToParts, read_record, write_record};
 
 /// The fields of the file header after the byte of the endian.
 #[derive(Debug, Clone, Copy, PartialEq, Eq)]
@@ -52,7 +53,7 @@ type Parts = (
     [u16; 3],
 );
 
-impl FromParts<Endian> for Fields {
+impl FromParts for Fields {
     type Parts = Parts;
 
     ghost parts_of = { λ r. (
@@ -115,7 +116,7 @@ impl FromParts<Endian> for Fields {
     ghost there = { λ r. refl };
 }
 
-impl ToParts<Endian> for Fields {
+impl ToParts for Fields {
     fn parts(&self) -> Self::Parts {
         (
             self.identification,
@@ -133,17 +134,15 @@ impl ToParts<Endian> for Fields {
     }
 }
 
-impl EndianRecord for Fields {
-    ghost back = { λ p c ps h. refl };
-
+impl Record<Endian> for Fields {
     ghost reads = { λ c b s r u m. m };
 
     ghost writes = { λ c v b s r u m. m };
 }
 
 impl DekuReader<Endian> for Fields {
-    ghost meaning = { λ c. Mapped ⟦<Fields as FromParts<Endian>>⟧.record_of
-        (⟦<Parts as DekuReader<Endian>>⟧.meaning c) };
+    ghost meaning = { λ c. Then (⟦<Parts as DekuReader<Endian>>⟧.meaning c)
+        (Shows ⟦<Fields as FromParts>⟧.parts_of) };
 
     fn from_reader_with_ctx<R: Source>(
         reader: &mut Reader<R>,
@@ -155,7 +154,7 @@ impl DekuReader<Endian> for Fields {
 
 impl DekuWriter<Endian> for Fields {
     ghost meaning = { λ v c. ⟦<Parts as DekuWriter<Endian>>⟧.meaning
-        (⟦<Fields as FromParts<Endian>>⟧.parts_of v) c };
+        (⟦<Fields as FromParts>⟧.parts_of v) c };
 
     fn to_writer<W: Sink>(&self, writer: &mut Writer<W>, ctx: Endian) -> Result<(), DekuError> {
         write_record(self, writer, ctx)

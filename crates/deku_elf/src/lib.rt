@@ -27,7 +27,8 @@ ghost use Rattle.deku_bits.specs.declared.error.DekuError.TheVariants.{Io};
 ghost use Rattle.deku_elf.specs.Elf.{endian_of, fields_of, segments_at, in_file, elf_of, file_back};
 ghost use Rattle.deku_elf.specs.Following.{ReadsFrom, ReadsSegments, bits_before};
 ghost use Rattle.deku_elf.specs.declared.Elf.TheVariants.{Little, Big};
-ghost use Rattle.deku.specs.Outcomes.{Mapped};
+ghost use Rattle.deku.specs.Composing.{Then};
+ghost use Rattle.deku.specs.Shapes.{Shows};
 
 pub mod fields;
 pub mod segment;
@@ -171,7 +172,7 @@ type Parts = (
     MsbEnum<Either<Kind<Le<Fields>, 1>, Kind<Be<Fields>, 2>>, 8>,
 );
 
-impl FromParts<()> for Elf {
+impl FromParts for Elf {
     type Parts = Parts;
 
     ghost parts_of = { λ r. (
@@ -193,7 +194,7 @@ impl FromParts<()> for Elf {
     ghost there = { elim [ Little f ↦ refl | Big f ↦ refl ] };
 }
 
-impl ToParts<()> for Elf {
+impl ToParts for Elf {
     fn parts(&self) -> Self::Parts {
         let kind = match self {
             Elf::Little(fields) => Either::This(Kind(Le(*fields))),
@@ -203,17 +204,15 @@ impl ToParts<()> for Elf {
     }
 }
 
-impl Record for Elf {
-    ghost back = { λ p ps h. ap (λ t. (p.0, p.1, t)) (file_back p.2) };
+impl Record<()> for Elf {
+    ghost reads = { λ c b s r u m. m };
 
-    ghost reads = { λ b s r u m. m };
-
-    ghost writes = { λ v b s r u m. m };
+    ghost writes = { λ c v b s r u m. m };
 }
 
 impl DekuReader<()> for Elf {
-    ghost meaning = { λ _. Mapped ⟦<Elf as FromParts<()>>⟧.record_of
-        (⟦<Parts as DekuReader<()>>⟧.meaning tt) };
+    ghost meaning = { λ _. Then (⟦<Parts as DekuReader<()>>⟧.meaning tt)
+        (Shows ⟦<Elf as FromParts>⟧.parts_of) };
 
     fn from_reader_with_ctx<R: Source>(
         reader: &mut Reader<R>,
@@ -225,7 +224,7 @@ impl DekuReader<()> for Elf {
 
 impl DekuWriter<()> for Elf {
     ghost meaning = { λ v _. ⟦<Parts as DekuWriter<()>>⟧.meaning
-        (⟦<Elf as FromParts<()>>⟧.parts_of v) tt };
+        (⟦<Elf as FromParts>⟧.parts_of v) tt };
 
     fn to_writer<W: Sink>(&self, writer: &mut Writer<W>, _ctx: ()) -> Result<(), DekuError> {
         write_record(self, writer, ())

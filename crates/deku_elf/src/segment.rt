@@ -1,12 +1,13 @@
 //! Program headers.
 
 ghost use Rattle.std.specs.Prelude.{refl};
-ghost use Rattle.deku.specs.Outcomes.{Mapped};
+ghost use Rattle.deku.specs.Composing.{Then};
+ghost use Rattle.deku.specs.Shapes.{Shows};
 
 use deku::ctx::Endian;
 use deku::device::{Sink, Source};
 use deku::prelude::{DekuError, DekuReader, DekuWriter, Reader, Writer};
-use deku_symmetry::{EndianRecord, FromParts, ToParts, read_record, write_record};
+use deku_symmetry::{FromParts, Record, ToParts, read_record, write_record};
 
 /// A program header: which part of the file is loaded, and where.
 #[derive(Debug, Clone, Copy, PartialEq, Eq)]
@@ -32,7 +33,7 @@ pub struct Segment {
 // The fields, in order.
 type Parts = ((u32, u32), (u64, u64, u64), (u64, u64, u64));
 
-impl FromParts<Endian> for Segment {
+impl FromParts for Segment {
     type Parts = Parts;
 
     ghost parts_of = { λ r. (
@@ -72,7 +73,7 @@ impl FromParts<Endian> for Segment {
     ghost there = { λ r. refl };
 }
 
-impl ToParts<Endian> for Segment {
+impl ToParts for Segment {
     fn parts(&self) -> Self::Parts {
         (
             (self.kind, self.flags),
@@ -82,17 +83,15 @@ impl ToParts<Endian> for Segment {
     }
 }
 
-impl EndianRecord for Segment {
-    ghost back = { λ p c ps h. refl };
-
+impl Record<Endian> for Segment {
     ghost reads = { λ c b s r u m. m };
 
     ghost writes = { λ c v b s r u m. m };
 }
 
 impl DekuReader<Endian> for Segment {
-    ghost meaning = { λ c. Mapped ⟦<Segment as FromParts<Endian>>⟧.record_of
-        (⟦<Parts as DekuReader<Endian>>⟧.meaning c) };
+    ghost meaning = { λ c. Then (⟦<Parts as DekuReader<Endian>>⟧.meaning c)
+        (Shows ⟦<Segment as FromParts>⟧.parts_of) };
 
     fn from_reader_with_ctx<R: Source>(
         reader: &mut Reader<R>,
@@ -104,7 +103,7 @@ impl DekuReader<Endian> for Segment {
 
 impl DekuWriter<Endian> for Segment {
     ghost meaning = { λ v c. ⟦<Parts as DekuWriter<Endian>>⟧.meaning
-        (⟦<Segment as FromParts<Endian>>⟧.parts_of v) c };
+        (⟦<Segment as FromParts>⟧.parts_of v) c };
 
     fn to_writer<W: Sink>(&self, writer: &mut Writer<W>, ctx: Endian) -> Result<(), DekuError> {
         write_record(self, writer, ctx)

@@ -11,7 +11,8 @@
 //! ```
 
 ghost use Rattle.std.specs.Prelude.{refl};
-ghost use Rattle.deku.specs.Outcomes.{Mapped};
+ghost use Rattle.deku.specs.Composing.{Then};
+ghost use Rattle.deku.specs.Shapes.{Shows};
 
 use deku::device::{Sink, Source};
 use deku::prelude::{
@@ -44,7 +45,7 @@ type Parts = (
     LsbBe<i32, 24>,
 );
 
-impl FromParts<()> for Chassis {
+impl FromParts for Chassis {
     type Parts = Parts;
 
     ghost parts_of = { λ r. (
@@ -79,7 +80,7 @@ impl FromParts<()> for Chassis {
     ghost there = { λ r. refl };
 }
 
-impl ToParts<()> for Chassis {
+impl ToParts for Chassis {
     fn parts(&self) -> Self::Parts {
         (
             (Lsb(self.wheel), Lsb(self.gear)),
@@ -90,17 +91,15 @@ impl ToParts<()> for Chassis {
     }
 }
 
-impl Record for Chassis {
-    ghost back = { λ p ps h. refl };
+impl Record<()> for Chassis {
+    ghost reads = { λ c b s r u m. m };
 
-    ghost reads = { λ b s r u m. m };
-
-    ghost writes = { λ v b s r u m. m };
+    ghost writes = { λ c v b s r u m. m };
 }
 
 impl DekuReader<()> for Chassis {
-    ghost meaning = { λ _. Mapped ⟦<Chassis as FromParts<()>>⟧.record_of
-        (⟦<Parts as DekuReader<()>>⟧.meaning tt) };
+    ghost meaning = { λ _. Then (⟦<Parts as DekuReader<()>>⟧.meaning tt)
+        (Shows ⟦<Chassis as FromParts>⟧.parts_of) };
 
     fn from_reader_with_ctx<R: Source>(
         reader: &mut Reader<R>,
@@ -112,7 +111,7 @@ impl DekuReader<()> for Chassis {
 
 impl DekuWriter<()> for Chassis {
     ghost meaning = { λ v _. ⟦<Parts as DekuWriter<()>>⟧.meaning
-        (⟦<Chassis as FromParts<()>>⟧.parts_of v) tt };
+        (⟦<Chassis as FromParts>⟧.parts_of v) tt };
 
     fn to_writer<W: Sink>(&self, writer: &mut Writer<W>, _ctx: ()) -> Result<(), DekuError> {
         write_record(self, writer, ())

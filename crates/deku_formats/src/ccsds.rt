@@ -14,7 +14,8 @@
 //! ```
 
 ghost use Rattle.std.specs.Prelude.{refl};
-ghost use Rattle.deku.specs.Outcomes.{Mapped};
+ghost use Rattle.deku.specs.Composing.{Then};
+ghost use Rattle.deku.specs.Shapes.{Shows};
 
 pub mod header;
 pub mod sample;
@@ -39,7 +40,7 @@ pub struct Telemetry {
 // The header, and as many samples as it says.
 type Parts = Counted<Header, Sample>;
 
-impl FromParts<()> for Telemetry {
+impl FromParts for Telemetry {
     type Parts = Parts;
 
     ghost parts_of = { λ r. record { head = r.header; items = r.samples } };
@@ -56,17 +57,15 @@ impl FromParts<()> for Telemetry {
     ghost there = { λ r. refl };
 }
 
-impl Record for Telemetry {
-    ghost back = { λ p ps h. refl };
+impl Record<()> for Telemetry {
+    ghost reads = { λ c b s r u m. m };
 
-    ghost reads = { λ b s r u m. m };
-
-    ghost writes = { λ v b s r u m. m };
+    ghost writes = { λ c v b s r u m. m };
 }
 
 impl DekuReader<()> for Telemetry {
-    ghost meaning = { λ _. Mapped ⟦<Telemetry as FromParts<()>>⟧.record_of
-        (⟦<Parts as DekuReader<()>>⟧.meaning tt) };
+    ghost meaning = { λ _. Then (⟦<Parts as DekuReader<()>>⟧.meaning tt)
+        (Shows ⟦<Telemetry as FromParts>⟧.parts_of) };
 
     fn from_reader_with_ctx<R: Source>(
         reader: &mut Reader<R>,
@@ -78,7 +77,7 @@ impl DekuReader<()> for Telemetry {
 
 impl DekuWriter<()> for Telemetry {
     ghost meaning = { λ v _. ⟦<Parts as DekuWriter<()>>⟧.meaning
-        (⟦<Telemetry as FromParts<()>>⟧.parts_of v) tt };
+        (⟦<Telemetry as FromParts>⟧.parts_of v) tt };
 
     fn to_writer<W: Sink>(&self, writer: &mut Writer<W>, _ctx: ()) -> Result<(), DekuError> {
         write_counted(&self.header, &self.samples, writer)

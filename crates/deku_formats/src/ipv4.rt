@@ -20,7 +20,8 @@
 
 ghost use Rattle.std.specs.Prelude.{refl, codes};
 ghost use Rattle.std.proofs.Common.{ap, sym};
-ghost use Rattle.deku.specs.Outcomes.{Mapped};
+ghost use Rattle.deku.specs.Composing.{Then};
+ghost use Rattle.deku.specs.Shapes.{Shows};
 ghost use Rattle.deku_formats.specs.Ipv4.{Updates};
 
 pub mod front;
@@ -47,7 +48,7 @@ pub struct Ipv4 {
 // The first twenty bytes, and as many options as they say.
 type Parts = Counted<Front, u8>;
 
-impl FromParts<()> for Ipv4 {
+impl FromParts for Ipv4 {
     type Parts = Parts;
 
     ghost parts_of = { λ r. record { head = r.front; items = r.options } };
@@ -64,17 +65,15 @@ impl FromParts<()> for Ipv4 {
     ghost there = { λ r. refl };
 }
 
-impl Record for Ipv4 {
-    ghost back = { λ p ps h. refl };
+impl Record<()> for Ipv4 {
+    ghost reads = { λ c b s r u m. m };
 
-    ghost reads = { λ b s r u m. m };
-
-    ghost writes = { λ v b s r u m. m };
+    ghost writes = { λ c v b s r u m. m };
 }
 
 impl DekuReader<()> for Ipv4 {
-    ghost meaning = { λ _. Mapped ⟦<Ipv4 as FromParts<()>>⟧.record_of
-        (⟦<Parts as DekuReader<()>>⟧.meaning tt) };
+    ghost meaning = { λ _. Then (⟦<Parts as DekuReader<()>>⟧.meaning tt)
+        (Shows ⟦<Ipv4 as FromParts>⟧.parts_of) };
 
     fn from_reader_with_ctx<R: Source>(
         reader: &mut Reader<R>,
@@ -86,7 +85,7 @@ impl DekuReader<()> for Ipv4 {
 
 impl DekuWriter<()> for Ipv4 {
     ghost meaning = { λ v _. ⟦<Parts as DekuWriter<()>>⟧.meaning
-        (⟦<Ipv4 as FromParts<()>>⟧.parts_of v) tt };
+        (⟦<Ipv4 as FromParts>⟧.parts_of v) tt };
 
     fn to_writer<W: Sink>(&self, writer: &mut Writer<W>, _ctx: ()) -> Result<(), DekuError> {
         write_counted(&self.front, &self.options, writer)

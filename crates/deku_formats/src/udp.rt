@@ -10,7 +10,8 @@
 //! ```
 
 ghost use Rattle.std.specs.Prelude.{refl};
-ghost use Rattle.deku.specs.Outcomes.{Mapped};
+ghost use Rattle.deku.specs.Composing.{Then};
+ghost use Rattle.deku.specs.Shapes.{Shows};
 
 use deku::device::{Sink, Source};
 use deku::prelude::{
@@ -34,7 +35,7 @@ pub struct Udp {
 // The fields, in order.
 type Parts = (Be<u16>, Be<u16>, Be<u16>, Be<u16>);
 
-impl FromParts<()> for Udp {
+impl FromParts for Udp {
     type Parts = Parts;
 
     ghost parts_of = { λ r. (
@@ -65,7 +66,7 @@ impl FromParts<()> for Udp {
     ghost there = { λ r. refl };
 }
 
-impl ToParts<()> for Udp {
+impl ToParts for Udp {
     fn parts(&self) -> Self::Parts {
         (
             Be(self.source),
@@ -76,17 +77,15 @@ impl ToParts<()> for Udp {
     }
 }
 
-impl Record for Udp {
-    ghost back = { λ p ps h. refl };
+impl Record<()> for Udp {
+    ghost reads = { λ c b s r u m. m };
 
-    ghost reads = { λ b s r u m. m };
-
-    ghost writes = { λ v b s r u m. m };
+    ghost writes = { λ c v b s r u m. m };
 }
 
 impl DekuReader<()> for Udp {
-    ghost meaning = { λ _. Mapped ⟦<Udp as FromParts<()>>⟧.record_of
-        (⟦<Parts as DekuReader<()>>⟧.meaning tt) };
+    ghost meaning = { λ _. Then (⟦<Parts as DekuReader<()>>⟧.meaning tt)
+        (Shows ⟦<Udp as FromParts>⟧.parts_of) };
 
     fn from_reader_with_ctx<R: Source>(
         reader: &mut Reader<R>,
@@ -98,7 +97,7 @@ impl DekuReader<()> for Udp {
 
 impl DekuWriter<()> for Udp {
     ghost meaning = { λ v _. ⟦<Parts as DekuWriter<()>>⟧.meaning
-        (⟦<Udp as FromParts<()>>⟧.parts_of v) tt };
+        (⟦<Udp as FromParts>⟧.parts_of v) tt };
 
     fn to_writer<W: Sink>(&self, writer: &mut Writer<W>, _ctx: ()) -> Result<(), DekuError> {
         write_record(self, writer, ())

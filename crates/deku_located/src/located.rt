@@ -9,7 +9,7 @@ ghost use Rattle.deku_located.specs.Locating.{IsLocated, unplaced};
 use crate::steps::{Place, Steps};
 use deku::DekuError;
 use deku::reader::Reader;
-use deku_symmetry::{Codec, Symmetric};
+use deku_symmetry::{FromParts, Symmetric};
 use std::alloc::Global;
 use std::io::Cursor;
 use thiserror::Error;
@@ -69,7 +69,7 @@ pub fn unpack_steps<P: Steps>(
 /// unpack_located::<Sample>(alloc, &[0x69, 0xC0], &Sample::FIELDS)?
 /// // Not enough data, need 16 bits (or 2 bytes), in value, at bit 8
 /// ```
-pub fn unpack_located<E: Codec>(
+pub fn unpack_located<E: FromParts>(
     alloc: Global,
     bytes: &[u8],
     names: &[&'static str],

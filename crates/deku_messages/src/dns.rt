@@ -21,12 +21,17 @@
 //! Printed by `derive` from `dns.rs`.
 
 ghost use Rattle.std.specs.Prelude.{Some, refl};
+ghost use Rattle.deku.specs.Composing.{Then};
+ghost use Rattle.deku.specs.Shapes.{Shows};
 ghost use Rattle.deku_symmetry.specs.Fields.{be, msb};
 
-use deku::device::Sink;
-use deku::prelude::{DekuError, DekuWriter, Writer};
+use deku::device::{Sink, Source};
+use deku::prelude::{
+    DekuContainerRead, DekuContainerWrite, DekuError, DekuReader, DekuWriter, Reader, Writer,
+};
 use deku_symmetry::{
-    Be, Codec, CopyParts, CountOf, CountOfLaw, CountedBy, CountedByRef, Msb, WriteParts,
+    Be, CountOf, CountOfLaw, CountedBy, CountedByRef, FromParts, Msb, Record, ToParts, read_record,
+    write_record,
 };
 use std::marker::PhantomData;
 
@@ -86,28 +91,31 @@ impl Header {
     ];
 }
 
-impl Codec for Header {
-    type Parts = (
-        (
-            Be<u16>,
-            Msb<bool, 1>,
-            Msb<u8, 4>,
-            Msb<bool, 1>,
-            Msb<bool, 1>,
-            Msb<bool, 1>,
-            Msb<bool, 1>,
-            Msb<bool, 1>,
-        ),
-        (
-            Msb<bool, 1>,
-            Msb<bool, 1>,
-            Msb<u8, 4>,
-            Be<u16>,
-            Be<u16>,
-            Be<u16>,
-            Be<u16>,
-        ),
-    );
+// The parts of Header, in their order.
+type HeaderParts = (
+    (
+        Be<u16>,
+        Msb<bool, 1>,
+        Msb<u8, 4>,
+        Msb<bool, 1>,
+        Msb<bool, 1>,
+        Msb<bool, 1>,
+        Msb<bool, 1>,
+        Msb<bool, 1>,
+    ),
+    (
+        Msb<bool, 1>,
+        Msb<bool, 1>,
+        Msb<u8, 4>,
+        Be<u16>,
+        Be<u16>,
+        Be<u16>,
+        Be<u16>,
+    ),
+);
+
+impl FromParts for Header {
+    type Parts = HeaderParts;
 
     ghost parts_of = { λ r. (
       (
@@ -172,7 +180,7 @@ impl Codec for Header {
     ghost there = { λ r. refl };
 }
 
-impl CopyParts for Header {
+impl ToParts for Header {
     fn parts(&self) -> Self::Parts {
         (
             (
@@ -197,6 +205,38 @@ impl CopyParts for Header {
         )
     }
 }
+
+impl DekuReader<()> for Header {
+    ghost no_read_ahead = { ⟦<HeaderParts as DekuReader<()>>⟧.no_read_ahead };
+
+    ghost meaning = { λ c. Then (⟦<HeaderParts as DekuReader<()>>⟧.meaning c)
+        (Shows ⟦<Header as FromParts>⟧.parts_of) };
+
+    #[inline(always)]
+    fn from_reader_with_ctx<R: Source>(reader: &mut Reader<R>, ctx: ()) -> Result<Self, DekuError> {
+        read_record(reader, ctx)
+    }
+}
+
+impl DekuWriter<()> for Header {
+    ghost meaning = { λ v. ⟦<HeaderParts as DekuWriter<()>>⟧.meaning
+        (⟦<Header as FromParts>⟧.parts_of v) };
+
+    #[inline(always)]
+    fn to_writer<W: Sink>(&self, writer: &mut Writer<W>, ctx: ()) -> Result<(), DekuError> {
+        write_record(self, writer, ctx)
+    }
+}
+
+impl Record<()> for Header {
+    ghost reads = { λ c b s r u m. m };
+
+    ghost writes = { λ c v b s r u m. m };
+}
+
+impl DekuContainerRead for Header {}
+
+impl DekuContainerWrite for Header {}
 
 /// One text of the data of kind 16.
 #[derive(Debug, PartialEq, Eq, Drop)]
@@ -229,8 +269,11 @@ impl Text {
     pub const FIELDS: [&'static str; 2] = ["length", "bytes"];
 }
 
-impl Codec for Text {
-    type Parts = CountedBy<u8, TextBytesCount, u8>;
+// The parts of Text, in their order.
+type TextParts = CountedBy<u8, TextBytesCount, u8>;
+
+impl FromParts for Text {
+    type Parts = TextParts;
 
     ghost parts_of = { λ r. record { head = r.length; items = r.bytes; count = record {} } };
 
@@ -248,13 +291,39 @@ impl Codec for Text {
     ghost there = { λ r. refl };
 }
 
-impl WriteParts for Text {
-    fn write<W: Sink>(&self, writer: &mut Writer<W>) -> Result<(), DekuError> {
+impl DekuReader<()> for Text {
+    ghost no_read_ahead = { ⟦<TextParts as DekuReader<()>>⟧.no_read_ahead };
+
+    ghost meaning = { λ c. Then (⟦<TextParts as DekuReader<()>>⟧.meaning c)
+        (Shows ⟦<Text as FromParts>⟧.parts_of) };
+
+    #[inline(always)]
+    fn from_reader_with_ctx<R: Source>(reader: &mut Reader<R>, ctx: ()) -> Result<Self, DekuError> {
+        read_record(reader, ctx)
+    }
+}
+
+impl DekuWriter<()> for Text {
+    ghost meaning = { λ v. ⟦<TextParts as DekuWriter<()>>⟧.meaning
+        (⟦<Text as FromParts>⟧.parts_of v) };
+
+    #[inline(always)]
+    fn to_writer<W: Sink>(&self, writer: &mut Writer<W>, ctx: ()) -> Result<(), DekuError> {
         let parts = CountedByRef::<_, TextBytesCount, _> {
             head: self.length,
             items: &self.bytes,
             count: PhantomData,
         };
-        parts.to_writer(writer, ())
+        parts.to_writer(writer, ctx)
     }
 }
+
+impl Record<()> for Text {
+    ghost reads = { λ c b s r u m. m };
+
+    ghost writes = { λ c v b s r u m. m };
+}
+
+impl DekuContainerRead for Text {}
+
+impl DekuContainerWrite for Text {}

@@ -19,9 +19,15 @@
 //! Printed by `derive` from `ntp.rs`.
 
 ghost use Rattle.std.specs.Prelude.{refl};
+ghost use Rattle.deku.specs.Composing.{Then};
+ghost use Rattle.deku.specs.Shapes.{Shows};
 ghost use Rattle.deku_symmetry.specs.Fields.{be, msb};
 
-use deku_symmetry::{Be, Codec, CopyParts, Msb};
+use deku::device::{Sink, Source};
+use deku::prelude::{
+    DekuContainerRead, DekuContainerWrite, DekuError, DekuReader, DekuWriter, Reader, Writer,
+};
+use deku_symmetry::{Be, FromParts, Msb, Record, ToParts, read_record, write_record};
 
 /// The header of a packet.
 #[derive(Debug, Clone, Copy, PartialEq, Eq)]
@@ -73,20 +79,23 @@ impl Ntp {
     ];
 }
 
-impl Codec for Ntp {
-    type Parts = (
-        (
-            Msb<u8, 2>,
-            Msb<u8, 3>,
-            Msb<u8, 3>,
-            u8,
-            i8,
-            i8,
-            Be<u32>,
-            Be<u32>,
-        ),
-        ([u8; 4], Be<u64>, Be<u64>, Be<u64>, Be<u64>),
-    );
+// The parts of Ntp, in their order.
+type NtpParts = (
+    (
+        Msb<u8, 2>,
+        Msb<u8, 3>,
+        Msb<u8, 3>,
+        u8,
+        i8,
+        i8,
+        Be<u32>,
+        Be<u32>,
+    ),
+    ([u8; 4], Be<u64>, Be<u64>, Be<u64>, Be<u64>),
+);
+
+impl FromParts for Ntp {
+    type Parts = NtpParts;
 
     ghost parts_of = { λ r. (
       (
@@ -152,7 +161,7 @@ impl Codec for Ntp {
     ghost there = { λ r. refl };
 }
 
-impl CopyParts for Ntp {
+impl ToParts for Ntp {
     fn parts(&self) -> Self::Parts {
         (
             (
@@ -175,3 +184,35 @@ impl CopyParts for Ntp {
         )
     }
 }
+
+impl DekuReader<()> for Ntp {
+    ghost no_read_ahead = { ⟦<NtpParts as DekuReader<()>>⟧.no_read_ahead };
+
+    ghost meaning = { λ c. Then (⟦<NtpParts as DekuReader<()>>⟧.meaning c)
+        (Shows ⟦<Ntp as FromParts>⟧.parts_of) };
+
+    #[inline(always)]
+    fn from_reader_with_ctx<R: Source>(reader: &mut Reader<R>, ctx: ()) -> Result<Self, DekuError> {
+        read_record(reader, ctx)
+    }
+}
+
+impl DekuWriter<()> for Ntp {
+    ghost meaning = { λ v. ⟦<NtpParts as DekuWriter<()>>⟧.meaning
+        (⟦<Ntp as FromParts>⟧.parts_of v) };
+
+    #[inline(always)]
+    fn to_writer<W: Sink>(&self, writer: &mut Writer<W>, ctx: ()) -> Result<(), DekuError> {
+        write_record(self, writer, ctx)
+    }
+}
+
+impl Record<()> for Ntp {
+    ghost reads = { λ c b s r u m. m };
+
+    ghost writes = { λ c v b s r u m. m };
+}
+
+impl DekuContainerRead for Ntp {}
+
+impl DekuContainerWrite for Ntp {}

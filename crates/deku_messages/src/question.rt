@@ -7,12 +7,16 @@
 //! ```
 
 ghost use Rattle.std.specs.Prelude.{refl};
+ghost use Rattle.deku.specs.Composing.{Then};
+ghost use Rattle.deku.specs.Shapes.{Shows};
 ghost use Rattle.deku_symmetry.specs.Fields.{be};
 
 use crate::name::Name;
-use deku::device::Sink;
-use deku::prelude::{DekuError, DekuWriter, Writer};
-use deku_symmetry::{Be, Codec, WriteParts};
+use deku::device::{Sink, Source};
+use deku::prelude::{
+    DekuContainerRead, DekuContainerWrite, DekuError, DekuReader, DekuWriter, Reader, Writer,
+};
+use deku_symmetry::{Be, FromParts, Record, read_record};
 
 /// A question.
 #[derive(Debug, PartialEq, Eq, Drop)]
@@ -25,8 +29,11 @@ pub struct Question {
     pub class: u16,
 }
 
-impl Codec for Question {
-    type Parts = (Name, Be<u16>, Be<u16>);
+// The parts of Question, in their order.
+type QuestionParts = (Name, Be<u16>, Be<u16>);
+
+impl FromParts for Question {
+    type Parts = QuestionParts;
 
     ghost parts_of = { λ r. (r.name, be r.kind, be r.class) };
 
@@ -39,8 +46,34 @@ impl Codec for Question {
     ghost there = { λ r. refl };
 }
 
-impl WriteParts for Question {
-    fn write<W: Sink>(&self, writer: &mut Writer<W>) -> Result<(), DekuError> {
-        (&self.name, Be(self.kind), Be(self.class)).to_writer(writer, ())
+impl DekuReader<()> for Question {
+    ghost no_read_ahead = { ⟦<QuestionParts as DekuReader<()>>⟧.no_read_ahead };
+
+    ghost meaning = { λ c. Then (⟦<QuestionParts as DekuReader<()>>⟧.meaning c)
+        (Shows ⟦<Question as FromParts>⟧.parts_of) };
+
+    #[inline(always)]
+    fn from_reader_with_ctx<R: Source>(reader: &mut Reader<R>, ctx: ()) -> Result<Self, DekuError> {
+        read_record(reader, ctx)
     }
 }
+
+impl DekuWriter<()> for Question {
+    ghost meaning = { λ v. ⟦<QuestionParts as DekuWriter<()>>⟧.meaning
+        (⟦<Question as FromParts>⟧.parts_of v) };
+
+    #[inline(always)]
+    fn to_writer<W: Sink>(&self, writer: &mut Writer<W>, ctx: ()) -> Result<(), DekuError> {
+        (&self.name, Be(self.kind), Be(self.class)).to_writer(writer, ctx)
+    }
+}
+
+impl Record<()> for Question {
+    ghost reads = { λ c b s r u m. m };
+
+    ghost writes = { λ c v b s r u m. m };
+}
+
+impl DekuContainerRead for Question {}
+
+impl DekuContainerWrite for Question {}

@@ -11,12 +11,18 @@
 //! ```
 
 ghost use Rattle.std.specs.Prelude.{refl, Some};
+ghost use Rattle.deku.specs.Composing.{Then};
+ghost use Rattle.deku.specs.Shapes.{Shows};
 ghost use Rattle.deku_symmetry.specs.Fields.{be};
 
 use crate::name::Name;
-use deku::device::Sink;
-use deku::prelude::{DekuError, DekuWriter, Writer};
-use deku_symmetry::{Be, Codec, CountOf, CountOfLaw, CountedBy, CountedByRef, WriteParts};
+use deku::device::{Sink, Source};
+use deku::prelude::{
+    DekuContainerRead, DekuContainerWrite, DekuError, DekuReader, DekuWriter, Reader, Writer,
+};
+use deku_symmetry::{
+    Be, CountOf, CountOfLaw, CountedBy, CountedByRef, FromParts, Record, read_record,
+};
 use std::marker::PhantomData;
 
 /// A resource: what is known about a name.
@@ -52,14 +58,17 @@ impl CountOfLaw<Be<u16>> for ResourceBytesCount {
     ghost alike = { λ v w e. rw e refl };
 }
 
-impl Codec for Resource {
-    type Parts = (
-        Name,
-        Be<u16>,
-        Be<u16>,
-        Be<u32>,
-        CountedBy<Be<u16>, ResourceBytesCount, u8>,
-    );
+// The parts of Resource, in their order.
+type ResourceParts = (
+    Name,
+    Be<u16>,
+    Be<u16>,
+    Be<u32>,
+    CountedBy<Be<u16>, ResourceBytesCount, u8>,
+);
+
+impl FromParts for Resource {
+    type Parts = ResourceParts;
 
     ghost parts_of = { λ r. (
       r.name,
@@ -93,8 +102,24 @@ impl Codec for Resource {
     ghost there = { λ r. refl };
 }
 
-impl WriteParts for Resource {
-    fn write<W: Sink>(&self, writer: &mut Writer<W>) -> Result<(), DekuError> {
+impl DekuReader<()> for Resource {
+    ghost no_read_ahead = { ⟦<ResourceParts as DekuReader<()>>⟧.no_read_ahead };
+
+    ghost meaning = { λ c. Then (⟦<ResourceParts as DekuReader<()>>⟧.meaning c)
+        (Shows ⟦<Resource as FromParts>⟧.parts_of) };
+
+    #[inline(always)]
+    fn from_reader_with_ctx<R: Source>(reader: &mut Reader<R>, ctx: ()) -> Result<Self, DekuError> {
+        read_record(reader, ctx)
+    }
+}
+
+impl DekuWriter<()> for Resource {
+    ghost meaning = { λ v. ⟦<ResourceParts as DekuWriter<()>>⟧.meaning
+        (⟦<Resource as FromParts>⟧.parts_of v) };
+
+    #[inline(always)]
+    fn to_writer<W: Sink>(&self, writer: &mut Writer<W>, ctx: ()) -> Result<(), DekuError> {
         let parts = (
             &self.name,
             Be(self.kind),
@@ -106,9 +131,19 @@ impl WriteParts for Resource {
                 count: PhantomData,
             },
         );
-        parts.to_writer(writer, ())
+        parts.to_writer(writer, ctx)
     }
 }
+
+impl Record<()> for Resource {
+    ghost reads = { λ c b s r u m. m };
+
+    ghost writes = { λ c v b s r u m. m };
+}
+
+impl DekuContainerRead for Resource {}
+
+impl DekuContainerWrite for Resource {}
 
 /// The data of kind 15: a server that takes mail.
 #[derive(Debug, PartialEq, Eq, Drop)]
@@ -119,8 +154,11 @@ pub struct MailServer {
     pub name: Name,
 }
 
-impl Codec for MailServer {
-    type Parts = (Be<u16>, Name);
+// The parts of MailServer, in their order.
+type MailServerParts = (Be<u16>, Name);
+
+impl FromParts for MailServer {
+    type Parts = MailServerParts;
 
     ghost parts_of = { λ r. (be r.preference, r.name) };
 
@@ -133,11 +171,37 @@ impl Codec for MailServer {
     ghost there = { λ r. refl };
 }
 
-impl WriteParts for MailServer {
-    fn write<W: Sink>(&self, writer: &mut Writer<W>) -> Result<(), DekuError> {
-        (Be(self.preference), &self.name).to_writer(writer, ())
+impl DekuReader<()> for MailServer {
+    ghost no_read_ahead = { ⟦<MailServerParts as DekuReader<()>>⟧.no_read_ahead };
+
+    ghost meaning = { λ c. Then (⟦<MailServerParts as DekuReader<()>>⟧.meaning c)
+        (Shows ⟦<MailServer as FromParts>⟧.parts_of) };
+
+    #[inline(always)]
+    fn from_reader_with_ctx<R: Source>(reader: &mut Reader<R>, ctx: ()) -> Result<Self, DekuError> {
+        read_record(reader, ctx)
     }
 }
+
+impl DekuWriter<()> for MailServer {
+    ghost meaning = { λ v. ⟦<MailServerParts as DekuWriter<()>>⟧.meaning
+        (⟦<MailServer as FromParts>⟧.parts_of v) };
+
+    #[inline(always)]
+    fn to_writer<W: Sink>(&self, writer: &mut Writer<W>, ctx: ()) -> Result<(), DekuError> {
+        (Be(self.preference), &self.name).to_writer(writer, ctx)
+    }
+}
+
+impl Record<()> for MailServer {
+    ghost reads = { λ c b s r u m. m };
+
+    ghost writes = { λ c v b s r u m. m };
+}
+
+impl DekuContainerRead for MailServer {}
+
+impl DekuContainerWrite for MailServer {}
 
 /// The data of kind 6: who is in charge of a part of the names.
 #[derive(Debug, PartialEq, Eq, Drop)]
@@ -158,8 +222,11 @@ pub struct Authority {
     pub minimum: u32,
 }
 
-impl Codec for Authority {
-    type Parts = (Name, Name, Be<u32>, Be<u32>, Be<u32>, Be<u32>, Be<u32>);
+// The parts of Authority, in their order.
+type AuthorityParts = (Name, Name, Be<u32>, Be<u32>, Be<u32>, Be<u32>, Be<u32>);
+
+impl FromParts for Authority {
+    type Parts = AuthorityParts;
 
     ghost parts_of = { λ r. (
       r.server,
@@ -197,8 +264,24 @@ impl Codec for Authority {
     ghost there = { λ r. refl };
 }
 
-impl WriteParts for Authority {
-    fn write<W: Sink>(&self, writer: &mut Writer<W>) -> Result<(), DekuError> {
+impl DekuReader<()> for Authority {
+    ghost no_read_ahead = { ⟦<AuthorityParts as DekuReader<()>>⟧.no_read_ahead };
+
+    ghost meaning = { λ c. Then (⟦<AuthorityParts as DekuReader<()>>⟧.meaning c)
+        (Shows ⟦<Authority as FromParts>⟧.parts_of) };
+
+    #[inline(always)]
+    fn from_reader_with_ctx<R: Source>(reader: &mut Reader<R>, ctx: ()) -> Result<Self, DekuError> {
+        read_record(reader, ctx)
+    }
+}
+
+impl DekuWriter<()> for Authority {
+    ghost meaning = { λ v. ⟦<AuthorityParts as DekuWriter<()>>⟧.meaning
+        (⟦<Authority as FromParts>⟧.parts_of v) };
+
+    #[inline(always)]
+    fn to_writer<W: Sink>(&self, writer: &mut Writer<W>, ctx: ()) -> Result<(), DekuError> {
         let parts = (
             &self.server,
             &self.mailbox,
@@ -208,9 +291,19 @@ impl WriteParts for Authority {
             Be(self.expire),
             Be(self.minimum),
         );
-        parts.to_writer(writer, ())
+        parts.to_writer(writer, ctx)
     }
 }
+
+impl Record<()> for Authority {
+    ghost reads = { λ c b s r u m. m };
+
+    ghost writes = { λ c v b s r u m. m };
+}
+
+impl DekuContainerRead for Authority {}
+
+impl DekuContainerWrite for Authority {}
 
 /// The data of the kinds 2 (NS), 5 (CNAME) and 12 (PTR): one name.
 #[derive(Debug, PartialEq, Eq, Drop)]
@@ -219,8 +312,11 @@ pub struct Target {
     pub name: Name,
 }
 
-impl Codec for Target {
-    type Parts = (Name, ());
+// The parts of Target, in their order.
+type TargetParts = (Name, ());
+
+impl FromParts for Target {
+    type Parts = TargetParts;
 
     ghost parts_of = { λ r. (r.name, tt) };
 
@@ -233,8 +329,34 @@ impl Codec for Target {
     ghost there = { λ r. refl };
 }
 
-impl WriteParts for Target {
-    fn write<W: Sink>(&self, writer: &mut Writer<W>) -> Result<(), DekuError> {
-        (&self.name, ()).to_writer(writer, ())
+impl DekuReader<()> for Target {
+    ghost no_read_ahead = { ⟦<TargetParts as DekuReader<()>>⟧.no_read_ahead };
+
+    ghost meaning = { λ c. Then (⟦<TargetParts as DekuReader<()>>⟧.meaning c)
+        (Shows ⟦<Target as FromParts>⟧.parts_of) };
+
+    #[inline(always)]
+    fn from_reader_with_ctx<R: Source>(reader: &mut Reader<R>, ctx: ()) -> Result<Self, DekuError> {
+        read_record(reader, ctx)
     }
 }
+
+impl DekuWriter<()> for Target {
+    ghost meaning = { λ v. ⟦<TargetParts as DekuWriter<()>>⟧.meaning
+        (⟦<Target as FromParts>⟧.parts_of v) };
+
+    #[inline(always)]
+    fn to_writer<W: Sink>(&self, writer: &mut Writer<W>, ctx: ()) -> Result<(), DekuError> {
+        (&self.name, ()).to_writer(writer, ctx)
+    }
+}
+
+impl Record<()> for Target {
+    ghost reads = { λ c b s r u m. m };
+
+    ghost writes = { λ c v b s r u m. m };
+}
+
+impl DekuContainerRead for Target {}
+
+impl DekuContainerWrite for Target {}

@@ -16,13 +16,17 @@
 //! Printed by `derive` from `rtp.rs`.
 
 ghost use Rattle.std.specs.Prelude.{nat_eq, Some, codes, refl};
+ghost use Rattle.deku.specs.Composing.{Then};
+ghost use Rattle.deku.specs.Shapes.{Shows};
 ghost use Rattle.deku_symmetry.specs.Fields.{be, msb};
 
-use deku::device::Sink;
-use deku::prelude::{DekuError, DekuWriter, Writer};
+use deku::device::{Sink, Source};
+use deku::prelude::{
+    DekuContainerRead, DekuContainerWrite, DekuError, DekuReader, DekuWriter, Reader, Writer,
+};
 use deku_symmetry::{
-    Assert, Be, Check, CheckLaw, Codec, CountOf, CountOfLaw, CountedBy, CountedByRef, Msb,
-    WriteParts,
+    Assert, Be, Check, CheckLaw, CountOf, CountOfLaw, CountedBy, CountedByRef, FromParts, Msb,
+    Record, read_record,
 };
 use std::marker::PhantomData;
 
@@ -116,13 +120,16 @@ impl Rtp {
     ];
 }
 
-impl Codec for Rtp {
-    type Parts = (
-        Assert<Msb<u8, 2>, RtpVersionValue>,
-        Msb<bool, 1>,
-        Msb<bool, 1>,
-        CountedBy<RtpContributingHead, RtpContributingCount, Be<u32>>,
-    );
+// The parts of Rtp, in their order.
+type RtpParts = (
+    Assert<Msb<u8, 2>, RtpVersionValue>,
+    Msb<bool, 1>,
+    Msb<bool, 1>,
+    CountedBy<RtpContributingHead, RtpContributingCount, Be<u32>>,
+);
+
+impl FromParts for Rtp {
+    type Parts = RtpParts;
 
     ghost parts_of = { λ r. (
       record { part = msb r.version; check = record {} },
@@ -193,8 +200,24 @@ impl Codec for Rtp {
     ghost there = { λ r. refl };
 }
 
-impl WriteParts for Rtp {
-    fn write<W: Sink>(&self, writer: &mut Writer<W>) -> Result<(), DekuError> {
+impl DekuReader<()> for Rtp {
+    ghost no_read_ahead = { ⟦<RtpParts as DekuReader<()>>⟧.no_read_ahead };
+
+    ghost meaning = { λ c. Then (⟦<RtpParts as DekuReader<()>>⟧.meaning c)
+        (Shows ⟦<Rtp as FromParts>⟧.parts_of) };
+
+    #[inline(always)]
+    fn from_reader_with_ctx<R: Source>(reader: &mut Reader<R>, ctx: ()) -> Result<Self, DekuError> {
+        read_record(reader, ctx)
+    }
+}
+
+impl DekuWriter<()> for Rtp {
+    ghost meaning = { λ v. ⟦<RtpParts as DekuWriter<()>>⟧.meaning
+        (⟦<Rtp as FromParts>⟧.parts_of v) };
+
+    #[inline(always)]
+    fn to_writer<W: Sink>(&self, writer: &mut Writer<W>, ctx: ()) -> Result<(), DekuError> {
         let parts = (
             Assert::<_, RtpVersionValue> {
                 part: Msb::<_, 2>(self.version),
@@ -215,6 +238,16 @@ impl WriteParts for Rtp {
                 count: PhantomData,
             },
         );
-        parts.to_writer(writer, ())
+        parts.to_writer(writer, ctx)
     }
 }
+
+impl Record<()> for Rtp {
+    ghost reads = { λ c b s r u m. m };
+
+    ghost writes = { λ c v b s r u m. m };
+}
+
+impl DekuContainerRead for Rtp {}
+
+impl DekuContainerWrite for Rtp {}

@@ -9,9 +9,15 @@
 //! Printed by `derive` from `tls.rs`.
 
 ghost use Rattle.std.specs.Prelude.{refl};
+ghost use Rattle.deku.specs.Composing.{Then};
+ghost use Rattle.deku.specs.Shapes.{Shows};
 ghost use Rattle.deku_symmetry.specs.Fields.{be};
 
-use deku_symmetry::{Be, Codec, CopyParts};
+use deku::device::{Sink, Source};
+use deku::prelude::{
+    DekuContainerRead, DekuContainerWrite, DekuError, DekuReader, DekuWriter, Reader, Writer,
+};
+use deku_symmetry::{Be, FromParts, Record, ToParts, read_record, write_record};
 
 /// The header of a record.
 #[derive(Debug, Clone, Copy, PartialEq, Eq)]
@@ -29,8 +35,11 @@ impl Tls {
     pub const FIELDS: [&'static str; 3] = ["content", "version", "length"];
 }
 
-impl Codec for Tls {
-    type Parts = (u8, Be<u16>, Be<u16>);
+// The parts of Tls, in their order.
+type TlsParts = (u8, Be<u16>, Be<u16>);
+
+impl FromParts for Tls {
+    type Parts = TlsParts;
 
     ghost parts_of = { λ r. (r.content, be r.version, be r.length) };
 
@@ -47,8 +56,40 @@ impl Codec for Tls {
     ghost there = { λ r. refl };
 }
 
-impl CopyParts for Tls {
+impl ToParts for Tls {
     fn parts(&self) -> Self::Parts {
         (self.content, Be(self.version), Be(self.length))
     }
 }
+
+impl DekuReader<()> for Tls {
+    ghost no_read_ahead = { ⟦<TlsParts as DekuReader<()>>⟧.no_read_ahead };
+
+    ghost meaning = { λ c. Then (⟦<TlsParts as DekuReader<()>>⟧.meaning c)
+        (Shows ⟦<Tls as FromParts>⟧.parts_of) };
+
+    #[inline(always)]
+    fn from_reader_with_ctx<R: Source>(reader: &mut Reader<R>, ctx: ()) -> Result<Self, DekuError> {
+        read_record(reader, ctx)
+    }
+}
+
+impl DekuWriter<()> for Tls {
+    ghost meaning = { λ v. ⟦<TlsParts as DekuWriter<()>>⟧.meaning
+        (⟦<Tls as FromParts>⟧.parts_of v) };
+
+    #[inline(always)]
+    fn to_writer<W: Sink>(&self, writer: &mut Writer<W>, ctx: ()) -> Result<(), DekuError> {
+        write_record(self, writer, ctx)
+    }
+}
+
+impl Record<()> for Tls {
+    ghost reads = { λ c b s r u m. m };
+
+    ghost writes = { λ c v b s r u m. m };
+}
+
+impl DekuContainerRead for Tls {}
+
+impl DekuContainerWrite for Tls {}

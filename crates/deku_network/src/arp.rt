@@ -15,9 +15,17 @@
 //! Printed by `derive` from `arp.rs`.
 
 ghost use Rattle.std.specs.Prelude.{nat_eq, codes, refl};
+ghost use Rattle.deku.specs.Composing.{Then};
+ghost use Rattle.deku.specs.Shapes.{Shows};
 ghost use Rattle.deku_symmetry.specs.Fields.{be};
 
-use deku_symmetry::{Assert, Be, Check, CheckLaw, Codec, CopyParts};
+use deku::device::{Sink, Source};
+use deku::prelude::{
+    DekuContainerRead, DekuContainerWrite, DekuError, DekuReader, DekuWriter, Reader, Writer,
+};
+use deku_symmetry::{
+    Assert, Be, Check, CheckLaw, FromParts, Record, ToParts, read_record, write_record,
+};
 use std::net::Ipv4Addr;
 
 /// A question who has an address, or the answer.
@@ -150,20 +158,23 @@ impl Arp {
     ];
 }
 
-impl Codec for Arp {
-    type Parts = (
-        (
-            Assert<Be<u16>, ArpHardwareValue>,
-            Assert<Be<u16>, ArpProtocolValue>,
-            Assert<u8, ArpHardwareLengthValue>,
-            Assert<u8, ArpProtocolLengthValue>,
-            Be<u16>,
-            [u8; 6],
-            Be<Ipv4Addr>,
-            [u8; 6],
-        ),
+// The parts of Arp, in their order.
+type ArpParts = (
+    (
+        Assert<Be<u16>, ArpHardwareValue>,
+        Assert<Be<u16>, ArpProtocolValue>,
+        Assert<u8, ArpHardwareLengthValue>,
+        Assert<u8, ArpProtocolLengthValue>,
+        Be<u16>,
+        [u8; 6],
         Be<Ipv4Addr>,
-    );
+        [u8; 6],
+    ),
+    Be<Ipv4Addr>,
+);
+
+impl FromParts for Arp {
+    type Parts = ArpParts;
 
     ghost parts_of = { λ r. (
       (
@@ -233,7 +244,7 @@ impl Codec for Arp {
     ghost there = { λ r. refl };
 }
 
-impl CopyParts for Arp {
+impl ToParts for Arp {
     fn parts(&self) -> Self::Parts {
         (
             (
@@ -250,3 +261,35 @@ impl CopyParts for Arp {
         )
     }
 }
+
+impl DekuReader<()> for Arp {
+    ghost no_read_ahead = { ⟦<ArpParts as DekuReader<()>>⟧.no_read_ahead };
+
+    ghost meaning = { λ c. Then (⟦<ArpParts as DekuReader<()>>⟧.meaning c)
+        (Shows ⟦<Arp as FromParts>⟧.parts_of) };
+
+    #[inline(always)]
+    fn from_reader_with_ctx<R: Source>(reader: &mut Reader<R>, ctx: ()) -> Result<Self, DekuError> {
+        read_record(reader, ctx)
+    }
+}
+
+impl DekuWriter<()> for Arp {
+    ghost meaning = { λ v. ⟦<ArpParts as DekuWriter<()>>⟧.meaning
+        (⟦<Arp as FromParts>⟧.parts_of v) };
+
+    #[inline(always)]
+    fn to_writer<W: Sink>(&self, writer: &mut Writer<W>, ctx: ()) -> Result<(), DekuError> {
+        write_record(self, writer, ctx)
+    }
+}
+
+impl Record<()> for Arp {
+    ghost reads = { λ c b s r u m. m };
+
+    ghost writes = { λ c v b s r u m. m };
+}
+
+impl DekuContainerRead for Arp {}
+
+impl DekuContainerWrite for Arp {}

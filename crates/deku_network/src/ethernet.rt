@@ -15,9 +15,15 @@
 //! Printed by `derive` from `ethernet.rs`.
 
 ghost use Rattle.std.specs.Prelude.{refl};
+ghost use Rattle.deku.specs.Composing.{Then};
+ghost use Rattle.deku.specs.Shapes.{Shows};
 ghost use Rattle.deku_symmetry.specs.Fields.{be, msb};
 
-use deku_symmetry::{Be, Codec, CopyParts, Msb};
+use deku::device::{Sink, Source};
+use deku::prelude::{
+    DekuContainerRead, DekuContainerWrite, DekuError, DekuReader, DekuWriter, Reader, Writer,
+};
+use deku_symmetry::{Be, FromParts, Msb, Record, ToParts, read_record, write_record};
 
 /// The header of a frame.
 #[derive(Debug, Clone, Copy, PartialEq, Eq)]
@@ -35,8 +41,11 @@ impl Ethernet {
     pub const FIELDS: [&'static str; 3] = ["destination", "source", "kind"];
 }
 
-impl Codec for Ethernet {
-    type Parts = ([u8; 6], [u8; 6], Be<u16>);
+// The parts of Ethernet, in their order.
+type EthernetParts = ([u8; 6], [u8; 6], Be<u16>);
+
+impl FromParts for Ethernet {
+    type Parts = EthernetParts;
 
     ghost parts_of = { λ r. (r.destination, r.source, be r.kind) };
 
@@ -53,11 +62,43 @@ impl Codec for Ethernet {
     ghost there = { λ r. refl };
 }
 
-impl CopyParts for Ethernet {
+impl ToParts for Ethernet {
     fn parts(&self) -> Self::Parts {
         (self.destination, self.source, Be(self.kind))
     }
 }
+
+impl DekuReader<()> for Ethernet {
+    ghost no_read_ahead = { ⟦<EthernetParts as DekuReader<()>>⟧.no_read_ahead };
+
+    ghost meaning = { λ c. Then (⟦<EthernetParts as DekuReader<()>>⟧.meaning c)
+        (Shows ⟦<Ethernet as FromParts>⟧.parts_of) };
+
+    #[inline(always)]
+    fn from_reader_with_ctx<R: Source>(reader: &mut Reader<R>, ctx: ()) -> Result<Self, DekuError> {
+        read_record(reader, ctx)
+    }
+}
+
+impl DekuWriter<()> for Ethernet {
+    ghost meaning = { λ v. ⟦<EthernetParts as DekuWriter<()>>⟧.meaning
+        (⟦<Ethernet as FromParts>⟧.parts_of v) };
+
+    #[inline(always)]
+    fn to_writer<W: Sink>(&self, writer: &mut Writer<W>, ctx: ()) -> Result<(), DekuError> {
+        write_record(self, writer, ctx)
+    }
+}
+
+impl Record<()> for Ethernet {
+    ghost reads = { λ c b s r u m. m };
+
+    ghost writes = { λ c v b s r u m. m };
+}
+
+impl DekuContainerRead for Ethernet {}
+
+impl DekuContainerWrite for Ethernet {}
 
 /// The tag of a virtual network.
 #[derive(Debug, Clone, Copy, PartialEq, Eq)]
@@ -77,8 +118,11 @@ impl Tag {
     pub const FIELDS: [&'static str; 4] = ["priority", "may_drop", "network", "kind"];
 }
 
-impl Codec for Tag {
-    type Parts = (Msb<u8, 3>, Msb<bool, 1>, Msb<u16, 12>, Be<u16>);
+// The parts of Tag, in their order.
+type TagParts = (Msb<u8, 3>, Msb<bool, 1>, Msb<u16, 12>, Be<u16>);
+
+impl FromParts for Tag {
+    type Parts = TagParts;
 
     ghost parts_of = { λ r. (msb r.priority, msb r.may_drop, msb r.network, be r.kind) };
 
@@ -101,7 +145,7 @@ impl Codec for Tag {
     ghost there = { λ r. refl };
 }
 
-impl CopyParts for Tag {
+impl ToParts for Tag {
     fn parts(&self) -> Self::Parts {
         (
             Msb(self.priority),
@@ -111,3 +155,35 @@ impl CopyParts for Tag {
         )
     }
 }
+
+impl DekuReader<()> for Tag {
+    ghost no_read_ahead = { ⟦<TagParts as DekuReader<()>>⟧.no_read_ahead };
+
+    ghost meaning = { λ c. Then (⟦<TagParts as DekuReader<()>>⟧.meaning c)
+        (Shows ⟦<Tag as FromParts>⟧.parts_of) };
+
+    #[inline(always)]
+    fn from_reader_with_ctx<R: Source>(reader: &mut Reader<R>, ctx: ()) -> Result<Self, DekuError> {
+        read_record(reader, ctx)
+    }
+}
+
+impl DekuWriter<()> for Tag {
+    ghost meaning = { λ v. ⟦<TagParts as DekuWriter<()>>⟧.meaning
+        (⟦<Tag as FromParts>⟧.parts_of v) };
+
+    #[inline(always)]
+    fn to_writer<W: Sink>(&self, writer: &mut Writer<W>, ctx: ()) -> Result<(), DekuError> {
+        write_record(self, writer, ctx)
+    }
+}
+
+impl Record<()> for Tag {
+    ghost reads = { λ c b s r u m. m };
+
+    ghost writes = { λ c v b s r u m. m };
+}
+
+impl DekuContainerRead for Tag {}
+
+impl DekuContainerWrite for Tag {}

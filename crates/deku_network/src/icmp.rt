@@ -14,11 +14,20 @@
 //! Printed by `derive` from `icmp.rs`.
 
 ghost use Rattle.std.specs.Prelude.{refl};
+ghost use Rattle.deku.specs.Composing.{Then};
+ghost use Rattle.deku.specs.Shapes.{Shows};
 ghost use Rattle.deku_symmetry.specs.Fields.{be};
 ghost use Rattle.deku_pieces.specs.declared.either.Either.TheVariants as either;
 ghost use Rattle.deku_network.specs.declared.icmp.Icmp.TheVariants as icmp_kinds;
 
-use deku_symmetry::{Be, Codec, CopyParts, Either, Enum, InRange, Kind, MsbEnum, Otherwise};
+use deku::device::{Sink, Source};
+use deku::prelude::{
+    DekuContainerRead, DekuContainerWrite, DekuError, DekuReader, DekuWriter, Reader, Writer,
+};
+use deku_symmetry::{
+    Be, Either, Enum, FromParts, InRange, Kind, MsbEnum, Otherwise, Record, ToParts, read_record,
+    write_record,
+};
 
 /// The beginning of a message, by its kind.
 #[derive(Debug, Clone, Copy, PartialEq, Eq)]
@@ -54,20 +63,23 @@ pub enum Icmp {
     Other(u64, u8, u16),
 }
 
-impl Codec for Icmp {
-    type Parts = MsbEnum<
+// The parts of Icmp, in their order.
+type IcmpParts = MsbEnum<
+    Either<
         Either<
             Either<
-                Either<
-                    Kind<(u8, Be<u16>, Be<u16>, Be<u16>), 0>,
-                    Kind<(u8, Be<u16>, Be<u16>, Be<u16>), 3>,
-                >,
-                Either<Kind<(u8, Be<u16>, Be<u16>, Be<u16>), 8>, Kind<(u8, Be<u16>, Be<u32>), 11>>,
+                Kind<(u8, Be<u16>, Be<u16>, Be<u16>), 0>,
+                Kind<(u8, Be<u16>, Be<u16>, Be<u16>), 3>,
             >,
-            Otherwise<(u8, Be<u16>)>,
+            Either<Kind<(u8, Be<u16>, Be<u16>, Be<u16>), 8>, Kind<(u8, Be<u16>, Be<u32>), 11>>,
         >,
-        8,
-    >;
+        Otherwise<(u8, Be<u16>)>,
+    >,
+    8,
+>;
+
+impl FromParts for Icmp {
+    type Parts = IcmpParts;
 
     ghost parts_of = { elim [
       | icmp_kinds.EchoReply code checksum identifier sequence ↦ record {
@@ -163,7 +175,7 @@ impl Codec for Icmp {
     ] };
 }
 
-impl CopyParts for Icmp {
+impl ToParts for Icmp {
     fn parts(&self) -> Self::Parts {
         match self {
             Icmp::EchoReply {
@@ -225,3 +237,35 @@ impl CopyParts for Icmp {
         }
     }
 }
+
+impl DekuReader<()> for Icmp {
+    ghost no_read_ahead = { ⟦<IcmpParts as DekuReader<()>>⟧.no_read_ahead };
+
+    ghost meaning = { λ c. Then (⟦<IcmpParts as DekuReader<()>>⟧.meaning c)
+        (Shows ⟦<Icmp as FromParts>⟧.parts_of) };
+
+    #[inline(always)]
+    fn from_reader_with_ctx<R: Source>(reader: &mut Reader<R>, ctx: ()) -> Result<Self, DekuError> {
+        read_record(reader, ctx)
+    }
+}
+
+impl DekuWriter<()> for Icmp {
+    ghost meaning = { λ v. ⟦<IcmpParts as DekuWriter<()>>⟧.meaning
+        (⟦<Icmp as FromParts>⟧.parts_of v) };
+
+    #[inline(always)]
+    fn to_writer<W: Sink>(&self, writer: &mut Writer<W>, ctx: ()) -> Result<(), DekuError> {
+        write_record(self, writer, ctx)
+    }
+}
+
+impl Record<()> for Icmp {
+    ghost reads = { λ c b s r u m. m };
+
+    ghost writes = { λ c v b s r u m. m };
+}
+
+impl DekuContainerRead for Icmp {}
+
+impl DekuContainerWrite for Icmp {}

@@ -12,11 +12,20 @@
 //! Printed by `derive` from `icmpv6.rs`.
 
 ghost use Rattle.std.specs.Prelude.{refl};
+ghost use Rattle.deku.specs.Composing.{Then};
+ghost use Rattle.deku.specs.Shapes.{Shows};
 ghost use Rattle.deku_symmetry.specs.Fields.{be};
 ghost use Rattle.deku_pieces.specs.declared.either.Either.TheVariants as either;
 ghost use Rattle.deku_network.specs.declared.icmpv6.Icmpv6.TheVariants as icmpv6_kinds;
 
-use deku_symmetry::{Be, Codec, CopyParts, Either, Enum, InRange, Kind, MsbEnum, Otherwise};
+use deku::device::{Sink, Source};
+use deku::prelude::{
+    DekuContainerRead, DekuContainerWrite, DekuError, DekuReader, DekuWriter, Reader, Writer,
+};
+use deku_symmetry::{
+    Be, Either, Enum, FromParts, InRange, Kind, MsbEnum, Otherwise, Record, ToParts, read_record,
+    write_record,
+};
 
 /// The beginning of a message, by its kind.
 #[derive(Debug, Clone, Copy, PartialEq, Eq)]
@@ -51,20 +60,23 @@ pub enum Icmpv6 {
     Other(u64, u8, u16),
 }
 
-impl Codec for Icmpv6 {
-    type Parts = MsbEnum<
+// The parts of Icmpv6, in their order.
+type Icmpv6Parts = MsbEnum<
+    Either<
         Either<
+            Either<Kind<(u8, Be<u16>, Be<u32>), 1>, Kind<(u8, Be<u16>, Be<u32>), 3>>,
             Either<
-                Either<Kind<(u8, Be<u16>, Be<u32>), 1>, Kind<(u8, Be<u16>, Be<u32>), 3>>,
-                Either<
-                    Kind<(u8, Be<u16>, Be<u16>, Be<u16>), 128>,
-                    Kind<(u8, Be<u16>, Be<u16>, Be<u16>), 129>,
-                >,
+                Kind<(u8, Be<u16>, Be<u16>, Be<u16>), 128>,
+                Kind<(u8, Be<u16>, Be<u16>, Be<u16>), 129>,
             >,
-            Otherwise<(u8, Be<u16>)>,
         >,
-        8,
-    >;
+        Otherwise<(u8, Be<u16>)>,
+    >,
+    8,
+>;
+
+impl FromParts for Icmpv6 {
+    type Parts = Icmpv6Parts;
 
     ghost parts_of = { elim [
       | icmpv6_kinds.Unreachable code checksum unused ↦ record {
@@ -158,7 +170,7 @@ impl Codec for Icmpv6 {
     ] };
 }
 
-impl CopyParts for Icmpv6 {
+impl ToParts for Icmpv6 {
     fn parts(&self) -> Self::Parts {
         match self {
             Icmpv6::Unreachable {
@@ -218,3 +230,35 @@ impl CopyParts for Icmpv6 {
         }
     }
 }
+
+impl DekuReader<()> for Icmpv6 {
+    ghost no_read_ahead = { ⟦<Icmpv6Parts as DekuReader<()>>⟧.no_read_ahead };
+
+    ghost meaning = { λ c. Then (⟦<Icmpv6Parts as DekuReader<()>>⟧.meaning c)
+        (Shows ⟦<Icmpv6 as FromParts>⟧.parts_of) };
+
+    #[inline(always)]
+    fn from_reader_with_ctx<R: Source>(reader: &mut Reader<R>, ctx: ()) -> Result<Self, DekuError> {
+        read_record(reader, ctx)
+    }
+}
+
+impl DekuWriter<()> for Icmpv6 {
+    ghost meaning = { λ v. ⟦<Icmpv6Parts as DekuWriter<()>>⟧.meaning
+        (⟦<Icmpv6 as FromParts>⟧.parts_of v) };
+
+    #[inline(always)]
+    fn to_writer<W: Sink>(&self, writer: &mut Writer<W>, ctx: ()) -> Result<(), DekuError> {
+        write_record(self, writer, ctx)
+    }
+}
+
+impl Record<()> for Icmpv6 {
+    ghost reads = { λ c b s r u m. m };
+
+    ghost writes = { λ c v b s r u m. m };
+}
+
+impl DekuContainerRead for Icmpv6 {}
+
+impl DekuContainerWrite for Icmpv6 {}

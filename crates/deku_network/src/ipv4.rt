@@ -19,13 +19,17 @@
 //! Printed by `derive` from `ipv4.rs`.
 
 ghost use Rattle.std.specs.Prelude.{◌-◌, ◌*◌, nat_eq, nat_lt, None, Some, if◌then◌else◌, codes, refl};
+ghost use Rattle.deku.specs.Composing.{Then};
+ghost use Rattle.deku.specs.Shapes.{Shows};
 ghost use Rattle.deku_symmetry.specs.Fields.{be, msb};
 
-use deku::device::Sink;
-use deku::prelude::{DekuError, DekuWriter, Writer};
+use deku::device::{Sink, Source};
+use deku::prelude::{
+    DekuContainerRead, DekuContainerWrite, DekuError, DekuReader, DekuWriter, Reader, Writer,
+};
 use deku_symmetry::{
-    Assert, Be, Check, CheckLaw, Codec, CountOf, CountOfLaw, CountedBy, CountedByRef, Msb,
-    WriteParts,
+    Assert, Be, Check, CheckLaw, CountOf, CountOfLaw, CountedBy, CountedByRef, FromParts, Msb,
+    Record, read_record,
 };
 use std::marker::PhantomData;
 use std::net::Ipv4Addr;
@@ -146,11 +150,14 @@ impl Ipv4 {
     ];
 }
 
-impl Codec for Ipv4 {
-    type Parts = (
-        Assert<Msb<u8, 4>, Ipv4VersionValue>,
-        CountedBy<Ipv4OptionsHead, Ipv4OptionsCount, u8>,
-    );
+// The parts of Ipv4, in their order.
+type Ipv4Parts = (
+    Assert<Msb<u8, 4>, Ipv4VersionValue>,
+    CountedBy<Ipv4OptionsHead, Ipv4OptionsCount, u8>,
+);
+
+impl FromParts for Ipv4 {
+    type Parts = Ipv4Parts;
 
     ghost parts_of = { λ r. (
       record { part = msb r.version; check = record {} },
@@ -239,8 +246,24 @@ impl Codec for Ipv4 {
     ghost there = { λ r. refl };
 }
 
-impl WriteParts for Ipv4 {
-    fn write<W: Sink>(&self, writer: &mut Writer<W>) -> Result<(), DekuError> {
+impl DekuReader<()> for Ipv4 {
+    ghost no_read_ahead = { ⟦<Ipv4Parts as DekuReader<()>>⟧.no_read_ahead };
+
+    ghost meaning = { λ c. Then (⟦<Ipv4Parts as DekuReader<()>>⟧.meaning c)
+        (Shows ⟦<Ipv4 as FromParts>⟧.parts_of) };
+
+    #[inline(always)]
+    fn from_reader_with_ctx<R: Source>(reader: &mut Reader<R>, ctx: ()) -> Result<Self, DekuError> {
+        read_record(reader, ctx)
+    }
+}
+
+impl DekuWriter<()> for Ipv4 {
+    ghost meaning = { λ v. ⟦<Ipv4Parts as DekuWriter<()>>⟧.meaning
+        (⟦<Ipv4 as FromParts>⟧.parts_of v) };
+
+    #[inline(always)]
+    fn to_writer<W: Sink>(&self, writer: &mut Writer<W>, ctx: ()) -> Result<(), DekuError> {
         let parts = (
             Assert::<_, Ipv4VersionValue> {
                 part: Msb::<_, 4>(self.version),
@@ -271,6 +294,16 @@ impl WriteParts for Ipv4 {
                 count: PhantomData,
             },
         );
-        parts.to_writer(writer, ())
+        parts.to_writer(writer, ctx)
     }
 }
+
+impl Record<()> for Ipv4 {
+    ghost reads = { λ c b s r u m. m };
+
+    ghost writes = { λ c v b s r u m. m };
+}
+
+impl DekuContainerRead for Ipv4 {}
+
+impl DekuContainerWrite for Ipv4 {}

@@ -15,13 +15,17 @@
 //! Printed by `derive` from `ipv6.rs`.
 
 ghost use Rattle.std.specs.Prelude.{◌+◌, ◌*◌, nat_eq, Some, codes, refl};
+ghost use Rattle.deku.specs.Composing.{Then};
+ghost use Rattle.deku.specs.Shapes.{Shows};
 ghost use Rattle.deku_symmetry.specs.Fields.{be, msb};
 
-use deku::device::Sink;
-use deku::prelude::{DekuError, DekuWriter, Writer};
+use deku::device::{Sink, Source};
+use deku::prelude::{
+    DekuContainerRead, DekuContainerWrite, DekuError, DekuReader, DekuWriter, Reader, Writer,
+};
 use deku_symmetry::{
-    Assert, Be, Check, CheckLaw, Codec, CopyParts, CountOf, CountOfLaw, CountedBy, CountedByRef,
-    Msb, WriteParts,
+    Assert, Be, Check, CheckLaw, CountOf, CountOfLaw, CountedBy, CountedByRef, FromParts, Msb,
+    Record, ToParts, read_record, write_record,
 };
 use std::marker::PhantomData;
 use std::net::Ipv6Addr;
@@ -84,17 +88,20 @@ impl Ipv6 {
     ];
 }
 
-impl Codec for Ipv6 {
-    type Parts = (
-        Assert<Msb<u8, 4>, Ipv6VersionValue>,
-        u8,
-        Msb<u32, 20>,
-        Be<u16>,
-        u8,
-        u8,
-        Be<Ipv6Addr>,
-        Be<Ipv6Addr>,
-    );
+// The parts of Ipv6, in their order.
+type Ipv6Parts = (
+    Assert<Msb<u8, 4>, Ipv6VersionValue>,
+    u8,
+    Msb<u32, 20>,
+    Be<u16>,
+    u8,
+    u8,
+    Be<Ipv6Addr>,
+    Be<Ipv6Addr>,
+);
+
+impl FromParts for Ipv6 {
+    type Parts = Ipv6Parts;
 
     ghost parts_of = { λ r. (
       record { part = msb r.version; check = record {} },
@@ -147,7 +154,7 @@ impl Codec for Ipv6 {
     ghost there = { λ r. refl };
 }
 
-impl CopyParts for Ipv6 {
+impl ToParts for Ipv6 {
     fn parts(&self) -> Self::Parts {
         (
             Assert::new(Msb(self.version)),
@@ -161,6 +168,38 @@ impl CopyParts for Ipv6 {
         )
     }
 }
+
+impl DekuReader<()> for Ipv6 {
+    ghost no_read_ahead = { ⟦<Ipv6Parts as DekuReader<()>>⟧.no_read_ahead };
+
+    ghost meaning = { λ c. Then (⟦<Ipv6Parts as DekuReader<()>>⟧.meaning c)
+        (Shows ⟦<Ipv6 as FromParts>⟧.parts_of) };
+
+    #[inline(always)]
+    fn from_reader_with_ctx<R: Source>(reader: &mut Reader<R>, ctx: ()) -> Result<Self, DekuError> {
+        read_record(reader, ctx)
+    }
+}
+
+impl DekuWriter<()> for Ipv6 {
+    ghost meaning = { λ v. ⟦<Ipv6Parts as DekuWriter<()>>⟧.meaning
+        (⟦<Ipv6 as FromParts>⟧.parts_of v) };
+
+    #[inline(always)]
+    fn to_writer<W: Sink>(&self, writer: &mut Writer<W>, ctx: ()) -> Result<(), DekuError> {
+        write_record(self, writer, ctx)
+    }
+}
+
+impl Record<()> for Ipv6 {
+    ghost reads = { λ c b s r u m. m };
+
+    ghost writes = { λ c v b s r u m. m };
+}
+
+impl DekuContainerRead for Ipv6 {}
+
+impl DekuContainerWrite for Ipv6 {}
 
 /// The extension headers hop-by-hop (0) and destination (60): options for the routers on the way,
 /// and for the receiver.
@@ -196,8 +235,11 @@ impl Options {
     pub const FIELDS: [&'static str; 3] = ["next", "length", "options"];
 }
 
-impl Codec for Options {
-    type Parts = (u8, CountedBy<u8, OptionsOptionsCount, u8>);
+// The parts of Options, in their order.
+type OptionsParts = (u8, CountedBy<u8, OptionsOptionsCount, u8>);
+
+impl FromParts for Options {
+    type Parts = OptionsParts;
 
     ghost parts_of = { λ r. (
       r.next,
@@ -225,8 +267,24 @@ impl Codec for Options {
     ghost there = { λ r. refl };
 }
 
-impl WriteParts for Options {
-    fn write<W: Sink>(&self, writer: &mut Writer<W>) -> Result<(), DekuError> {
+impl DekuReader<()> for Options {
+    ghost no_read_ahead = { ⟦<OptionsParts as DekuReader<()>>⟧.no_read_ahead };
+
+    ghost meaning = { λ c. Then (⟦<OptionsParts as DekuReader<()>>⟧.meaning c)
+        (Shows ⟦<Options as FromParts>⟧.parts_of) };
+
+    #[inline(always)]
+    fn from_reader_with_ctx<R: Source>(reader: &mut Reader<R>, ctx: ()) -> Result<Self, DekuError> {
+        read_record(reader, ctx)
+    }
+}
+
+impl DekuWriter<()> for Options {
+    ghost meaning = { λ v. ⟦<OptionsParts as DekuWriter<()>>⟧.meaning
+        (⟦<Options as FromParts>⟧.parts_of v) };
+
+    #[inline(always)]
+    fn to_writer<W: Sink>(&self, writer: &mut Writer<W>, ctx: ()) -> Result<(), DekuError> {
         let parts = (
             self.next,
             CountedByRef::<_, OptionsOptionsCount, _> {
@@ -235,9 +293,19 @@ impl WriteParts for Options {
                 count: PhantomData,
             },
         );
-        parts.to_writer(writer, ())
+        parts.to_writer(writer, ctx)
     }
 }
+
+impl Record<()> for Options {
+    ghost reads = { λ c b s r u m. m };
+
+    ghost writes = { λ c v b s r u m. m };
+}
+
+impl DekuContainerRead for Options {}
+
+impl DekuContainerWrite for Options {}
 
 /// The extension header that lists routers to pass (43).
 #[derive(Debug, PartialEq, Eq, Drop)]
@@ -278,8 +346,11 @@ impl Routing {
     pub const FIELDS: [&'static str; 5] = ["next", "length", "kind", "left", "route"];
 }
 
-impl Codec for Routing {
-    type Parts = (u8, CountedBy<RoutingRouteHead, RoutingRouteCount, u8>);
+// The parts of Routing, in their order.
+type RoutingParts = (u8, CountedBy<RoutingRouteHead, RoutingRouteCount, u8>);
+
+impl FromParts for Routing {
+    type Parts = RoutingParts;
 
     ghost parts_of = { λ r. (
       r.next,
@@ -315,8 +386,24 @@ impl Codec for Routing {
     ghost there = { λ r. refl };
 }
 
-impl WriteParts for Routing {
-    fn write<W: Sink>(&self, writer: &mut Writer<W>) -> Result<(), DekuError> {
+impl DekuReader<()> for Routing {
+    ghost no_read_ahead = { ⟦<RoutingParts as DekuReader<()>>⟧.no_read_ahead };
+
+    ghost meaning = { λ c. Then (⟦<RoutingParts as DekuReader<()>>⟧.meaning c)
+        (Shows ⟦<Routing as FromParts>⟧.parts_of) };
+
+    #[inline(always)]
+    fn from_reader_with_ctx<R: Source>(reader: &mut Reader<R>, ctx: ()) -> Result<Self, DekuError> {
+        read_record(reader, ctx)
+    }
+}
+
+impl DekuWriter<()> for Routing {
+    ghost meaning = { λ v. ⟦<RoutingParts as DekuWriter<()>>⟧.meaning
+        (⟦<Routing as FromParts>⟧.parts_of v) };
+
+    #[inline(always)]
+    fn to_writer<W: Sink>(&self, writer: &mut Writer<W>, ctx: ()) -> Result<(), DekuError> {
         let parts = (
             self.next,
             CountedByRef::<_, RoutingRouteCount, _> {
@@ -325,9 +412,19 @@ impl WriteParts for Routing {
                 count: PhantomData,
             },
         );
-        parts.to_writer(writer, ())
+        parts.to_writer(writer, ctx)
     }
 }
+
+impl Record<()> for Routing {
+    ghost reads = { λ c b s r u m. m };
+
+    ghost writes = { λ c v b s r u m. m };
+}
+
+impl DekuContainerRead for Routing {}
+
+impl DekuContainerWrite for Routing {}
 
 /// The extension header of a packet that was cut (44).
 #[derive(Debug, Clone, Copy, PartialEq, Eq)]
@@ -358,8 +455,11 @@ impl Fragment {
     ];
 }
 
-impl Codec for Fragment {
-    type Parts = (u8, u8, Msb<u16, 13>, Msb<u8, 2>, Msb<bool, 1>, Be<u32>);
+// The parts of Fragment, in their order.
+type FragmentParts = (u8, u8, Msb<u16, 13>, Msb<u8, 2>, Msb<bool, 1>, Be<u32>);
+
+impl FromParts for Fragment {
+    type Parts = FragmentParts;
 
     ghost parts_of = { λ r. (
       r.next,
@@ -394,7 +494,7 @@ impl Codec for Fragment {
     ghost there = { λ r. refl };
 }
 
-impl CopyParts for Fragment {
+impl ToParts for Fragment {
     fn parts(&self) -> Self::Parts {
         (
             self.next,
@@ -406,3 +506,35 @@ impl CopyParts for Fragment {
         )
     }
 }
+
+impl DekuReader<()> for Fragment {
+    ghost no_read_ahead = { ⟦<FragmentParts as DekuReader<()>>⟧.no_read_ahead };
+
+    ghost meaning = { λ c. Then (⟦<FragmentParts as DekuReader<()>>⟧.meaning c)
+        (Shows ⟦<Fragment as FromParts>⟧.parts_of) };
+
+    #[inline(always)]
+    fn from_reader_with_ctx<R: Source>(reader: &mut Reader<R>, ctx: ()) -> Result<Self, DekuError> {
+        read_record(reader, ctx)
+    }
+}
+
+impl DekuWriter<()> for Fragment {
+    ghost meaning = { λ v. ⟦<FragmentParts as DekuWriter<()>>⟧.meaning
+        (⟦<Fragment as FromParts>⟧.parts_of v) };
+
+    #[inline(always)]
+    fn to_writer<W: Sink>(&self, writer: &mut Writer<W>, ctx: ()) -> Result<(), DekuError> {
+        write_record(self, writer, ctx)
+    }
+}
+
+impl Record<()> for Fragment {
+    ghost reads = { λ c b s r u m. m };
+
+    ghost writes = { λ c v b s r u m. m };
+}
+
+impl DekuContainerRead for Fragment {}
+
+impl DekuContainerWrite for Fragment {}

@@ -24,7 +24,6 @@ use deku_network::icmp::Icmp;
 use deku_network::icmpv6::Icmpv6;
 use deku_network::ipv4::Ipv4;
 use deku_network::ipv6::{Fragment, Ipv6, Options, Routing};
-use deku_symmetry::{Coded, WriteParts};
 use deku_transport::option::{Block, LargestSegment, TcpOption, Times, WindowScale};
 use deku_transport::tcp::Tcp;
 use deku_transport::udp::Udp;
@@ -33,66 +32,65 @@ use std::alloc::Global;
 /// A layer is written as its record. Bytes that no record describes are not written.
 impl DekuWriter<()> for Layer {
     ghost meaning = { λ v _. elim v [
-      | kinds.Ethernet x ↦ ⟦<Coded<Ethernet> as DekuWriter<()>>⟧.meaning (record { 0 = x }) tt
-      | kinds.Tag x ↦ ⟦<Coded<Tag> as DekuWriter<()>>⟧.meaning (record { 0 = x }) tt
-      | kinds.Arp x ↦ ⟦<Coded<Arp> as DekuWriter<()>>⟧.meaning (record { 0 = x }) tt
-      | kinds.Ipv4 x ↦ ⟦<Coded<Ipv4> as DekuWriter<()>>⟧.meaning (record { 0 = x }) tt
-      | kinds.Ipv6 x ↦ ⟦<Coded<Ipv6> as DekuWriter<()>>⟧.meaning (record { 0 = x }) tt
-      | kinds.Options x ↦ ⟦<Coded<Options> as DekuWriter<()>>⟧.meaning (record { 0 = x }) tt
-      | kinds.Routing x ↦ ⟦<Coded<Routing> as DekuWriter<()>>⟧.meaning (record { 0 = x }) tt
-      | kinds.Fragment x ↦ ⟦<Coded<Fragment> as DekuWriter<()>>⟧.meaning (record { 0 = x }) tt
-      | kinds.Icmp x ↦ ⟦<Coded<Icmp> as DekuWriter<()>>⟧.meaning (record { 0 = x }) tt
-      | kinds.Icmpv6 x ↦ ⟦<Coded<Icmpv6> as DekuWriter<()>>⟧.meaning (record { 0 = x }) tt
-      | kinds.Udp x ↦ ⟦<Coded<Udp> as DekuWriter<()>>⟧.meaning (record { 0 = x }) tt
-      | kinds.Tcp x ↦ ⟦<Coded<Tcp> as DekuWriter<()>>⟧.meaning (record { 0 = x }) tt
-      | kinds.TcpOption x ↦ ⟦<Coded<TcpOption> as DekuWriter<()>>⟧.meaning (record { 0 = x }) tt
-      | kinds.LargestSegment x ↦ ⟦<Coded<LargestSegment> as DekuWriter<()>>⟧.meaning
-          (record { 0 = x }) tt
-      | kinds.WindowScale x ↦ ⟦<Coded<WindowScale> as DekuWriter<()>>⟧.meaning (record { 0 = x }) tt
-      | kinds.Block x ↦ ⟦<Coded<Block> as DekuWriter<()>>⟧.meaning (record { 0 = x }) tt
-      | kinds.Times x ↦ ⟦<Coded<Times> as DekuWriter<()>>⟧.meaning (record { 0 = x }) tt
-      | kinds.Dns x ↦ ⟦<Coded<Header> as DekuWriter<()>>⟧.meaning (record { 0 = x }) tt
-      | kinds.Question x ↦ ⟦<Coded<Question> as DekuWriter<()>>⟧.meaning (record { 0 = x }) tt
-      | kinds.Resource x ↦ ⟦<Coded<Resource> as DekuWriter<()>>⟧.meaning (record { 0 = x }) tt
-      | kinds.Target x ↦ ⟦<Coded<Target> as DekuWriter<()>>⟧.meaning (record { 0 = x }) tt
-      | kinds.MailServer x ↦ ⟦<Coded<MailServer> as DekuWriter<()>>⟧.meaning (record { 0 = x }) tt
-      | kinds.Authority x ↦ ⟦<Coded<Authority> as DekuWriter<()>>⟧.meaning (record { 0 = x }) tt
-      | kinds.Text x ↦ ⟦<Coded<Text> as DekuWriter<()>>⟧.meaning (record { 0 = x }) tt
-      | kinds.Ntp x ↦ ⟦<Coded<Ntp> as DekuWriter<()>>⟧.meaning (record { 0 = x }) tt
-      | kinds.Rtp x ↦ ⟦<Coded<Rtp> as DekuWriter<()>>⟧.meaning (record { 0 = x }) tt
-      | kinds.Tls x ↦ ⟦<Coded<Tls> as DekuWriter<()>>⟧.meaning (record { 0 = x }) tt
+      | kinds.Ethernet x ↦ ⟦<Ethernet as DekuWriter<()>>⟧.meaning x tt
+      | kinds.Tag x ↦ ⟦<Tag as DekuWriter<()>>⟧.meaning x tt
+      | kinds.Arp x ↦ ⟦<Arp as DekuWriter<()>>⟧.meaning x tt
+      | kinds.Ipv4 x ↦ ⟦<Ipv4 as DekuWriter<()>>⟧.meaning x tt
+      | kinds.Ipv6 x ↦ ⟦<Ipv6 as DekuWriter<()>>⟧.meaning x tt
+      | kinds.Options x ↦ ⟦<Options as DekuWriter<()>>⟧.meaning x tt
+      | kinds.Routing x ↦ ⟦<Routing as DekuWriter<()>>⟧.meaning x tt
+      | kinds.Fragment x ↦ ⟦<Fragment as DekuWriter<()>>⟧.meaning x tt
+      | kinds.Icmp x ↦ ⟦<Icmp as DekuWriter<()>>⟧.meaning x tt
+      | kinds.Icmpv6 x ↦ ⟦<Icmpv6 as DekuWriter<()>>⟧.meaning x tt
+      | kinds.Udp x ↦ ⟦<Udp as DekuWriter<()>>⟧.meaning x tt
+      | kinds.Tcp x ↦ ⟦<Tcp as DekuWriter<()>>⟧.meaning x tt
+      | kinds.TcpOption x ↦ ⟦<TcpOption as DekuWriter<()>>⟧.meaning x tt
+      | kinds.LargestSegment x ↦ ⟦<LargestSegment as DekuWriter<()>>⟧.meaning x tt
+      | kinds.WindowScale x ↦ ⟦<WindowScale as DekuWriter<()>>⟧.meaning x tt
+      | kinds.Block x ↦ ⟦<Block as DekuWriter<()>>⟧.meaning x tt
+      | kinds.Times x ↦ ⟦<Times as DekuWriter<()>>⟧.meaning x tt
+      | kinds.Dns x ↦ ⟦<Header as DekuWriter<()>>⟧.meaning x tt
+      | kinds.Question x ↦ ⟦<Question as DekuWriter<()>>⟧.meaning x tt
+      | kinds.Resource x ↦ ⟦<Resource as DekuWriter<()>>⟧.meaning x tt
+      | kinds.Target x ↦ ⟦<Target as DekuWriter<()>>⟧.meaning x tt
+      | kinds.MailServer x ↦ ⟦<MailServer as DekuWriter<()>>⟧.meaning x tt
+      | kinds.Authority x ↦ ⟦<Authority as DekuWriter<()>>⟧.meaning x tt
+      | kinds.Text x ↦ ⟦<Text as DekuWriter<()>>⟧.meaning x tt
+      | kinds.Ntp x ↦ ⟦<Ntp as DekuWriter<()>>⟧.meaning x tt
+      | kinds.Rtp x ↦ ⟦<Rtp as DekuWriter<()>>⟧.meaning x tt
+      | kinds.Tls x ↦ ⟦<Tls as DekuWriter<()>>⟧.meaning x tt
       | kinds.Rest ↦ ⟦<() as DekuWriter<()>>⟧.meaning tt tt
     ] };
 
     fn to_writer<W: Sink>(&self, writer: &mut Writer<W>, _ctx: ()) -> Result<(), DekuError> {
         match self {
-            Layer::Ethernet(x) => x.write(writer),
-            Layer::Tag(x) => x.write(writer),
-            Layer::Arp(x) => x.write(writer),
-            Layer::Ipv4(x) => x.write(writer),
-            Layer::Ipv6(x) => x.write(writer),
-            Layer::Options(x) => x.write(writer),
-            Layer::Routing(x) => x.write(writer),
-            Layer::Fragment(x) => x.write(writer),
-            Layer::Icmp(x) => x.write(writer),
-            Layer::Icmpv6(x) => x.write(writer),
-            Layer::Udp(x) => x.write(writer),
-            Layer::Tcp(x) => x.write(writer),
-            Layer::TcpOption(x) => x.write(writer),
-            Layer::LargestSegment(x) => x.write(writer),
-            Layer::WindowScale(x) => x.write(writer),
-            Layer::Block(x) => x.write(writer),
-            Layer::Times(x) => x.write(writer),
-            Layer::Dns(x) => x.write(writer),
-            Layer::Question(x) => x.write(writer),
-            Layer::Resource(x) => x.write(writer),
-            Layer::Target(x) => x.write(writer),
-            Layer::MailServer(x) => x.write(writer),
-            Layer::Authority(x) => x.write(writer),
-            Layer::Text(x) => x.write(writer),
-            Layer::Ntp(x) => x.write(writer),
-            Layer::Rtp(x) => x.write(writer),
-            Layer::Tls(x) => x.write(writer),
+            Layer::Ethernet(x) => x.to_writer(writer, ()),
+            Layer::Tag(x) => x.to_writer(writer, ()),
+            Layer::Arp(x) => x.to_writer(writer, ()),
+            Layer::Ipv4(x) => x.to_writer(writer, ()),
+            Layer::Ipv6(x) => x.to_writer(writer, ()),
+            Layer::Options(x) => x.to_writer(writer, ()),
+            Layer::Routing(x) => x.to_writer(writer, ()),
+            Layer::Fragment(x) => x.to_writer(writer, ()),
+            Layer::Icmp(x) => x.to_writer(writer, ()),
+            Layer::Icmpv6(x) => x.to_writer(writer, ()),
+            Layer::Udp(x) => x.to_writer(writer, ()),
+            Layer::Tcp(x) => x.to_writer(writer, ()),
+            Layer::TcpOption(x) => x.to_writer(writer, ()),
+            Layer::LargestSegment(x) => x.to_writer(writer, ()),
+            Layer::WindowScale(x) => x.to_writer(writer, ()),
+            Layer::Block(x) => x.to_writer(writer, ()),
+            Layer::Times(x) => x.to_writer(writer, ()),
+            Layer::Dns(x) => x.to_writer(writer, ()),
+            Layer::Question(x) => x.to_writer(writer, ()),
+            Layer::Resource(x) => x.to_writer(writer, ()),
+            Layer::Target(x) => x.to_writer(writer, ()),
+            Layer::MailServer(x) => x.to_writer(writer, ()),
+            Layer::Authority(x) => x.to_writer(writer, ()),
+            Layer::Text(x) => x.to_writer(writer, ()),
+            Layer::Ntp(x) => x.to_writer(writer, ()),
+            Layer::Rtp(x) => x.to_writer(writer, ()),
+            Layer::Tls(x) => x.to_writer(writer, ()),
             Layer::Rest => ().to_writer(writer, ()),
         }
     }

@@ -2,40 +2,39 @@
 
 use crate::layer::Fields;
 use crate::packet::Refusal;
-use deku::prelude::{DekuContainerRead, DekuError, Reader};
-use deku_symmetry::{Codec, Coded};
+use deku::prelude::{DekuContainerRead, DekuError, DekuReader, Reader};
 use std::alloc::Global;
 use std::io::Cursor;
 
 /// The record at the start of the bytes, and how many bytes it has. `at` is where the bytes are in
 /// the packet, and `fields` are those of the record: an error names them.
-pub fn first<E: Codec>(
+pub fn first<E: DekuContainerRead>(
     alloc: Global,
     bytes: &[u8],
     at: usize,
     fields: &Fields,
 ) -> Result<(E, usize), Refusal>
-    requires { E.Parts.DekuReader.accepts tt }
+    requires { E.DekuReader.accepts tt }
 {
-    match Coded::<E>::from_bytes(alloc, (bytes, 0)) {
-        Ok(((rest, _), Coded(record))) => Ok((record, bytes.len().saturating_sub(rest.len()))),
+    match E::from_bytes(alloc, (bytes, 0)) {
+        Ok(((rest, _), record)) => Ok((record, bytes.len().saturating_sub(rest.len()))),
         Err(fault) => Err(refused::<E>(alloc, bytes, at, fields, fault)),
     }
 }
 
 // The refusal for this error of the bytes. They are read once more, to find how many bits are read
 // before the error.
-fn refused<E: Codec>(
+fn refused<E: DekuContainerRead>(
     alloc: Global,
     bytes: &[u8],
     at: usize,
     fields: &Fields,
     fault: DekuError,
 ) -> Refusal
-    requires { E.Parts.DekuReader.accepts tt }
+    requires { E.DekuReader.accepts tt }
 {
     let mut reader = Reader::new(alloc, Cursor::new(bytes));
-    let _again = E::read(&mut reader);
+    let _again = E::from_reader_with_ctx(&mut reader, ());
     let bits = reader.bits_read();
     let (field, bit) = match fault {
         DekuError::Assertion(_) | DekuError::IdVariantNotFound => {

@@ -7,14 +7,13 @@ use crate::layer::{Fields, Layer, Placed};
 use crate::next::Next;
 use crate::packet::{MOST_HEADERS, Refusal};
 use crate::read::first;
-use deku::prelude::DekuError;
+use deku::prelude::{DekuContainerRead, DekuError};
 use deku_network::arp::Arp;
 use deku_network::ethernet::{Ethernet, Tag};
 use deku_network::icmp::Icmp;
 use deku_network::icmpv6::Icmpv6;
 use deku_network::ipv4::Ipv4;
 use deku_network::ipv6::{Fragment, Ipv6, Options, Routing};
-use deku_symmetry::Codec;
 use deku_transport::tcp::Tcp;
 use deku_transport::udp::Udp;
 use std::alloc::Global;
@@ -61,8 +60,8 @@ impl<'a> Walk<'a> {
     }
 
     /// Reads a record, of these fields.
-    pub fn read<E: Codec>(&mut self, fields: &Fields) -> Result<E, Refusal>
-        requires { E.Parts.DekuReader.accepts tt }
+    pub fn read<E: DekuContainerRead>(&mut self, fields: &Fields) -> Result<E, Refusal>
+        requires { E.DekuReader.accepts tt }
     {
         let (record, count) = first(self.alloc, self.rest(), self.at, fields)?;
         self.at = self.at.saturating_add(count);

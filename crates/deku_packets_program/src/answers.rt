@@ -16,7 +16,7 @@ use deku_packets::fields::{
 };
 use deku_packets::layer::{Layer, Placed};
 use deku_packets::messages::size_of_name;
-use deku_symmetry::{Be, Coded};
+use deku_symmetry::Be;
 use deku_transport::option::TcpOption;
 use serde::{Serialize, Serializer};
 use std::net::{Ipv4Addr, Ipv6Addr};
@@ -244,7 +244,7 @@ fn option<S: Serializer>(x: &TcpOption, out: &mut S) -> Result<(), S::Error> {
     members(&TCP_OPTION, &[Number(x.kind as u64)], out)?;
     match &x.tail {
         None => Ok(()),
-        Some(Coded(tail)) => {
+        Some(tail) => {
             member("length", Number(tail.length as u64), out)?;
             member("bytes", Bytes(&tail.bytes), out)
         }

@@ -6,7 +6,6 @@ ghost use Rattle.std.specs.Io.KnownBytes.{IsAtEnd};
 use crate::failure::Failure;
 use deku::prelude::{DekuContainerRead, DekuError};
 use deku_capture::pcap::{BigFields, BigPacket, LittleFields, LittlePacket, Start};
-use deku_symmetry::Coded;
 use std::alloc::Global;
 use std::io::{ErrorKind, Read};
 
@@ -42,8 +41,8 @@ pub struct Captured {
 pub fn read_format<R: Read>(alloc: Global, input: &mut R) -> Result<Format, Failure> {
     let mut bytes = [0u8; 24];
     let count = fill(input, &mut bytes, "file header", 0)?;
-    let start = match Coded::<Start>::from_bytes(alloc, (&bytes[..4], 0)) {
-        Ok((_, Coded(start))) => start,
+    let start = match Start::from_bytes(alloc, (&bytes[..4], 0)) {
+        Ok((_, start)) => start,
         Err(_) if count < 4 => return Err(cut("file header", 0)),
         Err(_) => {
             let fault = DekuError::Parse("no capture of pcap");
@@ -66,10 +65,10 @@ fn format_of(alloc: Global, start: Start, bytes: &[u8]) -> Option<Format> {
     let is_big = matches!(start, Start::Big | Start::BigNano);
     let is_nano = matches!(start, Start::BigNano | Start::LittleNano);
     let network = if is_big {
-        let (_, Coded(fields)) = Coded::<BigFields>::from_bytes(alloc, (bytes, 0)).ok()?;
+        let (_, fields) = BigFields::from_bytes(alloc, (bytes, 0)).ok()?;
         fields.network
     } else {
-        let (_, Coded(fields)) = Coded::<LittleFields>::from_bytes(alloc, (bytes, 0)).ok()?;
+        let (_, fields) = LittleFields::from_bytes(alloc, (bytes, 0)).ok()?;
         fields.network
     };
     Some(Format {
@@ -123,7 +122,7 @@ pub fn read_captured<R: Read>(
 // The header of a packet in these bytes.
 fn captured_of(alloc: Global, format: Format, bytes: &[u8]) -> Option<Captured> {
     if format.is_big {
-        let (_, Coded(header)) = Coded::<BigPacket>::from_bytes(alloc, (bytes, 0)).ok()?;
+        let (_, header) = BigPacket::from_bytes(alloc, (bytes, 0)).ok()?;
         Some(Captured {
             seconds: header.seconds,
             fraction: header.fraction,
@@ -131,7 +130,7 @@ fn captured_of(alloc: Global, format: Format, bytes: &[u8]) -> Option<Captured> 
             whole: header.whole,
         })
     } else {
-        let (_, Coded(header)) = Coded::<LittlePacket>::from_bytes(alloc, (bytes, 0)).ok()?;
+        let (_, header) = LittlePacket::from_bytes(alloc, (bytes, 0)).ok()?;
         Some(Captured {
             seconds: header.seconds,
             fraction: header.fraction,

@@ -1,11 +1,15 @@
 //! Records that are stated by their parts.
 
 ghost use Rattle.std.specs.Prelude.{refl};
+ghost use Rattle.deku.specs.Composing.{Then};
+ghost use Rattle.deku.specs.Shapes.{Shows};
 ghost use Rattle.deku_symmetry.specs.Fields.{be};
 
-use deku::device::Sink;
-use deku::prelude::{DekuError, DekuWriter, NeedSize, Writer};
-use deku_symmetry::{Be, Codec, Coded, CodedRef, CopyParts, Msb, WriteParts};
+use deku::device::{Sink, Source};
+use deku::prelude::{
+    DekuContainerRead, DekuContainerWrite, DekuError, DekuReader, DekuWriter, Reader, Writer,
+};
+use deku_symmetry::{Be, FromParts, Msb, Record, ToParts, read_record, write_record};
 use deku_testing_values::expecting::{MISFIT, expect_written, same};
 use deku_testing_values::records::{expect_packed, expect_record, expect_refusal};
 use std::test::Fail;
@@ -19,8 +23,11 @@ pub struct Datagram {
     pub checksum: u16,
 }
 
-impl Codec for Datagram {
-    type Parts = (Be<u16>, Be<u16>, Be<u16>, Be<u16>);
+// The parts of Datagram, in their order.
+type DatagramParts = (Be<u16>, Be<u16>, Be<u16>, Be<u16>);
+
+impl FromParts for Datagram {
+    type Parts = DatagramParts;
 
     ghost parts_of = { λ r. (be r.source, be r.destination, be r.length, be r.checksum) };
 
@@ -43,7 +50,7 @@ impl Codec for Datagram {
     ghost there = { λ r. refl };
 }
 
-impl CopyParts for Datagram {
+impl ToParts for Datagram {
     fn parts(&self) -> Self::Parts {
         (
             Be(self.source),
@@ -54,14 +61,49 @@ impl CopyParts for Datagram {
     }
 }
 
+impl DekuReader<()> for Datagram {
+    ghost no_read_ahead = { ⟦<DatagramParts as DekuReader<()>>⟧.no_read_ahead };
+
+    ghost meaning = { λ c. Then (⟦<DatagramParts as DekuReader<()>>⟧.meaning c)
+        (Shows ⟦<Datagram as FromParts>⟧.parts_of) };
+
+    #[inline(always)]
+    fn from_reader_with_ctx<R: Source>(reader: &mut Reader<R>, ctx: ()) -> Result<Self, DekuError> {
+        read_record(reader, ctx)
+    }
+}
+
+impl DekuWriter<()> for Datagram {
+    ghost meaning = { λ v. ⟦<DatagramParts as DekuWriter<()>>⟧.meaning
+        (⟦<Datagram as FromParts>⟧.parts_of v) };
+
+    #[inline(always)]
+    fn to_writer<W: Sink>(&self, writer: &mut Writer<W>, ctx: ()) -> Result<(), DekuError> {
+        write_record(self, writer, ctx)
+    }
+}
+
+impl Record<()> for Datagram {
+    ghost reads = { λ c b s r u m. m };
+
+    ghost writes = { λ c v b s r u m. m };
+}
+
+impl DekuContainerRead for Datagram {}
+
+impl DekuContainerWrite for Datagram {}
+
 // A year since 1900, in seven bits.
 #[derive(Debug, PartialEq, Eq, Drop)]
 struct Year {
     since: u8,
 }
 
-impl Codec for Year {
-    type Parts = Msb<u8, 7>;
+// The parts of Year, in their order.
+type YearParts = Msb<u8, 7>;
+
+impl FromParts for Year {
+    type Parts = YearParts;
 
     ghost parts_of = { λ y. record { 0 = y.since } };
 
@@ -74,11 +116,37 @@ impl Codec for Year {
     ghost there = { λ y. refl };
 }
 
-impl WriteParts for Year {
-    fn write<W: Sink>(&self, writer: &mut Writer<W>) -> Result<(), DekuError> {
-        Msb::<u8, 7>(self.since).to_writer(writer, ())
+impl DekuReader<()> for Year {
+    ghost no_read_ahead = { ⟦<YearParts as DekuReader<()>>⟧.no_read_ahead };
+
+    ghost meaning = { λ c. Then (⟦<YearParts as DekuReader<()>>⟧.meaning c)
+        (Shows ⟦<Year as FromParts>⟧.parts_of) };
+
+    #[inline(always)]
+    fn from_reader_with_ctx<R: Source>(reader: &mut Reader<R>, ctx: ()) -> Result<Self, DekuError> {
+        read_record(reader, ctx)
     }
 }
+
+impl DekuWriter<()> for Year {
+    ghost meaning = { λ v. ⟦<YearParts as DekuWriter<()>>⟧.meaning
+        (⟦<Year as FromParts>⟧.parts_of v) };
+
+    #[inline(always)]
+    fn to_writer<W: Sink>(&self, writer: &mut Writer<W>, ctx: ()) -> Result<(), DekuError> {
+        Msb::<u8, 7>(self.since).to_writer(writer, ctx)
+    }
+}
+
+impl Record<()> for Year {
+    ghost reads = { λ c b s r u m. m };
+
+    ghost writes = { λ c v b s r u m. m };
+}
+
+impl DekuContainerRead for Year {}
+
+impl DekuContainerWrite for Year {}
 
 const QUESTION: Datagram = Datagram {
     source: 1024,
@@ -90,18 +158,18 @@ const QUESTION: Datagram = Datagram {
 #[test]
 fn a_record(rt: HostRuntime) -> Result<(), Fail> {
     let bytes = [0x04, 0x00, 0x00, 0x35, 0x00, 0x08, 0xBE, 0xEF];
-    expect_record(rt.alloc(), &Coded(QUESTION), &bytes)?;
+    expect_record(rt.alloc(), &QUESTION, &bytes)?;
     let ended = DekuError::Incomplete(NeedSize::new(16));
-    expect_refusal::<Coded<Datagram>>(rt.alloc(), &[0x04, 0x00, 0x00], ended, 16)
+    expect_refusal::<Datagram>(rt.alloc(), &[0x04, 0x00, 0x00], ended, 16)
 }
 
 #[test]
 fn records_in_a_row(rt: HostRuntime) -> Result<(), Fail> {
     let alloc = rt.alloc();
-    let row = (Coded(QUESTION), Coded(Year { since: 126 }), Msb::<u8, 1>(1));
+    let row = (QUESTION, Year { since: 126 }, Msb::<u8, 1>(1));
     let bytes = [0x04, 0x00, 0x00, 0x35, 0x00, 0x08, 0xBE, 0xEF, 0xFD];
     expect_packed(alloc, (), &row, 72, &bytes)?;
-    let late = (Coded(Year { since: 128 }), Msb::<u8, 1>(1));
+    let late = (Year { since: 128 }, Msb::<u8, 1>(1));
     same(
         &128,
         &deku_symmetry::Symmetric::pack(&late, alloc, ()),
@@ -111,5 +179,5 @@ fn records_in_a_row(rt: HostRuntime) -> Result<(), Fail> {
     let mut writer = deku_testing_values::expecting::writer_in(alloc);
     CodedRef(&lent).to_writer(&mut writer, ())?;
     deku_testing_values::expecting::expect_bytes(&lent, writer, &kept)?;
-    expect_written(alloc, (), &Coded(lent), &kept)
+    expect_written(alloc, (), &lent, &kept)
 }

@@ -6,7 +6,6 @@ use Rattle.deku_symmetry.specs.declared.fields.Msb.{Msb}
 use Rattle.deku_symmetry.specs.declared.fields.Lsb.{Lsb}
 use Rattle.deku_symmetry.specs.declared.fields.MsbLe.{MsbLe}
 use Rattle.deku_symmetry.specs.declared.fields.LsbBe.{LsbBe}
-use Rattle.deku_symmetry.specs.declared.codec.Coded.{Coded}
 
 -- Whole bytes, the high one first.
 abbrev pub be : {A : Type 0} → A → Be A
@@ -31,7 +30,3 @@ msb_le x = record { 0 = x }
 -- Bits with the high byte first, the low bits of each first.
 abbrev pub lsb_be : {A : Type 0} {n : ℕ} → A → LsbBe A n
 lsb_be x = record { 0 = x }
-
--- A value as its parts.
-abbrev pub coded : {A : Type 0} → A → Coded A
-coded x = record { 0 = x }

@@ -2,7 +2,6 @@
 #![tactic(auto)]
 
 mod chosen_by;
-mod codec;
 mod constants;
 mod counted_by;
 mod either;
@@ -19,7 +18,6 @@ mod sized;
 mod traits;
 
 pub use chosen_by::{ChosenBy, IdOf, IdOfLaw};
-pub use codec::{Codec, Coded, CodedRef, CopyParts, WriteParts};
 pub use constants::{Between, Is, ZeroBits};
 pub use counted_by::{CountOf, CountOfLaw, CountedBy, CountedByRef};
 pub use deku_pieces::assertion::{Assert, Check};
@@ -40,6 +38,6 @@ pub use last::SymmetricLast;
 pub use made::{CheckLaw, ConstantLaw, ItemCountLaw, LastLaw};
 pub use optional::{Condition, ConditionLaw, Optional, OptionalRef};
 pub use prefixed::{Prefixed, PrefixedRef};
-pub use record::{EndianRecord, FromParts, Record, ToParts, read_record, write_record};
+pub use record::{FromParts, Record, ToParts, read_record, write_record};
 pub use sized::{ContextOfLaw, SizeOfLaw};
 pub use traits::Symmetric;

@@ -1,47 +1,46 @@
-//! Records that are the tuple of their parts.
+//! Records and other types that are read and written as their parts.
 
 ghost use Rattle.std.specs.Prelude.{◌≡◌, Bool, List, Option, Result, OnOk};
 ghost use Rattle.deku_bits.specs.declared.error.DekuError.{DekuError as Refusal};
 ghost use Rattle.deku_bits.specs.Streams.{Stream};
-ghost use Rattle.deku_bits.specs.Pieces.{Piece};
 ghost use Rattle.deku_bits.specs.Standings.{Standing, Output};
-ghost use Rattle.deku_bits.specs.Outcomes.{Mapped};
 ghost use Rattle.deku_bits.specs.ReaderCalls.{Reads};
 ghost use Rattle.deku_bits.specs.WriterCalls.{Writes};
+ghost use Rattle.deku.specs.Composing.{Then};
 ghost use Rattle.deku.specs.Early.{NoReadAhead};
-ghost use Rattle.deku_num.specs.declared.ctx.Endian.{Endian};
-ghost use Rattle.deku_pieces.proofs.Turned.{told_symmetric};
+ghost use Rattle.deku.specs.Shapes.{Shows};
+ghost use Rattle.deku_pieces.proofs.Turned.{record_symmetric, record_last};
 
+use crate::last::SymmetricLast;
 use crate::traits::Symmetric;
-use deku::ctx::Endian;
 use deku::device::{Sink, Source};
 use deku::reader::Reader;
 use deku::writer::Writer;
 use deku::{DekuError, DekuReader, DekuWriter};
 
-/// A record that can be turned into the tuple of its parts and back, under a context. Its law
-/// `there` makes sure that no field is missing from the parts.
+/// A record, an enum or another type that can be made of its parts. Its law `there` makes sure that
+/// no field is missing from the parts.
 ///
 /// ```text
-/// type Parts = (Msb<u8, 4>, Msb<u8, 4>, Be<u16>); // of a record of three fields, under ()
+/// type Parts = (Msb<u8, 4>, Msb<u8, 4>, Be<u16>);             // of a record of three fields
 /// ```
-pub trait FromParts<Ctx>: Drop {
+pub trait FromParts: Drop {
     /// The parts, in the order of their layout.
     type Parts: Drop;
 
-    // The parts of a record.
+    // The parts of a value.
     ghost parts_of: { Self → Self.Parts };
 
-    // The record that parts make.
+    // A value that parts make.
     ghost record_of: { Self.Parts → Self };
 
-    /// The record that these parts make.
+    /// The value that these parts make.
     fn from_parts(parts: Self::Parts) -> Self
     where
         Self: Sized,
-        ensures { result ≡ record_of parts };
+        ensures { parts_of result ≡ parts };
 
-    // The parts of a record make this record again: no field is missing from them.
+    // The parts of a value make this value again: no field is missing from them.
     ghost there: { (v : Self) → record_of (parts_of v) ≡ v };
 }
 
@@ -52,62 +51,34 @@ pub trait FromParts<Ctx>: Drop {
 ///     (Msb(self.sensor), Msb(self.state), Be(self.value))
 /// }
 /// ```
-pub trait ToParts<Ctx>: FromParts<Ctx> {
+pub trait ToParts: FromParts {
     /// The parts of the record.
     fn parts(&self) -> Self::Parts
         ensures { result ≡ Self.FromParts.parts_of self.now };
 }
 
-/// A record that is read and written as its parts: it is `Symmetric<()>`. The page
-/// `docs/RECORDS.md` shows a complete one. It also says what a record under another context states
-/// instead.
-pub trait Record: FromParts<()> + DekuReader<()> + DekuWriter<()>
-where
-    Self::Parts: Symmetric<()>,
-{
-    // Parts that have pieces are the parts of the record that they make.
-    ghost back: { (p : Self.Parts) (ps : List Piece) → Self.Parts.pieces p tt ps
-        → Self.parts_of (Self.record_of p) ≡ p };
-
-    // Nothing is read except the parts.
-    ghost reads: { (b : Bool) (s : Standing (Option Stream)) (r : Result Self Refusal)
-        (u : Standing (Option Stream))
-        → Self.DekuReader.meaning tt b s r u → Mapped Self.record_of
-        (Self.Parts.DekuReader.meaning tt) b s r u };
-
-    // Nothing is written except the parts.
-    ghost writes: { (v : Self) (b : Bool) (s : Standing Output) (r : Result (Unit {0}) Refusal)
-        (u : Standing Output)
-        → Self.DekuWriter.meaning v tt b s r u
-        → Self.Parts.DekuWriter.meaning (Self.parts_of v) tt b s r u };
-}
-
-/// A record that is read and written as its parts, under an endian that is chosen when it is read
-/// or written: it is `Symmetric<Endian>`. It states the same as `Record`, for each endian.
+/// A record that is read and written as its parts, under this context. It is `Symmetric` if its
+/// parts are. The page `docs/RECORDS.md` shows a complete one.
 ///
 /// ```text
-/// impl EndianRecord for Fields {
+/// impl Record<()> for Sample {
 ///     ghost reads = { λ c b s r u m. m };
 ///
 ///     ghost writes = { λ c v b s r u m. m };
 /// }
 /// ```
-pub trait EndianRecord: FromParts<Endian> + DekuReader<Endian> + DekuWriter<Endian>
+pub trait Record<Ctx>: FromParts + DekuReader<Ctx> + DekuWriter<Ctx>
 where
-    Self::Parts: Symmetric<Endian>,
+    Self::Parts: DekuReader<Ctx> + DekuWriter<Ctx>,
 {
-    // Parts that have pieces are the parts of the record that they make.
-    ghost back: { (p : Self.Parts) (c : Endian) (ps : List Piece) → Self.Parts.pieces p c ps
-        → Self.parts_of (Self.record_of p) ≡ p };
-
     // Nothing is read except the parts.
-    ghost reads: { (c : Endian) (b : Bool) (s : Standing (Option Stream)) (r : Result Self Refusal)
+    ghost reads: { (c : Ctx) (b : Bool) (s : Standing (Option Stream)) (r : Result Self Refusal)
         (u : Standing (Option Stream))
-        → Self.DekuReader.meaning c b s r u → Mapped Self.record_of
-        (Self.Parts.DekuReader.meaning c) b s r u };
+        → Self.DekuReader.meaning c b s r u
+        → Then (Self.Parts.DekuReader.meaning c) (Shows Self.parts_of) b s r u };
 
     // Nothing is written except the parts.
-    ghost writes: { (c : Endian) (v : Self) (b : Bool) (s : Standing Output)
+    ghost writes: { (c : Ctx) (v : Self) (b : Bool) (s : Standing Output)
         (r : Result (Unit {0}) Refusal) (u : Standing Output)
         → Self.DekuWriter.meaning v c b s r u
         → Self.Parts.DekuWriter.meaning (Self.parts_of v) c b s r u };
@@ -122,15 +93,15 @@ where
 /// read_record(reader, ())
 /// ```
 #[inline(always)]
-pub fn read_record<Ctx, T: FromParts<Ctx>, R: Source>(
+pub fn read_record<Ctx, T: FromParts, R: Source>(
     reader: &mut Reader<R>,
     ctx: Ctx,
 ) -> Result<T, DekuError>
 where
     T::Parts: DekuReader<Ctx>,
     requires { T.Parts.DekuReader.accepts ctx }
-    ensures reads { Reads R.known (Mapped T.record_of (T.Parts.DekuReader.meaning ctx)) reader.old
-        result reader.new }
+    ensures reads { Reads R.known (Then (T.Parts.DekuReader.meaning ctx) (Shows T.parts_of))
+        reader.old result reader.new }
     ensures early { OnOk result (T.Parts.DekuReader.no_read_ahead ctx
         → NoReadAhead R.known reader.old reader.new) }
 {
@@ -148,7 +119,7 @@ where
 /// write_record(self, writer, ())
 /// ```
 #[inline(always)]
-pub fn write_record<Ctx, T: ToParts<Ctx>, W: Sink>(
+pub fn write_record<Ctx, T: ToParts, W: Sink>(
     value: &T,
     writer: &mut Writer<W>,
     ctx: Ctx,
@@ -163,27 +134,27 @@ where
 }
 
 /// The pieces of the parts.
-impl<R: Record> Symmetric<()> for R
+impl<Ctx, R: Record<Ctx>> Symmetric<Ctx> for R
 where
-    R::Parts: Symmetric<()>,
+    R::Parts: Symmetric<Ctx>,
 {
     ghost pieces = { λ v c. R.Parts.pieces (R.parts_of v) c };
 
     ghost same = { λ v w. R.Parts.same (R.parts_of v) (R.parts_of w) };
 
-    ghost symmetric = { λ c. told_symmetric R.record_of R.parts_of (λ p ps h. R.back p ps h)
-        (R.Parts.symmetric c) R.writes R.reads };
+    ghost symmetric = { λ c. record_symmetric R.parts_of (R.Parts.symmetric c) (R.writes c)
+        (R.reads c) };
 }
 
-/// The pieces of the parts, under the endian.
-impl<R: EndianRecord> Symmetric<Endian> for R
+/// The pieces of the parts, if nothing follows them.
+impl<R: Record<()>> SymmetricLast for R
 where
-    R::Parts: Symmetric<Endian>,
+    R::Parts: SymmetricLast,
 {
-    ghost pieces = { λ v c. R.Parts.pieces (R.parts_of v) c };
+    ghost pieces = { λ v. R.Parts.SymmetricLast.pieces (R.parts_of v) };
 
-    ghost same = { λ v w. R.Parts.same (R.parts_of v) (R.parts_of w) };
+    ghost same = { λ v w. R.Parts.SymmetricLast.same (R.parts_of v) (R.parts_of w) };
 
-    ghost symmetric = { λ c. told_symmetric R.record_of R.parts_of (λ p ps h. R.back p c ps h)
-        (R.Parts.symmetric c) (R.writes c) (R.reads c) };
+    ghost symmetric = { record_last R.parts_of R.Parts.SymmetricLast.symmetric (R.writes tt)
+        (R.reads tt) };
 }

@@ -1,11 +1,19 @@
 //! Messages: an id of a byte, and what it chooses.
 
 ghost use Rattle.std.specs.Prelude.{refl};
+ghost use Rattle.deku.specs.Composing.{Then};
+ghost use Rattle.deku.specs.Shapes.{Shows};
 ghost use Rattle.deku_symmetry_tests.specs.declared.message.Message.TheVariants.{Tone, Move, Stop};
 ghost use Rattle.deku_pieces.specs.declared.either.Either.TheVariants as either;
 ghost use Rattle.deku_symmetry.specs.Fields.{be, msb};
 
-use deku_symmetry::{Be, Codec, CopyParts, Either, Enum, Kind, Msb, MsbEnum};
+use deku::device::{Sink, Source};
+use deku::prelude::{
+    DekuContainerRead, DekuContainerWrite, DekuError, DekuReader, DekuWriter, Reader, Writer,
+};
+use deku_symmetry::{
+    Be, Either, Enum, FromParts, Kind, Msb, MsbEnum, Record, ToParts, read_record, write_record,
+};
 
 /// A message.
 #[derive(Debug, Clone, Copy, PartialEq, Eq)]
@@ -21,8 +29,11 @@ pub enum Message {
 // Where to move to.
 type Place = (Msb<i16, 12>, Msb<i16, 12>);
 
-impl Codec for Message {
-    type Parts = MsbEnum<Either<Kind<Be<u16>, 1>, Either<Kind<Place, 2>, Kind<(), 3>>>, 8>;
+// The parts of Message, in their order.
+type MessageParts = MsbEnum<Either<Kind<Be<u16>, 1>, Either<Kind<Place, 2>, Kind<(), 3>>>, 8>;
+
+impl FromParts for Message {
+    type Parts = MessageParts;
 
     ghost parts_of = { elim [
       | Tone height ↦ record { kind = either.This (record { 0 = be height }); id = record {} }
@@ -54,7 +65,7 @@ impl Codec for Message {
     ghost there = { elim [ Tone height ↦ refl | Move across up ↦ refl | Stop ↦ refl ] };
 }
 
-impl CopyParts for Message {
+impl ToParts for Message {
     fn parts(&self) -> Self::Parts {
         match self {
             Message::Tone(height) => Enum::new(Either::This(Kind(Be(*height)))),
@@ -65,3 +76,35 @@ impl CopyParts for Message {
         }
     }
 }
+
+impl DekuReader<()> for Message {
+    ghost no_read_ahead = { ⟦<MessageParts as DekuReader<()>>⟧.no_read_ahead };
+
+    ghost meaning = { λ c. Then (⟦<MessageParts as DekuReader<()>>⟧.meaning c)
+        (Shows ⟦<Message as FromParts>⟧.parts_of) };
+
+    #[inline(always)]
+    fn from_reader_with_ctx<R: Source>(reader: &mut Reader<R>, ctx: ()) -> Result<Self, DekuError> {
+        read_record(reader, ctx)
+    }
+}
+
+impl DekuWriter<()> for Message {
+    ghost meaning = { λ v. ⟦<MessageParts as DekuWriter<()>>⟧.meaning
+        (⟦<Message as FromParts>⟧.parts_of v) };
+
+    #[inline(always)]
+    fn to_writer<W: Sink>(&self, writer: &mut Writer<W>, ctx: ()) -> Result<(), DekuError> {
+        write_record(self, writer, ctx)
+    }
+}
+
+impl Record<()> for Message {
+    ghost reads = { λ c b s r u m. m };
+
+    ghost writes = { λ c v b s r u m. m };
+}
+
+impl DekuContainerRead for Message {}
+
+impl DekuContainerWrite for Message {}

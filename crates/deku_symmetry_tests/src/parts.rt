@@ -2,15 +2,16 @@
 //! numbers whose bits are split.
 
 ghost use Rattle.std.specs.Prelude.{codes, refl};
-ghost use Rattle.deku.specs.Outcomes.{Mapped};
+ghost use Rattle.deku.specs.Composing.{Then};
+ghost use Rattle.deku.specs.Shapes.{Shows};
 
 use deku::ctx::Endian;
 use deku::device::{Sink, Source};
 use deku::prelude::{DekuError, DekuReader, DekuWriter, Reader, Writer};
 use deku_symmetry::scattered::{high_bits, low_bits};
 use deku_symmetry::{
-    Be, Constant, ConstantLaw, Counted, EndianRecord, FromParts, Le, Magic, Record, ToParts,
-    read_record, write_counted, write_record,
+    Be, Constant, ConstantLaw, Counted, FromParts, Le, Magic, Record, Record, ToParts, read_record,
+    write_counted, write_record,
 };
 use deku_testing_values::records::{expect_packed, expect_refusal};
 use std::test::Fail;
@@ -58,7 +59,7 @@ struct Text {
     bytes: Vec<u8>,
 }
 
-impl FromParts<()> for Text {
+impl FromParts for Text {
     type Parts = Counted<u8, u8>;
 
     ghost parts_of = { λ t. record { head = t.length; items = t.bytes } };
@@ -75,17 +76,15 @@ impl FromParts<()> for Text {
     ghost there = { λ t. refl };
 }
 
-impl Record for Text {
-    ghost back = { λ p ps h. refl };
+impl Record<()> for Text {
+    ghost reads = { λ c b s r u m. m };
 
-    ghost reads = { λ b s r u m. m };
-
-    ghost writes = { λ v b s r u m. m };
+    ghost writes = { λ c v b s r u m. m };
 }
 
 impl DekuReader<()> for Text {
-    ghost meaning = { λ _. Mapped ⟦<Text as FromParts<()>>⟧.record_of
-        (⟦<Counted<u8, u8> as DekuReader<()>>⟧.meaning tt) };
+    ghost meaning = { λ _. Then (⟦<Counted<u8, u8> as DekuReader<()>>⟧.meaning tt)
+        (Shows ⟦<Text as FromParts>⟧.parts_of) };
 
     fn from_reader_with_ctx<R: Source>(
         reader: &mut Reader<R>,
@@ -97,7 +96,7 @@ impl DekuReader<()> for Text {
 
 impl DekuWriter<()> for Text {
     ghost meaning = { λ v _. ⟦<Counted<u8, u8> as DekuWriter<()>>⟧.meaning
-        (⟦<Text as FromParts<()>>⟧.parts_of v) tt };
+        (⟦<Text as FromParts>⟧.parts_of v) tt };
 
     fn to_writer<W: Sink>(&self, writer: &mut Writer<W>, _ctx: ()) -> Result<(), DekuError> {
         write_counted(&self.length, &self.bytes, writer)
@@ -124,7 +123,7 @@ struct Pair {
 // Its fields as they are laid out.
 type PairParts = (u16, u32);
 
-impl FromParts<Endian> for Pair {
+impl FromParts for Pair {
     type Parts = PairParts;
 
     ghost parts_of = { λ p. (p.first, p.second) };
@@ -139,23 +138,21 @@ impl FromParts<Endian> for Pair {
     ghost there = { λ p. refl };
 }
 
-impl ToParts<Endian> for Pair {
+impl ToParts for Pair {
     fn parts(&self) -> Self::Parts {
         (self.first, self.second)
     }
 }
 
-impl EndianRecord for Pair {
-    ghost back = { λ p c ps h. refl };
-
+impl Record<Endian> for Pair {
     ghost reads = { λ c b s r u m. m };
 
     ghost writes = { λ c v b s r u m. m };
 }
 
 impl DekuReader<Endian> for Pair {
-    ghost meaning = { λ c. Mapped ⟦<Pair as FromParts<Endian>>⟧.record_of
-        (⟦<PairParts as DekuReader<Endian>>⟧.meaning c) };
+    ghost meaning = { λ c. Then (⟦<PairParts as DekuReader<Endian>>⟧.meaning c)
+        (Shows ⟦<Pair as FromParts>⟧.parts_of) };
 
     fn from_reader_with_ctx<R: Source>(
         reader: &mut Reader<R>,
@@ -167,7 +164,7 @@ impl DekuReader<Endian> for Pair {
 
 impl DekuWriter<Endian> for Pair {
     ghost meaning = { λ v c. ⟦<PairParts as DekuWriter<Endian>>⟧.meaning
-        (⟦<Pair as FromParts<Endian>>⟧.parts_of v) c };
+        (⟦<Pair as FromParts>⟧.parts_of v) c };
 
     fn to_writer<W: Sink>(&self, writer: &mut Writer<W>, ctx: Endian) -> Result<(), DekuError> {
         write_record(self, writer, ctx)

@@ -3,7 +3,7 @@
 use crate::message::Message;
 use crate::sample::Sample;
 use deku::prelude::{DekuContainerRead, DekuError};
-use deku_symmetry::{Be, Coded, Le, Lsb, LsbBe, Msb, MsbLe, Symmetric};
+use deku_symmetry::{Be, Le, Lsb, LsbBe, Msb, MsbLe, Symmetric};
 use deku_testing_values::expecting::{expect_denied, same};
 use deku_testing_values::records::{expect_packed, expect_record};
 use std::test::Fail;
@@ -81,10 +81,10 @@ fn messages(rt: HostRuntime) -> Result<(), Fail> {
         across: -2,
         up: 0x123,
     };
-    let rows: [(Coded<Message>, &[u8]); 3] = [
-        (Coded(Message::Tone(440)), &[0x01, 0x01, 0xB8]),
-        (Coded(place), &[0x02, 0xFF, 0xE1, 0x23]),
-        (Coded(Message::Stop), &[0x03]),
+    let rows: [(Message, &[u8]); 3] = [
+        (Message::Tone(440), &[0x01, 0x01, 0xB8]),
+        (place, &[0x02, 0xFF, 0xE1, 0x23]),
+        (Message::Stop, &[0x03]),
     ];
     for (message, bytes) in &rows {
         expect_record(rt.alloc(), message, bytes)?;
@@ -97,8 +97,8 @@ fn messages(rt: HostRuntime) -> Result<(), Fail> {
 fn an_unknown_id(rt: HostRuntime) -> Result<(), Fail> {
     let bytes: &[u8] = &[0x09, 0x69];
     let unknown = DekuError::IdVariantNotFound;
-    expect_denied::<Coded<Message>, ()>(rt.alloc(), (), bytes, (unknown, 8, 0x69))?;
-    let unpacked = Coded::<Message>::unpack(rt.alloc(), bytes, ()).err();
-    let whole = Coded::<Message>::from_bytes(rt.alloc(), (bytes, 0)).err();
+    expect_denied::<Message, ()>(rt.alloc(), (), bytes, (unknown, 8, 0x69))?;
+    let unpacked = Message::unpack(rt.alloc(), bytes, ()).err();
+    let whole = Message::from_bytes(rt.alloc(), (bytes, 0)).err();
     same(&bytes, &(unpacked, whole), &(Some(unknown), Some(unknown)))
 }

@@ -26,13 +26,7 @@ pub fn lying(field: &Field<'_>) -> Wrapping {
         let whole = common_bits(&field.kind).unwrap_or(0);
         return number(field.layout.order, field.bits, whole, is_big(field));
     }
-    match &field.kind {
-        Type::Name(name) if !name.is_name("CString") => Wrapping {
-            around: "Coded",
-            bits: None,
-        },
-        _ => BARE,
-    }
+    BARE
 }
 
 /// Whether the numbers of a field have their high byte first.
@@ -178,7 +172,7 @@ pub fn plain(out: &mut String, kind: &Type<'_>) -> Result<(), AllocError> {
     }
 }
 
-/// Appends a type of parts: each number and record with the part around it.
+/// Appends a type of parts: each number with the part around it.
 pub fn item(out: &mut String, kind: &Type<'_>, field: &Field<'_>) -> Result<(), AllocError> {
     match kind {
         Type::Name(name) => named(out, name.text, field),
@@ -213,11 +207,7 @@ fn named(out: &mut String, name: &str, field: &Field<'_>) -> Result<(), AllocErr
         None => address_bits(name),
     };
     let Some(whole) = whole else {
-        return if name == "CString" {
-            out.push_str(name)
-        } else {
-            write!(out, "Coded<{name}>")
-        };
+        return out.push_str(name);
     };
     let Wrapping { around, bits } = number(field.layout.order, field.bits, whole, is_big(field));
     match (around, bits) {

@@ -30,15 +30,7 @@ pub struct Part<'a> {
     /// Where its fields are.
     pub places: Vec<Place<'a>>,
     /// The name of each of its parts.
-    pub names: Vec<PartName<'a>>,
-}
-
-/// What a part is called.
-#[derive(Drop)]
-pub struct PartName<'a> {
-    pub name: String,
-    /// The record whose parts it is, if it is several.
-    pub record: Option<&'a str>,
+    pub names: Vec<String>,
 }
 
 /// Where a field is in its parts.
@@ -52,8 +44,6 @@ pub struct Place<'a> {
     pub path: String,
     /// What leads to its equation from those of parts that are the same.
     pub same: String,
-    /// The record whose parts are there in place of the field.
-    pub record: Option<&'a str>,
 }
 
 /// What a field is called.
@@ -86,24 +76,7 @@ impl<'a> Place<'a> {
             same: format!(in alloc; "{same}{inner_same}")?,
             name: self.name,
             number: self.number,
-            record: self.record,
         })
-    }
-
-    /// What makes the field of what is in its place.
-    pub fn made(&self, alloc: Global, held: &str) -> Result<String, AllocError> {
-        match self.record {
-            Some(record) => format!(in alloc; "<{record} as Codec>::from_parts({held})"),
-            None => String::from_str(alloc, held),
-        }
-    }
-
-    /// The same in ghost text.
-    pub fn term(&self, alloc: Global, held: &str) -> Result<String, AllocError> {
-        match self.record {
-            Some(record) => format!(in alloc; "⟦<{record} as Codec>⟧.record_of {held}"),
-            None => String::from_str(alloc, held),
-        }
     }
 }
 
@@ -127,7 +100,6 @@ fn one_place<'a>(
         number,
         path: String::from_str(alloc, path)?,
         same: String::new(alloc),
-        record: None,
     })?;
     Ok(places)
 }
@@ -146,46 +118,6 @@ fn within<'a>(
     Ok(moved)
 }
 
-// The parts of the record that a field is, in place of it. A struct that lends memory has the
-// record itself as a part: the prover follows what it writes without a call.
-fn inlined<'a>(
-    alloc: Global,
-    record: &'a str,
-    owner: Owner,
-    Named { name, access }: Named<'_>,
-) -> Result<Part<'a>, AllocError> {
-    let value = match owner {
-        Owner::Kind => format!(in alloc; "{name}.parts()")?,
-        Owner::Lent | Owner::Copied => format!(in alloc; "self.{access}.parts()")?,
-    };
-    let term = field_term(alloc, owner, Named { name, access })?;
-    let term = term.as_str();
-    let mut places = Vec::new(alloc);
-    places.push(Place {
-        name: String::from_str(alloc, name)?,
-        number: None,
-        path: String::new(alloc),
-        same: String::new(alloc),
-        record: Some(record),
-    })?;
-    let mut names = Vec::new(alloc);
-    names.push(PartName {
-        name: String::from_str(alloc, name)?,
-        record: Some(record),
-    })?;
-    let kind = format!(in alloc; "<{record} as Codec>::Parts")?;
-    Ok(Part {
-        lent: Text::word(alloc, kind.as_str())?,
-        kind: Text::of(kind),
-        is_lent: false,
-        pattern: Text::word(alloc, name)?,
-        value: Text::of(value),
-        term: Text::of(format!(in alloc; "⟦<{record} as Codec>⟧.parts_of {term}")?),
-        places,
-        names,
-    })
-}
-
 /// The part of one field that depends on no other field.
 pub fn leaf<'a>(
     alloc: Global,
@@ -194,13 +126,10 @@ pub fn leaf<'a>(
     field: &Field<'a>,
     named: Named<'_>,
 ) -> Result<Part<'a>, AllocError> {
-    if let (Some(record), false) = (records.inlined(field), owner == Owner::Lent) {
-        return inlined(alloc, record, owner, named);
-    }
     let is_lent = owner == Owner::Lent && !records.is_copied(field);
     let mut names = Vec::new(alloc);
     for _ in 0..count_of(field) {
-        names.push(part_name(alloc, named.name)?)?;
+        names.push(String::from_str(alloc, named.name)?)?;
     }
     let part = Part {
         kind: Text::of(part_kind(alloc, field)?),
@@ -228,7 +157,7 @@ fn within_one<'a>(
     name: &str,
 ) -> Result<Part<'a>, AllocError> {
     let around = lying.around;
-    let made = wrapper(alloc, lying, owner, part.is_lent)?;
+    let made = wrapper(alloc, lying, owner)?;
     let (made, word) = (made.as_str(), words::part(around));
     let value = part.value.as_word().unwrap_or(name);
     let term = part.term.as_word().unwrap_or(name);
@@ -238,14 +167,6 @@ fn within_one<'a>(
         term: Text::of(format!(in alloc; "{word} {term}")?),
         places: within(alloc, part.places, ".0", "")?,
         ..part
-    })
-}
-
-// The name of one part.
-fn part_name<'a>(alloc: Global, name: &str) -> Result<PartName<'a>, AllocError> {
-    Ok(PartName {
-        name: String::from_str(alloc, name)?,
-        record: None,
     })
 }
 
@@ -280,12 +201,10 @@ fn wrapper(
     alloc: Global,
     Wrapping { around, bits }: Wrapping,
     owner: Owner,
-    is_lent: bool,
 ) -> Result<String, AllocError> {
-    let made = if is_lent { "CodedRef" } else { around };
     match bits {
-        Some(bits) if owner == Owner::Lent => format!(in alloc; "{made}::<_, {bits}>"),
-        _ => String::from_str(alloc, made),
+        Some(bits) if owner == Owner::Lent => format!(in alloc; "{around}::<_, {bits}>"),
+        _ => String::from_str(alloc, around),
     }
 }
 
@@ -296,10 +215,7 @@ fn lent_kind(alloc: Global, field: &Field<'_>, is_lent: bool) -> Result<String, 
         return Ok(kind);
     }
     let kind = kind.as_str();
-    match kind.strip_prefix("Coded<") {
-        Some(rest) => format!(in alloc; "CodedRef<'a, {rest}"),
-        None => format!(in alloc; "&'a {kind}"),
-    }
+    format!(in alloc; "&'a {kind}")
 }
 
 /// Parts as one: a tuple, or the part itself if it is alone.
@@ -477,14 +393,13 @@ pub fn following<'a>(
     (marker, item): (&str, &str),
 ) -> Result<Part<'a>, AllocError> {
     let mut names = head.names;
-    names.push(part_name(alloc, called.name)?)?;
+    names.push(String::from_str(alloc, called.name)?)?;
     let mut places = within(alloc, head.places, ".head", ".0")?;
     places.push(Place {
         name: String::from_str(alloc, called.name)?,
         number: None,
         path: joined(alloc, ".", form.item())?,
         same: String::from_str(alloc, ".1")?,
-        record: None,
     })?;
     Ok(Part {
         kind: kind_of(alloc, head.kind, form, marker, item)?,
@@ -589,7 +504,7 @@ pub fn rest<'a>(
         format!(in alloc; "Rest {{ items: {name} }}")?
     };
     let mut names = Vec::new(alloc);
-    names.push(part_name(alloc, name)?)?;
+    names.push(String::from_str(alloc, name)?)?;
     let list = Part {
         kind: Text::of(format!(in alloc; "Rest<{item}>")?),
         lent: Text::of(format!(in alloc; "&'a Vec<{item}>")?),
@@ -708,7 +623,7 @@ pub fn constant<'a>(
         Text::word(alloc, "Magic::new()")?
     };
     let mut names = Vec::new(alloc);
-    names.push(part_name(alloc, word)?)?;
+    names.push(String::from_str(alloc, word)?)?;
     Ok(Part {
         kind: Text::of(format!(in alloc; "Magic<{kind}, {marker}>")?),
         lent: Text::of(format!(in alloc; "Magic<{kind}, {marker}>")?),

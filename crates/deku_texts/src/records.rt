@@ -129,8 +129,7 @@ impl<'b, 'a> Records<'b, 'a> {
 
     /// Whether a field holds no memory.
     pub fn is_copied(&self, field: &Field<'a>) -> bool {
-        let one = lying(field).around;
-        !(one.is_empty() || one == "Coded") || self.of_kind(&field.kind, field).is_copied
+        !lying(field).around.is_empty() || self.of_kind(&field.kind, field).is_copied
     }
 
     /// Whether a record holds no memory.
@@ -150,19 +149,6 @@ impl<'b, 'a> Records<'b, 'a> {
                 None => UNKNOWN,
             },
             None => UNKNOWN,
-        }
-    }
-
-    /// The record whose parts are in place of a field: a struct of the file that holds no memory.
-    pub fn inlined(&self, field: &Field<'a>) -> Option<&'a str> {
-        let Type::Name(name) = &field.kind else {
-            return None;
-        };
-        let record = self.list.get(self.place(name.text)?)?;
-        let is_copied = self.is_copied_record(name.text) && self.is_founded(name.text);
-        match &record.form {
-            Form::Struct(_, _) if is_copied => Some(record.name.text),
-            _ => None,
         }
     }
 

@@ -3,16 +3,19 @@
 use std::alloc::{AllocError, Global};
 
 // The names that a module imports or that its bounds have.
-const IMPORTED: [&str; 54] = [
+const IMPORTED: [&str; 57] = [
+    "Source",
     "Sink",
+    "DekuContainerRead",
+    "DekuContainerWrite",
     "DekuError",
+    "DekuReader",
     "DekuWriter",
+    "Reader",
     "Writer",
-    "Codec",
-    "Coded",
-    "CodedRef",
-    "CopyParts",
-    "WriteParts",
+    "FromParts",
+    "ToParts",
+    "Record",
     "Be",
     "Le",
     "Msb",
@@ -164,9 +167,8 @@ pub fn snake(alloc: Global, name: &str) -> Result<String, AllocError> {
 }
 
 /// The parts of one value, and what makes them in ghost text.
-pub const MADE: [(&str, &str); 7] = [
+pub const MADE: [(&str, &str); 6] = [
     ("Be", "be"),
-    ("Coded", "coded"),
     ("Le", "le"),
     ("Lsb", "lsb"),
     ("LsbBe", "lsb_be"),

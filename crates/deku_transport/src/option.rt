@@ -11,13 +11,17 @@
 //! Printed by `derive` from `option.rs`.
 
 ghost use Rattle.std.specs.Prelude.{◌-◌, nat_lt, None, Some, if◌then◌else◌, refl};
+ghost use Rattle.deku.specs.Composing.{Then};
+ghost use Rattle.deku.specs.Shapes.{Shows};
 ghost use Rattle.deku_symmetry.specs.Fields.{be};
 
-use deku::device::Sink;
-use deku::prelude::{DekuError, DekuWriter, Writer};
+use deku::device::{Sink, Source};
+use deku::prelude::{
+    DekuContainerRead, DekuContainerWrite, DekuError, DekuReader, DekuWriter, Reader, Writer,
+};
 use deku_symmetry::{
-    Be, Codec, Coded, Condition, ConditionLaw, CopyParts, CountOf, CountOfLaw, CountedBy,
-    CountedByRef, Optional, OptionalRef, WriteParts,
+    Be, Condition, ConditionLaw, CountOf, CountOfLaw, CountedBy, CountedByRef, FromParts, Optional,
+    OptionalRef, Record, ToParts, read_record, write_record,
 };
 use std::marker::PhantomData;
 
@@ -27,7 +31,7 @@ pub struct TcpOption {
     /// What it says. 0 and 1 are single bytes.
     pub kind: u8,
     /// What follows the kind.
-    pub tail: Option<Coded<Tail>>,
+    pub tail: Option<Tail>,
 }
 
 /// Whether `tail` is there: `kind > 1`.
@@ -52,8 +56,11 @@ impl TcpOption {
     pub const FIELDS: [&'static str; 2] = ["kind", "tail"];
 }
 
-impl Codec for TcpOption {
-    type Parts = Optional<u8, TcpOptionTailCondition, Coded<Tail>>;
+// The parts of TcpOption, in their order.
+type TcpOptionParts = Optional<u8, TcpOptionTailCondition, Tail>;
+
+impl FromParts for TcpOption {
+    type Parts = TcpOptionParts;
 
     ghost parts_of = { λ r. record { head = r.kind; item = r.tail; condition = record {} } };
 
@@ -71,16 +78,42 @@ impl Codec for TcpOption {
     ghost there = { λ r. refl };
 }
 
-impl WriteParts for TcpOption {
-    fn write<W: Sink>(&self, writer: &mut Writer<W>) -> Result<(), DekuError> {
+impl DekuReader<()> for TcpOption {
+    ghost no_read_ahead = { ⟦<TcpOptionParts as DekuReader<()>>⟧.no_read_ahead };
+
+    ghost meaning = { λ c. Then (⟦<TcpOptionParts as DekuReader<()>>⟧.meaning c)
+        (Shows ⟦<TcpOption as FromParts>⟧.parts_of) };
+
+    #[inline(always)]
+    fn from_reader_with_ctx<R: Source>(reader: &mut Reader<R>, ctx: ()) -> Result<Self, DekuError> {
+        read_record(reader, ctx)
+    }
+}
+
+impl DekuWriter<()> for TcpOption {
+    ghost meaning = { λ v. ⟦<TcpOptionParts as DekuWriter<()>>⟧.meaning
+        (⟦<TcpOption as FromParts>⟧.parts_of v) };
+
+    #[inline(always)]
+    fn to_writer<W: Sink>(&self, writer: &mut Writer<W>, ctx: ()) -> Result<(), DekuError> {
         let parts = OptionalRef::<_, TcpOptionTailCondition, _> {
             head: self.kind,
             item: &self.tail,
             condition: PhantomData,
         };
-        parts.to_writer(writer, ())
+        parts.to_writer(writer, ctx)
     }
 }
+
+impl Record<()> for TcpOption {
+    ghost reads = { λ c b s r u m. m };
+
+    ghost writes = { λ c v b s r u m. m };
+}
+
+impl DekuContainerRead for TcpOption {}
+
+impl DekuContainerWrite for TcpOption {}
 
 /// The length of an option, and its data.
 #[derive(Debug, PartialEq, Eq, Drop)]
@@ -116,8 +149,11 @@ impl Tail {
     pub const FIELDS: [&'static str; 2] = ["length", "bytes"];
 }
 
-impl Codec for Tail {
-    type Parts = CountedBy<u8, TailBytesCount, u8>;
+// The parts of Tail, in their order.
+type TailParts = CountedBy<u8, TailBytesCount, u8>;
+
+impl FromParts for Tail {
+    type Parts = TailParts;
 
     ghost parts_of = { λ r. record { head = r.length; items = r.bytes; count = record {} } };
 
@@ -135,16 +171,42 @@ impl Codec for Tail {
     ghost there = { λ r. refl };
 }
 
-impl WriteParts for Tail {
-    fn write<W: Sink>(&self, writer: &mut Writer<W>) -> Result<(), DekuError> {
+impl DekuReader<()> for Tail {
+    ghost no_read_ahead = { ⟦<TailParts as DekuReader<()>>⟧.no_read_ahead };
+
+    ghost meaning = { λ c. Then (⟦<TailParts as DekuReader<()>>⟧.meaning c)
+        (Shows ⟦<Tail as FromParts>⟧.parts_of) };
+
+    #[inline(always)]
+    fn from_reader_with_ctx<R: Source>(reader: &mut Reader<R>, ctx: ()) -> Result<Self, DekuError> {
+        read_record(reader, ctx)
+    }
+}
+
+impl DekuWriter<()> for Tail {
+    ghost meaning = { λ v. ⟦<TailParts as DekuWriter<()>>⟧.meaning
+        (⟦<Tail as FromParts>⟧.parts_of v) };
+
+    #[inline(always)]
+    fn to_writer<W: Sink>(&self, writer: &mut Writer<W>, ctx: ()) -> Result<(), DekuError> {
         let parts = CountedByRef::<_, TailBytesCount, _> {
             head: self.length,
             items: &self.bytes,
             count: PhantomData,
         };
-        parts.to_writer(writer, ())
+        parts.to_writer(writer, ctx)
     }
 }
+
+impl Record<()> for Tail {
+    ghost reads = { λ c b s r u m. m };
+
+    ghost writes = { λ c v b s r u m. m };
+}
+
+impl DekuContainerRead for Tail {}
+
+impl DekuContainerWrite for Tail {}
 
 /// The data of kind 2.
 #[derive(Debug, Clone, Copy, PartialEq, Eq)]
@@ -158,8 +220,11 @@ impl LargestSegment {
     pub const FIELDS: [&'static str; 1] = ["size"];
 }
 
-impl Codec for LargestSegment {
-    type Parts = Be<u16>;
+// The parts of LargestSegment, in their order.
+type LargestSegmentParts = Be<u16>;
+
+impl FromParts for LargestSegment {
+    type Parts = LargestSegmentParts;
 
     ghost parts_of = { λ r. be r.size };
 
@@ -172,11 +237,43 @@ impl Codec for LargestSegment {
     ghost there = { λ r. refl };
 }
 
-impl CopyParts for LargestSegment {
+impl ToParts for LargestSegment {
     fn parts(&self) -> Self::Parts {
         Be(self.size)
     }
 }
+
+impl DekuReader<()> for LargestSegment {
+    ghost no_read_ahead = { ⟦<LargestSegmentParts as DekuReader<()>>⟧.no_read_ahead };
+
+    ghost meaning = { λ c. Then (⟦<LargestSegmentParts as DekuReader<()>>⟧.meaning c)
+        (Shows ⟦<LargestSegment as FromParts>⟧.parts_of) };
+
+    #[inline(always)]
+    fn from_reader_with_ctx<R: Source>(reader: &mut Reader<R>, ctx: ()) -> Result<Self, DekuError> {
+        read_record(reader, ctx)
+    }
+}
+
+impl DekuWriter<()> for LargestSegment {
+    ghost meaning = { λ v. ⟦<LargestSegmentParts as DekuWriter<()>>⟧.meaning
+        (⟦<LargestSegment as FromParts>⟧.parts_of v) };
+
+    #[inline(always)]
+    fn to_writer<W: Sink>(&self, writer: &mut Writer<W>, ctx: ()) -> Result<(), DekuError> {
+        write_record(self, writer, ctx)
+    }
+}
+
+impl Record<()> for LargestSegment {
+    ghost reads = { λ c b s r u m. m };
+
+    ghost writes = { λ c v b s r u m. m };
+}
+
+impl DekuContainerRead for LargestSegment {}
+
+impl DekuContainerWrite for LargestSegment {}
 
 /// The data of kind 3.
 #[derive(Debug, Clone, Copy, PartialEq, Eq)]
@@ -190,8 +287,11 @@ impl WindowScale {
     pub const FIELDS: [&'static str; 1] = ["shift"];
 }
 
-impl Codec for WindowScale {
-    type Parts = u8;
+// The parts of WindowScale, in their order.
+type WindowScaleParts = u8;
+
+impl FromParts for WindowScale {
+    type Parts = WindowScaleParts;
 
     ghost parts_of = { λ r. r.shift };
 
@@ -204,11 +304,43 @@ impl Codec for WindowScale {
     ghost there = { λ r. refl };
 }
 
-impl CopyParts for WindowScale {
+impl ToParts for WindowScale {
     fn parts(&self) -> Self::Parts {
         self.shift
     }
 }
+
+impl DekuReader<()> for WindowScale {
+    ghost no_read_ahead = { ⟦<WindowScaleParts as DekuReader<()>>⟧.no_read_ahead };
+
+    ghost meaning = { λ c. Then (⟦<WindowScaleParts as DekuReader<()>>⟧.meaning c)
+        (Shows ⟦<WindowScale as FromParts>⟧.parts_of) };
+
+    #[inline(always)]
+    fn from_reader_with_ctx<R: Source>(reader: &mut Reader<R>, ctx: ()) -> Result<Self, DekuError> {
+        read_record(reader, ctx)
+    }
+}
+
+impl DekuWriter<()> for WindowScale {
+    ghost meaning = { λ v. ⟦<WindowScaleParts as DekuWriter<()>>⟧.meaning
+        (⟦<WindowScale as FromParts>⟧.parts_of v) };
+
+    #[inline(always)]
+    fn to_writer<W: Sink>(&self, writer: &mut Writer<W>, ctx: ()) -> Result<(), DekuError> {
+        write_record(self, writer, ctx)
+    }
+}
+
+impl Record<()> for WindowScale {
+    ghost reads = { λ c b s r u m. m };
+
+    ghost writes = { λ c v b s r u m. m };
+}
+
+impl DekuContainerRead for WindowScale {}
+
+impl DekuContainerWrite for WindowScale {}
 
 /// One block of kind 5: bytes that came out of order.
 #[derive(Debug, Clone, Copy, PartialEq, Eq)]
@@ -224,8 +356,11 @@ impl Block {
     pub const FIELDS: [&'static str; 2] = ["left", "right"];
 }
 
-impl Codec for Block {
-    type Parts = (Be<u32>, Be<u32>);
+// The parts of Block, in their order.
+type BlockParts = (Be<u32>, Be<u32>);
+
+impl FromParts for Block {
+    type Parts = BlockParts;
 
     ghost parts_of = { λ r. (be r.left, be r.right) };
 
@@ -238,11 +373,43 @@ impl Codec for Block {
     ghost there = { λ r. refl };
 }
 
-impl CopyParts for Block {
+impl ToParts for Block {
     fn parts(&self) -> Self::Parts {
         (Be(self.left), Be(self.right))
     }
 }
+
+impl DekuReader<()> for Block {
+    ghost no_read_ahead = { ⟦<BlockParts as DekuReader<()>>⟧.no_read_ahead };
+
+    ghost meaning = { λ c. Then (⟦<BlockParts as DekuReader<()>>⟧.meaning c)
+        (Shows ⟦<Block as FromParts>⟧.parts_of) };
+
+    #[inline(always)]
+    fn from_reader_with_ctx<R: Source>(reader: &mut Reader<R>, ctx: ()) -> Result<Self, DekuError> {
+        read_record(reader, ctx)
+    }
+}
+
+impl DekuWriter<()> for Block {
+    ghost meaning = { λ v. ⟦<BlockParts as DekuWriter<()>>⟧.meaning
+        (⟦<Block as FromParts>⟧.parts_of v) };
+
+    #[inline(always)]
+    fn to_writer<W: Sink>(&self, writer: &mut Writer<W>, ctx: ()) -> Result<(), DekuError> {
+        write_record(self, writer, ctx)
+    }
+}
+
+impl Record<()> for Block {
+    ghost reads = { λ c b s r u m. m };
+
+    ghost writes = { λ c v b s r u m. m };
+}
+
+impl DekuContainerRead for Block {}
+
+impl DekuContainerWrite for Block {}
 
 /// The data of kind 8.
 #[derive(Debug, Clone, Copy, PartialEq, Eq)]
@@ -258,8 +425,11 @@ impl Times {
     pub const FIELDS: [&'static str; 2] = ["value", "echo"];
 }
 
-impl Codec for Times {
-    type Parts = (Be<u32>, Be<u32>);
+// The parts of Times, in their order.
+type TimesParts = (Be<u32>, Be<u32>);
+
+impl FromParts for Times {
+    type Parts = TimesParts;
 
     ghost parts_of = { λ r. (be r.value, be r.echo) };
 
@@ -272,8 +442,40 @@ impl Codec for Times {
     ghost there = { λ r. refl };
 }
 
-impl CopyParts for Times {
+impl ToParts for Times {
     fn parts(&self) -> Self::Parts {
         (Be(self.value), Be(self.echo))
     }
 }
+
+impl DekuReader<()> for Times {
+    ghost no_read_ahead = { ⟦<TimesParts as DekuReader<()>>⟧.no_read_ahead };
+
+    ghost meaning = { λ c. Then (⟦<TimesParts as DekuReader<()>>⟧.meaning c)
+        (Shows ⟦<Times as FromParts>⟧.parts_of) };
+
+    #[inline(always)]
+    fn from_reader_with_ctx<R: Source>(reader: &mut Reader<R>, ctx: ()) -> Result<Self, DekuError> {
+        read_record(reader, ctx)
+    }
+}
+
+impl DekuWriter<()> for Times {
+    ghost meaning = { λ v. ⟦<TimesParts as DekuWriter<()>>⟧.meaning
+        (⟦<Times as FromParts>⟧.parts_of v) };
+
+    #[inline(always)]
+    fn to_writer<W: Sink>(&self, writer: &mut Writer<W>, ctx: ()) -> Result<(), DekuError> {
+        write_record(self, writer, ctx)
+    }
+}
+
+impl Record<()> for Times {
+    ghost reads = { λ c b s r u m. m };
+
+    ghost writes = { λ c v b s r u m. m };
+}
+
+impl DekuContainerRead for Times {}
+
+impl DekuContainerWrite for Times {}

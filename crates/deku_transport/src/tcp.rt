@@ -17,11 +17,17 @@
 //! Printed by `derive` from `tcp.rs`.
 
 ghost use Rattle.std.specs.Prelude.{◌-◌, ◌*◌, nat_lt, None, Some, if◌then◌else◌, refl};
+ghost use Rattle.deku.specs.Composing.{Then};
+ghost use Rattle.deku.specs.Shapes.{Shows};
 ghost use Rattle.deku_symmetry.specs.Fields.{be, msb};
 
-use deku::device::Sink;
-use deku::prelude::{DekuError, DekuWriter, Writer};
-use deku_symmetry::{Be, Codec, CountOf, CountOfLaw, CountedBy, CountedByRef, Msb, WriteParts};
+use deku::device::{Sink, Source};
+use deku::prelude::{
+    DekuContainerRead, DekuContainerWrite, DekuError, DekuReader, DekuWriter, Reader, Writer,
+};
+use deku_symmetry::{
+    Be, CountOf, CountOfLaw, CountedBy, CountedByRef, FromParts, Msb, Record, read_record,
+};
 use std::marker::PhantomData;
 
 /// The header of a segment.
@@ -123,14 +129,17 @@ impl Tcp {
     ];
 }
 
-impl Codec for Tcp {
-    type Parts = (
-        Be<u16>,
-        Be<u16>,
-        Be<u32>,
-        Be<u32>,
-        CountedBy<TcpOptionsHead, TcpOptionsCount, u8>,
-    );
+// The parts of Tcp, in their order.
+type TcpParts = (
+    Be<u16>,
+    Be<u16>,
+    Be<u32>,
+    Be<u32>,
+    CountedBy<TcpOptionsHead, TcpOptionsCount, u8>,
+);
+
+impl FromParts for Tcp {
+    type Parts = TcpParts;
 
     ghost parts_of = { λ r. (
       be r.source,
@@ -226,8 +235,24 @@ impl Codec for Tcp {
     ghost there = { λ r. refl };
 }
 
-impl WriteParts for Tcp {
-    fn write<W: Sink>(&self, writer: &mut Writer<W>) -> Result<(), DekuError> {
+impl DekuReader<()> for Tcp {
+    ghost no_read_ahead = { ⟦<TcpParts as DekuReader<()>>⟧.no_read_ahead };
+
+    ghost meaning = { λ c. Then (⟦<TcpParts as DekuReader<()>>⟧.meaning c)
+        (Shows ⟦<Tcp as FromParts>⟧.parts_of) };
+
+    #[inline(always)]
+    fn from_reader_with_ctx<R: Source>(reader: &mut Reader<R>, ctx: ()) -> Result<Self, DekuError> {
+        read_record(reader, ctx)
+    }
+}
+
+impl DekuWriter<()> for Tcp {
+    ghost meaning = { λ v. ⟦<TcpParts as DekuWriter<()>>⟧.meaning
+        (⟦<Tcp as FromParts>⟧.parts_of v) };
+
+    #[inline(always)]
+    fn to_writer<W: Sink>(&self, writer: &mut Writer<W>, ctx: ()) -> Result<(), DekuError> {
         let parts = (
             Be(self.source),
             Be(self.destination),
@@ -257,6 +282,16 @@ impl WriteParts for Tcp {
                 count: PhantomData,
             },
         );
-        parts.to_writer(writer, ())
+        parts.to_writer(writer, ctx)
     }
 }
+
+impl Record<()> for Tcp {
+    ghost reads = { λ c b s r u m. m };
+
+    ghost writes = { λ c v b s r u m. m };
+}
+
+impl DekuContainerRead for Tcp {}
+
+impl DekuContainerWrite for Tcp {}

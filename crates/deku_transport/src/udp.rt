@@ -10,9 +10,15 @@
 //! Printed by `derive` from `udp.rs`.
 
 ghost use Rattle.std.specs.Prelude.{refl};
+ghost use Rattle.deku.specs.Composing.{Then};
+ghost use Rattle.deku.specs.Shapes.{Shows};
 ghost use Rattle.deku_symmetry.specs.Fields.{be};
 
-use deku_symmetry::{Be, Codec, CopyParts};
+use deku::device::{Sink, Source};
+use deku::prelude::{
+    DekuContainerRead, DekuContainerWrite, DekuError, DekuReader, DekuWriter, Reader, Writer,
+};
+use deku_symmetry::{Be, FromParts, Record, ToParts, read_record, write_record};
 
 /// The header of a datagram.
 #[derive(Debug, Clone, Copy, PartialEq, Eq)]
@@ -32,8 +38,11 @@ impl Udp {
     pub const FIELDS: [&'static str; 4] = ["source", "destination", "length", "checksum"];
 }
 
-impl Codec for Udp {
-    type Parts = (Be<u16>, Be<u16>, Be<u16>, Be<u16>);
+// The parts of Udp, in their order.
+type UdpParts = (Be<u16>, Be<u16>, Be<u16>, Be<u16>);
+
+impl FromParts for Udp {
+    type Parts = UdpParts;
 
     ghost parts_of = { λ r. (be r.source, be r.destination, be r.length, be r.checksum) };
 
@@ -56,7 +65,7 @@ impl Codec for Udp {
     ghost there = { λ r. refl };
 }
 
-impl CopyParts for Udp {
+impl ToParts for Udp {
     fn parts(&self) -> Self::Parts {
         (
             Be(self.source),
@@ -66,3 +75,35 @@ impl CopyParts for Udp {
         )
     }
 }
+
+impl DekuReader<()> for Udp {
+    ghost no_read_ahead = { ⟦<UdpParts as DekuReader<()>>⟧.no_read_ahead };
+
+    ghost meaning = { λ c. Then (⟦<UdpParts as DekuReader<()>>⟧.meaning c)
+        (Shows ⟦<Udp as FromParts>⟧.parts_of) };
+
+    #[inline(always)]
+    fn from_reader_with_ctx<R: Source>(reader: &mut Reader<R>, ctx: ()) -> Result<Self, DekuError> {
+        read_record(reader, ctx)
+    }
+}
+
+impl DekuWriter<()> for Udp {
+    ghost meaning = { λ v. ⟦<UdpParts as DekuWriter<()>>⟧.meaning
+        (⟦<Udp as FromParts>⟧.parts_of v) };
+
+    #[inline(always)]
+    fn to_writer<W: Sink>(&self, writer: &mut Writer<W>, ctx: ()) -> Result<(), DekuError> {
+        write_record(self, writer, ctx)
+    }
+}
+
+impl Record<()> for Udp {
+    ghost reads = { λ c b s r u m. m };
+
+    ghost writes = { λ c v b s r u m. m };
+}
+
+impl DekuContainerRead for Udp {}
+
+impl DekuContainerWrite for Udp {}

@@ -3,11 +3,20 @@
 //! Printed by `derive` from `event.rs`.
 
 ghost use Rattle.std.specs.Prelude.{refl};
+ghost use Rattle.deku.specs.Composing.{Then};
+ghost use Rattle.deku.specs.Shapes.{Shows};
 ghost use Rattle.deku_symmetry.specs.Fields.{be};
 ghost use Rattle.deku_pieces.specs.declared.either.Either.TheVariants as either;
 ghost use Rattle.samples.specs.declared.event.Event.TheVariants as event_kinds;
 
-use deku_symmetry::{Be, Codec, CopyParts, Either, Enum, InRange, Kind, MsbEnum, Otherwise};
+use deku::device::{Sink, Source};
+use deku::prelude::{
+    DekuContainerRead, DekuContainerWrite, DekuError, DekuReader, DekuWriter, Reader, Writer,
+};
+use deku_symmetry::{
+    Be, Either, Enum, FromParts, InRange, Kind, MsbEnum, Otherwise, Record, ToParts, read_record,
+    write_record,
+};
 
 /// The record `Event`.
 #[derive(Debug, Clone, Copy, PartialEq, Eq)]
@@ -20,11 +29,14 @@ pub enum Event {
     Other(u64, u16),
 }
 
-impl Codec for Event {
-    type Parts = MsbEnum<
-        Either<Either<Kind<(), 1>, Kind<(u8, Be<u16>), 2>>, Otherwise<Be<u16>>>,
-        8,
-    >;
+// The parts of Event, in their order.
+type EventParts = MsbEnum<
+    Either<Either<Kind<(), 1>, Kind<(u8, Be<u16>), 2>>, Otherwise<Be<u16>>>,
+    8,
+>;
+
+impl FromParts for Event {
+    type Parts = EventParts;
 
     ghost parts_of = { elim [
       | event_kinds.Started ↦ record {
@@ -67,7 +79,7 @@ impl Codec for Event {
     ] };
 }
 
-impl CopyParts for Event {
+impl ToParts for Event {
     fn parts(&self) -> Self::Parts {
         match self {
             Event::Started => Enum::new(Either::This(Either::This(Kind(())))),
@@ -83,3 +95,35 @@ impl CopyParts for Event {
         }
     }
 }
+
+impl DekuReader<()> for Event {
+    ghost no_read_ahead = { ⟦<EventParts as DekuReader<()>>⟧.no_read_ahead };
+
+    ghost meaning = { λ c. Then (⟦<EventParts as DekuReader<()>>⟧.meaning c)
+        (Shows ⟦<Event as FromParts>⟧.parts_of) };
+
+    #[inline(always)]
+    fn from_reader_with_ctx<R: Source>(reader: &mut Reader<R>, ctx: ()) -> Result<Self, DekuError> {
+        read_record(reader, ctx)
+    }
+}
+
+impl DekuWriter<()> for Event {
+    ghost meaning = { λ v. ⟦<EventParts as DekuWriter<()>>⟧.meaning
+        (⟦<Event as FromParts>⟧.parts_of v) };
+
+    #[inline(always)]
+    fn to_writer<W: Sink>(&self, writer: &mut Writer<W>, ctx: ()) -> Result<(), DekuError> {
+        write_record(self, writer, ctx)
+    }
+}
+
+impl Record<()> for Event {
+    ghost reads = { λ c b s r u m. m };
+
+    ghost writes = { λ c v b s r u m. m };
+}
+
+impl DekuContainerRead for Event {}
+
+impl DekuContainerWrite for Event {}

@@ -3,8 +3,7 @@
 use crate::sample::Sample;
 use deku::ctx::{Endian, Limit};
 use deku::device::{Sink, Source};
-use deku::prelude::{DekuError, DekuReader, Reader, Writer};
-use deku_symmetry::{Codec, Coded, WriteParts};
+use deku::prelude::{DekuError, DekuReader, DekuWriter, Reader, Writer};
 
 /// A sample of sensor 6 in state 9.
 pub fn sample_of(value: u16) -> Sample {
@@ -18,13 +17,13 @@ pub fn sample_of(value: u16) -> Sample {
 /// Writes samples.
 pub fn write_log<W: Sink>(writer: &mut Writer<W>, samples: &[Sample]) -> Result<(), DekuError> {
     for sample in samples {
-        sample.write(writer)?;
+        sample.to_writer(writer, ())?;
     }
     writer.finalize()
 }
 
 /// Reads samples to the end of the input.
-pub fn read_log<R: Source>(reader: &mut Reader<R>) -> Result<Vec<Coded<Sample>>, DekuError> {
+pub fn read_log<R: Source>(reader: &mut Reader<R>) -> Result<Vec<Sample>, DekuError> {
     Vec::from_reader_with_ctx(reader, (Limit::end(), ()))
 }
 
@@ -35,7 +34,7 @@ pub fn show<R: Source>(rt: &HostRuntime, reader: &mut Reader<R>) -> Result<(), D
             break;
         }
         let start = reader.bits_read();
-        match Sample::read(reader) {
+        match Sample::from_reader_with_ctx(reader, ()) {
             Ok(sample) => println!(rt; "{sample:?}")?,
             Err(error) => {
                 let at = reader.bits_read();

@@ -3,11 +3,17 @@
 //! Printed by `derive` from `timed.rs`.
 
 ghost use Rattle.std.specs.Prelude.{refl};
+ghost use Rattle.deku.specs.Composing.{Then};
+ghost use Rattle.deku.specs.Shapes.{Shows};
 ghost use Rattle.deku_symmetry.specs.Fields.{be, msb};
 
-use deku::device::Sink;
-use deku::prelude::{DekuError, DekuWriter, Writer};
-use deku_symmetry::{Be, Codec, Condition, ConditionLaw, Msb, Optional, OptionalRef, WriteParts};
+use deku::device::{Sink, Source};
+use deku::prelude::{
+    DekuContainerRead, DekuContainerWrite, DekuError, DekuReader, DekuWriter, Reader, Writer,
+};
+use deku_symmetry::{
+    Be, Condition, ConditionLaw, FromParts, Msb, Optional, OptionalRef, Record, read_record,
+};
 use std::marker::PhantomData;
 
 /// The record `Timed`.
@@ -42,11 +48,14 @@ impl Timed {
     pub const FIELDS: [&'static str; 4] = ["sensor", "has_time", "value", "time"];
 }
 
-impl Codec for Timed {
-    type Parts = (
-        Msb<u8, 7>,
-        Optional<TimedTimeHead, TimedTimeCondition, Be<u32>>,
-    );
+// The parts of Timed, in their order.
+type TimedParts = (
+    Msb<u8, 7>,
+    Optional<TimedTimeHead, TimedTimeCondition, Be<u32>>,
+);
+
+impl FromParts for Timed {
+    type Parts = TimedParts;
 
     ghost parts_of = { λ r. (
       msb r.sensor,
@@ -80,8 +89,24 @@ impl Codec for Timed {
     ghost there = { λ r. refl };
 }
 
-impl WriteParts for Timed {
-    fn write<W: Sink>(&self, writer: &mut Writer<W>) -> Result<(), DekuError> {
+impl DekuReader<()> for Timed {
+    ghost no_read_ahead = { ⟦<TimedParts as DekuReader<()>>⟧.no_read_ahead };
+
+    ghost meaning = { λ c. Then (⟦<TimedParts as DekuReader<()>>⟧.meaning c)
+        (Shows ⟦<Timed as FromParts>⟧.parts_of) };
+
+    #[inline(always)]
+    fn from_reader_with_ctx<R: Source>(reader: &mut Reader<R>, ctx: ()) -> Result<Self, DekuError> {
+        read_record(reader, ctx)
+    }
+}
+
+impl DekuWriter<()> for Timed {
+    ghost meaning = { λ v. ⟦<TimedParts as DekuWriter<()>>⟧.meaning
+        (⟦<Timed as FromParts>⟧.parts_of v) };
+
+    #[inline(always)]
+    fn to_writer<W: Sink>(&self, writer: &mut Writer<W>, ctx: ()) -> Result<(), DekuError> {
         let parts = (
             Msb::<_, 7>(self.sensor),
             OptionalRef::<_, TimedTimeCondition, _> {
@@ -90,6 +115,16 @@ impl WriteParts for Timed {
                 condition: PhantomData,
             },
         );
-        parts.to_writer(writer, ())
+        parts.to_writer(writer, ctx)
     }
 }
+
+impl Record<()> for Timed {
+    ghost reads = { λ c b s r u m. m };
+
+    ghost writes = { λ c v b s r u m. m };
+}
+
+impl DekuContainerRead for Timed {}
+
+impl DekuContainerWrite for Timed {}

@@ -3,10 +3,16 @@
 //! Printed by `derive --c` from `sample.rs`.
 
 ghost use Rattle.std.specs.Prelude.{refl};
+ghost use Rattle.deku.specs.Composing.{Then};
+ghost use Rattle.deku.specs.Shapes.{Shows};
 ghost use Rattle.deku_symmetry.specs.Fields.{be, msb};
 
+use deku::device::{Sink, Source};
+use deku::prelude::{
+    DekuContainerRead, DekuContainerWrite, DekuError, DekuReader, DekuWriter, Reader, Writer,
+};
 use deku_c_records::ForC;
-use deku_symmetry::{Be, Codec, CopyParts, Msb};
+use deku_symmetry::{Be, FromParts, Msb, Record, ToParts, read_record, write_record};
 use std::alloc::Global;
 
 /// The record `Sample`.
@@ -23,8 +29,11 @@ impl Sample {
     pub const FIELDS: [&'static str; 3] = ["sensor", "state", "value"];
 }
 
-impl Codec for Sample {
-    type Parts = (Msb<u8, 4>, Msb<u8, 4>, Be<u16>);
+// The parts of Sample, in their order.
+type SampleParts = (Msb<u8, 4>, Msb<u8, 4>, Be<u16>);
+
+impl FromParts for Sample {
+    type Parts = SampleParts;
 
     ghost parts_of = { λ r. (msb r.sensor, msb r.state, be r.value) };
 
@@ -41,11 +50,43 @@ impl Codec for Sample {
     ghost there = { λ r. refl };
 }
 
-impl CopyParts for Sample {
+impl ToParts for Sample {
     fn parts(&self) -> Self::Parts {
         (Msb(self.sensor), Msb(self.state), Be(self.value))
     }
 }
+
+impl DekuReader<()> for Sample {
+    ghost no_read_ahead = { ⟦<SampleParts as DekuReader<()>>⟧.no_read_ahead };
+
+    ghost meaning = { λ c. Then (⟦<SampleParts as DekuReader<()>>⟧.meaning c)
+        (Shows ⟦<Sample as FromParts>⟧.parts_of) };
+
+    #[inline(always)]
+    fn from_reader_with_ctx<R: Source>(reader: &mut Reader<R>, ctx: ()) -> Result<Self, DekuError> {
+        read_record(reader, ctx)
+    }
+}
+
+impl DekuWriter<()> for Sample {
+    ghost meaning = { λ v. ⟦<SampleParts as DekuWriter<()>>⟧.meaning
+        (⟦<Sample as FromParts>⟧.parts_of v) };
+
+    #[inline(always)]
+    fn to_writer<W: Sink>(&self, writer: &mut Writer<W>, ctx: ()) -> Result<(), DekuError> {
+        write_record(self, writer, ctx)
+    }
+}
+
+impl Record<()> for Sample {
+    ghost reads = { λ c b s r u m. m };
+
+    ghost writes = { λ c v b s r u m. m };
+}
+
+impl DekuContainerRead for Sample {}
+
+impl DekuContainerWrite for Sample {}
 
 /// Reads the record from the first byte on. Returns 0, or the number of the error; the record then
 /// stays as it was.

@@ -1,7 +1,8 @@
 //! A sample of telemetry.
 
 ghost use Rattle.std.specs.Prelude.{refl};
-ghost use Rattle.deku.specs.Outcomes.{Mapped};
+ghost use Rattle.deku.specs.Composing.{Then};
+ghost use Rattle.deku.specs.Shapes.{Shows};
 
 use deku::device::{Sink, Source};
 use deku::prelude::{DekuError, DekuReader, DekuWriter, Reader, Writer};
@@ -19,7 +20,7 @@ pub struct Sample {
 // The fields, in order.
 type Parts = (Msb<u16, 10>, Msb<u16, 12>);
 
-impl FromParts<()> for Sample {
+impl FromParts for Sample {
     type Parts = Parts;
 
     ghost parts_of = { λ r. (record { 0 = r.voltage }, record { 0 = r.current }) };
@@ -34,23 +35,21 @@ impl FromParts<()> for Sample {
     ghost there = { λ r. refl };
 }
 
-impl ToParts<()> for Sample {
+impl ToParts for Sample {
     fn parts(&self) -> Self::Parts {
         (Msb(self.voltage), Msb(self.current))
     }
 }
 
-impl Record for Sample {
-    ghost back = { λ p ps h. refl };
+impl Record<()> for Sample {
+    ghost reads = { λ c b s r u m. m };
 
-    ghost reads = { λ b s r u m. m };
-
-    ghost writes = { λ v b s r u m. m };
+    ghost writes = { λ c v b s r u m. m };
 }
 
 impl DekuReader<()> for Sample {
-    ghost meaning = { λ _. Mapped ⟦<Sample as FromParts<()>>⟧.record_of
-        (⟦<Parts as DekuReader<()>>⟧.meaning tt) };
+    ghost meaning = { λ _. Then (⟦<Parts as DekuReader<()>>⟧.meaning tt)
+        (Shows ⟦<Sample as FromParts>⟧.parts_of) };
 
     fn from_reader_with_ctx<R: Source>(
         reader: &mut Reader<R>,
@@ -62,7 +61,7 @@ impl DekuReader<()> for Sample {
 
 impl DekuWriter<()> for Sample {
     ghost meaning = { λ v _. ⟦<Parts as DekuWriter<()>>⟧.meaning
-        (⟦<Sample as FromParts<()>>⟧.parts_of v) tt };
+        (⟦<Sample as FromParts>⟧.parts_of v) tt };
 
     fn to_writer<W: Sink>(&self, writer: &mut Writer<W>, _ctx: ()) -> Result<(), DekuError> {
         write_record(self, writer, ())

@@ -1,7 +1,8 @@
 //! The header of an IPv4 packet without its options.
 
 ghost use Rattle.std.specs.Prelude.{refl, ◌-◌, ◌*◌, nat_lt, Some, None, if◌then◌else◌};
-ghost use Rattle.deku.specs.Outcomes.{Mapped};
+ghost use Rattle.deku.specs.Composing.{Then};
+ghost use Rattle.deku.specs.Shapes.{Shows};
 
 use crate::ipv4::Version;
 use deku::device::{Sink, Source};
@@ -54,7 +55,7 @@ type Parts = (
     (Be<Ipv4Addr>, Be<Ipv4Addr>),
 );
 
-impl FromParts<()> for Front {
+impl FromParts for Front {
     type Parts = Parts;
 
     ghost parts_of = { λ r. (
@@ -110,7 +111,7 @@ impl FromParts<()> for Front {
     ghost there = { λ r. refl };
 }
 
-impl ToParts<()> for Front {
+impl ToParts for Front {
     fn parts(&self) -> Self::Parts {
         (
             (
@@ -149,17 +150,15 @@ impl ItemCountLaw for Front {
     ghost alike = { λ v w e. rw e.0.1.0 refl };
 }
 
-impl Record for Front {
-    ghost back = { λ p ps h. refl };
+impl Record<()> for Front {
+    ghost reads = { λ c b s r u m. m };
 
-    ghost reads = { λ b s r u m. m };
-
-    ghost writes = { λ v b s r u m. m };
+    ghost writes = { λ c v b s r u m. m };
 }
 
 impl DekuReader<()> for Front {
-    ghost meaning = { λ _. Mapped ⟦<Front as FromParts<()>>⟧.record_of
-        (⟦<Parts as DekuReader<()>>⟧.meaning tt) };
+    ghost meaning = { λ _. Then (⟦<Parts as DekuReader<()>>⟧.meaning tt)
+        (Shows ⟦<Front as FromParts>⟧.parts_of) };
 
     fn from_reader_with_ctx<R: Source>(
         reader: &mut Reader<R>,
@@ -171,7 +170,7 @@ impl DekuReader<()> for Front {
 
 impl DekuWriter<()> for Front {
     ghost meaning = { λ v _. ⟦<Parts as DekuWriter<()>>⟧.meaning
-        (⟦<Front as FromParts<()>>⟧.parts_of v) tt };
+        (⟦<Front as FromParts>⟧.parts_of v) tt };
 
     fn to_writer<W: Sink>(&self, writer: &mut Writer<W>, _ctx: ()) -> Result<(), DekuError> {
         write_record(self, writer, ())

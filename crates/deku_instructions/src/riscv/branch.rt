@@ -3,12 +3,13 @@
 ghost use Rattle.std.specs.Prelude.{◌≡◌, ◌<◌, ◌/◌, ◌%◌, ◌^◌, refl};
 ghost use Rattle.deku_instructions.specs.Riscv.{bits_below, halves_of};
 ghost use Rattle.deku_pieces.specs.Scattered.{low_of, high_of};
-ghost use Rattle.deku.specs.Outcomes.{Mapped};
+ghost use Rattle.deku.specs.Composing.{Then};
+ghost use Rattle.deku.specs.Shapes.{Shows};
 ghost use Rattle.deku_num.specs.Numbers.{byte, unsigned, signed};
 ghost use Rattle.deku_num.specs.declared.ctx.Endian.TheVariants.{Little};
 ghost use Rattle.deku_bits.specs.declared.ctx.Order.TheVariants.{Lsb0};
 ghost use Rattle.deku_pieces.proofs.Tuples.{pair_symmetric, longer_symmetric};
-ghost use Rattle.deku_pieces.proofs.Turned.{told_symmetric};
+ghost use Rattle.deku_pieces.proofs.Turned.{record_symmetric};
 ghost use Rattle.deku_instructions.specs.Fields.{low, signed_low};
 
 use deku::ctx::{BitSize, Endian, NumberCtx, Order};
@@ -93,7 +94,7 @@ type Parts = (
     Lsb<i32, 1>,
 );
 
-impl FromParts<()> for Branch {
+impl FromParts for Branch {
     type Parts = Parts;
 
     ghost parts_of = { λ r. (
@@ -133,7 +134,7 @@ impl FromParts<()> for Branch {
     ghost there = { λ r. refl };
 }
 
-impl ToParts<()> for Branch {
+impl ToParts for Branch {
     fn parts(&self) -> Self::Parts {
         (
             Lsb(self.top),
@@ -148,8 +149,8 @@ impl ToParts<()> for Branch {
 }
 
 impl DekuReader<()> for Branch {
-    ghost meaning = { λ _. Mapped ⟦<Branch as FromParts<()>>⟧.record_of
-        (⟦<Parts as DekuReader<()>>⟧.meaning tt) };
+    ghost meaning = { λ _. Then (⟦<Parts as DekuReader<()>>⟧.meaning tt)
+        (Shows ⟦<Branch as FromParts>⟧.parts_of) };
 
     fn from_reader_with_ctx<R: Source>(
         reader: &mut Reader<R>,
@@ -161,7 +162,7 @@ impl DekuReader<()> for Branch {
 
 impl DekuWriter<()> for Branch {
     ghost meaning = { λ v _. ⟦<Parts as DekuWriter<()>>⟧.meaning
-        (⟦<Branch as FromParts<()>>⟧.parts_of v) tt };
+        (⟦<Branch as FromParts>⟧.parts_of v) tt };
 
     fn to_writer<W: Sink>(&self, writer: &mut Writer<W>, _ctx: ()) -> Result<(), DekuError> {
         write_record(self, writer, ())
@@ -171,13 +172,12 @@ impl DekuWriter<()> for Branch {
 /// The pieces of the parts.
 impl Symmetric<()> for Branch {
     ghost pieces = { λ v _. ⟦<Parts as Symmetric<()>>⟧.pieces
-        (⟦<Branch as FromParts<()>>⟧.parts_of v) tt };
+        (⟦<Branch as FromParts>⟧.parts_of v) tt };
 
-    ghost same = { λ v w. ⟦<Parts as Symmetric<()>>⟧.same (⟦<Branch as FromParts<()>>⟧.parts_of v)
-        (⟦<Branch as FromParts<()>>⟧.parts_of w) };
+    ghost same = { λ v w. ⟦<Parts as Symmetric<()>>⟧.same (⟦<Branch as FromParts>⟧.parts_of v)
+        (⟦<Branch as FromParts>⟧.parts_of w) };
 
-    ghost symmetric = { λ _. told_symmetric ⟦<Branch as FromParts<()>>⟧.record_of
-        ⟦<Branch as FromParts<()>>⟧.parts_of (λ p ps h. refl)
+    ghost symmetric = { λ _. record_symmetric ⟦<Branch as FromParts>⟧.parts_of
         (longer_symmetric (low 1 (unsigned 32)
         (⟦<(Endian, BitSize, Order) as NumberCtx>⟧.layout_of (Little, record { 0 = 1 }, Lsb0)))
         (longer_symmetric (low 4 (unsigned 32)

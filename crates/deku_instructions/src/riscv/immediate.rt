@@ -1,12 +1,13 @@
 //! Words of a source register and a number.
 
 ghost use Rattle.std.specs.Prelude.{refl};
-ghost use Rattle.deku.specs.Outcomes.{Mapped};
+ghost use Rattle.deku.specs.Composing.{Then};
+ghost use Rattle.deku.specs.Shapes.{Shows};
 ghost use Rattle.deku_num.specs.Numbers.{byte, signed};
 ghost use Rattle.deku_num.specs.declared.ctx.Endian.TheVariants.{Little};
 ghost use Rattle.deku_bits.specs.declared.ctx.Order.TheVariants.{Lsb0};
 ghost use Rattle.deku_pieces.proofs.Tuples.{pair_symmetric, longer_symmetric};
-ghost use Rattle.deku_pieces.proofs.Turned.{told_symmetric};
+ghost use Rattle.deku_pieces.proofs.Turned.{record_symmetric};
 ghost use Rattle.deku_instructions.specs.Fields.{low, signed_low};
 
 use deku::ctx::{BitSize, Endian, NumberCtx, Order};
@@ -32,7 +33,7 @@ pub struct Immediate {
 // The fields, in order.
 type Parts = (Lsb<u8, 5>, Lsb<u8, 3>, Lsb<u8, 5>, Lsb<i16, 12>);
 
-impl FromParts<()> for Immediate {
+impl FromParts for Immediate {
     type Parts = Parts;
 
     ghost parts_of = { λ r. (
@@ -62,7 +63,7 @@ impl FromParts<()> for Immediate {
     ghost there = { λ r. refl };
 }
 
-impl ToParts<()> for Immediate {
+impl ToParts for Immediate {
     fn parts(&self) -> Self::Parts {
         (
             Lsb(self.target),
@@ -74,8 +75,8 @@ impl ToParts<()> for Immediate {
 }
 
 impl DekuReader<()> for Immediate {
-    ghost meaning = { λ _. Mapped ⟦<Immediate as FromParts<()>>⟧.record_of
-        (⟦<Parts as DekuReader<()>>⟧.meaning tt) };
+    ghost meaning = { λ _. Then (⟦<Parts as DekuReader<()>>⟧.meaning tt)
+        (Shows ⟦<Immediate as FromParts>⟧.parts_of) };
 
     fn from_reader_with_ctx<R: Source>(
         reader: &mut Reader<R>,
@@ -87,7 +88,7 @@ impl DekuReader<()> for Immediate {
 
 impl DekuWriter<()> for Immediate {
     ghost meaning = { λ v _. ⟦<Parts as DekuWriter<()>>⟧.meaning
-        (⟦<Immediate as FromParts<()>>⟧.parts_of v) tt };
+        (⟦<Immediate as FromParts>⟧.parts_of v) tt };
 
     fn to_writer<W: Sink>(&self, writer: &mut Writer<W>, _ctx: ()) -> Result<(), DekuError> {
         write_record(self, writer, ())
@@ -97,13 +98,12 @@ impl DekuWriter<()> for Immediate {
 /// The pieces of the parts.
 impl Symmetric<()> for Immediate {
     ghost pieces = { λ v _. ⟦<Parts as Symmetric<()>>⟧.pieces
-        (⟦<Immediate as FromParts<()>>⟧.parts_of v) tt };
+        (⟦<Immediate as FromParts>⟧.parts_of v) tt };
 
     ghost same = { λ v w. ⟦<Parts as Symmetric<()>>⟧.same
-        (⟦<Immediate as FromParts<()>>⟧.parts_of v) (⟦<Immediate as FromParts<()>>⟧.parts_of w) };
+        (⟦<Immediate as FromParts>⟧.parts_of v) (⟦<Immediate as FromParts>⟧.parts_of w) };
 
-    ghost symmetric = { λ _. told_symmetric ⟦<Immediate as FromParts<()>>⟧.record_of
-        ⟦<Immediate as FromParts<()>>⟧.parts_of (λ p ps h. refl)
+    ghost symmetric = { λ _. record_symmetric ⟦<Immediate as FromParts>⟧.parts_of
         (longer_symmetric (low 5 byte (⟦<(Endian, BitSize, Order) as NumberCtx>⟧.layout_of
         (Little, record { 0 = 5 }, Lsb0)))
         (longer_symmetric (low 3 byte (⟦<(Endian, BitSize, Order) as NumberCtx>⟧.layout_of

@@ -4,7 +4,8 @@ ghost use Rattle.std.specs.Prelude.{◌≡◌, refl};
 ghost use Rattle.deku_instructions.specs.Words.{low_word, middle_word, high_word, parts_of_word};
 ghost use Rattle.deku_instructions.specs.Words.{word_of_parts, parts_back};
 ghost use Rattle.deku_instructions.specs.declared.riscv.instruction.Instruction.TheVariants.{Load, Fence, OperateImmediate, AddUpper, Store, Operate, LoadUpper, Branch, JumpRegister, Jump, System};
-ghost use Rattle.deku.specs.Outcomes.{Mapped};
+ghost use Rattle.deku.specs.Composing.{Then};
+ghost use Rattle.deku.specs.Shapes.{Shows};
 
 use crate::riscv::branch::Branch;
 use crate::riscv::immediate::Immediate;
@@ -72,7 +73,7 @@ type HighCodes = Either<
 // A code of seven bits, and the operands of each.
 type Parts = LsbEnum<Either<LowCodes, Either<MiddleCodes, HighCodes>>, 7>;
 
-impl FromParts<()> for Instruction {
+impl FromParts for Instruction {
     type Parts = Parts;
 
     ghost parts_of = { parts_of_word };
@@ -137,7 +138,7 @@ fn high(parts: HighCodes) -> Instruction
     }
 }
 
-impl ToParts<()> for Instruction {
+impl ToParts for Instruction {
     fn parts(&self) -> Self::Parts {
         Enum::new(match *self {
             Instruction::Load(x) => Either::This(Either::This(Either::This(Kind(x)))),
@@ -169,17 +170,15 @@ impl ToParts<()> for Instruction {
     }
 }
 
-impl Record for Instruction {
-    ghost back = { λ p ps h. parts_back p };
+impl Record<()> for Instruction {
+    ghost reads = { λ c b s r u m. m };
 
-    ghost reads = { λ b s r u m. m };
-
-    ghost writes = { λ v b s r u m. m };
+    ghost writes = { λ c v b s r u m. m };
 }
 
 impl DekuReader<()> for Instruction {
-    ghost meaning = { λ _. Mapped ⟦<Instruction as FromParts<()>>⟧.record_of
-        (⟦<Parts as DekuReader<()>>⟧.meaning tt) };
+    ghost meaning = { λ _. Then (⟦<Parts as DekuReader<()>>⟧.meaning tt)
+        (Shows ⟦<Instruction as FromParts>⟧.parts_of) };
 
     fn from_reader_with_ctx<R: Source>(
         reader: &mut Reader<R>,
@@ -191,7 +190,7 @@ impl DekuReader<()> for Instruction {
 
 impl DekuWriter<()> for Instruction {
     ghost meaning = { λ v _. ⟦<Parts as DekuWriter<()>>⟧.meaning
-        (⟦<Instruction as FromParts<()>>⟧.parts_of v) tt };
+        (⟦<Instruction as FromParts>⟧.parts_of v) tt };
 
     fn to_writer<W: Sink>(&self, writer: &mut Writer<W>, _ctx: ()) -> Result<(), DekuError> {
         write_record(self, writer, ())

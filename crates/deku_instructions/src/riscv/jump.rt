@@ -3,12 +3,13 @@
 ghost use Rattle.std.specs.Prelude.{◌≡◌, ◌<◌, ◌/◌, ◌%◌, ◌^◌, refl};
 ghost use Rattle.deku_instructions.specs.Riscv.{jump_bits_below, jump_of};
 ghost use Rattle.deku_pieces.specs.Scattered.{low_of, high_of};
-ghost use Rattle.deku.specs.Outcomes.{Mapped};
+ghost use Rattle.deku.specs.Composing.{Then};
+ghost use Rattle.deku.specs.Shapes.{Shows};
 ghost use Rattle.deku_num.specs.Numbers.{byte, unsigned, signed};
 ghost use Rattle.deku_num.specs.declared.ctx.Endian.TheVariants.{Little};
 ghost use Rattle.deku_bits.specs.declared.ctx.Order.TheVariants.{Lsb0};
 ghost use Rattle.deku_pieces.proofs.Tuples.{pair_symmetric, longer_symmetric};
-ghost use Rattle.deku_pieces.proofs.Turned.{told_symmetric};
+ghost use Rattle.deku_pieces.proofs.Turned.{record_symmetric};
 ghost use Rattle.deku_instructions.specs.Fields.{low, signed_low};
 
 use deku::ctx::{BitSize, Endian, NumberCtx, Order};
@@ -83,7 +84,7 @@ type Parts = (
     Lsb<i32, 1>,
 );
 
-impl FromParts<()> for Jump {
+impl FromParts for Jump {
     type Parts = Parts;
 
     ghost parts_of = { λ r. (
@@ -116,7 +117,7 @@ impl FromParts<()> for Jump {
     ghost there = { λ r. refl };
 }
 
-impl ToParts<()> for Jump {
+impl ToParts for Jump {
     fn parts(&self) -> Self::Parts {
         (
             Lsb(self.target),
@@ -129,8 +130,8 @@ impl ToParts<()> for Jump {
 }
 
 impl DekuReader<()> for Jump {
-    ghost meaning = { λ _. Mapped ⟦<Jump as FromParts<()>>⟧.record_of
-        (⟦<Parts as DekuReader<()>>⟧.meaning tt) };
+    ghost meaning = { λ _. Then (⟦<Parts as DekuReader<()>>⟧.meaning tt)
+        (Shows ⟦<Jump as FromParts>⟧.parts_of) };
 
     fn from_reader_with_ctx<R: Source>(
         reader: &mut Reader<R>,
@@ -142,7 +143,7 @@ impl DekuReader<()> for Jump {
 
 impl DekuWriter<()> for Jump {
     ghost meaning = { λ v _. ⟦<Parts as DekuWriter<()>>⟧.meaning
-        (⟦<Jump as FromParts<()>>⟧.parts_of v) tt };
+        (⟦<Jump as FromParts>⟧.parts_of v) tt };
 
     fn to_writer<W: Sink>(&self, writer: &mut Writer<W>, _ctx: ()) -> Result<(), DekuError> {
         write_record(self, writer, ())
@@ -151,14 +152,13 @@ impl DekuWriter<()> for Jump {
 
 /// The pieces of the parts.
 impl Symmetric<()> for Jump {
-    ghost pieces = { λ v _. ⟦<Parts as Symmetric<()>>⟧.pieces (⟦<Jump as FromParts<()>>⟧.parts_of v)
+    ghost pieces = { λ v _. ⟦<Parts as Symmetric<()>>⟧.pieces (⟦<Jump as FromParts>⟧.parts_of v)
         tt };
 
-    ghost same = { λ v w. ⟦<Parts as Symmetric<()>>⟧.same (⟦<Jump as FromParts<()>>⟧.parts_of v)
-        (⟦<Jump as FromParts<()>>⟧.parts_of w) };
+    ghost same = { λ v w. ⟦<Parts as Symmetric<()>>⟧.same (⟦<Jump as FromParts>⟧.parts_of v)
+        (⟦<Jump as FromParts>⟧.parts_of w) };
 
-    ghost symmetric = { λ _. told_symmetric ⟦<Jump as FromParts<()>>⟧.record_of
-        ⟦<Jump as FromParts<()>>⟧.parts_of (λ p ps h. refl)
+    ghost symmetric = { λ _. record_symmetric ⟦<Jump as FromParts>⟧.parts_of
         (longer_symmetric (low 5 byte (⟦<(Endian, BitSize, Order) as NumberCtx>⟧.layout_of
         (Little, record { 0 = 5 }, Lsb0)))
         (longer_symmetric (low 8 (unsigned 32)

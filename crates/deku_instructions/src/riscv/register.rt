@@ -1,12 +1,13 @@
 //! Words of two source registers.
 
 ghost use Rattle.std.specs.Prelude.{refl};
-ghost use Rattle.deku.specs.Outcomes.{Mapped};
+ghost use Rattle.deku.specs.Composing.{Then};
+ghost use Rattle.deku.specs.Shapes.{Shows};
 ghost use Rattle.deku_num.specs.Numbers.{byte};
 ghost use Rattle.deku_num.specs.declared.ctx.Endian.TheVariants.{Little};
 ghost use Rattle.deku_bits.specs.declared.ctx.Order.TheVariants.{Lsb0};
 ghost use Rattle.deku_pieces.proofs.Tuples.{pair_symmetric, longer_symmetric};
-ghost use Rattle.deku_pieces.proofs.Turned.{told_symmetric};
+ghost use Rattle.deku_pieces.proofs.Turned.{record_symmetric};
 ghost use Rattle.deku_instructions.specs.Fields.{low};
 
 use deku::ctx::{BitSize, Endian, NumberCtx, Order};
@@ -34,7 +35,7 @@ pub struct Register {
 // The fields, in order.
 type Parts = (Lsb<u8, 5>, Lsb<u8, 3>, Lsb<u8, 5>, Lsb<u8, 5>, Lsb<u8, 7>);
 
-impl FromParts<()> for Register {
+impl FromParts for Register {
     type Parts = Parts;
 
     ghost parts_of = { λ r. (
@@ -68,7 +69,7 @@ impl FromParts<()> for Register {
     ghost there = { λ r. refl };
 }
 
-impl ToParts<()> for Register {
+impl ToParts for Register {
     fn parts(&self) -> Self::Parts {
         (
             Lsb(self.target),
@@ -81,8 +82,8 @@ impl ToParts<()> for Register {
 }
 
 impl DekuReader<()> for Register {
-    ghost meaning = { λ _. Mapped ⟦<Register as FromParts<()>>⟧.record_of
-        (⟦<Parts as DekuReader<()>>⟧.meaning tt) };
+    ghost meaning = { λ _. Then (⟦<Parts as DekuReader<()>>⟧.meaning tt)
+        (Shows ⟦<Register as FromParts>⟧.parts_of) };
 
     fn from_reader_with_ctx<R: Source>(
         reader: &mut Reader<R>,
@@ -94,7 +95,7 @@ impl DekuReader<()> for Register {
 
 impl DekuWriter<()> for Register {
     ghost meaning = { λ v _. ⟦<Parts as DekuWriter<()>>⟧.meaning
-        (⟦<Register as FromParts<()>>⟧.parts_of v) tt };
+        (⟦<Register as FromParts>⟧.parts_of v) tt };
 
     fn to_writer<W: Sink>(&self, writer: &mut Writer<W>, _ctx: ()) -> Result<(), DekuError> {
         write_record(self, writer, ())
@@ -104,13 +105,12 @@ impl DekuWriter<()> for Register {
 /// The pieces of the parts.
 impl Symmetric<()> for Register {
     ghost pieces = { λ v _. ⟦<Parts as Symmetric<()>>⟧.pieces
-        (⟦<Register as FromParts<()>>⟧.parts_of v) tt };
+        (⟦<Register as FromParts>⟧.parts_of v) tt };
 
-    ghost same = { λ v w. ⟦<Parts as Symmetric<()>>⟧.same (⟦<Register as FromParts<()>>⟧.parts_of v)
-        (⟦<Register as FromParts<()>>⟧.parts_of w) };
+    ghost same = { λ v w. ⟦<Parts as Symmetric<()>>⟧.same (⟦<Register as FromParts>⟧.parts_of v)
+        (⟦<Register as FromParts>⟧.parts_of w) };
 
-    ghost symmetric = { λ _. told_symmetric ⟦<Register as FromParts<()>>⟧.record_of
-        ⟦<Register as FromParts<()>>⟧.parts_of (λ p ps h. refl)
+    ghost symmetric = { λ _. record_symmetric ⟦<Register as FromParts>⟧.parts_of
         (longer_symmetric (low 5 byte (⟦<(Endian, BitSize, Order) as NumberCtx>⟧.layout_of
         (Little, record { 0 = 5 }, Lsb0)))
         (longer_symmetric (low 3 byte (⟦<(Endian, BitSize, Order) as NumberCtx>⟧.layout_of

@@ -3,12 +3,13 @@
 ghost use Rattle.std.specs.Prelude.{◌≡◌, ◌<◌, ◌^◌, refl};
 ghost use Rattle.deku_instructions.specs.Riscv.{offset_of};
 ghost use Rattle.deku_pieces.specs.Scattered.{low_of, high_of};
-ghost use Rattle.deku.specs.Outcomes.{Mapped};
+ghost use Rattle.deku.specs.Composing.{Then};
+ghost use Rattle.deku.specs.Shapes.{Shows};
 ghost use Rattle.deku_num.specs.Numbers.{byte, unsigned, signed};
 ghost use Rattle.deku_num.specs.declared.ctx.Endian.TheVariants.{Little};
 ghost use Rattle.deku_bits.specs.declared.ctx.Order.TheVariants.{Lsb0};
 ghost use Rattle.deku_pieces.proofs.Tuples.{pair_symmetric, longer_symmetric};
-ghost use Rattle.deku_pieces.proofs.Turned.{told_symmetric};
+ghost use Rattle.deku_pieces.proofs.Turned.{record_symmetric};
 ghost use Rattle.deku_instructions.specs.Fields.{low, signed_low};
 
 use deku::ctx::{BitSize, Endian, NumberCtx, Order};
@@ -75,7 +76,7 @@ impl Store {
 // The fields, in order.
 type Parts = (Lsb<u32, 5>, Lsb<u8, 3>, Lsb<u8, 5>, Lsb<u8, 5>, Lsb<i32, 7>);
 
-impl FromParts<()> for Store {
+impl FromParts for Store {
     type Parts = Parts;
 
     ghost parts_of = { λ r. (
@@ -108,7 +109,7 @@ impl FromParts<()> for Store {
     ghost there = { λ r. refl };
 }
 
-impl ToParts<()> for Store {
+impl ToParts for Store {
     fn parts(&self) -> Self::Parts {
         (
             Lsb(self.low),
@@ -121,8 +122,8 @@ impl ToParts<()> for Store {
 }
 
 impl DekuReader<()> for Store {
-    ghost meaning = { λ _. Mapped ⟦<Store as FromParts<()>>⟧.record_of
-        (⟦<Parts as DekuReader<()>>⟧.meaning tt) };
+    ghost meaning = { λ _. Then (⟦<Parts as DekuReader<()>>⟧.meaning tt)
+        (Shows ⟦<Store as FromParts>⟧.parts_of) };
 
     fn from_reader_with_ctx<R: Source>(
         reader: &mut Reader<R>,
@@ -134,7 +135,7 @@ impl DekuReader<()> for Store {
 
 impl DekuWriter<()> for Store {
     ghost meaning = { λ v _. ⟦<Parts as DekuWriter<()>>⟧.meaning
-        (⟦<Store as FromParts<()>>⟧.parts_of v) tt };
+        (⟦<Store as FromParts>⟧.parts_of v) tt };
 
     fn to_writer<W: Sink>(&self, writer: &mut Writer<W>, _ctx: ()) -> Result<(), DekuError> {
         write_record(self, writer, ())
@@ -144,13 +145,12 @@ impl DekuWriter<()> for Store {
 /// The pieces of the parts.
 impl Symmetric<()> for Store {
     ghost pieces = { λ v _. ⟦<Parts as Symmetric<()>>⟧.pieces
-        (⟦<Store as FromParts<()>>⟧.parts_of v) tt };
+        (⟦<Store as FromParts>⟧.parts_of v) tt };
 
-    ghost same = { λ v w. ⟦<Parts as Symmetric<()>>⟧.same (⟦<Store as FromParts<()>>⟧.parts_of v)
-        (⟦<Store as FromParts<()>>⟧.parts_of w) };
+    ghost same = { λ v w. ⟦<Parts as Symmetric<()>>⟧.same (⟦<Store as FromParts>⟧.parts_of v)
+        (⟦<Store as FromParts>⟧.parts_of w) };
 
-    ghost symmetric = { λ _. told_symmetric ⟦<Store as FromParts<()>>⟧.record_of
-        ⟦<Store as FromParts<()>>⟧.parts_of (λ p ps h. refl)
+    ghost symmetric = { λ _. record_symmetric ⟦<Store as FromParts>⟧.parts_of
         (longer_symmetric (low 5 (unsigned 32)
         (⟦<(Endian, BitSize, Order) as NumberCtx>⟧.layout_of (Little, record { 0 = 5 }, Lsb0)))
         (longer_symmetric (low 3 byte (⟦<(Endian, BitSize, Order) as NumberCtx>⟧.layout_of

@@ -1,12 +1,13 @@
 //! Words of the high bits of a number.
 
 ghost use Rattle.std.specs.Prelude.{refl};
-ghost use Rattle.deku.specs.Outcomes.{Mapped};
+ghost use Rattle.deku.specs.Composing.{Then};
+ghost use Rattle.deku.specs.Shapes.{Shows};
 ghost use Rattle.deku_num.specs.Numbers.{byte, signed};
 ghost use Rattle.deku_num.specs.declared.ctx.Endian.TheVariants.{Little};
 ghost use Rattle.deku_bits.specs.declared.ctx.Order.TheVariants.{Lsb0};
 ghost use Rattle.deku_pieces.proofs.Tuples.{pair_symmetric};
-ghost use Rattle.deku_pieces.proofs.Turned.{told_symmetric};
+ghost use Rattle.deku_pieces.proofs.Turned.{record_symmetric};
 ghost use Rattle.deku_instructions.specs.Fields.{low, signed_low};
 
 use deku::ctx::{BitSize, Endian, NumberCtx, Order};
@@ -28,7 +29,7 @@ pub struct Upper {
 // The fields, in order.
 type Parts = (Lsb<u8, 5>, Lsb<i32, 20>);
 
-impl FromParts<()> for Upper {
+impl FromParts for Upper {
     type Parts = Parts;
 
     ghost parts_of = { λ r. (record { 0 = r.target }, record { 0 = r.value }) };
@@ -43,15 +44,15 @@ impl FromParts<()> for Upper {
     ghost there = { λ r. refl };
 }
 
-impl ToParts<()> for Upper {
+impl ToParts for Upper {
     fn parts(&self) -> Self::Parts {
         (Lsb(self.target), Lsb(self.value))
     }
 }
 
 impl DekuReader<()> for Upper {
-    ghost meaning = { λ _. Mapped ⟦<Upper as FromParts<()>>⟧.record_of
-        (⟦<Parts as DekuReader<()>>⟧.meaning tt) };
+    ghost meaning = { λ _. Then (⟦<Parts as DekuReader<()>>⟧.meaning tt)
+        (Shows ⟦<Upper as FromParts>⟧.parts_of) };
 
     fn from_reader_with_ctx<R: Source>(
         reader: &mut Reader<R>,
@@ -63,7 +64,7 @@ impl DekuReader<()> for Upper {
 
 impl DekuWriter<()> for Upper {
     ghost meaning = { λ v _. ⟦<Parts as DekuWriter<()>>⟧.meaning
-        (⟦<Upper as FromParts<()>>⟧.parts_of v) tt };
+        (⟦<Upper as FromParts>⟧.parts_of v) tt };
 
     fn to_writer<W: Sink>(&self, writer: &mut Writer<W>, _ctx: ()) -> Result<(), DekuError> {
         write_record(self, writer, ())
@@ -73,13 +74,12 @@ impl DekuWriter<()> for Upper {
 /// The pieces of the parts.
 impl Symmetric<()> for Upper {
     ghost pieces = { λ v _. ⟦<Parts as Symmetric<()>>⟧.pieces
-        (⟦<Upper as FromParts<()>>⟧.parts_of v) tt };
+        (⟦<Upper as FromParts>⟧.parts_of v) tt };
 
-    ghost same = { λ v w. ⟦<Parts as Symmetric<()>>⟧.same (⟦<Upper as FromParts<()>>⟧.parts_of v)
-        (⟦<Upper as FromParts<()>>⟧.parts_of w) };
+    ghost same = { λ v w. ⟦<Parts as Symmetric<()>>⟧.same (⟦<Upper as FromParts>⟧.parts_of v)
+        (⟦<Upper as FromParts>⟧.parts_of w) };
 
-    ghost symmetric = { λ _. told_symmetric ⟦<Upper as FromParts<()>>⟧.record_of
-        ⟦<Upper as FromParts<()>>⟧.parts_of (λ p ps h. refl)
+    ghost symmetric = { λ _. record_symmetric ⟦<Upper as FromParts>⟧.parts_of
         (pair_symmetric (low 5 byte (⟦<(Endian, BitSize, Order) as NumberCtx>⟧.layout_of
         (Little, record { 0 = 5 }, Lsb0))) (signed_low 20 (signed 32)
         (⟦<(Endian, BitSize, Order) as NumberCtx>⟧.layout_of

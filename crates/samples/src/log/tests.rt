@@ -2,8 +2,7 @@
 
 use crate::log::{read_log, sample_of, write_log};
 use crate::sample::Sample;
-use deku::prelude::{DekuError, NeedSize, Reader, Writer};
-use deku_symmetry::{Codec, Coded};
+use deku::prelude::{DekuError, DekuReader, NeedSize, Reader, Writer};
 use std::io::Cursor;
 use std::test::Fail;
 
@@ -16,7 +15,7 @@ fn both_ways(rt: HostRuntime) -> Result<(), Fail> {
     write_log(&mut writer, &samples)?;
     assert_eq!(rt; writer.into_inner().into_inner().as_slice(), BYTES);
     let read = read_log(&mut Reader::new(rt.alloc(), Cursor::new(BYTES)))?;
-    assert_eq!(rt; read.as_slice(), samples.map(Coded).as_slice());
+    assert_eq!(rt; read.as_slice(), samples.as_slice());
     Ok(())
 }
 
@@ -24,7 +23,8 @@ fn both_ways(rt: HostRuntime) -> Result<(), Fail> {
 fn a_short_sample(rt: HostRuntime) -> Result<(), Fail> {
     let mut reader = Reader::new(rt.alloc(), Cursor::new(&BYTES[..2]));
     let error = DekuError::Incomplete(NeedSize::new(16));
-    assert_eq!(rt; Sample::read(&mut reader), Err(error));
+    let read = Sample::from_reader_with_ctx(&mut reader, ());
+    assert_eq!(rt; read, Err(error));
     assert_eq!(rt; reader.bits_read(), 8); // where `value` begins
     Ok(())
 }
