@@ -1,12 +1,14 @@
 //! Records that are refused, and where.
 
-use crate::frame::Frame;
+use crate::frame::{Frame, Range};
 use crate::gre::Gre;
 use crate::ntp::Ntp;
 use crate::tcp::Tcp;
-use deku_located::{Located, unpack_located};
+use deku_located::{Located, OnePart, unpack_located};
 use std::alloc::{AllocError, Global};
 use std::test::Fail;
+
+impl OnePart for Range {}
 
 // Records, their bytes, and what is said of these: nothing, if there is a record at their start.
 const ROWS: &str = "ntp||Not enough data, need 2 bits (or 1 bytes), in leap, at bit 0
@@ -22,8 +24,8 @@ tcp|000000000000000000000000600000000000000001|Not enough data, need 8 bits (or 
 frame|a52105060000000003|
 frame|a4|magic of Frame, in magic, at bit 0
 frame|a531|version, in version, at bit 8
-frame|a52105|Not enough data, need 8 bits (or 1 bytes), in range.high, at bit 24
-frame|a5210504|high, in range.high, at bit 24
+frame|a52105|Not enough data, need 8 bits (or 1 bytes), in range, at bit 16
+frame|a5210504|high, in range, at bit 16
 frame|a521050600|Not enough data, need 16 bits (or 2 bytes), in pair, at bit 32
 frame|a52105060000000403|padding, in padding, at bit 56";
 

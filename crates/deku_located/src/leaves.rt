@@ -1,12 +1,12 @@
 //! Parts that are counted as one.
 
 use crate::steps::OnePart;
+use deku::DekuReader;
 use deku::cstring::CString;
 use deku::ctx::{BitSize, Endian, Order};
-use deku::{DekuReader, DekuWriter};
 use deku_symmetry::{
     Be, Constant, Counted, Enum, Id, ItemCount, Kinds, Last, Le, Lsb, LsbBe, Magic, Msb, MsbLe,
-    Prefixed, Record, Rest, Until,
+    Prefixed, Rest, Until,
 };
 use std::net::{Ipv4Addr, Ipv6Addr};
 
@@ -37,11 +37,6 @@ impl<T: DekuReader<Endian>> OnePart for Le<T> {}
 impl<T: DekuReader<()>, const N: usize> OnePart for [T; N] {}
 
 impl<T: DekuReader<()>> OnePart for Box<T> {}
-
-impl<E: Record<()>> OnePart for E
-where
-    E::Parts: DekuReader<()> + DekuWriter<()>,
-{}
 
 impl<P: DekuReader<()>, C: Constant<P>> OnePart for Magic<P, C> {}
 

@@ -21,7 +21,8 @@ pub struct Place {
 ///
 /// The parts of a tuple, and of what follows a head, are counted one by one, those inside them too.
 /// Everything else is one part: a number, a constant, padding, an array, a list, an option, an
-/// enum, and a record in another one. A check belongs to the last part that it is about.
+/// enum, and a record in another one, if it is a `OnePart`. A check belongs to the last part that
+/// it is about.
 ///
 /// ```text
 /// (Msb<u8, 4>, Msb<u8, 4>, Be<u16>)                           // three parts
@@ -49,7 +50,12 @@ pub trait Steps: DekuReader<()> {
         ensures counted { Counts steps place.old.parts place.new result };
 }
 
-/// A part that is counted as one.
+/// A part that is counted as one. A record or an enum that is a part of another record has a line
+/// that says so.
+///
+/// ```text
+/// impl OnePart for Position {}
+/// ```
 pub trait OnePart: DekuReader<()> {}
 
 /// The part alone.

@@ -3,9 +3,9 @@
 #![tactic(auto)]
 
 #[cfg(test)]
-mod chosen_by;
+mod by_parts;
 #[cfg(test)]
-mod codec;
+mod chosen_by;
 #[cfg(test)]
 mod constants;
 #[cfg(test)]

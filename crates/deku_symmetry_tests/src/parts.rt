@@ -10,7 +10,7 @@ use deku::device::{Sink, Source};
 use deku::prelude::{DekuError, DekuReader, DekuWriter, Reader, Writer};
 use deku_symmetry::scattered::{high_bits, low_bits};
 use deku_symmetry::{
-    Be, Constant, ConstantLaw, Counted, FromParts, Le, Magic, Record, Record, ToParts, read_record,
+    Be, Constant, ConstantLaw, Counted, FromParts, Le, Magic, Record, ToParts, read_record,
     write_counted, write_record,
 };
 use deku_testing_values::records::{expect_packed, expect_refusal};

@@ -7,7 +7,8 @@ ghost use Rattle.deku_symmetry.specs.Fields.{be};
 
 use deku::device::{Sink, Source};
 use deku::prelude::{
-    DekuContainerRead, DekuContainerWrite, DekuError, DekuReader, DekuWriter, Reader, Writer,
+    DekuContainerRead, DekuContainerWrite, DekuError, DekuReader, DekuWriter, NeedSize, Reader,
+    Writer,
 };
 use deku_symmetry::{Be, FromParts, Msb, Record, ToParts, read_record, write_record};
 use deku_testing_values::expecting::{MISFIT, expect_written, same};
@@ -177,7 +178,7 @@ fn records_in_a_row(rt: HostRuntime) -> Result<(), Fail> {
     )?;
     let (lent, kept) = (QUESTION, [0x04, 0x00, 0x00, 0x35, 0x00, 0x08, 0xBE, 0xEF]);
     let mut writer = deku_testing_values::expecting::writer_in(alloc);
-    CodedRef(&lent).to_writer(&mut writer, ())?;
+    (&lent).to_writer(&mut writer, ())?;
     deku_testing_values::expecting::expect_bytes(&lent, writer, &kept)?;
     expect_written(alloc, (), &lent, &kept)
 }
