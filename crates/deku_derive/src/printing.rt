@@ -181,9 +181,12 @@ impl<'b, 'a> Printer<'b, 'a> {
         }
     }
 
-    // Notes a name of the module, and complains of one that it has already.
+    // Notes the names of a record and of its parts, and complains of one that the module has
+    // already.
     fn declare(&mut self, name: Token<'a>) -> Result<(), AllocError> {
-        if words::is_imported(name.text) || self.has_name(name.text) {
+        let parts = words::marker(self.alloc, name.text, "", "Parts")?;
+        let is_taken = self.has_name(name.text) || self.has_name(parts.as_str());
+        if is_taken || words::is_imported(name.text) {
             self.complain(
                 name,
                 "a name that the module has already",
@@ -191,6 +194,7 @@ impl<'b, 'a> Printer<'b, 'a> {
             )?;
         }
         self.names.push(String::from_str(self.alloc, name.text)?)?;
+        self.names.push(parts)?;
         Ok(())
     }
 

@@ -251,9 +251,10 @@ const UNPRINTED: [(&str, &str); 26] = [
     ),
     (
         "struct Be { a: u8 } struct A { n: u8, #[deku(count = \"n\")] v: Vec<u8> }
-         struct AVCount { a: u8 }",
+         struct AVCount { a: u8 } struct AParts { a: u8 }",
         "1:8 a name that the module has already
-2:17 a name that the module has already",
+2:17 a name that the module has already
+2:42 a name that the module has already",
     ),
 ];
 

@@ -21,9 +21,15 @@ const DATAGRAM_MODULE: &str = "//! The header of a UDP datagram, RFC 768.
 //! Printed by `derive` from `a.rs`.
 
 ghost use Rattle.std.specs.Prelude.{refl};
+ghost use Rattle.deku.specs.Composing.{Then};
+ghost use Rattle.deku.specs.Shapes.{Shows};
 ghost use Rattle.deku_symmetry.specs.Fields.{be, msb};
 
-use deku_symmetry::{Be, Codec, CopyParts, Msb};
+use deku::device::{Sink, Source};
+use deku::prelude::{
+    DekuContainerRead, DekuContainerWrite, DekuError, DekuReader, DekuWriter, Reader, Writer,
+};
+use deku_symmetry::{Be, FromParts, Msb, Record, ToParts, read_record, write_record};
 
 /// The record `Udp`.
 #[derive(Debug, Clone, Copy, PartialEq, Eq)]
@@ -40,8 +46,11 @@ impl Udp {
     pub const FIELDS: [&'static str; 5] = [\"source\", \"destination\", \"kind\", \"flags\", \"tail\"];
 }
 
-impl Codec for Udp {
-    type Parts = (Be<u16>, Be<u16>, Msb<u8, 4>, Msb<u8, 4>, [u8; 2]);
+// The parts of Udp, in their order.
+type UdpParts = (Be<u16>, Be<u16>, Msb<u8, 4>, Msb<u8, 4>, [u8; 2]);
+
+impl FromParts for Udp {
+    type Parts = UdpParts;
 
     ghost parts_of = { λ r. (be r.source, be r.destination, msb r.kind, msb r.flags, r.tail) };
 
@@ -67,7 +76,7 @@ impl Codec for Udp {
     ghost there = { λ r. refl };
 }
 
-impl CopyParts for Udp {
+impl ToParts for Udp {
     fn parts(&self) -> Self::Parts {
         (
             Be(self.source),
@@ -78,6 +87,38 @@ impl CopyParts for Udp {
         )
     }
 }
+
+impl DekuReader<()> for Udp {
+    ghost no_read_ahead = { ⟦<UdpParts as DekuReader<()>>⟧.no_read_ahead };
+
+    ghost meaning = { λ c. Then (⟦<UdpParts as DekuReader<()>>⟧.meaning c)
+        (Shows ⟦<Udp as FromParts>⟧.parts_of) };
+
+    #[inline(always)]
+    fn from_reader_with_ctx<R: Source>(reader: &mut Reader<R>, ctx: ()) -> Result<Self, DekuError> {
+        read_record(reader, ctx)
+    }
+}
+
+impl DekuWriter<()> for Udp {
+    ghost meaning = { λ v. ⟦<UdpParts as DekuWriter<()>>⟧.meaning
+        (⟦<Udp as FromParts>⟧.parts_of v) };
+
+    #[inline(always)]
+    fn to_writer<W: Sink>(&self, writer: &mut Writer<W>, ctx: ()) -> Result<(), DekuError> {
+        write_record(self, writer, ctx)
+    }
+}
+
+impl Record<()> for Udp {
+    ghost reads = { λ c b s r u m. m };
+
+    ghost writes = { λ c v b s r u m. m };
+}
+
+impl DekuContainerRead for Udp {}
+
+impl DekuContainerWrite for Udp {}
 ";
 
 const HOST: &str = "#[deku(bit_order = \"lsb\")]
@@ -99,9 +140,15 @@ struct Host {
 const HOST_MODULE: &str = "//! Printed by `derive` from `a.rs`.
 
 ghost use Rattle.std.specs.Prelude.{refl};
+ghost use Rattle.deku.specs.Composing.{Then};
+ghost use Rattle.deku.specs.Shapes.{Shows};
 ghost use Rattle.deku_symmetry.specs.Fields.{be, le, lsb, msb_le};
 
-use deku_symmetry::{Be, Codec, CopyParts, Le, Lsb, MsbLe};
+use deku::device::{Sink, Source};
+use deku::prelude::{
+    DekuContainerRead, DekuContainerWrite, DekuError, DekuReader, DekuWriter, Reader, Writer,
+};
+use deku_symmetry::{Be, FromParts, Le, Lsb, MsbLe, Record, ToParts, read_record, write_record};
 use std::net::Ipv4Addr;
 
 /// The record `Pair`.
@@ -116,8 +163,11 @@ impl Pair {
     pub const FIELDS: [&'static str; 2] = [\"low\", \"data\"];
 }
 
-impl Codec for Pair {
-    type Parts = (Lsb<u8, 4>, Lsb<u16, 12>);
+// The parts of Pair, in their order.
+type PairParts = (Lsb<u8, 4>, Lsb<u16, 12>);
+
+impl FromParts for Pair {
+    type Parts = PairParts;
 
     ghost parts_of = { λ r. (lsb r.low, lsb r.data) };
 
@@ -130,11 +180,43 @@ impl Codec for Pair {
     ghost there = { λ r. refl };
 }
 
-impl CopyParts for Pair {
+impl ToParts for Pair {
     fn parts(&self) -> Self::Parts {
         (Lsb(self.low), Lsb(self.data))
     }
 }
+
+impl DekuReader<()> for Pair {
+    ghost no_read_ahead = { ⟦<PairParts as DekuReader<()>>⟧.no_read_ahead };
+
+    ghost meaning = { λ c. Then (⟦<PairParts as DekuReader<()>>⟧.meaning c)
+        (Shows ⟦<Pair as FromParts>⟧.parts_of) };
+
+    #[inline(always)]
+    fn from_reader_with_ctx<R: Source>(reader: &mut Reader<R>, ctx: ()) -> Result<Self, DekuError> {
+        read_record(reader, ctx)
+    }
+}
+
+impl DekuWriter<()> for Pair {
+    ghost meaning = { λ v. ⟦<PairParts as DekuWriter<()>>⟧.meaning
+        (⟦<Pair as FromParts>⟧.parts_of v) };
+
+    #[inline(always)]
+    fn to_writer<W: Sink>(&self, writer: &mut Writer<W>, ctx: ()) -> Result<(), DekuError> {
+        write_record(self, writer, ctx)
+    }
+}
+
+impl Record<()> for Pair {
+    ghost reads = { λ c b s r u m. m };
+
+    ghost writes = { λ c v b s r u m. m };
+}
+
+impl DekuContainerRead for Pair {}
+
+impl DekuContainerWrite for Pair {}
 
 /// A host.
 #[derive(Debug, Clone, Copy, PartialEq, Eq)]
@@ -149,35 +231,19 @@ pub struct Host {
 
 impl Host {
     /// The names of its parts, in their order.
-    pub const FIELDS: [&'static str; 6] = [
-        \"pair.low\",
-        \"pair.data\",
-        \"address\",
-        \"up\",
-        \"cost\",
-        \"port\",
-    ];
+    pub const FIELDS: [&'static str; 5] = [\"pair\", \"address\", \"up\", \"cost\", \"port\"];
 }
 
-impl Codec for Host {
-    type Parts = (
-        <Pair as Codec>::Parts,
-        Be<Ipv4Addr>,
-        bool,
-        MsbLe<u32, 24>,
-        Le<u16>,
-    );
+// The parts of Host, in their order.
+type HostParts = (Pair, Be<Ipv4Addr>, bool, MsbLe<u32, 24>, Le<u16>);
 
-    ghost parts_of = { λ r. (
-      ⟦<Pair as Codec>⟧.parts_of r.pair,
-      be r.address,
-      r.up,
-      msb_le r.cost,
-      le r.port,
-    ) };
+impl FromParts for Host {
+    type Parts = HostParts;
+
+    ghost parts_of = { λ r. (r.pair, be r.address, r.up, msb_le r.cost, le r.port) };
 
     ghost record_of = { λ p. record {
-      pair = ⟦<Pair as Codec>⟧.record_of p.0;
+      pair = p.0;
       address = p.1.0;
       up = p.2;
       cost = p.3.0;
@@ -186,7 +252,7 @@ impl Codec for Host {
 
     fn from_parts((pair, Be(address), up, MsbLe(cost), Le(port)): Self::Parts) -> Self {
         Host {
-            pair: <Pair as Codec>::from_parts(pair),
+            pair,
             address,
             up,
             cost,
@@ -197,10 +263,10 @@ impl Codec for Host {
     ghost there = { λ r. refl };
 }
 
-impl CopyParts for Host {
+impl ToParts for Host {
     fn parts(&self) -> Self::Parts {
         (
-            self.pair.parts(),
+            self.pair,
             Be(self.address),
             self.up,
             MsbLe(self.cost),
@@ -208,6 +274,38 @@ impl CopyParts for Host {
         )
     }
 }
+
+impl DekuReader<()> for Host {
+    ghost no_read_ahead = { ⟦<HostParts as DekuReader<()>>⟧.no_read_ahead };
+
+    ghost meaning = { λ c. Then (⟦<HostParts as DekuReader<()>>⟧.meaning c)
+        (Shows ⟦<Host as FromParts>⟧.parts_of) };
+
+    #[inline(always)]
+    fn from_reader_with_ctx<R: Source>(reader: &mut Reader<R>, ctx: ()) -> Result<Self, DekuError> {
+        read_record(reader, ctx)
+    }
+}
+
+impl DekuWriter<()> for Host {
+    ghost meaning = { λ v. ⟦<HostParts as DekuWriter<()>>⟧.meaning
+        (⟦<Host as FromParts>⟧.parts_of v) };
+
+    #[inline(always)]
+    fn to_writer<W: Sink>(&self, writer: &mut Writer<W>, ctx: ()) -> Result<(), DekuError> {
+        write_record(self, writer, ctx)
+    }
+}
+
+impl Record<()> for Host {
+    ghost reads = { λ c b s r u m. m };
+
+    ghost writes = { λ c v b s r u m. m };
+}
+
+impl DekuContainerRead for Host {}
+
+impl DekuContainerWrite for Host {}
 ";
 
 #[test]
