@@ -13,6 +13,7 @@ ghost use Rattle.deku_pieces.proofs.Turned.{record_symmetric, record_last};
 
 use crate::last::SymmetricLast;
 use crate::traits::Symmetric;
+use deku::ctx::Endian;
 use deku::device::{Sink, Source};
 use deku::reader::Reader;
 use deku::writer::Writer;
@@ -57,8 +58,8 @@ pub trait ToParts: FromParts {
         ensures { result ≡ Self.FromParts.parts_of self.now };
 }
 
-/// A record that is read and written as its parts, under this context. It is `Symmetric` if its
-/// parts are. The page `docs/RECORDS.md` shows a complete one.
+/// A record that is read and written as its parts, under this context. If that is `()` or `Endian`,
+/// and its parts are `Symmetric`, it is so too. The page `docs/RECORDS.md` shows a complete one.
 ///
 /// ```text
 /// impl Record<()> for Sample {
@@ -134,9 +135,22 @@ where
 }
 
 /// The pieces of the parts.
-impl<Ctx, R: Record<Ctx>> Symmetric<Ctx> for R
+impl<R: Record<()>> Symmetric<()> for R
 where
-    R::Parts: Symmetric<Ctx>,
+    R::Parts: Symmetric<()>,
+{
+    ghost pieces = { λ v c. R.Parts.pieces (R.parts_of v) c };
+
+    ghost same = { λ v w. R.Parts.same (R.parts_of v) (R.parts_of w) };
+
+    ghost symmetric = { λ c. record_symmetric R.parts_of (R.Parts.symmetric c) (R.writes c)
+        (R.reads c) };
+}
+
+/// The pieces of the parts, under the endian.
+impl<R: Record<Endian>> Symmetric<Endian> for R
+where
+    R::Parts: Symmetric<Endian>,
 {
     ghost pieces = { λ v c. R.Parts.pieces (R.parts_of v) c };
 
