@@ -9,10 +9,13 @@
 //!  SG_ flags  : 32|3@1+       Intel: the low three bits of byte 4; the other five are padding
 //!  SG_ yaw    : 47|24@0-      Motorola, signed: bytes 5, 6 and 7
 //! ```
+//!
+//! Printed by `derive` from `can.rs`.
 
 ghost use Rattle.std.specs.Prelude.{refl};
 ghost use Rattle.deku.specs.Composing.{Then};
 ghost use Rattle.deku.specs.Shapes.{Shows};
+ghost use Rattle.deku_symmetry.specs.Fields.{lsb, lsb_be};
 
 use deku::device::{Sink, Source};
 use deku::prelude::{
@@ -21,7 +24,7 @@ use deku::prelude::{
 use deku_symmetry::{FromParts, Lsb, LsbBe, Record, ToParts, read_record, write_record};
 
 /// The signals.
-#[derive(Debug, PartialEq, Eq, Drop)]
+#[derive(Debug, Clone, Copy, PartialEq, Eq)]
 pub struct Chassis {
     /// The angle of the wheel, 12 bits.
     pub wheel: i16,
@@ -37,36 +40,44 @@ pub struct Chassis {
     pub yaw: i32,
 }
 
-// The signals, in order.
-type Parts = (
-    (Lsb<i16, 12>, Lsb<u8, 4>),
+impl Chassis {
+    /// The names of its parts, in their order.
+    pub const FIELDS: [&'static str; 6] = ["wheel", "gear", "torque", "flags", "padding", "yaw"];
+}
+
+// The parts of Chassis, in their order.
+type ChassisParts = (
+    Lsb<i16, 12>,
+    Lsb<u8, 4>,
     LsbBe<i16, 16>,
-    (Lsb<u8, 3>, Lsb<u8, 5>),
+    Lsb<u8, 3>,
+    Lsb<u8, 5>,
     LsbBe<i32, 24>,
 );
 
 impl FromParts for Chassis {
-    type Parts = Parts;
+    type Parts = ChassisParts;
 
     ghost parts_of = { λ r. (
-      (record { 0 = r.wheel }, record { 0 = r.gear }),
-      record { 0 = r.torque },
-      (record { 0 = r.flags }, record { 0 = r.padding }),
-      record { 0 = r.yaw },
+      lsb r.wheel,
+      lsb r.gear,
+      lsb_be r.torque,
+      lsb r.flags,
+      lsb r.padding,
+      lsb_be r.yaw,
     ) };
 
     ghost record_of = { λ p. record {
-      wheel = p.0.0.0;
-      gear = p.0.1.0;
-      torque = p.1.0;
-      flags = p.2.0.0;
-      padding = p.2.1.0;
-      yaw = p.3.0;
+      wheel = p.0.0;
+      gear = p.1.0;
+      torque = p.2.0;
+      flags = p.3.0;
+      padding = p.4.0;
+      yaw = p.5.0;
     } };
 
     fn from_parts(parts: Self::Parts) -> Self {
-        let ((Lsb(wheel), Lsb(gear)), LsbBe(torque), (Lsb(flags), Lsb(padding)), LsbBe(yaw)) =
-            parts;
+        let (Lsb(wheel), Lsb(gear), LsbBe(torque), Lsb(flags), Lsb(padding), LsbBe(yaw)) = parts;
         Chassis {
             wheel,
             gear,
@@ -83,11 +94,35 @@ impl FromParts for Chassis {
 impl ToParts for Chassis {
     fn parts(&self) -> Self::Parts {
         (
-            (Lsb(self.wheel), Lsb(self.gear)),
+            Lsb(self.wheel),
+            Lsb(self.gear),
             LsbBe(self.torque),
-            (Lsb(self.flags), Lsb(self.padding)),
+            Lsb(self.flags),
+            Lsb(self.padding),
             LsbBe(self.yaw),
         )
+    }
+}
+
+impl DekuReader<()> for Chassis {
+    ghost no_read_ahead = { ⟦<ChassisParts as DekuReader<()>>⟧.no_read_ahead };
+
+    ghost meaning = { λ c. Then (⟦<ChassisParts as DekuReader<()>>⟧.meaning c)
+        (Shows ⟦<Chassis as FromParts>⟧.parts_of) };
+
+    #[inline(always)]
+    fn from_reader_with_ctx<R: Source>(reader: &mut Reader<R>, ctx: ()) -> Result<Self, DekuError> {
+        read_record(reader, ctx)
+    }
+}
+
+impl DekuWriter<()> for Chassis {
+    ghost meaning = { λ v. ⟦<ChassisParts as DekuWriter<()>>⟧.meaning
+        (⟦<Chassis as FromParts>⟧.parts_of v) };
+
+    #[inline(always)]
+    fn to_writer<W: Sink>(&self, writer: &mut Writer<W>, ctx: ()) -> Result<(), DekuError> {
+        write_record(self, writer, ctx)
     }
 }
 
@@ -95,27 +130,6 @@ impl Record<()> for Chassis {
     ghost reads = { λ c b s r u m. m };
 
     ghost writes = { λ c v b s r u m. m };
-}
-
-impl DekuReader<()> for Chassis {
-    ghost meaning = { λ _. Then (⟦<Parts as DekuReader<()>>⟧.meaning tt)
-        (Shows ⟦<Chassis as FromParts>⟧.parts_of) };
-
-    fn from_reader_with_ctx<R: Source>(
-        reader: &mut Reader<R>,
-        _ctx: (),
-    ) -> Result<Self, DekuError> {
-        read_record(reader, ())
-    }
-}
-
-impl DekuWriter<()> for Chassis {
-    ghost meaning = { λ v _. ⟦<Parts as DekuWriter<()>>⟧.meaning
-        (⟦<Chassis as FromParts>⟧.parts_of v) tt };
-
-    fn to_writer<W: Sink>(&self, writer: &mut Writer<W>, _ctx: ()) -> Result<(), DekuError> {
-        write_record(self, writer, ())
-    }
 }
 
 impl DekuContainerRead for Chassis {}

@@ -8,10 +8,13 @@
 //! |     length      |    checksum     |
 //! +--------+--------+--------+--------+
 //! ```
+//!
+//! Printed by `derive` from `udp.rs`.
 
 ghost use Rattle.std.specs.Prelude.{refl};
 ghost use Rattle.deku.specs.Composing.{Then};
 ghost use Rattle.deku.specs.Shapes.{Shows};
+ghost use Rattle.deku_symmetry.specs.Fields.{be};
 
 use deku::device::{Sink, Source};
 use deku::prelude::{
@@ -20,7 +23,7 @@ use deku::prelude::{
 use deku_symmetry::{Be, FromParts, Record, ToParts, read_record, write_record};
 
 /// The header of a datagram.
-#[derive(Debug, PartialEq, Eq, Drop)]
+#[derive(Debug, Clone, Copy, PartialEq, Eq)]
 pub struct Udp {
     /// The port of the sender, or 0.
     pub source: u16,
@@ -32,29 +35,27 @@ pub struct Udp {
     pub checksum: u16,
 }
 
-// The fields, in order.
-type Parts = (Be<u16>, Be<u16>, Be<u16>, Be<u16>);
+impl Udp {
+    /// The names of its parts, in their order.
+    pub const FIELDS: [&'static str; 4] = ["source", "destination", "length", "checksum"];
+}
+
+// The parts of Udp, in their order.
+type UdpParts = (Be<u16>, Be<u16>, Be<u16>, Be<u16>);
 
 impl FromParts for Udp {
-    type Parts = Parts;
+    type Parts = UdpParts;
 
-    ghost parts_of = { λ r. (
-      record { 0 = r.source },
-      record { 0 = r.destination },
-      record { 0 = r.length },
-      record { 0 = r.checksum },
-    ) };
+    ghost parts_of = { λ r. (be r.source, be r.destination, be r.length, be r.checksum) };
 
     ghost record_of = { λ p. record {
       source = p.0.0;
       destination = p.1.0;
       length = p.2.0;
-      checksum
-          = p.3.0;
+      checksum = p.3.0;
     } };
 
-    fn from_parts(parts: Self::Parts) -> Self {
-        let (Be(source), Be(destination), Be(length), Be(checksum)) = parts;
+    fn from_parts((Be(source), Be(destination), Be(length), Be(checksum)): Self::Parts) -> Self {
         Udp {
             source,
             destination,
@@ -77,31 +78,32 @@ impl ToParts for Udp {
     }
 }
 
-impl Record<()> for Udp {
-    ghost reads = { λ c b s r u m. m };
-
-    ghost writes = { λ c v b s r u m. m };
-}
-
 impl DekuReader<()> for Udp {
-    ghost meaning = { λ _. Then (⟦<Parts as DekuReader<()>>⟧.meaning tt)
+    ghost no_read_ahead = { ⟦<UdpParts as DekuReader<()>>⟧.no_read_ahead };
+
+    ghost meaning = { λ c. Then (⟦<UdpParts as DekuReader<()>>⟧.meaning c)
         (Shows ⟦<Udp as FromParts>⟧.parts_of) };
 
-    fn from_reader_with_ctx<R: Source>(
-        reader: &mut Reader<R>,
-        _ctx: (),
-    ) -> Result<Self, DekuError> {
-        read_record(reader, ())
+    #[inline(always)]
+    fn from_reader_with_ctx<R: Source>(reader: &mut Reader<R>, ctx: ()) -> Result<Self, DekuError> {
+        read_record(reader, ctx)
     }
 }
 
 impl DekuWriter<()> for Udp {
-    ghost meaning = { λ v _. ⟦<Parts as DekuWriter<()>>⟧.meaning
-        (⟦<Udp as FromParts>⟧.parts_of v) tt };
+    ghost meaning = { λ v. ⟦<UdpParts as DekuWriter<()>>⟧.meaning
+        (⟦<Udp as FromParts>⟧.parts_of v) };
 
-    fn to_writer<W: Sink>(&self, writer: &mut Writer<W>, _ctx: ()) -> Result<(), DekuError> {
-        write_record(self, writer, ())
+    #[inline(always)]
+    fn to_writer<W: Sink>(&self, writer: &mut Writer<W>, ctx: ()) -> Result<(), DekuError> {
+        write_record(self, writer, ctx)
     }
+}
+
+impl Record<()> for Udp {
+    ghost reads = { λ c b s r u m. m };
+
+    ghost writes = { λ c v b s r u m. m };
 }
 
 impl DekuContainerRead for Udp {}
