@@ -1,7 +1,10 @@
 //! Records in a record, as bytes and back.
 
+use crate::block::{Block, Event, Pair, Position};
 use crate::report::{Measured, Report};
+use deku_symmetry::Be;
 use deku_testing_values::records::expect_packed;
+use std::alloc::Global;
 use std::test::Fail;
 
 fn measured(value: u16) -> Measured {
@@ -27,4 +30,61 @@ fn records_of_five_fields(rt: HostRuntime) -> Result<(), Fail> {
         0x07, 0xA9, 0x00, 0x00, 0x03, 0x04, 0x05, 0x06, 0x07, 0x0A, 0x0B,
     ];
     expect_packed(rt.alloc(), (), &report, 208, &bytes)
+}
+
+// A block with or without a time, of this event and these values.
+fn block(alloc: Global, time: Option<u32>, event: Event, numbers: &[u16]) -> Result<Block, Fail> {
+    let mut values = Vec::new(alloc);
+    for number in numbers {
+        values.push(Be(*number))?;
+    }
+    Ok(Block {
+        version: 1,
+        urgent: true,
+        has_time: time.is_some(),
+        source: 0x123,
+        time: time.map(Be),
+        position: Position {
+            latitude: -2,
+            longitude: 5,
+            height: -3,
+            speed: 0x0A0B,
+            course: 0x155,
+            quality: 0x2A,
+        },
+        event,
+        count: numbers.len() as u8,
+        values,
+    })
+}
+
+const TIMED: [u8; 31] = [
+    0x54, 0x4D, 0x71, 0x23, 0x01, 0x02, 0x03, 0x04, 0xFF, 0xFF, 0xFF, 0xFE, 0x00, 0x00, 0x00, 0x05,
+    0xFF, 0xFD, 0x0A, 0x0B, 0xAA, 0xAA, 0x01, 0x07, 0x08, 0x09, 0x02, 0x0C, 0x0D, 0x0E, 0x0F,
+];
+
+const UNTIMED: [u8; 20] = [
+    0x54, 0x4D, 0x61, 0x23, 0xFF, 0xFF, 0xFF, 0xFE, 0x00, 0x00, 0x00, 0x05, 0xFF, 0xFD, 0x0A, 0x0B,
+    0xAA, 0xAA, 0x00, 0x00,
+];
+
+#[test]
+fn blocks_in_a_pair(rt: HostRuntime) -> Result<(), Fail> {
+    let alloc = rt.alloc();
+    let alarm = Event::Alarm {
+        code: 7,
+        value: 0x0809,
+    };
+    let timed = block(alloc, Some(0x0102_0304), alarm, &[0x0C0D, 0x0E0F])?;
+    expect_packed(alloc, (), &timed, 248, &TIMED)?;
+    let pair = Pair {
+        first: timed,
+        between: 0x1011,
+        second: block(alloc, None, Event::Nothing, &[])?,
+    };
+    let mut bytes = Vec::new(alloc);
+    bytes.extend_from_slice(&TIMED)?;
+    bytes.extend_from_slice(&[0x10, 0x11])?;
+    bytes.extend_from_slice(&UNTIMED)?;
+    expect_packed(alloc, (), &pair, 424, bytes.as_slice())
 }
