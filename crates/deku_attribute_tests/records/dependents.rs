@@ -7,6 +7,14 @@ struct Counting {
     items: Vec<u8>,
 }
 
+/// Items after their number, which the record does not keep.
+struct Alone {
+    #[deku(temp, temp_value = "items.len() as u8")]
+    num_items: u8,
+    #[deku(count = "num_items", endian = "big")]
+    items: Vec<u16>,
+}
+
 /// Two bytes.
 struct Two {
     first: u8,

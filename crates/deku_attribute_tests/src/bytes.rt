@@ -1,13 +1,13 @@
 //! Records as bytes and back.
 
-use crate::dependents::{Counting, Sizing, ToEnd, Two, Whether};
+use crate::dependents::{Alone, Counting, Sizing, ToEnd, Two, Whether};
 use crate::kinds::{EndianOfId, Numbered, Patterns, UnderBits, UnderByte, UnderBytes};
 use crate::numbers::{
     AtLeast, Bits, BitsAfter, BitsBefore, Bytes, BytesAfter, BytesBefore, Endians, LowFirst, Named,
     NamedField, Only, OrderOfFields, Orders,
 };
 use deku::prelude::{DekuError, NeedSize};
-use deku_symmetry::{Symmetric, SymmetricLast};
+use deku_symmetry::{Be, Symmetric, SymmetricLast};
 use deku_testing_values::expecting::same;
 use deku_testing_values::records::{expect_packed, expect_refusal};
 use std::alloc::Global;
@@ -114,6 +114,14 @@ fn twos(alloc: Global) -> Result<Vec<Two>, Fail> {
     Ok(twos.to_vec(alloc)?)
 }
 
+fn numbers(alloc: Global, values: &[u16]) -> Result<Vec<Be<u16>>, Fail> {
+    let mut numbers = Vec::new(alloc);
+    for value in values {
+        numbers.push(Be(*value))?;
+    }
+    Ok(numbers)
+}
+
 #[test]
 fn lists_and_conditions(rt: HostRuntime) -> Result<(), Fail> {
     let alloc = rt.alloc();
@@ -122,6 +130,10 @@ fn lists_and_conditions(rt: HostRuntime) -> Result<(), Fail> {
         items: [0xAB, 0xCD].to_vec(alloc)?,
     };
     expect_packed(alloc, (), &counted, 24, &[0x02, 0xAB, 0xCD])?;
+    let alone = Alone {
+        items: numbers(alloc, &[0xDEAD, 0xBEEF])?,
+    };
+    expect_packed(alloc, (), &alone, 40, &[0x02, 0xDE, 0xAD, 0xBE, 0xEF])?;
     let sized = Sizing {
         bytes: 4,
         items: twos(alloc)?,

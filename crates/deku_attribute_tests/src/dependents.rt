@@ -11,9 +11,9 @@ use deku::prelude::{
     DekuContainerRead, DekuContainerWrite, DekuError, DekuReader, DekuWriter, Reader, Writer,
 };
 use deku_symmetry::{
-    Condition, ConditionLaw, CountOf, CountOfLaw, CountedBy, CountedByRef, FilledBy, FromParts,
-    Optional, OptionalRef, Record, Rest, SizeOf, SizeOfLaw, SizedBy, ToParts, read_record,
-    write_record,
+    Be, Condition, ConditionLaw, CountOf, CountOfLaw, CountedBy, CountedByRef, FilledBy, FromParts,
+    Msb, Optional, OptionalRef, Prefixed, PrefixedRef, Record, Rest, SizeOf, SizeOfLaw, SizedBy,
+    ToParts, read_record, write_record,
 };
 use std::marker::PhantomData;
 
@@ -104,6 +104,70 @@ impl Record<()> for Counting {
 impl DekuContainerRead for Counting {}
 
 impl DekuContainerWrite for Counting {}
+
+/// Items after their number, which the record does not keep.
+#[derive(Debug, PartialEq, Eq, Drop)]
+pub struct Alone {
+    pub items: Vec<Be<u16>>,
+}
+
+impl Alone {
+    /// The names of its parts, in their order.
+    pub const FIELDS: [&'static str; 1] = ["items"];
+}
+
+// The parts of Alone, in their order.
+type AloneParts = Prefixed<Msb<u64, 8>, Be<u16>>;
+
+impl FromParts for Alone {
+    type Parts = AloneParts;
+
+    ghost parts_of = { λ r. record { items = r.items; count = record {} } };
+
+    ghost record_of = { λ p. record { items = p.items } };
+
+    fn from_parts(Prefixed { items, .. }: Self::Parts) -> Self {
+        Alone { items }
+    }
+
+    ghost there = { λ r. refl };
+}
+
+impl DekuReader<()> for Alone {
+    ghost no_read_ahead = { ⟦<AloneParts as DekuReader<()>>⟧.no_read_ahead };
+
+    ghost meaning = { λ c. Then (⟦<AloneParts as DekuReader<()>>⟧.meaning c)
+        (Shows ⟦<Alone as FromParts>⟧.parts_of) };
+
+    #[inline(always)]
+    fn from_reader_with_ctx<R: Source>(reader: &mut Reader<R>, ctx: ()) -> Result<Self, DekuError> {
+        read_record(reader, ctx)
+    }
+}
+
+impl DekuWriter<()> for Alone {
+    ghost meaning = { λ v. ⟦<AloneParts as DekuWriter<()>>⟧.meaning
+        (⟦<Alone as FromParts>⟧.parts_of v) };
+
+    #[inline(always)]
+    fn to_writer<W: Sink>(&self, writer: &mut Writer<W>, ctx: ()) -> Result<(), DekuError> {
+        let parts = PrefixedRef::<Msb<u64, 8>, _> {
+            items: &self.items,
+            count: PhantomData,
+        };
+        parts.to_writer(writer, ctx)
+    }
+}
+
+impl Record<()> for Alone {
+    ghost reads = { λ c b s r u m. m };
+
+    ghost writes = { λ c v b s r u m. m };
+}
+
+impl DekuContainerRead for Alone {}
+
+impl DekuContainerWrite for Alone {}
 
 /// Two bytes.
 #[derive(Debug, Clone, Copy, PartialEq, Eq)]

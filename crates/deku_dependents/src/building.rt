@@ -3,6 +3,8 @@
 use crate::computing::{Computed, Computer};
 use crate::marker;
 use crate::marker::{Amount, Marker};
+use crate::refusing::{partless, refused};
+use crate::temporary::{Temporary, is_temporary};
 use deku_attributes::model::{Attribute, Endian, Field, Order};
 use deku_attributes::reading::bits_of;
 use deku_description::syntax::{Constant, Expression, Operator, Type};
@@ -35,6 +37,8 @@ pub struct Builder<'b, 'a> {
     pub complaints: Vec<Complaint>,
     // Whether its last part takes the rest of the input.
     is_ended: bool,
+    // The count that the record does not keep, if the last field was one.
+    temporary: Option<Temporary<'a>>,
 }
 
 // What is said of one field.
@@ -89,6 +93,7 @@ impl<'b, 'a> Builder<'b, 'a> {
             names: Vec::new(alloc),
             complaints: Vec::new(alloc),
             is_ended: false,
+            temporary: None,
         })
     }
 
@@ -125,7 +130,13 @@ impl<'b, 'a> Builder<'b, 'a> {
                 self.leaf(field, named)?;
             }
         }
-        Ok(())
+        match (self.temporary.take(), fields.last()) {
+            (Some(_), Some(field)) => {
+                let last = self.no_count(field);
+                self.noted(last)
+            }
+            _ => Ok(()),
+        }
     }
 
     // Whether a field has a part. If not, what is wrong with it is noted.
@@ -159,6 +170,16 @@ impl<'b, 'a> Builder<'b, 'a> {
                 "write the list last",
             );
         }
+        if let Some(count) = self.temporary.take() {
+            return self.counted(count, field, called);
+        }
+        if is_temporary(field) {
+            self.temporary = Temporary::of(field);
+            return match self.temporary {
+                Some(_) => Ok(()),
+                None => self.no_count(field),
+            };
+        }
         let said = self.said(field)?;
         self.fits(field, &said)?;
         self.padding(said.before, field.layout.order)?;
@@ -185,6 +206,37 @@ impl<'b, 'a> Builder<'b, 'a> {
         }
         self.check_field(field, name, &said)?;
         self.padding(said.after, field.layout.order)
+    }
+
+    // The list after a count that the record does not keep.
+    fn counted(
+        &mut self,
+        count: Temporary<'a>,
+        field: &Field<'a>,
+        called: Named<'_>,
+    ) -> Result<(), Stop> {
+        let is_alone = match field.attributes.as_slice() {
+            [Attribute::Count(Expression::Name(name))] => name.text == count.name,
+            _ => false,
+        };
+        if !is_alone || !count.counts(self.alloc, called.name)? {
+            return self.no_count(field);
+        }
+        let said = self.said(field)?;
+        self.fits(field, &said)?;
+        let held = held_kind(self.alloc, field)?;
+        let part = count.before(self.alloc, called, held.as_str())?;
+        self.items.push(part)?;
+        Ok(())
+    }
+
+    // Complains of a field that the record does not keep, or of the one after it.
+    fn no_count<T>(&self, field: &Field<'a>) -> Result<T, Stop> {
+        self.wrong(
+            field.span,
+            "a field that the record does not keep, and that is not the count of the list after it",
+            "write `temp, temp_value = \"LIST.len() as u8\"`, and then the list with this `count`",
+        )
     }
 
     // The checks of a field.
@@ -720,49 +772,4 @@ fn magic_kind(
         (Order::Msb, 2 | 4 | 8) => ("Be", format!(in alloc; "Be<u{bits}>")?),
         (Order::Msb, _) => ("Msb", format!(in alloc; "Msb<u64, {bits}>")?),
     })
-}
-
-// What of a type has no part.
-fn partless(kind: &Type<'_>, field: &Field<'_>) -> Option<&'static str> {
-    match kind {
-        Type::Of(name, _) if name.is_name("Vec") => Some("a list in another type"),
-        Type::Of(name, _) if name.is_name("Option") => Some("an option in another type"),
-        Type::Of(_, item) => partless(item, field),
-        Type::Array(item, _) => partless(item, field),
-        Type::Tuple(parts) if parts.is_empty() => Some("a tuple of nothing"),
-        Type::Tuple(parts) => {
-            for part in parts {
-                if let Some(word) = partless(part, field) {
-                    return Some(word);
-                }
-            }
-            if field.layout.order == Order::Lsb && deku_texts::lying::common_bits(kind).is_none() {
-                return Some("a tuple of several widths with its low bits first");
-            }
-            None
-        }
-        Type::Name(_) => None,
-    }
-}
-
-// Why an attribute is refused, and what to write in its place.
-fn refused(attribute: &Attribute<'_>) -> (&'static str, &'static str) {
-    match attribute {
-        Attribute::Bits(_) | Attribute::Bytes(_) => (
-            "a width that a field says is not supported",
-            "write a number, or a record for each width",
-        ),
-        Attribute::Context(_) => (
-            "values that are given to a field are not supported",
-            "move the fields that need them into this record",
-        ),
-        Attribute::Until(_) => (
-            "a list that ends with an item of its own is not supported",
-            "write `CString` for a text, or `count`",
-        ),
-        _ => (
-            "a field that the record does not keep is not supported",
-            "leave `temp` and `temp_value` out: the field is kept, and checked when it is written",
-        ),
-    }
 }

@@ -4,3 +4,5 @@
 pub mod building;
 pub mod computing;
 pub mod marker;
+mod refusing;
+pub mod temporary;

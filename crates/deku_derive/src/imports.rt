@@ -6,7 +6,7 @@ use std::alloc::{AllocError, Global};
 use std::fmt::Write as _;
 
 // The names of deku_symmetry, in the order in which `rt fmt` has them.
-const PARTS: [&str; 41] = [
+const PARTS: [&str; 43] = [
     "Assert",
     "Be",
     "Before",
@@ -39,6 +39,8 @@ const PARTS: [&str; 41] = [
     "Optional",
     "OptionalRef",
     "Otherwise",
+    "Prefixed",
+    "PrefixedRef",
     "Record",
     "Rest",
     "SizeOf",

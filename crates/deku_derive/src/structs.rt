@@ -2,6 +2,7 @@
 
 use deku_attributes::model::{Field, Record};
 use deku_dependents::building::{Builder, field_name};
+use deku_dependents::temporary::is_temporary;
 use deku_description::syntax::Shape;
 use deku_texts::document::{Form, Text};
 use deku_texts::lying::field_kind;
@@ -73,7 +74,7 @@ fn tuple_struct(out: &mut String, name: &str, fields: &[Field<'_>]) -> Result<()
 
 fn named_struct(out: &mut String, name: &str, fields: &[Field<'_>]) -> Result<(), AllocError> {
     writeln!(out, "pub struct {name} {{")?;
-    for field in fields {
+    for field in fields.iter().filter(|field| !is_temporary(*field)) {
         docs(out, field.docs.as_slice(), "    ///")?;
         declared(out, field)?;
     }
@@ -235,7 +236,9 @@ fn record_of(
 ) -> Result<Text, AllocError> {
     let mut items = Vec::new(alloc);
     for (i, field) in fields.iter().enumerate() {
-        items.push(bound(alloc, shape, field, i, whole)?)?;
+        if !is_temporary(field) {
+            items.push(bound(alloc, shape, field, i, whole)?)?;
+        }
     }
     Text::group(alloc, Form::GhostBrace, "record {", items)
 }
@@ -297,6 +300,9 @@ fn made(
 ) -> Result<Text, AllocError> {
     let mut items = Vec::new(alloc);
     for (i, field) in fields.iter().enumerate() {
+        if is_temporary(field) {
+            continue;
+        }
         let name = field_name(alloc, field, i)?;
         let value = value_of(alloc, whole, name.as_str(), parts)?;
         items.push(Text::of(item(alloc, shape, name, value)?))?;

@@ -3,7 +3,7 @@
 use std::alloc::{AllocError, Global};
 
 // The names that a module imports or that its bounds have.
-const IMPORTED: [&str; 57] = [
+const IMPORTED: [&str; 59] = [
     "Source",
     "Sink",
     "DekuContainerRead",
@@ -31,6 +31,8 @@ const IMPORTED: [&str; 57] = [
     "CountOf",
     "CountOfLaw",
     "FilledBy",
+    "Prefixed",
+    "PrefixedRef",
     "Before",
     "Rest",
     "SizedBy",

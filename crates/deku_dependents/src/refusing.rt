@@ -1,0 +1,46 @@
+//! What of a description has no part.
+
+use deku_attributes::model::{Attribute, Field, Order};
+use deku_description::syntax::Type;
+use deku_texts::lying::common_bits;
+
+/// What of a type has no part.
+pub(crate) fn partless(kind: &Type<'_>, field: &Field<'_>) -> Option<&'static str> {
+    match kind {
+        Type::Of(name, _) if name.is_name("Vec") => Some("a list in another type"),
+        Type::Of(name, _) if name.is_name("Option") => Some("an option in another type"),
+        Type::Of(_, item) => partless(item, field),
+        Type::Array(item, _) => partless(item, field),
+        Type::Tuple(parts) if parts.is_empty() => Some("a tuple of nothing"),
+        Type::Tuple(parts) => {
+            for part in parts {
+                if let Some(word) = partless(part, field) {
+                    return Some(word);
+                }
+            }
+            if field.layout.order == Order::Lsb && common_bits(kind).is_none() {
+                return Some("a tuple of several widths with its low bits first");
+            }
+            None
+        }
+        Type::Name(_) => None,
+    }
+}
+
+/// Why an attribute is refused, and what to write in its place.
+pub(crate) fn refused(attribute: &Attribute<'_>) -> (&'static str, &'static str) {
+    match attribute {
+        Attribute::Bits(_) | Attribute::Bytes(_) => (
+            "a width that a field says is not supported",
+            "write a number, or a record for each width",
+        ),
+        Attribute::Context(_) => (
+            "values that are given to a field are not supported",
+            "move the fields that need them into this record",
+        ),
+        _ => (
+            "a list that ends with an item of its own is not supported",
+            "write `CString` for a text, or `count`",
+        ),
+    }
+}

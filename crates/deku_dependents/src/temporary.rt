@@ -1,0 +1,128 @@
+//! Counts that a record does not keep.
+
+use deku_attributes::model::{Attribute, Endian, Field, Order};
+use deku_attributes::reading::bits_of;
+use deku_texts::document::{Form, Text};
+use deku_texts::lying::number_kind;
+use deku_texts::part::{Named, Part, Place};
+use std::alloc::{AllocError, Global};
+
+/// The count of a list, in front of it, that the record does not keep.
+#[derive(Clone, Copy)]
+pub struct Temporary<'a> {
+    /// The name of the field.
+    pub name: &'a str,
+    /// Its type.
+    kind: &'a str,
+    /// What it is when it is written, as its text with quotes.
+    value: &'a str,
+    /// The type that lays it out.
+    part: &'static str,
+    /// Its bits.
+    bits: u64,
+}
+
+/// Whether a record does not keep a field.
+pub fn is_temporary(field: &Field<'_>) -> bool {
+    field.attributes.iter().any(|it| matches!(it, Attribute::Temp | Attribute::TempValue(_)))
+}
+
+impl<'a> Temporary<'a> {
+    /// The count that a field is: a number with a value when it is written, and nothing else.
+    pub fn of(field: &Field<'a>) -> Option<Temporary<'a>> {
+        let value = match field.attributes.as_slice() {
+            [Attribute::Temp, Attribute::TempValue(value)] => value.text,
+            [Attribute::TempValue(value), Attribute::Temp] => value.text,
+            _ => return None,
+        };
+        let kind = number_kind(field)?;
+        if !kind.starts_with('u') {
+            return None;
+        }
+        let bits = field.bits.unwrap_or(bits_of(kind)?);
+        let is_big = matches!(field.layout.endian, Endian::Big);
+        let part = match (field.layout.order, is_big) {
+            (Order::Msb, false) if bits > 8 => "MsbLe",
+            (Order::Msb, _) => "Msb",
+            (Order::Lsb, false) => "Lsb",
+            (Order::Lsb, true) => "LsbBe",
+        };
+        Some(Temporary {
+            name: field.name?.text,
+            kind,
+            value,
+            part,
+            bits,
+        })
+    }
+
+    /// Whether its value is how many items a list has.
+    pub fn counts(&self, alloc: Global, list: &str) -> Result<bool, AllocError> {
+        let kind = self.kind;
+        let count = format!(in alloc; "\"{list}.len() as {kind}\"")?;
+        let own = format!(in alloc; "\"self.{list}.len() as {kind}\"")?;
+        Ok(self.value == count.as_str() || self.value == own.as_str())
+    }
+
+    /// The list after it, of these items.
+    pub fn before(
+        &self,
+        alloc: Global,
+        called: Named<'_>,
+        item: &str,
+    ) -> Result<Part<'a>, AllocError> {
+        let Named { name, access } = called;
+        let (part, bits) = (self.part, self.bits);
+        let count = format!(in alloc; "{part}<u64, {bits}>")?;
+        let count = count.as_str();
+        let held = if name == "items" {
+            Text::word(alloc, name)?
+        } else {
+            Text::of(format!(in alloc; "items: {name}")?)
+        };
+        let pattern = [held, Text::word(alloc, "..")?];
+        let value = [
+            Text::of(format!(in alloc; "items: &self.{access}")?),
+            Text::word(alloc, "count: PhantomData")?,
+        ];
+        let term = [
+            Text::of(format!(in alloc; "items = r.{access}")?),
+            Text::word(alloc, "count = record {}")?,
+        ];
+        let open = format!(in alloc; "PrefixedRef::<{count}, _> {{")?;
+        Ok(Part {
+            kind: Text::of(format!(in alloc; "Prefixed<{count}, {item}>")?),
+            lent: Text::of(format!(in alloc; "PrefixedRef<'a, {count}, {item}>")?),
+            is_lent: true,
+            pattern: group(alloc, Form::Brace, "Prefixed {", pattern)?,
+            value: group(alloc, Form::Brace, open.as_str(), value)?,
+            term: group(alloc, Form::GhostBrace, "record {", term)?,
+            places: one(alloc, place_of(alloc, name)?)?,
+            names: one(alloc, String::from_str(alloc, name)?)?,
+        })
+    }
+}
+
+// Where the list is.
+fn place_of<'a>(alloc: Global, name: &str) -> Result<Place<'a>, AllocError> {
+    Ok(Place {
+        name: String::from_str(alloc, name)?,
+        number: None,
+        path: String::from_str(alloc, ".items")?,
+        same: String::new(alloc),
+    })
+}
+
+fn group(alloc: Global, form: Form, open: &str, texts: [Text; 2]) -> Result<Text, AllocError> {
+    let mut items = Vec::new(alloc);
+    for text in texts {
+        items.push(text)?;
+    }
+    Text::group(alloc, form, open, items)
+}
+
+fn one<T: Drop>(alloc: Global, item: T) -> Result<Vec<T>, AllocError> {
+    let mut items = Vec::new(alloc);
+    items.push(item)?;
+    Ok(items)
+}
