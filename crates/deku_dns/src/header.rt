@@ -161,6 +161,8 @@ impl Record<()> for Header {
 }
 
 impl DekuReader<()> for Header {
+    ghost no_read_ahead = { ⟦<Parts as DekuReader<()>>⟧.no_read_ahead };
+
     ghost meaning = { λ _. Then (⟦<Parts as DekuReader<()>>⟧.meaning tt)
         (Shows ⟦<Header as FromParts>⟧.parts_of) };
 

@@ -71,6 +71,8 @@ impl Record<()> for Length {
 }
 
 impl DekuReader<()> for Length {
+    ghost no_read_ahead = { ⟦<u8 as DekuReader<()>>⟧.no_read_ahead };
+
     ghost meaning = { λ _. Then (⟦<u8 as DekuReader<()>>⟧.meaning tt)
         (Shows ⟦<Length as FromParts>⟧.parts_of) };
 
@@ -127,6 +129,8 @@ impl Record<()> for Label {
 }
 
 impl DekuReader<()> for Label {
+    ghost no_read_ahead = { ⟦<Parts as DekuReader<()>>⟧.no_read_ahead };
+
     ghost meaning = { λ _. Then (⟦<Parts as DekuReader<()>>⟧.meaning tt)
         (Shows ⟦<Label as FromParts>⟧.parts_of) };
 

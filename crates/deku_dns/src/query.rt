@@ -56,6 +56,8 @@ impl Record<()> for Query {
 }
 
 impl DekuReader<()> for Query {
+    ghost no_read_ahead = { ⟦<Parts as DekuReader<()>>⟧.no_read_ahead };
+
     ghost meaning = { λ _. Then (⟦<Parts as DekuReader<()>>⟧.meaning tt)
         (Shows ⟦<Query as FromParts>⟧.parts_of) };
 

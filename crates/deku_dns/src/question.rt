@@ -53,6 +53,8 @@ impl Record<()> for Question {
 }
 
 impl DekuReader<()> for Question {
+    ghost no_read_ahead = { ⟦<Parts as DekuReader<()>>⟧.no_read_ahead };
+
     ghost meaning = { λ _. Then (⟦<Parts as DekuReader<()>>⟧.meaning tt)
         (Shows ⟦<Question as FromParts>⟧.parts_of) };
 

@@ -141,6 +141,8 @@ impl Record<Endian> for Fields {
 }
 
 impl DekuReader<Endian> for Fields {
+    ghost no_read_ahead = { ⟦<Parts as DekuReader<Endian>>⟧.no_read_ahead };
+
     ghost meaning = { λ c. Then (⟦<Parts as DekuReader<Endian>>⟧.meaning c)
         (Shows ⟦<Fields as FromParts>⟧.parts_of) };
 

@@ -211,6 +211,8 @@ impl Record<()> for Elf {
 }
 
 impl DekuReader<()> for Elf {
+    ghost no_read_ahead = { ⟦<Parts as DekuReader<()>>⟧.no_read_ahead };
+
     ghost meaning = { λ _. Then (⟦<Parts as DekuReader<()>>⟧.meaning tt)
         (Shows ⟦<Elf as FromParts>⟧.parts_of) };
 

@@ -90,6 +90,8 @@ impl Record<Endian> for Segment {
 }
 
 impl DekuReader<Endian> for Segment {
+    ghost no_read_ahead = { ⟦<Parts as DekuReader<Endian>>⟧.no_read_ahead };
+
     ghost meaning = { λ c. Then (⟦<Parts as DekuReader<Endian>>⟧.meaning c)
         (Shows ⟦<Segment as FromParts>⟧.parts_of) };
 

@@ -64,6 +64,8 @@ impl Record<()> for Telemetry {
 }
 
 impl DekuReader<()> for Telemetry {
+    ghost no_read_ahead = { ⟦<Parts as DekuReader<()>>⟧.no_read_ahead };
+
     ghost meaning = { λ _. Then (⟦<Parts as DekuReader<()>>⟧.meaning tt)
         (Shows ⟦<Telemetry as FromParts>⟧.parts_of) };
 

@@ -72,6 +72,8 @@ impl Record<()> for Ipv4 {
 }
 
 impl DekuReader<()> for Ipv4 {
+    ghost no_read_ahead = { ⟦<Parts as DekuReader<()>>⟧.no_read_ahead };
+
     ghost meaning = { λ _. Then (⟦<Parts as DekuReader<()>>⟧.meaning tt)
         (Shows ⟦<Ipv4 as FromParts>⟧.parts_of) };
 

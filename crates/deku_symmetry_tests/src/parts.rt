@@ -83,6 +83,8 @@ impl Record<()> for Text {
 }
 
 impl DekuReader<()> for Text {
+    ghost no_read_ahead = { ⟦<Counted<u8, u8> as DekuReader<()>>⟧.no_read_ahead };
+
     ghost meaning = { λ _. Then (⟦<Counted<u8, u8> as DekuReader<()>>⟧.meaning tt)
         (Shows ⟦<Text as FromParts>⟧.parts_of) };
 
@@ -151,6 +153,8 @@ impl Record<Endian> for Pair {
 }
 
 impl DekuReader<Endian> for Pair {
+    ghost no_read_ahead = { ⟦<PairParts as DekuReader<Endian>>⟧.no_read_ahead };
+
     ghost meaning = { λ c. Then (⟦<PairParts as DekuReader<Endian>>⟧.meaning c)
         (Shows ⟦<Pair as FromParts>⟧.parts_of) };
 

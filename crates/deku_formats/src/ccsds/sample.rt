@@ -48,6 +48,8 @@ impl Record<()> for Sample {
 }
 
 impl DekuReader<()> for Sample {
+    ghost no_read_ahead = { ⟦<Parts as DekuReader<()>>⟧.no_read_ahead };
+
     ghost meaning = { λ _. Then (⟦<Parts as DekuReader<()>>⟧.meaning tt)
         (Shows ⟦<Sample as FromParts>⟧.parts_of) };
 

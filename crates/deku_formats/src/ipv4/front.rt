@@ -157,6 +157,8 @@ impl Record<()> for Front {
 }
 
 impl DekuReader<()> for Front {
+    ghost no_read_ahead = { ⟦<Parts as DekuReader<()>>⟧.no_read_ahead };
+
     ghost meaning = { λ _. Then (⟦<Parts as DekuReader<()>>⟧.meaning tt)
         (Shows ⟦<Front as FromParts>⟧.parts_of) };
 

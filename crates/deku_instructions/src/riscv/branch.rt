@@ -149,6 +149,8 @@ impl ToParts for Branch {
 }
 
 impl DekuReader<()> for Branch {
+    ghost no_read_ahead = { ⟦<Parts as DekuReader<()>>⟧.no_read_ahead };
+
     ghost meaning = { λ _. Then (⟦<Parts as DekuReader<()>>⟧.meaning tt)
         (Shows ⟦<Branch as FromParts>⟧.parts_of) };
 

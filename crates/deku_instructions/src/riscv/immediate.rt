@@ -75,6 +75,8 @@ impl ToParts for Immediate {
 }
 
 impl DekuReader<()> for Immediate {
+    ghost no_read_ahead = { ⟦<Parts as DekuReader<()>>⟧.no_read_ahead };
+
     ghost meaning = { λ _. Then (⟦<Parts as DekuReader<()>>⟧.meaning tt)
         (Shows ⟦<Immediate as FromParts>⟧.parts_of) };
 

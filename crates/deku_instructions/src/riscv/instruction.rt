@@ -177,6 +177,8 @@ impl Record<()> for Instruction {
 }
 
 impl DekuReader<()> for Instruction {
+    ghost no_read_ahead = { ⟦<Parts as DekuReader<()>>⟧.no_read_ahead };
+
     ghost meaning = { λ _. Then (⟦<Parts as DekuReader<()>>⟧.meaning tt)
         (Shows ⟦<Instruction as FromParts>⟧.parts_of) };
 

@@ -130,6 +130,8 @@ impl ToParts for Jump {
 }
 
 impl DekuReader<()> for Jump {
+    ghost no_read_ahead = { ⟦<Parts as DekuReader<()>>⟧.no_read_ahead };
+
     ghost meaning = { λ _. Then (⟦<Parts as DekuReader<()>>⟧.meaning tt)
         (Shows ⟦<Jump as FromParts>⟧.parts_of) };
 

@@ -82,6 +82,8 @@ impl ToParts for Register {
 }
 
 impl DekuReader<()> for Register {
+    ghost no_read_ahead = { ⟦<Parts as DekuReader<()>>⟧.no_read_ahead };
+
     ghost meaning = { λ _. Then (⟦<Parts as DekuReader<()>>⟧.meaning tt)
         (Shows ⟦<Register as FromParts>⟧.parts_of) };
 

@@ -122,6 +122,8 @@ impl ToParts for Store {
 }
 
 impl DekuReader<()> for Store {
+    ghost no_read_ahead = { ⟦<Parts as DekuReader<()>>⟧.no_read_ahead };
+
     ghost meaning = { λ _. Then (⟦<Parts as DekuReader<()>>⟧.meaning tt)
         (Shows ⟦<Store as FromParts>⟧.parts_of) };
 

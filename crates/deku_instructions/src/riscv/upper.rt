@@ -51,6 +51,8 @@ impl ToParts for Upper {
 }
 
 impl DekuReader<()> for Upper {
+    ghost no_read_ahead = { ⟦<Parts as DekuReader<()>>⟧.no_read_ahead };
+
     ghost meaning = { λ _. Then (⟦<Parts as DekuReader<()>>⟧.meaning tt)
         (Shows ⟦<Upper as FromParts>⟧.parts_of) };
 
