@@ -182,7 +182,7 @@ impl<'b, 'a> Builder<'b, 'a> {
         }
         let said = self.said(field)?;
         self.fits(field, &said)?;
-        self.padding(said.before, field.layout.order)?;
+        self.padding(said.before, field)?;
         if let Some(bytes) = said.magic {
             let what = format!(in self.alloc; "magic of {name}")?;
             let named = words::marker(self.alloc, self.front.as_str(), name, "Magic")?;
@@ -205,7 +205,7 @@ impl<'b, 'a> Builder<'b, 'a> {
             );
         }
         self.check_field(field, name, &said)?;
-        self.padding(said.after, field.layout.order)
+        self.padding(said.after, field)
     }
 
     // The list after a count that the record does not keep.
@@ -391,9 +391,17 @@ impl<'b, 'a> Builder<'b, 'a> {
         }
     }
 
-    // Zeros of so many bits.
-    fn padding(&mut self, bits: u64, order: Order) -> Result<(), Stop> {
-        let mut left = bits.min(PADDING);
+    // Zeros of so many bits, before or after a field.
+    fn padding(&mut self, bits: u64, field: &Field<'a>) -> Result<(), Stop> {
+        if bits > PADDING {
+            return self.wrong(
+                field.span,
+                "a padding of more than 1024 bits",
+                "write an array of bytes, which is kept",
+            );
+        }
+        let order = field.layout.order;
+        let mut left = bits;
         for _ in 0..(PADDING / 64 + 1) {
             if left == 0 {
                 break;

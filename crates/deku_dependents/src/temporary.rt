@@ -7,16 +7,16 @@ use deku_texts::lying::number_kind;
 use deku_texts::part::{Named, Part, Place};
 use std::alloc::{AllocError, Global};
 
-/// The count of a list, in front of it, that the record does not keep.
+/// The count of the list after it, which the record does not keep.
 #[derive(Clone, Copy)]
 pub struct Temporary<'a> {
     /// The name of the field.
     pub name: &'a str,
     /// Its type.
     kind: &'a str,
-    /// What it is when it is written, as its text with quotes.
+    /// The text of its `temp_value`, with quotes.
     value: &'a str,
-    /// The type that lays it out.
+    /// The name of the type that says how it is laid out.
     part: &'static str,
     /// Its bits.
     bits: u64,
@@ -28,7 +28,8 @@ pub fn is_temporary(field: &Field<'_>) -> bool {
 }
 
 impl<'a> Temporary<'a> {
-    /// The count that a field is: a number with a value when it is written, and nothing else.
+    /// A field as such a count: an unsigned number of at most 64 bits with `temp` and `temp_value`,
+    /// and with no other attributes.
     pub fn of(field: &Field<'a>) -> Option<Temporary<'a>> {
         let value = match field.attributes.as_slice() {
             [Attribute::Temp, Attribute::TempValue(value)] => value.text,
@@ -40,6 +41,9 @@ impl<'a> Temporary<'a> {
             return None;
         }
         let bits = field.bits.unwrap_or(bits_of(kind)?);
+        if bits > 64 {
+            return None;
+        }
         let is_big = matches!(field.layout.endian, Endian::Big);
         let part = match (field.layout.order, is_big) {
             (Order::Msb, false) if bits > 8 => "MsbLe",
@@ -56,7 +60,7 @@ impl<'a> Temporary<'a> {
         })
     }
 
-    /// Whether its value is how many items a list has.
+    /// Whether its `temp_value` is the length of the list of this name.
     pub fn counts(&self, alloc: Global, list: &str) -> Result<bool, AllocError> {
         let kind = self.kind;
         let count = format!(in alloc; "\"{list}.len() as {kind}\"")?;
@@ -64,7 +68,7 @@ impl<'a> Temporary<'a> {
         Ok(self.value == count.as_str() || self.value == own.as_str())
     }
 
-    /// The list after it, of these items.
+    /// The part of the list of this name, with items of this type.
     pub fn before(
         &self,
         alloc: Global,

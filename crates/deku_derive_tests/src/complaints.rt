@@ -143,7 +143,7 @@ struct B { #[deku(temp, temp_value = \"1\")] a: u8 }",
 ];
 
 // Descriptions that deku takes and that have no module.
-const UNPRINTED: [(&str, &str); 30] = [
+const UNPRINTED: [(&str, &str); 32] = [
     (
         "#[deku(id_type = \"u8\")] enum E {
          #[deku(id_pat = \"2..=6\")] A, #[deku(id_pat = \"_\")] B }",
@@ -236,6 +236,14 @@ const UNPRINTED: [(&str, &str); 30] = [
         "struct A { #[deku(temp, temp_value = \"v.len() as u16\")] n: u8,
 #[deku(count = \"n\")] v: Vec<u8> }",
         "2:25 a field that the record does not keep, and that is not the count of the list after it",
+    ),
+    (
+        "struct A { #[deku(temp, temp_value = \"v.len() as u128\")] n: u128 }",
+        "1:61 a field that the record does not keep, and that is not the count of the list after it",
+    ),
+    (
+        "struct A { #[deku(pad_bytes_before = \"200\")] n: u8 }",
+        "1:49 a padding of more than 1024 bits",
     ),
     (
         "struct A { #[deku(temp)] n: u8, #[deku(count = \"n\")] v: Vec<u8> }",

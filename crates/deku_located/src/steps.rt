@@ -17,7 +17,7 @@ pub struct Place {
     pub bit: usize,
 }
 
-/// Parts that say how far they were read. All parts of records do.
+/// Parts that say how far they were read.
 ///
 /// The parts of a tuple, and of what follows a head, are counted one by one, those inside them too.
 /// Everything else is one part: a number, a constant, padding, an array, a list, an option, an

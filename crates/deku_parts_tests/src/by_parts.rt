@@ -10,7 +10,8 @@ use deku::prelude::{
     DekuContainerRead, DekuContainerWrite, DekuError, DekuReader, DekuWriter, NeedSize, Reader,
     Writer,
 };
-use deku_symmetry::{Be, FromParts, Msb, Record, ToParts, read_record, write_record};
+use deku_coded::Coded;
+use deku_symmetry::{Be, FromParts, Msb, Record, ToParts, read_record};
 use deku_testing_values::expecting::{MISFIT, expect_written, same};
 use deku_testing_values::records::{expect_packed, expect_record, expect_refusal};
 use std::test::Fail;
@@ -24,11 +25,8 @@ pub struct Datagram {
     pub checksum: u16,
 }
 
-// The parts of Datagram, in their order.
-type DatagramParts = (Be<u16>, Be<u16>, Be<u16>, Be<u16>);
-
 impl FromParts for Datagram {
-    type Parts = DatagramParts;
+    type Parts = (Be<u16>, Be<u16>, Be<u16>, Be<u16>);
 
     ghost parts_of = { λ r. (be r.source, be r.destination, be r.length, be r.checksum) };
 
@@ -61,38 +59,6 @@ impl ToParts for Datagram {
         )
     }
 }
-
-impl DekuReader<()> for Datagram {
-    ghost no_read_ahead = { ⟦<DatagramParts as DekuReader<()>>⟧.no_read_ahead };
-
-    ghost meaning = { λ c. Then (⟦<DatagramParts as DekuReader<()>>⟧.meaning c)
-        (Shows ⟦<Datagram as FromParts>⟧.parts_of) };
-
-    #[inline(always)]
-    fn from_reader_with_ctx<R: Source>(reader: &mut Reader<R>, ctx: ()) -> Result<Self, DekuError> {
-        read_record(reader, ctx)
-    }
-}
-
-impl DekuWriter<()> for Datagram {
-    ghost meaning = { λ v. ⟦<DatagramParts as DekuWriter<()>>⟧.meaning
-        (⟦<Datagram as FromParts>⟧.parts_of v) };
-
-    #[inline(always)]
-    fn to_writer<W: Sink>(&self, writer: &mut Writer<W>, ctx: ()) -> Result<(), DekuError> {
-        write_record(self, writer, ctx)
-    }
-}
-
-impl Record<()> for Datagram {
-    ghost reads = { λ c b s r u m. m };
-
-    ghost writes = { λ c v b s r u m. m };
-}
-
-impl DekuContainerRead for Datagram {}
-
-impl DekuContainerWrite for Datagram {}
 
 // A year since 1900, in seven bits.
 #[derive(Debug, PartialEq, Eq, Drop)]
@@ -159,15 +125,15 @@ const QUESTION: Datagram = Datagram {
 #[test]
 fn a_record(rt: HostRuntime) -> Result<(), Fail> {
     let bytes = [0x04, 0x00, 0x00, 0x35, 0x00, 0x08, 0xBE, 0xEF];
-    expect_record(rt.alloc(), &QUESTION, &bytes)?;
+    expect_record(rt.alloc(), &Coded(QUESTION), &bytes)?;
     let ended = DekuError::Incomplete(NeedSize::new(16));
-    expect_refusal::<Datagram>(rt.alloc(), &[0x04, 0x00, 0x00], ended, 16)
+    expect_refusal::<Coded<Datagram>>(rt.alloc(), &[0x04, 0x00, 0x00], ended, 16)
 }
 
 #[test]
 fn records_in_a_row(rt: HostRuntime) -> Result<(), Fail> {
     let alloc = rt.alloc();
-    let row = (QUESTION, Year { since: 126 }, Msb::<u8, 1>(1));
+    let row = (Coded(QUESTION), Year { since: 126 }, Msb::<u8, 1>(1));
     let bytes = [0x04, 0x00, 0x00, 0x35, 0x00, 0x08, 0xBE, 0xEF, 0xFD];
     expect_packed(alloc, (), &row, 72, &bytes)?;
     let late = (Year { since: 128 }, Msb::<u8, 1>(1));
@@ -176,7 +142,7 @@ fn records_in_a_row(rt: HostRuntime) -> Result<(), Fail> {
         &deku_symmetry::Symmetric::pack(&late, alloc, ()),
         &Err(MISFIT),
     )?;
-    let (lent, kept) = (QUESTION, [0x04, 0x00, 0x00, 0x35, 0x00, 0x08, 0xBE, 0xEF]);
+    let (lent, kept) = (Coded(QUESTION), [0x04, 0x00, 0x00, 0x35, 0x00, 0x08, 0xBE, 0xEF]);
     let mut writer = deku_testing_values::expecting::writer_in(alloc);
     (&lent).to_writer(&mut writer, ())?;
     deku_testing_values::expecting::expect_bytes(&lent, writer, &kept)?;
