@@ -1,9 +1,9 @@
 //! The parts of the fields of a record, in their order.
 
-use crate::computing::{Computed, Computer};
+use crate::computing::{Computed, Computer, is_name, literal, names};
 use crate::marker;
 use crate::marker::{Amount, Marker};
-use crate::refusing::{partless, refused};
+use crate::refusing::partless;
 use crate::temporary::{Temporary, is_temporary};
 use deku_attributes::model::{Attribute, Endian, Field, Order};
 use deku_attributes::reading::bits_of;
@@ -215,10 +215,13 @@ impl<'b, 'a> Builder<'b, 'a> {
         field: &Field<'a>,
         called: Named<'_>,
     ) -> Result<(), Stop> {
-        let is_alone = match field.attributes.as_slice() {
-            [Attribute::Count(Expression::Name(name))] => name.text == count.name,
-            _ => false,
-        };
+        let mut is_alone = false;
+        for attribute in &field.attributes {
+            match attribute {
+                Attribute::Count(expression) => is_alone = is_name(expression, count.name),
+                _ => return self.no_count(field),
+            }
+        }
         if !is_alone || !count.counts(self.alloc, called.name)? {
             return self.no_count(field);
         }
@@ -725,18 +728,6 @@ impl<'b, 'a> Builder<'b, 'a> {
     }
 }
 
-// The number that an expression is, if it is one, or the name of a constant.
-fn literal(expression: &Expression<'_>, constants: &[Constant<'_>]) -> Option<u64> {
-    match expression {
-        Expression::Number(number, _) => Some(*number),
-        Expression::Name(name) => {
-            let constant = constants.iter().find(|it| it.name.text == name.text)?;
-            Some(constant.value)
-        }
-        _ => None,
-    }
-}
-
 // The type of what a list or an option holds.
 fn held_kind(alloc: Global, field: &Field<'_>) -> Result<String, AllocError> {
     let mut held = String::new(alloc);
@@ -757,16 +748,6 @@ pub fn field_name(alloc: Global, field: &Field<'_>, place: usize) -> Result<Stri
     }
 }
 
-// Whether an expression names a field.
-fn names(expression: &Expression<'_>, field: &str) -> bool {
-    match expression {
-        Expression::Number(_, _) | Expression::Truth(_, _) => false,
-        Expression::Name(name) | Expression::Part(name, _) => name.text == field,
-        Expression::Not(value) | Expression::Cast(value, _) => names(value, field),
-        Expression::Both(_, left, right) => names(left, field) || names(right, field),
-    }
-}
-
 // The constructor and the type of a number of so many bytes.
 fn magic_kind(
     alloc: Global,
@@ -780,4 +761,22 @@ fn magic_kind(
         (Order::Msb, 2 | 4 | 8) => ("Be", format!(in alloc; "Be<u{bits}>")?),
         (Order::Msb, _) => ("Msb", format!(in alloc; "Msb<u64, {bits}>")?),
     })
+}
+
+// Why an attribute is refused, and what to write in its place.
+fn refused(attribute: &Attribute<'_>) -> (&'static str, &'static str) {
+    match attribute {
+        Attribute::Bits(_) | Attribute::Bytes(_) => (
+            "a width that a field says is not supported",
+            "write a number, or a record for each width",
+        ),
+        Attribute::Context(_) => (
+            "values that are given to a field are not supported",
+            "move the fields that need them into this record",
+        ),
+        _ => (
+            "a list that ends with an item of its own is not supported",
+            "write `CString` for a text, or `count`",
+        ),
+    }
 }

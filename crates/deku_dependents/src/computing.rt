@@ -471,3 +471,33 @@ pub fn span_of(expression: &Expression<'_>) -> Span {
         Expression::Both(_, left, _) => span_of(left),
     }
 }
+
+/// The number that an expression is, if it is one or the name of a constant.
+pub(crate) fn literal(expression: &Expression<'_>, constants: &[Constant<'_>]) -> Option<u64> {
+    match expression {
+        Expression::Number(number, _) => Some(*number),
+        Expression::Name(name) => {
+            let constant = constants.iter().find(|it| it.name.text == name.text)?;
+            Some(constant.value)
+        }
+        _ => None,
+    }
+}
+
+/// Whether an expression names a field.
+pub(crate) fn names(expression: &Expression<'_>, field: &str) -> bool {
+    match expression {
+        Expression::Number(_, _) | Expression::Truth(_, _) => false,
+        Expression::Name(name) | Expression::Part(name, _) => name.text == field,
+        Expression::Not(value) | Expression::Cast(value, _) => names(value, field),
+        Expression::Both(_, left, right) => names(left, field) || names(right, field),
+    }
+}
+
+/// Whether an expression is the name of a field.
+pub(crate) fn is_name(expression: &Expression<'_>, field: &str) -> bool {
+    match expression {
+        Expression::Name(name) => name.text == field,
+        _ => false,
+    }
+}

@@ -16,8 +16,10 @@ pub struct Temporary<'a> {
     kind: &'a str,
     /// The text of its `temp_value`, with quotes.
     value: &'a str,
-    /// The name of the type that says how it is laid out.
-    part: &'static str,
+    /// Whether its high byte is first.
+    is_big: bool,
+    /// Its bit order.
+    order: Order,
     /// Its bits.
     bits: u64,
 }
@@ -31,31 +33,30 @@ impl<'a> Temporary<'a> {
     /// A field as such a count: an unsigned number of at most 64 bits with `temp` and `temp_value`,
     /// and with no other attributes.
     pub fn of(field: &Field<'a>) -> Option<Temporary<'a>> {
-        let value = match field.attributes.as_slice() {
-            [Attribute::Temp, Attribute::TempValue(value)] => value.text,
-            [Attribute::TempValue(value), Attribute::Temp] => value.text,
-            _ => return None,
-        };
+        let mut value = None;
+        let mut is_temporary = false;
+        for attribute in &field.attributes {
+            match attribute {
+                Attribute::Temp => is_temporary = true,
+                Attribute::TempValue(token) => value = Some(token.text),
+                _ => return None,
+            }
+        }
+        let value = value?;
         let kind = number_kind(field)?;
-        if !kind.starts_with('u') {
+        if !is_temporary || !kind.starts_with('u') {
             return None;
         }
         let bits = field.bits.unwrap_or(bits_of(kind)?);
         if bits > 64 {
             return None;
         }
-        let is_big = matches!(field.layout.endian, Endian::Big);
-        let part = match (field.layout.order, is_big) {
-            (Order::Msb, false) if bits > 8 => "MsbLe",
-            (Order::Msb, _) => "Msb",
-            (Order::Lsb, false) => "Lsb",
-            (Order::Lsb, true) => "LsbBe",
-        };
         Some(Temporary {
             name: field.name?.text,
             kind,
             value,
-            part,
+            is_big: matches!(field.layout.endian, Endian::Big),
+            order: field.layout.order,
             bits,
         })
     }
@@ -68,6 +69,16 @@ impl<'a> Temporary<'a> {
         Ok(self.value == count.as_str() || self.value == own.as_str())
     }
 
+    // The name of the type that says how it is laid out.
+    fn part(&self) -> &'static str {
+        match (self.order, self.is_big) {
+            (Order::Msb, false) if self.bits > 8 => "MsbLe",
+            (Order::Msb, _) => "Msb",
+            (Order::Lsb, false) => "Lsb",
+            (Order::Lsb, true) => "LsbBe",
+        }
+    }
+
     /// The part of the list of this name, with items of this type.
     pub fn before(
         &self,
@@ -76,7 +87,8 @@ impl<'a> Temporary<'a> {
         item: &str,
     ) -> Result<Part<'a>, AllocError> {
         let Named { name, access } = called;
-        let (part, bits) = (self.part, self.bits);
+        let bits = self.bits;
+        let part = self.part();
         let count = format!(in alloc; "{part}<u64, {bits}>")?;
         let count = count.as_str();
         let held = if name == "items" {

@@ -30,6 +30,12 @@ pub(crate) fn declaration(
     derives(out, record, true, false)?;
     let name = record.name.text;
     writeln!(out, "pub enum {name} {{")?;
+    // If one kind with named fields has no room on a line, none is on one.
+    let mut is_split = false;
+    for kind in kinds {
+        let text = variant(*out.allocator(), kind)?;
+        is_split = is_split || kind.case.shape == Shape::Named && !text.is_line("    ", 1);
+    }
     for kind in kinds {
         let case = kind.case;
         docs(out, case.docs.as_slice(), "    ///")?;
@@ -37,7 +43,8 @@ pub(crate) fn declaration(
             said(out, case.id)?;
         }
         out.push_str("    ")?;
-        variant(out, case, kind.kept.is_some())?;
+        let text = variant(*out.allocator(), kind)?;
+        text.print(out, 4, 1, is_split && case.shape == Shape::Named)?;
         out.push_str(",\n")?;
     }
     out.push_str("}\n")
@@ -53,9 +60,9 @@ fn said(out: &mut String, id: Id) -> Result<(), AllocError> {
     }
 }
 
-// Appends a kind and its fields.
-fn variant(out: &mut String, case: &Case<'_>, is_kept: bool) -> Result<(), AllocError> {
-    let alloc = *out.allocator();
+// A kind and its fields.
+fn variant(alloc: Global, kind: &Built<'_, '_>) -> Result<Text, AllocError> {
+    let (case, is_kept) = (kind.case, kind.kept.is_some());
     let name = case.name.text;
     let mut items = Vec::new(alloc);
     for (i, field) in case.fields.iter().enumerate() {
@@ -73,7 +80,7 @@ fn variant(out: &mut String, case: &Case<'_>, is_kept: bool) -> Result<(), Alloc
         };
         items.push(Text::of(kind).after(alloc, front.as_str())?)?;
     }
-    of_shape(alloc, name, case.shape, Form::Variant, items)?.print(out, 4, 1, false)
+    of_shape(alloc, name, case.shape, Form::Variant, items)
 }
 
 // A name with items as a kind of this shape has them.

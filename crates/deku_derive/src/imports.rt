@@ -222,7 +222,7 @@ fn filled(out: &mut String, names: &[&str]) -> Result<(), AllocError> {
         if column == 0 {
             out.push_str("    ")?;
             column = name.len().saturating_add(5);
-        } else if next >= 100 {
+        } else if next > 100 {
             out.push_str("\n    ")?;
             column = name.len().saturating_add(5);
         } else {
