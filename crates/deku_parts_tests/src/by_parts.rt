@@ -142,7 +142,10 @@ fn records_in_a_row(rt: HostRuntime) -> Result<(), Fail> {
         &deku_symmetry::Symmetric::pack(&late, alloc, ()),
         &Err(MISFIT),
     )?;
-    let (lent, kept) = (Coded(QUESTION), [0x04, 0x00, 0x00, 0x35, 0x00, 0x08, 0xBE, 0xEF]);
+    let (lent, kept) = (
+        Coded(QUESTION),
+        [0x04, 0x00, 0x00, 0x35, 0x00, 0x08, 0xBE, 0xEF],
+    );
     let mut writer = deku_testing_values::expecting::writer_in(alloc);
     (&lent).to_writer(&mut writer, ())?;
     deku_testing_values::expecting::expect_bytes(&lent, writer, &kept)?;
