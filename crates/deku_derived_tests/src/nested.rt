@@ -32,8 +32,13 @@ fn records_of_five_fields(rt: HostRuntime) -> Result<(), Fail> {
     expect_packed(rt.alloc(), (), &report, 208, &bytes)
 }
 
-// A block with or without a time, of this event and these values.
-fn block(alloc: Global, time: Option<u32>, event: Event, numbers: &[u16]) -> Result<Block, Fail> {
+// A block with or without a time, of this event, and of these values with their number.
+fn block(
+    alloc: Global,
+    time: Option<u32>,
+    event: Event,
+    (count, numbers): (u8, &[u16]),
+) -> Result<Block, Fail> {
     let mut values = Vec::new(alloc);
     for number in numbers {
         values.push(Be(*number))?;
@@ -53,7 +58,7 @@ fn block(alloc: Global, time: Option<u32>, event: Event, numbers: &[u16]) -> Res
             quality: 0x2A,
         },
         event,
-        count: numbers.len() as u8,
+        count,
         values,
     })
 }
@@ -75,12 +80,12 @@ fn blocks_in_a_pair(rt: HostRuntime) -> Result<(), Fail> {
         code: 7,
         value: 0x0809,
     };
-    let timed = block(alloc, Some(0x0102_0304), alarm, &[0x0C0D, 0x0E0F])?;
+    let timed = block(alloc, Some(0x0102_0304), alarm, (2, &[0x0C0D, 0x0E0F]))?;
     expect_packed(alloc, (), &timed, 248, &TIMED)?;
     let pair = Pair {
         first: timed,
         between: 0x1011,
-        second: block(alloc, None, Event::Nothing, &[])?,
+        second: block(alloc, None, Event::Nothing, (0, &[]))?,
     };
     let mut bytes = Vec::new(alloc);
     bytes.extend_from_slice(&TIMED)?;
