@@ -90,7 +90,7 @@ impl<'a> Checker<'a> {
         Ok(())
     }
 
-    /// Notes a name that is not known, which may be one that was left out.
+    /// Notes a name that is not known, unless it may be one that was left out.
     pub(crate) fn complain_of_name(
         &mut self,
         span: Span,

@@ -13,18 +13,18 @@ pub enum Owner {
     Kind,
 }
 
-/// What becomes of an attribute.
+/// What is done with an attribute.
 #[derive(Clone, Copy)]
 pub enum Verdict {
-    /// It has a part.
+    /// It is printed as a part.
     Taken,
-    /// It has none: why, and what to write in its place.
+    /// It has no part: why, and what to write instead.
     Refused(&'static str, &'static str),
-    /// deku has no such attribute there: the word of its own that is nearest.
+    /// deku has no such attribute there: the most similar one that it has.
     Unknown(&'static str),
 }
 
-// The attributes that have a part, and what deku has them on: structs, enums, fields, kinds.
+// The attributes that have a part, and where deku takes them: structs, enums, fields, kinds.
 const TAKEN: [(&str, &str); 24] = [
     ("endian", "sef"),
     ("bit_order", "sef"),
@@ -52,7 +52,7 @@ const TAKEN: [(&str, &str); 24] = [
     ("temp_value", "f"),
 ];
 
-// The attributes that have none: what deku has them on, why, and what to write in their place.
+// The attributes that have no part: where deku takes them, why, and what to write instead.
 const REFUSED: [(&str, &str, &str, &str); 13] = [
     (
         "ctx_default",
@@ -134,11 +134,11 @@ const REFUSED: [(&str, &str, &str, &str); 13] = [
     ),
 ];
 
-/// What becomes of an attribute of this name there.
+/// What is done with an attribute of this name there.
 ///
 /// ```text
 /// judge("count", Owner::Field)    // taken
-/// judge("cuont", Owner::Field)    // unknown; `count` is nearest
+/// judge("cuont", Owner::Field)    // unknown; `count` is most similar
 /// ```
 pub fn judge(name: &str, owner: Owner) -> Verdict {
     if is_taken(name, owner) {
@@ -167,7 +167,7 @@ fn is_on(owners: &str, owner: Owner) -> bool {
     })
 }
 
-// The taken word that has most in common with a name.
+// The attribute that is taken and has most in common with a name.
 fn nearest(name: &str, owner: Owner) -> &'static str {
     let mut best = ("", 0);
     for (word, owners) in &TAKEN {

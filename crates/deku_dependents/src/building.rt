@@ -9,13 +9,13 @@ use deku_attributes::model::{Attribute, Endian, Field, Order};
 use deku_attributes::reading::bits_of;
 use deku_description::syntax::{Constant, Expression, Operator, Type};
 use deku_texts::document::Text;
-use deku_texts::lying::{item, number_kind};
 use deku_texts::part::{
     Dependent, Named, Owner, Part, Place, asserted, constant, following, leaf, rest, tuple,
 };
 use deku_texts::records::Records;
 use deku_texts::refusal::Stop;
 use deku_texts::words;
+use deku_texts::wrapping::{item, number_kind};
 use deku_tokens::place::{Complaint, Span};
 use std::alloc::{AllocError, Global};
 
@@ -30,7 +30,7 @@ pub struct Builder<'b, 'a> {
     pub owner: Owner,
     /// The parts so far.
     pub items: Vec<Part<'a>>,
-    /// The types that say something of parts, as they are printed.
+    /// The markers, as they are printed.
     pub markers: String,
     /// Their names.
     pub names: Vec<String>,
@@ -41,7 +41,7 @@ pub struct Builder<'b, 'a> {
     temporary: Option<Temporary<'a>>,
 }
 
-// What is said of one field.
+// What the attributes of one field say.
 #[derive(Drop)]
 struct Said<'f, 'a> {
     magic: Option<&'f Vec<u8>>,
@@ -161,8 +161,7 @@ impl<'b, 'a> Builder<'b, 'a> {
     }
 
     fn field(&mut self, field: &Field<'a>, called: Named<'_>) -> Result<(), Stop> {
-        let name = called.name;
-        self.named(field, name)?;
+        self.named(field, called.name)?;
         if self.is_ended {
             return self.wrong(
                 field.span,
@@ -174,12 +173,14 @@ impl<'b, 'a> Builder<'b, 'a> {
             return self.counted(count, field, called);
         }
         if is_temporary(field) {
-            self.temporary = Temporary::of(field);
-            return match self.temporary {
-                Some(_) => Ok(()),
-                None => self.no_count(field),
-            };
+            return self.count(field);
         }
+        self.kept(field, called)
+    }
+
+    // A field that the record keeps.
+    fn kept(&mut self, field: &Field<'a>, called: Named<'_>) -> Result<(), Stop> {
+        let name = called.name;
         let said = self.said(field)?;
         self.fits(field, &said)?;
         self.padding(said.before, field)?;
@@ -206,6 +207,15 @@ impl<'b, 'a> Builder<'b, 'a> {
         }
         self.check_field(field, name, &said)?;
         self.padding(said.after, field)
+    }
+
+    // A count that the record does not keep.
+    fn count(&mut self, field: &Field<'a>) -> Result<(), Stop> {
+        self.temporary = Temporary::of(field);
+        match self.temporary {
+            Some(_) => Ok(()),
+            None => self.no_count(field),
+        }
     }
 
     // The list after a count that the record does not keep.
@@ -237,7 +247,7 @@ impl<'b, 'a> Builder<'b, 'a> {
     fn no_count<T>(&self, field: &Field<'a>) -> Result<T, Stop> {
         self.wrong(
             field.span,
-            "a field that the record does not keep, and that is not the count of the list after it",
+            "a field that the record does not keep, and that does not count the list after it",
             "write `temp, temp_value = \"LIST.len() as u8\"`, and then the list with this `count`",
         )
     }

@@ -1,4 +1,5 @@
-//! The types that say of parts how many items, whether an item, or which value there has to be.
+//! Markers: types that say how many items follow the parts, whether an item does, or which values
+//! the parts have.
 
 use crate::computing::{Computed, Computer};
 use deku_texts::part::Place;
@@ -6,7 +7,7 @@ use deku_texts::refusal::Stop;
 use std::alloc::{AllocError, Global};
 use std::fmt::Write as _;
 
-/// A type that says something of parts, as it is printed.
+/// A marker, as it is printed.
 #[derive(Clone, Copy)]
 pub struct Marker<'m> {
     /// Its name.
@@ -31,7 +32,7 @@ impl<'m> Marker<'m> {
     }
 }
 
-/// What a type says a number of.
+/// What a marker says the number of.
 #[derive(Clone, Copy, PartialEq, Eq)]
 pub enum Amount {
     /// The items of a field.
@@ -66,8 +67,7 @@ impl Amount {
     }
 }
 
-/// Appends the type of a count or of a size: how many items of a field follow the parts, or how
-/// many bits.
+/// Appends the marker of a count or of a size: how many items or bits of a field follow the parts.
 pub fn count(
     out: &mut String,
     amount: Amount,
@@ -124,7 +124,7 @@ fn count_of(
     Ok(())
 }
 
-/// Appends the type of a condition: whether a field follows the parts.
+/// Appends the marker of a condition: whether a field follows the parts.
 pub fn condition(
     out: &mut String,
     marker: Marker<'_>,
@@ -156,7 +156,7 @@ fn shows(
     Ok(())
 }
 
-/// Appends the type of a check of parts.
+/// Appends the marker of a check of parts.
 pub fn check(
     out: &mut String,
     marker: Marker<'_>,
@@ -190,7 +190,7 @@ fn passes(
     Ok(())
 }
 
-/// Appends the type of a constant: the value of the parts, in its own constructor if it has one.
+/// Appends the marker of a constant: the value of the parts, in its own constructor if it has one.
 pub fn constant(
     out: &mut String,
     marker: Marker<'_>,
@@ -354,7 +354,7 @@ fn truth(
     writeln!(out, "        {code}")
 }
 
-// Appends the law that parts which are the same give the same.
+// Appends the law that equal parts give equal results.
 fn alike(
     out: &mut String,
     what: &str,

@@ -1,8 +1,8 @@
-//! What of a description has no part.
+//! The types of a description that have no part.
 
 use deku_attributes::model::{Field, Order};
 use deku_description::syntax::Type;
-use deku_texts::lying::common_bits;
+use deku_texts::wrapping::common_bits;
 
 /// What of a type has no part.
 pub(crate) fn partless(kind: &Type<'_>, field: &Field<'_>) -> Option<&'static str> {

@@ -3,8 +3,8 @@
 use deku_attributes::model::{Attribute, Endian, Field, Order};
 use deku_attributes::reading::bits_of;
 use deku_texts::document::{Form, Text};
-use deku_texts::lying::number_kind;
 use deku_texts::part::{Named, Part, Place};
+use deku_texts::wrapping::number_kind;
 use std::alloc::{AllocError, Global};
 
 /// The count of the list after it, which the record does not keep.

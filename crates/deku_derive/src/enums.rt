@@ -5,9 +5,9 @@ use deku_attributes::model::{Case, Endian, Id, Ids, Order, Record};
 use deku_dependents::building::field_name;
 use deku_description::syntax::Shape;
 use deku_texts::document::{Form, Text, start};
-use deku_texts::lying::field_kind;
 use deku_texts::part::Part;
 use deku_texts::words::{quoted, snake};
+use deku_texts::wrapping::field_kind;
 use std::alloc::{AllocError, Global};
 use std::fmt::Write as _;
 

@@ -5,9 +5,9 @@ use deku_dependents::building::{Builder, field_name};
 use deku_dependents::temporary::is_temporary;
 use deku_description::syntax::Shape;
 use deku_texts::document::{Form, Text};
-use deku_texts::lying::field_kind;
 use deku_texts::part::{Owner, Part};
 use deku_texts::words::quoted;
+use deku_texts::wrapping::field_kind;
 use std::alloc::{AllocError, Global};
 use std::fmt::Write as _;
 

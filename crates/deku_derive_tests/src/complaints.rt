@@ -22,7 +22,7 @@ const ROWS: [(&str, &str); 34] = [
 struct B { #[deku(temp, temp_value = \"1\")] a: u8 }",
         "1:15 expected a type, found `,`
 1:24 a width of 9 bits for a type of 8
-2:47 a field that the record does not keep, and that is not the count of the list after it",
+2:47 a field that the record does not keep, and that does not count the list after it",
     ),
     (
         "struct A<T> { a: T }",
@@ -226,20 +226,20 @@ const UNPRINTED: [(&str, &str); 32] = [
     ),
     (
         "struct A { #[deku(temp, temp_value = \"1\")] n: u8 }",
-        "1:47 a field that the record does not keep, and that is not the count of the list after it",
+        "1:47 a field that the record does not keep, and that does not count the list after it",
     ),
     (
         "struct A { #[deku(temp, temp_value = \"v.len() as u8\")] n: u8, a: u8 }",
-        "1:66 a field that the record does not keep, and that is not the count of the list after it",
+        "1:66 a field that the record does not keep, and that does not count the list after it",
     ),
     (
         "struct A { #[deku(temp, temp_value = \"v.len() as u16\")] n: u8,
 #[deku(count = \"n\")] v: Vec<u8> }",
-        "2:25 a field that the record does not keep, and that is not the count of the list after it",
+        "2:25 a field that the record does not keep, and that does not count the list after it",
     ),
     (
         "struct A { #[deku(temp, temp_value = \"v.len() as u128\")] n: u128 }",
-        "1:61 a field that the record does not keep, and that is not the count of the list after it",
+        "1:61 a field that the record does not keep, and that does not count the list after it",
     ),
     (
         "struct A { #[deku(pad_bytes_before = \"200\")] n: u8 }",
@@ -247,12 +247,12 @@ const UNPRINTED: [(&str, &str); 32] = [
     ),
     (
         "struct A { #[deku(temp)] n: u8, #[deku(count = \"n\")] v: Vec<u8> }",
-        "1:29 a field that the record does not keep, and that is not the count of the list after it",
+        "1:29 a field that the record does not keep, and that does not count the list after it",
     ),
     (
         "struct A { #[deku(temp, temp_value = \"v.len() as u8\")] n: u8, a: u8,
 #[deku(count = \"n\")] v: Vec<u8> }",
-        "1:66 a field that the record does not keep, and that is not the count of the list after it
+        "1:66 a field that the record does not keep, and that does not count the list after it
 2:17 a name that is no field in front of this one",
     ),
     (

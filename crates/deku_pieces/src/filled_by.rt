@@ -41,7 +41,7 @@ pub struct FilledBy<P, C, T> {
 }
 
 impl<P, C, T> FilledBy<P, C, T> {
-    /// Parts and their items. That they are in step is checked when they are written.
+    /// Parts and their items. Writing checks that they agree.
     ///
     /// ```text
     /// FilledBy::<_, Length, _>::new(Be(4), numbers)

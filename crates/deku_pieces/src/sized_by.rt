@@ -58,7 +58,7 @@ pub struct SizedBy<P, C, T> {
 }
 
 impl<P, C, T> SizedBy<P, C, T> {
-    /// Parts and their content. That they are in step is checked when they are written.
+    /// Parts and their content. Writing checks that they agree.
     ///
     /// ```text
     /// SizedBy::<_, Length, _>::new(Be(4), record)

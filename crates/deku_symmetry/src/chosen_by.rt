@@ -67,7 +67,7 @@ pub struct ChosenBy<P, C, K> {
 }
 
 impl<P, C, K> ChosenBy<P, C, K> {
-    /// Parts and the value after them. That they are in step is checked when they are written.
+    /// Parts and the value after them. Writing checks that they agree.
     ///
     /// ```text
     /// ChosenBy::<_, Protocol, _>::new((Msb(4), Msb(1)), Either::This(Kind(Be(0xBEEF))))

@@ -72,7 +72,7 @@ pub struct CountedBy<P, C, T> {
 }
 
 impl<P, C, T> CountedBy<P, C, T> {
-    /// Parts and their items. That they are in step is checked when they are written.
+    /// Parts and their items. Writing checks that they agree.
     ///
     /// ```text
     /// CountedBy::<_, OptionBytes, _>::new((Be(80), Msb(6), Msb(0)), options)

@@ -128,7 +128,8 @@ impl<const N: usize> Id for LsbBe<u64, N> {
 /// Reading fails as the id does, and then as the chosen value does. If no kind has the id that was
 /// read, it fails with `IdVariantNotFound`, and the reader is after the id. Writing fails with
 /// `Assertion("kind out of step with its id")` if the id would choose another kind; then nothing
-/// moves. Otherwise it fails as the id does, which may not fit, and then as the value does.
+/// moves. Otherwise it fails as the id does, for example if it does not fit, and then as the
+/// value does.
 ///
 /// ```text
 /// type Parts = MsbEnum<Either<Kind<Be<u16>, 1>, Kind<(), 2>>, 8>; // 01 BE EF, or 02

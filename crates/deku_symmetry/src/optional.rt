@@ -70,7 +70,7 @@ pub struct Optional<P, C, T> {
 }
 
 impl<P, C, T> Optional<P, C, T> {
-    /// Parts and their item. That they are in step is checked when they are written.
+    /// Parts and their item. Writing checks that they agree.
     ///
     /// ```text
     /// Optional::<_, HasChecksum, _>::new((Msb(true), Msb(0)), Some(Be(0xBEEF)))

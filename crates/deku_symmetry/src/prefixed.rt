@@ -20,8 +20,8 @@ use std::marker::PhantomData;
 /// written, so a record has no field for it.
 ///
 /// Reading fails as the count does, and then as the first item that fails, or with
-/// `Io(OutOfMemory)` if there is no memory for an item. Writing fails as the count does, which may
-/// not fit; then nothing moves. Otherwise it fails as the first item that fails.
+/// `Io(OutOfMemory)` if there is no memory for an item. Writing fails as the count does, for
+/// example if it does not fit; then nothing moves. Otherwise it fails as the first item that fails.
 ///
 /// ```text
 /// type Parts = Prefixed<Msb<u64, 8>, Be<u16>>;               // 02 00 06 00 09

@@ -58,8 +58,8 @@ pub trait ToParts: FromParts {
         ensures { result ≡ Self.FromParts.parts_of self.now };
 }
 
-/// A record that is read and written as its parts, under this context. If that is `()` or `Endian`,
-/// and its parts are `Symmetric`, it is so too. The page `docs/RECORDS.md` shows a complete one.
+/// A record that is read and written as its parts, under this context. It is `Symmetric<()>` if its
+/// parts are and the context is `()`. The page `docs/RECORDS.md` shows a complete one.
 ///
 /// ```text
 /// impl Record<()> for Sample {
@@ -111,7 +111,7 @@ where
 }
 
 /// Writes the parts of the record: the body of a record's `to_writer`. A record that owns memory
-/// writes its parts in place instead, for example with `write_counted`.
+/// writes its parts where they are instead, for example with `write_counted`.
 ///
 /// The caller's condition: the parts may be written under the context. It fails as they do, and
 /// what was written before stays written.

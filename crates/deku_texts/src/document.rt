@@ -8,7 +8,7 @@ const WIDTH: usize = 100;
 // Items of an array that have at most as many share lines.
 const PACKED: usize = 10;
 
-/// A word, which stays on one line, or items in brackets.
+/// A word, which is never broken, or items in brackets.
 #[derive(Drop)]
 pub struct Text {
     form: Form,
@@ -20,7 +20,7 @@ pub struct Text {
 /// What the brackets of a text are.
 #[derive(Clone, Copy, PartialEq, Eq)]
 pub enum Form {
-    /// None: it is a word.
+    /// It has none: it is a word.
     Word,
     /// `name(a, b)`, or a tuple.
     Round,
@@ -72,7 +72,7 @@ impl Form {
         }
     }
 
-    // How much further in the items begin.
+    // How much further the items are indented.
     fn step(self) -> usize {
         match self {
             Form::GhostRound | Form::GhostBrace => 2,
@@ -168,8 +168,8 @@ impl Text {
         out.push_str(self.end())
     }
 
-    /// Appends it on one line if it has room there, where as many columns follow it; otherwise with
-    /// a line for each item, as far in as is said.
+    /// Appends it on one line if it and what follows it have room there; otherwise with a line for
+    /// each item, indented as far as is said.
     pub fn print(
         &self,
         out: &mut String,
@@ -222,7 +222,7 @@ impl Text {
         out.push_str(self.form.close())
     }
 
-    /// Whether it has room on the line that ends a text, with as many columns after it.
+    /// Whether it has room on the last line of a text, with this many columns after it.
     pub fn is_line(&self, out: &str, after: usize) -> bool {
         let end = column(out)
             .saturating_add(self.columns())
@@ -249,7 +249,7 @@ impl Text {
         self.form == Form::Brace
     }
 
-    /// Whether what is in front of its items has room on the line that ends a text.
+    /// Whether what is in front of its items has room on the last line of a text.
     pub fn has_room(&self, out: &str) -> bool {
         column(out).saturating_add(self.open.as_str().chars().count()) < WIDTH
     }
@@ -307,7 +307,7 @@ fn column(text: &str) -> usize {
     }
 }
 
-/// Begins a line so far in.
+/// Begins a line, indented as far.
 pub fn start(out: &mut String, indent: usize) -> Result<(), AllocError> {
     out.push('\n')?;
     for _ in 0..indent {

@@ -2,8 +2,8 @@
 #![tactic(auto)]
 
 pub mod document;
-pub mod lying;
 pub mod part;
 pub mod records;
 pub mod refusal;
 pub mod words;
+pub mod wrapping;

@@ -2,10 +2,10 @@
 //! fields are.
 
 use crate::document::{Form, Text, joined};
-use crate::lying::{Wrapping, count_of, lying, number_kind, part_kind};
 use crate::records::Records;
 use crate::words;
 use crate::words::quoted;
+use crate::wrapping::{Wrapping, count_of, number_kind, part_kind, wrapping};
 use deku_attributes::model::Field;
 use std::alloc::{AllocError, Global};
 
@@ -40,9 +40,9 @@ pub struct Place<'a> {
     pub name: String,
     /// The name of its type, if it is a number or a truth value.
     pub number: Option<&'a str>,
-    /// What leads to it from the parts, as `.0.head.1.0`.
+    /// The way to it from the parts, such as `.0.head.1.0`.
     pub path: String,
-    /// What leads to its equation from those of parts that are the same.
+    /// What leads to its equation from the equations of equal parts.
     pub same: String,
 }
 
@@ -141,23 +141,23 @@ pub fn leaf<'a>(
         places: one_place(alloc, named.name, number_kind(field), "")?,
         names,
     };
-    let lying = lying(field);
-    if lying.around.is_empty() {
+    let wrapping = wrapping(field);
+    if wrapping.around.is_empty() {
         return Ok(part);
     }
-    within_one(alloc, part, lying, owner, named.name)
+    within_one(alloc, part, wrapping, owner, named.name)
 }
 
 // A field with the part around it.
 fn within_one<'a>(
     alloc: Global,
     part: Part<'a>,
-    lying: Wrapping,
+    wrapping: Wrapping,
     owner: Owner,
     name: &str,
 ) -> Result<Part<'a>, AllocError> {
-    let around = lying.around;
-    let made = wrapper(alloc, lying, owner)?;
+    let around = wrapping.around;
+    let made = wrapper(alloc, wrapping, owner)?;
     let (made, word) = (made.as_str(), words::part(around));
     let value = part.value.as_word().unwrap_or(name);
     let term = part.term.as_word().unwrap_or(name);
@@ -298,7 +298,7 @@ fn nothing<'a>(alloc: Global) -> Result<Part<'a>, AllocError> {
     })
 }
 
-// What leads to the equation of one of several parts.
+// The way to the equation of one of several parts.
 fn equation(alloc: Global, place: usize, count: usize) -> Result<String, AllocError> {
     let mut path = String::new(alloc);
     for _ in 0..place {
@@ -374,7 +374,7 @@ impl Dependent {
         }
     }
 
-    // The field for what says of the head whether it comes, as a value and in ghost text.
+    // The field for the marker, as a value and in ghost text.
     fn marker(self) -> (&'static str, &'static str) {
         match self {
             Dependent::Counted => ("count: PhantomData", "count = record {}"),
@@ -384,7 +384,7 @@ impl Dependent {
     }
 }
 
-/// A head, and what comes after it as a marker of this name says: a field of these items.
+/// A head, and after it a field of these items, as the marker of this name says.
 pub fn following<'a>(
     alloc: Global,
     head: Part<'a>,
@@ -604,8 +604,8 @@ pub fn asserted<'a>(
     })
 }
 
-/// A part of this type that always has the value of the constant of this name. It is called by this
-/// word.
+/// A part of this type that always has the value of the constant of this name. Messages call it by
+/// this word.
 pub fn constant<'a>(
     alloc: Global,
     owner: Owner,

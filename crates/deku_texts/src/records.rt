@@ -1,6 +1,6 @@
-//! The records of a file: which of them are copied, and which hold themselves.
+//! The records of a file: which of them are copied, and which contain themselves.
 
-use crate::lying::lying;
+use crate::wrapping::wrapping;
 use deku_attributes::model::{Attribute, Field, Form, Record};
 use deku_attributes::reading::{address_bits, bits_of};
 use deku_description::syntax::Type;
@@ -16,9 +16,9 @@ pub struct Records<'b, 'a> {
 // What is known of a record.
 #[derive(Clone, Copy)]
 struct Known {
-    // Whether it holds no memory, so that it is copied.
+    // Whether it owns no memory, so that it can be copied.
     is_copied: bool,
-    // Whether it is made of records that do not hold it.
+    // Whether no record that it is made of contains it.
     is_founded: bool,
 }
 
@@ -105,7 +105,7 @@ impl<'b, 'a> Records<'b, 'a> {
             None => address_bits(name),
         };
         if let Some(whole) = whole {
-            let is_bare = crate::lying::number(field.layout.order, field.bits, whole, true)
+            let is_bare = crate::wrapping::number(field.layout.order, field.bits, whole, true)
                 .around
                 .is_empty();
             return Known {
@@ -127,17 +127,17 @@ impl<'b, 'a> Records<'b, 'a> {
         self.list.iter().position(|record| record.name.text == name)
     }
 
-    /// Whether a field holds no memory.
+    /// Whether a field owns no memory.
     pub fn is_copied(&self, field: &Field<'a>) -> bool {
-        !lying(field).around.is_empty() || self.of_kind(&field.kind, field).is_copied
+        !wrapping(field).around.is_empty() || self.of_kind(&field.kind, field).is_copied
     }
 
-    /// Whether a record holds no memory.
+    /// Whether a record owns no memory.
     pub fn is_copied_record(&self, name: &str) -> bool {
         self.of_record(name).is_copied
     }
 
-    /// Whether a record is made of records of the file that do not hold it.
+    /// Whether a record is made of records of the file, none of which contains it.
     pub fn is_founded(&self, name: &str) -> bool {
         self.of_record(name).is_founded
     }
