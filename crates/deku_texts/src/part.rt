@@ -5,7 +5,7 @@ use crate::document::{Form, Text, joined};
 use crate::records::Records;
 use crate::words;
 use crate::words::quoted;
-use crate::wrapping::{Wrapping, count_of, number_kind, part_kind, wrapping};
+use crate::wrapping::{Wrapping, count_of, number_kind, part_kind, wrapping_of};
 use deku_attributes::model::Field;
 use std::alloc::{AllocError, Global};
 
@@ -141,7 +141,7 @@ pub fn leaf<'a>(
         places: one_place(alloc, named.name, number_kind(field), "")?,
         names,
     };
-    let wrapping = wrapping(field);
+    let wrapping = wrapping_of(field);
     if wrapping.around.is_empty() {
         return Ok(part);
     }

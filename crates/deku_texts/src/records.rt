@@ -1,6 +1,6 @@
 //! The records of a file: which of them are copied, and which contain themselves.
 
-use crate::wrapping::wrapping;
+use crate::wrapping::wrapping_of;
 use deku_attributes::model::{Attribute, Field, Form, Record};
 use deku_attributes::reading::{address_bits, bits_of};
 use deku_description::syntax::Type;
@@ -129,7 +129,7 @@ impl<'b, 'a> Records<'b, 'a> {
 
     /// Whether a field owns no memory.
     pub fn is_copied(&self, field: &Field<'a>) -> bool {
-        !wrapping(field).around.is_empty() || self.of_kind(&field.kind, field).is_copied
+        !wrapping_of(field).around.is_empty() || self.of_kind(&field.kind, field).is_copied
     }
 
     /// Whether a record owns no memory.

@@ -21,7 +21,7 @@ const BARE: Wrapping = Wrapping {
 };
 
 /// How a field is laid out that depends on no other field.
-pub fn wrapping(field: &Field<'_>) -> Wrapping {
+pub fn wrapping_of(field: &Field<'_>) -> Wrapping {
     if is_of_numbers(&field.kind) {
         let whole = common_bits(&field.kind).unwrap_or(0);
         return number(field.layout.order, field.bits, whole, is_big(field));
@@ -57,7 +57,7 @@ pub fn number(order: Order, bits: Option<u64>, whole: u64, is_big: bool) -> Wrap
 
 /// How many parts the field is if no other field depends on it. Each item of a tuple is a part.
 pub fn count_of(field: &Field<'_>) -> usize {
-    if wrapping(field).around.is_empty() {
+    if wrapping_of(field).around.is_empty() {
         items_of(&field.kind)
     } else {
         1
@@ -117,7 +117,7 @@ pub fn common_bits(kind: &Type<'_>) -> Option<u64> {
 
 /// The type of a field's part.
 pub fn part_kind(alloc: Global, field: &Field<'_>) -> Result<String, AllocError> {
-    let Wrapping { around, bits } = wrapping(field);
+    let Wrapping { around, bits } = wrapping_of(field);
     let mut out = String::new(alloc);
     if around.is_empty() {
         item(&mut out, &field.kind, field)?;
@@ -135,7 +135,7 @@ pub fn part_kind(alloc: Global, field: &Field<'_>) -> Result<String, AllocError>
 /// The type of a field as the module has it.
 pub fn field_kind(alloc: Global, field: &Field<'_>) -> Result<String, AllocError> {
     let mut out = String::new(alloc);
-    if wrapping(field).around.is_empty() {
+    if wrapping_of(field).around.is_empty() {
         item(&mut out, &field.kind, field)?;
     } else {
         plain(&mut out, &field.kind)?;
