@@ -58,8 +58,8 @@ pub trait ToParts: FromParts {
         ensures { result ≡ Self.FromParts.parts_of self.now };
 }
 
-/// A record that is read and written as its parts, under this context. It is `Symmetric<()>` if its
-/// parts are and the context is `()`. The page `docs/RECORDS.md` shows a complete one.
+/// A record that is read and written as its parts, under this context. If that is `()` or `Endian`,
+/// and its parts are `Symmetric`, so is the record. The page `docs/RECORDS.md` shows a complete one.
 ///
 /// ```text
 /// impl Record<()> for Sample {
