@@ -1,11 +1,11 @@
 //! Records as bytes and back.
 
+use crate::checks::{
+    AtLeast, BitsAfter, BitsBefore, BytesAfter, BytesBefore, Named, NamedField, Only,
+};
 use crate::dependents::{Alone, Counting, Sizing, ToEnd, Two, Whether};
 use crate::kinds::{EndianOfId, Numbered, Patterns, UnderBits, UnderByte, UnderBytes};
-use crate::numbers::{
-    AtLeast, Bits, BitsAfter, BitsBefore, Bytes, BytesAfter, BytesBefore, Endians, LowFirst, Named,
-    NamedField, Only, OrderOfFields, Orders,
-};
+use crate::numbers::{Bits, Bytes, Endians, LowFirst, OrderOfFields, Orders};
 use deku::prelude::{DekuError, NeedSize};
 use deku_symmetry::{Be, Symmetric, SymmetricLast};
 use deku_testing_values::expecting::same;

@@ -5,6 +5,8 @@
 #[cfg(test)]
 mod bytes;
 #[cfg(test)]
+mod checks;
+#[cfg(test)]
 mod dependents;
 #[cfg(test)]
 mod kinds;
