@@ -2,13 +2,13 @@
 
 use crate::gre::Gre;
 use crate::lists::{Entry, Log, Pair, Table};
-use crate::ntp::Ntp;
 use crate::shape::Shape;
-use crate::tcp::Tcp;
 use deku::prelude::{DekuError, NeedSize};
+use deku_messages::ntp::Ntp;
 use deku_symmetry::{Be, Symmetric, SymmetricLast};
 use deku_testing_values::expecting::same;
 use deku_testing_values::records::{expect_packed, expect_refusal};
+use deku_transport::tcp::Tcp;
 use std::alloc::Global;
 use std::test::Fail;
 

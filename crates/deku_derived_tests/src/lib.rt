@@ -14,12 +14,8 @@ mod lists;
 #[cfg(test)]
 mod nested;
 #[cfg(test)]
-mod ntp;
-#[cfg(test)]
 mod places;
 #[cfg(test)]
 mod report;
 #[cfg(test)]
 mod shape;
-#[cfg(test)]
-mod tcp;

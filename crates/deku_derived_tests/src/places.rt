@@ -2,9 +2,9 @@
 
 use crate::frame::{Frame, Range};
 use crate::gre::Gre;
-use crate::ntp::Ntp;
-use crate::tcp::Tcp;
 use deku_located::{Located, OnePart, unpack_located};
+use deku_messages::ntp::Ntp;
+use deku_transport::tcp::Tcp;
 use std::alloc::{AllocError, Global};
 use std::test::Fail;
 
