@@ -7,6 +7,27 @@ struct Counting {
     items: Vec<u8>,
 }
 
+/// A count that an update sets.
+struct Updating {
+    #[deku(update = "self.items.len()")]
+    count: u8,
+    #[deku(count = "count")]
+    items: Vec<u8>,
+}
+
+/// Two counts that an update sets.
+#[deku(endian = "big")]
+struct UpdatingTwo {
+    #[deku(update = "self.names.len()")]
+    length: u8,
+    #[deku(update = "self.values.len()")]
+    second: u16,
+    #[deku(count = "length")]
+    names: Vec<u8>,
+    #[deku(count = "second")]
+    values: Vec<u16>,
+}
+
 /// Items after their number, which the record does not keep.
 struct Alone {
     #[deku(temp, temp_value = "items.len() as u8")]

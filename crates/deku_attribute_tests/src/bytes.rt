@@ -3,10 +3,10 @@
 use crate::checks::{
     AtLeast, BitsAfter, BitsBefore, BytesAfter, BytesBefore, Named, NamedField, Only,
 };
-use crate::dependents::{Alone, Counting, Sizing, ToEnd, Two, Whether};
+use crate::dependents::{Alone, Counting, Sizing, ToEnd, Two, Updating, UpdatingTwo, Whether};
 use crate::kinds::{EndianOfId, Numbered, Patterns, UnderBits, UnderByte, UnderBytes};
 use crate::numbers::{Bits, Bytes, Endians, LowFirst, OrderOfFields, Orders};
-use deku::prelude::{DekuError, NeedSize};
+use deku::prelude::{DekuError, DekuUpdate, NeedSize};
 use deku_symmetry::{Be, Symmetric, SymmetricLast};
 use deku_testing_values::expecting::same;
 use deku_testing_values::records::{expect_packed, expect_refusal};
@@ -155,6 +155,44 @@ fn lists_and_conditions(rt: HostRuntime) -> Result<(), Fail> {
         second: None,
     };
     expect_packed(alloc, (), &lacking, 8, &[0x02])
+}
+
+// How many items there are, what an update returns, and the count then: if it is refused, the one
+// of the row above.
+const UPDATES: [(usize, Result<(), DekuError>, u8); 3] = [
+    (3, Ok(()), 3),
+    (255, Ok(()), 255),
+    (256, Err(DekuError::Parse("error parsing int")), 255),
+];
+
+#[test]
+fn counts_that_an_update_sets(rt: HostRuntime) -> Result<(), Fail> {
+    let alloc = rt.alloc();
+    let mut value = Updating {
+        count: 2,
+        items: [0xAB, 0xCD].to_vec(alloc)?,
+    };
+    value.items.push(0xFF)?;
+    value.update()?;
+    expect_packed(alloc, (), &value, 32, &[0x03, 0xAB, 0xCD, 0xFF])?;
+    for (items, wanted, count) in UPDATES {
+        value.items.resize(items, 0)?;
+        let updated = value.update();
+        same(
+            &items,
+            &(updated, value.count, value.items.len()),
+            &(wanted, count, items),
+        )?;
+    }
+    let mut two = UpdatingTwo {
+        length: 0,
+        second: 0,
+        names: [0x68].to_vec(alloc)?,
+        values: numbers(alloc, &[0x0102, 0x0304])?,
+    };
+    two.update()?;
+    let bytes = [0x01, 0x00, 0x02, 0x68, 0x01, 0x02, 0x03, 0x04];
+    expect_packed(alloc, (), &two, 64, &bytes)
 }
 
 #[test]

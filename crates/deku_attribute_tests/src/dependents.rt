@@ -2,13 +2,18 @@
 //!
 //! Printed by `derive` from `dependents.rs`.
 
-ghost use Rattle.std.specs.Prelude.{◌*◌, nat_eq, Some, refl};
+ghost use Rattle.std.specs.Prelude.{◌*◌, ◌≡◌, ◌⊎◌, ◌<◌, ◌≤◌, ◌^◌, nat_eq, Some, length, Ok, Err, codes, refl};
 ghost use Rattle.deku.specs.Composing.{Then};
 ghost use Rattle.deku.specs.Shapes.{Shows};
+ghost use Rattle.deku.specs.declared.error.DekuError.{DekuError as Refusal};
+ghost use Rattle.deku.specs.declared.error.DekuError.TheVariants.{Parse};
+ghost use Rattle.deku.specs.Faults.{Tells};
+ghost use Rattle.deku_symmetry.specs.Fields.{be};
 
 use deku::device::{Sink, Source};
 use deku::prelude::{
-    DekuContainerRead, DekuContainerWrite, DekuError, DekuReader, DekuWriter, Reader, Writer,
+    DekuContainerRead, DekuContainerWrite, DekuError, DekuReader, DekuUpdate, DekuWriter, Reader,
+    Writer,
 };
 use deku_symmetry::{
     Be, Condition, ConditionLaw, CountOf, CountOfLaw, CountedBy, CountedByRef, FilledBy, FromParts,
@@ -104,6 +109,275 @@ impl Record<()> for Counting {
 impl DekuContainerRead for Counting {}
 
 impl DekuContainerWrite for Counting {}
+
+/// A count that an update sets.
+#[derive(Debug, PartialEq, Eq, Drop)]
+pub struct Updating {
+    pub count: u8,
+    pub items: Vec<u8>,
+}
+
+/// How many `items` there are: `count`.
+#[derive(Debug, PartialEq, Eq, Drop)]
+pub struct UpdatingItemsCount;
+
+impl CountOf<u8> for UpdatingItemsCount {
+    ghost count_of = { λ p. Some p };
+
+    fn count(parts: &u8) -> Option<usize> {
+        let count = *parts as usize;
+        Some(count)
+    }
+}
+
+impl CountOfLaw<u8> for UpdatingItemsCount {
+    ghost alike = { λ v w e. rw e refl };
+}
+
+impl Updating {
+    /// The names of its parts, in their order.
+    pub const FIELDS: [&'static str; 2] = ["count", "items"];
+}
+
+// The parts of Updating, in their order.
+type UpdatingParts = CountedBy<u8, UpdatingItemsCount, u8>;
+
+impl FromParts for Updating {
+    type Parts = UpdatingParts;
+
+    ghost parts_of = { λ r. record { head = r.count; items = r.items; count = record {} } };
+
+    ghost record_of = { λ p. record { count = p.head; items = p.items } };
+
+    fn from_parts(parts: Self::Parts) -> Self {
+        let CountedBy {
+            head: count,
+            items,
+            ..
+        } = parts;
+        Updating { count, items }
+    }
+
+    ghost there = { λ r. refl };
+}
+
+impl DekuReader<()> for Updating {
+    ghost no_read_ahead = { ⟦<UpdatingParts as DekuReader<()>>⟧.no_read_ahead };
+
+    ghost meaning = { λ c. Then (⟦<UpdatingParts as DekuReader<()>>⟧.meaning c)
+        (Shows ⟦<Updating as FromParts>⟧.parts_of) };
+
+    #[inline(always)]
+    fn from_reader_with_ctx<R: Source>(reader: &mut Reader<R>, ctx: ()) -> Result<Self, DekuError> {
+        read_record(reader, ctx)
+    }
+}
+
+impl DekuWriter<()> for Updating {
+    ghost meaning = { λ v. ⟦<UpdatingParts as DekuWriter<()>>⟧.meaning
+        (⟦<Updating as FromParts>⟧.parts_of v) };
+
+    #[inline(always)]
+    fn to_writer<W: Sink>(&self, writer: &mut Writer<W>, ctx: ()) -> Result<(), DekuError> {
+        let parts = CountedByRef::<_, UpdatingItemsCount, _> {
+            head: self.count,
+            items: &self.items,
+            count: PhantomData,
+        };
+        parts.to_writer(writer, ctx)
+    }
+}
+
+impl Record<()> for Updating {
+    ghost reads = { λ c b s r u m. m };
+
+    ghost writes = { λ c v b s r u m. m };
+}
+
+impl DekuContainerRead for Updating {}
+
+impl DekuContainerWrite for Updating {}
+
+/// Sets `count` to the length of `items`.
+/// It fails with `Parse("error parsing int")`, and nothing changes, if a length does not fit.
+impl DekuUpdate for Updating {
+    ghost updates = { λ v r w. ((length v.items.items < 2 ^ 8)
+        × (r ≡ Ok tt)
+        × (w ≡ record v { count = length v.items.items }))
+        ⊎ ((2 ^ 8 ≤ length v.items.items)
+        × ((e : Refusal) × (r ≡ Err e) × Tells Parse (codes "error parsing int") e) × (w ≡ v)) };
+
+    fn update(&mut self) -> Result<(), DekuError> {
+        let count = u8::try_from(self.items.len())?;
+        self.count = count;
+        Ok(())
+    }
+}
+
+/// Two counts that an update sets.
+#[derive(Debug, PartialEq, Eq, Drop)]
+pub struct UpdatingTwo {
+    pub length: u8,
+    pub second: u16,
+    pub names: Vec<u8>,
+    pub values: Vec<Be<u16>>,
+}
+
+type UpdatingTwoNamesHead = (u8, Be<u16>);
+
+/// How many `names` there are: `length`.
+#[derive(Debug, PartialEq, Eq, Drop)]
+pub struct UpdatingTwoNamesCount;
+
+impl CountOf<UpdatingTwoNamesHead> for UpdatingTwoNamesCount {
+    ghost count_of = { λ p. Some p.0 };
+
+    fn count(parts: &UpdatingTwoNamesHead) -> Option<usize> {
+        let length = parts.0 as usize;
+        Some(length)
+    }
+}
+
+impl CountOfLaw<UpdatingTwoNamesHead> for UpdatingTwoNamesCount {
+    ghost alike = { λ v w e. rw e.0 refl };
+}
+
+type UpdatingTwoValuesHead = CountedBy<UpdatingTwoNamesHead, UpdatingTwoNamesCount, u8>;
+
+type UpdatingTwoValuesLent<'a> = CountedByRef<'a, UpdatingTwoNamesHead, UpdatingTwoNamesCount, u8>;
+
+/// How many `values` there are: `second`.
+#[derive(Debug, PartialEq, Eq, Drop)]
+pub struct UpdatingTwoValuesCount;
+
+impl CountOf<UpdatingTwoValuesHead> for UpdatingTwoValuesCount {
+    ghost count_of = { λ p. Some p.head.1.0 };
+
+    fn count(parts: &UpdatingTwoValuesHead) -> Option<usize> {
+        let second = parts.head.1.0 as usize;
+        Some(second)
+    }
+}
+
+impl<'a> CountOf<UpdatingTwoValuesLent<'a>> for UpdatingTwoValuesCount {
+    ghost count_of = { λ p. Some p.head.1.0 };
+
+    fn count(parts: &UpdatingTwoValuesLent<'a>) -> Option<usize> {
+        let second = parts.head.1.0 as usize;
+        Some(second)
+    }
+}
+
+impl CountOfLaw<UpdatingTwoValuesHead> for UpdatingTwoValuesCount {
+    ghost alike = { λ v w e. rw e.0.1 refl };
+}
+
+impl UpdatingTwo {
+    /// The names of its parts, in their order.
+    pub const FIELDS: [&'static str; 4] = ["length", "second", "names", "values"];
+}
+
+// The parts of UpdatingTwo, in their order.
+type UpdatingTwoParts = CountedBy<UpdatingTwoValuesHead, UpdatingTwoValuesCount, Be<u16>>;
+
+impl FromParts for UpdatingTwo {
+    type Parts = UpdatingTwoParts;
+
+    ghost parts_of = { λ r. record {
+      head = record { head = (r.length, be r.second); items = r.names; count = record {} };
+      items = r.values;
+      count = record {};
+    } };
+
+    ghost record_of = { λ p. record {
+      length = p.head.head.0;
+      second = p.head.head.1.0;
+      names = p.head.items;
+      values = p.items;
+    } };
+
+    fn from_parts(parts: Self::Parts) -> Self {
+        let CountedBy {
+            head: CountedBy {
+                head: (length, Be(second)),
+                items: names,
+                ..
+            },
+            items: values,
+            ..
+        } = parts;
+        UpdatingTwo {
+            length,
+            second,
+            names,
+            values,
+        }
+    }
+
+    ghost there = { λ r. refl };
+}
+
+impl DekuReader<()> for UpdatingTwo {
+    ghost no_read_ahead = { ⟦<UpdatingTwoParts as DekuReader<()>>⟧.no_read_ahead };
+
+    ghost meaning = { λ c. Then (⟦<UpdatingTwoParts as DekuReader<()>>⟧.meaning c)
+        (Shows ⟦<UpdatingTwo as FromParts>⟧.parts_of) };
+
+    #[inline(always)]
+    fn from_reader_with_ctx<R: Source>(reader: &mut Reader<R>, ctx: ()) -> Result<Self, DekuError> {
+        read_record(reader, ctx)
+    }
+}
+
+impl DekuWriter<()> for UpdatingTwo {
+    ghost meaning = { λ v. ⟦<UpdatingTwoParts as DekuWriter<()>>⟧.meaning
+        (⟦<UpdatingTwo as FromParts>⟧.parts_of v) };
+
+    #[inline(always)]
+    fn to_writer<W: Sink>(&self, writer: &mut Writer<W>, ctx: ()) -> Result<(), DekuError> {
+        let parts = CountedByRef::<_, UpdatingTwoValuesCount, _> {
+            head: CountedByRef::<_, UpdatingTwoNamesCount, _> {
+                head: (self.length, Be(self.second)),
+                items: &self.names,
+                count: PhantomData,
+            },
+            items: &self.values,
+            count: PhantomData,
+        };
+        parts.to_writer(writer, ctx)
+    }
+}
+
+impl Record<()> for UpdatingTwo {
+    ghost reads = { λ c b s r u m. m };
+
+    ghost writes = { λ c v b s r u m. m };
+}
+
+impl DekuContainerRead for UpdatingTwo {}
+
+impl DekuContainerWrite for UpdatingTwo {}
+
+/// Sets `length` to the length of `names`,
+/// and `second` to the length of `values`.
+/// It fails with `Parse("error parsing int")`, and nothing changes, if a length does not fit.
+impl DekuUpdate for UpdatingTwo {
+    ghost updates = { λ v r w. ((length v.names.items < 2 ^ 8)
+        × (length v.values.items < 2 ^ 16)
+        × (r ≡ Ok tt)
+        × (w ≡ record v { length = length v.names.items; second = length v.values.items }))
+        ⊎ (((2 ^ 8 ≤ length v.names.items)
+        ⊎ (2 ^ 16 ≤ length v.values.items))
+        × ((e : Refusal) × (r ≡ Err e) × Tells Parse (codes "error parsing int") e) × (w ≡ v)) };
+
+    fn update(&mut self) -> Result<(), DekuError> {
+        let length = u8::try_from(self.names.len())?;
+        let second = u16::try_from(self.values.len())?;
+        self.length = length;
+        self.second = second;
+        Ok(())
+    }
+}
 
 /// Items after their number, which the record does not keep.
 #[derive(Debug, PartialEq, Eq, Drop)]

@@ -264,7 +264,9 @@ impl<'a> Checker<'a> {
                 "pad_bits_before" | "pad_bytes_before" | "pad_bits_after" | "pad_bytes_after" => {
                     self.padding(*attribute)?
                 }
-                "ctx" | "until" | "temp_value" | "read_all" | "temp" => plain(*attribute),
+                "ctx" | "until" | "temp_value" | "update" | "read_all" | "temp" => plain(
+                    *attribute,
+                ),
                 _ => self.computed(*attribute, scope)?,
             };
             if let Some(checked) = checked {
@@ -374,6 +376,7 @@ fn plain<'a>(attribute: syntax::Attribute<'a>) -> Option<Attribute<'a>> {
         ("ctx", Some(value)) => Some(Attribute::Context(value.token)),
         ("until", Some(value)) => Some(Attribute::Until(value.token)),
         ("temp_value", Some(value)) => Some(Attribute::TempValue(value.token)),
+        ("update", Some(value)) => Some(Attribute::Update(value.token)),
         _ => None,
     }
 }

@@ -180,4 +180,6 @@ pub enum Attribute<'a> {
     Temp,
     /// `temp_value`
     TempValue(Token<'a>),
+    /// `update`
+    Update(Token<'a>),
 }

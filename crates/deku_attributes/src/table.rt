@@ -25,7 +25,7 @@ pub enum Verdict {
 }
 
 // The attributes that have a part, and where deku takes them: structs, enums, fields, kinds.
-const TAKEN: [(&str, &str); 24] = [
+const TAKEN: [(&str, &str); 25] = [
     ("endian", "sef"),
     ("bit_order", "sef"),
     ("magic", "sef"),
@@ -50,10 +50,11 @@ const TAKEN: [(&str, &str); 24] = [
     ("pad_bytes_after", "f"),
     ("temp", "f"),
     ("temp_value", "f"),
+    ("update", "f"),
 ];
 
 // The attributes that have no part: where deku takes them, why, and what to write instead.
-const REFUSED: [(&str, &str, &str, &str); 13] = [
+const REFUSED: [(&str, &str, &str, &str); 12] = [
     (
         "ctx_default",
         "se",
@@ -89,12 +90,6 @@ const REFUSED: [(&str, &str, &str, &str); 13] = [
         "fk",
         "a value that is not read is not read back as it was written",
         "use `Option` with `cond`, which is `None` where the condition fails",
-    ),
-    (
-        "update",
-        "f",
-        "a field is written as it is",
-        "set the field before the record is written",
     ),
     (
         "seek_from_current",

@@ -3,8 +3,9 @@
 use crate::computing::{Computed, Computer, is_name, literal, names};
 use crate::marker;
 use crate::marker::{Amount, Marker};
-use crate::refusing::partless;
+use crate::refusing::{partless, refused};
 use crate::temporary::{Temporary, is_temporary};
+use crate::updating::{Updated, is_updated};
 use deku_attributes::model::{Attribute, Endian, Field, Order};
 use deku_attributes::reading::bits_of;
 use deku_description::syntax::{Constant, Expression, Operator, Type};
@@ -115,6 +116,7 @@ impl<'b, 'a> Builder<'b, 'a> {
 
     /// The parts of fields, without this many in front.
     pub fn fields(&mut self, fields: &[Field<'a>], skipped: usize) -> Result<(), AllocError> {
+        self.updates(fields)?;
         for (i, field) in fields.iter().enumerate().skip(skipped) {
             let name = field_name(self.alloc, field, i)?;
             let place = format!(in self.alloc; "{i}")?;
@@ -137,6 +139,22 @@ impl<'b, 'a> Builder<'b, 'a> {
             }
             _ => Ok(()),
         }
+    }
+
+    // Complains of updates that are not the length of a list.
+    fn updates(&mut self, fields: &[Field<'a>]) -> Result<(), AllocError> {
+        for field in fields {
+            let is_length = self.owner != Owner::Kind && Updated::of(field, fields).is_some();
+            if is_updated(field) && !is_length {
+                let wrong = self.wrong(
+                    field.span,
+                    "an update that is not the length of a list of the struct",
+                    "write `update = \"self.LIST.len()\"`, or set the field before it is written",
+                );
+                self.noted(wrong)?;
+            }
+        }
+        Ok(())
     }
 
     // Whether a field has a part. If not, what is wrong with it is noted.
@@ -314,6 +332,7 @@ impl<'b, 'a> Builder<'b, 'a> {
                 Attribute::AssertEq(expression) => said.equal = Some(expression),
                 Attribute::PadBefore(bits) => said.before = *bits,
                 Attribute::PadAfter(bits) => said.after = *bits,
+                Attribute::Update(_) => {}
                 other => {
                     let (message, help) = refused(other);
                     return self.wrong(field.span, message, help);
@@ -771,22 +790,4 @@ fn magic_kind(
         (Order::Msb, 2 | 4 | 8) => ("Be", format!(in alloc; "Be<u{bits}>")?),
         (Order::Msb, _) => ("Msb", format!(in alloc; "Msb<u64, {bits}>")?),
     })
-}
-
-// Why an attribute is refused, and what to write in its place.
-fn refused(attribute: &Attribute<'_>) -> (&'static str, &'static str) {
-    match attribute {
-        Attribute::Bits(_) | Attribute::Bytes(_) => (
-            "a width that a field says is not supported",
-            "write a number, or a record for each width",
-        ),
-        Attribute::Context(_) => (
-            "values that are given to a field are not supported",
-            "move the fields that need them into this record",
-        ),
-        _ => (
-            "a list that ends with an item of its own is not supported",
-            "write `CString` for a text, or `count`",
-        ),
-    }
 }

@@ -6,3 +6,4 @@ pub mod computing;
 pub mod marker;
 mod refusing;
 pub mod temporary;
+pub mod updating;

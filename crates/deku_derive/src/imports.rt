@@ -53,18 +53,19 @@ const PARTS: [&str; 43] = [
 ];
 
 // The names of deku.
-const PRELUDE: [&str; 7] = [
+const PRELUDE: [&str; 8] = [
     "DekuContainerRead",
     "DekuContainerWrite",
     "DekuError",
     "DekuReader",
+    "DekuUpdate",
     "DekuWriter",
     "Reader",
     "Writer",
 ];
 
 // Words of ghost text, with what of it is looked for.
-const WORDS: [(&str, &str); 16] = [
+const WORDS: [(&str, &str); 24] = [
     ("◌+◌", " + "),
     ("◌-◌", " - "),
     ("◌*◌", " * "),
@@ -72,6 +73,11 @@ const WORDS: [(&str, &str); 16] = [
     ("◌%◌", " % "),
     ("◌&&◌", " && "),
     ("◌||◌", " || "),
+    ("◌≡◌", " ≡ "),
+    ("◌⊎◌", "⊎ "),
+    ("◌<◌", " < "),
+    ("◌≤◌", " ≤ "),
+    ("◌^◌", "2 ^ "),
     ("not", "not "),
     ("nat_eq", "nat_eq "),
     ("nat_lt", "nat_lt "),
@@ -79,6 +85,9 @@ const WORDS: [(&str, &str); 16] = [
     ("None", "then None "),
     ("Some", "Some "),
     ("if◌then◌else◌", "if "),
+    ("length", "(length v."),
+    ("Ok", "≡ Ok "),
+    ("Err", "≡ Err "),
     ("codes", "codes "),
     ("refl", "refl"),
 ];
@@ -103,6 +112,7 @@ pub(crate) fn imports(
     writeln!(out, "\nghost use Rattle.std.specs.Prelude.{{{words}}};")?;
     out.push_str("ghost use Rattle.deku.specs.Composing.{Then};\n")?;
     out.push_str("ghost use Rattle.deku.specs.Shapes.{Shows};\n")?;
+    refusals(out, term.as_str())?;
     made(out, term.as_str())?;
     kinds(out, module, path)?;
     out.push('\n')?;
@@ -119,6 +129,17 @@ pub(crate) fn imports(
     used(out, "std::alloc", &["Global"], code.as_str())?;
     used(out, "std::marker", &["PhantomData"], code.as_str())?;
     used(out, "std::net", &["Ipv4Addr", "Ipv6Addr"], code.as_str())
+}
+
+// Appends the words for the refusals of an update, if ghost text has one.
+fn refusals(out: &mut String, text: &str) -> Result<(), AllocError> {
+    if !text.contains("Tells Parse") {
+        return Ok(());
+    }
+    out.push_str("ghost use Rattle.deku.specs.declared.error.")?;
+    out.push_str("DekuError.{DekuError as Refusal};\n")?;
+    out.push_str("ghost use Rattle.deku.specs.declared.error.DekuError.TheVariants.{Parse};\n")?;
+    out.push_str("ghost use Rattle.deku.specs.Faults.{Tells};\n")
 }
 
 // Appends the words for parts of one value that ghost text has.

@@ -7,3 +7,4 @@ mod imports;
 pub mod making;
 pub mod printing;
 mod structs;
+mod updates;

@@ -1,5 +1,6 @@
 //! Structs, as they are printed.
 
+use crate::updates::update;
 use deku_attributes::model::{Field, Record};
 use deku_dependents::building::{Builder, field_name};
 use deku_dependents::temporary::is_temporary;
@@ -119,7 +120,8 @@ pub(crate) fn implementation(
     let mut body = String::from_str(alloc, "let parts = ")?;
     whole.value.print(&mut body, 8, 1, false)?;
     body.push_str(";\n        parts.to_writer(writer, ctx)")?;
-    traits(out, name, body.as_str())
+    traits(out, name, body.as_str())?;
+    update(out, name, fields)
 }
 
 /// Appends the type of a record's parts, and what makes the record of them, up to its ghost text.

@@ -143,7 +143,7 @@ struct B { #[deku(temp, temp_value = \"1\")] a: u8 }",
 ];
 
 // Descriptions that deku takes and that have no module.
-const UNPRINTED: [(&str, &str); 32] = [
+const UNPRINTED: [(&str, &str); 37] = [
     (
         "#[deku(id_type = \"u8\")] enum E {
          #[deku(id_pat = \"2..=6\")] A, #[deku(id_pat = \"_\")] B }",
@@ -254,6 +254,29 @@ const UNPRINTED: [(&str, &str); 32] = [
 #[deku(count = \"n\")] v: Vec<u8> }",
         "1:66 a field that the record does not keep, and that does not count the list after it
 2:17 a name that is no field in front of this one",
+    ),
+    (
+        "struct A {
+#[deku(update = \"self.v.len() + 1\")] n: u8, #[deku(count = \"n\")] v: Vec<u8> }",
+        "2:41 an update that is not the length of a list of the struct",
+    ),
+    (
+        "struct A {
+#[deku(update = \"self.w.len()\")] n: u8, #[deku(count = \"n\")] v: Vec<u8> }",
+        "2:37 an update that is not the length of a list of the struct",
+    ),
+    (
+        "struct A { #[deku(update = \"self.v.len()\")] n: i8, v: u8 }",
+        "1:48 an update that is not the length of a list of the struct",
+    ),
+    (
+        "struct A { #[deku(update = \"self.v.len()\")] n: u8, v: [u8; 2] }",
+        "1:48 an update that is not the length of a list of the struct",
+    ),
+    (
+        "#[deku(id_type = \"u8\")]
+enum A { #[deku(id = 1)] B { #[deku(update = \"self.v.len()\")] n: u8 } }",
+        "2:66 an update that is not the length of a list of the struct",
     ),
     (
         "struct A { n: u8, #[deku(bits = \"n\")] v: u8 }",

@@ -3,13 +3,14 @@
 use std::alloc::{AllocError, Global};
 
 // The names that a module imports or that its bounds have.
-const IMPORTED: [&str; 59] = [
+const IMPORTED: [&str; 60] = [
     "Source",
     "Sink",
     "DekuContainerRead",
     "DekuContainerWrite",
     "DekuError",
     "DekuReader",
+    "DekuUpdate",
     "DekuWriter",
     "Reader",
     "Writer",
