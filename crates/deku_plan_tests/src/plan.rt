@@ -127,7 +127,7 @@ fn says_sizes(rt: HostRuntime) -> Result<(), Fail> {
     Ok(())
 }
 
-// Why a plan is refused, if it is. Want of memory, which nobody asked for, is handed on.
+// Why a plan is refused, if it is. If memory runs out, the test fails.
 fn refusal(plan: Result<Plan, DekuError>) -> Result<Option<DekuError>, DekuError> {
     match plan {
         Ok(_) => Ok(None),

@@ -46,77 +46,80 @@ fn expect_printed(
     same(&words, &seen, &(text.as_bytes(), line.as_bytes()))
 }
 
+// Two fields of a record.
+const HALVES: &[&str] = &["kind:u8,big,bits4", "size:u16,big,bits12"];
+
+// Words, a form, the input, what is printed, and the line of the error stream, if there is one.
+const PRINTED: [(&[&str], Form, &[u8], &str, &str); 10] = [
+    (
+        HALVES,
+        CSV,
+        b"69c0FEDC\n",
+        "kind,size\n6,2496\n15,3804\n",
+        "",
+    ),
+    (
+        HALVES,
+        CSV,
+        b"69 c0\nFE DC",
+        "kind,size\n6,2496\n15,3804\n",
+        "",
+    ),
+    (
+        HALVES,
+        JSON,
+        b"69c0FEDC",
+        "{\"kind\":6,\"size\":2496}\n{\"kind\":15,\"size\":3804}\n",
+        "",
+    ),
+    (HALVES, RAW, &[0x69, 0xC0], "kind,size\n6,2496\n", ""),
+    (HALVES, CSV, b"", "kind,size\n", ""),
+    (
+        HALVES,
+        CSV,
+        b"69c0FE",
+        "kind,size\n6,2496\n",
+        "error: record 2 is cut short: 8 of its 16 bits are there, from bit 16 on\n",
+    ),
+    (
+        HALVES,
+        CSV,
+        b"69c",
+        "kind,size\n",
+        "error: bad hexadecimal text\n",
+    ),
+    (
+        HALVES,
+        CSV,
+        b"69xx",
+        "kind,size\n",
+        "error: bad hexadecimal text\n",
+    ),
+    (
+        &["u8,big,bits4", "i8,big,bits8"],
+        CSV,
+        b"69cfFE",
+        "1,2\n6,-100\n15,-2\n",
+        "",
+    ),
+    (
+        &["wide:u128,big"],
+        JSON,
+        b"ffffffffffffffffffffffffffffffff",
+        "{\"wide\":340282366920938463463374607431768211455}\n",
+        "",
+    ),
+];
+
 #[test]
 fn prints_rows(rt: HostRuntime) -> Result<(), Fail> {
-    let halves: &[&str] = &["kind:u8,big,bits4", "size:u16,big,bits12"];
-    let rows: [(&[&str], Form, &[u8], &str, &str); 10] = [
-        (
-            halves,
-            CSV,
-            b"69c0FEDC\n",
-            "kind,size\n6,2496\n15,3804\n",
-            "",
-        ),
-        (
-            halves,
-            CSV,
-            b"69 c0\nFE DC",
-            "kind,size\n6,2496\n15,3804\n",
-            "",
-        ),
-        (
-            halves,
-            JSON,
-            b"69c0FEDC",
-            "{\"kind\":6,\"size\":2496}\n{\"kind\":15,\"size\":3804}\n",
-            "",
-        ),
-        (halves, RAW, &[0x69, 0xC0], "kind,size\n6,2496\n", ""),
-        (halves, CSV, b"", "kind,size\n", ""),
-        (
-            halves,
-            CSV,
-            b"69c0FE",
-            "kind,size\n6,2496\n",
-            "error: record 2 is cut short: 8 of its 16 bits are there, from bit 16 on\n",
-        ),
-        (
-            halves,
-            CSV,
-            b"69c",
-            "kind,size\n",
-            "error: bad hexadecimal text\n",
-        ),
-        (
-            halves,
-            CSV,
-            b"69xx",
-            "kind,size\n",
-            "error: bad hexadecimal text\n",
-        ),
-        (
-            &["u8,big,bits4", "i8,big,bits8"],
-            CSV,
-            b"69cfFE",
-            "1,2\n6,-100\n15,-2\n",
-            "",
-        ),
-        (
-            &["wide:u128,big"],
-            JSON,
-            b"ffffffffffffffffffffffffffffffff",
-            "{\"wide\":340282366920938463463374607431768211455}\n",
-            "",
-        ),
-    ];
-    for (words, form, input, text, line) in rows {
+    for (words, form, input, text, line) in PRINTED {
         expect_printed(rt.alloc(), words, form, input, (text, line))?;
     }
     Ok(())
 }
 
-// Why words make no columns, if they make none. Want of memory, which nobody asked for, is handed
-// on.
+// Why words make no columns, if they make none. If memory runs out, the test fails.
 fn refusal<'a>(
     columns: Result<Columns, NoColumns<'a>>,
 ) -> Result<Option<NoColumns<'a>>, DekuError> {
