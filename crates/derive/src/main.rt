@@ -41,11 +41,19 @@ fn command<'a>(alloc: Global) -> Result<Command<'a>, Error> {
         .action(ArgAction::Set)
         .conflicts_with("check")?
         .help("Writes the module there");
+    let command = Command::new(alloc, "derive").about(ABOUT);
+    options(alloc, command.arg(file)?.arg(module)?.arg(output)?)
+}
+
+// The command with the words that do not name files.
+fn options<'a>(alloc: Global, command: Command<'a>) -> Result<Command<'a>, Error> {
     let path = Arg::new(alloc, "module")
         .long("module")
         .value_name("NAME::MODULE")
         .action(ArgAction::Set)
-        .help("The crate and the module, for enums; of crates/NAME/src/MODULE.rt it is known");
+        .help(
+            "The crate and the module, which enums need; -o crates/NAME/src/MODULE.rt gives them too",
+        );
     let check = Arg::new(alloc, "check")
         .long("check")
         .action(ArgAction::SetTrue)
@@ -60,17 +68,7 @@ fn command<'a>(alloc: Global) -> Result<Command<'a>, Error> {
         .long("header")
         .action(ArgAction::SetTrue)
         .help("Prints the header of these functions");
-    let command = Command::new(alloc, "derive").about(ABOUT);
-    Ok(
-        command
-            .arg(file)?
-            .arg(module)?
-            .arg(output)?
-            .arg(path)?
-            .arg(check)?
-            .arg(for_c)?
-            .arg(header)?,
-    )
+    Ok(command.arg(path)?.arg(check)?.arg(for_c)?.arg(header)?)
 }
 
 // Does what the words ask for. Whether it succeeded; if not, the error is printed.
