@@ -51,9 +51,7 @@ fn options<'a>(alloc: Global, command: Command<'a>) -> Result<Command<'a>, Error
         .long("module")
         .value_name("NAME::MODULE")
         .action(ArgAction::Set)
-        .help(
-            "The crate and the module, which enums need; -o crates/NAME/src/MODULE.rt gives them too",
-        );
+        .help("The crate and the module, for enums; -o crates/NAME/src/MODULE.rt gives them too");
     let check = Arg::new(alloc, "check")
         .long("check")
         .action(ArgAction::SetTrue)
