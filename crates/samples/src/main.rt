@@ -9,6 +9,7 @@ use std::io::{BufReader, BufWriter, Write};
 use std::process::ExitCode;
 use std::{env, io};
 
+mod batch;
 mod event;
 mod log;
 mod sample;

@@ -1,9 +1,11 @@
 //! Values of each record, packed and unpacked.
 
+use crate::batch::Batch;
 use crate::event::Event;
 use crate::log::sample_of;
 use crate::sample::Sample;
 use crate::timed::Timed;
+use deku::prelude::DekuUpdate;
 use deku_symmetry::{Be, Symmetric};
 use std::test::Fail;
 
@@ -28,6 +30,17 @@ fn a_time_that_is_there(rt: HostRuntime) -> Result<(), Fail> {
     let bytes = [0x07, 0xC0, 0xFE, 0, 0, 0, 60].as_slice();
     assert_eq!(rt; timed.pack(rt.alloc(), ())?.as_slice(), bytes);
     assert_eq!(rt; Timed::unpack(rt.alloc(), bytes, ())?, (56, timed));
+    Ok(())
+}
+
+#[test]
+fn a_batch(rt: HostRuntime) -> Result<(), Fail> {
+    let values = vec![in rt.alloc(); Be(-2), Be(5)]?;
+    let mut batch = Batch { count: 0, values };
+    batch.update()?; // `count` is 2
+    let bytes = [2, 0xFF, 0xFE, 0, 5].as_slice();
+    assert_eq!(rt; batch.pack(rt.alloc(), ())?.as_slice(), bytes);
+    assert_eq!(rt; Batch::unpack(rt.alloc(), bytes, ())?, (40, batch));
     Ok(())
 }
 
