@@ -2,7 +2,7 @@
 
 use crate::computing::{Computed, Computer, is_name, literal, names};
 use crate::marker;
-use crate::marker::{Amount, Marker};
+use crate::marker::{Amount, Marker, magic_kind, number_of};
 use crate::refusing::{partless, refused};
 use crate::temporary::{Temporary, is_temporary};
 use crate::updating::{Updated, is_updated};
@@ -38,6 +38,8 @@ pub struct Builder<'b, 'a> {
     pub complaints: Vec<Complaint>,
     // Whether its last part takes the rest of the input.
     is_ended: bool,
+    // Whether a part lends memory in more than one place. It is never beside others.
+    is_nested: bool,
     // The count that the record does not keep, if the last field was one.
     temporary: Option<Temporary<'a>>,
 }
@@ -66,15 +68,6 @@ fn word_of(form: Dependent) -> &'static str {
     }
 }
 
-// The number of at most eight bytes, the high one first.
-fn number_of(bytes: &[u8]) -> u64 {
-    let mut number = 0u64;
-    for byte in bytes {
-        number = (number << 8) | u64::from(*byte);
-    }
-    number
-}
-
 impl<'b, 'a> Builder<'b, 'a> {
     pub fn new(
         alloc: Global,
@@ -94,6 +87,7 @@ impl<'b, 'a> Builder<'b, 'a> {
             names: Vec::new(alloc),
             complaints: Vec::new(alloc),
             is_ended: false,
+            is_nested: false,
             temporary: None,
         })
     }
@@ -132,13 +126,22 @@ impl<'b, 'a> Builder<'b, 'a> {
                 self.leaf(field, named)?;
             }
         }
-        match (self.temporary.take(), fields.last()) {
-            (Some(_), Some(field)) => {
-                let last = self.no_count(field);
-                self.noted(last)
-            }
-            _ => Ok(()),
+        let Some(last) = fields.last() else {
+            return Ok(());
+        };
+        if self.temporary.take().is_some() {
+            let wrong = self.no_count(last);
+            self.noted(wrong)?;
         }
+        if self.is_nested && (self.is_ended || self.items.len() > 1) {
+            let wrong = self.wrong(
+                last.span,
+                "a field after a list or an option that has another one in front",
+                "move the list or the option to the end",
+            );
+            self.noted(wrong)?;
+        }
+        Ok(())
     }
 
     // Complains of updates that are not the length of a list.
@@ -494,8 +497,8 @@ impl<'b, 'a> Builder<'b, 'a> {
         Ok(())
     }
 
-    // The parts that hold the fields an expression names, as one. A field of the last part is used
-    // in any case if that is said.
+    // The parts that hold the fields an expression names, as one; all parts, if they lend memory.
+    // A field of the last part is used in any case if that is said.
     fn head(&mut self, expression: &Expression<'a>, is_last: bool) -> Result<Part<'a>, AllocError> {
         let mut first = self.items.len();
         if is_last {
@@ -512,6 +515,16 @@ impl<'b, 'a> Builder<'b, 'a> {
         }
         if first == self.items.len() {
             first = first.saturating_sub(1);
+        }
+        let lent = self
+            .items
+            .iter()
+            .skip(first)
+            .filter(|it| it.is_lent)
+            .count();
+        if lent > 1 || (lent == 1 && !is_last) {
+            self.is_nested = true;
+            first = 0;
         }
         let mut taken = Vec::new(self.alloc);
         let mut kept = Vec::new(self.alloc);
@@ -775,19 +788,4 @@ pub fn field_name(alloc: Global, field: &Field<'_>, place: usize) -> Result<Stri
         Some(name) => String::from_str(alloc, name.text),
         None => format!(in alloc; "field_{place}"),
     }
-}
-
-// The constructor and the type of a number of so many bytes.
-fn magic_kind(
-    alloc: Global,
-    count: usize,
-    order: Order,
-) -> Result<(&'static str, String), AllocError> {
-    let bits = count.saturating_mul(8);
-    Ok(match (order, count) {
-        (Order::Lsb, _) => ("LsbBe", format!(in alloc; "LsbBe<u64, {bits}>")?),
-        (Order::Msb, 1) => ("", format!(in alloc; "u8")?),
-        (Order::Msb, 2 | 4 | 8) => ("Be", format!(in alloc; "Be<u{bits}>")?),
-        (Order::Msb, _) => ("Msb", format!(in alloc; "Msb<u64, {bits}>")?),
-    })
 }

@@ -2,6 +2,7 @@
 //! the parts have.
 
 use crate::computing::{Computed, Computer};
+use deku_attributes::model::Order;
 use deku_texts::part::Place;
 use deku_texts::refusal::Stop;
 use std::alloc::{AllocError, Global};
@@ -382,4 +383,28 @@ fn alike(
         _ => ") refl };\n}\n",
     })?;
     Ok(())
+}
+
+/// The number of at most eight bytes, the high one first.
+pub(crate) fn number_of(bytes: &[u8]) -> u64 {
+    let mut number = 0u64;
+    for byte in bytes {
+        number = (number << 8) | u64::from(*byte);
+    }
+    number
+}
+
+/// The constructor and the type of a number of so many bytes.
+pub(crate) fn magic_kind(
+    alloc: Global,
+    count: usize,
+    order: Order,
+) -> Result<(&'static str, String), AllocError> {
+    let bits = count.saturating_mul(8);
+    Ok(match (order, count) {
+        (Order::Lsb, _) => ("LsbBe", format!(in alloc; "LsbBe<u64, {bits}>")?),
+        (Order::Msb, 1) => ("", format!(in alloc; "u8")?),
+        (Order::Msb, 2 | 4 | 8) => ("Be", format!(in alloc; "Be<u{bits}>")?),
+        (Order::Msb, _) => ("Msb", format!(in alloc; "Msb<u64, {bits}>")?),
+    })
 }

@@ -35,12 +35,12 @@ pub(crate) fn refused(attribute: &Attribute<'_>) -> (&'static str, &'static str)
             "write a number, or a record for each width",
         ),
         Attribute::Context(_) => (
-            "values that are given to a field are not supported",
+            "`ctx` is not supported: values that are given to a field",
             "move the fields that need them into this record",
         ),
         _ => (
-            "a list that ends with an item of its own is not supported",
-            "write `CString` for a text, or `count`",
+            "`until` is not supported: a list that ends with an item of its own",
+            "write `CString` for a text, or the record by its parts, with `Until`",
         ),
     }
 }

@@ -143,7 +143,7 @@ struct B { #[deku(temp, temp_value = \"1\")] a: u8 }",
 ];
 
 // Descriptions that deku takes and that have no module.
-const UNPRINTED: [(&str, &str); 37] = [
+const UNPRINTED: [(&str, &str); 39] = [
     (
         "#[deku(id_type = \"u8\")] enum E {
          #[deku(id_pat = \"2..=6\")] A, #[deku(id_pat = \"_\")] B }",
@@ -218,7 +218,17 @@ const UNPRINTED: [(&str, &str); 37] = [
     ),
     (
         "struct A { #[deku(until = \"|v: &u8| *v == 0\")] v: Vec<u8> }",
-        "1:51 a list that ends with an item of its own is not supported",
+        "1:51 `until` is not supported: a list that ends with an item of its own",
+    ),
+    (
+        "struct A { f: bool, n: u8, #[deku(count = \"n\")] v: Vec<u8>,
+#[deku(cond = \"f\")] o: Option<u8>, z: u8 }",
+        "2:39 a field after a list or an option that has another one in front",
+    ),
+    (
+        "struct A { n: u8, #[deku(count = \"n\")] v: Vec<u8>,
+#[deku(count = \"n\")] w: Vec<u8>, #[deku(read_all)] z: Vec<u8> }",
+        "2:55 a field after a list or an option that has another one in front",
     ),
     (
         "struct A { #[deku(read_all)] v: Vec<u8>, w: u8 }",

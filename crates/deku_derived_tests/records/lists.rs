@@ -30,6 +30,20 @@ pub struct Pair {
     pub value: Vec<u16>,
 }
 
+/// Values, and a time after them if a flag in front says so.
+#[deku(endian = "big")]
+pub struct Late {
+    #[deku(bits = 7)]
+    pub sensor: u8,
+    #[deku(bits = 1)]
+    pub has_time: bool,
+    pub count: u8,
+    #[deku(count = "count")]
+    pub values: Vec<i16>,
+    #[deku(cond = "*has_time")]
+    pub time: Option<u32>,
+}
+
 /// A log, which goes on to the end.
 #[deku(endian = "big")]
 pub struct Log {

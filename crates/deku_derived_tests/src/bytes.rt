@@ -1,7 +1,7 @@
 //! Records as bytes and back.
 
 use crate::gre::Gre;
-use crate::lists::{Entry, Log, Pair, Table};
+use crate::lists::{Entry, Late, Log, Pair, Table};
 use crate::shape::Shape;
 use deku::prelude::{DekuError, NeedSize};
 use deku_messages::ntp::Ntp;
@@ -114,6 +114,32 @@ fn lists_whose_counts_come_first(rt: HostRuntime) -> Result<(), Fail> {
     };
     let bytes = [0x02, 0x01, 0x68, 0x69, 0x01, 0x02];
     expect_packed(alloc, (), &pair, 48, &bytes)
+}
+
+#[test]
+fn an_option_after_a_list(rt: HostRuntime) -> Result<(), Fail> {
+    let alloc = rt.alloc();
+    let late = Late {
+        sensor: 5,
+        has_time: true,
+        count: 2,
+        values: vec![in alloc; Be(-2), Be(0x0102)]?,
+        time: Some(Be(0x0304_0506)),
+    };
+    let bytes = [0x0B, 0x02, 0xFF, 0xFE, 0x01, 0x02, 0x03, 0x04, 0x05, 0x06];
+    expect_packed(alloc, (), &late, 80, &bytes)?;
+    let without = Late {
+        has_time: false,
+        time: None,
+        ..late
+    };
+    expect_packed(
+        alloc,
+        (),
+        &without,
+        48,
+        &[0x0A, 0x02, 0xFF, 0xFE, 0x01, 0x02],
+    )
 }
 
 #[test]

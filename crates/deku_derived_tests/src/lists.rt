@@ -12,8 +12,9 @@ use deku::prelude::{
     DekuContainerRead, DekuContainerWrite, DekuError, DekuReader, DekuWriter, Reader, Writer,
 };
 use deku_symmetry::{
-    Be, Before, CountOf, CountOfLaw, CountedBy, CountedByRef, FilledBy, FromParts, Msb, Record,
-    Rest, SizeOf, SizeOfLaw, SizedBy, ToParts, read_record, write_record,
+    Be, Before, Condition, ConditionLaw, CountOf, CountOfLaw, CountedBy, CountedByRef, FilledBy,
+    FromParts, Msb, Optional, OptionalRef, Record, Rest, SizeOf, SizeOfLaw, SizedBy, ToParts,
+    read_record, write_record,
 };
 use std::marker::PhantomData;
 
@@ -346,6 +347,169 @@ impl Record<()> for Pair {
 impl DekuContainerRead for Pair {}
 
 impl DekuContainerWrite for Pair {}
+
+/// Values, and a time after them if a flag in front says so.
+#[derive(Debug, PartialEq, Eq, Drop)]
+pub struct Late {
+    pub sensor: u8,
+    pub has_time: bool,
+    pub count: u8,
+    pub values: Vec<Be<i16>>,
+    pub time: Option<Be<u32>>,
+}
+
+/// How many `values` there are: `count`.
+#[derive(Debug, PartialEq, Eq, Drop)]
+pub struct LateValuesCount;
+
+impl CountOf<u8> for LateValuesCount {
+    ghost count_of = { λ p. Some p };
+
+    fn count(parts: &u8) -> Option<usize> {
+        let count = *parts as usize;
+        Some(count)
+    }
+}
+
+impl CountOfLaw<u8> for LateValuesCount {
+    ghost alike = { λ v w e. rw e refl };
+}
+
+type LateTimeHead = (
+    Msb<u8, 7>,
+    Msb<bool, 1>,
+    CountedBy<u8, LateValuesCount, Be<i16>>,
+);
+
+type LateTimeLent<'a> = (
+    Msb<u8, 7>,
+    Msb<bool, 1>,
+    CountedByRef<'a, u8, LateValuesCount, Be<i16>>,
+);
+
+/// Whether `time` is there: `has_time`.
+#[derive(Debug, PartialEq, Eq, Drop)]
+pub struct LateTimeCondition;
+
+impl Condition<LateTimeHead> for LateTimeCondition {
+    ghost shows = { λ p. p.1.0 };
+
+    fn shows(parts: &LateTimeHead) -> bool {
+        parts.1.0
+    }
+}
+
+impl<'a> Condition<LateTimeLent<'a>> for LateTimeCondition {
+    ghost shows = { λ p. p.1.0 };
+
+    fn shows(parts: &LateTimeLent<'a>) -> bool {
+        parts.1.0
+    }
+}
+
+impl ConditionLaw<LateTimeHead> for LateTimeCondition {
+    ghost alike = { λ v w e. rw e.1.0 refl };
+}
+
+impl Late {
+    /// The names of its parts, in their order.
+    pub const FIELDS: [&'static str; 5] = ["sensor", "has_time", "count", "values", "time"];
+}
+
+// The parts of Late, in their order.
+type LateParts = Optional<LateTimeHead, LateTimeCondition, Be<u32>>;
+
+impl FromParts for Late {
+    type Parts = LateParts;
+
+    ghost parts_of = { λ r. record {
+      head = (
+        msb r.sensor,
+        msb r.has_time,
+        record { head = r.count; items = r.values; count = record {} },
+      );
+      item = r.time;
+      condition = record {};
+    } };
+
+    ghost record_of = { λ p. record {
+      sensor = p.head.0.0;
+      has_time = p.head.1.0;
+      count = p.head.2.head;
+      values = p.head.2.items;
+      time = p.item;
+    } };
+
+    fn from_parts(parts: Self::Parts) -> Self {
+        let Optional {
+            head: (
+                Msb(sensor),
+                Msb(has_time),
+                CountedBy {
+                    head: count,
+                    items: values,
+                    ..
+                },
+            ),
+            item: time,
+            ..
+        } = parts;
+        Late {
+            sensor,
+            has_time,
+            count,
+            values,
+            time,
+        }
+    }
+
+    ghost there = { λ r. refl };
+}
+
+impl DekuReader<()> for Late {
+    ghost no_read_ahead = { ⟦<LateParts as DekuReader<()>>⟧.no_read_ahead };
+
+    ghost meaning = { λ c. Then (⟦<LateParts as DekuReader<()>>⟧.meaning c)
+        (Shows ⟦<Late as FromParts>⟧.parts_of) };
+
+    #[inline(always)]
+    fn from_reader_with_ctx<R: Source>(reader: &mut Reader<R>, ctx: ()) -> Result<Self, DekuError> {
+        read_record(reader, ctx)
+    }
+}
+
+impl DekuWriter<()> for Late {
+    ghost meaning = { λ v. ⟦<LateParts as DekuWriter<()>>⟧.meaning
+        (⟦<Late as FromParts>⟧.parts_of v) };
+
+    #[inline(always)]
+    fn to_writer<W: Sink>(&self, writer: &mut Writer<W>, ctx: ()) -> Result<(), DekuError> {
+        let parts = OptionalRef::<_, LateTimeCondition, _> {
+            head: (
+                Msb::<_, 7>(self.sensor),
+                Msb::<_, 1>(self.has_time),
+                CountedByRef::<_, LateValuesCount, _> {
+                    head: self.count,
+                    items: &self.values,
+                    count: PhantomData,
+                },
+            ),
+            item: &self.time,
+            condition: PhantomData,
+        };
+        parts.to_writer(writer, ctx)
+    }
+}
+
+impl Record<()> for Late {
+    ghost reads = { λ c b s r u m. m };
+
+    ghost writes = { λ c v b s r u m. m };
+}
+
+impl DekuContainerRead for Late {}
+
+impl DekuContainerWrite for Late {}
 
 /// A log, which goes on to the end.
 #[derive(Debug, PartialEq, Eq, Drop)]
