@@ -185,13 +185,13 @@ fn runs(bench: &mut Bench, random: &mut Random, size: usize) {
     let mut shifted = vec![0; size + 1];
     assert!(hand::runs_write_shifted(&plain, &mut shifted));
     let run = 64;
-    bench.run("runs behind 4 bits read", size, size, &shifted, &plain, &[
+    bench.run("runs after 4 bits read", size, size, &shifted, &plain, &[
         ("library", Box::new(move |i: &[u8], o: &mut [u8]| calls::dk_runs_read(i, 4, run, o))),
         ("hand", Box::new(hand::runs_shifted)),
         ("kit", Box::new(move |i: &[u8], o: &mut [u8]| kit::runs_read(i, 4, run, o))),
         ("bits", Box::new(move |i: &[u8], o: &mut [u8]| crates::bits_runs_read(i, 4, run, o))),
     ]);
-    bench.run("runs behind 4 bits write", size, size, &plain, &shifted, &[
+    bench.run("runs after 4 bits write", size, size, &plain, &shifted, &[
         ("library", Box::new(move |i: &[u8], o: &mut [u8]| calls::dk_runs_write(i, 4, run, o))),
         ("hand", Box::new(hand::runs_write_shifted)),
         ("kit", Box::new(move |i: &[u8], o: &mut [u8]| kit::runs_write(i, 4, run, o))),
