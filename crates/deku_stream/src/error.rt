@@ -2,9 +2,11 @@
 
 ghost use Rattle.std.specs.Prelude.{◌≡◌, ◌+◌, ◌/◌, codes};
 ghost use Rattle.std.specs.IoError.{error_kind};
+ghost use Rattle.std.specs.declared.io.ErrorKind.TheVariants.{OutOfMemory};
 ghost use Rattle.deku_stream.specs.Faults.{error_of, kind_of, Tells};
 ghost use Rattle.deku_stream.specs.declared.error.DekuError.TheVariants.{Parse, Io};
 
+use std::alloc::{AllocError, AllocFailed};
 use std::array::TryFromSliceError;
 use std::io;
 use std::io::ErrorKind;
@@ -119,6 +121,24 @@ impl From<io::Error> for DekuError {
 
     fn from(error: io::Error) -> DekuError {
         DekuError::Io(error.kind())
+    }
+}
+
+/// A vector that found no memory for an item is `Io(OutOfMemory)`. The item is dropped.
+impl<T: Drop> From<AllocFailed<T>> for DekuError {
+    ghost from_gives = { λ _ e. e ≡ Io OutOfMemory };
+
+    fn from(_failed: AllocFailed<T>) -> DekuError {
+        DekuError::Io(ErrorKind::OutOfMemory)
+    }
+}
+
+/// An allocation that found no memory is `Io(OutOfMemory)`.
+impl From<AllocError> for DekuError {
+    ghost from_gives = { λ _ e. e ≡ Io OutOfMemory };
+
+    fn from(_error: AllocError) -> DekuError {
+        DekuError::Io(ErrorKind::OutOfMemory)
     }
 }
 

@@ -9,7 +9,7 @@ use Rattle.std.specs.declared.io.ErrorKind.{ErrorKind}
 use Rattle.deku_stream.specs.declared.ctx.Order.{Order}
 use Rattle.deku_stream.specs.declared.ctx.Order.TheVariants.{Msb0}
 use Rattle.deku_stream.specs.Bits.{bits_of, facing, shown}
-use Rattle.deku_stream.specs.Writers.{held, pending_bits, cut, append}
+use Rattle.deku_stream.specs.Writers.{held, pending_bits, cut, append, Meets}
 use Rattle.deku_device.specs.Cursors.{known_slice}
 use Rattle.deku_device.specs.Devices.{KnownSink, Gave, bytes_before}
 use Rattle.deku_writer.specs.Pushing.{onto_bytes, word_bits, Fills, FillsOnto, Pushed, GaveUp, PushedOnto}
@@ -48,6 +48,11 @@ word_behind from to h hs n w out behind some f =
     let long : 0 < length bits = rw length-shown_word some in
     let g : Fills to h hs (shown to bits) out = subst (λ x. Fills to h hs x out) (sym (shown-shown to (word_bits to n w))) f in
     ⊎_elim (λ none. none_filled from to h hs bits out none long g) (λ same. rw same (same_filled to h hs bits out long g)) behind
+
+-- bits of this order are pending, or none
+pub behind_meets : (from to : Order) (h : List Bool) → (length h ≡ 0) ⊎ (from ≡ to) → Meets to (held from h)
+behind_meets from to [] behind = refl
+behind_meets from to (x ∷ h) behind = ⊎_elim (λ none. absurd (omega (arith, none))) (λ same. sym same) behind
 
 -- the bits of a number, from the highest down
 pub high_behind : (from : Order) (h hs : List Bool) (n k : ℕ) (out : List ℕ) → (length h ≡ 0) ⊎ (from ≡ Msb0) → 0 < n → Fills Msb0 h hs (bits_of n k) out

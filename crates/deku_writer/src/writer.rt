@@ -7,7 +7,7 @@ ghost use Rattle.std.specs.declared.io.ErrorKind.TheVariants.{OutOfMemory};
 ghost use Rattle.deku_stream.specs.declared.ctx.Order.TheVariants.{Msb0};
 ghost use Rattle.deku_stream.specs.declared.error.DekuError.TheVariants.{Io};
 ghost use Rattle.deku_stream.specs.Bits.{bits_in, bits_of};
-ghost use Rattle.deku_stream.specs.Writers.{Nothing, pending_bits};
+ghost use Rattle.deku_stream.specs.Writers.{Nothing, Meets, pending_bits};
 ghost use Rattle.deku_stream.specs.Standings.{Going, Stopped, Untouched, count_of};
 ghost use Rattle.deku_writer.specs.WriterCalls.{Writes, WritesAt, WritesBits, WritesWord, Finalizes, pending_of, order_of, written_count, WritesOn, KeepsSinkStopped, pending_state};
 
@@ -245,8 +245,8 @@ impl<W: Sink> Writer<W> {
 
     /// Writes the bits of a number in `Msb0`, the high bit first, if no call on the sink that can
     /// fail is needed. Returns whether it did. It needs that nothing rejects the write, that the
-    /// bits and the pending ones are at most 64 together, and that the sink has room in memory as
-    /// `Sink::try_put` says.
+    /// pending bits, if there are any, are in `Msb0`, that they and the new ones are at most 64
+    /// together, and that the sink has room in memory as `Sink::try_put` says.
     ///
     /// The caller's conditions: `n` is at most 64, and the number has no more bits.
     ///
@@ -263,6 +263,7 @@ impl<W: Sink> Writer<W> {
         ensures writes { IsTrue result → Writes W.known (WritesBits Msb0 (bits_of n number))
             self.old (Ok tt) self.new }
         ensures stays { IsFalse result → self.new ≡ self.old }
+        ensures order { IsTrue result → Meets Msb0 (pending_state self.old) }
         ensures stopped { KeepsSinkStopped self.old self.new }
     {
         self.state.try_write_msb(&mut self.sink, number, n)
@@ -452,6 +453,7 @@ impl WriterState {
         ensures writes { IsTrue result → WritesAt (WritesBits Msb0 (bits_of n number))
             (W.known sink.old) self.old (Ok tt) (W.known sink.new) self.new }
         ensures stays { IsFalse result → (self.new ≡ self.old) × (sink.new ≡ sink.old) }
+        ensures order { IsTrue result → Meets Msb0 (pending_of self.old) }
         ensures stopped { Untouched self.old sink.old sink.new }
     {
         if let Some(_) = self.fault {

@@ -3,6 +3,7 @@
 ghost use Rattle.std.specs.Prelude.{◌≡◌, ◌<◌, ◌≤◌, ◌%◌, ◌^◌, [], length, IsTrue, IsFalse};
 ghost use Rattle.deku_stream.specs.declared.ctx.Order.TheVariants.{Msb0};
 ghost use Rattle.deku_stream.specs.Bits.{bits_of};
+ghost use Rattle.deku_stream.specs.Writers.{Meets, held as pending_in};
 ghost use Rattle.deku_writer.specs.Pushing.{Pushed, PushedOnto};
 
 use super::held::Held;
@@ -39,6 +40,7 @@ pub fn lay_high<W: Sink>(sink: &mut W, held: &mut Held, from: Order, number: u64
     ensures pushed { IsTrue result → PushedOnto (W.known sink.old) (W.known sink.new) from Msb0
         held.old held.new (bits_of n number) }
     ensures stays { IsFalse result → (sink.new ≡ sink.old) × (held.new ≡ held.old) }
+    ensures order { IsTrue result → Meets Msb0 (pending_in from held.old) }
 {
     if held.len() == 0 && n % 8 == 0 {
         return lay_bytes(sink, number, n);

@@ -14,3 +14,7 @@ returns-then-laid-clause-writes g c = λ laid.
     c.whole_bytes-made.ensures ∙ ap (λ x. (x + c.args.n) / 8) c.len.ensures.length ∙ ap (λ x. (length h + x) / 8) (sym (length-bits_of c.args.n c.args.number)) in
     rw (← c.self.view_is, c.in_default.is)
     (write_done _ _ c.self.inside.order Msb0 h _ bits _ c.whole_bytes-made.result c.self.invariant made c.if-made-self.false w (c.lay_high-laid.ensures.pushed laid))
+
+pub returns-then-laid-clause-order : goal.returns-then-laid-clause-order
+returns-then-laid-clause-order g c = λ laid.
+    rw (← c.self.view_is, c.in_default.is) (c.lay_high-laid.ensures.order laid)
