@@ -16,18 +16,16 @@ use Rattle.deku_bits.specs.Streams.{Stream, flow, left, taken, normal, Has}
 use Rattle.deku_bits.specs.Outcomes.{Value}
 use Rattle.deku_bits.specs.ReaderCalls.{ReadsAt, TakesBits, window_of}
 use Rattle.deku_bits.proofs.Bytes.{IsByte}
-use Rattle.deku_bits.proofs.Cuts.{byte-of, length-byte_bits}
+use Rattle.deku_bits.proofs.Cuts.{length-byte_bits}
 use Rattle.deku_bits.proofs.EightBytes.{high_front, high_first_bytes}
 use Rattle.deku_bits.proofs.Handing.{meant}
 use Rattle.deku_bits.proofs.ReaderLaws.{taken_length}
 use Rattle.deku_bits.proofs.Taking.{cut_law}
-use Rattle.deku_bits.proofs.Words.{word_of-short}
-use Rattle.deku_num.specs.declared.ctx.Endian.{Endian}
-use Rattle.deku_num.specs.declared.ctx.Endian.TheVariants.{Little, Big}
 use Rattle.deku_num.specs.declared.ctx.Size.TheVariants.{Whole}
 use Rattle.deku_num.specs.declared.ctx.Layout.{Layout}
-use Rattle.deku_num.specs.Numbers.{byte, width, number, value}
+use Rattle.deku_num.specs.Numbers.{byte}
 use Rattle.deku_num.specs.NumberCalls.{ReadsUnsigned, Passed}
+use Rattle.deku_meanings.proofs.Bytes.{byte_wide, byte_allowed, byte_field}
 use Rattle.deku_reading.specs.Ahead.{Appended}
 use Rattle.deku_reading.specs.Lists.{AnswersEach}
 
@@ -93,18 +91,11 @@ taken_two o m n xs ys (Going None c) u short long (inr (room, inl p)) =
 
 -- ---- one byte
 module _ (l : Layout) (high : l.order ≡ Msb0) (whole : l.size ≡ Whole) where
-  byte_worth : (b : ℕ) → b < 256 → value byte l (byte_bits b) ≡ pos b
-  unfolding value number
-  byte_worth b small = ap pos (worth l.endian)
-    where
-      worth : (e : Endian) → number e l.order (byte_bits b) ≡ b
-      worth Little = rw high (word_of-short Msb0 (byte_bits b) (omega (arith, length-byte_bits b)) ∙ byte-of Msb0 b small)
-      worth Big = rw high (byte-of Msb0 b small)
-
   byte_read : (b : ℕ) (s u : Standing (Option Stream)) → b < 256 → TakesBits Msb0 8 false s (Ok (byte_bits b)) u → ReadsUnsigned byte l false s (Ok b) u
   byte_read b s u small p =
-      let eight : width byte l ≡ 8 = rw whole refl in
-      Passed (record { within = omega (arith, eight); even = refl }, Value (byte_bits b) (rw (high, eight) p) (ap (λ x. Ok x) (sym (byte_worth b small))))
+      let eight = byte_wide l high whole in
+      let field = byte_field l high whole b small in
+      Passed (byte_allowed l high whole, Value (byte_bits b) (rw (high, eight) p) (ap (λ x. Ok x) (sym field.worth)))
 
   -- ---- bytes in turn
   bytes_each : (b : ℕ) (bs : List ℕ) (s u : Standing (Option Stream)) → All IsByte (b ∷ bs) → Short s → TakesBits Msb0 (8 * length (b ∷ bs)) false s (Ok (flow Msb0 (b ∷ bs))) u
