@@ -1,1 +1,3 @@
+pub mod ByteRuns
 pub mod WritingEach
+pub mod WritingTwo

@@ -3,6 +3,7 @@
 mod array;
 mod bool;
 mod boxed;
+mod bytes;
 mod cow;
 mod hashmap;
 mod hashset;

@@ -1,9 +1,10 @@
 //! The trait of types that can be written.
 
-ghost use Rattle.std.specs.Prelude.{Result, ⊤};
+ghost use Rattle.std.specs.Prelude.{◌≤◌, Result, Ok, ⊤, length, take};
 ghost use Rattle.deku_bits.specs.Outcomes.{Meaning};
 ghost use Rattle.deku_bits.specs.Standings.{Output};
 ghost use Rattle.deku_bits.specs.WriterCalls.{Writes};
+ghost use Rattle.deku_writing.specs.Composing.{WritesEach};
 
 use deku_bits::device::Sink;
 use deku_bits::error::DekuError;
@@ -35,4 +36,28 @@ pub trait DekuWriter<Ctx> {
     fn to_writer<W: Sink>(&self, writer: &mut Writer<W>, ctx: Ctx) -> Result<(), DekuError>
         requires { accepts ctx }
         ensures { Writes W.known (meaning self.now ctx) writer.old result writer.new };
+
+    /// Writes the first of the values, as long as the sink has room for them in memory. Returns how
+    /// many they are.
+    ///
+    /// The caller's condition: the type may be written under the context.
+    ///
+    /// They are written as by as many writes under the context, of which none fails. It never
+    /// fails: it stops before a value that has no such room, and may do so before any value, as the
+    /// default body does before the first.
+    ///
+    /// ```text
+    /// u8::try_write_first(&mut writer, &[0xAA, 0xBB], &()) // 2, with room: AA BB
+    /// ```
+    fn try_write_first<W: Sink>(writer: &mut Writer<W>, items: &[Self], ctx: &Ctx) -> usize
+    where
+        Self: Sized,
+        requires { accepts ctx.now }
+        ensures few { result ≤ length items.now }
+        ensures writes { Writes W.known (WritesEach (λ x. meaning x ctx.now) (take result
+            items.now)) writer.old (Ok tt) writer.new }
+    {
+        let _unwritten = items;
+        0
+    }
 }

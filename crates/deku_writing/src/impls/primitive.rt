@@ -19,6 +19,7 @@ ghost use Rattle.std.specs.Prelude.{pos};
 ghost use Rattle.deku_num.specs.Numbers.{byte, unsigned, signed};
 ghost use Rattle.deku_num.specs.NumberCalls.{WritesNumber};
 
+use crate::impls::bytes::write_first_bytes;
 use crate::traits::DekuWriter;
 use deku_bits::device::Sink;
 use deku_bits::error::DekuError;
@@ -39,6 +40,10 @@ impl<C: NumberCtx> DekuWriter<C> for u8 {
     #[inline(always)]
     fn to_writer<W: Sink>(&self, writer: &mut Writer<W>, ctx: C) -> Result<(), DekuError> {
         write_unsigned(writer, *self as u128, NumberType::U8, ctx.parts())
+    }
+
+    fn try_write_first<W: Sink>(writer: &mut Writer<W>, items: &[u8], ctx: &C) -> usize {
+        write_first_bytes(writer, items, ctx.parts())
     }
 }
 

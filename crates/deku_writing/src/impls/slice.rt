@@ -15,8 +15,13 @@ impl<Ctx: Copy, T: DekuWriter<Ctx>> DekuWriter<Ctx> for &[T] {
     ghost meaning = { λ v c. WritesEach (λ x. T.meaning x c) v.now };
 
     fn to_writer<W: Sink>(&self, writer: &mut Writer<W>, ctx: Ctx) -> Result<(), DekuError> {
-        for item in *self {
-            item.to_writer(writer, ctx)?;
+        let mut written = 0;
+        while written < self.len() {
+            written += T::try_write_first(writer, &self[written..], &ctx);
+            if written < self.len() {
+                self[written].to_writer(writer, ctx)?;
+                written += 1;
+            }
         }
         Ok(())
     }
