@@ -164,7 +164,7 @@ module _ {V C : Type 0} (ends : V → Bool) {P : V → List Piece → Type 0} {s
   same_append (v ∷ vs) [] xs ys f g = absurd f
   same_append (v ∷ vs) (w ∷ ws) xs ys f g = (f.0, same_append vs ws xs ys f.1 g)
 
-  ended_back : (vs : List V) (ps : List Piece) → OfEnded ends P vs ps → IsReadBack ps (SameEach same vs) (ReadsEnded {C = C} ends m)
+  ended_back : (vs : List V) (ps : List Piece) → OfEnded ends P vs ps → IsReadBack ps (SameEach same vs) (ReadsEnded C ends m)
   ended_back vs ps p S T c r u takes room (EndsWith xs x k l turn on last over b e) =
       let cut = last_step (TakesItem m) (Going (Some S) c) xs x u turn in
       let f = partway vs ps S T c (c + breadth ps) xs begins k cut.0 p.0 p.1 takes refl room cut.1 on in
@@ -220,7 +220,7 @@ module _ {V C : Type 0} (ends : V → Bool) {P : V → List Piece → Type 0} {s
   are_ended (y ∷ []) x j k (i, judged, on) last = (sym judged.0, sym last)
   are_ended (y ∷ z ∷ zs) x j k (i, judged, on) last = (sym judged.0, are_ended (z ∷ zs) x i k on last)
 
-  ended_read : (vs : List V) (S : Stream) (c : ℕ) (u : Standing (Option Stream)) → ReadsEnded {C = C} ends m false (Going (Some S) c) (Ok vs) u → TakenAs (OfEnded ends P) vs S c u
+  ended_read : (vs : List V) (S : Stream) (c : ℕ) (u : Standing (Option Stream)) → ReadsEnded C ends m false (Going (Some S) c) (Ok vs) u → TakenAs (OfEnded ends P) vs S c u
   ended_read vs S c u (EndsWith xs x k l turn on last over b e) =
       let all : vs ≡ taken_items (xs ++ x ∷ []) = ok_is vs (taken_items (xs ++ x ∷ [])) e in
       let a = each_taken xs x begins k S c u turn on last in
@@ -234,10 +234,10 @@ module _ {V C : Type 0} (ends : V → Bool) {P : V → List Piece → Type 0} {s
   ended_written vs ps p b s r u (Refused f d) = absurd (d.0 p.0)
   ended_written vs ps p b s r u (Passed w) = each_written P same writes m A vs ps (plain vs ps p.1) b s r u w.1
 
-  items_symmetric : IsSymmetric (OfEnded ends P) (SameEach same) (WritesEnded ends writes) (ReadsEnded {C = C} ends m)
+  items_symmetric : IsSymmetric (OfEnded ends P) (SameEach same) (WritesEnded ends writes) (ReadsEnded C ends m)
   items_symmetric = record { one = λ vs ps qs p q. each_one P same writes m A vs ps qs (plain vs ps p.1) (plain vs qs q.1); written = ended_written; read_back = ended_back; read = ended_read }
 
   -- symmetric items up to and including the first that ends them, in memory that grows
   pub ended_symmetric : IsSymmetric (λ (w : Until V C) ps. OfEnded ends P w.items.items ps) (λ w x. SameEach same w.items.items x.items.items) (λ w. WritesEnded ends writes w.items.items)
-      (Mapped (λ v. record { items = v; last = record {} }) (MappedBy (λ xs v. v.items ≡ xs) (ReadsEnded {C = C} ends m)))
+      (Mapped (λ v. record { items = v; last = record {} }) (MappedBy (λ xs v. v.items ≡ xs) (ReadsEnded C ends m)))
   ended_symmetric = mapped_symmetric (λ (v : Vec V). record { items = v; last = record {} }) (λ (w : Until V C). w.items) _ _ _ _ (λ v. refl) (holder_symmetric (λ (v : Vec V). v.items) _ _ _ _ items_symmetric)

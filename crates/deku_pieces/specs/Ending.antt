@@ -28,8 +28,8 @@ abbrev pub OfEnded : {V : Type 0} → (V → Bool) → (V → List Piece → Typ
 OfEnded ends pieces vs ps = IsEnded ends vs × OfEach (OfEnding ends pieces) vs ps
 
 -- Items are read up to and including the first that ends the list.
-abbrev pub ReadsEnded : {V C : Type 0} → (V → Bool) → Meaning (Option Stream) V → Meaning (Option Stream) (List V)
-ReadsEnded {C = C} ends m = ReadsUntil {P = AtEnd C} (λ _ v b _. b ≡ ends v) (λ _. ⊤) (record { last = record {} }) m
+abbrev pub ReadsEnded : {V : Type 0} → (C : Type 0) → (V → Bool) → Meaning (Option Stream) V → Meaning (Option Stream) (List V)
+ReadsEnded C ends m = ReadsUntil {P = AtEnd C} (λ _ v b _. b ≡ ends v) (λ _. ⊤) (record { last = record {} }) m
 
 -- The items are written. If the first that ends the list is not the last one, it fails before that,
 -- and nothing moves.

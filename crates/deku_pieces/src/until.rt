@@ -95,7 +95,7 @@ impl<T: DekuReader<()>, C: Last<T>> DekuReader<()> for Until<T, C> {
     ghost no_read_ahead = { λ _. T.no_read_ahead tt };
 
     ghost meaning = { λ _. Mapped (λ v. record { items = v; last = record {} })
-        (MappedBy (λ xs v. v.items ≡ xs) (ReadsEnded {C = C} C.last_of (T.meaning tt))) };
+        (MappedBy (λ xs v. v.items ≡ xs) (ReadsEnded C C.last_of (T.meaning tt))) };
 
     fn from_reader_with_ctx<R: Source>(
         reader: &mut Reader<R>,

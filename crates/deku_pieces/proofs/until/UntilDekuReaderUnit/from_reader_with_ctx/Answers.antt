@@ -5,4 +5,4 @@ pub returns-in_err-items-clause-reads : goal.returns-in_err-items-clause-reads
 returns-in_err-items-clause-reads g c = passed_on _ c.from_residual.ensures.1 (mapped_err (λ xs. record { items = xs; last = record {} }) c.in_err-items.ensures.reads)
 
 pub returns-clause-reads : goal.returns-clause-reads
-returns-clause-reads g c = mapped_ok (λ xs. record { items = xs; last = record {} }) c.in_ok-items.ensures.reads
+returns-clause-reads g c = rw c.new.ensures (mapped_ok (λ xs. record { items = xs; last = record {} }) c.in_ok-items.ensures.reads)
