@@ -31,7 +31,7 @@ last_step R s (y ∷ ys) x u (t, r, rest) =
     let k = last_step R t ys x u rest in
     (k.0, (t, r, k.1), k.2)
 
-module _ {V C : Type 0} (ends : V → Bool) {P : V → List Piece → Type 0} {same : V → V → Type 0} {writes : V → Meaning Output (Unit {0})} {m : Meaning (Option Stream) V}
+module _ {V : Type 0} (C : Type 0) (ends : V → Bool) {P : V → List Piece → Type 0} {same : V → V → Type 0} {writes : V → Meaning Output (Unit {0})} {m : Meaning (Option Stream) V}
     (alike : (v w : V) → same v w → ends v ≡ ends w) (A : IsSymmetric P same writes m) where
   abbrev Item : Type 0
   Item = Taken (Option Stream) V
@@ -46,7 +46,7 @@ module _ {V C : Type 0} (ends : V → Bool) {P : V → List Piece → Type 0} {s
   abbrev Own : V → List Piece → Type 0
   Own = OfEnding ends P
 
-  plain : (vs : List V) (ps : List Piece) → OfEach Own vs ps → OfEach Own vs ps
+  plain : (vs : List V) (ps : List Piece) → OfEach Own vs ps → OfEach P vs ps
   plain [] ps p = p
   plain (v ∷ vs) ps (a, b, p, q, e) = (a, b, p.0, plain vs b q, e)
 

@@ -53,7 +53,7 @@ impl<T: Symmetric<()>, C: LastLaw<T>> Symmetric<()> for Until<T, C> {
 
     ghost same = { λ v w. SameEach T.Symmetric.same v.items.items w.items.items };
 
-    ghost symmetric = { λ _. ended_symmetric C.Last.last_of C.LastLaw.alike
+    ghost symmetric = { λ _. ended_symmetric C C.Last.last_of C.LastLaw.alike
         (T.Symmetric.symmetric tt) };
 }
 
