@@ -7,6 +7,8 @@ mod bytes;
 #[cfg(test)]
 mod checks;
 #[cfg(test)]
+mod choosing;
+#[cfg(test)]
 mod dependents;
 #[cfg(test)]
 mod kinds;

@@ -18,6 +18,7 @@ use deku_texts::refusal::Stop;
 use deku_texts::words;
 use deku_texts::wrapping::{item, number_kind};
 use deku_tokens::place::{Complaint, Span};
+use deku_tokens::token::Token;
 use std::alloc::{AllocError, Global};
 
 /// The parts of a record while they are made.
@@ -53,6 +54,7 @@ struct Said<'f, 'a> {
     size: Option<(&'f Expression<'a>, u64)>,
     is_rest: bool,
     cond: Option<&'f Expression<'a>>,
+    context: Option<Token<'a>>,
     assert: Option<&'f Expression<'a>>,
     equal: Option<&'f Expression<'a>>,
     before: u64,
@@ -92,7 +94,7 @@ impl<'b, 'a> Builder<'b, 'a> {
         })
     }
 
-    fn wrong<T>(&self, span: Span, message: &str, help: &str) -> Result<T, Stop> {
+    pub(crate) fn wrong<T>(&self, span: Span, message: &str, help: &str) -> Result<T, Stop> {
         Stop::wrong(self.alloc, span, message, help)
     }
 
@@ -174,8 +176,8 @@ impl<'b, 'a> Builder<'b, 'a> {
         tuple(self.alloc, items)
     }
 
-    // The part of a field alone.
-    fn leaf(&mut self, field: &Field<'a>, named: Named<'_>) -> Result<(), AllocError> {
+    /// The part of a field alone.
+    pub(crate) fn leaf(&mut self, field: &Field<'a>, named: Named<'_>) -> Result<(), AllocError> {
         let part = leaf(self.alloc, self.records, self.owner, field, named)?;
         self.items.push(part)?;
         Ok(())
@@ -217,7 +219,10 @@ impl<'b, 'a> Builder<'b, 'a> {
             }
             (_, _, Some(cond)) => self.after_head(field, called, cond, Dependent::Optional, 1)?,
             (None, None, None) if said.is_rest => self.rest(field, called)?,
-            (None, None, None) => self.leaf(field, called)?,
+            (None, None, None) => match said.context {
+                Some(context) => self.choice(field, called, context)?,
+                None => self.leaf(field, called)?,
+            },
         }
         if self.is_ended && said.after > 0 {
             return self.wrong(
@@ -318,6 +323,7 @@ impl<'b, 'a> Builder<'b, 'a> {
             size: None,
             is_rest: false,
             cond: None,
+            context: None,
             assert: None,
             equal: None,
             before: 0,
@@ -331,6 +337,7 @@ impl<'b, 'a> Builder<'b, 'a> {
                 Attribute::BytesRead(expression) => said.size = Some((expression, 8)),
                 Attribute::ReadAll => said.is_rest = true,
                 Attribute::Cond(expression) => said.cond = Some(expression),
+                Attribute::Context(token) => said.context = Some(*token),
                 Attribute::Assert(expression) => said.assert = Some(expression),
                 Attribute::AssertEq(expression) => said.equal = Some(expression),
                 Attribute::PadBefore(bits) => said.before = *bits,
@@ -347,6 +354,7 @@ impl<'b, 'a> Builder<'b, 'a> {
 
     // Complains of a type or an endian that has no part.
     fn fits(&self, field: &Field<'a>, said: &Said<'_, 'a>) -> Result<(), Stop> {
+        self.gives(field, said.context)?;
         if let Endian::Named(_) = field.layout.endian {
             return self.wrong(
                 field.span,
@@ -497,9 +505,13 @@ impl<'b, 'a> Builder<'b, 'a> {
         Ok(())
     }
 
-    // The parts that hold the fields an expression names, as one; all parts, if they lend memory.
-    // A field of the last part is used in any case if that is said.
-    fn head(&mut self, expression: &Expression<'a>, is_last: bool) -> Result<Part<'a>, AllocError> {
+    /// The parts that hold the fields an expression names, as one; all parts, if they lend memory.
+    /// A field of the last part is used in any case if that is said.
+    pub(crate) fn head(
+        &mut self,
+        expression: &Expression<'a>,
+        is_last: bool,
+    ) -> Result<Part<'a>, AllocError> {
         let mut first = self.items.len();
         if is_last {
             first = first.saturating_sub(1);
@@ -561,8 +573,8 @@ impl<'b, 'a> Builder<'b, 'a> {
         Ok(name)
     }
 
-    // The names of the types of a head and of what is written for it.
-    fn aliases(
+    /// The names of the types of a head and of what is written for it.
+    pub(crate) fn aliases(
         &mut self,
         part: &mut Part<'a>,
         field: &str,

@@ -2,6 +2,7 @@
 #![tactic(auto)]
 
 pub mod building;
+mod choosing;
 pub mod computing;
 pub mod marker;
 mod refusing;

@@ -22,8 +22,8 @@ pub struct Marker<'m> {
 }
 
 impl<'m> Marker<'m> {
-    // It for what is written, if memory is lent.
-    fn of_lent(self) -> Option<Marker<'m>> {
+    /// It for what is written, if memory is lent.
+    pub(crate) fn of_lent(self) -> Option<Marker<'m>> {
         Some(Marker {
             parts: self.lent?,
             lent: None,
@@ -260,8 +260,8 @@ pub fn zeros(out: &mut String, part: &str) -> Result<(), AllocError> {
     out.push_str("    ghost alike = { λ v e. rw e refl };\n}\n")
 }
 
-// Appends the struct, with what it says of the field.
-fn declared(
+/// Appends the struct, with what it says of the field.
+pub(crate) fn declared(
     out: &mut String,
     marker: Marker<'_>,
     what: &str,
@@ -282,8 +282,8 @@ fn declared(
     )
 }
 
-// Appends the first line of an implementation.
-fn implemented(out: &mut String, what: &str, marker: Marker<'_>) -> Result<(), AllocError> {
+/// Appends the first line of an implementation.
+pub(crate) fn implemented(out: &mut String, what: &str, marker: Marker<'_>) -> Result<(), AllocError> {
     let Marker { name, parts, .. } = marker;
     let generic = if parts.contains("<'a") { "<'a>" } else { "" };
     let line = format!(in *out.allocator(); "impl{generic} {what}<{parts}> for {name} {{")?;
@@ -325,8 +325,8 @@ fn locals(
     Ok(())
 }
 
-// Appends where a field is in the parts.
-fn reached(out: &mut String, place: &Place<'_>) -> Result<(), AllocError> {
+/// Appends where a field is in the parts.
+pub(crate) fn reached(out: &mut String, place: &Place<'_>) -> Result<(), AllocError> {
     let path = place.path.as_str();
     if path.is_empty() {
         out.push_str("*parts")
@@ -355,8 +355,8 @@ fn truth(
     writeln!(out, "        {code}")
 }
 
-// Appends the law that equal parts give equal results.
-fn alike(
+/// Appends the law that equal parts give equal results.
+pub(crate) fn alike(
     out: &mut String,
     what: &str,
     marker: Marker<'_>,

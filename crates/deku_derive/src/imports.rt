@@ -6,12 +6,13 @@ use std::alloc::{AllocError, Global};
 use std::fmt::Write as _;
 
 // The names of deku_symmetry, in the order in which `rt fmt` has them.
-const PARTS: [&str; 43] = [
+const PARTS: [&str; 46] = [
     "Assert",
     "Be",
     "Before",
     "Check",
     "CheckLaw",
+    "ChosenBy",
     "Condition",
     "ConditionLaw",
     "Constant",
@@ -24,6 +25,8 @@ const PARTS: [&str; 43] = [
     "Enum",
     "FilledBy",
     "FromParts",
+    "IdOf",
+    "IdOfLaw",
     "InRange",
     "Kind",
     "Le",

@@ -4,6 +4,7 @@ use crate::enums::Built;
 use crate::imports::imports;
 use crate::structs::docs;
 use crate::{enums, structs};
+use deku_attributes::given::{given, is_given};
 use deku_attributes::model::{Case, Field, Form, Id, IdSource, Ids, Module, Record};
 use deku_dependents::building::{Builder, field_name};
 use deku_dependents::marker::zeros;
@@ -149,11 +150,12 @@ impl<'b, 'a> Printer<'b, 'a> {
     }
 
     fn record(&mut self, record: &Record<'a>, path: Option<&str>) -> Result<(), AllocError> {
-        self.declare(record.name)?;
+        let word = if is_given(record) { "Kinds" } else { "Parts" };
+        self.declare(record.name, word)?;
         if !record.is_whole {
             return Ok(());
         }
-        if record.context.is_some() {
+        if record.context.is_some() && !is_given(record) {
             self.complain(
                 record.name,
                 "a record that is given values is not supported",
@@ -183,8 +185,8 @@ impl<'b, 'a> Printer<'b, 'a> {
 
     // Notes the names of a record and of its parts, and complains of one that the module has
     // already.
-    fn declare(&mut self, name: Token<'a>) -> Result<(), AllocError> {
-        let parts = words::marker(self.alloc, name.text, "", "Parts")?;
+    fn declare(&mut self, name: Token<'a>, word: &str) -> Result<(), AllocError> {
+        let parts = words::marker(self.alloc, name.text, "", word)?;
         let is_taken = self.has_name(name.text) || self.has_name(parts.as_str());
         if is_taken || words::is_imported(name.text) {
             self.complain(
@@ -293,28 +295,29 @@ impl<'b, 'a> Printer<'b, 'a> {
         cases: &[Case<'a>],
         path: Option<&str>,
     ) -> Result<(), AllocError> {
-        let (message, help) = match ids.source {
-            IdSource::Context(_) => (
-                "an enum whose id comes from outside is not supported",
-                "write `id_type`, and leave the field with the id out",
-            ),
-            IdSource::Front(_) if ids.bits > 64 => (
+        let refused = match ids.source {
+            IdSource::Context(id) => given(record.context, id).err(),
+            IdSource::Front(_) => None,
+        };
+        let (message, help) = match refused {
+            Some(refusal) => refusal,
+            None if ids.bits > 64 => (
                 "an id of more than 64 bits is not supported",
                 "write an id of at most 64 bits",
             ),
-            IdSource::Front(_) if record.magic.is_some() => (
+            None if record.magic.is_some() => (
                 "a magic in front of an enum is not supported",
                 "write the magic on the field that holds the enum",
             ),
-            IdSource::Front(_) if cases.is_empty() => (
+            None if cases.is_empty() => (
                 "an enum without kinds has no values",
                 "write a kind",
             ),
-            IdSource::Front(_) if path.is_none() => (
+            None if path.is_none() => (
                 "an enum needs the name of its module",
                 "print it with `-o crates/NAME/src/MODULE.rt`, or with `--module NAME::MODULE`",
             ),
-            IdSource::Front(_) => return Ok(()),
+            None => return Ok(()),
         };
         self.complain(record.name, message, help)
     }
@@ -334,11 +337,17 @@ impl<'b, 'a> Printer<'b, 'a> {
                 return Ok(Some(field_name(self.alloc, field, 0)?));
             }
         }
-        self.complain(
-            case.name,
-            "a kind of several ids that does not keep its id",
-            "write a first field of the type of the id, without attributes",
-        )?;
+        let (message, help) = match ids.source {
+            IdSource::Front(_) => (
+                "a kind of several ids that does not keep its id",
+                "write a first field of the type of the id, without attributes",
+            ),
+            IdSource::Context(_) => (
+                "a kind of several ids that a field says is not supported",
+                "write a kind for each id",
+            ),
+        };
+        self.complain(case.name, message, help)?;
         Ok(None)
     }
 }

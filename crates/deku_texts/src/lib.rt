@@ -1,6 +1,7 @@
 //! What modules say of the parts of records: their texts, laid out as `rt fmt` does.
 #![tactic(auto)]
 
+pub mod chosen;
 pub mod document;
 pub mod part;
 pub mod records;
