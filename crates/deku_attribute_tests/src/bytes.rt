@@ -3,6 +3,7 @@
 use crate::checks::{
     AtLeast, BitsAfter, BitsBefore, BytesAfter, BytesBefore, Named, NamedField, Only,
 };
+use crate::choosing::{Body, Message};
 use crate::dependents::{Alone, Counting, Sizing, ToEnd, Two, Updating, UpdatingTwo, Whether};
 use crate::kinds::{EndianOfId, Numbered, Patterns, UnderBits, UnderByte, UnderBytes};
 use crate::numbers::{Bits, Bytes, Endians, LowFirst, OrderOfFields, Orders};
@@ -214,4 +215,27 @@ fn kinds(rt: HostRuntime) -> Result<(), Fail> {
     expect_packed(alloc, (), &UnderBytes::Only(0xFF), 24, &[0xEF, 0xBE, 0xFF])?;
     let refusal = DekuError::IdVariantNotFound;
     expect_refusal::<UnderByte>(alloc, &[0x03], refusal, 8)
+}
+
+#[test]
+fn kinds_that_a_field_chooses(rt: HostRuntime) -> Result<(), Fail> {
+    let alloc = rt.alloc();
+    let mut message = Message {
+        version: 4,
+        kind: 1,
+        body: Body::Number(0xBEEF),
+    };
+    expect_packed(alloc, (), &message, 24, &[0x41, 0xBE, 0xEF])?;
+    let refusal = DekuError::Assertion("kind out of step with its id");
+    for kind in [0, 2, 15, 16] {
+        message.kind = kind;
+        same(&kind, &message.pack(alloc, ()), &Err(refusal))?;
+    }
+    message.body = Body::Nothing;
+    same(&16, &message.pack(alloc, ()), &Err(refusal))?;
+    message.kind = 2;
+    expect_packed(alloc, (), &message, 8, &[0x42])?;
+    let refusal = DekuError::IdVariantNotFound;
+    expect_refusal::<Message>(alloc, &[0x43, 0xBE, 0xEF], refusal, 8)?;
+    expect_refusal::<Message>(alloc, &[0x40], refusal, 8)
 }

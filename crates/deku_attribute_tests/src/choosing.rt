@@ -5,7 +5,7 @@
 ghost use Rattle.std.specs.Prelude.{refl};
 ghost use Rattle.deku.specs.Composing.{Then};
 ghost use Rattle.deku.specs.Shapes.{Shows};
-ghost use Rattle.deku_symmetry.specs.Fields.{be, msb};
+ghost use Rattle.deku_symmetry.specs.Fields.{be, msb_le};
 ghost use Rattle.deku_pieces.specs.declared.either.Either.TheVariants as either;
 ghost use Rattle.deku_attribute_tests.specs.declared.choosing.Body.TheVariants as body_kinds;
 
@@ -14,11 +14,11 @@ use deku::prelude::{
     DekuContainerRead, DekuContainerWrite, DekuError, DekuReader, DekuWriter, Reader, Writer,
 };
 use deku_symmetry::{
-    Be, ChosenBy, Either, FromParts, IdOf, IdOfLaw, Kind, Msb, Record, ToParts, read_record,
+    Be, ChosenBy, Either, FromParts, IdOf, IdOfLaw, Kind, MsbLe, Record, ToParts, read_record,
     write_record,
 };
 
-/// The record `Body`.
+/// Kinds under an id that is elsewhere.
 #[derive(Debug, Clone, Copy, PartialEq, Eq)]
 pub enum Body {
     /// Id 1.
@@ -65,7 +65,7 @@ impl ToParts for Body {
     }
 }
 
-/// The record `Message`.
+/// An enum after its id.
 #[derive(Debug, Clone, Copy, PartialEq, Eq)]
 pub struct Message {
     pub version: u8,
@@ -73,21 +73,19 @@ pub struct Message {
     pub body: Body,
 }
 
-type MessageBodyHead = Msb<u8, 4>;
-
 /// Which kind `body` is: `kind`.
 #[derive(Debug, PartialEq, Eq, Drop)]
 pub struct MessageBodyId;
 
-impl IdOf<MessageBodyHead> for MessageBodyId {
+impl IdOf<MsbLe<u8, 4>> for MessageBodyId {
     ghost id_of = { λ p. p.0 };
 
-    fn id(parts: &MessageBodyHead) -> u64 {
+    fn id(parts: &MsbLe<u8, 4>) -> u64 {
         parts.0 as u64
     }
 }
 
-impl IdOfLaw<MessageBodyHead> for MessageBodyId {
+impl IdOfLaw<MsbLe<u8, 4>> for MessageBodyId {
     ghost alike = { λ v w e. rw e refl };
 }
 
@@ -97,14 +95,17 @@ impl Message {
 }
 
 // The parts of Message, in their order.
-type MessageParts = (Msb<u8, 4>, ChosenBy<MessageBodyHead, MessageBodyId, BodyKinds>);
+type MessageParts = (
+    MsbLe<u8, 4>,
+    ChosenBy<MsbLe<u8, 4>, MessageBodyId, BodyKinds>,
+);
 
 impl FromParts for Message {
     type Parts = MessageParts;
 
     ghost parts_of = { λ r. (
-      msb r.version,
-      record { head = msb r.kind; kind = ⟦<Body as FromParts>⟧.parts_of r.body; id = record {} },
+      msb_le r.version,
+      record { head = msb_le r.kind; kind = ⟦<Body as FromParts>⟧.parts_of r.body; id = record {} },
     ) };
 
     ghost record_of = { λ p. record {
@@ -115,9 +116,9 @@ impl FromParts for Message {
 
     fn from_parts(parts: Self::Parts) -> Self {
         let (
-            Msb(version),
+            MsbLe(version),
             ChosenBy {
-                head: Msb(kind),
+                head: MsbLe(kind),
                 kind: body,
                 ..
             },
@@ -135,8 +136,8 @@ impl FromParts for Message {
 impl ToParts for Message {
     fn parts(&self) -> Self::Parts {
         (
-            Msb(self.version),
-            ChosenBy::new(Msb(self.kind), self.body.parts()),
+            MsbLe(self.version),
+            ChosenBy::new(MsbLe(self.kind), self.body.parts()),
         )
     }
 }
