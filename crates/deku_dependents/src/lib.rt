@@ -3,6 +3,8 @@
 
 pub mod building;
 pub mod computing;
+mod constants;
+mod listing;
 pub mod marker;
 mod refusing;
 pub mod temporary;

@@ -157,6 +157,24 @@ fn shows(
     Ok(())
 }
 
+/// Appends the marker of the end of a list: which item is the last.
+pub(crate) fn last(
+    out: &mut String,
+    marker: Marker<'_>,
+    computer: &Computer<'_, '_, '_>,
+    computed: &Computed,
+) -> Result<(), Stop> {
+    let parts = marker.parts;
+    let (code, term) = (computed.code.as_str(), computed.term.as_str());
+    declared(out, marker, "Which item of", "is the last", code)?;
+    implemented(out, "Last", marker)?;
+    writeln!(out, "    ghost last_of = {{ λ p. {term} }};\n")?;
+    writeln!(out, "    fn is_last(item: &{parts}) -> bool {{")?;
+    truth(out, computer, computed)?;
+    out.push_str("    }\n}\n")?;
+    alike(out, "LastLaw", marker, computer)
+}
+
 /// Appends the marker of a check of parts.
 pub fn check(
     out: &mut String,
@@ -313,7 +331,7 @@ fn locals(
         if let Some(place) = computer.places.get(*index) {
             let name = place.name.as_str();
             write!(out, "        let {name} = ")?;
-            reached(out, place)?;
+            reached(out, computer, place)?;
             let is_number = place.number != Some("bool") && place.number != Some("usize");
             out.push_str(if is_cast && is_number {
                 " as usize;\n"
@@ -326,12 +344,16 @@ fn locals(
 }
 
 // Appends where a field is in the parts.
-fn reached(out: &mut String, place: &Place<'_>) -> Result<(), AllocError> {
-    let path = place.path.as_str();
+fn reached(
+    out: &mut String,
+    computer: &Computer<'_, '_, '_>,
+    place: &Place<'_>,
+) -> Result<(), AllocError> {
+    let (from, path) = (computer.from, place.path.as_str());
     if path.is_empty() {
-        out.push_str("*parts")
+        write!(out, "*{from}")
     } else {
-        write!(out, "parts{path}")
+        write!(out, "{from}{path}")
     }
 }
 
@@ -346,7 +368,7 @@ fn truth(
         if let Some(place) = computer.places.get(*index) {
             if place.name.as_str() == code {
                 out.push_str("        ")?;
-                reached(out, place)?;
+                reached(out, computer, place)?;
                 return out.push('\n');
             }
         }

@@ -34,13 +34,9 @@ pub(crate) fn refused(attribute: &Attribute<'_>) -> (&'static str, &'static str)
             "a width that a field says is not supported",
             "write a number, or a record for each width",
         ),
-        Attribute::Context(_) => (
+        _ => (
             "`ctx` is not supported: values that are given to a field",
             "move the fields that need them into this record",
-        ),
-        _ => (
-            "`until` is not supported: a list that ends with an item of its own",
-            "write `CString` for a text, or the record by its parts, with `Until`",
         ),
     }
 }

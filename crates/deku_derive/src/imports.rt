@@ -6,7 +6,7 @@ use std::alloc::{AllocError, Global};
 use std::fmt::Write as _;
 
 // The names of deku_symmetry, in the order in which `rt fmt` has them.
-const PARTS: [&str; 43] = [
+const PARTS: [&str; 47] = [
     "Assert",
     "Be",
     "Before",
@@ -26,6 +26,8 @@ const PARTS: [&str; 43] = [
     "FromParts",
     "InRange",
     "Kind",
+    "Last",
+    "LastLaw",
     "Le",
     "Lsb",
     "LsbBe",
@@ -48,6 +50,8 @@ const PARTS: [&str; 43] = [
     "SizedBy",
     "Symmetric",
     "ToParts",
+    "Until",
+    "UntilRef",
     "read_record",
     "write_record",
 ];

@@ -3,7 +3,7 @@
 use std::alloc::{AllocError, Global};
 
 // The names that a module imports or that its bounds have.
-const IMPORTED: [&str; 60] = [
+const IMPORTED: [&str; 64] = [
     "Source",
     "Sink",
     "DekuContainerRead",
@@ -35,6 +35,10 @@ const IMPORTED: [&str; 60] = [
     "Prefixed",
     "PrefixedRef",
     "Before",
+    "Until",
+    "UntilRef",
+    "Last",
+    "LastLaw",
     "Rest",
     "SizedBy",
     "SizeOf",
