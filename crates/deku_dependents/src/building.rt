@@ -1,17 +1,17 @@
 //! The parts of the fields of a record, in their order.
 
-use crate::computing::{Computed, Computer, is_name, literal, names};
-use crate::marker;
-use crate::marker::{Amount, Marker, magic_kind, number_of};
-use crate::refusing::{partless, refused};
+use crate::refusing::partless;
 use crate::temporary::{Temporary, is_temporary};
 use crate::updating::{Updated, is_updated};
-use deku_attributes::model::{Attribute, Endian, Field, Order};
-use deku_attributes::reading::bits_of;
-use deku_description::syntax::{Constant, Expression, Operator, Type};
+use deku_attributes::model::{Attribute, Endian, Field};
+use deku_attributes::reading::{bits_of, is_name, literal, names};
+use deku_description::syntax::{Closure, Constant, Expression, Operator, Type};
+use deku_markers::computing::{Computed, Computer};
+use deku_markers::marker;
+use deku_markers::marker::{Amount, Marker};
 use deku_texts::document::Text;
 use deku_texts::part::{
-    Dependent, Named, Owner, Part, Place, asserted, constant, following, leaf, rest, tuple,
+    Dependent, Named, Owner, Part, Place, asserted, following, leaf, rest, tuple,
 };
 use deku_texts::records::Records;
 use deku_texts::refusal::Stop;
@@ -52,6 +52,7 @@ struct Said<'f, 'a> {
     count: Option<&'f Expression<'a>>,
     // How much the field takes, and how many bits each of it is.
     size: Option<(&'f Expression<'a>, u64)>,
+    end: Option<&'f Closure<'a>>,
     is_rest: bool,
     cond: Option<&'f Expression<'a>>,
     context: Option<Token<'a>>,
@@ -219,9 +220,10 @@ impl<'b, 'a> Builder<'b, 'a> {
             }
             (_, _, Some(cond)) => self.after_head(field, called, cond, Dependent::Optional, 1)?,
             (None, None, None) if said.is_rest => self.rest(field, called)?,
-            (None, None, None) => match said.context {
-                Some(context) => self.choice(field, called, context)?,
-                None => self.leaf(field, called)?,
+            (None, None, None) => match (said.end, said.context) {
+                (Some(end), _) => self.until(field, called, end)?,
+                (None, Some(context)) => self.choice(field, called, context)?,
+                (None, None) => self.leaf(field, called)?,
             },
         }
         if self.is_ended && said.after > 0 {
@@ -321,6 +323,7 @@ impl<'b, 'a> Builder<'b, 'a> {
             magic: None,
             count: None,
             size: None,
+            end: None,
             is_rest: false,
             cond: None,
             context: None,
@@ -335,6 +338,7 @@ impl<'b, 'a> Builder<'b, 'a> {
                 Attribute::Count(expression) => said.count = Some(expression),
                 Attribute::BitsRead(expression) => said.size = Some((expression, 1)),
                 Attribute::BytesRead(expression) => said.size = Some((expression, 8)),
+                Attribute::Until(closure) => said.end = Some(closure),
                 Attribute::ReadAll => said.is_rest = true,
                 Attribute::Cond(expression) => said.cond = Some(expression),
                 Attribute::Context(token) => said.context = Some(*token),
@@ -343,9 +347,15 @@ impl<'b, 'a> Builder<'b, 'a> {
                 Attribute::PadBefore(bits) => said.before = *bits,
                 Attribute::PadAfter(bits) => said.after = *bits,
                 Attribute::Update(_) => {}
-                other => {
-                    let (message, help) = refused(other);
-                    return self.wrong(field.span, message, help);
+                Attribute::Bits(_)
+                | Attribute::Bytes(_)
+                | Attribute::Temp
+                | Attribute::TempValue(_) => {
+                    return self.wrong(
+                        field.span,
+                        "a width that a field says is not supported",
+                        "write a number, or a record for each width",
+                    );
                 }
             }
         }
@@ -365,6 +375,7 @@ impl<'b, 'a> Builder<'b, 'a> {
         let is_dependent = said.count.is_some()
             || said.size.is_some()
             || said.cond.is_some()
+            || said.end.is_some()
             || said.is_rest;
         let is_checked = said.assert.is_some() || said.equal.is_some();
         if is_dependent && is_checked {
@@ -432,77 +443,6 @@ impl<'b, 'a> Builder<'b, 'a> {
                 false
             }
         }
-    }
-
-    // Zeros of so many bits, before or after a field.
-    fn padding(&mut self, bits: u64, field: &Field<'a>) -> Result<(), Stop> {
-        if bits > PADDING {
-            return self.wrong(
-                field.span,
-                "a padding of more than 1024 bits",
-                "write an array of bytes, which is kept",
-            );
-        }
-        let order = field.layout.order;
-        let mut left = bits;
-        for _ in 0..(PADDING / 64 + 1) {
-            if left == 0 {
-                break;
-            }
-            let width = left.min(64);
-            left = left.saturating_sub(width);
-            let kind = match order {
-                Order::Msb => format!(in self.alloc; "Msb<u64, {width}>")?,
-                Order::Lsb => format!(in self.alloc; "Lsb<u64, {width}>")?,
-            };
-            let marker = match order {
-                Order::Msb => "Zeros",
-                Order::Lsb => "LowZeros",
-            };
-            let part = constant(self.alloc, self.owner, kind.as_str(), marker, "padding")?;
-            self.items.push(part)?;
-        }
-        Ok(())
-    }
-
-    /// Bytes that are always the same, as one number.
-    pub fn magic(
-        &mut self,
-        bytes: &Vec<u8>,
-        name: String,
-        what: &str,
-        order: Order,
-        span: Span,
-    ) -> Result<(), Stop> {
-        if bytes.is_empty() || bytes.len() > 8 {
-            return self.wrong(
-                span,
-                "a magic of no bytes, or of more than 8",
-                "write the first 8 of them, and an array of `u8` with `assert` after them",
-            );
-        }
-        let number = number_of(bytes.as_slice());
-        let count = bytes.len();
-        let (constructor, kind) = magic_kind(self.alloc, count, order)?;
-        let value = format!(in self.alloc; "0x{number:X}")?;
-        let what = String::from_str(self.alloc, what)?;
-        let marker = Marker {
-            name: name.as_str(),
-            parts: kind.as_str(),
-            lent: None,
-            field: what.as_str(),
-        };
-        marker::constant(&mut self.markers, marker, constructor, value.as_str())?;
-        let part = constant(
-            self.alloc,
-            self.owner,
-            kind.as_str(),
-            name.as_str(),
-            "magic",
-        )?;
-        self.items.push(part)?;
-        self.names.push(name)?;
-        Ok(())
     }
 
     /// The parts that hold the fields an expression names, as one; all parts, if they lend memory.
@@ -708,7 +648,13 @@ impl<'b, 'a> Builder<'b, 'a> {
         marker::check(&mut self.markers, marker, &computer, &computed)
     }
 
-    fn is_truth(&self, computed: &Computed, is_whole: bool, span: Span) -> Result<(), Stop> {
+    /// Complains of a condition that is a number, or that may have no value.
+    pub(crate) fn is_truth(
+        &self,
+        computed: &Computed,
+        is_whole: bool,
+        span: Span,
+    ) -> Result<(), Stop> {
         if computed.is_number() {
             return self.wrong(
                 span,
@@ -782,17 +728,14 @@ impl<'b, 'a> Builder<'b, 'a> {
     }
 }
 
-// The type of what a list or an option holds.
-fn held_kind(alloc: Global, field: &Field<'_>) -> Result<String, AllocError> {
+/// The type of what a list or an option holds.
+pub(crate) fn held_kind(alloc: Global, field: &Field<'_>) -> Result<String, AllocError> {
     let mut held = String::new(alloc);
     if let Type::Of(_, inner) = &field.kind {
         item(&mut held, inner, field)?;
     }
     Ok(held)
 }
-
-// How many bits of padding there are at most.
-const PADDING: u64 = 1024;
 
 /// The name of a field. That of a tuple is called by its place.
 pub fn field_name(alloc: Global, field: &Field<'_>, place: usize) -> Result<String, AllocError> {

@@ -1,28 +1,23 @@
 //! Enums whose id is a field in front of them.
 
 use crate::building::Builder;
-use crate::computing::{Computed, Computer};
-use crate::marker::{Marker, alike, declared, implemented, reached};
 use deku_attributes::given::{given_kind, is_given, passed};
 use deku_attributes::model::Field;
 use deku_description::syntax::{Expression, Type};
-use deku_texts::chosen::chosen;
+use deku_markers::chosen::chosen;
+use deku_markers::computing::Computer;
+use deku_markers::marker;
+use deku_markers::marker::Marker;
 use deku_texts::part::{Named, Owner};
 use deku_texts::records::Records;
 use deku_texts::refusal::Stop;
 use deku_texts::words;
 use deku_tokens::token::{Kind, Token};
-use std::alloc::AllocError;
-use std::fmt::Write as _;
 
 impl<'b, 'a> Builder<'b, 'a> {
     /// Complains of an enum without the id that it is given, and of values that are given to
     /// another type.
-    pub(crate) fn gives(
-        &self,
-        field: &Field<'a>,
-        context: Option<Token<'a>>,
-    ) -> Result<(), Stop> {
+    pub(crate) fn gives(&self, field: &Field<'a>, context: Option<Token<'a>>) -> Result<(), Stop> {
         let is_alone = matches!(&field.kind, Type::Name(_));
         let is_given = has_given(self.records, &field.kind);
         let (message, help) = match (is_given, context.is_some()) {
@@ -79,7 +74,7 @@ impl<'b, 'a> Builder<'b, 'a> {
         };
         let mut computer = Computer::new(self.alloc, head.places.as_slice(), self.constants);
         let computed = computer.name(id.text, id.span)?;
-        id_marker(&mut self.markers, marker, &computer, &computed)?;
+        marker::id(&mut self.markers, marker, &computer, &computed)?;
         let owner = self.owner;
         let part = chosen(self.alloc, owner, head, called, (named.as_str(), kind.text))?;
         self.names.push(named)?;
@@ -124,42 +119,4 @@ fn has_given<'a>(records: &Records<'_, 'a>, kind: &Type<'a>) -> bool {
         Type::Of(_, item) | Type::Array(item, _) => has_given(records, item),
         Type::Tuple(parts) => parts.iter().any(|part| has_given(records, part)),
     }
-}
-
-// Appends the marker of an id: which kind a field is.
-fn id_marker(
-    out: &mut String,
-    marker: Marker<'_>,
-    computer: &Computer<'_, '_, '_>,
-    computed: &Computed,
-) -> Result<(), Stop> {
-    declared(out, marker, "Which kind", "is", computed.code.as_str())?;
-    id_said(out, marker, computer, computed)?;
-    if let Some(lent) = marker.of_lent() {
-        id_said(out, lent, computer, computed)?;
-    }
-    alike(out, "IdOfLaw", marker, computer)
-}
-
-// Appends which id the parts say.
-fn id_said(
-    out: &mut String,
-    marker: Marker<'_>,
-    computer: &Computer<'_, '_, '_>,
-    computed: &Computed,
-) -> Result<(), AllocError> {
-    let parts = marker.parts;
-    let term = computed.term.as_str();
-    implemented(out, "IdOf", marker)?;
-    writeln!(out, "    ghost id_of = {{ λ p. {term} }};\n")?;
-    writeln!(out, "    fn id(parts: &{parts}) -> u64 {{")?;
-    out.push_str("        ")?;
-    for index in &computer.used {
-        if let Some(place) = computer.places.get(*index) {
-            reached(out, place)?;
-            let is_whole = place.number == Some("u64");
-            out.push_str(if is_whole { "\n" } else { " as u64\n" })?;
-        }
-    }
-    out.push_str("    }\n}\n")
 }

@@ -3,8 +3,8 @@
 
 pub mod building;
 mod choosing;
-pub mod computing;
-pub mod marker;
+mod constants;
+mod listing;
 mod refusing;
 pub mod temporary;
 pub mod updating;

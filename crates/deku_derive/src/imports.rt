@@ -6,7 +6,7 @@ use std::alloc::{AllocError, Global};
 use std::fmt::Write as _;
 
 // The names of deku_symmetry, in the order in which `rt fmt` has them.
-const PARTS: [&str; 46] = [
+const PARTS: [&str; 50] = [
     "Assert",
     "Be",
     "Before",
@@ -29,6 +29,8 @@ const PARTS: [&str; 46] = [
     "IdOfLaw",
     "InRange",
     "Kind",
+    "Last",
+    "LastLaw",
     "Le",
     "Lsb",
     "LsbBe",
@@ -51,6 +53,8 @@ const PARTS: [&str; 46] = [
     "SizedBy",
     "Symmetric",
     "ToParts",
+    "Until",
+    "UntilRef",
     "read_record",
     "write_record",
 ];

@@ -7,8 +7,8 @@ use crate::{enums, structs};
 use deku_attributes::given::{given, is_given};
 use deku_attributes::model::{Case, Field, Form, Id, IdSource, Ids, Module, Record};
 use deku_dependents::building::{Builder, field_name};
-use deku_dependents::marker::zeros;
 use deku_description::syntax::{Constant, Type};
+use deku_markers::marker::zeros;
 use deku_texts::part::Owner;
 use deku_texts::records::Records;
 use deku_texts::refusal::Stop;
@@ -309,10 +309,7 @@ impl<'b, 'a> Printer<'b, 'a> {
                 "a magic in front of an enum is not supported",
                 "write the magic on the field that holds the enum",
             ),
-            None if cases.is_empty() => (
-                "an enum without kinds has no values",
-                "write a kind",
-            ),
+            None if cases.is_empty() => ("an enum without kinds has no values", "write a kind"),
             None if path.is_none() => (
                 "an enum needs the name of its module",
                 "print it with `-o crates/NAME/src/MODULE.rt`, or with `--module NAME::MODULE`",

@@ -5,13 +5,9 @@
 //! bytes   as many bytes
 //! ```
 
-ghost use Rattle.std.specs.Prelude.{refl, nat_lt, Some, None, nat_eq, pos, if◌then◌else◌};
-ghost use Rattle.std.proofs.Common.{arith};
+ghost use Rattle.std.specs.Prelude.{refl, nat_lt, Some, None, nat_eq, if◌then◌else◌};
 ghost use Rattle.deku.specs.Composing.{Then};
 ghost use Rattle.deku.specs.Shapes.{Shows};
-ghost use Rattle.deku_num.specs.Numbers.{byte};
-ghost use Rattle.deku_pieces.specs.Pieces.{plain};
-ghost use Rattle.deku_pieces.proofs.Ending.{first_wide, number_wide};
 
 use deku::device::{Sink, Source};
 use deku::prelude::{
@@ -152,19 +148,19 @@ impl DekuWriter<()> for Label {
 }
 
 /// The empty label ends a name.
-impl Last for Label {
+#[derive(Debug, PartialEq, Eq, Drop)]
+pub struct NameLast;
+
+impl Last<Label> for NameLast {
     ghost last_of = { λ l. nat_eq l.length 0 };
 
-    fn is_last(&self) -> bool {
-        self.length == 0
+    fn is_last(label: &Label) -> bool {
+        label.length == 0
     }
 }
 
-impl LastLaw for Label {
+impl LastLaw<Label> for NameLast {
     ghost alike = { λ v w e. rw e.0 refl };
-
-    ghost wide = { λ v ps p. first_wide (λ qs q. number_wide byte plain (pos v.length)
-        (omega (arith)) qs q) ps p };
 }
 
 impl DekuContainerRead for Label {}

@@ -10,7 +10,7 @@ ghost use Rattle.std.specs.Prelude.{refl};
 ghost use Rattle.deku.specs.Composing.{Then};
 ghost use Rattle.deku.specs.Shapes.{Shows};
 
-use crate::label::Label;
+use crate::label::{Label, NameLast};
 use deku::device::{Sink, Source};
 use deku::prelude::{
     DekuContainerRead, DekuContainerWrite, DekuError, DekuReader, DekuWriter, Reader, Writer,
@@ -21,7 +21,7 @@ use deku_symmetry::{Be, FromParts, Record, Until, read_record};
 #[derive(Debug, PartialEq, Eq, Drop)]
 pub struct Question {
     /// The name: its labels, with the empty one that ends it.
-    pub name: Until<Label>,
+    pub name: Until<Label, NameLast>,
     /// What is asked about it.
     pub kind: u16,
     /// The class of the name.
@@ -29,7 +29,7 @@ pub struct Question {
 }
 
 /// The fields, in order.
-pub type Parts = (Until<Label>, Be<u16>, Be<u16>);
+pub type Parts = (Until<Label, NameLast>, Be<u16>, Be<u16>);
 
 impl FromParts for Question {
     type Parts = Parts;

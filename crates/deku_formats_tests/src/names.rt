@@ -2,7 +2,7 @@
 
 use deku::prelude::{DekuError, NeedSize};
 use deku_dns::header::Header;
-use deku_dns::label::Label;
+use deku_dns::label::{Label, NameLast};
 use deku_dns::query::Query;
 use deku_dns::question::Question;
 use deku_symmetry::{Symmetric, Until};
@@ -38,7 +38,7 @@ fn header() -> Header {
 }
 
 // A name of these labels, and no other.
-fn name(alloc: Global, labels: &[&[u8]]) -> Result<Until<Label>, Fail> {
+fn name(alloc: Global, labels: &[&[u8]]) -> Result<Until<Label, NameLast>, Fail> {
     let mut items = Vec::new(alloc);
     for bytes in labels {
         let label = Label {
@@ -47,7 +47,7 @@ fn name(alloc: Global, labels: &[&[u8]]) -> Result<Until<Label>, Fail> {
         };
         items.push(label)?;
     }
-    Ok(Until { items })
+    Ok(Until::new(items))
 }
 
 #[test]

@@ -46,6 +46,6 @@ impl<H: ItemCount + DekuReader<()>, T: DekuReader<()>> OnePart for Counted<H, T>
 
 impl<I: Id, T: DekuReader<()>> OnePart for Prefixed<I, T> {}
 
-impl<T: Last + DekuReader<()>> OnePart for Until<T> {}
+impl<T: DekuReader<()>, C: Last<T>> OnePart for Until<T, C> {}
 
 impl<T: DekuReader<()>> OnePart for Rest<T> {}

@@ -8,13 +8,9 @@
 //! bytes   as many bytes
 //! ```
 
-ghost use Rattle.std.specs.Prelude.{refl, nat_lt, nat_le, Some, None, nat_eq, ◌||◌, pos, if◌then◌else◌};
-ghost use Rattle.std.proofs.Common.{arith};
+ghost use Rattle.std.specs.Prelude.{refl, nat_lt, nat_le, Some, None, nat_eq, ◌||◌, if◌then◌else◌};
 ghost use Rattle.deku.specs.Composing.{Then};
 ghost use Rattle.deku.specs.Shapes.{Shows};
-ghost use Rattle.deku_num.specs.Numbers.{byte};
-ghost use Rattle.deku_pieces.specs.Pieces.{plain};
-ghost use Rattle.deku_pieces.proofs.Ending.{first_wide, number_wide};
 
 use deku::device::{Sink, Source};
 use deku::prelude::{
@@ -26,7 +22,7 @@ use deku_symmetry::{
 };
 
 /// A name: its labels, of which the last is empty or a pointer.
-pub type Name = Until<Label>;
+pub type Name = Until<Label, NameLast>;
 
 /// The first byte of a label. 64 to 191 are reserved, and are rejected.
 #[derive(Debug, PartialEq, Eq, Drop)]
@@ -156,19 +152,19 @@ impl DekuWriter<()> for Label {
 }
 
 /// The empty label and a pointer end a name.
-impl Last for Label {
+#[derive(Debug, PartialEq, Eq, Drop)]
+pub struct NameLast;
+
+impl Last<Label> for NameLast {
     ghost last_of = { λ l. nat_eq l.length 0 || nat_le 192 l.length };
 
-    fn is_last(&self) -> bool {
-        self.length == 0 || self.length >= 192
+    fn is_last(label: &Label) -> bool {
+        label.length == 0 || label.length >= 192
     }
 }
 
-impl LastLaw for Label {
+impl LastLaw<Label> for NameLast {
     ghost alike = { λ v w e. rw e.0 refl };
-
-    ghost wide = { λ v ps p. first_wide (λ qs q. number_wide byte plain (pos v.length)
-        (omega (arith)) qs q) ps p };
 }
 
 impl DekuContainerRead for Label {}

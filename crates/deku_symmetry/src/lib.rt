@@ -30,7 +30,7 @@ pub use deku_pieces::rest::{Before, Rest};
 pub use deku_pieces::scattered;
 pub use deku_pieces::sized_by::{SizeOf, SizedBy};
 pub use deku_pieces::under_head::{ContextOf, UnderHead};
-pub use deku_pieces::until::{Last, Until};
+pub use deku_pieces::until::{Last, Until, UntilRef};
 pub use either::{Kinds, KindsLaw};
 pub use enums::{Enum, Id, LsbBeEnum, LsbEnum, MsbEnum, MsbLeEnum};
 pub use fields::{Be, Le, Lsb, LsbBe, Msb, MsbLe};

@@ -40,24 +40,20 @@ impl<H: ItemCountLaw, T: Symmetric<()>> Symmetric<()> for Counted<H, T> {
         (H.Symmetric.symmetric tt) (T.symmetric tt) };
 }
 
-/// An item that can end its list. Items that are the same all end it, or none of them does. Each
-/// item has at least one bit.
-pub trait LastLaw: Last + Symmetric<()> {
+/// Items that are the same all end their lists, or none of them does.
+pub trait LastLaw<T: Symmetric<()>>: Last<T> {
     // Items that are the same all end their lists, or none of them does.
-    ghost alike: { (v w : Self) → Self.Symmetric.same v w
-        → Self.Last.last_of v ≡ Self.Last.last_of w };
-
-    // An item that has pieces has at least one bit.
-    ghost wide: { (v : Self) (ps : List Piece) → Self.Symmetric.pieces v tt ps → 0 < breadth ps };
+    ghost alike: { (v w : T) → T.Symmetric.same v w → Self.Last.last_of v ≡ Self.Last.last_of w };
 }
 
-/// The pieces of the items. The first item that ends them has to be the last one.
-impl<T: LastLaw> Symmetric<()> for Until<T> {
-    ghost pieces = { λ v _. OfEnded T.Last.last_of (λ x. T.Symmetric.pieces x tt) v.items.items };
+/// The pieces of the items. The first item that ends them has to be the last one, and each one
+/// before it has at least one bit.
+impl<T: Symmetric<()>, C: LastLaw<T>> Symmetric<()> for Until<T, C> {
+    ghost pieces = { λ v _. OfEnded C.Last.last_of (λ x. T.Symmetric.pieces x tt) v.items.items };
 
     ghost same = { λ v w. SameEach T.Symmetric.same v.items.items w.items.items };
 
-    ghost symmetric = { λ _. ended_symmetric T.Last.last_of T.LastLaw.alike T.LastLaw.wide
+    ghost symmetric = { λ _. ended_symmetric C.Last.last_of C.LastLaw.alike
         (T.Symmetric.symmetric tt) };
 }
 

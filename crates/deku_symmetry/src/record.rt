@@ -59,7 +59,7 @@ pub trait ToParts: FromParts {
 }
 
 /// A record that is read and written as its parts, under this context. If that is `()` or `Endian`,
-/// and its parts are `Symmetric`, so is the record. The page `docs/RECORDS.md` shows a complete one.
+/// and its parts are `Symmetric`, so is the record. The page `docs/RECORDS.md` shows one.
 ///
 /// ```text
 /// impl Record<()> for Sample {

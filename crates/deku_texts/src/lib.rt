@@ -1,7 +1,6 @@
 //! What modules say of the parts of records: their texts, laid out as `rt fmt` does.
 #![tactic(auto)]
 
-pub mod chosen;
 pub mod document;
 pub mod part;
 pub mod records;

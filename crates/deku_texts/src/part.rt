@@ -105,7 +105,7 @@ fn one_place<'a>(
 }
 
 /// Places after what leads to the part that they are in.
-pub(crate) fn within<'a>(
+pub fn within<'a>(
     alloc: Global,
     places: Vec<Place<'a>>,
     path: &str,

@@ -3,7 +3,7 @@
 use std::alloc::{AllocError, Global};
 
 // The names that a module imports or that its bounds have.
-const IMPORTED: [&str; 63] = [
+const IMPORTED: [&str; 67] = [
     "Source",
     "Sink",
     "DekuContainerRead",
@@ -38,6 +38,10 @@ const IMPORTED: [&str; 63] = [
     "Prefixed",
     "PrefixedRef",
     "Before",
+    "Until",
+    "UntilRef",
+    "Last",
+    "LastLaw",
     "Rest",
     "SizedBy",
     "SizeOf",

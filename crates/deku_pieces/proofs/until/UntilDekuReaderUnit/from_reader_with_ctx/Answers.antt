@@ -2,7 +2,7 @@ use Rattle.deku.proofs.Joining.{passed_on, mapped_ok, mapped_err}
 use Rattle.deku_pieces.proofs.until.UntilDekuReaderUnit.from_reader_with_ctx.Goals as goal
 
 pub returns-in_err-items-clause-reads : goal.returns-in_err-items-clause-reads
-returns-in_err-items-clause-reads g c = passed_on _ c.from_residual.ensures.1 (mapped_err (λ xs. record { items = xs }) c.in_err-items.ensures.reads)
+returns-in_err-items-clause-reads g c = passed_on _ c.from_residual.ensures.1 (mapped_err (λ xs. record { items = xs; last = record {} }) c.in_err-items.ensures.reads)
 
 pub returns-clause-reads : goal.returns-clause-reads
-returns-clause-reads g c = mapped_ok (λ xs. record { items = xs }) c.in_ok-items.ensures.reads
+returns-clause-reads g c = mapped_ok (λ xs. record { items = xs; last = record {} }) c.in_ok-items.ensures.reads

@@ -1,7 +1,7 @@
 //! Parts, and after them an enum that they choose the kind of.
 
-use crate::document::{Form, Text, joined};
-use crate::part::{Named, Owner, Part, Place, within};
+use deku_texts::document::{Form, Text, joined};
+use deku_texts::part::{Named, Owner, Part, Place, within};
 use std::alloc::{AllocError, Global};
 
 /// A head, and after it a field of this enum, of the kind that the marker of this name says.
@@ -76,7 +76,13 @@ fn value_of(
         let open = format!(in alloc; "ChosenBy::<_, {marker}, _> {{")?;
         let head = head.after(alloc, "head: ")?;
         let kind = kind.after(alloc, "kind: ")?;
-        return three(alloc, (Form::Brace, open.as_str()), head, kind, "id: PhantomData");
+        return three(
+            alloc,
+            (Form::Brace, open.as_str()),
+            head,
+            kind,
+            "id: PhantomData",
+        );
     }
     let mut items = Vec::new(alloc);
     items.push(head)?;
