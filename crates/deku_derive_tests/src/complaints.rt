@@ -403,8 +403,8 @@ fn descriptions_without_a_module(rt: HostRuntime) -> Result<(), Fail> {
     Ok(())
 }
 
-// The places and messages of what is said of a description, a line each.
-fn said_of(alloc: Global, text: &str) -> Result<String, AllocError> {
+/// The places and messages of what is said of a description, a line each.
+pub(crate) fn said_of(alloc: Global, text: &str) -> Result<String, AllocError> {
     told_of(alloc, make(alloc, "a.rs", Some("samples.a"), text)?)
 }
 
