@@ -130,7 +130,9 @@ impl FromParts for Message {
         }
     }
 
-    ghost there = { λ r. rw (⟦<Body as FromParts>⟧.there r.body) refl };
+    ghost use Rattle.deku_attribute_tests.specs.contracts.choosing.BodyFromParts.TheImpl.Laws.{there-law as body_there};
+
+    ghost there = { λ r. rw (body_there r.body) refl };
 }
 
 impl ToParts for Message {

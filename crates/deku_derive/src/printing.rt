@@ -178,7 +178,7 @@ impl<'b, 'a> Printer<'b, 'a> {
                     "leave it out, or write `()` in its place",
                 )
             }
-            Form::Struct(_, _) => self.structure(record),
+            Form::Struct(_, _) => self.structure(record, path),
             Form::Enum(ids, cases) => self.enumeration(record, *ids, cases.as_slice(), path),
         }
     }
@@ -229,7 +229,7 @@ impl<'b, 'a> Printer<'b, 'a> {
         Ok(())
     }
 
-    fn structure(&mut self, record: &Record<'a>) -> Result<(), AllocError> {
+    fn structure(&mut self, record: &Record<'a>, path: Option<&str>) -> Result<(), AllocError> {
         let Form::Struct(shape, fields) = &record.form else {
             return Ok(());
         };
@@ -249,6 +249,7 @@ impl<'b, 'a> Printer<'b, 'a> {
             *shape,
             fields.as_slice(),
             &mut builder,
+            path,
         )?;
         self.built(record, builder)
     }

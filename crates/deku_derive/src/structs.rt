@@ -1,12 +1,13 @@
 //! Structs, as they are printed.
 
+use crate::choosing::there;
 use crate::updates::update;
 use deku_attributes::given::chosen;
 use deku_attributes::model::{Field, Record};
 use deku_dependents::building::{Builder, field_name};
 use deku_dependents::temporary::is_temporary;
 use deku_description::syntax::Shape;
-use deku_texts::document::{Form, Text, joined};
+use deku_texts::document::{Form, Text};
 use deku_texts::part::{Owner, Part};
 use deku_texts::words::{quoted, snake};
 use deku_texts::wrapping::field_kind;
@@ -98,6 +99,7 @@ pub(crate) fn implementation(
     shape: Shape,
     fields: &[Field<'_>],
     builder: &mut Builder<'_, '_>,
+    path: Option<&str>,
 ) -> Result<(), AllocError> {
     let alloc = *out.allocator();
     let name = record.name.text;
@@ -110,7 +112,7 @@ pub(crate) fn implementation(
     record_of(alloc, shape, fields, &whole)?.print(out, 4, 3, false)?;
     out.push_str(" };\n\n")?;
     from_parts(out, record, shape, fields, &whole)?;
-    there(out, fields)?;
+    there(out, fields, path)?;
     if builder.owner == Owner::Copied {
         writeln!(out, "\nimpl ToParts for {name} {{")?;
         out.push_str("    fn parts(&self) -> Self::Parts {\n        ")?;
@@ -142,28 +144,6 @@ pub(crate) fn parts_alias(
     kind.print(out, 0, 1, false)?;
     writeln!(out, ";\n\nimpl FromParts for {name} {{")?;
     writeln!(out, "    type Parts = {name}{word};\n")
-}
-
-// Appends the law that no field is missing from the parts.
-fn there(out: &mut String, fields: &[Field<'_>]) -> Result<(), AllocError> {
-    let alloc = *out.allocator();
-    let mut laws = Vec::new(alloc);
-    for (i, field) in fields.iter().enumerate() {
-        if let Some(kind) = chosen(field) {
-            let law = format!(in alloc; "⟦<{kind} as FromParts>⟧.there r.")?;
-            let law = law.as_str();
-            laws.push(match field.name {
-                Some(name) => joined(alloc, law, name.text)?,
-                None => format!(in alloc; "{law}{i}")?,
-            })?;
-        }
-    }
-    let all = laws.as_slice().join(alloc, ", ")?;
-    let all = all.as_str();
-    match laws.len() {
-        0 => out.push_str("    ghost there = { λ r. refl };\n}\n"),
-        _ => writeln!(out, "    ghost there = {{ λ r. rw ({all}) refl }};\n}}"),
-    }
 }
 
 /// Appends the traits of deku for a record that is written by this body.

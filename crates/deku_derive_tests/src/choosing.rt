@@ -226,7 +226,9 @@ impl FromParts for S {
         }
     }
 
-    ghost there = { λ r. rw (⟦<E as FromParts>⟧.there r.e) refl };
+    ghost use Rattle.samples.specs.contracts.a.EFromParts.TheImpl.Laws.{there-law as e_there};
+
+    ghost there = { λ r. rw (e_there r.e) refl };
 }
 
 impl ToParts for S {
@@ -245,7 +247,17 @@ type SParts = ChosenBy<SField3Head, SField3Id, EKinds>;
     (
         "struct S(u16, u64, #[deku(ctx = \"field_0\")] E, #[deku(ctx = \"*field_0\")] E);",
         "
-    ghost there = { λ r. rw (⟦<E as FromParts>⟧.there r.2, ⟦<E as FromParts>⟧.there r.3) refl };
+        S(
+            field_0,
+            field_1,
+            E::from_parts(field_2),
+            E::from_parts(field_3),
+        )
+    }
+
+    ghost use Rattle.samples.specs.contracts.a.EFromParts.TheImpl.Laws.{there-law as e_there};
+
+    ghost there = { λ r. rw (e_there r.2, e_there r.3) refl };
 ",
     ),
     (
