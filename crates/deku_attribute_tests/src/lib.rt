@@ -9,6 +9,8 @@ mod checks;
 #[cfg(test)]
 mod dependents;
 #[cfg(test)]
+mod ended;
+#[cfg(test)]
 mod kinds;
 #[cfg(test)]
 mod numbers;
