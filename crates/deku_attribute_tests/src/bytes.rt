@@ -4,7 +4,7 @@ use crate::checks::{
     AtLeast, BitsAfter, BitsBefore, BytesAfter, BytesBefore, Named, NamedField, Only,
 };
 use crate::dependents::{Alone, Counting, Sizing, ToEnd, Two, Updating, UpdatingTwo, Whether};
-use crate::ended::{Halves, Lists, Numbers, Text};
+use crate::ended::{Entries, Entry, Halves, Label, Lists, Name, Numbers, Text};
 use crate::kinds::{EndianOfId, Numbered, Patterns, UnderBits, UnderByte, UnderBytes};
 use crate::numbers::{Bits, Bytes, Endians, LowFirst, OrderOfFields, Orders};
 use deku::prelude::{DekuError, DekuUpdate, NeedSize};
@@ -218,6 +218,39 @@ fn lists_that_an_item_ends(rt: HostRuntime) -> Result<(), Fail> {
     let bytes = [0x01, 0x00, 0x01, 0xFF, 0x05, 0xFF, 0xFF, 0x00];
     same(&2, &lists.pack_whole(alloc)?.as_slice(), &bytes.as_slice())?;
     same(&3, &Lists::unpack_whole(alloc, &bytes)?, &(64, lists))
+}
+
+fn label(alloc: Global, bytes: &[u8], length: u8) -> Result<Label, Fail> {
+    Ok(Label {
+        length,
+        bytes: bytes.to_vec(alloc)?,
+    })
+}
+
+#[test]
+fn lists_that_a_field_of_an_item_ends(rt: HostRuntime) -> Result<(), Fail> {
+    let alloc = rt.alloc();
+    let mut labels = Vec::new(alloc);
+    labels.push(label(alloc, &[0x61, 0x62, 0x63], 3)?)?;
+    labels.push(label(alloc, &[], 0)?)?;
+    let mut name = Name { labels, kind: 1 };
+    let bytes = [0x03, 0x61, 0x62, 0x63, 0x00, 0x00, 0x01];
+    expect_packed(alloc, (), &name, 56, &bytes)?;
+    name.labels.pop();
+    let refusal = DekuError::Assertion("items out of step with their end");
+    same(&1, &name.pack(alloc, ()), &Err(refusal))?;
+    let entries = [(true, 5), (true, 7)].map(|(more, key)| Entry { more, key });
+    let mut table = Entries {
+        entries: entries.to_vec(alloc)?,
+    };
+    let bytes = [0x65, 0x80, 0x05, 0x65, 0x80, 0x07];
+    expect_packed(alloc, (), &table, 48, &bytes)?;
+    table.entries.push(Entry {
+        more: false,
+        key: 7,
+    })?;
+    let refusal = DekuError::Assertion("items out of step with their end");
+    same(&2, &table.pack(alloc, ()), &Err(refusal))
 }
 
 // How many items there are, what an update returns, and the count then: if it is refused, the one
