@@ -11,6 +11,8 @@ mod choosing;
 #[cfg(test)]
 mod dependents;
 #[cfg(test)]
+mod ended;
+#[cfg(test)]
 mod kinds;
 #[cfg(test)]
 mod numbers;

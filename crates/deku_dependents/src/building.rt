@@ -37,6 +37,8 @@ pub struct Builder<'b, 'a> {
     /// Their names.
     pub names: Vec<String>,
     pub complaints: Vec<Complaint>,
+    /// The structs in front of the record, and where their fields are in their parts.
+    pub structs: Vec<(&'a str, Vec<Place<'a>>)>,
     // Whether its last part takes the rest of the input.
     is_ended: bool,
     // Whether a part lends memory in more than one place. It is never beside others.
@@ -89,6 +91,7 @@ impl<'b, 'a> Builder<'b, 'a> {
             markers: String::new(alloc),
             names: Vec::new(alloc),
             complaints: Vec::new(alloc),
+            structs: Vec::new(alloc),
             is_ended: false,
             is_nested: false,
             temporary: None,

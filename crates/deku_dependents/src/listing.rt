@@ -13,6 +13,9 @@ use deku_texts::words;
 use deku_texts::wrapping::number_in;
 use std::alloc::{AllocError, Global};
 
+// What the function calls an item that says whether it is the last.
+const ITEM: &'static str = "item";
+
 /// What is printed of such a list.
 #[derive(Clone, Copy)]
 pub(crate) struct Listed<'l> {
@@ -113,9 +116,12 @@ impl<'b, 'a> Builder<'b, 'a> {
             lent: None,
             field: called.name,
         };
-        let places = item_places(self.alloc, field, name)?;
+        let (places, is_struct) = self.item_places(field, end)?;
         let mut computer = Computer::new(self.alloc, places.as_slice(), self.constants);
-        computer.from = "item";
+        computer.from = ITEM;
+        if is_struct {
+            computer.owner = Some(name);
+        }
         let computed = computer.value(&end.last)?;
         self.is_truth(&computed, computer.guards.is_empty(), field.span)?;
         marker::last(&mut self.markers, marker, &computer, &computed)?;
@@ -130,23 +136,50 @@ impl<'b, 'a> Builder<'b, 'a> {
         self.names.push(named)?;
         Ok(())
     }
+    // Where the numbers of an item are: the item by its name, or the fields of a struct by theirs.
+    fn item_places(
+        &self,
+        field: &Field<'a>,
+        end: &Closure<'a>,
+    ) -> Result<(Vec<Place<'a>>, bool), Stop> {
+        let kind = end.kind;
+        for (name, places) in &self.structs {
+            if kind.is_name(name) {
+                return Ok((within_item(self.alloc, places.as_slice())?, true));
+            }
+        }
+        if self.records.has(kind.text) {
+            return self.wrong(
+                kind.span,
+                "items that are no numbers and no structs in front of this one",
+                "move their struct in front",
+            );
+        }
+        let mut places = Vec::new(self.alloc);
+        if let Type::Of(_, item) = &field.kind {
+            let (number, path) = number_in(item, field);
+            places.push(Place {
+                name: String::from_str(self.alloc, end.name.text)?,
+                number,
+                path: String::from_str(self.alloc, path)?,
+                same: String::new(self.alloc),
+            })?;
+        }
+        Ok((places, false))
+    }
 }
 
-// Where the number is in an item of a list that is called by this name.
-fn item_places<'a>(
-    alloc: Global,
-    field: &Field<'a>,
-    name: &str,
-) -> Result<Vec<Place<'a>>, AllocError> {
-    let mut places = Vec::new(alloc);
-    if let Type::Of(_, item) = &field.kind {
-        let (number, path) = number_in(item, field);
-        places.push(Place {
-            name: String::from_str(alloc, name)?,
-            number,
-            path: String::from_str(alloc, path)?,
-            same: String::new(alloc),
+// Where the fields of a struct are, from the struct. None has the name of the item that it is.
+fn within_item<'a>(alloc: Global, places: &[Place<'a>]) -> Result<Vec<Place<'a>>, AllocError> {
+    let mut fields = Vec::new(alloc);
+    for place in places.iter().filter(|it| it.name.as_str() != ITEM) {
+        let name = place.name.as_str();
+        fields.push(Place {
+            name: place.name.clone()?,
+            number: place.number,
+            path: format!(in alloc; ".{name}")?,
+            same: place.same.clone()?,
         })?;
     }
-    Ok(places)
+    Ok(fields)
 }

@@ -7,9 +7,9 @@ use crate::{enums, structs};
 use deku_attributes::given::{given, is_given};
 use deku_attributes::model::{Case, Field, Form, Id, IdSource, Ids, Module, Record};
 use deku_dependents::building::{Builder, field_name};
-use deku_description::syntax::{Constant, Type};
+use deku_description::syntax::{Constant, Shape, Type};
 use deku_markers::marker::zeros;
-use deku_texts::part::Owner;
+use deku_texts::part::{Owner, Place};
 use deku_texts::records::Records;
 use deku_texts::refusal::Stop;
 use deku_texts::words;
@@ -28,6 +28,8 @@ struct Printer<'b, 'a> {
     // The names of its types.
     names: Vec<String>,
     complaints: Vec<Complaint>,
+    // The structs in front, and where their fields are in their parts.
+    structs: Vec<(&'a str, Vec<Place<'a>>)>,
     is_for_c: bool,
 }
 
@@ -64,6 +66,7 @@ pub fn print(
         out: String::new(alloc),
         names: Vec::new(alloc),
         complaints: Vec::new(alloc),
+        structs: Vec::new(alloc),
         is_for_c: asked.exports.is_some(),
     };
     for record in &module.records {
@@ -127,7 +130,7 @@ impl<'b, 'a> Printer<'b, 'a> {
 
     // The parts of a struct.
     fn builder(
-        &self,
+        &mut self,
         record: &Record<'a>,
         fields: &[Field<'a>],
     ) -> Result<Builder<'b, 'a>, AllocError> {
@@ -138,6 +141,7 @@ impl<'b, 'a> Printer<'b, 'a> {
             Owner::Lent
         };
         let mut builder = Builder::new(self.alloc, self.records, self.constants, name, owner)?;
+        builder.structs = std::mem::replace(&mut self.structs, Vec::new(self.alloc));
         if let Some(bytes) = &record.magic {
             let named = words::marker(self.alloc, name, "", "Magic")?;
             let what = format!(in self.alloc; "magic of {name}")?;
@@ -146,6 +150,7 @@ impl<'b, 'a> Printer<'b, 'a> {
             builder.noted(added)?;
         }
         builder.fields(fields, 0)?;
+        self.structs = std::mem::replace(&mut builder.structs, Vec::new(self.alloc));
         Ok(builder)
     }
 
@@ -243,14 +248,19 @@ impl<'b, 'a> Printer<'b, 'a> {
             self.is_for_c,
         )?;
         self.out.push_str(builder.markers.as_str())?;
+        let whole = builder.whole()?;
         structs::implementation(
             &mut self.out,
             record,
             *shape,
             fields.as_slice(),
-            &mut builder,
+            builder.owner,
+            &whole,
             path,
         )?;
+        if *shape == Shape::Named {
+            self.structs.push((record.name.text, whole.places))?;
+        }
         self.built(record, builder)
     }
 

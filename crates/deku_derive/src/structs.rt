@@ -4,7 +4,7 @@ use crate::choosing::there;
 use crate::updates::update;
 use deku_attributes::given::chosen;
 use deku_attributes::model::{Field, Record};
-use deku_dependents::building::{Builder, field_name};
+use deku_dependents::building::field_name;
 use deku_dependents::temporary::is_temporary;
 use deku_description::syntax::Shape;
 use deku_texts::document::{Form, Text};
@@ -98,22 +98,22 @@ pub(crate) fn implementation(
     record: &Record<'_>,
     shape: Shape,
     fields: &[Field<'_>],
-    builder: &mut Builder<'_, '_>,
+    owner: Owner,
+    whole: &Part<'_>,
     path: Option<&str>,
 ) -> Result<(), AllocError> {
     let alloc = *out.allocator();
     let name = record.name.text;
-    let whole = builder.whole()?;
     named(out, name, whole.names.as_slice())?;
     parts_alias(out, name, "Parts", &whole.kind)?;
     out.push_str("    ghost parts_of = { λ r. ")?;
     whole.term.print(out, 4, 3, false)?;
     out.push_str(" };\n\n    ghost record_of = { λ p. ")?;
-    record_of(alloc, shape, fields, &whole)?.print(out, 4, 3, false)?;
+    record_of(alloc, shape, fields, whole)?.print(out, 4, 3, false)?;
     out.push_str(" };\n\n")?;
-    from_parts(out, record, shape, fields, &whole)?;
+    from_parts(out, record, shape, fields, whole)?;
     there(out, fields, path)?;
-    if builder.owner == Owner::Copied {
+    if owner == Owner::Copied {
         writeln!(out, "\nimpl ToParts for {name} {{")?;
         out.push_str("    fn parts(&self) -> Self::Parts {\n        ")?;
         whole.value.print(out, 8, 0, false)?;

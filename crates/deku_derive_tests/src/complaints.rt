@@ -260,8 +260,18 @@ const UNPRINTED: [(&str, &str); 47] = [
         "1:38 a field in an expression that is no number from 0 and no truth value",
     ),
     (
-        "struct A { a: u8 } struct B { #[deku(until = \"|v: &A| v.a == 0\")] v: Vec<A> }",
-        "1:55 a field of a field in an expression",
+        "struct A { a: u8, item: u8, b: i8 } struct M(u8); struct B { a: u8,
+#[deku(until = \"|v: &A| *v == 0\")] v: Vec<A>, #[deku(until = \"|v: &A| v.b == 0\")] w: Vec<A>,
+#[deku(until = \"|v: &A| v.item == 0\")] x: Vec<A>, #[deku(until = \"|a: &A| a == 0\")] y: Vec<A>,
+#[deku(until = \"|v: &C| v.a == 0\")] z: Vec<C>, #[deku(until = \"|v: &M| true\")] n: Vec<M>,
+#[deku(until = \"|v: &u8| v.a == 0\")] m: Vec<u8> } struct C { a: u8 }",
+        "2:26 a record in an expression
+2:73 a field in an expression that is no number from 0 and no truth value
+3:27 a name that is no field in front of this one
+3:75 a record in an expression
+4:22 items that are no numbers and no structs in front of this one
+4:69 items that are no numbers and no structs in front of this one
+5:26 a field of a field in an expression",
     ),
     (
         "struct A { #[deku(until = \"|parts: &u8| *parts == 0\")] v: Vec<u8> }",

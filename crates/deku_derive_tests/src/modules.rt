@@ -320,7 +320,7 @@ fn plain_records_are_printed(rt: HostRuntime) -> Result<(), Fail> {
 }
 
 // Descriptions of lists that end with an item, and texts that their modules have.
-const ENDS: [(&str, &str); 6] = [
+const ENDS: [(&str, &str); 7] = [
     (
         "struct A { n: u8, #[deku(until = \"|byte: &u8| *byte == 0\")] name: Vec<u8>, m: u8 }",
         "
@@ -388,6 +388,26 @@ impl Last<MsbLe<u16, 9>> for AItemsLast {
     fn is_last(item: &MsbLe<bool, 1>) -> bool {
         item.0
     }
+",
+    ),
+    (
+        "#[deku(magic = b\"e\")]
+         struct A { a: u8, #[deku(bits = 4)] b: u8, #[deku(bits = 4)] c: u8 }
+         struct B { #[deku(until = \"|v: &A| v.c == 3 && v.a != 0\")] items: Vec<A> }",
+        "
+impl Last<A> for BItemsLast {
+    ghost last_of = { λ p. nat_eq p.c 3 && not (nat_eq p.a 0) };
+
+    fn is_last(item: &A) -> bool {
+        let c = item.c;
+        let a = item.a;
+        c == 3 && a != 0
+    }
+}
+
+impl LastLaw<A> for BItemsLast {
+    ghost alike = { λ v w e. rw (e.1.1.1, e.1.0) refl };
+}
 ",
     ),
     (

@@ -42,6 +42,8 @@ pub struct Computer<'p, 'c, 'a> {
     pub is_mixed: bool,
     /// What the code that reaches the fields begins with.
     pub from: &'static str,
+    /// What the value is called that has the fields, if they are not named alone.
+    pub owner: Option<&'c str>,
 }
 
 impl<'p, 'c, 'a> Computer<'p, 'c, 'a> {
@@ -58,6 +60,7 @@ impl<'p, 'c, 'a> Computer<'p, 'c, 'a> {
             guards: Vec::new(alloc),
             is_mixed: false,
             from: "parts",
+            owner: None,
         }
     }
 
@@ -73,7 +76,15 @@ impl<'p, 'c, 'a> Computer<'p, 'c, 'a> {
                 let text = if *truth { "true" } else { "false" };
                 self.truth(text, text, ATOM)
             }
+            Expression::Name(name) if self.owner == Some(name.text) => self.wrong(
+                name.span,
+                "a record in an expression",
+                "compare one of its fields",
+            ),
             Expression::Name(name) => self.name(name.text, name.span),
+            Expression::Part(name, field) if self.owner == Some(name.text) => {
+                self.name(field.text, field.span)
+            }
             Expression::Part(name, _) => self.wrong(
                 name.span,
                 "a field of a field in an expression",
