@@ -136,6 +136,7 @@ impl<'b, 'a> Builder<'b, 'a> {
         self.names.push(named)?;
         Ok(())
     }
+
     // Where the numbers of an item are: the item by its name, or the fields of a struct by theirs.
     fn item_places(
         &self,
