@@ -18,3 +18,33 @@ struct Message {
     #[deku(ctx = "*kind")]
     body: Body,
 }
+
+/// A place.
+#[deku(endian = "big")]
+struct Place {
+    across: u16,
+    up: u16,
+}
+
+/// Kinds of a struct, of fields with names, and of nothing.
+#[deku(ctx = "id: u16", id = "id", endian = "big")]
+enum Step {
+    #[deku(id = 1)]
+    At(Place),
+    #[deku(id = 0x202)]
+    By { times: u8, turn: u16 },
+    Home = 3,
+}
+
+/// Two enums of one id, before and after a list.
+#[deku(endian = "big")]
+struct Steps {
+    id: u16,
+    count: u8,
+    #[deku(ctx = "*id")]
+    first: Step,
+    #[deku(count = "count")]
+    between: Vec<u8>,
+    #[deku(ctx = "*id")]
+    last: Step,
+}

@@ -3,7 +3,7 @@
 use crate::checks::{
     AtLeast, BitsAfter, BitsBefore, BytesAfter, BytesBefore, Named, NamedField, Only,
 };
-use crate::choosing::{Body, Message};
+use crate::choosing::{Body, Message, Place, Step, Steps};
 use crate::dependents::{Alone, Counting, Sizing, ToEnd, Two, Updating, UpdatingTwo, Whether};
 use crate::ended::{Entries, Entry, Halves, Label, Lists, Name, Numbers, Text};
 use crate::kinds::{EndianOfId, Numbered, Patterns, UnderBits, UnderByte, UnderBytes};
@@ -334,4 +334,55 @@ fn kinds_that_a_field_chooses(rt: HostRuntime) -> Result<(), Fail> {
     let refusal = DekuError::IdVariantNotFound;
     expect_refusal::<Message>(alloc, &[0x43, 0xBE, 0xEF], refusal, 8)?;
     expect_refusal::<Message>(alloc, &[0x40], refusal, 8)
+}
+
+// The id, the first step, the last one, and the bytes with two others between the steps.
+const STEPS: [(u16, Step, Step, &[u8]); 3] = [
+    (
+        1,
+        Step::At(Place {
+            across: 0x0102,
+            up: 0x0304,
+        }),
+        Step::At(Place { across: 5, up: 6 }),
+        &[
+            0x00, 0x01, 0x02, 0x01, 0x02, 0x03, 0x04, 0xAA, 0xBB, 0x00, 0x05, 0x00, 0x06,
+        ],
+    ),
+    (
+        0x202,
+        Step::By {
+            times: 7,
+            turn: 0x0809,
+        },
+        Step::By { times: 1, turn: 2 },
+        &[
+            0x02, 0x02, 0x02, 0x07, 0x08, 0x09, 0xAA, 0xBB, 0x01, 0x00, 0x02,
+        ],
+    ),
+    (3, Step::Home, Step::Home, &[0x00, 0x03, 0x02, 0xAA, 0xBB]),
+];
+
+#[test]
+fn kinds_that_a_field_chooses_twice(rt: HostRuntime) -> Result<(), Fail> {
+    let alloc = rt.alloc();
+    for (id, first, last, bytes) in STEPS {
+        let mut steps = Steps {
+            id,
+            count: 2,
+            first,
+            between: [0xAA, 0xBB].to_vec(alloc)?,
+            last,
+        };
+        expect_packed(alloc, (), &steps, bytes.len() * 8, bytes)?;
+        let refusal = DekuError::Assertion("kind out of step with its id");
+        steps.last = Step::By { times: 0, turn: 0 };
+        if id != 0x202 {
+            same(&id, &steps.pack(alloc, ()), &Err(refusal))?;
+        }
+        steps.last = last;
+        steps.id = 2;
+        same(&2, &steps.pack(alloc, ()), &Err(refusal))?;
+    }
+    Ok(())
 }
