@@ -7,7 +7,11 @@ mod bytes;
 #[cfg(test)]
 mod checks;
 #[cfg(test)]
+mod choosing;
+#[cfg(test)]
 mod dependents;
+#[cfg(test)]
+mod ended;
 #[cfg(test)]
 mod kinds;
 #[cfg(test)]

@@ -7,9 +7,9 @@ use crate::reading::{
     whole_bits,
 };
 use crate::table::Owner;
-use deku_description::formula::formula;
+use deku_description::formula::{closure, formula};
 use deku_description::syntax;
-use deku_description::syntax::{Expression, Fields, Head, Shape, Type};
+use deku_description::syntax::{Closure, Expression, Fields, Head, Shape, Type};
 use deku_tokens::place::Span;
 use deku_tokens::token::Token;
 use std::alloc::AllocError;
@@ -63,7 +63,7 @@ impl<'a> Checker<'a> {
         self.known(&kind)?;
         self.needs_length(&head, &kind, span)?;
         self.needs_condition(&head, &kind, span)?;
-        let attributes = self.attributes(&head, name, scope)?;
+        let attributes = self.attributes(&head, name, &kind, scope)?;
         if let Some(name) = name {
             self.once(name, scope)?;
         }
@@ -251,6 +251,7 @@ impl<'a> Checker<'a> {
         &mut self,
         head: &Head<'a>,
         name: Option<Token<'a>>,
+        kind: &Type<'a>,
         scope: &Scope<'a>,
     ) -> Result<Vec<Attribute<'a>>, AllocError> {
         let mut attributes = Vec::new(self.alloc);
@@ -264,9 +265,8 @@ impl<'a> Checker<'a> {
                 "pad_bits_before" | "pad_bytes_before" | "pad_bits_after" | "pad_bytes_after" => {
                     self.padding(*attribute)?
                 }
-                "ctx" | "until" | "temp_value" | "update" | "read_all" | "temp" => plain(
-                    *attribute,
-                ),
+                "ctx" | "temp_value" | "update" | "read_all" | "temp" => plain(*attribute),
+                "until" => self.until(*attribute, kind)?,
                 _ => self.computed(*attribute, scope)?,
             };
             if let Some(checked) = checked {
@@ -345,6 +345,62 @@ impl<'a> Checker<'a> {
         Ok(Some(expression))
     }
 
+    // The closure that says which item of a list is its last.
+    fn until(
+        &mut self,
+        attribute: syntax::Attribute<'a>,
+        list: &Type<'a>,
+    ) -> Result<Option<Attribute<'a>>, AllocError> {
+        let Some(value) = attribute.value else {
+            return Ok(None);
+        };
+        match closure(self.alloc, self.text, value.token)? {
+            Ok(closure) => {
+                self.closes(&closure, list)?;
+                Ok(Some(Attribute::Until(closure)))
+            }
+            Err(complaint) => {
+                self.note(complaint)?;
+                Ok(None)
+            }
+        }
+    }
+
+    // Complains of a closure that is not of an item of the list, or not of it alone.
+    fn closes(&mut self, closure: &Closure<'a>, list: &Type<'a>) -> Result<(), AllocError> {
+        let is_item = match list {
+            Type::Of(outer, item) if outer.is_name("Vec") => match &**item {
+                Type::Name(name) => name.is_name(closure.kind.text),
+                _ => false,
+            },
+            _ => true,
+        };
+        if !is_item {
+            self.complain(
+                closure.kind.span,
+                "a type that is not that of the items",
+                "write the type of the items",
+            )?;
+        }
+        let mut scope = self.scope(None)?;
+        if scope.names.contains(&closure.name.text) {
+            self.complain(
+                closure.name.span,
+                "an item of the name of a constant",
+                "give it another name",
+            )?;
+        }
+        scope.names.push(closure.name.text)?;
+        if let Some(name) = foreign_name(&closure.last, &scope) {
+            self.complain(
+                name.span,
+                "a name that is neither the item nor a constant",
+                "compare the item with a number",
+            )?;
+        }
+        Ok(())
+    }
+
     // How many bits are skipped before or after a field.
     fn padding(
         &mut self,
@@ -374,7 +430,6 @@ fn plain<'a>(attribute: syntax::Attribute<'a>) -> Option<Attribute<'a>> {
         ("read_all", _) => Some(Attribute::ReadAll),
         ("temp", _) => Some(Attribute::Temp),
         ("ctx", Some(value)) => Some(Attribute::Context(value.token)),
-        ("until", Some(value)) => Some(Attribute::Until(value.token)),
         ("temp_value", Some(value)) => Some(Attribute::TempValue(value.token)),
         ("update", Some(value)) => Some(Attribute::Update(value.token)),
         _ => None,

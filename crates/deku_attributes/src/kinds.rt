@@ -1,6 +1,7 @@
 //! Enums checked.
 
 use crate::checking::{Checker, LIMIT};
+use crate::given::given;
 use crate::model::{Case, Endian, Id, IdSource, Ids, Layout};
 use crate::reading::{bits_of, number_in, pattern_in, said, text_in};
 use crate::table::Owner;
@@ -27,10 +28,13 @@ impl<'a> Checker<'a> {
             },
         ) = said(head, "id")
         {
+            self.not_in_front(head)?;
+            let context = said(head, "ctx").and_then(|it| it.value);
+            let kind = given(context.map(|it| it.token), value.token).unwrap_or("u64");
             return Ok(Ids {
                 source: IdSource::Context(value.token),
                 layout,
-                bits: 64,
+                bits: bits_of(kind).unwrap_or(64),
             });
         }
         let (kind, whole) = self.id_type(head, name)?;

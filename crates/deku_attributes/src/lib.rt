@@ -3,6 +3,7 @@
 
 mod checking;
 mod fields;
+pub mod given;
 mod kinds;
 pub mod model;
 pub mod reading;

@@ -1,6 +1,6 @@
 //! Descriptions after they are checked.
 
-use deku_description::syntax::{Constant, Expression, Shape, Type};
+use deku_description::syntax::{Closure, Constant, Expression, Shape, Type};
 use deku_tokens::place::Span;
 use deku_tokens::token::Token;
 
@@ -166,8 +166,8 @@ pub enum Attribute<'a> {
     BitsRead(Expression<'a>),
     /// `bytes_read`
     BytesRead(Expression<'a>),
-    /// `until`, as its text with quotes.
-    Until(Token<'a>),
+    /// `until`
+    Until(Closure<'a>),
     /// `read_all`
     ReadAll,
     /// `cond`

@@ -1,8 +1,9 @@
 //! What attributes say, and what types are.
 
 use crate::model::Id;
-use deku_description::syntax::{Attribute, Expression, Head, Length, Type, Value};
+use deku_description::syntax::{Attribute, Constant, Expression, Head, Length, Type, Value};
 use deku_tokens::literal::integer;
+use deku_tokens::place::Span;
 use deku_tokens::token::{Kind, Token};
 
 /// The first attribute of a name.
@@ -151,5 +152,45 @@ pub(crate) fn foreign_name<'a>(
             Some(name) => Some(name),
             None => foreign_name(right, scope),
         },
+    }
+}
+
+/// Where an expression is, by its last name or number.
+pub fn span_of(expression: &Expression<'_>) -> Span {
+    match expression {
+        Expression::Number(_, span) | Expression::Truth(_, span) => *span,
+        Expression::Name(name) | Expression::Part(name, _) => name.span,
+        Expression::Not(value) | Expression::Cast(value, _) => span_of(value),
+        Expression::Both(_, left, _) => span_of(left),
+    }
+}
+
+/// The number that an expression is, if it is one or the name of a constant.
+pub fn literal(expression: &Expression<'_>, constants: &[Constant<'_>]) -> Option<u64> {
+    match expression {
+        Expression::Number(number, _) => Some(*number),
+        Expression::Name(name) => {
+            let constant = constants.iter().find(|it| it.name.text == name.text)?;
+            Some(constant.value)
+        }
+        _ => None,
+    }
+}
+
+/// Whether an expression names a field.
+pub fn names(expression: &Expression<'_>, field: &str) -> bool {
+    match expression {
+        Expression::Number(_, _) | Expression::Truth(_, _) => false,
+        Expression::Name(name) | Expression::Part(name, _) => name.text == field,
+        Expression::Not(value) | Expression::Cast(value, _) => names(value, field),
+        Expression::Both(_, left, right) => names(left, field) || names(right, field),
+    }
+}
+
+/// Whether an expression is the name of a field.
+pub fn is_name(expression: &Expression<'_>, field: &str) -> bool {
+    match expression {
+        Expression::Name(name) => name.text == field,
+        _ => false,
     }
 }

@@ -1,23 +1,24 @@
 //! The parts of the fields of a record, in their order.
 
-use crate::computing::{Computed, Computer, is_name, literal, names};
-use crate::marker;
-use crate::marker::{Amount, Marker, magic_kind, number_of};
-use crate::refusing::{partless, refused};
+use crate::refusing::partless;
 use crate::temporary::{Temporary, is_temporary};
 use crate::updating::{Updated, is_updated};
-use deku_attributes::model::{Attribute, Endian, Field, Order};
-use deku_attributes::reading::bits_of;
-use deku_description::syntax::{Constant, Expression, Operator, Type};
+use deku_attributes::model::{Attribute, Endian, Field};
+use deku_attributes::reading::{bits_of, is_name, literal, names};
+use deku_description::syntax::{Closure, Constant, Expression, Operator, Type};
+use deku_markers::computing::{Computed, Computer};
+use deku_markers::marker;
+use deku_markers::marker::{Amount, Marker};
 use deku_texts::document::Text;
 use deku_texts::part::{
-    Dependent, Named, Owner, Part, Place, asserted, constant, following, leaf, rest, tuple,
+    Dependent, Named, Owner, Part, Place, asserted, following, leaf, rest, tuple,
 };
 use deku_texts::records::Records;
 use deku_texts::refusal::Stop;
 use deku_texts::words;
 use deku_texts::wrapping::{item, number_kind};
 use deku_tokens::place::{Complaint, Span};
+use deku_tokens::token::Token;
 use std::alloc::{AllocError, Global};
 
 /// The parts of a record while they are made.
@@ -36,6 +37,8 @@ pub struct Builder<'b, 'a> {
     /// Their names.
     pub names: Vec<String>,
     pub complaints: Vec<Complaint>,
+    /// The structs in front of the record, and where their fields are in their parts.
+    pub structs: Vec<(&'a str, Vec<Place<'a>>)>,
     // Whether its last part takes the rest of the input.
     is_ended: bool,
     // Whether a part lends memory in more than one place. It is never beside others.
@@ -51,8 +54,10 @@ struct Said<'f, 'a> {
     count: Option<&'f Expression<'a>>,
     // How much the field takes, and how many bits each of it is.
     size: Option<(&'f Expression<'a>, u64)>,
+    end: Option<&'f Closure<'a>>,
     is_rest: bool,
     cond: Option<&'f Expression<'a>>,
+    context: Option<Token<'a>>,
     assert: Option<&'f Expression<'a>>,
     equal: Option<&'f Expression<'a>>,
     before: u64,
@@ -86,13 +91,14 @@ impl<'b, 'a> Builder<'b, 'a> {
             markers: String::new(alloc),
             names: Vec::new(alloc),
             complaints: Vec::new(alloc),
+            structs: Vec::new(alloc),
             is_ended: false,
             is_nested: false,
             temporary: None,
         })
     }
 
-    fn wrong<T>(&self, span: Span, message: &str, help: &str) -> Result<T, Stop> {
+    pub(crate) fn wrong<T>(&self, span: Span, message: &str, help: &str) -> Result<T, Stop> {
         Stop::wrong(self.alloc, span, message, help)
     }
 
@@ -174,8 +180,8 @@ impl<'b, 'a> Builder<'b, 'a> {
         tuple(self.alloc, items)
     }
 
-    // The part of a field alone.
-    fn leaf(&mut self, field: &Field<'a>, named: Named<'_>) -> Result<(), AllocError> {
+    /// The part of a field alone.
+    pub(crate) fn leaf(&mut self, field: &Field<'a>, named: Named<'_>) -> Result<(), AllocError> {
         let part = leaf(self.alloc, self.records, self.owner, field, named)?;
         self.items.push(part)?;
         Ok(())
@@ -217,7 +223,11 @@ impl<'b, 'a> Builder<'b, 'a> {
             }
             (_, _, Some(cond)) => self.after_head(field, called, cond, Dependent::Optional, 1)?,
             (None, None, None) if said.is_rest => self.rest(field, called)?,
-            (None, None, None) => self.leaf(field, called)?,
+            (None, None, None) => match (said.end, said.context) {
+                (Some(end), _) => self.until(field, called, end)?,
+                (None, Some(context)) => self.choice(field, called, context)?,
+                (None, None) => self.leaf(field, called)?,
+            },
         }
         if self.is_ended && said.after > 0 {
             return self.wrong(
@@ -316,8 +326,10 @@ impl<'b, 'a> Builder<'b, 'a> {
             magic: None,
             count: None,
             size: None,
+            end: None,
             is_rest: false,
             cond: None,
+            context: None,
             assert: None,
             equal: None,
             before: 0,
@@ -329,16 +341,24 @@ impl<'b, 'a> Builder<'b, 'a> {
                 Attribute::Count(expression) => said.count = Some(expression),
                 Attribute::BitsRead(expression) => said.size = Some((expression, 1)),
                 Attribute::BytesRead(expression) => said.size = Some((expression, 8)),
+                Attribute::Until(closure) => said.end = Some(closure),
                 Attribute::ReadAll => said.is_rest = true,
                 Attribute::Cond(expression) => said.cond = Some(expression),
+                Attribute::Context(token) => said.context = Some(*token),
                 Attribute::Assert(expression) => said.assert = Some(expression),
                 Attribute::AssertEq(expression) => said.equal = Some(expression),
                 Attribute::PadBefore(bits) => said.before = *bits,
                 Attribute::PadAfter(bits) => said.after = *bits,
                 Attribute::Update(_) => {}
-                other => {
-                    let (message, help) = refused(other);
-                    return self.wrong(field.span, message, help);
+                Attribute::Bits(_)
+                | Attribute::Bytes(_)
+                | Attribute::Temp
+                | Attribute::TempValue(_) => {
+                    return self.wrong(
+                        field.span,
+                        "a width that a field says is not supported",
+                        "write a number, or a record for each width",
+                    );
                 }
             }
         }
@@ -347,6 +367,7 @@ impl<'b, 'a> Builder<'b, 'a> {
 
     // Complains of a type or an endian that has no part.
     fn fits(&self, field: &Field<'a>, said: &Said<'_, 'a>) -> Result<(), Stop> {
+        self.gives(field, said.context)?;
         if let Endian::Named(_) = field.layout.endian {
             return self.wrong(
                 field.span,
@@ -357,6 +378,7 @@ impl<'b, 'a> Builder<'b, 'a> {
         let is_dependent = said.count.is_some()
             || said.size.is_some()
             || said.cond.is_some()
+            || said.end.is_some()
             || said.is_rest;
         let is_checked = said.assert.is_some() || said.equal.is_some();
         if is_dependent && is_checked {
@@ -426,80 +448,13 @@ impl<'b, 'a> Builder<'b, 'a> {
         }
     }
 
-    // Zeros of so many bits, before or after a field.
-    fn padding(&mut self, bits: u64, field: &Field<'a>) -> Result<(), Stop> {
-        if bits > PADDING {
-            return self.wrong(
-                field.span,
-                "a padding of more than 1024 bits",
-                "write an array of bytes, which is kept",
-            );
-        }
-        let order = field.layout.order;
-        let mut left = bits;
-        for _ in 0..(PADDING / 64 + 1) {
-            if left == 0 {
-                break;
-            }
-            let width = left.min(64);
-            left = left.saturating_sub(width);
-            let kind = match order {
-                Order::Msb => format!(in self.alloc; "Msb<u64, {width}>")?,
-                Order::Lsb => format!(in self.alloc; "Lsb<u64, {width}>")?,
-            };
-            let marker = match order {
-                Order::Msb => "Zeros",
-                Order::Lsb => "LowZeros",
-            };
-            let part = constant(self.alloc, self.owner, kind.as_str(), marker, "padding")?;
-            self.items.push(part)?;
-        }
-        Ok(())
-    }
-
-    /// Bytes that are always the same, as one number.
-    pub fn magic(
+    /// The parts that hold the fields an expression names, as one; all parts, if they lend memory.
+    /// A field of the last part is used in any case if that is said.
+    pub(crate) fn head(
         &mut self,
-        bytes: &Vec<u8>,
-        name: String,
-        what: &str,
-        order: Order,
-        span: Span,
-    ) -> Result<(), Stop> {
-        if bytes.is_empty() || bytes.len() > 8 {
-            return self.wrong(
-                span,
-                "a magic of no bytes, or of more than 8",
-                "write the first 8 of them, and an array of `u8` with `assert` after them",
-            );
-        }
-        let number = number_of(bytes.as_slice());
-        let count = bytes.len();
-        let (constructor, kind) = magic_kind(self.alloc, count, order)?;
-        let value = format!(in self.alloc; "0x{number:X}")?;
-        let what = String::from_str(self.alloc, what)?;
-        let marker = Marker {
-            name: name.as_str(),
-            parts: kind.as_str(),
-            lent: None,
-            field: what.as_str(),
-        };
-        marker::constant(&mut self.markers, marker, constructor, value.as_str())?;
-        let part = constant(
-            self.alloc,
-            self.owner,
-            kind.as_str(),
-            name.as_str(),
-            "magic",
-        )?;
-        self.items.push(part)?;
-        self.names.push(name)?;
-        Ok(())
-    }
-
-    // The parts that hold the fields an expression names, as one; all parts, if they lend memory.
-    // A field of the last part is used in any case if that is said.
-    fn head(&mut self, expression: &Expression<'a>, is_last: bool) -> Result<Part<'a>, AllocError> {
+        expression: &Expression<'a>,
+        is_last: bool,
+    ) -> Result<Part<'a>, AllocError> {
         let mut first = self.items.len();
         if is_last {
             first = first.saturating_sub(1);
@@ -561,8 +516,8 @@ impl<'b, 'a> Builder<'b, 'a> {
         Ok(name)
     }
 
-    // The names of the types of a head and of what is written for it.
-    fn aliases(
+    /// The names of the types of a head and of what is written for it.
+    pub(crate) fn aliases(
         &mut self,
         part: &mut Part<'a>,
         field: &str,
@@ -696,7 +651,13 @@ impl<'b, 'a> Builder<'b, 'a> {
         marker::check(&mut self.markers, marker, &computer, &computed)
     }
 
-    fn is_truth(&self, computed: &Computed, is_whole: bool, span: Span) -> Result<(), Stop> {
+    /// Complains of a condition that is a number, or that may have no value.
+    pub(crate) fn is_truth(
+        &self,
+        computed: &Computed,
+        is_whole: bool,
+        span: Span,
+    ) -> Result<(), Stop> {
         if computed.is_number() {
             return self.wrong(
                 span,
@@ -770,17 +731,14 @@ impl<'b, 'a> Builder<'b, 'a> {
     }
 }
 
-// The type of what a list or an option holds.
-fn held_kind(alloc: Global, field: &Field<'_>) -> Result<String, AllocError> {
+/// The type of what a list or an option holds.
+pub(crate) fn held_kind(alloc: Global, field: &Field<'_>) -> Result<String, AllocError> {
     let mut held = String::new(alloc);
     if let Type::Of(_, inner) = &field.kind {
         item(&mut held, inner, field)?;
     }
     Ok(held)
 }
-
-// How many bits of padding there are at most.
-const PADDING: u64 = 1024;
 
 /// The name of a field. That of a tuple is called by its place.
 pub fn field_name(alloc: Global, field: &Field<'_>, place: usize) -> Result<String, AllocError> {

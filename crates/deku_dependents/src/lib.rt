@@ -2,8 +2,9 @@
 #![tactic(auto)]
 
 pub mod building;
-pub mod computing;
-pub mod marker;
+mod choosing;
+mod constants;
+mod listing;
 mod refusing;
 pub mod temporary;
 pub mod updating;

@@ -1,6 +1,6 @@
 //! The types and attributes of a description that have no part.
 
-use deku_attributes::model::{Attribute, Field, Order};
+use deku_attributes::model::{Field, Order};
 use deku_description::syntax::Type;
 use deku_texts::wrapping::common_bits;
 
@@ -24,23 +24,5 @@ pub(crate) fn partless(kind: &Type<'_>, field: &Field<'_>) -> Option<&'static st
             None
         }
         Type::Name(_) => None,
-    }
-}
-
-/// Why an attribute is refused, and what to write in its place.
-pub(crate) fn refused(attribute: &Attribute<'_>) -> (&'static str, &'static str) {
-    match attribute {
-        Attribute::Bits(_) | Attribute::Bytes(_) => (
-            "a width that a field says is not supported",
-            "write a number, or a record for each width",
-        ),
-        Attribute::Context(_) => (
-            "`ctx` is not supported: values that are given to a field",
-            "move the fields that need them into this record",
-        ),
-        _ => (
-            "`until` is not supported: a list that ends with an item of its own",
-            "write `CString` for a text, or the record by its parts, with `Until`",
-        ),
     }
 }

@@ -1,9 +1,9 @@
 //! Counts that a record does not keep.
 
+use crate::listing::{Listed, list_part};
 use deku_attributes::model::{Attribute, Endian, Field, Order};
 use deku_attributes::reading::bits_of;
-use deku_texts::document::{Form, Text};
-use deku_texts::part::{Named, Part, Place};
+use deku_texts::part::{Named, Part};
 use deku_texts::wrapping::number_kind;
 use std::alloc::{AllocError, Global};
 
@@ -86,59 +86,17 @@ impl<'a> Temporary<'a> {
         called: Named<'_>,
         item: &str,
     ) -> Result<Part<'a>, AllocError> {
-        let Named { name, access } = called;
         let bits = self.bits;
         let part = self.part();
         let count = format!(in alloc; "{part}<u64, {bits}>")?;
         let count = count.as_str();
-        let held = if name == "items" {
-            Text::word(alloc, name)?
-        } else {
-            Text::of(format!(in alloc; "items: {name}")?)
-        };
-        let pattern = [held, Text::word(alloc, "..")?];
-        let value = [
-            Text::of(format!(in alloc; "items: &self.{access}")?),
-            Text::word(alloc, "count: PhantomData")?,
-        ];
-        let term = [
-            Text::of(format!(in alloc; "items = r.{access}")?),
-            Text::word(alloc, "count = record {}")?,
-        ];
         let open = format!(in alloc; "PrefixedRef::<{count}, _> {{")?;
-        Ok(Part {
-            kind: Text::of(format!(in alloc; "Prefixed<{count}, {item}>")?),
-            lent: Text::of(format!(in alloc; "PrefixedRef<'a, {count}, {item}>")?),
-            is_lent: true,
-            pattern: group(alloc, Form::Brace, "Prefixed {", pattern)?,
-            value: group(alloc, Form::Brace, open.as_str(), value)?,
-            term: group(alloc, Form::GhostBrace, "record {", term)?,
-            places: one(alloc, place_of(alloc, name)?)?,
-            names: one(alloc, String::from_str(alloc, name)?)?,
-        })
+        let form = Listed {
+            part: "Prefixed",
+            types: [count, item],
+            open: open.as_str(),
+            marker: "count",
+        };
+        list_part(alloc, called, form)
     }
-}
-
-// Where the list is.
-fn place_of<'a>(alloc: Global, name: &str) -> Result<Place<'a>, AllocError> {
-    Ok(Place {
-        name: String::from_str(alloc, name)?,
-        number: None,
-        path: String::from_str(alloc, ".items")?,
-        same: String::new(alloc),
-    })
-}
-
-fn group(alloc: Global, form: Form, open: &str, texts: [Text; 2]) -> Result<Text, AllocError> {
-    let mut items = Vec::new(alloc);
-    for text in texts {
-        items.push(text)?;
-    }
-    Text::group(alloc, form, open, items)
-}
-
-fn one<T: Drop>(alloc: Global, item: T) -> Result<Vec<T>, AllocError> {
-    let mut items = Vec::new(alloc);
-    items.push(item)?;
-    Ok(items)
 }

@@ -1,10 +1,10 @@
 //! Enums, as they are printed.
 
 use crate::structs::{derives, docs, item, parts_alias, term_of, traits, value_of};
-use deku_attributes::model::{Case, Endian, Id, Ids, Order, Record};
+use deku_attributes::model::{Case, Endian, Id, IdSource, Ids, Order, Record};
 use deku_dependents::building::field_name;
 use deku_description::syntax::Shape;
-use deku_texts::document::{Form, Text, start};
+use deku_texts::document::{Form, Text, joined as joined_text, start};
 use deku_texts::part::Part;
 use deku_texts::words::{quoted, snake};
 use deku_texts::wrapping::field_kind;
@@ -104,7 +104,7 @@ fn of_shape(
     }
 }
 
-/// Appends how an enum is read and written.
+/// Appends how an enum is read and written; or its kinds alone, if it is given its id.
 pub(crate) fn implementation(
     out: &mut String,
     record: &Record<'_>,
@@ -112,17 +112,43 @@ pub(crate) fn implementation(
     kinds: &[Built<'_, '_>],
 ) -> Result<(), AllocError> {
     let name = record.name.text;
-    let kind = parts_kind(*out.allocator(), ids, kinds)?;
-    parts_alias(out, name, &kind)?;
+    let alloc = *out.allocator();
+    let is_given = matches!(ids.source, IdSource::Context(_));
+    if is_given {
+        parts_alias(out, name, "Kinds", &tree(alloc, kinds)?)?;
+    } else {
+        parts_alias(out, name, "Parts", &parts_kind(alloc, ids, kinds)?)?;
+    }
+    there_and_back(out, name, kinds, is_given)?;
+    writeln!(out, "\nimpl ToParts for {name} {{")?;
+    out.push_str("    fn parts(&self) -> Self::Parts {\n        match self {")?;
+    for (i, kind) in kinds.iter().enumerate() {
+        parts(out, name, kind, (i, kinds.len()), is_given)?;
+    }
+    out.push_str("\n        }\n    }\n}\n")?;
+    if is_given {
+        return Ok(());
+    }
+    traits(out, name, "write_record(self, writer, ctx)")
+}
+
+// Appends the parts of an enum, and the enum that parts make.
+fn there_and_back(
+    out: &mut String,
+    name: &str,
+    kinds: &[Built<'_, '_>],
+    is_given: bool,
+) -> Result<(), AllocError> {
+    let held = if is_given { "" } else { ".kind" };
     out.push_str("    ghost parts_of = { elim [")?;
     for (i, kind) in kinds.iter().enumerate() {
         start(out, 6)?;
-        parts_of(out, name, kind, (i, kinds.len()))?;
+        parts_of(out, name, kind, (i, kinds.len()), is_given)?;
     }
     out.push_str("\n    ] };\n\n    ghost record_of = { λ p. ")?;
-    record_of(out, name, kinds)?;
+    record_of(out, name, kinds, held)?;
     out.push_str(" };\n\n    fn from_parts(parts: Self::Parts) -> Self {\n")?;
-    out.push_str("        match parts.kind {")?;
+    write!(out, "        match parts{held} {{")?;
     for (i, kind) in kinds.iter().enumerate() {
         from_parts(out, name, kind, (i, kinds.len()))?;
     }
@@ -134,14 +160,7 @@ pub(crate) fn implementation(
         constructor(out, name, kind)?;
         out.push_str(" ↦ refl")?;
     }
-    out.push_str("\n    ] };\n}\n")?;
-    writeln!(out, "\nimpl ToParts for {name} {{")?;
-    out.push_str("    fn parts(&self) -> Self::Parts {\n        match self {")?;
-    for (i, kind) in kinds.iter().enumerate() {
-        parts(out, name, kind, (i, kinds.len()))?;
-    }
-    out.push_str("\n        }\n    }\n}\n")?;
-    traits(out, name, "write_record(self, writer, ctx)")
+    out.push_str("\n    ] };\n}\n")
 }
 
 // The type of the id and the kinds.
@@ -242,6 +261,7 @@ fn parts_of(
     name: &str,
     kind: &Built<'_, '_>,
     (place, count): (usize, usize),
+    is_given: bool,
 ) -> Result<(), AllocError> {
     let alloc = *out.allocator();
     out.push_str("| ")?;
@@ -265,10 +285,13 @@ fn parts_of(
         };
         text = Text::one(alloc, Form::GhostRound, open, text)?;
     }
+    out.push_str(" ↦ ")?;
+    if is_given {
+        return text.print(out, 6, 0, false);
+    }
     let mut items = Vec::new(alloc);
     items.push(text.after(alloc, "kind = ")?)?;
     items.push(Text::word(alloc, "id = record {}")?)?;
-    out.push_str(" ↦ ")?;
     Text::group(alloc, Form::GhostBrace, "record {", items)?.print(out, 6, 0, false)
 }
 
@@ -289,9 +312,16 @@ fn constructor(out: &mut String, name: &str, kind: &Built<'_, '_>) -> Result<(),
 }
 
 // Appends the enum that a value of the kinds makes, in ghost text.
-fn record_of(out: &mut String, name: &str, kinds: &[Built<'_, '_>]) -> Result<(), AllocError> {
+fn record_of(
+    out: &mut String,
+    name: &str,
+    kinds: &[Built<'_, '_>],
+    kind: &str,
+) -> Result<(), AllocError> {
     let alloc = *out.allocator();
-    let held = if kinds.len() == 1 { "p.kind" } else { "k" };
+    let whole = joined_text(alloc, "p", kind)?;
+    let whole = whole.as_str();
+    let held = if kinds.len() == 1 { whole } else { "k" };
     let mut texts = Vec::new(alloc);
     for kind in kinds {
         texts.push(made_of(alloc, name, kind, held)?)?;
@@ -308,7 +338,7 @@ fn record_of(out: &mut String, name: &str, kinds: &[Built<'_, '_>]) -> Result<()
     let text = text.as_str();
     match text.strip_prefix("elim k [") {
         Some(rest) => {
-            out.push_str("elim p.kind [")?;
+            write!(out, "elim {whole} [")?;
             indented(out, rest, "    ")
         }
         None => out.push_str(text),
@@ -478,9 +508,12 @@ fn parts(
     name: &str,
     kind: &Built<'_, '_>,
     place: (usize, usize),
+    is_given: bool,
 ) -> Result<(), AllocError> {
     let alloc = *out.allocator();
-    let value = stood(alloc, Form::Round, kind, &kind.part.value, place)?;
-    let body = Text::one(alloc, Form::Round, "Enum::new(", value)?;
+    let mut body = stood(alloc, Form::Round, kind, &kind.part.value, place)?;
+    if !is_given {
+        body = Text::one(alloc, Form::Round, "Enum::new(", body)?;
+    }
     arm(out, &own(alloc, name, kind, false)?, &body)
 }

@@ -6,12 +6,13 @@ use std::alloc::{AllocError, Global};
 use std::fmt::Write as _;
 
 // The names of deku_symmetry, in the order in which `rt fmt` has them.
-const PARTS: [&str; 43] = [
+const PARTS: [&str; 50] = [
     "Assert",
     "Be",
     "Before",
     "Check",
     "CheckLaw",
+    "ChosenBy",
     "Condition",
     "ConditionLaw",
     "Constant",
@@ -24,8 +25,12 @@ const PARTS: [&str; 43] = [
     "Enum",
     "FilledBy",
     "FromParts",
+    "IdOf",
+    "IdOfLaw",
     "InRange",
     "Kind",
+    "Last",
+    "LastLaw",
     "Le",
     "Lsb",
     "LsbBe",
@@ -48,6 +53,8 @@ const PARTS: [&str; 43] = [
     "SizedBy",
     "Symmetric",
     "ToParts",
+    "Until",
+    "UntilRef",
     "read_record",
     "write_record",
 ];

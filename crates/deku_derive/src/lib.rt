@@ -2,6 +2,7 @@
 //! whose both directions are proved.
 #![tactic(auto)]
 
+mod choosing;
 mod enums;
 mod imports;
 pub mod making;

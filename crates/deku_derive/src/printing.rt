@@ -4,11 +4,12 @@ use crate::enums::Built;
 use crate::imports::imports;
 use crate::structs::docs;
 use crate::{enums, structs};
+use deku_attributes::given::{given, is_given};
 use deku_attributes::model::{Case, Field, Form, Id, IdSource, Ids, Module, Record};
 use deku_dependents::building::{Builder, field_name};
-use deku_dependents::marker::zeros;
-use deku_description::syntax::{Constant, Type};
-use deku_texts::part::Owner;
+use deku_description::syntax::{Constant, Shape, Type};
+use deku_markers::marker::zeros;
+use deku_texts::part::{Owner, Place};
 use deku_texts::records::Records;
 use deku_texts::refusal::Stop;
 use deku_texts::words;
@@ -27,6 +28,8 @@ struct Printer<'b, 'a> {
     // The names of its types.
     names: Vec<String>,
     complaints: Vec<Complaint>,
+    // The structs in front, and where their fields are in their parts.
+    structs: Vec<(&'a str, Vec<Place<'a>>)>,
     is_for_c: bool,
 }
 
@@ -63,6 +66,7 @@ pub fn print(
         out: String::new(alloc),
         names: Vec::new(alloc),
         complaints: Vec::new(alloc),
+        structs: Vec::new(alloc),
         is_for_c: asked.exports.is_some(),
     };
     for record in &module.records {
@@ -126,7 +130,7 @@ impl<'b, 'a> Printer<'b, 'a> {
 
     // The parts of a struct.
     fn builder(
-        &self,
+        &mut self,
         record: &Record<'a>,
         fields: &[Field<'a>],
     ) -> Result<Builder<'b, 'a>, AllocError> {
@@ -137,6 +141,7 @@ impl<'b, 'a> Printer<'b, 'a> {
             Owner::Lent
         };
         let mut builder = Builder::new(self.alloc, self.records, self.constants, name, owner)?;
+        builder.structs = std::mem::replace(&mut self.structs, Vec::new(self.alloc));
         if let Some(bytes) = &record.magic {
             let named = words::marker(self.alloc, name, "", "Magic")?;
             let what = format!(in self.alloc; "magic of {name}")?;
@@ -145,15 +150,17 @@ impl<'b, 'a> Printer<'b, 'a> {
             builder.noted(added)?;
         }
         builder.fields(fields, 0)?;
+        self.structs = std::mem::replace(&mut builder.structs, Vec::new(self.alloc));
         Ok(builder)
     }
 
     fn record(&mut self, record: &Record<'a>, path: Option<&str>) -> Result<(), AllocError> {
-        self.declare(record.name)?;
+        let word = if is_given(record) { "Kinds" } else { "Parts" };
+        self.declare(record.name, word)?;
         if !record.is_whole {
             return Ok(());
         }
-        if record.context.is_some() {
+        if record.context.is_some() && !is_given(record) {
             self.complain(
                 record.name,
                 "a record that is given values is not supported",
@@ -176,15 +183,15 @@ impl<'b, 'a> Printer<'b, 'a> {
                     "leave it out, or write `()` in its place",
                 )
             }
-            Form::Struct(_, _) => self.structure(record),
+            Form::Struct(_, _) => self.structure(record, path),
             Form::Enum(ids, cases) => self.enumeration(record, *ids, cases.as_slice(), path),
         }
     }
 
     // Notes the names of a record and of its parts, and complains of one that the module has
     // already.
-    fn declare(&mut self, name: Token<'a>) -> Result<(), AllocError> {
-        let parts = words::marker(self.alloc, name.text, "", "Parts")?;
+    fn declare(&mut self, name: Token<'a>, word: &str) -> Result<(), AllocError> {
+        let parts = words::marker(self.alloc, name.text, "", word)?;
         let is_taken = self.has_name(name.text) || self.has_name(parts.as_str());
         if is_taken || words::is_imported(name.text) {
             self.complain(
@@ -227,7 +234,7 @@ impl<'b, 'a> Printer<'b, 'a> {
         Ok(())
     }
 
-    fn structure(&mut self, record: &Record<'a>) -> Result<(), AllocError> {
+    fn structure(&mut self, record: &Record<'a>, path: Option<&str>) -> Result<(), AllocError> {
         let Form::Struct(shape, fields) = &record.form else {
             return Ok(());
         };
@@ -241,13 +248,19 @@ impl<'b, 'a> Printer<'b, 'a> {
             self.is_for_c,
         )?;
         self.out.push_str(builder.markers.as_str())?;
+        let whole = builder.whole()?;
         structs::implementation(
             &mut self.out,
             record,
             *shape,
             fields.as_slice(),
-            &mut builder,
+            builder.owner,
+            &whole,
+            path,
         )?;
+        if *shape == Shape::Named {
+            self.structs.push((record.name.text, whole.places))?;
+        }
         self.built(record, builder)
     }
 
@@ -293,28 +306,26 @@ impl<'b, 'a> Printer<'b, 'a> {
         cases: &[Case<'a>],
         path: Option<&str>,
     ) -> Result<(), AllocError> {
-        let (message, help) = match ids.source {
-            IdSource::Context(_) => (
-                "an enum whose id comes from outside is not supported",
-                "write `id_type`, and leave the field with the id out",
-            ),
-            IdSource::Front(_) if ids.bits > 64 => (
+        let refused = match ids.source {
+            IdSource::Context(id) => given(record.context, id).err(),
+            IdSource::Front(_) => None,
+        };
+        let (message, help) = match refused {
+            Some(refusal) => refusal,
+            None if ids.bits > 64 => (
                 "an id of more than 64 bits is not supported",
                 "write an id of at most 64 bits",
             ),
-            IdSource::Front(_) if record.magic.is_some() => (
+            None if record.magic.is_some() => (
                 "a magic in front of an enum is not supported",
                 "write the magic on the field that holds the enum",
             ),
-            IdSource::Front(_) if cases.is_empty() => (
-                "an enum without kinds has no values",
-                "write a kind",
-            ),
-            IdSource::Front(_) if path.is_none() => (
+            None if cases.is_empty() => ("an enum without kinds has no values", "write a kind"),
+            None if path.is_none() => (
                 "an enum needs the name of its module",
                 "print it with `-o crates/NAME/src/MODULE.rt`, or with `--module NAME::MODULE`",
             ),
-            IdSource::Front(_) => return Ok(()),
+            None => return Ok(()),
         };
         self.complain(record.name, message, help)
     }
@@ -334,11 +345,17 @@ impl<'b, 'a> Printer<'b, 'a> {
                 return Ok(Some(field_name(self.alloc, field, 0)?));
             }
         }
-        self.complain(
-            case.name,
-            "a kind of several ids that does not keep its id",
-            "write a first field of the type of the id, without attributes",
-        )?;
+        let (message, help) = match ids.source {
+            IdSource::Front(_) => (
+                "a kind of several ids that does not keep its id",
+                "write a first field of the type of the id, without attributes",
+            ),
+            IdSource::Context(_) => (
+                "a kind of several ids that a field says is not supported",
+                "write a kind for each id",
+            ),
+        };
+        self.complain(case.name, message, help)?;
         Ok(None)
     }
 }

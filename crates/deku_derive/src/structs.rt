@@ -1,13 +1,15 @@
 //! Structs, as they are printed.
 
+use crate::choosing::there;
 use crate::updates::update;
+use deku_attributes::given::chosen;
 use deku_attributes::model::{Field, Record};
-use deku_dependents::building::{Builder, field_name};
+use deku_dependents::building::field_name;
 use deku_dependents::temporary::is_temporary;
 use deku_description::syntax::Shape;
 use deku_texts::document::{Form, Text};
 use deku_texts::part::{Owner, Part};
-use deku_texts::words::quoted;
+use deku_texts::words::{quoted, snake};
 use deku_texts::wrapping::field_kind;
 use std::alloc::{AllocError, Global};
 use std::fmt::Write as _;
@@ -96,21 +98,22 @@ pub(crate) fn implementation(
     record: &Record<'_>,
     shape: Shape,
     fields: &[Field<'_>],
-    builder: &mut Builder<'_, '_>,
+    owner: Owner,
+    whole: &Part<'_>,
+    path: Option<&str>,
 ) -> Result<(), AllocError> {
     let alloc = *out.allocator();
     let name = record.name.text;
-    let whole = builder.whole()?;
     named(out, name, whole.names.as_slice())?;
-    parts_alias(out, name, &whole.kind)?;
+    parts_alias(out, name, "Parts", &whole.kind)?;
     out.push_str("    ghost parts_of = { λ r. ")?;
     whole.term.print(out, 4, 3, false)?;
     out.push_str(" };\n\n    ghost record_of = { λ p. ")?;
-    record_of(alloc, shape, fields, &whole)?.print(out, 4, 3, false)?;
+    record_of(alloc, shape, fields, whole)?.print(out, 4, 3, false)?;
     out.push_str(" };\n\n")?;
-    from_parts(out, record, shape, fields, &whole)?;
-    out.push_str("    ghost there = { λ r. refl };\n}\n")?;
-    if builder.owner == Owner::Copied {
+    from_parts(out, record, shape, fields, whole)?;
+    there(out, fields, path)?;
+    if owner == Owner::Copied {
         writeln!(out, "\nimpl ToParts for {name} {{")?;
         out.push_str("    fn parts(&self) -> Self::Parts {\n        ")?;
         whole.value.print(out, 8, 0, false)?;
@@ -124,15 +127,23 @@ pub(crate) fn implementation(
     update(out, name, fields)
 }
 
-/// Appends the type of a record's parts, and what makes the record of them, up to its ghost text.
-pub(crate) fn parts_alias(out: &mut String, name: &str, kind: &Text) -> Result<(), AllocError> {
+/// Appends the type of a record's parts, which is called by this word, and what makes the record of
+/// them, up to its ghost text.
+pub(crate) fn parts_alias(
+    out: &mut String,
+    name: &str,
+    word: &str,
+    kind: &Text,
+) -> Result<(), AllocError> {
+    let parts = snake(*out.allocator(), word)?;
+    let parts = parts.as_str();
     write!(
         out,
-        "\n// The parts of {name}, in their order.\ntype {name}Parts = "
+        "\n// The {parts} of {name}, in their order.\ntype {name}{word} = "
     )?;
     kind.print(out, 0, 1, false)?;
     writeln!(out, ";\n\nimpl FromParts for {name} {{")?;
-    writeln!(out, "    type Parts = {name}Parts;\n")
+    writeln!(out, "    type Parts = {name}{word};\n")
 }
 
 /// Appends the traits of deku for a record that is written by this body.
@@ -255,6 +266,10 @@ fn bound(
 ) -> Result<Text, AllocError> {
     let name = field_name(alloc, field, place)?;
     let term = term_of(alloc, whole, name.as_str(), "p")?;
+    let term = match chosen(field) {
+        Some(kind) => format!(in alloc; "⟦<{kind} as FromParts>⟧.record_of {term}")?,
+        None => term,
+    };
     let term = term.as_str();
     if shape == Shape::Tuple {
         return Ok(Text::of(format!(in alloc; "{place} = {term}")?));
@@ -306,7 +321,11 @@ fn made(
             continue;
         }
         let name = field_name(alloc, field, i)?;
-        let value = value_of(alloc, whole, name.as_str(), parts)?;
+        let mut value = value_of(alloc, whole, name.as_str(), parts)?;
+        if let Some(kind) = chosen(field) {
+            let kinds = value.as_str();
+            value = format!(in alloc; "{kind}::from_parts({kinds})")?;
+        }
         items.push(Text::of(item(alloc, shape, name, value)?))?;
     }
     let name = record.name.text;

@@ -5,7 +5,7 @@ use std::alloc::{AllocError, Global};
 use std::test::Fail;
 
 // A description, and the lines that begin with the name of its file.
-const ROWS: [(&str, &str); 34] = [
+const ROWS: [(&str, &str); 37] = [
     ("struct A { a: u8", "1:17 expected `}`, found the end"),
     ("struct A { a u8 }", "1:14 expected `:`, found `u8`"),
     ("struct A { a: u8 b: u8 }", "1:18 expected `}`, found `b`"),
@@ -137,13 +137,44 @@ struct B { #[deku(temp, temp_value = \"1\")] a: u8 }",
         "1:83 an id that another kind has",
     ),
     (
+        "struct A { #[deku(until = \"is_end\")] v: Vec<u8>, #[deku(until = 3)] w: Vec<u8>,
+#[deku(until = \"|v: &u8, w: &u8| *v == *w\")] x: Vec<u8>, #[deku(until = \"|v| true\")] y: Vec<u8>,
+#[deku(until = \"|v: &[u8; 2]| true\")] z: Vec<[u8; 2]> }",
+        "1:27 an end that is no closure of one item
+1:65 an end that is no closure of one item
+2:16 an end that is no closure of one item
+2:73 an end that is no closure of one item
+3:16 an end that is no closure of one item",
+    ),
+    (
+        "const C: u8 = 3; struct A { n: u8, #[deku(until = \"|v: &u16| *v == 0\")] v: Vec<u8>,
+#[deku(until = \"|v: &u8| *v == n\")] w: Vec<u8>, #[deku(until = \"|C: &u8| C == 0\")] x: Vec<u8>,
+#[deku(until = \"|v: &u8| *v ==\")] y: Vec<u8> }",
+        "1:57 a type that is not that of the items
+2:32 a name that is neither the item nor a constant
+2:66 an item of the name of a constant
+3:31 expected a field, a constant or a number, found the end",
+    ),
+    (
+        "struct A { n: u8, #[deku(until = \"|v: &u8| *v == 0\", count = \"n\")] v: Vec<u8>,
+#[deku(until = \"|v: &u8| *v == 0\", read_all)] w: Vec<u8>,
+#[deku(until = \"|v: &u8| *v == 0\", bytes_read = \"3\")] x: Vec<u8>,
+#[deku(until = \"|v: &u8| *v == 0\", cond = \"n == 1\")] y: Option<Vec<u8>>,
+#[deku(until = \"|v: &u8| *v == 0\")] z: u8 }",
+        "1:71 a `Vec` that says twice where it ends
+2:50 a `Vec` that says twice where it ends
+3:58 a `Vec` that says twice where it ends
+4:57 a length of a type that is no `Vec`
+5:40 a length of a type that is no `Vec`",
+    ),
+    (
         "struct A { n: u8,\n\t#[deku(count = \"*n +\")] a: Vec<u8> }",
         "2:22 expected a field, a constant or a number, found the end",
     ),
 ];
 
 // Descriptions that deku takes and that have no module.
-const UNPRINTED: [(&str, &str); 39] = [
+const UNPRINTED: [(&str, &str); 47] = [
     (
         "#[deku(id_type = \"u8\")] enum E {
          #[deku(id_pat = \"2..=6\")] A, #[deku(id_pat = \"_\")] B }",
@@ -217,8 +248,52 @@ const UNPRINTED: [(&str, &str); 39] = [
         "1:53 a count that is no number",
     ),
     (
-        "struct A { #[deku(until = \"|v: &u8| *v == 0\")] v: Vec<u8> }",
-        "1:51 `until` is not supported: a list that ends with an item of its own",
+        "struct A { #[deku(until = \"|v: &u8| *v\")] v: Vec<u8> }",
+        "1:46 a condition that is a number",
+    ),
+    (
+        "struct A { #[deku(until = \"|v: &u8| 5 - *v == 0\")] v: Vec<u8> }",
+        "1:55 a difference, or a quotient by a field, in a condition",
+    ),
+    (
+        "struct A { #[deku(until = \"|v: &i8| *v == 0\")] v: Vec<i8> }",
+        "1:38 a field in an expression that is no number from 0 and no truth value",
+    ),
+    (
+        "struct A { a: u8, item: u8, b: i8 } struct M(u8); struct B { a: u8,
+#[deku(until = \"|v: &A| *v == 0\")] v: Vec<A>, #[deku(until = \"|v: &A| v.b == 0\")] w: Vec<A>,
+#[deku(until = \"|v: &A| v.item == 0\")] x: Vec<A>, #[deku(until = \"|a: &A| a == 0\")] y: Vec<A>,
+#[deku(until = \"|v: &C| v.a == 0\")] z: Vec<C>, #[deku(until = \"|v: &M| true\")] n: Vec<M>,
+#[deku(until = \"|v: &u8| v.a == 0\")] m: Vec<u8> } struct C { a: u8 }",
+        "2:26 a record in an expression
+2:73 a field in an expression that is no number from 0 and no truth value
+3:27 a name that is no field in front of this one
+3:75 a record in an expression
+4:22 items that are no numbers and no structs in front of this one
+4:69 items that are no numbers and no structs in front of this one
+5:26 a field of a field in an expression",
+    ),
+    (
+        "struct A { #[deku(until = \"|parts: &u8| *parts == 0\")] v: Vec<u8> }",
+        "1:29 an item of a name that the module has already",
+    ),
+    (
+        "struct A { #[deku(until = \"|v: &u8| *v == 0\", assert = \"true\")] v: Vec<u8> }",
+        "1:68 a check of a list or an option is not supported",
+    ),
+    (
+        "struct A { #[deku(until = \"|v: &u8| *v == 0\", temp)] v: Vec<u8>, n: u8 }",
+        "1:57 a field that the record does not keep, and that does not count the list after it",
+    ),
+    (
+        "#[deku(id_type = \"u8\")]
+enum A { #[deku(id = 1)] B(#[deku(until = \"|v: &u8| *v == 0\")] Vec<u8>) }",
+        "2:64 memory in a kind of an enum is not supported",
+    ),
+    (
+        "struct A { n: u8, #[deku(until = \"|v: &u8| *v == 0\")] v: Vec<u8>,
+#[deku(count = \"n\")] w: Vec<u8>, m: u8 }",
+        "2:37 a field after a list or an option that has another one in front",
     ),
     (
         "struct A { f: bool, n: u8, #[deku(count = \"n\")] v: Vec<u8>,
@@ -338,8 +413,8 @@ fn descriptions_without_a_module(rt: HostRuntime) -> Result<(), Fail> {
     Ok(())
 }
 
-// The places and messages of what is said of a description, a line each.
-fn said_of(alloc: Global, text: &str) -> Result<String, AllocError> {
+/// The places and messages of what is said of a description, a line each.
+pub(crate) fn said_of(alloc: Global, text: &str) -> Result<String, AllocError> {
     told_of(alloc, make(alloc, "a.rs", Some("samples.a"), text)?)
 }
 

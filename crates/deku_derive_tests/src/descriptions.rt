@@ -6,7 +6,7 @@ use deku_tokens::place::{first_difference, told};
 use std::alloc::{AllocError, Global};
 use std::test::Fail;
 
-const TAKEN: [(&str, &str); 10] = [
+const TAKEN: [(&str, &str); 11] = [
     (
         "numbers of every width",
         "struct A { a: u8, b: i16, c: u32, d: i64, e: u128, f: bool, g: usize }",
@@ -59,6 +59,12 @@ const TAKEN: [(&str, &str); 10] = [
         "an endian from the context",
         "#[deku(endian = \"endian\", ctx = \"endian: deku::ctx::Endian, n: u8\")]
          struct A { a: u16, #[deku(count = \"n\")] b: Vec<u8> }",
+    ),
+    (
+        "an id from the context",
+        "#[deku(ctx = \"kind: u8, version: u8\", id = \"kind\")]
+         enum E { #[deku(id = 1)] A(u8), #[deku(id_pat = \"_\")] B }
+         struct A { kind: u8, #[deku(ctx = \"*kind, 4\")] e: E }",
     ),
 ];
 

@@ -3,6 +3,8 @@
 #![tactic(auto)]
 
 #[cfg(test)]
+mod choosing;
+#[cfg(test)]
 mod complaints;
 #[cfg(test)]
 mod descriptions;

@@ -319,6 +319,119 @@ fn plain_records_are_printed(rt: HostRuntime) -> Result<(), Fail> {
     Ok(())
 }
 
+// Descriptions of lists that end with an item, and texts that their modules have.
+const ENDS: [(&str, &str); 7] = [
+    (
+        "struct A { n: u8, #[deku(until = \"|byte: &u8| *byte == 0\")] name: Vec<u8>, m: u8 }",
+        "
+/// Which item of `name` is the last: `byte == 0`.
+#[derive(Debug, PartialEq, Eq, Drop)]
+pub struct ANameLast;
+
+impl Last<u8> for ANameLast {
+    ghost last_of = { λ p. nat_eq p 0 };
+
+    fn is_last(item: &u8) -> bool {
+        let byte = *item;
+        byte == 0
+    }
+}
+
+impl LastLaw<u8> for ANameLast {
+    ghost alike = { λ v w e. rw e refl };
+}
+",
+    ),
+    (
+        "struct A { n: u8, #[deku(until = \"|byte: &u8| *byte == 0\")] name: Vec<u8>, m: u8 }",
+        "
+type AParts = (u8, Until<u8, ANameLast>, u8);
+
+impl FromParts for A {
+    type Parts = AParts;
+
+    ghost parts_of = { λ r. (r.n, record { items = r.name; last = record {} }, r.m) };
+
+    ghost record_of = { λ p. record { n = p.0; name = p.1.items; m = p.2 } };
+
+    fn from_parts((n, Until { items: name, .. }, m): Self::Parts) -> Self {
+        A { n, name, m }
+    }
+",
+    ),
+    (
+        "struct A { n: u8, #[deku(until = \"|byte: &u8| *byte == 0\")] name: Vec<u8>, m: u8 }",
+        "
+            UntilRef::<_, ANameLast> {
+                items: &self.name,
+                last: PhantomData,
+            },
+",
+    ),
+    (
+        "const END: u16 = 0x100;
+         struct A { #[deku(bits = 9, until = \"|v: &u16| 3 > *v || *v == END\")] items: Vec<u16> }",
+        "
+impl Last<MsbLe<u16, 9>> for AItemsLast {
+    ghost last_of = { λ p. nat_lt p.0 3 || nat_eq p.0 256 };
+
+    fn is_last(item: &MsbLe<u16, 9>) -> bool {
+        let v = item.0 as usize;
+        3 > v || v == 256
+    }
+}
+",
+    ),
+    (
+        "struct A { #[deku(bits = 1, until = \"|flag: &bool| *flag\")] flags: Vec<bool> }",
+        "
+    fn is_last(item: &MsbLe<bool, 1>) -> bool {
+        item.0
+    }
+",
+    ),
+    (
+        "#[deku(magic = b\"e\")]
+         struct A { a: u8, #[deku(bits = 4)] b: u8, #[deku(bits = 4)] c: u8 }
+         struct B { #[deku(until = \"|v: &A| v.c == 3 && v.a != 0\")] items: Vec<A> }",
+        "
+impl Last<A> for BItemsLast {
+    ghost last_of = { λ p. nat_eq p.c 3 && not (nat_eq p.a 0) };
+
+    fn is_last(item: &A) -> bool {
+        let c = item.c;
+        let a = item.a;
+        c == 3 && a != 0
+    }
+}
+
+impl LastLaw<A> for BItemsLast {
+    ghost alike = { λ v w e. rw (e.1.1.1, e.1.0) refl };
+}
+",
+    ),
+    (
+        "struct A { n: u8, #[deku(until = \"|v: &u8| *v == 0\")] v: Vec<u8>,
+         #[deku(count = \"n\")] w: Vec<u8> }",
+        "
+type AWHead = (u8, Until<u8, AVLast>);
+
+type AWLent<'a> = (u8, UntilRef<'a, u8, AVLast>);
+",
+    ),
+];
+
+#[test]
+fn ends_are_printed(rt: HostRuntime) -> Result<(), Fail> {
+    for (text, part) in &ENDS {
+        match make(rt.alloc(), "a.rs", None, text)? {
+            Made::Module(printed) => assert!(rt; printed.as_str().contains(*part), "of {text}"),
+            Made::Wrong(told) => assert_eq!(rt; told.as_str(), "", "of {text}"),
+        }
+    }
+    Ok(())
+}
+
 const PATHS: [(Option<&str>, &str, Option<&str>); 5] = [
     (Some("samples::point"), "a.rt", Some("samples.point")),
     (None, "crates/samples/src/point.rt", Some("samples.point")),

@@ -3,7 +3,7 @@
 ghost use Rattle.std.specs.Prelude.{◌≤◌, length};
 
 use crate::cursor::{Cursor, Stop};
-use crate::syntax::{Expression, Operator};
+use crate::syntax::{Closure, Expression, Operator};
 use deku_tokens::literal::integer;
 use deku_tokens::place::{Complaint, Span};
 use deku_tokens::token::{Kind, Token, broken_tokens, tokens};
@@ -33,7 +33,46 @@ pub fn formula<'a>(
     }
 }
 
+/// The closure in a text of an attribute that says which item is the last, or what is wrong with it.
+///
+/// # Errors
+///
+/// `AllocError` if there is no memory.
+///
+/// ```text
+/// closure(alloc, text, token)?    // of "|item: &u8| *item == 0": an item that is 0
+/// ```
+pub fn closure<'a>(
+    alloc: Global,
+    text: &'a str,
+    token: Token<'a>,
+) -> Result<Result<Closure<'a>, Complaint>, AllocError> {
+    match of_item(alloc, text, token) {
+        Ok(closure) => Ok(Ok(closure)),
+        Err(Stop::Wrong(complaint)) => Ok(Err(complaint)),
+        Err(Stop::Memory) => Err(AllocError),
+    }
+}
+
 fn parsed<'a>(alloc: Global, text: &'a str, token: Token<'a>) -> Result<Expression<'a>, Stop> {
+    parser_of(alloc, text, token)?.whole()
+}
+
+fn of_item<'a>(alloc: Global, text: &'a str, token: Token<'a>) -> Result<Closure<'a>, Stop> {
+    let mut parser = parser_of(alloc, text, token)?;
+    let Some((name, kind)) = parser.parameter() else {
+        return parser.cursor.wrong(
+            token.span,
+            "an end that is no closure of one item",
+            "write `until = \"|item: &u8| *item == 0\"`",
+        );
+    };
+    let last = parser.whole()?;
+    Ok(Closure { name, kind, last })
+}
+
+// A parser of what is in a text of an attribute.
+fn parser_of<'a>(alloc: Global, text: &'a str, token: Token<'a>) -> Result<Parser<'a>, Stop> {
     let part = inside(text, token);
     let tokens = tokens(alloc, text, part)?;
     if let Some(complaint) = broken_tokens(alloc, tokens.as_slice())?.pop() {
@@ -43,14 +82,9 @@ fn parsed<'a>(alloc: Global, text: &'a str, token: Token<'a>) -> Result<Expressi
         start: part.end,
         end: part.end,
     };
-    let mut parser = Parser {
+    Ok(Parser {
         cursor: Cursor::new(alloc, tokens, end),
-    };
-    let expression = parser.expression(DEPTH, 1)?;
-    if parser.cursor.peek().is_some() {
-        return parser.cursor.expected("an operator");
-    }
-    Ok(expression)
+    })
 }
 
 // The part of a text between a token's quotes, or all of a number.
@@ -79,6 +113,30 @@ struct Parser<'a> {
 }
 
 impl<'a> Parser<'a> {
+    // An expression up to the end.
+    fn whole(&mut self) -> Result<Expression<'a>, Stop> {
+        let expression = self.expression(DEPTH, 1)?;
+        if self.cursor.peek().is_some() {
+            return self.cursor.expected("an operator");
+        }
+        Ok(expression)
+    }
+
+    // The one parameter of a closure, and the type that it borrows.
+    fn parameter(&mut self) -> Option<(Token<'a>, Token<'a>)> {
+        let is_open = self.cursor.take_mark("|");
+        let name = self.cursor.next()?;
+        let is_borrowed = self.cursor.take_mark(":") && self.cursor.take_mark("&");
+        let kind = self.cursor.next()?;
+        let is_closed = self.cursor.take_mark("|");
+        let are_names = name.kind == Kind::Name && kind.kind == Kind::Name;
+        if is_open && is_borrowed && is_closed && are_names {
+            Some((name, kind))
+        } else {
+            None
+        }
+    }
+
     // Operands and the operators between them that bind at least as tightly as is said.
     #[cycle(expression)]
     fn expression(&mut self, depth: usize, least: u8) -> Result<Expression<'a>, Stop> {

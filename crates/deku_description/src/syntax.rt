@@ -165,6 +165,17 @@ pub enum Expression<'a> {
     Both(Operator, Box<Expression<'a>>, Box<Expression<'a>>),
 }
 
+/// Which item is the last of its list, as `|item: &u8| *item == 0` says.
+#[derive(Drop)]
+pub struct Closure<'a> {
+    /// What the item is called.
+    pub name: Token<'a>,
+    /// The name of its type.
+    pub kind: Token<'a>,
+    /// Whether it is the last.
+    pub last: Expression<'a>,
+}
+
 /// What is made of two values.
 #[derive(Clone, Copy, PartialEq, Eq)]
 pub enum Operator {

@@ -104,8 +104,8 @@ fn one_place<'a>(
     Ok(places)
 }
 
-// Places after what leads to the part that they are in.
-fn within<'a>(
+/// Places after what leads to the part that they are in.
+pub fn within<'a>(
     alloc: Global,
     places: Vec<Place<'a>>,
     path: &str,

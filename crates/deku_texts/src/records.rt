@@ -154,14 +154,18 @@ impl<'b, 'a> Records<'b, 'a> {
 
     /// Whether a record takes the rest of the input.
     pub fn is_open(&self, name: &str) -> bool {
-        let place = self.place(name);
-        let Some(record) = place.and_then(|place| self.list.get(place)) else {
+        let Some(record) = self.record(name) else {
             return false;
         };
         match &record.form {
             Form::Struct(_, fields) => fields.iter().any(takes_rest),
             Form::Enum(_, _) => false,
         }
+    }
+
+    /// The record of a name.
+    pub fn record(&self, name: &str) -> Option<&'b Record<'a>> {
+        self.list.get(self.place(name)?)
     }
 
     /// Whether the file has a record of this name.

@@ -3,7 +3,7 @@
 use std::alloc::{AllocError, Global};
 
 // The names that a module imports or that its bounds have.
-const IMPORTED: [&str; 60] = [
+const IMPORTED: [&str; 67] = [
     "Source",
     "Sink",
     "DekuContainerRead",
@@ -27,6 +27,9 @@ const IMPORTED: [&str; 60] = [
     "Ipv6Addr",
     "CString",
     "PhantomData",
+    "ChosenBy",
+    "IdOf",
+    "IdOfLaw",
     "CountedBy",
     "CountedByRef",
     "CountOf",
@@ -35,6 +38,10 @@ const IMPORTED: [&str; 60] = [
     "Prefixed",
     "PrefixedRef",
     "Before",
+    "Until",
+    "UntilRef",
+    "Last",
+    "LastLaw",
     "Rest",
     "SizedBy",
     "SizeOf",

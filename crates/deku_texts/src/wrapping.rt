@@ -226,6 +226,19 @@ fn end_of_array(out: &mut String, length: Length<'_>) -> Result<(), AllocError> 
     }
 }
 
+/// The type of an item of a field and the way to it in its part, if it is one number or one truth
+/// value.
+pub fn number_in<'a>(item: &Type<'a>, field: &Field<'_>) -> (Option<&'a str>, &'static str) {
+    let Type::Name(name) = item else {
+        return (None, "");
+    };
+    let Some(whole) = bits_of(name.text) else {
+        return (None, "");
+    };
+    let around = number(field.layout.order, field.bits, whole, is_big(field)).around;
+    (Some(name.text), if around.is_empty() { "" } else { ".0" })
+}
+
 /// The type of a field, if it is one number or one truth value.
 pub fn number_kind<'a>(field: &Field<'a>) -> Option<&'a str> {
     match &field.kind {

@@ -1,6 +1,6 @@
 //! What counts and conditions compute, as code and as ghost text.
 
-use deku_attributes::reading::bits_of;
+use deku_attributes::reading::{bits_of, span_of};
 use deku_description::syntax::{Constant, Expression, Operator};
 use deku_texts::part::Place;
 use deku_texts::refusal::Stop;
@@ -40,6 +40,10 @@ pub struct Computer<'p, 'c, 'a> {
     pub guards: Vec<(String, String)>,
     /// Whether the fields have to be of one type.
     pub is_mixed: bool,
+    /// What the code that reaches the fields begins with.
+    pub from: &'static str,
+    /// What the value is called that has the fields, if they are not named alone.
+    pub owner: Option<&'c str>,
 }
 
 impl<'p, 'c, 'a> Computer<'p, 'c, 'a> {
@@ -55,6 +59,8 @@ impl<'p, 'c, 'a> Computer<'p, 'c, 'a> {
             used: Vec::new(alloc),
             guards: Vec::new(alloc),
             is_mixed: false,
+            from: "parts",
+            owner: None,
         }
     }
 
@@ -70,7 +76,15 @@ impl<'p, 'c, 'a> Computer<'p, 'c, 'a> {
                 let text = if *truth { "true" } else { "false" };
                 self.truth(text, text, ATOM)
             }
+            Expression::Name(name) if self.owner == Some(name.text) => self.wrong(
+                name.span,
+                "a record in an expression",
+                "compare one of its fields",
+            ),
             Expression::Name(name) => self.name(name.text, name.span),
+            Expression::Part(name, field) if self.owner == Some(name.text) => {
+                self.name(field.text, field.span)
+            }
             Expression::Part(name, _) => self.wrong(
                 name.span,
                 "a field of a field in an expression",
@@ -460,44 +474,4 @@ fn inside(alloc: Global, text: &str, is_inside: bool) -> Result<String, Stop> {
 // A text as the argument of a function.
 fn argument(alloc: Global, text: &str, strength: u8) -> Result<String, Stop> {
     inside(alloc, text, strength < ATOM)
-}
-
-/// Where an expression is, by its last name or number.
-pub fn span_of(expression: &Expression<'_>) -> Span {
-    match expression {
-        Expression::Number(_, span) | Expression::Truth(_, span) => *span,
-        Expression::Name(name) | Expression::Part(name, _) => name.span,
-        Expression::Not(value) | Expression::Cast(value, _) => span_of(value),
-        Expression::Both(_, left, _) => span_of(left),
-    }
-}
-
-/// The number that an expression is, if it is one or the name of a constant.
-pub(crate) fn literal(expression: &Expression<'_>, constants: &[Constant<'_>]) -> Option<u64> {
-    match expression {
-        Expression::Number(number, _) => Some(*number),
-        Expression::Name(name) => {
-            let constant = constants.iter().find(|it| it.name.text == name.text)?;
-            Some(constant.value)
-        }
-        _ => None,
-    }
-}
-
-/// Whether an expression names a field.
-pub(crate) fn names(expression: &Expression<'_>, field: &str) -> bool {
-    match expression {
-        Expression::Number(_, _) | Expression::Truth(_, _) => false,
-        Expression::Name(name) | Expression::Part(name, _) => name.text == field,
-        Expression::Not(value) | Expression::Cast(value, _) => names(value, field),
-        Expression::Both(_, left, right) => names(left, field) || names(right, field),
-    }
-}
-
-/// Whether an expression is the name of a field.
-pub(crate) fn is_name(expression: &Expression<'_>, field: &str) -> bool {
-    match expression {
-        Expression::Name(name) => name.text == field,
-        _ => false,
-    }
 }

@@ -157,6 +157,24 @@ fn shows(
     Ok(())
 }
 
+/// Appends the marker of the end of a list: which item is the last.
+pub fn last(
+    out: &mut String,
+    marker: Marker<'_>,
+    computer: &Computer<'_, '_, '_>,
+    computed: &Computed,
+) -> Result<(), Stop> {
+    let parts = marker.parts;
+    let (code, term) = (computed.code.as_str(), computed.term.as_str());
+    declared(out, marker, "Which item of", "is the last", code)?;
+    implemented(out, "Last", marker)?;
+    writeln!(out, "    ghost last_of = {{ λ p. {term} }};\n")?;
+    writeln!(out, "    fn is_last(item: &{parts}) -> bool {{")?;
+    truth(out, computer, computed)?;
+    out.push_str("    }\n}\n")?;
+    alike(out, "LastLaw", marker, computer)
+}
+
 /// Appends the marker of a check of parts.
 pub fn check(
     out: &mut String,
@@ -189,6 +207,44 @@ fn passes(
     out.push_str("    }\n\n")?;
     text(out, field)?;
     Ok(())
+}
+
+/// Appends the marker of an id: which kind a field is, by a number of the parts.
+pub fn id(
+    out: &mut String,
+    marker: Marker<'_>,
+    computer: &Computer<'_, '_, '_>,
+    computed: &Computed,
+) -> Result<(), Stop> {
+    declared(out, marker, "Which kind", "is", computed.code.as_str())?;
+    id_of(out, marker, computer, computed)?;
+    if let Some(lent) = marker.of_lent() {
+        id_of(out, lent, computer, computed)?;
+    }
+    alike(out, "IdOfLaw", marker, computer)
+}
+
+// Appends which id the parts say.
+fn id_of(
+    out: &mut String,
+    marker: Marker<'_>,
+    computer: &Computer<'_, '_, '_>,
+    computed: &Computed,
+) -> Result<(), AllocError> {
+    let parts = marker.parts;
+    let term = computed.term.as_str();
+    implemented(out, "IdOf", marker)?;
+    writeln!(out, "    ghost id_of = {{ λ p. {term} }};\n")?;
+    writeln!(out, "    fn id(parts: &{parts}) -> u64 {{")?;
+    out.push_str("        ")?;
+    for index in &computer.used {
+        if let Some(place) = computer.places.get(*index) {
+            reached(out, computer, place)?;
+            let is_whole = place.number == Some("u64");
+            out.push_str(if is_whole { "\n" } else { " as u64\n" })?;
+        }
+    }
+    out.push_str("    }\n}\n")
 }
 
 /// Appends the marker of a constant: the value of the parts, in its own constructor if it has one.
@@ -313,7 +369,7 @@ fn locals(
         if let Some(place) = computer.places.get(*index) {
             let name = place.name.as_str();
             write!(out, "        let {name} = ")?;
-            reached(out, place)?;
+            reached(out, computer, place)?;
             let is_number = place.number != Some("bool") && place.number != Some("usize");
             out.push_str(if is_cast && is_number {
                 " as usize;\n"
@@ -326,12 +382,16 @@ fn locals(
 }
 
 // Appends where a field is in the parts.
-fn reached(out: &mut String, place: &Place<'_>) -> Result<(), AllocError> {
-    let path = place.path.as_str();
+fn reached(
+    out: &mut String,
+    computer: &Computer<'_, '_, '_>,
+    place: &Place<'_>,
+) -> Result<(), AllocError> {
+    let (from, path) = (computer.from, place.path.as_str());
     if path.is_empty() {
-        out.push_str("*parts")
+        write!(out, "*{from}")
     } else {
-        write!(out, "parts{path}")
+        write!(out, "{from}{path}")
     }
 }
 
@@ -346,7 +406,7 @@ fn truth(
         if let Some(place) = computer.places.get(*index) {
             if place.name.as_str() == code {
                 out.push_str("        ")?;
-                reached(out, place)?;
+                reached(out, computer, place)?;
                 return out.push('\n');
             }
         }
@@ -386,7 +446,7 @@ fn alike(
 }
 
 /// The number of at most eight bytes, the high one first.
-pub(crate) fn number_of(bytes: &[u8]) -> u64 {
+pub fn number_of(bytes: &[u8]) -> u64 {
     let mut number = 0u64;
     for byte in bytes {
         number = (number << 8) | u64::from(*byte);
@@ -395,7 +455,7 @@ pub(crate) fn number_of(bytes: &[u8]) -> u64 {
 }
 
 /// The constructor and the type of a number of so many bytes.
-pub(crate) fn magic_kind(
+pub fn magic_kind(
     alloc: Global,
     count: usize,
     order: Order,

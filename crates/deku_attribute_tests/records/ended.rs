@@ -1,0 +1,75 @@
+//! Lists that end with an item.
+
+/// The item that ends a text.
+const END: u8 = 0;
+
+/// A text of C between two numbers.
+#[deku(endian = "big")]
+struct Text {
+    first: u16,
+    /// The bytes, with the zero that ends them.
+    #[deku(until = "|byte: &u8| *byte == END")]
+    bytes: Vec<u8>,
+    last: u16,
+}
+
+/// Numbers up to the first of at least 0x8000.
+#[deku(endian = "little")]
+struct Numbers {
+    #[deku(until = "|item: &u16| *item >= 0x8000")]
+    items: Vec<u16>,
+}
+
+/// Half bytes up to a zero, between a count and what it counts.
+struct Halves {
+    count: u8,
+    #[deku(bits = 4, until = "|half: &u8| *half == 0")]
+    halves: Vec<u8>,
+    #[deku(bits = 4)]
+    mode: u8,
+    #[deku(count = "count")]
+    items: Vec<u8>,
+}
+
+/// Lists of each form.
+struct Lists {
+    #[deku(until = "|more: &bool| !*more")]
+    flags: Vec<bool>,
+    count: u8,
+    #[deku(count = "count")]
+    counted: Vec<u8>,
+    #[deku(until = "|item: &u8| *item as usize + 1 == 256")]
+    bytes: Vec<u8>,
+    #[deku(read_all)]
+    rest: Vec<u8>,
+}
+
+/// Bytes after their number.
+struct Label {
+    length: u8,
+    #[deku(count = "length")]
+    bytes: Vec<u8>,
+}
+
+/// Labels up to an empty one, and a number.
+#[deku(endian = "big")]
+struct Name {
+    #[deku(until = "|label: &Label| label.length == 0")]
+    labels: Vec<Label>,
+    kind: u16,
+}
+
+/// Two numbers, after a byte that is always the same.
+#[deku(magic = b"e", endian = "big")]
+struct Entry {
+    #[deku(bits = 1)]
+    more: bool,
+    #[deku(bits = 15)]
+    key: u16,
+}
+
+/// Entries up to one that says so, or that has the key 7.
+struct Entries {
+    #[deku(until = "|entry: &Entry| !entry.more || entry.key == 7")]
+    entries: Vec<Entry>,
+}

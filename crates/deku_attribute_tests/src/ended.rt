@@ -1,0 +1,858 @@
+//! Lists that end with an item.
+//!
+//! Printed by `derive` from `ended.rs`.
+
+ghost use Rattle.std.specs.Prelude.{◌+◌, ◌||◌, not, nat_eq, nat_le, Some, codes, refl};
+ghost use Rattle.deku.specs.Composing.{Then};
+ghost use Rattle.deku.specs.Shapes.{Shows};
+ghost use Rattle.deku_symmetry.specs.Fields.{be, msb, msb_le};
+
+use deku::device::{Sink, Source};
+use deku::prelude::{
+    DekuContainerRead, DekuContainerWrite, DekuError, DekuReader, DekuWriter, Reader, Writer,
+};
+use deku_symmetry::{
+    Be, Before, Constant, ConstantLaw, CountOf, CountOfLaw, CountedBy, CountedByRef, FromParts,
+    Last, LastLaw, Le, Magic, Msb, MsbLe, Record, Rest, ToParts, Until, UntilRef, read_record,
+    write_record,
+};
+use std::marker::PhantomData;
+
+pub const END: u8 = 0;
+
+/// A text of C between two numbers.
+#[derive(Debug, PartialEq, Eq, Drop)]
+pub struct Text {
+    pub first: u16,
+    /// The bytes, with the zero that ends them.
+    pub bytes: Vec<u8>,
+    pub last: u16,
+}
+
+/// Which item of `bytes` is the last: `byte == 0`.
+#[derive(Debug, PartialEq, Eq, Drop)]
+pub struct TextBytesLast;
+
+impl Last<u8> for TextBytesLast {
+    ghost last_of = { λ p. nat_eq p 0 };
+
+    fn is_last(item: &u8) -> bool {
+        let byte = *item;
+        byte == 0
+    }
+}
+
+impl LastLaw<u8> for TextBytesLast {
+    ghost alike = { λ v w e. rw e refl };
+}
+
+impl Text {
+    /// The names of its parts, in their order.
+    pub const FIELDS: [&'static str; 3] = ["first", "bytes", "last"];
+}
+
+// The parts of Text, in their order.
+type TextParts = (Be<u16>, Until<u8, TextBytesLast>, Be<u16>);
+
+impl FromParts for Text {
+    type Parts = TextParts;
+
+    ghost parts_of = { λ r. (be r.first, record { items = r.bytes; last = record {} }, be r.last) };
+
+    ghost record_of = { λ p. record { first = p.0.0; bytes = p.1.items; last = p.2.0 } };
+
+    fn from_parts((Be(first), Until { items: bytes, .. }, Be(last)): Self::Parts) -> Self {
+        Text { first, bytes, last }
+    }
+
+    ghost there = { λ r. refl };
+}
+
+impl DekuReader<()> for Text {
+    ghost no_read_ahead = { ⟦<TextParts as DekuReader<()>>⟧.no_read_ahead };
+
+    ghost meaning = { λ c. Then (⟦<TextParts as DekuReader<()>>⟧.meaning c)
+        (Shows ⟦<Text as FromParts>⟧.parts_of) };
+
+    #[inline(always)]
+    fn from_reader_with_ctx<R: Source>(reader: &mut Reader<R>, ctx: ()) -> Result<Self, DekuError> {
+        read_record(reader, ctx)
+    }
+}
+
+impl DekuWriter<()> for Text {
+    ghost meaning = { λ v. ⟦<TextParts as DekuWriter<()>>⟧.meaning
+        (⟦<Text as FromParts>⟧.parts_of v) };
+
+    #[inline(always)]
+    fn to_writer<W: Sink>(&self, writer: &mut Writer<W>, ctx: ()) -> Result<(), DekuError> {
+        let parts = (
+            Be(self.first),
+            UntilRef::<_, TextBytesLast> {
+                items: &self.bytes,
+                last: PhantomData,
+            },
+            Be(self.last),
+        );
+        parts.to_writer(writer, ctx)
+    }
+}
+
+impl Record<()> for Text {
+    ghost reads = { λ c b s r u m. m };
+
+    ghost writes = { λ c v b s r u m. m };
+}
+
+impl DekuContainerRead for Text {}
+
+impl DekuContainerWrite for Text {}
+
+/// Numbers up to the first of at least 0x8000.
+#[derive(Debug, PartialEq, Eq, Drop)]
+pub struct Numbers {
+    pub items: Vec<Le<u16>>,
+}
+
+/// Which item of `items` is the last: `item >= 32768`.
+#[derive(Debug, PartialEq, Eq, Drop)]
+pub struct NumbersItemsLast;
+
+impl Last<Le<u16>> for NumbersItemsLast {
+    ghost last_of = { λ p. nat_le 32768 p.0 };
+
+    fn is_last(item: &Le<u16>) -> bool {
+        let item = item.0;
+        item >= 32768
+    }
+}
+
+impl LastLaw<Le<u16>> for NumbersItemsLast {
+    ghost alike = { λ v w e. rw e refl };
+}
+
+impl Numbers {
+    /// The names of its parts, in their order.
+    pub const FIELDS: [&'static str; 1] = ["items"];
+}
+
+// The parts of Numbers, in their order.
+type NumbersParts = Until<Le<u16>, NumbersItemsLast>;
+
+impl FromParts for Numbers {
+    type Parts = NumbersParts;
+
+    ghost parts_of = { λ r. record { items = r.items; last = record {} } };
+
+    ghost record_of = { λ p. record { items = p.items } };
+
+    fn from_parts(Until { items, .. }: Self::Parts) -> Self {
+        Numbers { items }
+    }
+
+    ghost there = { λ r. refl };
+}
+
+impl DekuReader<()> for Numbers {
+    ghost no_read_ahead = { ⟦<NumbersParts as DekuReader<()>>⟧.no_read_ahead };
+
+    ghost meaning = { λ c. Then (⟦<NumbersParts as DekuReader<()>>⟧.meaning c)
+        (Shows ⟦<Numbers as FromParts>⟧.parts_of) };
+
+    #[inline(always)]
+    fn from_reader_with_ctx<R: Source>(reader: &mut Reader<R>, ctx: ()) -> Result<Self, DekuError> {
+        read_record(reader, ctx)
+    }
+}
+
+impl DekuWriter<()> for Numbers {
+    ghost meaning = { λ v. ⟦<NumbersParts as DekuWriter<()>>⟧.meaning
+        (⟦<Numbers as FromParts>⟧.parts_of v) };
+
+    #[inline(always)]
+    fn to_writer<W: Sink>(&self, writer: &mut Writer<W>, ctx: ()) -> Result<(), DekuError> {
+        let parts = UntilRef::<_, NumbersItemsLast> {
+            items: &self.items,
+            last: PhantomData,
+        };
+        parts.to_writer(writer, ctx)
+    }
+}
+
+impl Record<()> for Numbers {
+    ghost reads = { λ c b s r u m. m };
+
+    ghost writes = { λ c v b s r u m. m };
+}
+
+impl DekuContainerRead for Numbers {}
+
+impl DekuContainerWrite for Numbers {}
+
+/// Half bytes up to a zero, between a count and what it counts.
+#[derive(Debug, PartialEq, Eq, Drop)]
+pub struct Halves {
+    pub count: u8,
+    pub halves: Vec<MsbLe<u8, 4>>,
+    pub mode: u8,
+    pub items: Vec<u8>,
+}
+
+/// Which item of `halves` is the last: `half == 0`.
+#[derive(Debug, PartialEq, Eq, Drop)]
+pub struct HalvesHalvesLast;
+
+impl Last<MsbLe<u8, 4>> for HalvesHalvesLast {
+    ghost last_of = { λ p. nat_eq p.0 0 };
+
+    fn is_last(item: &MsbLe<u8, 4>) -> bool {
+        let half = item.0;
+        half == 0
+    }
+}
+
+impl LastLaw<MsbLe<u8, 4>> for HalvesHalvesLast {
+    ghost alike = { λ v w e. rw e refl };
+}
+
+type HalvesItemsHead = (u8, Until<MsbLe<u8, 4>, HalvesHalvesLast>, MsbLe<u8, 4>);
+
+type HalvesItemsLent<'a> = (
+    u8,
+    UntilRef<'a, MsbLe<u8, 4>, HalvesHalvesLast>,
+    MsbLe<u8, 4>,
+);
+
+/// How many `items` there are: `count`.
+#[derive(Debug, PartialEq, Eq, Drop)]
+pub struct HalvesItemsCount;
+
+impl CountOf<HalvesItemsHead> for HalvesItemsCount {
+    ghost count_of = { λ p. Some p.0 };
+
+    fn count(parts: &HalvesItemsHead) -> Option<usize> {
+        let count = parts.0 as usize;
+        Some(count)
+    }
+}
+
+impl<'a> CountOf<HalvesItemsLent<'a>> for HalvesItemsCount {
+    ghost count_of = { λ p. Some p.0 };
+
+    fn count(parts: &HalvesItemsLent<'a>) -> Option<usize> {
+        let count = parts.0 as usize;
+        Some(count)
+    }
+}
+
+impl CountOfLaw<HalvesItemsHead> for HalvesItemsCount {
+    ghost alike = { λ v w e. rw e.0 refl };
+}
+
+impl Halves {
+    /// The names of its parts, in their order.
+    pub const FIELDS: [&'static str; 4] = ["count", "halves", "mode", "items"];
+}
+
+// The parts of Halves, in their order.
+type HalvesParts = CountedBy<HalvesItemsHead, HalvesItemsCount, u8>;
+
+impl FromParts for Halves {
+    type Parts = HalvesParts;
+
+    ghost parts_of = { λ r. record {
+      head = (r.count, record { items = r.halves; last = record {} }, msb_le r.mode);
+      items = r.items;
+      count = record {};
+    } };
+
+    ghost record_of = { λ p. record {
+      count = p.head.0;
+      halves = p.head.1.items;
+      mode = p.head.2.0;
+      items = p.items;
+    } };
+
+    fn from_parts(parts: Self::Parts) -> Self {
+        let CountedBy {
+            head: (count, Until { items: halves, .. }, MsbLe(mode)),
+            items,
+            ..
+        } = parts;
+        Halves {
+            count,
+            halves,
+            mode,
+            items,
+        }
+    }
+
+    ghost there = { λ r. refl };
+}
+
+impl DekuReader<()> for Halves {
+    ghost no_read_ahead = { ⟦<HalvesParts as DekuReader<()>>⟧.no_read_ahead };
+
+    ghost meaning = { λ c. Then (⟦<HalvesParts as DekuReader<()>>⟧.meaning c)
+        (Shows ⟦<Halves as FromParts>⟧.parts_of) };
+
+    #[inline(always)]
+    fn from_reader_with_ctx<R: Source>(reader: &mut Reader<R>, ctx: ()) -> Result<Self, DekuError> {
+        read_record(reader, ctx)
+    }
+}
+
+impl DekuWriter<()> for Halves {
+    ghost meaning = { λ v. ⟦<HalvesParts as DekuWriter<()>>⟧.meaning
+        (⟦<Halves as FromParts>⟧.parts_of v) };
+
+    #[inline(always)]
+    fn to_writer<W: Sink>(&self, writer: &mut Writer<W>, ctx: ()) -> Result<(), DekuError> {
+        let parts = CountedByRef::<_, HalvesItemsCount, _> {
+            head: (
+                self.count,
+                UntilRef::<_, HalvesHalvesLast> {
+                    items: &self.halves,
+                    last: PhantomData,
+                },
+                MsbLe::<_, 4>(self.mode),
+            ),
+            items: &self.items,
+            count: PhantomData,
+        };
+        parts.to_writer(writer, ctx)
+    }
+}
+
+impl Record<()> for Halves {
+    ghost reads = { λ c b s r u m. m };
+
+    ghost writes = { λ c v b s r u m. m };
+}
+
+impl DekuContainerRead for Halves {}
+
+impl DekuContainerWrite for Halves {}
+
+/// Lists of each form.
+#[derive(Debug, PartialEq, Eq, Drop)]
+pub struct Lists {
+    pub flags: Vec<bool>,
+    pub count: u8,
+    pub counted: Vec<u8>,
+    pub bytes: Vec<u8>,
+    pub rest: Vec<u8>,
+}
+
+/// Which item of `flags` is the last: `!more`.
+#[derive(Debug, PartialEq, Eq, Drop)]
+pub struct ListsFlagsLast;
+
+impl Last<bool> for ListsFlagsLast {
+    ghost last_of = { λ p. not p };
+
+    fn is_last(item: &bool) -> bool {
+        let more = *item;
+        !more
+    }
+}
+
+impl LastLaw<bool> for ListsFlagsLast {
+    ghost alike = { λ v w e. rw e refl };
+}
+
+/// How many `counted` there are: `count`.
+#[derive(Debug, PartialEq, Eq, Drop)]
+pub struct ListsCountedCount;
+
+impl CountOf<u8> for ListsCountedCount {
+    ghost count_of = { λ p. Some p };
+
+    fn count(parts: &u8) -> Option<usize> {
+        let count = *parts as usize;
+        Some(count)
+    }
+}
+
+impl CountOfLaw<u8> for ListsCountedCount {
+    ghost alike = { λ v w e. rw e refl };
+}
+
+/// Which item of `bytes` is the last: `item + 1 == 256`.
+#[derive(Debug, PartialEq, Eq, Drop)]
+pub struct ListsBytesLast;
+
+impl Last<u8> for ListsBytesLast {
+    ghost last_of = { λ p. nat_eq (p + 1) 256 };
+
+    fn is_last(item: &u8) -> bool {
+        let item = *item as usize;
+        item + 1 == 256
+    }
+}
+
+impl LastLaw<u8> for ListsBytesLast {
+    ghost alike = { λ v w e. rw e refl };
+}
+
+impl Lists {
+    /// The names of its parts, in their order.
+    pub const FIELDS: [&'static str; 5] = ["flags", "count", "counted", "bytes", "rest"];
+}
+
+// The parts of Lists, in their order.
+type ListsParts = Before<
+    (
+        Until<bool, ListsFlagsLast>,
+        CountedBy<u8, ListsCountedCount, u8>,
+        Until<u8, ListsBytesLast>,
+    ),
+    Rest<u8>,
+>;
+
+impl FromParts for Lists {
+    type Parts = ListsParts;
+
+    ghost parts_of = { λ r. record {
+      head = (
+        record { items = r.flags; last = record {} },
+        record { head = r.count; items = r.counted; count = record {} },
+        record { items = r.bytes; last = record {} },
+      );
+      rest = record { items = r.rest };
+    } };
+
+    ghost record_of = { λ p. record {
+      flags = p.head.0.items;
+      count = p.head.1.head;
+      counted = p.head.1.items;
+      bytes = p.head.2.items;
+      rest = p.rest.items;
+    } };
+
+    fn from_parts(parts: Self::Parts) -> Self {
+        let Before {
+            head: (
+                Until { items: flags, .. },
+                CountedBy {
+                    head: count,
+                    items: counted,
+                    ..
+                },
+                Until { items: bytes, .. },
+            ),
+            rest: Rest { items: rest },
+        } = parts;
+        Lists {
+            flags,
+            count,
+            counted,
+            bytes,
+            rest,
+        }
+    }
+
+    ghost there = { λ r. refl };
+}
+
+impl DekuReader<()> for Lists {
+    ghost no_read_ahead = { ⟦<ListsParts as DekuReader<()>>⟧.no_read_ahead };
+
+    ghost meaning = { λ c. Then (⟦<ListsParts as DekuReader<()>>⟧.meaning c)
+        (Shows ⟦<Lists as FromParts>⟧.parts_of) };
+
+    #[inline(always)]
+    fn from_reader_with_ctx<R: Source>(reader: &mut Reader<R>, ctx: ()) -> Result<Self, DekuError> {
+        read_record(reader, ctx)
+    }
+}
+
+impl DekuWriter<()> for Lists {
+    ghost meaning = { λ v. ⟦<ListsParts as DekuWriter<()>>⟧.meaning
+        (⟦<Lists as FromParts>⟧.parts_of v) };
+
+    #[inline(always)]
+    fn to_writer<W: Sink>(&self, writer: &mut Writer<W>, ctx: ()) -> Result<(), DekuError> {
+        let parts = Before {
+            head: (
+                UntilRef::<_, ListsFlagsLast> {
+                    items: &self.flags,
+                    last: PhantomData,
+                },
+                CountedByRef::<_, ListsCountedCount, _> {
+                    head: self.count,
+                    items: &self.counted,
+                    count: PhantomData,
+                },
+                UntilRef::<_, ListsBytesLast> {
+                    items: &self.bytes,
+                    last: PhantomData,
+                },
+            ),
+            rest: &self.rest,
+        };
+        parts.to_writer(writer, ctx)
+    }
+}
+
+impl Record<()> for Lists {
+    ghost reads = { λ c b s r u m. m };
+
+    ghost writes = { λ c v b s r u m. m };
+}
+
+impl DekuContainerRead for Lists {}
+
+impl DekuContainerWrite for Lists {}
+
+/// Bytes after their number.
+#[derive(Debug, PartialEq, Eq, Drop)]
+pub struct Label {
+    pub length: u8,
+    pub bytes: Vec<u8>,
+}
+
+/// How many `bytes` there are: `length`.
+#[derive(Debug, PartialEq, Eq, Drop)]
+pub struct LabelBytesCount;
+
+impl CountOf<u8> for LabelBytesCount {
+    ghost count_of = { λ p. Some p };
+
+    fn count(parts: &u8) -> Option<usize> {
+        let length = *parts as usize;
+        Some(length)
+    }
+}
+
+impl CountOfLaw<u8> for LabelBytesCount {
+    ghost alike = { λ v w e. rw e refl };
+}
+
+impl Label {
+    /// The names of its parts, in their order.
+    pub const FIELDS: [&'static str; 2] = ["length", "bytes"];
+}
+
+// The parts of Label, in their order.
+type LabelParts = CountedBy<u8, LabelBytesCount, u8>;
+
+impl FromParts for Label {
+    type Parts = LabelParts;
+
+    ghost parts_of = { λ r. record { head = r.length; items = r.bytes; count = record {} } };
+
+    ghost record_of = { λ p. record { length = p.head; bytes = p.items } };
+
+    fn from_parts(parts: Self::Parts) -> Self {
+        let CountedBy {
+            head: length,
+            items: bytes,
+            ..
+        } = parts;
+        Label { length, bytes }
+    }
+
+    ghost there = { λ r. refl };
+}
+
+impl DekuReader<()> for Label {
+    ghost no_read_ahead = { ⟦<LabelParts as DekuReader<()>>⟧.no_read_ahead };
+
+    ghost meaning = { λ c. Then (⟦<LabelParts as DekuReader<()>>⟧.meaning c)
+        (Shows ⟦<Label as FromParts>⟧.parts_of) };
+
+    #[inline(always)]
+    fn from_reader_with_ctx<R: Source>(reader: &mut Reader<R>, ctx: ()) -> Result<Self, DekuError> {
+        read_record(reader, ctx)
+    }
+}
+
+impl DekuWriter<()> for Label {
+    ghost meaning = { λ v. ⟦<LabelParts as DekuWriter<()>>⟧.meaning
+        (⟦<Label as FromParts>⟧.parts_of v) };
+
+    #[inline(always)]
+    fn to_writer<W: Sink>(&self, writer: &mut Writer<W>, ctx: ()) -> Result<(), DekuError> {
+        let parts = CountedByRef::<_, LabelBytesCount, _> {
+            head: self.length,
+            items: &self.bytes,
+            count: PhantomData,
+        };
+        parts.to_writer(writer, ctx)
+    }
+}
+
+impl Record<()> for Label {
+    ghost reads = { λ c b s r u m. m };
+
+    ghost writes = { λ c v b s r u m. m };
+}
+
+impl DekuContainerRead for Label {}
+
+impl DekuContainerWrite for Label {}
+
+/// Labels up to an empty one, and a number.
+#[derive(Debug, PartialEq, Eq, Drop)]
+pub struct Name {
+    pub labels: Vec<Label>,
+    pub kind: u16,
+}
+
+/// Which item of `labels` is the last: `length == 0`.
+#[derive(Debug, PartialEq, Eq, Drop)]
+pub struct NameLabelsLast;
+
+impl Last<Label> for NameLabelsLast {
+    ghost last_of = { λ p. nat_eq p.length 0 };
+
+    fn is_last(item: &Label) -> bool {
+        let length = item.length;
+        length == 0
+    }
+}
+
+impl LastLaw<Label> for NameLabelsLast {
+    ghost alike = { λ v w e. rw e.0 refl };
+}
+
+impl Name {
+    /// The names of its parts, in their order.
+    pub const FIELDS: [&'static str; 2] = ["labels", "kind"];
+}
+
+// The parts of Name, in their order.
+type NameParts = (Until<Label, NameLabelsLast>, Be<u16>);
+
+impl FromParts for Name {
+    type Parts = NameParts;
+
+    ghost parts_of = { λ r. (record { items = r.labels; last = record {} }, be r.kind) };
+
+    ghost record_of = { λ p. record { labels = p.0.items; kind = p.1.0 } };
+
+    fn from_parts((Until { items: labels, .. }, Be(kind)): Self::Parts) -> Self {
+        Name { labels, kind }
+    }
+
+    ghost there = { λ r. refl };
+}
+
+impl DekuReader<()> for Name {
+    ghost no_read_ahead = { ⟦<NameParts as DekuReader<()>>⟧.no_read_ahead };
+
+    ghost meaning = { λ c. Then (⟦<NameParts as DekuReader<()>>⟧.meaning c)
+        (Shows ⟦<Name as FromParts>⟧.parts_of) };
+
+    #[inline(always)]
+    fn from_reader_with_ctx<R: Source>(reader: &mut Reader<R>, ctx: ()) -> Result<Self, DekuError> {
+        read_record(reader, ctx)
+    }
+}
+
+impl DekuWriter<()> for Name {
+    ghost meaning = { λ v. ⟦<NameParts as DekuWriter<()>>⟧.meaning
+        (⟦<Name as FromParts>⟧.parts_of v) };
+
+    #[inline(always)]
+    fn to_writer<W: Sink>(&self, writer: &mut Writer<W>, ctx: ()) -> Result<(), DekuError> {
+        let parts = (
+            UntilRef::<_, NameLabelsLast> {
+                items: &self.labels,
+                last: PhantomData,
+            },
+            Be(self.kind),
+        );
+        parts.to_writer(writer, ctx)
+    }
+}
+
+impl Record<()> for Name {
+    ghost reads = { λ c b s r u m. m };
+
+    ghost writes = { λ c v b s r u m. m };
+}
+
+impl DekuContainerRead for Name {}
+
+impl DekuContainerWrite for Name {}
+
+/// Two numbers, after a byte that is always the same.
+#[derive(Debug, Clone, Copy, PartialEq, Eq)]
+pub struct Entry {
+    pub more: bool,
+    pub key: u16,
+}
+
+/// The magic of Entry.
+#[derive(Debug, PartialEq, Eq, Drop)]
+pub struct EntryMagic;
+
+impl Constant<u8> for EntryMagic {
+    ghost value = { 0x65 };
+
+    ghost text = { codes "magic of Entry" };
+
+    fn value() -> u8 {
+        0x65
+    }
+
+    fn is_value(part: &u8) -> bool {
+        *part == 0x65
+    }
+
+    fn text() -> &'static str {
+        "magic of Entry"
+    }
+}
+
+impl ConstantLaw<u8> for EntryMagic {
+    ghost alike = { λ v e. rw e refl };
+}
+
+impl Entry {
+    /// The names of its parts, in their order.
+    pub const FIELDS: [&'static str; 3] = ["magic", "more", "key"];
+}
+
+// The parts of Entry, in their order.
+type EntryParts = (Magic<u8, EntryMagic>, Msb<bool, 1>, Msb<u16, 15>);
+
+impl FromParts for Entry {
+    type Parts = EntryParts;
+
+    ghost parts_of = { λ r. (
+      record { part = record {}; constant = record {} },
+      msb r.more,
+      msb r.key,
+    ) };
+
+    ghost record_of = { λ p. record { more = p.1.0; key = p.2.0 } };
+
+    fn from_parts((_, Msb(more), Msb(key)): Self::Parts) -> Self {
+        Entry { more, key }
+    }
+
+    ghost there = { λ r. refl };
+}
+
+impl ToParts for Entry {
+    fn parts(&self) -> Self::Parts {
+        (Magic::new(), Msb(self.more), Msb(self.key))
+    }
+}
+
+impl DekuReader<()> for Entry {
+    ghost no_read_ahead = { ⟦<EntryParts as DekuReader<()>>⟧.no_read_ahead };
+
+    ghost meaning = { λ c. Then (⟦<EntryParts as DekuReader<()>>⟧.meaning c)
+        (Shows ⟦<Entry as FromParts>⟧.parts_of) };
+
+    #[inline(always)]
+    fn from_reader_with_ctx<R: Source>(reader: &mut Reader<R>, ctx: ()) -> Result<Self, DekuError> {
+        read_record(reader, ctx)
+    }
+}
+
+impl DekuWriter<()> for Entry {
+    ghost meaning = { λ v. ⟦<EntryParts as DekuWriter<()>>⟧.meaning
+        (⟦<Entry as FromParts>⟧.parts_of v) };
+
+    #[inline(always)]
+    fn to_writer<W: Sink>(&self, writer: &mut Writer<W>, ctx: ()) -> Result<(), DekuError> {
+        write_record(self, writer, ctx)
+    }
+}
+
+impl Record<()> for Entry {
+    ghost reads = { λ c b s r u m. m };
+
+    ghost writes = { λ c v b s r u m. m };
+}
+
+impl DekuContainerRead for Entry {}
+
+impl DekuContainerWrite for Entry {}
+
+/// Entries up to one that says so, or that has the key 7.
+#[derive(Debug, PartialEq, Eq, Drop)]
+pub struct Entries {
+    pub entries: Vec<Entry>,
+}
+
+/// Which item of `entries` is the last: `!more || key == 7`.
+#[derive(Debug, PartialEq, Eq, Drop)]
+pub struct EntriesEntriesLast;
+
+impl Last<Entry> for EntriesEntriesLast {
+    ghost last_of = { λ p. not p.more || nat_eq p.key 7 };
+
+    fn is_last(item: &Entry) -> bool {
+        let more = item.more;
+        let key = item.key;
+        !more || key == 7
+    }
+}
+
+impl LastLaw<Entry> for EntriesEntriesLast {
+    ghost alike = { λ v w e. rw (e.1.0, e.1.1) refl };
+}
+
+impl Entries {
+    /// The names of its parts, in their order.
+    pub const FIELDS: [&'static str; 1] = ["entries"];
+}
+
+// The parts of Entries, in their order.
+type EntriesParts = Until<Entry, EntriesEntriesLast>;
+
+impl FromParts for Entries {
+    type Parts = EntriesParts;
+
+    ghost parts_of = { λ r. record { items = r.entries; last = record {} } };
+
+    ghost record_of = { λ p. record { entries = p.items } };
+
+    fn from_parts(Until { items: entries, .. }: Self::Parts) -> Self {
+        Entries { entries }
+    }
+
+    ghost there = { λ r. refl };
+}
+
+impl DekuReader<()> for Entries {
+    ghost no_read_ahead = { ⟦<EntriesParts as DekuReader<()>>⟧.no_read_ahead };
+
+    ghost meaning = { λ c. Then (⟦<EntriesParts as DekuReader<()>>⟧.meaning c)
+        (Shows ⟦<Entries as FromParts>⟧.parts_of) };
+
+    #[inline(always)]
+    fn from_reader_with_ctx<R: Source>(reader: &mut Reader<R>, ctx: ()) -> Result<Self, DekuError> {
+        read_record(reader, ctx)
+    }
+}
+
+impl DekuWriter<()> for Entries {
+    ghost meaning = { λ v. ⟦<EntriesParts as DekuWriter<()>>⟧.meaning
+        (⟦<Entries as FromParts>⟧.parts_of v) };
+
+    #[inline(always)]
+    fn to_writer<W: Sink>(&self, writer: &mut Writer<W>, ctx: ()) -> Result<(), DekuError> {
+        let parts = UntilRef::<_, EntriesEntriesLast> {
+            items: &self.entries,
+            last: PhantomData,
+        };
+        parts.to_writer(writer, ctx)
+    }
+}
+
+impl Record<()> for Entries {
+    ghost reads = { λ c b s r u m. m };
+
+    ghost writes = { λ c v b s r u m. m };
+}
+
+impl DekuContainerRead for Entries {}
+
+impl DekuContainerWrite for Entries {}

@@ -1,0 +1,86 @@
+//! Bits that are always the same: padding and magic.
+
+use crate::building::Builder;
+use deku_attributes::model::{Field, Order};
+use deku_markers::marker;
+use deku_markers::marker::{Marker, magic_kind, number_of};
+use deku_texts::part::constant;
+use deku_texts::refusal::Stop;
+use deku_texts::words;
+use deku_tokens::place::Span;
+
+// How many bits of padding there are at most.
+const PADDING: u64 = 1024;
+
+impl<'b, 'a> Builder<'b, 'a> {
+    /// Zeros of so many bits, before or after a field.
+    pub(crate) fn padding(&mut self, bits: u64, field: &Field<'a>) -> Result<(), Stop> {
+        if bits > PADDING {
+            return self.wrong(
+                field.span,
+                "a padding of more than 1024 bits",
+                "write an array of bytes, which is kept",
+            );
+        }
+        let order = field.layout.order;
+        let mut left = bits;
+        for _ in 0..(PADDING / 64 + 1) {
+            if left == 0 {
+                break;
+            }
+            let width = left.min(64);
+            left = left.saturating_sub(width);
+            let kind = match order {
+                Order::Msb => format!(in self.alloc; "Msb<u64, {width}>")?,
+                Order::Lsb => format!(in self.alloc; "Lsb<u64, {width}>")?,
+            };
+            let marker = match order {
+                Order::Msb => "Zeros",
+                Order::Lsb => "LowZeros",
+            };
+            let part = constant(self.alloc, self.owner, kind.as_str(), marker, "padding")?;
+            self.items.push(part)?;
+        }
+        Ok(())
+    }
+
+    /// Bytes that are always the same, as one number.
+    pub fn magic(
+        &mut self,
+        bytes: &Vec<u8>,
+        name: String,
+        what: &str,
+        order: Order,
+        span: Span,
+    ) -> Result<(), Stop> {
+        if bytes.is_empty() || bytes.len() > 8 {
+            return self.wrong(
+                span,
+                "a magic of no bytes, or of more than 8",
+                "write the first 8 of them, and an array of `u8` with `assert` after them",
+            );
+        }
+        let number = number_of(bytes.as_slice());
+        let count = bytes.len();
+        let (constructor, kind) = magic_kind(self.alloc, count, order)?;
+        let value = format!(in self.alloc; "0x{number:X}")?;
+        let what = String::from_str(self.alloc, what)?;
+        let marker = Marker {
+            name: name.as_str(),
+            parts: kind.as_str(),
+            lent: None,
+            field: what.as_str(),
+        };
+        marker::constant(&mut self.markers, marker, constructor, value.as_str())?;
+        let part = constant(
+            self.alloc,
+            self.owner,
+            kind.as_str(),
+            name.as_str(),
+            "magic",
+        )?;
+        self.items.push(part)?;
+        self.names.push(name)?;
+        Ok(())
+    }
+}
