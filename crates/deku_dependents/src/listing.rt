@@ -110,11 +110,12 @@ impl<'b, 'a> Builder<'b, 'a> {
         let item = held_kind(self.alloc, field)?;
         let item = item.as_str();
         let named = words::marker(self.alloc, self.front.as_str(), called.name, "Last")?;
+        let owned = String::from_str(self.alloc, called.name)?;
         let marker = Marker {
             name: named.as_str(),
             parts: item,
             lent: None,
-            field: called.name,
+            field: owned.as_str(),
         };
         let (places, is_struct) = self.item_places(field, end)?;
         let mut computer = Computer::new(self.alloc, places.as_slice(), self.constants);
@@ -136,6 +137,7 @@ impl<'b, 'a> Builder<'b, 'a> {
         self.names.push(named)?;
         Ok(())
     }
+
     // Where the numbers of an item are: the item by its name, or the fields of a struct by theirs.
     fn item_places(
         &self,

@@ -90,10 +90,11 @@ impl<'a> Temporary<'a> {
         let part = self.part();
         let count = format!(in alloc; "{part}<u64, {bits}>")?;
         let count = count.as_str();
+        let item = String::from_str(alloc, item)?;
         let open = format!(in alloc; "PrefixedRef::<{count}, _> {{")?;
         let form = Listed {
             part: "Prefixed",
-            types: [count, item],
+            types: [count, item.as_str()],
             open: open.as_str(),
             marker: "count",
         };
