@@ -108,13 +108,13 @@ impl<'b, 'a> Builder<'b, 'a> {
             );
         }
         let item = held_kind(self.alloc, field)?;
-        let item = item.as_str();
         let named = words::marker(self.alloc, self.front.as_str(), called.name, "Last")?;
+        let owned = String::from_str(self.alloc, called.name)?;
         let marker = Marker {
             name: named.as_str(),
-            parts: item,
+            parts: item.as_str(),
             lent: None,
-            field: called.name,
+            field: owned.as_str(),
         };
         let (places, is_struct) = self.item_places(field, end)?;
         let mut computer = Computer::new(self.alloc, places.as_slice(), self.constants);
@@ -128,7 +128,7 @@ impl<'b, 'a> Builder<'b, 'a> {
         let open = format!(in self.alloc; "UntilRef::<_, {named}> {{")?;
         let form = Listed {
             part: "Until",
-            types: [item, named.as_str()],
+            types: [item.as_str(), named.as_str()],
             open: open.as_str(),
             marker: "last",
         };

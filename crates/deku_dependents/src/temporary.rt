@@ -89,11 +89,11 @@ impl<'a> Temporary<'a> {
         let bits = self.bits;
         let part = self.part();
         let count = format!(in alloc; "{part}<u64, {bits}>")?;
-        let count = count.as_str();
+        let item = String::from_str(alloc, item)?;
         let open = format!(in alloc; "PrefixedRef::<{count}, _> {{")?;
         let form = Listed {
             part: "Prefixed",
-            types: [count, item],
+            types: [count.as_str(), item.as_str()],
             open: open.as_str(),
             marker: "count",
         };

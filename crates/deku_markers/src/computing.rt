@@ -43,7 +43,7 @@ pub struct Computer<'p, 'c, 'a> {
     /// What the code that reaches the fields begins with.
     pub from: &'static str,
     /// What the value is called that has the fields, if they are not named alone.
-    pub owner: Option<&'c str>,
+    pub owner: Option<&'a str>,
 }
 
 impl<'p, 'c, 'a> Computer<'p, 'c, 'a> {
