@@ -7,8 +7,8 @@ ghost use Rattle.deku.specs.Composing.{Then};
 ghost use Rattle.deku.specs.Shapes.{Shows};
 ghost use Rattle.deku_symmetry.specs.Fields.{be, msb_le};
 ghost use Rattle.deku_pieces.specs.declared.either.Either.TheVariants as either;
-ghost use Rattle.deku_attribute_tests.specs.declared.choosing.Body.TheVariants as body_kinds;
-ghost use Rattle.deku_attribute_tests.specs.declared.choosing.Step.TheVariants as step_kinds;
+ghost use Rattle.deku_dependents_tests.specs.declared.choosing.Body.TheVariants as body_kinds;
+ghost use Rattle.deku_dependents_tests.specs.declared.choosing.Step.TheVariants as step_kinds;
 
 use deku::device::{Sink, Source};
 use deku::prelude::{
@@ -132,7 +132,7 @@ impl FromParts for Message {
         }
     }
 
-    ghost use Rattle.deku_attribute_tests.specs.contracts.choosing.BodyFromParts.TheImpl.Laws.{there-law as body_there};
+    ghost use Rattle.deku_dependents_tests.specs.contracts.choosing.BodyFromParts.TheImpl.Laws.{there-law as body_there};
 
     ghost there = { λ r. rw (body_there r.body) refl };
 }
@@ -432,7 +432,7 @@ impl FromParts for Steps {
         }
     }
 
-    ghost use Rattle.deku_attribute_tests.specs.contracts.choosing.StepFromParts.TheImpl.Laws.{there-law as step_there};
+    ghost use Rattle.deku_dependents_tests.specs.contracts.choosing.StepFromParts.TheImpl.Laws.{there-law as step_there};
 
     ghost there = { λ r. rw (step_there r.first, step_there r.last) refl };
 }
