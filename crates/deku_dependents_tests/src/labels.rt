@@ -368,4 +368,3 @@ impl Record<()> for Entries {
 impl DekuContainerRead for Entries {}
 
 impl DekuContainerWrite for Entries {}
-cases=4 ended=4 fault=0 differs=0 no-answer=0 proved=no
