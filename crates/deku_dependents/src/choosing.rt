@@ -117,6 +117,13 @@ fn has_given<'a>(records: &Records<'_, 'a>, kind: &Type<'a>) -> bool {
             .record(name.text)
             .is_some_and(|record| is_given(record)),
         Type::Of(_, item) | Type::Array(item, _) => has_given(records, item),
-        Type::Tuple(parts) => parts.iter().any(|part| has_given(records, part)),
+        Type::Tuple(parts) => {
+            for part in parts {
+                if has_given(records, part) {
+                    return true;
+                }
+            }
+            false
+        }
     }
 }
