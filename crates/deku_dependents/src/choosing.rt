@@ -8,7 +8,7 @@ use deku_markers::chosen::chosen;
 use deku_markers::computing::Computer;
 use deku_markers::marker;
 use deku_markers::marker::Marker;
-use deku_texts::part::{Named, Owner};
+use deku_texts::part::{Named, Owner, Place};
 use deku_texts::records::Records;
 use deku_texts::refusal::Stop;
 use deku_texts::words;
@@ -72,14 +72,24 @@ impl<'b, 'a> Builder<'b, 'a> {
             lent: lent.as_deref(),
             field: owned.as_str(),
         };
-        let mut computer = Computer::new(self.alloc, head.places.as_slice(), self.constants);
-        let computed = computer.name(id.text, id.span)?;
-        marker::id(&mut self.markers, marker, &computer, &computed)?;
+        self.says(head.places.as_slice(), marker, id)?;
         let owner = self.owner;
         let part = chosen(self.alloc, owner, head, called, (named.as_str(), kind.text))?;
         self.names.push(named)?;
         self.items.push(part)?;
         Ok(())
+    }
+
+    // Appends the type of an id that a field of this name says.
+    fn says(
+        &mut self,
+        places: &[Place<'a>],
+        marker: Marker<'_>,
+        id: Token<'a>,
+    ) -> Result<(), Stop> {
+        let mut computer = Computer::new(self.alloc, places, self.constants);
+        let computed = computer.name(id.text, id.span)?;
+        marker::id(&mut self.markers, marker, &computer, &computed)
     }
 
     // The field with an id of this type.
