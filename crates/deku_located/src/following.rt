@@ -16,7 +16,8 @@ use deku::{DekuError, DekuReader};
 use deku_pieces::counted::read_counted;
 use deku_pieces::filled_by::read_filled;
 use deku_symmetry::{
-    Assert, Before, Check, Condition, CountOf, CountedBy, FilledBy, Optional, SizeOf,
+    Assert, Before, Check, ChosenBy, Condition, CountOf, CountedBy, FilledBy, IdOf, Kinds,
+    Optional, SizeOf,
 };
 
 /// The parts in front, and then the list as one part.
@@ -91,6 +92,41 @@ fn fill_items<T: DekuReader<()>, R: Source>(
     let items = read_filled::<T, R>(reader, size)?;
     place.parts += 1;
     Ok(items)
+}
+
+/// The parts in front, and then the value that they choose as one part.
+impl<P: Steps, C: IdOf<P>, K: Kinds> Steps for ChosenBy<P, C, K> {
+    ghost steps = { P.steps + 1 };
+
+    ghost placed = { Joined (λ h k. record { head = h; kind = k; id = record {} }) P.placed
+        (λ h. Alone (K.reads (C.id_of h))) };
+
+    #[inline(always)]
+    fn read_steps<R: Source>(reader: &mut Reader<R>, place: &mut Place) -> Result<Self, DekuError> {
+        let head = P::read_steps(reader, place)?;
+        let kind = read_chosen::<K, R>(reader, place, C::id(&head))?;
+        Ok(ChosenBy::new(head, kind))
+    }
+}
+
+// Reads a value of the kind that the id says, as one part.
+#[inline(always)]
+fn read_chosen<K: Kinds, R: Source>(
+    reader: &mut Reader<R>,
+    place: &mut Place,
+    id: u64,
+) -> Result<K, DekuError>
+    requires accepted { K.readable }
+    requires room { place.now.parts + 1 < 2 ^ 64 }
+    ensures reads { Reads R.known (K.reads id) reader.old result reader.new }
+    ensures placed { Reads R.known (Alone (K.reads id) place.old.parts place.new) reader.old result
+        reader.new }
+    ensures counted { Counts 1 place.old.parts place.new result }
+{
+    place.bit = reader.bits_read();
+    let kind = K::read_kind(reader, id)?;
+    place.parts += 1;
+    Ok(kind)
 }
 
 /// The parts in front, and then what is last.
