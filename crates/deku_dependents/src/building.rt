@@ -405,6 +405,8 @@ impl<'b, 'a> Builder<'b, 'a> {
     // A list up to the end of the input.
     fn rest(&mut self, field: &Field<'a>, called: Named<'_>) -> Result<(), Stop> {
         let held = held_kind(self.alloc, field)?;
+        let lent = self.items.iter().filter(|it| it.is_lent).count();
+        self.is_nested = self.is_nested || lent > 1;
         let front = std::mem::replace(&mut self.items, Vec::new(self.alloc));
         self.items
             .push(rest(self.alloc, front, called, held.as_str())?)?;

@@ -34,6 +34,10 @@ impl<'b, 'a> Builder<'b, 'a> {
                 "an enum whose id comes from a field, in another type, is not supported",
                 "write a struct of it and of the field with its id, in place of it",
             ),
+            (true, true) if self.owner == Owner::Lent => (
+                "an enum whose id comes from a field, beside a list or an option, is not supported",
+                "write a struct of it and of the field with its id, in place of it",
+            ),
             (true, true) => return Ok(()),
             (true, false) => (
                 "an enum whose id comes from a field, and no field that says it",
