@@ -36,15 +36,21 @@ enum Step {
     Home = 3,
 }
 
-/// Two enums of one id, before and after a list.
+/// Two enums of one id.
 #[deku(endian = "big")]
 struct Steps {
     id: u16,
-    count: u8,
     #[deku(ctx = "*id")]
     first: Step,
-    #[deku(count = "count")]
-    between: Vec<u8>,
+    count: u8,
     #[deku(ctx = "*id")]
     last: Step,
+}
+
+/// Steps and a list.
+struct Walk {
+    steps: Steps,
+    length: u8,
+    #[deku(count = "length")]
+    marks: Vec<u8>,
 }

@@ -31,7 +31,7 @@ struct Halves {
     items: Vec<u8>,
 }
 
-/// Lists of each form.
+/// Lists one after the other.
 struct Lists {
     #[deku(until = "|more: &bool| !*more")]
     flags: Vec<bool>,
@@ -40,6 +40,12 @@ struct Lists {
     counted: Vec<u8>,
     #[deku(until = "|item: &u8| *item as usize + 1 == 256")]
     bytes: Vec<u8>,
+}
+
+/// A text of C, and all after it.
+struct TextAndRest {
+    #[deku(until = "|byte: &u8| *byte == END")]
+    text: Vec<u8>,
     #[deku(read_all)]
     rest: Vec<u8>,
 }

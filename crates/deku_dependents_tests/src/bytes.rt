@@ -1,8 +1,8 @@
 //! Records as bytes and back.
 
-use crate::choosing::{Body, Message, Place, Step, Steps};
+use crate::choosing::{Body, Message, Place, Step, Steps, Walk};
 use crate::dependents::{Alone, Counting, Sizing, ToEnd, Two, Updating, UpdatingTwo, Whether};
-use crate::ended::{Halves, Lists, Numbers, Text};
+use crate::ended::{Halves, Lists, Numbers, Text, TextAndRest};
 use crate::labels::{Entries, Entry, Label, Name};
 use deku::prelude::{DekuError, DekuUpdate, NeedSize};
 use deku_symmetry::{Be, Le, MsbLe, Symmetric, SymmetricLast};
@@ -114,11 +114,15 @@ fn lists_that_an_item_ends(rt: HostRuntime) -> Result<(), Fail> {
         count: 1,
         counted: [0xFF].to_vec(alloc)?,
         bytes: [0x05, 0xFF].to_vec(alloc)?,
+    };
+    expect_packed(alloc, (), &lists, 48, &[0x01, 0x00, 0x01, 0xFF, 0x05, 0xFF])?;
+    let all = TextAndRest {
+        text: [0x68, 0x00].to_vec(alloc)?,
         rest: [0xFF, 0x00].to_vec(alloc)?,
     };
-    let bytes = [0x01, 0x00, 0x01, 0xFF, 0x05, 0xFF, 0xFF, 0x00];
-    same(&2, &lists.pack_whole(alloc)?.as_slice(), &bytes.as_slice())?;
-    same(&3, &Lists::unpack_whole(alloc, &bytes)?, &(64, lists))
+    let bytes = [0x68, 0x00, 0xFF, 0x00];
+    same(&2, &all.pack_whole(alloc)?.as_slice(), &bytes.as_slice())?;
+    same(&3, &TextAndRest::unpack_whole(alloc, &bytes)?, &(32, all))
 }
 
 fn label(alloc: Global, bytes: &[u8], length: u8) -> Result<Label, Fail> {
@@ -215,7 +219,8 @@ fn kinds_that_a_field_chooses(rt: HostRuntime) -> Result<(), Fail> {
     expect_refusal::<Message>(alloc, &[0x40], refusal, 8)
 }
 
-// The id, the first step, the last one, and the bytes with two others between the steps.
+// The id, the first step, the last one, and the bytes, with a count of 2 between the steps and a
+// list of two after them.
 const STEPS: [(u16, Step, Step, &[u8]); 3] = [
     (
         1,
@@ -225,7 +230,7 @@ const STEPS: [(u16, Step, Step, &[u8]); 3] = [
         }),
         Step::At(Place { across: 5, up: 6 }),
         &[
-            0x00, 0x01, 0x02, 0x01, 0x02, 0x03, 0x04, 0xAA, 0xBB, 0x00, 0x05, 0x00, 0x06,
+            0x00, 0x01, 0x01, 0x02, 0x03, 0x04, 0x02, 0x00, 0x05, 0x00, 0x06, 0x02, 0xAA, 0xBB,
         ],
     ),
     (
@@ -236,10 +241,15 @@ const STEPS: [(u16, Step, Step, &[u8]); 3] = [
         },
         Step::By { times: 1, turn: 2 },
         &[
-            0x02, 0x02, 0x02, 0x07, 0x08, 0x09, 0xAA, 0xBB, 0x01, 0x00, 0x02,
+            0x02, 0x02, 0x07, 0x08, 0x09, 0x02, 0x01, 0x00, 0x02, 0x02, 0xAA, 0xBB,
         ],
     ),
-    (3, Step::Home, Step::Home, &[0x00, 0x03, 0x02, 0xAA, 0xBB]),
+    (
+        3,
+        Step::Home,
+        Step::Home,
+        &[0x00, 0x03, 0x02, 0x02, 0xAA, 0xBB],
+    ),
 ];
 
 #[test]
@@ -248,12 +258,16 @@ fn kinds_that_a_field_chooses_twice(rt: HostRuntime) -> Result<(), Fail> {
     for (id, first, last, bytes) in STEPS {
         let mut steps = Steps {
             id,
-            count: 2,
             first,
-            between: [0xAA, 0xBB].to_vec(alloc)?,
+            count: 2,
             last,
         };
-        expect_packed(alloc, (), &steps, bytes.len() * 8, bytes)?;
+        let walk = Walk {
+            steps,
+            length: 2,
+            marks: [0xAA, 0xBB].to_vec(alloc)?,
+        };
+        expect_packed(alloc, (), &walk, bytes.len() * 8, bytes)?;
         let refusal = DekuError::Assertion("kind out of step with its id");
         steps.last = Step::By { times: 0, turn: 0 };
         if id != 0x202 {

@@ -301,84 +301,52 @@ impl ToParts for Step {
     }
 }
 
-/// Two enums of one id, before and after a list.
-#[derive(Debug, PartialEq, Eq, Drop)]
+/// Two enums of one id.
+#[derive(Debug, Clone, Copy, PartialEq, Eq)]
 pub struct Steps {
     pub id: u16,
-    pub count: u8,
     pub first: Step,
-    pub between: Vec<u8>,
+    pub count: u8,
     pub last: Step,
 }
-
-type StepsFirstHead = (Be<u16>, u8);
 
 /// Which kind `first` is: `id`.
 #[derive(Debug, PartialEq, Eq, Drop)]
 pub struct StepsFirstId;
 
-impl IdOf<StepsFirstHead> for StepsFirstId {
-    ghost id_of = { λ p. p.0.0 };
+impl IdOf<Be<u16>> for StepsFirstId {
+    ghost id_of = { λ p. p.0 };
 
-    fn id(parts: &StepsFirstHead) -> u64 {
-        parts.0.0 as u64
+    fn id(parts: &Be<u16>) -> u64 {
+        parts.0 as u64
     }
 }
 
-impl IdOfLaw<StepsFirstHead> for StepsFirstId {
-    ghost alike = { λ v w e. rw e.0 refl };
+impl IdOfLaw<Be<u16>> for StepsFirstId {
+    ghost alike = { λ v w e. rw e refl };
 }
 
-type StepsBetweenHead = ChosenBy<StepsFirstHead, StepsFirstId, StepKinds>;
-
-/// How many `between` there are: `count`.
-#[derive(Debug, PartialEq, Eq, Drop)]
-pub struct StepsBetweenCount;
-
-impl CountOf<StepsBetweenHead> for StepsBetweenCount {
-    ghost count_of = { λ p. Some p.head.1 };
-
-    fn count(parts: &StepsBetweenHead) -> Option<usize> {
-        let count = parts.head.1 as usize;
-        Some(count)
-    }
-}
-
-impl CountOfLaw<StepsBetweenHead> for StepsBetweenCount {
-    ghost alike = { λ v w e. rw e.0.1 refl };
-}
-
-type StepsLastHead = CountedBy<StepsBetweenHead, StepsBetweenCount, u8>;
-
-type StepsLastLent<'a> = CountedByRef<'a, StepsBetweenHead, StepsBetweenCount, u8>;
+type StepsLastHead = (ChosenBy<Be<u16>, StepsFirstId, StepKinds>, u8);
 
 /// Which kind `last` is: `id`.
 #[derive(Debug, PartialEq, Eq, Drop)]
 pub struct StepsLastId;
 
 impl IdOf<StepsLastHead> for StepsLastId {
-    ghost id_of = { λ p. p.head.head.0.0 };
+    ghost id_of = { λ p. p.0.head.0 };
 
     fn id(parts: &StepsLastHead) -> u64 {
-        parts.head.head.0.0 as u64
-    }
-}
-
-impl<'a> IdOf<StepsLastLent<'a>> for StepsLastId {
-    ghost id_of = { λ p. p.head.head.0.0 };
-
-    fn id(parts: &StepsLastLent<'a>) -> u64 {
-        parts.head.head.0.0 as u64
+        parts.0.head.0 as u64
     }
 }
 
 impl IdOfLaw<StepsLastHead> for StepsLastId {
-    ghost alike = { λ v w e. rw e.0.0.0 refl };
+    ghost alike = { λ v w e. rw e.0.0 refl };
 }
 
 impl Steps {
     /// The names of its parts, in their order.
-    pub const FIELDS: [&'static str; 5] = ["id", "count", "first", "between", "last"];
+    pub const FIELDS: [&'static str; 4] = ["id", "first", "count", "last"];
 }
 
 // The parts of Steps, in their order.
@@ -388,46 +356,38 @@ impl FromParts for Steps {
     type Parts = StepsParts;
 
     ghost parts_of = { λ r. record {
-      head = record {
-        head = record {
-          head = (be r.id, r.count);
-          kind = ⟦<Step as FromParts>⟧.parts_of r.first;
-          id = record {};
-        };
-        items = r.between;
-        count = record {};
-      };
+      head = (
+        record { head = be r.id; kind = ⟦<Step as FromParts>⟧.parts_of r.first; id = record {} },
+        r.count,
+      );
       kind = ⟦<Step as FromParts>⟧.parts_of r.last;
       id = record {};
     } };
 
     ghost record_of = { λ p. record {
-      id = p.head.head.head.0.0;
-      count = p.head.head.head.1;
-      first = ⟦<Step as FromParts>⟧.record_of p.head.head.kind;
-      between = p.head.items;
+      id = p.head.0.head.0;
+      first = ⟦<Step as FromParts>⟧.record_of p.head.0.kind;
+      count = p.head.1;
       last = ⟦<Step as FromParts>⟧.record_of p.kind;
     } };
 
     fn from_parts(parts: Self::Parts) -> Self {
         let ChosenBy {
-            head: CountedBy {
-                head: ChosenBy {
-                    head: (Be(id), count),
+            head: (
+                ChosenBy {
+                    head: Be(id),
                     kind: first,
                     ..
                 },
-                items: between,
-                ..
-            },
+                count,
+            ),
             kind: last,
             ..
         } = parts;
         Steps {
             id,
-            count,
             first: Step::from_parts(first),
-            between,
+            count,
             last: Step::from_parts(last),
         }
     }
@@ -435,6 +395,15 @@ impl FromParts for Steps {
     ghost use Rattle.deku_dependents_tests.specs.contracts.choosing.StepFromParts.TheImpl.Laws.{there-law as step_there};
 
     ghost there = { λ r. rw (step_there r.first, step_there r.last) refl };
+}
+
+impl ToParts for Steps {
+    fn parts(&self) -> Self::Parts {
+        ChosenBy::new(
+            (ChosenBy::new(Be(self.id), self.first.parts()), self.count),
+            self.last.parts(),
+        )
+    }
 }
 
 impl DekuReader<()> for Steps {
@@ -455,20 +424,7 @@ impl DekuWriter<()> for Steps {
 
     #[inline(always)]
     fn to_writer<W: Sink>(&self, writer: &mut Writer<W>, ctx: ()) -> Result<(), DekuError> {
-        let parts = ChosenBy::<_, StepsLastId, _> {
-            head: CountedByRef::<_, StepsBetweenCount, _> {
-                head: ChosenBy::<_, StepsFirstId, _> {
-                    head: (Be(self.id), self.count),
-                    kind: self.first.parts(),
-                    id: PhantomData,
-                },
-                items: &self.between,
-                count: PhantomData,
-            },
-            kind: self.last.parts(),
-            id: PhantomData,
-        };
-        parts.to_writer(writer, ctx)
+        write_record(self, writer, ctx)
     }
 }
 
@@ -481,3 +437,105 @@ impl Record<()> for Steps {
 impl DekuContainerRead for Steps {}
 
 impl DekuContainerWrite for Steps {}
+
+/// Steps and a list.
+#[derive(Debug, PartialEq, Eq, Drop)]
+pub struct Walk {
+    pub steps: Steps,
+    pub length: u8,
+    pub marks: Vec<u8>,
+}
+
+/// How many `marks` there are: `length`.
+#[derive(Debug, PartialEq, Eq, Drop)]
+pub struct WalkMarksCount;
+
+impl CountOf<u8> for WalkMarksCount {
+    ghost count_of = { λ p. Some p };
+
+    fn count(parts: &u8) -> Option<usize> {
+        let length = *parts as usize;
+        Some(length)
+    }
+}
+
+impl CountOfLaw<u8> for WalkMarksCount {
+    ghost alike = { λ v w e. rw e refl };
+}
+
+impl Walk {
+    /// The names of its parts, in their order.
+    pub const FIELDS: [&'static str; 3] = ["steps", "length", "marks"];
+}
+
+// The parts of Walk, in their order.
+type WalkParts = (Steps, CountedBy<u8, WalkMarksCount, u8>);
+
+impl FromParts for Walk {
+    type Parts = WalkParts;
+
+    ghost parts_of = { λ r. (
+      r.steps,
+      record { head = r.length; items = r.marks; count = record {} },
+    ) };
+
+    ghost record_of = { λ p. record { steps = p.0; length = p.1.head; marks = p.1.items } };
+
+    fn from_parts(parts: Self::Parts) -> Self {
+        let (
+            steps,
+            CountedBy {
+                head: length,
+                items: marks,
+                ..
+            },
+        ) = parts;
+        Walk {
+            steps,
+            length,
+            marks,
+        }
+    }
+
+    ghost there = { λ r. refl };
+}
+
+impl DekuReader<()> for Walk {
+    ghost no_read_ahead = { ⟦<WalkParts as DekuReader<()>>⟧.no_read_ahead };
+
+    ghost meaning = { λ c. Then (⟦<WalkParts as DekuReader<()>>⟧.meaning c)
+        (Shows ⟦<Walk as FromParts>⟧.parts_of) };
+
+    #[inline(always)]
+    fn from_reader_with_ctx<R: Source>(reader: &mut Reader<R>, ctx: ()) -> Result<Self, DekuError> {
+        read_record(reader, ctx)
+    }
+}
+
+impl DekuWriter<()> for Walk {
+    ghost meaning = { λ v. ⟦<WalkParts as DekuWriter<()>>⟧.meaning
+        (⟦<Walk as FromParts>⟧.parts_of v) };
+
+    #[inline(always)]
+    fn to_writer<W: Sink>(&self, writer: &mut Writer<W>, ctx: ()) -> Result<(), DekuError> {
+        let parts = (
+            self.steps,
+            CountedByRef::<_, WalkMarksCount, _> {
+                head: self.length,
+                items: &self.marks,
+                count: PhantomData,
+            },
+        );
+        parts.to_writer(writer, ctx)
+    }
+}
+
+impl Record<()> for Walk {
+    ghost reads = { λ c b s r u m. m };
+
+    ghost writes = { λ c v b s r u m. m };
+}
+
+impl DekuContainerRead for Walk {}
+
+impl DekuContainerWrite for Walk {}

@@ -333,14 +333,13 @@ impl DekuContainerRead for Halves {}
 
 impl DekuContainerWrite for Halves {}
 
-/// Lists of each form.
+/// Lists one after the other.
 #[derive(Debug, PartialEq, Eq, Drop)]
 pub struct Lists {
     pub flags: Vec<bool>,
     pub count: u8,
     pub counted: Vec<u8>,
     pub bytes: Vec<u8>,
-    pub rest: Vec<u8>,
 }
 
 /// Which item of `flags` is the last: `!more`.
@@ -396,58 +395,47 @@ impl LastLaw<u8> for ListsBytesLast {
 
 impl Lists {
     /// The names of its parts, in their order.
-    pub const FIELDS: [&'static str; 5] = ["flags", "count", "counted", "bytes", "rest"];
+    pub const FIELDS: [&'static str; 4] = ["flags", "count", "counted", "bytes"];
 }
 
 // The parts of Lists, in their order.
-type ListsParts = Before<
-    (
-        Until<bool, ListsFlagsLast>,
-        CountedBy<u8, ListsCountedCount, u8>,
-        Until<u8, ListsBytesLast>,
-    ),
-    Rest<u8>,
->;
+type ListsParts = (
+    Until<bool, ListsFlagsLast>,
+    CountedBy<u8, ListsCountedCount, u8>,
+    Until<u8, ListsBytesLast>,
+);
 
 impl FromParts for Lists {
     type Parts = ListsParts;
 
-    ghost parts_of = { λ r. record {
-      head = (
-        record { items = r.flags; last = record {} },
-        record { head = r.count; items = r.counted; count = record {} },
-        record { items = r.bytes; last = record {} },
-      );
-      rest = record { items = r.rest };
-    } };
+    ghost parts_of = { λ r. (
+      record { items = r.flags; last = record {} },
+      record { head = r.count; items = r.counted; count = record {} },
+      record { items = r.bytes; last = record {} },
+    ) };
 
     ghost record_of = { λ p. record {
-      flags = p.head.0.items;
-      count = p.head.1.head;
-      counted = p.head.1.items;
-      bytes = p.head.2.items;
-      rest = p.rest.items;
+      flags = p.0.items;
+      count = p.1.head;
+      counted = p.1.items;
+      bytes = p.2.items;
     } };
 
     fn from_parts(parts: Self::Parts) -> Self {
-        let Before {
-            head: (
-                Until { items: flags, .. },
-                CountedBy {
-                    head: count,
-                    items: counted,
-                    ..
-                },
-                Until { items: bytes, .. },
-            ),
-            rest: Rest { items: rest },
-        } = parts;
+        let (
+            Until { items: flags, .. },
+            CountedBy {
+                head: count,
+                items: counted,
+                ..
+            },
+            Until { items: bytes, .. },
+        ) = parts;
         Lists {
             flags,
             count,
             counted,
             bytes,
-            rest,
         }
     }
 
@@ -472,24 +460,21 @@ impl DekuWriter<()> for Lists {
 
     #[inline(always)]
     fn to_writer<W: Sink>(&self, writer: &mut Writer<W>, ctx: ()) -> Result<(), DekuError> {
-        let parts = Before {
-            head: (
-                UntilRef::<_, ListsFlagsLast> {
-                    items: &self.flags,
-                    last: PhantomData,
-                },
-                CountedByRef::<_, ListsCountedCount, _> {
-                    head: self.count,
-                    items: &self.counted,
-                    count: PhantomData,
-                },
-                UntilRef::<_, ListsBytesLast> {
-                    items: &self.bytes,
-                    last: PhantomData,
-                },
-            ),
-            rest: &self.rest,
-        };
+        let parts = (
+            UntilRef::<_, ListsFlagsLast> {
+                items: &self.flags,
+                last: PhantomData,
+            },
+            CountedByRef::<_, ListsCountedCount, _> {
+                head: self.count,
+                items: &self.counted,
+                count: PhantomData,
+            },
+            UntilRef::<_, ListsBytesLast> {
+                items: &self.bytes,
+                last: PhantomData,
+            },
+        );
         parts.to_writer(writer, ctx)
     }
 }
@@ -503,3 +488,95 @@ impl Record<()> for Lists {
 impl DekuContainerRead for Lists {}
 
 impl DekuContainerWrite for Lists {}
+
+/// A text of C, and all after it.
+#[derive(Debug, PartialEq, Eq, Drop)]
+pub struct TextAndRest {
+    pub text: Vec<u8>,
+    pub rest: Vec<u8>,
+}
+
+/// Which item of `text` is the last: `byte == 0`.
+#[derive(Debug, PartialEq, Eq, Drop)]
+pub struct TextAndRestTextLast;
+
+impl Last<u8> for TextAndRestTextLast {
+    ghost last_of = { λ p. nat_eq p 0 };
+
+    fn is_last(item: &u8) -> bool {
+        let byte = *item;
+        byte == 0
+    }
+}
+
+impl LastLaw<u8> for TextAndRestTextLast {
+    ghost alike = { λ v w e. rw e refl };
+}
+
+impl TextAndRest {
+    /// The names of its parts, in their order.
+    pub const FIELDS: [&'static str; 2] = ["text", "rest"];
+}
+
+// The parts of TextAndRest, in their order.
+type TextAndRestParts = Before<Until<u8, TextAndRestTextLast>, Rest<u8>>;
+
+impl FromParts for TextAndRest {
+    type Parts = TextAndRestParts;
+
+    ghost parts_of = { λ r. record {
+      head = record { items = r.text; last = record {} };
+      rest = record { items = r.rest };
+    } };
+
+    ghost record_of = { λ p. record { text = p.head.items; rest = p.rest.items } };
+
+    fn from_parts(parts: Self::Parts) -> Self {
+        let Before {
+            head: Until { items: text, .. },
+            rest: Rest { items: rest },
+        } = parts;
+        TextAndRest { text, rest }
+    }
+
+    ghost there = { λ r. refl };
+}
+
+impl DekuReader<()> for TextAndRest {
+    ghost no_read_ahead = { ⟦<TextAndRestParts as DekuReader<()>>⟧.no_read_ahead };
+
+    ghost meaning = { λ c. Then (⟦<TextAndRestParts as DekuReader<()>>⟧.meaning c)
+        (Shows ⟦<TextAndRest as FromParts>⟧.parts_of) };
+
+    #[inline(always)]
+    fn from_reader_with_ctx<R: Source>(reader: &mut Reader<R>, ctx: ()) -> Result<Self, DekuError> {
+        read_record(reader, ctx)
+    }
+}
+
+impl DekuWriter<()> for TextAndRest {
+    ghost meaning = { λ v. ⟦<TextAndRestParts as DekuWriter<()>>⟧.meaning
+        (⟦<TextAndRest as FromParts>⟧.parts_of v) };
+
+    #[inline(always)]
+    fn to_writer<W: Sink>(&self, writer: &mut Writer<W>, ctx: ()) -> Result<(), DekuError> {
+        let parts = Before {
+            head: UntilRef::<_, TextAndRestTextLast> {
+                items: &self.text,
+                last: PhantomData,
+            },
+            rest: &self.rest,
+        };
+        parts.to_writer(writer, ctx)
+    }
+}
+
+impl Record<()> for TextAndRest {
+    ghost reads = { λ c b s r u m. m };
+
+    ghost writes = { λ c v b s r u m. m };
+}
+
+impl DekuContainerRead for TextAndRest {}
+
+impl DekuContainerWrite for TextAndRest {}

@@ -5,7 +5,7 @@ use deku_derive::making::{Made, make};
 use std::test::Fail;
 
 // What is said of descriptions that have no module.
-const REFUSED: [(&str, &str); 21] = [
+const REFUSED: [(&str, &str); 22] = [
     (
         "#[deku(ctx = \"k: u8\", id = \"k\", id_type = \"u8\", bits = 4)]
 enum E { #[deku(id = 1)] A }",
@@ -117,7 +117,13 @@ struct S { k: u8, #[deku(ctx = \"*k\")] e: E }",
     (
         "#[deku(ctx = \"k: u8\", id = \"k\")] enum E { #[deku(id = 1)] A(u8), #[deku(id = 2)] B }
 struct S { k: u8, #[deku(ctx = \"*k\")] e: E, #[deku(count = \"e\")] v: Vec<u8> }",
-        "2:61 a field in an expression that is no number from 0 and no truth value",
+        "2:42 an enum whose id comes from a field, beside a list or an option, is not supported
+2:61 a field in an expression that is no number from 0 and no truth value",
+    ),
+    (
+        "#[deku(ctx = \"k: u8\", id = \"k\")] enum E { #[deku(id = 1)] A(u8), #[deku(id = 2)] B }
+struct S { k: u8, #[deku(count = \"k\")] v: Vec<u8>, #[deku(ctx = \"*k\")] e: E }",
+        "2:75 an enum whose id comes from a field, beside a list or an option, is not supported",
     ),
 ];
 
@@ -136,7 +142,7 @@ enum E { #[deku(id = 1)] A { from: u8, to: u16 }, #[deku(id = 0x202)] B }
 ";
 
 // Descriptions, and texts that their modules have.
-const PRINTED: [(&str, &str); 7] = [
+const PRINTED: [(&str, &str); 6] = [
     (
         "",
         "
@@ -258,23 +264,6 @@ type SParts = ChosenBy<SField3Head, SField3Id, EKinds>;
     ghost use Rattle.samples.specs.contracts.a.EFromParts.TheImpl.Laws.{there-law as e_there};
 
     ghost there = { λ r. rw (e_there r.2, e_there r.3) refl };
-",
-    ),
-    (
-        "struct S { k: u16, n: u8, #[deku(count = \"n\")] v: Vec<u8>, #[deku(ctx = \"*k\")] e: E }",
-        "
-        let parts = ChosenBy::<_, SEId, _> {
-            head: (
-                Le(self.k),
-                CountedByRef::<_, SVCount, _> {
-                    head: self.n,
-                    items: &self.v,
-                    count: PhantomData,
-                },
-            ),
-            kind: self.e.parts(),
-            id: PhantomData,
-        };
 ",
     ),
 ];

@@ -174,7 +174,7 @@ struct B { #[deku(temp, temp_value = \"1\")] a: u8 }",
 ];
 
 // Descriptions that deku takes and that have no module.
-const UNPRINTED: [(&str, &str); 47] = [
+const UNPRINTED: [(&str, &str); 48] = [
     (
         "#[deku(id_type = \"u8\")] enum E {
          #[deku(id_pat = \"2..=6\")] A, #[deku(id_pat = \"_\")] B }",
@@ -304,6 +304,11 @@ enum A { #[deku(id = 1)] B(#[deku(until = \"|v: &u8| *v == 0\")] Vec<u8>) }",
         "struct A { n: u8, #[deku(count = \"n\")] v: Vec<u8>,
 #[deku(count = \"n\")] w: Vec<u8>, #[deku(read_all)] z: Vec<u8> }",
         "2:55 a field after a list or an option that has another one in front",
+    ),
+    (
+        "struct A { #[deku(until = \"|v: &u8| *v == 0\")] v: Vec<u8>,
+#[deku(until = \"|v: &u8| *v == 0\")] w: Vec<u8>, #[deku(read_all)] r: Vec<u8> }",
+        "2:70 a field after a list or an option that has another one in front",
     ),
     (
         "struct A { #[deku(read_all)] v: Vec<u8>, w: u8 }",
