@@ -1,12 +1,12 @@
 //! What is printed of parts: their types, how they are taken apart and made, and where their
 //! fields are.
 
-use crate::document::{Form, Text, joined};
-use crate::records::Records;
-use crate::words;
-use crate::words::quoted;
-use crate::wrapping::{Wrapping, count_of, number_kind, part_kind, wrapping_of};
 use deku_attributes::model::Field;
+use deku_texts::document::{Form, Text, joined};
+use deku_texts::records::Records;
+use deku_texts::words;
+use deku_texts::words::quoted;
+use deku_texts::wrapping::{Wrapping, count_of, number_kind, part_kind, wrapping_of};
 use std::alloc::{AllocError, Global};
 
 /// How many items a tuple has at most. Of more there are tuples of these.
@@ -46,13 +46,15 @@ pub struct Place<'a> {
     pub same: String,
 }
 
-/// What a field is called.
+/// What a field is called, and what it belongs to.
 #[derive(Clone, Copy)]
 pub struct Named<'n> {
     /// As a local.
     pub name: &'n str,
     /// After its record and a point.
     pub access: &'n str,
+    /// What it belongs to.
+    pub owner: Owner,
 }
 
 /// What the fields of a part belong to.
@@ -62,8 +64,63 @@ pub enum Owner {
     Copied,
     /// A struct that holds memory, which is lent to the parts.
     Lent,
-    /// A kind of an enum.
+    /// A kind of an enum that is copied.
     Kind,
+    /// A kind of an enum that holds memory, which is lent to the parts.
+    LentKind,
+}
+
+impl Owner {
+    /// Whether memory is lent to the parts.
+    pub fn is_lent(self) -> bool {
+        matches!(self, Owner::Lent | Owner::LentKind)
+    }
+
+    /// Whether it is a kind of an enum.
+    pub fn is_kind(self) -> bool {
+        matches!(self, Owner::Kind | Owner::LentKind)
+    }
+}
+
+impl<'n> Named<'n> {
+    /// A reference to the field.
+    pub fn reference(self, alloc: Global) -> Result<String, AllocError> {
+        let Named {
+            name,
+            access,
+            owner,
+        } = self;
+        if owner.is_kind() {
+            return String::from_str(alloc, name);
+        }
+        format!(in alloc; "&self.{access}")
+    }
+
+    /// The value of the field.
+    fn value(self, alloc: Global) -> Result<String, AllocError> {
+        let Named {
+            name,
+            access,
+            owner,
+        } = self;
+        if owner.is_kind() {
+            return format!(in alloc; "*{name}");
+        }
+        format!(in alloc; "self.{access}")
+    }
+
+    /// The field in ghost text.
+    pub fn term(self, alloc: Global) -> Result<String, AllocError> {
+        let Named {
+            name,
+            access,
+            owner,
+        } = self;
+        if owner.is_kind() {
+            return quoted(alloc, name);
+        }
+        format!(in alloc; "r.{access}")
+    }
 }
 
 impl<'a> Place<'a> {
@@ -122,11 +179,15 @@ pub fn within<'a>(
 pub fn leaf<'a>(
     alloc: Global,
     records: &Records<'_, 'a>,
-    owner: Owner,
     field: &Field<'a>,
     named: Named<'_>,
 ) -> Result<Part<'a>, AllocError> {
-    let is_lent = owner == Owner::Lent && !records.is_copied(field);
+    let is_lent = named.owner.is_lent() && !records.is_copied(field);
+    let value = if is_lent {
+        named.reference(alloc)?
+    } else {
+        named.value(alloc)?
+    };
     let mut names = Vec::new(alloc);
     for _ in 0..count_of(field) {
         names.push(String::from_str(alloc, named.name)?)?;
@@ -136,8 +197,8 @@ pub fn leaf<'a>(
         lent: Text::of(lent_kind(alloc, field, is_lent)?),
         is_lent,
         pattern: Text::word(alloc, named.name)?,
-        value: Text::of(field_value(alloc, owner, is_lent, named)?),
-        term: Text::of(field_term(alloc, owner, named)?),
+        value: Text::of(value),
+        term: Text::of(named.term(alloc)?),
         places: one_place(alloc, named.name, number_kind(field), "")?,
         names,
     };
@@ -145,7 +206,7 @@ pub fn leaf<'a>(
     if wrapping.around.is_empty() {
         return Ok(part);
     }
-    within_one(alloc, part, wrapping, owner, named.name)
+    within_one(alloc, part, wrapping, named)
 }
 
 // A field with the part around it.
@@ -153,8 +214,7 @@ fn within_one<'a>(
     alloc: Global,
     part: Part<'a>,
     wrapping: Wrapping,
-    owner: Owner,
-    name: &str,
+    Named { name, owner, .. }: Named<'_>,
 ) -> Result<Part<'a>, AllocError> {
     let around = wrapping.around;
     let made = wrapper(alloc, wrapping, owner)?;
@@ -170,32 +230,6 @@ fn within_one<'a>(
     })
 }
 
-// The value of a field, before anything is around it.
-fn field_value(
-    alloc: Global,
-    owner: Owner,
-    is_lent: bool,
-    Named { name, access }: Named<'_>,
-) -> Result<String, AllocError> {
-    match owner {
-        Owner::Kind => format!(in alloc; "*{name}"),
-        Owner::Lent if is_lent => format!(in alloc; "&self.{access}"),
-        Owner::Lent | Owner::Copied => format!(in alloc; "self.{access}"),
-    }
-}
-
-// The term of a field, before anything is around it.
-fn field_term(
-    alloc: Global,
-    owner: Owner,
-    Named { name, access }: Named<'_>,
-) -> Result<String, AllocError> {
-    match owner {
-        Owner::Kind => quoted(alloc, name),
-        Owner::Lent | Owner::Copied => format!(in alloc; "r.{access}"),
-    }
-}
-
 // What is called with the value of a field.
 fn wrapper(
     alloc: Global,
@@ -203,7 +237,7 @@ fn wrapper(
     owner: Owner,
 ) -> Result<String, AllocError> {
     match bits {
-        Some(bits) if owner == Owner::Lent => format!(in alloc; "{around}::<_, {bits}>"),
+        Some(bits) if owner.is_lent() => format!(in alloc; "{around}::<_, {bits}>"),
         _ => String::from_str(alloc, around),
     }
 }
@@ -239,49 +273,53 @@ pub fn tuple<'a>(alloc: Global, parts: Vec<Part<'a>>) -> Result<Part<'a>, AllocE
 }
 
 fn one_tuple<'a>(alloc: Global, mut parts: Vec<Part<'a>>) -> Result<Part<'a>, AllocError> {
-    if parts.len() == 1 {
-        if let Some(part) = parts.pop() {
-            return Ok(part);
-        }
+    if parts.len() > 1 {
+        return several(alloc, parts);
     }
-    if parts.is_empty() {
-        return nothing(alloc);
+    match parts.pop() {
+        Some(part) => Ok(part),
+        None => nothing(alloc),
     }
+}
+
+// Several parts as a tuple.
+fn several<'a>(alloc: Global, parts: Vec<Part<'a>>) -> Result<Part<'a>, AllocError> {
     let count = parts.len();
+    let mut whole = nothing(alloc)?;
     let mut kinds = Vec::new(alloc);
     let mut lent = Vec::new(alloc);
-    let mut is_lent = false;
     let mut patterns = Vec::new(alloc);
     let mut values = Vec::new(alloc);
     let mut terms = Vec::new(alloc);
-    let mut places = Vec::new(alloc);
-    let mut names = Vec::new(alloc);
     for (i, part) in parts.into_iter().enumerate() {
         kinds.push(part.kind)?;
         lent.push(part.lent)?;
-        is_lent = is_lent || part.is_lent;
         patterns.push(part.pattern)?;
         values.push(part.value)?;
         terms.push(part.term)?;
+        whole.is_lent = whole.is_lent || part.is_lent;
         let path = format!(in alloc; ".{i}")?;
         let same = equation(alloc, i, count)?;
-        for place in within(alloc, part.places, path.as_str(), same.as_str())? {
-            places.push(place)?;
-        }
-        for name in part.names {
-            names.push(name)?;
-        }
+        let places = within(alloc, part.places, path.as_str(), same.as_str())?;
+        whole.places = chained(whole.places, places)?;
+        whole.names = chained(whole.names, part.names)?;
     }
     Ok(Part {
         kind: Text::group(alloc, Form::Round, "(", kinds)?,
         lent: Text::group(alloc, Form::Round, "(", lent)?,
-        is_lent,
         pattern: Text::group(alloc, Form::Pattern, "(", patterns)?,
         value: Text::group(alloc, Form::Round, "(", values)?,
         term: Text::group(alloc, Form::GhostRound, "(", terms)?,
-        places,
-        names,
+        ..whole
     })
+}
+
+// Items, and then others.
+fn chained<T: Drop>(mut items: Vec<T>, others: Vec<T>) -> Result<Vec<T>, AllocError> {
+    for item in others {
+        items.push(item)?;
+    }
+    Ok(items)
 }
 
 // No parts.
@@ -406,8 +444,8 @@ pub fn following<'a>(
         lent: lent_of(alloc, head.lent, form, marker, item)?,
         is_lent: true,
         pattern: pattern_of(alloc, head.pattern, form, called.name)?,
-        value: value_of(alloc, head.value, form, called.access, marker)?,
-        term: term_of(alloc, head.term, form, called.access)?,
+        value: value_of(alloc, head.value, form, called, marker)?,
+        term: term_of(alloc, head.term, form, called)?,
         places,
         names,
     })
@@ -449,16 +487,19 @@ fn lent_of(
     Text::group(alloc, Form::Angle, form.lent(), items)
 }
 
+/// A field of a struct with what it is bound to, or its name alone if that is the same.
+pub fn field(alloc: Global, name: &str, value: &str) -> Result<String, AllocError> {
+    if name == value {
+        return String::from_str(alloc, name);
+    }
+    format!(in alloc; "{name}: {value}")
+}
+
 // The pattern of a head and what comes after it.
 fn pattern_of(alloc: Global, head: Text, form: Dependent, name: &str) -> Result<Text, AllocError> {
     let mut items = Vec::new(alloc);
     items.push(head.after(alloc, "head: ")?)?;
-    if form.item() == name {
-        items.push(Text::word(alloc, name)?)?;
-    } else {
-        let bound = Text::word(alloc, name)?.after(alloc, ": ")?;
-        items.push(bound.after(alloc, form.item())?)?;
-    }
+    items.push(Text::of(field(alloc, form.item(), name)?))?;
     items.push(Text::word(alloc, "..")?)?;
     Text::group(alloc, Form::Brace, form.pattern(), items)
 }
@@ -468,26 +509,107 @@ fn value_of(
     alloc: Global,
     head: Text,
     form: Dependent,
-    access: &str,
+    called: Named<'_>,
     marker: &str,
 ) -> Result<Text, AllocError> {
     let mut items = Vec::new(alloc);
     items.push(head.after(alloc, "head: ")?)?;
-    let held = Text::word(alloc, access)?.after(alloc, ": &self.")?;
-    items.push(held.after(alloc, form.lent_item())?)?;
+    let held = called.reference(alloc)?;
+    items.push(Text::of(field(alloc, form.lent_item(), held.as_str())?))?;
     items.push(Text::word(alloc, form.marker().0)?)?;
     let open = joined(alloc, marker, ", _> {")?;
     Text::group(alloc, Form::Brace, open.as_str(), items)?.after(alloc, form.value())
 }
 
 // The same in ghost text.
-fn term_of(alloc: Global, head: Text, form: Dependent, access: &str) -> Result<Text, AllocError> {
+fn term_of(
+    alloc: Global,
+    head: Text,
+    form: Dependent,
+    called: Named<'_>,
+) -> Result<Text, AllocError> {
     let mut items = Vec::new(alloc);
     items.push(head.after(alloc, "head = ")?)?;
-    let held = Text::word(alloc, access)?.after(alloc, " = r.")?;
+    let held = Text::of(called.term(alloc)?).after(alloc, " = ")?;
     items.push(held.after(alloc, form.item())?)?;
     items.push(Text::word(alloc, form.marker().1)?)?;
     Text::group(alloc, Form::GhostBrace, "record {", items)
+}
+
+/// A head, and after it a number of this type, under the context of this type that the marker of
+/// this name says.
+pub fn under<'a>(
+    alloc: Global,
+    head: Part<'a>,
+    called: Named<'_>,
+    (marker, number, context): (&str, &'a str, &str),
+) -> Result<Part<'a>, AllocError> {
+    let mut names = head.names;
+    names.push(String::from_str(alloc, called.name)?)?;
+    let mut places = within(alloc, head.places, ".head", ".0")?;
+    places.push(Place {
+        name: String::from_str(alloc, called.name)?,
+        number: Some(number),
+        path: String::from_str(alloc, ".value")?,
+        same: String::from_str(alloc, ".1")?,
+    })?;
+    let types = [marker, number, context];
+    let pattern = field(alloc, "value", called.name)?;
+    let pattern = [pattern.as_str(), ".."];
+    let term = joined(alloc, "value = ", called.term(alloc)?.as_str())?;
+    let term = [term.as_str(), "context = record {}"];
+    let first = head.pattern.after(alloc, "head: ")?;
+    let first_term = head.term.after(alloc, "head = ")?;
+    Ok(Part {
+        kind: headed(alloc, Form::Angle, "UnderHead<", head.kind, &types)?,
+        lent: headed(alloc, Form::Angle, "UnderHead<", head.lent, &types)?,
+        is_lent: head.is_lent,
+        pattern: headed(alloc, Form::Brace, "UnderHead {", first, &pattern)?,
+        value: under_value(alloc, head.value, called, (marker, context))?,
+        term: headed(alloc, Form::GhostBrace, "record {", first_term, &term)?,
+        places,
+        names,
+    })
+}
+
+// A head and a number under the context that it says.
+fn under_value(
+    alloc: Global,
+    head: Text,
+    called: Named<'_>,
+    (marker, context): (&str, &str),
+) -> Result<Text, AllocError> {
+    let value = called.value(alloc)?;
+    if !called.owner.is_lent() {
+        return headed(
+            alloc,
+            Form::Round,
+            "UnderHead::new(",
+            head,
+            &[value.as_str()],
+        );
+    }
+    let open = format!(in alloc; "UnderHead::<_, {marker}, _, {context}> {{")?;
+    let value = joined(alloc, "value: ", value.as_str())?;
+    let others = [value.as_str(), "context: PhantomData"];
+    let head = head.after(alloc, "head: ")?;
+    headed(alloc, Form::Brace, open.as_str(), head, &others)
+}
+
+// A text and words after it, in brackets.
+fn headed(
+    alloc: Global,
+    form: Form,
+    open: &str,
+    first: Text,
+    others: &[&str],
+) -> Result<Text, AllocError> {
+    let mut items = Vec::new(alloc);
+    items.push(first)?;
+    for other in others {
+        items.push(Text::word(alloc, other)?)?;
+    }
+    Text::group(alloc, form, open, items)
 }
 
 /// A list up to the end of the input, of these items, after the parts in front.
@@ -497,19 +619,16 @@ pub fn rest<'a>(
     called: Named<'_>,
     item: &str,
 ) -> Result<Part<'a>, AllocError> {
-    let Named { name, access } = called;
-    let pattern = if name == "items" {
-        String::from_str(alloc, "Rest { items }")?
-    } else {
-        format!(in alloc; "Rest {{ items: {name} }}")?
-    };
+    let Named { name, access, .. } = called;
+    let held = Text::of(field(alloc, "items", name)?);
+    let pattern = Text::one(alloc, Form::Brace, "Rest {", held)?;
     let mut names = Vec::new(alloc);
     names.push(String::from_str(alloc, name)?)?;
     let list = Part {
         kind: Text::of(format!(in alloc; "Rest<{item}>")?),
         lent: Text::of(format!(in alloc; "&'a Vec<{item}>")?),
         is_lent: true,
-        pattern: Text::of(pattern),
+        pattern,
         value: Text::of(format!(in alloc; "&self.{access}")?),
         term: Text::of(format!(in alloc; "record {{ items = r.{access} }}")?),
         places: one_place(alloc, name, None, ".items")?,
@@ -523,14 +642,9 @@ pub fn rest<'a>(
 
 // Parts, and after them what is last.
 fn before<'a>(alloc: Global, head: Part<'a>, rest: Part<'a>) -> Result<Part<'a>, AllocError> {
-    let mut places = within(alloc, head.places, ".head", ".0")?;
-    for place in within(alloc, rest.places, ".rest", ".1")? {
-        places.push(place)?;
-    }
-    let mut names = head.names;
-    for name in rest.names {
-        names.push(name)?;
-    }
+    let places = within(alloc, head.places, ".head", ".0")?;
+    let places = chained(places, within(alloc, rest.places, ".rest", ".1")?)?;
+    let names = chained(head.names, rest.names)?;
     let pattern = [
         head.pattern.after(alloc, "head: ")?,
         rest.pattern.after(alloc, "rest: ")?,
@@ -583,7 +697,7 @@ pub fn asserted<'a>(
     let mut terms = Vec::new(alloc);
     terms.push(part.term.after(alloc, "part = ")?)?;
     terms.push(Text::word(alloc, "check = record {}")?)?;
-    let value = if owner == Owner::Lent {
+    let value = if owner.is_lent() {
         let mut values = Vec::new(alloc);
         values.push(part.value.after(alloc, "part: ")?)?;
         values.push(Text::word(alloc, "check: PhantomData")?)?;
@@ -613,7 +727,7 @@ pub fn constant<'a>(
     marker: &str,
     word: &str,
 ) -> Result<Part<'a>, AllocError> {
-    let value = if owner == Owner::Lent {
+    let value = if owner.is_lent() {
         let open = format!(in alloc; "Magic::<{kind}, {marker}> {{")?;
         let mut values = Vec::new(alloc);
         values.push(Text::word(alloc, "part: PhantomData")?)?;
