@@ -173,7 +173,7 @@ struct B { #[deku(temp, temp_value = \"1\")] a: u8 }",
 ];
 
 // Descriptions that deku takes and that have no module.
-const UNPRINTED: [(&str, &str); 50] = [
+const UNPRINTED: [(&str, &str); 51] = [
     (
         "#[deku(id_type = \"u8\")] enum E {
          #[deku(id_pat = \"2..=6\")] A, #[deku(id_pat = \"_\")] B }",
@@ -373,9 +373,12 @@ enum A { #[deku(id = 1)] B { #[deku(update = \"self.v.len()\")] n: u8 } }",
         "1:42 a width that a field says, of more than one number, is not supported",
     ),
     (
-        "struct A { n: u8, #[deku(bits = \"n - 1\")] v: u8, #[deku(bytes = \"n * n\")] w: u16 }",
-        "1:46 a width that is not one field
-1:79 a width that is not one field",
+        "struct A { n: u8, #[deku(bits = \"n - 1\")] v: u8 }",
+        "1:46 a width that is not one field",
+    ),
+    (
+        "struct A { n: u8, m: u8, #[deku(bytes = \"n * m\")] v: u16 }",
+        "1:54 a width that is not one field",
     ),
     (
         "const C: u8 = 4; struct A { #[deku(bits = \"C * 1\")] v: u8 }",
