@@ -200,19 +200,28 @@ fn written(
 }
 
 // A reference to the parts of a kind: the field itself, if it is alone and nothing is around it.
+// One of the name of the local `id` is a local of another name.
 fn reference<'p>(part: &'p Part<'_>) -> &'p str {
-    match part.value.as_word() {
-        Some("()") => "&()",
-        Some(word) if part.is_lent => word,
-        Some(word) => word.strip_prefix('*').unwrap_or("&parts"),
-        None => "&parts",
+    let field = match part.value.as_word() {
+        Some("()") => Some("&()"),
+        Some(word) if part.is_lent => Some(word),
+        Some(word) => word.strip_prefix('*'),
+        None => None,
+    };
+    match field {
+        Some(field) if field != "id" => field,
+        _ => "&parts",
     }
 }
 
-// Appends what a local of an arm is bound to, on a line of its own if it has room only there.
+// The columns of a call on a line of its own: 60 for what is in its brackets.
+const CALL: usize = 60 + "Enum::new()".len();
+
+// Appends the call that a local of an arm is bound to, on a line of its own if it has room only
+// there.
 fn bound(out: &mut String, value: &Text) -> Result<(), AllocError> {
     let is_line = value.is_line(out.as_str(), 2);
-    if !is_line && value.is_line("                    ", 1) {
+    if !is_line && value.columns() <= CALL {
         start(out, 20)?;
     } else {
         out.push(' ')?;
