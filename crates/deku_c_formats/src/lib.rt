@@ -6,5 +6,5 @@ pub mod can;
 pub mod ccsds;
 pub mod elf64_big;
 pub mod elf64_little;
-pub mod png;
+pub mod png_start;
 pub mod riscv;

@@ -10,5 +10,5 @@ pub mod ipv6;
 pub mod ntp;
 pub mod pcap_file;
 pub mod tcp;
-pub mod tls;
+pub mod tls_record;
 pub mod udp;

@@ -1,7 +1,7 @@
 /*
  * The beginning of a PNG file: its signature and the chunk IHDR.
  *
- * Printed by `derive --header` from `png.rs`.
+ * Printed by `derive --header` from `png_start.rs`.
  *
  * What every call needs of its caller:
  * - No pointer is null, and each is aligned for its type.
@@ -12,8 +12,8 @@
  * number of the error, as `enum dishkaru_status` of dishkaru.h names it: 3 if the bytes end, 5 if a
  * value does not fit its field, 6 if a check fails, 8 if there is too little room.
  */
-#ifndef PNG_H
-#define PNG_H
+#ifndef PNG_START_H
+#define PNG_START_H
 
 #include <stdbool.h>
 #include <stddef.h>
@@ -24,9 +24,9 @@ extern "C" {
 #endif
 
 /*
- * The record `Png`.
+ * The record `PngStart`.
  */
-struct png {
+struct png_start {
     /* In pixels. */
     uint32_t width;
     /* In pixels. */
@@ -45,20 +45,20 @@ struct png {
     uint32_t crc;
 };
 
-/* How many bytes a struct png is read from, and written as. */
-#define PNG_BYTES 33
+/* How many bytes a struct png_start is read from, and written as. */
+#define PNG_START_BYTES 33
 
 /*
  * Reads *record from the first of the bytes on; those after it are ignored. After an error *record
  * is as it was.
  */
-uint32_t png_read(const uint8_t *bytes, size_t byte_count, struct png *record);
+uint32_t png_start_read(const uint8_t *bytes, size_t byte_count, struct png_start *record);
 
 /*
  * Writes *record to the start of the bytes; those after it stay as they were. After an error some
  * of the bytes may have been written.
  */
-uint32_t png_write(const struct png *record, uint8_t *bytes, size_t byte_count);
+uint32_t png_start_write(const struct png_start *record, uint8_t *bytes, size_t byte_count);
 
 #ifdef __cplusplus
 }

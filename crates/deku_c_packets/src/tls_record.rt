@@ -1,6 +1,6 @@
 //! The header of a record of TLS, RFC 8446.
 //!
-//! Printed by `derive --c` from `tls.rs`.
+//! Printed by `derive --c` from `tls_record.rs`.
 
 ghost use Rattle.std.specs.Prelude.{refl};
 ghost use Rattle.deku.specs.Composing.{Then};

@@ -1,7 +1,7 @@
 /*
  * The header of a record of TLS, RFC 8446.
  *
- * Printed by `derive --header` from `tls.rs`.
+ * Printed by `derive --header` from `tls_record.rs`.
  *
  * What every call needs of its caller:
  * - No pointer is null, and each is aligned for its type.
@@ -12,8 +12,8 @@
  * number of the error, as `enum dishkaru_status` of dishkaru.h names it: 3 if the bytes end, 5 if a
  * value does not fit its field, 6 if a check fails, 8 if there is too little room.
  */
-#ifndef TLS_H
-#define TLS_H
+#ifndef TLS_RECORD_H
+#define TLS_RECORD_H
 
 #include <stdbool.h>
 #include <stddef.h>
