@@ -1,7 +1,7 @@
 /*
- * The beginning of a PNG file: its signature and the chunk IHDR.
+ * The header of an IPv6 packet, RFC 8200.
  *
- * Printed by `derive --header` from `png.rs`.
+ * Printed by `derive --header` from `ipv6.rs`.
  *
  * What every call needs of its caller:
  * - No pointer is null, and each is aligned for its type.
@@ -12,8 +12,8 @@
  * number of the error, as `enum dishkaru_status` of dishkaru.h names it: 3 if the bytes end, 5 if a
  * value does not fit its field, 6 if a check fails, 8 if there is too little room.
  */
-#ifndef PNG_H
-#define PNG_H
+#ifndef IPV6_H
+#define IPV6_H
 
 #include <stdbool.h>
 #include <stddef.h>
@@ -24,41 +24,41 @@ extern "C" {
 #endif
 
 /*
- * The record `Png`.
+ * The record `Ipv6`.
  */
-struct png {
-    /* In pixels. */
-    uint32_t width;
-    /* In pixels. */
-    uint32_t height;
-    /* Bits per sample. */
-    uint8_t depth;
-    /* What the samples of a pixel are. */
-    uint8_t colour;
-    /* The compression method. */
-    uint8_t compression;
-    /* The filter method, which is used before the compression. */
-    uint8_t filter;
-    /* The order of the lines. */
-    uint8_t interlace;
-    /* The checksum of the chunk's type and data. */
-    uint32_t crc;
+struct ipv6 {
+    /* 6. */
+    uint8_t version;
+    /* The class of traffic. */
+    uint8_t traffic;
+    /* The same for all packets of a flow, 20 bits. */
+    uint32_t flow;
+    /* The number of bytes after this header. */
+    uint16_t length;
+    /* What follows: 0, 43, 44 and 60 an extension header, 6 TCP, 17 UDP, 58 ICMPv6. */
+    uint8_t next;
+    /* How many hops are left. */
+    uint8_t hops;
+    /* The address of the sender. */
+    uint8_t source[16];
+    /* The address of the receiver. */
+    uint8_t destination[16];
 };
 
-/* How many bytes a struct png is read from, and written as. */
-#define PNG_BYTES 33
+/* How many bytes a struct ipv6 is read from, and written as. */
+#define IPV6_BYTES 40
 
 /*
  * Reads *record from the first of the bytes on; those after it are ignored. After an error *record
  * is as it was.
  */
-uint32_t png_read(const uint8_t *bytes, size_t byte_count, struct png *record);
+uint32_t ipv6_read(const uint8_t *bytes, size_t byte_count, struct ipv6 *record);
 
 /*
  * Writes *record to the start of the bytes; those after it stay as they were. After an error some
  * of the bytes may have been written.
  */
-uint32_t png_write(const struct png *record, uint8_t *bytes, size_t byte_count);
+uint32_t ipv6_write(const struct ipv6 *record, uint8_t *bytes, size_t byte_count);
 
 #ifdef __cplusplus
 }

@@ -1,6 +1,6 @@
 //! The beginning of a PNG file: its signature and the chunk IHDR.
 #[deku(endian = "big", magic = b"\x89PNG\r\n\x1a\n")]
-struct Png {
+struct PngStart {
     /// In pixels.
     #[deku(magic = b"\x00\x00\x00\x0dIHDR")]
     width: u32,
