@@ -37,6 +37,7 @@ pub(crate) fn number_at(bytes: &[u8], bit: usize, field: &Field, step: Step) -> 
 /// The value of a field that begins at a bit of the bytes, and is unsigned, big and `Msb0`.
 ///
 /// The caller's conditions: the field has at least one bit and at most 57, and the bytes have them.
+/// There are at least eight bytes.
 #[inline(always)]
 pub(crate) fn short_at(bytes: &[u8], bit: usize, field: &Field, step: Step) -> Number
     requires step { IsStepOf field.now step }
@@ -44,11 +45,29 @@ pub(crate) fn short_at(bytes: &[u8], bit: usize, field: &Field, step: Step) -> N
     requires some { 0 < step.width }
     requires few { step.width ≤ 57 }
     requires there { bit + step.width ≤ 8 * length bytes.now }
+    requires long { 8 ≤ length bytes.now }
     ensures { IsWorth field.now
         (taken Msb0 (field_width field.now) (left Msb0 bit (fresh bytes.now))) result }
 {
     let _ = field;
-    Number::Unsigned(few_at(bytes, bit, step.width) as u128)
+    Number::Unsigned(short_bits(bytes, bit, step) as u128)
+}
+
+// The number of at most 57 bits, cut from the eight bytes that begin with the first of them, or
+// from the last eight bytes.
+#[inline(always)]
+fn short_bits(bytes: &[u8], bit: usize, step: Step) -> u64
+    requires few { step.width ≤ 57 }
+    requires mask { step.mask + 1 ≡ 2 ^ step.width }
+    requires there { bit + step.width ≤ 8 * length bytes.now }
+    requires long { 8 ≤ length bytes.now }
+    ensures { result ≡ bin (taken Msb0 step.width (left Msb0 bit (fresh bytes.now))) }
+{
+    let place = (bit / 8).min(bytes.len() - 8);
+    let mut eight = [0; 8];
+    eight.copy_from_slice(&bytes[place..place + 8]);
+    let word = u64::from_be_bytes(eight);
+    (word >> (64 - (bit - 8 * place) - step.width)) & step.mask
 }
 
 // The value of a field in `Msb0`, from the number of its bits.
