@@ -141,3 +141,8 @@ too_few (s ∷ ss) e = absurd (omega (arith, e))
 
 abbrev pub no_part : Part
 no_part = record { scale = 0; bytes = 0 }
+
+-- no more bits are held than there were
+pub held_most : (b n : ℕ) → held_after b n ≤ n
+held_most zero n = omega arith
+held_most (suc b) n = omega arith

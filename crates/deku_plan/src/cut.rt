@@ -57,6 +57,7 @@ pub(crate) fn short_at(bytes: &[u8], bit: usize, field: &Field, step: Step) -> N
 // from the last eight bytes.
 #[inline(always)]
 fn short_bits(bytes: &[u8], bit: usize, step: Step) -> u64
+    requires some { 0 < step.width }
     requires few { step.width ≤ 57 }
     requires mask { step.mask + 1 ≡ 2 ^ step.width }
     requires there { bit + step.width ≤ 8 * length bytes.now }
@@ -64,10 +65,20 @@ fn short_bits(bytes: &[u8], bit: usize, step: Step) -> u64
     ensures { result ≡ bin (taken Msb0 step.width (left Msb0 bit (fresh bytes.now))) }
 {
     let place = (bit / 8).min(bytes.len() - 8);
+    let word = u64::from_be_bytes(eight_from(bytes, place));
+    (word >> (64 - (bit - 8 * place) - step.width)) & step.mask
+}
+
+// The eight bytes from a place on.
+#[inline(always)]
+fn eight_from(bytes: &[u8], place: usize) -> [u8; 8]
+    requires { place + 8 ≤ length bytes.now }
+    ensures same { result ≡ take 8 (drop place bytes.now) }
+    ensures bytes { All (λ b. b < 256) result }
+{
     let mut eight = [0; 8];
     eight.copy_from_slice(&bytes[place..place + 8]);
-    let word = u64::from_be_bytes(eight);
-    (word >> (64 - (bit - 8 * place) - step.width)) & step.mask
+    eight
 }
 
 // The value of a field in `Msb0`, from the number of its bits.
