@@ -151,12 +151,11 @@ fn eight_at(bytes: &[u8], place: usize) -> [u8; 8]
     ensures front { take (length bytes.now - place) result ≡ take 8 (drop place bytes.now) }
     ensures bytes { All (λ b. b < 256) result }
 {
-    let mut eight = [0; 8];
     if bytes.len() - place >= 8 {
-        eight.copy_from_slice(&bytes[place..place + 8]);
-    } else {
-        let rest = &bytes[place..];
-        eight[..rest.len()].copy_from_slice(rest);
+        return eight_from(bytes, place);
     }
+    let mut eight = [0; 8];
+    let rest = &bytes[place..];
+    eight[..rest.len()].copy_from_slice(rest);
     eight
 }
