@@ -8,8 +8,9 @@ use Rattle.deku_plan.specs.Records.{IsStraight}
 use Rattle.deku_plan.specs.Laying.{IsShort}
 use Rattle.deku_plan.specs.Joining.{AreParts}
 
--- The steps are those of the fields, as many parts are those of the steps, their bits are counted, and it is known whether they are
--- aligned, and whether they can be cut from bytes in memory, and laid into them.
+-- The steps are those of the fields, and as many parts are those of the steps. Their bits are
+-- counted, and it is known whether they are aligned, and whether they can be cut from bytes in
+-- memory, and laid into them.
 pub record IsKnown (p : Inside) : Type 0 where
   pub steps : AreSteps p.fields.items p.steps.items
   pub parts : length p.parts.items ≡ length p.steps.items → AreParts 0 p.steps.items p.parts.items 0
