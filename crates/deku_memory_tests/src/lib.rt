@@ -12,6 +12,8 @@ mod fields;
 #[cfg(test)]
 mod programs;
 #[cfg(test)]
+mod rows;
+#[cfg(test)]
 mod symmetric;
 #[cfg(test)]
 mod texts;

@@ -1,6 +1,6 @@
 -- Numbers that are cut from eight bytes.
 use Rattle.std.proofs.Common.{ℕ, ◌+◌, ◌*◌, ◌-◌, ◌/◌, ◌%◌, ◌^◌, ◌<◌, ◌≤◌, ◌≡◌, Bool, List, ◌++◌, length, take, drop, All, ap, sym, ◌∙◌, subst, ⊎_elim, arith, take-append-drop, length-append, length-drop, length-take-le}
-use Rattle.std.proofs.lemmas.List.{take_at, drop_at, take_all, take-append-le}
+use Rattle.std.proofs.lemmas.List.{take_at, drop_at, take_all, take-append-le, drop-drop}
 use Rattle.std.proofs.lemmas.Bool.{cases_lt}
 use Rattle.std.proofs.Math.Nat.{pow-le-pow_right}
 use Rattle.std.specs.Int.{w64, from_be_bytes}
@@ -106,3 +106,43 @@ pub taken_wide : (n bit : ℕ) (bytes : List ℕ) → bit + n ≤ 8 * length byt
 taken_wide n bit bytes there =
     let cut = cut_law Msb0 bit n (fresh bytes) (omega arith) (omega (arith, there)) in
     taken_long n (left Msb0 bit (fresh bytes)) cut.3
+
+-- ---- from any byte in front of the bits
+-- the bits after whole bytes
+flow_after : (n : ℕ) (bs : List ℕ) → n ≤ length bs → drop (8 * n) (flow Msb0 bs) ≡ flow Msb0 (drop n bs)
+flow_after n bs h =
+    ap (λ x. drop (8 * n) (flow Msb0 x)) (sym (take-append-drop n bs))
+    ∙ ap (drop (8 * n)) (flow-append Msb0 (take n bs) (drop n bs))
+    ∙ drop_at (flow Msb0 (take n bs)) (flow Msb0 (drop n bs)) (8 * n) (length-flow Msb0 (take n bs) ∙ omega (arith, length-take-le n bs h))
+
+-- the bits after a bit, from a byte in front of it
+bits_after : (bit n : ℕ) (bytes : List ℕ) → n ≤ length bytes → 8 * n ≤ bit → drop (bit - 8 * n) (flow Msb0 (drop n bytes)) ≡ drop bit (flow Msb0 bytes)
+bits_after bit n bytes inside before =
+    ap (drop (bit - 8 * n)) (sym (flow_after n bytes inside))
+    ∙ drop-drop (bit - 8 * n) (8 * n) (flow Msb0 bytes)
+    ∙ ap (λ i. drop i (flow Msb0 bytes)) (omega (arith, before))
+
+taken_after : (k bit n : ℕ) (bytes : List ℕ) → 8 * n ≤ bit → bit + k ≤ 8 * length bytes
+    → taken Msb0 k (left Msb0 bit (fresh bytes)) ≡ take k (drop (bit - 8 * n) (flow Msb0 (drop n bytes)))
+unfolding taken
+taken_after k bit n bytes before there =
+    let rest : bit % 8 ≡ bit - 8 * (bit / 8) = omega arith in
+    ap (λ S. take k (seen Msb0 S)) (left_at bit bytes (omega (arith, there)))
+    ∙ ap (take k) (seen-spot Msb0 (bit % 8) (drop (bit / 8) bytes) (omega arith)
+    ∙ ap (λ i. drop i (flow Msb0 (drop (bit / 8) bytes))) rest
+    ∙ bits_after bit (bit / 8) bytes (omega (arith, there)) (omega arith)
+    ∙ sym (bits_after bit n bytes (omega (arith, before, there)) before))
+
+-- what is taken from eight bytes that begin at or before the first bit, and have the last one
+pub taken_eight : (k bit n : ℕ) (bytes eight : List ℕ) → length eight ≡ 8 → All IsByte eight → eight ≡ take 8 (drop n bytes) → n + 8 ≤ length bytes → 8 * n ≤ bit → (bit - 8 * n) + k ≤ 64
+    → bin (taken Msb0 k (left Msb0 bit (fresh bytes))) ≡ from_be_bytes w64 eight / 2 ^ (64 - (bit - 8 * n) - k) % 2 ^ k
+taken_eight k bit n bytes eight l all is inside before few =
+    let p : ℕ = bit - 8 * n in
+    let bs : List ℕ = drop n bytes in
+    let v : ℕ = from_be_bytes w64 eight in
+    let long : 8 ≤ length bs = omega (arith, length-drop n bytes, inside) in
+    let front : take (length bs) eight ≡ take 8 bs = take_all (length bs) eight (omega (arith, l, long)) ∙ is in
+    ap bin (taken_after k bit n bytes before (omega (arith, few, inside, before))
+    ∙ same_bits k p bs eight l front few (omega (arith, few, long))
+    ∙ ap (λ s. take k (drop p s)) (high_bits eight l all) ∙ cut_number k p v few)
+    ∙ bin-bits_of k (v / 2 ^ (64 - p - k))

@@ -13,3 +13,4 @@ pub mod Parsing
 pub mod Wholly
 pub mod Columned
 pub mod Emitted
+pub mod Joining

@@ -1,5 +1,6 @@
 pub mod Plans
 pub mod Laying
+pub mod Joining
 pub mod Records
 pub mod Known
 pub mod Words

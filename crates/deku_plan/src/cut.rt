@@ -37,6 +37,7 @@ pub(crate) fn number_at(bytes: &[u8], bit: usize, field: &Field, step: Step) -> 
 /// The value of a field that begins at a bit of the bytes, and is unsigned, big and `Msb0`.
 ///
 /// The caller's conditions: the field has at least one bit and at most 57, and the bytes have them.
+/// There are at least eight bytes.
 #[inline(always)]
 pub(crate) fn short_at(bytes: &[u8], bit: usize, field: &Field, step: Step) -> Number
     requires step { IsStepOf field.now step }
@@ -44,11 +45,40 @@ pub(crate) fn short_at(bytes: &[u8], bit: usize, field: &Field, step: Step) -> N
     requires some { 0 < step.width }
     requires few { step.width ≤ 57 }
     requires there { bit + step.width ≤ 8 * length bytes.now }
+    requires long { 8 ≤ length bytes.now }
     ensures { IsWorth field.now
         (taken Msb0 (field_width field.now) (left Msb0 bit (fresh bytes.now))) result }
 {
     let _ = field;
-    Number::Unsigned(few_at(bytes, bit, step.width) as u128)
+    Number::Unsigned(short_bits(bytes, bit, step) as u128)
+}
+
+// The number of at most 57 bits, cut from the eight bytes that begin with the first of them, or
+// from the last eight bytes.
+#[inline(always)]
+fn short_bits(bytes: &[u8], bit: usize, step: Step) -> u64
+    requires some { 0 < step.width }
+    requires few { step.width ≤ 57 }
+    requires mask { step.mask + 1 ≡ 2 ^ step.width }
+    requires there { bit + step.width ≤ 8 * length bytes.now }
+    requires long { 8 ≤ length bytes.now }
+    ensures { result ≡ bin (taken Msb0 step.width (left Msb0 bit (fresh bytes.now))) }
+{
+    let place = (bit / 8).min(bytes.len() - 8);
+    let word = u64::from_be_bytes(eight_from(bytes, place));
+    (word >> (64 - (bit - 8 * place) - step.width)) & step.mask
+}
+
+// The eight bytes from a place on.
+#[inline(always)]
+fn eight_from(bytes: &[u8], place: usize) -> [u8; 8]
+    requires { place + 8 ≤ length bytes.now }
+    ensures same { result ≡ take 8 (drop place bytes.now) }
+    ensures bytes { All (λ b. b < 256) result }
+{
+    let mut eight = [0; 8];
+    eight.copy_from_slice(&bytes[place..place + 8]);
+    eight
 }
 
 // The value of a field in `Msb0`, from the number of its bits.
@@ -121,12 +151,11 @@ fn eight_at(bytes: &[u8], place: usize) -> [u8; 8]
     ensures front { take (length bytes.now - place) result ≡ take 8 (drop place bytes.now) }
     ensures bytes { All (λ b. b < 256) result }
 {
-    let mut eight = [0; 8];
     if bytes.len() - place >= 8 {
-        eight.copy_from_slice(&bytes[place..place + 8]);
-    } else {
-        let rest = &bytes[place..];
-        eight[..rest.len()].copy_from_slice(rest);
+        return eight_from(bytes, place);
     }
+    let mut eight = [0; 8];
+    let rest = &bytes[place..];
+    eight[..rest.len()].copy_from_slice(rest);
     eight
 }

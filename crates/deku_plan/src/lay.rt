@@ -3,8 +3,11 @@
 ghost use Rattle.std.specs.Prelude.{◌≡◌, ◌+◌, ◌*◌, ◌/◌, ◌%◌, ◌<◌, ◌≤◌, ◌^◌, ◌++◌, ℕ, All, length, take, drop, IfSome, IsNone, IsTrue};
 ghost use Rattle.deku_bits.specs.Bits.{bits_in};
 ghost use Rattle.deku_plan.specs.Plans.{widths};
+ghost use Rattle.deku_plan.specs.Joining.{AreParts};
 ghost use Rattle.deku_plan.specs.Laying.{IsShort, turns, HasBits, AreFitting, value_bits, row_bits, IsHeld, laid_count, laid_bits};
 
+use crate::join::join_records;
+use crate::part::Part;
 use crate::step::Step;
 use deku_fields::Number;
 
@@ -26,9 +29,11 @@ pub(crate) fn laid_all(
     count: usize,
     bits: usize,
     steps: &[Step],
+    parts: &[Part],
     values: &[Number],
 ) -> Option<usize>
     requires short { IsTrue short → All IsShort steps.now }
+    requires parts { length parts.now ≡ length steps.now → AreParts 0 steps.now parts.now 0 }
     requires bits { bits ≡ widths steps.now }
     requires values { length values.now ≡ count * length steps.now }
     ensures short { IfSome result (λ n. IsTrue short) }
@@ -49,7 +54,7 @@ pub(crate) fn laid_all(
     if !are_fitting(count, steps, values) {
         return None;
     }
-    lay_records(&mut out[..bytes], count, steps, values);
+    lay_either(&mut out[..bytes], count, steps, parts, values);
     Some(bytes)
 }
 
@@ -109,6 +114,24 @@ fn bits_beyond(value: Number, mask: u64) -> u64
             (number >> 64) as u64 | ((number % (1 << 64)) as u64 & !mask)
         }
         Number::Signed(_) => 1,
+    }
+}
+
+// Lays the values of records that fit, and that fill the bytes, a group of fields at a time if
+// each step has a part.
+fn lay_either(out: &mut [u8], count: usize, steps: &[Step], parts: &[Part], values: &[Number])
+    requires short { All IsShort steps.now }
+    requires parts { length parts.now ≡ length steps.now → AreParts 0 steps.now parts.now 0 }
+    requires values { length values.now ≡ count * length steps.now }
+    requires fitting { AreFitting (turns count steps.now) values.now }
+    requires whole { 8 * length out.old ≡ count * widths steps.now }
+    ensures bits { bits_in out.new ≡ row_bits (turns count steps.now) values.now }
+    ensures long { length out.new ≡ length out.old }
+{
+    if parts.len() == steps.len() {
+        join_records(out, count, steps, parts, values);
+    } else {
+        lay_records(out, count, steps, values);
     }
 }
 
@@ -241,10 +264,10 @@ fn last_bits(place: usize, word: u64, held: usize) -> Laid
     }
 }
 
-// Overwrites those from a place on with eight bytes, of which the first n count, or with these
-// alone if the others do not fit. What follows them is unspecified.
+/// Overwrites those from a place on with eight bytes, of which the first n count, or with these
+/// alone if the others do not fit. What follows them is unspecified.
 #[inline(always)]
-fn put_first(out: &mut [u8], place: usize, eight: [u8; 8], n: usize)
+pub(crate) fn put_first(out: &mut [u8], place: usize, eight: [u8; 8], n: usize)
     requires few { n ≤ 8 }
     requires room { place + n ≤ length out.old }
     ensures front { take (place + n) out.new ≡ take place out.old ++ take n eight }

@@ -2,7 +2,9 @@
 #![tactic(auto)]
 
 mod cut;
+mod join;
 mod lay;
+mod part;
 mod plan;
 mod step;
 

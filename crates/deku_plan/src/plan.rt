@@ -25,6 +25,7 @@ mod slice;
 mod write;
 
 use crate::lay::laid_all;
+use crate::part::{Part, parts_of};
 use crate::plan::column::{column_from_first, cut_column, offset_of};
 use crate::plan::read::read_steps;
 use crate::plan::slice::{are_there, cut_records, read_from_first, write_from_first};
@@ -48,6 +49,7 @@ use std::marker::Model;
 pub struct Plan {
     fields: Vec<Field>,
     steps: Vec<Step>,
+    parts: Vec<Part>,
     bits: usize,
     aligned: bool,
     straight: bool,
@@ -102,12 +104,14 @@ impl Plan {
         let aligned = are_aligned(fields, steps.as_slice());
         let straight = are_straight(fields, steps.as_slice());
         let short = are_short(fields, steps.as_slice());
+        let parts = parts_of(alloc, steps.as_slice())?;
         let Ok(fields) = Vec::from_slice(alloc, fields) else {
             return Err(DekuError::Io(ErrorKind::OutOfMemory));
         };
         Ok(Plan {
             fields,
             steps,
+            parts,
             bits,
             aligned,
             straight,
@@ -286,7 +290,8 @@ impl Plan {
         let fields = self.fields.as_slice();
         let steps = self.steps.as_slice();
         if self.straight && are_there(bytes, count, self.bits) {
-            cut_records(bytes, count, self.short, fields, steps, out);
+            let short = self.short && bytes.len() >= 8;
+            cut_records(bytes, count, short, fields, steps, out);
             return Ok(());
         }
         read_from_first(alloc, bytes, count, fields, steps, out)
@@ -355,7 +360,8 @@ impl Plan {
     {
         let fields = self.fields.as_slice();
         let steps = self.steps.as_slice();
-        match laid_all(out, self.short, count, self.bits, steps, values) {
+        let parts = self.parts.as_slice();
+        match laid_all(out, self.short, count, self.bits, steps, parts, values) {
             Some(taken) => Ok(taken),
             None => write_from_first(out, count, fields, steps, values),
         }

@@ -309,7 +309,7 @@ fn lays_records(rt: HostRuntime) -> Result<(), Fail> {
     let outside = DekuError::InvalidParam("value outside type");
     let full = DekuError::Io(ErrorKind::WriteZero);
     let halves: &[&str] = &["u8,big,bits4", "u16,big,bits12"];
-    let rows: [(&[&str], &[Number], Result<usize, DekuError>, &[u8]); 13] = [
+    let rows: [(&[&str], &[Number], Result<usize, DekuError>, &[u8]); 15] = [
         (
             header,
             &ipv4,
@@ -358,6 +358,25 @@ fn lays_records(rt: HostRuntime) -> Result<(), Fail> {
             &[plain(0), plain(0x01FF_FFFF_FFFF_FFFF), plain(0)],
             Ok(8),
             &[0xFF, 0xFF, 0xFF, 0xFF, 0xFF, 0xFF, 0xFF, 0x80],
+        ),
+        (
+            &["u64,big,bits48", "u16,big,bits12", "u16,big,bits12"],
+            &[plain(0x0123_4567_89AB), plain(0xCDE), plain(0xF01)],
+            Ok(9),
+            &[0x01, 0x23, 0x45, 0x67, 0x89, 0xAB, 0xCD, 0xEF, 0x01, 0xAA],
+        ),
+        (
+            &["u8,big,bits4", "u8,big,bits0", "u16,big,bits12"],
+            &[
+                plain(6),
+                plain(0),
+                plain(0x9C0),
+                plain(15),
+                plain(0),
+                plain(0xEDC),
+            ],
+            Ok(4),
+            &[0x69, 0xC0, 0xFE, 0xDC, 0xAA],
         ),
         (halves, &[], Ok(0), &[0xAA]),
         (

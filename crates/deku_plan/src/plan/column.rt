@@ -45,7 +45,7 @@ pub(crate) fn cut_column(
     requires there { length out.old * bits ≤ 8 * length bytes.now }
     ensures { AreEachAt field.now bytes.now bits first out.new }
 {
-    if step.high && step.width <= 57 {
+    if step.high && step.width <= 57 && bytes.len() >= 8 {
         cut_short_column(bytes, bits, first, field, step, out);
     } else {
         cut_any_column(bytes, bits, first, field, step, out);
@@ -86,6 +86,7 @@ fn cut_short_column(
     requires high { IsHigh field.now }
     requires straight { IsStraight field.now }
     requires few { step.width ≤ 57 }
+    requires long { 8 ≤ length bytes.now }
     requires within { first + step.width ≤ bits }
     requires counted { length out.old * bits < 2 ^ 64 }
     requires there { length out.old * bits ≤ 8 * length bytes.now }

@@ -50,6 +50,7 @@ pub(crate) fn cut_records(
     requires straight { All IsStraight fields.now }
     requires high { IsTrue short → All IsHigh fields.now }
     requires short { IsTrue short → All IsShort steps.now }
+    requires long { IsTrue short → 8 ≤ length bytes.now }
     requires places { length out.old ≡ count * length fields.now }
     requires counted { count * total (map field_shape fields.now) < 2 ^ 64 }
     requires there { count * total (map field_shape fields.now) ≤ 8 * length bytes.now }
@@ -77,6 +78,7 @@ fn cut_either(
     requires straight { All IsStraight fields.now }
     requires high { IsTrue short → All IsHigh fields.now }
     requires short { IsTrue short → All IsShort steps.now }
+    requires long { IsTrue short → 8 ≤ length bytes.now }
     requires places { length out.old ≡ length fields.now }
     requires counted { bit + total (map field_shape fields.now) < 2 ^ 64 }
     requires there { bit + total (map field_shape fields.now) ≤ 8 * length bytes.now }
@@ -131,6 +133,7 @@ fn cut_short(
     requires straight { All IsStraight fields.now }
     requires high { All IsHigh fields.now }
     requires short { All IsShort steps.now }
+    requires long { 8 ≤ length bytes.now }
     requires places { length out.old ≡ length fields.now }
     requires counted { bit + total (map field_shape fields.now) < 2 ^ 64 }
     requires there { bit + total (map field_shape fields.now) ≤ 8 * length bytes.now }
