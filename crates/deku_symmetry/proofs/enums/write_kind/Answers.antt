@@ -12,4 +12,4 @@ returns-in_err-to_writer g c =
 pub returns : goal.returns
 returns g c =
     written_own (λ n. g.I.DekuWriter.meaning (g.I.Id.part_of n) tt) g.K.Kinds.id_of g.K.Kinds.own (λ _. g.A.DekuWriter.meaning c.args.parts.now tt) c.args.id.now.kind (search rules)
-    (then_on (rw (c.of_number-number.ensures, c.id.ensures) at c.in_ok-to_writer.ensures) c.to_writer.ensures)
+    (then_on (rw (c.of_number-number.ensures, c.id.ensures) at c.in_ok-to_writer.ensures) c.to_writer-2.ensures)
