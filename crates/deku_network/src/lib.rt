@@ -7,4 +7,4 @@ pub mod icmp;
 pub mod icmpv6;
 pub mod ipv4;
 pub mod ipv6;
-pub mod lengths;
+mod lengths;
