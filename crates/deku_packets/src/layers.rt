@@ -37,7 +37,8 @@ impl<'a> Layers<'a> {
 
     /// The layers.
     pub fn into_items(self) -> Vec<Placed>
-        ensures { ∥ All (IsPlaced ⟦<Layer as ReadLayer>⟧.reads self.entry.bytes.now) result.items ∥₁ }
+        ensures { ∥ All (IsPlaced ⟦<Layer as ReadLayer>⟧.reads self.entry.bytes.now)
+            result.items ∥₁ }
     {
         self.items
     }

@@ -1,7 +1,6 @@
 //! The layers that programs send to each other.
 
-ghost use Rattle.std.specs.Prelude.{◌≡◌, IfOk};
-ghost use Rattle.deku_packets.specs.Reading.{IsFirst, IsAt};
+ghost use Rattle.std.specs.Prelude.{◌≡◌};
 
 use crate::check::between;
 use crate::fields::{AUTHORITY, DNS, MAIL_SERVER, NTP, QUESTION, RESOURCE, RTP, TARGET, TEXT, TLS};
@@ -9,9 +8,8 @@ use crate::layer::{Fields, Layer};
 use crate::name::follow;
 use crate::next::Next;
 use crate::packet::Refusal;
-use crate::read::read_at;
 use crate::walk::{Walk, refusal};
-use deku::prelude::{DekuContainerRead, DekuError};
+use deku::prelude::DekuError;
 use deku_messages::dns::{Header, Text};
 use deku_messages::name::Name;
 use deku_messages::ntp::Ntp;
@@ -138,19 +136,6 @@ impl<'a> Walk<'a> {
             16 => self.texts(place),
             _ => Ok(()),
         }
-    }
-
-    // The record in what is read that begins at this index, and the index after it.
-    fn within<E: DekuContainerRead>(
-        &self,
-        start: usize,
-        fields: &Fields,
-    ) -> Result<(E, usize), Refusal>
-        requires { E.DekuReader.accepts tt }
-        ensures { IfOk result (λ p. IsAt (IsFirst (E.DekuReader.meaning tt) p.0)
-            self.now.layers.bytes.now start p.1) }
-    {
-        read_at(self.alloc, self.layers.bytes, start, self.at, fields)
     }
 
     // The data of a resource that is a name.

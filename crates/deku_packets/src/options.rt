@@ -18,17 +18,10 @@ impl<'a> Walk<'a> {
     {
         let mut start = start;
         for _ in 0..40 {
-            let bytes = between(self.layers.bytes, start, self.at);
-            if bytes.is_empty() {
+            if between(self.layers.bytes, start, self.at).is_empty() {
                 break;
             }
-            let (option, end) = read_at::<TcpOption>(
-                self.alloc,
-                self.layers.bytes,
-                start,
-                self.at,
-                &TCP_OPTION,
-            )?;
+            let (option, end): (TcpOption, usize) = self.within(start, &TCP_OPTION)?;
             let kind = option.kind;
             self.place(start, end, Layer::TcpOption(option))?;
             self.option_data(kind, start.saturating_add(2), end)?;
@@ -81,17 +74,11 @@ impl<'a> Walk<'a> {
     {
         let mut start = start;
         for _ in 0..5 {
-            let bytes = between(self.layers.bytes, start, end);
-            if bytes.is_empty() {
+            let bytes = self.layers.bytes;
+            if between(bytes, start, end).is_empty() {
                 break;
             }
-            let (block, after) = read_at::<Block>(
-                self.alloc,
-                self.layers.bytes,
-                start,
-                end,
-                &BLOCK,
-            )?;
+            let (block, after) = read_at::<Block>(self.alloc, bytes, start, end, &BLOCK)?;
             self.place(start, after, Layer::Block(block))?;
             start = after;
         }

@@ -85,6 +85,19 @@ impl<'a> Walk<'a> {
         Ok(record)
     }
 
+    /// The record in what is read that begins at this index, and the index after it.
+    pub fn within<E: DekuContainerRead>(
+        &self,
+        start: usize,
+        fields: &Fields,
+    ) -> Result<(E, usize), Refusal>
+        requires { E.DekuReader.accepts tt }
+        ensures { IfOk result (λ p. IsAt (IsFirst (E.DekuReader.meaning tt) p.0)
+            self.now.layers.bytes.now start p.1) }
+    {
+        read_at(self.alloc, self.layers.bytes, start, self.at, fields)
+    }
+
     /// Keeps a layer that began at `start`, and ends here.
     pub fn keep(&mut self, start: usize, layer: Layer) -> Result<(), Refusal>
         requires { IsAt (⟦<Layer as ReadLayer>⟧.reads layer) self.now.layers.bytes.now start
