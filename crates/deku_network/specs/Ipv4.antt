@@ -3,7 +3,7 @@ use Rattle.std.specs.Prelude.{◌≡◌, ◌⊎◌, ◌<◌, ◌≤◌, ◌+◌,
 use Rattle.deku.specs.declared.error.DekuError.{DekuError}
 use Rattle.deku.specs.declared.error.DekuError.TheVariants.{Parse}
 use Rattle.deku.specs.Faults.{Tells}
-use Rattle.deku_formats.specs.declared.ipv4.Ipv4.{Ipv4}
+use Rattle.deku_network.specs.declared.ipv4.Ipv4.{Ipv4}
 
 -- The number of bytes of the options.
 abbrev pub option_count : Ipv4 → ℕ
@@ -15,15 +15,15 @@ HasWholeWords h = (option_count h ≤ 40) × (option_count h % 4 ≡ 0)
 
 -- The bytes of the header are among those that the total counts.
 abbrev pub CountsItself : Ipv4 → Type 0
-CountsItself h = 4 * h.front.words ≤ h.front.total_length
+CountsItself h = 4 * h.words ≤ h.total
 
 -- The total with the header and its options, and the payload.
 abbrev pub next_total : Ipv4 → ℕ
-next_total h = h.front.total_length - 4 * h.front.words + 20 + option_count h
+next_total h = h.total - 4 * h.words + 20 + option_count h
 
 -- The header with its two lengths.
 abbrev pub counted : Ipv4 → Ipv4
-counted h = record h { front = record h.front { words = 5 + option_count h / 4; total_length = next_total h } }
+counted h = record h { words = 5 + option_count h / 4; total = next_total h }
 
 -- It fails for this cause, and stays as it was.
 abbrev pub StaysFor : List ℕ → Ipv4 → Result (Unit {0}) DekuError → Ipv4 → Type 0
