@@ -690,7 +690,7 @@ impl DekuWriter<()> for Between {
             },
             ChosenByRef::<_, BetweenBodyId, _> {
                 head: self.kind,
-                record: &self.body,
+                value: &self.body,
                 id: PhantomData,
             },
             CountedByRef::<_, BetweenRestCount, _> {

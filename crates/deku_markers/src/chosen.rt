@@ -87,8 +87,8 @@ fn value_of(
         let open = format!(in alloc; "ChosenByRef::<_, {marker}, _> {{")?;
         let form = (Form::Brace, open.as_str());
         let head = head.after(alloc, "head: ")?;
-        let record = Text::of(called.reference(alloc)?).after(alloc, "record: ")?;
-        return three(alloc, form, head, record, "id: PhantomData");
+        let value = Text::of(called.reference(alloc)?).after(alloc, "value: ")?;
+        return three(alloc, form, head, value, "id: PhantomData");
     }
     let access = called.access;
     let mut items = Vec::new(alloc);

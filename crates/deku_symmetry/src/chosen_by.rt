@@ -165,7 +165,7 @@ impl<P: Symmetric<()>, C: IdOfLaw<P>, K: KindsLaw> Symmetric<()> for ChosenBy<P,
 /// ```text
 /// ChosenByRef::<_, Protocol, _> {
 ///     head: (Msb(4), Msb(self.protocol)),
-///     record: &self.body,
+///     value: &self.body,
 ///     id: PhantomData,
 /// }
 /// .to_writer(writer, ())
@@ -175,7 +175,7 @@ pub struct ChosenByRef<'a, P, C, T> {
     /// The parts before the record.
     pub head: P,
     /// The record.
-    pub record: &'a T,
+    pub value: &'a T,
     /// The id.
     pub id: PhantomData<C>,
 }
@@ -187,11 +187,11 @@ where
     ghost accepts = { λ _. P.accepts tt × T.Parts.Kinds.writable };
 
     ghost meaning = { λ v _. WritesChosenBy C.id_of T.Parts.Kinds.id_of T.Parts.Kinds.own
-        (λ h. P.meaning h tt) T.Parts.Kinds.writes v.head (T.FromParts.parts_of v.record.now) };
+        (λ h. P.meaning h tt) T.Parts.Kinds.writes v.head (T.FromParts.parts_of v.value.now) };
 
     #[inline(always)]
     fn to_writer<W: Sink>(&self, writer: &mut Writer<W>, _ctx: ()) -> Result<(), DekuError> {
-        let kind = self.record.parts();
+        let kind = self.value.parts();
         write_chosen::<P, C, T::Parts, W>(&self.head, &kind, writer)
     }
 }
