@@ -419,7 +419,10 @@ impl DekuWriter<()> for Event {
     fn to_writer<W: Sink>(&self, writer: &mut Writer<W>, _ctx: ()) -> Result<(), DekuError> {
         match self {
             Event::Nothing => {
-                let id: EventIds = Enum::new(Either::This(Either::This(Either::This(Kind(())))));
+                let id: EventIds = Enum {
+                    kind: Either::This(Either::This(Either::This(Kind(())))),
+                    id: PhantomData,
+                };
                 write_kind(&id, &(), writer)
             }
             Event::Text { length, data } => {
@@ -428,7 +431,10 @@ impl DekuWriter<()> for Event {
                     items: data,
                     count: PhantomData,
                 };
-                let id: EventIds = Enum::new(Either::This(Either::This(Either::Other(Kind(())))));
+                let id: EventIds = Enum {
+                    kind: Either::This(Either::This(Either::Other(Kind(())))),
+                    id: PhantomData,
+                };
                 write_kind(&id, &parts, writer)
             }
             Event::Answer {
@@ -441,15 +447,24 @@ impl DekuWriter<()> for Event {
                     item: time,
                     condition: PhantomData,
                 };
-                let id: EventIds = Enum::new(Either::This(Either::Other(Either::This(Kind(())))));
+                let id: EventIds = Enum {
+                    kind: Either::This(Either::Other(Either::This(Kind(())))),
+                    id: PhantomData,
+                };
                 write_kind(&id, &parts, writer)
             }
             Event::Walk(field_0) => {
-                let id: EventIds = Enum::new(Either::This(Either::Other(Either::Other(Kind(())))));
+                let id: EventIds = Enum {
+                    kind: Either::This(Either::Other(Either::Other(Kind(())))),
+                    id: PhantomData,
+                };
                 write_kind(&id, field_0, writer)
             }
             Event::Alarm { code } => {
-                let id: EventIds = Enum::new(Either::Other(Either::This(Kind(()))));
+                let id: EventIds = Enum {
+                    kind: Either::Other(Either::This(Kind(()))),
+                    id: PhantomData,
+                };
                 write_kind(&id, code, writer)
             }
             Event::Other {
@@ -462,10 +477,13 @@ impl DekuWriter<()> for Event {
                     content: bytes,
                     size: PhantomData,
                 };
-                let id: EventIds = Enum::new(Either::Other(Either::Other(InRange {
-                    id: *kind,
-                    value: (),
-                })));
+                let id: EventIds = Enum {
+                    kind: Either::Other(Either::Other(InRange {
+                        id: *kind,
+                        value: (),
+                    })),
+                    id: PhantomData,
+                };
                 write_kind(&id, &parts, writer)
             }
         }

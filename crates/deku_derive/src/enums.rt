@@ -189,10 +189,14 @@ fn written(
         out.push(';')?;
     }
     start(out, 16)?;
-    write!(out, "let id: {name}Ids =")?;
+    write!(out, "let id: {name}Ids = ")?;
     let nothing = Text::word(alloc, "()")?;
     let id = stood(alloc, Form::Round, kind, &nothing, place)?;
-    bound(out, &Text::one(alloc, Form::Round, "Enum::new(", id)?)?;
+    let mut items = Vec::new(alloc);
+    items.push(id.after(alloc, "kind: ")?)?;
+    items.push(Text::word(alloc, "id: PhantomData")?)?;
+    Text::group(alloc, Form::Brace, "Enum {", items)?.print(out, 16, 1, true)?;
+    out.push(';')?;
     start(out, 16)?;
     write!(out, "write_kind(&id, {reference}, writer)")?;
     start(out, 12)?;
@@ -212,22 +216,6 @@ fn reference<'p>(part: &'p Part<'_>) -> &'p str {
         Some(field) if field != "id" => field,
         _ => "&parts",
     }
-}
-
-// The columns of a call on a line of its own: 60 for what is in its brackets.
-const CALL: usize = 60 + "Enum::new()".len();
-
-// Appends the call that a local of an arm is bound to, on a line of its own if it has room only
-// there.
-fn bound(out: &mut String, value: &Text) -> Result<(), AllocError> {
-    let is_line = value.is_line(out.as_str(), 2);
-    if !is_line && value.columns() <= CALL {
-        start(out, 20)?;
-    } else {
-        out.push(' ')?;
-    }
-    value.print(out, 16, 1, false)?;
-    out.push(';')
 }
 
 // Appends the parts of an enum, and the enum that parts make.
