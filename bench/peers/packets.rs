@@ -27,7 +27,7 @@ fn random_ipv4(random: &mut Random) -> Ipv4Fields {
         identification: random.bits(16) as u16,
         fragment_offset: random.bits(13) as u16,
         checksum: random.bits(16) as u16,
-        words: random.bits(4) as u8,
+        words: 5,
         service: random.bits(6) as u8,
         congestion: random.bits(2) as u8,
         flags: random.bits(3) as u8,

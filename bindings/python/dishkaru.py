@@ -119,6 +119,8 @@ class Fields:
 
         ValueError if the data ends before the last field does, or if a field's layout is rejected.
         """
+        if isinstance(data, int):
+            raise TypeError("data is a number, not bytes")  # of which `bytes` would make so many zeros
         data = bytes(data)
         values = (_Value * max(self._count, 1))()
         bits = ctypes.c_uint64()

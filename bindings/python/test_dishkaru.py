@@ -94,6 +94,11 @@ class Rows(unittest.TestCase):
         with self.assertRaises(TypeError):
             dishkaru.write("u8", ["1"])
 
+    def test_no_bytes(self):
+        for data in (1, "69", [0.5]):
+            with self.subTest(data), self.assertRaises(TypeError):
+                dishkaru.read("u8", data)
+
 
 def random_list(chance):
     """Big fields, high bits first: each with its sign, its bits and a value."""

@@ -7,5 +7,10 @@ fn main() {
         let here = std::env::var("CARGO_MANIFEST_DIR").unwrap();
         format!("{here}/../c/out")
     });
+    let library = format!("{folder}/libdishkaru.a");
+    println!("cargo:rerun-if-changed={library}");
+    if !std::path::Path::new(&library).is_file() {
+        println!("cargo:warning={library} is not there: run `make` in bindings/c, or set DISHKARU_FOLDER");
+    }
     println!("cargo:rustc-link-search=native={folder}");
 }

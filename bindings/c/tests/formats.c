@@ -1,82 +1,146 @@
-/*
- * The records of deku_c_formats: each value is written as its bytes, which are read and written
- * back; bytes that are too few are refused at each length, and so is too little room.
- */
+/* The records of deku_c_formats. */
 #include "can.h"
 #include "ccsds.h"
-#include "dns.h"
-#include "ipv4.h"
-#include "png.h"
-#include "udp.h"
-
-#include <stdio.h>
-#include <string.h>
-
-/* Of `enum dishkaru_status`: the bytes end, and too little room. */
-enum { ENDS = 3, FULL = 8 };
-
-static int wrong;
-
-static void expect(const char *record, const char *what, int holds)
-{
-    if (!holds) {
-        printf("%s: %s\n", record, what);
-        wrong = 1;
-    }
-}
-
-#define TRY(record, size, value, ...)                                                              \
-    do {                                                                                           \
-        static const uint8_t bytes[size] = {__VA_ARGS__};                                          \
-        const struct record wanted = value;                                                        \
-        struct record found = {0};                                                                 \
-        uint8_t again[size] = {0};                                                                 \
-        int written = record##_write(&wanted, again, size) == 0;                                   \
-        expect(#record, "written", written && memcmp(again, bytes, size) == 0);                    \
-        expect(#record, "read", record##_read(bytes, size, &found) == 0);                          \
-        for (size_t few = 0; few < size; few++) {                                                  \
-            expect(#record, "bytes that end", record##_read(bytes, few, &found) == ENDS);          \
-            expect(#record, "no room", record##_write(&wanted, again, few) == FULL);               \
-        }                                                                                          \
-        memset(again, 0, size);                                                                    \
-        written = record##_write(&found, again, size) == 0;                                        \
-        expect(#record, "written back", written && memcmp(again, bytes, size) == 0);               \
-    } while (0)
-
-#define OF(...) {__VA_ARGS__}
-
-static void network(void)
-{
-    TRY(udp, UDP_BYTES, OF(40123, 53535, 10, 65053), 0x9C, 0xBB, 0xD1, 0x1F, 0x00, 0x0A, 0xFE, 0x1D);
-    TRY(ipv4, IPV4_BYTES,
-        OF(4, 5, 0, 0, 30, 20235, 2, 0, 64, 17, 60865, 0x7F000001, 0x7F000001),
-        0x45, 0x00, 0x00, 0x1E, 0x4F, 0x0B, 0x40, 0x00, 0x40, 0x11, 0xED, 0xC1, 0x7F, 0x00, 0x00,
-        0x01, 0x7F, 0x00, 0x00, 0x01);
-    TRY(dns_header, DNS_HEADER_BYTES, OF(20581, 0, 0, 0, 0, 1, 0, 0, 0, 1, 0, 0, 0),
-        0x50, 0x65, 0x01, 0x00, 0x00, 0x01, 0x00, 0x00, 0x00, 0x00, 0x00, 0x00);
-}
+#include "elf64_big.h"
+#include "elf64_little.h"
+#include "png_start.h"
+#include "records.h"
+#include "riscv.h"
 
 static void buses(void)
 {
     TRY(chassis, CHASSIS_BYTES, OF(-700, 5, -1234, 5, 0, -100000),
         0x44, 0x5D, 0xFB, 0x2E, 0x05, 0xFE, 0x79, 0x60);
+    UNWRITTEN(chassis, CHASSIS_BYTES, UNFIT, OF(2048, 5, -1234, 5, 0, -100000));
     TRY(space_packet, SPACE_PACKET_BYTES, OF(0, 0, 0, 291, 3, 42, 10),
         0x01, 0x23, 0xC0, 0x2A, 0x00, 0x0A);
     TRY(telemetry_sample, TELEMETRY_SAMPLE_BYTES, OF(1, 2), 0x00, 0x40, 0x08);
 }
 
-static void files(void)
+static void pictures(void)
 {
-    TRY(png, PNG_BYTES, OF(608, 275, 8, 2, 0, 0, 0, 509029749),
+    TRY(png_start, PNG_START_BYTES, OF(608, 275, 8, 2, 0, 0, 0, 509029749),
         0x89, 0x50, 0x4E, 0x47, 0x0D, 0x0A, 0x1A, 0x0A, 0x00, 0x00, 0x00, 0x0D, 0x49, 0x48, 0x44,
         0x52, 0x00, 0x00, 0x02, 0x60, 0x00, 0x00, 0x01, 0x13, 0x08, 0x02, 0x00, 0x00, 0x00, 0x1E,
         0x57, 0x2D, 0x75);
+    REFUSED(png_start, PNG_START_BYTES, 0x89, 0x50, 0x4E, 0x46);
+}
+
+/* /bin/ls of coreutils 9.1, as Debian 12 has it for x86-64, and the second program header of a
+ * program that GNU ld 2.40 linked. The values are those that `readelf -hlW` prints. */
+static void little(void)
+{
+    TRY(elf_header_little, ELF_HEADER_LITTLE_BYTES,
+        OF(1, 0, 0, {0}, 3, 62, 1, 0x61D0, 64, 149360, 0, 64, 56, 13, 64, 31, 30),
+        0x7F, 0x45, 0x4C, 0x46, 0x02, 0x01, 0x01, 0x00, 0x00, 0x00, 0x00, 0x00, 0x00, 0x00, 0x00,
+        0x00, 0x03, 0x00, 0x3E, 0x00, 0x01, 0x00, 0x00, 0x00, 0xD0, 0x61, 0x00, 0x00, 0x00, 0x00,
+        0x00, 0x00, 0x40, 0x00, 0x00, 0x00, 0x00, 0x00, 0x00, 0x00, 0x70, 0x47, 0x02, 0x00, 0x00,
+        0x00, 0x00, 0x00, 0x00, 0x00, 0x00, 0x00, 0x40, 0x00, 0x38, 0x00, 0x0D, 0x00, 0x40, 0x00,
+        0x1F, 0x00, 0x1E, 0x00);
+    TRY(elf_segment_little, ELF_SEGMENT_LITTLE_BYTES,
+        OF(1, 6, 0x2000, 0x123456789A000, 0x600000, 0x0C, 0x34, 0x1000),
+        0x01, 0x00, 0x00, 0x00, 0x06, 0x00, 0x00, 0x00, 0x00, 0x20, 0x00, 0x00, 0x00, 0x00, 0x00,
+        0x00, 0x00, 0xA0, 0x89, 0x67, 0x45, 0x23, 0x01, 0x00, 0x00, 0x00, 0x60, 0x00, 0x00, 0x00,
+        0x00, 0x00, 0x0C, 0x00, 0x00, 0x00, 0x00, 0x00, 0x00, 0x00, 0x34, 0x00, 0x00, 0x00, 0x00,
+        0x00, 0x00, 0x00, 0x00, 0x10, 0x00, 0x00, 0x00, 0x00, 0x00, 0x00);
+}
+
+/* The same for powerpc64, with the system 3 and its version 5. */
+static void big(void)
+{
+    TRY(elf_header_big, ELF_HEADER_BIG_BYTES,
+        OF(1, 3, 5, {0}, 2, 21, 1, 0x10004, 64, 106688, 2, 64, 56, 2, 64, 7, 6),
+        0x7F, 0x45, 0x4C, 0x46, 0x02, 0x02, 0x01, 0x03, 0x05, 0x00, 0x00, 0x00, 0x00, 0x00, 0x00,
+        0x00, 0x00, 0x02, 0x00, 0x15, 0x00, 0x00, 0x00, 0x01, 0x00, 0x00, 0x00, 0x00, 0x00, 0x01,
+        0x00, 0x04, 0x00, 0x00, 0x00, 0x00, 0x00, 0x00, 0x00, 0x40, 0x00, 0x00, 0x00, 0x00, 0x00,
+        0x01, 0xA0, 0xC0, 0x00, 0x00, 0x00, 0x02, 0x00, 0x40, 0x00, 0x38, 0x00, 0x02, 0x00, 0x40,
+        0x00, 0x07, 0x00, 0x06);
+    TRY(elf_segment_big, ELF_SEGMENT_BIG_BYTES,
+        OF(1, 6, 0x1A000, 0x123456789A000, 0x600000, 0x0C, 0x38, 0x10000),
+        0x00, 0x00, 0x00, 0x01, 0x00, 0x00, 0x00, 0x06, 0x00, 0x00, 0x00, 0x00, 0x00, 0x01, 0xA0,
+        0x00, 0x00, 0x01, 0x23, 0x45, 0x67, 0x89, 0xA0, 0x00, 0x00, 0x00, 0x00, 0x00, 0x00, 0x60,
+        0x00, 0x00, 0x00, 0x00, 0x00, 0x00, 0x00, 0x00, 0x00, 0x0C, 0x00, 0x00, 0x00, 0x00, 0x00,
+        0x00, 0x00, 0x38, 0x00, 0x00, 0x00, 0x00, 0x00, 0x01, 0x00, 0x00);
+}
+
+/* Another first byte, 32 bits, and the other endian. */
+static void other_files(void)
+{
+    REFUSED(elf_header_little, ELF_HEADER_LITTLE_BYTES, 0x7E, 0x45, 0x4C, 0x46, 0x02, 0x01);
+    REFUSED(elf_header_little, ELF_HEADER_LITTLE_BYTES, 0x7F, 0x45, 0x4C, 0x46, 0x01, 0x01);
+    REFUSED(elf_header_little, ELF_HEADER_LITTLE_BYTES, 0x7F, 0x45, 0x4C, 0x46, 0x02, 0x02);
+    REFUSED(elf_header_big, ELF_HEADER_BIG_BYTES, 0x7E, 0x45, 0x4C, 0x46, 0x02, 0x02);
+    REFUSED(elf_header_big, ELF_HEADER_BIG_BYTES, 0x7F, 0x45, 0x4C, 0x46, 0x01, 0x02);
+    REFUSED(elf_header_big, ELF_HEADER_BIG_BYTES, 0x7F, 0x45, 0x4C, 0x46, 0x02, 0x01);
+}
+
+/* A word as GNU as 2.40 makes it for rv32i; the values are those that `objdump -d` prints. */
+#define WORD(form, word, ...)                                                                      \
+    TRY(riscv_##form, 4, OF(__VA_ARGS__), LOW_FIRST(word))
+
+#define LOW_FIRST(word) (word) & 0xFF, (word) >> 8 & 0xFF, (word) >> 16 & 0xFF, (word) >> 24 & 0xFF
+
+static void words(void)
+{
+    WORD(register, 0x40C58533, 0x33, 10, 0, 11, 12, 32); /* sub x10,x11,x12 */
+    WORD(register, 0x0100BFB3, 0x33, 31, 3, 1, 16, 0);   /* sltu x31,x1,x16 */
+    WORD(immediate, 0xFEC42783, 0x03, 15, 2, 8, -20);    /* lw x15,-20(x8) */
+    WORD(immediate, 0xFE010113, 0x13, 2, 0, 2, -32);     /* addi x2,x2,-32 */
+    WORD(immediate, 0x010300E7, 0x67, 1, 0, 6, 16);      /* jalr x1,16(x6) */
+    WORD(store, 0xFE142623, 0x23, 12, 2, 8, 1, -1);      /* sw x1,-20(x8) */
+    WORD(store, 0x035110A3, 0x23, 1, 1, 2, 21, 1);       /* sh x21,33(x2) */
+    WORD(branch, 0xFE029CE3, 0x63, 1, 12, 1, 5, 0, 63, -1); /* bne x5,x0, 8 back */
+    WORD(branch, 0x002080E3, 0x63, 1, 0, 0, 1, 2, 0, 0);    /* beq x1,x2, 2048 on */
+    WORD(branch, 0x0311C063, 0x63, 0, 0, 4, 3, 17, 1, 0);   /* blt x3,x17, 32 on */
+    WORD(upper, 0x00002197, 0x17, 3, 2);                 /* auipc x3,0x2 */
+    WORD(upper, 0xFFFFF537, 0x37, 10, -1);               /* lui x10,0xfffff */
+    WORD(jump, 0x001000EF, 0x6F, 1, 0, 1, 0, 0);         /* jal x1, 0x800 on */
+    WORD(jump, 0x002052EF, 0x6F, 5, 5, 0, 1, 0);         /* jal x5, 0x5002 on */
+    WORD(jump, 0x800000EF, 0x6F, 1, 0, 0, 0, -1);        /* jal x1, 0x100000 back */
+    UNWRITTEN(riscv_register, 4, UNFIT, OF(0x33, 32, 0, 11, 12, 32));
+    UNWRITTEN(riscv_immediate, 4, UNFIT, OF(0x13, 2, 0, 2, -2049));
+    UNWRITTEN(riscv_jump, 4, UNFIT, OF(0x6F, 1, 0, 0, 1024, 0));
+}
+
+/* The offset of a word in bytes, joined from its fields as the header says, is what `objdump -d`
+ * prints. */
+#define OFFSET(form, word, wanted, joined)                                                         \
+    do {                                                                                           \
+        const uint8_t bytes[4] = {LOW_FIRST(word)};                                                \
+        struct riscv_##form it;                                                                    \
+        EXPECT(riscv_##form, "read", riscv_##form##_read(bytes, 4, &it) == 0);                     \
+        EXPECT(riscv_##form, "offset", (joined) == (wanted));                                      \
+    } while (0)
+
+#define STORE(word, wanted) OFFSET(store, word, wanted, it.high * 32 + it.low)
+#define BRANCH(word, wanted)                                                                       \
+    OFFSET(branch, word, wanted, 2 * (it.sign * 2048 + it.top * 1024 + it.middle * 16 + it.low))
+#define JUMP(word, wanted)                                                                         \
+    OFFSET(jump, word, wanted, 2 * (it.sign * 524288 + it.high * 2048 + it.middle * 1024 + it.low))
+
+static void offsets(void)
+{
+    STORE(0xFE142623, -20);
+    STORE(0x7EA58FA3, 2047);
+    STORE(0x035110A3, 33);
+    BRANCH(0x002080E3, 2048);
+    BRANCH(0xFE029CE3, -8);
+    BRANCH(0x7EB57FE3, 4094);
+    BRANCH(0x80B50063, -4096);
+    JUMP(0x001000EF, 0x800);
+    JUMP(0xFFFFF06F, -2);
+    JUMP(0x800000EF, -0x100000);
+    JUMP(0x002052EF, 0x5002);
 }
 
 int main(void)
 {
-    network();
     buses();
-    files();
+    pictures();
+    little();
+    big();
+    other_files();
+    words();
+    offsets();
     return wrong;
 }

@@ -1,9 +1,10 @@
-//! Headers of fixed size, as in `deku_formats` and `deku_dns`, for C.
+//! Records of fixed size for C: headers of files, signals, and words of instructions, as in
+//! `deku_formats`, `deku_elf` and `deku_instructions`.
 #![tactic(auto)]
 
 pub mod can;
 pub mod ccsds;
-pub mod dns;
-pub mod ipv4;
-pub mod png;
-pub mod udp;
+pub mod elf64_big;
+pub mod elf64_little;
+pub mod png_start;
+pub mod riscv;

@@ -18,7 +18,7 @@ use Rattle.deku_symmetry.specs.Symmetric.{breadth}
 use Rattle.deku_symmetry.specs.Pieces.{OfUnsigned, InTurn, high_first}
 use Rattle.deku_symmetry.specs.Packs.{InStep, ToBytesLaw, FromBytesLaw, FoundLaw, WholeBytesLaw}
 use Rattle.deku_symmetry.proofs.HighFirst.{Has, Lies, in_step, number_lies, turns_lie, unsigned_has, turns_have}
-use Rattle.deku_formats.specs.declared.udp.Udp.{Udp}
+use Rattle.deku_transport.specs.declared.udp.Udp.{Udp}
 
 -- aligned pieces of few bits lay out few bytes
 pub few : LengthLaw → (ps : List Piece) (n : ℕ) → InStep ps → breadth ps ≡ n → n + 7 < 2 ^ 64 → 8 * length (laid_out ps) < 2 ^ 64

@@ -6,8 +6,8 @@ ghost use Rattle.deku.specs.declared.error.DekuError.TheVariants.{Io};
 
 use deku::prelude::{DekuContainerRead, DekuContainerWrite, DekuError};
 use deku_bits::laws::length_law;
-use deku_formats::udp::Udp;
 use deku_symmetry::laws::{from_bytes_law, to_bytes_law, whole_bytes_law};
+use deku_transport::udp::Udp;
 use std::alloc::Global;
 
 /// Writes any header of a datagram as bytes, and reads it back. The result is the header, or out of

@@ -5,8 +5,8 @@ ghost use Rattle.deku_symmetry.specs.Symmetric.{IsSymmetric};
 
 use deku::device::Source;
 use deku::prelude::{DekuContainerRead, DekuError};
-use deku_formats::udp::Udp;
 use deku_symmetry::Symmetric;
+use deku_transport::udp::Udp;
 use std::alloc::Global;
 
 /// Reads the header of a datagram from the start of a source. Returns how many bits it has, and the

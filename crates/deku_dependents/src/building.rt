@@ -1,6 +1,7 @@
 //! The parts of the fields of a record, in their order.
 
 use crate::refusing::partless;
+use crate::said::Said;
 use crate::temporary::{Temporary, is_temporary};
 use crate::updating::{Updated, is_updated};
 use deku_attributes::model::{Attribute, Endian, Field};
@@ -9,10 +10,10 @@ use deku_description::syntax::{Closure, Constant, Expression, Operator, Type};
 use deku_markers::computing::{Computed, Computer};
 use deku_markers::marker;
 use deku_markers::marker::{Amount, Marker};
-use deku_texts::document::Text;
-use deku_texts::part::{
+use deku_markers::part::{
     Dependent, Named, Owner, Part, Place, asserted, following, leaf, rest, tuple,
 };
+use deku_texts::document::Text;
 use deku_texts::records::Records;
 use deku_texts::refusal::Stop;
 use deku_texts::words;
@@ -45,23 +46,6 @@ pub struct Builder<'b, 'a> {
     is_nested: bool,
     // The count that the record does not keep, if the last field was one.
     temporary: Option<Temporary<'a>>,
-}
-
-// What the attributes of one field say.
-#[derive(Drop)]
-struct Said<'f, 'a> {
-    magic: Option<&'f Vec<u8>>,
-    count: Option<&'f Expression<'a>>,
-    // How much the field takes, and how many bits each of it is.
-    size: Option<(&'f Expression<'a>, u64)>,
-    end: Option<&'f Closure<'a>>,
-    is_rest: bool,
-    cond: Option<&'f Expression<'a>>,
-    context: Option<Token<'a>>,
-    assert: Option<&'f Expression<'a>>,
-    equal: Option<&'f Expression<'a>>,
-    before: u64,
-    after: u64,
 }
 
 // What the name of the type of a dependent part ends with.
@@ -126,6 +110,7 @@ impl<'b, 'a> Builder<'b, 'a> {
                     Some(_) => name.as_str(),
                     None => place.as_str(),
                 },
+                owner: self.owner,
             };
             let is_built = field.is_sound && self.tried(field, named)?;
             if !is_built {
@@ -153,7 +138,7 @@ impl<'b, 'a> Builder<'b, 'a> {
     // Complains of updates that are not the length of a list.
     fn updates(&mut self, fields: &[Field<'a>]) -> Result<(), AllocError> {
         for field in fields {
-            let is_length = self.owner != Owner::Kind && Updated::of(field, fields).is_some();
+            let is_length = !self.owner.is_kind() && Updated::of(field, fields).is_some();
             if is_updated(field) && !is_length {
                 let wrong = self.wrong(
                     field.span,
@@ -182,7 +167,7 @@ impl<'b, 'a> Builder<'b, 'a> {
 
     /// The part of a field alone.
     pub(crate) fn leaf(&mut self, field: &Field<'a>, named: Named<'_>) -> Result<(), AllocError> {
-        let part = leaf(self.alloc, self.records, self.owner, field, named)?;
+        let part = leaf(self.alloc, self.records, field, named)?;
         self.items.push(part)?;
         Ok(())
     }
@@ -208,7 +193,7 @@ impl<'b, 'a> Builder<'b, 'a> {
     // A field that the record keeps.
     fn kept(&mut self, field: &Field<'a>, called: Named<'_>) -> Result<(), Stop> {
         let name = called.name;
-        let said = self.said(field)?;
+        let said = Said::of(field);
         self.fits(field, &said)?;
         self.padding(said.before, field)?;
         if let Some(bytes) = said.magic {
@@ -216,19 +201,7 @@ impl<'b, 'a> Builder<'b, 'a> {
             let named = words::marker(self.alloc, self.front.as_str(), name, "Magic")?;
             self.magic(bytes, named, what.as_str(), field.layout.order, field.span)?;
         }
-        match (said.count, said.size, said.cond) {
-            (Some(count), _, _) => self.after_head(field, called, count, Dependent::Counted, 1)?,
-            (_, Some((size, unit)), _) => {
-                self.after_head(field, called, size, Dependent::Filled, unit)?;
-            }
-            (_, _, Some(cond)) => self.after_head(field, called, cond, Dependent::Optional, 1)?,
-            (None, None, None) if said.is_rest => self.rest(field, called)?,
-            (None, None, None) => match (said.end, said.context) {
-                (Some(end), _) => self.until(field, called, end)?,
-                (None, Some(context)) => self.choice(field, called, context)?,
-                (None, None) => self.leaf(field, called)?,
-            },
-        }
+        self.part(field, called, &said)?;
         if self.is_ended && said.after > 0 {
             return self.wrong(
                 field.span,
@@ -238,6 +211,33 @@ impl<'b, 'a> Builder<'b, 'a> {
         }
         self.check_field(field, name, &said)?;
         self.padding(said.after, field)
+    }
+
+    // The part of a field without its magic, its padding and its checks.
+    fn part(
+        &mut self,
+        field: &Field<'a>,
+        called: Named<'_>,
+        said: &Said<'_, 'a>,
+    ) -> Result<(), Stop> {
+        if let Some(count) = said.count {
+            return self.after_head(field, called, count, Dependent::Counted, 1);
+        }
+        if let Some((size, unit)) = said.size {
+            return self.after_head(field, called, size, Dependent::Filled, unit);
+        }
+        if let Some(cond) = said.cond {
+            return self.after_head(field, called, cond, Dependent::Optional, 1);
+        }
+        if said.is_rest {
+            return self.rest(field, called);
+        }
+        match (said.end, said.context, said.width) {
+            (Some(end), _, _) => self.until(field, called, end),
+            (None, Some(context), _) => self.choice(field, called, context),
+            (None, None, Some((width, unit))) => self.wide(field, called, width, unit),
+            (None, None, None) => Ok(self.leaf(field, called)?),
+        }
     }
 
     // A count that the record does not keep.
@@ -266,7 +266,7 @@ impl<'b, 'a> Builder<'b, 'a> {
         if !is_alone || !count.counts(self.alloc, called.name)? {
             return self.no_count(field);
         }
-        let said = self.said(field)?;
+        let said = Said::of(field);
         self.fits(field, &said)?;
         let held = held_kind(self.alloc, field)?;
         let part = count.before(self.alloc, called, held.as_str())?;
@@ -320,51 +320,6 @@ impl<'b, 'a> Builder<'b, 'a> {
         Ok(())
     }
 
-    // What is said of a field, if all of it has a part.
-    fn said<'f>(&self, field: &'f Field<'a>) -> Result<Said<'f, 'a>, Stop> {
-        let mut said = Said {
-            magic: None,
-            count: None,
-            size: None,
-            end: None,
-            is_rest: false,
-            cond: None,
-            context: None,
-            assert: None,
-            equal: None,
-            before: 0,
-            after: 0,
-        };
-        for attribute in &field.attributes {
-            match attribute {
-                Attribute::Magic(bytes) => said.magic = Some(bytes),
-                Attribute::Count(expression) => said.count = Some(expression),
-                Attribute::BitsRead(expression) => said.size = Some((expression, 1)),
-                Attribute::BytesRead(expression) => said.size = Some((expression, 8)),
-                Attribute::Until(closure) => said.end = Some(closure),
-                Attribute::ReadAll => said.is_rest = true,
-                Attribute::Cond(expression) => said.cond = Some(expression),
-                Attribute::Context(token) => said.context = Some(*token),
-                Attribute::Assert(expression) => said.assert = Some(expression),
-                Attribute::AssertEq(expression) => said.equal = Some(expression),
-                Attribute::PadBefore(bits) => said.before = *bits,
-                Attribute::PadAfter(bits) => said.after = *bits,
-                Attribute::Update(_) => {}
-                Attribute::Bits(_)
-                | Attribute::Bytes(_)
-                | Attribute::Temp
-                | Attribute::TempValue(_) => {
-                    return self.wrong(
-                        field.span,
-                        "a width that a field says is not supported",
-                        "write a number, or a record for each width",
-                    );
-                }
-            }
-        }
-        Ok(said)
-    }
-
     // Complains of a type or an endian that has no part.
     fn fits(&self, field: &Field<'a>, said: &Said<'_, 'a>) -> Result<(), Stop> {
         self.gives(field, said.context)?;
@@ -375,38 +330,54 @@ impl<'b, 'a> Builder<'b, 'a> {
                 "write a record for each endian",
             );
         }
-        let is_dependent = said.count.is_some()
-            || said.size.is_some()
-            || said.cond.is_some()
-            || said.end.is_some()
-            || said.is_rest;
-        let is_checked = said.assert.is_some() || said.equal.is_some();
-        if is_dependent && is_checked {
+        let is_dependent = said.is_dependent();
+        if is_dependent && said.is_checked() {
             return self.wrong(
                 field.span,
                 "a check of a list or an option is not supported",
                 "check the fields that say whether it is there",
             );
         }
+        let is_number = number_kind(field).is_some();
+        if said.width.is_some() && (is_dependent || !is_number) {
+            return self.wrong(
+                field.span,
+                "a width that a field says, of more than one number, is not supported",
+                "write a record of the number and its width",
+            );
+        }
         let held = match (&field.kind, is_dependent) {
             (Type::Of(_, item), true) => &**item,
             (kind, _) => kind,
         };
-        if self.owner == Owner::Kind && (is_dependent || !self.records.is_copied(field)) {
-            return self.wrong(
-                field.span,
-                "memory in a kind of an enum is not supported",
-                "put it into a struct, after the enum",
-            );
+        if self.owner.is_kind() {
+            self.fits_kind(field, said.is_rest, is_dependent)?;
         }
         self.has_part(field, held)
+    }
+
+    // Complains of memory that a kind of an enum cannot have.
+    fn fits_kind(&self, field: &Field<'a>, is_rest: bool, is_dependent: bool) -> Result<(), Stop> {
+        let message = if is_rest {
+            "a list up to the end of the input, in a kind of an enum, is not supported"
+        } else if self.owner == Owner::LentKind {
+            return Ok(());
+        } else if is_dependent || !self.records.is_copied(field) {
+            "memory in a kind of an enum whose id a field says is not supported"
+        } else {
+            return Ok(());
+        };
+        self.wrong(
+            field.span,
+            message,
+            "put it into the struct that has the enum, after it",
+        )
     }
 
     // A list up to the end of the input.
     fn rest(&mut self, field: &Field<'a>, called: Named<'_>) -> Result<(), Stop> {
         let held = held_kind(self.alloc, field)?;
-        let lent = self.items.iter().filter(|it| it.is_lent).count();
-        self.is_nested = self.is_nested || lent > 1;
+        self.is_nested = self.is_nested || self.lent_from(0) > 1;
         let front = std::mem::replace(&mut self.items, Vec::new(self.alloc));
         self.items
             .push(rest(self.alloc, front, called, held.as_str())?)?;
@@ -450,36 +421,16 @@ impl<'b, 'a> Builder<'b, 'a> {
         }
     }
 
-    /// The parts that hold the fields an expression names, as one; all parts, if they lend memory.
-    /// A field of the last part is used in any case if that is said.
+    /// The parts that hold the fields an expression names, as one; all parts, if several of them
+    /// lend memory, or if one does and more is added to it than a check.
     pub(crate) fn head(
         &mut self,
         expression: &Expression<'a>,
-        is_last: bool,
+        is_checked: bool,
     ) -> Result<Part<'a>, AllocError> {
-        let mut first = self.items.len();
-        if is_last {
-            first = first.saturating_sub(1);
-        }
-        for (i, part) in self.items.iter().enumerate() {
-            let is_named = part
-                .places
-                .iter()
-                .any(|place| names(expression, place.name.as_str()));
-            if is_named && i < first {
-                first = i;
-            }
-        }
-        if first == self.items.len() {
-            first = first.saturating_sub(1);
-        }
-        let lent = self
-            .items
-            .iter()
-            .skip(first)
-            .filter(|it| it.is_lent)
-            .count();
-        if lent > 1 || (lent == 1 && !is_last) {
+        let mut first = self.first_named(expression);
+        let lent = self.lent_from(first);
+        if lent > 1 || (lent == 1 && !is_checked) {
             self.is_nested = true;
             first = 0;
         }
@@ -495,6 +446,25 @@ impl<'b, 'a> Builder<'b, 'a> {
         }
         self.items = kept;
         tuple(self.alloc, taken)
+    }
+
+    // Which part is the first that has a field of an expression; the last one, if none has.
+    fn first_named(&self, expression: &Expression<'a>) -> usize {
+        let is_named = |part: &Part<'_>| {
+            part.places
+                .iter()
+                .any(|place| names(expression, place.name.as_str()))
+        };
+        match self.items.iter().position(is_named) {
+            Some(first) => first,
+            None => self.items.len().saturating_sub(1),
+        }
+    }
+
+    // How many parts lend memory, from this one on.
+    fn lent_from(&self, first: usize) -> usize {
+        let parts = self.items.iter().skip(first);
+        parts.filter(|it| it.is_lent).count()
     }
 
     // The name of the type of parts. It is an alias if they are several.

@@ -8,7 +8,7 @@ use deku_markers::chosen::chosen;
 use deku_markers::computing::Computer;
 use deku_markers::marker;
 use deku_markers::marker::Marker;
-use deku_texts::part::{Named, Owner, Place};
+use deku_markers::part::{Named, Place};
 use deku_texts::records::Records;
 use deku_texts::refusal::Stop;
 use deku_texts::words;
@@ -26,16 +26,12 @@ impl<'b, 'a> Builder<'b, 'a> {
                 "`ctx` is not supported: values that are given to a field",
                 "move the fields that need them into this record",
             ),
-            (true, _) if self.owner == Owner::Kind => (
+            (true, _) if self.owner.is_kind() => (
                 "an enum whose id comes from a field, in a kind of an enum, is not supported",
                 "write a struct of it and of the field with its id, in place of it",
             ),
             (true, _) if !is_alone => (
                 "an enum whose id comes from a field, in another type, is not supported",
-                "write a struct of it and of the field with its id, in place of it",
-            ),
-            (true, true) if self.owner == Owner::Lent => (
-                "an enum whose id comes from a field, beside a list or an option, is not supported",
                 "write a struct of it and of the field with its id, in place of it",
             ),
             (true, true) => return Ok(()),
@@ -66,7 +62,7 @@ impl<'b, 'a> Builder<'b, 'a> {
         let id = self.id_of(context, wanted)?;
         let expression = Expression::Name(id);
         let name = called.name;
-        let mut head = self.head(&expression, true)?;
+        let mut head = self.head(&expression, false)?;
         let named = words::marker(self.alloc, self.front.as_str(), name, "Id")?;
         let (parts, lent) = self.aliases(&mut head, name)?;
         let owned = String::from_str(self.alloc, name)?;
@@ -77,8 +73,7 @@ impl<'b, 'a> Builder<'b, 'a> {
             field: owned.as_str(),
         };
         self.says(head.places.as_slice(), marker, id)?;
-        let owner = self.owner;
-        let part = chosen(self.alloc, owner, head, called, (named.as_str(), kind.text))?;
+        let part = chosen(self.alloc, head, called, (named.as_str(), kind.text))?;
         self.names.push(named)?;
         self.items.push(part)?;
         Ok(())

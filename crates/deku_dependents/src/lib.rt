@@ -6,5 +6,7 @@ mod choosing;
 mod constants;
 mod listing;
 mod refusing;
+mod said;
 pub mod temporary;
 pub mod updating;
+mod widths;

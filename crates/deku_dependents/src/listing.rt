@@ -6,8 +6,8 @@ use deku_description::syntax::{Closure, Type};
 use deku_markers::computing::Computer;
 use deku_markers::marker;
 use deku_markers::marker::Marker;
-use deku_texts::document::{Form, Text};
-use deku_texts::part::{Named, Part, Place};
+use deku_markers::part::{Named, Part, Place, field};
+use deku_texts::document::{Form, Text, joined};
 use deku_texts::refusal::Stop;
 use deku_texts::words;
 use deku_texts::wrapping::number_in;
@@ -35,28 +35,39 @@ pub(crate) fn list_part<'a>(
     called: Named<'_>,
     form: Listed<'_>,
 ) -> Result<Part<'a>, AllocError> {
-    let Named { name, access } = called;
     let Listed {
         part,
-        types,
+        types: [first, second],
         open,
         marker,
     } = form;
-    let held = if name == "items" {
-        String::from_str(alloc, name)?
-    } else {
-        format!(in alloc; "items: {name}")?
-    };
-    let items = format!(in alloc; "items: &self.{access}")?;
+    let reference = called.reference(alloc)?;
+    let items = field(alloc, "items", reference.as_str())?;
     let marked = format!(in alloc; "{marker}: PhantomData")?;
-    let term = format!(in alloc; "items = r.{access}")?;
+    let value = [items.as_str(), marked.as_str()];
+    let term = called.term(alloc)?;
+    let items_term = joined(alloc, "items = ", term.as_str())?;
     let marked_term = format!(in alloc; "{marker} = record {{}}")?;
-    let [first, second] = types;
-    let (kind, lent) = (
-        format!(in alloc; "{part}<")?,
-        format!(in alloc; "{part}Ref<")?,
-    );
-    let pattern = format!(in alloc; "{part} {{")?;
+    let terms = [items_term.as_str(), marked_term.as_str()];
+    let held = field(alloc, "items", called.name)?;
+    let kind = joined(alloc, part, "<")?;
+    let lent = joined(alloc, part, "Ref<")?;
+    let pattern = joined(alloc, part, " {")?;
+    let (places, names) = items_of(alloc, called.name)?;
+    Ok(Part {
+        kind: group(alloc, Form::Angle, kind.as_str(), &[first, second])?,
+        lent: group(alloc, Form::Angle, lent.as_str(), &["'a", first, second])?,
+        is_lent: true,
+        pattern: group(alloc, Form::Brace, pattern.as_str(), &[held.as_str(), ".."])?,
+        value: group(alloc, Form::Brace, open, &value)?,
+        term: group(alloc, Form::GhostBrace, "record {", &terms)?,
+        places,
+        names,
+    })
+}
+
+// Where the items of a list of this name are, and the names of its parts.
+fn items_of<'a>(alloc: Global, name: &str) -> Result<(Vec<Place<'a>>, Vec<String>), AllocError> {
     let mut places = Vec::new(alloc);
     places.push(Place {
         name: String::from_str(alloc, name)?,
@@ -66,21 +77,7 @@ pub(crate) fn list_part<'a>(
     })?;
     let mut names = Vec::new(alloc);
     names.push(String::from_str(alloc, name)?)?;
-    Ok(Part {
-        kind: group(alloc, Form::Angle, kind.as_str(), &[first, second])?,
-        lent: group(alloc, Form::Angle, lent.as_str(), &["'a", first, second])?,
-        is_lent: true,
-        pattern: group(alloc, Form::Brace, pattern.as_str(), &[held.as_str(), ".."])?,
-        value: group(alloc, Form::Brace, open, &[items.as_str(), marked.as_str()])?,
-        term: group(
-            alloc,
-            Form::GhostBrace,
-            "record {",
-            &[term.as_str(), marked_term.as_str()],
-        )?,
-        places,
-        names,
-    })
+    Ok((places, names))
 }
 
 fn group(alloc: Global, form: Form, open: &str, words: &[&str]) -> Result<Text, AllocError> {
@@ -116,15 +113,7 @@ impl<'b, 'a> Builder<'b, 'a> {
             lent: None,
             field: owned.as_str(),
         };
-        let (places, is_struct) = self.item_places(field, end)?;
-        let mut computer = Computer::new(self.alloc, places.as_slice(), self.constants);
-        computer.from = ITEM;
-        if is_struct {
-            computer.owner = Some(name);
-        }
-        let computed = computer.value(&end.last)?;
-        self.is_truth(&computed, computer.guards.is_empty(), field.span)?;
-        marker::last(&mut self.markers, marker, &computer, &computed)?;
+        self.ends(field, end, marker)?;
         let open = format!(in self.alloc; "UntilRef::<_, {named}> {{")?;
         let form = Listed {
             part: "Until",
@@ -135,6 +124,24 @@ impl<'b, 'a> Builder<'b, 'a> {
         self.items.push(list_part(self.alloc, called, form)?)?;
         self.names.push(named)?;
         Ok(())
+    }
+
+    // Appends the type that says which item of a list is its last.
+    fn ends(
+        &mut self,
+        field: &Field<'a>,
+        end: &Closure<'a>,
+        marker: Marker<'_>,
+    ) -> Result<(), Stop> {
+        let (places, is_struct) = self.item_places(field, end)?;
+        let mut computer = Computer::new(self.alloc, places.as_slice(), self.constants);
+        computer.from = ITEM;
+        if is_struct {
+            computer.owner = Some(end.name.text);
+        }
+        let computed = computer.value(&end.last)?;
+        self.is_truth(&computed, computer.guards.is_empty(), field.span)?;
+        marker::last(&mut self.markers, marker, &computer, &computed)
     }
 
     // Where the numbers of an item are: the item by its name, or the fields of a struct by theirs.

@@ -4,8 +4,8 @@ use crate::structs::{derives, docs, item, parts_alias, term_of, traits, value_of
 use deku_attributes::model::{Case, Endian, Id, IdSource, Ids, Order, Record};
 use deku_dependents::building::field_name;
 use deku_description::syntax::Shape;
+use deku_markers::part::{Part, field};
 use deku_texts::document::{Form, Text, joined as joined_text, start};
-use deku_texts::part::Part;
 use deku_texts::words::{quoted, snake};
 use deku_texts::wrapping::field_kind;
 use std::alloc::{AllocError, Global};
@@ -19,6 +19,17 @@ pub(crate) struct Built<'c, 'a> {
     pub(crate) kept: Option<String>,
     /// The parts of the other fields.
     pub(crate) part: Part<'a>,
+    /// Whether the enum holds memory.
+    pub(crate) is_lent: bool,
+}
+
+// What the kinds of a type hold.
+#[derive(Clone, Copy, PartialEq, Eq)]
+enum Held {
+    // The parts of their fields.
+    Parts,
+    // Nothing but their ids.
+    Nothing,
 }
 
 /// Appends an enum.
@@ -27,7 +38,8 @@ pub(crate) fn declaration(
     record: &Record<'_>,
     kinds: &[Built<'_, '_>],
 ) -> Result<(), AllocError> {
-    derives(out, record, true, false)?;
+    let is_lent = kinds.iter().any(|kind| kind.is_lent);
+    derives(out, record, !is_lent, false)?;
     let name = record.name.text;
     writeln!(out, "pub enum {name} {{")?;
     // If one kind with named fields has no room on a line, none is on one.
@@ -114,12 +126,16 @@ pub(crate) fn implementation(
     let name = record.name.text;
     let alloc = *out.allocator();
     let is_given = matches!(ids.source, IdSource::Context(_));
+    let held = Held::Parts;
     if is_given {
-        parts_alias(out, name, "Kinds", &tree(alloc, kinds)?)?;
+        parts_alias(out, name, "Kinds", &tree(alloc, kinds, held)?)?;
     } else {
-        parts_alias(out, name, "Parts", &parts_kind(alloc, ids, kinds)?)?;
+        parts_alias(out, name, "Parts", &parts_kind(alloc, ids, kinds, held)?)?;
     }
     there_and_back(out, name, kinds, is_given)?;
+    if kinds.iter().any(|kind| kind.is_lent) {
+        return lent(out, name, ids, kinds);
+    }
     writeln!(out, "\nimpl ToParts for {name} {{")?;
     out.push_str("    fn parts(&self) -> Self::Parts {\n        match self {")?;
     for (i, kind) in kinds.iter().enumerate() {
@@ -130,6 +146,88 @@ pub(crate) fn implementation(
         return Ok(());
     }
     traits(out, name, "write_record(self, writer, ctx)")
+}
+
+// Appends the traits of an enum whose kinds are written where they are, and the type of their ids.
+fn lent(
+    out: &mut String,
+    name: &str,
+    ids: Ids<'_>,
+    kinds: &[Built<'_, '_>],
+) -> Result<(), AllocError> {
+    let alloc = *out.allocator();
+    write!(
+        out,
+        "\n// The ids of {name}, in their order.\ntype {name}Ids = "
+    )?;
+    parts_kind(alloc, ids, kinds, Held::Nothing)?.print(out, 0, 1, false)?;
+    out.push_str(";\n")?;
+    let mut body = String::from_str(alloc, "match self {")?;
+    for (i, kind) in kinds.iter().enumerate() {
+        written(&mut body, name, kind, (i, kinds.len()))?;
+    }
+    body.push_str("\n        }")?;
+    traits(out, name, body.as_str())
+}
+
+// Appends how a kind is written.
+fn written(
+    out: &mut String,
+    name: &str,
+    kind: &Built<'_, '_>,
+    place: (usize, usize),
+) -> Result<(), AllocError> {
+    let alloc = *out.allocator();
+    start(out, 12)?;
+    own(alloc, name, kind, false)?.print(out, 12, 5, false)?;
+    out.push_str(" => {")?;
+    let reference = reference(&kind.part);
+    if reference == "&parts" {
+        start(out, 16)?;
+        out.push_str("let parts = ")?;
+        kind.part.value.print(out, 16, 1, false)?;
+        out.push(';')?;
+    }
+    start(out, 16)?;
+    write!(out, "let id: {name}Ids =")?;
+    let nothing = Text::word(alloc, "()")?;
+    let id = stood(alloc, Form::Round, kind, &nothing, place)?;
+    bound(out, &Text::one(alloc, Form::Round, "Enum::new(", id)?)?;
+    start(out, 16)?;
+    write!(out, "write_kind(&id, {reference}, writer)")?;
+    start(out, 12)?;
+    out.push('}')
+}
+
+// A reference to the parts of a kind: the field itself, if it is alone and nothing is around it.
+// One of the name of the local `id` is a local of another name.
+fn reference<'p>(part: &'p Part<'_>) -> &'p str {
+    let field = match part.value.as_word() {
+        Some("()") => Some("&()"),
+        Some(word) if part.is_lent => Some(word),
+        Some(word) => word.strip_prefix('*'),
+        None => None,
+    };
+    match field {
+        Some(field) if field != "id" => field,
+        _ => "&parts",
+    }
+}
+
+// The columns of a call on a line of its own: 60 for what is in its brackets.
+const CALL: usize = 60 + "Enum::new()".len();
+
+// Appends the call that a local of an arm is bound to, on a line of its own if it has room only
+// there.
+fn bound(out: &mut String, value: &Text) -> Result<(), AllocError> {
+    let is_line = value.is_line(out.as_str(), 2);
+    if !is_line && value.columns() <= CALL {
+        start(out, 20)?;
+    } else {
+        out.push(' ')?;
+    }
+    value.print(out, 16, 1, false)?;
+    out.push(';')
 }
 
 // Appends the parts of an enum, and the enum that parts make.
@@ -164,7 +262,12 @@ fn there_and_back(
 }
 
 // The type of the id and the kinds.
-fn parts_kind(alloc: Global, ids: Ids<'_>, kinds: &[Built<'_, '_>]) -> Result<Text, AllocError> {
+fn parts_kind(
+    alloc: Global,
+    ids: Ids<'_>,
+    kinds: &[Built<'_, '_>],
+    held: Held,
+) -> Result<Text, AllocError> {
     let is_little = matches!(ids.layout.endian, Endian::Little | Endian::Unsaid);
     let open = match (ids.layout.order, is_little) {
         (Order::Msb, true) if ids.bits > 8 => "MsbLeEnum<",
@@ -174,16 +277,16 @@ fn parts_kind(alloc: Global, ids: Ids<'_>, kinds: &[Built<'_, '_>]) -> Result<Te
     };
     let bits = ids.bits;
     let mut items = Vec::new(alloc);
-    items.push(tree(alloc, kinds)?)?;
+    items.push(tree(alloc, kinds, held)?)?;
     items.push(Text::of(format!(in alloc; "{bits}")?))?;
     Text::group(alloc, Form::Angle, open, items)
 }
 
 // The type of kinds, of which each half is one.
-fn tree(alloc: Global, kinds: &[Built<'_, '_>]) -> Result<Text, AllocError> {
+fn tree(alloc: Global, kinds: &[Built<'_, '_>], held: Held) -> Result<Text, AllocError> {
     let mut texts = Vec::new(alloc);
     for kind in kinds {
-        texts.push(kind_type(alloc, kind)?)?;
+        texts.push(kind_type(alloc, kind, held)?)?;
     }
     // Joins neighbours until one is left.
     for _ in 0..64 {
@@ -239,14 +342,17 @@ fn sides(alloc: Global, place: usize, count: usize) -> Result<Vec<bool>, AllocEr
     Ok(sides)
 }
 
-fn kind_type(alloc: Global, kind: &Built<'_, '_>) -> Result<Text, AllocError> {
+fn kind_type(alloc: Global, kind: &Built<'_, '_>, held: Held) -> Result<Text, AllocError> {
     let (open, first, last) = match kind.case.id {
         Id::Number(number) => ("Kind<", Some(number), None),
         Id::Range(low, high) => ("InRange<", Some(low), Some(high)),
         Id::Rest | Id::Pattern => ("Otherwise<", None, None),
     };
     let mut items = Vec::new(alloc);
-    items.push(kind.part.kind.copy(alloc)?)?;
+    items.push(match held {
+        Held::Parts => kind.part.kind.copy(alloc)?,
+        Held::Nothing => Text::word(alloc, "()")?,
+    })?;
     for id in [first, last] {
         if let Some(id) = id {
             items.push(Text::of(format!(in alloc; "{id}")?))?;
@@ -422,6 +528,7 @@ fn own(alloc: Global, name: &str, kind: &Built<'_, '_>, is_made: bool) -> Result
         let name = field_name(alloc, field, i)?;
         if is_made {
             let parts = match (&kind.kept, i) {
+                (Some(_), _) if kind.part.is_lent => None,
                 (Some(_), 0) => Some("kept.id"),
                 (Some(_), _) => Some("kept.value"),
                 (None, _) => None,
@@ -448,6 +555,12 @@ fn stood(
     let value = value.copy(alloc)?;
     let mut text = match (&kind.kept, form) {
         (None, _) => Text::one(alloc, form, "Kind(", value)?,
+        (Some(kept), Form::Pattern) if kind.part.is_lent => {
+            let mut items = Vec::new(alloc);
+            items.push(Text::of(field(alloc, "id", kept.as_str())?))?;
+            items.push(value.after(alloc, "value: ")?)?;
+            Text::group(alloc, Form::Brace, "InRange {", items)?
+        }
         (Some(_), Form::Pattern) => Text::word(alloc, "kept")?,
         (Some(kept), _) => {
             let kept = kept.as_str();

@@ -6,17 +6,20 @@ use std::alloc::{AllocError, Global};
 use std::fmt::Write as _;
 
 // The names of deku_symmetry, in the order in which `rt fmt` has them.
-const PARTS: [&str; 50] = [
+const PARTS: [&str; 55] = [
     "Assert",
     "Be",
     "Before",
     "Check",
     "CheckLaw",
     "ChosenBy",
+    "ChosenByRef",
     "Condition",
     "ConditionLaw",
     "Constant",
     "ConstantLaw",
+    "ContextOf",
+    "ContextOfLaw",
     "CountOf",
     "CountOfLaw",
     "CountedBy",
@@ -53,11 +56,16 @@ const PARTS: [&str; 50] = [
     "SizedBy",
     "Symmetric",
     "ToParts",
+    "UnderHead",
     "Until",
     "UntilRef",
     "read_record",
+    "write_kind",
     "write_record",
 ];
+
+// The names of contexts.
+const CONTEXTS: [&str; 4] = ["BitSize", "ByteSize", "Endian", "Order"];
 
 // The names of deku.
 const PRELUDE: [&str; 8] = [
@@ -120,6 +128,7 @@ pub(crate) fn imports(
     out.push_str("ghost use Rattle.deku.specs.Composing.{Then};\n")?;
     out.push_str("ghost use Rattle.deku.specs.Shapes.{Shows};\n")?;
     refusals(out, term.as_str())?;
+    contexts(out, term.as_str())?;
     made(out, term.as_str())?;
     kinds(out, module, path)?;
     out.push('\n')?;
@@ -129,6 +138,7 @@ pub(crate) fn imports(
         }
     }
     used(out, "deku::cstring", &["CString"], code.as_str())?;
+    used(out, "deku::ctx", &CONTEXTS, code.as_str())?;
     used(out, "deku::device", &["Sink", "Source"], code.as_str())?;
     used(out, "deku::prelude", &PRELUDE, code.as_str())?;
     used(out, "deku_c_records", &["ForC"], code.as_str())?;
@@ -147,6 +157,26 @@ fn refusals(out: &mut String, text: &str) -> Result<(), AllocError> {
     out.push_str("DekuError.{DekuError as Refusal};\n")?;
     out.push_str("ghost use Rattle.deku.specs.declared.error.DekuError.TheVariants.{Parse};\n")?;
     out.push_str("ghost use Rattle.deku.specs.Faults.{Tells};\n")
+}
+
+// Appends the words for contexts that ghost text has.
+fn contexts(out: &mut String, text: &str) -> Result<(), AllocError> {
+    let mut endians = Vec::new(*out.allocator());
+    for (word, found) in [("Big", "λ p. (Big, "), ("Little", "λ p. (Little, ")] {
+        if text.contains(found) {
+            endians.push(word)?;
+        }
+    }
+    if !endians.is_empty() {
+        let words = endians.as_slice().join(*out.allocator(), ", ")?;
+        let words = words.as_str();
+        out.push_str("ghost use Rattle.deku.specs.declared.ctx.Endian.TheVariants")?;
+        writeln!(out, ".{{{words}}};")?;
+    }
+    if text.contains(", Lsb0) }") {
+        out.push_str("ghost use Rattle.deku.specs.declared.ctx.Order.TheVariants.{Lsb0};\n")?;
+    }
+    Ok(())
 }
 
 // Appends the words for parts of one value that ghost text has.

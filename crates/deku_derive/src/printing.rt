@@ -9,7 +9,7 @@ use deku_attributes::model::{Case, Field, Form, Id, IdSource, Ids, Module, Recor
 use deku_dependents::building::{Builder, field_name};
 use deku_description::syntax::{Constant, Shape, Type};
 use deku_markers::marker::zeros;
-use deku_texts::part::{Owner, Place};
+use deku_markers::part::{Owner, Place};
 use deku_texts::records::Records;
 use deku_texts::refusal::Stop;
 use deku_texts::words;
@@ -272,6 +272,7 @@ impl<'b, 'a> Printer<'b, 'a> {
         path: Option<&str>,
     ) -> Result<(), AllocError> {
         self.may_be_enum(record, ids, cases, path)?;
+        let owner = self.kind_owner(record)?;
         let mut kinds = Vec::new(self.alloc);
         let mut markers = String::new(self.alloc);
         for case in cases {
@@ -279,23 +280,42 @@ impl<'b, 'a> Printer<'b, 'a> {
             let name = case.name.text;
             let front = words::marker(self.alloc, record.name.text, name, "")?;
             let front = front.as_str();
-            let mut builder = Builder::new(
-                self.alloc,
-                self.records,
-                self.constants,
-                front,
-                Owner::Kind,
-            )?;
+            let mut builder = Builder::new(self.alloc, self.records, self.constants, front, owner)?;
             let skipped = if kept.is_some() { 1 } else { 0 };
             builder.fields(case.fields.as_slice(), skipped)?;
             let part = builder.whole()?;
             markers.push_str(builder.markers.as_str())?;
             self.built(record, builder)?;
-            kinds.push(Built { case, kept, part })?;
+            let is_lent = owner.is_lent();
+            kinds.push(Built {
+                case,
+                kept,
+                part,
+                is_lent,
+            })?;
         }
         enums::declaration(&mut self.out, record, kinds.as_slice())?;
         self.out.push_str(markers.as_str())?;
         enums::implementation(&mut self.out, record, ids, kinds.as_slice())
+    }
+
+    // What the fields of the kinds of an enum belong to. The type of the ids of kinds that hold
+    // memory is noted.
+    fn kind_owner(&mut self, record: &Record<'a>) -> Result<Owner, AllocError> {
+        let name = record.name.text;
+        if is_given(record) || self.records.is_copied_record(name) {
+            return Ok(Owner::Kind);
+        }
+        let ids = words::marker(self.alloc, name, "", "Ids")?;
+        if self.has_name(ids.as_str()) {
+            self.complain(
+                record.name,
+                "an enum whose ids have the name of another type",
+                "give it another name",
+            )?;
+        }
+        self.names.push(ids)?;
+        Ok(Owner::LentKind)
     }
 
     // Complains of an enum that has no part.

@@ -7,8 +7,8 @@ use deku_attributes::model::{Field, Record};
 use deku_dependents::building::field_name;
 use deku_dependents::temporary::is_temporary;
 use deku_description::syntax::Shape;
+use deku_markers::part::{Owner, Part};
 use deku_texts::document::{Form, Text};
-use deku_texts::part::{Owner, Part};
 use deku_texts::words::{quoted, snake};
 use deku_texts::wrapping::field_kind;
 use std::alloc::{AllocError, Global};
@@ -163,8 +163,13 @@ pub(crate) fn traits(out: &mut String, name: &str, body: &str) -> Result<(), All
     let meaning = format!(in *out.allocator(); "λ v. ⟦<{name}Parts as DekuWriter<()>>⟧.meaning")?;
     let parts = format!(in *out.allocator(); "(⟦<{name} as FromParts>⟧.parts_of v)")?;
     member(out, "meaning", meaning.as_str(), parts.as_str())?;
+    let ctx = if body.contains("ctx") { "ctx" } else { "_ctx" };
     out.push_str("    #[inline(always)]\n    fn to_writer<W: Sink>(&self, ")?;
-    out.push_str("writer: &mut Writer<W>, ctx: ()) -> Result<(), DekuError> {\n        ")?;
+    writeln!(
+        out,
+        "writer: &mut Writer<W>, {ctx}: ()) -> Result<(), DekuError> {{"
+    )?;
+    out.push_str("        ")?;
     writeln!(out, "{body}\n    }}\n}}")?;
     writeln!(out, "\nimpl Record<()> for {name} {{")?;
     out.push_str("    ghost reads = { λ c b s r u m. m };\n\n")?;

@@ -56,7 +56,7 @@ struct S { k: u8, #[deku(ctx = \"*k\")] e: E }",
     (
         "#[deku(ctx = \"k: u8\", id = \"k\")]
 enum E { #[deku(id = 1)] A { n: u8, #[deku(count = \"n\")] v: Vec<u8> } }",
-        "2:61 memory in a kind of an enum is not supported",
+        "2:61 memory in a kind of an enum whose id a field says is not supported",
     ),
     (
         "#[deku(ctx = \"k: u8\", id = \"k\")] enum E { #[deku(id = 1)] A(u8), #[deku(id = 2)] B }
@@ -88,13 +88,14 @@ struct S { k: u8, l: u8, #[deku(ctx = \"*k, *l\")] e: E, #[deku(ctx = \"*k + 1\"
     ),
     (
         "#[deku(ctx = \"k: u8\", id = \"k\")] enum E { #[deku(id = 1)] A(u8), #[deku(id = 2)] B }
-struct S { k: u8, #[deku(count = \"k\")] v: Vec<E>, #[deku(ctx = \"*k\", cond = \"*k == 1\")] o: Option<E>,
+struct S { k: u8, #[deku(count = \"k\")] v: Vec<E>,
+#[deku(ctx = \"*k\", cond = \"*k == 1\")] o: Option<E>,
 #[deku(ctx = \"*k\")] a: [E; 2], t: (u8, E), b: Box<E> }",
         "2:43 an enum whose id comes from a field, in another type, is not supported
-2:92 an enum whose id comes from a field, in another type, is not supported
-3:24 an enum whose id comes from a field, in another type, is not supported
-3:35 an enum whose id comes from a field, in another type, is not supported
-3:47 an enum whose id comes from a field, in another type, is not supported",
+3:42 an enum whose id comes from a field, in another type, is not supported
+4:24 an enum whose id comes from a field, in another type, is not supported
+4:35 an enum whose id comes from a field, in another type, is not supported
+4:47 an enum whose id comes from a field, in another type, is not supported",
     ),
     (
         "#[deku(ctx = \"k: u8\", id = \"k\")] enum E { #[deku(id = 1)] A(u8), #[deku(id = 2)] B }
@@ -117,13 +118,12 @@ struct S { k: u8, #[deku(ctx = \"*k\")] e: E }",
     (
         "#[deku(ctx = \"k: u8\", id = \"k\")] enum E { #[deku(id = 1)] A(u8), #[deku(id = 2)] B }
 struct S { k: u8, #[deku(ctx = \"*k\")] e: E, #[deku(count = \"e\")] v: Vec<u8> }",
-        "2:42 an enum whose id comes from a field, beside a list or an option, is not supported
-2:61 a field in an expression that is no number from 0 and no truth value",
+        "2:61 a field in an expression that is no number from 0 and no truth value",
     ),
     (
         "#[deku(ctx = \"k: u8\", id = \"k\")] enum E { #[deku(id = 1)] A(u8), #[deku(id = 2)] B }
-struct S { k: u8, #[deku(count = \"k\")] v: Vec<u8>, #[deku(ctx = \"*k\")] e: E }",
-        "2:75 an enum whose id comes from a field, beside a list or an option, is not supported",
+struct S { k: u8, #[deku(count = \"k\")] v: Vec<u8>, #[deku(ctx = \"*k\")] e: E, z: u8 }",
+        "2:81 a field after a list or an option that has another one in front",
     ),
 ];
 

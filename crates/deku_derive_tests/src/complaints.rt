@@ -62,8 +62,7 @@ struct B { #[deku(temp, temp_value = \"1\")] a: u8 }",
         "struct A { #[deku(bits = 9)] a: u8, #[deku(skip)] b: Vec<u8>, #[deku(bits = \"a\")] c: u8 }",
         "1:19 a width of 9 bits for a type of 8
 1:44 `skip` is not supported: a field without bits is not read back as it was written
-1:54 a `Vec` that does not say where it ends
-1:86 a width that a field says is not supported",
+1:54 a `Vec` that does not say where it ends",
     ),
     (
         "struct A { #[deku(bits = 4, bytes = 1)] a: u8 }",
@@ -174,7 +173,7 @@ struct B { #[deku(temp, temp_value = \"1\")] a: u8 }",
 ];
 
 // Descriptions that deku takes and that have no module.
-const UNPRINTED: [(&str, &str); 48] = [
+const UNPRINTED: [(&str, &str); 51] = [
     (
         "#[deku(id_type = \"u8\")] enum E {
          #[deku(id_pat = \"2..=6\")] A, #[deku(id_pat = \"_\")] B }",
@@ -208,8 +207,8 @@ const UNPRINTED: [(&str, &str); 48] = [
     ),
     (
         "#[deku(id_type = \"u8\")] enum E {
-         #[deku(id = 1)] A { n: u8, #[deku(count = \"n\")] v: Vec<u8> } }",
-        "2:61 memory in a kind of an enum is not supported",
+         #[deku(id = 1)] A { n: u8, #[deku(read_all)] v: Vec<u8> } }",
+        "2:58 a list up to the end of the input, in a kind of an enum, is not supported",
     ),
     (
         "struct A { #[deku(count = \"3\")] v: Vec<u8> }",
@@ -287,8 +286,9 @@ const UNPRINTED: [(&str, &str); 48] = [
     ),
     (
         "#[deku(id_type = \"u8\")]
-enum A { #[deku(id = 1)] B(#[deku(until = \"|v: &u8| *v == 0\")] Vec<u8>) }",
-        "2:64 memory in a kind of an enum is not supported",
+enum A { #[deku(id = 1)] B { f: bool, n: u8, #[deku(count = \"n\")] v: Vec<u8>,
+#[deku(cond = \"f\")] o: Option<u8>, z: u8 } }",
+        "3:39 a field after a list or an option that has another one in front",
     ),
     (
         "struct A { n: u8, #[deku(until = \"|v: &u8| *v == 0\")] v: Vec<u8>,
@@ -369,8 +369,20 @@ enum A { #[deku(id = 1)] B { #[deku(update = \"self.v.len()\")] n: u8 } }",
         "2:66 an update that is not the length of a list of the struct",
     ),
     (
-        "struct A { n: u8, #[deku(bits = \"n\")] v: u8 }",
-        "1:42 a width that a field says is not supported",
+        "struct A { n: u8, #[deku(bits = \"n\")] v: [u8; 2] }",
+        "1:42 a width that a field says, of more than one number, is not supported",
+    ),
+    (
+        "struct A { n: u8, #[deku(bits = \"n - 1\")] v: u8 }",
+        "1:46 a width that is not one field",
+    ),
+    (
+        "struct A { n: u8, m: u8, #[deku(bytes = \"n * m\")] v: u16 }",
+        "1:54 a width that is not one field",
+    ),
+    (
+        "const C: u8 = 4; struct A { #[deku(bits = \"C * 1\")] v: u8 }",
+        "1:56 a width with no field in front",
     ),
     (
         "#[deku(magic = b\"123456789\")] struct A { n: u8 }",

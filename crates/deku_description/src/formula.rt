@@ -33,7 +33,8 @@ pub fn formula<'a>(
     }
 }
 
-/// The closure in a text of an attribute that says which item is the last, or what is wrong with it.
+/// The closure in a text of an attribute that says which item is the last, or what is wrong with
+/// it.
 ///
 /// # Errors
 ///

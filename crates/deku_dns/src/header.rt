@@ -11,10 +11,13 @@
 //! |                     additionals                     |
 //! +-----------------------------------------------------+
 //! ```
+//!
+//! Printed by `derive` from `header.rs`.
 
 ghost use Rattle.std.specs.Prelude.{refl};
 ghost use Rattle.deku.specs.Composing.{Then};
 ghost use Rattle.deku.specs.Shapes.{Shows};
+ghost use Rattle.deku_symmetry.specs.Fields.{be, msb};
 
 use deku::device::{Sink, Source};
 use deku::prelude::{
@@ -23,7 +26,7 @@ use deku::prelude::{
 use deku_symmetry::{Be, FromParts, Msb, Record, ToParts, read_record, write_record};
 
 /// The header of a message.
-#[derive(Debug, PartialEq, Eq, Drop)]
+#[derive(Debug, Clone, Copy, PartialEq, Eq)]
 pub struct Header {
     /// The identification, which the answer to a question repeats.
     pub identification: u16,
@@ -53,61 +56,87 @@ pub struct Header {
     pub additionals: u16,
 }
 
-/// The fields, in order.
-pub type Parts = (
-    Be<u16>,
-    (Msb<u8, 1>, Msb<u8, 4>, Msb<u8, 1>, Msb<u8, 1>),
-    (Msb<u8, 1>, Msb<u8, 1>, Msb<u8, 3>, Msb<u8, 4>),
-    (Be<u16>, Be<u16>, Be<u16>, Be<u16>),
+impl Header {
+    /// The names of its parts, in their order.
+    pub const FIELDS: [&'static str; 13] = [
+        "identification",
+        "response",
+        "opcode",
+        "authoritative",
+        "truncated",
+        "recursion_desired",
+        "recursion_available",
+        "reserved",
+        "response_code",
+        "questions",
+        "answers",
+        "authorities",
+        "additionals",
+    ];
+}
+
+// The parts of Header, in their order.
+type HeaderParts = (
+    (
+        Be<u16>,
+        Msb<u8, 1>,
+        Msb<u8, 4>,
+        Msb<u8, 1>,
+        Msb<u8, 1>,
+        Msb<u8, 1>,
+        Msb<u8, 1>,
+        Msb<u8, 3>,
+    ),
+    (Msb<u8, 4>, Be<u16>, Be<u16>, Be<u16>, Be<u16>),
 );
 
 impl FromParts for Header {
-    type Parts = Parts;
+    type Parts = HeaderParts;
 
     ghost parts_of = { λ r. (
-      record { 0 = r.identification },
       (
-        record { 0 = r.response },
-        record { 0 = r.opcode },
-        record { 0 = r.authoritative },
-        record { 0 = r.truncated },
+        be r.identification,
+        msb r.response,
+        msb r.opcode,
+        msb r.authoritative,
+        msb r.truncated,
+        msb r.recursion_desired,
+        msb r.recursion_available,
+        msb r.reserved,
       ),
-      (
-        record { 0 = r.recursion_desired },
-        record { 0 = r.recursion_available },
-        record { 0 = r.reserved },
-        record { 0 = r.response_code },
-      ),
-      (
-        record { 0 = r.questions },
-        record { 0 = r.answers },
-        record { 0 = r.authorities },
-        record { 0 = r.additionals },
-      ),
+      (msb r.response_code, be r.questions, be r.answers, be r.authorities, be r.additionals),
     ) };
 
     ghost record_of = { λ p. record {
-      identification = p.0.0;
-      response = p.1.0.0;
-      opcode = p.1.1.0;
-      authoritative = p.1.2.0;
-      truncated = p.1.3.0;
-      recursion_desired = p.2.0.0;
-      recursion_available = p.2.1.0;
-      reserved = p.2.2.0;
-      response_code = p.2.3.0;
-      questions = p.3.0.0;
-      answers = p.3.1.0;
-      authorities = p.3.2.0;
-      additionals = p.3.3.0;
+      identification = p.0.0.0;
+      response = p.0.1.0;
+      opcode = p.0.2.0;
+      authoritative = p.0.3.0;
+      truncated = p.0.4.0;
+      recursion_desired = p.0.5.0;
+      recursion_available = p.0.6.0;
+      reserved = p.0.7.0;
+      response_code = p.1.0.0;
+      questions = p.1.1.0;
+      answers = p.1.2.0;
+      authorities = p.1.3.0;
+      additionals = p.1.4.0;
     } };
 
     fn from_parts(parts: Self::Parts) -> Self {
-        let (Be(identification), first, second, counts) = parts;
-        let (Msb(response), Msb(opcode), Msb(authoritative), Msb(truncated)) = first;
-        let (Msb(recursion_desired), Msb(recursion_available), Msb(reserved), Msb(response_code)) =
-            second;
-        let (Be(questions), Be(answers), Be(authorities), Be(additionals)) = counts;
+        let (
+            (
+                Be(identification),
+                Msb(response),
+                Msb(opcode),
+                Msb(authoritative),
+                Msb(truncated),
+                Msb(recursion_desired),
+                Msb(recursion_available),
+                Msb(reserved),
+            ),
+            (Msb(response_code), Be(questions), Be(answers), Be(authorities), Be(additionals)),
+        ) = parts;
         Header {
             identification,
             response,
@@ -131,20 +160,18 @@ impl FromParts for Header {
 impl ToParts for Header {
     fn parts(&self) -> Self::Parts {
         (
-            Be(self.identification),
             (
+                Be(self.identification),
                 Msb(self.response),
                 Msb(self.opcode),
                 Msb(self.authoritative),
                 Msb(self.truncated),
-            ),
-            (
                 Msb(self.recursion_desired),
                 Msb(self.recursion_available),
                 Msb(self.reserved),
-                Msb(self.response_code),
             ),
             (
+                Msb(self.response_code),
                 Be(self.questions),
                 Be(self.answers),
                 Be(self.authorities),
@@ -154,33 +181,32 @@ impl ToParts for Header {
     }
 }
 
-impl Record<()> for Header {
-    ghost reads = { λ c b s r u m. m };
-
-    ghost writes = { λ c v b s r u m. m };
-}
-
 impl DekuReader<()> for Header {
-    ghost no_read_ahead = { ⟦<Parts as DekuReader<()>>⟧.no_read_ahead };
+    ghost no_read_ahead = { ⟦<HeaderParts as DekuReader<()>>⟧.no_read_ahead };
 
-    ghost meaning = { λ _. Then (⟦<Parts as DekuReader<()>>⟧.meaning tt)
+    ghost meaning = { λ c. Then (⟦<HeaderParts as DekuReader<()>>⟧.meaning c)
         (Shows ⟦<Header as FromParts>⟧.parts_of) };
 
-    fn from_reader_with_ctx<R: Source>(
-        reader: &mut Reader<R>,
-        _ctx: (),
-    ) -> Result<Self, DekuError> {
-        read_record(reader, ())
+    #[inline(always)]
+    fn from_reader_with_ctx<R: Source>(reader: &mut Reader<R>, ctx: ()) -> Result<Self, DekuError> {
+        read_record(reader, ctx)
     }
 }
 
 impl DekuWriter<()> for Header {
-    ghost meaning = { λ v _. ⟦<Parts as DekuWriter<()>>⟧.meaning
-        (⟦<Header as FromParts>⟧.parts_of v) tt };
+    ghost meaning = { λ v. ⟦<HeaderParts as DekuWriter<()>>⟧.meaning
+        (⟦<Header as FromParts>⟧.parts_of v) };
 
-    fn to_writer<W: Sink>(&self, writer: &mut Writer<W>, _ctx: ()) -> Result<(), DekuError> {
-        write_record(self, writer, ())
+    #[inline(always)]
+    fn to_writer<W: Sink>(&self, writer: &mut Writer<W>, ctx: ()) -> Result<(), DekuError> {
+        write_record(self, writer, ctx)
     }
+}
+
+impl Record<()> for Header {
+    ghost reads = { λ c b s r u m. m };
+
+    ghost writes = { λ c v b s r u m. m };
 }
 
 impl DekuContainerRead for Header {}

@@ -14,9 +14,12 @@ use deku::prelude::{
     DekuContainerRead, DekuContainerWrite, DekuError, DekuReader, DekuWriter, Reader, Writer,
 };
 use deku_symmetry::{
-    Counted, FromParts, ItemCount, ItemCountLaw, Last, LastLaw, Record, ToParts, read_record,
-    write_counted, write_record,
+    Counted, FromParts, ItemCount, ItemCountLaw, Last, LastLaw, Record, ToParts, Until,
+    read_record, write_counted, write_record,
 };
+
+/// A name: its labels, of which the empty one is the last.
+pub type Name = Until<Label, NameLast>;
 
 /// The length of a label: a byte. More than 63 is not a length, so a pointer to another name is
 /// rejected.

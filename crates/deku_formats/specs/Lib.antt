@@ -1,3 +1,2 @@
 pub mod Ccsds
 pub mod Checksum
-pub mod Ipv4

@@ -4,6 +4,4 @@
 pub mod can;
 pub mod ccsds;
 pub mod checksum;
-pub mod ipv4;
 pub mod png;
-pub mod udp;

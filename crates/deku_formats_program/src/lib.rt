@@ -9,4 +9,4 @@ mod program;
 mod shown;
 mod words;
 
-pub use program::{Records, Told, run};
+pub use program::{Records, Told, ToldRecord, run};

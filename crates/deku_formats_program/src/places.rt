@@ -72,16 +72,18 @@ pub const ELF: [Place; 20] = [
 ];
 
 /// The same in the header of an IPv4 packet.
-pub const IPV4: [Place; 13] = [
+pub const IPV4: [Place; 15] = [
     ("version", 4),
     ("words", 4),
     ("service", 6),
     ("congestion", 2),
-    ("total_length", 16),
+    ("total", 16),
     ("identification", 16),
-    ("flags", 3),
-    ("fragment_offset", 13),
-    ("time_to_live", 8),
+    ("reserved", 1),
+    ("keep_whole", 1),
+    ("more", 1),
+    ("offset", 13),
+    ("hops", 8),
     ("protocol", 8),
     ("checksum", 16),
     ("source", 32),

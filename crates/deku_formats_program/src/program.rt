@@ -23,12 +23,12 @@ use deku_dns::query::Query;
 use deku_elf::Elf;
 use deku_formats::can::Chassis;
 use deku_formats::ccsds::Telemetry;
-use deku_formats::ipv4::Ipv4;
 use deku_formats::png::Png;
-use deku_formats::udp::Udp;
 use deku_instructions::riscv::instruction::Instruction;
+use deku_network::ipv4::Ipv4;
 use deku_program::{give_text, read_hex_text, tell_fault};
 use deku_symmetry::Symmetric;
+use deku_transport::udp::Udp;
 use itoa::Buffer;
 use std::alloc::{AllocError, AllocFailed, Global};
 use std::fmt::Write as _;
@@ -89,6 +89,24 @@ pub trait Told {
     ghost stops: { KnownFormat → Stopping };
 }
 
+/// What is printed of a record by itself. The prover finds the traits of all types that an item
+/// names within one limit, so the record of most parts has an item of its own.
+pub trait ToldRecord {
+    // Which text describes the record at the start of the bytes.
+    ghost tells: { Telling };
+
+    // What prevents the record at the start of the bytes from being shown.
+    ghost stops: { Stopping };
+}
+
+impl ToldRecord for Ipv4 {
+    ghost tells = { TellsOf (λ v. ⟦<Ipv4 as Symmetric<()>>⟧.pieces v tt) };
+
+    ghost stops = { StopsOf (⟦<Ipv4 as DekuReader<()>>⟧.meaning tt)
+        (λ v. ⟦<Ipv4 as Symmetric<()>>⟧.pieces v tt)
+        (λ v. ⟦<Ipv4 as DekuWriter<()>>⟧.meaning v tt) };
+}
+
 /// The records that the program knows.
 pub struct Records;
 
@@ -98,7 +116,7 @@ impl Told for Records {
         (TellsOf (λ v. ⟦<Telemetry as Symmetric<()>>⟧.pieces v tt))
         (TellsOf (λ v. ⟦<Query as Symmetric<()>>⟧.pieces v tt))
         (TellsOf (λ v. ⟦<Elf as Symmetric<()>>⟧.pieces v tt))
-        (TellsOf (λ v. ⟦<Ipv4 as Symmetric<()>>⟧.pieces v tt))
+        ⟦<Ipv4 as ToldRecord>⟧.tells
         (TellsOf (λ v. ⟦<Png as Symmetric<()>>⟧.pieces v tt))
         (TellsOf (λ v. ⟦<Instruction as Symmetric<()>>⟧.pieces v tt))
         (TellsOf (λ v. ⟦<Udp as Symmetric<()>>⟧.pieces v tt)) };
@@ -115,9 +133,7 @@ impl Told for Records {
         (λ v. ⟦<Query as DekuWriter<()>>⟧.meaning v tt))
         (StopsOf (⟦<Elf as DekuReader<()>>⟧.meaning tt) (λ v. ⟦<Elf as Symmetric<()>>⟧.pieces v tt)
         (λ v. ⟦<Elf as DekuWriter<()>>⟧.meaning v tt))
-        (StopsOf (⟦<Ipv4 as DekuReader<()>>⟧.meaning tt)
-        (λ v. ⟦<Ipv4 as Symmetric<()>>⟧.pieces v tt)
-        (λ v. ⟦<Ipv4 as DekuWriter<()>>⟧.meaning v tt))
+        ⟦<Ipv4 as ToldRecord>⟧.stops
         (StopsOf (⟦<Png as DekuReader<()>>⟧.meaning tt) (λ v. ⟦<Png as Symmetric<()>>⟧.pieces v tt)
         (λ v. ⟦<Png as DekuWriter<()>>⟧.meaning v tt))
         (StopsOf (⟦<Instruction as DekuReader<()>>⟧.meaning tt)
@@ -276,11 +292,20 @@ fn record_text(alloc: Global, format: Format, bytes: &[u8]) -> Result<String, Fa
         Format::Ccsds => shown::<Telemetry>(alloc, bytes),
         Format::Dns => shown::<Query>(alloc, bytes),
         Format::Elf => shown::<Elf>(alloc, bytes),
-        Format::Ipv4 => shown::<Ipv4>(alloc, bytes),
+        Format::Ipv4 => ipv4_text(alloc, bytes),
         Format::Png => shown::<Png>(alloc, bytes),
         Format::Riscv => shown::<Instruction>(alloc, bytes),
         Format::Udp => shown::<Udp>(alloc, bytes),
     }
+}
+
+// The text of the header of an IPv4 packet at the start of the bytes.
+fn ipv4_text(alloc: Global, bytes: &[u8]) -> Result<String, Failure>
+    ensures told { IfOk result (λ text. ⟦<Ipv4 as ToldRecord>⟧.tells bytes.now
+        (string_bytes text)) }
+    ensures stops { IfErr result (⟦<Ipv4 as ToldRecord>⟧.stops bytes.now) }
+{
+    shown::<Ipv4>(alloc, bytes)
 }
 
 // The fields of the record at the start of the bytes, whether it is written as it was read, and how

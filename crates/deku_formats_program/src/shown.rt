@@ -11,10 +11,10 @@ use deku_elf::Elf;
 use deku_elf::fields::Fields;
 use deku_formats::can::Chassis;
 use deku_formats::ccsds::Telemetry;
-use deku_formats::ipv4::Ipv4;
 use deku_formats::png::Png;
-use deku_formats::udp::Udp;
 use deku_instructions::riscv::instruction::Instruction;
+use deku_network::ipv4::Ipv4;
+use deku_transport::udp::Udp;
 use std::alloc::AllocError;
 use std::fmt::Write;
 
@@ -209,25 +209,27 @@ fn show_fields(fields: &Fields, text: &mut String) -> Result<(), AllocError> {
 
 impl Shown for Ipv4 {
     fn show(&self, text: &mut String) -> Result<(), AllocError> {
-        let front = &self.front;
         show_numbers(
-            &IPV4[1..11],
+            &IPV4[..13],
             &[
-                front.words as i128,
-                front.service as i128,
-                front.congestion as i128,
-                front.total_length as i128,
-                front.identification as i128,
-                front.flags as i128,
-                front.fragment_offset as i128,
-                front.time_to_live as i128,
-                front.protocol as i128,
-                front.checksum as i128,
+                self.version as i128,
+                self.words as i128,
+                self.service as i128,
+                self.congestion as i128,
+                self.total as i128,
+                self.identification as i128,
+                self.reserved as i128,
+                self.keep_whole as i128,
+                self.more as i128,
+                self.offset as i128,
+                self.hops as i128,
+                self.protocol as i128,
+                self.checksum as i128,
             ],
             text,
         )?;
-        writeln!(text, "source {}", front.source)?;
-        writeln!(text, "destination {}", front.destination)?;
+        writeln!(text, "source {}", self.source)?;
+        writeln!(text, "destination {}", self.destination)?;
         for byte in &self.options {
             writeln!(text, "option {byte}")?;
         }

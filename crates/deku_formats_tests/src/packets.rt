@@ -3,10 +3,10 @@
 
 use deku::prelude::{DekuError, DekuUpdate, NeedSize};
 use deku_formats::checksum::{is_intact, ones_sum};
-use deku_formats::ipv4::Ipv4;
-use deku_formats::ipv4::front::Front;
-use deku_formats::udp::Udp;
+use deku_network::ipv4::Ipv4;
 use deku_testing_values::records::{expect_record, expect_refusal};
+use deku_transport::udp::Udp;
+use std::alloc::Global;
 use std::net::Ipv4Addr;
 use std::test::Fail;
 
@@ -44,20 +44,24 @@ const HEADER: [u8; 20] = [
 ];
 
 // What it says.
-fn front() -> Front {
-    Front {
+fn header(alloc: Global) -> Ipv4 {
+    Ipv4 {
+        version: 4,
         words: 5,
         service: 0,
         congestion: 0,
-        total_length: 30,
+        total: 30,
         identification: 0x4F0B,
-        flags: 2,
-        fragment_offset: 0,
-        time_to_live: 64,
+        reserved: false,
+        keep_whole: true,
+        more: false,
+        offset: 0,
+        hops: 64,
         protocol: 17,
         checksum: 0xEDC1,
         source: Ipv4Addr::new(127, 0, 0, 1),
         destination: Ipv4Addr::new(127, 0, 0, 1),
+        options: Vec::new(alloc),
     }
 }
 
@@ -68,25 +72,22 @@ const SEGMENT: [u8; 20] = [
 ];
 
 // What its header says.
-fn segment_front() -> Front {
-    Front {
-        total_length: 60,
+fn segment_header(alloc: Global) -> Ipv4 {
+    Ipv4 {
+        total: 60,
         identification: 0x1C46,
         protocol: 6,
         checksum: 0xB1E6,
         source: Ipv4Addr::new(172, 16, 10, 99),
         destination: Ipv4Addr::new(172, 16, 10, 12),
-        ..front()
+        ..header(alloc)
     }
 }
 
 #[test]
 fn headers(rt: HostRuntime) -> Result<(), Fail> {
-    for (front, bytes) in [(front(), HEADER), (segment_front(), SEGMENT)] {
-        let options = Vec::new(rt.alloc());
-        expect_record(rt.alloc(), &Ipv4 { front, options }, &bytes)?;
-    }
-    Ok(())
+    expect_record(rt.alloc(), &header(rt.alloc()), &HEADER)?;
+    expect_record(rt.alloc(), &segment_header(rt.alloc()), &SEGMENT)
 }
 
 // A report of membership, with the option that routers look at it.
@@ -97,20 +98,20 @@ const REPORT: [u8; 24] = [
 
 #[test]
 fn a_packet_with_an_option(rt: HostRuntime) -> Result<(), Fail> {
-    let front = Front {
+    let report = Ipv4 {
         words: 6,
         service: 48,
-        total_length: 40,
+        total: 40,
         identification: 0,
-        time_to_live: 1,
+        hops: 1,
         protocol: 2,
         checksum: 0x03FA,
         source: Ipv4Addr::new(0, 0, 0, 0),
         destination: Ipv4Addr::new(224, 0, 0, 22),
-        ..front()
+        options: [0x94u8, 0x04, 0x00, 0x00].to_vec(rt.alloc())?,
+        ..header(rt.alloc())
     };
-    let options = [0x94u8, 0x04, 0x00, 0x00].to_vec(rt.alloc())?;
-    expect_record(rt.alloc(), &Ipv4 { front, options }, &REPORT)
+    expect_record(rt.alloc(), &report, &REPORT)
 }
 
 // What an update returns and leaves in the two lengths of the header, if its total is this one
@@ -146,13 +147,13 @@ const ROWS: [Row; 7] = [
 fn updates(rt: HostRuntime) -> Result<(), Fail> {
     for (total, options, want, lengths) in ROWS {
         let mut header = Ipv4 {
-            front: front(),
+            total,
             options: vec![in rt.alloc(); 0u8; options]?,
+            ..header(rt.alloc())
         };
-        header.front.total_length = total;
         let answer = header.update();
         assert!(rt; answer == want, "{total}, {options}: {answer:?}");
-        assert_eq!(rt; (header.front.words, header.front.total_length), lengths);
+        assert_eq!(rt; (header.words, header.total), lengths);
     }
     Ok(())
 }

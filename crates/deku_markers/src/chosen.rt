@@ -1,13 +1,12 @@
 //! Parts, and after them an enum that they choose the kind of.
 
+use crate::part::{Named, Part, Place, field, within};
 use deku_texts::document::{Form, Text, joined};
-use deku_texts::part::{Named, Owner, Part, Place, within};
 use std::alloc::{AllocError, Global};
 
 /// A head, and after it a field of this enum, of the kind that the marker of this name says.
 pub fn chosen<'a>(
     alloc: Global,
-    owner: Owner,
     head: Part<'a>,
     called: Named<'_>,
     (marker, kind): (&str, &str),
@@ -23,12 +22,13 @@ pub fn chosen<'a>(
     })?;
     let access = called.access;
     let term = format!(in alloc; "⟦<{kind} as FromParts>⟧.parts_of r.{access}")?;
+    let is_lent = called.owner.is_lent();
     Ok(Part {
+        lent: lent_of(alloc, is_lent, head.lent, marker, kind)?,
         kind: type_of(alloc, head.kind, marker, kind)?,
-        lent: type_of(alloc, head.lent, marker, kind)?,
-        is_lent: head.is_lent,
+        is_lent,
         pattern: pattern_of(alloc, head.pattern, called.name)?,
-        value: value_of(alloc, owner, head.value, access, marker)?,
+        value: value_of(alloc, head.value, called, marker)?,
         term: three(
             alloc,
             (Form::GhostBrace, "record {"),
@@ -53,40 +53,47 @@ fn type_of(alloc: Global, head: Text, marker: &str, kind: &str) -> Result<Text, 
     )
 }
 
+// The type of what is written for it: the enum is lent, if the record it is in is not copied.
+fn lent_of(
+    alloc: Global,
+    is_lent: bool,
+    head: Text,
+    marker: &str,
+    kind: &str,
+) -> Result<Text, AllocError> {
+    if !is_lent {
+        return type_of(alloc, head, marker, kind);
+    }
+    let marker = Text::word(alloc, marker)?;
+    let head = head.after(alloc, "'a, ")?;
+    three(alloc, (Form::Angle, "ChosenByRef<"), head, marker, kind)
+}
+
 // The pattern of a head and of the kinds of an enum.
 fn pattern_of(alloc: Global, head: Text, name: &str) -> Result<Text, AllocError> {
     let head = head.after(alloc, "head: ")?;
-    let mut kind = Text::word(alloc, name)?;
-    if name != "kind" {
-        kind = kind.after(alloc, "kind: ")?;
-    }
+    let kind = Text::of(field(alloc, "kind", name)?);
     three(alloc, (Form::Brace, "ChosenBy {"), head, kind, "..")
 }
 
 // A head, and the kinds of an enum.
 fn value_of(
     alloc: Global,
-    owner: Owner,
     head: Text,
-    access: &str,
+    called: Named<'_>,
     marker: &str,
 ) -> Result<Text, AllocError> {
-    let kind = Text::of(format!(in alloc; "self.{access}.parts()")?);
-    if owner == Owner::Lent {
-        let open = format!(in alloc; "ChosenBy::<_, {marker}, _> {{")?;
+    if called.owner.is_lent() {
+        let open = format!(in alloc; "ChosenByRef::<_, {marker}, _> {{")?;
+        let form = (Form::Brace, open.as_str());
         let head = head.after(alloc, "head: ")?;
-        let kind = kind.after(alloc, "kind: ")?;
-        return three(
-            alloc,
-            (Form::Brace, open.as_str()),
-            head,
-            kind,
-            "id: PhantomData",
-        );
+        let value = Text::of(called.reference(alloc)?).after(alloc, "value: ")?;
+        return three(alloc, form, head, value, "id: PhantomData");
     }
+    let access = called.access;
     let mut items = Vec::new(alloc);
     items.push(head)?;
-    items.push(kind)?;
+    items.push(Text::of(format!(in alloc; "self.{access}.parts()")?))?;
     Text::group(alloc, Form::Round, "ChosenBy::new(", items)
 }
 

@@ -1,6 +1,8 @@
-//! What counts, conditions, checks and ids compute, and the types that say it.
+//! The parts of records as they are printed, and the types that say what counts, conditions, checks
+//! and ids compute.
 #![tactic(auto)]
 
 pub mod chosen;
 pub mod computing;
 pub mod marker;
+pub mod part;

@@ -2,8 +2,8 @@
 //! the parts have.
 
 use crate::computing::{Computed, Computer};
+use crate::part::Place;
 use deku_attributes::model::Order;
-use deku_texts::part::Place;
 use deku_texts::refusal::Stop;
 use std::alloc::{AllocError, Global};
 use std::fmt::Write as _;
@@ -245,6 +245,112 @@ fn id_of(
         }
     }
     out.push_str("    }\n}\n")
+}
+
+/// What the width of a number counts.
+#[derive(Clone, Copy, PartialEq, Eq)]
+pub enum Unit {
+    /// Bits.
+    Bits,
+    /// Bytes.
+    Bytes,
+}
+
+/// The context of a number whose width a field says.
+#[derive(Clone, Copy)]
+pub struct Under {
+    /// Whether its high byte is first.
+    pub is_big: bool,
+    /// Whether its low bits are first.
+    pub is_low_first: bool,
+    /// What its width counts.
+    pub unit: Unit,
+}
+
+impl Under {
+    /// The type of the context.
+    pub fn kind(self) -> &'static str {
+        match (self.unit, self.is_low_first) {
+            (Unit::Bits, false) => "(Endian, BitSize)",
+            (Unit::Bits, true) => "(Endian, BitSize, Order)",
+            (Unit::Bytes, false) => "(Endian, ByteSize)",
+            (Unit::Bytes, true) => "(Endian, ByteSize, Order)",
+        }
+    }
+
+    // The name of its endian, of the type of its width, and what ends it in ghost text and in code.
+    fn words(self) -> (&'static str, &'static str, [&'static str; 2]) {
+        let endian = if self.is_big { "Big" } else { "Little" };
+        let size = match self.unit {
+            Unit::Bits => "BitSize",
+            Unit::Bytes => "ByteSize",
+        };
+        let end = if self.is_low_first {
+            [", Lsb0", ", Order::Lsb0"]
+        } else {
+            ["", ""]
+        };
+        (endian, size, end)
+    }
+}
+
+/// Appends the marker of the context of a number: how wide it is, as a field of the parts says.
+pub fn context(
+    out: &mut String,
+    under: Under,
+    marker: Marker<'_>,
+    computer: &Computer<'_, '_, '_>,
+    computed: &Computed,
+) -> Result<(), Stop> {
+    let what = match under.unit {
+        Unit::Bits => "How many bits",
+        Unit::Bytes => "How many bytes",
+    };
+    declared(out, marker, what, "has", computed.code.as_str())?;
+    context_of(out, under, marker, computer, computed)?;
+    if let Some(lent) = marker.of_lent() {
+        context_of(out, under, lent, computer, computed)?;
+    }
+    let (parts, kind) = (marker.parts, under.kind());
+    let types = format!(in *out.allocator(); "{parts}, {kind}")?;
+    let marker = Marker {
+        parts: types.as_str(),
+        ..marker
+    };
+    alike(out, "ContextOfLaw", marker, computer)
+}
+
+// Appends which context the parts say.
+fn context_of(
+    out: &mut String,
+    under: Under,
+    marker: Marker<'_>,
+    computer: &Computer<'_, '_, '_>,
+    computed: &Computed,
+) -> Result<(), AllocError> {
+    let (parts, kind) = (marker.parts, under.kind());
+    let (endian, size, [term_end, code_end]) = under.words();
+    let types = format!(in *out.allocator(); "{parts}, {kind}")?;
+    let both = Marker {
+        parts: types.as_str(),
+        ..marker
+    };
+    implemented(out, "ContextOf", both)?;
+    let term = computed.term.as_str();
+    writeln!(
+        out,
+        "    ghost context_of = {{ λ p. ({endian}, record {{ 0 = {term} }}{term_end}) }};\n"
+    )?;
+    writeln!(out, "    fn context(parts: &{parts}) -> {kind} {{")?;
+    write!(out, "        (Endian::{endian}, {size}(")?;
+    for index in &computer.used {
+        if let Some(place) = computer.places.get(*index) {
+            reached(out, computer, place)?;
+            let is_whole = place.number == Some("usize");
+            out.push_str(if is_whole { "" } else { " as usize" })?;
+        }
+    }
+    writeln!(out, "){code_end})\n    }}\n}}")
 }
 
 /// Appends the marker of a constant: the value of the parts, in its own constructor if it has one.

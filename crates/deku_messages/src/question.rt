@@ -5,6 +5,8 @@
 //! kind   16 bits   what is asked about the name, as the kind of a resource
 //! class  16 bits   1 for the internet
 //! ```
+//!
+//! Printed by `derive` from `question.rs`.
 
 ghost use Rattle.std.specs.Prelude.{refl};
 ghost use Rattle.deku.specs.Composing.{Then};
@@ -27,6 +29,11 @@ pub struct Question {
     pub kind: u16,
     /// The class of the name.
     pub class: u16,
+}
+
+impl Question {
+    /// The names of its parts, in their order.
+    pub const FIELDS: [&'static str; 3] = ["name", "kind", "class"];
 }
 
 // The parts of Question, in their order.
@@ -64,7 +71,8 @@ impl DekuWriter<()> for Question {
 
     #[inline(always)]
     fn to_writer<W: Sink>(&self, writer: &mut Writer<W>, ctx: ()) -> Result<(), DekuError> {
-        (&self.name, Be(self.kind), Be(self.class)).to_writer(writer, ctx)
+        let parts = (&self.name, Be(self.kind), Be(self.class));
+        parts.to_writer(writer, ctx)
     }
 }
 

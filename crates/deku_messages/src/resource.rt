@@ -9,8 +9,10 @@
 //! length 16 bits   the bytes of the data
 //! bytes            as many bytes
 //! ```
+//!
+//! Printed by `derive` from `resource.rs`.
 
-ghost use Rattle.std.specs.Prelude.{refl, Some};
+ghost use Rattle.std.specs.Prelude.{Some, refl};
 ghost use Rattle.deku.specs.Composing.{Then};
 ghost use Rattle.deku.specs.Shapes.{Shows};
 ghost use Rattle.deku_symmetry.specs.Fields.{be};
@@ -42,7 +44,7 @@ pub struct Resource {
     pub bytes: Vec<u8>,
 }
 
-/// How many bytes there are: `length`.
+/// How many `bytes` there are: `length`.
 #[derive(Debug, PartialEq, Eq, Drop)]
 pub struct ResourceBytesCount;
 
@@ -50,12 +52,18 @@ impl CountOf<Be<u16>> for ResourceBytesCount {
     ghost count_of = { λ p. Some p.0 };
 
     fn count(parts: &Be<u16>) -> Option<usize> {
-        Some(parts.0 as usize)
+        let length = parts.0 as usize;
+        Some(length)
     }
 }
 
 impl CountOfLaw<Be<u16>> for ResourceBytesCount {
     ghost alike = { λ v w e. rw e refl };
+}
+
+impl Resource {
+    /// The names of its parts, in their order.
+    pub const FIELDS: [&'static str; 6] = ["name", "kind", "class", "life", "length", "bytes"];
 }
 
 // The parts of Resource, in their order.
@@ -88,14 +96,24 @@ impl FromParts for Resource {
     } };
 
     fn from_parts(parts: Self::Parts) -> Self {
-        let (name, Be(kind), Be(class), Be(life), CountedBy { head, items, .. }) = parts;
+        let (
+            name,
+            Be(kind),
+            Be(class),
+            Be(life),
+            CountedBy {
+                head: Be(length),
+                items: bytes,
+                ..
+            },
+        ) = parts;
         Resource {
             name,
             kind,
             class,
             life,
-            length: head.0,
-            bytes: items,
+            length,
+            bytes,
         }
     }
 
@@ -154,6 +172,11 @@ pub struct MailServer {
     pub name: Name,
 }
 
+impl MailServer {
+    /// The names of its parts, in their order.
+    pub const FIELDS: [&'static str; 2] = ["preference", "name"];
+}
+
 // The parts of MailServer, in their order.
 type MailServerParts = (Be<u16>, Name);
 
@@ -189,7 +212,8 @@ impl DekuWriter<()> for MailServer {
 
     #[inline(always)]
     fn to_writer<W: Sink>(&self, writer: &mut Writer<W>, ctx: ()) -> Result<(), DekuError> {
-        (Be(self.preference), &self.name).to_writer(writer, ctx)
+        let parts = (Be(self.preference), &self.name);
+        parts.to_writer(writer, ctx)
     }
 }
 
@@ -220,6 +244,13 @@ pub struct Authority {
     pub expire: u32,
     /// How long it may be kept that there is no such name, in seconds.
     pub minimum: u32,
+}
+
+impl Authority {
+    /// The names of its parts, in their order.
+    pub const FIELDS: [&'static str; 7] = [
+        "server", "mailbox", "serial", "refresh", "retry", "expire", "minimum",
+    ];
 }
 
 // The parts of Authority, in their order.
@@ -312,17 +343,22 @@ pub struct Target {
     pub name: Name,
 }
 
+impl Target {
+    /// The names of its parts, in their order.
+    pub const FIELDS: [&'static str; 1] = ["name"];
+}
+
 // The parts of Target, in their order.
-type TargetParts = (Name, ());
+type TargetParts = Name;
 
 impl FromParts for Target {
     type Parts = TargetParts;
 
-    ghost parts_of = { λ r. (r.name, tt) };
+    ghost parts_of = { λ r. r.name };
 
-    ghost record_of = { λ p. record { name = p.0 } };
+    ghost record_of = { λ p. record { name = p } };
 
-    fn from_parts((name, ()): Self::Parts) -> Self {
+    fn from_parts(name: Self::Parts) -> Self {
         Target { name }
     }
 
@@ -347,7 +383,8 @@ impl DekuWriter<()> for Target {
 
     #[inline(always)]
     fn to_writer<W: Sink>(&self, writer: &mut Writer<W>, ctx: ()) -> Result<(), DekuError> {
-        (&self.name, ()).to_writer(writer, ctx)
+        let parts = &self.name;
+        parts.to_writer(writer, ctx)
     }
 }
 

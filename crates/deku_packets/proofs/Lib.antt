@@ -1,1 +1,2 @@
-pub mod Reached
+mod Places
+mod Reached

@@ -1,11 +1,13 @@
 //! The layers that programs send to each other.
 
+ghost use Rattle.std.specs.Prelude.{◌≡◌};
+
+use crate::check::between;
 use crate::fields::{AUTHORITY, DNS, MAIL_SERVER, NTP, QUESTION, RESOURCE, RTP, TARGET, TEXT, TLS};
 use crate::layer::{Fields, Layer};
 use crate::name::follow;
 use crate::next::Next;
 use crate::packet::Refusal;
-use crate::read::first;
 use crate::walk::{Walk, refusal};
 use deku::prelude::DekuError;
 use deku_messages::dns::{Header, Text};
@@ -24,7 +26,9 @@ const MOST_TEXTS: usize = 65535;
 
 impl<'a> Walk<'a> {
     /// Reads a packet of network time. What follows its header is kept.
-    pub fn ntp(&mut self) -> Result<Option<Next>, Refusal> {
+    pub fn ntp(&mut self) -> Result<Option<Next>, Refusal>
+        ensures same { self.new.layers.bytes.now ≡ self.old.layers.bytes.now }
+    {
         let start = self.at;
         let header: Ntp = self.read(&NTP)?;
         self.keep(start, Layer::Ntp(header))?;
@@ -32,7 +36,9 @@ impl<'a> Walk<'a> {
     }
 
     /// Reads the header of a packet of RTP.
-    pub fn rtp(&mut self) -> Result<Option<Next>, Refusal> {
+    pub fn rtp(&mut self) -> Result<Option<Next>, Refusal>
+        ensures same { self.new.layers.bytes.now ≡ self.old.layers.bytes.now }
+    {
         let start = self.at;
         let header: Rtp = self.read(&RTP)?;
         self.keep(start, Layer::Rtp(header))?;
@@ -46,7 +52,9 @@ impl<'a> Walk<'a> {
 
     /// Reads records of TLS, each with the bytes that follow its header. The last one may go on in
     /// the next segment.
-    pub fn tls(&mut self) -> Result<Option<Next>, Refusal> {
+    pub fn tls(&mut self) -> Result<Option<Next>, Refusal>
+        ensures same { self.new.layers.bytes.now ≡ self.old.layers.bytes.now }
+    {
         for _ in 0..MOST_RECORDS {
             if !self.is_at_tls() {
                 break;
@@ -57,7 +65,9 @@ impl<'a> Walk<'a> {
     }
 
     // Reads the header of a record, and keeps what follows.
-    fn tls_record(&mut self) -> Result<(), Refusal> {
+    fn tls_record(&mut self) -> Result<(), Refusal>
+        ensures same { self.new.layers.bytes.now ≡ self.old.layers.bytes.now }
+    {
         let start = self.at;
         let header: Tls = self.read(&TLS)?;
         let length = header.length as usize;
@@ -71,7 +81,9 @@ impl<'a> Walk<'a> {
     }
 
     /// Reads a message of the domain name system.
-    pub fn dns(&mut self) -> Result<Option<Next>, Refusal> {
+    pub fn dns(&mut self) -> Result<Option<Next>, Refusal>
+        ensures same { self.new.layers.bytes.now ≡ self.old.layers.bytes.now }
+    {
         let message = self.at;
         let header: Header = self.read(&DNS)?;
         let questions = header.questions;
@@ -88,7 +100,9 @@ impl<'a> Walk<'a> {
     }
 
     // Reads a question of the message that begins there.
-    fn question(&mut self, message: usize) -> Result<(), Refusal> {
+    fn question(&mut self, message: usize) -> Result<(), Refusal>
+        ensures same { self.new.layers.bytes.now ≡ self.old.layers.bytes.now }
+    {
         let start = self.at;
         let question: Question = self.read(&QUESTION)?;
         self.follow(message, start, &QUESTION)?;
@@ -96,7 +110,9 @@ impl<'a> Walk<'a> {
     }
 
     // Reads as many resources.
-    fn resources(&mut self, message: usize, count: u16) -> Result<(), Refusal> {
+    fn resources(&mut self, message: usize, count: u16) -> Result<(), Refusal>
+        ensures same { self.new.layers.bytes.now ≡ self.old.layers.bytes.now }
+    {
         for _ in 0..count {
             self.resource(message)?;
         }
@@ -104,7 +120,9 @@ impl<'a> Walk<'a> {
     }
 
     // Reads a resource.
-    fn resource(&mut self, message: usize) -> Result<(), Refusal> {
+    fn resource(&mut self, message: usize) -> Result<(), Refusal>
+        ensures same { self.new.layers.bytes.now ≡ self.old.layers.bytes.now }
+    {
         let start = self.at;
         let resource: Resource = self.read(&RESOURCE)?;
         self.follow(message, start, &RESOURCE)?;
@@ -120,49 +138,45 @@ impl<'a> Walk<'a> {
         }
     }
 
-    // The bytes from this index to what is read.
-    fn taken(&self, start: usize) -> &'a [u8] {
-        self.bytes.get(start..self.at).unwrap_or(&[])
-    }
-
     // The data of a resource that is a name.
-    fn target(&mut self, message: usize, start: usize) -> Result<(), Refusal> {
-        let bytes = self.taken(start);
-        let (target, count) = first::<Target>(self.alloc, bytes, start, &TARGET)?;
+    fn target(&mut self, message: usize, start: usize) -> Result<(), Refusal>
+        ensures same { self.new.layers.bytes.now ≡ self.old.layers.bytes.now }
+    {
+        let (target, end): (Target, usize) = self.within(start, &TARGET)?;
         self.follow(message, start, &TARGET)?;
-        self.place(start, start.saturating_add(count), Layer::Target(target))
+        self.place(start, end, Layer::Target(target))
     }
 
     // The data of a resource that is a server of mail.
-    fn mail_server(&mut self, message: usize, start: usize) -> Result<(), Refusal> {
-        let bytes = self.taken(start);
-        let (server, count) = first::<MailServer>(self.alloc, bytes, start, &MAIL_SERVER)?;
+    fn mail_server(&mut self, message: usize, start: usize) -> Result<(), Refusal>
+        ensures same { self.new.layers.bytes.now ≡ self.old.layers.bytes.now }
+    {
+        let (server, end): (MailServer, usize) = self.within(start, &MAIL_SERVER)?;
         self.follow(message, start.saturating_add(2), &MAIL_SERVER)?;
-        let end = start.saturating_add(count);
         self.place(start, end, Layer::MailServer(server))
     }
 
     // The data of a resource that says who is in charge.
-    fn authority(&mut self, message: usize, start: usize) -> Result<(), Refusal> {
-        let bytes = self.taken(start);
-        let (authority, count) = first::<Authority>(self.alloc, bytes, start, &AUTHORITY)?;
+    fn authority(&mut self, message: usize, start: usize) -> Result<(), Refusal>
+        ensures same { self.new.layers.bytes.now ≡ self.old.layers.bytes.now }
+    {
+        let (authority, end): (Authority, usize) = self.within(start, &AUTHORITY)?;
         self.follow(message, start, &AUTHORITY)?;
         let second = start.saturating_add(size_of_name(&authority.server));
         self.follow(message, second, &AUTHORITY)?;
-        let end = start.saturating_add(count);
         self.place(start, end, Layer::Authority(authority))
     }
 
     // The data of a resource that is texts.
-    fn texts(&mut self, start: usize) -> Result<(), Refusal> {
+    fn texts(&mut self, start: usize) -> Result<(), Refusal>
+        ensures same { self.new.layers.bytes.now ≡ self.old.layers.bytes.now }
+    {
         let mut start = start;
         for _ in 0..MOST_TEXTS {
-            let bytes = self.taken(start);
-            if bytes.is_empty() {
+            if between(self.layers.bytes, start, self.at).is_empty() {
                 break;
             }
-            let (text, count) = first::<Text>(self.alloc, bytes, start, &TEXT)?;
-            let end = start.saturating_add(count);
+            let (text, end): (Text, usize) = self.within(start, &TEXT)?;
             self.place(start, end, Layer::Text(text))?;
             start = end;
         }
@@ -171,8 +185,8 @@ impl<'a> Walk<'a> {
 
     // Follows the name at this index, which belongs to the message that begins at `message`.
     fn follow(&self, message: usize, at: usize, fields: &Fields) -> Result<(), Refusal> {
-        let end = self.limit.min(self.bytes.len());
-        let bytes = self.bytes.get(message..end).unwrap_or(&[]);
+        let end = self.limit.min(self.layers.bytes.len());
+        let bytes = between(self.layers.bytes, message, end);
         match follow(bytes, at.saturating_sub(message)) {
             Ok(()) => Ok(()),
             Err(astray) => {

@@ -1,7 +1,11 @@
 //! A packet, layer by layer.
 
-use crate::layer::Placed;
+ghost use Rattle.std.specs.Prelude.{All};
+ghost use Rattle.deku_packets.specs.Reading.{IsPlaced};
+
+use crate::layer::{Layer, Placed};
 use crate::next::Next;
+use crate::reading::ReadLayer;
 use crate::walk::Walk;
 use deku::DekuError;
 use std::alloc::Global;
@@ -35,12 +39,15 @@ pub const MOST_HEADERS: usize = 32;
 /// capture does: 1 for Ethernet, and 101, 228 or 229 for IP; the bytes of any other are kept as
 /// they are. `whole` is how many bytes the packet had, of which `bytes` are the first ones.
 ///
-/// What cannot be read is told by the packet's `refusal`; the layers before it are there.
+/// Each layer is what reading its record gives at its place in the bytes. What cannot be read is
+/// told by the packet's `refusal`; the layers before it are there.
 ///
 /// ```text
 /// let packet = read_packet(alloc, &bytes, bytes.len(), 1);      // Ethernet, IPv4, UDP, DNS, ..
 /// ```
-pub fn read_packet(alloc: Global, bytes: &[u8], whole: usize, network: u32) -> Packet {
+pub fn read_packet(alloc: Global, bytes: &[u8], whole: usize, network: u32) -> Packet
+    ensures { ∥ All (IsPlaced ⟦<Layer as ReadLayer>⟧.reads bytes.now) result.layers.items ∥₁ }
+{
     let mut walk = Walk::new(alloc, bytes, whole);
     let refusal = match walk.headers(Next::of_network(network)) {
         Ok(()) => None,

@@ -1,12 +1,19 @@
 //! The layers that bring a packet from machine to machine and from program to program.
 
+ghost use Rattle.std.specs.Prelude.{◌≡◌, IfOk, All, length, min};
+ghost use Rattle.deku_packets.specs.Back.{between};
+ghost use Rattle.deku_packets.specs.Reading.{IsFirst, IsAt, IsPlaced};
+
+use crate::check::between;
 use crate::fields::{
     ARP, ETHERNET, FRAGMENT, ICMP, ICMPV6, IPV4, IPV6, OPTIONS, PACKET, ROUTING, TAG, TCP, UDP,
 };
 use crate::layer::{Fields, Layer, Placed};
+use crate::layers::Layers;
 use crate::next::Next;
 use crate::packet::{MOST_HEADERS, Refusal};
-use crate::read::first;
+use crate::read::read_at;
+use crate::reading::ReadLayer;
 use deku::prelude::{DekuContainerRead, DekuError};
 use deku_network::arp::Arp;
 use deku_network::ethernet::{Ethernet, Tag};
@@ -24,70 +31,99 @@ use std::io::ErrorKind;
 pub struct Walk<'a> {
     /// Where records take their memory.
     pub alloc: Global,
-    /// The bytes that there are.
-    pub bytes: &'a [u8],
     /// The index of the next byte.
     pub at: usize,
     /// The index after the last byte, as the lengths say that were read.
     pub limit: usize,
     // Whether what is read is the first fragment of more.
     is_begun: bool,
-    layers: Vec<Placed>,
+    /// The layers that were read, and the bytes that there are.
+    pub layers: Layers<'a>,
 }
 
 impl<'a> Walk<'a> {
     /// At the start of a packet, of which these are the first bytes of `whole`.
-    pub fn new(alloc: Global, bytes: &'a [u8], whole: usize) -> Walk<'a> {
+    pub fn new(alloc: Global, bytes: &'a [u8], whole: usize) -> Walk<'a>
+        ensures { result.layers.bytes.now ≡ bytes.now }
+    {
         Walk {
             alloc,
-            bytes,
             at: 0,
             limit: whole.max(bytes.len()),
             is_begun: false,
-            layers: Vec::new(alloc),
+            layers: Layers::new(alloc, bytes),
         }
     }
 
     /// The layers that were read.
-    pub fn into_layers(self) -> Vec<Placed> {
-        self.layers
+    pub fn into_layers(self) -> Vec<Placed>
+        ensures { ∥ All (IsPlaced ⟦<Layer as ReadLayer>⟧.reads self.entry.layers.bytes.now)
+            result.items ∥₁ }
+    {
+        self.layers.into_items()
     }
 
     /// The bytes that are left.
-    pub fn rest(&self) -> &'a [u8] {
-        let end = self.limit.min(self.bytes.len());
-        self.bytes.get(self.at..end).unwrap_or(&[])
+    pub fn rest(&self) -> &'a [u8]
+        ensures { result.now ≡ between self.now.layers.bytes.now self.now.at
+            (min self.now.limit (length self.now.layers.bytes.now)) }
+    {
+        let end = self.limit.min(self.layers.bytes.len());
+        between(self.layers.bytes, self.at, end)
     }
 
     /// Reads a record, of these fields.
     pub fn read<E: DekuContainerRead>(&mut self, fields: &Fields) -> Result<E, Refusal>
         requires { E.DekuReader.accepts tt }
+        ensures same { self.new.layers.bytes.now ≡ self.old.layers.bytes.now }
+        ensures read { IfOk result (λ x. IsAt (IsFirst (E.DekuReader.meaning tt) x)
+            self.new.layers.bytes.now self.old.at self.new.at) }
     {
-        let (record, count) = first(self.alloc, self.rest(), self.at, fields)?;
-        self.at = self.at.saturating_add(count);
+        let limit = self.limit.min(self.layers.bytes.len());
+        let (record, end) = read_at(self.alloc, self.layers.bytes, self.at, limit, fields)?;
+        self.at = end;
         Ok(record)
     }
 
+    /// The record in what is read that begins at this index, and the index after it.
+    pub fn within<E: DekuContainerRead>(
+        &self,
+        start: usize,
+        fields: &Fields,
+    ) -> Result<(E, usize), Refusal>
+        requires { E.DekuReader.accepts tt }
+        ensures { IfOk result (λ p. IsAt (IsFirst (E.DekuReader.meaning tt) p.0)
+            self.now.layers.bytes.now start p.1) }
+    {
+        read_at(self.alloc, self.layers.bytes, start, self.at, fields)
+    }
+
     /// Keeps a layer that began at `start`, and ends here.
-    pub fn keep(&mut self, start: usize, layer: Layer) -> Result<(), Refusal> {
+    pub fn keep(&mut self, start: usize, layer: Layer) -> Result<(), Refusal>
+        requires { IsAt (⟦<Layer as ReadLayer>⟧.reads layer) self.now.layers.bytes.now start
+            self.now.at }
+        ensures same { self.new.layers.bytes.now ≡ self.old.layers.bytes.now }
+    {
         self.place(start, self.at, layer)
     }
 
     /// Keeps a layer that is there.
-    pub fn place(&mut self, start: usize, end: usize, layer: Layer) -> Result<(), Refusal> {
-        match self.layers.push(Placed { start, end, layer }) {
-            Ok(()) => Ok(()),
-            Err(_) => Err(refusal(
-                &PACKET,
-                "memory",
-                start,
-                DekuError::Io(ErrorKind::OutOfMemory),
-            )),
+    pub fn place(&mut self, start: usize, end: usize, layer: Layer) -> Result<(), Refusal>
+        requires { IsAt (⟦<Layer as ReadLayer>⟧.reads layer) self.now.layers.bytes.now start end }
+        ensures same { self.new.layers.bytes.now ≡ self.old.layers.bytes.now }
+    {
+        if self.layers.push(start, end, layer) {
+            Ok(())
+        } else {
+            let fault = DekuError::Io(ErrorKind::OutOfMemory);
+            Err(refusal(&PACKET, "memory", start, fault))
         }
     }
 
     /// Reads headers, each as the one before it says.
-    pub fn headers(&mut self, first: Next) -> Result<(), Refusal> {
+    pub fn headers(&mut self, first: Next) -> Result<(), Refusal>
+        ensures same { self.new.layers.bytes.now ≡ self.old.layers.bytes.now }
+    {
         let mut next = Some(first);
         for _ in 0..MOST_HEADERS {
             match next {
@@ -105,7 +141,9 @@ impl<'a> Walk<'a> {
     }
 
     // Reads a header. Returns what follows it.
-    fn header(&mut self, header: Next) -> Result<Option<Next>, Refusal> {
+    fn header(&mut self, header: Next) -> Result<Option<Next>, Refusal>
+        ensures same { self.new.layers.bytes.now ≡ self.old.layers.bytes.now }
+    {
         match header {
             Next::Ethernet => self.ethernet(),
             Next::Tag => self.tag(),
@@ -129,7 +167,9 @@ impl<'a> Walk<'a> {
     }
 
     /// Keeps the bytes that are left.
-    pub fn keep_rest(&mut self) -> Result<Option<Next>, Refusal> {
+    pub fn keep_rest(&mut self) -> Result<Option<Next>, Refusal>
+        ensures same { self.new.layers.bytes.now ≡ self.old.layers.bytes.now }
+    {
         let start = self.at;
         let count = self.rest().len();
         if count > 0 {
@@ -148,7 +188,9 @@ impl<'a> Walk<'a> {
         fields: &Fields,
         field: &'static str,
         at: usize,
-    ) -> Result<(), Refusal> {
+    ) -> Result<(), Refusal>
+        ensures same { self.new.layers.bytes.now ≡ self.old.layers.bytes.now }
+    {
         let limit = start.saturating_add(length);
         if limit < self.at {
             let fault = DekuError::Parse("length below its header");
@@ -165,7 +207,9 @@ impl<'a> Walk<'a> {
         }
     }
 
-    fn ethernet(&mut self) -> Result<Option<Next>, Refusal> {
+    fn ethernet(&mut self) -> Result<Option<Next>, Refusal>
+        ensures same { self.new.layers.bytes.now ≡ self.old.layers.bytes.now }
+    {
         let start = self.at;
         let header: Ethernet = self.read(&ETHERNET)?;
         let next = Next::of_kind(header.kind);
@@ -173,7 +217,9 @@ impl<'a> Walk<'a> {
         Ok(Some(next))
     }
 
-    fn tag(&mut self) -> Result<Option<Next>, Refusal> {
+    fn tag(&mut self) -> Result<Option<Next>, Refusal>
+        ensures same { self.new.layers.bytes.now ≡ self.old.layers.bytes.now }
+    {
         let start = self.at;
         let tag: Tag = self.read(&TAG)?;
         let next = Next::of_kind(tag.kind);
@@ -181,7 +227,9 @@ impl<'a> Walk<'a> {
         Ok(Some(next))
     }
 
-    fn arp(&mut self) -> Result<Option<Next>, Refusal> {
+    fn arp(&mut self) -> Result<Option<Next>, Refusal>
+        ensures same { self.new.layers.bytes.now ≡ self.old.layers.bytes.now }
+    {
         let start = self.at;
         let message: Arp = self.read(&ARP)?;
         self.keep(start, Layer::Arp(message))?;
@@ -196,7 +244,9 @@ impl<'a> Walk<'a> {
         }
     }
 
-    fn ipv4(&mut self) -> Result<Option<Next>, Refusal> {
+    fn ipv4(&mut self) -> Result<Option<Next>, Refusal>
+        ensures same { self.new.layers.bytes.now ≡ self.old.layers.bytes.now }
+    {
         let start = self.at;
         let header: Ipv4 = self.read(&IPV4)?;
         let next = if header.offset == 0 {
@@ -214,7 +264,9 @@ impl<'a> Walk<'a> {
         Ok(Some(next))
     }
 
-    fn ipv6(&mut self) -> Result<Option<Next>, Refusal> {
+    fn ipv6(&mut self) -> Result<Option<Next>, Refusal>
+        ensures same { self.new.layers.bytes.now ≡ self.old.layers.bytes.now }
+    {
         let start = self.at;
         let header: Ipv6 = self.read(&IPV6)?;
         let next = Next::of_header(header.next);
@@ -226,7 +278,9 @@ impl<'a> Walk<'a> {
         Ok(Some(next))
     }
 
-    fn options(&mut self) -> Result<Option<Next>, Refusal> {
+    fn options(&mut self) -> Result<Option<Next>, Refusal>
+        ensures same { self.new.layers.bytes.now ≡ self.old.layers.bytes.now }
+    {
         let start = self.at;
         let header: Options = self.read(&OPTIONS)?;
         let next = Next::of_header(header.next);
@@ -234,7 +288,9 @@ impl<'a> Walk<'a> {
         Ok(Some(next))
     }
 
-    fn routing(&mut self) -> Result<Option<Next>, Refusal> {
+    fn routing(&mut self) -> Result<Option<Next>, Refusal>
+        ensures same { self.new.layers.bytes.now ≡ self.old.layers.bytes.now }
+    {
         let start = self.at;
         let header: Routing = self.read(&ROUTING)?;
         let next = Next::of_header(header.next);
@@ -242,7 +298,9 @@ impl<'a> Walk<'a> {
         Ok(Some(next))
     }
 
-    fn fragment(&mut self) -> Result<Option<Next>, Refusal> {
+    fn fragment(&mut self) -> Result<Option<Next>, Refusal>
+        ensures same { self.new.layers.bytes.now ≡ self.old.layers.bytes.now }
+    {
         let start = self.at;
         let header: Fragment = self.read(&FRAGMENT)?;
         let next = if header.offset == 0 {
@@ -255,21 +313,27 @@ impl<'a> Walk<'a> {
         Ok(Some(next))
     }
 
-    fn icmp(&mut self) -> Result<Option<Next>, Refusal> {
+    fn icmp(&mut self) -> Result<Option<Next>, Refusal>
+        ensures same { self.new.layers.bytes.now ≡ self.old.layers.bytes.now }
+    {
         let start = self.at;
         let message: Icmp = self.read(&ICMP)?;
         self.keep(start, Layer::Icmp(message))?;
         Ok(Some(Next::Rest))
     }
 
-    fn icmpv6(&mut self) -> Result<Option<Next>, Refusal> {
+    fn icmpv6(&mut self) -> Result<Option<Next>, Refusal>
+        ensures same { self.new.layers.bytes.now ≡ self.old.layers.bytes.now }
+    {
         let start = self.at;
         let message: Icmpv6 = self.read(&ICMPV6)?;
         self.keep(start, Layer::Icmpv6(message))?;
         Ok(Some(Next::Rest))
     }
 
-    fn udp(&mut self) -> Result<Option<Next>, Refusal> {
+    fn udp(&mut self) -> Result<Option<Next>, Refusal>
+        ensures same { self.new.layers.bytes.now ≡ self.old.layers.bytes.now }
+    {
         let start = self.at;
         let header: Udp = self.read(&UDP)?;
         let (source, destination) = (header.source, header.destination);
@@ -289,7 +353,9 @@ impl<'a> Walk<'a> {
         }
     }
 
-    fn tcp(&mut self) -> Result<Option<Next>, Refusal> {
+    fn tcp(&mut self) -> Result<Option<Next>, Refusal>
+        ensures same { self.new.layers.bytes.now ≡ self.old.layers.bytes.now }
+    {
         let start = self.at;
         let header: Tcp = self.read(&TCP)?;
         let is_secret = header.source == 443 || header.destination == 443;

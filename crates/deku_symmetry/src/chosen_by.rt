@@ -1,10 +1,12 @@
 //! Values of a kind that the parts before them choose.
 
 ghost use Rattle.std.specs.Prelude.{◌≡◌, ℕ, MatchBool, refl};
+ghost use Rattle.deku_bits.specs.WriterCalls.{Writes};
 ghost use Rattle.deku_pieces.specs.Following.{ReadsUnderHead, IsOfId, OfChosen, WritesChosenBy};
 ghost use Rattle.deku_pieces.proofs.Following.{chosen_by_symmetric};
 
 use crate::either::{Kinds, KindsLaw};
+use crate::record::ToParts;
 use crate::traits::Symmetric;
 use deku::device::{Sink, Source};
 use deku::reader::Reader;
@@ -116,12 +118,27 @@ impl<P: DekuWriter<()>, C: IdOf<P>, K: Kinds> DekuWriter<()> for ChosenBy<P, C, 
 
     #[inline(always)]
     fn to_writer<W: Sink>(&self, writer: &mut Writer<W>, _ctx: ()) -> Result<(), DekuError> {
-        if !is_of_id(C::id(&self.head), &self.kind) {
-            return Err(DekuError::Assertion("kind out of step with its id"));
-        }
-        self.head.to_writer(writer, ())?;
-        self.kind.write_kind(writer)
+        write_chosen::<P, C, K, W>(&self.head, &self.kind, writer)
     }
+}
+
+// Writes a head and a value, as a `ChosenBy` of both is written.
+#[inline(always)]
+fn write_chosen<P: DekuWriter<()>, C: IdOf<P>, K: Kinds, W: Sink>(
+    head: &P,
+    kind: &K,
+    writer: &mut Writer<W>,
+) -> Result<(), DekuError>
+    requires head { P.accepts tt }
+    requires kind { K.writable }
+    ensures { Writes W.known (WritesChosenBy C.id_of K.id_of K.own (λ h. P.meaning h tt) K.writes
+        head.now kind.now) writer.old result writer.new }
+{
+    if !is_of_id(C::id(head), kind) {
+        return Err(DekuError::Assertion("kind out of step with its id"));
+    }
+    head.to_writer(writer, ())?;
+    kind.write_kind(writer)
 }
 
 impl<P: DekuReader<()>, C: IdOf<P>, K: Kinds> DekuContainerRead for ChosenBy<P, C, K> {}
@@ -140,4 +157,41 @@ impl<P: Symmetric<()>, C: IdOfLaw<P>, K: KindsLaw> Symmetric<()> for ChosenBy<P,
         (λ h k. record { head = h; kind = k; id = record {} })
         (λ v. v.head) (λ v. v.kind) (λ h k. refl) (λ h k. refl) C.IdOf.id_of C.IdOfLaw.alike
         K.Kinds.id_of K.Kinds.own (P.symmetric tt) K.symmetric };
+}
+
+/// Parts, and a record that is elsewhere in memory: it is written as `ChosenBy` of the parts and of
+/// the kinds that the record is made of.
+///
+/// ```text
+/// ChosenByRef::<_, Protocol, _> {
+///     head: (Msb(4), Msb(self.protocol)),
+///     value: &self.body,
+///     id: PhantomData,
+/// }
+/// .to_writer(writer, ())
+/// ```
+#[derive(Drop)]
+pub struct ChosenByRef<'a, P, C, T> {
+    /// The parts before the record.
+    pub head: P,
+    /// The record.
+    pub value: &'a T,
+    /// The id.
+    pub id: PhantomData<C>,
+}
+
+impl<'a, P: DekuWriter<()>, C: IdOf<P>, T: ToParts> DekuWriter<()> for ChosenByRef<'a, P, C, T>
+where
+    T::Parts: Kinds,
+{
+    ghost accepts = { λ _. P.accepts tt × T.Parts.Kinds.writable };
+
+    ghost meaning = { λ v _. WritesChosenBy C.id_of T.Parts.Kinds.id_of T.Parts.Kinds.own
+        (λ h. P.meaning h tt) T.Parts.Kinds.writes v.head (T.FromParts.parts_of v.value.now) };
+
+    #[inline(always)]
+    fn to_writer<W: Sink>(&self, writer: &mut Writer<W>, _ctx: ()) -> Result<(), DekuError> {
+        let kind = self.value.parts();
+        write_chosen::<P, C, T::Parts, W>(&self.head, &kind, writer)
+    }
 }

@@ -2,6 +2,7 @@
 
 ghost use Rattle.std.specs.Prelude.{◌≡◌, ℕ, refl};
 ghost use Rattle.std.proofs.Common.{ap};
+ghost use Rattle.deku_bits.specs.WriterCalls.{Writes};
 ghost use Rattle.deku_pieces.specs.Ids.{OfEnum, ReadsEnum, WritesEnum};
 ghost use Rattle.deku_pieces.proofs.Ids.{enum_symmetric};
 
@@ -201,6 +202,38 @@ impl<I: Id, K: Kinds> DekuWriter<()> for Enum<I, K> {
         id.to_writer(writer, ())?;
         self.kind.write_kind(writer)
     }
+}
+
+/// Writes the id of a kind, and then parts in place of its own value: the body of an arm of an
+/// enum's `to_writer`, if the enum holds memory and its parts are written where they are.
+///
+/// The caller's condition: the id and the parts may be written. It fails with `Assertion("kind out
+/// of step with its id")` if the id chooses another kind; then nothing moves. Otherwise it fails as
+/// the id does, and then as the parts do.
+///
+/// ```text
+/// type Ids = MsbEnum<Either<Kind<(), 1>, Otherwise<()>>, 8>;
+///
+/// let id: Ids = Enum::new(Either::Other(InRange { id: 7, value: () }));
+/// write_kind(&id, &bytes, writer)                             // 07, and then the bytes
+/// ```
+#[inline(always)]
+pub fn write_kind<I: Id, K: Kinds, A: DekuWriter<()>, W: Sink>(
+    id: &Enum<I, K>,
+    parts: &A,
+    writer: &mut Writer<W>,
+) -> Result<(), DekuError>
+    requires id { I.DekuWriter.accepts tt }
+    requires parts { A.accepts tt }
+    ensures { Writes W.known (WritesEnum (λ n. I.DekuWriter.meaning (I.Id.part_of n) tt) K.id_of
+        K.own (λ _. A.meaning parts.now tt) id.now.kind) writer.old result writer.new }
+{
+    if !id.kind.is_own() {
+        return Err(DekuError::Assertion("kind out of step with its id"));
+    }
+    let number = I::of_number(id.kind.id());
+    number.to_writer(writer, ())?;
+    parts.to_writer(writer, ())
 }
 
 /// The pieces of the id, and then those of the value that it chooses.

@@ -17,7 +17,7 @@ mod record;
 mod sized;
 mod traits;
 
-pub use chosen_by::{ChosenBy, IdOf, IdOfLaw};
+pub use chosen_by::{ChosenBy, ChosenByRef, IdOf, IdOfLaw};
 pub use constants::{Between, Is, ZeroBits};
 pub use counted_by::{CountOf, CountOfLaw, CountedBy, CountedByRef};
 pub use deku_pieces::assertion::{Assert, Check};
@@ -32,7 +32,7 @@ pub use deku_pieces::sized_by::{SizeOf, SizedBy};
 pub use deku_pieces::under_head::{ContextOf, UnderHead};
 pub use deku_pieces::until::{Last, Until, UntilRef};
 pub use either::{Kinds, KindsLaw};
-pub use enums::{Enum, Id, LsbBeEnum, LsbEnum, MsbEnum, MsbLeEnum};
+pub use enums::{Enum, Id, LsbBeEnum, LsbEnum, MsbEnum, MsbLeEnum, write_kind};
 pub use fields::{Be, Le, Lsb, LsbBe, Msb, MsbLe};
 pub use last::SymmetricLast;
 pub use made::{CheckLaw, ConstantLaw, ItemCountLaw, LastLaw};

@@ -5,7 +5,7 @@ use std::alloc::{AllocError, Global};
 // The columns of a line.
 const WIDTH: usize = 100;
 
-// Items of an array that have at most as many share lines.
+// Items of an array or a tuple that have at most as many share lines.
 const PACKED: usize = 10;
 
 /// A word, which is never broken, or items in brackets.
@@ -181,10 +181,13 @@ impl Text {
             return self.line(out);
         }
         out.push_str(self.open.as_str())?;
-        if self.form == Form::Square && self.items.iter().all(|it| it.columns() <= PACKED) {
+        if self.is_packed() {
             return self.pack(out, indent);
         }
-        let is_call = self.is_call();
+        let end = column(out.as_str());
+        let is_wide = |it: &Text| end.saturating_add(it.open.as_str().chars().count()) > WIDTH;
+        let is_call = self.is_call()
+            && (self.form == Form::GhostRound || !self.items.iter().any(is_wide));
         let inside = indent.saturating_add(self.form.step());
         for item in &self.items {
             if is_call {
@@ -203,6 +206,16 @@ impl Text {
             start(out, indent)?;
         }
         out.push_str(self.form.close())
+    }
+
+    // Whether its items share lines: those of an array, and names and fields in a tuple or a call.
+    fn is_packed(&self) -> bool {
+        let is_round = self.form == Form::Round;
+        (is_round || self.form == Form::Square)
+            && self.items.iter().all(|item| {
+                let is_name = item.form == Form::Word && !item.open.as_str().contains(['(', ':']);
+                item.columns() <= PACKED && (is_name || !is_round)
+            })
     }
 
     // Appends its items, as many on a line as have room, and its end.

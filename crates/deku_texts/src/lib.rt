@@ -2,7 +2,6 @@
 #![tactic(auto)]
 
 pub mod document;
-pub mod part;
 pub mod records;
 pub mod refusal;
 pub mod words;

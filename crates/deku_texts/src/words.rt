@@ -3,7 +3,7 @@
 use std::alloc::{AllocError, Global};
 
 // The names that a module imports or that its bounds have.
-const IMPORTED: [&str; 67] = [
+const IMPORTED: [&str; 74] = [
     "Source",
     "Sink",
     "DekuContainerRead",
@@ -28,6 +28,13 @@ const IMPORTED: [&str; 67] = [
     "CString",
     "PhantomData",
     "ChosenBy",
+    "ChosenByRef",
+    "UnderHead",
+    "ContextOf",
+    "ContextOfLaw",
+    "Endian",
+    "BitSize",
+    "ByteSize",
     "IdOf",
     "IdOfLaw",
     "CountedBy",

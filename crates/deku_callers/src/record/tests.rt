@@ -2,7 +2,7 @@
 
 use super::{rewritten, there_and_back};
 use crate::same::{same, same_bytes};
-use deku_formats::udp::Udp;
+use deku_transport::udp::Udp;
 use std::test::Fail;
 
 #[test]

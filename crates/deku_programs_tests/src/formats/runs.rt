@@ -5,8 +5,8 @@
 
 pub const RUNS: &str =
     "/udp|9cbbd11f000afe1d6869;|0|source 40123;destination 53535;length 10;checksum 65053;same;left 2;|
-/ipv4|4500001e4f0b40004011edc17f0000017f000001|0|words 5;service 0;congestion 0;total_length 30;identification 20235;flags 2;fragment_offset 0;time_to_live 64;protocol 17;checksum 60865;source 127.0.0.1;destination 127.0.0.1;same;left 0;|
-/ipv4|46C0002800004000010203FA00000000E000001694040000|0|words 6;service 48;congestion 0;total_length 40;identification 0;flags 2;fragment_offset 0;time_to_live 1;protocol 2;checksum 1018;source 0.0.0.0;destination 224.0.0.22;option 148;option 4;option 0;option 0;same;left 0;|
+/ipv4|4500001e4f0b40004011edc17f0000017f000001|0|version 4;words 5;service 0;congestion 0;total 30;identification 20235;reserved 0;keep_whole 1;more 0;offset 0;hops 64;protocol 17;checksum 60865;source 127.0.0.1;destination 127.0.0.1;same;left 0;|
+/ipv4|46C0002800004000010203FA00000000E000001694040000|0|version 4;words 6;service 48;congestion 0;total 40;identification 0;reserved 0;keep_whole 1;more 0;offset 0;hops 1;protocol 2;checksum 1018;source 0.0.0.0;destination 224.0.0.22;option 148;option 4;option 0;option 0;same;left 0;|
 /can|445dfb2e05fe7960;|0|wheel -700;gear 5;torque -1234;flags 5;padding 0;yaw -100000;same;left 0;|
 /ccsds|0123c02a000a00400bfffff80200000000ff|0|version 0;kind 0;secondary 0;application 291;grouping 3;count 42;length 10;voltage 1;current 2;voltage 1023;current 4095;voltage 512;current 2048;voltage 0;current 0;same;left 1;|
 /png|89504e470d0a1a0a0000000d49484452000002600000011308020000001e572d75|0|width 608;height 275;depth 8;colour 2;compression 0;filter 0;interlace 0;crc 509029749;same;left 0;|

@@ -16,7 +16,7 @@ pub returns-in-Elf-clause-told : goal.returns-in-Elf-clause-told
 returns-in-Elf-clause-told c = subst (λ f. IfOk c.shown-in-Elf.result (λ text. ghosts.tells f c.args.bytes.now (string_bytes text))) (sym c.in-Elf.is) c.shown-in-Elf.ensures.taken
 
 pub returns-in-Ipv4-clause-told : goal.returns-in-Ipv4-clause-told
-returns-in-Ipv4-clause-told c = subst (λ f. IfOk c.shown-in-Ipv4.result (λ text. ghosts.tells f c.args.bytes.now (string_bytes text))) (sym c.in-Ipv4.is) c.shown-in-Ipv4.ensures.taken
+returns-in-Ipv4-clause-told c = subst (λ f. IfOk c.ipv4_text.result (λ text. ghosts.tells f c.args.bytes.now (string_bytes text))) (sym c.in-Ipv4.is) c.ipv4_text.ensures.told
 
 pub returns-in-Png-clause-told : goal.returns-in-Png-clause-told
 returns-in-Png-clause-told c = subst (λ f. IfOk c.shown-in-Png.result (λ text. ghosts.tells f c.args.bytes.now (string_bytes text))) (sym c.in-Png.is) c.shown-in-Png.ensures.taken
@@ -40,7 +40,7 @@ pub returns-in-Elf-clause-stops : goal.returns-in-Elf-clause-stops
 returns-in-Elf-clause-stops c = subst (λ f. IfErr c.shown-in-Elf.result (ghosts.stops f c.args.bytes.now)) (sym c.in-Elf.is) c.shown-in-Elf.ensures.stops
 
 pub returns-in-Ipv4-clause-stops : goal.returns-in-Ipv4-clause-stops
-returns-in-Ipv4-clause-stops c = subst (λ f. IfErr c.shown-in-Ipv4.result (ghosts.stops f c.args.bytes.now)) (sym c.in-Ipv4.is) c.shown-in-Ipv4.ensures.stops
+returns-in-Ipv4-clause-stops c = subst (λ f. IfErr c.ipv4_text.result (ghosts.stops f c.args.bytes.now)) (sym c.in-Ipv4.is) c.ipv4_text.ensures.stops
 
 pub returns-in-Png-clause-stops : goal.returns-in-Png-clause-stops
 returns-in-Png-clause-stops c = subst (λ f. IfErr c.shown-in-Png.result (ghosts.stops f c.args.bytes.now)) (sym c.in-Png.is) c.shown-in-Png.ensures.stops

@@ -1,0 +1,60 @@
+//! Numbers whose width a field in front says.
+
+use crate::building::Builder;
+use deku_attributes::model::{Field, Order};
+use deku_description::syntax::Expression;
+use deku_markers::computing::Computer;
+use deku_markers::marker;
+use deku_markers::marker::{Marker, Under, Unit};
+use deku_markers::part::{Named, under};
+use deku_texts::refusal::Stop;
+use deku_texts::words;
+use deku_texts::wrapping::{is_big, number_kind};
+
+impl<'b, 'a> Builder<'b, 'a> {
+    /// A number of as many bits or bytes as a field in front says.
+    pub(crate) fn wide(
+        &mut self,
+        field: &Field<'a>,
+        called: Named<'_>,
+        width: &Expression<'a>,
+        unit: Unit,
+    ) -> Result<(), Stop> {
+        if self.items.is_empty() {
+            return self.wrong(
+                field.span,
+                "a width with no field in front",
+                "write a number",
+            );
+        }
+        let under_this = Under {
+            is_big: is_big(field),
+            is_low_first: field.layout.order == Order::Lsb,
+            unit,
+        };
+        let mut head = self.head(width, false)?;
+        let named = words::marker(self.alloc, self.front.as_str(), called.name, "Width")?;
+        let (parts, lent) = self.aliases(&mut head, called.name)?;
+        let marker = Marker {
+            name: named.as_str(),
+            parts: parts.as_str(),
+            lent: lent.as_deref(),
+            field: called.name,
+        };
+        let mut computer = Computer::new(self.alloc, head.places.as_slice(), self.constants);
+        let computed = computer.value(width)?;
+        if !computed.is_number() || !computer.guards.is_empty() || computer.used.len() != 1 {
+            return self.wrong(
+                field.span,
+                "a width that is not one field",
+                "write `bits = \"*FIELD\"`, with the field in front that says it",
+            );
+        }
+        marker::context(&mut self.markers, under_this, marker, &computer, &computed)?;
+        let number = number_kind(field).unwrap_or("u8");
+        let types = (named.as_str(), number, under_this.kind());
+        self.items.push(under(self.alloc, head, called, types)?)?;
+        self.names.push(named)?;
+        Ok(())
+    }
+}

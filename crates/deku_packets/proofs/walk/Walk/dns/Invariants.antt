@@ -1,0 +1,5 @@
+use Rattle.std.proofs.Common.{◌≡◌}
+use Rattle.deku_packets.proofs.walk.Walk.dns.Given as goal
+
+abbrev pub invariant-loop : goal.invariant-loop
+invariant-loop l = l.self.layers.bytes.now ≡ l.fn.self.layers.bytes.now
