@@ -290,8 +290,7 @@ impl Plan {
         let fields = self.fields.as_slice();
         let steps = self.steps.as_slice();
         if self.straight && are_there(bytes, count, self.bits) {
-            let short = self.short && bytes.len() >= 8;
-            cut_records(bytes, count, short, fields, steps, out);
+            cut_records(bytes, count, self.short, fields, steps, out);
             return Ok(());
         }
         read_from_first(alloc, bytes, count, fields, steps, out)

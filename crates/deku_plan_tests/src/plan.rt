@@ -180,6 +180,22 @@ fn reads_records(rt: HostRuntime) -> Result<(), Fail> {
 }
 
 #[test]
+fn reads_columns(rt: HostRuntime) -> Result<(), Fail> {
+    let plan = plan_of(&rt, rt.alloc(), &["u16,big,bits12", "u8,big,bits4"])?;
+    if plan.fields().len() != 2 {
+        return same(&"fields", &plan.fields().len(), &2);
+    }
+    let bytes = [0x12, 0x34, 0x56, 0x78, 0x9A, 0xBC, 0xDE, 0xF0, 0x1F];
+    let mut column = [NONE_YET; 4];
+    plan.read_column(rt.alloc(), &bytes, 0, &mut column)?;
+    let wanted = [plain(0x123), plain(0x567), plain(0x9AB), plain(0xDEF)];
+    same(&"first", &column, &wanted)?;
+    plan.read_column(rt.alloc(), &bytes[..8], 1, &mut column)?;
+    let wanted = [plain(4), plain(8), plain(0xC), plain(0)];
+    same(&"second", &column, &wanted)
+}
+
+#[test]
 fn refuses_as_lists(rt: HostRuntime) -> Result<(), Fail> {
     let plan = plan_of(&rt, rt.alloc(), &["u8,big,bits4", "u16,big"])?;
     if plan.fields().len() != 2 {

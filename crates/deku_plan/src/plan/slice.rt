@@ -50,7 +50,6 @@ pub(crate) fn cut_records(
     requires straight { All IsStraight fields.now }
     requires high { IsTrue short → All IsHigh fields.now }
     requires short { IsTrue short → All IsShort steps.now }
-    requires long { IsTrue short → 8 ≤ length bytes.now }
     requires places { length out.old ≡ count * length fields.now }
     requires counted { count * total (map field_shape fields.now) < 2 ^ 64 }
     requires there { count * total (map field_shape fields.now) ≤ 8 * length bytes.now }
@@ -78,7 +77,6 @@ fn cut_either(
     requires straight { All IsStraight fields.now }
     requires high { IsTrue short → All IsHigh fields.now }
     requires short { IsTrue short → All IsShort steps.now }
-    requires long { IsTrue short → 8 ≤ length bytes.now }
     requires places { length out.old ≡ length fields.now }
     requires counted { bit + total (map field_shape fields.now) < 2 ^ 64 }
     requires there { bit + total (map field_shape fields.now) ≤ 8 * length bytes.now }
@@ -86,7 +84,7 @@ fn cut_either(
     ensures places { length out.new ≡ length out.old }
     ensures after { result ≡ bit + total (map field_shape fields.now) }
 {
-    if short {
+    if short && bytes.len() >= 8 {
         cut_short(bytes, bit, fields, steps, out)
     } else {
         cut_record(bytes, bit, fields, steps, out)

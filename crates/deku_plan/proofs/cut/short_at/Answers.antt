@@ -1,4 +1,4 @@
-use Rattle.std.proofs.Common.{subst}
+use Rattle.std.proofs.Common.{subst, arith}
 use Rattle.deku_bits.specs.declared.ctx.Order.TheVariants.{Msb0}
 use Rattle.deku_bits.specs.Streams.{taken, left, fresh}
 use Rattle.deku_fields.specs.declared.list.Number.TheVariants.{Unsigned}
@@ -12,5 +12,8 @@ returns c =
     let h = c.requires.high in
     let w = c.args.step.width in
     let s = taken Msb0 w (left Msb0 c.args.bit (fresh c.args.bytes.now)) in
-    subst (λ n. IsWorth c.args.field.now (taken Msb0 n (left Msb0 c.args.bit (fresh c.args.bytes.now))) (Unsigned c.few_at.result)) c.requires.step.wide
-    (worth_high c.args.field.now s c.few_at.result w h.unsigned h.big h.high c.requires.step.wide (taken_wide w c.args.bit c.args.bytes.now c.requires.there) c.few_at.ensures.number)
+    subst (λ n. IsWorth c.args.field.now (taken Msb0 n (left Msb0 c.args.bit (fresh c.args.bytes.now))) (Unsigned c.short_bits.result)) c.requires.step.wide
+    (worth_high c.args.field.now s c.short_bits.result w h.unsigned h.big h.high c.requires.step.wide (taken_wide w c.args.bit c.args.bytes.now c.requires.there) c.short_bits.ensures)
+
+pub short_bits-requires-clause-mask : goal.short_bits-requires-clause-mask
+short_bits-requires-clause-mask c = c.requires.step.mask (omega (arith, c.requires.few))

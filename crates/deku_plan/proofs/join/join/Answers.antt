@@ -1,4 +1,4 @@
-use Rattle.std.proofs.Common.{◌≡◌, ◌*◌, ◌++◌, take, ap, ap₂, sym, ◌∙◌, arith, append_assoc}
+use Rattle.std.proofs.Common.{◌≡◌, ◌*◌, ◌++◌, take, ap₂, sym, ◌∙◌, arith, append_assoc}
 use Rattle.deku_bits.specs.Bits.{bits_in}
 use Rattle.deku_plan.specs.Laying.{value_bits}
 use Rattle.deku_plan.specs.Joining.{held_bits}

@@ -24,6 +24,7 @@ invariant_of-result c =
     let bits : c.in-Some.bits ≡ total (map field_shape fs) = c.in-Some.ensures.some ∙ ap widths c.as_slice.ensures.value ∙ widths_total fs ss c.in_ok-steps.ensures.steps in
     record {
       steps = rw same c.in_ok-steps.ensures.steps;
+      parts = search rules;
       bits = rw same bits;
       aligned = rw same c.are_aligned-aligned.ensures;
       straight = rw same c.are_straight-straight.ensures;
