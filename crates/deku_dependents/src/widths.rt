@@ -6,10 +6,11 @@ use deku_description::syntax::Expression;
 use deku_markers::computing::Computer;
 use deku_markers::marker;
 use deku_markers::marker::{Marker, Under, Unit};
-use deku_markers::part::{Named, under};
+use deku_markers::part::{Named, Place, under};
 use deku_texts::refusal::Stop;
 use deku_texts::words;
 use deku_texts::wrapping::{is_big, number_kind};
+use deku_tokens::place::Span;
 
 impl<'b, 'a> Builder<'b, 'a> {
     /// A number of as many bits or bytes as a field in front says.
@@ -35,26 +36,45 @@ impl<'b, 'a> Builder<'b, 'a> {
         let mut head = self.head(width, false)?;
         let named = words::marker(self.alloc, self.front.as_str(), called.name, "Width")?;
         let (parts, lent) = self.aliases(&mut head, called.name)?;
+        let owned = String::from_str(self.alloc, called.name)?;
         let marker = Marker {
             name: named.as_str(),
             parts: parts.as_str(),
             lent: lent.as_deref(),
-            field: called.name,
+            field: owned.as_str(),
         };
-        let mut computer = Computer::new(self.alloc, head.places.as_slice(), self.constants);
-        let computed = computer.value(width)?;
-        if !computed.is_number() || !computer.guards.is_empty() || computer.used.len() != 1 {
-            return self.wrong(
-                field.span,
-                "a width that is not one field",
-                "write `bits = \"*FIELD\"`, with the field in front that says it",
-            );
-        }
-        marker::context(&mut self.markers, under_this, marker, &computer, &computed)?;
+        self.measures(
+            head.places.as_slice(),
+            marker,
+            width,
+            under_this,
+            field.span,
+        )?;
         let number = number_kind(field).unwrap_or("u8");
         let types = (named.as_str(), number, under_this.kind());
         self.items.push(under(self.alloc, head, called, types)?)?;
         self.names.push(named)?;
         Ok(())
+    }
+
+    // Appends the type of the context of a number whose width is one of the fields of these parts.
+    fn measures(
+        &mut self,
+        places: &[Place<'a>],
+        marker: Marker<'_>,
+        width: &Expression<'a>,
+        under_this: Under,
+        span: Span,
+    ) -> Result<(), Stop> {
+        let mut computer = Computer::new(self.alloc, places, self.constants);
+        let computed = computer.value(width)?;
+        if !computed.is_number() || !computer.guards.is_empty() || computer.used.len() != 1 {
+            return self.wrong(
+                span,
+                "a width that is not one field",
+                "write `bits = \"*FIELD\"`, with the field in front that says it",
+            );
+        }
+        marker::context(&mut self.markers, under_this, marker, &computer, &computed)
     }
 }
