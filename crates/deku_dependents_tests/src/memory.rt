@@ -1,6 +1,8 @@
 //! Enums whose kinds hold memory.
 //!
 //! Printed by `derive` from `memory.rs`.
+//! What `derive --answers` prints is in
+//! `proofs/memory/EventDekuWriterUnit/to_writer/Answers.antt`.
 
 ghost use Rattle.std.specs.Prelude.{◌*◌, Some, refl};
 ghost use Rattle.deku.specs.Composing.{Then};

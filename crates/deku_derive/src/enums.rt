@@ -170,6 +170,32 @@ fn lent(
     traits(out, name, body.as_str())
 }
 
+/// Appends what proves how an enum that holds memory is written: a line for each kind.
+pub(crate) fn answers(
+    out: &mut String,
+    path: &str,
+    name: &str,
+    kinds: &[Built<'_, '_>],
+) -> Result<(), AllocError> {
+    let (front, rest) = path.split_once('.').unwrap_or((path, ""));
+    let dot = if rest.is_empty() { "" } else { "." };
+    out.push_str("use Rattle.std.proofs.Common.{rules}\n")?;
+    write!(
+        out,
+        "use Rattle.{front}.proofs{dot}{rest}.{name}DekuWriterUnit"
+    )?;
+    out.push_str(".to_writer.Goals as goal\n")?;
+    for kind in kinds {
+        let case = kind.case.name.text;
+        writeln!(out, "\npub returns-in-{case} : goal.returns-in-{case}")?;
+        writeln!(
+            out,
+            "returns-in-{case} g c = search (rules, c.in-{case}.is)"
+        )?;
+    }
+    Ok(())
+}
+
 // Appends how a kind is written.
 fn written(
     out: &mut String,

@@ -1,6 +1,6 @@
 //! From the text of a description to the text of a module, or to what is wrong.
 
-use crate::printing::{Asked, print};
+use crate::printing::{Asked, Printed, print};
 use deku_attributes::check;
 use deku_description::parse;
 use deku_tokens::place::{Complaint, told};
@@ -33,6 +33,36 @@ pub fn make<'t>(
     path: Option<&'t str>,
     text: &str,
 ) -> Result<Made, AllocError> {
+    run(alloc, file, path, text, false)
+}
+
+/// What proves how the enum of a description that holds memory is written: the text of its file
+/// `proofs/MODULE/ENUMDekuWriterUnit/to_writer/Answers.antt`. It is empty if there is none.
+///
+/// # Errors
+///
+/// `AllocError` if there is no memory.
+///
+/// ```text
+/// make_answers(alloc, "event.rs", Some("samples.event"), text)?    // use Rattle.std.proofs..
+/// ```
+pub fn make_answers<'t>(
+    alloc: Global,
+    file: &'t str,
+    path: Option<&'t str>,
+    text: &str,
+) -> Result<Made, AllocError> {
+    run(alloc, file, path, text, true)
+}
+
+// The module of a description, or its proof.
+fn run<'t>(
+    alloc: Global,
+    file: &'t str,
+    path: Option<&'t str>,
+    text: &str,
+    is_proof: bool,
+) -> Result<Made, AllocError> {
     let (parsed, mut complaints) = parse(alloc, text)?;
     let (module, found) = check(alloc, text, parsed, complaints.is_empty())?;
     add(&mut complaints, found)?;
@@ -41,10 +71,14 @@ pub fn make<'t>(
         path,
         exports: None,
     };
-    let (printed, found) = print(alloc, asked, &module)?;
+    let Printed {
+        module: printed,
+        answers,
+        complaints: found,
+    } = print(alloc, asked, &module)?;
     add(&mut complaints, found)?;
     if complaints.is_empty() {
-        return Ok(Made::Module(printed));
+        return Ok(Made::Module(if is_proof { answers } else { printed }));
     }
     complaints.sort_by_key(|complaint| complaint.span.start)?;
     Ok(Made::Wrong(told(alloc, file, text, complaints.as_slice())?))

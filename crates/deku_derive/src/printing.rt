@@ -25,6 +25,9 @@ struct Printer<'b, 'a> {
     records: &'b Records<'b, 'a>,
     constants: &'b [Constant<'a>],
     out: String,
+    // What proves how its enum that holds memory is written, and the name of that enum.
+    answers: String,
+    lent: &'a str,
     // The names of its types.
     names: Vec<String>,
     complaints: Vec<Complaint>,
@@ -44,6 +47,17 @@ pub struct Asked<'t> {
     pub exports: Option<&'t str>,
 }
 
+/// What is printed of a description.
+#[derive(Drop)]
+pub struct Printed {
+    /// The module.
+    pub module: String,
+    /// What proves how its enum that holds memory is written. It is empty if there is none.
+    pub answers: String,
+    /// What prevents it.
+    pub complaints: Vec<Complaint>,
+}
+
 /// The module of checked records, with what prevents it.
 ///
 /// # Errors
@@ -53,17 +67,15 @@ pub struct Asked<'t> {
 /// ```text
 /// print(alloc, asked, &module)?    // //! Printed by `derive` from ..
 /// ```
-pub fn print(
-    alloc: Global,
-    asked: Asked<'_>,
-    module: &Module<'_>,
-) -> Result<(String, Vec<Complaint>), AllocError> {
+pub fn print(alloc: Global, asked: Asked<'_>, module: &Module<'_>) -> Result<Printed, AllocError> {
     let records = Records::new(alloc, module.records.as_slice())?;
     let mut printer = Printer {
         alloc,
         records: &records,
         constants: module.constants.as_slice(),
         out: String::new(alloc),
+        answers: String::new(alloc),
+        lent: "",
         names: Vec::new(alloc),
         complaints: Vec::new(alloc),
         structs: Vec::new(alloc),
@@ -74,6 +86,8 @@ pub fn print(
     }
     let Printer {
         mut out,
+        answers,
+        lent,
         complaints,
         ..
     } = printer;
@@ -83,11 +97,31 @@ pub fn print(
     if !module.docs.is_empty() {
         text.push_str("//!\n")?;
     }
+    origin(&mut text, asked, lent)?;
+    items(&mut text, asked.path, module, out.as_str())?;
+    Ok(Printed {
+        module: text,
+        answers,
+        complaints,
+    })
+}
+
+// Appends where a module comes from, and where the proof is of its enum that holds memory.
+fn origin(text: &mut String, asked: Asked<'_>, lent: &str) -> Result<(), AllocError> {
     let name = asked.file.rsplit('/').next().unwrap_or(asked.file);
     let flag = if asked.exports.is_some() { " --c" } else { "" };
     writeln!(text, "//! Printed by `derive{flag}` from `{name}`.")?;
-    items(&mut text, asked.path, module, out.as_str())?;
-    Ok((text, complaints))
+    if lent.is_empty() {
+        return Ok(());
+    }
+    let path = asked.path.unwrap_or("");
+    let (_, module) = path.split_once('.').unwrap_or(("", ""));
+    let module = module.replace(*text.allocator(), ".", "/")?;
+    let module = module.as_str();
+    let slash = if module.is_empty() { "" } else { "/" };
+    text.push_str("//! What `derive --answers` prints is in\n")?;
+    write!(text, "//! `proofs/{module}{slash}{lent}DekuWriterUnit")?;
+    text.push_str("/to_writer/Answers.antt`.\n")
 }
 
 // Appends the imports and the items of a module, of which these are the records.
@@ -273,6 +307,7 @@ impl<'b, 'a> Printer<'b, 'a> {
     ) -> Result<(), AllocError> {
         self.may_be_enum(record, ids, cases, path)?;
         let owner = self.kind_owner(record)?;
+        let is_lent = owner.is_lent();
         let mut kinds = Vec::new(self.alloc);
         let mut markers = String::new(self.alloc);
         for case in cases {
@@ -286,7 +321,6 @@ impl<'b, 'a> Printer<'b, 'a> {
             let part = builder.whole()?;
             markers.push_str(builder.markers.as_str())?;
             self.built(record, builder)?;
-            let is_lent = owner.is_lent();
             kinds.push(Built {
                 case,
                 kept,
@@ -296,6 +330,9 @@ impl<'b, 'a> Printer<'b, 'a> {
         }
         enums::declaration(&mut self.out, record, kinds.as_slice())?;
         self.out.push_str(markers.as_str())?;
+        if let (true, Some(path)) = (is_lent, path) {
+            enums::answers(&mut self.answers, path, record.name.text, kinds.as_slice())?;
+        }
         enums::implementation(&mut self.out, record, ids, kinds.as_slice())
     }
 
@@ -307,13 +344,23 @@ impl<'b, 'a> Printer<'b, 'a> {
             return Ok(Owner::Kind);
         }
         let ids = words::marker(self.alloc, name, "", "Ids")?;
-        if self.has_name(ids.as_str()) {
-            self.complain(
-                record.name,
+        let refused = if self.has_name(ids.as_str()) {
+            Some((
                 "an enum whose ids have the name of another type",
                 "give it another name",
-            )?;
+            ))
+        } else if self.lent.is_empty() {
+            None
+        } else {
+            Some((
+                "a second enum that holds memory",
+                "write it in a file of its own",
+            ))
+        };
+        if let Some((message, help)) = refused {
+            self.complain(record.name, message, help)?;
         }
+        self.lent = name;
         self.names.push(ids)?;
         Ok(Owner::LentKind)
     }

@@ -1,6 +1,6 @@
 //! Modules that are printed.
 
-use deku_derive::making::{Made, make, module_path};
+use deku_derive::making::{Made, make, make_answers, module_path};
 use std::test::Fail;
 
 const DATAGRAM: &str = "//! The header of a UDP datagram, RFC 768.
@@ -450,5 +450,30 @@ fn modules_have_paths(rt: HostRuntime) -> Result<(), Fail> {
         let path = module_path(rt.alloc(), *named, file)?;
         assert_eq!(rt; path.as_deref(), *wanted, "of {file}");
     }
+    Ok(())
+}
+
+// An enum that holds memory, and one that does not.
+const HELD: &str = "#[deku(id_type = \"u8\")] enum E {
+#[deku(id = 1)] A { n: u8, #[deku(count = \"n\")] v: Vec<u8> }, #[deku(id = 2)] B }
+#[deku(id_type = \"u8\")] enum F { #[deku(id = 1)] A(u8) }";
+
+const ANSWERS: &str = "use Rattle.std.proofs.Common.{rules}
+use Rattle.samples.proofs.a.EDekuWriterUnit.to_writer.Goals as goal
+
+pub returns-in-A : goal.returns-in-A
+returns-in-A g c = search (rules, c.in-A.is)
+
+pub returns-in-B : goal.returns-in-B
+returns-in-B g c = search (rules, c.in-B.is)
+";
+
+#[test]
+fn an_enum_that_holds_memory_has_answers(rt: HostRuntime) -> Result<(), Fail> {
+    let answers = make_answers(rt.alloc(), "a.rs", Some("samples.a"), HELD)?;
+    let wanted = Made::Module(String::from_str(rt.alloc(), ANSWERS)?);
+    assert_eq!(rt; answers, wanted);
+    let none = make_answers(rt.alloc(), "a.rs", Some("samples.a"), DATAGRAM)?;
+    assert_eq!(rt; none, Made::Module(String::new(rt.alloc())));
     Ok(())
 }

@@ -5,7 +5,7 @@ use crate::exports::exports;
 use crate::header::header;
 use deku_attributes::check;
 use deku_derive::making::{Made, add};
-use deku_derive::printing::{Asked, print};
+use deku_derive::printing::{Asked, Printed, print};
 use deku_description::parse;
 use deku_tokens::place::told;
 use std::alloc::{AllocError, Global};
@@ -46,7 +46,11 @@ pub fn make_for_c<'t>(
         path,
         exports: Some(functions.as_str()),
     };
-    let (printed, found) = print(alloc, asked, &module)?;
+    let Printed {
+        module: printed,
+        complaints: found,
+        ..
+    } = print(alloc, asked, &module)?;
     add(&mut complaints, found)?;
     let (records, found) = records_of(alloc, &module)?;
     add(&mut complaints, found)?;

@@ -3,7 +3,7 @@
 #![tactic(auto)]
 
 use clap::{Arg, ArgAction, ArgMatches, Command, Error};
-use deku_derive::making::{Made, make, module_path};
+use deku_derive::making::{Made, make, make_answers, module_path};
 use deku_exports::{Wanted, make_for_c};
 use deku_tokens::place::first_difference;
 use std::alloc::Global;
@@ -66,7 +66,20 @@ fn options<'a>(alloc: Global, command: Command<'a>) -> Result<Command<'a>, Error
         .long("header")
         .action(ArgAction::SetTrue)
         .help("Prints the header of these functions");
-    Ok(command.arg(path)?.arg(check)?.arg(for_c)?.arg(header)?)
+    let answers = Arg::new(alloc, "answers")
+        .long("answers")
+        .action(ArgAction::SetTrue)
+        .conflicts_with("c")?
+        .conflicts_with("header")?
+        .help("Prints the proof of an enum that holds memory; its module says for which file");
+    Ok(
+        command
+            .arg(path)?
+            .arg(check)?
+            .arg(for_c)?
+            .arg(header)?
+            .arg(answers)?,
+    )
 }
 
 // Does what the words ask for. Whether it succeeded; if not, the error is printed.
@@ -81,11 +94,7 @@ fn run(rt: &HostRuntime, matches: &ArgMatches<'_>) -> io::Result<bool> {
         .or(matches.get_str("MODULE"))
         .unwrap_or("");
     let path = module_path(rt.alloc(), named, printed)?;
-    let made = match wanted(matches) {
-        None => make(rt.alloc(), name, path.as_deref(), text.as_str())?,
-        Some(wanted) => make_for_c(rt.alloc(), name, path.as_deref(), text.as_str(), wanted)?,
-    };
-    let text = match made {
+    let text = match asked(rt.alloc(), matches, path.as_deref(), text.as_str())? {
         Made::Module(text) => text,
         Made::Wrong(told) => {
             eprint!(rt; "{told}")?;
@@ -107,6 +116,21 @@ fn run(rt: &HostRuntime, matches: &ArgMatches<'_>) -> io::Result<bool> {
             Ok(true)
         }
     }
+}
+
+// What the words ask for of a description.
+fn asked(
+    alloc: Global,
+    matches: &ArgMatches<'_>,
+    path: Option<&str>,
+    text: &str,
+) -> io::Result<Made> {
+    let name = matches.get_str("FILE").unwrap_or("-");
+    Ok(match wanted(matches) {
+        Some(wanted) => make_for_c(alloc, name, path, text, wanted)?,
+        None if matches.get_flag("answers") => make_answers(alloc, name, path, text)?,
+        None => make(alloc, name, path, text)?,
+    })
 }
 
 // What is wanted for C, if anything is.
