@@ -186,7 +186,8 @@ pub(crate) fn answers(
     )?;
     out.push_str(".to_writer.Goals as goal\n")?;
     for kind in kinds {
-        let case = kind.case.name.text;
+        let of = kind.case;
+        let case = of.name.text;
         writeln!(out, "\npub returns-in-{case} : goal.returns-in-{case}")?;
         writeln!(
             out,
