@@ -54,16 +54,3 @@ struct Walk {
     #[deku(count = "length")]
     marks: Vec<u8>,
 }
-
-/// A list, an enum that a field chooses, and a list.
-struct Between {
-    length: u8,
-    #[deku(count = "length")]
-    marks: Vec<u8>,
-    kind: u8,
-    #[deku(ctx = "*kind")]
-    body: Body,
-    count: u8,
-    #[deku(count = "count")]
-    rest: Vec<u8>,
-}

@@ -10,10 +10,4 @@ mod dependents;
 #[cfg(test)]
 mod ended;
 #[cfg(test)]
-mod held;
-#[cfg(test)]
 mod labels;
-#[cfg(test)]
-mod memory;
-#[cfg(test)]
-mod widths;
