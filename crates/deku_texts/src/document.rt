@@ -213,7 +213,8 @@ impl Text {
         let is_round = self.form == Form::Round;
         (is_round || self.form == Form::Square)
             && self.items.iter().all(|item| {
-                let is_name = item.form == Form::Word && !item.open.as_str().contains(['(', ':']);
+                let is_name = item.form == Form::Word
+                    && !item.open.as_str().contains(['(', ':', '<']);
                 item.columns() <= PACKED && (is_name || !is_round)
             })
     }
