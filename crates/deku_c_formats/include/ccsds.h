@@ -73,13 +73,15 @@ struct telemetry_sample {
  * Reads *record from the first of the bytes on; those after it are ignored. After an error *record
  * is as it was.
  */
-uint32_t telemetry_sample_read(const uint8_t *bytes, size_t byte_count, struct telemetry_sample *record);
+uint32_t telemetry_sample_read(const uint8_t *bytes, size_t byte_count,
+    struct telemetry_sample *record);
 
 /*
  * Writes *record to the start of the bytes; those after it stay as they were. After an error some
  * of the bytes may have been written.
  */
-uint32_t telemetry_sample_write(const struct telemetry_sample *record, uint8_t *bytes, size_t byte_count);
+uint32_t telemetry_sample_write(const struct telemetry_sample *record, uint8_t *bytes,
+    size_t byte_count);
 
 #ifdef __cplusplus
 }

@@ -71,13 +71,15 @@ struct elf_header_little {
  * Reads *record from the first of the bytes on; those after it are ignored. After an error *record
  * is as it was.
  */
-uint32_t elf_header_little_read(const uint8_t *bytes, size_t byte_count, struct elf_header_little *record);
+uint32_t elf_header_little_read(const uint8_t *bytes, size_t byte_count,
+    struct elf_header_little *record);
 
 /*
  * Writes *record to the start of the bytes; those after it stay as they were. After an error some
  * of the bytes may have been written.
  */
-uint32_t elf_header_little_write(const struct elf_header_little *record, uint8_t *bytes, size_t byte_count);
+uint32_t elf_header_little_write(const struct elf_header_little *record, uint8_t *bytes,
+    size_t byte_count);
 
 /*
  * A program header: which part of the file is loaded, and where.
@@ -108,13 +110,15 @@ struct elf_segment_little {
  * Reads *record from the first of the bytes on; those after it are ignored. After an error *record
  * is as it was.
  */
-uint32_t elf_segment_little_read(const uint8_t *bytes, size_t byte_count, struct elf_segment_little *record);
+uint32_t elf_segment_little_read(const uint8_t *bytes, size_t byte_count,
+    struct elf_segment_little *record);
 
 /*
  * Writes *record to the start of the bytes; those after it stay as they were. After an error some
  * of the bytes may have been written.
  */
-uint32_t elf_segment_little_write(const struct elf_segment_little *record, uint8_t *bytes, size_t byte_count);
+uint32_t elf_segment_little_write(const struct elf_segment_little *record, uint8_t *bytes,
+    size_t byte_count);
 
 #ifdef __cplusplus
 }

@@ -49,13 +49,15 @@ struct riscv_register {
  * Reads *record from the first of the bytes on; those after it are ignored. After an error *record
  * is as it was.
  */
-uint32_t riscv_register_read(const uint8_t *bytes, size_t byte_count, struct riscv_register *record);
+uint32_t riscv_register_read(const uint8_t *bytes, size_t byte_count,
+    struct riscv_register *record);
 
 /*
  * Writes *record to the start of the bytes; those after it stay as they were. After an error some
  * of the bytes may have been written.
  */
-uint32_t riscv_register_write(const struct riscv_register *record, uint8_t *bytes, size_t byte_count);
+uint32_t riscv_register_write(const struct riscv_register *record, uint8_t *bytes,
+    size_t byte_count);
 
 /*
  * An operation on a register and a number (I), codes 0x03, 0x0F, 0x13, 0x67 and 0x73.
@@ -80,13 +82,15 @@ struct riscv_immediate {
  * Reads *record from the first of the bytes on; those after it are ignored. After an error *record
  * is as it was.
  */
-uint32_t riscv_immediate_read(const uint8_t *bytes, size_t byte_count, struct riscv_immediate *record);
+uint32_t riscv_immediate_read(const uint8_t *bytes, size_t byte_count,
+    struct riscv_immediate *record);
 
 /*
  * Writes *record to the start of the bytes; those after it stay as they were. After an error some
  * of the bytes may have been written.
  */
-uint32_t riscv_immediate_write(const struct riscv_immediate *record, uint8_t *bytes, size_t byte_count);
+uint32_t riscv_immediate_write(const struct riscv_immediate *record, uint8_t *bytes,
+    size_t byte_count);
 
 /*
  * A store (S), code 0x23. Its offset in bytes is `high * 32 + low`.

@@ -17,7 +17,7 @@ use std::alloc::Global;
 
 /// The record `Chassis`.
 #[repr(C)]
-#[derive(Debug, Clone, Copy, PartialEq, Eq)]
+#[derive(Clone, Copy)]
 pub struct Chassis {
     /// The angle of the wheel.
     pub wheel: i16,

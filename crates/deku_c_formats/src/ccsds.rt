@@ -17,7 +17,7 @@ use std::alloc::Global;
 
 /// The record `SpacePacket`.
 #[repr(C)]
-#[derive(Debug, Clone, Copy, PartialEq, Eq)]
+#[derive(Clone, Copy)]
 pub struct SpacePacket {
     /// The version of the packet.
     pub version: u8,
@@ -154,7 +154,7 @@ impl DekuContainerWrite for SpacePacket {}
 
 /// A sample of telemetry.
 #[repr(C)]
-#[derive(Debug, Clone, Copy, PartialEq, Eq)]
+#[derive(Clone, Copy)]
 pub struct TelemetrySample {
     pub voltage: u16,
     pub current: u16,

@@ -20,7 +20,7 @@ use std::alloc::Global;
 
 /// The file header. It begins with the constants 7F 45 4C 46, 2 for 64 bits, and 2 for the endian.
 #[repr(C)]
-#[derive(Debug, Clone, Copy, PartialEq, Eq)]
+#[derive(Clone, Copy)]
 pub struct ElfHeaderBig {
     /// The version of the first 16 bytes: 1.
     pub ident_version: u8,
@@ -281,7 +281,7 @@ impl DekuContainerWrite for ElfHeaderBig {}
 
 /// A program header: which part of the file is loaded, and where.
 #[repr(C)]
-#[derive(Debug, Clone, Copy, PartialEq, Eq)]
+#[derive(Clone, Copy)]
 pub struct ElfSegmentBig {
     /// 1 load, 2 dynamic, 3 interpreter, 4 note, 6 this table.
     pub kind: u32,

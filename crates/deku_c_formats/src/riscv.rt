@@ -18,7 +18,7 @@ use std::alloc::Global;
 
 /// An operation on two registers (R), code 0x33.
 #[repr(C)]
-#[derive(Debug, Clone, Copy, PartialEq, Eq)]
+#[derive(Clone, Copy)]
 pub struct RiscvRegister {
     /// The code, 7 bits.
     pub code: u8,
@@ -134,7 +134,7 @@ impl DekuContainerWrite for RiscvRegister {}
 
 /// An operation on a register and a number (I), codes 0x03, 0x0F, 0x13, 0x67 and 0x73.
 #[repr(C)]
-#[derive(Debug, Clone, Copy, PartialEq, Eq)]
+#[derive(Clone, Copy)]
 pub struct RiscvImmediate {
     /// The code, 7 bits.
     pub code: u8,
@@ -229,7 +229,7 @@ impl DekuContainerWrite for RiscvImmediate {}
 
 /// A store (S), code 0x23. Its offset in bytes is `high * 32 + low`.
 #[repr(C)]
-#[derive(Debug, Clone, Copy, PartialEq, Eq)]
+#[derive(Clone, Copy)]
 pub struct RiscvStore {
     /// The code, 7 bits.
     pub code: u8,
@@ -344,7 +344,7 @@ impl DekuContainerWrite for RiscvStore {}
 /// A branch (B), code 0x63. Its offset in units of two bytes is
 /// `sign * 2048 + top * 1024 + middle * 16 + low`.
 #[repr(C)]
-#[derive(Debug, Clone, Copy, PartialEq, Eq)]
+#[derive(Clone, Copy)]
 pub struct RiscvBranch {
     /// The code, 7 bits.
     pub code: u8,
@@ -483,7 +483,7 @@ impl DekuContainerWrite for RiscvBranch {}
 
 /// The high bits of a number (U), codes 0x17 and 0x37.
 #[repr(C)]
-#[derive(Debug, Clone, Copy, PartialEq, Eq)]
+#[derive(Clone, Copy)]
 pub struct RiscvUpper {
     /// The code, 7 bits.
     pub code: u8,
@@ -560,7 +560,7 @@ impl DekuContainerWrite for RiscvUpper {}
 /// A jump (J), code 0x6F. Its offset in units of two bytes is
 /// `sign * 524288 + high * 2048 + middle * 1024 + low`.
 #[repr(C)]
-#[derive(Debug, Clone, Copy, PartialEq, Eq)]
+#[derive(Clone, Copy)]
 pub struct RiscvJump {
     /// The code, 7 bits.
     pub code: u8,

@@ -45,13 +45,15 @@ struct ethernet_header {
  * Reads *record from the first of the bytes on; those after it are ignored. After an error *record
  * is as it was.
  */
-uint32_t ethernet_header_read(const uint8_t *bytes, size_t byte_count, struct ethernet_header *record);
+uint32_t ethernet_header_read(const uint8_t *bytes, size_t byte_count,
+    struct ethernet_header *record);
 
 /*
  * Writes *record to the start of the bytes; those after it stay as they were. After an error some
  * of the bytes may have been written.
  */
-uint32_t ethernet_header_write(const struct ethernet_header *record, uint8_t *bytes, size_t byte_count);
+uint32_t ethernet_header_write(const struct ethernet_header *record, uint8_t *bytes,
+    size_t byte_count);
 
 /*
  * The tag of a virtual network, after the kind 0x8100 or 0x88A8.

@@ -51,13 +51,15 @@ struct pcap_header_little {
  * Reads *record from the first of the bytes on; those after it are ignored. After an error *record
  * is as it was.
  */
-uint32_t pcap_header_little_read(const uint8_t *bytes, size_t byte_count, struct pcap_header_little *record);
+uint32_t pcap_header_little_read(const uint8_t *bytes, size_t byte_count,
+    struct pcap_header_little *record);
 
 /*
  * Writes *record to the start of the bytes; those after it stay as they were. After an error some
  * of the bytes may have been written.
  */
-uint32_t pcap_header_little_write(const struct pcap_header_little *record, uint8_t *bytes, size_t byte_count);
+uint32_t pcap_header_little_write(const struct pcap_header_little *record, uint8_t *bytes,
+    size_t byte_count);
 
 /*
  * The header of a packet, the low byte of each number first.
@@ -80,13 +82,15 @@ struct pcap_packet_little {
  * Reads *record from the first of the bytes on; those after it are ignored. After an error *record
  * is as it was.
  */
-uint32_t pcap_packet_little_read(const uint8_t *bytes, size_t byte_count, struct pcap_packet_little *record);
+uint32_t pcap_packet_little_read(const uint8_t *bytes, size_t byte_count,
+    struct pcap_packet_little *record);
 
 /*
  * Writes *record to the start of the bytes; those after it stay as they were. After an error some
  * of the bytes may have been written.
  */
-uint32_t pcap_packet_little_write(const struct pcap_packet_little *record, uint8_t *bytes, size_t byte_count);
+uint32_t pcap_packet_little_write(const struct pcap_packet_little *record, uint8_t *bytes,
+    size_t byte_count);
 
 /*
  * The header of a file, the high byte of each number first.
@@ -115,13 +119,15 @@ struct pcap_header_big {
  * Reads *record from the first of the bytes on; those after it are ignored. After an error *record
  * is as it was.
  */
-uint32_t pcap_header_big_read(const uint8_t *bytes, size_t byte_count, struct pcap_header_big *record);
+uint32_t pcap_header_big_read(const uint8_t *bytes, size_t byte_count,
+    struct pcap_header_big *record);
 
 /*
  * Writes *record to the start of the bytes; those after it stay as they were. After an error some
  * of the bytes may have been written.
  */
-uint32_t pcap_header_big_write(const struct pcap_header_big *record, uint8_t *bytes, size_t byte_count);
+uint32_t pcap_header_big_write(const struct pcap_header_big *record, uint8_t *bytes,
+    size_t byte_count);
 
 /*
  * The header of a packet, the high byte of each number first.
@@ -144,13 +150,15 @@ struct pcap_packet_big {
  * Reads *record from the first of the bytes on; those after it are ignored. After an error *record
  * is as it was.
  */
-uint32_t pcap_packet_big_read(const uint8_t *bytes, size_t byte_count, struct pcap_packet_big *record);
+uint32_t pcap_packet_big_read(const uint8_t *bytes, size_t byte_count,
+    struct pcap_packet_big *record);
 
 /*
  * Writes *record to the start of the bytes; those after it stay as they were. After an error some
  * of the bytes may have been written.
  */
-uint32_t pcap_packet_big_write(const struct pcap_packet_big *record, uint8_t *bytes, size_t byte_count);
+uint32_t pcap_packet_big_write(const struct pcap_packet_big *record, uint8_t *bytes,
+    size_t byte_count);
 
 #ifdef __cplusplus
 }

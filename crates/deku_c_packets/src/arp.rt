@@ -20,7 +20,7 @@ use std::alloc::Global;
 /// A question who has an address, or the answer. It begins with the constants of Ethernet and IPv4:
 /// 00 01 08 00 06 04.
 #[repr(C)]
-#[derive(Debug, Clone, Copy, PartialEq, Eq)]
+#[derive(Clone, Copy)]
 pub struct Arp {
     /// 1 is a question, 2 its answer.
     pub operation: u16,

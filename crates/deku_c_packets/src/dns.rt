@@ -17,7 +17,7 @@ use std::alloc::Global;
 
 /// The record `DnsHeader`.
 #[repr(C)]
-#[derive(Debug, Clone, Copy, PartialEq, Eq)]
+#[derive(Clone, Copy)]
 pub struct DnsHeader {
     /// The identification, which the answer to a question repeats.
     pub identification: u16,

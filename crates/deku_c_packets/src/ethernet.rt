@@ -17,7 +17,7 @@ use std::alloc::Global;
 
 /// The header of a frame.
 #[repr(C)]
-#[derive(Debug, Clone, Copy, PartialEq, Eq)]
+#[derive(Clone, Copy)]
 pub struct EthernetHeader {
     /// The address of the receiver.
     pub destination: [u8; 6],
@@ -94,7 +94,7 @@ impl DekuContainerWrite for EthernetHeader {}
 
 /// The tag of a virtual network, after the kind 0x8100 or 0x88A8.
 #[repr(C)]
-#[derive(Debug, Clone, Copy, PartialEq, Eq)]
+#[derive(Clone, Copy)]
 pub struct VlanTag {
     /// How urgent the frame is, 3 bits.
     pub priority: u8,

@@ -19,7 +19,7 @@ use std::alloc::Global;
 
 /// The record `Ipv4`.
 #[repr(C)]
-#[derive(Debug, Clone, Copy, PartialEq, Eq)]
+#[derive(Clone, Copy)]
 pub struct Ipv4 {
     /// 4.
     pub version: u8,

@@ -19,7 +19,7 @@ use std::alloc::Global;
 
 /// The record `Ipv6`.
 #[repr(C)]
-#[derive(Debug, Clone, Copy, PartialEq, Eq)]
+#[derive(Clone, Copy)]
 pub struct Ipv6 {
     /// 6.
     pub version: u8,

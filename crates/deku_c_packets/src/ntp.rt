@@ -17,7 +17,7 @@ use std::alloc::Global;
 
 /// The record `Ntp`.
 #[repr(C)]
-#[derive(Debug, Clone, Copy, PartialEq, Eq)]
+#[derive(Clone, Copy)]
 pub struct Ntp {
     /// 1 and 2: the day has a second more, or less; 3: no time is known; 2 bits.
     pub leap: u8,

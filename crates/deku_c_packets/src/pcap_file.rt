@@ -20,7 +20,7 @@ use std::alloc::Global;
 
 /// The header of a file, the low byte of each number first.
 #[repr(C)]
-#[derive(Debug, Clone, Copy, PartialEq, Eq)]
+#[derive(Clone, Copy)]
 pub struct PcapHeaderLittle {
     /// 0xA1B2C3D4 for times in microseconds, 0xA1B23C4D for nanoseconds.
     pub magic: u32,
@@ -177,7 +177,7 @@ impl DekuContainerWrite for PcapHeaderLittle {}
 
 /// The header of a packet, the low byte of each number first.
 #[repr(C)]
-#[derive(Debug, Clone, Copy, PartialEq, Eq)]
+#[derive(Clone, Copy)]
 pub struct PcapPacketLittle {
     /// When it was captured, in seconds since the beginning of 1970.
     pub seconds: u32,
@@ -266,7 +266,7 @@ impl DekuContainerWrite for PcapPacketLittle {}
 
 /// The header of a file, the high byte of each number first.
 #[repr(C)]
-#[derive(Debug, Clone, Copy, PartialEq, Eq)]
+#[derive(Clone, Copy)]
 pub struct PcapHeaderBig {
     /// 0xA1B2C3D4 for times in microseconds, 0xA1B23C4D for nanoseconds.
     pub magic: u32,
@@ -423,7 +423,7 @@ impl DekuContainerWrite for PcapHeaderBig {}
 
 /// The header of a packet, the high byte of each number first.
 #[repr(C)]
-#[derive(Debug, Clone, Copy, PartialEq, Eq)]
+#[derive(Clone, Copy)]
 pub struct PcapPacketBig {
     /// When it was captured, in seconds since the beginning of 1970.
     pub seconds: u32,

@@ -17,7 +17,7 @@ use std::alloc::Global;
 
 /// The record `TcpHeader`.
 #[repr(C)]
-#[derive(Debug, Clone, Copy, PartialEq, Eq)]
+#[derive(Clone, Copy)]
 pub struct TcpHeader {
     /// The port of the sender.
     pub source: u16,

@@ -17,7 +17,7 @@ use std::alloc::Global;
 
 /// The record `TlsRecord`.
 #[repr(C)]
-#[derive(Debug, Clone, Copy, PartialEq, Eq)]
+#[derive(Clone, Copy)]
 pub struct TlsRecord {
     /// What follows: 20 a change of cipher, 21 an alert, 22 a handshake, 23 data.
     pub content: u8,

@@ -17,7 +17,7 @@ use std::alloc::Global;
 
 /// The record `Udp`.
 #[repr(C)]
-#[derive(Debug, Clone, Copy, PartialEq, Eq)]
+#[derive(Clone, Copy)]
 pub struct Udp {
     /// The port of the sender, or 0.
     pub source: u16,

@@ -22,7 +22,8 @@ pub(crate) fn docs(out: &mut String, lines: &[&str], marks: &str) -> Result<(), 
     Ok(())
 }
 
-/// Appends the comment of a record, and what it derives. A record for C is laid out as there.
+/// Appends the comment of a record, and what it derives. A record for C is laid out as there, and is
+/// only copied.
 pub(crate) fn derives(
     out: &mut String,
     record: &Record<'_>,
@@ -35,10 +36,9 @@ pub(crate) fn derives(
     if record.docs.is_empty() {
         writeln!(out, "/// The record `{name}`.")?;
     }
-    if is_for_c {
-        out.push_str("#[repr(C)]\n")?;
-    }
-    out.push_str(if is_copied {
+    out.push_str(if is_for_c {
+        "#[repr(C)]\n#[derive(Clone, Copy)]\n"
+    } else if is_copied {
         "#[derive(Debug, Clone, Copy, PartialEq, Eq)]\n"
     } else {
         "#[derive(Debug, PartialEq, Eq, Drop)]\n"

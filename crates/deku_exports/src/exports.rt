@@ -5,8 +5,8 @@ use deku_texts::words::snake;
 use std::alloc::{AllocError, Global};
 use std::fmt::Write as _;
 
-// The columns of a line.
-const WIDTH: usize = 100;
+/// The columns of a line.
+pub(crate) const WIDTH: usize = 100;
 
 // What is above a function that reads.
 const READS: &str = "

@@ -1,6 +1,7 @@
 //! The header of the functions that C calls.
 
 use crate::crossing::Crossed;
+use crate::exports::WIDTH;
 use deku_attributes::model::Module;
 use deku_texts::words::snake;
 use std::alloc::{AllocError, Global};
@@ -34,6 +35,22 @@ const END: &str = "
 #endif
 
 #endif
+";
+
+// What is above a function that reads.
+const READS: &str = "
+/*
+ * Reads *record from the first of the bytes on; those after it are ignored. After an error *record
+ * is as it was.
+ */
+";
+
+// What is above a function that writes.
+const WRITES: &str = "
+/*
+ * Writes *record to the start of the bytes; those after it stay as they were. After an error some
+ * of the bytes may have been written.
+ */
 ";
 
 /// The header of a module with these records.
@@ -122,20 +139,32 @@ fn declared(out: &mut String, crossed: &Crossed<'_, '_>) -> Result<(), AllocErro
         "}};
 
 /* How many bytes a struct {name} is read from, and written as. */
-#define {large}_BYTES {bytes}
+#define {large}_BYTES {bytes}"
+    )?;
+    functions(out, name)
+}
 
-/*
- * Reads *record from the first of the bytes on; those after it are ignored. After an error *record
- * is as it was.
- */
-uint32_t {name}_read(const uint8_t *bytes, size_t byte_count, struct {name} *record);
+// Appends the functions of a struct.
+fn functions(out: &mut String, name: &str) -> Result<(), AllocError> {
+    let alloc = *out.allocator();
+    out.push_str(READS)?;
+    let head = format!(in alloc; "{name}_read(const uint8_t *bytes, size_t byte_count,")?;
+    let last = format!(in alloc; "struct {name} *record);")?;
+    prototype(out, head.as_str(), last.as_str())?;
+    out.push_str(WRITES)?;
+    let head = format!(in alloc; "{name}_write(const struct {name} *record, uint8_t *bytes,")?;
+    prototype(out, head.as_str(), "size_t byte_count);")
+}
 
-/*
- * Writes *record to the start of the bytes; those after it stay as they were. After an error some
- * of the bytes may have been written.
- */
-uint32_t {name}_write(const struct {name} *record, uint8_t *bytes, size_t byte_count);"
-    )
+// Appends what declares a function: one line, or two if one does not hold it.
+fn prototype(out: &mut String, head: &str, last: &str) -> Result<(), AllocError> {
+    let line = format!(in *out.allocator(); "uint32_t {head} {last}")?;
+    let line = line.as_str();
+    if line.chars().count() <= WIDTH {
+        writeln!(out, "{line}")
+    } else {
+        writeln!(out, "uint32_t {head}\n    {last}")
+    }
 }
 
 // A name with large letters.

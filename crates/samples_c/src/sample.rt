@@ -17,7 +17,7 @@ use std::alloc::Global;
 
 /// The record `Sample`.
 #[repr(C)]
-#[derive(Debug, Clone, Copy, PartialEq, Eq)]
+#[derive(Clone, Copy)]
 pub struct Sample {
     pub sensor: u8,
     pub state: u8,
