@@ -10,107 +10,129 @@ use deku_testing_values::records::{expect_packed, expect_refusal};
 use std::alloc::Global;
 use std::test::Fail;
 
-// One event of each kind, with its bytes.
-fn events(alloc: Global) -> Result<[(Event, &'static [u8]); 7], Fail> {
-    let text = Event::Text {
-        length: 3,
-        data: b"abc".to_vec(alloc)?,
-    };
-    let known = Event::Answer {
-        has_time: true,
+// The bytes of an event of each kind, and of an answer without a time.
+const EVENTS: [&[u8]; 7] = [
+    &[0x00],
+    &[0x01, 0x00, 0x03, 0x61, 0x62, 0x63],
+    &[0x02, 0x85, 0x01, 0x02, 0x03, 0x04],
+    &[0x02, 0x05],
+    &[0x03, 0x01, 0xFF, 0xFF, 0x00, 0x02],
+    &[0x04, 0x07],
+    &[0x09, 0x02, 0x0A, 0x0B],
+];
+
+// The event with these bytes.
+fn event(alloc: Global, row: usize) -> Result<Event, Fail> {
+    match row {
+        0 => Ok(Event::Nothing),
+        1 => text(alloc, 3, b"abc"),
+        2 => Ok(answer(true, Some(Be(0x01020304)))),
+        3 => Ok(answer(false, None)),
+        4 => walk(alloc),
+        5 => Ok(Event::Alarm { code: 7 }),
+        _ => other(alloc, 9, 2, &[0x0A, 0x0B]),
+    }
+}
+
+fn text(alloc: Global, length: u16, letters: &[u8]) -> Result<Event, Fail> {
+    let data = letters.to_vec(alloc)?;
+    Ok(Event::Text { length, data })
+}
+
+fn answer(has_time: bool, time: Option<Be<u32>>) -> Event {
+    Event::Answer {
+        has_time,
         code: 5,
-        time: Some(Be(0x01020304)),
-    };
-    let unknown = Event::Answer {
-        has_time: false,
-        code: 5,
-        time: None,
-    };
+        time,
+    }
+}
+
+fn walk(alloc: Global) -> Result<Event, Fail> {
     let mark = Mark { across: -1, up: 2 };
-    let walk = Event::Walk(Path {
-        count: 1,
-        marks: [mark].to_vec(alloc)?,
-    });
-    let other = Event::Other {
-        kind: 9,
-        length: 2,
-        bytes: [0x0A, 0x0B].to_vec(alloc)?,
-    };
-    Ok([
-        (Event::Nothing, &[0x00]),
-        (text, &[0x01, 0x00, 0x03, 0x61, 0x62, 0x63]),
-        (known, &[0x02, 0x85, 0x01, 0x02, 0x03, 0x04]),
-        (unknown, &[0x02, 0x05]),
-        (walk, &[0x03, 0x01, 0xFF, 0xFF, 0x00, 0x02]),
-        (Event::Alarm { code: 7 }, &[0x04, 0x07]),
-        (other, &[0x09, 0x02, 0x0A, 0x0B]),
-    ])
+    let marks = [mark].to_vec(alloc)?;
+    Ok(Event::Walk(Path { count: 1, marks }))
+}
+
+fn other(alloc: Global, kind: u64, length: u8, rest: &[u8]) -> Result<Event, Fail> {
+    let bytes = rest.to_vec(alloc)?;
+    Ok(Event::Other {
+        kind,
+        length,
+        bytes,
+    })
 }
 
 #[test]
 fn kinds_that_hold_memory(rt: HostRuntime) -> Result<(), Fail> {
     let alloc = rt.alloc();
-    for (event, bytes) in events(alloc)? {
-        expect_packed(alloc, (), &event, bytes.len() * 8, bytes)?;
+    for row in 0..EVENTS.len() {
+        let bytes = EVENTS[row];
+        expect_packed(alloc, (), &event(alloc, row)?, bytes.len() * 8, bytes)?;
     }
+    Ok(())
+}
+
+#[test]
+fn two_of_them(rt: HostRuntime) -> Result<(), Fail> {
+    let alloc = rt.alloc();
+    let first = other(alloc, 5, 1, &[0xFF])?;
+    let second = text(alloc, 1, b"z")?;
     let log = Log {
-        first: Event::Other {
-            kind: 5,
-            length: 1,
-            bytes: [0xFF].to_vec(alloc)?,
-        },
+        first,
         between: 0x0607,
-        second: Event::Text {
-            length: 1,
-            data: b"z".to_vec(alloc)?,
-        },
+        second,
     };
     let bytes = [0x05, 0x01, 0xFF, 0x06, 0x07, 0x01, 0x00, 0x01, 0x7A];
     expect_packed(alloc, (), &log, 72, &bytes)
 }
 
+// Events that are not written: how each is made, and why.
+const OUT_OF_STEP: [(u64, DekuError); 4] = [
+    (1, DekuError::Assertion("count out of step with items")),
+    (0, DekuError::Assertion("kind out of step with its id")),
+    (4, DekuError::Assertion("kind out of step with its id")),
+    (
+        256,
+        DekuError::InvalidParam("bit size of input is larger than requested size"),
+    ),
+];
+
 #[test]
 fn kinds_out_of_step(rt: HostRuntime) -> Result<(), Fail> {
     let alloc = rt.alloc();
-    let text = Event::Text {
-        length: 2,
-        data: b"abc".to_vec(alloc)?,
-    };
-    let refusal = DekuError::Assertion("count out of step with items");
-    same(&1, &text.pack(alloc, ()), &Err(refusal))?;
-    for kind in [0, 4, 256] {
-        let other = Event::Other {
-            kind,
-            length: 0,
-            bytes: Vec::new(alloc),
-        };
-        let refusal = if kind < 256 {
-            DekuError::Assertion("kind out of step with its id")
+    for (kind, refusal) in OUT_OF_STEP {
+        let event = if kind == 1 {
+            text(alloc, 2, b"abc")?
         } else {
-            DekuError::InvalidParam("bit size of input is larger than requested size")
+            other(alloc, kind, 0, &[])?
         };
-        same(&kind, &other.pack(alloc, ()), &Err(refusal))?;
+        same(&kind, &event.pack(alloc, ()), &Err(refusal))?;
     }
     let ended = DekuError::Incomplete(NeedSize::new(8));
     expect_refusal::<Event>(alloc, &[0x01, 0x00, 0x02, 0x61], ended, 32)
 }
 
+// The record, with its enum of this id.
+fn between(alloc: Global, kind: u8) -> Result<Between, Fail> {
+    let marks = [0x0A, 0x0B].to_vec(alloc)?;
+    let rest = [0xFF].to_vec(alloc)?;
+    Ok(Between {
+        length: 2,
+        marks,
+        kind,
+        body: Body::Number(0x0304),
+        count: 1,
+        rest,
+    })
+}
+
 #[test]
 fn an_enum_between_lists(rt: HostRuntime) -> Result<(), Fail> {
     let alloc = rt.alloc();
-    let mut between = Between {
-        length: 2,
-        marks: [0x0A, 0x0B].to_vec(alloc)?,
-        kind: 1,
-        body: Body::Number(0x0304),
-        count: 1,
-        rest: [0xFF].to_vec(alloc)?,
-    };
     let bytes = [0x02, 0x0A, 0x0B, 0x01, 0x03, 0x04, 0x01, 0xFF];
-    expect_packed(alloc, (), &between, 64, &bytes)?;
-    between.kind = 2;
+    expect_packed(alloc, (), &between(alloc, 1)?, 64, &bytes)?;
     let refusal = DekuError::Assertion("kind out of step with its id");
-    same(&2, &between.pack(alloc, ()), &Err(refusal))
+    same(&2, &between(alloc, 2)?.pack(alloc, ()), &Err(refusal))
 }
 
 // The width, the number, and the bytes after four bits A and before a byte FF.
@@ -140,16 +162,26 @@ fn widths_that_a_field_says(rt: HostRuntime) -> Result<(), Fail> {
         last: 0,
     };
     let refusal = DekuError::InvalidParam("bit size of input is larger than requested size");
-    same(&4, &narrow.pack(alloc, ()), &Err(refusal))?;
-    let mut sums = Sums {
+    same(&4, &narrow.pack(alloc, ()), &Err(refusal))
+}
+
+fn sums(alloc: Global, sum: u64) -> Result<Sums, Fail> {
+    let items = [0xFF].to_vec(alloc)?;
+    Ok(Sums {
         bytes: 3,
-        sum: 0x010203,
+        sum,
         count: 1,
-        items: [0xFF].to_vec(alloc)?,
-    };
-    expect_packed(alloc, (), &sums, 48, &[0x03, 0x03, 0x02, 0x01, 0x01, 0xFF])?;
-    sums.sum = 0;
-    same(&0, &sums.pack(alloc, ()), &Err(DekuError::Assertion("sum")))?;
+        items,
+    })
+}
+
+#[test]
+fn bytes_that_a_field_says(rt: HostRuntime) -> Result<(), Fail> {
+    let alloc = rt.alloc();
+    let bytes = [0x03, 0x03, 0x02, 0x01, 0x01, 0xFF];
+    expect_packed(alloc, (), &sums(alloc, 0x010203)?, 48, &bytes)?;
+    let refusal = Err(DekuError::Assertion("sum"));
+    same(&0, &sums(alloc, 0)?.pack(alloc, ()), &refusal)?;
     let wide = DekuError::Parse("too much data");
     expect_refusal::<Sums>(alloc, &[0x09, 0, 0, 0, 0, 0, 0, 0, 0, 0], wide, 8)
 }
