@@ -8,11 +8,10 @@ use deku_attributes::model::{Attribute, Endian, Field};
 use deku_attributes::reading::{bits_of, is_name, literal, names};
 use deku_description::syntax::{Closure, Constant, Expression, Operator, Type};
 use deku_markers::computing::{Computed, Computer};
+use deku_markers::following::Dependent;
 use deku_markers::marker;
 use deku_markers::marker::{Amount, Marker};
-use deku_markers::part::{
-    Dependent, Named, Owner, Part, Place, asserted, following, leaf, rest, tuple,
-};
+use deku_markers::part::{Named, Owner, Part, Place, asserted, following, leaf, rest, tuple};
 use deku_texts::document::Text;
 use deku_texts::records::Records;
 use deku_texts::refusal::Stop;
@@ -303,7 +302,7 @@ impl<'b, 'a> Builder<'b, 'a> {
     fn named(&self, field: &Field<'a>, name: &str) -> Result<(), Stop> {
         let mut is_taken = words::is_local(name);
         for part in &self.items {
-            for place in &part.places {
+            for place in &part.fields.places {
                 is_taken = is_taken || place.name.as_str().eq_ignore_ascii_case(name);
             }
         }
@@ -451,7 +450,8 @@ impl<'b, 'a> Builder<'b, 'a> {
     // Which part is the first that has a field of an expression; the last one, if none has.
     fn first_named(&self, expression: &Expression<'a>) -> usize {
         let is_named = |part: &Part<'_>| {
-            part.places
+            part.fields
+                .places
                 .iter()
                 .any(|place| names(expression, place.name.as_str()))
         };
@@ -494,14 +494,14 @@ impl<'b, 'a> Builder<'b, 'a> {
         part: &mut Part<'a>,
         field: &str,
     ) -> Result<(String, Option<String>), AllocError> {
-        let name = self.alias(&part.kind, field, "Head")?;
-        part.kind = Text::word(self.alloc, name.as_str())?;
+        let name = self.alias(&part.texts.kind, field, "Head")?;
+        part.texts.kind = Text::word(self.alloc, name.as_str())?;
         if !part.is_lent {
-            part.lent = Text::word(self.alloc, name.as_str())?;
+            part.texts.lent = Text::word(self.alloc, name.as_str())?;
             return Ok((name, None));
         }
-        let lent = self.alias(&part.lent, field, "Lent")?;
-        part.lent = Text::word(self.alloc, lent.as_str())?;
+        let lent = self.alias(&part.texts.lent, field, "Lent")?;
+        part.texts.lent = Text::word(self.alloc, lent.as_str())?;
         Ok((name, Some(lent)))
     }
 
@@ -542,7 +542,7 @@ impl<'b, 'a> Builder<'b, 'a> {
             lent: lent.as_deref(),
             field: owned.as_str(),
         };
-        let places = head.places.as_slice();
+        let places = head.fields.places.as_slice();
         match form {
             Dependent::Optional => self.shows(places, marker, expression, field.span)?,
             Dependent::Counted | Dependent::Filled => {
@@ -690,7 +690,7 @@ impl<'b, 'a> Builder<'b, 'a> {
             field: owned.as_str(),
         };
         self.checks(
-            part.places.as_slice(),
+            part.fields.places.as_slice(),
             marker,
             expression,
             field.span,

@@ -72,7 +72,7 @@ impl<'b, 'a> Builder<'b, 'a> {
             lent: lent.as_deref(),
             field: owned.as_str(),
         };
-        self.says(head.places.as_slice(), marker, id)?;
+        self.says(head.fields.places.as_slice(), marker, id)?;
         let part = chosen(self.alloc, head, called, (named.as_str(), kind.text))?;
         self.names.push(named)?;
         self.items.push(part)?;

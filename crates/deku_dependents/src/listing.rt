@@ -6,7 +6,8 @@ use deku_description::syntax::{Closure, Type};
 use deku_markers::computing::Computer;
 use deku_markers::marker;
 use deku_markers::marker::Marker;
-use deku_markers::part::{Named, Part, Place, field};
+use deku_markers::part::{Fields, Named, Part, Place};
+use deku_markers::texts::{Texts, field};
 use deku_texts::document::{Form, Text, joined};
 use deku_texts::refusal::Stop;
 use deku_texts::words;
@@ -35,49 +36,64 @@ pub(crate) fn list_part<'a>(
     called: Named<'_>,
     form: Listed<'_>,
 ) -> Result<Part<'a>, AllocError> {
+    let texts = list_texts(alloc, called, form)?;
+    Ok(Part {
+        texts,
+        is_lent: true,
+        fields: Fields::one(alloc, called.name, None, ".items")?,
+    })
+}
+
+// How it is printed.
+fn list_texts(alloc: Global, called: Named<'_>, form: Listed<'_>) -> Result<Texts, AllocError> {
     let Listed {
         part,
         types: [first, second],
         open,
         marker,
     } = form;
-    let reference = called.reference(alloc)?;
-    let items = field(alloc, "items", reference.as_str())?;
-    let marked = format!(in alloc; "{marker}: PhantomData")?;
-    let value = [items.as_str(), marked.as_str()];
-    let term = called.term(alloc)?;
-    let items_term = joined(alloc, "items = ", term.as_str())?;
-    let marked_term = format!(in alloc; "{marker} = record {{}}")?;
-    let terms = [items_term.as_str(), marked_term.as_str()];
-    let held = field(alloc, "items", called.name)?;
-    let kind = joined(alloc, part, "<")?;
-    let lent = joined(alloc, part, "Ref<")?;
-    let pattern = joined(alloc, part, " {")?;
-    let (places, names) = items_of(alloc, called.name)?;
-    Ok(Part {
-        kind: group(alloc, Form::Angle, kind.as_str(), &[first, second])?,
-        lent: group(alloc, Form::Angle, lent.as_str(), &["'a", first, second])?,
-        is_lent: true,
-        pattern: group(alloc, Form::Brace, pattern.as_str(), &[held.as_str(), ".."])?,
-        value: group(alloc, Form::Brace, open, &value)?,
-        term: group(alloc, Form::GhostBrace, "record {", &terms)?,
-        places,
-        names,
+    Ok(Texts {
+        kind: list_kind(alloc, part, "<", &[first, second])?,
+        lent: list_kind(alloc, part, "Ref<", &["'a", first, second])?,
+        pattern: list_pattern(alloc, part, called.name)?,
+        value: list_value(alloc, called, open, marker)?,
+        term: list_term(alloc, called, marker)?,
     })
 }
 
-// Where the items of a list of this name are, and the names of its parts.
-fn items_of<'a>(alloc: Global, name: &str) -> Result<(Vec<Place<'a>>, Vec<String>), AllocError> {
-    let mut places = Vec::new(alloc);
-    places.push(Place {
-        name: String::from_str(alloc, name)?,
-        number: None,
-        path: String::from_str(alloc, ".items")?,
-        same: String::new(alloc),
-    })?;
-    let mut names = Vec::new(alloc);
-    names.push(String::from_str(alloc, name)?)?;
-    Ok((places, names))
+// Its type.
+fn list_kind(alloc: Global, part: &str, end: &str, types: &[&str]) -> Result<Text, AllocError> {
+    let open = joined(alloc, part, end)?;
+    group(alloc, Form::Angle, open.as_str(), types)
+}
+
+// The pattern that takes its items out of it.
+fn list_pattern(alloc: Global, part: &str, name: &str) -> Result<Text, AllocError> {
+    let open = joined(alloc, part, " {")?;
+    let held = field(alloc, "items", name)?;
+    group(alloc, Form::Brace, open.as_str(), &[held.as_str(), ".."])
+}
+
+// What makes it of its items.
+fn list_value(
+    alloc: Global,
+    called: Named<'_>,
+    open: &str,
+    marker: &str,
+) -> Result<Text, AllocError> {
+    let reference = called.reference(alloc)?;
+    let items = field(alloc, "items", reference.as_str())?;
+    let marked = joined(alloc, marker, ": PhantomData")?;
+    group(alloc, Form::Brace, open, &[items.as_str(), marked.as_str()])
+}
+
+// The same in ghost text.
+fn list_term(alloc: Global, called: Named<'_>, marker: &str) -> Result<Text, AllocError> {
+    let term = called.term(alloc)?;
+    let items = joined(alloc, "items = ", term.as_str())?;
+    let marked = joined(alloc, marker, " = record {}")?;
+    let terms = [items.as_str(), marked.as_str()];
+    group(alloc, Form::GhostBrace, "record {", &terms)
 }
 
 fn group(alloc: Global, form: Form, open: &str, words: &[&str]) -> Result<Text, AllocError> {

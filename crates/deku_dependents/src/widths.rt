@@ -44,7 +44,7 @@ impl<'b, 'a> Builder<'b, 'a> {
             field: owned.as_str(),
         };
         self.measures(
-            head.places.as_slice(),
+            head.fields.places.as_slice(),
             marker,
             width,
             under_this,

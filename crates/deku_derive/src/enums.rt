@@ -4,7 +4,8 @@ use crate::structs::{derives, docs, item, parts_alias, term_of, traits, value_of
 use deku_attributes::model::{Case, Endian, Id, IdSource, Ids, Order, Record};
 use deku_dependents::building::field_name;
 use deku_description::syntax::Shape;
-use deku_markers::part::{Part, field};
+use deku_markers::part::Part;
+use deku_markers::texts::field;
 use deku_texts::document::{Form, Text, joined as joined_text, start};
 use deku_texts::words::{quoted, snake};
 use deku_texts::wrapping::field_kind;
@@ -212,7 +213,7 @@ fn written(
     if reference == "&parts" {
         start(out, 16)?;
         out.push_str("let parts = ")?;
-        kind.part.value.print(out, 16, 1, false)?;
+        kind.part.texts.value.print(out, 16, 1, false)?;
         out.push(';')?;
     }
     start(out, 16)?;
@@ -233,7 +234,7 @@ fn written(
 // A reference to the parts of a kind: the field itself, if it is alone and nothing is around it.
 // One of the name of the local `id` is a local of another name.
 fn reference<'p>(part: &'p Part<'_>) -> &'p str {
-    let field = match part.value.as_word() {
+    let field = match part.texts.value.as_word() {
         Some("()") => Some("&()"),
         Some(word) if part.is_lent => Some(word),
         Some(word) => word.strip_prefix('*'),
@@ -365,7 +366,7 @@ fn kind_type(alloc: Global, kind: &Built<'_, '_>, held: Held) -> Result<Text, Al
     };
     let mut items = Vec::new(alloc);
     items.push(match held {
-        Held::Parts => kind.part.kind.copy(alloc)?,
+        Held::Parts => kind.part.texts.kind.copy(alloc)?,
         Held::Nothing => Text::word(alloc, "()")?,
     })?;
     for id in [first, last] {
@@ -387,7 +388,7 @@ fn parts_of(
     let alloc = *out.allocator();
     out.push_str("| ")?;
     constructor(out, name, kind)?;
-    let term = kind.part.term.copy(alloc)?;
+    let term = kind.part.texts.term.copy(alloc)?;
     let mut items = Vec::new(alloc);
     match &kind.kept {
         Some(kept) => {
@@ -626,7 +627,7 @@ fn from_parts(
     place: (usize, usize),
 ) -> Result<(), AllocError> {
     let alloc = *out.allocator();
-    let pattern = stood(alloc, Form::Pattern, kind, &kind.part.pattern, place)?;
+    let pattern = stood(alloc, Form::Pattern, kind, &kind.part.texts.pattern, place)?;
     arm(out, &pattern, &own(alloc, name, kind, true)?)
 }
 
@@ -639,7 +640,7 @@ fn parts(
     is_given: bool,
 ) -> Result<(), AllocError> {
     let alloc = *out.allocator();
-    let mut body = stood(alloc, Form::Round, kind, &kind.part.value, place)?;
+    let mut body = stood(alloc, Form::Round, kind, &kind.part.texts.value, place)?;
     if !is_given {
         body = Text::one(alloc, Form::Round, "Enum::new(", body)?;
     }

@@ -293,7 +293,7 @@ impl<'b, 'a> Printer<'b, 'a> {
             path,
         )?;
         if *shape == Shape::Named {
-            self.structs.push((record.name.text, whole.places))?;
+            self.structs.push((record.name.text, whole.fields.places))?;
         }
         self.built(record, builder)
     }

@@ -104,10 +104,10 @@ pub(crate) fn implementation(
 ) -> Result<(), AllocError> {
     let alloc = *out.allocator();
     let name = record.name.text;
-    named(out, name, whole.names.as_slice())?;
-    parts_alias(out, name, "Parts", &whole.kind)?;
+    named(out, name, whole.fields.names.as_slice())?;
+    parts_alias(out, name, "Parts", &whole.texts.kind)?;
     out.push_str("    ghost parts_of = { λ r. ")?;
-    whole.term.print(out, 4, 3, false)?;
+    whole.texts.term.print(out, 4, 3, false)?;
     out.push_str(" };\n\n    ghost record_of = { λ p. ")?;
     record_of(alloc, shape, fields, whole)?.print(out, 4, 3, false)?;
     out.push_str(" };\n\n")?;
@@ -116,12 +116,12 @@ pub(crate) fn implementation(
     if owner == Owner::Copied {
         writeln!(out, "\nimpl ToParts for {name} {{")?;
         out.push_str("    fn parts(&self) -> Self::Parts {\n        ")?;
-        whole.value.print(out, 8, 0, false)?;
+        whole.texts.value.print(out, 8, 0, false)?;
         out.push_str("\n    }\n}\n")?;
         return traits(out, name, "write_record(self, writer, ctx)");
     }
     let mut body = String::from_str(alloc, "let parts = ")?;
-    whole.value.print(&mut body, 8, 1, false)?;
+    whole.texts.value.print(&mut body, 8, 1, false)?;
     body.push_str(";\n        parts.to_writer(writer, ctx)")?;
     traits(out, name, body.as_str())?;
     update(out, name, fields)
@@ -216,7 +216,7 @@ fn from_parts(
 ) -> Result<(), AllocError> {
     let alloc = *out.allocator();
     let mut text = String::from_str(alloc, "    fn from_parts(")?;
-    taken(&mut text, &whole.pattern)?;
+    taken(&mut text, &whole.texts.pattern)?;
     made(alloc, record, shape, fields, whole, None)?.print(&mut text, 8, 0, false)?;
     if !whole.is_lent && text.as_str().lines().count() > LINES {
         text = String::from_str(

@@ -1,6 +1,7 @@
 //! Parts, and after them an enum that they choose the kind of.
 
-use crate::part::{Named, Part, Place, field, within};
+use crate::part::{Named, Part};
+use crate::texts::{Texts, field};
 use deku_texts::document::{Form, Text, joined};
 use std::alloc::{AllocError, Global};
 
@@ -9,35 +10,38 @@ pub fn chosen<'a>(
     alloc: Global,
     head: Part<'a>,
     called: Named<'_>,
-    (marker, kind): (&str, &str),
+    types: (&str, &str),
 ) -> Result<Part<'a>, AllocError> {
-    let mut names = head.names;
-    names.push(String::from_str(alloc, called.name)?)?;
-    let mut places = within(alloc, head.places, ".head", ".0")?;
-    places.push(Place {
-        name: String::from_str(alloc, called.name)?,
-        number: None,
-        path: String::from_str(alloc, ".kind")?,
-        same: String::from_str(alloc, ".1")?,
-    })?;
-    let access = called.access;
-    let term = format!(in alloc; "⟦<{kind} as FromParts>⟧.parts_of r.{access}")?;
-    let is_lent = called.owner.is_lent();
+    let Part { texts, fields, .. } = head;
+    let fields = fields.followed(alloc, called.name, None, ".kind")?;
     Ok(Part {
-        lent: lent_of(alloc, is_lent, head.lent, marker, kind)?,
-        kind: type_of(alloc, head.kind, marker, kind)?,
-        is_lent,
-        pattern: pattern_of(alloc, head.pattern, called.name)?,
-        value: value_of(alloc, head.value, called, marker)?,
-        term: three(
-            alloc,
-            (Form::GhostBrace, "record {"),
-            head.term.after(alloc, "head = ")?,
-            Text::of(term).after(alloc, "kind = ")?,
-            "id = record {}",
-        )?,
-        places,
-        names,
+        texts: printed(alloc, texts, called, types)?,
+        is_lent: called.owner.is_lent(),
+        fields,
+    })
+}
+
+// How they are printed.
+fn printed(
+    alloc: Global,
+    head: Texts,
+    called: Named<'_>,
+    (marker, enumeration): (&str, &str),
+) -> Result<Texts, AllocError> {
+    let Texts {
+        kind,
+        lent,
+        pattern,
+        value,
+        term,
+    } = head;
+    let is_lent = called.owner.is_lent();
+    Ok(Texts {
+        kind: type_of(alloc, kind, marker, enumeration)?,
+        lent: lent_of(alloc, is_lent, lent, marker, enumeration)?,
+        pattern: pattern_of(alloc, pattern, called.name)?,
+        value: value_of(alloc, value, called, marker)?,
+        term: term_of(alloc, term, called.access, enumeration)?,
     })
 }
 
@@ -95,6 +99,14 @@ fn value_of(
     items.push(head)?;
     items.push(Text::of(format!(in alloc; "self.{access}.parts()")?))?;
     Text::group(alloc, Form::Round, "ChosenBy::new(", items)
+}
+
+// The same in ghost text.
+fn term_of(alloc: Global, head: Text, access: &str, enumeration: &str) -> Result<Text, AllocError> {
+    let head = head.after(alloc, "head = ")?;
+    let kind = format!(in alloc; "kind = ⟦<{enumeration} as FromParts>⟧.parts_of r.{access}")?;
+    let form = (Form::GhostBrace, "record {");
+    three(alloc, form, head, Text::of(kind), "id = record {}")
 }
 
 // Three texts in brackets.

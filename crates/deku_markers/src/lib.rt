@@ -4,5 +4,7 @@
 
 pub mod chosen;
 pub mod computing;
+pub mod following;
 pub mod marker;
 pub mod part;
+pub mod texts;

@@ -1,33 +1,32 @@
-//! What is printed of parts: their types, how they are taken apart and made, and where their
-//! fields are.
+//! Parts of records: how they are printed, and where their fields are.
 
+use crate::following::Dependent;
+use crate::texts::Texts;
 use deku_attributes::model::Field;
 use deku_texts::document::{Form, Text, joined};
 use deku_texts::records::Records;
-use deku_texts::words;
 use deku_texts::words::quoted;
-use deku_texts::wrapping::{Wrapping, count_of, number_kind, part_kind, wrapping_of};
+use deku_texts::wrapping::{Wrapping, count_of, number_kind, wrapping_of};
 use std::alloc::{AllocError, Global};
 
 /// How many items a tuple has at most. Of more there are tuples of these.
 pub const GROUP: usize = 8;
 
-/// What is printed of a part, or of several that are one.
+/// A part, or several that are one.
 #[derive(Drop)]
 pub struct Part<'a> {
-    /// Its type.
-    pub kind: Text,
-    /// The type of what is written for it, where memory is lent for `'a`.
-    pub lent: Text,
+    /// How it is printed.
+    pub texts: Texts,
     /// Whether memory is lent.
     pub is_lent: bool,
-    /// The pattern that takes its fields out of it.
-    pub pattern: Text,
-    /// What makes it of the fields.
-    pub value: Text,
-    /// The same in ghost text.
-    pub term: Text,
-    /// Where its fields are.
+    /// Its fields.
+    pub fields: Fields<'a>,
+}
+
+/// The fields of a part.
+#[derive(Drop)]
+pub struct Fields<'a> {
+    /// Where they are.
     pub places: Vec<Place<'a>>,
     /// The name of each of its parts.
     pub names: Vec<String>,
@@ -97,7 +96,7 @@ impl<'n> Named<'n> {
     }
 
     /// The value of the field.
-    fn value(self, alloc: Global) -> Result<String, AllocError> {
+    pub(crate) fn value(self, alloc: Global) -> Result<String, AllocError> {
         let Named {
             name,
             access,
@@ -124,45 +123,129 @@ impl<'n> Named<'n> {
 }
 
 impl<'a> Place<'a> {
+    // The place of a field of this name.
+    fn new(
+        alloc: Global,
+        name: &str,
+        number: Option<&'a str>,
+        path: &str,
+        same: &str,
+    ) -> Result<Place<'a>, AllocError> {
+        Ok(Place {
+            name: String::from_str(alloc, name)?,
+            number,
+            path: String::from_str(alloc, path)?,
+            same: String::from_str(alloc, same)?,
+        })
+    }
+
     // It after what leads to the part that it is in.
     fn after(self, alloc: Global, path: &str, same: &str) -> Result<Place<'a>, AllocError> {
-        let inner = self.path.as_str();
-        let inner_same = self.same.as_str();
+        let Place {
+            name,
+            number,
+            path: inner,
+            same: inner_same,
+        } = self;
         Ok(Place {
-            path: format!(in alloc; "{path}{inner}")?,
-            same: format!(in alloc; "{same}{inner_same}")?,
-            name: self.name,
-            number: self.number,
+            path: joined(alloc, path, inner.as_str())?,
+            same: joined(alloc, same, inner_same.as_str())?,
+            name,
+            number,
         })
+    }
+}
+
+impl<'a> Fields<'a> {
+    // None.
+    fn none(alloc: Global) -> Fields<'a> {
+        Fields {
+            places: Vec::new(alloc),
+            names: Vec::new(alloc),
+        }
+    }
+
+    /// One field, which is alone in its part.
+    pub fn one(
+        alloc: Global,
+        name: &str,
+        number: Option<&'a str>,
+        path: &str,
+    ) -> Result<Fields<'a>, AllocError> {
+        let mut fields = Fields::none(alloc);
+        fields.name(alloc, name)?;
+        fields.place(alloc, name, number, path, "")?;
+        Ok(fields)
+    }
+
+    // Adds the name of a part.
+    fn name(&mut self, alloc: Global, name: &str) -> Result<(), AllocError> {
+        let name = String::from_str(alloc, name)?;
+        self.names.push(name)?;
+        Ok(())
+    }
+
+    // Adds the place of a field.
+    fn place(
+        &mut self,
+        alloc: Global,
+        name: &str,
+        number: Option<&'a str>,
+        path: &str,
+        same: &str,
+    ) -> Result<(), AllocError> {
+        let place = Place::new(alloc, name, number, path, same)?;
+        self.places.push(place)?;
+        Ok(())
+    }
+
+    // Adds others.
+    fn add(&mut self, others: Fields<'a>) -> Result<(), AllocError> {
+        let Fields { places, names } = others;
+        add(&mut self.places, places)?;
+        add(&mut self.names, names)
+    }
+
+    /// They after what leads to the part that they are in.
+    pub fn within(self, alloc: Global, path: &str, same: &str) -> Result<Fields<'a>, AllocError> {
+        let Fields { places, names } = self;
+        let places = within(alloc, places, path, same)?;
+        Ok(Fields { places, names })
+    }
+
+    // They in a head, and after it a field at this path.
+    pub(crate) fn followed(
+        self,
+        alloc: Global,
+        name: &str,
+        number: Option<&'a str>,
+        path: &str,
+    ) -> Result<Fields<'a>, AllocError> {
+        let mut fields = self.within(alloc, ".head", ".0")?;
+        fields.name(alloc, name)?;
+        fields.place(alloc, name, number, path, ".1")?;
+        Ok(fields)
     }
 }
 
 impl<'a> Part<'a> {
     /// Where a field is in it.
     pub fn place(&self, name: &str) -> Option<&Place<'a>> {
-        self.places.iter().find(|place| place.name.as_str() == name)
+        let mut places = self.fields.places.iter();
+        places.find(|place| place.name.as_str() == name)
     }
 }
 
-// Where a field is that is alone in its part.
-fn one_place<'a>(
-    alloc: Global,
-    name: &str,
-    number: Option<&'a str>,
-    path: &str,
-) -> Result<Vec<Place<'a>>, AllocError> {
-    let mut places = Vec::new(alloc);
-    places.push(Place {
-        name: String::from_str(alloc, name)?,
-        number,
-        path: String::from_str(alloc, path)?,
-        same: String::new(alloc),
-    })?;
-    Ok(places)
+// Adds items to others.
+fn add<T: Drop>(items: &mut Vec<T>, others: Vec<T>) -> Result<(), AllocError> {
+    for other in others {
+        items.push(other)?;
+    }
+    Ok(())
 }
 
-/// Places after what leads to the part that they are in.
-pub fn within<'a>(
+// Places after what leads to the part that they are in.
+fn within<'a>(
     alloc: Global,
     places: Vec<Place<'a>>,
     path: &str,
@@ -170,7 +253,8 @@ pub fn within<'a>(
 ) -> Result<Vec<Place<'a>>, AllocError> {
     let mut moved = Vec::new(alloc);
     for place in places {
-        moved.push(place.after(alloc, path, same)?)?;
+        let place = place.after(alloc, path, same)?;
+        moved.push(place)?;
     }
     Ok(moved)
 }
@@ -183,24 +267,12 @@ pub fn leaf<'a>(
     named: Named<'_>,
 ) -> Result<Part<'a>, AllocError> {
     let is_lent = named.owner.is_lent() && !records.is_copied(field);
-    let value = if is_lent {
-        named.reference(alloc)?
-    } else {
-        named.value(alloc)?
-    };
-    let mut names = Vec::new(alloc);
-    for _ in 0..count_of(field) {
-        names.push(String::from_str(alloc, named.name)?)?;
-    }
+    let texts = Texts::leaf(alloc, field, named, is_lent)?;
+    let fields = leaf_fields(alloc, field, named.name)?;
     let part = Part {
-        kind: Text::of(part_kind(alloc, field)?),
-        lent: Text::of(lent_kind(alloc, field, is_lent)?),
+        texts,
         is_lent,
-        pattern: Text::word(alloc, named.name)?,
-        value: Text::of(value),
-        term: Text::of(named.term(alloc)?),
-        places: one_place(alloc, named.name, number_kind(field), "")?,
-        names,
+        fields,
     };
     let wrapping = wrapping_of(field);
     if wrapping.around.is_empty() {
@@ -209,47 +281,35 @@ pub fn leaf<'a>(
     within_one(alloc, part, wrapping, named)
 }
 
+// Where the field of a part is, and the names of its parts.
+fn leaf_fields<'a>(alloc: Global, field: &Field<'a>, name: &str) -> Result<Fields<'a>, AllocError> {
+    let mut fields = Fields::none(alloc);
+    fields.place(alloc, name, number_kind(field), "", "")?;
+    for _ in 0..count_of(field) {
+        fields.name(alloc, name)?;
+    }
+    Ok(fields)
+}
+
 // A field with the part around it.
 fn within_one<'a>(
     alloc: Global,
     part: Part<'a>,
     wrapping: Wrapping,
-    Named { name, owner, .. }: Named<'_>,
+    named: Named<'_>,
 ) -> Result<Part<'a>, AllocError> {
-    let around = wrapping.around;
-    let made = wrapper(alloc, wrapping, owner)?;
-    let (made, word) = (made.as_str(), words::part(around));
-    let value = part.value.as_word().unwrap_or(name);
-    let term = part.term.as_word().unwrap_or(name);
+    let Part {
+        texts,
+        is_lent,
+        fields,
+    } = part;
+    let texts = texts.wrapped(alloc, wrapping, named)?;
+    let fields = fields.within(alloc, ".0", "")?;
     Ok(Part {
-        pattern: Text::of(format!(in alloc; "{around}({name})")?),
-        value: Text::of(format!(in alloc; "{made}({value})")?),
-        term: Text::of(format!(in alloc; "{word} {term}")?),
-        places: within(alloc, part.places, ".0", "")?,
-        ..part
+        texts,
+        is_lent,
+        fields,
     })
-}
-
-// What is called with the value of a field.
-fn wrapper(
-    alloc: Global,
-    Wrapping { around, bits }: Wrapping,
-    owner: Owner,
-) -> Result<String, AllocError> {
-    match bits {
-        Some(bits) if owner.is_lent() => format!(in alloc; "{around}::<_, {bits}>"),
-        _ => String::from_str(alloc, around),
-    }
-}
-
-// The type of what is written for a field.
-fn lent_kind(alloc: Global, field: &Field<'_>, is_lent: bool) -> Result<String, AllocError> {
-    let kind = part_kind(alloc, field)?;
-    if !is_lent {
-        return Ok(kind);
-    }
-    let kind = kind.as_str();
-    format!(in alloc; "&'a {kind}")
 }
 
 /// Parts as one: a tuple, or the part itself if it is alone.
@@ -284,55 +344,113 @@ fn one_tuple<'a>(alloc: Global, mut parts: Vec<Part<'a>>) -> Result<Part<'a>, Al
 
 // Several parts as a tuple.
 fn several<'a>(alloc: Global, parts: Vec<Part<'a>>) -> Result<Part<'a>, AllocError> {
-    let count = parts.len();
-    let mut whole = nothing(alloc)?;
-    let mut kinds = Vec::new(alloc);
-    let mut lent = Vec::new(alloc);
-    let mut patterns = Vec::new(alloc);
-    let mut values = Vec::new(alloc);
-    let mut terms = Vec::new(alloc);
-    for (i, part) in parts.into_iter().enumerate() {
-        kinds.push(part.kind)?;
-        lent.push(part.lent)?;
-        patterns.push(part.pattern)?;
-        values.push(part.value)?;
-        terms.push(part.term)?;
-        whole.is_lent = whole.is_lent || part.is_lent;
-        let path = format!(in alloc; ".{i}")?;
-        let same = equation(alloc, i, count)?;
-        let places = within(alloc, part.places, path.as_str(), same.as_str())?;
-        whole.places = chained(whole.places, places)?;
-        whole.names = chained(whole.names, part.names)?;
+    let mut tupled = Tupled::new(alloc, parts.len());
+    for part in parts {
+        tupled.push(part)?;
     }
-    Ok(Part {
-        kind: Text::group(alloc, Form::Round, "(", kinds)?,
-        lent: Text::group(alloc, Form::Round, "(", lent)?,
-        pattern: Text::group(alloc, Form::Pattern, "(", patterns)?,
-        value: Text::group(alloc, Form::Round, "(", values)?,
-        term: Text::group(alloc, Form::GhostRound, "(", terms)?,
-        ..whole
-    })
+    tupled.into_part()
 }
 
-// Items, and then others.
-fn chained<T: Drop>(mut items: Vec<T>, others: Vec<T>) -> Result<Vec<T>, AllocError> {
-    for item in others {
-        items.push(item)?;
+// Several parts that become a tuple.
+#[derive(Drop)]
+struct Tupled<'a> {
+    alloc: Global,
+    // How many there will be.
+    count: usize,
+    is_lent: bool,
+    kinds: Vec<Text>,
+    lents: Vec<Text>,
+    patterns: Vec<Text>,
+    values: Vec<Text>,
+    terms: Vec<Text>,
+    fields: Fields<'a>,
+}
+
+impl<'a> Tupled<'a> {
+    fn new(alloc: Global, count: usize) -> Tupled<'a> {
+        Tupled {
+            alloc,
+            count,
+            is_lent: false,
+            kinds: Vec::new(alloc),
+            lents: Vec::new(alloc),
+            patterns: Vec::new(alloc),
+            values: Vec::new(alloc),
+            terms: Vec::new(alloc),
+            fields: Fields::none(alloc),
+        }
     }
-    Ok(items)
+
+    fn push(&mut self, part: Part<'a>) -> Result<(), AllocError> {
+        let Part {
+            texts,
+            is_lent,
+            fields,
+        } = part;
+        self.is_lent = self.is_lent || is_lent;
+        self.place(fields)?;
+        self.print(texts)
+    }
+
+    // Adds the fields of the next part.
+    fn place(&mut self, fields: Fields<'a>) -> Result<(), AllocError> {
+        let place = self.kinds.len();
+        let path = format!(in self.alloc; ".{place}")?;
+        let same = equation(self.alloc, place, self.count)?;
+        let fields = fields.within(self.alloc, path.as_str(), same.as_str())?;
+        self.fields.add(fields)
+    }
+
+    // Adds how a part is printed.
+    fn print(&mut self, texts: Texts) -> Result<(), AllocError> {
+        let Texts {
+            kind,
+            lent,
+            pattern,
+            value,
+            term,
+        } = texts;
+        self.kinds.push(kind)?;
+        self.lents.push(lent)?;
+        self.patterns.push(pattern)?;
+        self.values.push(value)?;
+        self.terms.push(term)?;
+        Ok(())
+    }
+
+    fn into_part(self) -> Result<Part<'a>, AllocError> {
+        let Tupled {
+            alloc,
+            is_lent,
+            kinds,
+            lents,
+            patterns,
+            values,
+            terms,
+            fields,
+            ..
+        } = self;
+        let texts = Texts {
+            kind: Text::group(alloc, Form::Round, "(", kinds)?,
+            lent: Text::group(alloc, Form::Round, "(", lents)?,
+            pattern: Text::group(alloc, Form::Pattern, "(", patterns)?,
+            value: Text::group(alloc, Form::Round, "(", values)?,
+            term: Text::group(alloc, Form::GhostRound, "(", terms)?,
+        };
+        Ok(Part {
+            texts,
+            is_lent,
+            fields,
+        })
+    }
 }
 
 // No parts.
 fn nothing<'a>(alloc: Global) -> Result<Part<'a>, AllocError> {
     Ok(Part {
-        kind: Text::word(alloc, "()")?,
-        lent: Text::word(alloc, "()")?,
+        texts: Texts::nothing(alloc)?,
         is_lent: false,
-        pattern: Text::word(alloc, "()")?,
-        value: Text::word(alloc, "()")?,
-        term: Text::word(alloc, "tt")?,
-        places: Vec::new(alloc),
-        names: Vec::new(alloc),
+        fields: Fields::none(alloc),
     })
 }
 
@@ -348,192 +466,22 @@ fn equation(alloc: Global, place: usize, count: usize) -> Result<String, AllocEr
     Ok(path)
 }
 
-/// What comes after a head.
-#[derive(Clone, Copy, PartialEq, Eq)]
-pub enum Dependent {
-    /// A list that the head counts.
-    Counted,
-    /// A list of as many bits as the head says.
-    Filled,
-    /// An item that the head shows.
-    Optional,
-}
-
-impl Dependent {
-    // What is in front of the types that its part has.
-    fn kind(self) -> &'static str {
-        match self {
-            Dependent::Counted => "CountedBy<",
-            Dependent::Filled => "FilledBy<",
-            Dependent::Optional => "Optional<",
-        }
-    }
-
-    // The same of what is lent.
-    fn lent(self) -> &'static str {
-        match self {
-            Dependent::Counted => "CountedByRef<",
-            Dependent::Filled => "SizedBy<",
-            Dependent::Optional => "OptionalRef<",
-        }
-    }
-
-    // What is in front of the fields of its pattern.
-    fn pattern(self) -> &'static str {
-        match self {
-            Dependent::Counted => "CountedBy {",
-            Dependent::Filled => "FilledBy {",
-            Dependent::Optional => "Optional {",
-        }
-    }
-
-    // What is in front of the name of its marker, where it is lent.
-    fn value(self) -> &'static str {
-        match self {
-            Dependent::Counted => "CountedByRef::<_, ",
-            Dependent::Filled => "SizedBy::<_, ",
-            Dependent::Optional => "OptionalRef::<_, ",
-        }
-    }
-
-    // The field for what comes after the head.
-    fn item(self) -> &'static str {
-        match self {
-            Dependent::Counted | Dependent::Filled => "items",
-            Dependent::Optional => "item",
-        }
-    }
-
-    // The same of what is lent.
-    fn lent_item(self) -> &'static str {
-        match self {
-            Dependent::Filled => "content",
-            Dependent::Counted | Dependent::Optional => self.item(),
-        }
-    }
-
-    // The field for the marker, as a value and in ghost text.
-    fn marker(self) -> (&'static str, &'static str) {
-        match self {
-            Dependent::Counted => ("count: PhantomData", "count = record {}"),
-            Dependent::Filled => ("size: PhantomData", "size = record {}"),
-            Dependent::Optional => ("condition: PhantomData", "condition = record {}"),
-        }
-    }
-}
-
 /// A head, and after it a field of these items, as the marker of this name says.
 pub fn following<'a>(
     alloc: Global,
     head: Part<'a>,
     form: Dependent,
     called: Named<'_>,
-    (marker, item): (&str, &str),
+    types: (&str, &str),
 ) -> Result<Part<'a>, AllocError> {
-    let mut names = head.names;
-    names.push(String::from_str(alloc, called.name)?)?;
-    let mut places = within(alloc, head.places, ".head", ".0")?;
-    places.push(Place {
-        name: String::from_str(alloc, called.name)?,
-        number: None,
-        path: joined(alloc, ".", form.item())?,
-        same: String::from_str(alloc, ".1")?,
-    })?;
+    let Part { texts, fields, .. } = head;
+    let path = joined(alloc, ".", form.item())?;
+    let fields = fields.followed(alloc, called.name, None, path.as_str())?;
     Ok(Part {
-        kind: kind_of(alloc, head.kind, form, marker, item)?,
-        lent: lent_of(alloc, head.lent, form, marker, item)?,
+        texts: texts.following(alloc, form, called, types)?,
         is_lent: true,
-        pattern: pattern_of(alloc, head.pattern, form, called.name)?,
-        value: value_of(alloc, head.value, form, called, marker)?,
-        term: term_of(alloc, head.term, form, called)?,
-        places,
-        names,
+        fields,
     })
-}
-
-// The type of a head and what comes after it.
-fn kind_of(
-    alloc: Global,
-    head: Text,
-    form: Dependent,
-    marker: &str,
-    item: &str,
-) -> Result<Text, AllocError> {
-    let mut items = Vec::new(alloc);
-    items.push(head)?;
-    items.push(Text::word(alloc, marker)?)?;
-    items.push(Text::word(alloc, item)?)?;
-    Text::group(alloc, Form::Angle, form.kind(), items)
-}
-
-// The same where memory is lent.
-fn lent_of(
-    alloc: Global,
-    head: Text,
-    form: Dependent,
-    marker: &str,
-    item: &str,
-) -> Result<Text, AllocError> {
-    let mut items = Vec::new(alloc);
-    let held = if form == Dependent::Filled {
-        format!(in alloc; "&'a Vec<{item}>")?
-    } else {
-        items.push(Text::word(alloc, "'a")?)?;
-        String::from_str(alloc, item)?
-    };
-    items.push(head)?;
-    items.push(Text::word(alloc, marker)?)?;
-    items.push(Text::of(held))?;
-    Text::group(alloc, Form::Angle, form.lent(), items)
-}
-
-/// A field of a struct with what it is bound to, or its name alone if that is the same.
-pub fn field(alloc: Global, name: &str, value: &str) -> Result<String, AllocError> {
-    if name == value {
-        return String::from_str(alloc, name);
-    }
-    format!(in alloc; "{name}: {value}")
-}
-
-// The pattern of a head and what comes after it.
-fn pattern_of(alloc: Global, head: Text, form: Dependent, name: &str) -> Result<Text, AllocError> {
-    let mut items = Vec::new(alloc);
-    items.push(head.after(alloc, "head: ")?)?;
-    items.push(Text::of(field(alloc, form.item(), name)?))?;
-    items.push(Text::word(alloc, "..")?)?;
-    Text::group(alloc, Form::Brace, form.pattern(), items)
-}
-
-// A head and what comes after it, where memory is lent.
-fn value_of(
-    alloc: Global,
-    head: Text,
-    form: Dependent,
-    called: Named<'_>,
-    marker: &str,
-) -> Result<Text, AllocError> {
-    let mut items = Vec::new(alloc);
-    items.push(head.after(alloc, "head: ")?)?;
-    let held = called.reference(alloc)?;
-    items.push(Text::of(field(alloc, form.lent_item(), held.as_str())?))?;
-    items.push(Text::word(alloc, form.marker().0)?)?;
-    let open = joined(alloc, marker, ", _> {")?;
-    Text::group(alloc, Form::Brace, open.as_str(), items)?.after(alloc, form.value())
-}
-
-// The same in ghost text.
-fn term_of(
-    alloc: Global,
-    head: Text,
-    form: Dependent,
-    called: Named<'_>,
-) -> Result<Text, AllocError> {
-    let mut items = Vec::new(alloc);
-    items.push(head.after(alloc, "head = ")?)?;
-    let held = Text::of(called.term(alloc)?).after(alloc, " = ")?;
-    items.push(held.after(alloc, form.item())?)?;
-    items.push(Text::word(alloc, form.marker().1)?)?;
-    Text::group(alloc, Form::GhostBrace, "record {", items)
 }
 
 /// A head, and after it a number of this type, under the context of this type that the marker of
@@ -544,72 +492,17 @@ pub fn under<'a>(
     called: Named<'_>,
     (marker, number, context): (&str, &'a str, &str),
 ) -> Result<Part<'a>, AllocError> {
-    let mut names = head.names;
-    names.push(String::from_str(alloc, called.name)?)?;
-    let mut places = within(alloc, head.places, ".head", ".0")?;
-    places.push(Place {
-        name: String::from_str(alloc, called.name)?,
-        number: Some(number),
-        path: String::from_str(alloc, ".value")?,
-        same: String::from_str(alloc, ".1")?,
-    })?;
-    let types = [marker, number, context];
-    let pattern = field(alloc, "value", called.name)?;
-    let pattern = [pattern.as_str(), ".."];
-    let term = joined(alloc, "value = ", called.term(alloc)?.as_str())?;
-    let term = [term.as_str(), "context = record {}"];
-    let first = head.pattern.after(alloc, "head: ")?;
-    let first_term = head.term.after(alloc, "head = ")?;
+    let Part {
+        texts,
+        is_lent,
+        fields,
+    } = head;
+    let fields = fields.followed(alloc, called.name, Some(number), ".value")?;
     Ok(Part {
-        kind: headed(alloc, Form::Angle, "UnderHead<", head.kind, &types)?,
-        lent: headed(alloc, Form::Angle, "UnderHead<", head.lent, &types)?,
-        is_lent: head.is_lent,
-        pattern: headed(alloc, Form::Brace, "UnderHead {", first, &pattern)?,
-        value: under_value(alloc, head.value, called, (marker, context))?,
-        term: headed(alloc, Form::GhostBrace, "record {", first_term, &term)?,
-        places,
-        names,
+        texts: texts.under(alloc, called, [marker, number, context])?,
+        is_lent,
+        fields,
     })
-}
-
-// A head and a number under the context that it says.
-fn under_value(
-    alloc: Global,
-    head: Text,
-    called: Named<'_>,
-    (marker, context): (&str, &str),
-) -> Result<Text, AllocError> {
-    let value = called.value(alloc)?;
-    if !called.owner.is_lent() {
-        return headed(
-            alloc,
-            Form::Round,
-            "UnderHead::new(",
-            head,
-            &[value.as_str()],
-        );
-    }
-    let open = format!(in alloc; "UnderHead::<_, {marker}, _, {context}> {{")?;
-    let value = joined(alloc, "value: ", value.as_str())?;
-    let others = [value.as_str(), "context: PhantomData"];
-    let head = head.after(alloc, "head: ")?;
-    headed(alloc, Form::Brace, open.as_str(), head, &others)
-}
-
-// A text and words after it, in brackets.
-fn headed(
-    alloc: Global,
-    form: Form,
-    open: &str,
-    first: Text,
-    others: &[&str],
-) -> Result<Text, AllocError> {
-    let mut items = Vec::new(alloc);
-    items.push(first)?;
-    for other in others {
-        items.push(Text::word(alloc, other)?)?;
-    }
-    Text::group(alloc, form, open, items)
 }
 
 /// A list up to the end of the input, of these items, after the parts in front.
@@ -619,63 +512,38 @@ pub fn rest<'a>(
     called: Named<'_>,
     item: &str,
 ) -> Result<Part<'a>, AllocError> {
-    let Named { name, access, .. } = called;
-    let held = Text::of(field(alloc, "items", name)?);
-    let pattern = Text::one(alloc, Form::Brace, "Rest {", held)?;
-    let mut names = Vec::new(alloc);
-    names.push(String::from_str(alloc, name)?)?;
-    let list = Part {
-        kind: Text::of(format!(in alloc; "Rest<{item}>")?),
-        lent: Text::of(format!(in alloc; "&'a Vec<{item}>")?),
-        is_lent: true,
-        pattern,
-        value: Text::of(format!(in alloc; "&self.{access}")?),
-        term: Text::of(format!(in alloc; "record {{ items = r.{access} }}")?),
-        places: one_place(alloc, name, None, ".items")?,
-        names,
-    };
     if front.is_empty() {
-        return Ok(list);
+        return list_to_end(alloc, called, item);
     }
-    before(alloc, tuple(alloc, front)?, list)
+    let front = tuple(alloc, front)?;
+    before(alloc, front, list_to_end(alloc, called, item)?)
+}
+
+fn list_to_end<'a>(alloc: Global, called: Named<'_>, item: &str) -> Result<Part<'a>, AllocError> {
+    let texts = Texts::rest(alloc, called, item)?;
+    Ok(Part {
+        texts,
+        is_lent: true,
+        fields: Fields::one(alloc, called.name, None, ".items")?,
+    })
 }
 
 // Parts, and after them what is last.
 fn before<'a>(alloc: Global, head: Part<'a>, rest: Part<'a>) -> Result<Part<'a>, AllocError> {
-    let places = within(alloc, head.places, ".head", ".0")?;
-    let places = chained(places, within(alloc, rest.places, ".rest", ".1")?)?;
-    let names = chained(head.names, rest.names)?;
-    let pattern = [
-        head.pattern.after(alloc, "head: ")?,
-        rest.pattern.after(alloc, "rest: ")?,
-    ];
-    let value = [
-        head.value.after(alloc, "head: ")?,
-        rest.value.after(alloc, "rest: ")?,
-    ];
-    let term = [
-        head.term.after(alloc, "head = ")?,
-        rest.term.after(alloc, "rest = ")?,
-    ];
+    let Part { texts, fields, .. } = head;
+    let Part {
+        texts: last,
+        fields: others,
+        ..
+    } = rest;
+    let texts = texts.before(alloc, last)?;
+    let mut fields = fields.within(alloc, ".head", ".0")?;
+    fields.add(others.within(alloc, ".rest", ".1")?)?;
     Ok(Part {
-        kind: pair(alloc, Form::Angle, "Before<", [head.kind, rest.kind])?,
-        lent: pair(alloc, Form::Angle, "Before<", [head.lent, rest.lent])?,
+        texts,
         is_lent: true,
-        pattern: pair(alloc, Form::Brace, "Before {", pattern)?,
-        value: pair(alloc, Form::Brace, "Before {", value)?,
-        term: pair(alloc, Form::GhostBrace, "record {", term)?,
-        places,
-        names,
+        fields,
     })
-}
-
-// Two texts in brackets.
-fn pair(alloc: Global, form: Form, open: &str, texts: [Text; 2]) -> Result<Text, AllocError> {
-    let [first, second] = texts;
-    let mut items = Vec::new(alloc);
-    items.push(first)?;
-    items.push(second)?;
-    Text::group(alloc, form, open, items)
 }
 
 /// A part that passes the check of this name.
@@ -685,36 +553,16 @@ pub fn asserted<'a>(
     part: Part<'a>,
     marker: &str,
 ) -> Result<Part<'a>, AllocError> {
-    let mut kinds = Vec::new(alloc);
-    kinds.push(part.kind)?;
-    kinds.push(Text::word(alloc, marker)?)?;
-    let mut lents = Vec::new(alloc);
-    lents.push(part.lent)?;
-    lents.push(Text::word(alloc, marker)?)?;
-    let mut patterns = Vec::new(alloc);
-    patterns.push(part.pattern.after(alloc, "part: ")?)?;
-    patterns.push(Text::word(alloc, "..")?)?;
-    let mut terms = Vec::new(alloc);
-    terms.push(part.term.after(alloc, "part = ")?)?;
-    terms.push(Text::word(alloc, "check = record {}")?)?;
-    let value = if owner.is_lent() {
-        let mut values = Vec::new(alloc);
-        values.push(part.value.after(alloc, "part: ")?)?;
-        values.push(Text::word(alloc, "check: PhantomData")?)?;
-        let open = format!(in alloc; "Assert::<_, {marker}> {{")?;
-        Text::group(alloc, Form::Brace, open.as_str(), values)?
-    } else {
-        Text::one(alloc, Form::Round, "Assert::new(", part.value)?
-    };
+    let Part {
+        texts,
+        is_lent,
+        fields,
+    } = part;
+    let texts = texts.asserted(alloc, owner, marker)?;
     Ok(Part {
-        kind: Text::group(alloc, Form::Angle, "Assert<", kinds)?,
-        lent: Text::group(alloc, Form::Angle, "Assert<", lents)?,
-        is_lent: part.is_lent,
-        pattern: Text::group(alloc, Form::Brace, "Assert {", patterns)?,
-        value,
-        term: Text::group(alloc, Form::GhostBrace, "record {", terms)?,
-        places: within(alloc, part.places, ".part", "")?,
-        names: part.names,
+        texts,
+        is_lent,
+        fields: fields.within(alloc, ".part", "")?,
     })
 }
 
@@ -727,25 +575,12 @@ pub fn constant<'a>(
     marker: &str,
     word: &str,
 ) -> Result<Part<'a>, AllocError> {
-    let value = if owner.is_lent() {
-        let open = format!(in alloc; "Magic::<{kind}, {marker}> {{")?;
-        let mut values = Vec::new(alloc);
-        values.push(Text::word(alloc, "part: PhantomData")?)?;
-        values.push(Text::word(alloc, "constant: PhantomData")?)?;
-        Text::group(alloc, Form::Brace, open.as_str(), values)?
-    } else {
-        Text::word(alloc, "Magic::new()")?
-    };
-    let mut names = Vec::new(alloc);
-    names.push(String::from_str(alloc, word)?)?;
+    let texts = Texts::constant(alloc, owner, kind, marker)?;
+    let mut fields = Fields::none(alloc);
+    fields.name(alloc, word)?;
     Ok(Part {
-        kind: Text::of(format!(in alloc; "Magic<{kind}, {marker}>")?),
-        lent: Text::of(format!(in alloc; "Magic<{kind}, {marker}>")?),
+        texts,
         is_lent: false,
-        pattern: Text::word(alloc, "_")?,
-        value,
-        term: Text::word(alloc, "record { part = record {}; constant = record {} }")?,
-        places: Vec::new(alloc),
-        names,
+        fields,
     })
 }
