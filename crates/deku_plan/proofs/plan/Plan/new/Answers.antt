@@ -24,6 +24,7 @@ invariant_of-result c =
     let bits : c.in-Some.bits ≡ total (map field_shape fs) = c.in-Some.ensures.some ∙ ap widths c.as_slice.ensures.value ∙ widths_total fs ss c.in_ok-steps.ensures.steps in
     record {
       steps = rw same c.in_ok-steps.ensures.steps;
+      firsts = c.in_ok-steps.ensures.firsts (subst (λ n. n < 18446744073709551616) (c.in-Some.ensures.some ∙ ap widths c.as_slice.ensures.value) c.ranges.bits);
       parts = search rules;
       bits = rw same bits;
       aligned = rw same c.are_aligned-aligned.ensures;
