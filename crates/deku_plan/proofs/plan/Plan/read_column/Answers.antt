@@ -39,7 +39,8 @@ returns-then-are_there c =
     let long : length c.cut_column.new.out ≡ count = omega arith in
     let here : c.args.index < length ss = omega (arith, lt, steps_long fs ss c.self.invariant.steps) in
     let first : ℕ = (get_or ss c.args.index no_step).first in
-    let begins : first ≡ total (map field_shape (take c.args.index fs)) = first_at 0 ss c.args.index no_step c.self.invariant.firsts here ∙ widths_take fs ss c.args.index c.self.invariant.steps in
+    let begins : first ≡ total (map field_shape (take c.args.index fs)) =
+    omega (arith, first_at 0 ss c.args.index no_step c.self.invariant.firsts here, widths_take fs ss c.args.index c.self.invariant.steps) in
     let each = rw (c.as_slice-fields.ensures.value, c.as_slice-steps.ensures.value) at c.cut_column.ensures in
     let counted = subst (λ n. count * n < 18446744073709551616) c.self.invariant.bits (c.if-are_there.ensures.counted refl) in
     let there = subst (λ n. count * n ≤ 8 * length c.args.bytes.now) c.self.invariant.bits (c.if-are_there.ensures.there refl) in
