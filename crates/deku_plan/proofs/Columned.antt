@@ -1,5 +1,5 @@
 -- One field of records: what is known of its values.
-use Rattle.std.proofs.Common.{◌≡◌, ◌≢◌, ℕ, zero, suc, ◌+◌, ◌*◌, ◌<◌, ◌≤◌, ◌^◌, Bool, true, false, Option, Some, Ok, Err, Result, List, [], ◌∷◌, ◌++◌, map, length, take, set, get_or, All, refl, ap, sym, ◌∙◌, subst, arith, below_more, get_or-set_other, get_or-set_same, length-append}
+use Rattle.std.proofs.Common.{◌≡◌, ◌≢◌, ℕ, zero, suc, ◌+◌, ◌*◌, ◌/◌, ◌%◌, ◌<◌, ◌≤◌, ◌^◌, Bool, true, false, Option, Some, Ok, Err, Result, List, [], ◌∷◌, ◌++◌, map, length, take, set, get_or, All, refl, ap, sym, ◌∙◌, subst, arith, below_more, get_or-set_other, get_or-set_same, length-append}
 use Rattle.std.proofs.lemmas.Option.{slice_get-get_or}
 use Rattle.std.proofs.lemmas.List.{get_or_append_left, get_or-append-add}
 use Rattle.deku_bits.specs.declared.ctx.Order.TheVariants.{Msb0}
@@ -16,7 +16,7 @@ use Rattle.deku_fields.specs.declared.list.Number.TheVariants.{Unsigned}
 use Rattle.deku_fields.specs.declared.list.Field.{Field}
 use Rattle.deku_fields.specs.Items.{IsNumber, number_type, field_width, field_shape, IsAllowedField, IsWorth}
 use Rattle.deku_fields.specs.ListCalls.{number_of, ReadsFields}
-use Rattle.deku_plan.specs.Records.{records, IsStraight, AreAt, AreEachAt, IsColumn, HasColumn, ReadsAll}
+use Rattle.deku_plan.specs.Records.{records, IsStraight, AreAt, AreFirstAt, AreEachAt, IsColumn, HasColumn, ReadsAll}
 use Rattle.deku_plan.proofs.EightCut.{taken_wide}
 use Rattle.deku_plan.proofs.Recorded.{number_is, room, records_total, records_reads}
 use Rattle.deku_plan.proofs.Steps.{no_field}
@@ -53,14 +53,25 @@ below_all n i ns out inside long h k lt =
     slice_get-get_or out k no_number lt ∙ ap Some (h k lt) ∙ sym (slice_get-get_or ns (k * n + i) no_number there)
 
 -- ---- values that are cut from bytes
-pub each_more : (f : Field) (bytes : List ℕ) (bits first m : ℕ) (out : List Number) (x : Number) → m < length out
-    → ((k : ℕ) (d : Number) → k < m → IsWorth f (taken Msb0 (field_width f) (left Msb0 (k * bits + first) (fresh bytes))) (get_or out k d))
-    → IsWorth f (taken Msb0 (field_width f) (left Msb0 (m * bits + first) (fresh bytes))) x
-    → (k : ℕ) (d : Number) → k < m + 1 → IsWorth f (taken Msb0 (field_width f) (left Msb0 (k * bits + first) (fresh bytes))) (get_or (set out m x) k d)
+pub each_more : (f : Field) (bytes : List ℕ) (bits first m : ℕ) (out : List Number) (x : Number) → m < length out → AreFirstAt f bytes bits first m out
+    → IsWorth f (taken Msb0 (field_width f) (left Msb0 (m * bits + first) (fresh bytes))) x → AreFirstAt f bytes bits first (m + 1) (set out m x)
 each_more f bytes bits first m out x l h here k d lt =
     below_more (λ j. IsWorth f (taken Msb0 (field_width f) (left Msb0 (j * bits + first) (fresh bytes))) (get_or (set out m x) j d)) m
     (λ j less. let other : j ≢ m = omega (arith, less) in rw (get_or-set_other out m j x d other) (h j d less))
     (rw (get_or-set_same out m x d l) here) k lt
+
+-- a bit of a record of whole bytes
+pub bit_of : (k bits first : ℕ) → bits % 8 ≡ 0 → 8 * (k * (bits / 8) + first / 8) + first % 8 ≡ k * bits + first
+bit_of k bits first e =
+    let size : ℕ = bits / 8 in
+    let wide : bits ≡ 8 * size = omega (arith, e) in
+    let turned : k * (8 * size) ≡ 8 * (k * size) = omega arith in
+    let all : k * bits ≡ 8 * (k * size) = ap (λ b. k * b) wide ∙ turned in
+    omega (arith, all)
+
+-- the bytes of such records
+pub bytes_of : (n bits bytes : ℕ) → bits % 8 ≡ 0 → n * bits ≤ 8 * bytes → n * (bits / 8) ≤ bytes
+bytes_of n bits bytes e h = omega (arith, h, bit_of n bits 0 e)
 
 -- a list of bits is worth one number
 worth_once : (f : Field) (s : List Bool) (n m : Number) → IsWorth f s n → IsWorth f s m → n ≡ m

@@ -1,5 +1,5 @@
 -- Fields and their steps.
-use Rattle.std.proofs.Common.{◌≡◌, ℕ, zero, suc, ◌+◌, ◌<◌, List, [], ◌∷◌, ◌++◌, length, map, take, get_or, All, refl, ap, ap₂, sym, ◌∙◌, subst, arith, take-append-drop, drop, ◌≤◌, false}
+use Rattle.std.proofs.Common.{◌≡◌, ℕ, zero, suc, ◌+◌, ◌<◌, List, [], ◌∷◌, ◌++◌, length, map, take, get_or, All, refl, ap, ap₂, sym, ◌∙◌, subst, arith, take-append-drop, drop, ◌≤◌, min, false}
 use Rattle.std.proofs.lemmas.List.{take_more}
 use Rattle.std.proofs.lemmas.List.Elements.{All-nil, All-cons}
 use Rattle.deku_bits.specs.Pieces.{total}
@@ -11,7 +11,7 @@ use Rattle.deku_fields.specs.declared.list.Kind.TheVariants.{U8, U16, U32, U64, 
 use Rattle.deku_fields.specs.declared.list.Field.{Field}
 use Rattle.deku_fields.specs.Items.{number_type, field_shape, IsAllowedField}
 use Rattle.deku_plan.specs.declared.step.Step.{Step}
-use Rattle.deku_plan.specs.Plans.{IsStepOf, AreSteps, widths}
+use Rattle.deku_plan.specs.Plans.{IsStepOf, AreSteps, AreFirsts, widths}
 
 pub steps_long : (fs : List Field) (ss : List Step) → AreSteps fs ss → length ss ≡ length fs
 steps_long [] [] h = refl
@@ -57,7 +57,7 @@ abbrev pub no_field : Field
 no_field = record { kind = U8; layout = record { endian = Little; order = Msb0; size = Whole } }
 
 abbrev pub no_step : Step
-no_step = record { width = 0; high = false; mask = 0 }
+no_step = record { width = 0; high = false; mask = 0; first = 0 }
 
 pub widths_more : (ss : List Step) (i : ℕ) (d : Step) → i < length ss → widths (take (i + 1) ss) ≡ widths (take i ss) + (get_or ss i d).width
 widths_more ss i d h =
@@ -76,6 +76,26 @@ widths_take [] [] (suc i) h = refl
 widths_take [] (s ∷ ss) (suc i) h = absurd h
 widths_take (f ∷ fs) [] (suc i) h = absurd h
 widths_take (f ∷ fs) (s ∷ ss) (suc i) h = ap₂ (λ x y. x + y) h.0.wide (widths_take fs ss i h.1)
+
+-- ---- how many bits are before a step
+firsts_push : (b : ℕ) (ss : List Step) (s : Step) → AreFirsts b ss → s.first ≡ b + widths ss → AreFirsts b (ss ++ s ∷ [])
+firsts_push b [] s h e = (omega (arith, e), tt)
+firsts_push b (t ∷ ss) s h e = (h.0, firsts_push (b + t.width) ss s h.1 (omega (arith, e)))
+
+-- the steps so far, with how many bits they have, as long as a number of 64 bits can count them
+abbrev pub AreCounted : ℕ → List Step → Type 0
+AreCounted first ss = widths ss < 18446744073709551616 → (first ≡ widths ss) × AreFirsts 0 ss
+
+pub counted_more : (first next : ℕ) (ss : List Step) (s : Step) → AreCounted first ss → s.first ≡ first → next ≡ min (first + s.width) 18446744073709551615 → AreCounted next (ss ++ s ∷ [])
+counted_more first next ss s h is e small =
+    let more : widths (ss ++ s ∷ []) ≡ widths ss + widths (s ∷ []) = widths_append ss (s ∷ []) in
+    let before = h (omega (arith, small, more)) in
+    (omega (arith, e, before.0, small, more), firsts_push 0 ss s before.1 (omega (arith, is, before.0)))
+
+pub first_at : (b : ℕ) (ss : List Step) (i : ℕ) (d : Step) → AreFirsts b ss → i < length ss → (get_or ss i d).first ≡ b + widths (take i ss)
+first_at b [] i d h l = absurd (omega (arith, l))
+first_at b (s ∷ ss) zero d h l = omega (arith, h.0)
+first_at b (s ∷ ss) (suc i) d h l = let r = first_at (b + s.width) ss i d h.1 (omega (arith, l)) in omega (arith, r)
 
 -- ---- no type has more than 128 bits
 few_bits : (k : Kind) → (number_type k).bits ≤ 128

@@ -1,5 +1,5 @@
 -- What a plan knows of its fields, and which fields have none.
-use Rattle.std.specs.Prelude.{◌≡◌, ℕ, ◌+◌, ◌≤◌, ◌^◌, true, false, List, [], ◌∷◌, All, Some, map, take, slice_get, codes}
+use Rattle.std.specs.Prelude.{◌≡◌, ℕ, ◌+◌, ◌≤◌, ◌^◌, true, false, List, [], ◌∷◌, All, Some, map, take, slice_get, codes, ⊤}
 use Rattle.std.specs.List.{AllZip}
 use Rattle.deku_bits.specs.declared.error.DekuError.{DekuError}
 use Rattle.deku_bits.specs.declared.error.DekuError.TheVariants.{InvalidParam}
@@ -37,6 +37,11 @@ AreSteps fs steps = AllZip IsStepOf fs steps
 abbrev pub widths : List Step → ℕ
 widths [] = 0
 widths (s ∷ steps) = s.width + widths steps
+
+-- Each step says how many bits there are before it: those of the steps before it, after so many.
+abbrev pub AreFirsts : ℕ → List Step → Type 0
+AreFirsts bits [] = ⊤
+AreFirsts bits (s ∷ steps) = (s.first ≡ bits) × AreFirsts (bits + s.width) steps
 
 -- ---- fields without a plan
 -- The first field whose layout is rejected, and why.

@@ -61,6 +61,11 @@ AreAt [] bytes bit [] = ⊤
 AreAt (f ∷ fs) bytes bit (n ∷ ns) = IsWorth f (taken Msb0 (field_width f) (left Msb0 bit (fresh bytes))) n × AreAt fs bytes (bit + field_width f) ns
 AreAt _ bytes bit _ = ⊥
 
--- The field that begins at this bit of each record, all of as many bits, has these values.
+-- The field that begins at this bit of each record, all of as many bits, has the first n of these
+-- values.
+abbrev pub AreFirstAt : Field → List ℕ → ℕ → ℕ → ℕ → List Number → Type 0
+AreFirstAt f bytes bits first n ns = (k : ℕ) (d : Number) → k < n → IsWorth f (taken Msb0 (field_width f) (left Msb0 (k * bits + first) (fresh bytes))) (slice_index_or ns k d)
+
+-- The field that begins at this bit of each record has these values.
 abbrev pub AreEachAt : Field → List ℕ → ℕ → ℕ → List Number → Type 0
-AreEachAt f bytes bits first ns = (k : ℕ) (d : Number) → k < length ns → IsWorth f (taken Msb0 (field_width f) (left Msb0 (k * bits + first) (fresh bytes))) (slice_index_or ns k d)
+AreEachAt f bytes bits first ns = AreFirstAt f bytes bits first (length ns) ns

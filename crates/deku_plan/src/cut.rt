@@ -34,7 +34,8 @@ pub(crate) fn number_at(bytes: &[u8], bit: usize, field: &Field, step: Step) -> 
     number_of(number, field, step.width)
 }
 
-/// The value of a field that begins at a bit of the bytes, and is unsigned, big and `Msb0`.
+/// The value of a field that begins at a bit of the bytes, and is unsigned, big and `Msb0`. It is
+/// cut from the eight bytes that begin with the first of its bits, or from the last eight bytes.
 ///
 /// The caller's conditions: the field has at least one bit and at most 57, and the bytes have them.
 /// There are at least eight bytes.
@@ -49,24 +50,42 @@ pub(crate) fn short_at(bytes: &[u8], bit: usize, field: &Field, step: Step) -> N
     ensures { IsWorth field.now
         (taken Msb0 (field_width field.now) (left Msb0 bit (fresh bytes.now))) result }
 {
-    let _ = field;
-    Number::Unsigned(short_bits(bytes, bit, step) as u128)
+    let place = (bit / 8).min(bytes.len() - 8);
+    placed_at(bytes, place, bit - 8 * place, field, step)
 }
 
-// The number of at most 57 bits, cut from the eight bytes that begin with the first of them, or
-// from the last eight bytes.
+/// The value of a field that begins at a bit after a place in the bytes, and is unsigned, big and
+/// `Msb0`.
+///
+/// The caller's conditions: the field has at least one bit, and the eight bytes from the place on
+/// have all of them.
 #[inline(always)]
-fn short_bits(bytes: &[u8], bit: usize, step: Step) -> u64
+pub(crate) fn placed_at(bytes: &[u8], place: usize, bit: usize, field: &Field, step: Step) -> Number
+    requires step { IsStepOf field.now step }
+    requires high { IsHigh field.now }
     requires some { 0 < step.width }
-    requires few { step.width ≤ 57 }
-    requires mask { step.mask + 1 ≡ 2 ^ step.width }
-    requires there { bit + step.width ≤ 8 * length bytes.now }
-    requires long { 8 ≤ length bytes.now }
-    ensures { result ≡ bin (taken Msb0 step.width (left Msb0 bit (fresh bytes.now))) }
+    requires few { bit + step.width ≤ 64 }
+    requires there { place + 8 ≤ length bytes.now }
+    ensures { IsWorth field.now
+        (taken Msb0 (field_width field.now) (left Msb0 (8 * place + bit) (fresh bytes.now)))
+        result }
 {
-    let place = (bit / 8).min(bytes.len() - 8);
+    let _ = field;
+    Number::Unsigned(placed_bits(bytes, place, bit, step) as u128)
+}
+
+// The number of the bits that begin at a bit after a place in the bytes, and are among the eight
+// bytes from it on.
+#[inline(always)]
+fn placed_bits(bytes: &[u8], place: usize, bit: usize, step: Step) -> u64
+    requires some { 0 < step.width }
+    requires few { bit + step.width ≤ 64 }
+    requires mask { step.mask + 1 ≡ 2 ^ step.width }
+    requires there { place + 8 ≤ length bytes.now }
+    ensures { result ≡ bin (taken Msb0 step.width (left Msb0 (8 * place + bit) (fresh bytes.now))) }
+{
     let word = u64::from_be_bytes(eight_from(bytes, place));
-    (word >> (64 - (bit - 8 * place) - step.width)) & step.mask
+    (word >> (64 - bit - step.width)) & step.mask
 }
 
 // The eight bytes from a place on.

@@ -15,7 +15,7 @@ ghost use Rattle.deku_fields.specs.Items.{field_shape, AlignedFields, IsAllowedF
 ghost use Rattle.deku_fields.specs.ListCalls.{ReadsFields, WritesItems};
 ghost use Rattle.deku_fields.specs.Promise.{FindsAny, LeavesBehind, ReadsBack, ReadsWhereSound, ReadsWhereTold, WritesLaid, WritesWhereSound};
 ghost use Rattle.deku_plan.specs.Laying.{IsShort};
-ghost use Rattle.deku_plan.specs.Plans.{AreSteps, IsHigh, IsStepOf, widths, items, IsFirstRejected, AreTooMany};
+ghost use Rattle.deku_plan.specs.Plans.{AreSteps, AreFirsts, IsHigh, IsStepOf, widths, items, IsFirstRejected, AreTooMany};
 ghost use Rattle.deku_plan.specs.Records.{records, IsStraight, ReadsAll, ReadsColumn, ReadsBackAll, FindsAll};
 ghost use Rattle.deku_plan.specs.Words.{AreNamed, AreWrong};
 
@@ -26,7 +26,7 @@ mod write;
 
 use crate::lay::laid_all;
 use crate::part::{Part, parts_of};
-use crate::plan::column::{column_from_first, cut_column, offset_of};
+use crate::plan::column::{column_from_first, cut_column};
 use crate::plan::read::read_steps;
 use crate::plan::slice::{are_there, cut_records, read_from_first, write_from_first};
 use crate::plan::write::write_steps;
@@ -137,7 +137,7 @@ impl Plan {
             let Some(field) = parse_field(word) else {
                 return Err(WrongWords::NoField(index));
             };
-            if let Err(error) = step_of(&field) {
+            if let Err(error) = step_of(&field, 0) {
                 return Err(WrongWords::Rejected(index, error));
             }
             let Ok(()) = fields.push(field) else {
@@ -323,8 +323,8 @@ impl Plan {
         let fields = self.fields.as_slice();
         let steps = self.steps.as_slice();
         if self.straight && are_there(bytes, out.len(), self.bits) {
-            let first = offset_of(steps, index);
-            cut_column(bytes, self.bits, first, &fields[index], steps[index], out);
+            let step = steps[index];
+            cut_column(bytes, self.bits, step.first, &fields[index], step, out);
             return Ok(());
         }
         column_from_first(alloc, bytes, fields, steps, index, out)
@@ -370,14 +370,17 @@ impl Plan {
 // The steps of fields.
 fn steps_of(alloc: Global, fields: &[Field]) -> Result<Vec<Step>, DekuError>
     ensures steps { IfOk result (λ steps. AreSteps fields.now steps.items) }
+    ensures firsts { IfOk result (λ steps. widths steps.items < 2 ^ 64 → AreFirsts 0 steps.items) }
     ensures refused { IfErr result (λ e. IsFirstRejected fields.now e ⊎ (e ≡ Io OutOfMemory)) }
 {
     let mut steps: Vec<Step> = Vec::new(alloc);
+    let mut first: usize = 0;
     for field in fields {
-        let step = step_of(field)?;
+        let step = step_of(field, first)?;
         let Ok(()) = steps.push(step) else {
             return Err(DekuError::Io(ErrorKind::OutOfMemory));
         };
+        first = first.saturating_add(step.width);
     }
     Ok(steps)
 }

@@ -20,12 +20,16 @@ pub(crate) struct Step {
     pub(crate) high: bool,
     /// The greatest number of its bits, if they are at most 64.
     pub(crate) mask: u64,
+    /// How many bits the fields before it have together.
+    pub(crate) first: usize,
 }
 
-/// What there is to know of a field. It fails as writing the field does if its layout is rejected.
-pub(crate) fn step_of(field: &Field) -> Result<Step, DekuError>
+/// What there is to know of a field after so many bits. It fails as writing the field does if its
+/// layout is rejected.
+pub(crate) fn step_of(field: &Field, first: usize) -> Result<Step, DekuError>
     ensures step { IfOk result (IsStepOf field.now) }
     ensures few { IfOk result (λ s. s.width ≤ 128) }
+    ensures first { IfOk result (λ s. s.first ≡ first) }
     ensures rejected { IfErr result (λ e. IsLayoutRefusal InvalidParam
         (beyond field.now.layout.size) (number_type field.now.kind) field.now.layout e) }
 {
@@ -35,6 +39,7 @@ pub(crate) fn step_of(field: &Field) -> Result<Step, DekuError>
         width,
         high,
         mask: mask_of(width),
+        first,
     })
 }
 

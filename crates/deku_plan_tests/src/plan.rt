@@ -195,6 +195,59 @@ fn reads_columns(rt: HostRuntime) -> Result<(), Fail> {
     same(&"second", &column, &wanted)
 }
 
+// The column of one field has these values.
+fn expect_column(
+    rt: &impl Abort,
+    alloc: Global,
+    words: &[&str],
+    index: usize,
+    bytes: &[u8],
+    wanted: &[u128],
+) -> Result<(), Fail> {
+    let plan = plan_of(rt, alloc, words)?;
+    let mut column = [NONE_YET; MOST];
+    if index >= plan.fields().len() || wanted.len() > MOST {
+        return same(&words, &index, &wanted.len());
+    }
+    plan.read_column(alloc, bytes, index, &mut column[..wanted.len()])?;
+    for (value, number) in column.iter().zip(wanted) {
+        same(&words, value, &plain(*number))?;
+    }
+    Ok(())
+}
+
+#[test]
+fn reads_columns_of_whole_bytes(rt: HostRuntime) -> Result<(), Fail> {
+    let bytes = [
+        0x01, 0x12, 0x23, 0x34, 0x45, 0x56, 0x67, 0x78, 0x89, 0x9A, 0xAB, 0xBC, 0xCD, 0xDE, 0xEF,
+        0xF0, 0x0F, 0x1E,
+    ];
+    let rows: [(&[&str], usize, &[u128]); 4] = [
+        (
+            &["u64,big,bits56", "u16,big"],
+            0,
+            &[0x01122334455667, 0x9AABBCCDDEEFF0],
+        ),
+        (&["u64,big,bits56", "u16,big"], 1, &[0x7889, 0x0F1E]),
+        (
+            &["u8,big,bits3", "u16,big,bits13"],
+            1,
+            &[
+                0x112, 0x334, 0x556, 0x778, 0x99A, 0xBBC, 0xDDE, 0xFF0, 0xF1E,
+            ],
+        ),
+        (
+            &["u8,big,bits3", "u8,big,bits5"],
+            0,
+            &[0, 0, 1, 1, 2, 2, 3, 3, 4, 4],
+        ),
+    ];
+    for (words, index, wanted) in rows {
+        expect_column(&rt, rt.alloc(), words, index, &bytes, wanted)?;
+    }
+    Ok(())
+}
+
 #[test]
 fn refuses_as_lists(rt: HostRuntime) -> Result<(), Fail> {
     let plan = plan_of(&rt, rt.alloc(), &["u8,big,bits4", "u16,big"])?;

@@ -1,12 +1,12 @@
 //! One field of many records in bytes in memory.
 
-ghost use Rattle.std.specs.Prelude.{◌≡◌, ◌+◌, ◌*◌, ◌<◌, ◌≤◌, ◌^◌, length, take};
+ghost use Rattle.std.specs.Prelude.{◌≡◌, ◌+◌, ◌*◌, ◌<◌, ◌≤◌, ◌^◌, ℕ, length};
 ghost use Rattle.deku_bits.specs.ReaderCalls.{Reads, filling};
 ghost use Rattle.deku_fields.specs.ListCalls.{ReadsFields};
-ghost use Rattle.deku_plan.specs.Plans.{AreSteps, IsHigh, IsStepOf, widths};
-ghost use Rattle.deku_plan.specs.Records.{records, IsStraight, AreEachAt, HasColumn, ReadsColumn};
+ghost use Rattle.deku_plan.specs.Plans.{AreSteps, IsHigh, IsStepOf};
+ghost use Rattle.deku_plan.specs.Records.{records, IsStraight, AreFirstAt, AreEachAt, HasColumn, ReadsColumn};
 
-use crate::cut::{number_at, short_at};
+use crate::cut::{number_at, placed_at, short_at};
 use crate::plan::read::read_steps;
 use crate::step::Step;
 use deku::device::Source;
@@ -15,19 +15,6 @@ use deku::reader::Reader;
 use deku_fields::{Field, Number};
 use std::alloc::Global;
 use std::io::{Cursor, ErrorKind};
-
-/// How many bits the steps before an index have together.
-pub(crate) fn offset_of(steps: &[Step], index: usize) -> usize
-    requires there { index < length steps.now }
-    requires counted { widths steps.now < 2 ^ 64 }
-    ensures { result ≡ widths (take index steps.now) }
-{
-    let mut bits = 0;
-    for place in 0..index {
-        bits += steps[place].width;
-    }
-    bits
-}
 
 /// The values of a field in records that the bytes have. It begins at a bit of each record.
 pub(crate) fn cut_column(
@@ -46,7 +33,8 @@ pub(crate) fn cut_column(
     ensures { AreEachAt field.now bytes.now bits first out.new }
 {
     if step.high && step.width <= 57 && bytes.len() >= 8 {
-        cut_short_column(bytes, bits, first, field, step, out);
+        let done = cut_front(bytes, bits, first, field, step, out);
+        cut_short_column(bytes, bits, first, field, step, done, out);
     } else {
         cut_any_column(bytes, bits, first, field, step, out);
     }
@@ -73,13 +61,68 @@ fn cut_any_column(
     }
 }
 
-// The values of a short field, of which each is cut at once.
+// The values of a short field in the records before the last bytes, if records are whole bytes. In
+// all of these the value begins at the same bit of a byte. Returns how many there are.
+fn cut_front(
+    bytes: &[u8],
+    bits: usize,
+    first: usize,
+    field: &Field,
+    step: Step,
+    out: &mut [Number],
+) -> usize
+    requires step { IsStepOf field.now step }
+    requires high { IsHigh field.now }
+    requires straight { IsStraight field.now }
+    requires few { step.width ≤ 57 }
+    requires long { 8 ≤ length bytes.now }
+    requires within { first + step.width ≤ bits }
+    requires there { length out.old * bits ≤ 8 * length bytes.now }
+    ensures values { AreFirstAt field.now bytes.now bits first result out.new }
+    ensures few { result ≤ length out.new }
+{
+    if bits % 8 != 0 {
+        return 0;
+    }
+    let (size, byte, bit) = (bits / 8, first / 8, first % 8);
+    let front = front_of(bytes.len(), out.len(), size, byte);
+    for place in 0..front {
+        out[place] = placed_at(bytes, place * size + byte, bit, field, step);
+    }
+    front
+}
+
+// How many records have eight bytes from one of their bytes on, if this many records have so many
+// bytes each. At most eight at the end have fewer.
+#[inline(always)]
+fn front_of(bytes: usize, count: usize, size: usize, byte: usize) -> usize
+    requires long { 8 ≤ bytes }
+    requires inside { byte < size }
+    requires there { count * size ≤ bytes }
+    ensures few { result ≤ count }
+    ensures there { (k : ℕ) → k < result → k * size + byte + 8 ≤ bytes }
+{
+    if count == 0 {
+        return 0;
+    }
+    let last = (count - 1) * size + byte;
+    if last <= bytes - 8 {
+        count
+    } else if size >= 8 {
+        count - 1
+    } else {
+        count.saturating_sub(8)
+    }
+}
+
+// The values of a short field after those of some first records, each cut at once.
 fn cut_short_column(
     bytes: &[u8],
     bits: usize,
     first: usize,
     field: &Field,
     step: Step,
+    done: usize,
     out: &mut [Number],
 )
     requires step { IsStepOf field.now step }
@@ -90,9 +133,11 @@ fn cut_short_column(
     requires within { first + step.width ≤ bits }
     requires counted { length out.old * bits < 2 ^ 64 }
     requires there { length out.old * bits ≤ 8 * length bytes.now }
+    requires done { done ≤ length out.old }
+    requires values { AreFirstAt field.now bytes.now bits first done out.old }
     ensures { AreEachAt field.now bytes.now bits first out.new }
 {
-    for place in 0..out.len() {
+    for place in done..out.len() {
         out[place] = short_at(bytes, place * bits + first, field, step);
     }
 }

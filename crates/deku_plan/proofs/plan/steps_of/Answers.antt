@@ -1,7 +1,7 @@
 use Rattle.std.proofs.Common.{get_or, take, inl, arith}
 use Rattle.std.proofs.lemmas.Option.{slice_get-get_or}
 use Rattle.std.proofs.lemmas.Result.{err_from_is_err_and}
-use Rattle.deku_plan.proofs.Steps.{no_field, steps_more, all_allowed}
+use Rattle.deku_plan.proofs.Steps.{no_field, steps_more, counted_more, all_allowed}
 use Rattle.deku_plan.proofs.plan.steps_of.Goals as goal
 
 pub returns-in_err-step-clause-refused : goal.returns-in_err-step-clause-refused
@@ -13,10 +13,15 @@ returns-in_err-step-clause-refused c =
       index = i;
       holder = get_or fs i no_field;
       there = slice_get-get_or fs i no_field (omega arith);
-      before = all_allowed (take i fs) c.loop-field.steps.items c.loop-field.invariant;
+      before = all_allowed (take i fs) c.loop-field.steps.items c.loop-field.invariant.0;
       why = c.in_err-step.ensures.rejected;
     }))
 
 pub loop-field-preserved : goal.loop-field-preserved
 loop-field-preserved c =
-    rw (c.in-Ok.ensures.items) (steps_more c.args.fields.now c.loop-field.field-index no_field c.loop-field.steps.items c.in_ok-step.step (omega arith) c.loop-field.invariant c.in_ok-step.ensures.step)
+    let ss = c.loop-field.steps.items in
+    let s = c.in_ok-step.step in
+    rw (c.in-Ok.ensures.items) (
+      steps_more c.args.fields.now c.loop-field.field-index no_field ss s (omega arith) c.loop-field.invariant.0 c.in_ok-step.ensures.step,
+      counted_more c.loop-field.first _ ss s c.loop-field.invariant.1 c.in_ok-step.ensures.first c.saturating_add-first.ensures,
+    )

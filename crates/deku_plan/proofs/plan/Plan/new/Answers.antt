@@ -21,9 +21,11 @@ invariant_of-result c =
     let same = c.in-Ok.ensures.items in
     let fs = c.args.fields.now in
     let ss = c.in_ok-steps.steps.items in
-    let bits : c.in-Some.bits ≡ total (map field_shape fs) = c.in-Some.ensures.some ∙ ap widths c.as_slice.ensures.value ∙ widths_total fs ss c.in_ok-steps.ensures.steps in
+    let wide : c.in-Some.bits ≡ widths ss = c.in-Some.ensures.some ∙ ap widths c.as_slice.ensures.value in
+    let bits : c.in-Some.bits ≡ total (map field_shape fs) = wide ∙ widths_total fs ss c.in_ok-steps.ensures.steps in
     record {
       steps = rw same c.in_ok-steps.ensures.steps;
+      firsts = c.in_ok-steps.ensures.firsts (omega (arith, wide));
       parts = search rules;
       bits = rw same bits;
       aligned = rw same c.are_aligned-aligned.ensures;
