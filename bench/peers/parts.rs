@@ -1,5 +1,6 @@
 //! Each part of records: those that are made of fields, and those that are kept as they were read.
 
+mod bits;
 mod hand;
 mod kept;
 
@@ -7,16 +8,15 @@ use crate::bench::{Bench, Random};
 use crate::calls;
 use crate::records::PartFields;
 use hand::{NONE, Part};
-use kept::Kept;
 
 // Fields of a part, of which the other ones are zeros.
 type Sample = fn(&mut Random) -> PartFields;
 
-fn plain_part<P: Part>(bench: &mut Bench, random: &mut Random, size: usize, part: usize, name: &str, sample: Sample) {
+fn plain_part<P: Part + bits::Part>(bench: &mut Bench, random: &mut Random, size: usize, part: usize, name: &str, sample: Sample) {
     let (mut values, mut wire, mut at) = (Vec::new(), vec![0; size + 64], 0);
     while at < size * P::PLACES {
         let fields = sample(random);
-        P::write(&fields, &mut wire, &mut at).unwrap();
+        <P as Part>::write(&fields, &mut wire, &mut at).unwrap();
         values.push(fields);
     }
     wire.truncate(at.div_ceil(P::PLACES));
@@ -24,10 +24,12 @@ fn plain_part<P: Part>(bench: &mut Bench, random: &mut Random, size: usize, part
     bench.run(&format!("{name} read"), size, n, &wire, &values, &[
         ("library", Box::new(move |i: &[u8], o: &mut [PartFields]| calls::dk_part_read(i, part, o))),
         ("hand", Box::new(hand::read::<P>)),
+        ("bits", Box::new(bits::read::<P>)),
     ]);
     bench.run(&format!("{name} write"), size, n, &values, &wire, &[
         ("library", Box::new(move |i: &[PartFields], o: &mut [u8]| calls::dk_part_write(i, part, o))),
         ("hand", Box::new(hand::write::<P>)),
+        ("bits", Box::new(bits::write::<P>)),
     ]);
 }
 
@@ -86,7 +88,7 @@ pub fn plain(bench: &mut Bench, random: &mut Random, size: usize) {
 // The bytes of one part.
 type Bytes = fn(&mut Random) -> Vec<u8>;
 
-fn kept_part<K: Kept>(bench: &mut Bench, random: &mut Random, size: usize, part: usize, name: &str, bytes: Bytes) {
+fn kept_part<K: bits::Kept>(bench: &mut Bench, random: &mut Random, size: usize, part: usize, name: &str, bytes: Bytes) {
     let (mut wire, mut values) = (Vec::new(), Vec::new());
     while wire.len() < size {
         let kept = bytes(random);
@@ -97,10 +99,12 @@ fn kept_part<K: Kept>(bench: &mut Bench, random: &mut Random, size: usize, part:
     bench.run(&format!("{name} read"), size, n, &wire, &values, &[
         ("library", Box::new(move |i: &[u8], o: &mut [PartFields]| calls::dk_part_read(i, part, o))),
         ("hand", Box::new(kept::read::<K>)),
+        ("bits", Box::new(bits::read_kept::<K>)),
     ]);
     bench.run(&format!("{name} read and written"), size, n, &wire, &wire, &[
         ("library", Box::new(move |i: &[u8], o: &mut [u8]| calls::dk_part_round(i, part, n, o))),
         ("hand", Box::new(move |i: &[u8], o: &mut [u8]| kept::round::<K>(i, n, o))),
+        ("bits", Box::new(move |i: &[u8], o: &mut [u8]| bits::round::<K>(i, n, o))),
     ]);
 }
 

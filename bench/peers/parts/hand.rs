@@ -157,7 +157,7 @@ impl Part for Magic {
     }
 }
 
-const PICTURE: [u8; 8] = *b"\x89PNG\r\n\x1A\n";
+pub const PICTURE: [u8; 8] = *b"\x89PNG\r\n\x1A\n";
 
 /// Eight bytes that are always the same, and a number.
 pub struct MagicBytes;

@@ -79,7 +79,7 @@ fn of_numbers(items: &[u16]) -> PartFields {
 }
 
 /// Four bits and a length in words of four bytes, the header of five words included, and options.
-pub struct CountedBy(u8, Vec<u8>);
+pub struct CountedBy(pub u8, pub Vec<u8>);
 
 impl Kept for CountedBy {
     #[inline(always)]
@@ -106,7 +106,7 @@ impl Kept for CountedBy {
 }
 
 /// A byte that counts them, and numbers.
-pub struct Prefixed(Vec<u16>);
+pub struct Prefixed(pub Vec<u16>);
 
 impl Kept for Prefixed {
     #[inline(always)]
@@ -127,7 +127,7 @@ impl Kept for Prefixed {
 }
 
 /// Bytes up to the first that is zero.
-pub struct Until(Vec<u8>);
+pub struct Until(pub Vec<u8>);
 
 impl Kept for Until {
     #[inline(always)]
@@ -151,7 +151,7 @@ impl Kept for Until {
 }
 
 /// A length in bytes, and numbers that fill it.
-pub struct FilledBy(u16, Vec<u16>);
+pub struct FilledBy(pub u16, pub Vec<u16>);
 
 impl Kept for FilledBy {
     #[inline(always)]
@@ -201,7 +201,7 @@ impl Kept for Rest {
 }
 
 /// Forty kinds, each with a byte.
-pub struct Forty(u8, u8);
+pub struct Forty(pub u8, pub u8);
 
 impl Kept for Forty {
     #[inline(always)]
