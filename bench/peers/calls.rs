@@ -90,6 +90,11 @@ calls! {
     dk_skip_few(): u8 => u8;
     dk_seeks(): u8 => u16;
     dk_u16_grow(): u16 => u8;
+    dk_part_read(part): u8 => PartFields;
+    dk_part_write(part): PartFields => u8;
+    dk_part_round(part, count): u8 => u8;
+    dk_rest_read(each): u8 => PartFields;
+    dk_rest_round(each): u8 => u8;
     c_heads_read(): u8 => Head;
     c_heads_write(): Head => u8;
     c_signals_read(): u8 => Signals;

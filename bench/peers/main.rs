@@ -11,6 +11,7 @@ mod hand;
 mod kit;
 mod lists;
 mod packets;
+mod parts;
 mod pieces;
 mod records;
 mod slices;
@@ -228,29 +229,33 @@ fn lists(bench: &mut Bench, random: &mut Random, size: usize) {
             "bits" crates::bits_fives_write, "best" crates::best_fives_write, "bytes" crates::bytes_fives_write;);
 }
 
-const WORKS: [Works; 20] = [
-    headers,
-    quads,
-    signals,
-    samples,
-    wide,
-    runs,
-    lists,
-    packets::udp_headers,
-    packets::ipv4_headers,
-    packets::can_frames,
-    pieces::counted_bytes,
-    pieces::counted_records,
-    pieces::choices,
-    pieces::questions,
-    pieces::elf_headers,
-    widths::flags,
-    widths::signed,
-    widths::long,
-    widths::places,
-    widths::growing,
+// The works of each side that is built.
+const WORKS: &[&[Works]] = &[
+    #[cfg(side = "deku")]
+    &[headers, quads, signals, samples, wide, runs, lists],
+    #[cfg(side = "records")]
+    &[
+        packets::udp_headers,
+        packets::ipv4_headers,
+        packets::can_frames,
+        pieces::counted_bytes,
+        pieces::counted_records,
+        pieces::choices,
+        pieces::questions,
+        pieces::elf_headers,
+        widths::flags,
+        widths::signed,
+        widths::long,
+        widths::places,
+        widths::growing,
+    ],
+    #[cfg(side = "parts")]
+    &[parts::plain, parts::kept],
 ];
-const LONG_WORKS: [Works; 1] = [widths::growing];
+const LONG_WORKS: &[&[Works]] = &[
+    #[cfg(side = "records")]
+    &[widths::growing],
+];
 
 fn print_heading() {
     let mut heading = format!("{:<32} {:>7} {:>9}", "work", "size", "library");
@@ -275,13 +280,13 @@ fn main() {
     let mut bench = Bench { mode, only, csv: String::new(), rows: Vec::new(), gauge: Gauge::new() };
     let mut random = Random(0x9E3779B97F4A7C15);
     print_heading();
-    let works: &[Works] = if mode == Mode::Long { &LONG_WORKS } else { &WORKS };
+    let works = if mode == Mode::Long { LONG_WORKS } else { WORKS };
     for &size in bench.sizes() {
-        for work in works {
+        for work in works.iter().copied().flatten() {
             work(&mut bench, &mut random, size);
         }
     }
-    if mode == Mode::Long {
+    if mode == Mode::Long && cfg!(side = "files") {
         files::files(&mut bench);
     }
     growth(&bench);

@@ -1,4 +1,4 @@
-//! The records, as bench_deku, bench_records and shift.c have them.
+//! The records, as bench_deku, bench_records, bench_parts and shift.c have them.
 
 #[repr(C)]
 #[derive(Clone, Copy, Default, PartialEq, Debug)]
@@ -135,4 +135,13 @@ pub struct ElfFields {
     pub flags: u32,
     pub kind: u16,
     pub machine: u16,
+}
+
+#[repr(C)]
+#[derive(Clone, Copy, Default, PartialEq, Debug)]
+pub struct PartFields {
+    pub number: u32,
+    pub short: u16,
+    pub byte: u8,
+    pub small: u8,
 }
