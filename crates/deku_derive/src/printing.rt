@@ -293,7 +293,8 @@ impl<'b, 'a> Printer<'b, 'a> {
             path,
         )?;
         if *shape == Shape::Named {
-            self.structs.push((record.name.text, whole.fields.places))?;
+            let fields = whole.fields;
+            self.structs.push((record.name.text, fields.places))?;
         }
         self.built(record, builder)
     }
