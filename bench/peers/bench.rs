@@ -54,7 +54,7 @@ pub enum Mode {
     Profile,
 }
 
-pub const PEERS: [&str; 6] = ["hand", "kit", "bits", "best", "bytes", "c"];
+pub const PEERS: [&str; 7] = ["hand", "kit", "bits", "best", "bytes", "c", "rows"];
 
 pub struct Bench {
     pub mode: Mode,

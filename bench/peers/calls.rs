@@ -45,7 +45,8 @@ calls! {
     dk_fields_read(): u8 => Head;
     dk_fields_write(): Head => u8;
     dk_plan_read(): u8 => Head;
-    dk_columns_read(): u8 => Head;
+    dk_rows_sum(): u8 => u64;
+    dk_columns_sum(): u8 => u64;
     dk_plan_write(): Head => u8;
     dk_udp_unpack(): u8 => UdpFields;
     dk_udp_pack(): UdpFields => u8;

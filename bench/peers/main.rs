@@ -40,6 +40,13 @@ fn random_head(random: &mut Random) -> Head {
     }
 }
 
+fn sum_of(head: &Head) -> u64 {
+    let bytes = [head.version, head.words, head.service, head.flags, head.ttl, head.protocol];
+    let words = [head.length, head.id, head.fragment, head.check];
+    bytes.map(u64::from).iter().sum::<u64>() + words.map(u64::from).iter().sum::<u64>()
+        + u64::from(head.source) + u64::from(head.target)
+}
+
 fn headers(bench: &mut Bench, random: &mut Random, size: usize) {
     let n = size / 20;
     let heads: Vec<Head> = (0..n).map(|_| random_head(random)).collect();
@@ -69,9 +76,9 @@ fn headers(bench: &mut Bench, random: &mut Random, size: usize) {
     both!(bench, "field list, kit by list", size, 12 * n, heads, wire,
         read "library" calls::dk_fields_read, "kit" lists::heads_read;
         write "library" calls::dk_fields_write, "kit" lists::heads_write;);
-    let (values, bytes) = (&heads[..], &wire[..]);
-    bench.run("headers as columns read", size, 12 * n, bytes, values,
-        &[("library", Box::new(calls::dk_columns_read)), ("kit", Box::new(kit::heads_read))]);
+    let sums: Vec<u64> = heads.iter().map(sum_of).collect();
+    bench.run("sums of headers, by columns", size, 12 * n, &wire[..], &sums[..],
+        &[("library", Box::new(calls::dk_columns_sum)), ("rows", Box::new(calls::dk_rows_sum))]);
     both!(bench, "plan, kit by list", size, 12 * n, heads, wire,
         read "library" calls::dk_plan_read, "kit" lists::heads_read;
         write "library" calls::dk_plan_write, "kit" lists::heads_write;);

@@ -7,10 +7,9 @@ use Rattle.deku_bits.specs.Devices.{Health}
 use Rattle.deku_bits.specs.Pieces.{total}
 use Rattle.deku_bits.specs.Standings.{Standing, Going, count_of}
 use Rattle.deku_bits.specs.Outcomes.{Outcome, Value, Refusal}
-use Rattle.deku_bits.proofs.Handing.{meant}
-use Rattle.deku.specs.Composing.{Answer, Answered, Second, First}
+use Rattle.deku_bits.proofs.Handing.{meant, mapped_ok}
 use Rattle.deku.proofs.Exact.{ok_is}
-use Rattle.deku.proofs.Joining.{answered}
+use Rattle.deku.proofs.Joining.{answered, first_refused, then_on}
 use Rattle.deku_fields.specs.declared.list.Number.{Number}
 use Rattle.deku_fields.specs.declared.list.Field.{Field}
 use Rattle.deku_fields.specs.declared.list.Item.{Item}
@@ -25,36 +24,28 @@ use Rattle.deku_c.specs.Calls.{ReadsInto, ReadsBackInto}
 use Rattle.deku_c.proofs.Coding.{items_more}
 
 -- ---- one field
-answer_is : {A V : Type 0} {v : V} {b : Bool} {s : Standing A} {r : Result V DekuError} {u : Standing A} → Answer v b s r u → r ≡ Ok v
-answer_is Answered = refl
-
 sign_of : (b : Bool) (z : ℤ) → has_sign (number_of b z) ≡ b
 sign_of false (pos n) = refl
 sign_of false (negsuc n) = refl
 sign_of true z = refl
 
--- a field gives one number, with or without a sign as its kind
-one_read : (f : Field) (ns : List Number) (s u : Standing (Option Stream)) → ReadsFields (f ∷ []) false s (Ok ns) u
-    → (n : Number) × (ns ≡ n ∷ []) × (has_sign n ≡ (number_type f.kind).signed)
-one_read f ns s u (Second n t (Value x q e) (Value ms a d)) =
-    let none : ms ≡ [] = ok_is _ _ (answer_is a) in
-    let is : ns ≡ n ∷ ms = ok_is _ _ d in
-    let signed : n ≡ number_of (number_type f.kind).signed x = ok_is _ _ e in
-    (n, is ∙ ap (λ z. n ∷ z) none, ap has_sign signed ∙ sign_of (number_type f.kind).signed x)
-one_read f ns s u (Second n t (Value x q e) (Refusal k a d)) = absurd (cc)
-one_read f ns s u (Second n t (Refusal k q e) m) = absurd (cc)
-one_read f ns s u (First k m e) = absurd (cc)
+-- a number that is read has a sign or none, as the kind of its field
+field_signed : (f : Field) (n : Number) (s u : Standing (Option Stream)) → ReadsField f false s (Ok n) u → has_sign n ≡ (number_type f.kind).signed
+field_signed f n s u (Value x q e) = ap has_sign (ok_is _ _ e) ∙ sign_of (number_type f.kind).signed x
+field_signed f n s u (Refusal k q e) = absurd (cc)
 
--- its code
-pub one_coded : (c : FieldCode) (f : Field) (ns : List Number) (d : Number) (v : NumberCode) {s : Standing (Option Stream)} {h : Health} {u : Standing (Option Stream)} {g : Health}
-    → f ≡ field_in c → Outcome (ReadsFields (f ∷ [])) s h (Ok ns) u g → number_in (has_sign (get_or ns 0 d)) (whole v) ≡ get_or ns 0 d
-    → Outcome (ReadsFields (field_in c ∷ [])) s h (Ok (values_of (item_in c v ∷ []))) u g
-one_coded c f ns d v {s} {h} {u} {g} e o is =
-    let k = one_read f ns s u (meant o).0 in
-    let first : get_or ns 0 d ≡ k.0 = ap (λ x. get_or x 0 d) k.1 in
-    let signed : has_sign (get_or ns 0 d) ≡ (number_type (kind_in c.kind)).signed = ap has_sign first ∙ k.2 ∙ ap (λ x. (number_type x.kind).signed) e in
-    let value : number_in (number_type (kind_in c.kind)).signed (whole v) ≡ k.0 = ap (λ b. number_in b (whole v)) (sym signed) ∙ is ∙ first in
-    subst₂ (λ x y. Outcome (ReadsFields (x ∷ [])) s h (Ok y) u g) e (k.1 ∙ ap (λ z. z ∷ []) (sym value)) o
+-- its code, of a list of this field alone
+pub one_coded : (c : FieldCode) (f : Field) (n : Number) (v : NumberCode) {s : Standing (Option Stream)} {h : Health} {u : Standing (Option Stream)} {g : Health}
+    → f ≡ field_in c → Outcome (ReadsField f) s h (Ok n) u g → number_in (has_sign n) (whole v) ≡ n → Outcome (ReadsFields (field_in c ∷ [])) s h (Ok (values_of (item_in c v ∷ []))) u g
+one_coded c f n v {s} {h} {u} {g} e o is =
+    let signed : has_sign n ≡ (number_type (kind_in c.kind)).signed = field_signed f n s u (meant o).0 ∙ ap (λ x. (number_type x.kind).signed) e in
+    let value : number_in (number_type (kind_in c.kind)).signed (whole v) ≡ n = ap (λ b. number_in b (whole v)) (sym signed) ∙ is in
+    let alone : Outcome (ReadsFields (f ∷ [])) s h (Ok (n ∷ [])) u g = then_on o (mapped_ok (λ ns. n ∷ ns) answered) in
+    subst₂ (λ x y. Outcome (ReadsFields (x ∷ [])) s h (Ok (y ∷ [])) u g) e (sym value) alone
+
+pub one_rejected : (c : FieldCode) (f : Field) (k : DekuError) {s : Standing (Option Stream)} {h : Health} {u : Standing (Option Stream)} {g : Health}
+    → f ≡ field_in c → Outcome (ReadsField f) s h (Err k) u g → Outcome (ReadsFields (field_in c ∷ [])) s h (Err k) u g
+one_rejected c f k {s} {h} {u} {g} e o = subst (λ x. Outcome (ReadsFields (x ∷ [])) s h (Err k) u g) e (first_refused o)
 
 -- ---- fields
 -- the first i fields were read, and these are their numbers

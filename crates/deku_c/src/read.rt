@@ -13,7 +13,7 @@ use deku::device::Source;
 use deku::error::DekuError;
 use deku::reader::Reader;
 use deku_fields::laws::{read_back_law, read_calls_law};
-use deku_fields::{Number, read_list_into};
+use deku_fields::read_field;
 use std::alloc::Global;
 use std::io::Cursor;
 
@@ -65,9 +65,8 @@ fn read_one<R: Source>(reader: &mut Reader<R>, code: FieldCode) -> Result<Number
     ensures { Reads R.known (ReadsFields (field_in code ∷ [])) reader.old
         (on_value (λ v. values_of (item_in code v ∷ [])) result) reader.new }
 {
-    let mut numbers = [Number::Unsigned(0)];
-    match read_list_into(reader, &[code.field()], &mut numbers) {
-        Ok(()) => Ok(NumberCode::of(numbers[0])),
+    match read_field(reader, &code.field()) {
+        Ok(number) => Ok(NumberCode::of(number)),
         Err(refusal) => Err(refusal),
     }
 }

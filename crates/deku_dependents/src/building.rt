@@ -531,17 +531,9 @@ impl<'b, 'a> Builder<'b, 'a> {
         form: Dependent,
         unit: u64,
     ) -> Result<(), Stop> {
-        let name = called.name;
         let mut head = self.head_of(field, expression)?;
-        let named = words::marker(self.alloc, self.front.as_str(), name, word_of(form))?;
-        let (parts, lent) = self.aliases(&mut head, name)?;
-        let owned = String::from_str(self.alloc, name)?;
-        let marker = Marker {
-            name: named.as_str(),
-            parts: parts.as_str(),
-            lent: lent.as_deref(),
-            field: owned.as_str(),
-        };
+        let marked = self.marked(&mut head, called.name, word_of(form))?;
+        let marker = marked.marker();
         let places = head.fields.places.as_slice();
         match form {
             Dependent::Optional => self.shows(places, marker, expression, field.span)?,
@@ -550,16 +542,9 @@ impl<'b, 'a> Builder<'b, 'a> {
             }
         }
         let held = held_kind(self.alloc, field)?;
-        let part = following(
-            self.alloc,
-            head,
-            form,
-            called,
-            (named.as_str(), held.as_str()),
-        )?;
-        self.names.push(named)?;
-        self.items.push(part)?;
-        Ok(())
+        let types = (marker.name, held.as_str());
+        let part = following(self.alloc, head, form, called, types)?;
+        Ok(self.push(part, marked)?)
     }
 
     // Appends the type of a count, or of a size in units of so many bits.
@@ -578,7 +563,7 @@ impl<'b, 'a> Builder<'b, 'a> {
         }
         if unit > 1 {
             let unit = computer.number(unit)?;
-            computed = computer.both(Operator::Times, computed, unit, span)?;
+            computed = computer.both(Operator::Times, &computed, &unit, span)?;
         }
         let amount = match form {
             Dependent::Filled => Amount::Bits,
@@ -615,7 +600,7 @@ impl<'b, 'a> Builder<'b, 'a> {
         let computed = if is_equal {
             let left = computer.name(marker.field, span)?;
             let right = computer.value(expression)?;
-            computer.both(Operator::Equal, left, right, span)?
+            computer.both(Operator::Equal, &left, &right, span)?
         } else {
             computer.value(expression)?
         };
@@ -679,27 +664,13 @@ impl<'b, 'a> Builder<'b, 'a> {
             self.may_equal(field, expression)?;
         }
         let word = if is_equal { "Value" } else { "Check" };
-        let named = words::marker(self.alloc, self.front.as_str(), name, word)?;
-        let mut part = self.head(expression, true)?;
-        let (parts, lent) = self.aliases(&mut part, name)?;
-        let owned = String::from_str(self.alloc, name)?;
-        let marker = Marker {
-            name: named.as_str(),
-            parts: parts.as_str(),
-            lent: lent.as_deref(),
-            field: owned.as_str(),
-        };
-        self.checks(
-            part.fields.places.as_slice(),
-            marker,
-            expression,
-            field.span,
-            is_equal,
-        )?;
-        let part = asserted(self.alloc, self.owner, part, named.as_str())?;
-        self.names.push(named)?;
-        self.items.push(part)?;
-        Ok(())
+        let mut head = self.head(expression, true)?;
+        let marked = self.marked(&mut head, name, word)?;
+        let marker = marked.marker();
+        let places = head.fields.places.as_slice();
+        self.checks(places, marker, expression, field.span, is_equal)?;
+        let part = asserted(self.alloc, self.owner, head, marker.name)?;
+        Ok(self.push(part, marked)?)
     }
 }
 

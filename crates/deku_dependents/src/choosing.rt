@@ -11,7 +11,6 @@ use deku_markers::marker::Marker;
 use deku_markers::part::{Named, Place};
 use deku_texts::records::Records;
 use deku_texts::refusal::Stop;
-use deku_texts::words;
 use deku_tokens::token::{Kind, Token};
 
 impl<'b, 'a> Builder<'b, 'a> {
@@ -61,22 +60,12 @@ impl<'b, 'a> Builder<'b, 'a> {
         };
         let id = self.id_of(context, wanted)?;
         let expression = Expression::Name(id);
-        let name = called.name;
         let mut head = self.head(&expression, false)?;
-        let named = words::marker(self.alloc, self.front.as_str(), name, "Id")?;
-        let (parts, lent) = self.aliases(&mut head, name)?;
-        let owned = String::from_str(self.alloc, name)?;
-        let marker = Marker {
-            name: named.as_str(),
-            parts: parts.as_str(),
-            lent: lent.as_deref(),
-            field: owned.as_str(),
-        };
+        let marked = self.marked(&mut head, called.name, "Id")?;
+        let marker = marked.marker();
         self.says(head.fields.places.as_slice(), marker, id)?;
-        let part = chosen(self.alloc, head, called, (named.as_str(), kind.text))?;
-        self.names.push(named)?;
-        self.items.push(part)?;
-        Ok(())
+        let part = chosen(self.alloc, head, called, (marker.name, kind.text))?;
+        Ok(self.push(part, marked)?)
     }
 
     // Appends the type of an id that a field of this name says.

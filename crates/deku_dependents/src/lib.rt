@@ -5,6 +5,7 @@ pub mod building;
 mod choosing;
 mod constants;
 mod listing;
+mod marked;
 mod refusing;
 mod said;
 pub mod temporary;

@@ -8,7 +8,6 @@ use deku_markers::marker;
 use deku_markers::marker::{Marker, Under, Unit};
 use deku_markers::part::{Named, Place, under};
 use deku_texts::refusal::Stop;
-use deku_texts::words;
 use deku_texts::wrapping::{is_big, number_kind};
 use deku_tokens::place::Span;
 
@@ -34,27 +33,14 @@ impl<'b, 'a> Builder<'b, 'a> {
             unit,
         };
         let mut head = self.head(width, false)?;
-        let named = words::marker(self.alloc, self.front.as_str(), called.name, "Width")?;
-        let (parts, lent) = self.aliases(&mut head, called.name)?;
-        let owned = String::from_str(self.alloc, called.name)?;
-        let marker = Marker {
-            name: named.as_str(),
-            parts: parts.as_str(),
-            lent: lent.as_deref(),
-            field: owned.as_str(),
-        };
-        self.measures(
-            head.fields.places.as_slice(),
-            marker,
-            width,
-            under_this,
-            field.span,
-        )?;
+        let marked = self.marked(&mut head, called.name, "Width")?;
+        let marker = marked.marker();
+        let places = head.fields.places.as_slice();
+        self.measures(places, marker, width, under_this, field.span)?;
         let number = number_kind(field).unwrap_or("u8");
-        let types = (named.as_str(), number, under_this.kind());
-        self.items.push(under(self.alloc, head, called, types)?)?;
-        self.names.push(named)?;
-        Ok(())
+        let types = (marker.name, number, under_this.kind());
+        let part = under(self.alloc, head, called, types)?;
+        Ok(self.push(part, marked)?)
     }
 
     // Appends the type of the context of a number whose width is one of the fields of these parts.

@@ -16,6 +16,6 @@ pub use deku_frame::frame;
 pub use list::{Field, Item, Kind, Number};
 pub use picture::{Place, places};
 pub use program::run;
-pub use read::{list_from_bytes, read_list, read_list_into};
+pub use read::{list_from_bytes, read_field, read_list, read_list_into};
 pub use words::{parse_field, parse_item};
 pub use write::{list_to_bytes, write_list};

@@ -64,9 +64,15 @@ pub fn read_list_into<R: Source>(
     Ok(())
 }
 
-// Reads the value of a field, at once if nothing rejects it and its bits are in memory.
+/// Reads the value of one field. It takes no memory.
+///
+/// It fails as `read_list_into` fails for the field, and then leaves what that leaves.
+///
+/// ```text
+/// read_field(&mut reader, &four)?                            // 6, of the byte 69
+/// ```
 #[inline(always)]
-fn read_field<R: Source>(reader: &mut Reader<R>, field: &Field) -> Result<Number, DekuError>
+pub fn read_field<R: Source>(reader: &mut Reader<R>, field: &Field) -> Result<Number, DekuError>
     ensures reads { Reads R.known (ReadsField field.now) reader.old result reader.new }
     ensures fetched { OnOk result (Fetched R.known (field_width field.now) reader.old reader.new) }
     ensures early { FetchedInTime reader.old reader.new }

@@ -92,7 +92,7 @@ impl<'p, 'c, 'a> Computer<'p, 'c, 'a> {
             ),
             Expression::Not(value) => {
                 let value = self.value(value)?;
-                self.not(value, expression)
+                self.not(&value, expression)
             }
             Expression::Cast(value, kind) => {
                 let value = self.value(value)?;
@@ -102,7 +102,7 @@ impl<'p, 'c, 'a> Computer<'p, 'c, 'a> {
                 let span = span_of(right);
                 let left = self.value(left)?;
                 let right = self.value(right)?;
-                self.both(*operator, left, right, span)
+                self.both(*operator, &left, &right, span)
             }
         }
     }
@@ -182,7 +182,7 @@ impl<'p, 'c, 'a> Computer<'p, 'c, 'a> {
         })
     }
 
-    fn not(&self, value: Computed, expression: &Expression<'a>) -> Result<Computed, Stop> {
+    fn not(&self, value: &Computed, expression: &Expression<'a>) -> Result<Computed, Stop> {
         if value.most.is_some() {
             return self.wrong(
                 span_of(expression),
@@ -190,6 +190,11 @@ impl<'p, 'c, 'a> Computer<'p, 'c, 'a> {
                 "compare the number with another one",
             );
         }
+        self.negated(value)
+    }
+
+    // A truth value with `!` in front.
+    fn negated(&self, value: &Computed) -> Result<Computed, Stop> {
         let code = argument(self.alloc, value.code.as_str(), value.strength)?;
         let term = argument(self.alloc, value.term.as_str(), value.strength)?;
         let code = format!(in self.alloc; "!{code}")?;
@@ -220,8 +225,8 @@ impl<'p, 'c, 'a> Computer<'p, 'c, 'a> {
     pub fn both(
         &mut self,
         operator: Operator,
-        left: Computed,
-        right: Computed,
+        left: &Computed,
+        right: &Computed,
         span: Span,
     ) -> Result<Computed, Stop> {
         match operator {
@@ -256,8 +261,8 @@ impl<'p, 'c, 'a> Computer<'p, 'c, 'a> {
     fn logical(
         &self,
         (mark, strength): (&str, u8),
-        left: Computed,
-        right: Computed,
+        left: &Computed,
+        right: &Computed,
         span: Span,
     ) -> Result<Computed, Stop> {
         if left.most.is_some() || right.most.is_some() {
@@ -299,8 +304,8 @@ impl<'p, 'c, 'a> Computer<'p, 'c, 'a> {
     fn same_truth(
         &self,
         is_same: bool,
-        left: Computed,
-        right: Computed,
+        left: &Computed,
+        right: &Computed,
         span: Span,
     ) -> Result<Computed, Stop> {
         let is_true = right.code.as_str() == "true";
@@ -312,20 +317,16 @@ impl<'p, 'c, 'a> Computer<'p, 'c, 'a> {
             );
         }
         if is_true == is_same {
-            return Ok(left);
+            return self.truth(left.code.as_str(), left.term.as_str(), left.strength);
         }
-        let code = argument(self.alloc, left.code.as_str(), left.strength)?;
-        let term = argument(self.alloc, left.term.as_str(), left.strength)?;
-        let code = format!(in self.alloc; "!{code}")?;
-        let term = format!(in self.alloc; "not {term}")?;
-        self.truth(code.as_str(), term.as_str(), 9)
+        self.negated(left)
     }
 
     fn compared(
         &mut self,
         operator: Operator,
-        left: Computed,
-        right: Computed,
+        left: &Computed,
+        right: &Computed,
         span: Span,
     ) -> Result<Computed, Stop> {
         let (Some(_), Some(most)) = (left.most, right.most) else {
@@ -347,24 +348,36 @@ impl<'p, 'c, 'a> Computer<'p, 'c, 'a> {
             (&left.code, left.strength),
             (&right.code, right.strength),
         )?;
+        let term = self.comparison(operator, left, right)?;
+        self.truth(code.as_str(), term.as_str(), 3)
+    }
+
+    // A comparison in ghost text.
+    fn comparison(
+        &self,
+        operator: Operator,
+        left: &Computed,
+        right: &Computed,
+    ) -> Result<String, Stop> {
         let one = argument(self.alloc, left.term.as_str(), left.strength)?;
         let other = argument(self.alloc, right.term.as_str(), right.strength)?;
-        let term = match operator {
-            Operator::Equal => format!(in self.alloc; "nat_eq {one} {other}")?,
-            Operator::Unequal => format!(in self.alloc; "not (nat_eq {one} {other})")?,
-            Operator::Below => format!(in self.alloc; "nat_lt {one} {other}")?,
-            Operator::AtMost => format!(in self.alloc; "nat_le {one} {other}")?,
-            Operator::Above => format!(in self.alloc; "nat_lt {other} {one}")?,
-            _ => format!(in self.alloc; "nat_le {other} {one}")?,
+        let (one, other) = (one.as_str(), other.as_str());
+        let (front, first, second, end) = match operator {
+            Operator::Equal => ("nat_eq", one, other, ""),
+            Operator::Unequal => ("not (nat_eq", one, other, ")"),
+            Operator::Below => ("nat_lt", one, other, ""),
+            Operator::AtMost => ("nat_le", one, other, ""),
+            Operator::Above => ("nat_lt", other, one, ""),
+            _ => ("nat_le", other, one, ""),
         };
-        self.truth(code.as_str(), term.as_str(), 3)
+        Ok(format!(in self.alloc; "{front} {first} {second}{end}")?)
     }
 
     fn reckoned(
         &mut self,
         operator: Operator,
-        left: Computed,
-        right: Computed,
+        left: &Computed,
+        right: &Computed,
         span: Span,
     ) -> Result<Computed, Stop> {
         let most = match (left.most, right.most) {
@@ -379,7 +392,7 @@ impl<'p, 'c, 'a> Computer<'p, 'c, 'a> {
             );
         };
         self.is_mixed = true;
-        self.guard(operator, &left, &right)?;
+        self.guard(operator, left, right)?;
         let (mark, strength) = (mark_of(operator), operator.strength());
         let (one, other) = (left.strength, right.strength);
         let code = self.infix(mark, strength, (&left.code, one), (&right.code, other))?;
@@ -396,28 +409,28 @@ impl<'p, 'c, 'a> Computer<'p, 'c, 'a> {
     // Notes when there is no difference, no quotient and no remainder.
     fn guard(&mut self, operator: Operator, left: &Computed, right: &Computed) -> Result<(), Stop> {
         let is_literal = right.kind.is_none() && right.strength == ATOM;
-        let other = argument(self.alloc, right.term.as_str(), right.strength)?;
-        match operator {
-            Operator::Minus => {
-                let one = argument(self.alloc, left.term.as_str(), left.strength)?;
-                let term = format!(in self.alloc; "nat_lt {one} {other}")?;
-                let code = self.infix(
-                    "<",
-                    3,
-                    (&left.code, left.strength),
-                    (&right.code, right.strength),
-                )?;
-                self.guards.push((term, code))?;
-            }
-            Operator::Divided | Operator::Remainder if !is_literal => {
-                let term = format!(in self.alloc; "nat_eq {other} 0")?;
-                let code = inside(self.alloc, right.code.as_str(), right.strength <= 3)?;
-                self.guards
-                    .push((term, format!(in self.alloc; "{code} == 0")?))?;
-            }
-            _ => {}
-        }
+        let guard = match operator {
+            Operator::Minus => self.is_below(left, right)?,
+            Operator::Divided | Operator::Remainder if !is_literal => self.is_zero(right)?,
+            _ => return Ok(()),
+        };
+        self.guards.push(guard)?;
         Ok(())
+    }
+
+    // That a number is below another one, as ghost text and as code.
+    fn is_below(&self, left: &Computed, right: &Computed) -> Result<(String, String), Stop> {
+        let (one, other) = (left.strength, right.strength);
+        let code = self.infix("<", 3, (&left.code, one), (&right.code, other))?;
+        Ok((self.comparison(Operator::Below, left, right)?, code))
+    }
+
+    // That a number is 0, as ghost text and as code.
+    fn is_zero(&self, number: &Computed) -> Result<(String, String), Stop> {
+        let term = argument(self.alloc, number.term.as_str(), number.strength)?;
+        let code = inside(self.alloc, number.code.as_str(), number.strength <= 3)?;
+        let term = format!(in self.alloc; "nat_eq {term} 0")?;
+        Ok((term, format!(in self.alloc; "{code} == 0")?))
     }
 }
 
