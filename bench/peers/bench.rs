@@ -54,7 +54,7 @@ pub enum Mode {
     Profile,
 }
 
-pub const PEERS: [&str; 7] = ["hand", "kit", "bits", "best", "bytes", "c", "rows"];
+pub const PEERS: [&str; 8] = ["hand", "kit", "bits", "best", "bytes", "c", "rows", "rust"];
 
 pub struct Bench {
     pub mode: Mode,

@@ -44,6 +44,8 @@ calls! {
     dk_fives_write(): Five => u8;
     dk_fields_read(): u8 => Head;
     dk_fields_write(): Head => u8;
+    dk_lone_fields_read(): u8 => Head;
+    dk_lone_fields_write(): Head => u8;
     dk_plan_read(): u8 => Head;
     dk_rows_sum(): u8 => u64;
     dk_columns_sum(): u8 => u64;

@@ -4,6 +4,8 @@
 //! and optionally the beginning of the names of the works that are wanted. `file` begins the arguments of a process that reads or writes one file.
 
 mod bench;
+#[cfg(side = "deku")]
+mod bindings;
 mod calls;
 mod crates;
 mod files;
@@ -40,6 +42,13 @@ fn random_head(random: &mut Random) -> Head {
     }
 }
 
+fn random_heads(random: &mut Random, n: usize) -> (Vec<Head>, Vec<u8>) {
+    let heads: Vec<Head> = (0..n).map(|_| random_head(random)).collect();
+    let mut wire = vec![0; 20 * n];
+    assert!(hand::heads_write(&heads, &mut wire));
+    (heads, wire)
+}
+
 fn sum_of(head: &Head) -> u64 {
     let bytes = [head.version, head.words, head.service, head.flags, head.ttl, head.protocol];
     let words = [head.length, head.id, head.fragment, head.check];
@@ -49,9 +58,7 @@ fn sum_of(head: &Head) -> u64 {
 
 fn headers(bench: &mut Bench, random: &mut Random, size: usize) {
     let n = size / 20;
-    let heads: Vec<Head> = (0..n).map(|_| random_head(random)).collect();
-    let mut wire = vec![0; 20 * n];
-    assert!(hand::heads_write(&heads, &mut wire));
+    let (heads, wire) = random_heads(random, n);
     both!(bench, "headers", size, 12 * n, heads, wire,
         read "library" calls::dk_heads_read, "hand" hand::heads_read, "kit" kit::heads_read,
             "bits" crates::bits_heads_read, "best" crates::best_heads_read, "c" calls::c_heads_read;
@@ -239,7 +246,7 @@ fn lists(bench: &mut Bench, random: &mut Random, size: usize) {
 // The works of each side that is built.
 const WORKS: &[&[Works]] = &[
     #[cfg(side = "deku")]
-    &[headers, quads, signals, samples, wide, runs, lists],
+    &[headers, bindings::lists, quads, signals, samples, wide, runs, lists],
     #[cfg(side = "records")]
     &[
         packets::udp_headers,
