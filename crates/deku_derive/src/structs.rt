@@ -22,8 +22,8 @@ pub(crate) fn docs(out: &mut String, lines: &[&str], marks: &str) -> Result<(), 
     Ok(())
 }
 
-/// Appends the comment of a record, and what it derives. A record for C is laid out as there, and is
-/// only copied.
+/// Appends the comment of a record, and what it derives. A record for C is laid out as there, and
+/// is only copied.
 pub(crate) fn derives(
     out: &mut String,
     record: &Record<'_>,
