@@ -79,6 +79,19 @@ const PRELUDE: [&str; 8] = [
     "Writer",
 ];
 
+// What a module imports, of its names, in the order in which `rt fmt` has it.
+const USED: [(&str, &[&str]); 9] = [
+    ("deku::cstring", &["CString"]),
+    ("deku::ctx", &CONTEXTS),
+    ("deku::device", &["Sink", "Source"]),
+    ("deku::prelude", &PRELUDE),
+    ("deku_c_records", &["ForC"]),
+    ("deku_symmetry", &PARTS),
+    ("std::alloc", &["Global"]),
+    ("std::marker", &["PhantomData"]),
+    ("std::net", &["Ipv4Addr", "Ipv6Addr"]),
+];
+
 // Words of ghost text, with what of it is looked for.
 const WORDS: [(&str, &str); 24] = [
     ("◌+◌", " + "),
@@ -124,9 +137,13 @@ pub(crate) fn imports(
     }
     let words = words.as_slice().join(alloc, ", ")?;
     let words = words.as_str();
-    writeln!(out, "\nghost use Rattle.std.specs.Prelude.{{{words}}};")?;
-    out.push_str("ghost use Rattle.deku.specs.Composing.{Then};\n")?;
-    out.push_str("ghost use Rattle.deku.specs.Shapes.{Shows};\n")?;
+    writeln!(
+        out,
+        "
+ghost use Rattle.std.specs.Prelude.{{{words}}};
+ghost use Rattle.deku.specs.Composing.{{Then}};
+ghost use Rattle.deku.specs.Shapes.{{Shows}};"
+    )?;
     refusals(out, term.as_str())?;
     contexts(out, term.as_str())?;
     made(out, term.as_str())?;
@@ -137,15 +154,10 @@ pub(crate) fn imports(
             writeln!(out, "use {path};")?;
         }
     }
-    used(out, "deku::cstring", &["CString"], code.as_str())?;
-    used(out, "deku::ctx", &CONTEXTS, code.as_str())?;
-    used(out, "deku::device", &["Sink", "Source"], code.as_str())?;
-    used(out, "deku::prelude", &PRELUDE, code.as_str())?;
-    used(out, "deku_c_records", &["ForC"], code.as_str())?;
-    used(out, "deku_symmetry", &PARTS, code.as_str())?;
-    used(out, "std::alloc", &["Global"], code.as_str())?;
-    used(out, "std::marker", &["PhantomData"], code.as_str())?;
-    used(out, "std::net", &["Ipv4Addr", "Ipv6Addr"], code.as_str())
+    for (from, names) in USED {
+        used(out, from, names, code.as_str())?;
+    }
+    Ok(())
 }
 
 // Appends the words for the refusals of an update, if ghost text has one.
@@ -153,10 +165,13 @@ fn refusals(out: &mut String, text: &str) -> Result<(), AllocError> {
     if !text.contains("Tells Parse") {
         return Ok(());
     }
-    out.push_str("ghost use Rattle.deku.specs.declared.error.")?;
-    out.push_str("DekuError.{DekuError as Refusal};\n")?;
-    out.push_str("ghost use Rattle.deku.specs.declared.error.DekuError.TheVariants.{Parse};\n")?;
-    out.push_str("ghost use Rattle.deku.specs.Faults.{Tells};\n")
+    out.push_str(
+        "\
+ghost use Rattle.deku.specs.declared.error.DekuError.{DekuError as Refusal};
+ghost use Rattle.deku.specs.declared.error.DekuError.TheVariants.{Parse};
+ghost use Rattle.deku.specs.Faults.{Tells};
+",
+    )
 }
 
 // Appends the words for contexts that ghost text has.

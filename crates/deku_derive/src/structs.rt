@@ -148,42 +148,46 @@ pub(crate) fn parts_alias(
 
 /// Appends the traits of deku for a record that is written by this body.
 pub(crate) fn traits(out: &mut String, name: &str, body: &str) -> Result<(), AllocError> {
-    writeln!(out, "\nimpl DekuReader<()> for {name} {{")?;
-    let ahead = format!(in *out.allocator(); "⟦<{name}Parts as DekuReader<()>>⟧.no_read_ahead")?;
-    member(out, "no_read_ahead", ahead.as_str(), "")?;
-    let meaning = format!(in *out.allocator();
-        "λ c. Then (⟦<{name}Parts as DekuReader<()>>⟧.meaning c)"
-    )?;
-    let shows = format!(in *out.allocator(); "(Shows ⟦<{name} as FromParts>⟧.parts_of)")?;
-    member(out, "meaning", meaning.as_str(), shows.as_str())?;
-    out.push_str("    #[inline(always)]\n    fn from_reader_with_ctx<R: Source>(")?;
-    out.push_str("reader: &mut Reader<R>, ctx: ()) -> Result<Self, DekuError> {\n")?;
-    out.push_str("        read_record(reader, ctx)\n    }\n}\n")?;
-    writeln!(out, "\nimpl DekuWriter<()> for {name} {{")?;
-    let meaning = format!(in *out.allocator(); "λ v. ⟦<{name}Parts as DekuWriter<()>>⟧.meaning")?;
-    let parts = format!(in *out.allocator(); "(⟦<{name} as FromParts>⟧.parts_of v)")?;
-    member(out, "meaning", meaning.as_str(), parts.as_str())?;
-    let ctx = if body.contains("ctx") { "ctx" } else { "_ctx" };
-    out.push_str("    #[inline(always)]\n    fn to_writer<W: Sink>(&self, ")?;
     writeln!(
         out,
-        "writer: &mut Writer<W>, {ctx}: ()) -> Result<(), DekuError> {{"
-    )?;
-    out.push_str("        ")?;
-    writeln!(out, "{body}\n    }}\n}}")?;
-    writeln!(out, "\nimpl Record<()> for {name} {{")?;
-    out.push_str("    ghost reads = { λ c b s r u m. m };\n\n")?;
-    out.push_str("    ghost writes = { λ c v b s r u m. m };\n}\n")?;
-    writeln!(out, "\nimpl DekuContainerRead for {name} {{}}")?;
-    writeln!(out, "\nimpl DekuContainerWrite for {name} {{}}")
-}
+        "
+impl DekuReader<()> for {name} {{
+    ghost no_read_ahead = {{ ⟦<{name}Parts as DekuReader<()>>⟧.no_read_ahead }};
 
-// Appends a ghost member of one or two lines, and an empty line.
-fn member(out: &mut String, name: &str, one: &str, other: &str) -> Result<(), AllocError> {
-    if other.is_empty() {
-        return writeln!(out, "    ghost {name} = {{ {one} }};\n");
-    }
-    writeln!(out, "    ghost {name} = {{ {one}\n        {other} }};\n")
+    ghost meaning = {{ λ c. Then (⟦<{name}Parts as DekuReader<()>>⟧.meaning c)
+        (Shows ⟦<{name} as FromParts>⟧.parts_of) }};
+
+    #[inline(always)]
+    fn from_reader_with_ctx<R: Source>(\
+reader: &mut Reader<R>, ctx: ()) -> Result<Self, DekuError> {{
+        read_record(reader, ctx)
+    }}
+}}"
+    )?;
+    let ctx = if body.contains("ctx") { "ctx" } else { "_ctx" };
+    writeln!(
+        out,
+        "
+impl DekuWriter<()> for {name} {{
+    ghost meaning = {{ λ v. ⟦<{name}Parts as DekuWriter<()>>⟧.meaning
+        (⟦<{name} as FromParts>⟧.parts_of v) }};
+
+    #[inline(always)]
+    fn to_writer<W: Sink>(&self, writer: &mut Writer<W>, {ctx}: ()) -> Result<(), DekuError> {{
+        {body}
+    }}
+}}
+
+impl Record<()> for {name} {{
+    ghost reads = {{ λ c b s r u m. m }};
+
+    ghost writes = {{ λ c v b s r u m. m }};
+}}
+
+impl DekuContainerRead for {name} {{}}
+
+impl DekuContainerWrite for {name} {{}}"
+    )
 }
 
 // Appends the names of a record's parts.
