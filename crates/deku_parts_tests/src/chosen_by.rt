@@ -1,11 +1,8 @@
 //! Values of a kind that the parts before them choose.
 
+use crate::rows::{Row, expect_records, expect_rows};
 use deku::prelude::DekuError;
-use deku_symmetry::{
-    Be, ChosenBy, Either, IdOf, IdOfLaw, InRange, Kind, Msb, Otherwise, Symmetric,
-};
-use deku_testing_values::expecting::same;
-use deku_testing_values::records::{expect_record, expect_refusal};
+use deku_symmetry::{Be, ChosenBy, Either, IdOf, IdOfLaw, InRange, Kind, Msb, Otherwise};
 use std::test::Fail;
 
 // A version, and a protocol.
@@ -37,21 +34,27 @@ const REFUSAL: DekuError = DekuError::Assertion("kind out of step with its id");
 fn each_under_its_id(rt: HostRuntime) -> Result<(), Fail> {
     let alloc = rt.alloc();
     let number: Known = ChosenBy::new((Msb(4), Msb(1)), Either::This(Kind(Be(0xBEEF))));
-    expect_record(alloc, &number, &[0x41, 0xBE, 0xEF])?;
     let nothing: Known = ChosenBy::new((Msb(4), Msb(2)), Either::Other(Kind(())));
-    expect_record(alloc, &nothing, &[0x42])?;
+    expect_records(alloc, &[(number, &[0x41, 0xBE, 0xEF]), (nothing, &[0x42])])?;
     let other: Any = ChosenBy::new((Msb(4), Msb(7)), Either::Other(InRange { id: 7, value: 9 }));
-    expect_record(alloc, &other, &[0x47, 0x09])?;
-    expect_refusal::<Known>(alloc, &[0x43, 0xBE, 0xEF], DekuError::IdVariantNotFound, 8)
+    expect_records(alloc, &[(other, &[0x47, 0x09])])
 }
 
 #[test]
 fn out_of_step(rt: HostRuntime) -> Result<(), Fail> {
-    let alloc = rt.alloc();
-    let number: Known = ChosenBy::new((Msb(4), Msb(2)), Either::This(Kind(Be(0xBEEF))));
-    same(&2, &number.pack(alloc, ()), &Err(REFUSAL))?;
-    let other: Any = ChosenBy::new((Msb(4), Msb(7)), Either::Other(InRange { id: 8, value: 9 }));
-    same(&8, &other.pack(alloc, ()), &Err(REFUSAL))?;
-    let first: Any = ChosenBy::new((Msb(4), Msb(1)), Either::Other(InRange { id: 1, value: 9 }));
-    same(&1, &first.pack(alloc, ()), &Err(REFUSAL))
+    let unknown = DekuError::IdVariantNotFound;
+    let number = ChosenBy::new((Msb(4), Msb(2)), Either::This(Kind(Be(0xBEEF))));
+    expect_rows::<Known>(
+        rt.alloc(),
+        &[
+            Row::Refused(&[0x43, 0xBE, 0xEF], unknown, 8),
+            Row::Unfit(number, REFUSAL),
+        ],
+    )?;
+    let other = ChosenBy::new((Msb(4), Msb(7)), Either::Other(InRange { id: 8, value: 9 }));
+    let first = ChosenBy::new((Msb(4), Msb(1)), Either::Other(InRange { id: 1, value: 9 }));
+    expect_rows::<Any>(
+        rt.alloc(),
+        &[Row::Unfit(other, REFUSAL), Row::Unfit(first, REFUSAL)],
+    )
 }

@@ -2,12 +2,12 @@
 
 ghost use Rattle.std.specs.Prelude.{[], ◌∷◌};
 
+use crate::rows::{Row, expect_rows};
 use deku::prelude::DekuError;
 use deku_symmetry::{
-    Assert, Be, Between, ByteConstant, Is, Magic, MagicBytes, Msb, Symmetric, ZeroBits, ZeroBytes,
+    Assert, Be, Between, ByteConstant, Is, Magic, MagicBytes, Msb, ZeroBits, ZeroBytes,
 };
-use deku_testing_values::expecting::same;
-use deku_testing_values::records::{expect_packed, expect_refusal};
+use deku_testing_values::records::expect_packed;
 use std::test::Fail;
 
 // The first bytes of a portable network graphic.
@@ -37,37 +37,49 @@ type Kept = (Msb<u8, 5>, Msb<u8, 3>);
 
 #[test]
 fn strings_of_bytes(rt: HostRuntime) -> Result<(), Fail> {
-    let alloc = rt.alloc();
-    let file: File = (Magic::new(), Be(2));
     let bytes = [0x89, 0x50, 0x4E, 0x47, 0x0D, 0x0A, 0x1A, 0x0A, 0x00, 0x02];
-    expect_packed(alloc, (), &file, 80, &bytes)?;
     let other = [0x89, 0x50, 0x4E, 0x47, 0x0D, 0x0A, 0x1A, 0x0B, 0x00, 0x02];
-    expect_refusal::<File>(alloc, &other, DekuError::Assertion("magic bytes"), 64)
+    let why = DekuError::Assertion("magic bytes");
+    expect_rows::<File>(
+        rt.alloc(),
+        &[
+            Row::Packed((Magic::new(), Be(2)), 80, &bytes),
+            Row::Refused(&other, why, 64),
+        ],
+    )
 }
 
 #[test]
 fn numbers_and_ranges(rt: HostRuntime) -> Result<(), Fail> {
-    let alloc = rt.alloc();
-    let header: Header = (Magic::new(), Assert::new(Msb(5)), Msb(9));
-    expect_packed(alloc, (), &header, 24, &[0x4D, 0x5A, 0x59])?;
     let another = DekuError::Assertion("another number");
-    expect_refusal::<Header>(alloc, &[0x4D, 0x5B, 0x59], another, 16)?;
     let range = DekuError::Assertion("number out of range");
-    expect_refusal::<Header>(alloc, &[0x4D, 0x5A, 0x49], range, 20)?;
-    let low: Header = (Magic::new(), Assert::new(Msb(4)), Msb(9));
-    same(&4, &low.pack(alloc, ()), &Err(range))
+    let five = (Magic::new(), Assert::new(Msb(5)), Msb(9));
+    let four = (Magic::new(), Assert::new(Msb(4)), Msb(9));
+    expect_rows::<Header>(
+        rt.alloc(),
+        &[
+            Row::Packed(five, 24, &[0x4D, 0x5A, 0x59]),
+            Row::Refused(&[0x4D, 0x5B, 0x59], another, 16),
+            Row::Refused(&[0x4D, 0x5A, 0x49], range, 20),
+            Row::Unfit(four, range),
+        ],
+    )
 }
 
 #[test]
 fn zeros(rt: HostRuntime) -> Result<(), Fail> {
-    let alloc = rt.alloc();
-    let padded: Padded = (Be(0x1234), Magic::new(), Msb(5), Magic::new());
+    let padded = (Be(0x1234), Magic::new(), Msb(5), Magic::new());
     let bytes = [0x12, 0x34, 0, 0, 0, 0, 0, 0, 0, 0, 0, 0xA0];
-    expect_packed(alloc, (), &padded, 96, &bytes)?;
     let some = [0x12, 0x34, 0, 0, 0, 0, 0, 0, 0, 0, 1, 0xA0];
-    expect_refusal::<Padded>(alloc, &some, DekuError::Assertion("zeros"), 88)?;
     let last = [0x12, 0x34, 0, 0, 0, 0, 0, 0, 0, 0, 0, 0xA1];
-    expect_refusal::<Padded>(alloc, &last, DekuError::Assertion("another number"), 96)
+    expect_rows::<Padded>(
+        rt.alloc(),
+        &[
+            Row::Packed(padded, 96, &bytes),
+            Row::Refused(&some, DekuError::Assertion("zeros"), 88),
+            Row::Refused(&last, DekuError::Assertion("another number"), 96),
+        ],
+    )
 }
 
 #[test]

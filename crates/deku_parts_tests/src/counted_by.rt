@@ -2,10 +2,11 @@
 
 ghost use Rattle.std.specs.Prelude.{◌*◌, ◌-◌, nat_lt, None, Some, if◌then◌else◌, refl};
 
+use crate::rows::{Row, expect_rows};
 use deku::prelude::{DekuError, NeedSize};
 use deku_symmetry::{Be, CountOf, CountOfLaw, CountedBy, Msb, Symmetric};
 use deku_testing_values::expecting::same;
-use deku_testing_values::records::{expect_packed, expect_refusal};
+use deku_testing_values::records::expect_packed;
 use std::alloc::Global;
 use std::test::Fail;
 
@@ -39,37 +40,48 @@ fn header(alloc: Global, words: u8, options: &[u8]) -> Result<Header, Fail> {
     Ok(CountedBy::new((Be(0x0400), Msb(words), Msb(2)), options.to_vec(alloc)?))
 }
 
+// Words, options, bits and bytes.
+const PACKED: [(u8, &[u8], usize, &[u8]); 2] = [
+    (5, &[], 24, &[0x04, 0x00, 0x52]),
+    (
+        6,
+        &[0x02, 0x04, 0x05, 0xB4],
+        56,
+        &[0x04, 0x00, 0x62, 0x02, 0x04, 0x05, 0xB4],
+    ),
+];
+
 #[test]
 fn as_many_as_the_head_says(rt: HostRuntime) -> Result<(), Fail> {
-    let alloc = rt.alloc();
-    expect_packed(alloc, (), &header(alloc, 5, &[])?, 24, &[0x04, 0x00, 0x52])?;
-    let bytes = [0x04, 0x00, 0x62, 0x02, 0x04, 0x05, 0xB4];
-    expect_packed(
-        alloc,
-        (),
-        &header(alloc, 6, &[0x02, 0x04, 0x05, 0xB4])?,
-        56,
-        &bytes,
-    )?;
-    let ended = DekuError::Incomplete(NeedSize::new(8));
-    expect_refusal::<Header>(alloc, &[0x04, 0x00, 0x62, 0x02, 0x04], ended, 40)?;
-    let uncounted = DekuError::Parse("head without a count");
-    expect_refusal::<Header>(alloc, &[0x04, 0x00, 0x42, 0x02], uncounted, 24)
+    for (words, options, bits, bytes) in PACKED {
+        let header = header(rt.alloc(), words, options)?;
+        expect_packed(rt.alloc(), (), &header, bits, bytes)?;
+    }
+    Ok(())
 }
 
 #[test]
+fn too_few(rt: HostRuntime) -> Result<(), Fail> {
+    let ended = DekuError::Incomplete(NeedSize::new(8));
+    let uncounted = DekuError::Parse("head without a count");
+    expect_rows::<Header>(
+        rt.alloc(),
+        &[
+            Row::Refused(&[0x04, 0x00, 0x62, 0x02, 0x04], ended, 40),
+            Row::Refused(&[0x04, 0x00, 0x42, 0x02], uncounted, 24),
+        ],
+    )
+}
+
+// Words, and options that are more or fewer.
+const UNFIT: [(u8, &[u8]); 3] = [(5, &[1, 2, 3, 4]), (6, &[1, 2, 3]), (4, &[])];
+
+#[test]
 fn out_of_step(rt: HostRuntime) -> Result<(), Fail> {
-    let alloc = rt.alloc();
     let refusal = DekuError::Assertion("count out of step with items");
-    same(
-        &5,
-        &header(alloc, 5, &[1, 2, 3, 4])?.pack(alloc, ()),
-        &Err(refusal),
-    )?;
-    same(
-        &6,
-        &header(alloc, 6, &[1, 2, 3])?.pack(alloc, ()),
-        &Err(refusal),
-    )?;
-    same(&4, &header(alloc, 4, &[])?.pack(alloc, ()), &Err(refusal))
+    for (words, options) in UNFIT {
+        let header = header(rt.alloc(), words, options)?;
+        same(&words, &header.pack(rt.alloc(), ()), &Err(refusal))?;
+    }
+    Ok(())
 }

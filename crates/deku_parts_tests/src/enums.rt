@@ -1,11 +1,10 @@
 //! An id, and the value that it chooses.
 
+use crate::rows::{Row, expect_rows};
 use deku::prelude::DekuError;
-use deku_symmetry::{
-    Be, Either, Enum, InRange, Kind, Lsb, LsbEnum, MsbEnum, MsbLeEnum, Otherwise, Symmetric,
-};
-use deku_testing_values::expecting::{MISFIT, same};
-use deku_testing_values::records::{expect_packed, expect_refusal};
+use deku_symmetry::{Be, Either, Enum, InRange, Kind, Lsb, LsbEnum, MsbEnum, MsbLeEnum, Otherwise};
+use deku_testing_values::expecting::MISFIT;
+use deku_testing_values::records::expect_packed;
 use std::test::Fail;
 
 // What follows the type of an Ethernet frame: a number, nothing, or a byte after any other type.
@@ -54,58 +53,70 @@ fn other(id: u64, value: u8) -> Frame {
 
 #[test]
 fn each_under_its_id(rt: HostRuntime) -> Result<(), Fail> {
-    let alloc = rt.alloc();
-    let number: Frame = Enum::new(Either::This(Kind(Be(0xBEEF))));
-    expect_packed(alloc, (), &number, 32, &[0x08, 0x00, 0xBE, 0xEF])?;
-    let nothing: Frame = Enum::new(Either::Other(Either::This(Kind(()))));
-    expect_packed(alloc, (), &nothing, 16, &[0x08, 0x06])?;
-    expect_packed(alloc, (), &other(0x86DD, 7), 24, &[0x86, 0xDD, 0x07])?;
-    let little: Little = Enum::new(Kind(7));
-    expect_packed(alloc, (), &little, 24, &[0x02, 0x01, 0x07])
+    let refusal = DekuError::Assertion("kind out of step with its id");
+    let number = Enum::new(Either::This(Kind(Be(0xBEEF))));
+    let nothing = Enum::new(Either::Other(Either::This(Kind(()))));
+    expect_rows::<Frame>(
+        rt.alloc(),
+        &[
+            Row::Packed(number, 32, &[0x08, 0x00, 0xBE, 0xEF]),
+            Row::Packed(nothing, 16, &[0x08, 0x06]),
+            Row::Packed(other(0x86DD, 7), 24, &[0x86, 0xDD, 0x07]),
+            Row::Unfit(other(0x0800, 7), refusal),
+            Row::Unfit(other(0x0806, 7), refusal),
+            Row::Unfit(other(0x10000, 7), MISFIT),
+        ],
+    )
 }
 
 #[test]
-fn an_id_of_another_kind(rt: HostRuntime) -> Result<(), Fail> {
-    let alloc = rt.alloc();
-    let refusal = DekuError::Assertion("kind out of step with its id");
-    same(&0x0800, &other(0x0800, 7).pack(alloc, ()), &Err(refusal))?;
-    same(&0x0806, &other(0x0806, 7).pack(alloc, ()), &Err(refusal))?;
-    same(&0x10000, &other(0x10000, 7).pack(alloc, ()), &Err(MISFIT))
+fn an_id_of_two_bytes(rt: HostRuntime) -> Result<(), Fail> {
+    let little: Little = Enum::new(Kind(7));
+    expect_packed(rt.alloc(), (), &little, 24, &[0x02, 0x01, 0x07])
 }
 
 #[test]
 fn ids_of_a_range(rt: HostRuntime) -> Result<(), Fail> {
-    let alloc = rt.alloc();
-    let last: Private = Enum::new(Either::This(InRange { id: 0xFE, value: 9 }));
-    expect_packed(alloc, (), &last, 16, &[0xFE, 0x09])?;
-    let beyond: Private = Enum::new(Either::This(InRange { id: 0xFF, value: 9 }));
+    let last = Enum::new(Either::This(InRange { id: 0xFE, value: 9 }));
+    let beyond = Enum::new(Either::This(InRange { id: 0xFF, value: 9 }));
     let refusal = DekuError::Assertion("kind out of step with its id");
-    same(&0xFF, &beyond.pack(alloc, ()), &Err(refusal))?;
-    let unknown = DekuError::IdVariantNotFound;
-    expect_refusal::<Private>(alloc, &[0xFF, 0x09], unknown, 8)?;
-    expect_refusal::<Private>(alloc, &[0xEF, 0x09], unknown, 8)
+    expect_rows::<Private>(
+        rt.alloc(),
+        &[
+            Row::Packed(last, 16, &[0xFE, 0x09]),
+            Row::Unfit(beyond, refusal),
+            Row::Refused(&[0xFF, 0x09], DekuError::IdVariantNotFound, 8),
+            Row::Refused(&[0xEF, 0x09], DekuError::IdVariantNotFound, 8),
+        ],
+    )
 }
 
 // 3 + 0x1FF * 128 is 0xFF83, its low byte first.
 #[test]
 fn ids_in_low_bits(rt: HostRuntime) -> Result<(), Fail> {
-    let alloc = rt.alloc();
-    let one: Word = Enum::new(Either::This(Kind(Lsb(1))));
-    expect_packed(alloc, (), &one, 8, &[0x85])?;
-    let nine: Word = Enum::new(Either::Other(Kind(Lsb(0x1FF))));
-    expect_packed(alloc, (), &nine, 16, &[0x83, 0xFF])
+    let one = Enum::new(Either::This(Kind(Lsb(1))));
+    let nine = Enum::new(Either::Other(Kind(Lsb(0x1FF))));
+    expect_rows::<Word>(
+        rt.alloc(),
+        &[
+            Row::Packed(one, 8, &[0x85]),
+            Row::Packed(nine, 16, &[0x83, 0xFF]),
+        ],
+    )
 }
 
 #[test]
 fn forty_kinds(rt: HostRuntime) -> Result<(), Fail> {
-    let alloc = rt.alloc();
-    let first: Forty = Enum::new(Either::This(Either::This(Either::This(Either::This(Kind(
-        0xAA,
+    let first = Either::This(Either::This(Either::This(Either::This(Kind(0xAA)))));
+    let last = Either::Other(Either::Other(Either::Other(Either::Other(Either::Other(Either::Other(
+        Kind(0xBB),
     ))))));
-    expect_packed(alloc, (), &first, 16, &[0x00, 0xAA])?;
-    let last: Forty = Enum::new(Either::Other(Either::Other(Either::Other(Either::Other(
-        Either::Other(Either::Other(Kind(0xBB))),
-    )))));
-    expect_packed(alloc, (), &last, 16, &[0x27, 0xBB])?;
-    expect_refusal::<Forty>(alloc, &[0x28, 0xBB], DekuError::IdVariantNotFound, 8)
+    expect_rows::<Forty>(
+        rt.alloc(),
+        &[
+            Row::Packed(Enum::new(first), 16, &[0x00, 0xAA]),
+            Row::Packed(Enum::new(last), 16, &[0x27, 0xBB]),
+            Row::Refused(&[0x28, 0xBB], DekuError::IdVariantNotFound, 8),
+        ],
+    )
 }

@@ -31,28 +31,28 @@ fn text(alloc: Global, bytes: u16, items: &[u8]) -> Result<Text, Fail> {
     Ok(FilledBy::new(Be(bytes), items.to_vec(alloc)?))
 }
 
+// Bytes, items, bits and the bytes of all.
+const PACKED: [(u16, &[u8], usize, &[u8]); 2] = [
+    (2, &[0x68, 0x69], 32, &[0x00, 0x02, 0x68, 0x69]),
+    (0, &[], 16, &[0x00, 0x00]),
+];
+
 #[test]
 fn as_many_bytes_as_the_head_says(rt: HostRuntime) -> Result<(), Fail> {
-    let alloc = rt.alloc();
-    let bytes = [0x00, 0x02, 0x68, 0x69];
-    expect_packed(alloc, (), &text(alloc, 2, &[0x68, 0x69])?, 32, &bytes)?;
-    expect_packed(alloc, (), &text(alloc, 0, &[])?, 16, &[0x00, 0x00])?;
+    for (bytes, items, bits, packed) in PACKED {
+        let text = text(rt.alloc(), bytes, items)?;
+        expect_packed(rt.alloc(), (), &text, bits, packed)?;
+    }
     let ended = DekuError::Incomplete(NeedSize::new(8));
-    expect_refusal::<Text>(alloc, &[0x00, 0x03, 0x68, 0x69], ended, 32)
+    expect_refusal::<Text>(rt.alloc(), &[0x00, 0x03, 0x68, 0x69], ended, 32)
 }
 
 #[test]
 fn more_or_fewer(rt: HostRuntime) -> Result<(), Fail> {
-    let alloc = rt.alloc();
     let refusal = DekuError::Assertion("content out of step with its size");
-    same(
-        &1,
-        &text(alloc, 1, &[0x68, 0x69])?.pack(alloc, ()),
-        &Err(refusal),
-    )?;
-    same(
-        &3,
-        &text(alloc, 3, &[0x68, 0x69])?.pack(alloc, ()),
-        &Err(refusal),
-    )
+    for bytes in [1, 3] {
+        let text = text(rt.alloc(), bytes, &[0x68, 0x69])?;
+        same(&bytes, &text.pack(rt.alloc(), ()), &Err(refusal))?;
+    }
+    Ok(())
 }

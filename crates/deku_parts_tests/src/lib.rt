@@ -21,6 +21,8 @@ mod prefixed;
 #[cfg(test)]
 mod rest;
 #[cfg(test)]
+mod rows;
+#[cfg(test)]
 mod sized_by;
 #[cfg(test)]
 mod under_head;

@@ -1,9 +1,8 @@
 //! Items that are there if the parts before them say so.
 
+use crate::rows::{Row, expect_rows};
 use deku::prelude::{DekuError, NeedSize};
-use deku_symmetry::{Be, Condition, ConditionLaw, Msb, Optional, Symmetric};
-use deku_testing_values::expecting::same;
-use deku_testing_values::records::{expect_packed, expect_refusal};
+use deku_symmetry::{Be, Condition, ConditionLaw, Msb, Optional};
 use std::test::Fail;
 
 // A flag, fifteen more bits, and a protocol: the front of a header of generic routing.
@@ -33,28 +32,17 @@ fn header(flag: bool, item: Option<Be<u32>>) -> Header {
 
 #[test]
 fn there_or_not(rt: HostRuntime) -> Result<(), Fail> {
-    let alloc = rt.alloc();
-    expect_packed(
-        alloc,
-        (),
-        &header(false, None),
-        32,
-        &[0x00, 0x00, 0x08, 0x00],
-    )?;
-    let bytes = [0x80, 0x00, 0x08, 0x00, 0x12, 0x34, 0x00, 0x00];
-    expect_packed(alloc, (), &header(true, Some(Be(0x1234_0000))), 64, &bytes)?;
     let ended = DekuError::Incomplete(NeedSize::new(32));
-    expect_refusal::<Header>(alloc, &[0x80, 0x00, 0x08, 0x00, 0x12], ended, 32)
-}
-
-#[test]
-fn out_of_step(rt: HostRuntime) -> Result<(), Fail> {
-    let alloc = rt.alloc();
     let refusal = DekuError::Assertion("item out of step with its condition");
-    same(
-        &0,
-        &header(false, Some(Be(1))).pack(alloc, ()),
-        &Err(refusal),
-    )?;
-    same(&1, &header(true, None).pack(alloc, ()), &Err(refusal))
+    let bytes = [0x80, 0x00, 0x08, 0x00, 0x12, 0x34, 0x00, 0x00];
+    expect_rows(
+        rt.alloc(),
+        &[
+            Row::Packed(header(false, None), 32, &[0x00, 0x00, 0x08, 0x00]),
+            Row::Packed(header(true, Some(Be(0x1234_0000))), 64, &bytes),
+            Row::Refused(&[0x80, 0x00, 0x08, 0x00, 0x12], ended, 32),
+            Row::Unfit(header(false, Some(Be(1))), refusal),
+            Row::Unfit(header(true, None), refusal),
+        ],
+    )
 }

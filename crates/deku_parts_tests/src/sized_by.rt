@@ -2,10 +2,11 @@
 
 ghost use Rattle.std.specs.Prelude.{◌*◌, ◌-◌, nat_eq, None, Some, if◌then◌else◌, refl};
 
+use crate::rows::{Row, expect_rows};
 use deku::prelude::DekuError;
 use deku_symmetry::{Be, Msb, Prefixed, SizeOf, SizeOfLaw, SizedBy, Symmetric};
 use deku_testing_values::expecting::same;
-use deku_testing_values::records::{expect_packed, expect_record, expect_refusal};
+use deku_testing_values::records::expect_record;
 use std::alloc::Global;
 use std::test::Fail;
 
@@ -63,50 +64,60 @@ fn items(alloc: Global, bytes: u16, numbers: &[u16]) -> Result<Items, Fail> {
 
 #[test]
 fn as_long_as_the_head_says(rt: HostRuntime) -> Result<(), Fail> {
-    let alloc = rt.alloc();
     let pair: Pair = SizedBy::new(Be(4), (Be(0x1234), Be(0x5678)));
-    expect_record(alloc, &pair, &[0x00, 0x04, 0x12, 0x34, 0x56, 0x78])?;
-    let two = [0x00, 0x05, 0x02, 0x00, 0x06, 0x00, 0x09];
-    expect_record(alloc, &items(alloc, 5, &[6, 9])?, &two)?;
-    expect_record(alloc, &items(alloc, 1, &[])?, &[0x00, 0x01, 0x00])
+    expect_record(rt.alloc(), &pair, &[0x00, 0x04, 0x12, 0x34, 0x56, 0x78])
+}
+
+// Bytes, numbers, and the bytes of all.
+const RECORDS: [(u16, &[u16], &[u8]); 2] = [
+    (5, &[6, 9], &[0x00, 0x05, 0x02, 0x00, 0x06, 0x00, 0x09]),
+    (1, &[], &[0x00, 0x01, 0x00]),
+];
+
+#[test]
+fn items_that_the_head_sizes(rt: HostRuntime) -> Result<(), Fail> {
+    for (bytes, numbers, record) in RECORDS {
+        let items = items(rt.alloc(), bytes, numbers)?;
+        expect_record(rt.alloc(), &items, record)?;
+    }
+    Ok(())
+}
+
+#[test]
+fn items_of_another_size(rt: HostRuntime) -> Result<(), Fail> {
+    for bytes in [4, 6] {
+        let items = items(rt.alloc(), bytes, &[6, 9])?;
+        same(&bytes, &items.pack(rt.alloc(), ()), &Err(REFUSAL))?;
+    }
+    Ok(())
 }
 
 // 12 is 1100, 5 is 101, and 9 in five bits is 01001: 1100 1010 1001.
 #[test]
 fn bits_that_the_head_counts(rt: HostRuntime) -> Result<(), Fail> {
-    let alloc = rt.alloc();
-    let few: Few = SizedBy::new(Msb(12), (Msb(5), Msb(9)));
-    expect_packed(alloc, (), &few, 12, &[0xCA, 0x90])?;
-    expect_refusal::<Few>(alloc, &[0xBA, 0x90], REFUSAL, 12)?;
     let none = DekuError::Parse("head without a size");
-    expect_refusal::<Few>(alloc, &[0x0A, 0x90], none, 4)
+    let missing = DekuError::Assertion("head without a size");
+    expect_rows::<Few>(
+        rt.alloc(),
+        &[
+            Row::Packed(SizedBy::new(Msb(12), (Msb(5), Msb(9))), 12, &[0xCA, 0x90]),
+            Row::Refused(&[0xBA, 0x90], REFUSAL, 12),
+            Row::Refused(&[0x0A, 0x90], none, 4),
+            Row::Unfit(SizedBy::new(Msb(11), (Msb(5), Msb(9))), REFUSAL),
+            Row::Unfit(SizedBy::new(Msb(0), (Msb(5), Msb(9))), missing),
+        ],
+    )
 }
 
 #[test]
 fn longer_or_shorter(rt: HostRuntime) -> Result<(), Fail> {
-    let alloc = rt.alloc();
-    expect_refusal::<Pair>(alloc, &[0x00, 0x03, 0x12, 0x34, 0x56, 0x78], REFUSAL, 48)?;
-    expect_refusal::<Pair>(
-        alloc,
-        &[0x00, 0x05, 0x12, 0x34, 0x56, 0x78, 0x9A],
-        REFUSAL,
-        48,
-    )?;
-    let short: Pair = SizedBy::new(Be(3), (Be(0x1234), Be(0x5678)));
-    same(&3, &short.pack(alloc, ()), &Err(REFUSAL))?;
-    same(
-        &4,
-        &items(alloc, 4, &[6, 9])?.pack(alloc, ()),
-        &Err(REFUSAL),
-    )?;
-    same(
-        &6,
-        &items(alloc, 6, &[6, 9])?.pack(alloc, ()),
-        &Err(REFUSAL),
-    )?;
-    let few: Few = SizedBy::new(Msb(11), (Msb(5), Msb(9)));
-    same(&11, &few.pack(alloc, ()), &Err(REFUSAL))?;
-    let none: Few = SizedBy::new(Msb(0), (Msb(5), Msb(9)));
-    let missing = DekuError::Assertion("head without a size");
-    same(&0, &none.pack(alloc, ()), &Err(missing))
+    let short = SizedBy::new(Be(3), (Be(0x1234), Be(0x5678)));
+    expect_rows::<Pair>(
+        rt.alloc(),
+        &[
+            Row::Refused(&[0x00, 0x03, 0x12, 0x34, 0x56, 0x78], REFUSAL, 48),
+            Row::Refused(&[0x00, 0x05, 0x12, 0x34, 0x56, 0x78, 0x9A], REFUSAL, 48),
+            Row::Unfit(short, REFUSAL),
+        ],
+    )
 }

@@ -3,11 +3,10 @@
 ghost use Rattle.std.specs.Prelude.{nat_eq, if◌then◌else◌, refl};
 ghost use Rattle.deku_num.specs.declared.ctx.Endian.TheVariants.{Big, Little};
 
+use crate::rows::{Row, expect_records, expect_rows};
 use deku::ctx::{BitSize, Endian};
 use deku::prelude::DekuError;
-use deku_symmetry::{Be, ContextOf, ContextOfLaw, Symmetric, UnderHead};
-use deku_testing_values::expecting::same;
-use deku_testing_values::records::{expect_packed, expect_record, expect_refusal};
+use deku_symmetry::{Be, ContextOf, ContextOfLaw, UnderHead};
 use std::test::Fail;
 
 // A byte is the number of bits of a number.
@@ -52,23 +51,28 @@ type Picture = UnderHead<Be<u16>, ByteOrder, u16, Endian>;
 
 #[test]
 fn bits_that_the_head_counts(rt: HostRuntime) -> Result<(), Fail> {
-    let alloc = rt.alloc();
-    let twelve: Number = UnderHead::new(12, 0xABC);
-    expect_packed(alloc, (), &twelve, 20, &[0x0C, 0xAB, 0xC0])?;
-    let none: Number = UnderHead::new(0, 0);
-    expect_packed(alloc, (), &none, 8, &[0x00])?;
     let wide = DekuError::Parse("too much data");
-    expect_refusal::<Number>(alloc, &[0x21, 0, 0, 0, 0, 0], wide, 8)?;
-    let wider: Number = UnderHead::new(33, 1);
     let refusal = DekuError::InvalidParam("bit size is larger than input");
-    same(&33, &wider.pack(alloc, ()), &Err(refusal))
+    expect_rows::<Number>(
+        rt.alloc(),
+        &[
+            Row::Packed(UnderHead::new(12, 0xABC), 20, &[0x0C, 0xAB, 0xC0]),
+            Row::Packed(UnderHead::new(0, 0), 8, &[0x00]),
+            Row::Refused(&[0x21, 0, 0, 0, 0, 0], wide, 8),
+            Row::Unfit(UnderHead::new(33, 1), refusal),
+        ],
+    )
 }
 
 #[test]
 fn an_endian_that_the_head_names(rt: HostRuntime) -> Result<(), Fail> {
-    let alloc = rt.alloc();
     let little: Picture = UnderHead::new(Be(0x4949), 42);
-    expect_record(alloc, &little, &[0x49, 0x49, 0x2A, 0x00])?;
-    let big: Picture = UnderHead::new(Be(0x4D4D), 42);
-    expect_record(alloc, &big, &[0x4D, 0x4D, 0x00, 0x2A])
+    let big = UnderHead::new(Be(0x4D4D), 42);
+    expect_records(
+        rt.alloc(),
+        &[
+            (little, &[0x49, 0x49, 0x2A, 0x00]),
+            (big, &[0x4D, 0x4D, 0x00, 0x2A]),
+        ],
+    )
 }

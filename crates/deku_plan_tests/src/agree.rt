@@ -4,7 +4,7 @@ use deku::ctx::{Endian, Layout, Order, Size};
 use deku::error::DekuError;
 use deku_fields::{Field, Item, Kind, Number, read_list_into, write_list};
 use deku_plan::Plan;
-use deku_testing_values::expecting::{NO_MEMORY, reader_of, same, writer_in};
+use deku_testing_values::expecting::{NO_MEMORY, expect_bytes, reader_of, same, writer_in};
 use std::alloc::Global;
 use std::test::Fail;
 
@@ -31,22 +31,99 @@ const BYTES: [u8; 49] = [
     0x01,
 ];
 
-// Three bits, a field, and five bits in the same order.
-fn around(kind: Kind, endian: Endian, order: Order, size: Size) -> [Field; 3] {
-    let part = |bits| Field {
+// So many bits in this order.
+fn part(order: Order, bits: usize) -> Field {
+    Field {
         kind: Kind::U8,
         layout: Layout {
             endian: Endian::Big,
             order,
             size: Size::Bits(bits),
         },
-    };
+    }
+}
+
+// Three bits, a field, and five bits in the same order.
+fn around(kind: Kind, endian: Endian, order: Order, size: Size) -> [Field; 3] {
     let layout = Layout {
         endian,
         order,
         size,
     };
-    [part(3), Field { kind, layout }, part(5)]
+    [part(order, 3), Field { kind, layout }, part(order, 5)]
+}
+
+// What is read of three fields: their values, or why there are none.
+type Values = Result<[Number; 3], DekuError>;
+
+const NONE_YET: [Number; 3] = [Number::Unsigned(7); 3];
+
+// Why a call of a plan failed that was not made, since the plan has not the three fields.
+const NO_PLAN: DekuError = DekuError::Assertion("no plan of three fields");
+
+// The values that a call left, unless it failed.
+fn unless_failed(answer: Result<(), DekuError>, values: [Number; 3]) -> Values {
+    match answer {
+        Ok(()) => Ok(values),
+        Err(error) => Err(error),
+    }
+}
+
+// The answer of a call. If memory ran out, the test fails.
+fn unless_refused(answer: Result<(), DekuError>) -> Result<Result<(), DekuError>, Fail> {
+    match answer {
+        Err(error) if error == NO_MEMORY => Err(Fail::from(error)),
+        _ => Ok(answer),
+    }
+}
+
+// What a list reads, and how many bits of the bytes.
+fn read_listed(alloc: Global, fields: &[Field; 3], bytes: &[u8]) -> (Values, usize) {
+    let mut values = NONE_YET;
+    let mut reader = reader_of(alloc, bytes);
+    let answer = read_list_into(&mut reader, fields, &mut values);
+    (unless_failed(answer, values), reader.bits_read())
+}
+
+// What a plan reads, and how many bits of the bytes.
+fn read_planned(alloc: Global, plan: &Plan, bytes: &[u8]) -> (Values, usize) {
+    if plan.fields().len() != 3 {
+        return (Err(NO_PLAN), 0);
+    }
+    let mut values = NONE_YET;
+    let mut reader = reader_of(alloc, bytes);
+    let answer = plan.read(&mut reader, &mut values);
+    (unless_failed(answer, values), reader.bits_read())
+}
+
+// What a plan reads of one record.
+fn read_sliced(alloc: Global, plan: &Plan, bytes: &[u8]) -> Values {
+    if plan.fields().len() != 3 {
+        return Err(NO_PLAN);
+    }
+    let mut values = NONE_YET;
+    let answer = plan.read_all(alloc, bytes, 1, &mut values);
+    unless_failed(answer, values)
+}
+
+// A plan reads this value of the second field of one record, or fails so.
+fn expect_column(
+    alloc: Global,
+    plan: &Plan,
+    fields: &[Field; 3],
+    bytes: &[u8],
+    wanted: Values,
+) -> Result<(), Fail> {
+    if plan.fields().len() != 3 {
+        return Err(Fail::from(NO_PLAN));
+    }
+    let mut column = [NONE_YET[1]];
+    let answer = plan.read_column(alloc, bytes, 1, &mut column);
+    match (unless_refused(answer)?, wanted) {
+        (Ok(()), Ok(values)) => same(fields, &column[0], &values[1]),
+        (Err(error), Err(wanted)) => same(fields, &error, &wanted),
+        (answer, wanted) => Err(Fail::new(format_args!("{fields:?}: {answer:?}, not {wanted:?}"))),
+    }
 }
 
 // What a plan and a list read from these bytes, and write again, is the same.
@@ -56,29 +133,14 @@ fn expect_agreement(alloc: Global, fields: &[Field; 3], bytes: &[u8]) -> Result<
         Err(error) if error == NO_MEMORY => return Err(Fail::from(error)),
         Err(_) => return Ok(()),
     };
-    let none = [Number::Unsigned(7); 3];
-    let (mut listed, mut planned, mut sliced) = (none, none, none);
-    let (mut first, mut second) = (reader_of(alloc, bytes), reader_of(alloc, bytes));
-    let wanted = read_list_into(&mut first, fields, &mut listed);
-    let seen = plan.read(&mut second, &mut planned);
-    let all = plan.read_all(alloc, bytes, 1, &mut sliced);
-    same(
-        fields,
-        &(seen, second.bits_read(), all),
-        &(wanted, first.bits_read(), wanted),
-    )?;
-    let mut column = [none[1]];
-    let one = plan.read_column(alloc, bytes, 1, &mut column);
-    if one == Err(NO_MEMORY) {
-        return Err(Fail::from(NO_MEMORY));
+    let (wanted, bits) = read_listed(alloc, fields, bytes);
+    same(fields, &read_planned(alloc, &plan, bytes), &(wanted, bits))?;
+    same(fields, &read_sliced(alloc, &plan, bytes), &wanted)?;
+    expect_column(alloc, &plan, fields, bytes, wanted)?;
+    match wanted {
+        Ok(values) => expect_written(alloc, &plan, fields, &values),
+        Err(_) => Ok(()),
     }
-    same(fields, &one, &wanted)?;
-    if wanted.is_err() {
-        return Ok(());
-    }
-    same(fields, &(planned, sliced), &(listed, listed))?;
-    same(fields, &column, &[listed[1]])?;
-    expect_written(alloc, &plan, fields, &listed)
 }
 
 // What a plan and a list write of these values is the same.
@@ -95,36 +157,61 @@ fn expect_written(
         Item { field: b, value: y },
         Item { field: c, value: z },
     ];
-    let (mut first, mut second) = (writer_in(alloc), writer_in(alloc));
-    let wanted = write_list(&mut first, &items);
-    let seen = if plan.fields().len() == values.len() {
-        plan.write(&mut second, values)
-    } else {
-        Err(DekuError::IdVariantNotFound)
-    };
-    same(
-        fields,
-        &(seen, second.bits_written()),
-        &(wanted, first.bits_written()),
-    )?;
-    first.finalize()?;
-    second.finalize()?;
-    let (first, second) = (first.into_inner(), second.into_inner());
-    same(fields, second.get_ref(), first.get_ref())
+    let mut writer = writer_in(alloc);
+    let wanted = unless_refused(write_list(&mut writer, &items))?;
+    let wanted = (wanted, writer.bits_written());
+    writer.finalize()?;
+    let bytes = writer.into_inner().into_inner();
+    expect_planned(alloc, plan, fields, values, wanted, bytes.as_slice())
+}
+
+// A plan writes the values with this answer, so many bits, and these bytes, the last one filled.
+fn expect_planned(
+    alloc: Global,
+    plan: &Plan,
+    fields: &[Field; 3],
+    values: &[Number; 3],
+    wanted: (Result<(), DekuError>, usize),
+    bytes: &[u8],
+) -> Result<(), Fail> {
+    if plan.fields().len() != 3 {
+        return Err(Fail::from(NO_PLAN));
+    }
+    let mut writer = writer_in(alloc);
+    let answer = unless_refused(plan.write(&mut writer, values))?;
+    same(fields, &(answer, writer.bits_written()), &wanted)?;
+    expect_bytes(fields, writer, bytes)
+}
+
+// Plans and lists agree on each width, from enough bytes and from too few.
+fn expect_widths(alloc: Global, kind: Kind, endian: Endian, order: Order) -> Result<(), Fail> {
+    for bits in [0, 1, 7, 8, 12, 16, 31, 33, 57, 58, 63, 64, 65, 127, 128] {
+        let fields = around(kind, endian, order, Size::Bits(bits));
+        expect_agreement(alloc, &fields, &BYTES)?;
+        expect_agreement(alloc, &fields, &BYTES[..bits / 8 + 1])?;
+    }
+    Ok(())
+}
+
+const LAYOUTS: [(Endian, Order); 4] = [
+    (Endian::Big, Order::Msb0),
+    (Endian::Big, Order::Lsb0),
+    (Endian::Little, Order::Msb0),
+    (Endian::Little, Order::Lsb0),
+];
+
+// Plans and lists agree on each layout of a kind.
+fn expect_layouts(alloc: Global, kind: Kind) -> Result<(), Fail> {
+    for (endian, order) in LAYOUTS {
+        expect_widths(alloc, kind, endian, order)?;
+    }
+    Ok(())
 }
 
 #[test]
 fn agrees_with_lists(rt: HostRuntime) -> Result<(), Fail> {
     for kind in KINDS {
-        for endian in [Endian::Big, Endian::Little] {
-            for order in [Order::Msb0, Order::Lsb0] {
-                for bits in [0, 1, 7, 8, 12, 16, 31, 33, 57, 58, 63, 64, 65, 127, 128] {
-                    let fields = around(kind, endian, order, Size::Bits(bits));
-                    expect_agreement(rt.alloc(), &fields, &BYTES)?;
-                    expect_agreement(rt.alloc(), &fields, &BYTES[..bits / 8 + 1])?;
-                }
-            }
-        }
+        expect_layouts(rt.alloc(), kind)?;
     }
     Ok(())
 }

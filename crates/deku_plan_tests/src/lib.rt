@@ -7,3 +7,5 @@ mod agree;
 mod plan;
 #[cfg(test)]
 mod rows;
+#[cfg(test)]
+mod table;

@@ -1,5 +1,6 @@
 //! Records, printed a line each.
 
+use crate::table::{MOST, ROOM, bytes, columns, known, words};
 use deku::error::DekuError;
 use deku_progress::Progress;
 use deku_rows::{Columns, Form, NoColumns, print_rows, tell};
@@ -23,9 +24,20 @@ const RAW: Form = Form {
     raw: true,
 };
 
+// The form of this name.
+fn form_of(name: &str) -> Option<Form> {
+    match name {
+        "csv" => Some(CSV),
+        "json" => Some(JSON),
+        "raw" => Some(RAW),
+        _ => None,
+    }
+}
+
 // The records of an input are printed as this text, and then this line is told.
 fn expect_printed(
     alloc: Global,
+    line: &str,
     words: &[&str],
     form: Form,
     input: &[u8],
@@ -33,7 +45,7 @@ fn expect_printed(
 ) -> Result<(), Fail> {
     let columns = match Columns::parse(alloc, words) {
         Ok(columns) => columns,
-        Err(why) => return same(&words, &Some(why), &None),
+        Err(why) => return same(&line, &Some(why), &None),
     };
     let mut output: Vec<u8> = Vec::new(alloc);
     let mut errors: Vec<u8> = Vec::new(alloc);
@@ -42,79 +54,46 @@ fn expect_printed(
         tell(&mut errors, &failure)?;
     }
     let seen = (output.as_slice(), errors.as_slice());
-    let (text, line) = wanted;
-    same(&words, &seen, &(text.as_bytes(), line.as_bytes()))
+    let (text, told) = wanted;
+    same(&line, &seen, &(text.as_bytes(), told.as_bytes()))
 }
 
-// Two fields of a record.
-const HALVES: &[&str] = &["kind:u8,big,bits4", "size:u16,big,bits12"];
+// Words, a form, the input, what is printed, and the line of the error stream, if there is one. A
+// semicolon stands for a newline. The input of the form `raw` is in hexadecimal.
+const PRINTED: &str = "\
+    kind:u8,big,bits4 size:u16,big,bits12 | csv | 69c0FEDC; | kind,size;6,2496;15,3804; |
+    kind:u8,big,bits4 size:u16,big,bits12 | csv | 69 c0;FE DC | kind,size;6,2496;15,3804; |
+    kind:u8,big,bits4 size:u16,big,bits12 | json | 69c0FEDC \
+        | {\"kind\":6,\"size\":2496};{\"kind\":15,\"size\":3804}; |
+    kind:u8,big,bits4 size:u16,big,bits12 | raw | 69 C0 | kind,size;6,2496; |
+    kind:u8,big,bits4 size:u16,big,bits12 | csv | | kind,size; |
+    kind:u8,big,bits4 size:u16,big,bits12 | csv | 69c0FE | kind,size;6,2496; \
+        | error: record 2 is cut short: 8 of its 16 bits are there, from bit 16 on;
+    kind:u8,big,bits4 size:u16,big,bits12 | csv | 69c | kind,size; | error: bad hexadecimal text;
+    kind:u8,big,bits4 size:u16,big,bits12 | csv | 69xx | kind,size; | error: bad hexadecimal text;
+    u8,big,bits4 i8,big,bits8 | csv | 69cfFE | 1,2;6,-100;15,-2; |
+    wide:u128,big | json | ffffffffffffffffffffffffffffffff \
+        | {\"wide\":340282366920938463463374607431768211455}; |";
 
-// Words, a form, the input, what is printed, and the line of the error stream, if there is one.
-const PRINTED: [(&[&str], Form, &[u8], &str, &str); 10] = [
-    (
-        HALVES,
-        CSV,
-        b"69c0FEDC\n",
-        "kind,size\n6,2496\n15,3804\n",
-        "",
-    ),
-    (
-        HALVES,
-        CSV,
-        b"69 c0\nFE DC",
-        "kind,size\n6,2496\n15,3804\n",
-        "",
-    ),
-    (
-        HALVES,
-        JSON,
-        b"69c0FEDC",
-        "{\"kind\":6,\"size\":2496}\n{\"kind\":15,\"size\":3804}\n",
-        "",
-    ),
-    (HALVES, RAW, &[0x69, 0xC0], "kind,size\n6,2496\n", ""),
-    (HALVES, CSV, b"", "kind,size\n", ""),
-    (
-        HALVES,
-        CSV,
-        b"69c0FE",
-        "kind,size\n6,2496\n",
-        "error: record 2 is cut short: 8 of its 16 bits are there, from bit 16 on\n",
-    ),
-    (
-        HALVES,
-        CSV,
-        b"69c",
-        "kind,size\n",
-        "error: bad hexadecimal text\n",
-    ),
-    (
-        HALVES,
-        CSV,
-        b"69xx",
-        "kind,size\n",
-        "error: bad hexadecimal text\n",
-    ),
-    (
-        &["u8,big,bits4", "i8,big,bits8"],
-        CSV,
-        b"69cfFE",
-        "1,2\n6,-100\n15,-2\n",
-        "",
-    ),
-    (
-        &["wide:u128,big"],
-        JSON,
-        b"ffffffffffffffffffffffffffffffff",
-        "{\"wide\":340282366920938463463374607431768211455}\n",
-        "",
-    ),
-];
+// Records are printed as a line says.
+fn expect_line(alloc: Global, line: &str) -> Result<(), Fail> {
+    let [list, name, input, text, told] = columns::<5>(line)?;
+    let (mut places, mut room) = ([""; MOST], [0; ROOM]);
+    let words = known(line, words(list, &mut places))?;
+    let form = known(line, form_of(name))?;
+    let input = if form.raw {
+        known(line, bytes(input, &mut room))?
+    } else {
+        input.as_bytes()
+    };
+    expect_printed(alloc, line, words, form, input, (text, told))
+}
 
 #[test]
 fn prints_rows(rt: HostRuntime) -> Result<(), Fail> {
-    for (words, form, input, text, line) in PRINTED {
-        expect_printed(rt.alloc(), words, form, input, (text, line))?;
+    for line in PRINTED.lines() {
+        let line = line.replace(rt.alloc(), ';', "\n")?;
+        expect_line(rt.alloc(), line.as_str())?;
     }
     Ok(())
 }

@@ -1,0 +1,94 @@
+//! Tables as texts: a line is a row, and its columns have bars between them.
+
+use deku::error::DekuError;
+use deku_fields::Number;
+use std::io::ErrorKind;
+use std::test::Fail;
+
+/// The most numbers or words of a column.
+pub const MOST: usize = 16;
+
+/// The most bytes of a column.
+pub const ROOM: usize = 48;
+
+// The columns of a line, without the spaces around them, if it has as many.
+fn parts<const N: usize>(line: &str) -> Option<[&str; N]> {
+    let mut columns = [""; N];
+    let mut rest = line.split('|');
+    for column in columns.iter_mut() {
+        *column = rest.next()?.trim_matches(' ');
+    }
+    match rest.next() {
+        Some(_) => None,
+        None => Some(columns),
+    }
+}
+
+/// The columns of a line. One that has more or fewer is a failure.
+pub fn columns<const N: usize>(line: &str) -> Result<[&str; N], Fail> {
+    known(line, parts(line))
+}
+
+/// What a column says. If it says nothing, that is a failure of this line.
+pub fn known<T>(line: &str, said: Option<T>) -> Result<T, Fail> {
+    match said {
+        Some(said) => Ok(said),
+        None => Err(Fail::new(format_args!("no row: {line}"))),
+    }
+}
+
+/// What a call of this line returned. An error is a failure.
+pub fn done<T>(line: &str, answer: Result<T, DekuError>) -> Result<T, Fail> {
+    match answer {
+        Ok(value) => Ok(value),
+        Err(error) => Err(Fail::new(format_args!("error: {error:?}, in {line}"))),
+    }
+}
+
+// A number in hexadecimal digits, with an s in front of it if its type has a sign.
+fn number(word: &str) -> Option<Number> {
+    match word.strip_prefix('s') {
+        Some(digits) => Some(Number::Signed(i128::from_str_radix(digits, 16).ok()?)),
+        None => Some(Number::Unsigned(u128::from_str_radix(word, 16).ok()?)),
+    }
+}
+
+/// The numbers of a column, which are put into these places.
+pub fn numbers<'p>(column: &str, places: &'p mut [Number; MOST]) -> Option<&'p [Number]> {
+    let mut count: usize = 0;
+    for word in column.split_whitespace() {
+        *places.get_mut(count)? = number(word)?;
+        count = count.wrapping_add(1);
+    }
+    places.get(..count)
+}
+
+/// The bytes of a column, which are put into these places.
+pub fn bytes<'p>(column: &str, places: &'p mut [u8; ROOM]) -> Option<&'p [u8]> {
+    let mut count: usize = 0;
+    for word in column.split_whitespace() {
+        *places.get_mut(count)? = u8::from_str_radix(word, 16).ok()?;
+        count = count.wrapping_add(1);
+    }
+    places.get(..count)
+}
+
+/// The words of a column, which are put into these places.
+pub fn words<'p, 't>(column: &'t str, places: &'p mut [&'t str; MOST]) -> Option<&'p [&'t str]> {
+    let mut count: usize = 0;
+    for word in column.split_whitespace() {
+        *places.get_mut(count)? = word;
+        count = count.wrapping_add(1);
+    }
+    places.get(..count)
+}
+
+/// The result that a column says: a number in decimal digits, `full` for an output without room, or
+/// the text of a wrong parameter.
+pub fn result(column: &'static str) -> Result<usize, DekuError> {
+    match (column.parse(), column) {
+        (Ok(number), _) => Ok(number),
+        (_, "full") => Err(DekuError::Io(ErrorKind::WriteZero)),
+        (_, text) => Err(DekuError::InvalidParam(text)),
+    }
+}
