@@ -11,8 +11,8 @@ use deku::prelude::{
     Writer,
 };
 use deku_coded::Coded;
-use deku_symmetry::{Be, FromParts, Msb, Record, ToParts, read_record};
-use deku_testing_values::expecting::{MISFIT, expect_written, same};
+use deku_symmetry::{Be, FromParts, Msb, Record, Symmetric, ToParts, read_record};
+use deku_testing_values::expecting::{MISFIT, expect_bytes, expect_written, same, writer_in};
 use deku_testing_values::records::{expect_packed, expect_record, expect_refusal};
 use std::test::Fail;
 
@@ -132,22 +132,25 @@ fn a_record(rt: HostRuntime) -> Result<(), Fail> {
 
 #[test]
 fn records_in_a_row(rt: HostRuntime) -> Result<(), Fail> {
-    let alloc = rt.alloc();
     let row = (Coded(QUESTION), Year { since: 126 }, Msb::<u8, 1>(1));
     let bytes = [0x04, 0x00, 0x00, 0x35, 0x00, 0x08, 0xBE, 0xEF, 0xFD];
-    expect_packed(alloc, (), &row, 72, &bytes)?;
+    expect_packed(rt.alloc(), (), &row, 72, &bytes)
+}
+
+#[test]
+fn a_late_year(rt: HostRuntime) -> Result<(), Fail> {
     let late = (Year { since: 128 }, Msb::<u8, 1>(1));
-    same(
-        &128,
-        &deku_symmetry::Symmetric::pack(&late, alloc, ()),
-        &Err(MISFIT),
-    )?;
+    same(&128, &late.pack(rt.alloc(), ()), &Err(MISFIT))
+}
+
+#[test]
+fn a_record_that_is_lent(rt: HostRuntime) -> Result<(), Fail> {
     let (lent, kept) = (
         Coded(QUESTION),
         [0x04, 0x00, 0x00, 0x35, 0x00, 0x08, 0xBE, 0xEF],
     );
-    let mut writer = deku_testing_values::expecting::writer_in(alloc);
+    let mut writer = writer_in(rt.alloc());
     (&lent).to_writer(&mut writer, ())?;
-    deku_testing_values::expecting::expect_bytes(&lent, writer, &kept)?;
-    expect_written(alloc, (), &lent, &kept)
+    expect_bytes(&lent, writer, &kept)?;
+    expect_written(rt.alloc(), (), &lent, &kept)
 }

@@ -1,5 +1,6 @@
 //! Items after their count, which no record keeps.
 
+use crate::rows::expect_records;
 use deku::prelude::{DekuError, DekuWriter, NeedSize};
 use deku_symmetry::{Be, Lsb, Msb, MsbLe, Prefixed, PrefixedRef, Symmetric};
 use deku_testing_values::expecting::{MISFIT, expect_bytes, same, writer_in};
@@ -27,28 +28,49 @@ fn flags(alloc: Global, count: usize) -> Result<Flags, Fail> {
 #[test]
 fn after_their_count(rt: HostRuntime) -> Result<(), Fail> {
     let alloc = rt.alloc();
-    let two: Numbers = Prefixed::new(vec![in alloc; Be(6), Be(9)]?);
-    let bytes = [0x02, 0x00, 0x06, 0x00, 0x09];
-    expect_record(alloc, &two, &bytes)?;
-    let mut writer = writer_in(alloc);
+    let two = Prefixed::new(vec![in alloc; Be(6), Be(9)]?);
+    let none = Prefixed::new(std::vec::Vec::new(alloc));
+    expect_records::<Numbers>(
+        alloc,
+        &[(two, &[0x02, 0x00, 0x06, 0x00, 0x09]), (none, &[0x00])],
+    )
+}
+
+#[test]
+fn lent_items(rt: HostRuntime) -> Result<(), Fail> {
+    let items = vec![in rt.alloc(); Be(6u16), Be(9)]?;
     let lent = PrefixedRef::<Msb<u64, 8>, _> {
-        items: &two.items,
+        items: &items,
         count: PhantomData,
     };
+    let mut writer = writer_in(rt.alloc());
     lent.to_writer(&mut writer, ())?;
-    expect_bytes(&2, writer, &bytes)?;
-    let none: Numbers = Prefixed::new(std::vec::Vec::new(alloc));
-    expect_record(alloc, &none, &[0x00])?;
-    let three: Bytes = Prefixed::new([7u8, 8, 9].to_vec(alloc)?);
-    expect_record(alloc, &three, &[0x03, 0x00, 7, 8, 9])?;
+    expect_bytes(&2, writer, &[0x02, 0x00, 0x06, 0x00, 0x09])
+}
+
+#[test]
+fn a_count_of_two_bytes(rt: HostRuntime) -> Result<(), Fail> {
+    let three: Bytes = Prefixed::new([7u8, 8, 9].to_vec(rt.alloc())?);
+    expect_record(rt.alloc(), &three, &[0x03, 0x00, 7, 8, 9])
+}
+
+#[test]
+fn too_few(rt: HostRuntime) -> Result<(), Fail> {
     let ended = DekuError::Incomplete(NeedSize::new(16));
-    expect_refusal::<Numbers>(alloc, &[0x02, 0x00, 0x06, 0x00], ended, 24)
+    expect_refusal::<Numbers>(rt.alloc(), &[0x02, 0x00, 0x06, 0x00], ended, 24)
 }
 
 // Seven and seven ones, the low bits first: 11111111 and 11.
 #[test]
+fn bits_after_their_count(rt: HostRuntime) -> Result<(), Fail> {
+    expect_packed(rt.alloc(), (), &flags(rt.alloc(), 7)?, 10, &[0xFF, 0x03])
+}
+
+#[test]
 fn a_count_that_does_not_fit(rt: HostRuntime) -> Result<(), Fail> {
-    let alloc = rt.alloc();
-    expect_packed(alloc, (), &flags(alloc, 7)?, 10, &[0xFF, 0x03])?;
-    same(&8, &flags(alloc, 8)?.pack(alloc, ()), &Err(MISFIT))
+    same(
+        &8,
+        &flags(rt.alloc(), 8)?.pack(rt.alloc(), ()),
+        &Err(MISFIT),
+    )
 }

@@ -201,27 +201,38 @@ const COLUMNS: &str = "\
     u8,big,bits3 u8,big,bits5 | 0 | 01 12 23 34 45 56 67 78 89 9A AB BC CD DE EF F0 0F 1E \
         | 0 0 1 1 2 2 3 3 4 4";
 
-// The column of one field has these values.
-fn expect_column(alloc: Global, line: &str) -> Result<(), Fail> {
+// The plan reads these values of one field from as many records.
+fn expect_column(
+    alloc: Global,
+    line: &str,
+    plan: &Plan,
+    index: usize,
+    bytes: &[u8],
+    values: &[Number],
+) -> Result<(), Fail> {
+    let mut column = [NONE_YET; MOST];
+    if index >= plan.fields().len() || values.len() > MOST {
+        return known(line, None);
+    }
+    let answer = plan.read_column(alloc, bytes, index, &mut column[..values.len()]);
+    done(line, answer)?;
+    same(&line, &&column[..values.len()], &values)
+}
+
+fn expect_index(alloc: Global, line: &str) -> Result<(), Fail> {
     let [words, index, octets, values] = columns::<4>(line)?;
     let (mut places, mut room) = ([NONE_YET; MOST], [0; ROOM]);
     let values = known(line, numbers(values, &mut places))?;
     let octets = known(line, bytes(octets, &mut room))?;
     let index: usize = known(line, index.parse().ok())?;
-    let mut column = [NONE_YET; MOST];
-    let column = known(line, column.get_mut(..values.len()))?;
     let plan = done(line, plan_of(alloc, words))?;
-    if index >= plan.fields().len() {
-        return known(line, None);
-    }
-    done(line, plan.read_column(alloc, octets, index, column))?;
-    same(&line, &&*column, &values)
+    expect_column(alloc, line, &plan, index, octets, values)
 }
 
 #[test]
 fn reads_columns(rt: HostRuntime) -> Result<(), Fail> {
     for line in COLUMNS.lines() {
-        expect_column(rt.alloc(), line)?;
+        expect_index(rt.alloc(), line)?;
     }
     Ok(())
 }

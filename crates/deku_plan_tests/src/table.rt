@@ -86,9 +86,11 @@ pub fn words<'p, 't>(column: &'t str, places: &'p mut [&'t str; MOST]) -> Option
 /// The result that a column says: a number in decimal digits, `full` for an output without room, or
 /// the text of a wrong parameter.
 pub fn result(column: &'static str) -> Result<usize, DekuError> {
-    match (column.parse(), column) {
-        (Ok(number), _) => Ok(number),
-        (_, "full") => Err(DekuError::Io(ErrorKind::WriteZero)),
-        (_, text) => Err(DekuError::InvalidParam(text)),
+    if let Ok(number) = column.parse() {
+        return Ok(number);
+    }
+    match column {
+        "full" => Err(DekuError::Io(ErrorKind::WriteZero)),
+        text => Err(DekuError::InvalidParam(text)),
     }
 }

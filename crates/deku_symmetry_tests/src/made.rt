@@ -50,14 +50,23 @@ fn counted_items(rt: HostRuntime) -> Result<(), Fail> {
         head: 2u8,
         items: [0x68u8, 0x69].to_vec(alloc)?,
     };
-    expect_packed(alloc, (), &two, 24, &[0x02, 0x68, 0x69])?;
+    expect_packed(alloc, (), &two, 24, &[0x02, 0x68, 0x69])
+}
+
+#[test]
+fn too_few_items(rt: HostRuntime) -> Result<(), Fail> {
     let short: &[u8] = &[0x03, 0x68];
     let ended = DekuError::Incomplete(NeedSize::new(8));
     same(
         &short,
-        &Counted::<u8, u8>::unpack(alloc, short, ()),
+        &Counted::<u8, u8>::unpack(rt.alloc(), short, ()),
         &Err(ended),
-    )?;
+    )
+}
+
+#[test]
+fn a_head_of_another_count(rt: HostRuntime) -> Result<(), Fail> {
+    let alloc = rt.alloc();
     let out_of_step = Counted {
         head: 3u8,
         items: [1u8].to_vec(alloc)?,
@@ -77,9 +86,13 @@ fn a_head_without_a_count(rt: HostRuntime) -> Result<(), Fail> {
 fn what_passes(rt: HostRuntime) -> Result<(), Fail> {
     let alloc = rt.alloc();
     let four: Front = (Assert::new(Msb(4)), Msb(5));
-    expect_packed(alloc, (), &four, 8, &[0x45])?;
+    expect_packed(alloc, (), &four, 8, &[0x45])
+}
+
+#[test]
+fn what_does_not_pass(rt: HostRuntime) -> Result<(), Fail> {
     let six: Front = (Assert::new(Msb(6)), Msb(5));
     let refusal = DekuError::Assertion("version");
-    same(&6, &six.pack(alloc, ()), &Err(refusal))?;
-    expect_refusal::<Front>(alloc, &[0x65], refusal, 4)
+    same(&6, &six.pack(rt.alloc(), ()), &Err(refusal))?;
+    expect_refusal::<Front>(rt.alloc(), &[0x65], refusal, 4)
 }

@@ -40,7 +40,12 @@ fn numbers(rt: HostRuntime) -> Result<(), Fail> {
     expect_packed(alloc, BIG, &0xBEEFu16, 16, &[0xBE, 0xEF])?;
     expect_packed(alloc, (LITTLE, BitSize(10)), &0x3ABu16, 10, &[0xAB, 0xC0])?;
     expect_packed(alloc, (LITTLE, ByteSize(3)), &0x030201u32, 24, &[1, 2, 3])?;
-    expect_packed(alloc, (BIG, ByteSize(2)), &-2i32, 16, &[0xFF, 0xFE])?;
+    expect_packed(alloc, (BIG, ByteSize(2)), &-2i32, 16, &[0xFF, 0xFE])
+}
+
+#[test]
+fn numbers_of_bits(rt: HostRuntime) -> Result<(), Fail> {
+    let alloc = rt.alloc();
     let low = (BIG, BitSize(13), Order::Lsb0);
     expect_packed(alloc, low, &0x1001u32, 13, &[0x10, 0x01])?;
     expect_packed(alloc, BitSize(0), &0u64, 0, &[])?;
@@ -53,13 +58,18 @@ fn what_stands_for_numbers(rt: HostRuntime) -> Result<(), Fail> {
     expect_packed(alloc, (BIG, BitSize(2)), &true, 2, &[0x40])?;
     expect_packed(alloc, BIG, &NonZeroU16::new(0xBEEF), 16, &[0xBE, 0xEF])?;
     expect_packed(alloc, (), &NonZeroI8::new(-1), 8, &[0xFF])?;
-    let address = Ipv4Addr::new(145, 254, 160, 237);
-    expect_packed(alloc, LITTLE, &address, 32, &[0xED, 0xA0, 0xFE, 0x91])?;
-    let local = Ipv6Addr::new(0, 0, 0, 0, 0, 0, 0, 1);
-    expect_packed(alloc, (BIG, BitSize(1)), &local, 1, &[0x80])?;
     let two: &[u8] = &[2];
     let refusal = DekuError::Parse("cannot parse bool value");
     same(&two, &bool::unpack(alloc, two, ()), &Err(refusal))
+}
+
+#[test]
+fn addresses(rt: HostRuntime) -> Result<(), Fail> {
+    let alloc = rt.alloc();
+    let address = Ipv4Addr::new(145, 254, 160, 237);
+    expect_packed(alloc, LITTLE, &address, 32, &[0xED, 0xA0, 0xFE, 0x91])?;
+    let local = Ipv6Addr::new(0, 0, 0, 0, 0, 0, 0, 1);
+    expect_packed(alloc, (BIG, BitSize(1)), &local, 1, &[0x80])
 }
 
 #[test]
@@ -76,7 +86,12 @@ fn composites(rt: HostRuntime) -> Result<(), Fail> {
         40,
         &[0x01, 0x24, 0x98, 0x82, 0x00],
     )?;
-    expect_packed(alloc, BitSize(4), &(1u8, 2u8, 3u8), 12, &[0x12, 0x30])?;
+    expect_packed(alloc, BitSize(4), &(1u8, 2u8, 3u8), 12, &[0x12, 0x30])
+}
+
+#[test]
+fn boxes_and_options(rt: HostRuntime) -> Result<(), Fail> {
+    let alloc = rt.alloc();
     expect_packed(alloc, (), &Some(0xBEEFu16), 16, &[0xEF, 0xBE])?;
     expect_packed(alloc, (), &Box::new(alloc, 0xBEEFu16)?, 16, &[0xEF, 0xBE])?;
     let none: Option<u8> = None;

@@ -58,12 +58,18 @@ fn short_input(rt: HostRuntime) -> Result<(), Fail> {
 #[test]
 fn out_of_step(rt: HostRuntime) -> Result<(), Fail> {
     let payload = [0xAA, 0xBB].to_vec(rt.alloc())?;
-    let mut frame = Frame::Data { length: 1, payload };
+    let frame = Frame::Data { length: 1, payload };
     let mut writer = Writer::new(Cursor::new(Vec::new(rt.alloc())));
     let written = frame.to_writer(&mut writer, ());
     let seen = (written, writer.bits_written());
     same(&"out of step", &seen, &(Err(FAILED), 0))?;
-    same(&"bytes", &writer.into_inner().into_inner().len(), &0)?;
+    same(&"bytes", &writer.into_inner().into_inner().len(), &0)
+}
+
+#[test]
+fn in_step_again(rt: HostRuntime) -> Result<(), Fail> {
+    let payload = [0xAA, 0xBB].to_vec(rt.alloc())?;
+    let mut frame = Frame::Data { length: 1, payload };
     frame.update()?;
     expect_record(rt.alloc(), &frame, &[0x21, 0x02, 0xAA, 0xBB])
 }
@@ -81,10 +87,18 @@ fn constructors(rt: HostRuntime) -> Result<(), Fail> {
         left: 31,
         right: 2047,
     };
-    same(&"the widest", &Frame::pair(31, 2047)?, &most)?;
+    same(&"the widest", &Frame::pair(31, 2047)?, &most)
+}
+
+#[test]
+fn the_most_data(rt: HostRuntime) -> Result<(), Fail> {
     let most = vec![in rt.alloc(); 7; 255]?;
     let bytes = Frame::data(most)?.to_bytes(rt.alloc())?;
-    same(&"255 bytes", &bytes.len(), &257)?;
+    same(&"255 bytes", &bytes.len(), &257)
+}
+
+#[test]
+fn more_data(rt: HostRuntime) -> Result<(), Fail> {
     let more = vec![in rt.alloc(); 7; 256]?;
     let refusal = DekuError::Parse("error parsing int");
     same(&"256 bytes", &Frame::data(more).err(), &Some(refusal))
@@ -127,7 +141,11 @@ fn updates(rt: HostRuntime) -> Result<(), Fail> {
         &"ping",
         &(updated, ping),
         &(Ok(()), Frame::Ping { token: 1 }),
-    )?;
+    )
+}
+
+#[test]
+fn an_update_of_more_data(rt: HostRuntime) -> Result<(), Fail> {
     let mut long = Frame::Data {
         length: 3,
         payload: vec![in rt.alloc(); 0; 256]?,
