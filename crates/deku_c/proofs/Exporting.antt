@@ -1,5 +1,5 @@
 -- What the statuses of the exported functions say.
-use Rattle.std.proofs.Common.{◌≡◌, ◌⊎◌, ◌↔◌, ℕ, ◌<◌, ◌≤◌, ◌^◌, List, length, map, All, Result, Ok, Err, refl, inl, inr, ⊎_elim, sym, arith}
+use Rattle.std.proofs.Common.{◌≡◌, ℕ, ◌<◌, ◌≤◌, ◌^◌, List, length, map, All, refl, arith}
 use Rattle.deku_bits.specs.declared.error.DekuError.{DekuError}
 use Rattle.deku_bits.specs.declared.error.DekuError.TheVariants.{Incomplete, Parse, InvalidParam, Assertion, IdVariantNotFound, Io}
 use Rattle.deku_bits.specs.Pieces.{total}

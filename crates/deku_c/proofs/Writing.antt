@@ -1,19 +1,17 @@
 -- Writing one item after the other, from the laws that public calls ensure.
-use Rattle.std.proofs.Common.{◌≡◌, ℕ, ◌+◌, ◌*◌, ◌<◌, ◌≤◌, ◌^◌, Bool, true, false, List, [], ◌∷◌, ◌++◌, length, take, drop, get_or, Option, Some, None, Result, Ok, Err, All, refl, inl, inr, ap, ap₂, sym, ◌∙◌, subst, subst₂, arith, ⊎_elim}
+use Rattle.std.proofs.Common.{◌≡◌, ℕ, ◌+◌, ◌<◌, ◌≤◌, List, [], ◌∷◌, ◌++◌, length, take, drop, get_or, Option, Some, None, Result, Ok, Err, refl, ap, ap₂, sym, ◌∙◌, subst, subst₂, arith, ⊎_elim}
 use Rattle.std.proofs.lemmas.List.{take_all, take_more, drop_more, take-append-drop, length-take-le}
 use Rattle.std.proofs.lemmas.Bool.{cases_lt, lt-leb, le-leb}
 use Rattle.std.specs.Io.KnownBytes.{Appends}
 use Rattle.deku_bits.specs.declared.error.DekuError.{DekuError}
 use Rattle.deku_bits.specs.Devices.{Health, bytes_before, Shrinks}
-use Rattle.deku_bits.specs.Writers.{Nothing}
 use Rattle.deku_bits.specs.Standings.{Standing, Going, Output}
 use Rattle.deku_bits.specs.Outcomes.{Outcome}
-use Rattle.deku_bits.specs.WriterCalls.{Finalizes, Took}
+use Rattle.deku_bits.specs.WriterCalls.{Finalizes}
 use Rattle.deku.specs.Composing.{Both}
 use Rattle.deku.specs.Wholes.{WritesOver, over}
 use Rattle.deku.proofs.Joining.{answered}
 use Rattle.deku_fields.specs.declared.list.Item.{Item}
-use Rattle.deku_fields.specs.Items.{IsFitting, AlignedFields, LaysOut, fields_of}
 use Rattle.deku_fields.specs.ListCalls.{WritesItems}
 use Rattle.deku_fields.specs.Cuts.{WriteCallsLaw}
 use Rattle.deku_fields.specs.Promise.{AreWritable, PaddedLaw}

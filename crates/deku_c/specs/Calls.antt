@@ -1,5 +1,5 @@
 -- What the exported functions do, by the words of lists of fields.
-use Rattle.std.specs.Prelude.{◌≡◌, ◌↔◌, ℕ, ◌+◌, ◌*◌, ◌<◌, ◌≤◌, ◌^◌, false, List, ◌++◌, length, map, drop, All, Option, Some, Result, Ok, Err}
+use Rattle.std.specs.Prelude.{◌≡◌, ◌↔◌, ℕ, ◌*◌, ◌<◌, ◌≤◌, ◌^◌, false, List, ◌++◌, length, map, drop, All, Option, Some, Result, Ok, Err}
 use Rattle.deku_bits.specs.declared.error.DekuError.{DekuError}
 use Rattle.deku_bits.specs.declared.error.DekuError.TheVariants.{Incomplete, Parse, InvalidParam, Assertion, IdVariantNotFound, Io}
 use Rattle.deku_bits.specs.Streams.{Stream, fresh}
@@ -8,15 +8,15 @@ use Rattle.deku_bits.specs.Standings.{Standing, Going, count_of}
 use Rattle.deku_bits.specs.WriterCalls.{Finalizes}
 use Rattle.deku.specs.Composing.{Both}
 use Rattle.deku.specs.Wholes.{WritesOver}
-use Rattle.deku_fields.specs.declared.list.Number.{Number}
 use Rattle.deku_fields.specs.declared.list.Field.{Field}
 use Rattle.deku_fields.specs.declared.list.Item.{Item}
 use Rattle.deku_fields.specs.Items.{IsAllowedField, IsFitting, AlignedFields, LaysOut, field_shape, fields_of, values_of}
 use Rattle.deku_fields.specs.ListCalls.{ReadsFields, WritesItems}
 use Rattle.deku_fields.specs.Promise.{Begins}
+use Rattle.deku_plan.specs.Records.{IsReadAt}
 use Rattle.deku_c.specs.declared.codes.FieldCode.{FieldCode}
 use Rattle.deku_c.specs.declared.codes.NumberCode.{NumberCode}
-use Rattle.deku_c.specs.Codes.{IsNamed, fields_in, items_in}
+use Rattle.deku_c.specs.Codes.{IsNamed, field_in, fields_in, item_in, items_in}
 
 -- ---- the status
 -- The status of an error.
@@ -58,6 +58,10 @@ pub record Counts (fs : List Field) (status old new : ℕ) : Type 0 where
   pub count : status ≡ 0 → new ≡ total (map field_shape fs)
 
 -- ---- reading
+-- After this many bits of the bytes, the field is read as this number, up to this bit.
+abbrev pub IsCodeAt : FieldCode → List ℕ → ℕ → NumberCode → ℕ → Type 0
+IsCodeAt c bytes bit v end = IsReadAt (field_in c) bytes bit (item_in c v).value end
+
 -- Fields are read from bytes: how many bits, and these numbers; or an error.
 abbrev pub ReadsInto : List FieldCode → List ℕ → Result ℕ DekuError → List NumberCode → Type 0
 ReadsInto cs bytes (Ok n) vs = (u : Standing (Option Stream))

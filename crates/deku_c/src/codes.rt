@@ -1,8 +1,9 @@
 //! Fields and numbers as C passes them.
 
-ghost use Rattle.std.specs.Prelude.{◌≡◌, ◌↔◌, ◌<◌, ◌+◌, ◌*◌, ◌^◌, IsTrue, All};
-ghost use Rattle.deku_fields.specs.Items.{number_type};
+ghost use Rattle.std.specs.Prelude.{◌≡◌, ◌↔◌, ◌<◌, ◌≤◌, ◌+◌, ◌*◌, ◌^◌, false, IsTrue, IfSome, All};
+ghost use Rattle.deku_fields.specs.Items.{number_type, field_width, IsAllowedField};
 ghost use Rattle.deku_fields.specs.ListCalls.{has_sign};
+ghost use Rattle.deku_plan.specs.Plans.{IsHigh};
 ghost use Rattle.deku_c.specs.Codes.{IsNamed, endian_in, field_in, item_in, kind_in, number_in, order_in, size_in, whole};
 
 use deku::ctx::{Endian, Layout, Order, Size};
@@ -51,6 +52,41 @@ impl FieldCode {
         Field {
             kind: kind_of(self.kind),
             layout,
+        }
+    }
+
+    /// The bits of the field that it means, if that is unsigned, big and `Msb0`, has at most 64, and
+    /// its layout is not rejected.
+    #[inline(always)]
+    pub fn high_width(self) -> Option<usize>
+        ensures high { IfSome result (λ n. IsHigh (field_in self)) }
+        ensures allowed { IfSome result (λ n. IsAllowedField (field_in self)) }
+        ensures wide { IfSome result (λ n. field_width (field_in self) ≡ n) }
+    {
+        if self.endian == 0 || self.order != 0 {
+            return None;
+        }
+        let bits = self.high_bits()?;
+        match self.unit {
+            0 => Some(bits),
+            1 if self.size as usize <= bits => Some(self.size as usize),
+            _ => None,
+        }
+    }
+
+    // The bits of its kind, if that is unsigned and has at most 64.
+    #[inline(always)]
+    fn high_bits(self) -> Option<usize>
+        ensures unsigned { IfSome result (λ n. (number_type (kind_in self.kind)).signed ≡ false) }
+        ensures bits { IfSome result (λ n. n ≡ (number_type (kind_in self.kind)).bits) }
+        ensures few { IfSome result (λ n. n ≤ 64) }
+    {
+        match self.kind {
+            0 => Some(8),
+            1 => Some(16),
+            2 => Some(32),
+            3 | 5 => Some(64),
+            _ => None,
         }
     }
 

@@ -23,7 +23,7 @@ use Rattle.deku_fields.specs.ListCalls.{number_of, ReadsField, ReadsFields}
 use Rattle.deku_plan.specs.declared.step.Step.{Step}
 use Rattle.deku_plan.specs.Plans.{AreSteps}
 use Rattle.deku_plan.proofs.Steps.{step_at}
-use Rattle.deku_plan.specs.Records.{records, IsStraight, AreAt, ReadsAll}
+use Rattle.deku_plan.specs.Records.{records, IsStraight, IsReadAt, AreAt, ReadsAll}
 
 -- ---- records
 pub records_more : (n : ℕ) (fs : List Field) → records (suc n) fs ≡ records n fs ++ fs
@@ -83,6 +83,18 @@ field_reads f S n c ok has worth room =
     let v : ℤ = value (number_type f.kind) f.layout (taken f.layout.order (field_width f) S) in
     Value v (Passed (ok, Value (taken f.layout.order (field_width f) S) (inr (room, inl (has, refl, refl))) refl))
     (ap Ok (sym (number_is (number_type f.kind).signed v n worth.worth)))
+
+-- a value at a bit is what the field reads there
+pub value_reads : (f : Field) (bytes : List ℕ) (bit end : ℕ) (n : Number) → IsAllowedField f → f.layout.order ≡ Msb0 → end ≡ bit + field_width f → end < 2 ^ 64 → end ≤ 8 * length bytes
+    → IsWorth f (taken Msb0 (field_width f) (left Msb0 bit (fresh bytes))) n → IsReadAt f bytes bit n end
+value_reads f bytes bit end n ok high e room there worth =
+    let w : ℕ = field_width f in
+    let S : Stream = left Msb0 bit (fresh bytes) in
+    let cut = cut_law Msb0 bit w (fresh bytes) (omega arith) (omega (arith, e, there)) in
+    let here : IsWorth f (taken f.layout.order w S) n = subst (λ o. IsWorth f (taken o w S) n) (sym high) worth in
+    let read = field_reads f S n bit ok cut.3 here (omega (arith, e, room)) in
+    let after : left f.layout.order w S ≡ left Msb0 (bit + w) (fresh bytes) = ap (λ o. left o w S) high ∙ sym cut.1 in
+    subst₂ (λ x y. ReadsField f false (Going (Some S) bit) (Ok n) (Going (Some x) y)) (after ∙ ap (λ k. left Msb0 k (fresh bytes)) (sym e)) (sym e) read
 
 pub fields_reads : (fs : List Field) (ns : List Number) (S T : Stream) (c : ℕ) → All IsAllowedField fs → ReadsValues fs S ns T → c + total (map field_shape fs) < 2 ^ 64
     → ReadsFields fs false (Going (Some S) c) (Ok ns) (Going (Some T) (c + total (map field_shape fs)))

@@ -8,11 +8,13 @@ use Rattle.deku_bits.specs.Streams.{Stream, taken, left, fresh}
 use Rattle.deku_bits.specs.Pieces.{total}
 use Rattle.deku_bits.specs.Standings.{Standing, Going}
 use Rattle.deku_fields.specs.declared.list.Number.{Number}
+use Rattle.deku_fields.specs.declared.list.Number.TheVariants.{Unsigned}
 use Rattle.deku_fields.specs.declared.list.Field.{Field}
 use Rattle.deku_fields.specs.declared.list.Item.{Item}
 use Rattle.deku_fields.specs.Items.{field_width, field_shape, IsAllowedField, IsWorth, ReadsValues, values_of}
-use Rattle.deku_fields.specs.ListCalls.{ReadsFields}
+use Rattle.deku_fields.specs.ListCalls.{ReadsField, ReadsFields}
 use Rattle.deku_fields.specs.Promise.{Begins}
+use Rattle.deku_plan.specs.Plans.{IsHigh}
 
 -- The fields of this many records, one after the other.
 abbrev pub records : ℕ → List Field → List Field
@@ -60,6 +62,15 @@ abbrev pub AreAt : List Field → List ℕ → ℕ → List Number → Type 0
 AreAt [] bytes bit [] = ⊤
 AreAt (f ∷ fs) bytes bit (n ∷ ns) = IsWorth f (taken Msb0 (field_width f) (left Msb0 bit (fresh bytes))) n × AreAt fs bytes (bit + field_width f) ns
 AreAt _ bytes bit _ = ⊥
+
+-- After this many bits of the bytes in `Msb0`, the field is read as this value, up to this bit.
+abbrev pub IsReadAt : Field → List ℕ → ℕ → Number → ℕ → Type 0
+IsReadAt f bytes bit n end = ReadsField f false (Going (Some (left Msb0 bit (fresh bytes))) bit) (Ok n) (Going (Some (left Msb0 end (fresh bytes))) end)
+
+-- After this many bits of the bytes, each unsigned field of this width that is big and `Msb0` is
+-- read as this number, up to this bit, unless its layout is rejected.
+abbrev pub IsHighAt : List ℕ → ℕ → ℕ → ℕ → ℕ → Type 0
+IsHighAt bytes bit width n end = (f : Field) → IsHigh f → IsAllowedField f → field_width f ≡ width → IsReadAt f bytes bit (Unsigned n) end
 
 -- The field that begins at this bit of each record, all of as many bits, has the first n of these
 -- values.

@@ -132,9 +132,9 @@ fn without_sign(number: u64, width: usize, endian: Endian) -> u128
     }
 }
 
-// The number of this many bits, the first of them the highest.
+/// The number of this many bits, the first of them the highest.
 #[inline(always)]
-fn bits_at(bytes: &[u8], bit: usize, width: usize) -> u64
+pub(crate) fn bits_at(bytes: &[u8], bit: usize, width: usize) -> u64
     requires some { 0 < width }
     requires few { width ≤ 64 }
     requires counted { bit + width < 2 ^ 64 }

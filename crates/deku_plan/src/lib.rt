@@ -1,6 +1,7 @@
 //! Lists of whole-number fields that are looked at once, and then read and written many times.
 #![tactic(auto)]
 
+mod at;
 mod cut;
 mod join;
 mod lay;
@@ -8,4 +9,5 @@ mod part;
 mod plan;
 mod step;
 
+pub use at::{high_at, value_at};
 pub use plan::{Plan, WrongWords};

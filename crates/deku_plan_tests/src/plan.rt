@@ -3,7 +3,7 @@
 use crate::table::{MOST, ROOM, bytes, columns, done, known, numbers, result};
 use deku::error::{DekuError, NeedSize};
 use deku_fields::{Field, Number, parse_field};
-use deku_plan::{Plan, WrongWords};
+use deku_plan::{Plan, WrongWords, high_at, value_at};
 use deku_testing_values::expecting::{NO_MEMORY, expect_bytes, reader_of, same, writer_in};
 use std::alloc::Global;
 use std::test::Fail;
@@ -186,6 +186,60 @@ fn reads_records(rt: HostRuntime) -> Result<(), Fail> {
     let short = DekuError::Incomplete(NeedSize::new(8));
     let seen = plan.read_all(rt.alloc(), &[0x69, 0xC0], 3, &mut out);
     same(&"the second cut short", &seen, &Err(short))
+}
+
+// Words of one field, the bit that it begins at, bytes, and its value and the bit after it; or
+// nothing, if it cannot be cut from them.
+const PLACED: &str = "\
+    u8,big,bits4 | 0 | 69 | 6 4
+    u16,big,bits12 | 4 | 69 C0 | 9C0 10
+    u16,big | 8 | 00 BE EF | BEEF 18
+    u64,big,bits57 | 7 | 00 23 45 67 89 AB CD EF | 23456789ABCDEF 40
+    u64,big | 4 | 10 12 34 56 78 9A BC DE FA | 0123456789ABCDEF 44
+    u16,little,bits12 | 0 | AB CD | CAB C
+    i8,big,bits4 | 4 | 0F | s-1 8
+    u8,big | 1 | 69 |
+    u8,big,bits0 | 0 | 69 |
+    u8,lsb | 0 | 69 |
+    u8,bits9 | 0 | 69 BE |
+    u128,big | 0 | 00 00 00 00 00 00 00 00 00 00 00 00 00 00 00 00 |";
+
+fn expect_placed(line: &str) -> Result<(), Fail> {
+    let [word, bit, octets, wanted] = columns::<4>(line)?;
+    let mut room = [0; ROOM];
+    let octets = known(line, bytes(octets, &mut room))?;
+    let field = known(line, parse_field(word))?;
+    let bit = known(line, bit.parse().ok())?;
+    let mut places = [NONE_YET; MOST];
+    let wanted = known(line, numbers(wanted, &mut places))?;
+    match value_at(octets, bit, &field) {
+        Some((value, after)) => same(&line, &[value, plain(after as u128)].as_slice(), &wanted),
+        None => same(&line, &wanted.len(), &0),
+    }
+}
+
+#[test]
+fn cuts_single_fields() -> Result<(), Fail> {
+    for line in PLACED.lines() {
+        expect_placed(line)?;
+    }
+    Ok(())
+}
+
+#[test]
+fn cuts_single_numbers() -> Result<(), Fail> {
+    let bytes = [0x10, 0x12, 0x34, 0x56, 0x78, 0x9A, 0xBC, 0xDE, 0xFA];
+    let rows: [(usize, usize, Option<(u64, usize)>); 5] = [
+        (4, 64, Some((0x0123_4567_89AB_CDEF, 68))),
+        (12, 8, Some((0x23, 20))),
+        (0, 0, None),
+        (0, 65, None),
+        (65, 8, None),
+    ];
+    for (bit, width, wanted) in rows {
+        same(&(bit, width), &high_at(&bytes, bit, width), &wanted)?;
+    }
+    Ok(())
 }
 
 // Words, the index of a field, bytes, and the values of that field in the records of the bytes.

@@ -1,4 +1,4 @@
-use Rattle.std.proofs.Common.{◌≡◌, ◌∙◌, length, refl, arith}
+use Rattle.std.proofs.Common.{◌∙◌, refl, arith}
 use Rattle.std.proofs.lemmas.List.{length-set}
 use Rattle.deku_c.proofs.Reading.{none_read, one_more, one_refused, all_read}
 use Rattle.deku_c.proofs.read.read_each.Goals as goal

@@ -19,3 +19,6 @@ returns-in-Ok-clause-back c = read_back c.read_back_law.ensures c.args.codes.now
 
 pub returns-in-Err-clause-back : goal.returns-in-Err-clause-back
 returns-in-Err-clause-back c = read_back c.read_back_law.ensures c.args.codes.now c.args.bytes.now (Err c.in-Err.refusal) _ (returns-in-Err-clause-meaning c)
+
+pub returns-in-Some-clause-back : goal.returns-in-Some-clause-back
+returns-in-Some-clause-back c = read_back c.read_back_law.ensures c.args.codes.now c.args.bytes.now (Ok c.in-Some.bits) _ c.in-Some.ensures.reads

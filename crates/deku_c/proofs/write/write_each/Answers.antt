@@ -1,4 +1,4 @@
-use Rattle.std.proofs.Common.{◌≡◌, length, arith}
+use Rattle.std.proofs.Common.{arith}
 use Rattle.deku_bits.proofs.Handing.{passed_on}
 use Rattle.deku_c.proofs.Writing.{none_written, one_more, one_refused, all_written}
 use Rattle.deku_c.proofs.write.write_each.Goals as goal

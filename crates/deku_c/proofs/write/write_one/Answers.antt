@@ -1,6 +1,3 @@
-use Rattle.std.proofs.Common.{Ok, [], ◌∷◌, subst}
-use Rattle.deku_bits.specs.Outcomes.{Outcome}
-use Rattle.deku_fields.specs.ListCalls.{WritesItems}
 use Rattle.deku_c.proofs.write.write_one.Goals as goal
 
 pub returns : goal.returns
