@@ -1,6 +1,6 @@
 //! Plans, made, read and written, against worked examples.
 
-use crate::table::{MOST, ROOM, bytes, columns, done, known, numbers, result};
+use crate::table::{MOST, ROOM, bytes, done, four, known, numbers, result, three, two};
 use deku::error::{DekuError, NeedSize};
 use deku_fields::{Field, Number, parse_field};
 use deku_plan::{Plan, WrongWords, high_at, value_at};
@@ -104,7 +104,7 @@ const BOTH: &str = "\
     u8,bits0 u8 | 0 2A | 2A";
 
 fn expect_both(alloc: Global, line: &str) -> Result<(), Fail> {
-    let [words, values, octets] = columns::<3>(line)?;
+    let (words, values, octets) = known(line, three(line))?;
     let (mut places, mut room) = ([NONE_YET; MOST], [0; ROOM]);
     let values = known(line, numbers(values, &mut places))?;
     let octets = known(line, bytes(octets, &mut room))?;
@@ -132,7 +132,7 @@ const SIZES: &str = "\
     u8,bits3 u8,lsb,bits0 u8,bits5 | 8 1 true";
 
 fn expect_sizes(alloc: Global, line: &str) -> Result<(), Fail> {
-    let [words, wanted] = columns::<2>(line)?;
+    let (words, wanted) = known(line, two(line))?;
     let plan = done(line, plan_of(alloc, words))?;
     let (bits, bytes, aligned) = (plan.bits(), plan.bytes(), plan.is_aligned());
     let seen = format!(in alloc; "{bits} {bytes} {aligned}")?;
@@ -166,7 +166,7 @@ const REFUSED: &str = "\
 #[test]
 fn refuses_layouts(rt: HostRuntime) -> Result<(), Fail> {
     for line in REFUSED.lines() {
-        let [words, why] = columns::<2>(line)?;
+        let (words, why) = known(line, two(line))?;
         let seen = refusal(plan_of(rt.alloc(), words))?;
         same(&line, &seen, &Some(DekuError::InvalidParam(why)))?;
     }
@@ -205,7 +205,7 @@ const PLACED: &str = "\
     u128,big | 0 | 00 00 00 00 00 00 00 00 00 00 00 00 00 00 00 00 |";
 
 fn expect_placed(line: &str) -> Result<(), Fail> {
-    let [word, bit, octets, wanted] = columns::<4>(line)?;
+    let (word, bit, octets, wanted) = known(line, four(line))?;
     let mut room = [0; ROOM];
     let octets = known(line, bytes(octets, &mut room))?;
     let field = known(line, parse_field(word))?;
@@ -274,7 +274,7 @@ fn expect_column(
 }
 
 fn expect_index(alloc: Global, line: &str) -> Result<(), Fail> {
-    let [words, index, octets, values] = columns::<4>(line)?;
+    let (words, index, octets, values) = known(line, four(line))?;
     let (mut places, mut room) = ([NONE_YET; MOST], [0; ROOM]);
     let values = known(line, numbers(values, &mut places))?;
     let octets = known(line, bytes(octets, &mut room))?;
@@ -311,7 +311,7 @@ const UNWRITTEN: &str = "\
     u8,big,bits4 u16,big | F s1 | value outside type";
 
 fn expect_unwritten(alloc: Global, line: &'static str) -> Result<(), Fail> {
-    let [words, values, why] = columns::<3>(line)?;
+    let (words, values, why) = known(line, three(line))?;
     let mut places = [NONE_YET; MOST];
     let values = known(line, numbers(values, &mut places))?;
     let plan = done(line, plan_of(alloc, words))?;
@@ -400,7 +400,7 @@ fn expect_laid(
 
 // The records are written so. If there is no error, they are read back.
 fn expect_records(alloc: Global, line: &'static str) -> Result<(), Fail> {
-    let [words, values, wanted, octets] = columns::<4>(line)?;
+    let (words, values, wanted, octets) = known(line, four(line))?;
     let (mut places, mut room) = ([NONE_YET; MOST], [0; ROOM]);
     let values = known(line, numbers(values, &mut places))?;
     let octets = known(line, bytes(octets, &mut room))?;

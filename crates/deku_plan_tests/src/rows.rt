@@ -1,6 +1,6 @@
 //! Records, printed a line each.
 
-use crate::table::{MOST, ROOM, bytes, columns, known, words};
+use crate::table::{MOST, ROOM, bytes, five, known, words};
 use deku::error::DekuError;
 use deku_progress::Progress;
 use deku_rows::{Columns, Form, NoColumns, print_rows, tell};
@@ -77,7 +77,7 @@ const PRINTED: &str = "\
 
 // Records are printed as a line says.
 fn expect_line(alloc: Global, line: &str) -> Result<(), Fail> {
-    let [list, name, input, text, told] = columns::<5>(line)?;
+    let (list, name, input, text, told) = known(line, five(line))?;
     let (mut places, mut room) = ([""; MOST], [0; ROOM]);
     let words = known(line, words(list, &mut places))?;
     let form = known(line, form_of(name))?;

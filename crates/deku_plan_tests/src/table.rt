@@ -11,22 +11,34 @@ pub const MOST: usize = 16;
 /// The most bytes of a column.
 pub const ROOM: usize = 48;
 
-// The columns of a line, without the spaces around them, if it has as many.
-fn parts<const N: usize>(line: &str) -> Option<[&str; N]> {
-    let mut columns = [""; N];
-    let mut rest = line.split('|');
-    for column in columns.iter_mut() {
-        *column = rest.next()?.trim_matches(' ');
+/// The columns of a line that has two, without the spaces around them.
+pub fn two(line: &str) -> Option<(&str, &str)> {
+    let (first, second) = line.split_once('|')?;
+    if second.contains('|') {
+        return None;
     }
-    match rest.next() {
-        Some(_) => None,
-        None => Some(columns),
-    }
+    Some((first.trim_matches(' '), second.trim_matches(' ')))
 }
 
-/// The columns of a line. One that has more or fewer is a failure.
-pub fn columns<const N: usize>(line: &str) -> Result<[&str; N], Fail> {
-    known(line, parts(line))
+/// The columns of a line that has three.
+pub fn three(line: &str) -> Option<(&str, &str, &str)> {
+    let (first, rest) = line.split_once('|')?;
+    let (second, third) = two(rest)?;
+    Some((first.trim_matches(' '), second, third))
+}
+
+/// The columns of a line that has four.
+pub fn four(line: &str) -> Option<(&str, &str, &str, &str)> {
+    let (first, rest) = line.split_once('|')?;
+    let (second, third, last) = three(rest)?;
+    Some((first.trim_matches(' '), second, third, last))
+}
+
+/// The columns of a line that has five.
+pub fn five(line: &str) -> Option<(&str, &str, &str, &str, &str)> {
+    let (first, rest) = line.split_once('|')?;
+    let (second, third, fourth, last) = four(rest)?;
+    Some((first.trim_matches(' '), second, third, fourth, last))
 }
 
 /// What a column says. If it says nothing, that is a failure of this line.
