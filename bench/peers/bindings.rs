@@ -12,7 +12,18 @@ const BYTE: Field = Field::new(Kind::U8).big();
 const WORD: Field = Field::new(Kind::U16).big();
 const LONG: Field = Field::new(Kind::U32).big();
 const FIELDS: [Field; 12] = [
-    BYTE.bits(4), BYTE.bits(4), BYTE, WORD, WORD, BYTE.bits(3), WORD.bits(13), BYTE, BYTE, WORD, LONG, LONG,
+    BYTE.bits(4),
+    BYTE.bits(4),
+    BYTE,
+    WORD,
+    WORD,
+    BYTE.bits(3),
+    WORD.bits(13),
+    BYTE,
+    BYTE,
+    WORD,
+    LONG,
+    LONG,
 ];
 
 fn head_of(values: &[Value; 12]) -> Head {
@@ -35,8 +46,18 @@ fn head_of(values: &[Value; 12]) -> Head {
 
 fn values_of(head: &Head) -> [Value; 12] {
     [
-        head.version.into(), head.words.into(), head.service.into(), head.length.into(), head.id.into(), head.flags.into(),
-        head.fragment.into(), head.ttl.into(), head.protocol.into(), head.check.into(), head.source.into(), head.target.into(),
+        head.version.into(),
+        head.words.into(),
+        head.service.into(),
+        head.length.into(),
+        head.id.into(),
+        head.flags.into(),
+        head.fragment.into(),
+        head.ttl.into(),
+        head.protocol.into(),
+        head.check.into(),
+        head.source.into(),
+        head.target.into(),
     ]
 }
 
@@ -50,7 +71,10 @@ fn read(bytes: &[u8], heads: &mut [Head]) -> bool {
 }
 
 fn write(heads: &[Head], bytes: &mut [u8]) -> bool {
-    bytes.chunks_exact_mut(20).zip(heads).all(|(bytes, head)| write_into(&FIELDS, &values_of(head), bytes).is_ok())
+    bytes
+        .chunks_exact_mut(20)
+        .zip(heads)
+        .all(|(bytes, head)| write_into(&FIELDS, &values_of(head), bytes).is_ok())
 }
 
 /// A time is that of a header, not of a field.

@@ -55,8 +55,8 @@ impl FieldCode {
         }
     }
 
-    /// The bits of the field that it means, if that is unsigned, big and `Msb0`, has at most 64, and
-    /// its layout is not rejected.
+    /// The bits of the field that it means, if that is unsigned, big and `Msb0`, has at most 64,
+    /// and its layout is not rejected.
     #[inline(always)]
     pub fn high_width(self) -> Option<usize>
         ensures high { IfSome result (λ n. IsHigh (field_in self)) }
