@@ -23,6 +23,7 @@ use std::alloc::Global;
 #[unsafe(no_mangle)]
 pub extern "C" fn dishkaru_bits(fields: &[FieldCode], bits: &mut u64) -> u32
     ensures unnamed { (result ≡ 1) ↔ (All IsNamed fields.now → ⊥) }
+    ensures stays { result ≡ 1 → bits.new ≡ bits.old }
     ensures counts { All IsNamed fields.now → Counts (fields_in fields.now) result bits.old
         bits.new }
 {
@@ -53,6 +54,8 @@ pub extern "C" fn dishkaru_read(
     bits: &mut u64,
 ) -> u32
     ensures accepts { Accepts fields.now (length numbers.old) result }
+    ensures unnamed { result ≡ 1 → (numbers.new ≡ numbers.old) × (bits.new ≡ bits.old) }
+    ensures miscounted { result ≡ 2 → (numbers.new ≡ numbers.old) × (bits.new ≡ bits.old) }
     ensures reads { All IsNamed fields.now → length numbers.old ≡ length fields.now
         → ReadsFor fields.now bytes.now result numbers.new bits.old bits.new }
 {
@@ -85,6 +88,8 @@ pub extern "C" fn dishkaru_write(
     count: &mut u64,
 ) -> u32
     ensures accepts { Accepts fields.now (length numbers.now) result }
+    ensures unnamed { result ≡ 1 → (bytes.new ≡ bytes.old) × (count.new ≡ count.old) }
+    ensures miscounted { result ≡ 2 → (bytes.new ≡ bytes.old) × (count.new ≡ count.old) }
     ensures writes { All IsNamed fields.now → length numbers.now ≡ length fields.now
         → WritesFor (items_in fields.now numbers.now) bytes.old result bytes.new count.old
         count.new }
