@@ -44,7 +44,7 @@ pub trait DekuContainerRead: DekuReader<()> {
     /// let (count, record) = Record::from_reader(alloc, (&mut input, 4))?;
     /// // a record of one byte: 12 and 0x23; the input is at 56
     /// ```
-    fn from_reader<R: Source>(
+    final fn from_reader<R: Source>(
         alloc: Global,
         input: (&mut R, usize),
     ) -> Result<(usize, Self), DekuError>
@@ -77,7 +77,7 @@ pub trait DekuContainerRead: DekuReader<()> {
     /// let ((rest, bits), record) = Record::from_bytes(alloc, (&[0x12, 0x34], 4))?;
     /// // a record of one byte: 0x23; the rest is 34, of which 4 bits are read
     /// ```
-    fn from_bytes(alloc: Global, input: (&[u8], usize)) -> Result<((&[u8], usize), Self), DekuError>
+    final fn from_bytes(alloc: Global, input: (&[u8], usize)) -> Result<((&[u8], usize), Self), DekuError>
     where
         Self: Sized,
         requires { Self.accepts tt }
@@ -121,7 +121,7 @@ pub trait DekuContainerWrite: DekuWriter<()> {
     /// ```text
     /// record.to_bytes(alloc)?                                 // of 4, 4 and 1 bits: F1 80
     /// ```
-    fn to_bytes(&self, alloc: Global) -> Result<Vec<u8>, DekuError>
+    final fn to_bytes(&self, alloc: Global) -> Result<Vec<u8>, DekuError>
         requires { Self.accepts tt }
         ensures { WritesOnce (Both (Self.meaning self.now tt) Finalizes) result }
     {
@@ -140,7 +140,7 @@ pub trait DekuContainerWrite: DekuWriter<()> {
     /// let mut out = [0; 3];
     /// record.to_slice(&mut out)?                   // of 4, 4 and 1 bits: 2, and `out` is F1 80 00
     /// ```
-    fn to_slice(&self, out: &mut [u8]) -> Result<usize, DekuError>
+    final fn to_slice(&self, out: &mut [u8]) -> Result<usize, DekuError>
         requires { Self.accepts tt }
         ensures { WritesOver (Both (Self.meaning self.now tt) Finalizes) out.old result out.new }
     {
@@ -161,7 +161,7 @@ pub trait DekuContainerWrite: DekuWriter<()> {
     /// ```text
     /// record.to_bits(alloc)?                      // of 4, 4 and 1 bits: 1, 1, 1, 1, 0, 0, 0, 1, 1
     /// ```
-    fn to_bits(&self, alloc: Global) -> Result<Vec<bool>, DekuError>
+    final fn to_bits(&self, alloc: Global) -> Result<Vec<bool>, DekuError>
         requires { Self.accepts tt }
         ensures { WritesBare (Self.meaning self.now tt) result }
     {
