@@ -39,6 +39,20 @@ impl FieldCode {
         self.kind < 12 && self.endian < 2 && self.order < 2 && self.unit < 3
     }
 
+    // The greater of the numbers of two fields.
+    #[inline(always)]
+    fn with_greater(self, other: FieldCode) -> FieldCode
+        ensures { IsNamed result ↔ (IsNamed self × IsNamed other) }
+    {
+        FieldCode {
+            kind: self.kind.max(other.kind),
+            endian: self.endian.max(other.endian),
+            order: self.order.max(other.order),
+            unit: self.unit.max(other.unit),
+            size: self.size,
+        }
+    }
+
     /// The field that it means.
     #[inline(always)]
     pub fn field(self) -> Field
@@ -152,12 +166,17 @@ impl NumberCode {
 pub fn are_named(codes: &[FieldCode]) -> bool
     ensures { IsTrue result ↔ All IsNamed codes.now }
 {
+    let mut greatest = FieldCode {
+        kind: 0,
+        endian: 0,
+        order: 0,
+        unit: 0,
+        size: 0,
+    };
     for code in codes {
-        if !code.is_named() {
-            return false;
-        }
+        greatest = greatest.with_greater(*code);
     }
-    true
+    greatest.is_named()
 }
 
 // The kind with this number.

@@ -1,7 +1,8 @@
 //! Single fields in bytes in memory.
 
-ghost use Rattle.std.specs.Prelude.{◌≡◌, ◌+◌, ◌*◌, ◌<◌, ◌≤◌, ◌^◌, length, IfSome};
-ghost use Rattle.deku_plan.specs.Records.{IsReadAt, IsHighAt};
+ghost use Rattle.std.specs.Prelude.{◌≡◌, ◌+◌, ◌*◌, ◌<◌, ◌≤◌, ◌^◌, length, IfSome, IsNone};
+ghost use Rattle.deku_fields.specs.Items.{field_width, IsAllowedField};
+ghost use Rattle.deku_plan.specs.Records.{IsReadAt, IsHighAt, IsStraight};
 
 use crate::cut::{bits_at, number_at};
 use crate::step::step_of;
@@ -12,7 +13,8 @@ use deku_fields::{Field, Number};
 /// bytes reads this value if it has taken the bits before, all in `Msb0`.
 ///
 /// It returns `None` if the layout is rejected or the bytes end before the field does, and for a
-/// field in `Lsb0`, of no bits or of more than 64. It takes no memory.
+/// field in `Lsb0`, of no bits or of more than 64. It does so too if a `usize` cannot count the bits
+/// up to the field's end. It takes no memory.
 ///
 /// ```text
 /// value_at(&[0x69, 0xC0], 4, &twelve)                        // 0x9C0, and 16
@@ -20,6 +22,9 @@ use deku_fields::{Field, Number};
 pub fn value_at(bytes: &[u8], bit: usize, field: &Field) -> Option<(Number, usize)>
     ensures reads { IfSome result (λ r. IsReadAt field.now bytes.now bit r.0 r.1) }
     ensures within { IfSome result (λ r. r.1 ≤ 8 * length bytes.now) }
+    ensures none { IsNone result → IsAllowedField field.now → IsStraight field.now
+        → bit + field_width field.now < 2 ^ 64
+        → 8 * length bytes.now < bit + field_width field.now }
 {
     let Ok(step) = step_of(field, 0) else {
         return None;
@@ -34,8 +39,8 @@ pub fn value_at(bytes: &[u8], bit: usize, field: &Field) -> Option<(Number, usiz
 /// The number of an unsigned field, big and `Msb0`, of this many bits, that begins at a bit of the
 /// bytes, and the bit after it: what `value_at` returns for such a field.
 ///
-/// It returns `None` if the bytes end before the field does, and for no bits or more than 64. It
-/// takes no memory.
+/// It returns `None` if the bytes end before the field does, and for no bits or more than 64, or if
+/// a `usize` cannot count the bits up to the field's end. It takes no memory.
 ///
 /// ```text
 /// high_at(&[0x69, 0xC0], 4, 12)                              // 0x9C0, and 16
@@ -44,6 +49,8 @@ pub fn value_at(bytes: &[u8], bit: usize, field: &Field) -> Option<(Number, usiz
 pub fn high_at(bytes: &[u8], bit: usize, width: usize) -> Option<(u64, usize)>
     ensures reads { IfSome result (λ r. IsHighAt bytes.now bit width r.0 r.1) }
     ensures within { IfSome result (λ r. r.1 ≤ 8 * length bytes.now) }
+    ensures none { IsNone result → 0 < width → width ≤ 64 → bit + width < 2 ^ 64
+        → 8 * length bytes.now < bit + width }
 {
     let after = end_of(bytes, bit, width)?;
     Some((bits_at(bytes, bit, width), after))
@@ -58,6 +65,8 @@ fn end_of(bytes: &[u8], bit: usize, width: usize) -> Option<usize>
     ensures after { IfSome result (λ n. n ≡ bit + width) }
     ensures counted { IfSome result (λ n. n < 2 ^ 64) }
     ensures there { IfSome result (λ n. n ≤ 8 * length bytes.now) }
+    ensures none { IsNone result → 0 < width → width ≤ 64 → bit + width < 2 ^ 64
+        → 8 * length bytes.now < bit + width }
 {
     if width == 0 || width > 64 {
         return None;

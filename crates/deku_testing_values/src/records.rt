@@ -19,16 +19,20 @@ pub fn expect_packed<T: Symmetric<C> + PartialEq + Debug, C: Copy>(
     requires reads { T.DekuReader.accepts ctx }
     requires writes { T.DekuWriter.accepts ctx }
 {
-    let packed = value.pack(alloc, ctx)?;
+    let packed = value.pack(alloc, ctx);
     let mut more = bytes.to_vec(alloc)?;
     more.push(0xF2)?;
-    let (count, read) = T::unpack(alloc, more.as_slice(), ctx)?;
-    if packed.as_slice() == bytes && count == bits && read == *value {
-        return Ok(());
+    let read = T::unpack(alloc, more.as_slice(), ctx);
+    match (&packed, &read) {
+        (Ok(packed), Ok((count, read)))
+            if packed.as_slice() == bytes && *count == bits && *read == *value =>
+        {
+            Ok(())
+        }
+        _ => Err(Fail::new(format_args!(
+            "{value:?}: packed as {packed:?}, and unpacked as {read:?}, not as {bits} bits"
+        ))),
     }
-    Err(Fail::new(format_args!(
-        "{value:?}: packed as {packed:?}, and unpacked as {read:?} of {count} bits"
-    )))
 }
 
 /// The record is written as these bytes, whichever call writes it, and read from them and what
@@ -42,16 +46,18 @@ pub fn expect_record<T: Symmetric<()> + DekuContainerRead + DekuContainerWrite +
     requires writes { T.DekuWriter.accepts tt }
 {
     expect_packed(alloc, (), value, bytes.len().saturating_mul(8), bytes)?;
-    let whole = value.to_bytes(alloc)?;
+    let whole = value.to_bytes(alloc);
     let mut more = bytes.to_vec(alloc)?;
     more.push(0x99)?;
-    let ((rest, bits), read) = T::from_bytes(alloc, (more.as_slice(), 0))?;
-    if whole.as_slice() == bytes && read == *value && rest == [0x99].as_slice() && bits == 0 {
-        return Ok(());
+    let read = T::from_bytes(alloc, (more.as_slice(), 0));
+    match (&whole, &read) {
+        (Ok(whole), Ok((([0x99], 0), read))) if whole.as_slice() == bytes && *read == *value => {
+            Ok(())
+        }
+        _ => Err(Fail::new(format_args!(
+            "{value:?}: written as {whole:?}, and read, with what is left, as {read:?}"
+        ))),
     }
-    Err(Fail::new(format_args!(
-        "{value:?}: written as {whole:?}, and read as {read:?}, with {rest:?} left"
-    )))
 }
 
 /// The bytes are refused so, after so many bits of them.
