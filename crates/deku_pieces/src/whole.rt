@@ -14,6 +14,7 @@ use std::io::Cursor;
 /// ```text
 /// read_whole::<BitSize, u8>(alloc, &[0x5F], BitSize(4))?      // (4, 5)
 /// ```
+#[inline(always)]
 pub fn read_whole<Ctx, T: DekuReader<Ctx>>(
     alloc: Global,
     bytes: &[u8],
