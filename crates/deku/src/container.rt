@@ -77,7 +77,10 @@ pub trait DekuContainerRead: DekuReader<()> {
     /// let ((rest, bits), record) = Record::from_bytes(alloc, (&[0x12, 0x34], 4))?;
     /// // a record of one byte: 0x23; the rest is 34, of which 4 bits are read
     /// ```
-    final fn from_bytes(alloc: Global, input: (&[u8], usize)) -> Result<((&[u8], usize), Self), DekuError>
+    final fn from_bytes(
+        alloc: Global,
+        input: (&[u8], usize),
+    ) -> Result<((&[u8], usize), Self), DekuError>
     where
         Self: Sized,
         requires { Self.accepts tt }

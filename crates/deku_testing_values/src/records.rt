@@ -25,10 +25,7 @@ pub fn expect_packed<T: Symmetric<C> + PartialEq + Debug, C: Copy>(
     let read = T::unpack(alloc, more.as_slice(), ctx);
     match (&packed, &read) {
         (Ok(packed), Ok((count, read)))
-            if packed.as_slice() == bytes && *count == bits && *read == *value =>
-        {
-            Ok(())
-        }
+            if packed.as_slice() == bytes && *count == bits && *read == *value => { Ok(()) }
         _ => Err(Fail::new(format_args!(
             "{value:?}: packed as {packed:?}, and unpacked as {read:?}, not as {bits} bits"
         ))),
