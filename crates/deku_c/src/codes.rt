@@ -69,8 +69,8 @@ impl FieldCode {
         }
     }
 
-    /// The bits of the field that it means, if that is unsigned, big and `Msb0`, has at most 64,
-    /// and its layout is not rejected.
+    /// The bits of the field that it means, if that is unsigned, big and `Msb0`, its type has at
+    /// most 64 bits, its size is not in bytes, and its layout is not rejected.
     #[inline(always)]
     pub fn high_width(self) -> Option<usize>
         ensures high { IfSome result (λ n. IsHigh (field_in self)) }

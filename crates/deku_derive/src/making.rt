@@ -24,8 +24,8 @@ pub enum Made {
 /// `AllocError` if there is no memory.
 ///
 /// ```text
-/// make(alloc, "point.rs", "struct Point { x: i16, y: i16 }")?    // a module
-/// make(alloc, "point.rs", "struct Point { x: i17 }")?    // wrong: point.rs:1:19: error: ..
+/// make(alloc, "point.rs", None, "struct Point { x: i16, y: i16 }")?    // a module
+/// make(alloc, "point.rs", None, "struct Point { x: i17 }")?    // wrong: point.rs:1:19: error: ..
 /// ```
 pub fn make<'t>(
     alloc: Global,
@@ -84,7 +84,8 @@ fn run<'t>(
     Ok(Made::Wrong(told(alloc, file, text, complaints.as_slice())?))
 }
 
-/// Adds complaints, except those of places that were complained of before.
+/// Adds complaints, except those of places that were complained of before. It fails if there is no
+/// memory; those that were added before stay.
 pub fn add(complaints: &mut Vec<Complaint>, found: Vec<Complaint>) -> Result<(), AllocError> {
     let before = complaints.len();
     for complaint in found {

@@ -23,8 +23,8 @@ pub(crate) struct Crossed<'m, 'a> {
     bits: u64,
 }
 
-// The words of C and of C++ that name no field there, and are no words of Rust.
-const WORDS: [&str; 48] = [
+// The keywords of C and of C++ that are no keywords of Rust.
+const KEYWORDS: [&str; 77] = [
     "alignas",
     "alignof",
     "and",
@@ -37,13 +37,24 @@ const WORDS: [&str; 48] = [
     "case",
     "catch",
     "char",
+    "char16_t",
+    "char32_t",
+    "char8_t",
     "class",
+    "co_await",
+    "co_return",
+    "co_yield",
     "compl",
+    "concept",
+    "const_cast",
+    "consteval",
     "constexpr",
+    "constinit",
     "decltype",
     "default",
     "delete",
     "double",
+    "dynamic_cast",
     "explicit",
     "export",
     "float",
@@ -66,13 +77,31 @@ const WORDS: [&str; 48] = [
     "protected",
     "public",
     "register",
+    "reinterpret_cast",
+    "requires",
     "restrict",
     "short",
     "signed",
     "sizeof",
+    "static_assert",
+    "static_cast",
     "switch",
+    "template",
     "this",
+    "thread_local",
     "throw",
+    "typedef",
+    "typeid",
+    "typename",
+    "typeof_unqual",
+    "union",
+    "unsigned",
+    "using",
+    "void",
+    "volatile",
+    "wchar_t",
+    "xor",
+    "xor_eq",
 ];
 
 /// The records of a module as C has them, with what C has not.
@@ -111,6 +140,7 @@ fn crossed_record<'m, 'a>(
             );
         }
     };
+    check_name(alloc, record.name, snake(alloc, record.name.text)?.as_str())?;
     let mut lines = Vec::new(alloc);
     let mut bits = bits_of_magic(record.magic.as_ref());
     for field in fields {
@@ -145,14 +175,7 @@ fn crossed_field<'a>(
         None => return Err(Stop::Memory),
     };
     let text = name.text;
-    if WORDS.contains(&text) {
-        return Stop::wrong(
-            alloc,
-            name.span,
-            "a field with the name of a word of C",
-            "give it another name",
-        );
-    }
+    check_name(alloc, name, text)?;
     let mut lengths = String::new(alloc);
     let Some((item, count)) = item_of(&field.kind, constants, &mut lengths)? else {
         return lacking(alloc, field);
@@ -167,6 +190,19 @@ fn crossed_field<'a>(
         lines,
         bits_around(field).saturating_add(bits.saturating_mul(count)),
     ))
+}
+
+// Complains of a name that is this one in C, if that is a keyword there.
+fn check_name(alloc: Global, name: Token<'_>, in_c: &str) -> Result<(), Stop> {
+    if !KEYWORDS.contains(&in_c) {
+        return Ok(());
+    }
+    Stop::wrong(
+        alloc,
+        name.span,
+        "a name that is a keyword of C or C++",
+        "give it another name",
+    )
 }
 
 // Appends the line of a field.

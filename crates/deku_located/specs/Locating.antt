@@ -13,8 +13,8 @@ abbrev pub unplaced : {V : Type 0} → Result V Located → Result V DekuError
 unplaced (Ok v) = Ok v
 unplaced (Err e) = Err e.error
 
--- From the first of the bytes on, the parts before the one of this name are read; that one begins at
--- this bit, and is refused with this error.
+-- From the first of the bytes on, the parts before the one of this name are read; that one begins
+-- at this bit, and is refused with this error.
 pub record IsLocated {V : Type 0} (placed : Placed V) (names : List (Bor (List ℕ))) (bytes : List ℕ) (e : Located) : Type 0 where
   pub place : Place
   pub left : Standing (Option Stream)

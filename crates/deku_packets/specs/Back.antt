@@ -28,8 +28,10 @@ abbrev pub IsBack : Writing → List ℕ → Placed → Type 0
 IsBack writes bytes p = (p.layer ≡ Rest)
     ⊎ ((v : Vec ℕ) × WritesOnce (Both (writes p.layer tt) Finalizes) (Ok v) × (between bytes p.start p.end ≡ v.items))
 
--- The layer is written as other bytes, and this byte of the packet is the first that differs.
+-- The layer has a record, which is written as other bytes, and this byte of the packet is the first
+-- that differs.
 pub record IsChanged (writes : Writing) (bytes : List ℕ) (p : Placed) (index : ℕ) : Type 0 where
+  pub record_there : p.layer ≡ Rest → ⊥
   pub written : Vec ℕ
   pub is : WritesOnce (Both (writes p.layer tt) Finalizes) (Ok written)
   pub offset : ℕ

@@ -68,7 +68,7 @@ pub struct Fields {
     pub layer: &'static str,
     /// The fields of fixed places.
     pub places: &'static [(&'static str, usize)],
-    /// The field that says how much follows, or the first one.
+    /// The field that says how much or what follows.
     pub counting: &'static str,
     /// What follows the fields of fixed places.
     pub last: &'static str,
@@ -90,7 +90,8 @@ impl Fields {
         }
         self.last
     }
-    /// The first bit of the field that says how much follows, if it has a fixed place.
+
+    /// The first bit of the field that says how much or what follows, if it has a fixed place.
     ///
     /// ```text
     /// UDP.bit_of_counting()                                         // Some(32)

@@ -128,8 +128,8 @@ pub record BytesStop (words : List (List ℕ)) (e : Failure) : Type 0 where
 abbrev pub Stops : List (List ℕ) → Failure → Type 0
 Stops words e = HaveNoPicture words e ⊎ BytesStop words e ⊎ (e ≡ Fault (Io OutOfMemory))
 
--- What ends a run before the output: with 2, since there are no words of fields or one of them names
--- no field, or with 1. A word that is printed is the first of these that names no field.
+-- What ends a run before the output: with 2, since there are no words of fields or one of them
+-- names no field, or with 1. A word that is printed is the first of these that names no field.
 abbrev pub IsFailure : List (List ℕ) → Failure → Type 0
 IsFailure words Usage = HaveNoSpecs words
 IsFailure words (NoField word) = HasUnnamed words word.now

@@ -13,14 +13,15 @@ use deku_fields::{Field, Number};
 /// bytes reads this value if it has taken the bits before, all in `Msb0`.
 ///
 /// It returns `None` if the layout is rejected or the bytes end before the field does, and for a
-/// field in `Lsb0`, of no bits or of more than 64. It does so too if a `usize` cannot count the bits
-/// up to the field's end. It takes no memory.
+/// field in `Lsb0`, of no bits or of more than 64; also if a `usize` cannot count the bits up to the
+/// field's end. It takes no memory.
 ///
 /// ```text
 /// value_at(&[0x69, 0xC0], 4, &twelve)                        // 0x9C0, and 16
 /// ```
 pub fn value_at(bytes: &[u8], bit: usize, field: &Field) -> Option<(Number, usize)>
     ensures reads { IfSome result (λ r. IsReadAt field.now bytes.now bit r.0 r.1) }
+    ensures straight { IfSome result (λ r. IsStraight field.now) }
     ensures within { IfSome result (λ r. r.1 ≤ 8 * length bytes.now) }
     ensures none { IsNone result → IsAllowedField field.now → IsStraight field.now
         → bit + field_width field.now < 2 ^ 64
@@ -48,6 +49,8 @@ pub fn value_at(bytes: &[u8], bit: usize, field: &Field) -> Option<(Number, usiz
 #[inline(always)]
 pub fn high_at(bytes: &[u8], bit: usize, width: usize) -> Option<(u64, usize)>
     ensures reads { IfSome result (λ r. IsHighAt bytes.now bit width r.0 r.1) }
+    ensures some { IfSome result (λ r. 0 < width) }
+    ensures few { IfSome result (λ r. width ≤ 64) }
     ensures within { IfSome result (λ r. r.1 ≤ 8 * length bytes.now) }
     ensures none { IsNone result → 0 < width → width ≤ 64 → bit + width < 2 ^ 64
         → 8 * length bytes.now < bit + width }

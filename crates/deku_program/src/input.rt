@@ -1,6 +1,7 @@
 //! Reading bytes from an input of hexadecimal text.
 
-ghost use Rattle.std.specs.Prelude.{IfOk, IfErr, IfSome, IfNone};
+ghost use Rattle.std.specs.Prelude.{OnOk, IfOk, IfErr, IfSome, IfNone};
+ghost use Rattle.std.specs.Io.KnownBytes.{IsAtEnd};
 ghost use Rattle.deku_program.specs.Hexadecimal.{IsHexText, IsNoHexText, IsOfInput, LosesNewline};
 
 use deku::DekuError;
@@ -21,6 +22,7 @@ pub fn read_hex_text<R: Read>(alloc: Global, input: &mut R) -> Result<Option<Vec
     ensures shown { IfOk result (λ o. IfSome o (λ bytes. IfSome (R.remaining input.old)
         (λ text. IsHexText text bytes.items))) }
     ensures none { IfOk result (λ o. IfNone o (IfSome (R.remaining input.old) IsNoHexText)) }
+    ensures end { OnOk result (IsAtEnd (R.remaining input.new)) }
     ensures refused { IfErr result IsOfInput }
 {
     let mut text: Vec<u8> = Vec::new(alloc);

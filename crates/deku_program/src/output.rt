@@ -40,8 +40,8 @@ pub fn give_text<W: Write>(output: &mut W, text: &[u8]) -> io::Result<()>
     Ok(())
 }
 
-/// Writes texts one after the other to an output. If it fails, the output has taken a beginning of
-/// them.
+/// Writes texts one after the other to an output. It fails as `give_text` does; the output has then
+/// taken a beginning of them.
 ///
 /// ```text
 /// give_parts(&mut output, &["bits ", "16", "\n"])?;
@@ -51,6 +51,7 @@ pub fn give_parts<W: Write>(output: &mut W, parts: &[&str]) -> io::Result<()>
         (joined_text parts.now)) }
     ensures begun { IsBegun (W.contents output.old) (W.contents output.new)
         (joined_text parts.now) }
+    ensures tried { IfErr result (λ e. error_kind e ≢ Interrupted) }
 {
     for part in parts {
         give_text(output, part.as_bytes())?;

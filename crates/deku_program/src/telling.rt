@@ -1,7 +1,9 @@
 //! The texts of errors.
 
-ghost use Rattle.std.specs.Prelude.{◌≡◌, OnOk};
+ghost use Rattle.std.specs.Prelude.{◌≡◌, ◌≢◌, OnOk, IfErr};
 ghost use Rattle.std.specs.Io.KnownBytes.{Appends};
+ghost use Rattle.std.specs.IoError.{error_kind};
+ghost use Rattle.std.specs.declared.io.ErrorKind.TheVariants.{Interrupted};
 ghost use Rattle.deku_program.specs.Outputs.{IsBegun};
 ghost use Rattle.deku_program.specs.Told.{joined_text, io_kind_name, fault_text, fault_line};
 
@@ -69,6 +71,7 @@ fn give_fault<W: Write>(output: &mut W, fault: &DekuError) -> io::Result<()>
     ensures given { OnOk result (Appends (W.contents output.old) (W.contents output.new)
         (fault_text fault.now)) }
     ensures begun { IsBegun (W.contents output.old) (W.contents output.new) (fault_text fault.now) }
+    ensures tried { IfErr result (λ e. error_kind e ≢ Interrupted) }
 {
     match *fault {
         DekuError::Incomplete(need) => {
@@ -97,8 +100,7 @@ fn give_fault<W: Write>(output: &mut W, fault: &DekuError) -> io::Result<()>
 }
 
 /// Writes the line of an error to an output: `error: `, its text, and more texts after that. It
-/// fails with the error of the output, or if the output takes no more; the output has then taken a
-/// beginning of the line.
+/// fails as `give_text` does; the output has then taken a beginning of the line.
 ///
 /// ```text
 /// tell_fault(&mut errors, &DekuError::Assertion("version"), &[", at bit ", "4"])?;
@@ -109,6 +111,7 @@ pub fn tell_fault<W: Write>(output: &mut W, fault: &DekuError, more: &[&str]) ->
         (fault_line fault.now (joined_text more.now))) }
     ensures begun { IsBegun (W.contents output.old) (W.contents output.new)
         (fault_line fault.now (joined_text more.now)) }
+    ensures tried { IfErr result (λ e. error_kind e ≢ Interrupted) }
 {
     give_text(output, b"error: ")?;
     give_fault(output, fault)?;

@@ -28,12 +28,14 @@ impl<R: Read, E: Write> Progress<R, E> {
 
     // How much is read, in percent.
     fn percent(&self) -> u64 {
-        let hundredth = (self.size / 100).max(1);
-        (self.read / hundredth).min(100)
+        let hundreds = self.read as u128 * 100;
+        (hundreds / self.size.max(1) as u128).min(100) as u64
     }
 }
 
 impl<R: Read, E: Write> Read for Progress<R, E> {
+    ghost remaining = { λ p. R.remaining p.inner };
+
     fn read(&mut self, buf: &mut [u8]) -> io::Result<usize> {
         let before = self.percent();
         let count = self.inner.read(buf)?;

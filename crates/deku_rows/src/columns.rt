@@ -24,7 +24,7 @@ pub enum NoColumns<'a> {
     SameName(&'a str),
     /// The fields have no bits, so that no record would be the last.
     NoBits,
-    /// A field's layout is rejected, or there is no memory.
+    /// A field's layout is rejected, a `usize` cannot count the bits, or there is no memory.
     Fault(DekuError),
 }
 

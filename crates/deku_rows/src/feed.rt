@@ -3,7 +3,7 @@
 use hex::decode_to_slice;
 use std::alloc::{AllocError, AllocFailed, Global};
 use std::io;
-use std::io::Read;
+use std::io::{ErrorKind, Read};
 
 // How many bytes are asked of the input at once.
 const PART: usize = 65536;
@@ -76,7 +76,7 @@ impl Feed {
 
     /// Reads more bytes. Returns whether there may be others after them.
     pub(crate) fn fill<R: Read>(&mut self, input: &mut R) -> Result<bool, NoBytes> {
-        let count = input.read(self.part.as_mut_slice())?.min(self.part.len());
+        let count = read_part(input, self.part.as_mut_slice())?.min(self.part.len());
         let read = &self.part.as_slice()[..count];
         if self.raw {
             self.bytes.extend_from_slice(read)?;
@@ -111,4 +111,15 @@ impl Feed {
             _ => Ok(()),
         }
     }
+}
+
+// Reads bytes to the front of these. An interrupted read is tried again.
+fn read_part<R: Read>(input: &mut R, part: &mut [u8]) -> io::Result<usize> {
+    for _ in 0..u64::MAX {
+        match input.read(part) {
+            Err(error) if error.kind() == ErrorKind::Interrupted => {}
+            answer => return answer,
+        }
+    }
+    Err(io::Error::new(ErrorKind::TimedOut, "interrupted too often"))
 }
