@@ -325,7 +325,7 @@ impl<'b, 'a> Builder<'b, 'a> {
         if let Endian::Named(_) = field.layout.endian {
             return self.wrong(
                 field.span,
-                "an endian that another value says is not supported",
+                "an endian given by another value is not supported",
                 "write a record for each endian",
             );
         }
@@ -341,7 +341,7 @@ impl<'b, 'a> Builder<'b, 'a> {
         if said.width.is_some() && (is_dependent || !is_number) {
             return self.wrong(
                 field.span,
-                "a width that a field says, of more than one number, is not supported",
+                "a width given by a field is supported only for one number",
                 "write a record of the number and its width",
             );
         }
@@ -362,7 +362,7 @@ impl<'b, 'a> Builder<'b, 'a> {
         } else if self.owner == Owner::LentKind {
             return Ok(());
         } else if is_dependent || !self.records.is_copied(field) {
-            "memory in a kind of an enum whose id a field says is not supported"
+            "memory in a kind of an enum whose id is a field is not supported"
         } else {
             return Ok(());
         };

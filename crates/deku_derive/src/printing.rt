@@ -419,7 +419,7 @@ impl<'b, 'a> Printer<'b, 'a> {
                 "write a first field of the type of the id, without attributes",
             ),
             IdSource::Context(_) => (
-                "a kind of several ids that a field says is not supported",
+                "a kind with several ids is not supported if a field has the id",
                 "write a kind for each id",
             ),
         };

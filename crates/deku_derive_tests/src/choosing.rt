@@ -50,13 +50,13 @@ struct S { k: u8, #[deku(ctx = \"*k\")] e: E }",
     (
         "#[deku(ctx = \"k: u8\", id = \"k\")] enum E { #[deku(id = 1)] A,
 #[deku(id_pat = \"2..=4\")] B(u8), #[deku(id_pat = \"_\")] C(u8) }",
-        "2:27 a kind of several ids that a field says is not supported
-2:56 a kind of several ids that a field says is not supported",
+        "2:27 a kind with several ids is not supported if a field has the id
+2:56 a kind with several ids is not supported if a field has the id",
     ),
     (
         "#[deku(ctx = \"k: u8\", id = \"k\")]
 enum E { #[deku(id = 1)] A { n: u8, #[deku(count = \"n\")] v: Vec<u8> } }",
-        "2:61 memory in a kind of an enum whose id a field says is not supported",
+        "2:61 memory in a kind of an enum whose id is a field is not supported",
     ),
     (
         "#[deku(ctx = \"k: u8\", id = \"k\")] enum E { #[deku(id = 1)] A(u8), #[deku(id = 2)] B }

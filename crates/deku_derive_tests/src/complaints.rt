@@ -191,7 +191,7 @@ const UNPRINTED: [(&str, &str); 51] = [
     ),
     (
         "struct A { #[deku(endian = \"other\")] a: u16 }",
-        "1:41 an endian that another value says is not supported",
+        "1:41 an endian given by another value is not supported",
     ),
     (
         "#[deku(ctx = \"n: u8\")] struct A { a: u8 }",
@@ -370,7 +370,7 @@ enum A { #[deku(id = 1)] B { #[deku(update = \"self.v.len()\")] n: u8 } }",
     ),
     (
         "struct A { n: u8, #[deku(bits = \"n\")] v: [u8; 2] }",
-        "1:42 a width that a field says, of more than one number, is not supported",
+        "1:42 a width given by a field is supported only for one number",
     ),
     (
         "struct A { n: u8, #[deku(bits = \"n - 1\")] v: u8 }",

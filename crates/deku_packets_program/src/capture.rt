@@ -45,7 +45,7 @@ pub fn read_format<R: Read>(alloc: Global, input: &mut R) -> Result<Format, Fail
         Ok((_, start)) => start,
         Err(_) if count < 4 => return Err(cut("file header", 0)),
         Err(_) => {
-            let fault = DekuError::Parse("no capture of pcap");
+            let fault = DekuError::Parse("not a pcap capture");
             return Err(Failure::new(fault, "magic", 0));
         }
     };

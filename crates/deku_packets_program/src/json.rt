@@ -1,4 +1,4 @@
-//! A packet as an object of JSON.
+//! A packet as a JSON object.
 
 use crate::members::{layer_members, member};
 use crate::shown::{Shown, Verdict};

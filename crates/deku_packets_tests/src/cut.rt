@@ -85,7 +85,7 @@ fn no_capture(rt: HostRuntime) -> Result<(), Fail> {
     }
     let (status, _, errors) = run_on(rt.alloc(), capture.as_slice())?;
     assert_eq!(rt; status, 1);
-    let told = "error: Parse error: no capture of pcap, in magic, at byte 0\n";
+    let told = "error: Parse error: not a pcap capture, in magic, at byte 0\n";
     assert_eq!(rt; str::from_utf8(&errors)?, told);
     Ok(())
 }

@@ -159,7 +159,7 @@ usage = codes "usage: layout [--svg|--bytes HEX] [NAME:]SPEC.."
 -- unspecified.
 abbrev pub ShowsWord : List ℕ → List ℕ → Type 0
 ShowsWord word text = (shown : List ℕ) × IfSome (debug_str word) (λ escaped. shown ≡ escaped)
-    × (text ≡ line (usage ++ (codes ", and " ++ (shown ++ codes " is no field"))))
+    × (text ≡ line (usage ++ (codes ", and " ++ (shown ++ codes " is not a field"))))
 
 -- The text is the usage and a word that names no field; or the usage only, if there is no memory to
 -- show the word.

@@ -100,7 +100,7 @@ enum Form<'a> {
 ///
 /// ```text
 /// a:u8,lsb,bits4 b:u16,lsb,bits12  // prints cells `b 3..0`, `a 3..0` and `b 11..4`, status 0
-/// u8 u9                            // prints usage: layout .., and "u9" is no field, status 2
+/// u8 u9                            // prints usage: layout .., and "u9" is not a field, status 2
 /// u8,big,bits3 u8,lsb,bits3
 /// // prints error: Invalid param error: order changes inside a byte, status 1
 /// ```
@@ -157,7 +157,7 @@ fn complain_of<E: Write>(alloc: Global, errors: &mut E, word: &str) -> io::Resul
             &[
                 "usage: layout [--svg|--bytes HEX] [NAME:]SPEC.., and ",
                 shown.as_str(),
-                " is no field\n",
+                " is not a field\n",
             ],
         ),
         Err(_) => give_text(errors, b"usage: layout [--svg|--bytes HEX] [NAME:]SPEC..\n"),

@@ -10,7 +10,7 @@ use std::alloc::Global;
 use std::process::ExitCode;
 use std::{env, fs, io};
 
-const ABOUT: &str = "Prints the module of a description of records in Rust with deku's attributes";
+const ABOUT: &str = "Prints the module for records described in Rust with deku's attributes";
 
 fn main(rt: HostRuntime) -> io::Result<ExitCode> {
     let words: Vec<String> = env::args(&rt)?.collect(rt.alloc())?;

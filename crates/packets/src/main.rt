@@ -10,7 +10,7 @@ use std::io::{BufReader, BufWriter, IsTerminal, Read};
 use std::process::ExitCode;
 use std::{env, io};
 
-const ABOUT: &str = "Shows what is in each packet of a capture of pcap";
+const ABOUT: &str = "Shows what is in each packet of a pcap capture";
 
 // From this size on progress is shown on a terminal.
 const LARGE: u64 = 64 << 20;
@@ -36,7 +36,7 @@ fn command<'a>(alloc: Global) -> Result<Command<'a>, Error> {
     let json = Arg::new(alloc, "json")
         .long("json")
         .action(ArgAction::SetTrue)
-        .help("Prints each packet as an object of JSON, with all fields");
+        .help("Prints each packet as a JSON object with all fields");
     let check = Arg::new(alloc, "check")
         .long("check")
         .action(ArgAction::SetTrue)

@@ -1,4 +1,4 @@
-//! Prints records in a row, a line each, by words that name their fields.
+//! Prints consecutive records, one per line, by words that name their fields.
 #![tactic(auto)]
 
 use clap::{Arg, ArgAction, ArgMatches, Command, Error};
@@ -11,7 +11,7 @@ use std::io::{IsTerminal, Read};
 use std::process::ExitCode;
 use std::{env, io};
 
-const ABOUT: &str = "Prints records in a row, a line each, as CSV or JSON";
+const ABOUT: &str = "Prints consecutive records, one per line, as CSV or JSON";
 
 // From this size on progress is shown on a terminal.
 const LARGE: u64 = 64 << 20;
@@ -34,16 +34,16 @@ fn command<'a>(alloc: Global) -> Result<Command<'a>, Error> {
     let json = Arg::new(alloc, "json")
         .long("json")
         .action(ArgAction::SetTrue)
-        .help("Prints a JSON object for each record, and not CSV");
+        .help("Prints JSON objects instead of CSV");
     let raw = Arg::new(alloc, "raw")
         .long("raw")
         .action(ArgAction::SetTrue)
-        .help("Takes bytes, and not hexadecimal text");
+        .help("Reads bytes, not hexadecimal text");
     let from = Arg::new(alloc, "from")
         .long("from")
         .value_name("FILE")
         .action(ArgAction::Set)
-        .help("Reads this file, and not the standard input");
+        .help("Reads this file instead of standard input");
     let specs = Arg::new(alloc, "SPEC").required(true).num_args(1..).help(
         "The fields of a record in order, each as SPEC or NAME:SPEC",
     );
@@ -103,8 +103,8 @@ fn print<R: Read>(
 // Prints why words make no columns. Returns the status.
 fn refuse(rt: &HostRuntime, why: &NoColumns<'_>) -> io::Result<u8> {
     match why {
-        NoColumns::NoField(word) => eprintln!(rt; "error: {word:?} is no field")?,
-        NoColumns::SameName(word) => eprintln!(rt; "error: {word:?} has the name of another")?,
+        NoColumns::NoField(word) => eprintln!(rt; "error: {word:?} is not a field")?,
+        NoColumns::SameName(word) => eprintln!(rt; "error: {word:?} repeats a field name")?,
         NoColumns::NoBits => eprintln!(rt; "error: a record has no bits")?,
         NoColumns::Fault(fault) => tell_fault(&mut rt.stderr(), fault, &[])?,
     }

@@ -9,9 +9,9 @@ use Rattle.deku_picture.proofs.program.complain_of.Goals as goal
 pub returns-in-Ok : goal.returns-in-Ok
 returns-in-Ok g c =
     let s : List ℕ = c.as_str.result.now in
-    let text : List ℕ = line (usage ++ (codes ", and " ++ (s ++ codes " is no field"))) in
-    let same : text ≡ codes "usage: layout [--svg|--bytes HEX] [NAME:]SPEC.., and " ++ (s ++ codes " is no field\n") =
-    ap (λ t. codes "usage: layout [--svg|--bytes HEX] [NAME:]SPEC.., and " ++ t) (append_assoc s (codes " is no field") (10 ∷ [])) in
+    let text : List ℕ = line (usage ++ (codes ", and " ++ (s ++ codes " is not a field"))) in
+    let same : text ≡ codes "usage: layout [--svg|--bytes HEX] [NAME:]SPEC.., and " ++ (s ++ codes " is not a field\n") =
+    ap (λ t. codes "usage: layout [--svg|--bytes HEX] [NAME:]SPEC.., and " ++ t) (append_assoc s (codes " is not a field") (10 ∷ [])) in
     let shown : IfSome (debug_str c.args.word.now) (λ escaped. s ≡ escaped) = rw c.as_str.ensures.value c.in-Ok.ensures.ok in
     (text, inr (s, shown, refl), subst (IsBegun (g.E.Write.contents c.args.errors.now) (g.E.Write.contents c.give_parts.new.output)) (sym same) c.give_parts.ensures.begun)
 
