@@ -43,12 +43,7 @@ pub(crate) fn declaration(
     derives(out, record, !is_lent, false)?;
     let name = record.name.text;
     writeln!(out, "pub enum {name} {{")?;
-    // If one kind with named fields has no room on a line, none is on one.
-    let mut is_split = false;
-    for kind in kinds {
-        let text = variant(*out.allocator(), kind)?;
-        is_split = is_split || kind.case.shape == Shape::Named && !text.is_line("    ", 1);
-    }
+    let is_split = are_split(*out.allocator(), kinds)?;
     for kind in kinds {
         let case = kind.case;
         docs(out, case.docs.as_slice(), "    ///")?;
@@ -61,6 +56,17 @@ pub(crate) fn declaration(
         out.push_str(",\n")?;
     }
     out.push_str("}\n")
+}
+
+// Whether kinds with named fields have a line for each field: if one of them has no room on a line,
+// none is on one.
+fn are_split(alloc: Global, kinds: &[Built<'_, '_>]) -> Result<bool, AllocError> {
+    for kind in kinds {
+        if kind.case.shape == Shape::Named && !variant(alloc, kind)?.is_line("    ", 1) {
+            return Ok(true);
+        }
+    }
+    Ok(false)
 }
 
 // Appends which ids a kind has.
@@ -255,26 +261,53 @@ fn there_and_back(
 ) -> Result<(), AllocError> {
     let held = if is_given { "" } else { ".kind" };
     out.push_str("    ghost parts_of = { elim [")?;
-    for (i, kind) in kinds.iter().enumerate() {
-        start(out, 6)?;
-        parts_of(out, name, kind, (i, kinds.len()), is_given)?;
-    }
+    parts_of_each(out, name, kinds, is_given)?;
     out.push_str("\n    ] };\n\n    ghost record_of = { λ p. ")?;
     record_of(out, name, kinds, held)?;
     out.push_str(" };\n\n    fn from_parts(parts: Self::Parts) -> Self {\n")?;
     write!(out, "        match parts{held} {{")?;
+    from_parts_of_each(out, name, kinds)?;
+    out.push_str("\n        }\n    }\n\n")?;
+    out.push_str("    ghost there = { elim [")?;
+    same_of_each(out, name, kinds)?;
+    out.push_str("\n    ] };\n}\n")
+}
+
+// Appends the parts of each kind.
+fn parts_of_each(
+    out: &mut String,
+    name: &str,
+    kinds: &[Built<'_, '_>],
+    is_given: bool,
+) -> Result<(), AllocError> {
+    for (i, kind) in kinds.iter().enumerate() {
+        start(out, 6)?;
+        parts_of(out, name, kind, (i, kinds.len()), is_given)?;
+    }
+    Ok(())
+}
+
+// Appends the arm of each kind in `from_parts`.
+fn from_parts_of_each(
+    out: &mut String,
+    name: &str,
+    kinds: &[Built<'_, '_>],
+) -> Result<(), AllocError> {
     for (i, kind) in kinds.iter().enumerate() {
         from_parts(out, name, kind, (i, kinds.len()))?;
     }
-    out.push_str("\n        }\n    }\n\n")?;
-    out.push_str("    ghost there = { elim [")?;
+    Ok(())
+}
+
+// Appends that the parts of each kind make it again.
+fn same_of_each(out: &mut String, name: &str, kinds: &[Built<'_, '_>]) -> Result<(), AllocError> {
     for kind in kinds {
         start(out, 6)?;
         out.push_str("| ")?;
         constructor(out, name, kind)?;
         out.push_str(" ↦ refl")?;
     }
-    out.push_str("\n    ] };\n}\n")
+    Ok(())
 }
 
 // The type of the id and the kinds.
@@ -300,10 +333,7 @@ fn parts_kind(
 
 // The type of kinds, of which each half is one.
 fn tree(alloc: Global, kinds: &[Built<'_, '_>], held: Held) -> Result<Text, AllocError> {
-    let mut texts = Vec::new(alloc);
-    for kind in kinds {
-        texts.push(kind_type(alloc, kind, held)?)?;
-    }
+    let mut texts = kind_types(alloc, kinds, held)?;
     // Joins neighbours until one is left.
     for _ in 0..64 {
         if texts.len() < 2 {
@@ -315,6 +345,15 @@ fn tree(alloc: Global, kinds: &[Built<'_, '_>], held: Held) -> Result<Text, Allo
         Some(text) => Ok(text),
         None => Text::word(alloc, "()"),
     }
+}
+
+// The type of each kind.
+fn kind_types(alloc: Global, kinds: &[Built<'_, '_>], held: Held) -> Result<Vec<Text>, AllocError> {
+    let mut texts = Vec::new(alloc);
+    for kind in kinds {
+        texts.push(kind_type(alloc, kind, held)?)?;
+    }
+    Ok(texts)
 }
 
 // Neighbours as one kind each; the last one stays alone if their number is odd.
@@ -444,10 +483,7 @@ fn record_of(
     let whole = joined_text(alloc, "p", kind)?;
     let whole = whole.as_str();
     let held = if kinds.len() == 1 { whole } else { "k" };
-    let mut texts = Vec::new(alloc);
-    for kind in kinds {
-        texts.push(made_of(alloc, name, kind, held)?)?;
-    }
+    let mut texts = made_of_each(alloc, name, kinds, held)?;
     for _ in 0..64 {
         if texts.len() < 2 {
             break;
@@ -465,6 +501,20 @@ fn record_of(
         }
         None => out.push_str(text),
     }
+}
+
+// What a value of each kind makes, in ghost text.
+fn made_of_each(
+    alloc: Global,
+    name: &str,
+    kinds: &[Built<'_, '_>],
+    held: &str,
+) -> Result<Vec<String>, AllocError> {
+    let mut texts = Vec::new(alloc);
+    for kind in kinds {
+        texts.push(made_of(alloc, name, kind, held)?)?;
+    }
+    Ok(texts)
 }
 
 // Appends a text whose lines after the first begin further in.

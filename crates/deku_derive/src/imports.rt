@@ -129,13 +129,7 @@ pub(crate) fn imports(
 ) -> Result<(), AllocError> {
     let alloc = *out.allocator();
     let (term, code) = parted(alloc, text)?;
-    let mut words = Vec::new(alloc);
-    for (word, found) in &WORDS {
-        if term.as_str().contains(*found) {
-            words.push(*word)?;
-        }
-    }
-    let words = words.as_slice().join(alloc, ", ")?;
+    let words = words_of(alloc, term.as_str())?;
     let words = words.as_str();
     writeln!(
         out,
@@ -149,13 +143,30 @@ ghost use Rattle.deku.specs.Shapes.{{Shows}};"
     made(out, term.as_str())?;
     kinds(out, module, path)?;
     out.push('\n')?;
+    own_uses(out, module)?;
+    for (from, names) in USED {
+        used(out, from, names, code.as_str())?;
+    }
+    Ok(())
+}
+
+// The words of the standard library that ghost text has.
+fn words_of(alloc: Global, text: &str) -> Result<String, AllocError> {
+    let mut words = Vec::new(alloc);
+    for (word, found) in &WORDS {
+        if text.contains(*found) {
+            words.push(*word)?;
+        }
+    }
+    words.as_slice().join(alloc, ", ")
+}
+
+// Appends what a description uses of its own crate.
+fn own_uses(out: &mut String, module: &Module<'_>) -> Result<(), AllocError> {
     for path in &module.uses {
         if path.starts_with("super::") || path.starts_with("crate::") {
             writeln!(out, "use {path};")?;
         }
-    }
-    for (from, names) in USED {
-        used(out, from, names, code.as_str())?;
     }
     Ok(())
 }
@@ -310,12 +321,6 @@ fn filled(out: &mut String, names: &[&str]) -> Result<(), AllocError> {
 
 // Whether a text has a name as a whole word.
 fn has_word(text: &str, word: &str) -> bool {
-    for line in text.lines() {
-        for part in line.split(|c: char| !(c.is_ascii_alphanumeric() || c == '_')) {
-            if part == word {
-                return true;
-            }
-        }
-    }
-    false
+    text.split(|c: char| !(c.is_ascii_alphanumeric() || c == '_'))
+        .any(|part| part == word)
 }

@@ -262,6 +262,11 @@ impl<'b, 'a> Printer<'b, 'a> {
             }
             self.names.push(name)?;
         }
+        self.note(complaints)
+    }
+
+    // Notes complaints.
+    fn note(&mut self, complaints: Vec<Complaint>) -> Result<(), AllocError> {
         for complaint in complaints {
             self.complaints.push(complaint)?;
         }

@@ -95,6 +95,16 @@ fn refused(out: &mut String, updated: &[Updated<'_>]) -> Result<(), AllocError> 
 // Appends the function.
 fn body(out: &mut String, updated: &[Updated<'_>]) -> Result<(), AllocError> {
     out.push_str("\n    fn update(&mut self) -> Result<(), DekuError> {\n")?;
+    counts(out, updated)?;
+    for it in updated {
+        let name = it.name;
+        writeln!(out, "        self.{name} = {name};")?;
+    }
+    out.push_str("        Ok(())\n    }\n}\n")
+}
+
+// Appends the counts that the function sets.
+fn counts(out: &mut String, updated: &[Updated<'_>]) -> Result<(), AllocError> {
     for it in updated {
         let Updated {
             name,
@@ -107,9 +117,5 @@ fn body(out: &mut String, updated: &[Updated<'_>]) -> Result<(), AllocError> {
             "        let {name} = {kind}::try_from(self.{list}.len())?;"
         )?;
     }
-    for it in updated {
-        let name = it.name;
-        writeln!(out, "        self.{name} = {name};")?;
-    }
-    out.push_str("        Ok(())\n    }\n}\n")
+    Ok(())
 }
