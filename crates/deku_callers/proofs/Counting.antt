@@ -1,4 +1,4 @@
--- Many items: their pieces, and what is made of as many that are read under a count, from the laws of symmetric items.
+-- Many items: their pieces, and what is made of as many that are read under a count.
 use Rattle.std.proofs.Common.{◌≡◌, ℕ, ◌+◌, ◌*◌, ◌<◌, ◌^◌, Bool, List, [], ◌∷◌, length, take, drop, get_or, All, Option, Result, Ok, Err, MatchResult, refl, ap, ap₂, sym, ◌∙◌, subst, arith, append-nil}
 use Rattle.std.specs.Global.{Vec}
 use Rattle.std.specs.declared.io.ErrorKind.TheVariants.{OutOfMemory}
@@ -62,7 +62,8 @@ pub same_number : (n k : ℕ) → n ≡ k → k ≡ n
 same_number n k e = sym e
 
 -- ---- what is read under a count
--- what was made of items that were read under a count of as many as were laid out was made of these; or no memory was found
+-- items that were read under a count of as many as were laid out were made of these; or no memory
+-- was found
 module _ {V C : Type 0} (P : V → List Piece → Type 0) (same : V → V → Type 0) (equal : (v w : V) → same v w → w ≡ v) (m : Meaning (Option Stream) V) (back : CountedUnpackLaw P same m)
     (makes : List V → C → Type 0) where
   err_is : (e d : DekuError) → ◌≡◌ {A = Result C DekuError} (Err e) (Err d) → e ≡ d

@@ -13,7 +13,8 @@ use Rattle.deku_fields.specs.Items.{IsFitting, AlignedFields, fields_of}
 use Rattle.deku_fields.specs.Rows.{item}
 use Rattle.deku_callers.proofs.Returning.{fitting}
 
--- four bits and four, high bits first, thirteen and three, low bits first, and two bytes with a sign, high byte first
+-- four bits and four, high bits first, thirteen and three, low bits first, and two bytes with a
+-- sign, high byte first
 abbrev pub five : (version kind span flags : ℕ) → ℤ → List Item
 five version kind span flags heat = item U8 (big_msb (Bits 4)) (Unsigned version) ∷ item U8 (big_msb (Bits 4)) (Unsigned kind) ∷ item U16 (little_lsb (Bits 13)) (Unsigned span)
     ∷ item U8 (little_lsb (Bits 3)) (Unsigned flags) ∷ item I16 (big_msb Whole) (Signed heat) ∷ []

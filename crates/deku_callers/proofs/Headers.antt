@@ -1,5 +1,5 @@
 -- The pieces of headers, and what the laws of symmetric types say of them.
-use Rattle.std.proofs.Common.{◌≡◌, ℕ, ◌+◌, ◌*◌, ◌<◌, ◌^◌, List, [], length, map, take, All, Option, Result, Ok, Err, MatchResult, IfOk, ap, sym, ◌∙◌, arith, append-nil}
+use Rattle.std.proofs.Common.{◌≡◌, ℕ, ◌+◌, ◌*◌, ◌/◌, ◌<◌, ◌≤◌, ◌^◌, List, [], length, map, take, All, Option, Result, Ok, Err, MatchResult, IfOk, ap, sym, ◌∙◌, arith, append-nil}
 use Rattle.std.specs.Borrow.{Bor}
 use Rattle.std.specs.Global.{Vec}
 use Rattle.std.specs.declared.io.ErrorKind.TheVariants.{OutOfMemory}
@@ -84,14 +84,17 @@ module _ {W : Udp → Meaning Output (Unit {0})} {R : Meaning (Option Stream) Ud
 -- a header that was read from bytes is written as the first eight of them
 pub udp_rewritten : {W : Udp → Meaning Output (Unit {0})} {R : Meaning (Option Stream) Udp} → ToBytesLaw OfUdp W → FoundLaw OfUdp R → WholeBytesLaw → LengthLaw
     → (bytes : List ℕ) → All (λ b. b < 256) bytes → (p : (Bor (List ℕ) × ℕ) × Udp) → ReadsBytesOnce (Behind 0 R) bytes (Ok p)
-    → (r : Result (Vec ℕ) DekuError) → WritesOnce (Both (W p.1) Finalizes) r → IfOk r (λ v. v.items ≡ take 8 bytes)
+    → (r : Result (Vec ℕ) DekuError) → WritesOnce (Both (W p.1) Finalizes) r → IfOk r (λ v. (8 ≤ length bytes) × (v.items ≡ take 8 bytes))
 udp_rewritten to found whole long bytes all p w r written =
     let was = (found bytes (Ok p) w).1 in
     let l = udp_lies p.1 was.taken was.has in
     let wide : breadth was.taken ≡ 64 = l.wide in
-    let laid = whole was.taken bytes was.rest 8 (in_step l) all was.takes (omega (arith, wide)) in
-    go _ _ r (to p.1 r written was.taken was.has (in_step l) (few long was.taken 64 (in_step l) l.wide (omega arith))) laid
+    let laid : laid_out was.taken ≡ take 8 bytes = whole was.taken bytes was.rest 8 (in_step l) all was.takes (omega (arith, wide)) in
+    let eight : length (laid_out was.taken) ≡ 8 = long was.taken (in_step l) ∙ ap (λ n. (n + 7) / 8) wide in
+    let front : length (take 8 bytes) ≡ 8 = ap length (sym laid) ∙ eight in
+    go _ _ (omega (arith, front)) r (to p.1 r written was.taken was.has (in_step l) (few long was.taken 64 (in_step l) l.wide (omega arith))) laid
   where
-    go : (bytes out : List ℕ) (r : Result (Vec ℕ) DekuError) → MatchResult r (λ v. v.items ≡ out) (λ e. e ≡ Io OutOfMemory) → out ≡ bytes → IfOk r (λ v. v.items ≡ bytes)
-    go bytes out (Ok v) m e = m ∙ e
-    go bytes out (Err x) m e = tt
+    go : (bytes out : List ℕ) → 8 ≤ length bytes → (r : Result (Vec ℕ) DekuError) → MatchResult r (λ v. v.items ≡ out) (λ e. e ≡ Io OutOfMemory) → out ≡ take 8 bytes
+        → IfOk r (λ v. (8 ≤ length bytes) × (v.items ≡ take 8 bytes))
+    go bytes out there (Ok v) m e = (there, m ∙ e)
+    go bytes out there (Err x) m e = tt

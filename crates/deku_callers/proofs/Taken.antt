@@ -1,4 +1,4 @@
--- What was read from any bytes is written as the bytes taken: from the laws that public calls ensure.
+-- What was read from any bytes is written as the bytes taken, by the laws of public calls.
 use Rattle.std.proofs.Common.{◌≡◌, ℕ, ◌-◌, ◌*◌, ◌<◌, ◌≤◌, ◌^◌, List, [], ◌∷◌, length, map, take, All, Result, Ok, Err, refl, ap, sym, ◌∙◌, subst, arith, zero, suc}
 use Rattle.std.proofs.lemmas.List.Elements.{All-cons, All-head, All-nil, All-tail}
 use Rattle.std.specs.Global.{Vec}

@@ -1,6 +1,6 @@
 //! An offset that is followed.
 
-ghost use Rattle.std.specs.Prelude.{◌≡◌, ◌+◌, ◌*◌, IfOk, slice_index};
+ghost use Rattle.std.specs.Prelude.{◌≡◌, ◌+◌, ◌*◌, ◌≤◌, Some, length, IfOk, slice_get, slice_index};
 
 use deku_bits::ctx::Order;
 use deku_bits::error::DekuError;
@@ -16,8 +16,8 @@ use std::io::{Cursor, Seek, SeekFrom};
 /// byte_of_record(alloc, &[0x00, 0x04, 0xAA, 0xBB, 0xCC])?    // 0xCC
 /// ```
 pub fn byte_of_record(alloc: Global, bytes: &[u8]) -> Result<u8, DekuError>
-    ensures { IfOk result (λ b. b ≡ slice_index bytes.now
-        (256 * slice_index bytes.now 0 + slice_index bytes.now 1)) }
+    ensures { IfOk result (λ b. (2 ≤ length bytes.now) × (slice_get bytes.now
+        (256 * slice_index bytes.now 0 + slice_index bytes.now 1) ≡ Some b)) }
 {
     let mut reader = Reader::new(alloc, Cursor::new(bytes));
     let mut head = [0; 2];

@@ -1,6 +1,6 @@
 //! Records, written and read back.
 
-ghost use Rattle.std.specs.Prelude.{◌≡◌, take, IfOk, MatchResult};
+ghost use Rattle.std.specs.Prelude.{◌≡◌, ◌≤◌, length, take, IfOk, MatchResult};
 ghost use Rattle.std.specs.declared.io.ErrorKind.TheVariants.{OutOfMemory};
 ghost use Rattle.deku.specs.declared.error.DekuError.TheVariants.{Io};
 
@@ -38,7 +38,7 @@ pub fn there_and_back(alloc: Global, header: Udp) -> Result<Udp, DekuError>
 /// // without the last one
 /// ```
 pub fn rewritten(alloc: Global, bytes: &[u8]) -> Result<Vec<u8>, DekuError>
-    ensures { IfOk result (λ v. v.items ≡ take 8 bytes.now) }
+    ensures { IfOk result (λ v. (8 ≤ length bytes.now) × (v.items ≡ take 8 bytes.now)) }
 {
     to_bytes_law::<Udp>();
     from_bytes_law::<Udp>();

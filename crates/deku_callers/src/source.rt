@@ -1,10 +1,11 @@
 //! What is left of a source after a record.
 
 ghost use Rattle.std.specs.Prelude.{◌≡◌, Some, drop, IfOk, IfSome};
+ghost use Rattle.deku.specs.Wholes.{Behind, ReadsOnce};
 ghost use Rattle.deku_symmetry.specs.Symmetric.{IsSymmetric};
 
 use deku::device::Source;
-use deku::prelude::{DekuContainerRead, DekuError};
+use deku::prelude::{DekuContainerRead, DekuError, DekuReader};
 use deku_symmetry::Symmetric;
 use deku_transport::udp::Udp;
 use std::alloc::Global;
@@ -18,7 +19,9 @@ use std::alloc::Global;
 /// let (bits, header) = header_of(alloc, &mut source)?; // the source is at what the header carries
 /// ```
 pub fn header_of<R: Source>(alloc: Global, source: &mut R) -> Result<(usize, Udp), DekuError>
-    ensures { IfOk result (λ p. IfSome (R.known source.old).remaining
+    ensures reads { ReadsOnce R.known (Behind 0 (⟦<Udp as DekuReader<()>>⟧.meaning tt)) source.old
+        result source.new }
+    ensures left { IfOk result (λ p. IfSome (R.known source.old).remaining
         (λ bytes. (p.0 ≡ 64) × ((R.known source.new).remaining ≡ Some (drop 8 bytes)))) }
 {
     symmetric_law::<Udp>();

@@ -43,7 +43,8 @@ field_bits f n told after s u xs ys d e read =
     takes_bits f.layout.order (field_width f) took.0 told after s u xs ys d e (Quiet took.1 m.1)
 
 -- ---- fields
--- Fields of n bits were read, where the bytes to come are known: so many bytes were fetched, fewer than eight bits are unread, or nothing was read.
+-- Fields of n bits were read, and the bytes to come are known: so many bytes were fetched, fewer
+-- than eight bits are unread, or nothing was read.
 abbrev pub Tally : ℕ → Standing (List Bool) → Option (List ℕ) → Standing (List Bool) → Option (List ℕ) → Type 0
 Tally n s None u now = ⊤
 Tally n s (Some bytes) u now = (k : ℕ) × Loses k (Some bytes) now × (length (window_of s) + 8 * k ≡ n + length (window_of u)) × ((length (window_of u) < 8) ⊎ ((n ≡ 0) × (k ≡ 0)))
@@ -52,7 +53,8 @@ pub tally_none : (s : Standing (List Bool)) (now : Option (List ℕ)) → Tally 
 tally_none s None = tt
 tally_none s (Some bytes) = (0, (omega arith, refl), omega arith, inr (refl, refl))
 
--- a read that fetches whole bytes into a window that is as it was reads nothing, or has fewer than eight bits unread
+-- a read that fetches whole bytes into a window that is as it was reads nothing, or has fewer than
+-- eight bits unread
 short_window : (w : List Bool) (m n k j : ℕ) → (length w < 8) ⊎ ((n ≡ 0) × (k ≡ 0)) → length w + 8 * j ≡ m + length w → j ≡ groups (m - length w)
     → (length w < 8) ⊎ ((n + m ≡ 0) × (k + j ≡ 0))
 short_window w m n k j (inl l) e f = inl l

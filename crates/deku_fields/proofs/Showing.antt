@@ -1,4 +1,4 @@
--- What the bytes of aligned fitting items show at each place: the law of places, from those of pieces and of numbers.
+-- What the bytes of aligned fitting items show at each place: the law of places.
 use Rattle.std.proofs.Common.{ℕ, zero, suc, ◌+◌, ◌*◌, ◌<◌, ◌≤◌, ◌≡◌, ◌⊎◌, List, [], ◌∷◌, length, map, take, get_or, All, Option, Some, None, refl, ap, sym, ◌∙◌, subst, ⊎_elim, arith}
 use Rattle.std.specs.List.{slice_get}
 use Rattle.std.specs.Option.{option_map_or}

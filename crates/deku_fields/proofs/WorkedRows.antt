@@ -1,4 +1,4 @@
--- The worked examples of lists of fields, by computation; of items that do not fit, by the law of fields.
+-- The worked examples of lists of fields, by computation or by the law of fields.
 use Rattle.std.proofs.Common.{ℕ, ◌%◌, ◌≡◌, ◌≤◌, Bool, true, List, [], ◌∷◌, length, map, ℤ, pos, refl, sym, ap, ◌∙◌, arith, inl, inr, ⊎_elim, All}
 use Rattle.std.proofs.lemmas.Int.{ints}
 use Rattle.std.proofs.lemmas.List.Elements.{All-nil, All-cons}

@@ -136,8 +136,8 @@ Stops words input e = ((e ≡ Usage) × AreNoForm words)
     ⊎ ((names : List (List ℕ)) × (words ≡ codes "write" ∷ names) × WritingStops names e)
     ⊎ ((names : List (List ℕ)) × (words ≡ codes "read" ∷ names) × ReadingStops names input e)
 
--- The output failed, and was not only interrupted: it was not given the text that the words ask for to
--- its end.
+-- The output failed, and was not only interrupted: it was not given the text that the words ask for
+-- to its end.
 abbrev pub OutputStops : List (List ℕ) → Option (List ℕ) → Option (List ℕ) → Option (List ℕ) → Failure → Type 0
 OutputStops words input before after e = (kind : ErrorKind) × (kind ≢ Interrupted) × (e ≡ Fault (Io kind)) × IsUnfinished words input before after
 

@@ -88,8 +88,8 @@ TextStops stops (Record format) input e = InputStops input e ⊎ RecordStops (st
 abbrev pub Stops : (Format → Stopping) → List (List ℕ) → Option (List ℕ) → Failure → Type 0
 Stops stops words input e = ((e ≡ Usage) × AreNoForm words) ⊎ ((asked : Asked) × AskFor words asked × TextStops stops asked input e)
 
--- The output failed, and was not only interrupted: it was not given the text that the words ask for to
--- its end.
+-- The output failed, and was not only interrupted: it was not given the text that the words ask for
+-- to its end.
 abbrev pub OutputStops : (Format → Telling) → List (List ℕ) → Option (List ℕ) → Option (List ℕ) → Option (List ℕ) → Failure → Type 0
 OutputStops tells words input before after e = (kind : ErrorKind) × (kind ≢ Interrupted) × (e ≡ Fault (Io kind)) × IsUnfinished tells words input before after
 

@@ -13,8 +13,8 @@ use deku_fields::{Field, Number};
 /// bytes reads this value if it has taken the bits before, all in `Msb0`.
 ///
 /// It returns `None` if the layout is rejected or the bytes end before the field does, and for a
-/// field in `Lsb0`, of no bits or of more than 64; also if a `usize` cannot count the bits up to the
-/// field's end. It takes no memory.
+/// field in `Lsb0`, of no bits or of more than 64; also if a `usize` cannot count the bits up to
+/// the field's end. It takes no memory.
 ///
 /// ```text
 /// value_at(&[0x69, 0xC0], 4, &twelve)                        // 0x9C0, and 16

@@ -1,4 +1,5 @@
-use Rattle.std.proofs.Common.{◌≡◌, ◌+◌, ◌*◌, ◌<◌, ℕ, List, All, Some, drop, get_or, arith, refl, ap, ap₂, ◌∙◌, rules}
+use Rattle.std.proofs.Common.{◌≡◌, ◌+◌, ◌*◌, ◌<◌, ℕ, List, All, Some, length, drop, get_or, slice_get, arith, refl, ap, ap₂, sym, ◌∙◌, rules}
+use Rattle.std.proofs.lemmas.Option.{slice_get-get_or}
 use Rattle.std.proofs.lemmas.List.Elements.{All-drop, All-from_get_or}
 use Rattle.std.specs.Io.Cursor.{cursor_position, cursor_inner}
 use Rattle.deku_bits.specs.declared.ctx.Order.TheVariants.{Msb0}
@@ -30,4 +31,6 @@ returns c =
     let high : get_or head 0 0 ≡ get_or all 0 0 = got_front 2 0 head all (omega arith) one.0.0 one.0.1 in
     let low : get_or head 1 0 ≡ get_or all 1 0 = got_front 2 1 head all (omega arith) one.0.0 one.0.1 in
     let place : n ≡ 256 * get_or all 0 0 + get_or all 1 0 = at ∙ ap₂ (λ x y. 256 * x + y) high low in
-    got_at n byte all two.0.0 two.0.1 ∙ ap (λ k. get_or all k 0) place
+    let found : get_or byte 0 0 ≡ get_or all n 0 = got_at n byte all two.0.0 two.0.1 in
+    let there : n < length all = omega (arith, two.0.0) in
+    (one.0.0, ap (λ k. slice_get all k) (sym place) ∙ slice_get-get_or all n 0 there ∙ ap Some (sym found))

@@ -1,4 +1,4 @@
--- What is left of a number is the number, or what it is modulo two to the width, with the sign of its kind.
+-- What is left of a number is the number, or what it is modulo two to the width, with its sign.
 use Rattle.std.proofs.Common.{◌≡◌, true, false, ap, ◌∙◌, arith, rules}
 use mir.Syntax.{w128}
 use mir.Val.{SFits}

@@ -1,4 +1,4 @@
--- The width is that of the field, whose bits are within the bytes of all fields; each of them is put where it is printed.
+-- The width is that of the field, whose bits are within the bytes of all fields.
 use Rattle.std.proofs.Common.{◌+◌, sym, ◌∙◌, arith}
 use Rattle.std.proofs.lemmas.List.Elements.{All-get_or}
 use Rattle.deku_fields.specs.Items.{IsAllowedField}
