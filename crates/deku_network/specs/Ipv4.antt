@@ -30,9 +30,9 @@ abbrev pub StaysFor : List ℕ → Ipv4 → Result (Unit {0}) DekuError → Ipv4
 StaysFor cause h r g = ((e : DekuError) × (r ≡ Err e) × Tells Parse cause e) × (g ≡ h)
 
 -- A header gets its two lengths, if its options are whole words, its total counts the header, and
--- the new total fits 16 bits.
+-- the new total fits 16 bits. Otherwise it fails for the first of these that does not hold.
 abbrev pub Updates : Ipv4 → Result (Unit {0}) DekuError → Ipv4 → Type 0
 Updates h r g = (HasWholeWords h × CountsItself h × (next_total h < 2 ^ 16) × (r ≡ Ok tt) × (g ≡ counted h))
     ⊎ ((HasWholeWords h → ⊥) × StaysFor (codes "options of no whole words") h r g)
-    ⊎ ((CountsItself h → ⊥) × StaysFor (codes "total below header") h r g)
-    ⊎ ((2 ^ 16 ≤ next_total h) × StaysFor (codes "packet too long") h r g)
+    ⊎ (HasWholeWords h × (CountsItself h → ⊥) × StaysFor (codes "total below header") h r g)
+    ⊎ (HasWholeWords h × CountsItself h × (2 ^ 16 ≤ next_total h) × StaysFor (codes "packet too long") h r g)

@@ -8,7 +8,7 @@ use deku::prelude::{DekuError, DekuUpdate};
 /// Sets the length of the header to that of its options, and the total length to match. The payload
 /// after the header keeps its length.
 ///
-/// It fails, and nothing changes,
+/// It fails for the first of these causes, and nothing changes,
 ///
 /// - with `Parse("options of no whole words")` if the options are not at most ten words of four
 ///   bytes;
