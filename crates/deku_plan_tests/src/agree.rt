@@ -1,5 +1,7 @@
 //! Plans do what lists do, for each kind under many layouts.
 
+ghost use Rattle.std.specs.Prelude.{◌≡◌, length};
+
 use deku::ctx::{Endian, Layout, Order, Size};
 use deku::error::DekuError;
 use deku_fields::{Field, Item, Kind, Number, read_list_into, write_list};
@@ -58,7 +60,7 @@ type Values = Result<[Number; 3], DekuError>;
 
 const NONE_YET: [Number; 3] = [Number::Unsigned(7); 3];
 
-// Why a call of a plan failed that was not made, since the plan has not the three fields.
+// Why no call of a plan is made that has not the three fields.
 const NO_PLAN: DekuError = DekuError::Assertion("no plan of three fields");
 
 // The values that a call left, unless it failed.
@@ -86,10 +88,9 @@ fn read_listed(alloc: Global, fields: &[Field; 3], bytes: &[u8]) -> (Values, usi
 }
 
 // What a plan reads, and how many bits of the bytes.
-fn read_planned(alloc: Global, plan: &Plan, bytes: &[u8]) -> (Values, usize) {
-    if plan.fields().len() != 3 {
-        return (Err(NO_PLAN), 0);
-    }
+fn read_planned(alloc: Global, plan: &Plan, bytes: &[u8]) -> (Values, usize)
+    requires { length plan.now ≡ 3 }
+{
     let mut values = NONE_YET;
     let mut reader = reader_of(alloc, bytes);
     let answer = plan.read(&mut reader, &mut values);
@@ -97,10 +98,9 @@ fn read_planned(alloc: Global, plan: &Plan, bytes: &[u8]) -> (Values, usize) {
 }
 
 // What a plan reads of one record.
-fn read_sliced(alloc: Global, plan: &Plan, bytes: &[u8]) -> Values {
-    if plan.fields().len() != 3 {
-        return Err(NO_PLAN);
-    }
+fn read_sliced(alloc: Global, plan: &Plan, bytes: &[u8]) -> Values
+    requires { length plan.now ≡ 3 }
+{
     let mut values = NONE_YET;
     let answer = plan.read_all(alloc, bytes, 1, &mut values);
     unless_failed(answer, values)
@@ -113,10 +113,9 @@ fn expect_column(
     fields: &[Field; 3],
     bytes: &[u8],
     wanted: Values,
-) -> Result<(), Fail> {
-    if plan.fields().len() != 3 {
-        return Err(Fail::from(NO_PLAN));
-    }
+) -> Result<(), Fail>
+    requires { length plan.now ≡ 3 }
+{
     let mut column = [NONE_YET[1]];
     let answer = plan.read_column(alloc, bytes, 1, &mut column);
     match (unless_refused(answer)?, wanted) {
@@ -133,6 +132,9 @@ fn expect_agreement(alloc: Global, fields: &[Field; 3], bytes: &[u8]) -> Result<
         Err(error) if error == NO_MEMORY => return Err(Fail::from(error)),
         Err(_) => return Ok(()),
     };
+    if plan.fields().len() != 3 {
+        return Err(Fail::from(NO_PLAN));
+    }
     let (wanted, bits) = read_listed(alloc, fields, bytes);
     same(fields, &read_planned(alloc, &plan, bytes), &(wanted, bits))?;
     same(fields, &read_sliced(alloc, &plan, bytes), &wanted)?;
@@ -149,7 +151,9 @@ fn expect_written(
     plan: &Plan,
     fields: &[Field; 3],
     values: &[Number; 3],
-) -> Result<(), Fail> {
+) -> Result<(), Fail>
+    requires { length plan.now ≡ 3 }
+{
     let [a, b, c] = *fields;
     let [x, y, z] = *values;
     let items = [
@@ -173,10 +177,9 @@ fn expect_planned(
     values: &[Number; 3],
     wanted: (Result<(), DekuError>, usize),
     bytes: &[u8],
-) -> Result<(), Fail> {
-    if plan.fields().len() != 3 {
-        return Err(Fail::from(NO_PLAN));
-    }
+) -> Result<(), Fail>
+    requires { length plan.now ≡ 3 }
+{
     let mut writer = writer_in(alloc);
     let answer = unless_refused(plan.write(&mut writer, values))?;
     same(fields, &(answer, writer.bits_written()), &wanted)?;
