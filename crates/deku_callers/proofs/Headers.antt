@@ -1,5 +1,5 @@
 -- The pieces of headers, and what the laws of symmetric types say of them.
-use Rattle.std.proofs.Common.{◌≡◌, ℕ, ◌+◌, ◌*◌, ◌/◌, ◌<◌, ◌≤◌, ◌^◌, List, [], length, map, take, All, Option, Result, Ok, Err, MatchResult, IfOk, ap, sym, ◌∙◌, arith, append-nil}
+use Rattle.std.proofs.Common.{◌≡◌, ℕ, ◌+◌, ◌*◌, ◌/◌, ◌<◌, ◌≤◌, ◌^◌, List, [], length, length-take, map, take, All, Option, Result, Ok, Err, MatchResult, IfOk, ap, sym, ◌∙◌, arith, append-nil}
 use Rattle.std.specs.Borrow.{Bor}
 use Rattle.std.specs.Global.{Vec}
 use Rattle.std.specs.declared.io.ErrorKind.TheVariants.{OutOfMemory}
@@ -92,7 +92,7 @@ udp_rewritten to found whole long bytes all p w r written =
     let laid : laid_out was.taken ≡ take 8 bytes = whole was.taken bytes was.rest 8 (in_step l) all was.takes (omega (arith, wide)) in
     let eight : length (laid_out was.taken) ≡ 8 = long was.taken (in_step l) ∙ ap (λ n. (n + 7) / 8) wide in
     let front : length (take 8 bytes) ≡ 8 = ap length (sym laid) ∙ eight in
-    go _ _ (omega (arith, front)) r (to p.1 r written was.taken was.has (in_step l) (few long was.taken 64 (in_step l) l.wide (omega arith))) laid
+    go _ _ (omega (arith, front, length-take 8 bytes)) r (to p.1 r written was.taken was.has (in_step l) (few long was.taken 64 (in_step l) l.wide (omega arith))) laid
   where
     go : (bytes out : List ℕ) → 8 ≤ length bytes → (r : Result (Vec ℕ) DekuError) → MatchResult r (λ v. v.items ≡ out) (λ e. e ≡ Io OutOfMemory) → out ≡ take 8 bytes
         → IfOk r (λ v. (8 ≤ length bytes) × (v.items ≡ take 8 bytes))

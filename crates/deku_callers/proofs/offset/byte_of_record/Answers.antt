@@ -1,4 +1,4 @@
-use Rattle.std.proofs.Common.{◌≡◌, ◌+◌, ◌*◌, ◌<◌, ℕ, List, All, Some, length, drop, get_or, slice_get, arith, refl, ap, ap₂, sym, ◌∙◌, rules}
+use Rattle.std.proofs.Common.{◌≡◌, ◌+◌, ◌*◌, ◌<◌, ℕ, List, All, Some, length, length-drop, drop, get_or, slice_get, arith, refl, ap, ap₂, sym, ◌∙◌, rules}
 use Rattle.std.proofs.lemmas.Option.{slice_get-get_or}
 use Rattle.std.proofs.lemmas.List.Elements.{All-drop, All-from_get_or}
 use Rattle.std.specs.Io.Cursor.{cursor_position, cursor_inner}
@@ -32,5 +32,5 @@ returns c =
     let low : get_or head 1 0 ≡ get_or all 1 0 = got_front 2 1 head all (omega arith) one.0.0 one.0.1 in
     let place : n ≡ 256 * get_or all 0 0 + get_or all 1 0 = at ∙ ap₂ (λ x y. 256 * x + y) high low in
     let found : get_or byte 0 0 ≡ get_or all n 0 = got_at n byte all two.0.0 two.0.1 in
-    let there : n < length all = omega (arith, two.0.0) in
+    let there : n < length all = omega (arith, two.0.0, length-drop n all) in
     (one.0.0, ap (λ k. slice_get all k) (sym place) ∙ slice_get-get_or all n 0 there ∙ ap Some (sym found))
