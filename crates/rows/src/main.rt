@@ -1,11 +1,11 @@
 //! Prints consecutive records, one per line, by words that name their fields.
 #![tactic(auto)]
 
-use clap::{Arg, ArgAction, ArgMatches, Command, Error};
+use clap::{Arg, ArgAction, ArgMatches, Command};
 use deku_program::{give_parts, tell_fault};
 use deku_progress::Progress;
 use deku_rows::{Columns, Form, NoColumns, print_rows, tell};
-use std::alloc::Global;
+use std::alloc::{AllocError, Global};
 use std::fs::File;
 use std::io::{IsTerminal, Read};
 use std::process::ExitCode;
@@ -30,25 +30,34 @@ fn main(rt: HostRuntime) -> io::Result<ExitCode> {
     }
 }
 
-fn command<'a>(alloc: Global) -> Result<Command<'a>, Error> {
-    let json = Arg::new(alloc, "json")
-        .long("json")
-        .action(ArgAction::SetTrue)
-        .help("Prints JSON objects instead of CSV");
-    let raw = Arg::new(alloc, "raw")
-        .long("raw")
-        .action(ArgAction::SetTrue)
-        .help("Reads bytes, not hexadecimal text");
+fn command<'a>(alloc: Global) -> Result<Command<'a>, AllocError> {
+    let command = Command::new(alloc, "rows").about(ABOUT);
+    let command = flag(alloc, command, "json", "Prints JSON objects instead of CSV")?;
+    let command = flag(alloc, command, "raw", "Reads bytes, not hexadecimal text")?;
     let from = Arg::new(alloc, "from")
         .long("from")
         .value_name("FILE")
         .action(ArgAction::Set)
         .help("Reads this file instead of standard input");
+    let command = command.arg(from)?;
     let specs = Arg::new(alloc, "SPEC").required(true).num_args(1..).help(
         "The fields of a record in order, each as SPEC or NAME:SPEC",
     );
-    let command = Command::new(alloc, "rows").about(ABOUT);
-    Ok(command.arg(json)?.arg(raw)?.arg(from)?.arg(specs)?)
+    command.arg(specs)
+}
+
+// Adds an option without a value.
+fn flag<'a>(
+    alloc: Global,
+    command: Command<'a>,
+    name: &'a str,
+    help: &'a str,
+) -> Result<Command<'a>, AllocError> {
+    let option = Arg::new(alloc, name)
+        .long(name)
+        .action(ArgAction::SetTrue)
+        .help(help);
+    command.arg(option)
 }
 
 // Prints what the words ask for. Returns the status.
