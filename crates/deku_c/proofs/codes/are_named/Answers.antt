@@ -13,9 +13,10 @@ loop-code-preserved c =
     let i = c.loop-code.code-index in
     let more = take_more codes i _ (omega arith) in
     let both = c.with_greater-greatest.ensures in
-    let before = c.loop-code.invariant in
-    (λ h. subst (λ x. All IsNamed x) (sym more) (All-push IsNamed (take i codes) _ (before.0 (both.0 h).0) (both.0 h).1),
-     λ h. let all = All-pop IsNamed (take (i + 1) codes) (take i codes) (Some _) more h in both.1 (before.1 all.0, all.1))
+    let before = c.loop-code.invariant in (
+      λ h. subst (λ x. All IsNamed x) (sym more) (All-push IsNamed (take i codes) _ (before.0 (both.0 h).0) (both.0 h).1),
+      λ h. let all = All-pop IsNamed (take (i + 1) codes) (take i codes) (Some _) more h in both.1 (before.1 all.0, all.1),
+    )
 
 pub returns : goal.returns
 returns c =
