@@ -17,8 +17,8 @@
 //! # Ok::<(), dishkaru::Error>(())
 //! ```
 //!
-//! The functions that it calls are proved; this crate is a thin layer over them, and tested. It links `libdishkaru.a`,
-//! which `make` in `bindings/c` builds.
+//! The functions that it calls are proved; this crate is a thin layer over them, and tested. It
+//! links `libdishkaru.a`, which `make` in `bindings/c` builds.
 
 use std::fmt;
 
@@ -52,7 +52,8 @@ pub struct Field {
 }
 
 impl Field {
-    /// A field of all bits of its kind, with its low byte first, that takes the high bits of a byte first.
+    /// A field of all bits of its kind, with its low byte first, that takes the high bits of a byte
+    /// first.
     pub const fn new(kind: Kind) -> Field {
         Field {
             kind: kind as u8,
@@ -75,12 +76,20 @@ impl Field {
 
     /// The same with this many bits.
     pub const fn bits(self, size: u32) -> Field {
-        Field { unit: 1, size, ..self }
+        Field {
+            unit: 1,
+            size,
+            ..self
+        }
     }
 
     /// The same with this many bytes. A `U8` always has one.
     pub const fn bytes(self, size: u32) -> Field {
-        Field { unit: 2, size, ..self }
+        Field {
+            unit: 2,
+            size,
+            ..self
+        }
     }
 }
 
@@ -141,7 +150,9 @@ impl fmt::Display for Error {
             Error::Miscounted => f.write_str("there are not as many values as fields"),
             Error::Incomplete => f.write_str("not enough data"),
             Error::Parse => f.write_str("the size of a field is beyond its kind"),
-            Error::InvalidParam => f.write_str("a value does not fit its field, or the layout of a field is rejected"),
+            Error::InvalidParam => {
+                f.write_str("a value does not fit its field, or the layout of a field is rejected")
+            }
             Error::Io => f.write_str("not enough room"),
             Error::Unknown(status) => write!(f, "unknown status {status}"),
         }
@@ -189,8 +200,8 @@ extern "C" {
 
 /// How many bits the fields take.
 ///
-/// Fails with `InvalidParam` if a layout is rejected: a size beyond the kind, or a signed field, big and lsb, of more
-/// than eight bits that are not whole bytes.
+/// Fails with `InvalidParam` if a layout is rejected: a size beyond the kind, or a signed field,
+/// big and lsb, of more than eight bits that are not whole bytes.
 pub fn bits(fields: &[Field]) -> Result<u64, Error> {
     let mut bits = 0;
     // SAFETY: the slice is valid for its length, and `bits` is a place of its own.
@@ -198,16 +209,17 @@ pub fn bits(fields: &[Field]) -> Result<u64, Error> {
     Ok(bits)
 }
 
-/// Reads one value for each field into `values`, from the first bit on, and returns how many bits they took. What
-/// follows the last field is ignored. It takes no memory.
+/// Reads one value for each field into `values`, from the first bit on, and returns how many bits
+/// they took. What follows the last field is ignored. It takes no memory.
 ///
-/// Fails with `Miscounted` if there are not as many values as fields; then nothing changes. Fails as the first field
-/// that fails, with `Parse` if its size is beyond its kind, with `InvalidParam` if its layout is rejected otherwise,
-/// and with `Incomplete` if the bytes end before it does; then the values are unspecified.
+/// Fails with `Miscounted` if there are not as many values as fields; then nothing changes. Fails
+/// as the first field that fails, with `Parse` if its size is beyond its kind, with `InvalidParam`
+/// if its layout is rejected otherwise, and with `Incomplete` if the bytes end before it does; then
+/// the values are unspecified.
 pub fn read_into(fields: &[Field], bytes: &[u8], values: &mut [Value]) -> Result<u64, Error> {
     let mut bits = 0;
-    // SAFETY: the slices are valid for their lengths, `values` overlaps none of the others, and `bits` is a place of
-    // its own.
+    // SAFETY: the slices are valid for their lengths, `values` overlaps none of the others, and
+    // `bits` is a place of its own.
     let status = unsafe {
         dishkaru_read(
             fields.as_ptr(),
@@ -223,16 +235,16 @@ pub fn read_into(fields: &[Field], bytes: &[u8], values: &mut [Value]) -> Result
     Ok(bits)
 }
 
-/// Writes one value for each field to the start of `bytes`, fills the last byte with zero bits, and returns how many
-/// bytes these are. The bytes after them stay as they were. It takes no memory.
+/// Writes one value for each field to the start of `bytes`, fills the last byte with zero bits, and
+/// returns how many bytes these are. The bytes after them stay as they were. It takes no memory.
 ///
-/// Fails with `Miscounted` if there are not as many values as fields; then nothing changes. Fails as the first value
-/// that fails, with `InvalidParam` if it does not fit its field or the layout is rejected, or with `Io` if there are
-/// too few bytes; then some bytes may have been written.
+/// Fails with `Miscounted` if there are not as many values as fields; then nothing changes. Fails
+/// as the first value that fails, with `InvalidParam` if it does not fit its field or the layout is
+/// rejected, or with `Io` if there are too few bytes; then some bytes may have been written.
 pub fn write_into(fields: &[Field], values: &[Value], bytes: &mut [u8]) -> Result<usize, Error> {
     let mut written = 0;
-    // SAFETY: the slices are valid for their lengths, `bytes` overlaps none of the others, and `written` is a place of
-    // its own.
+    // SAFETY: the slices are valid for their lengths, `bytes` overlaps none of the others, and
+    // `written` is a place of its own.
     let status = unsafe {
         dishkaru_write(
             fields.as_ptr(),

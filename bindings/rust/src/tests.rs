@@ -14,13 +14,24 @@ fn rows() {
         ),
         (&[Field::new(Kind::U16)], &[1u8.into()], &[1, 0]),
         (&[Field::new(Kind::I8)], &[(-1i8).into()], &[0xFF]),
-        (&[Field::new(Kind::I16).big().bits(12)], &[(-2i16).into()], &[0xFF, 0xE0]),
         (
-            &[Field::new(Kind::U8).lsb().bits(4), Field::new(Kind::U8).lsb().bits(4)],
+            &[Field::new(Kind::I16).big().bits(12)],
+            &[(-2i16).into()],
+            &[0xFF, 0xE0],
+        ),
+        (
+            &[
+                Field::new(Kind::U8).lsb().bits(4),
+                Field::new(Kind::U8).lsb().bits(4),
+            ],
             &[6u8.into(), 9u8.into()],
             &[0x96],
         ),
-        (&[Field::new(Kind::U32).big().bytes(3)], &[0x010203u32.into()], &[1, 2, 3]),
+        (
+            &[Field::new(Kind::U32).big().bytes(3)],
+            &[0x010203u32.into()],
+            &[1, 2, 3],
+        ),
         (&[Field::new(Kind::U128)], &[u128::MAX.into()], &[0xFF; 16]),
         (
             &[Field::new(Kind::I128)],
@@ -43,14 +54,23 @@ fn refusals() {
     let uneven = Field::new(Kind::I16).big().lsb().bits(9);
     let one = Value::from(1u8);
     assert_eq!(write(&[FOUR], &[16u8.into()]), Err(Error::InvalidParam));
-    assert_eq!(write(&[Field::new(Kind::U8)], &[(-1i8).into()]), Err(Error::InvalidParam));
+    assert_eq!(
+        write(&[Field::new(Kind::U8)], &[(-1i8).into()]),
+        Err(Error::InvalidParam)
+    );
     assert_eq!(write(&[nine], &[one]), Err(Error::InvalidParam));
     assert_eq!(write(&[FOUR], &[]), Err(Error::Miscounted));
     assert_eq!(read(&[FOUR], &[]), Err(Error::Incomplete));
     assert_eq!(read(&[nine], &[1, 2]), Err(Error::Parse));
     assert_eq!(read(&[uneven], &[1, 2]), Err(Error::InvalidParam));
-    assert_eq!(read_into(&[FOUR], &[1], &mut [one, one]), Err(Error::Miscounted));
-    assert_eq!(write_into(&[Field::new(Kind::U16)], &[one], &mut [0]), Err(Error::Io));
+    assert_eq!(
+        read_into(&[FOUR], &[1], &mut [one, one]),
+        Err(Error::Miscounted)
+    );
+    assert_eq!(
+        write_into(&[Field::new(Kind::U16)], &[one], &mut [0]),
+        Err(Error::Io)
+    );
     assert_eq!(bits(&[nine]), Err(Error::InvalidParam));
 }
 
@@ -69,7 +89,10 @@ fn all_values_of_small_fields() {
             let bytes = write(&fields, &[value.into()]).unwrap();
             let wanted = if size == 0 { 0 } else { value << (8 - size) };
             assert_eq!(bytes.first().copied().unwrap_or(0) as u32, wanted);
-            assert_eq!(read(&fields, &bytes).unwrap().0[0].unsigned(), value as u128);
+            assert_eq!(
+                read(&fields, &bytes).unwrap().0[0].unsigned(),
+                value as u128
+            );
 
             let signed = [Field::new(Kind::I8).big().bits(size)];
             let half = if size == 0 { 0 } else { 1i64 << (size - 1) };
