@@ -1,4 +1,4 @@
-use Rattle.std.proofs.Common.{◌≡◌, inr, subst}
+use Rattle.std.proofs.Common.{◌≡◌, inr, subst, rules}
 use Rattle.deku_packets.specs.Back.{between, IsFirstDifference}
 use Rattle.deku_packets.proofs.check.layer_change.Goals as goal
 
@@ -11,4 +11,4 @@ pub returns-clause-changed : goal.returns-clause-changed
 returns-clause-changed c =
     let lain = subst (λ x. IsFirstDifference x c.as_slice.result.now c.in-Some.index) c.between-read.ensures c.in-Some.ensures in
     let differs = subst (λ x. IsFirstDifference (between c.args.bytes.now c.args.placed.now.start c.args.placed.now.end) x c.in-Some.index) c.as_slice.ensures.value lain in
-    record { written = c.in-Ok.written; is = c.in-Ok.ensures; offset = c.in-Some.index; differs = differs; at = c.saturating_add.ensures }
+    record { record_there = search rules; written = c.in-Ok.written; is = c.in-Ok.ensures; offset = c.in-Some.index; differs = differs; at = c.saturating_add.ensures }
