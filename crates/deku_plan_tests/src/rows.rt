@@ -147,7 +147,7 @@ fn print_with_progress(
 
 #[test]
 fn shows_progress(rt: HostRuntime) -> Result<(), Fail> {
-    let rows: [(u64, &str); 3] = [(800, "\r1%"), (160, "\r14%"), (4000, "")];
+    let rows: [(u64, &str); 3] = [(800, "\r1%"), (160, "\r8%"), (4000, "")];
     for (size, wanted) in rows {
         let mut output: Vec<u8> = Vec::new(rt.alloc());
         let mut errors: Vec<u8> = Vec::new(rt.alloc());
