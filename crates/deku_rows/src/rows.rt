@@ -94,19 +94,7 @@ pub fn print_rows<R: Read, W: Write>(
 ) -> Result<u128, Failure> {
     let mut feed = Feed::new(alloc, form.raw)?;
     let mut printer = Printer::new(alloc, columns, form.json)?;
-    printer.print_names(output)?;
-    for _ in 0..u64::MAX {
-        if !feed.fill(input)? {
-            break;
-        }
-        let bytes = feed.bytes();
-        let group = columns.plan().bits();
-        let whole = bytes.len() / group.max(1) * group;
-        printer.print_groups(&bytes[..whole.min(bytes.len())], output)?;
-        feed.take(whole);
-    }
-    printer.print_last(feed.bytes(), output)?;
-    Ok(printer.printed)
+    printer.print_all(&mut feed, input, output)
 }
 
 // What prints records.
@@ -137,6 +125,28 @@ impl<'c> Printer<'c> {
             values: vec![in alloc; Number::Unsigned(0); count]?,
             text: String::new(alloc),
         })
+    }
+
+    // Prints the names and the records until the input ends. Returns how many records.
+    fn print_all<R: Read, W: Write>(
+        &mut self,
+        feed: &mut Feed,
+        input: &mut R,
+        output: &mut W,
+    ) -> Result<u128, Failure> {
+        self.print_names(output)?;
+        let group = self.columns.plan().bits();
+        for _ in 0..u64::MAX {
+            if !feed.fill(input)? {
+                break;
+            }
+            let bytes = feed.bytes();
+            let whole = bytes.len() / group.max(1) * group;
+            self.print_groups(&bytes[..whole.min(bytes.len())], output)?;
+            feed.take(whole);
+        }
+        self.print_last(feed.bytes(), output)?;
+        Ok(self.printed)
     }
 
     // Prints the names, if the lines are CSV.
