@@ -1,2 +1,3 @@
 pub mod Back
+pub mod Names
 pub mod Reading

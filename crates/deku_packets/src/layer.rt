@@ -80,7 +80,7 @@ impl Fields {
     /// ```text
     /// UDP.name_at(16)                                               // "destination"
     /// ```
-    pub fn name_at(&self, bit: usize) -> &'static str {
+    pub(crate) fn name_at(&self, bit: usize) -> &'static str {
         let mut left = bit;
         for (name, bits) in self.places {
             if left < *bits {
@@ -96,7 +96,7 @@ impl Fields {
     /// ```text
     /// UDP.bit_of_counting()                                         // Some(32)
     /// ```
-    pub fn bit_of_counting(&self) -> Option<usize> {
+    pub(crate) fn bit_of_counting(&self) -> Option<usize> {
         let mut before = 0usize;
         for (name, bits) in self.places {
             if *name == self.counting {

@@ -1,6 +1,7 @@
 //! The layers that programs send to each other.
 
-ghost use Rattle.std.specs.Prelude.{◌≡◌};
+ghost use Rattle.std.specs.Prelude.{◌≡◌, ◌-◌, ◌^◌, min};
+ghost use Rattle.deku_packets.specs.Names.{size_of};
 
 use crate::check::between;
 use crate::fields::{AUTHORITY, DNS, MAIL_SERVER, NTP, QUESTION, RESOURCE, RTP, TARGET, TEXT, TLS};
@@ -198,7 +199,9 @@ impl<'a> Walk<'a> {
 }
 
 /// The bytes of a name as a message has it.
-pub fn size_of_name(name: &Name) -> usize {
+pub fn size_of_name(name: &Name) -> usize
+    ensures { result ≡ min (size_of name.now.items.items) (2 ^ 64 - 1) }
+{
     let mut size = 0usize;
     for label in &name.items {
         size = size.saturating_add(label.bytes.len().saturating_add(1));

@@ -1,10 +1,21 @@
 //! Names of the domain name system, through their pointers.
 
+ghost use Rattle.std.specs.Prelude.{◌≡◌, ℕ, ◌+◌, ◌-◌, ◌*◌, ◌<◌, ◌≤◌, length, IfOk, IfErr, IfSome, IsNone, Some, slice_get};
+ghost use Rattle.deku_packets.specs.Names.{Follows, IsStep, IsWrong};
+
 use std::fmt;
 use std::fmt::{Display, Formatter, Write};
 
 // The most labels and pointers of a name: its text has at most 255 bytes.
 const MOST_STEPS: usize = 256;
+
+const PAST: &str = "name past the message";
+
+const RESERVED: &str = "reserved kind of label";
+
+const ONWARD: &str = "pointer that does not lead back";
+
+const TOO_LONG: &str = "name too long";
 
 // What is at a place of a message that is part of a name.
 #[derive(Clone, Copy)]
@@ -28,39 +39,52 @@ pub struct Astray {
 
 // The step at this place of a message. A pointer has to lead to a place before `start`, where the
 // steps began that led here without a pointer.
-fn next_step(message: &[u8], at: usize, start: usize) -> Result<Step<'_>, Astray> {
-    match message.get(at..) {
-        Some([0, ..]) => Ok(Step::End),
-        Some([high @ 192.., low, ..]) => {
-            let to = (*high as usize - 192) * 256 + *low as usize;
-            if to < start {
-                Ok(Step::Pointer(to))
-            } else {
-                let why = "pointer that does not lead back";
-                Err(Astray { at, why })
-            }
-        }
-        Some([length @ 1..=63, rest @ ..]) => {
-            let length = *length as usize;
-            match rest.get(..length) {
-                Some(label) => Ok(Step::Label(label, at.saturating_add(length + 1))),
-                None => Err(past(at)),
-            }
-        }
-        Some([64..=191, ..]) => {
-            let why = "reserved kind of label";
-            Err(Astray { at, why })
-        }
-        _ => Err(past(at)),
+fn next_step(message: &[u8], at: usize, start: usize) -> Result<Step<'_>, Astray>
+    ensures step { IfOk result (λ s. IsStep message.now start at s) }
+    ensures wrong { IfErr result (λ e. IsWrong message.now start at e) }
+{
+    let Some(first) = message.get(at) else {
+        return Err(Astray { at, why: PAST });
+    };
+    match *first {
+        0 => Ok(Step::End),
+        1..=63 => match label_at(message, at, *first as usize) {
+            Some((label, next)) => Ok(Step::Label(label, next)),
+            None => Err(Astray { at, why: PAST }),
+        },
+        64..=191 => Err(Astray { at, why: RESERVED }),
+        192.. => match place_at(message, at, *first as usize) {
+            Some(to) if to < start => Ok(Step::Pointer(to)),
+            Some(_) => Err(Astray { at, why: ONWARD }),
+            None => Err(Astray { at, why: PAST }),
+        },
     }
 }
 
-// The name does not end in the message.
-fn past(at: usize) -> Astray {
-    Astray {
-        at,
-        why: "name past the message",
+// The label of this many bytes at this place, and where the next step is.
+fn label_at(message: &[u8], at: usize, count: usize) -> Option<(&[u8], usize)>
+    requires { count < 64 }
+    ensures next { IfSome result (λ r. r.1 ≡ at + count + 1) }
+    ensures there { IfSome result (λ r. at + count < length message.now) }
+    ensures none { IsNone result → length message.now ≤ at + count }
+{
+    let next = at.saturating_add(count + 1);
+    if next > message.len() {
+        return None;
     }
+    Some((&message[at + 1..next], next))
+}
+
+// Where the pointer at this place leads, which begins with this byte.
+fn place_at(message: &[u8], at: usize, high: usize) -> Option<usize>
+    requires byte { high < 256 }
+    requires marked { 192 ≤ high }
+    ensures there { IfSome result (λ to. (low : ℕ) × (slice_get message.now (at + 1) ≡ Some low)
+        × (to ≡ (high - 192) * 256 + low)) }
+    ensures none { IsNone result → length message.now ≤ at + 1 }
+{
+    let low = message.get(at.saturating_add(1))?;
+    Some((high - 192) * 256 + *low as usize)
 }
 
 /// Follows the name at this place of a message to its end. It fails where the name leaves the
@@ -70,7 +94,9 @@ fn past(at: usize) -> Astray {
 /// ```text
 /// follow(message, 12)                        // fails at 12 if a pointer to 12 is there: C0 0C
 /// ```
-pub fn follow(message: &[u8], at: usize) -> Result<(), Astray> {
+pub fn follow(message: &[u8], at: usize) -> Result<(), Astray>
+    ensures { Follows message.now at at 256 result }
+{
     let (mut at, mut start) = (at, at);
     for _ in 0..MOST_STEPS {
         match next_step(message, at, start)? {
@@ -79,8 +105,7 @@ pub fn follow(message: &[u8], at: usize) -> Result<(), Astray> {
             Step::End => return Ok(()),
         }
     }
-    let why = "name too long";
-    Err(Astray { at, why })
+    Err(Astray { at, why: TOO_LONG })
 }
 
 /// A name of a message as text: its labels, each with a point after it. Bytes that are no letters,
