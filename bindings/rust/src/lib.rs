@@ -54,6 +54,7 @@ pub struct Field {
 impl Field {
     /// A field of all bits of its kind, with its low byte first, that takes the high bits of a byte
     /// first.
+    #[inline]
     pub const fn new(kind: Kind) -> Field {
         Field {
             kind: kind as u8,
@@ -65,16 +66,19 @@ impl Field {
     }
 
     /// The same with its high byte first.
+    #[inline]
     pub const fn big(self) -> Field {
         Field { endian: 1, ..self }
     }
 
     /// The same, taking the low bits of a byte first.
+    #[inline]
     pub const fn lsb(self) -> Field {
         Field { order: 1, ..self }
     }
 
     /// The same with this many bits.
+    #[inline]
     pub const fn bits(self, size: u32) -> Field {
         Field {
             unit: 1,
@@ -84,6 +88,7 @@ impl Field {
     }
 
     /// The same with this many bytes. A `U8` always has one.
+    #[inline]
     pub const fn bytes(self, size: u32) -> Field {
         Field {
             unit: 2,
@@ -103,11 +108,13 @@ pub struct Value {
 
 impl Value {
     /// The value of an unsigned kind.
+    #[inline]
     pub const fn unsigned(self) -> u128 {
         (self.high as u128) << 64 | self.low as u128
     }
 
     /// The value of a signed kind.
+    #[inline]
     pub const fn signed(self) -> i128 {
         self.unsigned() as i128
     }
@@ -116,6 +123,7 @@ impl Value {
 macro_rules! from {
     ($wide:ty: $($narrow:ty),*) => {
         $(impl From<$narrow> for Value {
+            #[inline]
             fn from(value: $narrow) -> Value {
                 let bits = value as $wide as u128;
                 Value { low: bits as u64, high: (bits >> 64) as u64 }
@@ -162,6 +170,7 @@ impl fmt::Display for Error {
 impl std::error::Error for Error {}
 
 // What a status means.
+#[inline]
 fn checked(status: u32) -> Result<(), Error> {
     match status {
         0 => Ok(()),
@@ -202,6 +211,7 @@ extern "C" {
 ///
 /// Fails with `InvalidParam` if a layout is rejected: a size beyond the kind, or a signed field,
 /// big and lsb, of more than eight bits that are not whole bytes.
+#[inline]
 pub fn bits(fields: &[Field]) -> Result<u64, Error> {
     let mut bits = 0;
     // SAFETY: the slice is valid for its length, and `bits` is a place of its own.
@@ -216,6 +226,7 @@ pub fn bits(fields: &[Field]) -> Result<u64, Error> {
 /// as the first field that fails, with `Parse` if its size is beyond its kind, with `InvalidParam`
 /// if its layout is rejected otherwise, and with `Incomplete` if the bytes end before it does; then
 /// the values are unspecified.
+#[inline]
 pub fn read_into(fields: &[Field], bytes: &[u8], values: &mut [Value]) -> Result<u64, Error> {
     let mut bits = 0;
     // SAFETY: the slices are valid for their lengths, `values` overlaps none of the others, and
@@ -241,6 +252,7 @@ pub fn read_into(fields: &[Field], bytes: &[u8], values: &mut [Value]) -> Result
 /// Fails with `Miscounted` if there are not as many values as fields; then nothing changes. Fails
 /// as the first value that fails, with `InvalidParam` if it does not fit its field or the layout is
 /// rejected, or with `Io` if there are too few bytes; then some bytes may have been written.
+#[inline]
 pub fn write_into(fields: &[Field], values: &[Value], bytes: &mut [u8]) -> Result<usize, Error> {
     let mut written = 0;
     // SAFETY: the slices are valid for their lengths, `bytes` overlaps none of the others, and

@@ -1,13 +1,15 @@
 //! Writing lists of items to the caller's bytes.
 
-ghost use Rattle.std.specs.Prelude.{◌≡◌, ◌∷◌, [], length, false, List};
+ghost use Rattle.std.specs.Prelude.{◌≡◌, ◌<◌, ◌^◌, ◌∷◌, [], length, false, List, Ok, IfSome, IsTrue, IsFalse};
 ghost use Rattle.deku_bits.specs.Writers.{Pending, Nothing};
 ghost use Rattle.deku_bits.specs.Standings.{Standing, Going};
 ghost use Rattle.deku_bits.specs.WriterCalls.{Finalizes, Writes, WritesAt};
 ghost use Rattle.deku.specs.Composing.{Both};
 ghost use Rattle.deku.specs.Wholes.{WritesOver};
-ghost use Rattle.deku_fields.specs.ListCalls.{WritesItems};
-ghost use Rattle.deku_c.specs.Codes.{item_in, items_in};
+ghost use Rattle.deku_fields.specs.Items.{field_width, IsAllowedField};
+ghost use Rattle.deku_fields.specs.ListCalls.{WritesItem, WritesItems};
+ghost use Rattle.deku_plan.specs.Plans.{IsHigh};
+ghost use Rattle.deku_c.specs.Codes.{field_in, item_in, items_in, whole};
 ghost use Rattle.deku_c.specs.Calls.{LaysOver};
 
 use crate::codes::{FieldCode, NumberCode};
@@ -16,6 +18,7 @@ use deku::error::DekuError;
 use deku::writer::Writer;
 use deku_fields::laws::{padded_law, write_calls_law};
 use deku_fields::write_list;
+use deku_num::kernel::is_below;
 use std::io::Cursor;
 
 /// Writes the number of each field to the start of the bytes, and fills the last byte with zeros.
@@ -86,7 +89,7 @@ fn write_each<W: Sink>(
     Ok(())
 }
 
-// Writes the number of a field.
+// Writes the number of a field, at once if nothing about it is rejected and there is room.
 #[inline(always)]
 fn write_one<W: Sink>(
     writer: &mut Writer<W>,
@@ -96,5 +99,40 @@ fn write_one<W: Sink>(
     ensures { Writes W.known (WritesItems (item_in code number ∷ [])) writer.old result
         writer.new }
 {
+    if laid_high(writer, code, number) {
+        return Ok(());
+    }
     write_list(writer, &[code.item(number)])
+}
+
+// Writes the number of a field with its high bits first, if the field says so, the number fits, and
+// there is room. Returns whether it did. Otherwise nothing changes.
+#[inline(always)]
+fn laid_high<W: Sink>(writer: &mut Writer<W>, code: FieldCode, number: NumberCode) -> bool
+    ensures writes { IsTrue result → Writes W.known (WritesItem (item_in code number)) writer.old
+        (Ok tt) writer.new }
+    ensures stays { IsFalse result → writer.new ≡ writer.old }
+{
+    match high_number(code, number) {
+        Some((low, width)) => writer.try_write_msb(low, width),
+        None => false,
+    }
+}
+
+// The number of a field and how many bits it has, if the field is unsigned, big and `Msb0`, these
+// are at most 64, and nothing rejects it.
+#[inline(always)]
+fn high_number(code: FieldCode, number: NumberCode) -> Option<(u64, usize)>
+    ensures high { IfSome result (λ r. IsHigh (field_in code)) }
+    ensures allowed { IfSome result (λ r. IsAllowedField (field_in code)) }
+    ensures wide { IfSome result (λ r. field_width (field_in code) ≡ r.1) }
+    ensures same { IfSome result (λ r. r.0 ≡ whole number) }
+    ensures below { IfSome result (λ r. r.0 < 2 ^ r.1) }
+{
+    let width = code.high_width()?;
+    if number.high == 0 && is_below(number.low as u128, width) {
+        Some((number.low, width))
+    } else {
+        None
+    }
 }
