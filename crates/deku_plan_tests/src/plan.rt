@@ -1,6 +1,6 @@
 //! Plans, made, read and written, against worked examples.
 
-use crate::table::{MOST, ROOM, bytes, done, four, known, numbers, result, three, two};
+use crate::table::{Bytes, MOST, Numbers, ROOM, done, four, known, result, three, two};
 use deku::error::{DekuError, NeedSize};
 use deku_fields::{Field, Number, parse_field};
 use deku_plan::{Plan, WrongWords, high_at, value_at};
@@ -103,11 +103,14 @@ const BOTH: &str = "\
     u8,bits4 u128,big,bits68 | 1 8123456789ABCDEFA | 18 12 34 56 78 9A BC DE FA
     u8,bits0 u8 | 0 2A | 2A";
 
+fn both(line: &str) -> Option<(&str, Numbers, Bytes)> {
+    let (words, values, octets) = three(line)?;
+    Some((words, Numbers::parse(values)?, Bytes::parse(octets)?))
+}
+
 fn expect_both(alloc: Global, line: &str) -> Result<(), Fail> {
-    let (words, values, octets) = known(line, three(line))?;
-    let (mut places, mut room) = ([NONE_YET; MOST], [0; ROOM]);
-    let values = known(line, numbers(values, &mut places))?;
-    let octets = known(line, bytes(octets, &mut room))?;
+    let (words, values, octets) = known(line, both(line))?;
+    let (values, octets) = (values.as_slice(), octets.as_slice());
     let plan = done(line, plan_of(alloc, words))?;
     expect_read(alloc, line, &plan, octets, values)?;
     expect_all(alloc, line, &plan, octets, values)?;
@@ -204,15 +207,16 @@ const PLACED: &str = "\
     u8,bits9 | 0 | 69 BE |
     u128,big | 0 | 00 00 00 00 00 00 00 00 00 00 00 00 00 00 00 00 |";
 
+fn placed(line: &str) -> Option<(Field, usize, Bytes, Numbers)> {
+    let (word, bit, octets, wanted) = four(line)?;
+    let (field, bit) = (parse_field(word)?, bit.parse().ok()?);
+    Some((field, bit, Bytes::parse(octets)?, Numbers::parse(wanted)?))
+}
+
 fn expect_placed(line: &str) -> Result<(), Fail> {
-    let (word, bit, octets, wanted) = known(line, four(line))?;
-    let mut room = [0; ROOM];
-    let octets = known(line, bytes(octets, &mut room))?;
-    let field = known(line, parse_field(word))?;
-    let bit = known(line, bit.parse().ok())?;
-    let mut places = [NONE_YET; MOST];
-    let wanted = known(line, numbers(wanted, &mut places))?;
-    match value_at(octets, bit, &field) {
+    let (field, bit, octets, wanted) = known(line, placed(line))?;
+    let wanted = wanted.as_slice();
+    match value_at(octets.as_slice(), bit, &field) {
         Some((value, after)) => same(&line, &[value, plain(after as u128)].as_slice(), &wanted),
         None => same(&line, &wanted.len(), &0),
     }
@@ -273,14 +277,23 @@ fn expect_column(
     same(&line, &&column[..values.len()], &values)
 }
 
+fn indexed(line: &str) -> Option<(&str, usize, Bytes, Numbers)> {
+    let (words, index, octets, values) = four(line)?;
+    let index = index.parse().ok()?;
+    Some((words, index, Bytes::parse(octets)?, Numbers::parse(values)?))
+}
+
 fn expect_index(alloc: Global, line: &str) -> Result<(), Fail> {
-    let (words, index, octets, values) = known(line, four(line))?;
-    let (mut places, mut room) = ([NONE_YET; MOST], [0; ROOM]);
-    let values = known(line, numbers(values, &mut places))?;
-    let octets = known(line, bytes(octets, &mut room))?;
-    let index: usize = known(line, index.parse().ok())?;
+    let (words, index, octets, values) = known(line, indexed(line))?;
     let plan = done(line, plan_of(alloc, words))?;
-    expect_column(alloc, line, &plan, index, octets, values)
+    expect_column(
+        alloc,
+        line,
+        &plan,
+        index,
+        octets.as_slice(),
+        values.as_slice(),
+    )
 }
 
 #[test]
@@ -310,11 +323,15 @@ const UNWRITTEN: &str = "\
     u8,big,bits4 u16,big | F 10000 | value outside type
     u8,big,bits4 u16,big | F s1 | value outside type";
 
+fn unwritten(line: &str) -> Option<(&str, Numbers, &str)> {
+    let (words, values, why) = three(line)?;
+    Some((words, Numbers::parse(values)?, why))
+}
+
 fn expect_unwritten(alloc: Global, line: &'static str) -> Result<(), Fail> {
-    let (words, values, why) = known(line, three(line))?;
-    let mut places = [NONE_YET; MOST];
-    let values = known(line, numbers(values, &mut places))?;
+    let (words, values, why) = known(line, unwritten(line))?;
     let plan = done(line, plan_of(alloc, words))?;
+    let values = values.as_slice();
     if plan.fields().len() != values.len() {
         return known(line, None);
     }
@@ -399,11 +416,19 @@ fn expect_laid(
 }
 
 // The records are written so. If there is no error, they are read back.
+fn laid(line: &str) -> Option<(&str, Numbers, &str, Bytes)> {
+    let (words, values, wanted, octets) = four(line)?;
+    Some((
+        words,
+        Numbers::parse(values)?,
+        wanted,
+        Bytes::parse(octets)?,
+    ))
+}
+
 fn expect_records(alloc: Global, line: &'static str) -> Result<(), Fail> {
-    let (words, values, wanted, octets) = known(line, four(line))?;
-    let (mut places, mut room) = ([NONE_YET; MOST], [0; ROOM]);
-    let values = known(line, numbers(values, &mut places))?;
-    let octets = known(line, bytes(octets, &mut room))?;
+    let (words, values, wanted, octets) = known(line, laid(line))?;
+    let (values, octets) = (values.as_slice(), octets.as_slice());
     let plan = done(line, plan_of(alloc, words))?;
     expect_laid(line, &plan, values, result(wanted), octets)?;
     match result(wanted) {

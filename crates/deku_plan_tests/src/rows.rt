@@ -1,6 +1,6 @@
 //! Records, printed a line each.
 
-use crate::table::{MOST, ROOM, bytes, five, known, words};
+use crate::table::{Bytes, MOST, five, known, words};
 use deku::error::DekuError;
 use deku_progress::Progress;
 use deku_rows::{Columns, Form, NoColumns, print_rows, tell};
@@ -78,15 +78,14 @@ const PRINTED: &str = "\
 // Records are printed as a line says.
 fn expect_line(alloc: Global, line: &str) -> Result<(), Fail> {
     let (list, name, input, text, told) = known(line, five(line))?;
-    let (mut places, mut room) = ([""; MOST], [0; ROOM]);
+    let mut places = [""; MOST];
     let words = known(line, words(list, &mut places))?;
     let form = known(line, form_of(name))?;
-    let input = if form.raw {
-        known(line, bytes(input, &mut room))?
-    } else {
-        input.as_bytes()
-    };
-    expect_printed(alloc, line, words, form, input, (text, told))
+    if !form.raw {
+        return expect_printed(alloc, line, words, form, input.as_bytes(), (text, told));
+    }
+    let input = known(line, Bytes::parse(input))?;
+    expect_printed(alloc, line, words, form, input.as_slice(), (text, told))
 }
 
 #[test]

@@ -65,24 +65,50 @@ fn number(word: &str) -> Option<Number> {
     }
 }
 
-/// The numbers of a column, which are put into these places.
-pub fn numbers<'p>(column: &str, places: &'p mut [Number; MOST]) -> Option<&'p [Number]> {
-    let mut count: usize = 0;
-    for word in column.split_whitespace() {
-        *places.get_mut(count)? = number(word)?;
-        count = count.wrapping_add(1);
-    }
-    places.get(..count)
+/// The numbers of a column.
+#[derive(Clone, Copy)]
+pub struct Numbers {
+    places: [Number; MOST],
+    count: usize,
 }
 
-/// The bytes of a column, which are put into these places.
-pub fn bytes<'p>(column: &str, places: &'p mut [u8; ROOM]) -> Option<&'p [u8]> {
-    let mut count: usize = 0;
-    for word in column.split_whitespace() {
-        *places.get_mut(count)? = u8::from_str_radix(word, 16).ok()?;
-        count = count.wrapping_add(1);
+impl Numbers {
+    /// Of a column that has no more than there are places.
+    pub fn parse(column: &str) -> Option<Numbers> {
+        let (mut places, mut count) = ([Number::Unsigned(0); MOST], 0usize);
+        for word in column.split_whitespace() {
+            *places.get_mut(count)? = number(word)?;
+            count = count.wrapping_add(1);
+        }
+        Some(Numbers { places, count })
     }
-    places.get(..count)
+
+    pub fn as_slice(&self) -> &[Number] {
+        self.places.get(..self.count).unwrap_or(&[])
+    }
+}
+
+/// The bytes of a column.
+#[derive(Clone, Copy)]
+pub struct Bytes {
+    places: [u8; ROOM],
+    count: usize,
+}
+
+impl Bytes {
+    /// Of a column that has no more than there are places.
+    pub fn parse(column: &str) -> Option<Bytes> {
+        let (mut places, mut count) = ([0; ROOM], 0usize);
+        for word in column.split_whitespace() {
+            *places.get_mut(count)? = u8::from_str_radix(word, 16).ok()?;
+            count = count.wrapping_add(1);
+        }
+        Some(Bytes { places, count })
+    }
+
+    pub fn as_slice(&self) -> &[u8] {
+        self.places.get(..self.count).unwrap_or(&[])
+    }
 }
 
 /// The words of a column, which are put into these places.
