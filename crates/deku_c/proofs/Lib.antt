@@ -3,3 +3,4 @@ pub mod Reading
 pub mod Writing
 pub mod Sizing
 pub mod Exporting
+mod Naming

@@ -1,5 +1,5 @@
 -- Fields and numbers as C passes them, and the fields, numbers and items that they mean.
-use Rattle.std.specs.Prelude.{ℕ, zero, suc, ◌+◌, ◌*◌, ◌^◌, ◌<◌, Bool, true, false, List, [], ◌∷◌, map, slice_index_or}
+use Rattle.std.specs.Prelude.{ℕ, zero, suc, ◌+◌, ◌*◌, ◌/◌, ◌%◌, ◌^◌, ◌<◌, Bool, true, false, List, [], ◌∷◌, map, slice_index_or}
 use Rattle.deku_bits.specs.declared.ctx.Order.{Order}
 use Rattle.deku_bits.specs.declared.ctx.Order.TheVariants.{Msb0, Lsb0}
 use Rattle.deku_num.specs.declared.ctx.Endian.{Endian}
@@ -24,6 +24,17 @@ pub record IsNamed (c : FieldCode) : Type 0 where
   pub endian : c.endian < 2
   pub order : c.order < 2
   pub unit : c.unit < 3
+
+-- The four numbers of a field in a word, the first one in its low byte.
+abbrev pub word_in : FieldCode → ℕ
+word_in c = c.kind + c.endian * 2 ^ 8 + c.order * 2 ^ 16 + c.unit * 2 ^ 24
+
+-- Each byte of a word would be a number that has a name.
+pub record IsSmall (word : ℕ) : Type 0 where
+  pub kind : word % 2 ^ 8 < 12
+  pub endian : word / 2 ^ 8 % 2 ^ 8 < 2
+  pub order : word / 2 ^ 16 % 2 ^ 8 < 2
+  pub unit : word / 2 ^ 24 < 3
 
 -- The kinds in the order of their numbers, from zero on.
 abbrev pub kinds : List Kind

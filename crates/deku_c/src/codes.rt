@@ -4,7 +4,7 @@ ghost use Rattle.std.specs.Prelude.{◌≡◌, ◌↔◌, ◌<◌, ◌≤◌, �
 ghost use Rattle.deku_fields.specs.Items.{number_type, field_width, IsAllowedField};
 ghost use Rattle.deku_fields.specs.ListCalls.{has_sign};
 ghost use Rattle.deku_plan.specs.Plans.{IsHigh};
-ghost use Rattle.deku_c.specs.Codes.{IsNamed, endian_in, field_in, item_in, kind_in, number_in, order_in, size_in, whole};
+ghost use Rattle.deku_c.specs.Codes.{IsNamed, IsSmall, word_in, endian_in, field_in, item_in, kind_in, number_in, order_in, size_in, whole};
 
 use deku::ctx::{Endian, Layout, Order, Size};
 use deku_fields::{Field, Item, Kind, Number};
@@ -39,18 +39,16 @@ impl FieldCode {
         self.kind < 12 && self.endian < 2 && self.order < 2 && self.unit < 3
     }
 
-    // The greater of the numbers of two fields.
+    // Its four numbers in a word.
     #[inline(always)]
-    fn with_greater(self, other: FieldCode) -> FieldCode
-        ensures { IsNamed result ↔ (IsNamed self × IsNamed other) }
+    fn word(self) -> u32
+        ensures word { result ≡ word_in self }
+        ensures named { IsSmall result → IsNamed self }
     {
-        FieldCode {
-            kind: self.kind.max(other.kind),
-            endian: self.endian.max(other.endian),
-            order: self.order.max(other.order),
-            unit: self.unit.max(other.unit),
-            size: self.size,
-        }
+        self.kind as u32
+            + self.endian as u32 * 256
+            + self.order as u32 * 65_536
+            + self.unit as u32 * 16_777_216
     }
 
     /// The field that it means.
@@ -162,21 +160,42 @@ impl NumberCode {
     }
 }
 
-/// Whether the header names the numbers of each field.
+/// Whether the header names the numbers of each field. It is a call, so that the loops that read and
+/// write have their values in registers.
+#[inline(never)]
 pub fn are_named(codes: &[FieldCode]) -> bool
     ensures { IsTrue result ↔ All IsNamed codes.now }
 {
-    let mut greatest = FieldCode {
-        kind: 0,
-        endian: 0,
-        order: 0,
-        unit: 0,
-        size: 0,
-    };
+    is_small(joined(codes)) || are_each_named(codes)
+}
+
+// The bits that the numbers of some field have.
+#[inline(always)]
+fn joined(codes: &[FieldCode]) -> u32
+    ensures { IsSmall result → All IsNamed codes.now }
+{
+    let mut joined = 0;
     for code in codes {
-        greatest = greatest.with_greater(*code);
+        joined |= code.word();
     }
-    greatest.is_named()
+    joined
+}
+
+// Whether four numbers in a word would have names.
+#[inline(always)]
+fn is_small(word: u32) -> bool
+    ensures { IsTrue result ↔ IsSmall word }
+{
+    word % 256 < 12 && word / 256 % 256 < 2 && word / 65_536 % 256 < 2 && word / 16_777_216 < 3
+}
+
+// Whether the numbers of each field have names, looked at one by one.
+#[cold]
+#[inline(never)]
+fn are_each_named(codes: &[FieldCode]) -> bool
+    ensures { IsTrue result ↔ All IsNamed codes.now }
+{
+    codes.iter().all(|code| code.is_named())
 }
 
 // The kind with this number.
