@@ -4,7 +4,8 @@ ghost use Rattle.std.specs.Prelude.{◌≡◌, ◌↔◌, ◌<◌, ◌≤◌, �
 ghost use Rattle.deku_fields.specs.Items.{number_type, field_width, IsAllowedField};
 ghost use Rattle.deku_fields.specs.ListCalls.{has_sign};
 ghost use Rattle.deku_plan.specs.Plans.{IsHigh};
-ghost use Rattle.deku_c.specs.Codes.{IsNamed, IsSmall, word_in, endian_in, field_in, item_in, kind_in, number_in, order_in, size_in, whole};
+ghost use Rattle.deku_c.specs.Codes.{IsNamed, IsSmall, word_in, number_in, whole};
+ghost use Rattle.deku_c.specs.Codes.{endian_in, field_in, item_in, kind_in, order_in, size_in};
 
 use deku::ctx::{Endian, Layout, Order, Size};
 use deku_fields::{Field, Item, Kind, Number};
@@ -160,8 +161,8 @@ impl NumberCode {
     }
 }
 
-/// Whether the header names the numbers of each field. It is a call, so that the loops that read and
-/// write have their values in registers.
+/// Whether the header names the numbers of each field. It is a call, so that the loops that read
+/// and write have their values in registers.
 #[inline(never)]
 pub fn are_named(codes: &[FieldCode]) -> bool
     ensures { IsTrue result ↔ All IsNamed codes.now }
