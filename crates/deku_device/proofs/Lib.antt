@@ -3,3 +3,4 @@ pub mod Wholes
 pub mod Failures
 pub mod Transfers
 pub mod Laying
+pub mod Ends

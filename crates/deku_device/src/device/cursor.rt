@@ -157,10 +157,27 @@ fn last_at(all: &[u8], at: u64, n: usize) -> Option<[u8; 8]>
     if last.len() < n {
         return None;
     }
+    if last.len() < 8 && all.len() >= 8 {
+        return Some(end_of(all, last.len()));
+    }
     let count = last.len().min(8);
     let mut eight = [0; 8];
     lay_front(&mut eight, last, count);
     Some(eight)
+}
+
+// The last bytes, fewer than eight, with zeros after them. A word of eight bytes is shifted, which
+// takes one load, however many they are.
+#[inline(always)]
+fn end_of(all: &[u8], count: usize) -> [u8; 8]
+    requires few { count < 8 }
+    requires enough { 8 ≤ length all.now }
+    ensures { result ≡ drop (length all.now - count) all.now ++ replicate (8 - count) 0 }
+{
+    let mut eight = [0; 8];
+    eight.copy_from_slice(&all[all.len() - 8..]);
+    let word = u64::from_le_bytes(eight) >> (56 - 8 * count) >> 8;
+    word.to_le_bytes()
 }
 
 // The place n bytes after this one, or the last place that there is.
