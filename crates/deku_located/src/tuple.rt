@@ -113,7 +113,8 @@ impl<A: Steps, B: Steps, C: Steps, D: Steps, E: Steps, F: Steps, G: Steps, H: St
     for (A, B, C, D, E, F, G, H, I) {
     ghost steps = { A.steps + ⟦<(B, C, D, E, F, G, H, I) as Steps>⟧.steps };
 
-    ghost placed = { Joined (λ a rest. (a, rest.0, rest.1, rest.2, rest.3, rest.4, rest.5, rest.6, rest.7))
+    ghost placed = { Joined
+        (λ a rest. (a, rest.0, rest.1, rest.2, rest.3, rest.4, rest.5, rest.6, rest.7))
         A.placed (λ _. ⟦<(B, C, D, E, F, G, H, I) as Steps>⟧.placed) };
 
     #[inline(always)]
@@ -138,7 +139,8 @@ impl<
 > Steps for (A, B, C, D, E, F, G, H, I, J) {
     ghost steps = { A.steps + ⟦<(B, C, D, E, F, G, H, I, J) as Steps>⟧.steps };
 
-    ghost placed = { Joined (λ a rest. (a, rest.0, rest.1, rest.2, rest.3, rest.4, rest.5, rest.6, rest.7, rest.8))
+    ghost placed = { Joined
+        (λ a rest. (a, rest.0, rest.1, rest.2, rest.3, rest.4, rest.5, rest.6, rest.7, rest.8))
         A.placed (λ _. ⟦<(B, C, D, E, F, G, H, I, J) as Steps>⟧.placed) };
 
     #[inline(always)]
@@ -164,7 +166,20 @@ impl<
 > Steps for (A, B, C, D, E, F, G, H, I, J, K) {
     ghost steps = { A.steps + ⟦<(B, C, D, E, F, G, H, I, J, K) as Steps>⟧.steps };
 
-    ghost placed = { Joined (λ a rest. (a, rest.0, rest.1, rest.2, rest.3, rest.4, rest.5, rest.6, rest.7, rest.8, rest.9))
+    ghost placed = { Joined
+        (λ a rest. (
+          a,
+          rest.0,
+          rest.1,
+          rest.2,
+          rest.3,
+          rest.4,
+          rest.5,
+          rest.6,
+          rest.7,
+          rest.8,
+          rest.9,
+        ))
         A.placed (λ _. ⟦<(B, C, D, E, F, G, H, I, J, K) as Steps>⟧.placed) };
 
     #[inline(always)]
