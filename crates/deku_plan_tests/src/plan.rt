@@ -126,26 +126,24 @@ fn reads_and_writes_plans(rt: HostRuntime) -> Result<(), Fail> {
 }
 
 // Words, their bits and bytes, and whether the order changes only at byte boundaries.
-const SIZES: &str = "\
-    | 0 0 true
-    u8,bits3 u16,big,bits13 | 16 2 true
-    u8,bits3 u8,bits2 | 5 1 true
-    u8,bits3 u8,lsb,bits5 | 8 1 false
-    u8,lsb u8,bits3 u8,big,bits0 | 11 2 true
-    u8,bits3 u8,lsb,bits0 u8,bits5 | 8 1 true";
-
-fn expect_sizes(alloc: Global, line: &str) -> Result<(), Fail> {
-    let (words, wanted) = known(line, two(line))?;
-    let plan = done(line, plan_of(alloc, words))?;
-    let (bits, bytes, aligned) = (plan.bits(), plan.bytes(), plan.is_aligned());
-    let seen = format!(in alloc; "{bits} {bytes} {aligned}")?;
-    same(&line, &seen.as_str(), &wanted)
-}
+const SIZES: [(&str, (usize, usize, bool)); 6] = [
+    ("", (0, 0, true)),
+    ("u8,bits3 u16,big,bits13", (16, 2, true)),
+    ("u8,bits3 u8,bits2", (5, 1, true)),
+    ("u8,bits3 u8,lsb,bits5", (8, 1, false)),
+    ("u8,lsb u8,bits3 u8,big,bits0", (11, 2, true)),
+    ("u8,bits3 u8,lsb,bits0 u8,bits5", (8, 1, true)),
+];
 
 #[test]
 fn says_sizes(rt: HostRuntime) -> Result<(), Fail> {
-    for line in SIZES.lines() {
-        expect_sizes(rt.alloc(), line)?;
+    for (words, wanted) in SIZES {
+        let plan = plan_of(rt.alloc(), words)?;
+        same(
+            &words,
+            &(plan.bits(), plan.bytes(), plan.is_aligned()),
+            &wanted,
+        )?;
     }
     Ok(())
 }
@@ -174,21 +172,6 @@ fn refuses_layouts(rt: HostRuntime) -> Result<(), Fail> {
         same(&line, &seen, &Some(DekuError::InvalidParam(why)))?;
     }
     Ok(())
-}
-
-#[test]
-fn reads_records(rt: HostRuntime) -> Result<(), Fail> {
-    let plan = plan_of(rt.alloc(), "u8,big,bits4 u16,big,bits8")?;
-    if plan.fields().len() != 2 {
-        return same(&"fields", &plan.fields().len(), &2);
-    }
-    let mut out = [NONE_YET; 6];
-    let read = plan.read_all(rt.alloc(), &[0x69, 0xC0, 0xFE, 0xDC, 0xBA], 3, &mut out);
-    let wanted = [6, 0x9C, 0, 0xFE, 0xD, 0xCB].map(plain);
-    same(&"records", &(read, out), &(Ok(()), wanted))?;
-    let short = DekuError::Incomplete(NeedSize::new(8));
-    let seen = plan.read_all(rt.alloc(), &[0x69, 0xC0], 3, &mut out);
-    same(&"the second cut short", &seen, &Err(short))
 }
 
 // Words of one field, the bit that it begins at, bytes, and its value and the bit after it; or
@@ -310,11 +293,13 @@ fn misses_bits(rt: HostRuntime) -> Result<(), Fail> {
     if plan.fields().len() != 2 {
         return same(&"fields", &plan.fields().len(), &2);
     }
-    let mut out = [NONE_YET; 2];
+    let mut out = [NONE_YET; 6];
     let mut reader = reader_of(rt.alloc(), &[0x69, 0xC0]);
-    let read = plan.read(&mut reader, &mut out);
+    let read = plan.read(&mut reader, &mut out[..2]);
     let short = DekuError::Incomplete(NeedSize::new(16));
-    same(&"read", &(read, reader.bits_read()), &(Err(short), 4))
+    same(&"read", &(read, reader.bits_read()), &(Err(short), 4))?;
+    let seen = plan.read_all(rt.alloc(), &[0x69, 0xC0, 0xFE], 3, &mut out);
+    same(&"the second cut short", &seen, &Err(short))
 }
 
 // Words, values that they cannot hold, and why. Nothing is written then.
@@ -354,19 +339,20 @@ fn refuses_as_lists(rt: HostRuntime) -> Result<(), Fail> {
 
 #[test]
 fn parses_words(rt: HostRuntime) -> Result<(), Fail> {
-    let plan = Plan::parse(rt.alloc(), &["u8,big,bits4", "u16,big,bits12"])?;
-    same(&"halves", &(plan.bits(), plan.fields().len()), &(16, 2))?;
     let wide = DekuError::InvalidParam("bit size is larger than input");
-    let rows: [(&[&str], WrongWords); 3] = [
-        (&["u8", "u9", "u8,bits9"], WrongWords::NoField(1)),
-        (&["u8", "u8,bits9", "u9"], WrongWords::Rejected(1, wide)),
-        (&[""], WrongWords::NoField(0)),
+    // The words, and what is wrong, or the bits of the plan.
+    let rows: [(&[&str], Result<usize, WrongWords>); 4] = [
+        (&["u8,big,bits4", "u16,big,bits12"], Ok(16)),
+        (&["u8", "u9", "u8,bits9"], Err(WrongWords::NoField(1))),
+        (
+            &["u8", "u8,bits9", "u9"],
+            Err(WrongWords::Rejected(1, wide)),
+        ),
+        (&[""], Err(WrongWords::NoField(0))),
     ];
     for (words, wanted) in rows {
-        match Plan::parse(rt.alloc(), words) {
-            Ok(plan) => same(&words, &plan.fields().len(), &words.len())?,
-            Err(why) => same(&words, &why, &wanted)?,
-        }
+        let bits = Plan::parse(rt.alloc(), words).map(|plan| plan.bits());
+        same(&words, &bits, &wanted)?;
     }
     Ok(())
 }
@@ -395,6 +381,7 @@ const LAID: &str = "\
     u8,big,bits4 u16,big,bits12 | 6 9C0 F EDC | full | 69 C0
     u8,big,bits4 u16,big,bits12 | 6 9C0 F EDC | 4 | 69 C0 FE DC
     u8,big,bits4 u16,big,bits8 | 6 9C 0 FE | 3 | 69 C0 FE AA
+    u8,big,bits4 u16,big,bits8 | 6 9C 0 FE D CB | 5 | 69 C0 FE DC B0
     u8,big,bits4 u16,big,bits8 | 6 9C 0 FE | full | 69 C0";
 
 // The plan writes the values of records over bytes that are all AA, with this result.

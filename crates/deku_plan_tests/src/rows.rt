@@ -6,7 +6,7 @@ use deku_progress::Progress;
 use deku_rows::{Columns, Form, NoColumns, print_rows, tell};
 use deku_testing_values::expecting::{NO_MEMORY, same};
 use std::alloc::Global;
-use std::io::Cursor;
+use std::io::{Cursor, Read};
 use std::test::Fail;
 
 const CSV: Form = Form {
@@ -72,6 +72,7 @@ const PRINTED: &str = "\
     kind:u8,big,bits4 size:u16,big,bits12 | csv | 69c | kind,size; | error: bad hexadecimal text;
     kind:u8,big,bits4 size:u16,big,bits12 | csv | 69xx | kind,size; | error: bad hexadecimal text;
     u8,big,bits4 i8,big,bits8 | csv | 69cfFE | 1,2;6,-100;15,-2; |
+    u8 | csv | 01020304050607 | 1;1;2;3;4;5;6;7; |
     wide:u128,big | json | ffffffffffffffffffffffffffffffff \
         | {\"wide\":340282366920938463463374607431768211455}; |";
 
@@ -125,38 +126,21 @@ fn refuses_words(rt: HostRuntime) -> Result<(), Fail> {
     Ok(())
 }
 
-// Prints the records of an input that is said to have this size, and the progress.
-fn print_with_progress(
-    alloc: Global,
-    size: u64,
-    output: &mut Vec<u8>,
-    errors: &mut Vec<u8>,
-) -> Result<(), Fail> {
-    let words: &[&str] = &["u8"];
-    let columns = match Columns::parse(alloc, words) {
-        Ok(columns) => columns,
-        Err(why) => return same(&words, &Some(why), &None),
-    };
-    let mut bytes: Vec<u8> = Vec::new(alloc);
-    bytes.extend_from_slice(b"01020304050607")?;
-    let mut input = Progress::new(Cursor::new(bytes), errors, size);
-    let printed = print_rows(alloc, &columns, CSV, &mut input, output);
-    same(&size, &printed.is_ok(), &true)
+// A text is passed on as it is. If it is a part of an input that is said to have this size, this
+// progress is shown.
+fn expect_progress(alloc: Global, size: u64, wanted: &str) -> Result<(), Fail> {
+    let text: &[u8] = b"01020304050607";
+    let mut read = [0; 20];
+    let mut errors: Vec<u8> = Vec::new(alloc);
+    let count = Progress::new(Cursor::new(text), &mut errors, size).read(&mut read)?;
+    same(&size, &read.get(..count), &Some(text))?;
+    same(&size, &errors.as_slice(), &wanted.as_bytes())
 }
 
 #[test]
 fn shows_progress(rt: HostRuntime) -> Result<(), Fail> {
-    let rows: [(u64, &str); 3] = [(800, "\r1%"), (160, "\r8%"), (4000, "")];
-    for (size, wanted) in rows {
-        let mut output: Vec<u8> = Vec::new(rt.alloc());
-        let mut errors: Vec<u8> = Vec::new(rt.alloc());
-        print_with_progress(rt.alloc(), size, &mut output, &mut errors)?;
-        let seen = (output.as_slice(), errors.as_slice());
-        same(
-            &size,
-            &seen,
-            &(b"1\n1\n2\n3\n4\n5\n6\n7\n".as_slice(), wanted.as_bytes()),
-        )?;
+    for (size, wanted) in [(800, "\r1%"), (160, "\r8%"), (4000, "")] {
+        expect_progress(rt.alloc(), size, wanted)?;
     }
     Ok(())
 }
