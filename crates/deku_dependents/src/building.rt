@@ -12,6 +12,7 @@ use deku_markers::following::Dependent;
 use deku_markers::marker;
 use deku_markers::marker::{Amount, Marker};
 use deku_markers::part::{Named, Owner, Part, Place, asserted, following, leaf, rest, tuple};
+use deku_texts::arena::Arena;
 use deku_texts::document::Text;
 use deku_texts::records::Records;
 use deku_texts::refusal::Stop;
@@ -19,26 +20,26 @@ use deku_texts::words;
 use deku_texts::wrapping::{item, number_kind};
 use deku_tokens::place::{Complaint, Span};
 use deku_tokens::token::Token;
-use std::alloc::{AllocError, Global};
+use std::alloc::AllocError;
 
 /// The parts of a record while they are made.
 #[derive(Drop)]
 pub struct Builder<'b, 'a> {
-    pub alloc: Global,
+    pub arena: &'a Arena,
     pub records: &'b Records<'b, 'a>,
     pub constants: &'b [Constant<'a>],
     /// What the names of its types begin with.
-    pub front: String,
+    pub front: &'a str,
     pub owner: Owner,
     /// The parts so far.
     pub items: Vec<Part<'a>>,
     /// The markers, as they are printed.
     pub markers: String,
     /// Their names.
-    pub names: Vec<String>,
+    pub names: Vec<&'a str>,
     pub complaints: Vec<Complaint>,
     /// The structs in front of the record, and where their fields are in their parts.
-    pub structs: Vec<(&'a str, Vec<Place<'a>>)>,
+    pub structs: Vec<(&'a str, &'a [Place<'a>])>,
     // Whether its last part takes the rest of the input.
     is_ended: bool,
     // Whether a part lends memory in more than one place. It is never beside others.
@@ -58,17 +59,18 @@ fn word_of(form: Dependent) -> &'static str {
 
 impl<'b, 'a> Builder<'b, 'a> {
     pub fn new(
-        alloc: Global,
+        arena: &'a Arena,
         records: &'b Records<'b, 'a>,
         constants: &'b [Constant<'a>],
-        front: &str,
+        front: &'a str,
         owner: Owner,
-    ) -> Result<Self, AllocError> {
-        Ok(Builder {
-            alloc,
+    ) -> Builder<'b, 'a> {
+        let alloc = arena.alloc();
+        Builder {
+            arena,
             records,
             constants,
-            front: String::from_str(alloc, front)?,
+            front,
             owner,
             items: Vec::new(alloc),
             markers: String::new(alloc),
@@ -78,11 +80,11 @@ impl<'b, 'a> Builder<'b, 'a> {
             is_ended: false,
             is_nested: false,
             temporary: None,
-        })
+        }
     }
 
     pub(crate) fn wrong<T>(&self, span: Span, message: &str, help: &str) -> Result<T, Stop> {
-        Stop::wrong(self.alloc, span, message, help)
+        Stop::wrong(self.arena.alloc(), span, message, help)
     }
 
     /// Notes what is wrong.
@@ -101,13 +103,12 @@ impl<'b, 'a> Builder<'b, 'a> {
     pub fn fields(&mut self, fields: &[Field<'a>], skipped: usize) -> Result<(), AllocError> {
         self.updates(fields)?;
         for (i, field) in fields.iter().enumerate().skip(skipped) {
-            let name = field_name(self.alloc, field, i)?;
-            let place = format!(in self.alloc; "{i}")?;
+            let name = field_name(self.arena, field, i)?;
             let named = Named {
-                name: name.as_str(),
+                name,
                 access: match field.name {
-                    Some(_) => name.as_str(),
-                    None => place.as_str(),
+                    Some(_) => name,
+                    None => self.arena.print(format_args!("{i}"))?,
                 },
                 owner: self.owner,
             };
@@ -151,7 +152,7 @@ impl<'b, 'a> Builder<'b, 'a> {
     }
 
     // Whether a field has a part. If not, what is wrong with it is noted.
-    fn tried(&mut self, field: &Field<'a>, named: Named<'_>) -> Result<bool, AllocError> {
+    fn tried(&mut self, field: &Field<'a>, named: Named<'a>) -> Result<bool, AllocError> {
         let built = self.field(field, named);
         let is_built = built.is_ok();
         self.noted(built)?;
@@ -160,18 +161,18 @@ impl<'b, 'a> Builder<'b, 'a> {
 
     /// All parts as one.
     pub fn whole(&mut self) -> Result<Part<'a>, AllocError> {
-        let items = std::mem::replace(&mut self.items, Vec::new(self.alloc));
-        tuple(self.alloc, items)
+        let items = std::mem::replace(&mut self.items, Vec::new(self.arena.alloc()));
+        tuple(self.arena, items.as_slice())
     }
 
     /// The part of a field alone.
-    pub(crate) fn leaf(&mut self, field: &Field<'a>, named: Named<'_>) -> Result<(), AllocError> {
-        let part = leaf(self.alloc, self.records, field, named)?;
+    pub(crate) fn leaf(&mut self, field: &Field<'a>, named: Named<'a>) -> Result<(), AllocError> {
+        let part = leaf(self.arena, self.records, field, named)?;
         self.items.push(part)?;
         Ok(())
     }
 
-    fn field(&mut self, field: &Field<'a>, called: Named<'_>) -> Result<(), Stop> {
+    fn field(&mut self, field: &Field<'a>, called: Named<'a>) -> Result<(), Stop> {
         self.named(field, called.name)?;
         if self.is_ended {
             return self.wrong(
@@ -190,15 +191,15 @@ impl<'b, 'a> Builder<'b, 'a> {
     }
 
     // A field that the record keeps.
-    fn kept(&mut self, field: &Field<'a>, called: Named<'_>) -> Result<(), Stop> {
+    fn kept(&mut self, field: &Field<'a>, called: Named<'a>) -> Result<(), Stop> {
         let name = called.name;
         let said = Said::of(field);
         self.fits(field, &said)?;
         self.padding(said.before, field)?;
         if let Some(bytes) = said.magic {
-            let what = format!(in self.alloc; "magic of {name}")?;
-            let named = words::marker(self.alloc, self.front.as_str(), name, "Magic")?;
-            self.magic(bytes, named, what.as_str(), field.layout.order, field.span)?;
+            let what = self.arena.print(format_args!("magic of {name}"))?;
+            let named = words::marker(self.arena, self.front, name, "Magic")?;
+            self.magic(bytes, named, what, field.layout.order, field.span)?;
         }
         self.part(field, called, &said)?;
         if self.is_ended && said.after > 0 {
@@ -216,7 +217,7 @@ impl<'b, 'a> Builder<'b, 'a> {
     fn part(
         &mut self,
         field: &Field<'a>,
-        called: Named<'_>,
+        called: Named<'a>,
         said: &Said<'_, 'a>,
     ) -> Result<(), Stop> {
         if let Some(count) = said.count {
@@ -253,7 +254,7 @@ impl<'b, 'a> Builder<'b, 'a> {
         &mut self,
         count: Temporary<'a>,
         field: &Field<'a>,
-        called: Named<'_>,
+        called: Named<'a>,
     ) -> Result<(), Stop> {
         let mut is_alone = false;
         for attribute in &field.attributes {
@@ -262,13 +263,13 @@ impl<'b, 'a> Builder<'b, 'a> {
                 _ => return self.no_count(field),
             }
         }
-        if !is_alone || !count.counts(self.alloc, called.name)? {
+        if !is_alone || !count.counts(self.arena, called.name)? {
             return self.no_count(field);
         }
         let said = Said::of(field);
         self.fits(field, &said)?;
-        let held = held_kind(self.alloc, field)?;
-        let part = count.before(self.alloc, called, held.as_str())?;
+        let held = held_kind(self.arena, field)?;
+        let part = count.before(self.arena, called, held)?;
         self.items.push(part)?;
         Ok(())
     }
@@ -286,7 +287,7 @@ impl<'b, 'a> Builder<'b, 'a> {
     fn check_field(
         &mut self,
         field: &Field<'a>,
-        name: &str,
+        name: &'a str,
         said: &Said<'_, 'a>,
     ) -> Result<(), Stop> {
         if let Some(expression) = said.assert {
@@ -302,8 +303,8 @@ impl<'b, 'a> Builder<'b, 'a> {
     fn named(&self, field: &Field<'a>, name: &str) -> Result<(), Stop> {
         let mut is_taken = words::is_local(name);
         for part in &self.items {
-            for place in &part.fields.places {
-                is_taken = is_taken || place.name.as_str().eq_ignore_ascii_case(name);
+            for place in part.fields.places {
+                is_taken = is_taken || place.name.eq_ignore_ascii_case(name);
             }
         }
         if is_taken {
@@ -311,10 +312,10 @@ impl<'b, 'a> Builder<'b, 'a> {
                 Some(token) => token.span,
                 None => field.span,
             };
-            let message = format!(in self.alloc;
+            let message = self.arena.print(format_args!(
                 "a field of the name `{name}`, which the module has already"
-            )?;
-            return self.wrong(span, message.as_str(), "give it another name");
+            ))?;
+            return self.wrong(span, message, "give it another name");
         }
         Ok(())
     }
@@ -374,12 +375,12 @@ impl<'b, 'a> Builder<'b, 'a> {
     }
 
     // A list up to the end of the input.
-    fn rest(&mut self, field: &Field<'a>, called: Named<'_>) -> Result<(), Stop> {
-        let held = held_kind(self.alloc, field)?;
+    fn rest(&mut self, field: &Field<'a>, called: Named<'a>) -> Result<(), Stop> {
+        let held = held_kind(self.arena, field)?;
         self.is_nested = self.is_nested || self.lent_from(0) > 1;
-        let front = std::mem::replace(&mut self.items, Vec::new(self.alloc));
-        self.items
-            .push(rest(self.alloc, front, called, held.as_str())?)?;
+        let part = rest(self.arena, self.items.as_slice(), called, held)?;
+        self.items.clear();
+        self.items.push(part)?;
         self.is_ended = true;
         Ok(())
     }
@@ -387,12 +388,8 @@ impl<'b, 'a> Builder<'b, 'a> {
     // Complains of a type that has no part.
     fn has_part(&self, field: &Field<'a>, kind: &Type<'a>) -> Result<(), Stop> {
         if let Some(word) = partless(kind, field) {
-            let message = format!(in self.alloc; "{word} is not supported")?;
-            return self.wrong(
-                field.span,
-                message.as_str(),
-                "write a record of its own for it",
-            );
+            let message = self.arena.print(format_args!("{word} is not supported"))?;
+            return self.wrong(field.span, message, "write a record of its own for it");
         }
         if self.is_open(kind) {
             return self.wrong(
@@ -433,18 +430,12 @@ impl<'b, 'a> Builder<'b, 'a> {
             self.is_nested = true;
             first = 0;
         }
-        let mut taken = Vec::new(self.alloc);
-        let mut kept = Vec::new(self.alloc);
-        let items = std::mem::replace(&mut self.items, Vec::new(self.alloc));
-        for (i, part) in items.into_iter().enumerate() {
-            if i < first {
-                kept.push(part)?;
-            } else {
-                taken.push(part)?;
-            }
+        let mut taken = Vec::new(self.arena.alloc());
+        for part in self.items.iter().skip(first) {
+            taken.push(*part)?;
         }
-        self.items = kept;
-        tuple(self.alloc, taken)
+        self.items.truncate(first);
+        tuple(self.arena, taken.as_slice())
     }
 
     // Which part is the first that has a field of an expression; the last one, if none has.
@@ -453,7 +444,7 @@ impl<'b, 'a> Builder<'b, 'a> {
             part.fields
                 .places
                 .iter()
-                .any(|place| names(expression, place.name.as_str()))
+                .any(|place| names(expression, place.name))
         };
         match self.items.iter().position(is_named) {
             Some(first) => first,
@@ -468,22 +459,20 @@ impl<'b, 'a> Builder<'b, 'a> {
     }
 
     // The name of the type of parts. It is an alias if they are several.
-    fn alias(&mut self, kind: &Text, field: &str, word: &str) -> Result<String, AllocError> {
+    fn alias(&mut self, kind: Text<'a>, field: &str, word: &str) -> Result<&'a str, AllocError> {
         if let Some(name) = kind.as_word() {
-            return String::from_str(self.alloc, name);
+            return Ok(name);
         }
-        let name = words::marker(self.alloc, self.front.as_str(), field, word)?;
+        let name = words::marker(self.arena, self.front, field, word)?;
         self.markers.push_str("\ntype ")?;
-        self.markers.push_str(name.as_str())?;
+        self.markers.push_str(name)?;
         self.markers
             .push_str(if word == "Lent" { "<'a> = " } else { " = " })?;
         kind.print(&mut self.markers, 0, 1, false)?;
         self.markers.push_str(";\n")?;
-        self.names
-            .push(String::from_str(self.alloc, name.as_str())?)?;
+        self.names.push(name)?;
         if word == "Lent" {
-            let name = name.as_str();
-            return format!(in self.alloc; "{name}<'a>");
+            return self.arena.print(format_args!("{name}<'a>"));
         }
         Ok(name)
     }
@@ -493,15 +482,15 @@ impl<'b, 'a> Builder<'b, 'a> {
         &mut self,
         part: &mut Part<'a>,
         field: &str,
-    ) -> Result<(String, Option<String>), AllocError> {
-        let name = self.alias(&part.texts.kind, field, "Head")?;
-        part.texts.kind = Text::word(self.alloc, name.as_str())?;
+    ) -> Result<(&'a str, Option<&'a str>), AllocError> {
+        let name = self.alias(part.texts.kind, field, "Head")?;
+        part.texts.kind = Text::of(name);
         if !part.is_lent {
-            part.texts.lent = Text::word(self.alloc, name.as_str())?;
+            part.texts.lent = Text::of(name);
             return Ok((name, None));
         }
-        let lent = self.alias(&part.texts.lent, field, "Lent")?;
-        part.texts.lent = Text::word(self.alloc, lent.as_str())?;
+        let lent = self.alias(part.texts.lent, field, "Lent")?;
+        part.texts.lent = Text::of(lent);
         Ok((name, Some(lent)))
     }
 
@@ -526,92 +515,90 @@ impl<'b, 'a> Builder<'b, 'a> {
     fn after_head(
         &mut self,
         field: &Field<'a>,
-        called: Named<'_>,
+        called: Named<'a>,
         expression: &Expression<'a>,
         form: Dependent,
         unit: u64,
     ) -> Result<(), Stop> {
         let mut head = self.head_of(field, expression)?;
-        let marked = self.marked(&mut head, called.name, word_of(form))?;
-        let marker = marked.marker();
-        let places = head.fields.places.as_slice();
+        let marker = self.marked(&mut head, called.name, word_of(form))?;
+        let places = head.fields.places;
         match form {
             Dependent::Optional => self.shows(places, marker, expression, field.span)?,
             Dependent::Counted | Dependent::Filled => {
                 self.counts(places, marker, expression, field.span, (form, unit))?;
             }
         }
-        let held = held_kind(self.alloc, field)?;
-        let types = (marker.name, held.as_str());
-        let part = following(self.alloc, head, form, called, types)?;
-        Ok(self.push(part, marked)?)
+        let types = (marker.name, held_kind(self.arena, field)?);
+        let part = following(self.arena, head, form, called, types)?;
+        Ok(self.push(part, marker)?)
     }
 
     // Appends the type of a count, or of a size in units of so many bits.
     fn counts(
         &mut self,
-        places: &[Place<'a>],
-        marker: Marker<'_>,
+        places: &'a [Place<'a>],
+        marker: Marker<'a>,
         expression: &Expression<'a>,
         span: Span,
         (form, unit): (Dependent, u64),
     ) -> Result<(), Stop> {
-        let mut computer = Computer::new(self.alloc, places, self.constants);
+        let mut computer = Computer::new(self.arena, places, self.constants);
         let mut computed = computer.value(expression)?;
         if !computed.is_number() {
             return self.wrong(span, "a count that is no number", "write a number");
         }
         if unit > 1 {
             let unit = computer.number(unit)?;
-            computed = computer.both(Operator::Times, &computed, &unit, span)?;
+            computed = computer.both(Operator::Times, computed, unit, span)?;
         }
         let amount = match form {
             Dependent::Filled => Amount::Bits,
             Dependent::Counted | Dependent::Optional => Amount::Items,
         };
-        marker::count(&mut self.markers, amount, marker, &computer, &computed)
+        marker::count(&mut self.markers, amount, marker, &computer, computed)
     }
 
     // Appends the type of a condition.
     fn shows(
         &mut self,
-        places: &[Place<'a>],
-        marker: Marker<'_>,
+        places: &'a [Place<'a>],
+        marker: Marker<'a>,
         expression: &Expression<'a>,
         span: Span,
     ) -> Result<(), Stop> {
-        let mut computer = Computer::new(self.alloc, places, self.constants);
+        let mut computer = Computer::new(self.arena, places, self.constants);
         let computed = computer.value(expression)?;
-        self.is_truth(&computed, computer.guards.is_empty(), span)?;
-        marker::condition(&mut self.markers, marker, &computer, &computed)
+        self.is_truth(computed, computer.guards.is_empty(), span)?;
+        marker::condition(&mut self.markers, marker, &computer, computed)
     }
 
     // Appends the type of a check, that a field of this name is what is computed or that this is
     // so.
     fn checks(
         &mut self,
-        places: &[Place<'a>],
-        marker: Marker<'_>,
+        places: &'a [Place<'a>],
+        marker: Marker<'a>,
         expression: &Expression<'a>,
         span: Span,
         is_equal: bool,
     ) -> Result<(), Stop> {
-        let mut computer = Computer::new(self.alloc, places, self.constants);
+        let mut computer = Computer::new(self.arena, places, self.constants);
         let computed = if is_equal {
             let left = computer.name(marker.field, span)?;
             let right = computer.value(expression)?;
-            computer.both(Operator::Equal, &left, &right, span)?
+            computer.both(Operator::Equal, left, right, span)?
         } else {
             computer.value(expression)?
         };
-        self.is_truth(&computed, computer.guards.is_empty(), span)?;
-        marker::check(&mut self.markers, marker, &computer, &computed)
+        self.is_truth(computed, computer.guards.is_empty(), span)?;
+        marker::check(&mut self.markers, marker, &computer, computed)
     }
 
     /// Complains of a condition that is a number, or that may have no value.
     pub(crate) fn is_truth(
         &self,
-        computed: &Computed,
+        computed: Computed<'a>,
         is_whole: bool,
         span: Span,
     ) -> Result<(), Stop> {
@@ -644,19 +631,17 @@ impl<'b, 'a> Builder<'b, 'a> {
         if bits >= 64 || number >> bits == 0 {
             return Ok(());
         }
-        let message = format!(in self.alloc; "{number} does not fit a field of {bits} bits")?;
-        self.wrong(
-            field.span,
-            message.as_str(),
-            "write a smaller number, or more bits",
-        )
+        let message = self.arena.print(format_args!(
+            "{number} does not fit a field of {bits} bits"
+        ))?;
+        self.wrong(field.span, message, "write a smaller number, or more bits")
     }
 
     // A check of the last part, and of those in front that it names.
     fn assert(
         &mut self,
         field: &Field<'a>,
-        name: &str,
+        name: &'a str,
         expression: &Expression<'a>,
         is_equal: bool,
     ) -> Result<(), Stop> {
@@ -665,28 +650,31 @@ impl<'b, 'a> Builder<'b, 'a> {
         }
         let word = if is_equal { "Value" } else { "Check" };
         let mut head = self.head(expression, true)?;
-        let marked = self.marked(&mut head, name, word)?;
-        let marker = marked.marker();
-        let places = head.fields.places.as_slice();
+        let marker = self.marked(&mut head, name, word)?;
+        let places = head.fields.places;
         self.checks(places, marker, expression, field.span, is_equal)?;
-        let part = asserted(self.alloc, self.owner, head, marker.name)?;
-        Ok(self.push(part, marked)?)
+        let part = asserted(self.arena, self.owner, head, marker.name)?;
+        Ok(self.push(part, marker)?)
     }
 }
 
 /// The type of what a list or an option holds.
-pub(crate) fn held_kind(alloc: Global, field: &Field<'_>) -> Result<String, AllocError> {
-    let mut held = String::new(alloc);
+pub(crate) fn held_kind<'a>(arena: &'a Arena, field: &Field<'_>) -> Result<&'a str, AllocError> {
+    let mut held = String::new(arena.alloc());
     if let Type::Of(_, inner) = &field.kind {
         item(&mut held, inner, field)?;
     }
-    Ok(held)
+    arena.keep(held.as_str())
 }
 
 /// The name of a field. That of a tuple is called by its place.
-pub fn field_name(alloc: Global, field: &Field<'_>, place: usize) -> Result<String, AllocError> {
+pub fn field_name<'a>(
+    arena: &'a Arena,
+    field: &Field<'a>,
+    place: usize,
+) -> Result<&'a str, AllocError> {
     match field.name {
-        Some(name) => String::from_str(alloc, name.text),
-        None => format!(in alloc; "field_{place}"),
+        Some(name) => Ok(name.text),
+        None => arena.print(format_args!("field_{place}")),
     }
 }

@@ -46,7 +46,7 @@ impl<'b, 'a> Builder<'b, 'a> {
     pub(crate) fn choice(
         &mut self,
         field: &Field<'a>,
-        called: Named<'_>,
+        called: Named<'a>,
         context: Token<'a>,
     ) -> Result<(), Stop> {
         let Type::Name(kind) = &field.kind else {
@@ -61,23 +61,22 @@ impl<'b, 'a> Builder<'b, 'a> {
         let id = self.id_of(context, wanted)?;
         let expression = Expression::Name(id);
         let mut head = self.head(&expression, false)?;
-        let marked = self.marked(&mut head, called.name, "Id")?;
-        let marker = marked.marker();
-        self.says(head.fields.places.as_slice(), marker, id)?;
-        let part = chosen(self.alloc, head, called, (marker.name, kind.text))?;
-        Ok(self.push(part, marked)?)
+        let marker = self.marked(&mut head, called.name, "Id")?;
+        self.says(head.fields.places, marker, id)?;
+        let part = chosen(self.arena, head, called, (marker.name, kind.text))?;
+        Ok(self.push(part, marker)?)
     }
 
     // Appends the type of an id that a field of this name says.
     fn says(
         &mut self,
-        places: &[Place<'a>],
-        marker: Marker<'_>,
+        places: &'a [Place<'a>],
+        marker: Marker<'a>,
         id: Token<'a>,
     ) -> Result<(), Stop> {
-        let mut computer = Computer::new(self.alloc, places, self.constants);
+        let mut computer = Computer::new(self.arena, places, self.constants);
         let computed = computer.name(id.text, id.span)?;
-        marker::id(&mut self.markers, marker, &computer, &computed)
+        marker::id(&mut self.markers, marker, &computer, computed)
     }
 
     // The field with an id of this type.
@@ -99,8 +98,10 @@ impl<'b, 'a> Builder<'b, 'a> {
             );
         };
         if place.number != Some(wanted) {
-            let message = format!(in self.alloc; "an id that is no `{wanted}`, as its enum says")?;
-            return self.wrong(span, message.as_str(), "write the same type in both places");
+            let message = self.arena.print(format_args!(
+                "an id that is no `{wanted}`, as its enum says"
+            ))?;
+            return self.wrong(span, message, "write the same type in both places");
         }
         let kind = Kind::Name;
         let text = name;

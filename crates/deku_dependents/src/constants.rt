@@ -31,14 +31,14 @@ impl<'b, 'a> Builder<'b, 'a> {
             let width = left.min(64);
             left = left.saturating_sub(width);
             let kind = match order {
-                Order::Msb => format!(in self.alloc; "Msb<u64, {width}>")?,
-                Order::Lsb => format!(in self.alloc; "Lsb<u64, {width}>")?,
+                Order::Msb => self.arena.print(format_args!("Msb<u64, {width}>"))?,
+                Order::Lsb => self.arena.print(format_args!("Lsb<u64, {width}>"))?,
             };
             let marker = match order {
                 Order::Msb => "Zeros",
                 Order::Lsb => "LowZeros",
             };
-            let part = constant(self.alloc, self.owner, kind.as_str(), marker, "padding")?;
+            let part = constant(self.arena, self.owner, kind, marker, "padding")?;
             self.items.push(part)?;
         }
         Ok(())
@@ -48,8 +48,8 @@ impl<'b, 'a> Builder<'b, 'a> {
     pub fn magic(
         &mut self,
         bytes: &Vec<u8>,
-        name: String,
-        what: &str,
+        name: &'a str,
+        what: &'a str,
         order: Order,
         span: Span,
     ) -> Result<(), Stop> {
@@ -62,23 +62,16 @@ impl<'b, 'a> Builder<'b, 'a> {
         }
         let number = number_of(bytes.as_slice());
         let count = bytes.len();
-        let (constructor, kind) = magic_kind(self.alloc, count, order)?;
-        let value = format!(in self.alloc; "0x{number:X}")?;
-        let what = String::from_str(self.alloc, what)?;
+        let (constructor, kind) = magic_kind(self.arena, count, order)?;
+        let value = self.arena.print(format_args!("0x{number:X}"))?;
         let marker = Marker {
-            name: name.as_str(),
-            parts: kind.as_str(),
+            name,
+            parts: kind,
             lent: None,
-            field: what.as_str(),
+            field: what,
         };
-        marker::constant(&mut self.markers, marker, constructor, value.as_str())?;
-        let part = constant(
-            self.alloc,
-            self.owner,
-            kind.as_str(),
-            name.as_str(),
-            "magic",
-        )?;
+        marker::constant(&mut self.markers, marker, constructor, value)?;
+        let part = constant(self.arena, self.owner, kind, name, "magic")?;
         self.items.push(part)?;
         self.names.push(name)?;
         Ok(())

@@ -4,8 +4,9 @@
 use crate::computing::{Computed, Computer};
 use crate::part::Place;
 use deku_attributes::model::Order;
+use deku_texts::arena::Arena;
 use deku_texts::refusal::Stop;
-use std::alloc::{AllocError, Global};
+use std::alloc::AllocError;
 use std::fmt::Write as _;
 
 /// A marker, as it is printed.
@@ -73,11 +74,11 @@ pub fn count(
     out: &mut String,
     amount: Amount,
     marker: Marker<'_>,
-    computer: &Computer<'_, '_, '_>,
-    computed: &Computed,
+    computer: &Computer<'_, '_>,
+    computed: Computed<'_>,
 ) -> Result<(), Stop> {
     let (what, then) = amount.words();
-    declared(out, marker, what, then, computed.code.as_str())?;
+    declared(out, marker, what, then, computed.code)?;
     count_of(out, amount, marker, computer, computed)?;
     if let Some(lent) = marker.of_lent() {
         count_of(out, amount, lent, computer, computed)?;
@@ -90,19 +91,18 @@ fn count_of(
     out: &mut String,
     amount: Amount,
     marker: Marker<'_>,
-    computer: &Computer<'_, '_, '_>,
-    computed: &Computed,
+    computer: &Computer<'_, '_>,
+    computed: Computed<'_>,
 ) -> Result<(), Stop> {
     let parts = marker.parts;
-    let code = computed.code.as_str();
+    let code = computed.code;
     let call = amount.call();
     implemented(out, amount.traits().0, marker)?;
     write!(out, "    ghost {call}_of = {{ λ p. ")?;
     for (term, _) in &computer.guards {
-        let term = term.as_str();
         write!(out, "if {term} then None else ")?;
     }
-    let term = computed.term.as_str();
+    let term = computed.term;
     let is_atom = !term.contains(' ');
     if is_atom {
         write!(out, "Some {term}")?;
@@ -115,7 +115,6 @@ fn count_of(
     )?;
     locals(out, computer, true)?;
     for (_, guard) in &computer.guards {
-        let guard = guard.as_str();
         writeln!(
             out,
             "        if {guard} {{\n            return None;\n        }}"
@@ -129,10 +128,10 @@ fn count_of(
 pub fn condition(
     out: &mut String,
     marker: Marker<'_>,
-    computer: &Computer<'_, '_, '_>,
-    computed: &Computed,
+    computer: &Computer<'_, '_>,
+    computed: Computed<'_>,
 ) -> Result<(), Stop> {
-    declared(out, marker, "Whether", "is there", computed.code.as_str())?;
+    declared(out, marker, "Whether", "is there", computed.code)?;
     shows(out, marker, computer, computed)?;
     if let Some(lent) = marker.of_lent() {
         shows(out, lent, computer, computed)?;
@@ -144,11 +143,11 @@ pub fn condition(
 fn shows(
     out: &mut String,
     marker: Marker<'_>,
-    computer: &Computer<'_, '_, '_>,
-    computed: &Computed,
+    computer: &Computer<'_, '_>,
+    computed: Computed<'_>,
 ) -> Result<(), Stop> {
     let parts = marker.parts;
-    let term = computed.term.as_str();
+    let term = computed.term;
     implemented(out, "Condition", marker)?;
     writeln!(out, "    ghost shows = {{ λ p. {term} }};\n")?;
     writeln!(out, "    fn shows(parts: &{parts}) -> bool {{")?;
@@ -161,11 +160,11 @@ fn shows(
 pub fn last(
     out: &mut String,
     marker: Marker<'_>,
-    computer: &Computer<'_, '_, '_>,
-    computed: &Computed,
+    computer: &Computer<'_, '_>,
+    computed: Computed<'_>,
 ) -> Result<(), Stop> {
     let parts = marker.parts;
-    let (code, term) = (computed.code.as_str(), computed.term.as_str());
+    let (code, term) = (computed.code, computed.term);
     declared(out, marker, "Which item of", "is the last", code)?;
     implemented(out, "Last", marker)?;
     writeln!(out, "    ghost last_of = {{ λ p. {term} }};\n")?;
@@ -179,10 +178,10 @@ pub fn last(
 pub fn check(
     out: &mut String,
     marker: Marker<'_>,
-    computer: &Computer<'_, '_, '_>,
-    computed: &Computed,
+    computer: &Computer<'_, '_>,
+    computed: Computed<'_>,
 ) -> Result<(), Stop> {
-    declared(out, marker, "What", "has to be", computed.code.as_str())?;
+    declared(out, marker, "What", "has to be", computed.code)?;
     passes(out, marker, computer, computed)?;
     if let Some(lent) = marker.of_lent() {
         passes(out, lent, computer, computed)?;
@@ -194,11 +193,11 @@ pub fn check(
 fn passes(
     out: &mut String,
     marker: Marker<'_>,
-    computer: &Computer<'_, '_, '_>,
-    computed: &Computed,
+    computer: &Computer<'_, '_>,
+    computed: Computed<'_>,
 ) -> Result<(), Stop> {
     let Marker { parts, field, .. } = marker;
-    let term = computed.term.as_str();
+    let term = computed.term;
     implemented(out, "Check", marker)?;
     writeln!(out, "    ghost passes = {{ λ p. {term} }};\n")?;
     writeln!(out, "    ghost text = {{ codes \"{field}\" }};\n")?;
@@ -213,10 +212,10 @@ fn passes(
 pub fn id(
     out: &mut String,
     marker: Marker<'_>,
-    computer: &Computer<'_, '_, '_>,
-    computed: &Computed,
+    computer: &Computer<'_, '_>,
+    computed: Computed<'_>,
 ) -> Result<(), Stop> {
-    declared(out, marker, "Which kind", "is", computed.code.as_str())?;
+    declared(out, marker, "Which kind", "is", computed.code)?;
     id_of(out, marker, computer, computed)?;
     if let Some(lent) = marker.of_lent() {
         id_of(out, lent, computer, computed)?;
@@ -228,18 +227,18 @@ pub fn id(
 fn id_of(
     out: &mut String,
     marker: Marker<'_>,
-    computer: &Computer<'_, '_, '_>,
-    computed: &Computed,
+    computer: &Computer<'_, '_>,
+    computed: Computed<'_>,
 ) -> Result<(), AllocError> {
     let parts = marker.parts;
-    let term = computed.term.as_str();
+    let term = computed.term;
     implemented(out, "IdOf", marker)?;
     writeln!(out, "    ghost id_of = {{ λ p. {term} }};\n")?;
     writeln!(out, "    fn id(parts: &{parts}) -> u64 {{")?;
     out.push_str("        ")?;
     for index in &computer.used {
         if let Some(place) = computer.places.get(*index) {
-            reached(out, computer, place)?;
+            reached(out, computer, *place)?;
             let is_whole = place.number == Some("u64");
             out.push_str(if is_whole { "\n" } else { " as u64\n" })?;
         }
@@ -299,14 +298,14 @@ pub fn context(
     out: &mut String,
     under: Under,
     marker: Marker<'_>,
-    computer: &Computer<'_, '_, '_>,
-    computed: &Computed,
+    computer: &Computer<'_, '_>,
+    computed: Computed<'_>,
 ) -> Result<(), Stop> {
     let what = match under.unit {
         Unit::Bits => "How many bits",
         Unit::Bytes => "How many bytes",
     };
-    declared(out, marker, what, "has", computed.code.as_str())?;
+    declared(out, marker, what, "has", computed.code)?;
     context_of(out, under, marker, computer, computed)?;
     if let Some(lent) = marker.of_lent() {
         context_of(out, under, lent, computer, computed)?;
@@ -325,8 +324,8 @@ fn context_of(
     out: &mut String,
     under: Under,
     marker: Marker<'_>,
-    computer: &Computer<'_, '_, '_>,
-    computed: &Computed,
+    computer: &Computer<'_, '_>,
+    computed: Computed<'_>,
 ) -> Result<(), AllocError> {
     let (parts, kind) = (marker.parts, under.kind());
     let (endian, size, [term_end, code_end]) = under.words();
@@ -336,7 +335,7 @@ fn context_of(
         ..marker
     };
     implemented(out, "ContextOf", both)?;
-    let term = computed.term.as_str();
+    let term = computed.term;
     writeln!(
         out,
         "    ghost context_of = {{ λ p. ({endian}, record {{ 0 = {term} }}{term_end}) }};\n"
@@ -345,7 +344,7 @@ fn context_of(
     write!(out, "        (Endian::{endian}, {size}(")?;
     for index in &computer.used {
         if let Some(place) = computer.places.get(*index) {
-            reached(out, computer, place)?;
+            reached(out, computer, *place)?;
             let is_whole = place.number == Some("usize");
             out.push_str(if is_whole { "" } else { " as usize" })?;
         }
@@ -466,16 +465,12 @@ fn text(out: &mut String, text: &str) -> Result<(), AllocError> {
 }
 
 // Appends a local for each field that is used.
-fn locals(
-    out: &mut String,
-    computer: &Computer<'_, '_, '_>,
-    is_cast: bool,
-) -> Result<(), AllocError> {
+fn locals(out: &mut String, computer: &Computer<'_, '_>, is_cast: bool) -> Result<(), AllocError> {
     for index in &computer.used {
         if let Some(place) = computer.places.get(*index) {
-            let name = place.name.as_str();
+            let name = place.name;
             write!(out, "        let {name} = ")?;
-            reached(out, computer, place)?;
+            reached(out, computer, *place)?;
             let is_number = place.number != Some("bool") && place.number != Some("usize");
             out.push_str(if is_cast && is_number {
                 " as usize;\n"
@@ -490,10 +485,10 @@ fn locals(
 // Appends where a field is in the parts.
 fn reached(
     out: &mut String,
-    computer: &Computer<'_, '_, '_>,
-    place: &Place<'_>,
+    computer: &Computer<'_, '_>,
+    place: Place<'_>,
 ) -> Result<(), AllocError> {
-    let (from, path) = (computer.from, place.path.as_str());
+    let (from, path) = (computer.from, place.path);
     if path.is_empty() {
         write!(out, "*{from}")
     } else {
@@ -504,15 +499,15 @@ fn reached(
 // Appends the body of a function that returns a truth value.
 fn truth(
     out: &mut String,
-    computer: &Computer<'_, '_, '_>,
-    computed: &Computed,
+    computer: &Computer<'_, '_>,
+    computed: Computed<'_>,
 ) -> Result<(), AllocError> {
-    let code = computed.code.as_str();
+    let code = computed.code;
     if let [index] = computer.used.as_slice() {
         if let Some(place) = computer.places.get(*index) {
-            if place.name.as_str() == code {
+            if place.name == code {
                 out.push_str("        ")?;
-                reached(out, computer, place)?;
+                reached(out, computer, *place)?;
                 return out.push('\n');
             }
         }
@@ -526,13 +521,13 @@ fn alike(
     out: &mut String,
     what: &str,
     marker: Marker<'_>,
-    computer: &Computer<'_, '_, '_>,
+    computer: &Computer<'_, '_>,
 ) -> Result<(), Stop> {
     implemented(out, what, marker)?;
     out.push_str("    ghost alike = { λ v w e. ")?;
     for (i, index) in computer.used.iter().enumerate() {
         if let Some(place) = computer.places.get(*index) {
-            let same = place.same.as_str();
+            let same = place.same;
             let front = if i > 0 {
                 ", e"
             } else if computer.used.len() > 1 {
@@ -561,16 +556,16 @@ pub fn number_of(bytes: &[u8]) -> u64 {
 }
 
 /// The constructor and the type of a number of so many bytes.
-pub fn magic_kind(
-    alloc: Global,
+pub fn magic_kind<'a>(
+    arena: &'a Arena,
     count: usize,
     order: Order,
-) -> Result<(&'static str, String), AllocError> {
+) -> Result<(&'static str, &'a str), AllocError> {
     let bits = count.saturating_mul(8);
     Ok(match (order, count) {
-        (Order::Lsb, _) => ("LsbBe", format!(in alloc; "LsbBe<u64, {bits}>")?),
-        (Order::Msb, 1) => ("", format!(in alloc; "u8")?),
-        (Order::Msb, 2 | 4 | 8) => ("Be", format!(in alloc; "Be<u{bits}>")?),
-        (Order::Msb, _) => ("Msb", format!(in alloc; "Msb<u64, {bits}>")?),
+        (Order::Lsb, _) => ("LsbBe", arena.print(format_args!("LsbBe<u64, {bits}>"))?),
+        (Order::Msb, 1) => ("", "u8"),
+        (Order::Msb, 2 | 4 | 8) => ("Be", arena.print(format_args!("Be<u{bits}>"))?),
+        (Order::Msb, _) => ("Msb", arena.print(format_args!("Msb<u64, {bits}>"))?),
     })
 }

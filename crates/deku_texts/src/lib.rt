@@ -1,6 +1,7 @@
 //! What modules say of the parts of records: their texts, laid out as `rt fmt` does.
 #![tactic(auto)]
 
+pub mod arena;
 pub mod document;
 pub mod records;
 pub mod refusal;

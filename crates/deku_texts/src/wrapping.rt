@@ -1,9 +1,10 @@
 //! How fields are laid out: the parts around their values.
 
+use crate::arena::Arena;
 use deku_attributes::model::{Endian, Field, Order};
 use deku_attributes::reading::{address_bits, bits_of};
 use deku_description::syntax::{Length, Type};
-use std::alloc::{AllocError, Global};
+use std::alloc::AllocError;
 use std::fmt::Write as _;
 
 /// How a value is laid out: the part around it, if there is one.
@@ -116,12 +117,12 @@ pub fn common_bits(kind: &Type<'_>) -> Option<u64> {
 }
 
 /// The type of a field's part.
-pub fn part_kind(alloc: Global, field: &Field<'_>) -> Result<String, AllocError> {
+pub fn part_kind<'a>(arena: &'a Arena, field: &Field<'_>) -> Result<&'a str, AllocError> {
     let Wrapping { around, bits } = wrapping_of(field);
-    let mut out = String::new(alloc);
+    let mut out = String::new(arena.alloc());
     if around.is_empty() {
         item(&mut out, &field.kind, field)?;
-        return Ok(out);
+        return arena.keep(out.as_str());
     }
     write!(out, "{around}<")?;
     plain(&mut out, &field.kind)?;
@@ -129,18 +130,18 @@ pub fn part_kind(alloc: Global, field: &Field<'_>) -> Result<String, AllocError>
         write!(out, ", {bits}")?;
     }
     out.push('>')?;
-    Ok(out)
+    arena.keep(out.as_str())
 }
 
 /// The type of a field as the module has it.
-pub fn field_kind(alloc: Global, field: &Field<'_>) -> Result<String, AllocError> {
-    let mut out = String::new(alloc);
+pub fn field_kind<'a>(arena: &'a Arena, field: &Field<'_>) -> Result<&'a str, AllocError> {
+    let mut out = String::new(arena.alloc());
     if wrapping_of(field).around.is_empty() {
         item(&mut out, &field.kind, field)?;
     } else {
         plain(&mut out, &field.kind)?;
     }
-    Ok(out)
+    arena.keep(out.as_str())
 }
 
 /// Appends a type as it is described.
