@@ -2,6 +2,7 @@
 
 use deku_attributes::given::chosen;
 use deku_attributes::model::Field;
+use deku_texts::arena::Arena;
 use deku_texts::document::{Form, Text};
 use deku_texts::words::snake;
 use std::alloc::AllocError;
@@ -9,35 +10,35 @@ use std::fmt::Write as _;
 
 /// Appends the law that no field is missing from the parts of a struct. It follows from the same
 /// law of each enum whose id is a field, which is imported from this module.
-pub(crate) fn there(
+pub(crate) fn there<'a>(
+    arena: &'a Arena,
     out: &mut String,
-    fields: &[Field<'_>],
+    fields: &[Field<'a>],
     path: Option<&str>,
 ) -> Result<(), AllocError> {
-    let alloc = *out.allocator();
-    let mut laws = Vec::new(alloc);
+    let mut laws = Vec::new(arena.alloc());
     for (i, field) in fields.iter().enumerate() {
         let Some(kind) = chosen(field) else {
             continue;
         };
-        let law = snake(alloc, kind)?;
-        let law = law.as_str();
+        let law = snake(arena, kind)?;
         if !fields.iter().take(i).any(|it| chosen(it) == Some(kind)) {
             imported(out, kind, law, path.unwrap_or(""))?;
         }
         laws.push(Text::of(match field.name {
             Some(name) => {
                 let name = name.text;
-                format!(in alloc; "{law}_there r.{name}")?
+                arena.print(format_args!("{law}_there r.{name}"))?
             }
-            None => format!(in alloc; "{law}_there r.{i}")?,
+            None => arena.print(format_args!("{law}_there r.{i}"))?,
         }))?;
     }
     if laws.is_empty() {
         return out.push_str("    ghost there = { λ r. refl };\n}\n");
     }
     out.push_str("\n    ghost there = { λ r. ")?;
-    Text::group(alloc, Form::GhostRound, "rw (", laws)?.print(out, 4, 8, false)?;
+    let laws = arena.list(laws.as_slice())?;
+    Text::group(Form::GhostRound, "rw (", laws).print(out, 4, 8, false)?;
     out.push_str(" refl };\n}\n")
 }
 

@@ -1,8 +1,9 @@
 //! What a module imports: the names that its text has.
 
 use deku_attributes::model::{Form, Module};
+use deku_texts::arena::Arena;
 use deku_texts::words::{MADE, snake};
-use std::alloc::{AllocError, Global};
+use std::alloc::AllocError;
 use std::fmt::Write as _;
 
 // The names of deku_symmetry, in the order in which `rt fmt` has them.
@@ -122,15 +123,14 @@ const WORDS: [(&str, &str); 24] = [
 
 /// Appends what a module imports that goes on with this text.
 pub(crate) fn imports(
+    arena: &Arena,
     out: &mut String,
     module: &Module<'_>,
     path: Option<&str>,
     text: &str,
 ) -> Result<(), AllocError> {
-    let alloc = *out.allocator();
-    let (term, code) = parted(alloc, text)?;
-    let words = words_of(alloc, term.as_str())?;
-    let words = words.as_str();
+    let (term, code) = parted(arena, text)?;
+    let words = words_of(arena, term)?;
     writeln!(
         out,
         "
@@ -138,27 +138,33 @@ ghost use Rattle.std.specs.Prelude.{{{words}}};
 ghost use Rattle.deku.specs.Composing.{{Then}};
 ghost use Rattle.deku.specs.Shapes.{{Shows}};"
     )?;
-    refusals(out, term.as_str())?;
-    contexts(out, term.as_str())?;
-    made(out, term.as_str())?;
-    kinds(out, module, path)?;
+    refusals(out, term)?;
+    contexts(arena, out, term)?;
+    made(arena, out, term)?;
+    kinds(arena, out, module, path)?;
     out.push('\n')?;
     own_uses(out, module)?;
     for (from, names) in USED {
-        used(out, from, names, code.as_str())?;
+        used(arena, out, from, names, code)?;
     }
     Ok(())
 }
 
 // The words of the standard library that ghost text has.
-fn words_of(alloc: Global, text: &str) -> Result<String, AllocError> {
-    let mut words = Vec::new(alloc);
+fn words_of<'a>(arena: &'a Arena, text: &str) -> Result<&'a str, AllocError> {
+    let mut words = Vec::new(arena.alloc());
     for (word, found) in &WORDS {
         if text.contains(*found) {
             words.push(*word)?;
         }
     }
-    words.as_slice().join(alloc, ", ")
+    listed(arena, words.as_slice())
+}
+
+// Words with commas between them.
+fn listed<'a>(arena: &'a Arena, words: &[&str]) -> Result<&'a str, AllocError> {
+    let list = words.join(arena.alloc(), ", ")?;
+    arena.keep(list.as_str())
 }
 
 // Appends what a description uses of its own crate.
@@ -186,16 +192,15 @@ ghost use Rattle.deku.specs.Faults.{Tells};
 }
 
 // Appends the words for contexts that ghost text has.
-fn contexts(out: &mut String, text: &str) -> Result<(), AllocError> {
-    let mut endians = Vec::new(*out.allocator());
+fn contexts(arena: &Arena, out: &mut String, text: &str) -> Result<(), AllocError> {
+    let mut endians = Vec::new(arena.alloc());
     for (word, found) in [("Big", "λ p. (Big, "), ("Little", "λ p. (Little, ")] {
         if text.contains(found) {
             endians.push(word)?;
         }
     }
     if !endians.is_empty() {
-        let words = endians.as_slice().join(*out.allocator(), ", ")?;
-        let words = words.as_str();
+        let words = listed(arena, endians.as_slice())?;
         out.push_str("ghost use Rattle.deku.specs.declared.ctx.Endian.TheVariants")?;
         writeln!(out, ".{{{words}}};")?;
     }
@@ -206,9 +211,8 @@ fn contexts(out: &mut String, text: &str) -> Result<(), AllocError> {
 }
 
 // Appends the words for parts of one value that ghost text has.
-fn made(out: &mut String, text: &str) -> Result<(), AllocError> {
-    let alloc = *out.allocator();
-    let mut words = Vec::new(alloc);
+fn made(arena: &Arena, out: &mut String, text: &str) -> Result<(), AllocError> {
+    let mut words = Vec::new(arena.alloc());
     for (_, word) in &MADE {
         if has_word(text, word) {
             words.push(*word)?;
@@ -217,8 +221,7 @@ fn made(out: &mut String, text: &str) -> Result<(), AllocError> {
     if words.is_empty() {
         return Ok(());
     }
-    let words = words.as_slice().join(alloc, ", ")?;
-    let words = words.as_str();
+    let words = listed(arena, words.as_slice())?;
     writeln!(
         out,
         "ghost use Rattle.deku_symmetry.specs.Fields.{{{words}}};"
@@ -226,13 +229,17 @@ fn made(out: &mut String, text: &str) -> Result<(), AllocError> {
 }
 
 // Appends the kinds of enums that ghost text names.
-fn kinds(out: &mut String, module: &Module<'_>, path: Option<&str>) -> Result<(), AllocError> {
+fn kinds(
+    arena: &Arena,
+    out: &mut String,
+    module: &Module<'_>,
+    path: Option<&str>,
+) -> Result<(), AllocError> {
     let mut is_first = true;
     for record in &module.records {
         if let (Form::Enum(_, _), Some(path)) = (&record.form, path) {
             let name = record.name.text;
-            let kinds = snake(*out.allocator(), name)?;
-            let kinds = kinds.as_str();
+            let kinds = snake(arena, name)?;
             if is_first {
                 out.push_str("ghost use Rattle.deku_pieces.specs.declared.")?;
                 out.push_str("either.Either.TheVariants as either;\n")?;
@@ -248,9 +255,9 @@ fn kinds(out: &mut String, module: &Module<'_>, path: Option<&str>) -> Result<()
 }
 
 // The lines of ghost text, and those of code.
-fn parted(alloc: Global, text: &str) -> Result<(String, String), AllocError> {
-    let mut term = String::new(alloc);
-    let mut code = String::new(alloc);
+fn parted<'a>(arena: &'a Arena, text: &str) -> Result<(&'a str, &'a str), AllocError> {
+    let mut term = String::new(arena.alloc());
+    let mut code = String::new(arena.alloc());
     // How many braces of ghost text are open.
     let mut open = 0usize;
     for line in text.lines() {
@@ -265,17 +272,18 @@ fn parted(alloc: Global, text: &str) -> Result<(String, String), AllocError> {
             code.push('\n')?;
         }
     }
-    Ok((term, code))
+    Ok((arena.keep(term.as_str())?, arena.keep(code.as_str())?))
 }
 
 // Appends the import of those of these names that a text has.
 fn used(
+    arena: &Arena,
     out: &mut String,
     from: &str,
     names: &[&'static str],
     text: &str,
 ) -> Result<(), AllocError> {
-    let mut found = Vec::new(*out.allocator());
+    let mut found = Vec::new(arena.alloc());
     for name in names {
         if has_word(text, name) {
             found.push(*name)?;
@@ -285,10 +293,9 @@ fn used(
         [] => Ok(()),
         [name] => writeln!(out, "use {from}::{name};"),
         names => {
-            let line = names.join(*out.allocator(), ", ")?;
+            let line = listed(arena, names)?;
             let columns = line.len().saturating_add(from.len()).saturating_add(9);
             if columns < 99 {
-                let line = line.as_str();
                 return writeln!(out, "use {from}::{{{line}}};");
             }
             writeln!(out, "use {from}::{{")?;

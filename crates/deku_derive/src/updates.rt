@@ -2,29 +2,40 @@
 
 use deku_attributes::model::Field;
 use deku_dependents::updating::Updated;
+use deku_texts::arena::Arena;
 use deku_texts::document::{Form, Text};
 use deku_texts::words::quoted;
-use std::alloc::{AllocError, Global};
+use std::alloc::AllocError;
 use std::fmt::Write as _;
 
 /// Appends the update of a struct, if it has fields that one sets.
-pub(crate) fn update(out: &mut String, name: &str, fields: &[Field<'_>]) -> Result<(), AllocError> {
-    let mut updated = Vec::new(*out.allocator());
+pub(crate) fn update<'a>(
+    arena: &'a Arena,
+    out: &mut String,
+    name: &str,
+    fields: &[Field<'a>],
+) -> Result<(), AllocError> {
+    let updated = updated_of(arena, fields)?;
+    if updated.is_empty() {
+        return Ok(());
+    }
+    comment(out, updated)?;
+    writeln!(out, "impl DekuUpdate for {name} {{")?;
+    fits(arena, out, updated)?;
+    changed(arena, out, updated)?;
+    refused(arena, out, updated)?;
+    body(out, updated)
+}
+
+// The fields that an update sets.
+fn updated_of<'a>(arena: &'a Arena, fields: &[Field<'a>]) -> Result<&'a [Updated<'a>], AllocError> {
+    let mut updated = Vec::new(arena.alloc());
     for field in fields {
         if let Some(it) = Updated::of(field, fields) {
             updated.push(it)?;
         }
     }
-    if updated.is_empty() {
-        return Ok(());
-    }
-    let updated = updated.as_slice();
-    comment(out, updated)?;
-    writeln!(out, "impl DekuUpdate for {name} {{")?;
-    fits(out, updated)?;
-    changed(out, updated)?;
-    refused(out, updated)?;
-    body(out, updated)
+    arena.list(updated.as_slice())
 }
 
 fn comment(out: &mut String, updated: &[Updated<'_>]) -> Result<(), AllocError> {
@@ -39,18 +50,16 @@ fn comment(out: &mut String, updated: &[Updated<'_>]) -> Result<(), AllocError> 
 }
 
 // The length of a field's list, in ghost text.
-fn length(alloc: Global, it: &Updated<'_>) -> Result<String, AllocError> {
-    let list = quoted(alloc, it.list)?;
-    let list = list.as_str();
-    format!(in alloc; "length v.{list}.items")
+fn length<'a>(arena: &'a Arena, it: Updated<'a>) -> Result<&'a str, AllocError> {
+    let list = quoted(arena, it.list)?;
+    arena.print(format_args!("length v.{list}.items"))
 }
 
 // Appends that each length fits.
-fn fits(out: &mut String, updated: &[Updated<'_>]) -> Result<(), AllocError> {
+fn fits<'a>(arena: &'a Arena, out: &mut String, updated: &[Updated<'a>]) -> Result<(), AllocError> {
     out.push_str("    ghost updates = { λ v r w. (")?;
     for it in updated {
-        let length = length(*out.allocator(), it)?;
-        let (length, bits) = (length.as_str(), it.bits);
+        let (length, bits) = (length(arena, *it)?, it.bits);
         writeln!(out, "({length} < 2 ^ {bits})")?;
         out.push_str("        × ")?;
     }
@@ -58,30 +67,35 @@ fn fits(out: &mut String, updated: &[Updated<'_>]) -> Result<(), AllocError> {
 }
 
 // Appends what is left then.
-fn changed(out: &mut String, updated: &[Updated<'_>]) -> Result<(), AllocError> {
-    let alloc = *out.allocator();
-    let mut items = Vec::new(alloc);
+fn changed<'a>(
+    arena: &'a Arena,
+    out: &mut String,
+    updated: &[Updated<'a>],
+) -> Result<(), AllocError> {
+    let mut items = Vec::new(arena.alloc());
     for it in updated {
-        let name = quoted(alloc, it.name)?;
-        let length = length(alloc, it)?;
-        let (name, length) = (name.as_str(), length.as_str());
-        items.push(Text::of(format!(in alloc; "{name} = {length}")?))?;
+        let name = quoted(arena, it.name)?;
+        let length = length(arena, *it)?;
+        items.push(Text::of(arena.print(format_args!("{name} = {length}"))?))?;
     }
+    let items = arena.list(items.as_slice())?;
     out.push_str("        × (w ≡ ")?;
-    Text::group(alloc, Form::GhostBrace, "record v {", items)?.print(out, 8, 2, false)?;
+    Text::group(Form::GhostBrace, "record v {", items).print(out, 8, 2, false)?;
     out.push_str("))\n")
 }
 
 // Appends that a length does not fit, and what is left then.
-fn refused(out: &mut String, updated: &[Updated<'_>]) -> Result<(), AllocError> {
-    let alloc = *out.allocator();
-    let mut misfits = Vec::new(alloc);
+fn refused<'a>(
+    arena: &'a Arena,
+    out: &mut String,
+    updated: &[Updated<'a>],
+) -> Result<(), AllocError> {
+    let mut misfits = Vec::new(arena.alloc());
     for it in updated {
-        let length = length(alloc, it)?;
-        let (length, bits) = (length.as_str(), it.bits);
-        misfits.push(format!(in alloc; "(2 ^ {bits} ≤ {length})")?)?;
+        let (length, bits) = (length(arena, *it)?, it.bits);
+        misfits.push(arena.print(format_args!("(2 ^ {bits} ≤ {length})"))?)?;
     }
-    let one = misfits.as_slice().join(alloc, "\n        ⊎ ")?;
+    let one = misfits.as_slice().join(arena.alloc(), "\n        ⊎ ")?;
     let one = one.as_str();
     if updated.len() > 1 {
         writeln!(out, "        ⊎ (({one})")?;

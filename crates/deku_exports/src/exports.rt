@@ -1,8 +1,10 @@
 //! The functions that C calls.
 
 use deku_attributes::model::Module;
+use deku_texts::arena::Arena;
+use deku_texts::document::joined;
 use deku_texts::words::snake;
-use std::alloc::{AllocError, Global};
+use std::alloc::AllocError;
 use std::fmt::Write as _;
 
 /// The columns of a line.
@@ -23,23 +25,23 @@ const WRITES: &str = "
 ";
 
 /// The functions of all records of a module, as they end it.
-pub(crate) fn exports(alloc: Global, module: &Module<'_>) -> Result<String, AllocError> {
-    let mut out = String::new(alloc);
+pub(crate) fn exports<'a>(arena: &'a Arena, module: &Module<'a>) -> Result<&'a str, AllocError> {
+    let mut out = String::new(arena.alloc());
     for record in &module.records {
         let name = record.name.text;
-        let function = snake(alloc, name)?;
-        reading(&mut out, name, function.as_str())?;
-        writing(&mut out, name, function.as_str())?;
+        let function = snake(arena, name)?;
+        reading(arena, &mut out, name, function)?;
+        writing(arena, &mut out, name, function)?;
     }
-    Ok(out)
+    arena.keep(out.as_str())
 }
 
 // Appends the function that reads a record.
-fn reading(out: &mut String, name: &str, function: &str) -> Result<(), AllocError> {
+fn reading(arena: &Arena, out: &mut String, name: &str, function: &str) -> Result<(), AllocError> {
     out.push_str(READS)?;
-    let place = format!(in *out.allocator(); "place: &mut {name}")?;
-    let parameters = ["alloc: Global", "bytes: &[u8]", place.as_str()];
-    signature(out, function, "read", &parameters)?;
+    let place = joined(arena, "place: &mut ", name)?;
+    let parameters = ["alloc: Global", "bytes: &[u8]", place];
+    signature(arena, out, function, "read", &parameters)?;
     writeln!(
         out,
         "    ensures {{ ⟦<{name} as ForC>⟧.reads_for_c bytes.now result place.old place.new }}
@@ -50,15 +52,10 @@ fn reading(out: &mut String, name: &str, function: &str) -> Result<(), AllocErro
 }
 
 // Appends the function that writes a record.
-fn writing(out: &mut String, name: &str, function: &str) -> Result<(), AllocError> {
+fn writing(arena: &Arena, out: &mut String, name: &str, function: &str) -> Result<(), AllocError> {
     out.push_str(WRITES)?;
-    let value = format!(in *out.allocator(); "value: &{name}")?;
-    signature(
-        out,
-        function,
-        "write",
-        &[value.as_str(), "bytes: &mut [u8]"],
-    )?;
+    let value = joined(arena, "value: &", name)?;
+    signature(arena, out, function, "write", &[value, "bytes: &mut [u8]"])?;
     writeln!(
         out,
         "    ensures {{ ⟦<{name} as ForC>⟧.writes_for_c value.now bytes.old result bytes.new }}
@@ -70,17 +67,17 @@ fn writing(out: &mut String, name: &str, function: &str) -> Result<(), AllocErro
 
 // Appends the head of a function, with a line for each parameter if one line does not hold it.
 fn signature(
+    arena: &Arena,
     out: &mut String,
     function: &str,
     verb: &str,
     parameters: &[&str],
 ) -> Result<(), AllocError> {
-    let alloc = *out.allocator();
-    let list = parameters.join(alloc, ", ")?;
+    let list = parameters.join(arena.alloc(), ", ")?;
     let list = list.as_str();
-    let line = format!(in alloc; "pub extern \"C\" fn {function}_{verb}({list}) -> u32")?;
-    if line.as_str().chars().count() <= WIDTH {
-        let line = line.as_str();
+    let head = format_args!("pub extern \"C\" fn {function}_{verb}({list}) -> u32");
+    let line = arena.print(head)?;
+    if line.chars().count() <= WIDTH {
         return writeln!(out, "{line}");
     }
     writeln!(out, "pub extern \"C\" fn {function}_{verb}(")?;

@@ -3,8 +3,10 @@
 use crate::crossing::Crossed;
 use crate::exports::WIDTH;
 use deku_attributes::model::Module;
+use deku_texts::arena::Arena;
+use deku_texts::document::joined;
 use deku_texts::words::snake;
-use std::alloc::{AllocError, Global};
+use std::alloc::AllocError;
 use std::fmt::Write as _;
 
 const CALLERS: &str = "
@@ -55,15 +57,14 @@ const WRITES: &str = "
 
 /// The header of a module with these records.
 pub(crate) fn header(
-    alloc: Global,
+    arena: &Arena,
     file: &str,
     module: &Module<'_>,
-    records: &[Crossed<'_, '_>],
+    records: &[Crossed<'_>],
 ) -> Result<String, AllocError> {
     let file = file.rsplit('/').next().unwrap_or(file);
-    let guard = guard_of(alloc, file)?;
-    let guard = guard.as_str();
-    let mut out = String::from_str(alloc, "/*\n")?;
+    let guard = guard_of(arena, file)?;
+    let mut out = String::from_str(arena.alloc(), "/*\n")?;
     comment(&mut out, module.docs.as_slice(), " *")?;
     if !module.docs.is_empty() {
         out.push_str(" *\n")?;
@@ -73,15 +74,15 @@ pub(crate) fn header(
     writeln!(out, "#ifndef {guard}\n#define {guard}")?;
     out.push_str(BEGIN)?;
     for record in records {
-        declared(&mut out, record)?;
+        declared(arena, &mut out, *record)?;
     }
     out.push_str(END)?;
     Ok(out)
 }
 
 // The macro that keeps a header from being read twice: of `point.rs` `POINT_H`.
-fn guard_of(alloc: Global, file: &str) -> Result<String, AllocError> {
-    let mut guard = String::new(alloc);
+fn guard_of<'a>(arena: &'a Arena, file: &str) -> Result<&'a str, AllocError> {
+    let mut guard = String::new(arena.alloc());
     for letter in file.strip_suffix(".rs").unwrap_or(file).chars() {
         guard.push(if letter.is_ascii_alphanumeric() {
             letter.to_ascii_uppercase()
@@ -90,7 +91,7 @@ fn guard_of(alloc: Global, file: &str) -> Result<String, AllocError> {
         })?;
     }
     guard.push_str("_H")?;
-    Ok(guard)
+    arena.keep(guard.as_str())
 }
 
 // Appends lines of a comment, except those that would end it.
@@ -117,11 +118,9 @@ pub(crate) fn noted(out: &mut String, lines: &[&str]) -> Result<(), AllocError> 
 }
 
 // Appends a struct and its functions.
-fn declared(out: &mut String, crossed: &Crossed<'_, '_>) -> Result<(), AllocError> {
-    let alloc = *out.allocator();
+fn declared(arena: &Arena, out: &mut String, crossed: Crossed<'_>) -> Result<(), AllocError> {
     let record = crossed.record;
-    let name = snake(alloc, record.name.text)?;
-    let name = name.as_str();
+    let name = snake(arena, record.name.text)?;
     out.push_str("\n/*\n")?;
     comment(out, record.docs.as_slice(), " *")?;
     if record.docs.is_empty() {
@@ -129,11 +128,10 @@ fn declared(out: &mut String, crossed: &Crossed<'_, '_>) -> Result<(), AllocErro
         writeln!(out, " * The record `{text}`.")?;
     }
     writeln!(out, " */\nstruct {name} {{")?;
-    for field in &crossed.fields {
-        out.push_str(field.as_str())?;
+    for field in crossed.fields {
+        out.push_str(field)?;
     }
-    let large = upper(alloc, name)?;
-    let (large, bytes) = (large.as_str(), crossed.bytes);
+    let (large, bytes) = (upper(arena, name)?, crossed.bytes);
     writeln!(
         out,
         "}};
@@ -141,25 +139,27 @@ fn declared(out: &mut String, crossed: &Crossed<'_, '_>) -> Result<(), AllocErro
 /* How many bytes a struct {name} is read from, and written as. */
 #define {large}_BYTES {bytes}"
     )?;
-    functions(out, name)
+    functions(arena, out, name)
 }
 
 // Appends the functions of a struct.
-fn functions(out: &mut String, name: &str) -> Result<(), AllocError> {
-    let alloc = *out.allocator();
+fn functions(arena: &Arena, out: &mut String, name: &str) -> Result<(), AllocError> {
     out.push_str(READS)?;
-    let head = format!(in alloc; "{name}_read(const uint8_t *bytes, size_t byte_count,")?;
-    let last = format!(in alloc; "struct {name} *record);")?;
-    prototype(out, head.as_str(), last.as_str())?;
+    let head = joined(
+        arena,
+        name,
+        "_read(const uint8_t *bytes, size_t byte_count,",
+    )?;
+    let last = arena.print(format_args!("struct {name} *record);"))?;
+    prototype(arena, out, head, last)?;
     out.push_str(WRITES)?;
-    let head = format!(in alloc; "{name}_write(const struct {name} *record, uint8_t *bytes,")?;
-    prototype(out, head.as_str(), "size_t byte_count);")
+    let head = format_args!("{name}_write(const struct {name} *record, uint8_t *bytes,");
+    prototype(arena, out, arena.print(head)?, "size_t byte_count);")
 }
 
 // Appends what declares a function: one line, or two if one does not hold it.
-fn prototype(out: &mut String, head: &str, last: &str) -> Result<(), AllocError> {
-    let line = format!(in *out.allocator(); "uint32_t {head} {last}")?;
-    let line = line.as_str();
+fn prototype(arena: &Arena, out: &mut String, head: &str, last: &str) -> Result<(), AllocError> {
+    let line = arena.print(format_args!("uint32_t {head} {last}"))?;
     if line.chars().count() <= WIDTH {
         writeln!(out, "{line}")
     } else {
@@ -168,10 +168,10 @@ fn prototype(out: &mut String, head: &str, last: &str) -> Result<(), AllocError>
 }
 
 // A name with large letters.
-fn upper(alloc: Global, name: &str) -> Result<String, AllocError> {
-    let mut large = String::new(alloc);
+fn upper<'a>(arena: &'a Arena, name: &str) -> Result<&'a str, AllocError> {
+    let mut large = String::new(arena.alloc());
     for letter in name.chars() {
         large.push(letter.to_ascii_uppercase())?;
     }
-    Ok(large)
+    arena.keep(large.as_str())
 }

@@ -7,6 +7,7 @@ use deku_attributes::check;
 use deku_derive::making::{Made, add};
 use deku_derive::printing::{Asked, Printed, print};
 use deku_description::parse;
+use deku_texts::arena::Arena;
 use deku_tokens::place::told;
 use std::alloc::{AllocError, Global};
 
@@ -40,11 +41,12 @@ pub fn make_for_c<'t>(
     let (parsed, mut complaints) = parse(alloc, text)?;
     let (module, found) = check(alloc, text, parsed, complaints.is_empty())?;
     add(&mut complaints, found)?;
-    let functions = exports(alloc, &module)?;
+    let arena = Arena::new(alloc);
+    let functions = exports(&arena, &module)?;
     let asked = Asked {
         file,
         path,
-        exports: Some(functions.as_str()),
+        exports: Some(functions),
     };
     let Printed {
         module: printed,
@@ -52,7 +54,7 @@ pub fn make_for_c<'t>(
         ..
     } = print(alloc, asked, &module)?;
     add(&mut complaints, found)?;
-    let (records, found) = records_of(alloc, &module)?;
+    let (records, found) = records_of(&arena, &module)?;
     add(&mut complaints, found)?;
     if !complaints.is_empty() {
         complaints.sort_by_key(|complaint| complaint.span.start)?;
@@ -60,6 +62,6 @@ pub fn make_for_c<'t>(
     }
     Ok(Made::Module(match wanted {
         Wanted::Module => printed,
-        Wanted::Header => header(alloc, file, &module, records.as_slice())?,
+        Wanted::Header => header(&arena, file, &module, records.as_slice())?,
     }))
 }
