@@ -12,12 +12,12 @@ use deku_markers::following::Dependent;
 use deku_markers::marker;
 use deku_markers::marker::{Amount, Marker};
 use deku_markers::part::{Named, Owner, Part, Place, asserted, following, leaf, rest, tuple};
-use deku_texts::arena::Arena;
 use deku_texts::document::Text;
 use deku_texts::records::Records;
 use deku_texts::refusal::Stop;
 use deku_texts::words;
 use deku_texts::wrapping::{item, number_kind};
+use deku_tokens::arena::Arena;
 use deku_tokens::place::{Complaint, Span};
 use deku_tokens::token::Token;
 use std::alloc::AllocError;
@@ -37,7 +37,7 @@ pub struct Builder<'b, 'a> {
     pub markers: String,
     /// Their names.
     pub names: Vec<&'a str>,
-    pub complaints: Vec<Complaint>,
+    pub complaints: Vec<Complaint<'a>>,
     /// The structs in front of the record, and where their fields are in their parts.
     pub structs: Vec<(&'a str, &'a [Place<'a>])>,
     // Whether its last part takes the rest of the input.
@@ -83,12 +83,8 @@ impl<'b, 'a> Builder<'b, 'a> {
         }
     }
 
-    pub(crate) fn wrong<T>(&self, span: Span, message: &str, help: &str) -> Result<T, Stop> {
-        Stop::wrong(self.arena.alloc(), span, message, help)
-    }
-
     /// Notes what is wrong.
-    pub fn noted(&mut self, built: Result<(), Stop>) -> Result<(), AllocError> {
+    pub fn noted(&mut self, built: Result<(), Stop<'a>>) -> Result<(), AllocError> {
         match built {
             Ok(()) => Ok(()),
             Err(Stop::Wrong(complaint)) => {
@@ -121,11 +117,11 @@ impl<'b, 'a> Builder<'b, 'a> {
             return Ok(());
         };
         if self.temporary.take().is_some() {
-            let wrong = self.no_count(last);
+            let wrong = no_count(last);
             self.noted(wrong)?;
         }
         if self.is_nested && (self.is_ended || self.items.len() > 1) {
-            let wrong = self.wrong(
+            let wrong = Stop::wrong(
                 last.span,
                 "a field after a list or an option that has another one in front",
                 "move the list or the option to the end",
@@ -140,7 +136,7 @@ impl<'b, 'a> Builder<'b, 'a> {
         for field in fields {
             let is_length = !self.owner.is_kind() && Updated::of(field, fields).is_some();
             if is_updated(field) && !is_length {
-                let wrong = self.wrong(
+                let wrong = Stop::wrong(
                     field.span,
                     "an update that is not the length of a list of the struct",
                     "write `update = \"self.LIST.len()\"`, or set the field before it is written",
@@ -172,10 +168,10 @@ impl<'b, 'a> Builder<'b, 'a> {
         Ok(())
     }
 
-    fn field(&mut self, field: &Field<'a>, called: Named<'a>) -> Result<(), Stop> {
+    fn field(&mut self, field: &Field<'a>, called: Named<'a>) -> Result<(), Stop<'a>> {
         self.named(field, called.name)?;
         if self.is_ended {
-            return self.wrong(
+            return Stop::wrong(
                 field.span,
                 "a field after a list up to the end of the input",
                 "write the list last",
@@ -191,7 +187,7 @@ impl<'b, 'a> Builder<'b, 'a> {
     }
 
     // A field that the record keeps.
-    fn kept(&mut self, field: &Field<'a>, called: Named<'a>) -> Result<(), Stop> {
+    fn kept(&mut self, field: &Field<'a>, called: Named<'a>) -> Result<(), Stop<'a>> {
         let name = called.name;
         let said = Said::of(field);
         self.fits(field, &said)?;
@@ -203,7 +199,7 @@ impl<'b, 'a> Builder<'b, 'a> {
         }
         self.part(field, called, &said)?;
         if self.is_ended && said.after > 0 {
-            return self.wrong(
+            return Stop::wrong(
                 field.span,
                 "padding after a list up to the end of the input",
                 "leave it out",
@@ -219,7 +215,7 @@ impl<'b, 'a> Builder<'b, 'a> {
         field: &Field<'a>,
         called: Named<'a>,
         said: &Said<'_, 'a>,
-    ) -> Result<(), Stop> {
+    ) -> Result<(), Stop<'a>> {
         if let Some(count) = said.count {
             return self.after_head(field, called, count, Dependent::Counted, 1);
         }
@@ -241,11 +237,11 @@ impl<'b, 'a> Builder<'b, 'a> {
     }
 
     // A count that the record does not keep.
-    fn count(&mut self, field: &Field<'a>) -> Result<(), Stop> {
+    fn count(&mut self, field: &Field<'a>) -> Result<(), Stop<'a>> {
         self.temporary = Temporary::of(field);
         match self.temporary {
             Some(_) => Ok(()),
-            None => self.no_count(field),
+            None => no_count(field),
         }
     }
 
@@ -255,16 +251,16 @@ impl<'b, 'a> Builder<'b, 'a> {
         count: Temporary<'a>,
         field: &Field<'a>,
         called: Named<'a>,
-    ) -> Result<(), Stop> {
+    ) -> Result<(), Stop<'a>> {
         let mut is_alone = false;
-        for attribute in &field.attributes {
+        for attribute in field.attributes {
             match attribute {
                 Attribute::Count(expression) => is_alone = is_name(expression, count.name),
-                _ => return self.no_count(field),
+                _ => return no_count(field),
             }
         }
         if !is_alone || !count.counts(self.arena, called.name)? {
-            return self.no_count(field);
+            return no_count(field);
         }
         let said = Said::of(field);
         self.fits(field, &said)?;
@@ -274,22 +270,13 @@ impl<'b, 'a> Builder<'b, 'a> {
         Ok(())
     }
 
-    // Complains of a field that the record does not keep, or of the one after it.
-    fn no_count<T>(&self, field: &Field<'a>) -> Result<T, Stop> {
-        self.wrong(
-            field.span,
-            "a field that the record does not keep, and that does not count the list after it",
-            "write `temp, temp_value = \"LIST.len() as u8\"`, and then the list with this `count`",
-        )
-    }
-
     // The checks of a field.
     fn check_field(
         &mut self,
         field: &Field<'a>,
         name: &'a str,
         said: &Said<'_, 'a>,
-    ) -> Result<(), Stop> {
+    ) -> Result<(), Stop<'a>> {
         if let Some(expression) = said.assert {
             self.assert(field, name, expression, false)?;
         }
@@ -300,7 +287,7 @@ impl<'b, 'a> Builder<'b, 'a> {
     }
 
     // Complains of a name that the module has already.
-    fn named(&self, field: &Field<'a>, name: &str) -> Result<(), Stop> {
+    fn named(&self, field: &Field<'a>, name: &str) -> Result<(), Stop<'a>> {
         let mut is_taken = words::is_local(name);
         for part in &self.items {
             for place in part.fields.places {
@@ -315,16 +302,16 @@ impl<'b, 'a> Builder<'b, 'a> {
             let message = self.arena.print(format_args!(
                 "a field of the name `{name}`, which the module has already"
             ))?;
-            return self.wrong(span, message, "give it another name");
+            return Stop::wrong(span, message, "give it another name");
         }
         Ok(())
     }
 
     // Complains of a type or an endian that has no part.
-    fn fits(&self, field: &Field<'a>, said: &Said<'_, 'a>) -> Result<(), Stop> {
+    fn fits(&self, field: &Field<'a>, said: &Said<'_, 'a>) -> Result<(), Stop<'a>> {
         self.gives(field, said.context)?;
         if let Endian::Named(_) = field.layout.endian {
-            return self.wrong(
+            return Stop::wrong(
                 field.span,
                 "an endian given by another value is not supported",
                 "write a record for each endian",
@@ -332,7 +319,7 @@ impl<'b, 'a> Builder<'b, 'a> {
         }
         let is_dependent = said.is_dependent();
         if is_dependent && said.is_checked() {
-            return self.wrong(
+            return Stop::wrong(
                 field.span,
                 "a check of a list or an option is not supported",
                 "check the fields that say whether it is there",
@@ -340,14 +327,14 @@ impl<'b, 'a> Builder<'b, 'a> {
         }
         let is_number = number_kind(field).is_some();
         if said.width.is_some() && (is_dependent || !is_number) {
-            return self.wrong(
+            return Stop::wrong(
                 field.span,
                 "a width given by a field is supported only for one number",
                 "write a record of the number and its width",
             );
         }
         let held = match (&field.kind, is_dependent) {
-            (Type::Of(_, item), true) => &**item,
+            (Type::Of(_, item), true) => item,
             (kind, _) => kind,
         };
         if self.owner.is_kind() {
@@ -357,7 +344,12 @@ impl<'b, 'a> Builder<'b, 'a> {
     }
 
     // Complains of memory that a kind of an enum cannot have.
-    fn fits_kind(&self, field: &Field<'a>, is_rest: bool, is_dependent: bool) -> Result<(), Stop> {
+    fn fits_kind(
+        &self,
+        field: &Field<'a>,
+        is_rest: bool,
+        is_dependent: bool,
+    ) -> Result<(), Stop<'a>> {
         let message = if is_rest {
             "a list up to the end of the input, in a kind of an enum, is not supported"
         } else if self.owner == Owner::LentKind {
@@ -367,7 +359,7 @@ impl<'b, 'a> Builder<'b, 'a> {
         } else {
             return Ok(());
         };
-        self.wrong(
+        Stop::wrong(
             field.span,
             message,
             "put it into the struct that has the enum, after it",
@@ -375,7 +367,7 @@ impl<'b, 'a> Builder<'b, 'a> {
     }
 
     // A list up to the end of the input.
-    fn rest(&mut self, field: &Field<'a>, called: Named<'a>) -> Result<(), Stop> {
+    fn rest(&mut self, field: &Field<'a>, called: Named<'a>) -> Result<(), Stop<'a>> {
         let held = held_kind(self.arena, field)?;
         self.is_nested = self.is_nested || self.lent_from(0) > 1;
         let part = rest(self.arena, self.items.as_slice(), called, held)?;
@@ -386,13 +378,13 @@ impl<'b, 'a> Builder<'b, 'a> {
     }
 
     // Complains of a type that has no part.
-    fn has_part(&self, field: &Field<'a>, kind: &Type<'a>) -> Result<(), Stop> {
+    fn has_part(&self, field: &Field<'a>, kind: &Type<'a>) -> Result<(), Stop<'a>> {
         if let Some(word) = partless(kind, field) {
             let message = self.arena.print(format_args!("{word} is not supported"))?;
-            return self.wrong(field.span, message, "write a record of its own for it");
+            return Stop::wrong(field.span, message, "write a record of its own for it");
         }
         if self.is_open(kind) {
-            return self.wrong(
+            return Stop::wrong(
                 field.span,
                 "a record up to the end of the input in another one is not supported",
                 "move its fields into this record",
@@ -407,7 +399,7 @@ impl<'b, 'a> Builder<'b, 'a> {
             Type::Name(name) => self.records.is_open(name.text),
             Type::Of(_, item) | Type::Array(item, _) => self.is_open(item),
             Type::Tuple(parts) => {
-                for part in parts {
+                for part in *parts {
                     if self.is_open(part) {
                         return true;
                     }
@@ -499,9 +491,9 @@ impl<'b, 'a> Builder<'b, 'a> {
         &mut self,
         field: &Field<'a>,
         expression: &Expression<'a>,
-    ) -> Result<Part<'a>, Stop> {
+    ) -> Result<Part<'a>, Stop<'a>> {
         if self.items.is_empty() {
-            return self.wrong(
+            return Stop::wrong(
                 field.span,
                 "a list or an option with no field in front",
                 "write an array, or the type itself",
@@ -519,7 +511,7 @@ impl<'b, 'a> Builder<'b, 'a> {
         expression: &Expression<'a>,
         form: Dependent,
         unit: u64,
-    ) -> Result<(), Stop> {
+    ) -> Result<(), Stop<'a>> {
         let mut head = self.head_of(field, expression)?;
         let marker = self.marked(&mut head, called.name, word_of(form))?;
         let places = head.fields.places;
@@ -542,11 +534,11 @@ impl<'b, 'a> Builder<'b, 'a> {
         expression: &Expression<'a>,
         span: Span,
         (form, unit): (Dependent, u64),
-    ) -> Result<(), Stop> {
+    ) -> Result<(), Stop<'a>> {
         let mut computer = Computer::new(self.arena, places, self.constants);
         let mut computed = computer.value(expression)?;
         if !computed.is_number() {
-            return self.wrong(span, "a count that is no number", "write a number");
+            return Stop::wrong(span, "a count that is no number", "write a number");
         }
         if unit > 1 {
             let unit = computer.number(unit)?;
@@ -556,7 +548,8 @@ impl<'b, 'a> Builder<'b, 'a> {
             Dependent::Filled => Amount::Bits,
             Dependent::Counted | Dependent::Optional => Amount::Items,
         };
-        marker::count(&mut self.markers, amount, marker, &computer, computed)
+        marker::count(&mut self.markers, amount, marker, &computer, computed)?;
+        Ok(())
     }
 
     // Appends the type of a condition.
@@ -566,11 +559,12 @@ impl<'b, 'a> Builder<'b, 'a> {
         marker: Marker<'a>,
         expression: &Expression<'a>,
         span: Span,
-    ) -> Result<(), Stop> {
+    ) -> Result<(), Stop<'a>> {
         let mut computer = Computer::new(self.arena, places, self.constants);
         let computed = computer.value(expression)?;
-        self.is_truth(computed, computer.guards.is_empty(), span)?;
-        marker::condition(&mut self.markers, marker, &computer, computed)
+        is_truth(computed, computer.guards.is_empty(), span)?;
+        marker::condition(&mut self.markers, marker, &computer, computed)?;
+        Ok(())
     }
 
     // Appends the type of a check, that a field of this name is what is computed or that this is
@@ -582,7 +576,7 @@ impl<'b, 'a> Builder<'b, 'a> {
         expression: &Expression<'a>,
         span: Span,
         is_equal: bool,
-    ) -> Result<(), Stop> {
+    ) -> Result<(), Stop<'a>> {
         let mut computer = Computer::new(self.arena, places, self.constants);
         let computed = if is_equal {
             let left = computer.name(marker.field, span)?;
@@ -591,36 +585,13 @@ impl<'b, 'a> Builder<'b, 'a> {
         } else {
             computer.value(expression)?
         };
-        self.is_truth(computed, computer.guards.is_empty(), span)?;
-        marker::check(&mut self.markers, marker, &computer, computed)
-    }
-
-    /// Complains of a condition that is a number, or that may have no value.
-    pub(crate) fn is_truth(
-        &self,
-        computed: Computed<'a>,
-        is_whole: bool,
-        span: Span,
-    ) -> Result<(), Stop> {
-        if computed.is_number() {
-            return self.wrong(
-                span,
-                "a condition that is a number",
-                "compare it with another number",
-            );
-        }
-        if is_whole {
-            return Ok(());
-        }
-        self.wrong(
-            span,
-            "a difference, or a quotient by a field, in a condition",
-            "write it as a sum or a product on the other side",
-        )
+        is_truth(computed, computer.guards.is_empty(), span)?;
+        marker::check(&mut self.markers, marker, &computer, computed)?;
+        Ok(())
     }
 
     // Complains of a number that the field is too narrow for.
-    fn may_equal(&self, field: &Field<'a>, expression: &Expression<'a>) -> Result<(), Stop> {
+    fn may_equal(&self, field: &Field<'a>, expression: &Expression<'a>) -> Result<(), Stop<'a>> {
         let bits = match (field.bits, number_kind(field)) {
             (None, Some(kind)) => bits_of(kind),
             (bits, _) => bits,
@@ -634,7 +605,7 @@ impl<'b, 'a> Builder<'b, 'a> {
         let message = self.arena.print(format_args!(
             "{number} does not fit a field of {bits} bits"
         ))?;
-        self.wrong(field.span, message, "write a smaller number, or more bits")
+        Stop::wrong(field.span, message, "write a smaller number, or more bits")
     }
 
     // A check of the last part, and of those in front that it names.
@@ -644,7 +615,7 @@ impl<'b, 'a> Builder<'b, 'a> {
         name: &'a str,
         expression: &Expression<'a>,
         is_equal: bool,
-    ) -> Result<(), Stop> {
+    ) -> Result<(), Stop<'a>> {
         if is_equal {
             self.may_equal(field, expression)?;
         }
@@ -656,6 +627,38 @@ impl<'b, 'a> Builder<'b, 'a> {
         let part = asserted(self.arena, self.owner, head, marker.name)?;
         Ok(self.push(part, marker)?)
     }
+}
+
+// Complains of a field that the record does not keep, or of the one after it.
+fn no_count<'a, T>(field: &Field<'a>) -> Result<T, Stop<'a>> {
+    Stop::wrong(
+        field.span,
+        "a field that the record does not keep, and that does not count the list after it",
+        "write `temp, temp_value = \"LIST.len() as u8\"`, and then the list with this `count`",
+    )
+}
+
+/// Complains of a condition that is a number, or that may have no value.
+pub(crate) fn is_truth<'a>(
+    computed: Computed<'a>,
+    is_whole: bool,
+    span: Span,
+) -> Result<(), Stop<'a>> {
+    if computed.is_number() {
+        return Stop::wrong(
+            span,
+            "a condition that is a number",
+            "compare it with another number",
+        );
+    }
+    if is_whole {
+        return Ok(());
+    }
+    Stop::wrong(
+        span,
+        "a difference, or a quotient by a field, in a condition",
+        "write it as a sum or a product on the other side",
+    )
 }
 
 /// The type of what a list or an option holds.

@@ -16,7 +16,11 @@ use deku_tokens::token::{Kind, Token};
 impl<'b, 'a> Builder<'b, 'a> {
     /// Complains of an enum without the id that it is given, and of values that are given to
     /// another type.
-    pub(crate) fn gives(&self, field: &Field<'a>, context: Option<Token<'a>>) -> Result<(), Stop> {
+    pub(crate) fn gives(
+        &self,
+        field: &Field<'a>,
+        context: Option<Token<'a>>,
+    ) -> Result<(), Stop<'a>> {
         let is_alone = matches!(&field.kind, Type::Name(_));
         let is_given = has_given(self.records, &field.kind);
         let (message, help) = match (is_given, context.is_some()) {
@@ -39,7 +43,7 @@ impl<'b, 'a> Builder<'b, 'a> {
                 "write `ctx = \"*FIELD\"`, with the field in front that has the id",
             ),
         };
-        self.wrong(field.span, message, help)
+        Stop::wrong(field.span, message, help)
     }
 
     /// An enum, of the kind that a field in front says.
@@ -48,7 +52,7 @@ impl<'b, 'a> Builder<'b, 'a> {
         field: &Field<'a>,
         called: Named<'a>,
         context: Token<'a>,
-    ) -> Result<(), Stop> {
+    ) -> Result<(), Stop<'a>> {
         let Type::Name(kind) = &field.kind else {
             return Ok(());
         };
@@ -73,17 +77,18 @@ impl<'b, 'a> Builder<'b, 'a> {
         places: &'a [Place<'a>],
         marker: Marker<'a>,
         id: Token<'a>,
-    ) -> Result<(), Stop> {
+    ) -> Result<(), Stop<'a>> {
         let mut computer = Computer::new(self.arena, places, self.constants);
         let computed = computer.name(id.text, id.span)?;
-        marker::id(&mut self.markers, marker, &computer, computed)
+        marker::id(&mut self.markers, marker, &computer, computed)?;
+        Ok(())
     }
 
     // The field with an id of this type.
-    fn id_of(&self, context: Token<'a>, wanted: &str) -> Result<Token<'a>, Stop> {
+    fn id_of(&self, context: Token<'a>, wanted: &str) -> Result<Token<'a>, Stop<'a>> {
         let span = context.span;
         let Some(name) = passed(context) else {
-            return self.wrong(
+            return Stop::wrong(
                 span,
                 "a `ctx` that is not one field is not supported",
                 "write `ctx = \"*FIELD\"`, with the field in front that has the id",
@@ -91,7 +96,7 @@ impl<'b, 'a> Builder<'b, 'a> {
         };
         let mut parts = self.items.iter();
         let Some(place) = parts.find_map(|part| part.place(name)) else {
-            return self.wrong(
+            return Stop::wrong(
                 span,
                 "a name that is no field in front of this one",
                 "move the field in front, and into this record",
@@ -101,7 +106,7 @@ impl<'b, 'a> Builder<'b, 'a> {
             let message = self.arena.print(format_args!(
                 "an id that is no `{wanted}`, as its enum says"
             ))?;
-            return self.wrong(span, message, "write the same type in both places");
+            return Stop::wrong(span, message, "write the same type in both places");
         }
         let kind = Kind::Name;
         let text = name;
@@ -117,7 +122,7 @@ fn has_given<'a>(records: &Records<'_, 'a>, kind: &Type<'a>) -> bool {
             .is_some_and(|record| is_given(record)),
         Type::Of(_, item) | Type::Array(item, _) => has_given(records, item),
         Type::Tuple(parts) => {
-            for part in parts {
+            for part in *parts {
                 if has_given(records, part) {
                     return true;
                 }

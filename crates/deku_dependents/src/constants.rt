@@ -14,9 +14,9 @@ const PADDING: u64 = 1024;
 
 impl<'b, 'a> Builder<'b, 'a> {
     /// Zeros of so many bits, before or after a field.
-    pub(crate) fn padding(&mut self, bits: u64, field: &Field<'a>) -> Result<(), Stop> {
+    pub(crate) fn padding(&mut self, bits: u64, field: &Field<'a>) -> Result<(), Stop<'a>> {
         if bits > PADDING {
-            return self.wrong(
+            return Stop::wrong(
                 field.span,
                 "a padding of more than 1024 bits",
                 "write an array of bytes, which is kept",
@@ -47,20 +47,20 @@ impl<'b, 'a> Builder<'b, 'a> {
     /// Bytes that are always the same, as one number.
     pub fn magic(
         &mut self,
-        bytes: &Vec<u8>,
+        bytes: &[u8],
         name: &'a str,
         what: &'a str,
         order: Order,
         span: Span,
-    ) -> Result<(), Stop> {
+    ) -> Result<(), Stop<'a>> {
         if bytes.is_empty() || bytes.len() > 8 {
-            return self.wrong(
+            return Stop::wrong(
                 span,
                 "a magic of no bytes, or of more than 8",
                 "write the first 8 of them, and an array of `u8` with `assert` after them",
             );
         }
-        let number = number_of(bytes.as_slice());
+        let number = number_of(bytes);
         let count = bytes.len();
         let (constructor, kind) = magic_kind(self.arena, count, order)?;
         let value = self.arena.print(format_args!("0x{number:X}"))?;

@@ -1,6 +1,6 @@
 //! Lists that say by themselves where they end.
 
-use crate::building::{Builder, held_kind};
+use crate::building::{Builder, held_kind, is_truth};
 use deku_attributes::model::Field;
 use deku_description::syntax::{Closure, Type};
 use deku_markers::computing::Computer;
@@ -8,11 +8,11 @@ use deku_markers::marker;
 use deku_markers::marker::Marker;
 use deku_markers::part::{Fields, Named, Part, Place};
 use deku_markers::texts::{Texts, field};
-use deku_texts::arena::Arena;
 use deku_texts::document::{Form, Text, joined};
 use deku_texts::refusal::Stop;
 use deku_texts::words;
 use deku_texts::wrapping::number_in;
+use deku_tokens::arena::Arena;
 use std::alloc::AllocError;
 
 // What the function calls an item that says whether it is the last.
@@ -126,10 +126,10 @@ impl<'b, 'a> Builder<'b, 'a> {
         field: &Field<'a>,
         called: Named<'a>,
         end: &Closure<'a>,
-    ) -> Result<(), Stop> {
+    ) -> Result<(), Stop<'a>> {
         let name = end.name.text;
         if words::is_local(name) {
-            return self.wrong(
+            return Stop::wrong(
                 end.name.span,
                 "an item of a name that the module has already",
                 "give it another name",
@@ -160,7 +160,7 @@ impl<'b, 'a> Builder<'b, 'a> {
         field: &Field<'a>,
         end: &Closure<'a>,
         marker: Marker<'a>,
-    ) -> Result<(), Stop> {
+    ) -> Result<(), Stop<'a>> {
         let (places, is_struct) = self.item_places(field, end)?;
         let mut computer = Computer::new(self.arena, places, self.constants);
         computer.from = ITEM;
@@ -168,8 +168,9 @@ impl<'b, 'a> Builder<'b, 'a> {
             computer.owner = Some(end.name.text);
         }
         let computed = computer.value(&end.last)?;
-        self.is_truth(computed, computer.guards.is_empty(), field.span)?;
-        marker::last(&mut self.markers, marker, &computer, computed)
+        is_truth(computed, computer.guards.is_empty(), field.span)?;
+        marker::last(&mut self.markers, marker, &computer, computed)?;
+        Ok(())
     }
 
     // Where the numbers of an item are: the item by its name, or the fields of a struct by theirs.
@@ -177,7 +178,7 @@ impl<'b, 'a> Builder<'b, 'a> {
         &self,
         field: &Field<'a>,
         end: &Closure<'a>,
-    ) -> Result<(&'a [Place<'a>], bool), Stop> {
+    ) -> Result<(&'a [Place<'a>], bool), Stop<'a>> {
         let kind = end.kind;
         for (name, places) in &self.structs {
             if kind.is_name(name) {
@@ -185,7 +186,7 @@ impl<'b, 'a> Builder<'b, 'a> {
             }
         }
         if self.records.has(kind.text) {
-            return self.wrong(
+            return Stop::wrong(
                 kind.span,
                 "items that are no numbers and no structs in front of this one",
                 "move their struct in front",

@@ -4,8 +4,8 @@ use crate::listing::{Listed, list_part};
 use deku_attributes::model::{Attribute, Endian, Field, Order};
 use deku_attributes::reading::bits_of;
 use deku_markers::part::{Named, Part};
-use deku_texts::arena::Arena;
 use deku_texts::wrapping::number_kind;
+use deku_tokens::arena::Arena;
 use std::alloc::AllocError;
 
 /// The count of the list after it, which the record does not keep.
@@ -36,7 +36,7 @@ impl<'a> Temporary<'a> {
     pub fn of(field: &Field<'a>) -> Option<Temporary<'a>> {
         let mut value = None;
         let mut is_temporary = false;
-        for attribute in &field.attributes {
+        for attribute in field.attributes {
             match attribute {
                 Attribute::Temp => is_temporary = true,
                 Attribute::TempValue(token) => value = Some(token.text),

@@ -19,9 +19,9 @@ impl<'b, 'a> Builder<'b, 'a> {
         called: Named<'a>,
         width: &Expression<'a>,
         unit: Unit,
-    ) -> Result<(), Stop> {
+    ) -> Result<(), Stop<'a>> {
         if self.items.is_empty() {
-            return self.wrong(
+            return Stop::wrong(
                 field.span,
                 "a width with no field in front",
                 "write a number",
@@ -50,16 +50,17 @@ impl<'b, 'a> Builder<'b, 'a> {
         width: &Expression<'a>,
         under_this: Under,
         span: Span,
-    ) -> Result<(), Stop> {
+    ) -> Result<(), Stop<'a>> {
         let mut computer = Computer::new(self.arena, places, self.constants);
         let computed = computer.value(width)?;
         if !computed.is_number() || !computer.guards.is_empty() || computer.used.len() != 1 {
-            return self.wrong(
+            return Stop::wrong(
                 span,
                 "a width that is not one field",
                 "write `bits = \"*FIELD\"`, with the field in front that says it",
             );
         }
-        marker::context(&mut self.markers, under_this, marker, &computer, computed)
+        marker::context(&mut self.markers, under_this, marker, &computer, computed)?;
+        Ok(())
     }
 }

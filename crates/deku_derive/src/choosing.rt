@@ -2,9 +2,9 @@
 
 use deku_attributes::given::chosen;
 use deku_attributes::model::Field;
-use deku_texts::arena::Arena;
 use deku_texts::document::{Form, Text};
 use deku_texts::words::snake;
+use deku_tokens::arena::Arena;
 use std::alloc::AllocError;
 use std::fmt::Write as _;
 

@@ -6,10 +6,10 @@ use deku_dependents::building::field_name;
 use deku_description::syntax::Shape;
 use deku_markers::part::Part;
 use deku_markers::texts::field;
-use deku_texts::arena::Arena;
 use deku_texts::document::{Form, Text, joined, start};
 use deku_texts::words::{quoted, snake};
 use deku_texts::wrapping::field_kind;
+use deku_tokens::arena::Arena;
 use std::alloc::AllocError;
 use std::fmt::Write as _;
 
@@ -48,7 +48,7 @@ pub(crate) fn declaration<'a>(
     let is_split = are_split(arena, kinds)?;
     for kind in kinds {
         let case = kind.case;
-        docs(out, case.docs.as_slice(), "    ///")?;
+        docs(out, case.docs, "    ///")?;
         if case.docs.is_empty() {
             said(out, case.id)?;
         }

@@ -1,8 +1,8 @@
 //! What a module imports: the names that its text has.
 
 use deku_attributes::model::{Form, Module};
-use deku_texts::arena::Arena;
 use deku_texts::words::{MADE, snake};
+use deku_tokens::arena::Arena;
 use std::alloc::AllocError;
 use std::fmt::Write as _;
 
@@ -169,7 +169,7 @@ fn listed<'a>(arena: &'a Arena, words: &[&str]) -> Result<&'a str, AllocError> {
 
 // Appends what a description uses of its own crate.
 fn own_uses(out: &mut String, module: &Module<'_>) -> Result<(), AllocError> {
-    for path in &module.uses {
+    for path in module.uses {
         if path.starts_with("super::") || path.starts_with("crate::") {
             writeln!(out, "use {path};")?;
         }
@@ -236,7 +236,7 @@ fn kinds(
     path: Option<&str>,
 ) -> Result<(), AllocError> {
     let mut is_first = true;
-    for record in &module.records {
+    for record in module.records {
         if let (Form::Enum(_, _), Some(path)) = (&record.form, path) {
             let name = record.name.text;
             let kinds = snake(arena, name)?;

@@ -10,14 +10,14 @@ use deku_dependents::building::{Builder, field_name};
 use deku_description::syntax::{Constant, Shape, Type};
 use deku_markers::marker::zeros;
 use deku_markers::part::{Owner, Place};
-use deku_texts::arena::Arena;
 use deku_texts::document::joined;
 use deku_texts::records::Records;
 use deku_texts::refusal::Stop;
 use deku_texts::words;
+use deku_tokens::arena::Arena;
 use deku_tokens::place::Complaint;
 use deku_tokens::token::Token;
-use std::alloc::{AllocError, Global};
+use std::alloc::AllocError;
 use std::fmt::Write as _;
 
 /// A module while it is printed.
@@ -32,7 +32,7 @@ struct Printer<'b, 'a> {
     lent: &'a str,
     // The names of its types.
     names: Vec<&'a str>,
-    complaints: Vec<Complaint>,
+    complaints: Vec<Complaint<'a>>,
     // The structs in front, and where their fields are in their parts.
     structs: Vec<(&'a str, &'a [Place<'a>])>,
     is_for_c: bool,
@@ -51,13 +51,13 @@ pub struct Asked<'t> {
 
 /// What is printed of a description.
 #[derive(Drop)]
-pub struct Printed {
+pub struct Printed<'a> {
     /// The module.
     pub module: String,
     /// What proves how its enum that holds memory is written. It is empty if there is none.
     pub answers: String,
     /// What prevents it.
-    pub complaints: Vec<Complaint>,
+    pub complaints: Vec<Complaint<'a>>,
 }
 
 /// The module of checked records, with what prevents it.
@@ -67,23 +67,17 @@ pub struct Printed {
 /// `AllocError` if there is no memory.
 ///
 /// ```text
-/// print(alloc, asked, &module)?    // //! Printed by `derive` from ..
+/// print(&arena, asked, &module)?    // //! Printed by `derive` from ..
 /// ```
-pub fn print(alloc: Global, asked: Asked<'_>, module: &Module<'_>) -> Result<Printed, AllocError> {
-    let arena = Arena::new(alloc);
-    print_in(&arena, asked, module)
-}
-
-// The same, with the texts of its parts in this arena.
-fn print_in<'a>(
+pub fn print<'a>(
     arena: &'a Arena,
     asked: Asked<'_>,
-    module: &'a Module<'a>,
-) -> Result<Printed, AllocError> {
-    let records = Records::new(arena.alloc(), module.records.as_slice())?;
-    let mut printer = Printer::new(arena, &records, module.constants.as_slice());
+    module: &Module<'a>,
+) -> Result<Printed<'a>, AllocError> {
+    let records = Records::new(arena.alloc(), module.records)?;
+    let mut printer = Printer::new(arena, &records, module.constants);
     printer.is_for_c = asked.exports.is_some();
-    for record in &module.records {
+    for record in module.records {
         printer.record(record, asked.path)?;
     }
     let Printer {
@@ -95,7 +89,7 @@ fn print_in<'a>(
     } = printer;
     out.push_str(asked.exports.unwrap_or(""))?;
     let mut text = String::new(arena.alloc());
-    docs(&mut text, module.docs.as_slice(), "//!")?;
+    docs(&mut text, module.docs, "//!")?;
     if !module.docs.is_empty() {
         text.push_str("//!\n")?;
     }
@@ -135,7 +129,7 @@ fn items(
     records: &str,
 ) -> Result<(), AllocError> {
     let mut body = String::new(arena.alloc());
-    constants(&mut body, module.constants.as_slice())?;
+    constants(&mut body, module.constants)?;
     if records.contains(", Zeros>") {
         zeros(&mut body, "Msb")?;
     }
@@ -180,9 +174,17 @@ impl<'b, 'a> Printer<'b, 'a> {
     }
 
     // Notes what is wrong.
-    fn complain(&mut self, name: Token<'a>, message: &str, help: &str) -> Result<(), AllocError> {
-        let complaint = Complaint::new(self.arena.alloc(), name.span, message, help)?;
-        self.complaints.push(complaint)?;
+    fn complain(
+        &mut self,
+        name: Token<'a>,
+        message: &'a str,
+        help: &'a str,
+    ) -> Result<(), AllocError> {
+        self.complaints.push(Complaint {
+            span: name.span,
+            message,
+            help,
+        })?;
         Ok(())
     }
 
@@ -201,7 +203,7 @@ impl<'b, 'a> Printer<'b, 'a> {
         let mut builder = Builder::new(self.arena, self.records, self.constants, name, owner);
         let alloc = self.arena.alloc();
         builder.structs = std::mem::replace(&mut self.structs, Vec::new(alloc));
-        if let Some(bytes) = &record.magic {
+        if let Some(bytes) = record.magic {
             let named = words::marker(self.arena, name, "", "Magic")?;
             let what = joined(self.arena, "magic of ", name)?;
             let order = record.layout.order;
@@ -243,7 +245,7 @@ impl<'b, 'a> Printer<'b, 'a> {
                 )
             }
             Form::Struct(_, _) => self.structure(record, path),
-            Form::Enum(ids, cases) => self.enumeration(record, *ids, cases.as_slice(), path),
+            Form::Enum(ids, cases) => self.enumeration(record, *ids, cases, path),
         }
     }
 
@@ -291,7 +293,7 @@ impl<'b, 'a> Printer<'b, 'a> {
     }
 
     // Notes complaints.
-    fn note(&mut self, complaints: Vec<Complaint>) -> Result<(), AllocError> {
+    fn note(&mut self, complaints: Vec<Complaint<'a>>) -> Result<(), AllocError> {
         for complaint in complaints {
             self.complaints.push(complaint)?;
         }
@@ -302,13 +304,13 @@ impl<'b, 'a> Printer<'b, 'a> {
         let Form::Struct(shape, fields) = &record.form else {
             return Ok(());
         };
-        let mut builder = self.builder(record, fields.as_slice())?;
+        let mut builder = self.builder(record, fields)?;
         structs::declaration(
             self.arena,
             &mut self.out,
             record,
             *shape,
-            fields.as_slice(),
+            fields,
             builder.owner == Owner::Copied,
             self.is_for_c,
         )?;
@@ -319,7 +321,7 @@ impl<'b, 'a> Printer<'b, 'a> {
             &mut self.out,
             record,
             *shape,
-            fields.as_slice(),
+            fields,
             builder.owner,
             whole,
             path,
@@ -347,7 +349,7 @@ impl<'b, 'a> Printer<'b, 'a> {
             let front = words::marker(self.arena, record.name.text, case.name.text, "")?;
             let mut builder = Builder::new(self.arena, self.records, self.constants, front, owner);
             let skipped = if kept.is_some() { 1 } else { 0 };
-            builder.fields(case.fields.as_slice(), skipped)?;
+            builder.fields(case.fields, skipped)?;
             let part = builder.whole()?;
             markers.push_str(builder.markers.as_str())?;
             self.built(record, builder)?;

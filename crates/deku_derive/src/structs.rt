@@ -8,10 +8,10 @@ use deku_dependents::building::field_name;
 use deku_dependents::temporary::is_temporary;
 use deku_description::syntax::Shape;
 use deku_markers::part::{Owner, Part};
-use deku_texts::arena::Arena;
 use deku_texts::document::{Form, Text, joined};
 use deku_texts::words::{quoted, snake};
 use deku_texts::wrapping::field_kind;
+use deku_tokens::arena::Arena;
 use std::alloc::AllocError;
 use std::fmt::Write as _;
 
@@ -33,7 +33,7 @@ pub(crate) fn derives(
 ) -> Result<(), AllocError> {
     let name = record.name.text;
     out.push('\n')?;
-    docs(out, record.docs.as_slice(), "///")?;
+    docs(out, record.docs, "///")?;
     if record.docs.is_empty() {
         writeln!(out, "/// The record `{name}`.")?;
     }
@@ -90,7 +90,7 @@ fn named_struct<'a>(
 ) -> Result<(), AllocError> {
     writeln!(out, "pub struct {name} {{")?;
     for field in fields.iter().filter(|field| !is_temporary(*field)) {
-        docs(out, field.docs.as_slice(), "    ///")?;
+        docs(out, field.docs, "    ///")?;
         declared(arena, out, field)?;
     }
     out.push_str("}\n")

@@ -4,10 +4,10 @@ use crate::header::noted;
 use deku_attributes::model::{Attribute, Field, Form, Module, Record};
 use deku_attributes::reading::bits_of;
 use deku_description::syntax::{Constant, Length, Shape, Type};
-use deku_texts::arena::Arena;
 use deku_texts::document::joined;
 use deku_texts::refusal::Stop;
 use deku_texts::words::snake;
+use deku_tokens::arena::Arena;
 use deku_tokens::place::Complaint;
 use deku_tokens::token::Token;
 use std::alloc::AllocError;
@@ -109,13 +109,12 @@ const KEYWORDS: [&str; 77] = [
 /// The records of a module as C has them, with what C has not.
 pub(crate) fn records_of<'a>(
     arena: &'a Arena,
-    module: &'a Module<'a>,
-) -> Result<(Vec<Crossed<'a>>, Vec<Complaint>), AllocError> {
+    module: &Module<'a>,
+) -> Result<(Vec<Crossed<'a>>, Vec<Complaint<'a>>), AllocError> {
     let mut records = Vec::new(arena.alloc());
     let mut complaints = Vec::new(arena.alloc());
-    for record in &module.records {
-        let constants = module.constants.as_slice();
-        match crossed_record(arena, constants, records.as_slice(), record) {
+    for record in module.records {
+        match crossed_record(arena, module.constants, records.as_slice(), record) {
             Ok(made) => records.push(made)?,
             Err(Stop::Wrong(complaint)) => complaints.push(complaint)?,
             Err(Stop::Memory) => return Err(AllocError),
@@ -130,21 +129,20 @@ fn crossed_record<'a>(
     constants: &[Constant<'a>],
     before: &[Crossed<'a>],
     record: &'a Record<'a>,
-) -> Result<Crossed<'a>, Stop> {
+) -> Result<Crossed<'a>, Stop<'a>> {
     let fields = match &record.form {
-        Form::Struct(Shape::Named, fields) => fields,
+        Form::Struct(Shape::Named, fields) => *fields,
         _ => {
             return Stop::wrong(
-                arena.alloc(),
                 record.name.span,
                 "C gets only structs whose fields have names",
                 "write such a struct, or print this one without `--c`",
             );
         }
     };
-    check_name(arena, record.name, snake(arena, record.name.text)?)?;
+    check_name(record.name, snake(arena, record.name.text)?)?;
     let mut lines = Vec::new(arena.alloc());
-    let mut bits = bits_of_magic(record.magic.as_ref());
+    let mut bits = bits_of_magic(record.magic);
     for field in fields {
         let (made, more) = crossed_field(arena, constants, before, field)?;
         lines.push(made)?;
@@ -158,7 +156,7 @@ fn crossed_record<'a>(
     })
 }
 
-fn bits_of_magic(magic: Option<&Vec<u8>>) -> u64 {
+fn bits_of_magic(magic: Option<&[u8]>) -> u64 {
     match magic {
         Some(bytes) => 8u64.saturating_mul(bytes.len() as u64),
         None => 0,
@@ -171,22 +169,22 @@ fn crossed_field<'a>(
     constants: &[Constant<'a>],
     before: &[Crossed<'a>],
     field: &Field<'a>,
-) -> Result<(&'a str, u64), Stop> {
+) -> Result<(&'a str, u64), Stop<'a>> {
     let name = match field.name {
         Some(name) => name,
         None => return Err(Stop::Memory),
     };
     let text = name.text;
-    check_name(arena, name, text)?;
+    check_name(name, text)?;
     let mut lengths = String::new(arena.alloc());
     let Some((item, count)) = item_of(&field.kind, constants, &mut lengths)? else {
-        return lacking(arena, field);
+        return lacking(field);
     };
     let Some((kind, bits)) = kind_of(arena, before, item.text, field.bits)? else {
-        return lacking(arena, field);
+        return lacking(field);
     };
     let mut lines = String::new(arena.alloc());
-    noted(&mut lines, field.docs.as_slice())?;
+    noted(&mut lines, field.docs)?;
     declared(&mut lines, kind, text, lengths.as_str())?;
     Ok((
         arena.keep(lines.as_str())?,
@@ -195,12 +193,11 @@ fn crossed_field<'a>(
 }
 
 // Complains of a name that is this one in C, if that is a keyword there.
-fn check_name(arena: &Arena, name: Token<'_>, in_c: &str) -> Result<(), Stop> {
+fn check_name<'a>(name: Token<'a>, in_c: &str) -> Result<(), Stop<'a>> {
     if !KEYWORDS.contains(&in_c) {
         return Ok(());
     }
     Stop::wrong(
-        arena.alloc(),
         name.span,
         "a name that is a keyword of C or C++",
         "give it another name",
@@ -213,9 +210,8 @@ fn declared(out: &mut String, kind: &str, name: &str, lengths: &str) -> Result<(
 }
 
 // Complains of a field that C does not have.
-fn lacking<T>(arena: &Arena, field: &Field<'_>) -> Result<T, Stop> {
+fn lacking<'a, T>(field: &Field<'a>) -> Result<T, Stop<'a>> {
     Stop::wrong(
-        arena.alloc(),
         field.span,
         "C gets only numbers of at most 64 bits, truth values, records before this one, and arrays",
         "write such a field, or print the record without `--c`",
@@ -292,10 +288,10 @@ fn number(name: &str) -> Option<&'static str> {
 // The bits of the padding around a field, and of the bytes in front of it.
 fn bits_around(field: &Field<'_>) -> u64 {
     let mut bits = 0u64;
-    for attribute in &field.attributes {
+    for attribute in field.attributes {
         bits = bits.saturating_add(match attribute {
             Attribute::PadBefore(more) | Attribute::PadAfter(more) => *more,
-            Attribute::Magic(bytes) => bits_of_magic(Some(bytes)),
+            Attribute::Magic(bytes) => bits_of_magic(Some(*bytes)),
             _ => 0,
         });
     }

@@ -1,9 +1,9 @@
 //! The functions that C calls.
 
 use deku_attributes::model::Module;
-use deku_texts::arena::Arena;
 use deku_texts::document::joined;
 use deku_texts::words::snake;
+use deku_tokens::arena::Arena;
 use std::alloc::AllocError;
 use std::fmt::Write as _;
 
@@ -27,7 +27,7 @@ const WRITES: &str = "
 /// The functions of all records of a module, as they end it.
 pub(crate) fn exports<'a>(arena: &'a Arena, module: &Module<'a>) -> Result<&'a str, AllocError> {
     let mut out = String::new(arena.alloc());
-    for record in &module.records {
+    for record in module.records {
         let name = record.name.text;
         let function = snake(arena, name)?;
         reading(arena, &mut out, name, function)?;

@@ -3,9 +3,9 @@
 use crate::crossing::Crossed;
 use crate::exports::WIDTH;
 use deku_attributes::model::Module;
-use deku_texts::arena::Arena;
 use deku_texts::document::joined;
 use deku_texts::words::snake;
+use deku_tokens::arena::Arena;
 use std::alloc::AllocError;
 use std::fmt::Write as _;
 
@@ -65,7 +65,7 @@ pub(crate) fn header(
     let file = file.rsplit('/').next().unwrap_or(file);
     let guard = guard_of(arena, file)?;
     let mut out = String::from_str(arena.alloc(), "/*\n")?;
-    comment(&mut out, module.docs.as_slice(), " *")?;
+    comment(&mut out, module.docs, " *")?;
     if !module.docs.is_empty() {
         out.push_str(" *\n")?;
     }
@@ -122,7 +122,7 @@ fn declared(arena: &Arena, out: &mut String, crossed: Crossed<'_>) -> Result<(),
     let record = crossed.record;
     let name = snake(arena, record.name.text)?;
     out.push_str("\n/*\n")?;
-    comment(out, record.docs.as_slice(), " *")?;
+    comment(out, record.docs, " *")?;
     if record.docs.is_empty() {
         let text = record.name.text;
         writeln!(out, " * The record `{text}`.")?;

@@ -2,8 +2,8 @@
 
 use crate::part::{Named, Part};
 use crate::texts::{Texts, field, headed};
-use deku_texts::arena::Arena;
 use deku_texts::document::{Form, Text, joined};
+use deku_tokens::arena::Arena;
 use std::alloc::AllocError;
 
 /// A head, and after it a field of this enum, of the kind that the marker of this name says.

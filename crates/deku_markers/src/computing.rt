@@ -3,8 +3,8 @@
 use crate::part::Place;
 use deku_attributes::reading::{bits_of, span_of};
 use deku_description::syntax::{Constant, Expression, Operator};
-use deku_texts::arena::Arena;
 use deku_texts::refusal::Stop;
+use deku_tokens::arena::Arena;
 use deku_tokens::place::Span;
 use deku_tokens::token::Token;
 use std::alloc::AllocError;
@@ -65,19 +65,15 @@ impl<'c, 'a> Computer<'c, 'a> {
         }
     }
 
-    fn wrong<T>(&self, span: Span, message: &str, help: &str) -> Result<T, Stop> {
-        Stop::wrong(self.arena.alloc(), span, message, help)
-    }
-
     /// What an expression computes.
-    pub fn value(&mut self, expression: &Expression<'a>) -> Result<Computed<'a>, Stop> {
+    pub fn value(&mut self, expression: &Expression<'a>) -> Result<Computed<'a>, Stop<'a>> {
         match expression {
             Expression::Number(number, _) => self.number(*number),
             Expression::Truth(truth, _) => {
                 let text = if *truth { "true" } else { "false" };
                 Ok(truth_value(text, text, ATOM))
             }
-            Expression::Name(name) if self.owner == Some(name.text) => self.wrong(
+            Expression::Name(name) if self.owner == Some(name.text) => Stop::wrong(
                 name.span,
                 "a record in an expression",
                 "compare one of its fields",
@@ -86,7 +82,7 @@ impl<'c, 'a> Computer<'c, 'a> {
             Expression::Part(name, field) if self.owner == Some(name.text) => {
                 self.name(field.text, field.span)
             }
-            Expression::Part(name, _) => self.wrong(
+            Expression::Part(name, _) => Stop::wrong(
                 name.span,
                 "a field of a field in an expression",
                 "move the field into this record, or this field into that one",
@@ -109,7 +105,7 @@ impl<'c, 'a> Computer<'c, 'a> {
     }
 
     /// A number.
-    pub fn number(&self, number: u64) -> Result<Computed<'a>, Stop> {
+    pub fn number(&self, number: u64) -> Result<Computed<'a>, Stop<'a>> {
         let text = self.arena.print(format_args!("{number}"))?;
         Ok(Computed {
             code: text,
@@ -121,7 +117,7 @@ impl<'c, 'a> Computer<'c, 'a> {
     }
 
     /// A field in front, or a constant.
-    pub fn name(&mut self, name: &str, span: Span) -> Result<Computed<'a>, Stop> {
+    pub fn name(&mut self, name: &str, span: Span) -> Result<Computed<'a>, Stop<'a>> {
         for constant in self.constants {
             if constant.name.text == name {
                 return self.number(constant.value);
@@ -129,7 +125,7 @@ impl<'c, 'a> Computer<'c, 'a> {
         }
         let place = self.places.iter().position(|place| place.name == name);
         let Some(index) = place else {
-            return self.wrong(
+            return Stop::wrong(
                 span,
                 "a name that is no field in front of this one",
                 "move the field in front, and into this record",
@@ -138,7 +134,7 @@ impl<'c, 'a> Computer<'c, 'a> {
         self.field(index, span)
     }
 
-    fn field(&mut self, index: usize, span: Span) -> Result<Computed<'a>, Stop> {
+    fn field(&mut self, index: usize, span: Span) -> Result<Computed<'a>, Stop<'a>> {
         let Some(place) = self.places.get(index) else {
             return Err(Stop::Memory);
         };
@@ -147,7 +143,7 @@ impl<'c, 'a> Computer<'c, 'a> {
             _ => None,
         };
         let Some(bits) = bits else {
-            return self.wrong(
+            return Stop::wrong(
                 span,
                 "a field in an expression that is no number from 0 and no truth value",
                 "use a field of `u8`, `u16`, `u32`, `u64` or `bool`",
@@ -170,9 +166,13 @@ impl<'c, 'a> Computer<'c, 'a> {
         })
     }
 
-    fn not(&self, value: Computed<'a>, expression: &Expression<'a>) -> Result<Computed<'a>, Stop> {
+    fn not(
+        &self,
+        value: Computed<'a>,
+        expression: &Expression<'a>,
+    ) -> Result<Computed<'a>, Stop<'a>> {
         if value.most.is_some() {
-            return self.wrong(
+            return Stop::wrong(
                 span_of(expression),
                 "`!` of a number",
                 "compare the number with another one",
@@ -182,7 +182,7 @@ impl<'c, 'a> Computer<'c, 'a> {
     }
 
     // A truth value with `!` in front.
-    fn negated(&self, value: Computed<'a>) -> Result<Computed<'a>, Stop> {
+    fn negated(&self, value: Computed<'a>) -> Result<Computed<'a>, Stop<'a>> {
         let code = argument(self.arena, value.code, value.strength)?;
         let term = argument(self.arena, value.term, value.strength)?;
         let code = self.arena.print(format_args!("!{code}"))?;
@@ -191,7 +191,7 @@ impl<'c, 'a> Computer<'c, 'a> {
     }
 
     // A number as another type, which has to hold it.
-    fn cast(&mut self, value: Computed<'a>, kind: Token<'a>) -> Result<Computed<'a>, Stop> {
+    fn cast(&mut self, value: Computed<'a>, kind: Token<'a>) -> Result<Computed<'a>, Stop<'a>> {
         let held = match bits_of(kind.text) {
             Some(bits) if !kind.text.starts_with('i') && kind.text != "bool" => most_of(bits),
             _ => 0,
@@ -201,7 +201,7 @@ impl<'c, 'a> Computer<'c, 'a> {
                 self.is_mixed = true;
                 Ok(value)
             }
-            _ => self.wrong(
+            _ => Stop::wrong(
                 kind.span,
                 "a type that does not hold the number",
                 "write `as usize`",
@@ -216,7 +216,7 @@ impl<'c, 'a> Computer<'c, 'a> {
         left: Computed<'a>,
         right: Computed<'a>,
         span: Span,
-    ) -> Result<Computed<'a>, Stop> {
+    ) -> Result<Computed<'a>, Stop<'a>> {
         match operator {
             Operator::Or => self.logical(("||", 1), left, right, span),
             Operator::And => self.logical(("&&", 2), left, right, span),
@@ -238,7 +238,7 @@ impl<'c, 'a> Computer<'c, 'a> {
             | Operator::BitXor
             | Operator::BitAnd
             | Operator::Left
-            | Operator::Right => self.wrong(
+            | Operator::Right => Stop::wrong(
                 span,
                 "an operator on the bits of a number is not supported",
                 "describe these bits as fields of their own, with `bits`",
@@ -252,9 +252,9 @@ impl<'c, 'a> Computer<'c, 'a> {
         left: Computed<'a>,
         right: Computed<'a>,
         span: Span,
-    ) -> Result<Computed<'a>, Stop> {
+    ) -> Result<Computed<'a>, Stop<'a>> {
         if left.most.is_some() || right.most.is_some() {
-            return self.wrong(
+            return Stop::wrong(
                 span,
                 "a number where a truth value is needed",
                 "compare it with another number",
@@ -282,7 +282,7 @@ impl<'c, 'a> Computer<'c, 'a> {
         strength: u8,
         (left, left_strength): (&'a str, u8),
         (right, right_strength): (&'a str, u8),
-    ) -> Result<&'a str, Stop> {
+    ) -> Result<&'a str, Stop<'a>> {
         let left = inside(self.arena, left, left_strength < strength)?;
         let right = inside(self.arena, right, right_strength <= strength)?;
         Ok(self.arena.print(format_args!("{left} {mark} {right}"))?)
@@ -295,10 +295,10 @@ impl<'c, 'a> Computer<'c, 'a> {
         left: Computed<'a>,
         right: Computed<'a>,
         span: Span,
-    ) -> Result<Computed<'a>, Stop> {
+    ) -> Result<Computed<'a>, Stop<'a>> {
         let is_true = right.code == "true";
         if left.most.is_some() || !is_true && right.code != "false" {
-            return self.wrong(
+            return Stop::wrong(
                 span,
                 "truth values that are compared with one another",
                 "write the truth value alone, or with `!` in front",
@@ -316,9 +316,9 @@ impl<'c, 'a> Computer<'c, 'a> {
         left: Computed<'a>,
         right: Computed<'a>,
         span: Span,
-    ) -> Result<Computed<'a>, Stop> {
+    ) -> Result<Computed<'a>, Stop<'a>> {
         let (Some(_), Some(most)) = (left.most, right.most) else {
-            return self.wrong(
+            return Stop::wrong(
                 span,
                 "a truth value where a number is needed",
                 "write the truth value alone, or with `!` in front",
@@ -346,7 +346,7 @@ impl<'c, 'a> Computer<'c, 'a> {
         operator: Operator,
         left: Computed<'a>,
         right: Computed<'a>,
-    ) -> Result<&'a str, Stop> {
+    ) -> Result<&'a str, Stop<'a>> {
         let one = argument(self.arena, left.term, left.strength)?;
         let other = argument(self.arena, right.term, right.strength)?;
         let (front, first, second, end) = match operator {
@@ -369,13 +369,13 @@ impl<'c, 'a> Computer<'c, 'a> {
         left: Computed<'a>,
         right: Computed<'a>,
         span: Span,
-    ) -> Result<Computed<'a>, Stop> {
+    ) -> Result<Computed<'a>, Stop<'a>> {
         let most = match (left.most, right.most) {
             (Some(one), Some(other)) => most_made(operator, one, other),
             _ => None,
         };
         let Some(most) = most else {
-            return self.wrong(
+            return Stop::wrong(
                 span,
                 "a number that may be larger than 64 bits hold, or none",
                 "use fields of fewer bits",
@@ -402,7 +402,7 @@ impl<'c, 'a> Computer<'c, 'a> {
         operator: Operator,
         left: Computed<'a>,
         right: Computed<'a>,
-    ) -> Result<(), Stop> {
+    ) -> Result<(), Stop<'a>> {
         let is_literal = right.kind.is_none() && right.strength == ATOM;
         let guard = match operator {
             Operator::Minus => self.is_below(left, right)?,
@@ -418,14 +418,14 @@ impl<'c, 'a> Computer<'c, 'a> {
         &self,
         left: Computed<'a>,
         right: Computed<'a>,
-    ) -> Result<(&'a str, &'a str), Stop> {
+    ) -> Result<(&'a str, &'a str), Stop<'a>> {
         let (one, other) = (left.strength, right.strength);
         let code = self.infix("<", 3, (left.code, one), (right.code, other))?;
         Ok((self.comparison(Operator::Below, left, right)?, code))
     }
 
     // That a number is 0, as ghost text and as code.
-    fn is_zero(&self, number: Computed<'a>) -> Result<(&'a str, &'a str), Stop> {
+    fn is_zero(&self, number: Computed<'a>) -> Result<(&'a str, &'a str), Stop<'a>> {
         let term = argument(self.arena, number.term, number.strength)?;
         let code = inside(self.arena, number.code, number.strength <= 3)?;
         let term = self.arena.print(format_args!("nat_eq {term} 0"))?;

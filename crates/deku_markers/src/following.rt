@@ -2,8 +2,8 @@
 
 use crate::part::Named;
 use crate::texts::{field, headed};
-use deku_texts::arena::Arena;
 use deku_texts::document::{Form, Text};
+use deku_tokens::arena::Arena;
 use std::alloc::AllocError;
 
 /// What comes after a head.

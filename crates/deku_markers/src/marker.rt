@@ -4,8 +4,7 @@
 use crate::computing::{Computed, Computer};
 use crate::part::Place;
 use deku_attributes::model::Order;
-use deku_texts::arena::Arena;
-use deku_texts::refusal::Stop;
+use deku_tokens::arena::Arena;
 use std::alloc::AllocError;
 use std::fmt::Write as _;
 
@@ -76,7 +75,7 @@ pub fn count(
     marker: Marker<'_>,
     computer: &Computer<'_, '_>,
     computed: Computed<'_>,
-) -> Result<(), Stop> {
+) -> Result<(), AllocError> {
     let (what, then) = amount.words();
     declared(out, marker, what, then, computed.code)?;
     count_of(out, amount, marker, computer, computed)?;
@@ -93,7 +92,7 @@ fn count_of(
     marker: Marker<'_>,
     computer: &Computer<'_, '_>,
     computed: Computed<'_>,
-) -> Result<(), Stop> {
+) -> Result<(), AllocError> {
     let parts = marker.parts;
     let code = computed.code;
     let call = amount.call();
@@ -120,8 +119,7 @@ fn count_of(
             "        if {guard} {{\n            return None;\n        }}"
         )?;
     }
-    writeln!(out, "        Some({code})\n    }}\n}}")?;
-    Ok(())
+    writeln!(out, "        Some({code})\n    }}\n}}")
 }
 
 /// Appends the marker of a condition: whether a field follows the parts.
@@ -130,7 +128,7 @@ pub fn condition(
     marker: Marker<'_>,
     computer: &Computer<'_, '_>,
     computed: Computed<'_>,
-) -> Result<(), Stop> {
+) -> Result<(), AllocError> {
     declared(out, marker, "Whether", "is there", computed.code)?;
     shows(out, marker, computer, computed)?;
     if let Some(lent) = marker.of_lent() {
@@ -145,15 +143,14 @@ fn shows(
     marker: Marker<'_>,
     computer: &Computer<'_, '_>,
     computed: Computed<'_>,
-) -> Result<(), Stop> {
+) -> Result<(), AllocError> {
     let parts = marker.parts;
     let term = computed.term;
     implemented(out, "Condition", marker)?;
     writeln!(out, "    ghost shows = {{ λ p. {term} }};\n")?;
     writeln!(out, "    fn shows(parts: &{parts}) -> bool {{")?;
     truth(out, computer, computed)?;
-    out.push_str("    }\n}\n")?;
-    Ok(())
+    out.push_str("    }\n}\n")
 }
 
 /// Appends the marker of the end of a list: which item is the last.
@@ -162,7 +159,7 @@ pub fn last(
     marker: Marker<'_>,
     computer: &Computer<'_, '_>,
     computed: Computed<'_>,
-) -> Result<(), Stop> {
+) -> Result<(), AllocError> {
     let parts = marker.parts;
     let (code, term) = (computed.code, computed.term);
     declared(out, marker, "Which item of", "is the last", code)?;
@@ -180,7 +177,7 @@ pub fn check(
     marker: Marker<'_>,
     computer: &Computer<'_, '_>,
     computed: Computed<'_>,
-) -> Result<(), Stop> {
+) -> Result<(), AllocError> {
     declared(out, marker, "What", "has to be", computed.code)?;
     passes(out, marker, computer, computed)?;
     if let Some(lent) = marker.of_lent() {
@@ -195,7 +192,7 @@ fn passes(
     marker: Marker<'_>,
     computer: &Computer<'_, '_>,
     computed: Computed<'_>,
-) -> Result<(), Stop> {
+) -> Result<(), AllocError> {
     let Marker { parts, field, .. } = marker;
     let term = computed.term;
     implemented(out, "Check", marker)?;
@@ -204,8 +201,7 @@ fn passes(
     writeln!(out, "    fn passes(parts: &{parts}) -> bool {{")?;
     truth(out, computer, computed)?;
     out.push_str("    }\n\n")?;
-    text(out, field)?;
-    Ok(())
+    text(out, field)
 }
 
 /// Appends the marker of an id: which kind a field is, by a number of the parts.
@@ -214,7 +210,7 @@ pub fn id(
     marker: Marker<'_>,
     computer: &Computer<'_, '_>,
     computed: Computed<'_>,
-) -> Result<(), Stop> {
+) -> Result<(), AllocError> {
     declared(out, marker, "Which kind", "is", computed.code)?;
     id_of(out, marker, computer, computed)?;
     if let Some(lent) = marker.of_lent() {
@@ -300,7 +296,7 @@ pub fn context(
     marker: Marker<'_>,
     computer: &Computer<'_, '_>,
     computed: Computed<'_>,
-) -> Result<(), Stop> {
+) -> Result<(), AllocError> {
     let what = match under.unit {
         Unit::Bits => "How many bits",
         Unit::Bytes => "How many bytes",
@@ -522,7 +518,7 @@ fn alike(
     what: &str,
     marker: Marker<'_>,
     computer: &Computer<'_, '_>,
-) -> Result<(), Stop> {
+) -> Result<(), AllocError> {
     implemented(out, what, marker)?;
     out.push_str("    ghost alike = { λ v w e. ")?;
     for (i, index) in computer.used.iter().enumerate() {
@@ -542,8 +538,7 @@ fn alike(
         0 => "refl };\n}\n",
         1 => " refl };\n}\n",
         _ => ") refl };\n}\n",
-    })?;
-    Ok(())
+    })
 }
 
 /// The number of at most eight bytes, the high one first.

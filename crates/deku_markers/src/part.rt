@@ -3,11 +3,11 @@
 use crate::following::Dependent;
 use crate::texts::Texts;
 use deku_attributes::model::Field;
-use deku_texts::arena::Arena;
 use deku_texts::document::{Form, Text, joined};
 use deku_texts::records::Records;
 use deku_texts::words::quoted;
 use deku_texts::wrapping::{Wrapping, count_of, number_kind, wrapping_of};
+use deku_tokens::arena::Arena;
 use std::alloc::AllocError;
 
 /// How many items a tuple has at most. Of more there are tuples of these.

@@ -3,10 +3,10 @@
 use crate::following::{Dependent, kind_of, lent_of, pattern_of, term_of, value_of};
 use crate::part::{Named, Owner};
 use deku_attributes::model::Field;
-use deku_texts::arena::Arena;
 use deku_texts::document::{Form, Text, joined};
 use deku_texts::words;
 use deku_texts::wrapping::{Wrapping, part_kind};
+use deku_tokens::arena::Arena;
 use std::alloc::AllocError;
 
 /// How a part is printed.

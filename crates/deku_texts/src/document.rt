@@ -1,6 +1,6 @@
 //! Texts on one line where there is room, or with a line for each item, as `rt fmt` lays them out.
 
-use crate::arena::Arena;
+use deku_tokens::arena::Arena;
 use std::alloc::AllocError;
 
 // The columns of a line.

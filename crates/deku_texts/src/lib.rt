@@ -1,7 +1,6 @@
 //! What modules say of the parts of records: their texts, laid out as `rt fmt` does.
 #![tactic(auto)]
 
-pub mod arena;
 pub mod document;
 pub mod records;
 pub mod refusal;

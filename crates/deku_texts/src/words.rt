@@ -1,6 +1,6 @@
 //! Names that a module has besides those of its description, and how names are written.
 
-use crate::arena::Arena;
+use deku_tokens::arena::Arena;
 use std::alloc::AllocError;
 
 // The names that a module imports or that its bounds have.

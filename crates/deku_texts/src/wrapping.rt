@@ -1,9 +1,9 @@
 //! How fields are laid out: the parts around their values.
 
-use crate::arena::Arena;
 use deku_attributes::model::{Endian, Field, Order};
 use deku_attributes::reading::{address_bits, bits_of};
 use deku_description::syntax::{Length, Type};
+use deku_tokens::arena::Arena;
 use std::alloc::AllocError;
 use std::fmt::Write as _;
 
@@ -70,7 +70,7 @@ fn items_of(kind: &Type<'_>) -> usize {
         return 1;
     };
     let mut count = 0usize;
-    for part in parts {
+    for part in *parts {
         count = count.saturating_add(items_of(part));
     }
     count
@@ -82,7 +82,7 @@ pub fn is_of_numbers(kind: &Type<'_>) -> bool {
         Type::Name(name) => bits_of(name.text).is_some() || address_bits(name.text).is_some(),
         Type::Array(item, _) => is_of_numbers(item),
         Type::Tuple(parts) => {
-            for part in parts {
+            for part in *parts {
                 if !is_of_numbers(part) {
                     return false;
                 }
@@ -103,7 +103,7 @@ pub fn common_bits(kind: &Type<'_>) -> Option<u64> {
         Type::Array(item, _) => common_bits(item),
         Type::Tuple(parts) => {
             let mut common = None;
-            for part in parts {
+            for part in *parts {
                 let bits = common_bits(part)?;
                 if common.unwrap_or(bits) != bits {
                     return None;

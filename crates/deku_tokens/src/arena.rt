@@ -1,10 +1,10 @@
-//! Where the texts of a module are kept until it is printed.
+//! Where what is made of a description is kept until its module is printed.
 
 use bumpalo::Bump;
 use std::alloc::{AllocError, Global};
 use std::fmt::Display;
 
-/// Texts and lists of them, which are given up together.
+/// Values, texts and lists of them, which are given up together.
 #[derive(Drop)]
 pub struct Arena {
     bump: Bump<Global>,
@@ -23,6 +23,12 @@ impl Arena {
     /// What allocates a list or a text that grows.
     pub fn alloc(&self) -> Global {
         self.alloc
+    }
+
+    /// Keeps a value.
+    pub fn one<T: Copy>(&self, value: T) -> Result<&T, AllocError> {
+        let value = self.bump.try_alloc(value)?;
+        Ok(value)
     }
 
     /// Keeps a text.
