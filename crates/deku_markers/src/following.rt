@@ -116,7 +116,8 @@ pub(crate) fn pattern_of<'a>(
 ) -> Result<Text<'a>, AllocError> {
     let head = head.after(arena, "head: ")?;
     let held = field(arena, form.item(), name)?;
-    headed(arena, Form::Brace, form.pattern(), head, &[held, ".."])
+    let items = [head, Text::of(held), Text::of("..")];
+    Ok(Text::group(Form::Brace, form.pattern(), arena.list(&items)?))
 }
 
 /// A head and what comes after it, where memory is lent.
@@ -131,7 +132,8 @@ pub(crate) fn value_of<'a>(
     let held = field(arena, form.lent_item(), called.reference(arena)?)?;
     let front = form.value();
     let open = arena.print(format_args!("{front}{marker}, _> {{"))?;
-    headed(arena, Form::Brace, open, head, &[held, form.marker().0])
+    let items = [head, Text::of(held), Text::of(form.marker().0)];
+    Ok(Text::group(Form::Brace, open, arena.list(&items)?))
 }
 
 /// The same in ghost text.
@@ -144,6 +146,6 @@ pub(crate) fn term_of<'a>(
     let head = head.after(arena, "head = ")?;
     let (item, term) = (form.item(), called.term(arena)?);
     let held = arena.print(format_args!("{item} = {term}"))?;
-    let others = [held, form.marker().1];
-    headed(arena, Form::GhostBrace, "record {", head, &others)
+    let items = [head, Text::of(held), Text::of(form.marker().1)];
+    Ok(Text::group(Form::GhostBrace, "record {", arena.list(&items)?))
 }
