@@ -3,10 +3,10 @@
 use deku_attributes::given::chosen;
 use deku_attributes::model::Field;
 use deku_texts::document::{Form, Text};
+use deku_texts::template::fill;
 use deku_texts::words::snake;
 use deku_tokens::arena::Arena;
 use std::alloc::AllocError;
-use std::fmt::Write as _;
 
 /// Appends the law that no field is missing from the parts of a struct. It follows from the same
 /// law of each enum whose id is a field, which is imported from this module.
@@ -42,13 +42,21 @@ pub(crate) fn there<'a>(
     out.push_str(" refl };\n}\n")
 }
 
+const LAW: &str = "    \
+    ghost use Rattle.$front$.specs.contracts$dot$$rest$.$kind$FromParts.TheImpl.Laws\
+    .{there-law as $law$_there};
+";
+
 // Appends the import of the law of an enum.
 fn imported(out: &mut String, kind: &str, law: &str, path: &str) -> Result<(), AllocError> {
     let (front, rest) = path.split_once('.').unwrap_or((path, ""));
     let dot = if rest.is_empty() { "" } else { "." };
-    write!(
-        out,
-        "    ghost use Rattle.{front}.specs.contracts{dot}{rest}.{kind}FromParts"
-    )?;
-    writeln!(out, ".TheImpl.Laws.{{there-law as {law}_there}};")
+    let words = [
+        ("front", front),
+        ("dot", dot),
+        ("rest", rest),
+        ("kind", kind),
+        ("law", law),
+    ];
+    fill(out, LAW, &words)
 }

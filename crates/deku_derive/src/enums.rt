@@ -7,6 +7,7 @@ use deku_description::syntax::Shape;
 use deku_markers::part::Part;
 use deku_markers::texts::field;
 use deku_texts::document::{Form, Text, joined, start};
+use deku_texts::template::fill;
 use deku_texts::words::{quoted, snake};
 use deku_texts::wrapping::field_kind;
 use deku_tokens::arena::Arena;
@@ -34,6 +35,11 @@ enum Held {
     Nothing,
 }
 
+const ENUM: &str = "\
+pub enum $name$ {
+$kinds$}
+";
+
 /// Appends an enum.
 pub(crate) fn declaration<'a>(
     arena: &'a Arena,
@@ -43,21 +49,21 @@ pub(crate) fn declaration<'a>(
 ) -> Result<(), AllocError> {
     let is_lent = kinds.iter().any(|kind| kind.is_lent);
     derives(out, record, !is_lent, false)?;
-    let name = record.name.text;
-    writeln!(out, "pub enum {name} {{")?;
     let is_split = are_split(arena, kinds)?;
+    let mut lines = String::new(arena.alloc());
     for kind in kinds {
         let case = kind.case;
-        docs(out, case.docs, "    ///")?;
+        docs(&mut lines, case.docs, "    ///")?;
         if case.docs.is_empty() {
-            said(out, case.id)?;
+            said(&mut lines, case.id)?;
         }
-        out.push_str("    ")?;
+        lines.push_str("    ")?;
         let text = variant(arena, kind)?;
-        text.print(out, 4, 1, is_split && case.shape == Shape::Named)?;
-        out.push_str(",\n")?;
+        text.print(&mut lines, 4, 1, is_split && case.shape == Shape::Named)?;
+        lines.push_str(",\n")?;
     }
-    out.push_str("}\n")
+    let words = [("name", record.name.text), ("kinds", lines.as_str())];
+    fill(out, ENUM, &words)
 }
 
 // Whether kinds with named fields have a line for each field: if one of them has no room on a line,
@@ -116,6 +122,15 @@ fn of_shape<'a>(
     })
 }
 
+const TO_PARTS: &str = "
+impl ToParts for $name$ {
+    fn parts(&self) -> Self::Parts {
+        match self {$arms$
+        }
+    }
+}
+";
+
 /// Appends how an enum is read and written; or its kinds alone, if it is given its id.
 pub(crate) fn implementation<'a>(
     arena: &'a Arena,
@@ -137,17 +152,21 @@ pub(crate) fn implementation<'a>(
     if kinds.iter().any(|kind| kind.is_lent) {
         return lent(arena, out, name, ids, kinds);
     }
-    writeln!(out, "\nimpl ToParts for {name} {{")?;
-    out.push_str("    fn parts(&self) -> Self::Parts {\n        match self {")?;
+    let mut arms = String::new(arena.alloc());
     for (i, kind) in kinds.iter().enumerate() {
-        parts(arena, out, name, kind, (i, kinds.len()), is_given)?;
+        parts(arena, &mut arms, name, kind, (i, kinds.len()), is_given)?;
     }
-    out.push_str("\n        }\n    }\n}\n")?;
+    fill(out, TO_PARTS, &[("name", name), ("arms", arms.as_str())])?;
     if is_given {
         return Ok(());
     }
     traits(out, name, "write_record(self, writer, ctx)")
 }
+
+const IDS: &str = "
+// The ids of $name$, in their order.
+$ids$;
+";
 
 // Appends the traits of an enum whose kinds are written where they are, and the type of their ids.
 fn lent<'a>(
@@ -157,12 +176,9 @@ fn lent<'a>(
     ids: Ids<'a>,
     kinds: &[Built<'a>],
 ) -> Result<(), AllocError> {
-    write!(
-        out,
-        "\n// The ids of {name}, in their order.\ntype {name}Ids = "
-    )?;
-    parts_kind(arena, ids, kinds, Held::Nothing)?.print(out, 0, 1, false)?;
-    out.push_str(";\n")?;
+    let mut text = format!(in arena.alloc(); "type {name}Ids = ")?;
+    parts_kind(arena, ids, kinds, Held::Nothing)?.print(&mut text, 0, 1, false)?;
+    fill(out, IDS, &[("name", name), ("ids", text.as_str())])?;
     let mut body = String::from_str(arena.alloc(), "match self {")?;
     for (i, kind) in kinds.iter().enumerate() {
         written(arena, &mut body, name, kind, (i, kinds.len()))?;
@@ -170,6 +186,16 @@ fn lent<'a>(
     body.push_str("\n        }")?;
     traits(out, name, body.as_str())
 }
+
+const GOALS: &str = "\
+use Rattle.std.proofs.Common.{rules}
+use Rattle.$front$.proofs$dot$$rest$.$name$DekuWriterUnit.to_writer.Goals as goal
+";
+
+const ANSWER: &str = "
+pub returns-in-$case$ : goal.returns-in-$case$
+returns-in-$case$ g c = search (rules, c.in-$case$.is)
+";
 
 /// Appends what proves how an enum that holds memory is written: a line for each kind.
 pub(crate) fn answers(
@@ -180,23 +206,25 @@ pub(crate) fn answers(
 ) -> Result<(), AllocError> {
     let (front, rest) = path.split_once('.').unwrap_or((path, ""));
     let dot = if rest.is_empty() { "" } else { "." };
-    out.push_str("use Rattle.std.proofs.Common.{rules}\n")?;
-    write!(
-        out,
-        "use Rattle.{front}.proofs{dot}{rest}.{name}DekuWriterUnit"
-    )?;
-    out.push_str(".to_writer.Goals as goal\n")?;
+    let words = [
+        ("front", front),
+        ("dot", dot),
+        ("rest", rest),
+        ("name", name),
+    ];
+    fill(out, GOALS, &words)?;
     for kind in kinds {
         let of = kind.case;
-        let case = of.name.text;
-        writeln!(out, "\npub returns-in-{case} : goal.returns-in-{case}")?;
-        writeln!(
-            out,
-            "returns-in-{case} g c = search (rules, c.in-{case}.is)"
-        )?;
+        fill(out, ANSWER, &[("case", of.name.text)])?;
     }
     Ok(())
 }
+
+const WRITTEN: &str = "
+$head$ => {$parts$
+$id$;
+                write_kind(&id, $reference$, writer)
+            }";
 
 // Appends how a kind is written.
 fn written<'a>(
@@ -206,27 +234,37 @@ fn written<'a>(
     kind: &Built<'a>,
     place: (usize, usize),
 ) -> Result<(), AllocError> {
-    start(out, 12)?;
-    own(arena, name, kind, false)?.print(out, 12, 5, false)?;
-    out.push_str(" => {")?;
+    let mut head = String::from_str(arena.alloc(), "            ")?;
+    own(arena, name, kind, false)?.print(&mut head, 12, 5, false)?;
     let reference = reference(kind.part);
+    let mut parts = String::new(arena.alloc());
     if reference == "&parts" {
-        start(out, 16)?;
-        out.push_str("let parts = ")?;
-        kind.part.texts.value.print(out, 16, 1, false)?;
-        out.push(';')?;
+        parts.push_str("\n                let parts = ")?;
+        kind.part.texts.value.print(&mut parts, 16, 1, false)?;
+        parts.push(';')?;
     }
-    start(out, 16)?;
-    write!(out, "let id: {name}Ids = ")?;
+    let words = [
+        ("head", head.as_str()),
+        ("parts", parts.as_str()),
+        ("id", local_id(arena, name, kind, place)?),
+        ("reference", reference),
+    ];
+    fill(out, WRITTEN, &words)
+}
+
+// The local for the id of a kind.
+fn local_id<'a>(
+    arena: &'a Arena,
+    name: &str,
+    kind: &Built<'a>,
+    place: (usize, usize),
+) -> Result<&'a str, AllocError> {
+    let mut line = format!(in arena.alloc(); "                let id: {name}Ids = ")?;
     let id = stood(arena, Form::Round, kind, Text::of("()"), place)?;
     let id = id.after(arena, "kind: ")?;
     let items = arena.list(&[id, Text::of("id: PhantomData")])?;
-    Text::group(Form::Brace, "Enum {", items).print(out, 16, 1, true)?;
-    out.push(';')?;
-    start(out, 16)?;
-    write!(out, "write_kind(&id, {reference}, writer)")?;
-    start(out, 12)?;
-    out.push('}')
+    Text::group(Form::Brace, "Enum {", items).print(&mut line, 16, 1, true)?;
+    arena.keep(line.as_str())
 }
 
 // A reference to the parts of a kind: the field itself, if it is alone and nothing is around it.
@@ -244,6 +282,22 @@ fn reference<'a>(part: Part<'a>) -> &'a str {
     }
 }
 
+const THERE_AND_BACK: &str = "    \
+    ghost parts_of = { elim [$parts$
+    ] };
+
+    ghost record_of = { λ p. $record$ };
+
+    fn from_parts(parts: Self::Parts) -> Self {
+        match parts$held$ {$arms$
+        }
+    }
+
+    ghost there = { elim [$same$
+    ] };
+}
+";
+
 // Appends the parts of an enum, and the enum that parts make.
 fn there_and_back<'a>(
     arena: &'a Arena,
@@ -253,61 +307,55 @@ fn there_and_back<'a>(
     is_given: bool,
 ) -> Result<(), AllocError> {
     let held = if is_given { "" } else { ".kind" };
-    out.push_str("    ghost parts_of = { elim [")?;
-    parts_of_each(arena, out, name, kinds, is_given)?;
-    out.push_str("\n    ] };\n\n    ghost record_of = { λ p. ")?;
-    record_of(arena, out, name, kinds, held)?;
-    out.push_str(" };\n\n    fn from_parts(parts: Self::Parts) -> Self {\n")?;
-    write!(out, "        match parts{held} {{")?;
-    from_parts_of_each(arena, out, name, kinds)?;
-    out.push_str("\n        }\n    }\n\n")?;
-    out.push_str("    ghost there = { elim [")?;
-    same_of_each(arena, out, name, kinds)?;
-    out.push_str("\n    ] };\n}\n")
+    let words = [
+        ("parts", parts_of_each(arena, name, kinds, is_given)?),
+        ("record", record_of(arena, name, kinds, held)?),
+        ("held", held),
+        ("arms", from_parts_of_each(arena, name, kinds)?),
+        ("same", same_of_each(arena, name, kinds)?),
+    ];
+    fill(out, THERE_AND_BACK, &words)
 }
 
-// Appends the parts of each kind.
+// The parts of each kind.
 fn parts_of_each<'a>(
     arena: &'a Arena,
-    out: &mut String,
     name: &str,
     kinds: &[Built<'a>],
     is_given: bool,
-) -> Result<(), AllocError> {
+) -> Result<&'a str, AllocError> {
+    let mut out = String::new(arena.alloc());
     for (i, kind) in kinds.iter().enumerate() {
-        start(out, 6)?;
-        parts_of(arena, out, name, kind, (i, kinds.len()), is_given)?;
+        parts_of(arena, &mut out, name, kind, (i, kinds.len()), is_given)?;
     }
-    Ok(())
+    arena.keep(out.as_str())
 }
 
-// Appends the arm of each kind in `from_parts`.
+// The arm of each kind in `from_parts`.
 fn from_parts_of_each<'a>(
     arena: &'a Arena,
-    out: &mut String,
     name: &str,
     kinds: &[Built<'a>],
-) -> Result<(), AllocError> {
+) -> Result<&'a str, AllocError> {
+    let mut out = String::new(arena.alloc());
     for (i, kind) in kinds.iter().enumerate() {
-        from_parts(arena, out, name, kind, (i, kinds.len()))?;
+        from_parts(arena, &mut out, name, kind, (i, kinds.len()))?;
     }
-    Ok(())
+    arena.keep(out.as_str())
 }
 
-// Appends that the parts of each kind make it again.
+// That the parts of each kind make it again.
 fn same_of_each<'a>(
     arena: &'a Arena,
-    out: &mut String,
     name: &str,
     kinds: &[Built<'a>],
-) -> Result<(), AllocError> {
+) -> Result<&'a str, AllocError> {
+    let mut out = String::new(arena.alloc());
     for kind in kinds {
-        start(out, 6)?;
-        out.push_str("| ")?;
-        constructor(arena, out, name, kind)?;
-        out.push_str(" ↦ refl")?;
+        let kind = constructor(arena, name, kind)?;
+        write!(out, "\n      | {kind} ↦ refl")?;
     }
-    Ok(())
+    arena.keep(out.as_str())
 }
 
 // The type of the id and the kinds.
@@ -425,7 +473,7 @@ fn kind_type<'a>(arena: &'a Arena, kind: &Built<'a>, held: Held) -> Result<Text<
     Ok(Text::group(Form::Angle, open, arena.list(items.as_slice())?))
 }
 
-// Appends the parts of a kind, in ghost text.
+// Appends the parts of a kind, in ghost text, in a line of their own.
 fn parts_of<'a>(
     arena: &'a Arena,
     out: &mut String,
@@ -434,8 +482,8 @@ fn parts_of<'a>(
     place: (usize, usize),
     is_given: bool,
 ) -> Result<(), AllocError> {
-    out.push_str("| ")?;
-    constructor(arena, out, name, kind)?;
+    let case = constructor(arena, name, kind)?;
+    write!(out, "\n      | {case} ↦ ")?;
     let term = kind.part.texts.term;
     let items = match kind.kept {
         Some(kept) => {
@@ -447,7 +495,6 @@ fn parts_of<'a>(
     let text = Text::group(Form::GhostBrace, "record {", items);
     let words = ("either.This (", "either.Other (");
     let text = on_side(arena, Form::GhostRound, words, place, text)?;
-    out.push_str(" ↦ ")?;
     if is_given {
         return text.print(out, 6, 0, false);
     }
@@ -456,32 +503,26 @@ fn parts_of<'a>(
     Text::group(Form::GhostBrace, "record {", items).print(out, 6, 0, false)
 }
 
-// Appends a kind with its fields as variables, in ghost text.
-fn constructor<'a>(
-    arena: &'a Arena,
-    out: &mut String,
-    name: &str,
-    kind: &Built<'a>,
-) -> Result<(), AllocError> {
+// A kind with its fields as variables, in ghost text.
+fn constructor<'a>(arena: &'a Arena, name: &str, kind: &Built<'a>) -> Result<&'a str, AllocError> {
     let kinds = snake(arena, name)?;
     let of = kind.case;
     let case = of.name.text;
-    write!(out, "{kinds}_kinds.{case}")?;
+    let mut out = format!(in arena.alloc(); "{kinds}_kinds.{case}")?;
     for (i, field) in of.fields.iter().enumerate() {
         let name = quoted(arena, field_name(arena, field, i)?)?;
         write!(out, " {name}")?;
     }
-    Ok(())
+    arena.keep(out.as_str())
 }
 
-// Appends the enum that a value of the kinds makes, in ghost text.
+// The enum that a value of the kinds makes, in ghost text.
 fn record_of<'a>(
     arena: &'a Arena,
-    out: &mut String,
     name: &str,
     kinds: &[Built<'a>],
     kind: &str,
-) -> Result<(), AllocError> {
+) -> Result<&'a str, AllocError> {
     let whole = joined(arena, "p", kind)?;
     let held = if kinds.len() == 1 { whole } else { "k" };
     let mut texts = made_of_each(arena, name, kinds, held)?;
@@ -491,15 +532,14 @@ fn record_of<'a>(
         }
         choose(arena, &mut texts)?;
     }
-    let Some(text) = texts.pop() else {
-        return Ok(());
-    };
+    let text = texts.pop().unwrap_or("");
     match text.strip_prefix("elim k [") {
         Some(rest) => {
-            write!(out, "elim {whole} [")?;
-            indented(out, rest, "    ")
+            let rest = rest.replace(arena.alloc(), "\n", "\n    ")?;
+            let rest = rest.as_str();
+            arena.print(format_args!("elim {whole} [{rest}"))
         }
-        None => out.push_str(text),
+        None => Ok(text),
     }
 }
 
@@ -517,18 +557,6 @@ fn made_of_each<'a>(
     Ok(texts)
 }
 
-// Appends a text whose lines after the first begin further in.
-fn indented(out: &mut String, text: &str, indent: &str) -> Result<(), AllocError> {
-    for (i, line) in text.split('\n').enumerate() {
-        if i > 0 {
-            out.push('\n')?;
-            out.push_str(indent)?;
-        }
-        out.push_str(line)?;
-    }
-    Ok(())
-}
-
 // Makes one choice of two neighbours each; the last one stays alone if their number is odd.
 fn choose<'a>(arena: &'a Arena, texts: &mut Vec<&'a str>) -> Result<(), AllocError> {
     let all = arena.list(texts.as_slice())?;
@@ -542,12 +570,19 @@ fn choose<'a>(arena: &'a Arena, texts: &mut Vec<&'a str>) -> Result<(), AllocErr
     Ok(())
 }
 
+const CHOICE: &str = "\
+elim k [
+  | either.This k ↦ $one$
+  | either.Other k ↦ $other$
+]";
+
+// One choice of two kinds, whose further lines begin further in.
 fn choice<'a>(arena: &'a Arena, one: &str, other: &str) -> Result<&'a str, AllocError> {
-    let mut out = String::from_str(arena.alloc(), "elim k [\n  | either.This k ↦ ")?;
-    indented(&mut out, one, "  ")?;
-    out.push_str("\n  | either.Other k ↦ ")?;
-    indented(&mut out, other, "  ")?;
-    out.push_str("\n]")?;
+    let one = one.replace(arena.alloc(), "\n", "\n  ")?;
+    let other = other.replace(arena.alloc(), "\n", "\n  ")?;
+    let mut out = String::new(arena.alloc());
+    let words = [("one", one.as_str()), ("other", other.as_str())];
+    fill(&mut out, CHOICE, &words)?;
     arena.keep(out.as_str())
 }
 
@@ -656,11 +691,9 @@ fn arm(out: &mut String, pattern: Text<'_>, body: Text<'_>) -> Result<(), AllocE
         body.print(out, 12, 1, false)?;
         return out.push(',');
     }
-    out.push('{')?;
-    start(out, 16)?;
+    out.push_str("{\n                ")?;
     body.print(out, 16, 0, false)?;
-    start(out, 12)?;
-    out.push('}')
+    out.push_str("\n            }")
 }
 
 // Appends how parts make a kind.

@@ -1,6 +1,7 @@
 //! What a module imports: the names that its text has.
 
 use deku_attributes::model::{Form, Module};
+use deku_texts::template::fill;
 use deku_texts::words::{MADE, snake};
 use deku_tokens::arena::Arena;
 use std::alloc::AllocError;
@@ -121,6 +122,25 @@ const WORDS: [(&str, &str); 24] = [
     ("refl", "refl"),
 ];
 
+const IMPORTS: &str = "
+ghost use Rattle.std.specs.Prelude.{$words$};
+ghost use Rattle.deku.specs.Composing.{Then};
+ghost use Rattle.deku.specs.Shapes.{Shows};
+$refusals$$endians$$orders$$made$$kinds$
+";
+
+// The words for the refusals of an update.
+const REFUSALS: &str = "\
+ghost use Rattle.deku.specs.declared.error.DekuError.{DekuError as Refusal};
+ghost use Rattle.deku.specs.declared.error.DekuError.TheVariants.{Parse};
+ghost use Rattle.deku.specs.Faults.{Tells};
+";
+
+// The words for contexts with an order.
+const ORDERS: &str = "\
+ghost use Rattle.deku.specs.declared.ctx.Order.TheVariants.{Lsb0};
+";
+
 /// Appends what a module imports that goes on with this text.
 pub(crate) fn imports(
     arena: &Arena,
@@ -130,24 +150,25 @@ pub(crate) fn imports(
     text: &str,
 ) -> Result<(), AllocError> {
     let (term, code) = parted(arena, text)?;
-    let words = words_of(arena, term)?;
-    writeln!(
-        out,
-        "
-ghost use Rattle.std.specs.Prelude.{{{words}}};
-ghost use Rattle.deku.specs.Composing.{{Then}};
-ghost use Rattle.deku.specs.Shapes.{{Shows}};"
-    )?;
-    refusals(out, term)?;
-    contexts(arena, out, term)?;
-    made(arena, out, term)?;
-    kinds(arena, out, module, path)?;
-    out.push('\n')?;
+    let words = [
+        ("words", words_of(arena, term)?),
+        ("refusals", if_has(term, "Tells Parse", REFUSALS)),
+        ("endians", endians(arena, term)?),
+        ("orders", if_has(term, ", Lsb0) }", ORDERS)),
+        ("made", made(arena, term)?),
+        ("kinds", kinds(arena, module, path)?),
+    ];
+    fill(out, IMPORTS, &words)?;
     own_uses(out, module)?;
     for (from, names) in USED {
         used(arena, out, from, names, code)?;
     }
     Ok(())
+}
+
+// Imports, if this is in a text.
+fn if_has(text: &str, found: &str, imports: &'static str) -> &'static str {
+    if text.contains(found) { imports } else { "" }
 }
 
 // The words of the standard library that ghost text has.
@@ -177,41 +198,25 @@ fn own_uses(out: &mut String, module: &Module<'_>) -> Result<(), AllocError> {
     Ok(())
 }
 
-// Appends the words for the refusals of an update, if ghost text has one.
-fn refusals(out: &mut String, text: &str) -> Result<(), AllocError> {
-    if !text.contains("Tells Parse") {
-        return Ok(());
-    }
-    out.push_str(
-        "\
-ghost use Rattle.deku.specs.declared.error.DekuError.{DekuError as Refusal};
-ghost use Rattle.deku.specs.declared.error.DekuError.TheVariants.{Parse};
-ghost use Rattle.deku.specs.Faults.{Tells};
-",
-    )
-}
-
-// Appends the words for contexts that ghost text has.
-fn contexts(arena: &Arena, out: &mut String, text: &str) -> Result<(), AllocError> {
+// The import of the endians of contexts that ghost text has.
+fn endians<'a>(arena: &'a Arena, text: &str) -> Result<&'a str, AllocError> {
     let mut endians = Vec::new(arena.alloc());
     for (word, found) in [("Big", "λ p. (Big, "), ("Little", "λ p. (Little, ")] {
         if text.contains(found) {
             endians.push(word)?;
         }
     }
-    if !endians.is_empty() {
-        let words = listed(arena, endians.as_slice())?;
-        out.push_str("ghost use Rattle.deku.specs.declared.ctx.Endian.TheVariants")?;
-        writeln!(out, ".{{{words}}};")?;
+    if endians.is_empty() {
+        return Ok("");
     }
-    if text.contains(", Lsb0) }") {
-        out.push_str("ghost use Rattle.deku.specs.declared.ctx.Order.TheVariants.{Lsb0};\n")?;
-    }
-    Ok(())
+    let words = listed(arena, endians.as_slice())?;
+    arena.print(format_args!(
+        "ghost use Rattle.deku.specs.declared.ctx.Endian.TheVariants.{{{words}}};\n"
+    ))
 }
 
-// Appends the words for parts of one value that ghost text has.
-fn made(arena: &Arena, out: &mut String, text: &str) -> Result<(), AllocError> {
+// The import of the words for parts of one value that ghost text has.
+fn made<'a>(arena: &'a Arena, text: &str) -> Result<&'a str, AllocError> {
     let mut words = Vec::new(arena.alloc());
     for (_, word) in &MADE {
         if has_word(text, word) {
@@ -219,40 +224,51 @@ fn made(arena: &Arena, out: &mut String, text: &str) -> Result<(), AllocError> {
         }
     }
     if words.is_empty() {
-        return Ok(());
+        return Ok("");
     }
     let words = listed(arena, words.as_slice())?;
-    writeln!(
-        out,
-        "ghost use Rattle.deku_symmetry.specs.Fields.{{{words}}};"
-    )
+    arena.print(format_args!("ghost use Rattle.deku_symmetry.specs.Fields.{{{words}}};\n"))
 }
 
-// Appends the kinds of enums that ghost text names.
-fn kinds(
-    arena: &Arena,
-    out: &mut String,
+const EITHER: &str = "\
+ghost use Rattle.deku_pieces.specs.declared.either.Either.TheVariants as either;
+";
+
+const KINDS: &str = "\
+$either$\
+ghost use Rattle.$front$.specs.declared$dot$$rest$.$name$.TheVariants as $kinds$_kinds;
+";
+
+// The imports of the kinds of enums that ghost text names.
+fn kinds<'a>(
+    arena: &'a Arena,
     module: &Module<'_>,
     path: Option<&str>,
-) -> Result<(), AllocError> {
-    let mut is_first = true;
+) -> Result<&'a str, AllocError> {
+    let Some(path) = path else {
+        return Ok("");
+    };
+    let (front, rest) = path.split_once('.').unwrap_or((path, ""));
+    let dot = if rest.is_empty() { "" } else { "." };
+    let mut lines = String::new(arena.alloc());
     for record in module.records {
-        if let (Form::Enum(_, _), Some(path)) = (&record.form, path) {
+        if let Form::Enum(_, _) = &record.form {
             let name = record.name.text;
-            let kinds = snake(arena, name)?;
-            if is_first {
-                out.push_str("ghost use Rattle.deku_pieces.specs.declared.")?;
-                out.push_str("either.Either.TheVariants as either;\n")?;
-                is_first = false;
-            }
-            let (front, rest) = path.split_once('.').unwrap_or((path, ""));
-            let dot = if rest.is_empty() { "" } else { "." };
-            write!(out, "ghost use Rattle.{front}.specs.declared{dot}{rest}")?;
-            writeln!(out, ".{name}.TheVariants as {kinds}_kinds;")?;
+            let words = [
+                ("either", if lines.is_empty() { EITHER } else { "" }),
+                ("front", front),
+                ("dot", dot),
+                ("rest", rest),
+                ("name", name),
+                ("kinds", snake(arena, name)?),
+            ];
+            fill(&mut lines, KINDS, &words)?;
         }
     }
-    Ok(())
+    arena.keep(lines.as_str())
 }
+
+const LINE: &str = "$line$\n";
 
 // The lines of ghost text, and those of code.
 fn parted<'a>(arena: &'a Arena, text: &str) -> Result<(&'a str, &'a str), AllocError> {
@@ -263,17 +279,21 @@ fn parted<'a>(arena: &'a Arena, text: &str) -> Result<(&'a str, &'a str), AllocE
     for line in text.lines() {
         let trimmed = line.trim_start();
         if open > 0 || trimmed.starts_with("ghost ") {
-            term.push_str(line)?;
-            term.push('\n')?;
+            fill(&mut term, LINE, &[("line", line)])?;
             open = open.saturating_add(line.matches('{').count());
             open = open.saturating_sub(line.matches('}').count());
         } else if !trimmed.starts_with("//") {
-            code.push_str(line)?;
-            code.push('\n')?;
+            fill(&mut code, LINE, &[("line", line)])?;
         }
     }
     Ok((arena.keep(term.as_str())?, arena.keep(code.as_str())?))
 }
+
+const USE: &str = "\
+use $from$::{
+$names$
+};
+";
 
 // Appends the import of those of these names that a text has.
 fn used(
@@ -298,32 +318,31 @@ fn used(
             if columns < 99 {
                 return writeln!(out, "use {from}::{{{line}}};");
             }
-            writeln!(out, "use {from}::{{")?;
-            filled(out, names)?;
-            out.push_str("};\n")
+            let words = [("from", from), ("names", filled(arena, names)?)];
+            fill(out, USE, &words)
         }
     }
 }
 
-// Appends names on as few lines as hold them.
-fn filled(out: &mut String, names: &[&str]) -> Result<(), AllocError> {
+const NAME: &str = "$space$$name$,";
+
+// Names on as few lines as hold them.
+fn filled<'a>(arena: &'a Arena, names: &[&str]) -> Result<&'a str, AllocError> {
+    let mut lines = String::new(arena.alloc());
     let mut column = 0usize;
     for name in names {
         let next = column.saturating_add(name.len()).saturating_add(2);
-        if column == 0 {
-            out.push_str("    ")?;
-            column = name.len().saturating_add(5);
+        let (space, end) = if column == 0 {
+            ("    ", name.len().saturating_add(5))
         } else if next > 100 {
-            out.push_str("\n    ")?;
-            column = name.len().saturating_add(5);
+            ("\n    ", name.len().saturating_add(5))
         } else {
-            out.push(' ')?;
-            column = next;
-        }
-        out.push_str(name)?;
-        out.push(',')?;
+            (" ", next)
+        };
+        column = end;
+        fill(&mut lines, NAME, &[("space", space), ("name", *name)])?;
     }
-    out.push('\n')
+    arena.keep(lines.as_str())
 }
 
 // Whether a text has a name as a whole word.

@@ -12,7 +12,7 @@ use deku_markers::marker::zeros;
 use deku_markers::part::{Owner, Place};
 use deku_texts::document::joined;
 use deku_texts::records::Records;
-use deku_texts::refusal::Stop;
+use deku_texts::template::fill;
 use deku_texts::words;
 use deku_tokens::arena::Arena;
 use deku_tokens::place::Complaint;
@@ -102,6 +102,11 @@ pub fn print<'a>(
     })
 }
 
+const ANSWERS: &str = "\
+//! What `derive --answers` prints is in
+//! `proofs/$module$$slash$$name$DekuWriterUnit/to_writer/Answers.antt`.
+";
+
 // Appends where a module comes from, and where the proof is of its enum that holds memory.
 fn origin(text: &mut String, asked: Asked<'_>, lent: &str) -> Result<(), AllocError> {
     let name = asked.file.rsplit('/').next().unwrap_or(asked.file);
@@ -115,9 +120,8 @@ fn origin(text: &mut String, asked: Asked<'_>, lent: &str) -> Result<(), AllocEr
     let module = module.replace(*text.allocator(), ".", "/")?;
     let module = module.as_str();
     let slash = if module.is_empty() { "" } else { "/" };
-    text.push_str("//! What `derive --answers` prints is in\n")?;
-    write!(text, "//! `proofs/{module}{slash}{lent}DekuWriterUnit")?;
-    text.push_str("/to_writer/Answers.antt`.\n")
+    let words = [("module", module), ("slash", slash), ("name", lent)];
+    fill(text, ANSWERS, &words)
 }
 
 // Appends the imports and the items of a module, of which these are the records.

@@ -9,6 +9,7 @@ use deku_dependents::temporary::is_temporary;
 use deku_description::syntax::Shape;
 use deku_markers::part::{Owner, Part};
 use deku_texts::document::{Form, Text, joined};
+use deku_texts::template::fill;
 use deku_texts::words::{quoted, snake};
 use deku_texts::wrapping::field_kind;
 use deku_tokens::arena::Arena;
@@ -82,18 +83,23 @@ fn tuple_struct<'a>(
     out.push_str(";\n")
 }
 
+const STRUCT: &str = "\
+pub struct $name$ {
+$fields$}
+";
+
 fn named_struct<'a>(
     arena: &'a Arena,
     out: &mut String,
     name: &str,
     fields: &[Field<'a>],
 ) -> Result<(), AllocError> {
-    writeln!(out, "pub struct {name} {{")?;
+    let mut lines = String::new(arena.alloc());
     for field in fields.iter().filter(|field| !is_temporary(*field)) {
-        docs(out, field.docs, "    ///")?;
-        declared(arena, out, field)?;
+        docs(&mut lines, field.docs, "    ///")?;
+        declared(arena, &mut lines, field)?;
     }
-    out.push_str("}\n")
+    fill(out, STRUCT, &[("name", name), ("fields", lines.as_str())])
 }
 
 fn declared<'a>(arena: &'a Arena, out: &mut String, field: &Field<'a>) -> Result<(), AllocError> {
@@ -101,6 +107,14 @@ fn declared<'a>(arena: &'a Arena, out: &mut String, field: &Field<'a>) -> Result
     let name = field_name(arena, field, 0)?;
     writeln!(out, "    pub {name}: {kind},")
 }
+
+const TO_PARTS: &str = "
+impl ToParts for $name$ {
+    fn parts(&self) -> Self::Parts {
+$parts$
+    }
+}
+";
 
 /// Appends how a struct is read and written.
 pub(crate) fn implementation<'a>(
@@ -124,10 +138,9 @@ pub(crate) fn implementation<'a>(
     from_parts(arena, out, record, shape, fields, whole)?;
     there(arena, out, fields, path)?;
     if owner == Owner::Copied {
-        writeln!(out, "\nimpl ToParts for {name} {{")?;
-        out.push_str("    fn parts(&self) -> Self::Parts {\n        ")?;
-        whole.texts.value.print(out, 8, 0, false)?;
-        out.push_str("\n    }\n}\n")?;
+        let mut parts = String::from_str(arena.alloc(), "        ")?;
+        whole.texts.value.print(&mut parts, 8, 0, false)?;
+        fill(out, TO_PARTS, &[("name", name), ("parts", parts.as_str())])?;
         return traits(out, name, "write_record(self, writer, ctx)");
     }
     let mut body = String::from_str(arena.alloc(), "let parts = ")?;
@@ -136,6 +149,15 @@ pub(crate) fn implementation<'a>(
     traits(out, name, body.as_str())?;
     update(arena, out, name, fields)
 }
+
+const PARTS: &str = "
+// The $parts$ of $name$, in their order.
+$alias$;
+
+impl FromParts for $name$ {
+    type Parts = $name$$word$;
+
+";
 
 /// Appends the type of a record's parts, which is called by this word, and what makes the record of
 /// them, up to its ghost text.
@@ -146,64 +168,63 @@ pub(crate) fn parts_alias(
     word: &str,
     kind: Text<'_>,
 ) -> Result<(), AllocError> {
-    let parts = snake(arena, word)?;
-    write!(
-        out,
-        "\n// The {parts} of {name}, in their order.\ntype {name}{word} = "
-    )?;
-    kind.print(out, 0, 1, false)?;
-    writeln!(out, ";\n\nimpl FromParts for {name} {{")?;
-    writeln!(out, "    type Parts = {name}{word};\n")
+    let mut alias = format!(in arena.alloc(); "type {name}{word} = ")?;
+    kind.print(&mut alias, 0, 1, false)?;
+    let words = [
+        ("parts", snake(arena, word)?),
+        ("name", name),
+        ("alias", alias.as_str()),
+        ("word", word),
+    ];
+    fill(out, PARTS, &words)
 }
+
+const TRAITS: &str = "
+impl DekuReader<()> for $name$ {
+    ghost no_read_ahead = { ⟦<$name$Parts as DekuReader<()>>⟧.no_read_ahead };
+
+    ghost meaning = { λ c. Then (⟦<$name$Parts as DekuReader<()>>⟧.meaning c)
+        (Shows ⟦<$name$ as FromParts>⟧.parts_of) };
+
+    #[inline(always)]
+    fn from_reader_with_ctx<R: Source>(reader: &mut Reader<R>, ctx: ()) -> Result<Self, DekuError> {
+        read_record(reader, ctx)
+    }
+}
+
+impl DekuWriter<()> for $name$ {
+    ghost meaning = { λ v. ⟦<$name$Parts as DekuWriter<()>>⟧.meaning
+        (⟦<$name$ as FromParts>⟧.parts_of v) };
+
+    #[inline(always)]
+    fn to_writer<W: Sink>(&self, writer: &mut Writer<W>, $ctx$: ()) -> Result<(), DekuError> {
+        $body$
+    }
+}
+
+impl Record<()> for $name$ {
+    ghost reads = { λ c b s r u m. m };
+
+    ghost writes = { λ c v b s r u m. m };
+}
+
+impl DekuContainerRead for $name$ {}
+
+impl DekuContainerWrite for $name$ {}
+";
 
 /// Appends the traits of deku for a record that is written by this body.
 pub(crate) fn traits(out: &mut String, name: &str, body: &str) -> Result<(), AllocError> {
-    reading(out, name)?;
     let ctx = if body.contains("ctx") { "ctx" } else { "_ctx" };
-    writeln!(
-        out,
-        "
-impl DekuWriter<()> for {name} {{
-    ghost meaning = {{ λ v. ⟦<{name}Parts as DekuWriter<()>>⟧.meaning
-        (⟦<{name} as FromParts>⟧.parts_of v) }};
-
-    #[inline(always)]
-    fn to_writer<W: Sink>(&self, writer: &mut Writer<W>, {ctx}: ()) -> Result<(), DekuError> {{
-        {body}
-    }}
-}}
-
-impl Record<()> for {name} {{
-    ghost reads = {{ λ c b s r u m. m }};
-
-    ghost writes = {{ λ c v b s r u m. m }};
-}}
-
-impl DekuContainerRead for {name} {{}}
-
-impl DekuContainerWrite for {name} {{}}"
-    )
+    fill(out, TRAITS, &[("name", name), ("ctx", ctx), ("body", body)])
 }
 
-// Appends how a record is read.
-fn reading(out: &mut String, name: &str) -> Result<(), AllocError> {
-    writeln!(
-        out,
-        "
-impl DekuReader<()> for {name} {{
-    ghost no_read_ahead = {{ ⟦<{name}Parts as DekuReader<()>>⟧.no_read_ahead }};
-
-    ghost meaning = {{ λ c. Then (⟦<{name}Parts as DekuReader<()>>⟧.meaning c)
-        (Shows ⟦<{name} as FromParts>⟧.parts_of) }};
-
-    #[inline(always)]
-    fn from_reader_with_ctx<R: Source>(\
-reader: &mut Reader<R>, ctx: ()) -> Result<Self, DekuError> {{
-        read_record(reader, ctx)
-    }}
-}}"
-    )
+const NAMES: &str = "
+impl $name$ {
+    /// The names of its parts, in their order.
+$names$;
 }
+";
 
 // Appends the names of a record's parts.
 fn named(arena: &Arena, out: &mut String, name: &str, names: &[&str]) -> Result<(), AllocError> {
@@ -213,15 +234,19 @@ fn named(arena: &Arena, out: &mut String, name: &str, names: &[&str]) -> Result<
         literals.push(Text::of(arena.print(format_args!("\"{name}\""))?))?;
     }
     let literals = arena.list(literals.as_slice())?;
-    writeln!(out, "\nimpl {name} {{")?;
-    out.push_str("    /// The names of its parts, in their order.\n")?;
-    write!(out, "    pub const FIELDS: [&'static str; {count}] = ")?;
-    Text::group(Form::Square, "[", literals).print(out, 4, 1, false)?;
-    out.push_str(";\n}\n")
+    let mut line = format!(in arena.alloc(); "    pub const FIELDS: [&'static str; {count}] = ")?;
+    Text::group(Form::Square, "[", literals).print(&mut line, 4, 1, false)?;
+    fill(out, NAMES, &[("name", name), ("names", line.as_str())])
 }
 
 // How many lines the function that makes a record of its parts has at most, with patterns.
 const LINES: usize = 38;
+
+const FROM_PARTS: &str = "\
+$made$
+    }
+
+";
 
 // Appends the function that makes a record of its parts: by patterns; or by paths, if it would be
 // long and nothing has to be moved out of them.
@@ -243,8 +268,7 @@ fn from_parts<'a>(
         )?;
         made(arena, record, shape, fields, whole, Some("parts"))?.print(&mut text, 8, 0, false)?;
     }
-    out.push_str(text.as_str())?;
-    out.push_str("\n    }\n\n")
+    fill(out, FROM_PARTS, &[("made", text.as_str())])
 }
 
 // Appends the parameter of the function that takes parts apart, up to its value.

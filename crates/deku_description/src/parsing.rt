@@ -342,26 +342,26 @@ impl<'a> Parser<'a> {
 
     // Fields in braces, in parentheses, or none.
     fn fields(&mut self) -> Result<Fields<'a>, Stop<'a>> {
-        let (shape, close) = if self.cursor.take_mark("{") {
-            (Shape::Named, "}")
-        } else if self.cursor.take_mark("(") {
-            (Shape::Tuple, ")")
-        } else {
-            (Shape::Unit, "")
-        };
-        let list: &'a [Field<'a>] = if shape == Shape::Unit {
-            &[]
-        } else {
-            self.field_list(shape, close)?
-        };
-        Ok(Fields { shape, list })
+        if self.cursor.take_mark("{") {
+            return self.field_list(Shape::Named, "}");
+        }
+        if self.cursor.take_mark("(") {
+            return self.field_list(Shape::Tuple, ")");
+        }
+        Ok(Fields {
+            shape: Shape::Unit,
+            list: &[],
+        })
     }
 
-    fn field_list(&mut self, shape: Shape, close: &str) -> Result<&'a [Field<'a>], Stop<'a>> {
+    fn field_list(&mut self, shape: Shape, close: &str) -> Result<Fields<'a>, Stop<'a>> {
         let arena = self.cursor.arena();
         let mut list = Vec::new(arena.alloc());
         self.list_fields(&mut list, shape, close)?;
-        Ok(arena.list(list.as_slice())?)
+        Ok(Fields {
+            shape,
+            list: arena.list(list.as_slice())?,
+        })
     }
 
     // Adds the fields up to a mark.

@@ -183,11 +183,9 @@ fn crossed_field<'a>(
     let Some((kind, bits)) = kind_of(arena, before, item.text, field.bits)? else {
         return lacking(field);
     };
-    let mut lines = String::new(arena.alloc());
-    noted(&mut lines, field.docs)?;
-    declared(&mut lines, kind, text, lengths.as_str())?;
+    let (note, lengths) = (noted(arena, field.docs)?, lengths.as_str());
     Ok((
-        arena.keep(lines.as_str())?,
+        arena.print(format_args!("{note}    {kind} {text}{lengths};\n"))?,
         bits_around(field).saturating_add(bits.saturating_mul(count)),
     ))
 }
@@ -202,11 +200,6 @@ fn check_name<'a>(name: Token<'a>, in_c: &str) -> Result<(), Stop<'a>> {
         "a name that is a keyword of C or C++",
         "give it another name",
     )
-}
-
-// Appends the line of a field.
-fn declared(out: &mut String, kind: &str, name: &str, lengths: &str) -> Result<(), AllocError> {
-    writeln!(out, "    {kind} {name}{lengths};")
 }
 
 // Complains of a field that C does not have.

@@ -4,12 +4,16 @@ use crate::crossing::Crossed;
 use crate::exports::WIDTH;
 use deku_attributes::model::Module;
 use deku_texts::document::joined;
+use deku_texts::template::fill;
 use deku_texts::words::snake;
 use deku_tokens::arena::Arena;
 use std::alloc::AllocError;
 use std::fmt::Write as _;
 
-const CALLERS: &str = "
+const HEADER: &str = "\
+/*
+$docs$ * Printed by `derive --header` from `$file$`.
+ *
  * What every call needs of its caller:
  * - No pointer is null, and each is aligned for its type.
  * - The memory that a call writes overlaps no other argument, and nothing else uses it meanwhile.
@@ -19,9 +23,9 @@ const CALLERS: &str = "
  * number of the error, as `enum dishkaru_status` of dishkaru.h names it: 3 if the bytes end, 5 if a
  * value does not fit its field, 6 if a check fails, 8 if there is too little room.
  */
-";
+#ifndef $guard$
+#define $guard$
 
-const BEGIN: &str = "
 #include <stdbool.h>
 #include <stddef.h>
 #include <stdint.h>
@@ -29,30 +33,12 @@ const BEGIN: &str = "
 #ifdef __cplusplus
 extern \"C\" {
 #endif
-";
-
-const END: &str = "
+$records$
 #ifdef __cplusplus
 }
 #endif
 
 #endif
-";
-
-// What is above a function that reads.
-const READS: &str = "
-/*
- * Reads *record from the first of the bytes on; those after it are ignored. After an error *record
- * is as it was.
- */
-";
-
-// What is above a function that writes.
-const WRITES: &str = "
-/*
- * Writes *record to the start of the bytes; those after it stay as they were. After an error some
- * of the bytes may have been written.
- */
 ";
 
 /// The header of a module with these records.
@@ -63,20 +49,22 @@ pub(crate) fn header(
     records: &[Crossed<'_>],
 ) -> Result<String, AllocError> {
     let file = file.rsplit('/').next().unwrap_or(file);
-    let guard = guard_of(arena, file)?;
-    let mut out = String::from_str(arena.alloc(), "/*\n")?;
-    comment(&mut out, module.docs, " *")?;
+    let mut docs = comment(arena, module.docs, " *")?;
     if !module.docs.is_empty() {
-        out.push_str(" *\n")?;
+        docs.push_str(" *\n")?;
     }
-    writeln!(out, " * Printed by `derive --header` from `{file}`.\n *")?;
-    out.push_str(CALLERS.trim_start_matches('\n'))?;
-    writeln!(out, "#ifndef {guard}\n#define {guard}")?;
-    out.push_str(BEGIN)?;
+    let mut declarations = String::new(arena.alloc());
     for record in records {
-        declared(arena, &mut out, *record)?;
+        declared(arena, &mut declarations, *record)?;
     }
-    out.push_str(END)?;
+    let words = [
+        ("docs", docs.as_str()),
+        ("file", file),
+        ("guard", guard_of(arena, file)?),
+        ("records", declarations.as_str()),
+    ];
+    let mut out = String::new(arena.alloc());
+    fill(&mut out, HEADER, &words)?;
     Ok(out)
 }
 
@@ -94,76 +82,98 @@ fn guard_of<'a>(arena: &'a Arena, file: &str) -> Result<&'a str, AllocError> {
     arena.keep(guard.as_str())
 }
 
-// Appends lines of a comment, except those that would end it.
-fn comment(out: &mut String, lines: &[&str], marks: &str) -> Result<(), AllocError> {
+// Lines of a comment, except those that would end it.
+fn comment(arena: &Arena, lines: &[&str], marks: &str) -> Result<String, AllocError> {
+    let mut text = String::new(arena.alloc());
     for line in lines {
         if !line.contains("*/") {
-            writeln!(out, "{marks}{line}")?;
+            writeln!(text, "{marks}{line}")?;
         }
     }
-    Ok(())
+    Ok(text)
 }
 
-/// Appends the comment of a field.
-pub(crate) fn noted(out: &mut String, lines: &[&str]) -> Result<(), AllocError> {
+/// The comment of a field.
+pub(crate) fn noted<'a>(arena: &'a Arena, lines: &[&str]) -> Result<&'a str, AllocError> {
     match lines {
-        [] => Ok(()),
-        [line] if !line.contains("*/") => writeln!(out, "    /*{line} */"),
+        [] => Ok(""),
+        [line] if !line.contains("*/") => arena.print(format_args!("    /*{line} */\n")),
         _ => {
-            out.push_str("    /*\n")?;
-            comment(out, lines, "     *")?;
-            out.push_str("     */\n")
+            let text = comment(arena, lines, "     *")?;
+            let text = text.as_str();
+            arena.print(format_args!("    /*\n{text}     */\n"))
         }
     }
 }
+
+const RECORD: &str = "
+/*
+$docs$ */
+struct $name$ {
+$fields$};
+
+/* How many bytes a struct $name$ is read from, and written as. */
+#define $large$_BYTES $bytes$
+
+/*
+ * Reads *record from the first of the bytes on; those after it are ignored. After an error *record
+ * is as it was.
+ */
+$read$
+
+/*
+ * Writes *record to the start of the bytes; those after it stay as they were. After an error some
+ * of the bytes may have been written.
+ */
+$write$
+";
 
 // Appends a struct and its functions.
 fn declared(arena: &Arena, out: &mut String, crossed: Crossed<'_>) -> Result<(), AllocError> {
-    let record = crossed.record;
+    let (record, bytes) = (crossed.record, crossed.bytes);
     let name = snake(arena, record.name.text)?;
-    out.push_str("\n/*\n")?;
-    comment(out, record.docs, " *")?;
+    let mut docs = comment(arena, record.docs, " *")?;
     if record.docs.is_empty() {
         let text = record.name.text;
-        writeln!(out, " * The record `{text}`.")?;
+        writeln!(docs, " * The record `{text}`.")?;
     }
-    writeln!(out, " */\nstruct {name} {{")?;
-    for field in crossed.fields {
-        out.push_str(field)?;
-    }
-    let (large, bytes) = (upper(arena, name)?, crossed.bytes);
-    writeln!(
-        out,
-        "}};
-
-/* How many bytes a struct {name} is read from, and written as. */
-#define {large}_BYTES {bytes}"
-    )?;
-    functions(arena, out, name)
+    let fields = crossed.fields.join(arena.alloc(), "")?;
+    let words = [
+        ("docs", docs.as_str()),
+        ("name", name),
+        ("fields", fields.as_str()),
+        ("large", upper(arena, name)?),
+        ("bytes", arena.print(format_args!("{bytes}"))?),
+        ("read", reading(arena, name)?),
+        ("write", writing(arena, name)?),
+    ];
+    fill(out, RECORD, &words)
 }
 
-// Appends the functions of a struct.
-fn functions(arena: &Arena, out: &mut String, name: &str) -> Result<(), AllocError> {
-    out.push_str(READS)?;
+// What declares the function that reads a struct.
+fn reading<'a>(arena: &'a Arena, name: &str) -> Result<&'a str, AllocError> {
     let head = joined(
         arena,
         name,
         "_read(const uint8_t *bytes, size_t byte_count,",
     )?;
     let last = arena.print(format_args!("struct {name} *record);"))?;
-    prototype(arena, out, head, last)?;
-    out.push_str(WRITES)?;
-    let head = format_args!("{name}_write(const struct {name} *record, uint8_t *bytes,");
-    prototype(arena, out, arena.print(head)?, "size_t byte_count);")
+    prototype(arena, head, last)
 }
 
-// Appends what declares a function: one line, or two if one does not hold it.
-fn prototype(arena: &Arena, out: &mut String, head: &str, last: &str) -> Result<(), AllocError> {
+// What declares the function that writes a struct.
+fn writing<'a>(arena: &'a Arena, name: &str) -> Result<&'a str, AllocError> {
+    let head = format_args!("{name}_write(const struct {name} *record, uint8_t *bytes,");
+    prototype(arena, arena.print(head)?, "size_t byte_count);")
+}
+
+// What declares a function: one line, or two if one does not hold it.
+fn prototype<'a>(arena: &'a Arena, head: &str, last: &str) -> Result<&'a str, AllocError> {
     let line = arena.print(format_args!("uint32_t {head} {last}"))?;
     if line.chars().count() <= WIDTH {
-        writeln!(out, "{line}")
+        Ok(line)
     } else {
-        writeln!(out, "uint32_t {head}\n    {last}")
+        arena.print(format_args!("uint32_t {head}\n    {last}"))
     }
 }
 

@@ -1,12 +1,12 @@
 //! Parts of records: how they are printed, and where their fields are.
 
 use crate::following::Dependent;
-use crate::texts::Texts;
+use crate::texts::{Side, Texts};
 use deku_attributes::model::Field;
 use deku_texts::document::{Form, Text, joined};
 use deku_texts::records::Records;
 use deku_texts::words::quoted;
-use deku_texts::wrapping::{Wrapping, count_of, number_kind, wrapping_of};
+use deku_texts::wrapping::{Wrapping, count_of, has_sign, number_kind, wrapping_of};
 use deku_tokens::arena::Arena;
 use std::alloc::AllocError;
 
@@ -223,7 +223,8 @@ pub fn leaf<'a>(
     field: &Field<'a>,
     named: Named<'a>,
 ) -> Result<Part<'a>, AllocError> {
-    let is_lent = named.owner.is_lent() && !records.is_copied(field);
+    // Numbers with a sign are lent too: the prover does not see that a copy is the same number.
+    let is_lent = named.owner.is_lent() && (!records.is_copied(field) || has_sign(&field.kind));
     let part = Part {
         texts: Texts::leaf(arena, field, named, is_lent)?,
         is_lent,
@@ -303,26 +304,27 @@ fn several<'a>(arena: &'a Arena, parts: &[Part<'a>]) -> Result<Part<'a>, AllocEr
 
 // How several parts are printed as a tuple.
 fn tupled_texts<'a>(arena: &'a Arena, parts: &[Part<'a>]) -> Result<Texts<'a>, AllocError> {
-    let alloc = arena.alloc();
-    let mut kinds = Vec::new(alloc);
-    let mut lents = Vec::new(alloc);
-    let mut patterns = Vec::new(alloc);
-    let mut values = Vec::new(alloc);
-    let mut terms = Vec::new(alloc);
-    for part in parts {
-        kinds.push(part.texts.kind)?;
-        lents.push(part.texts.lent)?;
-        patterns.push(part.texts.pattern)?;
-        values.push(part.texts.value)?;
-        terms.push(part.texts.term)?;
-    }
     Ok(Texts {
-        kind: Text::group(Form::Round, "(", arena.list(kinds.as_slice())?),
-        lent: Text::group(Form::Round, "(", arena.list(lents.as_slice())?),
-        pattern: Text::group(Form::Pattern, "(", arena.list(patterns.as_slice())?),
-        value: Text::group(Form::Round, "(", arena.list(values.as_slice())?),
-        term: Text::group(Form::GhostRound, "(", arena.list(terms.as_slice())?),
+        kind: group(arena, Form::Round, parts, Side::Kind)?,
+        lent: group(arena, Form::Round, parts, Side::Lent)?,
+        pattern: group(arena, Form::Pattern, parts, Side::Pattern)?,
+        value: group(arena, Form::Round, parts, Side::Value)?,
+        term: group(arena, Form::GhostRound, parts, Side::Term)?,
     })
+}
+
+// This side of several parts, in parentheses.
+fn group<'a>(
+    arena: &'a Arena,
+    form: Form,
+    parts: &[Part<'a>],
+    side: Side,
+) -> Result<Text<'a>, AllocError> {
+    let mut texts = Vec::new(arena.alloc());
+    for part in parts {
+        texts.push(part.texts.side(side))?;
+    }
+    Ok(Text::group(form, "(", arena.list(texts.as_slice())?))
 }
 
 // Where the fields of several parts are in a tuple.

@@ -5,7 +5,7 @@ use crate::part::{Named, Owner};
 use deku_attributes::model::Field;
 use deku_texts::document::{Form, Text, joined};
 use deku_texts::words;
-use deku_texts::wrapping::{Wrapping, part_kind};
+use deku_texts::wrapping::{Wrapping, part_kind, wrapping_of};
 use deku_tokens::arena::Arena;
 use std::alloc::AllocError;
 
@@ -24,7 +24,33 @@ pub struct Texts<'a> {
     pub term: Text<'a>,
 }
 
+/// One of the texts of a part.
+#[derive(Clone, Copy)]
+pub(crate) enum Side {
+    /// Its type.
+    Kind,
+    /// The type of what is written for it.
+    Lent,
+    /// The pattern that takes its fields out of it.
+    Pattern,
+    /// What makes it of the fields.
+    Value,
+    /// The same in ghost text.
+    Term,
+}
+
 impl<'a> Texts<'a> {
+    /// The text of this side.
+    pub(crate) fn side(self, side: Side) -> Text<'a> {
+        match side {
+            Side::Kind => self.kind,
+            Side::Lent => self.lent,
+            Side::Pattern => self.pattern,
+            Side::Value => self.value,
+            Side::Term => self.term,
+        }
+    }
+
     /// Of no parts.
     pub(crate) fn nothing() -> Texts<'a> {
         let nothing = Text::of("()");
@@ -190,7 +216,12 @@ fn lent_kind<'a>(
     if !is_lent {
         return Ok(kind);
     }
-    joined(arena, "&'a ", kind)
+    match kind.split_once('<') {
+        Some((around, inner)) if !wrapping_of(field).around.is_empty() => {
+            arena.print(format_args!("{around}<&'a {inner}"))
+        }
+        _ => joined(arena, "&'a ", kind),
+    }
 }
 
 // The value of a field in what is around it.

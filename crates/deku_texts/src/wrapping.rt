@@ -93,6 +93,23 @@ pub fn is_of_numbers(kind: &Type<'_>) -> bool {
     }
 }
 
+/// Whether a type is made of numbers with a sign, or of some beside others.
+pub fn has_sign(kind: &Type<'_>) -> bool {
+    match kind {
+        Type::Name(name) => name.text.starts_with('i') && bits_of(name.text).is_some(),
+        Type::Array(item, _) => has_sign(item),
+        Type::Tuple(parts) => {
+            for part in *parts {
+                if has_sign(part) {
+                    return true;
+                }
+            }
+            false
+        }
+        Type::Of(_, _) => false,
+    }
+}
+
 /// The bits of each number that a type is made of, if they are all as many.
 pub fn common_bits(kind: &Type<'_>) -> Option<u64> {
     match kind {
