@@ -5,9 +5,10 @@ use crate::reading::{Scope, said, text_in};
 use crate::table::{Owner, Verdict, judge};
 use deku_description::syntax;
 use deku_description::syntax::{Attribute, Body, File, Head};
+use deku_tokens::arena::Arena;
 use deku_tokens::place::{Complaint, Span};
 use deku_tokens::token::Token;
-use std::alloc::{AllocError, Global};
+use std::alloc::AllocError;
 use std::collections::BTreeSet;
 
 /// How many fields, kinds or words of attributes one thing may have.
@@ -22,43 +23,35 @@ pub(crate) const LIMIT: usize = 256;
 /// `AllocError` if there is no memory.
 ///
 /// ```text
-/// let (file, complaints) = parse(alloc, "struct Point { #[deku(bits = 9)] x: u8 }")?;
-/// check(alloc, text, file, true)?    // one complaint: `u8` has 8 bits
+/// let (file, complaints) = parse(&arena, "struct Point { #[deku(bits = 9)] x: u8 }")?;
+/// check(&arena, text, file, true)?    // one complaint: `u8` has 8 bits
 /// ```
 pub fn check<'a>(
-    alloc: Global,
+    arena: &'a Arena,
     text: &'a str,
     file: File<'a>,
     is_whole: bool,
-) -> Result<(Module<'a>, Vec<Complaint>), AllocError> {
-    let File {
-        docs,
-        uses,
-        constants,
-        records,
-    } = file;
+) -> Result<(Module<'a>, Vec<Complaint<'a>>), AllocError> {
+    let alloc = arena.alloc();
+    let mut constants = Vec::new(alloc);
+    for constant in file.constants {
+        constants.push(constant.name.text)?;
+    }
     let mut checker = Checker {
-        alloc,
+        arena,
         text,
         is_whole,
         types: BTreeSet::new(alloc),
-        uses: Vec::new(alloc),
-        constants: Vec::new(alloc),
+        uses: file.uses,
+        constants,
         complaints: Vec::new(alloc),
     };
-    for path in &uses {
-        checker.uses.push(*path)?;
-    }
-    for constant in &constants {
-        checker.constants.push(constant.name.text)?;
-    }
-    checker.declare(records.as_slice())?;
-    let records = checker.records(records)?;
+    checker.declare(file.records)?;
     let module = Module {
-        docs,
-        uses,
-        constants,
-        records,
+        docs: file.docs,
+        uses: file.uses,
+        constants: file.constants,
+        records: checker.records(file.records)?,
     };
     let Checker { complaints, .. } = checker;
     Ok((module, complaints))
@@ -67,14 +60,14 @@ pub fn check<'a>(
 /// What is known of a file while its records are checked.
 #[derive(Drop)]
 pub(crate) struct Checker<'a> {
-    pub(crate) alloc: Global,
+    pub(crate) arena: &'a Arena,
     pub(crate) text: &'a str,
     // Whether nothing is wrong with its form.
     is_whole: bool,
     types: BTreeSet<&'a str>,
-    uses: Vec<&'a str>,
+    uses: &'a [&'a str],
     constants: Vec<&'a str>,
-    pub(crate) complaints: Vec<Complaint>,
+    pub(crate) complaints: Vec<Complaint<'a>>,
 }
 
 impl<'a> Checker<'a> {
@@ -82,20 +75,22 @@ impl<'a> Checker<'a> {
     pub(crate) fn complain(
         &mut self,
         span: Span,
-        message: &str,
-        help: &str,
+        message: &'a str,
+        help: &'a str,
     ) -> Result<(), AllocError> {
-        let complaint = Complaint::new(self.alloc, span, message, help)?;
-        self.complaints.push(complaint)?;
-        Ok(())
+        self.note(Complaint {
+            span,
+            message,
+            help,
+        })
     }
 
     /// Notes a name that is not known, unless it may be one that was left out.
     pub(crate) fn complain_of_name(
         &mut self,
         span: Span,
-        message: &str,
-        help: &str,
+        message: &'a str,
+        help: &'a str,
     ) -> Result<(), AllocError> {
         if self.is_whole {
             self.complain(span, message, help)
@@ -105,7 +100,7 @@ impl<'a> Checker<'a> {
     }
 
     /// Notes what was wrong elsewhere.
-    pub(crate) fn note(&mut self, complaint: Complaint) -> Result<(), AllocError> {
+    pub(crate) fn note(&mut self, complaint: Complaint<'a>) -> Result<(), AllocError> {
         self.complaints.push(complaint)?;
         Ok(())
     }
@@ -124,12 +119,12 @@ impl<'a> Checker<'a> {
         Ok(())
     }
 
-    fn records(&mut self, records: Vec<syntax::Record<'a>>) -> Result<Vec<Record<'a>>, AllocError> {
-        let mut checked = Vec::new(self.alloc);
+    fn records(&mut self, records: &[syntax::Record<'a>]) -> Result<&'a [Record<'a>], AllocError> {
+        let mut checked = Vec::new(self.arena.alloc());
         for record in records {
-            checked.push(self.record(record)?)?;
+            checked.push(self.record(*record)?)?;
         }
-        Ok(checked)
+        self.arena.list(checked.as_slice())
     }
 
     fn record(&mut self, record: syntax::Record<'a>) -> Result<Record<'a>, AllocError> {
@@ -183,7 +178,7 @@ impl<'a> Checker<'a> {
                     "leave some out",
                 );
             }
-            if is_among(head.attributes.as_slice(), i, *attribute) {
+            if is_among(head.attributes, i, *attribute) {
                 self.complain(
                     attribute.name.span,
                     "an attribute that is said twice",
@@ -202,13 +197,17 @@ impl<'a> Checker<'a> {
         match judge(name, owner) {
             Verdict::Taken => self.valued(attribute),
             Verdict::Refused(reason, instead) => {
-                let message = format!(in self.alloc; "`{name}` is not supported: {reason}")?;
-                self.complain(span, message.as_str(), instead)
+                let message = self
+                    .arena
+                    .print(format_args!("`{name}` is not supported: {reason}"))?;
+                self.complain(span, message, instead)
             }
             Verdict::Unknown(nearest) => {
-                let message = format!(in self.alloc; "unknown attribute `{name}`")?;
-                let help = format!(in self.alloc; "write `{nearest}`")?;
-                self.complain(span, message.as_str(), help.as_str())
+                let message = self
+                    .arena
+                    .print(format_args!("unknown attribute `{name}`"))?;
+                let help = self.arena.print(format_args!("write `{nearest}`"))?;
+                self.complain(span, message, help)
             }
         }
     }
@@ -225,12 +224,8 @@ impl<'a> Checker<'a> {
             );
         }
         if !is_flag && attribute.value.is_none() {
-            let help = format!(in self.alloc; "write `{name} = ..`")?;
-            return self.complain(
-                attribute.name.span,
-                "an attribute without its value",
-                help.as_str(),
-            );
+            let help = self.arena.print(format_args!("write `{name} = ..`"))?;
+            return self.complain(attribute.name.span, "an attribute without its value", help);
         }
         Ok(())
     }
@@ -283,13 +278,14 @@ impl<'a> Checker<'a> {
     }
 
     /// The bytes that attributes say are in front.
-    pub(crate) fn magic(&mut self, head: &Head<'a>) -> Result<Option<Vec<u8>>, AllocError> {
+    pub(crate) fn magic(&mut self, head: &Head<'a>) -> Result<Option<&'a [u8]>, AllocError> {
         let Some(attribute) = said(head, "magic") else {
             return Ok(None);
         };
         if let Some(value) = attribute.value {
-            if let Some(bytes) = deku_tokens::literal::bytes(self.alloc, value.token.text)? {
-                return Ok(Some(bytes));
+            let alloc = self.arena.alloc();
+            if let Some(bytes) = deku_tokens::literal::bytes(alloc, value.token.text)? {
+                return Ok(Some(self.arena.list(bytes.as_slice())?));
             }
         }
         self.complain(
@@ -320,7 +316,7 @@ impl<'a> Checker<'a> {
 
     /// The constants, and the values of a context.
     pub(crate) fn scope(&self, context: Option<Token<'a>>) -> Result<Scope<'a>, AllocError> {
-        let mut names = Vec::new(self.alloc);
+        let mut names = Vec::new(self.arena.alloc());
         names.extend_from_slice(self.constants.as_slice())?;
         let text = match context {
             Some(token) => token.text,

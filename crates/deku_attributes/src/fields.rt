@@ -24,8 +24,8 @@ impl<'a> Checker<'a> {
         fields: Fields<'a>,
         layout: Layout<'a>,
         mut scope: Scope<'a>,
-    ) -> Result<Vec<Field<'a>>, AllocError> {
-        let mut checked = Vec::new(self.alloc);
+    ) -> Result<&'a [Field<'a>], AllocError> {
+        let mut checked = Vec::new(self.arena.alloc());
         let mut at = Some((0, layout.order));
         scope.is_open = fields.shape == Shape::Tuple;
         for field in fields.list {
@@ -37,11 +37,11 @@ impl<'a> Checker<'a> {
                 )?;
                 break;
             }
-            let field = self.field(field, layout, &mut scope)?;
+            let field = self.field(*field, layout, &mut scope)?;
             at = self.ordered(at, &field)?;
             checked.push(field)?;
         }
-        Ok(checked)
+        self.arena.list(checked.as_slice())
     }
 
     fn field(
@@ -143,11 +143,13 @@ impl<'a> Checker<'a> {
         }
         if let (Some(bits), Some(whole)) = (bits, whole) {
             if bits == 0 || bits > whole {
-                let message = format!(in self.alloc;
+                let message = self.arena.print(format_args!(
                     "a width of {bits} bits for a type of {whole}"
-                )?;
-                let help = format!(in self.alloc; "write a width from 1 to {whole} bits")?;
-                self.complain(attribute.name.span, message.as_str(), help.as_str())?;
+                ))?;
+                let help = self
+                    .arena
+                    .print(format_args!("write a width from 1 to {whole} bits"))?;
+                self.complain(attribute.name.span, message, help)?;
             }
         }
         Ok(bits)
@@ -193,7 +195,7 @@ impl<'a> Checker<'a> {
             Type::Of(_, item) => self.foreign_type(item),
             Type::Array(item, _) => self.foreign_type(item),
             Type::Tuple(parts) => {
-                for part in parts {
+                for part in *parts {
                     if let Some(name) = self.foreign_type(part) {
                         return Some(name);
                     }
@@ -253,8 +255,8 @@ impl<'a> Checker<'a> {
         name: Option<Token<'a>>,
         kind: &Type<'a>,
         scope: &Scope<'a>,
-    ) -> Result<Vec<Attribute<'a>>, AllocError> {
-        let mut attributes = Vec::new(self.alloc);
+    ) -> Result<&'a [Attribute<'a>], AllocError> {
+        let mut attributes = Vec::new(self.arena.alloc());
         for attribute in head.attributes.iter().take(LIMIT) {
             let checked = match attribute.name.text {
                 "magic" => match self.magic(head)? {
@@ -273,7 +275,7 @@ impl<'a> Checker<'a> {
                 attributes.push(checked)?;
             }
         }
-        Ok(attributes)
+        self.arena.list(attributes.as_slice())
     }
 
     // An attribute that computes something.
@@ -302,7 +304,7 @@ impl<'a> Checker<'a> {
         name: Option<Token<'a>>,
         scope: &Scope<'a>,
     ) -> Result<Option<Attribute<'a>>, AllocError> {
-        let mut names = Vec::new(self.alloc);
+        let mut names = Vec::new(self.arena.alloc());
         names.extend_from_slice(scope.names.as_slice())?;
         if let Some(name) = name {
             names.push(name.text)?;
@@ -328,7 +330,7 @@ impl<'a> Checker<'a> {
         let Some(value) = attribute.value else {
             return Ok(None);
         };
-        let expression = match formula(self.alloc, self.text, value.token)? {
+        let expression = match formula(self.arena, self.text, value.token)? {
             Ok(expression) => expression,
             Err(complaint) => {
                 self.note(complaint)?;
@@ -354,7 +356,7 @@ impl<'a> Checker<'a> {
         let Some(value) = attribute.value else {
             return Ok(None);
         };
-        match closure(self.alloc, self.text, value.token)? {
+        match closure(self.arena, self.text, value.token)? {
             Ok(closure) => {
                 self.closes(&closure, list)?;
                 Ok(Some(Attribute::Until(closure)))
@@ -369,7 +371,7 @@ impl<'a> Checker<'a> {
     // Complains of a closure that is not of an item of the list, or not of it alone.
     fn closes(&mut self, closure: &Closure<'a>, list: &Type<'a>) -> Result<(), AllocError> {
         let is_item = match list {
-            Type::Of(outer, item) if outer.is_name("Vec") => match &**item {
+            Type::Of(outer, item) if outer.is_name("Vec") => match item {
                 Type::Name(name) => name.is_name(closure.kind.text),
                 _ => false,
             },
@@ -439,7 +441,7 @@ fn plain<'a>(attribute: syntax::Attribute<'a>) -> Option<Attribute<'a>> {
 // The bits of a field with its padding and magic, if the description says them.
 fn bits_with_padding(field: &Field<'_>) -> Option<u64> {
     let mut bits = whole_bits(&field.kind, field.bits)?;
-    for attribute in &field.attributes {
+    for attribute in field.attributes {
         match attribute {
             Attribute::PadBefore(more) | Attribute::PadAfter(more) => {
                 bits = bits.checked_add(*more)?;

@@ -94,8 +94,10 @@ impl<'a> Checker<'a> {
         for name in ["id_type", "id_endian", "bits", "bytes"] {
             if let Some(syntax::Attribute { name, .. }) = said(head, name) {
                 let word = name.text;
-                let message = format!(in self.alloc; "`id` and `{word}` together")?;
-                self.complain(name.span, message.as_str(), "leave one of them out")?;
+                let message = self
+                    .arena
+                    .print(format_args!("`id` and `{word}` together"))?;
+                self.complain(name.span, message, "leave one of them out")?;
             }
         }
         Ok(())

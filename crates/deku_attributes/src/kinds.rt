@@ -91,11 +91,13 @@ impl<'a> Checker<'a> {
         match bits {
             Some(bits) if 0 < bits && bits <= whole => Ok(bits),
             _ => {
-                let help = format!(in self.alloc; "write a width from 1 to {whole} bits")?;
+                let help = self
+                    .arena
+                    .print(format_args!("write a width from 1 to {whole} bits"))?;
                 self.complain(
                     attribute.name.span,
                     "a width that the type of the id does not hold",
-                    help.as_str(),
+                    help,
                 )?;
                 Ok(whole)
             }
@@ -105,12 +107,12 @@ impl<'a> Checker<'a> {
     /// The kinds of an enum.
     pub(crate) fn cases(
         &mut self,
-        kinds: Vec<Variant<'a>>,
+        kinds: &[Variant<'a>],
         layout: Layout<'a>,
         ids: Ids<'a>,
         context: Option<Token<'a>>,
-    ) -> Result<Vec<Case<'a>>, AllocError> {
-        let mut cases = Vec::new(self.alloc);
+    ) -> Result<&'a [Case<'a>], AllocError> {
+        let mut cases = Vec::new(self.arena.alloc());
         let mut next = 0;
         for variant in kinds {
             if cases.len() == LIMIT {
@@ -123,11 +125,11 @@ impl<'a> Checker<'a> {
             }
             let number = self.discriminant(variant.discriminant, next)?;
             next = number.wrapping_add(1);
-            let case = self.case(variant, layout, number, context)?;
+            let case = self.case(*variant, layout, number, context)?;
             self.id_fits(&case, cases.as_slice(), ids)?;
             cases.push(case)?;
         }
-        Ok(cases)
+        self.arena.list(cases.as_slice())
     }
 
     // The number that a kind has in Rust.
@@ -214,12 +216,10 @@ impl<'a> Checker<'a> {
         if let Id::Number(id) | Id::Range(_, id) = case.id {
             if ids.bits < 64 && id >> ids.bits.min(63) != 0 {
                 let bits = ids.bits;
-                let message = format!(in self.alloc; "the id {id} does not fit {bits} bits")?;
-                self.complain(
-                    span,
-                    message.as_str(),
-                    "write a wider `id_type`, or another id",
-                )?;
+                let message = self
+                    .arena
+                    .print(format_args!("the id {id} does not fit {bits} bits"))?;
+                self.complain(span, message, "write a wider `id_type`, or another id")?;
             }
         }
         for earlier in before {

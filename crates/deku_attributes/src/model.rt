@@ -5,29 +5,29 @@ use deku_tokens::place::Span;
 use deku_tokens::token::Token;
 
 /// A file of records that can be printed.
-#[derive(Drop)]
+#[derive(Clone, Copy)]
 pub struct Module<'a> {
     /// The lines of its comment.
-    pub docs: Vec<&'a str>,
+    pub docs: &'a [&'a str],
     /// The paths of its `use` items.
-    pub uses: Vec<&'a str>,
+    pub uses: &'a [&'a str],
     /// Its constants.
-    pub constants: Vec<Constant<'a>>,
+    pub constants: &'a [Constant<'a>],
     /// Its records, in their order.
-    pub records: Vec<Record<'a>>,
+    pub records: &'a [Record<'a>],
 }
 
 /// A record.
-#[derive(Drop)]
+#[derive(Clone, Copy)]
 pub struct Record<'a> {
     /// Its name.
     pub name: Token<'a>,
     /// The lines of its comment.
-    pub docs: Vec<&'a str>,
+    pub docs: &'a [&'a str],
     /// The endian and the bit order that it gives to its fields.
     pub layout: Layout<'a>,
     /// The bytes that it begins with.
-    pub magic: Option<Vec<u8>>,
+    pub magic: Option<&'a [u8]>,
     /// The text of its context, with its quotes.
     pub context: Option<Token<'a>>,
     /// What it holds.
@@ -37,12 +37,12 @@ pub struct Record<'a> {
 }
 
 /// What a record holds.
-#[derive(Drop)]
+#[derive(Clone, Copy)]
 pub enum Form<'a> {
     /// Fields, and how they are written.
-    Struct(Shape, Vec<Field<'a>>),
+    Struct(Shape, &'a [Field<'a>]),
     /// Kinds under an id.
-    Enum(Ids<'a>, Vec<Case<'a>>),
+    Enum(Ids<'a>, &'a [Case<'a>]),
 }
 
 /// How the id of an enum is laid out.
@@ -66,18 +66,18 @@ pub enum IdSource<'a> {
 }
 
 /// A kind of an enum.
-#[derive(Drop)]
+#[derive(Clone, Copy)]
 pub struct Case<'a> {
     /// Its name.
     pub name: Token<'a>,
     /// The lines of its comment.
-    pub docs: Vec<&'a str>,
+    pub docs: &'a [&'a str],
     /// The id that it is under.
     pub id: Id,
     /// How its fields are written.
     pub shape: Shape,
     /// Its fields.
-    pub fields: Vec<Field<'a>>,
+    pub fields: &'a [Field<'a>],
 }
 
 /// The ids of a kind.
@@ -125,12 +125,12 @@ pub enum Order {
 }
 
 /// A field.
-#[derive(Drop)]
+#[derive(Clone, Copy)]
 pub struct Field<'a> {
     /// Its name, unless it is of a tuple.
     pub name: Option<Token<'a>>,
     /// The lines of its comment.
-    pub docs: Vec<&'a str>,
+    pub docs: &'a [&'a str],
     /// Its type.
     pub kind: Type<'a>,
     /// Where its type is.
@@ -140,20 +140,20 @@ pub struct Field<'a> {
     /// The bits of each of its numbers, if they are fewer than those of the type.
     pub bits: Option<u64>,
     /// What else is said of it, in the order of the description.
-    pub attributes: Vec<Attribute<'a>>,
+    pub attributes: &'a [Attribute<'a>],
     /// Whether nothing is wrong with it.
     pub is_sound: bool,
 }
 
 /// What is said of a field besides its endian, its bit order and a width that is a number.
-#[derive(Drop)]
+#[derive(Clone, Copy)]
 pub enum Attribute<'a> {
     /// `bits` by an expression.
     Bits(Expression<'a>),
     /// `bytes` by an expression.
     Bytes(Expression<'a>),
     /// `magic`
-    Magic(Vec<u8>),
+    Magic(&'a [u8]),
     /// `ctx`, as its text with quotes.
     Context(Token<'a>),
     /// `assert`

@@ -8,7 +8,7 @@ use deku_tokens::token::{Kind, Token};
 
 /// The first attribute of a name.
 pub(crate) fn said<'a>(head: &Head<'a>, name: &str) -> Option<Attribute<'a>> {
-    for attribute in &head.attributes {
+    for attribute in head.attributes {
         if attribute.name.text == name {
             return Some(*attribute);
         }

@@ -17,28 +17,29 @@ use deku_texts::records::Records;
 use deku_texts::refusal::Stop;
 use deku_texts::words;
 use deku_texts::wrapping::{item, number_kind};
+use deku_tokens::arena::Arena;
 use deku_tokens::place::{Complaint, Span};
 use deku_tokens::token::Token;
-use std::alloc::{AllocError, Global};
+use std::alloc::AllocError;
 
 /// The parts of a record while they are made.
 #[derive(Drop)]
 pub struct Builder<'b, 'a> {
-    pub alloc: Global,
+    pub arena: &'a Arena,
     pub records: &'b Records<'b, 'a>,
     pub constants: &'b [Constant<'a>],
     /// What the names of its types begin with.
-    pub front: String,
+    pub front: &'a str,
     pub owner: Owner,
     /// The parts so far.
     pub items: Vec<Part<'a>>,
     /// The markers, as they are printed.
     pub markers: String,
     /// Their names.
-    pub names: Vec<String>,
-    pub complaints: Vec<Complaint>,
+    pub names: Vec<&'a str>,
+    pub complaints: Vec<Complaint<'a>>,
     /// The structs in front of the record, and where their fields are in their parts.
-    pub structs: Vec<(&'a str, Vec<Place<'a>>)>,
+    pub structs: Vec<(&'a str, &'a [Place<'a>])>,
     // Whether its last part takes the rest of the input.
     is_ended: bool,
     // Whether a part lends memory in more than one place. It is never beside others.
@@ -58,17 +59,18 @@ fn word_of(form: Dependent) -> &'static str {
 
 impl<'b, 'a> Builder<'b, 'a> {
     pub fn new(
-        alloc: Global,
+        arena: &'a Arena,
         records: &'b Records<'b, 'a>,
         constants: &'b [Constant<'a>],
-        front: &str,
+        front: &'a str,
         owner: Owner,
-    ) -> Result<Self, AllocError> {
-        Ok(Builder {
-            alloc,
+    ) -> Builder<'b, 'a> {
+        let alloc = arena.alloc();
+        Builder {
+            arena,
             records,
             constants,
-            front: String::from_str(alloc, front)?,
+            front,
             owner,
             items: Vec::new(alloc),
             markers: String::new(alloc),
@@ -78,15 +80,11 @@ impl<'b, 'a> Builder<'b, 'a> {
             is_ended: false,
             is_nested: false,
             temporary: None,
-        })
-    }
-
-    pub(crate) fn wrong<T>(&self, span: Span, message: &str, help: &str) -> Result<T, Stop> {
-        Stop::wrong(self.alloc, span, message, help)
+        }
     }
 
     /// Notes what is wrong.
-    pub fn noted(&mut self, built: Result<(), Stop>) -> Result<(), AllocError> {
+    pub fn noted(&mut self, built: Result<(), Stop<'a>>) -> Result<(), AllocError> {
         match built {
             Ok(()) => Ok(()),
             Err(Stop::Wrong(complaint)) => {
@@ -101,13 +99,12 @@ impl<'b, 'a> Builder<'b, 'a> {
     pub fn fields(&mut self, fields: &[Field<'a>], skipped: usize) -> Result<(), AllocError> {
         self.updates(fields)?;
         for (i, field) in fields.iter().enumerate().skip(skipped) {
-            let name = field_name(self.alloc, field, i)?;
-            let place = format!(in self.alloc; "{i}")?;
+            let name = field_name(self.arena, field, i)?;
             let named = Named {
-                name: name.as_str(),
+                name,
                 access: match field.name {
-                    Some(_) => name.as_str(),
-                    None => place.as_str(),
+                    Some(_) => name,
+                    None => self.arena.print(format_args!("{i}"))?,
                 },
                 owner: self.owner,
             };
@@ -120,11 +117,11 @@ impl<'b, 'a> Builder<'b, 'a> {
             return Ok(());
         };
         if self.temporary.take().is_some() {
-            let wrong = self.no_count(last);
+            let wrong = no_count(last);
             self.noted(wrong)?;
         }
         if self.is_nested && (self.is_ended || self.items.len() > 1) {
-            let wrong = self.wrong(
+            let wrong = Stop::wrong(
                 last.span,
                 "a field after a list or an option that has another one in front",
                 "move the list or the option to the end",
@@ -139,7 +136,7 @@ impl<'b, 'a> Builder<'b, 'a> {
         for field in fields {
             let is_length = !self.owner.is_kind() && Updated::of(field, fields).is_some();
             if is_updated(field) && !is_length {
-                let wrong = self.wrong(
+                let wrong = Stop::wrong(
                     field.span,
                     "an update that is not the length of a list of the struct",
                     "write `update = \"self.LIST.len()\"`, or set the field before it is written",
@@ -151,7 +148,7 @@ impl<'b, 'a> Builder<'b, 'a> {
     }
 
     // Whether a field has a part. If not, what is wrong with it is noted.
-    fn tried(&mut self, field: &Field<'a>, named: Named<'_>) -> Result<bool, AllocError> {
+    fn tried(&mut self, field: &Field<'a>, named: Named<'a>) -> Result<bool, AllocError> {
         let built = self.field(field, named);
         let is_built = built.is_ok();
         self.noted(built)?;
@@ -160,21 +157,21 @@ impl<'b, 'a> Builder<'b, 'a> {
 
     /// All parts as one.
     pub fn whole(&mut self) -> Result<Part<'a>, AllocError> {
-        let items = std::mem::replace(&mut self.items, Vec::new(self.alloc));
-        tuple(self.alloc, items)
+        let items = std::mem::replace(&mut self.items, Vec::new(self.arena.alloc()));
+        tuple(self.arena, items.as_slice())
     }
 
     /// The part of a field alone.
-    pub(crate) fn leaf(&mut self, field: &Field<'a>, named: Named<'_>) -> Result<(), AllocError> {
-        let part = leaf(self.alloc, self.records, field, named)?;
+    pub(crate) fn leaf(&mut self, field: &Field<'a>, named: Named<'a>) -> Result<(), AllocError> {
+        let part = leaf(self.arena, self.records, field, named)?;
         self.items.push(part)?;
         Ok(())
     }
 
-    fn field(&mut self, field: &Field<'a>, called: Named<'_>) -> Result<(), Stop> {
+    fn field(&mut self, field: &Field<'a>, called: Named<'a>) -> Result<(), Stop<'a>> {
         self.named(field, called.name)?;
         if self.is_ended {
-            return self.wrong(
+            return Stop::wrong(
                 field.span,
                 "a field after a list up to the end of the input",
                 "write the list last",
@@ -190,19 +187,19 @@ impl<'b, 'a> Builder<'b, 'a> {
     }
 
     // A field that the record keeps.
-    fn kept(&mut self, field: &Field<'a>, called: Named<'_>) -> Result<(), Stop> {
+    fn kept(&mut self, field: &Field<'a>, called: Named<'a>) -> Result<(), Stop<'a>> {
         let name = called.name;
         let said = Said::of(field);
         self.fits(field, &said)?;
         self.padding(said.before, field)?;
         if let Some(bytes) = said.magic {
-            let what = format!(in self.alloc; "magic of {name}")?;
-            let named = words::marker(self.alloc, self.front.as_str(), name, "Magic")?;
-            self.magic(bytes, named, what.as_str(), field.layout.order, field.span)?;
+            let what = self.arena.print(format_args!("magic of {name}"))?;
+            let named = words::marker(self.arena, self.front, name, "Magic")?;
+            self.magic(bytes, named, what, field.layout.order, field.span)?;
         }
         self.part(field, called, &said)?;
         if self.is_ended && said.after > 0 {
-            return self.wrong(
+            return Stop::wrong(
                 field.span,
                 "padding after a list up to the end of the input",
                 "leave it out",
@@ -216,9 +213,9 @@ impl<'b, 'a> Builder<'b, 'a> {
     fn part(
         &mut self,
         field: &Field<'a>,
-        called: Named<'_>,
+        called: Named<'a>,
         said: &Said<'_, 'a>,
-    ) -> Result<(), Stop> {
+    ) -> Result<(), Stop<'a>> {
         if let Some(count) = said.count {
             return self.after_head(field, called, count, Dependent::Counted, 1);
         }
@@ -240,11 +237,11 @@ impl<'b, 'a> Builder<'b, 'a> {
     }
 
     // A count that the record does not keep.
-    fn count(&mut self, field: &Field<'a>) -> Result<(), Stop> {
+    fn count(&mut self, field: &Field<'a>) -> Result<(), Stop<'a>> {
         self.temporary = Temporary::of(field);
         match self.temporary {
             Some(_) => Ok(()),
-            None => self.no_count(field),
+            None => no_count(field),
         }
     }
 
@@ -253,42 +250,33 @@ impl<'b, 'a> Builder<'b, 'a> {
         &mut self,
         count: Temporary<'a>,
         field: &Field<'a>,
-        called: Named<'_>,
-    ) -> Result<(), Stop> {
+        called: Named<'a>,
+    ) -> Result<(), Stop<'a>> {
         let mut is_alone = false;
-        for attribute in &field.attributes {
+        for attribute in field.attributes {
             match attribute {
                 Attribute::Count(expression) => is_alone = is_name(expression, count.name),
-                _ => return self.no_count(field),
+                _ => return no_count(field),
             }
         }
-        if !is_alone || !count.counts(self.alloc, called.name)? {
-            return self.no_count(field);
+        if !is_alone || !count.counts(self.arena, called.name)? {
+            return no_count(field);
         }
         let said = Said::of(field);
         self.fits(field, &said)?;
-        let held = held_kind(self.alloc, field)?;
-        let part = count.before(self.alloc, called, held.as_str())?;
+        let held = held_kind(self.arena, field)?;
+        let part = count.before(self.arena, called, held)?;
         self.items.push(part)?;
         Ok(())
-    }
-
-    // Complains of a field that the record does not keep, or of the one after it.
-    fn no_count<T>(&self, field: &Field<'a>) -> Result<T, Stop> {
-        self.wrong(
-            field.span,
-            "a field that the record does not keep, and that does not count the list after it",
-            "write `temp, temp_value = \"LIST.len() as u8\"`, and then the list with this `count`",
-        )
     }
 
     // The checks of a field.
     fn check_field(
         &mut self,
         field: &Field<'a>,
-        name: &str,
+        name: &'a str,
         said: &Said<'_, 'a>,
-    ) -> Result<(), Stop> {
+    ) -> Result<(), Stop<'a>> {
         if let Some(expression) = said.assert {
             self.assert(field, name, expression, false)?;
         }
@@ -299,11 +287,11 @@ impl<'b, 'a> Builder<'b, 'a> {
     }
 
     // Complains of a name that the module has already.
-    fn named(&self, field: &Field<'a>, name: &str) -> Result<(), Stop> {
+    fn named(&self, field: &Field<'a>, name: &str) -> Result<(), Stop<'a>> {
         let mut is_taken = words::is_local(name);
         for part in &self.items {
-            for place in &part.fields.places {
-                is_taken = is_taken || place.name.as_str().eq_ignore_ascii_case(name);
+            for place in part.fields.places {
+                is_taken = is_taken || place.name.eq_ignore_ascii_case(name);
             }
         }
         if is_taken {
@@ -311,19 +299,19 @@ impl<'b, 'a> Builder<'b, 'a> {
                 Some(token) => token.span,
                 None => field.span,
             };
-            let message = format!(in self.alloc;
+            let message = self.arena.print(format_args!(
                 "a field of the name `{name}`, which the module has already"
-            )?;
-            return self.wrong(span, message.as_str(), "give it another name");
+            ))?;
+            return Stop::wrong(span, message, "give it another name");
         }
         Ok(())
     }
 
     // Complains of a type or an endian that has no part.
-    fn fits(&self, field: &Field<'a>, said: &Said<'_, 'a>) -> Result<(), Stop> {
+    fn fits(&self, field: &Field<'a>, said: &Said<'_, 'a>) -> Result<(), Stop<'a>> {
         self.gives(field, said.context)?;
         if let Endian::Named(_) = field.layout.endian {
-            return self.wrong(
+            return Stop::wrong(
                 field.span,
                 "an endian given by another value is not supported",
                 "write a record for each endian",
@@ -331,7 +319,7 @@ impl<'b, 'a> Builder<'b, 'a> {
         }
         let is_dependent = said.is_dependent();
         if is_dependent && said.is_checked() {
-            return self.wrong(
+            return Stop::wrong(
                 field.span,
                 "a check of a list or an option is not supported",
                 "check the fields that say whether it is there",
@@ -339,14 +327,14 @@ impl<'b, 'a> Builder<'b, 'a> {
         }
         let is_number = number_kind(field).is_some();
         if said.width.is_some() && (is_dependent || !is_number) {
-            return self.wrong(
+            return Stop::wrong(
                 field.span,
                 "a width given by a field is supported only for one number",
                 "write a record of the number and its width",
             );
         }
         let held = match (&field.kind, is_dependent) {
-            (Type::Of(_, item), true) => &**item,
+            (Type::Of(_, item), true) => item,
             (kind, _) => kind,
         };
         if self.owner.is_kind() {
@@ -356,7 +344,12 @@ impl<'b, 'a> Builder<'b, 'a> {
     }
 
     // Complains of memory that a kind of an enum cannot have.
-    fn fits_kind(&self, field: &Field<'a>, is_rest: bool, is_dependent: bool) -> Result<(), Stop> {
+    fn fits_kind(
+        &self,
+        field: &Field<'a>,
+        is_rest: bool,
+        is_dependent: bool,
+    ) -> Result<(), Stop<'a>> {
         let message = if is_rest {
             "a list up to the end of the input, in a kind of an enum, is not supported"
         } else if self.owner == Owner::LentKind {
@@ -366,7 +359,7 @@ impl<'b, 'a> Builder<'b, 'a> {
         } else {
             return Ok(());
         };
-        self.wrong(
+        Stop::wrong(
             field.span,
             message,
             "put it into the struct that has the enum, after it",
@@ -374,28 +367,24 @@ impl<'b, 'a> Builder<'b, 'a> {
     }
 
     // A list up to the end of the input.
-    fn rest(&mut self, field: &Field<'a>, called: Named<'_>) -> Result<(), Stop> {
-        let held = held_kind(self.alloc, field)?;
+    fn rest(&mut self, field: &Field<'a>, called: Named<'a>) -> Result<(), Stop<'a>> {
+        let held = held_kind(self.arena, field)?;
         self.is_nested = self.is_nested || self.lent_from(0) > 1;
-        let front = std::mem::replace(&mut self.items, Vec::new(self.alloc));
-        self.items
-            .push(rest(self.alloc, front, called, held.as_str())?)?;
+        let part = rest(self.arena, self.items.as_slice(), called, held)?;
+        self.items.clear();
+        self.items.push(part)?;
         self.is_ended = true;
         Ok(())
     }
 
     // Complains of a type that has no part.
-    fn has_part(&self, field: &Field<'a>, kind: &Type<'a>) -> Result<(), Stop> {
+    fn has_part(&self, field: &Field<'a>, kind: &Type<'a>) -> Result<(), Stop<'a>> {
         if let Some(word) = partless(kind, field) {
-            let message = format!(in self.alloc; "{word} is not supported")?;
-            return self.wrong(
-                field.span,
-                message.as_str(),
-                "write a record of its own for it",
-            );
+            let message = self.arena.print(format_args!("{word} is not supported"))?;
+            return Stop::wrong(field.span, message, "write a record of its own for it");
         }
         if self.is_open(kind) {
-            return self.wrong(
+            return Stop::wrong(
                 field.span,
                 "a record up to the end of the input in another one is not supported",
                 "move its fields into this record",
@@ -410,7 +399,7 @@ impl<'b, 'a> Builder<'b, 'a> {
             Type::Name(name) => self.records.is_open(name.text),
             Type::Of(_, item) | Type::Array(item, _) => self.is_open(item),
             Type::Tuple(parts) => {
-                for part in parts {
+                for part in *parts {
                     if self.is_open(part) {
                         return true;
                     }
@@ -433,18 +422,12 @@ impl<'b, 'a> Builder<'b, 'a> {
             self.is_nested = true;
             first = 0;
         }
-        let mut taken = Vec::new(self.alloc);
-        let mut kept = Vec::new(self.alloc);
-        let items = std::mem::replace(&mut self.items, Vec::new(self.alloc));
-        for (i, part) in items.into_iter().enumerate() {
-            if i < first {
-                kept.push(part)?;
-            } else {
-                taken.push(part)?;
-            }
+        let mut taken = Vec::new(self.arena.alloc());
+        for part in self.items.iter().skip(first) {
+            taken.push(*part)?;
         }
-        self.items = kept;
-        tuple(self.alloc, taken)
+        self.items.truncate(first);
+        tuple(self.arena, taken.as_slice())
     }
 
     // Which part is the first that has a field of an expression; the last one, if none has.
@@ -453,7 +436,7 @@ impl<'b, 'a> Builder<'b, 'a> {
             part.fields
                 .places
                 .iter()
-                .any(|place| names(expression, place.name.as_str()))
+                .any(|place| names(expression, place.name))
         };
         match self.items.iter().position(is_named) {
             Some(first) => first,
@@ -468,22 +451,20 @@ impl<'b, 'a> Builder<'b, 'a> {
     }
 
     // The name of the type of parts. It is an alias if they are several.
-    fn alias(&mut self, kind: &Text, field: &str, word: &str) -> Result<String, AllocError> {
+    fn alias(&mut self, kind: Text<'a>, field: &str, word: &str) -> Result<&'a str, AllocError> {
         if let Some(name) = kind.as_word() {
-            return String::from_str(self.alloc, name);
+            return Ok(name);
         }
-        let name = words::marker(self.alloc, self.front.as_str(), field, word)?;
+        let name = words::marker(self.arena, self.front, field, word)?;
         self.markers.push_str("\ntype ")?;
-        self.markers.push_str(name.as_str())?;
+        self.markers.push_str(name)?;
         self.markers
             .push_str(if word == "Lent" { "<'a> = " } else { " = " })?;
         kind.print(&mut self.markers, 0, 1, false)?;
         self.markers.push_str(";\n")?;
-        self.names
-            .push(String::from_str(self.alloc, name.as_str())?)?;
+        self.names.push(name)?;
         if word == "Lent" {
-            let name = name.as_str();
-            return format!(in self.alloc; "{name}<'a>");
+            return self.arena.print(format_args!("{name}<'a>"));
         }
         Ok(name)
     }
@@ -493,15 +474,15 @@ impl<'b, 'a> Builder<'b, 'a> {
         &mut self,
         part: &mut Part<'a>,
         field: &str,
-    ) -> Result<(String, Option<String>), AllocError> {
-        let name = self.alias(&part.texts.kind, field, "Head")?;
-        part.texts.kind = Text::word(self.alloc, name.as_str())?;
+    ) -> Result<(&'a str, Option<&'a str>), AllocError> {
+        let name = self.alias(part.texts.kind, field, "Head")?;
+        part.texts.kind = Text::of(name);
         if !part.is_lent {
-            part.texts.lent = Text::word(self.alloc, name.as_str())?;
+            part.texts.lent = Text::of(name);
             return Ok((name, None));
         }
-        let lent = self.alias(&part.texts.lent, field, "Lent")?;
-        part.texts.lent = Text::word(self.alloc, lent.as_str())?;
+        let lent = self.alias(part.texts.lent, field, "Lent")?;
+        part.texts.lent = Text::of(lent);
         Ok((name, Some(lent)))
     }
 
@@ -510,9 +491,9 @@ impl<'b, 'a> Builder<'b, 'a> {
         &mut self,
         field: &Field<'a>,
         expression: &Expression<'a>,
-    ) -> Result<Part<'a>, Stop> {
+    ) -> Result<Part<'a>, Stop<'a>> {
         if self.items.is_empty() {
-            return self.wrong(
+            return Stop::wrong(
                 field.span,
                 "a list or an option with no field in front",
                 "write an array, or the type itself",
@@ -526,114 +507,91 @@ impl<'b, 'a> Builder<'b, 'a> {
     fn after_head(
         &mut self,
         field: &Field<'a>,
-        called: Named<'_>,
+        called: Named<'a>,
         expression: &Expression<'a>,
         form: Dependent,
         unit: u64,
-    ) -> Result<(), Stop> {
+    ) -> Result<(), Stop<'a>> {
         let mut head = self.head_of(field, expression)?;
-        let marked = self.marked(&mut head, called.name, word_of(form))?;
-        let marker = marked.marker();
-        let places = head.fields.places.as_slice();
+        let marker = self.marked(&mut head, called.name, word_of(form))?;
+        let places = head.fields.places;
         match form {
             Dependent::Optional => self.shows(places, marker, expression, field.span)?,
             Dependent::Counted | Dependent::Filled => {
                 self.counts(places, marker, expression, field.span, (form, unit))?;
             }
         }
-        let held = held_kind(self.alloc, field)?;
-        let types = (marker.name, held.as_str());
-        let part = following(self.alloc, head, form, called, types)?;
-        Ok(self.push(part, marked)?)
+        let types = (marker.name, held_kind(self.arena, field)?);
+        let part = following(self.arena, head, form, called, types)?;
+        Ok(self.push(part, marker)?)
     }
 
     // Appends the type of a count, or of a size in units of so many bits.
     fn counts(
         &mut self,
-        places: &[Place<'a>],
-        marker: Marker<'_>,
+        places: &'a [Place<'a>],
+        marker: Marker<'a>,
         expression: &Expression<'a>,
         span: Span,
         (form, unit): (Dependent, u64),
-    ) -> Result<(), Stop> {
-        let mut computer = Computer::new(self.alloc, places, self.constants);
+    ) -> Result<(), Stop<'a>> {
+        let mut computer = Computer::new(self.arena, places, self.constants);
         let mut computed = computer.value(expression)?;
         if !computed.is_number() {
-            return self.wrong(span, "a count that is no number", "write a number");
+            return Stop::wrong(span, "a count that is no number", "write a number");
         }
         if unit > 1 {
             let unit = computer.number(unit)?;
-            computed = computer.both(Operator::Times, &computed, &unit, span)?;
+            computed = computer.both(Operator::Times, computed, unit, span)?;
         }
         let amount = match form {
             Dependent::Filled => Amount::Bits,
             Dependent::Counted | Dependent::Optional => Amount::Items,
         };
-        marker::count(&mut self.markers, amount, marker, &computer, &computed)
+        marker::count(&mut self.markers, amount, marker, &computer, computed)?;
+        Ok(())
     }
 
     // Appends the type of a condition.
     fn shows(
         &mut self,
-        places: &[Place<'a>],
-        marker: Marker<'_>,
+        places: &'a [Place<'a>],
+        marker: Marker<'a>,
         expression: &Expression<'a>,
         span: Span,
-    ) -> Result<(), Stop> {
-        let mut computer = Computer::new(self.alloc, places, self.constants);
+    ) -> Result<(), Stop<'a>> {
+        let mut computer = Computer::new(self.arena, places, self.constants);
         let computed = computer.value(expression)?;
-        self.is_truth(&computed, computer.guards.is_empty(), span)?;
-        marker::condition(&mut self.markers, marker, &computer, &computed)
+        is_truth(computed, computer.guards.is_empty(), span)?;
+        marker::condition(&mut self.markers, marker, &computer, computed)?;
+        Ok(())
     }
 
     // Appends the type of a check, that a field of this name is what is computed or that this is
     // so.
     fn checks(
         &mut self,
-        places: &[Place<'a>],
-        marker: Marker<'_>,
+        places: &'a [Place<'a>],
+        marker: Marker<'a>,
         expression: &Expression<'a>,
         span: Span,
         is_equal: bool,
-    ) -> Result<(), Stop> {
-        let mut computer = Computer::new(self.alloc, places, self.constants);
+    ) -> Result<(), Stop<'a>> {
+        let mut computer = Computer::new(self.arena, places, self.constants);
         let computed = if is_equal {
             let left = computer.name(marker.field, span)?;
             let right = computer.value(expression)?;
-            computer.both(Operator::Equal, &left, &right, span)?
+            computer.both(Operator::Equal, left, right, span)?
         } else {
             computer.value(expression)?
         };
-        self.is_truth(&computed, computer.guards.is_empty(), span)?;
-        marker::check(&mut self.markers, marker, &computer, &computed)
-    }
-
-    /// Complains of a condition that is a number, or that may have no value.
-    pub(crate) fn is_truth(
-        &self,
-        computed: &Computed,
-        is_whole: bool,
-        span: Span,
-    ) -> Result<(), Stop> {
-        if computed.is_number() {
-            return self.wrong(
-                span,
-                "a condition that is a number",
-                "compare it with another number",
-            );
-        }
-        if is_whole {
-            return Ok(());
-        }
-        self.wrong(
-            span,
-            "a difference, or a quotient by a field, in a condition",
-            "write it as a sum or a product on the other side",
-        )
+        is_truth(computed, computer.guards.is_empty(), span)?;
+        marker::check(&mut self.markers, marker, &computer, computed)?;
+        Ok(())
     }
 
     // Complains of a number that the field is too narrow for.
-    fn may_equal(&self, field: &Field<'a>, expression: &Expression<'a>) -> Result<(), Stop> {
+    fn may_equal(&self, field: &Field<'a>, expression: &Expression<'a>) -> Result<(), Stop<'a>> {
         let bits = match (field.bits, number_kind(field)) {
             (None, Some(kind)) => bits_of(kind),
             (bits, _) => bits,
@@ -644,49 +602,82 @@ impl<'b, 'a> Builder<'b, 'a> {
         if bits >= 64 || number >> bits == 0 {
             return Ok(());
         }
-        let message = format!(in self.alloc; "{number} does not fit a field of {bits} bits")?;
-        self.wrong(
-            field.span,
-            message.as_str(),
-            "write a smaller number, or more bits",
-        )
+        let message = self.arena.print(format_args!(
+            "{number} does not fit a field of {bits} bits"
+        ))?;
+        Stop::wrong(field.span, message, "write a smaller number, or more bits")
     }
 
     // A check of the last part, and of those in front that it names.
     fn assert(
         &mut self,
         field: &Field<'a>,
-        name: &str,
+        name: &'a str,
         expression: &Expression<'a>,
         is_equal: bool,
-    ) -> Result<(), Stop> {
+    ) -> Result<(), Stop<'a>> {
         if is_equal {
             self.may_equal(field, expression)?;
         }
         let word = if is_equal { "Value" } else { "Check" };
         let mut head = self.head(expression, true)?;
-        let marked = self.marked(&mut head, name, word)?;
-        let marker = marked.marker();
-        let places = head.fields.places.as_slice();
+        let marker = self.marked(&mut head, name, word)?;
+        let places = head.fields.places;
         self.checks(places, marker, expression, field.span, is_equal)?;
-        let part = asserted(self.alloc, self.owner, head, marker.name)?;
-        Ok(self.push(part, marked)?)
+        let part = asserted(self.arena, self.owner, head, marker.name)?;
+        Ok(self.push(part, marker)?)
     }
+}
+
+// Complains of a field that the record does not keep, or of the one after it.
+fn no_count<'a, T>(field: &Field<'a>) -> Result<T, Stop<'a>> {
+    Stop::wrong(
+        field.span,
+        "a field that the record does not keep, and that does not count the list after it",
+        "write `temp, temp_value = \"LIST.len() as u8\"`, and then the list with this `count`",
+    )
+}
+
+/// Complains of a condition that is a number, or that may have no value.
+pub(crate) fn is_truth<'a>(
+    computed: Computed<'a>,
+    is_whole: bool,
+    span: Span,
+) -> Result<(), Stop<'a>> {
+    if computed.is_number() {
+        return Stop::wrong(
+            span,
+            "a condition that is a number",
+            "compare it with another number",
+        );
+    }
+    if is_whole {
+        return Ok(());
+    }
+    Stop::wrong(
+        span,
+        "a difference, or a quotient by a field, in a condition",
+        "write it as a sum or a product on the other side",
+    )
 }
 
 /// The type of what a list or an option holds.
-pub(crate) fn held_kind(alloc: Global, field: &Field<'_>) -> Result<String, AllocError> {
-    let mut held = String::new(alloc);
+pub(crate) fn held_kind<'a>(arena: &'a Arena, field: &Field<'_>) -> Result<&'a str, AllocError> {
+    let mut held = String::new(arena.alloc());
     if let Type::Of(_, inner) = &field.kind {
         item(&mut held, inner, field)?;
     }
-    Ok(held)
+    arena.keep(held.as_str())
 }
 
 /// The name of a field. That of a tuple is called by its place.
-pub fn field_name(alloc: Global, field: &Field<'_>, place: usize) -> Result<String, AllocError> {
+pub fn field_name<'a>(
+    arena: &'a Arena,
+    field: &Field<'a>,
+    place: usize,
+) -> Result<&'a str, AllocError> {
     match field.name {
-        Some(name) => String::from_str(alloc, name.text),
-        None => format!(in alloc; "field_{place}"),
+        Some(name) => Ok(name.text),
+        None => arena.print(format_args!("field_{place}")),
     }
 }

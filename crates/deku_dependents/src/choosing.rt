@@ -16,7 +16,11 @@ use deku_tokens::token::{Kind, Token};
 impl<'b, 'a> Builder<'b, 'a> {
     /// Complains of an enum without the id that it is given, and of values that are given to
     /// another type.
-    pub(crate) fn gives(&self, field: &Field<'a>, context: Option<Token<'a>>) -> Result<(), Stop> {
+    pub(crate) fn gives(
+        &self,
+        field: &Field<'a>,
+        context: Option<Token<'a>>,
+    ) -> Result<(), Stop<'a>> {
         let is_alone = matches!(&field.kind, Type::Name(_));
         let is_given = has_given(self.records, &field.kind);
         let (message, help) = match (is_given, context.is_some()) {
@@ -39,16 +43,16 @@ impl<'b, 'a> Builder<'b, 'a> {
                 "write `ctx = \"*FIELD\"`, with the field in front that has the id",
             ),
         };
-        self.wrong(field.span, message, help)
+        Stop::wrong(field.span, message, help)
     }
 
     /// An enum, of the kind that a field in front says.
     pub(crate) fn choice(
         &mut self,
         field: &Field<'a>,
-        called: Named<'_>,
+        called: Named<'a>,
         context: Token<'a>,
-    ) -> Result<(), Stop> {
+    ) -> Result<(), Stop<'a>> {
         let Type::Name(kind) = &field.kind else {
             return Ok(());
         };
@@ -61,30 +65,30 @@ impl<'b, 'a> Builder<'b, 'a> {
         let id = self.id_of(context, wanted)?;
         let expression = Expression::Name(id);
         let mut head = self.head(&expression, false)?;
-        let marked = self.marked(&mut head, called.name, "Id")?;
-        let marker = marked.marker();
-        self.says(head.fields.places.as_slice(), marker, id)?;
-        let part = chosen(self.alloc, head, called, (marker.name, kind.text))?;
-        Ok(self.push(part, marked)?)
+        let marker = self.marked(&mut head, called.name, "Id")?;
+        self.says(head.fields.places, marker, id)?;
+        let part = chosen(self.arena, head, called, (marker.name, kind.text))?;
+        Ok(self.push(part, marker)?)
     }
 
     // Appends the type of an id that a field of this name says.
     fn says(
         &mut self,
-        places: &[Place<'a>],
-        marker: Marker<'_>,
+        places: &'a [Place<'a>],
+        marker: Marker<'a>,
         id: Token<'a>,
-    ) -> Result<(), Stop> {
-        let mut computer = Computer::new(self.alloc, places, self.constants);
+    ) -> Result<(), Stop<'a>> {
+        let mut computer = Computer::new(self.arena, places, self.constants);
         let computed = computer.name(id.text, id.span)?;
-        marker::id(&mut self.markers, marker, &computer, &computed)
+        marker::id(&mut self.markers, marker, &computer, computed)?;
+        Ok(())
     }
 
     // The field with an id of this type.
-    fn id_of(&self, context: Token<'a>, wanted: &str) -> Result<Token<'a>, Stop> {
+    fn id_of(&self, context: Token<'a>, wanted: &str) -> Result<Token<'a>, Stop<'a>> {
         let span = context.span;
         let Some(name) = passed(context) else {
-            return self.wrong(
+            return Stop::wrong(
                 span,
                 "a `ctx` that is not one field is not supported",
                 "write `ctx = \"*FIELD\"`, with the field in front that has the id",
@@ -92,15 +96,17 @@ impl<'b, 'a> Builder<'b, 'a> {
         };
         let mut parts = self.items.iter();
         let Some(place) = parts.find_map(|part| part.place(name)) else {
-            return self.wrong(
+            return Stop::wrong(
                 span,
                 "a name that is no field in front of this one",
                 "move the field in front, and into this record",
             );
         };
         if place.number != Some(wanted) {
-            let message = format!(in self.alloc; "an id that is no `{wanted}`, as its enum says")?;
-            return self.wrong(span, message.as_str(), "write the same type in both places");
+            let message = self.arena.print(format_args!(
+                "an id that is no `{wanted}`, as its enum says"
+            ))?;
+            return Stop::wrong(span, message, "write the same type in both places");
         }
         let kind = Kind::Name;
         let text = name;
@@ -116,7 +122,7 @@ fn has_given<'a>(records: &Records<'_, 'a>, kind: &Type<'a>) -> bool {
             .is_some_and(|record| is_given(record)),
         Type::Of(_, item) | Type::Array(item, _) => has_given(records, item),
         Type::Tuple(parts) => {
-            for part in parts {
+            for part in *parts {
                 if has_given(records, part) {
                     return true;
                 }

@@ -14,9 +14,9 @@ const PADDING: u64 = 1024;
 
 impl<'b, 'a> Builder<'b, 'a> {
     /// Zeros of so many bits, before or after a field.
-    pub(crate) fn padding(&mut self, bits: u64, field: &Field<'a>) -> Result<(), Stop> {
+    pub(crate) fn padding(&mut self, bits: u64, field: &Field<'a>) -> Result<(), Stop<'a>> {
         if bits > PADDING {
-            return self.wrong(
+            return Stop::wrong(
                 field.span,
                 "a padding of more than 1024 bits",
                 "write an array of bytes, which is kept",
@@ -31,14 +31,14 @@ impl<'b, 'a> Builder<'b, 'a> {
             let width = left.min(64);
             left = left.saturating_sub(width);
             let kind = match order {
-                Order::Msb => format!(in self.alloc; "Msb<u64, {width}>")?,
-                Order::Lsb => format!(in self.alloc; "Lsb<u64, {width}>")?,
+                Order::Msb => self.arena.print(format_args!("Msb<u64, {width}>"))?,
+                Order::Lsb => self.arena.print(format_args!("Lsb<u64, {width}>"))?,
             };
             let marker = match order {
                 Order::Msb => "Zeros",
                 Order::Lsb => "LowZeros",
             };
-            let part = constant(self.alloc, self.owner, kind.as_str(), marker, "padding")?;
+            let part = constant(self.arena, self.owner, kind, marker, "padding")?;
             self.items.push(part)?;
         }
         Ok(())
@@ -47,38 +47,31 @@ impl<'b, 'a> Builder<'b, 'a> {
     /// Bytes that are always the same, as one number.
     pub fn magic(
         &mut self,
-        bytes: &Vec<u8>,
-        name: String,
-        what: &str,
+        bytes: &[u8],
+        name: &'a str,
+        what: &'a str,
         order: Order,
         span: Span,
-    ) -> Result<(), Stop> {
+    ) -> Result<(), Stop<'a>> {
         if bytes.is_empty() || bytes.len() > 8 {
-            return self.wrong(
+            return Stop::wrong(
                 span,
                 "a magic of no bytes, or of more than 8",
                 "write the first 8 of them, and an array of `u8` with `assert` after them",
             );
         }
-        let number = number_of(bytes.as_slice());
+        let number = number_of(bytes);
         let count = bytes.len();
-        let (constructor, kind) = magic_kind(self.alloc, count, order)?;
-        let value = format!(in self.alloc; "0x{number:X}")?;
-        let what = String::from_str(self.alloc, what)?;
+        let (constructor, kind) = magic_kind(self.arena, count, order)?;
+        let value = self.arena.print(format_args!("0x{number:X}"))?;
         let marker = Marker {
-            name: name.as_str(),
-            parts: kind.as_str(),
+            name,
+            parts: kind,
             lent: None,
-            field: what.as_str(),
+            field: what,
         };
-        marker::constant(&mut self.markers, marker, constructor, value.as_str())?;
-        let part = constant(
-            self.alloc,
-            self.owner,
-            kind.as_str(),
-            name.as_str(),
-            "magic",
-        )?;
+        marker::constant(&mut self.markers, marker, constructor, value)?;
+        let part = constant(self.arena, self.owner, kind, name, "magic")?;
         self.items.push(part)?;
         self.names.push(name)?;
         Ok(())

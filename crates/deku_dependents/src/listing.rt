@@ -1,6 +1,6 @@
 //! Lists that say by themselves where they end.
 
-use crate::building::{Builder, held_kind};
+use crate::building::{Builder, held_kind, is_truth};
 use deku_attributes::model::Field;
 use deku_description::syntax::{Closure, Type};
 use deku_markers::computing::Computer;
@@ -12,7 +12,8 @@ use deku_texts::document::{Form, Text, joined};
 use deku_texts::refusal::Stop;
 use deku_texts::words;
 use deku_texts::wrapping::number_in;
-use std::alloc::{AllocError, Global};
+use deku_tokens::arena::Arena;
+use std::alloc::AllocError;
 
 // What the function calls an item that says whether it is the last.
 const ITEM: &'static str = "item";
@@ -32,20 +33,23 @@ pub(crate) struct Listed<'l> {
 
 /// The part of such a list.
 pub(crate) fn list_part<'a>(
-    alloc: Global,
-    called: Named<'_>,
-    form: Listed<'_>,
+    arena: &'a Arena,
+    called: Named<'a>,
+    form: Listed<'a>,
 ) -> Result<Part<'a>, AllocError> {
-    let texts = list_texts(alloc, called, form)?;
     Ok(Part {
-        texts,
+        texts: list_texts(arena, called, form)?,
         is_lent: true,
-        fields: Fields::one(alloc, called.name, None, ".items")?,
+        fields: Fields::one(arena, called.name, None, ".items")?,
     })
 }
 
 // How it is printed.
-fn list_texts(alloc: Global, called: Named<'_>, form: Listed<'_>) -> Result<Texts, AllocError> {
+fn list_texts<'a>(
+    arena: &'a Arena,
+    called: Named<'a>,
+    form: Listed<'a>,
+) -> Result<Texts<'a>, AllocError> {
     let Listed {
         part,
         types: [first, second],
@@ -53,55 +57,66 @@ fn list_texts(alloc: Global, called: Named<'_>, form: Listed<'_>) -> Result<Text
         marker,
     } = form;
     Ok(Texts {
-        kind: list_kind(alloc, part, "<", &[first, second])?,
-        lent: list_kind(alloc, part, "Ref<", &["'a", first, second])?,
-        pattern: list_pattern(alloc, part, called.name)?,
-        value: list_value(alloc, called, open, marker)?,
-        term: list_term(alloc, called, marker)?,
+        kind: list_kind(arena, part, "<", &[first, second])?,
+        lent: list_kind(arena, part, "Ref<", &["'a", first, second])?,
+        pattern: list_pattern(arena, part, called.name)?,
+        value: list_value(arena, called, open, marker)?,
+        term: list_term(arena, called, marker)?,
     })
 }
 
 // Its type.
-fn list_kind(alloc: Global, part: &str, end: &str, types: &[&str]) -> Result<Text, AllocError> {
-    let open = joined(alloc, part, end)?;
-    group(alloc, Form::Angle, open.as_str(), types)
+fn list_kind<'a>(
+    arena: &'a Arena,
+    part: &str,
+    end: &str,
+    types: &[&'a str],
+) -> Result<Text<'a>, AllocError> {
+    let open = joined(arena, part, end)?;
+    group(arena, Form::Angle, open, types)
 }
 
 // The pattern that takes its items out of it.
-fn list_pattern(alloc: Global, part: &str, name: &str) -> Result<Text, AllocError> {
-    let open = joined(alloc, part, " {")?;
-    let held = field(alloc, "items", name)?;
-    group(alloc, Form::Brace, open.as_str(), &[held.as_str(), ".."])
+fn list_pattern<'a>(arena: &'a Arena, part: &str, name: &str) -> Result<Text<'a>, AllocError> {
+    let open = joined(arena, part, " {")?;
+    let held = field(arena, "items", name)?;
+    group(arena, Form::Brace, open, &[held, ".."])
 }
 
 // What makes it of its items.
-fn list_value(
-    alloc: Global,
-    called: Named<'_>,
-    open: &str,
+fn list_value<'a>(
+    arena: &'a Arena,
+    called: Named<'a>,
+    open: &'a str,
     marker: &str,
-) -> Result<Text, AllocError> {
-    let reference = called.reference(alloc)?;
-    let items = field(alloc, "items", reference.as_str())?;
-    let marked = joined(alloc, marker, ": PhantomData")?;
-    group(alloc, Form::Brace, open, &[items.as_str(), marked.as_str()])
+) -> Result<Text<'a>, AllocError> {
+    let items = field(arena, "items", called.reference(arena)?)?;
+    let marked = joined(arena, marker, ": PhantomData")?;
+    group(arena, Form::Brace, open, &[items, marked])
 }
 
 // The same in ghost text.
-fn list_term(alloc: Global, called: Named<'_>, marker: &str) -> Result<Text, AllocError> {
-    let term = called.term(alloc)?;
-    let items = joined(alloc, "items = ", term.as_str())?;
-    let marked = joined(alloc, marker, " = record {}")?;
-    let terms = [items.as_str(), marked.as_str()];
-    group(alloc, Form::GhostBrace, "record {", &terms)
+fn list_term<'a>(
+    arena: &'a Arena,
+    called: Named<'a>,
+    marker: &str,
+) -> Result<Text<'a>, AllocError> {
+    let items = joined(arena, "items = ", called.term(arena)?)?;
+    let marked = joined(arena, marker, " = record {}")?;
+    group(arena, Form::GhostBrace, "record {", &[items, marked])
 }
 
-fn group(alloc: Global, form: Form, open: &str, words: &[&str]) -> Result<Text, AllocError> {
-    let mut items = Vec::new(alloc);
+fn group<'a>(
+    arena: &'a Arena,
+    form: Form,
+    open: &'a str,
+    words: &[&'a str],
+) -> Result<Text<'a>, AllocError> {
+    let mut items = Vec::new(arena.alloc());
     for word in words {
-        items.push(Text::word(alloc, word)?)?;
+        items.push(Text::of(*word))?;
     }
-    Text::group(alloc, form, open, items)
+    Ok(Text::group(form, open, arena.list(items.as_slice())?))
 }
 
 impl<'b, 'a> Builder<'b, 'a> {
@@ -109,37 +124,34 @@ impl<'b, 'a> Builder<'b, 'a> {
     pub(crate) fn until(
         &mut self,
         field: &Field<'a>,
-        called: Named<'_>,
+        called: Named<'a>,
         end: &Closure<'a>,
-    ) -> Result<(), Stop> {
+    ) -> Result<(), Stop<'a>> {
         let name = end.name.text;
         if words::is_local(name) {
-            return self.wrong(
+            return Stop::wrong(
                 end.name.span,
                 "an item of a name that the module has already",
                 "give it another name",
             );
         }
-        let item = held_kind(self.alloc, field)?;
-        let named = words::marker(self.alloc, self.front.as_str(), called.name, "Last")?;
-        let owned = String::from_str(self.alloc, called.name)?;
+        let item = held_kind(self.arena, field)?;
+        let named = words::marker(self.arena, self.front, called.name, "Last")?;
         let marker = Marker {
-            name: named.as_str(),
-            parts: item.as_str(),
+            name: named,
+            parts: item,
             lent: None,
-            field: owned.as_str(),
+            field: called.name,
         };
         self.ends(field, end, marker)?;
-        let open = format!(in self.alloc; "UntilRef::<_, {named}> {{")?;
         let form = Listed {
             part: "Until",
-            types: [item.as_str(), named.as_str()],
-            open: open.as_str(),
+            types: [item, named],
+            open: self.arena.print(format_args!("UntilRef::<_, {named}> {{"))?,
             marker: "last",
         };
-        self.items.push(list_part(self.alloc, called, form)?)?;
-        self.names.push(named)?;
-        Ok(())
+        let part = list_part(self.arena, called, form)?;
+        Ok(self.push(part, marker)?)
     }
 
     // Appends the type that says which item of a list is its last.
@@ -147,17 +159,18 @@ impl<'b, 'a> Builder<'b, 'a> {
         &mut self,
         field: &Field<'a>,
         end: &Closure<'a>,
-        marker: Marker<'_>,
-    ) -> Result<(), Stop> {
+        marker: Marker<'a>,
+    ) -> Result<(), Stop<'a>> {
         let (places, is_struct) = self.item_places(field, end)?;
-        let mut computer = Computer::new(self.alloc, places.as_slice(), self.constants);
+        let mut computer = Computer::new(self.arena, places, self.constants);
         computer.from = ITEM;
         if is_struct {
             computer.owner = Some(end.name.text);
         }
         let computed = computer.value(&end.last)?;
-        self.is_truth(&computed, computer.guards.is_empty(), field.span)?;
-        marker::last(&mut self.markers, marker, &computer, &computed)
+        is_truth(computed, computer.guards.is_empty(), field.span)?;
+        marker::last(&mut self.markers, marker, &computer, computed)?;
+        Ok(())
     }
 
     // Where the numbers of an item are: the item by its name, or the fields of a struct by theirs.
@@ -165,45 +178,41 @@ impl<'b, 'a> Builder<'b, 'a> {
         &self,
         field: &Field<'a>,
         end: &Closure<'a>,
-    ) -> Result<(Vec<Place<'a>>, bool), Stop> {
+    ) -> Result<(&'a [Place<'a>], bool), Stop<'a>> {
         let kind = end.kind;
         for (name, places) in &self.structs {
             if kind.is_name(name) {
-                return Ok((within_item(self.alloc, places.as_slice())?, true));
+                return Ok((within_item(self.arena, places)?, true));
             }
         }
         if self.records.has(kind.text) {
-            return self.wrong(
+            return Stop::wrong(
                 kind.span,
                 "items that are no numbers and no structs in front of this one",
                 "move their struct in front",
             );
         }
-        let mut places = Vec::new(self.alloc);
-        if let Type::Of(_, item) = &field.kind {
-            let (number, path) = number_in(item, field);
-            places.push(Place {
-                name: String::from_str(self.alloc, end.name.text)?,
-                number,
-                path: String::from_str(self.alloc, path)?,
-                same: String::new(self.alloc),
-            })?;
-        }
-        Ok((places, false))
+        let Type::Of(_, item) = &field.kind else {
+            return Ok((&[], false));
+        };
+        let (number, path) = number_in(item, field);
+        let place = Place {
+            name: end.name.text,
+            number,
+            path,
+            same: "",
+        };
+        Ok((self.arena.list(&[place])?, false))
     }
 }
 
 // Where the fields of a struct are, from the struct. None has the name of the item that it is.
-fn within_item<'a>(alloc: Global, places: &[Place<'a>]) -> Result<Vec<Place<'a>>, AllocError> {
-    let mut fields = Vec::new(alloc);
-    for place in places.iter().filter(|it| it.name.as_str() != ITEM) {
-        let name = place.name.as_str();
-        fields.push(Place {
-            name: place.name.clone()?,
-            number: place.number,
-            path: format!(in alloc; ".{name}")?,
-            same: place.same.clone()?,
-        })?;
+fn within_item<'a>(arena: &'a Arena, places: &[Place<'a>]) -> Result<&'a [Place<'a>], AllocError> {
+    let mut fields = Vec::new(arena.alloc());
+    for place in places.iter().filter(|it| it.name != ITEM) {
+        let name = place.name;
+        let path = arena.print(format_args!(".{name}"))?;
+        fields.push(Place { path, ..*place })?;
     }
-    Ok(fields)
+    arena.list(fields.as_slice())
 }

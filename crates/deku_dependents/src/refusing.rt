@@ -13,7 +13,7 @@ pub(crate) fn partless(kind: &Type<'_>, field: &Field<'_>) -> Option<&'static st
         Type::Array(item, _) => partless(item, field),
         Type::Tuple(parts) if parts.is_empty() => Some("a tuple of nothing"),
         Type::Tuple(parts) => {
-            for part in parts {
+            for part in *parts {
                 if let Some(word) = partless(part, field) {
                     return Some(word);
                 }

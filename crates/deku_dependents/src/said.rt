@@ -8,7 +8,7 @@ use deku_tokens::token::Token;
 /// What the attributes of one field say.
 #[derive(Drop)]
 pub(crate) struct Said<'f, 'a> {
-    pub(crate) magic: Option<&'f Vec<u8>>,
+    pub(crate) magic: Option<&'a [u8]>,
     pub(crate) count: Option<&'f Expression<'a>>,
     /// How much the field takes, and how many bits each of it is.
     pub(crate) size: Option<(&'f Expression<'a>, u64)>,
@@ -28,7 +28,7 @@ impl<'f, 'a> Said<'f, 'a> {
     /// What is said of a field.
     pub(crate) fn of(field: &'f Field<'a>) -> Said<'f, 'a> {
         let mut said = Said::nothing();
-        for attribute in &field.attributes {
+        for attribute in field.attributes {
             said.hears(attribute);
         }
         said
@@ -55,7 +55,7 @@ impl<'f, 'a> Said<'f, 'a> {
     // Notes what an attribute says. `temp` is looked at before.
     fn hears(&mut self, attribute: &'f Attribute<'a>) {
         match attribute {
-            Attribute::Magic(bytes) => self.magic = Some(bytes),
+            Attribute::Magic(bytes) => self.magic = Some(*bytes),
             Attribute::Count(expression) => self.count = Some(expression),
             Attribute::BitsRead(expression) => self.size = Some((expression, 1)),
             Attribute::BytesRead(expression) => self.size = Some((expression, 8)),

@@ -5,7 +5,8 @@ use deku_attributes::model::{Attribute, Endian, Field, Order};
 use deku_attributes::reading::bits_of;
 use deku_markers::part::{Named, Part};
 use deku_texts::wrapping::number_kind;
-use std::alloc::{AllocError, Global};
+use deku_tokens::arena::Arena;
+use std::alloc::AllocError;
 
 /// The count of the list after it, which the record does not keep.
 #[derive(Clone, Copy)]
@@ -35,7 +36,7 @@ impl<'a> Temporary<'a> {
     pub fn of(field: &Field<'a>) -> Option<Temporary<'a>> {
         let mut value = None;
         let mut is_temporary = false;
-        for attribute in &field.attributes {
+        for attribute in field.attributes {
             match attribute {
                 Attribute::Temp => is_temporary = true,
                 Attribute::TempValue(token) => value = Some(token.text),
@@ -62,11 +63,11 @@ impl<'a> Temporary<'a> {
     }
 
     /// Whether its `temp_value` is the length of the list of this name.
-    pub fn counts(&self, alloc: Global, list: &str) -> Result<bool, AllocError> {
+    pub fn counts(&self, arena: &'a Arena, list: &str) -> Result<bool, AllocError> {
         let kind = self.kind;
-        let count = format!(in alloc; "\"{list}.len() as {kind}\"")?;
-        let own = format!(in alloc; "\"self.{list}.len() as {kind}\"")?;
-        Ok(self.value == count.as_str() || self.value == own.as_str())
+        let count = arena.print(format_args!("\"{list}.len() as {kind}\""))?;
+        let own = arena.print(format_args!("\"self.{list}.len() as {kind}\""))?;
+        Ok(self.value == count || self.value == own)
     }
 
     // The name of the type that says how it is laid out.
@@ -82,21 +83,19 @@ impl<'a> Temporary<'a> {
     /// The part of the list of this name, with items of this type.
     pub fn before(
         &self,
-        alloc: Global,
-        called: Named<'_>,
-        item: &str,
+        arena: &'a Arena,
+        called: Named<'a>,
+        item: &'a str,
     ) -> Result<Part<'a>, AllocError> {
         let bits = self.bits;
         let part = self.part();
-        let count = format!(in alloc; "{part}<u64, {bits}>")?;
-        let item = String::from_str(alloc, item)?;
-        let open = format!(in alloc; "PrefixedRef::<{count}, _> {{")?;
+        let count = arena.print(format_args!("{part}<u64, {bits}>"))?;
         let form = Listed {
             part: "Prefixed",
-            types: [count.as_str(), item.as_str()],
-            open: open.as_str(),
+            types: [count, item],
+            open: arena.print(format_args!("PrefixedRef::<{count}, _> {{"))?,
             marker: "count",
         };
-        list_part(alloc, called, form)
+        list_part(arena, called, form)
     }
 }

@@ -46,7 +46,7 @@ impl<'a> Updated<'a> {
 
 // The text of a field's `update`, with quotes.
 fn update_of<'a>(field: &Field<'a>) -> Option<&'a str> {
-    for attribute in &field.attributes {
+    for attribute in field.attributes {
         if let Attribute::Update(token) = attribute {
             return Some(token.text);
         }

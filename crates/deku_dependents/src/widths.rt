@@ -16,12 +16,12 @@ impl<'b, 'a> Builder<'b, 'a> {
     pub(crate) fn wide(
         &mut self,
         field: &Field<'a>,
-        called: Named<'_>,
+        called: Named<'a>,
         width: &Expression<'a>,
         unit: Unit,
-    ) -> Result<(), Stop> {
+    ) -> Result<(), Stop<'a>> {
         if self.items.is_empty() {
-            return self.wrong(
+            return Stop::wrong(
                 field.span,
                 "a width with no field in front",
                 "write a number",
@@ -33,34 +33,34 @@ impl<'b, 'a> Builder<'b, 'a> {
             unit,
         };
         let mut head = self.head(width, false)?;
-        let marked = self.marked(&mut head, called.name, "Width")?;
-        let marker = marked.marker();
-        let places = head.fields.places.as_slice();
+        let marker = self.marked(&mut head, called.name, "Width")?;
+        let places = head.fields.places;
         self.measures(places, marker, width, under_this, field.span)?;
         let number = number_kind(field).unwrap_or("u8");
         let types = (marker.name, number, under_this.kind());
-        let part = under(self.alloc, head, called, types)?;
-        Ok(self.push(part, marked)?)
+        let part = under(self.arena, head, called, types)?;
+        Ok(self.push(part, marker)?)
     }
 
     // Appends the type of the context of a number whose width is one of the fields of these parts.
     fn measures(
         &mut self,
-        places: &[Place<'a>],
-        marker: Marker<'_>,
+        places: &'a [Place<'a>],
+        marker: Marker<'a>,
         width: &Expression<'a>,
         under_this: Under,
         span: Span,
-    ) -> Result<(), Stop> {
-        let mut computer = Computer::new(self.alloc, places, self.constants);
+    ) -> Result<(), Stop<'a>> {
+        let mut computer = Computer::new(self.arena, places, self.constants);
         let computed = computer.value(width)?;
         if !computed.is_number() || !computer.guards.is_empty() || computer.used.len() != 1 {
-            return self.wrong(
+            return Stop::wrong(
                 span,
                 "a width that is not one field",
                 "write `bits = \"*FIELD\"`, with the field in front that says it",
             );
         }
-        marker::context(&mut self.markers, under_this, marker, &computer, &computed)
+        marker::context(&mut self.markers, under_this, marker, &computer, computed)?;
+        Ok(())
     }
 }

@@ -3,51 +3,60 @@
 use deku_attributes::given::chosen;
 use deku_attributes::model::Field;
 use deku_texts::document::{Form, Text};
+use deku_texts::template::fill;
 use deku_texts::words::snake;
+use deku_tokens::arena::Arena;
 use std::alloc::AllocError;
-use std::fmt::Write as _;
 
 /// Appends the law that no field is missing from the parts of a struct. It follows from the same
 /// law of each enum whose id is a field, which is imported from this module.
-pub(crate) fn there(
+pub(crate) fn there<'a>(
+    arena: &'a Arena,
     out: &mut String,
-    fields: &[Field<'_>],
+    fields: &[Field<'a>],
     path: Option<&str>,
 ) -> Result<(), AllocError> {
-    let alloc = *out.allocator();
-    let mut laws = Vec::new(alloc);
+    let mut laws = Vec::new(arena.alloc());
     for (i, field) in fields.iter().enumerate() {
         let Some(kind) = chosen(field) else {
             continue;
         };
-        let law = snake(alloc, kind)?;
-        let law = law.as_str();
+        let law = snake(arena, kind)?;
         if !fields.iter().take(i).any(|it| chosen(it) == Some(kind)) {
             imported(out, kind, law, path.unwrap_or(""))?;
         }
         laws.push(Text::of(match field.name {
             Some(name) => {
                 let name = name.text;
-                format!(in alloc; "{law}_there r.{name}")?
+                arena.print(format_args!("{law}_there r.{name}"))?
             }
-            None => format!(in alloc; "{law}_there r.{i}")?,
+            None => arena.print(format_args!("{law}_there r.{i}"))?,
         }))?;
     }
     if laws.is_empty() {
         return out.push_str("    ghost there = { λ r. refl };\n}\n");
     }
     out.push_str("\n    ghost there = { λ r. ")?;
-    Text::group(alloc, Form::GhostRound, "rw (", laws)?.print(out, 4, 8, false)?;
+    let laws = arena.list(laws.as_slice())?;
+    Text::group(Form::GhostRound, "rw (", laws).print(out, 4, 8, false)?;
     out.push_str(" refl };\n}\n")
 }
+
+const LAW: &str = "    \
+    ghost use Rattle.$front$.specs.contracts$dot$$rest$.$kind$FromParts.TheImpl.Laws\
+    .{there-law as $law$_there};
+";
 
 // Appends the import of the law of an enum.
 fn imported(out: &mut String, kind: &str, law: &str, path: &str) -> Result<(), AllocError> {
     let (front, rest) = path.split_once('.').unwrap_or((path, ""));
     let dot = if rest.is_empty() { "" } else { "." };
-    write!(
-        out,
-        "    ghost use Rattle.{front}.specs.contracts{dot}{rest}.{kind}FromParts"
-    )?;
-    writeln!(out, ".TheImpl.Laws.{{there-law as {law}_there}};")
+    let words = [
+        ("front", front),
+        ("dot", dot),
+        ("rest", rest),
+        ("kind", kind),
+        ("law", law),
+    ];
+    fill(out, LAW, &words)
 }

@@ -6,18 +6,20 @@ use deku_dependents::building::field_name;
 use deku_description::syntax::Shape;
 use deku_markers::part::Part;
 use deku_markers::texts::field;
-use deku_texts::document::{Form, Text, joined as joined_text, start};
+use deku_texts::document::{Form, Text, joined, start};
+use deku_texts::template::fill;
 use deku_texts::words::{quoted, snake};
 use deku_texts::wrapping::field_kind;
-use std::alloc::{AllocError, Global};
+use deku_tokens::arena::Arena;
+use std::alloc::AllocError;
 use std::fmt::Write as _;
 
 /// A kind, and the parts of its fields.
-#[derive(Drop)]
-pub(crate) struct Built<'c, 'a> {
-    pub(crate) case: &'c Case<'a>,
+#[derive(Clone, Copy)]
+pub(crate) struct Built<'a> {
+    pub(crate) case: &'a Case<'a>,
     /// The field that keeps the id, if there is one.
-    pub(crate) kept: Option<String>,
+    pub(crate) kept: Option<&'a str>,
     /// The parts of the other fields.
     pub(crate) part: Part<'a>,
     /// Whether the enum holds memory.
@@ -33,36 +35,42 @@ enum Held {
     Nothing,
 }
 
+const ENUM: &str = "\
+pub enum $name$ {
+$kinds$}
+";
+
 /// Appends an enum.
-pub(crate) fn declaration(
+pub(crate) fn declaration<'a>(
+    arena: &'a Arena,
     out: &mut String,
-    record: &Record<'_>,
-    kinds: &[Built<'_, '_>],
+    record: &Record<'a>,
+    kinds: &[Built<'a>],
 ) -> Result<(), AllocError> {
     let is_lent = kinds.iter().any(|kind| kind.is_lent);
     derives(out, record, !is_lent, false)?;
-    let name = record.name.text;
-    writeln!(out, "pub enum {name} {{")?;
-    let is_split = are_split(*out.allocator(), kinds)?;
+    let is_split = are_split(arena, kinds)?;
+    let mut lines = String::new(arena.alloc());
     for kind in kinds {
         let case = kind.case;
-        docs(out, case.docs.as_slice(), "    ///")?;
+        docs(&mut lines, case.docs, "    ///")?;
         if case.docs.is_empty() {
-            said(out, case.id)?;
+            said(&mut lines, case.id)?;
         }
-        out.push_str("    ")?;
-        let text = variant(*out.allocator(), kind)?;
-        text.print(out, 4, 1, is_split && case.shape == Shape::Named)?;
-        out.push_str(",\n")?;
+        lines.push_str("    ")?;
+        let text = variant(arena, kind)?;
+        text.print(&mut lines, 4, 1, is_split && case.shape == Shape::Named)?;
+        lines.push_str(",\n")?;
     }
-    out.push_str("}\n")
+    let words = [("name", record.name.text), ("kinds", lines.as_str())];
+    fill(out, ENUM, &words)
 }
 
 // Whether kinds with named fields have a line for each field: if one of them has no room on a line,
 // none is on one.
-fn are_split(alloc: Global, kinds: &[Built<'_, '_>]) -> Result<bool, AllocError> {
+fn are_split<'a>(arena: &'a Arena, kinds: &[Built<'a>]) -> Result<bool, AllocError> {
     for kind in kinds {
-        if kind.case.shape == Shape::Named && !variant(alloc, kind)?.is_line("    ", 1) {
+        if kind.case.shape == Shape::Named && !variant(arena, kind)?.is_line("    ", 1) {
             return Ok(true);
         }
     }
@@ -80,166 +88,188 @@ fn said(out: &mut String, id: Id) -> Result<(), AllocError> {
 }
 
 // A kind and its fields.
-fn variant(alloc: Global, kind: &Built<'_, '_>) -> Result<Text, AllocError> {
+fn variant<'a>(arena: &'a Arena, kind: &Built<'a>) -> Result<Text<'a>, AllocError> {
     let (case, is_kept) = (kind.case, kind.kept.is_some());
-    let name = case.name.text;
-    let mut items = Vec::new(alloc);
+    let mut items = Vec::new(arena.alloc());
     for (i, field) in case.fields.iter().enumerate() {
         let kind = if i == 0 && is_kept {
-            String::from_str(alloc, "u64")?
+            "u64"
         } else {
-            field_kind(alloc, field)?
+            field_kind(arena, field)?
         };
         let front = match field.name {
-            Some(name) => {
-                let name = name.text;
-                format!(in alloc; "{name}: ")?
-            }
-            None => String::new(alloc),
+            Some(name) => joined(arena, name.text, ": ")?,
+            None => "",
         };
-        items.push(Text::of(kind).after(alloc, front.as_str())?)?;
+        items.push(Text::of(kind).after(arena, front)?)?;
     }
-    of_shape(alloc, name, case.shape, Form::Variant, items)
+    let items = arena.list(items.as_slice())?;
+    of_shape(arena, case.name.text, case.shape, Form::Variant, items)
 }
 
 // A name with items as a kind of this shape has them.
-fn of_shape(
-    alloc: Global,
-    name: &str,
+fn of_shape<'a>(
+    arena: &'a Arena,
+    name: &'a str,
     shape: Shape,
     form: Form,
-    items: Vec<Text>,
-) -> Result<Text, AllocError> {
-    match shape {
-        Shape::Unit => Text::word(alloc, name),
-        Shape::Named => {
-            let open = format!(in alloc; "{name} {{")?;
-            Text::group(alloc, form, open.as_str(), items)
-        }
-        Shape::Tuple => {
-            let open = format!(in alloc; "{name}(")?;
-            Text::group(alloc, Form::Pattern, open.as_str(), items)
+    items: &'a [Text<'a>],
+) -> Result<Text<'a>, AllocError> {
+    Ok(match shape {
+        Shape::Unit => Text::of(name),
+        Shape::Named => Text::group(form, joined(arena, name, " {")?, items),
+        Shape::Tuple => Text::group(Form::Pattern, joined(arena, name, "(")?, items),
+    })
+}
+
+const TO_PARTS: &str = "
+impl ToParts for $name$ {
+    fn parts(&self) -> Self::Parts {
+        match self {$arms$
         }
     }
 }
+";
 
 /// Appends how an enum is read and written; or its kinds alone, if it is given its id.
-pub(crate) fn implementation(
+pub(crate) fn implementation<'a>(
+    arena: &'a Arena,
     out: &mut String,
-    record: &Record<'_>,
-    ids: Ids<'_>,
-    kinds: &[Built<'_, '_>],
+    record: &Record<'a>,
+    ids: Ids<'a>,
+    kinds: &[Built<'a>],
 ) -> Result<(), AllocError> {
     let name = record.name.text;
-    let alloc = *out.allocator();
     let is_given = matches!(ids.source, IdSource::Context(_));
     let held = Held::Parts;
     if is_given {
-        parts_alias(out, name, "Kinds", &tree(alloc, kinds, held)?)?;
+        parts_alias(arena, out, name, "Kinds", tree(arena, kinds, held)?)?;
     } else {
-        parts_alias(out, name, "Parts", &parts_kind(alloc, ids, kinds, held)?)?;
+        let kind = parts_kind(arena, ids, kinds, held)?;
+        parts_alias(arena, out, name, "Parts", kind)?;
     }
-    there_and_back(out, name, kinds, is_given)?;
+    there_and_back(arena, out, name, kinds, is_given)?;
     if kinds.iter().any(|kind| kind.is_lent) {
-        return lent(out, name, ids, kinds);
+        return lent(arena, out, name, ids, kinds);
     }
-    writeln!(out, "\nimpl ToParts for {name} {{")?;
-    out.push_str("    fn parts(&self) -> Self::Parts {\n        match self {")?;
+    let mut arms = String::new(arena.alloc());
     for (i, kind) in kinds.iter().enumerate() {
-        parts(out, name, kind, (i, kinds.len()), is_given)?;
+        parts(arena, &mut arms, name, kind, (i, kinds.len()), is_given)?;
     }
-    out.push_str("\n        }\n    }\n}\n")?;
+    fill(out, TO_PARTS, &[("name", name), ("arms", arms.as_str())])?;
     if is_given {
         return Ok(());
     }
     traits(out, name, "write_record(self, writer, ctx)")
 }
 
+const IDS: &str = "
+// The ids of $name$, in their order.
+$ids$;
+";
+
 // Appends the traits of an enum whose kinds are written where they are, and the type of their ids.
-fn lent(
+fn lent<'a>(
+    arena: &'a Arena,
     out: &mut String,
     name: &str,
-    ids: Ids<'_>,
-    kinds: &[Built<'_, '_>],
+    ids: Ids<'a>,
+    kinds: &[Built<'a>],
 ) -> Result<(), AllocError> {
-    let alloc = *out.allocator();
-    write!(
-        out,
-        "\n// The ids of {name}, in their order.\ntype {name}Ids = "
-    )?;
-    parts_kind(alloc, ids, kinds, Held::Nothing)?.print(out, 0, 1, false)?;
-    out.push_str(";\n")?;
-    let mut body = String::from_str(alloc, "match self {")?;
+    let mut text = format!(in arena.alloc(); "type {name}Ids = ")?;
+    parts_kind(arena, ids, kinds, Held::Nothing)?.print(&mut text, 0, 1, false)?;
+    fill(out, IDS, &[("name", name), ("ids", text.as_str())])?;
+    let mut body = String::from_str(arena.alloc(), "match self {")?;
     for (i, kind) in kinds.iter().enumerate() {
-        written(&mut body, name, kind, (i, kinds.len()))?;
+        written(arena, &mut body, name, kind, (i, kinds.len()))?;
     }
     body.push_str("\n        }")?;
     traits(out, name, body.as_str())
 }
+
+const GOALS: &str = "\
+use Rattle.std.proofs.Common.{rules}
+use Rattle.$front$.proofs$dot$$rest$.$name$DekuWriterUnit.to_writer.Goals as goal
+";
+
+const ANSWER: &str = "
+pub returns-in-$case$ : goal.returns-in-$case$
+returns-in-$case$ g c = search (rules, c.in-$case$.is)
+";
 
 /// Appends what proves how an enum that holds memory is written: a line for each kind.
 pub(crate) fn answers(
     out: &mut String,
     path: &str,
     name: &str,
-    kinds: &[Built<'_, '_>],
+    kinds: &[Built<'_>],
 ) -> Result<(), AllocError> {
     let (front, rest) = path.split_once('.').unwrap_or((path, ""));
     let dot = if rest.is_empty() { "" } else { "." };
-    out.push_str("use Rattle.std.proofs.Common.{rules}\n")?;
-    write!(
-        out,
-        "use Rattle.{front}.proofs{dot}{rest}.{name}DekuWriterUnit"
-    )?;
-    out.push_str(".to_writer.Goals as goal\n")?;
+    let words = [
+        ("front", front),
+        ("dot", dot),
+        ("rest", rest),
+        ("name", name),
+    ];
+    fill(out, GOALS, &words)?;
     for kind in kinds {
         let of = kind.case;
-        let case = of.name.text;
-        writeln!(out, "\npub returns-in-{case} : goal.returns-in-{case}")?;
-        writeln!(
-            out,
-            "returns-in-{case} g c = search (rules, c.in-{case}.is)"
-        )?;
+        fill(out, ANSWER, &[("case", of.name.text)])?;
     }
     Ok(())
 }
 
+const WRITTEN: &str = "
+$head$ => {$parts$
+$id$;
+                write_kind(&id, $reference$, writer)
+            }";
+
 // Appends how a kind is written.
-fn written(
+fn written<'a>(
+    arena: &'a Arena,
     out: &mut String,
     name: &str,
-    kind: &Built<'_, '_>,
+    kind: &Built<'a>,
     place: (usize, usize),
 ) -> Result<(), AllocError> {
-    let alloc = *out.allocator();
-    start(out, 12)?;
-    own(alloc, name, kind, false)?.print(out, 12, 5, false)?;
-    out.push_str(" => {")?;
-    let reference = reference(&kind.part);
+    let mut head = String::from_str(arena.alloc(), "            ")?;
+    own(arena, name, kind, false)?.print(&mut head, 12, 5, false)?;
+    let reference = reference(kind.part);
+    let mut parts = String::new(arena.alloc());
     if reference == "&parts" {
-        start(out, 16)?;
-        out.push_str("let parts = ")?;
-        kind.part.texts.value.print(out, 16, 1, false)?;
-        out.push(';')?;
+        parts.push_str("\n                let parts = ")?;
+        kind.part.texts.value.print(&mut parts, 16, 1, false)?;
+        parts.push(';')?;
     }
-    start(out, 16)?;
-    write!(out, "let id: {name}Ids = ")?;
-    let nothing = Text::word(alloc, "()")?;
-    let id = stood(alloc, Form::Round, kind, &nothing, place)?;
-    let mut items = Vec::new(alloc);
-    items.push(id.after(alloc, "kind: ")?)?;
-    items.push(Text::word(alloc, "id: PhantomData")?)?;
-    Text::group(alloc, Form::Brace, "Enum {", items)?.print(out, 16, 1, true)?;
-    out.push(';')?;
-    start(out, 16)?;
-    write!(out, "write_kind(&id, {reference}, writer)")?;
-    start(out, 12)?;
-    out.push('}')
+    let words = [
+        ("head", head.as_str()),
+        ("parts", parts.as_str()),
+        ("id", local_id(arena, name, kind, place)?),
+        ("reference", reference),
+    ];
+    fill(out, WRITTEN, &words)
+}
+
+// The local for the id of a kind.
+fn local_id<'a>(
+    arena: &'a Arena,
+    name: &str,
+    kind: &Built<'a>,
+    place: (usize, usize),
+) -> Result<&'a str, AllocError> {
+    let mut line = format!(in arena.alloc(); "                let id: {name}Ids = ")?;
+    let id = stood(arena, Form::Round, kind, Text::of("()"), place)?;
+    let id = id.after(arena, "kind: ")?;
+    let items = arena.list(&[id, Text::of("id: PhantomData")])?;
+    Text::group(Form::Brace, "Enum {", items).print(&mut line, 16, 1, true)?;
+    arena.keep(line.as_str())
 }
 
 // A reference to the parts of a kind: the field itself, if it is alone and nothing is around it.
 // One of the name of the local `id` is a local of another name.
-fn reference<'p>(part: &'p Part<'_>) -> &'p str {
+fn reference<'a>(part: Part<'a>) -> &'a str {
     let field = match part.texts.value.as_word() {
         Some("()") => Some("&()"),
         Some(word) if part.is_lent => Some(word),
@@ -252,71 +282,89 @@ fn reference<'p>(part: &'p Part<'_>) -> &'p str {
     }
 }
 
+const THERE_AND_BACK: &str = "    \
+    ghost parts_of = { elim [$parts$
+    ] };
+
+    ghost record_of = { λ p. $record$ };
+
+    fn from_parts(parts: Self::Parts) -> Self {
+        match parts$held$ {$arms$
+        }
+    }
+
+    ghost there = { elim [$same$
+    ] };
+}
+";
+
 // Appends the parts of an enum, and the enum that parts make.
-fn there_and_back(
+fn there_and_back<'a>(
+    arena: &'a Arena,
     out: &mut String,
     name: &str,
-    kinds: &[Built<'_, '_>],
+    kinds: &[Built<'a>],
     is_given: bool,
 ) -> Result<(), AllocError> {
     let held = if is_given { "" } else { ".kind" };
-    out.push_str("    ghost parts_of = { elim [")?;
-    parts_of_each(out, name, kinds, is_given)?;
-    out.push_str("\n    ] };\n\n    ghost record_of = { λ p. ")?;
-    record_of(out, name, kinds, held)?;
-    out.push_str(" };\n\n    fn from_parts(parts: Self::Parts) -> Self {\n")?;
-    write!(out, "        match parts{held} {{")?;
-    from_parts_of_each(out, name, kinds)?;
-    out.push_str("\n        }\n    }\n\n")?;
-    out.push_str("    ghost there = { elim [")?;
-    same_of_each(out, name, kinds)?;
-    out.push_str("\n    ] };\n}\n")
+    let words = [
+        ("parts", parts_of_each(arena, name, kinds, is_given)?),
+        ("record", record_of(arena, name, kinds, held)?),
+        ("held", held),
+        ("arms", from_parts_of_each(arena, name, kinds)?),
+        ("same", same_of_each(arena, name, kinds)?),
+    ];
+    fill(out, THERE_AND_BACK, &words)
 }
 
-// Appends the parts of each kind.
-fn parts_of_each(
-    out: &mut String,
+// The parts of each kind.
+fn parts_of_each<'a>(
+    arena: &'a Arena,
     name: &str,
-    kinds: &[Built<'_, '_>],
+    kinds: &[Built<'a>],
     is_given: bool,
-) -> Result<(), AllocError> {
+) -> Result<&'a str, AllocError> {
+    let mut out = String::new(arena.alloc());
     for (i, kind) in kinds.iter().enumerate() {
-        start(out, 6)?;
-        parts_of(out, name, kind, (i, kinds.len()), is_given)?;
+        parts_of(arena, &mut out, name, kind, (i, kinds.len()), is_given)?;
     }
-    Ok(())
+    arena.keep(out.as_str())
 }
 
-// Appends the arm of each kind in `from_parts`.
-fn from_parts_of_each(
-    out: &mut String,
+// The arm of each kind in `from_parts`.
+fn from_parts_of_each<'a>(
+    arena: &'a Arena,
     name: &str,
-    kinds: &[Built<'_, '_>],
-) -> Result<(), AllocError> {
+    kinds: &[Built<'a>],
+) -> Result<&'a str, AllocError> {
+    let mut out = String::new(arena.alloc());
     for (i, kind) in kinds.iter().enumerate() {
-        from_parts(out, name, kind, (i, kinds.len()))?;
+        from_parts(arena, &mut out, name, kind, (i, kinds.len()))?;
     }
-    Ok(())
+    arena.keep(out.as_str())
 }
 
-// Appends that the parts of each kind make it again.
-fn same_of_each(out: &mut String, name: &str, kinds: &[Built<'_, '_>]) -> Result<(), AllocError> {
+// That the parts of each kind make it again.
+fn same_of_each<'a>(
+    arena: &'a Arena,
+    name: &str,
+    kinds: &[Built<'a>],
+) -> Result<&'a str, AllocError> {
+    let mut out = String::new(arena.alloc());
     for kind in kinds {
-        start(out, 6)?;
-        out.push_str("| ")?;
-        constructor(out, name, kind)?;
-        out.push_str(" ↦ refl")?;
+        let kind = constructor(arena, name, kind)?;
+        write!(out, "\n      | {kind} ↦ refl")?;
     }
-    Ok(())
+    arena.keep(out.as_str())
 }
 
 // The type of the id and the kinds.
-fn parts_kind(
-    alloc: Global,
-    ids: Ids<'_>,
-    kinds: &[Built<'_, '_>],
+fn parts_kind<'a>(
+    arena: &'a Arena,
+    ids: Ids<'a>,
+    kinds: &[Built<'a>],
     held: Held,
-) -> Result<Text, AllocError> {
+) -> Result<Text<'a>, AllocError> {
     let is_little = matches!(ids.layout.endian, Endian::Little | Endian::Unsaid);
     let open = match (ids.layout.order, is_little) {
         (Order::Msb, true) if ids.bits > 8 => "MsbLeEnum<",
@@ -325,62 +373,53 @@ fn parts_kind(
         (Order::Lsb, false) => "LsbBeEnum<",
     };
     let bits = ids.bits;
-    let mut items = Vec::new(alloc);
-    items.push(tree(alloc, kinds, held)?)?;
-    items.push(Text::of(format!(in alloc; "{bits}")?))?;
-    Text::group(alloc, Form::Angle, open, items)
+    let tree = tree(arena, kinds, held)?;
+    let items = arena.list(&[tree, Text::of(arena.print(format_args!("{bits}"))?)])?;
+    Ok(Text::group(Form::Angle, open, items))
 }
 
 // The type of kinds, of which each half is one.
-fn tree(alloc: Global, kinds: &[Built<'_, '_>], held: Held) -> Result<Text, AllocError> {
-    let mut texts = kind_types(alloc, kinds, held)?;
+fn tree<'a>(arena: &'a Arena, kinds: &[Built<'a>], held: Held) -> Result<Text<'a>, AllocError> {
+    let mut texts = kind_types(arena, kinds, held)?;
     // Joins neighbours until one is left.
     for _ in 0..64 {
         if texts.len() < 2 {
             break;
         }
-        texts = joined(alloc, texts)?;
+        join(arena, &mut texts)?;
     }
-    match texts.pop() {
-        Some(text) => Ok(text),
-        None => Text::word(alloc, "()"),
-    }
+    Ok(texts.pop().unwrap_or(Text::of("()")))
 }
 
 // The type of each kind.
-fn kind_types(alloc: Global, kinds: &[Built<'_, '_>], held: Held) -> Result<Vec<Text>, AllocError> {
-    let mut texts = Vec::new(alloc);
+fn kind_types<'a>(
+    arena: &'a Arena,
+    kinds: &[Built<'a>],
+    held: Held,
+) -> Result<Vec<Text<'a>>, AllocError> {
+    let mut texts = Vec::new(arena.alloc());
     for kind in kinds {
-        texts.push(kind_type(alloc, kind, held)?)?;
+        texts.push(kind_type(arena, kind, held)?)?;
     }
     Ok(texts)
 }
 
-// Neighbours as one kind each; the last one stays alone if their number is odd.
-fn joined(alloc: Global, texts: Vec<Text>) -> Result<Vec<Text>, AllocError> {
-    let mut pairs = Vec::new(alloc);
-    let mut first = None;
-    for text in texts {
-        first = match first {
-            None => Some(text),
-            Some(one) => {
-                let mut items = Vec::new(alloc);
-                items.push(one)?;
-                items.push(text)?;
-                pairs.push(Text::group(alloc, Form::Angle, "Either<", items)?)?;
-                None
-            }
-        };
+// Joins neighbours to one kind each; the last one stays alone if their number is odd.
+fn join<'a>(arena: &'a Arena, texts: &mut Vec<Text<'a>>) -> Result<(), AllocError> {
+    let all = arena.list(texts.as_slice())?;
+    texts.clear();
+    for pair in all.chunks(2) {
+        texts.push(match pair {
+            [last] => *last,
+            _ => Text::group(Form::Angle, "Either<", pair),
+        })?;
     }
-    if let Some(last) = first {
-        pairs.push(last)?;
-    }
-    Ok(pairs)
+    Ok(())
 }
 
 // Which side of each choice a kind is on, from the innermost.
-fn sides(alloc: Global, place: usize, count: usize) -> Result<Vec<bool>, AllocError> {
-    let mut sides = Vec::new(alloc);
+fn sides<'a>(arena: &'a Arena, (place, count): (usize, usize)) -> Result<&'a [bool], AllocError> {
+    let mut sides = Vec::new(arena.alloc());
     let (mut place, mut count) = (place, count);
     for _ in 0..64 {
         if count < 2 {
@@ -394,261 +433,251 @@ fn sides(alloc: Global, place: usize, count: usize) -> Result<Vec<bool>, AllocEr
         place /= 2;
         count = count / 2 + count % 2;
     }
-    Ok(sides)
+    arena.list(sides.as_slice())
 }
 
-fn kind_type(alloc: Global, kind: &Built<'_, '_>, held: Held) -> Result<Text, AllocError> {
+// A text on the side of each choice that a kind is on; these words say which side it is.
+fn on_side<'a>(
+    arena: &'a Arena,
+    form: Form,
+    (this, other): (&'static str, &'static str),
+    place: (usize, usize),
+    text: Text<'a>,
+) -> Result<Text<'a>, AllocError> {
+    // Each has the one before it in it.
+    let mut texts = Vec::new(arena.alloc());
+    for is_this in sides(arena, place)? {
+        let open = if *is_this { this } else { other };
+        let inner = texts.last().copied().unwrap_or(text);
+        texts.push(Text::one(arena, form, open, inner)?)?;
+    }
+    Ok(texts.pop().unwrap_or(text))
+}
+
+fn kind_type<'a>(arena: &'a Arena, kind: &Built<'a>, held: Held) -> Result<Text<'a>, AllocError> {
     let (open, first, last) = match kind.case.id {
         Id::Number(number) => ("Kind<", Some(number), None),
         Id::Range(low, high) => ("InRange<", Some(low), Some(high)),
         Id::Rest | Id::Pattern => ("Otherwise<", None, None),
     };
-    let mut items = Vec::new(alloc);
+    let mut items = Vec::new(arena.alloc());
     items.push(match held {
-        Held::Parts => kind.part.texts.kind.copy(alloc)?,
-        Held::Nothing => Text::word(alloc, "()")?,
+        Held::Parts => kind.part.texts.kind,
+        Held::Nothing => Text::of("()"),
     })?;
     for id in [first, last] {
         if let Some(id) = id {
-            items.push(Text::of(format!(in alloc; "{id}")?))?;
+            items.push(Text::of(arena.print(format_args!("{id}"))?))?;
         }
     }
-    Text::group(alloc, Form::Angle, open, items)
+    Ok(Text::group(Form::Angle, open, arena.list(items.as_slice())?))
 }
 
-// Appends the parts of a kind, in ghost text.
-fn parts_of(
+// Appends the parts of a kind, in ghost text, in a line of their own.
+fn parts_of<'a>(
+    arena: &'a Arena,
     out: &mut String,
     name: &str,
-    kind: &Built<'_, '_>,
-    (place, count): (usize, usize),
+    kind: &Built<'a>,
+    place: (usize, usize),
     is_given: bool,
 ) -> Result<(), AllocError> {
-    let alloc = *out.allocator();
-    out.push_str("| ")?;
-    constructor(out, name, kind)?;
-    let term = kind.part.texts.term.copy(alloc)?;
-    let mut items = Vec::new(alloc);
-    match &kind.kept {
+    let case = constructor(arena, name, kind)?;
+    write!(out, "\n      | {case} ↦ ")?;
+    let term = kind.part.texts.term;
+    let items = match kind.kept {
         Some(kept) => {
-            let kept = quoted(alloc, kept.as_str())?;
-            items.push(Text::of(kept).after(alloc, "id = ")?)?;
-            items.push(term.after(alloc, "value = ")?)?;
+            let kept = Text::of(quoted(arena, kept)?).after(arena, "id = ")?;
+            arena.list(&[kept, term.after(arena, "value = ")?])?
         }
-        None => items.push(term.after(alloc, "0 = ")?)?,
-    }
-    let mut text = Text::group(alloc, Form::GhostBrace, "record {", items)?;
-    for is_this in &sides(alloc, place, count)? {
-        let open = if *is_this {
-            "either.This ("
-        } else {
-            "either.Other ("
-        };
-        text = Text::one(alloc, Form::GhostRound, open, text)?;
-    }
-    out.push_str(" ↦ ")?;
+        None => arena.list(&[term.after(arena, "0 = ")?])?,
+    };
+    let text = Text::group(Form::GhostBrace, "record {", items);
+    let words = ("either.This (", "either.Other (");
+    let text = on_side(arena, Form::GhostRound, words, place, text)?;
     if is_given {
         return text.print(out, 6, 0, false);
     }
-    let mut items = Vec::new(alloc);
-    items.push(text.after(alloc, "kind = ")?)?;
-    items.push(Text::word(alloc, "id = record {}")?)?;
-    Text::group(alloc, Form::GhostBrace, "record {", items)?.print(out, 6, 0, false)
+    let kind = text.after(arena, "kind = ")?;
+    let items = arena.list(&[kind, Text::of("id = record {}")])?;
+    Text::group(Form::GhostBrace, "record {", items).print(out, 6, 0, false)
 }
 
-// Appends a kind with its fields as variables, in ghost text.
-fn constructor(out: &mut String, name: &str, kind: &Built<'_, '_>) -> Result<(), AllocError> {
-    let alloc = *out.allocator();
-    let kinds = snake(alloc, name)?;
+// A kind with its fields as variables, in ghost text.
+fn constructor<'a>(arena: &'a Arena, name: &str, kind: &Built<'a>) -> Result<&'a str, AllocError> {
+    let kinds = snake(arena, name)?;
     let of = kind.case;
-    let (kinds, case) = (kinds.as_str(), of.name.text);
-    write!(out, "{kinds}_kinds.{case}")?;
+    let case = of.name.text;
+    let mut out = format!(in arena.alloc(); "{kinds}_kinds.{case}")?;
     for (i, field) in of.fields.iter().enumerate() {
-        let name = field_name(alloc, field, i)?;
-        let name = quoted(alloc, name.as_str())?;
-        let name = name.as_str();
+        let name = quoted(arena, field_name(arena, field, i)?)?;
         write!(out, " {name}")?;
     }
-    Ok(())
+    arena.keep(out.as_str())
 }
 
-// Appends the enum that a value of the kinds makes, in ghost text.
-fn record_of(
-    out: &mut String,
+// The enum that a value of the kinds makes, in ghost text.
+fn record_of<'a>(
+    arena: &'a Arena,
     name: &str,
-    kinds: &[Built<'_, '_>],
+    kinds: &[Built<'a>],
     kind: &str,
-) -> Result<(), AllocError> {
-    let alloc = *out.allocator();
-    let whole = joined_text(alloc, "p", kind)?;
-    let whole = whole.as_str();
+) -> Result<&'a str, AllocError> {
+    let whole = joined(arena, "p", kind)?;
     let held = if kinds.len() == 1 { whole } else { "k" };
-    let mut texts = made_of_each(alloc, name, kinds, held)?;
+    let mut texts = made_of_each(arena, name, kinds, held)?;
     for _ in 0..64 {
         if texts.len() < 2 {
             break;
         }
-        texts = chosen(alloc, texts)?;
+        choose(arena, &mut texts)?;
     }
-    let Some(text) = texts.pop() else {
-        return Ok(());
-    };
-    let text = text.as_str();
+    let text = texts.pop().unwrap_or("");
     match text.strip_prefix("elim k [") {
         Some(rest) => {
-            write!(out, "elim {whole} [")?;
-            indented(out, rest, "    ")
+            let rest = rest.replace(arena.alloc(), "\n", "\n    ")?;
+            let rest = rest.as_str();
+            arena.print(format_args!("elim {whole} [{rest}"))
         }
-        None => out.push_str(text),
+        None => Ok(text),
     }
 }
 
 // What a value of each kind makes, in ghost text.
-fn made_of_each(
-    alloc: Global,
+fn made_of_each<'a>(
+    arena: &'a Arena,
     name: &str,
-    kinds: &[Built<'_, '_>],
-    held: &str,
-) -> Result<Vec<String>, AllocError> {
-    let mut texts = Vec::new(alloc);
+    kinds: &[Built<'a>],
+    held: &'a str,
+) -> Result<Vec<&'a str>, AllocError> {
+    let mut texts = Vec::new(arena.alloc());
     for kind in kinds {
-        texts.push(made_of(alloc, name, kind, held)?)?;
+        texts.push(made_of(arena, name, kind, held)?)?;
     }
     Ok(texts)
 }
 
-// Appends a text whose lines after the first begin further in.
-fn indented(out: &mut String, text: &str, indent: &str) -> Result<(), AllocError> {
-    for (i, line) in text.split('\n').enumerate() {
-        if i > 0 {
-            out.push('\n')?;
-            out.push_str(indent)?;
+// Makes one choice of two neighbours each; the last one stays alone if their number is odd.
+fn choose<'a>(arena: &'a Arena, texts: &mut Vec<&'a str>) -> Result<(), AllocError> {
+    let all = arena.list(texts.as_slice())?;
+    texts.clear();
+    for pair in all.chunks(2) {
+        match pair {
+            [one, other] => texts.push(choice(arena, one, other)?)?,
+            _ => texts.extend_from_slice(pair)?,
         }
-        out.push_str(line)?;
     }
     Ok(())
 }
 
-// Neighbours as one choice each; the last one stays alone if their number is odd.
-fn chosen(alloc: Global, texts: Vec<String>) -> Result<Vec<String>, AllocError> {
-    let mut pairs = Vec::new(alloc);
-    let mut first = None;
-    for text in texts {
-        first = match first {
-            None => Some(text),
-            Some(one) => {
-                pairs.push(choice(alloc, one.as_str(), text.as_str())?)?;
-                None
-            }
-        };
-    }
-    if let Some(last) = first {
-        pairs.push(last)?;
-    }
-    Ok(pairs)
-}
+const CHOICE: &str = "\
+elim k [
+  | either.This k ↦ $one$
+  | either.Other k ↦ $other$
+]";
 
-fn choice(alloc: Global, one: &str, other: &str) -> Result<String, AllocError> {
-    let mut out = String::from_str(alloc, "elim k [\n  | either.This k ↦ ")?;
-    indented(&mut out, one, "  ")?;
-    out.push_str("\n  | either.Other k ↦ ")?;
-    indented(&mut out, other, "  ")?;
-    out.push_str("\n]")?;
-    Ok(out)
+// One choice of two kinds, whose further lines begin further in.
+fn choice<'a>(arena: &'a Arena, one: &str, other: &str) -> Result<&'a str, AllocError> {
+    let one = one.replace(arena.alloc(), "\n", "\n  ")?;
+    let other = other.replace(arena.alloc(), "\n", "\n  ")?;
+    let mut out = String::new(arena.alloc());
+    let words = [("one", one.as_str()), ("other", other.as_str())];
+    fill(&mut out, CHOICE, &words)?;
+    arena.keep(out.as_str())
 }
 
 // A kind made of a value, in ghost text.
-fn made_of(
-    alloc: Global,
+fn made_of<'a>(
+    arena: &'a Arena,
     name: &str,
-    kind: &Built<'_, '_>,
-    held: &str,
-) -> Result<String, AllocError> {
-    let kinds = snake(alloc, name)?;
+    kind: &Built<'a>,
+    held: &'a str,
+) -> Result<&'a str, AllocError> {
+    let kinds = snake(arena, name)?;
     let of = kind.case;
-    let (kinds, case) = (kinds.as_str(), of.name.text);
-    let mut out = format!(in alloc; "{kinds}_kinds.{case}")?;
+    let case = of.name.text;
+    let mut out = format!(in arena.alloc(); "{kinds}_kinds.{case}")?;
     for (i, field) in of.fields.iter().enumerate() {
-        let name = field_name(alloc, field, i)?;
-        let parts = match (&kind.kept, i) {
-            (Some(_), 0) => format!(in alloc; "{held}.id")?,
-            (Some(_), _) => format!(in alloc; "{held}.value")?,
-            (None, _) => format!(in alloc; "{held}.0")?,
+        let name = field_name(arena, field, i)?;
+        let end = match (kind.kept, i) {
+            (Some(_), 0) => ".id",
+            (Some(_), _) => ".value",
+            (None, _) => ".0",
         };
-        let term = term_of(alloc, &kind.part, name.as_str(), parts.as_str())?;
-        let term = term.as_str();
+        let term = term_of(arena, kind.part, name, joined(arena, held, end)?)?;
         if term.contains(' ') {
             write!(out, " ({term})")?;
         } else {
             write!(out, " {term}")?;
         }
     }
-    Ok(out)
+    arena.keep(out.as_str())
 }
 
 // A kind of the enum with its fields as locals, or made of the parts.
-fn own(alloc: Global, name: &str, kind: &Built<'_, '_>, is_made: bool) -> Result<Text, AllocError> {
-    let mut items = Vec::new(alloc);
+fn own<'a>(
+    arena: &'a Arena,
+    name: &str,
+    kind: &Built<'a>,
+    is_made: bool,
+) -> Result<Text<'a>, AllocError> {
+    let mut items = Vec::new(arena.alloc());
     let of = kind.case;
     for (i, field) in of.fields.iter().enumerate() {
-        let name = field_name(alloc, field, i)?;
-        if is_made {
-            let parts = match (&kind.kept, i) {
+        let name = field_name(arena, field, i)?;
+        items.push(Text::of(if is_made {
+            let parts = match (kind.kept, i) {
                 (Some(_), _) if kind.part.is_lent => None,
                 (Some(_), 0) => Some("kept.id"),
                 (Some(_), _) => Some("kept.value"),
                 (None, _) => None,
             };
-            let value = value_of(alloc, &kind.part, name.as_str(), parts)?;
-            items.push(Text::of(item(alloc, of.shape, name, value)?))?;
+            let value = value_of(arena, kind.part, name, parts)?;
+            item(arena, of.shape, name, value)?
         } else {
-            items.push(Text::of(name))?;
-        }
+            name
+        }))?;
     }
+    let items = arena.list(items.as_slice())?;
     let case = of.name.text;
-    let path = format!(in alloc; "{name}::{case}")?;
-    of_shape(alloc, path.as_str(), of.shape, Form::Brace, items)
+    let path = arena.print(format_args!("{name}::{case}"))?;
+    of_shape(arena, path, of.shape, Form::Brace, items)
 }
 
 // The value of the kinds that a kind of the enum stands for, of what its fields are.
-fn stood(
-    alloc: Global,
+fn stood<'a>(
+    arena: &'a Arena,
     form: Form,
-    kind: &Built<'_, '_>,
-    value: &Text,
-    (place, count): (usize, usize),
-) -> Result<Text, AllocError> {
-    let value = value.copy(alloc)?;
-    let mut text = match (&kind.kept, form) {
-        (None, _) => Text::one(alloc, form, "Kind(", value)?,
+    kind: &Built<'a>,
+    value: Text<'a>,
+    place: (usize, usize),
+) -> Result<Text<'a>, AllocError> {
+    let text = match (kind.kept, form) {
+        (None, _) => Text::one(arena, form, "Kind(", value)?,
         (Some(kept), Form::Pattern) if kind.part.is_lent => {
-            let mut items = Vec::new(alloc);
-            items.push(Text::of(field(alloc, "id", kept.as_str())?))?;
-            items.push(value.after(alloc, "value: ")?)?;
-            Text::group(alloc, Form::Brace, "InRange {", items)?
+            in_range(arena, field(arena, "id", kept)?, value)?
         }
-        (Some(_), Form::Pattern) => Text::word(alloc, "kept")?,
-        (Some(kept), _) => {
-            let kept = kept.as_str();
-            let mut items = Vec::new(alloc);
-            items.push(Text::of(format!(in alloc; "id: *{kept}")?))?;
-            items.push(value.after(alloc, "value: ")?)?;
-            Text::group(alloc, Form::Brace, "InRange {", items)?
-        }
+        (Some(_), Form::Pattern) => Text::of("kept"),
+        (Some(kept), _) => in_range(arena, joined(arena, "id: *", kept)?, value)?,
     };
-    for is_this in &sides(alloc, place, count)? {
-        let open = if *is_this {
-            "Either::This("
-        } else {
-            "Either::Other("
-        };
-        text = Text::one(alloc, form, open, text)?;
-    }
-    Ok(text)
+    on_side(
+        arena,
+        form,
+        ("Either::This(", "Either::Other("),
+        place,
+        text,
+    )
+}
+
+// The value of a kind of several ids, which keeps its id.
+fn in_range<'a>(arena: &'a Arena, id: &'a str, value: Text<'a>) -> Result<Text<'a>, AllocError> {
+    let value = value.after(arena, "value: ")?;
+    let items = arena.list(&[Text::of(id), value])?;
+    Ok(Text::group(Form::Brace, "InRange {", items))
 }
 
 // Appends a case of a match.
-fn arm(out: &mut String, pattern: &Text, body: &Text) -> Result<(), AllocError> {
+fn arm(out: &mut String, pattern: Text<'_>, body: Text<'_>) -> Result<(), AllocError> {
     start(out, 12)?;
     pattern.print(out, 12, 3, false)?;
     out.push_str(" =>")?;
@@ -662,37 +691,37 @@ fn arm(out: &mut String, pattern: &Text, body: &Text) -> Result<(), AllocError> 
         body.print(out, 12, 1, false)?;
         return out.push(',');
     }
-    out.push('{')?;
-    start(out, 16)?;
+    out.push_str("{\n                ")?;
     body.print(out, 16, 0, false)?;
-    start(out, 12)?;
-    out.push('}')
+    out.push_str("\n            }")
 }
 
 // Appends how parts make a kind.
-fn from_parts(
+fn from_parts<'a>(
+    arena: &'a Arena,
     out: &mut String,
     name: &str,
-    kind: &Built<'_, '_>,
+    kind: &Built<'a>,
     place: (usize, usize),
 ) -> Result<(), AllocError> {
-    let alloc = *out.allocator();
-    let pattern = stood(alloc, Form::Pattern, kind, &kind.part.texts.pattern, place)?;
-    arm(out, &pattern, &own(alloc, name, kind, true)?)
+    let pattern = stood(arena, Form::Pattern, kind, kind.part.texts.pattern, place)?;
+    arm(out, pattern, own(arena, name, kind, true)?)
 }
 
 // Appends the parts of a kind.
-fn parts(
+fn parts<'a>(
+    arena: &'a Arena,
     out: &mut String,
     name: &str,
-    kind: &Built<'_, '_>,
+    kind: &Built<'a>,
     place: (usize, usize),
     is_given: bool,
 ) -> Result<(), AllocError> {
-    let alloc = *out.allocator();
-    let mut body = stood(alloc, Form::Round, kind, &kind.part.texts.value, place)?;
-    if !is_given {
-        body = Text::one(alloc, Form::Round, "Enum::new(", body)?;
-    }
-    arm(out, &own(alloc, name, kind, false)?, &body)
+    let value = stood(arena, Form::Round, kind, kind.part.texts.value, place)?;
+    let body = if is_given {
+        value
+    } else {
+        Text::one(arena, Form::Round, "Enum::new(", value)?
+    };
+    arm(out, own(arena, name, kind, false)?, body)
 }

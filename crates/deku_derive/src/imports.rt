@@ -1,8 +1,10 @@
 //! What a module imports: the names that its text has.
 
 use deku_attributes::model::{Form, Module};
+use deku_texts::template::fill;
 use deku_texts::words::{MADE, snake};
-use std::alloc::{AllocError, Global};
+use deku_tokens::arena::Arena;
+use std::alloc::AllocError;
 use std::fmt::Write as _;
 
 // The names of deku_symmetry, in the order in which `rt fmt` has them.
@@ -120,50 +122,75 @@ const WORDS: [(&str, &str); 24] = [
     ("refl", "refl"),
 ];
 
+const IMPORTS: &str = "
+ghost use Rattle.std.specs.Prelude.{$words$};
+ghost use Rattle.deku.specs.Composing.{Then};
+ghost use Rattle.deku.specs.Shapes.{Shows};
+$refusals$$endians$$orders$$made$$kinds$
+";
+
+// The words for the refusals of an update.
+const REFUSALS: &str = "\
+ghost use Rattle.deku.specs.declared.error.DekuError.{DekuError as Refusal};
+ghost use Rattle.deku.specs.declared.error.DekuError.TheVariants.{Parse};
+ghost use Rattle.deku.specs.Faults.{Tells};
+";
+
+// The words for contexts with an order.
+const ORDERS: &str = "\
+ghost use Rattle.deku.specs.declared.ctx.Order.TheVariants.{Lsb0};
+";
+
 /// Appends what a module imports that goes on with this text.
 pub(crate) fn imports(
+    arena: &Arena,
     out: &mut String,
     module: &Module<'_>,
     path: Option<&str>,
     text: &str,
 ) -> Result<(), AllocError> {
-    let alloc = *out.allocator();
-    let (term, code) = parted(alloc, text)?;
-    let words = words_of(alloc, term.as_str())?;
-    let words = words.as_str();
-    writeln!(
-        out,
-        "
-ghost use Rattle.std.specs.Prelude.{{{words}}};
-ghost use Rattle.deku.specs.Composing.{{Then}};
-ghost use Rattle.deku.specs.Shapes.{{Shows}};"
-    )?;
-    refusals(out, term.as_str())?;
-    contexts(out, term.as_str())?;
-    made(out, term.as_str())?;
-    kinds(out, module, path)?;
-    out.push('\n')?;
+    let (term, code) = parted(arena, text)?;
+    let words = [
+        ("words", words_of(arena, term)?),
+        ("refusals", if_has(term, "Tells Parse", REFUSALS)),
+        ("endians", endians(arena, term)?),
+        ("orders", if_has(term, ", Lsb0) }", ORDERS)),
+        ("made", made(arena, term)?),
+        ("kinds", kinds(arena, module, path)?),
+    ];
+    fill(out, IMPORTS, &words)?;
     own_uses(out, module)?;
     for (from, names) in USED {
-        used(out, from, names, code.as_str())?;
+        used(arena, out, from, names, code)?;
     }
     Ok(())
 }
 
+// Imports, if this is in a text.
+fn if_has(text: &str, found: &str, imports: &'static str) -> &'static str {
+    if text.contains(found) { imports } else { "" }
+}
+
 // The words of the standard library that ghost text has.
-fn words_of(alloc: Global, text: &str) -> Result<String, AllocError> {
-    let mut words = Vec::new(alloc);
+fn words_of<'a>(arena: &'a Arena, text: &str) -> Result<&'a str, AllocError> {
+    let mut words = Vec::new(arena.alloc());
     for (word, found) in &WORDS {
         if text.contains(*found) {
             words.push(*word)?;
         }
     }
-    words.as_slice().join(alloc, ", ")
+    listed(arena, words.as_slice())
+}
+
+// Words with commas between them.
+fn listed<'a>(arena: &'a Arena, words: &[&str]) -> Result<&'a str, AllocError> {
+    let list = words.join(arena.alloc(), ", ")?;
+    arena.keep(list.as_str())
 }
 
 // Appends what a description uses of its own crate.
 fn own_uses(out: &mut String, module: &Module<'_>) -> Result<(), AllocError> {
-    for path in &module.uses {
+    for path in module.uses {
         if path.starts_with("super::") || path.starts_with("crate::") {
             writeln!(out, "use {path};")?;
         }
@@ -171,111 +198,112 @@ fn own_uses(out: &mut String, module: &Module<'_>) -> Result<(), AllocError> {
     Ok(())
 }
 
-// Appends the words for the refusals of an update, if ghost text has one.
-fn refusals(out: &mut String, text: &str) -> Result<(), AllocError> {
-    if !text.contains("Tells Parse") {
-        return Ok(());
-    }
-    out.push_str(
-        "\
-ghost use Rattle.deku.specs.declared.error.DekuError.{DekuError as Refusal};
-ghost use Rattle.deku.specs.declared.error.DekuError.TheVariants.{Parse};
-ghost use Rattle.deku.specs.Faults.{Tells};
-",
-    )
-}
-
-// Appends the words for contexts that ghost text has.
-fn contexts(out: &mut String, text: &str) -> Result<(), AllocError> {
-    let mut endians = Vec::new(*out.allocator());
+// The import of the endians of contexts that ghost text has.
+fn endians<'a>(arena: &'a Arena, text: &str) -> Result<&'a str, AllocError> {
+    let mut endians = Vec::new(arena.alloc());
     for (word, found) in [("Big", "λ p. (Big, "), ("Little", "λ p. (Little, ")] {
         if text.contains(found) {
             endians.push(word)?;
         }
     }
-    if !endians.is_empty() {
-        let words = endians.as_slice().join(*out.allocator(), ", ")?;
-        let words = words.as_str();
-        out.push_str("ghost use Rattle.deku.specs.declared.ctx.Endian.TheVariants")?;
-        writeln!(out, ".{{{words}}};")?;
+    if endians.is_empty() {
+        return Ok("");
     }
-    if text.contains(", Lsb0) }") {
-        out.push_str("ghost use Rattle.deku.specs.declared.ctx.Order.TheVariants.{Lsb0};\n")?;
-    }
-    Ok(())
+    let words = listed(arena, endians.as_slice())?;
+    arena.print(format_args!(
+        "ghost use Rattle.deku.specs.declared.ctx.Endian.TheVariants.{{{words}}};\n"
+    ))
 }
 
-// Appends the words for parts of one value that ghost text has.
-fn made(out: &mut String, text: &str) -> Result<(), AllocError> {
-    let alloc = *out.allocator();
-    let mut words = Vec::new(alloc);
+// The import of the words for parts of one value that ghost text has.
+fn made<'a>(arena: &'a Arena, text: &str) -> Result<&'a str, AllocError> {
+    let mut words = Vec::new(arena.alloc());
     for (_, word) in &MADE {
         if has_word(text, word) {
             words.push(*word)?;
         }
     }
     if words.is_empty() {
-        return Ok(());
+        return Ok("");
     }
-    let words = words.as_slice().join(alloc, ", ")?;
-    let words = words.as_str();
-    writeln!(
-        out,
-        "ghost use Rattle.deku_symmetry.specs.Fields.{{{words}}};"
-    )
+    let words = listed(arena, words.as_slice())?;
+    arena.print(format_args!("ghost use Rattle.deku_symmetry.specs.Fields.{{{words}}};\n"))
 }
 
-// Appends the kinds of enums that ghost text names.
-fn kinds(out: &mut String, module: &Module<'_>, path: Option<&str>) -> Result<(), AllocError> {
-    let mut is_first = true;
-    for record in &module.records {
-        if let (Form::Enum(_, _), Some(path)) = (&record.form, path) {
+const EITHER: &str = "\
+ghost use Rattle.deku_pieces.specs.declared.either.Either.TheVariants as either;
+";
+
+const KINDS: &str = "\
+$either$\
+ghost use Rattle.$front$.specs.declared$dot$$rest$.$name$.TheVariants as $kinds$_kinds;
+";
+
+// The imports of the kinds of enums that ghost text names.
+fn kinds<'a>(
+    arena: &'a Arena,
+    module: &Module<'_>,
+    path: Option<&str>,
+) -> Result<&'a str, AllocError> {
+    let Some(path) = path else {
+        return Ok("");
+    };
+    let (front, rest) = path.split_once('.').unwrap_or((path, ""));
+    let dot = if rest.is_empty() { "" } else { "." };
+    let mut lines = String::new(arena.alloc());
+    for record in module.records {
+        if let Form::Enum(_, _) = &record.form {
             let name = record.name.text;
-            let kinds = snake(*out.allocator(), name)?;
-            let kinds = kinds.as_str();
-            if is_first {
-                out.push_str("ghost use Rattle.deku_pieces.specs.declared.")?;
-                out.push_str("either.Either.TheVariants as either;\n")?;
-                is_first = false;
-            }
-            let (front, rest) = path.split_once('.').unwrap_or((path, ""));
-            let dot = if rest.is_empty() { "" } else { "." };
-            write!(out, "ghost use Rattle.{front}.specs.declared{dot}{rest}")?;
-            writeln!(out, ".{name}.TheVariants as {kinds}_kinds;")?;
+            let words = [
+                ("either", if lines.is_empty() { EITHER } else { "" }),
+                ("front", front),
+                ("dot", dot),
+                ("rest", rest),
+                ("name", name),
+                ("kinds", snake(arena, name)?),
+            ];
+            fill(&mut lines, KINDS, &words)?;
         }
     }
-    Ok(())
+    arena.keep(lines.as_str())
 }
 
+const LINE: &str = "$line$\n";
+
 // The lines of ghost text, and those of code.
-fn parted(alloc: Global, text: &str) -> Result<(String, String), AllocError> {
-    let mut term = String::new(alloc);
-    let mut code = String::new(alloc);
+fn parted<'a>(arena: &'a Arena, text: &str) -> Result<(&'a str, &'a str), AllocError> {
+    let mut term = String::new(arena.alloc());
+    let mut code = String::new(arena.alloc());
     // How many braces of ghost text are open.
     let mut open = 0usize;
     for line in text.lines() {
         let trimmed = line.trim_start();
         if open > 0 || trimmed.starts_with("ghost ") {
-            term.push_str(line)?;
-            term.push('\n')?;
+            fill(&mut term, LINE, &[("line", line)])?;
             open = open.saturating_add(line.matches('{').count());
             open = open.saturating_sub(line.matches('}').count());
         } else if !trimmed.starts_with("//") {
-            code.push_str(line)?;
-            code.push('\n')?;
+            fill(&mut code, LINE, &[("line", line)])?;
         }
     }
-    Ok((term, code))
+    Ok((arena.keep(term.as_str())?, arena.keep(code.as_str())?))
 }
+
+const USE: &str = "\
+use $from$::{
+$names$
+};
+";
 
 // Appends the import of those of these names that a text has.
 fn used(
+    arena: &Arena,
     out: &mut String,
     from: &str,
     names: &[&'static str],
     text: &str,
 ) -> Result<(), AllocError> {
-    let mut found = Vec::new(*out.allocator());
+    let mut found = Vec::new(arena.alloc());
     for name in names {
         if has_word(text, name) {
             found.push(*name)?;
@@ -285,38 +313,36 @@ fn used(
         [] => Ok(()),
         [name] => writeln!(out, "use {from}::{name};"),
         names => {
-            let line = names.join(*out.allocator(), ", ")?;
+            let line = listed(arena, names)?;
             let columns = line.len().saturating_add(from.len()).saturating_add(9);
             if columns < 99 {
-                let line = line.as_str();
                 return writeln!(out, "use {from}::{{{line}}};");
             }
-            writeln!(out, "use {from}::{{")?;
-            filled(out, names)?;
-            out.push_str("};\n")
+            let words = [("from", from), ("names", filled(arena, names)?)];
+            fill(out, USE, &words)
         }
     }
 }
 
-// Appends names on as few lines as hold them.
-fn filled(out: &mut String, names: &[&str]) -> Result<(), AllocError> {
+const NAME: &str = "$space$$name$,";
+
+// Names on as few lines as hold them.
+fn filled<'a>(arena: &'a Arena, names: &[&str]) -> Result<&'a str, AllocError> {
+    let mut lines = String::new(arena.alloc());
     let mut column = 0usize;
     for name in names {
         let next = column.saturating_add(name.len()).saturating_add(2);
-        if column == 0 {
-            out.push_str("    ")?;
-            column = name.len().saturating_add(5);
+        let (space, end) = if column == 0 {
+            ("    ", name.len().saturating_add(5))
         } else if next > 100 {
-            out.push_str("\n    ")?;
-            column = name.len().saturating_add(5);
+            ("\n    ", name.len().saturating_add(5))
         } else {
-            out.push(' ')?;
-            column = next;
-        }
-        out.push_str(name)?;
-        out.push(',')?;
+            (" ", next)
+        };
+        column = end;
+        fill(&mut lines, NAME, &[("space", space), ("name", *name)])?;
     }
-    out.push('\n')
+    arena.keep(lines.as_str())
 }
 
 // Whether a text has a name as a whole word.

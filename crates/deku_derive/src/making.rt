@@ -3,6 +3,7 @@
 use crate::printing::{Asked, Printed, print};
 use deku_attributes::check;
 use deku_description::parse;
+use deku_tokens::arena::Arena;
 use deku_tokens::place::{Complaint, told};
 use std::alloc::{AllocError, Global};
 
@@ -33,7 +34,8 @@ pub fn make<'t>(
     path: Option<&'t str>,
     text: &str,
 ) -> Result<Made, AllocError> {
-    run(alloc, file, path, text, false)
+    let arena = Arena::new(alloc);
+    run(&arena, file, path, text, false)
 }
 
 /// What proves how the enum of a description that holds memory is written: the text of its file
@@ -52,19 +54,20 @@ pub fn make_answers<'t>(
     path: Option<&'t str>,
     text: &str,
 ) -> Result<Made, AllocError> {
-    run(alloc, file, path, text, true)
+    let arena = Arena::new(alloc);
+    run(&arena, file, path, text, true)
 }
 
 // The module of a description, or its proof.
-fn run<'t>(
-    alloc: Global,
-    file: &'t str,
-    path: Option<&'t str>,
-    text: &str,
+fn run<'a>(
+    arena: &'a Arena,
+    file: &'a str,
+    path: Option<&'a str>,
+    text: &'a str,
     is_proof: bool,
 ) -> Result<Made, AllocError> {
-    let (parsed, mut complaints) = parse(alloc, text)?;
-    let (module, found) = check(alloc, text, parsed, complaints.is_empty())?;
+    let (parsed, mut complaints) = parse(arena, text)?;
+    let (module, found) = check(arena, text, parsed, complaints.is_empty())?;
     add(&mut complaints, found)?;
     let asked = Asked {
         file,
@@ -75,18 +78,22 @@ fn run<'t>(
         module: printed,
         answers,
         complaints: found,
-    } = print(alloc, asked, &module)?;
+    } = print(arena, asked, &module)?;
     add(&mut complaints, found)?;
     if complaints.is_empty() {
         return Ok(Made::Module(if is_proof { answers } else { printed }));
     }
     complaints.sort_by_key(|complaint| complaint.span.start)?;
-    Ok(Made::Wrong(told(alloc, file, text, complaints.as_slice())?))
+    let told = told(arena.alloc(), file, text, complaints.as_slice())?;
+    Ok(Made::Wrong(told))
 }
 
 /// Adds complaints, except those of places that were complained of before. It fails if there is no
 /// memory; those that were added before stay.
-pub fn add(complaints: &mut Vec<Complaint>, found: Vec<Complaint>) -> Result<(), AllocError> {
+pub fn add<'a>(
+    complaints: &mut Vec<Complaint<'a>>,
+    found: Vec<Complaint<'a>>,
+) -> Result<(), AllocError> {
     let before = complaints.len();
     for complaint in found {
         let start = complaint.span.start;

@@ -10,18 +10,20 @@ use deku_dependents::building::{Builder, field_name};
 use deku_description::syntax::{Constant, Shape, Type};
 use deku_markers::marker::zeros;
 use deku_markers::part::{Owner, Place};
+use deku_texts::document::joined;
 use deku_texts::records::Records;
-use deku_texts::refusal::Stop;
+use deku_texts::template::fill;
 use deku_texts::words;
+use deku_tokens::arena::Arena;
 use deku_tokens::place::Complaint;
 use deku_tokens::token::Token;
-use std::alloc::{AllocError, Global};
+use std::alloc::AllocError;
 use std::fmt::Write as _;
 
 /// A module while it is printed.
 #[derive(Drop)]
 struct Printer<'b, 'a> {
-    alloc: Global,
+    arena: &'a Arena,
     records: &'b Records<'b, 'a>,
     constants: &'b [Constant<'a>],
     out: String,
@@ -29,10 +31,10 @@ struct Printer<'b, 'a> {
     answers: String,
     lent: &'a str,
     // The names of its types.
-    names: Vec<String>,
-    complaints: Vec<Complaint>,
+    names: Vec<&'a str>,
+    complaints: Vec<Complaint<'a>>,
     // The structs in front, and where their fields are in their parts.
-    structs: Vec<(&'a str, Vec<Place<'a>>)>,
+    structs: Vec<(&'a str, &'a [Place<'a>])>,
     is_for_c: bool,
 }
 
@@ -49,13 +51,13 @@ pub struct Asked<'t> {
 
 /// What is printed of a description.
 #[derive(Drop)]
-pub struct Printed {
+pub struct Printed<'a> {
     /// The module.
     pub module: String,
     /// What proves how its enum that holds memory is written. It is empty if there is none.
     pub answers: String,
     /// What prevents it.
-    pub complaints: Vec<Complaint>,
+    pub complaints: Vec<Complaint<'a>>,
 }
 
 /// The module of checked records, with what prevents it.
@@ -65,23 +67,17 @@ pub struct Printed {
 /// `AllocError` if there is no memory.
 ///
 /// ```text
-/// print(alloc, asked, &module)?    // //! Printed by `derive` from ..
+/// print(&arena, asked, &module)?    // //! Printed by `derive` from ..
 /// ```
-pub fn print(alloc: Global, asked: Asked<'_>, module: &Module<'_>) -> Result<Printed, AllocError> {
-    let records = Records::new(alloc, module.records.as_slice())?;
-    let mut printer = Printer {
-        alloc,
-        records: &records,
-        constants: module.constants.as_slice(),
-        out: String::new(alloc),
-        answers: String::new(alloc),
-        lent: "",
-        names: Vec::new(alloc),
-        complaints: Vec::new(alloc),
-        structs: Vec::new(alloc),
-        is_for_c: asked.exports.is_some(),
-    };
-    for record in &module.records {
+pub fn print<'a>(
+    arena: &'a Arena,
+    asked: Asked<'_>,
+    module: &Module<'a>,
+) -> Result<Printed<'a>, AllocError> {
+    let records = Records::new(arena.alloc(), module.records)?;
+    let mut printer = Printer::new(arena, &records, module.constants);
+    printer.is_for_c = asked.exports.is_some();
+    for record in module.records {
         printer.record(record, asked.path)?;
     }
     let Printer {
@@ -92,19 +88,24 @@ pub fn print(alloc: Global, asked: Asked<'_>, module: &Module<'_>) -> Result<Pri
         ..
     } = printer;
     out.push_str(asked.exports.unwrap_or(""))?;
-    let mut text = String::new(alloc);
-    docs(&mut text, module.docs.as_slice(), "//!")?;
+    let mut text = String::new(arena.alloc());
+    docs(&mut text, module.docs, "//!")?;
     if !module.docs.is_empty() {
         text.push_str("//!\n")?;
     }
     origin(&mut text, asked, lent)?;
-    items(&mut text, asked.path, module, out.as_str())?;
+    items(arena, &mut text, asked.path, module, out.as_str())?;
     Ok(Printed {
         module: text,
         answers,
         complaints,
     })
 }
+
+const ANSWERS: &str = "\
+//! What `derive --answers` prints is in
+//! `proofs/$module$$slash$$name$DekuWriterUnit/to_writer/Answers.antt`.
+";
 
 // Appends where a module comes from, and where the proof is of its enum that holds memory.
 fn origin(text: &mut String, asked: Asked<'_>, lent: &str) -> Result<(), AllocError> {
@@ -119,20 +120,20 @@ fn origin(text: &mut String, asked: Asked<'_>, lent: &str) -> Result<(), AllocEr
     let module = module.replace(*text.allocator(), ".", "/")?;
     let module = module.as_str();
     let slash = if module.is_empty() { "" } else { "/" };
-    text.push_str("//! What `derive --answers` prints is in\n")?;
-    write!(text, "//! `proofs/{module}{slash}{lent}DekuWriterUnit")?;
-    text.push_str("/to_writer/Answers.antt`.\n")
+    let words = [("module", module), ("slash", slash), ("name", lent)];
+    fill(text, ANSWERS, &words)
 }
 
 // Appends the imports and the items of a module, of which these are the records.
 fn items(
+    arena: &Arena,
     text: &mut String,
     path: Option<&str>,
     module: &Module<'_>,
     records: &str,
 ) -> Result<(), AllocError> {
-    let mut body = String::new(*text.allocator());
-    constants(&mut body, module.constants.as_slice())?;
+    let mut body = String::new(arena.alloc());
+    constants(&mut body, module.constants)?;
     if records.contains(", Zeros>") {
         zeros(&mut body, "Msb")?;
     }
@@ -140,7 +141,7 @@ fn items(
         zeros(&mut body, "Lsb")?;
     }
     body.push_str(records)?;
-    imports(text, module, path, body.as_str())?;
+    imports(arena, text, module, path, body.as_str())?;
     text.push_str(body.as_str())
 }
 
@@ -155,10 +156,39 @@ fn constants(out: &mut String, constants: &[Constant<'_>]) -> Result<(), AllocEr
 }
 
 impl<'b, 'a> Printer<'b, 'a> {
+    // Of these records and constants, with nothing printed.
+    fn new(
+        arena: &'a Arena,
+        records: &'b Records<'b, 'a>,
+        constants: &'b [Constant<'a>],
+    ) -> Printer<'b, 'a> {
+        let alloc = arena.alloc();
+        Printer {
+            arena,
+            records,
+            constants,
+            out: String::new(alloc),
+            answers: String::new(alloc),
+            lent: "",
+            names: Vec::new(alloc),
+            complaints: Vec::new(alloc),
+            structs: Vec::new(alloc),
+            is_for_c: false,
+        }
+    }
+
     // Notes what is wrong.
-    fn complain(&mut self, name: Token<'a>, message: &str, help: &str) -> Result<(), AllocError> {
-        let complaint = Complaint::new(self.alloc, name.span, message, help)?;
-        self.complaints.push(complaint)?;
+    fn complain(
+        &mut self,
+        name: Token<'a>,
+        message: &'a str,
+        help: &'a str,
+    ) -> Result<(), AllocError> {
+        self.complaints.push(Complaint {
+            span: name.span,
+            message,
+            help,
+        })?;
         Ok(())
     }
 
@@ -174,21 +204,22 @@ impl<'b, 'a> Printer<'b, 'a> {
         } else {
             Owner::Lent
         };
-        let mut builder = Builder::new(self.alloc, self.records, self.constants, name, owner)?;
-        builder.structs = std::mem::replace(&mut self.structs, Vec::new(self.alloc));
-        if let Some(bytes) = &record.magic {
-            let named = words::marker(self.alloc, name, "", "Magic")?;
-            let what = format!(in self.alloc; "magic of {name}")?;
+        let mut builder = Builder::new(self.arena, self.records, self.constants, name, owner);
+        let alloc = self.arena.alloc();
+        builder.structs = std::mem::replace(&mut self.structs, Vec::new(alloc));
+        if let Some(bytes) = record.magic {
+            let named = words::marker(self.arena, name, "", "Magic")?;
+            let what = joined(self.arena, "magic of ", name)?;
             let order = record.layout.order;
-            let added = builder.magic(bytes, named, what.as_str(), order, record.name.span);
+            let added = builder.magic(bytes, named, what, order, record.name.span);
             builder.noted(added)?;
         }
         builder.fields(fields, 0)?;
-        self.structs = std::mem::replace(&mut builder.structs, Vec::new(self.alloc));
+        self.structs = std::mem::replace(&mut builder.structs, Vec::new(alloc));
         Ok(builder)
     }
 
-    fn record(&mut self, record: &Record<'a>, path: Option<&str>) -> Result<(), AllocError> {
+    fn record(&mut self, record: &'a Record<'a>, path: Option<&str>) -> Result<(), AllocError> {
         let word = if is_given(record) { "Kinds" } else { "Parts" };
         self.declare(record.name, word)?;
         if !record.is_whole {
@@ -218,15 +249,15 @@ impl<'b, 'a> Printer<'b, 'a> {
                 )
             }
             Form::Struct(_, _) => self.structure(record, path),
-            Form::Enum(ids, cases) => self.enumeration(record, *ids, cases.as_slice(), path),
+            Form::Enum(ids, cases) => self.enumeration(record, *ids, cases, path),
         }
     }
 
     // Notes the names of a record and of its parts, and complains of one that the module has
     // already.
     fn declare(&mut self, name: Token<'a>, word: &str) -> Result<(), AllocError> {
-        let parts = words::marker(self.alloc, name.text, "", word)?;
-        let is_taken = self.has_name(name.text) || self.has_name(parts.as_str());
+        let parts = words::marker(self.arena, name.text, "", word)?;
+        let is_taken = self.has_name(name.text) || self.has_name(parts);
         if is_taken || words::is_imported(name.text) {
             self.complain(
                 name,
@@ -234,7 +265,7 @@ impl<'b, 'a> Printer<'b, 'a> {
                 "give it another name",
             )?;
         }
-        self.names.push(String::from_str(self.alloc, name.text)?)?;
+        self.names.push(name.text)?;
         self.names.push(parts)?;
         Ok(())
     }
@@ -242,7 +273,7 @@ impl<'b, 'a> Printer<'b, 'a> {
     fn has_name(&self, name: &str) -> bool {
         self.names
             .iter()
-            .any(|taken| taken.as_str().eq_ignore_ascii_case(name))
+            .any(|taken| taken.eq_ignore_ascii_case(name))
     }
 
     // Notes what a builder made.
@@ -253,7 +284,7 @@ impl<'b, 'a> Printer<'b, 'a> {
             ..
         } = builder;
         for name in names {
-            if self.has_name(name.as_str()) {
+            if self.has_name(name) {
                 self.complain(
                     record.name,
                     "a record with a field whose type has the name of another one",
@@ -266,7 +297,7 @@ impl<'b, 'a> Printer<'b, 'a> {
     }
 
     // Notes complaints.
-    fn note(&mut self, complaints: Vec<Complaint>) -> Result<(), AllocError> {
+    fn note(&mut self, complaints: Vec<Complaint<'a>>) -> Result<(), AllocError> {
         for complaint in complaints {
             self.complaints.push(complaint)?;
         }
@@ -277,53 +308,52 @@ impl<'b, 'a> Printer<'b, 'a> {
         let Form::Struct(shape, fields) = &record.form else {
             return Ok(());
         };
-        let mut builder = self.builder(record, fields.as_slice())?;
+        let mut builder = self.builder(record, fields)?;
         structs::declaration(
+            self.arena,
             &mut self.out,
             record,
             *shape,
-            fields.as_slice(),
+            fields,
             builder.owner == Owner::Copied,
             self.is_for_c,
         )?;
         self.out.push_str(builder.markers.as_str())?;
         let whole = builder.whole()?;
         structs::implementation(
+            self.arena,
             &mut self.out,
             record,
             *shape,
-            fields.as_slice(),
+            fields,
             builder.owner,
-            &whole,
+            whole,
             path,
         )?;
         if *shape == Shape::Named {
-            let fields = whole.fields;
-            self.structs.push((record.name.text, fields.places))?;
+            self.structs.push((record.name.text, whole.fields.places))?;
         }
         self.built(record, builder)
     }
 
     fn enumeration(
         &mut self,
-        record: &Record<'a>,
+        record: &'a Record<'a>,
         ids: Ids<'a>,
-        cases: &[Case<'a>],
+        cases: &'a [Case<'a>],
         path: Option<&str>,
     ) -> Result<(), AllocError> {
         self.may_be_enum(record, ids, cases, path)?;
         let owner = self.kind_owner(record)?;
         let is_lent = owner.is_lent();
-        let mut kinds = Vec::new(self.alloc);
-        let mut markers = String::new(self.alloc);
+        let mut kinds = Vec::new(self.arena.alloc());
+        let mut markers = String::new(self.arena.alloc());
         for case in cases {
             let kept = self.kept(case, ids)?;
-            let name = case.name.text;
-            let front = words::marker(self.alloc, record.name.text, name, "")?;
-            let front = front.as_str();
-            let mut builder = Builder::new(self.alloc, self.records, self.constants, front, owner)?;
+            let front = words::marker(self.arena, record.name.text, case.name.text, "")?;
+            let mut builder = Builder::new(self.arena, self.records, self.constants, front, owner);
             let skipped = if kept.is_some() { 1 } else { 0 };
-            builder.fields(case.fields.as_slice(), skipped)?;
+            builder.fields(case.fields, skipped)?;
             let part = builder.whole()?;
             markers.push_str(builder.markers.as_str())?;
             self.built(record, builder)?;
@@ -334,12 +364,12 @@ impl<'b, 'a> Printer<'b, 'a> {
                 is_lent,
             })?;
         }
-        enums::declaration(&mut self.out, record, kinds.as_slice())?;
+        enums::declaration(self.arena, &mut self.out, record, kinds.as_slice())?;
         self.out.push_str(markers.as_str())?;
         if let (true, Some(path)) = (is_lent, path) {
             enums::answers(&mut self.answers, path, record.name.text, kinds.as_slice())?;
         }
-        enums::implementation(&mut self.out, record, ids, kinds.as_slice())
+        enums::implementation(self.arena, &mut self.out, record, ids, kinds.as_slice())
     }
 
     // What the fields of the kinds of an enum belong to. The type of the ids of kinds that hold
@@ -349,8 +379,8 @@ impl<'b, 'a> Printer<'b, 'a> {
         if is_given(record) || self.records.is_copied_record(name) {
             return Ok(Owner::Kind);
         }
-        let ids = words::marker(self.alloc, name, "", "Ids")?;
-        let refused = if self.has_name(ids.as_str()) {
+        let ids = words::marker(self.arena, name, "", "Ids")?;
+        let refused = if self.has_name(ids) {
             Some((
                 "an enum whose ids have the name of another type",
                 "give it another name",
@@ -404,7 +434,7 @@ impl<'b, 'a> Printer<'b, 'a> {
     }
 
     // The field of a kind of several ids that keeps its id.
-    fn kept(&mut self, case: &Case<'a>, ids: Ids<'a>) -> Result<Option<String>, AllocError> {
+    fn kept(&mut self, case: &Case<'a>, ids: Ids<'a>) -> Result<Option<&'a str>, AllocError> {
         if matches!(case.id, Id::Number(_) | Id::Pattern) {
             return Ok(None);
         }
@@ -415,7 +445,7 @@ impl<'b, 'a> Printer<'b, 'a> {
                 _ => false,
             };
             if is_plain && is_id {
-                return Ok(Some(field_name(self.alloc, field, 0)?));
+                return Ok(Some(field_name(self.arena, field, 0)?));
             }
         }
         let (message, help) = match ids.source {

@@ -8,10 +8,12 @@ use deku_dependents::building::field_name;
 use deku_dependents::temporary::is_temporary;
 use deku_description::syntax::Shape;
 use deku_markers::part::{Owner, Part};
-use deku_texts::document::{Form, Text};
+use deku_texts::document::{Form, Text, joined};
+use deku_texts::template::fill;
 use deku_texts::words::{quoted, snake};
 use deku_texts::wrapping::field_kind;
-use std::alloc::{AllocError, Global};
+use deku_tokens::arena::Arena;
+use std::alloc::AllocError;
 use std::fmt::Write as _;
 
 /// Appends lines of a comment.
@@ -32,7 +34,7 @@ pub(crate) fn derives(
 ) -> Result<(), AllocError> {
     let name = record.name.text;
     out.push('\n')?;
-    docs(out, record.docs.as_slice(), "///")?;
+    docs(out, record.docs, "///")?;
     if record.docs.is_empty() {
         writeln!(out, "/// The record `{name}`.")?;
     }
@@ -46,195 +48,231 @@ pub(crate) fn derives(
 }
 
 /// Appends a struct.
-pub(crate) fn declaration(
+pub(crate) fn declaration<'a>(
+    arena: &'a Arena,
     out: &mut String,
-    record: &Record<'_>,
+    record: &Record<'a>,
     shape: Shape,
-    fields: &[Field<'_>],
+    fields: &[Field<'a>],
     is_copied: bool,
     is_for_c: bool,
 ) -> Result<(), AllocError> {
     derives(out, record, is_copied, is_for_c)?;
     let name = record.name.text;
     if shape == Shape::Tuple {
-        tuple_struct(out, name, fields)
+        tuple_struct(arena, out, name, fields)
     } else {
-        named_struct(out, name, fields)
+        named_struct(arena, out, name, fields)
     }
 }
 
-fn tuple_struct(out: &mut String, name: &str, fields: &[Field<'_>]) -> Result<(), AllocError> {
-    let alloc = *out.allocator();
-    let mut kinds = Vec::new(alloc);
+fn tuple_struct<'a>(
+    arena: &'a Arena,
+    out: &mut String,
+    name: &str,
+    fields: &[Field<'a>],
+) -> Result<(), AllocError> {
+    let mut kinds = Vec::new(arena.alloc());
     for field in fields {
-        let kind = field_kind(alloc, field)?;
-        kinds.push(Text::of(kind).after(alloc, "pub ")?)?;
+        let kind = field_kind(arena, field)?;
+        kinds.push(Text::of(kind).after(arena, "pub ")?)?;
     }
-    let open = format!(in alloc; "pub struct {name}(")?;
-    Text::group(alloc, Form::Pattern, open.as_str(), kinds)?.print(out, 0, 1, false)?;
+    let kinds = arena.list(kinds.as_slice())?;
+    let open = arena.print(format_args!("pub struct {name}("))?;
+    Text::group(Form::Pattern, open, kinds).print(out, 0, 1, false)?;
     out.push_str(";\n")
 }
 
-fn named_struct(out: &mut String, name: &str, fields: &[Field<'_>]) -> Result<(), AllocError> {
-    writeln!(out, "pub struct {name} {{")?;
+const STRUCT: &str = "\
+pub struct $name$ {
+$fields$}
+";
+
+fn named_struct<'a>(
+    arena: &'a Arena,
+    out: &mut String,
+    name: &str,
+    fields: &[Field<'a>],
+) -> Result<(), AllocError> {
+    let mut lines = String::new(arena.alloc());
     for field in fields.iter().filter(|field| !is_temporary(*field)) {
-        docs(out, field.docs.as_slice(), "    ///")?;
-        declared(out, field)?;
+        docs(&mut lines, field.docs, "    ///")?;
+        declared(arena, &mut lines, field)?;
     }
-    out.push_str("}\n")
+    fill(out, STRUCT, &[("name", name), ("fields", lines.as_str())])
 }
 
-fn declared(out: &mut String, field: &Field<'_>) -> Result<(), AllocError> {
-    let alloc = *out.allocator();
-    let kind = field_kind(alloc, field)?;
-    let name = field_name(alloc, field, 0)?;
-    let (name, kind) = (name.as_str(), kind.as_str());
+fn declared<'a>(arena: &'a Arena, out: &mut String, field: &Field<'a>) -> Result<(), AllocError> {
+    let kind = field_kind(arena, field)?;
+    let name = field_name(arena, field, 0)?;
     writeln!(out, "    pub {name}: {kind},")
 }
 
+const TO_PARTS: &str = "
+impl ToParts for $name$ {
+    fn parts(&self) -> Self::Parts {
+$parts$
+    }
+}
+";
+
 /// Appends how a struct is read and written.
-pub(crate) fn implementation(
+pub(crate) fn implementation<'a>(
+    arena: &'a Arena,
     out: &mut String,
-    record: &Record<'_>,
+    record: &Record<'a>,
     shape: Shape,
-    fields: &[Field<'_>],
+    fields: &[Field<'a>],
     owner: Owner,
-    whole: &Part<'_>,
+    whole: Part<'a>,
     path: Option<&str>,
 ) -> Result<(), AllocError> {
-    let alloc = *out.allocator();
     let name = record.name.text;
-    named(out, name, whole.fields.names.as_slice())?;
-    parts_alias(out, name, "Parts", &whole.texts.kind)?;
+    named(arena, out, name, whole.fields.names)?;
+    parts_alias(arena, out, name, "Parts", whole.texts.kind)?;
     out.push_str("    ghost parts_of = { λ r. ")?;
     whole.texts.term.print(out, 4, 3, false)?;
     out.push_str(" };\n\n    ghost record_of = { λ p. ")?;
-    record_of(alloc, shape, fields, whole)?.print(out, 4, 3, false)?;
+    record_of(arena, shape, fields, whole)?.print(out, 4, 3, false)?;
     out.push_str(" };\n\n")?;
-    from_parts(out, record, shape, fields, whole)?;
-    there(out, fields, path)?;
+    from_parts(arena, out, record, shape, fields, whole)?;
+    there(arena, out, fields, path)?;
     if owner == Owner::Copied {
-        writeln!(out, "\nimpl ToParts for {name} {{")?;
-        out.push_str("    fn parts(&self) -> Self::Parts {\n        ")?;
-        whole.texts.value.print(out, 8, 0, false)?;
-        out.push_str("\n    }\n}\n")?;
+        let mut parts = String::from_str(arena.alloc(), "        ")?;
+        whole.texts.value.print(&mut parts, 8, 0, false)?;
+        fill(out, TO_PARTS, &[("name", name), ("parts", parts.as_str())])?;
         return traits(out, name, "write_record(self, writer, ctx)");
     }
-    let mut body = String::from_str(alloc, "let parts = ")?;
+    let mut body = String::from_str(arena.alloc(), "let parts = ")?;
     whole.texts.value.print(&mut body, 8, 1, false)?;
     body.push_str(";\n        parts.to_writer(writer, ctx)")?;
     traits(out, name, body.as_str())?;
-    update(out, name, fields)
+    update(arena, out, name, fields)
 }
+
+const PARTS: &str = "
+// The $parts$ of $name$, in their order.
+$alias$;
+
+impl FromParts for $name$ {
+    type Parts = $name$$word$;
+
+";
 
 /// Appends the type of a record's parts, which is called by this word, and what makes the record of
 /// them, up to its ghost text.
 pub(crate) fn parts_alias(
+    arena: &Arena,
     out: &mut String,
     name: &str,
     word: &str,
-    kind: &Text,
+    kind: Text<'_>,
 ) -> Result<(), AllocError> {
-    let parts = snake(*out.allocator(), word)?;
-    let parts = parts.as_str();
-    write!(
-        out,
-        "\n// The {parts} of {name}, in their order.\ntype {name}{word} = "
-    )?;
-    kind.print(out, 0, 1, false)?;
-    writeln!(out, ";\n\nimpl FromParts for {name} {{")?;
-    writeln!(out, "    type Parts = {name}{word};\n")
+    let mut alias = format!(in arena.alloc(); "type {name}{word} = ")?;
+    kind.print(&mut alias, 0, 1, false)?;
+    let words = [
+        ("parts", snake(arena, word)?),
+        ("name", name),
+        ("alias", alias.as_str()),
+        ("word", word),
+    ];
+    fill(out, PARTS, &words)
 }
+
+const TRAITS: &str = "
+impl DekuReader<()> for $name$ {
+    ghost no_read_ahead = { ⟦<$name$Parts as DekuReader<()>>⟧.no_read_ahead };
+
+    ghost meaning = { λ c. Then (⟦<$name$Parts as DekuReader<()>>⟧.meaning c)
+        (Shows ⟦<$name$ as FromParts>⟧.parts_of) };
+
+    #[inline(always)]
+    fn from_reader_with_ctx<R: Source>(reader: &mut Reader<R>, ctx: ()) -> Result<Self, DekuError> {
+        read_record(reader, ctx)
+    }
+}
+
+impl DekuWriter<()> for $name$ {
+    ghost meaning = { λ v. ⟦<$name$Parts as DekuWriter<()>>⟧.meaning
+        (⟦<$name$ as FromParts>⟧.parts_of v) };
+
+    #[inline(always)]
+    fn to_writer<W: Sink>(&self, writer: &mut Writer<W>, $ctx$: ()) -> Result<(), DekuError> {
+        $body$
+    }
+}
+
+impl Record<()> for $name$ {
+    ghost reads = { λ c b s r u m. m };
+
+    ghost writes = { λ c v b s r u m. m };
+}
+
+impl DekuContainerRead for $name$ {}
+
+impl DekuContainerWrite for $name$ {}
+";
 
 /// Appends the traits of deku for a record that is written by this body.
 pub(crate) fn traits(out: &mut String, name: &str, body: &str) -> Result<(), AllocError> {
-    writeln!(
-        out,
-        "
-impl DekuReader<()> for {name} {{
-    ghost no_read_ahead = {{ ⟦<{name}Parts as DekuReader<()>>⟧.no_read_ahead }};
-
-    ghost meaning = {{ λ c. Then (⟦<{name}Parts as DekuReader<()>>⟧.meaning c)
-        (Shows ⟦<{name} as FromParts>⟧.parts_of) }};
-
-    #[inline(always)]
-    fn from_reader_with_ctx<R: Source>(\
-reader: &mut Reader<R>, ctx: ()) -> Result<Self, DekuError> {{
-        read_record(reader, ctx)
-    }}
-}}"
-    )?;
     let ctx = if body.contains("ctx") { "ctx" } else { "_ctx" };
-    writeln!(
-        out,
-        "
-impl DekuWriter<()> for {name} {{
-    ghost meaning = {{ λ v. ⟦<{name}Parts as DekuWriter<()>>⟧.meaning
-        (⟦<{name} as FromParts>⟧.parts_of v) }};
-
-    #[inline(always)]
-    fn to_writer<W: Sink>(&self, writer: &mut Writer<W>, {ctx}: ()) -> Result<(), DekuError> {{
-        {body}
-    }}
-}}
-
-impl Record<()> for {name} {{
-    ghost reads = {{ λ c b s r u m. m }};
-
-    ghost writes = {{ λ c v b s r u m. m }};
-}}
-
-impl DekuContainerRead for {name} {{}}
-
-impl DekuContainerWrite for {name} {{}}"
-    )
+    fill(out, TRAITS, &[("name", name), ("ctx", ctx), ("body", body)])
 }
 
+const NAMES: &str = "
+impl $name$ {
+    /// The names of its parts, in their order.
+$names$;
+}
+";
+
 // Appends the names of a record's parts.
-fn named(out: &mut String, name: &str, names: &[String]) -> Result<(), AllocError> {
-    let alloc = *out.allocator();
+fn named(arena: &Arena, out: &mut String, name: &str, names: &[&str]) -> Result<(), AllocError> {
     let count = names.len();
-    let mut literals = Vec::new(alloc);
+    let mut literals = Vec::new(arena.alloc());
     for name in names {
-        let name = name.as_str();
-        literals.push(Text::of(format!(in alloc; "\"{name}\"")?))?;
+        literals.push(Text::of(arena.print(format_args!("\"{name}\""))?))?;
     }
-    writeln!(out, "\nimpl {name} {{")?;
-    out.push_str("    /// The names of its parts, in their order.\n")?;
-    write!(out, "    pub const FIELDS: [&'static str; {count}] = ")?;
-    Text::group(alloc, Form::Square, "[", literals)?.print(out, 4, 1, false)?;
-    out.push_str(";\n}\n")
+    let literals = arena.list(literals.as_slice())?;
+    let mut line = format!(in arena.alloc(); "    pub const FIELDS: [&'static str; {count}] = ")?;
+    Text::group(Form::Square, "[", literals).print(&mut line, 4, 1, false)?;
+    fill(out, NAMES, &[("name", name), ("names", line.as_str())])
 }
 
 // How many lines the function that makes a record of its parts has at most, with patterns.
 const LINES: usize = 38;
 
+const FROM_PARTS: &str = "\
+$made$
+    }
+
+";
+
 // Appends the function that makes a record of its parts: by patterns; or by paths, if it would be
 // long and nothing has to be moved out of them.
-fn from_parts(
+fn from_parts<'a>(
+    arena: &'a Arena,
     out: &mut String,
-    record: &Record<'_>,
+    record: &Record<'a>,
     shape: Shape,
-    fields: &[Field<'_>],
-    whole: &Part<'_>,
+    fields: &[Field<'a>],
+    whole: Part<'a>,
 ) -> Result<(), AllocError> {
-    let alloc = *out.allocator();
-    let mut text = String::from_str(alloc, "    fn from_parts(")?;
-    taken(&mut text, &whole.texts.pattern)?;
-    made(alloc, record, shape, fields, whole, None)?.print(&mut text, 8, 0, false)?;
+    let mut text = String::from_str(arena.alloc(), "    fn from_parts(")?;
+    taken(&mut text, whole.texts.pattern)?;
+    made(arena, record, shape, fields, whole, None)?.print(&mut text, 8, 0, false)?;
     if !whole.is_lent && text.as_str().lines().count() > LINES {
         text = String::from_str(
-            alloc,
+            arena.alloc(),
             "    fn from_parts(parts: Self::Parts) -> Self {\n        ",
         )?;
-        made(alloc, record, shape, fields, whole, Some("parts"))?.print(&mut text, 8, 0, false)?;
+        made(arena, record, shape, fields, whole, Some("parts"))?.print(&mut text, 8, 0, false)?;
     }
-    out.push_str(text.as_str())?;
-    out.push_str("\n    }\n\n")
+    fill(out, FROM_PARTS, &[("made", text.as_str())])
 }
 
 // Appends the parameter of the function that takes parts apart, up to its value.
-fn taken(out: &mut String, pattern: &Text) -> Result<(), AllocError> {
+fn taken(out: &mut String, pattern: Text<'_>) -> Result<(), AllocError> {
     if pattern.is_line(out.as_str(), 25) {
         pattern.line(out)?;
         return out.push_str(": Self::Parts) -> Self {\n        ");
@@ -250,112 +288,110 @@ fn taken(out: &mut String, pattern: &Text) -> Result<(), AllocError> {
 }
 
 // The record that its parts make, in ghost text.
-fn record_of(
-    alloc: Global,
+fn record_of<'a>(
+    arena: &'a Arena,
     shape: Shape,
-    fields: &[Field<'_>],
-    whole: &Part<'_>,
-) -> Result<Text, AllocError> {
-    let mut items = Vec::new(alloc);
+    fields: &[Field<'a>],
+    whole: Part<'a>,
+) -> Result<Text<'a>, AllocError> {
+    let mut items = Vec::new(arena.alloc());
     for (i, field) in fields.iter().enumerate() {
         if !is_temporary(field) {
-            items.push(bound(alloc, shape, field, i, whole)?)?;
+            items.push(bound(arena, shape, field, i, whole)?)?;
         }
     }
-    Text::group(alloc, Form::GhostBrace, "record {", items)
+    let items = arena.list(items.as_slice())?;
+    Ok(Text::group(Form::GhostBrace, "record {", items))
 }
 
 // A field of the record that its parts make, in ghost text.
-fn bound(
-    alloc: Global,
+fn bound<'a>(
+    arena: &'a Arena,
     shape: Shape,
-    field: &Field<'_>,
+    field: &Field<'a>,
     place: usize,
-    whole: &Part<'_>,
-) -> Result<Text, AllocError> {
-    let name = field_name(alloc, field, place)?;
-    let term = term_of(alloc, whole, name.as_str(), "p")?;
+    whole: Part<'a>,
+) -> Result<Text<'a>, AllocError> {
+    let name = field_name(arena, field, place)?;
+    let term = term_of(arena, whole, name, "p")?;
     let term = match chosen(field) {
-        Some(kind) => format!(in alloc; "⟦<{kind} as FromParts>⟧.record_of {term}")?,
+        Some(kind) => arena.print(format_args!("⟦<{kind} as FromParts>⟧.record_of {term}"))?,
         None => term,
     };
-    let term = term.as_str();
-    if shape == Shape::Tuple {
-        return Ok(Text::of(format!(in alloc; "{place} = {term}")?));
-    }
-    let name = quoted(alloc, name.as_str())?;
-    let name = name.as_str();
-    Ok(Text::of(format!(in alloc; "{name} = {term}")?))
+    Ok(Text::of(if shape == Shape::Tuple {
+        arena.print(format_args!("{place} = {term}"))?
+    } else {
+        let name = quoted(arena, name)?;
+        arena.print(format_args!("{name} = {term}"))?
+    }))
 }
 
 /// A field, of the parts that this leads to, in ghost text.
-pub(crate) fn term_of(
-    alloc: Global,
-    whole: &Part<'_>,
+pub(crate) fn term_of<'a>(
+    arena: &'a Arena,
+    whole: Part<'a>,
     name: &str,
-    parts: &str,
-) -> Result<String, AllocError> {
-    let Some(place) = whole.place(name) else {
-        return String::from_str(alloc, parts);
-    };
-    let path = place.path.as_str();
-    format!(in alloc; "{parts}{path}")
+    parts: &'a str,
+) -> Result<&'a str, AllocError> {
+    match whole.place(name) {
+        Some(place) => joined(arena, parts, place.path),
+        None => Ok(parts),
+    }
 }
 
 /// A field, of the parts that this leads to, or of the local of its name.
-pub(crate) fn value_of(
-    alloc: Global,
-    whole: &Part<'_>,
-    name: &str,
-    parts: Option<&str>,
-) -> Result<String, AllocError> {
+pub(crate) fn value_of<'a>(
+    arena: &'a Arena,
+    whole: Part<'a>,
+    name: &'a str,
+    parts: Option<&'a str>,
+) -> Result<&'a str, AllocError> {
     match parts {
-        Some(parts) => term_of(alloc, whole, name, parts),
-        None => String::from_str(alloc, name),
+        Some(parts) => term_of(arena, whole, name, parts),
+        None => Ok(name),
     }
 }
 
 // The record made of its fields: of locals of their names, or of parts.
-fn made(
-    alloc: Global,
-    record: &Record<'_>,
+fn made<'a>(
+    arena: &'a Arena,
+    record: &Record<'a>,
     shape: Shape,
-    fields: &[Field<'_>],
-    whole: &Part<'_>,
-    parts: Option<&str>,
-) -> Result<Text, AllocError> {
-    let mut items = Vec::new(alloc);
+    fields: &[Field<'a>],
+    whole: Part<'a>,
+    parts: Option<&'a str>,
+) -> Result<Text<'a>, AllocError> {
+    let mut items = Vec::new(arena.alloc());
     for (i, field) in fields.iter().enumerate() {
         if is_temporary(field) {
             continue;
         }
-        let name = field_name(alloc, field, i)?;
-        let mut value = value_of(alloc, whole, name.as_str(), parts)?;
-        if let Some(kind) = chosen(field) {
-            let kinds = value.as_str();
-            value = format!(in alloc; "{kind}::from_parts({kinds})")?;
-        }
-        items.push(Text::of(item(alloc, shape, name, value)?))?;
+        let name = field_name(arena, field, i)?;
+        let value = value_of(arena, whole, name, parts)?;
+        let value = match chosen(field) {
+            Some(kind) => arena.print(format_args!("{kind}::from_parts({value})"))?,
+            None => value,
+        };
+        items.push(Text::of(item(arena, shape, name, value)?))?;
     }
+    let items = arena.list(items.as_slice())?;
     let name = record.name.text;
-    if shape == Shape::Tuple {
-        let open = format!(in alloc; "{name}(")?;
-        return Text::group(alloc, Form::Round, open.as_str(), items);
-    }
-    let open = format!(in alloc; "{name} {{")?;
-    Text::group(alloc, Form::Brace, open.as_str(), items)
+    Ok(if shape == Shape::Tuple {
+        Text::group(Form::Round, joined(arena, name, "(")?, items)
+    } else {
+        Text::group(Form::Brace, joined(arena, name, " {")?, items)
+    })
 }
 
 /// A field with its value, as a struct of this shape takes it.
-pub(crate) fn item(
-    alloc: Global,
+pub(crate) fn item<'a>(
+    arena: &'a Arena,
     shape: Shape,
-    name: String,
-    value: String,
-) -> Result<String, AllocError> {
-    if shape == Shape::Tuple || name.as_str() == value.as_str() {
+    name: &'a str,
+    value: &'a str,
+) -> Result<&'a str, AllocError> {
+    if shape == Shape::Tuple || name == value {
         return Ok(value);
     }
-    let (name, value) = (name.as_str(), value.as_str());
-    format!(in alloc; "{name}: {value}")
+    arena.print(format_args!("{name}: {value}"))
 }

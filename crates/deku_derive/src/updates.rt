@@ -3,108 +3,125 @@
 use deku_attributes::model::Field;
 use deku_dependents::updating::Updated;
 use deku_texts::document::{Form, Text};
+use deku_texts::template::fill;
 use deku_texts::words::quoted;
-use std::alloc::{AllocError, Global};
+use deku_tokens::arena::Arena;
+use std::alloc::AllocError;
 use std::fmt::Write as _;
 
+const UPDATE: &str = "\
+$comment$
+/// It fails with `Parse(\"error parsing int\")`, and nothing changes, if a length does not fit.
+impl DekuUpdate for $name$ {
+    ghost updates = { λ v r w. ($fits$(r ≡ Ok tt)
+$changed$))
+        ⊎ ($misfits$
+        × ((e : Refusal) × (r ≡ Err e) × Tells Parse (codes \"error parsing int\") e) × (w ≡ v)) };
+
+    fn update(&mut self) -> Result<(), DekuError> {
+$counts$$sets$        Ok(())
+    }
+}
+";
+
 /// Appends the update of a struct, if it has fields that one sets.
-pub(crate) fn update(out: &mut String, name: &str, fields: &[Field<'_>]) -> Result<(), AllocError> {
-    let mut updated = Vec::new(*out.allocator());
+pub(crate) fn update<'a>(
+    arena: &'a Arena,
+    out: &mut String,
+    name: &str,
+    fields: &[Field<'a>],
+) -> Result<(), AllocError> {
+    let updated = updated_of(arena, fields)?;
+    if updated.is_empty() {
+        return Ok(());
+    }
+    let words = [
+        ("comment", comment(arena, updated)?),
+        ("name", name),
+        ("fits", fits(arena, updated)?),
+        ("changed", changed(arena, updated)?),
+        ("misfits", misfits(arena, updated)?),
+        ("counts", counts(arena, updated)?),
+        ("sets", sets(arena, updated)?),
+    ];
+    fill(out, UPDATE, &words)
+}
+
+// The fields that an update sets.
+fn updated_of<'a>(arena: &'a Arena, fields: &[Field<'a>]) -> Result<&'a [Updated<'a>], AllocError> {
+    let mut updated = Vec::new(arena.alloc());
     for field in fields {
         if let Some(it) = Updated::of(field, fields) {
             updated.push(it)?;
         }
     }
-    if updated.is_empty() {
-        return Ok(());
-    }
-    let updated = updated.as_slice();
-    comment(out, updated)?;
-    writeln!(out, "impl DekuUpdate for {name} {{")?;
-    fits(out, updated)?;
-    changed(out, updated)?;
-    refused(out, updated)?;
-    body(out, updated)
+    arena.list(updated.as_slice())
 }
 
-fn comment(out: &mut String, updated: &[Updated<'_>]) -> Result<(), AllocError> {
+// Which fields it sets: a line for each, after the end of another one.
+fn comment<'a>(arena: &'a Arena, updated: &[Updated<'a>]) -> Result<&'a str, AllocError> {
+    let mut lines = String::new(arena.alloc());
     for (place, it) in updated.iter().enumerate() {
-        let front = if place == 0 { "\n/// Sets" } else { "/// and" };
+        let front = if place == 0 { "Sets" } else { "and" };
         let end = if place + 1 == updated.len() { "." } else { "," };
         let (name, list) = (it.name, it.list);
-        writeln!(out, "{front} `{name}` to the length of `{list}`{end}")?;
+        write!(
+            lines,
+            "\n/// {front} `{name}` to the length of `{list}`{end}"
+        )?;
     }
-    out.push_str("/// It fails with `Parse(\"error parsing int\")`, and nothing changes, ")?;
-    out.push_str("if a length does not fit.\n")
+    arena.keep(lines.as_str())
 }
 
 // The length of a field's list, in ghost text.
-fn length(alloc: Global, it: &Updated<'_>) -> Result<String, AllocError> {
-    let list = quoted(alloc, it.list)?;
-    let list = list.as_str();
-    format!(in alloc; "length v.{list}.items")
+fn length<'a>(arena: &'a Arena, it: Updated<'a>) -> Result<&'a str, AllocError> {
+    let list = quoted(arena, it.list)?;
+    arena.print(format_args!("length v.{list}.items"))
 }
 
-// Appends that each length fits.
-fn fits(out: &mut String, updated: &[Updated<'_>]) -> Result<(), AllocError> {
-    out.push_str("    ghost updates = { λ v r w. (")?;
+// That each length fits.
+fn fits<'a>(arena: &'a Arena, updated: &[Updated<'a>]) -> Result<&'a str, AllocError> {
+    let mut text = String::new(arena.alloc());
     for it in updated {
-        let length = length(*out.allocator(), it)?;
-        let (length, bits) = (length.as_str(), it.bits);
-        writeln!(out, "({length} < 2 ^ {bits})")?;
-        out.push_str("        × ")?;
+        let (length, bits) = (length(arena, *it)?, it.bits);
+        write!(text, "({length} < 2 ^ {bits})\n        × ")?;
     }
-    out.push_str("(r ≡ Ok tt)\n")
+    arena.keep(text.as_str())
 }
 
-// Appends what is left then.
-fn changed(out: &mut String, updated: &[Updated<'_>]) -> Result<(), AllocError> {
-    let alloc = *out.allocator();
-    let mut items = Vec::new(alloc);
+// What is left then.
+fn changed<'a>(arena: &'a Arena, updated: &[Updated<'a>]) -> Result<&'a str, AllocError> {
+    let mut items = Vec::new(arena.alloc());
     for it in updated {
-        let name = quoted(alloc, it.name)?;
-        let length = length(alloc, it)?;
-        let (name, length) = (name.as_str(), length.as_str());
-        items.push(Text::of(format!(in alloc; "{name} = {length}")?))?;
+        let name = quoted(arena, it.name)?;
+        let length = length(arena, *it)?;
+        items.push(Text::of(arena.print(format_args!("{name} = {length}"))?))?;
     }
-    out.push_str("        × (w ≡ ")?;
-    Text::group(alloc, Form::GhostBrace, "record v {", items)?.print(out, 8, 2, false)?;
-    out.push_str("))\n")
+    let items = arena.list(items.as_slice())?;
+    let mut line = String::from_str(arena.alloc(), "        × (w ≡ ")?;
+    Text::group(Form::GhostBrace, "record v {", items).print(&mut line, 8, 2, false)?;
+    arena.keep(line.as_str())
 }
 
-// Appends that a length does not fit, and what is left then.
-fn refused(out: &mut String, updated: &[Updated<'_>]) -> Result<(), AllocError> {
-    let alloc = *out.allocator();
-    let mut misfits = Vec::new(alloc);
+// That a length does not fit.
+fn misfits<'a>(arena: &'a Arena, updated: &[Updated<'a>]) -> Result<&'a str, AllocError> {
+    let mut misfits = Vec::new(arena.alloc());
     for it in updated {
-        let length = length(alloc, it)?;
-        let (length, bits) = (length.as_str(), it.bits);
-        misfits.push(format!(in alloc; "(2 ^ {bits} ≤ {length})")?)?;
+        let (length, bits) = (length(arena, *it)?, it.bits);
+        misfits.push(arena.print(format_args!("(2 ^ {bits} ≤ {length})"))?)?;
     }
-    let one = misfits.as_slice().join(alloc, "\n        ⊎ ")?;
+    let one = misfits.as_slice().join(arena.alloc(), "\n        ⊎ ")?;
     let one = one.as_str();
     if updated.len() > 1 {
-        writeln!(out, "        ⊎ (({one})")?;
+        arena.print(format_args!("({one})"))
     } else {
-        writeln!(out, "        ⊎ ({one}")?;
+        arena.keep(one)
     }
-    out.push_str("        × ((e : Refusal) × (r ≡ Err e) × ")?;
-    out.push_str("Tells Parse (codes \"error parsing int\") e) × (w ≡ v)) };\n")
 }
 
-// Appends the function.
-fn body(out: &mut String, updated: &[Updated<'_>]) -> Result<(), AllocError> {
-    out.push_str("\n    fn update(&mut self) -> Result<(), DekuError> {\n")?;
-    counts(out, updated)?;
-    for it in updated {
-        let name = it.name;
-        writeln!(out, "        self.{name} = {name};")?;
-    }
-    out.push_str("        Ok(())\n    }\n}\n")
-}
-
-// Appends the counts that the function sets.
-fn counts(out: &mut String, updated: &[Updated<'_>]) -> Result<(), AllocError> {
+// The counts that it sets.
+fn counts<'a>(arena: &'a Arena, updated: &[Updated<'a>]) -> Result<&'a str, AllocError> {
+    let mut lines = String::new(arena.alloc());
     for it in updated {
         let Updated {
             name,
@@ -113,9 +130,19 @@ fn counts(out: &mut String, updated: &[Updated<'_>]) -> Result<(), AllocError> {
             ..
         } = *it;
         writeln!(
-            out,
+            lines,
             "        let {name} = {kind}::try_from(self.{list}.len())?;"
         )?;
     }
-    Ok(())
+    arena.keep(lines.as_str())
+}
+
+// How it sets them.
+fn sets<'a>(arena: &'a Arena, updated: &[Updated<'a>]) -> Result<&'a str, AllocError> {
+    let mut lines = String::new(arena.alloc());
+    for it in updated {
+        let name = it.name;
+        writeln!(lines, "        self.{name} = {name};")?;
+    }
+    arena.keep(lines.as_str())
 }

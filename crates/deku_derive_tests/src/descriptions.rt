@@ -2,6 +2,7 @@
 
 use deku_attributes::check;
 use deku_description::parse;
+use deku_tokens::arena::Arena;
 use deku_tokens::place::{first_difference, told};
 use std::alloc::{AllocError, Global};
 use std::test::Fail;
@@ -79,11 +80,12 @@ fn descriptions_are_taken(rt: HostRuntime) -> Result<(), Fail> {
 
 // What is said of the form and of the attributes of a description.
 fn said_of(alloc: Global, text: &str) -> Result<String, AllocError> {
-    let (file, complaints) = parse(alloc, text)?;
+    let arena = Arena::new(alloc);
+    let (file, complaints) = parse(&arena, text)?;
     if !complaints.is_empty() {
         return told(alloc, "a.rs", text, complaints.as_slice());
     }
-    let (_, complaints) = check(alloc, text, file, true)?;
+    let (_, complaints) = check(&arena, text, file, true)?;
     told(alloc, "a.rs", text, complaints.as_slice())
 }
 

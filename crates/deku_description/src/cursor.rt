@@ -2,27 +2,39 @@
 
 ghost use Rattle.std.specs.Prelude.{◌≡◌, ◌<◌, ◌≤◌};
 
+use deku_tokens::arena::Arena;
 use deku_tokens::place::{Complaint, Span};
 use deku_tokens::token::{Kind, Token};
-use std::alloc::{AllocError, AllocFailed, Global};
+use std::alloc::{AllocError, AllocFailed};
 
 /// Why a part of a description was not parsed.
-#[derive(Debug, Drop)]
-pub enum Stop {
+#[derive(Clone, Copy, Debug)]
+pub enum Stop<'a> {
     /// What is wrong with it.
-    Wrong(Complaint),
+    Wrong(Complaint<'a>),
     /// There is no memory.
     Memory,
 }
 
-impl From<AllocError> for Stop {
-    fn from(_error: AllocError) -> Stop {
+impl<'a> Stop<'a> {
+    /// What is wrong, and what to write in its place.
+    pub(crate) fn wrong<T>(span: Span, message: &'a str, help: &'a str) -> Result<T, Stop<'a>> {
+        Err(Stop::Wrong(Complaint {
+            span,
+            message,
+            help,
+        }))
+    }
+}
+
+impl<'a> From<AllocError> for Stop<'a> {
+    fn from(_error: AllocError) -> Stop<'a> {
         Stop::Memory
     }
 }
 
-impl<T: Drop> From<AllocFailed<T>> for Stop {
-    fn from(_error: AllocFailed<T>) -> Stop {
+impl<'a, T: Drop> From<AllocFailed<T>> for Stop<'a> {
+    fn from(_error: AllocFailed<T>) -> Stop<'a> {
         Stop::Memory
     }
 }
@@ -30,25 +42,25 @@ impl<T: Drop> From<AllocFailed<T>> for Stop {
 /// Tokens, of which those before a place are parsed.
 #[derive(Drop)]
 pub(crate) struct Cursor<'a> {
-    alloc: Global,
-    tokens: Vec<Token<'a>>,
+    arena: &'a Arena,
+    tokens: &'a [Token<'a>],
     at: usize,
     end: Span,
 }
 
 impl<'a> Cursor<'a> {
     /// All tokens; the span is where they end.
-    pub(crate) fn new(alloc: Global, tokens: Vec<Token<'a>>, end: Span) -> Self {
+    pub(crate) fn new(arena: &'a Arena, tokens: &'a [Token<'a>], end: Span) -> Self {
         Cursor {
-            alloc,
+            arena,
             tokens,
             at: 0,
             end,
         }
     }
 
-    pub(crate) fn alloc(&self) -> Global {
-        self.alloc
+    pub(crate) fn arena(&self) -> &'a Arena {
+        self.arena
     }
 
     /// How many tokens are left.
@@ -120,15 +132,15 @@ impl<'a> Cursor<'a> {
     }
 
     /// Takes a mark.
-    pub(crate) fn mark(&mut self, mark: &str) -> Result<(), Stop> {
+    pub(crate) fn mark(&mut self, mark: &str) -> Result<(), Stop<'a>> {
         if self.take_mark(mark) {
             return Ok(());
         }
-        self.expected(format!(in self.alloc; "`{mark}`")?.as_str())
+        self.expected(self.arena.print(format_args!("`{mark}`"))?)
     }
 
     /// Takes a token of a kind.
-    pub(crate) fn token(&mut self, kind: Kind, what: &str) -> Result<Token<'a>, Stop> {
+    pub(crate) fn token(&mut self, kind: Kind, what: &str) -> Result<Token<'a>, Stop<'a>> {
         match self.peek() {
             Some(token) if token.kind == kind => {
                 self.next();
@@ -139,21 +151,18 @@ impl<'a> Cursor<'a> {
     }
 
     /// Complains that something else is expected.
-    pub(crate) fn expected<T>(&self, what: &str) -> Result<T, Stop> {
+    pub(crate) fn expected<T>(&self, what: &str) -> Result<T, Stop<'a>> {
         let message = match self.peek() {
             Some(token) => {
                 let text = token.text;
-                format!(in self.alloc; "expected {what}, found `{text}`")?
+                self.arena
+                    .print(format_args!("expected {what}, found `{text}`"))?
             }
-            None => format!(in self.alloc; "expected {what}, found the end")?,
+            None => self
+                .arena
+                .print(format_args!("expected {what}, found the end"))?,
         };
-        self.wrong(self.here(), message.as_str(), "")
-    }
-
-    /// Complains.
-    pub(crate) fn wrong<T>(&self, span: Span, message: &str, help: &str) -> Result<T, Stop> {
-        let complaint = Complaint::new(self.alloc, span, message, help)?;
-        Err(Stop::Wrong(complaint))
+        Stop::wrong(self.here(), message, "")
     }
 
     /// Skips a group in brackets, or one other token.

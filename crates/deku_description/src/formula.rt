@@ -4,10 +4,11 @@ ghost use Rattle.std.specs.Prelude.{◌≤◌, length};
 
 use crate::cursor::{Cursor, Stop};
 use crate::syntax::{Closure, Expression, Operator};
+use deku_tokens::arena::Arena;
 use deku_tokens::literal::integer;
 use deku_tokens::place::{Complaint, Span};
 use deku_tokens::token::{Kind, Token, broken_tokens, tokens};
-use std::alloc::{AllocError, Global};
+use std::alloc::AllocError;
 
 // How deep expressions may be in one another.
 const DEPTH: usize = 32;
@@ -19,14 +20,14 @@ const DEPTH: usize = 32;
 /// `AllocError` if there is no memory.
 ///
 /// ```text
-/// formula(alloc, text, token)?    // of "*length * 2": the field `length` times 2
+/// formula(arena, text, token)?    // of "*length * 2": the field `length` times 2
 /// ```
 pub fn formula<'a>(
-    alloc: Global,
+    arena: &'a Arena,
     text: &'a str,
     token: Token<'a>,
-) -> Result<Result<Expression<'a>, Complaint>, AllocError> {
-    match parsed(alloc, text, token) {
+) -> Result<Result<Expression<'a>, Complaint<'a>>, AllocError> {
+    match parsed(arena, text, token) {
         Ok(expression) => Ok(Ok(expression)),
         Err(Stop::Wrong(complaint)) => Ok(Err(complaint)),
         Err(Stop::Memory) => Err(AllocError),
@@ -41,28 +42,32 @@ pub fn formula<'a>(
 /// `AllocError` if there is no memory.
 ///
 /// ```text
-/// closure(alloc, text, token)?    // of "|item: &u8| *item == 0": an item that is 0
+/// closure(arena, text, token)?    // of "|item: &u8| *item == 0": an item that is 0
 /// ```
 pub fn closure<'a>(
-    alloc: Global,
+    arena: &'a Arena,
     text: &'a str,
     token: Token<'a>,
-) -> Result<Result<Closure<'a>, Complaint>, AllocError> {
-    match of_item(alloc, text, token) {
+) -> Result<Result<Closure<'a>, Complaint<'a>>, AllocError> {
+    match of_item(arena, text, token) {
         Ok(closure) => Ok(Ok(closure)),
         Err(Stop::Wrong(complaint)) => Ok(Err(complaint)),
         Err(Stop::Memory) => Err(AllocError),
     }
 }
 
-fn parsed<'a>(alloc: Global, text: &'a str, token: Token<'a>) -> Result<Expression<'a>, Stop> {
-    parser_of(alloc, text, token)?.whole()
+fn parsed<'a>(
+    arena: &'a Arena,
+    text: &'a str,
+    token: Token<'a>,
+) -> Result<Expression<'a>, Stop<'a>> {
+    parser_of(arena, text, token)?.whole()
 }
 
-fn of_item<'a>(alloc: Global, text: &'a str, token: Token<'a>) -> Result<Closure<'a>, Stop> {
-    let mut parser = parser_of(alloc, text, token)?;
+fn of_item<'a>(arena: &'a Arena, text: &'a str, token: Token<'a>) -> Result<Closure<'a>, Stop<'a>> {
+    let mut parser = parser_of(arena, text, token)?;
     let Some((name, kind)) = parser.parameter() else {
-        return parser.cursor.wrong(
+        return Stop::wrong(
             token.span,
             "an end that is no closure of one item",
             "write `until = \"|item: &u8| *item == 0\"`",
@@ -73,10 +78,14 @@ fn of_item<'a>(alloc: Global, text: &'a str, token: Token<'a>) -> Result<Closure
 }
 
 // A parser of what is in a text of an attribute.
-fn parser_of<'a>(alloc: Global, text: &'a str, token: Token<'a>) -> Result<Parser<'a>, Stop> {
+fn parser_of<'a>(
+    arena: &'a Arena,
+    text: &'a str,
+    token: Token<'a>,
+) -> Result<Parser<'a>, Stop<'a>> {
     let part = inside(text, token);
-    let tokens = tokens(alloc, text, part)?;
-    if let Some(complaint) = broken_tokens(alloc, tokens.as_slice())?.pop() {
+    let tokens = arena.list(tokens(arena.alloc(), text, part)?.as_slice())?;
+    if let Some(complaint) = broken_tokens(arena.alloc(), tokens)?.pop() {
         return Err(Stop::Wrong(complaint));
     }
     let end = Span {
@@ -84,7 +93,8 @@ fn parser_of<'a>(alloc: Global, text: &'a str, token: Token<'a>) -> Result<Parse
         end: part.end,
     };
     Ok(Parser {
-        cursor: Cursor::new(alloc, tokens, end),
+        cursor: Cursor::new(arena, tokens, end),
+        value: Expression::Number(0, end),
     })
 }
 
@@ -111,11 +121,13 @@ fn inside(text: &str, token: Token<'_>) -> Span
 #[derive(Drop)]
 struct Parser<'a> {
     cursor: Cursor<'a>,
+    // What is parsed of the innermost expression.
+    value: Expression<'a>,
 }
 
 impl<'a> Parser<'a> {
     // An expression up to the end.
-    fn whole(&mut self) -> Result<Expression<'a>, Stop> {
+    fn whole(&mut self) -> Result<Expression<'a>, Stop<'a>> {
         let expression = self.expression(DEPTH, 1)?;
         if self.cursor.peek().is_some() {
             return self.cursor.expected("an operator");
@@ -140,53 +152,72 @@ impl<'a> Parser<'a> {
 
     // Operands and the operators between them that bind at least as tightly as is said.
     #[cycle(expression)]
-    fn expression(&mut self, depth: usize, least: u8) -> Result<Expression<'a>, Stop> {
+    fn expression(&mut self, depth: usize, least: u8) -> Result<Expression<'a>, Stop<'a>> {
         if depth == 0 {
-            return self.cursor.wrong(
+            return Stop::wrong(
                 self.cursor.here(),
                 "an expression in more than 32 others",
                 "write it with fewer parentheses",
             );
         }
-        let mut left = self.operand(depth - 1)?;
+        self.value = self.operand(depth - 1)?;
         for _ in 0..self.cursor.left() {
-            let Some(operator) = self.operator(least) else {
+            if !self.joined(depth - 1, least)? {
                 break;
-            };
-            let right = self.expression(depth - 1, operator.strength() + 1)?;
-            let alloc = self.cursor.alloc();
-            left = Expression::Both(operator, Box::new(alloc, left)?, Box::new(alloc, right)?);
+            }
         }
-        Ok(left)
+        Ok(self.value)
+    }
+
+    // Makes one of the value and of what follows it after an operator that binds at least as
+    // tightly as is said. Whether there is one.
+    #[cycle(expression)]
+    fn joined(&mut self, depth: usize, least: u8) -> Result<bool, Stop<'a>> {
+        let Some(operator) = self.operator(least) else {
+            return Ok(false);
+        };
+        let arena = self.cursor.arena();
+        let left = arena.one(self.value)?;
+        let right = self.expression(depth, operator.strength() + 1)?;
+        self.value = Expression::Both(operator, left, arena.one(right)?);
+        Ok(true)
     }
 
     // A value, with what is in front of it and as what type.
     #[cycle(expression)]
-    fn operand(&mut self, depth: usize) -> Result<Expression<'a>, Stop> {
-        let mut value = if self.cursor.take_mark("(") {
+    fn operand(&mut self, depth: usize) -> Result<Expression<'a>, Stop<'a>> {
+        self.value = if self.cursor.take_mark("(") {
             let value = self.expression(depth, 1)?;
             self.cursor.mark(")")?;
             value
         } else if self.cursor.take_mark("!") {
             let value = self.expression(depth, 10)?;
-            Expression::Not(Box::new(self.cursor.alloc(), value)?)
+            Expression::Not(self.cursor.arena().one(value)?)
         } else if self.cursor.take_mark("*") || self.cursor.take_mark("&") {
             self.expression(depth, 10)?
         } else {
             self.simple()?
         };
         for _ in 0..self.cursor.left() {
-            if !self.cursor.take_name("as") {
+            if !self.cast()? {
                 break;
             }
-            let kind = self.cursor.token(Kind::Name, "a type of numbers")?;
-            value = Expression::Cast(Box::new(self.cursor.alloc(), value)?, kind);
         }
-        Ok(value)
+        Ok(self.value)
+    }
+
+    // Makes the value another type, if one follows it. Whether one does.
+    fn cast(&mut self) -> Result<bool, Stop<'a>> {
+        if !self.cursor.take_name("as") {
+            return Ok(false);
+        }
+        let kind = self.cursor.token(Kind::Name, "a type of numbers")?;
+        self.value = Expression::Cast(self.cursor.arena().one(self.value)?, kind);
+        Ok(true)
     }
 
     // A number, a truth value, or a name.
-    fn simple(&mut self) -> Result<Expression<'a>, Stop> {
+    fn simple(&mut self) -> Result<Expression<'a>, Stop<'a>> {
         let Some(token) = self.cursor.peek() else {
             return self.cursor.expected("a field, a constant or a number");
         };
@@ -201,11 +232,11 @@ impl<'a> Parser<'a> {
         }
     }
 
-    fn number(&mut self, token: Token<'a>) -> Result<Expression<'a>, Stop> {
+    fn number(&mut self, token: Token<'a>) -> Result<Expression<'a>, Stop<'a>> {
         self.cursor.next();
         match integer(token.text) {
             Some(value) => Ok(Expression::Number(value, token.span)),
-            None => self.cursor.wrong(
+            None => Stop::wrong(
                 token.span,
                 "a number that does not fit 64 bits",
                 "write a number of at most 64 bits",
@@ -214,7 +245,7 @@ impl<'a> Parser<'a> {
     }
 
     // A field or a constant, or a field of a field.
-    fn name(&mut self, token: Token<'a>) -> Result<Expression<'a>, Stop> {
+    fn name(&mut self, token: Token<'a>) -> Result<Expression<'a>, Stop<'a>> {
         self.cursor.next();
         let value = if self.cursor.take_mark(".") {
             let part = self.cursor.token(Kind::Name, "the name of a field")?;
@@ -223,7 +254,7 @@ impl<'a> Parser<'a> {
             Expression::Name(token)
         };
         if self.cursor.is_mark("(") || self.cursor.is_mark("::") {
-            return self.cursor.wrong(
+            return Stop::wrong(
                 token.span,
                 "a call or a path in an expression",
                 "write it with fields, constants and operators alone",

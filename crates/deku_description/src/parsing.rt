@@ -7,10 +7,11 @@ use crate::syntax::{
     Attribute, Body, Constant, Field, Fields, File, Head, Length, Record, Shape, Type, Value,
     Variant,
 };
+use deku_tokens::arena::Arena;
 use deku_tokens::literal::integer;
 use deku_tokens::place::{Complaint, Span};
 use deku_tokens::token::{Kind, Token, broken_tokens, tokens};
-use std::alloc::{AllocError, Global};
+use std::alloc::AllocError;
 
 // How deep types may be in one another.
 const DEPTH: usize = 32;
@@ -27,9 +28,13 @@ const OTHERS: [&str; 9] = [
 /// `AllocError` if there is no memory.
 ///
 /// ```text
-/// parse(alloc, "struct Point { x: i16, y: i16 }")?    // one record, no complaint
+/// parse(&arena, "struct Point { x: i16, y: i16 }")?    // one record, no complaint
 /// ```
-pub fn parse<'a>(alloc: Global, text: &'a str) -> Result<(File<'a>, Vec<Complaint>), AllocError> {
+pub fn parse<'a>(
+    arena: &'a Arena,
+    text: &'a str,
+) -> Result<(File<'a>, Vec<Complaint<'a>>), AllocError> {
+    let alloc = arena.alloc();
     let end = Span {
         start: text.len(),
         end: text.len(),
@@ -38,23 +43,27 @@ pub fn parse<'a>(alloc: Global, text: &'a str) -> Result<(File<'a>, Vec<Complain
         start: 0,
         end: text.len(),
     };
-    let tokens = tokens(alloc, text, whole)?;
-    let complaints = broken_tokens(alloc, tokens.as_slice())?;
-    let file = File {
+    let tokens = arena.list(tokens(alloc, text, whole)?.as_slice())?;
+    let complaints = broken_tokens(alloc, tokens)?;
+    if !complaints.is_empty() {
+        let nothing = File {
+            docs: &[],
+            uses: &[],
+            constants: &[],
+            records: &[],
+        };
+        return Ok((nothing, complaints));
+    }
+    let mut parser = Parser {
+        text,
+        cursor: Cursor::new(arena, tokens, end),
         docs: Vec::new(alloc),
         uses: Vec::new(alloc),
         constants: Vec::new(alloc),
         records: Vec::new(alloc),
-    };
-    if !complaints.is_empty() {
-        return Ok((file, complaints));
-    }
-    let mut parser = Parser {
-        text,
-        cursor: Cursor::new(alloc, tokens, end),
         complaints,
     };
-    let file = parser.file(file)?;
+    let file = parser.file()?;
     let Parser { complaints, .. } = parser;
     Ok((file, complaints))
 }
@@ -63,25 +72,36 @@ pub fn parse<'a>(alloc: Global, text: &'a str) -> Result<(File<'a>, Vec<Complain
 struct Parser<'a> {
     text: &'a str,
     cursor: Cursor<'a>,
-    complaints: Vec<Complaint>,
+    // What is parsed of the file.
+    docs: Vec<&'a str>,
+    uses: Vec<&'a str>,
+    constants: Vec<Constant<'a>>,
+    records: Vec<Record<'a>>,
+    complaints: Vec<Complaint<'a>>,
 }
 
 impl<'a> Parser<'a> {
-    fn file(&mut self, mut file: File<'a>) -> Result<File<'a>, AllocError> {
+    fn file(&mut self) -> Result<File<'a>, AllocError> {
         for _ in 0..self.cursor.left() {
             if self.cursor.peek().is_none() {
                 break;
             }
-            let item = self.item(&mut file);
+            let item = self.item();
             if self.noted(item)?.is_none() {
                 self.skip_item();
             }
         }
-        Ok(file)
+        let arena = self.cursor.arena();
+        Ok(File {
+            docs: arena.list(self.docs.as_slice())?,
+            uses: arena.list(self.uses.as_slice())?,
+            constants: arena.list(self.constants.as_slice())?,
+            records: arena.list(self.records.as_slice())?,
+        })
     }
 
     // What was parsed, or `None` after its complaint is noted.
-    fn noted<T: Drop>(&mut self, parsed: Result<T, Stop>) -> Result<Option<T>, AllocError> {
+    fn noted<T: Copy>(&mut self, parsed: Result<T, Stop<'a>>) -> Result<Option<T>, AllocError> {
         match parsed {
             Ok(value) => Ok(Some(value)),
             Err(Stop::Wrong(complaint)) => {
@@ -105,24 +125,28 @@ impl<'a> Parser<'a> {
         }
     }
 
-    fn item(&mut self, file: &mut File<'a>) -> Result<(), Stop> {
+    fn item(&mut self) -> Result<(), Stop<'a>> {
         if let Some(token) = self.cursor.peek() {
             if token.kind == Kind::InnerDoc {
                 self.cursor.next();
-                file.docs.push(after(token.text, "//!"))?;
+                self.docs.push(after(token.text, "//!"))?;
                 return Ok(());
             }
         }
         let head = self.head()?;
         self.visibility();
         if self.cursor.take_name("use") {
-            file.uses.push(self.path()?)?;
+            let path = self.path()?;
+            self.uses.push(path)?;
         } else if self.cursor.take_name("const") {
-            file.constants.push(self.constant()?)?;
+            let constant = self.constant()?;
+            self.constants.push(constant)?;
         } else if self.cursor.take_name("struct") {
-            file.records.push(self.structure(head)?)?;
+            let record = self.structure(head)?;
+            self.records.push(record)?;
         } else if self.cursor.take_name("enum") {
-            file.records.push(self.enumeration(head)?)?;
+            let record = self.enumeration(head)?;
+            self.records.push(record)?;
         } else if self.is_other_item() {
             self.skip_item();
         } else {
@@ -141,7 +165,7 @@ impl<'a> Parser<'a> {
     }
 
     // The text up to a semicolon.
-    fn path(&mut self) -> Result<&'a str, Stop> {
+    fn path(&mut self) -> Result<&'a str, Stop<'a>> {
         let start = self.cursor.here().start;
         for _ in 0..self.cursor.left() {
             let end = self.cursor.here().start;
@@ -153,26 +177,15 @@ impl<'a> Parser<'a> {
         self.cursor.expected("`;`")
     }
 
-    fn constant(&mut self) -> Result<Constant<'a>, Stop> {
+    fn constant(&mut self) -> Result<Constant<'a>, Stop<'a>> {
         let name = self.cursor.token(Kind::Name, "a name")?;
         self.cursor.mark(":")?;
         let kind = self.cursor.token(Kind::Name, "a type of numbers")?;
         self.cursor.mark("=")?;
         let token = self.cursor.token(Kind::Integer, "a whole number")?;
         self.cursor.mark(";")?;
-        let value = self.number(token)?;
+        let value = number(token)?;
         Ok(Constant { name, kind, value })
-    }
-
-    fn number(&self, token: Token<'a>) -> Result<u64, Stop> {
-        match integer(token.text) {
-            Some(value) => Ok(value),
-            None => self.cursor.wrong(
-                token.span,
-                "a number that does not fit 64 bits",
-                "write a number of at most 64 bits",
-            ),
-        }
     }
 
     // `pub`, with or without where.
@@ -183,26 +196,28 @@ impl<'a> Parser<'a> {
     }
 
     // Comments and attributes.
-    fn head(&mut self) -> Result<Head<'a>, Stop> {
-        let mut head = Head {
-            docs: Vec::new(self.cursor.alloc()),
-            attributes: Vec::new(self.cursor.alloc()),
-        };
+    fn head(&mut self) -> Result<Head<'a>, Stop<'a>> {
+        let arena = self.cursor.arena();
+        let mut docs = Vec::new(arena.alloc());
+        let mut attributes = Vec::new(arena.alloc());
         for _ in 0..self.cursor.left() {
             match self.cursor.peek() {
                 Some(token) if token.kind == Kind::Doc => {
                     self.cursor.next();
-                    head.docs.push(after(token.text, "///"))?;
+                    docs.push(after(token.text, "///"))?;
                 }
-                Some(token) if token.is_mark("#") => self.attribute(&mut head)?,
+                Some(token) if token.is_mark("#") => self.attribute(&mut attributes)?,
                 _ => break,
             }
         }
-        Ok(head)
+        Ok(Head {
+            docs: arena.list(docs.as_slice())?,
+            attributes: arena.list(attributes.as_slice())?,
+        })
     }
 
     // An attribute, which says something if it is deku's.
-    fn attribute(&mut self, head: &mut Head<'a>) -> Result<(), Stop> {
+    fn attribute(&mut self, attributes: &mut Vec<Attribute<'a>>) -> Result<(), Stop<'a>> {
         self.cursor.mark("#")?;
         self.cursor.take_mark("!");
         let is_deku = match self.cursor.peek_second() {
@@ -216,12 +231,12 @@ impl<'a> Parser<'a> {
         self.cursor.next();
         self.cursor.next();
         self.cursor.mark("(")?;
-        self.words(head)?;
+        self.words(attributes)?;
         self.cursor.mark("]")
     }
 
     // The words of an attribute, up to the parenthesis after them.
-    fn words(&mut self, head: &mut Head<'a>) -> Result<(), Stop> {
+    fn words(&mut self, attributes: &mut Vec<Attribute<'a>>) -> Result<(), Stop<'a>> {
         for _ in 0..self.cursor.left() {
             if self.cursor.take_mark(")") {
                 return Ok(());
@@ -232,7 +247,7 @@ impl<'a> Parser<'a> {
             } else {
                 None
             };
-            head.attributes.push(Attribute { name, value })?;
+            attributes.push(Attribute { name, value })?;
             if !self.cursor.take_mark(",") {
                 return self.cursor.mark(")");
             }
@@ -241,7 +256,7 @@ impl<'a> Parser<'a> {
     }
 
     // A literal.
-    fn value(&mut self) -> Result<Value<'a>, Stop> {
+    fn value(&mut self) -> Result<Value<'a>, Stop<'a>> {
         let is_negative = self.cursor.take_mark("-");
         match self.cursor.peek() {
             Some(token) if is_literal(token) => {
@@ -252,7 +267,7 @@ impl<'a> Parser<'a> {
         }
     }
 
-    fn structure(&mut self, head: Head<'a>) -> Result<Record<'a>, Stop> {
+    fn structure(&mut self, head: Head<'a>) -> Result<Record<'a>, Stop<'a>> {
         let before = self.complaints.len();
         let name = self.record_name()?;
         let fields = self.fields()?;
@@ -267,11 +282,12 @@ impl<'a> Parser<'a> {
         })
     }
 
-    fn enumeration(&mut self, head: Head<'a>) -> Result<Record<'a>, Stop> {
+    fn enumeration(&mut self, head: Head<'a>) -> Result<Record<'a>, Stop<'a>> {
         let before = self.complaints.len();
         let name = self.record_name()?;
         self.cursor.mark("{")?;
-        let mut kinds = Vec::new(self.cursor.alloc());
+        let arena = self.cursor.arena();
+        let mut kinds = Vec::new(arena.alloc());
         for _ in 0..self.cursor.left() {
             if self.cursor.take_mark("}") {
                 break;
@@ -289,16 +305,16 @@ impl<'a> Parser<'a> {
         Ok(Record {
             head,
             name,
-            body: Body::Kinds(kinds),
+            body: Body::Kinds(arena.list(kinds.as_slice())?),
             is_whole: self.complaints.len() == before,
         })
     }
 
     // The name of a record, which takes no types or lifetimes.
-    fn record_name(&mut self) -> Result<Token<'a>, Stop> {
+    fn record_name(&mut self) -> Result<Token<'a>, Stop<'a>> {
         let name = self.cursor.token(Kind::Name, "a name")?;
         if self.cursor.is_mark("<") {
-            return self.cursor.wrong(
+            return Stop::wrong(
                 self.cursor.here(),
                 "a record with types or lifetimes of its own",
                 "write a record for each type that it is used with, and own what it borrows",
@@ -307,7 +323,7 @@ impl<'a> Parser<'a> {
         Ok(name)
     }
 
-    fn variant(&mut self) -> Result<Variant<'a>, Stop> {
+    fn variant(&mut self) -> Result<Variant<'a>, Stop<'a>> {
         let head = self.head()?;
         let name = self.cursor.token(Kind::Name, "the name of a kind")?;
         let fields = self.fields()?;
@@ -325,27 +341,39 @@ impl<'a> Parser<'a> {
     }
 
     // Fields in braces, in parentheses, or none.
-    fn fields(&mut self) -> Result<Fields<'a>, Stop> {
-        let (shape, close) = if self.cursor.take_mark("{") {
-            (Shape::Named, "}")
-        } else if self.cursor.take_mark("(") {
-            (Shape::Tuple, ")")
-        } else {
-            (Shape::Unit, "")
-        };
-        let list = if shape == Shape::Unit {
-            Vec::new(self.cursor.alloc())
-        } else {
-            self.field_list(shape, close)?
-        };
-        Ok(Fields { shape, list })
+    fn fields(&mut self) -> Result<Fields<'a>, Stop<'a>> {
+        if self.cursor.take_mark("{") {
+            return self.field_list(Shape::Named, "}");
+        }
+        if self.cursor.take_mark("(") {
+            return self.field_list(Shape::Tuple, ")");
+        }
+        Ok(Fields {
+            shape: Shape::Unit,
+            list: &[],
+        })
     }
 
-    fn field_list(&mut self, shape: Shape, close: &str) -> Result<Vec<Field<'a>>, Stop> {
-        let mut list = Vec::new(self.cursor.alloc());
+    fn field_list(&mut self, shape: Shape, close: &str) -> Result<Fields<'a>, Stop<'a>> {
+        let arena = self.cursor.arena();
+        let mut list = Vec::new(arena.alloc());
+        self.list_fields(&mut list, shape, close)?;
+        Ok(Fields {
+            shape,
+            list: arena.list(list.as_slice())?,
+        })
+    }
+
+    // Adds the fields up to a mark.
+    fn list_fields(
+        &mut self,
+        list: &mut Vec<Field<'a>>,
+        shape: Shape,
+        close: &str,
+    ) -> Result<(), Stop<'a>> {
         for _ in 0..self.cursor.left() {
             if self.cursor.take_mark(close) {
-                return Ok(list);
+                return Ok(());
             }
             let field = self.field(shape);
             match self.noted(field)? {
@@ -353,12 +381,10 @@ impl<'a> Parser<'a> {
                 None => self.skip_part(close),
             }
             if !self.cursor.take_mark(",") {
-                self.cursor.mark(close)?;
-                return Ok(list);
+                return self.cursor.mark(close);
             }
         }
-        self.cursor.mark(close)?;
-        Ok(list)
+        self.cursor.mark(close)
     }
 
     // Skips up to a comma, or to the end of what the part is in.
@@ -378,7 +404,7 @@ impl<'a> Parser<'a> {
         }
     }
 
-    fn field(&mut self, shape: Shape) -> Result<Field<'a>, Stop> {
+    fn field(&mut self, shape: Shape) -> Result<Field<'a>, Stop<'a>> {
         let head = self.head()?;
         self.visibility();
         let name = if shape == Shape::Named {
@@ -404,9 +430,9 @@ impl<'a> Parser<'a> {
 
     // A type in at most so many others.
     #[cycle(kind)]
-    fn kind(&mut self, depth: usize) -> Result<Type<'a>, Stop> {
+    fn kind(&mut self, depth: usize) -> Result<Type<'a>, Stop<'a>> {
         if depth == 0 {
-            return self.cursor.wrong(
+            return Stop::wrong(
                 self.cursor.here(),
                 "a type in more than 32 others",
                 "give a part of it a name, as a record of its own",
@@ -422,10 +448,10 @@ impl<'a> Parser<'a> {
     }
 
     #[cycle(kind)]
-    fn array(&mut self, depth: usize) -> Result<Type<'a>, Stop> {
+    fn array(&mut self, depth: usize) -> Result<Type<'a>, Stop<'a>> {
         let item = self.kind(depth)?;
         if !self.cursor.is_mark(";") {
-            return self.cursor.wrong(
+            return Stop::wrong(
                 self.cursor.here(),
                 "a list that borrows its items",
                 "write `Vec` with `count`, or an array with its length",
@@ -434,10 +460,10 @@ impl<'a> Parser<'a> {
         self.cursor.mark(";")?;
         let length = self.length()?;
         self.cursor.mark("]")?;
-        Ok(Type::Array(Box::new(self.cursor.alloc(), item)?, length))
+        Ok(Type::Array(self.cursor.arena().one(item)?, length))
     }
 
-    fn length(&mut self) -> Result<Length<'a>, Stop> {
+    fn length(&mut self) -> Result<Length<'a>, Stop<'a>> {
         match self.cursor.peek() {
             Some(token) if token.kind == Kind::Name => {
                 self.cursor.next();
@@ -445,22 +471,29 @@ impl<'a> Parser<'a> {
             }
             _ => {
                 let token = self.cursor.token(Kind::Integer, "a length")?;
-                Ok(Length::Number(self.number(token)?))
+                Ok(Length::Number(number(token)?))
             }
         }
     }
 
     #[cycle(kind)]
-    fn tuple(&mut self, depth: usize) -> Result<Type<'a>, Stop> {
-        let mut parts = Vec::new(self.cursor.alloc());
+    fn tuple(&mut self, depth: usize) -> Result<Type<'a>, Stop<'a>> {
+        let arena = self.cursor.arena();
+        let mut parts = Vec::new(arena.alloc());
+        self.list_parts(&mut parts, depth)?;
+        Ok(Type::Tuple(arena.list(parts.as_slice())?))
+    }
+
+    // Adds the types up to a parenthesis.
+    #[cycle(kind)]
+    fn list_parts(&mut self, parts: &mut Vec<Type<'a>>, depth: usize) -> Result<(), Stop<'a>> {
         for _ in 0..self.cursor.left() {
             if self.cursor.take_mark(")") {
-                return Ok(Type::Tuple(parts));
+                return Ok(());
             }
             parts.push(self.kind(depth)?)?;
             if !self.cursor.take_mark(",") {
-                self.cursor.mark(")")?;
-                return Ok(Type::Tuple(parts));
+                return self.cursor.mark(")");
             }
         }
         self.cursor.expected("`)`")
@@ -468,13 +501,13 @@ impl<'a> Parser<'a> {
 
     // A type by its name, with a type in it if it is `Vec`, `Option` or `Box`.
     #[cycle(kind)]
-    fn named(&mut self, depth: usize) -> Result<Type<'a>, Stop> {
+    fn named(&mut self, depth: usize) -> Result<Type<'a>, Stop<'a>> {
         let name = self.type_name()?;
         if !self.cursor.is_mark("<") {
             return Ok(Type::Name(name));
         }
         if !(name.is_name("Vec") || name.is_name("Option") || name.is_name("Box")) {
-            return self.cursor.wrong(
+            return Stop::wrong(
                 name.span,
                 "a type of other types that is not supported",
                 "write `Vec`, `Option`, `Box`, or a record of its own",
@@ -483,11 +516,11 @@ impl<'a> Parser<'a> {
         self.cursor.mark("<")?;
         let item = self.kind(depth)?;
         self.cursor.mark(">")?;
-        Ok(Type::Of(name, Box::new(self.cursor.alloc(), item)?))
+        Ok(Type::Of(name, self.cursor.arena().one(item)?))
     }
 
     // The last name of a path.
-    fn type_name(&mut self) -> Result<Token<'a>, Stop> {
+    fn type_name(&mut self) -> Result<Token<'a>, Stop<'a>> {
         let mut name = self.cursor.token(Kind::Name, "a type")?;
         for _ in 0..self.cursor.left() {
             if !self.cursor.take_mark("::") {
@@ -496,6 +529,17 @@ impl<'a> Parser<'a> {
             name = self.cursor.token(Kind::Name, "a name")?;
         }
         Ok(name)
+    }
+}
+
+fn number<'a>(token: Token<'a>) -> Result<u64, Stop<'a>> {
+    match integer(token.text) {
+        Some(value) => Ok(value),
+        None => Stop::wrong(
+            token.span,
+            "a number that does not fit 64 bits",
+            "write a number of at most 64 bits",
+        ),
     }
 }
 

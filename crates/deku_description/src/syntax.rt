@@ -6,20 +6,20 @@ use deku_tokens::place::Span;
 use deku_tokens::token::Token;
 
 /// A file of descriptions.
-#[derive(Drop)]
+#[derive(Clone, Copy)]
 pub struct File<'a> {
     /// The lines of the file's own comment.
-    pub docs: Vec<&'a str>,
+    pub docs: &'a [&'a str],
     /// The paths of its `use` items, as they are written.
-    pub uses: Vec<&'a str>,
+    pub uses: &'a [&'a str],
     /// Its constants.
-    pub constants: Vec<Constant<'a>>,
+    pub constants: &'a [Constant<'a>],
     /// Its structs and enums.
-    pub records: Vec<Record<'a>>,
+    pub records: &'a [Record<'a>],
 }
 
 /// A whole number with a name.
-#[derive(Drop)]
+#[derive(Clone, Copy)]
 pub struct Constant<'a> {
     /// Its name.
     pub name: Token<'a>,
@@ -30,12 +30,12 @@ pub struct Constant<'a> {
 }
 
 /// The comments and attributes in front of something.
-#[derive(Drop)]
+#[derive(Clone, Copy)]
 pub struct Head<'a> {
     /// The lines of its comment, without their slashes.
-    pub docs: Vec<&'a str>,
+    pub docs: &'a [&'a str],
     /// What its `deku` attributes say, in their order.
-    pub attributes: Vec<Attribute<'a>>,
+    pub attributes: &'a [Attribute<'a>],
 }
 
 /// One word of a `deku` attribute, as `bits = 4`.
@@ -57,7 +57,7 @@ pub struct Value<'a> {
 }
 
 /// A struct or an enum.
-#[derive(Drop)]
+#[derive(Clone, Copy)]
 pub struct Record<'a> {
     /// Its comments and attributes.
     pub head: Head<'a>,
@@ -70,12 +70,12 @@ pub struct Record<'a> {
 }
 
 /// What a record holds.
-#[derive(Drop)]
+#[derive(Clone, Copy)]
 pub enum Body<'a> {
     /// A struct's fields.
     Fields(Fields<'a>),
     /// An enum's kinds.
-    Kinds(Vec<Variant<'a>>),
+    Kinds(&'a [Variant<'a>]),
 }
 
 /// How fields are written.
@@ -90,16 +90,16 @@ pub enum Shape {
 }
 
 /// Fields in their order.
-#[derive(Drop)]
+#[derive(Clone, Copy)]
 pub struct Fields<'a> {
     /// How they are written.
     pub shape: Shape,
     /// The fields.
-    pub list: Vec<Field<'a>>,
+    pub list: &'a [Field<'a>],
 }
 
 /// A field.
-#[derive(Drop)]
+#[derive(Clone, Copy)]
 pub struct Field<'a> {
     /// Its comments and attributes.
     pub head: Head<'a>,
@@ -112,7 +112,7 @@ pub struct Field<'a> {
 }
 
 /// A kind of an enum.
-#[derive(Drop)]
+#[derive(Clone, Copy)]
 pub struct Variant<'a> {
     /// Its comments and attributes.
     pub head: Head<'a>,
@@ -125,16 +125,16 @@ pub struct Variant<'a> {
 }
 
 /// A type.
-#[derive(Drop)]
+#[derive(Clone, Copy)]
 pub enum Type<'a> {
     /// A type by the last name of its path.
     Name(Token<'a>),
     /// `Vec`, `Option` or `Box`, by this name, of a type.
-    Of(Token<'a>, Box<Type<'a>>),
+    Of(Token<'a>, &'a Type<'a>),
     /// An array, with its length.
-    Array(Box<Type<'a>>, Length<'a>),
+    Array(&'a Type<'a>, Length<'a>),
     /// A tuple.
-    Tuple(Vec<Type<'a>>),
+    Tuple(&'a [Type<'a>]),
 }
 
 /// The length of an array.
@@ -147,7 +147,7 @@ pub enum Length<'a> {
 }
 
 /// What a count or a condition computes.
-#[derive(Drop)]
+#[derive(Clone, Copy)]
 pub enum Expression<'a> {
     /// A whole number.
     Number(u64, Span),
@@ -158,15 +158,15 @@ pub enum Expression<'a> {
     /// A field of a field.
     Part(Token<'a>, Token<'a>),
     /// What is not so.
-    Not(Box<Expression<'a>>),
+    Not(&'a Expression<'a>),
     /// A value as another type.
-    Cast(Box<Expression<'a>>, Token<'a>),
+    Cast(&'a Expression<'a>, Token<'a>),
     /// Two values and what is made of them.
-    Both(Operator, Box<Expression<'a>>, Box<Expression<'a>>),
+    Both(Operator, &'a Expression<'a>, &'a Expression<'a>),
 }
 
 /// Which item is the last of its list, as `|item: &u8| *item == 0` says.
-#[derive(Drop)]
+#[derive(Clone, Copy)]
 pub struct Closure<'a> {
     /// What the item is called.
     pub name: Token<'a>,

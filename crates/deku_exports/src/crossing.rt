@@ -4,19 +4,21 @@ use crate::header::noted;
 use deku_attributes::model::{Attribute, Field, Form, Module, Record};
 use deku_attributes::reading::bits_of;
 use deku_description::syntax::{Constant, Length, Shape, Type};
+use deku_texts::document::joined;
 use deku_texts::refusal::Stop;
 use deku_texts::words::snake;
+use deku_tokens::arena::Arena;
 use deku_tokens::place::Complaint;
 use deku_tokens::token::Token;
-use std::alloc::{AllocError, Global};
+use std::alloc::AllocError;
 use std::fmt::Write as _;
 
 /// A record as C has it.
-#[derive(Drop)]
-pub(crate) struct Crossed<'m, 'a> {
-    pub(crate) record: &'m Record<'a>,
+#[derive(Clone, Copy)]
+pub(crate) struct Crossed<'a> {
+    pub(crate) record: &'a Record<'a>,
     /// Its fields, each with its comment.
-    pub(crate) fields: Vec<String>,
+    pub(crate) fields: &'a [&'a str],
     /// How many bytes it is written as.
     pub(crate) bytes: u64,
     // How many bits it has.
@@ -105,15 +107,14 @@ const KEYWORDS: [&str; 77] = [
 ];
 
 /// The records of a module as C has them, with what C has not.
-pub(crate) fn records_of<'m, 'a>(
-    alloc: Global,
-    module: &'m Module<'a>,
-) -> Result<(Vec<Crossed<'m, 'a>>, Vec<Complaint>), AllocError> {
-    let mut records = Vec::new(alloc);
-    let mut complaints = Vec::new(alloc);
-    for record in &module.records {
-        let constants = module.constants.as_slice();
-        match crossed_record(alloc, constants, records.as_slice(), record) {
+pub(crate) fn records_of<'a>(
+    arena: &'a Arena,
+    module: &Module<'a>,
+) -> Result<(Vec<Crossed<'a>>, Vec<Complaint<'a>>), AllocError> {
+    let mut records = Vec::new(arena.alloc());
+    let mut complaints = Vec::new(arena.alloc());
+    for record in module.records {
+        match crossed_record(arena, module.constants, records.as_slice(), record) {
             Ok(made) => records.push(made)?,
             Err(Stop::Wrong(complaint)) => complaints.push(complaint)?,
             Err(Stop::Memory) => return Err(AllocError),
@@ -123,40 +124,39 @@ pub(crate) fn records_of<'m, 'a>(
 }
 
 // A record as C has it, of which these are before.
-fn crossed_record<'m, 'a>(
-    alloc: Global,
+fn crossed_record<'a>(
+    arena: &'a Arena,
     constants: &[Constant<'a>],
-    before: &[Crossed<'m, 'a>],
-    record: &'m Record<'a>,
-) -> Result<Crossed<'m, 'a>, Stop> {
+    before: &[Crossed<'a>],
+    record: &'a Record<'a>,
+) -> Result<Crossed<'a>, Stop<'a>> {
     let fields = match &record.form {
-        Form::Struct(Shape::Named, fields) => fields,
+        Form::Struct(Shape::Named, fields) => *fields,
         _ => {
             return Stop::wrong(
-                alloc,
                 record.name.span,
                 "C gets only structs whose fields have names",
                 "write such a struct, or print this one without `--c`",
             );
         }
     };
-    check_name(alloc, record.name, snake(alloc, record.name.text)?.as_str())?;
-    let mut lines = Vec::new(alloc);
-    let mut bits = bits_of_magic(record.magic.as_ref());
+    check_name(record.name, snake(arena, record.name.text)?)?;
+    let mut lines = Vec::new(arena.alloc());
+    let mut bits = bits_of_magic(record.magic);
     for field in fields {
-        let (made, more) = crossed_field(alloc, constants, before, field)?;
+        let (made, more) = crossed_field(arena, constants, before, field)?;
         lines.push(made)?;
         bits = bits.saturating_add(more);
     }
     Ok(Crossed {
         record,
-        fields: lines,
+        fields: arena.list(lines.as_slice())?,
         bytes: bits.div_ceil(8),
         bits,
     })
 }
 
-fn bits_of_magic(magic: Option<&Vec<u8>>) -> u64 {
+fn bits_of_magic(magic: Option<&[u8]>) -> u64 {
     match magic {
         Some(bytes) => 8u64.saturating_mul(bytes.len() as u64),
         None => 0,
@@ -165,55 +165,46 @@ fn bits_of_magic(magic: Option<&Vec<u8>>) -> u64 {
 
 // A field as C has it, and how many bits it has with its padding.
 fn crossed_field<'a>(
-    alloc: Global,
+    arena: &'a Arena,
     constants: &[Constant<'a>],
-    before: &[Crossed<'_, 'a>],
+    before: &[Crossed<'a>],
     field: &Field<'a>,
-) -> Result<(String, u64), Stop> {
+) -> Result<(&'a str, u64), Stop<'a>> {
     let name = match field.name {
         Some(name) => name,
         None => return Err(Stop::Memory),
     };
     let text = name.text;
-    check_name(alloc, name, text)?;
-    let mut lengths = String::new(alloc);
+    check_name(name, text)?;
+    let mut lengths = String::new(arena.alloc());
     let Some((item, count)) = item_of(&field.kind, constants, &mut lengths)? else {
-        return lacking(alloc, field);
+        return lacking(field);
     };
-    let Some((kind, bits)) = kind_of(alloc, before, item.text, field.bits)? else {
-        return lacking(alloc, field);
+    let Some((kind, bits)) = kind_of(arena, before, item.text, field.bits)? else {
+        return lacking(field);
     };
-    let mut lines = String::new(alloc);
-    noted(&mut lines, field.docs.as_slice())?;
-    declared(&mut lines, kind.as_str(), text, lengths.as_str())?;
+    let (note, lengths) = (noted(arena, field.docs)?, lengths.as_str());
     Ok((
-        lines,
+        arena.print(format_args!("{note}    {kind} {text}{lengths};\n"))?,
         bits_around(field).saturating_add(bits.saturating_mul(count)),
     ))
 }
 
 // Complains of a name that is this one in C, if that is a keyword there.
-fn check_name(alloc: Global, name: Token<'_>, in_c: &str) -> Result<(), Stop> {
+fn check_name<'a>(name: Token<'a>, in_c: &str) -> Result<(), Stop<'a>> {
     if !KEYWORDS.contains(&in_c) {
         return Ok(());
     }
     Stop::wrong(
-        alloc,
         name.span,
         "a name that is a keyword of C or C++",
         "give it another name",
     )
 }
 
-// Appends the line of a field.
-fn declared(out: &mut String, kind: &str, name: &str, lengths: &str) -> Result<(), AllocError> {
-    writeln!(out, "    {kind} {name}{lengths};")
-}
-
 // Complains of a field that C does not have.
-fn lacking<T>(alloc: Global, field: &Field<'_>) -> Result<T, Stop> {
+fn lacking<'a, T>(field: &Field<'a>) -> Result<T, Stop<'a>> {
     Stop::wrong(
-        alloc,
         field.span,
         "C gets only numbers of at most 64 bits, truth values, records before this one, and arrays",
         "write such a field, or print the record without `--c`",
@@ -253,21 +244,19 @@ fn length_of(length: Length<'_>, constants: &[Constant<'_>]) -> u64 {
 }
 
 // A type as C has it, and how many bits it has where as many are said.
-fn kind_of(
-    alloc: Global,
-    before: &[Crossed<'_, '_>],
+fn kind_of<'a>(
+    arena: &'a Arena,
+    before: &[Crossed<'a>],
     name: &str,
     said: Option<u64>,
-) -> Result<Option<(String, u64)>, AllocError> {
+) -> Result<Option<(&'a str, u64)>, AllocError> {
     if let (Some(kind), Some(bits)) = (number(name), bits_of(name)) {
-        let kind = String::from_str(alloc, kind)?;
         return Ok(Some((kind, said.unwrap_or(bits))));
     }
     match before.iter().find(|it| it.record.name.text == name) {
         Some(inner) => {
-            let name = snake(alloc, name)?;
-            let name = name.as_str();
-            Ok(Some((format!(in alloc; "struct {name}")?, inner.bits)))
+            let kind = joined(arena, "struct ", snake(arena, name)?)?;
+            Ok(Some((kind, inner.bits)))
         }
         None => Ok(None),
     }
@@ -292,10 +281,10 @@ fn number(name: &str) -> Option<&'static str> {
 // The bits of the padding around a field, and of the bytes in front of it.
 fn bits_around(field: &Field<'_>) -> u64 {
     let mut bits = 0u64;
-    for attribute in &field.attributes {
+    for attribute in field.attributes {
         bits = bits.saturating_add(match attribute {
             Attribute::PadBefore(more) | Attribute::PadAfter(more) => *more,
-            Attribute::Magic(bytes) => bits_of_magic(Some(bytes)),
+            Attribute::Magic(bytes) => bits_of_magic(Some(*bytes)),
             _ => 0,
         });
     }

@@ -3,11 +3,17 @@
 use crate::crossing::Crossed;
 use crate::exports::WIDTH;
 use deku_attributes::model::Module;
+use deku_texts::document::joined;
+use deku_texts::template::fill;
 use deku_texts::words::snake;
-use std::alloc::{AllocError, Global};
+use deku_tokens::arena::Arena;
+use std::alloc::AllocError;
 use std::fmt::Write as _;
 
-const CALLERS: &str = "
+const HEADER: &str = "\
+/*
+$docs$ * Printed by `derive --header` from `$file$`.
+ *
  * What every call needs of its caller:
  * - No pointer is null, and each is aligned for its type.
  * - The memory that a call writes overlaps no other argument, and nothing else uses it meanwhile.
@@ -17,9 +23,9 @@ const CALLERS: &str = "
  * number of the error, as `enum dishkaru_status` of dishkaru.h names it: 3 if the bytes end, 5 if a
  * value does not fit its field, 6 if a check fails, 8 if there is too little room.
  */
-";
+#ifndef $guard$
+#define $guard$
 
-const BEGIN: &str = "
 #include <stdbool.h>
 #include <stddef.h>
 #include <stdint.h>
@@ -27,9 +33,7 @@ const BEGIN: &str = "
 #ifdef __cplusplus
 extern \"C\" {
 #endif
-";
-
-const END: &str = "
+$records$
 #ifdef __cplusplus
 }
 #endif
@@ -37,51 +41,36 @@ const END: &str = "
 #endif
 ";
 
-// What is above a function that reads.
-const READS: &str = "
-/*
- * Reads *record from the first of the bytes on; those after it are ignored. After an error *record
- * is as it was.
- */
-";
-
-// What is above a function that writes.
-const WRITES: &str = "
-/*
- * Writes *record to the start of the bytes; those after it stay as they were. After an error some
- * of the bytes may have been written.
- */
-";
-
 /// The header of a module with these records.
 pub(crate) fn header(
-    alloc: Global,
+    arena: &Arena,
     file: &str,
     module: &Module<'_>,
-    records: &[Crossed<'_, '_>],
+    records: &[Crossed<'_>],
 ) -> Result<String, AllocError> {
     let file = file.rsplit('/').next().unwrap_or(file);
-    let guard = guard_of(alloc, file)?;
-    let guard = guard.as_str();
-    let mut out = String::from_str(alloc, "/*\n")?;
-    comment(&mut out, module.docs.as_slice(), " *")?;
+    let mut docs = comment(arena, module.docs, " *")?;
     if !module.docs.is_empty() {
-        out.push_str(" *\n")?;
+        docs.push_str(" *\n")?;
     }
-    writeln!(out, " * Printed by `derive --header` from `{file}`.\n *")?;
-    out.push_str(CALLERS.trim_start_matches('\n'))?;
-    writeln!(out, "#ifndef {guard}\n#define {guard}")?;
-    out.push_str(BEGIN)?;
+    let mut declarations = String::new(arena.alloc());
     for record in records {
-        declared(&mut out, record)?;
+        declared(arena, &mut declarations, *record)?;
     }
-    out.push_str(END)?;
+    let words = [
+        ("docs", docs.as_str()),
+        ("file", file),
+        ("guard", guard_of(arena, file)?),
+        ("records", declarations.as_str()),
+    ];
+    let mut out = String::new(arena.alloc());
+    fill(&mut out, HEADER, &words)?;
     Ok(out)
 }
 
 // The macro that keeps a header from being read twice: of `point.rs` `POINT_H`.
-fn guard_of(alloc: Global, file: &str) -> Result<String, AllocError> {
-    let mut guard = String::new(alloc);
+fn guard_of<'a>(arena: &'a Arena, file: &str) -> Result<&'a str, AllocError> {
+    let mut guard = String::new(arena.alloc());
     for letter in file.strip_suffix(".rs").unwrap_or(file).chars() {
         guard.push(if letter.is_ascii_alphanumeric() {
             letter.to_ascii_uppercase()
@@ -90,88 +79,109 @@ fn guard_of(alloc: Global, file: &str) -> Result<String, AllocError> {
         })?;
     }
     guard.push_str("_H")?;
-    Ok(guard)
+    arena.keep(guard.as_str())
 }
 
-// Appends lines of a comment, except those that would end it.
-fn comment(out: &mut String, lines: &[&str], marks: &str) -> Result<(), AllocError> {
+// Lines of a comment, except those that would end it.
+fn comment(arena: &Arena, lines: &[&str], marks: &str) -> Result<String, AllocError> {
+    let mut text = String::new(arena.alloc());
     for line in lines {
         if !line.contains("*/") {
-            writeln!(out, "{marks}{line}")?;
+            writeln!(text, "{marks}{line}")?;
         }
     }
-    Ok(())
+    Ok(text)
 }
 
-/// Appends the comment of a field.
-pub(crate) fn noted(out: &mut String, lines: &[&str]) -> Result<(), AllocError> {
+/// The comment of a field.
+pub(crate) fn noted<'a>(arena: &'a Arena, lines: &[&str]) -> Result<&'a str, AllocError> {
     match lines {
-        [] => Ok(()),
-        [line] if !line.contains("*/") => writeln!(out, "    /*{line} */"),
+        [] => Ok(""),
+        [line] if !line.contains("*/") => arena.print(format_args!("    /*{line} */\n")),
         _ => {
-            out.push_str("    /*\n")?;
-            comment(out, lines, "     *")?;
-            out.push_str("     */\n")
+            let text = comment(arena, lines, "     *")?;
+            let text = text.as_str();
+            arena.print(format_args!("    /*\n{text}     */\n"))
         }
     }
 }
+
+const RECORD: &str = "
+/*
+$docs$ */
+struct $name$ {
+$fields$};
+
+/* How many bytes a struct $name$ is read from, and written as. */
+#define $large$_BYTES $bytes$
+
+/*
+ * Reads *record from the first of the bytes on; those after it are ignored. After an error *record
+ * is as it was.
+ */
+$read$
+
+/*
+ * Writes *record to the start of the bytes; those after it stay as they were. After an error some
+ * of the bytes may have been written.
+ */
+$write$
+";
 
 // Appends a struct and its functions.
-fn declared(out: &mut String, crossed: &Crossed<'_, '_>) -> Result<(), AllocError> {
-    let alloc = *out.allocator();
-    let record = crossed.record;
-    let name = snake(alloc, record.name.text)?;
-    let name = name.as_str();
-    out.push_str("\n/*\n")?;
-    comment(out, record.docs.as_slice(), " *")?;
+fn declared(arena: &Arena, out: &mut String, crossed: Crossed<'_>) -> Result<(), AllocError> {
+    let (record, bytes) = (crossed.record, crossed.bytes);
+    let name = snake(arena, record.name.text)?;
+    let mut docs = comment(arena, record.docs, " *")?;
     if record.docs.is_empty() {
         let text = record.name.text;
-        writeln!(out, " * The record `{text}`.")?;
+        writeln!(docs, " * The record `{text}`.")?;
     }
-    writeln!(out, " */\nstruct {name} {{")?;
-    for field in &crossed.fields {
-        out.push_str(field.as_str())?;
-    }
-    let large = upper(alloc, name)?;
-    let (large, bytes) = (large.as_str(), crossed.bytes);
-    writeln!(
-        out,
-        "}};
+    let fields = crossed.fields.join(arena.alloc(), "")?;
+    let words = [
+        ("docs", docs.as_str()),
+        ("name", name),
+        ("fields", fields.as_str()),
+        ("large", upper(arena, name)?),
+        ("bytes", arena.print(format_args!("{bytes}"))?),
+        ("read", reading(arena, name)?),
+        ("write", writing(arena, name)?),
+    ];
+    fill(out, RECORD, &words)
+}
 
-/* How many bytes a struct {name} is read from, and written as. */
-#define {large}_BYTES {bytes}"
+// What declares the function that reads a struct.
+fn reading<'a>(arena: &'a Arena, name: &str) -> Result<&'a str, AllocError> {
+    let head = joined(
+        arena,
+        name,
+        "_read(const uint8_t *bytes, size_t byte_count,",
     )?;
-    functions(out, name)
+    let last = arena.print(format_args!("struct {name} *record);"))?;
+    prototype(arena, head, last)
 }
 
-// Appends the functions of a struct.
-fn functions(out: &mut String, name: &str) -> Result<(), AllocError> {
-    let alloc = *out.allocator();
-    out.push_str(READS)?;
-    let head = format!(in alloc; "{name}_read(const uint8_t *bytes, size_t byte_count,")?;
-    let last = format!(in alloc; "struct {name} *record);")?;
-    prototype(out, head.as_str(), last.as_str())?;
-    out.push_str(WRITES)?;
-    let head = format!(in alloc; "{name}_write(const struct {name} *record, uint8_t *bytes,")?;
-    prototype(out, head.as_str(), "size_t byte_count);")
+// What declares the function that writes a struct.
+fn writing<'a>(arena: &'a Arena, name: &str) -> Result<&'a str, AllocError> {
+    let head = format_args!("{name}_write(const struct {name} *record, uint8_t *bytes,");
+    prototype(arena, arena.print(head)?, "size_t byte_count);")
 }
 
-// Appends what declares a function: one line, or two if one does not hold it.
-fn prototype(out: &mut String, head: &str, last: &str) -> Result<(), AllocError> {
-    let line = format!(in *out.allocator(); "uint32_t {head} {last}")?;
-    let line = line.as_str();
+// What declares a function: one line, or two if one does not hold it.
+fn prototype<'a>(arena: &'a Arena, head: &str, last: &str) -> Result<&'a str, AllocError> {
+    let line = arena.print(format_args!("uint32_t {head} {last}"))?;
     if line.chars().count() <= WIDTH {
-        writeln!(out, "{line}")
+        Ok(line)
     } else {
-        writeln!(out, "uint32_t {head}\n    {last}")
+        arena.print(format_args!("uint32_t {head}\n    {last}"))
     }
 }
 
 // A name with large letters.
-fn upper(alloc: Global, name: &str) -> Result<String, AllocError> {
-    let mut large = String::new(alloc);
+fn upper<'a>(arena: &'a Arena, name: &str) -> Result<&'a str, AllocError> {
+    let mut large = String::new(arena.alloc());
     for letter in name.chars() {
         large.push(letter.to_ascii_uppercase())?;
     }
-    Ok(large)
+    arena.keep(large.as_str())
 }

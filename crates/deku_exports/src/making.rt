@@ -7,6 +7,7 @@ use deku_attributes::check;
 use deku_derive::making::{Made, add};
 use deku_derive::printing::{Asked, Printed, print};
 use deku_description::parse;
+use deku_tokens::arena::Arena;
 use deku_tokens::place::told;
 use std::alloc::{AllocError, Global};
 
@@ -37,29 +38,42 @@ pub fn make_for_c<'t>(
     text: &str,
     wanted: Wanted,
 ) -> Result<Made, AllocError> {
-    let (parsed, mut complaints) = parse(alloc, text)?;
-    let (module, found) = check(alloc, text, parsed, complaints.is_empty())?;
+    let arena = Arena::new(alloc);
+    run(&arena, file, path, text, wanted)
+}
+
+// The module or the header, with what is made of the description in this arena.
+fn run<'a>(
+    arena: &'a Arena,
+    file: &'a str,
+    path: Option<&'a str>,
+    text: &'a str,
+    wanted: Wanted,
+) -> Result<Made, AllocError> {
+    let (parsed, mut complaints) = parse(arena, text)?;
+    let (module, found) = check(arena, text, parsed, complaints.is_empty())?;
     add(&mut complaints, found)?;
-    let functions = exports(alloc, &module)?;
+    let functions = exports(arena, &module)?;
     let asked = Asked {
         file,
         path,
-        exports: Some(functions.as_str()),
+        exports: Some(functions),
     };
     let Printed {
         module: printed,
         complaints: found,
         ..
-    } = print(alloc, asked, &module)?;
+    } = print(arena, asked, &module)?;
     add(&mut complaints, found)?;
-    let (records, found) = records_of(alloc, &module)?;
+    let (records, found) = records_of(arena, &module)?;
     add(&mut complaints, found)?;
     if !complaints.is_empty() {
         complaints.sort_by_key(|complaint| complaint.span.start)?;
-        return Ok(Made::Wrong(told(alloc, file, text, complaints.as_slice())?));
+        let told = told(arena.alloc(), file, text, complaints.as_slice())?;
+        return Ok(Made::Wrong(told));
     }
     Ok(Made::Module(match wanted {
         Wanted::Module => printed,
-        Wanted::Header => header(alloc, file, &module, records.as_slice())?,
+        Wanted::Header => header(arena, file, &module, records.as_slice())?,
     }))
 }

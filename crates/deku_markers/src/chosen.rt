@@ -1,125 +1,104 @@
 //! Parts, and after them an enum that they choose the kind of.
 
 use crate::part::{Named, Part};
-use crate::texts::{Texts, field};
+use crate::texts::{Texts, field, headed};
 use deku_texts::document::{Form, Text, joined};
-use std::alloc::{AllocError, Global};
+use deku_tokens::arena::Arena;
+use std::alloc::AllocError;
 
 /// A head, and after it a field of this enum, of the kind that the marker of this name says.
 pub fn chosen<'a>(
-    alloc: Global,
+    arena: &'a Arena,
     head: Part<'a>,
-    called: Named<'_>,
-    types: (&str, &str),
+    called: Named<'a>,
+    types: (&'a str, &'a str),
 ) -> Result<Part<'a>, AllocError> {
-    let Part { texts, fields, .. } = head;
-    let fields = fields.followed(alloc, called.name, None, ".kind")?;
     Ok(Part {
-        texts: printed(alloc, texts, called, types)?,
+        texts: printed(arena, head.texts, called, types)?,
         is_lent: called.owner.is_lent(),
-        fields,
+        fields: head.fields.followed(arena, called.name, None, ".kind")?,
     })
 }
 
 // How they are printed.
-fn printed(
-    alloc: Global,
-    head: Texts,
-    called: Named<'_>,
-    (marker, enumeration): (&str, &str),
-) -> Result<Texts, AllocError> {
-    let Texts {
-        kind,
-        lent,
-        pattern,
-        value,
-        term,
-    } = head;
+fn printed<'a>(
+    arena: &'a Arena,
+    head: Texts<'a>,
+    called: Named<'a>,
+    (marker, enumeration): (&'a str, &'a str),
+) -> Result<Texts<'a>, AllocError> {
     let is_lent = called.owner.is_lent();
     Ok(Texts {
-        kind: type_of(alloc, kind, marker, enumeration)?,
-        lent: lent_of(alloc, is_lent, lent, marker, enumeration)?,
-        pattern: pattern_of(alloc, pattern, called.name)?,
-        value: value_of(alloc, value, called, marker)?,
-        term: term_of(alloc, term, called.access, enumeration)?,
+        kind: type_of(arena, head.kind, marker, enumeration)?,
+        lent: lent_of(arena, is_lent, head.lent, marker, enumeration)?,
+        pattern: pattern_of(arena, head.pattern, called.name)?,
+        value: value_of(arena, head.value, called, marker)?,
+        term: term_of(arena, head.term, called.access, enumeration)?,
     })
 }
 
 // The type of a head and of the kinds of an enum.
-fn type_of(alloc: Global, head: Text, marker: &str, kind: &str) -> Result<Text, AllocError> {
-    let marker = Text::word(alloc, marker)?;
-    three(
-        alloc,
-        (Form::Angle, "ChosenBy<"),
-        head,
-        marker,
-        joined(alloc, kind, "Kinds")?.as_str(),
-    )
+fn type_of<'a>(
+    arena: &'a Arena,
+    head: Text<'a>,
+    marker: &'a str,
+    kind: &str,
+) -> Result<Text<'a>, AllocError> {
+    let kinds = joined(arena, kind, "Kinds")?;
+    headed(arena, Form::Angle, "ChosenBy<", head, &[marker, kinds])
 }
 
 // The type of what is written for it: the enum is lent, if the record it is in is not copied.
-fn lent_of(
-    alloc: Global,
+fn lent_of<'a>(
+    arena: &'a Arena,
     is_lent: bool,
-    head: Text,
-    marker: &str,
-    kind: &str,
-) -> Result<Text, AllocError> {
+    head: Text<'a>,
+    marker: &'a str,
+    kind: &'a str,
+) -> Result<Text<'a>, AllocError> {
     if !is_lent {
-        return type_of(alloc, head, marker, kind);
+        return type_of(arena, head, marker, kind);
     }
-    let marker = Text::word(alloc, marker)?;
-    let head = head.after(alloc, "'a, ")?;
-    three(alloc, (Form::Angle, "ChosenByRef<"), head, marker, kind)
+    let head = head.after(arena, "'a, ")?;
+    headed(arena, Form::Angle, "ChosenByRef<", head, &[marker, kind])
 }
 
 // The pattern of a head and of the kinds of an enum.
-fn pattern_of(alloc: Global, head: Text, name: &str) -> Result<Text, AllocError> {
-    let head = head.after(alloc, "head: ")?;
-    let kind = Text::of(field(alloc, "kind", name)?);
-    three(alloc, (Form::Brace, "ChosenBy {"), head, kind, "..")
+fn pattern_of<'a>(arena: &'a Arena, head: Text<'a>, name: &str) -> Result<Text<'a>, AllocError> {
+    let head = head.after(arena, "head: ")?;
+    let kind = field(arena, "kind", name)?;
+    headed(arena, Form::Brace, "ChosenBy {", head, &[kind, ".."])
 }
 
 // A head, and the kinds of an enum.
-fn value_of(
-    alloc: Global,
-    head: Text,
-    called: Named<'_>,
+fn value_of<'a>(
+    arena: &'a Arena,
+    head: Text<'a>,
+    called: Named<'a>,
     marker: &str,
-) -> Result<Text, AllocError> {
+) -> Result<Text<'a>, AllocError> {
     if called.owner.is_lent() {
-        let open = format!(in alloc; "ChosenByRef::<_, {marker}, _> {{")?;
-        let form = (Form::Brace, open.as_str());
-        let head = head.after(alloc, "head: ")?;
-        let value = Text::of(called.reference(alloc)?).after(alloc, "value: ")?;
-        return three(alloc, form, head, value, "id: PhantomData");
+        let open = arena.print(format_args!("ChosenByRef::<_, {marker}, _> {{"))?;
+        let head = head.after(arena, "head: ")?;
+        let value = joined(arena, "value: ", called.reference(arena)?)?;
+        return headed(arena, Form::Brace, open, head, &[value, "id: PhantomData"]);
     }
     let access = called.access;
-    let mut items = Vec::new(alloc);
-    items.push(head)?;
-    items.push(Text::of(format!(in alloc; "self.{access}.parts()")?))?;
-    Text::group(alloc, Form::Round, "ChosenBy::new(", items)
+    let parts = arena.print(format_args!("self.{access}.parts()"))?;
+    headed(arena, Form::Round, "ChosenBy::new(", head, &[parts])
 }
 
 // The same in ghost text.
-fn term_of(alloc: Global, head: Text, access: &str, enumeration: &str) -> Result<Text, AllocError> {
-    let head = head.after(alloc, "head = ")?;
-    let kind = format!(in alloc; "kind = ⟦<{enumeration} as FromParts>⟧.parts_of r.{access}")?;
-    let form = (Form::GhostBrace, "record {");
-    three(alloc, form, head, Text::of(kind), "id = record {}")
-}
-
-// Three texts in brackets.
-fn three(
-    alloc: Global,
-    (form, open): (Form, &str),
-    first: Text,
-    second: Text,
-    third: &str,
-) -> Result<Text, AllocError> {
-    let mut items = Vec::new(alloc);
-    items.push(first)?;
-    items.push(second)?;
-    items.push(Text::word(alloc, third)?)?;
-    Text::group(alloc, form, open, items)
+fn term_of<'a>(
+    arena: &'a Arena,
+    head: Text<'a>,
+    access: &str,
+    enumeration: &str,
+) -> Result<Text<'a>, AllocError> {
+    let head = head.after(arena, "head = ")?;
+    let kind = arena.print(format_args!(
+        "kind = ⟦<{enumeration} as FromParts>⟧.parts_of r.{access}"
+    ))?;
+    let others = [kind, "id = record {}"];
+    headed(arena, Form::GhostBrace, "record {", head, &others)
 }

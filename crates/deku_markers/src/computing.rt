@@ -4,20 +4,21 @@ use crate::part::Place;
 use deku_attributes::reading::{bits_of, span_of};
 use deku_description::syntax::{Constant, Expression, Operator};
 use deku_texts::refusal::Stop;
+use deku_tokens::arena::Arena;
 use deku_tokens::place::Span;
 use deku_tokens::token::Token;
-use std::alloc::Global;
+use std::alloc::AllocError;
 
 /// How tightly a name or a number binds.
 const ATOM: u8 = 10;
 
 /// A value that is computed.
-#[derive(Drop)]
-pub struct Computed {
+#[derive(Clone, Copy)]
+pub struct Computed<'a> {
     /// It as code, where each field is a local of its name.
-    pub code: String,
+    pub code: &'a str,
     /// It as ghost text, where the parts are `p`.
-    pub term: String,
+    pub term: &'a str,
     // How tightly both bind.
     strength: u8,
     // The most that it can be, if it is a number.
@@ -28,16 +29,16 @@ pub struct Computed {
 
 /// What has to be known to compute a value.
 #[derive(Drop)]
-pub struct Computer<'p, 'c, 'a> {
-    pub alloc: Global,
+pub struct Computer<'c, 'a> {
+    pub arena: &'a Arena,
     /// The fields in front.
-    pub places: &'p [Place<'a>],
+    pub places: &'a [Place<'a>],
     /// The constants of the file.
     pub constants: &'c [Constant<'a>],
     /// Which fields are used.
     pub used: Vec<usize>,
     /// When there is no value, as ghost text and as code.
-    pub guards: Vec<(String, String)>,
+    pub guards: Vec<(&'a str, &'a str)>,
     /// Whether the fields have to be of one type.
     pub is_mixed: bool,
     /// What the code that reaches the fields begins with.
@@ -46,37 +47,33 @@ pub struct Computer<'p, 'c, 'a> {
     pub owner: Option<&'a str>,
 }
 
-impl<'p, 'c, 'a> Computer<'p, 'c, 'a> {
+impl<'c, 'a> Computer<'c, 'a> {
     pub fn new(
-        alloc: Global,
-        places: &'p [Place<'a>],
+        arena: &'a Arena,
+        places: &'a [Place<'a>],
         constants: &'c [Constant<'a>],
-    ) -> Computer<'p, 'c, 'a> {
+    ) -> Computer<'c, 'a> {
         Computer {
-            alloc,
+            arena,
             places,
             constants,
-            used: Vec::new(alloc),
-            guards: Vec::new(alloc),
+            used: Vec::new(arena.alloc()),
+            guards: Vec::new(arena.alloc()),
             is_mixed: false,
             from: "parts",
             owner: None,
         }
     }
 
-    fn wrong<T>(&self, span: Span, message: &str, help: &str) -> Result<T, Stop> {
-        Stop::wrong(self.alloc, span, message, help)
-    }
-
     /// What an expression computes.
-    pub fn value(&mut self, expression: &Expression<'a>) -> Result<Computed, Stop> {
+    pub fn value(&mut self, expression: &Expression<'a>) -> Result<Computed<'a>, Stop<'a>> {
         match expression {
             Expression::Number(number, _) => self.number(*number),
             Expression::Truth(truth, _) => {
                 let text = if *truth { "true" } else { "false" };
-                self.truth(text, text, ATOM)
+                Ok(truth_value(text, text, ATOM))
             }
-            Expression::Name(name) if self.owner == Some(name.text) => self.wrong(
+            Expression::Name(name) if self.owner == Some(name.text) => Stop::wrong(
                 name.span,
                 "a record in an expression",
                 "compare one of its fields",
@@ -85,14 +82,14 @@ impl<'p, 'c, 'a> Computer<'p, 'c, 'a> {
             Expression::Part(name, field) if self.owner == Some(name.text) => {
                 self.name(field.text, field.span)
             }
-            Expression::Part(name, _) => self.wrong(
+            Expression::Part(name, _) => Stop::wrong(
                 name.span,
                 "a field of a field in an expression",
                 "move the field into this record, or this field into that one",
             ),
             Expression::Not(value) => {
                 let value = self.value(value)?;
-                self.not(&value, expression)
+                self.not(value, expression)
             }
             Expression::Cast(value, kind) => {
                 let value = self.value(value)?;
@@ -102,16 +99,16 @@ impl<'p, 'c, 'a> Computer<'p, 'c, 'a> {
                 let span = span_of(right);
                 let left = self.value(left)?;
                 let right = self.value(right)?;
-                self.both(*operator, &left, &right, span)
+                self.both(*operator, left, right, span)
             }
         }
     }
 
     /// A number.
-    pub fn number(&self, number: u64) -> Result<Computed, Stop> {
-        let text = format!(in self.alloc; "{number}")?;
+    pub fn number(&self, number: u64) -> Result<Computed<'a>, Stop<'a>> {
+        let text = self.arena.print(format_args!("{number}"))?;
         Ok(Computed {
-            code: text.clone()?,
+            code: text,
             term: text,
             strength: ATOM,
             most: Some(number),
@@ -119,29 +116,16 @@ impl<'p, 'c, 'a> Computer<'p, 'c, 'a> {
         })
     }
 
-    fn truth(&self, code: &str, term: &str, strength: u8) -> Result<Computed, Stop> {
-        Ok(Computed {
-            code: String::from_str(self.alloc, code)?,
-            term: String::from_str(self.alloc, term)?,
-            strength,
-            most: None,
-            kind: None,
-        })
-    }
-
     /// A field in front, or a constant.
-    pub fn name(&mut self, name: &str, span: Span) -> Result<Computed, Stop> {
+    pub fn name(&mut self, name: &str, span: Span) -> Result<Computed<'a>, Stop<'a>> {
         for constant in self.constants {
             if constant.name.text == name {
                 return self.number(constant.value);
             }
         }
-        let place = self
-            .places
-            .iter()
-            .position(|place| place.name.as_str() == name);
+        let place = self.places.iter().position(|place| place.name == name);
         let Some(index) = place else {
-            return self.wrong(
+            return Stop::wrong(
                 span,
                 "a name that is no field in front of this one",
                 "move the field in front, and into this record",
@@ -150,7 +134,7 @@ impl<'p, 'c, 'a> Computer<'p, 'c, 'a> {
         self.field(index, span)
     }
 
-    fn field(&mut self, index: usize, span: Span) -> Result<Computed, Stop> {
+    fn field(&mut self, index: usize, span: Span) -> Result<Computed<'a>, Stop<'a>> {
         let Some(place) = self.places.get(index) else {
             return Err(Stop::Memory);
         };
@@ -159,7 +143,7 @@ impl<'p, 'c, 'a> Computer<'p, 'c, 'a> {
             _ => None,
         };
         let Some(bits) = bits else {
-            return self.wrong(
+            return Stop::wrong(
                 span,
                 "a field in an expression that is no number from 0 and no truth value",
                 "use a field of `u8`, `u16`, `u32`, `u64` or `bool`",
@@ -168,13 +152,13 @@ impl<'p, 'c, 'a> Computer<'p, 'c, 'a> {
         if !self.used.contains(&index) {
             self.used.push(index)?;
         }
-        let path = place.path.as_str();
-        let term = format!(in self.alloc; "p{path}")?;
+        let path = place.path;
+        let term = self.arena.print(format_args!("p{path}"))?;
         if place.number == Some("bool") {
-            return self.truth(place.name.as_str(), term.as_str(), ATOM);
+            return Ok(truth_value(place.name, term, ATOM));
         }
         Ok(Computed {
-            code: place.name.clone()?,
+            code: place.name,
             term,
             strength: ATOM,
             most: Some(most_of(bits)),
@@ -182,9 +166,13 @@ impl<'p, 'c, 'a> Computer<'p, 'c, 'a> {
         })
     }
 
-    fn not(&self, value: &Computed, expression: &Expression<'a>) -> Result<Computed, Stop> {
+    fn not(
+        &self,
+        value: Computed<'a>,
+        expression: &Expression<'a>,
+    ) -> Result<Computed<'a>, Stop<'a>> {
         if value.most.is_some() {
-            return self.wrong(
+            return Stop::wrong(
                 span_of(expression),
                 "`!` of a number",
                 "compare the number with another one",
@@ -194,16 +182,16 @@ impl<'p, 'c, 'a> Computer<'p, 'c, 'a> {
     }
 
     // A truth value with `!` in front.
-    fn negated(&self, value: &Computed) -> Result<Computed, Stop> {
-        let code = argument(self.alloc, value.code.as_str(), value.strength)?;
-        let term = argument(self.alloc, value.term.as_str(), value.strength)?;
-        let code = format!(in self.alloc; "!{code}")?;
-        let term = format!(in self.alloc; "not {term}")?;
-        self.truth(code.as_str(), term.as_str(), 9)
+    fn negated(&self, value: Computed<'a>) -> Result<Computed<'a>, Stop<'a>> {
+        let code = argument(self.arena, value.code, value.strength)?;
+        let term = argument(self.arena, value.term, value.strength)?;
+        let code = self.arena.print(format_args!("!{code}"))?;
+        let term = self.arena.print(format_args!("not {term}"))?;
+        Ok(truth_value(code, term, 9))
     }
 
     // A number as another type, which has to hold it.
-    fn cast(&mut self, value: Computed, kind: Token<'a>) -> Result<Computed, Stop> {
+    fn cast(&mut self, value: Computed<'a>, kind: Token<'a>) -> Result<Computed<'a>, Stop<'a>> {
         let held = match bits_of(kind.text) {
             Some(bits) if !kind.text.starts_with('i') && kind.text != "bool" => most_of(bits),
             _ => 0,
@@ -213,7 +201,7 @@ impl<'p, 'c, 'a> Computer<'p, 'c, 'a> {
                 self.is_mixed = true;
                 Ok(value)
             }
-            _ => self.wrong(
+            _ => Stop::wrong(
                 kind.span,
                 "a type that does not hold the number",
                 "write `as usize`",
@@ -225,10 +213,10 @@ impl<'p, 'c, 'a> Computer<'p, 'c, 'a> {
     pub fn both(
         &mut self,
         operator: Operator,
-        left: &Computed,
-        right: &Computed,
+        left: Computed<'a>,
+        right: Computed<'a>,
         span: Span,
-    ) -> Result<Computed, Stop> {
+    ) -> Result<Computed<'a>, Stop<'a>> {
         match operator {
             Operator::Or => self.logical(("||", 1), left, right, span),
             Operator::And => self.logical(("&&", 2), left, right, span),
@@ -250,7 +238,7 @@ impl<'p, 'c, 'a> Computer<'p, 'c, 'a> {
             | Operator::BitXor
             | Operator::BitAnd
             | Operator::Left
-            | Operator::Right => self.wrong(
+            | Operator::Right => Stop::wrong(
                 span,
                 "an operator on the bits of a number is not supported",
                 "describe these bits as fields of their own, with `bits`",
@@ -261,12 +249,12 @@ impl<'p, 'c, 'a> Computer<'p, 'c, 'a> {
     fn logical(
         &self,
         (mark, strength): (&str, u8),
-        left: &Computed,
-        right: &Computed,
+        left: Computed<'a>,
+        right: Computed<'a>,
         span: Span,
-    ) -> Result<Computed, Stop> {
+    ) -> Result<Computed<'a>, Stop<'a>> {
         if left.most.is_some() || right.most.is_some() {
-            return self.wrong(
+            return Stop::wrong(
                 span,
                 "a number where a truth value is needed",
                 "compare it with another number",
@@ -275,16 +263,16 @@ impl<'p, 'c, 'a> Computer<'p, 'c, 'a> {
         let code = self.infix(
             mark,
             strength,
-            (&left.code, left.strength),
-            (&right.code, right.strength),
+            (left.code, left.strength),
+            (right.code, right.strength),
         )?;
         let term = self.infix(
             mark,
             strength,
-            (&left.term, left.strength),
-            (&right.term, right.strength),
+            (left.term, left.strength),
+            (right.term, right.strength),
         )?;
-        self.truth(code.as_str(), term.as_str(), strength)
+        Ok(truth_value(code, term, strength))
     }
 
     // Two texts and an operator between them.
@@ -292,32 +280,32 @@ impl<'p, 'c, 'a> Computer<'p, 'c, 'a> {
         &self,
         mark: &str,
         strength: u8,
-        (left, left_strength): (&String, u8),
-        (right, right_strength): (&String, u8),
-    ) -> Result<String, Stop> {
-        let left = inside(self.alloc, left.as_str(), left_strength < strength)?;
-        let right = inside(self.alloc, right.as_str(), right_strength <= strength)?;
-        Ok(format!(in self.alloc; "{left} {mark} {right}")?)
+        (left, left_strength): (&'a str, u8),
+        (right, right_strength): (&'a str, u8),
+    ) -> Result<&'a str, Stop<'a>> {
+        let left = inside(self.arena, left, left_strength < strength)?;
+        let right = inside(self.arena, right, right_strength <= strength)?;
+        Ok(self.arena.print(format_args!("{left} {mark} {right}"))?)
     }
 
     // A truth value that is or is not another one.
     fn same_truth(
         &self,
         is_same: bool,
-        left: &Computed,
-        right: &Computed,
+        left: Computed<'a>,
+        right: Computed<'a>,
         span: Span,
-    ) -> Result<Computed, Stop> {
-        let is_true = right.code.as_str() == "true";
-        if left.most.is_some() || !is_true && right.code.as_str() != "false" {
-            return self.wrong(
+    ) -> Result<Computed<'a>, Stop<'a>> {
+        let is_true = right.code == "true";
+        if left.most.is_some() || !is_true && right.code != "false" {
+            return Stop::wrong(
                 span,
                 "truth values that are compared with one another",
                 "write the truth value alone, or with `!` in front",
             );
         }
         if is_true == is_same {
-            return self.truth(left.code.as_str(), left.term.as_str(), left.strength);
+            return Ok(truth_value(left.code, left.term, left.strength));
         }
         self.negated(left)
     }
@@ -325,12 +313,12 @@ impl<'p, 'c, 'a> Computer<'p, 'c, 'a> {
     fn compared(
         &mut self,
         operator: Operator,
-        left: &Computed,
-        right: &Computed,
+        left: Computed<'a>,
+        right: Computed<'a>,
         span: Span,
-    ) -> Result<Computed, Stop> {
+    ) -> Result<Computed<'a>, Stop<'a>> {
         let (Some(_), Some(most)) = (left.most, right.most) else {
-            return self.wrong(
+            return Stop::wrong(
                 span,
                 "a truth value where a number is needed",
                 "write the truth value alone, or with `!` in front",
@@ -345,23 +333,22 @@ impl<'p, 'c, 'a> Computer<'p, 'c, 'a> {
         let code = self.infix(
             mark,
             3,
-            (&left.code, left.strength),
-            (&right.code, right.strength),
+            (left.code, left.strength),
+            (right.code, right.strength),
         )?;
         let term = self.comparison(operator, left, right)?;
-        self.truth(code.as_str(), term.as_str(), 3)
+        Ok(truth_value(code, term, 3))
     }
 
     // A comparison in ghost text.
     fn comparison(
         &self,
         operator: Operator,
-        left: &Computed,
-        right: &Computed,
-    ) -> Result<String, Stop> {
-        let one = argument(self.alloc, left.term.as_str(), left.strength)?;
-        let other = argument(self.alloc, right.term.as_str(), right.strength)?;
-        let (one, other) = (one.as_str(), other.as_str());
+        left: Computed<'a>,
+        right: Computed<'a>,
+    ) -> Result<&'a str, Stop<'a>> {
+        let one = argument(self.arena, left.term, left.strength)?;
+        let other = argument(self.arena, right.term, right.strength)?;
         let (front, first, second, end) = match operator {
             Operator::Equal => ("nat_eq", one, other, ""),
             Operator::Unequal => ("not (nat_eq", one, other, ")"),
@@ -370,22 +357,25 @@ impl<'p, 'c, 'a> Computer<'p, 'c, 'a> {
             Operator::Above => ("nat_lt", other, one, ""),
             _ => ("nat_le", other, one, ""),
         };
-        Ok(format!(in self.alloc; "{front} {first} {second}{end}")?)
+        Ok(
+            self.arena
+                .print(format_args!("{front} {first} {second}{end}"))?,
+        )
     }
 
     fn reckoned(
         &mut self,
         operator: Operator,
-        left: &Computed,
-        right: &Computed,
+        left: Computed<'a>,
+        right: Computed<'a>,
         span: Span,
-    ) -> Result<Computed, Stop> {
+    ) -> Result<Computed<'a>, Stop<'a>> {
         let most = match (left.most, right.most) {
             (Some(one), Some(other)) => most_made(operator, one, other),
             _ => None,
         };
         let Some(most) = most else {
-            return self.wrong(
+            return Stop::wrong(
                 span,
                 "a number that may be larger than 64 bits hold, or none",
                 "use fields of fewer bits",
@@ -395,8 +385,8 @@ impl<'p, 'c, 'a> Computer<'p, 'c, 'a> {
         self.guard(operator, left, right)?;
         let (mark, strength) = (mark_of(operator), operator.strength());
         let (one, other) = (left.strength, right.strength);
-        let code = self.infix(mark, strength, (&left.code, one), (&right.code, other))?;
-        let term = self.infix(mark, strength, (&left.term, one), (&right.term, other))?;
+        let code = self.infix(mark, strength, (left.code, one), (right.code, other))?;
+        let term = self.infix(mark, strength, (left.term, one), (right.term, other))?;
         Ok(Computed {
             code,
             term,
@@ -407,7 +397,12 @@ impl<'p, 'c, 'a> Computer<'p, 'c, 'a> {
     }
 
     // Notes when there is no difference, no quotient and no remainder.
-    fn guard(&mut self, operator: Operator, left: &Computed, right: &Computed) -> Result<(), Stop> {
+    fn guard(
+        &mut self,
+        operator: Operator,
+        left: Computed<'a>,
+        right: Computed<'a>,
+    ) -> Result<(), Stop<'a>> {
         let is_literal = right.kind.is_none() && right.strength == ATOM;
         let guard = match operator {
             Operator::Minus => self.is_below(left, right)?,
@@ -419,25 +414,40 @@ impl<'p, 'c, 'a> Computer<'p, 'c, 'a> {
     }
 
     // That a number is below another one, as ghost text and as code.
-    fn is_below(&self, left: &Computed, right: &Computed) -> Result<(String, String), Stop> {
+    fn is_below(
+        &self,
+        left: Computed<'a>,
+        right: Computed<'a>,
+    ) -> Result<(&'a str, &'a str), Stop<'a>> {
         let (one, other) = (left.strength, right.strength);
-        let code = self.infix("<", 3, (&left.code, one), (&right.code, other))?;
+        let code = self.infix("<", 3, (left.code, one), (right.code, other))?;
         Ok((self.comparison(Operator::Below, left, right)?, code))
     }
 
     // That a number is 0, as ghost text and as code.
-    fn is_zero(&self, number: &Computed) -> Result<(String, String), Stop> {
-        let term = argument(self.alloc, number.term.as_str(), number.strength)?;
-        let code = inside(self.alloc, number.code.as_str(), number.strength <= 3)?;
-        let term = format!(in self.alloc; "nat_eq {term} 0")?;
-        Ok((term, format!(in self.alloc; "{code} == 0")?))
+    fn is_zero(&self, number: Computed<'a>) -> Result<(&'a str, &'a str), Stop<'a>> {
+        let term = argument(self.arena, number.term, number.strength)?;
+        let code = inside(self.arena, number.code, number.strength <= 3)?;
+        let term = self.arena.print(format_args!("nat_eq {term} 0"))?;
+        Ok((term, self.arena.print(format_args!("{code} == 0"))?))
     }
 }
 
-impl Computed {
+impl<'a> Computed<'a> {
     /// Whether it is a number.
     pub fn is_number(&self) -> bool {
         self.most.is_some()
+    }
+}
+
+// A truth value.
+fn truth_value<'a>(code: &'a str, term: &'a str, strength: u8) -> Computed<'a> {
+    Computed {
+        code,
+        term,
+        strength,
+        most: None,
+        kind: None,
     }
 }
 
@@ -477,14 +487,14 @@ fn mark_of(operator: Operator) -> &'static str {
 }
 
 // A text in parentheses, if it has to be.
-fn inside(alloc: Global, text: &str, is_inside: bool) -> Result<String, Stop> {
+fn inside<'a>(arena: &'a Arena, text: &'a str, is_inside: bool) -> Result<&'a str, AllocError> {
     if is_inside {
-        return Ok(format!(in alloc; "({text})")?);
+        return arena.print(format_args!("({text})"));
     }
-    Ok(String::from_str(alloc, text)?)
+    Ok(text)
 }
 
 // A text as the argument of a function.
-fn argument(alloc: Global, text: &str, strength: u8) -> Result<String, Stop> {
-    inside(alloc, text, strength < ATOM)
+fn argument<'a>(arena: &'a Arena, text: &'a str, strength: u8) -> Result<&'a str, AllocError> {
+    inside(arena, text, strength < ATOM)
 }

@@ -1,9 +1,10 @@
 //! What comes after a head: a list that it counts or sizes, or an item that it shows.
 
 use crate::part::Named;
-use crate::texts::field;
-use deku_texts::document::{Form, Text, joined};
-use std::alloc::{AllocError, Global};
+use crate::texts::{field, headed};
+use deku_texts::document::{Form, Text};
+use deku_tokens::arena::Arena;
+use std::alloc::AllocError;
 
 /// What comes after a head.
 #[derive(Clone, Copy, PartialEq, Eq)]
@@ -80,83 +81,71 @@ impl Dependent {
 }
 
 /// The type of a head and what comes after it.
-pub(crate) fn kind_of(
-    alloc: Global,
-    head: Text,
+pub(crate) fn kind_of<'a>(
+    arena: &'a Arena,
+    head: Text<'a>,
     form: Dependent,
-    marker: &str,
-    item: &str,
-) -> Result<Text, AllocError> {
-    let mut items = Vec::new(alloc);
-    items.push(head)?;
-    items.push(Text::word(alloc, marker)?)?;
-    items.push(Text::word(alloc, item)?)?;
-    Text::group(alloc, Form::Angle, form.kind(), items)
+    marker: &'a str,
+    item: &'a str,
+) -> Result<Text<'a>, AllocError> {
+    headed(arena, Form::Angle, form.kind(), head, &[marker, item])
 }
 
 /// The same where memory is lent.
-pub(crate) fn lent_of(
-    alloc: Global,
-    head: Text,
+pub(crate) fn lent_of<'a>(
+    arena: &'a Arena,
+    head: Text<'a>,
     form: Dependent,
-    marker: &str,
-    item: &str,
-) -> Result<Text, AllocError> {
-    let mut items = Vec::new(alloc);
-    let held = if form == Dependent::Filled {
-        format!(in alloc; "&'a Vec<{item}>")?
-    } else {
-        items.push(Text::word(alloc, "'a")?)?;
-        String::from_str(alloc, item)?
-    };
-    items.push(head)?;
-    items.push(Text::word(alloc, marker)?)?;
-    items.push(Text::of(held))?;
-    Text::group(alloc, Form::Angle, form.lent(), items)
+    marker: &'a str,
+    item: &'a str,
+) -> Result<Text<'a>, AllocError> {
+    if form == Dependent::Filled {
+        let held = arena.print(format_args!("&'a Vec<{item}>"))?;
+        return headed(arena, Form::Angle, form.lent(), head, &[marker, held]);
+    }
+    let items = [Text::of("'a"), head, Text::of(marker), Text::of(item)];
+    Ok(Text::group(Form::Angle, form.lent(), arena.list(&items)?))
 }
 
 /// The pattern of a head and what comes after it.
-pub(crate) fn pattern_of(
-    alloc: Global,
-    head: Text,
+pub(crate) fn pattern_of<'a>(
+    arena: &'a Arena,
+    head: Text<'a>,
     form: Dependent,
     name: &str,
-) -> Result<Text, AllocError> {
-    let mut items = Vec::new(alloc);
-    items.push(head.after(alloc, "head: ")?)?;
-    items.push(Text::of(field(alloc, form.item(), name)?))?;
-    items.push(Text::word(alloc, "..")?)?;
-    Text::group(alloc, Form::Brace, form.pattern(), items)
+) -> Result<Text<'a>, AllocError> {
+    let head = head.after(arena, "head: ")?;
+    let held = field(arena, form.item(), name)?;
+    let items = [head, Text::of(held), Text::of("..")];
+    Ok(Text::group(Form::Brace, form.pattern(), arena.list(&items)?))
 }
 
 /// A head and what comes after it, where memory is lent.
-pub(crate) fn value_of(
-    alloc: Global,
-    head: Text,
+pub(crate) fn value_of<'a>(
+    arena: &'a Arena,
+    head: Text<'a>,
     form: Dependent,
-    called: Named<'_>,
+    called: Named<'a>,
     marker: &str,
-) -> Result<Text, AllocError> {
-    let mut items = Vec::new(alloc);
-    items.push(head.after(alloc, "head: ")?)?;
-    let held = called.reference(alloc)?;
-    items.push(Text::of(field(alloc, form.lent_item(), held.as_str())?))?;
-    items.push(Text::word(alloc, form.marker().0)?)?;
-    let open = joined(alloc, marker, ", _> {")?;
-    Text::group(alloc, Form::Brace, open.as_str(), items)?.after(alloc, form.value())
+) -> Result<Text<'a>, AllocError> {
+    let head = head.after(arena, "head: ")?;
+    let held = field(arena, form.lent_item(), called.reference(arena)?)?;
+    let front = form.value();
+    let open = arena.print(format_args!("{front}{marker}, _> {{"))?;
+    let items = [head, Text::of(held), Text::of(form.marker().0)];
+    Ok(Text::group(Form::Brace, open, arena.list(&items)?))
 }
 
 /// The same in ghost text.
-pub(crate) fn term_of(
-    alloc: Global,
-    head: Text,
+pub(crate) fn term_of<'a>(
+    arena: &'a Arena,
+    head: Text<'a>,
     form: Dependent,
-    called: Named<'_>,
-) -> Result<Text, AllocError> {
-    let mut items = Vec::new(alloc);
-    items.push(head.after(alloc, "head = ")?)?;
-    let held = Text::of(called.term(alloc)?).after(alloc, " = ")?;
-    items.push(held.after(alloc, form.item())?)?;
-    items.push(Text::word(alloc, form.marker().1)?)?;
-    Text::group(alloc, Form::GhostBrace, "record {", items)
+    called: Named<'a>,
+) -> Result<Text<'a>, AllocError> {
+    let head = head.after(arena, "head = ")?;
+    let (item, term) = (form.item(), called.term(arena)?);
+    let held = arena.print(format_args!("{item} = {term}"))?;
+    let items = [head, Text::of(held), Text::of(form.marker().1)];
+    Ok(Text::group(Form::GhostBrace, "record {", arena.list(&items)?))
 }

@@ -4,9 +4,9 @@
 use crate::computing::{Computed, Computer};
 use crate::part::Place;
 use deku_attributes::model::Order;
-use deku_texts::refusal::Stop;
-use std::alloc::{AllocError, Global};
-use std::fmt::Write as _;
+use deku_texts::template::fill;
+use deku_tokens::arena::Arena;
+use std::alloc::AllocError;
 
 /// A marker, as it is printed.
 #[derive(Clone, Copy)]
@@ -31,6 +31,62 @@ impl<'m> Marker<'m> {
             field: self.field,
         })
     }
+
+    // The generics of its implementation of this trait, and what is in front of `for`: a space, or
+    // a line break where the line has no room.
+    fn head(self, what: &str) -> (&'static str, &'static str) {
+        let generic = if self.parts.contains("<'a") {
+            "<'a>"
+        } else {
+            ""
+        };
+        let columns = "impl <> for  {"
+            .len()
+            .saturating_add(generic.len())
+            .saturating_add(what.chars().count())
+            .saturating_add(self.parts.chars().count())
+            .saturating_add(self.name.chars().count());
+        (generic, if columns <= 100 { " " } else { "\n    " })
+    }
+}
+
+// An implementation of a trait for a marker.
+#[derive(Clone, Copy)]
+struct Implementation<'i> {
+    // The trait.
+    what: &'i str,
+    template: &'i str,
+    // What is computed, in ghost text.
+    term: &'i str,
+    // The body of the function.
+    body: &'i str,
+}
+
+impl<'i> Implementation<'i> {
+    // Appends it, and that for what is written, if memory is lent.
+    fn print(self, out: &mut String, marker: Marker<'_>) -> Result<(), AllocError> {
+        self.one(out, marker)?;
+        match marker.of_lent() {
+            Some(lent) => self.one(out, lent),
+            None => Ok(()),
+        }
+    }
+
+    // Appends it for the parts.
+    fn one(self, out: &mut String, marker: Marker<'_>) -> Result<(), AllocError> {
+        let (generic, gap) = marker.head(self.what);
+        let words = [
+            ("generic", generic),
+            ("what", self.what),
+            ("parts", marker.parts),
+            ("gap", gap),
+            ("name", marker.name),
+            ("field", marker.field),
+            ("term", self.term),
+            ("body", self.body),
+        ];
+        fill(out, self.template, &words)
+    }
 }
 
 /// What a marker says the number of.
@@ -51,11 +107,11 @@ impl Amount {
         }
     }
 
-    // The function.
-    fn call(self) -> &'static str {
+    // The template of its implementation.
+    fn template(self) -> &'static str {
         match self {
-            Amount::Items => "count",
-            Amount::Bits => "size",
+            Amount::Items => COUNT,
+            Amount::Bits => SIZE,
         }
     }
 
@@ -68,183 +124,214 @@ impl Amount {
     }
 }
 
+// How many items follow the parts.
+const COUNT: &str = "
+impl$generic$ CountOf<$parts$>$gap$for $name$ {
+    ghost count_of = { λ p. $term$ };
+
+    fn count(parts: &$parts$) -> Option<usize> {
+$body$
+    }
+}
+";
+
+// How many bits follow the parts.
+const SIZE: &str = "
+impl$generic$ SizeOf<$parts$>$gap$for $name$ {
+    ghost size_of = { λ p. $term$ };
+
+    fn size(parts: &$parts$) -> Option<usize> {
+$body$
+    }
+}
+";
+
 /// Appends the marker of a count or of a size: how many items or bits of a field follow the parts.
-pub fn count(
+pub fn count<'m>(
     out: &mut String,
     amount: Amount,
-    marker: Marker<'_>,
-    computer: &Computer<'_, '_, '_>,
-    computed: &Computed,
-) -> Result<(), Stop> {
+    marker: Marker<'m>,
+    computer: &Computer<'_, '_>,
+    computed: Computed<'m>,
+) -> Result<(), AllocError> {
     let (what, then) = amount.words();
-    declared(out, marker, what, then, computed.code.as_str())?;
-    count_of(out, amount, marker, computer, computed)?;
-    if let Some(lent) = marker.of_lent() {
-        count_of(out, amount, lent, computer, computed)?;
-    }
-    alike(out, amount.traits().1, marker, computer)
+    declared(out, marker, what, then, computed.code)?;
+    let (what, law) = amount.traits();
+    let implementation = Implementation {
+        what,
+        template: amount.template(),
+        term: number_term(computer, computed)?,
+        body: number_body(computer, computed)?,
+    };
+    implementation.print(out, marker)?;
+    alike(out, law, marker, computer)
 }
 
-// Appends how many items or bits follow the parts.
-fn count_of(
-    out: &mut String,
-    amount: Amount,
-    marker: Marker<'_>,
-    computer: &Computer<'_, '_, '_>,
-    computed: &Computed,
-) -> Result<(), Stop> {
-    let parts = marker.parts;
-    let code = computed.code.as_str();
-    let call = amount.call();
-    implemented(out, amount.traits().0, marker)?;
-    write!(out, "    ghost {call}_of = {{ λ p. ")?;
+// How many there are, in ghost text.
+fn number_term<'a>(
+    computer: &Computer<'_, 'a>,
+    computed: Computed<'_>,
+) -> Result<&'a str, AllocError> {
+    let mut text = String::new(computer.arena.alloc());
     for (term, _) in &computer.guards {
-        let term = term.as_str();
-        write!(out, "if {term} then None else ")?;
+        fill(&mut text, "if $term$ then None else ", &[("term", *term)])?;
     }
-    let term = computed.term.as_str();
-    let is_atom = !term.contains(' ');
-    if is_atom {
-        write!(out, "Some {term}")?;
+    let some = if computed.term.contains(' ') {
+        "Some ($term$)"
     } else {
-        write!(out, "Some ({term})")?;
-    }
-    write!(
-        out,
-        " }};\n\n    fn {call}(parts: &{parts}) -> Option<usize> {{\n"
-    )?;
-    locals(out, computer, true)?;
-    for (_, guard) in &computer.guards {
-        let guard = guard.as_str();
-        writeln!(
-            out,
-            "        if {guard} {{\n            return None;\n        }}"
-        )?;
-    }
-    writeln!(out, "        Some({code})\n    }}\n}}")?;
-    Ok(())
+        "Some $term$"
+    };
+    fill(&mut text, some, &[("term", computed.term)])?;
+    computer.arena.keep(text.as_str())
 }
+
+// The body of the function that returns how many there are.
+fn number_body<'a>(
+    computer: &Computer<'_, 'a>,
+    computed: Computed<'_>,
+) -> Result<&'a str, AllocError> {
+    let code = computed.code;
+    let locals = locals(computer, true)?;
+    let returns = returns(computer)?;
+    computer
+        .arena
+        .print(format_args!("{locals}{returns}        Some({code})"))
+}
+
+// A return where there is no number.
+const RETURN: &str = "        if $guard$ {
+            return None;
+        }
+";
+
+// The returns where there is no number.
+fn returns<'a>(computer: &Computer<'_, 'a>) -> Result<&'a str, AllocError> {
+    let mut text = String::new(computer.arena.alloc());
+    for (_, guard) in &computer.guards {
+        fill(&mut text, RETURN, &[("guard", *guard)])?;
+    }
+    computer.arena.keep(text.as_str())
+}
+
+// Whether a field follows the parts.
+const CONDITION: &str = "
+impl$generic$ Condition<$parts$>$gap$for $name$ {
+    ghost shows = { λ p. $term$ };
+
+    fn shows(parts: &$parts$) -> bool {
+$body$
+    }
+}
+";
 
 /// Appends the marker of a condition: whether a field follows the parts.
-pub fn condition(
+pub fn condition<'m>(
     out: &mut String,
-    marker: Marker<'_>,
-    computer: &Computer<'_, '_, '_>,
-    computed: &Computed,
-) -> Result<(), Stop> {
-    declared(out, marker, "Whether", "is there", computed.code.as_str())?;
-    shows(out, marker, computer, computed)?;
-    if let Some(lent) = marker.of_lent() {
-        shows(out, lent, computer, computed)?;
-    }
+    marker: Marker<'m>,
+    computer: &Computer<'_, '_>,
+    computed: Computed<'m>,
+) -> Result<(), AllocError> {
+    declared(out, marker, "Whether", "is there", computed.code)?;
+    let implementation = Implementation {
+        what: "Condition",
+        template: CONDITION,
+        term: computed.term,
+        body: truth(computer, computed)?,
+    };
+    implementation.print(out, marker)?;
     alike(out, "ConditionLaw", marker, computer)
 }
 
-// Appends whether a field follows the parts.
-fn shows(
-    out: &mut String,
-    marker: Marker<'_>,
-    computer: &Computer<'_, '_, '_>,
-    computed: &Computed,
-) -> Result<(), Stop> {
-    let parts = marker.parts;
-    let term = computed.term.as_str();
-    implemented(out, "Condition", marker)?;
-    writeln!(out, "    ghost shows = {{ λ p. {term} }};\n")?;
-    writeln!(out, "    fn shows(parts: &{parts}) -> bool {{")?;
-    truth(out, computer, computed)?;
-    out.push_str("    }\n}\n")?;
-    Ok(())
+// Which item of a list is the last.
+const LAST: &str = "
+impl$generic$ Last<$parts$>$gap$for $name$ {
+    ghost last_of = { λ p. $term$ };
+
+    fn is_last(item: &$parts$) -> bool {
+$body$
+    }
 }
+";
 
 /// Appends the marker of the end of a list: which item is the last.
-pub fn last(
+pub fn last<'m>(
     out: &mut String,
-    marker: Marker<'_>,
-    computer: &Computer<'_, '_, '_>,
-    computed: &Computed,
-) -> Result<(), Stop> {
-    let parts = marker.parts;
-    let (code, term) = (computed.code.as_str(), computed.term.as_str());
-    declared(out, marker, "Which item of", "is the last", code)?;
-    implemented(out, "Last", marker)?;
-    writeln!(out, "    ghost last_of = {{ λ p. {term} }};\n")?;
-    writeln!(out, "    fn is_last(item: &{parts}) -> bool {{")?;
-    truth(out, computer, computed)?;
-    out.push_str("    }\n}\n")?;
+    marker: Marker<'m>,
+    computer: &Computer<'_, '_>,
+    computed: Computed<'m>,
+) -> Result<(), AllocError> {
+    declared(out, marker, "Which item of", "is the last", computed.code)?;
+    let implementation = Implementation {
+        what: "Last",
+        template: LAST,
+        term: computed.term,
+        body: truth(computer, computed)?,
+    };
+    implementation.one(out, marker)?;
     alike(out, "LastLaw", marker, computer)
 }
 
-/// Appends the marker of a check of parts.
-pub fn check(
-    out: &mut String,
-    marker: Marker<'_>,
-    computer: &Computer<'_, '_, '_>,
-    computed: &Computed,
-) -> Result<(), Stop> {
-    declared(out, marker, "What", "has to be", computed.code.as_str())?;
-    passes(out, marker, computer, computed)?;
-    if let Some(lent) = marker.of_lent() {
-        passes(out, lent, computer, computed)?;
+// Which parts pass.
+const CHECK: &str = "
+impl$generic$ Check<$parts$>$gap$for $name$ {
+    ghost passes = { λ p. $term$ };
+
+    ghost text = { codes \"$field$\" };
+
+    fn passes(parts: &$parts$) -> bool {
+$body$
     }
+
+    fn text() -> &'static str {
+        \"$field$\"
+    }
+}
+";
+
+/// Appends the marker of a check of parts.
+pub fn check<'m>(
+    out: &mut String,
+    marker: Marker<'m>,
+    computer: &Computer<'_, '_>,
+    computed: Computed<'m>,
+) -> Result<(), AllocError> {
+    declared(out, marker, "What", "has to be", computed.code)?;
+    let implementation = Implementation {
+        what: "Check",
+        template: CHECK,
+        term: computed.term,
+        body: truth(computer, computed)?,
+    };
+    implementation.print(out, marker)?;
     alike(out, "CheckLaw", marker, computer)
 }
 
-// Appends which parts pass.
-fn passes(
-    out: &mut String,
-    marker: Marker<'_>,
-    computer: &Computer<'_, '_, '_>,
-    computed: &Computed,
-) -> Result<(), Stop> {
-    let Marker { parts, field, .. } = marker;
-    let term = computed.term.as_str();
-    implemented(out, "Check", marker)?;
-    writeln!(out, "    ghost passes = {{ λ p. {term} }};\n")?;
-    writeln!(out, "    ghost text = {{ codes \"{field}\" }};\n")?;
-    writeln!(out, "    fn passes(parts: &{parts}) -> bool {{")?;
-    truth(out, computer, computed)?;
-    out.push_str("    }\n\n")?;
-    text(out, field)?;
-    Ok(())
+// Which id the parts say.
+const ID: &str = "
+impl$generic$ IdOf<$parts$>$gap$for $name$ {
+    ghost id_of = { λ p. $term$ };
+
+    fn id(parts: &$parts$) -> u64 {
+        $body$    }
 }
+";
 
 /// Appends the marker of an id: which kind a field is, by a number of the parts.
-pub fn id(
+pub fn id<'m>(
     out: &mut String,
-    marker: Marker<'_>,
-    computer: &Computer<'_, '_, '_>,
-    computed: &Computed,
-) -> Result<(), Stop> {
-    declared(out, marker, "Which kind", "is", computed.code.as_str())?;
-    id_of(out, marker, computer, computed)?;
-    if let Some(lent) = marker.of_lent() {
-        id_of(out, lent, computer, computed)?;
-    }
-    alike(out, "IdOfLaw", marker, computer)
-}
-
-// Appends which id the parts say.
-fn id_of(
-    out: &mut String,
-    marker: Marker<'_>,
-    computer: &Computer<'_, '_, '_>,
-    computed: &Computed,
+    marker: Marker<'m>,
+    computer: &Computer<'_, '_>,
+    computed: Computed<'m>,
 ) -> Result<(), AllocError> {
-    let parts = marker.parts;
-    let term = computed.term.as_str();
-    implemented(out, "IdOf", marker)?;
-    writeln!(out, "    ghost id_of = {{ λ p. {term} }};\n")?;
-    writeln!(out, "    fn id(parts: &{parts}) -> u64 {{")?;
-    out.push_str("        ")?;
-    for index in &computer.used {
-        if let Some(place) = computer.places.get(*index) {
-            reached(out, computer, place)?;
-            let is_whole = place.number == Some("u64");
-            out.push_str(if is_whole { "\n" } else { " as u64\n" })?;
-        }
-    }
-    out.push_str("    }\n}\n")
+    declared(out, marker, "Which kind", "is", computed.code)?;
+    let implementation = Implementation {
+        what: "IdOf",
+        template: ID,
+        term: computed.term,
+        body: number_as(computer, "u64", "\n")?,
+    };
+    implementation.print(out, marker)?;
+    alike(out, "IdOfLaw", marker, computer)
 }
 
 /// What the width of a number counts.
@@ -295,260 +382,323 @@ impl Under {
 }
 
 /// Appends the marker of the context of a number: how wide it is, as a field of the parts says.
-pub fn context(
+pub fn context<'m>(
     out: &mut String,
     under: Under,
-    marker: Marker<'_>,
-    computer: &Computer<'_, '_, '_>,
-    computed: &Computed,
-) -> Result<(), Stop> {
+    marker: Marker<'m>,
+    computer: &Computer<'_, '_>,
+    computed: Computed<'m>,
+) -> Result<(), AllocError> {
     let what = match under.unit {
         Unit::Bits => "How many bits",
         Unit::Bytes => "How many bytes",
     };
-    declared(out, marker, what, "has", computed.code.as_str())?;
+    declared(out, marker, what, "has", computed.code)?;
     context_of(out, under, marker, computer, computed)?;
     if let Some(lent) = marker.of_lent() {
         context_of(out, under, lent, computer, computed)?;
     }
-    let (parts, kind) = (marker.parts, under.kind());
-    let types = format!(in *out.allocator(); "{parts}, {kind}")?;
+    let types = types_of(computer, marker, under)?;
     let marker = Marker {
-        parts: types.as_str(),
+        parts: types,
         ..marker
     };
     alike(out, "ContextOfLaw", marker, computer)
 }
 
-// Appends which context the parts say.
-fn context_of(
-    out: &mut String,
-    under: Under,
+// The types of the parts and of the context.
+fn types_of<'a>(
+    computer: &Computer<'_, 'a>,
     marker: Marker<'_>,
-    computer: &Computer<'_, '_, '_>,
-    computed: &Computed,
-) -> Result<(), AllocError> {
+    under: Under,
+) -> Result<&'a str, AllocError> {
     let (parts, kind) = (marker.parts, under.kind());
-    let (endian, size, [term_end, code_end]) = under.words();
-    let types = format!(in *out.allocator(); "{parts}, {kind}")?;
-    let both = Marker {
-        parts: types.as_str(),
-        ..marker
-    };
-    implemented(out, "ContextOf", both)?;
-    let term = computed.term.as_str();
-    writeln!(
-        out,
-        "    ghost context_of = {{ λ p. ({endian}, record {{ 0 = {term} }}{term_end}) }};\n"
-    )?;
-    writeln!(out, "    fn context(parts: &{parts}) -> {kind} {{")?;
-    write!(out, "        (Endian::{endian}, {size}(")?;
-    for index in &computer.used {
-        if let Some(place) = computer.places.get(*index) {
-            reached(out, computer, place)?;
-            let is_whole = place.number == Some("usize");
-            out.push_str(if is_whole { "" } else { " as usize" })?;
-        }
-    }
-    writeln!(out, "){code_end})\n    }}\n}}")
+    computer.arena.print(format_args!("{parts}, {kind}"))
 }
 
-/// Appends the marker of a constant: the value of the parts, in its own constructor if it has one.
-pub fn constant(
+// Which context the parts say.
+const CONTEXT: &str = "
+impl$generic$ ContextOf<$types$>$gap$for $name$ {
+    ghost context_of = { λ p. ($endian$, record { 0 = $term$ }$term_end$) };
+
+    fn context(parts: &$parts$) -> $kind$ {
+        (Endian::$endian$, $size$($number$)$code_end$)
+    }
+}
+";
+
+// Appends which context the parts say.
+fn context_of<'m>(
     out: &mut String,
-    marker: Marker<'_>,
-    constructor: &str,
-    value: &str,
+    under: Under,
+    marker: Marker<'m>,
+    computer: &Computer<'_, '_>,
+    computed: Computed<'m>,
 ) -> Result<(), AllocError> {
-    let Marker {
-        name,
-        parts,
-        field,
-        ..
-    } = marker;
-    writeln!(out, "\n/// The {field}.")?;
-    writeln!(
-        out,
-        "#[derive(Debug, PartialEq, Eq, Drop)]\npub struct {name};"
-    )?;
-    implemented(out, "Constant", marker)?;
+    let types = types_of(computer, marker, under)?;
+    let both = Marker {
+        parts: types,
+        ..marker
+    };
+    let (generic, gap) = both.head("ContextOf");
+    let (endian, size, [term_end, code_end]) = under.words();
+    let number = number_as(computer, "usize", "")?;
+    let words = [
+        ("generic", generic),
+        ("types", types),
+        ("gap", gap),
+        ("name", marker.name),
+        ("endian", endian),
+        ("term", computed.term),
+        ("term_end", term_end),
+        ("parts", marker.parts),
+        ("kind", under.kind()),
+        ("size", size),
+        ("number", number),
+        ("code_end", code_end),
+    ];
+    fill(out, CONTEXT, &words)
+}
+
+// A constant, with its law.
+const CONSTANT: &str = "
+/// The $field$.
+#[derive(Debug, PartialEq, Eq, Drop)]
+pub struct $name$;
+
+impl$generic$ Constant<$parts$>$gap$for $name$ {
+    ghost value = { $front$$value$$back$ };
+
+    ghost text = { codes \"$field$\" };
+
+    fn value() -> $parts$ {
+        $constructor$$open$$value$$close$
+    }
+
+    fn is_value(part: &$parts$) -> bool {
+        $held$ == $value$
+    }
+
+    fn text() -> &'static str {
+        \"$field$\"
+    }
+}
+
+impl$generic$ ConstantLaw<$parts$>$law_gap$for $name$ {
+    ghost alike = { λ v e. rw e refl };
+}
+";
+
+/// Appends the marker of a constant: the value of the parts, in its own constructor if it has one.
+pub fn constant<'m>(
+    out: &mut String,
+    marker: Marker<'m>,
+    constructor: &'m str,
+    value: &'m str,
+) -> Result<(), AllocError> {
+    let (generic, gap) = marker.head("Constant");
     let ([front, back], [open, close], held) = if constructor.is_empty() {
         (["", ""], ["", ""], "*part")
     } else {
         (["record { 0 = ", " }"], ["(", ")"], "part.0")
     };
-    writeln!(out, "    ghost value = {{ {front}{value}{back} }};\n")?;
-    writeln!(out, "    ghost text = {{ codes \"{field}\" }};\n")?;
-    writeln!(out, "    fn value() -> {parts} {{")?;
-    writeln!(out, "        {constructor}{open}{value}{close}\n    }}\n")?;
-    is_value(out, parts, held, value)?;
-    text(out, field)?;
-    implemented(out, "ConstantLaw", marker)?;
-    out.push_str("    ghost alike = { λ v e. rw e refl };\n}\n")
+    let words = [
+        ("field", marker.field),
+        ("name", marker.name),
+        ("generic", generic),
+        ("parts", marker.parts),
+        ("gap", gap),
+        ("front", front),
+        ("value", value),
+        ("back", back),
+        ("constructor", constructor),
+        ("open", open),
+        ("close", close),
+        ("held", held),
+        ("law_gap", marker.head("ConstantLaw").1),
+    ];
+    fill(out, CONSTANT, &words)
 }
 
-// Appends the function that compares a part with a value.
-fn is_value(out: &mut String, parts: &str, held: &str, value: &str) -> Result<(), AllocError> {
-    writeln!(out, "    fn is_value(part: &{parts}) -> bool {{")?;
-    writeln!(out, "        {held} == {value}\n    }}\n")
+// A constant of padding, with its law.
+const ZEROS: &str = "
+/// Padding.
+#[derive(Debug, PartialEq, Eq, Drop)]
+pub struct $name$;
+
+impl<const N: usize> Constant<$part$<u64, N>> for $name$ {
+    ghost value = { record { 0 = 0 } };
+
+    ghost text = { codes \"padding\" };
+
+    fn value() -> $part$<u64, N> {
+        $part$(0)
+    }
+
+    fn is_value(part: &$part$<u64, N>) -> bool {
+        part.0 == 0
+    }
+
+    fn text() -> &'static str {
+        \"padding\"
+    }
 }
+
+impl<const N: usize> ConstantLaw<$part$<u64, N>> for $name$ {
+    ghost alike = { λ v e. rw e refl };
+}
+";
 
 /// The constants of padding with the high bits first, and with the low bits first.
 pub fn zeros(out: &mut String, part: &str) -> Result<(), AllocError> {
     let name = if part == "Msb" { "Zeros" } else { "LowZeros" };
-    writeln!(
-        out,
-        "\n/// Padding.\n#[derive(Debug, PartialEq, Eq, Drop)]\npub struct {name};\n"
-    )?;
-    writeln!(
-        out,
-        "impl<const N: usize> Constant<{part}<u64, N>> for {name} {{"
-    )?;
-    out.push_str("    ghost value = { record { 0 = 0 } };\n\n")?;
-    out.push_str("    ghost text = { codes \"padding\" };\n\n")?;
-    writeln!(
-        out,
-        "    fn value() -> {part}<u64, N> {{\n        {part}(0)\n    }}\n"
-    )?;
-    writeln!(
-        out,
-        "    fn is_value(part: &{part}<u64, N>) -> bool {{\n        part.0 == 0\n    }}\n"
-    )?;
-    text(out, "padding")?;
-    writeln!(
-        out,
-        "\nimpl<const N: usize> ConstantLaw<{part}<u64, N>> for {name} {{"
-    )?;
-    out.push_str("    ghost alike = { λ v e. rw e refl };\n}\n")
+    fill(out, ZEROS, &[("name", name), ("part", part)])
 }
 
-// Appends the struct, with what it says of the field.
-fn declared(
+// The struct, with what it says of the field.
+const DECLARED: &str = "
+/// $what$ `$field$` $then$$open$$code$$close$.
+#[derive(Debug, PartialEq, Eq, Drop)]
+pub struct $name$;
+";
+
+// Appends the struct, with what it says of the field: also the code, if the line has room for it.
+fn declared<'m>(
     out: &mut String,
-    marker: Marker<'_>,
-    what: &str,
-    then: &str,
-    code: &str,
+    marker: Marker<'m>,
+    what: &'m str,
+    then: &'m str,
+    code: &'m str,
 ) -> Result<(), AllocError> {
-    let Marker { name, field, .. } = marker;
-    let line = format!(in *out.allocator(); "/// {what} `{field}` {then}: `{code}`.")?;
-    if line.as_str().chars().count() <= 100 {
-        let line = line.as_str();
-        writeln!(out, "\n{line}")?;
-    } else {
-        writeln!(out, "\n/// {what} `{field}` {then}.")?;
-    }
-    writeln!(
-        out,
-        "#[derive(Debug, PartialEq, Eq, Drop)]\npub struct {name};"
-    )
+    let columns = "///  `` : ``."
+        .len()
+        .saturating_add(what.chars().count())
+        .saturating_add(marker.field.chars().count())
+        .saturating_add(then.chars().count())
+        .saturating_add(code.chars().count());
+    let has_room = columns <= 100;
+    let words = [
+        ("what", what),
+        ("field", marker.field),
+        ("then", then),
+        ("open", if has_room { ": `" } else { "" }),
+        ("code", if has_room { code } else { "" }),
+        ("close", if has_room { "`" } else { "" }),
+        ("name", marker.name),
+    ];
+    fill(out, DECLARED, &words)
 }
 
-// Appends the first line of an implementation.
-fn implemented(out: &mut String, what: &str, marker: Marker<'_>) -> Result<(), AllocError> {
-    let Marker { name, parts, .. } = marker;
-    let generic = if parts.contains("<'a") { "<'a>" } else { "" };
-    let line = format!(in *out.allocator(); "impl{generic} {what}<{parts}> for {name} {{")?;
-    if line.as_str().chars().count() <= 100 {
-        let line = line.as_str();
-        writeln!(out, "\n{line}")
-    } else {
-        writeln!(out, "\nimpl{generic} {what}<{parts}>\n    for {name} {{")
-    }
-}
+// A local for a field.
+const LOCAL: &str = "        let $name$ = $place$$cast$;
+";
 
-// Appends the function that returns a text.
-fn text(out: &mut String, text: &str) -> Result<(), AllocError> {
-    writeln!(
-        out,
-        "    fn text() -> &'static str {{\n        \"{text}\"\n    }}\n}}"
-    )
-}
-
-// Appends a local for each field that is used.
-fn locals(
-    out: &mut String,
-    computer: &Computer<'_, '_, '_>,
-    is_cast: bool,
-) -> Result<(), AllocError> {
+// A local for each field that is used.
+fn locals<'a>(computer: &Computer<'_, 'a>, is_cast: bool) -> Result<&'a str, AllocError> {
+    let mut text = String::new(computer.arena.alloc());
     for index in &computer.used {
         if let Some(place) = computer.places.get(*index) {
-            let name = place.name.as_str();
-            write!(out, "        let {name} = ")?;
-            reached(out, computer, place)?;
             let is_number = place.number != Some("bool") && place.number != Some("usize");
-            out.push_str(if is_cast && is_number {
-                " as usize;\n"
+            let cast = if is_cast && is_number {
+                " as usize"
             } else {
-                ";\n"
-            })?;
+                ""
+            };
+            let words = [
+                ("name", place.name),
+                ("place", reached(computer, *place)?),
+                ("cast", cast),
+            ];
+            fill(&mut text, LOCAL, &words)?;
         }
     }
-    Ok(())
+    computer.arena.keep(text.as_str())
 }
 
-// Appends where a field is in the parts.
-fn reached(
-    out: &mut String,
-    computer: &Computer<'_, '_, '_>,
-    place: &Place<'_>,
-) -> Result<(), AllocError> {
-    let (from, path) = (computer.from, place.path.as_str());
-    if path.is_empty() {
-        write!(out, "*{from}")
-    } else {
-        write!(out, "{from}{path}")
+// The field that is used, as a number of this type, and what ends it.
+fn number_as<'a>(
+    computer: &Computer<'_, 'a>,
+    kind: &'a str,
+    end: &'a str,
+) -> Result<&'a str, AllocError> {
+    let mut text = String::new(computer.arena.alloc());
+    for index in &computer.used {
+        if let Some(place) = computer.places.get(*index) {
+            let is_whole = place.number == Some(kind);
+            let words = [
+                ("place", reached(computer, *place)?),
+                ("as", if is_whole { "" } else { " as " }),
+                ("kind", if is_whole { "" } else { kind }),
+                ("end", end),
+            ];
+            fill(&mut text, "$place$$as$$kind$$end$", &words)?;
+        }
     }
+    computer.arena.keep(text.as_str())
 }
 
-// Appends the body of a function that returns a truth value.
-fn truth(
-    out: &mut String,
-    computer: &Computer<'_, '_, '_>,
-    computed: &Computed,
-) -> Result<(), AllocError> {
-    let code = computed.code.as_str();
+// Where a field is in the parts.
+fn reached<'a>(computer: &Computer<'_, 'a>, place: Place<'_>) -> Result<&'a str, AllocError> {
+    let (from, path) = (computer.from, place.path);
+    let star = if path.is_empty() { "*" } else { "" };
+    computer.arena.print(format_args!("{star}{from}{path}"))
+}
+
+// The body of a function that returns a truth value.
+fn truth<'a>(computer: &Computer<'_, 'a>, computed: Computed<'_>) -> Result<&'a str, AllocError> {
+    let code = computed.code;
     if let [index] = computer.used.as_slice() {
         if let Some(place) = computer.places.get(*index) {
-            if place.name.as_str() == code {
-                out.push_str("        ")?;
-                reached(out, computer, place)?;
-                return out.push('\n');
+            if place.name == code {
+                let field = reached(computer, *place)?;
+                return computer.arena.print(format_args!("        {field}"));
             }
         }
     }
-    locals(out, computer, computer.is_mixed)?;
-    writeln!(out, "        {code}")
+    let locals = locals(computer, computer.is_mixed)?;
+    computer.arena.print(format_args!("{locals}        {code}"))
 }
+
+// That equal parts give equal results.
+const ALIKE: &str = "
+impl$generic$ $what$<$parts$>$gap$for $name$ {
+    ghost alike = { λ v w e. $term$ };
+}
+";
 
 // Appends the law that equal parts give equal results.
 fn alike(
     out: &mut String,
     what: &str,
     marker: Marker<'_>,
-    computer: &Computer<'_, '_, '_>,
-) -> Result<(), Stop> {
-    implemented(out, what, marker)?;
-    out.push_str("    ghost alike = { λ v w e. ")?;
+    computer: &Computer<'_, '_>,
+) -> Result<(), AllocError> {
+    let equations = equations(computer)?;
+    let term = match computer.used.len() {
+        0 => "refl",
+        1 => computer.arena.print(format_args!("rw {equations} refl"))?,
+        _ => computer.arena.print(format_args!("rw ({equations}) refl"))?,
+    };
+    let implementation = Implementation {
+        what,
+        template: ALIKE,
+        term,
+        body: "",
+    };
+    implementation.one(out, marker)
+}
+
+// The equation of each field that is used, from that of the parts.
+fn equations<'a>(computer: &Computer<'_, 'a>) -> Result<&'a str, AllocError> {
+    let mut text = String::new(computer.arena.alloc());
     for (i, index) in computer.used.iter().enumerate() {
         if let Some(place) = computer.places.get(*index) {
-            let same = place.same.as_str();
-            let front = if i > 0 {
-                ", e"
-            } else if computer.used.len() > 1 {
-                "rw (e"
-            } else {
-                "rw e"
-            };
-            write!(out, "{front}{same}")?;
+            let comma = if i > 0 { ", " } else { "" };
+            let words = [("comma", comma), ("same", place.same)];
+            fill(&mut text, "$comma$e$same$", &words)?;
         }
     }
-    out.push_str(match computer.used.len() {
-        0 => "refl };\n}\n",
-        1 => " refl };\n}\n",
-        _ => ") refl };\n}\n",
-    })?;
-    Ok(())
+    computer.arena.keep(text.as_str())
 }
 
 /// The number of at most eight bytes, the high one first.
@@ -561,16 +711,16 @@ pub fn number_of(bytes: &[u8]) -> u64 {
 }
 
 /// The constructor and the type of a number of so many bytes.
-pub fn magic_kind(
-    alloc: Global,
+pub fn magic_kind<'a>(
+    arena: &'a Arena,
     count: usize,
     order: Order,
-) -> Result<(&'static str, String), AllocError> {
+) -> Result<(&'static str, &'a str), AllocError> {
     let bits = count.saturating_mul(8);
     Ok(match (order, count) {
-        (Order::Lsb, _) => ("LsbBe", format!(in alloc; "LsbBe<u64, {bits}>")?),
-        (Order::Msb, 1) => ("", format!(in alloc; "u8")?),
-        (Order::Msb, 2 | 4 | 8) => ("Be", format!(in alloc; "Be<u{bits}>")?),
-        (Order::Msb, _) => ("Msb", format!(in alloc; "Msb<u64, {bits}>")?),
+        (Order::Lsb, _) => ("LsbBe", arena.print(format_args!("LsbBe<u64, {bits}>"))?),
+        (Order::Msb, 1) => ("", "u8"),
+        (Order::Msb, 2 | 4 | 8) => ("Be", arena.print(format_args!("Be<u{bits}>"))?),
+        (Order::Msb, _) => ("Msb", arena.print(format_args!("Msb<u64, {bits}>"))?),
     })
 }

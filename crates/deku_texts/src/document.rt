@@ -1,6 +1,7 @@
 //! Texts on one line where there is room, or with a line for each item, as `rt fmt` lays them out.
 
-use std::alloc::{AllocError, Global};
+use deku_tokens::arena::Arena;
+use std::alloc::AllocError;
 
 // The columns of a line.
 const WIDTH: usize = 100;
@@ -9,12 +10,12 @@ const WIDTH: usize = 100;
 const PACKED: usize = 10;
 
 /// A word, which is never broken, or items in brackets.
-#[derive(Drop)]
-pub struct Text {
+#[derive(Clone, Copy)]
+pub struct Text<'a> {
     form: Form,
     // The word, or what is in front of the items, with the bracket.
-    open: String,
-    items: Vec<Text>,
+    open: &'a str,
+    items: &'a [Text<'a>],
 }
 
 /// What the brackets of a text are.
@@ -81,60 +82,41 @@ impl Form {
     }
 }
 
-impl Text {
+impl<'a> Text<'a> {
     /// A word.
-    pub fn of(text: String) -> Text {
-        let items = Vec::new(*text.allocator());
+    pub fn of(text: &'a str) -> Text<'a> {
         Text {
             form: Form::Word,
             open: text,
-            items,
+            items: &[],
         }
-    }
-
-    /// A word.
-    pub fn word(alloc: Global, text: &str) -> Result<Text, AllocError> {
-        Ok(Text::of(String::from_str(alloc, text)?))
     }
 
     /// Items after what is in front of them, such as `Msb(`.
-    pub fn group(
-        alloc: Global,
-        form: Form,
-        open: &str,
-        items: Vec<Text>,
-    ) -> Result<Text, AllocError> {
-        let open = String::from_str(alloc, open)?;
-        Ok(Text { form, open, items })
+    pub fn group(form: Form, open: &'a str, items: &'a [Text<'a>]) -> Text<'a> {
+        Text { form, open, items }
     }
 
     /// One item after what is in front of it.
-    pub fn one(alloc: Global, form: Form, open: &str, item: Text) -> Result<Text, AllocError> {
-        let mut items = Vec::new(alloc);
-        items.push(item)?;
-        Text::group(alloc, form, open, items)
+    pub fn one(
+        arena: &'a Arena,
+        form: Form,
+        open: &'a str,
+        item: Text<'a>,
+    ) -> Result<Text<'a>, AllocError> {
+        Ok(Text::group(form, open, arena.list(&[item])?))
     }
 
     /// It with a text in front.
-    pub fn after(self, alloc: Global, front: &str) -> Result<Text, AllocError> {
-        let Text { form, open, items } = self;
-        let open = joined(alloc, front, open.as_str())?;
-        Ok(Text { form, open, items })
-    }
-
-    /// The same text.
-    pub fn copy(&self, alloc: Global) -> Result<Text, AllocError> {
-        let mut items = Vec::new(alloc);
-        for item in &self.items {
-            items.push(item.copy(alloc)?)?;
-        }
-        Text::group(alloc, self.form, self.open.as_str(), items)
+    pub fn after(self, arena: &'a Arena, front: &str) -> Result<Text<'a>, AllocError> {
+        let open = joined(arena, front, self.open)?;
+        Ok(Text { open, ..self })
     }
 
     /// Its word, if it is one.
-    pub fn as_word(&self) -> Option<&str> {
+    pub fn as_word(&self) -> Option<&'a str> {
         if self.form == Form::Word {
-            Some(self.open.as_str())
+            Some(self.open)
         } else {
             None
         }
@@ -143,7 +125,7 @@ impl Text {
     /// How many columns it has on one line.
     pub fn columns(&self) -> usize {
         let mut columns = self.around();
-        for item in &self.items {
+        for item in self.items {
             columns = columns.saturating_add(item.columns()).saturating_add(2);
         }
         if self.items.is_empty() {
@@ -155,7 +137,7 @@ impl Text {
 
     /// Appends it on one line.
     pub fn line(&self, out: &mut String) -> Result<(), AllocError> {
-        out.push_str(self.open.as_str())?;
+        out.push_str(self.open)?;
         for (i, item) in self.items.iter().enumerate() {
             if i > 0 {
                 out.push_str(self.form.separator())?;
@@ -180,16 +162,16 @@ impl Text {
         if self.items.is_empty() || !is_split && self.is_line(out.as_str(), after) {
             return self.line(out);
         }
-        out.push_str(self.open.as_str())?;
+        out.push_str(self.open)?;
         if self.is_packed() {
             return self.pack(out, indent);
         }
         let end = column(out.as_str());
-        let is_wide = |it: &Text| end.saturating_add(it.open.as_str().chars().count()) > WIDTH;
+        let is_wide = |it: &Text<'_>| end.saturating_add(it.open.chars().count()) > WIDTH;
         let is_call = self.is_call()
             && (self.form == Form::GhostRound || !self.items.iter().any(is_wide));
         let inside = indent.saturating_add(self.form.step());
-        for item in &self.items {
+        for item in self.items {
             if is_call {
                 item.print(out, indent, after.saturating_add(1), true)?;
             } else {
@@ -213,8 +195,7 @@ impl Text {
         let is_round = self.form == Form::Round;
         (is_round || self.form == Form::Square)
             && self.items.iter().all(|item| {
-                let is_name = item.form == Form::Word
-                    && !item.open.as_str().contains(['(', ':', '<']);
+                let is_name = item.form == Form::Word && !item.open.contains(['(', ':', '<']);
                 item.columns() <= PACKED && (is_name || !is_round)
             })
     }
@@ -250,7 +231,7 @@ impl Text {
         if !self.is_call() && self.form != Form::Word && inner > self.form.room() {
             return false;
         }
-        for item in &self.items {
+        for item in self.items {
             if !item.is_short() {
                 return false;
             }
@@ -265,18 +246,18 @@ impl Text {
 
     /// Whether what is in front of its items has room on the last line of a text.
     pub fn has_room(&self, out: &str) -> bool {
-        column(out).saturating_add(self.open.as_str().chars().count()) < WIDTH
+        column(out).saturating_add(self.open.chars().count()) < WIDTH
     }
 
     // Whether it is the mark for all other fields.
     fn is_rest(&self) -> bool {
-        self.open.as_str() == ".."
+        self.open == ".."
     }
 
     // Whether it is a call whose only item is a group, which then has no line of its own.
     fn is_call(&self) -> bool {
         let is_named = self.open.len() > 1 && matches!(self.form, Form::Round | Form::GhostRound);
-        match self.items.as_slice() {
+        match self.items {
             [item] => is_named && item.form != Form::Angle && item.form != Form::Word,
             _ => false,
         }
@@ -284,7 +265,7 @@ impl Text {
 
     // What follows the items on one line.
     fn end(&self) -> &'static str {
-        let is_tuple = self.open.as_str() == "(" && self.form != Form::GhostRound;
+        let is_tuple = self.open == "(" && self.form != Form::GhostRound;
         if self.form.is_spaced() {
             return if self.items.is_empty() { "}" } else { " }" };
         }
@@ -302,15 +283,13 @@ impl Text {
             0
         };
         let brackets = self.end().len().saturating_add(space);
-        self.open.as_str().chars().count().saturating_add(brackets)
+        self.open.chars().count().saturating_add(brackets)
     }
 }
 
 /// Two texts, one after the other.
-pub fn joined(alloc: Global, front: &str, text: &str) -> Result<String, AllocError> {
-    let mut out = String::from_str(alloc, front)?;
-    out.push_str(text)?;
-    Ok(out)
+pub fn joined<'a>(arena: &'a Arena, front: &str, text: &str) -> Result<&'a str, AllocError> {
+    arena.print(format_args!("{front}{text}"))
 }
 
 // The column after the last character of a text.

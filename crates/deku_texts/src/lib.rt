@@ -4,5 +4,6 @@
 pub mod document;
 pub mod records;
 pub mod refusal;
+pub mod template;
 pub mod words;
 pub mod wrapping;

@@ -43,14 +43,14 @@ impl<'b, 'a> Records<'b, 'a> {
         let mut known = Vec::new(alloc);
         for record in self.list {
             known.push(match &record.form {
-                Form::Struct(_, fields) => self.of_fields(fields.as_slice()),
+                Form::Struct(_, fields) => self.of_fields(fields),
                 Form::Enum(_, cases) => {
                     let mut all = Known {
                         is_copied: true,
                         is_founded: true,
                     };
-                    for case in cases {
-                        all = both(all, self.of_fields(case.fields.as_slice()));
+                    for case in *cases {
+                        all = both(all, self.of_fields(case.fields));
                     }
                     all
                 }
@@ -91,7 +91,7 @@ impl<'b, 'a> Records<'b, 'a> {
                     is_copied: true,
                     is_founded: true,
                 };
-                for part in parts {
+                for part in *parts {
                     all = both(all, self.of_kind(part, field));
                 }
                 all

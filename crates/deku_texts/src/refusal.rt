@@ -1,33 +1,36 @@
 //! Why a part of a description is not printed.
 
 use deku_tokens::place::{Complaint, Span};
-use std::alloc::{AllocError, AllocFailed, Global};
+use std::alloc::{AllocError, AllocFailed};
 
 /// Why a part of a description is not printed.
-#[derive(Debug, Drop)]
-pub enum Stop {
+#[derive(Clone, Copy, Debug)]
+pub enum Stop<'a> {
     /// What is wrong with it.
-    Wrong(Complaint),
+    Wrong(Complaint<'a>),
     /// There is no memory.
     Memory,
 }
 
-impl Stop {
+impl<'a> Stop<'a> {
     /// What is wrong, and what to write in its place.
-    pub fn wrong<T>(alloc: Global, span: Span, message: &str, help: &str) -> Result<T, Stop> {
-        let complaint = Complaint::new(alloc, span, message, help)?;
-        Err(Stop::Wrong(complaint))
+    pub fn wrong<T>(span: Span, message: &'a str, help: &'a str) -> Result<T, Stop<'a>> {
+        Err(Stop::Wrong(Complaint {
+            span,
+            message,
+            help,
+        }))
     }
 }
 
-impl From<AllocError> for Stop {
-    fn from(_error: AllocError) -> Stop {
+impl<'a> From<AllocError> for Stop<'a> {
+    fn from(_error: AllocError) -> Stop<'a> {
         Stop::Memory
     }
 }
 
-impl<T: Drop> From<AllocFailed<T>> for Stop {
-    fn from(_error: AllocFailed<T>) -> Stop {
+impl<'a, T: Drop> From<AllocFailed<T>> for Stop<'a> {
+    fn from(_error: AllocFailed<T>) -> Stop<'a> {
         Stop::Memory
     }
 }

@@ -1,6 +1,7 @@
 //! Names that a module has besides those of its description, and how names are written.
 
-use std::alloc::{AllocError, Global};
+use deku_tokens::arena::Arena;
+use std::alloc::AllocError;
 
 // The names that a module imports or that its bounds have.
 const IMPORTED: [&str; 74] = [
@@ -150,16 +151,21 @@ pub fn is_imported(name: &str) -> bool {
 }
 
 /// A name as ghost text takes it.
-pub fn quoted(alloc: Global, name: &str) -> Result<String, AllocError> {
+pub fn quoted<'a>(arena: &'a Arena, name: &str) -> Result<&'a str, AllocError> {
     if is_one_of(&QUOTED, name) {
-        return format!(in alloc; "«{name}»");
+        return arena.print(format_args!("«{name}»"));
     }
-    String::from_str(alloc, name)
+    arena.keep(name)
 }
 
 /// The name of a type for a field of a record, as `UdpLengthCount` for `length` of `Udp`.
-pub fn marker(alloc: Global, record: &str, field: &str, what: &str) -> Result<String, AllocError> {
-    let mut name = String::from_str(alloc, record)?;
+pub fn marker<'a>(
+    arena: &'a Arena,
+    record: &str,
+    field: &str,
+    what: &str,
+) -> Result<&'a str, AllocError> {
+    let mut name = String::from_str(arena.alloc(), record)?;
     for word in field.split('_') {
         let mut letters = word.chars();
         if let Some(first) = letters.next() {
@@ -168,19 +174,19 @@ pub fn marker(alloc: Global, record: &str, field: &str, what: &str) -> Result<St
         }
     }
     name.push_str(what)?;
-    Ok(name)
+    arena.keep(name.as_str())
 }
 
 /// A name with small letters, as `ether_type` for `EtherType`.
-pub fn snake(alloc: Global, name: &str) -> Result<String, AllocError> {
-    let mut small = String::new(alloc);
+pub fn snake<'a>(arena: &'a Arena, name: &str) -> Result<&'a str, AllocError> {
+    let mut small = String::new(arena.alloc());
     for letter in name.chars() {
         if letter.is_ascii_uppercase() && !small.is_empty() {
             small.push('_')?;
         }
         small.push(letter.to_ascii_lowercase())?;
     }
-    Ok(small)
+    arena.keep(small.as_str())
 }
 
 /// The parts of one value, and what makes them in ghost text.

@@ -3,7 +3,8 @@
 use deku_attributes::model::{Endian, Field, Order};
 use deku_attributes::reading::{address_bits, bits_of};
 use deku_description::syntax::{Length, Type};
-use std::alloc::{AllocError, Global};
+use deku_tokens::arena::Arena;
+use std::alloc::AllocError;
 use std::fmt::Write as _;
 
 /// How a value is laid out: the part around it, if there is one.
@@ -69,7 +70,7 @@ fn items_of(kind: &Type<'_>) -> usize {
         return 1;
     };
     let mut count = 0usize;
-    for part in parts {
+    for part in *parts {
         count = count.saturating_add(items_of(part));
     }
     count
@@ -81,12 +82,29 @@ pub fn is_of_numbers(kind: &Type<'_>) -> bool {
         Type::Name(name) => bits_of(name.text).is_some() || address_bits(name.text).is_some(),
         Type::Array(item, _) => is_of_numbers(item),
         Type::Tuple(parts) => {
-            for part in parts {
+            for part in *parts {
                 if !is_of_numbers(part) {
                     return false;
                 }
             }
             !parts.is_empty()
+        }
+        Type::Of(_, _) => false,
+    }
+}
+
+/// Whether a type is made of numbers with a sign, or of some beside others.
+pub fn has_sign(kind: &Type<'_>) -> bool {
+    match kind {
+        Type::Name(name) => name.text.starts_with('i') && bits_of(name.text).is_some(),
+        Type::Array(item, _) => has_sign(item),
+        Type::Tuple(parts) => {
+            for part in *parts {
+                if has_sign(part) {
+                    return true;
+                }
+            }
+            false
         }
         Type::Of(_, _) => false,
     }
@@ -102,7 +120,7 @@ pub fn common_bits(kind: &Type<'_>) -> Option<u64> {
         Type::Array(item, _) => common_bits(item),
         Type::Tuple(parts) => {
             let mut common = None;
-            for part in parts {
+            for part in *parts {
                 let bits = common_bits(part)?;
                 if common.unwrap_or(bits) != bits {
                     return None;
@@ -116,12 +134,12 @@ pub fn common_bits(kind: &Type<'_>) -> Option<u64> {
 }
 
 /// The type of a field's part.
-pub fn part_kind(alloc: Global, field: &Field<'_>) -> Result<String, AllocError> {
+pub fn part_kind<'a>(arena: &'a Arena, field: &Field<'_>) -> Result<&'a str, AllocError> {
     let Wrapping { around, bits } = wrapping_of(field);
-    let mut out = String::new(alloc);
+    let mut out = String::new(arena.alloc());
     if around.is_empty() {
         item(&mut out, &field.kind, field)?;
-        return Ok(out);
+        return arena.keep(out.as_str());
     }
     write!(out, "{around}<")?;
     plain(&mut out, &field.kind)?;
@@ -129,18 +147,18 @@ pub fn part_kind(alloc: Global, field: &Field<'_>) -> Result<String, AllocError>
         write!(out, ", {bits}")?;
     }
     out.push('>')?;
-    Ok(out)
+    arena.keep(out.as_str())
 }
 
 /// The type of a field as the module has it.
-pub fn field_kind(alloc: Global, field: &Field<'_>) -> Result<String, AllocError> {
-    let mut out = String::new(alloc);
+pub fn field_kind<'a>(arena: &'a Arena, field: &Field<'_>) -> Result<&'a str, AllocError> {
+    let mut out = String::new(arena.alloc());
     if wrapping_of(field).around.is_empty() {
         item(&mut out, &field.kind, field)?;
     } else {
         plain(&mut out, &field.kind)?;
     }
-    Ok(out)
+    arena.keep(out.as_str())
 }
 
 /// Appends a type as it is described.

@@ -2,6 +2,7 @@
 //! wrong there.
 #![tactic(auto)]
 
+pub mod arena;
 mod lexing;
 pub mod literal;
 pub mod place;

@@ -1,6 +1,6 @@
 //! Places in a text, and what is wrong there.
 
-ghost use Rattle.std.specs.Prelude.{◌≡◌, ◌≤◌, ◌↔◌, length, take, IfOk, IsNone, string_bytes};
+ghost use Rattle.std.specs.Prelude.{◌≡◌, ◌≤◌, ◌↔◌, length, take, IsNone};
 ghost use Rattle.deku_tokens.specs.Places.{is_newline, is_start, line_after, last_line_len};
 ghost use Rattle.deku_tokens.specs.Places.{column_after};
 
@@ -26,42 +26,14 @@ pub struct Span {
 }
 
 /// What is wrong with a description, and what to write in its place.
-#[derive(Debug, PartialEq, Eq, Drop)]
-pub struct Complaint {
+#[derive(Clone, Copy, Debug, PartialEq, Eq)]
+pub struct Complaint<'a> {
     /// Where it is.
     pub span: Span,
     /// What is wrong, in deku's terms.
-    pub message: String,
+    pub message: &'a str,
     /// What to write in its place.
-    pub help: String,
-}
-
-impl Complaint {
-    /// A complaint about a part of a text.
-    ///
-    /// # Errors
-    ///
-    /// `AllocError` if there is no memory.
-    ///
-    /// ```text
-    /// Complaint::new(alloc, span, "unknown attribute `cont`", "write `count`")?
-    /// ```
-    pub fn new(
-        alloc: Global,
-        span: Span,
-        message: &str,
-        help: &str,
-    ) -> Result<Complaint, AllocError>
-        ensures span { IfOk result (λ c. c.span ≡ span) }
-        ensures message { IfOk result (λ c. string_bytes c.message ≡ message.now) }
-        ensures help { IfOk result (λ c. string_bytes c.help ≡ help.now) }
-    {
-        Ok(Complaint {
-            span,
-            message: String::from_str(alloc, message)?,
-            help: String::from_str(alloc, help)?,
-        })
-    }
+    pub help: &'a str,
 }
 
 /// The place of the byte at an offset, or of the end of the text if the offset is not below its
@@ -151,17 +123,17 @@ pub fn told(
     alloc: Global,
     file: &str,
     text: &str,
-    complaints: &[Complaint],
+    complaints: &[Complaint<'_>],
 ) -> Result<String, AllocError> {
     let mut out = String::new(alloc);
     for complaint in complaints.iter().take(SHOWN) {
         let place = place_of(text, complaint.span.start);
         let line = place.line;
         let column = place.column;
-        let message = complaint.message.as_str();
+        let message = complaint.message;
         writeln!(out, "{file}:{line}:{column}: error: {message}")?;
         quote(&mut out, text, complaint.span.start)?;
-        let help = complaint.help.as_str();
+        let help = complaint.help;
         if !help.is_empty() {
             writeln!(out, "help: {help}")?;
         }

@@ -110,7 +110,10 @@ fn text_of(text: &str, span: Span) -> &str {
 /// ```text
 /// broken_tokens(alloc, &tokens(alloc, "a § b", part)?)?    // one, at the §
 /// ```
-pub fn broken_tokens(alloc: Global, tokens: &[Token<'_>]) -> Result<Vec<Complaint>, AllocError> {
+pub fn broken_tokens<'a>(
+    alloc: Global,
+    tokens: &[Token<'a>],
+) -> Result<Vec<Complaint<'a>>, AllocError> {
     let mut complaints = Vec::new(alloc);
     for token in tokens {
         let (message, help) = match token.kind {
@@ -124,7 +127,12 @@ pub fn broken_tokens(alloc: Global, tokens: &[Token<'_>]) -> Result<Vec<Complain
             ),
             _ => continue,
         };
-        complaints.push(Complaint::new(alloc, token.span, message, help)?)?;
+        let span = token.span;
+        complaints.push(Complaint {
+            span,
+            message,
+            help,
+        })?;
     }
     Ok(complaints)
 }
