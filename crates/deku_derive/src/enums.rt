@@ -272,7 +272,7 @@ fn local_id<'a>(
 fn reference<'a>(part: Part<'a>) -> &'a str {
     let field = match part.texts.value.as_word() {
         Some("()") => Some("&()"),
-        Some(word) if part.is_lent => Some(word),
+        Some(word) if part.is_lent && !word.contains('(') => Some(word),
         Some(word) => word.strip_prefix('*'),
         None => None,
     };
