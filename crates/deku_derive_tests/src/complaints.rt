@@ -293,7 +293,7 @@ enum A { #[deku(id = 1)] B { f: bool, n: u8, #[deku(count = \"n\")] v: Vec<u8>,
     (
         "#[deku(id_type = \"u8\")]
 enum A { #[deku(id = 1)] B { n: u8, #[deku(count = \"n\")] v: Vec<u8>, s: i8 } }",
-        "2:75 a kind with two lists or options, or one of them and a number with a sign",
+        "2:73 a kind with two lists or options, or one of them and a number with a sign",
     ),
     (
         "struct A { n: u8, #[deku(until = \"|v: &u8| *v == 0\")] v: Vec<u8>,
