@@ -113,18 +113,31 @@ impl<'b, 'a> Builder<'b, 'a> {
                 self.leaf(field, named)?;
             }
         }
-        let Some(last) = fields.last() else {
-            return Ok(());
-        };
+        match fields.last() {
+            Some(last) => self.ended(last),
+            None => Ok(()),
+        }
+    }
+
+    // Complains of what is wrong after the last field.
+    fn ended(&mut self, last: &Field<'a>) -> Result<(), AllocError> {
         if self.temporary.take().is_some() {
             let wrong = no_count(last);
             self.noted(wrong)?;
         }
+        let is_twice = self.is_nested || self.lent_from(0) > 1;
         if self.is_nested && (self.is_ended || self.items.len() > 1) {
             let wrong = Stop::wrong(
                 last.span,
                 "a field after a list or an option that has another one in front",
                 "move the list or the option to the end",
+            );
+            self.noted(wrong)?;
+        } else if is_twice && self.owner == Owner::LentKind {
+            let wrong = Stop::wrong(
+                last.span,
+                "a kind with two lists or options, or one of them and a number with a sign",
+                "make a record of its fields, which the kind then has",
             );
             self.noted(wrong)?;
         }

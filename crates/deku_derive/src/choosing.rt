@@ -48,7 +48,12 @@ const LAW: &str = "    \
 ";
 
 // Appends the import of the law of an enum.
-fn imported(out: &mut String, kind: &str, law: &str, path: &str) -> Result<(), AllocError> {
+fn imported<'w>(
+    out: &mut String,
+    kind: &'w str,
+    law: &'w str,
+    path: &'w str,
+) -> Result<(), AllocError> {
     let (front, rest) = path.split_once('.').unwrap_or((path, ""));
     let dot = if rest.is_empty() { "" } else { "." };
     let words = [

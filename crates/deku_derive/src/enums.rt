@@ -198,10 +198,10 @@ returns-in-$case$ g c = search (rules, c.in-$case$.is)
 ";
 
 /// Appends what proves how an enum that holds memory is written: a line for each kind.
-pub(crate) fn answers(
+pub(crate) fn answers<'w>(
     out: &mut String,
-    path: &str,
-    name: &str,
+    path: &'w str,
+    name: &'w str,
     kinds: &[Built<'_>],
 ) -> Result<(), AllocError> {
     let (front, rest) = path.split_once('.').unwrap_or((path, ""));

@@ -248,12 +248,13 @@ fn kinds<'a>(
     let Some(path) = path else {
         return Ok("");
     };
+    let path = arena.keep(path)?;
     let (front, rest) = path.split_once('.').unwrap_or((path, ""));
     let dot = if rest.is_empty() { "" } else { "." };
     let mut lines = String::new(arena.alloc());
     for record in module.records {
         if let Form::Enum(_, _) = &record.form {
-            let name = record.name.text;
+            let name = arena.keep(record.name.text)?;
             let words = [
                 ("either", if lines.is_empty() { EITHER } else { "" }),
                 ("front", front),
@@ -299,7 +300,7 @@ $names$
 fn used(
     arena: &Arena,
     out: &mut String,
-    from: &str,
+    from: &'static str,
     names: &[&'static str],
     text: &str,
 ) -> Result<(), AllocError> {

@@ -161,11 +161,11 @@ impl FromParts for $name$ {
 
 /// Appends the type of a record's parts, which is called by this word, and what makes the record of
 /// them, up to its ghost text.
-pub(crate) fn parts_alias(
-    arena: &Arena,
+pub(crate) fn parts_alias<'a>(
+    arena: &'a Arena,
     out: &mut String,
-    name: &str,
-    word: &str,
+    name: &'a str,
+    word: &'a str,
     kind: Text<'_>,
 ) -> Result<(), AllocError> {
     let mut alias = format!(in arena.alloc(); "type {name}{word} = ")?;
@@ -214,7 +214,7 @@ impl DekuContainerWrite for $name$ {}
 ";
 
 /// Appends the traits of deku for a record that is written by this body.
-pub(crate) fn traits(out: &mut String, name: &str, body: &str) -> Result<(), AllocError> {
+pub(crate) fn traits<'w>(out: &mut String, name: &'w str, body: &'w str) -> Result<(), AllocError> {
     let ctx = if body.contains("ctx") { "ctx" } else { "_ctx" };
     fill(out, TRAITS, &[("name", name), ("ctx", ctx), ("body", body)])
 }

@@ -28,7 +28,7 @@ $counts$$sets$        Ok(())
 pub(crate) fn update<'a>(
     arena: &'a Arena,
     out: &mut String,
-    name: &str,
+    name: &'a str,
     fields: &[Field<'a>],
 ) -> Result<(), AllocError> {
     let updated = updated_of(arena, fields)?;

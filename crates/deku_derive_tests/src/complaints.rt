@@ -291,6 +291,11 @@ enum A { #[deku(id = 1)] B { f: bool, n: u8, #[deku(count = \"n\")] v: Vec<u8>,
         "3:39 a field after a list or an option that has another one in front",
     ),
     (
+        "#[deku(id_type = \"u8\")]
+enum A { #[deku(id = 1)] B { n: u8, #[deku(count = \"n\")] v: Vec<u8>, s: i8 } }",
+        "2:73 a kind with two lists or options, or one of them and a number with a sign",
+    ),
+    (
         "struct A { n: u8, #[deku(until = \"|v: &u8| *v == 0\")] v: Vec<u8>,
 #[deku(count = \"n\")] w: Vec<u8>, m: u8 }",
         "2:37 a field after a list or an option that has another one in front",

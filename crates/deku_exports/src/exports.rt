@@ -34,10 +34,14 @@ $head$
 ";
 
 // Appends the function that reads a record.
-fn reading(arena: &Arena, out: &mut String, name: &str, function: &str) -> Result<(), AllocError> {
-    let place = joined(arena, "place: &mut ", name)?;
-    let parameters = ["alloc: Global", "bytes: &[u8]", place];
-    let head = signature(arena, function, "read", &parameters)?;
+fn reading<'a>(
+    arena: &'a Arena,
+    out: &mut String,
+    name: &'a str,
+    function: &str,
+) -> Result<(), AllocError> {
+    let parameters = joined(arena, "alloc: Global, bytes: &[u8], place: &mut ", name)?;
+    let head = signature(arena, function, "read", parameters)?;
     fill(out, READING, &[("head", head), ("name", name)])
 }
 
@@ -53,9 +57,14 @@ $head$
 ";
 
 // Appends the function that writes a record.
-fn writing(arena: &Arena, out: &mut String, name: &str, function: &str) -> Result<(), AllocError> {
-    let value = joined(arena, "value: &", name)?;
-    let head = signature(arena, function, "write", &[value, "bytes: &mut [u8]"])?;
+fn writing<'a>(
+    arena: &'a Arena,
+    out: &mut String,
+    name: &'a str,
+    function: &str,
+) -> Result<(), AllocError> {
+    let parameters = arena.print(format_args!("value: &{name}, bytes: &mut [u8]"))?;
+    let head = signature(arena, function, "write", parameters)?;
     fill(out, WRITING, &[("head", head), ("name", name)])
 }
 
@@ -64,16 +73,14 @@ fn signature<'a>(
     arena: &'a Arena,
     function: &str,
     verb: &str,
-    parameters: &[&str],
+    parameters: &str,
 ) -> Result<&'a str, AllocError> {
-    let list = parameters.join(arena.alloc(), ", ")?;
-    let list = list.as_str();
-    let head = format_args!("pub extern \"C\" fn {function}_{verb}({list}) -> u32");
+    let head = format_args!("pub extern \"C\" fn {function}_{verb}({parameters}) -> u32");
     let line = arena.print(head)?;
     if line.chars().count() <= WIDTH {
         return Ok(line);
     }
-    let list = parameters.join(arena.alloc(), ",\n    ")?;
+    let list = parameters.replace(arena.alloc(), ", ", ",\n    ")?;
     let list = list.as_str();
     arena.print(format_args!("pub extern \"C\" fn {function}_{verb}(\n    {list},\n) -> u32"))
 }

@@ -42,9 +42,9 @@ $records$
 ";
 
 /// The header of a module with these records.
-pub(crate) fn header(
-    arena: &Arena,
-    file: &str,
+pub(crate) fn header<'a>(
+    arena: &'a Arena,
+    file: &'a str,
     module: &Module<'_>,
     records: &[Crossed<'_>],
 ) -> Result<String, AllocError> {
