@@ -23,7 +23,8 @@ pub(crate) fn there<'a>(
         };
         let law = snake(arena, kind)?;
         if !fields.iter().take(i).any(|it| chosen(it) == Some(kind)) {
-            imported(out, kind, law, path.unwrap_or(""))?;
+            let path = path.unwrap_or("");
+            imported(out, kind, law, path)?;
         }
         laws.push(Text::of(match field.name {
             Some(name) => {
