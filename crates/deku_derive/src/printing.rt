@@ -121,7 +121,8 @@ fn origin<'a>(
         return Ok(());
     }
     let path = asked.path.unwrap_or("");
-    let (_, module) = path.split_once('.').unwrap_or(("", ""));
+    let path = arena.keep(path)?;
+    let (_, module) = path.split_once('.').unwrap_or((path, ""));
     let module = module.replace(arena.alloc(), ".", "/")?;
     let module = arena.keep(module.as_str())?;
     let slash = if module.is_empty() { "" } else { "/" };
