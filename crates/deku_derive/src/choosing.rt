@@ -16,6 +16,8 @@ pub(crate) fn there<'a>(
     fields: &[Field<'a>],
     path: Option<&str>,
 ) -> Result<(), AllocError> {
+    let path = path.unwrap_or("");
+    let path = arena.keep(path)?;
     let mut laws = Vec::new(arena.alloc());
     for (i, field) in fields.iter().enumerate() {
         let Some(kind) = chosen(field) else {
@@ -23,7 +25,7 @@ pub(crate) fn there<'a>(
         };
         let law = snake(arena, kind)?;
         if !fields.iter().take(i).any(|it| chosen(it) == Some(kind)) {
-            imported(out, kind, law, path.unwrap_or(""))?;
+            imported(out, kind, law, path)?;
         }
         laws.push(Text::of(match field.name {
             Some(name) => {

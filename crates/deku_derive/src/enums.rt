@@ -62,8 +62,8 @@ pub(crate) fn declaration<'a>(
         text.print(&mut lines, 4, 1, is_split && case.shape == Shape::Named)?;
         lines.push_str(",\n")?;
     }
-    let words = [("name", record.name.text), ("kinds", lines.as_str())];
-    fill(out, ENUM, &words)
+    let lines = arena.keep(lines.as_str())?;
+    fill(out, ENUM, &[("name", record.name.text), ("kinds", lines)])
 }
 
 // Whether kinds with named fields have a line for each field: if one of them has no room on a line,
@@ -143,7 +143,8 @@ pub(crate) fn implementation<'a>(
     let is_given = matches!(ids.source, IdSource::Context(_));
     let held = Held::Parts;
     if is_given {
-        parts_alias(arena, out, name, "Kinds", tree(arena, kinds, held)?)?;
+        let kind = tree(arena, kinds, held)?;
+        parts_alias(arena, out, name, "Kinds", kind)?;
     } else {
         let kind = parts_kind(arena, ids, kinds, held)?;
         parts_alias(arena, out, name, "Parts", kind)?;
@@ -156,7 +157,8 @@ pub(crate) fn implementation<'a>(
     for (i, kind) in kinds.iter().enumerate() {
         parts(arena, &mut arms, name, kind, (i, kinds.len()), is_given)?;
     }
-    fill(out, TO_PARTS, &[("name", name), ("arms", arms.as_str())])?;
+    let arms = arena.keep(arms.as_str())?;
+    fill(out, TO_PARTS, &[("name", name), ("arms", arms)])?;
     if is_given {
         return Ok(());
     }
@@ -172,19 +174,21 @@ $ids$;
 fn lent<'a>(
     arena: &'a Arena,
     out: &mut String,
-    name: &str,
+    name: &'a str,
     ids: Ids<'a>,
     kinds: &[Built<'a>],
 ) -> Result<(), AllocError> {
     let mut text = format!(in arena.alloc(); "type {name}Ids = ")?;
     parts_kind(arena, ids, kinds, Held::Nothing)?.print(&mut text, 0, 1, false)?;
-    fill(out, IDS, &[("name", name), ("ids", text.as_str())])?;
+    let text = arena.keep(text.as_str())?;
+    fill(out, IDS, &[("name", name), ("ids", text)])?;
     let mut body = String::from_str(arena.alloc(), "match self {")?;
     for (i, kind) in kinds.iter().enumerate() {
         written(arena, &mut body, name, kind, (i, kinds.len()))?;
     }
     body.push_str("\n        }")?;
-    traits(out, name, body.as_str())
+    let body = arena.keep(body.as_str())?;
+    traits(out, name, body)
 }
 
 const GOALS: &str = "\
@@ -244,8 +248,8 @@ fn written<'a>(
         parts.push(';')?;
     }
     let words = [
-        ("head", head.as_str()),
-        ("parts", parts.as_str()),
+        ("head", arena.keep(head.as_str())?),
+        ("parts", arena.keep(parts.as_str())?),
         ("id", local_id(arena, name, kind, place)?),
         ("reference", reference),
     ];

@@ -93,7 +93,7 @@ pub fn print<'a>(
     if !module.docs.is_empty() {
         text.push_str("//!\n")?;
     }
-    origin(&mut text, asked, lent)?;
+    origin(arena, &mut text, asked, lent)?;
     items(arena, &mut text, asked.path, module, out.as_str())?;
     Ok(Printed {
         module: text,
@@ -108,7 +108,12 @@ const ANSWERS: &str = "\
 ";
 
 // Appends where a module comes from, and where the proof is of its enum that holds memory.
-fn origin(text: &mut String, asked: Asked<'_>, lent: &str) -> Result<(), AllocError> {
+fn origin<'a>(
+    arena: &'a Arena,
+    text: &mut String,
+    asked: Asked<'_>,
+    lent: &'a str,
+) -> Result<(), AllocError> {
     let name = asked.file.rsplit('/').next().unwrap_or(asked.file);
     let flag = if asked.exports.is_some() { " --c" } else { "" };
     writeln!(text, "//! Printed by `derive{flag}` from `{name}`.")?;
@@ -116,9 +121,10 @@ fn origin(text: &mut String, asked: Asked<'_>, lent: &str) -> Result<(), AllocEr
         return Ok(());
     }
     let path = asked.path.unwrap_or("");
-    let (_, module) = path.split_once('.').unwrap_or(("", ""));
-    let module = module.replace(*text.allocator(), ".", "/")?;
-    let module = module.as_str();
+    let path = arena.keep(path)?;
+    let (_, module) = path.split_once('.').unwrap_or((path, ""));
+    let module = module.replace(arena.alloc(), ".", "/")?;
+    let module = arena.keep(module.as_str())?;
     let slash = if module.is_empty() { "" } else { "/" };
     let words = [("module", module), ("slash", slash), ("name", lent)];
     fill(text, ANSWERS, &words)

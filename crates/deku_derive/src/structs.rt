@@ -91,7 +91,7 @@ $fields$}
 fn named_struct<'a>(
     arena: &'a Arena,
     out: &mut String,
-    name: &str,
+    name: &'a str,
     fields: &[Field<'a>],
 ) -> Result<(), AllocError> {
     let mut lines = String::new(arena.alloc());
@@ -99,7 +99,8 @@ fn named_struct<'a>(
         docs(&mut lines, field.docs, "    ///")?;
         declared(arena, &mut lines, field)?;
     }
-    fill(out, STRUCT, &[("name", name), ("fields", lines.as_str())])
+    let lines = arena.keep(lines.as_str())?;
+    fill(out, STRUCT, &[("name", name), ("fields", lines)])
 }
 
 fn declared<'a>(arena: &'a Arena, out: &mut String, field: &Field<'a>) -> Result<(), AllocError> {
@@ -140,13 +141,15 @@ pub(crate) fn implementation<'a>(
     if owner == Owner::Copied {
         let mut parts = String::from_str(arena.alloc(), "        ")?;
         whole.texts.value.print(&mut parts, 8, 0, false)?;
-        fill(out, TO_PARTS, &[("name", name), ("parts", parts.as_str())])?;
+        let parts = arena.keep(parts.as_str())?;
+        fill(out, TO_PARTS, &[("name", name), ("parts", parts)])?;
         return traits(out, name, "write_record(self, writer, ctx)");
     }
     let mut body = String::from_str(arena.alloc(), "let parts = ")?;
     whole.texts.value.print(&mut body, 8, 1, false)?;
     body.push_str(";\n        parts.to_writer(writer, ctx)")?;
-    traits(out, name, body.as_str())?;
+    let body = arena.keep(body.as_str())?;
+    traits(out, name, body)?;
     update(arena, out, name, fields)
 }
 
@@ -173,7 +176,7 @@ pub(crate) fn parts_alias<'a>(
     let words = [
         ("parts", snake(arena, word)?),
         ("name", name),
-        ("alias", alias.as_str()),
+        ("alias", arena.keep(alias.as_str())?),
         ("word", word),
     ];
     fill(out, PARTS, &words)
@@ -227,7 +230,12 @@ $names$;
 ";
 
 // Appends the names of a record's parts.
-fn named(arena: &Arena, out: &mut String, name: &str, names: &[&str]) -> Result<(), AllocError> {
+fn named<'a>(
+    arena: &'a Arena,
+    out: &mut String,
+    name: &'a str,
+    names: &[&str],
+) -> Result<(), AllocError> {
     let count = names.len();
     let mut literals = Vec::new(arena.alloc());
     for name in names {
@@ -236,7 +244,8 @@ fn named(arena: &Arena, out: &mut String, name: &str, names: &[&str]) -> Result<
     let literals = arena.list(literals.as_slice())?;
     let mut line = format!(in arena.alloc(); "    pub const FIELDS: [&'static str; {count}] = ")?;
     Text::group(Form::Square, "[", literals).print(&mut line, 4, 1, false)?;
-    fill(out, NAMES, &[("name", name), ("names", line.as_str())])
+    let line = arena.keep(line.as_str())?;
+    fill(out, NAMES, &[("name", name), ("names", line)])
 }
 
 // How many lines the function that makes a record of its parts has at most, with patterns.

@@ -58,10 +58,10 @@ pub(crate) fn header<'a>(
         declared(arena, &mut declarations, *record)?;
     }
     let words = [
-        ("docs", docs.as_str()),
+        ("docs", arena.keep(docs.as_str())?),
         ("file", file),
         ("guard", guard_of(arena, file)?),
-        ("records", declarations.as_str()),
+        ("records", arena.keep(declarations.as_str())?),
     ];
     let mut out = String::new(arena.alloc());
     fill(&mut out, HEADER, &words)?;
@@ -139,9 +139,9 @@ fn declared(arena: &Arena, out: &mut String, crossed: Crossed<'_>) -> Result<(),
     }
     let fields = crossed.fields.join(arena.alloc(), "")?;
     let words = [
-        ("docs", docs.as_str()),
+        ("docs", arena.keep(docs.as_str())?),
         ("name", name),
-        ("fields", fields.as_str()),
+        ("fields", arena.keep(fields.as_str())?),
         ("large", upper(arena, name)?),
         ("bytes", arena.print(format_args!("{bytes}"))?),
         ("read", reading(arena, name)?),
