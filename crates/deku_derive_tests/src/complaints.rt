@@ -173,7 +173,7 @@ struct B { #[deku(temp, temp_value = \"1\")] a: u8 }",
 ];
 
 // Descriptions that deku takes and that have no module.
-const UNPRINTED: [(&str, &str); 51] = [
+const UNPRINTED: [(&str, &str); 52] = [
     (
         "#[deku(id_type = \"u8\")] enum E {
          #[deku(id_pat = \"2..=6\")] A, #[deku(id_pat = \"_\")] B }",
