@@ -156,12 +156,6 @@ tells_over k = record {
   health = by_name (cursor_inner k).ghost_name (steady (slice_whole k));
 }
 
-abbrev pub place_over : Cursor (MutBor (List ℕ)) → ℕ
-place_over k = cursor_position k
-
-abbrev pub bytes_over : Cursor (MutBor (List ℕ)) → List ℕ
-bytes_over k = (cursor_inner k).now
-
 -- what a writer that was refused goes on, or has stopped, with is what its sink reports
 told_out : (known : KnownSink) (st : Standing Pending) → ((output_in (writer_state known st)).taken ≡ known.taken) × ((output_in (writer_state known st)).room ≡ known.room)
 told_out known (Going p c) = (refl, refl)
@@ -233,10 +227,6 @@ module _ (m : Meaning Output (Unit {0})) (s t : Standing Output) (start : s ≡ 
     where
       going : (u : Standing Output) (a b : Output) (m n : ℕ) → u ≡ Going a m → u ≡ Going b n → a ≡ b
       going u a b m n e f = cc
-
--- what a type refuses
-pub bare_refused : (m : Meaning Output (Unit {0})) (s t : Standing Output) (e : DekuError) (r : Result (Vec Bool) DekuError) → s ≡ Going in_memory 0 → IsErrAnd r (λ x. x ≡ e) → m false s (Err e) t → WritesBare m r
-bare_refused m s t e r start h w = let k = err_from_is_err_and r h in rw (k.1, k.2) (inl (t, subst (λ x. m false x (Err e) t) start w))
 
 -- the count of a writer is below what a `usize` counts
 pub counted_writer : (known : KnownSink) (st : Standing Pending) (n : ℕ) → n ≡ count_of st → n < 2 ^ 64 → count_of (writer_state known st) < 2 ^ 64

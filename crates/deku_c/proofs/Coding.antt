@@ -1,10 +1,7 @@
 -- Fields and numbers of C, and lists of them, one more at a time.
-use Rattle.std.proofs.Common.{◌≡◌, ℕ, zero, suc, ◌+◌, ◌*◌, ◌-◌, ◌%◌, ◌^◌, ◌<◌, ◌≤◌, true, cond, leb, List, [], ◌∷◌, ◌++◌, length, take, drop, get_or, ℤ, pos, negsuc, neg_ℤ, ◌-ℤ◌, ◌≤ℤ◌, ◌<ℤ◌, refl, ap, ap₂, sym, ◌∙◌, arith, mod-eq_of_lt}
+use Rattle.std.proofs.Common.{◌≡◌, ℕ, zero, suc, ◌+◌, ◌*◌, ◌-◌, ◌<◌, ◌≤◌, cond, leb, List, [], ◌∷◌, ◌++◌, length, take, drop, get_or, ℤ, pos, ◌-ℤ◌, refl, ap, ap₂, sym, ◌∙◌, arith}
 use Rattle.std.proofs.lemmas.Bool.{le-leb, lt-leb}
-use Rattle.std.proofs.lemmas.Int.{ints}
 use Rattle.std.proofs.lemmas.List.{take_more, length-take-le}
-use Rattle.deku_num.specs.Numbers.{with_sign}
-use Rattle.deku_num.specs.NumberLaws.{residue}
 use Rattle.deku_c.specs.declared.codes.FieldCode.{FieldCode}
 use Rattle.deku_c.specs.declared.codes.NumberCode.{NumberCode}
 use Rattle.deku_c.specs.Codes.{item_in, items_in}
@@ -18,23 +15,6 @@ signed_low H m h = rw (lt-leb H m h) refl
 
 signed_high : (H m : ℕ) → H ≤ m → signed H m ≡ pos m -ℤ pos (H * 2)
 signed_high H m h = rw (le-leb H m h) refl
-
-low_sign : (m : ℕ) → m < 2 ^ 127 → with_sign true 128 m ≡ pos m
-low_sign m h = signed_low (2 ^ 127) m h
-
-high_sign : (m : ℕ) → 2 ^ 127 ≤ m → with_sign true 128 m ≡ pos m -ℤ pos (2 ^ 128)
-high_sign m h = signed_high (2 ^ 127) m h
-
-pub sign_back : (v : ℤ) → neg_ℤ (pos (2 ^ 127)) ≤ℤ v → v <ℤ pos (2 ^ 127) → with_sign true 128 (residue v 128) ≡ v
-sign_back (pos m) lo hi =
-    let low : m < 2 ^ 127 = omega (arith, ints) in
-    let same : m % 2 ^ 128 ≡ m = mod-eq_of_lt (omega arith) in
-    ap (λ x. with_sign true 128 x) same ∙ low_sign m low
-sign_back (negsuc m) lo hi =
-    let low : m < 2 ^ 127 = omega (arith, ints) in
-    let same : m % 2 ^ 128 ≡ m = mod-eq_of_lt (omega arith) in
-    let high : 2 ^ 127 ≤ 2 ^ 128 - 1 - m = omega arith in
-    ap (λ x. with_sign true 128 (2 ^ 128 - 1 - x)) same ∙ high_sign (2 ^ 128 - 1 - m) high ∙ omega (arith, ints)
 
 -- ---- lists of items
 items_push : (cs : List FieldCode) (vs : List NumberCode) (c : FieldCode) (v : NumberCode) → length vs ≡ length cs

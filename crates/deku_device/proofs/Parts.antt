@@ -1,6 +1,6 @@
 -- Parts of lists.
-use Rattle.std.proofs.Common.{rules, replicate, Some, append_assoc, ◌≡◌, ℕ, ◌+◌, ◌-◌, ◌<◌, ◌≤◌, ◌^◌, List, [], ◌∷◌, ◌++◌, length, get_or, suc, take, drop, sym, ap, ◌∙◌, arith, min, refl}
-use Rattle.std.proofs.lemmas.List.{places, same_lists, length-append, drop-drop, take-append-drop, drop_all, length-drop, length-take, drop_more, take_more, take-append-le, take_rest, get_or-drop, take_at}
+use Rattle.std.proofs.Common.{rules, replicate, Some, ◌≡◌, ℕ, ◌+◌, ◌-◌, ◌<◌, ◌≤◌, ◌^◌, List, ◌++◌, length, take, drop, sym, ap, ◌∙◌, arith, min}
+use Rattle.std.proofs.lemmas.List.{places, same_lists, length-append, drop-drop, take-append-drop, drop_all, length-drop, length-take, take-append-le, take_rest}
 use Rattle.std.proofs.lemmas.Bool.{cases_lt}
 use Rattle.std.proofs.Common.{⊎_elim}
 use Rattle.deku_device.specs.Devices.{BeginsThenZeros, TryTakeLaw}
@@ -19,27 +19,6 @@ drop_min_le xs a m h = ⊎_elim
 -- a place that is at the end of numbers is past the end of a list
 pub drop_saturated : {X : Type 0} (xs : List X) (at n : ℕ) → length xs < 2 ^ 64 → drop (min (at + n) (2 ^ 64 - 1)) xs ≡ drop n (drop at xs)
 drop_saturated xs at n fits = drop_min_le xs (at + n) (2 ^ 64 - 1) (omega arith) ∙ sym (drop-drop n at xs)
-
--- a part of a list, and its first element
-pub part_front : {X : Type 0} (xs : List X) (s e : ℕ) (d : X) → s < e → e ≤ length xs → take (e - s) (drop s xs) ≡ get_or xs s d ∷ take (e - (s + 1)) (drop (s + 1) xs)
-part_front xs s e d h k =
-    let short : s < length xs = omega arith in
-    let count : e - s ≡ suc (e - (s + 1)) = omega arith in
-    rw (drop_more xs s d short, count) refl
-
--- a part of a list, and its last element
-pub part_back : {X : Type 0} (xs : List X) (s e : ℕ) (d : X) → s < e → e ≤ length xs → take (e - s) (drop s xs) ≡ take (e - 1 - s) (drop s xs) ++ get_or xs (e - 1) d ∷ []
-part_back xs s e d h k =
-    let short : e - 1 - s < length (drop s xs) = simp length-drop (omega arith) in
-    let count : e - s ≡ (e - 1 - s) + 1 = omega arith in
-    let place : s + (e - 1 - s) ≡ e - 1 = omega arith in
-    let last : get_or (drop s xs) (e - 1 - s) d ≡ get_or xs (e - 1) d = get_or-drop s xs (e - 1 - s) d ∙ ap (λ i. get_or xs i d) place in
-    rw (count) (take_more (drop s xs) (e - 1 - s) d short ∙ ap (λ b. take (e - 1 - s) (drop s xs) ++ b ∷ []) last)
-
--- a part that has an element
-pub part_long : {X : Type 0} (xs : List X) (s e : ℕ) (ys : List X) → take (e - s) (drop s xs) ≡ ys → 0 < length ys → s < e
-part_long xs s e ys p h =
-    let n : length ys ≤ e - s = rw (← p) (simp length-take (omega arith)) in omega arith
 
 front_of_filled : (xs zs eight : List ℕ) (n : ℕ) → eight ≡ take 8 (xs ++ zs) → n ≤ length xs → n ≤ 8 → xs ≡ take n eight ++ drop n xs
 front_of_filled xs zs eight n e fits few =
@@ -61,14 +40,6 @@ eight_rest all eight at n e fits few =
     let left : length (drop n eight) ≡ 8 - n = length-drop n eight ∙ ap (λ k. k - n) count in
     rw (← drop-drop n at all, left) (ap (drop n) e ∙ rest_of_filled (drop at all) n 8 fits few)
 
--- where eight bytes are there, no zeros are among them
-pub eight_there : (all eight : List ℕ) (at : ℕ) → length eight ≡ 8 → drop at all ≡ eight ++ drop (at + 8) all → eight ≡ take 8 (drop at all ++ replicate 8 0)
-eight_there all eight at l e =
-    sym (ap (λ ys. take 8 (ys ++ replicate 8 0)) e ∙ ap (take 8) (append_assoc eight (drop (at + 8) all) (replicate 8 0)) ∙ take_at eight (drop (at + 8) all ++ replicate 8 0) 8 l)
-
-pub eight_long : (all eight : List ℕ) (at n : ℕ) → length eight ≡ 8 → drop at all ≡ eight ++ drop (at + 8) all → n ≤ 8 → n ≤ length (drop at all)
-eight_long all eight at n l e few = omega (arith, ap length e, length-append eight (drop (at + 8) all))
-
 filled_to : (xs : List ℕ) (k m : ℕ) → k ≡ min (length xs) m → take k xs ++ drop k (replicate m 0) ≡ take m (xs ++ replicate m 0)
 filled_to xs k m e = same_lists _ _ (search (rules, places)) (λ i d h. grind (arith, places))
 
@@ -80,6 +51,10 @@ eight_filled all part at s k e n p =
     let last : take (length all - s) (drop s all) ≡ drop at all = take_rest all s ∙ ap (λ i. drop i all) place ∙ drop_min_le all at (length all) (omega arith) in
     let count : k ≡ min (length (drop at all)) 8 = n ∙ ap (λ ys. min (length ys) 8) last in
     ap (λ ys. ys ++ drop k (replicate 8 0)) (p ∙ ap (take k) last) ∙ filled_to (drop at all) k 8 count
+
+-- where eight bytes or more are left, there are no zeros among the first eight
+pub eight_whole : (all eight : List ℕ) (at : ℕ) → at + 8 ≤ length all → eight ≡ take 8 (drop at all) → eight ≡ take 8 (drop at all ++ replicate 8 0)
+eight_whole all eight at enough e = e ∙ sym (take-append-le 8 (drop at all) (replicate 8 0) (simp length-drop (omega arith)))
 
 -- where so many bytes are to come, those at hand are these
 pub try_take_law : TryTakeLaw

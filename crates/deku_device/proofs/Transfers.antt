@@ -1,6 +1,6 @@
 -- What a sink took over several calls, and what room it has then.
 use Rattle.std.proofs.Common.{◌≡◌, ℕ, zero, suc, ◌+◌, ◌-◌, ◌<◌, ◌≤◌, List, [], ◌∷◌, ◌++◌, length, take, drop, refl, sym, ap, subst, ◌∙◌, arith, append_assoc, length-append, length-drop, drop-drop, Option, Some, None, inl, inr}
-use Rattle.std.proofs.lemmas.List.{append-nil, length-take, take-append-le, take-append-drop, take_more}
+use Rattle.std.proofs.lemmas.List.{length-take, take-append-le, take-append-drop, take_more}
 use Rattle.std.specs.Prelude.{get_or}
 use Rattle.std.proofs.KnownBytes.{Appends-nil, Appends-trans}
 use Rattle.std.specs.Io.KnownBytes.{Appends}
@@ -93,16 +93,6 @@ ShrinksSome-after (Some x) (Some y) (Some z) n p q =
     let z_long : length z ≡ length y - (length y - length z) = ap length q ∙ length-drop (length y - length z) y in
     let more : n + (length y - length z) ≡ length x - length z = omega (arith, p.0, y_long, z_long) in
     q ∙ ap (drop (length y - length z)) p.1 ∙ drop-drop (length y - length z) n x ∙ ap (λ k. drop k x) more
-
--- the same room
-pub ShrinksSome-same : (a : Option (List ℕ)) → ShrinksSome a a
-ShrinksSome-same None = tt
-ShrinksSome-same (Some x) = let none : length x - length x ≡ 0 = omega arith in rw none refl
-
--- nothing taken is a beginning
-pub TakesSome-none : (a : Option (List ℕ)) (xs : List ℕ) → TakesSome a a xs
-TakesSome-none None xs = tt
-TakesSome-none (Some s) xs = let none : length s - length s ≡ 0 = omega arith in rw none (sym (append-nil s))
 
 -- bytes were taken, and then not all of the others
 pub Declined-after : (a b c : KnownSink) (xs ys : List ℕ) (k : ErrorKind) → Gave a b xs → Declined b c ys k → Declined a c (xs ++ ys) k

@@ -3,7 +3,7 @@ use Rattle.std.proofs.Common.{◌≡◌, ℕ, ◌+◌, ◌-◌, ◌≤◌, ◌<�
 use Rattle.std.proofs.lemmas.List.{take_at, places, same_lists, length-take, length-drop, length-append, drop_at, take-append-drop, drop_all, length-take-le, length-replicate, append-nil}
 use Rattle.std.proofs.lemmas.Bool.{cases_lt, le-leb}
 use Rattle.std.proofs.Common.{⊎_elim}
-use Rattle.deku_device.specs.Devices.{Access, ReadOnly, Overwritten, Grows, Changes, Whole, Onward, Transferred, GoesOnward, ShrinksSome, Gave, bytes_before}
+use Rattle.deku_device.specs.Devices.{Access, ReadOnly, Overwritten, Grows, Changes, Whole, Onward, Transferred, GoesOnward, Gave, bytes_before}
 use Rattle.std.specs.Prelude.{Result, Ok, Err, IfErr, pos, negsuc}
 use Rattle.std.specs.Io.KnownBytes.{Appends}
 use Rattle.std.specs.Io.Cursor.{IsSeekResult, IsSeekFromEnd, cursor_position, cursor_inner}
@@ -119,16 +119,6 @@ slice_onward a b p q bytes e n = let over = over_slice a p bytes in inr (record 
   back = rw (e, n) (over.1);
   size = rw e (over.0);
 })
-
--- and the room after them is what was there
-pub slice_room : (a b : List ℕ) (p q : ℕ) (bytes : List ℕ) → b ≡ overlaid a p (fitting_front a p bytes) → q ≡ p + length (fitting_front a p bytes)
-    → ShrinksSome (Some (drop p a)) (Some (drop q b))
-slice_room a b p q bytes e n =
-    let k : ℕ = length (fitting_front a p bytes) in
-    let fits : k ≤ length a - p = omega (arith, length-take (length a - p) bytes) in
-    let behind : drop q b ≡ drop (p + k) a = rw (e, n) (over_slice a p bytes).1 in
-    let less : length (drop p a) - length (drop q b) ≡ k = omega (arith, fits, ap length behind, length-drop p a, length-drop (p + k) a) in
-    rw less (behind ∙ sym (drop-drop k p a))
 
 front_append : (p : ℕ) (a z : List ℕ) → take p (a ++ z) ≡ take p a ++ take (p - length a) z
 front_append p a z = same_lists _ _ (search (rules, places)) (λ k d h. grind (arith, places))

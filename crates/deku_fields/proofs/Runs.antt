@@ -1,11 +1,11 @@
 -- Words of a command line, one after the other.
-use Rattle.std.proofs.Common.{◌≡◌, ℕ, zero, suc, ◌+◌, ◌<◌, List, [], ◌∷◌, ◌++◌, length, take, get_or, refl, ap, sym, ◌∙◌, subst, inl, inr, arith, Option}
+use Rattle.std.proofs.Common.{◌≡◌, ℕ, zero, suc, ◌+◌, ◌<◌, List, [], ◌∷◌, ◌++◌, length, take, get_or, refl, ap, sym, ◌∙◌, subst, arith, Option}
 use Rattle.std.proofs.lemmas.List.{take_more, map-append, get_or-map}
 use Rattle.std.specs.List.{AllZip}
 use Rattle.std.specs.Prelude.{String, string_bytes}
 use Rattle.deku_fields.specs.declared.program.Failure.{Failure}
 use Rattle.deku_fields.specs.declared.program.Failure.TheVariants.{Usage, BadText, Fault}
-use Rattle.deku_fields.specs.Runs.{AreForm, AreNoForm, status_of, message}
+use Rattle.deku_fields.specs.Runs.{status_of, message}
 use Rattle.deku_program.specs.Texts.{words_of}
 use Rattle.deku_program.specs.Outputs.{IsBegun}
 
@@ -39,18 +39,6 @@ no_list P texts i d word l e nothing ys z =
     length_words : {S : Type 0} (texts : List (String S)) → length (words_of texts) ≡ length texts
     length_words [] = omega arith
     length_words (t ∷ ts) = ap suc (length_words ts)
-
--- ---- forms
--- words of a form are not of none
-pub not_both : (words : List (List ℕ)) → AreForm words → AreNoForm words → ⊥
-not_both [] form none = form
-not_both (name ∷ words) (inl form) none = none.0 form.0 form.1.0 form.1.1
-not_both (name ∷ words) (inr form) none = none.1 form.0 form.1.0 form.1.1
-
--- words that are not of a form are of none
-pub of_none : (words : List (List ℕ)) → (AreForm words → ⊥) → AreNoForm words
-of_none [] h = tt
-of_none (name ∷ words) h = (λ is items named. h (inl (is, (items, named))), λ is fields named. h (inr (is, (fields, named))))
 
 -- ---- statuses
 -- the status is 2 for the usage alone

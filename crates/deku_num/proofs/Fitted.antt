@@ -9,7 +9,7 @@ use Rattle.deku_num.specs.declared.ctx.Layout.{Layout}
 use Rattle.deku_num.specs.NumberLaws.{Within, residue}
 use Rattle.deku_num.specs.Numbers.{NumberType, width, IsAllowed, IsEvenWhere, number, value, with_sign, IsFieldOf, IsWordFor}
 use Rattle.deku_num.proofs.Chunked.{listed, number-inj, within}
-use Rattle.deku_num.proofs.Values.{eights, plain, with_sign-signed, signed_low, signed_high}
+use Rattle.deku_num.proofs.Values.{eights, plain, with_sign-signed, signed_high}
 use Rattle.deku_num.proofs.Listing.{residue-lt, signed_listed, unsigned_listed, unsigned_list}
 use Rattle.deku_num.proofs.Turned.{word_is, word_below}
 
@@ -62,11 +62,6 @@ unfolding value
 signed_unfit t l v ok g out s h =
     let r = signed_listed t l v s ok g h in
     out (sym (ap₂ (λ n m. with_sign true n m) r.0 r.1) ∙ sym (ap (λ b. with_sign b (length s) (number l.endian l.order s)) g) ∙ h.worth)
-
--- what a number of n bits is worth, with half of its range
-pub worth_low : (n m : ℕ) → 0 < n → m < 2 ^ (n - 1) → with_sign true n m ≡ pos m
-worth_low zero m p h = absurd (omega arith)
-worth_low (suc k) m p h = let e : suc k - 1 ≡ k = omega arith in with_sign-signed k m ∙ signed_low (2 ^ k) m (rw e at h)
 
 pub worth_high : (n m : ℕ) → 0 < n → 2 ^ (n - 1) ≤ m → with_sign true n m ≡ pos m -ℤ pos (2 ^ (n - 1) * 2)
 worth_high zero m p h = absurd (omega arith)

@@ -1,5 +1,5 @@
 -- The forms of the words: what is in front of the fields, and what a run ends with.
-use Rattle.std.proofs.Common.{ℕ, zero, suc, get_or, take, drop, ◌<◌, ◌≡◌, ◌≢◌, ◌⊎◌, List, [], ◌∷◌, ◌++◌, length, codes, refl, ap, sym, ◌∙◌, subst, inl, inr, arith, append_assoc, Bor, Option}
+use Rattle.std.proofs.Common.{ℕ, zero, suc, get_or, take, drop, ◌<◌, ◌≡◌, ◌⊎◌, List, [], ◌∷◌, ◌++◌, length, codes, refl, ap, sym, ◌∙◌, subst, inl, inr, arith, Bor, Option}
 use Rattle.std.specs.List.{AllZip}
 use Rattle.std.specs.Prelude.{String, string_bytes, Result, Ok, Err, IfErr}
 use Rattle.std.specs.Result.{IsErrAnd}
@@ -11,8 +11,8 @@ use Rattle.deku_picture.specs.declared.program.Form.{Form}
 use Rattle.deku_picture.specs.declared.program.Form.TheVariants.{Table, Svg, Bytes}
 use Rattle.deku_picture.specs.declared.program.Failure.{Failure}
 use Rattle.deku_picture.specs.declared.program.Failure.TheVariants.{Usage, NoField, BadText, Fault}
-use Rattle.deku_picture.specs.Names.{Names, HasSpecs, AreNamed, NameFields, AreNoForm, IsUnnamed, HasUnnamed, HaveNoSpecs}
-use Rattle.deku_picture.specs.Drawn.{AsksForBytes, BeginsWith, IsSvg, IsForm, IsSplit, HasValues, HasShown, HasNotShown, IsFailure, RunEnds, status_of}
+use Rattle.deku_picture.specs.Names.{Names, HasSpecs, AreNamed, NameFields, AreNoForm, HasUnnamed, HaveNoSpecs}
+use Rattle.deku_picture.specs.Drawn.{AsksForBytes, BeginsWith, IsForm, IsSplit, HasValues, HasShown, HasNotShown, IsFailure, RunEnds, status_of}
 
 -- the two options are two words
 two_words : (word : List ℕ) → word ≡ codes "--svg" → word ≡ codes "--bytes" → ⊥
@@ -31,11 +31,6 @@ one_form (word ∷ words) a b (inr (inr p)) (inl q) = absurd (p.0 q.0)
 one_form (word ∷ words) a b (inr (inr p)) (inr (inl q)) = absurd (p.1 q.0)
 one_form (word ∷ words) a b (inr (inr p)) (inr (inr q)) = p.2 ∙ sym q.2
 
--- no words
-pub none_form : {S : Type 0} (args : List (String S)) → length args ≡ 0 → (specs : List (List ℕ)) → HasSpecs (words_of args) specs → ⊥
-none_form [] e specs h = h
-none_form (a ∷ args) e specs h = omega arith
-
 -- ---- the three forms
 pub svg_form : {S : Type 0} (args rest : List (String S)) (first : String S) → args ≡ first ∷ rest → string_bytes first ≡ codes "--svg" → IsForm (words_of args) Svg × HasSpecs (words_of args) (words_of rest)
 svg_form args rest first e named = subst (λ xs. IsForm (words_of xs) Svg × HasSpecs (words_of xs) (words_of rest)) (sym e)
@@ -48,19 +43,6 @@ bytes_form args rest specs first text shown e named more is =
     let words : words_of args ≡ codes "--bytes" ∷ shown.now ∷ words_of specs = ap words_of whole ∙ ap (λ w. w ∷ string_bytes text ∷ words_of specs) named ∙ ap (λ t. codes "--bytes" ∷ t ∷ words_of specs) (sym is) in
     ((words_of specs, words), subst (λ ws. HasSpecs ws (words_of specs)) (sym words) (inr (inl (refl, shown.now, refl))))
 
-pub table_form : {S : Type 0} (args rest : List (String S)) (first : String S) → args ≡ first ∷ rest → string_bytes first ≢ codes "--svg" → string_bytes first ≢ codes "--bytes" → IsForm (words_of args) Table × HasSpecs (words_of args) (words_of args)
-table_form args rest first e svg bytes = subst (λ xs. IsForm (words_of xs) Table × HasSpecs (words_of xs) (words_of xs)) (sym e)
-    ((λ asked. let same : string_bytes first ≡ codes "--svg" = let h = asked.1 in cc in svg same, λ asked. let same : string_bytes first ≡ codes "--bytes" = let h = asked.1 in cc in bytes same), inr (inr (svg, bytes, refl)))
-
-pub no_bytes_form : {S : Type 0} (args rest : List (String S)) (first : String S) → args ≡ first ∷ rest → string_bytes first ≡ codes "--bytes" → length rest ≡ 0 → (specs : List (List ℕ)) → HasSpecs (words_of args) specs → ⊥
-no_bytes_form args [] first e named none specs h = go (subst (λ xs. HasSpecs (words_of xs) specs) e h)
-  where
-    go : HasSpecs (string_bytes first ∷ []) specs → ⊥
-    go (inl p) = two_words (string_bytes first) p.0 named
-    go (inr (inl p)) = let more = p.2 in absurd (cc)
-    go (inr (inr p)) = p.1 named
-no_bytes_form args (a ∷ rest) first e named none specs h = omega arith
-
 -- ---- what the words name
 pub are_named : (words specs : List (List ℕ)) (fields : List Field) → HasSpecs words specs → 0 < length specs → AllZip Names specs fields → AreNamed words fields
 are_named words specs fields h some named = record { specs = specs; behind = h; some = some; named = named }
@@ -68,20 +50,12 @@ are_named words specs fields h some named = record { specs = specs; behind = h; 
 pub none_named : (words specs : List (List ℕ)) → HasSpecs words specs → ((fields : List Field) → AllZip Names specs fields → ⊥) → AreNoForm words
 none_named words specs h none fields named = none fields (subst (λ ws. AllZip Names ws fields) (one_form words named.specs specs named.behind h) named.named)
 
-pub empty_named : (words specs : List (List ℕ)) → HasSpecs words specs → length specs ≡ 0 → HaveNoSpecs words
-empty_named words [] h none other k = one_form words other [] k h
-empty_named words (s ∷ specs) h none other k = absurd (omega arith)
-
 -- ---- what is shown
 -- words that begin with `--svg` ask for an SVG
 pub svg_asked : (words : List (List ℕ)) (form : Form) → IsForm words form → BeginsWith (codes "--svg") words → form ≡ Svg
 svg_asked words Table is svg = absurd (is.0 svg)
 svg_asked words Svg is svg = refl
 svg_asked words (Bytes t) is svg = let same : codes "--svg" ≡ codes "--bytes" = let a = is.1 in let b = svg.1 in cc in absurd (two_words (codes "--svg") refl same)
-
--- an SVG with more after it is one
-pub more_svg : (front more : List ℕ) → IsSvg front → IsSvg (front ++ more)
-more_svg front more is = (is.0 ++ more, ap (λ t. t ++ more) is.1 ∙ append_assoc (codes "<svg ") is.0 more)
 
 pub shown_by : (words : List (List ℕ)) (form : Form) (fields : List Field) → IsForm words form → HasShown form fields → (text : List ℕ) → AsksForBytes words text → HasValues fields text
 shown_by words Table fields is h text asked = absurd (is.1 (text ∷ asked.0, asked.1))

@@ -1,8 +1,8 @@
 -- Runs that grow place by place, and rows that are laid one below the other.
-use Rattle.std.proofs.Common.{ℕ, ◌+◌, ◌-◌, ◌<◌, ◌≤◌, ◌≡◌, List, [], ◌∷◌, ◌++◌, length, min, take, drop, get_or, flat_map, All, Option, Some, None, IfSome, refl, ap, sym, ◌∙◌, subst, arith, add-one, append-nil, append_assoc, take-append-drop}
+use Rattle.std.proofs.Common.{ℕ, ◌+◌, ◌-◌, ◌<◌, ◌≤◌, ◌≡◌, List, [], ◌∷◌, ◌++◌, length, min, take, drop, get_or, flat_map, All, Option, Some, None, IfSome, refl, ap, sym, ◌∙◌, subst, arith, add-one, append_assoc, take-append-drop}
 use Rattle.std.specs.Global.{Vec}
 use Rattle.std.proofs.lemmas.List.{flat_map_more, take_at, take_more, take_min, drop_min}
-use Rattle.std.proofs.lemmas.List.Elements.{All-push, All-take, All-cons, All-nil}
+use Rattle.std.proofs.lemmas.List.Elements.{All-push, All-take}
 use Rattle.deku_fields.specs.declared.picture.Place.{Place}
 use Rattle.deku_picture.specs.declared.cell.Cell.{Cell}
 use Rattle.deku_picture.specs.Cells.{behind, run, places_of, IsRun, Extends, AreApart, AreCells, AreRows, places_in}
@@ -65,13 +65,6 @@ apart_more (b ∷ []) c q a h = (a.0, (h, tt))
 apart_more (b ∷ d ∷ cs) c q a h = (a.0, apart_more (d ∷ cs) c q a.1 h)
 
 -- ---- one place more
-pub first_cell : (p : Option Place) → AreCells (p ∷ []) (one_place p ∷ [])
-first_cell p = record {
-  laid = append-nil (places_of (one_place p)) ∙ one_laid p;
-  runs = All-cons IsRun (one_place p) [] (one_run p) (All-nil IsRun);
-  apart = tt;
-}
-
 pub goes_on : (ps : List (Option Place)) (cs : List Cell) (c : Cell) (q : Option Place) → AreCells ps (cs ++ c ∷ []) → Extends c.width c.first q → AreCells (ps ++ q ∷ []) (cs ++ wider c ∷ [])
 goes_on ps cs c q h on = record {
   laid = laid_more cs (wider c) ∙ ap (λ x. flat_map places_of cs ++ x) (run_more c.width c.first ∙ ap (λ x. places_of c ++ x ∷ []) (next_place c.width c.first q on))

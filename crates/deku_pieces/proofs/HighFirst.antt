@@ -13,7 +13,7 @@ use Rattle.deku_num.specs.Numbers.{byte, unsigned, width, IsAllowed}
 use Rattle.deku_num.specs.NumberLaws.{InRange}
 use Rattle.deku_num.proofs.Values.{field_law}
 use Rattle.deku_pieces.specs.Symmetric.{breadth}
-use Rattle.deku_pieces.specs.Pieces.{OfNumber, OfUnsigned, OfEach, InTurn, NoPieces, high_first}
+use Rattle.deku_pieces.specs.Pieces.{OfNumber, OfUnsigned, OfEach, InTurn, high_first}
 use Rattle.deku_pieces.specs.Packs.{InStep}
 use Rattle.deku_pieces.proofs.Turns.{breadth-append}
 
@@ -51,10 +51,6 @@ pub number_lies : (t : NumberType) (size : Size) (v : ℕ) → Lies (OfUnsigned 
 number_lies t size v ps (ok, (bits, f, e)) =
     let w : length bits ≡ width t (high_first size) = f.wide in
     record { high = subst High (sym e) (refl, tt); wide = ap breadth e ∙ omega (arith, w) }
-
--- no pieces
-pub none_lie : Lies NoPieces 0
-none_lie ps e = record { high = subst High (sym e) tt; wide = ap breadth e }
 
 pub turns_lie : {P Q : List Piece → Type 0} {m n : ℕ} → Lies P m → Lies Q n → Lies (InTurn P Q) (m + n)
 turns_lie {P} {Q} {m} {n} f g ps (a, b, p, q, e) =

@@ -1,6 +1,6 @@
 -- Numbers are their low bits and their high ones, and these are those of the number that they are joined to.
-use Rattle.std.proofs.Common.{◌≡◌, ℕ, ◌+◌, ◌*◌, ◌-◌, ◌/◌, ◌%◌, ◌^◌, ◌<◌, ℤ, pos, negsuc, ap, arith}
-use Rattle.std.proofs.lemmas.Nat.{div-mul-add, mod-mul-add, pow_pos}
+use Rattle.std.proofs.Common.{◌≡◌, ℕ, ◌+◌, ◌*◌, ◌-◌, ◌/◌, ◌%◌, ◌^◌, ℤ, pos, negsuc, ap, arith}
+use Rattle.std.proofs.lemmas.Nat.{pow_pos}
 use Rattle.std.proofs.Math.Nat.{mod-add-div, mul_comm, mod-lt}
 use Rattle.deku_pieces.specs.Scattered.{low_of, high_of, joined_of}
 
@@ -12,13 +12,3 @@ parted a w = omega (arith, mod-add-div a w, mul_comm (a / w) w)
 pub joined_again : (k : ℕ) (v : ℤ) → joined_of k (high_of k v) (low_of k v) ≡ v
 joined_again k (pos a) = ap (λ n. pos n) (parted a (2 ^ k))
 joined_again k (negsuc a) = ap (λ n. negsuc n) (omega (arith, parted a (2 ^ k), mod-lt a (pow_pos k)))
-
--- low bits below 2 ^ k are those of the number that they are joined to
-pub low_again : (k : ℕ) (h : ℤ) (l : ℕ) → l < 2 ^ k → low_of k (joined_of k h l) ≡ l
-low_again k (pos h) l small = mod-mul-add h (2 ^ k) l small
-low_again k (negsuc h) l small = omega (arith, small, mod-mul-add h (2 ^ k) (2 ^ k - 1 - l) (omega (arith, small)))
-
--- and so are the high ones
-pub high_again : (k : ℕ) (h : ℤ) (l : ℕ) → l < 2 ^ k → high_of k (joined_of k h l) ≡ h
-high_again k (pos h) l small = ap (λ n. pos n) (div-mul-add h (2 ^ k) l small)
-high_again k (negsuc h) l small = ap (λ n. negsuc n) (div-mul-add h (2 ^ k) (2 ^ k - 1 - l) (omega (arith, small)))

@@ -26,20 +26,12 @@ depends_first fs = (omega arith, (λ h. h, λ h. h))
 next_is : (fs : List Field) (i : ℕ) (d : Field) → i < length fs → map field_shape (drop i fs) ≡ field_shape (get_or fs i d) ∷ map field_shape (drop (i + 1) fs)
 next_is fs i d h = ap (map field_shape) (drop_more fs i d h)
 
-pub none_on : (xs : List (Order × ℕ)) (at w : ℕ) (o q : Order) → w ≡ 0 → AlignedFrom at o ((q, w) ∷ xs) ↔ AlignedFrom at o xs
-none_on xs at zero o q e = (λ h. h, λ h. h)
-none_on xs at (suc w) o q e = absurd (omega (arith, e))
-
 pub some_on : (xs : List (Order × ℕ)) (at next w : ℕ) (o q : Order) → 0 < w → at < 8 → next ≡ (at + w) % 8 → (at ≡ 0) ⊎ (q ≡ o) → AlignedFrom at o ((q, w) ∷ xs) ↔ AlignedFrom next q xs
 some_on xs at next zero o q some few e follows = absurd (omega (arith, some))
 some_on xs at next (suc w) o q some few e follows = (
   λ h. moved xs (at + suc w) next q (omega (arith, e)) h.1,
   λ h. (⊎_elim (λ (z : at ≡ 0). inl (omega (arith, z))) (λ (s : q ≡ o). inr s) follows, moved xs next (at + suc w) q (omega (arith, e)) h),
 )
-
-pub some_not : (xs : List (Order × ℕ)) (at w : ℕ) (o q : Order) → 0 < w → at < 8 → (at ≡ 0 → ⊥) → (q ≡ o → ⊥) → AlignedFrom at o ((q, w) ∷ xs) → ⊥
-some_not xs at zero o q some few inside other h = omega (arith, some)
-some_not xs at (suc w) o q some few inside other h = ⊎_elim (λ (z : at % 8 ≡ 0). inside (omega (arith, z, few))) other h.0
 
 -- a field after which the others are looked at like this
 pub depends_more : (fs : List Field) (i : ℕ) (d : Field) (at next w : ℕ) (o p : Order) → i < length fs → w ≡ field_width (get_or fs i d) → next < 8

@@ -1,12 +1,10 @@
 -- Of sources and sinks that fail once.
-use Rattle.std.proofs.Common.{◌≡◌, ℕ, ◌+◌, ◌-◌, ◌≤◌, ◌<◌, List, [], ◌∷◌, length, take, drop, Option, Some, None, refl, ap, ◌∙◌, arith, suc, zero}
-use Rattle.std.proofs.lemmas.List.{length-take, length-drop, length-append, take-append-drop, append-nil, nil_from_length}
+use Rattle.std.proofs.Common.{◌≡◌, ℕ, ◌+◌, ◌-◌, ◌≤◌, ◌<◌, List, length, drop, Option, Some, None, refl, ap, ◌∙◌, arith, suc, zero}
+use Rattle.std.proofs.lemmas.List.{length-drop, length-append}
 use Rattle.deku_device.specs.Devices.{FewerThan}
 use Rattle.std.specs.Prelude.{IfSome, option_map}
 use Rattle.std.specs.Io.KnownBytes.{Consumes}
-use Rattle.deku_device.specs.Cursors.{fitting_front}
 use Rattle.deku_probe.specs.Probes.{failures_at}
-use Rattle.deku_device.specs.Overlays.{overlaid}
 
 -- the call that fails is the one at which one is left
 pub only_at_one : (m n : ℕ) → n ≡ m - 1 → failures_at m < failures_at n → m ≡ 1
@@ -21,16 +19,6 @@ at_end None p i q xs k n c f = tt
 at_end (Some all) p i q xs k n c f =
     let whole : length (drop p all) ≡ length xs + length (drop (p + i) all) = ap length c ∙ length-append xs (drop (p + i) all) in
     omega (arith, k, n, whole, f, length-drop p all)
-
--- no bytes are laid over nothing
-laid_nil : (a : List ℕ) (p : ℕ) (f : List ℕ) → f ≡ [] → overlaid a p f ≡ a
-laid_nil a p f e = let past : p + 0 ≡ p = omega arith in rw (e, past, append-nil (take p a)) (take-append-drop p a)
-
--- neither is a byte that does not fit
-pub laid_none : (a : List ℕ) (p b : ℕ) → length (drop p a) < 1 → overlaid a p (fitting_front a p (b ∷ [])) ≡ a
-laid_none a p b short =
-    let none : length (fitting_front a p (b ∷ [])) ≡ 0 = omega (arith, short, length-drop p a, length-take (length a - p) (b ∷ [])) in
-    laid_nil a p (fitting_front a p (b ∷ [])) (nil_from_length (fitting_front a p (b ∷ [])) none)
 
 -- how many bytes fitted, where i were given and none is left to fit
 pub fitted : (a x : List ℕ) (p i n : ℕ) → n ≡ i → n ≤ length (drop p a) → x ≡ drop n (drop p a) → length x < 1 → length a - p ≡ i

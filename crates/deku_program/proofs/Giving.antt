@@ -23,10 +23,6 @@ nothing : (a : Option (List ℕ)) → Appends a a []
 nothing None = tt
 nothing (Some u) = sym (append-nil u)
 
--- before the first part
-pub none_given : (a : Option (List ℕ)) (text : List ℕ) → IsGivenBut text a a text
-none_given a text = record { front = []; cut = refl; given = nothing a }
-
 -- n bytes more are given
 pub more_given : (a b c : Option (List ℕ)) (text rest : List ℕ) (n : ℕ) → IsGivenBut rest a b text → Appends b c (take n rest) → IsGivenBut (drop n rest) a c text
 more_given a b c text rest n h p = record {
@@ -34,15 +30,6 @@ more_given a b c text rest n h p = record {
   cut = h.cut ∙ ap (λ z. h.front ++ z) (sym (take-append-drop n rest)) ∙ sym (append_assoc h.front (take n rest) (drop n rest));
   given = two_parts a b c h.front (take n rest) h.given p;
 }
-
--- a call gave nothing
-pub none_more : (a b c : Option (List ℕ)) (text rest : List ℕ) → IsGivenBut rest a b text → Keeps b c → IsGivenBut rest a c text
-none_more a b c text rest h p = record { front = h.front; cut = h.cut; given = no_more a b c h.front h.given p }
-
--- all is given
-pub all_given : (a b : Option (List ℕ)) (text rest : List ℕ) → length rest ≡ 0 → IsGivenBut rest a b text → Appends a b text
-all_given a b text [] e h = subst (λ z. Appends a b z) (sym (h.cut ∙ append-nil h.front)) h.given
-all_given a b text (x ∷ rest) e h = absurd (omega (arith, e))
 
 -- a text that was given is begun
 pub begun_whole : (a b : Option (List ℕ)) (text : List ℕ) → Appends a b text → IsBegun a b text

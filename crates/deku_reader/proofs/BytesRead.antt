@@ -1,12 +1,12 @@
 -- Bytes that are read as bits.
-use Rattle.std.proofs.Common.{◌≡◌, ◌≢◌, ◌⊎◌, ℕ, ◌+◌, ◌*◌, ◌^◌, ◌<◌, ◌≤◌, Bool, false, List, [], ◌∷◌, ◌++◌, length, Option, Result, Ok, Err, All, arith, sym, ap, ◌∙◌, subst, append-nil}
+use Rattle.std.proofs.Common.{◌≡◌, ◌≢◌, ◌⊎◌, ℕ, ◌+◌, ◌*◌, ◌^◌, ◌<◌, ◌≤◌, Bool, false, List, length, Option, Result, Ok, Err, All, arith, ap, ◌∙◌, subst}
 use Rattle.std.specs.declared.io.ErrorKind.{ErrorKind}
 use Rattle.std.specs.declared.io.ErrorKind.TheVariants.{UnexpectedEof}
 use Rattle.deku_stream.specs.declared.ctx.Order.{Order}
 use Rattle.deku_stream.specs.declared.error.DekuError.{DekuError}
 use Rattle.deku_stream.specs.declared.error.Fault.{Fault}
 use Rattle.deku_stream.specs.declared.error.Fault.TheVariants as fault
-use Rattle.deku_stream.specs.Bits.{byte_bits, bytes_of, facing, shown}
+use Rattle.deku_stream.specs.Bits.{bytes_of, shown}
 use Rattle.deku_stream.specs.Streams.{Stream, flow}
 use Rattle.deku_device.specs.Devices.{Health, DeviceKept, DeviceFailed}
 use Rattle.deku_stream.specs.Standings.{Standing, Going, Stopped, stream_of}
@@ -14,17 +14,10 @@ use Rattle.deku_stream.specs.Outcomes.{Outcome, Quiet, Broken, Value, Refusal}
 use Rattle.deku_stream.specs.Faults.{error_of}
 use Rattle.deku_stream.specs.Moving.{Moves, FewerBits}
 use Rattle.deku_reader.specs.ReaderCalls.{Transfers, TakesBits, ReadsBytes, ReadsByteVec}
-use Rattle.deku_stream.proofs.Cuts.{length-flow, flow-append}
+use Rattle.deku_stream.proofs.Cuts.{length-flow}
 use Rattle.deku_stream.proofs.Handing.{mapped_ok, mapped_err, mapped_memory_found}
-use Rattle.deku_reader.proofs.Moving.{takes_ok, takes_err, moves_more}
+use Rattle.deku_reader.proofs.Moving.{takes_ok, takes_err}
 use Rattle.deku_stream.proofs.Bytes.{IsByte, shown-flow, bytes_of-bits_in}
-
--- ---- one byte after the other
-pub bytes_more : (o : Order) (w : List Bool) (t : Option (List ℕ)) (bs : List ℕ) (v : List Bool) (u : Option (List ℕ)) (b : ℕ) (x : List Bool) (k : Option (List ℕ))
-    → Moves o w t (flow o bs) v u → Moves o v u (facing o (byte_bits b)) x k → Moves o w t (flow o (bs ++ b ∷ [])) x k
-bytes_more o w t bs v u b x k p q =
-    let e : flow o (bs ++ b ∷ []) ≡ flow o bs ++ facing o (byte_bits b) = flow-append o bs (b ∷ []) ∙ ap (λ s. flow o bs ++ s) (append-nil (facing o (byte_bits b))) in
-    subst (λ s. Moves o w t s x k) (sym e) (moves_more o w t (flow o bs) v u (facing o (byte_bits b)) x k p q)
 
 -- ---- what a read of bytes returns
 -- bytes were taken

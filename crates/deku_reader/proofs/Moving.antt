@@ -1,8 +1,7 @@
 -- Bits that go from a window and the bytes to come, against what is taken from a stream and left.
-use Rattle.std.proofs.Common.{◌≡◌, ◌≢◌, ◌⊎◌, ℕ, suc, set, append-nil, ◌+◌, ◌*◌, ◌-◌, ◌^◌, ◌<◌, ◌≤◌, Bool, false, List, [], ◌∷◌, ◌++◌, length, take, drop, Option, Some, None, Result, Ok, Err, arith, refl, sym, ap, ap₂, ◌∙◌, subst, inl, inr, ⊎_elim, length-append, append_assoc, eq-eqb, ne_eqb}
+use Rattle.std.proofs.Common.{◌≡◌, ◌≢◌, ◌⊎◌, ℕ, ◌+◌, ◌*◌, ◌-◌, ◌^◌, ◌<◌, ◌≤◌, Bool, false, List, [], ◌++◌, length, take, drop, Option, Some, None, Result, Ok, Err, arith, refl, sym, ap, ap₂, ◌∙◌, inl, inr, ⊎_elim, length-append, append_assoc, eq-eqb, ne_eqb}
 use Rattle.std.proofs.lemmas.Bool.{cases_eq, cases_lt}
-use Rattle.std.proofs.lemmas.List.{take_at, drop_at, drop_all, length-take, length-drop, length-set}
-use borrow.Rule.Slice.PartMut.{mid_of, put_mid}
+use Rattle.std.proofs.lemmas.List.{take_at, drop_at}
 use Rattle.std.specs.Io.KnownBytes.{Consumes}
 use Rattle.std.specs.declared.io.ErrorKind.{ErrorKind}
 use Rattle.std.specs.declared.io.ErrorKind.TheVariants.{UnexpectedEof}
@@ -11,7 +10,7 @@ use Rattle.deku_stream.specs.declared.error.DekuError.{DekuError}
 use Rattle.deku_stream.specs.declared.error.DekuError.TheVariants as error
 use Rattle.deku_stream.specs.declared.error.Fault.{Fault}
 use Rattle.deku_stream.specs.declared.error.Fault.TheVariants as fault
-use Rattle.deku_stream.specs.Bits.{byte_bits, facing, groups}
+use Rattle.deku_stream.specs.Bits.{facing, groups}
 use Rattle.deku_stream.specs.Streams.{Stream, Has, seen, taken, left, normal, touched}
 use Rattle.deku_device.specs.Devices.{Health, FewerThan, Loses, DeviceKept, DeviceFailed}
 use Rattle.deku_stream.specs.Standings.{Standing, Going, Stopped, stream_of, reader_state}
@@ -62,12 +61,6 @@ too_few o w t bs v u n p e f h = fewer_behind o w t bs v u 1 n p (none v u e f) 
     none v None e f = tt
     none v (Some ys) e f = let z : length v ≡ 0 = ap length e in omega (arith, f, z)
 
--- a byte comes into an empty window
-pub supplied : (w : List Bool) (t : Option (List ℕ)) (b : ℕ) (u : Option (List ℕ)) (o : Order) → w ≡ [] → Consumes t u (b ∷ []) → Moves o w t [] (byte_bits b) u
-supplied w None b u o e p = tt
-supplied w (Some xs) b None o e p = absurd p
-supplied w (Some xs) b (Some ys) o e p = (rw (e, p, facing_nil o) refl, (b ∷ [], p))
-
 -- ---- bytes that are fetched at once
 -- bytes after a window
 pub fetched : (o : Order) (w : List Bool) (t : Option (List ℕ)) (bs : List ℕ) (u : Option (List ℕ)) → Consumes t u bs → Moves o w t (facing o w ++ flow o bs) [] u
@@ -79,28 +72,6 @@ fetched o w (Some xs) bs (Some ys) p = (
       ∙ ap (λ s. (facing o w ++ flow o bs) ++ s) (sym (ap (λ s. s ++ flow o ys) (facing_nil o))),
   (bs, p),
 )
-
--- bytes after a window of eight, which is put back
-pub fetched_full : (o : Order) (w : List Bool) (b : ℕ) (t : Option (List ℕ)) (bs : List ℕ) (u : Option (List ℕ)) → byte_bits b ≡ w → Consumes t u bs → Moves o w t (facing o [] ++ flow o (b ∷ bs)) [] u
-fetched_full o w b t bs u e p =
-    let same : facing o w ++ flow o bs ≡ facing o [] ++ flow o (b ∷ bs) = ap (λ s. facing o s ++ flow o bs) (sym e) ∙ ap (λ s. s ++ flow o (b ∷ bs)) (sym (facing_nil o)) in
-    subst (λ s. Moves o w t s [] u) same (fetched o w t bs u p)
-
--- a slice whose first byte is put there, and whose others are filled
-pub behind_first : (b : ℕ) (dst new : List ℕ) → 0 < length dst → length new ≡ length dst - 1 → put_mid 1 (length (set dst 0 b) - 1) (set dst 0 b) new ≡ b ∷ new
-behind_first b [] new p l = absurd (omega arith)
-behind_first b (x ∷ xs) new p l =
-    let k : ℕ = suc (length xs) - 1 in
-    let none : drop k xs ≡ [] = drop_all k xs (omega arith) in
-    ap (λ s. b ∷ (new ++ s)) none ∙ ap (λ s. b ∷ s) (append-nil new)
-
-pub behind_length : (b : ℕ) (dst : List ℕ) → length (mid_of 1 (length (set dst 0 b) - 1) (set dst 0 b)) ≡ length dst - 1
-behind_length b dst = length-take (length (set dst 0 b) - 1) (drop 1 (set dst 0 b)) ∙ omega (arith, length-drop 1 (set dst 0 b), length-set dst 0 b)
-
--- the bytes of so many bits are too many
-pub fewer_fetched : (w : List Bool) (t : Option (List ℕ)) (k n : ℕ) → FewerThan k t → length w + 8 * k < n + 8 → FewerBits n w t
-fewer_fetched w None k n f h = tt
-fewer_fetched w (Some xs) k n f h = omega (arith, f)
 
 -- of the bits that are given, the last stay in a window
 pub moves_keep : (o : Order) (w : List Bool) (t : Option (List ℕ)) (all bs v : List Bool) (u : Option (List ℕ)) → Moves o w t all [] u → all ≡ bs ++ facing o v → Moves o w t bs v u

@@ -1,7 +1,7 @@
 -- Peeks and skips, by what a window and the bytes to come give.
 use Rattle.std.proofs.Common.{◌≡◌, ◌≢◌, ◌⊎◌, ℕ, zero, suc, min, ◌+◌, ◌*◌, ◌-◌, ◌/◌, ◌%◌, ◌^◌, ◌<◌, ◌≤◌, Bool, true, false, List, [], ◌∷◌, ◌++◌, length, take, drop, Option, Some, None, Result, Ok, Err, arith, refl, sym, ap, ap₂, ◌∙◌, subst, subst₂, inl, inr, ⊎_elim, length-append, append_assoc, length-drop, eq-eqb, ne_eqb}
 use Rattle.std.proofs.lemmas.Bool.{cases_lt}
-use Rattle.std.proofs.lemmas.List.{length_push, length-take}
+use Rattle.std.proofs.lemmas.List.{length-take}
 use Rattle.std.specs.Io.KnownBytes.{Consumes}
 use Rattle.std.specs.declared.io.ErrorKind.{ErrorKind}
 use Rattle.std.specs.declared.io.ErrorKind.TheVariants.{UnexpectedEof}
@@ -137,17 +137,9 @@ peek_skip_law o n S l = ⊎_elim
 abbrev pub Forgets : Order → List Bool → ℕ → List Bool → Type 0
 Forgets o w n v = (bits : List Bool) × (length bits ≡ n) × (facing o w ≡ bits ++ facing o v)
 
--- one bit more
-pub forgets_more : (o : Order) (w v x : List Bool) (n : ℕ) (b : Bool) → Forgets o w n v → facing o v ≡ b ∷ facing o x → Forgets o w (n + 1) x
-forgets_more o w v x n b h e = (h.0 ++ b ∷ [], length_push h.0 b ∙ ap (λ k. k + 1) h.1, h.2 ∙ ap (λ s. h.0 ++ s) e ∙ sym (append_assoc h.0 (b ∷ []) (facing o x)))
-
 -- how many are left
 forgets_count : (o : Order) (w v : List Bool) (n : ℕ) → Forgets o w n v → length w ≡ n + length v
 forgets_count o w v n h = omega (arith, ap length h.2, h.1, length-facing o w, length-facing o v, length-append h.0 (facing o v))
-
--- there is one more
-pub forgets_some : (o : Order) (w v : List Bool) (n : ℕ) → Forgets o w n v → n < length w → 0 < length v
-forgets_some o w v n h l = omega (arith, forgets_count o w v n h)
 
 -- forgetting none of them leaves the window
 forgets_none : (o : Order) (w v : List Bool) → Forgets o w 0 v → v ≡ w

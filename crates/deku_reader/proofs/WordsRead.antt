@@ -45,17 +45,6 @@ joined_fits a b i k h l few =
     (mod-eq_of_lt (omega arith), fits)
 
 -- ---- groups from a window and bytes
--- a group that the window has
-pub last_inside : (o : Order) (w v : List Bool) (b n k : ℕ) → 0 < n → n ≤ 8 → n ≤ length w → GivesGroup o n w k v → TakesGroups o w (take (groups (n - length w)) (b ∷ [])) n (k ∷ []) v
-last_inside o w v b n k p q h g =
-    let none : groups (n - length w) ≡ 0 = omega arith in
-    rw none (record {
-      bits = g.group;
-      long = g.long;
-      cut = append-nil (facing o w) ∙ g.cut;
-      worth = one_group o (g.group) (omega (arith, g.long)) (omega (arith, g.long)) ∙ ap (λ x. x ∷ []) (sym (g.worth));
-    })
-
 -- a group that begins in the window and ends in a byte
 pub last_across : (o : Order) (w u v : List Bool) (b n m f s k : ℕ) → m ≡ length w → m < n → n ≤ 8 → GivesGroup o m w f u → GivesGroup o (n - m) (byte_bits b) s v
     → (o ≡ Msb0 → k ≡ f * 2 ^ (n - m) + s) → (o ≡ Lsb0 → k ≡ f + s * 2 ^ m) → TakesGroups o w (take (groups (n - length w)) (b ∷ [])) n (k ∷ []) v

@@ -1,5 +1,5 @@
 -- So many items that are read and put into a collection: what is known on the way.
-use Rattle.std.proofs.Common.{◌≡◌, ℕ, ◌+◌, ◌<◌, List, [], ◌∷◌, ◌++◌, length, Ok, Err, refl, ap, ◌∙◌}
+use Rattle.std.proofs.Common.{◌≡◌, ℕ, ◌+◌, ◌<◌, List, [], ◌∷◌, ◌++◌, length, Ok, Err, ap, ◌∙◌}
 use Rattle.std.specs.List.{FoldsTo}
 use Rattle.std.proofs.lemmas.Fn.{FoldsTo-push}
 use Rattle.std.proofs.lemmas.List.{length-append}
@@ -12,7 +12,7 @@ use Rattle.deku_bits.specs.Outcomes.{Meaning, Outcome}
 use Rattle.deku_reading.specs.Lists.{Stored}
 use Rattle.deku_reading.specs.Limits.{ReadsCount, MappedBy}
 use Rattle.deku_meanings.proofs.Joining.{first_refused, then_on}
-use Rattle.deku_reading.proofs.Runs.{SoFar, none_so_far, one_more, run_ended, run_refused, stored}
+use Rattle.deku_reading.proofs.Runs.{SoFar, one_more, run_ended, run_refused, stored}
 use Rattle.deku_reading.proofs.Holding.{no_memory}
 use Rattle.deku_reading.proofs.Judging.{held_ok, held_err}
 
@@ -22,9 +22,6 @@ pub record Counted {A T B : Type 0} (puts : B → T → B → Type 0) (m : Meani
   pub long : length items ≡ n
   pub far : SoFar (Stored m) items s0 f0 s f
   pub put : FoldsTo puts b items c
-
-pub none_counted : {A T B : Type 0} (puts : B → T → B → Type 0) (m : Meaning A T) (b : B) (s : Standing A) (f : Health) → Counted puts m 0 b b s f s f
-none_counted puts m b s f = record { items = []; long = refl; far = none_so_far (Stored m) s f; put = refl }
 
 module _ {A T B : Type 0} {puts : B → T → B → Type 0} {m : Meaning A T} {n : ℕ} {b c : B} {s0 : Standing A} {f0 : Health} {s : Standing A} {f : Health} (h : Counted puts m n b c s0 f0 s f) where
   pub counts_on : {v : T} {t : Standing A} {g : Health} {d : B} → Outcome m s f (Ok v) t g → puts c v d → Counted puts m (n + 1) b d s0 f0 t g

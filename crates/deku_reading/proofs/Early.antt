@@ -10,7 +10,7 @@ use Rattle.deku_bits.specs.Streams.{Stream, Has, normal, left, touched, last_par
 use Rattle.deku_bits.specs.Devices.{KnownSource, Loses}
 use Rattle.deku_bits.specs.Standings.{Standing, Going, Stopped, count_of, reader_state, stream_of}
 use Rattle.deku_bits.specs.Outcomes.{Quiet, Value, Refusal, Unknown, UnlessStopped, CountsBits, Reserving}
-use Rattle.deku_bits.specs.ReaderCalls.{ReadsAt, Transfers, TakesBits, ReadsBytes, ReadsByteVec, FetchesFor, NoneEarly, IsBehind, items_of, window_of, Skipping, Skips}
+use Rattle.deku_bits.specs.ReaderCalls.{ReadsAt, Transfers, TakesBits, ReadsByteVec, FetchesFor, NoneEarly, IsBehind, items_of, window_of, Skipping, Skips}
 use Rattle.deku_bits.proofs.Handing.{meant}
 use Rattle.deku_bits.proofs.Fetched.{takes_bits, takes_counted, balance}
 use Rattle.deku_num.specs.declared.kind.NumberType.{NumberType}
@@ -85,21 +85,6 @@ number_promptly {t} {l} {v} {told} {after} {s} {u} read fetches early =
     took_promptly l.order (width t l) took.0 told after s u (Quiet took.1 m.1) fetches early
 
 -- ---- bytes
--- the bits that bytes took
-bytes_took : (o : Order) (n : ℕ) (bytes : List ℕ) (s u : Standing (Option Stream)) → ReadsBytes o n false s (Ok bytes) u → (bits : List Bool) × TakesBits o (8 * n) false s (Ok bits) u
-bytes_took o n bytes s u (Value v p e) = elim p [
-  | Value bits took d ↦ (bits, took)
-  | Refusal x refused d ↦ absurd (cc)
-]
-bytes_took o n bytes s u (Refusal x p e) = absurd (cc)
-
-pub bytes_promptly : (o : Order) (n : ℕ) {bytes : List ℕ} {told after : KnownSource} {s u : Standing (List Bool)} → ReadsAt (ReadsBytes o n) told s (Ok bytes) after u → FetchesFor (8 * n) s told after → NoneEarly s u
-    → PromptlyAt told s after u
-bytes_promptly o n {bytes} {told} {after} {s} {u} read fetches early =
-    let m = meant read in
-    let took = bytes_took o n bytes (reader_state told.remaining s) (reader_state after.remaining u) m.0 in
-    took_promptly o (8 * n) took.0 told after s u (Quiet took.1 m.1) fetches early
-
 -- what was returned after memory that was found
 unreserved : {A V : Type 0} (moves : A → ℕ → Result V DekuError → Standing A → Type 0) (n : ℕ) (s : Standing A) (v : V) (u : Standing A)
     → UnlessStopped Unknown (CountsBits n (Reserving moves)) false s (Ok v) u → UnlessStopped Unknown (CountsBits n moves) false s (Ok v) u

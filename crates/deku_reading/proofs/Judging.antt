@@ -65,9 +65,6 @@ pub record Gathering {A T B J : Type 0} (puts : B → T → B → Type 0) (judge
   pub put : FoldsTo puts b (taken_items items) c
   pub calm : DeviceKept f0 f
 
-pub none_gathered : {A T B J : Type 0} (puts : B → T → B → Type 0) (judge : Judge A T J) (m : Meaning A T) (j : J) (b : B) (s : Standing A) (f : Health) → Gathering puts judge m j j b b s f s f
-none_gathered puts judge m j b s f = record { items = []; turn = refl; on = refl; put = refl; calm = no_fewer_same f }
-
 module _ {A T B J : Type 0} {puts : B → T → B → Type 0} {judge : Judge A T J} {m : Meaning A T} {j k : J} {b c : B} {s0 : Standing A} {f0 : Health} {s : Standing A} {f : Health} (h : Gathering puts judge m j k b c s0 f0 s f) where
   -- one item more was read
   turn_on : {v : T} {t : Standing A} → m false s (Ok v) t → TakesEach m s0 (h.items ++ taken_at v s t ∷ []) t

@@ -1,6 +1,6 @@
 -- Bits laid over others, one at a time.
 use Rattle.std.proofs.Common.{ℕ, zero, suc, ◌+◌, ◌-◌, ◌<◌, ◌≤◌, ◌≡◌, Bool, false, List, [], ◌∷◌, ◌++◌, length, set, get_or, drop, take, refl, ap, sym, ◌∙◌, arith, append_assoc, length-append}
-use Rattle.std.proofs.lemmas.List.{length-take-le, take_more, drop_more, take-append-drop, append-nil, drop_at, take_at, get_or-append-add, get_or-drop}
+use Rattle.std.proofs.lemmas.List.{length-take-le, take_more, drop_more, drop_at, take_at, get_or-append-add, get_or-drop}
 use Rattle.deku_device.specs.Overlays.{overlaid}
 
 -- a list, with the element after a front replaced
@@ -26,14 +26,6 @@ overlaid-more s at bits k l h =
     ∙ ap (λ x. x ++ drop (at + k + 1) s) (append_assoc (take at s) (take k bits) (get_or bits k false ∷ []))
     ∙ ap (λ x. take at s ++ x ++ drop (at + k + 1) s) (sym (take_more bits k false l))
     ∙ ap (λ x. take at s ++ take (k + 1) bits ++ drop x s) (sym (ap (λ x. at + x) lm ∙ next))
-
-pub overlaid-none : (s : List Bool) (at : ℕ) → overlaid s at [] ≡ s
-overlaid-none s at =
-    let n : at + 0 ≡ at = omega arith in
-    rw (n, append-nil (take at s)) (take-append-drop at s)
-
-pub overlaid-start : (s : List Bool) (at : ℕ) (bits : List Bool) → overlaid s at (take 0 bits) ≡ s
-overlaid-start s at bits = overlaid-none s at
 
 -- the bits in front of the end of what was laid, and those after it
 pub take-overlaid : (s : List Bool) (at : ℕ) (bits : List Bool) → at + length bits ≤ length s → take (at + length bits) (overlaid s at bits) ≡ take at s ++ bits

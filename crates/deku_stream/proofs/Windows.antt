@@ -1,5 +1,5 @@
 -- Windows as numbers of so many bits: what is taken from them, and bytes that go through them.
-use Rattle.std.proofs.Common.{ℕ, ◌+◌, ◌*◌, ◌-◌, ◌/◌, ◌%◌, ◌^◌, ◌<◌, ◌≤◌, ◌≡◌, Bool, true, false, nat_eq, List, [], ◌∷◌, ◌++◌, reverse, length, drop, refl, ap, ap₂, sym, ◌∙◌, subst, arith, append_assoc, mod-lt}
+use Rattle.std.proofs.Common.{ℕ, ◌+◌, ◌*◌, ◌-◌, ◌/◌, ◌%◌, ◌^◌, ◌<◌, ◌≤◌, ◌≡◌, Bool, true, false, nat_eq, List, [], ◌∷◌, ◌++◌, reverse, length, drop, ap, ap₂, sym, ◌∙◌, subst, arith, append_assoc, mod-lt}
 use Rattle.std.proofs.lemmas.Nat.{shr_below, mul-add-lt, pow_pos}
 use Rattle.std.proofs.lemmas.List.{reverse-append, reverse-reverse, length-reverse, drop_at}
 use Rattle.deku_stream.specs.declared.ctx.Order.{Order}
@@ -92,11 +92,6 @@ pub low_through : (n v b h l x : ℕ) (w : List Bool) → bits_of n v ≡ w → 
 low_through n v b h l x w e few p f g d =
     ap (λ s. byte_bits b ++ s) (sym e) ∙ through_low n (8 - n) v b (omega arith) p
     ∙ ap₂ (λ y z. bits_of n y ++ byte_bits z) (sym f) (sym (d ∙ ap (λ k. k * 2 ^ n + v) g))
-
--- a byte that goes through a window, from the front or from the end
-pub exchanged : (o : Order) (w s b r : List Bool) → length s ≡ length w → (o ≡ Msb0 → w ++ b ≡ r ++ s) → (o ≡ Lsb0 → b ++ w ≡ s ++ r) → facing o w ++ facing o b ≡ facing o r ++ facing o s
-exchanged Msb0 w s b r l high low = high refl
-exchanged Lsb0 w s b r l high low = sym (reverse-append b w) ∙ ap reverse (low refl) ∙ reverse-append s r
 
 -- the byte of eight bits
 pub whole_byte : (n v : ℕ) (w : List Bool) → bits_of n v ≡ w → length w ≡ 8 → byte_bits v ≡ w

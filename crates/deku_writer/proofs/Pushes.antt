@@ -2,7 +2,7 @@
 use Rattle.std.proofs.Common.{◌≡◌, ℕ, ◌+◌, ◌-◌, ◌*◌, ◌/◌, ◌%◌, ◌<◌, ◌≤◌, Bool, false, List, [], ◌∷◌, ◌++◌, length, get_or, take, drop, reverse, refl, sym, ap, ◌∙◌, append_assoc, append-nil, arith, length-append, subst, ⊎_elim}
 use Rattle.std.proofs.Math.ListN.{get_or-append}
 use Rattle.std.proofs.lemmas.Bool.{cases_lt}
-use Rattle.std.proofs.lemmas.List.{take_more, take_all, take-append-drop, length-reverse, length-take, get_or-reverse, get_or-append_right, reverse-append, nil_from_length}
+use Rattle.std.proofs.lemmas.List.{take_more, take_all, take-append-drop, length-reverse, get_or-reverse, get_or-append_right}
 use Rattle.std.specs.declared.io.ErrorKind.{ErrorKind}
 use Rattle.deku_stream.specs.declared.ctx.Order.{Order}
 use Rattle.deku_stream.specs.declared.ctx.Order.TheVariants.{Msb0, Lsb0}
@@ -14,7 +14,7 @@ use Rattle.deku_device.specs.Devices.{KnownSink, Gave}
 use Rattle.deku_writer.specs.Pushing.{along, full_bytes, Fills, Pushed, GaveUp}
 use Rattle.deku_stream.proofs.Binary.{length-facing}
 use Rattle.deku_stream.proofs.Groups.{by_groups}
-use Rattle.deku_stream.proofs.Cuts.{emitted, emitted-full, emitted-short, remainder-full, remainder-short, length-remainder, length-emitted}
+use Rattle.deku_stream.proofs.Cuts.{emitted, emitted-full, remainder-full, length-remainder, length-emitted}
 use Rattle.deku_stream.proofs.Shown.{turned, turned-full, length-turned, shown_even, shown_odd}
 use Rattle.deku_stream.proofs.Appends.{emitted-append, remainder-append}
 use Rattle.deku_writer.proofs.Gives.{gave_up-after, gave_up-more}
@@ -61,14 +61,6 @@ pub shown_backward : (s : List Bool) → (length s % 8 ≡ 0 → ⊥) → along 
 shown_backward s h = sym (shown_odd s h)
 
 -- ---- bits that went out, and more bits
-pub Pushed-nil : (a : KnownSink) (o : Order) (h : List Bool) → length h < 8 → Pushed a a o h h []
-Pushed-nil a o h l =
-    let k : length (facing o h) < 8 = rw length-facing l in
-    record {
-      gave = rw (append-nil (facing o h), emitted-short o (facing o h) k) (Gave-nil a);
-      rest = rw (append-nil (facing o h), remainder-short (facing o h) k) refl;
-    }
-
 split_bytes : (o : Order) (h hs xs ys : List Bool) → hs ≡ remainder (h ++ xs) → emitted o (h ++ (xs ++ ys)) ≡ emitted o (h ++ xs) ++ emitted o (hs ++ ys)
 split_bytes o h hs xs ys e =
     ap (emitted o) (sym (append_assoc h xs ys)) ∙ emitted-append o (h ++ xs) ys ∙ ap (λ l. emitted o (h ++ xs) ++ emitted o (l ++ ys)) (sym e)

@@ -13,12 +13,11 @@ use Rattle.deku_stream.specs.Standings.{Standing, Stopped, writer_state}
 use Rattle.deku_stream.specs.Writers.{Nothing, Pending, held}
 use Rattle.deku_writer.specs.WriterCalls.{WritesAt, WritesBits, WritesWord}
 use Rattle.deku_stream.specs.Streams.{flow}
-use Rattle.deku_writer.specs.Pushing.{onto_bytes, low_bytes, word_bits, Fills, GaveUp, PushedOnto}
+use Rattle.deku_writer.specs.Pushing.{onto_bytes, low_bytes, word_bits, GaveUp, PushedOnto}
 use Rattle.deku_stream.proofs.Binary.{bin-bits_of, length-bits_of, length-facing, facing-facing}
 use Rattle.deku_stream.proofs.Cuts.{length-byte_bits, length-flow, byte-of, flow-append}
 use Rattle.deku_writer.proofs.Emits.{write_nothing, write_full, write_done, write_stopped}
 use Rattle.deku_stream.proofs.Handing.{weaker}
-use Rattle.deku_writer.proofs.Pushes.{filled_count}
 use Rattle.deku_stream.proofs.Shown.{length-shown}
 use Rattle.deku_stream.proofs.Words.{word_of-full, word_of-short}
 
@@ -86,10 +85,6 @@ pub rest_more : (w rest i : ℕ) → rest ≡ w / 2 ^ (8 * i) → rest / 2 ^ 8 �
 rest_more w rest i e =
     let n : 8 * i + 8 ≡ 8 * (i + 1) = omega arith in
     ap (λ x. x / 2 ^ 8) e ∙ shr-shr w (8 * i) 8 ∙ ap (λ m. w / 2 ^ m) n
-
--- how many bytes a word fills
-pub word_count : (o : Order) (h hs : List Bool) (n w : ℕ) (out : List ℕ) → Fills o h hs (word_bits o n w) out → length out ≡ (length h + n) / 8
-word_count o h hs n w out f = filled_count o h hs (word_bits o n w) out f ∙ ap (λ x. (length h + x) / 8) (length-word_bits o n w)
 
 -- ---- a call that writes a word
 pub word_written : (o : Order) (n w : ℕ) (t : KnownSink) (s : Standing Pending) (r : Result (Unit {0}) DekuError) (after : KnownSink) (u : Standing Pending) → w < 2 ^ n

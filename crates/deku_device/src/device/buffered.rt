@@ -83,12 +83,7 @@ fn held_eight<R: Read>(reader: &mut BufReader<R>, n: usize) -> Option<[u8; 8]>
         (reader_buffer reader.old)) }
     ensures few { IsNone result ↔ (length (reader_buffer reader.old) < 8) }
 {
-    let held = reader.buffer();
-    if held.len() < 8 {
-        return None;
-    }
-    let mut eight = [0; 8];
-    eight.copy_from_slice(&held[..8]);
+    let eight = *reader.buffer().first_chunk::<8>()?;
     reader.consume(n);
     Some(eight)
 }

@@ -137,14 +137,22 @@ fn eight_at(all: &[u8], at: u64, n: usize) -> Option<[u8; 8]>
         (Some (drop (at + n) all.now))) }
     ensures short { IsNone result → FewerThan n (Some (drop at all.now)) }
 {
-    let mut eight = [0; 8];
-    if !copy_at(all, at, &mut eight) {
-        return last_at(all, at, n);
+    if let Some(rest) = all.get(at as usize..) {
+        if let Some(eight) = rest.first_chunk::<8>() {
+            return Some(*eight);
+        }
+        if n <= rest.len() {
+            if let Some(end) = all.last_chunk::<8>() {
+                return Some(end_of(*end, rest.len()));
+            }
+        }
     }
-    Some(eight)
+    // Not returned as it is, so that the other results stay in registers.
+    let last = last_at(all, at, n)?;
+    Some(last)
 }
 
-// The same if fewer than eight bytes are left.
+// What `eight_at` returns if fewer than n bytes are left, or fewer than eight in all.
 #[cold]
 #[inline(never)]
 fn last_at(all: &[u8], at: u64, n: usize) -> Option<[u8; 8]>
@@ -157,25 +165,19 @@ fn last_at(all: &[u8], at: u64, n: usize) -> Option<[u8; 8]>
     if last.len() < n {
         return None;
     }
-    if last.len() < 8 && all.len() >= 8 {
-        return Some(end_of(all, last.len()));
-    }
     let count = last.len().min(8);
     let mut eight = [0; 8];
     lay_front(&mut eight, last, count);
     Some(eight)
 }
 
-// The last bytes, fewer than eight, with zeros after them. A word of eight bytes is shifted, which
-// takes one load, however many they are.
+// The last bytes of eight, fewer than eight, with zeros after them. A word is shifted, however many
+// they are.
 #[inline(always)]
-fn end_of(all: &[u8], count: usize) -> [u8; 8]
-    requires few { count < 8 }
-    requires enough { 8 ≤ length all.now }
-    ensures { result ≡ drop (length all.now - count) all.now ++ replicate (8 - count) 0 }
+fn end_of(eight: [u8; 8], count: usize) -> [u8; 8]
+    requires { count < 8 }
+    ensures { result ≡ drop (8 - count) eight ++ replicate (8 - count) 0 }
 {
-    let mut eight = [0; 8];
-    eight.copy_from_slice(&all[all.len() - 8..]);
     let word = u64::from_le_bytes(eight) >> (56 - 8 * count) >> 8;
     word.to_le_bytes()
 }

@@ -55,10 +55,10 @@ pub fn fetch_behind<R: Source>(
     ensures inside { 8 * length dst.old ≤ length window.old → source.new ≡ source.old }
     ensures kept { DeviceKept (R.known source.old).health (R.known source.new).health }
 {
-    if window.len() < 8 {
-        return fetch_bytes(source, dst);
+    let held = window.len() / 8;
+    if held == 1 {
+        dst[0] = window.byte();
+        *window = Window::empty();
     }
-    dst[0] = window.byte();
-    *window = Window::empty();
-    fetch_bytes(source, &mut dst[1..])
+    fetch_bytes(source, &mut dst[held..])
 }

@@ -2,7 +2,6 @@
 
 ghost use Rattle.std.specs.Prelude.{◌≡◌, ◌+◌, ◌^◌, ◌<◌, Some, None};
 ghost use Rattle.deku_stream.specs.Kept.{Admits, standing_of};
-ghost use Rattle.deku_reader.specs.Tallies.{tallied};
 
 use deku_stream::error::{DekuError, Fault};
 use std::marker::Model;
@@ -86,7 +85,13 @@ impl Tally {
         if amt < self.left {
             return Ok(());
         }
-        looked_at(self.stop, self.left, amt)
+        if let Some(stop) = self.stop {
+            return Err(stop.fault.error());
+        }
+        if self.left < amt {
+            return Err(DekuError::InvalidParam("count past usize"));
+        }
+        Ok(())
     }
 
     /// Counts `amt` more bits as read.
@@ -100,20 +105,4 @@ impl Tally {
     {
         self.left -= amt;
     }
-}
-
-// Fails as `Tally::admits` does, and succeeds if `amt` more bits may still be counted.
-#[cold]
-#[inline(never)]
-fn looked_at(stop: Option<Stop>, left: usize, amt: usize) -> Result<(), DekuError>
-    ensures { Admits amt (standing_of (tt {0}) (tallied stop left).fault (tallied stop left).count)
-        result }
-{
-    if let Some(stop) = stop {
-        return Err(stop.fault.error());
-    }
-    if left < amt {
-        return Err(DekuError::InvalidParam("count past usize"));
-    }
-    Ok(())
 }

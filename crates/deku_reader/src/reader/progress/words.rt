@@ -1,6 +1,6 @@
 //! Words: at most 128 bits, each group of eight as a byte.
 
-ghost use Rattle.std.specs.Prelude.{◌≡◌, ◌≢◌, ◌+◌, ◌-◌, ◌*◌, ◌^◌, ◌<◌, ◌≤◌, ◌∷◌, [], length, take, OnOk, IfOk, IfErr, IfSome, IsNone};
+ghost use Rattle.std.specs.Prelude.{◌≡◌, ◌≢◌, ◌+◌, ◌-◌, ◌*◌, ◌^◌, ◌<◌, ◌≤◌, ◌⊎◌, ◌∷◌, [], length, take, drop, OnOk, IfOk, IfErr, IfSome, IsNone};
 ghost use Rattle.deku_stream.specs.declared.ctx.Order.TheVariants.{Msb0, Lsb0};
 ghost use Rattle.deku_stream.specs.Bits.{bits_of, groups};
 ghost use Rattle.deku_device.specs.Devices.{DeviceKept, DeviceFailed};
@@ -37,48 +37,74 @@ pub fn word_from<R: Source>(
     ensures inside { count ≤ length window.old → source.new ≡ source.old }
     ensures kept { DeviceKept (R.known source.old).health (R.known source.new).health }
 {
-    if count <= 64 {
-        return narrow_from(source, window, count, order);
+    if count > 64 {
+        return wide_from(source, window, count, order);
     }
-    wide_from(source, window, count, order)
+    match try_word(source, window, count, order) {
+        Some(word) => Ok(word),
+        None => word_fetched(source, window, count, order),
+    }
 }
 
-// Takes at most 64 bits as `word_from` does.
+// Takes at most 64 bits in this order, if they are unread or in memory, and returns their word.
+// Otherwise it returns `None`, and nothing moves.
 #[inline(always)]
-fn narrow_from<R: Source>(
+fn try_word<R: Source>(
     source: &mut R,
     window: &mut Window,
     count: usize,
     order: Order,
-) -> Result<u128, ErrorKind>
+) -> Option<u128>
     requires bound { length window.old ≤ 8 }
     requires few { count ≤ 64 }
-    ensures short { OnOk result (0 < count → length window.new < 8) }
-    ensures none { OnOk result (count ≡ 0 → (window.new ≡ window.old)
+    ensures short { IfSome result (λ word. 0 < count → length window.new < 8) }
+    ensures none { IfSome result (λ word. count ≡ 0 → (window.new ≡ window.old)
         × ((R.known source.new).remaining ≡ (R.known source.old).remaining)) }
-    ensures moved { IfOk result (λ word. MovesWord order window.old (R.known source.old).remaining
-        count word window.new (R.known source.new).remaining) }
-    ensures wanted { IfErr result (λ e. 0 < count) }
-    ensures ended { IfErr result (λ e. e ≡ ErrorKind.UnexpectedEof
-        → FewerBits count window.old (R.known source.old).remaining) }
-    ensures failed { IfErr result (λ e. e ≢ ErrorKind.UnexpectedEof
-        → DeviceFailed (R.known source.old).health (R.known source.new).health) }
-    ensures inside { count ≤ length window.old → source.new ≡ source.old }
+    ensures still { count ≤ length window.old → source.new ≡ source.old }
+    ensures moved { IfSome result (λ word. MovesWord order window.old
+        (R.known source.old).remaining count word window.new (R.known source.new).remaining) }
+    ensures stays { IsNone result → (window.new ≡ window.old) × (source.new ≡ source.old) }
+    ensures more { IsNone result → length window.old < count }
     ensures kept { DeviceKept (R.known source.old).health (R.known source.new).health }
 {
     if 0 < count && count % 8 == 0 && window.len() == 0 {
-        if let Some(eight) = source.try_take(count / 8) {
-            return Ok(word_of_front(&eight, count) as u128);
-        }
-    } else if count <= window.len() {
-        return Ok(window.take(count, order) as u128);
-    } else if window.len() < 8 {
-        let behind = count - window.len();
-        if let Some(eight) = source.try_take(behind.div_ceil(8)) {
-            return Ok(window.take_across(&eight, count, order) as u128);
-        }
+        let eight = source.try_take(count / 8)?;
+        return Some(word_of_front(&eight, count) as u128);
     }
-    word_by_copy(source, window, count, order)
+    if window.len() == 8 && 8 < count {
+        return None;
+    }
+    try_across(source, window, count, order)
+}
+
+// Takes bits as `try_word` does, whole bytes in the same way as others. If eight bits are unread, it
+// takes no bytes after them.
+#[inline(always)]
+fn try_across<R: Source>(
+    source: &mut R,
+    window: &mut Window,
+    count: usize,
+    order: Order,
+) -> Option<u128>
+    requires bound { length window.old ≤ 8 }
+    requires few { count ≤ 64 }
+    requires inside { (length window.old < 8) ⊎ (count ≤ 8) }
+    ensures short { IfSome result (λ word. 0 < count → length window.new < 8) }
+    ensures none { IfSome result (λ word. count ≡ 0 → (window.new ≡ window.old)
+        × ((R.known source.new).remaining ≡ (R.known source.old).remaining)) }
+    ensures still { count ≤ length window.old → source.new ≡ source.old }
+    ensures moved { IfSome result (λ word. MovesWord order window.old
+        (R.known source.old).remaining count word window.new (R.known source.new).remaining) }
+    ensures stays { IsNone result → (window.new ≡ window.old) × (source.new ≡ source.old) }
+    ensures more { IsNone result → length window.old < count }
+    ensures kept { DeviceKept (R.known source.old).health (R.known source.new).health }
+{
+    if count <= window.len() {
+        return Some(window.take(count, order) as u128);
+    }
+    let rest = count - window.len();
+    let eight = source.try_take(rest.div_ceil(8))?;
+    Some(window.take_across(&eight, count, order) as u128)
 }
 
 /// Takes at most 64 bits, with the high bits first, if they are unread or in memory, and returns
@@ -135,46 +161,49 @@ fn wide_from<R: Source>(
     ensures kept { DeviceKept (R.known source.old).health (R.known source.new).health }
 {
     if window.len() == 8 {
-        return word_by_copy(source, window, count, order);
+        return word_apart(source, window, count, order);
     }
     let Some(eight) = source.try_take(8) else {
-        return word_by_copy(source, window, count, order);
+        return word_apart(source, window, count, order);
     };
     let first = u64::from_le_bytes(window.exchange_eight(&eight, order));
-    let behind = narrow_from(source, window, count - 64, order)?;
+    let behind = rest_from(source, window, count - 64, order)?;
     Ok((behind << 64) + first as u128)
 }
 
-// Takes bits as `word_fetched` does, with a copy of the window, so that the caller's window stays
-// in registers.
+// Takes at most 64 bits as `word_from` does, after 64 bits of the same word.
 #[inline(always)]
-fn word_by_copy<R: Source>(
+fn rest_from<R: Source>(
     source: &mut R,
     window: &mut Window,
     count: usize,
     order: Order,
 ) -> Result<u128, ErrorKind>
-    requires bound { length window.old ≤ 8 }
-    requires more { length window.old < count }
-    requires few { count ≤ 128 }
-    ensures short { OnOk result (length window.new < 8) }
+    requires bound { length window.old < 8 }
+    requires few { count ≤ 64 }
+    ensures short { OnOk result (0 < count → length window.new < 8) }
+    ensures none { OnOk result (count ≡ 0 → (window.new ≡ window.old)
+        × ((R.known source.new).remaining ≡ (R.known source.old).remaining)) }
     ensures moved { IfOk result (λ word. MovesWord order window.old (R.known source.old).remaining
         count word window.new (R.known source.new).remaining) }
+    ensures wanted { IfErr result (λ e. 0 < count) }
     ensures ended { IfErr result (λ e. e ≡ ErrorKind.UnexpectedEof
         → FewerBits count window.old (R.known source.old).remaining) }
     ensures failed { IfErr result (λ e. e ≢ ErrorKind.UnexpectedEof
         → DeviceFailed (R.known source.old).health (R.known source.new).health) }
+    ensures inside { count ≤ length window.old → source.new ≡ source.old }
     ensures kept { DeviceKept (R.known source.old).health (R.known source.new).health }
 {
-    let mut copy = window.copy();
-    let word = word_fetched(source, &mut copy, count, order);
-    *window = copy;
-    word
+    match try_across(source, window, count, order) {
+        Some(word) => Ok(word),
+        None => word_apart(source, window, count, order),
+    }
 }
 
-// Takes more bits than the window has, by one transfer of the bytes that they need.
-#[cold]
-#[inline(never)]
+// Takes more bits than the window has, by one transfer of the bytes that they need. It is inlined
+// with the transfer, and what else it calls takes values only, so that a source in memory and the
+// window stay in registers.
+#[inline(always)]
 fn word_fetched<R: Source>(
     source: &mut R,
     window: &mut Window,
@@ -197,12 +226,52 @@ fn word_fetched<R: Source>(
     let behind = count - window.len() % 8;
     match fetch_behind(source, window, &mut room[..behind.div_ceil(8)]) {
         Ok(()) => {
-            let all = count.div_ceil(8);
-            gather(window, &mut room[..all], count, order);
-            Ok(u128::from_le_bytes(room))
+            let (bytes, rest) = gathered(room, window.copy(), count, order);
+            *window = rest;
+            Ok(u128::from_le_bytes(bytes))
         }
         Err(error) => Err(error.kind()),
     }
+}
+
+// Takes bits as `word_fetched` does, by a call.
+#[cold]
+#[inline(never)]
+fn word_apart<R: Source>(
+    source: &mut R,
+    window: &mut Window,
+    count: usize,
+    order: Order,
+) -> Result<u128, ErrorKind>
+    requires bound { length window.old ≤ 8 }
+    requires more { length window.old < count }
+    requires few { count ≤ 128 }
+    ensures short { OnOk result (length window.new < 8) }
+    ensures moved { IfOk result (λ word. MovesWord order window.old (R.known source.old).remaining
+        count word window.new (R.known source.new).remaining) }
+    ensures ended { IfErr result (λ e. e ≡ ErrorKind.UnexpectedEof
+        → FewerBits count window.old (R.known source.old).remaining) }
+    ensures failed { IfErr result (λ e. e ≢ ErrorKind.UnexpectedEof
+        → DeviceFailed (R.known source.old).health (R.known source.new).health) }
+    ensures kept { DeviceKept (R.known source.old).health (R.known source.new).health }
+{
+    word_fetched(source, window, count, order)
+}
+
+// Makes the groups of `count` bits from these unread bits and the first bytes, in their place.
+#[cold]
+#[inline(never)]
+fn gathered(bytes: [u8; 16], unread: Window, count: usize, order: Order) -> ([u8; 16], Window)
+    requires short { length unread < 8 }
+    requires wide { count ≤ 128 }
+    ensures groups { TakesGroups order unread (take (groups (count - length unread))
+        (take (groups count) bytes)) count (take (groups count) result.0) result.1 }
+    ensures behind { drop (groups count) result.0 ≡ drop (groups count) bytes }
+{
+    let mut all = bytes;
+    let mut window = unread;
+    gather(&mut window, &mut all[..count.div_ceil(8)], count, order);
+    (all, window)
 }
 
 // Makes the groups of `count` bits from the window and the bytes after it.

@@ -1,5 +1,6 @@
-use Rattle.std.proofs.Common.{◌≡◌, ℕ, length, take, replicate, arith}
-use Rattle.std.proofs.lemmas.List.{length-take, length-replicate}
+use Rattle.std.proofs.Common.{◌≡◌, ◌++◌, ◌∙◌, ℕ, length, take, drop, replicate, refl, sym, ap, arith}
+use Rattle.std.proofs.lemmas.List.{length-take, length-replicate, take-append-drop}
+use Rattle.deku_stream.specs.Bits.{groups}
 use Rattle.deku_reader.proofs.WordsRead.{word_gathered}
 use Rattle.deku_reader.proofs.reader.progress.words.word_fetched.Goals as goal
 
@@ -14,16 +15,19 @@ returns-in-Ok-clause-short g c =
     let known = g.R.Source.known in
     let k = c.div_ceil.result in
     let width : length (take k (replicate {A = ℕ} 16 0)) ≡ k = simp (length-take, length-replicate) (omega arith) in
-    (word_gathered c.args.order c.args.window.now c.fetch_behind.new.window c.gather.new.window (known c.args.source.now).remaining (known c.fetch_behind.new.source).remaining c.args.count k c.div_ceil-all.result
-    c.fetch_behind.new.dst c.gather.new.dst (omega arith) (omega arith) c.in-Ok.ensures.short (omega arith) (omega arith) (omega arith) (omega (arith, width))
-    (c.in-Ok.ensures.moved c.args.order) c.gather.ensures).1
+    (word_gathered c.args.order c.args.window.now c.fetch_behind.new.window c.gathered-rest.result.1 (known c.args.source.now).remaining (known c.fetch_behind.new.source).remaining c.args.count k (groups c.args.count)
+    c.fetch_behind.new.dst (take (groups c.args.count) c.gathered-rest.result.0) (omega arith) (omega arith) c.in-Ok.ensures.short (omega arith) (omega arith) refl (omega (arith, width))
+    (c.in-Ok.ensures.moved c.args.order) (rw c.copy.ensures at c.gathered-rest.ensures.groups)).1
 
 pub returns-in-Ok-clause-moved : goal.returns-in-Ok-clause-moved
 returns-in-Ok-clause-moved g c =
     let known = g.R.Source.known in
     let k = c.div_ceil.result in
+    let m = groups c.args.count in
+    let bytes = c.gathered-rest.result.0 in
     let width : length (take k (replicate {A = ℕ} 16 0)) ≡ k = simp (length-take, length-replicate) (omega arith) in
-    rw c.from_le_bytes.ensures
-    ((word_gathered c.args.order c.args.window.now c.fetch_behind.new.window c.gather.new.window (known c.args.source.now).remaining (known c.fetch_behind.new.source).remaining c.args.count k c.div_ceil-all.result
-    c.fetch_behind.new.dst c.gather.new.dst (omega arith) (omega arith) c.in-Ok.ensures.short (omega arith) (omega arith) (omega arith) (omega (arith, width))
-    (c.in-Ok.ensures.moved c.args.order) c.gather.ensures).0)
+    let whole : bytes ≡ take m bytes ++ drop m (c.fetch_behind.new.dst ++ drop k (replicate 16 0)) = sym (take-append-drop m bytes) ∙ ap (λ ys. take m bytes ++ ys) c.gathered-rest.ensures.behind in
+    rw (c.from_le_bytes.ensures, whole)
+    ((word_gathered c.args.order c.args.window.now c.fetch_behind.new.window c.gathered-rest.result.1 (known c.args.source.now).remaining (known c.fetch_behind.new.source).remaining c.args.count k m
+    c.fetch_behind.new.dst (take m bytes) (omega arith) (omega arith) c.in-Ok.ensures.short (omega arith) (omega arith) refl (omega (arith, width))
+    (c.in-Ok.ensures.moved c.args.order) (rw c.copy.ensures at c.gathered-rest.ensures.groups)).0)
