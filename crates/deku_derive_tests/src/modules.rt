@@ -319,8 +319,9 @@ fn plain_records_are_printed(rt: HostRuntime) -> Result<(), Fail> {
     Ok(())
 }
 
-// Descriptions of lists that end with an item, and texts that their modules have.
-const ENDS: [(&str, &str); 7] = [
+// Descriptions of lists that end with an item and of tuples of one, and texts that their modules
+// have.
+const TEXTS: [(&str, &str); 9] = [
     (
         "struct A { n: u8, #[deku(until = \"|byte: &u8| *byte == 0\")] name: Vec<u8>, m: u8 }",
         "
@@ -419,11 +420,28 @@ type AWHead = (u8, Until<u8, AVLast>);
 type AWLent<'a> = (u8, UntilRef<'a, u8, AVLast>);
 ",
     ),
+    (
+        "#[deku(endian = \"big\")]
+         struct A { one: (u16,), same: (u16), #[deku(bits = 4)] few: ((u8), (u8,)) }",
+        "
+pub struct A {
+    pub one: (u16,),
+    pub same: u16,
+    pub few: (Msb<u8, 4>, (Msb<u8, 4>,)),
+}
+",
+    ),
+    (
+        "#[deku(endian = \"big\")] struct A { one: (u16,), same: (u16) }",
+        "
+type AParts = (Be<(u16,)>, Be<u16>);
+",
+    ),
 ];
 
 #[test]
-fn ends_are_printed(rt: HostRuntime) -> Result<(), Fail> {
-    for (text, part) in &ENDS {
+fn texts_are_printed(rt: HostRuntime) -> Result<(), Fail> {
+    for (text, part) in &TEXTS {
         match make(rt.alloc(), "a.rs", None, text)? {
             Made::Module(printed) => assert!(rt; printed.as_str().contains(*part), "of {text}"),
             Made::Wrong(told) => assert_eq!(rt; told.as_str(), "", "of {text}"),

@@ -476,24 +476,29 @@ impl<'a> Parser<'a> {
         }
     }
 
+    // A tuple, or a type in parentheses.
     #[cycle(kind)]
     fn tuple(&mut self, depth: usize) -> Result<Type<'a>, Stop<'a>> {
         let arena = self.cursor.arena();
         let mut parts = Vec::new(arena.alloc());
-        self.list_parts(&mut parts, depth)?;
-        Ok(Type::Tuple(arena.list(parts.as_slice())?))
+        let has_comma = self.list_parts(&mut parts, depth)?;
+        match parts.as_slice() {
+            [part] if !has_comma => Ok(*part),
+            parts => Ok(Type::Tuple(arena.list(parts)?)),
+        }
     }
 
-    // Adds the types up to a parenthesis.
+    // Adds the types up to a parenthesis. Returns whether a comma follows the last of them.
     #[cycle(kind)]
-    fn list_parts(&mut self, parts: &mut Vec<Type<'a>>, depth: usize) -> Result<(), Stop<'a>> {
+    fn list_parts(&mut self, parts: &mut Vec<Type<'a>>, depth: usize) -> Result<bool, Stop<'a>> {
         for _ in 0..self.cursor.left() {
             if self.cursor.take_mark(")") {
-                return Ok(());
+                return Ok(true);
             }
             parts.push(self.kind(depth)?)?;
             if !self.cursor.take_mark(",") {
-                return self.cursor.mark(")");
+                self.cursor.mark(")")?;
+                return Ok(false);
             }
         }
         self.cursor.expected("`)`")

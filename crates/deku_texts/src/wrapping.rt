@@ -184,7 +184,7 @@ pub fn plain(out: &mut String, kind: &Type<'_>) -> Result<(), AllocError> {
                 }
                 plain(out, part)?;
             }
-            out.push(')')
+            out.push_str(end_of_tuple(parts))
         }
     }
 }
@@ -212,7 +212,7 @@ pub fn item(out: &mut String, kind: &Type<'_>, field: &Field<'_>) -> Result<(), 
                 }
                 item(out, part, field)?;
             }
-            out.push(')')
+            out.push_str(end_of_tuple(parts))
         }
     }
 }
@@ -232,6 +232,11 @@ fn named(out: &mut String, name: &str, field: &Field<'_>) -> Result<(), AllocErr
         (around, None) => write!(out, "{around}<{name}>"),
         (around, Some(bits)) => write!(out, "{around}<{name}, {bits}>"),
     }
+}
+
+// What follows the types of a tuple.
+fn end_of_tuple(parts: &[Type<'_>]) -> &'static str {
+    if parts.len() == 1 { ",)" } else { ")" }
 }
 
 fn end_of_array(out: &mut String, length: Length<'_>) -> Result<(), AllocError> {

@@ -1,6 +1,7 @@
 //! Words: at most 128 bits, each group of eight as a byte.
 
-ghost use Rattle.std.specs.Prelude.{◌≡◌, ◌≢◌, ◌+◌, ◌-◌, ◌*◌, ◌^◌, ◌<◌, ◌≤◌, ◌⊎◌, ◌∷◌, [], length, take, drop, OnOk, IfOk, IfErr, IfSome, IsNone};
+ghost use Rattle.std.specs.Prelude.{◌≡◌, ◌≢◌, ◌+◌, ◌-◌, ◌*◌, ◌^◌, ◌<◌, ◌≤◌, ◌⊎◌, ◌∷◌, []};
+ghost use Rattle.std.specs.Prelude.{length, take, drop, OnOk, IfOk, IfErr, IfSome, IsNone};
 ghost use Rattle.deku_stream.specs.declared.ctx.Order.TheVariants.{Msb0, Lsb0};
 ghost use Rattle.deku_stream.specs.Bits.{bits_of, groups};
 ghost use Rattle.deku_device.specs.Devices.{DeviceKept, DeviceFailed};
@@ -77,8 +78,8 @@ fn try_word<R: Source>(
     try_across(source, window, count, order)
 }
 
-// Takes bits as `try_word` does, whole bytes in the same way as others. If eight bits are unread, it
-// takes no bytes after them.
+// Takes bits as `try_word` does, across bytes too. If eight bits are unread, it takes no bytes
+// after them.
 #[inline(always)]
 fn try_across<R: Source>(
     source: &mut R,
@@ -104,6 +105,9 @@ fn try_across<R: Source>(
     }
     let rest = count - window.len();
     let eight = source.try_take(rest.div_ceil(8))?;
+    if count % 8 == 0 && window.len() == 0 {
+        return Some(word_of_front(&eight, count) as u128);
+    }
     Some(window.take_across(&eight, count, order) as u128)
 }
 
