@@ -422,12 +422,12 @@ type AWLent<'a> = (u8, UntilRef<'a, u8, AVLast>);
     ),
     (
         "#[deku(endian = \"big\")]
-         struct A { one: (u16,), same: (u16), #[deku(bits = 4)] few: ((u8), (u8,)) }",
+         struct A { one: (u16,), same: (u16), few: ((u8), (u8,)) }",
         "
 pub struct A {
     pub one: (u16,),
     pub same: u16,
-    pub few: (Msb<u8, 4>, (Msb<u8, 4>,)),
+    pub few: (u8, (u8,)),
 }
 ",
     ),
