@@ -14,3 +14,4 @@ pub mod Wholly
 pub mod Columned
 pub mod Emitted
 pub mod Joining
+pub mod Blocks

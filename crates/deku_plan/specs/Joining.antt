@@ -9,6 +9,7 @@ use Rattle.deku_plan.specs.declared.join.Joined.{Joined}
 -- The part of a step after so many bits of its group: where its value is among 64 bits, and how
 -- many bytes there are if the group ends with it.
 pub record IsPart (held : ℕ) (s : Step) (p : Part) : Type 0 where
+  pub some : 0 < held + s.width
   pub few : held + s.width ≤ 64
   pub scale : p.scale ≡ 2 ^ (64 - (held + s.width))
   pub bytes : (p.bytes ≡ 0) ⊎ (8 * p.bytes ≡ held + s.width)

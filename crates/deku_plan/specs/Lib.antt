@@ -4,3 +4,4 @@ pub mod Joining
 pub mod Records
 pub mod Known
 pub mod Words
+pub mod Blocks

@@ -91,7 +91,7 @@ fn join(out: &mut [u8], from: Joined, step: Step, part: Part, value: Number) -> 
     if part.bytes == 0 {
         return joined;
     }
-    put_first(out, joined.place, joined.word.to_be_bytes(), part.bytes);
+    put_first(out, joined.place, joined.word, part.bytes);
     Joined {
         place: joined.place + part.bytes,
         word: 0,

@@ -1,11 +1,15 @@
 //! Numbers that are laid into bytes in memory.
 
-ghost use Rattle.std.specs.Prelude.{◌≡◌, ◌+◌, ◌*◌, ◌/◌, ◌%◌, ◌<◌, ◌≤◌, ◌^◌, ◌++◌, ℕ, All, length, take, drop, IfSome, IsNone, IsTrue};
+ghost use Rattle.std.specs.Prelude.{◌≡◌, ◌+◌, ◌*◌, ◌/◌, ◌%◌, ◌<◌, ◌≤◌, ◌^◌, ◌++◌, ℕ};
+ghost use Rattle.std.specs.Prelude.{All, length, take, drop, IfSome, IsNone, IsTrue, IsFalse};
+ghost use Rattle.std.specs.Int.{w64, to_be_bytes};
 ghost use Rattle.deku_bits.specs.Bits.{bits_in};
 ghost use Rattle.deku_plan.specs.Plans.{widths};
 ghost use Rattle.deku_plan.specs.Joining.{AreParts};
+ghost use Rattle.deku_plan.specs.Blocks.{group_sizes};
 ghost use Rattle.deku_plan.specs.Laying.{IsShort, turns, HasBits, AreFitting, value_bits, row_bits, IsHeld, laid_count, laid_bits};
 
+use crate::block::{WORDS, laid_at_once};
 use crate::join::join_records;
 use crate::part::Part;
 use crate::step::Step;
@@ -30,10 +34,12 @@ pub(crate) fn laid_all(
     bits: usize,
     steps: &[Step],
     parts: &[Part],
+    sizes: &[usize],
     values: &[Number],
 ) -> Option<usize>
     requires short { IsTrue short → All IsShort steps.now }
     requires parts { length parts.now ≡ length steps.now → AreParts 0 steps.now parts.now 0 }
+    requires sizes { sizes.now ≡ group_sizes parts.now }
     requires bits { bits ≡ widths steps.now }
     requires values { length values.now ≡ count * length steps.now }
     ensures short { IfSome result (λ n. IsTrue short) }
@@ -51,11 +57,11 @@ pub(crate) fn laid_all(
         return None;
     }
     let bytes = whole_bytes(count, bits, out.len())?;
-    if !are_fitting(count, steps, values) {
-        return None;
+    if laid_either(&mut out[..bytes], count, steps, parts, sizes, values) {
+        Some(bytes)
+    } else {
+        None
     }
-    lay_either(&mut out[..bytes], count, steps, parts, values);
-    Some(bytes)
 }
 
 // How many bytes records of this many bits fill, if these are whole bytes and there is room.
@@ -117,21 +123,49 @@ fn bits_beyond(value: Number, mask: u64) -> u64
     }
 }
 
-// Lays the values of records that fit, and that fill the bytes, a group of fields at a time if
-// each step has a part.
-fn lay_either(out: &mut [u8], count: usize, steps: &[Step], parts: &[Part], values: &[Number])
+// Lays the values of records into the bytes that they fill, if they fit: a group of fields at a
+// time if each step has a part. Returns whether they fit. Nothing changes if they do not.
+fn laid_either(
+    out: &mut [u8],
+    count: usize,
+    steps: &[Step],
+    parts: &[Part],
+    sizes: &[usize],
+    values: &[Number],
+) -> bool
     requires short { All IsShort steps.now }
     requires parts { length parts.now ≡ length steps.now → AreParts 0 steps.now parts.now 0 }
+    requires sizes { sizes.now ≡ group_sizes parts.now }
     requires values { length values.now ≡ count * length steps.now }
-    requires fitting { AreFitting (turns count steps.now) values.now }
     requires whole { 8 * length out.old ≡ count * widths steps.now }
-    ensures bits { bits_in out.new ≡ row_bits (turns count steps.now) values.now }
+    ensures fitting { IsTrue result → AreFitting (turns count steps.now) values.now }
+    ensures bits { IsTrue result → bits_in out.new ≡ row_bits (turns count steps.now) values.now }
+    ensures stays { IsFalse result → out.new ≡ out.old }
     ensures long { length out.new ≡ length out.old }
 {
-    if parts.len() == steps.len() {
+    let joins = parts.len() == steps.len();
+    if joins && are_few(count, sizes.len()) {
+        return laid_at_once(out, count, steps, parts, sizes, values);
+    }
+    if !are_fitting(count, steps, values) {
+        return false;
+    }
+    if joins {
         join_records(out, count, steps, parts, values);
     } else {
         lay_records(out, count, steps, values);
+    }
+    true
+}
+
+// Whether the groups of records have few enough words, and there are some records.
+fn are_few(count: usize, groups: usize) -> bool
+    ensures some { IsTrue result → 0 < count }
+    ensures few { IsTrue result → count * groups ≤ 64 }
+{
+    match count.checked_mul(groups) {
+        Some(words) => count > 0 && words <= WORDS,
+        None => false,
     }
 }
 
@@ -236,8 +270,12 @@ fn store(out: &mut [u8], from: Laid) -> Laid
     ensures few { result.held < 8 }
     ensures long { length out.new ≡ length out.old }
 {
-    let eight = (from.word << (64 - from.held)).to_be_bytes();
-    put_first(out, from.place, eight, from.held / 8);
+    put_first(
+        out,
+        from.place,
+        from.word << (64 - from.held),
+        from.held / 8,
+    );
     let place = from.place + from.held / 8;
     if from.held % 8 == 0 {
         return Laid {
@@ -264,30 +302,31 @@ fn last_bits(place: usize, word: u64, held: usize) -> Laid
     }
 }
 
-/// Overwrites those from a place on with eight bytes, of which the first n count, or with these
-/// alone if the others do not fit. What follows them is unspecified.
+/// Overwrites those from a place on with the eight bytes of a word, the high one first, of which
+/// the first n count, or with these alone if the others do not fit. What follows them is
+/// unspecified.
 #[inline(always)]
-pub(crate) fn put_first(out: &mut [u8], place: usize, eight: [u8; 8], n: usize)
+pub(crate) fn put_first(out: &mut [u8], place: usize, word: u64, n: usize)
     requires few { n ≤ 8 }
     requires room { place + n ≤ length out.old }
-    ensures front { take (place + n) out.new ≡ take place out.old ++ take n eight }
+    ensures front { take (place + n) out.new ≡ take place out.old ++ take n (to_be_bytes w64 word) }
     ensures long { length out.new ≡ length out.old }
 {
     if out.len() - place >= 8 {
-        out[place..place + 8].copy_from_slice(&eight);
+        out[place..place + 8].copy_from_slice(&word.to_be_bytes());
     } else {
-        put_last(out, place, &eight, n);
+        put_last(out, place, word, n);
     }
 }
 
-// Overwrites those from a place on with the first n of eight bytes.
+// Overwrites those from a place on with the first n bytes of a word.
 #[cold]
 #[inline(never)]
-fn put_last(out: &mut [u8], place: usize, eight: &[u8; 8], n: usize)
+fn put_last(out: &mut [u8], place: usize, word: u64, n: usize)
     requires few { n ≤ 8 }
     requires room { place + n ≤ length out.old }
-    ensures front { take (place + n) out.new ≡ take place out.old ++ take n eight.now }
+    ensures front { take (place + n) out.new ≡ take place out.old ++ take n (to_be_bytes w64 word) }
     ensures long { length out.new ≡ length out.old }
 {
-    out[place..place + n].copy_from_slice(&eight[..n]);
+    out[place..place + n].copy_from_slice(&word.to_be_bytes()[..n]);
 }

@@ -2,6 +2,7 @@
 #![tactic(auto)]
 
 mod at;
+mod block;
 mod cut;
 mod join;
 mod lay;

@@ -4,6 +4,7 @@ ghost use Rattle.std.specs.Prelude.{◌≡◌, ◌⊎◌, ◌+◌, ◌*◌, ◌�
 ghost use Rattle.std.specs.declared.io.ErrorKind.TheVariants.{OutOfMemory};
 ghost use Rattle.deku_bits.specs.declared.error.DekuError.TheVariants.{Io};
 ghost use Rattle.deku_plan.specs.Joining.{IsPart, AreParts, held_after as rest_after};
+ghost use Rattle.deku_plan.specs.Blocks.{group_sizes};
 
 use crate::step::Step;
 use deku::error::DekuError;
@@ -41,6 +42,22 @@ pub(crate) fn parts_of(alloc: Global, steps: &[Step]) -> Result<Vec<Part>, DekuE
         return Ok(Vec::new(alloc));
     }
     Ok(parts)
+}
+
+/// How many bytes each group has that ends with one of the parts.
+pub(crate) fn sizes_of(alloc: Global, parts: &[Part]) -> Result<Vec<usize>, DekuError>
+    ensures sizes { IfOk result (λ sizes. sizes.items ≡ group_sizes parts.now) }
+    ensures memory { IfErr result (λ e. e ≡ Io OutOfMemory) }
+{
+    let mut sizes: Vec<usize> = Vec::new(alloc);
+    for part in parts {
+        if part.bytes > 0 {
+            let Ok(()) = sizes.push(part.bytes) else {
+                return Err(DekuError::Io(ErrorKind::OutOfMemory));
+            };
+        }
+    }
+    Ok(sizes)
 }
 
 // How many of so many bits are held after bytes are stored: all, or none.

@@ -23,7 +23,7 @@ mod records;
 mod slice;
 mod write;
 
-use crate::part::{Part, parts_of};
+use crate::part::{Part, parts_of, sizes_of};
 use crate::plan::read::read_steps;
 use crate::plan::write::write_steps;
 use crate::step::{Step, step_of};
@@ -46,6 +46,7 @@ pub struct Plan {
     fields: Vec<Field>,
     steps: Vec<Step>,
     parts: Vec<Part>,
+    sizes: Vec<usize>,
     bits: usize,
     aligned: bool,
     straight: bool,
@@ -101,6 +102,7 @@ impl Plan {
         let straight = are_straight(fields, steps.as_slice());
         let short = are_short(fields, steps.as_slice());
         let parts = parts_of(alloc, steps.as_slice())?;
+        let sizes = sizes_of(alloc, parts.as_slice())?;
         let Ok(fields) = Vec::from_slice(alloc, fields) else {
             return Err(DekuError::Io(ErrorKind::OutOfMemory));
         };
@@ -108,6 +110,7 @@ impl Plan {
             fields,
             steps,
             parts,
+            sizes,
             bits,
             aligned,
             straight,

@@ -431,3 +431,48 @@ fn lays_records(rt: HostRuntime) -> Result<(), Fail> {
     }
     Ok(())
 }
+
+// Writes this many records of 4 and 12 bits. The second value of the one at `wrong`, if there is
+// one, has a bit too many, so that only the records before it are written.
+fn expect_many(plan: &Plan, count: usize, wrong: usize) -> Result<(), Fail> {
+    let count = count.min(130);
+    let mut values = [Number::Unsigned(0); 260];
+    let mut bytes = [0xAA; 260];
+    let places = values
+        .as_chunks_mut::<2>()
+        .0
+        .iter_mut()
+        .zip(bytes.as_chunks_mut::<2>().0);
+    for (row, (numbers, two)) in places.enumerate().take(count) {
+        let (first, second) = (row % 16, row % 100 * 41);
+        let more = if row == wrong { 4096 } else { 0 };
+        *numbers = [plain(first as u128), plain((second + more) as u128)];
+        if row < wrong {
+            *two = ((first * 4096 + second) as u16).to_be_bytes();
+        }
+    }
+    let wanted = if wrong < count {
+        Err(DekuError::InvalidParam("bit size of input is larger than requested size"))
+    } else {
+        Ok(2 * count)
+    };
+    if count.checked_mul(plan.fields().len()) != Some(2 * count) {
+        return known("fields", None);
+    }
+    let mut out = [0xAA; 260];
+    let seen = plan.write_all(count, &values[..2 * count], &mut out);
+    same(&(count, wrong), &(seen, &out[..]), &(wanted, &bytes[..]))
+}
+
+// At most 64 groups of fields are written at once, and more in two passes.
+#[test]
+fn lays_many_records(rt: HostRuntime) -> Result<(), Fail> {
+    let words = "u8,big,bits4 u16,big,bits12";
+    let plan = done(words, plan_of(rt.alloc(), words))?;
+    for count in [1, 2, 63, 64, 65, 130] {
+        for wrong in [0, count / 2, count - 1, count] {
+            expect_many(&plan, count, wrong)?;
+        }
+    }
+    Ok(())
+}

@@ -118,7 +118,10 @@ impl Plan {
         let fields = self.fields.as_slice();
         let steps = self.steps.as_slice();
         let parts = self.parts.as_slice();
-        match laid_all(out, self.short, count, self.bits, steps, parts, values) {
+        let sizes = self.sizes.as_slice();
+        match laid_all(
+            out, self.short, count, self.bits, steps, parts, sizes, values,
+        ) {
             Some(taken) => Ok(taken),
             None => write_from_first(out, count, fields, steps, values),
         }

@@ -11,6 +11,6 @@ returns-clause-bits c =
     let e = c.with_value-joined.ensures in
     let bytes = c.args.part.bytes in
     let whole : 8 * bytes ≡ j.held = omega (arith, c.requires.part.bytes, e.held, c.if-part-eq0.false) in
-    group_stored c.args.out.now c.put_first.new.out j.place bytes j.held j.word _ (omega arith) e.joined.few whole e.joined.low (rw (c.to_be_bytes.ensures) at c.put_first.ensures.front)
+    group_stored c.args.out.now c.put_first.new.out j.place bytes j.held j.word _ (omega arith) e.joined.few whole e.joined.low c.put_first.ensures.front
     ∙ ap₂ (λ i s. bits_in (take i c.args.out.now) ++ s) e.place e.bits
     ∙ sym (append_assoc (bits_in (take c.args.from.place c.args.out.now)) (held_bits c.args.from) (value_bits c.args.step.width c.args.value))

@@ -27,6 +27,7 @@ invariant_of-result c =
       steps = rw same c.in_ok-steps.ensures.steps;
       firsts = c.in_ok-steps.ensures.firsts (omega (arith, wide));
       parts = search rules;
+      sizes = search rules;
       bits = rw same bits;
       aligned = rw same c.are_aligned-aligned.ensures;
       straight = rw same c.are_straight-straight.ensures;
