@@ -1,13 +1,15 @@
 //! Records that are joined a field at a time.
 
-ghost use Rattle.std.specs.Prelude.{◌≡◌, ◌⊎◌, ◌+◌, ◌*◌, ◌<◌, ◌≤◌, ◌^◌, ◌%◌, ◌++◌, ℕ, All};
+ghost use Rattle.std.specs.Prelude.{◌≡◌, ◌⊎◌, ◌+◌, ◌*◌, ◌<◌, ◌≤◌};
+ghost use Rattle.std.specs.Prelude.{◌^◌, ◌%◌, ◌++◌, ℕ, All};
 ghost use Rattle.std.specs.Prelude.{length, take, drop, get_or, IfSome, IsTrue, IsFalse};
 ghost use Rattle.deku_bits.specs.Bits.{bits_in};
 ghost use Rattle.deku_fields.specs.declared.list.Number.TheVariants.{Unsigned};
 ghost use Rattle.deku_plan.specs.Plans.{widths};
 ghost use Rattle.deku_plan.specs.Joining.{AreParts};
 ghost use Rattle.deku_plan.specs.Laying.{IsShort, HasBits, turns, AreFitting, row_bits};
-ghost use Rattle.deku_plan.specs.Blocks.{group_sizes, all_sizes, group_words, word_bits, words_bits};
+ghost use Rattle.deku_plan.specs.Blocks.{group_sizes, all_sizes, group_words};
+ghost use Rattle.deku_plan.specs.Blocks.{word_bits, words_bits};
 
 use crate::lay::put_first;
 use crate::part::Part;
@@ -35,7 +37,8 @@ pub(crate) fn laid_at_once(
     requires values { length values.now ≡ count * length steps.now }
     requires whole { 8 * length out.old ≡ count * widths steps.now }
     ensures fitting { IsTrue result → AreFitting (turns count steps.now) values.now }
-    ensures bits { IsTrue result → bits_in out.new ≡ row_bits (turns count steps.now) values.now }
+    ensures bits { IsTrue result → bits_in out.new ≡ row_bits (turns count steps.now)
+        values.now }
     ensures stays { IsFalse result → out.new ≡ out.old }
     ensures long { length out.new ≡ length out.old }
 {
@@ -64,9 +67,9 @@ fn join_fields(
     requires room { count * length (group_sizes parts.now) ≤ length words.old }
     requires none { (j : ℕ) → get_or words.old j 0 ≡ 0 }
     ensures fitting { result ≡ 0 → AreFitting (turns count steps.now) values.now }
-    ensures words { result ≡ 0 → (r : ℕ) → (k : ℕ) → r < count → get_or words.new (k * count + r) 0
-        ≡ group_words parts.now (take (length steps.now) (drop (r * length steps.now) values.now)) k
-        % 2 ^ 64 }
+    ensures words { result ≡ 0 → (r : ℕ) → (k : ℕ) → r < count
+        → get_or words.new (k * count + r) 0 ≡ group_words parts.now (take (length steps.now)
+        (drop (r * length steps.now) values.now)) k % 2 ^ 64 }
     ensures long { length words.new ≡ length words.old }
 {
     let (mut first, mut excess) = (0, 0);
@@ -96,13 +99,14 @@ fn join_field(
     requires short { IsShort step }
     requires room { first + count ≤ length words.old }
     requires values { (r : ℕ) → r < count → r * stride < length values.now }
-    ensures fitting { result ≡ 0 → (r : ℕ) → r < count → HasBits step.width (get_or values.now
-        (r * stride) (Unsigned 0)) }
-    ensures words { result ≡ 0 → (r : ℕ) → (n : ℕ) → r < count → get_or values.now (r * stride)
-        (Unsigned 0) ≡ Unsigned n → get_or words.new (first + r) 0 ≡ (get_or words.old (first + r)
-        0 + n * part.scale) % 2 ^ 64 }
-    ensures others { (j : ℕ) → (j < first) ⊎ (first + count ≤ j) → get_or words.new j 0 ≡ get_or
-        words.old j 0 }
+    ensures fitting { result ≡ 0 → (r : ℕ) → r < count → HasBits step.width
+        (get_or values.now (r * stride) (Unsigned 0)) }
+    ensures words { result ≡ 0 → (r : ℕ) → (n : ℕ) → r < count
+        → get_or values.now (r * stride) (Unsigned 0) ≡ Unsigned n
+        → get_or words.new (first + r) 0 ≡ (get_or words.old (first + r) 0 + n * part.scale)
+        % 2 ^ 64 }
+    ensures others { (j : ℕ) → (j < first) ⊎ (first + count ≤ j)
+        → get_or words.new j 0 ≡ get_or words.old j 0 }
     ensures long { length words.new ≡ length words.old }
 {
     let (mut low, mut high) = (0, 0);

@@ -1,6 +1,7 @@
 //! Numbers that are laid into bytes in memory.
 
-ghost use Rattle.std.specs.Prelude.{◌≡◌, ◌+◌, ◌*◌, ◌/◌, ◌%◌, ◌<◌, ◌≤◌, ◌^◌, ◌++◌, ℕ};
+ghost use Rattle.std.specs.Prelude.{◌≡◌, ◌+◌, ◌*◌, ◌/◌, ◌%◌, ◌<◌};
+ghost use Rattle.std.specs.Prelude.{◌≤◌, ◌^◌, ◌++◌, ℕ};
 ghost use Rattle.std.specs.Prelude.{All, length, take, drop, IfSome, IsNone, IsTrue, IsFalse};
 ghost use Rattle.std.specs.Int.{w64, to_be_bytes};
 ghost use Rattle.deku_bits.specs.Bits.{bits_in};
@@ -139,7 +140,8 @@ fn laid_either(
     requires values { length values.now ≡ count * length steps.now }
     requires whole { 8 * length out.old ≡ count * widths steps.now }
     ensures fitting { IsTrue result → AreFitting (turns count steps.now) values.now }
-    ensures bits { IsTrue result → bits_in out.new ≡ row_bits (turns count steps.now) values.now }
+    ensures bits { IsTrue result → bits_in out.new ≡ row_bits (turns count steps.now)
+        values.now }
     ensures stays { IsFalse result → out.new ≡ out.old }
     ensures long { length out.new ≡ length out.old }
 {
@@ -309,7 +311,8 @@ fn last_bits(place: usize, word: u64, held: usize) -> Laid
 pub(crate) fn put_first(out: &mut [u8], place: usize, word: u64, n: usize)
     requires few { n ≤ 8 }
     requires room { place + n ≤ length out.old }
-    ensures front { take (place + n) out.new ≡ take place out.old ++ take n (to_be_bytes w64 word) }
+    ensures front { take (place + n) out.new ≡ take place out.old ++ take n
+        (to_be_bytes w64 word) }
     ensures long { length out.new ≡ length out.old }
 {
     if out.len() - place >= 8 {
@@ -325,7 +328,8 @@ pub(crate) fn put_first(out: &mut [u8], place: usize, word: u64, n: usize)
 fn put_last(out: &mut [u8], place: usize, word: u64, n: usize)
     requires few { n ≤ 8 }
     requires room { place + n ≤ length out.old }
-    ensures front { take (place + n) out.new ≡ take place out.old ++ take n (to_be_bytes w64 word) }
+    ensures front { take (place + n) out.new ≡ take place out.old ++ take n
+        (to_be_bytes w64 word) }
     ensures long { length out.new ≡ length out.old }
 {
     out[place..place + n].copy_from_slice(&word.to_be_bytes()[..n]);
