@@ -3,7 +3,7 @@
 ghost use Rattle.std.specs.Prelude.{◌≡◌, ◌<◌, ◌≤◌, ◌%◌, ◌^◌, Bool, true, false, List, length, codes, pos, Ok, OnOk, IfOk, IfErr, IfSome, IsNone};
 ghost use Rattle.deku_bits.specs.declared.error.DekuError.TheVariants.{Parse, InvalidParam};
 ghost use Rattle.deku_bits.specs.Bits.{bits_of};
-ghost use Rattle.deku_bits.specs.ReaderCalls.{Reads, TakesBits, Fetched, FetchedInTime, KeepsSourceStopped};
+ghost use Rattle.deku_bits.specs.ReaderCalls.{Reads, ReadsWord, TakesBits, Fetched, FetchedInTime, KeepsSourceStopped};
 ghost use Rattle.deku_bits.specs.WriterCalls.{Writes, KeepsSinkStopped};
 ghost use Rattle.deku_num.specs.NumberLaws.{InType};
 ghost use Rattle.deku_num.specs.Numbers.{width, IsAllowed, IsFieldOf};
@@ -91,9 +91,45 @@ pub fn read_signed<R: Source>(
     if let Some(high) = try_take_number(reader, layout, width) {
         return Ok(sign_extend(high as u128, width));
     }
-    let word = reader.read_word(width, layout.order)?;
+    let word = read_word(reader, width, layout.order)?;
     let number = number_of_word(word, width, layout.endian, layout.order);
     Ok(sign_extend(number, width))
+}
+
+// Reads a word. More than 64 bits are read by a call, so that what is inlined is short.
+#[inline(always)]
+fn read_word<R: Source>(
+    reader: &mut Reader<R>,
+    width: usize,
+    order: Order,
+) -> Result<u128, DekuError>
+    requires { width ≤ 128 }
+    ensures reads { Reads R.known (ReadsWord order width) reader.old result reader.new }
+    ensures fetched { OnOk result (Fetched R.known width reader.old reader.new) }
+    ensures early { FetchedInTime reader.old reader.new }
+    ensures stopped { KeepsSourceStopped reader.old reader.new }
+{
+    if width <= 64 {
+        reader.read_short_word(width, order)
+    } else {
+        read_long_word(reader, width, order)
+    }
+}
+
+#[cold]
+#[inline(never)]
+fn read_long_word<R: Source>(
+    reader: &mut Reader<R>,
+    width: usize,
+    order: Order,
+) -> Result<u128, DekuError>
+    requires { width ≤ 128 }
+    ensures reads { Reads R.known (ReadsWord order width) reader.old result reader.new }
+    ensures fetched { OnOk result (Fetched R.known width reader.old reader.new) }
+    ensures early { FetchedInTime reader.old reader.new }
+    ensures stopped { KeepsSourceStopped reader.old reader.new }
+{
+    reader.read_word(width, order)
 }
 
 // The number of this many bits, with the high bits first, if the layout is big and the bits are in

@@ -125,7 +125,7 @@ word_inside o w v t n k l g = record {
 pub word_gathered : (o : Order) (w u v : List Bool) (t x : Option (List ℕ)) (n k m : ℕ) (fetched numbers : List ℕ) → n ≤ 128 → length w ≤ 8 → length u ≡ length w % 8 → length w < n
     → k ≡ groups (n - length w % 8) → m ≡ groups n → length fetched ≡ k → Moves o w t (facing o u ++ flow o fetched) [] x
     → TakesGroups o u (take (groups (n - length u)) (take m (fetched ++ drop k (replicate 16 0)))) n numbers v
-    → MovesWord o w t n (from_le_bytes w128 (numbers ++ drop m (fetched ++ drop k (replicate 16 0)))) v x × (length v < 8)
+    → MovesWord o w t n (from_le_bytes w128 (numbers ++ drop m (fetched ++ drop k (replicate 16 0)))) v x × (length v ≡ 8 * k - (n - length w % 8))
 word_gathered o w u v t x n k m fetched numbers wide l short more e f long moved g =
     let zeros : List ℕ = drop k (replicate 16 0) in
     let j : ℕ = m - k in
@@ -140,7 +140,7 @@ word_gathered o w u v t x n k m fetched numbers wide l short more e f long moved
     let size : length numbers ≡ m = length-numbers o u v _ numbers n g ∙ sym f in
     let full : length (numbers ++ replicate (16 - m) 0) ≡ 16 = omega (arith, length-append numbers (replicate (16 - m) 0), length-replicate {A = ℕ} (16 - m) 0) in
     let all : length (facing o u ++ flow o fetched) ≡ length (g.bits ++ facing o v) = ap length cut in
-    let few : length v < 8 =
+    let left : length v ≡ 8 * k - (n - length w % 8) =
     omega (arith, all, short, long, e, g.long, length-append (facing o u) (flow o fetched), length-facing o u, length-flow o fetched, length-append (g.bits) (facing o v), length-facing o v) in (
       record {
         bits = g.bits;
@@ -148,7 +148,7 @@ word_gathered o w u v t x n k m fetched numbers wide l short more e f long moved
         moved = moves_keep o w t (facing o u ++ flow o fetched) (g.bits) v x moved cut;
         worth = ap (λ s. from_le_bytes w128 (numbers ++ s)) rest ∙ little_sixteen (numbers ++ replicate (16 - m) 0) full ∙ little-filled numbers (16 - m) ∙ ap little (sym (g.worth));
       },
-      few,
+      left,
     )
 
 -- of bits that begin in the window and end in eight bytes that were at hand

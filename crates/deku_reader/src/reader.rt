@@ -348,6 +348,26 @@ impl<R: Source> Reader<R> {
         self.state.take_word(&mut self.source, amt, order)
     }
 
+    /// Reads the next `amt` bits as `read_word` does. Its code is shorter.
+    ///
+    /// The caller's condition: they are at most 64.
+    ///
+    /// ```text
+    /// reader.read_short_word(12, Order::Msb0)?; // from AB CD: 0xCAB
+    /// ```
+    #[inline(always)]
+    pub fn read_short_word(&mut self, amt: usize, order: Order) -> Result<u128, DekuError>
+        requires { amt ≤ 64 }
+        ensures reads { Reads R.known (ReadsWord order amt) self.old result self.new }
+        ensures fetched { OnOk result (Fetched R.known amt self.old self.new) }
+        ensures early { FetchedInTime self.old self.new }
+        ensures still { KeepsSourceFor amt self.old self.new }
+        ensures stopped { KeepsSourceStopped self.old self.new }
+        ensures alloc { self.new.alloc ≡ self.old.alloc }
+    {
+        self.state.take_short_word(&mut self.source, amt, order)
+    }
+
     /// Reads the next `amt` bits in `Msb0` as a number, of which the first bit is the highest. It
     /// does so only if no call on the source that can fail is needed: the bits are unread, or in
     /// memory as `Source::try_take` says.

@@ -57,6 +57,19 @@ impl Window {
         }
     }
 
+    /// Returns the same bits. The caller says how many there are, so that the compiler knows it
+    /// wherever the caller computes it from constants.
+    #[inline(always)]
+    pub fn counted(self, len: usize) -> Window
+        requires { len ≡ length self }
+        ensures { result ≡ self }
+    {
+        Window {
+            bits: self.bits,
+            len,
+        }
+    }
+
     /// How many bits are unread.
     pub fn len(&self) -> usize
         ensures value { result ≡ length self.now }

@@ -27,7 +27,7 @@ use crate::reader::progress::bits::bits_into;
 use crate::reader::progress::bytes::{bytes_into, bytes_onto};
 use crate::reader::progress::skips::{drop_bits, pass_bytes, pop_bits};
 use crate::reader::progress::tally::Tally;
-use crate::reader::progress::words::{try_read_msb, word_from};
+use crate::reader::progress::words::{short_word_from, try_read_msb, word_from};
 use deku_device::device::Source;
 use deku_stream::ctx::Order;
 use deku_stream::error::{DekuError, Fault, NeedSize};
@@ -182,6 +182,37 @@ impl ReaderState {
     {
         self.admits(amt)?;
         match word_from(source, &mut self.window, amt, order) {
+            Ok(word) => {
+                self.tally.add(amt);
+                Ok(word)
+            }
+            Err(kind) => {
+                let fault = fault_of_kind(kind, amt);
+                *self = ReaderState::stopped(fault, self.tally.count());
+                Err(fault.error())
+            }
+        }
+    }
+
+    /// Takes at most 64 bits as `take_word` does.
+    #[inline(always)]
+    pub fn take_short_word<R: Source>(
+        &mut self,
+        source: &mut R,
+        amt: usize,
+        order: Order,
+    ) -> Result<u128, DekuError>
+        requires { amt ≤ 64 }
+        ensures reads { ReadsAt (ReadsWord order amt) (R.known source.old) self.old result
+            (R.known source.new) self.new }
+        ensures fetched { OnOk result (FetchesFor amt self.old (R.known source.old)
+            (R.known source.new)) }
+        ensures early { NoneEarly self.old self.new }
+        ensures still { NeedsNone amt self.old → source.new ≡ source.old }
+        ensures stopped { Untouched self.old source.old source.new }
+    {
+        self.admits(amt)?;
+        match short_word_from(source, &mut self.window, amt, order) {
             Ok(word) => {
                 self.tally.add(amt);
                 Ok(word)

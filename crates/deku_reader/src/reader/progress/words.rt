@@ -1,6 +1,7 @@
 //! Words: at most 128 bits, each group of eight as a byte.
 
-ghost use Rattle.std.specs.Prelude.{◌≡◌, ◌≢◌, ◌+◌, ◌-◌, ◌*◌, ◌^◌, ◌<◌, ◌≤◌, ◌⊎◌, ◌∷◌, []};
+ghost use Rattle.std.specs.Prelude.{◌≡◌, ◌≢◌, ◌+◌, ◌-◌, ◌*◌, ◌^◌, ◌<◌, ◌≤◌};
+ghost use Rattle.std.specs.Prelude.{◌⊎◌, ◌∷◌, []};
 ghost use Rattle.std.specs.Prelude.{length, take, drop, OnOk, IfOk, IfErr, IfSome, IsNone};
 ghost use Rattle.deku_stream.specs.declared.ctx.Order.TheVariants.{Msb0, Lsb0};
 ghost use Rattle.deku_stream.specs.Bits.{bits_of, groups};
@@ -41,6 +42,33 @@ pub fn word_from<R: Source>(
     if count > 64 {
         return wide_from(source, window, count, order);
     }
+    short_word_from(source, window, count, order)
+}
+
+/// Takes at most 64 bits as `word_from` does. It is shorter, so that what it is inlined into stays
+/// short too.
+#[inline(always)]
+pub fn short_word_from<R: Source>(
+    source: &mut R,
+    window: &mut Window,
+    count: usize,
+    order: Order,
+) -> Result<u128, ErrorKind>
+    requires bound { length window.old ≤ 8 }
+    requires few { count ≤ 64 }
+    ensures short { OnOk result (0 < count → length window.new < 8) }
+    ensures none { OnOk result (count ≡ 0 → (window.new ≡ window.old)
+        × ((R.known source.new).remaining ≡ (R.known source.old).remaining)) }
+    ensures moved { IfOk result (λ word. MovesWord order window.old (R.known source.old).remaining
+        count word window.new (R.known source.new).remaining) }
+    ensures wanted { IfErr result (λ e. 0 < count) }
+    ensures ended { IfErr result (λ e. e ≡ ErrorKind.UnexpectedEof
+        → FewerBits count window.old (R.known source.old).remaining) }
+    ensures failed { IfErr result (λ e. e ≢ ErrorKind.UnexpectedEof
+        → DeviceFailed (R.known source.old).health (R.known source.new).health) }
+    ensures inside { count ≤ length window.old → source.new ≡ source.old }
+    ensures kept { DeviceKept (R.known source.old).health (R.known source.new).health }
+{
     match try_word(source, window, count, order) {
         Some(word) => Ok(word),
         None => word_fetched(source, window, count, order),
@@ -206,7 +234,8 @@ fn rest_from<R: Source>(
 
 // Takes more bits than the window has, by one transfer of the bytes that they need. It is inlined
 // with the transfer, and what else it calls takes values only, so that a source in memory and the
-// window stay in registers.
+// window stay in registers. How many bits are then unread is computed here, so that the compiler
+// knows it if it knows the widths.
 #[inline(always)]
 fn word_fetched<R: Source>(
     source: &mut R,
@@ -228,10 +257,11 @@ fn word_fetched<R: Source>(
 {
     let mut room = [0; 16];
     let behind = count - window.len() % 8;
-    match fetch_behind(source, window, &mut room[..behind.div_ceil(8)]) {
+    let needed = behind.div_ceil(8);
+    match fetch_behind(source, window, &mut room[..needed]) {
         Ok(()) => {
             let (bytes, rest) = gathered(room, window.copy(), count, order);
-            *window = rest;
+            *window = rest.counted(8 * needed - behind);
             Ok(u128::from_le_bytes(bytes))
         }
         Err(error) => Err(error.kind()),
