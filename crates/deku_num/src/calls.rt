@@ -3,7 +3,8 @@
 ghost use Rattle.std.specs.Prelude.{◌≡◌, ◌<◌, ◌≤◌, ◌%◌, ◌^◌, Bool, true, false, List, length, codes, pos, Ok, OnOk, IfOk, IfErr, IfSome, IsNone};
 ghost use Rattle.deku_bits.specs.declared.error.DekuError.TheVariants.{Parse, InvalidParam};
 ghost use Rattle.deku_bits.specs.Bits.{bits_of};
-ghost use Rattle.deku_bits.specs.ReaderCalls.{Reads, ReadsWord, TakesBits, Fetched, FetchedInTime, KeepsSourceStopped};
+ghost use Rattle.deku_bits.specs.ReaderCalls.{Reads, ReadsWord, TakesBits};
+ghost use Rattle.deku_bits.specs.ReaderCalls.{Fetched, FetchedInTime, KeepsSourceStopped};
 ghost use Rattle.deku_bits.specs.WriterCalls.{Writes, KeepsSinkStopped};
 ghost use Rattle.deku_num.specs.NumberLaws.{InType};
 ghost use Rattle.deku_num.specs.Numbers.{width, IsAllowed, IsFieldOf};
@@ -116,6 +117,7 @@ fn read_word<R: Source>(
     }
 }
 
+// Reads a word by a call.
 #[cold]
 #[inline(never)]
 fn read_long_word<R: Source>(

@@ -348,7 +348,8 @@ impl<R: Source> Reader<R> {
         self.state.take_word(&mut self.source, amt, order)
     }
 
-    /// Reads the next `amt` bits as `read_word` does. Its code is shorter.
+    /// Reads the next `amt` bits as their word, as `read_word` does, but in less code: for a call
+    /// that is inlined in many places.
     ///
     /// The caller's condition: they are at most 64.
     ///

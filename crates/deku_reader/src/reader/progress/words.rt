@@ -1,7 +1,7 @@
 //! Words: at most 128 bits, each group of eight as a byte.
 
-ghost use Rattle.std.specs.Prelude.{◌≡◌, ◌≢◌, ◌+◌, ◌-◌, ◌*◌, ◌^◌, ◌<◌, ◌≤◌};
-ghost use Rattle.std.specs.Prelude.{◌⊎◌, ◌∷◌, []};
+ghost use Rattle.std.specs.Prelude.{◌≡◌, ◌≢◌, ◌+◌, ◌-◌, ◌*◌, ◌^◌};
+ghost use Rattle.std.specs.Prelude.{◌<◌, ◌≤◌, ◌⊎◌, ◌∷◌, []};
 ghost use Rattle.std.specs.Prelude.{length, take, drop, OnOk, IfOk, IfErr, IfSome, IsNone};
 ghost use Rattle.deku_stream.specs.declared.ctx.Order.TheVariants.{Msb0, Lsb0};
 ghost use Rattle.deku_stream.specs.Bits.{bits_of, groups};
