@@ -10,6 +10,7 @@ pub use Rattle.deku_reading.proofs.Judging
 pub use Rattle.deku_reading.proofs.Counting
 pub use Rattle.deku_reading.proofs.Collecting
 pub use Rattle.deku_reading.proofs.Bytes
+pub use Rattle.deku_reading.proofs.OfBits
 pub mod Exact
 pub mod Endings
 pub mod Extending

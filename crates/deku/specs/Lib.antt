@@ -19,6 +19,7 @@ pub use Rattle.deku_num.specs.Contexts
 pub use Rattle.deku_num.specs.Sizes
 pub use Rattle.deku_writing.specs.Composing
 pub use Rattle.deku_meanings.specs.Shapes
+pub use Rattle.deku_reading.specs.Cutting
 pub use Rattle.deku_reading.specs.Early
 pub use Rattle.deku_reading.specs.Lists
 pub use Rattle.deku_reading.specs.Limits

@@ -212,11 +212,7 @@ impl Orders {
 type OrdersParts = (
     LsbBe<u16, 13>,
     LsbBe<u8, 3>,
-    u8,
-    Msb<bool, 1>,
-    Msb<bool, 1>,
-    Msb<bool, 1>,
-    Msb<u8, 5>,
+    (u8, Msb<bool, 1>, Msb<bool, 1>, Msb<bool, 1>, Msb<u8, 5>),
 );
 
 impl FromParts for Orders {
@@ -225,25 +221,21 @@ impl FromParts for Orders {
     ghost parts_of = { λ r. (
       lsb_be r.offset,
       lsb_be r.kind,
-      r.byte,
-      msb r.first,
-      msb r.second,
-      msb r.third,
-      msb r.rest,
+      (r.byte, msb r.first, msb r.second, msb r.third, msb r.rest),
     ) };
 
     ghost record_of = { λ p. record {
       offset = p.0.0;
       kind = p.1.0;
-      byte = p.2;
-      first = p.3.0;
-      second = p.4.0;
-      third = p.5.0;
-      rest = p.6.0;
+      byte = p.2.0;
+      first = p.2.1.0;
+      second = p.2.2.0;
+      third = p.2.3.0;
+      rest = p.2.4.0;
     } };
 
     fn from_parts(parts: Self::Parts) -> Self {
-        let (LsbBe(offset), LsbBe(kind), byte, Msb(first), Msb(second), Msb(third), Msb(rest)) =
+        let (LsbBe(offset), LsbBe(kind), (byte, Msb(first), Msb(second), Msb(third), Msb(rest))) =
             parts;
         Orders {
             offset,
@@ -264,11 +256,13 @@ impl ToParts for Orders {
         (
             LsbBe(self.offset),
             LsbBe(self.kind),
-            self.byte,
-            Msb(self.first),
-            Msb(self.second),
-            Msb(self.third),
-            Msb(self.rest),
+            (
+                self.byte,
+                Msb(self.first),
+                Msb(self.second),
+                Msb(self.third),
+                Msb(self.rest),
+            ),
         )
     }
 }

@@ -112,25 +112,15 @@ impl ElfHeaderBig {
 type ElfHeaderBigParts = (
     (
         Magic<Msb<u64, 48>, ElfHeaderBigMagic>,
-        u8,
-        u8,
-        u8,
+        (u8, u8, u8),
         [u8; 7],
-        Be<u16>,
-        Be<u16>,
-        Be<u32>,
+        (Be<u16>, Be<u16>, Be<u32>),
+        Be<u64>,
+        Be<u64>,
+        Be<u64>,
+        (Be<u32>, Be<u16>, Be<u16>),
     ),
-    (
-        Be<u64>,
-        Be<u64>,
-        Be<u64>,
-        Be<u32>,
-        Be<u16>,
-        Be<u16>,
-        Be<u16>,
-        Be<u16>,
-    ),
-    (Be<u16>, Be<u16>),
+    (Be<u16>, Be<u16>, Be<u16>, Be<u16>),
 );
 
 impl FromParts for ElfHeaderBig {
@@ -139,61 +129,50 @@ impl FromParts for ElfHeaderBig {
     ghost parts_of = { λ r. (
       (
         record { part = record {}; constant = record {} },
-        r.ident_version,
-        r.abi,
-        r.abi_version,
+        (r.ident_version, r.abi, r.abi_version),
         r.padding,
-        be r.kind,
-        be r.machine,
-        be r.version,
-      ),
-      (
+        (be r.kind, be r.machine, be r.version),
         be r.entry,
         be r.segments_at,
         be r.sections_at,
-        be r.flags,
-        be r.header_size,
-        be r.segment_size,
-        be r.segment_count,
-        be r.section_size,
+        (be r.flags, be r.header_size, be r.segment_size),
       ),
-      (be r.section_count, be r.names_section),
+      (be r.segment_count, be r.section_size, be r.section_count, be r.names_section),
     ) };
 
     ghost record_of = { λ p. record {
-      ident_version = p.0.1;
-      abi = p.0.2;
-      abi_version = p.0.3;
-      padding = p.0.4;
-      kind = p.0.5.0;
-      machine = p.0.6.0;
-      version = p.0.7.0;
-      entry = p.1.0.0;
-      segments_at = p.1.1.0;
-      sections_at = p.1.2.0;
-      flags = p.1.3.0;
-      header_size = p.1.4.0;
-      segment_size = p.1.5.0;
-      segment_count = p.1.6.0;
-      section_size = p.1.7.0;
-      section_count = p.2.0.0;
-      names_section = p.2.1.0;
+      ident_version = p.0.1.0;
+      abi = p.0.1.1;
+      abi_version = p.0.1.2;
+      padding = p.0.2;
+      kind = p.0.3.0.0;
+      machine = p.0.3.1.0;
+      version = p.0.3.2.0;
+      entry = p.0.4.0;
+      segments_at = p.0.5.0;
+      sections_at = p.0.6.0;
+      flags = p.0.7.0.0;
+      header_size = p.0.7.1.0;
+      segment_size = p.0.7.2.0;
+      segment_count = p.1.0.0;
+      section_size = p.1.1.0;
+      section_count = p.1.2.0;
+      names_section = p.1.3.0;
     } };
 
     fn from_parts(parts: Self::Parts) -> Self {
         let (
-            (_, ident_version, abi, abi_version, padding, Be(kind), Be(machine), Be(version)),
             (
+                _,
+                (ident_version, abi, abi_version),
+                padding,
+                (Be(kind), Be(machine), Be(version)),
                 Be(entry),
                 Be(segments_at),
                 Be(sections_at),
-                Be(flags),
-                Be(header_size),
-                Be(segment_size),
-                Be(segment_count),
-                Be(section_size),
+                (Be(flags), Be(header_size), Be(segment_size)),
             ),
-            (Be(section_count), Be(names_section)),
+            (Be(segment_count), Be(section_size), Be(section_count), Be(names_section)),
         ) = parts;
         ElfHeaderBig {
             ident_version,
@@ -224,25 +203,20 @@ impl ToParts for ElfHeaderBig {
         (
             (
                 Magic::new(),
-                self.ident_version,
-                self.abi,
-                self.abi_version,
+                (self.ident_version, self.abi, self.abi_version),
                 self.padding,
-                Be(self.kind),
-                Be(self.machine),
-                Be(self.version),
-            ),
-            (
+                (Be(self.kind), Be(self.machine), Be(self.version)),
                 Be(self.entry),
                 Be(self.segments_at),
                 Be(self.sections_at),
-                Be(self.flags),
-                Be(self.header_size),
-                Be(self.segment_size),
+                (Be(self.flags), Be(self.header_size), Be(self.segment_size)),
+            ),
+            (
                 Be(self.segment_count),
                 Be(self.section_size),
+                Be(self.section_count),
+                Be(self.names_section),
             ),
-            (Be(self.section_count), Be(self.names_section)),
         )
     }
 }
@@ -317,8 +291,7 @@ impl ElfSegmentBig {
 
 // The parts of ElfSegmentBig, in their order.
 type ElfSegmentBigParts = (
-    Be<u32>,
-    Be<u32>,
+    (Be<u32>, Be<u32>),
     Be<u64>,
     Be<u64>,
     Be<u64>,
@@ -331,8 +304,7 @@ impl FromParts for ElfSegmentBig {
     type Parts = ElfSegmentBigParts;
 
     ghost parts_of = { λ r. (
-      be r.kind,
-      be r.flags,
+      (be r.kind, be r.flags),
       be r.offset,
       be r.address,
       be r.physical,
@@ -342,20 +314,19 @@ impl FromParts for ElfSegmentBig {
     ) };
 
     ghost record_of = { λ p. record {
-      kind = p.0.0;
-      flags = p.1.0;
-      offset = p.2.0;
-      address = p.3.0;
-      physical = p.4.0;
-      file_size = p.5.0;
-      memory_size = p.6.0;
-      alignment = p.7.0;
+      kind = p.0.0.0;
+      flags = p.0.1.0;
+      offset = p.1.0;
+      address = p.2.0;
+      physical = p.3.0;
+      file_size = p.4.0;
+      memory_size = p.5.0;
+      alignment = p.6.0;
     } };
 
     fn from_parts(parts: Self::Parts) -> Self {
         let (
-            Be(kind),
-            Be(flags),
+            (Be(kind), Be(flags)),
             Be(offset),
             Be(address),
             Be(physical),
@@ -381,8 +352,7 @@ impl FromParts for ElfSegmentBig {
 impl ToParts for ElfSegmentBig {
     fn parts(&self) -> Self::Parts {
         (
-            Be(self.kind),
-            Be(self.flags),
+            (Be(self.kind), Be(self.flags)),
             Be(self.offset),
             Be(self.address),
             Be(self.physical),

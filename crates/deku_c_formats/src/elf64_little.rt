@@ -112,25 +112,24 @@ impl ElfHeaderLittle {
 type ElfHeaderLittleParts = (
     (
         Magic<Msb<u64, 48>, ElfHeaderLittleMagic>,
-        u8,
-        u8,
-        u8,
+        (u8, u8, u8),
         [u8; 7],
         Le<u16>,
         Le<u16>,
         Le<u32>,
+        Le<u64>,
+        Le<u64>,
     ),
     (
-        Le<u64>,
-        Le<u64>,
         Le<u64>,
         Le<u32>,
         Le<u16>,
         Le<u16>,
         Le<u16>,
         Le<u16>,
+        Le<u16>,
+        Le<u16>,
     ),
-    (Le<u16>, Le<u16>),
 );
 
 impl FromParts for ElfHeaderLittle {
@@ -139,80 +138,66 @@ impl FromParts for ElfHeaderLittle {
     ghost parts_of = { λ r. (
       (
         record { part = record {}; constant = record {} },
-        r.ident_version,
-        r.abi,
-        r.abi_version,
+        (r.ident_version, r.abi, r.abi_version),
         r.padding,
         le r.kind,
         le r.machine,
         le r.version,
-      ),
-      (
         le r.entry,
         le r.segments_at,
+      ),
+      (
         le r.sections_at,
         le r.flags,
         le r.header_size,
         le r.segment_size,
         le r.segment_count,
         le r.section_size,
+        le r.section_count,
+        le r.names_section,
       ),
-      (le r.section_count, le r.names_section),
     ) };
 
     ghost record_of = { λ p. record {
-      ident_version = p.0.1;
-      abi = p.0.2;
-      abi_version = p.0.3;
-      padding = p.0.4;
-      kind = p.0.5.0;
-      machine = p.0.6.0;
-      version = p.0.7.0;
-      entry = p.1.0.0;
-      segments_at = p.1.1.0;
-      sections_at = p.1.2.0;
-      flags = p.1.3.0;
-      header_size = p.1.4.0;
-      segment_size = p.1.5.0;
-      segment_count = p.1.6.0;
-      section_size = p.1.7.0;
-      section_count = p.2.0.0;
-      names_section = p.2.1.0;
+      ident_version = p.0.1.0;
+      abi = p.0.1.1;
+      abi_version = p.0.1.2;
+      padding = p.0.2;
+      kind = p.0.3.0;
+      machine = p.0.4.0;
+      version = p.0.5.0;
+      entry = p.0.6.0;
+      segments_at = p.0.7.0;
+      sections_at = p.1.0.0;
+      flags = p.1.1.0;
+      header_size = p.1.2.0;
+      segment_size = p.1.3.0;
+      segment_count = p.1.4.0;
+      section_size = p.1.5.0;
+      section_count = p.1.6.0;
+      names_section = p.1.7.0;
     } };
 
     fn from_parts(parts: Self::Parts) -> Self {
-        let (
-            (_, ident_version, abi, abi_version, padding, Le(kind), Le(machine), Le(version)),
-            (
-                Le(entry),
-                Le(segments_at),
-                Le(sections_at),
-                Le(flags),
-                Le(header_size),
-                Le(segment_size),
-                Le(segment_count),
-                Le(section_size),
-            ),
-            (Le(section_count), Le(names_section)),
-        ) = parts;
+        let padding = parts.0.2;
         ElfHeaderLittle {
-            ident_version,
-            abi,
-            abi_version,
+            ident_version: parts.0.1.0,
+            abi: parts.0.1.1,
+            abi_version: parts.0.1.2,
             padding,
-            kind,
-            machine,
-            version,
-            entry,
-            segments_at,
-            sections_at,
-            flags,
-            header_size,
-            segment_size,
-            segment_count,
-            section_size,
-            section_count,
-            names_section,
+            kind: parts.0.3.0,
+            machine: parts.0.4.0,
+            version: parts.0.5.0,
+            entry: parts.0.6.0,
+            segments_at: parts.0.7.0,
+            sections_at: parts.1.0.0,
+            flags: parts.1.1.0,
+            header_size: parts.1.2.0,
+            segment_size: parts.1.3.0,
+            segment_count: parts.1.4.0,
+            section_size: parts.1.5.0,
+            section_count: parts.1.6.0,
+            names_section: parts.1.7.0,
         }
     }
 
@@ -224,25 +209,24 @@ impl ToParts for ElfHeaderLittle {
         (
             (
                 Magic::new(),
-                self.ident_version,
-                self.abi,
-                self.abi_version,
+                (self.ident_version, self.abi, self.abi_version),
                 self.padding,
                 Le(self.kind),
                 Le(self.machine),
                 Le(self.version),
-            ),
-            (
                 Le(self.entry),
                 Le(self.segments_at),
+            ),
+            (
                 Le(self.sections_at),
                 Le(self.flags),
                 Le(self.header_size),
                 Le(self.segment_size),
                 Le(self.segment_count),
                 Le(self.section_size),
+                Le(self.section_count),
+                Le(self.names_section),
             ),
-            (Le(self.section_count), Le(self.names_section)),
         )
     }
 }

@@ -78,7 +78,8 @@ type DnsHeaderParts = (
         Msb<u8, 1>,
         Msb<u8, 3>,
     ),
-    (Msb<u8, 4>, Be<u16>, Be<u16>, Be<u16>, Be<u16>),
+    (Msb<u8, 4>, Be<u16>, Be<u16>, Be<u16>),
+    Be<u16>,
 );
 
 impl FromParts for DnsHeader {
@@ -95,7 +96,8 @@ impl FromParts for DnsHeader {
         msb r.recursion_available,
         msb r.reserved,
       ),
-      (msb r.response_code, be r.questions, be r.answers, be r.authorities, be r.additionals),
+      (msb r.response_code, be r.questions, be r.answers, be r.authorities),
+      be r.additionals,
     ) };
 
     ghost record_of = { λ p. record {
@@ -111,7 +113,7 @@ impl FromParts for DnsHeader {
       questions = p.1.1.0;
       answers = p.1.2.0;
       authorities = p.1.3.0;
-      additionals = p.1.4.0;
+      additionals = p.2.0;
     } };
 
     fn from_parts(parts: Self::Parts) -> Self {
@@ -126,7 +128,8 @@ impl FromParts for DnsHeader {
                 Msb(recursion_available),
                 Msb(reserved),
             ),
-            (Msb(response_code), Be(questions), Be(answers), Be(authorities), Be(additionals)),
+            (Msb(response_code), Be(questions), Be(answers), Be(authorities)),
+            Be(additionals),
         ) = parts;
         DnsHeader {
             identification,
@@ -166,8 +169,8 @@ impl ToParts for DnsHeader {
                 Be(self.questions),
                 Be(self.answers),
                 Be(self.authorities),
-                Be(self.additionals),
             ),
+            Be(self.additionals),
         )
     }
 }

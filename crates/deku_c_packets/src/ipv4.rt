@@ -93,8 +93,8 @@ impl Ipv4 {
 
 // The parts of Ipv4, in their order.
 type Ipv4Parts = (
+    Assert<Msb<u8, 4>, Ipv4VersionValue>,
     (
-        Assert<Msb<u8, 4>, Ipv4VersionValue>,
         Msb<u8, 4>,
         Msb<u8, 6>,
         Msb<u8, 2>,
@@ -103,15 +103,16 @@ type Ipv4Parts = (
         Msb<u8, 3>,
         Msb<u16, 13>,
     ),
-    (u8, u8, Be<u16>, Be<u32>, Be<u32>),
+    (u8, u8, Be<u16>, Be<u32>),
+    Be<u32>,
 );
 
 impl FromParts for Ipv4 {
     type Parts = Ipv4Parts;
 
     ghost parts_of = { λ r. (
+      record { part = msb r.version; check = record {} },
       (
-        record { part = msb r.version; check = record {} },
         msb r.words,
         msb r.service,
         msb r.congestion,
@@ -120,32 +121,33 @@ impl FromParts for Ipv4 {
         msb r.flags,
         msb r.fragment_offset,
       ),
-      (r.time_to_live, r.protocol, be r.checksum, be r.source, be r.destination),
+      (r.time_to_live, r.protocol, be r.checksum, be r.source),
+      be r.destination,
     ) };
 
     ghost record_of = { λ p. record {
-      version = p.0.0.part.0;
-      words = p.0.1.0;
-      service = p.0.2.0;
-      congestion = p.0.3.0;
-      total_length = p.0.4.0;
-      identification = p.0.5.0;
-      flags = p.0.6.0;
-      fragment_offset = p.0.7.0;
-      time_to_live = p.1.0;
-      protocol = p.1.1;
-      checksum = p.1.2.0;
-      source = p.1.3.0;
-      destination = p.1.4.0;
+      version = p.0.part.0;
+      words = p.1.0.0;
+      service = p.1.1.0;
+      congestion = p.1.2.0;
+      total_length = p.1.3.0;
+      identification = p.1.4.0;
+      flags = p.1.5.0;
+      fragment_offset = p.1.6.0;
+      time_to_live = p.2.0;
+      protocol = p.2.1;
+      checksum = p.2.2.0;
+      source = p.2.3.0;
+      destination = p.3.0;
     } };
 
     fn from_parts(parts: Self::Parts) -> Self {
         let (
+            Assert {
+                part: Msb(version),
+                ..
+            },
             (
-                Assert {
-                    part: Msb(version),
-                    ..
-                },
                 Msb(words),
                 Msb(service),
                 Msb(congestion),
@@ -154,7 +156,8 @@ impl FromParts for Ipv4 {
                 Msb(flags),
                 Msb(fragment_offset),
             ),
-            (time_to_live, protocol, Be(checksum), Be(source), Be(destination)),
+            (time_to_live, protocol, Be(checksum), Be(source)),
+            Be(destination),
         ) = parts;
         Ipv4 {
             version,
@@ -179,8 +182,8 @@ impl FromParts for Ipv4 {
 impl ToParts for Ipv4 {
     fn parts(&self) -> Self::Parts {
         (
+            Assert::new(Msb(self.version)),
             (
-                Assert::new(Msb(self.version)),
                 Msb(self.words),
                 Msb(self.service),
                 Msb(self.congestion),
@@ -194,8 +197,8 @@ impl ToParts for Ipv4 {
                 self.protocol,
                 Be(self.checksum),
                 Be(self.source),
-                Be(self.destination),
             ),
+            Be(self.destination),
         )
     }
 }

@@ -79,11 +79,7 @@ impl Ipv6 {
 // The parts of Ipv6, in their order.
 type Ipv6Parts = (
     Assert<Msb<u8, 4>, Ipv6VersionValue>,
-    u8,
-    Msb<u32, 20>,
-    Be<u16>,
-    u8,
-    u8,
+    (u8, Msb<u32, 20>, Be<u16>, u8, u8),
     [u8; 16],
     [u8; 16],
 );
@@ -93,24 +89,20 @@ impl FromParts for Ipv6 {
 
     ghost parts_of = { λ r. (
       record { part = msb r.version; check = record {} },
-      r.traffic,
-      msb r.flow,
-      be r.length,
-      r.next,
-      r.hops,
+      (r.traffic, msb r.flow, be r.length, r.next, r.hops),
       r.source,
       r.destination,
     ) };
 
     ghost record_of = { λ p. record {
       version = p.0.part.0;
-      traffic = p.1;
-      flow = p.2.0;
-      length = p.3.0;
-      next = p.4;
-      hops = p.5;
-      source = p.6;
-      destination = p.7;
+      traffic = p.1.0;
+      flow = p.1.1.0;
+      length = p.1.2.0;
+      next = p.1.3;
+      hops = p.1.4;
+      source = p.2;
+      destination = p.3;
     } };
 
     fn from_parts(parts: Self::Parts) -> Self {
@@ -119,11 +111,7 @@ impl FromParts for Ipv6 {
                 part: Msb(version),
                 ..
             },
-            traffic,
-            Msb(flow),
-            Be(length),
-            next,
-            hops,
+            (traffic, Msb(flow), Be(length), next, hops),
             source,
             destination,
         ) = parts;
@@ -146,11 +134,13 @@ impl ToParts for Ipv6 {
     fn parts(&self) -> Self::Parts {
         (
             Assert::new(Msb(self.version)),
-            self.traffic,
-            Msb(self.flow),
-            Be(self.length),
-            self.next,
-            self.hops,
+            (
+                self.traffic,
+                Msb(self.flow),
+                Be(self.length),
+                self.next,
+                self.hops,
+            ),
             self.source,
             self.destination,
         )

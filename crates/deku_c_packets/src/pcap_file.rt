@@ -317,11 +317,9 @@ impl PcapHeaderBig {
 // The parts of PcapHeaderBig, in their order.
 type PcapHeaderBigParts = (
     Assert<Be<u32>, PcapHeaderBigMagicCheck>,
-    Be<u16>,
-    Be<u16>,
+    (Be<u16>, Be<u16>),
     Be<i32>,
-    Be<u32>,
-    Be<u32>,
+    (Be<u32>, Be<u32>),
     Be<u32>,
 );
 
@@ -330,22 +328,20 @@ impl FromParts for PcapHeaderBig {
 
     ghost parts_of = { λ r. (
       record { part = be r.magic; check = record {} },
-      be r.major,
-      be r.minor,
+      (be r.major, be r.minor),
       be r.zone,
-      be r.figures,
-      be r.longest,
+      (be r.figures, be r.longest),
       be r.network,
     ) };
 
     ghost record_of = { λ p. record {
       magic = p.0.part.0;
-      major = p.1.0;
-      minor = p.2.0;
-      zone = p.3.0;
-      figures = p.4.0;
-      longest = p.5.0;
-      network = p.6.0;
+      major = p.1.0.0;
+      minor = p.1.1.0;
+      zone = p.2.0;
+      figures = p.3.0.0;
+      longest = p.3.1.0;
+      network = p.4.0;
     } };
 
     fn from_parts(parts: Self::Parts) -> Self {
@@ -354,11 +350,9 @@ impl FromParts for PcapHeaderBig {
                 part: Be(magic),
                 ..
             },
-            Be(major),
-            Be(minor),
+            (Be(major), Be(minor)),
             Be(zone),
-            Be(figures),
-            Be(longest),
+            (Be(figures), Be(longest)),
             Be(network),
         ) = parts;
         PcapHeaderBig {
@@ -379,11 +373,9 @@ impl ToParts for PcapHeaderBig {
     fn parts(&self) -> Self::Parts {
         (
             Assert::new(Be(self.magic)),
-            Be(self.major),
-            Be(self.minor),
+            (Be(self.major), Be(self.minor)),
             Be(self.zone),
-            Be(self.figures),
-            Be(self.longest),
+            (Be(self.figures), Be(self.longest)),
             Be(self.network),
         )
     }
@@ -441,21 +433,21 @@ impl PcapPacketBig {
 }
 
 // The parts of PcapPacketBig, in their order.
-type PcapPacketBigParts = (Be<u32>, Be<u32>, Be<u32>, Be<u32>);
+type PcapPacketBigParts = ((Be<u32>, Be<u32>), (Be<u32>, Be<u32>));
 
 impl FromParts for PcapPacketBig {
     type Parts = PcapPacketBigParts;
 
-    ghost parts_of = { λ r. (be r.seconds, be r.fraction, be r.kept, be r.whole) };
+    ghost parts_of = { λ r. ((be r.seconds, be r.fraction), (be r.kept, be r.whole)) };
 
     ghost record_of = { λ p. record {
-      seconds = p.0.0;
-      fraction = p.1.0;
-      kept = p.2.0;
-      whole = p.3.0;
+      seconds = p.0.0.0;
+      fraction = p.0.1.0;
+      kept = p.1.0.0;
+      whole = p.1.1.0;
     } };
 
-    fn from_parts((Be(seconds), Be(fraction), Be(kept), Be(whole)): Self::Parts) -> Self {
+    fn from_parts(((Be(seconds), Be(fraction)), (Be(kept), Be(whole))): Self::Parts) -> Self {
         PcapPacketBig {
             seconds,
             fraction,
@@ -470,10 +462,8 @@ impl FromParts for PcapPacketBig {
 impl ToParts for PcapPacketBig {
     fn parts(&self) -> Self::Parts {
         (
-            Be(self.seconds),
-            Be(self.fraction),
-            Be(self.kept),
-            Be(self.whole),
+            (Be(self.seconds), Be(self.fraction)),
+            (Be(self.kept), Be(self.whole)),
         )
     }
 }

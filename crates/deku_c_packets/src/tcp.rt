@@ -80,13 +80,14 @@ impl TcpHeader {
 
 // The parts of TcpHeader, in their order.
 type TcpHeaderParts = (
+    (Be<u16>, Be<u16>, Be<u32>),
     (
-        Be<u16>,
-        Be<u16>,
-        Be<u32>,
         Be<u32>,
         Msb<u8, 4>,
         Msb<u8, 4>,
+        Msb<bool, 1>,
+        Msb<bool, 1>,
+        Msb<bool, 1>,
         Msb<bool, 1>,
         Msb<bool, 1>,
     ),
@@ -94,76 +95,64 @@ type TcpHeaderParts = (
         Msb<bool, 1>,
         Msb<bool, 1>,
         Msb<bool, 1>,
-        Msb<bool, 1>,
-        Msb<bool, 1>,
-        Msb<bool, 1>,
+        Be<u16>,
         Be<u16>,
         Be<u16>,
     ),
-    Be<u16>,
 );
 
 impl FromParts for TcpHeader {
     type Parts = TcpHeaderParts;
 
     ghost parts_of = { λ r. (
+      (be r.source, be r.destination, be r.sequence),
       (
-        be r.source,
-        be r.destination,
-        be r.sequence,
         be r.acknowledgment,
         msb r.words,
         msb r.reserved,
         msb r.cwr,
         msb r.ece,
-      ),
-      (
         msb r.urg,
         msb r.ack,
         msb r.psh,
-        msb r.rst,
-        msb r.syn,
-        msb r.fin,
-        be r.window,
-        be r.checksum,
       ),
-      be r.urgent,
+      (msb r.rst, msb r.syn, msb r.fin, be r.window, be r.checksum, be r.urgent),
     ) };
 
     ghost record_of = { λ p. record {
       source = p.0.0.0;
       destination = p.0.1.0;
       sequence = p.0.2.0;
-      acknowledgment = p.0.3.0;
-      words = p.0.4.0;
-      reserved = p.0.5.0;
-      cwr = p.0.6.0;
-      ece = p.0.7.0;
-      urg = p.1.0.0;
-      ack = p.1.1.0;
-      psh = p.1.2.0;
-      rst = p.1.3.0;
-      syn = p.1.4.0;
-      fin = p.1.5.0;
-      window = p.1.6.0;
-      checksum = p.1.7.0;
-      urgent = p.2.0;
+      acknowledgment = p.1.0.0;
+      words = p.1.1.0;
+      reserved = p.1.2.0;
+      cwr = p.1.3.0;
+      ece = p.1.4.0;
+      urg = p.1.5.0;
+      ack = p.1.6.0;
+      psh = p.1.7.0;
+      rst = p.2.0.0;
+      syn = p.2.1.0;
+      fin = p.2.2.0;
+      window = p.2.3.0;
+      checksum = p.2.4.0;
+      urgent = p.2.5.0;
     } };
 
     fn from_parts(parts: Self::Parts) -> Self {
         let (
+            (Be(source), Be(destination), Be(sequence)),
             (
-                Be(source),
-                Be(destination),
-                Be(sequence),
                 Be(acknowledgment),
                 Msb(words),
                 Msb(reserved),
                 Msb(cwr),
                 Msb(ece),
+                Msb(urg),
+                Msb(ack),
+                Msb(psh),
             ),
-            (Msb(urg), Msb(ack), Msb(psh), Msb(rst), Msb(syn), Msb(fin), Be(window), Be(checksum)),
-            Be(urgent),
+            (Msb(rst), Msb(syn), Msb(fin), Be(window), Be(checksum), Be(urgent)),
         ) = parts;
         TcpHeader {
             source,
@@ -192,27 +181,25 @@ impl FromParts for TcpHeader {
 impl ToParts for TcpHeader {
     fn parts(&self) -> Self::Parts {
         (
+            (Be(self.source), Be(self.destination), Be(self.sequence)),
             (
-                Be(self.source),
-                Be(self.destination),
-                Be(self.sequence),
                 Be(self.acknowledgment),
                 Msb(self.words),
                 Msb(self.reserved),
                 Msb(self.cwr),
                 Msb(self.ece),
-            ),
-            (
                 Msb(self.urg),
                 Msb(self.ack),
                 Msb(self.psh),
+            ),
+            (
                 Msb(self.rst),
                 Msb(self.syn),
                 Msb(self.fin),
                 Be(self.window),
                 Be(self.checksum),
+                Be(self.urgent),
             ),
-            Be(self.urgent),
         )
     }
 }

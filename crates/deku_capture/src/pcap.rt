@@ -176,31 +176,29 @@ impl BigFields {
 }
 
 // The parts of BigFields, in their order.
-type BigFieldsParts = (Be<u16>, Be<u16>, Be<i32>, Be<u32>, Be<u32>, Be<u32>);
+type BigFieldsParts = ((Be<u16>, Be<u16>), Be<i32>, (Be<u32>, Be<u32>), Be<u32>);
 
 impl FromParts for BigFields {
     type Parts = BigFieldsParts;
 
     ghost parts_of = { λ r. (
-      be r.major,
-      be r.minor,
+      (be r.major, be r.minor),
       be r.zone,
-      be r.figures,
-      be r.longest,
+      (be r.figures, be r.longest),
       be r.network,
     ) };
 
     ghost record_of = { λ p. record {
-      major = p.0.0;
-      minor = p.1.0;
-      zone = p.2.0;
-      figures = p.3.0;
-      longest = p.4.0;
-      network = p.5.0;
+      major = p.0.0.0;
+      minor = p.0.1.0;
+      zone = p.1.0;
+      figures = p.2.0.0;
+      longest = p.2.1.0;
+      network = p.3.0;
     } };
 
     fn from_parts(parts: Self::Parts) -> Self {
-        let (Be(major), Be(minor), Be(zone), Be(figures), Be(longest), Be(network)) = parts;
+        let ((Be(major), Be(minor)), Be(zone), (Be(figures), Be(longest)), Be(network)) = parts;
         BigFields {
             major,
             minor,
@@ -217,11 +215,9 @@ impl FromParts for BigFields {
 impl ToParts for BigFields {
     fn parts(&self) -> Self::Parts {
         (
-            Be(self.major),
-            Be(self.minor),
+            (Be(self.major), Be(self.minor)),
             Be(self.zone),
-            Be(self.figures),
-            Be(self.longest),
+            (Be(self.figures), Be(self.longest)),
             Be(self.network),
         )
     }
@@ -386,21 +382,21 @@ impl BigPacket {
 }
 
 // The parts of BigPacket, in their order.
-type BigPacketParts = (Be<u32>, Be<u32>, Be<u32>, Be<u32>);
+type BigPacketParts = ((Be<u32>, Be<u32>), (Be<u32>, Be<u32>));
 
 impl FromParts for BigPacket {
     type Parts = BigPacketParts;
 
-    ghost parts_of = { λ r. (be r.seconds, be r.fraction, be r.kept, be r.whole) };
+    ghost parts_of = { λ r. ((be r.seconds, be r.fraction), (be r.kept, be r.whole)) };
 
     ghost record_of = { λ p. record {
-      seconds = p.0.0;
-      fraction = p.1.0;
-      kept = p.2.0;
-      whole = p.3.0;
+      seconds = p.0.0.0;
+      fraction = p.0.1.0;
+      kept = p.1.0.0;
+      whole = p.1.1.0;
     } };
 
-    fn from_parts((Be(seconds), Be(fraction), Be(kept), Be(whole)): Self::Parts) -> Self {
+    fn from_parts(((Be(seconds), Be(fraction)), (Be(kept), Be(whole))): Self::Parts) -> Self {
         BigPacket {
             seconds,
             fraction,
@@ -415,10 +411,8 @@ impl FromParts for BigPacket {
 impl ToParts for BigPacket {
     fn parts(&self) -> Self::Parts {
         (
-            Be(self.seconds),
-            Be(self.fraction),
-            Be(self.kept),
-            Be(self.whole),
+            (Be(self.seconds), Be(self.fraction)),
+            (Be(self.kept), Be(self.whole)),
         )
     }
 }

@@ -229,20 +229,19 @@ impl Entry {
 }
 
 // The parts of Entry, in their order.
-type EntryParts = (Magic<u8, EntryMagic>, Msb<bool, 1>, Msb<u16, 15>);
+type EntryParts = (Magic<u8, EntryMagic>, (Msb<bool, 1>, Msb<u16, 15>));
 
 impl FromParts for Entry {
     type Parts = EntryParts;
 
     ghost parts_of = { λ r. (
       record { part = record {}; constant = record {} },
-      msb r.more,
-      msb r.key,
+      (msb r.more, msb r.key),
     ) };
 
-    ghost record_of = { λ p. record { more = p.1.0; key = p.2.0 } };
+    ghost record_of = { λ p. record { more = p.1.0.0; key = p.1.1.0 } };
 
-    fn from_parts((_, Msb(more), Msb(key)): Self::Parts) -> Self {
+    fn from_parts((_, (Msb(more), Msb(key))): Self::Parts) -> Self {
         Entry { more, key }
     }
 
@@ -251,7 +250,7 @@ impl FromParts for Entry {
 
 impl ToParts for Entry {
     fn parts(&self) -> Self::Parts {
-        (Magic::new(), Msb(self.more), Msb(self.key))
+        (Magic::new(), (Msb(self.more), Msb(self.key)))
     }
 }
 

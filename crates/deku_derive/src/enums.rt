@@ -1,6 +1,6 @@
 //! Enums, as they are printed.
 
-use crate::structs::{derives, docs, item, parts_alias, term_of, traits, value_of};
+use crate::structs::{derives, docs, is_array, item, parts_alias, term_of, traits, value_of};
 use deku_attributes::model::{Case, Endian, Id, IdSource, Ids, Order, Record};
 use deku_dependents::building::field_name;
 use deku_description::syntax::Shape;
@@ -631,7 +631,7 @@ fn own<'a>(
         let name = field_name(arena, field, i)?;
         items.push(Text::of(if is_made {
             let parts = match (kind.kept, i) {
-                (Some(_), _) if kind.part.is_lent => None,
+                (Some(_), _) if is_taken_apart(kind) => None,
                 (Some(_), 0) => Some("kept.id"),
                 (Some(_), _) => Some("kept.value"),
                 (None, _) => None,
@@ -648,6 +648,12 @@ fn own<'a>(
     of_shape(arena, path, of.shape, Form::Brace, items)
 }
 
+// Whether a pattern takes a kind apart down to its fields: memory and arrays cannot be moved out of
+// it by paths.
+fn is_taken_apart(kind: &Built<'_>) -> bool {
+    kind.part.is_lent || kind.case.fields.iter().any(is_array)
+}
+
 // The value of the kinds that a kind of the enum stands for, of what its fields are.
 fn stood<'a>(
     arena: &'a Arena,
@@ -658,7 +664,7 @@ fn stood<'a>(
 ) -> Result<Text<'a>, AllocError> {
     let text = match (kind.kept, form) {
         (None, _) => Text::one(arena, form, "Kind(", value)?,
-        (Some(kept), Form::Pattern) if kind.part.is_lent => {
+        (Some(kept), Form::Pattern) if is_taken_apart(kind) => {
             in_range(arena, field(arena, "id", kept)?, value)?
         }
         (Some(_), Form::Pattern) => Text::of("kept"),

@@ -6,7 +6,7 @@ use deku_attributes::given::chosen;
 use deku_attributes::model::{Field, Record};
 use deku_dependents::building::field_name;
 use deku_dependents::temporary::is_temporary;
-use deku_description::syntax::Shape;
+use deku_description::syntax::{Shape, Type};
 use deku_markers::part::{Owner, Part};
 use deku_texts::document::{Form, Text, joined};
 use deku_texts::template::fill;
@@ -271,13 +271,38 @@ fn from_parts<'a>(
     taken(&mut text, whole.texts.pattern)?;
     made(arena, record, shape, fields, whole, None)?.print(&mut text, 8, 0, false)?;
     if !whole.is_lent && text.as_str().lines().count() > LINES {
-        text = String::from_str(
-            arena.alloc(),
-            "    fn from_parts(parts: Self::Parts) -> Self {\n        ",
-        )?;
-        made(arena, record, shape, fields, whole, Some("parts"))?.print(&mut text, 8, 0, false)?;
+        text = by_paths(arena, record, shape, fields, whole)?;
     }
     fill(out, FROM_PARTS, &[("made", text.as_str())])
+}
+
+// The function that makes a record of its parts by paths. Arrays are bound to locals first: the
+// borrow checker takes no array straight from a path into a record.
+fn by_paths<'a>(
+    arena: &'a Arena,
+    record: &Record<'a>,
+    shape: Shape,
+    fields: &[Field<'a>],
+    whole: Part<'a>,
+) -> Result<String, AllocError> {
+    let mut text = String::from_str(
+        arena.alloc(),
+        "    fn from_parts(parts: Self::Parts) -> Self {\n        ",
+    )?;
+    for (i, field) in fields.iter().enumerate() {
+        if is_array(field) && !is_temporary(field) {
+            let name = field_name(arena, field, i)?;
+            let value = term_of(arena, whole, name, "parts")?;
+            write!(text, "let {name} = {value};\n        ")?;
+        }
+    }
+    made(arena, record, shape, fields, whole, Some("parts"))?.print(&mut text, 8, 0, false)?;
+    Ok(text)
+}
+
+/// Whether a field is an array.
+pub(crate) fn is_array(field: &Field<'_>) -> bool {
+    matches!(field.kind, Type::Array(_, _))
 }
 
 // Appends the parameter of the function that takes parts apart, up to its value.
@@ -376,6 +401,7 @@ fn made<'a>(
             continue;
         }
         let name = field_name(arena, field, i)?;
+        let parts = if is_array(field) { None } else { parts };
         let value = value_of(arena, whole, name, parts)?;
         let value = match chosen(field) {
             Some(kind) => arena.print(format_args!("{kind}::from_parts({value})"))?,

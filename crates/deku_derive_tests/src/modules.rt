@@ -47,23 +47,23 @@ impl Udp {
 }
 
 // The parts of Udp, in their order.
-type UdpParts = (Be<u16>, Be<u16>, Msb<u8, 4>, Msb<u8, 4>, [u8; 2]);
+type UdpParts = ((Be<u16>, Be<u16>, Msb<u8, 4>, Msb<u8, 4>), [u8; 2]);
 
 impl FromParts for Udp {
     type Parts = UdpParts;
 
-    ghost parts_of = { λ r. (be r.source, be r.destination, msb r.kind, msb r.flags, r.tail) };
+    ghost parts_of = { λ r. ((be r.source, be r.destination, msb r.kind, msb r.flags), r.tail) };
 
     ghost record_of = { λ p. record {
-      source = p.0.0;
-      destination = p.1.0;
-      kind = p.2.0;
-      flags = p.3.0;
-      tail = p.4;
+      source = p.0.0.0;
+      destination = p.0.1.0;
+      kind = p.0.2.0;
+      flags = p.0.3.0;
+      tail = p.1;
     } };
 
     fn from_parts(parts: Self::Parts) -> Self {
-        let (Be(source), Be(destination), Msb(kind), Msb(flags), tail) = parts;
+        let ((Be(source), Be(destination), Msb(kind), Msb(flags)), tail) = parts;
         Udp {
             source,
             destination,
@@ -79,10 +79,12 @@ impl FromParts for Udp {
 impl ToParts for Udp {
     fn parts(&self) -> Self::Parts {
         (
-            Be(self.source),
-            Be(self.destination),
-            Msb(self.kind),
-            Msb(self.flags),
+            (
+                Be(self.source),
+                Be(self.destination),
+                Msb(self.kind),
+                Msb(self.flags),
+            ),
             self.tail,
         )
     }
@@ -319,9 +321,9 @@ fn plain_records_are_printed(rt: HostRuntime) -> Result<(), Fail> {
     Ok(())
 }
 
-// Descriptions of lists that end with an item and of tuples of one, and texts that their modules
-// have.
-const TEXTS: [(&str, &str); 9] = [
+// Descriptions of lists that end with an item, of tuples of one, and of arrays in long records and
+// in kinds of several ids, and texts that their modules have.
+const TEXTS: [(&str, &str); 11] = [
     (
         "struct A { n: u8, #[deku(until = \"|byte: &u8| *byte == 0\")] name: Vec<u8>, m: u8 }",
         "
@@ -437,12 +439,37 @@ pub struct A {
 type AParts = (Be<(u16,)>, Be<u16>);
 ",
     ),
+    (
+        "#[deku(endian = \"little\")]
+         struct A { a: u16, b: u16, c: u16, d: u16, e: u16, f: u16, g: u16, h: u16, i: u16, j: u16,
+         k: u16, l: u16, m: u16, n: u16, o: u16, p: u16, q: u16, r: u16, s: u16, t: u16, u: u16,
+         v: u16, w: u16, x: u16, y: u16, z: u16, tail: [u8; 3], last: u16, end: u16, over: u16 }",
+        "
+    fn from_parts(parts: Self::Parts) -> Self {
+        let tail = parts.3.2;
+        A {
+            a: parts.0.0.0,
+",
+    ),
+    (
+        "#[deku(id_type = \"u8\", endian = \"big\")]
+         enum A { #[deku(id_pat = \"2..=9\")] B { id: u8, a: u16, b: [u16; 2] },
+         #[deku(id_pat = \"_\")] C(u8) }",
+        "
+            Either::This(
+                InRange {
+                    id,
+                    value: (Be(a), Be(b)),
+                },
+            ) => A::B { id, a, b },
+",
+    ),
 ];
 
 #[test]
 fn texts_are_printed(rt: HostRuntime) -> Result<(), Fail> {
     for (text, part) in &TEXTS {
-        match make(rt.alloc(), "a.rs", None, text)? {
+        match make(rt.alloc(), "a.rs", Some("samples.a"), text)? {
             Made::Module(printed) => assert!(rt; printed.as_str().contains(*part), "of {text}"),
             Made::Wrong(told) => assert_eq!(rt; told.as_str(), "", "of {text}"),
         }

@@ -45,7 +45,12 @@ impl Position {
 }
 
 // The parts of Position, in their order.
-type PositionParts = (Be<i32>, Be<i32>, Be<i16>, Be<u16>, Msb<u16, 9>, Msb<u8, 7>);
+type PositionParts = (
+    Be<i32>,
+    Be<i32>,
+    Be<i16>,
+    (Be<u16>, Msb<u16, 9>, Msb<u8, 7>),
+);
 
 impl FromParts for Position {
     type Parts = PositionParts;
@@ -54,22 +59,21 @@ impl FromParts for Position {
       be r.latitude,
       be r.longitude,
       be r.height,
-      be r.speed,
-      msb r.course,
-      msb r.quality,
+      (be r.speed, msb r.course, msb r.quality),
     ) };
 
     ghost record_of = { λ p. record {
       latitude = p.0.0;
       longitude = p.1.0;
       height = p.2.0;
-      speed = p.3.0;
-      course = p.4.0;
-      quality = p.5.0;
+      speed = p.3.0.0;
+      course = p.3.1.0;
+      quality = p.3.2.0;
     } };
 
     fn from_parts(parts: Self::Parts) -> Self {
-        let (Be(latitude), Be(longitude), Be(height), Be(speed), Msb(course), Msb(quality)) = parts;
+        let (Be(latitude), Be(longitude), Be(height), (Be(speed), Msb(course), Msb(quality))) =
+            parts;
         Position {
             latitude,
             longitude,
@@ -89,9 +93,7 @@ impl ToParts for Position {
             Be(self.latitude),
             Be(self.longitude),
             Be(self.height),
-            Be(self.speed),
-            Msb(self.course),
-            Msb(self.quality),
+            (Be(self.speed), Msb(self.course), Msb(self.quality)),
         )
     }
 }

@@ -59,11 +59,9 @@ pub struct Gre {
 type GreChecksumHead = (
     Msb<bool, 1>,
     Magic<Msb<u64, 1>, Zeros>,
-    Msb<bool, 1>,
-    Msb<bool, 1>,
+    (Msb<bool, 1>, Msb<bool, 1>),
     Magic<Msb<u64, 9>, Zeros>,
-    Msb<u8, 3>,
-    Be<u16>,
+    (Msb<u8, 3>, Be<u16>),
 );
 
 /// Whether `checksum` is there: `has_checksum`.
@@ -91,23 +89,23 @@ type GreKeyLent<'a> = OptionalRef<'a, GreChecksumHead, GreChecksumCondition, Be<
 pub struct GreKeyCondition;
 
 impl Condition<GreKeyHead> for GreKeyCondition {
-    ghost shows = { λ p. p.head.2.0 };
+    ghost shows = { λ p. p.head.2.0.0 };
 
     fn shows(parts: &GreKeyHead) -> bool {
-        parts.head.2.0
+        parts.head.2.0.0
     }
 }
 
 impl<'a> Condition<GreKeyLent<'a>> for GreKeyCondition {
-    ghost shows = { λ p. p.head.2.0 };
+    ghost shows = { λ p. p.head.2.0.0 };
 
     fn shows(parts: &GreKeyLent<'a>) -> bool {
-        parts.head.2.0
+        parts.head.2.0.0
     }
 }
 
 impl ConditionLaw<GreKeyHead> for GreKeyCondition {
-    ghost alike = { λ v w e. rw e.0.1.1.0 refl };
+    ghost alike = { λ v w e. rw e.0.1.1.0.0 refl };
 }
 
 type GreSequenceHead = Optional<GreKeyHead, GreKeyCondition, Be<u32>>;
@@ -119,23 +117,23 @@ type GreSequenceLent<'a> = OptionalRef<'a, GreKeyLent<'a>, GreKeyCondition, Be<u
 pub struct GreSequenceCondition;
 
 impl Condition<GreSequenceHead> for GreSequenceCondition {
-    ghost shows = { λ p. p.head.head.3.0 };
+    ghost shows = { λ p. p.head.head.2.1.0 };
 
     fn shows(parts: &GreSequenceHead) -> bool {
-        parts.head.head.3.0
+        parts.head.head.2.1.0
     }
 }
 
 impl<'a> Condition<GreSequenceLent<'a>> for GreSequenceCondition {
-    ghost shows = { λ p. p.head.head.3.0 };
+    ghost shows = { λ p. p.head.head.2.1.0 };
 
     fn shows(parts: &GreSequenceLent<'a>) -> bool {
-        parts.head.head.3.0
+        parts.head.head.2.1.0
     }
 }
 
 impl ConditionLaw<GreSequenceHead> for GreSequenceCondition {
-    ghost alike = { λ v w e. rw e.0.0.1.1.1.0 refl };
+    ghost alike = { λ v w e. rw e.0.0.1.1.0.1 refl };
 }
 
 impl Gre {
@@ -166,11 +164,9 @@ impl FromParts for Gre {
           head = (
             msb r.has_checksum,
             record { part = record {}; constant = record {} },
-            msb r.has_key,
-            msb r.has_sequence,
+            (msb r.has_key, msb r.has_sequence),
             record { part = record {}; constant = record {} },
-            msb r.version,
-            be r.protocol,
+            (msb r.version, be r.protocol),
           );
           item = r.checksum;
           condition = record {};
@@ -184,10 +180,10 @@ impl FromParts for Gre {
 
     ghost record_of = { λ p. record {
       has_checksum = p.head.head.head.0.0;
-      has_key = p.head.head.head.2.0;
-      has_sequence = p.head.head.head.3.0;
-      version = p.head.head.head.5.0;
-      protocol = p.head.head.head.6.0;
+      has_key = p.head.head.head.2.0.0;
+      has_sequence = p.head.head.head.2.1.0;
+      version = p.head.head.head.4.0.0;
+      protocol = p.head.head.head.4.1.0;
       checksum = p.head.head.item;
       key = p.head.item;
       sequence = p.item;
@@ -200,11 +196,9 @@ impl FromParts for Gre {
                     head: (
                         Msb(has_checksum),
                         _,
-                        Msb(has_key),
-                        Msb(has_sequence),
+                        (Msb(has_key), Msb(has_sequence)),
                         _,
-                        Msb(version),
-                        Be(protocol),
+                        (Msb(version), Be(protocol)),
                     ),
                     item: checksum,
                     ..
@@ -257,14 +251,12 @@ impl DekuWriter<()> for Gre {
                             part: PhantomData,
                             constant: PhantomData,
                         },
-                        Msb::<_, 1>(self.has_key),
-                        Msb::<_, 1>(self.has_sequence),
+                        (Msb::<_, 1>(self.has_key), Msb::<_, 1>(self.has_sequence)),
                         Magic::<Msb<u64, 9>, Zeros> {
                             part: PhantomData,
                             constant: PhantomData,
                         },
-                        Msb::<_, 3>(self.version),
-                        Be(self.protocol),
+                        (Msb::<_, 3>(self.version), Be(self.protocol)),
                     ),
                     item: &self.checksum,
                     condition: PhantomData,

@@ -376,14 +376,12 @@ impl CountOfLaw<u8> for LateValuesCount {
 }
 
 type LateTimeHead = (
-    Msb<u8, 7>,
-    Msb<bool, 1>,
+    (Msb<u8, 7>, Msb<bool, 1>),
     CountedBy<u8, LateValuesCount, Be<i16>>,
 );
 
 type LateTimeLent<'a> = (
-    Msb<u8, 7>,
-    Msb<bool, 1>,
+    (Msb<u8, 7>, Msb<bool, 1>),
     CountedByRef<'a, u8, LateValuesCount, Be<i16>>,
 );
 
@@ -392,23 +390,23 @@ type LateTimeLent<'a> = (
 pub struct LateTimeCondition;
 
 impl Condition<LateTimeHead> for LateTimeCondition {
-    ghost shows = { λ p. p.1.0 };
+    ghost shows = { λ p. p.0.1.0 };
 
     fn shows(parts: &LateTimeHead) -> bool {
-        parts.1.0
+        parts.0.1.0
     }
 }
 
 impl<'a> Condition<LateTimeLent<'a>> for LateTimeCondition {
-    ghost shows = { λ p. p.1.0 };
+    ghost shows = { λ p. p.0.1.0 };
 
     fn shows(parts: &LateTimeLent<'a>) -> bool {
-        parts.1.0
+        parts.0.1.0
     }
 }
 
 impl ConditionLaw<LateTimeHead> for LateTimeCondition {
-    ghost alike = { λ v w e. rw e.1.0 refl };
+    ghost alike = { λ v w e. rw e.0.1 refl };
 }
 
 impl Late {
@@ -424,8 +422,7 @@ impl FromParts for Late {
 
     ghost parts_of = { λ r. record {
       head = (
-        msb r.sensor,
-        msb r.has_time,
+        (msb r.sensor, msb r.has_time),
         record { head = r.count; items = r.values; count = record {} },
       );
       item = r.time;
@@ -433,18 +430,17 @@ impl FromParts for Late {
     } };
 
     ghost record_of = { λ p. record {
-      sensor = p.head.0.0;
-      has_time = p.head.1.0;
-      count = p.head.2.head;
-      values = p.head.2.items;
+      sensor = p.head.0.0.0;
+      has_time = p.head.0.1.0;
+      count = p.head.1.head;
+      values = p.head.1.items;
       time = p.item;
     } };
 
     fn from_parts(parts: Self::Parts) -> Self {
         let Optional {
             head: (
-                Msb(sensor),
-                Msb(has_time),
+                (Msb(sensor), Msb(has_time)),
                 CountedBy {
                     head: count,
                     items: values,
@@ -486,8 +482,7 @@ impl DekuWriter<()> for Late {
     fn to_writer<W: Sink>(&self, writer: &mut Writer<W>, ctx: ()) -> Result<(), DekuError> {
         let parts = OptionalRef::<_, LateTimeCondition, _> {
             head: (
-                Msb::<_, 7>(self.sensor),
-                Msb::<_, 1>(self.has_time),
+                (Msb::<_, 7>(self.sensor), Msb::<_, 1>(self.has_time)),
                 CountedByRef::<_, LateValuesCount, _> {
                     head: self.count,
                     items: &self.values,

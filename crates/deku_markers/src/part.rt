@@ -6,12 +6,15 @@ use deku_attributes::model::Field;
 use deku_texts::document::{Form, Text, joined};
 use deku_texts::records::Records;
 use deku_texts::words::quoted;
-use deku_texts::wrapping::{Wrapping, count_of, has_sign, number_kind, wrapping_of};
+use deku_texts::wrapping::{Wrapping, count_of, has_sign, number_bits, number_kind, wrapping_of};
 use deku_tokens::arena::Arena;
 use std::alloc::AllocError;
 
 /// How many items a tuple has at most. Of more there are tuples of these.
 pub const GROUP: usize = 8;
+
+// How many bits a tuple reads as one word, at most.
+const WORD: u64 = 64;
 
 /// A part, or several that are one.
 #[derive(Clone, Copy)]
@@ -20,6 +23,8 @@ pub struct Part<'a> {
     pub texts: Texts<'a>,
     /// Whether memory is lent.
     pub is_lent: bool,
+    /// How many bits it has, if a tuple can read it with its neighbours as one word. Otherwise 0.
+    pub number_bits: u64,
     /// Its fields.
     pub fields: Fields<'a>,
 }
@@ -228,6 +233,7 @@ pub fn leaf<'a>(
     let part = Part {
         texts: Texts::leaf(arena, field, named, is_lent)?,
         is_lent,
+        number_bits: number_bits(field),
         fields: leaf_fields(arena, field, named.name)?,
     };
     let wrapping = wrapping_of(field);
@@ -269,20 +275,52 @@ fn within_one<'a>(
     Ok(Part {
         texts: part.texts.wrapped(arena, wrapping, named)?,
         is_lent: part.is_lent,
+        number_bits: part.number_bits,
         fields: part.fields.within(arena, ".0", "")?,
     })
 }
 
-/// Parts as one: a tuple, or the part itself if it is alone.
+/// Parts as one: a tuple, or the part itself if it is alone. Beside other parts, numbers in a row
+/// are a tuple of their own, as long as their bits make one word.
 pub fn tuple<'a>(arena: &'a Arena, parts: &[Part<'a>]) -> Result<Part<'a>, AllocError> {
-    if parts.len() <= GROUP {
+    let rows = in_rows(arena, parts)?;
+    if rows.len() == 1 {
         return one_tuple(arena, parts);
     }
+    if rows.len() <= GROUP {
+        return one_tuple(arena, rows.as_slice());
+    }
     let mut groups = Vec::new(arena.alloc());
-    for group in parts.chunks(GROUP) {
+    for group in rows.as_slice().chunks(GROUP) {
         groups.push(one_tuple(arena, group)?)?;
     }
     one_tuple(arena, groups.as_slice())
+}
+
+// The parts, with a tuple for numbers in a row.
+fn in_rows<'a>(arena: &'a Arena, parts: &[Part<'a>]) -> Result<Vec<Part<'a>>, AllocError> {
+    let mut rows = Vec::new(arena.alloc());
+    let mut row = Vec::new(arena.alloc());
+    for part in parts {
+        if !has_room(row.as_slice(), part) {
+            rows.push(one_tuple(arena, row.as_slice())?)?;
+            row.clear();
+        }
+        row.push(*part)?;
+    }
+    rows.push(one_tuple(arena, row.as_slice())?)?;
+    Ok(rows)
+}
+
+// Whether a part can be read with those in front of it as one word.
+fn has_room(row: &[Part<'_>], part: &Part<'_>) -> bool {
+    let mut bits = part.number_bits;
+    let mut are_numbers = bits > 0;
+    for other in row {
+        are_numbers &= other.number_bits > 0;
+        bits = bits.saturating_add(other.number_bits);
+    }
+    row.is_empty() || (are_numbers && bits <= WORD && row.len() < GROUP)
 }
 
 fn one_tuple<'a>(arena: &'a Arena, parts: &[Part<'a>]) -> Result<Part<'a>, AllocError> {
@@ -298,6 +336,7 @@ fn several<'a>(arena: &'a Arena, parts: &[Part<'a>]) -> Result<Part<'a>, AllocEr
     Ok(Part {
         texts: tupled_texts(arena, parts)?,
         is_lent: parts.iter().any(|part| part.is_lent),
+        number_bits: 0,
         fields: tupled_fields(arena, parts)?,
     })
 }
@@ -349,6 +388,7 @@ fn nothing<'a>() -> Part<'a> {
     Part {
         texts: Texts::nothing(),
         is_lent: false,
+        number_bits: 0,
         fields: Fields::none(),
     }
 }
@@ -377,6 +417,7 @@ pub fn following<'a>(
     Ok(Part {
         texts: head.texts.following(arena, form, called, types)?,
         is_lent: true,
+        number_bits: 0,
         fields: head.fields.followed(arena, called.name, None, path)?,
     })
 }
@@ -393,10 +434,12 @@ pub fn under<'a>(
         texts,
         is_lent,
         fields,
+        ..
     } = head;
     Ok(Part {
         texts: texts.under(arena, called, [marker, number, context])?,
         is_lent,
+        number_bits: 0,
         fields: fields.followed(arena, called.name, Some(number), ".value")?,
     })
 }
@@ -423,6 +466,7 @@ fn list_to_end<'a>(
     Ok(Part {
         texts: Texts::rest(arena, called, item)?,
         is_lent: true,
+        number_bits: 0,
         fields: Fields::one(arena, called.name, None, ".items")?,
     })
 }
@@ -434,6 +478,7 @@ fn before<'a>(arena: &'a Arena, head: Part<'a>, last: Part<'a>) -> Result<Part<'
     Ok(Part {
         texts: head.texts.before(arena, last.texts)?,
         is_lent: true,
+        number_bits: 0,
         fields: fields.and(arena, others)?,
     })
 }
@@ -448,6 +493,7 @@ pub fn asserted<'a>(
     Ok(Part {
         texts: part.texts.asserted(arena, owner, marker)?,
         is_lent: part.is_lent,
+        number_bits: 0,
         fields: part.fields.within(arena, ".part", "")?,
     })
 }
@@ -464,6 +510,7 @@ pub fn constant<'a>(
     Ok(Part {
         texts: Texts::constant(arena, owner, kind, marker)?,
         is_lent: false,
+        number_bits: 0,
         fields: Fields {
             places: &[],
             names: arena.list(&[word])?,

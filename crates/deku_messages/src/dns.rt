@@ -110,8 +110,8 @@ type HeaderParts = (
         Be<u16>,
         Be<u16>,
         Be<u16>,
-        Be<u16>,
     ),
+    Be<u16>,
 );
 
 impl FromParts for Header {
@@ -135,8 +135,8 @@ impl FromParts for Header {
         be r.questions,
         be r.answers,
         be r.authorities,
-        be r.additionals,
       ),
+      be r.additionals,
     ) };
 
     ghost record_of = { λ p. record {
@@ -154,7 +154,7 @@ impl FromParts for Header {
       questions = p.1.3.0;
       answers = p.1.4.0;
       authorities = p.1.5.0;
-      additionals = p.1.6.0;
+      additionals = p.2.0;
     } };
 
     fn from_parts(parts: Self::Parts) -> Self {
@@ -173,7 +173,7 @@ impl FromParts for Header {
             questions: parts.1.3.0,
             answers: parts.1.4.0,
             authorities: parts.1.5.0,
-            additionals: parts.1.6.0,
+            additionals: parts.2.0,
         }
     }
 
@@ -200,8 +200,8 @@ impl ToParts for Header {
                 Be(self.questions),
                 Be(self.answers),
                 Be(self.authorities),
-                Be(self.additionals),
             ),
+            Be(self.additionals),
         )
     }
 }

@@ -37,16 +37,16 @@ impl Question {
 }
 
 // The parts of Question, in their order.
-type QuestionParts = (Name, Be<u16>, Be<u16>);
+type QuestionParts = (Name, (Be<u16>, Be<u16>));
 
 impl FromParts for Question {
     type Parts = QuestionParts;
 
-    ghost parts_of = { λ r. (r.name, be r.kind, be r.class) };
+    ghost parts_of = { λ r. (r.name, (be r.kind, be r.class)) };
 
-    ghost record_of = { λ p. record { name = p.0; kind = p.1.0; class = p.2.0 } };
+    ghost record_of = { λ p. record { name = p.0; kind = p.1.0.0; class = p.1.1.0 } };
 
-    fn from_parts((name, Be(kind), Be(class)): Self::Parts) -> Self {
+    fn from_parts((name, (Be(kind), Be(class))): Self::Parts) -> Self {
         Question { name, kind, class }
     }
 
@@ -71,7 +71,7 @@ impl DekuWriter<()> for Question {
 
     #[inline(always)]
     fn to_writer<W: Sink>(&self, writer: &mut Writer<W>, ctx: ()) -> Result<(), DekuError> {
-        let parts = (&self.name, Be(self.kind), Be(self.class));
+        let parts = (&self.name, (Be(self.kind), Be(self.class)));
         parts.to_writer(writer, ctx)
     }
 }

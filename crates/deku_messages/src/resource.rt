@@ -69,9 +69,7 @@ impl Resource {
 // The parts of Resource, in their order.
 type ResourceParts = (
     Name,
-    Be<u16>,
-    Be<u16>,
-    Be<u32>,
+    (Be<u16>, Be<u16>, Be<u32>),
     CountedBy<Be<u16>, ResourceBytesCount, u8>,
 );
 
@@ -80,27 +78,23 @@ impl FromParts for Resource {
 
     ghost parts_of = { λ r. (
       r.name,
-      be r.kind,
-      be r.class,
-      be r.life,
+      (be r.kind, be r.class, be r.life),
       record { head = be r.length; items = r.bytes; count = record {} },
     ) };
 
     ghost record_of = { λ p. record {
       name = p.0;
-      kind = p.1.0;
-      class = p.2.0;
-      life = p.3.0;
-      length = p.4.head.0;
-      bytes = p.4.items;
+      kind = p.1.0.0;
+      class = p.1.1.0;
+      life = p.1.2.0;
+      length = p.2.head.0;
+      bytes = p.2.items;
     } };
 
     fn from_parts(parts: Self::Parts) -> Self {
         let (
             name,
-            Be(kind),
-            Be(class),
-            Be(life),
+            (Be(kind), Be(class), Be(life)),
             CountedBy {
                 head: Be(length),
                 items: bytes,
@@ -140,9 +134,7 @@ impl DekuWriter<()> for Resource {
     fn to_writer<W: Sink>(&self, writer: &mut Writer<W>, ctx: ()) -> Result<(), DekuError> {
         let parts = (
             &self.name,
-            Be(self.kind),
-            Be(self.class),
-            Be(self.life),
+            (Be(self.kind), Be(self.class), Be(self.life)),
             CountedByRef::<_, ResourceBytesCount, _> {
                 head: Be(self.length),
                 items: &self.bytes,
@@ -254,7 +246,7 @@ impl Authority {
 }
 
 // The parts of Authority, in their order.
-type AuthorityParts = (Name, Name, Be<u32>, Be<u32>, Be<u32>, Be<u32>, Be<u32>);
+type AuthorityParts = (Name, Name, (Be<u32>, Be<u32>), (Be<u32>, Be<u32>), Be<u32>);
 
 impl FromParts for Authority {
     type Parts = AuthorityParts;
@@ -262,25 +254,24 @@ impl FromParts for Authority {
     ghost parts_of = { λ r. (
       r.server,
       r.mailbox,
-      be r.serial,
-      be r.refresh,
-      be r.retry,
-      be r.expire,
+      (be r.serial, be r.refresh),
+      (be r.retry, be r.expire),
       be r.minimum,
     ) };
 
     ghost record_of = { λ p. record {
       server = p.0;
       mailbox = p.1;
-      serial = p.2.0;
-      refresh = p.3.0;
-      retry = p.4.0;
-      expire = p.5.0;
-      minimum = p.6.0;
+      serial = p.2.0.0;
+      refresh = p.2.1.0;
+      retry = p.3.0.0;
+      expire = p.3.1.0;
+      minimum = p.4.0;
     } };
 
     fn from_parts(parts: Self::Parts) -> Self {
-        let (server, mailbox, Be(serial), Be(refresh), Be(retry), Be(expire), Be(minimum)) = parts;
+        let (server, mailbox, (Be(serial), Be(refresh)), (Be(retry), Be(expire)), Be(minimum)) =
+            parts;
         Authority {
             server,
             mailbox,
@@ -316,10 +307,8 @@ impl DekuWriter<()> for Authority {
         let parts = (
             &self.server,
             &self.mailbox,
-            Be(self.serial),
-            Be(self.refresh),
-            Be(self.retry),
-            Be(self.expire),
+            (Be(self.serial), Be(self.refresh)),
+            (Be(self.retry), Be(self.expire)),
             Be(self.minimum),
         );
         parts.to_writer(writer, ctx)

@@ -79,11 +79,7 @@ impl CheckLaw<Msb<u8, 2>> for RtpVersionValue {
 }
 
 type RtpContributingHead = (
-    Msb<u8, 4>,
-    Msb<bool, 1>,
-    Msb<u8, 7>,
-    Be<u16>,
-    Be<u32>,
+    (Msb<u8, 4>, Msb<bool, 1>, Msb<u8, 7>, Be<u16>, Be<u32>),
     Be<u32>,
 );
 
@@ -92,16 +88,16 @@ type RtpContributingHead = (
 pub struct RtpContributingCount;
 
 impl CountOf<RtpContributingHead> for RtpContributingCount {
-    ghost count_of = { λ p. Some p.0.0 };
+    ghost count_of = { λ p. Some p.0.0.0 };
 
     fn count(parts: &RtpContributingHead) -> Option<usize> {
-        let source_count = parts.0.0 as usize;
+        let source_count = parts.0.0.0 as usize;
         Some(source_count)
     }
 }
 
 impl CountOfLaw<RtpContributingHead> for RtpContributingCount {
-    ghost alike = { λ v w e. rw e.0 refl };
+    ghost alike = { λ v w e. rw e.0.0 refl };
 }
 
 impl Rtp {
@@ -123,8 +119,7 @@ impl Rtp {
 // The parts of Rtp, in their order.
 type RtpParts = (
     Assert<Msb<u8, 2>, RtpVersionValue>,
-    Msb<bool, 1>,
-    Msb<bool, 1>,
+    (Msb<bool, 1>, Msb<bool, 1>),
     CountedBy<RtpContributingHead, RtpContributingCount, Be<u32>>,
 );
 
@@ -133,15 +128,10 @@ impl FromParts for Rtp {
 
     ghost parts_of = { λ r. (
       record { part = msb r.version; check = record {} },
-      msb r.padding,
-      msb r.extension,
+      (msb r.padding, msb r.extension),
       record {
         head = (
-          msb r.source_count,
-          msb r.marker,
-          msb r.payload_type,
-          be r.sequence,
-          be r.timestamp,
+          (msb r.source_count, msb r.marker, msb r.payload_type, be r.sequence, be r.timestamp),
           be r.source,
         );
         items = r.contributing;
@@ -151,15 +141,15 @@ impl FromParts for Rtp {
 
     ghost record_of = { λ p. record {
       version = p.0.part.0;
-      padding = p.1.0;
-      extension = p.2.0;
-      source_count = p.3.head.0.0;
-      marker = p.3.head.1.0;
-      payload_type = p.3.head.2.0;
-      sequence = p.3.head.3.0;
-      timestamp = p.3.head.4.0;
-      source = p.3.head.5.0;
-      contributing = p.3.items;
+      padding = p.1.0.0;
+      extension = p.1.1.0;
+      source_count = p.2.head.0.0.0;
+      marker = p.2.head.0.1.0;
+      payload_type = p.2.head.0.2.0;
+      sequence = p.2.head.0.3.0;
+      timestamp = p.2.head.0.4.0;
+      source = p.2.head.1.0;
+      contributing = p.2.items;
     } };
 
     fn from_parts(parts: Self::Parts) -> Self {
@@ -168,15 +158,16 @@ impl FromParts for Rtp {
                 part: Msb(version),
                 ..
             },
-            Msb(padding),
-            Msb(extension),
+            (Msb(padding), Msb(extension)),
             CountedBy {
                 head: (
-                    Msb(source_count),
-                    Msb(marker),
-                    Msb(payload_type),
-                    Be(sequence),
-                    Be(timestamp),
+                    (
+                        Msb(source_count),
+                        Msb(marker),
+                        Msb(payload_type),
+                        Be(sequence),
+                        Be(timestamp),
+                    ),
                     Be(source),
                 ),
                 items: contributing,
@@ -223,15 +214,16 @@ impl DekuWriter<()> for Rtp {
                 part: Msb::<_, 2>(self.version),
                 check: PhantomData,
             },
-            Msb::<_, 1>(self.padding),
-            Msb::<_, 1>(self.extension),
+            (Msb::<_, 1>(self.padding), Msb::<_, 1>(self.extension)),
             CountedByRef::<_, RtpContributingCount, _> {
                 head: (
-                    Msb::<_, 4>(self.source_count),
-                    Msb::<_, 1>(self.marker),
-                    Msb::<_, 7>(self.payload_type),
-                    Be(self.sequence),
-                    Be(self.timestamp),
+                    (
+                        Msb::<_, 4>(self.source_count),
+                        Msb::<_, 1>(self.marker),
+                        Msb::<_, 7>(self.payload_type),
+                        Be(self.sequence),
+                        Be(self.timestamp),
+                    ),
                     Be(self.source),
                 ),
                 items: &self.contributing,

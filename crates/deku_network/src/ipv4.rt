@@ -105,7 +105,8 @@ type Ipv4OptionsHead = (
         Msb<bool, 1>,
         Msb<bool, 1>,
     ),
-    (Msb<u16, 13>, u8, u8, Be<u16>, Be<Ipv4Addr>, Be<Ipv4Addr>),
+    (Msb<u16, 13>, u8, u8, Be<u16>),
+    (Be<Ipv4Addr>, Be<Ipv4Addr>),
 );
 
 /// How many `options` there are: `(words - 5) * 4`.
@@ -173,7 +174,8 @@ impl FromParts for Ipv4 {
             msb r.keep_whole,
             msb r.more,
           ),
-          (msb r.offset, r.hops, r.protocol, be r.checksum, be r.source, be r.destination),
+          (msb r.offset, r.hops, r.protocol, be r.checksum),
+          (be r.source, be r.destination),
         );
         items = r.options;
         count = record {};
@@ -194,8 +196,8 @@ impl FromParts for Ipv4 {
       hops = p.1.head.1.1;
       protocol = p.1.head.1.2;
       checksum = p.1.head.1.3.0;
-      source = p.1.head.1.4.0;
-      destination = p.1.head.1.5.0;
+      source = p.1.head.2.0.0;
+      destination = p.1.head.2.1.0;
       options = p.1.items;
     } };
 
@@ -217,7 +219,8 @@ impl FromParts for Ipv4 {
                         Msb(keep_whole),
                         Msb(more),
                     ),
-                    (Msb(offset), hops, protocol, Be(checksum), Be(source), Be(destination)),
+                    (Msb(offset), hops, protocol, Be(checksum)),
+                    (Be(source), Be(destination)),
                 ),
                 items: options,
                 ..
@@ -286,9 +289,8 @@ impl DekuWriter<()> for Ipv4 {
                         self.hops,
                         self.protocol,
                         Be(self.checksum),
-                        Be(self.source),
-                        Be(self.destination),
                     ),
+                    (Be(self.source), Be(self.destination)),
                 ),
                 items: &self.options,
                 count: PhantomData,

@@ -91,11 +91,7 @@ impl Ipv6 {
 // The parts of Ipv6, in their order.
 type Ipv6Parts = (
     Assert<Msb<u8, 4>, Ipv6VersionValue>,
-    u8,
-    Msb<u32, 20>,
-    Be<u16>,
-    u8,
-    u8,
+    (u8, Msb<u32, 20>, Be<u16>, u8, u8),
     Be<Ipv6Addr>,
     Be<Ipv6Addr>,
 );
@@ -105,24 +101,20 @@ impl FromParts for Ipv6 {
 
     ghost parts_of = { λ r. (
       record { part = msb r.version; check = record {} },
-      r.class,
-      msb r.flow,
-      be r.length,
-      r.next,
-      r.hops,
+      (r.class, msb r.flow, be r.length, r.next, r.hops),
       be r.source,
       be r.destination,
     ) };
 
     ghost record_of = { λ p. record {
       version = p.0.part.0;
-      class = p.1;
-      flow = p.2.0;
-      length = p.3.0;
-      next = p.4;
-      hops = p.5;
-      source = p.6.0;
-      destination = p.7.0;
+      class = p.1.0;
+      flow = p.1.1.0;
+      length = p.1.2.0;
+      next = p.1.3;
+      hops = p.1.4;
+      source = p.2.0;
+      destination = p.3.0;
     } };
 
     fn from_parts(parts: Self::Parts) -> Self {
@@ -131,11 +123,7 @@ impl FromParts for Ipv6 {
                 part: Msb(version),
                 ..
             },
-            class,
-            Msb(flow),
-            Be(length),
-            next,
-            hops,
+            (class, Msb(flow), Be(length), next, hops),
             Be(source),
             Be(destination),
         ) = parts;
@@ -158,11 +146,13 @@ impl ToParts for Ipv6 {
     fn parts(&self) -> Self::Parts {
         (
             Assert::new(Msb(self.version)),
-            self.class,
-            Msb(self.flow),
-            Be(self.length),
-            self.next,
-            self.hops,
+            (
+                self.class,
+                Msb(self.flow),
+                Be(self.length),
+                self.next,
+                self.hops,
+            ),
             Be(self.source),
             Be(self.destination),
         )

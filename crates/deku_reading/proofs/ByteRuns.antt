@@ -27,67 +27,9 @@ use Rattle.deku_num.specs.Numbers.{byte}
 use Rattle.deku_num.specs.NumberCalls.{ReadsUnsigned, Passed}
 use Rattle.deku_meanings.proofs.Bytes.{byte_wide, byte_allowed, byte_field}
 use Rattle.deku_reading.specs.Ahead.{Appended}
+use Rattle.deku_reading.specs.Cutting.{IsCut}
 use Rattle.deku_reading.specs.Lists.{AnswersEach}
-
--- ---- two reads in place of one
--- a stream that is known has fewer than eight bits in its window
-abbrev Short : Standing (Option Stream) → Type 0
-Short (Going (Some S) c) = length S.window < 8
-Short (Going None c) = ⊤
-Short (Stopped a e c) = ⊤
-
-normal_window : (w : List Bool) (bs : List ℕ) → length w ≤ 8 → length (normal (record { window = w; bytes = bs })).window < 8
-unfolding normal
-normal_window w bs l = ⊎_elim (λ (h : length w < 8). rw (ne_eqb (length w) 8 (λ (e : length w ≡ 8). omega (arith, h, e))) h) (λ (h : 8 ≤ length w). full (omega (arith, l, h))) (cases_lt (length w) 8)
-  where
-    full : length w ≡ 8 → length (normal (record { window = w; bytes = bs })).window < 8
-    full e = rw (eq-eqb (length w) 8 e) (omega arith)
-
-short_at : (now : Option (List ℕ)) (s : Standing (List Bool)) → length (window_of s) ≤ 8 → Short (reader_state now s)
-short_at None (Going w c) l = tt
-short_at (Some bs) (Going w c) l = normal_window w bs l
-short_at now (Stopped w f c) l = tt
-
-took : (o : Order) (n c : ℕ) (S : Stream) → c + n < 2 ^ 64 → Has n S → TakesBits o n false (Going (Some S) c) (Ok (taken o n S)) (Going (Some (left o n S)) (c + n))
-took o n c S room has = inr (room, inl (has, refl, refl))
-
--- the first bits, and then the others
-taken_two : (o : Order) (m n : ℕ) (xs ys : List Bool) (s u : Standing (Option Stream)) → Short s → length xs ≡ m → TakesBits o (m + n) false s (Ok (xs ++ ys)) u
-    → (t : Standing (Option Stream)) × TakesBits o m false s (Ok xs) t × TakesBits o n false t (Ok ys) u × Short t
-taken_two o m n xs ys (Stopped a e c) u short long p = let no = p.0 in absurd (cc)
-taken_two o m n xs ys (Going a c) u short long (inl p) = let no = p.1.2 in absurd (cc)
-taken_two o m n xs ys (Going (Some S) c) u short long (inr (room, inr p)) = let no = p.1.0 in absurd (cc)
-taken_two o m n xs ys (Going None c) u short long (inr (room, inr p)) = let no = p.0 in absurd (cc)
-taken_two o m n xs ys (Going (Some S) c) u short long (inr (room, inl p)) =
-    let L : Stream = left o m S in
-    let cut = cut_law o m n S short p.0 in
-    let first = took o m c S (omega (arith, room)) (omega (arith, p.0)) in
-    let front : length (taken o m S) ≡ m = taken_length o m false (Going (Some S) c) (taken o m S) (Going (Some L) (c + m)) first in
-    let all : xs ++ ys ≡ taken o m S ++ taken o n L = ok_same p.1 ∙ cut.0 in
-    let is_first : xs ≡ taken o m S = sym (take_at xs ys m long) ∙ ap (take m) all ∙ take_at (taken o m S) (taken o n L) m front in
-    let is_second : ys ≡ taken o n L = sym (drop_at xs ys m long) ∙ ap (drop m) all ∙ drop_at (taken o m S) (taken o n L) m front in
-    let count : c + (m + n) ≡ c + m + n = omega arith in
-    let ends : u ≡ Going (Some (left o n L)) (c + m + n) = p.2 ∙ ap₂ (λ T k. Going (Some T) k) cut.1 count in (
-      Going (Some L) (c + m),
-      rw is_first first,
-      rw (is_second, ends) (took o n (c + m) L (omega (arith, room)) cut.3),
-      cut.2,
-    )
-  where
-    ok_same : {v w : List Bool} → ◌≡◌ {A = Result (List Bool) DekuError} (Ok v) (Ok w) → v ≡ w
-    ok_same e = cc
-taken_two o m n xs ys (Going None c) u short long (inr (room, inl p)) =
-    let same : xs ++ ys ≡ p.0 = ok_same p.3 in
-    let behind : length ys ≡ n = omega (arith, long, ap length same, p.2, length-append xs ys) in
-    let count : c + (m + n) ≡ c + m + n = omega arith in (
-      Going None (c + m),
-      inr (omega (arith, room), inl (xs, None, long, refl, refl)),
-      inr (omega (arith, room), inl (ys, p.1, behind, refl, p.4 ∙ ap (λ k. Going p.1 k) count)),
-      tt,
-    )
-  where
-    ok_same : {v w : List Bool} → ◌≡◌ {A = Result (List Bool) DekuError} (Ok v) (Ok w) → v ≡ w
-    ok_same e = cc
+use Rattle.deku_reading.proofs.Cutting.{short_at, taken_two}
 
 -- ---- one byte
 module _ (l : Layout) (high : l.order ≡ Msb0) (whole : l.size ≡ Whole) where
@@ -98,7 +40,7 @@ module _ (l : Layout) (high : l.order ≡ Msb0) (whole : l.size ≡ Whole) where
       Passed (byte_allowed l high whole, Value (byte_bits b) (rw (high, eight) p) (ap (λ x. Ok x) (sym field.worth)))
 
   -- ---- bytes in turn
-  bytes_each : (b : ℕ) (bs : List ℕ) (s u : Standing (Option Stream)) → All IsByte (b ∷ bs) → Short s → TakesBits Msb0 (8 * length (b ∷ bs)) false s (Ok (flow Msb0 (b ∷ bs))) u
+  bytes_each : (b : ℕ) (bs : List ℕ) (s u : Standing (Option Stream)) → All IsByte (b ∷ bs) → IsCut s → TakesBits Msb0 (8 * length (b ∷ bs)) false s (Ok (flow Msb0 (b ∷ bs))) u
       → AnswersEach (ReadsUnsigned byte l) (b ∷ bs) s u
   bytes_each b [] s u all short p = (u, byte_read b s u (All-head IsByte b [] all) (subst (λ x. TakesBits Msb0 8 false s (Ok x) u) (append-nil (byte_bits b)) p), refl)
   bytes_each b (c ∷ bs) s u all short p =
@@ -106,7 +48,7 @@ module _ (l : Layout) (high : l.order ≡ Msb0) (whole : l.size ≡ Whole) where
       let two = taken_two Msb0 8 (8 * length (c ∷ bs)) (byte_bits b) (flow Msb0 (c ∷ bs)) s u short (length-byte_bits b) (subst (λ n. TakesBits Msb0 n false s (Ok (flow Msb0 (b ∷ c ∷ bs))) u) count p) in
       (two.0, byte_read b s two.0 (All-head IsByte b (c ∷ bs) all) two.1, bytes_each c bs two.0 u (All-tail IsByte b (c ∷ bs) all) two.3 two.2)
 
-  bytes_some : (bs : List ℕ) (s u : Standing (Option Stream)) → 0 < length bs → All IsByte bs → Short s → TakesBits Msb0 (8 * length bs) false s (Ok (flow Msb0 bs)) u → AnswersEach (ReadsUnsigned byte l) bs s u
+  bytes_some : (bs : List ℕ) (s u : Standing (Option Stream)) → 0 < length bs → All IsByte bs → IsCut s → TakesBits Msb0 (8 * length bs) false s (Ok (flow Msb0 bs)) u → AnswersEach (ReadsUnsigned byte l) bs s u
   bytes_some [] s u some all short p = absurd (omega (arith, some))
   bytes_some (b ∷ bs) s u some all short p = bytes_each b bs s u all short p
 

@@ -8,5 +8,7 @@ pub mod Judging
 pub mod Counting
 pub mod Collecting
 pub mod Bytes
+pub mod Cutting
+pub mod OfBits
 pub mod Ahead
 pub mod ByteRuns

@@ -1,4 +1,5 @@
 pub mod Ahead
+pub mod Cutting
 pub mod Early
 pub mod Lists
 pub mod Limits

@@ -2,7 +2,9 @@
 //! and lists that end at a limit.
 #![tactic(auto)]
 
+mod binary;
 mod impls;
+mod items;
 mod traits;
 
 pub use traits::DekuReader;

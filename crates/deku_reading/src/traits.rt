@@ -1,10 +1,11 @@
 //! The trait of types that can be read.
 
-ghost use Rattle.std.specs.Prelude.{◌≤◌, Option, Result, OnOk, ⊤};
+ghost use Rattle.std.specs.Prelude.{◌<◌, ◌≤◌, ◌^◌, Option, Result, OnOk, IfSome, ⊤};
 ghost use Rattle.deku_bits.specs.Streams.{Stream};
 ghost use Rattle.deku_bits.specs.Outcomes.{Meaning};
 ghost use Rattle.deku_bits.specs.ReaderCalls.{Reads};
 ghost use Rattle.deku_reading.specs.Ahead.{ReadsOnto};
+ghost use Rattle.deku_reading.specs.Cutting.{IsCutFrom};
 ghost use Rattle.deku_reading.specs.Early.{NoReadAhead};
 
 use deku_bits::device::Source;
@@ -73,5 +74,29 @@ pub trait DekuReader<Ctx>: Drop {
     {
         let _unread = most;
         0
+    }
+
+    /// The value that the first bits of a word make, and how many these bits are. The word has
+    /// `room` bits, of which the first is the highest. `None` if the bits are more, or if values of
+    /// the type are not made so under this context; the default body says that none are.
+    ///
+    /// A tuple whose items are all made so is read as one word if its bits are in memory, which is
+    /// faster than a read of each item.
+    ///
+    /// The caller's conditions: the word has at most 64 bits, and is below 2 to the power `room`.
+    ///
+    /// ```text
+    /// u8::from_word(0x69C, 12, &BitSize(4))                       // Some((6, 4))
+    /// ```
+    fn from_word(word: u64, room: usize, ctx: &Ctx) -> Option<(Self, usize)>
+    where
+        Self: Sized,
+        requires few { room ≤ 64 }
+        requires below { word < 2 ^ room }
+        ensures { IfSome result (λ r. IsCutFrom (meaning ctx.now) word room r.0 r.1) }
+    {
+        let _word = (word, room);
+        let _context = ctx;
+        None
     }
 }

@@ -94,7 +94,7 @@ impl Window {
     }
 
     /// Takes the next `count` bits in this order, and returns their number.
-    #[inline(always)]
+    #[inline]
     pub fn take(&mut self, count: usize, order: Order) -> u8
         requires { count ≤ length self.old }
         ensures { GivesGroup order count self.old result self.new }

@@ -37,6 +37,12 @@ impl<T: DekuReader<(Endian, BitSize)>, const N: usize> DekuReader<()> for Msb<T,
         let value = T::from_reader_with_ctx(reader, (Endian::Big, BitSize(N)))?;
         Ok(Msb(value))
     }
+
+    #[inline]
+    fn from_word(word: u64, room: usize, _ctx: &()) -> Option<(Self, usize)> {
+        let (value, bits) = T::from_word(word, room, &(Endian::Big, BitSize(N)))?;
+        Some((Msb(value), bits))
+    }
 }
 
 impl<T: DekuWriter<(Endian, BitSize)>, const N: usize> DekuWriter<()> for Msb<T, N> {
@@ -133,6 +139,12 @@ impl<T: DekuReader<(Endian, BitSize)>, const N: usize> DekuReader<()> for MsbLe<
         let value = T::from_reader_with_ctx(reader, (Endian::Little, BitSize(N)))?;
         Ok(MsbLe(value))
     }
+
+    #[inline]
+    fn from_word(word: u64, room: usize, _ctx: &()) -> Option<(Self, usize)> {
+        let (value, bits) = T::from_word(word, room, &(Endian::Little, BitSize(N)))?;
+        Some((MsbLe(value), bits))
+    }
 }
 
 impl<T: DekuWriter<(Endian, BitSize)>, const N: usize> DekuWriter<()> for MsbLe<T, N> {
@@ -228,6 +240,12 @@ impl<T: DekuReader<Endian>> DekuReader<()> for Be<T> {
     ) -> Result<Self, DekuError> {
         let value = T::from_reader_with_ctx(reader, Endian::Big)?;
         Ok(Be(value))
+    }
+
+    #[inline]
+    fn from_word(word: u64, room: usize, _ctx: &()) -> Option<(Self, usize)> {
+        let (value, bits) = T::from_word(word, room, &Endian::Big)?;
+        Some((Be(value), bits))
     }
 }
 

@@ -110,6 +110,28 @@ pub fn has_sign(kind: &Type<'_>) -> bool {
     }
 }
 
+/// How many bits a field has, if it is a number, an address or a truth value that a tuple can read
+/// with its neighbours as one word. Otherwise 0.
+pub fn number_bits(field: &Field<'_>) -> u64 {
+    let Type::Name(name) = field.kind else {
+        return 0;
+    };
+    let Wrapping { around, bits } = wrapping_of(field);
+    let all = match bits {
+        Some(bits) => bits,
+        None => common_bits(&field.kind).unwrap_or(0),
+    };
+    let is_whole_bool = name.text == "bool" && all != 1;
+    if is_whole_bool || has_sign(&field.kind) {
+        return 0;
+    }
+    match around {
+        "Msb" | "Be" => all,
+        "" | "MsbLe" if all <= 8 => all,
+        _ => 0,
+    }
+}
+
 /// The bits of each number that a type is made of, if they are all as many.
 pub fn common_bits(kind: &Type<'_>) -> Option<u64> {
     match kind {

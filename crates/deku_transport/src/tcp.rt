@@ -131,9 +131,7 @@ impl Tcp {
 
 // The parts of Tcp, in their order.
 type TcpParts = (
-    Be<u16>,
-    Be<u16>,
-    Be<u32>,
+    (Be<u16>, Be<u16>, Be<u32>),
     Be<u32>,
     CountedBy<TcpOptionsHead, TcpOptionsCount, u8>,
 );
@@ -142,9 +140,7 @@ impl FromParts for Tcp {
     type Parts = TcpParts;
 
     ghost parts_of = { λ r. (
-      be r.source,
-      be r.destination,
-      be r.sequence,
+      (be r.source, be r.destination, be r.sequence),
       be r.acknowledgment,
       record {
         head = (
@@ -166,31 +162,29 @@ impl FromParts for Tcp {
     ) };
 
     ghost record_of = { λ p. record {
-      source = p.0.0;
-      destination = p.1.0;
-      sequence = p.2.0;
-      acknowledgment = p.3.0;
-      words = p.4.head.0.0.0;
-      reserved = p.4.head.0.1.0;
-      cwr = p.4.head.0.2.0;
-      ece = p.4.head.0.3.0;
-      urg = p.4.head.0.4.0;
-      ack = p.4.head.0.5.0;
-      psh = p.4.head.0.6.0;
-      rst = p.4.head.0.7.0;
-      syn = p.4.head.1.0.0;
-      fin = p.4.head.1.1.0;
-      window = p.4.head.1.2.0;
-      checksum = p.4.head.1.3.0;
-      urgent = p.4.head.1.4.0;
-      options = p.4.items;
+      source = p.0.0.0;
+      destination = p.0.1.0;
+      sequence = p.0.2.0;
+      acknowledgment = p.1.0;
+      words = p.2.head.0.0.0;
+      reserved = p.2.head.0.1.0;
+      cwr = p.2.head.0.2.0;
+      ece = p.2.head.0.3.0;
+      urg = p.2.head.0.4.0;
+      ack = p.2.head.0.5.0;
+      psh = p.2.head.0.6.0;
+      rst = p.2.head.0.7.0;
+      syn = p.2.head.1.0.0;
+      fin = p.2.head.1.1.0;
+      window = p.2.head.1.2.0;
+      checksum = p.2.head.1.3.0;
+      urgent = p.2.head.1.4.0;
+      options = p.2.items;
     } };
 
     fn from_parts(parts: Self::Parts) -> Self {
         let (
-            Be(source),
-            Be(destination),
-            Be(sequence),
+            (Be(source), Be(destination), Be(sequence)),
             Be(acknowledgment),
             CountedBy {
                 head: (
@@ -254,9 +248,7 @@ impl DekuWriter<()> for Tcp {
     #[inline(always)]
     fn to_writer<W: Sink>(&self, writer: &mut Writer<W>, ctx: ()) -> Result<(), DekuError> {
         let parts = (
-            Be(self.source),
-            Be(self.destination),
-            Be(self.sequence),
+            (Be(self.source), Be(self.destination), Be(self.sequence)),
             Be(self.acknowledgment),
             CountedByRef::<_, TcpOptionsCount, _> {
                 head: (

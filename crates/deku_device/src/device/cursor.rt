@@ -173,7 +173,7 @@ fn last_at(all: &[u8], at: u64, n: usize) -> Option<[u8; 8]>
 
 // The last bytes of eight, fewer than eight, with zeros after them. A word is shifted, however many
 // they are.
-#[inline(always)]
+#[inline]
 fn end_of(eight: [u8; 8], count: usize) -> [u8; 8]
     requires { count < 8 }
     ensures { result ≡ drop (8 - count) eight ++ replicate (8 - count) 0 }

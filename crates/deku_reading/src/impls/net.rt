@@ -6,11 +6,13 @@ ghost use Rattle.deku_num.specs.NumberCalls.{ReadsUnsigned};
 ghost use Rattle.deku_meanings.specs.Composing.{Then};
 ghost use Rattle.deku_meanings.specs.Shapes.{Shows};
 
+use crate::binary::cut_number;
 use crate::traits::DekuReader;
 use deku_bits::device::Source;
 use deku_bits::error::DekuError;
 use deku_bits::reader::Reader;
 use deku_num::ctx::NumberCtx;
+use deku_num::kind::NumberType;
 use std::net::{Ipv4Addr, Ipv6Addr};
 
 /// Read as a `u32` whose highest byte is the first octet. It fails as that does.
@@ -21,6 +23,12 @@ impl<C: NumberCtx> DekuReader<C> for Ipv4Addr {
     fn from_reader_with_ctx<R: Source>(reader: &mut Reader<R>, ctx: C) -> Result<Self, DekuError> {
         let number = u32::from_reader_with_ctx(reader, ctx)?;
         Ok(Ipv4Addr::from_bits(number))
+    }
+
+    #[inline]
+    fn from_word(word: u64, room: usize, ctx: &C) -> Option<(Self, usize)> {
+        let (value, bits) = cut_number(word, room, NumberType::U32, ctx.parts())?;
+        Some((Ipv4Addr::from_bits(value as u32), bits))
     }
 }
 

@@ -20,6 +20,7 @@ ghost use Rattle.deku_num.specs.Numbers.{width, byte, unsigned, signed};
 ghost use Rattle.deku_reading.specs.Early.{NoReadAhead};
 ghost use Rattle.deku_num.specs.NumberCalls.{ReadsUnsigned, ReadsNumber};
 
+use crate::binary::cut_number;
 use crate::impls::bytes::read_bytes_onto;
 use crate::traits::DekuReader;
 use deku_bits::device::Source;
@@ -59,6 +60,12 @@ impl<C: NumberCtx> DekuReader<C> for u8 {
     ) -> usize {
         read_bytes_onto(reader, items, most, ctx.parts())
     }
+
+    #[inline]
+    fn from_word(word: u64, room: usize, ctx: &C) -> Option<(Self, usize)> {
+        let (value, bits) = cut_number(word, room, NumberType::U8, ctx.parts())?;
+        Some((value as u8, bits))
+    }
 }
 
 /// Reads a `u16` as its context says: the whole 16 bits, or as many bits or bytes as a size says.
@@ -80,6 +87,12 @@ impl<C: NumberCtx> DekuReader<C> for u16 {
     {
         let value = read_unsigned(reader, NumberType::U16, ctx.parts())?;
         Ok(value as u16)
+    }
+
+    #[inline]
+    fn from_word(word: u64, room: usize, ctx: &C) -> Option<(Self, usize)> {
+        let (value, bits) = cut_number(word, room, NumberType::U16, ctx.parts())?;
+        Some((value as u16, bits))
     }
 }
 
@@ -103,6 +116,12 @@ impl<C: NumberCtx> DekuReader<C> for u32 {
         let value = read_unsigned(reader, NumberType::U32, ctx.parts())?;
         Ok(value as u32)
     }
+
+    #[inline]
+    fn from_word(word: u64, room: usize, ctx: &C) -> Option<(Self, usize)> {
+        let (value, bits) = cut_number(word, room, NumberType::U32, ctx.parts())?;
+        Some((value as u32, bits))
+    }
 }
 
 /// Reads a `u64` as its context says: the whole 64 bits, or as many bits or bytes as a size says.
@@ -124,6 +143,12 @@ impl<C: NumberCtx> DekuReader<C> for u64 {
     {
         let value = read_unsigned(reader, NumberType::U64, ctx.parts())?;
         Ok(value as u64)
+    }
+
+    #[inline]
+    fn from_word(word: u64, room: usize, ctx: &C) -> Option<(Self, usize)> {
+        let (value, bits) = cut_number(word, room, NumberType::U64, ctx.parts())?;
+        Some((value, bits))
     }
 }
 

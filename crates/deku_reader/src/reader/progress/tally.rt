@@ -78,7 +78,8 @@ impl Tally {
 
     /// Fails as a reader does before it moves anything: with its kept error, or because the count
     /// would not fit.
-    #[inline(always)]
+    // Not `inline(always)`: the compiler drops that from callers that would grow too much by it.
+    #[inline]
     pub fn admits(&self, amt: usize) -> Result<(), DekuError>
         ensures { Admits amt (standing_of (tt {0}) self.now.fault self.now.count) result }
     {

@@ -1,0 +1,337 @@
+//! Tuples whose items are cut from one number if their bits are in memory: each item is what it is
+//! by itself, from each bit of a byte on, with bytes in memory and without, and up to where the
+//! bytes end.
+
+use deku::ctx::Endian::{Big, Little};
+use deku::ctx::Order::Msb0;
+use deku::ctx::{BitSize, Endian};
+use deku::device::Source;
+use deku::prelude::{DekuError, DekuReader, NeedSize, Reader};
+use deku::probe::Trickle;
+use deku_symmetry::{Be, Le, Msb, MsbLe};
+use deku_testing::bits::{Slow, samples};
+use deku_testing::numbers::number;
+use deku_testing::same::same;
+use deku_testing_values::expecting::{next, reader_of};
+use std::alloc::Global;
+use std::net::Ipv4Addr;
+use std::test::Fail;
+
+// The most items of a tuple.
+const MOST: usize = 11;
+
+// A tuple of numbers.
+trait Numbers: DekuReader<()> {
+    // How many bits each item has, and its endian. After the last one they are 0.
+    fn items() -> [(usize, Endian); MOST];
+
+    // The items' numbers, and zeros after them.
+    fn numbers(&self) -> [u64; MOST];
+}
+
+// The numbers in front of zeros.
+fn and_zeros(front: &[u64]) -> [u64; MOST] {
+    let mut numbers = [0; MOST];
+    for (number, item) in numbers.iter_mut().zip(front) {
+        *number = *item;
+    }
+    numbers
+}
+
+// The widths in front of zeros.
+fn and_none(front: &[(usize, Endian)]) -> [(usize, Endian); MOST] {
+    let mut items = [(0, Big); MOST];
+    for (item, width) in items.iter_mut().zip(front) {
+        *item = *width;
+    }
+    items
+}
+
+// The most items that a tuple has, in one number.
+type Header = (
+    Msb<u8, 4>,
+    Msb<u8, 4>,
+    Msb<u8, 6>,
+    Msb<u8, 2>,
+    Be<u16>,
+    Msb<bool, 1>,
+    Msb<bool, 1>,
+    Msb<bool, 1>,
+    Msb<u16, 13>,
+    u8,
+    MsbLe<u8, 5>,
+);
+
+impl Numbers for Header {
+    fn items() -> [(usize, Endian); MOST] {
+        [
+            (4, Big),
+            (4, Big),
+            (6, Big),
+            (2, Big),
+            (16, Big),
+            (1, Big),
+            (1, Big),
+            (1, Big),
+            (13, Big),
+            (8, Big),
+            (5, Little),
+        ]
+    }
+
+    fn numbers(&self) -> [u64; MOST] {
+        [
+            self.0.0 as u64,
+            self.1.0 as u64,
+            self.2.0 as u64,
+            self.3.0 as u64,
+            self.4.0 as u64,
+            self.5.0 as u64,
+            self.6.0 as u64,
+            self.7.0 as u64,
+            self.8.0 as u64,
+            self.9 as u64,
+            self.10.0 as u64,
+        ]
+    }
+}
+
+// As many bits as one number has.
+type Long = (Msb<u64, 33>, Msb<u32, 31>);
+
+impl Numbers for Long {
+    fn items() -> [(usize, Endian); MOST] {
+        and_none(&[(33, Big), (31, Big)])
+    }
+
+    fn numbers(&self) -> [u64; MOST] {
+        and_zeros(&[self.0.0, self.1.0 as u64])
+    }
+}
+
+// One bit more, so it is no number.
+type TooLong = (Msb<u64, 33>, Msb<u32, 32>);
+
+impl Numbers for TooLong {
+    fn items() -> [(usize, Endian); MOST] {
+        and_none(&[(33, Big), (32, Big)])
+    }
+
+    fn numbers(&self) -> [u64; MOST] {
+        and_zeros(&[self.0.0, self.1.0 as u64])
+    }
+}
+
+// Two groups that are numbers, and one between them that is none.
+type Groups = (
+    (Be<u16>, Be<Ipv4Addr>),
+    (Le<u16>, Msb<u8, 3>),
+    (Msb<u32, 29>, Msb<u8, 7>),
+);
+
+impl Numbers for Groups {
+    fn items() -> [(usize, Endian); MOST] {
+        and_none(&[
+            (16, Big),
+            (32, Big),
+            (16, Little),
+            (3, Big),
+            (29, Big),
+            (7, Big),
+        ])
+    }
+
+    fn numbers(&self) -> [u64; MOST] {
+        let address = self.0.1.0.to_bits();
+        and_zeros(&[
+            self.0.0.0 as u64,
+            address as u64,
+            self.1.0.0 as u64,
+            self.1.1.0 as u64,
+            self.2.0.0 as u64,
+            self.2.1.0 as u64,
+        ])
+    }
+}
+
+// What is seen of a read: what it returns, the bits counted, and the three bits after it.
+#[derive(Debug, Clone, Copy, PartialEq, Eq)]
+struct Reading {
+    answer: Result<[u64; MOST], DekuError>,
+    bits_read: usize,
+    after: Result<u64, DekuError>,
+}
+
+// The slow reader, how many bits it has taken, and how many there are.
+#[derive(Drop)]
+struct Items<'b> {
+    slow: Slow<'b>,
+    taken: usize,
+    all: usize,
+}
+
+impl<'b> Items<'b> {
+    // The number of the next bits, of at most 64, or the end of the bytes.
+    fn next(&mut self, width: usize, endian: Endian) -> Result<Result<u64, DekuError>, Fail> {
+        let mut bits = [false; 64];
+        let met = &mut bits[..width.min(64)];
+        let taken = self.taken.saturating_add(width);
+        if taken > self.all {
+            return Ok(Err(DekuError::Incomplete(NeedSize::new(width))));
+        }
+        self.slow.take(Msb0, met)?;
+        self.taken = taken;
+        Ok(Ok((number(endian, Msb0, met) % (1 << 64)) as u64))
+    }
+
+    // The numbers of the items, each by itself.
+    fn each(
+        &mut self,
+        items: &[(usize, Endian); MOST],
+    ) -> Result<Result<[u64; MOST], DekuError>, Fail> {
+        let mut numbers = [0; MOST];
+        for (number, (width, endian)) in numbers.iter_mut().zip(items) {
+            match self.next(*width, *endian)? {
+                Ok(value) => *number = value,
+                Err(error) => return Ok(Err(error)),
+            }
+        }
+        Ok(Ok(numbers))
+    }
+}
+
+// The items by themselves, after so many bits.
+fn one_by_one(
+    bytes: &[u8],
+    start: usize,
+    widths: &[(usize, Endian); MOST],
+) -> Result<Reading, Fail> {
+    let mut items = Items {
+        slow: Slow::new(bytes),
+        taken: 0,
+        all: bytes.len().saturating_mul(8),
+    };
+    let _front = items.next(start, Big)?;
+    let answer = items.each(widths)?;
+    let bits_read = items.taken;
+    let after = match answer {
+        Ok(_) => items.next(3, Big)?,
+        Err(error) => Err(error),
+    };
+    Ok(Reading {
+        answer,
+        bits_read,
+        after,
+    })
+}
+
+// The tuple, after so many bits.
+fn tuple<T: Numbers, R: Source>(reader: &mut Reader<R>, start: usize) -> Reading
+    requires { T.accepts tt }
+{
+    let _front: Result<u8, DekuError> = next(reader, BitSize(start));
+    let answer = match next::<T, _, _>(reader, ()) {
+        Ok(items) => Ok(items.numbers()),
+        Err(error) => Err(error),
+    };
+    let bits_read = reader.bits_read();
+    Reading {
+        answer,
+        bits_read,
+        after: next(reader, BitSize(3)),
+    }
+}
+
+// From bytes in memory, and from a source without.
+fn expect_tuple<T: Numbers>(alloc: Global, bytes: &[u8], start: usize) -> Result<(), Fail>
+    requires { T.accepts tt }
+{
+    let want = one_by_one(bytes, start, &T::items())?;
+    let row = (bytes, start);
+    same(
+        &row,
+        &tuple::<T, _>(&mut reader_of(alloc, bytes), start),
+        &want,
+    )?;
+    let mut slow = Reader::new(alloc, Trickle::new(bytes));
+    same(&row, &tuple::<T, _>(&mut slow, start), &want)
+}
+
+// From each bit of a byte on.
+fn expect_starts<T: Numbers>(alloc: Global, bytes: &[u8]) -> Result<(), Fail>
+    requires { T.accepts tt }
+{
+    for start in 0..8 {
+        expect_tuple::<T>(alloc, bytes, start)?;
+    }
+    Ok(())
+}
+
+// With each number of bytes.
+fn expect_lengths<T: Numbers>(alloc: Global, bytes: &[u8; 17]) -> Result<(), Fail>
+    requires { T.accepts tt }
+{
+    for len in 1..18 {
+        expect_starts::<T>(alloc, &bytes[..len])?;
+    }
+    Ok(())
+}
+
+fn expect_samples<T: Numbers>(alloc: Global) -> Result<(), Fail>
+    requires { T.accepts tt }
+{
+    for bytes in samples().iter() {
+        expect_lengths::<T>(alloc, bytes)?;
+    }
+    Ok(())
+}
+
+#[test]
+fn of_the_most_items(rt: HostRuntime) -> Result<(), Fail> {
+    expect_samples::<Header>(rt.alloc())
+}
+
+#[test]
+fn of_as_many_bits_as_a_number_has(rt: HostRuntime) -> Result<(), Fail> {
+    expect_samples::<Long>(rt.alloc())
+}
+
+#[test]
+fn of_one_bit_more(rt: HostRuntime) -> Result<(), Fail> {
+    expect_samples::<TooLong>(rt.alloc())
+}
+
+#[test]
+fn in_groups(rt: HostRuntime) -> Result<(), Fail> {
+    expect_samples::<Groups>(rt.alloc())
+}
+
+#[test]
+fn words_make_values() -> Result<(), Fail> {
+    same(
+        &"four bits",
+        &u8::from_word(0x69C, 12, &BitSize(4)),
+        &Some((6, 4)),
+    )?;
+    let wide = (Big, BitSize(13));
+    same(
+        &"all bits",
+        &u16::from_word(0x1ABC, 13, &wide),
+        &Some((0x1ABC, 13)),
+    )?;
+    same(&"a bit less", &u16::from_word(0xABC, 12, &wide), &None)?;
+    same(&"little", &u16::from_word(0xABCD, 16, &Little), &None)?;
+    let address = Ipv4Addr::new(10, 0, 0, 1);
+    same(
+        &"an address",
+        &Ipv4Addr::from_word(0xA00_0001_FF, 40, &Big),
+        &Some((address, 32)),
+    )?;
+    same(
+        &"one bit",
+        &bool::from_word(2, 2, &BitSize(1)),
+        &Some((true, 1)),
+    )?;
+    same(&"a whole bool", &bool::from_word(1, 8, &Big), &None)?;
+    same(&"with a sign", &i8::from_word(1, 8, &Big), &None)
+}

@@ -1,0 +1,16 @@
+use Rattle.deku_bits.proofs.Handing.{passed_on}
+use Rattle.deku_meanings.proofs.Joining.{first_refused, then_on, answered}
+use Rattle.deku_reading.proofs.Early.{promptly_on}
+use Rattle.deku_reading.proofs.impls.tuple.read_ten.Goals as goal
+
+pub returns-in_err-a-clause-reads : goal.returns-in_err-a-clause-reads
+returns-in_err-a-clause-reads g c = passed_on _ c.from_residual.ensures.1 (first_refused c.in_err-a.ensures.reads)
+
+pub returns-in_err-b-clause-reads : goal.returns-in_err-b-clause-reads
+returns-in_err-b-clause-reads g c = passed_on _ c.from_residual-in_err-b.ensures.1 (then_on c.in_ok-a.ensures.reads (first_refused c.in_err-b.ensures.reads))
+
+pub returns-clause-reads : goal.returns-clause-reads
+returns-clause-reads g c = then_on c.in_ok-a.ensures.reads (then_on c.in_ok-b.ensures.reads answered)
+
+pub returns-clause-early : goal.returns-clause-early
+returns-clause-early g c = λ p. promptly_on (c.in_ok-a.ensures.early p.0) (c.in_ok-b.ensures.early p.1)
