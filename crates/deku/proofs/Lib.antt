@@ -2,7 +2,7 @@ pub use Rattle.deku_meanings.proofs.Joining
 pub use Rattle.deku_reading.proofs.Early
 pub use Rattle.deku_reading.proofs.Holding
 pub use Rattle.deku_writing.proofs.WritingEach
-pub use Rattle.deku_reading.proofs.Turning
+pub use Rattle.deku_meanings.proofs.Turning
 pub use Rattle.deku_reading.proofs.Slots
 pub use Rattle.deku_reading.proofs.Runs
 pub use Rattle.deku_reading.proofs.Addresses

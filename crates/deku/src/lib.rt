@@ -48,7 +48,7 @@ pub use deku_bits::{bounded, device, error, noseek, probe, reader, writer};
 pub use deku_meanings::ctx;
 pub use deku_num::size::{DekuSize, DekuSizeConst};
 pub use deku_num::{calls, kind, size};
-pub use deku_reading::DekuReader;
+pub use deku_reading::{DekuReader, read_item};
 pub use deku_writing::DekuWriter;
 pub use impls::cstring;
 pub use traits::{DekuEnumExt, DekuUpdate};

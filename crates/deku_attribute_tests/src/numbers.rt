@@ -100,11 +100,13 @@ impl LowFirst {
 
 // The parts of LowFirst, in their order.
 type LowFirstParts = (
-    Lsb<u8, 4>,
-    Lsb<u16, 12>,
-    Lsb<u8, 8>,
-    Lsb<u8, 8>,
-    Lsb<u32, 32>,
+    (
+        Lsb<u8, 4>,
+        Lsb<u16, 12>,
+        Lsb<u8, 8>,
+        Lsb<u8, 8>,
+        Lsb<u32, 32>,
+    ),
     Lsb<u32, 32>,
 );
 
@@ -112,25 +114,21 @@ impl FromParts for LowFirst {
     type Parts = LowFirstParts;
 
     ghost parts_of = { λ r. (
-      lsb r.kind,
-      lsb r.mode,
-      lsb r.user,
-      lsb r.group,
-      lsb r.time,
+      (lsb r.kind, lsb r.mode, lsb r.user, lsb r.group, lsb r.time),
       lsb r.number,
     ) };
 
     ghost record_of = { λ p. record {
-      kind = p.0.0;
-      mode = p.1.0;
-      user = p.2.0;
-      group = p.3.0;
-      time = p.4.0;
-      number = p.5.0;
+      kind = p.0.0.0;
+      mode = p.0.1.0;
+      user = p.0.2.0;
+      group = p.0.3.0;
+      time = p.0.4.0;
+      number = p.1.0;
     } };
 
     fn from_parts(parts: Self::Parts) -> Self {
-        let (Lsb(kind), Lsb(mode), Lsb(user), Lsb(group), Lsb(time), Lsb(number)) = parts;
+        let ((Lsb(kind), Lsb(mode), Lsb(user), Lsb(group), Lsb(time)), Lsb(number)) = parts;
         LowFirst {
             kind,
             mode,
@@ -147,11 +145,13 @@ impl FromParts for LowFirst {
 impl ToParts for LowFirst {
     fn parts(&self) -> Self::Parts {
         (
-            Lsb(self.kind),
-            Lsb(self.mode),
-            Lsb(self.user),
-            Lsb(self.group),
-            Lsb(self.time),
+            (
+                Lsb(self.kind),
+                Lsb(self.mode),
+                Lsb(self.user),
+                Lsb(self.group),
+                Lsb(self.time),
+            ),
             Lsb(self.number),
         )
     }

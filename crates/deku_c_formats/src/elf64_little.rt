@@ -114,22 +114,13 @@ type ElfHeaderLittleParts = (
         Magic<Msb<u64, 48>, ElfHeaderLittleMagic>,
         (u8, u8, u8),
         [u8; 7],
-        Le<u16>,
-        Le<u16>,
-        Le<u32>,
+        (Le<u16>, Le<u16>, Le<u32>),
         Le<u64>,
         Le<u64>,
+        Le<u64>,
+        (Le<u32>, Le<u16>, Le<u16>),
     ),
-    (
-        Le<u64>,
-        Le<u32>,
-        Le<u16>,
-        Le<u16>,
-        Le<u16>,
-        Le<u16>,
-        Le<u16>,
-        Le<u16>,
-    ),
+    (Le<u16>, Le<u16>, Le<u16>, Le<u16>),
 );
 
 impl FromParts for ElfHeaderLittle {
@@ -140,22 +131,13 @@ impl FromParts for ElfHeaderLittle {
         record { part = record {}; constant = record {} },
         (r.ident_version, r.abi, r.abi_version),
         r.padding,
-        le r.kind,
-        le r.machine,
-        le r.version,
+        (le r.kind, le r.machine, le r.version),
         le r.entry,
         le r.segments_at,
-      ),
-      (
         le r.sections_at,
-        le r.flags,
-        le r.header_size,
-        le r.segment_size,
-        le r.segment_count,
-        le r.section_size,
-        le r.section_count,
-        le r.names_section,
+        (le r.flags, le r.header_size, le r.segment_size),
       ),
+      (le r.segment_count, le r.section_size, le r.section_count, le r.names_section),
     ) };
 
     ghost record_of = { λ p. record {
@@ -163,41 +145,53 @@ impl FromParts for ElfHeaderLittle {
       abi = p.0.1.1;
       abi_version = p.0.1.2;
       padding = p.0.2;
-      kind = p.0.3.0;
-      machine = p.0.4.0;
-      version = p.0.5.0;
-      entry = p.0.6.0;
-      segments_at = p.0.7.0;
-      sections_at = p.1.0.0;
-      flags = p.1.1.0;
-      header_size = p.1.2.0;
-      segment_size = p.1.3.0;
-      segment_count = p.1.4.0;
-      section_size = p.1.5.0;
-      section_count = p.1.6.0;
-      names_section = p.1.7.0;
+      kind = p.0.3.0.0;
+      machine = p.0.3.1.0;
+      version = p.0.3.2.0;
+      entry = p.0.4.0;
+      segments_at = p.0.5.0;
+      sections_at = p.0.6.0;
+      flags = p.0.7.0.0;
+      header_size = p.0.7.1.0;
+      segment_size = p.0.7.2.0;
+      segment_count = p.1.0.0;
+      section_size = p.1.1.0;
+      section_count = p.1.2.0;
+      names_section = p.1.3.0;
     } };
 
     fn from_parts(parts: Self::Parts) -> Self {
-        let padding = parts.0.2;
+        let (
+            (
+                _,
+                (ident_version, abi, abi_version),
+                padding,
+                (Le(kind), Le(machine), Le(version)),
+                Le(entry),
+                Le(segments_at),
+                Le(sections_at),
+                (Le(flags), Le(header_size), Le(segment_size)),
+            ),
+            (Le(segment_count), Le(section_size), Le(section_count), Le(names_section)),
+        ) = parts;
         ElfHeaderLittle {
-            ident_version: parts.0.1.0,
-            abi: parts.0.1.1,
-            abi_version: parts.0.1.2,
+            ident_version,
+            abi,
+            abi_version,
             padding,
-            kind: parts.0.3.0,
-            machine: parts.0.4.0,
-            version: parts.0.5.0,
-            entry: parts.0.6.0,
-            segments_at: parts.0.7.0,
-            sections_at: parts.1.0.0,
-            flags: parts.1.1.0,
-            header_size: parts.1.2.0,
-            segment_size: parts.1.3.0,
-            segment_count: parts.1.4.0,
-            section_size: parts.1.5.0,
-            section_count: parts.1.6.0,
-            names_section: parts.1.7.0,
+            kind,
+            machine,
+            version,
+            entry,
+            segments_at,
+            sections_at,
+            flags,
+            header_size,
+            segment_size,
+            segment_count,
+            section_size,
+            section_count,
+            names_section,
         }
     }
 
@@ -211,17 +205,13 @@ impl ToParts for ElfHeaderLittle {
                 Magic::new(),
                 (self.ident_version, self.abi, self.abi_version),
                 self.padding,
-                Le(self.kind),
-                Le(self.machine),
-                Le(self.version),
+                (Le(self.kind), Le(self.machine), Le(self.version)),
                 Le(self.entry),
                 Le(self.segments_at),
+                Le(self.sections_at),
+                (Le(self.flags), Le(self.header_size), Le(self.segment_size)),
             ),
             (
-                Le(self.sections_at),
-                Le(self.flags),
-                Le(self.header_size),
-                Le(self.segment_size),
                 Le(self.segment_count),
                 Le(self.section_size),
                 Le(self.section_count),
@@ -301,8 +291,7 @@ impl ElfSegmentLittle {
 
 // The parts of ElfSegmentLittle, in their order.
 type ElfSegmentLittleParts = (
-    Le<u32>,
-    Le<u32>,
+    (Le<u32>, Le<u32>),
     Le<u64>,
     Le<u64>,
     Le<u64>,
@@ -315,8 +304,7 @@ impl FromParts for ElfSegmentLittle {
     type Parts = ElfSegmentLittleParts;
 
     ghost parts_of = { λ r. (
-      le r.kind,
-      le r.flags,
+      (le r.kind, le r.flags),
       le r.offset,
       le r.address,
       le r.physical,
@@ -326,20 +314,19 @@ impl FromParts for ElfSegmentLittle {
     ) };
 
     ghost record_of = { λ p. record {
-      kind = p.0.0;
-      flags = p.1.0;
-      offset = p.2.0;
-      address = p.3.0;
-      physical = p.4.0;
-      file_size = p.5.0;
-      memory_size = p.6.0;
-      alignment = p.7.0;
+      kind = p.0.0.0;
+      flags = p.0.1.0;
+      offset = p.1.0;
+      address = p.2.0;
+      physical = p.3.0;
+      file_size = p.4.0;
+      memory_size = p.5.0;
+      alignment = p.6.0;
     } };
 
     fn from_parts(parts: Self::Parts) -> Self {
         let (
-            Le(kind),
-            Le(flags),
+            (Le(kind), Le(flags)),
             Le(offset),
             Le(address),
             Le(physical),
@@ -365,8 +352,7 @@ impl FromParts for ElfSegmentLittle {
 impl ToParts for ElfSegmentLittle {
     fn parts(&self) -> Self::Parts {
         (
-            Le(self.kind),
-            Le(self.flags),
+            (Le(self.kind), Le(self.flags)),
             Le(self.offset),
             Le(self.address),
             Le(self.physical),

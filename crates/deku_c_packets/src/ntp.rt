@@ -68,16 +68,12 @@ impl Ntp {
 
 // The parts of Ntp, in their order.
 type NtpParts = (
-    (
-        (Msb<u8, 2>, Msb<u8, 3>, Msb<u8, 3>, u8),
-        i8,
-        i8,
-        (Be<u32>, Be<u32>),
-        [u8; 4],
-        Be<u64>,
-        Be<u64>,
-        Be<u64>,
-    ),
+    (Msb<u8, 2>, Msb<u8, 3>, Msb<u8, 3>, u8, i8, i8, Be<u32>),
+    Be<u32>,
+    [u8; 4],
+    Be<u64>,
+    Be<u64>,
+    Be<u64>,
     Be<u64>,
 );
 
@@ -85,47 +81,39 @@ impl FromParts for Ntp {
     type Parts = NtpParts;
 
     ghost parts_of = { λ r. (
-      (
-        (msb r.leap, msb r.version, msb r.mode, r.stratum),
-        r.poll,
-        r.precision,
-        (be r.root_delay, be r.root_dispersion),
-        r.reference_id,
-        be r.reference,
-        be r.origin,
-        be r.receive,
-      ),
+      (msb r.leap, msb r.version, msb r.mode, r.stratum, r.poll, r.precision, be r.root_delay),
+      be r.root_dispersion,
+      r.reference_id,
+      be r.reference,
+      be r.origin,
+      be r.receive,
       be r.transmit,
     ) };
 
     ghost record_of = { λ p. record {
-      leap = p.0.0.0.0;
-      version = p.0.0.1.0;
-      mode = p.0.0.2.0;
-      stratum = p.0.0.3;
-      poll = p.0.1;
-      precision = p.0.2;
-      root_delay = p.0.3.0.0;
-      root_dispersion = p.0.3.1.0;
-      reference_id = p.0.4;
-      reference = p.0.5.0;
-      origin = p.0.6.0;
-      receive = p.0.7.0;
-      transmit = p.1.0;
+      leap = p.0.0.0;
+      version = p.0.1.0;
+      mode = p.0.2.0;
+      stratum = p.0.3;
+      poll = p.0.4;
+      precision = p.0.5;
+      root_delay = p.0.6.0;
+      root_dispersion = p.1.0;
+      reference_id = p.2;
+      reference = p.3.0;
+      origin = p.4.0;
+      receive = p.5.0;
+      transmit = p.6.0;
     } };
 
     fn from_parts(parts: Self::Parts) -> Self {
         let (
-            (
-                (Msb(leap), Msb(version), Msb(mode), stratum),
-                poll,
-                precision,
-                (Be(root_delay), Be(root_dispersion)),
-                reference_id,
-                Be(reference),
-                Be(origin),
-                Be(receive),
-            ),
+            (Msb(leap), Msb(version), Msb(mode), stratum, poll, precision, Be(root_delay)),
+            Be(root_dispersion),
+            reference_id,
+            Be(reference),
+            Be(origin),
+            Be(receive),
             Be(transmit),
         ) = parts;
         Ntp {
@@ -152,20 +140,19 @@ impl ToParts for Ntp {
     fn parts(&self) -> Self::Parts {
         (
             (
-                (
-                    Msb(self.leap),
-                    Msb(self.version),
-                    Msb(self.mode),
-                    self.stratum,
-                ),
+                Msb(self.leap),
+                Msb(self.version),
+                Msb(self.mode),
+                self.stratum,
                 self.poll,
                 self.precision,
-                (Be(self.root_delay), Be(self.root_dispersion)),
-                self.reference_id,
-                Be(self.reference),
-                Be(self.origin),
-                Be(self.receive),
+                Be(self.root_delay),
             ),
+            Be(self.root_dispersion),
+            self.reference_id,
+            Be(self.reference),
+            Be(self.origin),
+            Be(self.receive),
             Be(self.transmit),
         )
     }

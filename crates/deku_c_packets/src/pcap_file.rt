@@ -71,11 +71,8 @@ impl PcapHeaderLittle {
 // The parts of PcapHeaderLittle, in their order.
 type PcapHeaderLittleParts = (
     Assert<Le<u32>, PcapHeaderLittleMagicCheck>,
-    Le<u16>,
-    Le<u16>,
-    Le<i32>,
-    Le<u32>,
-    Le<u32>,
+    (Le<u16>, Le<u16>, Le<i32>),
+    (Le<u32>, Le<u32>),
     Le<u32>,
 );
 
@@ -84,22 +81,19 @@ impl FromParts for PcapHeaderLittle {
 
     ghost parts_of = { λ r. (
       record { part = le r.magic; check = record {} },
-      le r.major,
-      le r.minor,
-      le r.zone,
-      le r.figures,
-      le r.longest,
+      (le r.major, le r.minor, le r.zone),
+      (le r.figures, le r.longest),
       le r.network,
     ) };
 
     ghost record_of = { λ p. record {
       magic = p.0.part.0;
-      major = p.1.0;
-      minor = p.2.0;
-      zone = p.3.0;
-      figures = p.4.0;
-      longest = p.5.0;
-      network = p.6.0;
+      major = p.1.0.0;
+      minor = p.1.1.0;
+      zone = p.1.2.0;
+      figures = p.2.0.0;
+      longest = p.2.1.0;
+      network = p.3.0;
     } };
 
     fn from_parts(parts: Self::Parts) -> Self {
@@ -108,11 +102,8 @@ impl FromParts for PcapHeaderLittle {
                 part: Le(magic),
                 ..
             },
-            Le(major),
-            Le(minor),
-            Le(zone),
-            Le(figures),
-            Le(longest),
+            (Le(major), Le(minor), Le(zone)),
+            (Le(figures), Le(longest)),
             Le(network),
         ) = parts;
         PcapHeaderLittle {
@@ -133,11 +124,8 @@ impl ToParts for PcapHeaderLittle {
     fn parts(&self) -> Self::Parts {
         (
             Assert::new(Le(self.magic)),
-            Le(self.major),
-            Le(self.minor),
-            Le(self.zone),
-            Le(self.figures),
-            Le(self.longest),
+            (Le(self.major), Le(self.minor), Le(self.zone)),
+            (Le(self.figures), Le(self.longest)),
             Le(self.network),
         )
     }
@@ -195,21 +183,21 @@ impl PcapPacketLittle {
 }
 
 // The parts of PcapPacketLittle, in their order.
-type PcapPacketLittleParts = (Le<u32>, Le<u32>, Le<u32>, Le<u32>);
+type PcapPacketLittleParts = ((Le<u32>, Le<u32>), (Le<u32>, Le<u32>));
 
 impl FromParts for PcapPacketLittle {
     type Parts = PcapPacketLittleParts;
 
-    ghost parts_of = { λ r. (le r.seconds, le r.fraction, le r.kept, le r.whole) };
+    ghost parts_of = { λ r. ((le r.seconds, le r.fraction), (le r.kept, le r.whole)) };
 
     ghost record_of = { λ p. record {
-      seconds = p.0.0;
-      fraction = p.1.0;
-      kept = p.2.0;
-      whole = p.3.0;
+      seconds = p.0.0.0;
+      fraction = p.0.1.0;
+      kept = p.1.0.0;
+      whole = p.1.1.0;
     } };
 
-    fn from_parts((Le(seconds), Le(fraction), Le(kept), Le(whole)): Self::Parts) -> Self {
+    fn from_parts(((Le(seconds), Le(fraction)), (Le(kept), Le(whole))): Self::Parts) -> Self {
         PcapPacketLittle {
             seconds,
             fraction,
@@ -224,10 +212,8 @@ impl FromParts for PcapPacketLittle {
 impl ToParts for PcapPacketLittle {
     fn parts(&self) -> Self::Parts {
         (
-            Le(self.seconds),
-            Le(self.fraction),
-            Le(self.kept),
-            Le(self.whole),
+            (Le(self.seconds), Le(self.fraction)),
+            (Le(self.kept), Le(self.whole)),
         )
     }
 }
@@ -317,8 +303,7 @@ impl PcapHeaderBig {
 // The parts of PcapHeaderBig, in their order.
 type PcapHeaderBigParts = (
     Assert<Be<u32>, PcapHeaderBigMagicCheck>,
-    (Be<u16>, Be<u16>),
-    Be<i32>,
+    (Be<u16>, Be<u16>, Be<i32>),
     (Be<u32>, Be<u32>),
     Be<u32>,
 );
@@ -328,8 +313,7 @@ impl FromParts for PcapHeaderBig {
 
     ghost parts_of = { λ r. (
       record { part = be r.magic; check = record {} },
-      (be r.major, be r.minor),
-      be r.zone,
+      (be r.major, be r.minor, be r.zone),
       (be r.figures, be r.longest),
       be r.network,
     ) };
@@ -338,10 +322,10 @@ impl FromParts for PcapHeaderBig {
       magic = p.0.part.0;
       major = p.1.0.0;
       minor = p.1.1.0;
-      zone = p.2.0;
-      figures = p.3.0.0;
-      longest = p.3.1.0;
-      network = p.4.0;
+      zone = p.1.2.0;
+      figures = p.2.0.0;
+      longest = p.2.1.0;
+      network = p.3.0;
     } };
 
     fn from_parts(parts: Self::Parts) -> Self {
@@ -350,8 +334,7 @@ impl FromParts for PcapHeaderBig {
                 part: Be(magic),
                 ..
             },
-            (Be(major), Be(minor)),
-            Be(zone),
+            (Be(major), Be(minor), Be(zone)),
             (Be(figures), Be(longest)),
             Be(network),
         ) = parts;
@@ -373,8 +356,7 @@ impl ToParts for PcapHeaderBig {
     fn parts(&self) -> Self::Parts {
         (
             Assert::new(Be(self.magic)),
-            (Be(self.major), Be(self.minor)),
-            Be(self.zone),
+            (Be(self.major), Be(self.minor), Be(self.zone)),
             (Be(self.figures), Be(self.longest)),
             Be(self.network),
         )

@@ -176,14 +176,13 @@ impl BigFields {
 }
 
 // The parts of BigFields, in their order.
-type BigFieldsParts = ((Be<u16>, Be<u16>), Be<i32>, (Be<u32>, Be<u32>), Be<u32>);
+type BigFieldsParts = ((Be<u16>, Be<u16>, Be<i32>), (Be<u32>, Be<u32>), Be<u32>);
 
 impl FromParts for BigFields {
     type Parts = BigFieldsParts;
 
     ghost parts_of = { λ r. (
-      (be r.major, be r.minor),
-      be r.zone,
+      (be r.major, be r.minor, be r.zone),
       (be r.figures, be r.longest),
       be r.network,
     ) };
@@ -191,14 +190,14 @@ impl FromParts for BigFields {
     ghost record_of = { λ p. record {
       major = p.0.0.0;
       minor = p.0.1.0;
-      zone = p.1.0;
-      figures = p.2.0.0;
-      longest = p.2.1.0;
-      network = p.3.0;
+      zone = p.0.2.0;
+      figures = p.1.0.0;
+      longest = p.1.1.0;
+      network = p.2.0;
     } };
 
     fn from_parts(parts: Self::Parts) -> Self {
-        let ((Be(major), Be(minor)), Be(zone), (Be(figures), Be(longest)), Be(network)) = parts;
+        let ((Be(major), Be(minor), Be(zone)), (Be(figures), Be(longest)), Be(network)) = parts;
         BigFields {
             major,
             minor,
@@ -215,8 +214,7 @@ impl FromParts for BigFields {
 impl ToParts for BigFields {
     fn parts(&self) -> Self::Parts {
         (
-            (Be(self.major), Be(self.minor)),
-            Be(self.zone),
+            (Be(self.major), Be(self.minor), Be(self.zone)),
             (Be(self.figures), Be(self.longest)),
             Be(self.network),
         )
@@ -280,31 +278,28 @@ impl LittleFields {
 }
 
 // The parts of LittleFields, in their order.
-type LittleFieldsParts = (Le<u16>, Le<u16>, Le<i32>, Le<u32>, Le<u32>, Le<u32>);
+type LittleFieldsParts = ((Le<u16>, Le<u16>, Le<i32>), (Le<u32>, Le<u32>), Le<u32>);
 
 impl FromParts for LittleFields {
     type Parts = LittleFieldsParts;
 
     ghost parts_of = { λ r. (
-      le r.major,
-      le r.minor,
-      le r.zone,
-      le r.figures,
-      le r.longest,
+      (le r.major, le r.minor, le r.zone),
+      (le r.figures, le r.longest),
       le r.network,
     ) };
 
     ghost record_of = { λ p. record {
-      major = p.0.0;
-      minor = p.1.0;
-      zone = p.2.0;
-      figures = p.3.0;
-      longest = p.4.0;
-      network = p.5.0;
+      major = p.0.0.0;
+      minor = p.0.1.0;
+      zone = p.0.2.0;
+      figures = p.1.0.0;
+      longest = p.1.1.0;
+      network = p.2.0;
     } };
 
     fn from_parts(parts: Self::Parts) -> Self {
-        let (Le(major), Le(minor), Le(zone), Le(figures), Le(longest), Le(network)) = parts;
+        let ((Le(major), Le(minor), Le(zone)), (Le(figures), Le(longest)), Le(network)) = parts;
         LittleFields {
             major,
             minor,
@@ -321,11 +316,8 @@ impl FromParts for LittleFields {
 impl ToParts for LittleFields {
     fn parts(&self) -> Self::Parts {
         (
-            Le(self.major),
-            Le(self.minor),
-            Le(self.zone),
-            Le(self.figures),
-            Le(self.longest),
+            (Le(self.major), Le(self.minor), Le(self.zone)),
+            (Le(self.figures), Le(self.longest)),
             Le(self.network),
         )
     }
@@ -468,21 +460,21 @@ impl LittlePacket {
 }
 
 // The parts of LittlePacket, in their order.
-type LittlePacketParts = (Le<u32>, Le<u32>, Le<u32>, Le<u32>);
+type LittlePacketParts = ((Le<u32>, Le<u32>), (Le<u32>, Le<u32>));
 
 impl FromParts for LittlePacket {
     type Parts = LittlePacketParts;
 
-    ghost parts_of = { λ r. (le r.seconds, le r.fraction, le r.kept, le r.whole) };
+    ghost parts_of = { λ r. ((le r.seconds, le r.fraction), (le r.kept, le r.whole)) };
 
     ghost record_of = { λ p. record {
-      seconds = p.0.0;
-      fraction = p.1.0;
-      kept = p.2.0;
-      whole = p.3.0;
+      seconds = p.0.0.0;
+      fraction = p.0.1.0;
+      kept = p.1.0.0;
+      whole = p.1.1.0;
     } };
 
-    fn from_parts((Le(seconds), Le(fraction), Le(kept), Le(whole)): Self::Parts) -> Self {
+    fn from_parts(((Le(seconds), Le(fraction)), (Le(kept), Le(whole))): Self::Parts) -> Self {
         LittlePacket {
             seconds,
             fraction,
@@ -497,10 +489,8 @@ impl FromParts for LittlePacket {
 impl ToParts for LittlePacket {
     fn parts(&self) -> Self::Parts {
         (
-            Le(self.seconds),
-            Le(self.fraction),
-            Le(self.kept),
-            Le(self.whole),
+            (Le(self.seconds), Le(self.fraction)),
+            (Le(self.kept), Le(self.whole)),
         )
     }
 }

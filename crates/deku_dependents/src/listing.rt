@@ -40,7 +40,7 @@ pub(crate) fn list_part<'a>(
     Ok(Part {
         texts: list_texts(arena, called, form)?,
         is_lent: true,
-        number_bits: 0,
+        cut: None,
         fields: Fields::one(arena, called.name, None, ".items")?,
     })
 }

@@ -46,33 +46,29 @@ impl Position {
 
 // The parts of Position, in their order.
 type PositionParts = (
-    Be<i32>,
-    Be<i32>,
-    Be<i16>,
-    (Be<u16>, Msb<u16, 9>, Msb<u8, 7>),
+    (Be<i32>, Be<i32>),
+    (Be<i16>, Be<u16>, Msb<u16, 9>, Msb<u8, 7>),
 );
 
 impl FromParts for Position {
     type Parts = PositionParts;
 
     ghost parts_of = { λ r. (
-      be r.latitude,
-      be r.longitude,
-      be r.height,
-      (be r.speed, msb r.course, msb r.quality),
+      (be r.latitude, be r.longitude),
+      (be r.height, be r.speed, msb r.course, msb r.quality),
     ) };
 
     ghost record_of = { λ p. record {
-      latitude = p.0.0;
-      longitude = p.1.0;
-      height = p.2.0;
-      speed = p.3.0.0;
-      course = p.3.1.0;
-      quality = p.3.2.0;
+      latitude = p.0.0.0;
+      longitude = p.0.1.0;
+      height = p.1.0.0;
+      speed = p.1.1.0;
+      course = p.1.2.0;
+      quality = p.1.3.0;
     } };
 
     fn from_parts(parts: Self::Parts) -> Self {
-        let (Be(latitude), Be(longitude), Be(height), (Be(speed), Msb(course), Msb(quality))) =
+        let ((Be(latitude), Be(longitude)), (Be(height), Be(speed), Msb(course), Msb(quality))) =
             parts;
         Position {
             latitude,
@@ -90,10 +86,13 @@ impl FromParts for Position {
 impl ToParts for Position {
     fn parts(&self) -> Self::Parts {
         (
-            Be(self.latitude),
-            Be(self.longitude),
-            Be(self.height),
-            (Be(self.speed), Msb(self.course), Msb(self.quality)),
+            (Be(self.latitude), Be(self.longitude)),
+            (
+                Be(self.height),
+                Be(self.speed),
+                Msb(self.course),
+                Msb(self.quality),
+            ),
         )
     }
 }

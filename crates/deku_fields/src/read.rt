@@ -13,6 +13,7 @@ ghost use Rattle.deku_fields.specs.Promise.{FindsAny, FindsIn, LeavesBehind, Rea
 
 use crate::list::{Field, Number, high_width};
 use deku::calls::{read_signed, read_unsigned};
+use deku::ctx::Order;
 use deku::device::Source;
 use deku::error::DekuError;
 use deku::reader::Reader;
@@ -97,7 +98,7 @@ fn plain_number<R: Source>(reader: &mut Reader<R>, field: &Field) -> Option<u64>
     ensures stopped { KeepsSourceStopped reader.old reader.new }
 {
     let width = high_width(field)?;
-    let number = reader.try_read_msb(width)?;
+    let number = reader.try_read_number(width, Order::Msb0)?;
     Some(number)
 }
 

@@ -3,7 +3,7 @@
 //! bytes end.
 
 use deku::ctx::Endian::{Big, Little};
-use deku::ctx::Order::Msb0;
+use deku::ctx::Order::{Lsb0, Msb0};
 use deku::ctx::{BitSize, Endian};
 use deku::device::Source;
 use deku::prelude::{DekuError, DekuReader, NeedSize, Reader};
@@ -310,28 +310,92 @@ fn in_groups(rt: HostRuntime) -> Result<(), Fail> {
 fn words_make_values() -> Result<(), Fail> {
     same(
         &"four bits",
-        &u8::from_word(0x69C, 12, &BitSize(4)),
+        &u8::from_word(0x69C, 12, Msb0, &BitSize(4)),
         &Some((6, 4)),
     )?;
     let wide = (Big, BitSize(13));
     same(
         &"all bits",
-        &u16::from_word(0x1ABC, 13, &wide),
+        &u16::from_word(0x1ABC, 13, Msb0, &wide),
         &Some((0x1ABC, 13)),
     )?;
-    same(&"a bit less", &u16::from_word(0xABC, 12, &wide), &None)?;
-    same(&"little", &u16::from_word(0xABCD, 16, &Little), &None)?;
+    same(
+        &"a bit less",
+        &u16::from_word(0xABC, 12, Msb0, &wide),
+        &None,
+    )?;
     let address = Ipv4Addr::new(10, 0, 0, 1);
     same(
         &"an address",
-        &Ipv4Addr::from_word(0xA00_0001_FF, 40, &Big),
+        &Ipv4Addr::from_word(0xA00_0001_FF, 40, Msb0, &Big),
         &Some((address, 32)),
     )?;
     same(
         &"one bit",
-        &bool::from_word(2, 2, &BitSize(1)),
+        &bool::from_word(2, 2, Msb0, &BitSize(1)),
         &Some((true, 1)),
     )?;
-    same(&"a whole bool", &bool::from_word(1, 8, &Big), &None)?;
-    same(&"with a sign", &i8::from_word(1, 8, &Big), &None)
+    same(&"a whole bool", &bool::from_word(1, 8, Msb0, &Big), &None)
+}
+
+#[test]
+fn words_make_values_of_low_bits_and_bytes() -> Result<(), Fail> {
+    let low = (Little, BitSize(4), Lsb0);
+    same(
+        &"four bits",
+        &u8::from_word(0x69C, 12, Lsb0, &low),
+        &Some((0xC, 4)),
+    )?;
+    same(
+        &"in the other order",
+        &u8::from_word(0x69C, 12, Msb0, &low),
+        &None,
+    )?;
+    same(
+        &"bytes in reverse",
+        &u16::from_word(0xABCD, 16, Msb0, &Little),
+        &Some((0xCDAB, 16)),
+    )?;
+    let reversed = (Big, BitSize(24), Lsb0);
+    same(
+        &"low bits, and bytes in reverse",
+        &u32::from_word(0xFF_ABCDEF, 32, Lsb0, &reversed),
+        &Some((0xEF_CDAB, 24)),
+    )?;
+    let uneven = (Little, BitSize(12));
+    same(
+        &"in reverse, and no whole bytes",
+        &u16::from_word(0xABC, 12, Msb0, &uneven),
+        &None,
+    )
+}
+
+#[test]
+fn words_make_values_with_a_sign() -> Result<(), Fail> {
+    same(
+        &"below zero",
+        &i8::from_word(0xFF, 8, Msb0, &Big),
+        &Some((-1, 8)),
+    )?;
+    let twelve = (Little, BitSize(12), Lsb0);
+    same(
+        &"the least",
+        &i16::from_word(0x5800, 16, Lsb0, &twelve),
+        &Some((-2048, 12)),
+    )?;
+    same(
+        &"the most",
+        &i16::from_word(0x57FF, 16, Lsb0, &twelve),
+        &Some((2047, 12)),
+    )?;
+    same(
+        &"bytes in reverse",
+        &i32::from_word(0xFE_FFFF_FF, 32, Msb0, &Little),
+        &Some((-2, 32)),
+    )?;
+    same(
+        &"of 64 bits",
+        &i64::from_word(1 << 63, 64, Msb0, &Big),
+        &Some((i64::MIN, 64)),
+    )
 }

@@ -16,7 +16,7 @@ pub fn chosen<'a>(
     Ok(Part {
         texts: printed(arena, head.texts, called, types)?,
         is_lent: called.owner.is_lent(),
-        number_bits: 0,
+        cut: None,
         fields: head.fields.followed(arena, called.name, None, ".kind")?,
     })
 }

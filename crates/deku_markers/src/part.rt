@@ -6,7 +6,7 @@ use deku_attributes::model::Field;
 use deku_texts::document::{Form, Text, joined};
 use deku_texts::records::Records;
 use deku_texts::words::quoted;
-use deku_texts::wrapping::{Wrapping, count_of, has_sign, number_bits, number_kind, wrapping_of};
+use deku_texts::wrapping::{Cut, Wrapping, count_of, cut_of, has_sign, number_kind, wrapping_of};
 use deku_tokens::arena::Arena;
 use std::alloc::AllocError;
 
@@ -23,8 +23,8 @@ pub struct Part<'a> {
     pub texts: Texts<'a>,
     /// Whether memory is lent.
     pub is_lent: bool,
-    /// How many bits it has, if a tuple can read it with its neighbours as one word. Otherwise 0.
-    pub number_bits: u64,
+    /// What a tuple cuts it from, if it can be read with its neighbours as one word.
+    pub cut: Option<Cut>,
     /// Its fields.
     pub fields: Fields<'a>,
 }
@@ -233,7 +233,7 @@ pub fn leaf<'a>(
     let part = Part {
         texts: Texts::leaf(arena, field, named, is_lent)?,
         is_lent,
-        number_bits: number_bits(field),
+        cut: cut_of(field),
         fields: leaf_fields(arena, field, named.name)?,
     };
     let wrapping = wrapping_of(field);
@@ -275,13 +275,13 @@ fn within_one<'a>(
     Ok(Part {
         texts: part.texts.wrapped(arena, wrapping, named)?,
         is_lent: part.is_lent,
-        number_bits: part.number_bits,
+        cut: part.cut,
         fields: part.fields.within(arena, ".0", "")?,
     })
 }
 
 /// Parts as one: a tuple, or the part itself if it is alone. Beside other parts, numbers in a row
-/// are a tuple of their own, as long as their bits make one word.
+/// in one bit order are a tuple of their own, as long as their bits make one word.
 pub fn tuple<'a>(arena: &'a Arena, parts: &[Part<'a>]) -> Result<Part<'a>, AllocError> {
     let rows = in_rows(arena, parts)?;
     if rows.len() == 1 {
@@ -314,13 +314,17 @@ fn in_rows<'a>(arena: &'a Arena, parts: &[Part<'a>]) -> Result<Vec<Part<'a>>, Al
 
 // Whether a part can be read with those in front of it as one word.
 fn has_room(row: &[Part<'_>], part: &Part<'_>) -> bool {
-    let mut bits = part.number_bits;
-    let mut are_numbers = bits > 0;
+    let Some(cut) = part.cut else {
+        return row.is_empty();
+    };
+    let mut bits = cut.bits;
     for other in row {
-        are_numbers &= other.number_bits > 0;
-        bits = bits.saturating_add(other.number_bits);
+        match other.cut {
+            Some(before) if before.order == cut.order => bits = bits.saturating_add(before.bits),
+            _ => return false,
+        }
     }
-    row.is_empty() || (are_numbers && bits <= WORD && row.len() < GROUP)
+    row.is_empty() || (bits <= WORD && row.len() < GROUP)
 }
 
 fn one_tuple<'a>(arena: &'a Arena, parts: &[Part<'a>]) -> Result<Part<'a>, AllocError> {
@@ -336,7 +340,7 @@ fn several<'a>(arena: &'a Arena, parts: &[Part<'a>]) -> Result<Part<'a>, AllocEr
     Ok(Part {
         texts: tupled_texts(arena, parts)?,
         is_lent: parts.iter().any(|part| part.is_lent),
-        number_bits: 0,
+        cut: None,
         fields: tupled_fields(arena, parts)?,
     })
 }
@@ -388,7 +392,7 @@ fn nothing<'a>() -> Part<'a> {
     Part {
         texts: Texts::nothing(),
         is_lent: false,
-        number_bits: 0,
+        cut: None,
         fields: Fields::none(),
     }
 }
@@ -417,7 +421,7 @@ pub fn following<'a>(
     Ok(Part {
         texts: head.texts.following(arena, form, called, types)?,
         is_lent: true,
-        number_bits: 0,
+        cut: None,
         fields: head.fields.followed(arena, called.name, None, path)?,
     })
 }
@@ -439,7 +443,7 @@ pub fn under<'a>(
     Ok(Part {
         texts: texts.under(arena, called, [marker, number, context])?,
         is_lent,
-        number_bits: 0,
+        cut: None,
         fields: fields.followed(arena, called.name, Some(number), ".value")?,
     })
 }
@@ -466,7 +470,7 @@ fn list_to_end<'a>(
     Ok(Part {
         texts: Texts::rest(arena, called, item)?,
         is_lent: true,
-        number_bits: 0,
+        cut: None,
         fields: Fields::one(arena, called.name, None, ".items")?,
     })
 }
@@ -478,7 +482,7 @@ fn before<'a>(arena: &'a Arena, head: Part<'a>, last: Part<'a>) -> Result<Part<'
     Ok(Part {
         texts: head.texts.before(arena, last.texts)?,
         is_lent: true,
-        number_bits: 0,
+        cut: None,
         fields: fields.and(arena, others)?,
     })
 }
@@ -493,7 +497,7 @@ pub fn asserted<'a>(
     Ok(Part {
         texts: part.texts.asserted(arena, owner, marker)?,
         is_lent: part.is_lent,
-        number_bits: 0,
+        cut: None,
         fields: part.fields.within(arena, ".part", "")?,
     })
 }
@@ -510,7 +514,7 @@ pub fn constant<'a>(
     Ok(Part {
         texts: Texts::constant(arena, owner, kind, marker)?,
         is_lent: false,
-        number_bits: 0,
+        cut: None,
         fields: Fields {
             places: &[],
             names: arena.list(&[word])?,

@@ -4,5 +4,7 @@
 
 pub mod ctx;
 mod impls;
+mod slots;
 
 pub use impls::gather::{Gather, is_past_by, keep};
+pub use slots::turned_slots;

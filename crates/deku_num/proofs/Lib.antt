@@ -11,3 +11,4 @@ pub mod WorkedRows
 pub mod FieldBits
 pub mod WholeTypes
 pub mod Summed
+pub mod FromBits

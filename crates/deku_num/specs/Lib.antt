@@ -14,3 +14,4 @@ pub mod Numbers
 pub mod NumberLaws
 pub mod NumberCalls
 pub mod Rows
+pub mod Cutting

@@ -154,7 +154,7 @@ fn try_take_number<R: Source>(reader: &mut Reader<R>, layout: Layout, width: usi
     if width > 64 {
         return None;
     }
-    reader.try_read_msb(width)
+    reader.try_read_number(width, Order::Msb0)
 }
 
 // The width in bits of a field that is read.

@@ -6,7 +6,7 @@ ghost use Rattle.deku_bits.specs.Bits.{word_of};
 ghost use Rattle.deku_num.specs.NumberLaws.{Within, residue};
 ghost use Rattle.deku_num.specs.Numbers.{IsWordFor, with_sign as signed_worth, width as width_of, sized_width, IsEvenWhere, IsAllowed, number as number_of, IsFieldOf};
 
-mod narrow;
+pub(crate) mod narrow;
 
 use crate::ctx::{Endian, Layout, Order, Size};
 use crate::kernel::narrow::{narrow_number, narrow_word};

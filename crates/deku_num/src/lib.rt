@@ -3,6 +3,7 @@
 
 pub mod calls;
 pub mod ctx;
+pub mod cutting;
 pub mod kernel;
 pub mod kind;
 pub mod laws;

@@ -6,7 +6,7 @@ ghost use Rattle.deku_pieces.specs.Asserting.{ReadsAsserted, WritesAsserted};
 use deku::device::{Sink, Source};
 use deku::reader::Reader;
 use deku::writer::Writer;
-use deku::{DekuError, DekuReader, DekuWriter};
+use deku::{DekuError, DekuReader, DekuWriter, read_item};
 use std::marker::PhantomData;
 
 /// A check of a part: which parts pass, and the text of the error for all others.
@@ -87,7 +87,7 @@ impl<P: DekuReader<()>, C: Check<P>> DekuReader<()> for Assert<P, C> {
         reader: &mut Reader<R>,
         _ctx: (),
     ) -> Result<Self, DekuError> {
-        let part = P::from_reader_with_ctx(reader, ())?;
+        let part: P = read_item(reader, ())?;
         if !C::passes(&part) {
             return Err(DekuError::Assertion(C::text()));
         }

@@ -6,7 +6,7 @@ ghost use Rattle.deku_pieces.specs.Asserting.{ReadsMagic};
 use deku::device::{Sink, Source};
 use deku::reader::Reader;
 use deku::writer::Writer;
-use deku::{DekuError, DekuReader, DekuWriter};
+use deku::{DekuError, DekuReader, DekuWriter, read_item};
 use std::marker::PhantomData;
 
 /// The only value of a part, and the text of the error for another value.
@@ -94,7 +94,7 @@ impl<P: DekuReader<()>, C: Constant<P>> DekuReader<()> for Magic<P, C> {
         reader: &mut Reader<R>,
         _ctx: (),
     ) -> Result<Self, DekuError> {
-        let part = P::from_reader_with_ctx(reader, ())?;
+        let part: P = read_item(reader, ())?;
         if !C::is_value(&part) {
             return Err(DekuError::Assertion(C::text()));
         }

@@ -241,34 +241,47 @@ pub word_loses : (o : Order) (w : List Bool) (t : Option (List ℕ)) (n k : ℕ)
 word_loses o w t n k v u l m short none =
     moved_loses o w t n (m.bits) v u (m.long) l (m.moved) (λ p. short (omega (arith, p, m.long))) (λ z. none (omega (arith, z, m.long)))
 
--- ---- bits from the highest down
+-- ---- bits as their number
 -- that the window has
-pub high_inside : (w v : List Bool) (t : Option (List ℕ)) (n k : ℕ) → GivesGroup Msb0 n w k v → Moves Msb0 w t (bits_of n k) v t
-high_inside w v t n k g =
-    let same : g.group ≡ bits_of n k = sym (bits_of-bin g.group) ∙ ap₂ bits_of g.long (sym g.worth) in
-    moves_inside Msb0 w t (bits_of n k) v (g.cut ∙ ap (λ s. s ++ v) same)
+pub number_inside : (o : Order) (w v : List Bool) (t : Option (List ℕ)) (n k : ℕ) → GivesGroup o n w k v → Moves o w t (facing o (bits_of n k)) v t
+number_inside o w v t n k g =
+    let long : length (facing o g.group) ≡ n = length-facing o g.group ∙ g.long in
+    let same : bits_of n k ≡ facing o g.group = ap₂ bits_of (sym long) g.worth ∙ bits_of-bin (facing o g.group) in
+    moves_inside o w t (facing o (bits_of n k)) v (g.cut ∙ ap (λ s. s ++ facing o v) (sym (ap (facing o) same ∙ facing-facing o g.group)))
 
 -- of which the last are in eight bytes that were at hand
-pub high_short : (w v : List Bool) (n k : ℕ) (eight : List ℕ) → length eight ≡ 8 → n ≤ 64 → length w < 8 → length w < n
-    → w ++ flow Msb0 (take (groups (n - length w)) eight) ≡ bits_of n k ++ v → length v < 8
-high_short w v n k eight size wide short more cut =
+pub number_short : (o : Order) (w v : List Bool) (n k : ℕ) (eight : List ℕ) → length eight ≡ 8 → n ≤ 64 → length w < 8 → length w < n
+    → facing o w ++ flow o (take (groups (n - length w)) eight) ≡ facing o (bits_of n k) ++ facing o v → length v < 8
+number_short o w v n k eight size wide short more cut =
     let bytes : List ℕ = take (groups (n - length w)) eight in
     let long : length bytes ≡ groups (n - length w) = length-take-le (groups (n - length w)) eight (omega arith) in
-    let sum : length (w ++ flow Msb0 bytes) ≡ length (bits_of n k ++ v) = ap length cut in
-    omega (arith, sum, long, length-bits_of n k, length-append w (flow Msb0 bytes), length-flow Msb0 bytes, length-append (bits_of n k) v)
+    let sum : length (facing o w ++ flow o bytes) ≡ length (facing o (bits_of n k) ++ facing o v) = ap length cut in
+    omega (
+      arith,
+      sum,
+      long,
+      length-facing o (bits_of n k),
+      length-bits_of n k,
+      length-facing o w,
+      length-facing o v,
+      length-append (facing o w) (flow o bytes),
+      length-flow o bytes,
+      length-append (facing o (bits_of n k)) (facing o v),
+    )
 
 -- a read of them
-pub high_ok : (w : List Bool) (t : Option (List ℕ)) (c n k : ℕ) (v : List Bool) (u : Option (List ℕ)) (f g : Health) → length w ≤ 8 → c + n < 2 ^ 64
-    → Moves Msb0 w t (bits_of n k) v u → (0 < n → length v < 8) → (n ≡ 0 → (v ≡ w) × (u ≡ t)) → DeviceKept f g
-    → Outcome (TakesBits Msb0 n) (Going (stream_of w t) c) f (Ok (bits_of n k)) (Going (stream_of v u) (c + n)) g
-high_ok w t c n k v u f g l room moved short none kept =
-    let long : length (bits_of n k) ≡ n = length-bits_of n k in
-    let taken = takes_ok Msb0 w t c n (bits_of n k) v u long l room moved (λ p. short (omega (arith, p, long))) (λ z. none (omega (arith, z, long))) in
-    Quiet (subst (λ x. TakesBits Msb0 n false (Going (stream_of w t) c) (Ok (bits_of n k)) (Going (stream_of v u) (c + x))) long taken) kept
+pub number_ok : (o : Order) (w : List Bool) (t : Option (List ℕ)) (c n k : ℕ) (v : List Bool) (u : Option (List ℕ)) (f g : Health) → length w ≤ 8 → c + n < 2 ^ 64
+    → Moves o w t (facing o (bits_of n k)) v u → (0 < n → length v < 8) → (n ≡ 0 → (v ≡ w) × (u ≡ t)) → DeviceKept f g
+    → Outcome (TakesBits o n) (Going (stream_of w t) c) f (Ok (facing o (bits_of n k))) (Going (stream_of v u) (c + n)) g
+number_ok o w t c n k v u f g l room moved short none kept =
+    let bits : List Bool = facing o (bits_of n k) in
+    let long : length bits ≡ n = length-facing o (bits_of n k) ∙ length-bits_of n k in
+    let taken = takes_ok o w t c n bits v u long l room moved (λ p. short (omega (arith, p, long))) (λ z. none (omega (arith, z, long))) in
+    Quiet (subst (λ x. TakesBits o n false (Going (stream_of w t) c) (Ok bits) (Going (stream_of v u) (c + x))) long taken) kept
 
 -- as many bytes as they need were fetched
-pub high_loses : (w : List Bool) (t : Option (List ℕ)) (n k : ℕ) (v : List Bool) (u : Option (List ℕ)) → length w ≤ 8
-    → Moves Msb0 w t (bits_of n k) v u → (0 < n → length v < 8) → (n ≡ 0 → (v ≡ w) × (u ≡ t)) → Loses (groups (n - length w)) t u
-high_loses w t n k v u l moved short none =
-    let long : length (bits_of n k) ≡ n = length-bits_of n k in
-    moved_loses Msb0 w t n (bits_of n k) v u long l moved (λ p. short (omega (arith, p, long))) (λ z. none (omega (arith, z, long)))
+pub number_loses : (o : Order) (w : List Bool) (t : Option (List ℕ)) (n k : ℕ) (v : List Bool) (u : Option (List ℕ)) → length w ≤ 8
+    → Moves o w t (facing o (bits_of n k)) v u → (0 < n → length v < 8) → (n ≡ 0 → (v ≡ w) × (u ≡ t)) → Loses (groups (n - length w)) t u
+number_loses o w t n k v u l moved short none =
+    let long : length (facing o (bits_of n k)) ≡ n = length-facing o (bits_of n k) ∙ length-bits_of n k in
+    moved_loses o w t n (facing o (bits_of n k)) v u long l moved (λ p. short (omega (arith, p, long))) (λ z. none (omega (arith, z, long)))

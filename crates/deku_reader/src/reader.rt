@@ -2,8 +2,7 @@
 
 ghost use Rattle.std.specs.Prelude.{◌≡◌, ◌+◌, ◌*◌, ◌^◌, ◌≤◌, ◌<◌, false, Ok, [], length, take, drop, OnOk, IfOk, IfErr, IfSome, IsNone};
 ghost use Rattle.std.specs.Borrow.{Lends, sem};
-ghost use Rattle.deku_stream.specs.declared.ctx.Order.TheVariants.{Msb0};
-ghost use Rattle.deku_stream.specs.Bits.{bits_of};
+ghost use Rattle.deku_stream.specs.Bits.{bits_of, facing};
 ghost use Rattle.deku_stream.specs.Standings.{Going};
 ghost use Rattle.deku_reader.specs.ReaderCalls.{Reads, TakesBits, Ending, Skips, ReadsBits, ReadsVec, ReadsBytes, ReadsByteVec, ReadsWord, IsLeftover, filling, items_of, source_of, unread_of, read_count, ReadsOn, AdmitsRead, Fetched, FetchedAhead, FetchedInTime, KeepsSourceFor, KeepsSourceStopped, NamesRestOf};
 ghost use Rattle.deku_reader.specs.contracts.reader.Reader.{the_row as reader-row};
@@ -369,9 +368,9 @@ impl<R: Source> Reader<R> {
         self.state.take_short_word(&mut self.source, amt, order)
     }
 
-    /// Reads the next `amt` bits in `Msb0` as a number, of which the first bit is the highest. It
-    /// does so only if no call on the source that can fail is needed: the bits are unread, or in
-    /// memory as `Source::try_take` says.
+    /// Reads the next `amt` bits as a number. Their first bit is its highest in `Msb0`, and its
+    /// lowest in `Lsb0`. It does so only if no call on the source that can fail is needed: the bits
+    /// are unread, or in memory as `Source::try_take` says.
     ///
     /// The caller's condition: they are at most 64.
     ///
@@ -379,13 +378,13 @@ impl<R: Source> Reader<R> {
     /// many bits fails, and may also do so if it does not. Then nothing moves.
     ///
     /// ```text
-    /// reader.try_read_msb(12); // from AB CD EF 01 23 45 67 89: Some of 0xABC
+    /// reader.try_read_number(12, Order::Msb0); // from AB CD EF 01 23 45 67 89: Some of 0xABC
     /// ```
     #[inline(always)]
-    pub fn try_read_msb(&mut self, amt: usize) -> Option<u64>
+    pub fn try_read_number(&mut self, amt: usize, order: Order) -> Option<u64>
         requires { amt ≤ 64 }
-        ensures takes { IfSome result (λ number. Reads R.known (TakesBits Msb0 amt) self.old
-            (Ok (bits_of amt number)) self.new) }
+        ensures takes { IfSome result (λ number. Reads R.known (TakesBits order amt) self.old
+            (Ok (facing order (bits_of amt number))) self.new) }
         ensures below { IfSome result (λ number. number < 2 ^ amt) }
         ensures held { IfSome result (λ number. length (unread_of self.old) ≤ 8) }
         ensures fetched { IfSome result (λ number. Fetched R.known amt self.old self.new) }
@@ -395,7 +394,7 @@ impl<R: Source> Reader<R> {
         ensures stopped { KeepsSourceStopped self.old self.new }
         ensures alloc { self.new.alloc ≡ self.old.alloc }
     {
-        self.state.try_read_msb(&mut self.source, amt)
+        self.state.try_read_number(&mut self.source, amt, order)
     }
 
     /// Reads `amt` bytes into the start of the buffer. The bytes after them stay as they were.

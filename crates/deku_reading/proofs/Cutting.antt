@@ -1,27 +1,27 @@
 -- Values that are cut from one number.
-use Rattle.std.proofs.Common.{◌≡◌, ℕ, zero, suc, ◌+◌, ◌-◌, ◌⊎◌, ◌/◌, ◌%◌, ◌^◌, ◌<◌, ◌≤◌, ◌*◌, Bool, true, false, All, Bor, List, [], ◌++◌, length, take, drop, Option, Some, None, Result, Ok, Err, refl, sym, ap, ap₂, ◌∙◌, subst, inl, inr, arith, length-append, eq-eqb, ne_eqb, mod-eq_of_lt, mod-lt, ⊎_elim}
+use Rattle.std.proofs.Common.{◌≡◌, ℕ, zero, suc, ◌+◌, ◌-◌, ◌⊎◌, ◌/◌, ◌%◌, ◌^◌, ◌<◌, ◌≤◌, ◌*◌, Bool, true, false, Bor, List, [], ◌++◌, reverse, length, take, drop, Option, Some, None, Result, Ok, Err, refl, sym, ap, ap₂, ◌∙◌, subst, inl, inr, arith, length-append, eq-eqb, ne_eqb, mod-eq_of_lt, mod-lt, ⊎_elim}
 use Rattle.std.specs.Prelude.{⊤}
 use Rattle.std.proofs.lemmas.Bool.{cases_lt}
-use Rattle.std.proofs.lemmas.List.{take_at, drop_at}
-use Rattle.std.proofs.lemmas.Nat.{pow_pos, pow_below, shr_below, shr-shr, field_of, shl_below, shl-shr, from_be_bytes-to_be_bytes_8}
-use Rattle.std.specs.Int.{w64, to_be_bytes, from_be_bytes}
+use Rattle.std.proofs.lemmas.List.{take_at, drop_at, reverse-append}
+use Rattle.std.proofs.lemmas.Nat.{pow_pos, pow_below, shr_below, shr-shr, field_of}
+use Rattle.std.proofs.Math.Pow.{mod-mod-pow}
 use Rattle.std.specs.Io.Cursor.{cursor_position, cursor_inner}
 use Rattle.std.specs.declared.io.Cursor.{Cursor}
 use Rattle.deku_bits.specs.declared.ctx.Order.{Order}
-use Rattle.deku_bits.specs.declared.ctx.Order.TheVariants.{Msb0}
+use Rattle.deku_bits.specs.declared.ctx.Order.TheVariants.{Msb0, Lsb0}
 use Rattle.deku_bits.specs.declared.error.DekuError.{DekuError}
-use Rattle.deku_bits.specs.Bits.{bits_of}
+use Rattle.deku_bits.specs.Bits.{bits_of, facing}
 use Rattle.deku_bits.specs.Devices.{Health}
 use Rattle.deku_bits.specs.Standings.{Standing, Going, Stopped, reader_state}
 use Rattle.deku_bits.specs.Streams.{Stream, flow, fresh, left, taken, normal, Has}
 use Rattle.deku_bits.specs.Outcomes.{Meaning, Outcome, Quiet, Broken, Mapped, Value, Refusal}
 use Rattle.deku_bits.specs.ReaderCalls.{TakesBits, window_of}
 use Rattle.deku_bits.proofs.Binary.{length-bits_of}
-use Rattle.deku_bits.proofs.Bytes.{IsByte}
-use Rattle.deku_bits.proofs.EightBytes.{high_bits, high_first_bytes}
 use Rattle.deku_bits.proofs.Packed.{bits_of-split, bits_of-low}
 use Rattle.deku_bits.proofs.ReaderLaws.{taken_length}
 use Rattle.deku_bits.proofs.Taking.{cut_law}
+use Rattle.deku_num.specs.Cutting.{front, behind}
+use Rattle.deku_num.proofs.FromBits.{length-faced}
 use Rattle.deku_meanings.specs.Composing.{Answer, Answered, Second, First, JoinedBy}
 use Rattle.deku_reading.specs.Cutting.{IsCut, IsReadOf, IsOfNumber, IsCutFrom}
 use Rattle.deku_reading.specs.declared.items.Chain.{Chain}
@@ -83,11 +83,49 @@ taken_two o m n xs ys (Going None c) u short long (inr (room, inl p)) =
     )
 
 -- a number of the first bits, and one of the others
-pub number_cut : (m n k : ℕ) (s u : Standing (Option Stream)) → IsCut s → TakesBits Msb0 (m + n) false s (Ok (bits_of (m + n) k)) u
-    → (t : Standing (Option Stream)) × TakesBits Msb0 m false s (Ok (bits_of m (k / 2 ^ n))) t × TakesBits Msb0 n false t (Ok (bits_of n (k % 2 ^ n))) u × IsCut t
-number_cut m n k s u cut p =
+pub number_cut : (o : Order) (m n k : ℕ) (s u : Standing (Option Stream)) → IsCut s → TakesBits o (m + n) false s (Ok (facing o (bits_of (m + n) k))) u
+    → (t : Standing (Option Stream)) × TakesBits o m false s (Ok (facing o (bits_of m (front o k m n)))) t × TakesBits o n false t (Ok (facing o (bits_of n (behind o k m n)))) u × IsCut t
+number_cut Msb0 m n k s u cut p =
     let two : bits_of (m + n) k ≡ bits_of m (k / 2 ^ n) ++ bits_of n (k % 2 ^ n) = bits_of-split m n k ∙ ap (λ ys. bits_of m (k / 2 ^ n) ++ ys) (sym (bits_of-low n k)) in
     taken_two Msb0 m n (bits_of m (k / 2 ^ n)) (bits_of n (k % 2 ^ n)) s u cut (length-bits_of m (k / 2 ^ n)) (subst (λ xs. TakesBits Msb0 (m + n) false s (Ok xs) u) two p)
+number_cut Lsb0 m n k s u cut p =
+    let first : List Bool = reverse (bits_of m (k % 2 ^ m)) in
+    let others : List Bool = reverse (bits_of n (k / 2 ^ m)) in
+    let turn : m + n ≡ n + m = omega arith in
+    let two : reverse (bits_of (m + n) k) ≡ first ++ others =
+    ap (λ i. reverse (bits_of i k)) turn ∙ ap reverse (bits_of-split n m k) ∙ reverse-append (bits_of n (k / 2 ^ m)) (bits_of m k) ∙ ap (λ ys. reverse ys ++ others) (sym (bits_of-low m k)) in
+    taken_two Lsb0 m n first others s u cut (length-faced Lsb0 m (k % 2 ^ m)) (subst (λ xs. TakesBits Lsb0 (m + n) false s (Ok xs) u) two p)
+
+-- both fit their bits
+pub front_below : (o : Order) (k m n : ℕ) → k < 2 ^ (m + n) → front o k m n < 2 ^ m
+front_below Msb0 k m n small = shr_below k m n small
+front_below Lsb0 k m n small = mod-lt k (pow_pos m)
+
+behind_below : (o : Order) (k m n : ℕ) → k < 2 ^ (m + n) → behind o k m n < 2 ^ n
+behind_below Msb0 k m n small = mod-lt k (pow_pos n)
+behind_below Lsb0 k m n small = let turn : m + n ≡ n + m = omega arith in shr_below k n m (subst (λ i. k < 2 ^ i) turn small)
+
+-- the others as the code has them
+one_shifted : (n : ℕ) → n < 64 → 1 * 2 ^ n % 2 ^ 64 ≡ 2 ^ n
+one_shifted n few = let one : 1 * 2 ^ n ≡ 2 ^ n = omega arith in rw one (mod-eq_of_lt (pow_below n 64 few))
+
+pub others_high : (o : Order) (x word m n : ℕ) → o ≡ Msb0 → n < 64 → x ≡ word % (1 * 2 ^ n % 2 ^ 64) → x ≡ behind o word m n
+others_high o x word m n high few is = rw high (is ∙ ap (λ p. word % p) (one_shifted n few))
+
+pub others_low : (o : Order) (x word m n : ℕ) → o ≡ Lsb0 → x ≡ word / 2 ^ m → x ≡ behind o word m n
+others_low o x word m n low is = rw low is
+
+pub others_below : (o : Order) (x word m n : ℕ) → x ≡ behind o word m n → word < 2 ^ (m + n) → x < 2 ^ n
+others_below o x word m n is small = rw is (behind_below o word m n small)
+
+-- cut from a number, or from one of more bits
+front_of : (o : Order) (word a b c : ℕ) → front o word a (b + c) ≡ front o (front o word (a + b) c) a b
+front_of Msb0 word a b c = let turn : c + b ≡ b + c = omega arith in sym (shr-shr word c b ∙ ap (λ i. word / 2 ^ i) turn)
+front_of Lsb0 word a b c = let turn : a + b ≡ b + a = omega arith in sym (ap (λ i. word % 2 ^ i % 2 ^ a) turn ∙ mod-mod-pow word b a)
+
+behind_of : (o : Order) (word a b c : ℕ) → front o (behind o word a (b + c)) b c ≡ behind o (front o word (a + b) c) a b
+behind_of Msb0 word a b c = field_of word b c
+behind_of Lsb0 word a b c = let turn : a + b ≡ b + a = omega arith in sym (ap (λ i. word % 2 ^ i / 2 ^ a) turn ∙ field_of word b a)
 
 -- ---- known streams
 -- it gives one list of bits, and leaves one state
@@ -118,90 +156,84 @@ known_on o n c S xs t (inr (room, inr p)) = let no = p.1.0 in absurd (cc)
 known_on o n c S xs t (inr (room, inl p)) = subst IsKnown (sym p.2) tt
 
 -- the number of the next bits of one
-number_at : {V : Type 0} (m : Meaning (Option Stream) V) (n : ℕ) → IsOfNumber m n → (k : ℕ) (s t : Standing (Option Stream)) → k < 2 ^ n → IsKnown s → IsCut s → TakesBits Msb0 n false s (Ok (bits_of n k)) t
-    → (r : Result V DekuError) (u : Standing (Option Stream)) → m false s r u → (v : V) × (r ≡ Ok v) × (u ≡ t) × IsReadOf m n k v
-number_at m n is k (Going (Some S) c) t small known short took r u reads = is k S c t small short took r u reads
-number_at m n is k (Going None c) t small known short took r u reads = absurd known
-number_at m n is k (Stopped a e c) t small known short took r u reads = absurd known
+number_at : {V : Type 0} (m : Meaning (Option Stream) V) (o : Order) (n : ℕ) → IsOfNumber m o n → (k : ℕ) (s t : Standing (Option Stream)) → k < 2 ^ n → IsKnown s → IsCut s
+    → TakesBits o n false s (Ok (facing o (bits_of n k))) t → (r : Result V DekuError) (u : Standing (Option Stream)) → m false s r u → (v : V) × (r ≡ Ok v) × (u ≡ t) × IsReadOf m o n k v
+number_at m o n is k (Going (Some S) c) t small known short took r u reads = is k S c t small short took r u reads
+number_at m o n is k (Going None c) t small known short took r u reads = absurd known
+number_at m o n is k (Stopped a e c) t small known short took r u reads = absurd known
 
 -- ---- an item and those after it
--- of a shift
-pub one_shifted : (n : ℕ) → n < 64 → 1 * 2 ^ n % 2 ^ 64 ≡ 2 ^ n
-one_shifted n few = let one : 1 * 2 ^ n ≡ 2 ^ n = omega arith in rw one (mod-eq_of_lt (pow_below n 64 few))
-
 pub answer_is : {A V : Type 0} {v : V} (b : Bool) (s : Standing A) (r : Result V DekuError) (u : Standing A) → Answer v b s r u → (b ≡ false) × (r ≡ Ok v) × (u ≡ s)
 answer_is b s r u Answered = (refl, refl, refl)
 
-module _ {V W X : Type 0} (join : V → W → X) (m : Meaning (Option Stream) V) (l : Meaning (Option Stream) W) (a b : ℕ) where
-  pub joined_read : (n k : ℕ) (v : V) (w : W) → n ≡ a + b → IsReadOf m a (k / 2 ^ b) v → IsReadOf l b (k % 2 ^ b) w → IsReadOf (JoinedBy join m l) n k (join v w)
+module _ {V W X : Type 0} (join : V → W → X) (o : Order) (m : Meaning (Option Stream) V) (l : Meaning (Option Stream) W) (a b : ℕ) where
+  pub joined_read : (n k : ℕ) (v : V) (w : W) → n ≡ a + b → IsReadOf m o a (front o k a b) v → IsReadOf l o b (behind o k a b) w → IsReadOf (JoinedBy join m l) o n k (join v w)
   joined_read n k v w whole first others = λ s u cut took.
-      let two = number_cut a b k s u cut (subst (λ i. TakesBits Msb0 i false s (Ok (bits_of i k)) u) whole took) in
+      let two = number_cut o a b k s u cut (subst (λ i. TakesBits o i false s (Ok (facing o (bits_of i k))) u) whole took) in
       Second v two.0 (first s two.0 cut two.1) (Second w u (others two.0 u two.3 two.2) Answered)
 
-  pub joined_number : IsOfNumber m a → IsOfNumber l b → IsOfNumber (JoinedBy join m l) (a + b)
+  pub joined_number : IsOfNumber m o a → IsOfNumber l o b → IsOfNumber (JoinedBy join m l) o (a + b)
   joined_number first others = λ k S c t small short took r u reads. joined k S c t small short took r u reads
     where
-      joined : (k : ℕ) (S : Stream) (c : ℕ) (t : Standing (Option Stream)) → k < 2 ^ (a + b) → length S.window < 8 → TakesBits Msb0 (a + b) false (Going (Some S) c) (Ok (bits_of (a + b) k)) t
-          → (r : Result X DekuError) (u : Standing (Option Stream)) → JoinedBy join m l false (Going (Some S) c) r u → (x : X) × (r ≡ Ok x) × (u ≡ t) × IsReadOf (JoinedBy join m l) (a + b) k x
+      joined : (k : ℕ) (S : Stream) (c : ℕ) (t : Standing (Option Stream)) → k < 2 ^ (a + b) → length S.window < 8 → TakesBits o (a + b) false (Going (Some S) c) (Ok (facing o (bits_of (a + b) k))) t
+          → (r : Result X DekuError) (u : Standing (Option Stream)) → JoinedBy join m l false (Going (Some S) c) r u → (x : X) × (r ≡ Ok x) × (u ≡ t) × IsReadOf (JoinedBy join m l) o (a + b) k x
       joined k S c t small short took r u reads = by_cases reads
         where
-          two : (y : Standing (Option Stream)) × TakesBits Msb0 a false (Going (Some S) c) (Ok (bits_of a (k / 2 ^ b))) y × TakesBits Msb0 b false y (Ok (bits_of b (k % 2 ^ b))) t × IsCut y
-          two = number_cut a b k (Going (Some S) c) t short took
+          two : (y : Standing (Option Stream)) × TakesBits o a false (Going (Some S) c) (Ok (facing o (bits_of a (front o k a b)))) y × TakesBits o b false y (Ok (facing o (bits_of b (behind o k a b)))) t × IsCut y
+          two = number_cut o a b k (Going (Some S) c) t short took
 
-          front : (q : Result V DekuError) (y : Standing (Option Stream)) → m false (Going (Some S) c) q y → (v : V) × (q ≡ Ok v) × (y ≡ two.0) × IsReadOf m a (k / 2 ^ b) v
-          front = first (k / 2 ^ b) S c two.0 (shr_below k a b small) short two.1
+          start : (q : Result V DekuError) (y : Standing (Option Stream)) → m false (Going (Some S) c) q y → (v : V) × (q ≡ Ok v) × (y ≡ two.0) × IsReadOf m o a (front o k a b) v
+          start = first (front o k a b) S c two.0 (front_below o k a b small) short two.1
 
-          behind : (y : Standing (Option Stream)) → y ≡ two.0 → (q : Result W DekuError) (z : Standing (Option Stream)) → l false y q z → (w : W) × (q ≡ Ok w) × (z ≡ t) × IsReadOf l b (k % 2 ^ b) w
-          behind y is q z p = number_at l b others (k % 2 ^ b) two.0 t (mod-lt k (pow_pos b)) (known_on Msb0 a c S _ two.0 two.1) two.3 two.2 q z (subst (λ x. l false x q z) is p)
+          end : (y : Standing (Option Stream)) → y ≡ two.0 → (q : Result W DekuError) (z : Standing (Option Stream)) → l false y q z → (w : W) × (q ≡ Ok w) × (z ≡ t) × IsReadOf l o b (behind o k a b) w
+          end y is q z p = number_at l o b others (behind o k a b) two.0 t (behind_below o k a b small) (known_on o a c S _ two.0 two.1) two.3 two.2 q z (subst (λ x. l false x q z) is p)
 
-          by_cases : JoinedBy join m l false (Going (Some S) c) r u → (x : X) × (r ≡ Ok x) × (u ≡ t) × IsReadOf (JoinedBy join m l) (a + b) k x
-          by_cases (First e p x) = absurd (no_value (front (Err e) u p).1)
-          by_cases (Second v y p (First e q x)) = absurd (no_value (behind y (front (Ok v) y p).2 (Err e) u q).1)
+          by_cases : JoinedBy join m l false (Going (Some S) c) r u → (x : X) × (r ≡ Ok x) × (u ≡ t) × IsReadOf (JoinedBy join m l) o (a + b) k x
+          by_cases (First e p x) = absurd (no_value (start (Err e) u p).1)
+          by_cases (Second v y p (First e q x)) = absurd (no_value (end y (start (Ok v) y p).2 (Err e) u q).1)
           by_cases (Second v y p (Second w z q x)) =
-              let f = front (Ok v) y p in
-              let o = behind y f.2 (Ok w) z q in
+              let f = start (Ok v) y p in
+              let g = end y f.2 (Ok w) z q in
               let is = answer_is false z r u x in
-              (join v w, is.1, is.2 ∙ o.2, joined_read (a + b) k v w refl (subst (IsReadOf m a (k / 2 ^ b)) (sym (ok_same f.1)) f.3) (subst (IsReadOf l b (k % 2 ^ b)) (sym (ok_same o.1)) o.3))
+              (join v w, is.1, is.2 ∙ g.2, joined_read (a + b) k v w refl (subst (IsReadOf m o a (front o k a b)) (sym (ok_same f.1)) f.3) (subst (IsReadOf l o b (behind o k a b)) (sym (ok_same g.1)) g.3))
 
   -- from the front of a word
-  pub joined_cut : (word room : ℕ) (v : V) (w : W) → IsCutFrom m word room v a → IsCutFrom l (word % 2 ^ (room - a)) (room - a) w b → IsCutFrom (JoinedBy join m l) word room (join v w) (a + b)
+  pub joined_cut : (word room : ℕ) (v : V) (w : W) → IsCutFrom m o word room v a → IsCutFrom l o (behind o word a (room - a)) (room - a) w b → IsCutFrom (JoinedBy join m l) o word room (join v w) (a + b)
   joined_cut word room v w first others =
       let c : ℕ = room - (a + b) in
-      let for_both : c + b ≡ room - a = omega (arith, first.within, others.within) in
-      let for_others : room - a ≡ b + c = omega (arith, first.within, others.within) in
-      let for_none : room - a - b ≡ c = omega arith in
-      let high : word / 2 ^ (room - a) ≡ word / 2 ^ c / 2 ^ b = sym (shr-shr word c b ∙ ap (λ i. word / 2 ^ i) for_both) in
-      let low : word % 2 ^ (room - a) / 2 ^ (room - a - b) ≡ word / 2 ^ c % 2 ^ b = ap₂ (λ i j. word % 2 ^ i / 2 ^ j) for_others for_none ∙ field_of word b c in
+      let both : room - a ≡ b + c = omega (arith, first.within, others.within) in
+      let none : room - a - b ≡ c = omega arith in
+      let start : front o word a (room - a) ≡ front o (front o word (a + b) c) a b = ap (front o word a) both ∙ front_of o word a b c in
+      let end : front o (behind o word a (room - a)) b (room - a - b) ≡ behind o (front o word (a + b) c) a b = ap₂ (λ i j. front o (behind o word a i) b j) both none ∙ behind_of o word a b c in
       record {
         some = omega (arith, first.some);
         within = omega (arith, first.within, others.within);
         number = joined_number first.number others.number;
-        reads = joined_read (a + b) (word / 2 ^ c) (v) w refl (subst (λ k. IsReadOf m a k v) high first.reads) (subst (λ k. IsReadOf l b k w) low others.reads);
+        reads = joined_read (a + b) (front o word (a + b) c) v w refl (subst (λ k. IsReadOf m o a k v) start first.reads) (subst (λ k. IsReadOf l o b k w) end others.reads);
       }
 
 -- the whole of a word
-pub whole_cut : {V : Type 0} {m : Meaning (Option Stream) V} (word n all : ℕ) (v : V) → IsCutFrom m word n v all → all ≡ n → IsReadOf m n word v
-whole_cut {V} {m} word n all v is e =
+front_whole : (o : Order) (word n : ℕ) → word < 2 ^ n → front o word n 0 ≡ word
+front_whole Msb0 word n small = omega arith
+front_whole Lsb0 word n small = mod-eq_of_lt small
+
+pub whole_cut : {V : Type 0} {m : Meaning (Option Stream) V} (o : Order) (word n all : ℕ) (v : V) → word < 2 ^ n → IsCutFrom m o word n v all → all ≡ n → IsReadOf m o n word v
+whole_cut {V} {m} o word n all v small is e =
     let none : n - all ≡ 0 = omega (arith, e) in
-    let one : word / 2 ^ (n - all) ≡ word = ap (λ i. word / 2 ^ i) none ∙ omega arith in
-    subst (λ i. IsReadOf m i word v) e (subst (λ k. IsReadOf m all k v) one is.reads)
+    let same : front o word all (n - all) ≡ word = ap₂ (λ i j. front o word i j) e none ∙ front_whole o word n small in
+    subst (λ i. IsReadOf m o i word v) e (subst (λ k. IsReadOf m o all k v) same is.reads)
 
 -- ---- the bits of a number by themselves
--- eight bytes that begin with the bits of a number
-pub number_front : (n k : ℕ) (eight : List ℕ) → n ≤ 64 → k < 2 ^ n → eight ≡ to_be_bytes w64 (k * 2 ^ (64 - n) % 2 ^ 64) → TakesBits Msb0 n false (Going (Some (fresh eight)) 0) (Ok (bits_of n k)) (Going (Some (left Msb0 n (fresh eight))) n)
+-- a read of bytes that begin with the bits of a number
+pub number_front : (o : Order) (n k : ℕ) (eight : List ℕ) → n ≤ 64 → length eight ≡ 8 → take n (flow o eight) ≡ facing o (bits_of n k)
+    → TakesBits o n false (Going (Some (fresh eight)) 0) (Ok (facing o (bits_of n k))) (Going (Some (left o n (fresh eight))) n)
 unfolding taken
-number_front n k eight few small are =
-    let x : ℕ = k * 2 ^ (64 - n) in
-    let wide : n + (64 - n) ≡ 64 = omega (arith, few) in
-    let fits : x < 2 ^ 64 = subst (λ j. x < 2 ^ j) wide (shl_below k n (64 - n) small) in
-    let is : eight ≡ to_be_bytes w64 x = are ∙ ap (to_be_bytes w64) (mod-eq_of_lt fits) in
-    let long : length eight ≡ 8 = ap length is in
-    let all : All IsByte eight = subst (All IsByte) (sym is) (high_first_bytes 8 x) in
-    let bits : flow Msb0 eight ≡ bits_of n k ++ bits_of (64 - n) x =
-    high_bits eight long all ∙ ap (bits_of 64) (ap (from_be_bytes w64) is ∙ from_be_bytes-to_be_bytes_8 x fits) ∙ ap (λ j. bits_of j x) (sym wide) ∙ bits_of-split n (64 - n) x ∙ ap (λ y. bits_of n y ++ bits_of (64 - n) x) (shl-shr k (64 - n)) in
-    let front : taken Msb0 n (fresh eight) ≡ bits_of n k = ap (take n) bits ∙ take_at (bits_of n k) (bits_of (64 - n) x) n (length-bits_of n k) in
+number_front Msb0 n k eight few long is =
     let count : 0 + n ≡ n = omega arith in
-    inr (omega (arith, few), inl (omega (arith, long, few), ap (λ xs. Ok xs) (sym front), ap (λ c. Going (Some (left Msb0 n (fresh eight))) c) (sym count)))
+    inr (omega (arith, few), inl (omega (arith, long, few), ap (λ xs. Ok xs) (sym is), ap (λ c. Going (Some (left Msb0 n (fresh eight))) c) (sym count)))
+number_front Lsb0 n k eight few long is =
+    let count : 0 + n ≡ n = omega arith in
+    inr (omega (arith, few), inl (omega (arith, long, few), ap (λ xs. Ok xs) (sym is), ap (λ c. Going (Some (left Lsb0 n (fresh eight))) c) (sym count)))
 
 -- a reader of bytes before the first
 abbrev pub bytes_left : Cursor (Bor (List ℕ)) → Option (List ℕ)
@@ -211,10 +243,10 @@ pub reads_fresh : (k : Cursor (Bor (List ℕ))) (b : Bor (List ℕ)) (s : Standi
 unfolding normal
 reads_fresh k b s inner place start = rw (inner, place, start) refl
 
-pub made_of : {V : Type 0} (m : Meaning (Option Stream) V) (n k : ℕ) (eight : List ℕ) (s : Standing (Option Stream)) → IsOfNumber m n → n ≤ 64 → k < 2 ^ n → eight ≡ to_be_bytes w64 (k * 2 ^ (64 - n) % 2 ^ 64) → s ≡ Going (Some (fresh eight)) 0
-    → (r : Result V DekuError) (u : Standing (Option Stream)) → m false s r u → (v : V) × (r ≡ Ok v) × IsReadOf m n k v
-made_of m n k eight s is few small are start r u reads =
-    let made = is k (fresh eight) 0 _ small (omega arith) (number_front n k eight few small are) r u (subst (λ x. m false x r u) start reads) in
+pub made_of : {V : Type 0} (m : Meaning (Option Stream) V) (o : Order) (n k : ℕ) (eight : List ℕ) (s : Standing (Option Stream)) → IsOfNumber m o n → n ≤ 64 → k < 2 ^ n → length eight ≡ 8
+    → take n (flow o eight) ≡ facing o (bits_of n k) → s ≡ Going (Some (fresh eight)) 0 → (r : Result V DekuError) (u : Standing (Option Stream)) → m false s r u → (v : V) × (r ≡ Ok v) × IsReadOf m o n k v
+made_of m o n k eight s is few small long bits start r u reads =
+    let made = is k (fresh eight) 0 _ small (omega arith) (number_front o n k eight few long bits) r u (subst (λ x. m false x r u) start reads) in
     (made.0, made.1, made.3)
 
 -- ---- values that are put another way

@@ -1,6 +1,5 @@
 pub mod Early
 pub mod Holding
-pub mod Turning
 pub mod Slots
 pub mod Runs
 pub mod Addresses

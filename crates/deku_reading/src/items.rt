@@ -10,9 +10,11 @@ ghost use Rattle.deku_reading.specs.Cutting.{IsReadOf, IsOfNumber, IsCutFrom};
 ghost use Rattle.deku_reading.specs.Early.{NoReadAhead};
 
 use crate::traits::DekuReader;
+use deku_bits::ctx::Order;
 use deku_bits::device::Source;
 use deku_bits::error::DekuError;
 use deku_bits::reader::Reader;
+use deku_num::cutting::word_bytes;
 use std::alloc::Global;
 use std::io::Cursor;
 
@@ -27,13 +29,13 @@ pub(crate) trait Items<Ctx: Copy>: Drop {
     // What reading returns and leaves.
     ghost meaning: { Ctx → Meaning (Option Stream) Self };
 
-    /// The items that the first bits of a word make, and how many bits these are.
-    fn from_word(word: u64, room: usize, ctx: &Ctx) -> Option<(Self, usize)>
+    /// The items that the first bits of a word in this order make, and how many bits these are.
+    fn from_word(word: u64, room: usize, order: Order, ctx: &Ctx) -> Option<(Self, usize)>
     where
         Self: Sized,
         requires few { room ≤ 64 }
         requires below { word < 2 ^ room }
-        ensures { IfSome result (λ r. IsCutFrom (meaning ctx.now) word room r.0 r.1) };
+        ensures { IfSome result (λ r. IsCutFrom (meaning ctx.now) order word room r.0 r.1) };
 
     /// Reads each of them.
     fn each<R: Source>(reader: &mut Reader<R>, ctx: Ctx) -> Result<Self, DekuError>
@@ -57,8 +59,8 @@ impl<Ctx: Copy, A: DekuReader<Ctx>> Items<Ctx> for Last<A> {
     ghost meaning = { λ c. Mapped (λ a. record { 0 = a }) (A.meaning c) };
 
     #[inline]
-    fn from_word(word: u64, room: usize, ctx: &Ctx) -> Option<(Self, usize)> {
-        let (item, bits) = A::from_word(word, room, ctx)?;
+    fn from_word(word: u64, room: usize, order: Order, ctx: &Ctx) -> Option<(Self, usize)> {
+        let (item, bits) = A::from_word(word, room, order, ctx)?;
         Some((Last(item), bits))
     }
 
@@ -81,11 +83,18 @@ impl<Ctx: Copy, A: DekuReader<Ctx>, B: Items<Ctx>> Items<Ctx> for Chain<A, B> {
         (B.meaning c) };
 
     #[inline]
-    fn from_word(word: u64, room: usize, ctx: &Ctx) -> Option<(Self, usize)> {
-        let (item, bits) = A::from_word(word, room, ctx)?;
-        let behind = room - bits;
-        let (rest, others) = B::from_word(word % (1 << behind), behind, ctx)?;
-        Some((Chain(item, rest), bits + others))
+    fn from_word(word: u64, room: usize, order: Order, ctx: &Ctx) -> Option<(Self, usize)> {
+        let (item, bits) = A::from_word(word, room, order, ctx)?;
+        let left = room - bits;
+        if left == 0 {
+            return None;
+        }
+        let others = match order {
+            Order::Msb0 => word % (1 << left),
+            Order::Lsb0 => word >> bits,
+        };
+        let (rest, more) = B::from_word(others, left, order, ctx)?;
+        Some((Chain(item, rest), bits + more))
     }
 
     fn each<R: Source>(reader: &mut Reader<R>, ctx: Ctx) -> Result<Self, DekuError> {
@@ -108,15 +117,52 @@ pub(crate) fn try_items<Ctx: Copy, T: Items<Ctx>, R: Source>(
         reader.new)) }
     ensures stays { IsNone result → reader.new ≡ reader.old }
 {
-    // How many bits they have does not depend on the word.
-    let (_, bits) = T::from_word(0, 64, &ctx)?;
-    let Some(word) = reader.try_read_msb(bits) else {
+    let (bits, order) = word_of::<Ctx, T>(&ctx)?;
+    let Some(word) = reader.try_read_number(bits, order) else {
         return Some(read_apart(reader, ctx));
     };
-    match T::from_word(word, bits, &ctx) {
+    match T::from_word(word, bits, order, &ctx) {
         Some((items, all)) if all == bits => Some(Ok(items)),
-        _ => Some(Ok(each_of(reader.alloc(), word, bits, ctx))),
+        _ => Some(Ok(each_of(reader.alloc(), word, bits, order, ctx))),
     }
+}
+
+/// Reads an item as `from_reader_with_ctx` does, and fails as that does. An item that can be cut
+/// from a word is read as one if its bits are in memory, so that what is inlined is short.
+///
+/// The caller's condition: the type may be read under the context.
+///
+/// ```text
+/// let part: Be<u16> = read_item(&mut reader, ())?;            // 0xC0FE from C0 FE
+/// ```
+#[inline(always)]
+pub fn read_item<Ctx: Copy, T: DekuReader<Ctx>, R: Source>(
+    reader: &mut Reader<R>,
+    ctx: Ctx,
+) -> Result<T, DekuError>
+    requires { T.accepts ctx }
+    ensures reads { Reads R.known (T.meaning ctx) reader.old result reader.new }
+    ensures early { OnOk result (T.no_read_ahead ctx → NoReadAhead R.known reader.old reader.new) }
+{
+    let Last(item) = match try_items(reader, ctx) {
+        Some(items) => items?,
+        None => Last::each(reader, ctx)?,
+    };
+    Ok(item)
+}
+
+// How many bits the word has from which items are cut, and its order. Neither depends on the word.
+#[inline(always)]
+fn word_of<Ctx: Copy, T: Items<Ctx>>(ctx: &Ctx) -> Option<(usize, Order)>
+    ensures some { IfSome result (λ r. 0 < r.0) }
+    ensures few { IfSome result (λ r. r.0 ≤ 64) }
+    ensures number { IfSome result (λ r. IsOfNumber (T.meaning ctx.now) r.1 r.0) }
+{
+    if let Some((_, bits)) = T::from_word(0, 64, Order::Msb0, ctx) {
+        return Some((bits, Order::Msb0));
+    }
+    let (_, bits) = T::from_word(0, 64, Order::Lsb0, ctx)?;
+    Some((bits, Order::Lsb0))
 }
 
 // Reads each of the items, by a call.
@@ -136,15 +182,21 @@ fn read_apart<Ctx: Copy, T: Items<Ctx>, R: Source>(
 // The items that all bits of a word make, read one after the other.
 #[cold]
 #[inline(never)]
-fn each_of<Ctx: Copy, T: Items<Ctx>>(alloc: Global, word: u64, bits: usize, ctx: Ctx) -> T
+fn each_of<Ctx: Copy, T: Items<Ctx>>(
+    alloc: Global,
+    word: u64,
+    bits: usize,
+    order: Order,
+    ctx: Ctx,
+) -> T
     requires readable { T.accepts ctx }
     requires some { 0 < bits }
     requires few { bits ≤ 64 }
     requires below { word < 2 ^ bits }
-    requires number { IsOfNumber (T.meaning ctx) bits }
-    ensures { IsReadOf (T.meaning ctx) bits word result }
+    requires number { IsOfNumber (T.meaning ctx) order bits }
+    ensures { IsReadOf (T.meaning ctx) order bits word result }
 {
-    let eight = (word << (64 - bits)).to_be_bytes();
+    let eight = word_bytes(word, bits, order);
     let mut reader = Reader::new(alloc, Cursor::new(&eight[..]));
     match T::each(&mut reader, ctx) {
         Ok(items) => items,

@@ -2,9 +2,9 @@
 //! and lists that end at a limit.
 #![tactic(auto)]
 
-mod binary;
 mod impls;
 mod items;
 mod traits;
 
+pub use items::read_item;
 pub use traits::DekuReader;

@@ -8,6 +8,7 @@ ghost use Rattle.deku_reading.specs.Ahead.{ReadsOnto};
 ghost use Rattle.deku_reading.specs.Cutting.{IsCutFrom};
 ghost use Rattle.deku_reading.specs.Early.{NoReadAhead};
 
+use deku_bits::ctx::Order;
 use deku_bits::device::Source;
 use deku_bits::error::DekuError;
 use deku_bits::reader::Reader;
@@ -77,8 +78,9 @@ pub trait DekuReader<Ctx>: Drop {
     }
 
     /// The value that the first bits of a word make, and how many these bits are. The word has
-    /// `room` bits, of which the first is the highest. `None` if the bits are more, or if values of
-    /// the type are not made so under this context; the default body says that none are.
+    /// `room` bits, of which the first is the highest in `Msb0`, and the lowest in `Lsb0`. `None`
+    /// if the bits are more, or if values of the type are not made so in this order and under this
+    /// context; the default body says that none are.
     ///
     /// A tuple whose items are all made so is read as one word if its bits are in memory, which is
     /// faster than a read of each item.
@@ -86,16 +88,16 @@ pub trait DekuReader<Ctx>: Drop {
     /// The caller's conditions: the word has at most 64 bits, and is below 2 to the power `room`.
     ///
     /// ```text
-    /// u8::from_word(0x69C, 12, &BitSize(4))                       // Some((6, 4))
+    /// u8::from_word(0x69C, 12, Order::Msb0, &BitSize(4))          // Some((6, 4))
     /// ```
-    fn from_word(word: u64, room: usize, ctx: &Ctx) -> Option<(Self, usize)>
+    fn from_word(word: u64, room: usize, order: Order, ctx: &Ctx) -> Option<(Self, usize)>
     where
         Self: Sized,
         requires few { room ≤ 64 }
         requires below { word < 2 ^ room }
-        ensures { IfSome result (λ r. IsCutFrom (meaning ctx.now) word room r.0 r.1) }
+        ensures { IfSome result (λ r. IsCutFrom (meaning ctx.now) order word room r.0 r.1) }
     {
-        let _word = (word, room);
+        let _word = (word, room, order);
         let _context = ctx;
         None
     }

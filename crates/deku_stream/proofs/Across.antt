@@ -11,13 +11,13 @@ use Rattle.deku_stream.specs.declared.ctx.Order.TheVariants.{Msb0, Lsb0}
 use Rattle.deku_stream.specs.Bits.{bin, bits_of, groups, little, word_of}
 use Rattle.deku_stream.specs.Streams.{flow}
 use Rattle.deku_stream.specs.Moving.{TakesWord}
-use Rattle.deku_stream.proofs.Binary.{length-bits_of}
+use Rattle.deku_stream.proofs.Binary.{length-bits_of, bin-lt}
 use Rattle.deku_stream.proofs.Bytes.{IsByte}
 use Rattle.deku_stream.proofs.Cuts.{length-flow}
 use Rattle.deku_stream.proofs.Packed.{bits_of-split, bits_of-low, bits_of-join, bin-whole, joined_below}
 use Rattle.deku_stream.proofs.Reading.{facing_nil}
 use Rattle.deku_stream.proofs.Words.{byte_groups}
-use Rattle.deku_stream.proofs.EightBytes.{low_eight, word_low, high_front, low_front, little_front}
+use Rattle.deku_stream.proofs.EightBytes.{bits_of-bin, low_eight, word_low, high_front, low_front, little_front}
 
 -- ---- a window and a number of 64 bits after it
 -- the high bits of it
@@ -86,6 +86,24 @@ word_across_low w u bytes n number l h more few small cut =
       cut = ap (λ z. reverse w ++ z) (low_front k bytes (omega arith) l h) ∙ sym (reverse-append x w) ∙ ap reverse cut ∙ reverse-append u (bits_of n number);
       worth = sym (word_low s ∙ ap bin (reverse-reverse (bits_of n number)) ∙ bin-whole n number small);
     }
+
+-- in `Lsb0`, their bits
+pub low_bits_taken : (w u : List Bool) (bytes : List ℕ) (n k : ℕ) → TakesWord Lsb0 w bytes n k u → (k < 2 ^ n) × (reverse w ++ flow Lsb0 bytes ≡ reverse (bits_of n k) ++ reverse u)
+low_bits_taken w u bytes n k t =
+    let long : length (reverse t.bits) ≡ n = length-reverse t.bits ∙ t.long in
+    let worth : k ≡ bin (reverse t.bits) = t.worth ∙ word_low t.bits in
+    let same : bits_of n k ≡ reverse t.bits = ap₂ bits_of (sym long) worth ∙ bits_of-bin (reverse t.bits) in (
+      rw (worth, ← long) (bin-lt (reverse t.bits)),
+      t.cut ∙ ap (λ s. s ++ reverse u) (sym (ap reverse same ∙ reverse-reverse t.bits)),
+    )
+
+-- of whole bytes after no bits none is left
+pub low_whole : (w : List Bool) (bytes : List ℕ) (n k : ℕ) → length w ≡ 0 → TakesWord Lsb0 [] (take (groups n) bytes) n k []
+    → (k < 2 ^ n) × (reverse w ++ flow Lsb0 (take (groups (n - length w)) bytes) ≡ reverse (bits_of n k) ++ reverse w)
+low_whole w bytes n k none t =
+    let nothing : w ≡ [] = nil_from_length w none in
+    let same : n - length {A = Bool} [] ≡ n = omega arith in
+    rw (nothing, same) (low_bits_taken [] [] (take (groups n) bytes) n k t)
 
 -- as the code has them
 pub held_shifted : (w v b : ℕ) → v < 2 ^ w → w + b ≤ 64 → v * 2 ^ (b % 64) % 2 ^ 64 ≡ v * 2 ^ b

@@ -150,7 +150,7 @@ impl Window {
     /// Takes the next `count` bits, the high bits first, with those of these eight bytes after the
     /// unread ones, and returns their number. The rest of the last byte that they need is then
     /// unread.
-    #[inline(always)]
+    #[inline]
     pub fn take_high_across(&mut self, eight: &[u8; 8], count: usize) -> u64
         requires short { length self.old < 8 }
         requires more { length self.old < count }
@@ -165,6 +165,24 @@ impl Window {
             return number >> (64 - count);
         }
         self.across_high(number, count)
+    }
+
+    /// Takes the next `count` bits, the low bits first, as `take_high_across` does the high ones.
+    #[inline]
+    pub fn take_low_across(&mut self, eight: &[u8; 8], count: usize) -> u64
+        requires short { length self.old < 8 }
+        requires more { length self.old < count }
+        requires few { count ≤ 64 }
+        ensures below { result < 2 ^ count }
+        ensures cut { facing Order.Lsb0 self.old ++ flow Order.Lsb0
+            (take (groups (count - length self.old)) eight.now) ≡ facing Order.Lsb0
+            (bits_of count result) ++ facing Order.Lsb0 self.new }
+    {
+        // Whole bytes leave no bit unread, if none was unread.
+        if self.len == 0 && count % 8 == 0 {
+            return word_of_front(eight, count);
+        }
+        self.across_low(u64::from_le_bytes(*eight), count)
     }
 
     // The number of the next bits, with the high bits of `eight` after the unread ones.

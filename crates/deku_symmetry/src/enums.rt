@@ -12,7 +12,7 @@ use crate::traits::Symmetric;
 use deku::device::{Sink, Source};
 use deku::reader::Reader;
 use deku::writer::Writer;
-use deku::{DekuError, DekuReader, DekuWriter};
+use deku::{DekuError, DekuReader, DekuWriter, read_item};
 use std::marker::PhantomData;
 
 /// How an id is laid out: a part that is one number without a sign.
@@ -181,7 +181,7 @@ impl<I: Id, K: Kinds> DekuReader<()> for Enum<I, K> {
 
     #[inline(always)]
     fn from_reader_with_ctx<R: Source>(reader: &mut Reader<R>, c: ()) -> Result<Self, DekuError> {
-        let id = I::from_reader_with_ctx(reader, c)?;
+        let id: I = read_item(reader, c)?;
         let kind = K::read_kind(reader, id.number())?;
         Ok(Enum::new(kind))
     }

@@ -39,8 +39,8 @@ impl<T: DekuReader<(Endian, BitSize)>, const N: usize> DekuReader<()> for Msb<T,
     }
 
     #[inline]
-    fn from_word(word: u64, room: usize, _ctx: &()) -> Option<(Self, usize)> {
-        let (value, bits) = T::from_word(word, room, &(Endian::Big, BitSize(N)))?;
+    fn from_word(word: u64, room: usize, order: Order, _ctx: &()) -> Option<(Self, usize)> {
+        let (value, bits) = T::from_word(word, room, order, &(Endian::Big, BitSize(N)))?;
         Some((Msb(value), bits))
     }
 }
@@ -90,6 +90,17 @@ impl<T: DekuReader<(Endian, BitSize, Order)>, const N: usize> DekuReader<()> for
     ) -> Result<Self, DekuError> {
         let value = T::from_reader_with_ctx(reader, (Endian::Little, BitSize(N), Order::Lsb0))?;
         Ok(Lsb(value))
+    }
+
+    #[inline]
+    fn from_word(word: u64, room: usize, order: Order, _ctx: &()) -> Option<(Self, usize)> {
+        let (value, bits) = T::from_word(
+            word,
+            room,
+            order,
+            &(Endian::Little, BitSize(N), Order::Lsb0),
+        )?;
+        Some((Lsb(value), bits))
     }
 }
 
@@ -141,8 +152,8 @@ impl<T: DekuReader<(Endian, BitSize)>, const N: usize> DekuReader<()> for MsbLe<
     }
 
     #[inline]
-    fn from_word(word: u64, room: usize, _ctx: &()) -> Option<(Self, usize)> {
-        let (value, bits) = T::from_word(word, room, &(Endian::Little, BitSize(N)))?;
+    fn from_word(word: u64, room: usize, order: Order, _ctx: &()) -> Option<(Self, usize)> {
+        let (value, bits) = T::from_word(word, room, order, &(Endian::Little, BitSize(N)))?;
         Some((MsbLe(value), bits))
     }
 }
@@ -194,6 +205,17 @@ impl<T: DekuReader<(Endian, BitSize, Order)>, const N: usize> DekuReader<()> for
         let value = T::from_reader_with_ctx(reader, (Endian::Big, BitSize(N), Order::Lsb0))?;
         Ok(LsbBe(value))
     }
+
+    #[inline]
+    fn from_word(word: u64, room: usize, order: Order, _ctx: &()) -> Option<(Self, usize)> {
+        let (value, bits) = T::from_word(
+            word,
+            room,
+            order,
+            &(Endian::Big, BitSize(N), Order::Lsb0),
+        )?;
+        Some((LsbBe(value), bits))
+    }
 }
 
 impl<T: DekuWriter<(Endian, BitSize, Order)>, const N: usize> DekuWriter<()> for LsbBe<T, N> {
@@ -243,8 +265,8 @@ impl<T: DekuReader<Endian>> DekuReader<()> for Be<T> {
     }
 
     #[inline]
-    fn from_word(word: u64, room: usize, _ctx: &()) -> Option<(Self, usize)> {
-        let (value, bits) = T::from_word(word, room, &Endian::Big)?;
+    fn from_word(word: u64, room: usize, order: Order, _ctx: &()) -> Option<(Self, usize)> {
+        let (value, bits) = T::from_word(word, room, order, &Endian::Big)?;
         Some((Be(value), bits))
     }
 }
@@ -292,6 +314,12 @@ impl<T: DekuReader<Endian>> DekuReader<()> for Le<T> {
     ) -> Result<Self, DekuError> {
         let value = T::from_reader_with_ctx(reader, Endian::Little)?;
         Ok(Le(value))
+    }
+
+    #[inline]
+    fn from_word(word: u64, room: usize, order: Order, _ctx: &()) -> Option<(Self, usize)> {
+        let (value, bits) = T::from_word(word, room, order, &Endian::Little)?;
+        Some((Le(value), bits))
     }
 }
 

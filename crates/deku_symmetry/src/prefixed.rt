@@ -13,7 +13,7 @@ use deku::ctx::Limit;
 use deku::device::{Sink, Source};
 use deku::reader::Reader;
 use deku::writer::Writer;
-use deku::{DekuContainerRead, DekuContainerWrite, DekuError, DekuReader, DekuWriter};
+use deku::{DekuContainerRead, DekuContainerWrite, DekuError, DekuReader, DekuWriter, read_item};
 use std::marker::PhantomData;
 
 /// A count that is laid out as `I`, and after it as many items. The items are counted when they are
@@ -60,7 +60,7 @@ impl<I: Id, T: DekuReader<()>> DekuReader<()> for Prefixed<I, T> {
 
     #[inline(always)]
     fn from_reader_with_ctx<R: Source>(reader: &mut Reader<R>, c: ()) -> Result<Self, DekuError> {
-        let count = I::from_reader_with_ctx(reader, c)?;
+        let count: I = read_item(reader, c)?;
         let limit = Limit::new_count(count.number() as usize);
         let items = Vec::from_reader_with_ctx(reader, (limit, ()))?;
         Ok(Prefixed::new(items))

@@ -16,6 +16,15 @@ pub struct Wrapping {
     pub bits: Option<u64>,
 }
 
+/// What a tuple cuts from the word that it reads.
+#[derive(Clone, Copy)]
+pub struct Cut {
+    /// How many bits.
+    pub bits: u64,
+    /// In which order.
+    pub order: Order,
+}
+
 const BARE: Wrapping = Wrapping {
     around: "",
     bits: None,
@@ -110,26 +119,25 @@ pub fn has_sign(kind: &Type<'_>) -> bool {
     }
 }
 
-/// How many bits a field has, if it is a number, an address or a truth value that a tuple can read
-/// with its neighbours as one word. Otherwise 0.
-pub fn number_bits(field: &Field<'_>) -> u64 {
+/// What a tuple cuts a field from, if it can be read with its neighbours as one word: it is a
+/// number, an address, or a truth value of one bit, and its bytes are in the order of its bits, or
+/// whole and in reverse.
+pub fn cut_of(field: &Field<'_>) -> Option<Cut> {
     let Type::Name(name) = field.kind else {
-        return 0;
+        return None;
     };
     let Wrapping { around, bits } = wrapping_of(field);
-    let all = match bits {
+    let bits = match bits {
         Some(bits) => bits,
-        None => common_bits(&field.kind).unwrap_or(0),
+        None => common_bits(&field.kind)?,
     };
-    let is_whole_bool = name.text == "bool" && all != 1;
-    if is_whole_bool || has_sign(&field.kind) {
-        return 0;
+    let is_whole_bool = name.text == "bool" && bits != 1;
+    let is_turned = matches!(around, "Le" | "MsbLe" | "LsbBe");
+    if bits == 0 || is_whole_bool || (is_turned && bits > 8 && bits % 8 != 0) {
+        return None;
     }
-    match around {
-        "Msb" | "Be" => all,
-        "" | "MsbLe" if all <= 8 => all,
-        _ => 0,
-    }
+    let order = field.layout.order;
+    Some(Cut { bits, order })
 }
 
 /// The bits of each number that a type is made of, if they are all as many.

@@ -82,9 +82,9 @@ fn word_of_high(number: u64, width: usize) -> u64
     turned(number >> behind, count) + (last << (8 * count))
 }
 
-// This many bytes of a number, in reverse order.
+/// This many bytes of a number, in reverse order.
 #[inline(always)]
-fn turned(number: u64, count: usize) -> u64
+pub fn turned(number: u64, count: usize) -> u64
     requires some { 0 < count }
     requires few { count ≤ 8 }
     ensures value { result ≡ swap_bytes w128 number / 2 ^ (128 - 8 * count) }

@@ -166,7 +166,7 @@ const HIGH: [(usize, Option<u64>); 14] = [
 fn expect_high<R: Source + Drop>(alloc: Global, source: R) -> Result<(), Fail> {
     let mut reader = Reader::new(alloc, source);
     for (n, want) in HIGH {
-        same(&(0, n), &reader.try_read_msb(n.min(64)), &want)?;
+        same(&(0, n), &reader.try_read_number(n.min(64), Msb0), &want)?;
     }
     let seen = (reader.bits_read(), reader.read_word(8, Msb0));
     same(&(1, 8), &seen, &(96, Err(Refusal::Until(8).error())))

@@ -12,6 +12,7 @@ ghost use Rattle.deku_plan.specs.Plans.{IsStepOf, IsHigh, AreSteps};
 
 use crate::step::Step;
 use deku::calls::{read_signed, read_unsigned};
+use deku::ctx::Order;
 use deku::device::Source;
 use deku::error::DekuError;
 use deku::reader::Reader;
@@ -83,7 +84,7 @@ fn high_number<R: Source>(reader: &mut Reader<R>, field: &Field, step: Step) -> 
     ensures stopped { KeepsSourceStopped reader.old reader.new }
 {
     let width = high_width(field, step)?;
-    let number = reader.try_read_msb(width)?;
+    let number = reader.try_read_number(width, Order::Msb0)?;
     Some(number)
 }
 

@@ -7,8 +7,7 @@ ghost use Rattle.std.specs.Io.KnownBytes.{Consumes};
 ghost use Rattle.std.specs.IoError.{error_kind};
 ghost use Rattle.std.specs.Vec.{vec_len, vec_capacity};
 ghost use Rattle.deku_stream.specs.declared.ctx.Order.{Order as BitOrder};
-ghost use Rattle.deku_stream.specs.declared.ctx.Order.TheVariants.{Msb0};
-ghost use Rattle.deku_stream.specs.Bits.{bits_of};
+ghost use Rattle.deku_stream.specs.Bits.{bits_of, facing};
 ghost use Rattle.deku_device.specs.Devices.{DeviceKept, DeviceFailed, FewerThan, StaysEmpty};
 ghost use Rattle.deku_stream.specs.Kept.{Admits};
 ghost use Rattle.deku_stream.specs.Moving.{Moves, FewerBits};
@@ -27,7 +26,7 @@ use crate::reader::progress::bits::bits_into;
 use crate::reader::progress::bytes::{bytes_into, bytes_onto};
 use crate::reader::progress::skips::{drop_bits, pass_bytes, pop_bits};
 use crate::reader::progress::tally::Tally;
-use crate::reader::progress::words::{short_word_from, try_read_msb, word_from};
+use crate::reader::progress::words::{short_word_from, try_read_number, word_from};
 use deku_device::device::Source;
 use deku_stream::ctx::Order;
 use deku_stream::error::{DekuError, Fault, NeedSize};
@@ -225,14 +224,19 @@ impl ReaderState {
         }
     }
 
-    /// Takes at most 64 bits, with the high bits first, as their number. This needs that nothing
-    /// rejects the read and that the bits are unread or in memory. Otherwise it returns `None`, and
-    /// nothing moves.
+    /// Takes at most 64 bits in this order, as their number. This needs that nothing rejects the
+    /// read and that the bits are unread or in memory. Otherwise it returns `None`, and nothing
+    /// moves.
     #[inline(always)]
-    pub fn try_read_msb<R: Source>(&mut self, source: &mut R, amt: usize) -> Option<u64>
+    pub fn try_read_number<R: Source>(
+        &mut self,
+        source: &mut R,
+        amt: usize,
+        order: Order,
+    ) -> Option<u64>
         requires { amt ≤ 64 }
-        ensures takes { IfSome result (λ number. ReadsAt (TakesBits Msb0 amt) (R.known source.old)
-            self.old (Ok (bits_of amt number)) (R.known source.new) self.new) }
+        ensures takes { IfSome result (λ number. ReadsAt (TakesBits order amt) (R.known source.old)
+            self.old (Ok (facing order (bits_of amt number))) (R.known source.new) self.new) }
         ensures below { IfSome result (λ number. number < 2 ^ amt) }
         ensures held { IfSome result (λ number. length (window_of self.old) ≤ 8) }
         ensures fetched { IfSome result (λ number. FetchesFor amt self.old (R.known source.old)
@@ -245,7 +249,7 @@ impl ReaderState {
         let Ok(()) = self.admits(amt) else {
             return None;
         };
-        let number = try_read_msb(source, &mut self.window, amt)?;
+        let number = try_read_number(source, &mut self.window, amt, order)?;
         self.tally.add(amt);
         Some(number)
     }

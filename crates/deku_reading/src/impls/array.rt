@@ -1,6 +1,6 @@
 //! Arrays: a fixed number of items, in order.
 
-ghost use Rattle.std.specs.Prelude.{◌≡◌, ℕ, ◌<◌, List, Option, Some, None, map, length, slice_index_or, slice_set, IsSome, OnOk, IfOk};
+ghost use Rattle.std.specs.Prelude.{◌≡◌, ℕ, List, Option, Some, map, length, OnOk, IfOk};
 ghost use Rattle.deku_bits.specs.ReaderCalls.{Reads, filling};
 ghost use Rattle.deku_reading.specs.Early.{NoReadAhead};
 ghost use Rattle.deku_reading.specs.Lists.{ReadsTimes, Seen};
@@ -9,6 +9,7 @@ use crate::traits::DekuReader;
 use deku_bits::device::Source;
 use deku_bits::error::DekuError;
 use deku_bits::reader::Reader;
+use deku_meanings::turned_slots;
 use std::array;
 
 /// A type that is read as a fixed number of elements, with a slot for each of them.
@@ -74,49 +75,6 @@ where
     }
 }
 
-// Reads an item into each slot.
-fn fill_slots<C: Copy, T: DekuReader<C>, R: Source>(
-    slots: &mut [Option<T>],
-    reader: &mut Reader<R>,
-    ctx: C,
-) -> Result<(), DekuError>
-    requires { T.accepts ctx }
-    ensures reads { (xs : List T) × Reads R.known (ReadsTimes (length slots.old) (T.meaning ctx))
-        reader.old (filling result xs) reader.new
-        × IfOk result (λ _. (length xs ≡ length slots.old) × (slots.new ≡ map Some xs)) }
-    ensures early { OnOk result (T.no_read_ahead ctx → NoReadAhead R.known reader.old reader.new) }
-{
-    for place in 0..slots.len() {
-        slots[place] = Some(T::from_reader_with_ctx(reader, ctx)?);
-    }
-    Ok(())
-}
-
-// Takes the item out of a slot.
-fn take_at<T, const N: usize>(slots: &mut [Option<T>; N], place: usize) -> T
-    requires in_bounds { place < length slots.old }
-    requires filled { IsSome (slice_index_or slots.old place None) }
-    ensures value { slice_index_or slots.old place None ≡ Some result }
-    ensures after { slots.new ≡ slice_set slots.old place None }
-{
-    let slot = &mut slots[place];
-    slot.take().unwrap()
-}
-
-// The items of slots that are full.
-fn turned_slots<T: Drop, const N: usize>(slots: [Option<T>; N]) -> [T; N]
-    requires { (k : ℕ) → k < N → IsSome (slice_index_or slots k None) }
-    ensures { slots ≡ map Some result }
-{
-    let mut slots = slots;
-    let take = |place: usize| -> T
-        requires { (place < length slots) × IsSome (slice_index_or slots place None) }
-        ensures value { slice_index_or slots.entry place None ≡ Some result }
-        ensures after { slots.exit ≡ slice_set slots.entry place None }
-    { take_at(&mut slots, place) };
-    array::from_fn(take)
-}
-
 impl<T: Drop, const N: usize> ArrayLike for [T; N] {
     type Element = T;
 
@@ -140,7 +98,10 @@ impl<T: Drop, const N: usize> ArrayLike for [T; N] {
     where
         T: DekuReader<C>,
     {
-        fill_slots(slots, reader, ctx)
+        for place in 0..slots.len() {
+            slots[place] = Some(T::from_reader_with_ctx(reader, ctx)?);
+        }
+        Ok(())
     }
 
     fn turned(slots: [Option<T>; N]) -> [T; N] {

@@ -6,12 +6,12 @@ ghost use Rattle.deku_num.specs.NumberCalls.{ReadsUnsigned};
 ghost use Rattle.deku_meanings.specs.Composing.{Then};
 ghost use Rattle.deku_meanings.specs.Shapes.{ShowsUnless, numeral};
 
-use crate::binary::cut_number;
 use crate::traits::DekuReader;
 use deku_bits::device::Source;
 use deku_bits::error::DekuError;
 use deku_bits::reader::Reader;
-use deku_num::ctx::NumberCtx;
+use deku_num::ctx::{NumberCtx, Order};
+use deku_num::cutting::cut_unsigned;
 use deku_num::kind::NumberType;
 
 /// Read as a `u8`, and fails as that does: 0 is false and 1 is true. Any other number fails with
@@ -31,8 +31,8 @@ impl<C: NumberCtx> DekuReader<C> for bool {
     }
 
     #[inline]
-    fn from_word(word: u64, room: usize, ctx: &C) -> Option<(Self, usize)> {
-        let (value, bits) = cut_number(word, room, NumberType::U8, ctx.parts())?;
+    fn from_word(word: u64, room: usize, order: Order, ctx: &C) -> Option<(Self, usize)> {
+        let (value, bits) = cut_unsigned(word, room, order, NumberType::U8, ctx.parts())?;
         if bits > 1 {
             return None;
         }

@@ -54,7 +54,7 @@ fn read_eight_onto<R: Source>(reader: &mut Reader<R>, bytes: &mut Vec<u8>, most:
     let Ok(()) = bytes.reserve(most.min(64)) else {
         return 0;
     };
-    let Some(number) = reader.try_read_msb(8 * count) else {
+    let Some(number) = reader.try_read_number(8 * count, Order::Msb0) else {
         return 0;
     };
     let eight = (number << (64 - 8 * count)).to_be_bytes();

@@ -34,7 +34,7 @@ fn gather_count<B: Gather<T>, T: DekuReader<C>, C: Copy, R: Source>(
 
 // Items up to and including the first of which the predicate is true. The predicate is left as it
 // is after the last item.
-fn gather_asking<B: Gather<T>, T: DekuReader<C>, C: Copy, R: Source, P: Predicate<T>>(
+fn gather_until<B: Gather<T>, T: DekuReader<C>, C: Copy, R: Source, P: Predicate<T>>(
     mut into: B,
     reader: &mut Reader<R>,
     predicate: &mut P,
@@ -56,25 +56,6 @@ fn gather_asking<B: Gather<T>, T: DekuReader<C>, C: Copy, R: Source, P: Predicat
             return Ok(into);
         }
     }
-}
-
-// Reads items up to and including the first of which the predicate is true, and drops the
-// predicate.
-fn gather_until<B: Gather<T>, T: DekuReader<C>, C: Copy, R: Source, P: Predicate<T>>(
-    into: B,
-    reader: &mut Reader<R>,
-    mut predicate: P,
-    ctx: C,
-) -> Result<B, DekuError>
-    requires readable { T.accepts ctx }
-    requires askable { P.asks_all predicate }
-    ensures reads { Reads R.known (MappedBy (λ xs b. FoldsTo B.puts into xs b)
-        (ReadsUntil P.answers P.ended predicate (T.meaning ctx))) reader.old result reader.new }
-    ensures early { OnOk result (T.no_read_ahead ctx → NoReadAhead R.known reader.old reader.new) }
-{
-    let gathered = gather_asking(into, reader, &mut predicate, ctx);
-    predicate.finish();
-    gathered
 }
 
 // Reads items up to and including the one with which exactly this many bits are read.
@@ -142,7 +123,11 @@ pub fn gather_under<B: Gather<T>, T: DekuReader<C>, C: Copy, R: Source, P: Predi
 {
     match limit {
         Limit::Count(count) => gather_count(into, reader, count, ctx),
-        Limit::Until(predicate, _) => gather_until(into, reader, predicate, ctx),
+        Limit::Until(mut predicate, _) => {
+            let gathered = gather_until(into, reader, &mut predicate, ctx);
+            predicate.finish();
+            gathered
+        }
         Limit::ByteSize(ByteSize(bytes)) => match bytes.checked_mul(8) {
             Some(bits) => gather_bits(into, reader, bits, ctx),
             None => Err(DekuError::InvalidParam("count past usize")),

@@ -6,12 +6,12 @@ ghost use Rattle.deku_num.specs.NumberCalls.{ReadsUnsigned};
 ghost use Rattle.deku_meanings.specs.Composing.{Then};
 ghost use Rattle.deku_meanings.specs.Shapes.{Shows};
 
-use crate::binary::cut_number;
 use crate::traits::DekuReader;
 use deku_bits::device::Source;
 use deku_bits::error::DekuError;
 use deku_bits::reader::Reader;
-use deku_num::ctx::NumberCtx;
+use deku_num::ctx::{NumberCtx, Order};
+use deku_num::cutting::cut_unsigned;
 use deku_num::kind::NumberType;
 use std::net::{Ipv4Addr, Ipv6Addr};
 
@@ -26,8 +26,8 @@ impl<C: NumberCtx> DekuReader<C> for Ipv4Addr {
     }
 
     #[inline]
-    fn from_word(word: u64, room: usize, ctx: &C) -> Option<(Self, usize)> {
-        let (value, bits) = cut_number(word, room, NumberType::U32, ctx.parts())?;
+    fn from_word(word: u64, room: usize, order: Order, ctx: &C) -> Option<(Self, usize)> {
+        let (value, bits) = cut_unsigned(word, room, order, NumberType::U32, ctx.parts())?;
         Some((Ipv4Addr::from_bits(value as u32), bits))
     }
 }

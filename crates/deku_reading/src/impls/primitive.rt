@@ -20,14 +20,14 @@ ghost use Rattle.deku_num.specs.Numbers.{width, byte, unsigned, signed};
 ghost use Rattle.deku_reading.specs.Early.{NoReadAhead};
 ghost use Rattle.deku_num.specs.NumberCalls.{ReadsUnsigned, ReadsNumber};
 
-use crate::binary::cut_number;
 use crate::impls::bytes::read_bytes_onto;
 use crate::traits::DekuReader;
 use deku_bits::device::Source;
 use deku_bits::error::DekuError;
 use deku_bits::reader::Reader;
 use deku_num::calls::{read_signed, read_unsigned};
-use deku_num::ctx::NumberCtx;
+use deku_num::ctx::{NumberCtx, Order};
+use deku_num::cutting::{cut_signed, cut_unsigned};
 use deku_num::kind::NumberType;
 
 /// Reads a `u8` as its context says: the whole eight bits, or as many as a `BitSize` says; under a
@@ -62,8 +62,8 @@ impl<C: NumberCtx> DekuReader<C> for u8 {
     }
 
     #[inline]
-    fn from_word(word: u64, room: usize, ctx: &C) -> Option<(Self, usize)> {
-        let (value, bits) = cut_number(word, room, NumberType::U8, ctx.parts())?;
+    fn from_word(word: u64, room: usize, order: Order, ctx: &C) -> Option<(Self, usize)> {
+        let (value, bits) = cut_unsigned(word, room, order, NumberType::U8, ctx.parts())?;
         Some((value as u8, bits))
     }
 }
@@ -90,8 +90,8 @@ impl<C: NumberCtx> DekuReader<C> for u16 {
     }
 
     #[inline]
-    fn from_word(word: u64, room: usize, ctx: &C) -> Option<(Self, usize)> {
-        let (value, bits) = cut_number(word, room, NumberType::U16, ctx.parts())?;
+    fn from_word(word: u64, room: usize, order: Order, ctx: &C) -> Option<(Self, usize)> {
+        let (value, bits) = cut_unsigned(word, room, order, NumberType::U16, ctx.parts())?;
         Some((value as u16, bits))
     }
 }
@@ -118,8 +118,8 @@ impl<C: NumberCtx> DekuReader<C> for u32 {
     }
 
     #[inline]
-    fn from_word(word: u64, room: usize, ctx: &C) -> Option<(Self, usize)> {
-        let (value, bits) = cut_number(word, room, NumberType::U32, ctx.parts())?;
+    fn from_word(word: u64, room: usize, order: Order, ctx: &C) -> Option<(Self, usize)> {
+        let (value, bits) = cut_unsigned(word, room, order, NumberType::U32, ctx.parts())?;
         Some((value as u32, bits))
     }
 }
@@ -146,8 +146,8 @@ impl<C: NumberCtx> DekuReader<C> for u64 {
     }
 
     #[inline]
-    fn from_word(word: u64, room: usize, ctx: &C) -> Option<(Self, usize)> {
-        let (value, bits) = cut_number(word, room, NumberType::U64, ctx.parts())?;
+    fn from_word(word: u64, room: usize, order: Order, ctx: &C) -> Option<(Self, usize)> {
+        let (value, bits) = cut_unsigned(word, room, order, NumberType::U64, ctx.parts())?;
         Some((value, bits))
     }
 }
@@ -217,6 +217,12 @@ impl<C: NumberCtx> DekuReader<C> for i8 {
         let value = read_signed(reader, NumberType::I8, ctx.parts())?;
         Ok(value as i8)
     }
+
+    #[inline]
+    fn from_word(word: u64, room: usize, order: Order, ctx: &C) -> Option<(Self, usize)> {
+        let (value, bits) = cut_signed(word, room, order, NumberType::I8, ctx.parts())?;
+        Some((value as i8, bits))
+    }
 }
 
 /// Reads an `i16` as its context says: the whole 16 bits, or as many bits or bytes as a size says;
@@ -239,6 +245,12 @@ impl<C: NumberCtx> DekuReader<C> for i16 {
     {
         let value = read_signed(reader, NumberType::I16, ctx.parts())?;
         Ok(value as i16)
+    }
+
+    #[inline]
+    fn from_word(word: u64, room: usize, order: Order, ctx: &C) -> Option<(Self, usize)> {
+        let (value, bits) = cut_signed(word, room, order, NumberType::I16, ctx.parts())?;
+        Some((value as i16, bits))
     }
 }
 
@@ -263,6 +275,12 @@ impl<C: NumberCtx> DekuReader<C> for i32 {
         let value = read_signed(reader, NumberType::I32, ctx.parts())?;
         Ok(value as i32)
     }
+
+    #[inline]
+    fn from_word(word: u64, room: usize, order: Order, ctx: &C) -> Option<(Self, usize)> {
+        let (value, bits) = cut_signed(word, room, order, NumberType::I32, ctx.parts())?;
+        Some((value as i32, bits))
+    }
 }
 
 /// Reads an `i64` as its context says: the whole 64 bits, or as many bits or bytes as a size says;
@@ -285,6 +303,12 @@ impl<C: NumberCtx> DekuReader<C> for i64 {
     {
         let value = read_signed(reader, NumberType::I64, ctx.parts())?;
         Ok(value as i64)
+    }
+
+    #[inline]
+    fn from_word(word: u64, room: usize, order: Order, ctx: &C) -> Option<(Self, usize)> {
+        let (value, bits) = cut_signed(word, room, order, NumberType::I64, ctx.parts())?;
+        Some((value as i64, bits))
     }
 }
 

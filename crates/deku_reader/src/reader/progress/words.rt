@@ -4,7 +4,7 @@ ghost use Rattle.std.specs.Prelude.{◌≡◌, ◌≢◌, ◌+◌, ◌-◌, ◌*
 ghost use Rattle.std.specs.Prelude.{◌<◌, ◌≤◌, ◌⊎◌, ◌∷◌, []};
 ghost use Rattle.std.specs.Prelude.{length, take, drop, OnOk, IfOk, IfErr, IfSome, IsNone};
 ghost use Rattle.deku_stream.specs.declared.ctx.Order.TheVariants.{Msb0, Lsb0};
-ghost use Rattle.deku_stream.specs.Bits.{bits_of, groups};
+ghost use Rattle.deku_stream.specs.Bits.{bits_of, facing, groups};
 ghost use Rattle.deku_device.specs.Devices.{DeviceKept, DeviceFailed};
 ghost use Rattle.deku_stream.specs.Moving.{FewerBits, Moves, MovesWord, TakesGroups};
 
@@ -139,36 +139,40 @@ fn try_across<R: Source>(
     Some(window.take_across(&eight, count, order) as u128)
 }
 
-/// Takes at most 64 bits, with the high bits first, if they are unread or in memory, and returns
-/// their number. Otherwise it returns `None`, and nothing moves.
+/// Takes at most 64 bits in this order, if they are unread or in memory, and returns their number.
+/// Their first bit is its highest in `Msb0`, and its lowest in `Lsb0`. Otherwise it returns `None`,
+/// and nothing moves.
 #[inline(always)]
-pub fn try_read_msb<R: Source>(source: &mut R, window: &mut Window, count: usize) -> Option<u64>
+pub fn try_read_number<R: Source>(
+    source: &mut R,
+    window: &mut Window,
+    count: usize,
+    order: Order,
+) -> Option<u64>
     requires bound { length window.old ≤ 8 }
     requires few { count ≤ 64 }
     ensures short { IfSome result (λ number. 0 < count → length window.new < 8) }
     ensures none { IfSome result (λ number. count ≡ 0 → (window.new ≡ window.old)
         × ((R.known source.new).remaining ≡ (R.known source.old).remaining)) }
     ensures still { count ≤ length window.old → source.new ≡ source.old }
-    ensures moved { IfSome result (λ number. Moves Msb0 window.old (R.known source.old).remaining
-        (bits_of count number) window.new (R.known source.new).remaining) }
+    ensures moved { IfSome result (λ number. Moves order window.old (R.known source.old).remaining
+        (facing order (bits_of count number)) window.new (R.known source.new).remaining) }
     ensures below { IfSome result (λ number. number < 2 ^ count) }
     ensures stays { IsNone result → (window.new ≡ window.old) × (source.new ≡ source.old) }
     ensures kept { DeviceKept (R.known source.old).health (R.known source.new).health }
 {
-    // Whole bytes at a byte boundary come first: they move nothing except the source's place.
-    if window.len() == 0 && count % 8 == 0 && 0 < count {
-        let whole = source.try_take(count / 8)?;
-        return Some(window.take_high_across(&whole, count));
-    }
     if count <= window.len() {
-        return Some(window.take(count, Order::Msb0) as u64);
+        return Some(window.take(count, order) as u64);
     }
     if window.len() == 8 {
         return None;
     }
     let behind = count - window.len();
     let eight = source.try_take(behind.div_ceil(8))?;
-    Some(window.take_high_across(&eight, count))
+    match order {
+        Order::Msb0 => Some(window.take_high_across(&eight, count)),
+        Order::Lsb0 => Some(window.take_low_across(&eight, count)),
+    }
 }
 
 // Takes more than 64 bits. If eight bytes are in memory, it takes 64 bits through the window and

@@ -1,12 +1,12 @@
 use Rattle.std.proofs.Common.{rules, refl, arith}
-use Rattle.deku_reading.proofs.Judging.{within_count, past_count}
+use Rattle.deku_reading.proofs.Judging.{held_let_go, within_count, past_count}
 use Rattle.deku_reading.proofs.impls.gather.gather_under.Goals as goal
 
 pub returns-in-Count-clause-reads : goal.returns-in-Count-clause-reads
 returns-in-Count-clause-reads g c = rw c.in-Count.is c.gather_count.ensures.reads
 
 pub returns-in-Until-clause-reads : goal.returns-in-Until-clause-reads
-returns-in-Until-clause-reads g c = rw c.in-Until.is c.gather_until.ensures.reads
+returns-in-Until-clause-reads g c = rw c.in-Until.is (held_let_go _ _ (search rules) c.gather_until-gathered.ensures.reads)
 
 pub returns-in-Some-clause-reads : goal.returns-in-Some-clause-reads
 returns-in-Some-clause-reads g c =
@@ -26,7 +26,7 @@ pub returns-in-Count-clause-early : goal.returns-in-Count-clause-early
 returns-in-Count-clause-early g c = search (rules, c.gather_count.ensures.early)
 
 pub returns-in-Until-clause-early : goal.returns-in-Until-clause-early
-returns-in-Until-clause-early g c = search (rules, c.gather_until.ensures.early)
+returns-in-Until-clause-early g c = search (rules, c.gather_until-gathered.ensures.early)
 
 pub returns-in-Some-clause-early : goal.returns-in-Some-clause-early
 returns-in-Some-clause-early g c = search (rules, c.gather_bits.ensures.early)

@@ -2,4 +2,4 @@ use Rattle.deku_reading.proofs.OfBits.{mapped_cut}
 use Rattle.deku_reading.proofs.items.LastItems.from_word.Goals as goal
 
 pub returns : goal.returns
-returns g c = mapped_cut _ _ (λ a. record { 0 = a }) c.args.word c.args.room c.in_ok-item.item c.in_ok-item.ensures
+returns g c = mapped_cut _ c.args.order _ (λ a. record { 0 = a }) c.args.word c.args.room c.in_ok-item.item c.in_ok-item.ensures

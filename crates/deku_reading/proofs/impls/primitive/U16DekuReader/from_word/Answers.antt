@@ -1,10 +1,8 @@
-use Rattle.std.proofs.Common.{refl, subst}
+use Rattle.std.proofs.Common.{refl, subst, pos}
 use Rattle.deku_num.specs.Numbers.{unsigned}
-use Rattle.deku_reading.specs.Cutting.{IsBinary}
+use Rattle.deku_num.specs.Cutting.{IsCutValue}
 use Rattle.deku_reading.proofs.OfBits.{unsigned_cut}
 use Rattle.deku_reading.proofs.impls.primitive.U16DekuReader.from_word.Goals as goal
 
 pub returns : goal.returns
-returns g c =
-    let e = c.in_ok-value.ensures in
-    unsigned_cut refl (subst (λ l. IsBinary (unsigned 16) l c.in_ok-value.bits) c.parts.ensures e.binary) c.args.word c.args.room c.in_ok-value.value e.some e.within e.value e.below
+returns g c = unsigned_cut refl (subst (λ l. IsCutValue (unsigned 16) l c.args.order c.args.word c.args.room (pos c.in_ok-value.value) c.in_ok-value.bits) c.parts.ensures c.in_ok-value.ensures.cut)

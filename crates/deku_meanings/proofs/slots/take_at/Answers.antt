@@ -1,6 +1,6 @@
 use Rattle.std.proofs.Common.{rules, arith}
 use Rattle.std.proofs.lemmas.Grind.{common_steps}
-use Rattle.deku_reading.proofs.impls.array.take_at.Goals as goal
+use Rattle.deku_meanings.proofs.slots.take_at.Goals as goal
 
 pub unwrap-requires : goal.unwrap-requires
 unwrap-requires g c = search rules

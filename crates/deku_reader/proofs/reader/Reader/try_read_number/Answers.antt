@@ -1,5 +1,5 @@
 use Rattle.std.proofs.Common.{rules}
-use Rattle.deku_reader.proofs.reader.Reader.try_read_msb.Goals as goal
+use Rattle.deku_reader.proofs.reader.Reader.try_read_number.Goals as goal
 
 pub returns-clause-takes : goal.returns-clause-takes
 returns-clause-takes g c = search rules

@@ -1,6 +1,6 @@
 use Rattle.std.proofs.Common.{rules}
-use Rattle.deku_reading.proofs.Turning.{callable_at_each, turned_all}
-use Rattle.deku_reading.proofs.impls.array.turned_slots.Goals as goal
+use Rattle.deku_meanings.proofs.Turning.{callable_at_each, turned_all}
+use Rattle.deku_meanings.proofs.slots.turned_slots.Goals as goal
 
 pub from_fn-requires : goal.from_fn-requires
 from_fn-requires g c = (search rules, callable_at_each (λ p. p.0.now) _ _ (λ p x h. search rules) (λ p x r q s. (search rules, search rules)) _ (search rules) c.requires)

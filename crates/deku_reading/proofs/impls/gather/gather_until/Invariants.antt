@@ -2,7 +2,7 @@ use Rattle.std.proofs.Common.{◌-◌, ◌^◌}
 use Rattle.deku_bits.specs.Standings.{count_of, reader_state}
 use Rattle.deku_reading.specs.Early.{NoReadAhead}
 use Rattle.deku_reading.proofs.Judging.{Gathering}
-use Rattle.deku_reading.proofs.impls.gather.gather_asking.Given as goal
+use Rattle.deku_reading.proofs.impls.gather.gather_until.Given as goal
 
 abbrev pub invariant-loop-into : goal.invariant-loop-into
 invariant-loop-into g l = record {
