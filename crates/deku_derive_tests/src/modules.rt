@@ -237,22 +237,22 @@ impl Host {
 }
 
 // The parts of Host, in their order.
-type HostParts = (Pair, Be<Ipv4Addr>, bool, MsbLe<u32, 24>, Le<u16>);
+type HostParts = (Pair, Be<Ipv4Addr>, bool, (MsbLe<u32, 24>, Le<u16>));
 
 impl FromParts for Host {
     type Parts = HostParts;
 
-    ghost parts_of = { λ r. (r.pair, be r.address, r.up, msb_le r.cost, le r.port) };
+    ghost parts_of = { λ r. (r.pair, be r.address, r.up, (msb_le r.cost, le r.port)) };
 
     ghost record_of = { λ p. record {
       pair = p.0;
       address = p.1.0;
       up = p.2;
-      cost = p.3.0;
-      port = p.4.0;
+      cost = p.3.0.0;
+      port = p.3.1.0;
     } };
 
-    fn from_parts((pair, Be(address), up, MsbLe(cost), Le(port)): Self::Parts) -> Self {
+    fn from_parts((pair, Be(address), up, (MsbLe(cost), Le(port))): Self::Parts) -> Self {
         Host {
             pair,
             address,
@@ -271,8 +271,7 @@ impl ToParts for Host {
             self.pair,
             Be(self.address),
             self.up,
-            MsbLe(self.cost),
-            Le(self.port),
+            (MsbLe(self.cost), Le(self.port)),
         )
     }
 }
@@ -321,9 +320,10 @@ fn plain_records_are_printed(rt: HostRuntime) -> Result<(), Fail> {
     Ok(())
 }
 
-// Descriptions of lists that end with an item, of tuples of one, and of arrays in long records and
-// in kinds of several ids, and texts that their modules have.
-const TEXTS: [(&str, &str); 11] = [
+// Descriptions of lists that end with an item, of tuples of one, of numbers in a row under two bit
+// orders, and of arrays in long records and in kinds of several ids, and texts that their modules
+// have.
+const TEXTS: [(&str, &str); 12] = [
     (
         "struct A { n: u8, #[deku(until = \"|byte: &u8| *byte == 0\")] name: Vec<u8>, m: u8 }",
         "
@@ -434,6 +434,13 @@ pub struct A {
 ",
     ),
     (
+        "struct A { a: u16, #[deku(endian = \"big\")] b: i16, #[deku(bit_order = \"lsb\", bits = 4)]
+         c: u8, #[deku(bit_order = \"lsb\", bits = 12)] d: u16, e: u64, f: u8 }",
+        "
+type AParts = ((Le<u16>, Be<i16>), (Lsb<u8, 4>, Lsb<u16, 12>), Le<u64>, u8);
+",
+    ),
+    (
         "#[deku(endian = \"big\")] struct A { one: (u16,), same: (u16) }",
         "
 type AParts = (Be<(u16,)>, Be<u16>);
@@ -441,9 +448,10 @@ type AParts = (Be<(u16,)>, Be<u16>);
     ),
     (
         "#[deku(endian = \"little\")]
-         struct A { a: u16, b: u16, c: u16, d: u16, e: u16, f: u16, g: u16, h: u16, i: u16, j: u16,
-         k: u16, l: u16, m: u16, n: u16, o: u16, p: u16, q: u16, r: u16, s: u16, t: u16, u: u16,
-         v: u16, w: u16, x: u16, y: u16, z: u16, tail: [u8; 3], last: u16, end: u16, over: u16 }",
+         struct A { a: u128, b: u128, c: u128, d: u128, e: u128, f: u128, g: u128, h: u128,
+         i: u128, j: u128, k: u128, l: u128, m: u128, n: u128, o: u128, p: u128, q: u128, r: u128,
+         s: u128, t: u128, u: u128, v: u128, w: u128, x: u128, y: u128, z: u128, tail: [u8; 3],
+         last: u128, end: u128, over: u128 }",
         "
     fn from_parts(parts: Self::Parts) -> Self {
         let tail = parts.3.2;
