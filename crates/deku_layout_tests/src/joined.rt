@@ -4,13 +4,13 @@
 
 use deku::ctx::Endian::{Big, Little};
 use deku::ctx::Order::{Lsb0, Msb0};
-use deku::ctx::{BitSize, Endian};
+use deku::ctx::{BitSize, Endian, Order};
 use deku::device::Source;
 use deku::prelude::{DekuError, DekuReader, NeedSize, Reader};
 use deku::probe::Trickle;
-use deku_symmetry::{Be, Le, Msb, MsbLe};
+use deku_symmetry::{Be, Le, Lsb, LsbBe, Msb, MsbLe};
 use deku_testing::bits::{Slow, samples};
-use deku_testing::numbers::number;
+use deku_testing::numbers::worth;
 use deku_testing::same::same;
 use deku_testing_values::expecting::{next, reader_of};
 use std::alloc::Global;
@@ -22,15 +22,25 @@ const MOST: usize = 11;
 
 // A tuple of numbers.
 trait Numbers: DekuReader<()> {
+    // The order of its bits.
+    fn order() -> Order {
+        Msb0
+    }
+
+    // Whether its items have a sign.
+    fn signed() -> bool {
+        false
+    }
+
     // How many bits each item has, and its endian. After the last one they are 0.
     fn items() -> [(usize, Endian); MOST];
 
     // The items' numbers, and zeros after them.
-    fn numbers(&self) -> [u64; MOST];
+    fn numbers(&self) -> [i128; MOST];
 }
 
 // The numbers in front of zeros.
-fn and_zeros(front: &[u64]) -> [u64; MOST] {
+fn and_zeros(front: &[i128]) -> [i128; MOST] {
     let mut numbers = [0; MOST];
     for (number, item) in numbers.iter_mut().zip(front) {
         *number = *item;
@@ -79,19 +89,19 @@ impl Numbers for Header {
         ]
     }
 
-    fn numbers(&self) -> [u64; MOST] {
+    fn numbers(&self) -> [i128; MOST] {
         [
-            self.0.0 as u64,
-            self.1.0 as u64,
-            self.2.0 as u64,
-            self.3.0 as u64,
-            self.4.0 as u64,
-            self.5.0 as u64,
-            self.6.0 as u64,
-            self.7.0 as u64,
-            self.8.0 as u64,
-            self.9 as u64,
-            self.10.0 as u64,
+            self.0.0 as i128,
+            self.1.0 as i128,
+            self.2.0 as i128,
+            self.3.0 as i128,
+            self.4.0 as i128,
+            self.5.0 as i128,
+            self.6.0 as i128,
+            self.7.0 as i128,
+            self.8.0 as i128,
+            self.9 as i128,
+            self.10.0 as i128,
         ]
     }
 }
@@ -104,8 +114,8 @@ impl Numbers for Long {
         and_none(&[(33, Big), (31, Big)])
     }
 
-    fn numbers(&self) -> [u64; MOST] {
-        and_zeros(&[self.0.0, self.1.0 as u64])
+    fn numbers(&self) -> [i128; MOST] {
+        and_zeros(&[self.0.0 as i128, self.1.0 as i128])
     }
 }
 
@@ -117,8 +127,8 @@ impl Numbers for TooLong {
         and_none(&[(33, Big), (32, Big)])
     }
 
-    fn numbers(&self) -> [u64; MOST] {
-        and_zeros(&[self.0.0, self.1.0 as u64])
+    fn numbers(&self) -> [i128; MOST] {
+        and_zeros(&[self.0.0 as i128, self.1.0 as i128])
     }
 }
 
@@ -141,15 +151,98 @@ impl Numbers for Groups {
         ])
     }
 
-    fn numbers(&self) -> [u64; MOST] {
+    fn numbers(&self) -> [i128; MOST] {
         let address = self.0.1.0.to_bits();
         and_zeros(&[
-            self.0.0.0 as u64,
-            address as u64,
-            self.1.0.0 as u64,
-            self.1.1.0 as u64,
-            self.2.0.0 as u64,
-            self.2.1.0 as u64,
+            self.0.0.0 as i128,
+            address as i128,
+            self.1.0.0 as i128,
+            self.1.1.0 as i128,
+            self.2.0.0 as i128,
+            self.2.1.0 as i128,
+        ])
+    }
+}
+
+// Numbers of low bits, and an item of bytes in reverse.
+type Low = (
+    Lsb<u8, 4>,
+    Lsb<u16, 12>,
+    LsbBe<u32, 24>,
+    Lsb<bool, 1>,
+    Lsb<u32, 18>,
+);
+
+impl Numbers for Low {
+    fn order() -> Order {
+        Lsb0
+    }
+
+    fn items() -> [(usize, Endian); MOST] {
+        and_none(&[
+            (4, Little),
+            (12, Little),
+            (24, Big),
+            (1, Little),
+            (18, Little),
+        ])
+    }
+
+    fn numbers(&self) -> [i128; MOST] {
+        and_zeros(&[
+            self.0.0 as i128,
+            self.1.0 as i128,
+            self.2.0 as i128,
+            self.3.0 as i128,
+            self.4.0 as i128,
+        ])
+    }
+}
+
+// Numbers of low bits with a sign.
+type Signs = (Lsb<i8, 3>, Lsb<i16, 13>, LsbBe<i16, 16>, Lsb<i64, 32>);
+
+impl Numbers for Signs {
+    fn order() -> Order {
+        Lsb0
+    }
+
+    fn signed() -> bool {
+        true
+    }
+
+    fn items() -> [(usize, Endian); MOST] {
+        and_none(&[(3, Little), (13, Little), (16, Big), (32, Little)])
+    }
+
+    fn numbers(&self) -> [i128; MOST] {
+        and_zeros(&[
+            self.0.0 as i128,
+            self.1.0 as i128,
+            self.2.0 as i128,
+            self.3.0 as i128,
+        ])
+    }
+}
+
+// Whole numbers with a sign, of both endians.
+type Bytes = (Le<i16>, Be<i32>, i8, MsbLe<i8, 8>);
+
+impl Numbers for Bytes {
+    fn signed() -> bool {
+        true
+    }
+
+    fn items() -> [(usize, Endian); MOST] {
+        and_none(&[(16, Little), (32, Big), (8, Little), (8, Little)])
+    }
+
+    fn numbers(&self) -> [i128; MOST] {
+        and_zeros(&[
+            self.0.0 as i128,
+            self.1.0 as i128,
+            self.2 as i128,
+            self.3.0 as i128,
         ])
     }
 }
@@ -157,41 +250,48 @@ impl Numbers for Groups {
 // What is seen of a read: what it returns, the bits counted, and the three bits after it.
 #[derive(Debug, Clone, Copy, PartialEq, Eq)]
 struct Reading {
-    answer: Result<[u64; MOST], DekuError>,
+    answer: Result<[i128; MOST], DekuError>,
     bits_read: usize,
-    after: Result<u64, DekuError>,
+    after: Result<i128, DekuError>,
 }
 
 // The slow reader, how many bits it has taken, and how many there are.
 #[derive(Drop)]
 struct Items<'b> {
     slow: Slow<'b>,
+    order: Order,
+    signed: bool,
     taken: usize,
     all: usize,
 }
 
 impl<'b> Items<'b> {
-    // The number of the next bits, of at most 64, or the end of the bytes.
-    fn next(&mut self, width: usize, endian: Endian) -> Result<Result<u64, DekuError>, Fail> {
+    // The value of the next bits, of at most 64, or the end of the bytes.
+    fn next(
+        &mut self,
+        width: usize,
+        endian: Endian,
+        signed: bool,
+    ) -> Result<Result<i128, DekuError>, Fail> {
         let mut bits = [false; 64];
         let met = &mut bits[..width.min(64)];
         let taken = self.taken.saturating_add(width);
         if taken > self.all {
             return Ok(Err(DekuError::Incomplete(NeedSize::new(width))));
         }
-        self.slow.take(Msb0, met)?;
+        self.slow.take(self.order, met)?;
         self.taken = taken;
-        Ok(Ok((number(endian, Msb0, met) % (1 << 64)) as u64))
+        Ok(Ok(worth(signed, endian, self.order, met).cast_signed()))
     }
 
     // The numbers of the items, each by itself.
     fn each(
         &mut self,
         items: &[(usize, Endian); MOST],
-    ) -> Result<Result<[u64; MOST], DekuError>, Fail> {
+    ) -> Result<Result<[i128; MOST], DekuError>, Fail> {
         let mut numbers = [0; MOST];
         for (number, (width, endian)) in numbers.iter_mut().zip(items) {
-            match self.next(*width, *endian)? {
+            match self.next(*width, *endian, self.signed)? {
                 Ok(value) => *number = value,
                 Err(error) => return Ok(Err(error)),
             }
@@ -201,21 +301,19 @@ impl<'b> Items<'b> {
 }
 
 // The items by themselves, after so many bits.
-fn one_by_one(
-    bytes: &[u8],
-    start: usize,
-    widths: &[(usize, Endian); MOST],
-) -> Result<Reading, Fail> {
+fn one_by_one<T: Numbers>(bytes: &[u8], start: usize) -> Result<Reading, Fail> {
     let mut items = Items {
         slow: Slow::new(bytes),
+        order: T::order(),
+        signed: T::signed(),
         taken: 0,
         all: bytes.len().saturating_mul(8),
     };
-    let _front = items.next(start, Big)?;
-    let answer = items.each(widths)?;
+    let _front = items.next(start, Big, false)?;
+    let answer = items.each(&T::items())?;
     let bits_read = items.taken;
     let after = match answer {
-        Ok(_) => items.next(3, Big)?,
+        Ok(_) => items.next(3, Big, true)?,
         Err(error) => Err(error),
     };
     Ok(Reading {
@@ -229,7 +327,8 @@ fn one_by_one(
 fn tuple<T: Numbers, R: Source>(reader: &mut Reader<R>, start: usize) -> Reading
     requires { T.accepts tt }
 {
-    let _front: Result<u8, DekuError> = next(reader, BitSize(start));
+    let order = T::order();
+    let _front: Result<u8, DekuError> = next(reader, (Big, BitSize(start), order));
     let answer = match next::<T, _, _>(reader, ()) {
         Ok(items) => Ok(items.numbers()),
         Err(error) => Err(error),
@@ -238,7 +337,7 @@ fn tuple<T: Numbers, R: Source>(reader: &mut Reader<R>, start: usize) -> Reading
     Reading {
         answer,
         bits_read,
-        after: next(reader, BitSize(3)),
+        after: next(reader, (Big, BitSize(3), order)),
     }
 }
 
@@ -246,7 +345,7 @@ fn tuple<T: Numbers, R: Source>(reader: &mut Reader<R>, start: usize) -> Reading
 fn expect_tuple<T: Numbers>(alloc: Global, bytes: &[u8], start: usize) -> Result<(), Fail>
     requires { T.accepts tt }
 {
-    let want = one_by_one(bytes, start, &T::items())?;
+    let want = one_by_one::<T>(bytes, start)?;
     let row = (bytes, start);
     same(
         &row,
@@ -304,6 +403,21 @@ fn of_one_bit_more(rt: HostRuntime) -> Result<(), Fail> {
 #[test]
 fn in_groups(rt: HostRuntime) -> Result<(), Fail> {
     expect_samples::<Groups>(rt.alloc())
+}
+
+#[test]
+fn of_low_bits(rt: HostRuntime) -> Result<(), Fail> {
+    expect_samples::<Low>(rt.alloc())
+}
+
+#[test]
+fn of_low_bits_with_a_sign(rt: HostRuntime) -> Result<(), Fail> {
+    expect_samples::<Signs>(rt.alloc())
+}
+
+#[test]
+fn of_bytes_with_a_sign(rt: HostRuntime) -> Result<(), Fail> {
+    expect_samples::<Bytes>(rt.alloc())
 }
 
 #[test]
