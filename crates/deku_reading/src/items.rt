@@ -117,7 +117,12 @@ pub(crate) fn try_items<Ctx: Copy, T: Items<Ctx>, R: Source>(
         reader.new)) }
     ensures stays { IsNone result → reader.new ≡ reader.old }
 {
-    let (bits, order) = word_of::<Ctx, T>(&ctx)?;
+    // Neither the order of the word nor how many bits it has depends on its value.
+    let order = match T::from_word(0, 64, Order::Msb0, &ctx) {
+        Some(_) => Order::Msb0,
+        None => Order::Lsb0,
+    };
+    let (_, bits) = T::from_word(0, 64, order, &ctx)?;
     let Some(word) = reader.try_read_number(bits, order) else {
         return Some(read_apart(reader, ctx));
     };
@@ -149,20 +154,6 @@ pub fn read_item<Ctx: Copy, T: DekuReader<Ctx>, R: Source>(
         None => Last::each(reader, ctx)?,
     };
     Ok(item)
-}
-
-// How many bits the word has from which items are cut, and its order. Neither depends on the word.
-#[inline(always)]
-fn word_of<Ctx: Copy, T: Items<Ctx>>(ctx: &Ctx) -> Option<(usize, Order)>
-    ensures some { IfSome result (λ r. 0 < r.0) }
-    ensures few { IfSome result (λ r. r.0 ≤ 64) }
-    ensures number { IfSome result (λ r. IsOfNumber (T.meaning ctx.now) r.1 r.0) }
-{
-    if let Some((_, bits)) = T::from_word(0, 64, Order::Msb0, ctx) {
-        return Some((bits, Order::Msb0));
-    }
-    let (_, bits) = T::from_word(0, 64, Order::Lsb0, ctx)?;
-    Some((bits, Order::Lsb0))
 }
 
 // Reads each of the items, by a call.
