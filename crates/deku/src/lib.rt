@@ -49,6 +49,6 @@ pub use deku_meanings::ctx;
 pub use deku_num::size::{DekuSize, DekuSizeConst};
 pub use deku_num::{calls, kind, size};
 pub use deku_reading::{DekuReader, read_item};
-pub use deku_writing::DekuWriter;
+pub use deku_writing::{DekuWriter, Word};
 pub use impls::cstring;
 pub use traits::{DekuEnumExt, DekuUpdate};

@@ -1,6 +1,7 @@
 //! A record that is written to a file, also through a buffer, and vectors that grow.
 
 use crate::given::{Put, give_sink};
+use deku_bits::ctx::Order;
 use deku_bits::ctx::Order::Lsb0;
 use deku_bits::device::Sink;
 use deku_bits::error::DekuError;
@@ -150,7 +151,7 @@ const TWELVE: [bool; 12] = [
 
 // Twelve bits, put if there is room in memory. Returns whether they were.
 fn write_twelve<W: Sink>(writer: &mut Writer<W>) -> Result<bool, DekuError> {
-    if writer.try_write_msb(0xA5C, 12) {
+    if writer.try_write_number(0xA5C, 12, Order::Msb0) {
         return Ok(true);
     }
     writer.write_bits(&TWELVE)?;

@@ -14,6 +14,7 @@ ghost use Rattle.deku_c.specs.Codes.{field_in, item_in, items_in, whole};
 ghost use Rattle.deku_c.specs.Calls.{LaysOver};
 
 use crate::codes::{FieldCode, NumberCode};
+use deku::ctx::Order;
 use deku::device::Sink;
 use deku::error::DekuError;
 use deku::writer::Writer;
@@ -115,7 +116,7 @@ fn laid_high<W: Sink>(writer: &mut Writer<W>, code: FieldCode, number: NumberCod
     ensures stays { IsFalse result → writer.new ≡ writer.old }
 {
     match high_number(code, number) {
-        Some((low, width)) => writer.try_write_msb(low, width),
+        Some((low, width)) => writer.try_write_number(low, width, Order::Msb0),
         None => false,
     }
 }

@@ -59,8 +59,7 @@ high_field f n k {s} {h} {u} {g} plain big high wide ok small o =
 -- an item without a sign that is big and `Msb0`, whose bits were written
 pub high_item : (i : Item) (n k : ℕ) {s : Standing Output} {h : Health} {u : Standing Output} {g : Health}
     → i.value ≡ Unsigned k → (number_type i.field.kind).signed ≡ false → i.field.layout.endian ≡ Big → i.field.layout.order ≡ Msb0
-    → n ≡ field_width i.field → IsAllowedField i.field → k < 2 ^ n → Outcome (WritesBits Msb0 (bits_of n k)) s h (Ok tt) u g → Outcome (WritesItem i) s h (Ok tt) u g
-unfolding shown
+    → n ≡ field_width i.field → IsAllowedField i.field → k < 2 ^ n → Outcome (WritesBits Msb0 (shown Msb0 (bits_of n k))) s h (Ok tt) u g → Outcome (WritesItem i) s h (Ok tt) u g
 high_item i n k {s} {h} {u} {g} is plain big high wide ok small o =
     let t : NumberType = number_type i.field.kind in
     let l : Layout = i.field.layout in
@@ -71,5 +70,5 @@ high_item i n k {s} {h} {u} {g} is plain big high wide ok small o =
     let kind : IsOfKind i.field.kind i.value = rw is (sym plain, in_unsigned t.signed t.bits k plain (unsigned_in_type t l bits k plain ok long worth (whole_kind i.field.kind))) in
     let turned : WritesBits Msb0 (shown Msb0 bits) ≡ WritesBits l.order (shown l.order bits) = ap (λ x. WritesBits x (shown x bits)) (sym high) in
     item_passed i (Unsigned k) is refl kind
-    (weaker (WritesBits Msb0 bits) (WritesNumber t l (pos k)) s h (Ok tt) u g
+    (weaker (WritesBits Msb0 (shown Msb0 bits)) (WritesNumber t l (pos k)) s h (Ok tt) u g
     (λ b m. Passed (Passed (ok, (bits, listed, subst (λ x. x b s (Ok tt) u) turned m)))) o)

@@ -75,7 +75,7 @@ fn laid_high<W: Sink>(writer: &mut Writer<W>, item: &Item) -> bool
     ensures stopped { KeepsSinkStopped writer.old writer.new }
 {
     match plain_high(item) {
-        Some((number, width)) => writer.try_write_msb(number, width),
+        Some((number, width)) => writer.try_write_number(number, width, Order::Msb0),
         None => false,
     }
 }

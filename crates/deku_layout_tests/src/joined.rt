@@ -1,19 +1,22 @@
 //! Tuples whose items are cut from one number if their bits are in memory: each item is what it is
 //! by itself, from each bit of a byte on, with bytes in memory and without, and up to where the
-//! bytes end.
+//! bytes end. They are written as the bits that they were read from, with room in memory and
+//! without.
 
+use deku::Word;
 use deku::ctx::Endian::{Big, Little};
 use deku::ctx::Order::{Lsb0, Msb0};
 use deku::ctx::{BitSize, Endian, Order};
-use deku::device::Source;
-use deku::prelude::{DekuError, DekuReader, NeedSize, Reader};
-use deku::probe::Trickle;
+use deku::device::{Sink, Source};
+use deku::prelude::{DekuError, DekuReader, DekuWriter, NeedSize, Reader, Writer};
+use deku::probe::{FailAt, Trickle};
 use deku_symmetry::{Be, Le, Lsb, LsbBe, Msb, MsbLe};
 use deku_testing::bits::{Slow, samples};
 use deku_testing::numbers::worth;
 use deku_testing::same::same;
-use deku_testing_values::expecting::{next, reader_of};
+use deku_testing_values::expecting::{next, put, reader_of};
 use std::alloc::Global;
+use std::io::Cursor;
 use std::net::Ipv4Addr;
 use std::test::Fail;
 
@@ -21,7 +24,7 @@ use std::test::Fail;
 const MOST: usize = 11;
 
 // A tuple of numbers.
-trait Numbers: DekuReader<()> {
+trait Numbers: DekuReader<()> + DekuWriter<()> {
     // The order of its bits.
     fn order() -> Order {
         Msb0
@@ -325,7 +328,7 @@ fn one_by_one<T: Numbers>(bytes: &[u8], start: usize) -> Result<Reading, Fail> {
 
 // The tuple, after so many bits.
 fn tuple<T: Numbers, R: Source>(reader: &mut Reader<R>, start: usize) -> Reading
-    requires { T.accepts tt }
+    requires { T.DekuReader.accepts tt }
 {
     let order = T::order();
     let _front: Result<u8, DekuError> = next(reader, (Big, BitSize(start), order));
@@ -343,7 +346,7 @@ fn tuple<T: Numbers, R: Source>(reader: &mut Reader<R>, start: usize) -> Reading
 
 // From bytes in memory, and from a source without.
 fn expect_tuple<T: Numbers>(alloc: Global, bytes: &[u8], start: usize) -> Result<(), Fail>
-    requires { T.accepts tt }
+    requires { T.DekuReader.accepts tt }
 {
     let want = one_by_one::<T>(bytes, start)?;
     let row = (bytes, start);
@@ -356,9 +359,77 @@ fn expect_tuple<T: Numbers>(alloc: Global, bytes: &[u8], start: usize) -> Result
     same(&row, &tuple::<T, _>(&mut slow, start), &want)
 }
 
+// The bits that a read of a tuple takes after so many.
+fn bits_taken<T: Numbers>(start: usize) -> usize {
+    let mut bits = start;
+    for (width, _) in T::items().iter() {
+        bits = bits.saturating_add(*width);
+    }
+    bits
+}
+
+// The bytes of so many bits of these bytes, with zeros after the last.
+fn front_of(bytes: &[u8; 17], bits: usize, order: Order) -> [u8; 17] {
+    let mut front = [0; 17];
+    for (i, byte) in front.iter_mut().enumerate() {
+        let left = bits.saturating_sub(i.saturating_mul(8)).min(8);
+        let kept = match order {
+            Msb0 => !(0xFFu16 >> left),
+            Lsb0 => (1u16 << left) - 1,
+        };
+        *byte = bytes[i.min(16)] & (kept % 256) as u8;
+    }
+    front
+}
+
+// Writes what is read, and pads it.
+fn write_back<T: Numbers, W: Sink + Drop>(
+    front: u8,
+    start: usize,
+    items: &T,
+    sink: W,
+) -> Result<(), DekuError>
+    requires { T.DekuWriter.accepts tt }
+{
+    let mut writer = Writer::new(sink);
+    put(&mut writer, &front, (Big, BitSize(start), T::order()))?;
+    put(&mut writer, items, ())?;
+    writer.finalize()
+}
+
+// What is read after so many bits is written as the bits that were taken, into a slice and into a
+// sink that is asked at each write.
+fn expect_back<T: Numbers>(alloc: Global, bytes: &[u8; 17], start: usize) -> Result<(), Fail>
+    requires reads { T.DekuReader.accepts tt }
+    requires writes { T.DekuWriter.accepts tt }
+{
+    let mut reader = reader_of(alloc, bytes.as_slice());
+    let front: u8 = next(&mut reader, (Big, BitSize(start), T::order()))?;
+    let items: T = next(&mut reader, ())?;
+    let want = front_of(bytes, bits_taken::<T>(start), T::order());
+    let row = (bytes, start);
+    let mut out = [0; 17];
+    write_back(front, start, &items, Cursor::new(out.as_mut_slice()))?;
+    same(&row, &out, &want)?;
+    let mut asked = [0; 17];
+    let sink = FailAt::new(Cursor::new(asked.as_mut_slice()), 100);
+    write_back(front, start, &items, sink)?;
+    same(&row, &asked, &want)
+}
+
+fn expect_backs<T: Numbers>(alloc: Global, bytes: &[u8; 17]) -> Result<(), Fail>
+    requires reads { T.DekuReader.accepts tt }
+    requires writes { T.DekuWriter.accepts tt }
+{
+    for start in 0..8 {
+        expect_back::<T>(alloc, bytes, start)?;
+    }
+    Ok(())
+}
+
 // From each bit of a byte on.
 fn expect_starts<T: Numbers>(alloc: Global, bytes: &[u8]) -> Result<(), Fail>
-    requires { T.accepts tt }
+    requires { T.DekuReader.accepts tt }
 {
     for start in 0..8 {
         expect_tuple::<T>(alloc, bytes, start)?;
@@ -368,7 +439,7 @@ fn expect_starts<T: Numbers>(alloc: Global, bytes: &[u8]) -> Result<(), Fail>
 
 // With each number of bytes.
 fn expect_lengths<T: Numbers>(alloc: Global, bytes: &[u8; 17]) -> Result<(), Fail>
-    requires { T.accepts tt }
+    requires { T.DekuReader.accepts tt }
 {
     for len in 1..18 {
         expect_starts::<T>(alloc, &bytes[..len])?;
@@ -377,10 +448,12 @@ fn expect_lengths<T: Numbers>(alloc: Global, bytes: &[u8; 17]) -> Result<(), Fai
 }
 
 fn expect_samples<T: Numbers>(alloc: Global) -> Result<(), Fail>
-    requires { T.accepts tt }
+    requires reads { T.DekuReader.accepts tt }
+    requires writes { T.DekuWriter.accepts tt }
 {
     for bytes in samples().iter() {
         expect_lengths::<T>(alloc, bytes)?;
+        expect_backs::<T>(alloc, bytes)?;
     }
     Ok(())
 }
@@ -512,4 +585,38 @@ fn words_make_values_with_a_sign() -> Result<(), Fail> {
         &i64::from_word(1 << 63, 64, Msb0, &Big),
         &Some((i64::MIN, 64)),
     )
+}
+
+#[test]
+fn values_make_words() -> Result<(), Fail> {
+    let word = |number: u64, bits: usize, fits: bool| Some(Word { number, bits, fits });
+    same(
+        &"four bits",
+        &6u8.to_word(Msb0, &BitSize(4)),
+        &word(6, 4, true),
+    )?;
+    same(
+        &"bytes in reverse",
+        &0xC0FEu16.to_word(Msb0, &Little),
+        &word(0xFEC0, 16, true),
+    )?;
+    let twelve = (Little, BitSize(12), Lsb0);
+    same(
+        &"below zero",
+        &(-2048i16).to_word(Lsb0, &twelve),
+        &word(0x800, 12, true),
+    )?;
+    same(
+        &"too long",
+        &u16::to_word(&0x1000, Lsb0, &twelve),
+        &word(0, 12, false),
+    )?;
+    same(&"in the other order", &1u16.to_word(Msb0, &twelve), &None)?;
+    let pair = (Msb::<u8, 4>(6), Be::<u16>(0xC0FE));
+    same(
+        &"of two items",
+        &pair.to_word(Msb0, &()),
+        &word(0x6C0FE, 20, true),
+    )?;
+    same(&"of 128 bits", &1u128.to_word(Msb0, &Big), &None)
 }

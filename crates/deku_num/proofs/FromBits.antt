@@ -17,7 +17,7 @@ use Rattle.deku_num.specs.declared.ctx.Layout.{Layout}
 use Rattle.deku_num.specs.declared.kind.NumberType.{NumberType}
 use Rattle.deku_num.specs.Cutting.{front, IsCutValue}
 use Rattle.deku_num.specs.Numbers.{number, value, width, IsAllowed}
-use Rattle.deku_num.proofs.Turned.{word_is, low_turned, high_back}
+use Rattle.deku_num.proofs.Turned.{word_is, low_turned, high_turned, low_back, high_back}
 use Rattle.deku_num.proofs.Narrow.{one_group}
 use Rattle.deku_num.proofs.Carrying.{high_number}
 
@@ -50,6 +50,19 @@ low_turned_is n k whole few small =
     let s : List Bool = reverse (bits_of n k) in
     let long : length s ≡ n = length-faced Lsb0 n k in
     low_turned s k (n / 8) (omega (arith, long, few)) (omega (arith, long, whole)) (sym (ap bin (reverse-reverse (bits_of n k)) ∙ bin-whole n k small) ∙ sym (word_low s))
+
+-- turned again, it is the number of the bits
+pub high_turned_again : (n k m : ℕ) → n % 8 ≡ 0 → n ≤ 128 → k < 2 ^ n → m < 2 ^ n → m ≡ number Little Msb0 (bits_of n k) → k ≡ number Little Msb0 (bits_of n m)
+high_turned_again n k m whole few small low is =
+    let s : List Bool = bits_of n k in
+    let long : length s ≡ n = length-bits_of n k in
+    high_number n k small ∙ sym (high_turned s m (n / 8) (omega (arith, long, few)) (omega (arith, long, whole)) (is ∙ sym (word_is Msb0 s))) ∙ high_turned_is n m whole few low
+
+pub low_turned_again : (n k m : ℕ) → n % 8 ≡ 0 → n ≤ 128 → k < 2 ^ n → m < 2 ^ n → m ≡ number Big Lsb0 (reverse (bits_of n k)) → k ≡ number Big Lsb0 (reverse (bits_of n m))
+low_turned_again n k m whole few small low is =
+    let s : List Bool = reverse (bits_of n k) in
+    let long : length s ≡ n = length-faced Lsb0 n k in
+    low_is n k small ∙ sym (word_is Lsb0 s) ∙ sym (low_back s m (n / 8) (omega (arith, long, few)) (omega (arith, long, whole)) is) ∙ low_turned_is n m whole few low
 
 -- a field that is cut, from the number of its bits
 pub cut_is : (t : NumberType) (l : Layout) (o : Order) (word room n first : ℕ) (v : ℤ) → 0 < n → n ≤ room → n ≡ width t l → l.order ≡ o → IsAllowed t l → first ≡ front o word n (room - n)

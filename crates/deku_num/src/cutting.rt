@@ -125,16 +125,18 @@ fn first_bits(
     }
 }
 
-// The number of a field, without a sign, from that of its bits, of which the first is the highest
-// in `Msb0`, and the lowest in `Lsb0`. `None` if the bytes are reversed but the bits are no whole
-// bytes, and more than eight.
+/// The number of a field, without a sign, from that of its bits, of which the first is the highest
+/// in `Msb0`, and the lowest in `Lsb0`. It is also the number of the bits from that of the field.
+/// `None` if the bytes are reversed but the bits are no whole bytes, and more than eight.
 #[inline(always)]
-fn number_of_bits(bits: u64, width: usize, endian: Endian, order: Order) -> Option<u64>
+pub fn number_of_bits(bits: u64, width: usize, endian: Endian, order: Order) -> Option<u64>
     requires some { 0 < width }
     requires few { width ≤ 64 }
     requires below { bits < 2 ^ width }
     ensures number { IfSome result (λ n. n ≡ number_of endian order (facing order
         (bits_of width bits))) }
+    ensures back { IfSome result (λ n. bits ≡ number_of endian order (facing order
+        (bits_of width n))) }
     ensures below { IfSome result (λ n. n < 2 ^ width) }
 {
     if width <= 8 {

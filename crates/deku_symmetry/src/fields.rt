@@ -11,7 +11,7 @@ use deku::ctx::{BitSize, Endian, Order};
 use deku::device::{Sink, Source};
 use deku::reader::Reader;
 use deku::writer::Writer;
-use deku::{DekuError, DekuReader, DekuWriter};
+use deku::{DekuError, DekuReader, DekuWriter, Word};
 
 /// A number of `N` bits, high bits first: big and `Msb0`. It fails as the number does under that
 /// context.
@@ -53,6 +53,11 @@ impl<T: DekuWriter<(Endian, BitSize)>, const N: usize> DekuWriter<()> for Msb<T,
     #[inline(always)]
     fn to_writer<W: Sink>(&self, writer: &mut Writer<W>, _ctx: ()) -> Result<(), DekuError> {
         self.0.to_writer(writer, (Endian::Big, BitSize(N)))
+    }
+
+    #[inline]
+    fn to_word(&self, order: Order, _ctx: &()) -> Option<Word> {
+        self.0.to_word(order, &(Endian::Big, BitSize(N)))
     }
 }
 
@@ -114,6 +119,12 @@ impl<T: DekuWriter<(Endian, BitSize, Order)>, const N: usize> DekuWriter<()> for
         self.0
             .to_writer(writer, (Endian::Little, BitSize(N), Order::Lsb0))
     }
+
+    #[inline]
+    fn to_word(&self, order: Order, _ctx: &()) -> Option<Word> {
+        self.0
+            .to_word(order, &(Endian::Little, BitSize(N), Order::Lsb0))
+    }
 }
 
 /// The pieces of the number.
@@ -166,6 +177,11 @@ impl<T: DekuWriter<(Endian, BitSize)>, const N: usize> DekuWriter<()> for MsbLe<
     #[inline(always)]
     fn to_writer<W: Sink>(&self, writer: &mut Writer<W>, _ctx: ()) -> Result<(), DekuError> {
         self.0.to_writer(writer, (Endian::Little, BitSize(N)))
+    }
+
+    #[inline]
+    fn to_word(&self, order: Order, _ctx: &()) -> Option<Word> {
+        self.0.to_word(order, &(Endian::Little, BitSize(N)))
     }
 }
 
@@ -228,6 +244,12 @@ impl<T: DekuWriter<(Endian, BitSize, Order)>, const N: usize> DekuWriter<()> for
         self.0
             .to_writer(writer, (Endian::Big, BitSize(N), Order::Lsb0))
     }
+
+    #[inline]
+    fn to_word(&self, order: Order, _ctx: &()) -> Option<Word> {
+        self.0
+            .to_word(order, &(Endian::Big, BitSize(N), Order::Lsb0))
+    }
 }
 
 /// The pieces of the number.
@@ -280,6 +302,11 @@ impl<T: DekuWriter<Endian>> DekuWriter<()> for Be<T> {
     fn to_writer<W: Sink>(&self, writer: &mut Writer<W>, _ctx: ()) -> Result<(), DekuError> {
         self.0.to_writer(writer, Endian::Big)
     }
+
+    #[inline]
+    fn to_word(&self, order: Order, _ctx: &()) -> Option<Word> {
+        self.0.to_word(order, &Endian::Big)
+    }
 }
 
 /// The pieces of the number.
@@ -331,6 +358,11 @@ impl<T: DekuWriter<Endian>> DekuWriter<()> for Le<T> {
     #[inline(always)]
     fn to_writer<W: Sink>(&self, writer: &mut Writer<W>, _ctx: ()) -> Result<(), DekuError> {
         self.0.to_writer(writer, Endian::Little)
+    }
+
+    #[inline]
+    fn to_word(&self, order: Order, _ctx: &()) -> Option<Word> {
+        self.0.to_word(order, &Endian::Little)
     }
 }
 

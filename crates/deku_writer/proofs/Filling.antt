@@ -14,8 +14,8 @@ use Rattle.deku_device.specs.Cursors.{known_slice}
 use Rattle.deku_device.specs.Devices.{KnownSink, Gave, bytes_before}
 use Rattle.deku_writer.specs.Pushing.{onto_bytes, word_bits, Fills, FillsOnto, Pushed, GaveUp, PushedOnto}
 use Rattle.deku_stream.proofs.Appends.{count_law}
-use Rattle.deku_stream.proofs.Binary.{facing-facing, length-bits_of}
-use Rattle.deku_stream.proofs.Shown.{shown-shown}
+use Rattle.deku_stream.proofs.Binary.{facing-facing, length-facing, length-bits_of}
+use Rattle.deku_stream.proofs.Shown.{length-shown, shown-shown}
 use Rattle.deku_stream.proofs.Writing.{pending_bits-held}
 use Rattle.deku_writer.proofs.Fills.{Fills-short}
 use Rattle.deku_writer.proofs.Onto.{append_same, empty_onto}
@@ -54,19 +54,14 @@ pub behind_meets : (from to : Order) (h : List Bool) → (length h ≡ 0) ⊎ (f
 behind_meets from to [] behind = refl
 behind_meets from to (x ∷ h) behind = ⊎_elim (λ none. absurd (omega (arith, none))) (λ same. sym same) behind
 
--- the bits of a number, from the highest down
-pub high_behind : (from : Order) (h hs : List Bool) (n k : ℕ) (out : List ℕ) → (length h ≡ 0) ⊎ (from ≡ Msb0) → 0 < n → Fills Msb0 h hs (bits_of n k) out
-    → FillsOnto from Msb0 h hs (bits_of n k) out
-unfolding shown
-high_behind from h hs n k out behind some f =
-    let long : 0 < length (bits_of n k) = rw length-bits_of some in
-    ⊎_elim (λ none. none_filled from Msb0 h hs (bits_of n k) out none long f) (λ same. rw same (same_filled Msb0 h hs (bits_of n k) out long f)) behind
-
--- that are whole bytes, after none
-pub high_behind_none : (a b : KnownSink) (from : Order) (h : List Bool) (n k : ℕ) → length h ≡ 0 → 0 < n → Pushed a b Msb0 [] [] (bits_of n k) → PushedOnto a b from Msb0 h h (bits_of n k)
-unfolding shown
-high_behind_none a b from [] n k none some m = empty_onto a b from Msb0 [] [] (bits_of n k) none (rw length-bits_of some) m
-high_behind_none a b from (x ∷ h) n k none some m = absurd (omega arith)
+-- the bits of a number
+pub number_behind : (from to : Order) (h hs : List Bool) (n k : ℕ) (out : List ℕ) → (length h ≡ 0) ⊎ (from ≡ to) → 0 < n → Fills to h hs (facing to (bits_of n k)) out
+    → FillsOnto from to h hs (shown to (facing to (bits_of n k))) out
+number_behind from to h hs n k out behind some f =
+    let s : List Bool = facing to (bits_of n k) in
+    let long : 0 < length (shown to s) = rw (length-shown, length-facing, length-bits_of) some in
+    let g : Fills to h hs (shown to (shown to s)) out = subst (λ x. Fills to h hs x out) (sym (shown-shown to s)) f in
+    ⊎_elim (λ none. none_filled from to h hs (shown to s) out none long g) (λ same. rw same (same_filled to h hs (shown to s) out long g)) behind
 
 -- a sink took the bytes
 pub onto_given : (a b : KnownSink) (from to : Order) (h hs bits : List Bool) (out : List ℕ) → FillsOnto from to h hs bits out → Gave a b out → PushedOnto a b from to h hs bits

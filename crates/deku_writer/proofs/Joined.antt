@@ -196,13 +196,6 @@ fills_whole Msb0 [] n w none whole = fills_bytes Msb0 [] [] (word_bits Msb0 n w)
 fills_whole Lsb0 [] n w none whole = fills_bytes Lsb0 [] [] (word_bits Lsb0 n w) (low_bytes (n / 8) w) (whole_word Lsb0 n w whole) (small_low (n / 8) w) (omega arith)
 fills_whole o (x ∷ h) n w none whole = absurd (omega arith)
 
--- whole bytes of a number from the highest down, where nothing is held
-pub fills_high : (n k last : ℕ) (out : List ℕ) → n % 8 ≡ 0 → facing Msb0 (bits_of n k) ≡ flow Msb0 out ++ facing Msb0 (bits_of (n % 8) last) → All IsByte out → Fills Msb0 [] [] (bits_of n k) out
-unfolding bits_of
-fills_high n k last out whole e small =
-    let none : bits_of n k ≡ flow Msb0 out ++ [] = e ∙ ap (λ r. flow Msb0 out ++ bits_of r last) whole in
-    fills_bytes Msb0 [] [] (bits_of n k) out none small (omega arith)
-
 -- ---- as the code shifts
 -- a word's number
 module _ (n w x : ℕ) (most : n ≤ 64) (inside : w < 2 ^ n) (wide : x < 2 ^ 64) where

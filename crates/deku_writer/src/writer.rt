@@ -6,15 +6,15 @@ ghost use Rattle.std.specs.Prelude.{◌≡◌, ◌+◌, ◌/◌, ◌*◌, ◌^�
 ghost use Rattle.std.specs.declared.io.ErrorKind.TheVariants.{OutOfMemory};
 ghost use Rattle.deku_stream.specs.declared.ctx.Order.TheVariants.{Msb0};
 ghost use Rattle.deku_stream.specs.declared.error.DekuError.TheVariants.{Io};
-ghost use Rattle.deku_stream.specs.Bits.{bits_in, bits_of};
+ghost use Rattle.deku_stream.specs.Bits.{bits_in, bits_of, facing, shown};
 ghost use Rattle.deku_stream.specs.Writers.{Nothing, Meets, pending_bits};
 ghost use Rattle.deku_stream.specs.Standings.{Going, Stopped, Untouched, count_of};
 ghost use Rattle.deku_writer.specs.WriterCalls.{Writes, WritesAt, WritesBits, WritesWord, Finalizes, pending_of, order_of, written_count, WritesOn, KeepsSinkStopped, pending_state};
 
 mod bytes;
 mod held;
-mod high;
 mod joined;
+mod numbers;
 mod pushing;
 mod seek;
 mod way;
@@ -22,7 +22,7 @@ mod words;
 
 use self::bytes::push_bytes_onto;
 use self::held::Held;
-use self::high::lay_high;
+use self::numbers::lay_number;
 use self::pushing::push_onto;
 use self::words::push_word_onto;
 use deku_device::device::Sink;
@@ -243,30 +243,32 @@ impl<W: Sink> Writer<W> {
         self.state.write_word(&mut self.sink, word, n, order)
     }
 
-    /// Writes the bits of a number in `Msb0`, the high bit first, if no call on the sink that can
-    /// fail is needed. Returns whether it did. It needs that nothing rejects the write, that the
-    /// pending bits, if there are any, are in `Msb0`, that they and the new ones are at most 64
-    /// together, and that the sink has room in memory as `Sink::try_put` says.
+    /// Writes the bits of a number in an order, the first of them the highest in `Msb0` and the
+    /// lowest in `Lsb0`, if no call on the sink that can fail is needed. Returns whether it did. It
+    /// needs that nothing rejects the write, that the pending bits, if there are any, are in this
+    /// order, that they and the new ones are at most 64 together, and that the sink has room in
+    /// memory as `Sink::try_put` says.
     ///
     /// The caller's conditions: `n` is at most 64, and the number has no more bits.
     ///
-    /// It is a `write_bits` of as many bits. It returns `false` if there are no bits or if that
-    /// call fails, and may also do so if it does not. Then nothing changes.
+    /// It is a write of as many bits in the order. It returns `false` if there are no bits or if
+    /// that write fails, and may also do so if it does not. Then nothing changes.
     ///
     /// ```text
-    /// writer.try_write_msb(0xABC, 12) // true, with room: the byte 0xAB; 1, 1, 0, 0 are pending
+    /// writer.try_write_number(0xABC, 12, Order::Msb0) // true, with room: AB; 1, 1, 0, 0 pending
     /// ```
     #[inline(always)]
-    pub fn try_write_msb(&mut self, number: u64, n: usize) -> bool
+    pub fn try_write_number(&mut self, number: u64, n: usize, order: Order) -> bool
         requires most { n ≤ 64 }
         requires inside { number < 2 ^ n }
-        ensures writes { IsTrue result → Writes W.known (WritesBits Msb0 (bits_of n number))
-            self.old (Ok tt) self.new }
+        ensures writes { IsTrue result → Writes W.known (WritesBits order (shown order
+            (facing order (bits_of n number)))) self.old (Ok tt) self.new }
         ensures stays { IsFalse result → self.new ≡ self.old }
-        ensures order { IsTrue result → Meets Msb0 (pending_state self.old) }
+        ensures order { IsTrue result → Meets order (pending_state self.old) }
         ensures stopped { KeepsSinkStopped self.old self.new }
     {
-        self.state.try_write_msb(&mut self.sink, number, n)
+        self.state
+            .try_write_number(&mut self.sink, number, n, order)
     }
 
     /// Fills pending bits with zeros to a byte, after `Msb0` bits and above `Lsb0` bits, and gives
@@ -444,16 +446,22 @@ impl WriterState {
         }
     }
 
-    // Writes the bits of a number to this sink, the high bit first, if nothing rejects them and
-    // they can be put into its room. Returns whether it did.
+    // Writes the bits of a number to this sink, if nothing rejects them and they can be put into
+    // its room. Returns whether it did.
     #[inline(always)]
-    fn try_write_msb<W: Sink>(&mut self, sink: &mut W, number: u64, n: usize) -> bool
+    fn try_write_number<W: Sink>(
+        &mut self,
+        sink: &mut W,
+        number: u64,
+        n: usize,
+        order: Order,
+    ) -> bool
         requires most { n ≤ 64 }
         requires inside { number < 2 ^ n }
-        ensures writes { IsTrue result → WritesAt (WritesBits Msb0 (bits_of n number))
-            (W.known sink.old) self.old (Ok tt) (W.known sink.new) self.new }
+        ensures writes { IsTrue result → WritesAt (WritesBits order (shown order (facing order
+            (bits_of n number)))) (W.known sink.old) self.old (Ok tt) (W.known sink.new) self.new }
         ensures stays { IsFalse result → (self.new ≡ self.old) × (sink.new ≡ sink.old) }
-        ensures order { IsTrue result → Meets Msb0 (pending_of self.old) }
+        ensures order { IsTrue result → Meets order (pending_of self.old) }
         ensures stopped { Untouched self.old sink.old sink.new }
     {
         if let Some(_) = self.fault {
@@ -466,9 +474,9 @@ impl WriterState {
         if made > (usize::MAX - self.bits_written) / 8 {
             return false;
         }
-        let laid = lay_high(sink, &mut self.held, self.order, number, n);
+        let laid = lay_number(sink, &mut self.held, self.order, order, number, n);
         if laid {
-            self.order = Order::Msb0;
+            self.order = order;
             self.bits_written += 8 * made;
         }
         laid

@@ -1,3 +1,4 @@
 pub mod ByteRuns
 pub mod WritingEach
 pub mod WritingTwo
+pub mod WordsJoined

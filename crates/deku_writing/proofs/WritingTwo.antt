@@ -1,10 +1,9 @@
 -- Two writes in place of one.
 use Rattle.std.proofs.Common.{◌≡◌, ℕ, ◌+◌, ◌*◌, ◌<◌, Bool, false, List, ◌++◌, length, drop, Option, Some, None, Ok, refl, sym, ap, ◌∙◌, subst, inl, inr, arith, append_assoc, length-append, length-drop}
-use Rattle.std.specs.Prelude.{⊤, option_map}
+use Rattle.std.specs.Prelude.{option_map}
 use Rattle.std.specs.Io.KnownBytes.{Appends, append_known}
 use Rattle.std.proofs.lemmas.List.{drop-drop}
 use Rattle.deku_bits.specs.declared.ctx.Order.{Order}
-use Rattle.deku_bits.specs.declared.ctx.Order.TheVariants.{Msb0}
 use Rattle.deku_bits.specs.Bits.{facing, shown}
 use Rattle.deku_bits.specs.Devices.{KnownSink, Shrinks}
 use Rattle.deku_bits.specs.Writers.{Pending, Written, append, cut, pending_bits, remainder, Meets}
@@ -12,11 +11,7 @@ use Rattle.deku_bits.specs.Standings.{Standing, Going, Stopped, Output, writer_s
 use Rattle.deku_bits.specs.WriterCalls.{WritesBits, Took, pending_of}
 use Rattle.deku_bits.proofs.Appends.{append_law}
 use Rattle.deku_bits.proofs.Writing.{append_is, meets_held}
-
--- the pending bits are of this order, if it continues
-abbrev pub Follows : Order → Standing Output → Type 0
-Follows o (Going out c) = Meets o out.pending
-Follows o (Stopped out e c) = ⊤
+use Rattle.deku_writing.specs.Words.{Follows}
 
 pub follows : (o : Order) (known : KnownSink) (s : Standing Pending) → Meets o (pending_of s) → Follows o (writer_state known s)
 follows o known (Going p c) h = h
@@ -40,29 +35,29 @@ shrinks_apart (Some r) (Some s) m n (few, is) =
     ((omega (arith, few), refl), (omega (arith, few, left), is ∙ ap (λ k. drop k r) (omega arith) ∙ sym (drop-drop n m r)))
 
 -- the first bits, and then the others
-pub written_two : (s t : List Bool) (x u : Standing Output) → 0 < length s → Follows Msb0 x → WritesBits Msb0 (s ++ t) false x (Ok tt) u
-    → (y : Standing Output) × WritesBits Msb0 s false x (Ok tt) y × WritesBits Msb0 t false y (Ok tt) u × Follows Msb0 y
-unfolding shown
-written_two s t (Stopped a e c) u some h p = let no = p.0 in absurd (cc)
-written_two s t (Going out c) u some h (inl p) = let no = p.1.2 in absurd (cc)
-written_two s t (Going out c) u some h (inr (room, inr p)) = let no = p.3 in absurd (cc)
-written_two s t (Going out c) u some h (inr (room, inl (after, took, e, stands))) =
+pub written_two : (o : Order) (s t : List Bool) (x u : Standing Output) → 0 < length s → Follows o x → WritesBits o (shown o (s ++ t)) false x (Ok tt) u
+    → (y : Standing Output) × WritesBits o (shown o s) false x (Ok tt) y × WritesBits o (shown o t) false y (Ok tt) u × Follows o y
+written_two o s t (Stopped a e c) u some h p = let no = p.0 in absurd (cc)
+written_two o s t (Going out c) u some h (inl p) = let no = p.1.2 in absurd (cc)
+written_two o s t (Going out c) u some h (inr (room, inr p)) = let no = p.3 in absurd (cc)
+written_two o s t (Going out c) u some h (inr (room, inl (after, took, e, stands))) =
     let P = out.pending in
-    let first : Written = append Msb0 s P in
-    let second : Written = append Msb0 t first.pending in
-    let law : append Msb0 (s ++ t) P ≡ record { bytes = first.bytes ++ second.bytes; pending = second.pending } = append_law Msb0 s t P h in
-    let bytes : (append Msb0 (s ++ t) P).bytes ≡ first.bytes ++ second.bytes = ap (λ W. W.bytes) law in
-    let count : length (append Msb0 (s ++ t) P).bytes ≡ length first.bytes + length second.bytes = ap length bytes ∙ length-append first.bytes second.bytes in
+    let all : Written = append o (shown o (s ++ t)) P in
+    let first : Written = append o (shown o s) P in
+    let second : Written = append o (shown o t) first.pending in
+    let law : all ≡ record { bytes = first.bytes ++ second.bytes; pending = second.pending } = append_law o s t P h in
+    let bytes : all.bytes ≡ first.bytes ++ second.bytes = ap (λ W. W.bytes) law in
+    let count : length all.bytes ≡ length first.bytes + length second.bytes = ap length bytes ∙ length-append first.bytes second.bytes in
     let taken = appends_apart out.taken after.taken first.bytes second.bytes (subst (Appends out.taken after.taken) bytes took.taken) in
     let left = shrinks_apart out.room after.room (length first.bytes) (length second.bytes) (subst (Shrinks out.room after.room) count took.room) in
     let between : Output = record { taken = append_known out.taken first.bytes; room = less (length first.bytes) out.room; pending = first.pending } in
     let one : Took first out between = record { taken = taken.0; room = left.0; pending = refl } in
     let two : Took second between after = record { taken = taken.1; room = left.1; pending = took.pending ∙ ap (λ W. W.pending) law } in
     let k : ℕ = c + 8 * length first.bytes in
-    let sum : c + 8 * length (append Msb0 (s ++ t) P).bytes ≡ k + 8 * length second.bytes = omega (arith, count) in
-    let is : first ≡ cut Msb0 (facing Msb0 (pending_bits P) ++ s) = append_is Msb0 s P some h in (
+    let sum : c + 8 * length all.bytes ≡ k + 8 * length second.bytes = omega (arith, count) in
+    let is : first ≡ cut o (facing o (pending_bits P) ++ s) = append_is o s P some h in (
       Going between k,
       inr (omega (arith, room, sum), inl (between, one, refl, refl)),
       inr (omega (arith, room, sum), inl (after, two, refl, stands ∙ ap (λ n. Going after n) sum)),
-      subst (Meets Msb0) (sym (ap (λ W. W.pending) is)) (meets_held Msb0 (facing Msb0 (remainder (facing Msb0 (pending_bits P) ++ s)))),
+      subst (Meets o) (sym (ap (λ W. W.pending) is)) (meets_held o (facing o (remainder (facing o (pending_bits P) ++ s)))),
     )

@@ -4,5 +4,7 @@
 
 mod impls;
 mod traits;
+mod words;
 
 pub use traits::DekuWriter;
+pub use words::Word;

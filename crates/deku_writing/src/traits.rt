@@ -1,11 +1,14 @@
 //! The trait of types that can be written.
 
-ghost use Rattle.std.specs.Prelude.{◌≤◌, Result, Ok, ⊤, length, take};
+ghost use Rattle.std.specs.Prelude.{◌≤◌, Result, Ok, ⊤, length, take, IfSome};
 ghost use Rattle.deku_bits.specs.Outcomes.{Meaning};
 ghost use Rattle.deku_bits.specs.Standings.{Output};
 ghost use Rattle.deku_bits.specs.WriterCalls.{Writes};
 ghost use Rattle.deku_writing.specs.Composing.{WritesEach};
+ghost use Rattle.deku_writing.specs.Words.{IsWordOf};
 
+use crate::words::Word;
+use deku_bits::ctx::Order;
 use deku_bits::device::Sink;
 use deku_bits::error::DekuError;
 use deku_bits::writer::Writer;
@@ -36,6 +39,23 @@ pub trait DekuWriter<Ctx> {
     fn to_writer<W: Sink>(&self, writer: &mut Writer<W>, ctx: Ctx) -> Result<(), DekuError>
         requires { accepts ctx }
         ensures { Writes W.known (meaning self.now ctx) writer.old result writer.new };
+
+    /// The word that the bits of the value are in this order. It has the same bits, and is one, for
+    /// every value of a type under a context.
+    ///
+    /// `None`, as by default, if values of the type are written otherwise under the context.
+    ///
+    /// ```text
+    /// 6u8.to_word(Order::Msb0, &BitSize(4))                   // the number 6, of four bits
+    /// ```
+    #[inline]
+    fn to_word(&self, order: Order, ctx: &Ctx) -> Option<Word>
+        ensures { IfSome result (λ w. IsWordOf (meaning self.now ctx.now) order w) }
+    {
+        let _order = order;
+        let _ctx = ctx;
+        None
+    }
 
     /// Writes the first of the values, as long as the sink has room for them in memory. Returns how
     /// many they are.

@@ -1,6 +1,6 @@
 //! Numbers that are written from the highest bit down, with room for eight bytes in memory.
 
-use deku_bits::ctx::Order::Lsb0;
+use deku_bits::ctx::Order::{Lsb0, Msb0};
 use deku_bits::device::Sink;
 use deku_bits::writer::Writer;
 use deku_testing::same::same;
@@ -44,7 +44,7 @@ fn lay_numbers<W: Sink + Drop>(rt: &impl Abort, sink: W, row: &Row) -> Result<W,
         assert!(rt; *n < 64 && *number < 1 << *n);
         same(
             &(front.len(), *n),
-            &writer.try_write_msb(*number, *n),
+            &writer.try_write_number(*number, *n, Msb0),
             is_laid,
         )?;
     }

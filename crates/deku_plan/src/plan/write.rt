@@ -10,6 +10,7 @@ ghost use Rattle.deku_plan.specs.Plans.{IsStepOf, AreSteps, items};
 
 use crate::step::Step;
 use deku::calls::{write_signed, write_unsigned};
+use deku::ctx::Order;
 use deku::device::Sink;
 use deku::error::DekuError;
 use deku::writer::Writer;
@@ -69,7 +70,7 @@ fn laid_high<W: Sink>(writer: &mut Writer<W>, item: &Item, step: Step) -> bool
     ensures stopped { KeepsSinkStopped writer.old writer.new }
 {
     match high_number(step, item.value) {
-        Some(number) => writer.try_write_msb(number, step.width),
+        Some(number) => writer.try_write_number(number, step.width, Order::Msb0),
         None => false,
     }
 }

@@ -5,7 +5,7 @@ ghost use Rattle.deku_stream.specs.declared.ctx.Order.TheVariants.{Msb0};
 ghost use Rattle.deku_stream.specs.Bits.{bits_of, byte_bits, facing};
 ghost use Rattle.deku_writer.specs.Pushing.{word_bits, Fills, given};
 
-use super::joined::{cut_word, join_high, join_word};
+use super::joined::{cut_word, join_number, number_of_word};
 use deku_stream::byte::bits_of_byte;
 use deku_stream::ctx::Order;
 use std::marker::Model;
@@ -108,32 +108,27 @@ impl Held {
         ensures count { result.1 ≡ (length self.old + n) / 8 }
         ensures rest { length self.new ≡ (length self.old + n) % 8 }
     {
-        let held = self.len();
-        let len = held + n;
-        let joined = join_word(order, self.number, held, word, n);
-        let (eight, behind) = cut_word(order, joined, len);
-        self.number = behind;
-        self.len = len % 8;
-        (eight, len / 8)
+        self.fill_number(order, number_of_word(order, word, n), n)
     }
 
-    /// Adds the bits of a number, the high bit first, after the held bits. Returns the bytes that
-    /// fill, as the first of eight, and how many there are. The bits after them are held.
+    /// Adds the bits of a number in this order after the held bits. Returns the bytes that fill, as
+    /// the first of eight, and how many there are. The bits after them are held.
     ///
     /// The caller's condition: the held bits and the number are at most 64 bits together.
     #[inline(always)]
-    pub fn fill_high(&mut self, number: u64, n: usize) -> ([u8; 8], usize)
+    pub fn fill_number(&mut self, order: Order, number: u64, n: usize) -> ([u8; 8], usize)
         requires some { 0 < n }
         requires most { length self.old + n ≤ 64 }
         requires inside { number < 2 ^ n }
-        ensures fills { Fills Msb0 self.old self.new (bits_of n number) (take result.1 result.0) }
+        ensures fills { Fills order self.old self.new (facing order (bits_of n number))
+            (take result.1 result.0) }
         ensures count { result.1 ≡ (length self.old + n) / 8 }
         ensures rest { length self.new ≡ (length self.old + n) % 8 }
     {
         let before = self.len();
         let all = before + n;
-        let joined = join_high(self.number, before, number, n);
-        let (eight, last) = cut_word(Order::Msb0, joined, all);
+        let joined = join_number(order, self.number, before, number, n);
+        let (eight, last) = cut_word(order, joined, all);
         self.number = last;
         self.len = all % 8;
         (eight, all / 8)

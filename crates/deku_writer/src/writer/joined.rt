@@ -1,4 +1,4 @@
-//! Held bits and a word after them, as one number of at most 64 bits.
+//! Held bits and those after them, as one number of at most 64 bits.
 
 ghost use Rattle.std.specs.Prelude.{◌≡◌, ◌<◌, ◌≤◌, ◌+◌, ◌*◌, ◌/◌, ◌%◌, ◌^◌, ◌++◌, take, All};
 ghost use Rattle.deku_stream.specs.declared.ctx.Order.TheVariants.{Msb0};
@@ -8,46 +8,42 @@ ghost use Rattle.deku_writer.specs.Pushing.{word_bits};
 
 use deku_stream::ctx::Order;
 
-/// The number of some bits and of a word's n bits after them, in this order.
+/// The number of some bits and of n bits after them, in this order.
 #[inline(always)]
-pub fn join_word(order: Order, first: u8, a: usize, word: u64, n: usize) -> u64
-    requires short { a < 8 }
-    requires some { 0 < n }
-    requires most { a + n ≤ 64 }
-    requires first { first < 2 ^ a }
-    requires word { word < 2 ^ n }
-    ensures inside { result < 2 ^ (a + n) }
-    ensures bits { facing order (bits_of (a + n) result) ≡ facing order (bits_of a first) ++
-        word_bits order n word }
-{
-    match order {
-        Order::Msb0 => {
-            let number = high_number(word, n);
-            if a == 0 {
-                return number;
-            }
-            ((first as u64) << n) + number
-        }
-        Order::Lsb0 => first as u64 + (word << a),
-    }
-}
-
-/// The number of some bits and of n bits after them, each with the high bits first.
-#[inline(always)]
-pub fn join_high(first: u8, a: usize, number: u64, n: usize) -> u64
+pub fn join_number(order: Order, first: u8, a: usize, number: u64, n: usize) -> u64
     requires short { a < 8 }
     requires some { 0 < n }
     requires most { a + n ≤ 64 }
     requires first { first < 2 ^ a }
     requires number { number < 2 ^ n }
     ensures inside { result < 2 ^ (a + n) }
-    ensures bits { bits_of (a + n) result ≡ bits_of a first ++ bits_of n number }
+    ensures bits { facing order (bits_of (a + n) result) ≡ facing order (bits_of a first) ++ facing
+        order (bits_of n number) }
 {
-    if a == 0 {
-        return number;
+    match order {
+        Order::Msb0 => {
+            if a == 0 {
+                return number;
+            }
+            ((first as u64) << n) + number
+        }
+        Order::Lsb0 => first as u64 + (number << a),
     }
-    let front = (first as u64) << n;
-    front + number
+}
+
+/// The number of a word's n bits, of which the first is the highest in `Msb0`, and the lowest in
+/// `Lsb0`.
+#[inline(always)]
+pub fn number_of_word(order: Order, word: u64, n: usize) -> u64
+    requires most { n ≤ 64 }
+    requires inside { word < 2 ^ n }
+    ensures inside { result < 2 ^ n }
+    ensures bits { facing order (bits_of n result) ≡ word_bits order n word }
+{
+    match order {
+        Order::Msb0 => high_number(word, n),
+        Order::Lsb0 => word,
+    }
 }
 
 // The number of a word's n bits, the high bits first: the whole bytes are reversed, and the bits

@@ -6,6 +6,8 @@ ghost use Rattle.deku_num.specs.NumberCalls.{WritesNumber};
 ghost use Rattle.deku_meanings.specs.Shapes.{numeral};
 
 use crate::traits::DekuWriter;
+use crate::words::Word;
+use deku_bits::ctx::Order;
 use deku_bits::device::Sink;
 use deku_bits::error::DekuError;
 use deku_bits::writer::Writer;
@@ -18,5 +20,10 @@ impl<C: NumberCtx> DekuWriter<C> for bool {
     #[inline(always)]
     fn to_writer<W: Sink>(&self, writer: &mut Writer<W>, ctx: C) -> Result<(), DekuError> {
         (*self as u8).to_writer(writer, ctx)
+    }
+
+    #[inline]
+    fn to_word(&self, order: Order, ctx: &C) -> Option<Word> {
+        (*self as u8).to_word(order, ctx)
     }
 }

@@ -46,7 +46,7 @@ fn write_first_eight<W: Sink>(writer: &mut Writer<W>, bytes: &[u8]) -> usize
     let count = bytes.len().min(8);
     let eight = padded(bytes, count);
     let number = u64::from_be_bytes(eight) >> (64 - 8 * count);
-    if !writer.try_write_msb(number, 8 * count) {
+    if !writer.try_write_number(number, 8 * count, Order::Msb0) {
         return 0;
     }
     count

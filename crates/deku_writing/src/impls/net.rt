@@ -7,6 +7,8 @@ ghost use Rattle.deku_num.specs.NumberCalls.{WritesNumber};
 ghost use Rattle.deku_meanings.specs.Shapes.{WritesAddress};
 
 use crate::traits::DekuWriter;
+use crate::words::Word;
+use deku_bits::ctx::Order;
 use deku_bits::device::Sink;
 use deku_bits::error::DekuError;
 use deku_bits::writer::Writer;
@@ -21,6 +23,11 @@ impl<C: NumberCtx> DekuWriter<C> for Ipv4Addr {
     fn to_writer<W: Sink>(&self, writer: &mut Writer<W>, ctx: C) -> Result<(), DekuError> {
         let number: u32 = self.to_bits();
         number.to_writer(writer, ctx)
+    }
+
+    #[inline]
+    fn to_word(&self, order: Order, ctx: &C) -> Option<Word> {
+        self.to_bits().to_word(order, ctx)
     }
 }
 

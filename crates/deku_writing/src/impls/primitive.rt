@@ -21,11 +21,12 @@ ghost use Rattle.deku_num.specs.NumberCalls.{WritesNumber};
 
 use crate::impls::bytes::write_first_bytes;
 use crate::traits::DekuWriter;
+use crate::words::{Word, signed_word, unsigned_word};
 use deku_bits::device::Sink;
 use deku_bits::error::DekuError;
 use deku_bits::writer::Writer;
 use deku_num::calls::{write_signed, write_unsigned};
-use deku_num::ctx::NumberCtx;
+use deku_num::ctx::{NumberCtx, Order};
 use deku_num::kind::NumberType;
 
 /// Writes a `u8` as its context says: the whole eight bits, or as many as a `BitSize` says; under a
@@ -40,6 +41,11 @@ impl<C: NumberCtx> DekuWriter<C> for u8 {
     #[inline(always)]
     fn to_writer<W: Sink>(&self, writer: &mut Writer<W>, ctx: C) -> Result<(), DekuError> {
         write_unsigned(writer, *self as u128, NumberType::U8, ctx.parts())
+    }
+
+    #[inline]
+    fn to_word(&self, order: Order, ctx: &C) -> Option<Word> {
+        unsigned_word(*self as u64, order, NumberType::U8, ctx.parts())
     }
 
     fn try_write_first<W: Sink>(writer: &mut Writer<W>, items: &[u8], ctx: &C) -> usize {
@@ -59,6 +65,11 @@ impl<C: NumberCtx> DekuWriter<C> for u16 {
     fn to_writer<W: Sink>(&self, writer: &mut Writer<W>, ctx: C) -> Result<(), DekuError> {
         write_unsigned(writer, *self as u128, NumberType::U16, ctx.parts())
     }
+
+    #[inline]
+    fn to_word(&self, order: Order, ctx: &C) -> Option<Word> {
+        unsigned_word(*self as u64, order, NumberType::U16, ctx.parts())
+    }
 }
 
 /// Writes a `u32` as its context says: the whole 32 bits, or as many bits or bytes as a size says.
@@ -73,6 +84,11 @@ impl<C: NumberCtx> DekuWriter<C> for u32 {
     fn to_writer<W: Sink>(&self, writer: &mut Writer<W>, ctx: C) -> Result<(), DekuError> {
         write_unsigned(writer, *self as u128, NumberType::U32, ctx.parts())
     }
+
+    #[inline]
+    fn to_word(&self, order: Order, ctx: &C) -> Option<Word> {
+        unsigned_word(*self as u64, order, NumberType::U32, ctx.parts())
+    }
 }
 
 /// Writes a `u64` as its context says: the whole 64 bits, or as many bits or bytes as a size says.
@@ -86,6 +102,11 @@ impl<C: NumberCtx> DekuWriter<C> for u64 {
     #[inline(always)]
     fn to_writer<W: Sink>(&self, writer: &mut Writer<W>, ctx: C) -> Result<(), DekuError> {
         write_unsigned(writer, *self as u128, NumberType::U64, ctx.parts())
+    }
+
+    #[inline]
+    fn to_word(&self, order: Order, ctx: &C) -> Option<Word> {
+        unsigned_word(*self, order, NumberType::U64, ctx.parts())
     }
 }
 
@@ -132,6 +153,11 @@ impl<C: NumberCtx> DekuWriter<C> for i8 {
     fn to_writer<W: Sink>(&self, writer: &mut Writer<W>, ctx: C) -> Result<(), DekuError> {
         write_signed(writer, *self as i128, NumberType::I8, ctx.parts())
     }
+
+    #[inline]
+    fn to_word(&self, order: Order, ctx: &C) -> Option<Word> {
+        signed_word(*self as i64, order, NumberType::I8, ctx.parts())
+    }
 }
 
 /// Writes an `i16` as its context says: the whole 16 bits, or as many bits or bytes as a size says;
@@ -146,6 +172,11 @@ impl<C: NumberCtx> DekuWriter<C> for i16 {
     #[inline(always)]
     fn to_writer<W: Sink>(&self, writer: &mut Writer<W>, ctx: C) -> Result<(), DekuError> {
         write_signed(writer, *self as i128, NumberType::I16, ctx.parts())
+    }
+
+    #[inline]
+    fn to_word(&self, order: Order, ctx: &C) -> Option<Word> {
+        signed_word(*self as i64, order, NumberType::I16, ctx.parts())
     }
 }
 
@@ -162,6 +193,11 @@ impl<C: NumberCtx> DekuWriter<C> for i32 {
     fn to_writer<W: Sink>(&self, writer: &mut Writer<W>, ctx: C) -> Result<(), DekuError> {
         write_signed(writer, *self as i128, NumberType::I32, ctx.parts())
     }
+
+    #[inline]
+    fn to_word(&self, order: Order, ctx: &C) -> Option<Word> {
+        signed_word(*self as i64, order, NumberType::I32, ctx.parts())
+    }
 }
 
 /// Writes an `i64` as its context says: the whole 64 bits, or as many bits or bytes as a size says;
@@ -176,6 +212,11 @@ impl<C: NumberCtx> DekuWriter<C> for i64 {
     #[inline(always)]
     fn to_writer<W: Sink>(&self, writer: &mut Writer<W>, ctx: C) -> Result<(), DekuError> {
         write_signed(writer, *self as i128, NumberType::I64, ctx.parts())
+    }
+
+    #[inline]
+    fn to_word(&self, order: Order, ctx: &C) -> Option<Word> {
+        signed_word(*self, order, NumberType::I64, ctx.parts())
     }
 }
 

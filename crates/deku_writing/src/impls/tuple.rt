@@ -1,9 +1,12 @@
 //! Tuples: their items in order. A tuple of three or more items is written as its first item and
 //! the tuple of the rest.
 
+ghost use Rattle.deku_bits.specs.WriterCalls.{Writes};
 ghost use Rattle.deku_meanings.specs.Composing.{Both};
 
 use crate::traits::DekuWriter;
+use crate::words::{Word, try_write_word};
+use deku_bits::ctx::Order;
 use deku_bits::device::Sink;
 use deku_bits::error::DekuError;
 use deku_bits::writer::Writer;
@@ -29,9 +32,21 @@ impl<Ctx: Copy, A: DekuWriter<Ctx>, B: DekuWriter<Ctx>> DekuWriter<Ctx> for (A, 
 
     #[inline(always)]
     fn to_writer<W: Sink>(&self, writer: &mut Writer<W>, ctx: Ctx) -> Result<(), DekuError> {
+        let high = self.to_word(Order::Msb0, &ctx);
+        let low = self.to_word(Order::Lsb0, &ctx);
+        if try_write_word(high, low, writer) {
+            return Ok(());
+        }
         let (a, b) = self;
-        a.to_writer(writer, ctx)?;
-        b.to_writer(writer, ctx)
+        write_two(a, b, writer, ctx)
+    }
+
+    #[inline]
+    fn to_word(&self, order: Order, ctx: &Ctx) -> Option<Word> {
+        let (a, b) = self;
+        let item = a.to_word(order, ctx)?;
+        let rest = b.to_word(order, ctx)?;
+        item.followed_by(rest, order)
     }
 }
 
@@ -43,9 +58,21 @@ impl<Ctx: Copy, A: DekuWriter<Ctx>, B: DekuWriter<Ctx>, C: DekuWriter<Ctx>> Deku
 
     #[inline(always)]
     fn to_writer<W: Sink>(&self, writer: &mut Writer<W>, ctx: Ctx) -> Result<(), DekuError> {
+        let high = self.to_word(Order::Msb0, &ctx);
+        let low = self.to_word(Order::Lsb0, &ctx);
+        if try_write_word(high, low, writer) {
+            return Ok(());
+        }
         let (a, b, c) = self;
-        a.to_writer(writer, ctx)?;
-        (b, c).to_writer(writer, ctx)
+        write_three(a, b, c, writer, ctx)
+    }
+
+    #[inline]
+    fn to_word(&self, order: Order, ctx: &Ctx) -> Option<Word> {
+        let (a, b, c) = self;
+        let item = a.to_word(order, ctx)?;
+        let rest = (b, c).to_word(order, ctx)?;
+        item.followed_by(rest, order)
     }
 }
 
@@ -63,9 +90,21 @@ impl<
 
     #[inline(always)]
     fn to_writer<W: Sink>(&self, writer: &mut Writer<W>, ctx: Ctx) -> Result<(), DekuError> {
+        let high = self.to_word(Order::Msb0, &ctx);
+        let low = self.to_word(Order::Lsb0, &ctx);
+        if try_write_word(high, low, writer) {
+            return Ok(());
+        }
         let (a, b, c, d) = self;
-        a.to_writer(writer, ctx)?;
-        (b, c, d).to_writer(writer, ctx)
+        write_four(a, b, c, d, writer, ctx)
+    }
+
+    #[inline]
+    fn to_word(&self, order: Order, ctx: &Ctx) -> Option<Word> {
+        let (a, b, c, d) = self;
+        let item = a.to_word(order, ctx)?;
+        let rest = (b, c, d).to_word(order, ctx)?;
+        item.followed_by(rest, order)
     }
 }
 
@@ -84,9 +123,21 @@ impl<
 
     #[inline(always)]
     fn to_writer<W: Sink>(&self, writer: &mut Writer<W>, ctx: Ctx) -> Result<(), DekuError> {
+        let high = self.to_word(Order::Msb0, &ctx);
+        let low = self.to_word(Order::Lsb0, &ctx);
+        if try_write_word(high, low, writer) {
+            return Ok(());
+        }
         let (a, b, c, d, e) = self;
-        a.to_writer(writer, ctx)?;
-        (b, c, d, e).to_writer(writer, ctx)
+        write_five(a, b, c, d, e, writer, ctx)
+    }
+
+    #[inline]
+    fn to_word(&self, order: Order, ctx: &Ctx) -> Option<Word> {
+        let (a, b, c, d, e) = self;
+        let item = a.to_word(order, ctx)?;
+        let rest = (b, c, d, e).to_word(order, ctx)?;
+        item.followed_by(rest, order)
     }
 }
 
@@ -108,9 +159,21 @@ impl<
 
     #[inline(always)]
     fn to_writer<W: Sink>(&self, writer: &mut Writer<W>, ctx: Ctx) -> Result<(), DekuError> {
+        let high = self.to_word(Order::Msb0, &ctx);
+        let low = self.to_word(Order::Lsb0, &ctx);
+        if try_write_word(high, low, writer) {
+            return Ok(());
+        }
         let (a, b, c, d, e, f) = self;
-        a.to_writer(writer, ctx)?;
-        (b, c, d, e, f).to_writer(writer, ctx)
+        write_six(a, b, c, d, e, f, writer, ctx)
+    }
+
+    #[inline]
+    fn to_word(&self, order: Order, ctx: &Ctx) -> Option<Word> {
+        let (a, b, c, d, e, f) = self;
+        let item = a.to_word(order, ctx)?;
+        let rest = (b, c, d, e, f).to_word(order, ctx)?;
+        item.followed_by(rest, order)
     }
 }
 
@@ -133,9 +196,21 @@ impl<
 
     #[inline(always)]
     fn to_writer<W: Sink>(&self, writer: &mut Writer<W>, ctx: Ctx) -> Result<(), DekuError> {
+        let high = self.to_word(Order::Msb0, &ctx);
+        let low = self.to_word(Order::Lsb0, &ctx);
+        if try_write_word(high, low, writer) {
+            return Ok(());
+        }
         let (a, b, c, d, e, f, g) = self;
-        a.to_writer(writer, ctx)?;
-        (b, c, d, e, f, g).to_writer(writer, ctx)
+        write_seven(a, b, c, d, e, f, g, writer, ctx)
+    }
+
+    #[inline]
+    fn to_word(&self, order: Order, ctx: &Ctx) -> Option<Word> {
+        let (a, b, c, d, e, f, g) = self;
+        let item = a.to_word(order, ctx)?;
+        let rest = (b, c, d, e, f, g).to_word(order, ctx)?;
+        item.followed_by(rest, order)
     }
 }
 
@@ -160,9 +235,21 @@ impl<
 
     #[inline(always)]
     fn to_writer<W: Sink>(&self, writer: &mut Writer<W>, ctx: Ctx) -> Result<(), DekuError> {
+        let high = self.to_word(Order::Msb0, &ctx);
+        let low = self.to_word(Order::Lsb0, &ctx);
+        if try_write_word(high, low, writer) {
+            return Ok(());
+        }
         let (a, b, c, d, e, f, g, h) = self;
-        a.to_writer(writer, ctx)?;
-        (b, c, d, e, f, g, h).to_writer(writer, ctx)
+        write_eight(a, b, c, d, e, f, g, h, writer, ctx)
+    }
+
+    #[inline]
+    fn to_word(&self, order: Order, ctx: &Ctx) -> Option<Word> {
+        let (a, b, c, d, e, f, g, h) = self;
+        let item = a.to_word(order, ctx)?;
+        let rest = (b, c, d, e, f, g, h).to_word(order, ctx)?;
+        item.followed_by(rest, order)
     }
 }
 
@@ -188,9 +275,21 @@ impl<
 
     #[inline(always)]
     fn to_writer<W: Sink>(&self, writer: &mut Writer<W>, ctx: Ctx) -> Result<(), DekuError> {
+        let high = self.to_word(Order::Msb0, &ctx);
+        let low = self.to_word(Order::Lsb0, &ctx);
+        if try_write_word(high, low, writer) {
+            return Ok(());
+        }
         let (a, b, c, d, e, f, g, h, i) = self;
-        a.to_writer(writer, ctx)?;
-        (b, c, d, e, f, g, h, i).to_writer(writer, ctx)
+        write_nine(a, b, c, d, e, f, g, h, i, writer, ctx)
+    }
+
+    #[inline]
+    fn to_word(&self, order: Order, ctx: &Ctx) -> Option<Word> {
+        let (a, b, c, d, e, f, g, h, i) = self;
+        let item = a.to_word(order, ctx)?;
+        let rest = (b, c, d, e, f, g, h, i).to_word(order, ctx)?;
+        item.followed_by(rest, order)
     }
 }
 
@@ -218,9 +317,21 @@ impl<
 
     #[inline(always)]
     fn to_writer<W: Sink>(&self, writer: &mut Writer<W>, ctx: Ctx) -> Result<(), DekuError> {
+        let high = self.to_word(Order::Msb0, &ctx);
+        let low = self.to_word(Order::Lsb0, &ctx);
+        if try_write_word(high, low, writer) {
+            return Ok(());
+        }
         let (a, b, c, d, e, f, g, h, i, j) = self;
-        a.to_writer(writer, ctx)?;
-        (b, c, d, e, f, g, h, i, j).to_writer(writer, ctx)
+        write_ten(a, b, c, d, e, f, g, h, i, j, writer, ctx)
+    }
+
+    #[inline]
+    fn to_word(&self, order: Order, ctx: &Ctx) -> Option<Word> {
+        let (a, b, c, d, e, f, g, h, i, j) = self;
+        let item = a.to_word(order, ctx)?;
+        let rest = (b, c, d, e, f, g, h, i, j).to_word(order, ctx)?;
+        item.followed_by(rest, order)
     }
 }
 
@@ -249,8 +360,288 @@ impl<
 
     #[inline(always)]
     fn to_writer<W: Sink>(&self, writer: &mut Writer<W>, ctx: Ctx) -> Result<(), DekuError> {
+        let high = self.to_word(Order::Msb0, &ctx);
+        let low = self.to_word(Order::Lsb0, &ctx);
+        if try_write_word(high, low, writer) {
+            return Ok(());
+        }
         let (a, b, c, d, e, f, g, h, i, j, k) = self;
-        a.to_writer(writer, ctx)?;
-        (b, c, d, e, f, g, h, i, j, k).to_writer(writer, ctx)
+        write_eleven(a, b, c, d, e, f, g, h, i, j, k, writer, ctx)
     }
+
+    #[inline]
+    fn to_word(&self, order: Order, ctx: &Ctx) -> Option<Word> {
+        let (a, b, c, d, e, f, g, h, i, j, k) = self;
+        let item = a.to_word(order, ctx)?;
+        let rest = (b, c, d, e, f, g, h, i, j, k).to_word(order, ctx)?;
+        item.followed_by(rest, order)
+    }
+}
+
+// The items of a tuple, one after the other. The same holds for each function below.
+#[inline(always)]
+fn write_two<Ctx: Copy, A: DekuWriter<Ctx>, B: DekuWriter<Ctx>, W: Sink>(
+    a: &A,
+    b: &B,
+    writer: &mut Writer<W>,
+    ctx: Ctx,
+) -> Result<(), DekuError>
+    requires { ⟦<(A, B) as DekuWriter<Ctx>>⟧.accepts ctx }
+    ensures { Writes W.known (⟦<(A, B) as DekuWriter<Ctx>>⟧.meaning
+        (a.now, b.now) ctx) writer.old result writer.new }
+{
+    a.to_writer(writer, ctx)?;
+    b.to_writer(writer, ctx)
+}
+
+#[inline(always)]
+fn write_three<Ctx: Copy, A: DekuWriter<Ctx>, B: DekuWriter<Ctx>, C: DekuWriter<Ctx>, W: Sink>(
+    a: &A,
+    b: &B,
+    c: &C,
+    writer: &mut Writer<W>,
+    ctx: Ctx,
+) -> Result<(), DekuError>
+    requires { ⟦<(A, B, C) as DekuWriter<Ctx>>⟧.accepts ctx }
+    ensures { Writes W.known (⟦<(A, B, C) as DekuWriter<Ctx>>⟧.meaning
+        (a.now, b.now, c.now) ctx) writer.old result writer.new }
+{
+    a.to_writer(writer, ctx)?;
+    write_two(b, c, writer, ctx)
+}
+
+#[inline(always)]
+fn write_four<
+    Ctx: Copy,
+    A: DekuWriter<Ctx>,
+    B: DekuWriter<Ctx>,
+    C: DekuWriter<Ctx>,
+    D: DekuWriter<Ctx>,
+    W: Sink,
+>(a: &A, b: &B, c: &C, d: &D, writer: &mut Writer<W>, ctx: Ctx) -> Result<(), DekuError>
+    requires { ⟦<(A, B, C, D) as DekuWriter<Ctx>>⟧.accepts ctx }
+    ensures { Writes W.known (⟦<(A, B, C, D) as DekuWriter<Ctx>>⟧.meaning
+        (a.now, b.now, c.now, d.now) ctx) writer.old result writer.new }
+{
+    a.to_writer(writer, ctx)?;
+    write_three(b, c, d, writer, ctx)
+}
+
+#[inline(always)]
+fn write_five<
+    Ctx: Copy,
+    A: DekuWriter<Ctx>,
+    B: DekuWriter<Ctx>,
+    C: DekuWriter<Ctx>,
+    D: DekuWriter<Ctx>,
+    E: DekuWriter<Ctx>,
+    W: Sink,
+>(a: &A, b: &B, c: &C, d: &D, e: &E, writer: &mut Writer<W>, ctx: Ctx) -> Result<(), DekuError>
+    requires { ⟦<(A, B, C, D, E) as DekuWriter<Ctx>>⟧.accepts ctx }
+    ensures { Writes W.known (⟦<(A, B, C, D, E) as DekuWriter<Ctx>>⟧.meaning
+        (a.now, b.now, c.now, d.now, e.now) ctx) writer.old result writer.new }
+{
+    a.to_writer(writer, ctx)?;
+    write_four(b, c, d, e, writer, ctx)
+}
+
+#[inline(always)]
+fn write_six<
+    Ctx: Copy,
+    A: DekuWriter<Ctx>,
+    B: DekuWriter<Ctx>,
+    C: DekuWriter<Ctx>,
+    D: DekuWriter<Ctx>,
+    E: DekuWriter<Ctx>,
+    F: DekuWriter<Ctx>,
+    W: Sink,
+>(
+    a: &A,
+    b: &B,
+    c: &C,
+    d: &D,
+    e: &E,
+    f: &F,
+    writer: &mut Writer<W>,
+    ctx: Ctx,
+) -> Result<(), DekuError>
+    requires { ⟦<(A, B, C, D, E, F) as DekuWriter<Ctx>>⟧.accepts ctx }
+    ensures { Writes W.known (⟦<(A, B, C, D, E, F) as DekuWriter<Ctx>>⟧.meaning
+        (a.now, b.now, c.now, d.now, e.now, f.now) ctx) writer.old result writer.new }
+{
+    a.to_writer(writer, ctx)?;
+    write_five(b, c, d, e, f, writer, ctx)
+}
+
+#[inline(always)]
+fn write_seven<
+    Ctx: Copy,
+    A: DekuWriter<Ctx>,
+    B: DekuWriter<Ctx>,
+    C: DekuWriter<Ctx>,
+    D: DekuWriter<Ctx>,
+    E: DekuWriter<Ctx>,
+    F: DekuWriter<Ctx>,
+    G: DekuWriter<Ctx>,
+    W: Sink,
+>(
+    a: &A,
+    b: &B,
+    c: &C,
+    d: &D,
+    e: &E,
+    f: &F,
+    g: &G,
+    writer: &mut Writer<W>,
+    ctx: Ctx,
+) -> Result<(), DekuError>
+    requires { ⟦<(A, B, C, D, E, F, G) as DekuWriter<Ctx>>⟧.accepts ctx }
+    ensures { Writes W.known (⟦<(A, B, C, D, E, F, G) as DekuWriter<Ctx>>⟧.meaning
+        (a.now, b.now, c.now, d.now, e.now, f.now, g.now) ctx) writer.old result writer.new }
+{
+    a.to_writer(writer, ctx)?;
+    write_six(b, c, d, e, f, g, writer, ctx)
+}
+
+#[inline(always)]
+fn write_eight<
+    Ctx: Copy,
+    A: DekuWriter<Ctx>,
+    B: DekuWriter<Ctx>,
+    C: DekuWriter<Ctx>,
+    D: DekuWriter<Ctx>,
+    E: DekuWriter<Ctx>,
+    F: DekuWriter<Ctx>,
+    G: DekuWriter<Ctx>,
+    H: DekuWriter<Ctx>,
+    W: Sink,
+>(
+    a: &A,
+    b: &B,
+    c: &C,
+    d: &D,
+    e: &E,
+    f: &F,
+    g: &G,
+    h: &H,
+    writer: &mut Writer<W>,
+    ctx: Ctx,
+) -> Result<(), DekuError>
+    requires { ⟦<(A, B, C, D, E, F, G, H) as DekuWriter<Ctx>>⟧.accepts ctx }
+    ensures { Writes W.known (⟦<(A, B, C, D, E, F, G, H) as DekuWriter<Ctx>>⟧.meaning
+        (a.now, b.now, c.now, d.now, e.now, f.now, g.now, h.now) ctx) writer.old result writer.new }
+{
+    a.to_writer(writer, ctx)?;
+    write_seven(b, c, d, e, f, g, h, writer, ctx)
+}
+
+#[inline(always)]
+fn write_nine<
+    Ctx: Copy,
+    A: DekuWriter<Ctx>,
+    B: DekuWriter<Ctx>,
+    C: DekuWriter<Ctx>,
+    D: DekuWriter<Ctx>,
+    E: DekuWriter<Ctx>,
+    F: DekuWriter<Ctx>,
+    G: DekuWriter<Ctx>,
+    H: DekuWriter<Ctx>,
+    I: DekuWriter<Ctx>,
+    W: Sink,
+>(
+    a: &A,
+    b: &B,
+    c: &C,
+    d: &D,
+    e: &E,
+    f: &F,
+    g: &G,
+    h: &H,
+    i: &I,
+    writer: &mut Writer<W>,
+    ctx: Ctx,
+) -> Result<(), DekuError>
+    requires { ⟦<(A, B, C, D, E, F, G, H, I) as DekuWriter<Ctx>>⟧.accepts ctx }
+    ensures { Writes W.known (⟦<(A, B, C, D, E, F, G, H, I) as DekuWriter<Ctx>>⟧.meaning
+        (a.now, b.now, c.now, d.now, e.now, f.now, g.now, h.now, i.now) ctx)
+        writer.old result writer.new }
+{
+    a.to_writer(writer, ctx)?;
+    write_eight(b, c, d, e, f, g, h, i, writer, ctx)
+}
+
+#[inline(always)]
+fn write_ten<
+    Ctx: Copy,
+    A: DekuWriter<Ctx>,
+    B: DekuWriter<Ctx>,
+    C: DekuWriter<Ctx>,
+    D: DekuWriter<Ctx>,
+    E: DekuWriter<Ctx>,
+    F: DekuWriter<Ctx>,
+    G: DekuWriter<Ctx>,
+    H: DekuWriter<Ctx>,
+    I: DekuWriter<Ctx>,
+    J: DekuWriter<Ctx>,
+    W: Sink,
+>(
+    a: &A,
+    b: &B,
+    c: &C,
+    d: &D,
+    e: &E,
+    f: &F,
+    g: &G,
+    h: &H,
+    i: &I,
+    j: &J,
+    writer: &mut Writer<W>,
+    ctx: Ctx,
+) -> Result<(), DekuError>
+    requires { ⟦<(A, B, C, D, E, F, G, H, I, J) as DekuWriter<Ctx>>⟧.accepts ctx }
+    ensures { Writes W.known (⟦<(A, B, C, D, E, F, G, H, I, J) as DekuWriter<Ctx>>⟧.meaning
+        (a.now, b.now, c.now, d.now, e.now, f.now, g.now, h.now, i.now, j.now) ctx)
+        writer.old result writer.new }
+{
+    a.to_writer(writer, ctx)?;
+    write_nine(b, c, d, e, f, g, h, i, j, writer, ctx)
+}
+
+#[inline(always)]
+fn write_eleven<
+    Ctx: Copy,
+    A: DekuWriter<Ctx>,
+    B: DekuWriter<Ctx>,
+    C: DekuWriter<Ctx>,
+    D: DekuWriter<Ctx>,
+    E: DekuWriter<Ctx>,
+    F: DekuWriter<Ctx>,
+    G: DekuWriter<Ctx>,
+    H: DekuWriter<Ctx>,
+    I: DekuWriter<Ctx>,
+    J: DekuWriter<Ctx>,
+    K: DekuWriter<Ctx>,
+    W: Sink,
+>(
+    a: &A,
+    b: &B,
+    c: &C,
+    d: &D,
+    e: &E,
+    f: &F,
+    g: &G,
+    h: &H,
+    i: &I,
+    j: &J,
+    k: &K,
+    writer: &mut Writer<W>,
+    ctx: Ctx,
+) -> Result<(), DekuError>
+    requires { ⟦<(A, B, C, D, E, F, G, H, I, J, K) as DekuWriter<Ctx>>⟧.accepts ctx }
+    ensures { Writes W.known (⟦<(A, B, C, D, E, F, G, H, I, J, K) as DekuWriter<Ctx>>⟧.meaning
+        (a.now, b.now, c.now, d.now, e.now, f.now, g.now, h.now, i.now, j.now, k.now) ctx)
+        writer.old result writer.new }
+{
+    a.to_writer(writer, ctx)?;
+    write_ten(b, c, d, e, f, g, h, i, j, k, writer, ctx)
 }

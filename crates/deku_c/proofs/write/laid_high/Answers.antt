@@ -9,4 +9,4 @@ returns-in-Some-clause-writes g c = λ laid.
     let w = c.in-Some.ensures in
     let item = item_in c.args.code c.args.number in
     let plain : item.value ≡ Unsigned c.in-Some.low = ap (λ b. number_in b (whole c.args.number)) w.high.unsigned ∙ ap Unsigned (sym w.same) in
-    high_item item c.in-Some.width c.in-Some.low plain w.high.unsigned w.high.big w.high.high (sym w.wide) w.allowed w.below (c.try_write_msb.ensures.writes laid)
+    high_item item c.in-Some.width c.in-Some.low plain w.high.unsigned w.high.big w.high.high (sym w.wide) w.allowed w.below (c.try_write_number.ensures.writes laid)

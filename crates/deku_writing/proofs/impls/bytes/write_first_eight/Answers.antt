@@ -4,14 +4,14 @@ use Rattle.deku_num.proofs.Turned.{turned_fits}
 use Rattle.deku_writing.proofs.ByteRuns.{bytes_written}
 use Rattle.deku_writing.proofs.impls.bytes.write_first_eight.Goals as goal
 
-pub try_write_msb-requires-clause-inside : goal.try_write_msb-requires-clause-inside
-try_write_msb-requires-clause-inside g c =
+pub try_write_number-requires-clause-inside : goal.try_write_number-requires-clause-inside
+try_write_number-requires-clause-inside g c =
     let small : c.from_be_bytes.result < 2 ^ 64 = search rules in
     turned_fits 64 c.from_be_bytes.result c.min-count.result small (omega (arith, c.min-count.ensures))
 
-pub returns-then-not-try_write_msb-clause-writes : goal.returns-then-not-try_write_msb-clause-writes
-returns-then-not-try_write_msb-clause-writes g c = λ l high whole.
-    let same : c.try_write_msb.new.self ≡ c.args.writer.now = search rules in
+pub returns-then-not-try_write_number-clause-writes : goal.returns-then-not-try_write_number-clause-writes
+returns-then-not-try_write_number-clause-writes g c = λ l high whole.
+    let same : c.try_write_number.new.self ≡ c.args.writer.now = search rules in
     rw same answered
 
 pub returns-clause-writes : goal.returns-clause-writes
@@ -21,4 +21,4 @@ returns-clause-writes g c = λ l high whole.
     let few : c.min-count.result ≤ 8 = omega (arith, c.min-count.ensures) in
     let wide : length eight ≡ 8 = search rules in
     bytes_written l high whole c.min-count.result _ eight c.args.bytes.now _ _ _ _ some few wide c.padded-eight.ensures.bytes c.padded-eight.ensures.front
-    (ap (λ x. x / 2 ^ (64 - 8 * c.min-count.result)) c.from_be_bytes.ensures) (c.if-not-try_write_msb.ensures.order refl) (c.if-not-try_write_msb.ensures.writes refl)
+    (ap (λ x. x / 2 ^ (64 - 8 * c.min-count.result)) c.from_be_bytes.ensures) (c.if-not-try_write_number.ensures.order refl) (c.if-not-try_write_number.ensures.writes refl)

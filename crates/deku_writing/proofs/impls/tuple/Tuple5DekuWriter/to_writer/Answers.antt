@@ -1,9 +1,11 @@
-use Rattle.deku_bits.proofs.Handing.{passed_on}
-use Rattle.deku_meanings.proofs.Joining.{first_refused, then_on}
+use Rattle.std.proofs.Common.{◌≡◌, refl, rules}
+use Rattle.deku_writing.proofs.WordsJoined.{one_written}
 use Rattle.deku_writing.proofs.impls.tuple.Tuple5DekuWriter.to_writer.Goals as goal
 
-pub returns-in_err-to_writer : goal.returns-in_err-to_writer
-returns-in_err-to_writer g c = passed_on _ c.from_residual.ensures.1 (first_refused c.in_err-to_writer.ensures)
+pub returns-then-try_write_word : goal.returns-then-try_write_word
+returns-then-try_write_word g c = one_written g.W.Sink.known _ _ _ _ c.to_word-high.ensures c.to_word-low.ensures (c.if-try_write_word.ensures.writes refl)
 
 pub returns : goal.returns
-returns g c = then_on c.in_ok-to_writer.ensures c.to_writer-2.ensures
+returns g c =
+    let same : c.try_write_word.new.writer ≡ c.args.writer.now = search rules in
+    rw same at c.write_five.ensures
